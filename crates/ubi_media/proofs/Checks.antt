@@ -1,0 +1,74 @@
+-- The check of a message: of no byte, of one, of two parts.
+use Rattle.std.proofs.Common.{◌≡◌, ℕ, zero, suc, ◌+◌, ◌*◌, ◌-◌, ◌/◌, ◌%◌, ◌^◌, ◌<◌, ◌≤◌, List, [], ◌∷◌, ◌++◌, length, take, get_or, bit_xor, bit_and, ◌≢◌, zero-add, refl, sym, ap, ◌∙◌, arith, replicate, length-append}
+use Rattle.std.proofs.lemmas.List.{length-replicate, take_more}
+use Rattle.std.proofs.lemmas.Grind.{flat_map-append}
+use Rattle.std.proofs.Math.Nat.{mod-lt, mul-le-mul_right, mod-eq_of_lt, div-eq_of_lt, pow-suc}
+use Rattle.std.specs.Int.{bit_at}
+use Rattle.std.specs.List.{flat_map}
+use Rattle.std.proofs.lemmas.Nat.{pow_pos, pow-add, xor_shr, xor_mod, xor_block, xor_lt, xor_comm, shr_split, mod_below, shr_below, shl_below, shr_high, mod-pow-add, and_mask}
+use Rattle.std.proofs.lemmas.Nat.Bits.{bit_at_xor, bit_at-lt, bit_at_above, bit_at_lowest, bit_at-suc}
+use lib.Bits.{xor_assoc, xor_shifted, xor_self, xor_zero_r}
+use Rattle.ubi_media.specs.Check.{bits, polynomial, add_to_front, remainder, dividend, check_from}
+use Rattle.ubi_media.proofs.Polynomials.{AreBits, AreBits-bits, AreBits-append, AreBits-zeros, AreBits-bytes, length-bits, length-bytes, polynomial-append, polynomial-zeros, polynomial-add_to_front}
+use Rattle.ubi_media.proofs.Mirror.{mirror, polynomial-bits, mirror-mirror}
+use Rattle.ubi_media.proofs.Register.{rest, run, remainder-run, steps, run-bits, run-empty, run-append, run-lt}
+
+dividend-parts : (n s : ℕ) (bs : List ℕ) → AreBits bs
+    → polynomial (add_to_front (bits n s) (bs ++ replicate n 0)) ≡ bit_xor (mirror n s * 2 ^ length bs) (polynomial bs * 2 ^ n)
+dividend-parts n s bs h =
+    let e : length (bs ++ replicate n 0) ≡ length (bits n s) + length bs =
+    rw (length-append bs (replicate n 0), length-replicate {A = ℕ} n 0, length-bits n s) (omega arith) in
+    polynomial-add_to_front (length bs) (bits n s) (bs ++ replicate n 0) e (AreBits-bits n s) (AreBits-append bs (replicate n 0) h (AreBits-zeros n))
+    ∙ rw (polynomial-bits n s, polynomial-append bs (replicate n 0), length-replicate {A = ℕ} n 0, polynomial-zeros n)
+    (ap (λ (q : ℕ). bit_xor (mirror n s * 2 ^ length bs) q) (omega arith))
+
+-- the check is the register after the message's bits
+pub check_from-run : (s : ℕ) (m : List ℕ) → s < 2 ^ 32 → check_from s m ≡ run s (flat_map (bits 8) m)
+unfolding check_from
+check_from-run s m h =
+    let bs : List ℕ = flat_map (bits 8) m in
+    let are : AreBits bs = AreBits-bytes 8 m in
+    let count : length bs ≡ 8 * length m = length-bytes 8 m in
+    let left : remainder (8 * length m) (dividend s m) ≡ mirror 32 (run s bs) =
+    ap (remainder (8 * length m)) (dividend-parts 32 s bs are)
+    ∙ ap (λ (w : ℕ). remainder w (rest s (length bs) (polynomial bs))) (sym count)
+    ∙ remainder-run bs s h are in
+    polynomial-bits 32 (remainder (8 * length m) (dividend s m))
+    ∙ ap (mirror 32) left
+    ∙ mirror-mirror 32 (run s bs) (run-lt bs s h are)
+
+-- a message in two parts: the check of the first is the state for the second
+pub check_from-append : (s : ℕ) (xs ys : List ℕ) → s < 2 ^ 32 → check_from s (xs ++ ys) ≡ check_from (check_from s xs) ys
+check_from-append s xs ys h =
+    let bits_x : List ℕ = flat_map (bits 8) xs in
+    let bits_y : List ℕ = flat_map (bits 8) ys in
+    let first = check_from-run s xs h in
+    let below : check_from s xs < 2 ^ 32 = rw first (run-lt bits_x s h (AreBits-bytes 8 xs)) in
+    check_from-run s (xs ++ ys) h
+    ∙ ap (run s) (flat_map-append (bits 8) xs ys)
+    ∙ run-append bits_x bits_y s
+    ∙ ap (λ (t : ℕ). run t bits_y) (sym first)
+    ∙ sym (check_from-run (check_from s xs) ys below)
+
+-- no byte leaves the state
+pub check_from-empty : (s : ℕ) → s < 2 ^ 32 → check_from s [] ≡ s
+check_from-empty s h = check_from-run s [] h ∙ run-empty s
+
+-- one byte is eight steps of the register
+pub check_from-byte : (s x : ℕ) → s < 2 ^ 32 → x < 256 → check_from s (x ∷ []) ≡ steps 8 (bit_xor s x)
+check_from-byte s x h hx =
+    check_from-run s (x ∷ []) h
+    ∙ run-append (bits 8 x) [] s
+    ∙ run-empty (run s (bits 8 x))
+    ∙ run-bits 8 s x hx
+
+pub check_from-lt : (s : ℕ) (m : List ℕ) → s < 2 ^ 32 → check_from s m < 2 ^ 32
+check_from-lt s m h = rw (check_from-run s m h) (run-lt (flat_map (bits 8) m) s h (AreBits-bytes 8 m))
+
+-- one more byte of a message
+pub check_from-more : (s i : ℕ) (m : List ℕ) (r t : ℕ) → s < 2 ^ 32 → i < length m → r ≡ check_from s (take i m)
+    → t ≡ check_from r (get_or m i 0 ∷ []) → t ≡ check_from s (take (i + 1) m)
+check_from-more s i m r t h below before now =
+    now ∙ ap (λ (q : ℕ). check_from q (get_or m i 0 ∷ [])) before
+    ∙ sym (check_from-append s (take i m) (get_or m i 0 ∷ []) h)
+    ∙ ap (check_from s) (sym (take_more m i 0 below))

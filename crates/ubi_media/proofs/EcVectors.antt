@@ -1,0 +1,74 @@
+-- Readings and bytes of erase-counter headers on literals.
+use Rattle.std.proofs.Common.{◌≡◌, List, ℕ, [], ◌∷◌, replicate, refl}
+use Rattle.std.specs.Prelude.{Some, None}
+use Rattle.ubi_media.specs.Check.{check_from, remainder}
+use Rattle.ubi_media.specs.Ec.{ec_bytes, ec_fields, ec_reading, judged, first_fault, breaks}
+use Rattle.ubi_media.specs.Geometry.{Sizes, first_broken, leb_size, slots}
+use Rattle.ubi_media.specs.Header.{form_of}
+use Rattle.ubi_media.specs.declared.ec.EcFault.TheVariants.{Version, Offsets, Counter}
+use Rattle.ubi_media.specs.declared.ec.EcHeader.{EcHeader}
+use Rattle.ubi_media.specs.declared.ec.EcRead.TheVariants.{Blank, Corrupt, Fault, Valid}
+use Rattle.ubi_media.specs.declared.geometry.GeometryError.TheVariants as limit
+use Rattle.ubi_media.proofs.Words.{small, words}
+
+-- the image sequence number 0x12345678
+base : EcHeader
+base = record { counter = 0; image_seq = 0x12345678 }
+
+base_words : List ℕ
+base_words = 0x55424923 ∷ 0x01000000 ∷ 0 ∷ 0 ∷ 0x40 ∷ 0x80 ∷ 0x12345678 ∷ 0 ∷ 0 ∷ 0 ∷ 0 ∷ 0 ∷ 0 ∷ 0 ∷ 0 ∷ 0x5b73f913 ∷ []
+
+written : ec_bytes small base ≡ words base_words
+unfolding base base_words check_from remainder
+written = refl
+
+read_back : ec_reading small (words base_words) ≡ Valid base
+unfolding base base_words ec_reading form_of judged first_fault breaks ec_fields check_from remainder
+read_back = refl
+
+version_2 : ec_reading small (words (0x55424923 ∷ 0x02000000 ∷ 0 ∷ 0 ∷ 0x40 ∷ 0x80 ∷ 0 ∷ 0 ∷ 0 ∷ 0 ∷ 0 ∷ 0 ∷ 0 ∷ 0 ∷ 0 ∷ 0x51ed87bd ∷ [])) ≡ Fault Version
+unfolding ec_reading form_of judged first_fault breaks ec_fields check_from remainder
+version_2 = refl
+
+other_data_offset : ec_reading small (words (0x55424923 ∷ 0x01000000 ∷ 0 ∷ 5 ∷ 0x40 ∷ 0xc0 ∷ 0 ∷ 0 ∷ 0 ∷ 0 ∷ 0 ∷ 0 ∷ 0 ∷ 0 ∷ 0 ∷ 0x648f44ce ∷ [])) ≡ Fault Offsets
+unfolding ec_reading form_of judged first_fault breaks ec_fields check_from remainder
+other_data_offset = refl
+
+counter_of_32_bits : ec_reading small (words (0x55424923 ∷ 0x01000000 ∷ 0 ∷ 0x80000000 ∷ 0x40 ∷ 0x80 ∷ 0 ∷ 0 ∷ 0 ∷ 0 ∷ 0 ∷ 0 ∷ 0 ∷ 0 ∷ 0 ∷ 0xae56b556 ∷ [])) ≡ Fault Counter
+unfolding ec_reading form_of judged first_fault breaks ec_fields check_from remainder
+counter_of_32_bits = refl
+
+largest_counter : ec_reading small (words (0x55424923 ∷ 0x01000000 ∷ 0 ∷ 0x7fffffff ∷ 0x40 ∷ 0x80 ∷ 0 ∷ 0 ∷ 0 ∷ 0 ∷ 0 ∷ 0 ∷ 0 ∷ 0 ∷ 0 ∷ 0xa321f93c ∷ [])) ≡ Valid (record { counter = 0x7fffffff; image_seq = 0 })
+unfolding ec_reading form_of judged first_fault breaks ec_fields check_from remainder
+largest_counter = refl
+
+wrong_check : ec_reading small (words (0x55424923 ∷ 0x01000000 ∷ 0 ∷ 0x7fffffff ∷ 0x40 ∷ 0x80 ∷ 0 ∷ 0 ∷ 0 ∷ 0 ∷ 0 ∷ 0 ∷ 0 ∷ 0 ∷ 0 ∷ 0xa321f93d ∷ [])) ≡ Corrupt
+unfolding ec_reading form_of judged first_fault breaks ec_fields check_from remainder
+wrong_check = refl
+
+erased : ec_reading small (replicate 64 255) ≡ Blank
+unfolding ec_reading form_of
+erased = refl
+
+zeros : ec_reading small (replicate 64 0) ≡ Corrupt
+unfolding ec_reading form_of
+zeros = refl
+
+-- the limits of a geometry, of the first that is broken
+kept : first_broken small ≡ None
+kept = refl
+
+no_page : first_broken (record { peb_size = 512; page = 96; vid_offset = 100; data_offset = 128; pebs = 1 }) ≡ Some limit.Page
+no_page = refl
+
+no_whole_pages : first_broken (record small { peb_size = 500 }) ≡ Some limit.PebSize
+no_whole_pages = refl
+
+data_at_the_end : first_broken (record small { data_offset = 512 }) ≡ Some limit.LebTooSmall
+data_at_the_end = refl
+
+data_of_384 : leb_size small ≡ 384
+data_of_384 = refl
+
+two_slots : slots small ≡ 2
+two_slots = refl

@@ -1,0 +1,15 @@
+pub mod CheckVectors
+pub mod Checks
+pub mod EcVectors
+pub mod EmptyRecord
+pub mod Headers
+pub mod Mirror
+pub mod Pages
+pub mod Polynomials
+pub mod Quotient
+pub mod Readings
+pub mod Register
+pub mod Table
+pub mod Words
+pub mod Writes
+pub mod Xor

@@ -1,0 +1,5 @@
+use Rattle.ubi_media.proofs.Readings as readings
+use Rattle.ubi_media.proofs.laws.one_vid_reading.Goals as goal
+
+pub returns : goal.returns
+returns c = λ s bytes read. readings.one_vid_reading s bytes read

@@ -1,0 +1,7 @@
+pub mod Check
+pub mod Ec
+pub mod Fields
+pub mod Geometry
+pub mod Header
+pub mod Record
+pub mod Vid

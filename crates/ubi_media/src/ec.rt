@@ -1,0 +1,158 @@
+//! The erase-counter header, which stands at the start of each eraseblock (`ubi-media.h`, `struct ubi_ec_hdr`).
+
+ghost use Rattle.std.specs.Prelude.{◌≡◌, ◌^◌, ◌<◌, ◌++◌, replicate};
+ghost use Rattle.ubi_media.specs.Ec.{EcIs, breaks, ec_bytes, ec_fields, ec_front, ec_reading, first_fault, judged};
+ghost use Rattle.ubi_media.specs.Geometry.{IsGeometry};
+
+use crate::bytes::{put_u32, put_u64};
+use crate::geometry::Geometry;
+use crate::header::{Form, form_of, seal};
+use byteorder::{BigEndian, ByteOrder};
+
+/// The text `UBI#`.
+const MAGIC: u32 = 0x5542_4923;
+
+/// The version of the format.
+const VERSION: u8 = 1;
+
+/// The largest erase counter (`UBI_MAX_ERASECOUNTER`).
+const LARGEST_COUNTER: u64 = 0x7FFF_FFFF;
+
+/// The rule that a header with the right magic and the right check breaks. Of several, the first in this order.
+#[derive(Clone, Copy, Debug, PartialEq, Eq)]
+pub enum EcFault {
+    /// The version isn't 1.
+    Version,
+    /// The places of the volume-identifier header and of the data aren't both the geometry's.
+    Offsets,
+    /// The erase counter is above 0x7FFFFFFF.
+    Counter,
+}
+
+/// What an erase-counter header says of its eraseblock.
+#[derive(Clone, Copy, Debug, PartialEq, Eq)]
+pub struct EcHeader {
+    /// How often the eraseblock was erased, at most 0x7FFFFFFF.
+    pub counter: u32,
+    /// The number that the eraseblocks of one image share, or 0.
+    pub image_seq: u32,
+}
+
+/// What 64 bytes are as an erase-counter header.
+#[derive(Clone, Copy, Debug, PartialEq, Eq)]
+pub enum EcRead {
+    /// 0xFF throughout: the eraseblock is erased and has no header.
+    Blank,
+    /// Not blank and without the magic, or with the magic and a wrong check.
+    Corrupt,
+    /// With the magic and the right check, and the rule that it breaks first.
+    Fault(EcFault),
+    /// With the magic and the right check, and no rule broken.
+    Valid(EcHeader),
+}
+
+/// The fields behind the magic, as they stand.
+#[derive(Clone, Copy)]
+struct EcFields {
+    version: u8,
+    counter: u64,
+    vid_offset: u32,
+    data_offset: u32,
+    image_seq: u32,
+}
+
+#[tactic(auto, unfolding(crate::specs::Ec::ec_fields))]
+fn fields_of(bytes: &[u8; 64]) -> EcFields
+    ensures { result ≡ ec_fields bytes.now }
+{
+    EcFields {
+        version: bytes[4],
+        counter: BigEndian::read_u64(&bytes[8..16]),
+        vid_offset: BigEndian::read_u32(&bytes[16..20]),
+        data_offset: BigEndian::read_u32(&bytes[20..24]),
+        image_seq: BigEndian::read_u32(&bytes[24..28]),
+    }
+}
+
+/// The faults, in the order in which their rules are tried.
+const FAULTS: [EcFault; 3] = [EcFault::Version, EcFault::Offsets, EcFault::Counter];
+
+/// Whether the fields break the rule of a fault.
+#[tactic(auto, unfolding(crate::specs::Ec::breaks))]
+fn breaks(geometry: &Geometry, fields: &EcFields, fault: EcFault) -> bool
+    ensures { result ≡ breaks geometry.now fields.now fault }
+{
+    match fault {
+        EcFault::Version => fields.version != VERSION,
+        EcFault::Offsets => {
+            fields.vid_offset != geometry.vid_offset()
+                || fields.data_offset != geometry.data_offset()
+        }
+        EcFault::Counter => fields.counter > LARGEST_COUNTER,
+    }
+}
+
+/// The fault of the first rule that the fields break.
+#[tactic(auto, unfolding(crate::specs::Ec::first_fault))]
+fn fault_of(geometry: &Geometry, fields: &EcFields) -> Option<EcFault>
+    ensures { result ≡ first_fault geometry.now fields.now }
+{
+    FAULTS
+        .iter()
+        .copied()
+        .find(|fault| breaks(geometry, fields, *fault))
+}
+
+/// What the fields of a sealed header are.
+#[tactic(auto, using(crate::proofs::Readings::counter_within), unfolding(crate::specs::Ec::judged))]
+fn judged(geometry: &Geometry, fields: &EcFields) -> EcRead
+    ensures { result ≡ judged geometry.now fields.now }
+{
+    match fault_of(geometry, fields) {
+        Some(fault) => EcRead::Fault(fault),
+        None => EcRead::Valid(EcHeader {
+            counter: fields.counter as u32,
+            image_seq: fields.image_seq,
+        }),
+    }
+}
+
+/// What the first 64 bytes of an eraseblock are as its erase-counter header. The padding isn't looked at.
+pub fn read_ec(geometry: &Geometry, bytes: &[u8; 64]) -> EcRead
+    ensures is { EcIs geometry.now bytes.now result }
+    ensures value { result ≡ ec_reading geometry.now bytes.now }
+{
+    match form_of(MAGIC, bytes) {
+        Form::Blank => EcRead::Blank,
+        Form::Corrupt => EcRead::Corrupt,
+        Form::Sealed => judged(geometry, &fields_of(bytes)),
+    }
+}
+
+/// The bytes of a header, with zeros in the place of its check.
+fn front_of(geometry: &Geometry, counter: u32, image_seq: u32) -> [u8; 64]
+    ensures bytes { result ≡ ec_front geometry.now (record { counter = counter; image_seq = image_seq }) ++ replicate 4 0 }
+    ensures limits { IsGeometry geometry.now }
+{
+    let mut bytes = [0u8; 64];
+    bytes[4] = VERSION;
+    put_u32(&mut bytes, 0, MAGIC);
+    put_u64(&mut bytes, 8, u64::from(counter));
+    put_u32(&mut bytes, 16, geometry.vid_offset());
+    put_u32(&mut bytes, 20, geometry.data_offset());
+    put_u32(&mut bytes, 24, image_seq);
+    bytes
+}
+
+/// The bytes of a header: version 1, the geometry's two places, zero padding and the right check.
+///
+/// They read back as the header where its counter is at most 0x7FFFFFFF.
+pub fn write_ec(geometry: &Geometry, header: &EcHeader) -> [u8; 64]
+    ensures bytes { result ≡ ec_bytes geometry.now header.now }
+    ensures read_back { header.now.counter < 2 ^ 31 → EcIs geometry.now result (EcRead.Valid header.now) }
+{
+    let EcHeader { counter, image_seq } = *header;
+    let mut bytes = front_of(geometry, counter, image_seq);
+    seal(&mut bytes);
+    bytes
+}

@@ -1,0 +1,177 @@
+//! The geometry of a device: the sizes by which an image is cut, and the limits that they keep.
+
+ghost use Rattle.std.specs.Prelude.{◌≡◌, Some, None, MatchResult};
+ghost use Rattle.ubi_media.specs.Geometry.{Sizes, IsGeometry, first_broken, leb_size, slots};
+
+use std::marker::Model;
+
+/// The sizes that a page may have, in bytes.
+const PAGE_SIZES: [u32; 11] = [
+    64, 128, 256, 512, 1024, 2048, 4096, 8192, 16384, 32768, 65536,
+];
+
+/// The bytes of the largest eraseblock.
+const LARGEST_PEB: u32 = 0x0100_0000;
+
+/// The bytes of a header of an eraseblock.
+const HEADER_SIZE: u32 = 64;
+
+/// The bytes of a record of the volume table.
+const RECORD_SIZE: u32 = 172;
+
+/// The records of the longest volume table (`UBI_MAX_VOLUMES`).
+const MOST_SLOTS: u32 = 128;
+
+/// The eraseblocks of the smallest device: the two copies of its volume table.
+const FEWEST_PEBS: u32 = 2;
+
+/// The eraseblocks of the largest device.
+const MOST_PEBS: u32 = 0x0010_0000;
+
+/// The limit that the numbers of a geometry break.
+#[derive(Clone, Copy, Debug, PartialEq, Eq)]
+pub enum GeometryError {
+    /// The page isn't a power of two from 64 to 65,536 bytes.
+    Page,
+    /// The eraseblock isn't a multiple of the page, or is above 2^24 bytes.
+    PebSize,
+    /// The place of the volume-identifier header isn't a multiple of 64, or is below 64.
+    VidOffset,
+    /// The place of the data isn't a multiple of the page, or is less than 64 bytes behind the volume-identifier
+    /// header's.
+    DataOffset,
+    /// The data of an eraseblock have no room for one record of the volume table, 172 bytes.
+    LebTooSmall,
+    /// The device hasn't 2 to 1,048,576 eraseblocks.
+    Pebs,
+}
+
+/// The geometry of a device. Each value keeps every limit that [`GeometryError`] names.
+///
+/// An eraseblock (a physical eraseblock, PEB) is the unit of erasing, a page the unit of programming. An eraseblock
+/// begins with its erase-counter header, has its volume-identifier header at the VID offset, and holds the bytes of
+/// its logical eraseblock (LEB) from the data offset to its end.
+#[derive(Clone, Copy, Debug, PartialEq, Eq)]
+pub struct Geometry {
+    peb_size: u32,
+    page: u32,
+    vid_offset: u32,
+    data_offset: u32,
+    pebs: u32,
+}
+
+impl Model for Geometry {
+    ghost use Rattle.ubi_media.specs.Geometry.{Sizes, IsGeometry};
+
+    ghost Value = { Sizes };
+
+    ghost view = { λ g. record { peb_size = g.peb_size; page = g.page; vid_offset = g.vid_offset; data_offset = g.data_offset; pebs = g.pebs } };
+
+    ghost invariant = { λ g. IsGeometry (record { peb_size = g.peb_size; page = g.page; vid_offset = g.vid_offset; data_offset = g.data_offset; pebs = g.pebs }) };
+
+    ghost inverse = { λ s. record { peb_size = s.peb_size; page = s.page; vid_offset = s.vid_offset; data_offset = s.data_offset; pebs = s.pebs } };
+}
+
+impl Geometry {
+    /// The geometry of a device: the bytes of an eraseblock and of a page, the places of the volume-identifier header
+    /// and of the data in an eraseblock, and the number of eraseblocks.
+    ///
+    /// # Errors
+    ///
+    /// The first limit that the numbers break, in the order of [`GeometryError`].
+    pub fn new(
+        peb_size: u32,
+        page: u32,
+        vid_offset: u32,
+        data_offset: u32,
+        pebs: u32,
+    ) -> Result<Geometry, GeometryError>
+        ensures { let s : Sizes = record { peb_size = peb_size; page = page; vid_offset = vid_offset; data_offset = data_offset; pebs = pebs } in
+            MatchResult result (λ g. (first_broken s ≡ None) × (g ≡ s)) (λ e. first_broken s ≡ Some e) }
+    {
+        if !PAGE_SIZES.contains(&page) {
+            return Err(GeometryError::Page);
+        }
+        if peb_size < page || peb_size > LARGEST_PEB || peb_size % page != 0 {
+            return Err(GeometryError::PebSize);
+        }
+        if vid_offset < HEADER_SIZE || vid_offset % HEADER_SIZE != 0 {
+            return Err(GeometryError::VidOffset);
+        }
+        if data_offset < HEADER_SIZE
+            || data_offset - HEADER_SIZE < vid_offset
+            || data_offset % page != 0
+        {
+            return Err(GeometryError::DataOffset);
+        }
+        if peb_size < data_offset || peb_size - data_offset < RECORD_SIZE {
+            return Err(GeometryError::LebTooSmall);
+        }
+        if pebs < FEWEST_PEBS || pebs > MOST_PEBS {
+            return Err(GeometryError::Pebs);
+        }
+        Ok(Geometry {
+            peb_size,
+            page,
+            vid_offset,
+            data_offset,
+            pebs,
+        })
+    }
+
+    /// The bytes of an eraseblock.
+    pub fn peb_size(&self) -> u32
+        ensures value { result ≡ self.now.peb_size }
+        ensures limits { IsGeometry self.now }
+    {
+        self.peb_size
+    }
+
+    /// The bytes of a page.
+    pub fn page(&self) -> u32
+        ensures value { result ≡ self.now.page }
+        ensures limits { IsGeometry self.now }
+    {
+        self.page
+    }
+
+    /// The byte of an eraseblock at which its volume-identifier header begins.
+    pub fn vid_offset(&self) -> u32
+        ensures value { result ≡ self.now.vid_offset }
+        ensures limits { IsGeometry self.now }
+    {
+        self.vid_offset
+    }
+
+    /// The byte of an eraseblock at which its logical eraseblock begins.
+    pub fn data_offset(&self) -> u32
+        ensures value { result ≡ self.now.data_offset }
+        ensures limits { IsGeometry self.now }
+    {
+        self.data_offset
+    }
+
+    /// The number of eraseblocks of the device. An image may have fewer.
+    pub fn pebs(&self) -> u32
+        ensures value { result ≡ self.now.pebs }
+        ensures limits { IsGeometry self.now }
+    {
+        self.pebs
+    }
+
+    /// The bytes of a logical eraseblock: those of an eraseblock from the data offset on.
+    pub fn leb_size(&self) -> u32
+        ensures value { result ≡ leb_size self.now }
+        ensures limits { IsGeometry self.now }
+    {
+        self.peb_size - self.data_offset
+    }
+
+    /// The number of records of the volume table: as many as a logical eraseblock has room for, but at most 128.
+    pub fn slots(&self) -> u32
+        ensures value { result ≡ slots self.now }
+        ensures limits { IsGeometry self.now }
+    {
+        (self.leb_size() / RECORD_SIZE).min(MOST_SLOTS)
+    }
+}

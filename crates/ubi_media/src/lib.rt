@@ -1,0 +1,26 @@
+//! The media of a UBI image, after Linux's `ubi-media.h`, version 1: the geometry of a device, the check that seals
+//! each structure, and the two headers of an eraseblock.
+//!
+//! A reader answers exactly what bytes are, a writer gives exactly the bytes of the format, and what is written reads
+//! back as what it was. Nothing here takes memory, and nothing here can fail but by the answer that says so.
+#![tactic(auto)]
+
+mod bytes;
+mod check;
+mod ec;
+mod geometry;
+mod header;
+pub mod laws;
+mod record;
+mod refusal;
+mod vid;
+
+pub use check::{crc, crc_more};
+pub use ec::{EcFault, EcHeader, EcRead, read_ec, write_ec};
+pub use geometry::{Geometry, GeometryError};
+pub use record::RecFault;
+pub use refusal::{AttachError, Refusal};
+pub use vid::{VidFault, VidHeader, VidRead, VolKind, read_vid, write_vid};
+
+#[cfg(test)]
+mod tests;

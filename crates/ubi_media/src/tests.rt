@@ -1,0 +1,4 @@
+mod check;
+mod ec;
+mod geometry;
+mod vid;
