@@ -74,11 +74,11 @@ vid_bytes-Sealed h =
     let front = vid_front (fields_from h) in
     (refl, big_number-reads_back 4 (check front) [] (check_from-lt 0xFFFFFFFF front (omega arith)))
 
-kind_back : (k : VolKind) → kind_of (kind_number k) ≡ k
+pub kind_back : (k : VolKind) → kind_of (kind_number k) ≡ k
 kind_back Dynamic = refl
 kind_back Static = refl
 
-flag_back : (b : Bool) → not ((if b then 1 else 0) == 0) ≡ b
+pub flag_back : (b : Bool) → not ((if b then 1 else 0) == 0) ≡ b
 flag_back true = refl
 flag_back false = refl
 

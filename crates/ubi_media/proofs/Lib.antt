@@ -4,10 +4,12 @@ pub mod EcVectors
 pub mod EmptyRecord
 pub mod Headers
 pub mod Mirror
+pub mod Names
 pub mod Pages
 pub mod Polynomials
 pub mod Quotient
 pub mod Readings
+pub mod Records
 pub mod Register
 pub mod Table
 pub mod Words

@@ -1,26 +1,45 @@
 -- What stands in bytes after numbers were written into them.
-use Rattle.std.proofs.Common.{◌≡◌, ℕ, ◌+◌, ◌≤◌, List, [], ◌++◌, length, take, drop, set, replicate, refl, sym, ap, ◌∙◌, arith, append_assoc, length-take, min}
-use Rattle.std.proofs.lemmas.List.{append-nil, drop-drop}
+use Rattle.std.proofs.Common.{◌≡◌, ℕ, ◌+◌, ◌≤◌, List, [], ◌++◌, length, take, drop, set, replicate, refl, sym, ap, ◌∙◌, arith, append_assoc, length-take, length-append, min}
+use Rattle.std.proofs.lemmas.List.{append-nil, drop-drop, take_at}
 use Rattle.std.proofs.Math.ListN.{drop_of_length-le}
 use borrow.Rule.Slice.PartMut.{put_mid, mid_of}
 use Rattle.byteorder.specs.Endian.{big_bytes}
 use Rattle.ubi_media.specs.Check.{check}
 use Rattle.ubi_media.specs.Ec.{ec_magic, ec_front, ec_bytes}
-use Rattle.ubi_media.specs.Fields.{overwrite}
+use Rattle.ubi_media.specs.Fields.{overwrite, sealed}
 use Rattle.ubi_media.specs.Geometry.{Sizes}
 use Rattle.ubi_media.specs.Vid.{vid_magic, vid_front, vid_bytes, fields_from}
 use Rattle.ubi_media.specs.declared.ec.EcHeader.{EcHeader}
 use Rattle.ubi_media.specs.declared.vid.VidFields.{VidFields}
 use Rattle.ubi_media.specs.declared.vid.VidHeader.{VidHeader}
 
+-- a write of the whole part of k bytes
+pub put_all : (at k : ℕ) (xs bytes : List ℕ) → length xs ≡ k → put_mid at k bytes xs ≡ overwrite at xs bytes
+unfolding overwrite
+put_all at k xs bytes e =
+    rw e (ap (λ (ys : List ℕ). take at bytes ++ (xs ++ ys)) (drop-drop k at bytes) ∙ sym (append_assoc (take at bytes) xs (drop (at + k) bytes)))
+
 -- a write of k bytes into the part of k bytes
 pub put_is : (at k : ℕ) (xs bytes : List ℕ) → length xs ≡ k → at + k ≤ length bytes
     → put_mid at k bytes (xs ++ drop k (mid_of at k bytes)) ≡ overwrite at xs bytes
-unfolding overwrite
 put_is at k xs bytes e h =
     let count : length (take k (drop at bytes)) ≡ min k (length (drop at bytes)) = length-take k (drop at bytes) in
     let none : drop k (mid_of at k bytes) ≡ [] = drop_of_length-le (mid_of at k bytes) (omega (arith, count)) in
-    rw (none, append-nil xs, e) (ap (λ (ys : List ℕ). take at bytes ++ (xs ++ ys)) (drop-drop k at bytes) ∙ sym (append_assoc (take at bytes) xs (drop (at + k) bytes)))
+    rw (none, append-nil xs) (put_all at k xs bytes e)
+
+-- a write over the end of bytes
+overwrite_end : (at : ℕ) (xs front rest : List ℕ) → length front ≡ at → length rest ≡ length xs → overwrite at xs (front ++ rest) ≡ front ++ xs
+unfolding overwrite
+overwrite_end at xs front rest e h =
+    let none : drop (at + length xs) (front ++ rest) ≡ [] = drop_of_length-le (front ++ rest) (omega (arith, length-append front rest)) in
+    rw (none, take_at front rest at e) (append-nil (front ++ xs))
+
+-- the check over the last four bytes
+pub sealed_is : (at : ℕ) (front rest : List ℕ) → length front ≡ at → length rest ≡ 4
+    → overwrite at (big_bytes 4 (check (take at (front ++ rest)))) (front ++ rest) ≡ sealed front
+sealed_is at front rest e h =
+    ap (λ (part : List ℕ). overwrite at (big_bytes 4 (check part)) (front ++ rest)) (take_at front rest at e)
+    ∙ overwrite_end at (big_bytes 4 (check front)) front rest e h
 
 -- the fields of an erase-counter header over zeros
 pub ec_assembled : (s : Sizes) (h : EcHeader)

@@ -13,6 +13,22 @@ pub fn is_blank(bytes: &[u8]) -> bool
     bytes.iter().all(|byte| *byte == 0xFF)
 }
 
+/// Writes bytes at a place.
+pub fn put(bytes: &mut [u8], at: usize, part: &[u8])
+    requires { at + length part.now ≤ length bytes.old }
+    ensures { bytes.new ≡ overwrite at part.now bytes.old }
+{
+    bytes[at..at + part.len()].copy_from_slice(part);
+}
+
+/// Writes a number of two bytes at a place, the highest byte first.
+pub fn put_u16(bytes: &mut [u8], at: usize, n: u16)
+    requires { at + 2 ≤ length bytes.old }
+    ensures { bytes.new ≡ overwrite at (big_bytes 2 n) bytes.old }
+{
+    BigEndian::write_u16(&mut bytes[at..at + 2], n);
+}
+
 /// Writes a number of four bytes at a place, the highest byte first.
 pub fn put_u32(bytes: &mut [u8], at: usize, n: u32)
     requires { at + 4 ≤ length bytes.old }

@@ -1,8 +1,13 @@
 //! The check that seals every header and record: the CRC of 32 bits with the reflected polynomial 0xEDB88320, started
 //! at 0xFFFFFFFF, without the final complement (`UBI_CRC32_INIT` of `ubi-media.h`).
 
-ghost use Rattle.std.specs.Prelude.{◌≡◌, [], ◌∷◌};
+ghost use Rattle.std.specs.Prelude.{◌≡◌, ◌+◌, ◌≤◌, [], ◌∷◌, length, take};
+ghost use Rattle.byteorder.specs.Endian.{big_bytes};
 ghost use Rattle.ubi_media.specs.Check.{check, check_from};
+ghost use Rattle.ubi_media.specs.Fields.{is_sealed, overwrite};
+
+use crate::bytes::put_u32;
+use byteorder::{BigEndian, ByteOrder};
 
 /// The state before the first byte of a message.
 const START: u32 = 0xFFFF_FFFF;
@@ -67,4 +72,21 @@ fn with_byte(state: u32, byte: u8) -> u32
     ensures { result ≡ check_from state (byte ∷ []) }
 {
     (state >> 8) ^ TABLE[((state ^ u32::from(byte)) & 0xFF) as usize]
+}
+
+/// Whether the four bytes at a place are the check of all bytes before them.
+pub fn is_sealed(bytes: &[u8], at: usize) -> bool
+    requires { at + 4 ≤ length bytes.now }
+    ensures { result ≡ is_sealed at bytes.now }
+{
+    BigEndian::read_u32(&bytes[at..at + 4]) == crc(&bytes[..at])
+}
+
+/// Writes the check of the bytes before a place into the four bytes from there on.
+pub fn seal(bytes: &mut [u8], at: usize)
+    requires { at + 4 ≤ length bytes.old }
+    ensures { bytes.new ≡ overwrite at (big_bytes 4 (check (take at bytes.old))) bytes.old }
+{
+    let check = crc(&bytes[..at]);
+    put_u32(bytes, at, check);
 }

@@ -5,8 +5,9 @@ ghost use Rattle.ubi_media.specs.Ec.{EcIs, breaks, ec_bytes, ec_fields, ec_front
 ghost use Rattle.ubi_media.specs.Geometry.{IsGeometry};
 
 use crate::bytes::{put_u32, put_u64};
+use crate::check::seal;
 use crate::geometry::Geometry;
-use crate::header::{Form, form_of, seal};
+use crate::header::{CHECK, Form, form_of};
 use byteorder::{BigEndian, ByteOrder};
 
 /// The text `UBI#`.
@@ -153,6 +154,6 @@ pub fn write_ec(geometry: &Geometry, header: &EcHeader) -> [u8; 64]
 {
     let EcHeader { counter, image_seq } = *header;
     let mut bytes = front_of(geometry, counter, image_seq);
-    seal(&mut bytes);
+    seal(&mut bytes, CHECK);
     bytes
 }

@@ -1,5 +1,5 @@
 //! The media of a UBI image, after Linux's `ubi-media.h`, version 1: the geometry of a device, the check that seals
-//! each structure, and the two headers of an eraseblock.
+//! each structure, the two headers of an eraseblock, and the records of the volume table.
 //!
 //! A reader answers exactly what bytes are, a writer gives exactly the bytes of the format, and what is written reads
 //! back as what it was. Nothing here takes memory, and nothing here can fail but by the answer that says so.
@@ -11,6 +11,7 @@ mod ec;
 mod geometry;
 mod header;
 pub mod laws;
+mod name;
 mod record;
 mod refusal;
 mod vid;
@@ -18,7 +19,8 @@ mod vid;
 pub use check::{crc, crc_more};
 pub use ec::{EcFault, EcHeader, EcRead, read_ec, write_ec};
 pub use geometry::{Geometry, GeometryError};
-pub use record::RecFault;
+pub use name::VolName;
+pub use record::{RecFault, RecRead, VolumeRecord, read_rec, rec_fault, write_rec};
 pub use refusal::{AttachError, Refusal};
 pub use vid::{VidFault, VidHeader, VidRead, VolKind, read_vid, write_vid};
 

@@ -1,5 +1,26 @@
 //! The records of the volume table (`ubi-media.h`, `struct ubi_vtbl_record`).
 
+ghost use Rattle.std.specs.Prelude.{◌≡◌, ◌==◌, ◌≤◌, ◌++◌, Some, None, true, IfSome, option_copied, position, replicate, take};
+ghost use Rattle.std.specs.Option.{ForSome};
+ghost use Rattle.ubi_media.specs.Name.{is_name};
+ghost use Rattle.ubi_media.specs.Record.{IsNumberFault, RecIs, breaks, empty_record, ends_at, fields_from, first_fault, judged, rec_bytes, rec_fault, rec_fields, rec_front, rec_reading, record_of, slot_reading};
+
+use crate::bytes::{put, put_u16, put_u32};
+use crate::check::{is_sealed, seal};
+use crate::geometry::Geometry;
+use crate::name::{VolName, padded};
+use crate::vid::{DYNAMIC, NEGATIVE, STATIC, VolKind};
+use byteorder::{BigEndian, ByteOrder};
+
+/// The place of the check in a record.
+const CHECK: usize = 168;
+
+/// The check of the empty record: that of 168 zeros.
+const EMPTY_CHECK: u32 = 0xF116_C36B;
+
+/// The bytes of the longest name (`UBI_VOL_NAME_MAX`).
+const LONGEST_NAME: u16 = 127;
+
 /// The rule that a record with the right check breaks. Of several, the first in this order.
 #[derive(Clone, Copy, Debug, PartialEq, Eq)]
 pub enum RecFault {
@@ -23,4 +44,253 @@ pub enum RecFault {
     NameBlank,
     /// The length of the name isn't the place of its first zero byte.
     NameLength,
+}
+
+/// What a record of the volume table says of its volume.
+#[derive(Clone, Copy, Debug, PartialEq, Eq)]
+pub struct VolumeRecord {
+    /// How many eraseblocks are kept for the volume, at least 1.
+    pub reserved: u32,
+    /// What the volume uses of a logical eraseblock is a multiple of so many bytes. 1, or a multiple of the page.
+    pub alignment: u32,
+    /// The kind of the volume.
+    pub kind: VolKind,
+    /// Whether an update of the volume began that didn't end.
+    pub marker: bool,
+    /// The name of the volume.
+    pub name: VolName,
+    /// What else is set of the volume: 0x01 that it grows to the size of the device, 0x02 that its check is skipped.
+    /// Other bits are kept as they are.
+    pub flags: u8,
+}
+
+/// What 172 bytes are as a record of the volume table.
+#[derive(Clone, Copy, Debug, PartialEq, Eq)]
+pub enum RecRead {
+    /// Zeros and their check: the slot has no volume.
+    Empty,
+    /// With a wrong check.
+    BadCrc,
+    /// With the right check and not empty, and the rule that it breaks first.
+    Fault(RecFault),
+    /// With the right check and not empty, and no rule broken.
+    Valid(VolumeRecord),
+}
+
+/// The fields, as they stand.
+#[derive(Clone, Copy)]
+struct RecFields {
+    reserved: u32,
+    alignment: u32,
+    data_pad: u32,
+    kind: u8,
+    marker: u8,
+    name_len: u16,
+    name: [u8; 128],
+    flags: u8,
+}
+
+#[tactic(auto, unfolding(crate::specs::Record::rec_fields))]
+fn fields_of(bytes: &[u8; 172]) -> RecFields
+    ensures { result ≡ rec_fields bytes.now }
+{
+    let mut name = [0u8; 128];
+    name.copy_from_slice(&bytes[16..144]);
+    RecFields {
+        reserved: BigEndian::read_u32(&bytes[0..4]),
+        alignment: BigEndian::read_u32(&bytes[4..8]),
+        data_pad: BigEndian::read_u32(&bytes[8..12]),
+        kind: bytes[12],
+        marker: bytes[13],
+        name_len: BigEndian::read_u16(&bytes[14..16]),
+        name,
+        flags: bytes[144],
+    }
+}
+
+/// The place of the first zero byte.
+fn first_zero(name: &[u8]) -> Option<usize>
+    ensures { result ≡ position (λ byte. byte == 0) name.now }
+{
+    name.iter().position(|byte| *byte == 0)
+}
+
+/// Whether the first zero byte of a name's bytes stands at a place.
+fn ends_at(name: &[u8; 128], at: u16) -> bool
+    ensures { result ≡ ends_at name.now at }
+{
+    match first_zero(name) {
+        Some(place) => place == usize::from(at),
+        None => false,
+    }
+}
+
+/// The faults, in the order in which their rules are tried.
+const FAULTS: [RecFault; 10] = [
+    RecFault::NotEmpty,
+    RecFault::Negative,
+    RecFault::Alignment,
+    RecFault::AlignmentPage,
+    RecFault::DataPad,
+    RecFault::Kind,
+    RecFault::Marker,
+    RecFault::NameTooLong,
+    RecFault::NameBlank,
+    RecFault::NameLength,
+];
+
+/// Whether the fields break the rule of a fault.
+#[tactic(auto, unfolding(crate::specs::Record::breaks))]
+fn breaks(geometry: &Geometry, fields: &RecFields, fault: RecFault) -> bool
+    ensures { result ≡ breaks geometry.now fields.now fault }
+{
+    let f = *fields;
+    let leb_size = geometry.leb_size();
+    match fault {
+        RecFault::NotEmpty => f.reserved == 0,
+        RecFault::Negative => {
+            f.reserved >= NEGATIVE || f.alignment >= NEGATIVE || f.data_pad >= NEGATIVE
+        }
+        RecFault::Alignment => f.alignment == 0 || f.alignment > leb_size,
+        RecFault::AlignmentPage => f.alignment != 1 && f.alignment % geometry.page() != 0,
+        RecFault::DataPad => f.alignment != 0 && f.data_pad != leb_size % f.alignment,
+        RecFault::Kind => f.kind != DYNAMIC && f.kind != STATIC,
+        RecFault::Marker => f.marker > 1,
+        RecFault::NameTooLong => f.name_len > LONGEST_NAME,
+        RecFault::NameBlank => f.name[0] == 0,
+        RecFault::NameLength => !ends_at(&f.name, f.name_len),
+    }
+}
+
+/// The fault of the first rule that the fields break.
+#[tactic(auto, unfolding(crate::specs::Record::first_fault))]
+fn fault_of(geometry: &Geometry, fields: &RecFields) -> Option<RecFault>
+    ensures { result ≡ first_fault geometry.now fields.now }
+{
+    FAULTS
+        .iter()
+        .copied()
+        .find(|fault| breaks(geometry, fields, *fault))
+}
+
+#[tactic(auto, unfolding(crate::specs::Record::record_of))]
+fn record_of(f: &RecFields) -> VolumeRecord
+    requires room { f.now.name_len ≤ 127 }
+    requires name { is_name (take f.now.name_len f.now.name) ≡ true }
+    ensures { result ≡ record_of f.now }
+{
+    VolumeRecord {
+        reserved: f.reserved,
+        alignment: f.alignment,
+        kind: VolKind::of(f.kind),
+        marker: f.marker != 0,
+        name: VolName::new(&f.name[..usize::from(f.name_len)]).unwrap(),
+        flags: f.flags,
+    }
+}
+
+/// What the fields of a sealed record are that isn't the empty one.
+#[tactic(auto, unfolding(crate::specs::Record::judged))]
+fn judged(geometry: &Geometry, fields: &RecFields) -> RecRead
+    ensures { result ≡ judged geometry.now fields.now }
+{
+    match fault_of(geometry, fields) {
+        Some(fault) => RecRead::Fault(fault),
+        None => RecRead::Valid(record_of(fields)),
+    }
+}
+
+/// The empty record.
+#[tactic(auto, unfolding(crate::specs::Record::empty_record))]
+fn empty_record() -> [u8; 172]
+    ensures { result ≡ empty_record }
+{
+    let mut bytes = [0u8; 172];
+    put_u32(&mut bytes, CHECK, EMPTY_CHECK);
+    bytes
+}
+
+/// What 172 bytes are as a record of the volume table. What stands behind the zero that ends the name isn't looked at,
+/// and neither is the padding, but in the empty record.
+pub fn read_rec(geometry: &Geometry, bytes: &[u8; 172]) -> RecRead
+    ensures is { RecIs geometry.now bytes.now result }
+    ensures value { result ≡ rec_reading geometry.now bytes.now }
+{
+    if !is_sealed(bytes, CHECK) {
+        return RecRead::BadCrc;
+    }
+    if *bytes == empty_record() {
+        return RecRead::Empty;
+    }
+    judged(geometry, &fields_of(bytes))
+}
+
+#[tactic(auto, unfolding(crate::specs::Record::fields_from))]
+fn fields_from(geometry: &Geometry, volume: &VolumeRecord) -> RecFields
+    ensures value { result ≡ fields_from geometry.now volume.now }
+    ensures name { is_name volume.now.name ≡ true }
+{
+    let VolumeRecord {
+        reserved,
+        alignment,
+        kind,
+        marker,
+        flags,
+        ..
+    } = *volume;
+    let name = volume.name.as_bytes();
+    RecFields {
+        reserved,
+        alignment,
+        data_pad: geometry.leb_size().checked_rem(alignment).unwrap_or(0),
+        kind: kind.number(),
+        marker: u8::from(marker),
+        name_len: name.len() as u16,
+        name: padded(name),
+        flags,
+    }
+}
+
+/// The fault of the first rule that a record breaks: none, or one of the rules of the reserved eraseblocks and of the
+/// alignment, since no value can break the others.
+pub fn rec_fault(geometry: &Geometry, volume: &VolumeRecord) -> Option<RecFault>
+    ensures value { result ≡ rec_fault geometry.now volume.now }
+    ensures number { IfSome result IsNumberFault }
+{
+    fault_of(geometry, &fields_from(geometry, volume))
+}
+
+/// The bytes of a record, with zeros in the place of its check.
+fn front_of(geometry: &Geometry, volume: &VolumeRecord) -> [u8; 172]
+    requires { rec_fault geometry.now volume.now ≡ None }
+    ensures { result ≡ rec_front geometry.now volume.now ++ replicate 4 0 }
+{
+    let fields = fields_from(geometry, volume);
+    let mut bytes = [0u8; 172];
+    bytes[12] = fields.kind;
+    bytes[13] = fields.marker;
+    bytes[144] = fields.flags;
+    put_u32(&mut bytes, 0, fields.reserved);
+    put_u32(&mut bytes, 4, fields.alignment);
+    put_u32(&mut bytes, 8, fields.data_pad);
+    put_u16(&mut bytes, 14, fields.name_len);
+    put(&mut bytes, 16, &fields.name);
+    bytes
+}
+
+/// The bytes of a slot of the volume table: of its record, zeros behind its name, zero padding and the right check; or
+/// of the empty record. They read back as what they were made of.
+pub fn write_rec(geometry: &Geometry, volume: Option<&VolumeRecord>) -> [u8; 172]
+    requires { ForSome (option_copied volume) (λ r. rec_fault geometry.now r ≡ None) }
+    ensures bytes { result ≡ rec_bytes geometry.now (option_copied volume.entry) }
+    ensures read_back { RecIs geometry.now result (slot_reading (option_copied volume.entry)) }
+{
+    match volume {
+        None => empty_record(),
+        Some(volume) => {
+            let mut bytes = front_of(geometry, volume);
+            seal(&mut bytes, CHECK);
+            bytes
+        }
+    }
 }

@@ -3,11 +3,12 @@
 
 ghost use Rattle.std.specs.Prelude.{◌≡◌, ◌++◌, None, replicate};
 ghost use Rattle.ubi_media.specs.Geometry.{Sizes};
-ghost use Rattle.ubi_media.specs.Vid.{VidIs, breaks, fields_from, first_fault, header_of, judged, vid_bytes, vid_fault, vid_fields, vid_front, vid_reading};
+ghost use Rattle.ubi_media.specs.Vid.{VidIs, breaks, fields_from, first_fault, header_of, judged, kind_number, kind_of, vid_bytes, vid_fault, vid_fields, vid_front, vid_reading};
 
 use crate::bytes::{put_u32, put_u64};
+use crate::check::seal;
 use crate::geometry::Geometry;
-use crate::header::{Form, form_of, seal};
+use crate::header::{CHECK, Form, form_of};
 use byteorder::{BigEndian, ByteOrder};
 
 /// The text `UBI!`.
@@ -24,13 +25,13 @@ const LAYOUT_VOLUME: u32 = 0x7FFF_EFFF;
 const MOST_VOLUMES: u32 = 128;
 
 /// The least number that is negative where it is read with a sign.
-const NEGATIVE: u32 = 0x8000_0000;
+pub(crate) const NEGATIVE: u32 = 0x8000_0000;
 
 /// The number of the type of a dynamic volume (`UBI_VID_DYNAMIC`).
-const DYNAMIC: u8 = 1;
+pub(crate) const DYNAMIC: u8 = 1;
 
 /// The number of the type of a static volume (`UBI_VID_STATIC`).
-const STATIC: u8 = 2;
+pub(crate) const STATIC: u8 = 2;
 
 /// The rule that a header with the right magic and the right check breaks. Of several, the first in this order.
 #[derive(Clone, Copy, Debug, PartialEq, Eq)]
@@ -66,6 +67,29 @@ pub enum VolKind {
     Dynamic,
     /// As one text, written at once and checked (`UBI_VID_STATIC`).
     Static,
+}
+
+impl VolKind {
+    /// The number of the kind.
+    pub(crate) fn number(self) -> u8
+        ensures { result ≡ kind_number self }
+    {
+        match self {
+            VolKind::Dynamic => DYNAMIC,
+            VolKind::Static => STATIC,
+        }
+    }
+
+    /// The kind of a number: static of its number, dynamic of any other.
+    pub(crate) fn of(number: u8) -> VolKind
+        ensures { result ≡ kind_of number }
+    {
+        if number == STATIC {
+            VolKind::Static
+        } else {
+            VolKind::Dynamic
+        }
+    }
 }
 
 /// What a volume-identifier header says of its eraseblock.
@@ -219,11 +243,7 @@ fn header_of(f: &VidFields) -> VidHeader
     ensures { result ≡ header_of f.now }
 {
     VidHeader {
-        kind: if f.kind == STATIC {
-            VolKind::Static
-        } else {
-            VolKind::Dynamic
-        },
+        kind: VolKind::of(f.kind),
         copy_flag: f.copy_flag != 0,
         compat: f.compat,
         vol_id: f.vol_id,
@@ -265,10 +285,7 @@ fn fields_from(header: &VidHeader) -> VidFields
     ensures { result ≡ fields_from header.now }
 {
     VidFields {
-        kind: match header.kind {
-            VolKind::Dynamic => DYNAMIC,
-            VolKind::Static => STATIC,
-        },
+        kind: header.kind.number(),
         copy_flag: u8::from(header.copy_flag),
         compat: header.compat,
         vol_id: header.vol_id,
@@ -309,6 +326,6 @@ pub fn write_vid(header: &VidHeader) -> [u8; 64]
     ensures read_back { (s : Sizes) → vid_fault s header.now ≡ None → VidIs s result (VidRead.Valid header.now) }
 {
     let mut bytes = front_of(fields_from(header));
-    seal(&mut bytes);
+    seal(&mut bytes, CHECK);
     bytes
 }
