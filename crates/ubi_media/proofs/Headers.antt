@@ -1,14 +1,15 @@
 -- What is written is read back.
-use Rattle.std.proofs.Common.{◌≡◌, ℕ, ◌^◌, ◌<◌, ◌≤◌, [], None, Bool, true, false, not, ◌==◌, refl, sym, arith}
+use Rattle.std.proofs.Common.{◌≡◌, ℕ, ◌^◌, ◌<◌, ◌≤◌, [], None, Bool, true, false, not, ◌==◌, refl, sym, ap, ◌∙◌, arith}
 use Rattle.std.specs.Bool.{if◌then◌else◌}
 use Rattle.std.proofs.lemmas.Bool.Decides.{nat_tests}
 use Rattle.byteorder.specs.Numbers.{big_number-reads_back}
 use Rattle.ubi_media.specs.Check.{check}
+use Rattle.ubi_media.specs.Fields.{field}
 use Rattle.ubi_media.specs.Geometry.{Sizes, IsGeometry}
 use Rattle.ubi_media.specs.Header.{FormIs}
 use Rattle.ubi_media.specs.Ec.{EcIs, ec_magic, ec_front, ec_bytes, ec_fields}
 use Rattle.ubi_media.specs.Ec as ec
-use Rattle.ubi_media.specs.Vid.{VidIs, kind_number, kind_of, vid_magic, vid_fault, vid_front, vid_bytes, vid_fields, fields_from, header_of}
+use Rattle.ubi_media.specs.Vid.{VidFits, VidIs, kind_number, kind_of, vid_magic, vid_fault, vid_front, vid_bytes, vid_fields, fields_from, header_of}
 use Rattle.ubi_media.specs.declared.ec.EcHeader.{EcHeader}
 use Rattle.ubi_media.specs.declared.ec.EcRead.TheVariants as ec_read
 use Rattle.ubi_media.specs.declared.header.Form.TheVariants.{Sealed}
@@ -91,3 +92,36 @@ pub vid_read_back : (s : Sizes) (h : VidHeader) → Fits (fields_from h) → vid
 vid_read_back s h fits sound =
     let e = vid_fields-vid_bytes h fits in
     (vid_bytes-Sealed h, rw e sound, rw e (sym (header_of-fields_from h)))
+
+-- and two headers with the same bytes are the same
+module _ (s : Sizes) (h : EcHeader) (fits : ec.EcFits h) where
+  counter_back : field 8 8 (ec_bytes s h) ≡ h.counter
+  counter_back = big_number-reads_back 8 h.counter [] (let wide = fits.counter in omega arith)
+
+  image_seq_back : field 4 24 (ec_bytes s h) ≡ h.image_seq
+  image_seq_back = big_number-reads_back 4 h.image_seq [] fits.image_seq
+
+pub one_ec_header : (s : Sizes) (h k : EcHeader) → ec.EcFits h → ec.EcFits k → ec_bytes s h ≡ ec_bytes s k → h ≡ k
+one_ec_header s h k fits fits_too e =
+    let counter : h.counter ≡ k.counter = sym (counter_back s h fits) ∙ ap (field 8 8) e ∙ counter_back s k fits_too in
+    let image_seq : h.image_seq ≡ k.image_seq = sym (image_seq_back s h fits) ∙ ap (field 4 24) e ∙ image_seq_back s k fits_too in
+    λ i. record { counter = counter i; image_seq = image_seq i }
+
+fields_fit : (h : VidHeader) → VidFits h → Fits (fields_from h)
+unfolding fields_from
+fields_fit h fits = record {
+  vol_id = fits.vol_id;
+  lnum = fits.lnum;
+  data_size = fits.data_size;
+  used_ebs = fits.used_ebs;
+  data_pad = fits.data_pad;
+  data_crc = fits.data_crc;
+  sqnum = fits.sqnum;
+}
+
+header_back : (h : VidHeader) → VidFits h → header_of (vid_fields (vid_bytes h)) ≡ h
+header_back h fits = ap header_of (vid_fields-vid_bytes h (fields_fit h fits)) ∙ header_of-fields_from h
+
+pub one_vid_header : (h k : VidHeader) → VidFits h → VidFits k → vid_bytes h ≡ vid_bytes k → h ≡ k
+one_vid_header h k fits fits_too e =
+    sym (header_back h fits) ∙ ap (λ bytes. header_of (vid_fields bytes)) e ∙ header_back k fits_too

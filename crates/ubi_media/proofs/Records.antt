@@ -12,7 +12,7 @@ use Rattle.ubi_media.specs.Check.{check}
 use Rattle.ubi_media.specs.Fields.{field, sealed, IsSealed, is_sealed, same_bytes, overwrite}
 use Rattle.ubi_media.specs.Geometry.{Sizes, leb_size}
 use Rattle.ubi_media.specs.Name.{is_name, padded}
-use Rattle.ubi_media.specs.Record.{RecIs, IsNumberFault, breaks, data_pad, empty_record, ends_at, faults, fields_from, first_fault, judged, rec_bytes, rec_fault, rec_fields, rec_front, rec_reading, record_of, slot_reading}
+use Rattle.ubi_media.specs.Record.{RecFits, RecIs, IsNumberFault, breaks, data_pad, empty_record, ends_at, faults, fields_from, first_fault, judged, rec_bytes, rec_fault, rec_fields, rec_front, rec_reading, record_of, slot_reading}
 use Rattle.ubi_media.specs.Vid.{kind_number, kind_of}
 use Rattle.ubi_media.specs.declared.record.RecFault.{RecFault}
 use Rattle.ubi_media.specs.declared.record.RecFault.TheVariants as fault
@@ -345,3 +345,17 @@ pub slot_read_back : (s : Sizes) (slot : Option VolumeRecord) → ForSome slot (
 unfolding rec_bytes
 slot_read_back s None sound = refl
 slot_read_back s (Some r) sound = rec_read_back s r (sound r refl)
+
+-- and two slots with the same bytes are the same
+record_of_bytes : (s : Sizes) (r : VolumeRecord) → RecFits r → record_of (rec_fields (sealed (rec_front s r))) ≡ r
+unfolding made
+record_of_bytes s r fits = record_back (data_pad s r) r (name_facts r.name fits.name) fits.reserved fits.alignment
+
+pub one_slot : (s : Sizes) (h k : Option VolumeRecord) → ForSome h RecFits → ForSome k RecFits → rec_bytes s h ≡ rec_bytes s k → h ≡ k
+unfolding rec_bytes
+one_slot s None None fits fits_too e = refl
+one_slot s None (Some k) fits fits_too e = absurd (not_empty s k (sym e))
+one_slot s (Some h) None fits fits_too e = absurd (not_empty s h e)
+one_slot s (Some h) (Some k) fits fits_too e =
+    ap Some
+    (sym (record_of_bytes s h (fits h refl)) ∙ ap (λ bytes. record_of (rec_fields bytes)) e ∙ record_of_bytes s k (fits_too k refl))

@@ -1,5 +1,5 @@
 -- The erase-counter header: the first 64 bytes of an eraseblock.
-use Rattle.std.specs.Prelude.{◌≡◌, ℕ, ◌==◌, ◌||◌, Bool, not, nat_lt, List, [], ◌∷◌, ◌++◌, Option, None, Some, find, replicate, slice_index}
+use Rattle.std.specs.Prelude.{◌≡◌, ℕ, ◌^◌, ◌<◌, ◌==◌, ◌||◌, Bool, not, nat_lt, List, [], ◌∷◌, ◌++◌, Option, None, Some, find, replicate, slice_index}
 use Rattle.std.specs.Option.{option_map_or}
 use Rattle.byteorder.specs.Endian.{big_bytes}
 use Rattle.ubi_media.specs.Fields.{field, sealed}
@@ -76,3 +76,8 @@ ec_front s h =
 -- the bytes of a header
 abbrev pub ec_bytes : Sizes → EcHeader → List ℕ
 ec_bytes s h = sealed (ec_front s h)
+
+-- the numbers of a header fit their widths
+pub record EcFits (h : EcHeader) : Type 0 where
+  pub counter : h.counter < 2 ^ 32
+  pub image_seq : h.image_seq < 2 ^ 32

@@ -1,10 +1,10 @@
 -- A record of the volume table: 172 bytes.
-use Rattle.std.specs.Prelude.{◌≡◌, ◌≢◌, ℕ, ◌-◌, ◌%◌, ◌==◌, ◌&&◌, ◌||◌, Bool, false, not, nat_lt, if◌then◌else◌, ⊤, List, [], ◌∷◌, ◌++◌, Option, None, Some, find, length, position, replicate, slice_index, slice_range, take}
+use Rattle.std.specs.Prelude.{◌≡◌, ◌≢◌, ℕ, ◌^◌, ◌<◌, ◌-◌, ◌%◌, ◌==◌, ◌&&◌, ◌||◌, Bool, true, false, not, nat_lt, if◌then◌else◌, ⊤, List, [], ◌∷◌, ◌++◌, Option, None, Some, find, length, position, replicate, slice_index, slice_range, take}
 use Rattle.std.specs.Option.{option_map_or}
 use Rattle.byteorder.specs.Endian.{big_bytes}
 use Rattle.ubi_media.specs.Fields.{field, sealed, IsSealed, is_sealed, same_bytes}
 use Rattle.ubi_media.specs.Geometry.{Sizes, leb_size}
-use Rattle.ubi_media.specs.Name.{padded}
+use Rattle.ubi_media.specs.Name.{is_name, padded}
 use Rattle.ubi_media.specs.Vid.{is_negative, kind_number, kind_of}
 use Rattle.ubi_media.specs.declared.record.RecFault.{RecFault}
 use Rattle.ubi_media.specs.declared.record.RecFault.TheVariants as fault
@@ -145,3 +145,9 @@ rec_bytes s (Some r) = sealed (rec_front s r)
 abbrev pub slot_reading : Option VolumeRecord → RecRead
 slot_reading None = read.Empty
 slot_reading (Some r) = read.Valid r
+
+-- the numbers of a record fit their widths, and its name is one
+pub record RecFits (r : VolumeRecord) : Type 0 where
+  pub reserved : r.reserved < 2 ^ 32
+  pub alignment : r.alignment < 2 ^ 32
+  pub name : is_name r.name ≡ true

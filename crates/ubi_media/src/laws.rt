@@ -1,11 +1,17 @@
 //! Laws of the definitions that the contracts cite, each as the contract of a function that does nothing.
 
-ghost use Rattle.std.specs.Prelude.{◌≡◌, ℕ, ◌+◌, ◌^◌, ◌<◌, ◌↔◌, List};
+ghost use Rattle.std.specs.Prelude.{◌≡◌, ℕ, ◌+◌, ◌^◌, ◌<◌, ◌↔◌, List, Option};
+ghost use Rattle.std.specs.Option.{ForSome};
 ghost use Rattle.ubi_media.specs.Check.{IsRemainder, remainder};
-ghost use Rattle.ubi_media.specs.Ec.{EcIs, ec_reading};
+ghost use Rattle.ubi_media.specs.Ec.{EcFits, EcIs, ec_bytes, ec_reading};
 ghost use Rattle.ubi_media.specs.Geometry.{Sizes};
-ghost use Rattle.ubi_media.specs.Vid.{VidIs, vid_reading};
+ghost use Rattle.ubi_media.specs.Record.{RecFits, RecIs, rec_bytes, rec_reading};
+ghost use Rattle.ubi_media.specs.Vid.{VidFits, VidIs, vid_bytes, vid_reading};
+ghost use Rattle.ubi_media.specs.declared.ec.EcHeader.{EcHeader};
 ghost use Rattle.ubi_media.specs.declared.ec.EcRead.{EcRead};
+ghost use Rattle.ubi_media.specs.declared.record.RecRead.{RecRead};
+ghost use Rattle.ubi_media.specs.declared.record.VolumeRecord.{VolumeRecord};
+ghost use Rattle.ubi_media.specs.declared.vid.VidHeader.{VidHeader};
 ghost use Rattle.ubi_media.specs.declared.vid.VidRead.{VidRead};
 
 /// The division by the generator leaves a remainder, and there is no other.
@@ -21,4 +27,24 @@ pub fn one_ec_reading()
 /// Bytes have one reading as a volume-identifier header, and no other.
 pub fn one_vid_reading()
     ensures { (s : Sizes) (bytes : List ℕ) (read : VidRead) → VidIs s bytes read ↔ (read ≡ vid_reading s bytes) }
+{}
+
+/// Bytes have one reading as a record of the volume table, and no other.
+pub fn one_rec_reading()
+    ensures { (s : Sizes) (bytes : List ℕ) (read : RecRead) → RecIs s bytes read ↔ (read ≡ rec_reading s bytes) }
+{}
+
+/// Two erase-counter headers with the same bytes are the same.
+pub fn one_ec_header()
+    ensures { (s : Sizes) (h k : EcHeader) → EcFits h → EcFits k → ec_bytes s h ≡ ec_bytes s k → h ≡ k }
+{}
+
+/// Two volume-identifier headers with the same bytes are the same.
+pub fn one_vid_header()
+    ensures { (h k : VidHeader) → VidFits h → VidFits k → vid_bytes h ≡ vid_bytes k → h ≡ k }
+{}
+
+/// Two slots of the volume table with the same bytes are both empty, or have the same record.
+pub fn one_slot()
+    ensures { (s : Sizes) (h k : Option VolumeRecord) → ForSome h RecFits → ForSome k RecFits → rec_bytes s h ≡ rec_bytes s k → h ≡ k }
 {}

@@ -1,4 +1,5 @@
 mod check;
 mod ec;
 mod geometry;
+mod record;
 mod vid;
