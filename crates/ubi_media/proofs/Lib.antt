@@ -9,9 +9,11 @@ pub mod Pages
 pub mod Polynomials
 pub mod Quotient
 pub mod Readings
+pub mod RecordVectors
 pub mod Records
 pub mod Register
 pub mod Table
+pub mod VidVectors
 pub mod Words
 pub mod Writes
 pub mod Xor

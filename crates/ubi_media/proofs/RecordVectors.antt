@@ -1,0 +1,141 @@
+-- Readings and bytes of records of the volume table on literals.
+use Rattle.std.proofs.Common.{◌≡◌, ℕ, ◌*◌, ◌-◌, List, [], ◌∷◌, ◌++◌, length, replicate, true, false, refl}
+use Rattle.std.specs.Prelude.{Some, None}
+use Rattle.ubi_media.specs.Check.{check_from, remainder}
+use Rattle.ubi_media.specs.Record.{rec_bytes, rec_fault, rec_fields, rec_reading, empty_record, fields_from, record_of, judged, first_fault, breaks}
+use Rattle.ubi_media.specs.declared.record.RecFault.TheVariants as fault
+use Rattle.ubi_media.specs.declared.record.RecRead.TheVariants.{Empty, BadCrc, Fault, Valid}
+use Rattle.ubi_media.specs.declared.record.VolumeRecord.{VolumeRecord}
+use Rattle.ubi_media.specs.declared.vid.VolKind.TheVariants.{Dynamic, Static}
+use Rattle.ubi_media.proofs.Words.{small, words}
+
+-- 168 bytes that begin with words and end with zeros, and a check
+abbrev slot : List ℕ → ℕ → List ℕ
+slot ws sum = words ws ++ replicate (168 - 4 * length ws) 0 ++ words (sum ∷ [])
+
+-- a dynamic volume of 20 eraseblocks with the name root
+root : VolumeRecord
+root = record {
+  reserved = 20;
+  alignment = 1;
+  kind = Dynamic;
+  marker = false;
+  name = 114 ∷ 111 ∷ 111 ∷ 116 ∷ [];
+  flags = 0;
+}
+
+sound : rec_reading small (slot (0x00000014 ∷ 1 ∷ 0 ∷ 0x01000004 ∷ 0x726f6f74 ∷ []) 0x71dfb11d) ≡ Valid root
+unfolding root rec_reading judged first_fault breaks rec_fields record_of empty_record check_from remainder
+sound = refl
+
+written : rec_bytes small (Some root) ≡ slot (0x00000014 ∷ 1 ∷ 0 ∷ 0x01000004 ∷ 0x726f6f74 ∷ []) 0x71dfb11d
+unfolding root rec_bytes check_from remainder
+written = refl
+
+none_reserved : rec_reading small (slot (0 ∷ 1 ∷ 0 ∷ 0x01000004 ∷ 0x726f6f74 ∷ []) 0xff452c6c) ≡ Fault fault.NotEmpty
+unfolding rec_reading judged first_fault breaks rec_fields record_of empty_record check_from remainder
+none_reserved = refl
+
+-- one byte that isn't zero, and the right check
+one_byte_of_padding : rec_reading small (slot (0 ∷ 0 ∷ 0 ∷ 0 ∷ 0 ∷ 0 ∷ 0 ∷ 0 ∷ 0 ∷ 0 ∷ 0 ∷ 0 ∷ 0 ∷ 0 ∷ 0 ∷ 0 ∷ 0 ∷ 0 ∷ 0 ∷ 0 ∷ 0 ∷ 0 ∷ 0 ∷ 0 ∷ 0 ∷ 0 ∷ 0 ∷ 0 ∷ 0 ∷ 0 ∷ 0 ∷ 0 ∷ 0 ∷ 0 ∷ 0 ∷ 0 ∷ 0 ∷ 0 ∷ 0 ∷ 0 ∷ 0 ∷ 1 ∷ []) 0x8611f3fd) ≡ Fault fault.NotEmpty
+unfolding rec_reading judged first_fault breaks rec_fields record_of empty_record check_from remainder
+one_byte_of_padding = refl
+
+many_reserved : rec_reading small (slot (0x80000000 ∷ 1 ∷ 0 ∷ 0x01000004 ∷ 0x726f6f74 ∷ []) 0xcd67473e) ≡ Fault fault.Negative
+unfolding rec_reading judged first_fault breaks rec_fields record_of empty_record check_from remainder
+many_reserved = refl
+
+negative_pad : rec_reading small (slot (0x00000014 ∷ 1 ∷ 0x80000000 ∷ 0x01000004 ∷ 0x726f6f74 ∷ []) 0x6a47c859) ≡ Fault fault.Negative
+unfolding rec_reading judged first_fault breaks rec_fields record_of empty_record check_from remainder
+negative_pad = refl
+
+alignment_0 : rec_reading small (slot (0x00000014 ∷ 0 ∷ 0 ∷ 0x01000004 ∷ 0x726f6f74 ∷ []) 0xd136075e) ≡ Fault fault.Alignment
+unfolding rec_reading judged first_fault breaks rec_fields record_of empty_record check_from remainder
+alignment_0 = refl
+
+alignment_above : rec_reading small (slot (0x00000014 ∷ 0x000001c0 ∷ 0 ∷ 0x01000004 ∷ 0x726f6f74 ∷ []) 0x773cedca) ≡ Fault fault.Alignment
+unfolding rec_reading judged first_fault breaks rec_fields record_of empty_record check_from remainder
+alignment_above = refl
+
+alignment_65 : rec_reading small (slot (0x00000014 ∷ 0x00000041 ∷ 0 ∷ 0x01000004 ∷ 0x726f6f74 ∷ []) 0x490abfe5) ≡ Fault fault.AlignmentPage
+unfolding rec_reading judged first_fault breaks rec_fields record_of empty_record check_from remainder
+alignment_65 = refl
+
+alignment_256 : rec_reading small (slot (0x00000014 ∷ 0x00000100 ∷ 0x00000080 ∷ 0x01000004 ∷ 0x726f6f74 ∷ []) 0x30ed19e0) ≡ Valid (record root { alignment = 256 })
+unfolding root rec_reading judged first_fault breaks rec_fields record_of empty_record check_from remainder
+alignment_256 = refl
+
+no_pad : rec_reading small (slot (0x00000014 ∷ 0x00000100 ∷ 0 ∷ 0x01000004 ∷ 0x726f6f74 ∷ []) 0x3e43fec2) ≡ Fault fault.DataPad
+unfolding rec_reading judged first_fault breaks rec_fields record_of empty_record check_from remainder
+no_pad = refl
+
+kind_3 : rec_reading small (slot (0x00000014 ∷ 1 ∷ 0 ∷ 0x03000004 ∷ 0x726f6f74 ∷ []) 0x4b642d95) ≡ Fault fault.Kind
+unfolding rec_reading judged first_fault breaks rec_fields record_of empty_record check_from remainder
+kind_3 = refl
+
+marker_2 : rec_reading small (slot (0x00000014 ∷ 1 ∷ 0 ∷ 0x01020004 ∷ 0x726f6f74 ∷ []) 0x7f12f77c) ≡ Fault fault.Marker
+unfolding rec_reading judged first_fault breaks rec_fields record_of empty_record check_from remainder
+marker_2 = refl
+
+name_of_128 : rec_reading small (slot (0x00000014 ∷ 1 ∷ 0 ∷ 0x01000080 ∷ 0x726f6f74 ∷ []) 0x4a3dc51a) ≡ Fault fault.NameTooLong
+unfolding rec_reading judged first_fault breaks rec_fields record_of empty_record check_from remainder
+name_of_128 = refl
+
+no_name : rec_reading small (slot (0x00000014 ∷ 1 ∷ 0 ∷ 0x01000000 ∷ []) 0xc238261d) ≡ Fault fault.NameBlank
+unfolding rec_reading judged first_fault breaks rec_fields record_of empty_record check_from remainder
+no_name = refl
+
+name_too_short : rec_reading small (slot (0x00000014 ∷ 1 ∷ 0 ∷ 0x01000003 ∷ 0x726f6f74 ∷ []) 0xf1fcc4f2) ≡ Fault fault.NameLength
+unfolding rec_reading judged first_fault breaks rec_fields record_of empty_record check_from remainder
+name_too_short = refl
+
+name_without_end : rec_reading small (slot (0x00000014 ∷ 1 ∷ 0 ∷ 0x0100007f ∷ 0x61616161 ∷ 0x61616161 ∷ 0x61616161 ∷ 0x61616161 ∷ 0x61616161 ∷ 0x61616161 ∷ 0x61616161 ∷ 0x61616161 ∷ 0x61616161 ∷ 0x61616161 ∷ 0x61616161 ∷ 0x61616161 ∷ 0x61616161 ∷ 0x61616161 ∷ 0x61616161 ∷ 0x61616161 ∷ 0x61616161 ∷ 0x61616161 ∷ 0x61616161 ∷ 0x61616161 ∷ 0x61616161 ∷ 0x61616161 ∷ 0x61616161 ∷ 0x61616161 ∷ 0x61616161 ∷ 0x61616161 ∷ 0x61616161 ∷ 0x61616161 ∷ 0x61616161 ∷ 0x61616161 ∷ 0x61616161 ∷ 0x61616161 ∷ []) 0xeba19757) ≡ Fault fault.NameLength
+unfolding rec_reading judged first_fault breaks rec_fields record_of empty_record check_from remainder
+name_without_end = refl
+
+longest_name : rec_reading small (slot (0x00000014 ∷ 1 ∷ 0 ∷ 0x0100007f ∷ 0x61616161 ∷ 0x61616161 ∷ 0x61616161 ∷ 0x61616161 ∷ 0x61616161 ∷ 0x61616161 ∷ 0x61616161 ∷ 0x61616161 ∷ 0x61616161 ∷ 0x61616161 ∷ 0x61616161 ∷ 0x61616161 ∷ 0x61616161 ∷ 0x61616161 ∷ 0x61616161 ∷ 0x61616161 ∷ 0x61616161 ∷ 0x61616161 ∷ 0x61616161 ∷ 0x61616161 ∷ 0x61616161 ∷ 0x61616161 ∷ 0x61616161 ∷ 0x61616161 ∷ 0x61616161 ∷ 0x61616161 ∷ 0x61616161 ∷ 0x61616161 ∷ 0x61616161 ∷ 0x61616161 ∷ 0x61616161 ∷ 0x61616100 ∷ []) 0x4529d27c) ≡ Valid (record root { name = replicate 127 97 })
+unfolding root rec_reading judged first_fault breaks rec_fields record_of empty_record check_from remainder
+longest_name = refl
+
+-- what stands behind the zero of the name is nothing
+more_behind_the_name : rec_reading small (slot (0x00000014 ∷ 1 ∷ 0 ∷ 0x01000004 ∷ 0x726f6f74 ∷ 0x00010000 ∷ []) 0xa4dcaedb) ≡ Valid root
+unfolding root rec_reading judged first_fault breaks rec_fields record_of empty_record check_from remainder
+more_behind_the_name = refl
+
+-- and neither is what stands in the padding
+other_padding : rec_reading small (slot (0x00000014 ∷ 1 ∷ 0 ∷ 0x01000004 ∷ 0x726f6f74 ∷ 0 ∷ 0 ∷ 0 ∷ 0 ∷ 0 ∷ 0 ∷ 0 ∷ 0 ∷ 0 ∷ 0 ∷ 0 ∷ 0 ∷ 0 ∷ 0 ∷ 0 ∷ 0 ∷ 0 ∷ 0 ∷ 0 ∷ 0 ∷ 0 ∷ 0 ∷ 0 ∷ 0 ∷ 0 ∷ 0 ∷ 0 ∷ 0 ∷ 0 ∷ 0 ∷ 0 ∷ 0x00010000 ∷ []) 0xeaac5bc9) ≡ Valid root
+unfolding root rec_reading judged first_fault breaks rec_fields record_of empty_record check_from remainder
+other_padding = refl
+
+static_and_marked : rec_reading small (slot (0x00000014 ∷ 1 ∷ 0 ∷ 0x02010004 ∷ 0x726f6f74 ∷ 0 ∷ 0 ∷ 0 ∷ 0 ∷ 0 ∷ 0 ∷ 0 ∷ 0 ∷ 0 ∷ 0 ∷ 0 ∷ 0 ∷ 0 ∷ 0 ∷ 0 ∷ 0 ∷ 0 ∷ 0 ∷ 0 ∷ 0 ∷ 0 ∷ 0 ∷ 0 ∷ 0 ∷ 0 ∷ 0 ∷ 0 ∷ 0 ∷ 0 ∷ 0 ∷ 0 ∷ 0xff000000 ∷ []) 0xb52a4690) ≡ Valid (record root { kind = Static; marker = true; flags = 0xff })
+unfolding root rec_reading judged first_fault breaks rec_fields record_of empty_record check_from remainder
+static_and_marked = refl
+
+wrong_check : rec_reading small (slot (0x00000014 ∷ 1 ∷ 0 ∷ 0x01000004 ∷ 0x726f6f74 ∷ []) 0x71dfb11c) ≡ BadCrc
+unfolding rec_reading check_from remainder
+wrong_check = refl
+
+empty : rec_reading small (slot [] 0xf116c36b) ≡ Empty
+unfolding rec_reading empty_record check_from remainder
+empty = refl
+
+no_record_written : rec_bytes small None ≡ slot [] 0xf116c36b
+unfolding rec_bytes empty_record check_from remainder
+no_record_written = refl
+
+-- the rules that a value breaks
+no_fault : rec_fault small root ≡ None
+unfolding root fields_from first_fault breaks
+no_fault = refl
+
+fault_of_none_reserved : rec_fault small (record root { reserved = 0 }) ≡ Some fault.NotEmpty
+unfolding root fields_from first_fault breaks
+fault_of_none_reserved = refl
+
+fault_of_alignment_0 : rec_fault small (record root { alignment = 0 }) ≡ Some fault.Alignment
+unfolding root fields_from first_fault breaks
+fault_of_alignment_0 = refl
+
+fault_of_alignment_65 : rec_fault small (record root { alignment = 65 }) ≡ Some fault.AlignmentPage
+unfolding root fields_from first_fault breaks
+fault_of_alignment_65 = refl
