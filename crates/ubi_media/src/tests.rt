@@ -1,5 +1,6 @@
 mod check;
 mod ec;
 mod geometry;
+mod name;
 mod record;
 mod vid;

@@ -1,41 +1,311 @@
-//! Records of the volume table: their bytes, their readings, and the rules that they break.
+//! Bytes and readings of records of the volume table, and the rules that a value breaks.
 
-use crate::{Geometry, RecFault, RecRead, VolKind, VolName, VolumeRecord, read_rec, rec_fault, write_rec};
+use crate::{
+    Geometry, RecFault, RecRead, VolKind, VolName, VolumeRecord, read_rec, rec_fault, write_rec,
+};
 use std::test::Fail;
 
-#[test]
-fn writes(rt: HostRuntime) -> Result<(), Fail> {
-    let geometry = Geometry::new(512, 64, 64, 128, 32)?;
-    let name = VolName::new(b"root").ok_or("no name")?;
-    let root = VolumeRecord {
+/// The fields of a record, as they stand, and the first byte of its padding.
+#[derive(Clone, Copy)]
+struct Fields {
+    reserved: u32,
+    alignment: u32,
+    data_pad: u32,
+    kind: u8,
+    marker: u8,
+    name_len: u16,
+    name: &'static [u8],
+    flags: u8,
+    padding: u8,
+}
+
+/// A dynamic volume of 20 eraseblocks.
+const ROOT: Fields = Fields {
+    reserved: 20,
+    alignment: 1,
+    data_pad: 0,
+    kind: 1,
+    marker: 0,
+    name_len: 4,
+    name: b"root",
+    flags: 0,
+    padding: 0,
+};
+
+impl Fields {
+    /// The bytes of the fields, with a check.
+    fn bytes(self, check: u32) -> [u8; 172] {
+        let mut bytes = [0u8; 172];
+        bytes[..4].copy_from_slice(&self.reserved.to_be_bytes());
+        bytes[4..8].copy_from_slice(&self.alignment.to_be_bytes());
+        bytes[8..12].copy_from_slice(&self.data_pad.to_be_bytes());
+        bytes[12] = self.kind;
+        bytes[13] = self.marker;
+        bytes[14..16].copy_from_slice(&self.name_len.to_be_bytes());
+        for (place, byte) in bytes[16..144].iter_mut().zip(self.name) {
+            *place = *byte;
+        }
+        bytes[144] = self.flags;
+        bytes[145] = self.padding;
+        bytes[168..172].copy_from_slice(&check.to_be_bytes());
+        bytes
+    }
+}
+
+/// What they say of the volume.
+fn root() -> Result<VolumeRecord, Fail> {
+    Ok(VolumeRecord {
         reserved: 20,
         alignment: 1,
         kind: VolKind::Dynamic,
         marker: false,
-        name,
+        name: VolName::new(b"root").ok_or("a name")?,
         flags: 0,
+    })
+}
+
+#[test]
+fn reads_records(rt: HostRuntime) -> Result<(), Fail> {
+    let geometry = Geometry::new(512, 64, 64, 128, 32)?;
+    let root = root()?;
+    let aligned = VolumeRecord {
+        alignment: 256,
+        ..root
     };
-    assert_eq!(rt; rec_fault(&geometry, &root), None);
-    let bytes = write_rec(&geometry, Some(&root));
-    assert_eq!(rt; read_rec(&geometry, &bytes), RecRead::Valid(root));
+    let long = VolumeRecord {
+        name: VolName::new(&[b'a'; 127]).ok_or("a name")?,
+        ..root
+    };
+    let marked = VolumeRecord {
+        kind: VolKind::Static,
+        marker: true,
+        flags: 0xFF,
+        ..root
+    };
+    // The checks were worked out by another program.
+    let cases = [
+        ("a sound record", ROOT, 0x71DF_B11D, root),
+        (
+            "an alignment with its padding",
+            Fields {
+                alignment: 256,
+                data_pad: 128,
+                ..ROOT
+            },
+            0x30ED_19E0,
+            aligned,
+        ),
+        (
+            "the longest name",
+            Fields {
+                name: &[b'a'; 127],
+                name_len: 127,
+                ..ROOT
+            },
+            0x4529_D27C,
+            long,
+        ),
+        (
+            "a byte behind the zero of the name",
+            Fields {
+                name: b"root\0\x01",
+                ..ROOT
+            },
+            0xA4DC_AEDB,
+            root,
+        ),
+        (
+            "a static volume, marked and with flags",
+            Fields {
+                kind: 2,
+                marker: 1,
+                flags: 0xFF,
+                ..ROOT
+            },
+            0xB52A_4690,
+            marked,
+        ),
+    ];
+    for (what, fields, check, volume) in cases {
+        assert_eq!(rt;
+            read_rec(&geometry, &fields.bytes(check)),
+            RecRead::Valid(volume),
+            "{what}"
+        );
+    }
     Ok(())
 }
 
-fn row(geometry: &Geometry, slot: Option<&VolumeRecord>) -> Option<[u8; 172]>
-{
-    if let Some(volume) = slot {
-        if rec_fault(geometry, volume).is_some() {
-            return None;
-        }
+#[test]
+fn finds_faults_of_bytes(rt: HostRuntime) -> Result<(), Fail> {
+    let geometry = Geometry::new(512, 64, 64, 128, 32)?;
+    // The checks were worked out by another program.
+    let cases = [
+        (
+            "none reserved",
+            Fields {
+                reserved: 0,
+                ..ROOT
+            },
+            0xFF45_2C6C,
+            RecFault::NotEmpty,
+        ),
+        (
+            "the empty record but for one byte of padding",
+            Fields {
+                reserved: 0,
+                alignment: 0,
+                kind: 0,
+                name: b"",
+                name_len: 0,
+                padding: 1,
+                ..ROOT
+            },
+            0x6A65_29BF,
+            RecFault::NotEmpty,
+        ),
+        (
+            "a negative number of eraseblocks",
+            Fields {
+                reserved: 0x8000_0000,
+                ..ROOT
+            },
+            0xCD67_473E,
+            RecFault::Negative,
+        ),
+        (
+            "alignment 0",
+            Fields {
+                alignment: 0,
+                ..ROOT
+            },
+            0xD136_075E,
+            RecFault::Alignment,
+        ),
+        (
+            "an alignment above a logical eraseblock",
+            Fields {
+                alignment: 448,
+                ..ROOT
+            },
+            0x773C_EDCA,
+            RecFault::Alignment,
+        ),
+        (
+            "an alignment that is no page",
+            Fields {
+                alignment: 65,
+                ..ROOT
+            },
+            0x490A_BFE5,
+            RecFault::AlignmentPage,
+        ),
+        (
+            "an alignment without its padding",
+            Fields {
+                alignment: 256,
+                ..ROOT
+            },
+            0x3E43_FEC2,
+            RecFault::DataPad,
+        ),
+        (
+            "type 3",
+            Fields { kind: 3, ..ROOT },
+            0x4B64_2D95,
+            RecFault::Kind,
+        ),
+        (
+            "update marker 2",
+            Fields { marker: 2, ..ROOT },
+            0x7F12_F77C,
+            RecFault::Marker,
+        ),
+        (
+            "a name too long",
+            Fields {
+                name_len: 128,
+                ..ROOT
+            },
+            0x4A3D_C51A,
+            RecFault::NameTooLong,
+        ),
+        (
+            "no name",
+            Fields {
+                name: b"",
+                name_len: 0,
+                ..ROOT
+            },
+            0xC238_261D,
+            RecFault::NameBlank,
+        ),
+        (
+            "a name longer than its length",
+            Fields {
+                name_len: 3,
+                ..ROOT
+            },
+            0xF1FC_C4F2,
+            RecFault::NameLength,
+        ),
+        (
+            "a name without end",
+            Fields {
+                name: &[b'a'; 128],
+                name_len: 127,
+                ..ROOT
+            },
+            0xEBA1_9757,
+            RecFault::NameLength,
+        ),
+    ];
+    for (what, fields, check, fault) in cases {
+        assert_eq!(rt;
+            read_rec(&geometry, &fields.bytes(check)),
+            RecRead::Fault(fault),
+            "{what}"
+        );
     }
-    Some(write_rec(geometry, slot))
+    assert_eq!(rt; read_rec(&geometry, &[0; 172]), RecRead::BadCrc);
+    Ok(())
 }
 
-fn other(geometry: &Geometry, table: &[VolumeRecord], slot: usize) -> Option<[u8; 172]>
-{
-    let at = table.get(slot);
-    match at {
-        Some(volume) => if rec_fault(geometry, volume).is_none() { Some(write_rec(geometry, at)) } else { None },
-        None => Some(write_rec(geometry, None)),
+#[test]
+fn writes_records(rt: HostRuntime) -> Result<(), Fail> {
+    let geometry = Geometry::new(512, 64, 64, 128, 32)?;
+    let root = root()?;
+    assert_eq!(rt; rec_fault(&geometry, &root), None);
+    assert_eq!(rt; write_rec(&geometry, Some(&root)), ROOT.bytes(0x71DF_B11D));
+    let mut empty = [0; 172];
+    empty[168..172].copy_from_slice(&[0xF1, 0x16, 0xC3, 0x6B]);
+    assert_eq!(rt; write_rec(&geometry, None), empty);
+    assert_eq!(rt; read_rec(&geometry, &empty), RecRead::Empty);
+    Ok(())
+}
+
+#[test]
+fn finds_faults_of_records(rt: HostRuntime) -> Result<(), Fail> {
+    let geometry = Geometry::new(512, 64, 64, 128, 32)?;
+    let root = root()?;
+    let cases = [
+        (0, 1, RecFault::NotEmpty),
+        (0x8000_0000, 1, RecFault::Negative),
+        (20, 0, RecFault::Alignment),
+        (20, 448, RecFault::Alignment),
+        (20, 65, RecFault::AlignmentPage),
+    ];
+    for (reserved, alignment, fault) in cases {
+        let volume = VolumeRecord {
+            reserved,
+            alignment,
+            ..root
+        };
+        assert_eq!(rt;
+            rec_fault(&geometry, &volume),
+            Some(fault),
+            "of {reserved}, {alignment}"
+        );
     }
+    Ok(())
 }
