@@ -1,13 +1,8 @@
 -- The check of a message: of no byte, of one, of two parts.
-use Rattle.std.proofs.Common.{◌≡◌, ℕ, zero, suc, ◌+◌, ◌*◌, ◌-◌, ◌/◌, ◌%◌, ◌^◌, ◌<◌, ◌≤◌, List, [], ◌∷◌, ◌++◌, length, take, get_or, bit_xor, bit_and, ◌≢◌, zero-add, refl, sym, ap, ◌∙◌, arith, replicate, length-append}
+use Rattle.std.proofs.Common.{◌≡◌, ℕ, ◌+◌, ◌*◌, ◌^◌, ◌<◌, List, [], ◌∷◌, ◌++◌, length, take, get_or, bit_xor, sym, ap, ◌∙◌, arith, replicate, length-append}
 use Rattle.std.proofs.lemmas.List.{length-replicate, take_more}
 use Rattle.std.proofs.lemmas.Grind.{flat_map-append}
-use Rattle.std.proofs.Math.Nat.{mod-lt, mul-le-mul_right, mod-eq_of_lt, div-eq_of_lt, pow-suc}
-use Rattle.std.specs.Int.{bit_at}
 use Rattle.std.specs.List.{flat_map}
-use Rattle.std.proofs.lemmas.Nat.{pow_pos, pow-add, xor_shr, xor_mod, xor_block, xor_lt, xor_comm, shr_split, mod_below, shr_below, shl_below, shr_high, mod-pow-add, and_mask}
-use Rattle.std.proofs.lemmas.Nat.Bits.{bit_at_xor, bit_at-lt, bit_at_above, bit_at_lowest, bit_at-suc}
-use lib.Bits.{xor_assoc, xor_shifted, xor_self, xor_zero_r}
 use Rattle.ubi_media.specs.Check.{bits, polynomial, add_to_front, remainder, dividend, check_from}
 use Rattle.ubi_media.proofs.Polynomials.{AreBits, AreBits-bits, AreBits-append, AreBits-zeros, AreBits-bytes, length-bits, length-bytes, polynomial-append, polynomial-zeros, polynomial-add_to_front}
 use Rattle.ubi_media.proofs.Mirror.{mirror, polynomial-bits, mirror-mirror}

@@ -3,7 +3,7 @@ use Rattle.std.proofs.Common.{◌≡◌, List, ℕ, [], ◌∷◌, replicate, re
 use Rattle.std.specs.Prelude.{Some, None}
 use Rattle.ubi_media.specs.Check.{check_from, remainder}
 use Rattle.ubi_media.specs.Ec.{ec_bytes, ec_fields, ec_reading, judged, first_fault, breaks}
-use Rattle.ubi_media.specs.Geometry.{Sizes, first_broken, leb_size, slots}
+use Rattle.ubi_media.specs.Geometry.{first_broken, leb_size, slots}
 use Rattle.ubi_media.specs.Header.{form_of}
 use Rattle.ubi_media.specs.declared.ec.EcFault.TheVariants.{Version, Offsets, Counter}
 use Rattle.ubi_media.specs.declared.ec.EcHeader.{EcHeader}

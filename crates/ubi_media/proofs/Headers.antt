@@ -1,11 +1,11 @@
 -- What is written is read back.
-use Rattle.std.proofs.Common.{◌≡◌, ℕ, ◌^◌, ◌<◌, ◌≤◌, [], None, Bool, true, false, not, ◌==◌, refl, sym, ap, ◌∙◌, arith}
+use Rattle.std.proofs.Common.{◌≡◌, ℕ, ◌^◌, ◌<◌, [], None, Bool, true, false, not, ◌==◌, refl, sym, ap, ◌∙◌, arith}
 use Rattle.std.specs.Bool.{if◌then◌else◌}
 use Rattle.std.proofs.lemmas.Bool.Decides.{nat_tests}
 use Rattle.byteorder.specs.Numbers.{big_number-reads_back}
 use Rattle.ubi_media.specs.Check.{check}
 use Rattle.ubi_media.specs.Fields.{field}
-use Rattle.ubi_media.specs.Geometry.{Sizes, IsGeometry}
+use Rattle.ubi_media.specs.Geometry.{Sizes}
 use Rattle.ubi_media.specs.Header.{FormIs}
 use Rattle.ubi_media.specs.Ec.{EcIs, ec_magic, ec_front, ec_bytes, ec_fields}
 use Rattle.ubi_media.specs.Ec as ec

@@ -9,6 +9,7 @@ pub mod Pages
 pub mod Polynomials
 pub mod Quotient
 pub mod Readings
+pub mod RecordBytes
 pub mod RecordVectors
 pub mod Records
 pub mod Register

@@ -1,11 +1,11 @@
 -- Bytes have one form, and one reading as each of the two headers of an eraseblock.
-use Rattle.std.proofs.Common.{◌≡◌, ◌≢◌, ℕ, ◌⊎◌, inl, inr, Bool, true, false, not, List, refl, ap, sym, ◌∙◌, subst, ◌≤◌, arith}
+use Rattle.std.proofs.Common.{◌≡◌, ◌≢◌, ℕ, inl, inr, Bool, true, false, not, List, refl, ap, sym, ◌∙◌, subst, ◌≤◌, arith}
 use Rattle.std.specs.Prelude.{◌↔◌, Option, Some, None, if◌then◌else◌, nat_eq}
 use Rattle.std.specs.Option.{option_map_or}
 use Rattle.std.proofs.lemmas.Bool.{eqb-true, eq-eqb}
 use Rattle.std.proofs.lemmas.Bool.Decides.{nat_tests}
 use Rattle.std.proofs.lemmas.List.Sums.{AllPass-from_list_all, list_all-from_AllPass}
-use Rattle.ubi_media.specs.Fields.{field, is_blank, is_sealed, IsBlank, IsSealed}
+use Rattle.ubi_media.specs.Fields.{field, is_blank, is_sealed, IsBlank}
 use Rattle.ubi_media.specs.Geometry.{Sizes}
 use Rattle.ubi_media.specs.Header.{FormIs, form_of}
 use Rattle.ubi_media.specs.Ec as ec

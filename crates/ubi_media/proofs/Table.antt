@@ -1,9 +1,9 @@
 -- Eight steps of the register are one look-up in a table.
-use Rattle.std.proofs.Common.{◌≡◌, ℕ, zero, suc, ◌+◌, ◌*◌, ◌/◌, ◌%◌, ◌^◌, ◌<◌, Bool, true, false, ◌&&◌, ◌==◌, List, [], ◌∷◌, length, get_or, bit_xor, bit_and, refl, sym, ap, ◌∙◌, arith, eqb-true, zero-add}
+use Rattle.std.proofs.Common.{◌≡◌, ℕ, zero, suc, ◌+◌, ◌*◌, ◌/◌, ◌%◌, ◌^◌, ◌<◌, Bool, true, ◌&&◌, ◌==◌, List, [], ◌∷◌, length, get_or, bit_xor, bit_and, refl, sym, ap, ◌∙◌, arith, eqb-true, zero-add}
 use Rattle.std.proofs.lemmas.Bool.{and_parts}
 use Rattle.std.proofs.lemmas.Nat.{shr_split, mod_below, and_mask, xor_shr}
 use Rattle.std.proofs.Math.Nat.{pow-suc}
-use lib.Bits.{xor_assoc, xor_shifted, xor_zero_l, xor_zero_r}
+use lib.Bits.{xor_assoc, xor_shifted, xor_zero_r}
 use Rattle.ubi_media.specs.declared.check.TheConstants.{TABLE}
 use Rattle.ubi_media.proofs.Register.{step, steps}
 use Rattle.ubi_media.proofs.Xor.{xor-div2, xor-mod2, xor-swap}

@@ -7,7 +7,7 @@ use crate::bytes::put;
 use std::marker::Model;
 
 /// The bytes of the longest name (`UBI_VOL_NAME_MAX`).
-const LONGEST: usize = 127;
+pub const LONGEST: usize = 127;
 
 /// The bytes that a record has for a name and at least one zero behind it.
 const ROOM: usize = 128;

@@ -8,7 +8,7 @@ ghost use Rattle.ubi_media.specs.Record.{IsNumberFault, RecIs, breaks, empty_rec
 use crate::bytes::{put, put_u16, put_u32};
 use crate::check::{is_sealed, seal};
 use crate::geometry::Geometry;
-use crate::name::{VolName, padded};
+use crate::name::{LONGEST, VolName, padded};
 use crate::vid::{DYNAMIC, NEGATIVE, STATIC, VolKind};
 use byteorder::{BigEndian, ByteOrder};
 
@@ -17,9 +17,6 @@ const CHECK: usize = 168;
 
 /// The check of the empty record: that of 168 zeros.
 const EMPTY_CHECK: u32 = 0xF116_C36B;
-
-/// The bytes of the longest name (`UBI_VOL_NAME_MAX`).
-const LONGEST_NAME: u16 = 127;
 
 /// The rule that a record with the right check breaks. Of several, the first in this order.
 #[derive(Clone, Copy, Debug, PartialEq, Eq)]
@@ -156,7 +153,7 @@ fn breaks(geometry: &Geometry, fields: &RecFields, fault: RecFault) -> bool
         RecFault::DataPad => f.alignment != 0 && f.data_pad != leb_size % f.alignment,
         RecFault::Kind => f.kind != DYNAMIC && f.kind != STATIC,
         RecFault::Marker => f.marker > 1,
-        RecFault::NameTooLong => f.name_len > LONGEST_NAME,
+        RecFault::NameTooLong => usize::from(f.name_len) > LONGEST,
         RecFault::NameBlank => f.name[0] == 0,
         RecFault::NameLength => !ends_at(&f.name, f.name_len),
     }
@@ -201,7 +198,6 @@ fn judged(geometry: &Geometry, fields: &RecFields) -> RecRead
 }
 
 /// The empty record.
-#[tactic(auto, unfolding(crate::specs::Record::empty_record))]
 fn empty_record() -> [u8; 172]
     ensures { result ≡ empty_record }
 {
@@ -280,6 +276,8 @@ fn front_of(geometry: &Geometry, volume: &VolumeRecord) -> [u8; 172]
 
 /// The bytes of a slot of the volume table: of its record, zeros behind its name, zero padding and the right check; or
 /// of the empty record. They read back as what they were made of.
+///
+/// The record has to break no rule: [`rec_fault`] is None.
 pub fn write_rec(geometry: &Geometry, volume: Option<&VolumeRecord>) -> [u8; 172]
     requires { ForSome (option_copied volume) (λ r. rec_fault geometry.now r ≡ None) }
     ensures bytes { result ≡ rec_bytes geometry.now (option_copied volume.entry) }

@@ -25,13 +25,13 @@ const LAYOUT_VOLUME: u32 = 0x7FFF_EFFF;
 const MOST_VOLUMES: u32 = 128;
 
 /// The least number that is negative where it is read with a sign.
-pub(crate) const NEGATIVE: u32 = 0x8000_0000;
+pub const NEGATIVE: u32 = 0x8000_0000;
 
 /// The number of the type of a dynamic volume (`UBI_VID_DYNAMIC`).
-pub(crate) const DYNAMIC: u8 = 1;
+pub const DYNAMIC: u8 = 1;
 
 /// The number of the type of a static volume (`UBI_VID_STATIC`).
-pub(crate) const STATIC: u8 = 2;
+pub const STATIC: u8 = 2;
 
 /// The rule that a header with the right magic and the right check breaks. Of several, the first in this order.
 #[derive(Clone, Copy, Debug, PartialEq, Eq)]

@@ -1,4 +1,4 @@
-use Rattle.ubi_media.proofs.Records.{rec_assembled}
+use Rattle.ubi_media.proofs.RecordBytes.{rec_assembled}
 use Rattle.ubi_media.proofs.record.front_of.Goals as goal
 
 pub returns : goal.returns

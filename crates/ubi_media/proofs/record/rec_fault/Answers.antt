@@ -1,5 +1,3 @@
-use Rattle.std.proofs.Common.{IfSome, ◌∙◌, ap, subst, sym}
-use Rattle.ubi_media.specs.Record.{IsNumberFault, first_fault}
 use Rattle.ubi_media.proofs.Records.{number_faults}
 use Rattle.ubi_media.proofs.record.rec_fault.Goals as goal
 
