@@ -99,7 +99,7 @@ data_pad s r = leb_size s % r.alignment
 abbrev pub usable : Sizes → VolumeRecord → ℕ
 usable s r = leb_size s - data_pad s r
 
--- the fields of a record. Nothing is divided by the alignment 0, which no rule lets through
+-- the fields of a record. An alignment of 0, which breaks a rule, divides nothing
 unfoldable pub fields_from : Sizes → VolumeRecord → RecFields
 fields_from s r = record {
   reserved = r.reserved;
