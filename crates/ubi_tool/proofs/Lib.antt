@@ -1,0 +1,6 @@
+pub mod Bytes
+pub mod Chunks
+pub mod Defaults
+pub mod EmptyImage
+pub mod Filling
+pub mod Laid

@@ -1,0 +1,72 @@
+//! The command line: which words there are, and what they ask for.
+
+use crate::numbers::Numbers;
+use clap::{Arg, ArgMatches, Command, value_parser};
+use std::alloc::{AllocError, Global};
+
+/// What the words ask for, with the paths as they were given.
+#[derive(Clone, Copy, Debug)]
+pub enum Request<'a> {
+    /// The normal image of one file, into another.
+    Normalise {
+        numbers: Numbers,
+        image: &'a str,
+        out: &'a str,
+    },
+}
+
+/// The whole command line. A command line is used up by reading words, so that each call makes a new one.
+pub fn command_line<'a>(alloc: Global) -> Result<Command<'a>, AllocError> {
+    let tool = Command::new(alloc, "ubi_tool").subcommand_required(true);
+    tool.subcommand(normalise_command(alloc)?)
+}
+
+/// What is asked for, where the words name a command and have all that it needs.
+pub fn request_of<'a>(matches: &'a ArgMatches<'_>) -> Option<Request<'a>> {
+    match matches.subcommand()? {
+        ("normalise", inner) => Some(Request::Normalise {
+            numbers: numbers_of(inner)?,
+            image: inner.get_str("IMAGE")?,
+            out: inner.get_str("out")?,
+        }),
+        _ => None,
+    }
+}
+
+fn normalise_command<'a>(alloc: Global) -> Result<Command<'a>, AllocError> {
+    let image = Arg::new(alloc, "IMAGE").required(true);
+    let out = Arg::new(alloc, "out")
+        .long("out")
+        .value_name("FILE")
+        .required(true);
+    let command = with_numbers(alloc, Command::new(alloc, "normalise"))?;
+    let command = command.arg(image)?;
+    command.arg(out)
+}
+
+/// Adds the numbers of a geometry to a command.
+fn with_numbers<'a>(alloc: Global, command: Command<'a>) -> Result<Command<'a>, AllocError> {
+    let command = command.arg(number(alloc, "peb").required(true))?;
+    let command = command.arg(number(alloc, "page").required(true))?;
+    let command = command.arg(number(alloc, "vid"))?;
+    let command = command.arg(number(alloc, "data"))?;
+    command.arg(number(alloc, "pebs"))
+}
+
+/// An option that takes a number of 32 bits.
+fn number<'a>(alloc: Global, name: &'a str) -> Arg<'a> {
+    Arg::new(alloc, name)
+        .long(name)
+        .value_name("N")
+        .value_parser(value_parser!(u32))
+}
+
+fn numbers_of(matches: &ArgMatches<'_>) -> Option<Numbers> {
+    Some(Numbers {
+        peb_size: matches.get_one::<u32>("peb")?,
+        page: matches.get_one::<u32>("page")?,
+        vid_offset: matches.get_one::<u32>("vid"),
+        data_offset: matches.get_one::<u32>("data"),
+        pebs: matches.get_one::<u32>("pebs"),
+    })
+}

@@ -1,0 +1,57 @@
+//! What a command answers, and what keeps it from answering.
+
+ghost use Rattle.std.specs.Prelude.{◌≡◌};
+ghost use Rattle.ubi_tool.specs.declared.outcome.ToolError.TheVariants.{Memory};
+
+use std::alloc::{AllocError, AllocFailed};
+use thiserror::Error;
+
+/// The exit status of a command that did its work.
+pub const DONE: u8 = 0;
+
+/// The exit status of an image that is refused, of a file that fails, and of want of memory.
+pub const FAILED: u8 = 1;
+
+/// The exit status of wrong words, a call for help among them, and of a geometry that breaks a limit.
+pub const WRONG_WORDS: u8 = 2;
+
+/// What a command answers.
+#[derive(Debug, Drop)]
+pub struct Outcome {
+    /// What is printed, in whole lines.
+    pub text: Vec<u8>,
+    /// The status that the program ends with.
+    pub status: u8,
+    /// The bytes of the output file, if one is to be written.
+    pub file: Option<Vec<u8>>,
+}
+
+/// A fault of the machine, which keeps a command from answering.
+#[derive(Clone, Copy, Debug, PartialEq, Eq, Error)]
+pub enum ToolError {
+    /// A read failed.
+    #[error("a read failed")]
+    Read,
+    /// A write failed.
+    #[error("a write failed")]
+    Write,
+    /// Memory ran out.
+    #[error("out of memory")]
+    Memory,
+}
+
+impl From<AllocError> for ToolError {
+    ghost from_gives = { λ _ e. e ≡ Memory };
+
+    fn from(_: AllocError) -> ToolError {
+        ToolError::Memory
+    }
+}
+
+impl<T: Drop> From<AllocFailed<T>> for ToolError {
+    ghost from_gives = { λ _ e. e ≡ Memory };
+
+    fn from(_: AllocFailed<T>) -> ToolError {
+        ToolError::Memory
+    }
+}
