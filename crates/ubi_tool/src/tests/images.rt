@@ -1,0 +1,112 @@
+//! Images that tests are made of. Their bytes are the format's, and their checks were worked out by another program.
+
+use std::alloc::{AllocError, Global};
+use ubi_media::{EcHeader, Geometry, VidHeader, VolKind, write_ec, write_vid};
+
+/// The words for a geometry of small eraseblocks.
+pub const SMALL: [&str; 6] = ["--peb", "512", "--page", "64", "--pebs", "32"];
+
+/// An erase-counter header of the small geometry, with counter 0 and no image.
+const EC: [u8; 64] = *b"UBI#\x01\0\0\0\
+    \0\0\0\0\0\0\0\0\0\0\0\x40\0\0\0\x80\0\0\0\0\
+    \0\0\0\0\0\0\0\0\0\0\0\0\0\0\0\0\0\0\0\0\0\0\0\0\0\0\0\0\0\0\0\0\x77\x52\xb3\xc4";
+
+/// The header of copy 0 of the volume table.
+const FIRST: [u8; 64] = *b"UBI!\x01\x01\0\x05\
+    \x7f\xff\xef\xff\0\0\0\0\0\0\0\0\0\0\0\0\0\0\0\0\0\0\0\0\0\0\0\0\0\0\0\0\
+    \0\0\0\0\0\0\0\0\0\0\0\0\0\0\0\0\0\0\0\0\xb8\x25\x64\xa8";
+
+/// The header of copy 1 of the volume table.
+const SECOND: [u8; 64] = *b"UBI!\x01\x01\0\x05\
+    \x7f\xff\xef\xff\0\0\0\x01\0\0\0\0\0\0\0\0\0\0\0\0\0\0\0\0\0\0\0\0\0\0\0\0\
+    \0\0\0\0\0\0\0\0\0\0\0\0\0\0\0\0\0\0\0\0\x1b\xb3\x4c\xe4";
+
+/// The check of the empty record, which stands behind its 168 zeros.
+const EMPTY: [u8; 4] = [0xF1, 0x16, 0xC3, 0x6B];
+
+/// The first bytes of the record of a dynamic volume `root` with 20 reserved eraseblocks. 148 zeros follow, and its
+/// check.
+const ROOT: [u8; 20] = *b"\0\0\0\x14\0\0\0\x01\0\0\0\0\x01\0\0\x04root";
+
+/// The check of that record.
+const ROOT_CHECK: [u8; 4] = [0x71, 0xDF, 0xB1, 0x1D];
+
+/// Adds an eraseblock with a copy of the empty table: two empty records, and 40 bytes 0xFF behind them.
+fn put_empty_copy(image: &mut Vec<u8>, header: &[u8; 64]) -> Result<(), AllocError> {
+    image.extend_from_slice(&EC)?;
+    image.extend_from_slice(header)?;
+    for _ in 0..2 {
+        image.extend_from_slice(&[0; 168])?;
+        image.extend_from_slice(&EMPTY)?;
+    }
+    image.extend_from_slice(&[0xFF; 40])
+}
+
+/// The normal image of the empty table: its two copies.
+pub fn normal_image(alloc: Global) -> Result<Vec<u8>, AllocError> {
+    let mut image = Vec::new(alloc);
+    put_empty_copy(&mut image, &FIRST)?;
+    put_empty_copy(&mut image, &SECOND)?;
+    Ok(image)
+}
+
+/// The same copies in the other order, with a blank eraseblock between them.
+pub fn reversed_image(alloc: Global) -> Result<Vec<u8>, AllocError> {
+    let mut image = Vec::new(alloc);
+    put_empty_copy(&mut image, &SECOND)?;
+    image.extend_from_slice(&[0xFF; 512])?;
+    put_empty_copy(&mut image, &FIRST)?;
+    Ok(image)
+}
+
+/// An image as `ubinize` writes it: a table with the volume `root`, and three of its logical eraseblocks.
+pub fn root_image(alloc: Global, geometry: &Geometry) -> Result<Vec<u8>, AllocError> {
+    let mut image = Vec::new(alloc);
+    for lnum in 0..2 {
+        put_headers(&mut image, geometry, 5, 0x7FFF_EFFF, lnum)?;
+        put_root_table(&mut image)?;
+    }
+    for lnum in 0..3u8 {
+        put_headers(&mut image, geometry, 0, 0, u32::from(lnum))?;
+        image.extend_from_slice(&[0x41 + lnum; 384])?;
+    }
+    Ok(image)
+}
+
+/// Adds the records of `root` and of an empty slot, and the blank bytes behind them.
+fn put_root_table(image: &mut Vec<u8>) -> Result<(), AllocError> {
+    image.extend_from_slice(&ROOT)?;
+    image.extend_from_slice(&[0; 148])?;
+    image.extend_from_slice(&ROOT_CHECK)?;
+    image.extend_from_slice(&[0; 168])?;
+    image.extend_from_slice(&EMPTY)?;
+    image.extend_from_slice(&[0xFF; 40])
+}
+
+/// Adds the two headers of an eraseblock of a dynamic volume.
+fn put_headers(
+    image: &mut Vec<u8>,
+    geometry: &Geometry,
+    compat: u8,
+    vol_id: u32,
+    lnum: u32,
+) -> Result<(), AllocError> {
+    let ec = EcHeader {
+        counter: 0,
+        image_seq: 0x1234_5678,
+    };
+    let vid = VidHeader {
+        kind: VolKind::Dynamic,
+        copy_flag: false,
+        compat,
+        vol_id,
+        lnum,
+        data_size: 0,
+        used_ebs: 0,
+        data_pad: 0,
+        data_crc: 0,
+        sqnum: 0,
+    };
+    image.extend_from_slice(&write_ec(geometry, &ec))?;
+    image.extend_from_slice(&write_vid(&vid))
+}

@@ -1,0 +1,113 @@
+//! Words of the command line, over files that aren't there.
+
+use super::fake::{Broken, FakeFiles};
+use crate::words::run_words;
+use std::alloc::{AllocError, Global};
+use std::cell::RefCell;
+use std::test::Fail;
+
+/// The words of a command line, the program's name first.
+pub fn words_of(alloc: Global, words: &[&str]) -> Result<Vec<String>, AllocError> {
+    let mut all = Vec::new(alloc);
+    all.push(String::from_str(alloc, "ubi_tool")?)?;
+    for word in words {
+        all.push(String::from_str(alloc, word)?)?;
+    }
+    Ok(all)
+}
+
+#[test]
+fn tells_of_wrong_words(rt: HostRuntime) -> Result<(), Fail> {
+    let alloc = rt.alloc();
+    let cases: [(&str, &str); 12] = [
+        ("", "requires a subcommand"),
+        ("--help", "Usage: ubi_tool"),
+        ("help", "Usage: ubi_tool"),
+        ("extract a", "unrecognized subcommand"),
+        ("normalise --help", "Usage: ubi_tool normalise"),
+        ("normalise a --out b --peb 512", "--page <N>"),
+        ("normalise --out b --peb 512 --page 64", "<IMAGE>"),
+        ("normalise a --peb 512 --page 64", "--out <FILE>"),
+        (
+            "normalise a --out b --peb 4294967296 --page 64",
+            "invalid value",
+        ),
+        (
+            "normalise a --out b --peb -1 --page 64",
+            "unexpected argument",
+        ),
+        ("normalise a --out b --peb 512 --page x", "invalid value"),
+        (
+            "normalise a b --out c --peb 512 --page 64",
+            "unexpected argument",
+        ),
+    ];
+    for (line, error) in cases {
+        let (text, status, shown) = answer(alloc, line)?;
+        assert_eq!(rt; text.len(), 0, "of {line:?}");
+        assert_eq!(rt; status, 2, "of {line:?}");
+        assert!(rt; shown.as_str().contains(error), "of {line:?}: {shown}");
+    }
+    Ok(())
+}
+
+#[test]
+fn refuses_geometries_before_files(rt: HostRuntime) -> Result<(), Fail> {
+    let alloc = rt.alloc();
+    let cases = [
+        ("512 --page 96 --vid 100 --data 128 --pebs 1", "G1 Page"),
+        ("512 --page 4294967295", "G1 Page"),
+        ("512 --page 2147483648", "G1 Page"),
+        ("500 --page 64", "G2 PebSize"),
+        ("4294967295 --page 64", "G2 PebSize"),
+        ("512 --page 64 --vid 0", "G3 VidOffset"),
+        ("512 --page 64 --data 64", "G4 DataOffset"),
+        ("512 --page 64 --vid 4294967232", "G4 DataOffset"),
+        ("256 --page 64", "G5 LebTooSmall"),
+        ("512 --page 64 --data 512", "G5 LebTooSmall"),
+        ("512 --page 64 --pebs 1", "G6 Pebs"),
+        ("512 --page 64 --pebs 1048577", "G6 Pebs"),
+    ];
+    for (numbers, cause) in cases {
+        let line = format!(in alloc; "normalise a --out b --peb {numbers}")?;
+        let (text, status, shown) = answer(alloc, line.as_str())?;
+        let want = format!(in alloc; "refused {cause}\n")?;
+        assert_eq!(rt; text.as_slice(), want.as_bytes(), "of {numbers:?}");
+        assert_eq!(rt; status, 2);
+        assert!(rt; shown.is_empty(), "{shown}");
+    }
+    Ok(())
+}
+
+#[test]
+fn takes_defaults(rt: HostRuntime) -> Result<(), Fail> {
+    let alloc = rt.alloc();
+    for numbers in [
+        "--peb 512 --page 64",
+        "--peb 512 --page 64 --vid 64",
+        "--peb 512 --page 64 --data 128 --pebs 1048576",
+        "--peb=512 --page=64",
+        "--page 0064 --peb +512",
+    ] {
+        let line = format!(in alloc; "normalise a --out b {numbers}")?;
+        let (text, status, shown) = answer(alloc, line.as_str())?;
+        assert_eq!(rt;
+            text.as_slice(),
+            b"cannot read a\n".as_slice(),
+            "of {numbers:?}: {shown}"
+        );
+        assert_eq!(rt; status, 1);
+    }
+    Ok(())
+}
+
+/// What the words of a line answer where no file can be read: the text, the status and what the standard error shows.
+fn answer(alloc: Global, line: &str) -> Result<(Vec<u8>, u8, String), AllocError> {
+    let shown = RefCell::new(String::new(alloc));
+    let written = RefCell::new(Vec::new(alloc));
+    let files = FakeFiles::new(&[], Broken::OpenRead, &written, &shown);
+    let parts: Vec<&str> = line.split_whitespace().collect(alloc)?;
+    let words = words_of(alloc, parts.as_slice())?;
+    let outcome = run_words(&files, alloc, words.as_slice())?;
+    Ok((outcome.text, outcome.status, shown.into_inner()))
+}
