@@ -56,15 +56,19 @@ zeros = refl
 
 -- the limits of a geometry, of the first that is broken
 kept : first_broken small ≡ None
+unfolding first_broken
 kept = refl
 
 no_page : first_broken (record { peb_size = 512; page = 96; vid_offset = 100; data_offset = 128; pebs = 1 }) ≡ Some limit.Page
+unfolding first_broken
 no_page = refl
 
 no_whole_pages : first_broken (record small { peb_size = 500 }) ≡ Some limit.PebSize
+unfolding first_broken
 no_whole_pages = refl
 
 data_at_the_end : first_broken (record small { data_offset = 512 }) ≡ Some limit.LebTooSmall
+unfolding first_broken
 data_at_the_end = refl
 
 data_of_384 : leb_size small ≡ 384

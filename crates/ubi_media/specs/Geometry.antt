@@ -41,7 +41,7 @@ limits =
     fault.Page ∷ fault.PebSize ∷ fault.VidOffset ∷ fault.DataOffset ∷ fault.LebTooSmall ∷ fault.Pebs ∷ []
 
 -- the first limit that the numbers break
-abbrev pub first_broken : Sizes → Option GeometryError
+unfoldable pub first_broken : Sizes → Option GeometryError
 first_broken s = find (λ limit. not (keeps s limit)) limits
 
 -- what holds of the numbers of every geometry

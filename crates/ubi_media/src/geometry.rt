@@ -79,6 +79,7 @@ impl Geometry {
     /// # Errors
     ///
     /// The first limit that the numbers break, in the order of [`GeometryError`].
+    #[tactic(auto, unfolding(crate::specs::Geometry::first_broken))]
     pub fn new(
         peb_size: u32,
         page: u32,

@@ -10,4 +10,5 @@ no_page_size : (page : ℕ) → 65536 < page → list_any (λ size. size == page
 no_page_size page h = grind (arith, nat_tests)
 
 pub page_too_large : (s : Sizes) → 65536 < s.page → first_broken s ≡ Some fault.Page
+unfolding first_broken
 page_too_large s h = rw (no_page_size s.page h) refl
