@@ -185,8 +185,6 @@ fn breaks(geometry: &Geometry, fields: &VidFields, fault: VidFault) -> bool
 {
     let f = *fields;
     let is_static = f.kind == STATIC;
-    let leb_size = geometry.leb_size();
-    let usable = leb_size.saturating_sub(f.data_pad);
     match fault {
         VidFault::CopyFlag => f.copy_flag > 1,
         VidFault::Negative => {
@@ -197,34 +195,32 @@ fn breaks(geometry: &Geometry, fields: &VidFields, fault: VidFault) -> bool
                 || f.data_pad >= NEGATIVE
         }
         VidFault::VolumeId => f.vol_id >= MOST_VOLUMES && f.vol_id < LAYOUT_VOLUME,
-        VidFault::Compat => {
-            if f.vol_id < MOST_VOLUMES {
-                f.compat != 0
-            } else {
-                !matches!(f.compat, 1 | 2 | 4 | 5)
-            }
-        }
+        VidFault::Compat if f.vol_id < MOST_VOLUMES => f.compat != 0,
+        VidFault::Compat => !matches!(f.compat, 1 | 2 | 4 | 5),
         VidFault::Kind => f.kind != DYNAMIC && f.kind != STATIC,
-        VidFault::Pad => f.data_pad >= leb_size / 2,
-        VidFault::Size => {
-            let is_before_last = f.used_ebs.saturating_sub(f.lnum) > 1;
-            f.data_size > leb_size
-                || is_static
-                    && (f.data_size == 0
-                        || f.data_size > usable
-                        || is_before_last && f.data_size != usable)
-        }
+        VidFault::Pad => f.data_pad >= geometry.leb_size() / 2,
+        VidFault::Size => breaks_size(geometry, fields),
         VidFault::UsedEbs => is_static == (f.used_ebs == 0),
         VidFault::Lnum => is_static && f.lnum >= f.used_ebs,
-        VidFault::CopyFields => {
-            !is_static
-                && if f.copy_flag == 0 {
-                    f.data_size != 0 || f.data_crc != 0
-                } else {
-                    f.data_size == 0
-                }
-        }
+        VidFault::CopyFields if is_static => false,
+        VidFault::CopyFields if f.copy_flag == 0 => f.data_size != 0 || f.data_crc != 0,
+        VidFault::CopyFields => f.data_size == 0,
     }
+}
+
+/// Whether the fields break the rule of the data's size.
+#[tactic(auto, unfolding(crate::specs::Vid::breaks))]
+fn breaks_size(geometry: &Geometry, fields: &VidFields) -> bool
+    ensures { result ≡ breaks geometry.now fields.now VidFault.Size }
+{
+    let f = *fields;
+    let leb_size = geometry.leb_size();
+    let usable = leb_size.saturating_sub(f.data_pad);
+    let is_before_last = f.used_ebs.saturating_sub(f.lnum) > 1;
+    let is_wrong_static = f.data_size == 0
+        || f.data_size > usable
+        || is_before_last && f.data_size != usable;
+    f.data_size > leb_size || f.kind == STATIC && is_wrong_static
 }
 
 /// The fault of the first rule that the fields break.
