@@ -1,9 +1,9 @@
 -- Lemmas on what a loop of writes appended and a loop of reads consumed.
-use Rattle.std.proofs.Common.{◌≡◌, ℕ, ◌+◌, ◌-◌, ◌≤◌, List, [], ◌++◌, Some, None, Option, IfSome, sym, ap, subst, ◌∙◌, take, drop, length, append-nil, refl, arith}
-use Rattle.std.specs.Io.KnownBytes.{Appends, Consumes, IsAtEnd}
+use Rattle.std.proofs.Common.{ℕ, ◌+◌, ◌-◌, List, Option, sym, subst, take, drop, length}
+use Rattle.std.specs.Io.KnownBytes.{Appends}
 use Rattle.std.proofs.KnownBytes.{Appends-trans}
 use Rattle.std.proofs.Math.Seq.{take-add}
-use Rattle.std.proofs.lemmas.List.{take_at, take_all, take_rest}
+use Rattle.std.proofs.lemmas.List.{take_rest}
 
 -- one more write, of the first m of the bytes behind n
 pub Appends-next : (a b c : Option (List ℕ)) (n m : ℕ) (bs : List ℕ) → Appends a b (take n bs)

@@ -1,6 +1,6 @@
 -- The normal image of the empty table is accepted.
-use Rattle.std.proofs.Common.{◌≡◌, ℕ, zero, suc, ◌+◌, ◌-◌, ◌*◌, ◌/◌, ◌%◌, ◌^◌, ◌<◌, ◌≤◌, List, [], ◌∷◌, ◌++◌, Bool, true, false, ◌&&◌, ◌==◌, length, take, drop, replicate, refl, sym, ap, ap₂, ◌∙◌, subst, append_assoc, length-append, eq-eqb, arith}
-use Rattle.std.specs.Prelude.{None, nat_lt, not, count_by, slice_range}
+use Rattle.std.proofs.Common.{◌≡◌, ℕ, zero, suc, ◌+◌, ◌*◌, ◌/◌, ◌%◌, ◌<◌, ◌≤◌, List, [], ◌∷◌, ◌++◌, Bool, true, false, ◌&&◌, ◌==◌, length, take, drop, refl, sym, ap, ◌∙◌, append_assoc, length-append, eq-eqb, arith}
+use Rattle.std.specs.Prelude.{None, nat_lt}
 use Rattle.std.specs.List.{list_all, repeat}
 use Rattle.std.specs.Simd.{first_chunks}
 use Rattle.std.proofs.lemmas.Bool.Decides.{nat_tests}
@@ -10,7 +10,7 @@ use Rattle.std.proofs.lemmas.Nat.{div-mul-add, mul-le}
 use Rattle.std.proofs.Math.Nat.{mul-add-mod_self_right}
 use Rattle.ubi_media.specs.Check.{check_from, remainder}
 use Rattle.ubi_media.specs.Ec.{ec_bytes, ec_reading}
-use Rattle.ubi_media.specs.Fields.{blank, filled, same_bytes}
+use Rattle.ubi_media.specs.Fields.{same_bytes}
 use Rattle.ubi_media.specs.Geometry.{Sizes, IsGeometry, slots}
 use Rattle.ubi_media.specs.Record.{empty_record}
 use Rattle.ubi_media.specs.Vid.{vid_bytes, fields_from}
@@ -19,8 +19,8 @@ use Rattle.ubi_media.proofs.EmptyRecord.{length-empty_record}
 use Rattle.ubi_media.proofs.Headers.{ec_read_back}
 use Rattle.ubi_media.proofs.Readings as readings
 use Rattle.ubi_tool.specs.Attach.{refusal}
-use Rattle.ubi_tool.specs.EmptyTable.{copy_block, empty_image, empty_table, is_copy, is_nameless, is_there, is_used, layout_header, means_empty, new_ec, plays}
-use Rattle.ubi_tool.specs.Image.{Image, ec, eraseblocks, leb, records, vid_area}
+use Rattle.ubi_tool.specs.EmptyTable.{copy_block, empty_image, empty_table, is_nameless, is_there, layout_header, means_empty, new_ec, plays}
+use Rattle.ubi_tool.specs.Image.{ec, eraseblocks, records}
 use Rattle.ubi_tool.proofs.Laid as parts
 use Rattle.ubi_tool.specs.declared.empty_table.Part.TheVariants.{Used, Copy}
 

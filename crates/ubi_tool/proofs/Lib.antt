@@ -3,4 +3,5 @@ pub mod Chunks
 pub mod Defaults
 pub mod EmptyImage
 pub mod Filling
+pub mod ImageVectors
 pub mod Laid

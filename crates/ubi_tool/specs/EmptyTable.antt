@@ -1,5 +1,5 @@
 -- The empty volume table: which eraseblocks hold it, and the image of it alone.
-use Rattle.std.specs.Prelude.{ℕ, ◌==◌, ◌&&◌, ◌||◌, Bool, true, false, not, List, ◌++◌, count_by}
+use Rattle.std.specs.Prelude.{ℕ, ◌==◌, ◌&&◌, ◌||◌, Bool, true, false, List, ◌++◌, count_by}
 use Rattle.std.specs.List.{list_all, repeat}
 use Rattle.ubi_media.specs.Ec.{ec_bytes}
 use Rattle.ubi_media.specs.Fields.{filled, same_bytes}
@@ -11,7 +11,7 @@ use Rattle.ubi_media.specs.declared.ec.EcRead.{EcRead}
 use Rattle.ubi_media.specs.declared.ec.EcRead.TheVariants as read
 use Rattle.ubi_media.specs.declared.vid.VidHeader.{VidHeader}
 use Rattle.ubi_media.specs.declared.vid.VolKind.TheVariants as kind
-use Rattle.ubi_tool.specs.Image.{Image, ec, records, vid_area}
+use Rattle.ubi_tool.specs.Image.{ec, records, vid_area}
 use Rattle.ubi_tool.specs.declared.empty_table.Part.{Part}
 use Rattle.ubi_tool.specs.declared.empty_table.Part.TheVariants as part
 

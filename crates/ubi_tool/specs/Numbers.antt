@@ -1,5 +1,5 @@
 -- The numbers of a geometry, as the words of a command give them.
-use Rattle.std.specs.Prelude.{ℕ, ◌*◌, unwrap_or}
+use Rattle.std.specs.Prelude.{◌*◌, unwrap_or}
 use Rattle.ubi_media.specs.Geometry.{Sizes}
 use Rattle.ubi_tool.specs.declared.numbers.Numbers.{Numbers}
 

@@ -1,8 +1,8 @@
 //! The commands over files: what the words ask for is read, done and written.
 
-ghost use Rattle.std.specs.Prelude.{◌≡◌, ◌+◌, ◌*◌, ◌≤◌, Some, IfOk, vec_len};
-ghost use Rattle.ubi_media.specs.Geometry.{Sizes, first_broken};
-ghost use Rattle.ubi_tool.specs.Answer.{Gives, IsAnswer, says};
+ghost use Rattle.std.specs.Prelude.{◌+◌, ◌*◌, ◌≤◌, IfOk, codes, vec_len};
+ghost use Rattle.ubi_tool.specs.Answer.{Gives, IsAnswer, IsNormaliseAnswer, says};
+ghost use Rattle.ubi_tool.specs.Lines.{file_line, geometry_line};
 
 use crate::command_line::{Request, command_line, request_of};
 use crate::lines::{file_line, geometry_line};
@@ -56,7 +56,7 @@ fn normalise_file<R: Files>(
     image: &str,
     out: &str,
 ) -> Result<Outcome, AllocError>
-    ensures { IfOk result IsAnswer }
+    ensures { IfOk result (IsNormaliseAnswer numbers image.now out.now) }
 {
     let geometry = match geometry_of(numbers) {
         Ok(geometry) => geometry,
@@ -119,15 +119,16 @@ fn nothing(alloc: Global) -> Result<Outcome, AllocError>
     Ok(said(Vec::new(alloc), WRONG_WORDS))
 }
 
+/// The line of a geometry that breaks a limit.
 fn refused_geometry(alloc: Global, limit: GeometryError) -> Result<Outcome, AllocError>
-    ensures { (s : Sizes) → first_broken s ≡ Some limit → IfOk result IsAnswer }
+    ensures { IfOk result (λ o. Gives o (says (geometry_line limit) 2)) }
 {
     Ok(said(geometry_line(alloc, limit)?, WRONG_WORDS))
 }
 
 /// The line of a file that can't be read, or want of memory.
 fn unread(alloc: Global, error: ToolError, path: &str) -> Result<Outcome, AllocError>
-    ensures { IfOk result IsAnswer }
+    ensures { IfOk result (λ o. Gives o (says (file_line (codes "cannot read ") path.now) 1)) }
 {
     if error == ToolError::Memory {
         return Err(AllocError);
@@ -135,8 +136,9 @@ fn unread(alloc: Global, error: ToolError, path: &str) -> Result<Outcome, AllocE
     Ok(said(file_line(alloc, "cannot read ", path)?, FAILED))
 }
 
+/// The line of a file that can't be written.
 fn unwritten(alloc: Global, path: &str) -> Result<Outcome, AllocError>
-    ensures { IfOk result IsAnswer }
+    ensures { IfOk result (λ o. Gives o (says (file_line (codes "cannot write ") path.now) 1)) }
 {
     Ok(said(file_line(alloc, "cannot write ", path)?, FAILED))
 }

@@ -1,4 +1,4 @@
-use Rattle.std.proofs.Common.{◌≡◌, ◌+◌, ◌-◌, ◌∙◌, refl, arith, ap}
+use Rattle.std.proofs.Common.{refl}
 use Rattle.ubi_tool.proofs.empty_table.is_layout.Goals as goal
 
 pub returns : goal.returns
