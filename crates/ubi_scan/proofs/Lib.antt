@@ -1,0 +1,15 @@
+pub mod Causes
+pub mod Choice
+pub mod Chunks
+pub mod Compatible
+pub mod Counted
+pub mod Decided
+pub mod Finite
+pub mod Held
+pub mod Keys
+pub mod Next
+pub mod Places
+pub mod Seen
+pub mod Shown
+pub mod SoFar
+pub mod Told

@@ -1,0 +1,137 @@
+-- What a pass knows of the eraseblocks that it has taken.
+use Rattle.std.proofs.Common.{◌≡◌, ℕ, ◌+◌, ◌<◌, ◌≤◌, inl, inr, Bool, List, [], ◌∷◌, ◌++◌, length, take, refl, ap, sym, ◌∙◌, subst, arith, length-take}
+use Rattle.std.specs.Prelude.{Option, Some, None, MatchOption, option_map}
+use Rattle.std.specs.BTreeMap as tree
+use Rattle.std.specs.BTreeMap.{BTreeMap}
+use Rattle.std.specs.Option.{option_map_or}
+use Rattle.std.proofs.lemmas.List.{take_all, take_more}
+use Rattle.ubi_media.specs.Geometry.{Sizes}
+use Rattle.ubi_media.specs.declared.refusal.Refusal.{Refusal}
+use Rattle.ubi_media.specs.declared.vid.VidHeader.{VidHeader}
+use Rattle.ubi_scan.specs.Choice.{candidate, places_of}
+use Rattle.ubi_scan.specs.Faults.{HasFault, IsScanFault, NoFault, NoFaultBelow}
+use Rattle.ubi_scan.specs.Image.{block, ec, vid}
+use Rattle.ubi_scan.specs.Members.{Leb, NoMember, Wins, good_in, leb_of, member, named_in, sqnum_in}
+use Rattle.ubi_scan.specs.Pass.{IsEntered, IsPassed, IsTaken, Stamp, fault_if, found_by, stamp_cmp, stamp_of}
+use Rattle.ubi_scan.specs.Scan.{AreWinners, IsScan}
+use Rattle.ubi_scan.specs.declared.candidate.Candidate.{Candidate}
+use Rattle.ubi_scan.specs.declared.pass.Pass.{Pass}
+use Rattle.ubi_scan.proofs.Causes.{Judges, judged}
+use Rattle.ubi_scan.proofs.Choice.{last_or_before}
+use Rattle.ubi_scan.proofs.Counted.{AreKnown, AreKnown-push, counted-le, mean_of}
+use Rattle.ubi_scan.proofs.Held.{AreHeld, AreHeld-none, AreHeld-push, AreHeld-skip, IsHeld}
+use Rattle.ubi_scan.proofs.Places.{get-places_of}
+use Rattle.ubi_scan.proofs.Seen.{AreSeen, AreSeen-none, AreSeen-push, AreSeen-skip}
+use Rattle.ubi_scan.proofs.Shown.{AreShown, AreShown-none, AreShown-push, AreShown-skip}
+use Rattle.ubi_scan.proofs.Told.{states_told}
+
+-- what is known before the eraseblock p
+pub record IsSoFar (z : Sizes) (bs : List (List ℕ)) (p : ℕ) (pass : Pass) : Type 0 where
+  pub clean : NoFaultBelow z bs p
+  pub seen : AreSeen z (take p bs) pass.seen
+  pub held : AreHeld z (take p bs) pass.best
+  pub shown : AreShown z (take p bs) pass.best pass.states.items
+  pub counts : AreKnown z (take p bs) pass.counts
+
+module _ (z : Sizes) (bs : List (List ℕ)) where
+  pub SoFar-none : (pass : Pass) → tree.IsEmpty pass.seen → tree.IsEmpty pass.best → pass.states.items ≡ [] → pass.counts.image_seq ≡ 0 → pass.counts.top_sqnum ≡ 0 → pass.counts.sum ≡ 0
+      → pass.counts.counted ≡ 0 → IsSoFar z bs 0 pass
+  SoFar-none pass seen best states image_seq top_sqnum sum counted = record {
+    clean = λ q c l. absurd (omega arith);
+    seen = AreSeen-none z pass.seen seen;
+    held = AreHeld-none z pass.best best;
+    shown = AreShown-none z pass.best pass.states.items states;
+    counts = record { image_seq = image_seq; top_sqnum = top_sqnum; sum = sum; counted = counted };
+  }
+
+  pub counted_so_far : (p : ℕ) (pass : Pass) → IsSoFar z bs p pass → pass.counts.counted ≤ p
+  counted_so_far p pass h = let k = counted-le z (take p bs) pass.counts h.counts in omega (arith, length-take p bs)
+
+  module _ (p : ℕ) (inside : p < length bs) where
+    abbrev b : List ℕ
+    b = block bs p
+
+    abbrev earlier : BTreeMap Stamp ℕ → VidHeader → Option ℕ
+    earlier seen h = tree.get stamp_cmp seen (stamp_of h)
+
+    next : take (p + 1) bs ≡ take p bs ++ b ∷ []
+    next = take_more bs p [] inside
+
+    place : p ≡ length (take p bs)
+    place = omega (arith, length-take p bs)
+
+    abbrev fault : Pass → Option Refusal
+    fault pass = fault_if p pass.counts.image_seq (earlier pass.seen) (ec z b) (vid z b)
+
+    judges : (pass : Pass) → IsSoFar z bs p pass → Judges z bs p (fault pass)
+    judges pass h = judged z bs p pass.seen h.seen inside pass.counts.image_seq h.counts.image_seq
+
+    pub SoFar-fault : (pass : Pass) (c : Refusal) → IsSoFar z bs p pass → fault pass ≡ Some c → IsScanFault z bs c
+    SoFar-fault pass c h e = record {
+      at = p;
+      inside = inside;
+      fault = subst (λ (o : Option Refusal). Judges z bs p o) e (judges pass h);
+      least = h.clean;
+    }
+
+    still_clean : (pass : Pass) → IsSoFar z bs p pass → fault pass ≡ None → NoFaultBelow z bs (p + 1)
+    still_clean pass h e q c l k =
+        let here : (d : Refusal) → HasFault z bs p d → ⊥ = subst (λ (o : Option Refusal). Judges z bs p o) e (judges pass h) in
+        elim (last_or_before q p l) [ inl old ↦ h.clean q c old k | inr new ↦ here c (subst (λ (x : ℕ). HasFault z bs x c) new k) ]
+
+    known : (old new : Pass) (good : Bool) → IsSoFar z bs p old → IsTaken old p (ec z b) (vid z b) good new → AreKnown z (take (p + 1) bs) new.counts
+    known old new good h t = subst (λ x. AreKnown z x new.counts) (sym next) (AreKnown-push z (take p bs) b old.counts new.counts h.counts t.counts)
+
+    step_by : (old new : Pass) (good : Bool) (o : Option VidHeader) → member z b ≡ o → IsSoFar z bs p old → fault old ≡ None → good ≡ good_in z b → IsTaken old p (ec z b) (vid z b) good new
+        → MatchOption o (IsPassed old (ec z b) (vid z b) new) (IsEntered old p good new) → IsSoFar z bs (p + 1) new
+    step_by old new good None is h fine right t k =
+        let none : named_in z b ≡ None = ap (option_map leb_of) is in
+        record {
+          clean = still_clean old h fine;
+          seen = subst (λ x. AreSeen z x new.seen) (sym next) (subst (AreSeen z (take p bs ++ b ∷ [])) (sym k.seen) (AreSeen-skip z (take p bs) b old.seen h.seen none));
+          held = subst (λ x. AreHeld z x new.best) (sym next) (subst (AreHeld z (take p bs ++ b ∷ [])) (sym k.best) (AreHeld-skip z (take p bs) b old.best h.held none));
+          shown = subst (λ x. AreShown z x new.best new.states.items) (sym next)
+              (rw (k.best, k.states) (AreShown-skip z (take p bs) b old.best old.states.items h.shown is));
+          counts = known old new good h t;
+        }
+    step_by old new good (Some v) is h fine right t k =
+        let named : named_in z b ≡ Some (leb_of v) = ap (option_map leb_of) is in
+        let number : sqnum_in z b ≡ v.sqnum = ap (λ o. option_map_or (λ (x : VidHeader). x.sqnum) o 0) is in
+        record {
+          clean = still_clean old h fine;
+          seen = subst (λ x. AreSeen z x new.seen) (sym next) (AreSeen-push z (take p bs) b (leb_of v) v.sqnum p old.seen new.seen h.seen named (sym number) place k.seen);
+          held = subst (λ x. AreHeld z x new.best) (sym next)
+              (AreHeld-push z (take p bs) b (leb_of v) (candidate p v good) old.best new.best h.held (record { named = named; place = place; sqnum = sym number; good = right }) k.best);
+          shown = subst (λ x. AreShown z x new.best new.states.items) (sym next)
+              (rw k.states (AreShown-push z (take p bs) b v (candidate p v good) old.best new.best old.states.items h.shown h.held is place k.best));
+          counts = known old new good h t;
+        }
+
+    pub SoFar-more : (old new : Pass) (good : Bool) → IsSoFar z bs p old → fault old ≡ None → good ≡ good_in z b → IsTaken old p (ec z b) (vid z b) good new → IsSoFar z bs (p + 1) new
+    SoFar-more old new good h fine right t = step_by old new good (member z b) refl h fine right t t.known
+
+  held_wins : (of : Leb) (o : Option Candidate) → MatchOption o (NoMember z bs of) (IsHeld z bs of) → MatchOption (option_map (λ (held : Candidate). held.place) o) (NoMember z bs of) (Wins z bs of)
+  held_wins of None h = h
+  held_wins of (Some held) h = record {
+    member = h.member;
+    best = elim h.best [
+      | inl g ↦ inl (h.good ∙ g.0, λ q m x. let y = g.1 q m x in let e = h.sqnum in omega arith)
+      | inr g ↦ inr (λ q m. ((g q m).0, (let y = (g q m).1 in let e = h.sqnum in omega arith)))
+    ];
+  }
+
+  pub SoFar-all : (p : ℕ) (pass : Pass) → IsSoFar z bs p pass → length bs ≤ p → IsScan z bs (found_by pass)
+  SoFar-all p pass h l =
+      let all : take p bs ≡ bs = take_all p bs l in
+      let clean : NoFault z bs = λ q c k. h.clean q c (omega arith) in
+      let held : AreHeld z bs pass.best = subst (λ x. AreHeld z x pass.best) all h.held in
+      let winners : AreWinners z bs (places_of pass.best.entries) = λ of. subst (λ (o : Option ℕ). MatchOption o (NoMember z bs of) (Wins z bs of)) (sym (get-places_of pass.best of)) (held_wins of _ (held.each of)) in
+      let counts : AreKnown z bs pass.counts = subst (λ x. AreKnown z x pass.counts) all h.counts in
+      record {
+        clean = clean;
+        winners = winners;
+        states = states_told z bs pass.best pass.states.items clean winners (subst (λ x. AreShown z x pass.best pass.states.items) all h.shown);
+        top_sqnum = counts.top_sqnum;
+        image_seq = counts.image_seq;
+        mean_ec = mean_of z bs pass.counts counts;
+      }

@@ -1,0 +1,49 @@
+-- An image as a list of eraseblocks, and the parts of an eraseblock.
+use Rattle.std.specs.Prelude.{◌≡◌, ◌≢◌, ℕ, ◌+◌, ◌*◌, ◌/◌, ◌%◌, ◌<◌, ◌≤◌, ◌⊎◌, List, [], drop, length, slice_index_or, slice_range, take}
+use Rattle.std.specs.Simd.{first_chunks}
+use Rattle.ubi_media.specs.Ec.{ec_reading}
+use Rattle.ubi_media.specs.Geometry.{Sizes}
+use Rattle.ubi_media.specs.Vid.{vid_reading}
+use Rattle.ubi_media.specs.declared.ec.EcRead.{EcRead}
+use Rattle.ubi_media.specs.declared.vid.VidRead.{VidRead}
+use Rattle.ubi_media.specs.declared.refusal.Refusal.{Refusal}
+use Rattle.ubi_media.specs.declared.refusal.Refusal.TheVariants as refusal
+
+-- bytes, and the sizes by which they are cut
+pub record Image : Type 0 where
+  pub sizes : Sizes
+  pub bytes : List ℕ
+
+-- the bytes are an image: whole eraseblocks, at least one and no more than the device has
+pub record IsWhole (image : Image) : Type 0 where
+  pub some : 0 < length image.bytes
+  pub cut : length image.bytes % image.sizes.peb_size ≡ 0
+  pub fits : length image.bytes ≤ image.sizes.pebs * image.sizes.peb_size
+
+-- why bytes are no image: there are too many, or they aren't whole eraseblocks
+abbrev pub IsSizeFault : Image → Refusal → Type 0
+IsSizeFault image refusal.TooMany = image.sizes.pebs * image.sizes.peb_size < length image.bytes
+IsSizeFault image refusal.Length =
+    (length image.bytes ≤ image.sizes.pebs * image.sizes.peb_size)
+    × ((length image.bytes ≡ 0) ⊎ (length image.bytes % image.sizes.peb_size ≢ 0))
+IsSizeFault image _ = ⊥
+
+-- the eraseblocks of an image
+abbrev pub eraseblocks : Image → List (List ℕ)
+eraseblocks image = first_chunks image.sizes.peb_size (length image.bytes / image.sizes.peb_size) image.bytes
+
+-- the eraseblock at a place
+abbrev pub block : List (List ℕ) → ℕ → List ℕ
+block bs p = slice_index_or bs p []
+
+-- what an eraseblock's erase-counter header is
+abbrev pub ec : Sizes → List ℕ → EcRead
+ec s b = ec_reading s (take 64 b)
+
+-- what its volume-identifier header is
+abbrev pub vid : Sizes → List ℕ → VidRead
+vid s b = vid_reading s (slice_range b s.vid_offset (s.vid_offset + 64))
+
+-- the bytes of its logical eraseblock (LEB)
+abbrev pub leb : Sizes → List ℕ → List ℕ
+leb s b = drop s.data_offset b

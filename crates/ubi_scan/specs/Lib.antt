@@ -1,0 +1,10 @@
+pub mod Image
+pub mod Members
+pub mod Numbers
+pub mod Faults
+pub mod States
+pub mod Clean
+pub mod Scan
+pub mod Coded
+pub mod Choice
+pub mod Pass

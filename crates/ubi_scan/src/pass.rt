@@ -1,0 +1,172 @@
+//! One pass over the eraseblocks of an image, which is handed what their headers are, by rising number.
+
+ghost use Rattle.std.specs.Prelude.{◌≡◌, ◌<◌, ◌++◌, ◌∷◌, [], ◌^◌, IfOk, IfErr, OnOk, Some, slice_set};
+ghost use Rattle.std.specs.BTreeMap as tree;
+ghost use Rattle.ubi_scan.specs.Scan.{leb_cmp};
+ghost use Rattle.ubi_scan.specs.Choice.{beaten, kept};
+ghost use Rattle.ubi_scan.specs.Pass.{fault_if, IsEntered, IsTaken, quiet_state, stamp_cmp, stamp_of, vid_fault};
+ghost use Rattle.ubi_scan.specs.declared.found.ScanState.TheVariants as state;
+
+use crate::candidate::Candidate;
+use crate::counts::Counts;
+use crate::faults::{ec_fault, header_fault};
+use crate::found::ScanState;
+use crate::header::member_of;
+use std::alloc::{AllocError, Global};
+use std::collections::BTreeMap;
+use ubi_media::{EcRead, Refusal, VidHeader, VidRead};
+
+/// A volume, and the number of a logical eraseblock in it.
+pub type Leb = (u32, u32);
+
+/// What is known of the eraseblocks so far.
+#[derive(Drop)]
+pub struct Pass {
+    /// The eraseblock of each logical eraseblock and sequence number that a member has.
+    pub seen: BTreeMap<(Leb, u64), u32>,
+    /// The member of each logical eraseblock that would win it.
+    pub best: BTreeMap<Leb, Candidate>,
+    /// What is said of each eraseblock.
+    pub states: Vec<ScanState>,
+    /// The numbers that their headers give.
+    pub counts: Counts,
+}
+
+/// The logical eraseblock of a header, and its sequence number.
+fn stamp_of(header: &VidHeader) -> (Leb, u64)
+    ensures { result ≡ stamp_of header.now }
+{
+    ((header.vol_id, header.lnum), header.sqnum)
+}
+
+/// What is said of an eraseblock that is no member.
+fn quiet_state(ec: &EcRead, vid: &VidRead) -> ScanState
+    ensures { result ≡ quiet_state ec.now vid.now }
+{
+    match (ec, vid) {
+        (EcRead::Blank, _) => ScanState::Blank,
+        (_, VidRead::Valid(_)) => ScanState::Dropped,
+        (EcRead::Corrupt, _) => ScanState::Corrupt,
+        (_, VidRead::Blank) => ScanState::Free,
+        _ => ScanState::Garbage,
+    }
+}
+
+/// Enters the stamp of the member at a place.
+fn stamp(seen: &mut BTreeMap<(Leb, u64), u32>, header: &VidHeader, p: u32) -> Result<(), AllocError>
+    ensures { OnOk result (tree.Updates stamp_cmp seen.old seen.new (stamp_of header.now) (Some p)) }
+{
+    seen.insert(stamp_of(header), p)?;
+    Ok(())
+}
+
+/// Enters a member of a logical eraseblock, and answers which eraseblock is beaten: it, or the one that it beats.
+fn enter(
+    best: &mut BTreeMap<Leb, Candidate>,
+    leb: Leb,
+    new: Candidate,
+) -> Result<Option<u32>, AllocError>
+    ensures updates { OnOk result (tree.Updates leb_cmp best.old best.new leb (Some (kept (tree.get leb_cmp best.old leb) new))) }
+    ensures beaten { IfOk result (λ place. place ≡ beaten (tree.get leb_cmp best.old leb) new) }
+{
+    let (kept, beaten) = match best.get(&leb) {
+        None => (new, None),
+        Some(held) if new.beats(held) => (new, Some(held.place)),
+        Some(held) => (*held, Some(new.place)),
+    };
+    best.insert(leb, kept)?;
+    Ok(beaten)
+}
+
+/// Says of an eraseblock that it is beaten.
+fn beat(states: &mut Vec<ScanState>, p: u32)
+    ensures { states.new.items ≡ slice_set states.old.items p state.Beaten }
+{
+    if let Some(state) = states.get_mut(p as usize) {
+        *state = ScanState::Beaten;
+    }
+}
+
+impl Pass {
+    /// Nothing is known yet.
+    pub fn new(alloc: Global) -> Pass
+        ensures seen { tree.IsEmpty result.seen }
+        ensures best { tree.IsEmpty result.best }
+        ensures states { result.states.items ≡ [] }
+        ensures image_seq { result.counts.image_seq ≡ 0 }
+        ensures top_sqnum { result.counts.top_sqnum ≡ 0 }
+        ensures sum { result.counts.sum ≡ 0 }
+        ensures counted { result.counts.counted ≡ 0 }
+    {
+        Pass {
+            seen: BTreeMap::new(alloc),
+            best: BTreeMap::new(alloc),
+            states: Vec::new(alloc),
+            counts: Counts::new(),
+        }
+    }
+
+    /// The eraseblock that has the stamp of a header, if one has.
+    fn twin(&self, header: &VidHeader) -> Option<u32>
+        ensures { result ≡ tree.get stamp_cmp self.now.seen (stamp_of header.now) }
+    {
+        self.seen.get(&stamp_of(header)).copied()
+    }
+
+    /// The first fault of the volume-identifier header of the next eraseblock.
+    fn vid_fault(&self, p: u32, vid: &VidRead) -> Option<Refusal>
+        ensures { result ≡ vid_fault p (λ h. tree.get stamp_cmp self.now.seen (stamp_of h)) vid.now }
+    {
+        match vid {
+            VidRead::Fault(fault) => Some(Refusal::Vid(p, *fault)),
+            VidRead::Valid(header) => header_fault(p, self.twin(header), header),
+            VidRead::Blank | VidRead::Corrupt => None,
+        }
+    }
+
+    /// The first fault of the next eraseblock.
+    pub fn fault(&self, p: u32, ec: &EcRead, vid: &VidRead) -> Option<Refusal>
+        ensures { result ≡ fault_if p self.now.counts.image_seq (λ h. tree.get stamp_cmp self.now.seen (stamp_of h)) ec.now vid.now }
+    {
+        if matches!(ec, EcRead::Blank) {
+            return None;
+        }
+        match ec_fault(p, self.counts.image_seq, ec) {
+            Some(fault) => Some(fault),
+            None => self.vid_fault(p, vid),
+        }
+    }
+
+    /// Enters a member.
+    fn add_member(&mut self, p: u32, header: &VidHeader, good: bool) -> Result<(), AllocError>
+        ensures counts { self.new.counts ≡ self.old.counts }
+        ensures entered { OnOk result (IsEntered self.old p good self.new header.now) }
+    {
+        stamp(&mut self.seen, header, p)?;
+        let new = Candidate {
+            place: p,
+            sqnum: header.sqnum,
+            good,
+        };
+        let beaten = enter(&mut self.best, (header.vol_id, header.lnum), new)?;
+        self.states.push(ScanState::Winner)?;
+        if let Some(place) = beaten {
+            beat(&mut self.states, place);
+        }
+        Ok(())
+    }
+
+    /// Takes the next eraseblock, which has no fault. `good` says of a member whether it is no copy, or its copied data
+    /// are right.
+    pub fn add(&mut self, p: u32, ec: &EcRead, vid: &VidRead, good: bool) -> Result<(), AllocError>
+        requires { self.old.counts.counted < 2 ^ 32 }
+        ensures { OnOk result (IsTaken self.old p ec.now vid.now good self.new) }
+    {
+        self.counts = self.counts.with(ec, vid);
+        match member_of(ec, vid) {
+            Some(header) => self.add_member(p, &header, good)?,
+            None => self.states.push(quiet_state(ec, vid))?,
+        }
+        Ok(())
+    }
+}
