@@ -11,7 +11,7 @@ use Rattle.ubi_scan.specs.Faults.{NoFault}
 use Rattle.ubi_scan.proofs.Keys.{leb_total, leb_exact, told}
 use Rattle.ubi_scan.proofs.Choice.{block_old, block_new, member_old, member_new, IsBest, none_skip, best_skip, best_first, best_keep, best_take, beats, false_or_true}
 
-below_or_above : (p q : ℕ) → (p ≡ q) ⊎ (p < q) ⊎ (q < p)
+pub below_or_above : (p q : ℕ) → (p ≡ q) ⊎ (p < q) ⊎ (q < p)
 below_or_above p q = grind arith
 
 named_or_not : (of : Leb) (o : Option Leb) → (o ≡ Some of) ⊎ (o ≡ Some of → ⊥)
@@ -59,7 +59,7 @@ module _ (z : Sizes) where
   ]
 
   -- two members of a LEB with equal sequence numbers are one, where nothing is at fault
-  one_of_number : (bs : List (List ℕ)) (of : Leb) (p q : ℕ) → NoFault z bs → IsMember z bs of p → IsMember z bs of q → sqnum_at z bs p ≡ sqnum_at z bs q → p < q → ⊥
+  pub one_of_number : (bs : List (List ℕ)) (of : Leb) (p q : ℕ) → NoFault z bs → IsMember z bs of p → IsMember z bs of q → sqnum_at z bs p ≡ sqnum_at z bs q → p < q → ⊥
   one_of_number bs of p q clean a b same less =
       clean q (refusal.SameSqnum q p) b.inside
       (refl, of, b, record { inside = (let i = a.inside in let j = b.inside in omega (arith, length-take q bs)); named = ap (named_in z) (get_or-take q bs p [] less) ∙ a.named }, same)

@@ -1,6 +1,7 @@
 pub mod Causes
 pub mod Choice
 pub mod Chunks
+pub mod Clean
 pub mod Compatible
 pub mod Counted
 pub mod Decided

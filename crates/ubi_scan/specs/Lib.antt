@@ -5,6 +5,7 @@ pub mod Faults
 pub mod States
 pub mod Clean
 pub mod Scan
+pub mod Laws
 pub mod Coded
 pub mod Choice
 pub mod Pass

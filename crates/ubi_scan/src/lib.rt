@@ -11,9 +11,13 @@ mod counts;
 mod faults;
 mod found;
 mod header;
+pub mod laws;
 mod pass;
 mod scanning;
 
 pub use blocks::Blocks;
 pub use found::{Scan, ScanState};
 pub use scanning::scan;
+
+#[cfg(test)]
+mod tests;

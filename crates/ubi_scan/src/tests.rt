@@ -1,0 +1,5 @@
+mod blocks;
+mod choice;
+mod faults;
+mod images;
+mod states;
