@@ -36,11 +36,11 @@ eraseblocks image = first_chunks image.sizes.peb_size (length image.bytes / imag
 abbrev pub block : List (List ℕ) → ℕ → List ℕ
 block bs p = slice_index_or bs p []
 
--- what an eraseblock's erase-counter header is
+-- what an eraseblock's erase-counter header (EC) is
 abbrev pub ec : Sizes → List ℕ → EcRead
 ec s b = ec_reading s (take 64 b)
 
--- what its volume-identifier header is
+-- what its volume-identifier header (VID) is
 abbrev pub vid : Sizes → List ℕ → VidRead
 vid s b = vid_reading s (slice_range b s.vid_offset (s.vid_offset + 64))
 
