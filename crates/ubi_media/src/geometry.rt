@@ -26,7 +26,7 @@ const MOST_SLOTS: u32 = 128;
 const FEWEST_PEBS: u32 = 2;
 
 /// The eraseblocks of the largest device.
-const MOST_PEBS: u32 = 0x0010_0000;
+pub const MOST_PEBS: u32 = 0x0010_0000;
 
 /// The limit that the numbers of a geometry break.
 #[derive(Clone, Copy, Debug, PartialEq, Eq)]

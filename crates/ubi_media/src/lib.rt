@@ -18,11 +18,13 @@ mod vid;
 
 pub use check::{crc, crc_more};
 pub use ec::{EcFault, EcHeader, EcRead, read_ec, write_ec};
-pub use geometry::{Geometry, GeometryError};
+pub use geometry::{Geometry, GeometryError, MOST_PEBS};
 pub use name::VolName;
 pub use record::{RecFault, RecRead, VolumeRecord, read_rec, rec_fault, write_rec};
 pub use refusal::{AttachError, Refusal};
-pub use vid::{VidFault, VidHeader, VidRead, VolKind, read_vid, write_vid};
+pub use vid::{
+    LAYOUT_VOLUME, MOST_VOLUMES, VidFault, VidHeader, VidRead, VolKind, read_vid, write_vid,
+};
 
 #[cfg(test)]
 mod tests;

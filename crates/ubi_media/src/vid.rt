@@ -19,10 +19,10 @@ const VERSION: u8 = 1;
 
 /// The number of the layout volume, which holds the volume table (`UBI_LAYOUT_VOLUME_ID`). Internal volumes have this
 /// number and those above.
-const LAYOUT_VOLUME: u32 = 0x7FFF_EFFF;
+pub const LAYOUT_VOLUME: u32 = 0x7FFF_EFFF;
 
 /// Users' volumes have the numbers below (`UBI_MAX_VOLUMES`).
-const MOST_VOLUMES: u32 = 128;
+pub const MOST_VOLUMES: u32 = 128;
 
 /// The least number that is negative where it is read with a sign.
 pub const NEGATIVE: u32 = 0x8000_0000;

@@ -9,10 +9,9 @@ ghost use Rattle.ubi_tool.specs.EmptyTable.{is_copy, is_nameless, layout_header,
 ghost use Rattle.ubi_tool.specs.Image.{ec, eraseblocks, records, vid_area};
 
 use crate::blocks;
-use ubi_media::{EcRead, Geometry, VidHeader, VolKind, read_ec, write_rec, write_vid};
-
-/// The number of the layout volume, which holds the volume table.
-const LAYOUT_VOLUME: u32 = 0x7FFF_EFFF;
+use ubi_media::{
+    EcRead, Geometry, LAYOUT_VOLUME, VidHeader, VolKind, read_ec, write_rec, write_vid,
+};
 
 /// What a system that doesn't know the layout volume is to do: reject the image.
 const REJECT: u8 = 5;

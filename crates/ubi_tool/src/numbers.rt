@@ -4,7 +4,7 @@ ghost use Rattle.std.specs.Prelude.{◌≡◌, Some, None, MatchResult};
 ghost use Rattle.ubi_media.specs.Geometry.{first_broken};
 ghost use Rattle.ubi_tool.specs.Numbers.{sizes_of};
 
-use ubi_media::{Geometry, GeometryError};
+use ubi_media::{Geometry, GeometryError, MOST_PEBS};
 
 /// The numbers that the words give. Those that may be left out are options.
 #[derive(Clone, Copy, Debug, PartialEq, Eq)]
@@ -23,9 +23,6 @@ pub struct Numbers {
 
 /// The bytes of the largest page.
 const LARGEST_PAGE: u32 = 65_536;
-
-/// The eraseblocks of the largest device.
-const MOST_PEBS: u32 = 1_048_576;
 
 /// The geometry of the numbers.
 ///
