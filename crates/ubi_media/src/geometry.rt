@@ -3,6 +3,7 @@
 ghost use Rattle.std.specs.Prelude.{◌≡◌, Some, None, MatchResult};
 ghost use Rattle.ubi_media.specs.Geometry.{Sizes, IsGeometry, first_broken, leb_size, slots};
 
+use crate::record;
 use std::marker::Model;
 
 /// The sizes that a page may have, in bytes.
@@ -17,7 +18,7 @@ const LARGEST_PEB: u32 = 0x0100_0000;
 const HEADER_SIZE: u32 = 64;
 
 /// The bytes of a record of the volume table.
-const RECORD_SIZE: u32 = 172;
+const RECORD_SIZE: u32 = record::RECORD_SIZE as u32;
 
 /// The records of the longest volume table (`UBI_MAX_VOLUMES`).
 const MOST_SLOTS: u32 = 128;

@@ -20,7 +20,7 @@ pub use check::{crc, crc_more};
 pub use ec::{EcFault, EcHeader, EcRead, read_ec, write_ec};
 pub use geometry::{Geometry, GeometryError, MOST_PEBS};
 pub use name::VolName;
-pub use record::{RecFault, RecRead, VolumeRecord, read_rec, rec_fault, write_rec};
+pub use record::{RECORD_SIZE, RecFault, RecRead, VolumeRecord, read_rec, rec_fault, write_rec};
 pub use refusal::{AttachError, Refusal};
 pub use vid::{
     LAYOUT_VOLUME, MOST_VOLUMES, VidFault, VidHeader, VidRead, VolKind, read_vid, write_vid,

@@ -12,6 +12,9 @@ use crate::name::{LONGEST, VolName, padded};
 use crate::vid::{DYNAMIC, NEGATIVE, STATIC, VolKind};
 use byteorder::{BigEndian, ByteOrder};
 
+/// The bytes of a record (`UBI_VTBL_RECORD_SIZE`).
+pub const RECORD_SIZE: usize = 172;
+
 /// The place of the check in a record.
 const CHECK: usize = 168;
 
@@ -88,7 +91,7 @@ struct RecFields {
 }
 
 #[tactic(auto, unfolding(crate::specs::Record::rec_fields))]
-fn fields_of(bytes: &[u8; 172]) -> RecFields
+fn fields_of(bytes: &[u8; RECORD_SIZE]) -> RecFields
     ensures { result ≡ rec_fields bytes.now }
 {
     let mut name = [0u8; 128];
@@ -198,17 +201,17 @@ fn judged(geometry: &Geometry, fields: &RecFields) -> RecRead
 }
 
 /// The empty record.
-fn empty_record() -> [u8; 172]
+fn empty_record() -> [u8; RECORD_SIZE]
     ensures { result ≡ empty_record }
 {
-    let mut bytes = [0u8; 172];
+    let mut bytes = [0u8; RECORD_SIZE];
     put_u32(&mut bytes, CHECK, EMPTY_CHECK);
     bytes
 }
 
 /// What 172 bytes are as a record of the volume table. What stands behind the zero that ends the name isn't looked at,
 /// and neither is the padding, but in the empty record.
-pub fn read_rec(geometry: &Geometry, bytes: &[u8; 172]) -> RecRead
+pub fn read_rec(geometry: &Geometry, bytes: &[u8; RECORD_SIZE]) -> RecRead
     ensures is { RecIs geometry.now bytes.now result }
     ensures value { result ≡ rec_reading geometry.now bytes.now }
 {
@@ -257,12 +260,12 @@ pub fn rec_fault(geometry: &Geometry, volume: &VolumeRecord) -> Option<RecFault>
 }
 
 /// The bytes of a record, with zeros in the place of its check.
-fn front_of(geometry: &Geometry, volume: &VolumeRecord) -> [u8; 172]
+fn front_of(geometry: &Geometry, volume: &VolumeRecord) -> [u8; RECORD_SIZE]
     requires { rec_fault geometry.now volume.now ≡ None }
     ensures { result ≡ rec_front geometry.now volume.now ++ replicate 4 0 }
 {
     let fields = fields_from(geometry, volume);
-    let mut bytes = [0u8; 172];
+    let mut bytes = [0u8; RECORD_SIZE];
     bytes[12] = fields.kind;
     bytes[13] = fields.marker;
     bytes[144] = fields.flags;
@@ -278,7 +281,7 @@ fn front_of(geometry: &Geometry, volume: &VolumeRecord) -> [u8; 172]
 /// of the empty record. They read back as what they were made of.
 ///
 /// The record has to break no rule: [`rec_fault`] is None.
-pub fn write_rec(geometry: &Geometry, volume: Option<&VolumeRecord>) -> [u8; 172]
+pub fn write_rec(geometry: &Geometry, volume: Option<&VolumeRecord>) -> [u8; RECORD_SIZE]
     requires { ForSome (option_copied volume) (λ r. rec_fault geometry.now r ≡ None) }
     ensures bytes { result ≡ rec_bytes geometry.now (option_copied volume.entry) }
     ensures read_back { RecIs geometry.now result (slot_reading (option_copied volume.entry)) }
