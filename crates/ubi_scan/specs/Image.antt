@@ -36,13 +36,19 @@ eraseblocks image = first_chunks image.sizes.peb_size (length image.bytes / imag
 abbrev pub block : List (List ℕ) → ℕ → List ℕ
 block bs p = slice_index_or bs p []
 
--- what an eraseblock's erase-counter header (EC) is
-abbrev pub ec : Sizes → List ℕ → EcRead
-ec s b = ec_reading s (take 64 b)
+-- the bytes of an eraseblock's erase-counter header (EC), and what it is
+abbrev pub ec_area : List ℕ → List ℕ
+ec_area b = take 64 b
 
--- what its volume-identifier header (VID) is
+abbrev pub ec : Sizes → List ℕ → EcRead
+ec s b = ec_reading s (ec_area b)
+
+-- the bytes of its volume-identifier header (VID), and what it is
+abbrev pub vid_area : Sizes → List ℕ → List ℕ
+vid_area s b = slice_range b s.vid_offset (s.vid_offset + 64)
+
 abbrev pub vid : Sizes → List ℕ → VidRead
-vid s b = vid_reading s (slice_range b s.vid_offset (s.vid_offset + 64))
+vid s b = vid_reading s (vid_area s b)
 
 -- the bytes of its logical eraseblock (LEB)
 abbrev pub leb : Sizes → List ℕ → List ℕ

@@ -1,33 +1,23 @@
--- Images on literals: which are accepted, and the bytes of the normal image of the empty table.
-use Rattle.std.proofs.Common.{◌≡◌, ◌∷◌, [], ◌++◌, length, drop, replicate, refl}
-use Rattle.std.specs.Prelude.{Some, None}
+-- Images on literals: which mean the empty table, and the bytes of the normal image of the empty table.
+use Rattle.std.proofs.Common.{◌≡◌, ◌∷◌, [], ◌++◌, true, false, length, drop, replicate, refl}
 use Rattle.std.specs.List.{repeat}
 use Rattle.ubi_media.specs.Check.{check_from, remainder}
-use Rattle.ubi_media.specs.Ec.{ec_reading}
+use Rattle.ubi_media.specs.Ec.{breaks, ec_fields, ec_reading, first_fault, judged}
 use Rattle.ubi_media.specs.Fields.{filled}
 use Rattle.ubi_media.specs.Header.{form_of}
 use Rattle.ubi_media.specs.Record.{empty_record}
 use Rattle.ubi_media.specs.Vid.{fields_from}
-use Rattle.ubi_media.specs.declared.refusal.Refusal.TheVariants.{Length, TooMany}
 use Rattle.ubi_media.proofs.Words.{small, words}
-use Rattle.ubi_tool.specs.Attach.{refusal}
-use Rattle.ubi_tool.specs.EmptyTable.{empty_image, laid}
+use Rattle.ubi_scan.specs.Image.{eraseblocks}
+use Rattle.ubi_tool.specs.EmptyTable.{copy_block, empty_image, laid, means_empty}
 
-blank_is_accepted : refusal (record { sizes = small; bytes = replicate 1536 255 }) ≡ None
-unfolding refusal ec_reading form_of
-blank_is_accepted = refl
+blank_means_empty : means_empty small (eraseblocks (record { sizes = small; bytes = replicate 1536 255 })) ≡ true
+unfolding ec_reading form_of
+blank_means_empty = refl
 
-no_byte : refusal (record { sizes = small; bytes = [] }) ≡ Some Length
-unfolding refusal
-no_byte = refl
-
-half_a_block : refusal (record { sizes = small; bytes = replicate 511 255 }) ≡ Some Length
-unfolding refusal
-half_a_block = refl
-
-above_the_device : refusal (record { sizes = record small { pebs = 2 }; bytes = replicate 1025 255 }) ≡ Some TooMany
-unfolding refusal
-above_the_device = refl
+one_copy_means_more : means_empty small (copy_block small 0 ∷ []) ≡ false
+unfolding ec_reading form_of ec_fields judged first_fault breaks laid filled empty_record fields_from check_from remainder
+one_copy_means_more = refl
 
 two_blocks : length (empty_image small) ≡ 1024
 unfolding empty_image laid filled empty_record

@@ -1,7 +1,9 @@
 pub mod Bytes
-pub mod Chunks
 pub mod Defaults
+pub mod EmptyBlock
+pub mod EmptyClean
 pub mod EmptyImage
 pub mod Filling
 pub mod ImageVectors
 pub mod Laid
+pub mod Outcomes

@@ -1,17 +1,19 @@
 -- The empty volume table: which eraseblocks hold it, and the image of it alone.
 use Rattle.std.specs.Prelude.{ℕ, ◌==◌, ◌&&◌, ◌||◌, Bool, true, false, List, ◌++◌, count_by}
 use Rattle.std.specs.List.{list_all, repeat}
+use Rattle.std.specs.Simd.{first_chunks}
 use Rattle.ubi_media.specs.Ec.{ec_bytes}
 use Rattle.ubi_media.specs.Fields.{filled, same_bytes}
 use Rattle.ubi_media.specs.Geometry.{Sizes, slots}
-use Rattle.ubi_media.specs.Record.{empty_record}
+use Rattle.ubi_media.specs.Record.{empty_record, record_size}
 use Rattle.ubi_media.specs.Vid.{plain, vid_bytes}
 use Rattle.ubi_media.specs.declared.ec.EcHeader.{EcHeader}
 use Rattle.ubi_media.specs.declared.ec.EcRead.{EcRead}
 use Rattle.ubi_media.specs.declared.ec.EcRead.TheVariants as read
 use Rattle.ubi_media.specs.declared.vid.VidHeader.{VidHeader}
 use Rattle.ubi_media.specs.declared.vid.VolKind.TheVariants as kind
-use Rattle.ubi_tool.specs.Image.{ec, records, vid_area}
+use Rattle.ubi_scan.specs.Image.{ec, leb, vid_area}
+use Rattle.ubi_scan.specs.Members.{layout}
 use Rattle.ubi_tool.specs.declared.empty_table.Part.{Part}
 use Rattle.ubi_tool.specs.declared.empty_table.Part.TheVariants as part
 
@@ -27,11 +29,15 @@ is_nameless _ = false
 
 -- the header of a copy of the volume table, 0 or 1: a LEB of the layout volume, to be rejected where that isn't known
 abbrev pub layout_header : ℕ → VidHeader
-layout_header copy = plain kind.Dynamic 5 0 0x7FFFEFFF copy
+layout_header copy = plain kind.Dynamic 5 0 layout copy
 
 -- whether an eraseblock is in use
 abbrev pub is_used : Sizes → List ℕ → Bool
 is_used s b = is_there (ec s b)
+
+-- the records of a volume table in an eraseblock
+abbrev pub records : Sizes → List ℕ → List (List ℕ)
+records s b = first_chunks record_size (slots s) (leb s b)
 
 -- whether an eraseblock holds a copy of the empty table
 abbrev pub is_copy : Sizes → ℕ → List ℕ → Bool

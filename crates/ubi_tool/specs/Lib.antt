@@ -1,6 +1,8 @@
 pub mod Answer
 pub mod Attach
 pub mod EmptyTable
-pub mod Image
 pub mod Lines
+pub mod Normalise
 pub mod Numbers
+pub mod Program
+pub mod Show

@@ -84,6 +84,10 @@ refusal_line cause.NoSpace = refused (codes "T5 NoSpace") []
 refusal_line (cause.Mismatch p) = refused (codes "V1 Mismatch") (detail.Block p ∷ [])
 refusal_line cause.Later = refused (codes "Later") []
 
+-- the line of an eraseblock that the image hasn't
+abbrev pub no_block_line : List ℕ
+no_block_line = refused (codes "B1 Block") []
+
 -- the line of a number of eraseblocks
 abbrev pub blocks_line : ℕ → List ℕ
 blocks_line n = codes "blocks " ++ decimal n ++ codes "\n"

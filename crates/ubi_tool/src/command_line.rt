@@ -13,12 +13,19 @@ pub enum Request<'a> {
         image: &'a str,
         out: &'a str,
     },
+    /// The headers of one eraseblock of a file.
+    Show {
+        numbers: Numbers,
+        image: &'a str,
+        block: u32,
+    },
 }
 
 /// The whole command line. A command line is used up by reading words, so that each call makes a new one.
 pub fn command_line<'a>(alloc: Global) -> Result<Command<'a>, AllocError> {
     let tool = Command::new(alloc, "ubi_tool").subcommand_required(true);
-    tool.subcommand(normalise_command(alloc)?)
+    let tool = tool.subcommand(normalise_command(alloc)?)?;
+    tool.subcommand(show_command(alloc)?)
 }
 
 /// What is asked for, where the words name a command and have all that it needs.
@@ -29,19 +36,39 @@ pub fn request_of<'a>(matches: &'a ArgMatches<'_>) -> Option<Request<'a>> {
             image: inner.get_str("IMAGE")?,
             out: inner.get_str("out")?,
         }),
+        ("show", inner) => Some(Request::Show {
+            numbers: numbers_of(inner)?,
+            image: inner.get_str("IMAGE")?,
+            block: inner.get_one::<u32>("block")?,
+        }),
         _ => None,
     }
 }
 
 fn normalise_command<'a>(alloc: Global) -> Result<Command<'a>, AllocError> {
-    let image = Arg::new(alloc, "IMAGE").required(true);
     let out = Arg::new(alloc, "out")
         .long("out")
         .value_name("FILE")
         .required(true);
-    let command = with_numbers(alloc, Command::new(alloc, "normalise"))?;
-    let command = command.arg(image)?;
+    let command = image_command(alloc, "normalise")?;
     command.arg(out)
+}
+
+fn show_command<'a>(alloc: Global) -> Result<Command<'a>, AllocError> {
+    let block = Arg::new(alloc, "block")
+        .long("block")
+        .value_name("P")
+        .value_parser(value_parser!(u32))
+        .required(true);
+    let command = image_command(alloc, "show")?;
+    command.arg(block)
+}
+
+/// A command over an image file.
+fn image_command<'a>(alloc: Global, name: &'a str) -> Result<Command<'a>, AllocError> {
+    let image = Arg::new(alloc, "IMAGE").required(true);
+    let command = with_numbers(alloc, Command::new(alloc, name))?;
+    command.arg(image)
 }
 
 /// Adds the numbers of a geometry to a command.

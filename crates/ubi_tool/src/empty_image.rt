@@ -1,9 +1,9 @@
 //! The normal image of the empty volume table.
 
-ghost use Rattle.std.specs.Prelude.{◌≡◌, ◌+◌, ◌*◌, ◌≤◌, ◌++◌, None, IfOk, OnOk, vec_len};
+ghost use Rattle.std.specs.Prelude.{◌≡◌, ◌+◌, ◌*◌, ◌≤◌, ◌++◌, IfOk, OnOk, vec_len};
 ghost use Rattle.ubi_media.specs.Fields.{filled};
 ghost use Rattle.ubi_media.specs.Geometry.{slots};
-ghost use Rattle.ubi_tool.specs.Attach.{refusal};
+ghost use Rattle.ubi_tool.specs.Attach.{Accepts};
 ghost use Rattle.ubi_tool.specs.EmptyTable.{copy_block, empty_image, empty_table};
 
 use crate::empty_table::{empty_record, layout_header};
@@ -53,7 +53,7 @@ fn copy_block(alloc: Global, geometry: &Geometry, copy: u32) -> Result<Vec<u8>, 
 /// The normal image of the empty table: an eraseblock for each copy.
 pub fn empty_image(alloc: Global, geometry: &Geometry) -> Result<Vec<u8>, AllocError>
     ensures bytes { IfOk result (λ image. image.items ≡ empty_image geometry.now) }
-    ensures accepted { IfOk result (λ image. refusal (record { sizes = geometry.now; bytes = image.items }) ≡ None) }
+    ensures accepted { IfOk result (λ image. Accepts (record { sizes = geometry.now; bytes = image.items })) }
 {
     let mut image = Vec::with_capacity(alloc, 2 * geometry.peb_size() as usize)?;
     let first = copy_block(alloc, geometry, 0)?;

@@ -5,19 +5,16 @@ ghost use Rattle.std.specs.List.{list_all};
 ghost use Rattle.ubi_media.specs.Fields.{same_bytes};
 ghost use Rattle.ubi_media.specs.Record.{empty_record};
 ghost use Rattle.ubi_media.specs.Vid.{vid_bytes};
-ghost use Rattle.ubi_tool.specs.EmptyTable.{is_copy, is_nameless, layout_header, means_empty, plays};
-ghost use Rattle.ubi_tool.specs.Image.{ec, eraseblocks, records, vid_area};
+ghost use Rattle.ubi_scan.specs.Image.{ec, eraseblocks, vid_area};
+ghost use Rattle.ubi_tool.specs.EmptyTable.{is_copy, is_nameless, layout_header, means_empty, plays, records};
 
-use crate::blocks;
 use ubi_media::{
-    EcRead, Geometry, LAYOUT_VOLUME, VidHeader, VolKind, read_ec, write_rec, write_vid,
+    EcRead, Geometry, LAYOUT_VOLUME, RECORD_SIZE, VidHeader, VolKind, read_ec, write_rec, write_vid,
 };
+use ubi_scan::Blocks;
 
 /// What a system that doesn't know the layout volume is to do: reject the image.
 const REJECT: u8 = 5;
-
-/// The bytes of a record of the volume table.
-const RECORD_SIZE: usize = 172;
 
 /// What an eraseblock may be for the empty table.
 #[derive(Clone, Copy, Debug, PartialEq, Eq)]
@@ -125,12 +122,13 @@ fn plays(geometry: &Geometry, block: &[u8], part: Part) -> bool
 }
 
 /// How many eraseblocks of an image play a part.
-fn count(geometry: &Geometry, image: &[u8], part: Part) -> usize
-    ensures { result ≡ count_by (plays geometry.now part) (eraseblocks (record { sizes = geometry.now; bytes = image.now })) }
+fn count(blocks: &Blocks<'_>, part: Part) -> u32
+    ensures { result ≡ count_by (plays blocks.now.sizes part) (eraseblocks blocks.now) }
 {
+    let geometry = blocks.geometry();
     let mut found = 0;
-    for p in 0..blocks::count(geometry, image) {
-        if plays(geometry, blocks::block(geometry, image, p), part) {
+    for p in 0..blocks.count() {
+        if plays(&geometry, blocks.block(p), part) {
             found += 1;
         }
     }
@@ -138,12 +136,9 @@ fn count(geometry: &Geometry, image: &[u8], part: Part) -> usize
 }
 
 /// Whether the eraseblocks of an image mean the empty table: none is in use, or just two, which hold a copy each.
-pub fn means_empty(geometry: &Geometry, image: &[u8]) -> bool
-    ensures { result ≡ means_empty geometry.now (eraseblocks (record { sizes = geometry.now; bytes = image.now })) }
+pub fn means_empty(blocks: &Blocks<'_>) -> bool
+    ensures { result ≡ means_empty blocks.now.sizes (eraseblocks blocks.now) }
 {
-    let used = count(geometry, image, Part::Used);
-    used == 0
-        || used == 2
-            && count(geometry, image, Part::Copy(0)) == 1
-            && count(geometry, image, Part::Copy(1)) == 1
+    let used = count(blocks, Part::Used);
+    used == 0 || used == 2 && count(blocks, Part::Copy(0)) == 1 && count(blocks, Part::Copy(1)) == 1
 }

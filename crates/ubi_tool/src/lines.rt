@@ -2,7 +2,7 @@
 
 ghost use Rattle.std.specs.Prelude.{◌≡◌, ◌++◌, IfOk, OnOk, codes, decimal};
 ghost use Rattle.std.specs.List.{flat_map};
-ghost use Rattle.ubi_tool.specs.Lines.{blocks_line, detail_text, ec_fault_name, file_line, geometry_line, rec_fault_name, refusal_line, refused, vid_fault_name};
+ghost use Rattle.ubi_tool.specs.Lines.{blocks_line, detail_text, ec_fault_name, file_line, geometry_line, no_block_line, rec_fault_name, refusal_line, refused, vid_fault_name};
 
 use itoa::Buffer;
 use std::alloc::{AllocError, Global};
@@ -27,7 +27,8 @@ pub enum Detail {
     Rec(RecFault),
 }
 
-fn ec_fault_name(fault: EcFault) -> &'static str
+/// The name of a fault of an erase-counter header.
+pub fn ec_fault_name(fault: EcFault) -> &'static str
     ensures { result.now ≡ ec_fault_name fault }
 {
     match fault {
@@ -37,7 +38,8 @@ fn ec_fault_name(fault: EcFault) -> &'static str
     }
 }
 
-fn vid_fault_name(fault: VidFault) -> &'static str
+/// The name of a fault of a volume-identifier header.
+pub fn vid_fault_name(fault: VidFault) -> &'static str
     ensures { result.now ≡ vid_fault_name fault }
 {
     match fault {
@@ -72,7 +74,7 @@ fn rec_fault_name(fault: RecFault) -> &'static str
 }
 
 /// Adds a word.
-fn put_word(text: &mut Vec<u8>, word: &str) -> Result<(), AllocError>
+pub fn put_word(text: &mut Vec<u8>, word: &str) -> Result<(), AllocError>
     ensures { OnOk result (text.new.items ≡ text.old.items ++ word.now) }
 {
     text.extend_from_slice(word.as_bytes())
@@ -182,6 +184,13 @@ pub fn refusal_line(alloc: Global, cause: Refusal) -> Result<Vec<u8>, AllocError
         Refusal::Mismatch(p) => refused(alloc, "V1 Mismatch", &[Block(p)]),
         Refusal::Later => refused(alloc, "Later", &[]),
     }
+}
+
+/// The line of an eraseblock that the image hasn't.
+pub fn no_block_line(alloc: Global) -> Result<Vec<u8>, AllocError>
+    ensures { IfOk result (λ text. text.items ≡ no_block_line) }
+{
+    refused(alloc, "B1 Block", &[])
 }
 
 /// The line of a number of eraseblocks.

@@ -5,15 +5,16 @@
 #![tactic(auto)]
 
 mod attach;
-mod blocks;
 mod command_line;
 mod empty_image;
 mod empty_table;
+mod image_file;
 mod lines;
 mod normalise;
 mod numbers;
 mod outcome;
 mod read;
+mod show;
 mod words;
 mod write;
 
@@ -32,7 +33,7 @@ fn main(rt: HostRuntime) -> ExitCode {
         Err(error) => return ExitCode::from(unread_words(&rt, &error)),
     };
     let outcome = words::run_words(&rt, rt.alloc(), words.as_slice());
-    ExitCode::from(show(&rt, &outcome))
+    ExitCode::from(print(&rt, &outcome))
 }
 
 /// The words that the program was called with, its own name first.
@@ -47,14 +48,14 @@ fn words_of<R: Env + AllocGlobal>(rt: &R) -> io::Result<Vec<String>> {
 /// The status to end with where the words can't be had: memory ran out, or they aren't text.
 fn unread_words<R: Print + Eprint>(rt: &R, error: &io::Error) -> u8 {
     if error.kind() == io::ErrorKind::OutOfMemory {
-        return show(rt, &Err(AllocError));
+        return print(rt, &Err(AllocError));
     }
     let _ = rt.eprintln("error: the words aren't text");
     WRONG_WORDS
 }
 
 /// Prints what the command answered, and gives the status to end with.
-fn show<R: Print>(rt: &R, outcome: &Result<Outcome, AllocError>) -> u8 {
+fn print<R: Print>(rt: &R, outcome: &Result<Outcome, AllocError>) -> u8 {
     match outcome {
         Ok(outcome) => match rt.write_all(outcome.text.as_slice()) {
             Ok(()) => outcome.status,

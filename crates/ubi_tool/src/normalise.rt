@@ -1,8 +1,8 @@
 //! The normal image, and the command `normalise`.
 
 ghost use Rattle.std.specs.Prelude.{◌≡◌, IfOk, IfErr};
-ghost use Rattle.ubi_tool.specs.Answer.{Gives, normalise_answer};
-ghost use Rattle.ubi_tool.specs.Attach.{IsAttachError, IsNormalised, refusal};
+ghost use Rattle.ubi_tool.specs.Attach.{IsAttachError};
+ghost use Rattle.ubi_tool.specs.Normalise.{IsNormalised, Normalises};
 
 use crate::attach::attach;
 use crate::empty_image::empty_image;
@@ -31,7 +31,7 @@ pub fn normalise(alloc: Global, geometry: &Geometry, image: &[u8]) -> Result<Vec
 ///
 /// Memory where memory ran out.
 pub fn run_normalise(alloc: Global, geometry: &Geometry, image: &[u8]) -> Result<Outcome, ToolError>
-    ensures ok { IfOk result (λ o. Gives o (normalise_answer geometry.now (refusal (record { sizes = geometry.now; bytes = image.now })))) }
+    ensures ok { IfOk result (Normalises (record { sizes = geometry.now; bytes = image.now })) }
     ensures err { IfErr result (λ e. e ≡ ToolError.Memory) }
 {
     match normalise(alloc, geometry, image) {
@@ -40,11 +40,9 @@ pub fn run_normalise(alloc: Global, geometry: &Geometry, image: &[u8]) -> Result
             status: DONE,
             file: Some(normal),
         }),
-        Err(AttachError::Refused(cause)) => Ok(Outcome {
-            text: refusal_line(alloc, cause)?,
-            status: FAILED,
-            file: None,
-        }),
+        Err(AttachError::Refused(cause)) => {
+            Ok(Outcome::saying(refusal_line(alloc, cause)?, FAILED))
+        }
         Err(AttachError::Memory) => Err(ToolError::Memory),
     }
 }

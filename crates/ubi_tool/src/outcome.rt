@@ -1,6 +1,7 @@
 //! What a command answers, and what keeps it from answering.
 
 ghost use Rattle.std.specs.Prelude.{◌≡◌};
+ghost use Rattle.ubi_tool.specs.Answer.{Gives, says};
 ghost use Rattle.ubi_tool.specs.declared.outcome.ToolError.TheVariants.{Memory};
 
 use std::alloc::{AllocError, AllocFailed};
@@ -24,6 +25,19 @@ pub struct Outcome {
     pub status: u8,
     /// The bytes of the output file, if one is to be written.
     pub file: Option<Vec<u8>>,
+}
+
+impl Outcome {
+    /// Some text, and no file.
+    pub fn saying(text: Vec<u8>, status: u8) -> Outcome
+        ensures { Gives result (says text.items status) }
+    {
+        Outcome {
+            text,
+            status,
+            file: None,
+        }
+    }
 }
 
 /// A fault of the machine, which keeps a command from answering.

@@ -1,7 +1,9 @@
 mod fake;
+mod faults;
 mod files;
 mod images;
 mod lines;
 mod normalise;
+mod show;
 mod streams;
 mod words;

@@ -1,22 +1,22 @@
 //! The commands over files: what the words ask for is read, done and written.
 
-ghost use Rattle.std.specs.Prelude.{◌+◌, ◌*◌, ◌≤◌, IfOk, codes, vec_len};
-ghost use Rattle.ubi_tool.specs.Answer.{Gives, IsAnswer, IsNormaliseAnswer, says};
-ghost use Rattle.ubi_tool.specs.Lines.{file_line, geometry_line};
+ghost use Rattle.std.specs.Prelude.{IfOk};
+ghost use Rattle.ubi_tool.specs.Normalise.{NormalisesInto};
+ghost use Rattle.ubi_tool.specs.Program.{IsAnswer, IsWritten, OfImage};
+ghost use Rattle.ubi_tool.specs.Show.{Shows};
 
 use crate::command_line::{Request, command_line, request_of};
-use crate::lines::{file_line, geometry_line};
+use crate::image_file::load;
+use crate::lines::file_line;
 use crate::normalise::run_normalise;
-use crate::numbers::{Numbers, geometry_of};
+use crate::numbers::Numbers;
 use crate::outcome::{FAILED, Outcome, ToolError, WRONG_WORDS};
-use crate::read::read_limited;
+use crate::show::run_show;
 use crate::write::write_out;
 use clap::Error;
 use clap::error::ErrorKind;
 use std::alloc::{AllocError, Global};
-use std::fs;
 use std::fs::{File, Files};
-use ubi_media::{Geometry, GeometryError};
 
 /// Runs the command that the words name, over files. The first word is the program's name.
 ///
@@ -45,10 +45,18 @@ pub fn run_words<R: Files + Eprint>(
                 out,
             },
         ) => normalise_file(rt, alloc, numbers, image, out),
-        None => nothing(alloc),
+        Some(
+            Request::Show {
+                numbers,
+                image,
+                block,
+            },
+        ) => show_file(rt, alloc, numbers, image, block),
+        None => Ok(nothing(alloc)),
     }
 }
 
+/// Normalises one file into another.
 fn normalise_file<R: Files>(
     rt: &R,
     alloc: Global,
@@ -56,44 +64,56 @@ fn normalise_file<R: Files>(
     image: &str,
     out: &str,
 ) -> Result<Outcome, AllocError>
-    ensures { IfOk result (IsNormaliseAnswer numbers image.now out.now) }
+    ensures { IfOk result (OfImage numbers image.now (NormalisesInto out.now)) }
 {
-    let geometry = match geometry_of(numbers) {
-        Ok(geometry) => geometry,
-        Err(limit) => return refused_geometry(alloc, limit),
+    let file = match load(rt, alloc, numbers, image) {
+        Ok(file) => file,
+        Err(unread) => return unread.answer(),
     };
-    let bytes = match read_image(rt, alloc, &geometry, image) {
-        Ok(bytes) => bytes,
-        Err(error) => return unread(alloc, error, image),
+    match run_normalise(alloc, &file.geometry, file.bytes.as_slice()) {
+        Ok(outcome) => write_outcome(rt, alloc, outcome, out),
+        Err(_) => Err(AllocError),
+    }
+}
+
+/// Shows one eraseblock of a file.
+fn show_file<R: Files>(
+    rt: &R,
+    alloc: Global,
+    numbers: Numbers,
+    image: &str,
+    p: u32,
+) -> Result<Outcome, AllocError>
+    ensures { IfOk result (OfImage numbers image.now (λ i. Shows i p)) }
+{
+    let file = match load(rt, alloc, numbers, image) {
+        Ok(file) => file,
+        Err(unread) => return unread.answer(),
     };
-    let outcome = match run_normalise(alloc, &geometry, bytes.as_slice()) {
-        Ok(outcome) => outcome,
-        Err(_) => return Err(AllocError),
-    };
-    if let Some(file) = &outcome.file {
-        if write_file(rt, out, file.as_slice()).is_err() {
-            return unwritten(alloc, out);
+    match run_show(alloc, &file.geometry, file.bytes.as_slice(), p) {
+        Ok(outcome) => Ok(outcome),
+        Err(_) => Err(AllocError),
+    }
+}
+
+/// Writes the file of an outcome, if it has one, and answers the outcome, or the line of a file that can't be written.
+fn write_outcome<R: Files>(
+    rt: &R,
+    alloc: Global,
+    outcome: Outcome,
+    path: &str,
+) -> Result<Outcome, AllocError>
+    ensures { IfOk result (IsWritten path.now outcome) }
+{
+    if let Some(bytes) = &outcome.file {
+        if write_file(rt, path, bytes.as_slice()).is_err() {
+            return Ok(Outcome::saying(file_line(alloc, "cannot write ", path)?, FAILED));
         }
     }
     Ok(outcome)
 }
 
-/// The bytes of an image file, up to one more than a device of the geometry has.
-fn read_image<R: Files>(
-    rt: &R,
-    alloc: Global,
-    geometry: &Geometry,
-    path: &str,
-) -> Result<Vec<u8>, ToolError>
-    ensures { IfOk result (λ v. vec_len v ≤ geometry.now.pebs * geometry.now.peb_size + 1) }
-{
-    let limit = u64::from(geometry.pebs()) * u64::from(geometry.peb_size()) + 1;
-    match fs::open(rt, path) {
-        Ok(mut file) => read_limited(alloc, &mut file, limit),
-        Err(_) => Err(ToolError::Read),
-    }
-}
-
+/// Writes a file anew.
 fn write_file<R: Files>(rt: &R, path: &str, bytes: &[u8]) -> Result<(), ToolError> {
     let Ok(mut file) = File::create(rt, path) else {
         return Err(ToolError::Write);
@@ -109,47 +129,12 @@ fn wrong_words<R: Eprint>(rt: &R, alloc: Global, error: &Error) -> Result<Outcom
         return Err(AllocError);
     }
     let _ = rt.eprint(error);
-    nothing(alloc)
+    Ok(nothing(alloc))
 }
 
 /// Nothing to print, for wrong words.
-fn nothing(alloc: Global) -> Result<Outcome, AllocError>
-    ensures { IfOk result IsAnswer }
+fn nothing(alloc: Global) -> Outcome
+    ensures { IsAnswer result }
 {
-    Ok(said(Vec::new(alloc), WRONG_WORDS))
-}
-
-/// The line of a geometry that breaks a limit.
-fn refused_geometry(alloc: Global, limit: GeometryError) -> Result<Outcome, AllocError>
-    ensures { IfOk result (λ o. Gives o (says (geometry_line limit) 2)) }
-{
-    Ok(said(geometry_line(alloc, limit)?, WRONG_WORDS))
-}
-
-/// The line of a file that can't be read, or want of memory.
-fn unread(alloc: Global, error: ToolError, path: &str) -> Result<Outcome, AllocError>
-    ensures { IfOk result (λ o. Gives o (says (file_line (codes "cannot read ") path.now) 1)) }
-{
-    if error == ToolError::Memory {
-        return Err(AllocError);
-    }
-    Ok(said(file_line(alloc, "cannot read ", path)?, FAILED))
-}
-
-/// The line of a file that can't be written.
-fn unwritten(alloc: Global, path: &str) -> Result<Outcome, AllocError>
-    ensures { IfOk result (λ o. Gives o (says (file_line (codes "cannot write ") path.now) 1)) }
-{
-    Ok(said(file_line(alloc, "cannot write ", path)?, FAILED))
-}
-
-/// Some text, and no file.
-fn said(text: Vec<u8>, status: u8) -> Outcome
-    ensures { Gives result (says text.items status) }
-{
-    Outcome {
-        text,
-        status,
-        file: None,
-    }
+    Outcome::saying(Vec::new(alloc), WRONG_WORDS)
 }

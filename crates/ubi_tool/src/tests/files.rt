@@ -65,6 +65,27 @@ fn opens_no_file_where_the_work_is_refused(rt: HostRuntime) -> Result<(), Fail> 
 }
 
 #[test]
+fn shows_an_eraseblock_of_a_file(rt: HostRuntime) -> Result<(), Fail> {
+    let alloc = rt.alloc();
+    fs::write(&rt, "shown_in.img", [0xFF; 1536].as_slice())?;
+    for (image, block, text, status) in [
+        ("shown_in.img", "2", "ec blank ffff", 0u8),
+        ("shown_in.img", "3", "refused B1 Block\n", 1),
+        ("unshown_in.img", "0", "cannot read unshown_in.img\n", 1),
+    ] {
+        let mut words = words_of(alloc, &["show", image, "--block", block])?;
+        for word in &SMALL {
+            words.push(String::from_str(alloc, word)?)?;
+        }
+        let outcome = run_words(&rt, alloc, words.as_slice())?;
+        assert!(rt; outcome.text.as_slice().starts_with(text.as_bytes()));
+        assert_eq!(rt; outcome.status, status);
+    }
+    fs::remove_file(&rt, "shown_in.img")?;
+    Ok(())
+}
+
+#[test]
 fn tells_of_an_output_that_cannot_be_opened(rt: HostRuntime) -> Result<(), Fail> {
     let alloc = rt.alloc();
     fs::write(&rt, "unwritten_in.img", [0xFF; 512].as_slice())?;

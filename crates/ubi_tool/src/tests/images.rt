@@ -21,6 +21,16 @@ const SECOND: [u8; 64] = *b"UBI!\x01\x01\0\x05\
     \x7f\xff\xef\xff\0\0\0\x01\0\0\0\0\0\0\0\0\0\0\0\0\0\0\0\0\0\0\0\0\0\0\0\0\
     \0\0\0\0\0\0\0\0\0\0\0\0\0\0\0\0\0\0\0\0\x1b\xb3\x4c\xe4";
 
+/// An erase-counter header of version 2, with counter 0 and the image 0x12345678.
+pub const VERSION_2: [u8; 64] = *b"UBI#\x02\0\0\0\
+    \0\0\0\0\0\0\0\0\0\0\0\x40\0\0\0\x80\x12\x34\x56\x78\
+    \0\0\0\0\0\0\0\0\0\0\0\0\0\0\0\0\0\0\0\0\0\0\0\0\0\0\0\0\0\0\0\0\x7d\xcc\xcd\x6a";
+
+/// The header of logical eraseblock 1 of volume 0 with copy flag 2.
+pub const COPY_FLAG_2: [u8; 64] = *b"UBI!\x01\x01\x02\0\
+    \0\0\0\0\0\0\0\x01\0\0\0\0\0\0\0\0\0\0\0\0\0\0\0\0\0\0\
+    \0\0\0\0\0\0\0\0\0\0\0\0\0\0\0\0\0\0\0\0\0\0\0\0\0\0\xd3\x6c\xd0\x77";
+
 /// The check of the empty record, which stands behind its 168 zeros.
 const EMPTY: [u8; 4] = [0xF1, 0x16, 0xC3, 0x6B];
 
@@ -91,22 +101,44 @@ fn put_headers(
     vol_id: u32,
     lnum: u32,
 ) -> Result<(), AllocError> {
-    let ec = EcHeader {
-        counter: 0,
-        image_seq: 0x1234_5678,
-    };
     let vid = VidHeader {
+        compat,
+        ..plain(vol_id, lnum, 0)
+    };
+    image.extend_from_slice(&ec_of(geometry, 0x1234_5678))?;
+    image.extend_from_slice(&write_vid(&vid))
+}
+
+/// The header of a logical eraseblock of a dynamic volume, not copied.
+pub fn plain(vol_id: u32, lnum: u32, sqnum: u64) -> VidHeader {
+    VidHeader {
         kind: VolKind::Dynamic,
         copy_flag: false,
-        compat,
+        compat: 0,
         vol_id,
         lnum,
         data_size: 0,
         used_ebs: 0,
         data_pad: 0,
         data_crc: 0,
-        sqnum: 0,
-    };
-    image.extend_from_slice(&write_ec(geometry, &ec))?;
-    image.extend_from_slice(&write_vid(&vid))
+        sqnum,
+    }
+}
+
+/// The bytes of an erase-counter header with counter 0.
+pub fn ec_of(geometry: &Geometry, image_seq: u32) -> [u8; 64] {
+    write_ec(
+        geometry,
+        &EcHeader {
+            counter: 0,
+            image_seq,
+        },
+    )
+}
+
+/// Writes bytes over those of an image from a place on.
+pub fn overwrite(image: &mut [u8], at: usize, bytes: &[u8]) {
+    for (old, new) in image.iter_mut().skip(at).zip(bytes) {
+        *old = *new;
+    }
 }

@@ -68,11 +68,8 @@ fn answers_later_where_there_is_more(rt: HostRuntime) -> Result<(), Fail> {
     assert!(rt; outcome.file.is_none());
     let normal = normal_image(alloc)?;
     let first = normal.as_slice().get(..512).ok_or("short")?;
-    // One copy alone, one copy twice, and a third eraseblock in use.
+    // One copy alone, and a third eraseblock in use.
     assert_eq!(rt; attach(alloc, &geometry, first), later);
-    let mut twice = Vec::from_slice(alloc, first)?;
-    twice.extend_from_slice(first)?;
-    assert_eq!(rt; attach(alloc, &geometry, twice.as_slice()), later);
     let mut third = Vec::from_slice(alloc, normal.as_slice())?;
     third.extend_from_slice(&[0; 512])?;
     assert_eq!(rt; attach(alloc, &geometry, third.as_slice()), later);

@@ -19,7 +19,7 @@ pub fn words_of(alloc: Global, words: &[&str]) -> Result<Vec<String>, AllocError
 #[test]
 fn tells_of_wrong_words(rt: HostRuntime) -> Result<(), Fail> {
     let alloc = rt.alloc();
-    let cases: [(&str, &str); 12] = [
+    let cases: [(&str, &str); 15] = [
         ("", "requires a subcommand"),
         ("--help", "Usage: ubi_tool"),
         ("help", "Usage: ubi_tool"),
@@ -39,6 +39,12 @@ fn tells_of_wrong_words(rt: HostRuntime) -> Result<(), Fail> {
         ("normalise a --out b --peb 512 --page x", "invalid value"),
         (
             "normalise a b --out c --peb 512 --page 64",
+            "unexpected argument",
+        ),
+        ("show --help", "Usage: ubi_tool show"),
+        ("show a --peb 512 --page 64", "--block <P>"),
+        (
+            "show a --peb 512 --page 64 --block -1",
             "unexpected argument",
         ),
     ];
@@ -69,12 +75,14 @@ fn refuses_geometries_before_files(rt: HostRuntime) -> Result<(), Fail> {
         ("512 --page 64 --pebs 1048577", "G6 Pebs"),
     ];
     for (numbers, cause) in cases {
-        let line = format!(in alloc; "normalise a --out b --peb {numbers}")?;
-        let (text, status, shown) = answer(alloc, line.as_str())?;
         let want = format!(in alloc; "refused {cause}\n")?;
-        assert_eq!(rt; text.as_slice(), want.as_bytes(), "of {numbers:?}");
-        assert_eq!(rt; status, 2);
-        assert!(rt; shown.is_empty(), "{shown}");
+        for command in ["normalise a --out b", "show a --block 0"] {
+            let line = format!(in alloc; "{command} --peb {numbers}")?;
+            let (text, status, shown) = answer(alloc, line.as_str())?;
+            assert_eq!(rt; text.as_slice(), want.as_bytes(), "of {line:?}");
+            assert_eq!(rt; status, 2);
+            assert!(rt; shown.is_empty(), "{shown}");
+        }
     }
     Ok(())
 }

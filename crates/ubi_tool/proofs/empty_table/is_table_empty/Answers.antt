@@ -4,7 +4,7 @@ use Rattle.std.proofs.lemmas.List.{take_rest}
 use Rattle.ubi_media.specs.Fields.{same_bytes}
 use Rattle.ubi_media.specs.Geometry.{slots}
 use Rattle.ubi_media.specs.Record.{empty_record}
-use Rattle.ubi_tool.proofs.Chunks.{take-first_chunks}
+use Rattle.ubi_scan.proofs.Chunks.{take-first_chunks}
 use Rattle.ubi_tool.proofs.empty_table.is_table_empty.Goals as goal
 
 pub returns : goal.returns

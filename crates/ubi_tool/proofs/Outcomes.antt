@@ -1,0 +1,42 @@
+-- What outcomes tell.
+use Rattle.std.proofs.Common.{◌≡◌, ℕ, List, Some, None, subst}
+use Rattle.std.specs.Prelude.{IsSome, MatchResult, Ok, Err, Option, Result, IfOk, option_map}
+use Rattle.std.specs.declared.alloc.AllocError.{AllocError}
+use Rattle.std.specs.declared.alloc.Global.{Global}
+use Rattle.std.specs.declared.vec.Vec.{Vec}
+use Rattle.ubi_media.specs.Geometry.{Sizes}
+use Rattle.ubi_scan.specs.Image.{Image}
+use Rattle.ubi_tool.specs.Attach.{Accepts}
+use Rattle.ubi_tool.specs.Normalise.{Normalises, NormalisesInto, accepted, refused, written, unwritten}
+use Rattle.ubi_tool.specs.Numbers.{sizes_of}
+use Rattle.ubi_tool.specs.Program.{IsRead, IsWritten, OfImage, Tells}
+use Rattle.ubi_tool.specs.Program as program
+use Rattle.ubi_tool.specs.declared.image_file.Unread.{Unread}
+use Rattle.ubi_tool.specs.declared.image_file.Unread.TheVariants.{Memory, Told}
+use Rattle.ubi_tool.specs.declared.numbers.Numbers.{Numbers}
+use Rattle.ubi_tool.specs.declared.outcome.Outcome.{Outcome}
+
+no_file : (file : Option (Vec ℕ Global)) → option_map (λ v. v.items) file ≡ None → IsSome file → ⊥
+no_file None e h = cc
+no_file (Some v) e h = cc
+
+-- a file is there only where the image is accepted
+accepted_with_file : (image : Image) (o : Outcome) → Normalises image o → IsSome o.file → Accepts image
+accepted_with_file image o (accepted a gives) some = a
+accepted_with_file image o (refused c r gives) some = absurd (no_file o.file gives.file some)
+
+-- normalising, and then writing the file
+pub normalises_into : (image : Image) (out : List ℕ) (work o : Outcome) → Normalises image work → IsWritten out work o → NormalisesInto out image o
+normalises_into image out work o n program.written = written n
+normalises_into image out work o n (program.unwritten some gives) = unwritten (accepted_with_file image work n some) gives
+
+-- what is answered of an image that was read
+pub of_image : (numbers : Numbers) (path : List ℕ) (answers : Image → Outcome → Type 0) (s : Sizes) (bytes : List ℕ) (o : Outcome)
+    → s ≡ sizes_of numbers → IsRead (sizes_of numbers) bytes → answers (record { sizes = s; bytes = bytes }) o → OfImage numbers path answers o
+of_image numbers path answers s bytes o e read a =
+    program.image bytes read (subst (λ (t : Sizes). answers (record { sizes = t; bytes = bytes }) o) e a)
+
+-- what is answered in place of an image is what is told
+pub told : (is : Outcome → Type 0) (u : Unread) (r : Result Outcome AllocError) → Tells is u → MatchResult r (λ o. u ≡ Told o) (λ _. u ≡ Memory) → IfOk r is
+told is u (Ok o) h e = subst (Tells is) e h
+told is u (Err x) h e = tt

@@ -1,0 +1,22 @@
+use Rattle.std.proofs.Common.{◌≡◌, ℕ, ◌/◌, List, Some, length, ap, refl, ◌∙◌}
+use Rattle.ubi_tool.specs.Normalise.{accepted, refused}
+use Rattle.ubi_tool.specs.Lines.{blocks_line}
+use Rattle.ubi_tool.proofs.normalise.run_normalise.Goals as goal
+
+-- how many eraseblocks bytes have
+count : {len size peb_size : ℕ} {xs ys : List ℕ} → len ≡ length xs → size ≡ peb_size → xs ≡ ys → len / size ≡ length ys / peb_size
+count e f same = rw (e, f, same) refl
+
+pub returns-in_ok-blocks_line-in-Ok-clause-ok : goal.returns-in_ok-blocks_line-in-Ok-clause-ok
+returns-in_ok-blocks_line-in-Ok-clause-ok c =
+    let normal = c.in-Ok.ensures.normal in
+    accepted normal.0 (record {
+      text = c.in_ok-blocks_line-in-Ok.ensures ∙ ap blocks_line (count (c.len.ensures ∙ c.in-Ok.normal.ok.0) c.peb_size.ensures.value normal.1);
+      status = refl;
+      file = ap Some normal.1;
+    })
+
+pub returns-in_ok-refusal_line-in-Err-Refused-clause-ok : goal.returns-in_ok-refusal_line-in-Err-Refused-clause-ok
+returns-in_ok-refusal_line-in-Err-Refused-clause-ok c =
+    refused c.in-Err-Refused.cause (rw c.in-Err-Refused.field-0-is at c.in-Err-Refused.ensures.refused)
+    (rw c.in_ok-refusal_line-in-Err-Refused.ensures at c.saying.ensures)

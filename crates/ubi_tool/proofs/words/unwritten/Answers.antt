@@ -1,4 +1,0 @@
-use Rattle.ubi_tool.proofs.words.unwritten.Goals as goal
-
-pub returns : goal.returns
-returns c = rw c.in_ok-file_line.ensures at c.said.ensures

@@ -1,0 +1,49 @@
+-- What the program answers over files.
+use Rattle.std.specs.Prelude.{◌≡◌, ℕ, ◌*◌, ◌+◌, ◌≤◌, List, [], length, Some, None, IsSome, codes}
+use Rattle.ubi_media.specs.Geometry.{Sizes, first_broken}
+use Rattle.ubi_media.specs.declared.geometry.GeometryError.{GeometryError}
+use Rattle.ubi_scan.specs.Image.{Image}
+use Rattle.ubi_tool.specs.Answer.{Gives, says}
+use Rattle.ubi_tool.specs.Lines.{file_line, geometry_line}
+use Rattle.ubi_tool.specs.Normalise.{NormalisesInto}
+use Rattle.ubi_tool.specs.Numbers.{sizes_of}
+use Rattle.ubi_tool.specs.Show.{Shows}
+use Rattle.ubi_tool.specs.declared.image_file.Unread.{Unread}
+use Rattle.ubi_tool.specs.declared.image_file.Unread.TheVariants as unread
+use Rattle.ubi_tool.specs.declared.numbers.Numbers.{Numbers}
+use Rattle.ubi_tool.specs.declared.outcome.Outcome.{Outcome}
+
+-- what is answered where an image can't be had: the line of a limit that the numbers break, or of a file that can't be
+-- read
+pub data IsUnread (numbers : Numbers) (path : List ℕ) : Outcome → Type 0 where
+  bad_limit : {o : Outcome} (e : GeometryError) → first_broken (sizes_of numbers) ≡ Some e → Gives o (says (geometry_line e) 2)
+      → IsUnread numbers path o
+  cannot_read : {o : Outcome} → first_broken (sizes_of numbers) ≡ None → Gives o (says (file_line (codes "cannot read ") path) 1)
+      → IsUnread numbers path o
+
+-- the sizes break no limit, and the bytes are at most one more than the device has
+pub record IsRead (s : Sizes) (bytes : List ℕ) : Type 0 where
+  pub limits : first_broken s ≡ None
+  pub few : length bytes ≤ s.pebs * s.peb_size + 1
+
+-- what is told where an image can't be had; nothing is where memory ran out
+abbrev pub Tells : (Outcome → Type 0) → Unread → Type 0
+Tells is unread.Memory = Unit {0}
+Tells is (unread.Told o) = is o
+
+-- what a command over one image file can answer: that, or what it answers of an image
+pub data OfImage (numbers : Numbers) (path : List ℕ) (answers : Image → Outcome → Type 0) : Outcome → Type 0 where
+  no_image : {o : Outcome} → IsUnread numbers path o → OfImage numbers path answers o
+  image : {o : Outcome} (bytes : List ℕ) → IsRead (sizes_of numbers) bytes
+      → answers (record { sizes = sizes_of numbers; bytes = bytes }) o → OfImage numbers path answers o
+
+-- once the file of an outcome is written, if it has one: the outcome, or the line of a file that can't be written
+pub data IsWritten (path : List ℕ) (outcome : Outcome) : Outcome → Type 0 where
+  written : IsWritten path outcome outcome
+  unwritten : {o : Outcome} → IsSome outcome.file → Gives o (says (file_line (codes "cannot write ") path) 1) → IsWritten path outcome o
+
+-- what the program can answer: nothing for wrong words, or what the command that they name can
+pub data IsAnswer : Outcome → Type 0 where
+  wrong_words : {o : Outcome} → Gives o (says [] 2) → IsAnswer o
+  normalise : {o : Outcome} (numbers : Numbers) (path out : List ℕ) → OfImage numbers path (NormalisesInto out) o → IsAnswer o
+  show : {o : Outcome} (numbers : Numbers) (path : List ℕ) (p : ℕ) → OfImage numbers path (λ i. Shows i p) o → IsAnswer o

@@ -1,0 +1,43 @@
+-- What is shown of one eraseblock.
+use Rattle.std.specs.Prelude.{ℕ, ◌<◌, ◌≤◌, List, ◌++◌, length, codes}
+use Rattle.hex.specs.Hex.{encode_lower}
+use Rattle.ubi_media.specs.Geometry.{Sizes}
+use Rattle.ubi_media.specs.declared.ec.EcRead.{EcRead}
+use Rattle.ubi_media.specs.declared.ec.EcRead.TheVariants as ec_read
+use Rattle.ubi_media.specs.declared.refusal.Refusal.{Refusal}
+use Rattle.ubi_media.specs.declared.vid.VidRead.{VidRead}
+use Rattle.ubi_media.specs.declared.vid.VidRead.TheVariants as vid_read
+use Rattle.ubi_scan.specs.Image.{Image, IsSizeFault, IsWhole, block, ec, ec_area, eraseblocks, vid, vid_area}
+use Rattle.ubi_tool.specs.Answer.{Gives, says}
+use Rattle.ubi_tool.specs.Lines.{ec_fault_name, no_block_line, refusal_line, vid_fault_name}
+use Rattle.ubi_tool.specs.declared.outcome.Outcome.{Outcome}
+
+-- the word for what a header is
+abbrev pub ec_state : EcRead → List ℕ
+ec_state ec_read.Blank = codes "blank"
+ec_state ec_read.Corrupt = codes "corrupt"
+ec_state (ec_read.Fault f) = codes "fault:" ++ ec_fault_name f
+ec_state (ec_read.Valid _) = codes "valid"
+
+abbrev pub vid_state : VidRead → List ℕ
+vid_state vid_read.Blank = codes "blank"
+vid_state vid_read.Corrupt = codes "corrupt"
+vid_state (vid_read.Fault f) = codes "fault:" ++ vid_fault_name f
+vid_state (vid_read.Valid _) = codes "valid"
+
+-- the line of a header: which it is, what it is, and its bytes
+abbrev pub header_line : List ℕ → List ℕ → List ℕ → List ℕ
+header_line which state bytes = which ++ state ++ codes " " ++ encode_lower bytes ++ codes "\n"
+
+-- the lines of an eraseblock
+abbrev pub block_lines : Sizes → List ℕ → List ℕ
+block_lines s b =
+    header_line (codes "ec ") (ec_state (ec s b)) (ec_area b) ++ header_line (codes "vid ") (vid_state (vid s b)) (vid_area s b)
+
+-- what the command answers of the eraseblock p: the line of bytes that are no image, that of an eraseblock that isn't
+-- there, or the lines of its headers
+pub data Shows (image : Image) (p : ℕ) : Outcome → Type 0 where
+  no_image : {o : Outcome} (c : Refusal) → IsSizeFault image c → Gives o (says (refusal_line c) 1) → Shows image p o
+  no_block : {o : Outcome} → IsWhole image → length (eraseblocks image) ≤ p → Gives o (says no_block_line 1) → Shows image p o
+  shown : {o : Outcome} → IsWhole image → p < length (eraseblocks image)
+      → Gives o (says (block_lines image.sizes (block (eraseblocks image) p)) 0) → Shows image p o

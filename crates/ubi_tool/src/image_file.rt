@@ -1,0 +1,118 @@
+//! The image file that the words of a command name.
+
+ghost use Rattle.std.specs.Prelude.{◌≡◌, ◌+◌, ◌*◌, ◌≤◌, IfErr, IfOk, MatchResult, codes, vec_len};
+ghost use Rattle.ubi_tool.specs.Answer.{Gives, says};
+ghost use Rattle.ubi_tool.specs.Lines.{file_line, geometry_line};
+ghost use Rattle.ubi_tool.specs.Numbers.{sizes_of};
+ghost use Rattle.ubi_tool.specs.Program.{IsRead, IsUnread, Tells};
+ghost use Rattle.ubi_tool.specs.declared.image_file.Unread.TheVariants.{Memory, Told};
+
+use crate::lines::{file_line, geometry_line};
+use crate::numbers::{Numbers, geometry_of};
+use crate::outcome::{FAILED, Outcome, ToolError, WRONG_WORDS};
+use crate::read::read_limited;
+use std::alloc::{AllocError, Global};
+use std::fs;
+use std::fs::Files;
+use ubi_media::{Geometry, GeometryError};
+
+/// An image, and the geometry that the words give it.
+#[derive(Debug, Drop)]
+pub struct ImageFile {
+    /// The geometry of its device.
+    pub geometry: Geometry,
+    /// Its bytes, at most one more than the device has.
+    pub bytes: Vec<u8>,
+}
+
+/// Why an image can't be had.
+#[derive(Debug, Drop)]
+pub enum Unread {
+    /// What is answered instead: the line of a geometry or of a file.
+    Told(Outcome),
+    /// Memory ran out.
+    Memory,
+}
+
+impl Unread {
+    /// What a command answers then.
+    ///
+    /// # Errors
+    ///
+    /// Memory ran out.
+    pub fn answer(self) -> Result<Outcome, AllocError>
+        ensures { MatchResult result (λ o. self ≡ Told o) (λ _. self ≡ Memory) }
+    {
+        match self {
+            Unread::Told(outcome) => Ok(outcome),
+            Unread::Memory => Err(AllocError),
+        }
+    }
+}
+
+impl From<AllocError> for Unread {
+    ghost use Rattle.std.specs.Prelude.{◌≡◌};
+    ghost use Rattle.ubi_tool.specs.declared.image_file.Unread.TheVariants.{Memory};
+
+    ghost from_gives = { λ _ e. e ≡ Memory };
+
+    fn from(_: AllocError) -> Unread {
+        Unread::Memory
+    }
+}
+
+/// The bytes of an image file, up to one more than a device of the geometry has.
+fn read_image<R: Files>(
+    rt: &R,
+    alloc: Global,
+    geometry: &Geometry,
+    path: &str,
+) -> Result<Vec<u8>, ToolError>
+    ensures { IfOk result (λ v. vec_len v ≤ geometry.now.pebs * geometry.now.peb_size + 1) }
+{
+    let limit = u64::from(geometry.pebs()) * u64::from(geometry.peb_size()) + 1;
+    match fs::open(rt, path) {
+        Ok(mut file) => read_limited(alloc, &mut file, limit),
+        Err(_) => Err(ToolError::Read),
+    }
+}
+
+/// The line of a geometry that breaks a limit.
+fn limit_line(alloc: Global, limit: GeometryError) -> Result<Outcome, AllocError>
+    ensures { IfOk result (λ o. Gives o (says (geometry_line limit) 2)) }
+{
+    Ok(Outcome::saying(geometry_line(alloc, limit)?, WRONG_WORDS))
+}
+
+/// The line of a file that can't be read.
+fn unread_line(alloc: Global, path: &str) -> Result<Outcome, AllocError>
+    ensures { IfOk result (λ o. Gives o (says (file_line (codes "cannot read ") path.now) 1)) }
+{
+    Ok(Outcome::saying(file_line(alloc, "cannot read ", path)?, FAILED))
+}
+
+/// Reads the image of a path, once its geometry is known to break no limit.
+///
+/// # Errors
+///
+/// The line of the first limit that the numbers break, that of a file that can't be read, or want of memory.
+pub fn load<R: Files>(
+    rt: &R,
+    alloc: Global,
+    numbers: Numbers,
+    path: &str,
+) -> Result<ImageFile, Unread>
+    ensures geometry { IfOk result (λ f. f.geometry ≡ sizes_of numbers) }
+    ensures read { IfOk result (λ f. IsRead (sizes_of numbers) f.bytes.items) }
+    ensures unread { IfErr result (Tells (IsUnread numbers path.now)) }
+{
+    let geometry = match geometry_of(numbers) {
+        Ok(geometry) => geometry,
+        Err(limit) => return Err(Unread::Told(limit_line(alloc, limit)?)),
+    };
+    match read_image(rt, alloc, &geometry, path) {
+        Ok(bytes) => Ok(ImageFile { geometry, bytes }),
+        Err(ToolError::Memory) => Err(Unread::Memory),
+        Err(_) => Err(Unread::Told(unread_line(alloc, path)?)),
+    }
+}
