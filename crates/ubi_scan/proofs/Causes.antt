@@ -1,8 +1,6 @@
 -- The first fault of an eraseblock, from what its two headers are.
 use Rattle.std.proofs.Common.{◌≡◌, ◌≢◌, ℕ, zero, suc, ◌<◌, ◌≤◌, ◌⊎◌, inl, inr, Bool, true, false, cond, not, ◌==◌, ◌&&◌, ◌||◌, List, [], ◌∷◌, length, take, get_or, refl, ap, sym, ◌∙◌, subst, arith, length-take}
 use Rattle.std.specs.Prelude.{Option, Some, None, MatchOption, Contains, nat_le, option_map, option_and_then}
-use Rattle.std.specs.BTreeMap as tree
-use Rattle.std.specs.BTreeMap.{BTreeMap}
 use Rattle.std.specs.Bool.{then_some}
 use Rattle.std.specs.List.{list_any}
 use Rattle.std.specs.Option.{option_map_or, option_or}
@@ -25,7 +23,7 @@ use Rattle.ubi_scan.specs.Faults.{HasFault, IsFirstFault, IsIncompatible, IsMisl
 use Rattle.ubi_scan.specs.Image.{block, ec, vid}
 use Rattle.ubi_scan.specs.Members.{IsMember, Leb, foreign, has_members, header, header_if, layout, leb_of, member, named_in, sqnum_at, sqnum_in}
 use Rattle.ubi_scan.specs.Numbers.{image_seq, seq_if, seq_of}
-use Rattle.ubi_scan.specs.Pass.{Stamp, fault_if, is_incompatible, is_mislaid, is_static, stamp_cmp, stamp_of, vid_fault}
+use Rattle.ubi_scan.specs.Pass.{Stamp, fault_if, is_incompatible, is_mislaid, is_static, stamp_of, vid_fault}
 use Rattle.ubi_scan.proofs.Choice.{false_or_true}
 use Rattle.ubi_scan.proofs.Seen.{AreSeen, HasStamp}
 
@@ -147,9 +145,9 @@ module _ (z : Sizes) (bs : List (List ℕ)) (p : ℕ) where
   no_vid : (v : VidRead) → vid z b ≡ v → ((f : VidFault) → v ≢ vid_read.Fault f) → NoVid
   no_vid v e differs at f h = differs f (sym e ∙ h.2)
 
-  module _ (seen : BTreeMap Stamp ℕ) (are : AreSeen z (take p bs) seen) (inside : p < length bs) where
+  module _ (seen : Stamp → Option ℕ) (are : AreSeen z (take p bs) seen) (inside : p < length bs) where
     abbrev earlier : VidHeader → Option ℕ
-    earlier h = tree.get stamp_cmp seen (stamp_of h)
+    earlier h = seen (stamp_of h)
 
     below_take : (q : ℕ) → q < length (take p bs) → q < p
     below_take q h = omega (arith, length-take p bs)

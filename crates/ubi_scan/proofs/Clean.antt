@@ -1,17 +1,14 @@
 -- That no eraseblock has a fault, with and without their order.
-use Rattle.std.proofs.Common.{◌≡◌, ◌≢◌, ℕ, zero, suc, ◌+◌, ◌<◌, ◌≤◌, ◌⊎◌, inl, inr, Bool, true, false, cond, not, ◌==◌, List, [], ◌∷◌, ◌++◌, length, map, take, get_or, refl, ap, sym, ◌∙◌, subst, arith, length-take}
-use Rattle.std.specs.Prelude.{◌↔◌, Option, Some, None, find, unwrap_or}
+use Rattle.std.proofs.Common.{◌≡◌, ◌≢◌, ℕ, zero, suc, ◌+◌, ◌<◌, inl, inr, true, false, cond, not, ◌==◌, List, [], ◌∷◌, length, map, take, refl, ap, sym, ◌∙◌, arith, length-take}
+use Rattle.std.specs.Prelude.{◌↔◌, Some, find, unwrap_or}
 use Rattle.std.proofs.lemmas.Bool.Decides.{nat_tests}
 use Rattle.std.proofs.lemmas.List.{get_or-take}
 use Rattle.ubi_media.specs.Geometry.{Sizes}
-use Rattle.ubi_media.specs.declared.ec.EcRead.TheVariants as ec_read
-use Rattle.ubi_media.specs.declared.refusal.Refusal.{Refusal}
 use Rattle.ubi_media.specs.declared.refusal.Refusal.TheVariants as refusal
-use Rattle.ubi_media.specs.declared.vid.VidRead.TheVariants as vid_read
 use Rattle.ubi_scan.specs.Clean.{IsClean, IsSound}
-use Rattle.ubi_scan.specs.Faults.{HasFault, NoFault, NoFaultBelow}
-use Rattle.ubi_scan.specs.Image.{block, ec, vid}
-use Rattle.ubi_scan.specs.Members.{IsMember, Leb, named_in, sqnum_at, sqnum_in}
+use Rattle.ubi_scan.specs.Faults.{NoFault}
+use Rattle.ubi_scan.specs.Image.{block}
+use Rattle.ubi_scan.specs.Members.{IsMember, named_in}
 use Rattle.ubi_scan.specs.Numbers.{image_seq, seq_of}
 use Rattle.ubi_scan.proofs.Choice.{false_or_true}
 use Rattle.ubi_scan.proofs.Decided.{below_or_above, one_of_number}

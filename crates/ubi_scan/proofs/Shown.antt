@@ -4,7 +4,6 @@ use Rattle.std.specs.Prelude.{Option, Some, None, MatchOption, option_map, if◌
 use Rattle.std.specs.BTreeMap as tree
 use Rattle.std.specs.BTreeMap.{BTreeMap}
 use Rattle.std.specs.Option.{option_map_or}
-use Rattle.std.proofs.lemmas.Bool.Decides.{nat_tests}
 use Rattle.std.proofs.lemmas.List.{get_or_append_left, get_or_at, get_or-set_other, get_or-set_same}
 use Rattle.ubi_media.specs.Geometry.{Sizes}
 use Rattle.ubi_media.specs.declared.vid.VidHeader.{VidHeader}
@@ -16,9 +15,9 @@ use Rattle.ubi_scan.specs.Scan.{leb_cmp}
 use Rattle.ubi_scan.specs.declared.candidate.Candidate.{Candidate}
 use Rattle.ubi_scan.specs.declared.found.ScanState.{ScanState}
 use Rattle.ubi_scan.specs.declared.found.ScanState.TheVariants as state
-use Rattle.ubi_scan.proofs.Choice.{block_new, block_old, false_or_true, last_or_before, length_more}
+use Rattle.ubi_scan.proofs.Choice.{block_new, block_old, last_or_before, length_more}
 use Rattle.ubi_scan.proofs.Held.{AreHeld, IsHeld}
-use Rattle.ubi_scan.proofs.Keys.{leb_exact, leb_total, told}
+use Rattle.ubi_scan.proofs.Keys.{at_itself, at_other, leb_exact, leb_total, same_or_apart, told}
 
 -- what is said of an eraseblock at p
 abbrev pub state_by : Sizes → BTreeMap Leb Candidate → ℕ → List ℕ → ScanState
@@ -27,15 +26,6 @@ state_by z best p b = option_map_or (λ h. member_state best p (leb_of h)) (memb
 pub record AreShown (z : Sizes) (bs : List (List ℕ)) (best : BTreeMap Leb Candidate) (states : List ScanState) : Type 0 where
   pub size : length states ≡ length bs
   pub each : (p : ℕ) → p < length bs → get_or states p state.Blank ≡ state_by z best p (block bs p)
-
-same_or_apart : (p q : ℕ) → (p ≡ q) ⊎ (p ≢ q)
-same_or_apart p q = elim (false_or_true (p == q)) [ inl e ↦ inl (grind (arith, nat_tests)) | inr e ↦ inr (grind (arith, nat_tests)) ]
-
-at_itself : (n : ℕ) → (n == n) ≡ true
-at_itself n = grind (arith, nat_tests)
-
-at_other : (m n : ℕ) → m ≢ n → (m == n) ≡ false
-at_other m n h = grind (arith, nat_tests)
 
 -- the state of a member, by the candidate of its LEB
 abbrev held_state : ℕ → Option Candidate → ScanState
@@ -47,9 +37,9 @@ wins_at p held e = ap (λ b. cond b state.Winner state.Beaten) (ap (λ q. q == p
 beaten_at : (p : ℕ) (held : Candidate) → held.place ≢ p → held_state p (Some held) ≡ state.Beaten
 beaten_at p held e = ap (λ b. cond b state.Winner state.Beaten) (at_other held.place p e)
 
-length-beaten_in : (states : List ScanState) (q : Option ℕ) → length (beaten_in states q) ≡ length states
+length-beaten_in : (states : List ScanState) (lost : Option Candidate) → length (beaten_in states lost) ≡ length states
 length-beaten_in states None = refl
-length-beaten_in states (Some q) = length-set states q state.Beaten
+length-beaten_in states (Some lost) = length-set states lost.place state.Beaten
 
 -- the new member's own state
 new_state : (states : List ScanState) (o : Option Candidate) (new : Candidate) → new.place ≡ length states → (option_map_or (λ held. held.place) o 0 < length states) ⊎ (o ≡ None)
@@ -59,7 +49,7 @@ new_state states (Some held) new e (inr h) = absurd (cc)
 new_state states (Some held) new e (inl h) =
     let n = length states in
     let more = length-append states (state.Winner ∷ []) in
-    elim (takes_over held new) as (λ t. get_or (set (states ++ state.Winner ∷ []) (cond t held.place new.place) state.Beaten) n state.Blank ≡ held_state n (Some (cond t new held))) [
+    elim (takes_over held new) as (λ t. get_or (set (states ++ state.Winner ∷ []) ((cond t held new).place) state.Beaten) n state.Blank ≡ held_state n (Some (cond t new held))) [
       | true ↦ get_or-set_other (states ++ state.Winner ∷ []) held.place n state.Beaten state.Blank (omega arith) ∙ get_or_at states state.Winner [] state.Blank n refl ∙ sym (wins_at n new e)
       | false ↦ ap (λ k. get_or (set (states ++ state.Winner ∷ []) k state.Beaten) n state.Blank) e ∙ get_or-set_same (states ++ state.Winner ∷ []) n state.Beaten state.Blank (omega arith)
           ∙ sym (beaten_at n held (omega arith))
@@ -74,7 +64,7 @@ old_state states (Some held) new p e l h =
     let more = length-append states (state.Winner ∷ []) in
     let all = states ++ state.Winner ∷ [] in
     let was : get_or all p state.Blank ≡ held_state p (Some held) = get_or_append_left states (state.Winner ∷ []) state.Blank p l ∙ h in
-    elim (takes_over held new) as (λ t. get_or (set all (cond t held.place new.place) state.Beaten) p state.Blank ≡ held_state p (Some (cond t new held))) [
+    elim (takes_over held new) as (λ t. get_or (set all ((cond t held new).place) state.Beaten) p state.Blank ≡ held_state p (Some (cond t new held))) [
       | true ↦ elim (same_or_apart held.place p) [
         | inl same ↦ ap (λ k. get_or (set all k state.Beaten) p state.Blank) same ∙ get_or-set_same all p state.Beaten state.Blank (omega arith) ∙ sym (beaten_at p new (omega arith))
         | inr apart ↦ get_or-set_other all held.place p state.Beaten state.Blank (λ x. apart (sym x)) ∙ was ∙ beaten_at p held apart ∙ sym (beaten_at p new (omega arith))
@@ -89,7 +79,7 @@ other_state : (states : List ScanState) (o : Option Candidate) (new : Candidate)
 other_state states None new p e l h = get_or_append_left states (state.Winner ∷ []) state.Blank p l
 other_state states (Some held) new p e l h =
     let all = states ++ state.Winner ∷ [] in
-    elim (takes_over held new) as (λ t. get_or (set all (cond t held.place new.place) state.Beaten) p state.Blank ≡ get_or states p state.Blank) [
+    elim (takes_over held new) as (λ t. get_or (set all ((cond t held new).place) state.Beaten) p state.Blank ≡ get_or states p state.Blank) [
       | true ↦ get_or-set_other all held.place p state.Beaten state.Blank (λ x. h held refl (sym x)) ∙ get_or_append_left states (state.Winner ∷ []) state.Blank p l
       | false ↦ get_or-set_other all new.place p state.Beaten state.Blank (omega arith) ∙ get_or_append_left states (state.Winner ∷ []) state.Blank p l
     ]

@@ -2,7 +2,6 @@
 use Rattle.std.proofs.Common.{◌≡◌, ℕ, ◌+◌, ◌<◌, ◌≤◌, inl, inr, Bool, List, [], ◌∷◌, ◌++◌, length, take, refl, ap, sym, ◌∙◌, subst, arith, length-take}
 use Rattle.std.specs.Prelude.{Option, Some, None, MatchOption, option_map}
 use Rattle.std.specs.BTreeMap as tree
-use Rattle.std.specs.BTreeMap.{BTreeMap}
 use Rattle.std.specs.Option.{option_map_or}
 use Rattle.std.proofs.lemmas.List.{take_all, take_more}
 use Rattle.ubi_media.specs.Geometry.{Sizes}
@@ -12,7 +11,7 @@ use Rattle.ubi_scan.specs.Choice.{candidate, places_of}
 use Rattle.ubi_scan.specs.Faults.{HasFault, IsScanFault, NoFault, NoFaultBelow}
 use Rattle.ubi_scan.specs.Image.{block, ec, vid}
 use Rattle.ubi_scan.specs.Members.{Leb, NoMember, Wins, good_in, leb_of, member, named_in, sqnum_in}
-use Rattle.ubi_scan.specs.Pass.{IsEntered, IsPassed, IsTaken, Stamp, fault_if, found_by, stamp_cmp, stamp_of}
+use Rattle.ubi_scan.specs.Pass.{IsEntered, IsPassed, IsTaken, fault_if, found_by, stamp_of, twin_in}
 use Rattle.ubi_scan.specs.Scan.{AreWinners, IsScan}
 use Rattle.ubi_scan.specs.declared.candidate.Candidate.{Candidate}
 use Rattle.ubi_scan.specs.declared.pass.Pass.{Pass}
@@ -28,17 +27,17 @@ use Rattle.ubi_scan.proofs.Told.{states_told}
 -- what is known before the eraseblock p
 pub record IsSoFar (z : Sizes) (bs : List (List ℕ)) (p : ℕ) (pass : Pass) : Type 0 where
   pub clean : NoFaultBelow z bs p
-  pub seen : AreSeen z (take p bs) pass.seen
+  pub seen : AreSeen z (take p bs) (twin_in pass.best pass.others)
   pub held : AreHeld z (take p bs) pass.best
   pub shown : AreShown z (take p bs) pass.best pass.states.items
   pub counts : AreKnown z (take p bs) pass.counts
 
 module _ (z : Sizes) (bs : List (List ℕ)) where
-  pub SoFar-none : (pass : Pass) → tree.IsEmpty pass.seen → tree.IsEmpty pass.best → pass.states.items ≡ [] → pass.counts.image_seq ≡ 0 → pass.counts.top_sqnum ≡ 0 → pass.counts.sum ≡ 0
+  pub SoFar-none : (pass : Pass) → tree.IsEmpty pass.best → tree.IsEmpty pass.others → pass.states.items ≡ [] → pass.counts.image_seq ≡ 0 → pass.counts.top_sqnum ≡ 0 → pass.counts.sum ≡ 0
       → pass.counts.counted ≡ 0 → IsSoFar z bs 0 pass
-  SoFar-none pass seen best states image_seq top_sqnum sum counted = record {
+  SoFar-none pass best others states image_seq top_sqnum sum counted = record {
     clean = λ q c l. absurd (omega arith);
-    seen = AreSeen-none z pass.seen seen;
+    seen = AreSeen-none z pass.best pass.others best others;
     held = AreHeld-none z pass.best best;
     shown = AreShown-none z pass.best pass.states.items states;
     counts = record { image_seq = image_seq; top_sqnum = top_sqnum; sum = sum; counted = counted };
@@ -51,8 +50,8 @@ module _ (z : Sizes) (bs : List (List ℕ)) where
     abbrev b : List ℕ
     b = block bs p
 
-    abbrev earlier : BTreeMap Stamp ℕ → VidHeader → Option ℕ
-    earlier seen h = tree.get stamp_cmp seen (stamp_of h)
+    abbrev earlier : Pass → VidHeader → Option ℕ
+    earlier pass h = twin_in pass.best pass.others (stamp_of h)
 
     next : take (p + 1) bs ≡ take p bs ++ b ∷ []
     next = take_more bs p [] inside
@@ -61,10 +60,10 @@ module _ (z : Sizes) (bs : List (List ℕ)) where
     place = omega (arith, length-take p bs)
 
     abbrev fault : Pass → Option Refusal
-    fault pass = fault_if p pass.counts.image_seq (earlier pass.seen) (ec z b) (vid z b)
+    fault pass = fault_if p pass.counts.image_seq (earlier pass) (ec z b) (vid z b)
 
     judges : (pass : Pass) → IsSoFar z bs p pass → Judges z bs p (fault pass)
-    judges pass h = judged z bs p pass.seen h.seen inside pass.counts.image_seq h.counts.image_seq
+    judges pass h = judged z bs p (twin_in pass.best pass.others) h.seen inside pass.counts.image_seq h.counts.image_seq
 
     pub SoFar-fault : (pass : Pass) (c : Refusal) → IsSoFar z bs p pass → fault pass ≡ Some c → IsScanFault z bs c
     SoFar-fault pass c h e = record {
@@ -88,7 +87,7 @@ module _ (z : Sizes) (bs : List (List ℕ)) where
         let none : named_in z b ≡ None = ap (option_map leb_of) is in
         record {
           clean = still_clean old h fine;
-          seen = subst (λ x. AreSeen z x new.seen) (sym next) (subst (AreSeen z (take p bs ++ b ∷ [])) (sym k.seen) (AreSeen-skip z (take p bs) b old.seen h.seen none));
+          seen = subst (λ x. AreSeen z x (twin_in new.best new.others)) (sym next) (rw (k.best, k.others) (AreSeen-skip z (take p bs) b (twin_in old.best old.others) h.seen none));
           held = subst (λ x. AreHeld z x new.best) (sym next) (subst (AreHeld z (take p bs ++ b ∷ [])) (sym k.best) (AreHeld-skip z (take p bs) b old.best h.held none));
           shown = subst (λ x. AreShown z x new.best new.states.items) (sym next)
               (rw (k.best, k.states) (AreShown-skip z (take p bs) b old.best old.states.items h.shown is));
@@ -99,7 +98,8 @@ module _ (z : Sizes) (bs : List (List ℕ)) where
         let number : sqnum_in z b ≡ v.sqnum = ap (λ o. option_map_or (λ (x : VidHeader). x.sqnum) o 0) is in
         record {
           clean = still_clean old h fine;
-          seen = subst (λ x. AreSeen z x new.seen) (sym next) (AreSeen-push z (take p bs) b (leb_of v) v.sqnum p old.seen new.seen h.seen named (sym number) place k.seen);
+          seen = subst (λ x. AreSeen z x (twin_in new.best new.others)) (sym next)
+              (AreSeen-push z (take p bs) b (leb_of v) (candidate p v good) old.best new.best old.others new.others h.seen (record { named = named; place = place; sqnum = sym number; good = right }) k.best k.others);
           held = subst (λ x. AreHeld z x new.best) (sym next)
               (AreHeld-push z (take p bs) b (leb_of v) (candidate p v good) old.best new.best h.held (record { named = named; place = place; sqnum = sym number; good = right }) k.best);
           shown = subst (λ x. AreShown z x new.best new.states.items) (sym next)

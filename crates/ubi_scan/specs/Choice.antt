@@ -17,14 +17,14 @@ takes_over held new = beats held.sqnum held.good new.sqnum new.good
 abbrev pub candidate : ℕ → VidHeader → Bool → Candidate
 candidate p h good = record { place = p; sqnum = h.sqnum; good = good }
 
--- of the candidate that is held, if there is one, and a new one: the one that is kept, and the eraseblock of the other
+-- of the candidate that is held, if there is one, and a new one: the one that is kept, and the other
 abbrev pub kept : Option Candidate → Candidate → Candidate
 kept None new = new
 kept (Some held) new = if takes_over held new then new else held
 
-abbrev pub beaten : Option Candidate → Candidate → Option ℕ
+abbrev pub beaten : Option Candidate → Candidate → Option Candidate
 beaten None new = None
-beaten (Some held) new = Some (if takes_over held new then held.place else new.place)
+beaten (Some held) new = Some (if takes_over held new then held else new)
 
 -- the place of each candidate
 abbrev pub places_of : List (Leb × Candidate) → FinMap leb_cmp ℕ

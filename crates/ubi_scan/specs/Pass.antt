@@ -35,6 +35,14 @@ stamp_cmp a b = ordering_then (leb_cmp a.0 b.0) (nat_cmp a.1 b.1)
 abbrev pub stamp_of : VidHeader → Stamp
 stamp_of h = (leb_of h, h.sqnum)
 
+-- the eraseblock of the member that has a stamp, if one has: by the candidate of its LEB, and by the other members
+abbrev pub twin_by : Option Candidate → Option ℕ → ℕ → Option ℕ
+twin_by None other sqnum = other
+twin_by (Some held) other sqnum = if held.sqnum == sqnum then Some held.place else other
+
+abbrev pub twin_in : BTreeMap Leb Candidate → BTreeMap Stamp ℕ → Stamp → Option ℕ
+twin_in best others stamp = twin_by (tree.get leb_cmp best stamp.0) (tree.get stamp_cmp others stamp) stamp.1
+
 -- the fault of an image sequence number at p, where one is known already
 abbrev pub seq_fault : ℕ → ℕ → ℕ → Option Refusal
 seq_fault p known seq =
@@ -88,21 +96,25 @@ abbrev pub member_state : BTreeMap Leb Candidate → ℕ → Leb → ScanState
 member_state best p of =
     if option_map_or (λ held. held.place == p) (tree.get leb_cmp best of) false then state.Winner else state.Beaten
 
--- the states with that of the eraseblock that was beaten, if one was
-abbrev pub beaten_in : List ScanState → Option ℕ → List ScanState
+-- the states with that of the member of a LEB that was beaten, if one was, and that member put aside among the others
+abbrev pub beaten_in : List ScanState → Option Candidate → List ScanState
 beaten_in states None = states
-beaten_in states (Some p) = slice_set states p state.Beaten
+beaten_in states (Some lost) = slice_set states lost.place state.Beaten
+
+abbrev pub IsPutAside : Leb → BTreeMap Stamp ℕ → BTreeMap Stamp ℕ → Option Candidate → Type 0
+IsPutAside of old new None = new ≡ old
+IsPutAside of old new (Some lost) = tree.Updates stamp_cmp old new (of, lost.sqnum) (Some lost.place)
 
 -- a pass goes on over a member at p with its header and goodness
 pub record IsEntered (old : Pass) (p : ℕ) (good : Bool) (new : Pass) (h : VidHeader) : Type 0 where
-  pub seen : tree.Updates stamp_cmp old.seen new.seen (stamp_of h) (Some p)
   pub best : tree.Updates leb_cmp old.best new.best (leb_of h) (Some (kept (tree.get leb_cmp old.best (leb_of h)) (candidate p h good)))
+  pub others : IsPutAside (leb_of h) old.others new.others (beaten (tree.get leb_cmp old.best (leb_of h)) (candidate p h good))
   pub states : new.states.items ≡ beaten_in (old.states.items ++ state.Winner ∷ []) (beaten (tree.get leb_cmp old.best (leb_of h)) (candidate p h good))
 
 -- a pass goes on over an eraseblock that is no member
 pub record IsPassed (old : Pass) (e : EcRead) (v : VidRead) (new : Pass) : Type 0 where
-  pub seen : new.seen ≡ old.seen
   pub best : new.best ≡ old.best
+  pub others : new.others ≡ old.others
   pub states : new.states.items ≡ old.states.items ++ quiet_state e v ∷ []
 
 -- the numbers of one more eraseblock

@@ -6,10 +6,10 @@ ghost use Rattle.ubi_scan.specs.Choice.{beats};
 /// A member of a logical eraseblock, as far as the choice goes.
 #[derive(Clone, Copy, Debug, PartialEq, Eq)]
 pub struct Candidate {
-    /// The eraseblock.
-    pub place: u32,
     /// Its sequence number.
     pub sqnum: u64,
+    /// The eraseblock.
+    pub place: u32,
     /// Whether it is no copy, or its copied data are right.
     pub good: bool,
 }

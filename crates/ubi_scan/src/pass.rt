@@ -4,7 +4,7 @@ ghost use Rattle.std.specs.Prelude.{◌≡◌, ◌<◌, ◌++◌, ◌∷◌, [],
 ghost use Rattle.std.specs.BTreeMap as tree;
 ghost use Rattle.ubi_scan.specs.Scan.{leb_cmp};
 ghost use Rattle.ubi_scan.specs.Choice.{beaten, kept};
-ghost use Rattle.ubi_scan.specs.Pass.{fault_if, IsEntered, IsTaken, quiet_state, stamp_cmp, stamp_of, vid_fault};
+ghost use Rattle.ubi_scan.specs.Pass.{fault_if, IsEntered, IsTaken, quiet_state, stamp_of, twin_in, vid_fault};
 ghost use Rattle.ubi_scan.specs.declared.found.ScanState.TheVariants as state;
 
 use crate::candidate::Candidate;
@@ -22,10 +22,10 @@ pub type Leb = (u32, u32);
 /// What is known of the eraseblocks so far.
 #[derive(Drop)]
 pub struct Pass {
-    /// The eraseblock of each logical eraseblock and sequence number that a member has.
-    pub seen: BTreeMap<(Leb, u64), u32>,
     /// The member of each logical eraseblock that would win it.
     pub best: BTreeMap<Leb, Candidate>,
+    /// The eraseblock of each other member, by its logical eraseblock and its sequence number.
+    pub others: BTreeMap<(Leb, u64), u32>,
     /// What is said of each eraseblock.
     pub states: Vec<ScanState>,
     /// The numbers that their headers give.
@@ -52,27 +52,19 @@ fn quiet_state(ec: &EcRead, vid: &VidRead) -> ScanState
     }
 }
 
-/// Enters the stamp of the member at a place.
-fn stamp(seen: &mut BTreeMap<(Leb, u64), u32>, header: &VidHeader, p: u32) -> Result<(), AllocError>
-    ensures { OnOk result (tree.Updates stamp_cmp seen.old seen.new (stamp_of header.now) (Some p)) }
-{
-    seen.insert(stamp_of(header), p)?;
-    Ok(())
-}
-
-/// Enters a member of a logical eraseblock, and answers which eraseblock is beaten: it, or the one that it beats.
+/// Enters a member of a logical eraseblock, and answers which one is beaten: it, or the one that it beats.
 fn enter(
     best: &mut BTreeMap<Leb, Candidate>,
     leb: Leb,
     new: Candidate,
-) -> Result<Option<u32>, AllocError>
+) -> Result<Option<Candidate>, AllocError>
     ensures updates { OnOk result (tree.Updates leb_cmp best.old best.new leb (Some (kept (tree.get leb_cmp best.old leb) new))) }
-    ensures beaten { IfOk result (λ place. place ≡ beaten (tree.get leb_cmp best.old leb) new) }
+    ensures beaten { IfOk result (λ lost. lost ≡ beaten (tree.get leb_cmp best.old leb) new) }
 {
     let (kept, beaten) = match best.get(&leb) {
         None => (new, None),
-        Some(held) if new.beats(held) => (new, Some(held.place)),
-        Some(held) => (*held, Some(new.place)),
+        Some(held) if new.beats(held) => (new, Some(*held)),
+        Some(held) => (*held, Some(new)),
     };
     best.insert(leb, kept)?;
     Ok(beaten)
@@ -90,8 +82,8 @@ fn beat(states: &mut Vec<ScanState>, p: u32)
 impl Pass {
     /// Nothing is known yet.
     pub fn new(alloc: Global) -> Pass
-        ensures seen { tree.IsEmpty result.seen }
         ensures best { tree.IsEmpty result.best }
+        ensures others { tree.IsEmpty result.others }
         ensures states { result.states.items ≡ [] }
         ensures image_seq { result.counts.image_seq ≡ 0 }
         ensures top_sqnum { result.counts.top_sqnum ≡ 0 }
@@ -99,8 +91,8 @@ impl Pass {
         ensures counted { result.counts.counted ≡ 0 }
     {
         Pass {
-            seen: BTreeMap::new(alloc),
             best: BTreeMap::new(alloc),
+            others: BTreeMap::new(alloc),
             states: Vec::new(alloc),
             counts: Counts::new(),
         }
@@ -108,14 +100,17 @@ impl Pass {
 
     /// The eraseblock that has the stamp of a header, if one has.
     fn twin(&self, header: &VidHeader) -> Option<u32>
-        ensures { result ≡ tree.get stamp_cmp self.now.seen (stamp_of header.now) }
+        ensures { result ≡ twin_in self.now.best self.now.others (stamp_of header.now) }
     {
-        self.seen.get(&stamp_of(header)).copied()
+        match self.best.get(&(header.vol_id, header.lnum)) {
+            Some(held) if held.sqnum == header.sqnum => Some(held.place),
+            _ => self.others.get(&stamp_of(header)).copied(),
+        }
     }
 
     /// The first fault of the volume-identifier header of the next eraseblock.
     fn vid_fault(&self, p: u32, vid: &VidRead) -> Option<Refusal>
-        ensures { result ≡ vid_fault p (λ h. tree.get stamp_cmp self.now.seen (stamp_of h)) vid.now }
+        ensures { result ≡ vid_fault p (λ h. twin_in self.now.best self.now.others (stamp_of h)) vid.now }
     {
         match vid {
             VidRead::Fault(fault) => Some(Refusal::Vid(p, *fault)),
@@ -126,7 +121,7 @@ impl Pass {
 
     /// The first fault of the next eraseblock.
     pub fn fault(&self, p: u32, ec: &EcRead, vid: &VidRead) -> Option<Refusal>
-        ensures { result ≡ fault_if p self.now.counts.image_seq (λ h. tree.get stamp_cmp self.now.seen (stamp_of h)) ec.now vid.now }
+        ensures { result ≡ fault_if p self.now.counts.image_seq (λ h. twin_in self.now.best self.now.others (stamp_of h)) ec.now vid.now }
     {
         if matches!(ec, EcRead::Blank) {
             return None;
@@ -142,16 +137,17 @@ impl Pass {
         ensures counts { self.new.counts ≡ self.old.counts }
         ensures entered { OnOk result (IsEntered self.old p good self.new header.now) }
     {
-        stamp(&mut self.seen, header, p)?;
+        let leb = (header.vol_id, header.lnum);
         let new = Candidate {
-            place: p,
             sqnum: header.sqnum,
+            place: p,
             good,
         };
-        let beaten = enter(&mut self.best, (header.vol_id, header.lnum), new)?;
+        let beaten = enter(&mut self.best, leb, new)?;
         self.states.push(ScanState::Winner)?;
-        if let Some(place) = beaten {
-            beat(&mut self.states, place);
+        if let Some(lost) = beaten {
+            self.others.insert((leb, lost.sqnum), lost.place)?;
+            beat(&mut self.states, lost.place);
         }
         Ok(())
     }

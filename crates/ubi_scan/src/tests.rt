@@ -2,4 +2,5 @@ mod blocks;
 mod choice;
 mod faults;
 mod images;
+mod memory;
 mod states;

@@ -1,11 +1,14 @@
 //! Which member wins a logical eraseblock.
 
 use super::images::{
-    BLANK, CHECK_OF_37, CORRUPT, Peb, WRONG_CHECK_OF_39, copy, found, holding, plain, states,
+    BLANK, CHECK_OF_37, CORRUPT, Peb, WRONG_CHECK_OF_39, copy, ec, found, holding, plain, states,
 };
 use crate::ScanState;
 use std::test::Fail;
-use ubi_media::GeometryError;
+use ubi_media::{GeometryError, LAYOUT_VOLUME, VidHeader};
+
+/// An internal volume that may be dropped.
+const INTERNAL: u32 = 0x7FFF_F000;
 
 /// A member that is no copy.
 fn old() -> Result<Peb, GeometryError> {
@@ -32,6 +35,76 @@ fn wrong(sqnum: u64) -> Result<Peb, GeometryError> {
         count: 64,
         ..holding(&copy(sqnum, WRONG_CHECK_OF_39))?
     })
+}
+
+/// An eraseblock of an image that `ubinize` writes, which numbers its image and no member.
+fn fresh(header: &VidHeader) -> Result<Peb, GeometryError> {
+    Ok(Peb {
+        ec: ec(0, 0x1234_5678)?,
+        ..holding(header)?
+    })
+}
+
+/// The two copies of a volume table, logical eraseblocks 0 to 2 of volume 0, and one of an internal volume.
+fn small() -> Result<[Peb; 6], GeometryError> {
+    let table = VidHeader {
+        compat: 5,
+        ..plain(LAYOUT_VOLUME, 0, 0)
+    };
+    let internal = VidHeader {
+        compat: 1,
+        ..plain(INTERNAL, 0, 0)
+    };
+    Ok([
+        fresh(&table)?,
+        fresh(&VidHeader { lnum: 1, ..table })?,
+        fresh(&plain(0, 0, 0))?,
+        fresh(&plain(0, 1, 0))?,
+        fresh(&plain(0, 2, 0))?,
+        fresh(&internal)?,
+    ])
+}
+
+#[test]
+fn finds_the_winners_of_a_small_image(rt: HostRuntime) -> Result<(), Fail> {
+    let alloc = rt.alloc();
+    let pebs = small()?;
+    let found = found(alloc, &pebs)?;
+    for (vol, lnum, winner) in [
+        (LAYOUT_VOLUME, 0, Some(0)),
+        (LAYOUT_VOLUME, 1, Some(1)),
+        (LAYOUT_VOLUME, 2, None),
+        (0, 0, Some(2)),
+        (0, 1, Some(3)),
+        (0, 2, Some(4)),
+        (0, 3, None),
+        (1, 0, None),
+        (INTERNAL, 0, None),
+    ] {
+        assert_eq!(rt; found.winner(vol, lnum), winner, "of {vol} and {lnum}");
+    }
+    assert_eq!(rt; found.top_sqnum(), 0);
+    assert_eq!(rt; found.image_seq(), 0x1234_5678);
+    let said = states(alloc, &pebs)?;
+    assert_eq!(rt; said.as_slice().last(), Some(&ScanState::Dropped));
+    Ok(())
+}
+
+#[test]
+fn a_member_stays_without_its_magic_and_not_once_erased(rt: HostRuntime) -> Result<(), Fail> {
+    let alloc = rt.alloc();
+    let mut torn = ec(0, 0x1234_5678)?;
+    torn[0] = 0x54;
+    for (header, winner, next) in [(torn, Some(3), Some((1, 3))), (BLANK, None, Some((2, 4)))] {
+        let mut pebs = small()?;
+        pebs[3].ec = header;
+        let found = found(alloc, &pebs)?;
+        assert_eq!(rt; found.winner(0, 0), Some(2));
+        assert_eq!(rt; found.winner(0, 1), winner);
+        assert_eq!(rt; found.winner(0, 2), Some(4));
+        assert_eq!(rt; found.next_winner(0, 1), next);
+    }
+    Ok(())
 }
 
 #[test]

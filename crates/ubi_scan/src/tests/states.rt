@@ -16,7 +16,7 @@ fn says_what_each_eraseblock_is(rt: HostRuntime) -> Result<(), Fail> {
         compat: 1,
         ..plain(0x7FFF_EFFF, 0, 3)
     })?;
-    let counted = ec(6, 0)?;
+    let counted = ec(7, 0)?;
     let cases = [
         (ERASED, ScanState::Blank),
         (
@@ -69,7 +69,7 @@ fn says_what_each_eraseblock_is(rt: HostRuntime) -> Result<(), Fail> {
     assert_eq!(rt; found.winner(0x7FFF_F000, 0), None);
     assert_eq!(rt; found.top_sqnum(), 12);
     assert_eq!(rt; found.image_seq(), 0);
-    // Two of six that can be read have the counter 6.
+    // Two of six that can be read have the counter 7, the others 0.
     assert_eq!(rt; found.mean_ec(), 2);
     Ok(())
 }

@@ -1,0 +1,140 @@
+#!/usr/bin/env python3
+"""Measures the scan: its memory and its time, over images that image.py makes.
+
+usage: scan.py [--dir FOLDER] [--quick] [PROGRAM WORD ..]
+
+Without PROGRAM it measures `ubi_tool normalise` (built first where it isn't yet). The images have no table of volumes,
+so all that is done is to read them, to scan them and to refuse them. With PROGRAM it measures that one, called with
+the words; the word IMAGE stands for the image's path. Images are made in a new folder below FOLDER (/tmp where it is
+left out), up to 512 MiB each, and removed again. --quick leaves out the images of 1,048,576 eraseblocks.
+
+It prints a table, and ends with status 1 where a figure is above one of these limits:
+  memory   beyond the image's own bytes at most 128 bytes an eraseblock, at the peak
+  cksum    262,144 eraseblocks in at most ten times the time of `cksum` over the same file, in the same run
+  growth   from a quarter of the eraseblocks on, time grows as n log n does, and by half as much again at most: memory is
+           slower where a processor's caches don't hold it
+Times are processor times (user and system), the least of three runs, so that other work on the machine counts little.
+Memory is the peak less the image's bytes and less that of a run over one eraseblock. It needs GNU time.
+"""
+import math
+import os
+import shutil
+import subprocess
+import sys
+import tempfile
+
+import image
+
+HERE = os.path.dirname(os.path.abspath(__file__))
+ROOT = os.path.dirname(HERE)
+TIME = "/usr/bin/time"
+MOST_MEMORY, MOST_CKSUMS, MOST_GROWTH = 128, 10, 1.5
+MIDDLE = 2 ** 18
+SIZES = (2 ** 16, 2 ** 18, 2 ** 20)
+
+
+def run(words, folder):
+    """The processor seconds of a program, the least of three runs, and the peak of memory, in bytes, the greatest.
+
+    GNU time starts it, since a program that Python starts has Python's own memory in its peak.
+    """
+    seconds, peaks = [], []
+    told = os.path.join(folder, "peak")
+    for _ in range(3):
+        quiet = {"stdout": subprocess.DEVNULL, "stderr": subprocess.DEVNULL}
+        child = subprocess.Popen([TIME, "--quiet", "-f", "%M", "-o", told, *words], **quiet)
+        _, status, usage = os.wait4(child.pid, 0)
+        child.returncode = os.waitstatus_to_exitcode(status)
+        if child.returncode not in (0, 1):
+            sys.exit(f"{words} ended with {child.returncode}")
+        seconds.append(usage.ru_utime + usage.ru_stime)
+        with open(told, encoding="ascii") as it:
+            peaks.append(int(it.read()) * 1024)
+    return min(seconds), max(peaks)
+
+
+def words_of(program, folder, path):
+    if program:
+        return [path if word == "IMAGE" else word for word in program]
+    out = os.path.join(folder, "out.img")
+    tool = os.path.join(ROOT, "crates", "ubi_tool", "out", "ubi_tool")
+    return [tool, "normalise", path, "--out", out, "--peb", "512", "--page", "64"]
+
+
+def make(folder, kind, count):
+    path = os.path.join(folder, f"{kind}.img")
+    with open(path, "wb") as out:
+        for block in image.eraseblocks(kind, count):
+            out.write(block)
+    return path
+
+
+def is_scanning(folder):
+    """Whether `ubi_tool normalise` refuses two members of a logical eraseblock with one sequence number."""
+    path = make(folder, "one", 1)
+    with open(path, "rb") as it:
+        block = it.read()
+    with open(path, "ab") as it:
+        it.write(block)
+    ran = subprocess.run(words_of([], folder, path), stdout=subprocess.PIPE, stderr=subprocess.DEVNULL)
+    return ran.stdout == b"refused S8 SameSqnum block=1 earlier=0\n"
+
+
+def measure(folder, program, sizes):
+    """Prints the table, and gives what is above a limit."""
+    above = []
+    _, base = run(words_of(program, folder, make(folder, "rising", 1)), folder)
+    print("kind         eraseblocks  seconds   memory an eraseblock   times cksum   growth over n log n")
+    for kind in image.KINDS:
+        before = None
+        for count in sizes:
+            path = make(folder, kind, count)
+            seconds, peak = run(words_of(program, folder, path), folder)
+            memory = (peak - base - count * image.PEB) / count
+            step = seconds / (count * math.log2(count))
+            growth = step / before if before else 1.0
+            before = step
+            line = f"{kind:<12} {count:>11,}  {seconds:>7.2f}   {memory:>20.1f}   "
+            if memory > MOST_MEMORY:
+                above.append(f"memory of {kind}, {count}")
+            if growth > MOST_GROWTH:
+                above.append(f"growth of {kind}, {count}")
+            if count == MIDDLE:
+                times = seconds / run(["cksum", path], folder)[0]
+                line += f"{times:>11.1f}   "
+                if times > MOST_CKSUMS:
+                    above.append(f"cksum of {kind}")
+            else:
+                line += " " * 14
+            print(line + f"{growth:>19.2f}", flush=True)
+            os.remove(path)
+    return above
+
+
+def main():
+    words = sys.argv[1:]
+    place, sizes = "/tmp", SIZES
+    while words and words[0].startswith("--"):
+        word = words.pop(0)
+        if word == "--dir" and words:
+            place = words.pop(0)
+        elif word == "--quick":
+            sizes = SIZES[:2]
+        else:
+            sys.exit(__doc__)
+    if not words:
+        subprocess.run([os.path.join(ROOT, "ubi_tool"), "--help"], stderr=subprocess.DEVNULL)
+    folder = tempfile.mkdtemp(dir=place)
+    try:
+        if not words and not is_scanning(folder):
+            sys.exit("ubi_tool normalise doesn't scan, so there is nothing to measure")
+        above = measure(folder, words, sizes)
+    finally:
+        shutil.rmtree(folder)
+    for figure in above:
+        print(f"above the limit: {figure}")
+    sys.exit(1 if above else 0)
+
+
+if __name__ == "__main__":
+    main()
