@@ -1,0 +1,9 @@
+pub mod Deciding
+pub mod Entries
+pub mod First
+pub mod Kept
+pub mod Names
+pub mod One
+pub mod ReadBack
+pub mod Reading
+pub mod Sound

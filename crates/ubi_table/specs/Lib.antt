@@ -1,0 +1,4 @@
+pub mod Records
+pub mod Slots
+pub mod Copies
+pub mod Table
