@@ -1,7 +1,9 @@
 pub mod Deciding
 pub mod Entries
 pub mod First
+pub mod Held
 pub mod Kept
+pub mod Moved
 pub mod Names
 pub mod One
 pub mod ReadBack

@@ -7,6 +7,7 @@
 mod choosing;
 mod copy;
 mod encode;
+pub mod laws;
 mod table;
 
 pub use choosing::choose;
