@@ -1,3 +1,4 @@
+pub mod CopyVectors
 pub mod Deciding
 pub mod Entries
 pub mod First
@@ -9,3 +10,4 @@ pub mod One
 pub mod ReadBack
 pub mod Reading
 pub mod Sound
+pub mod TableVectors
