@@ -12,3 +12,6 @@ mod table;
 
 pub use choosing::choose;
 pub use table::Table;
+
+#[cfg(test)]
+mod tests;
