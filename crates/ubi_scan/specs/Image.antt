@@ -2,7 +2,8 @@
 use Rattle.std.specs.Prelude.{◌≡◌, ◌≢◌, ℕ, ◌+◌, ◌*◌, ◌/◌, ◌%◌, ◌<◌, ◌≤◌, ◌⊎◌, List, [], drop, length, slice_index_or, slice_range, take}
 use Rattle.std.specs.Simd.{first_chunks}
 use Rattle.ubi_media.specs.Ec.{ec_reading}
-use Rattle.ubi_media.specs.Geometry.{Sizes}
+use Rattle.ubi_media.specs.Geometry.{Sizes, slots}
+use Rattle.ubi_media.specs.Record.{record_size}
 use Rattle.ubi_media.specs.Vid.{vid_reading}
 use Rattle.ubi_media.specs.declared.ec.EcRead.{EcRead}
 use Rattle.ubi_media.specs.declared.vid.VidRead.{VidRead}
@@ -53,3 +54,11 @@ vid s b = vid_reading s (vid_area s b)
 -- the bytes of its logical eraseblock (LEB)
 abbrev pub leb : Sizes → List ℕ → List ℕ
 leb s b = drop s.data_offset b
+
+-- the bytes of a volume table, cut into the records of its slots
+abbrev pub slots_in : Sizes → List ℕ → List (List ℕ)
+slots_in s bytes = first_chunks record_size (slots s) bytes
+
+-- the bytes of a record in the LEB of an eraseblock
+abbrev pub rec : Sizes → List ℕ → ℕ → List ℕ
+rec s b slot = slice_index_or (slots_in s (leb s b)) slot []

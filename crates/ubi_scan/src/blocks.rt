@@ -1,11 +1,11 @@
 //! An image cut into eraseblocks, and the parts of an eraseblock.
 
 ghost use Rattle.std.specs.Prelude.{◌≡◌, ◌<◌, length, IfErr, IfOk};
-ghost use Rattle.ubi_media.specs.Geometry.{leb_size};
-ghost use Rattle.ubi_scan.specs.Image.{IsSizeFault, IsWhole, block, ec, eraseblocks, leb, vid};
+ghost use Rattle.ubi_media.specs.Geometry.{leb_size, slots};
+ghost use Rattle.ubi_scan.specs.Image.{IsSizeFault, IsWhole, block, ec, eraseblocks, leb, rec, vid};
 
 use std::marker::Model;
-use ubi_media::{EcRead, Geometry, Refusal, VidRead, read_ec, read_vid};
+use ubi_media::{EcRead, Geometry, RECORD_SIZE, Refusal, VidRead, read_ec, read_vid};
 
 /// An image: whole eraseblocks of a geometry, at least one and no more than the device has.
 #[derive(Drop)]
@@ -90,6 +90,16 @@ impl<'a> Blocks<'a> {
     {
         let block = self.block(p);
         &block[self.geometry.data_offset() as usize..]
+    }
+
+    /// The bytes of a record of the volume table, in the logical eraseblock in an eraseblock.
+    pub fn rec(&self, p: u32, slot: u32) -> &'a [u8; RECORD_SIZE]
+        requires block { p < length (eraseblocks self.now) }
+        requires slot { slot < slots self.now.sizes }
+        ensures { result.now ≡ rec self.now.sizes (block (eraseblocks self.now) p) slot }
+    {
+        let (records, _) = self.leb(p).as_chunks::<RECORD_SIZE>();
+        &records[slot as usize]
     }
 
     /// What the erase-counter header of an eraseblock is.

@@ -1,0 +1,106 @@
+-- Entries by rising number, as a finite map.
+use Rattle.std.proofs.Common.{◌≡◌, ℕ, suc, ◌+◌, ◌<◌, ◌≤◌, inl, inr, Bool, true, false, cond, ◌==◌, ◌&&◌, T, List, [], ◌∷◌, length, map, get_or, refl, ap, sym, ◌∙◌, subst, arith}
+use Rattle.std.specs.Prelude.{All, IsTrue, None, Some, find, fold, option_map}
+use Rattle.std.specs.Cmp.Lexicographic.{other_text}
+use Rattle.std.specs.FinMap as finite
+use Rattle.std.specs.FinMap.{from_entries, is_sorted, nat_cmp-IsAntisymmetric}
+use Rattle.std.specs.FinMap.Entries.{same_entries}
+use Rattle.std.specs.List.{sum_by}
+use Rattle.std.specs.Ordering.{eq_by_cmp, nat_cmp}
+use Rattle.std.specs.declared.cmp.Ordering.TheVariants.{Less}
+use Rattle.std.proofs.lemmas.Bool.Decides.{nat_tests}
+use Rattle.std.proofs.lemmas.Cmp.{nat_cmp_total, ranked}
+use Rattle.std.proofs.lemmas.List.{get_or_default}
+use Rattle.ubi_media.specs.Fields.{same_bytes}
+use Rattle.ubi_media.specs.Geometry.{Sizes, slots}
+use Rattle.ubi_media.specs.Record.{rec_fault}
+use Rattle.ubi_media.specs.declared.record.VolumeRecord.{VolumeRecord}
+use Rattle.ubi_scan.proofs.Decided.{below_or_above}
+use Rattle.ubi_scan.proofs.Finite.{place_of, rising_at}
+use Rattle.ubi_table.specs.Records.{AreRecords, space}
+use Rattle.ubi_table.specs.Slots.{AreKept}
+use Rattle.ubi_table.proofs.Names.{Entry, once_apart}
+
+-- a test that is true
+pub true_of : (b : Bool) → b ≡ true → T b
+true_of b e = subst T (sym e) tt
+
+-- sorted entries are those of their map
+pub entries_kept : (es : List Entry) → IsTrue (is_sorted nat_cmp es) → finite.entries (from_entries {R = nat_cmp} es) ≡ es
+entries_kept es h =
+    same_entries nat_cmp nat_cmp_total nat_cmp-IsAntisymmetric _ _ (finite.entries_sorted _) (true_of _ h)
+    (λ q. sym (finite.get-entries _ q) ∙ finite.get-from_entries nat_cmp_total es q)
+
+-- the first entry with a number is what the map has there
+number_test : (id n : ℕ) → (n == id) ≡ eq_by_cmp nat_cmp id n
+number_test id n = grind (arith, nat_tests)
+
+pub get_kept : (es : List Entry) (id : ℕ) → option_map (λ (e : Entry). e.1) (find (λ (e : Entry). e.0 == id) es) ≡ finite.get (from_entries {R = nat_cmp} es) id
+get_kept es id = by_test es ∙ sym (finite.get-from_entries nat_cmp_total es id)
+  where
+    by_test : (es : List Entry) → option_map (λ (e : Entry). e.1) (find (λ (e : Entry). e.0 == id) es) ≡ finite.find nat_cmp id es
+    by_test [] = refl
+    by_test (e ∷ es) =
+        elim (e.0 == id) as (λ b. (e.0 == id) ≡ b → option_map (λ (e : Entry). e.1) (cond b (Some e) (find (λ (e : Entry). e.0 == id) es)) ≡ cond (eq_by_cmp nat_cmp id e.0) (Some e.1) (finite.find nat_cmp id es)) [
+          | true ↦ λ t. ap (λ b. cond b (Some e.1) (finite.find nat_cmp id es)) (sym t ∙ number_test id e.0)
+          | false ↦ λ t. by_test es ∙ ap (λ b. cond b (Some e.1) (finite.find nat_cmp id es)) (sym t ∙ number_test id e.0)
+        ] refl
+
+-- what a map has at a number stands at a place of its entries
+pub place_at : (es : List Entry) (id : ℕ) (e : Entry) → finite.get (from_entries {R = nat_cmp} es) id ≡ Some e.1
+    → (i : ℕ) × (i < length es) × (get_or es i e ≡ (id, e.1))
+place_at es id e h = place_of nat_cmp_total nat_cmp-IsAntisymmetric id e.1 e es (sym (finite.get-from_entries nat_cmp_total es id) ∙ h)
+
+-- what a table keeps holds of its records
+pub kept_records : (s : Sizes) (es : List Entry) → AreKept s es → AreRecords (record { sizes = s; of = from_entries es })
+kept_records s es h = record {
+  slot = λ id r e. (let at = place_at es id (id, r) e in subst (λ (x : Entry). x.0 < slots s) at.2 (h.slot at.0 (id, r) at.1));
+  sound = λ id r e. (let at = place_at es id (id, r) e in subst (λ (x : Entry). rec_fault s x.1 ≡ None) at.2 (h.sound at.0 (id, r) at.1));
+  apart = λ i j r q e f same.
+      (let a = place_at es i (i, r) e in
+      let b = place_at es j (j, q) f in
+      let there : get_or es b.0 (i, r) ≡ (j, q) = get_or_default es b.0 (i, r) (j, q) b.1 ∙ b.2 in
+      elim (below_or_above a.0 b.0) [
+        | inl at ↦ ap (λ (x : Entry). x.0) (sym a.2 ∙ ap (λ k. get_or es k (i, r)) at ∙ there)
+        | inr o ↦ elim o [
+          | inl l ↦ absurd (differs es h a.0 b.0 (i, r) (i, r) (j, q) a.2 there l b.1 same)
+          | inr l ↦ absurd (differs es h b.0 a.0 (i, r) (j, q) (i, r) there a.2 l a.1 (sym same))
+        ]
+      ]);
+} where
+  differs : (es : List Entry) → AreKept s es → (i j : ℕ) (d x y : Entry) → get_or es i d ≡ x → get_or es j d ≡ y → i < j → j < length es → x.1.name ≡ y.1.name → ⊥
+  differs es h i j d x y e f l k same =
+      other_text x.1.name y.1.name
+      (sym (ap (λ (a : Entry). same_bytes a.1.name y.1.name) (sym e) ∙ ap (λ (b : Entry). same_bytes (get_or es i d).1.name b.1.name) (sym f) ∙ once_apart es h.once i j d l k)) same
+
+-- numbers that rise, from k on and below n, are no more than those between
+rest_rises : (e : Entry) (es : List Entry) → T (is_sorted nat_cmp (e ∷ es)) → T (is_sorted nat_cmp es)
+rest_rises e es h = both_right _ _ h
+  where
+    both_right : (a b : Bool) → T (a && b) → T b
+    both_right true b p = p
+    both_right false b p = absurd p
+
+few : (es : List Entry) (k n : ℕ) → k ≤ n → T (is_sorted nat_cmp es) → All (λ e. k ≤ e.0) es → All (λ e. e.0 < n) es → k + length es ≤ n
+few [] k n h sorted from below = omega arith
+few (e ∷ es) k n h sorted from below =
+    let first = from 0 e (omega arith) in
+    let last = below 0 e (omega arith) in
+    let rest = few es (e.0 + 1) n (omega arith) (rest_rises e es sorted)
+    (λ i d l. (let less = ranked e.0 (get_or es i d).0 Less (sym (rising_at nat_cmp_total (e ∷ es) 0 (suc i) d sorted (omega arith) (omega arith))) in omega arith))
+    (λ i d l. below (suc i) d (omega arith)) in
+    omega arith
+
+-- a table has no more records than slots
+pub few_kept : (s : Sizes) (es : List Entry) → AreKept s es → length es ≤ slots s
+few_kept s es h =
+    let size = few es 0 (slots s) (omega arith) (true_of _ h.sorted) (λ i d l. omega arith) h.slot in omega arith
+
+-- the sum over the values of a map
+sum_values : (es : List Entry) (n : ℕ) → fold (λ m (r : VolumeRecord). m + r.reserved) n (map (λ (e : Entry). e.1) es) ≡ fold (λ m (e : Entry). m + e.1.reserved) n es
+sum_values [] n = refl
+sum_values (e ∷ es) n = sum_values es (n + e.1.reserved)
+
+pub space_kept : (s : Sizes) (es : List Entry) → IsTrue (is_sorted nat_cmp es) → 2 + sum_by (λ (e : Entry). e.1.reserved) es ≡ space (record { sizes = s; of = from_entries es })
+space_kept s es h =
+    ap (λ n. 2 + n) (sym (ap (λ x. sum_by (λ r. r.reserved) (map (λ (e : Entry). e.1) x)) (entries_kept es h) ∙ sum_values es 0))

@@ -1,0 +1,92 @@
+//! What a copy of the volume table is.
+
+ghost use Rattle.std.specs.Prelude.{◌≡◌, IfOk, length, option_copied};
+ghost use Rattle.ubi_media.specs.Geometry.{leb_size};
+ghost use Rattle.ubi_scan.specs.Image.{eraseblocks};
+ghost use Rattle.ubi_scan.specs.Scan.{IsScan};
+ghost use Rattle.ubi_table.specs.Copies.{CopyIs, copy_of};
+ghost use Rattle.ubi_table.specs.Slots.{first_named, twice};
+
+use crate::table::Table;
+use std::alloc::{AllocError, Global};
+use ubi_media::{
+    Geometry, LAYOUT_VOLUME, RECORD_SIZE, RecFault, RecRead, VolName, VolumeRecord, read_rec,
+};
+use ubi_scan::{Blocks, Scan};
+
+/// What a copy of the volume table is.
+#[derive(Drop)]
+pub enum CopyRead {
+    /// No eraseblock holds it.
+    Absent,
+    /// Its first record at fault has a wrong check.
+    Corrupt,
+    /// Its first record at fault has the right check: the slot, and the fault.
+    Faulty(u32, RecFault),
+    /// No record is at fault, but a name comes again: the first slot whose name does, and the next that has it.
+    Twice(u32, u32),
+    /// Its table, where none of this stands.
+    Good(Table),
+}
+
+/// The first record with a name, behind its slot.
+fn first_named<'a>(
+    records: &'a [(u32, VolumeRecord)],
+    name: &VolName,
+) -> Option<&'a (u32, VolumeRecord)>
+    ensures { option_copied result ≡ first_named name.now records.now }
+{
+    records
+        .iter()
+        .find(|entry| entry.1.name.as_bytes() == name.as_bytes())
+}
+
+/// The slots of the first record whose name comes again and of the next that has it.
+fn twice(records: &[(u32, VolumeRecord)]) -> Option<(u32, u32)>
+    ensures { result ≡ twice records.now }
+{
+    for (at, (slot, volume)) in records.iter().enumerate() {
+        match first_named(&records[at + 1..], &volume.name) {
+            Some(next) => return Some((*slot, next.0)),
+            None => {}
+        }
+    }
+    None
+}
+
+/// What the bytes of a logical eraseblock are as a copy of the volume table. Never absent.
+pub fn copy_in(alloc: Global, geometry: &Geometry, leb: &[u8]) -> Result<CopyRead, AllocError>
+    requires { length leb.now ≡ leb_size geometry.now }
+    ensures { IfOk result (λ what. what ≡ copy_of geometry.now leb.now) }
+{
+    let (slots, _) = leb.as_chunks::<RECORD_SIZE>();
+    let mut records = Vec::new(alloc);
+    for slot in 0..geometry.slots() {
+        match read_rec(geometry, &slots[slot as usize]) {
+            RecRead::Empty => {}
+            RecRead::BadCrc => return Ok(CopyRead::Corrupt),
+            RecRead::Fault(fault) => return Ok(CopyRead::Faulty(slot, fault)),
+            RecRead::Valid(volume) => records.push((slot, volume))?,
+        }
+    }
+    match twice(records.as_slice()) {
+        Some((first, next)) => Ok(CopyRead::Twice(first, next)),
+        None => Ok(CopyRead::Good(Table::of(*geometry, records))),
+    }
+}
+
+/// What a copy of the volume table is, by the eraseblock that wins its logical eraseblock.
+pub fn read_copy(
+    alloc: Global,
+    blocks: &Blocks<'_>,
+    scan: &Scan,
+    c: u32,
+) -> Result<CopyRead, AllocError>
+    requires { IsScan blocks.now.sizes (eraseblocks blocks.now) scan.now }
+    ensures { IfOk result (CopyIs blocks.now.sizes (eraseblocks blocks.now) c) }
+{
+    match scan.winner(LAYOUT_VOLUME, c) {
+        None => Ok(CopyRead::Absent),
+        Some(p) => copy_in(alloc, &blocks.geometry(), blocks.leb(p)),
+    }
+}

@@ -1,0 +1,17 @@
+//! The volume table of an image: what each of its two copies is, which one decides, and the records of its volumes.
+//!
+//! A table is chosen from what a scan found, or refused with the first cause that stands. What it says of volumes is
+//! asked without taking memory; its bytes read back as it.
+#![tactic(auto)]
+
+mod choosing;
+mod copy;
+mod encode;
+pub mod laws;
+mod table;
+
+pub use choosing::choose;
+pub use table::Table;
+
+#[cfg(test)]
+mod tests;
