@@ -13,6 +13,7 @@ pub mod RecordBytes
 pub mod RecordVectors
 pub mod Records
 pub mod Register
+pub mod Sizes
 pub mod Table
 pub mod VidVectors
 pub mod Words

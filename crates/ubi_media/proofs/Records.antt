@@ -1,17 +1,18 @@
 -- Bytes have one reading as a record of the volume table, and of a record only the numbers can break a rule.
-use Rattle.std.proofs.Common.{◌≡◌, ◌≢◌, ℕ, zero, suc, ◌+◌, ◌-◌, ◌^◌, ◌<◌, ◌≤◌, ◌==◌, ◌&&◌, Bool, true, false, not, cond, get_or, nat_lt, List, [], ◌∷◌, length, take, replicate, refl, sym, ap, subst, ◌∙◌, lit<, arith, slice_index, slice_range, IfSome, eq-eqb, eqb-true}
+use Rattle.std.proofs.Common.{◌≡◌, ◌≢◌, ℕ, zero, suc, ◌+◌, ◌-◌, ◌%◌, ◌^◌, ◌<◌, ◌≤◌, ◌==◌, ◌&&◌, Bool, true, false, not, cond, get_or, nat_lt, List, [], ◌∷◌, length, take, replicate, refl, sym, ap, subst, ◌∙◌, lit<, arith, slice_index, slice_range, IfSome, eq-eqb, eqb-true}
 use Rattle.std.specs.Prelude.{◌↔◌, Option, Some, None, if◌then◌else◌, find}
 use Rattle.std.specs.Option.{option_map_or}
 use Rattle.std.specs.Cmp.Lexicographic.{same_text, other_text}
 use Rattle.std.proofs.lemmas.Bool.Decides.{nat_tests}
 use Rattle.std.proofs.lemmas.List.{take_at, drop_at}
+use Rattle.std.proofs.lemmas.Nat.{mod_below}
 use Rattle.byteorder.specs.Endian.{big_bytes, big_number}
 use Rattle.byteorder.specs.Numbers.{big_number-reads_back}
 use Rattle.ubi_media.specs.Check.{check}
 use Rattle.ubi_media.specs.Fields.{sealed, IsSealed, is_sealed, same_bytes}
-use Rattle.ubi_media.specs.Geometry.{Sizes}
+use Rattle.ubi_media.specs.Geometry.{Sizes, leb_size}
 use Rattle.ubi_media.specs.Name.{is_name}
-use Rattle.ubi_media.specs.Record.{RecIs, IsNumberFault, breaks, data_pad, empty_record, ends_at, faults, fields_from, first_fault, judged, rec_fault, rec_fields, rec_reading, record_of}
+use Rattle.ubi_media.specs.Record.{RecIs, IsNumberFault, breaks, data_pad, empty_record, ends_at, faults, fields_from, first_fault, judged, rec_fault, rec_fields, rec_reading, record_of, usable}
 use Rattle.ubi_media.specs.Vid.{kind_number}
 use Rattle.ubi_media.specs.declared.record.RecFault.{RecFault}
 use Rattle.ubi_media.specs.declared.record.RecFault.TheVariants as fault
@@ -35,7 +36,7 @@ not_false true h = refl
 not_false false h = absurd (h refl)
 
 -- where no element passes, each fails
-none_passes : {X : Type 0} (p : X → Bool) (xs : List X) → find p xs ≡ None → (i : ℕ) (d : X) → i < length xs → p (get_or xs i d) ≡ false
+pub none_passes : {X : Type 0} (p : X → Bool) (xs : List X) → find p xs ≡ None → (i : ℕ) (d : X) → i < length xs → p (get_or xs i d) ≡ false
 none_passes p [] e i d h = absurd (omega arith)
 none_passes p (x ∷ xs) e i d h =
     elim (p x) as (λ b. p x ≡ b → p (get_or (x ∷ xs) i d) ≡ false) [
@@ -69,6 +70,14 @@ module _ (s : Sizes) (f : RecFields) where
   pub divisor_kept : first_fault s f ≡ None → (f.alignment == 0) ≡ false
   unfolding breaks
   divisor_kept e = let h = kept e 2 (lit< tt) in not_true _ (λ t. let broken : breaks s f fault.Alignment ≡ true = rw t refl in cc)
+
+  alignment_kept : first_fault s f ≡ None → (1 ≤ f.alignment) × (f.alignment ≤ leb_size s)
+  unfolding breaks
+  alignment_kept e = let h = kept e 2 (lit< tt) in (grind (arith, nat_tests), grind (arith, nat_tests))
+
+  reserved_kept : first_fault s f ≡ None → 1 ≤ f.reserved
+  unfolding breaks
+  reserved_kept e = let h = kept e 0 (lit< tt) in grind (arith, nat_tests)
 
   pub signs_kept : first_fault s f ≡ None → (f.reserved < 2 ^ 31) × (f.alignment < 2 ^ 31)
   unfolding breaks
@@ -183,3 +192,18 @@ number_faults s r e =
     let blank : breaks s f fault.NameBlank ≡ false = unfold breaks fields_from in padded_begins r.name named in
     let ends : breaks s f fault.NameLength ≡ false = unfold breaks fields_from in ap not (padded_ends r.name named) in
     rw (pad, kind, marker, long, blank, ends) (of_numbers (breaks s f fault.NotEmpty) (breaks s f fault.Negative) (breaks s f fault.Alignment) (breaks s f fault.AlignmentPage))
+
+-- the numbers of a record that breaks no rule
+pub alignment_within : (s : Sizes) (r : VolumeRecord) → rec_fault s r ≡ None → (1 ≤ r.alignment) × (r.alignment ≤ leb_size s)
+unfolding fields_from
+alignment_within s r e = alignment_kept s (fields_from s r) e
+
+pub reserved_some : (s : Sizes) (r : VolumeRecord) → rec_fault s r ≡ None → 1 ≤ r.reserved
+unfolding fields_from
+reserved_some s r e = reserved_kept s (fields_from s r) e
+
+pub usable_some : (s : Sizes) (r : VolumeRecord) → rec_fault s r ≡ None → 1 ≤ usable s r
+usable_some s r e =
+    let w = alignment_within s r e in
+    let rest : leb_size s % r.alignment < r.alignment = mod_below (leb_size s) r.alignment (omega (arith, w.0)) in
+    omega (arith, w.1, rest)

@@ -16,6 +16,7 @@ mod record;
 mod refusal;
 mod vid;
 
+pub use bytes::is_blank;
 pub use check::{crc, crc_more};
 pub use ec::{EcFault, EcHeader, EcRead, read_ec, write_ec};
 pub use geometry::{Geometry, GeometryError, MOST_PEBS};

@@ -3,7 +3,7 @@
 ghost use Rattle.std.specs.Prelude.{◌≡◌, ◌==◌, ◌≤◌, ◌++◌, Some, None, true, IfSome, option_copied, position, replicate, take};
 ghost use Rattle.std.specs.Option.{ForSome};
 ghost use Rattle.ubi_media.specs.Name.{is_name};
-ghost use Rattle.ubi_media.specs.Record.{IsNumberFault, RecIs, breaks, empty_record, ends_at, fields_from, first_fault, judged, rec_bytes, rec_fault, rec_fields, rec_front, rec_reading, record_of, slot_reading};
+ghost use Rattle.ubi_media.specs.Record.{IsNumberFault, RecIs, breaks, data_pad, empty_record, ends_at, fields_from, first_fault, judged, rec_bytes, rec_fault, rec_fields, rec_front, rec_reading, record_of, slot_reading, usable};
 
 use crate::bytes::{put, put_u16, put_u32};
 use crate::check::{is_sealed, seal};
@@ -257,6 +257,29 @@ pub fn rec_fault(geometry: &Geometry, volume: &VolumeRecord) -> Option<RecFault>
     ensures number { IfSome result IsNumberFault }
 {
     fault_of(geometry, &fields_from(geometry, volume))
+}
+
+impl VolumeRecord {
+    /// The bytes at the end of each logical eraseblock that the volume leaves free, for its alignment.
+    ///
+    /// The record has to break no rule: [`rec_fault`] is None.
+    pub fn data_pad(&self, geometry: &Geometry) -> u32
+        requires { rec_fault geometry.now self.now ≡ None }
+        ensures { result ≡ data_pad geometry.now self.now }
+    {
+        geometry.leb_size() % self.alignment
+    }
+
+    /// The bytes of a logical eraseblock that the volume uses: a multiple of its alignment, and some.
+    ///
+    /// The record has to break no rule: [`rec_fault`] is None.
+    pub fn usable(&self, geometry: &Geometry) -> u32
+        requires { rec_fault geometry.now self.now ≡ None }
+        ensures value { result ≡ usable geometry.now self.now }
+        ensures some { 1 ≤ result }
+    {
+        geometry.leb_size() - self.data_pad(geometry)
+    }
 }
 
 /// The bytes of a record, with zeros in the place of its check.
