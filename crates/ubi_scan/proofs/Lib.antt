@@ -5,6 +5,7 @@ pub mod Clean
 pub mod Compatible
 pub mod Counted
 pub mod Decided
+pub mod Entries
 pub mod Finite
 pub mod Held
 pub mod Keys

@@ -3,9 +3,11 @@
 ghost use Rattle.std.specs.Prelude.{◌≡◌, ◌<◌, length, IfErr, IfOk};
 ghost use Rattle.ubi_media.specs.Geometry.{leb_size, slots};
 ghost use Rattle.ubi_scan.specs.Image.{IsSizeFault, IsWhole, block, ec, eraseblocks, leb, rec, vid};
+ghost use Rattle.ubi_scan.specs.Members.{member};
 
+use crate::header::member_of;
 use std::marker::Model;
-use ubi_media::{EcRead, Geometry, RECORD_SIZE, Refusal, VidRead, read_ec, read_vid};
+use ubi_media::{EcRead, Geometry, RECORD_SIZE, Refusal, VidHeader, VidRead, read_ec, read_vid};
 
 /// An image: whole eraseblocks of a geometry, at least one and no more than the device has.
 #[derive(Drop)]
@@ -122,5 +124,13 @@ impl<'a> Blocks<'a> {
         prove!(self.geometry.data_offset() <= self.geometry.peb_size());
         let header = &block[start..start + 64];
         read_vid(&self.geometry, header.first_chunk::<64>().unwrap())
+    }
+
+    /// The header by which an eraseblock is a member of a logical eraseblock, None where it is none.
+    pub fn member(&self, p: u32) -> Option<VidHeader>
+        requires { p < length (eraseblocks self.now) }
+        ensures { result ≡ member self.now.sizes (block (eraseblocks self.now) p) }
+    {
+        member_of(&self.ec(p), &self.vid(p))
     }
 }

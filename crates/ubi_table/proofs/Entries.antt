@@ -1,14 +1,11 @@
 -- Entries by rising number, as a finite map.
-use Rattle.std.proofs.Common.{◌≡◌, ℕ, suc, ◌+◌, ◌<◌, ◌≤◌, inl, inr, Bool, true, false, cond, ◌==◌, ◌&&◌, T, List, [], ◌∷◌, length, map, get_or, refl, ap, sym, ◌∙◌, subst, arith}
-use Rattle.std.specs.Prelude.{All, IsTrue, None, Some, find, fold, option_map}
+use Rattle.std.proofs.Common.{◌≡◌, ℕ, suc, ◌+◌, ◌<◌, ◌≤◌, inl, inr, Bool, true, false, ◌&&◌, T, List, [], ◌∷◌, length, map, get_or, refl, ap, sym, ◌∙◌, subst, arith}
+use Rattle.std.specs.Prelude.{All, IsTrue, None, fold}
 use Rattle.std.specs.Cmp.Lexicographic.{other_text}
-use Rattle.std.specs.FinMap as finite
-use Rattle.std.specs.FinMap.{from_entries, is_sorted, nat_cmp-IsAntisymmetric}
-use Rattle.std.specs.FinMap.Entries.{same_entries}
+use Rattle.std.specs.FinMap.{from_entries, is_sorted}
 use Rattle.std.specs.List.{sum_by}
-use Rattle.std.specs.Ordering.{eq_by_cmp, nat_cmp}
+use Rattle.std.specs.Ordering.{nat_cmp}
 use Rattle.std.specs.declared.cmp.Ordering.TheVariants.{Less}
-use Rattle.std.proofs.lemmas.Bool.Decides.{nat_tests}
 use Rattle.std.proofs.lemmas.Cmp.{nat_cmp_total, ranked}
 use Rattle.std.proofs.lemmas.List.{get_or_default}
 use Rattle.ubi_media.specs.Fields.{same_bytes}
@@ -16,7 +13,8 @@ use Rattle.ubi_media.specs.Geometry.{Sizes, slots}
 use Rattle.ubi_media.specs.Record.{rec_fault}
 use Rattle.ubi_media.specs.declared.record.VolumeRecord.{VolumeRecord}
 use Rattle.ubi_scan.proofs.Decided.{below_or_above}
-use Rattle.ubi_scan.proofs.Finite.{place_of, rising_at}
+use Rattle.ubi_scan.proofs.Entries.{entry_place, sorted_entries}
+use Rattle.ubi_scan.proofs.Finite.{rising_at}
 use Rattle.ubi_table.specs.Records.{AreRecords, space}
 use Rattle.ubi_table.specs.Slots.{AreKept}
 use Rattle.ubi_table.proofs.Names.{Entry, once_apart}
@@ -25,40 +23,14 @@ use Rattle.ubi_table.proofs.Names.{Entry, once_apart}
 pub true_of : (b : Bool) → b ≡ true → T b
 true_of b e = subst T (sym e) tt
 
--- sorted entries are those of their map
-pub entries_kept : (es : List Entry) → IsTrue (is_sorted nat_cmp es) → finite.entries (from_entries {R = nat_cmp} es) ≡ es
-entries_kept es h =
-    same_entries nat_cmp nat_cmp_total nat_cmp-IsAntisymmetric _ _ (finite.entries_sorted _) (true_of _ h)
-    (λ q. sym (finite.get-entries _ q) ∙ finite.get-from_entries nat_cmp_total es q)
-
--- the first entry with a number is what the map has there
-number_test : (id n : ℕ) → (n == id) ≡ eq_by_cmp nat_cmp id n
-number_test id n = grind (arith, nat_tests)
-
-pub get_kept : (es : List Entry) (id : ℕ) → option_map (λ (e : Entry). e.1) (find (λ (e : Entry). e.0 == id) es) ≡ finite.get (from_entries {R = nat_cmp} es) id
-get_kept es id = by_test es ∙ sym (finite.get-from_entries nat_cmp_total es id)
-  where
-    by_test : (es : List Entry) → option_map (λ (e : Entry). e.1) (find (λ (e : Entry). e.0 == id) es) ≡ finite.find nat_cmp id es
-    by_test [] = refl
-    by_test (e ∷ es) =
-        elim (e.0 == id) as (λ b. (e.0 == id) ≡ b → option_map (λ (e : Entry). e.1) (cond b (Some e) (find (λ (e : Entry). e.0 == id) es)) ≡ cond (eq_by_cmp nat_cmp id e.0) (Some e.1) (finite.find nat_cmp id es)) [
-          | true ↦ λ t. ap (λ b. cond b (Some e.1) (finite.find nat_cmp id es)) (sym t ∙ number_test id e.0)
-          | false ↦ λ t. by_test es ∙ ap (λ b. cond b (Some e.1) (finite.find nat_cmp id es)) (sym t ∙ number_test id e.0)
-        ] refl
-
--- what a map has at a number stands at a place of its entries
-pub place_at : (es : List Entry) (id : ℕ) (e : Entry) → finite.get (from_entries {R = nat_cmp} es) id ≡ Some e.1
-    → (i : ℕ) × (i < length es) × (get_or es i e ≡ (id, e.1))
-place_at es id e h = place_of nat_cmp_total nat_cmp-IsAntisymmetric id e.1 e es (sym (finite.get-from_entries nat_cmp_total es id) ∙ h)
-
 -- what a table keeps holds of its records
 pub kept_records : (s : Sizes) (es : List Entry) → AreKept s es → AreRecords (record { sizes = s; of = from_entries es })
 kept_records s es h = record {
-  slot = λ id r e. (let at = place_at es id (id, r) e in subst (λ (x : Entry). x.0 < slots s) at.2 (h.slot at.0 (id, r) at.1));
-  sound = λ id r e. (let at = place_at es id (id, r) e in subst (λ (x : Entry). rec_fault s x.1 ≡ None) at.2 (h.sound at.0 (id, r) at.1));
+  slot = λ id r e. (let at = entry_place es id r e in subst (λ (x : Entry). x.0 < slots s) at.2 (h.slot at.0 (id, r) at.1));
+  sound = λ id r e. (let at = entry_place es id r e in subst (λ (x : Entry). rec_fault s x.1 ≡ None) at.2 (h.sound at.0 (id, r) at.1));
   apart = λ i j r q e f same.
-      (let a = place_at es i (i, r) e in
-      let b = place_at es j (j, q) f in
+      (let a = entry_place es i r e in
+      let b = entry_place es j q f in
       let there : get_or es b.0 (i, r) ≡ (j, q) = get_or_default es b.0 (i, r) (j, q) b.1 ∙ b.2 in
       elim (below_or_above a.0 b.0) [
         | inl at ↦ ap (λ (x : Entry). x.0) (sym a.2 ∙ ap (λ k. get_or es k (i, r)) at ∙ there)
@@ -103,4 +75,4 @@ sum_values (e ∷ es) n = sum_values es (n + e.1.reserved)
 
 pub space_kept : (s : Sizes) (es : List Entry) → IsTrue (is_sorted nat_cmp es) → 2 + sum_by (λ (e : Entry). e.1.reserved) es ≡ space (record { sizes = s; of = from_entries es })
 space_kept s es h =
-    ap (λ n. 2 + n) (sym (ap (λ x. sum_by (λ r. r.reserved) (map (λ (e : Entry). e.1) x)) (entries_kept es h) ∙ sum_values es 0))
+    ap (λ n. 2 + n) (sym (ap (λ x. sum_by (λ r. r.reserved) (map (λ (e : Entry). e.1) x)) (sorted_entries es h) ∙ sum_values es 0))
