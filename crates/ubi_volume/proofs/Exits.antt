@@ -1,0 +1,42 @@
+-- How an attach ends, by what its parts answered.
+use Rattle.std.proofs.Common.{inl, inr, List, sym, subst}
+use Rattle.std.specs.Prelude.{IfErr, Result, Ok, Err}
+use Rattle.std.specs.Result.{IsErrAnd}
+use Rattle.ubi_media.specs.declared.refusal.AttachError.{AttachError}
+use Rattle.ubi_media.specs.declared.refusal.AttachError.TheVariants as attach
+use Rattle.ubi_media.specs.declared.refusal.Refusal.{Refusal}
+use Rattle.ubi_scan.specs.Faults.{NoFault}
+use Rattle.ubi_scan.specs.Image.{Image, IsWhole, eraseblocks}
+use Rattle.ubi_scan.specs.Scan.{Found, IsScan}
+use Rattle.ubi_table.specs.Records.{Records}
+use Rattle.ubi_table.specs.Table.{IsTable, IsTableError}
+use Rattle.ubi_volume.specs.Accepts.{IsAttachError, Refuses}
+use Rattle.ubi_volume.specs.Attached.{IsAttached}
+use Rattle.ubi_volume.specs.Counted.{IsVolumeFault, NoMismatch}
+use Rattle.ubi_volume.specs.Means.{Means}
+use Rattle.ubi_volume.specs.Meant.{Meant}
+use Rattle.ubi_volume.specs.States.{AreStates}
+use Rattle.ubi_volume.specs.declared.attached.BlockState.{BlockState}
+use Rattle.ubi_volume.proofs.Recorded.{records_meant}
+
+-- an error that is passed on
+pub passed_on : {T E : Type 0} (r : Result T E) (P Q : E → Type 0) → ((e : E) → P e → Q e) → IsErrAnd r P → IfErr r Q
+passed_on (Ok x) P Q f h = tt
+passed_on (Err e) P Q f h = f e h
+
+module _ (image : Image) (whole : IsWhole image) (clean : NoFault image.sizes (eraseblocks image)) where
+  pub table_refused : (e : AttachError) → IsTableError image.sizes (eraseblocks image) e → IsAttachError image e
+  table_refused attach.Memory h = tt
+  table_refused (attach.Refused c) h = inr (whole, inr (inl (clean, h)))
+
+  pub volume_refused : (t : Records) (c : Refusal) → IsTable image.sizes (eraseblocks image) t → IsVolumeFault image.sizes (eraseblocks image) t c → Refuses image c
+  volume_refused t c is h = inr (whole, inr (inr (clean, t, is, h)))
+
+  pub attached : (found : Found) (t : Records) (m : Meant) (states : List BlockState) → IsScan image.sizes (eraseblocks image) found → IsTable image.sizes (eraseblocks image) t
+      → NoMismatch image.sizes (eraseblocks image) t → Means image.sizes (eraseblocks image) t m → AreStates image.sizes (eraseblocks image) t states
+      → IsAttached image (record { meaning = m; scan = found; states = states })
+  attached found t m states scan is alike means are = record {
+    accepted = record { whole = whole; accepted = record { clean = clean; records = t; table = is; alike = alike; means = means } };
+    scan = scan;
+    states = subst (λ (r : Records). AreStates image.sizes (eraseblocks image) r states) (sym (records_meant image.sizes (eraseblocks image) t m is means)) are;
+  }

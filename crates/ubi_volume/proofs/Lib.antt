@@ -1,0 +1,12 @@
+pub mod Alike
+pub mod Blanks
+pub mod Dynamic
+pub mod Exits
+pub mod Gathered
+pub mod Mismatches
+pub mod One
+pub mod Recorded
+pub mod MemberStates
+pub mod Static
+pub mod Tables
+pub mod Winners

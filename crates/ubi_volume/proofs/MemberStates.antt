@@ -1,0 +1,60 @@
+-- The states of members, by what a scan says of them.
+use Rattle.std.proofs.Common.{◌≡◌, ℕ, ◌<◌, ◌⊎◌, inl, inr, Bool, true, false, List, [], ◌∷◌, ◌++◌, length, get_or, ap, sym, ◌∙◌, subst, arith, length-append}
+use Rattle.std.specs.Prelude.{IfSome, Option, Some, slice_get}
+use Rattle.std.proofs.lemmas.List.{get_or_append_left}
+use Rattle.std.proofs.lemmas.Option.{slice_get-get_or, slice_get_past}
+use Rattle.std.proofs.Math.Seq.{get_or-append_seam}
+use Rattle.ubi_media.specs.Geometry.{Sizes}
+use Rattle.ubi_media.specs.declared.vid.VidHeader.{VidHeader}
+use Rattle.ubi_scan.specs.Image.{block}
+use Rattle.ubi_scan.specs.Members.{IsMember, Leb, Wins, leb_of, member}
+use Rattle.ubi_table.specs.Records.{Records}
+use Rattle.ubi_volume.specs.States.{MemberStateIs, StateIs}
+use Rattle.ubi_volume.specs.declared.attached.BlockState.{BlockState}
+use Rattle.ubi_volume.specs.declared.attached.BlockState.TheVariants as state
+use Rattle.ubi_volume.proofs.Winners.{named_by}
+
+module _ (s : Sizes) (bs : List (List ℕ)) (t : Records) (p : ℕ) where
+  by_leb : (of : Leb) → IsMember s bs of p → (wins : Bool) → (wins ≡ true → Wins s bs of p) → (wins ≡ false → Wins s bs of p → ⊥)
+      → (b : BlockState) → MemberStateIs t of wins b → StateIs s bs t p b
+  by_leb of m wins w l state.Blank h = absurd h
+  by_leb of m wins w l state.Free h = absurd h
+  by_leb of m wins w l state.Garbage h = absurd h
+  by_leb of m wins w l state.Corrupt h = absurd h
+  by_leb of m wins w l state.Dropped h = absurd h
+  by_leb of m wins w l state.Orphan h = (of, m, h)
+  by_leb of m wins w l state.Table h = (of.1, subst (λ (vol : ℕ). Wins s bs (vol, of.1) p) h.1 (w h.0))
+  by_leb of m wins w l state.Used h = (of, w h.0, h.1, h.2)
+  by_leb of m wins w l state.Stale h = (of, m, l h.0, h.1)
+
+  module _ (h : VidHeader) (e : member s (block bs p) ≡ Some h) where
+    moved : (P : Leb → Type 0) (of : Leb) → IsMember s bs of p → P of → P (leb_of h)
+    moved P of m x = subst P (named_by s bs of p h m e) x
+
+    pub winner_state : (of : Leb) → Wins s bs of p → (b : BlockState) → MemberStateIs t (leb_of h) true b → StateIs s bs t p b
+    winner_state of w b k =
+        by_leb (leb_of h) (moved (λ of. IsMember s bs of p) of w.member w.member) true (λ e. moved (λ of. Wins s bs of p) of w.member w) (λ e. absurd (cc)) b k
+
+    pub beaten_state : (of : Leb) → IsMember s bs of p → (Wins s bs of p → ⊥) → (b : BlockState) → MemberStateIs t (leb_of h) false b → StateIs s bs t p b
+    beaten_state of m l b k =
+        by_leb (leb_of h) (moved (λ of. IsMember s bs of p) of m m) false (λ e. absurd (cc)) (λ e. moved (λ of. Wins s bs of p → ⊥) of m l) b k
+
+-- one more state behind the others
+last_or_below : (q n : ℕ) → (q < n) ⊎ (q ≡ n) ⊎ (n < q)
+last_or_below q n = grind arith
+
+pub states_more : (P : ℕ → BlockState → Type 0) (xs : List BlockState) (x : BlockState) (n : ℕ) → length xs ≡ n → ((q : ℕ) → IfSome (slice_get xs q) (P q)) → P n x
+    → (q : ℕ) → IfSome (slice_get (xs ++ x ∷ []) q) (P q)
+states_more P xs x n size h new q =
+    let len = length-append xs (x ∷ []) in
+    elim (last_or_below q n) [
+      | inl below ↦
+          let old : IfSome (Some (get_or xs q state.Blank)) (P q) = subst (λ (o : Option BlockState). IfSome o (P q)) (slice_get-get_or xs q state.Blank (omega arith)) (h q) in
+          subst (λ (o : Option BlockState). IfSome o (P q)) (sym (slice_get-get_or (xs ++ x ∷ []) q state.Blank (omega arith) ∙ ap Some (get_or_append_left xs (x ∷ []) state.Blank q (omega arith)))) old
+      | inr o ↦ elim o [
+        | inl same ↦
+            let here : get_or (xs ++ x ∷ []) q state.Blank ≡ x = ap (λ k. get_or (xs ++ x ∷ []) k state.Blank) (same ∙ sym size) ∙ get_or-append_seam xs x [] state.Blank in
+            subst (λ (o : Option BlockState). IfSome o (P q)) (sym (slice_get-get_or (xs ++ x ∷ []) q state.Blank (omega arith) ∙ ap Some here)) (subst (λ (k : ℕ). P k x) (sym same) new)
+        | inr past ↦ subst (λ (o : Option BlockState). IfSome o (P q)) (sym (slice_get_past (xs ++ x ∷ []) q (omega arith))) tt
+      ]
+    ]

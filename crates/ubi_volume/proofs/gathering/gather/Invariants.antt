@@ -1,0 +1,7 @@
+use Rattle.std.proofs.Common.{take, vec_items}
+use Rattle.ubi_scan.specs.Image.{eraseblocks}
+use Rattle.ubi_volume.specs.Gathered.{AreContents}
+use Rattle.ubi_volume.proofs.gathering.gather.Given as goal
+
+abbrev pub invariant-loop-listed : goal.invariant-loop-listed
+invariant-loop-listed l = AreContents l.blocks.sizes (eraseblocks l.blocks) (take l.listed-index l.listed-items) (vec_items l.volumes)

@@ -1,0 +1,60 @@
+-- What is gathered of a volume, piece by piece.
+use Rattle.std.specs.Prelude.{◌≡◌, ◌≢◌, ℕ, ◌<◌, ◌≤◌, ◌⊎◌, List, Option, None, All, IfSome, MatchOption, length, map, unwrap_or, flat_map, slice_index}
+use Rattle.std.specs.FinMap.{FinMap, get}
+use Rattle.std.specs.Option.{option_map_or}
+use Rattle.std.specs.Ordering.{nat_cmp}
+use Rattle.ubi_media.specs.Fields.{blank}
+use Rattle.ubi_media.specs.Geometry.{Sizes}
+use Rattle.ubi_media.specs.Record.{usable}
+use Rattle.ubi_media.specs.declared.record.VolumeRecord.{VolumeRecord}
+use Rattle.ubi_scan.specs.Image.{block}
+use Rattle.ubi_scan.specs.Members.{NoMember, Wins, member}
+use Rattle.ubi_volume.specs.Meant.{Fits, KeepsNoBlank}
+use Rattle.ubi_volume.specs.Reads.{IsPiece, LebReads, VolumeReads, piece}
+use Rattle.ubi_volume.specs.declared.content.Content.{Content}
+use Rattle.ubi_volume.specs.declared.content.Volume.{Volume}
+
+-- what a volume with this record reads, as a meaning keeps it
+pub record ContentIs (s : Sizes) (bs : List (List ℕ)) (vol : ℕ) (r : VolumeRecord) (c : Content) : Type 0 where
+  pub reads : VolumeReads s bs vol r c
+  pub fits : Fits s r c
+  pub kept : KeepsNoBlank s r c
+
+-- what is kept of a LEB: its text, but where that is 0xFF throughout
+pub record LebKept (s : Sizes) (bs : List (List ℕ)) (vol : ℕ) (r : VolumeRecord) (lnum : ℕ) (text : Option (List ℕ)) : Type 0 where
+  pub reads : LebReads s bs vol r lnum (unwrap_or text (blank (usable s r)))
+  pub size : IfSome text (λ t. length t ≡ usable s r)
+  pub some : IfSome text (λ t. t ≢ blank (usable s r))
+
+-- the LEBs below n are kept, and no others
+pub record AreGathered (s : Sizes) (bs : List (List ℕ)) (vol : ℕ) (r : VolumeRecord) (n : ℕ) (lebs : FinMap nat_cmp (List ℕ)) : Type 0 where
+  pub below : (lnum : ℕ) → lnum < n → LebKept s bs vol r lnum (get lebs lnum)
+  pub none : (lnum : ℕ) → n ≤ lnum → get lebs lnum ≡ None
+
+-- how many LEBs its first winner says that a static volume uses, 0 where it has none
+abbrev pub used_in : Sizes → List (List ℕ) → ℕ → ℕ
+used_in s bs p = option_map_or (λ h. h.used_ebs) (member s (block bs p)) 0
+
+abbrev pub UsedIs : Sizes → List (List ℕ) → ℕ → ℕ → Type 0
+UsedIs s bs vol used =
+    (((lnum : ℕ) → NoMember s bs (vol, lnum)) × (used ≡ 0))
+    ⊎ ((lnum p : ℕ) × Wins s bs (vol, lnum) p × (used_in s bs p ≡ used))
+
+-- the piece of a text of so many LEBs that the winner of a LEB holds, if it holds one
+abbrev pub PieceIs : Sizes → List (List ℕ) → ℕ → ℕ → ℕ → Option (List ℕ) → Type 0
+PieceIs s bs vol used lnum held = MatchOption held
+    ((p : ℕ) → Wins s bs (vol, lnum) p → IsPiece s bs used p → ⊥)
+    (λ text. (p : ℕ) × Wins s bs (vol, lnum) p × IsPiece s bs used p × (text ≡ piece s bs p))
+
+-- the text of the first n pieces
+pub record AreRead (s : Sizes) (bs : List (List ℕ)) (vol used n : ℕ) (text : List ℕ) : Type 0 where
+  pub ps : List ℕ
+  pub count : length ps ≡ n
+  pub win : (lnum : ℕ) → lnum < n → Wins s bs (vol, lnum) (slice_index ps lnum)
+  pub pieces : (lnum : ℕ) → lnum < n → IsPiece s bs used (slice_index ps lnum)
+  pub joined : text ≡ flat_map (piece s bs) ps
+
+-- the volume of an entry is its record and what it reads, for each of the entries
+pub record AreContents (s : Sizes) (bs : List (List ℕ)) (entries : List (ℕ × VolumeRecord)) (volumes : List (ℕ × Volume)) : Type 0 where
+  pub alike : map (λ v. (v.0, v.1.entry)) volumes ≡ entries
+  pub contents : All (λ v. ContentIs s bs v.0 v.1.entry v.1.content) volumes

@@ -1,0 +1,27 @@
+-- Laws of the definitions, as they stand on functions that do nothing.
+use Rattle.std.specs.Prelude.{◌≡◌, ℕ, ◌⊎◌, List, IsPermutation}
+use Rattle.ubi_media.specs.Geometry.{Sizes, IsGeometry}
+use Rattle.ubi_media.specs.declared.refusal.Refusal.{Refusal}
+use Rattle.ubi_scan.specs.Image.{Image}
+use Rattle.ubi_volume.specs.Accepts.{Accepts, AcceptsBlocks, Refuses}
+use Rattle.ubi_volume.specs.Meant.{Meant}
+
+-- an image has at most one meaning
+abbrev pub OneMeaning : Type 0
+OneMeaning = (image : Image) (m n : Meant) → Accepts image m → Accepts image n → m ≡ n
+
+-- an image that is accepted isn't refused
+abbrev pub NeverBoth : Type 0
+NeverBoth = (image : Image) (m : Meant) (c : Refusal) → Accepts image m → Refuses image c → ⊥
+
+-- an image is refused for one cause at most
+abbrev pub OneCause : Type 0
+OneCause = (image : Image) (c d : Refusal) → IsGeometry image.sizes → Refuses image c → Refuses image d → c ≡ d
+
+-- an image is accepted or refused
+abbrev pub OneOrOther : Type 0
+OneOrOther = (image : Image) → IsGeometry image.sizes → ((m : Meant) × Accepts image m) ⊎ ((c : Refusal) × Refuses image c)
+
+-- the eraseblocks of an accepted image are accepted in any order, with the same meaning
+abbrev pub Reorder : Type 0
+Reorder = (s : Sizes) (bs cs : List (List ℕ)) (m : Meant) → IsPermutation bs cs → AcceptsBlocks s bs m → AcceptsBlocks s cs m

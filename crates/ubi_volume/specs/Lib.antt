@@ -1,0 +1,13 @@
+pub mod Known
+pub mod Meant
+pub mod Counted
+pub mod Reads
+pub mod Means
+pub mod Accepts
+pub mod Gathered
+pub mod States
+pub mod Attached
+pub mod Laws
+pub mod Reading
+pub mod Writing
+pub mod Coded

@@ -1,0 +1,72 @@
+-- A meaning: volumes by their number, each with its record and what it reads.
+use Rattle.std.specs.Prelude.{◌≡◌, ◌≢◌, ℕ, ◌+◌, ◌*◌, ◌<◌, ◌≤◌, true, false, IsTrue, List, map, Some, None, IfSome, refl, sum_by, length}
+use Rattle.std.specs.Ordering.{nat_cmp}
+use Rattle.std.specs.FinMap.{FinMap, get, entries, from_entries, is_sorted, values, code}
+use Rattle.std.specs.Coded.{Coded, code_by, coded×, coded_ℕ}
+use Rattle.ubi_media.specs.Fields.{blank}
+use Rattle.ubi_media.specs.Geometry.{Sizes, slots}
+use Rattle.ubi_media.specs.Record.{usable, rec_fault}
+use Rattle.ubi_media.specs.declared.record.VolumeRecord.{VolumeRecord}
+use Rattle.ubi_media.specs.declared.vid.VolKind.TheVariants as kind
+use Rattle.ubi_table.specs.Records.{Records, sizes_code}
+use Rattle.ubi_volume.specs.declared.content.Volume.{Volume}
+use Rattle.ubi_volume.specs.declared.content.Content.{Content}
+use Rattle.ubi_volume.specs.declared.content.Content.TheVariants as content
+use Rattle.ubi_volume.specs.contracts.content.Volume as volume_type
+
+abbrev pub VolumeMap : Type 0
+VolumeMap = FinMap nat_cmp Volume
+
+abbrev pub volumes_code : Coded VolumeMap
+volumes_code = code coded_ℕ volume_type.the_row.coded
+
+-- volumes under sizes
+pub record Meant : Type 0 where
+  pub sizes : Sizes
+  pub volumes : VolumeMap
+
+abbrev pub meant_code : Coded Meant
+meant_code =
+    code_by (Sizes × VolumeMap) (coded× sizes_code volumes_code) (λ m. (m.sizes, m.volumes))
+    (λ p. record { sizes = p.0; volumes = p.1 }) (λ _. refl)
+
+-- the records of a meaning
+abbrev pub records_of : Meant → Records
+records_of m = record { sizes = m.sizes; of = from_entries (map (λ e. (e.0, e.1.entry)) (entries m.volumes)) }
+
+-- a content is one that its volume can have
+abbrev pub Fits : Sizes → VolumeRecord → Content → Type 0
+Fits s r content.Updating = r.marker ≡ true
+Fits s r content.Damaged = (r.marker ≡ false) × (r.kind ≡ kind.Static)
+Fits s r (content.Static text) = (r.marker ≡ false) × (r.kind ≡ kind.Static) × (length text ≤ r.reserved * usable s r)
+Fits s r (content.Dynamic lebs) =
+    (r.marker ≡ false) × (r.kind ≡ kind.Dynamic)
+    × ((lnum : ℕ) → IfSome (get lebs lnum) (λ text. (lnum < r.reserved) × (length text ≡ usable s r)))
+
+-- no LEB that is 0xFF throughout is kept
+abbrev pub KeepsNoBlank : Sizes → VolumeRecord → Content → Type 0
+KeepsNoBlank s r (content.Dynamic lebs) = (lnum : ℕ) → IfSome (get lebs lnum) (λ text. text ≢ blank (usable s r))
+KeepsNoBlank s r _ = Unit {0}
+
+-- one volume of a meaning
+pub record IsVolume (s : Sizes) (id : ℕ) (v : Volume) : Type 0 where
+  pub slot : id < slots s
+  pub sound : rec_fault s v.entry ≡ None
+  pub fits : Fits s v.entry v.content
+  pub kept : KeepsNoBlank s v.entry v.content
+
+-- two volumes of one name are one
+abbrev pub HasDistinctNames : VolumeMap → Type 0
+HasDistinctNames volumes =
+    (i j : ℕ) (v w : Volume) → get volumes i ≡ Some v → get volumes j ≡ Some w → v.entry.name ≡ w.entry.name → i ≡ j
+
+-- just such values are meanings
+pub record IsMeaning (m : Meant) : Type 0 where
+  pub each : (id : ℕ) → IfSome (get m.volumes id) (IsVolume m.sizes id)
+  pub names : HasDistinctNames m.volumes
+  pub space : 2 + sum_by (λ v. v.entry.reserved) (values m.volumes) ≤ m.sizes.pebs
+
+-- what a meaning keeps of its volumes: they stand by rising number
+pub record AreVolumes (s : Sizes) (items : List (ℕ × Volume)) : Type 0 where
+  pub sorted : IsTrue (is_sorted nat_cmp items)
+  pub meaning : IsMeaning (record { sizes = s; volumes = from_entries items })

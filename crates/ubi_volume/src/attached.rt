@@ -1,0 +1,95 @@
+//! An image, attached.
+
+ghost use Rattle.std.specs.Prelude.{◌≡◌, ◌<◌, Some, length, slice_get};
+ghost use Rattle.std.specs.FinMap as finite;
+
+use crate::meaning::Meaning;
+use std::marker::Model;
+use ubi_scan::Scan;
+
+/// What an attach says of an eraseblock.
+#[derive(Clone, Copy, Debug, PartialEq, Eq)]
+pub enum BlockState {
+    /// The erase-counter header is blank.
+    Blank,
+    /// The erase-counter header can be read, the volume-identifier header is blank.
+    Free,
+    /// The erase-counter header can be read, the volume-identifier header is corrupt.
+    Garbage,
+    /// The erase-counter header is corrupt, and so is the volume-identifier header, or it is blank.
+    Corrupt,
+    /// It belongs to an internal volume that may be dropped.
+    Dropped,
+    /// It is a member of a volume without a record, or of a dynamic one beyond what that reserves.
+    Orphan,
+    /// It wins a logical eraseblock of the layout volume.
+    Table,
+    /// It is any other winner.
+    Used,
+    /// It is any other member.
+    Stale,
+}
+
+/// The meaning of an image, and what is known of its eraseblocks.
+#[derive(Drop)]
+pub struct Attached {
+    pub(crate) meaning: Meaning,
+    pub(crate) scan: Scan,
+    pub(crate) states: Vec<BlockState>,
+}
+
+impl Model for Attached {
+    ghost use Rattle.ubi_volume.specs.Attached.{Whole};
+    ghost use Rattle.ubi_volume.specs.Coded.{whole_code};
+
+    ghost Value = { Whole };
+
+    ghost coded = { whole_code };
+
+    ghost view = { λ a. record { meaning = a.meaning; scan = a.scan; states = a.states.items } };
+}
+
+impl Attached {
+    /// What the image means.
+    pub fn meaning(&self) -> &Meaning
+        ensures { result.now ≡ self.now.meaning }
+    {
+        &self.meaning
+    }
+
+    /// What is said of an eraseblock.
+    pub fn state(&self, p: u32) -> BlockState
+        requires { p < length self.now.states }
+        ensures { slice_get self.now.states p ≡ Some result }
+    {
+        self.states[p as usize]
+    }
+
+    /// The eraseblock that wins a logical eraseblock of a volume, None where it has no member.
+    pub fn winner(&self, vol: u32, lnum: u32) -> Option<u32>
+        ensures { result ≡ finite.get self.now.scan.winners (vol, lnum) }
+    {
+        self.scan.winner(vol, lnum)
+    }
+
+    /// The greatest sequence number of a member or a dropped eraseblock, 0 if there is none.
+    pub fn top_sqnum(&self) -> u64
+        ensures { result ≡ self.now.scan.top_sqnum }
+    {
+        self.scan.top_sqnum()
+    }
+
+    /// The image sequence number: the first one that isn't zero, 0 if there is none.
+    pub fn image_seq(&self) -> u32
+        ensures { result ≡ self.now.scan.image_seq }
+    {
+        self.scan.image_seq()
+    }
+
+    /// The mean of the erase counters that can be read, rounded down, 0 if there are none.
+    pub fn mean_ec(&self) -> u32
+        ensures { result ≡ self.now.scan.mean_ec }
+    {
+        self.scan.mean_ec()
+    }
+}

@@ -1,0 +1,18 @@
+//! Why a volume isn't read.
+
+/// Why a volume, or one of its logical eraseblocks, isn't read.
+#[derive(Clone, Copy, Debug, PartialEq, Eq)]
+pub enum ReadError {
+    /// No volume has the number.
+    NoVolume,
+    /// An update of the volume began that didn't end.
+    Updating,
+    /// The volume is static, and isn't whole.
+    Damaged,
+    /// The volume hasn't the logical eraseblock.
+    OutOfRange,
+    /// A write failed, after so many bytes were written.
+    Write(u64),
+    /// Memory ran out.
+    Memory,
+}

@@ -1,0 +1,13 @@
+//! Laws of the definitions that the contracts cite, each as the contract of a function that does nothing.
+
+ghost use Rattle.ubi_volume.specs.Laws.{NeverBoth, OneMeaning};
+
+/// An image has one meaning at most.
+pub fn one_meaning()
+    ensures { OneMeaning }
+{}
+
+/// An image that is accepted isn't refused.
+pub fn never_both()
+    ensures { NeverBoth }
+{}

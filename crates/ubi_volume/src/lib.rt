@@ -1,0 +1,22 @@
+//! What an image means: its volumes with what they read, and the state of each of its eraseblocks.
+//!
+//! An image is attached, and is then accepted with its one meaning or refused with the first cause that stands. A meaning
+//! is read volume by volume, or one logical eraseblock at a time.
+#![tactic(auto)]
+
+mod attached;
+mod attaching;
+mod content;
+mod errors;
+mod gathering;
+pub mod laws;
+mod meaning;
+mod mismatch;
+mod states;
+mod static_text;
+
+pub use attached::{Attached, BlockState};
+pub use attaching::attach;
+pub use content::{Bytes, Content, Lebs, Volume};
+pub use errors::ReadError;
+pub use meaning::Meaning;
