@@ -37,8 +37,6 @@ pub enum Refusal {
     NoSpace,
     /// An eraseblock is unlike the record of its volume.
     Mismatch(u32),
-    /// The image isn't refused for good: what it holds isn't read yet.
-    Later,
 }
 
 /// Why an image couldn't be attached.

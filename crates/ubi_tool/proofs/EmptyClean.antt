@@ -1,19 +1,21 @@
 -- No eraseblock of the empty table's normal image has a fault.
-use Rattle.std.proofs.Common.{◌≡◌, ℕ, zero, suc, ◌<◌, List, [], ◌∷◌, Some, None, inl, inr, refl, sym, ap, subst, ◌∙◌, arith}
-use Rattle.std.specs.Prelude.{option_map}
+use Rattle.std.proofs.Common.{◌≡◌, ℕ, zero, suc, ◌<◌, ◌≤◌, List, [], ◌∷◌, Some, None, inl, inr, refl, sym, ap, subst, ◌∙◌, arith}
+use Rattle.std.specs.Option.{option_map_or}
+use Rattle.std.specs.Prelude.{Option, false, option_map}
 use Rattle.std.proofs.Math.Path.{ap₂}
 use Rattle.std.proofs.lemmas.Bool.Decides.{nat_tests}
 use Rattle.ubi_media.specs.Geometry.{Sizes, IsGeometry}
 use Rattle.ubi_media.specs.Vid.{breaks, fields_from, first_fault, vid_bytes, vid_fault, vid_reading}
+use Rattle.ubi_media.specs.declared.vid.VidHeader.{VidHeader}
 use Rattle.ubi_media.specs.declared.vid.VidRead.TheVariants.{Valid}
 use Rattle.ubi_media.proofs.Headers.{Fits, vid_read_back}
 use Rattle.ubi_media.proofs.Readings.{one_vid_reading}
 use Rattle.ubi_scan.specs.Clean.{IsClean, IsSound}
 use Rattle.ubi_scan.specs.Faults.{IsMislaid}
 use Rattle.ubi_scan.specs.Image.{block, vid}
-use Rattle.ubi_scan.specs.Members.{Leb, foreign, foreign_if, layout, leb_of, member, member_if, named_in}
+use Rattle.ubi_scan.specs.Members.{Leb, foreign, foreign_if, Wins, is_good, layout, leb_of, member, member_if, named_in, sqnum_in}
 use Rattle.ubi_scan.specs.Numbers.{seq_if, seq_of}
-use Rattle.ubi_tool.specs.EmptyTable.{copy_block, layout_header}
+use Rattle.ubi_tool.specs.EmptyImage.{copy_block, layout_header}
 use Rattle.ubi_tool.proofs.EmptyBlock.{reading-copy_block, vid_area-copy_block}
 
 -- what holds of two eraseblocks holds of each place
@@ -86,4 +88,17 @@ module _ (s : Sizes) (g : IsGeometry s) where
         sound = each (λ p x. IsSound s x) a b (sound 0 (omega arith)) (sound 1 (omega arith));
         one_image = λ p q l k some other. absurd (some (each (λ p x. seq_of s x ≡ 0) a b (seq-copy_block 0) (seq-copy_block 1) p l));
         apart = λ of p q m n same. ap (λ e. e.1) (some_same {A = Leb} (layout, p) (layout, q) (sym (names p m.inside) ∙ m.named ∙ sym n.named ∙ names q n.inside));
+      }
+
+  -- the first of them wins its LEB
+  pub first_wins : Wins s (copy_block s 0 ∷ copy_block s 1 ∷ []) (layout, 0) 0
+  first_wins =
+      let a = copy_block s 0 in
+      let b = copy_block s 1 in
+      let bs = a ∷ b ∷ [] in
+      let header = member-copy_block 0 (omega arith) in
+      let zero_in : (copy : ℕ) → copy < 2 → sqnum_in s (copy_block s copy) ≡ 0 = λ copy l. ap (λ (o : Option VidHeader). option_map_or (λ h. h.sqnum) o 0) (member-copy_block copy l) in
+      record {
+        member = record { inside = omega arith; named = named-copy_block 0 (omega arith) };
+        best = inl (ap (λ (o : Option VidHeader). option_map_or (is_good s a) o false) header, λ q m good. (let n = each (λ p x. sqnum_in s x ≡ 0) a b (zero_in 0 (omega arith)) (zero_in 1 (omega arith)) q m.inside in omega arith));
       }

@@ -1,27 +1,22 @@
 -- The normal image of the empty table is accepted.
-use Rattle.std.proofs.Common.{◌≡◌, ℕ, ◌+◌, ◌*◌, ◌/◌, ◌<◌, ◌≤◌, List, [], ◌∷◌, ◌++◌, true, false, length, take, drop, refl, ap, ◌∙◌, length-append, arith}
+use Rattle.std.proofs.Common.{◌≡◌, ℕ, ◌+◌, ◌*◌, ◌/◌, ◌%◌, ◌<◌, ◌≤◌, inl, inr, List, [], ◌∷◌, ◌++◌, length, take, drop, refl, ap, ◌∙◌, length-append, arith}
 use Rattle.std.specs.Simd.{first_chunks}
 use Rattle.std.proofs.lemmas.List.{take_all, take_at, drop_at}
 use Rattle.std.proofs.lemmas.Nat.{div-mul-add, mul-le}
 use Rattle.std.proofs.Math.Nat.{mul-add-mod_self_right}
-use Rattle.ubi_media.specs.Check.{check_from, remainder}
-use Rattle.ubi_media.specs.Fields.{same_bytes}
 use Rattle.ubi_media.specs.Geometry.{Sizes, IsGeometry}
-use Rattle.ubi_media.specs.Vid.{vid_bytes, fields_from}
+use Rattle.ubi_scan.specs.Faults.{NoFault}
 use Rattle.ubi_scan.specs.Image.{IsWhole, eraseblocks}
 use Rattle.ubi_scan.proofs.Clean.{none_from_clean}
-use Rattle.ubi_tool.specs.Attach.{Accepts}
-use Rattle.ubi_tool.specs.EmptyTable.{copy_block, empty_image, layout_header, means_empty}
-use Rattle.ubi_tool.proofs.EmptyBlock.{copies-copy_block, length-copy_block, same_as_itself, used-copy_block}
-use Rattle.ubi_tool.proofs.EmptyClean.{clean}
-
-other_header : same_bytes (vid_bytes (layout_header 0)) (vid_bytes (layout_header 1)) ≡ false
-unfolding fields_from check_from remainder
-other_header = refl
-
-one_header : same_bytes (vid_bytes (layout_header 1)) (vid_bytes (layout_header 0)) ≡ false
-unfolding fields_from check_from remainder
-one_header = refl
+use Rattle.ubi_table.specs.Records.{no_records}
+use Rattle.ubi_table.specs.Table.{IsTable}
+use Rattle.ubi_table.proofs.Held.{no_records_are, table_written}
+use Rattle.ubi_volume.proofs.Gathered.{no_space}
+use Rattle.ubi_tool.specs.EmptyImage.{copy_block, empty_image}
+use Rattle.ubi_tool.specs.Normalise.{MeansNothing}
+use Rattle.ubi_tool.proofs.EmptyBlock.{leb-copy_block, length-copy_block}
+use Rattle.ubi_tool.proofs.EmptyClean.{clean, first_wins}
+use Rattle.ubi_tool.proofs.EmptyMeaning.{means_nothing}
 
 -- two pieces of a size
 two_chunks : (size : ℕ) (xs ys : List ℕ) → length xs ≡ size → length ys ≡ size → 0 < size
@@ -54,13 +49,11 @@ module _ (s : Sizes) (g : IsGeometry s) where
         fits = rw length-image (omega (arith, room));
       }
 
-  means : means_empty s (copy_block s 0 ∷ copy_block s 1 ∷ []) ≡ true
-  means =
-      rw (used-copy_block s g 0, used-copy_block s g 1, copies-copy_block s g 0 0, copies-copy_block s g 1 0, copies-copy_block s g 0 1, copies-copy_block s g 1 1, other_header, one_header, same_as_itself (vid_bytes (layout_header 0)), same_as_itself (vid_bytes (layout_header 1))) refl
+  no_fault : NoFault s (copy_block s 0 ∷ copy_block s 1 ∷ [])
+  no_fault = none_from_clean s (copy_block s 0 ∷ copy_block s 1 ∷ []) (clean s g)
 
-  pub accepted : Accepts (record { sizes = s; bytes = empty_image s })
-  accepted = record {
-    whole = whole;
-    clean = rw two_blocks (none_from_clean s (copy_block s 0 ∷ copy_block s 1 ∷ []) (clean s g));
-    empty = rw two_blocks means;
-  }
+  table : IsTable s (copy_block s 0 ∷ copy_block s 1 ∷ []) (no_records s)
+  table = table_written s (copy_block s 0 ∷ copy_block s 1 ∷ []) 0 (no_records s) _ refl (no_records_are s) (no_space s g) (first_wins s g) (leb-copy_block s g 0)
+
+  pub accepted : MeansNothing (record { sizes = s; bytes = empty_image s })
+  accepted = record { whole = whole; accepted = rw two_blocks (means_nothing s g (copy_block s 0 ∷ copy_block s 1 ∷ []) no_fault table) }

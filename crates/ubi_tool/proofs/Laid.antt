@@ -4,7 +4,7 @@ use Rattle.std.specs.Prelude.{slice_range}
 use Rattle.std.proofs.lemmas.List.{length-replicate, take_at, drop_at}
 use Rattle.ubi_media.specs.Fields.{blank, filled}
 use Rattle.ubi_media.specs.Geometry.{Sizes, IsGeometry}
-use Rattle.ubi_tool.specs.EmptyTable.{laid}
+use Rattle.ubi_tool.specs.EmptyImage.{laid}
 
 length-filled : (n : ℕ) (xs : List ℕ) → length xs ≤ n → length (filled n xs) ≡ n
 unfolding filled

@@ -3,7 +3,9 @@ pub mod Defaults
 pub mod EmptyBlock
 pub mod EmptyClean
 pub mod EmptyImage
+pub mod EmptyMeaning
 pub mod Filling
 pub mod ImageVectors
 pub mod Laid
+pub mod Listed
 pub mod Outcomes

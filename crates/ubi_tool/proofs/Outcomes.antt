@@ -6,8 +6,7 @@ use Rattle.std.specs.declared.alloc.Global.{Global}
 use Rattle.std.specs.declared.vec.Vec.{Vec}
 use Rattle.ubi_media.specs.Geometry.{Sizes}
 use Rattle.ubi_scan.specs.Image.{Image}
-use Rattle.ubi_tool.specs.Attach.{Accepts}
-use Rattle.ubi_tool.specs.Normalise.{Normalises, NormalisesInto, accepted, refused, written, unwritten}
+use Rattle.ubi_tool.specs.Normalise.{MeansNothing, Normalises, NormalisesInto, accepted, later, refused, written, unwritten}
 use Rattle.ubi_tool.specs.Numbers.{sizes_of}
 use Rattle.ubi_tool.specs.Program.{IsRead, IsWritten, OfImage, Tells}
 use Rattle.ubi_tool.specs.Program as program
@@ -20,9 +19,10 @@ no_file : (file : Option (Vec ℕ Global)) → option_map (λ v. v.items) file �
 no_file None e h = cc
 no_file (Some v) e h = cc
 
--- a file is there only where the image is accepted
-accepted_with_file : (image : Image) (o : Outcome) → Normalises image o → IsSome o.file → Accepts image
+-- a file is there only where the image means no volume
+accepted_with_file : (image : Image) (o : Outcome) → Normalises image o → IsSome o.file → MeansNothing image
 accepted_with_file image o (accepted a gives) some = a
+accepted_with_file image o (later more gives) some = absurd (no_file o.file gives.file some)
 accepted_with_file image o (refused c r gives) some = absurd (no_file o.file gives.file some)
 
 -- normalising, and then writing the file

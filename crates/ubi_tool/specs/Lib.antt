@@ -1,7 +1,8 @@
 pub mod Answer
-pub mod Attach
-pub mod EmptyTable
+pub mod Check
+pub mod EmptyImage
 pub mod Lines
+pub mod List
 pub mod Normalise
 pub mod Numbers
 pub mod Program

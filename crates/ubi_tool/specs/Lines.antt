@@ -82,7 +82,10 @@ refusal_line (cause.Record p slot f) = refused (codes "T3 Record") (detail.Block
 refusal_line (cause.SameName p i j) = refused (codes "T4 SameName") (detail.Block p ∷ detail.Slot i ∷ detail.Slot j ∷ [])
 refusal_line cause.NoSpace = refused (codes "T5 NoSpace") []
 refusal_line (cause.Mismatch p) = refused (codes "V1 Mismatch") (detail.Block p ∷ [])
-refusal_line cause.Later = refused (codes "Later") []
+
+-- the line of an image that can't be normalised yet
+abbrev pub later_line : List ℕ
+later_line = refused (codes "Later") []
 
 -- the line of an eraseblock that the image hasn't
 abbrev pub no_block_line : List ℕ

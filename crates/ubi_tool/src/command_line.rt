@@ -13,6 +13,16 @@ pub enum Request<'a> {
         image: &'a str,
         out: &'a str,
     },
+    /// The volumes of a file.
+    List {
+        numbers: Numbers,
+        image: &'a str,
+    },
+    /// The states of the eraseblocks of a file.
+    Check {
+        numbers: Numbers,
+        image: &'a str,
+    },
     /// The headers of one eraseblock of a file.
     Show {
         numbers: Numbers,
@@ -25,6 +35,8 @@ pub enum Request<'a> {
 pub fn command_line<'a>(alloc: Global) -> Result<Command<'a>, AllocError> {
     let tool = Command::new(alloc, "ubi_tool").subcommand_required(true);
     let tool = tool.subcommand(normalise_command(alloc)?)?;
+    let tool = tool.subcommand(image_command(alloc, "list")?)?;
+    let tool = tool.subcommand(image_command(alloc, "check")?)?;
     tool.subcommand(show_command(alloc)?)
 }
 
@@ -35,6 +47,14 @@ pub fn request_of<'a>(matches: &'a ArgMatches<'_>) -> Option<Request<'a>> {
             numbers: numbers_of(inner)?,
             image: inner.get_str("IMAGE")?,
             out: inner.get_str("out")?,
+        }),
+        ("list", inner) => Some(Request::List {
+            numbers: numbers_of(inner)?,
+            image: inner.get_str("IMAGE")?,
+        }),
+        ("check", inner) => Some(Request::Check {
+            numbers: numbers_of(inner)?,
+            image: inner.get_str("IMAGE")?,
         }),
         ("show", inner) => Some(Request::Show {
             numbers: numbers_of(inner)?,

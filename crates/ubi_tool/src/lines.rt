@@ -2,7 +2,7 @@
 
 ghost use Rattle.std.specs.Prelude.{◌≡◌, ◌++◌, IfOk, OnOk, codes, decimal};
 ghost use Rattle.std.specs.List.{flat_map};
-ghost use Rattle.ubi_tool.specs.Lines.{blocks_line, detail_text, ec_fault_name, file_line, geometry_line, no_block_line, rec_fault_name, refusal_line, refused, vid_fault_name};
+ghost use Rattle.ubi_tool.specs.Lines.{blocks_line, detail_text, ec_fault_name, file_line, geometry_line, later_line, no_block_line, rec_fault_name, refusal_line, refused, vid_fault_name};
 
 use itoa::Buffer;
 use std::alloc::{AllocError, Global};
@@ -81,7 +81,7 @@ pub fn put_word(text: &mut Vec<u8>, word: &str) -> Result<(), AllocError>
 }
 
 /// Adds a word and a decimal number.
-fn put_number(text: &mut Vec<u8>, word: &str, number: u64) -> Result<(), AllocError>
+pub fn put_number(text: &mut Vec<u8>, word: &str, number: u64) -> Result<(), AllocError>
     ensures { OnOk result (text.new.items ≡ text.old.items ++ (word.now ++ decimal number)) }
 {
     let mut buffer = Buffer::new();
@@ -182,8 +182,14 @@ pub fn refusal_line(alloc: Global, cause: Refusal) -> Result<Vec<u8>, AllocError
         ),
         Refusal::NoSpace => refused(alloc, "T5 NoSpace", &[]),
         Refusal::Mismatch(p) => refused(alloc, "V1 Mismatch", &[Block(p)]),
-        Refusal::Later => refused(alloc, "Later", &[]),
     }
+}
+
+/// The line of an image that can't be normalised yet.
+pub fn later_line(alloc: Global) -> Result<Vec<u8>, AllocError>
+    ensures { IfOk result (λ text. text.items ≡ later_line) }
+{
+    refused(alloc, "Later", &[])
 }
 
 /// The line of an eraseblock that the image hasn't.

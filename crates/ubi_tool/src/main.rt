@@ -4,12 +4,12 @@
 //! and each of its commands is a function over bytes.
 #![tactic(auto)]
 
-mod attach;
+mod check;
 mod command_line;
 mod empty_image;
-mod empty_table;
 mod image_file;
 mod lines;
+mod list;
 mod normalise;
 mod numbers;
 mod outcome;

@@ -1,8 +1,10 @@
+mod check;
 mod fake;
 mod faults;
 mod files;
 mod images;
 mod lines;
+mod list;
 mod normalise;
 mod show;
 mod streams;

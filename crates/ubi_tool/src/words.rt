@@ -1,13 +1,17 @@
 //! The commands over files: what the words ask for is read, done and written.
 
 ghost use Rattle.std.specs.Prelude.{IfOk};
+ghost use Rattle.ubi_tool.specs.Check.{Checks};
+ghost use Rattle.ubi_tool.specs.List.{Lists};
 ghost use Rattle.ubi_tool.specs.Normalise.{NormalisesInto};
 ghost use Rattle.ubi_tool.specs.Program.{IsAnswer, IsWritten, OfImage};
 ghost use Rattle.ubi_tool.specs.Show.{Shows};
 
+use crate::check::run_check;
 use crate::command_line::{Request, command_line, request_of};
 use crate::image_file::load;
 use crate::lines::file_line;
+use crate::list::run_list;
 use crate::normalise::run_normalise;
 use crate::numbers::Numbers;
 use crate::outcome::{FAILED, Outcome, ToolError, WRONG_WORDS};
@@ -45,6 +49,8 @@ pub fn run_words<R: Files + Eprint>(
                 out,
             },
         ) => normalise_file(rt, alloc, numbers, image, out),
+        Some(Request::List { numbers, image }) => list_file(rt, alloc, numbers, image),
+        Some(Request::Check { numbers, image }) => check_file(rt, alloc, numbers, image),
         Some(
             Request::Show {
                 numbers,
@@ -72,6 +78,44 @@ fn normalise_file<R: Files>(
     };
     match run_normalise(alloc, &file.geometry, file.bytes.as_slice()) {
         Ok(outcome) => write_outcome(rt, alloc, outcome, out),
+        Err(_) => Err(AllocError),
+    }
+}
+
+/// Lists the volumes of a file.
+fn list_file<R: Files>(
+    rt: &R,
+    alloc: Global,
+    numbers: Numbers,
+    image: &str,
+) -> Result<Outcome, AllocError>
+    ensures { IfOk result (OfImage numbers image.now Lists) }
+{
+    let file = match load(rt, alloc, numbers, image) {
+        Ok(file) => file,
+        Err(unread) => return unread.answer(),
+    };
+    match run_list(alloc, &file.geometry, file.bytes.as_slice()) {
+        Ok(outcome) => Ok(outcome),
+        Err(_) => Err(AllocError),
+    }
+}
+
+/// Counts the states of the eraseblocks of a file.
+fn check_file<R: Files>(
+    rt: &R,
+    alloc: Global,
+    numbers: Numbers,
+    image: &str,
+) -> Result<Outcome, AllocError>
+    ensures { IfOk result (OfImage numbers image.now Checks) }
+{
+    let file = match load(rt, alloc, numbers, image) {
+        Ok(file) => file,
+        Err(unread) => return unread.answer(),
+    };
+    match run_check(alloc, &file.geometry, file.bytes.as_slice()) {
+        Ok(outcome) => Ok(outcome),
         Err(_) => Err(AllocError),
     }
 }

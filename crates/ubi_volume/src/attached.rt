@@ -57,6 +57,13 @@ impl Attached {
         &self.meaning
     }
 
+    /// What is said of each eraseblock, by rising number.
+    pub fn states(&self) -> &[BlockState]
+        ensures { result.now ≡ self.now.states }
+    {
+        self.states.as_slice()
+    }
+
     /// What is said of an eraseblock.
     pub fn state(&self, p: u32) -> BlockState
         requires { p < length self.now.states }

@@ -1,6 +1,6 @@
 //! What a volume reads.
 
-ghost use Rattle.std.specs.Prelude.{◌≡◌, OnErr, OnOk};
+ghost use Rattle.std.specs.Prelude.{◌≡◌, OnErr, OnOk, length};
 ghost use Rattle.std.specs.FinMap as finite;
 ghost use Rattle.std.specs.Option.{option_copied};
 
@@ -83,6 +83,13 @@ impl Lebs {
         ensures { option_copied result ≡ finite.get self.now lnum }
     {
         self.held.get(&lnum)
+    }
+
+    /// How many are kept.
+    pub fn len(&self) -> usize
+        ensures { result ≡ length (finite.entries self.now) }
+    {
+        self.held.len()
     }
 
     /// Keeps the bytes of a logical eraseblock, in place of those that were kept.

@@ -1,10 +1,10 @@
-//! Images that are refused for a fault of an eraseblock: the lines of `normalise`.
+//! Images that are refused for a fault of an eraseblock, of the table or of a volume: the lines of `normalise`.
 
-use super::images::{COPY_FLAG_2, VERSION_2, ec_of, overwrite, plain, root_image};
+use super::images::{CHECK_OF_41, COPY_FLAG_2, VERSION_2, ec_of, overwrite, plain, root_image};
 use crate::normalise::run_normalise;
 use std::alloc::Global;
 use std::test::Fail;
-use ubi_media::{Geometry, VidHeader, write_vid};
+use ubi_media::{Geometry, VidHeader, VolKind, write_vid};
 
 /// A header to write over the bytes of an image, and from which place on.
 type Change = (usize, [u8; 64]);
@@ -116,5 +116,100 @@ fn drops_or_refuses_other_internal_volumes(rt: HostRuntime) -> Result<(), Fail> 
         let text = line_of(alloc, &geometry, &[], &behind)?;
         assert_eq!(rt; text.as_slice(), line.as_bytes(), "of {compat}");
     }
+    Ok(())
+}
+
+/// The line for the image of `root` with other bytes of copy 0 of its table, or of both copies.
+fn table_line(
+    alloc: Global,
+    geometry: &Geometry,
+    changes: &[(u16, [u8; 4])],
+    both: bool,
+) -> Result<Vec<u8>, Fail> {
+    let mut image = root_image(alloc, geometry)?;
+    for (at, bytes) in changes {
+        let at = usize::from(*at);
+        overwrite(image.as_mut_slice(), at, bytes);
+        if both {
+            overwrite(image.as_mut_slice(), 512 + at, bytes);
+        }
+    }
+    let outcome = run_normalise(alloc, geometry, image.as_slice())?;
+    Ok(outcome.text)
+}
+
+#[test]
+fn names_the_fault_of_a_table(rt: HostRuntime) -> Result<(), Fail> {
+    let alloc = rt.alloc();
+    let geometry = Geometry::new(512, 64, 64, 128, 32)?;
+    let none = (0u16, *b"UBI#");
+    let soot = (144, *b"soot");
+    // Fields of the record of `root`, and its check, which another program worked out.
+    let (unaligned, unaligned_check) = ((132, [0; 4]), (296, [0xD1, 0x36, 0x07, 0x5E]));
+    let (most, most_check) = ((128, [0, 0, 0, 30]), (296, [0xDB, 0x2A, 0x7C, 0x85]));
+    let (more, more_check) = ((128, [0, 0, 0, 31]), (296, [0xCA, 0x32, 0xE2, 0xB9]));
+    let cases = [
+        ([none, none], false, "refused Later\n"),
+        ([soot, none], false, "refused Later\n"),
+        ([soot, none], true, "refused T2 BothCorrupt\n"),
+        (
+            [unaligned, unaligned_check],
+            false,
+            "refused T3 Record block=0 slot=0 Alignment\n",
+        ),
+        ([most, most_check], false, "refused Later\n"),
+        ([more, more_check], false, "refused T5 NoSpace\n"),
+    ];
+    for (changes, both, line) in cases {
+        let text = table_line(alloc, &geometry, &changes, both)?;
+        assert_eq!(rt; text.as_slice(), line.as_bytes());
+    }
+    Ok(())
+}
+
+#[test]
+fn names_an_image_without_a_table(rt: HostRuntime) -> Result<(), Fail> {
+    let alloc = rt.alloc();
+    let geometry = Geometry::new(512, 64, 64, 128, 32)?;
+    let mut free = [0xFF; 512];
+    overwrite(&mut free, 0, &ec_of(&geometry, 0));
+    let outcome = run_normalise(alloc, &geometry, &free)?;
+    assert_eq!(rt; outcome.text.as_slice(), b"refused T1 NoTable\n".as_slice());
+    assert_eq!(rt; outcome.status, 1);
+    Ok(())
+}
+
+#[test]
+fn names_two_equal_names(rt: HostRuntime) -> Result<(), Fail> {
+    let alloc = rt.alloc();
+    let geometry = Geometry::new(512, 64, 64, 128, 32)?;
+    let mut image = root_image(alloc, &geometry)?;
+    let root = Vec::from_slice(alloc, image.as_slice().get(128..300).ok_or("short")?)?;
+    overwrite(image.as_mut_slice(), 300, root.as_slice());
+    let outcome = run_normalise(alloc, &geometry, image.as_slice())?;
+    assert_eq!(rt;
+        outcome.text.as_slice(),
+        b"refused T4 SameName block=0 slot=0 slot=1\n".as_slice()
+    );
+    Ok(())
+}
+
+#[test]
+fn names_a_winner_unlike_its_record(rt: HostRuntime) -> Result<(), Fail> {
+    let alloc = rt.alloc();
+    let geometry = Geometry::new(512, 64, 64, 128, 32)?;
+    let whole = VidHeader {
+        kind: VolKind::Static,
+        data_size: 384,
+        used_ebs: 1,
+        data_crc: CHECK_OF_41,
+        ..plain(0, 0, 0)
+    };
+    let changes = [(2 * 512 + 64, write_vid(&whole))];
+    let text = line_of(alloc, &geometry, &changes, &[])?;
+    assert_eq!(rt;
+        text.as_slice(),
+        b"refused V1 Mismatch block=2\n".as_slice()
+    );
     Ok(())
 }

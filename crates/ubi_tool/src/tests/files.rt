@@ -86,6 +86,30 @@ fn shows_an_eraseblock_of_a_file(rt: HostRuntime) -> Result<(), Fail> {
 }
 
 #[test]
+fn prints_what_a_file_holds(rt: HostRuntime) -> Result<(), Fail> {
+    let alloc = rt.alloc();
+    let geometry = Geometry::new(512, 64, 64, 128, 32)?;
+    fs::write(&rt, "held_in.img", root_image(alloc, &geometry)?.as_slice())?;
+    for (command, image, text, status) in [
+        ("list", "held_in.img", "geometry peb=512 page=64 ", 0u8),
+        ("check", "held_in.img", "blocks 5\nblank 0\n", 0),
+        ("list", "unheld_in.img", "cannot read unheld_in.img\n", 1),
+        ("check", "unheld_in.img", "cannot read unheld_in.img\n", 1),
+    ] {
+        let mut words = words_of(alloc, &[command, image])?;
+        for word in &SMALL {
+            words.push(String::from_str(alloc, word)?)?;
+        }
+        let outcome = run_words(&rt, alloc, words.as_slice())?;
+        assert!(rt; outcome.text.as_slice().starts_with(text.as_bytes()));
+        assert_eq!(rt; outcome.status, status);
+        assert!(rt; outcome.file.is_none());
+    }
+    fs::remove_file(&rt, "held_in.img")?;
+    Ok(())
+}
+
+#[test]
 fn tells_of_an_output_that_cannot_be_opened(rt: HostRuntime) -> Result<(), Fail> {
     let alloc = rt.alloc();
     fs::write(&rt, "unwritten_in.img", [0xFF; 512].as_slice())?;

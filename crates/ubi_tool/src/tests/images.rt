@@ -31,15 +31,26 @@ pub const COPY_FLAG_2: [u8; 64] = *b"UBI!\x01\x01\x02\0\
     \0\0\0\0\0\0\0\x01\0\0\0\0\0\0\0\0\0\0\0\0\0\0\0\0\0\0\
     \0\0\0\0\0\0\0\0\0\0\0\0\0\0\0\0\0\0\0\0\0\0\0\0\0\0\xd3\x6c\xd0\x77";
 
+/// The check of 384 bytes 0x41, worked out by another program.
+pub const CHECK_OF_41: u32 = 0xD6FB_3026;
+
 /// The check of the empty record, which stands behind its 168 zeros.
 const EMPTY: [u8; 4] = [0xF1, 0x16, 0xC3, 0x6B];
 
-/// The first bytes of the record of a dynamic volume `root` with 20 reserved eraseblocks. 148 zeros follow, and its
-/// check.
-const ROOT: [u8; 20] = *b"\0\0\0\x14\0\0\0\x01\0\0\0\0\x01\0\0\x04root";
+/// A record: its first bytes, the flags, and the check, which another program worked out. Zeros stand between them.
+#[derive(Clone, Copy)]
+pub struct Record {
+    pub start: [u8; 20],
+    pub flags: u8,
+    pub check: [u8; 4],
+}
 
-/// The check of that record.
-const ROOT_CHECK: [u8; 4] = [0x71, 0xDF, 0xB1, 0x1D];
+/// The record of a dynamic volume `root` with 20 reserved eraseblocks.
+pub const ROOT: Record = Record {
+    start: *b"\0\0\0\x14\0\0\0\x01\0\0\0\0\x01\0\0\x04root",
+    flags: 0,
+    check: [0x71, 0xDF, 0xB1, 0x1D],
+};
 
 /// Adds an eraseblock with a copy of the empty table: two empty records, and 40 bytes 0xFF behind them.
 fn put_empty_copy(image: &mut Vec<u8>, header: &[u8; 64]) -> Result<(), AllocError> {
@@ -71,42 +82,46 @@ pub fn reversed_image(alloc: Global) -> Result<Vec<u8>, AllocError> {
 
 /// An image as `ubinize` writes it: a table with the volume `root`, and three of its logical eraseblocks.
 pub fn root_image(alloc: Global, geometry: &Geometry) -> Result<Vec<u8>, AllocError> {
-    let mut image = Vec::new(alloc);
-    for lnum in 0..2 {
-        put_headers(&mut image, geometry, 5, 0x7FFF_EFFF, lnum)?;
-        put_root_table(&mut image)?;
-    }
+    let ec = ec_of(geometry, 0x1234_5678);
+    let mut image = table_image(alloc, &ec, &ROOT)?;
     for lnum in 0..3u8 {
-        put_headers(&mut image, geometry, 0, 0, u32::from(lnum))?;
-        image.extend_from_slice(&[0x41 + lnum; 384])?;
+        let vid = plain(0, u32::from(lnum), 0);
+        put_block(&mut image, &ec, &vid, &[0x41 + lnum; 384])?;
     }
     Ok(image)
 }
 
-/// Adds the records of `root` and of an empty slot, and the blank bytes behind them.
-fn put_root_table(image: &mut Vec<u8>) -> Result<(), AllocError> {
-    image.extend_from_slice(&ROOT)?;
-    image.extend_from_slice(&[0; 148])?;
-    image.extend_from_slice(&ROOT_CHECK)?;
-    image.extend_from_slice(&[0; 168])?;
-    image.extend_from_slice(&EMPTY)?;
-    image.extend_from_slice(&[0xFF; 40])
+/// The two eraseblocks of a table with a record in its first slot and none in its second.
+pub fn table_image(alloc: Global, ec: &[u8; 64], record: &Record) -> Result<Vec<u8>, AllocError> {
+    let mut image = Vec::new(alloc);
+    for lnum in 0..2 {
+        let vid = VidHeader {
+            compat: 5,
+            ..plain(0x7FFF_EFFF, lnum, 0)
+        };
+        let mut records = Vec::from_slice(alloc, &record.start)?;
+        records.extend_from_slice(&[0; 124])?;
+        records.push(record.flags)?;
+        records.extend_from_slice(&[0; 23])?;
+        records.extend_from_slice(&record.check)?;
+        records.extend_from_slice(&[0; 168])?;
+        records.extend_from_slice(&EMPTY)?;
+        put_block(&mut image, ec, &vid, records.as_slice())?;
+    }
+    Ok(image)
 }
 
-/// Adds the two headers of an eraseblock of a dynamic volume.
-fn put_headers(
+/// Adds an eraseblock of the small geometry: its headers, its data, and blank bytes behind them.
+pub fn put_block(
     image: &mut Vec<u8>,
-    geometry: &Geometry,
-    compat: u8,
-    vol_id: u32,
-    lnum: u32,
+    ec: &[u8; 64],
+    vid: &VidHeader,
+    data: &[u8],
 ) -> Result<(), AllocError> {
-    let vid = VidHeader {
-        compat,
-        ..plain(vol_id, lnum, 0)
-    };
-    image.extend_from_slice(&ec_of(geometry, 0x1234_5678))?;
-    image.extend_from_slice(&write_vid(&vid))
+    image.extend_from_slice(ec)?;
+    image.extend_from_slice(&write_vid(vid))?;
+    image.extend_from_slice(data)?;
+    image.extend_from_slice(&[0xFF; 384][data.len().min(384)..])
 }
 
 /// The header of a logical eraseblock of a dynamic volume, not copied.
@@ -140,5 +155,16 @@ pub fn ec_of(geometry: &Geometry, image_seq: u32) -> [u8; 64] {
 pub fn overwrite(image: &mut [u8], at: usize, bytes: &[u8]) {
     for (old, new) in image.iter_mut().skip(at).zip(bytes) {
         *old = *new;
+    }
+}
+
+/// The header of a logical eraseblock of a static volume, not copied.
+pub fn fixed(lnum: u32, used_ebs: u32, data_size: u32, data_crc: u32) -> VidHeader {
+    VidHeader {
+        kind: VolKind::Static,
+        data_size,
+        used_ebs,
+        data_crc,
+        ..plain(0, lnum, 0)
     }
 }

@@ -42,7 +42,6 @@ fn prints_refusals(rt: HostRuntime) -> Result<(), Fail> {
             Refusal::Mismatch(4_294_967_295),
             "refused V1 Mismatch block=4294967295\n",
         ),
-        (Refusal::Later, "refused Later\n"),
     ];
     for (cause, line) in lines {
         assert_eq!(rt;

@@ -1,10 +1,9 @@
 //! The command `normalise` over bytes.
 
-use super::images::{normal_image, reversed_image, root_image};
-use crate::attach::{Attached, attach};
-use crate::normalise::{normalise, run_normalise};
+use super::images::{normal_image, overwrite, reversed_image, root_image};
+use crate::normalise::{EarlyError, normalise, run_normalise};
 use std::test::Fail;
-use ubi_media::{AttachError, Geometry, Refusal};
+use ubi_media::Geometry;
 
 #[test]
 fn normalises_blank_eraseblocks(rt: HostRuntime) -> Result<(), Fail> {
@@ -12,7 +11,6 @@ fn normalises_blank_eraseblocks(rt: HostRuntime) -> Result<(), Fail> {
     let geometry = Geometry::new(512, 64, 64, 128, 32)?;
     let blank = [0xFF; 1536];
     let want = normal_image(alloc)?;
-    assert_eq!(rt; attach(alloc, &geometry, &blank), Ok(Attached));
     let outcome = run_normalise(alloc, &geometry, &blank)?;
     assert_eq!(rt; outcome.text.as_slice(), b"blocks 2\n".as_slice());
     assert_eq!(rt; outcome.status, 0);
@@ -52,44 +50,45 @@ fn refuses_what_is_no_image(rt: HostRuntime) -> Result<(), Fail> {
         assert!(rt; outcome.file.is_none());
     }
     let whole = vec![in alloc; 0xFFu8; 32 * 512]?;
-    assert_eq!(rt; attach(alloc, &geometry, whole.as_slice()), Ok(Attached));
+    assert_eq!(rt; normalise(alloc, &geometry, whole.as_slice())?.len(), 1024);
     Ok(())
 }
 
 #[test]
-fn answers_later_where_there_is_more(rt: HostRuntime) -> Result<(), Fail> {
+fn answers_later_where_there_are_volumes(rt: HostRuntime) -> Result<(), Fail> {
     let alloc = rt.alloc();
     let geometry = Geometry::new(512, 64, 64, 128, 32)?;
-    let later = Err(AttachError::Refused(Refusal::Later));
     let root = root_image(alloc, &geometry)?;
     let outcome = run_normalise(alloc, &geometry, root.as_slice())?;
     assert_eq!(rt; outcome.text.as_slice(), b"refused Later\n".as_slice());
     assert_eq!(rt; outcome.status, 1);
     assert!(rt; outcome.file.is_none());
-    let normal = normal_image(alloc)?;
-    let first = normal.as_slice().get(..512).ok_or("short")?;
-    // One copy alone, and a third eraseblock in use.
-    assert_eq!(rt; attach(alloc, &geometry, first), later);
-    let mut third = Vec::from_slice(alloc, normal.as_slice())?;
+    assert_eq!(rt;
+        normalise(alloc, &geometry, root.as_slice()).err(),
+        Some(EarlyError::Later)
+    );
+    Ok(())
+}
+
+#[test]
+fn normalises_what_means_no_volume(rt: HostRuntime) -> Result<(), Fail> {
+    let alloc = rt.alloc();
+    let geometry = Geometry::new(512, 64, 64, 128, 32)?;
+    let want = normal_image(alloc)?;
+    // One copy alone, and a third eraseblock of which nothing can be read.
+    let first = want.as_slice().get(..512).ok_or("short")?;
+    let normal = normalise(alloc, &geometry, first)?;
+    assert_eq!(rt; normal.as_slice(), want.as_slice());
+    let mut third = Vec::from_slice(alloc, want.as_slice())?;
     third.extend_from_slice(&[0; 512])?;
-    assert_eq!(rt; attach(alloc, &geometry, third.as_slice()), later);
-    // A changed byte of a header or a record; those behind the records may be any.
-    for (at, answer) in [
-        (24usize, later),
-        (100, later),
-        (300, later),
-        (471, later),
-        (472, Ok(Attached)),
-        (511, Ok(Attached)),
-    ] {
-        let mut changed = Vec::from_slice(alloc, normal.as_slice())?;
-        assert!(rt; at < changed.len());
-        changed[at] ^= 1;
-        assert_eq!(rt;
-            attach(alloc, &geometry, changed.as_slice()),
-            answer,
-            "at {at}"
-        );
+    let normal = normalise(alloc, &geometry, third.as_slice())?;
+    assert_eq!(rt; normal.as_slice(), want.as_slice());
+    // A changed byte of copy 0: of its two headers, of a record, and behind the records.
+    for at in [24usize, 100, 300, 471, 472, 511] {
+        let mut changed = Vec::from_slice(alloc, want.as_slice())?;
+        overwrite(changed.as_mut_slice(), at, &[0x55]);
+        let normal = normalise(alloc, &geometry, changed.as_slice())?;
+        assert_eq!(rt; normal.as_slice(), want.as_slice(), "at {at}");
     }
     Ok(())
 }

@@ -19,7 +19,7 @@ pub fn words_of(alloc: Global, words: &[&str]) -> Result<Vec<String>, AllocError
 #[test]
 fn tells_of_wrong_words(rt: HostRuntime) -> Result<(), Fail> {
     let alloc = rt.alloc();
-    let cases: [(&str, &str); 15] = [
+    let cases: [(&str, &str); 17] = [
         ("", "requires a subcommand"),
         ("--help", "Usage: ubi_tool"),
         ("help", "Usage: ubi_tool"),
@@ -41,6 +41,8 @@ fn tells_of_wrong_words(rt: HostRuntime) -> Result<(), Fail> {
             "normalise a b --out c --peb 512 --page 64",
             "unexpected argument",
         ),
+        ("list a --peb 512 --page 64 --out b", "unexpected argument"),
+        ("check --peb 512 --page 64", "<IMAGE>"),
         ("show --help", "Usage: ubi_tool show"),
         ("show a --peb 512 --page 64", "--block <P>"),
         (
@@ -76,7 +78,12 @@ fn refuses_geometries_before_files(rt: HostRuntime) -> Result<(), Fail> {
     ];
     for (numbers, cause) in cases {
         let want = format!(in alloc; "refused {cause}\n")?;
-        for command in ["normalise a --out b", "show a --block 0"] {
+        for command in [
+            "normalise a --out b",
+            "list a",
+            "check a",
+            "show a --block 0",
+        ] {
             let line = format!(in alloc; "{command} --peb {numbers}")?;
             let (text, status, shown) = answer(alloc, line.as_str())?;
             assert_eq!(rt; text.as_slice(), want.as_bytes(), "of {line:?}");

@@ -1,5 +1,5 @@
 use Rattle.std.proofs.Common.{refl}
-use Rattle.ubi_tool.specs.EmptyTable.{empty_image}
+use Rattle.ubi_tool.specs.EmptyImage.{empty_image}
 use Rattle.ubi_tool.proofs.EmptyImage.{accepted}
 use Rattle.ubi_tool.proofs.empty_image.empty_image.Goals as goal
 

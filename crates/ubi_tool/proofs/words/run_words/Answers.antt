@@ -1,10 +1,16 @@
 use Rattle.std.proofs.lemmas.Result.{IfOk-weaker}
-use Rattle.ubi_tool.specs.Program.{normalise, show}
+use Rattle.ubi_tool.specs.Program.{check, list, normalise, show}
 use Rattle.ubi_tool.proofs.words.run_words.Goals as goal
 
 pub returns-in-Some-Normalise : goal.returns-in-Some-Normalise
 returns-in-Some-Normalise g c =
     IfOk-weaker c.normalise_file.result _ _ (λ o h. normalise _ _ _ h) c.normalise_file.ensures
+
+pub returns-in-Some-List : goal.returns-in-Some-List
+returns-in-Some-List g c = IfOk-weaker c.list_file.result _ _ (λ o h. list _ _ h) c.list_file.ensures
+
+pub returns-in-Some-Check : goal.returns-in-Some-Check
+returns-in-Some-Check g c = IfOk-weaker c.check_file.result _ _ (λ o h. check _ _ h) c.check_file.ensures
 
 pub returns-in-Some-Show : goal.returns-in-Some-Show
 returns-in-Some-Show g c =

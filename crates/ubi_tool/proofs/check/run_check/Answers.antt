@@ -1,0 +1,12 @@
+use Rattle.ubi_volume.specs.Accepts.{IsAttachError}
+use Rattle.ubi_tool.specs.Check.{accepted, refused}
+use Rattle.ubi_tool.proofs.check.run_check.Goals as goal
+
+pub returns-in_ok-check_lines-in-Ok-clause-ok : goal.returns-in_ok-check_lines-in-Ok-clause-ok
+returns-in_ok-check_lines-in-Ok-clause-ok c =
+    accepted c.in-Ok.attached c.in-Ok.ensures.attached (rw c.in_ok-check_lines-in-Ok.ensures at c.saying.ensures)
+
+pub returns-in_ok-refusal_line-in-Err-Refused-clause-ok : goal.returns-in_ok-refusal_line-in-Err-Refused-clause-ok
+returns-in_ok-refusal_line-in-Err-Refused-clause-ok c =
+    refused c.in-Err-Refused.cause (rw c.in-Err-Refused.field-0-is at c.in-Err-Refused.ensures.refused)
+    (rw c.in_ok-refusal_line-in-Err-Refused.ensures at c.saying-in-Err-Refused.ensures)

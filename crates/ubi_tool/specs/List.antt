@@ -1,0 +1,75 @@
+-- What is listed of the volumes of an image.
+use Rattle.std.specs.Prelude.{ℕ, ◌==◌, ◌&&◌, not, nat_le, if◌then◌else◌, List, [], ◌∷◌, ◌++◌, codes, decimal, length}
+use Rattle.std.specs.FinMap.{entries}
+use Rattle.std.specs.List.{flat_map}
+use Rattle.hex.specs.Hex.{encode_lower}
+use Rattle.ubi_media.specs.Geometry.{Sizes, leb_size, slots}
+use Rattle.ubi_media.specs.Record.{usable}
+use Rattle.ubi_media.specs.declared.record.VolumeRecord.{VolumeRecord}
+use Rattle.ubi_media.specs.declared.refusal.Refusal.{Refusal}
+use Rattle.ubi_media.specs.declared.vid.VolKind.{VolKind}
+use Rattle.ubi_media.specs.declared.vid.VolKind.TheVariants as kind
+use Rattle.ubi_scan.specs.Image.{Image}
+use Rattle.ubi_volume.specs.Accepts.{Accepts, Refuses}
+use Rattle.ubi_volume.specs.Meant.{Meant}
+use Rattle.ubi_volume.specs.declared.content.Content.{Content}
+use Rattle.ubi_volume.specs.declared.content.Content.TheVariants as content
+use Rattle.ubi_volume.specs.declared.content.Volume.{Volume}
+use Rattle.ubi_tool.specs.Answer.{Gives, says}
+use Rattle.ubi_tool.specs.Lines.{refusal_line}
+use Rattle.ubi_tool.specs.declared.outcome.Outcome.{Outcome}
+
+-- a name as it is shown: the printable bytes but the backslash as they are, and any other by its two digits
+abbrev pub shown_byte : ℕ → List ℕ
+shown_byte b = if nat_le 0x21 b && nat_le b 0x7E && not (b == 0x5C) then b ∷ [] else codes "\\x" ++ encode_lower (b ∷ [])
+
+abbrev pub shown : List ℕ → List ℕ
+shown name = flat_map shown_byte name
+
+abbrev pub kind_word : VolKind → List ℕ
+kind_word kind.Dynamic = codes "dynamic"
+kind_word kind.Static = codes "static"
+
+-- how much a volume reads, or why it can't be read
+abbrev pub content_word : Content → List ℕ
+content_word content.Updating = codes "updating"
+content_word content.Damaged = codes "damaged"
+content_word (content.Static text) = codes "bytes=" ++ decimal (length text)
+content_word (content.Dynamic lebs) = codes "lebs=" ++ decimal (length (entries lebs))
+
+-- the numbers of a geometry but how many eraseblocks there are
+unfoldable pub layout_words : Sizes → List ℕ
+layout_words s =
+    codes "peb=" ++ decimal s.peb_size ++ codes " page=" ++ decimal s.page ++ codes " vid=" ++ decimal s.vid_offset
+    ++ codes " data=" ++ decimal s.data_offset
+
+-- the numbers that follow from it, and how many eraseblocks there are
+unfoldable pub room_words : Sizes → List ℕ
+room_words s = codes " leb=" ++ decimal (leb_size s) ++ codes " slots=" ++ decimal (slots s) ++ codes " pebs=" ++ decimal s.pebs
+
+-- the line of the sizes of a device
+unfoldable pub sizes_line : Sizes → List ℕ
+sizes_line s = codes "geometry " ++ layout_words s ++ room_words s ++ codes "\n"
+
+-- what a record says of its volume but the name
+abbrev pub record_words : Sizes → VolumeRecord → List ℕ
+record_words s r =
+    kind_word r.kind ++ codes " reserved=" ++ decimal r.reserved ++ codes " alignment=" ++ decimal r.alignment
+    ++ codes " usable=" ++ decimal (usable s r) ++ codes " flags=" ++ encode_lower (r.flags ∷ [])
+
+-- the line of a volume and its number
+abbrev pub volume_line : Sizes → ℕ × Volume → List ℕ
+volume_line s (id, v) =
+    codes "volume " ++ decimal id ++ codes " " ++ record_words s v.entry ++ codes " " ++ content_word v.content
+    ++ codes " name=" ++ shown v.entry.name ++ codes "\n"
+
+-- the lines of a meaning
+abbrev pub list_lines : Meant → List ℕ
+list_lines m =
+    sizes_line m.sizes ++ flat_map (volume_line m.sizes) (entries m.volumes)
+    ++ codes "volumes " ++ decimal (length (entries m.volumes)) ++ codes "\n"
+
+-- what the command answers of an image: the lines of its meaning, or the line of its refusal
+pub data Lists (image : Image) : Outcome → Type 0 where
+  accepted : {o : Outcome} (m : Meant) → Accepts image m → Gives o (says (list_lines m) 0) → Lists image o
+  refused : {o : Outcome} (c : Refusal) → Refuses image c → Gives o (says (refusal_line c) 1) → Lists image o
