@@ -1,5 +1,5 @@
 -- Eraseblocks whose table has no record mean no volume.
-use Rattle.std.proofs.Common.{◌≡◌, ◌≢◌, ℕ, ◌+◌, ◌≤◌, List, [], ◌∷◌, length, map, refl, ap, sym, ◌∙◌, subst, arith}
+use Rattle.std.proofs.Common.{◌≡◌, ◌≢◌, ℕ, List, [], ◌∷◌, length, map, refl, ap, sym, ◌∙◌, subst, arith}
 use Rattle.std.specs.Prelude.{IfSome, Option, None, Some}
 use Rattle.std.specs.FinMap as finite
 use Rattle.std.specs.List.{sum_by}
@@ -9,7 +9,7 @@ use Rattle.std.specs.Ordering.{nat_cmp}
 use Rattle.ubi_media.specs.Geometry.{IsGeometry, Sizes}
 use Rattle.ubi_media.specs.declared.record.VolumeRecord.{VolumeRecord}
 use Rattle.ubi_scan.specs.Faults.{NoFault}
-use Rattle.ubi_table.specs.Records.{HasSpace, no_records}
+use Rattle.ubi_table.specs.Records.{no_records}
 use Rattle.ubi_table.specs.Table.{IsTable}
 use Rattle.ubi_volume.specs.Accepts.{AcceptsBlocks}
 use Rattle.ubi_volume.specs.Means.{SlotMeans}

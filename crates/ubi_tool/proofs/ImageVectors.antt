@@ -1,5 +1,5 @@
 -- The bytes of an eraseblock of the normal image of the empty table, on literals.
-use Rattle.std.proofs.Common.{◌≡◌, ◌∷◌, [], ◌++◌, replicate, refl, ap, ◌∙◌}
+use Rattle.std.proofs.Common.{◌≡◌, ◌∷◌, [], ◌++◌, replicate, refl, ap}
 use Rattle.std.specs.List.{repeat}
 use Rattle.ubi_media.specs.Check.{check_from, remainder}
 use Rattle.ubi_media.specs.Ec.{ec_bytes}

@@ -1,4 +1,5 @@
 pub mod Bytes
+pub mod CommandNames
 pub mod Defaults
 pub mod EmptyBlock
 pub mod EmptyClean

@@ -1,5 +1,6 @@
 pub mod Answer
 pub mod Check
+pub mod CommandLine
 pub mod EmptyImage
 pub mod Lines
 pub mod List

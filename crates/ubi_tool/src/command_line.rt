@@ -1,5 +1,11 @@
 //! The command line: which words there are, and what they ask for.
 
+ghost use Rattle.std.specs.Prelude.{◌≡◌, IfOk, IfSome, Some, codes};
+ghost use Rattle.clap.specs.Matches.{subcommand_name_of};
+ghost use Rattle.clap.specs.Built.{subcommand_names};
+ghost use Rattle.clap.specs.declared.builder.command.Command.TheViews.{out-Command};
+ghost use Rattle.ubi_tool.specs.CommandLine.{command_name, command_names};
+
 use crate::numbers::Numbers;
 use clap::{Arg, ArgMatches, Command, value_parser};
 use std::alloc::{AllocError, Global};
@@ -32,7 +38,9 @@ pub enum Request<'a> {
 }
 
 /// The whole command line. A command line is used up by reading words, so that each call makes a new one.
-pub fn command_line<'a>(alloc: Global) -> Result<Command<'a>, AllocError> {
+pub fn command_line<'a>(alloc: Global) -> Result<Command<'a>, AllocError>
+    ensures { IfOk result (λ c. subcommand_names c ≡ command_names) }
+{
     let tool = Command::new(alloc, "ubi_tool").subcommand_required(true);
     let tool = tool.subcommand(normalise_command(alloc)?)?;
     let tool = tool.subcommand(image_command(alloc, "list")?)?;
@@ -41,7 +49,9 @@ pub fn command_line<'a>(alloc: Global) -> Result<Command<'a>, AllocError> {
 }
 
 /// What is asked for, where the words name a command and have all that it needs.
-pub fn request_of<'a>(matches: &'a ArgMatches<'_>) -> Option<Request<'a>> {
+pub fn request_of<'a>(matches: &'a ArgMatches<'_>) -> Option<Request<'a>>
+    ensures { IfSome result (λ r. subcommand_name_of matches.now ≡ Some (command_name r)) }
+{
     match matches.subcommand()? {
         ("normalise", inner) => Some(Request::Normalise {
             numbers: numbers_of(inner)?,
@@ -65,7 +75,9 @@ pub fn request_of<'a>(matches: &'a ArgMatches<'_>) -> Option<Request<'a>> {
     }
 }
 
-fn normalise_command<'a>(alloc: Global) -> Result<Command<'a>, AllocError> {
+fn normalise_command<'a>(alloc: Global) -> Result<Command<'a>, AllocError>
+    ensures { IfOk result (λ c. (out-Command c).name.now ≡ codes "normalise") }
+{
     let out = Arg::new(alloc, "out")
         .long("out")
         .value_name("FILE")
@@ -74,7 +86,9 @@ fn normalise_command<'a>(alloc: Global) -> Result<Command<'a>, AllocError> {
     command.arg(out)
 }
 
-fn show_command<'a>(alloc: Global) -> Result<Command<'a>, AllocError> {
+fn show_command<'a>(alloc: Global) -> Result<Command<'a>, AllocError>
+    ensures { IfOk result (λ c. (out-Command c).name.now ≡ codes "show") }
+{
     let block = Arg::new(alloc, "block")
         .long("block")
         .value_name("P")
@@ -85,14 +99,18 @@ fn show_command<'a>(alloc: Global) -> Result<Command<'a>, AllocError> {
 }
 
 /// A command over an image file.
-fn image_command<'a>(alloc: Global, name: &'a str) -> Result<Command<'a>, AllocError> {
+fn image_command<'a>(alloc: Global, name: &'a str) -> Result<Command<'a>, AllocError>
+    ensures { IfOk result (λ c. (out-Command c).name.now ≡ name.now) }
+{
     let image = Arg::new(alloc, "IMAGE").required(true);
     let command = with_numbers(alloc, Command::new(alloc, name))?;
     command.arg(image)
 }
 
 /// Adds the numbers of a geometry to a command.
-fn with_numbers<'a>(alloc: Global, command: Command<'a>) -> Result<Command<'a>, AllocError> {
+fn with_numbers<'a>(alloc: Global, command: Command<'a>) -> Result<Command<'a>, AllocError>
+    ensures { IfOk result (λ c. (out-Command c).name.now ≡ (out-Command command.entry).name.now) }
+{
     let command = command.arg(number(alloc, "peb").required(true))?;
     let command = command.arg(number(alloc, "page").required(true))?;
     let command = command.arg(number(alloc, "vid"))?;

@@ -1,4 +1,3 @@
-use Rattle.ubi_volume.specs.Accepts.{IsAttachError}
 use Rattle.ubi_tool.specs.Check.{accepted, refused}
 use Rattle.ubi_tool.proofs.check.run_check.Goals as goal
 

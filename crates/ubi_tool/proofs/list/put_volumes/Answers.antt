@@ -1,4 +1,4 @@
-use Rattle.std.proofs.Common.{◌≡◌, get_or, ap, ◌∙◌}
+use Rattle.std.proofs.Common.{get_or, ap, ◌∙◌}
 use Rattle.ubi_tool.proofs.Listed.{listed_volume}
 use Rattle.ubi_tool.proofs.list.put_volumes.Goals as goal
 

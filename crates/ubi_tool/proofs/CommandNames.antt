@@ -1,0 +1,19 @@
+-- The names of the commands of a command line.
+use Rattle.std.proofs.Common.{◌≡◌, ℕ, List, [], ◌∷◌, ◌++◌, refl, ap, ◌∙◌}
+use Rattle.clap.specs.Built.{AddsSubcommand, names_in, subcommand_names}
+use Rattle.clap.specs.declared.builder.command.Command.{Command}
+use Rattle.clap.specs.declared.builder.command.Command.TheViews.{out-Command}
+
+abbrev pub name_of : Command → List ℕ
+name_of c = (out-Command c).name.now
+
+names_behind : (cs : List Command) (d : Command) → names_in (cs ++ d ∷ []) ≡ names_in cs ++ name_of d ∷ []
+names_behind [] d = refl
+names_behind (c ∷ cs) d = ap (λ ns. name_of c ∷ ns) (names_behind cs d)
+
+-- a subcommand that is added brings its name
+pub one_more : (old sub new : Command) (ns : List (List ℕ)) (n : List ℕ) → AddsSubcommand old sub new → subcommand_names old ≡ ns → name_of sub ≡ n
+    → subcommand_names new ≡ ns ++ n ∷ []
+one_more old sub new ns n adds before called =
+    ap names_in adds.subcommands ∙ names_behind (out-Command old).subcommands.items adds.added
+    ∙ ap (λ ms. ms ++ name_of adds.added ∷ []) before ∙ ap (λ m. ns ++ m ∷ []) (ap (λ s. s.now) adds.name ∙ called)
