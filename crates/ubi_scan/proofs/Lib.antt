@@ -1,3 +1,4 @@
+pub mod BlockVectors
 pub mod Causes
 pub mod Choice
 pub mod Chunks
