@@ -214,6 +214,7 @@ fn empty_record() -> [u8; RECORD_SIZE]
 pub fn read_rec(geometry: &Geometry, bytes: &[u8; RECORD_SIZE]) -> RecRead
     ensures is { RecIs geometry.now bytes.now result }
     ensures value { result ≡ rec_reading geometry.now bytes.now }
+    ensures sound { (r : VolumeRecord) → result ≡ RecRead.Valid r → rec_fault geometry.now r ≡ None }
 {
     if !is_sealed(bytes, CHECK) {
         return RecRead::BadCrc;

@@ -13,11 +13,11 @@ use Rattle.ubi_media.specs.Record.{rec_fault, rec_reading, record_size}
 use Rattle.ubi_media.specs.declared.record.RecRead.{RecRead}
 use Rattle.ubi_media.specs.declared.record.RecRead.TheVariants as read
 use Rattle.ubi_media.specs.declared.record.VolumeRecord.{VolumeRecord}
+use Rattle.ubi_media.proofs.Sound.{valid_sound}
 use Rattle.ubi_scan.specs.Image.{slots_in}
 use Rattle.ubi_scan.proofs.Chunks.{length-first_chunks}
 use Rattle.ubi_table.specs.Slots.{AreKept, entries_of, records_in, twice, valid}
 use Rattle.ubi_table.proofs.Names.{Entry}
-use Rattle.ubi_table.proofs.Sound.{valid_sound}
 
 both : (a b : Bool) → T a → T b → T (a && b)
 both true b p q = q
