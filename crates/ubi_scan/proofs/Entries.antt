@@ -1,5 +1,5 @@
 -- Entries by number, as a finite map.
-use Rattle.std.proofs.Common.{◌≡◌, ℕ, ◌<◌, ◌==◌, Bool, true, false, cond, T, List, [], ◌∷◌, length, get_or, refl, ap, sym, ◌∙◌, subst, arith}
+use Rattle.std.proofs.Common.{◌≡◌, ℕ, ◌<◌, ◌==◌, true, false, cond, List, [], ◌∷◌, length, get_or, refl, ap, sym, ◌∙◌, arith}
 use Rattle.std.specs.Prelude.{IsTrue, Some, find, option_map}
 use Rattle.std.specs.FinMap as finite
 use Rattle.std.specs.FinMap.{from_entries, is_sorted, nat_cmp-IsAntisymmetric}
@@ -8,10 +8,7 @@ use Rattle.std.specs.Ordering.{eq_by_cmp, nat_cmp}
 use Rattle.std.proofs.lemmas.Bool.Decides.{nat_tests}
 use Rattle.std.proofs.lemmas.Cmp.{nat_cmp_total}
 use Rattle.ubi_scan.proofs.Finite.{place_of}
-
--- a test that is true
-true_of : (b : Bool) → b ≡ true → T b
-true_of b e = subst T (sym e) tt
+use Rattle.ubi_scan.proofs.Tests.{true_of}
 
 number_test : (id n : ℕ) → (n == id) ≡ eq_by_cmp nat_cmp id n
 number_test id n = grind (arith, nat_tests)

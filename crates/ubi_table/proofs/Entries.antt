@@ -1,5 +1,5 @@
 -- Entries by rising number, as a finite map.
-use Rattle.std.proofs.Common.{◌≡◌, ℕ, suc, ◌+◌, ◌<◌, ◌≤◌, inl, inr, Bool, true, false, ◌&&◌, T, List, [], ◌∷◌, length, map, get_or, refl, ap, sym, ◌∙◌, subst, arith}
+use Rattle.std.proofs.Common.{◌≡◌, ℕ, suc, ◌+◌, ◌<◌, ◌≤◌, inl, inr, T, List, [], ◌∷◌, length, map, get_or, refl, ap, sym, ◌∙◌, subst, arith}
 use Rattle.std.specs.Prelude.{All, IsTrue, None, fold}
 use Rattle.std.specs.Cmp.Lexicographic.{other_text}
 use Rattle.std.specs.FinMap.{from_entries, is_sorted}
@@ -15,13 +15,10 @@ use Rattle.ubi_media.specs.declared.record.VolumeRecord.{VolumeRecord}
 use Rattle.ubi_scan.proofs.Decided.{below_or_above}
 use Rattle.ubi_scan.proofs.Entries.{entry_place, sorted_entries}
 use Rattle.ubi_scan.proofs.Finite.{rising_at}
+use Rattle.ubi_scan.proofs.Tests.{both_right, true_of}
 use Rattle.ubi_table.specs.Records.{AreRecords, space}
 use Rattle.ubi_table.specs.Slots.{AreKept}
 use Rattle.ubi_table.proofs.Names.{Entry, once_apart}
-
--- a test that is true
-pub true_of : (b : Bool) → b ≡ true → T b
-true_of b e = subst T (sym e) tt
 
 -- what a table keeps holds of its records
 pub kept_records : (s : Sizes) (es : List Entry) → AreKept s es → AreRecords (record { sizes = s; of = from_entries es })
@@ -48,10 +45,6 @@ kept_records s es h = record {
 -- numbers that rise, from k on and below n, are no more than those between
 rest_rises : (e : Entry) (es : List Entry) → T (is_sorted nat_cmp (e ∷ es)) → T (is_sorted nat_cmp es)
 rest_rises e es h = both_right _ _ h
-  where
-    both_right : (a b : Bool) → T (a && b) → T b
-    both_right true b p = p
-    both_right false b p = absurd p
 
 few : (es : List Entry) (k n : ℕ) → k ≤ n → T (is_sorted nat_cmp es) → All (λ e. k ≤ e.0) es → All (λ e. e.0 < n) es → k + length es ≤ n
 few [] k n h sorted from below = omega arith
