@@ -1,5 +1,5 @@
 -- What eraseblocks are, each and together, on literals. The checks were worked out by another program.
-use Rattle.std.proofs.Common.{◌≡◌, ℕ, List, [], ◌∷◌, ◌++◌, drop, map, replicate, take, true, false, refl, zero, suc, ◌≤◌, inl, arith}
+use Rattle.std.proofs.Common.{◌≡◌, ℕ, Bool, List, [], ◌∷◌, ◌++◌, drop, map, replicate, take, true, false, refl, zero, suc, ◌≤◌, inl, arith}
 use Rattle.std.specs.Prelude.{Some, None, option_map}
 use Rattle.ubi_media.specs.Check.{check_from, remainder}
 use Rattle.ubi_media.specs.Ec as ec_rules
@@ -11,7 +11,7 @@ use Rattle.ubi_media.specs.declared.refusal.Refusal.TheVariants as refusal
 use Rattle.ubi_media.proofs.Words.{small, words}
 use Rattle.ubi_scan.specs.Faults.{HasFault}
 use Rattle.ubi_scan.specs.Image.{ec, eraseblocks}
-use Rattle.ubi_scan.specs.Members.{foreign, good_at, good_in, IsMember, layout, member, named_in, sqnum_at, sqnum_in, Wins}
+use Rattle.ubi_scan.specs.Members.{foreign, good_at, good_in, is_right, IsMember, layout, member, named_in, sqnum_at, sqnum_in, Wins}
 use Rattle.ubi_scan.specs.Numbers.{image_seq, mean_ec, seq_of, top_sqnum}
 
 -- an erase-counter header, by its counter, its image sequence number and its check
@@ -144,6 +144,14 @@ beyond =
 good_beyond : good_in small beyond ≡ true
 unfolding ec_rules.ec_reading ec_rules.judged ec_rules.first_fault ec_rules.breaks ec_rules.ec_fields form_of vid_reading judged first_fault breaks vid_fields header_of check_from remainder
 good_beyond = refl
+
+-- the one eraseblock of a damaged volume: its one byte of data hasn't its check
+abbrev damaged : List ℕ
+damaged = new ++ words (0x55424921 ∷ 0x01020000 ∷ 0 ∷ 0 ∷ 0 ∷ 1 ∷ 1 ∷ 0 ∷ 0 ∷ 0 ∷ 0 ∷ 0 ∷ 0 ∷ 0 ∷ 0 ∷ 0xa3b7f98b ∷ []) ++ replicate 384 255
+
+wrong_data : option_map {U = Bool} (is_right small damaged) (member small damaged) ≡ Some false
+unfolding ec_rules.ec_reading ec_rules.judged ec_rules.first_fault ec_rules.breaks ec_rules.ec_fields form_of vid_reading judged first_fault breaks vid_fields header_of check_from remainder
+wrong_data = refl
 
 -- an eraseblock with a corrupt erase-counter header is a member still, one with a blank one isn't
 corrupt_member : named_in small (0x54 ∷ drop 1 leb_1) ≡ Some (0, 1)
