@@ -3,6 +3,7 @@ pub mod Checks
 pub mod EcVectors
 pub mod EmptyRecord
 pub mod First
+pub mod GeometryVectors
 pub mod Headers
 pub mod Mirror
 pub mod Names
