@@ -1,4 +1,4 @@
--- Entries by rising number, as a finite map.
+-- What a table keeps holds of its records, and how many they are and reserve.
 use Rattle.std.proofs.Common.{◌≡◌, ℕ, suc, ◌+◌, ◌<◌, ◌≤◌, inl, inr, T, List, [], ◌∷◌, length, map, get_or, refl, ap, sym, ◌∙◌, subst, arith}
 use Rattle.std.specs.Prelude.{All, IsTrue, None, fold}
 use Rattle.std.specs.Cmp.Lexicographic.{other_text}
