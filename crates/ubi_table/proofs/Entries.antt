@@ -7,6 +7,7 @@ use Rattle.std.specs.List.{sum_by}
 use Rattle.std.specs.Ordering.{nat_cmp}
 use Rattle.std.specs.declared.cmp.Ordering.TheVariants.{Less}
 use Rattle.std.proofs.lemmas.Cmp.{nat_cmp_total, ranked}
+use Rattle.std.proofs.lemmas.Float.{T_from_true}
 use Rattle.std.proofs.lemmas.List.{get_or_default}
 use Rattle.ubi_media.specs.Fields.{same_bytes}
 use Rattle.ubi_media.specs.Geometry.{Sizes, slots}
@@ -15,7 +16,7 @@ use Rattle.ubi_media.specs.declared.record.VolumeRecord.{VolumeRecord}
 use Rattle.ubi_scan.proofs.Decided.{below_or_above}
 use Rattle.ubi_scan.proofs.Entries.{entry_place, sorted_entries}
 use Rattle.ubi_scan.proofs.Finite.{rising_at}
-use Rattle.ubi_scan.proofs.Tests.{both_right, true_of}
+use Rattle.ubi_scan.proofs.Tests.{both_right}
 use Rattle.ubi_table.specs.Records.{AreRecords, space}
 use Rattle.ubi_table.specs.Slots.{AreKept}
 use Rattle.ubi_table.proofs.Names.{Entry, once_apart}
@@ -59,7 +60,7 @@ few (e ∷ es) k n h sorted from below =
 -- a table has no more records than slots
 pub few_kept : (s : Sizes) (es : List Entry) → AreKept s es → length es ≤ slots s
 few_kept s es h =
-    let size = few es 0 (slots s) (omega arith) (true_of _ h.sorted) (λ i d l. omega arith) h.slot in omega arith
+    let size = few es 0 (slots s) (omega arith) (T_from_true _ h.sorted) (λ i d l. omega arith) h.slot in omega arith
 
 -- the sum over the values of a map
 sum_values : (es : List Entry) (n : ℕ) → fold (λ m (r : VolumeRecord). m + r.reserved) n (map (λ (e : Entry). e.1) es) ≡ fold (λ m (e : Entry). m + e.1.reserved) n es
