@@ -1,14 +1,11 @@
 -- Readings and bytes of erase-counter headers on literals.
 use Rattle.std.proofs.Common.{◌≡◌, List, ℕ, [], ◌∷◌, replicate, refl}
-use Rattle.std.specs.Prelude.{Some, None}
 use Rattle.ubi_media.specs.Check.{check_from, remainder}
 use Rattle.ubi_media.specs.Ec.{ec_bytes, ec_fields, ec_reading, judged, first_fault, breaks}
-use Rattle.ubi_media.specs.Geometry.{first_broken, leb_size, slots}
 use Rattle.ubi_media.specs.Header.{form_of}
 use Rattle.ubi_media.specs.declared.ec.EcFault.TheVariants.{Version, Offsets, Counter}
 use Rattle.ubi_media.specs.declared.ec.EcHeader.{EcHeader}
 use Rattle.ubi_media.specs.declared.ec.EcRead.TheVariants.{Blank, Corrupt, Fault, Valid}
-use Rattle.ubi_media.specs.declared.geometry.GeometryError.TheVariants as limit
 use Rattle.ubi_media.proofs.Words.{small, words}
 
 -- the image sequence number 0x12345678
@@ -53,26 +50,3 @@ erased = refl
 zeros : ec_reading small (replicate 64 0) ≡ Corrupt
 unfolding ec_reading form_of
 zeros = refl
-
--- the limits of a geometry, of the first that is broken
-kept : first_broken small ≡ None
-unfolding first_broken
-kept = refl
-
-no_page : first_broken (record { peb_size = 512; page = 96; vid_offset = 100; data_offset = 128; pebs = 1 }) ≡ Some limit.Page
-unfolding first_broken
-no_page = refl
-
-no_whole_pages : first_broken (record small { peb_size = 500 }) ≡ Some limit.PebSize
-unfolding first_broken
-no_whole_pages = refl
-
-data_at_the_end : first_broken (record small { data_offset = 512 }) ≡ Some limit.LebTooSmall
-unfolding first_broken
-data_at_the_end = refl
-
-data_of_384 : leb_size small ≡ 384
-data_of_384 = refl
-
-two_slots : slots small ≡ 2
-two_slots = refl

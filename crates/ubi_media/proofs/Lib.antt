@@ -2,6 +2,8 @@ pub mod CheckVectors
 pub mod Checks
 pub mod EcVectors
 pub mod EmptyRecord
+pub mod First
+pub mod GeometryVectors
 pub mod Headers
 pub mod Mirror
 pub mod Names
@@ -14,6 +16,7 @@ pub mod RecordVectors
 pub mod Records
 pub mod Register
 pub mod Sizes
+pub mod Sound
 pub mod Table
 pub mod VidVectors
 pub mod Words

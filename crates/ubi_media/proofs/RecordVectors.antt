@@ -2,7 +2,7 @@
 use Rattle.std.proofs.Common.{◌≡◌, ℕ, ◌*◌, ◌-◌, List, [], ◌∷◌, ◌++◌, length, replicate, true, false, refl}
 use Rattle.std.specs.Prelude.{Some, None}
 use Rattle.ubi_media.specs.Check.{check_from, remainder}
-use Rattle.ubi_media.specs.Record.{rec_bytes, rec_fault, rec_fields, rec_reading, empty_record, fields_from, record_of, judged, first_fault, breaks}
+use Rattle.ubi_media.specs.Record.{data_pad, rec_bytes, rec_fault, rec_fields, rec_reading, empty_record, fields_from, record_of, judged, first_fault, breaks, usable}
 use Rattle.ubi_media.specs.declared.record.RecFault.TheVariants as fault
 use Rattle.ubi_media.specs.declared.record.RecRead.TheVariants.{Empty, BadCrc, Fault, Valid}
 use Rattle.ubi_media.specs.declared.record.VolumeRecord.{VolumeRecord}
@@ -122,6 +122,15 @@ empty = refl
 no_record_written : rec_bytes small None ≡ slot [] 0xf116c36b
 unfolding rec_bytes empty_record check_from remainder
 no_record_written = refl
+
+-- what an alignment of 256 leaves free of 384 bytes, and what it uses
+pad_of_256 : data_pad small (record root { alignment = 256 }) ≡ 128
+unfolding root
+pad_of_256 = refl
+
+usable_of_256 : usable small (record root { alignment = 256 }) ≡ 256
+unfolding root
+usable_of_256 = refl
 
 -- the rules that a value breaks
 no_fault : rec_fault small root ≡ None

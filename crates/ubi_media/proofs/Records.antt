@@ -1,6 +1,6 @@
 -- Bytes have one reading as a record of the volume table, and of a record only the numbers can break a rule.
-use Rattle.std.proofs.Common.{◌≡◌, ◌≢◌, ℕ, zero, suc, ◌+◌, ◌-◌, ◌%◌, ◌^◌, ◌<◌, ◌≤◌, ◌==◌, ◌&&◌, Bool, true, false, not, cond, get_or, nat_lt, List, [], ◌∷◌, length, take, replicate, refl, sym, ap, subst, ◌∙◌, lit<, arith, slice_index, slice_range, IfSome, eq-eqb, eqb-true}
-use Rattle.std.specs.Prelude.{◌↔◌, Option, Some, None, if◌then◌else◌, find}
+use Rattle.std.proofs.Common.{◌≡◌, ◌≢◌, ℕ, ◌+◌, ◌-◌, ◌%◌, ◌^◌, ◌<◌, ◌≤◌, ◌==◌, ◌&&◌, Bool, true, false, not, cond, get_or, nat_lt, List, [], length, take, replicate, refl, sym, ap, subst, ◌∙◌, lit<, arith, slice_index, slice_range, IfSome, eq-eqb, eqb-true}
+use Rattle.std.specs.Prelude.{◌↔◌, Option, Some, None, if◌then◌else◌}
 use Rattle.std.specs.Option.{option_map_or}
 use Rattle.std.specs.Cmp.Lexicographic.{same_text, other_text}
 use Rattle.std.proofs.lemmas.Bool.Decides.{nat_tests}
@@ -23,6 +23,7 @@ use Rattle.ubi_media.specs.declared.record.VolumeRecord.{VolumeRecord}
 use Rattle.ubi_media.specs.declared.vid.VolKind.{VolKind}
 use Rattle.ubi_media.specs.declared.vid.VolKind.TheVariants.{Dynamic, Static}
 use Rattle.ubi_media.proofs.Checks.{check_from-lt}
+use Rattle.ubi_media.proofs.First.{none_passes}
 use Rattle.ubi_media.proofs.Names.{IsName, name_facts, padded_ends, padded_begins, begins_with_name}
 use Rattle.ubi_media.proofs.Readings.{not_equal}
 
@@ -35,23 +36,9 @@ not_false : (b : Bool) → (b ≡ false → ⊥) → b ≡ true
 not_false true h = refl
 not_false false h = absurd (h refl)
 
--- where no element passes, each fails
-pub none_passes : {X : Type 0} (p : X → Bool) (xs : List X) → find p xs ≡ None → (i : ℕ) (d : X) → i < length xs → p (get_or xs i d) ≡ false
-none_passes p [] e i d h = absurd (omega arith)
-none_passes p (x ∷ xs) e i d h =
-    elim (p x) as (λ b. p x ≡ b → p (get_or (x ∷ xs) i d) ≡ false) [
-      | true ↦ λ t. let found : find p (x ∷ xs) ≡ Some x = rw t refl in cc
-      | false ↦ λ t.
-          let rest : find p xs ≡ None = sym (let at : find p (x ∷ xs) ≡ find p xs = rw t refl in at) ∙ e in
-          elim i as (λ n. n < length (x ∷ xs) → p (get_or (x ∷ xs) n d) ≡ false) [
-            | zero ↦ λ _. t
-            | suc n ↦ λ k. none_passes p xs rest n d (omega arith)
-          ] h
-    ] refl
-
 -- fields that break no rule
 module _ (s : Sizes) (f : RecFields) where
-  kept : first_fault s f ≡ None → (i : ℕ) → i < length faults → breaks s f (get_or faults i fault.NotEmpty) ≡ false
+  pub kept : first_fault s f ≡ None → (i : ℕ) → i < length faults → breaks s f (get_or faults i fault.NotEmpty) ≡ false
   unfolding first_fault
   kept e i h = none_passes (breaks s f) faults e i fault.NotEmpty h
 

@@ -1,5 +1,5 @@
 -- What the rules of a volume-identifier header say of its sizes.
-use Rattle.std.proofs.Common.{◌≡◌, ℕ, ◌-◌, ◌<◌, ◌≤◌, ◌==◌, Bool, true, false, List, get_or, refl, sym, ap, subst, ◌∙◌, lit<, arith}
+use Rattle.std.proofs.Common.{◌≡◌, ℕ, ◌-◌, ◌≤◌, ◌==◌, Bool, true, false, List, refl, sym, ap, ◌∙◌, lit<, arith}
 use Rattle.std.specs.Prelude.{None, if◌then◌else◌}
 use Rattle.std.proofs.lemmas.Bool.Decides.{nat_tests}
 use Rattle.ubi_media.specs.Geometry.{Sizes, leb_size}
@@ -8,10 +8,9 @@ use Rattle.ubi_media.specs.declared.vid.VidFault.TheVariants as fault
 use Rattle.ubi_media.specs.declared.vid.VidFields.{VidFields}
 use Rattle.ubi_media.specs.declared.vid.VidHeader.{VidHeader}
 use Rattle.ubi_media.specs.declared.vid.VidRead.TheVariants.{Valid}
-use Rattle.ubi_media.specs.declared.vid.VolKind.{VolKind}
 use Rattle.ubi_media.specs.declared.vid.VolKind.TheVariants.{Dynamic, Static}
+use Rattle.ubi_media.proofs.First.{none_passes}
 use Rattle.ubi_media.proofs.Readings.{one_vid_reading}
-use Rattle.ubi_media.proofs.Records.{none_passes}
 
 -- the number of the static kind is 2
 static_number : (n : ℕ) → kind_of n ≡ Static → (n == 2) ≡ true

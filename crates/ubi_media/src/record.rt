@@ -211,9 +211,12 @@ fn empty_record() -> [u8; RECORD_SIZE]
 
 /// What 172 bytes are as a record of the volume table. What stands behind the zero that ends the name isn't looked at,
 /// and neither is the padding, but in the empty record.
+///
+/// A record that is Valid breaks no rule: [`rec_fault`] of it is None.
 pub fn read_rec(geometry: &Geometry, bytes: &[u8; RECORD_SIZE]) -> RecRead
     ensures is { RecIs geometry.now bytes.now result }
     ensures value { result ≡ rec_reading geometry.now bytes.now }
+    ensures sound { (r : VolumeRecord) → result ≡ RecRead.Valid r → rec_fault geometry.now r ≡ None }
 {
     if !is_sealed(bytes, CHECK) {
         return RecRead::BadCrc;

@@ -4,12 +4,13 @@ use Rattle.std.specs.Prelude.{Option, Some, None}
 use Rattle.std.proofs.lemmas.List.{take_more, take_all, get_or-take}
 use Rattle.ubi_media.specs.Geometry.{Sizes}
 use Rattle.ubi_media.specs.declared.refusal.Refusal.TheVariants as refusal
+use Rattle.ubi_scan.specs.Choice.{beats}
 use Rattle.ubi_scan.specs.Image.{block}
 use Rattle.ubi_scan.specs.Members.{IsMember, Leb, NoMember, Wins, good_at, good_in, named_in, sqnum_at, sqnum_in}
 use Rattle.ubi_scan.specs.Scan.{leb_cmp}
 use Rattle.ubi_scan.specs.Faults.{NoFault}
 use Rattle.ubi_scan.proofs.Keys.{leb_total, leb_exact, told}
-use Rattle.ubi_scan.proofs.Choice.{block_old, block_new, member_old, member_new, IsBest, none_skip, best_skip, best_first, best_keep, best_take, beats, false_or_true}
+use Rattle.ubi_scan.proofs.Choice.{block_old, block_new, member_old, member_new, IsBest, none_skip, best_skip, best_first, best_keep, best_take, false_or_true}
 
 pub below_or_above : (p q : ℕ) → (p ≡ q) ⊎ (p < q) ⊎ (q < p)
 below_or_above p q = grind arith

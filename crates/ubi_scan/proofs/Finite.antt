@@ -1,5 +1,5 @@
 -- A map of the program as a finite map, and the entries of a finite map by their places.
-use Rattle.std.proofs.Common.{◌≡◌, ℕ, zero, suc, ◌<◌, Bool, true, false, cond, ◌&&◌, T, List, [], ◌∷◌, length, get_or, refl, ap, sym, ◌∙◌, subst, arith}
+use Rattle.std.proofs.Common.{◌≡◌, ℕ, zero, suc, ◌<◌, true, false, cond, ◌&&◌, T, List, [], ◌∷◌, length, get_or, refl, ap, sym, ◌∙◌, subst, arith}
 use Rattle.std.specs.Prelude.{Some}
 use Rattle.std.specs.declared.cmp.Ordering.{Ordering}
 use Rattle.std.specs.declared.cmp.Ordering.TheVariants.{Less, Equal, Greater}
@@ -15,14 +15,7 @@ use Rattle.std.specs.List.{AllByRecursion}
 use Rattle.std.specs.List.Sorted.{IsStrictlySortedBy}
 use Rattle.std.specs.Map.{keys_of}
 use Rattle.std.proofs.lemmas.Map.Keys.{sorted_head, sorted_tail}
-
-both_left : (a b : Bool) → T (a && b) → T a
-both_left true b p = tt
-both_left false b p = absurd p
-
-both_right : (a b : Bool) → T (a && b) → T b
-both_right true b p = p
-both_right false b p = absurd p
+use Rattle.ubi_scan.proofs.Tests.{both_are, both_left, both_right}
 
 less : (r : Ordering) → T (is_lt r) → r ≡ Less
 less Less p = refl
@@ -33,10 +26,6 @@ equal : (r : Ordering) → is_eq r ≡ true → r ≡ Equal
 equal Less p = absurd (cc)
 equal Equal p = refl
 equal Greater p = absurd (cc)
-
-both_are : (a b : Bool) → T a → T b → T (a && b)
-both_are true b p q = q
-both_are false b p q = p
 
 module _ {K X : Type 0} {R : K → K → Ordering} (o : IsTotalOrder R) where
   find_lookup : (q : K) (es : List (K × X)) → find R q es ≡ lookup (is_at (R q)) es

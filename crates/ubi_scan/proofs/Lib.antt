@@ -1,3 +1,4 @@
+pub mod BlockVectors
 pub mod Causes
 pub mod Choice
 pub mod Chunks
@@ -14,4 +15,5 @@ pub mod Places
 pub mod Seen
 pub mod Shown
 pub mod SoFar
+pub mod Tests
 pub mod Told

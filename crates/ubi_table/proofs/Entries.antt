@@ -1,5 +1,5 @@
--- Entries by rising number, as a finite map.
-use Rattle.std.proofs.Common.{◌≡◌, ℕ, suc, ◌+◌, ◌<◌, ◌≤◌, inl, inr, Bool, true, false, ◌&&◌, T, List, [], ◌∷◌, length, map, get_or, refl, ap, sym, ◌∙◌, subst, arith}
+-- What a table keeps holds of its records, and how many they are and reserve.
+use Rattle.std.proofs.Common.{◌≡◌, ℕ, suc, ◌+◌, ◌<◌, ◌≤◌, inl, inr, T, List, [], ◌∷◌, length, map, get_or, refl, ap, sym, ◌∙◌, subst, arith}
 use Rattle.std.specs.Prelude.{All, IsTrue, None, fold}
 use Rattle.std.specs.Cmp.Lexicographic.{other_text}
 use Rattle.std.specs.FinMap.{from_entries, is_sorted}
@@ -7,6 +7,7 @@ use Rattle.std.specs.List.{sum_by}
 use Rattle.std.specs.Ordering.{nat_cmp}
 use Rattle.std.specs.declared.cmp.Ordering.TheVariants.{Less}
 use Rattle.std.proofs.lemmas.Cmp.{nat_cmp_total, ranked}
+use Rattle.std.proofs.lemmas.Float.{T_from_true}
 use Rattle.std.proofs.lemmas.List.{get_or_default}
 use Rattle.ubi_media.specs.Fields.{same_bytes}
 use Rattle.ubi_media.specs.Geometry.{Sizes, slots}
@@ -15,13 +16,10 @@ use Rattle.ubi_media.specs.declared.record.VolumeRecord.{VolumeRecord}
 use Rattle.ubi_scan.proofs.Decided.{below_or_above}
 use Rattle.ubi_scan.proofs.Entries.{entry_place, sorted_entries}
 use Rattle.ubi_scan.proofs.Finite.{rising_at}
+use Rattle.ubi_scan.proofs.Tests.{both_right}
 use Rattle.ubi_table.specs.Records.{AreRecords, space}
 use Rattle.ubi_table.specs.Slots.{AreKept}
 use Rattle.ubi_table.proofs.Names.{Entry, once_apart}
-
--- a test that is true
-pub true_of : (b : Bool) → b ≡ true → T b
-true_of b e = subst T (sym e) tt
 
 -- what a table keeps holds of its records
 pub kept_records : (s : Sizes) (es : List Entry) → AreKept s es → AreRecords (record { sizes = s; of = from_entries es })
@@ -48,10 +46,6 @@ kept_records s es h = record {
 -- numbers that rise, from k on and below n, are no more than those between
 rest_rises : (e : Entry) (es : List Entry) → T (is_sorted nat_cmp (e ∷ es)) → T (is_sorted nat_cmp es)
 rest_rises e es h = both_right _ _ h
-  where
-    both_right : (a b : Bool) → T (a && b) → T b
-    both_right true b p = p
-    both_right false b p = absurd p
 
 few : (es : List Entry) (k n : ℕ) → k ≤ n → T (is_sorted nat_cmp es) → All (λ e. k ≤ e.0) es → All (λ e. e.0 < n) es → k + length es ≤ n
 few [] k n h sorted from below = omega arith
@@ -66,7 +60,7 @@ few (e ∷ es) k n h sorted from below =
 -- a table has no more records than slots
 pub few_kept : (s : Sizes) (es : List Entry) → AreKept s es → length es ≤ slots s
 few_kept s es h =
-    let size = few es 0 (slots s) (omega arith) (true_of _ h.sorted) (λ i d l. omega arith) h.slot in omega arith
+    let size = few es 0 (slots s) (omega arith) (T_from_true _ h.sorted) (λ i d l. omega arith) h.slot in omega arith
 
 -- the sum over the values of a map
 sum_values : (es : List Entry) (n : ℕ) → fold (λ m (r : VolumeRecord). m + r.reserved) n (map (λ (e : Entry). e.1) es) ≡ fold (λ m (e : Entry). m + e.1.reserved) n es

@@ -1,5 +1,5 @@
 -- What is read from bytes is what a table keeps.
-use Rattle.std.proofs.Common.{◌≡◌, ℕ, zero, suc, ◌+◌, ◌<◌, ◌≤◌, Bool, true, false, ◌&&◌, T, List, [], ◌∷◌, length, map, get_or, refl, ap, sym, ◌∙◌, subst, arith}
+use Rattle.std.proofs.Common.{◌≡◌, ℕ, zero, suc, ◌+◌, ◌<◌, ◌≤◌, T, List, [], ◌∷◌, length, map, get_or, refl, ap, sym, ◌∙◌, subst, arith}
 use Rattle.std.specs.Prelude.{All, None, Option, Some, option_map}
 use Rattle.std.specs.Cmp.{nat_cmp_is}
 use Rattle.std.specs.FinMap.{is_sorted}
@@ -13,19 +13,12 @@ use Rattle.ubi_media.specs.Record.{rec_fault, rec_reading, record_size}
 use Rattle.ubi_media.specs.declared.record.RecRead.{RecRead}
 use Rattle.ubi_media.specs.declared.record.RecRead.TheVariants as read
 use Rattle.ubi_media.specs.declared.record.VolumeRecord.{VolumeRecord}
+use Rattle.ubi_media.proofs.Sound.{valid_sound}
 use Rattle.ubi_scan.specs.Image.{slots_in}
 use Rattle.ubi_scan.proofs.Chunks.{length-first_chunks}
+use Rattle.ubi_scan.proofs.Tests.{both_are, true_is}
 use Rattle.ubi_table.specs.Slots.{AreKept, entries_of, records_in, twice, valid}
 use Rattle.ubi_table.proofs.Names.{Entry}
-use Rattle.ubi_table.proofs.Sound.{valid_sound}
-
-both : (a b : Bool) → T a → T b → T (a && b)
-both true b p q = q
-both false b p q = p
-
-true_is : (b : Bool) → T b → b ≡ true
-true_is true p = refl
-true_is false p = absurd p
 
 less : (x n : ℕ) → x < n → T (is_lt (nat_cmp x n))
 less x n h = subst (λ r. T (is_lt r)) (nat_cmp_is x n Less h) tt
@@ -41,7 +34,7 @@ all_more P x xs p h zero d l = p
 all_more P x xs p h (suc i) d l = h i d (omega arith)
 
 -- what one more slot adds
-abbrev with_slot : ℕ → Option VolumeRecord → List Entry → List Entry
+abbrev pub with_slot : ℕ → Option VolumeRecord → List Entry → List Entry
 with_slot n o es = cons_option (option_map (λ (r : VolumeRecord). (n, r)) o) es
 
 -- the numbers rise
@@ -51,7 +44,7 @@ below_rest x n (r ∷ rs) h =
     let rest = below_rest x (n + 1) rs (omega arith) in
     elim (valid r) as (λ o. T (below_all nat_cmp x (with_slot n o (entries_of (enumerate_from (n + 1) rs))))) [
       | None ↦ rest
-      | Some v ↦ both _ _ (less x n h) rest
+      | Some v ↦ both_are _ _ (less x n h) rest
     ]
 
 pub rises : (n : ℕ) (rs : List RecRead) → T (is_sorted nat_cmp (entries_of (enumerate_from n rs)))
@@ -60,7 +53,7 @@ rises n (r ∷ rs) =
     let rest = rises (n + 1) rs in
     elim (valid r) as (λ o. T (is_sorted nat_cmp (with_slot n o (entries_of (enumerate_from (n + 1) rs))))) [
       | None ↦ rest
-      | Some v ↦ both _ _ (below_rest n (n + 1) rs (omega arith)) rest
+      | Some v ↦ both_are _ _ (below_rest n (n + 1) rs (omega arith)) rest
     ]
 
 -- below the number of slots

@@ -1,7 +1,6 @@
 pub mod CopyVectors
 pub mod Deciding
 pub mod Entries
-pub mod First
 pub mod Held
 pub mod Kept
 pub mod Moved
@@ -9,5 +8,4 @@ pub mod Names
 pub mod One
 pub mod ReadBack
 pub mod Reading
-pub mod Sound
 pub mod TableVectors

@@ -2,6 +2,7 @@ use Rattle.std.proofs.Common.{◌≡◌, ◌∙◌, ap, sym, true, false}
 use Rattle.ubi_media.specs.Fields.{same_bytes}
 use Rattle.ubi_media.specs.Record.{empty_record, judged}
 use Rattle.ubi_media.proofs.Records.{reads_bad, reads_empty, reads_judged, rec_is_of}
+use Rattle.ubi_media.proofs.Sound.{valid_sound}
 use Rattle.ubi_media.proofs.record.read_rec.Goals as goal
 
 pub returns-then-not-is_sealed-clause-value : goal.returns-then-not-is_sealed-clause-value
@@ -29,3 +30,12 @@ returns-clause-value c =
 
 pub returns-clause-is : goal.returns-clause-is
 returns-clause-is c = rec_is_of _ _ _ (returns-clause-value c)
+
+pub returns-then-not-is_sealed-clause-sound : goal.returns-then-not-is_sealed-clause-sound
+returns-then-not-is_sealed-clause-sound c r e = valid_sound _ _ r (sym (returns-then-not-is_sealed-clause-value c) ∙ e)
+
+pub returns-then-eq-clause-sound : goal.returns-then-eq-clause-sound
+returns-then-eq-clause-sound c r e = valid_sound _ _ r (sym (returns-then-eq-clause-value c) ∙ e)
+
+pub returns-clause-sound : goal.returns-clause-sound
+returns-clause-sound c r e = valid_sound _ _ r (sym (returns-clause-value c) ∙ e)

@@ -1,5 +1,5 @@
 -- What is read as a record breaks no rule, as a value.
-use Rattle.std.proofs.Common.{◌≡◌, ℕ, ◌<◌, ◌%◌, ◌==◌, ◌&&◌, Bool, true, false, not, List, length, slice_index_or, refl, subst, lit<, arith, IfSome}
+use Rattle.std.proofs.Common.{◌≡◌, ℕ, ◌%◌, ◌==◌, ◌&&◌, Bool, true, false, not, List, refl, subst, lit<, arith, IfSome}
 use Rattle.std.specs.Prelude.{Option, Some, None, if◌then◌else◌}
 use Rattle.std.specs.Option.{option_map_or}
 use Rattle.std.proofs.lemmas.Bool.Decides.{nat_tests}
@@ -11,35 +11,32 @@ use Rattle.ubi_media.specs.declared.record.RecFault.{RecFault}
 use Rattle.ubi_media.specs.declared.record.RecFault.TheVariants as fault
 use Rattle.ubi_media.specs.declared.record.RecRead.TheVariants as read
 use Rattle.ubi_media.specs.declared.record.VolumeRecord.{VolumeRecord}
-use Rattle.ubi_media.proofs.Records.{divisor_kept, name_kept, number_faults}
-use Rattle.ubi_table.proofs.First.{found_passes, none_passes}
+use Rattle.ubi_media.proofs.First.{found_passes}
+use Rattle.ubi_media.proofs.Records.{divisor_kept, kept, name_kept, number_faults}
 
 -- the padding that follows from the alignment is the one that was read
 pad_is : (alignment pad left : ℕ) → (alignment == 0) ≡ false → (not (alignment == 0) && not (pad == left)) ≡ false → (if alignment == 0 then 0 else left) ≡ pad
 pad_is alignment pad left e h = rw e (grind (arith, nat_tests))
 
 module _ (s : Sizes) (bytes : List ℕ) (none : first_fault s (rec_fields bytes) ≡ None) where
-  kept : (i : ℕ) → i < length faults → breaks s (rec_fields bytes) (slice_index_or faults i fault.NotEmpty) ≡ false
-  kept i h = none_passes (breaks s (rec_fields bytes)) faults (unfold first_fault in none) i fault.NotEmpty h
-
   again : VolumeRecord
   again = record_of (rec_fields bytes)
 
   same_pad : (if (rec_fields bytes).alignment == 0 then 0 else leb_size s % (rec_fields bytes).alignment) ≡ (rec_fields bytes).data_pad
   same_pad = pad_is (rec_fields bytes).alignment (rec_fields bytes).data_pad (leb_size s % (rec_fields bytes).alignment) (divisor_kept s (rec_fields bytes) none)
-      (unfold breaks in kept 4 (lit< tt))
+      (unfold breaks in kept s (rec_fields bytes) none 4 (lit< tt))
 
   not_empty : breaks s (fields_from s again) fault.NotEmpty ≡ false
-  not_empty = unfold breaks fields_from again record_of in kept 0 (lit< tt)
+  not_empty = unfold breaks fields_from again record_of in kept s (rec_fields bytes) none 0 (lit< tt)
 
   not_negative : breaks s (fields_from s again) fault.Negative ≡ false
-  not_negative = unfold breaks fields_from again record_of in rw same_pad (kept 1 (lit< tt))
+  not_negative = unfold breaks fields_from again record_of in rw same_pad (kept s (rec_fields bytes) none 1 (lit< tt))
 
   aligned : breaks s (fields_from s again) fault.Alignment ≡ false
-  aligned = unfold breaks fields_from again record_of in kept 2 (lit< tt)
+  aligned = unfold breaks fields_from again record_of in kept s (rec_fields bytes) none 2 (lit< tt)
 
   aligned_page : breaks s (fields_from s again) fault.AlignmentPage ≡ false
-  aligned_page = unfold breaks fields_from again record_of in kept 3 (lit< tt)
+  aligned_page = unfold breaks fields_from again record_of in kept s (rec_fields bytes) none 3 (lit< tt)
 
   named : is_name again.name ≡ true
   named = unfold again record_of in name_kept s (rec_fields bytes) none
