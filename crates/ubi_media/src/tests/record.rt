@@ -72,16 +72,6 @@ fn reads_records(rt: HostRuntime) -> Result<(), Fail> {
         alignment: 256,
         ..root
     };
-    let long = VolumeRecord {
-        name: VolName::new(&[b'a'; 127]).ok_or("a name")?,
-        ..root
-    };
-    let marked = VolumeRecord {
-        kind: VolKind::Static,
-        marker: true,
-        flags: 0xFF,
-        ..root
-    };
     // The checks were worked out by another program.
     let cases = [
         ("a sound record", ROOT, 0x71DF_B11D, root),
@@ -95,6 +85,24 @@ fn reads_records(rt: HostRuntime) -> Result<(), Fail> {
             0x30ED_19E0,
             aligned,
         ),
+    ];
+    for (what, fields, check, volume) in cases {
+        let read = read_rec(&geometry, &fields.bytes(check));
+        assert_eq!(rt; read, RecRead::Valid(volume), "{what}");
+    }
+    Ok(())
+}
+
+#[test]
+fn reads_names(rt: HostRuntime) -> Result<(), Fail> {
+    let geometry = Geometry::new(512, 64, 64, 128, 32)?;
+    let root = root()?;
+    let long = VolumeRecord {
+        name: VolName::new(&[b'a'; 127]).ok_or("a name")?,
+        ..root
+    };
+    // The checks were worked out by another program.
+    let cases = [
         (
             "the longest name",
             Fields {
@@ -114,30 +122,44 @@ fn reads_records(rt: HostRuntime) -> Result<(), Fail> {
             0xA4DC_AEDB,
             root,
         ),
-        (
-            "a static volume, marked and with flags",
-            Fields {
-                kind: 2,
-                marker: 1,
-                flags: 0xFF,
-                ..ROOT
-            },
-            0xB52A_4690,
-            marked,
-        ),
     ];
     for (what, fields, check, volume) in cases {
-        assert_eq!(rt;
-            read_rec(&geometry, &fields.bytes(check)),
-            RecRead::Valid(volume),
-            "{what}"
-        );
+        let read = read_rec(&geometry, &fields.bytes(check));
+        assert_eq!(rt; read, RecRead::Valid(volume), "{what}");
     }
     Ok(())
 }
 
 #[test]
-fn finds_faults_of_bytes(rt: HostRuntime) -> Result<(), Fail> {
+fn reads_markers_and_flags(rt: HostRuntime) -> Result<(), Fail> {
+    let geometry = Geometry::new(512, 64, 64, 128, 32)?;
+    let marked = VolumeRecord {
+        kind: VolKind::Static,
+        marker: true,
+        flags: 0xFF,
+        ..root()?
+    };
+    // The checks were worked out by another program.
+    let cases = [(
+        "a static volume, marked and with flags",
+        Fields {
+            kind: 2,
+            marker: 1,
+            flags: 0xFF,
+            ..ROOT
+        },
+        0xB52A_4690,
+        marked,
+    )];
+    for (what, fields, check, volume) in cases {
+        let read = read_rec(&geometry, &fields.bytes(check));
+        assert_eq!(rt; read, RecRead::Valid(volume), "{what}");
+    }
+    Ok(())
+}
+
+#[test]
+fn finds_records_that_are_not_empty(rt: HostRuntime) -> Result<(), Fail> {
     let geometry = Geometry::new(512, 64, 64, 128, 32)?;
     // The checks were worked out by another program.
     let cases = [
@@ -164,6 +186,20 @@ fn finds_faults_of_bytes(rt: HostRuntime) -> Result<(), Fail> {
             0x6A65_29BF,
             RecFault::NotEmpty,
         ),
+    ];
+    for (what, fields, check, fault) in cases {
+        let read = read_rec(&geometry, &fields.bytes(check));
+        assert_eq!(rt; read, RecRead::Fault(fault), "{what}");
+    }
+    assert_eq!(rt; read_rec(&geometry, &[0; 172]), RecRead::BadCrc);
+    Ok(())
+}
+
+#[test]
+fn finds_numbers_of_bytes_at_fault(rt: HostRuntime) -> Result<(), Fail> {
+    let geometry = Geometry::new(512, 64, 64, 128, 32)?;
+    // The checks were worked out by another program.
+    let cases = [
         (
             "a negative number of eraseblocks",
             Fields {
@@ -182,6 +218,19 @@ fn finds_faults_of_bytes(rt: HostRuntime) -> Result<(), Fail> {
             0xD136_075E,
             RecFault::Alignment,
         ),
+    ];
+    for (what, fields, check, fault) in cases {
+        let read = read_rec(&geometry, &fields.bytes(check));
+        assert_eq!(rt; read, RecRead::Fault(fault), "{what}");
+    }
+    Ok(())
+}
+
+#[test]
+fn finds_alignments_of_bytes_at_fault(rt: HostRuntime) -> Result<(), Fail> {
+    let geometry = Geometry::new(512, 64, 64, 128, 32)?;
+    // The checks were worked out by another program.
+    let cases = [
         (
             "an alignment above a logical eraseblock",
             Fields {
@@ -209,6 +258,19 @@ fn finds_faults_of_bytes(rt: HostRuntime) -> Result<(), Fail> {
             0x3E43_FEC2,
             RecFault::DataPad,
         ),
+    ];
+    for (what, fields, check, fault) in cases {
+        let read = read_rec(&geometry, &fields.bytes(check));
+        assert_eq!(rt; read, RecRead::Fault(fault), "{what}");
+    }
+    Ok(())
+}
+
+#[test]
+fn finds_kinds_and_markers_at_fault(rt: HostRuntime) -> Result<(), Fail> {
+    let geometry = Geometry::new(512, 64, 64, 128, 32)?;
+    // The checks were worked out by another program.
+    let cases = [
         (
             "type 3",
             Fields { kind: 3, ..ROOT },
@@ -221,6 +283,19 @@ fn finds_faults_of_bytes(rt: HostRuntime) -> Result<(), Fail> {
             0x7F12_F77C,
             RecFault::Marker,
         ),
+    ];
+    for (what, fields, check, fault) in cases {
+        let read = read_rec(&geometry, &fields.bytes(check));
+        assert_eq!(rt; read, RecRead::Fault(fault), "{what}");
+    }
+    Ok(())
+}
+
+#[test]
+fn finds_names_of_bytes_at_fault(rt: HostRuntime) -> Result<(), Fail> {
+    let geometry = Geometry::new(512, 64, 64, 128, 32)?;
+    // The checks were worked out by another program.
+    let cases = [
         (
             "a name too long",
             Fields {
@@ -240,6 +315,19 @@ fn finds_faults_of_bytes(rt: HostRuntime) -> Result<(), Fail> {
             0xC238_261D,
             RecFault::NameBlank,
         ),
+    ];
+    for (what, fields, check, fault) in cases {
+        let read = read_rec(&geometry, &fields.bytes(check));
+        assert_eq!(rt; read, RecRead::Fault(fault), "{what}");
+    }
+    Ok(())
+}
+
+#[test]
+fn finds_lengths_of_names_at_fault(rt: HostRuntime) -> Result<(), Fail> {
+    let geometry = Geometry::new(512, 64, 64, 128, 32)?;
+    // The checks were worked out by another program.
+    let cases = [
         (
             "a name longer than its length",
             Fields {
@@ -261,13 +349,9 @@ fn finds_faults_of_bytes(rt: HostRuntime) -> Result<(), Fail> {
         ),
     ];
     for (what, fields, check, fault) in cases {
-        assert_eq!(rt;
-            read_rec(&geometry, &fields.bytes(check)),
-            RecRead::Fault(fault),
-            "{what}"
-        );
+        let read = read_rec(&geometry, &fields.bytes(check));
+        assert_eq!(rt; read, RecRead::Fault(fault), "{what}");
     }
-    assert_eq!(rt; read_rec(&geometry, &[0; 172]), RecRead::BadCrc);
     Ok(())
 }
 

@@ -32,7 +32,16 @@ const BASE: Fields = Fields {
     data_crc: 0,
 };
 
-/// What it says.
+/// The last logical eraseblock of a static volume of two, one byte short of full.
+const LAST: Fields = Fields {
+    kind: 2,
+    used_ebs: 2,
+    data_size: 383,
+    lnum: 1,
+    ..BASE
+};
+
+/// What the first says.
 const HEADER: VidHeader = VidHeader {
     kind: VolKind::Dynamic,
     copy_flag: false,
@@ -67,53 +76,53 @@ impl Fields {
 }
 
 #[test]
-fn writes_headers(rt: HostRuntime) {
+fn writes_a_header_of_the_table(rt: HostRuntime) {
     let layout = VidHeader {
-        kind: VolKind::Dynamic,
-        copy_flag: false,
         compat: 5,
         vol_id: 0x7FFF_EFFF,
         lnum: 1,
-        data_size: 0,
-        used_ebs: 0,
-        data_pad: 0,
-        data_crc: 0,
-        sqnum: 0,
+        ..HEADER
     };
-    let copied = VidHeader {
-        copy_flag: true,
-        compat: 0,
-        vol_id: 0,
-        lnum: 2,
-        data_size: 128,
-        data_crc: 0x1122_3344,
-        sqnum: 0x0102_0304_0506_0708,
-        ..layout
-    };
-    let fixed = VidHeader {
-        kind: VolKind::Static,
-        compat: 0,
-        vol_id: 3,
-        data_size: 1,
-        used_ebs: 2,
-        data_pad: 128,
-        data_crc: 0x00FF_FFFF,
-        sqnum: 7,
-        ..layout
-    };
-    // The checks were worked out by another program.
+    // The checks of these headers were worked out by another program.
     assert_eq!(rt;
         write_vid(&layout),
         *b"UBI!\x01\x01\0\x05\
         \x7f\xff\xef\xff\0\0\0\x01\0\0\0\0\0\0\0\0\0\0\0\0\0\0\0\0\0\0\0\0\0\0\0\0\
         \0\0\0\0\0\0\0\0\0\0\0\0\0\0\0\0\0\0\0\0\x1b\xb3\x4c\xe4"
     );
+}
+
+#[test]
+fn writes_a_header_of_a_copy(rt: HostRuntime) {
+    let copied = VidHeader {
+        copy_flag: true,
+        lnum: 2,
+        data_size: 128,
+        data_crc: 0x1122_3344,
+        sqnum: 0x0102_0304_0506_0708,
+        ..HEADER
+    };
     assert_eq!(rt;
         write_vid(&copied),
         *b"UBI!\x01\x01\x01\0\
         \0\0\0\0\0\0\0\x02\0\0\0\0\0\0\0\x80\0\0\0\0\0\0\0\0\x11\x22\x33\x44\0\0\0\0\
         \x01\x02\x03\x04\x05\x06\x07\x08\0\0\0\0\0\0\0\0\0\0\0\0\x4a\x22\x91\xd7"
     );
+}
+
+#[test]
+fn writes_a_header_of_a_static_volume(rt: HostRuntime) {
+    let fixed = VidHeader {
+        kind: VolKind::Static,
+        vol_id: 3,
+        lnum: 1,
+        data_size: 1,
+        used_ebs: 2,
+        data_pad: 128,
+        data_crc: 0x00FF_FFFF,
+        sqnum: 7,
+        ..HEADER
+    };
     assert_eq!(rt;
         write_vid(&fixed),
         *b"UBI!\x01\x02\0\0\
@@ -135,6 +144,32 @@ fn reads_headers(rt: HostRuntime) -> Result<(), Fail> {
             VidRead::Valid(HEADER),
         ),
         (
+            "a padding below half",
+            Fields {
+                data_pad: 191,
+                ..BASE
+            },
+            0x9241_8BA8,
+            VidRead::Valid(VidHeader {
+                data_pad: 191,
+                ..HEADER
+            }),
+        ),
+    ];
+    for (what, fields, check, read) in cases {
+        assert_eq!(rt; read_vid(&geometry, &fields.bytes(check)), read, "{what}");
+    }
+    assert_eq!(rt; read_vid(&geometry, &[0xFF; 64]), VidRead::Blank);
+    assert_eq!(rt; read_vid(&geometry, &[0; 64]), VidRead::Corrupt);
+    Ok(())
+}
+
+#[test]
+fn finds_copy_flags_and_numbers_at_fault(rt: HostRuntime) -> Result<(), Fail> {
+    let geometry = Geometry::new(512, 64, 64, 128, 32)?;
+    // The checks were worked out by another program.
+    let cases = [
+        (
             "copy flag 2 in an unknown volume",
             Fields {
                 copy_flag: 2,
@@ -153,6 +188,18 @@ fn reads_headers(rt: HostRuntime) -> Result<(), Fail> {
             0xAAB5_ADC5,
             VidRead::Fault(VidFault::Negative),
         ),
+    ];
+    for (what, fields, check, read) in cases {
+        assert_eq!(rt; read_vid(&geometry, &fields.bytes(check)), read, "{what}");
+    }
+    Ok(())
+}
+
+#[test]
+fn finds_volumes_at_fault(rt: HostRuntime) -> Result<(), Fail> {
+    let geometry = Geometry::new(512, 64, 64, 128, 32)?;
+    // The checks were worked out by another program.
+    let cases = [
         (
             "a volume above the users",
             Fields {
@@ -171,6 +218,18 @@ fn reads_headers(rt: HostRuntime) -> Result<(), Fail> {
             0x69B6_3CBF,
             VidRead::Fault(VidFault::VolumeId),
         ),
+    ];
+    for (what, fields, check, read) in cases {
+        assert_eq!(rt; read_vid(&geometry, &fields.bytes(check)), read, "{what}");
+    }
+    Ok(())
+}
+
+#[test]
+fn finds_compatibilities_and_kinds_at_fault(rt: HostRuntime) -> Result<(), Fail> {
+    let geometry = Geometry::new(512, 64, 64, 128, 32)?;
+    // The checks were worked out by another program.
+    let cases = [
         (
             "a compatibility in a user's volume",
             Fields { compat: 1, ..BASE },
@@ -192,18 +251,18 @@ fn reads_headers(rt: HostRuntime) -> Result<(), Fail> {
             0x37B6_CD77,
             VidRead::Fault(VidFault::Kind),
         ),
-        (
-            "a padding below half",
-            Fields {
-                data_pad: 191,
-                ..BASE
-            },
-            0x9241_8BA8,
-            VidRead::Valid(VidHeader {
-                data_pad: 191,
-                ..HEADER
-            }),
-        ),
+    ];
+    for (what, fields, check, read) in cases {
+        assert_eq!(rt; read_vid(&geometry, &fields.bytes(check)), read, "{what}");
+    }
+    Ok(())
+}
+
+#[test]
+fn finds_paddings_and_copies_too_large(rt: HostRuntime) -> Result<(), Fail> {
+    let geometry = Geometry::new(512, 64, 64, 128, 32)?;
+    // The checks were worked out by another program.
+    let cases = [
         (
             "a padding of half",
             Fields {
@@ -223,47 +282,55 @@ fn reads_headers(rt: HostRuntime) -> Result<(), Fail> {
             0xD86C_0176,
             VidRead::Fault(VidFault::Size),
         ),
+    ];
+    for (what, fields, check, read) in cases {
+        assert_eq!(rt; read_vid(&geometry, &fields.bytes(check)), read, "{what}");
+    }
+    Ok(())
+}
+
+#[test]
+fn reads_static_data_up_to_the_last(rt: HostRuntime) -> Result<(), Fail> {
+    let geometry = Geometry::new(512, 64, 64, 128, 32)?;
+    let last = VidHeader {
+        kind: VolKind::Static,
+        used_ebs: 2,
+        data_size: 383,
+        lnum: 1,
+        ..HEADER
+    };
+    // The checks were worked out by another program.
+    let cases = [
         (
             "static data that end before the last",
-            Fields {
-                kind: 2,
-                used_ebs: 2,
-                data_size: 383,
-                ..BASE
-            },
+            Fields { lnum: 0, ..LAST },
             0xE888_F7B0,
             VidRead::Fault(VidFault::Size),
         ),
         (
             "static data that end in the last",
-            Fields {
-                kind: 2,
-                used_ebs: 2,
-                data_size: 383,
-                lnum: 1,
-                ..BASE
-            },
+            LAST,
             0x4B1E_DFFC,
-            VidRead::Valid(VidHeader {
-                kind: VolKind::Static,
-                used_ebs: 2,
-                data_size: 383,
-                lnum: 1,
-                ..HEADER
-            }),
+            VidRead::Valid(last),
         ),
         (
             "static data behind the last",
-            Fields {
-                kind: 2,
-                used_ebs: 2,
-                data_size: 383,
-                lnum: 2,
-                ..BASE
-            },
+            Fields { lnum: 2, ..LAST },
             0x74D5_A169,
             VidRead::Fault(VidFault::Lnum),
         ),
+    ];
+    for (what, fields, check, read) in cases {
+        assert_eq!(rt; read_vid(&geometry, &fields.bytes(check)), read, "{what}");
+    }
+    Ok(())
+}
+
+#[test]
+fn finds_used_eraseblocks_at_fault(rt: HostRuntime) -> Result<(), Fail> {
+    let geometry = Geometry::new(512, 64, 64, 128, 32)?;
+    // The checks were worked out by another program.
+    let cases = [
         (
             "static data in no eraseblock",
             Fields {
@@ -283,6 +350,18 @@ fn reads_headers(rt: HostRuntime) -> Result<(), Fail> {
             0x4543_3BA4,
             VidRead::Fault(VidFault::UsedEbs),
         ),
+    ];
+    for (what, fields, check, read) in cases {
+        assert_eq!(rt; read_vid(&geometry, &fields.bytes(check)), read, "{what}");
+    }
+    Ok(())
+}
+
+#[test]
+fn finds_copy_fields_at_fault(rt: HostRuntime) -> Result<(), Fail> {
+    let geometry = Geometry::new(512, 64, 64, 128, 32)?;
+    // The checks were worked out by another program.
+    let cases = [
         (
             "a check of data that are no copy",
             Fields {
@@ -305,7 +384,5 @@ fn reads_headers(rt: HostRuntime) -> Result<(), Fail> {
     for (what, fields, check, read) in cases {
         assert_eq!(rt; read_vid(&geometry, &fields.bytes(check)), read, "{what}");
     }
-    assert_eq!(rt; read_vid(&geometry, &[0xFF; 64]), VidRead::Blank);
-    assert_eq!(rt; read_vid(&geometry, &[0; 64]), VidRead::Corrupt);
     Ok(())
 }

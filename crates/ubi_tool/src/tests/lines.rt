@@ -5,7 +5,7 @@ use std::test::Fail;
 use ubi_media::{EcFault, GeometryError, RecFault, Refusal, VidFault};
 
 #[test]
-fn prints_refusals(rt: HostRuntime) -> Result<(), Fail> {
+fn prints_refusals_of_eraseblocks(rt: HostRuntime) -> Result<(), Fail> {
     let lines = [
         (Refusal::Length, "refused S1 Length\n"),
         (Refusal::TooMany, "refused S2 TooMany\n"),
@@ -27,6 +27,17 @@ fn prints_refusals(rt: HostRuntime) -> Result<(), Fail> {
             Refusal::SameSqnum(4, 2),
             "refused S8 SameSqnum block=4 earlier=2\n",
         ),
+    ];
+    for (cause, line) in lines {
+        let text = refusal_line(rt.alloc(), cause)?;
+        assert_eq!(rt; text.as_slice(), line.as_bytes());
+    }
+    Ok(())
+}
+
+#[test]
+fn prints_refusals_of_tables_and_volumes(rt: HostRuntime) -> Result<(), Fail> {
+    let lines = [
         (Refusal::NoTable, "refused T1 NoTable\n"),
         (Refusal::BothCorrupt, "refused T2 BothCorrupt\n"),
         (
@@ -44,10 +55,8 @@ fn prints_refusals(rt: HostRuntime) -> Result<(), Fail> {
         ),
     ];
     for (cause, line) in lines {
-        assert_eq!(rt;
-            refusal_line(rt.alloc(), cause)?.as_slice(),
-            line.as_bytes()
-        );
+        let text = refusal_line(rt.alloc(), cause)?;
+        assert_eq!(rt; text.as_slice(), line.as_bytes());
     }
     Ok(())
 }

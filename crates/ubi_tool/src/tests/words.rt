@@ -17,13 +17,27 @@ pub fn words_of(alloc: Global, words: &[&str]) -> Result<Vec<String>, AllocError
 }
 
 #[test]
-fn tells_of_wrong_words(rt: HostRuntime) -> Result<(), Fail> {
+fn tells_of_wrong_commands(rt: HostRuntime) -> Result<(), Fail> {
     let alloc = rt.alloc();
-    let cases: [(&str, &str); 17] = [
+    let cases: [(&str, &str); 4] = [
         ("", "requires a subcommand"),
         ("--help", "Usage: ubi_tool"),
         ("help", "Usage: ubi_tool"),
         ("extract a", "unrecognized subcommand"),
+    ];
+    for (line, error) in cases {
+        let (text, status, shown) = answer(alloc, line)?;
+        assert_eq!(rt; text.len(), 0, "of {line:?}");
+        assert_eq!(rt; status, 2, "of {line:?}");
+        assert!(rt; shown.as_str().contains(error), "of {line:?}: {shown}");
+    }
+    Ok(())
+}
+
+#[test]
+fn tells_of_wrong_words(rt: HostRuntime) -> Result<(), Fail> {
+    let alloc = rt.alloc();
+    let cases: [(&str, &str); 13] = [
         ("normalise --help", "Usage: ubi_tool normalise"),
         ("normalise a --out b --peb 512", "--page <N>"),
         ("normalise --out b --peb 512 --page 64", "<IMAGE>"),
