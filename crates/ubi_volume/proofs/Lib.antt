@@ -10,3 +10,4 @@ pub mod MemberStates
 pub mod Static
 pub mod Tables
 pub mod Winners
+pub mod Written

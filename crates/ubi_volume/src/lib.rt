@@ -12,6 +12,7 @@ mod gathering;
 pub mod laws;
 mod meaning;
 mod mismatch;
+mod output;
 mod states;
 mod static_text;
 
@@ -20,3 +21,4 @@ pub use attaching::attach;
 pub use content::{Bytes, Content, Lebs, Volume};
 pub use errors::ReadError;
 pub use meaning::Meaning;
+pub use output::write_all;
