@@ -13,6 +13,7 @@ pub mod laws;
 mod meaning;
 mod mismatch;
 mod output;
+mod reading;
 mod states;
 mod static_text;
 
@@ -22,3 +23,4 @@ pub use content::{Bytes, Content, Lebs, Volume};
 pub use errors::ReadError;
 pub use meaning::Meaning;
 pub use output::write_all;
+pub use reading::read_leb;
