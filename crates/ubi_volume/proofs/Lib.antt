@@ -3,6 +3,7 @@ pub mod Blanks
 pub mod Dynamic
 pub mod Exits
 pub mod Gathered
+pub mod LebsText
 pub mod Mismatches
 pub mod One
 pub mod Recorded

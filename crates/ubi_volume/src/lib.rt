@@ -16,6 +16,7 @@ mod output;
 mod reading;
 mod states;
 mod static_text;
+mod writing;
 
 pub use attached::{Attached, BlockState};
 pub use attaching::attach;
@@ -24,3 +25,4 @@ pub use errors::ReadError;
 pub use meaning::Meaning;
 pub use output::write_all;
 pub use reading::read_leb;
+pub use writing::{read_volume, write_volume};
