@@ -57,7 +57,7 @@ read_volume m id = option_map_or (λ v. volume_read m.sizes v.entry v.content) (
 abbrev pub IsLebRead : Meant → ℕ → ℕ → List ℕ → List ℕ → ℕ → Type 0
 IsLebRead m id lnum old new n = (text : List ℕ) × (read_leb m id lnum ≡ Ok text) × (n ≡ length text) × (new ≡ text ++ drop n old)
 
--- why a volume isn't read: memory ran out, or the meaning has no text of it
+-- why a volume isn't read: memory ran out for its text, or it has none
 abbrev pub IsReadError : Meant → ℕ → ReadError → Type 0
-IsReadError m id error.Memory = Unit {0}
+IsReadError m id error.Memory = (text : List ℕ) × (read_volume m id ≡ Ok text)
 IsReadError m id e = read_volume m id ≡ Err e

@@ -5,6 +5,7 @@ ghost use Rattle.std.specs.Prelude.{◌≡◌, [], IfOk};
 use std::alloc::{AllocError, Global};
 use std::io;
 use std::io::{ErrorKind, Write};
+use std::marker::Model;
 
 /// How a writer without room fails.
 #[derive(Clone, Copy, Debug, PartialEq, Eq)]
@@ -25,6 +26,14 @@ pub struct ProbeWriter {
     failure: Failure,
 }
 
+impl Model for ProbeWriter {
+    ghost use Rattle.std.specs.Prelude.{ℕ, List};
+
+    ghost Value = { List ℕ };
+
+    ghost view = { λ writer. writer.taken.items };
+}
+
 impl ProbeWriter {
     /// A writer with room for so many bytes, which it reserves. It takes `most` of them at once.
     ///
@@ -37,10 +46,7 @@ impl ProbeWriter {
         most: usize,
         failure: Failure,
     ) -> Result<ProbeWriter, AllocError>
-        ensures empty { IfOk result (λ writer. writer.taken.items ≡ []) }
-        ensures room { IfOk result (λ writer. writer.room ≡ room) }
-        ensures most { IfOk result (λ writer. writer.most ≡ most) }
-        ensures failure { IfOk result (λ writer. writer.failure ≡ failure) }
+        ensures { IfOk result (λ writer. writer ≡ []) }
     {
         Ok(ProbeWriter {
             taken: Vec::with_capacity(alloc, room)?,
@@ -52,7 +58,7 @@ impl ProbeWriter {
 
     /// The bytes that it has taken.
     pub fn taken(&self) -> &[u8]
-        ensures { result.now ≡ self.now.taken.items }
+        ensures { result.now ≡ self.now }
     {
         self.taken.as_slice()
     }
@@ -61,7 +67,7 @@ impl ProbeWriter {
 impl Write for ProbeWriter {
     ghost use Rattle.std.specs.Prelude.{Some};
 
-    ghost contents = { λ writer. Some writer.taken.items };
+    ghost contents = { λ writer. Some writer };
 
     fn write(&mut self, buf: &[u8]) -> io::Result<usize> {
         let left = self.room.saturating_sub(self.taken.len());

@@ -82,7 +82,7 @@ pub fn write_volume<W: Write>(meaning: &Meaning, id: u32, writer: &mut W) -> Res
 ///
 /// # Errors
 ///
-/// The first of these that stands: `NoVolume`, `Updating`, `Damaged`. `Memory` where it ran out.
+/// The first of these that stands: `NoVolume`, `Updating`, `Damaged`. `Memory` where none does and it ran out.
 pub fn read_volume(alloc: Global, meaning: &Meaning, id: u32) -> Result<Vec<u8>, ReadError>
     ensures read { IfOk result (λ text. read_volume meaning.now id ≡ Ok text.items) }
     ensures refused { IfErr result (IsReadError meaning.now id) }
