@@ -28,3 +28,6 @@ pub use output::write_all;
 pub use probe::{Failure, ProbeWriter};
 pub use reading::read_leb;
 pub use writing::{read_volume, write_volume};
+
+#[cfg(test)]
+mod tests;
