@@ -3,6 +3,7 @@ pub mod Blanks
 pub mod Dynamic
 pub mod Exits
 pub mod Gathered
+pub mod LebsText
 pub mod Mismatches
 pub mod One
 pub mod Recorded
@@ -10,3 +11,4 @@ pub mod MemberStates
 pub mod Static
 pub mod Tables
 pub mod Winners
+pub mod Written

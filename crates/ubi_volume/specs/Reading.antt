@@ -1,8 +1,9 @@
 -- What is read of a meaning: a LEB of a volume, or the whole volume.
-use Rattle.std.specs.Prelude.{ℕ, ◌+◌, ◌-◌, ◌*◌, ◌/◌, List, Option, Result, Ok, Err, if◌then◌else◌, nat_lt, unwrap_or, take, drop, length, flat_map}
+use Rattle.std.specs.Prelude.{◌≡◌, ℕ, ◌+◌, ◌-◌, ◌*◌, ◌/◌, ◌++◌, List, Option, Result, Ok, Err, if◌then◌else◌, nat_lt, unwrap_or, take, drop, length, flat_map}
 use Rattle.std.specs.Option.{option_map_or}
 use Rattle.std.specs.List.{range_with_len}
-use Rattle.std.specs.FinMap.{get}
+use Rattle.std.specs.FinMap.{FinMap, get}
+use Rattle.std.specs.Ordering.{nat_cmp}
 use Rattle.ubi_media.specs.Fields.{blank}
 use Rattle.ubi_media.specs.Geometry.{Sizes}
 use Rattle.ubi_media.specs.Record.{usable}
@@ -21,9 +22,13 @@ pieces size n = (n + (size - 1)) / size
 abbrev pub share : ℕ → List ℕ → ℕ → List ℕ
 share size text lnum = take size (drop (lnum * size) text)
 
--- a LEB of a dynamic volume
+-- what a LEB of a dynamic volume reads, by what is kept of it
 abbrev pub leb_text : ℕ → Option (List ℕ) → List ℕ
 leb_text size kept = unwrap_or kept (blank size)
+
+-- what the first n LEBs of a dynamic volume read, one behind the other
+abbrev pub lebs_text : ℕ → FinMap nat_cmp (List ℕ) → ℕ → List ℕ
+lebs_text size lebs n = flat_map (λ lnum. leb_text size (get lebs lnum)) (range_with_len 0 n)
 
 -- what a LEB of a volume reads
 abbrev pub leb_read : Sizes → VolumeRecord → ℕ → Content → Result (List ℕ) ReadError
@@ -39,7 +44,7 @@ abbrev pub volume_read : Sizes → VolumeRecord → Content → Result (List ℕ
 volume_read s r content.Updating = Err error.Updating
 volume_read s r content.Damaged = Err error.Damaged
 volume_read s r (content.Static text) = Ok text
-volume_read s r (content.Dynamic lebs) = Ok (flat_map (λ lnum. leb_text (usable s r) (get lebs lnum)) (range_with_len 0 r.reserved))
+volume_read s r (content.Dynamic lebs) = Ok (lebs_text (usable s r) lebs r.reserved)
 
 -- the same of a meaning, by the number of the volume
 abbrev pub read_leb : Meant → ℕ → ℕ → Result (List ℕ) ReadError
@@ -47,3 +52,12 @@ read_leb m id lnum = option_map_or (λ v. leb_read m.sizes v.entry lnum v.conten
 
 abbrev pub read_volume : Meant → ℕ → Result (List ℕ) ReadError
 read_volume m id = option_map_or (λ v. volume_read m.sizes v.entry v.content) (get m.volumes id) (Err error.NoVolume)
+
+-- n bytes were read into what was old: those of the LEB stand in front, and what is behind them stays
+abbrev pub IsLebRead : Meant → ℕ → ℕ → List ℕ → List ℕ → ℕ → Type 0
+IsLebRead m id lnum old new n = (text : List ℕ) × (read_leb m id lnum ≡ Ok text) × (n ≡ length text) × (new ≡ text ++ drop n old)
+
+-- why a volume isn't read: memory ran out for its text, or it has none
+abbrev pub IsReadError : Meant → ℕ → ReadError → Type 0
+IsReadError m id error.Memory = (text : List ℕ) × (read_volume m id ≡ Ok text)
+IsReadError m id e = read_volume m id ≡ Err e

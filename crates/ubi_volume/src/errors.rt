@@ -1,5 +1,7 @@
 //! Why a volume isn't read.
 
+use std::alloc::AllocError;
+
 /// Why a volume, or one of its logical eraseblocks, isn't read.
 #[derive(Clone, Copy, Debug, PartialEq, Eq)]
 pub enum ReadError {
@@ -15,4 +17,15 @@ pub enum ReadError {
     Write(u64),
     /// Memory ran out.
     Memory,
+}
+
+impl From<AllocError> for ReadError {
+    ghost use Rattle.std.specs.Prelude.{◌≡◌};
+    ghost use Rattle.ubi_volume.specs.declared.errors.ReadError.TheVariants.{Memory};
+
+    ghost from_gives = { λ _ e. e ≡ Memory };
+
+    fn from(_: AllocError) -> ReadError {
+        ReadError::Memory
+    }
 }

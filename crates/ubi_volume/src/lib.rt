@@ -12,11 +12,22 @@ mod gathering;
 pub mod laws;
 mod meaning;
 mod mismatch;
+mod output;
+mod probe;
+mod reading;
 mod states;
 mod static_text;
+mod writing;
 
 pub use attached::{Attached, BlockState};
 pub use attaching::attach;
 pub use content::{Bytes, Content, Lebs, Volume};
 pub use errors::ReadError;
 pub use meaning::Meaning;
+pub use output::write_all;
+pub use probe::{Failure, ProbeWriter};
+pub use reading::read_leb;
+pub use writing::{read_volume, write_volume};
+
+#[cfg(test)]
+mod tests;

@@ -1,0 +1,7 @@
+mod images;
+mod memory;
+mod reading;
+mod refusals;
+mod states;
+mod statics;
+mod writing;
