@@ -15,5 +15,5 @@ pub mod Places
 pub mod Seen
 pub mod Shown
 pub mod SoFar
-pub mod Tests
 pub mod Told
+pub mod Truths
