@@ -6,91 +6,70 @@ use super::images::{
     static_leb,
 };
 use crate::BlockState;
+use std::alloc::Global;
 use std::test::Fail;
-use ubi_media::{LAYOUT_VOLUME, VidHeader};
+use ubi_media::{GeometryError, LAYOUT_VOLUME, VidHeader};
+
+/// What is said of the eraseblocks of a table with `root`, and of one behind them.
+fn with_a_table(alloc: Global, peb: Peb) -> Result<Vec<BlockState>, Fail> {
+    states(alloc, &[copy(0, ROOT)?, copy(1, ROOT)?, peb])
+}
+
+/// An eraseblock with these headers and no data.
+fn headed(ec: [u8; 64], vid: [u8; 64]) -> Peb {
+    Peb { ec, vid, ..ERASED }
+}
+
+/// A member of a volume that has no record.
+fn stranger(vol_id: u32) -> Result<Peb, GeometryError> {
+    let header = VidHeader {
+        vol_id,
+        ..plain(0, 0)
+    };
+    holding(&header, filled(0x41, 384))
+}
 
 #[test]
-fn says_what_each_eraseblock_is(rt: HostRuntime) -> Result<(), Fail> {
+fn says_what_headers_are(rt: HostRuntime) -> Result<(), Fail> {
     let alloc = rt.alloc();
-    let (first, second) = (copy(0, ROOT)?, copy(1, ROOT)?);
+    let cases = [
+        (ERASED, BlockState::Blank),
+        (headed(BLANK, CORRUPT), BlockState::Blank),
+        (headed(ec()?, BLANK), BlockState::Free),
+        (headed(ec()?, CORRUPT), BlockState::Garbage),
+        (headed(CORRUPT, BLANK), BlockState::Corrupt),
+        (headed(CORRUPT, CORRUPT), BlockState::Corrupt),
+    ];
+    for (peb, state) in cases {
+        let found = with_a_table(alloc, peb)?;
+        let want = [BlockState::Table, BlockState::Table, state];
+        assert_eq!(rt; found.as_slice(), want.as_slice());
+    }
+    Ok(())
+}
+
+#[test]
+fn says_what_members_are(rt: HostRuntime) -> Result<(), Fail> {
+    let alloc = rt.alloc();
+    let data = filled(0x41, 384);
     let header = VidHeader {
         compat: 1,
         vol_id: 0x7FFF_F000,
         ..plain(0, 12)
     };
-    let dropped = holding(&header, filled(0x44, 384))?;
+    let dropped = holding(&header, data)?;
+    let fixed = static_leb(20, 21, 384, CHECK_OF_41);
     let cases = [
-        (ERASED, BlockState::Blank),
-        (
-            Peb {
-                ec: BLANK,
-                ..dropped
-            },
-            BlockState::Blank,
-        ),
-        (
-            Peb {
-                ec: ec()?,
-                ..ERASED
-            },
-            BlockState::Free,
-        ),
-        (
-            Peb {
-                ec: ec()?,
-                vid: CORRUPT,
-                ..ERASED
-            },
-            BlockState::Garbage,
-        ),
-        (
-            Peb {
-                ec: CORRUPT,
-                ..ERASED
-            },
-            BlockState::Corrupt,
-        ),
-        (
-            Peb {
-                ec: CORRUPT,
-                vid: CORRUPT,
-                ..ERASED
-            },
-            BlockState::Corrupt,
-        ),
         (dropped, BlockState::Dropped),
-        (holding(&plain(19, 0), filled(0x41, 384))?, BlockState::Used),
-        (
-            holding(&plain(20, 0), filled(0x41, 384))?,
-            BlockState::Orphan,
-        ),
-        (
-            holding(&static_leb(20, 21, 384, CHECK_OF_41), filled(0x41, 384))?,
-            BlockState::Orphan,
-        ),
-        (
-            holding(
-                &VidHeader {
-                    vol_id: 1,
-                    ..plain(0, 0)
-                },
-                filled(0x41, 384),
-            )?,
-            BlockState::Orphan,
-        ),
-        (
-            holding(
-                &VidHeader {
-                    vol_id: 127,
-                    ..plain(0, 0)
-                },
-                filled(0x41, 384),
-            )?,
-            BlockState::Orphan,
-        ),
+        (headed(BLANK, dropped.vid), BlockState::Blank),
+        (holding(&plain(19, 0), data)?, BlockState::Used),
+        (holding(&plain(20, 0), data)?, BlockState::Orphan),
+        (holding(&fixed, data)?, BlockState::Orphan),
+        (stranger(1)?, BlockState::Orphan),
+        (stranger(127)?, BlockState::Orphan),
     ];
     for (peb, state) in cases {
-        let found = states(alloc, &[first, second, peb])?;
+        let found = with_a_table(alloc, peb)?;
         let want = [BlockState::Table, BlockState::Table, state];
         assert_eq!(rt; found.as_slice(), want.as_slice());
     }
