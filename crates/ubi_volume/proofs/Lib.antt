@@ -4,6 +4,7 @@ pub mod Dynamic
 pub mod Exits
 pub mod Gathered
 pub mod LebsText
+pub mod Lengths
 pub mod Mismatches
 pub mod One
 pub mod Recorded

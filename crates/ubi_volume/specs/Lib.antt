@@ -10,4 +10,5 @@ pub mod Attached
 pub mod Laws
 pub mod Reading
 pub mod Writing
+pub mod Probe
 pub mod Coded

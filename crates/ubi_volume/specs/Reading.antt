@@ -1,6 +1,7 @@
 -- What is read of a meaning: a LEB of a volume, or the whole volume.
 use Rattle.std.specs.Prelude.{◌≡◌, ℕ, ◌+◌, ◌-◌, ◌*◌, ◌/◌, ◌++◌, List, Option, Result, Ok, Err, if◌then◌else◌, nat_lt, unwrap_or, take, drop, length, flat_map}
 use Rattle.std.specs.Option.{option_map_or}
+use Rattle.std.specs.Result.{result_map_both}
 use Rattle.std.specs.List.{range_with_len}
 use Rattle.std.specs.FinMap.{FinMap, get}
 use Rattle.std.specs.Ordering.{nat_cmp}
@@ -52,6 +53,10 @@ read_leb m id lnum = option_map_or (λ v. leb_read m.sizes v.entry lnum v.conten
 
 abbrev pub read_volume : Meant → ℕ → Result (List ℕ) ReadError
 read_volume m id = option_map_or (λ v. volume_read m.sizes v.entry v.content) (get m.volumes id) (Err error.NoVolume)
+
+-- how many bytes a volume reads
+abbrev pub volume_len : Meant → ℕ → Result ℕ ReadError
+volume_len m id = result_map_both length (λ e. e) (read_volume m id)
 
 -- n bytes were read into what was old: those of the LEB stand in front, and what is behind them stays
 abbrev pub IsLebRead : Meant → ℕ → ℕ → List ℕ → List ℕ → ℕ → Type 0

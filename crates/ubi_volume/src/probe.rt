@@ -16,26 +16,32 @@ pub enum Failure {
     Nothing,
 }
 
-/// A writer in memory, for tests. It takes so many bytes and then fails; at once it takes all that is written, or one
-/// byte.
+/// A writer in memory, for tests. It has room for so many bytes and then fails; at once it takes all that is written, or
+/// so many bytes of it.
 #[derive(Drop)]
 pub struct ProbeWriter {
-    taken: Vec<u8>,
-    room: usize,
+    /// As many bytes as there is room for, the first `len` of them taken.
+    buffer: Vec<u8>,
+    len: usize,
     most: usize,
     failure: Failure,
 }
 
 impl Model for ProbeWriter {
-    ghost use Rattle.std.specs.Prelude.{ℕ, List};
+    ghost use Rattle.std.specs.Prelude.{◌≤◌, length, take};
+    ghost use Rattle.ubi_volume.specs.Probe.{Probe, probe_code};
 
-    ghost Value = { List ℕ };
+    ghost Value = { Probe };
 
-    ghost view = { λ writer. writer.taken.items };
+    ghost coded = { probe_code };
+
+    ghost view = { λ w. record { taken = take w.len w.buffer.items; room = length w.buffer.items; most = w.most; failure = w.failure } };
+
+    ghost invariant = { λ w. w.len ≤ length w.buffer.items };
 }
 
 impl ProbeWriter {
-    /// A writer with room for so many bytes, which it reserves. It takes `most` of them at once.
+    /// A writer with room for so many bytes, which it reserves. It takes at most `most` of them at once.
     ///
     /// # Errors
     ///
@@ -46,11 +52,11 @@ impl ProbeWriter {
         most: usize,
         failure: Failure,
     ) -> Result<ProbeWriter, AllocError>
-        ensures { IfOk result (λ writer. writer ≡ []) }
+        ensures { IfOk result (λ writer. writer ≡ record { taken = []; room = room; most = most; failure = failure }) }
     {
         Ok(ProbeWriter {
-            taken: Vec::with_capacity(alloc, room)?,
-            room,
+            buffer: Vec::from_elem(alloc, 0, room)?,
+            len: 0,
             most,
             failure,
         })
@@ -58,19 +64,27 @@ impl ProbeWriter {
 
     /// The bytes that it has taken.
     pub fn taken(&self) -> &[u8]
-        ensures { result.now ≡ self.now }
+        ensures { result.now ≡ self.now.taken }
     {
-        self.taken.as_slice()
+        &self.buffer[..self.len]
     }
 }
 
 impl Write for ProbeWriter {
-    ghost use Rattle.std.specs.Prelude.{Some};
+    ghost use Rattle.std.specs.Prelude.{Some, None, MatchResult, IsOk, length};
+    ghost use Rattle.std.specs.Io.KnownBytes.{Keeps, WriteAppends};
+    ghost use Rattle.std.specs.Io.{WritesAtMost};
+    ghost use Rattle.ubi_volume.specs.Probe.{IsSameProbe, answer};
 
-    ghost contents = { λ writer. Some writer };
+    ghost contents = { λ writer. Some writer.taken };
 
-    fn write(&mut self, buf: &[u8]) -> io::Result<usize> {
-        let left = self.room.saturating_sub(self.taken.len());
+    fn write(&mut self, buf: &[u8]) -> io::Result<usize>
+        ensures bound { WritesAtMost result buf.now }
+        ensures bytes { WriteAppends (Some self.old.taken) (Some self.new.taken) result buf.now }
+        ensures answer { MatchResult result (λ n. answer self.old (length buf.now) ≡ Some n) (λ _. answer self.old (length buf.now) ≡ None) }
+        ensures kept { IsSameProbe self.old self.new }
+    {
+        let left = self.buffer.len() - self.len;
         let count = buf.len().min(left).min(self.most);
         if count == 0 && !buf.is_empty() {
             return match self.failure {
@@ -78,11 +92,16 @@ impl Write for ProbeWriter {
                 Failure::Nothing => Ok(0),
             };
         }
-        self.taken.extend_from_slice(&buf[..count])?;
+        self.buffer[self.len..self.len + count].copy_from_slice(&buf[..count]);
+        self.len += count;
         Ok(count)
     }
 
-    fn flush(&mut self) -> io::Result<()> {
+    fn flush(&mut self) -> io::Result<()>
+        ensures bytes { Keeps (Some self.old.taken) (Some self.new.taken) }
+        ensures ok { IsOk result }
+        ensures unchanged { self.new ≡ self.old }
+    {
         Ok(())
     }
 }
