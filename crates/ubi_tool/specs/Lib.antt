@@ -2,6 +2,7 @@ pub mod Answer
 pub mod Check
 pub mod CommandLine
 pub mod EmptyImage
+pub mod Extract
 pub mod Lines
 pub mod List
 pub mod Normalise

@@ -91,6 +91,14 @@ later_line = refused (codes "Later") []
 abbrev pub no_block_line : List ℕ
 no_block_line = refused (codes "B1 Block") []
 
+-- the line of a volume that isn't read
+abbrev pub read_line : List ℕ → List ℕ
+read_line name = refused name []
+
+-- the line of a number of bytes
+abbrev pub bytes_line : ℕ → List ℕ
+bytes_line n = codes "bytes " ++ decimal n ++ codes "\n"
+
 -- the line of a number of eraseblocks
 abbrev pub blocks_line : ℕ → List ℕ
 blocks_line n = codes "blocks " ++ decimal n ++ codes "\n"

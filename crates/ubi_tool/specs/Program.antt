@@ -5,6 +5,7 @@ use Rattle.ubi_media.specs.declared.geometry.GeometryError.{GeometryError}
 use Rattle.ubi_scan.specs.Image.{Image}
 use Rattle.ubi_tool.specs.Answer.{Gives, says}
 use Rattle.ubi_tool.specs.Check.{Checks}
+use Rattle.ubi_tool.specs.Extract.{ExtractsInto}
 use Rattle.ubi_tool.specs.Lines.{file_line, geometry_line}
 use Rattle.ubi_tool.specs.List.{Lists}
 use Rattle.ubi_tool.specs.Normalise.{NormalisesInto}
@@ -47,7 +48,8 @@ pub data IsWritten (path : List ℕ) (outcome : Outcome) : Outcome → Type 0 wh
 -- what the program can answer: nothing for wrong words, or what the command that they name can
 pub data IsAnswer : Outcome → Type 0 where
   wrong_words : {o : Outcome} → Gives o (says [] 2) → IsAnswer o
-  normalise : {o : Outcome} (numbers : Numbers) (path out : List ℕ) → OfImage numbers path (NormalisesInto out) o → IsAnswer o
   list : {o : Outcome} (numbers : Numbers) (path : List ℕ) → OfImage numbers path Lists o → IsAnswer o
   check : {o : Outcome} (numbers : Numbers) (path : List ℕ) → OfImage numbers path Checks o → IsAnswer o
   show : {o : Outcome} (numbers : Numbers) (path : List ℕ) (p : ℕ) → OfImage numbers path (λ i. Shows i p) o → IsAnswer o
+  extract : {o : Outcome} (numbers : Numbers) (path out : List ℕ) (id : ℕ) → OfImage numbers path (ExtractsInto id out) o → IsAnswer o
+  normalise : {o : Outcome} (numbers : Numbers) (path out : List ℕ) → OfImage numbers path (NormalisesInto out) o → IsAnswer o

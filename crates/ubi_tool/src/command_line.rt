@@ -13,12 +13,6 @@ use std::alloc::{AllocError, Global};
 /// What the words ask for, with the paths as they were given.
 #[derive(Clone, Copy, Debug)]
 pub enum Request<'a> {
-    /// The normal image of one file, into another.
-    Normalise {
-        numbers: Numbers,
-        image: &'a str,
-        out: &'a str,
-    },
     /// The volumes of a file.
     List {
         numbers: Numbers,
@@ -35,6 +29,19 @@ pub enum Request<'a> {
         image: &'a str,
         block: u32,
     },
+    /// What a volume of one file reads, into another.
+    Extract {
+        numbers: Numbers,
+        image: &'a str,
+        id: u32,
+        out: &'a str,
+    },
+    /// The normal image of one file, into another.
+    Normalise {
+        numbers: Numbers,
+        image: &'a str,
+        out: &'a str,
+    },
 }
 
 /// The whole command line. A command line is used up by reading words, so that each call makes a new one.
@@ -42,10 +49,11 @@ pub fn command_line<'a>(alloc: Global) -> Result<Command<'a>, AllocError>
     ensures { IfOk result (λ c. subcommand_names c ≡ command_names) }
 {
     let tool = Command::new(alloc, "ubi_tool").subcommand_required(true);
-    let tool = tool.subcommand(normalise_command(alloc)?)?;
     let tool = tool.subcommand(image_command(alloc, "list")?)?;
     let tool = tool.subcommand(image_command(alloc, "check")?)?;
-    tool.subcommand(show_command(alloc)?)
+    let tool = tool.subcommand(show_command(alloc)?)?;
+    let tool = tool.subcommand(extract_command(alloc)?)?;
+    tool.subcommand(normalise_command(alloc)?)
 }
 
 /// What is asked for, where the words name a command and have all that it needs.
@@ -53,11 +61,6 @@ pub fn request_of<'a>(matches: &'a ArgMatches<'_>) -> Option<Request<'a>>
     ensures { IfSome result (λ r. subcommand_name_of matches.now ≡ Some (command_name r)) }
 {
     match matches.subcommand()? {
-        ("normalise", inner) => Some(Request::Normalise {
-            numbers: numbers_of(inner)?,
-            image: inner.get_str("IMAGE")?,
-            out: inner.get_str("out")?,
-        }),
         ("list", inner) => Some(Request::List {
             numbers: numbers_of(inner)?,
             image: inner.get_str("IMAGE")?,
@@ -71,19 +74,19 @@ pub fn request_of<'a>(matches: &'a ArgMatches<'_>) -> Option<Request<'a>>
             image: inner.get_str("IMAGE")?,
             block: inner.get_one::<u32>("block")?,
         }),
+        ("extract", inner) => Some(Request::Extract {
+            numbers: numbers_of(inner)?,
+            image: inner.get_str("IMAGE")?,
+            id: inner.get_one::<u32>("id")?,
+            out: inner.get_str("out")?,
+        }),
+        ("normalise", inner) => Some(Request::Normalise {
+            numbers: numbers_of(inner)?,
+            image: inner.get_str("IMAGE")?,
+            out: inner.get_str("out")?,
+        }),
         _ => None,
     }
-}
-
-fn normalise_command<'a>(alloc: Global) -> Result<Command<'a>, AllocError>
-    ensures { IfOk result (λ c. (out-Command c).name.now ≡ codes "normalise") }
-{
-    let out = Arg::new(alloc, "out")
-        .long("out")
-        .value_name("FILE")
-        .required(true);
-    let command = image_command(alloc, "normalise")?;
-    command.arg(out)
 }
 
 fn show_command<'a>(alloc: Global) -> Result<Command<'a>, AllocError>
@@ -96,6 +99,31 @@ fn show_command<'a>(alloc: Global) -> Result<Command<'a>, AllocError>
         .required(true);
     let command = image_command(alloc, "show")?;
     command.arg(block)
+}
+
+fn extract_command<'a>(alloc: Global) -> Result<Command<'a>, AllocError>
+    ensures { IfOk result (λ c. (out-Command c).name.now ≡ codes "extract") }
+{
+    let command = out_command(alloc, "extract")?;
+    command.arg(number(alloc, "id").required(true))
+}
+
+fn normalise_command<'a>(alloc: Global) -> Result<Command<'a>, AllocError>
+    ensures { IfOk result (λ c. (out-Command c).name.now ≡ codes "normalise") }
+{
+    out_command(alloc, "normalise")
+}
+
+/// A command over an image file that writes another file.
+fn out_command<'a>(alloc: Global, name: &'a str) -> Result<Command<'a>, AllocError>
+    ensures { IfOk result (λ c. (out-Command c).name.now ≡ name.now) }
+{
+    let out = Arg::new(alloc, "out")
+        .long("out")
+        .value_name("FILE")
+        .required(true);
+    let command = image_command(alloc, name)?;
+    command.arg(out)
 }
 
 /// A command over an image file.

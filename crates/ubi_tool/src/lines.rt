@@ -2,7 +2,7 @@
 
 ghost use Rattle.std.specs.Prelude.{◌≡◌, ◌++◌, IfOk, OnOk, codes, decimal};
 ghost use Rattle.std.specs.List.{flat_map};
-ghost use Rattle.ubi_tool.specs.Lines.{blocks_line, detail_text, ec_fault_name, file_line, geometry_line, later_line, no_block_line, rec_fault_name, refusal_line, refused, vid_fault_name};
+ghost use Rattle.ubi_tool.specs.Lines.{blocks_line, bytes_line, detail_text, ec_fault_name, file_line, geometry_line, later_line, no_block_line, read_line, rec_fault_name, refusal_line, refused, vid_fault_name};
 
 use itoa::Buffer;
 use std::alloc::{AllocError, Global};
@@ -197,6 +197,23 @@ pub fn no_block_line(alloc: Global) -> Result<Vec<u8>, AllocError>
     ensures { IfOk result (λ text. text.items ≡ no_block_line) }
 {
     refused(alloc, "B1 Block", &[])
+}
+
+/// The line of a volume that isn't read, by the name of the refusal.
+pub fn read_line(alloc: Global, name: &str) -> Result<Vec<u8>, AllocError>
+    ensures { IfOk result (λ text. text.items ≡ read_line name.now) }
+{
+    refused(alloc, name, &[])
+}
+
+/// The line of a number of bytes.
+pub fn bytes_line(alloc: Global, count: u64) -> Result<Vec<u8>, AllocError>
+    ensures { IfOk result (λ text. text.items ≡ bytes_line count) }
+{
+    let mut text = Vec::new(alloc);
+    put_number(&mut text, "bytes ", count)?;
+    put_word(&mut text, "\n")?;
+    Ok(text)
 }
 
 /// The line of a number of eraseblocks.

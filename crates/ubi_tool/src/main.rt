@@ -7,7 +7,9 @@
 mod check;
 mod command_line;
 mod empty_image;
+mod extract;
 mod image_file;
+mod late_file;
 mod lines;
 mod list;
 mod normalise;
@@ -16,7 +18,6 @@ mod outcome;
 mod read;
 mod show;
 mod words;
-mod write;
 
 use outcome::{FAILED, Outcome, WRONG_WORDS};
 use std::alloc::AllocError;

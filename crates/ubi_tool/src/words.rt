@@ -1,7 +1,10 @@
 //! The commands over files: what the words ask for is read, done and written.
 
-ghost use Rattle.std.specs.Prelude.{IfOk};
+ghost use Rattle.std.specs.Prelude.{IfOk, codes};
+ghost use Rattle.ubi_tool.specs.Answer.{Gives, says};
 ghost use Rattle.ubi_tool.specs.Check.{Checks};
+ghost use Rattle.ubi_tool.specs.Extract.{ExtractsInto};
+ghost use Rattle.ubi_tool.specs.Lines.{file_line};
 ghost use Rattle.ubi_tool.specs.List.{Lists};
 ghost use Rattle.ubi_tool.specs.Normalise.{NormalisesInto};
 ghost use Rattle.ubi_tool.specs.Program.{IsAnswer, IsWritten, OfImage};
@@ -9,18 +12,20 @@ ghost use Rattle.ubi_tool.specs.Show.{Shows};
 
 use crate::check::run_check;
 use crate::command_line::{Request, command_line, request_of};
+use crate::extract::run_extract;
 use crate::image_file::load;
+use crate::late_file::LateFile;
 use crate::lines::file_line;
 use crate::list::run_list;
 use crate::normalise::run_normalise;
 use crate::numbers::Numbers;
-use crate::outcome::{FAILED, Outcome, ToolError, WRONG_WORDS};
+use crate::outcome::{DONE, FAILED, Outcome, ToolError, WRONG_WORDS};
 use crate::show::run_show;
-use crate::write::write_out;
 use clap::Error;
 use clap::error::ErrorKind;
 use std::alloc::{AllocError, Global};
 use std::fs::{File, Files};
+use ubi_volume::write_all;
 
 /// Runs the command that the words name, over files. The first word is the program's name.
 ///
@@ -42,13 +47,6 @@ pub fn run_words<R: Files + Eprint>(
         Err(error) => return wrong_words(rt, alloc, &error),
     };
     match request_of(&matches) {
-        Some(
-            Request::Normalise {
-                numbers,
-                image,
-                out,
-            },
-        ) => normalise_file(rt, alloc, numbers, image, out),
         Some(Request::List { numbers, image }) => list_file(rt, alloc, numbers, image),
         Some(Request::Check { numbers, image }) => check_file(rt, alloc, numbers, image),
         Some(
@@ -58,27 +56,22 @@ pub fn run_words<R: Files + Eprint>(
                 block,
             },
         ) => show_file(rt, alloc, numbers, image, block),
+        Some(
+            Request::Extract {
+                numbers,
+                image,
+                id,
+                out,
+            },
+        ) => extract_file(rt, alloc, numbers, image, id, out),
+        Some(
+            Request::Normalise {
+                numbers,
+                image,
+                out,
+            },
+        ) => normalise_file(rt, alloc, numbers, image, out),
         None => Ok(nothing(alloc)),
-    }
-}
-
-/// Normalises one file into another.
-fn normalise_file<R: Files>(
-    rt: &R,
-    alloc: Global,
-    numbers: Numbers,
-    image: &str,
-    out: &str,
-) -> Result<Outcome, AllocError>
-    ensures { IfOk result (OfImage numbers image.now (NormalisesInto out.now)) }
-{
-    let file = match load(rt, alloc, numbers, image) {
-        Ok(file) => file,
-        Err(unread) => return unread.answer(),
-    };
-    match run_normalise(alloc, &file.geometry, file.bytes.as_slice()) {
-        Ok(outcome) => write_outcome(rt, alloc, outcome, out),
-        Err(_) => Err(AllocError),
     }
 }
 
@@ -140,6 +133,50 @@ fn show_file<R: Files>(
     }
 }
 
+/// Extracts a volume of one file into another, which is opened at the first write, or once the work is done.
+fn extract_file<R: Files>(
+    rt: &R,
+    alloc: Global,
+    numbers: Numbers,
+    image: &str,
+    id: u32,
+    out: &str,
+) -> Result<Outcome, AllocError>
+    ensures { IfOk result (OfImage numbers image.now (ExtractsInto id out.now)) }
+{
+    let file = match load(rt, alloc, numbers, image) {
+        Ok(file) => file,
+        Err(unread) => return unread.answer(),
+    };
+    let mut late = LateFile::new(rt, out);
+    match run_extract(alloc, &file.geometry, file.bytes.as_slice(), id, &mut late) {
+        Ok(outcome) if outcome.status == DONE && late.finish().is_err() => unwritten(alloc, out),
+        Ok(outcome) => Ok(outcome),
+        Err(ToolError::Write) => unwritten(alloc, out),
+        Err(_) => Err(AllocError),
+    }
+}
+
+/// Normalises one file into another.
+fn normalise_file<R: Files>(
+    rt: &R,
+    alloc: Global,
+    numbers: Numbers,
+    image: &str,
+    out: &str,
+) -> Result<Outcome, AllocError>
+    ensures { IfOk result (OfImage numbers image.now (NormalisesInto out.now)) }
+{
+    let file = match load(rt, alloc, numbers, image) {
+        Ok(file) => file,
+        Err(unread) => return unread.answer(),
+    };
+    match run_normalise(alloc, &file.geometry, file.bytes.as_slice()) {
+        Ok(outcome) => write_outcome(rt, alloc, outcome, out),
+        Err(_) => Err(AllocError),
+    }
+}
+
 /// Writes the file of an outcome, if it has one, and answers the outcome, or the line of a file that can't be written.
 fn write_outcome<R: Files>(
     rt: &R,
@@ -151,10 +188,17 @@ fn write_outcome<R: Files>(
 {
     if let Some(bytes) = &outcome.file {
         if write_file(rt, path, bytes.as_slice()).is_err() {
-            return Ok(Outcome::saying(file_line(alloc, "cannot write ", path)?, FAILED));
+            return unwritten(alloc, path);
         }
     }
     Ok(outcome)
+}
+
+/// The line of a file that can't be written.
+fn unwritten(alloc: Global, path: &str) -> Result<Outcome, AllocError>
+    ensures { IfOk result (λ o. Gives o (says (file_line (codes "cannot write ") path.now) 1)) }
+{
+    Ok(Outcome::saying(file_line(alloc, "cannot write ", path)?, FAILED))
 }
 
 /// Writes a file anew.
@@ -162,7 +206,7 @@ fn write_file<R: Files>(rt: &R, path: &str, bytes: &[u8]) -> Result<(), ToolErro
     let Ok(mut file) = File::create(rt, path) else {
         return Err(ToolError::Write);
     };
-    write_out(&mut file, bytes).map_err(|_| ToolError::Write)
+    write_all(&mut file, bytes).map_err(|_| ToolError::Write)
 }
 
 /// Tells on the standard error what is wrong with the words.

@@ -52,6 +52,20 @@ pub const ROOT: Record = Record {
     check: [0x71, 0xDF, 0xB1, 0x1D],
 };
 
+/// The record of a static volume `boot` with 3 reserved eraseblocks.
+pub const BOOT: Record = Record {
+    start: *b"\0\0\0\x03\0\0\0\x01\0\0\0\0\x02\0\0\x04boot",
+    flags: 0,
+    check: [0x5F, 0xAB, 0xAC, 0xF8],
+};
+
+/// The same with 8 reserved eraseblocks, while it is updated.
+const BOOT_UPDATING: Record = Record {
+    start: *b"\0\0\0\x08\0\0\0\x01\0\0\0\0\x02\x01\0\x04boot",
+    flags: 0,
+    check: [0x0E, 0x98, 0xDF, 0x4C],
+};
+
 /// Adds an eraseblock with a copy of the empty table: two empty records, and 40 bytes 0xFF behind them.
 fn put_empty_copy(image: &mut Vec<u8>, header: &[u8; 64]) -> Result<(), AllocError> {
     image.extend_from_slice(&EC)?;
@@ -87,6 +101,29 @@ pub fn root_image(alloc: Global, geometry: &Geometry) -> Result<Vec<u8>, AllocEr
     for lnum in 0..3u8 {
         let vid = plain(0, u32::from(lnum), 0);
         put_block(&mut image, &ec, &vid, &[0x41 + lnum; 384])?;
+    }
+    Ok(image)
+}
+
+/// A static volume while it is updated, whose eraseblocks don't agree on how many they are.
+pub fn updating_image(alloc: Global, geometry: &Geometry) -> Result<Vec<u8>, AllocError> {
+    let ec = ec_of(geometry, 0);
+    let mut image = table_image(alloc, &ec, &BOOT_UPDATING)?;
+    for (lnum, used_ebs) in [(0, 5), (1, 6), (2, 5), (3, 7), (4, 5)] {
+        let vid = fixed(lnum, used_ebs, 384, 0);
+        put_block(&mut image, &ec, &vid, &[0x41; 384])?;
+    }
+    Ok(image)
+}
+
+/// A static volume of two eraseblocks that reads 384 bytes 0x41 and a byte 0xFF; and how many of its eraseblocks are there.
+pub fn boot_image(alloc: Global, geometry: &Geometry, count: usize) -> Result<Vec<u8>, AllocError> {
+    let ec = ec_of(geometry, 0);
+    let mut image = table_image(alloc, &ec, &BOOT)?;
+    let headers = [fixed(0, 2, 384, CHECK_OF_41), fixed(1, 2, 1, 0x00FF_FFFF)];
+    let data = [[0x41; 384], [0xFF; 384]];
+    for (vid, data) in headers.iter().zip(&data).take(count) {
+        put_block(&mut image, &ec, vid, data)?;
     }
     Ok(image)
 }

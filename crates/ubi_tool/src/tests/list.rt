@@ -1,7 +1,8 @@
 //! The command `list` over bytes.
 
 use super::images::{
-    CHECK_OF_41, ROOT, Record, ec_of, fixed, overwrite, plain, put_block, root_image, table_image,
+    BOOT, CHECK_OF_41, ROOT, Record, ec_of, fixed, overwrite, plain, put_block, root_image,
+    table_image, updating_image,
 };
 use crate::list::run_list;
 use std::alloc::Global;
@@ -10,13 +11,6 @@ use ubi_media::Geometry;
 
 /// The first line for the small geometry.
 const SIZES: &str = "geometry peb=512 page=64 vid=64 data=128 leb=384 slots=2 pebs=32\n";
-
-/// The record of a static volume `boot` with 3 reserved eraseblocks.
-const BOOT: Record = Record {
-    start: *b"\0\0\0\x03\0\0\0\x01\0\0\0\0\x02\0\0\x04boot",
-    flags: 0,
-    check: [0x5F, 0xAB, 0xAC, 0xF8],
-};
 
 /// What is printed of an image, and the exit status.
 fn listed(alloc: Global, geometry: &Geometry, image: &[u8]) -> Result<(Vec<u8>, u8), Fail> {
@@ -104,21 +98,7 @@ fn lists_a_static_volume(rt: HostRuntime) -> Result<(), Fail> {
 fn lists_a_volume_that_is_updating(rt: HostRuntime) -> Result<(), Fail> {
     let alloc = rt.alloc();
     let geometry = Geometry::new(512, 64, 64, 128, 32)?;
-    let ec = ec_of(&geometry, 0);
-    let record = Record {
-        start: *b"\0\0\0\x08\0\0\0\x01\0\0\0\0\x02\x01\0\x04boot",
-        flags: 0,
-        check: [0x0E, 0x98, 0xDF, 0x4C],
-    };
-    let mut image = table_image(alloc, &ec, &record)?;
-    for (lnum, used_ebs) in [(0, 5), (1, 6), (2, 5), (3, 7), (4, 5)] {
-        put_block(
-            &mut image,
-            &ec,
-            &fixed(lnum, used_ebs, 384, 0),
-            &[0x41; 384],
-        )?;
-    }
+    let image = updating_image(alloc, &geometry)?;
     let (text, status) = listed(alloc, &geometry, image.as_slice())?;
     let line = "volume 0 static reserved=8 alignment=1 usable=384 flags=00 updating name=boot";
     assert_eq!(rt; text.as_slice(), one_volume(alloc, line)?.as_bytes());

@@ -1,9 +1,8 @@
-//! Reading and writing through readers and writers that fail.
+//! Reading through readers that fail.
 
-use super::fake::{Broken, FakeFiles, FakeWriter};
+use super::fake::{Broken, FakeFiles};
 use crate::outcome::ToolError;
 use crate::read::read_limited;
-use crate::write::write_out;
 use std::cell::RefCell;
 use std::fs;
 use std::io::ErrorKind;
@@ -49,23 +48,5 @@ fn tells_of_a_read_that_fails(rt: HostRuntime) -> Result<(), Fail> {
         let mut file = fs::open(&files, "a.img")?;
         assert_eq!(rt; read_limited(alloc, &mut file, after as u64)?.len(), after);
     }
-    Ok(())
-}
-
-#[test]
-fn writes_until_it_fails(rt: HostRuntime) -> Result<(), Fail> {
-    let text = b"twelve bytes";
-    for failure in [None, Some(ErrorKind::Interrupted), Some(ErrorKind::Other)] {
-        for most in [1, usize::MAX] {
-            for room in 0..14usize {
-                let mut writer = FakeWriter::new(rt.alloc(), room, most, failure)?;
-                let want = if room < 12 { Err(room) } else { Ok(()) };
-                assert_eq!(rt; write_out(&mut writer, text), want);
-                assert_eq!(rt; writer.taken(), &text[..room.min(12)]);
-            }
-        }
-    }
-    let mut full = FakeWriter::new(rt.alloc(), 0, 1, None)?;
-    assert_eq!(rt; write_out(&mut full, b""), Ok(()));
     Ok(())
 }

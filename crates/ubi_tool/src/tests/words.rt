@@ -23,7 +23,7 @@ fn tells_of_wrong_commands(rt: HostRuntime) -> Result<(), Fail> {
         ("", "requires a subcommand"),
         ("--help", "Usage: ubi_tool"),
         ("help", "Usage: ubi_tool"),
-        ("extract a", "unrecognized subcommand"),
+        ("compose a", "unrecognized subcommand"),
     ];
     for (line, error) in cases {
         let (text, status, shown) = answer(alloc, line)?;
@@ -37,7 +37,7 @@ fn tells_of_wrong_commands(rt: HostRuntime) -> Result<(), Fail> {
 #[test]
 fn tells_of_wrong_words(rt: HostRuntime) -> Result<(), Fail> {
     let alloc = rt.alloc();
-    let cases: [(&str, &str); 13] = [
+    let cases: [(&str, &str); 17] = [
         ("normalise --help", "Usage: ubi_tool normalise"),
         ("normalise a --out b --peb 512", "--page <N>"),
         ("normalise --out b --peb 512 --page 64", "<IMAGE>"),
@@ -62,6 +62,13 @@ fn tells_of_wrong_words(rt: HostRuntime) -> Result<(), Fail> {
         (
             "show a --peb 512 --page 64 --block -1",
             "unexpected argument",
+        ),
+        ("extract --help", "Usage: ubi_tool extract"),
+        ("extract a --peb 512 --page 64 --out b", "--id <N>"),
+        ("extract a --peb 512 --page 64 --id 0", "--out <FILE>"),
+        (
+            "extract a --peb 512 --page 64 --id 0x1 --out b",
+            "invalid value",
         ),
     ];
     for (line, error) in cases {
@@ -97,6 +104,7 @@ fn refuses_geometries_before_files(rt: HostRuntime) -> Result<(), Fail> {
             "list a",
             "check a",
             "show a --block 0",
+            "extract a --id 0 --out b",
         ] {
             let line = format!(in alloc; "{command} --peb {numbers}")?;
             let (text, status, shown) = answer(alloc, line.as_str())?;

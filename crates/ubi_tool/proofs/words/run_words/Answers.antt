@@ -1,5 +1,5 @@
 use Rattle.std.proofs.lemmas.Result.{IfOk-weaker}
-use Rattle.ubi_tool.specs.Program.{check, list, normalise, show}
+use Rattle.ubi_tool.specs.Program.{check, extract, list, normalise, show}
 use Rattle.ubi_tool.proofs.words.run_words.Goals as goal
 
 pub returns-in-Some-Normalise : goal.returns-in-Some-Normalise
@@ -15,3 +15,7 @@ returns-in-Some-Check g c = IfOk-weaker c.check_file.result _ _ (λ o h. check _
 pub returns-in-Some-Show : goal.returns-in-Some-Show
 returns-in-Some-Show g c =
     IfOk-weaker c.show_file.result _ _ (λ o h. show _ _ _ h) c.show_file.ensures
+
+pub returns-in-Some-Extract : goal.returns-in-Some-Extract
+returns-in-Some-Extract g c =
+    IfOk-weaker c.extract_file.result _ _ (λ o h. extract _ _ _ _ h) c.extract_file.ensures

@@ -1,0 +1,88 @@
+-- What was extracted where the command did its work, or where a write failed.
+use Rattle.std.proofs.Common.{◌≡◌, ℕ, List, ap, refl, length, sym, ◌∙◌}
+use Rattle.std.specs.FinMap.{get}
+use Rattle.std.specs.Option.{option_map_or}
+use Rattle.std.specs.Prelude.{Option, Some, None, Result, Ok, Err}
+use Rattle.std.specs.Result.{result_map_both}
+use Rattle.ubi_media.specs.Geometry.{Sizes}
+use Rattle.ubi_scan.specs.Image.{Image}
+use Rattle.ubi_volume.specs.Accepts.{Accepts}
+use Rattle.ubi_volume.specs.Meant.{Meant}
+use Rattle.ubi_volume.specs.Reading.{read_volume, volume_len, volume_read}
+use Rattle.ubi_volume.specs.declared.content.Content.TheVariants as content
+use Rattle.ubi_volume.specs.declared.content.Volume.{Volume}
+use Rattle.ubi_volume.specs.declared.errors.ReadError.{ReadError}
+use Rattle.ubi_volume.specs.declared.errors.ReadError.TheVariants as error
+use Rattle.ubi_tool.specs.Extract.{Extracts, IsExtractError, IsUntold, IsVolumeError, ReadsVolume, accepted, read, read_refusal, refused, unread}
+use Rattle.std.specs.Io.KnownBytes.{Keeps}
+use Rattle.ubi_tool.specs.declared.outcome.Outcome.{Outcome}
+use Rattle.ubi_tool.specs.declared.outcome.ToolError.{ToolError}
+use Rattle.ubi_tool.specs.declared.outcome.ToolError.TheVariants as tool
+
+-- a text that a volume of the image's meaning reads
+abbrev pub HasText : Image → ℕ → Type 0
+HasText image id = (m : Meant) × (text : List ℕ) × Accepts image m × (read_volume m id ≡ Ok text)
+
+not_both : (o : Outcome) → o.status ≡ 0 → o.status ≡ 1 → ⊥
+not_both o zero one = let e = sym zero ∙ one in cc
+
+volume_text : (m : Meant) (id : ℕ) (old new : Option (List ℕ)) (o : Outcome) → ReadsVolume m id old new o → o.status ≡ 0
+    → (text : List ℕ) × (read_volume m id ≡ Ok text)
+volume_text m id old new o (unread e h line kept) done = absurd (not_both o done line.2.status)
+volume_text m id old new o (read text h line got) done = (text, h)
+
+-- work that was done gave the text of a volume
+pub done_text : (image : Image) (id : ℕ) (old new : Option (List ℕ)) (o : Outcome) → Extracts image id old new o → o.status ≡ 0 → HasText image id
+done_text image id old new o (accepted m a r) done = let t = volume_text m id old new o r done in (m, t.0, a, t.1)
+done_text image id old new o (refused c h line kept) done = absurd (not_both o done line.status)
+
+-- the length of a text, and the error of none
+pub length_is : (m : Meant) (id n : ℕ) (text : List ℕ) → Ok n ≡ volume_len m id → read_volume m id ≡ Ok text → n ≡ length text
+length_is m id n text len h =
+    let e : Ok n ≡ Ok (length text) = len ∙ ap (λ r. result_map_both length (λ (x : ReadError). x) r) h in cc
+
+error_in : (r : Result (List ℕ) ReadError) (e : ReadError) → Err e ≡ result_map_both length (λ x. x) r → r ≡ Err e
+error_in (Ok text) e h = absurd (cc)
+error_in (Err d) e h = let same : d ≡ e = cc in ap Err same
+
+pub error_is : (m : Meant) (id : ℕ) (e : ReadError) → Err e ≡ volume_len m id → read_volume m id ≡ Err e
+error_is m id e h = error_in (read_volume m id) e h
+
+abbrev failed : ReadError → Result (List ℕ) ReadError
+failed d = Err d
+
+-- an error of reading has a name
+has_name : (e d : ReadError) (name : List ℕ) (fault : ToolError) → failed d ≡ Err e → read_refusal d ≡ Ok name → read_refusal e ≡ Err fault → ⊥
+has_name e d name fault same named unnamed =
+    let k : d ≡ e = cc in
+    let both : Ok name ≡ Err fault = sym named ∙ ap read_refusal k ∙ unnamed in
+    cc
+
+by_content : (s : Sizes) (v : Volume) (c : content.the_data) (e : ReadError) (fault : ToolError) → volume_read s v.entry c ≡ Err e → read_refusal e ≡ Err fault → ⊥
+by_content s v content.Updating e fault h u = has_name e error.Updating _ fault h refl u
+by_content s v content.Damaged e fault h u = has_name e error.Damaged _ fault h refl u
+by_content s v (content.Static text) e fault h u = cc
+by_content s v (content.Dynamic lebs) e fault h u = cc
+
+by_volume : (s : Sizes) (o : Option Volume) (e : ReadError) (fault : ToolError)
+    → option_map_or (λ v. volume_read s v.entry v.content) o (Err error.NoVolume) ≡ Err e → read_refusal e ≡ Err fault → ⊥
+by_volume s None e fault h u = has_name e error.NoVolume _ fault h refl u
+by_volume s (Some v) e fault h u = by_content s v v.content e fault h u
+
+-- so what isn't told of it is want of memory
+pub untold : (m : Meant) (id : ℕ) (kept : Option (List ℕ)) (e : ReadError) (fault : ToolError) → read_volume m id ≡ Err e → IsUntold e fault
+    → Keeps kept kept → IsVolumeError m id kept kept fault
+untold m id kept e tool.Memory h u k = k
+untold m id kept e tool.Write h u k = absurd (by_volume m.sizes (get m.volumes id) e tool.Write h u)
+untold m id kept e tool.Read h u k = absurd (by_volume m.sizes (get m.volumes id) e tool.Read h u)
+
+-- an error of an image is that of its meaning's volume
+pub of_meaning : (image : Image) (m : Meant) (id : ℕ) (old new : Option (List ℕ)) (fault : ToolError) → Accepts image m → IsVolumeError m id old new fault
+    → IsExtractError image id old new fault
+of_meaning image m id old new tool.Memory a h = h
+of_meaning image m id old new tool.Write a h = (m, a, h)
+of_meaning image m id old new tool.Read a h = absurd h
+
+-- a write that failed was one of the text of a volume
+pub failed_text : (image : Image) (id : ℕ) (old new : Option (List ℕ)) → IsExtractError image id old new tool.Write → HasText image id
+failed_text image id old new h = (h.0, h.2.0, h.1, h.2.2)

@@ -1,0 +1,66 @@
+-- What is extracted of an image: what one of its volumes reads.
+use Rattle.std.specs.Prelude.{◌≡◌, ℕ, ◌<◌, List, Option, Result, Ok, Err, codes, length, take}
+use Rattle.std.specs.Io.KnownBytes.{Appends, Keeps}
+use Rattle.ubi_media.specs.declared.refusal.Refusal.{Refusal}
+use Rattle.ubi_scan.specs.Image.{Image}
+use Rattle.ubi_volume.specs.Accepts.{Accepts, Refuses}
+use Rattle.ubi_volume.specs.Meant.{Meant}
+use Rattle.ubi_volume.specs.Reading.{read_volume}
+use Rattle.ubi_volume.specs.declared.errors.ReadError.{ReadError}
+use Rattle.ubi_volume.specs.declared.errors.ReadError.TheVariants as error
+use Rattle.ubi_tool.specs.Answer.{Gives, says}
+use Rattle.ubi_tool.specs.Lines.{bytes_line, file_line, read_line, refusal_line}
+use Rattle.ubi_tool.specs.declared.outcome.Outcome.{Outcome}
+use Rattle.ubi_tool.specs.declared.outcome.ToolError.{ToolError}
+use Rattle.ubi_tool.specs.declared.outcome.ToolError.TheVariants as tool
+
+-- the name of a refusal to read, with its number; a fault of the machine has none
+abbrev pub read_refusal : ReadError → Result (List ℕ) ToolError
+read_refusal error.NoVolume = Ok (codes "L1 NoVolume")
+read_refusal error.Updating = Ok (codes "L2 Updating")
+read_refusal error.Damaged = Ok (codes "L3 Damaged")
+read_refusal error.OutOfRange = Ok (codes "L4 OutOfRange")
+read_refusal (error.Write _) = Err tool.Write
+read_refusal error.Memory = Err tool.Memory
+
+-- the line of a refusal to read
+abbrev pub IsUnread : ReadError → Outcome → Type 0
+IsUnread e o = (name : List ℕ) × (read_refusal e ≡ Ok name) × Gives o (says (read_line name) 1)
+
+-- why it isn't told: memory ran out, or it is none
+abbrev pub IsUntold : ReadError → ToolError → Type 0
+IsUntold e tool.Memory = Unit {0}
+IsUntold e fault = read_refusal e ≡ Err fault
+
+-- what is answered of a volume of a meaning: the line of the refusal to read it, and the writer has got nothing; or how
+-- many bytes it reads, and the writer has got them
+pub data ReadsVolume (m : Meant) (id : ℕ) (old new : Option (List ℕ)) : Outcome → Type 0 where
+  unread : {o : Outcome} (e : ReadError) → read_volume m id ≡ Err e → IsUnread e o → Keeps old new → ReadsVolume m id old new o
+  read : {o : Outcome} (text : List ℕ) → read_volume m id ≡ Ok text → Gives o (says (bytes_line (length text)) 0)
+      → Appends old new text → ReadsVolume m id old new o
+
+-- why nothing is answered of it: memory ran out, and the writer has got nothing; or a write failed, and it has got the
+-- first n bytes and not all
+abbrev pub IsVolumeError : Meant → ℕ → Option (List ℕ) → Option (List ℕ) → ToolError → Type 0
+IsVolumeError m id old new tool.Memory = Keeps old new
+IsVolumeError m id old new tool.Write =
+    (text : List ℕ) × (n : ℕ) × (read_volume m id ≡ Ok text) × (n < length text) × Appends old new (take n text)
+IsVolumeError m id old new tool.Read = ⊥
+
+-- what the command answers of an image: that of the volume of its meaning, or the line of its refusal, and the writer has
+-- got nothing
+pub data Extracts (image : Image) (id : ℕ) (old new : Option (List ℕ)) : Outcome → Type 0 where
+  accepted : {o : Outcome} (m : Meant) → Accepts image m → ReadsVolume m id old new o → Extracts image id old new o
+  refused : {o : Outcome} (c : Refusal) → Refuses image c → Gives o (says (refusal_line c) 1) → Keeps old new
+      → Extracts image id old new o
+
+-- why it answers nothing of an image
+abbrev pub IsExtractError : Image → ℕ → Option (List ℕ) → Option (List ℕ) → ToolError → Type 0
+IsExtractError image id old new tool.Memory = Keeps old new
+IsExtractError image id old new e = (m : Meant) × Accepts image m × IsVolumeError m id old new e
+
+-- what it answers over files: the same, or the line of an output that can't be written
+pub data ExtractsInto (id : ℕ) (out : List ℕ) (image : Image) : Outcome → Type 0 where
+  written : {o : Outcome} (old new : Option (List ℕ)) → Extracts image id old new o → ExtractsInto id out image o
+  unwritten : {o : Outcome} (m : Meant) (text : List ℕ) → Accepts image m → read_volume m id ≡ Ok text
+      → Gives o (says (file_line (codes "cannot write ") out) 1) → ExtractsInto id out image o

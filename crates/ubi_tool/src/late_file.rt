@@ -1,0 +1,54 @@
+//! A file that is opened late.
+
+use std::fs::{File, Files};
+use std::io;
+use std::io::Write;
+
+/// A writer into a file that is opened anew at the first write. So a file that is there stays as it is where the work is
+/// refused.
+#[derive(Drop)]
+pub struct LateFile<'a, R: Files> {
+    rt: &'a R,
+    path: &'a str,
+    file: Option<R::File>,
+}
+
+impl<'a, R: Files> LateFile<'a, R> {
+    /// A file that isn't opened yet.
+    pub fn new(rt: &'a R, path: &'a str) -> LateFile<'a, R> {
+        LateFile {
+            rt,
+            path,
+            file: None,
+        }
+    }
+
+    /// Opens the file where no write did, so that it is there though nothing was to be written.
+    ///
+    /// # Errors
+    ///
+    /// The file can't be opened.
+    pub fn finish(&mut self) -> io::Result<()> {
+        if self.file.is_none() {
+            self.file = Some(File::create(self.rt, self.path)?);
+        }
+        Ok(())
+    }
+}
+
+impl<R: Files> Write for LateFile<'_, R> {
+    fn write(&mut self, buf: &[u8]) -> io::Result<usize> {
+        self.finish()?;
+        match &mut self.file {
+            Some(file) => file.write(buf),
+            None => Ok(0),
+        }
+    }
+
+    fn flush(&mut self) -> io::Result<()> {
+        match &mut self.file {
+            Some(file) => file.flush(),
+            None => Ok(()),
+        }
+    }
+}
