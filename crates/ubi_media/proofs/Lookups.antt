@@ -44,35 +44,24 @@ run-bytes (b ∷ bs) s h =
 check_from-word : (s : ℕ) (m : List ℕ) → s < 2 ^ 32 → AreBytes m → check_from s m ≡ steps (8 * length m) (bit_xor s (word m))
 check_from-word s m h bytes = check_from-run s m h ∙ run-bytes m s bytes
 
--- a sum and the word of each byte, found in the table of how many come behind it
-lookups : ℕ → List ℕ → ℕ
-lookups sum [] = sum
-lookups sum (b ∷ bs) = lookups (bit_xor sum (found (length bs) b)) bs
+-- the sum of what is found for each byte in the table of how many come behind it
+abbrev pub lookups : List ℕ → ℕ
+lookups [] = 0
+lookups (b ∷ bs) = bit_xor (lookups bs) (found (length bs) b)
 
--- the steps of the first byte and those of the rest
-found-first : (b : ℕ) (bs : List ℕ) → length bs < 8 → b < 256
-    → bit_xor (found (length bs) b) (steps (8 * length bs) (word bs)) ≡ steps (8 * suc (length bs)) (word (b ∷ bs))
-unfolding word
-found-first b bs h below =
+lookups-word : (bs : List ℕ) → length bs ≤ 8 → AreBytes bs → lookups bs ≡ steps (8 * length bs) (word bs)
+unfolding AreBytes word steps
+lookups-word [] h bytes = refl
+lookups-word (b ∷ bs) h bytes =
     let n : ℕ = length bs in
     let e : 8 * suc n ≡ 8 + 8 * n = omega arith in
-    let here : found n b ≡ steps (8 * n) (steps 8 b) = found-steps n b h below ∙ ap (λ k. steps k b) e ∙ steps-more 8 (8 * n) b in
-    ap (λ q. bit_xor q (steps (8 * n) (word bs))) here
+    let first : found n b ≡ steps (8 * n) (steps 8 b) =
+    found-steps n b (omega arith) bytes.0 ∙ ap (λ k. steps k b) e ∙ steps-more 8 (8 * n) b in
+    ap (bit_xor (lookups bs)) first
+    ∙ ap (λ q. bit_xor q (steps (8 * n) (steps 8 b))) (lookups-word bs (omega arith) bytes.1)
+    ∙ xor_comm (steps (8 * n) (word bs)) (steps (8 * n) (steps 8 b))
     ∙ sym (steps-sum (8 * n) (steps 8 b) (word bs))
     ∙ sym (steps-byte n b (word bs))
-
-lookups-word : (sum : ℕ) (bs : List ℕ) → length bs ≤ 8 → AreBytes bs → lookups sum bs ≡ bit_xor sum (steps (8 * length bs) (word bs))
-unfolding lookups AreBytes word steps
-lookups-word sum [] h bytes = sym (xor_zero_r sum)
-lookups-word sum (b ∷ bs) h bytes =
-    lookups-word (bit_xor sum (found (length bs) b)) bs (omega arith) bytes.1
-    ∙ xor_assoc sum (found (length bs) b) (steps (8 * length bs) (word bs))
-    ∙ ap (bit_xor sum) (found-first b bs (omega arith) bytes.0)
-
-lookups-all : (b : ℕ) (bs : List ℕ) → length bs < 8 → AreBytes (b ∷ bs) → lookups (found (length bs) b) bs ≡ steps (8 * suc (length bs)) (word (b ∷ bs))
-unfolding AreBytes
-lookups-all b bs h bytes =
-    lookups-word (found (length bs) b) bs (omega arith) bytes.1 ∙ found-first b bs h bytes.0
 
 -- the sum of two words is byte by byte
 word-sum : (xs ys : List ℕ) → length xs ≤ length ys → word (add_to_front xs ys) ≡ bit_xor (word xs) (word ys)
@@ -112,40 +101,29 @@ AreBytes-state s =
     (below s, (below (s / 256), (below (s / 65536), (below (s / 16777216), tt))))
 
 -- the n elements from a place on
-elements : ℕ → ℕ → List ℕ → List ℕ
+abbrev pub elements : ℕ → ℕ → List ℕ → List ℕ
 elements i zero m = []
 elements i (suc n) m = get_or m i 0 ∷ elements (suc i) n m
 
 elements-all : (i n : ℕ) (m : List ℕ) → i + n ≡ length m → elements i n m ≡ drop i m
-unfolding elements
 elements-all i zero m e = sym (drop_all i m (omega arith))
 elements-all i (suc n) m e =
     ap (λ rest. get_or m i 0 ∷ rest) (elements-all (suc i) n m (omega arith)) ∙ sym (drop-cons m i 0 (omega arith))
 
 AreBytes-elements : (i n : ℕ) (m : List ℕ) → ((k : ℕ) → get_or m k 0 < 256) → AreBytes (elements i n m)
-unfolding AreBytes elements
+unfolding AreBytes
 AreBytes-elements i zero m h = tt
 AreBytes-elements i (suc n) m h = (h i, AreBytes-elements (suc i) n m h)
 
--- eight bytes and a state, whose bytes are added to the first four
+-- eight bytes and the four of a state, which are added to the first four
 pub check_from-eight : (s : ℕ) (m state : List ℕ) → s < 2 ^ 32 → length m ≡ 8 → ((k : ℕ) → get_or m k 0 < 256) → state ≡ to_le_bytes w32 s
-    → bit_xor (bit_xor (bit_xor (bit_xor (bit_xor (bit_xor (bit_xor
-    (found 7 (bit_xor (get_or state 0 0) (get_or m 0 0)))
-    (found 6 (bit_xor (get_or state 1 0) (get_or m 1 0))))
-    (found 5 (bit_xor (get_or state 2 0) (get_or m 2 0))))
-    (found 4 (bit_xor (get_or state 3 0) (get_or m 3 0))))
-    (found 3 (get_or m 4 0)))
-    (found 2 (get_or m 5 0)))
-    (found 1 (get_or m 6 0)))
-    (found 0 (get_or m 7 0)) ≡ check_from s m
-unfolding lookups elements
+    → lookups (add_to_front (elements 0 4 state) (elements 0 8 m)) ≡ check_from s m
 check_from-eight s m state h size below same =
-    let m8 : List ℕ = elements 0 8 m in
-    let whole : m8 ≡ m = elements-all 0 8 m (sym size) in
-    let bytes : AreBytes m8 = AreBytes-elements 0 8 m below in
-    let summed : AreBytes (add_to_front (to_le_bytes w32 s) m8) = AreBytes-sum (to_le_bytes w32 s) m8 (AreBytes-state s) bytes in
+    let front : List ℕ = to_le_bytes w32 s in
+    let eight : List ℕ = elements 0 8 m in
+    let bytes : AreBytes eight = AreBytes-elements 0 8 m below in
     rw same
-    (lookups-all _ _ (omega arith) summed
-    ∙ ap (steps 64) (word-sum (to_le_bytes w32 s) m8 (omega arith) ∙ ap (λ x. bit_xor x (word m8)) (word-state s h))
-    ∙ sym (check_from-word s m8 h bytes)
-    ∙ ap (check_from s) whole)
+    (lookups-word (add_to_front front eight) (omega arith) (AreBytes-sum front eight (AreBytes-state s) bytes)
+    ∙ ap (steps 64) (word-sum front eight (omega arith) ∙ ap (λ x. bit_xor x (word eight)) (word-state s h))
+    ∙ sym (check_from-word s eight h bytes)
+    ∙ ap (check_from s) (elements-all 0 8 m (sym size)))

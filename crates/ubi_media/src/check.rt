@@ -51,20 +51,21 @@ fn with_bytes(state: u32, bytes: &[u8]) -> u32
     register
 }
 
-/// The state after eight more bytes. The state is added to the first four, and then each byte adds what it makes of the
-/// register by itself, with as many bytes of zeros as come from it on.
+/// The state after eight more bytes: the sum of what each adds, found in the table of how many bytes come behind it.
+/// The four bytes of the state come in with the first four.
 fn with_eight(state: u32, eight: &[u8; 8]) -> u32
     ensures { result ≡ check_from state eight.now }
 {
     let [a, b, c, d] = state.to_le_bytes();
-    TABLES[7][(a ^ eight[0]) as usize]
-        ^ TABLES[6][(b ^ eight[1]) as usize]
-        ^ TABLES[5][(c ^ eight[2]) as usize]
-        ^ TABLES[4][(d ^ eight[3]) as usize]
-        ^ TABLES[3][eight[4] as usize]
-        ^ TABLES[2][eight[5] as usize]
+    // What doesn't wait for the state comes first.
+    TABLES[0][eight[7] as usize]
         ^ TABLES[1][eight[6] as usize]
-        ^ TABLES[0][eight[7] as usize]
+        ^ TABLES[2][eight[5] as usize]
+        ^ TABLES[3][eight[4] as usize]
+        ^ TABLES[4][(d ^ eight[3]) as usize]
+        ^ TABLES[5][(c ^ eight[2]) as usize]
+        ^ TABLES[6][(b ^ eight[1]) as usize]
+        ^ TABLES[7][(a ^ eight[0]) as usize]
 }
 
 /// The state after one more byte.
