@@ -1,7 +1,6 @@
-//! The register of the check after zero bytes, worked out for each byte and for up to eight of them.
+//! What a byte makes of the register of the check, worked out.
 
-/// For each byte that stands lowest in the register, what the register is after one byte of zeros (the first table) up to
-/// eight (the last).
+/// `TABLES[k][byte]` is the state after that byte and k zeros, from a state of 0: the register after 8 * (k + 1) shifts.
 #[rattlefmt::skip]
 pub const TABLES: [[u32; 256]; 8] = [
     [
