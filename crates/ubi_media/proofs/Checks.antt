@@ -1,8 +1,10 @@
 -- The check of a message: of no byte, of one, of two parts.
-use Rattle.std.proofs.Common.{◌≡◌, ℕ, ◌+◌, ◌*◌, ◌^◌, ◌<◌, List, [], ◌∷◌, ◌++◌, length, take, get_or, bit_xor, sym, ap, ◌∙◌, arith, replicate, length-append}
-use Rattle.std.proofs.lemmas.List.{length-replicate, take_more}
+use Rattle.std.proofs.Common.{◌≡◌, ℕ, zero, suc, ◌+◌, ◌*◌, ◌^◌, ◌<◌, List, [], ◌∷◌, ◌++◌, length, take, drop, get_or, bit_xor, sym, ap, ◌∙◌, arith, replicate, length-append}
+use Rattle.std.proofs.lemmas.List.{append_assoc, append-nil, drop-drop, length-replicate, take-append-drop, take_more}
+use Rattle.std.proofs.lemmas.List.Folds.{concat-append}
 use Rattle.std.proofs.lemmas.Grind.{flat_map-append}
-use Rattle.std.specs.List.{flat_map}
+use Rattle.std.specs.List.{concat, flat_map}
+use Rattle.std.specs.Simd.{first_chunks}
 use Rattle.ubi_media.specs.Check.{bits, polynomial, add_to_front, remainder, dividend, check_from}
 use Rattle.ubi_media.proofs.Polynomials.{AreBits, AreBits-bits, AreBits-append, AreBits-zeros, AreBits-bytes, length-bits, length-bytes, polynomial-append, polynomial-zeros, polynomial-add_to_front}
 use Rattle.ubi_media.proofs.Mirror.{mirror, polynomial-bits, mirror-mirror}
@@ -67,3 +69,34 @@ check_from-more s i m r t h below before now =
     now ∙ ap (λ (q : ℕ). check_from q (get_or m i 0 ∷ [])) before
     ∙ sym (check_from-append s (take i m) (get_or m i 0 ∷ []) h)
     ∙ ap (check_from s) (sym (take_more m i 0 below))
+
+-- one more piece of a message
+pub check_from-piece : (s i : ℕ) (pieces : List (List ℕ)) (r t : ℕ) → s < 2 ^ 32 → i < length pieces → r ≡ check_from s (concat (take i pieces))
+    → t ≡ check_from r (get_or pieces i []) → t ≡ check_from s (concat (take (i + 1) pieces))
+check_from-piece s i pieces r t h below before now =
+    let piece : List ℕ = get_or pieces i [] in
+    let joined : concat (take (i + 1) pieces) ≡ concat (take i pieces) ++ piece =
+    ap concat (take_more pieces i [] below) ∙ concat-append (take i pieces) (piece ∷ []) ∙ ap (λ (q : List ℕ). concat (take i pieces) ++ q) (append-nil piece) in
+    now ∙ ap (λ (q : ℕ). check_from q piece) before
+    ∙ sym (check_from-append s (concat (take i pieces)) piece h)
+    ∙ ap (check_from s) (sym joined)
+
+-- the first pieces of a message, and what is left
+first_chunks-rest : (size n : ℕ) (m : List ℕ) → concat (first_chunks size n m) ++ drop (n * size) m ≡ m
+first_chunks-rest size zero m = let e : zero * size ≡ 0 = omega arith in ap (λ (k : ℕ). drop k m) e
+first_chunks-rest size (suc n) m =
+    let rest : List ℕ = drop size m in
+    let e : size + n * size ≡ suc n * size = omega arith in
+    append_assoc (take size m) (concat (first_chunks size n rest)) (drop (suc n * size) m)
+    ∙ ap (λ (k : ℕ). take size m ++ (concat (first_chunks size n rest) ++ drop k m)) (sym e)
+    ∙ ap (λ (q : List ℕ). take size m ++ (concat (first_chunks size n rest) ++ q)) (sym (drop-drop (n * size) size m))
+    ∙ ap (λ (q : List ℕ). take size m ++ q) (first_chunks-rest size n rest)
+    ∙ take-append-drop size m
+
+-- a message that is cut into pieces and a rest
+pub check_from-cut : (s size n : ℕ) (m : List ℕ) (pieces : List (List ℕ)) (rest : List ℕ) (r t : ℕ) → s < 2 ^ 32 → pieces ≡ first_chunks size n m → rest ≡ drop (n * size) m
+    → r ≡ check_from s (concat pieces) → t ≡ check_from r rest → t ≡ check_from s m
+check_from-cut s size n m pieces rest r t h front back before now =
+    now ∙ ap (λ (q : ℕ). check_from q rest) before
+    ∙ sym (check_from-append s (concat pieces) rest h)
+    ∙ ap (check_from s) (rw (front, back) (first_chunks-rest size n m))

@@ -5,6 +5,7 @@ pub mod EmptyRecord
 pub mod First
 pub mod GeometryVectors
 pub mod Headers
+pub mod Lookups
 pub mod Mirror
 pub mod Names
 pub mod Pages

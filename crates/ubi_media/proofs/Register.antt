@@ -119,6 +119,13 @@ unfoldable pub steps : ℕ → ℕ → ℕ
 steps zero s = s
 steps (suc n) s = steps n (step s)
 
+pub steps-more : (m n s : ℕ) → steps (m + n) s ≡ steps n (steps m s)
+unfolding steps
+steps-more zero n s = ap (λ k. steps k s) (zero-add n)
+steps-more (suc m) n s =
+    let e : suc m + n ≡ suc (m + n) = omega arith in
+    ap (λ k. steps k s) e ∙ steps-more m n (step s)
+
 -- a bit that comes in stands in the register's lowest place, and those after it follow
 pub step-xor : (s x : ℕ) → step (bit_xor s x) ≡ bit_xor (step (bit_xor s (x % 2))) (x / 2)
 step-xor s x =

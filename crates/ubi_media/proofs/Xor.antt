@@ -34,3 +34,8 @@ xor-twice a b = rw (xor_assoc a b b, xor_self b) (xor_zero_r a)
 -- three in another order
 pub xor-swap : (x y p : ℕ) → bit_xor (bit_xor x y) p ≡ bit_xor (bit_xor x p) y
 xor-swap x y p = xor_assoc x y p ∙ ap (λ (q : ℕ). bit_xor x q) (xor_comm y p) ∙ sym (xor_assoc x p y)
+
+-- four in another order
+pub xor-four : (a b c d : ℕ) → bit_xor (bit_xor a b) (bit_xor c d) ≡ bit_xor (bit_xor a c) (bit_xor b d)
+xor-four a b c d =
+    sym (xor_assoc (bit_xor a b) c d) ∙ ap (λ (q : ℕ). bit_xor q d) (xor-swap a b c) ∙ xor_assoc (bit_xor a c) b d

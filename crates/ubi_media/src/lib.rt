@@ -14,6 +14,7 @@ pub mod laws;
 mod name;
 mod record;
 mod refusal;
+mod tables;
 mod vid;
 
 pub use bytes::is_blank;
