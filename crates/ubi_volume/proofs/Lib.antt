@@ -4,10 +4,11 @@ pub mod Dynamic
 pub mod Exits
 pub mod Gathered
 pub mod LebsText
+pub mod MemberStates
 pub mod Mismatches
+pub mod Moved
 pub mod One
 pub mod Recorded
-pub mod MemberStates
 pub mod Static
 pub mod Tables
 pub mod Winners
