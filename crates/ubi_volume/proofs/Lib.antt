@@ -8,6 +8,7 @@ pub mod MemberStates
 pub mod Mismatches
 pub mod Moved
 pub mod One
+pub mod OneCause
 pub mod Recorded
 pub mod Static
 pub mod Tables

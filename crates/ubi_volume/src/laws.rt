@@ -1,6 +1,6 @@
 //! Laws of the definitions that the contracts cite, each as the contract of a function that does nothing.
 
-ghost use Rattle.ubi_volume.specs.Laws.{NeverBoth, OneMeaning, Reorder};
+ghost use Rattle.ubi_volume.specs.Laws.{NeverBoth, OneCause, OneMeaning, Reorder};
 
 /// An image has one meaning at most.
 pub fn one_meaning()
@@ -10,6 +10,11 @@ pub fn one_meaning()
 /// An image that is accepted isn't refused.
 pub fn never_both()
     ensures { NeverBoth }
+{}
+
+/// An image is refused for one cause at most.
+pub fn one_cause()
+    ensures { OneCause }
 {}
 
 /// The eraseblocks of an accepted image are accepted in any order, with the same meaning.
