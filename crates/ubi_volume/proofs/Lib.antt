@@ -1,6 +1,7 @@
 pub mod Alike
 pub mod Blanks
 pub mod Dynamic
+pub mod Either
 pub mod Exits
 pub mod Gathered
 pub mod LebsText
@@ -10,6 +11,8 @@ pub mod Moved
 pub mod One
 pub mod OneCause
 pub mod Recorded
+pub mod SomeContent
+pub mod SomeMismatch
 pub mod Static
 pub mod Tables
 pub mod Winners
