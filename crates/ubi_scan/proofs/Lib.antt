@@ -6,11 +6,14 @@ pub mod Clean
 pub mod Compatible
 pub mod Counted
 pub mod Decided
+pub mod Either
 pub mod Entries
 pub mod Finite
 pub mod Held
 pub mod Keys
+pub mod Least
 pub mod Next
+pub mod OneFault
 pub mod Places
 pub mod Seen
 pub mod Shown

@@ -1,5 +1,6 @@
 pub mod CopyVectors
 pub mod Deciding
+pub mod Either
 pub mod Entries
 pub mod Held
 pub mod Kept

@@ -26,7 +26,7 @@ use Rattle.ubi_volume.specs.declared.content.Content.{Content}
 use Rattle.ubi_volume.specs.declared.content.Content.TheVariants as content
 use Rattle.ubi_volume.specs.declared.content.Volume.{Volume}
 
-same_or_less : (a b : ℕ) → (a ≡ b) ⊎ (a < b) ⊎ (b < a)
+pub same_or_less : (a b : ℕ) → (a ≡ b) ⊎ (a < b) ⊎ (b < a)
 same_or_less a b = grind arith
 
 within_or_out : (l n : ℕ) → (l < n) ⊎ (n ≤ l)
@@ -124,7 +124,7 @@ blocks-unique s bs m n a b =
 pub Accepts-unique : (image : Image) (m n : Meant) → Accepts image m → Accepts image n → m ≡ n
 Accepts-unique image m n a b = blocks-unique image.sizes (eraseblocks image) m n a.accepted b.accepted
 
-no_size_fault : (image : Image) (c : Refusal) → IsWhole image → IsSizeFault image c → ⊥
+pub no_size_fault : (image : Image) (c : Refusal) → IsWhole image → IsSizeFault image c → ⊥
 no_size_fault image refusal.Length w h = elim h.1 [ inl e ↦ (let n = w.some in omega arith) | inr e ↦ e w.cut ]
 no_size_fault image refusal.TooMany w h = let n = w.fits in omega arith
 no_size_fault image _ w h = h

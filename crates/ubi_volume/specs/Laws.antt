@@ -16,7 +16,7 @@ NeverBoth = (image : Image) (m : Meant) (c : Refusal) → Accepts image m → Re
 
 -- an image is refused for one cause at most
 abbrev pub OneCause : Type 0
-OneCause = (image : Image) (c d : Refusal) → IsGeometry image.sizes → Refuses image c → Refuses image d → c ≡ d
+OneCause = (image : Image) (c d : Refusal) → Refuses image c → Refuses image d → c ≡ d
 
 -- an image is accepted or refused
 abbrev pub OneOrOther : Type 0

@@ -1,0 +1,5 @@
+use Rattle.ubi_volume.proofs.Moved.{reorder}
+use Rattle.ubi_volume.proofs.laws.reorder.Goals as goal
+
+pub returns : goal.returns
+returns c = reorder
