@@ -62,10 +62,6 @@ module _ (s : Sizes) (f : RecFields) where
   unfolding breaks
   alignment_kept e = let h = kept e 2 (lit< tt) in (grind (arith, nat_tests), grind (arith, nat_tests))
 
-  reserved_kept : first_fault s f ≡ None → 1 ≤ f.reserved
-  unfolding breaks
-  reserved_kept e = let h = kept e 0 (lit< tt) in grind (arith, nat_tests)
-
   pub signs_kept : first_fault s f ≡ None → (f.reserved < 2 ^ 31) × (f.alignment < 2 ^ 31)
   unfolding breaks
   signs_kept e = let h = kept e 1 (lit< tt) in (grind (arith, nat_tests), grind (arith, nat_tests))
@@ -184,10 +180,6 @@ number_faults s r e =
 pub alignment_within : (s : Sizes) (r : VolumeRecord) → rec_fault s r ≡ None → (1 ≤ r.alignment) × (r.alignment ≤ leb_size s)
 unfolding fields_from
 alignment_within s r e = alignment_kept s (fields_from s r) e
-
-pub reserved_some : (s : Sizes) (r : VolumeRecord) → rec_fault s r ≡ None → 1 ≤ r.reserved
-unfolding fields_from
-reserved_some s r e = reserved_kept s (fields_from s r) e
 
 pub usable_some : (s : Sizes) (r : VolumeRecord) → rec_fault s r ≡ None → 1 ≤ usable s r
 usable_some s r e =

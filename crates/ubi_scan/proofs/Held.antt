@@ -1,5 +1,5 @@
 -- The candidate of each LEB, as an ordered map keeps it.
-use Rattle.std.proofs.Common.{◌≡◌, ℕ, inl, inr, Bool, true, false, cond, List, [], ◌∷◌, ◌++◌, length, refl, ap, sym, ◌∙◌, subst, arith}
+use Rattle.std.proofs.Common.{◌≡◌, ℕ, inl, inr, Bool, true, false, cond, List, [], ◌∷◌, ◌++◌, length, refl, ap, sym, ◌∙◌, subst}
 use Rattle.std.specs.Prelude.{Option, Some, None, MatchOption}
 use Rattle.std.specs.BTreeMap as tree
 use Rattle.std.specs.BTreeMap.{BTreeMap}
@@ -74,7 +74,3 @@ module _ (z : Sizes) where
 
   pub AreHeld-skip : (bs : List (List ℕ)) (b : List ℕ) (m : BTreeMap Leb Candidate) → AreHeld z bs m → named_in z b ≡ None → AreHeld z (bs ++ b ∷ []) m
   AreHeld-skip bs b m h none = record { each = λ of. held_skip bs b of _ (λ e. absurd (cc)) (h.each of) }
-
-  -- before the first eraseblock
-  pub AreHeld-none : (m : BTreeMap Leb Candidate) → tree.IsEmpty m → AreHeld z [] m
-  AreHeld-none m e = record { each = λ of. rw e (λ p k. let h = k.inside in omega arith) }

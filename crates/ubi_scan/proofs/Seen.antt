@@ -1,5 +1,5 @@
 -- The eraseblock of each stamp, as the candidates and the other members have it.
-use Rattle.std.proofs.Common.{◌≡◌, ◌≢◌, ℕ, ◌⊎◌, inl, inr, true, false, cond, ◌==◌, List, [], ◌∷◌, ◌++◌, ap, ap₂, sym, ◌∙◌, subst, arith}
+use Rattle.std.proofs.Common.{◌≡◌, ◌≢◌, ℕ, ◌⊎◌, inl, inr, true, false, cond, ◌==◌, List, [], ◌∷◌, ◌++◌, ap, ap₂, sym, ◌∙◌, subst}
 use Rattle.std.specs.Prelude.{Option, Some, None, MatchOption}
 use Rattle.std.specs.BTreeMap as tree
 use Rattle.std.specs.BTreeMap.{BTreeMap}
@@ -119,6 +119,3 @@ module _ (z : Sizes) where
 
   pub AreSeen-skip : (bs : List (List ℕ)) (b : List ℕ) (seen : Stamp → Option ℕ) → AreSeen z bs seen → named_in z b ≡ None → AreSeen z (bs ++ b ∷ []) seen
   AreSeen-skip bs b seen h none = record { each = λ stamp. seen_skip bs b stamp _ (λ e. let k = e.0 in absurd (cc)) (h.each stamp) }
-
-  pub AreSeen-none : (m : BTreeMap Leb Candidate) (x : BTreeMap Stamp ℕ) → tree.IsEmpty m → tree.IsEmpty x → AreSeen z [] (twin_in m x)
-  AreSeen-none m x e k = record { each = λ stamp. rw (e, k) (λ p k. let h = k.0.inside in omega arith) }

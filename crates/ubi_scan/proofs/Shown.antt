@@ -85,9 +85,6 @@ other_state states (Some held) new p e l h =
     ]
 
 module _ (z : Sizes) where
-  pub AreShown-none : (best : BTreeMap Leb Candidate) (states : List ScanState) → states ≡ [] → AreShown z [] best states
-  AreShown-none best states e = record { size = ap length e; each = λ p l. absurd (omega arith) }
-
   pub AreShown-skip : (bs : List (List ℕ)) (b : List ℕ) (best : BTreeMap Leb Candidate) (states : List ScanState) → AreShown z bs best states → member z b ≡ None
       → AreShown z (bs ++ b ∷ []) best (states ++ quiet_state (ec z b) (vid z b) ∷ [])
   AreShown-skip bs b best states h none =

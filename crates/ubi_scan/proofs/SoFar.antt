@@ -1,7 +1,6 @@
 -- What a pass knows of the eraseblocks that it has taken.
 use Rattle.std.proofs.Common.{◌≡◌, ℕ, ◌+◌, ◌<◌, ◌≤◌, inl, inr, Bool, List, [], ◌∷◌, ◌++◌, length, take, refl, ap, sym, ◌∙◌, subst, arith, length-take}
 use Rattle.std.specs.Prelude.{Option, Some, None, MatchOption, option_map}
-use Rattle.std.specs.BTreeMap as tree
 use Rattle.std.specs.Option.{option_map_or}
 use Rattle.std.proofs.lemmas.List.{take_all, take_more}
 use Rattle.ubi_media.specs.Geometry.{Sizes}
@@ -18,10 +17,10 @@ use Rattle.ubi_scan.specs.declared.pass.Pass.{Pass}
 use Rattle.ubi_scan.proofs.Causes.{Judges, judged}
 use Rattle.ubi_scan.proofs.Choice.{last_or_before}
 use Rattle.ubi_scan.proofs.Counted.{AreKnown, AreKnown-push, counted-le, mean_of}
-use Rattle.ubi_scan.proofs.Held.{AreHeld, AreHeld-none, AreHeld-push, AreHeld-skip, IsHeld}
+use Rattle.ubi_scan.proofs.Held.{AreHeld, AreHeld-push, AreHeld-skip, IsHeld}
 use Rattle.ubi_scan.proofs.Places.{get-places_of}
-use Rattle.ubi_scan.proofs.Seen.{AreSeen, AreSeen-none, AreSeen-push, AreSeen-skip}
-use Rattle.ubi_scan.proofs.Shown.{AreShown, AreShown-none, AreShown-push, AreShown-skip}
+use Rattle.ubi_scan.proofs.Seen.{AreSeen, AreSeen-push, AreSeen-skip}
+use Rattle.ubi_scan.proofs.Shown.{AreShown, AreShown-push, AreShown-skip}
 use Rattle.ubi_scan.proofs.Told.{states_told}
 
 -- what is known before the eraseblock p
@@ -33,16 +32,6 @@ pub record IsSoFar (z : Sizes) (bs : List (List ℕ)) (p : ℕ) (pass : Pass) : 
   pub counts : AreKnown z (take p bs) pass.counts
 
 module _ (z : Sizes) (bs : List (List ℕ)) where
-  pub SoFar-none : (pass : Pass) → tree.IsEmpty pass.best → tree.IsEmpty pass.others → pass.states.items ≡ [] → pass.counts.image_seq ≡ 0 → pass.counts.top_sqnum ≡ 0 → pass.counts.sum ≡ 0
-      → pass.counts.counted ≡ 0 → IsSoFar z bs 0 pass
-  SoFar-none pass best others states image_seq top_sqnum sum counted = record {
-    clean = λ q c l. absurd (omega arith);
-    seen = AreSeen-none z pass.best pass.others best others;
-    held = AreHeld-none z pass.best best;
-    shown = AreShown-none z pass.best pass.states.items states;
-    counts = record { image_seq = image_seq; top_sqnum = top_sqnum; sum = sum; counted = counted };
-  }
-
   pub counted_so_far : (p : ℕ) (pass : Pass) → IsSoFar z bs p pass → pass.counts.counted ≤ p
   counted_so_far p pass h = let k = counted-le z (take p bs) pass.counts h.counts in omega (arith, length-take p bs)
 

@@ -1,5 +1,7 @@
 //! A file that is opened late.
 
+ghost use Rattle.std.specs.Prelude.{◌≡◌, IsSome, None, OnOk};
+
 use std::fs::{File, Files};
 use std::io;
 use std::io::Write;
@@ -15,7 +17,10 @@ pub struct LateFile<'a, R: Files> {
 
 impl<'a, R: Files> LateFile<'a, R> {
     /// A file that isn't opened yet.
-    pub fn new(rt: &'a R, path: &'a str) -> LateFile<'a, R> {
+    pub fn new(rt: &'a R, path: &'a str) -> LateFile<'a, R>
+        ensures path { result.path ≡ path }
+        ensures unopened { result.file ≡ None }
+    {
         LateFile {
             rt,
             path,
@@ -28,7 +33,10 @@ impl<'a, R: Files> LateFile<'a, R> {
     /// # Errors
     ///
     /// The file can't be opened.
-    pub fn finish(&mut self) -> io::Result<()> {
+    pub fn finish(&mut self) -> io::Result<()>
+        ensures path { self.new.path ≡ self.old.path }
+        ensures opened { OnOk result (IsSome self.new.file) }
+    {
         if self.file.is_none() {
             self.file = Some(File::create(self.rt, self.path)?);
         }

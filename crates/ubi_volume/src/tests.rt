@@ -1,4 +1,5 @@
 mod images;
+mod length;
 mod memory;
 mod reading;
 mod refusals;

@@ -4,6 +4,7 @@ use super::fake::{Broken, FakeFiles};
 use crate::words::run_words;
 use std::alloc::{AllocError, Global};
 use std::cell::RefCell;
+use std::process::Abort;
 use std::test::Fail;
 
 /// The words of a command line, the program's name first.
@@ -16,28 +17,32 @@ pub fn words_of(alloc: Global, words: &[&str]) -> Result<Vec<String>, AllocError
     Ok(all)
 }
 
+/// Runs the words of a line, which are wrong, and looks for what the standard error shows.
+fn refuse(rt: &impl Abort, alloc: Global, line: &str, error: &str) -> Result<(), Fail> {
+    let (text, status, shown) = answer(alloc, line)?;
+    assert_eq!(rt; text.len(), 0, "of {line:?}");
+    assert_eq!(rt; status, 2, "of {line:?}");
+    assert!(rt; shown.as_str().contains(error), "of {line:?}: {shown}");
+    Ok(())
+}
+
 #[test]
 fn tells_of_wrong_commands(rt: HostRuntime) -> Result<(), Fail> {
-    let alloc = rt.alloc();
-    let cases: [(&str, &str); 4] = [
+    let cases = [
         ("", "requires a subcommand"),
         ("--help", "Usage: ubi_tool"),
         ("help", "Usage: ubi_tool"),
         ("compose a", "unrecognized subcommand"),
     ];
     for (line, error) in cases {
-        let (text, status, shown) = answer(alloc, line)?;
-        assert_eq!(rt; text.len(), 0, "of {line:?}");
-        assert_eq!(rt; status, 2, "of {line:?}");
-        assert!(rt; shown.as_str().contains(error), "of {line:?}: {shown}");
+        refuse(&rt, rt.alloc(), line, error)?;
     }
     Ok(())
 }
 
 #[test]
-fn tells_of_wrong_words(rt: HostRuntime) -> Result<(), Fail> {
-    let alloc = rt.alloc();
-    let cases: [(&str, &str); 17] = [
+fn tells_of_wrong_words_to_normalise(rt: HostRuntime) -> Result<(), Fail> {
+    let cases = [
         ("normalise --help", "Usage: ubi_tool normalise"),
         ("normalise a --out b --peb 512", "--page <N>"),
         ("normalise --out b --peb 512 --page 64", "<IMAGE>"),
@@ -55,6 +60,16 @@ fn tells_of_wrong_words(rt: HostRuntime) -> Result<(), Fail> {
             "normalise a b --out c --peb 512 --page 64",
             "unexpected argument",
         ),
+    ];
+    for (line, error) in cases {
+        refuse(&rt, rt.alloc(), line, error)?;
+    }
+    Ok(())
+}
+
+#[test]
+fn tells_of_wrong_words(rt: HostRuntime) -> Result<(), Fail> {
+    let cases = [
         ("list a --peb 512 --page 64 --out b", "unexpected argument"),
         ("check --peb 512 --page 64", "<IMAGE>"),
         ("show --help", "Usage: ubi_tool show"),
@@ -72,10 +87,7 @@ fn tells_of_wrong_words(rt: HostRuntime) -> Result<(), Fail> {
         ),
     ];
     for (line, error) in cases {
-        let (text, status, shown) = answer(alloc, line)?;
-        assert_eq!(rt; text.len(), 0, "of {line:?}");
-        assert_eq!(rt; status, 2, "of {line:?}");
-        assert!(rt; shown.as_str().contains(error), "of {line:?}: {shown}");
+        refuse(&rt, rt.alloc(), line, error)?;
     }
     Ok(())
 }

@@ -11,11 +11,14 @@ use std::process::Abort;
 use std::test::Fail;
 use ubi_media::GeometryError;
 
-/// The ways in which a write fails.
-const FAILURES: [Failure; 3] = [
-    Failure::Nothing,
-    Failure::Error(ErrorKind::Interrupted),
-    Failure::Error(ErrorKind::Other),
+/// The ways in which a write fails, with how many bytes are taken at once.
+const WAYS: [(Failure, usize); 6] = [
+    (Failure::Nothing, 1),
+    (Failure::Error(ErrorKind::Interrupted), 1),
+    (Failure::Error(ErrorKind::Other), 1),
+    (Failure::Nothing, usize::MAX),
+    (Failure::Error(ErrorKind::Interrupted), usize::MAX),
+    (Failure::Error(ErrorKind::Other), usize::MAX),
 ];
 
 /// A dynamic volume of three logical eraseblocks, the second of which isn't kept.
@@ -57,18 +60,16 @@ fn write_with_each_room(
     meaning: &Meaning,
     text: &[u8],
 ) -> Result<(), Fail> {
-    for failure in FAILURES {
-        for most in [1, usize::MAX] {
-            for room in 0..text.len() + 2 {
-                let mut writer = ProbeWriter::new(alloc, room, most, failure)?;
-                let want = if room < text.len() {
-                    Err(ReadError::Write(room as u64))
-                } else {
-                    Ok(text.len() as u64)
-                };
-                assert_eq!(rt; write_volume(meaning, 0, &mut writer), want);
-                assert_eq!(rt; writer.taken(), &text[..room.min(text.len())]);
-            }
+    for room in 0..text.len() + 2 {
+        let want = if room < text.len() {
+            Err(ReadError::Write(room as u64))
+        } else {
+            Ok(text.len() as u64)
+        };
+        for (failure, most) in WAYS {
+            let mut writer = ProbeWriter::new(alloc, room, most, failure)?;
+            assert_eq!(rt; write_volume(meaning, 0, &mut writer), want);
+            assert_eq!(rt; writer.taken(), &text[..room.min(text.len())]);
         }
     }
     Ok(())
@@ -117,8 +118,8 @@ fn writes_20_logical_eraseblocks(rt: HostRuntime) -> Result<(), Fail> {
 fn writes_no_byte_of_an_empty_text(rt: HostRuntime) -> Result<(), Fail> {
     let alloc = rt.alloc();
     let attached = attached(alloc, &[copy(0, BOOT)?, copy(1, BOOT)?])?;
-    for failure in FAILURES {
-        let mut writer = ProbeWriter::new(alloc, 0, 1, failure)?;
+    for (failure, most) in WAYS {
+        let mut writer = ProbeWriter::new(alloc, 0, most, failure)?;
         assert_eq!(rt; write_volume(attached.meaning(), 0, &mut writer), Ok(0));
         assert!(rt; writer.taken().is_empty());
     }
@@ -152,14 +153,12 @@ fn writes_nothing_of_what_is_refused(rt: HostRuntime) -> Result<(), Fail> {
 #[test]
 fn writes_all_of_some_bytes_until_it_fails(rt: HostRuntime) -> Result<(), Fail> {
     let text = b"twelve bytes";
-    for failure in FAILURES {
-        for most in [1, usize::MAX] {
-            for room in 0..14usize {
-                let mut writer = ProbeWriter::new(rt.alloc(), room, most, failure)?;
-                let want = if room < 12 { Err(room) } else { Ok(()) };
-                assert_eq!(rt; write_all(&mut writer, text), want);
-                assert_eq!(rt; writer.taken(), &text[..room.min(12)]);
-            }
+    for (failure, most) in WAYS {
+        for room in 0..14usize {
+            let mut writer = ProbeWriter::new(rt.alloc(), room, most, failure)?;
+            let want = if room < 12 { Err(room) } else { Ok(()) };
+            assert_eq!(rt; write_all(&mut writer, text), want);
+            assert_eq!(rt; writer.taken(), &text[..room.min(12)]);
         }
     }
     Ok(())
