@@ -18,7 +18,7 @@ pub struct LateFile<'a, R: Files> {
 impl<'a, R: Files> LateFile<'a, R> {
     /// A file that isn't opened yet.
     pub fn new(rt: &'a R, path: &'a str) -> LateFile<'a, R>
-        ensures path { result.path ≡ path }
+        ensures path { result.path.now ≡ path.now }
         ensures unopened { result.file ≡ None }
     {
         LateFile {
@@ -34,7 +34,7 @@ impl<'a, R: Files> LateFile<'a, R> {
     ///
     /// The file can't be opened.
     pub fn finish(&mut self) -> io::Result<()>
-        ensures path { self.new.path ≡ self.old.path }
+        ensures path { self.new.path.now ≡ self.old.path.now }
         ensures opened { OnOk result (IsSome self.new.file) }
     {
         if self.file.is_none() {

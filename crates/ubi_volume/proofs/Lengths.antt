@@ -6,10 +6,9 @@ use Rattle.std.specs.Ordering.{nat_cmp}
 use Rattle.std.specs.Prelude.{Ok, Err, Some, Result}
 use Rattle.std.specs.Result.{result_map_both}
 use Rattle.std.proofs.lemmas.Option.{IfSome_then}
-use Rattle.ubi_media.specs.Geometry.{Sizes}
 use Rattle.ubi_media.specs.Record.{usable}
 use Rattle.ubi_volume.specs.Meant.{Fits, Meant, IsVolume}
-use Rattle.ubi_volume.specs.Reading.{lebs_text, volume_len, volume_read}
+use Rattle.ubi_volume.specs.Reading.{volume_len, volume_read}
 use Rattle.ubi_volume.specs.declared.content.Content.TheVariants as content
 use Rattle.ubi_volume.specs.declared.content.Volume.{Volume}
 use Rattle.ubi_volume.specs.declared.errors.ReadError.{ReadError}
