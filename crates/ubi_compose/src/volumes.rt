@@ -1,0 +1,53 @@
+//! The eraseblocks of a volume in the normal image.
+
+ghost use Rattle.std.specs.Prelude.{◌≡◌, ◌++◌, ◌*◌, ◌<◌, ◌≤◌, ◌^◌, OnOk, length, take, flat_map};
+ghost use Rattle.ubi_media.specs.Geometry.{leb_size};
+ghost use Rattle.ubi_volume.specs.Reading.{pieces, share};
+ghost use Rattle.ubi_compose.specs.Normal.{laid_bytes, new_ec, static_blocks};
+
+use crate::headers::static_header;
+use crate::laying::put_block;
+use std::alloc::AllocError;
+use ubi_media::Geometry;
+
+/// In how many pieces of so many bytes a text lies, the last perhaps short.
+fn pieces(text: &[u8], size: u32) -> u32
+    requires some { 1 ≤ size }
+    requires few { length text.now ≤ 2 ^ 31 * size }
+    ensures { result ≡ pieces size (length text.now) }
+{
+    text.len().div_ceil(size as usize) as u32
+}
+
+/// The share of a text that stands in a logical eraseblock.
+fn share_of(text: &[u8], size: u32, lnum: u32) -> &[u8]
+    requires inside { lnum < pieces size (length text.now) }
+    requires some { 1 ≤ size }
+    ensures { result.now ≡ share size text.now lnum }
+{
+    let rest = &text[lnum as usize * size as usize..];
+    &rest[..rest.len().min(size as usize)]
+}
+
+/// Adds the eraseblocks of a static text.
+fn put_static(
+    image: &mut Vec<u8>,
+    geometry: &Geometry,
+    data_pad: u32,
+    size: u32,
+    vol_id: u32,
+    text: &[u8],
+) -> Result<(), AllocError>
+    requires some { 1 ≤ size }
+    requires fits { size ≤ leb_size geometry.now }
+    requires few { length text.now ≤ 2 ^ 31 * size }
+    ensures { OnOk result (image.new.items ≡ image.old.items ++ flat_map (laid_bytes geometry.now new_ec) (static_blocks data_pad size vol_id text.now)) }
+{
+    let used_ebs = pieces(text, size);
+    for lnum in 0..used_ebs {
+        let part = share_of(text, size, lnum);
+        let header = static_header(data_pad, vol_id, used_ebs, lnum, part);
+        put_block(image, geometry, &header, part)?;
+    }
+    Ok(())
+}
