@@ -1,2 +1,2 @@
-pub mod Laid
-pub mod Pieces
+pub mod Filled
+pub mod Puts

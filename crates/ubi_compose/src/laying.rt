@@ -37,7 +37,10 @@ pub fn put_block(
     image.extend_from_slice(&write_ec(geometry, &NEW))?;
     put_blank(image, geometry.vid_offset() - HEADER_SIZE)?;
     image.extend_from_slice(&write_vid(header))?;
-    put_blank(image, geometry.data_offset() - geometry.vid_offset() - HEADER_SIZE)?;
+    put_blank(
+        image,
+        geometry.data_offset() - geometry.vid_offset() - HEADER_SIZE,
+    )?;
     image.extend_from_slice(text)?;
     put_blank(image, geometry.leb_size() - text.len() as u32)
 }

@@ -2,8 +2,9 @@
 #![tactic(auto)]
 
 mod errors;
-mod headers;
+mod header;
 mod laying;
-mod volumes;
+mod table;
+mod volume;
 
 pub use errors::{ComposeError, SameError};

@@ -2,7 +2,7 @@ use Rattle.std.proofs.Common.{◌≡◌, ◌++◌, vec_items}
 use Rattle.std.specs.List.{flat_map, range_with_len}
 use Rattle.ubi_volume.specs.Reading.{share}
 use Rattle.ubi_compose.specs.Normal.{laid_bytes, new_ec, static_block}
-use Rattle.ubi_compose.proofs.volumes.put_static.Given as goal
+use Rattle.ubi_compose.proofs.volume.put_static.Given as goal
 
 -- the eraseblocks so far are there
 abbrev pub invariant-loop-lnum : goal.invariant-loop-lnum

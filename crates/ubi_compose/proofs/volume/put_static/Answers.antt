@@ -1,8 +1,8 @@
 use Rattle.std.proofs.Common.{◌≡◌, ◌++◌, ap, ◌∙◌, arith}
 use Rattle.ubi_volume.specs.Reading.{share}
 use Rattle.ubi_compose.specs.Normal.{laid_bytes, new_ec, static_block}
-use Rattle.ubi_compose.proofs.Laid.{put_more, static_all, static_is}
-use Rattle.ubi_compose.proofs.volumes.put_static.Goals as goal
+use Rattle.ubi_compose.proofs.Puts.{put_more, static_all, static_is}
+use Rattle.ubi_compose.proofs.volume.put_static.Goals as goal
 
 pub loop-lnum-preserved : goal.loop-lnum-preserved
 loop-lnum-preserved c =

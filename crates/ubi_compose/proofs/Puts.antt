@@ -6,7 +6,7 @@ use Rattle.ubi_media.specs.Geometry.{Sizes}
 use Rattle.ubi_media.specs.declared.vid.VidHeader.{VidHeader}
 use Rattle.ubi_table.proofs.ReadBack.{pieces_more}
 use Rattle.ubi_volume.specs.Reading.{pieces, share}
-use Rattle.ubi_compose.specs.Normal.{Laid, laid_bytes, new_ec, static_block, static_blocks}
+use Rattle.ubi_compose.specs.Normal.{laid_bytes, new_ec, static_block, static_blocks}
 
 -- one more behind the others
 pub put_more : (f : ℕ → List ℕ) (n : ℕ) (front image next x : List ℕ) → image ≡ front ++ flat_map f (range_with_len 0 n) → next ≡ image ++ x → x ≡ f n

@@ -5,7 +5,7 @@ ghost use Rattle.ubi_media.specs.Geometry.{leb_size};
 ghost use Rattle.ubi_volume.specs.Reading.{pieces, share};
 ghost use Rattle.ubi_compose.specs.Normal.{laid_bytes, new_ec, static_blocks};
 
-use crate::headers::static_header;
+use crate::header::static_header;
 use crate::laying::put_block;
 use std::alloc::AllocError;
 use ubi_media::Geometry;
