@@ -1,12 +1,14 @@
 -- Eraseblocks that are laid one behind the other.
-use Rattle.std.proofs.Common.{◌≡◌, ℕ, ◌+◌, List, ◌++◌, length, append_assoc, ap, sym, ◌∙◌, zero-add}
+use Rattle.std.proofs.Common.{◌≡◌, ℕ, ◌+◌, List, [], ◌∷◌, ◌++◌, length, map, append_assoc, ap, sym, ◌∙◌, zero-add}
 use Rattle.std.specs.List.{flat_map, range_with_len}
 use Rattle.std.proofs.lemmas.List.Folds.{flat_map-map}
 use Rattle.ubi_media.specs.Geometry.{Sizes}
+use Rattle.ubi_media.specs.Vid.{plain}
 use Rattle.ubi_media.specs.declared.vid.VidHeader.{VidHeader}
+use Rattle.ubi_media.specs.declared.vid.VolKind.TheVariants as kind
 use Rattle.ubi_table.proofs.ReadBack.{pieces_more}
 use Rattle.ubi_volume.specs.Reading.{pieces, share}
-use Rattle.ubi_compose.specs.Normal.{laid_bytes, new_ec, static_block, static_blocks}
+use Rattle.ubi_compose.specs.Normal.{dynamic_block, laid_bytes, new_ec, static_block, static_blocks}
 
 -- one more behind the others
 pub put_more : (f : ℕ → List ℕ) (n : ℕ) (front image next x : List ℕ) → image ≡ front ++ flat_map f (range_with_len 0 n) → next ≡ image ++ x → x ≡ f n
@@ -28,3 +30,17 @@ pub static_all : (s : Sizes) (pad size vol used n : ℕ) (text : List ℕ) → u
     ≡ flat_map (laid_bytes s new_ec) (static_blocks pad size vol text)
 static_all s pad size vol used n text all last =
     rw (last, all) (sym (flat_map-map (laid_bytes s new_ec) (λ l. static_block pad vol (pieces size (length text)) l (share size text l)) (range_with_len 0 (pieces size (length text)))))
+
+-- the eraseblocks of the entries of a list
+abbrev pub dynamic_bytes : Sizes → ℕ → ℕ → List (ℕ × List ℕ) → List ℕ
+dynamic_bytes s pad vol es = flat_map (laid_bytes s new_ec) (map (dynamic_block pad vol) es)
+
+-- the next of them is there, and the others are to come
+pub put_next : (s : Sizes) (pad vol lnum : ℕ) (text image next all : List ℕ) (h : VidHeader) (es fs : List (ℕ × List ℕ)) → es ≡ (lnum, text) ∷ fs
+    → h ≡ plain kind.Dynamic 0 pad vol lnum → next ≡ image ++ laid_bytes s new_ec (record { header = h; text = text })
+    → image ++ dynamic_bytes s pad vol es ≡ all → next ++ dynamic_bytes s pad vol fs ≡ all
+put_next s pad vol lnum text image next all h es fs e header put before =
+    let here : List ℕ = laid_bytes s new_ec (dynamic_block pad vol (lnum, text)) in
+    let rest : List ℕ = dynamic_bytes s pad vol fs in
+    ap (λ x. x ++ rest) (put ∙ ap (λ x. image ++ laid_bytes s new_ec (record { header = x; text = text })) header)
+    ∙ append_assoc image here rest ∙ ap (λ x. image ++ dynamic_bytes s pad vol x) (sym e) ∙ before

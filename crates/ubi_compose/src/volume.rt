@@ -1,14 +1,16 @@
 //! The eraseblocks of a volume in the normal image.
 
-ghost use Rattle.std.specs.Prelude.{◌≡◌, ◌++◌, ◌*◌, ◌<◌, ◌≤◌, ◌^◌, OnOk, length, take, flat_map};
+ghost use Rattle.std.specs.FinMap as finite;
+ghost use Rattle.std.specs.Prelude.{◌≡◌, ◌++◌, ◌*◌, ◌<◌, ◌≤◌, ◌^◌, All, OnOk, length, flat_map, map};
 ghost use Rattle.ubi_media.specs.Geometry.{leb_size};
 ghost use Rattle.ubi_volume.specs.Reading.{pieces, share};
-ghost use Rattle.ubi_compose.specs.Normal.{laid_bytes, new_ec, static_blocks};
+ghost use Rattle.ubi_compose.specs.Normal.{dynamic_block, laid_bytes, new_ec, static_blocks};
 
-use crate::header::static_header;
+use crate::header::{plain, static_header};
 use crate::laying::put_block;
 use std::alloc::AllocError;
-use ubi_media::Geometry;
+use ubi_media::{Geometry, VolKind};
+use ubi_volume::Lebs;
 
 /// In how many pieces of so many bytes a text lies, the last perhaps short.
 fn pieces(text: &[u8], size: u32) -> u32
@@ -48,6 +50,24 @@ fn put_static(
         let part = share_of(text, size, lnum);
         let header = static_header(data_pad, vol_id, used_ebs, lnum, part);
         put_block(image, geometry, &header, part)?;
+    }
+    Ok(())
+}
+
+/// Adds the eraseblocks of what is kept of a dynamic volume.
+fn put_dynamic(
+    image: &mut Vec<u8>,
+    geometry: &Geometry,
+    data_pad: u32,
+    vol_id: u32,
+    lebs: &Lebs,
+) -> Result<(), AllocError>
+    requires { All (λ e. length e.1 ≤ leb_size geometry.now) (finite.entries lebs.now) }
+    ensures { OnOk result (image.new.items ≡ image.old.items ++ flat_map (laid_bytes geometry.now new_ec) (map (dynamic_block data_pad vol_id) (finite.entries lebs.now))) }
+{
+    for (lnum, text) in lebs.iter() {
+        let header = plain(VolKind::Dynamic, 0, data_pad, vol_id, *lnum);
+        put_block(image, geometry, &header, text.as_slice())?;
     }
     Ok(())
 }

@@ -6,6 +6,7 @@ ghost use Rattle.std.specs.Option.{option_copied};
 
 use std::alloc::{AllocError, Global};
 use std::collections::BTreeMap;
+use std::collections::btree_map::Iter;
 use std::marker::Model;
 use ubi_media::VolumeRecord;
 
@@ -90,6 +91,13 @@ impl Lebs {
         ensures { result ≡ length (finite.entries self.now) }
     {
         self.held.len()
+    }
+
+    /// Those that are kept, by rising number.
+    pub fn iter(&self) -> Iter<'_, u32, Bytes>
+        ensures { result ≡ finite.entries self.now }
+    {
+        self.held.iter()
     }
 
     /// Keeps the bytes of a logical eraseblock, in place of those that were kept.
