@@ -4,7 +4,7 @@
 mod errors;
 mod header;
 mod laying;
-mod table;
+mod records;
 mod volume;
 
 pub use errors::{ComposeError, SameError};

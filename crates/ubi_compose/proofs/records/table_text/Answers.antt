@@ -5,7 +5,7 @@ use Rattle.std.specs.Option.{option_copied}
 use Rattle.ubi_media.specs.Record.{rec_bytes}
 use Rattle.ubi_table.proofs.ReadBack.{pieces_more}
 use Rattle.ubi_volume.specs.Meant.{records_of}
-use Rattle.ubi_compose.proofs.table.table_text.Goals as goal
+use Rattle.ubi_compose.proofs.records.table_text.Goals as goal
 
 pub loop-slot-preserved : goal.loop-slot-preserved
 loop-slot-preserved c =
