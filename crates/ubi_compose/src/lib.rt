@@ -1,0 +1,4 @@
+//! The normal image of a meaning: the one byte string by which it is known.
+#![tactic(auto)]
+
+pub mod laws;
