@@ -5,4 +5,7 @@ pub mod Image
 pub mod Lists
 pub mod Padding
 pub mod Parts
+pub mod Pieces
+pub mod Rising
 pub mod Spares
+pub mod Volumes

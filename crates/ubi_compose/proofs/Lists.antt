@@ -64,6 +64,15 @@ module _ {X Y : Type 0} (f : X → Y) where
   map_holds (x ∷ xs) y (zero, e) = (x, (zero, refl), some_same (f x) y e)
   map_holds (x ∷ xs) y (suc p, e) = (let r = map_holds xs y (p, e) in (r.0, (suc r.1.0, r.1.1), r.2))
 
+-- what holds of the images of each element
+pub all_map : {X Y : Type 0} (P : Y → Type 0) (f : X → Y) (xs : List X) → ((x : X) → Holds xs x → P (f x)) → AllByRecursion P (map f xs)
+all_map P f [] h = tt
+all_map P f (x ∷ xs) h = (h x (0, refl), all_map P f xs (λ y at. h y (suc at.0, at.1)))
+
+pub all_flat_map : {X Y : Type 0} (P : Y → Type 0) (f : X → List Y) (xs : List X) → AllByRecursion (λ x. AllByRecursion P (f x)) xs → AllByRecursion P (flat_map f xs)
+all_flat_map P f [] h = tt
+all_flat_map P f (x ∷ xs) h = all_append P (f x) (flat_map f xs) h.0 (all_flat_map P f xs h.1)
+
 module _ {X Y : Type 0} (f : X → List Y) where
   pub holds_flat_map : (xs : List X) (x : X) (y : Y) → Holds xs x → Holds (f x) y → Holds (flat_map f xs) y
   holds_flat_map [] x y h k = absurd (let e = h.1 in cc)
