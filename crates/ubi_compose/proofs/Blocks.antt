@@ -7,11 +7,11 @@ use Rattle.std.proofs.Math.Path.{ap₂}
 use Rattle.ubi_media.specs.Ec.{ec_bytes, ec_reading}
 use Rattle.ubi_media.specs.Fields.{blank}
 use Rattle.ubi_media.specs.Geometry.{IsGeometry, Sizes}
-use Rattle.ubi_media.specs.Vid.{VidFits, fields_from, vid_bytes, vid_fault, vid_reading}
+use Rattle.ubi_media.specs.Vid.{VidFits, vid_bytes, vid_fault, vid_reading}
 use Rattle.ubi_media.specs.declared.ec.EcRead.TheVariants as ec_read
 use Rattle.ubi_media.specs.declared.vid.VidHeader.{VidHeader}
 use Rattle.ubi_media.specs.declared.vid.VidRead.TheVariants as vid_read
-use Rattle.ubi_media.proofs.Headers.{Fits, ec_read_back, vid_read_back}
+use Rattle.ubi_media.proofs.Headers.{ec_read_back, fields_fit, vid_read_back}
 use Rattle.ubi_media.proofs.Readings.{one_ec_reading, one_vid_reading}
 use Rattle.ubi_scan.specs.Clean.{IsSound}
 use Rattle.ubi_scan.specs.Faults.{IsMislaid}
@@ -33,18 +33,6 @@ pub record IsFine (s : Sizes) (l : Laid) : Type 0 where
 
 pub some_same : {A : Type 0} (a b : A) → Some a ≡ Some b → a ≡ b
 some_same a b e = cc
-
-fields_fit : (h : VidHeader) → VidFits h → Fits (fields_from h)
-unfolding fields_from
-fields_fit h fits = record {
-  vol_id = fits.vol_id;
-  lnum = fits.lnum;
-  data_size = fits.data_size;
-  used_ebs = fits.used_ebs;
-  data_pad = fits.data_pad;
-  data_crc = fits.data_crc;
-  sqnum = fits.sqnum;
-}
 
 -- the erase-counter header of each eraseblock of a normal image
 pub new_ec_back : (s : Sizes) → IsGeometry s → ec_reading s (ec_bytes s new_ec) ≡ ec_read.Valid new_ec

@@ -3,9 +3,11 @@ pub mod Blocks
 pub mod Headers
 pub mod Image
 pub mod Lists
+pub mod Normal
 pub mod Padding
 pub mod Parts
 pub mod Pieces
 pub mod Rising
 pub mod Spares
+pub mod Table
 pub mod Volumes

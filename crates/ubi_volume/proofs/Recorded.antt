@@ -15,7 +15,7 @@ use Rattle.ubi_volume.specs.declared.content.Volume.{Volume}
 use Rattle.ubi_table.proofs.Held.{table_records}
 
 -- what is found among the records is the record of what is found
-find_entry : (id : ℕ) (vs : List (ℕ × Volume)) → find nat_cmp id (map (λ (e : ℕ × Volume). (e.0, e.1.entry)) vs) ≡ option_map (λ (v : Volume). v.entry) (find nat_cmp id vs)
+pub find_entry : (id : ℕ) (vs : List (ℕ × Volume)) → find nat_cmp id (map (λ (e : ℕ × Volume). (e.0, e.1.entry)) vs) ≡ option_map (λ (v : Volume). v.entry) (find nat_cmp id vs)
 find_entry id [] = refl
 find_entry id (v ∷ vs) =
     elim (is_eq (nat_cmp id v.0)) as (λ b. cond b (Some v.1.entry) (find nat_cmp id (map (λ (e : ℕ × Volume). (e.0, e.1.entry)) vs)) ≡ option_map (λ (v : Volume). v.entry) (cond b (Some v.1) (find nat_cmp id vs))) [
