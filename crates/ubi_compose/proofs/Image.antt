@@ -113,8 +113,8 @@ module _ (s : Sizes) (g : IsGeometry s) (ls : List Laid) (spares : ℕ) (fine : 
         best = inl (
           ap (good_in s) is ∙ good-laid_bytes s g l one,
           λ q m good. (let at = member_laid (leb_of l.header) q m in
-          let other : sqnum_at s bs q ≡ 0 = ap (sqnum_in s) (block_laid q at.0 at.1) ∙ sqnum-laid_bytes s g at.0 (all_at (IsFine s) ls q at.0 fine at.1) in
-          omega arith),
+              let other : sqnum_at s bs q ≡ 0 = ap (sqnum_in s) (block_laid q at.0 at.1) ∙ sqnum-laid_bytes s g at.0 (all_at (IsFine s) ls q at.0 fine at.1) in
+              omega arith),
         );
       }
 

@@ -1,5 +1,8 @@
+pub mod Accepted
 pub mod Apart
 pub mod Blocks
+pub mod Contents
+pub mod Form
 pub mod Headers
 pub mod Image
 pub mod Lists
@@ -8,6 +11,7 @@ pub mod Padding
 pub mod Parts
 pub mod Pieces
 pub mod Rising
+pub mod Room
 pub mod Spares
 pub mod Table
 pub mod Volumes

@@ -46,11 +46,10 @@ other_vol k l m n e f h same = let one : l.header.vol_id ≡ k.header.vol_id = a
 -- one of each, whose LEB has its number
 pub apart_map : {X : Type 0} (key : X → ℕ) (f : X → Laid) (xs : List X) → ((x : X) → (f x).header.lnum ≡ key x) → Rises key xs → AreApart (map f xs)
 apart_map key f [] is h = tt
-apart_map key f (x ∷ xs) is h =
-    (
-      all_map (Differ (f x)) f xs (λ y at. other_lnum (f x) (f y) (key x) (key y) (is x) (is y) (all_at (λ y. key x < key y) xs at.0 y h.0 at.1)),
-      apart_map key f xs is h.1,
-    )
+apart_map key f (x ∷ xs) is h = (
+  all_map (Differ (f x)) f xs (λ y at. other_lnum (f x) (f y) (key x) (key y) (is x) (is y) (all_at (λ y. key x < key y) xs at.0 y h.0 at.1)),
+  apart_map key f xs is h.1,
+)
 
 -- some of each, of the volume with its number
 pub apart_flat_map : {X : Type 0} (key : X → ℕ) (f : X → List Laid) (xs : List X) → ((x : X) → AllByRecursion (λ (l : Laid). l.header.vol_id ≡ key x) (f x))
