@@ -1,14 +1,19 @@
 -- Eraseblocks that are laid one behind the other.
-use Rattle.std.proofs.Common.{◌≡◌, ℕ, ◌+◌, List, [], ◌∷◌, ◌++◌, length, map, append_assoc, ap, sym, ◌∙◌, zero-add}
+use Rattle.std.proofs.Common.{◌≡◌, ℕ, ◌+◌, List, [], ◌∷◌, ◌++◌, length, map, append_assoc, append-nil, ap, sym, ◌∙◌, zero-add}
 use Rattle.std.specs.List.{flat_map, range_with_len}
+use Rattle.std.proofs.lemmas.List.FromFn.{length-map-range_with_len}
 use Rattle.std.proofs.lemmas.List.Folds.{flat_map-map}
 use Rattle.ubi_media.specs.Geometry.{Sizes}
+use Rattle.ubi_media.specs.Record.{data_pad, usable}
 use Rattle.ubi_media.specs.Vid.{plain}
+use Rattle.ubi_media.specs.declared.record.VolumeRecord.{VolumeRecord}
 use Rattle.ubi_media.specs.declared.vid.VidHeader.{VidHeader}
 use Rattle.ubi_media.specs.declared.vid.VolKind.TheVariants as kind
 use Rattle.ubi_table.proofs.ReadBack.{pieces_more}
+use Rattle.ubi_volume.specs.declared.content.Content.{Content}
+use Rattle.ubi_volume.specs.declared.content.Content.TheVariants as content
 use Rattle.ubi_volume.specs.Reading.{pieces, share}
-use Rattle.ubi_compose.specs.Normal.{dynamic_block, laid_bytes, new_ec, static_block, static_blocks}
+use Rattle.ubi_compose.specs.Normal.{damaged_block, dynamic_block, laid_bytes, new_ec, static_block, static_blocks, volume_blocks}
 
 -- one more behind the others
 pub put_more : (f : ℕ → List ℕ) (n : ℕ) (front image next x : List ℕ) → image ≡ front ++ flat_map f (range_with_len 0 n) → next ≡ image ++ x → x ≡ f n
@@ -44,3 +49,17 @@ put_next s pad vol lnum text image next all h es fs e header put before =
     let rest : List ℕ = dynamic_bytes s pad vol fs in
     ap (λ x. x ++ rest) (put ∙ ap (λ x. image ++ laid_bytes s new_ec (record { header = x; text = text })) header)
     ∙ append_assoc image here rest ∙ ap (λ x. image ++ dynamic_bytes s pad vol x) (sym e) ∙ before
+
+-- the one eraseblock of a damaged volume
+pub damaged_is : (s : Sizes) (vol : ℕ) (r : VolumeRecord) (c : Content) (pad : ℕ) (h : VidHeader) → pad ≡ data_pad s r → h ≡ (damaged_block pad vol).header → c ≡ content.Damaged
+    → laid_bytes s new_ec (record { header = h; text = [] }) ≡ flat_map (laid_bytes s new_ec) (volume_blocks s vol r c)
+damaged_is s vol r c pad h padding header is =
+    ap (λ x. laid_bytes s new_ec (record { header = x; text = [] })) header ∙ ap (λ n. laid_bytes s new_ec (damaged_block n vol)) padding
+    ∙ sym (append-nil (laid_bytes s new_ec (damaged_block (data_pad s r) vol))) ∙ ap (λ x. flat_map (laid_bytes s new_ec) (volume_blocks s vol r x)) (sym is)
+
+-- how many a static text has
+pub static_count : (s : Sizes) (vol : ℕ) (r : VolumeRecord) (c : Content) (text : List ℕ) → c ≡ content.Static text → pieces (usable s r) (length text) ≡ length (volume_blocks s vol r c)
+static_count s vol r c text is =
+    let used : ℕ = pieces (usable s r) (length text) in
+    sym (length-map-range_with_len (λ lnum. static_block (data_pad s r) vol used lnum (share (usable s r) text lnum)) 0 used)
+    ∙ ap (λ x. length (volume_blocks s vol r x)) (sym is)

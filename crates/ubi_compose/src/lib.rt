@@ -1,8 +1,9 @@
-//! The normal image of a meaning: one byte string for each, by which images are compared.
+//! The normal image of a meaning: the one byte string by which it is known.
 #![tactic(auto)]
 
 mod errors;
 mod header;
+pub mod laws;
 mod laying;
 mod records;
 mod volume;

@@ -1,16 +1,18 @@
 //! The eraseblocks of a volume in the normal image.
 
 ghost use Rattle.std.specs.FinMap as finite;
-ghost use Rattle.std.specs.Prelude.{◌≡◌, ◌++◌, ◌*◌, ◌<◌, ◌≤◌, ◌^◌, All, OnOk, length, flat_map, map};
+ghost use Rattle.std.specs.List.{AllByRecursion};
+ghost use Rattle.std.specs.Prelude.{◌≡◌, ◌++◌, ◌*◌, ◌<◌, ◌≤◌, ◌^◌, OnOk, length, flat_map, map};
 ghost use Rattle.ubi_media.specs.Geometry.{leb_size};
+ghost use Rattle.ubi_volume.specs.Meant.{IsVolume};
 ghost use Rattle.ubi_volume.specs.Reading.{pieces, share};
-ghost use Rattle.ubi_compose.specs.Normal.{dynamic_block, laid_bytes, new_ec, static_blocks};
+ghost use Rattle.ubi_compose.specs.Normal.{dynamic_block, laid_bytes, new_ec, static_blocks, volume_blocks};
 
-use crate::header::{plain, static_header};
+use crate::header::{damaged_header, plain, static_header};
 use crate::laying::put_block;
 use std::alloc::AllocError;
 use ubi_media::{Geometry, VolKind};
-use ubi_volume::Lebs;
+use ubi_volume::{Content, Lebs, Volume};
 
 /// In how many pieces of so many bytes a text lies, the last perhaps short.
 fn pieces(text: &[u8], size: u32) -> u32
@@ -62,7 +64,7 @@ fn put_dynamic(
     vol_id: u32,
     lebs: &Lebs,
 ) -> Result<(), AllocError>
-    requires { All (λ e. length e.1 ≤ leb_size geometry.now) (finite.entries lebs.now) }
+    requires { AllByRecursion (λ e. length e.1 ≤ leb_size geometry.now) (finite.entries lebs.now) }
     ensures { OnOk result (image.new.items ≡ image.old.items ++ flat_map (laid_bytes geometry.now new_ec) (map (dynamic_block data_pad vol_id) (finite.entries lebs.now))) }
 {
     for (lnum, text) in lebs.iter() {
@@ -70,4 +72,40 @@ fn put_dynamic(
         put_block(image, geometry, &header, text.as_slice())?;
     }
     Ok(())
+}
+
+/// How many eraseblocks a volume has.
+fn volume_count(geometry: &Geometry, numbered: &(u32, Volume)) -> usize
+    requires { IsVolume geometry.now numbered.now.0 numbered.now.1 }
+    ensures { result ≡ length (volume_blocks geometry.now numbered.now.0 numbered.now.1.entry numbered.now.1.content) }
+{
+    let volume = &numbered.1;
+    match &volume.content {
+        Content::Updating => 0,
+        Content::Damaged => 1,
+        Content::Static(text) => pieces(text.as_slice(), volume.entry.usable(geometry)) as usize,
+        Content::Dynamic(lebs) => lebs.len(),
+    }
+}
+
+/// Adds the eraseblocks of a volume.
+fn put_volume(
+    image: &mut Vec<u8>,
+    geometry: &Geometry,
+    numbered: &(u32, Volume),
+) -> Result<(), AllocError>
+    requires { IsVolume geometry.now numbered.now.0 numbered.now.1 }
+    ensures { OnOk result (image.new.items ≡ image.old.items ++ flat_map (laid_bytes geometry.now new_ec) (volume_blocks geometry.now numbered.now.0 numbered.now.1.entry numbered.now.1.content)) }
+{
+    let (id, volume) = numbered;
+    let data_pad = volume.entry.data_pad(geometry);
+    match &volume.content {
+        Content::Updating => Ok(()),
+        Content::Damaged => put_block(image, geometry, &damaged_header(data_pad, *id), &[]),
+        Content::Static(text) => {
+            let size = volume.entry.usable(geometry);
+            put_static(image, geometry, data_pad, size, *id, text.as_slice())
+        }
+        Content::Dynamic(lebs) => put_dynamic(image, geometry, data_pad, *id, lebs),
+    }
 }
