@@ -4,7 +4,7 @@ use Rattle.std.proofs.lemmas.List.{length-replicate}
 use Rattle.ubi_media.specs.Fields.{blank, filled}
 use Rattle.ubi_media.specs.Geometry.{Sizes, IsGeometry, leb_size}
 
-filled-is : (n m : ℕ) (xs : List ℕ) → length xs ≡ m → filled n xs ≡ xs ++ blank (n - m)
+pub filled-is : (n m : ℕ) (xs : List ℕ) → length xs ≡ m → filled n xs ≡ xs ++ blank (n - m)
 unfolding filled
 filled-is n m xs e = ap (λ k. xs ++ blank (n - k)) e
 

@@ -1,6 +1,8 @@
 -- Eraseblocks that are laid one behind the other.
-use Rattle.std.proofs.Common.{◌≡◌, ℕ, ◌+◌, List, [], ◌∷◌, ◌++◌, length, map, append_assoc, append-nil, ap, sym, ◌∙◌, zero-add}
+use Rattle.std.proofs.Common.{◌≡◌, ℕ, ◌+◌, List, [], ◌∷◌, ◌++◌, ◌<◌, get_or, length, map, take, append_assoc, append-nil, arith, length-append, ap, sym, ◌∙◌, zero-add}
 use Rattle.std.specs.List.{flat_map, range_with_len}
+use Rattle.std.proofs.lemmas.Grind.{flat_map-append}
+use Rattle.std.proofs.lemmas.List.{take_more}
 use Rattle.std.proofs.lemmas.List.FromFn.{length-map-range_with_len}
 use Rattle.std.proofs.lemmas.List.Folds.{flat_map-map}
 use Rattle.ubi_media.specs.Geometry.{Sizes}
@@ -12,8 +14,9 @@ use Rattle.ubi_media.specs.declared.vid.VolKind.TheVariants as kind
 use Rattle.ubi_table.proofs.ReadBack.{pieces_more}
 use Rattle.ubi_volume.specs.declared.content.Content.{Content}
 use Rattle.ubi_volume.specs.declared.content.Content.TheVariants as content
+use Rattle.ubi_volume.specs.declared.content.Volume.{Volume}
 use Rattle.ubi_volume.specs.Reading.{pieces, share}
-use Rattle.ubi_compose.specs.Normal.{damaged_block, dynamic_block, laid_bytes, new_ec, static_block, static_blocks, volume_blocks}
+use Rattle.ubi_compose.specs.Normal.{Laid, blocks_of, damaged_block, dynamic_block, laid_bytes, new_ec, static_block, static_blocks, volume_blocks}
 
 -- one more behind the others
 pub put_more : (f : ℕ → List ℕ) (n : ℕ) (front image next x : List ℕ) → image ≡ front ++ flat_map f (range_with_len 0 n) → next ≡ image ++ x → x ≡ f n
@@ -56,6 +59,23 @@ pub damaged_is : (s : Sizes) (vol : ℕ) (r : VolumeRecord) (c : Content) (pad :
 damaged_is s vol r c pad h padding header is =
     ap (λ x. laid_bytes s new_ec (record { header = x; text = [] })) header ∙ ap (λ n. laid_bytes s new_ec (damaged_block n vol)) padding
     ∙ sym (append-nil (laid_bytes s new_ec (damaged_block (data_pad s r) vol))) ∙ ap (λ x. flat_map (laid_bytes s new_ec) (volume_blocks s vol r x)) (sym is)
+
+-- the eraseblocks of one volume more
+pub blocks_more : (s : Sizes) (es : List (ℕ × Volume)) (i : ℕ) (d : ℕ × Volume) → i < length es
+    → blocks_of s (take (i + 1) es) ≡ blocks_of s (take i es) ++ volume_blocks s (get_or es i d).0 (get_or es i d).1.entry (get_or es i d).1.content
+blocks_more s es i d inside =
+    let f = λ (e : ℕ × Volume). volume_blocks s e.0 e.1.entry e.1.content in
+    ap (flat_map f) (take_more es i d inside) ∙ flat_map-append f (take i es) (get_or es i d ∷ []) ∙ ap (λ x. flat_map f (take i es) ++ x) (append-nil (f (get_or es i d)))
+
+-- so there are as many more as it has
+pub count_more : (s : Sizes) (es : List (ℕ × Volume)) (i : ℕ) (e : ℕ × Volume) (count n : ℕ) → i < length es → e ≡ get_or es i e → n ≡ length (volume_blocks s e.0 e.1.entry e.1.content)
+    → count ≡ 2 + length (blocks_of s (take i es)) → count + n ≡ 2 + length (blocks_of s (take (i + 1) es))
+count_more s es i e count n inside is own before =
+    let blocks : List Laid = volume_blocks s (get_or es i e).0 (get_or es i e).1.entry (get_or es i e).1.content in
+    let here : n ≡ length blocks = own ∙ ap (λ (x : ℕ × Volume). length (volume_blocks s x.0 x.1.entry x.1.content)) is in
+    let more : length (blocks_of s (take (i + 1) es)) ≡ length (blocks_of s (take i es)) + length blocks =
+    ap length (blocks_more s es i e inside) ∙ length-append (blocks_of s (take i es)) blocks in
+    omega arith
 
 -- how many a static text has
 pub static_count : (s : Sizes) (vol : ℕ) (r : VolumeRecord) (c : Content) (text : List ℕ) → c ≡ content.Static text → pieces (usable s r) (length text) ≡ length (volume_blocks s vol r c)

@@ -1,5 +1,5 @@
 -- What is composed of a meaning, and what normalising gives.
-use Rattle.std.specs.Prelude.{◌≡◌, ℕ, ◌+◌, ◌≤◌, List, ◌++◌, flat_map, length, replicate}
+use Rattle.std.specs.Prelude.{◌≡◌, ℕ, ◌+◌, ◌<◌, ◌≤◌, List, ◌++◌, flat_map, length, replicate}
 use Rattle.ubi_media.specs.Ec.{ec_bytes}
 use Rattle.ubi_media.specs.Fields.{filled}
 use Rattle.ubi_media.specs.Geometry.{Sizes}
@@ -7,6 +7,8 @@ use Rattle.ubi_scan.specs.Image.{Image}
 use Rattle.ubi_volume.specs.Accepts.{Accepts}
 use Rattle.ubi_volume.specs.Meant.{Meant}
 use Rattle.ubi_compose.specs.Normal.{normal_blocks, normal_bytes, new_ec}
+use Rattle.ubi_compose.specs.declared.errors.ComposeError.{ComposeError}
+use Rattle.ubi_compose.specs.declared.errors.ComposeError.TheVariants as compose
 
 -- bytes as an image of a meaning's sizes
 abbrev pub image_of : Meant → List ℕ → Image
@@ -27,3 +29,8 @@ HasRoom m spares = length (normal_blocks m) + spares ≤ m.sizes.pebs
 -- bytes are the normal image of what an image means
 abbrev pub IsNormalised : Image → List ℕ → Type 0
 IsNormalised image out = (m : Meant) × Accepts image m × (out ≡ normal_bytes m)
+
+-- what a composing answers that composes nothing
+abbrev pub IsComposeError : Meant → ℕ → ComposeError → Type 0
+IsComposeError m spares compose.TooMany = m.sizes.pebs < length (normal_blocks m) + spares
+IsComposeError m spares compose.Memory = Unit {0}

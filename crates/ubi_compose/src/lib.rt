@@ -1,6 +1,7 @@
 //! The normal image of a meaning: the one byte string by which it is known.
 #![tactic(auto)]
 
+mod composing;
 mod errors;
 mod header;
 pub mod laws;

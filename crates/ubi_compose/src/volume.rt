@@ -75,7 +75,7 @@ fn put_dynamic(
 }
 
 /// How many eraseblocks a volume has.
-fn volume_count(geometry: &Geometry, numbered: &(u32, Volume)) -> usize
+pub fn volume_count(geometry: &Geometry, numbered: &(u32, Volume)) -> usize
     requires { IsVolume geometry.now numbered.now.0 numbered.now.1 }
     ensures { result ≡ length (volume_blocks geometry.now numbered.now.0 numbered.now.1.entry numbered.now.1.content) }
 {
@@ -89,7 +89,7 @@ fn volume_count(geometry: &Geometry, numbered: &(u32, Volume)) -> usize
 }
 
 /// Adds the eraseblocks of a volume.
-fn put_volume(
+pub fn put_volume(
     image: &mut Vec<u8>,
     geometry: &Geometry,
     numbered: &(u32, Volume),

@@ -6,6 +6,7 @@ pub mod Exits
 pub mod Gathered
 pub mod LebsText
 pub mod Lengths
+pub mod Listed
 pub mod MemberStates
 pub mod Mismatches
 pub mod Moved

@@ -2,6 +2,7 @@
 
 ghost use Rattle.std.specs.Prelude.{◌≡◌, ◌==◌, find, option_copied};
 ghost use Rattle.std.specs.FinMap as finite;
+ghost use Rattle.ubi_media.specs.Geometry.{IsGeometry};
 ghost use Rattle.ubi_volume.specs.Meant.{AreVolumes, IsMeaning, VolumeMap};
 
 use crate::content::Volume;
@@ -48,8 +49,10 @@ impl Meaning {
     /// The geometry of the device.
     pub fn geometry(&self) -> Geometry
         ensures value { result ≡ self.now.sizes }
+        ensures limits { IsGeometry self.now.sizes }
         ensures meaning { IsMeaning self.now }
     {
+        prove!(self.geometry.peb_size() >= 64);
         self.geometry
     }
 

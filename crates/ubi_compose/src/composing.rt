@@ -1,0 +1,65 @@
+//! The normal image of a meaning, and of what an image means.
+
+ghost use Rattle.std.specs.FinMap as finite;
+ghost use Rattle.std.specs.Prelude.{◌≡◌, ◌++◌, IfErr, IfOk, OnOk, flat_map, length};
+ghost use Rattle.ubi_media.specs.Fields.{filled};
+ghost use Rattle.ubi_scan.specs.Image.{Image};
+ghost use Rattle.ubi_volume.specs.Accepts.{Accepts, IsAttachError};
+ghost use Rattle.ubi_compose.specs.Composed.{HasRoom, IsComposeError, IsNormalised, composed, image_of, spare};
+ghost use Rattle.ubi_compose.specs.Normal.{blocks_of, laid_bytes, layout_block, new_ec, normal_blocks};
+
+use crate::errors::ComposeError;
+use crate::header::plain;
+use crate::laying::{NEW, put_blank, put_block};
+use crate::records::table_text;
+use crate::volume::{put_volume, volume_count};
+use std::alloc::{AllocError, Global};
+use ubi_media::{AttachError, Geometry, LAYOUT_VOLUME, VolKind, write_ec};
+use ubi_volume::{Meaning, attach};
+
+/// What a system that doesn't know the layout volume is to do: reject the image.
+const REJECT: u8 = 5;
+
+/// How many eraseblocks the normal image of a meaning has.
+fn block_count(meaning: &Meaning) -> usize
+    ensures { result ≡ length (normal_blocks meaning.now) }
+{
+    let geometry = meaning.geometry();
+    let mut count = 2;
+    for numbered in meaning.volumes() {
+        count += volume_count(&geometry, numbered);
+    }
+    count
+}
+
+/// Adds the two copies of the volume table.
+fn put_table(alloc: Global, image: &mut Vec<u8>, meaning: &Meaning) -> Result<(), AllocError>
+    ensures { OnOk result (image.new.items ≡ (image.old.items ++ laid_bytes meaning.now.sizes new_ec (layout_block meaning.now 0)) ++ laid_bytes meaning.now.sizes new_ec (layout_block meaning.now 1)) }
+{
+    let geometry = meaning.geometry();
+    let text = table_text(alloc, meaning)?;
+    let first = plain(VolKind::Dynamic, REJECT, 0, LAYOUT_VOLUME, 0);
+    let second = plain(VolKind::Dynamic, REJECT, 0, LAYOUT_VOLUME, 1);
+    put_block(image, &geometry, &first, text.as_slice())?;
+    put_block(image, &geometry, &second, text.as_slice())
+}
+
+/// Adds the eraseblocks of the volumes.
+fn put_volumes(image: &mut Vec<u8>, meaning: &Meaning) -> Result<(), AllocError>
+    ensures { OnOk result (image.new.items ≡ image.old.items ++ flat_map (laid_bytes meaning.now.sizes new_ec) (blocks_of meaning.now.sizes (finite.entries meaning.now.volumes))) }
+{
+    let geometry = meaning.geometry();
+    let volumes = meaning.volumes();
+    for numbered in volumes {
+        put_volume(image, &geometry, numbered)?;
+    }
+    Ok(())
+}
+
+/// Adds an eraseblock that is ready to be programmed: an erase-counter header, and 0xFF behind it.
+fn put_spare(image: &mut Vec<u8>, geometry: &Geometry) -> Result<(), AllocError>
+    ensures { OnOk result (image.new.items ≡ image.old.items ++ spare geometry.now) }
+{
+    image.extend_from_slice(&write_ec(geometry, &NEW))?;
+    put_blank(image, geometry.peb_size() - 64)
+}
