@@ -1,5 +1,5 @@
 -- What a volume reads whose eraseblocks are laid out.
-use Rattle.std.proofs.Common.{◌≡◌, ◌≢◌, ℕ, zero, suc, ◌+◌, ◌-◌, ◌*◌, ◌<◌, ◌≤◌, ◌⊎◌, inl, inr, List, [], ◌∷◌, ◌++◌, length, take, map, refl, sym, ap, ◌∙◌, subst, arith}
+use Rattle.std.proofs.Common.{◌≡◌, ℕ, zero, suc, ◌+◌, ◌-◌, ◌*◌, ◌<◌, ◌≤◌, inl, inr, List, [], ◌∷◌, ◌++◌, length, take, refl, sym, ap, ◌∙◌, subst, arith}
 use Rattle.std.specs.Prelude.{IfSome, None, Option, Some, slice_get, unwrap_or}
 use Rattle.std.specs.FinMap as finite
 use Rattle.std.specs.FinMap.{FinMap}
@@ -13,18 +13,16 @@ use Rattle.ubi_media.specs.Geometry.{IsGeometry, Sizes}
 use Rattle.ubi_media.specs.Record.{data_pad, usable}
 use Rattle.ubi_media.specs.declared.record.VolumeRecord.{VolumeRecord}
 use Rattle.ubi_media.specs.declared.vid.VidHeader.{VidHeader}
-use Rattle.ubi_media.proofs.Records.{usable_some}
 use Rattle.ubi_scan.specs.Faults.{NoFault}
 use Rattle.ubi_scan.specs.Image.{block, leb}
-use Rattle.ubi_scan.specs.Members.{Leb, NoMember, Wins, leb_of, member}
-use Rattle.ubi_volume.specs.Gathered.{AreRead, PieceIs, UsedIs, used_in}
+use Rattle.ubi_scan.specs.Members.{Leb, NoMember, member}
+use Rattle.ubi_volume.specs.Gathered.{AreRead, PieceIs, UsedIs}
 use Rattle.ubi_volume.specs.Meant.{Fits}
 use Rattle.ubi_volume.specs.Reading.{pieces, share}
-use Rattle.ubi_volume.specs.Reads.{LebReads, StaticReads, VolumeReads}
-use Rattle.ubi_volume.specs.declared.content.Content.{Content}
+use Rattle.ubi_volume.specs.Reads.{LebReads, VolumeReads}
 use Rattle.ubi_volume.specs.declared.content.Content.TheVariants as content
 use Rattle.ubi_volume.proofs.Static.{damaged_piece, piece_checked, piece_unchecked, read_more, read_none, static_reads}
-use Rattle.ubi_compose.specs.Normal.{Laid, damaged_block, dynamic_block, laid_bytes, new_ec, static_block, volume_blocks}
+use Rattle.ubi_compose.specs.Normal.{Laid, damaged_block, dynamic_block, static_block, volume_blocks}
 use Rattle.ubi_compose.proofs.Apart.{AreApart}
 use Rattle.ubi_compose.proofs.Blocks.{IsFine, leb-laid_bytes, member-laid_bytes}
 use Rattle.ubi_compose.proofs.Image.{block_laid, image_blocks, image_clean, laid_wins, none_laid}

@@ -1,5 +1,5 @@
 -- The normal image tells meanings apart, and normalising it changes nothing.
-use Rattle.std.proofs.Common.{◌≡◌, ℕ, List, [], ◌++◌, refl, sym, ap, ◌∙◌, subst}
+use Rattle.std.proofs.Common.{◌≡◌, ℕ, List, sym, ap, subst}
 use Rattle.std.specs.Prelude.{◌↔◌}
 use Rattle.std.proofs.lemmas.List.{append-nil}
 use Rattle.ubi_media.specs.Geometry.{IsGeometry, Sizes}
@@ -13,7 +13,7 @@ use Rattle.ubi_compose.proofs.Accepted.{normal_accepted}
 use Rattle.ubi_compose.proofs.Room.{normal_fits}
 
 -- with no spare eraseblocks it is the normal image alone
-composed-none : (m : Meant) → composed m 0 ≡ normal_bytes m
+pub composed-none : (m : Meant) → composed m 0 ≡ normal_bytes m
 composed-none m = append-nil (normal_bytes m)
 
 -- by itself it is accepted

@@ -1,17 +1,11 @@
 -- The headers of a normal image break no rule.
-use Rattle.std.proofs.Common.{◌≡◌, ◌≢◌, ℕ, ◌+◌, ◌-◌, ◌/◌, ◌^◌, ◌<◌, ◌≤◌, ◌==◌, ◌||◌, inl, inr, true, false, List, length, refl, sym, ap, ◌∙◌, arith}
+use Rattle.std.proofs.Common.{◌≡◌, ℕ, ◌+◌, ◌-◌, ◌/◌, ◌^◌, ◌<◌, ◌≤◌, inl, inr, true, refl, arith}
 use Rattle.std.specs.Prelude.{None}
-use Rattle.std.specs.List.{AllByRecursion}
 use Rattle.std.proofs.lemmas.Bool.Decides.{nat_tests}
-use Rattle.std.proofs.lemmas.List.Elements.{All-from_recursion}
-use Rattle.ubi_media.specs.Check.{check}
 use Rattle.ubi_media.specs.Geometry.{IsGeometry, Sizes, leb_size}
-use Rattle.ubi_media.specs.Vid.{VidFits, breaks, faults, fields_from, first_fault, plain, vid_fault}
-use Rattle.ubi_media.specs.declared.vid.VidFault.TheVariants as fault
+use Rattle.ubi_media.specs.Vid.{VidFits, breaks, fields_from, first_fault, plain, vid_fault}
 use Rattle.ubi_media.specs.declared.vid.VidHeader.{VidHeader}
 use Rattle.ubi_media.specs.declared.vid.VolKind.TheVariants as kind
-use Rattle.ubi_media.proofs.Checks.{check_from-lt}
-use Rattle.ubi_media.proofs.First.{none_found}
 use Rattle.ubi_scan.specs.Faults.{IsMislaid}
 use Rattle.ubi_scan.specs.Members.{has_members, layout}
 

@@ -1,14 +1,13 @@
 -- The padding of a volume is less than half of a LEB.
-use Rattle.std.proofs.Common.{◌≡◌, ◌≢◌, ℕ, ◌+◌, ◌-◌, ◌*◌, ◌/◌, ◌%◌, ◌^◌, ◌<◌, ◌≤◌, ◌⊎◌, inl, inr, refl, sym, ap, ◌∙◌, lit<, arith}
-use Rattle.std.specs.Prelude.{None, Option}
+use Rattle.std.proofs.Common.{◌≡◌, ℕ, ◌+◌, ◌-◌, ◌*◌, ◌/◌, ◌%◌, ◌^◌, ◌<◌, ◌≤◌, ◌⊎◌, inl, inr, ap, ◌∙◌, lit<, arith}
+use Rattle.std.specs.Prelude.{None}
 use Rattle.std.proofs.Math.Nat.{div-add-mod, mod-lt}
 use Rattle.std.proofs.lemmas.Bool.Decides.{nat_tests}
 use Rattle.std.proofs.lemmas.Nat.{mul-le}
-use Rattle.ubi_media.specs.Geometry.{IsGeometry, Sizes, leb_size, slots}
-use Rattle.ubi_media.specs.Record.{breaks, data_pad, fields_from, rec_fault, usable}
-use Rattle.ubi_media.specs.declared.record.RecFault.TheVariants as fault
+use Rattle.ubi_media.specs.Geometry.{IsGeometry, Sizes, leb_size}
+use Rattle.ubi_media.specs.Record.{breaks, data_pad, fields_from, rec_fault}
 use Rattle.ubi_media.specs.declared.record.VolumeRecord.{VolumeRecord}
-use Rattle.ubi_media.proofs.Records.{alignment_within, kept, signs_kept, usable_some}
+use Rattle.ubi_media.proofs.Records.{alignment_within, kept, signs_kept}
 
 -- multiples of a page, which is a multiple of 64
 even : (n page : ℕ) → page % 64 ≡ 0 → n % page ≡ 0 → n ≡ 2 * (32 * (page / 64) * (n / page))

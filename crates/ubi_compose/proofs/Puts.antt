@@ -1,5 +1,6 @@
 -- Eraseblocks that are laid one behind the other.
-use Rattle.std.proofs.Common.{◌≡◌, ℕ, ◌+◌, List, [], ◌∷◌, ◌++◌, ◌<◌, get_or, length, map, take, append_assoc, append-nil, arith, length-append, ap, sym, ◌∙◌, zero-add}
+use Rattle.std.proofs.Common.{◌≡◌, ℕ, ◌+◌, List, [], ◌∷◌, ◌++◌, ◌<◌, get_or, length, map, replicate, take, append_assoc, append-nil, arith, length-append, ap, sym, ◌∙◌, zero-add}
+use Rattle.std.specs.FinMap as finite
 use Rattle.std.specs.List.{flat_map, range_with_len}
 use Rattle.std.proofs.lemmas.Grind.{flat_map-append}
 use Rattle.std.proofs.lemmas.List.{take_more}
@@ -16,7 +17,9 @@ use Rattle.ubi_volume.specs.declared.content.Content.{Content}
 use Rattle.ubi_volume.specs.declared.content.Content.TheVariants as content
 use Rattle.ubi_volume.specs.declared.content.Volume.{Volume}
 use Rattle.ubi_volume.specs.Reading.{pieces, share}
-use Rattle.ubi_compose.specs.Normal.{Laid, blocks_of, damaged_block, dynamic_block, laid_bytes, new_ec, static_block, static_blocks, volume_blocks}
+use Rattle.ubi_volume.specs.Meant.{Meant}
+use Rattle.ubi_compose.specs.Composed.{composed, spare}
+use Rattle.ubi_compose.specs.Normal.{Laid, blocks_of, damaged_block, dynamic_block, laid_bytes, layout_block, new_ec, normal_bytes, static_block, static_blocks, volume_blocks}
 
 -- one more behind the others
 pub put_more : (f : ℕ → List ℕ) (n : ℕ) (front image next x : List ℕ) → image ≡ front ++ flat_map f (range_with_len 0 n) → next ≡ image ++ x → x ≡ f n
@@ -83,3 +86,14 @@ static_count s vol r c text is =
     let used : ℕ = pieces (usable s r) (length text) in
     sym (length-map-range_with_len (λ lnum. static_block (data_pad s r) vol used lnum (share (usable s r) text lnum)) 0 used)
     ∙ ap (λ x. length (volume_blocks s vol r x)) (sym is)
+
+-- the table, the volumes and the spares, one behind the other
+pub composed_pieces : (m : Meant) (spares : ℕ)
+    → (([] ++ laid_bytes m.sizes new_ec (layout_block m 0)) ++ laid_bytes m.sizes new_ec (layout_block m 1)) ++ flat_map (laid_bytes m.sizes new_ec) (blocks_of m.sizes (finite.entries m.volumes))
+    ++ flat_map (λ b. b) (replicate spares (spare m.sizes)) ≡ composed m spares
+unfolding normal_bytes
+composed_pieces m spares =
+    let first : List ℕ = laid_bytes m.sizes new_ec (layout_block m 0) in
+    let second : List ℕ = laid_bytes m.sizes new_ec (layout_block m 1) in
+    let rest : List ℕ = flat_map (laid_bytes m.sizes new_ec) (blocks_of m.sizes (finite.entries m.volumes)) in
+    ap (λ x. x ++ flat_map (λ b. b) (replicate spares (spare m.sizes))) (append_assoc first second rest)

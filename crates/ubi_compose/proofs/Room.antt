@@ -1,9 +1,9 @@
 -- A normal image fits the device: a volume has no more eraseblocks than it reserves.
-use Rattle.std.proofs.Common.{take-append-drop, ◌≡◌, ℕ, zero, suc, ◌+◌, ◌*◌, ◌<◌, ◌≤◌, List, [], ◌∷◌, ◌++◌, drop, length, map, take, refl, sym, ap, ◌∙◌, subst, arith}
-use Rattle.std.specs.Prelude.{IfSome, Option, Some, flat_map, fold}
+use Rattle.std.proofs.Common.{take-append-drop, ◌≡◌, ℕ, ◌+◌, ◌<◌, ◌≤◌, List, [], ◌∷◌, ◌++◌, drop, length, map, take, sym, ap, ◌∙◌, subst, arith}
+use Rattle.std.specs.Prelude.{IfSome, Option, flat_map, fold}
 use Rattle.std.specs.FinMap as finite
 use Rattle.std.specs.FinMap.{FinMap}
-use Rattle.std.specs.List.{AllByRecursion, range_with_len}
+use Rattle.std.specs.List.{AllByRecursion}
 use Rattle.std.specs.Ordering.{nat_cmp}
 use Rattle.std.proofs.lemmas.List.{length-append, length-map}
 use Rattle.std.proofs.lemmas.Grind.{flat_map-append}
@@ -17,8 +17,8 @@ use Rattle.ubi_volume.specs.declared.content.Content.{Content}
 use Rattle.ubi_volume.specs.declared.content.Content.TheVariants as content
 use Rattle.ubi_volume.specs.declared.content.Volume.{Volume}
 use Rattle.ubi_compose.specs.Composed.{HasRoom}
-use Rattle.ubi_compose.specs.Normal.{Laid, blocks_of, dynamic_block, normal_blocks, static_block, volume_blocks}
-use Rattle.ubi_compose.proofs.Lists.{Holds, all_from, held_entry}
+use Rattle.ubi_compose.specs.Normal.{blocks_of, dynamic_block, normal_blocks, static_block, volume_blocks}
+use Rattle.ubi_compose.proofs.Lists.{all_from, held_entry}
 use Rattle.ubi_compose.proofs.Padding.{reserved_some}
 use Rattle.ubi_compose.proofs.Pieces.{pieces_few}
 use Rattle.ubi_compose.proofs.Rising.{Rises, entries_rise}

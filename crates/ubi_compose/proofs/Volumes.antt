@@ -1,29 +1,23 @@
 -- The eraseblocks of one volume.
-use Rattle.std.proofs.Common.{◌≡◌, ◌≢◌, ℕ, zero, suc, ◌+◌, ◌-◌, ◌/◌, ◌^◌, ◌<◌, ◌≤◌, T, List, [], ◌∷◌, length, map, refl, sym, ap, ◌∙◌, subst, arith}
-use Rattle.std.specs.Prelude.{IfSome, None, Option, Some}
+use Rattle.std.proofs.Common.{◌≡◌, ℕ, ◌^◌, ◌<◌, ◌≤◌, List, length, refl, subst, arith}
+use Rattle.std.specs.Prelude.{IfSome, Option}
 use Rattle.std.specs.FinMap as finite
-use Rattle.std.specs.FinMap.{FinMap, is_sorted}
-use Rattle.std.specs.FinMap.Entries.{below_all}
+use Rattle.std.specs.FinMap.{FinMap}
 use Rattle.std.specs.List.{AllByRecursion, range_with_len}
 use Rattle.std.specs.Ordering.{nat_cmp}
-use Rattle.std.specs.declared.cmp.Ordering.TheVariants.{Less}
-use Rattle.std.proofs.lemmas.Cmp.{ranked}
 use Rattle.ubi_media.specs.Check.{check}
-use Rattle.ubi_media.specs.Geometry.{IsGeometry, Sizes, leb_size, slots}
+use Rattle.ubi_media.specs.Geometry.{IsGeometry, Sizes, leb_size}
 use Rattle.ubi_media.specs.Record.{data_pad, usable}
 use Rattle.ubi_media.specs.declared.record.VolumeRecord.{VolumeRecord}
 use Rattle.ubi_media.proofs.Checks.{check_from-lt}
 use Rattle.ubi_media.proofs.Records.{usable_some}
-use Rattle.ubi_scan.specs.Members.{leb_of}
-use Rattle.ubi_scan.proofs.Truths.{both_left, both_right}
 use Rattle.ubi_volume.specs.Meant.{Fits, IsVolume}
 use Rattle.ubi_volume.specs.Reading.{pieces, share}
 use Rattle.ubi_volume.specs.declared.content.Content.{Content}
 use Rattle.ubi_volume.specs.declared.content.Content.TheVariants as content
 use Rattle.ubi_volume.specs.declared.content.Volume.{Volume}
-use Rattle.ubi_compose.specs.Normal.{Laid, damaged_block, dynamic_block, static_block, static_blocks, volume_blocks}
-use Rattle.ubi_compose.proofs.Apart.{AreApart, Differ}
-use Rattle.ubi_compose.proofs.Blocks.{IsFine, some_same}
+use Rattle.ubi_compose.specs.Normal.{Laid, damaged_block, dynamic_block, static_block, volume_blocks}
+use Rattle.ubi_compose.proofs.Blocks.{IsFine}
 use Rattle.ubi_compose.proofs.Headers.{dynamic_fits, dynamic_sound, static_fits, static_sound, user_known, user_placed}
 use Rattle.ubi_compose.proofs.Lists.{Holds, all_map, held_entry, range_holds}
 use Rattle.ubi_compose.proofs.Padding.{half_pad, reserved_within}

@@ -1,7 +1,7 @@
 //! The normal image of a meaning, and of what an image means.
 
 ghost use Rattle.std.specs.FinMap as finite;
-ghost use Rattle.std.specs.Prelude.{◌≡◌, ◌++◌, IfErr, IfOk, OnOk, flat_map, length};
+ghost use Rattle.std.specs.Prelude.{◌≡◌, ◌++◌, IfErr, IfOk, OnOk, flat_map, length, replicate};
 ghost use Rattle.ubi_media.specs.Fields.{filled};
 ghost use Rattle.ubi_scan.specs.Image.{Image};
 ghost use Rattle.ubi_volume.specs.Accepts.{Accepts, IsAttachError};
@@ -62,4 +62,56 @@ fn put_spare(image: &mut Vec<u8>, geometry: &Geometry) -> Result<(), AllocError>
 {
     image.extend_from_slice(&write_ec(geometry, &NEW))?;
     put_blank(image, geometry.peb_size() - 64)
+}
+
+/// Adds so many of them.
+fn put_spares(image: &mut Vec<u8>, geometry: &Geometry, count: u32) -> Result<(), AllocError>
+    ensures { OnOk result (image.new.items ≡ image.old.items ++ flat_map (λ b. b) (replicate count (spare geometry.now))) }
+{
+    for _ in 0..count {
+        put_spare(image, geometry)?;
+    }
+    Ok(())
+}
+
+/// The normal image of a meaning, and behind it so many spare eraseblocks: each has an erase-counter header with counter
+/// 0, and is else 0xFF. It is accepted, with this meaning.
+///
+/// # Errors
+///
+/// `TooMany` where the device hasn't so many eraseblocks; never without spares. `Memory` where memory ran out.
+pub fn compose(alloc: Global, meaning: &Meaning, spares: u32) -> Result<Vec<u8>, ComposeError>
+    ensures room { IfOk result (λ _. HasRoom meaning.now spares) }
+    ensures bytes { IfOk result (λ out. out.items ≡ composed meaning.now spares) }
+    ensures accepted { IfOk result (λ out. Accepts (image_of meaning.now out.items) meaning.now) }
+    ensures refused { IfErr result (IsComposeError meaning.now spares) }
+{
+    let geometry = meaning.geometry();
+    let count = block_count(meaning) + spares as usize;
+    if count > geometry.pebs() as usize {
+        return Err(ComposeError::TooMany);
+    }
+    let mut image = Vec::with_capacity(alloc, count * geometry.peb_size() as usize)?;
+    put_table(alloc, &mut image, meaning)?;
+    put_volumes(&mut image, meaning)?;
+    put_spares(&mut image, &geometry, spares)?;
+    Ok(image)
+}
+
+/// The normal image of what an image means.
+///
+/// # Errors
+///
+/// Those of [`attach`], and Memory where memory ran out for the normal image.
+pub fn normalise(alloc: Global, geometry: &Geometry, image: &[u8]) -> Result<Vec<u8>, AttachError>
+    ensures normal { IfOk result (λ out. IsNormalised (record { sizes = geometry.now; bytes = image.now }) out.items) }
+    ensures again { IfOk result (λ out. IsNormalised (record { sizes = geometry.now; bytes = out.items }) out.items) }
+    ensures refused { IfErr result (IsAttachError (record { sizes = geometry.now; bytes = image.now })) }
+{
+    let attached = attach(alloc, geometry, image)?;
+    match compose(alloc, attached.meaning(), 0) {
+        Ok(normal) => Ok(normal),
+        // Without spares it fits.
+        Err(_) => Err(AttachError::Memory),
+    }
 }

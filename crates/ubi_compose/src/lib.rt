@@ -9,4 +9,5 @@ mod laying;
 mod records;
 mod volume;
 
+pub use composing::{compose, normalise};
 pub use errors::{ComposeError, SameError};

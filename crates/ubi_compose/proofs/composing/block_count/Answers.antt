@@ -1,7 +1,7 @@
-use Rattle.std.proofs.Common.{◌≡◌, ℕ, ◌+◌, ◌<◌, ◌≤◌, get_or, length, take, ap, ◌∙◌, arith}
+use Rattle.std.proofs.Common.{◌+◌, get_or, length, ap, ◌∙◌, arith}
 use Rattle.std.specs.FinMap as finite
 use Rattle.ubi_volume.proofs.Listed.{listed_volume}
-use Rattle.ubi_compose.specs.Normal.{blocks_of, volume_blocks}
+use Rattle.ubi_compose.specs.Normal.{volume_blocks}
 use Rattle.ubi_compose.proofs.Puts.{count_more}
 use Rattle.ubi_compose.proofs.Room.{first_fit}
 use Rattle.ubi_compose.proofs.composing.block_count.Goals as goal
@@ -20,11 +20,11 @@ overflow_add-count c =
     let item = c.numbered-item.result in
     let i = c.loop-numbered.numbered-index in
     let more =
-        count_more m.sizes (finite.entries m.volumes) i item c.loop-numbered.count c.volume_count-count.result
-        (rw c.volumes-numbered-items.ensures.value at c.loop-numbered-test.true)
-        (c.numbered-item.is ∙ ap (λ xs. get_or xs i item) c.volumes-numbered-items.ensures.value)
-        (c.volume_count-count.ensures ∙ ap (λ s. length (volume_blocks s item.0 item.1.entry item.1.content)) c.geometry-geometry.ensures.value)
-        c.loop-numbered.invariant in
+    count_more m.sizes (finite.entries m.volumes) i item c.loop-numbered.count c.volume_count-count.result
+    (rw c.volumes-numbered-items.ensures.value at c.loop-numbered-test.true)
+    (c.numbered-item.is ∙ ap (λ xs. get_or xs i item) c.volumes-numbered-items.ensures.value)
+    (c.volume_count-count.ensures ∙ ap (λ s. length (volume_blocks s item.0 item.1.entry item.1.content)) c.geometry-geometry.ensures.value)
+    c.loop-numbered.invariant in
     let few = first_fit m c.geometry-geometry.ensures.limits c.geometry-geometry.ensures.meaning (i + 1) in
     omega (arith, more, few, c.geometry-geometry.ensures.limits.pebs_to)
 

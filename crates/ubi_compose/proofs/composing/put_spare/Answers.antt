@@ -1,7 +1,6 @@
 use Rattle.std.proofs.Common.{refl, sym, ap, ◌∙◌, ◌++◌, append_assoc}
 use Rattle.std.proofs.lemmas.Result.{on_ok_weaker}
 use Rattle.ubi_media.specs.Ec.{ec_bytes}
-use Rattle.ubi_media.specs.Fields.{blank}
 use Rattle.ubi_compose.specs.Normal.{new_ec}
 use Rattle.ubi_compose.proofs.Filled.{filled-is}
 use Rattle.ubi_compose.proofs.composing.put_spare.Goals as goal

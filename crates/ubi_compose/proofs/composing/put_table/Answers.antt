@@ -1,9 +1,5 @@
 use Rattle.std.proofs.Common.{refl, ◌∙◌, arith}
 use Rattle.std.proofs.lemmas.Result.{on_ok_weaker}
-use Rattle.ubi_media.specs.Geometry.{leb_size}
-use Rattle.ubi_table.specs.Records.{table_bytes}
-use Rattle.ubi_volume.specs.Meant.{Meant, records_of}
-use Rattle.ubi_compose.specs.Normal.{laid_bytes, new_ec}
 use Rattle.ubi_compose.proofs.Table.{table_fits}
 use Rattle.ubi_compose.proofs.composing.put_table.Goals as goal
 

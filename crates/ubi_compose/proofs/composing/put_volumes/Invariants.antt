@@ -1,5 +1,4 @@
 use Rattle.std.proofs.Common.{◌≡◌, ◌++◌, take, vec_items}
-use Rattle.std.specs.FinMap as finite
 use Rattle.std.specs.List.{flat_map}
 use Rattle.ubi_compose.specs.Normal.{blocks_of, laid_bytes, new_ec}
 use Rattle.ubi_compose.proofs.composing.put_volumes.Given as goal
