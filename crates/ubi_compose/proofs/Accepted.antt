@@ -1,6 +1,6 @@
 -- A normal image is accepted with its meaning.
-use Rattle.std.proofs.Common.{◌≡◌, ◌≢◌, ℕ, zero, suc, ◌+◌, ◌-◌, ◌<◌, ◌≤◌, false, List, [], ◌∷◌, ◌++◌, inl, inr, length, map, replicate, refl, sym, ap, ◌∙◌, subst, arith}
-use Rattle.std.specs.Prelude.{◌↔◌, None, Option, Some, flat_map, option_map, slice_get}
+use Rattle.std.proofs.Common.{◌≡◌, ℕ, zero, suc, List, inl, inr, length, refl, sym, ap, ◌∙◌, subst, arith}
+use Rattle.std.specs.Prelude.{None, Option, Some, flat_map, option_map}
 use Rattle.std.specs.FinMap as finite
 use Rattle.std.specs.List.{AllByRecursion, concat, range_with_len}
 use Rattle.ubi_media.specs.Geometry.{IsGeometry, Sizes}
@@ -9,12 +9,12 @@ use Rattle.ubi_media.specs.declared.record.VolumeRecord.{VolumeRecord}
 use Rattle.ubi_media.specs.declared.vid.VidHeader.{VidHeader}
 use Rattle.ubi_media.proofs.Records.{usable_some}
 use Rattle.ubi_scan.specs.Faults.{NoFault}
-use Rattle.ubi_scan.specs.Image.{Image, block, eraseblocks, leb}
-use Rattle.ubi_scan.specs.Members.{Leb, Wins, layout, leb_of, member}
+use Rattle.ubi_scan.specs.Image.{leb}
+use Rattle.ubi_scan.specs.Members.{Leb, layout, member}
 use Rattle.ubi_table.specs.Table.{IsTable}
 use Rattle.ubi_table.proofs.Held.{table_written}
 use Rattle.ubi_volume.specs.Accepts.{Accepts, AcceptsBlocks}
-use Rattle.ubi_volume.specs.Counted.{IsMismatched, NoMismatch}
+use Rattle.ubi_volume.specs.Counted.{NoMismatch}
 use Rattle.ubi_volume.specs.Means.{SlotMeans}
 use Rattle.ubi_volume.specs.Meant.{Fits, IsMeaning, IsVolume, Meant, records_of}
 use Rattle.ubi_volume.specs.Reading.{pieces, share}
@@ -22,16 +22,14 @@ use Rattle.ubi_volume.specs.Reads.{VolumeReads}
 use Rattle.ubi_volume.specs.declared.content.Content.{Content}
 use Rattle.ubi_volume.specs.declared.content.Content.TheVariants as content
 use Rattle.ubi_volume.specs.declared.content.Volume.{Volume}
-use Rattle.ubi_volume.proofs.One.{Accepts-unique}
-use Rattle.ubi_compose.specs.Composed.{HasRoom, IsNormalised, composed, image_of, spare}
-use Rattle.ubi_compose.specs.Normal.{Laid, dynamic_block, layout_block, normal_blocks, normal_bytes, laid_bytes, new_ec, static_block, volume_blocks}
+use Rattle.ubi_compose.specs.Composed.{HasRoom, composed, image_of}
+use Rattle.ubi_compose.specs.Normal.{Laid, dynamic_block, layout_block, normal_blocks, normal_bytes, static_block, volume_blocks}
 use Rattle.ubi_compose.proofs.Apart.{AreApart}
 use Rattle.ubi_compose.proofs.Blocks.{IsFine, leb-laid_bytes, member-laid_bytes, some_same}
 use Rattle.ubi_compose.proofs.Contents.{AreOwn, damaged_reads, dynamic_reads, text_reads}
 use Rattle.ubi_compose.proofs.Image.{block_laid, blocks_again, concat-image_blocks, image_blocks, image_clean, image_whole, laid_wins, member_laid}
 use Rattle.ubi_compose.proofs.Lists.{Holds, all_at, all_map, entry_held, flat_map_holds, held_entry, holds_flat_map}
 use Rattle.ubi_compose.proofs.Normal.{apart_normal, fine_normal}
-use Rattle.ubi_compose.proofs.Room.{normal_fits}
 use Rattle.ubi_compose.proofs.Table.{get-records_of, recorded, records_are, records_fit, volume_is}
 use Rattle.ubi_compose.proofs.Volumes.{own_blocks}
 

@@ -1,17 +1,11 @@
 -- The headers of a normal image break no rule.
-use Rattle.std.proofs.Common.{◌≡◌, ◌≢◌, ℕ, ◌+◌, ◌-◌, ◌/◌, ◌^◌, ◌<◌, ◌≤◌, ◌==◌, ◌||◌, inl, inr, true, false, List, length, refl, sym, ap, ◌∙◌, arith}
+use Rattle.std.proofs.Common.{◌≡◌, ℕ, ◌+◌, ◌-◌, ◌/◌, ◌^◌, ◌<◌, ◌≤◌, inl, inr, true, refl, arith}
 use Rattle.std.specs.Prelude.{None}
-use Rattle.std.specs.List.{AllByRecursion}
 use Rattle.std.proofs.lemmas.Bool.Decides.{nat_tests}
-use Rattle.std.proofs.lemmas.List.Elements.{All-from_recursion}
-use Rattle.ubi_media.specs.Check.{check}
 use Rattle.ubi_media.specs.Geometry.{IsGeometry, Sizes, leb_size}
-use Rattle.ubi_media.specs.Vid.{VidFits, breaks, faults, fields_from, first_fault, plain, vid_fault}
-use Rattle.ubi_media.specs.declared.vid.VidFault.TheVariants as fault
+use Rattle.ubi_media.specs.Vid.{VidFits, breaks, fields_from, first_fault, plain, vid_fault}
 use Rattle.ubi_media.specs.declared.vid.VidHeader.{VidHeader}
 use Rattle.ubi_media.specs.declared.vid.VolKind.TheVariants as kind
-use Rattle.ubi_media.proofs.Checks.{check_from-lt}
-use Rattle.ubi_media.proofs.First.{none_found}
 use Rattle.ubi_scan.specs.Faults.{IsMislaid}
 use Rattle.ubi_scan.specs.Members.{has_members, layout}
 
@@ -61,9 +55,6 @@ module _ (s : Sizes) (pad vol lnum : ℕ) (slot : vol < 128) (number : lnum < 2 
 
   module _ (size used crc : ℕ) (some : 1 ≤ size) (most : size ≤ leb_size s - pad) (wide : leb_size s < 2 ^ 31) (below : lnum < used) (few : used < 2 ^ 31)
       (full : lnum + 1 < used → size ≡ leb_size s - pad) where
-    header : VidHeader
-    header = record (plain kind.Static 0 pad vol lnum) { data_size = size; used_ebs = used; data_crc = crc }
-
     pub static_sound : vid_fault s (record (plain kind.Static 0 pad vol lnum) { data_size = size; used_ebs = used; data_crc = crc }) ≡ None
     unfolding first_fault breaks fields_from
     static_sound = grind (arith, nat_tests)

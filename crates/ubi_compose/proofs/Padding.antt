@@ -1,14 +1,13 @@
 -- The padding of a volume is less than half of a LEB.
-use Rattle.std.proofs.Common.{◌≡◌, ◌≢◌, ℕ, ◌+◌, ◌-◌, ◌*◌, ◌/◌, ◌%◌, ◌^◌, ◌<◌, ◌≤◌, ◌⊎◌, inl, inr, refl, sym, ap, ◌∙◌, lit<, arith}
-use Rattle.std.specs.Prelude.{None, Option}
+use Rattle.std.proofs.Common.{◌≡◌, ℕ, ◌+◌, ◌-◌, ◌*◌, ◌/◌, ◌%◌, ◌^◌, ◌<◌, ◌≤◌, ◌⊎◌, inl, inr, ap, ◌∙◌, lit<, arith}
+use Rattle.std.specs.Prelude.{None}
 use Rattle.std.proofs.Math.Nat.{div-add-mod, mod-lt}
 use Rattle.std.proofs.lemmas.Bool.Decides.{nat_tests}
 use Rattle.std.proofs.lemmas.Nat.{mul-le}
-use Rattle.ubi_media.specs.Geometry.{IsGeometry, Sizes, leb_size, slots}
-use Rattle.ubi_media.specs.Record.{breaks, data_pad, fields_from, rec_fault, usable}
-use Rattle.ubi_media.specs.declared.record.RecFault.TheVariants as fault
+use Rattle.ubi_media.specs.Geometry.{IsGeometry, Sizes, leb_size}
+use Rattle.ubi_media.specs.Record.{breaks, data_pad, fields_from, rec_fault}
 use Rattle.ubi_media.specs.declared.record.VolumeRecord.{VolumeRecord}
-use Rattle.ubi_media.proofs.Records.{alignment_within, kept, signs_kept, usable_some}
+use Rattle.ubi_media.proofs.Records.{alignment_within, kept, signs_kept}
 
 -- multiples of a page, which is a multiple of 64
 even : (n page : ℕ) → page % 64 ≡ 0 → n % page ≡ 0 → n ≡ 2 * (32 * (page / 64) * (n / page))
@@ -43,9 +42,9 @@ left_over n a some most =
       | inr m ↦ m
     ]
 
-module _ (s : Sizes) (g : IsGeometry s) (r : VolumeRecord) (sound : rec_fault s r ≡ None) where
-  pub half_pad : data_pad s r < leb_size s / 2
-  half_pad =
+module _ (s : Sizes) (r : VolumeRecord) (sound : rec_fault s r ≡ None) where
+  pub half_pad : IsGeometry s → data_pad s r < leb_size s / 2
+  half_pad g =
       let w = alignment_within s r sound in
       let twice : 2 * (leb_size s % r.alignment) < leb_size s = left_over (leb_size s) r.alignment w.0 w.1 in
       let k = leb_even s g in

@@ -1,5 +1,5 @@
 -- Elements whose numbers rise, and the eraseblocks that are made of them.
-use Rattle.std.proofs.Common.{◌≡◌, ◌≢◌, ℕ, zero, suc, ◌+◌, ◌<◌, ◌≤◌, T, List, [], ◌∷◌, ◌++◌, map, refl, sym, ap, ◌∙◌, subst, arith}
+use Rattle.std.proofs.Common.{◌≡◌, ℕ, zero, suc, ◌+◌, ◌<◌, T, List, [], ◌∷◌, map, refl, sym, ap, arith}
 use Rattle.std.specs.Prelude.{flat_map}
 use Rattle.std.specs.FinMap.{is_sorted}
 use Rattle.std.specs.FinMap.Entries.{below_all}
@@ -8,11 +8,11 @@ use Rattle.std.specs.Ordering.{is_lt, nat_cmp}
 use Rattle.std.specs.declared.cmp.Ordering.{Ordering}
 use Rattle.std.specs.declared.cmp.Ordering.TheVariants.{Less, Equal, Greater}
 use Rattle.std.proofs.lemmas.Cmp.{ranked}
-use Rattle.ubi_scan.specs.Members.{Leb, leb_of}
+use Rattle.ubi_scan.specs.Members.{Leb}
 use Rattle.ubi_scan.proofs.Truths.{both_left, both_right}
 use Rattle.ubi_compose.specs.Normal.{Laid}
 use Rattle.ubi_compose.proofs.Apart.{AreApart, Differ, apart_append}
-use Rattle.ubi_compose.proofs.Lists.{Holds, all_at, all_flat_map, all_from, all_map, range_holds}
+use Rattle.ubi_compose.proofs.Lists.{all_at, all_flat_map, all_from, all_map, range_holds}
 
 -- each number is above those before it
 abbrev pub Rises : {X : Type 0} → (X → ℕ) → List X → Type 0

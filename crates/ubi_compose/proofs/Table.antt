@@ -1,9 +1,9 @@
 -- The table of a meaning.
-use Rattle.std.proofs.Common.{◌≡◌, ℕ, ◌+◌, ◌*◌, ◌<◌, ◌≤◌, T, List, length, map, refl, sym, ap, ◌∙◌, subst, arith}
-use Rattle.std.specs.Prelude.{IfSome, None, Option, Some, option_map, fold}
+use Rattle.std.proofs.Common.{◌≡◌, ℕ, ◌+◌, ◌≤◌, T, List, length, map, refl, sym, ap, ◌∙◌, subst, arith}
+use Rattle.std.specs.Prelude.{IfSome, None, Option, Some, option_map}
 use Rattle.std.specs.Cmp.{nat_cmp_total}
 use Rattle.std.specs.FinMap as finite
-use Rattle.std.specs.FinMap.{from_entries, is_sorted}
+use Rattle.std.specs.FinMap.{is_sorted}
 use Rattle.std.specs.List.{sum_by}
 use Rattle.std.specs.Ordering.{nat_cmp}
 use Rattle.ubi_media.specs.Geometry.{IsGeometry}
@@ -11,7 +11,7 @@ use Rattle.ubi_media.specs.Record.{rec_fault}
 use Rattle.ubi_media.specs.declared.record.VolumeRecord.{VolumeRecord}
 use Rattle.ubi_scan.proofs.Entries.{sorted_entries}
 use Rattle.ubi_scan.proofs.Truths.{true_is}
-use Rattle.ubi_table.specs.Records.{AreRecords, HasSpace, Records, table_bytes}
+use Rattle.ubi_table.specs.Records.{AreRecords, HasSpace, table_bytes}
 use Rattle.ubi_table.proofs.ReadBack.{length-table_bytes}
 use Rattle.ubi_volume.specs.Meant.{IsMeaning, IsVolume, Meant, records_of}
 use Rattle.ubi_volume.specs.declared.content.Volume.{Volume}

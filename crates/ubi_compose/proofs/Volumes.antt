@@ -1,29 +1,23 @@
 -- The eraseblocks of one volume.
-use Rattle.std.proofs.Common.{◌≡◌, ◌≢◌, ℕ, zero, suc, ◌+◌, ◌-◌, ◌/◌, ◌^◌, ◌<◌, ◌≤◌, T, List, [], ◌∷◌, length, map, refl, sym, ap, ◌∙◌, subst, arith}
-use Rattle.std.specs.Prelude.{IfSome, None, Option, Some}
+use Rattle.std.proofs.Common.{◌≡◌, ℕ, ◌^◌, ◌<◌, ◌≤◌, List, length, refl, subst, arith}
+use Rattle.std.specs.Prelude.{IfSome, Option}
 use Rattle.std.specs.FinMap as finite
-use Rattle.std.specs.FinMap.{FinMap, is_sorted}
-use Rattle.std.specs.FinMap.Entries.{below_all}
+use Rattle.std.specs.FinMap.{FinMap}
 use Rattle.std.specs.List.{AllByRecursion, range_with_len}
 use Rattle.std.specs.Ordering.{nat_cmp}
-use Rattle.std.specs.declared.cmp.Ordering.TheVariants.{Less}
-use Rattle.std.proofs.lemmas.Cmp.{ranked}
 use Rattle.ubi_media.specs.Check.{check}
-use Rattle.ubi_media.specs.Geometry.{IsGeometry, Sizes, leb_size, slots}
+use Rattle.ubi_media.specs.Geometry.{IsGeometry, Sizes, leb_size}
 use Rattle.ubi_media.specs.Record.{data_pad, usable}
 use Rattle.ubi_media.specs.declared.record.VolumeRecord.{VolumeRecord}
 use Rattle.ubi_media.proofs.Checks.{check_from-lt}
 use Rattle.ubi_media.proofs.Records.{usable_some}
-use Rattle.ubi_scan.specs.Members.{leb_of}
-use Rattle.ubi_scan.proofs.Truths.{both_left, both_right}
 use Rattle.ubi_volume.specs.Meant.{Fits, IsVolume}
 use Rattle.ubi_volume.specs.Reading.{pieces, share}
 use Rattle.ubi_volume.specs.declared.content.Content.{Content}
 use Rattle.ubi_volume.specs.declared.content.Content.TheVariants as content
 use Rattle.ubi_volume.specs.declared.content.Volume.{Volume}
-use Rattle.ubi_compose.specs.Normal.{Laid, damaged_block, dynamic_block, static_block, static_blocks, volume_blocks}
-use Rattle.ubi_compose.proofs.Apart.{AreApart, Differ}
-use Rattle.ubi_compose.proofs.Blocks.{IsFine, some_same}
+use Rattle.ubi_compose.specs.Normal.{Laid, damaged_block, dynamic_block, static_block, volume_blocks}
+use Rattle.ubi_compose.proofs.Blocks.{IsFine}
 use Rattle.ubi_compose.proofs.Headers.{dynamic_fits, dynamic_sound, static_fits, static_sound, user_known, user_placed}
 use Rattle.ubi_compose.proofs.Lists.{Holds, all_map, held_entry, range_holds}
 use Rattle.ubi_compose.proofs.Padding.{half_pad, reserved_within}
@@ -44,7 +38,7 @@ module _ (s : Sizes) (g : IsGeometry s) (vol : ℕ) (v : Volume) (is : IsVolume 
   slot_small = let l = is.slot in omega arith
 
   pad_small : data_pad s v.entry < 2 ^ 31
-  pad_small = let h = half_pad s g v.entry is.sound in omega (arith, g.peb_to)
+  pad_small = let h = half_pad s v.entry is.sound g in omega (arith, g.peb_to)
 
   size_some : 1 ≤ usable s v.entry
   size_some = usable_some s v.entry is.sound
@@ -53,8 +47,8 @@ module _ (s : Sizes) (g : IsGeometry s) (vol : ℕ) (v : Volume) (is : IsVolume 
   fine_dynamic lebs fits e h =
       let held : (e.0 < v.entry.reserved) × (length e.1 ≡ usable s v.entry) = subst (λ (o : Option (List ℕ)). IfSome o (λ text. (e.0 < v.entry.reserved) × (length text ≡ usable s v.entry))) (held_entry lebs e h) (fits.2 e.0) in
       let size = held.1 in
-      let number : e.0 < 2 ^ 31 = let below = held.0 in let wide = reserved_within s g v.entry is.sound in omega arith in
-      let half = half_pad s g v.entry is.sound in
+      let number : e.0 < 2 ^ 31 = let below = held.0 in let wide = reserved_within s v.entry is.sound in omega arith in
+      let half = half_pad s v.entry is.sound g in
       record {
         room = omega (arith, g.leb);
         fits = dynamic_fits s (data_pad s v.entry) vol e.0 slot_small number half pad_small;
@@ -72,8 +66,8 @@ module _ (s : Sizes) (g : IsGeometry s) (vol : ℕ) (v : Volume) (is : IsVolume 
       let used : ℕ = pieces size (length text) in
       let piece' : List ℕ = share size text lnum in
       let few : used ≤ v.entry.reserved = pieces_few size size_some (length text) v.entry.reserved fits.2 in
-      let wide = reserved_within s g v.entry is.sound in
-      let half = half_pad s g v.entry is.sound in
+      let wide = reserved_within s v.entry is.sound in
+      let half = half_pad s v.entry is.sound g in
       let most : length piece' ≤ size = share_most size size_some text lnum in
       let some : 1 ≤ length piece' = share_some size size_some text lnum below in
       let number : lnum < 2 ^ 31 = omega arith in
@@ -91,7 +85,7 @@ module _ (s : Sizes) (g : IsGeometry s) (vol : ℕ) (v : Volume) (is : IsVolume 
 
   fine_damaged : IsFine s (damaged_block (data_pad s v.entry) vol)
   fine_damaged =
-      let half = half_pad s g v.entry is.sound in
+      let half = half_pad s v.entry is.sound g in
       let limit : leb_size s < 2 ^ 31 = omega (arith, g.peb_to) in
       let most = size_some in
       record {
