@@ -85,46 +85,49 @@ module _ (s : Sizes) (g : IsGeometry s) (ls : List Laid) (spares : ℕ) (fine : 
 
       -- a static volume
       module _ (text : List ℕ) (size_some : 1 ≤ usable s r) (own : AreOwn ls vol (volume_blocks s vol r (content.Static text))) where
-        abbrev part : ℕ → Laid
-        part lnum = static_block (data_pad s r) vol (pieces (usable s r) (length text)) lnum (share (usable s r) text lnum)
+        abbrev used : ℕ
+        used = pieces (usable s r) (length text)
 
-        part_at : (lnum : ℕ) → lnum < pieces (usable s r) (length text) → Holds ls (part lnum)
+        abbrev part : ℕ → Laid
+        part lnum = static_block (data_pad s r) vol used lnum (share (usable s r) text lnum)
+
+        part_at : (lnum : ℕ) → lnum < used → Holds ls (part lnum)
         part_at lnum below =
             let k : 0 + lnum ≡ lnum = omega arith in
-            own.there (part lnum) (holds_map part (range_with_len 0 (pieces (usable s r) (length text))) lnum
-            (subst (λ n. Holds (range_with_len 0 (pieces (usable s r) (length text))) n) k (holds_range 0 (pieces (usable s r) (length text)) lnum below)))
+            own.there (part lnum) (holds_map part (range_with_len 0 used) lnum
+            (subst (λ n. Holds (range_with_len 0 used) n) k (holds_range 0 used lnum below)))
 
-        piece_read : (lnum : ℕ) → lnum < pieces (usable s r) (length text) → PieceIs s bs vol (pieces (usable s r) (length text)) lnum (Some (share (usable s r) text lnum))
+        piece_read : (lnum : ℕ) → lnum < used → PieceIs s bs vol used lnum (Some (share (usable s r) text lnum))
         piece_read lnum below =
             let at = part_at lnum below in
             let l : Laid = part lnum in
-            piece_checked s bs clean vol (pieces (usable s r) (length text)) lnum at.0 l.header l.text (laid_wins s g ls spares fine at.0 l at.1) (header_at at.0 l at.1)
+            piece_checked s bs clean vol used lnum at.0 l.header l.text (laid_wins s g ls spares fine at.0 l at.1) (header_at at.0 l at.1)
             (sym (ap (take (length l.text)) (text_at at.0 l at.1) ∙ take_at l.text (blank (s.peb_size - (s.data_offset + length l.text))) (length l.text) refl))
             refl refl
 
-        read_first : (n : ℕ) → n ≤ pieces (usable s r) (length text) → AreRead s bs vol (pieces (usable s r) (length text)) n (take (n * usable s r) text)
-        read_first zero h = subst (AreRead s bs vol (pieces (usable s r) (length text)) 0) (sym (share_none (usable s r) text)) (read_none s bs vol (pieces (usable s r) (length text)))
+        read_first : (n : ℕ) → n ≤ used → AreRead s bs vol used n (take (n * usable s r) text)
+        read_first zero h = subst (AreRead s bs vol used 0) (sym (share_none (usable s r) text)) (read_none s bs vol used)
         read_first (suc n) h =
             let next : n + 1 ≡ suc n = omega arith in
-            subst (λ k. AreRead s bs vol (pieces (usable s r) (length text)) k (take (k * usable s r) text)) next
-            (subst (AreRead s bs vol (pieces (usable s r) (length text)) (n + 1)) (share_more (usable s r) text n)
-            (read_more s bs vol (pieces (usable s r) (length text)) n (take (n * usable s r) text) (share (usable s r) text n) (read_first n (omega arith)) (piece_read n (omega arith))))
+            subst (λ k. AreRead s bs vol used k (take (k * usable s r) text)) next
+            (subst (AreRead s bs vol used (n + 1)) (share_more (usable s r) text n)
+            (read_more s bs vol used n (take (n * usable s r) text) (share (usable s r) text n) (read_first n (omega arith)) (piece_read n (omega arith))))
 
-        none_behind : (lnum : ℕ) → pieces (usable s r) (length text) ≤ lnum → NoMember s bs (vol, lnum)
+        none_behind : (lnum : ℕ) → used ≤ lnum → NoMember s bs (vol, lnum)
         none_behind lnum out = none_laid s g ls spares fine (vol, lnum) (λ l at same.
             let mine = own.only l at (ap (λ (of : Leb). of.0) same) in
-            let e = map_holds part (range_with_len 0 (pieces (usable s r) (length text))) l mine in
+            let e = map_holds part (range_with_len 0 used) l mine in
             let number : e.0 ≡ lnum = ap (λ (l : Laid). l.header.lnum) e.2 ∙ ap (λ (of : Leb). of.1) same in
-            let below = (range_holds 0 (pieces (usable s r) (length text)) e.0 e.1).1 in
+            let below = (range_holds 0 used e.0 e.1).1 in
             omega arith)
 
         pub text_reads : Fits s r (content.Static text) → VolumeReads s bs vol r (content.Static text)
         text_reads fits = (
           fits.0,
           fits.1,
-          static_reads s bs vol (pieces (usable s r) (length text)) r text
-              (subst (AreRead s bs vol (pieces (usable s r) (length text)) (pieces (usable s r) (length text))) (shares_all (usable s r) size_some text)
-              (read_first (pieces (usable s r) (length text)) (omega arith)))
+          static_reads s bs vol used r text
+              (subst (AreRead s bs vol used used) (shares_all (usable s r) size_some text)
+              (read_first used (omega arith)))
               (pieces_few (usable s r) size_some (length text) r.reserved fits.2) none_behind,
         )
 
@@ -133,8 +136,8 @@ module _ (s : Sizes) (g : IsGeometry s) (ls : List Laid) (spares : ℕ) (fine : 
         abbrev lone : Laid
         lone = damaged_block (data_pad s r) vol
 
-        lone_at : Holds ls (damaged_block (data_pad s r) vol)
-        lone_at = own.there (damaged_block (data_pad s r) vol) (0, refl)
+        lone_at : Holds ls lone
+        lone_at = own.there lone (0, refl)
 
         lone_used : UsedIs s bs vol 1
         lone_used =

@@ -18,7 +18,7 @@ composed-none m = append-nil (normal_bytes m)
 
 -- by itself it is accepted
 pub alone_accepted : (m : Meant) → IsGeometry m.sizes → IsMeaning m → Accepts (image_of m (normal_bytes m)) m
-alone_accepted m g is = subst (λ bytes. Accepts (image_of m bytes) m) (composed-none m) (normal_accepted m g is 0 (normal_fits m g is))
+alone_accepted m g is = subst (λ bytes. Accepts (image_of m bytes) m) (composed-none m) (normal_accepted m g is 0 (normal_fits m is))
 
 same_image : (s z : Sizes) (xs ys : List ℕ) → s ≡ z → xs ≡ ys → ◌≡◌ {A = Image} (record { sizes = s; bytes = xs }) (record { sizes = z; bytes = ys })
 same_image s z xs ys e f = λ i. record { sizes = e i; bytes = f i }

@@ -55,9 +55,6 @@ module _ (s : Sizes) (pad vol lnum : ℕ) (slot : vol < 128) (number : lnum < 2 
 
   module _ (size used crc : ℕ) (some : 1 ≤ size) (most : size ≤ leb_size s - pad) (wide : leb_size s < 2 ^ 31) (below : lnum < used) (few : used < 2 ^ 31)
       (full : lnum + 1 < used → size ≡ leb_size s - pad) where
-    header : VidHeader
-    header = record (plain kind.Static 0 pad vol lnum) { data_size = size; used_ebs = used; data_crc = crc }
-
     pub static_sound : vid_fault s (record (plain kind.Static 0 pad vol lnum) { data_size = size; used_ebs = used; data_crc = crc }) ≡ None
     unfolding first_fault breaks fields_from
     static_sound = grind (arith, nat_tests)

@@ -5,6 +5,7 @@ use Rattle.std.specs.List.{AllByRecursion, concat}
 use Rattle.std.specs.Simd.{first_chunks}
 use Rattle.std.proofs.Math.Nat.{mul-add-mod_self_right}
 use Rattle.std.proofs.lemmas.List.{get_or-append_right, get_or-replicate, length-map, length-replicate, append_assoc}
+use Rattle.std.proofs.lemmas.List.Concat.{concat_is}
 use Rattle.std.proofs.lemmas.Nat.{div-mul-add, mul-le}
 use Rattle.std.proofs.lemmas.Option.{get_or_from_slice_get, slice_get-map, slice_get_cases, slice_get_within}
 use Rattle.ubi_media.specs.Geometry.{IsGeometry, Sizes}
@@ -26,9 +27,6 @@ use Rattle.ubi_compose.proofs.Spares.{length-spare, named-spare, seq-spare, soun
 abbrev pub image_blocks : Sizes → List Laid → ℕ → List (List ℕ)
 image_blocks s ls spares = map (laid_bytes s new_ec) ls ++ replicate spares (spare s)
 
-within_or_out : (l n : ℕ) → (l < n) ⊎ (n ≤ l)
-within_or_out l n = grind arith
-
 concat_append : (xs ys : List (List ℕ)) → concat (xs ++ ys) ≡ concat xs ++ concat ys
 concat_append [] ys = refl
 concat_append (x ∷ xs) ys = ap (λ z. x ++ z) (concat_append xs ys) ∙ sym (append_assoc x (concat xs) (concat ys))
@@ -36,10 +34,6 @@ concat_append (x ∷ xs) ys = ap (λ z. x ++ z) (concat_append xs ys) ∙ sym (a
 concat_map : {X : Type 0} (f : X → List ℕ) (xs : List X) → concat (map f xs) ≡ flat_map f xs
 concat_map f [] = refl
 concat_map f (x ∷ xs) = ap (λ z. f x ++ z) (concat_map f xs)
-
-concat_is : (xs : List (List ℕ)) → concat xs ≡ flat_map (λ x. x) xs
-concat_is [] = refl
-concat_is (x ∷ xs) = ap (λ z. x ++ z) (concat_is xs)
 
 -- their bytes
 pub concat-image_blocks : (s : Sizes) (ls : List Laid) (spares : ℕ)

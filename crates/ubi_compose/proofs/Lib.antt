@@ -9,6 +9,7 @@ pub mod Headers
 pub mod Image
 pub mod Lists
 pub mod Normal
+pub mod NormalVectors
 pub mod Padding
 pub mod Parts
 pub mod Pieces

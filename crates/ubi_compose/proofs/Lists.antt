@@ -49,12 +49,6 @@ module _ {X : Type 0} where
   slice_get_left (x ∷ xs) ys zero h = refl
   slice_get_left (x ∷ xs) ys (suc p) h = slice_get_left xs ys p (omega arith)
 
-  pub slice_get_right : (xs ys : List X) (p : ℕ) → slice_get (xs ++ ys) (length xs + p) ≡ slice_get ys p
-  slice_get_right [] ys p = ap (slice_get ys) (omega arith)
-  slice_get_right (x ∷ xs) ys p =
-      let next : suc (length xs) + p ≡ suc (length xs + p) = omega arith in
-      ap (slice_get (x ∷ (xs ++ ys))) next ∙ slice_get_right xs ys p
-
 module _ {X Y : Type 0} (f : X → Y) where
   pub holds_map : (xs : List X) (x : X) → Holds xs x → Holds (map f xs) (f x)
   holds_map xs x h = (h.0, slice_get-map f xs h.0 ∙ ap (option_map f) h.1)

@@ -8,7 +8,7 @@ use Rattle.std.specs.Ordering.{nat_cmp}
 use Rattle.std.proofs.lemmas.List.{length-append, length-map}
 use Rattle.std.proofs.lemmas.Grind.{flat_map-append}
 use Rattle.std.proofs.lemmas.List.FromFn.{length-map-range_with_len}
-use Rattle.ubi_media.specs.Geometry.{IsGeometry, Sizes}
+use Rattle.ubi_media.specs.Geometry.{Sizes}
 use Rattle.ubi_media.specs.Record.{data_pad, usable}
 use Rattle.ubi_media.proofs.Records.{usable_some}
 use Rattle.ubi_volume.specs.Meant.{Fits, IsMeaning, IsVolume, Meant}
@@ -46,15 +46,15 @@ few_lebs lebs n size h =
     let few = few_rising (λ (e : ℕ × List ℕ). e.0) es 0 n (omega arith) (entries_rise es (finite.entries_sorted lebs)) from below in
     omega arith
 
-pub few_by : (s : Sizes) → IsGeometry s → (vol : ℕ) (v : Volume) → IsVolume s vol v → (c : Content) → Fits s v.entry c → length (volume_blocks s vol v.entry c) ≤ v.entry.reserved
-few_by s g vol v is content.Updating fits = omega arith
-few_by s g vol v is content.Damaged fits = reserved_some s v.entry is.sound
-few_by s g vol v is (content.Static text) fits =
+few_by : (s : Sizes) (vol : ℕ) (v : Volume) → IsVolume s vol v → (c : Content) → Fits s v.entry c → length (volume_blocks s vol v.entry c) ≤ v.entry.reserved
+few_by s vol v is content.Updating fits = omega arith
+few_by s vol v is content.Damaged fits = reserved_some s v.entry is.sound
+few_by s vol v is (content.Static text) fits =
     let size : ℕ = usable s v.entry in
     let used : ℕ = pieces size (length text) in
     let n : length (volume_blocks s vol v.entry (content.Static text)) ≡ used = length-map-range_with_len (λ lnum. static_block (data_pad s v.entry) vol used lnum (share size text lnum)) 0 used in
     omega (arith, n, pieces_few size (usable_some s v.entry is.sound) (length text) v.entry.reserved fits.2)
-few_by s g vol v is (content.Dynamic lebs) fits =
+few_by s vol v is (content.Dynamic lebs) fits =
     let n : length (volume_blocks s vol v.entry (content.Dynamic lebs)) ≡ length (finite.entries lebs) = length-map (finite.entries lebs) (dynamic_block (data_pad s v.entry) vol) in
     omega (arith, n, few_lebs lebs v.entry.reserved (usable s v.entry) fits.2)
 
@@ -76,19 +76,19 @@ prefix_few s es i =
     let both = ap length cut ∙ length-append (blocks_of s (take i es)) (blocks_of s (drop i es)) in
     omega arith
 
-pub normal_fits : (m : Meant) → IsGeometry m.sizes → IsMeaning m → HasRoom m 0
-normal_fits m g is =
+pub normal_fits : (m : Meant) → IsMeaning m → HasRoom m 0
+normal_fits m is =
     let es = finite.entries m.volumes in
     let each = all_from (λ (e : ℕ × Volume). length (volume_blocks m.sizes e.0 e.1.entry e.1.content) ≤ e.1.entry.reserved) es (λ e at.
     let v = volume_is m is e.0 e.1 (held_entry m.volumes e at) in
-    few_by m.sizes g e.0 e.1 v e.1.content v.fits) in
+    few_by m.sizes e.0 e.1 v e.1.content v.fits) in
     let few = few_all m.sizes es 0 each in
     let room = is.space in
     omega arith
 
 -- the eraseblocks of the first volumes fit it too
-pub first_fit : (m : Meant) → IsGeometry m.sizes → IsMeaning m → (i : ℕ) → 2 + length (blocks_of m.sizes (take i (finite.entries m.volumes))) ≤ m.sizes.pebs
-first_fit m g is i =
-    let all : length (normal_blocks m) + 0 ≤ m.sizes.pebs = normal_fits m g is in
+pub first_fit : (m : Meant) → IsMeaning m → (i : ℕ) → 2 + length (blocks_of m.sizes (take i (finite.entries m.volumes))) ≤ m.sizes.pebs
+first_fit m is i =
+    let all : length (normal_blocks m) + 0 ≤ m.sizes.pebs = normal_fits m is in
     let few = prefix_few m.sizes (finite.entries m.volumes) i in
     omega arith

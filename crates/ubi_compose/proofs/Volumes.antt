@@ -38,7 +38,7 @@ module _ (s : Sizes) (g : IsGeometry s) (vol : ℕ) (v : Volume) (is : IsVolume 
   slot_small = let l = is.slot in omega arith
 
   pad_small : data_pad s v.entry < 2 ^ 31
-  pad_small = let h = half_pad s g v.entry is.sound in omega (arith, g.peb_to)
+  pad_small = let h = half_pad s v.entry is.sound g in omega (arith, g.peb_to)
 
   size_some : 1 ≤ usable s v.entry
   size_some = usable_some s v.entry is.sound
@@ -48,7 +48,7 @@ module _ (s : Sizes) (g : IsGeometry s) (vol : ℕ) (v : Volume) (is : IsVolume 
       let held : (e.0 < v.entry.reserved) × (length e.1 ≡ usable s v.entry) = subst (λ (o : Option (List ℕ)). IfSome o (λ text. (e.0 < v.entry.reserved) × (length text ≡ usable s v.entry))) (held_entry lebs e h) (fits.2 e.0) in
       let size = held.1 in
       let number : e.0 < 2 ^ 31 = let below = held.0 in let wide = reserved_within s v.entry is.sound in omega arith in
-      let half = half_pad s g v.entry is.sound in
+      let half = half_pad s v.entry is.sound g in
       record {
         room = omega (arith, g.leb);
         fits = dynamic_fits s (data_pad s v.entry) vol e.0 slot_small number half pad_small;
@@ -67,7 +67,7 @@ module _ (s : Sizes) (g : IsGeometry s) (vol : ℕ) (v : Volume) (is : IsVolume 
       let piece' : List ℕ = share size text lnum in
       let few : used ≤ v.entry.reserved = pieces_few size size_some (length text) v.entry.reserved fits.2 in
       let wide = reserved_within s v.entry is.sound in
-      let half = half_pad s g v.entry is.sound in
+      let half = half_pad s v.entry is.sound g in
       let most : length piece' ≤ size = share_most size size_some text lnum in
       let some : 1 ≤ length piece' = share_some size size_some text lnum below in
       let number : lnum < 2 ^ 31 = omega arith in
@@ -85,7 +85,7 @@ module _ (s : Sizes) (g : IsGeometry s) (vol : ℕ) (v : Volume) (is : IsVolume 
 
   fine_damaged : IsFine s (damaged_block (data_pad s v.entry) vol)
   fine_damaged =
-      let half = half_pad s g v.entry is.sound in
+      let half = half_pad s v.entry is.sound g in
       let limit : leb_size s < 2 ^ 31 = omega (arith, g.peb_to) in
       let most = size_some in
       record {

@@ -14,7 +14,7 @@ NormalAccepted =
 
 -- it fits the device
 abbrev pub NormalFits : Type 0
-NormalFits = (m : Meant) → IsGeometry m.sizes → IsMeaning m → HasRoom m 0
+NormalFits = (m : Meant) → IsMeaning m → HasRoom m 0
 
 -- two meanings of one geometry are the same exactly if their normal images are
 abbrev pub NormalForm : Type 0

@@ -11,3 +11,6 @@ mod volume;
 
 pub use composing::{compose, normalise};
 pub use errors::{ComposeError, SameError};
+
+#[cfg(test)]
+mod tests;

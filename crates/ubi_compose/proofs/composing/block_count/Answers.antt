@@ -25,7 +25,7 @@ overflow_add-count c =
     (c.numbered-item.is ∙ ap (λ xs. get_or xs i item) c.volumes-numbered-items.ensures.value)
     (c.volume_count-count.ensures ∙ ap (λ s. length (volume_blocks s item.0 item.1.entry item.1.content)) c.geometry-geometry.ensures.value)
     c.loop-numbered.invariant in
-    let few = first_fit m c.geometry-geometry.ensures.limits c.geometry-geometry.ensures.meaning (i + 1) in
+    let few = first_fit m c.geometry-geometry.ensures.meaning (i + 1) in
     omega (arith, more, few, c.geometry-geometry.ensures.limits.pebs_to)
 
 pub loop-numbered-preserved : goal.loop-numbered-preserved

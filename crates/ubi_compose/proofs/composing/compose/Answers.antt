@@ -8,7 +8,7 @@ use Rattle.ubi_compose.proofs.composing.compose.Goals as goal
 pub overflow_add-count : goal.overflow_add-count
 overflow_add-count c =
     let g = c.geometry-geometry.ensures.limits in
-    let fits = normal_fits c.args.meaning.now g c.geometry-geometry.ensures.meaning in
+    let fits = normal_fits c.args.meaning.now c.geometry-geometry.ensures.meaning in
     omega (arith, fits, g.pebs_to, c.block_count.ensures)
 
 pub returns-clause-bytes : goal.returns-clause-bytes
