@@ -37,7 +37,8 @@ some_same a b e = cc
 -- the erase-counter header of each eraseblock of a normal image
 pub new_ec_back : (s : Sizes) → IsGeometry s → ec_reading s (ec_bytes s new_ec) ≡ ec_read.Valid new_ec
 new_ec_back s g =
-    sym ((one_ec_reading s (ec_bytes s new_ec) (ec_read.Valid new_ec)).0 (ec_read_back s new_ec (omega (arith, g.data_from, g.leb, g.peb_to)) (omega (arith, g.leb, g.peb_to)) (omega arith) (omega arith)))
+    sym ((one_ec_reading s (ec_bytes s new_ec) (ec_read.Valid new_ec)).0
+    (ec_read_back s new_ec (omega (arith, g.data_from, g.leb, g.peb_to)) (omega (arith, g.leb, g.peb_to)) (omega arith) (omega arith)))
 
 module _ (s : Sizes) (g : IsGeometry s) (l : Laid) (fine : IsFine s l) where
   ec_size : length (ec_bytes s new_ec) ≡ 64

@@ -22,7 +22,7 @@ use Rattle.ubi_volume.specs.Reading.{pieces, share}
 use Rattle.ubi_volume.specs.Reads.{LebReads, VolumeReads}
 use Rattle.ubi_volume.specs.declared.content.Content.TheVariants as content
 use Rattle.ubi_volume.proofs.Static.{damaged_piece, piece_checked, piece_unchecked, read_more, read_none, static_reads}
-use Rattle.ubi_compose.specs.Normal.{Laid, damaged_block, dynamic_block, static_block, volume_blocks}
+use Rattle.ubi_compose.specs.Normal.{Laid, damaged_block, dynamic_block, static_part, volume_blocks}
 use Rattle.ubi_compose.proofs.Apart.{AreApart}
 use Rattle.ubi_compose.proofs.Blocks.{IsFine, leb-laid_bytes, member-laid_bytes}
 use Rattle.ubi_compose.proofs.Image.{block_laid, image_blocks, image_clean, laid_wins, none_laid}
@@ -44,10 +44,10 @@ module _ (s : Sizes) (g : IsGeometry s) (ls : List Laid) (spares : ℕ) (fine : 
   bs = image_blocks s ls spares
 
   -- an eraseblock that is laid out begins with its text
-  text_at : (p : ℕ) (l : Laid) → slice_get ls p ≡ Some l → leb s (block bs p) ≡ l.text ++ blank (s.peb_size - (s.data_offset + length l.text))
+  pub text_at : (p : ℕ) (l : Laid) → slice_get ls p ≡ Some l → leb s (block bs p) ≡ l.text ++ blank (s.peb_size - (s.data_offset + length l.text))
   text_at p l e = ap (leb s) (block_laid s g ls spares fine p l e) ∙ leb-laid_bytes s g l (all_at (IsFine s) ls p l fine e)
 
-  header_at : (p : ℕ) (l : Laid) → slice_get ls p ≡ Some l → member s (block bs p) ≡ Some l.header
+  pub header_at : (p : ℕ) (l : Laid) → slice_get ls p ≡ Some l → member s (block bs p) ≡ Some l.header
   header_at p l e = ap (member s) (block_laid s g ls spares fine p l e) ∙ member-laid_bytes s g l (all_at (IsFine s) ls p l fine e)
 
   module _ (vol : ℕ) (r : VolumeRecord) where
@@ -89,7 +89,7 @@ module _ (s : Sizes) (g : IsGeometry s) (ls : List Laid) (spares : ℕ) (fine : 
         used = pieces (usable s r) (length text)
 
         abbrev part : ℕ → Laid
-        part lnum = static_block (data_pad s r) vol used lnum (share (usable s r) text lnum)
+        part lnum = static_part (data_pad s r) (usable s r) vol text lnum
 
         part_at : (lnum : ℕ) → lnum < used → Holds ls (part lnum)
         part_at lnum below =
@@ -141,7 +141,8 @@ module _ (s : Sizes) (g : IsGeometry s) (ls : List Laid) (spares : ℕ) (fine : 
 
         lone_used : UsedIs s bs vol 1
         lone_used =
-            inr (0, lone_at.0, laid_wins s g ls spares fine lone_at.0 lone lone_at.1, ap (λ (o : Option VidHeader). option_map_or (λ h. h.used_ebs) o 0) (header_at lone_at.0 lone lone_at.1))
+            let used = ap (λ (o : Option VidHeader). option_map_or (λ h. h.used_ebs) o 0) (header_at lone_at.0 lone lone_at.1) in
+            inr (0, lone_at.0, laid_wins s g ls spares fine lone_at.0 lone lone_at.1, used)
 
         lone_text : (255 ∷ []) ≡ take 1 (leb s (block bs lone_at.0))
         lone_text =

@@ -7,11 +7,11 @@ use Rattle.ubi_media.specs.Record.{data_pad, usable}
 use Rattle.ubi_media.specs.declared.record.VolumeRecord.{VolumeRecord}
 use Rattle.ubi_scan.specs.Members.{Leb, layout}
 use Rattle.ubi_volume.specs.Meant.{IsMeaning, IsVolume, Meant}
-use Rattle.ubi_volume.specs.Reading.{pieces, share}
+use Rattle.ubi_volume.specs.Reading.{pieces}
 use Rattle.ubi_volume.specs.declared.content.Content.{Content}
 use Rattle.ubi_volume.specs.declared.content.Content.TheVariants as content
 use Rattle.ubi_volume.specs.declared.content.Volume.{Volume}
-use Rattle.ubi_compose.specs.Normal.{Laid, blocks_of, dynamic_block, layout_block, normal_blocks, static_block, volume_blocks}
+use Rattle.ubi_compose.specs.Normal.{Laid, blocks_of, dynamic_block, layout_block, normal_blocks, static_part, volume_blocks}
 use Rattle.ubi_compose.proofs.Apart.{AreApart, Differ}
 use Rattle.ubi_compose.proofs.Blocks.{IsFine}
 use Rattle.ubi_compose.proofs.Headers.{layout_fits, layout_placed, layout_sound}
@@ -26,7 +26,7 @@ apart_volume s vol r content.Updating = tt
 apart_volume s vol r content.Damaged = (tt, tt)
 apart_volume s vol r (content.Static text) =
     let used : ℕ = pieces (usable s r) (length text) in
-    apart_map (λ k. k) (λ lnum. static_block (data_pad s r) vol used lnum (share (usable s r) text lnum)) (range_with_len 0 used) (λ x. refl) (range_rises 0 used)
+    apart_map (λ k. k) (static_part (data_pad s r) (usable s r) vol text) (range_with_len 0 used) (λ x. refl) (range_rises 0 used)
 apart_volume s vol r (content.Dynamic lebs) =
     apart_map (λ (e : ℕ × List ℕ). e.0) (dynamic_block (data_pad s r) vol) (finite.entries lebs) (λ x. refl) (entries_rise (finite.entries lebs) (finite.entries_sorted lebs))
 

@@ -93,7 +93,7 @@ empty_image : normal_bytes nothing ≡
     ++ copy (0x55424921 ∷ 0x01010005 ∷ 0x7fffefff ∷ 1 ∷ 0 ∷ 0 ∷ 0 ∷ 0 ∷ 0 ∷ 0 ∷ 0 ∷ 0 ∷ 0 ∷ 0 ∷ 0 ∷ 0x1bb34ce4 ∷ [])
 unfolding normal_bytes rec_bytes filled empty_record fields_from check_from remainder
 empty_image =
-    ap (λ (es : List (ℕ × Volume)). laid_bytes small new_ec (layout_block nothing 0) ++ (laid_bytes small new_ec (layout_block nothing 1) ++ flat_map (laid_bytes small new_ec) (blocks_of small es))) no_entries
+    ap (λ (es : List (ℕ × Volume)). flat_map (laid_bytes small new_ec) (layout_block nothing 0 ∷ layout_block nothing 1 ∷ blocks_of small es)) no_entries
     ∙ ap₂ (λ a b. with_records 0 a b ++ (with_records 1 a b ++ [])) (no_record 0) (no_record 1)
 
 empty_size : length (normal_bytes nothing) ≡ 1024

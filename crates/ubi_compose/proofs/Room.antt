@@ -12,12 +12,12 @@ use Rattle.ubi_media.specs.Geometry.{Sizes}
 use Rattle.ubi_media.specs.Record.{data_pad, usable}
 use Rattle.ubi_media.proofs.Records.{usable_some}
 use Rattle.ubi_volume.specs.Meant.{Fits, IsMeaning, IsVolume, Meant}
-use Rattle.ubi_volume.specs.Reading.{pieces, share}
+use Rattle.ubi_volume.specs.Reading.{pieces}
 use Rattle.ubi_volume.specs.declared.content.Content.{Content}
 use Rattle.ubi_volume.specs.declared.content.Content.TheVariants as content
 use Rattle.ubi_volume.specs.declared.content.Volume.{Volume}
 use Rattle.ubi_compose.specs.Composed.{HasRoom}
-use Rattle.ubi_compose.specs.Normal.{blocks_of, dynamic_block, normal_blocks, static_block, volume_blocks}
+use Rattle.ubi_compose.specs.Normal.{blocks_of, dynamic_block, normal_blocks, static_part, volume_blocks}
 use Rattle.ubi_compose.proofs.Lists.{all_from, held_entry}
 use Rattle.ubi_compose.proofs.Padding.{reserved_some}
 use Rattle.ubi_compose.proofs.Pieces.{pieces_few}
@@ -25,7 +25,8 @@ use Rattle.ubi_compose.proofs.Rising.{Rises, entries_rise}
 use Rattle.ubi_compose.proofs.Table.{volume_is}
 
 -- numbers that rise, from k on and below n, are no more than those between
-few_rising : {X : Type 0} (key : X → ℕ) (xs : List X) (k n : ℕ) → k ≤ n → Rises key xs → AllByRecursion (λ x. k ≤ key x) xs → AllByRecursion (λ x. key x < n) xs → k + length xs ≤ n
+few_rising : {X : Type 0} (key : X → ℕ) (xs : List X) (k n : ℕ) → k ≤ n → Rises key xs → AllByRecursion (λ x. k ≤ key x) xs
+    → AllByRecursion (λ x. key x < n) xs → k + length xs ≤ n
 few_rising key [] k n h rises from below = omega arith
 few_rising {X = X} key (x ∷ xs) k n h rises from below =
     let first = from.0 in
@@ -37,7 +38,8 @@ few_rising {X = X} key (x ∷ xs) k n h rises from below =
     above [] h = tt
     above (y ∷ ys) h = ((let l = h.0 in omega arith), above ys h.1)
 
-few_lebs : (lebs : FinMap nat_cmp (List ℕ)) (n size : ℕ) → ((lnum : ℕ) → IfSome (finite.get lebs lnum) (λ text. (lnum < n) × (length text ≡ size))) → length (finite.entries lebs) ≤ n
+few_lebs : (lebs : FinMap nat_cmp (List ℕ)) (n size : ℕ) → ((lnum : ℕ) → IfSome (finite.get lebs lnum) (λ text. (lnum < n) × (length text ≡ size)))
+    → length (finite.entries lebs) ≤ n
 few_lebs lebs n size h =
     let es = finite.entries lebs in
     let below : AllByRecursion (λ (e : ℕ × List ℕ). e.0 < n) es = all_from (λ (e : ℕ × List ℕ). e.0 < n) es (λ e at.
@@ -52,7 +54,7 @@ few_by s vol v is content.Damaged fits = reserved_some s v.entry is.sound
 few_by s vol v is (content.Static text) fits =
     let size : ℕ = usable s v.entry in
     let used : ℕ = pieces size (length text) in
-    let n : length (volume_blocks s vol v.entry (content.Static text)) ≡ used = length-map-range_with_len (λ lnum. static_block (data_pad s v.entry) vol used lnum (share size text lnum)) 0 used in
+    let n : length (volume_blocks s vol v.entry (content.Static text)) ≡ used = length-map-range_with_len (static_part (data_pad s v.entry) size vol text) 0 used in
     omega (arith, n, pieces_few size (usable_some s v.entry is.sound) (length text) v.entry.reserved fits.2)
 few_by s vol v is (content.Dynamic lebs) fits =
     let n : length (volume_blocks s vol v.entry (content.Dynamic lebs)) ≡ length (finite.entries lebs) = length-map (finite.entries lebs) (dynamic_block (data_pad s v.entry) vol) in
@@ -64,7 +66,8 @@ few_all s [] n h = omega arith
 few_all s (e ∷ es) n h =
     let own = volume_blocks s e.0 e.1.entry e.1.content in
     let first : length own ≤ e.1.entry.reserved = h.0 in
-    let rest : n + e.1.entry.reserved + length (blocks_of s es) ≤ fold (λ k (v : Volume). k + v.entry.reserved) (n + e.1.entry.reserved) (map (λ (e : ℕ × Volume). e.1) es) = few_all s es (n + e.1.entry.reserved) h.1 in
+    let sum : ℕ = fold (λ k (v : Volume). k + v.entry.reserved) (n + e.1.entry.reserved) (map (λ (e : ℕ × Volume). e.1) es) in
+    let rest : n + e.1.entry.reserved + length (blocks_of s es) ≤ sum = few_all s es (n + e.1.entry.reserved) h.1 in
     let both : length (own ++ blocks_of s es) ≡ length own + length (blocks_of s es) = length-append own (blocks_of s es) in
     omega arith
 

@@ -44,11 +44,12 @@ static_block pad vol used lnum text = record {
 abbrev pub damaged_block : ℕ → ℕ → Laid
 damaged_block pad vol = record { header = record (plain kind.Static 0 pad vol 0) { data_size = 1; used_ebs = 1 }; text = [] }
 
--- the eraseblocks of a static text
+-- a LEB of a static text, which is cut into pieces of a size, and all of them
+abbrev pub static_part : ℕ → ℕ → ℕ → List ℕ → ℕ → Laid
+static_part pad size vol text lnum = static_block pad vol (pieces size (length text)) lnum (share size text lnum)
+
 abbrev pub static_blocks : ℕ → ℕ → ℕ → List ℕ → List Laid
-static_blocks pad size vol text =
-    let used : ℕ = pieces size (length text) in
-    map (λ lnum. static_block pad vol used lnum (share size text lnum)) (range_with_len 0 used)
+static_blocks pad size vol text = map (static_part pad size vol text) (range_with_len 0 (pieces size (length text)))
 
 -- the eraseblocks of a volume: none of one whose update didn't end
 abbrev pub volume_blocks : Sizes → ℕ → VolumeRecord → Content → List Laid
