@@ -10,7 +10,7 @@ ghost use Rattle.ubi_compose.specs.Normal.{blocks_of, laid_bytes, layout_block, 
 
 use crate::errors::ComposeError;
 use crate::header::plain;
-use crate::laying::{NEW, put_blank, put_block};
+use crate::laying::{HEADER_SIZE, NEW, put_blank, put_block};
 use crate::records::table_text;
 use crate::volume::{put_volume, volume_count};
 use std::alloc::{AllocError, Global};
@@ -61,7 +61,7 @@ fn put_spare(image: &mut Vec<u8>, geometry: &Geometry) -> Result<(), AllocError>
     ensures { OnOk result (image.new.items ≡ image.old.items ++ spare geometry.now) }
 {
     image.extend_from_slice(&write_ec(geometry, &NEW))?;
-    put_blank(image, geometry.peb_size() - 64)
+    put_blank(image, geometry.peb_size() - HEADER_SIZE)
 }
 
 /// Adds so many of them.

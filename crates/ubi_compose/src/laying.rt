@@ -9,7 +9,7 @@ use std::alloc::AllocError;
 use ubi_media::{EcHeader, Geometry, VidHeader, write_ec, write_vid};
 
 /// The bytes of a header.
-const HEADER_SIZE: u32 = 64;
+pub const HEADER_SIZE: u32 = 64;
 
 /// The erase counter of an eraseblock that was never erased, in no image.
 pub const NEW: EcHeader = EcHeader {

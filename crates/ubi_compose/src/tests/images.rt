@@ -33,18 +33,18 @@ const LEBS: [[u8; 64]; 3] = [
 ];
 
 /// The header of the one eraseblock of the damaged volume 0: one byte, whose check isn't 0.
-pub const DAMAGED: [u8; 64] = *b"UBI!\x01\x02\0\0\
+const DAMAGED: [u8; 64] = *b"UBI!\x01\x02\0\0\
     \0\0\0\0\0\0\0\0\0\0\0\0\0\0\0\x01\0\0\0\x01\0\0\0\0\0\0\0\0\0\0\0\0\
     \0\0\0\0\0\0\0\0\0\0\0\0\0\0\0\0\0\0\0\0\xa3\xb7\xf9\x8b";
 
 /// The first bytes and the check of the record of a dynamic volume `root` with 20 reserved eraseblocks.
-pub const ROOT: ([u8; 20], [u8; 4]) = (
+const ROOT: ([u8; 20], [u8; 4]) = (
     *b"\0\0\0\x14\0\0\0\x01\0\0\0\0\x01\0\0\x04root",
     [0x71, 0xDF, 0xB1, 0x1D],
 );
 
 /// Those of a static volume `boot` with 3 reserved eraseblocks.
-pub const BOOT: ([u8; 20], [u8; 4]) = (
+const BOOT: ([u8; 20], [u8; 4]) = (
     *b"\0\0\0\x03\0\0\0\x01\0\0\0\0\x02\0\0\x04boot",
     [0x5F, 0xAB, 0xAC, 0xF8],
 );
@@ -69,7 +69,7 @@ fn records(alloc: Global, first: ([u8; 20], [u8; 4])) -> Result<Vec<u8>, AllocEr
 }
 
 /// Adds an eraseblock: its headers, its data, and 0xFF behind them.
-pub fn put_block(
+fn put_block(
     image: &mut Vec<u8>,
     ec: &[u8; 64],
     vid: &[u8; 64],
@@ -79,6 +79,11 @@ pub fn put_block(
     image.extend_from_slice(vid)?;
     image.extend_from_slice(data)?;
     image.extend_from_slice(&[0xFF; 384][data.len().min(384)..])
+}
+
+/// Adds an eraseblock with nothing but its erase-counter header.
+pub fn put_spare(image: &mut Vec<u8>) -> Result<(), AllocError> {
+    put_block(image, &EC, &[0xFF; 64], &[])
 }
 
 /// The normal image of a table alone.
