@@ -1,5 +1,7 @@
 pub mod Alike
+pub mod Arranged
 pub mod Blanks
+pub mod Causes
 pub mod Dynamic
 pub mod Either
 pub mod Exits
@@ -17,4 +19,6 @@ pub mod SomeMismatch
 pub mod Static
 pub mod Tables
 pub mod Winners
+pub mod Within
+pub mod WithoutBlank
 pub mod Written

@@ -12,3 +12,4 @@ pub mod Reading
 pub mod Writing
 pub mod Probe
 pub mod Coded
+pub mod Made

@@ -1,13 +1,15 @@
 //! What a volume reads.
 
-ghost use Rattle.std.specs.Prelude.{◌≡◌, OnErr, OnOk, length};
+ghost use Rattle.std.specs.Prelude.{◌≡◌, ◌↔◌, ◌<◌, ℕ, IfSome, IsTrue, OnErr, OnOk, length};
 ghost use Rattle.std.specs.FinMap as finite;
+ghost use Rattle.std.specs.List.{list_all};
 ghost use Rattle.std.specs.Option.{option_copied};
+ghost use Rattle.ubi_volume.specs.Made.{is_within, lebs_without_blank, without_blank};
 
 use std::alloc::{AllocError, Global};
 use std::collections::BTreeMap;
 use std::marker::Model;
-use ubi_media::VolumeRecord;
+use ubi_media::{VolumeRecord, is_blank};
 
 /// Bytes that are kept.
 #[derive(Drop)]
@@ -68,6 +70,13 @@ impl Model for Lebs {
     ghost invariant = { λ l. IsOrdered nat_cmp l.held };
 }
 
+/// Whether each of some logical eraseblocks has a number below `reserved`, and `size` bytes.
+fn are_within(held: &BTreeMap<u32, Bytes>, reserved: u32, size: u32) -> bool
+    ensures { result ≡ list_all (is_within reserved size) held.now.entries }
+{
+    held.iter().all(|(lnum, bytes)| *lnum < reserved && bytes.as_slice().len() == size as usize)
+}
+
 impl Lebs {
     /// None yet.
     pub fn new(alloc: Global) -> Lebs
@@ -104,6 +113,20 @@ impl Lebs {
         self.held.insert(lnum, bytes)?;
         Ok(())
     }
+
+    /// Whether each that is kept has a number below `reserved`, and `size` bytes.
+    pub(crate) fn are_within(&self, reserved: u32, size: u32) -> bool
+        ensures { IsTrue result ↔ ((lnum : ℕ) → IfSome (finite.get self.now lnum) (λ text. (lnum < reserved) × (length text ≡ size))) }
+    {
+        are_within(&self.held, reserved, size)
+    }
+
+    /// Drops those that are 0xFF throughout.
+    pub(crate) fn drop_blank(&mut self)
+        ensures { self.new ≡ lebs_without_blank self.old }
+    {
+        self.held.retain(|_, bytes| !is_blank(bytes.as_slice()));
+    }
 }
 
 /// What a volume reads.
@@ -118,6 +141,18 @@ pub enum Content {
     /// The logical eraseblocks of a dynamic volume, each of as many bytes as the volume uses. One that isn't there reads
     /// 0xFF throughout.
     Dynamic(Lebs),
+}
+
+impl Content {
+    /// Drops the logical eraseblocks that are 0xFF throughout.
+    pub(crate) fn drop_blank(&mut self)
+        ensures { self.new ≡ without_blank self.old }
+    {
+        match self {
+            Content::Dynamic(lebs) => lebs.drop_blank(),
+            _ => {}
+        }
+    }
 }
 
 /// A volume: its record, and what it reads.

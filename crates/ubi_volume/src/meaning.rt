@@ -1,10 +1,13 @@
 //! What an image means.
 
-ghost use Rattle.std.specs.Prelude.{◌≡◌, ◌==◌, find, option_copied};
+ghost use Rattle.std.specs.Prelude.{◌≡◌, ◌==◌, IfErr, IfOk, find, option_copied};
 ghost use Rattle.std.specs.FinMap as finite;
+ghost use Rattle.ubi_volume.specs.Made.{IsFirst, NoCause, meaning_of};
 ghost use Rattle.ubi_volume.specs.Meant.{AreVolumes, IsMeaning, VolumeMap};
 
 use crate::content::Volume;
+use crate::errors::MeaningError;
+use crate::making::{arranged, first_cause};
 use std::marker::Model;
 use ubi_media::Geometry;
 
@@ -18,6 +21,7 @@ pub struct Meaning {
 
 impl Model for Meaning {
     ghost use Rattle.std.specs.FinMap as finite;
+    ghost use Rattle.ubi_volume.specs.Made.{IsFirst, NoCause, meaning_of};
     ghost use Rattle.ubi_volume.specs.Meant.{AreVolumes, Meant, meant_code};
 
     ghost Value = { Meant };
@@ -43,6 +47,25 @@ impl Meaning {
         ensures { result ≡ record { sizes = geometry; volumes = finite.from_entries volumes.items } }
     {
         Meaning { geometry, volumes }
+    }
+
+    /// The meaning of volumes, each with its number. The logical eraseblocks of a dynamic volume that are 0xFF throughout
+    /// are taken out. It takes no memory.
+    ///
+    /// # Errors
+    ///
+    /// The first cause for which the volumes have none together, in the order of [`MeaningCause`](crate::MeaningCause),
+    /// with the volumes as they were.
+    pub fn new(geometry: &Geometry, volumes: Vec<(u32, Volume)>) -> Result<Meaning, MeaningError>
+        ensures made { IfOk result (λ m. NoCause geometry.now volumes.items × (m ≡ meaning_of geometry.now volumes.items)) }
+        ensures cause { IfErr result (λ e. IsFirst geometry.now volumes.items e.cause) }
+        ensures returned { IfErr result (λ e. e.volumes.items ≡ volumes.items) }
+        ensures meaning { IfOk result IsMeaning }
+    {
+        match first_cause(geometry, volumes.as_slice()) {
+            Some(cause) => Err(MeaningError { cause, volumes }),
+            None => Ok(Meaning::of(*geometry, arranged(volumes))),
+        }
     }
 
     /// The geometry of the device.
