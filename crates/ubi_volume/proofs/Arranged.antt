@@ -93,9 +93,13 @@ module _ (s : Sizes) (r : VolumeRecord) where
   fits_without_blank content.Updating f = f
   fits_without_blank content.Damaged f = f
   fits_without_blank (content.Static text) f = f
-  fits_without_blank (content.Dynamic lebs) f = (f.0, f.1, λ lnum.
-      let P : List ℕ → Type 0 = λ text. (lnum < r.reserved) × (length text ≡ usable s r) in
-      subst (λ (o : Option (List ℕ)). IfSome o P) (sym (get_without_blank lebs lnum)) (kept_if P (is_kept lebs lnum) (finite.get lebs lnum) (f.2 lnum)))
+  fits_without_blank (content.Dynamic lebs) f = (
+    f.0,
+    f.1,
+    λ lnum.
+        let P : List ℕ → Type 0 = λ text. (lnum < r.reserved) × (length text ≡ usable s r) in
+        subst (λ (o : Option (List ℕ)). IfSome o P) (sym (get_without_blank lebs lnum)) (kept_if P (is_kept lebs lnum) (finite.get lebs lnum) (f.2 lnum)),
+  )
 
   not_blank : (lebs : LebMap) (lnum : ℕ) (o : Option (List ℕ)) → finite.get lebs lnum ≡ o
       → IfSome (cond (not (is_blank (unwrap_or o []))) o None) (λ text. text ≢ blank (usable s r))
@@ -185,6 +189,7 @@ keyed es i d l = by (slice_get es i) refl
   where
     at : option_map (λ (x : Item). x.0) (slice_get es i) ≡ Some (get_or (keys_of es) i d)
     at = sym (slice_get-map (λ (x : Item). x.0) es i) ∙ slice_get-get_or (keys_of es) i d l
+
     by : (o : Option Item) → slice_get es i ≡ o → (x : Item) × IsItem es i x × (x.0 ≡ get_or (keys_of es) i d)
     by None e = absurd (no_some _ (sym (ap (option_map (λ (x : Item). x.0)) e) ∙ at))
     by (Some x) e = (x, e, some_same x.0 _ (sym (ap (option_map (λ (x : Item). x.0)) e) ∙ at))
@@ -227,6 +232,7 @@ module _ (s : Sizes) (items : Items) (none : NoCause s items) where
     where
       from : option_map item_without_blank (slice_get items i) ≡ Some x
       from = sym (slice_get-map item_without_blank items i) ∙ at
+
       by : (o : Option Item) → slice_get items i ≡ o → (w : Item) × IsItem items i w × (item_without_blank w ≡ x)
       by None e = absurd (no_some x (sym (ap (option_map item_without_blank) e) ∙ from))
       by (Some w) e = (w, e, some_same (item_without_blank w) x (sym (ap (option_map item_without_blank) e) ∙ from))

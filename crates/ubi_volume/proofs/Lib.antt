@@ -4,6 +4,7 @@ pub mod Blanks
 pub mod Causes
 pub mod Dynamic
 pub mod Either
+pub mod Equal
 pub mod Exits
 pub mod Gathered
 pub mod LebsText

@@ -13,3 +13,5 @@ pub mod Writing
 pub mod Probe
 pub mod Coded
 pub mod Made
+pub mod EqualLebs
+pub mod EqualMeanings

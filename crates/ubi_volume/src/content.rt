@@ -1,13 +1,15 @@
 //! What a volume reads.
 
-ghost use Rattle.std.specs.Prelude.{◌≡◌, ◌↔◌, ◌<◌, ℕ, IfSome, IsTrue, OnErr, OnOk, length};
+ghost use Rattle.std.specs.Prelude.{◌≡◌, ◌↔◌, ◌<◌, ℕ, List, IfSome, IsTrue, OnErr, OnOk, length};
 ghost use Rattle.std.specs.FinMap as finite;
 ghost use Rattle.std.specs.List.{list_all};
+ghost use Rattle.std.specs.Map.Iter.{ShowsInOrder, deref_pair};
 ghost use Rattle.std.specs.Option.{option_copied};
 ghost use Rattle.ubi_volume.specs.Made.{is_within, lebs_without_blank, without_blank};
 
 use std::alloc::{AllocError, Global};
 use std::collections::BTreeMap;
+use std::collections::btree_map::Iter;
 use std::marker::Model;
 use ubi_media::{VolumeRecord, is_blank};
 
@@ -48,6 +50,20 @@ impl Bytes {
     }
 }
 
+impl PartialEq for Bytes {
+    ghost use Rattle.std.specs.Prelude.{◌==◌};
+    ghost use Rattle.std.specs.Cmp.{partial_equiv_from_equiv};
+    ghost use Rattle.std.specs.Cmp.Lexicographic.{nat_list_eq_equiv, pointwise};
+
+    ghost eq = { pointwise ◌==◌ };
+
+    ghost laws = { partial_equiv_from_equiv nat_list_eq_equiv };
+
+    fn eq(&self, other: &Bytes) -> bool {
+        self.as_slice() == other.as_slice()
+    }
+}
+
 /// Logical eraseblocks of a volume, by their number.
 #[derive(Drop)]
 pub struct Lebs {
@@ -68,6 +84,18 @@ impl Model for Lebs {
     ghost view = { λ l. finite.from_entries l.held.entries };
 
     ghost invariant = { λ l. IsOrdered nat_cmp l.held };
+}
+
+impl PartialEq for Lebs {
+    ghost use Rattle.ubi_volume.specs.EqualLebs.{same_lebs, same_lebs_per};
+
+    ghost eq = { same_lebs };
+
+    ghost laws = { same_lebs_per };
+
+    fn eq(&self, other: &Lebs) -> bool {
+        self.held == other.held
+    }
 }
 
 /// Whether each of some logical eraseblocks has a number below `reserved`, and `size` bytes.
@@ -92,6 +120,14 @@ impl Lebs {
         ensures { option_copied result ≡ finite.get self.now lnum }
     {
         self.held.get(&lnum)
+    }
+
+    /// Each that is kept, behind its number, by rising number.
+    pub fn iter(&self) -> Iter<'_, u32, Bytes>
+        ensures rest { result ≡ finite.entries self.now }
+        ensures runs { ShowsInOrder (deref_pair {K = ℕ} {X = List ℕ}) }
+    {
+        self.held.iter()
     }
 
     /// How many are kept.
@@ -130,7 +166,7 @@ impl Lebs {
 }
 
 /// What a volume reads.
-#[derive(Drop)]
+#[derive(Drop, PartialEq)]
 pub enum Content {
     /// An update of the volume began that didn't end: it can't be read.
     Updating,
@@ -156,7 +192,7 @@ impl Content {
 }
 
 /// A volume: its record, and what it reads.
-#[derive(Drop)]
+#[derive(Drop, PartialEq)]
 pub struct Volume {
     /// Its record in the volume table.
     pub entry: VolumeRecord,

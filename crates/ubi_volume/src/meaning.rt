@@ -1,7 +1,8 @@
 //! What an image means.
 
-ghost use Rattle.std.specs.Prelude.{◌≡◌, ◌==◌, IfErr, IfOk, find, option_copied};
+ghost use Rattle.std.specs.Prelude.{◌≡◌, ◌==◌, ◌↔◌, IfErr, IfOk, IsTrue, find, option_copied};
 ghost use Rattle.std.specs.FinMap as finite;
+ghost use Rattle.ubi_volume.specs.EqualMeanings.{same_meaning};
 ghost use Rattle.ubi_volume.specs.Made.{IsFirst, NoCause, meaning_of};
 ghost use Rattle.ubi_volume.specs.Meant.{AreVolumes, IsMeaning, VolumeMap};
 
@@ -22,6 +23,7 @@ pub struct Meaning {
 impl Model for Meaning {
     ghost use Rattle.std.specs.FinMap as finite;
     ghost use Rattle.ubi_volume.specs.Made.{IsFirst, NoCause, meaning_of};
+    ghost use Rattle.ubi_volume.specs.EqualMeanings.{same_meaning};
     ghost use Rattle.ubi_volume.specs.Meant.{AreVolumes, Meant, meant_code};
 
     ghost Value = { Meant };
@@ -90,5 +92,21 @@ impl Meaning {
         ensures meaning { IsMeaning self.now }
     {
         self.volumes.as_slice()
+    }
+}
+
+/// Two meanings are equal if their geometries, the records of their volumes and what these read are.
+impl PartialEq for Meaning {
+    ghost use Rattle.ubi_volume.specs.EqualMeanings.{same_meaning, same_meaning_per};
+
+    ghost eq = { same_meaning };
+
+    ghost laws = { same_meaning_per };
+
+    fn eq(&self, other: &Meaning) -> bool
+        ensures value { result ≡ same_meaning self.now other.now }
+        ensures same { IsTrue result ↔ (self.now ≡ other.now) }
+    {
+        self.geometry == other.geometry && self.volumes == other.volumes
     }
 }

@@ -230,3 +230,33 @@ fn sorts_and_drops_what_is_blank(rt: HostRuntime) -> Result<(), Fail> {
     assert_eq!(rt; lebs.get(5).map(|leb| leb.as_slice().len()), Some(384));
     Ok(())
 }
+
+#[test]
+fn compares_meanings(rt: HostRuntime) -> Result<(), Fail> {
+    let alloc = rt.alloc();
+    let one = made(vec![in alloc; (0, written(alloc, 3, 384)?), (1, text(alloc, 768)?)]?)?;
+    let turned = made(vec![in alloc; (1, text(alloc, 768)?), (0, written(alloc, 3, 384)?)]?)?;
+    assert_eq!(rt; one == turned, true);
+    let shorter = made(vec![in alloc; (0, written(alloc, 3, 384)?), (1, text(alloc, 767)?)]?)?;
+    assert_eq!(rt; one == shorter, false);
+    let elsewhere = made(vec![in alloc; (0, written(alloc, 4, 384)?), (1, text(alloc, 768)?)]?)?;
+    assert_eq!(rt; one == elsewhere, false);
+    let blank = made(vec![in alloc; (0, empty(alloc, b"root", 20)?), (1, text(alloc, 768)?)]?)?;
+    assert_eq!(rt; one == blank, false);
+    Ok(())
+}
+
+#[test]
+fn goes_over_logical_eraseblocks(rt: HostRuntime) -> Result<(), Fail> {
+    let alloc = rt.alloc();
+    let mut lebs = Lebs::new(alloc);
+    for lnum in [7, 2, 5] {
+        lebs.insert(lnum, bytes(alloc, 0x41, lnum as usize)?)?;
+    }
+    let mut found = Vec::new(alloc);
+    for (lnum, bytes) in lebs.iter() {
+        found.push((*lnum, bytes.as_slice().len()))?;
+    }
+    assert_eq!(rt; found.as_slice(), [(2, 2), (5, 5), (7, 7)].as_slice());
+    Ok(())
+}
