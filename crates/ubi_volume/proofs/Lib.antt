@@ -1,7 +1,10 @@
 pub mod Alike
+pub mod Arranged
 pub mod Blanks
+pub mod Causes
 pub mod Dynamic
 pub mod Either
+pub mod Equal
 pub mod Exits
 pub mod Gathered
 pub mod LebsText
@@ -18,4 +21,6 @@ pub mod SomeMismatch
 pub mod Static
 pub mod Tables
 pub mod Winners
+pub mod Within
+pub mod WithoutBlank
 pub mod Written
