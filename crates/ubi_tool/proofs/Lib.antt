@@ -8,4 +8,5 @@ pub mod Extracted
 pub mod Filling
 pub mod ImageVectors
 pub mod Laid
+pub mod Listed
 pub mod Outcomes

@@ -12,6 +12,3 @@ pub mod Reading
 pub mod Writing
 pub mod Probe
 pub mod Coded
-pub mod Made
-pub mod EqualLebs
-pub mod EqualMeanings

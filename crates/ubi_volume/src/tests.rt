@@ -1,6 +1,5 @@
 mod images;
 mod length;
-mod making;
 mod memory;
 mod reading;
 mod refusals;

@@ -1,2 +1,0 @@
-mod composing;
-mod images;
