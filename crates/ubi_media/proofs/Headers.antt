@@ -107,7 +107,7 @@ one_ec_header s h k fits fits_too e =
     let image_seq : h.image_seq ≡ k.image_seq = sym (image_seq_back s h fits) ∙ ap (field 4 24) e ∙ image_seq_back s k fits_too in
     λ i. record { counter = counter i; image_seq = image_seq i }
 
-fields_fit : (h : VidHeader) → VidFits h → Fits (fields_from h)
+pub fields_fit : (h : VidHeader) → VidFits h → Fits (fields_from h)
 unfolding fields_from
 fields_fit h fits = record {
   vol_id = fits.vol_id;

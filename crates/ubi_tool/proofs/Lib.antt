@@ -8,5 +8,4 @@ pub mod Extracted
 pub mod Filling
 pub mod ImageVectors
 pub mod Laid
-pub mod Listed
 pub mod Outcomes

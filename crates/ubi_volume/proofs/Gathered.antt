@@ -37,12 +37,12 @@ same_below : (n : ℕ) (vs : List Item) → below_all nat_cmp n (map (λ (v : It
 same_below n [] = refl
 same_below n (v ∷ vs) = ap (λ b. is_lt (nat_cmp n v.0) && b) (same_below n vs)
 
-same_order : (vs : List Item) → is_sorted nat_cmp (map (λ (v : Item). (v.0, v.1.entry)) vs) ≡ is_sorted nat_cmp vs
+pub same_order : (vs : List Item) → is_sorted nat_cmp (map (λ (v : Item). (v.0, v.1.entry)) vs) ≡ is_sorted nat_cmp vs
 same_order [] = refl
 same_order (v ∷ vs) = ap (λ b. b && is_sorted nat_cmp (map (λ (v : Item). (v.0, v.1.entry)) vs)) (same_below v.0 vs) ∙ ap (λ b. below_all nat_cmp v.0 vs && b) (same_order vs)
 
 -- how many eraseblocks they reserve
-same_sum : (vs : List Item) (n : ℕ) → fold (λ k (r : VolumeRecord). k + r.reserved) n (map (λ (e : ℕ × VolumeRecord). e.1) (map (λ (v : Item). (v.0, v.1.entry)) vs))
+pub same_sum : (vs : List Item) (n : ℕ) → fold (λ k (r : VolumeRecord). k + r.reserved) n (map (λ (e : ℕ × VolumeRecord). e.1) (map (λ (v : Item). (v.0, v.1.entry)) vs))
     ≡ fold (λ k (v : Volume). k + v.entry.reserved) n (map (λ (v : Item). v.1) vs)
 same_sum [] n = refl
 same_sum (v ∷ vs) n = same_sum vs (n + v.1.entry.reserved)

@@ -1,11 +1,15 @@
 pub mod Alike
+pub mod Arranged
 pub mod Blanks
+pub mod Causes
 pub mod Dynamic
 pub mod Either
+pub mod Equal
 pub mod Exits
 pub mod Gathered
 pub mod LebsText
 pub mod Lengths
+pub mod Listed
 pub mod MemberStates
 pub mod Mismatches
 pub mod Moved
@@ -17,4 +21,6 @@ pub mod SomeMismatch
 pub mod Static
 pub mod Tables
 pub mod Winners
+pub mod Within
+pub mod WithoutBlank
 pub mod Written

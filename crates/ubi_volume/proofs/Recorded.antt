@@ -23,6 +23,13 @@ find_entry id (v ∷ vs) =
       | false ↦ find_entry id vs
     ]
 
+-- the record of a volume of a meaning
+pub record_of : (m : Meant) (id : ℕ) → finite.get (records_of m).of id ≡ option_map (λ (v : Volume). v.entry) (finite.get m.volumes id)
+record_of m id =
+    let es = map (λ (e : ℕ × Volume). (e.0, e.1.entry)) (finite.entries m.volumes) in
+    finite.get-from_entries nat_cmp_total es id ∙ find_entry id (finite.entries m.volumes)
+    ∙ ap (option_map (λ (v : Volume). v.entry)) (sym (finite.get-entries m.volumes id))
+
 same_record : (s : Sizes) (bs : List (List ℕ)) (id : ℕ) (r : Option VolumeRecord) (v : Option Volume) → SlotMeans s bs id r v → option_map (λ (v : Volume). v.entry) v ≡ r
 same_record s bs id None None h = refl
 same_record s bs id (Some r) (Some v) h = ap Some h.0
@@ -33,7 +40,6 @@ pub records_meant : (s : Sizes) (bs : List (List ℕ)) (t : Records) (m : Meant)
 records_meant s bs t m is means =
     let sizes : m.sizes ≡ t.sizes = means.sizes ∙ sym (table_records s bs t is).0 in
     let es = map (λ (e : ℕ × Volume). (e.0, e.1.entry)) (finite.entries m.volumes) in
-    let same : from_entries {R = nat_cmp} es ≡ t.of = finite.same_map nat_cmp_total nat_cmp-IsAntisymmetric (from_entries es) t.of (λ id.
-    finite.get-from_entries nat_cmp_total es id ∙ find_entry id (finite.entries m.volumes)
-    ∙ ap (option_map (λ (v : Volume). v.entry)) (sym (finite.get-entries m.volumes id)) ∙ same_record s bs id _ _ (means.slots id)) in
+    let same : from_entries {R = nat_cmp} es ≡ t.of = finite.same_map nat_cmp_total nat_cmp-IsAntisymmetric (from_entries es) t.of
+    (λ id. record_of m id ∙ same_record s bs id _ _ (means.slots id)) in
     λ i. record { sizes = sizes i; of = same i }

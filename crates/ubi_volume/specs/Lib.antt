@@ -12,3 +12,6 @@ pub mod Reading
 pub mod Writing
 pub mod Probe
 pub mod Coded
+pub mod Made
+pub mod EqualLebs
+pub mod EqualMeanings

@@ -1,6 +1,8 @@
-//! Why a volume isn't read.
+//! Why a volume isn't read, and why volumes have no meaning together.
 
+use crate::content::Volume;
 use std::alloc::AllocError;
+use ubi_media::RecFault;
 
 /// Why a volume, or one of its logical eraseblocks, isn't read.
 #[derive(Clone, Copy, Debug, PartialEq, Eq)]
@@ -28,4 +30,33 @@ impl From<AllocError> for ReadError {
     fn from(_: AllocError) -> ReadError {
         ReadError::Memory
     }
+}
+
+/// Why volumes have no meaning together. Of several causes the first in this order, and of its items the least; items are
+/// counted from 0.
+#[derive(Clone, Copy, Debug, PartialEq, Eq)]
+pub enum MeaningCause {
+    /// The number of the item isn't below the slots of the volume table.
+    IdRange(usize),
+    /// The number of the item stands earlier in the list.
+    SameId(usize),
+    /// The record of the item breaks a rule, and the first that it breaks.
+    Record(usize, RecFault),
+    /// The name of the item stands earlier in the list, and the item where it does.
+    SameName(usize, usize),
+    /// The volumes and the two copies of the volume table need more eraseblocks than the device has.
+    NoSpace,
+    /// The content of the item isn't one that its record allows: it is of the other kind, or isn't `Updating` exactly where
+    /// the update marker is set; a logical eraseblock isn't below those that are reserved, or hasn't as many bytes as the
+    /// volume uses; or the text of a static volume has more bytes than its eraseblocks hold.
+    ContentRange(usize),
+}
+
+/// Volumes that have no meaning together, and why.
+#[derive(Drop)]
+pub struct MeaningError {
+    /// The first cause.
+    pub cause: MeaningCause,
+    /// The volumes, as they were handed in.
+    pub volumes: Vec<(u32, Volume)>,
 }

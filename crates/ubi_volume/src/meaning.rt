@@ -1,10 +1,15 @@
 //! What an image means.
 
-ghost use Rattle.std.specs.Prelude.{◌≡◌, ◌==◌, find, option_copied};
+ghost use Rattle.std.specs.Prelude.{◌≡◌, ◌==◌, ◌↔◌, IfErr, IfOk, IsTrue, find, option_copied};
 ghost use Rattle.std.specs.FinMap as finite;
+ghost use Rattle.ubi_media.specs.Geometry.{IsGeometry};
+ghost use Rattle.ubi_volume.specs.EqualMeanings.{same_meaning};
+ghost use Rattle.ubi_volume.specs.Made.{IsFirst, NoCause, meaning_of};
 ghost use Rattle.ubi_volume.specs.Meant.{AreVolumes, IsMeaning, VolumeMap};
 
 use crate::content::Volume;
+use crate::errors::MeaningError;
+use crate::making::{arranged, first_cause};
 use std::marker::Model;
 use ubi_media::Geometry;
 
@@ -18,6 +23,8 @@ pub struct Meaning {
 
 impl Model for Meaning {
     ghost use Rattle.std.specs.FinMap as finite;
+    ghost use Rattle.ubi_volume.specs.Made.{IsFirst, NoCause, meaning_of};
+    ghost use Rattle.ubi_volume.specs.EqualMeanings.{same_meaning};
     ghost use Rattle.ubi_volume.specs.Meant.{AreVolumes, Meant, meant_code};
 
     ghost Value = { Meant };
@@ -45,11 +52,32 @@ impl Meaning {
         Meaning { geometry, volumes }
     }
 
+    /// The meaning of volumes, each with its number. The logical eraseblocks of a dynamic volume that are 0xFF throughout
+    /// are taken out. It takes no memory.
+    ///
+    /// # Errors
+    ///
+    /// The first cause for which the volumes have none together, in the order of [`MeaningCause`](crate::MeaningCause),
+    /// with the volumes as they were.
+    pub fn new(geometry: &Geometry, volumes: Vec<(u32, Volume)>) -> Result<Meaning, MeaningError>
+        ensures made { IfOk result (λ m. NoCause geometry.now volumes.items × (m ≡ meaning_of geometry.now volumes.items)) }
+        ensures cause { IfErr result (λ e. IsFirst geometry.now volumes.items e.cause) }
+        ensures returned { IfErr result (λ e. e.volumes.items ≡ volumes.items) }
+        ensures meaning { IfOk result IsMeaning }
+    {
+        match first_cause(geometry, volumes.as_slice()) {
+            Some(cause) => Err(MeaningError { cause, volumes }),
+            None => Ok(Meaning::of(*geometry, arranged(volumes))),
+        }
+    }
+
     /// The geometry of the device.
     pub fn geometry(&self) -> Geometry
         ensures value { result ≡ self.now.sizes }
+        ensures limits { IsGeometry self.now.sizes }
         ensures meaning { IsMeaning self.now }
     {
+        prove!(self.geometry.peb_size() >= 64);
         self.geometry
     }
 
@@ -67,5 +95,21 @@ impl Meaning {
         ensures meaning { IsMeaning self.now }
     {
         self.volumes.as_slice()
+    }
+}
+
+/// Two meanings are equal if their geometries, the records of their volumes and what these read are.
+impl PartialEq for Meaning {
+    ghost use Rattle.ubi_volume.specs.EqualMeanings.{same_meaning, same_meaning_per};
+
+    ghost eq = { same_meaning };
+
+    ghost laws = { same_meaning_per };
+
+    fn eq(&self, other: &Meaning) -> bool
+        ensures value { result ≡ same_meaning self.now other.now }
+        ensures same { IsTrue result ↔ (self.now ≡ other.now) }
+    {
+        self.geometry == other.geometry && self.volumes == other.volumes
     }
 }

@@ -1,5 +1,6 @@
 mod images;
 mod length;
+mod making;
 mod memory;
 mod reading;
 mod refusals;

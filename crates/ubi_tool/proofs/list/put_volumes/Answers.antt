@@ -1,5 +1,5 @@
 use Rattle.std.proofs.Common.{get_or, ap, ◌∙◌}
-use Rattle.ubi_tool.proofs.Listed.{listed_volume}
+use Rattle.ubi_volume.proofs.Listed.{listed_volume}
 use Rattle.ubi_tool.proofs.list.put_volumes.Goals as goal
 
 pub put_volume-requires : goal.put_volume-requires

@@ -1,0 +1,31 @@
+-- Eraseblocks of LEBs of which no two are the same.
+use Rattle.std.proofs.Common.{◌≡◌, ◌≢◌, ℕ, zero, suc, List, [], ◌∷◌, ◌++◌, refl, ap, sym, ◌∙◌}
+use Rattle.std.specs.Prelude.{Some, slice_get}
+use Rattle.std.specs.List.{AllByRecursion}
+use Rattle.ubi_scan.specs.Members.{leb_of}
+use Rattle.ubi_compose.specs.Normal.{Laid}
+use Rattle.ubi_compose.proofs.Blocks.{some_same}
+use Rattle.ubi_compose.proofs.Lists.{all_append, all_at}
+
+-- two eraseblocks are of different LEBs
+abbrev pub Differ : Laid → Laid → Type 0
+Differ k l = leb_of l.header ≢ leb_of k.header
+
+-- any two of a list are
+abbrev pub AreApart : List Laid → Type 0
+AreApart [] = Unit {0}
+AreApart (l ∷ ls) = AllByRecursion (Differ l) ls × AreApart ls
+
+pub apart_append : (ks ls : List Laid) → AreApart ks → AreApart ls → AllByRecursion (λ k. AllByRecursion (Differ k) ls) ks → AreApart (ks ++ ls)
+apart_append [] ls a b h = b
+apart_append (k ∷ ks) ls a b h = (all_append (Differ k) ks ls a.0 h.0, apart_append ks ls a.1 b h.1)
+
+-- so one LEB has one place
+pub one_place : (ls : List Laid) (p q : ℕ) (k l : Laid) → AreApart ls → slice_get ls p ≡ Some k → slice_get ls q ≡ Some l → leb_of k.header ≡ leb_of l.header → p ≡ q
+one_place [] p q k l a e f same = absurd (cc)
+one_place (x ∷ ls) zero zero k l a e f same = refl
+one_place (x ∷ ls) zero (suc q) k l a e f same =
+    absurd (all_at (Differ x) ls q l a.0 f (sym same ∙ ap (λ (b : Laid). leb_of b.header) (some_same k x (sym e))))
+one_place (x ∷ ls) (suc p) zero k l a e f same =
+    absurd (all_at (Differ x) ls p k a.0 e (same ∙ ap (λ (b : Laid). leb_of b.header) (some_same l x (sym f))))
+one_place (x ∷ ls) (suc p) (suc q) k l a e f same = ap suc (one_place ls p q k l a.1 e f same)

@@ -1,0 +1,8 @@
+use Rattle.std.proofs.Common.{◌≡◌, ◌++◌, replicate, vec_items}
+use Rattle.std.specs.List.{flat_map}
+use Rattle.ubi_compose.specs.Composed.{spare}
+use Rattle.ubi_compose.proofs.composing.put_spares.Given as goal
+
+-- those so far are there
+abbrev pub invariant-loop : goal.invariant-loop
+invariant-loop l = vec_items l.image ≡ vec_items l.initial.image ++ flat_map (λ b. b) (replicate l.counter (spare l.geometry))

@@ -1,0 +1,7 @@
+use Rattle.std.proofs.Common.{arith}
+use Rattle.std.proofs.lemmas.Grind.{common_steps}
+use Rattle.ubi_volume.proofs.Recorded.{record_of}
+use Rattle.ubi_compose.proofs.records.entry_of.Goals as goal
+
+pub returns-clause-entry : goal.returns-clause-entry
+returns-clause-entry c = rw (record_of c.args.meaning.now c.args.id, ← c.get.ensures.value) (search (arith, common_steps))

@@ -1,0 +1,14 @@
+use Rattle.std.proofs.Common.{◌≡◌, ◌≤◌, ◌++◌, length, vec_items}
+use Rattle.std.specs.FinMap as finite
+use Rattle.std.specs.List.{AllByRecursion}
+use Rattle.ubi_media.specs.Geometry.{leb_size}
+use Rattle.ubi_compose.proofs.Puts.{dynamic_bytes}
+use Rattle.ubi_compose.proofs.volume.put_dynamic.Given as goal
+
+-- with those that are to come, all are there, and these fit
+abbrev pub invariant-loop-lnum : goal.invariant-loop-lnum
+invariant-loop-lnum l = record {
+  steps : (goal.iterator-loop-lnum).can_next l.lnum-iterator × (goal.iterator-loop-lnum).is_finite l.lnum-iterator;
+  fit : AllByRecursion (λ e. length e.1 ≤ leb_size l.geometry) l.lnum-iterator;
+  all : vec_items l.image ++ dynamic_bytes l.geometry l.data_pad l.vol_id l.lnum-iterator ≡ vec_items l.initial.image ++ dynamic_bytes l.geometry l.data_pad l.vol_id (finite.entries l.lebs);
+}

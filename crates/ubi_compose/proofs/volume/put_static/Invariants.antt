@@ -1,0 +1,11 @@
+use Rattle.std.proofs.Common.{◌≡◌, ◌++◌, vec_items}
+use Rattle.std.specs.List.{flat_map, range_with_len}
+use Rattle.ubi_volume.specs.Reading.{share}
+use Rattle.ubi_compose.specs.Normal.{laid_bytes, new_ec, static_block}
+use Rattle.ubi_compose.proofs.volume.put_static.Given as goal
+
+-- the eraseblocks so far are there
+abbrev pub invariant-loop-lnum : goal.invariant-loop-lnum
+invariant-loop-lnum l =
+    vec_items l.image
+    ≡ vec_items l.initial.image ++ flat_map (λ lnum. laid_bytes l.geometry new_ec (static_block l.data_pad l.vol_id l.used_ebs lnum (share l.size l.text lnum))) (range_with_len 0 l.lnum)

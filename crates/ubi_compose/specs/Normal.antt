@@ -1,0 +1,83 @@
+-- The normal image of a meaning: its eraseblocks, and their bytes.
+use Rattle.std.specs.Prelude.{ℕ, List, [], ◌∷◌, ◌++◌, map, flat_map, length}
+use Rattle.std.specs.FinMap.{entries}
+use Rattle.std.specs.List.{range_with_len}
+use Rattle.ubi_media.specs.Check.{check}
+use Rattle.ubi_media.specs.Ec.{ec_bytes}
+use Rattle.ubi_media.specs.Fields.{filled}
+use Rattle.ubi_media.specs.Geometry.{Sizes}
+use Rattle.ubi_media.specs.Record.{usable, data_pad}
+use Rattle.ubi_media.specs.Vid.{plain, vid_bytes}
+use Rattle.ubi_media.specs.declared.ec.EcHeader.{EcHeader}
+use Rattle.ubi_media.specs.declared.record.VolumeRecord.{VolumeRecord}
+use Rattle.ubi_media.specs.declared.vid.VidHeader.{VidHeader}
+use Rattle.ubi_media.specs.declared.vid.VolKind.TheVariants as kind
+use Rattle.ubi_scan.specs.Members.{layout}
+use Rattle.ubi_table.specs.Records.{table_bytes}
+use Rattle.ubi_volume.specs.Meant.{Meant, records_of}
+use Rattle.ubi_volume.specs.Reading.{pieces, share}
+use Rattle.ubi_volume.specs.declared.content.Content.{Content}
+use Rattle.ubi_volume.specs.declared.content.Content.TheVariants as content
+use Rattle.ubi_volume.specs.declared.content.Volume.{Volume}
+
+-- an eraseblock: its volume-identifier header, and the first bytes of its LEB
+pub record Laid : Type 0 where
+  pub header : VidHeader
+  pub text : List ℕ
+
+-- a copy of the volume table, 0 or 1: a LEB of the layout volume, to be rejected where that isn't known
+abbrev pub layout_block : Meant → ℕ → Laid
+layout_block m copy = record { header = plain kind.Dynamic 5 0 layout copy; text = table_bytes (records_of m) }
+
+-- a LEB of a dynamic volume, with its padding
+abbrev pub dynamic_block : ℕ → ℕ → ℕ × List ℕ → Laid
+dynamic_block pad vol leb = record { header = plain kind.Dynamic 0 pad vol leb.0; text = leb.1 }
+
+-- a LEB of a static volume that uses a number of them
+abbrev pub static_block : ℕ → ℕ → ℕ → ℕ → List ℕ → Laid
+static_block pad vol used lnum text = record {
+  header = record (plain kind.Static 0 pad vol lnum) { data_size = length text; used_ebs = used; data_crc = check text };
+  text = text;
+}
+
+-- the one eraseblock of a damaged volume: its check isn't that of its one byte
+abbrev pub damaged_block : ℕ → ℕ → Laid
+damaged_block pad vol = record { header = record (plain kind.Static 0 pad vol 0) { data_size = 1; used_ebs = 1 }; text = [] }
+
+-- a LEB of a static text, which is cut into pieces of a size, and all of them
+abbrev pub static_part : ℕ → ℕ → ℕ → List ℕ → ℕ → Laid
+static_part pad size vol text lnum = static_block pad vol (pieces size (length text)) lnum (share size text lnum)
+
+abbrev pub static_blocks : ℕ → ℕ → ℕ → List ℕ → List Laid
+static_blocks pad size vol text = map (static_part pad size vol text) (range_with_len 0 (pieces size (length text)))
+
+-- the eraseblocks of a volume: none of one whose update didn't end
+abbrev pub volume_blocks : Sizes → ℕ → VolumeRecord → Content → List Laid
+volume_blocks s vol r content.Updating = []
+volume_blocks s vol r content.Damaged = damaged_block (data_pad s r) vol ∷ []
+volume_blocks s vol r (content.Static text) = static_blocks (data_pad s r) (usable s r) vol text
+volume_blocks s vol r (content.Dynamic lebs) = map (dynamic_block (data_pad s r) vol) (entries lebs)
+
+-- the eraseblocks of volumes, in their order
+abbrev pub blocks_of : Sizes → List (ℕ × Volume) → List Laid
+blocks_of s volumes = flat_map (λ v. volume_blocks s v.0 v.1.entry v.1.content) volumes
+
+-- the eraseblocks of a meaning: two copies of its table, and then its volumes by rising number
+abbrev pub normal_blocks : Meant → List Laid
+normal_blocks m = layout_block m 0 ∷ layout_block m 1 ∷ blocks_of m.sizes (entries m.volumes)
+
+-- an erase-counter header of the normal image
+abbrev pub new_ec : EcHeader
+new_ec = record { counter = 0; image_seq = 0 }
+
+-- the bytes of an eraseblock: each header and the text at its place, and 0xFF elsewhere
+abbrev pub laid_bytes : Sizes → EcHeader → Laid → List ℕ
+laid_bytes s ec b =
+    filled s.peb_size (filled s.data_offset (filled s.vid_offset (ec_bytes s ec) ++ vid_bytes b.header) ++ b.text)
+
+-- the eraseblocks of the normal image, and its bytes
+abbrev pub normal_image : Meant → List (List ℕ)
+normal_image m = map (laid_bytes m.sizes new_ec) (normal_blocks m)
+
+unfoldable pub normal_bytes : Meant → List ℕ
+normal_bytes m = flat_map (laid_bytes m.sizes new_ec) (normal_blocks m)

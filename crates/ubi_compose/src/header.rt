@@ -1,0 +1,51 @@
+//! The volume-identifier headers of the normal image.
+
+ghost use Rattle.std.specs.Prelude.{◌≡◌, ◌<◌, ◌^◌, length};
+ghost use Rattle.ubi_media.specs.Check.{check};
+ghost use Rattle.ubi_media.specs.Vid.{plain};
+ghost use Rattle.ubi_media.specs.declared.vid.VolKind.TheVariants as kind;
+ghost use Rattle.ubi_compose.specs.Normal.{damaged_block, static_block};
+
+use ubi_media::{VidHeader, VolKind, crc};
+
+/// A header of a logical eraseblock that wasn't copied, with sequence number 0.
+pub fn plain(kind: VolKind, compat: u8, data_pad: u32, vol_id: u32, lnum: u32) -> VidHeader
+    ensures { result ≡ plain kind compat data_pad vol_id lnum }
+{
+    VidHeader {
+        kind,
+        copy_flag: false,
+        compat,
+        vol_id,
+        lnum,
+        data_size: 0,
+        used_ebs: 0,
+        data_pad,
+        data_crc: 0,
+        sqnum: 0,
+    }
+}
+
+/// The header of a logical eraseblock of a static volume of `used_ebs` of them, which holds a text.
+pub fn static_header(data_pad: u32, vol_id: u32, used_ebs: u32, lnum: u32, text: &[u8]) -> VidHeader
+    requires { length text.now < 2 ^ 32 }
+    ensures { result ≡ (static_block data_pad vol_id used_ebs lnum text.now).header }
+{
+    VidHeader {
+        data_size: text.len() as u32,
+        used_ebs,
+        data_crc: crc(text),
+        ..plain(VolKind::Static, 0, data_pad, vol_id, lnum)
+    }
+}
+
+/// The header of the one eraseblock of a damaged volume: its check isn't that of its one byte.
+pub fn damaged_header(data_pad: u32, vol_id: u32) -> VidHeader
+    ensures { result ≡ (damaged_block data_pad vol_id).header }
+{
+    VidHeader {
+        data_size: 1,
+        used_ebs: 1,
+        ..plain(VolKind::Static, 0, data_pad, vol_id, 0)
+    }
+}

@@ -1,0 +1,24 @@
+//! Laws of the definitions that the contracts cite, each as the contract of a function that does nothing.
+
+ghost use Rattle.ubi_compose.specs.Laws.{NormalAccepted, NormalFits, NormalForm, TwiceIsOnce};
+
+/// The normal image of a meaning is accepted with that meaning, and so it is with any number of spare eraseblocks behind
+/// it, as far as the device has room.
+pub fn normal_accepted()
+    ensures { NormalAccepted }
+{}
+
+/// The normal image of a meaning fits the device.
+pub fn normal_fits()
+    ensures { NormalFits }
+{}
+
+/// Two meanings of one geometry are the same exactly if their normal images are.
+pub fn normal_form()
+    ensures { NormalForm }
+{}
+
+/// Normalising what was normalised gives it again.
+pub fn twice_is_once()
+    ensures { TwiceIsOnce }
+{}
