@@ -1,5 +1,5 @@
 -- A normal image is accepted with its meaning.
-use Rattle.std.proofs.Common.{◌≡◌, ℕ, zero, suc, List, inl, inr, refl, sym, ap, ◌∙◌, subst, arith}
+use Rattle.std.proofs.Common.{◌≡◌, ℕ, ◌+◌, ◌*◌, zero, suc, List, length, inl, inr, refl, sym, ap, ◌∙◌, subst, arith}
 use Rattle.std.specs.Prelude.{None, Option, Some, flat_map, option_map}
 use Rattle.std.specs.FinMap as finite
 use Rattle.std.specs.List.{AllByRecursion, concat}
@@ -26,7 +26,7 @@ use Rattle.ubi_compose.specs.Normal.{Laid, layout_block, normal_blocks, normal_b
 use Rattle.ubi_compose.proofs.Apart.{AreApart}
 use Rattle.ubi_compose.proofs.Blocks.{IsFine, some_same}
 use Rattle.ubi_compose.proofs.Contents.{AreOwn, damaged_reads, dynamic_reads, header_at, text_at, text_reads}
-use Rattle.ubi_compose.proofs.Image.{blocks_again, concat-image_blocks, image_blocks, image_clean, image_whole, laid_wins, member_laid}
+use Rattle.ubi_compose.proofs.Image.{blocks_again, concat-image_blocks, image_blocks, image_clean, image_whole, laid_wins, length-bytes, length-image_blocks, member_laid}
 use Rattle.ubi_compose.proofs.Lists.{Holds, all_at, entry_held, flat_map_holds, held_entry, holds_flat_map}
 use Rattle.ubi_compose.proofs.Normal.{apart_normal, fine_normal}
 use Rattle.ubi_compose.proofs.Table.{recorded, records_are, records_fit, volume_is}
@@ -132,6 +132,11 @@ module _ (m : Meant) (g : IsGeometry m.sizes) (is : IsMeaning m) (spares : ℕ) 
   bytes_are : concat bs ≡ composed m spares
   unfolding normal_bytes
   bytes_are = concat-image_blocks m.sizes (normal_blocks m) spares
+
+  pub length-composed : length (composed m spares) ≡ (length (normal_blocks m) + spares) * m.sizes.peb_size
+  length-composed =
+      ap length (sym bytes_are) ∙ length-bytes m.sizes g ls spares fine
+      ∙ ap (λ n. n * m.sizes.peb_size) (length-image_blocks m.sizes g ls spares fine)
 
   pub normal_accepted : HasRoom m spares → Accepts (image_of m (composed m spares)) m
   normal_accepted room =

@@ -1,20 +1,29 @@
 -- The normal image tells meanings apart, and normalising it changes nothing.
-use Rattle.std.proofs.Common.{◌≡◌, ℕ, List, sym, ap, subst}
+use Rattle.std.proofs.Common.{◌≡◌, ℕ, ◌/◌, ◌<◌, List, length, sym, ap, ◌∙◌, subst, arith}
 use Rattle.std.specs.Prelude.{◌↔◌}
 use Rattle.std.proofs.lemmas.List.{append-nil}
+use Rattle.std.proofs.lemmas.Nat.{div-mul-add}
 use Rattle.ubi_media.specs.Geometry.{IsGeometry, Sizes}
 use Rattle.ubi_scan.specs.Image.{Image}
 use Rattle.ubi_volume.specs.Accepts.{Accepts}
 use Rattle.ubi_volume.specs.Meant.{IsMeaning, Meant}
 use Rattle.ubi_volume.proofs.One.{Accepts-unique}
 use Rattle.ubi_compose.specs.Composed.{IsNormalised, composed, image_of}
-use Rattle.ubi_compose.specs.Normal.{normal_bytes}
-use Rattle.ubi_compose.proofs.Accepted.{normal_accepted}
+use Rattle.ubi_compose.specs.Laws.{MeanTheSame, Normalising}
+use Rattle.ubi_compose.specs.Normal.{normal_blocks, normal_bytes}
+use Rattle.ubi_compose.proofs.Accepted.{length-composed, normal_accepted}
 use Rattle.ubi_compose.proofs.Room.{normal_fits}
 
 -- with no spare eraseblocks it is the normal image alone
 pub composed-none : (m : Meant) → composed m 0 ≡ normal_bytes m
 composed-none m = append-nil (normal_bytes m)
+
+-- cut into eraseblocks, its bytes are as many as it has
+pub count-normal_bytes : (m : Meant) → IsGeometry m.sizes → IsMeaning m → length (normal_bytes m) / m.sizes.peb_size ≡ length (normal_blocks m)
+count-normal_bytes m g is =
+    let some : 0 < m.sizes.peb_size = omega (arith, g.page_from, g.peb_from) in
+    ap (λ bytes. length bytes / m.sizes.peb_size) (sym (composed-none m)) ∙ ap (λ n. n / m.sizes.peb_size) (length-composed m g is 0 ∙ omega arith)
+    ∙ div-mul-add (length (normal_blocks m)) m.sizes.peb_size 0 some
 
 -- by itself it is accepted
 pub alone_accepted : (m : Meant) → IsGeometry m.sizes → IsMeaning m → Accepts (image_of m (normal_bytes m)) m
@@ -32,9 +41,34 @@ same_meaning m n g same is other e =
 pub normal_form : (m n : Meant) → IsGeometry m.sizes → m.sizes ≡ n.sizes → IsMeaning m → IsMeaning n → (m ≡ n) ↔ (normal_bytes m ≡ normal_bytes n)
 normal_form m n g same is other = (ap normal_bytes, same_meaning m n g same is other)
 
-pub twice_is_once : (image : Image) (out : List ℕ) → IsGeometry image.sizes → IsNormalised image out → IsNormalised (record image { bytes = out }) out
-twice_is_once image out g h =
+-- the normal image of what an image means is accepted with that meaning
+pub again_accepted : (image : Image) (out : List ℕ) → IsGeometry image.sizes → (h : IsNormalised image out) → Accepts (record image { bytes = out }) h.0
+again_accepted image out g h =
     let m = h.0 in
     let means = h.1.accepted.means in
-    let e : out ≡ normal_bytes m = h.2 in
-    (m, subst (λ x. Accepts x m) (same_image m.sizes image.sizes (normal_bytes m) out means.sizes (sym e)) (alone_accepted m (subst IsGeometry (sym means.sizes) g) means.meaning), e)
+    subst (λ x. Accepts x m) (same_image m.sizes image.sizes (normal_bytes m) out means.sizes (sym h.2))
+    (alone_accepted m (subst IsGeometry (sym means.sizes) g) means.meaning)
+
+pub twice_is_once : (image : Image) (out : List ℕ) → IsGeometry image.sizes → IsNormalised image out → IsNormalised (record image { bytes = out }) out
+twice_is_once image out g h = (h.0, again_accepted image out g h, h.2)
+
+pub equal_images : (a b : Image) (x y : List ℕ) → IsGeometry a.sizes → a.sizes ≡ b.sizes → IsNormalised a x → IsNormalised b y → MeanTheSame a b ↔ (x ≡ y)
+equal_images a b x y g same p q = (forth, back)
+  where
+    forth : MeanTheSame a b → x ≡ y
+    forth h =
+        p.2 ∙ ap normal_bytes (Accepts-unique a p.0 h.0 p.1 h.1 ∙ Accepts-unique b h.0 q.0 h.2 q.1) ∙ sym q.2
+
+    back : x ≡ y → MeanTheSame a b
+    back e =
+        let left = p.1.accepted.means in
+        let right = q.1.accepted.means in
+        let one : p.0 ≡ q.0 = same_meaning p.0 q.0 (subst IsGeometry (sym left.sizes) g) (left.sizes ∙ same ∙ sym right.sizes) left.meaning right.meaning (sym p.2 ∙ e ∙ q.2) in
+        (p.0, p.1, subst (λ m. Accepts b m) (sym one) q.1)
+
+pub normalising : Normalising
+normalising = record {
+  equal = equal_images;
+  kept = λ a x g h. (h.0, h.1, again_accepted a x g h);
+  once = twice_is_once;
+}

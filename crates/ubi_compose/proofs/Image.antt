@@ -128,7 +128,7 @@ module _ (s : Sizes) (g : IsGeometry s) (ls : List Laid) (spares : ℕ) (fine : 
   sized : (i : ℕ) → i < length bs → length (get_or bs i []) ≡ s.peb_size
   sized = over_blocks (λ b. length b ≡ s.peb_size) (λ l one. length-laid_bytes s g l one) (length-spare s g)
 
-  length-bytes : length (concat bs) ≡ length bs * s.peb_size
+  pub length-bytes : length (concat bs) ≡ length bs * s.peb_size
   length-bytes = length-concat s.peb_size bs sized
 
   pub blocks_again : eraseblocks (record { sizes = s; bytes = concat bs }) ≡ bs

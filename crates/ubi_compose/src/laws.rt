@@ -1,6 +1,6 @@
 //! Laws of the definitions that the contracts cite, each as the contract of a function that does nothing.
 
-ghost use Rattle.ubi_compose.specs.Laws.{NormalAccepted, NormalFits, NormalForm, TwiceIsOnce};
+ghost use Rattle.ubi_compose.specs.Laws.{NormalAccepted, NormalFits, NormalForm, Normalising, TwiceIsOnce};
 
 /// The normal image of a meaning is accepted with that meaning, and so it is with any number of spare eraseblocks behind
 /// it, as far as the device has room.
@@ -21,4 +21,10 @@ pub fn normal_form()
 /// Normalising what was normalised gives it again.
 pub fn twice_is_once()
     ensures { TwiceIsOnce }
+{}
+
+/// Of accepted images of one geometry, two mean the same exactly if their normalised images are equal byte for byte;
+/// normalising keeps the meaning, and twice is once.
+pub fn normalising()
+    ensures { Normalising }
 {}

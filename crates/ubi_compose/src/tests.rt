@@ -1,2 +1,3 @@
+mod comparing;
 mod composing;
 mod images;

@@ -1,11 +1,4 @@
 pub mod CommandNames
 pub mod Defaults
-pub mod EmptyBlock
-pub mod EmptyClean
-pub mod EmptyImage
-pub mod EmptyMeaning
 pub mod Extracted
-pub mod Filling
-pub mod ImageVectors
-pub mod Laid
 pub mod Outcomes

@@ -6,7 +6,9 @@ use Rattle.std.specs.declared.alloc.Global.{Global}
 use Rattle.std.specs.declared.vec.Vec.{Vec}
 use Rattle.ubi_media.specs.Geometry.{Sizes}
 use Rattle.ubi_scan.specs.Image.{Image}
-use Rattle.ubi_tool.specs.Normalise.{MeansNothing, Normalises, NormalisesInto, accepted, later, refused, written, unwritten}
+use Rattle.ubi_volume.specs.Accepts.{Accepts}
+use Rattle.ubi_volume.specs.Meant.{Meant}
+use Rattle.ubi_tool.specs.Normalise.{Normalises, NormalisesInto, accepted, refused, written, unwritten}
 use Rattle.ubi_tool.specs.Numbers.{sizes_of}
 use Rattle.ubi_tool.specs.Program.{IsRead, IsWritten, OfImage, Tells}
 use Rattle.ubi_tool.specs.Program as program
@@ -19,16 +21,15 @@ no_file : (file : Option (Vec ℕ Global)) → option_map (λ v. v.items) file �
 no_file None e h = cc
 no_file (Some v) e h = cc
 
--- a file is there only where the image means no volume
-accepted_with_file : (image : Image) (o : Outcome) → Normalises image o → IsSome o.file → MeansNothing image
-accepted_with_file image o (accepted a gives) some = a
-accepted_with_file image o (later more gives) some = absurd (no_file o.file gives.file some)
+-- a file is there only where the image is accepted
+accepted_with_file : (image : Image) (o : Outcome) → Normalises image o → IsSome o.file → (m : Meant) × Accepts image m
+accepted_with_file image o (accepted m a gives) some = (m, a)
 accepted_with_file image o (refused c r gives) some = absurd (no_file o.file gives.file some)
 
 -- normalising, and then writing the file
 pub normalises_into : (image : Image) (out : List ℕ) (work o : Outcome) → Normalises image work → IsWritten out work o → NormalisesInto out image o
 normalises_into image out work o n program.written = written n
-normalises_into image out work o n (program.unwritten some gives) = unwritten (accepted_with_file image work n some) gives
+normalises_into image out work o n (program.unwritten some gives) = (let h = accepted_with_file image work n some in unwritten h.0 h.1 gives)
 
 -- what is answered of an image that was read
 pub of_image : (numbers : Numbers) (path : List ℕ) (answers : Image → Outcome → Type 0) (s : Sizes) (bytes : List ℕ) (o : Outcome)

@@ -1,11 +1,11 @@
 pub mod Answer
 pub mod Check
 pub mod CommandLine
-pub mod EmptyImage
 pub mod Extract
 pub mod Lines
 pub mod List
 pub mod Normalise
 pub mod Numbers
 pub mod Program
+pub mod Same
 pub mod Show

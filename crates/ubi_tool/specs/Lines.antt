@@ -1,5 +1,5 @@
 -- Printed lines.
-use Rattle.std.specs.Prelude.{ℕ, List, [], ◌∷◌, ◌++◌, codes, decimal}
+use Rattle.std.specs.Prelude.{ℕ, Bool, true, false, List, [], ◌∷◌, ◌++◌, codes, decimal}
 use Rattle.std.specs.List.{flat_map}
 use Rattle.ubi_media.specs.declared.ec.EcFault.{EcFault}
 use Rattle.ubi_media.specs.declared.ec.EcFault.TheVariants as ec
@@ -83,9 +83,14 @@ refusal_line (cause.SameName p i j) = refused (codes "T4 SameName") (detail.Bloc
 refusal_line cause.NoSpace = refused (codes "T5 NoSpace") []
 refusal_line (cause.Mismatch p) = refused (codes "V1 Mismatch") (detail.Block p ∷ [])
 
--- the line of an image that can't be normalised yet
-abbrev pub later_line : List ℕ
-later_line = refused (codes "Later") []
+-- the line of one of two images that is refused, behind the side on which it stands
+abbrev pub side_line : List ℕ → Refusal → List ℕ
+side_line side c = side ++ refusal_line c
+
+-- the line of two images that mean the same, or don't
+abbrev pub comparison_line : Bool → List ℕ
+comparison_line true = codes "same\n"
+comparison_line false = codes "different\n"
 
 -- the line of an eraseblock that the image hasn't
 abbrev pub no_block_line : List ℕ

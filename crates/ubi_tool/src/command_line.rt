@@ -42,6 +42,12 @@ pub enum Request<'a> {
         image: &'a str,
         out: &'a str,
     },
+    /// Whether two files mean the same.
+    Same {
+        numbers: Numbers,
+        left: &'a str,
+        right: &'a str,
+    },
 }
 
 /// The whole command line. A command line is used up by reading words, so that each call makes a new one.
@@ -53,7 +59,8 @@ pub fn command_line<'a>(alloc: Global) -> Result<Command<'a>, AllocError>
     let tool = tool.subcommand(image_command(alloc, "check")?)?;
     let tool = tool.subcommand(show_command(alloc)?)?;
     let tool = tool.subcommand(extract_command(alloc)?)?;
-    tool.subcommand(normalise_command(alloc)?)
+    let tool = tool.subcommand(normalise_command(alloc)?)?;
+    tool.subcommand(same_command(alloc)?)
 }
 
 /// What is asked for, where the words name a command and have all that it needs.
@@ -85,6 +92,11 @@ pub fn request_of<'a>(matches: &'a ArgMatches<'_>) -> Option<Request<'a>>
             image: inner.get_str("IMAGE")?,
             out: inner.get_str("out")?,
         }),
+        ("same", inner) => Some(Request::Same {
+            numbers: numbers_of(inner)?,
+            left: inner.get_str("IMAGE")?,
+            right: inner.get_str("OTHER")?,
+        }),
         _ => None,
     }
 }
@@ -112,6 +124,14 @@ fn normalise_command<'a>(alloc: Global) -> Result<Command<'a>, AllocError>
     ensures { IfOk result (λ c. (out-Command c).name.now ≡ codes "normalise") }
 {
     out_command(alloc, "normalise")
+}
+
+fn same_command<'a>(alloc: Global) -> Result<Command<'a>, AllocError>
+    ensures { IfOk result (λ c. (out-Command c).name.now ≡ codes "same") }
+{
+    let other = Arg::new(alloc, "OTHER").value_name("IMAGE").required(true);
+    let command = image_command(alloc, "same")?;
+    command.arg(other)
 }
 
 /// A command over an image file that writes another file.

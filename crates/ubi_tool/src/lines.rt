@@ -2,7 +2,7 @@
 
 ghost use Rattle.std.specs.Prelude.{◌≡◌, ◌++◌, IfOk, OnOk, codes, decimal};
 ghost use Rattle.std.specs.List.{flat_map};
-ghost use Rattle.ubi_tool.specs.Lines.{blocks_line, bytes_line, detail_text, ec_fault_name, file_line, geometry_line, later_line, no_block_line, read_line, rec_fault_name, refusal_line, refused, vid_fault_name};
+ghost use Rattle.ubi_tool.specs.Lines.{blocks_line, bytes_line, comparison_line, detail_text, ec_fault_name, file_line, geometry_line, no_block_line, read_line, rec_fault_name, refusal_line, refused, side_line, vid_fault_name};
 
 use itoa::Buffer;
 use std::alloc::{AllocError, Global};
@@ -185,11 +185,20 @@ pub fn refusal_line(alloc: Global, cause: Refusal) -> Result<Vec<u8>, AllocError
     }
 }
 
-/// The line of an image that can't be normalised yet.
-pub fn later_line(alloc: Global) -> Result<Vec<u8>, AllocError>
-    ensures { IfOk result (λ text. text.items ≡ later_line) }
+/// The line of one of two images that is refused, behind the side on which it stands.
+pub fn side_line(alloc: Global, side: &str, cause: Refusal) -> Result<Vec<u8>, AllocError>
+    ensures { IfOk result (λ text. text.items ≡ side_line side.now cause) }
 {
-    refused(alloc, "Later", &[])
+    let mut text = Vec::from_slice(alloc, side.as_bytes())?;
+    text.extend_from_slice(refusal_line(alloc, cause)?.as_slice())?;
+    Ok(text)
+}
+
+/// The line of two images that mean the same, or don't.
+pub fn comparison_line(alloc: Global, same: bool) -> Result<Vec<u8>, AllocError>
+    ensures { IfOk result (λ text. text.items ≡ comparison_line same) }
+{
+    Vec::from_slice(alloc, if same { b"same\n" } else { b"different\n" })
 }
 
 /// The line of an eraseblock that the image hasn't.

@@ -6,7 +6,6 @@
 
 mod check;
 mod command_line;
-mod empty_image;
 mod extract;
 mod image_file;
 mod late_file;
@@ -16,6 +15,7 @@ mod normalise;
 mod numbers;
 mod outcome;
 mod read;
+mod same;
 mod show;
 mod words;
 

@@ -8,6 +8,7 @@ ghost use Rattle.ubi_tool.specs.Lines.{file_line};
 ghost use Rattle.ubi_tool.specs.List.{Lists};
 ghost use Rattle.ubi_tool.specs.Normalise.{NormalisesInto};
 ghost use Rattle.ubi_tool.specs.Program.{IsAnswer, IsWritten, OfImage};
+ghost use Rattle.ubi_tool.specs.Same.{Compares};
 ghost use Rattle.ubi_tool.specs.Show.{Shows};
 
 use crate::check::run_check;
@@ -20,6 +21,7 @@ use crate::list::run_list;
 use crate::normalise::run_normalise;
 use crate::numbers::Numbers;
 use crate::outcome::{DONE, FAILED, Outcome, ToolError, WRONG_WORDS};
+use crate::same::run_same;
 use crate::show::run_show;
 use clap::Error;
 use clap::error::ErrorKind;
@@ -71,6 +73,13 @@ pub fn run_words<R: Files + Eprint>(
                 out,
             },
         ) => normalise_file(rt, alloc, numbers, image, out),
+        Some(
+            Request::Same {
+                numbers,
+                left,
+                right,
+            },
+        ) => same_files(rt, alloc, numbers, left, right),
         None => Ok(nothing(alloc)),
     }
 }
@@ -173,6 +182,35 @@ fn normalise_file<R: Files>(
     };
     match run_normalise(alloc, &file.geometry, file.bytes.as_slice()) {
         Ok(outcome) => write_outcome(rt, alloc, outcome, out),
+        Err(_) => Err(AllocError),
+    }
+}
+
+/// Compares what two files mean.
+fn same_files<R: Files>(
+    rt: &R,
+    alloc: Global,
+    numbers: Numbers,
+    left: &str,
+    right: &str,
+) -> Result<Outcome, AllocError>
+    ensures { IfOk result (OfImage numbers left.now (λ i. OfImage numbers right.now (Compares i))) }
+{
+    let first = match load(rt, alloc, numbers, left) {
+        Ok(file) => file,
+        Err(unread) => return unread.answer(),
+    };
+    let second = match load(rt, alloc, numbers, right) {
+        Ok(file) => file,
+        Err(unread) => return unread.answer(),
+    };
+    match run_same(
+        alloc,
+        &first.geometry,
+        first.bytes.as_slice(),
+        second.bytes.as_slice(),
+    ) {
+        Ok(outcome) => Ok(outcome),
         Err(_) => Err(AllocError),
     }
 }

@@ -1,12 +1,10 @@
 //! The command `check` over bytes.
 
-use super::images::{
-    CHECK_OF_41, ROOT, ec_of, fixed, overwrite, plain, put_block, root_image, table_image,
-};
+use super::images::{ec_of, motley_image, overwrite, root_image};
 use crate::check::run_check;
 use std::alloc::Global;
 use std::test::Fail;
-use ubi_media::{Geometry, VidHeader};
+use ubi_media::Geometry;
 
 /// What is printed of an image, and the exit status.
 fn checked(alloc: Global, geometry: &Geometry, image: &[u8]) -> Result<(Vec<u8>, u8), Fail> {
@@ -48,32 +46,9 @@ fn counts_what_is_used(rt: HostRuntime) -> Result<(), Fail> {
 fn counts_each_state(rt: HostRuntime) -> Result<(), Fail> {
     let alloc = rt.alloc();
     let geometry = Geometry::new(512, 64, 64, 128, 32)?;
-    let ec = ec_of(&geometry, 0);
-    let mut image = table_image(alloc, &ec, &ROOT)?;
-    put_block(&mut image, &ec, &plain(0, 0, 5), &[0x35; 384])?;
-    let copy = VidHeader {
-        copy_flag: true,
-        data_size: 64,
-        ..plain(0, 0, 9)
-    };
-    put_block(&mut image, &ec, &copy, &[0x39; 64])?;
-    put_block(&mut image, &ec, &plain(0, 20, 8), &[])?;
-    let orphan = VidHeader {
-        sqnum: 7,
-        ..fixed(20, 21, 384, CHECK_OF_41)
-    };
-    put_block(&mut image, &ec, &orphan, &[0x41; 384])?;
-    put_block(&mut image, &ec, &plain(0, 1, 0), &[])?;
-    overwrite(image.as_mut_slice(), 6 * 512 + 64, b"V");
-    let dropped = VidHeader {
-        compat: 1,
-        ..plain(0x7FFF_F000, 0, 12)
-    };
-    put_block(&mut image, &ec, &dropped, &[])?;
-    image.extend_from_slice(&[0xFF; 512])?;
-    overwrite(image.as_mut_slice(), 8 * 512, b"UBI!");
+    let image = motley_image(alloc, &geometry)?;
     let (text, status) = checked(alloc, &geometry, image.as_slice())?;
-    let want = b"blocks 9\nblank 0\nfree 0\ntable 2\nused 1\nstale 1\norphan 2\n\
+    let want = b"blocks 11\nblank 1\nfree 1\ntable 2\nused 1\nstale 1\norphan 2\n\
         dropped 1\ncorrupt 1\ngarbage 1\ntop sqnum 12\nimage seq 0\n\
         mean counter 0\naccepted\n";
     assert_eq!(rt; text.as_slice(), want.as_slice());

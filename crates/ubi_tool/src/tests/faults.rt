@@ -98,10 +98,10 @@ fn names_the_fault_of_a_member(rt: HostRuntime) -> Result<(), Fail> {
 fn drops_or_refuses_other_internal_volumes(rt: HostRuntime) -> Result<(), Fail> {
     let alloc = rt.alloc();
     let geometry = Geometry::new(512, 64, 64, 128, 32)?;
-    let later = "refused Later\n";
+    let accepted = "blocks 5\n";
     let incompatible = "refused S6 Incompatible block=5 volume=2147479552\n";
     for (compat, line) in [
-        (1, later),
+        (1, accepted),
         (2, incompatible),
         (4, incompatible),
         (5, incompatible),
@@ -149,15 +149,15 @@ fn names_the_fault_of_a_table(rt: HostRuntime) -> Result<(), Fail> {
     let (most, most_check) = ((128, [0, 0, 0, 30]), (296, [0xDB, 0x2A, 0x7C, 0x85]));
     let (more, more_check) = ((128, [0, 0, 0, 31]), (296, [0xCA, 0x32, 0xE2, 0xB9]));
     let cases = [
-        ([none, none], false, "refused Later\n"),
-        ([soot, none], false, "refused Later\n"),
+        ([none, none], false, "blocks 5\n"),
+        ([soot, none], false, "blocks 5\n"),
         ([soot, none], true, "refused T2 BothCorrupt\n"),
         (
             [unaligned, unaligned_check],
             false,
             "refused T3 Record block=0 slot=0 Alignment\n",
         ),
-        ([most, most_check], false, "refused Later\n"),
+        ([most, most_check], false, "blocks 5\n"),
         ([more, more_check], false, "refused T5 NoSpace\n"),
     ];
     for (changes, both, line) in cases {

@@ -1,7 +1,8 @@
 //! The commands over files: real ones, and some that fail.
 
 use super::fake::{Broken, FakeFiles};
-use super::images::{SMALL, normal_image, root_image};
+use super::images::{SMALL, ec_of, overwrite, root_image};
+use super::normal::normal_nothing;
 use super::words::words_of;
 use crate::words::run_words;
 use std::alloc::{AllocError, Global};
@@ -23,7 +24,7 @@ fn normalise_words(alloc: Global, image: &str, out: &str) -> Result<Vec<String>,
 #[test]
 fn normalises_a_file_twice(rt: HostRuntime) -> Result<(), Fail> {
     let alloc = rt.alloc();
-    let want = normal_image(alloc)?;
+    let want = normal_nothing(alloc)?;
     fs::write(&rt, "blank_in.img", [0xFF; 1536].as_slice())?;
     for (image, out) in [
         ("blank_in.img", "blank_out.img"),
@@ -45,10 +46,12 @@ fn normalises_a_file_twice(rt: HostRuntime) -> Result<(), Fail> {
 fn opens_no_file_where_the_work_is_refused(rt: HostRuntime) -> Result<(), Fail> {
     let alloc = rt.alloc();
     let geometry = Geometry::new(512, 64, 64, 128, 32)?;
-    fs::write(&rt, "root_in.img", root_image(alloc, &geometry)?.as_slice())?;
+    let mut faulty = root_image(alloc, &geometry)?;
+    overwrite(faulty.as_mut_slice(), 3 * 512, &ec_of(&geometry, 8));
+    fs::write(&rt, "faulty_in.img", faulty.as_slice())?;
     fs::write(&rt, "odd_in.img", [0xFF; 511].as_slice())?;
     for (image, text) in [
-        ("root_in.img", "refused Later\n"),
+        ("faulty_in.img", "refused S4 ImageSeq block=3\n"),
         ("odd_in.img", "refused S1 Length\n"),
         ("missing_in.img", "cannot read missing_in.img\n"),
         (".", "cannot read .\n"),
@@ -59,7 +62,7 @@ fn opens_no_file_where_the_work_is_refused(rt: HostRuntime) -> Result<(), Fail> 
         assert_eq!(rt; outcome.status, 1);
         assert!(rt; !fs::exists(&rt, "refused_out.img")?);
     }
-    fs::remove_file(&rt, "root_in.img")?;
+    fs::remove_file(&rt, "faulty_in.img")?;
     fs::remove_file(&rt, "odd_in.img")?;
     Ok(())
 }
@@ -151,7 +154,7 @@ fn tells_of_files_that_fail(rt: HostRuntime) -> Result<(), Fail> {
         let written = written.into_inner();
         assert_eq!(rt; written.len(), count);
         assert!(rt;
-            normal_image(alloc)?
+            normal_nothing(alloc)?
                 .as_slice()
                 .starts_with(written.as_slice())
         );

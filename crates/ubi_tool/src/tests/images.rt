@@ -6,21 +6,6 @@ use ubi_media::{EcHeader, Geometry, VidHeader, VolKind, write_ec, write_vid};
 /// The words for a geometry of small eraseblocks.
 pub const SMALL: [&str; 6] = ["--peb", "512", "--page", "64", "--pebs", "32"];
 
-/// An erase-counter header of the small geometry, with counter 0 and no image.
-const EC: [u8; 64] = *b"UBI#\x01\0\0\0\
-    \0\0\0\0\0\0\0\0\0\0\0\x40\0\0\0\x80\0\0\0\0\
-    \0\0\0\0\0\0\0\0\0\0\0\0\0\0\0\0\0\0\0\0\0\0\0\0\0\0\0\0\0\0\0\0\x77\x52\xb3\xc4";
-
-/// The header of copy 0 of the volume table.
-const FIRST: [u8; 64] = *b"UBI!\x01\x01\0\x05\
-    \x7f\xff\xef\xff\0\0\0\0\0\0\0\0\0\0\0\0\0\0\0\0\0\0\0\0\0\0\0\0\0\0\0\0\
-    \0\0\0\0\0\0\0\0\0\0\0\0\0\0\0\0\0\0\0\0\xb8\x25\x64\xa8";
-
-/// The header of copy 1 of the volume table.
-const SECOND: [u8; 64] = *b"UBI!\x01\x01\0\x05\
-    \x7f\xff\xef\xff\0\0\0\x01\0\0\0\0\0\0\0\0\0\0\0\0\0\0\0\0\0\0\0\0\0\0\0\0\
-    \0\0\0\0\0\0\0\0\0\0\0\0\0\0\0\0\0\0\0\0\x1b\xb3\x4c\xe4";
-
 /// An erase-counter header of version 2, with counter 0 and the image 0x12345678.
 pub const VERSION_2: [u8; 64] = *b"UBI#\x02\0\0\0\
     \0\0\0\0\0\0\0\0\0\0\0\x40\0\0\0\x80\x12\x34\x56\x78\
@@ -33,6 +18,11 @@ pub const COPY_FLAG_2: [u8; 64] = *b"UBI!\x01\x01\x02\0\
 
 /// The check of 384 bytes 0x41, worked out by another program.
 pub const CHECK_OF_41: u32 = 0xD6FB_3026;
+
+/// Those of 64 bytes 0x37 and 0x39.
+const CHECK_OF_37: u32 = 0x6BFF_21BA;
+
+const CHECK_OF_39: u32 = 0xF1EC_52E7;
 
 /// The check of the empty record, which stands behind its 168 zeros.
 const EMPTY: [u8; 4] = [0xF1, 0x16, 0xC3, 0x6B];
@@ -60,39 +50,11 @@ pub const BOOT: Record = Record {
 };
 
 /// The same with 8 reserved eraseblocks, while it is updated.
-const BOOT_UPDATING: Record = Record {
+pub const BOOT_UPDATING: Record = Record {
     start: *b"\0\0\0\x08\0\0\0\x01\0\0\0\0\x02\x01\0\x04boot",
     flags: 0,
     check: [0x0E, 0x98, 0xDF, 0x4C],
 };
-
-/// Adds an eraseblock with a copy of the empty table: two empty records, and 40 bytes 0xFF behind them.
-fn put_empty_copy(image: &mut Vec<u8>, header: &[u8; 64]) -> Result<(), AllocError> {
-    image.extend_from_slice(&EC)?;
-    image.extend_from_slice(header)?;
-    for _ in 0..2 {
-        image.extend_from_slice(&[0; 168])?;
-        image.extend_from_slice(&EMPTY)?;
-    }
-    image.extend_from_slice(&[0xFF; 40])
-}
-
-/// The normal image of the empty table: its two copies.
-pub fn normal_image(alloc: Global) -> Result<Vec<u8>, AllocError> {
-    let mut image = Vec::new(alloc);
-    put_empty_copy(&mut image, &FIRST)?;
-    put_empty_copy(&mut image, &SECOND)?;
-    Ok(image)
-}
-
-/// The same copies in the other order, with a blank eraseblock between them.
-pub fn reversed_image(alloc: Global) -> Result<Vec<u8>, AllocError> {
-    let mut image = Vec::new(alloc);
-    put_empty_copy(&mut image, &SECOND)?;
-    image.extend_from_slice(&[0xFF; 512])?;
-    put_empty_copy(&mut image, &FIRST)?;
-    Ok(image)
-}
 
 /// An image as `ubinize` writes it: a table with the volume `root`, and three of its logical eraseblocks.
 pub fn root_image(alloc: Global, geometry: &Geometry) -> Result<Vec<u8>, AllocError> {
@@ -103,6 +65,71 @@ pub fn root_image(alloc: Global, geometry: &Geometry) -> Result<Vec<u8>, AllocEr
         put_block(&mut image, &ec, &vid, &[0x41 + lnum; 384])?;
     }
     Ok(image)
+}
+
+/// The image of `root` in another order: reversed, with erase counters from 10 on, and behind it a logical eraseblock
+/// that is blank throughout.
+pub fn reversed_image(alloc: Global, geometry: &Geometry) -> Result<Vec<u8>, AllocError> {
+    let root = root_image(alloc, geometry)?;
+    let mut image = Vec::new(alloc);
+    for block in root.as_slice().rchunks(512) {
+        image.extend_from_slice(block)?;
+    }
+    for place in 0..5u8 {
+        let ec = EcHeader {
+            counter: 10 + u32::from(place),
+            image_seq: 0x1234_5678,
+        };
+        let at = 512 * usize::from(place);
+        overwrite(image.as_mut_slice(), at, &write_ec(geometry, &ec));
+    }
+    let blank = plain(0, 3, 0);
+    put_block(&mut image, &ec_of(geometry, 0), &blank, &[])?;
+    Ok(image)
+}
+
+/// The table of `root`, and three members of its logical eraseblock 0: of sequence number 5, of 7, a right copy of 64
+/// bytes, and of 9, a copy whose check is wrong by its lowest bit.
+pub fn rivals_image(alloc: Global, geometry: &Geometry) -> Result<Vec<u8>, AllocError> {
+    let ec = ec_of(geometry, 0);
+    let mut image = table_image(alloc, &ec, &ROOT)?;
+    put_block(&mut image, &ec, &plain(0, 0, 5), &[0x35; 384])?;
+    put_block(&mut image, &ec, &copied(7, CHECK_OF_37), &[0x37; 64])?;
+    put_block(&mut image, &ec, &copied(9, CHECK_OF_39 ^ 1), &[0x39; 64])?;
+    Ok(image)
+}
+
+/// An image with an eraseblock of each state. It means the volume `root`, whose logical eraseblock 0 holds bytes 0x35.
+pub fn motley_image(alloc: Global, geometry: &Geometry) -> Result<Vec<u8>, AllocError> {
+    let ec = ec_of(geometry, 0);
+    let mut image = table_image(alloc, &ec, &ROOT)?;
+    put_block(&mut image, &ec, &plain(0, 0, 5), &[0x35; 384])?;
+    put_block(&mut image, &ec, &copied(9, 0), &[0x39; 64])?;
+    put_block(&mut image, &ec, &plain(0, 20, 8), &[])?;
+    let orphan = VidHeader {
+        sqnum: 7,
+        ..fixed(20, 21, 384, CHECK_OF_41)
+    };
+    put_block(&mut image, &ec, &orphan, &[0x41; 384])?;
+    let unread = [0xFF; 64];
+    put_block(&mut image, &unread, &plain(0, 1, 0), &[0x41; 384])?;
+    let dropped = VidHeader {
+        compat: 1,
+        ..plain(0x7FFF_F000, 0, 12)
+    };
+    put_block(&mut image, &ec, &dropped, &[])?;
+    put_rest(&mut image, &ec)?;
+    Ok(image)
+}
+
+/// Adds a free eraseblock, one of which only the erase-counter header can be read, and one of which no header can.
+fn put_rest(image: &mut Vec<u8>, ec: &[u8; 64]) -> Result<(), AllocError> {
+    for (ec, vid) in [(ec, [0xFF; 64]), (ec, [0; 64]), (&[0; 64], [0; 64])] {
+        image.extend_from_slice(ec)?;
+        image.extend_from_slice(&vid)?;
+        image.extend_from_slice(&[0xFF; 384])?;
+    }
+    Ok(())
 }
 
 /// A static volume while it is updated, whose eraseblocks don't agree on how many they are.
@@ -136,16 +163,21 @@ pub fn table_image(alloc: Global, ec: &[u8; 64], record: &Record) -> Result<Vec<
             compat: 5,
             ..plain(0x7FFF_EFFF, lnum, 0)
         };
-        let mut records = Vec::from_slice(alloc, &record.start)?;
-        records.extend_from_slice(&[0; 124])?;
-        records.push(record.flags)?;
-        records.extend_from_slice(&[0; 23])?;
-        records.extend_from_slice(&record.check)?;
-        records.extend_from_slice(&[0; 168])?;
-        records.extend_from_slice(&EMPTY)?;
-        put_block(&mut image, ec, &vid, records.as_slice())?;
+        put_block(&mut image, ec, &vid, records(alloc, record)?.as_slice())?;
     }
     Ok(image)
+}
+
+/// The bytes of a table with a record in its first slot and none in its second.
+pub fn records(alloc: Global, first: &Record) -> Result<Vec<u8>, AllocError> {
+    let mut records = Vec::from_slice(alloc, &first.start)?;
+    records.extend_from_slice(&[0; 124])?;
+    records.push(first.flags)?;
+    records.extend_from_slice(&[0; 23])?;
+    records.extend_from_slice(&first.check)?;
+    records.extend_from_slice(&[0; 168])?;
+    records.extend_from_slice(&EMPTY)?;
+    Ok(records)
 }
 
 /// Adds an eraseblock of the small geometry: its headers, its data, and blank bytes behind them.
@@ -174,6 +206,16 @@ pub fn plain(vol_id: u32, lnum: u32, sqnum: u64) -> VidHeader {
         data_pad: 0,
         data_crc: 0,
         sqnum,
+    }
+}
+
+/// The header of logical eraseblock 0 of volume 0, a copy of 64 bytes.
+fn copied(sqnum: u64, data_crc: u32) -> VidHeader {
+    VidHeader {
+        copy_flag: true,
+        data_size: 64,
+        data_crc,
+        ..plain(0, 0, sqnum)
     }
 }
 

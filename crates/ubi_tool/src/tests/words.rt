@@ -78,6 +78,9 @@ fn tells_of_wrong_words(rt: HostRuntime) -> Result<(), Fail> {
             "show a --peb 512 --page 64 --block -1",
             "unexpected argument",
         ),
+        ("same --help", "Usage: ubi_tool same"),
+        ("same a --peb 512 --page 64", "<IMAGE>"),
+        ("same a b c --peb 512 --page 64", "unexpected argument"),
         ("extract --help", "Usage: ubi_tool extract"),
         ("extract a --peb 512 --page 64 --out b", "--id <N>"),
         ("extract a --peb 512 --page 64 --id 0", "--out <FILE>"),
@@ -117,6 +120,7 @@ fn refuses_geometries_before_files(rt: HostRuntime) -> Result<(), Fail> {
             "check a",
             "show a --block 0",
             "extract a --id 0 --out b",
+            "same a b",
         ] {
             let line = format!(in alloc; "{command} --peb {numbers}")?;
             let (text, status, shown) = answer(alloc, line.as_str())?;

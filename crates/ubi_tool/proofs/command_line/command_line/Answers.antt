@@ -12,6 +12,7 @@ returns c =
     let two = one_more _ _ _ _ (codes "check") c.in_ok-tool-2.ensures one c.in_ok-image_command-2.ensures in
     let three = one_more _ _ _ _ (codes "show") c.in_ok-tool-3.ensures two c.in_ok-show_command.ensures in
     let four = one_more _ _ _ _ (codes "extract") c.in_ok-tool-4.ensures three c.in_ok-extract_command.ensures in
-    IfOk-weaker c.subcommand-5.result (λ r. AddsSubcommand c.in_ok-tool-4.tool c.in_ok-normalise_command.field-0 r) _
-    (λ r adds. one_more _ _ _ _ (codes "normalise") adds four c.in_ok-normalise_command.ensures)
-    c.subcommand-5.ensures
+    let five = one_more _ _ _ _ (codes "normalise") c.in_ok-tool-5.ensures four c.in_ok-normalise_command.ensures in
+    IfOk-weaker c.subcommand-6.result (λ r. AddsSubcommand c.in_ok-tool-5.tool c.in_ok-same_command.field-0 r) _
+    (λ r adds. one_more _ _ _ _ (codes "same") adds five c.in_ok-same_command.ensures)
+    c.subcommand-6.ensures

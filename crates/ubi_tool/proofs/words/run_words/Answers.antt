@@ -1,5 +1,5 @@
 use Rattle.std.proofs.lemmas.Result.{IfOk-weaker}
-use Rattle.ubi_tool.specs.Program.{check, extract, list, normalise, show}
+use Rattle.ubi_tool.specs.Program.{check, extract, list, normalise, same, show}
 use Rattle.ubi_tool.proofs.words.run_words.Goals as goal
 
 pub returns-in-Some-Normalise : goal.returns-in-Some-Normalise
@@ -19,3 +19,7 @@ returns-in-Some-Show g c =
 pub returns-in-Some-Extract : goal.returns-in-Some-Extract
 returns-in-Some-Extract g c =
     IfOk-weaker c.extract_file.result _ _ (λ o h. extract _ _ _ _ h) c.extract_file.ensures
+
+pub returns-in-Some-Same : goal.returns-in-Some-Same
+returns-in-Some-Same g c =
+    IfOk-weaker c.same_files.result _ _ (λ o h. same _ _ _ h) c.same_files.ensures

@@ -1,0 +1,5 @@
+use Rattle.ubi_compose.proofs.Form.{normalising}
+use Rattle.ubi_compose.proofs.laws.normalising.Goals as goal
+
+pub returns : goal.returns
+returns c = normalising

@@ -1,0 +1,25 @@
+use Rattle.std.proofs.lemmas.Result.{IfOk-weaker}
+use Rattle.ubi_tool.specs.Program.{OfImage, no_image}
+use Rattle.ubi_tool.specs.Same.{Compares}
+use Rattle.ubi_tool.proofs.Outcomes.{of_image, told}
+use Rattle.ubi_tool.proofs.words.same_files.Goals as goal
+
+pub returns-in-Err : goal.returns-in-Err
+returns-in-Err g c =
+    IfOk-weaker c.answer.result _ _ (λ o h. no_image h) (told _ c.in-Err.unread c.answer.result c.in-Err.ensures.unread c.answer.ensures)
+
+pub returns-in-Err-load : goal.returns-in-Err-load
+returns-in-Err-load g c =
+    let file = c.in-Ok.file in
+    IfOk-weaker c.answer-in-Err-load.result _ _
+    (λ o h. of_image c.args.numbers _ (λ i. OfImage c.args.numbers c.args.right.now (Compares i)) file.geometry file.bytes.items o c.in-Ok.ensures.geometry c.in-Ok.ensures.read (no_image h))
+    (told _ c.in-Err-load.unread c.answer-in-Err-load.result c.in-Err-load.ensures.unread c.answer-in-Err-load.ensures)
+
+pub returns-in-Ok-run_same : goal.returns-in-Ok-run_same
+returns-in-Ok-run_same g c =
+    let first = c.in-Ok.file in
+    let second = c.in-Ok-load.file in
+    let work : Compares (record { sizes = first.geometry; bytes = first.bytes.items }) (record { sizes = first.geometry; bytes = second.bytes.items }) c.in-Ok-run_same.outcome =
+    rw (c.as_slice.ensures.value, c.as_slice-2.ensures.value) at c.in-Ok-run_same.ensures.ok in
+    of_image c.args.numbers _ (λ i. OfImage c.args.numbers c.args.right.now (Compares i)) first.geometry first.bytes.items _ c.in-Ok.ensures.geometry c.in-Ok.ensures.read
+    (of_image c.args.numbers _ (Compares (record { sizes = first.geometry; bytes = first.bytes.items })) first.geometry second.bytes.items _ c.in-Ok.ensures.geometry c.in-Ok-load.ensures.read work)

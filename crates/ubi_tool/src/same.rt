@@ -1,0 +1,38 @@
+//! The command `same`: whether two images mean the same.
+
+ghost use Rattle.std.specs.Prelude.{◌≡◌, IfErr, IfOk};
+ghost use Rattle.ubi_tool.specs.Same.{Compares};
+
+use crate::lines::{comparison_line, side_line};
+use crate::outcome::{DONE, FAILED, Outcome, ToolError};
+use std::alloc::Global;
+use ubi_compose::{SameError, same};
+use ubi_media::Geometry;
+
+/// Compares what two images of one geometry mean: the line that tells whether it is the same, or that of the first image
+/// that is refused.
+///
+/// # Errors
+///
+/// Memory where memory ran out.
+pub fn run_same(
+    alloc: Global,
+    geometry: &Geometry,
+    left: &[u8],
+    right: &[u8],
+) -> Result<Outcome, ToolError>
+    ensures ok { IfOk result (Compares (record { sizes = geometry.now; bytes = left.now }) (record { sizes = geometry.now; bytes = right.now })) }
+    ensures err { IfErr result (λ e. e ≡ ToolError.Memory) }
+{
+    match same(alloc, geometry, left, right) {
+        Ok(true) => Ok(Outcome::saying(comparison_line(alloc, true)?, DONE)),
+        Ok(false) => Ok(Outcome::saying(comparison_line(alloc, false)?, FAILED)),
+        Err(SameError::Left(cause)) => {
+            Ok(Outcome::saying(side_line(alloc, "left ", cause)?, FAILED))
+        }
+        Err(SameError::Right(cause)) => {
+            Ok(Outcome::saying(side_line(alloc, "right ", cause)?, FAILED))
+        }
+        Err(SameError::Memory) => Err(ToolError::Memory),
+    }
+}
