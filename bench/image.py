@@ -29,13 +29,14 @@ def sealed(front):
     return front + struct.pack(">I", check(front))
 
 
-def counter_header(counter):
-    return sealed(struct.pack(">4sB3xQIII32x", b"UBI#", 1, counter, VID, DATA, 0))
+def counter_header(counter, vid=VID, data=DATA):
+    return sealed(struct.pack(">4sB3xQIII32x", b"UBI#", 1, counter, vid, data, 0))
 
 
-def identifier_header(volume, number, sqnum, copied):
+def identifier_header(volume, number, sqnum, copied=b"", compat=0):
     size, data_check = (len(copied), check(copied)) if copied else (0, 0)
-    return sealed(struct.pack(">4sBBBBII4xIIII4xQ12x", b"UBI!", 1, 1, int(bool(copied)), 0, volume, number, size, 0, 0, data_check, sqnum))
+    flag = int(bool(copied))
+    return sealed(struct.pack(">4sBBBBII4xIIII4xQ12x", b"UBI!", 1, 1, flag, compat, volume, number, size, 0, 0, data_check, sqnum))
 
 
 def places(kind, count):
@@ -53,12 +54,12 @@ def eraseblocks(kind, count):
     erased = b"\xFF" * (PEB - DATA)
     for place, k in enumerate(places(kind, count)):
         if kind in ("one", "one-mixed"):
-            yield ec + identifier_header(0, 0, k + 1, b"") + erased
+            yield ec + identifier_header(0, 0, k + 1) + erased
         elif kind == "copies":
             data = struct.pack(">I", k) * ((PEB - DATA) // 4)
             yield ec + identifier_header(0, k, place + 1, data) + data
         else:
-            yield ec + identifier_header(0, k, place + 1, b"") + erased
+            yield ec + identifier_header(0, k, place + 1) + erased
 
 
 def main():
