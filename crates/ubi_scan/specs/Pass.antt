@@ -1,11 +1,12 @@
 -- What one pass over the eraseblocks finds at each, and keeps.
-use Rattle.std.specs.Prelude.{◌≡◌, ℕ, ◌+◌, ◌/◌, ◌==◌, ◌&&◌, ◌||◌, Bool, true, false, not, nat_le, if◌then◌else◌, List, [], ◌∷◌, ◌++◌, Option, None, Some, MatchOption, max, option_map, slice_set}
+use Rattle.std.specs.Prelude.{◌≡◌, ℕ, ◌+◌, ◌/◌, ◌==◌, ◌&&◌, ◌||◌, Bool, true, false, not, nat_le, if◌then◌else◌, List, [], ◌∷◌, ◌++◌, Option, None, Some, MatchOption, max, option_and_then, option_map, slice_set, unwrap_or}
 use Rattle.std.specs.BTreeMap as tree
 use Rattle.std.specs.BTreeMap.{BTreeMap}
 use Rattle.std.specs.List.{list_any}
 use Rattle.std.specs.Option.{option_map_or, option_or}
 use Rattle.std.specs.Ordering.{nat_cmp, ordering_then}
 use Rattle.std.specs.declared.cmp.Ordering.{Ordering}
+use Rattle.ubi_media.specs.Geometry.{Sizes}
 use Rattle.ubi_media.specs.declared.ec.EcRead.{EcRead}
 use Rattle.ubi_media.specs.declared.ec.EcRead.TheVariants as ec_read
 use Rattle.ubi_media.specs.declared.refusal.Refusal.{Refusal}
@@ -16,10 +17,12 @@ use Rattle.ubi_media.specs.declared.vid.VidRead.TheVariants as vid_read
 use Rattle.ubi_media.specs.declared.vid.VolKind.{VolKind}
 use Rattle.ubi_media.specs.declared.vid.VolKind.TheVariants as kind
 use Rattle.ubi_scan.specs.Choice.{beaten, candidate, kept, places_of}
-use Rattle.ubi_scan.specs.Members.{Leb, has_members, layout, leb_of, member_if}
+use Rattle.ubi_scan.specs.Image.{block}
+use Rattle.ubi_scan.specs.Members.{Leb, good_at, has_members, is_good, layout, leb_of, member_if}
 use Rattle.ubi_scan.specs.Numbers.{counted_if, counter_if, first_seq, seq_if, sqnum_if}
 use Rattle.ubi_scan.specs.Scan.{Found, leb_cmp}
 use Rattle.ubi_scan.specs.declared.candidate.Candidate.{Candidate}
+use Rattle.ubi_scan.specs.declared.candidate.Meeting.{Meeting}
 use Rattle.ubi_scan.specs.declared.counts.Counts.{Counts}
 use Rattle.ubi_scan.specs.declared.pass.Pass.{Pass}
 use Rattle.ubi_scan.specs.declared.found.ScanState.{ScanState}
@@ -105,11 +108,21 @@ abbrev pub IsPutAside : Leb → BTreeMap Stamp ℕ → BTreeMap Stamp ℕ → Op
 IsPutAside of old new None = new ≡ old
 IsPutAside of old new (Some lost) = tree.Updates stamp_cmp old new (of, lost.sqnum) (Some lost.place)
 
--- a pass goes on over a member at p with its header and goodness
-pub record IsEntered (old : Pass) (p : ℕ) (good : Bool) (new : Pass) (h : VidHeader) : Type 0 where
-  pub best : tree.Updates leb_cmp old.best new.best (leb_of h) (Some (kept (tree.get leb_cmp old.best (leb_of h)) (candidate p h good)))
-  pub others : IsPutAside (leb_of h) old.others new.others (beaten (tree.get leb_cmp old.best (leb_of h)) (candidate p h good))
-  pub states : new.states.items ≡ beaten_in (old.states.items ++ state.Winner ∷ []) (beaten (tree.get leb_cmp old.best (leb_of h)) (candidate p h good))
+-- the candidate that an eraseblock meets, if it is a member with a header
+abbrev pub held_in : BTreeMap Leb Candidate → Option VidHeader → Option Candidate
+held_in best h = option_and_then (λ h. tree.get leb_cmp best (leb_of h)) h
+
+-- the eraseblock p, which has these headers, meets a candidate: what wasn't known of that one is asked of its
+-- eraseblock, and what isn't known of p is asked of p
+pub record IsMeeting (s : Sizes) (bs : List (List ℕ)) (p : ℕ) (e : EcRead) (v : VidRead) (met : Meeting) : Type 0 where
+  pub held_good : met.held_good ≡ unwrap_or met.held.good (good_at s bs met.held.place)
+  pub new_good : met.new_good ≡ option_map_or (is_good s (block bs p)) (member_if e v) false
+
+-- a pass goes on over a member at p with its header, which meets a candidate or none
+pub record IsEntered (old : Pass) (p : ℕ) (met : Option Meeting) (new : Pass) (h : VidHeader) : Type 0 where
+  pub best : tree.Updates leb_cmp old.best new.best (leb_of h) (Some (kept met (candidate p h)))
+  pub others : IsPutAside (leb_of h) old.others new.others (beaten met (candidate p h))
+  pub states : new.states.items ≡ beaten_in (old.states.items ++ state.Winner ∷ []) (beaten met (candidate p h))
 
 -- a pass goes on over an eraseblock that is no member
 pub record IsPassed (old : Pass) (e : EcRead) (v : VidRead) (new : Pass) : Type 0 where
@@ -124,10 +137,10 @@ pub record AreCounted (old : Counts) (e : EcRead) (v : VidRead) (new : Counts) :
   pub sum : new.sum ≡ old.sum + counter_if e
   pub counted : new.counted ≡ old.counted + counted_if e
 
--- a pass goes on over the eraseblock p, which has these headers and is good as a member
-pub record IsTaken (old : Pass) (p : ℕ) (e : EcRead) (v : VidRead) (good : Bool) (new : Pass) : Type 0 where
+-- a pass goes on over the eraseblock p, which has these headers, and as a member meets a candidate or none
+pub record IsTaken (old : Pass) (p : ℕ) (e : EcRead) (v : VidRead) (met : Option Meeting) (new : Pass) : Type 0 where
   pub counts : AreCounted old.counts e v new.counts
-  pub known : MatchOption (member_if e v) (IsPassed old e v new) (IsEntered old p good new)
+  pub known : MatchOption (member_if e v) (IsPassed old e v new) (IsEntered old p met new)
 
 -- what a pass has found, once no eraseblock is left
 abbrev pub found_by : Pass → Found

@@ -3,11 +3,12 @@
 ghost use Rattle.std.specs.Prelude.{◌≡◌, ◌<◌, ◌++◌, ◌∷◌, [], ◌^◌, IfOk, IfErr, OnOk, Some, slice_set};
 ghost use Rattle.std.specs.BTreeMap as tree;
 ghost use Rattle.ubi_scan.specs.Scan.{leb_cmp};
-ghost use Rattle.ubi_scan.specs.Choice.{beaten, kept};
-ghost use Rattle.ubi_scan.specs.Pass.{fault_if, IsEntered, IsTaken, quiet_state, stamp_of, twin_in, vid_fault};
+ghost use Rattle.ubi_scan.specs.Choice.{beaten, held_of, kept};
+ghost use Rattle.ubi_scan.specs.Members.{member_if};
+ghost use Rattle.ubi_scan.specs.Pass.{fault_if, held_in, IsEntered, IsTaken, quiet_state, stamp_of, twin_in, vid_fault};
 ghost use Rattle.ubi_scan.specs.declared.found.ScanState.TheVariants as state;
 
-use crate::candidate::Candidate;
+use crate::candidate::{Candidate, Meeting};
 use crate::counts::Counts;
 use crate::faults::{ec_fault, header_fault};
 use crate::found::ScanState;
@@ -52,19 +53,20 @@ fn quiet_state(ec: &EcRead, vid: &VidRead) -> ScanState
     }
 }
 
-/// Enters a member of a logical eraseblock, and answers which one is beaten: it, or the one that it beats.
+/// Enters a member of a logical eraseblock, and answers which one is beaten: it, or the candidate that it meets.
 fn enter(
     best: &mut BTreeMap<Leb, Candidate>,
     leb: Leb,
     new: Candidate,
+    met: Option<Meeting>,
 ) -> Result<Option<Candidate>, AllocError>
-    ensures updates { OnOk result (tree.Updates leb_cmp best.old best.new leb (Some (kept (tree.get leb_cmp best.old leb) new))) }
-    ensures beaten { IfOk result (λ lost. lost ≡ beaten (tree.get leb_cmp best.old leb) new) }
+    ensures updates { OnOk result (tree.Updates leb_cmp best.old best.new leb (Some (kept met new))) }
+    ensures beaten { IfOk result (λ lost. lost ≡ beaten met new) }
 {
-    let (kept, beaten) = match best.get(&leb) {
+    let (kept, beaten) = match met {
         None => (new, None),
-        Some(held) if new.beats(held) => (new, Some(*held)),
-        Some(held) => (*held, Some(new)),
+        Some(met) if met.is_won_by(&new) => (new.known(met.new_good), Some(met.held)),
+        Some(met) => (met.held.known(met.held_good), Some(new)),
     };
     best.insert(leb, kept)?;
     Ok(beaten)
@@ -132,18 +134,32 @@ impl Pass {
         }
     }
 
+    /// The candidate that the next eraseblock meets: that of its logical eraseblock. None where it is no member, or the
+    /// first one there.
+    pub fn held(&self, ec: &EcRead, vid: &VidRead) -> Option<Candidate>
+        ensures { result ≡ held_in self.now.best (member_if ec.now vid.now) }
+    {
+        let header = member_of(ec, vid)?;
+        self.best.get(&(header.vol_id, header.lnum)).copied()
+    }
+
     /// Enters a member.
-    fn add_member(&mut self, p: u32, header: &VidHeader, good: bool) -> Result<(), AllocError>
+    fn add_member(
+        &mut self,
+        p: u32,
+        header: &VidHeader,
+        met: Option<Meeting>,
+    ) -> Result<(), AllocError>
         ensures counts { self.new.counts ≡ self.old.counts }
-        ensures entered { OnOk result (IsEntered self.old p good self.new header.now) }
+        ensures entered { OnOk result (IsEntered self.old p met self.new header.now) }
     {
         let leb = (header.vol_id, header.lnum);
         let new = Candidate {
             sqnum: header.sqnum,
             place: p,
-            good,
+            good: None,
         };
-        let beaten = enter(&mut self.best, leb, new)?;
+        let beaten = enter(&mut self.best, leb, new, met)?;
         self.states.push(ScanState::Winner)?;
         if let Some(lost) = beaten {
             self.others.insert((leb, lost.sqnum), lost.place)?;
@@ -152,15 +168,22 @@ impl Pass {
         Ok(())
     }
 
-    /// Takes the next eraseblock, which has no fault. `good` says of a member whether it is no copy, or its copied data
-    /// are right.
-    pub fn add(&mut self, p: u32, ec: &EcRead, vid: &VidRead, good: bool) -> Result<(), AllocError>
-        requires { self.old.counts.counted < 2 ^ 32 }
-        ensures { OnOk result (IsTaken self.old p ec.now vid.now good self.new) }
+    /// Takes the next eraseblock, which has no fault. `met` has the candidate that it meets, and says of both whether
+    /// they are good. Of a member that meets none, nobody asks whether it is good.
+    pub fn add(
+        &mut self,
+        p: u32,
+        ec: &EcRead,
+        vid: &VidRead,
+        met: Option<Meeting>,
+    ) -> Result<(), AllocError>
+        requires counted { self.old.counts.counted < 2 ^ 32 }
+        requires met { held_of met ≡ held_in self.old.best (member_if ec.now vid.now) }
+        ensures { OnOk result (IsTaken self.old p ec.now vid.now met self.new) }
     {
         self.counts = self.counts.with(ec, vid);
         match member_of(ec, vid) {
-            Some(header) => self.add_member(p, &header, good)?,
+            Some(header) => self.add_member(p, &header, met)?,
             None => self.states.push(quiet_state(ec, vid))?,
         }
         Ok(())

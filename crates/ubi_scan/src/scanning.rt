@@ -1,13 +1,16 @@
 //! The scan of an image that lies in memory.
 
-ghost use Rattle.std.specs.Prelude.{◌≡◌, ◌<◌, length, IfErr, IfOk, false};
+ghost use Rattle.std.specs.Prelude.{◌≡◌, ◌<◌, length, IfErr, IfOk, IfSome, false, unwrap_or};
 ghost use Rattle.std.specs.Option.{option_map_or};
+ghost use Rattle.ubi_scan.specs.Choice.{held_of};
 ghost use Rattle.ubi_scan.specs.Faults.{IsScanError};
 ghost use Rattle.ubi_scan.specs.Image.{block, eraseblocks};
-ghost use Rattle.ubi_scan.specs.Members.{is_good, is_right, member_if};
+ghost use Rattle.ubi_scan.specs.Members.{good_at, is_good, is_right, member_if};
+ghost use Rattle.ubi_scan.specs.Pass.{IsMeeting};
 ghost use Rattle.ubi_scan.specs.Scan.{IsScan};
 
 use crate::blocks::Blocks;
+use crate::candidate::{Candidate, Meeting};
 use crate::found::Scan;
 use crate::header::member_of;
 use crate::pass::Pass;
@@ -35,6 +38,42 @@ fn is_good(blocks: &Blocks<'_>, p: u32, ec: &EcRead, vid: &VidRead) -> bool
     }
 }
 
+/// Whether a candidate is good. Where that isn't known yet, its eraseblock is asked.
+fn is_held_good(blocks: &Blocks<'_>, held: &Candidate) -> bool
+    requires { held.now.place < length (eraseblocks blocks.now) }
+    ensures { result ≡ unwrap_or held.now.good (good_at blocks.now.sizes (eraseblocks blocks.now) held.now.place) }
+{
+    match held.good {
+        Some(good) => good,
+        None => {
+            let q = held.place;
+            is_good(blocks, q, &blocks.ec(q), &blocks.vid(q))
+        }
+    }
+}
+
+/// The meeting of an eraseblock that has these headers with a candidate, None where it meets none. Only here copied
+/// data are checked.
+fn meeting(
+    blocks: &Blocks<'_>,
+    held: Option<Candidate>,
+    p: u32,
+    ec: &EcRead,
+    vid: &VidRead,
+) -> Option<Meeting>
+    requires new { p < length (eraseblocks blocks.now) }
+    requires held { IfSome held (λ c. c.place < length (eraseblocks blocks.now)) }
+    ensures held { held_of result ≡ held }
+    ensures good { IfSome result (IsMeeting blocks.now.sizes (eraseblocks blocks.now) p ec.now vid.now) }
+{
+    let held = held?;
+    Some(Meeting {
+        held,
+        held_good: is_held_good(blocks, &held),
+        new_good: is_good(blocks, p, ec, vid),
+    })
+}
+
 /// Finds which member wins each logical eraseblock, and what else a [`Scan`] tells.
 ///
 /// # Errors
@@ -53,8 +92,8 @@ pub fn scan(alloc: Global, blocks: &Blocks<'_>) -> Result<Scan, AttachError>
             None => {}
             Some(fault) => return Err(AttachError::Refused(fault)),
         }
-        let good = is_good(blocks, p, &ec, &vid);
-        pass.add(p, &ec, &vid, good)?;
+        let met = meeting(blocks, pass.held(&ec, &vid), p, &ec, &vid);
+        pass.add(p, &ec, &vid, met)?;
     }
     Ok(Scan::of(pass))
 }

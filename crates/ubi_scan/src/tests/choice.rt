@@ -144,6 +144,23 @@ fn the_oldest_of_bad_members_wins(rt: HostRuntime) -> Result<(), Fail> {
 }
 
 #[test]
+fn a_copy_is_checked_once_it_meets_another_member(rt: HostRuntime) -> Result<(), Fail> {
+    let alloc = rt.alloc();
+    for (pebs, place) in [
+        ([wrong(9)?, old()?].as_slice(), 1),
+        ([old()?, wrong(9)?].as_slice(), 0),
+        ([right()?, old()?].as_slice(), 0),
+        ([right()?, wrong(4)?].as_slice(), 0),
+        ([wrong(4)?, right()?].as_slice(), 1),
+        ([wrong(6)?, wrong(9)?, old()?].as_slice(), 2),
+        ([wrong(9)?, right()?, wrong(8)?].as_slice(), 1),
+    ] {
+        assert_eq!(rt; found(alloc, pebs)?.winner(0, 0), Some(place));
+    }
+    Ok(())
+}
+
+#[test]
 fn a_lost_counter_keeps_a_member_and_an_erased_one_does_not(rt: HostRuntime) -> Result<(), Fail> {
     let alloc = rt.alloc();
     for (ec, winner, state) in [
