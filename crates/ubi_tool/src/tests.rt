@@ -6,6 +6,7 @@ mod files;
 mod images;
 mod lines;
 mod list;
+mod memory;
 mod normal;
 mod normalise;
 mod same;

@@ -15,7 +15,7 @@ use ubi_media::Geometry;
 use ubi_volume::{Failure, ProbeWriter};
 
 /// What 20 logical eraseblocks read, of which the first three hold bytes 0x41, 0x42 and 0x43.
-fn root_text() -> [u8; 7680] {
+pub fn root_text() -> [u8; 7680] {
     let mut text = [0xFF; 7680];
     text[..384].copy_from_slice(&[0x41; 384]);
     text[384..768].copy_from_slice(&[0x42; 384]);

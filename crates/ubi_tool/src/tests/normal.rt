@@ -1,6 +1,6 @@
 //! Normal images. Their bytes are the format's, and their checks were worked out by another program.
 
-use super::images::{BOOT, BOOT_UPDATING, ROOT, Record, records};
+use super::images::{BOOT, BOOT_UPDATING, ROOT, Record, overwrite, records};
 use std::alloc::{AllocError, Global};
 
 /// An erase-counter header of the small geometry, with counter 0 and no image.
@@ -88,13 +88,29 @@ pub fn normal_nothing(alloc: Global) -> Result<Vec<u8>, AllocError> {
     table(alloc, &NONE)
 }
 
-/// That of the volume `root`, whose first three logical eraseblocks hold bytes 0x41, 0x42 and 0x43.
-pub fn normal_root(alloc: Global) -> Result<Vec<u8>, AllocError> {
-    let mut image = table(alloc, &ROOT)?;
-    for (vid, byte) in LEBS.iter().zip([0x41, 0x42, 0x43]) {
-        put(&mut image, vid, &[byte; 384])?;
+/// That of the volume `root`, whose first three logical eraseblocks hold bytes 0x41, 0x42 and 0x43. It takes no memory.
+pub fn root_bytes() -> [u8; 2560] {
+    let mut bytes = [0xFF; 2560];
+    for (block, vid) in bytes.chunks_mut(512).zip(COPIES.iter().chain(&LEBS)) {
+        overwrite(block, 0, &EC);
+        overwrite(block, 64, vid);
     }
-    Ok(image)
+    for at in [128u16, 640] {
+        let at = usize::from(at);
+        overwrite(&mut bytes, at, &[0; 344]);
+        overwrite(&mut bytes, at, &ROOT.start);
+        overwrite(&mut bytes, at + 168, &ROOT.check);
+        overwrite(&mut bytes, at + 340, &NONE.check);
+    }
+    for (at, byte) in [(1152, 0x41), (1664, 0x42), (2176, 0x43)] {
+        overwrite(&mut bytes, at, &[byte; 384]);
+    }
+    bytes
+}
+
+/// The same as a vector.
+pub fn normal_root(alloc: Global) -> Result<Vec<u8>, AllocError> {
+    Vec::from_slice(alloc, &root_bytes())
 }
 
 /// That of the volume `root` whose logical eraseblock 0 holds some bytes, with 0xFF behind them.
