@@ -215,6 +215,22 @@ fn tries_a_cause_of_a_later_item_first(rt: HostRuntime) -> Result<(), Fail> {
     assert_cause(&rt, alloc, given, MeaningCause::NoSpace)
 }
 
+/// The number of an item.
+fn id_of(item: Option<&(u32, Volume)>) -> Option<u32> {
+    item.map(|item| item.0)
+}
+
+/// How many bytes a logical eraseblock of a dynamic volume has, where it is kept, and how many are kept.
+fn leb_of(volume: &Volume, lnum: u32) -> Result<(Option<usize>, usize), Fail> {
+    match &volume.content {
+        Content::Dynamic(lebs) => {
+            let size = lebs.get(lnum).map(|leb| leb.as_slice().len());
+            Ok((size, lebs.len()))
+        }
+        _ => Err("another content".into()),
+    }
+}
+
 #[test]
 fn hands_the_volumes_back(rt: HostRuntime) -> Result<(), Fail> {
     let alloc = rt.alloc();
@@ -222,16 +238,12 @@ fn hands_the_volumes_back(rt: HostRuntime) -> Result<(), Fail> {
     let error = refused(alloc, given)?;
     assert_eq!(rt; error.cause, MeaningCause::ContentRange(0));
     assert_eq!(rt; error.volumes.len(), 2);
+    assert_eq!(rt; id_of(error.volumes.first()), Some(1));
+    assert_eq!(rt; id_of(error.volumes.last()), Some(0));
+    let (_, volume) = error.volumes.first().ok_or("an item")?;
+    assert_eq!(rt; leb_of(volume, 0)?, (Some(383), 1));
     assert!(rt; error.volumes == volumes(alloc, given)?);
     Ok(())
-}
-
-/// The logical eraseblocks of a dynamic volume.
-fn lebs_of(meaning: &Meaning, id: u32) -> Result<&Lebs, Fail> {
-    match meaning.get(id).map(|volume| &volume.content) {
-        Some(Content::Dynamic(lebs)) => Ok(lebs),
-        _ => Err("another content".into()),
-    }
 }
 
 #[test]
@@ -239,11 +251,10 @@ fn sorts_and_drops_what_is_blank(rt: HostRuntime) -> Result<(), Fail> {
     let meaning = made(rt.alloc(), &[(1, Given::Blank), (0, Given::Text(768))])?;
     let volumes = meaning.volumes();
     assert_eq!(rt; volumes.len(), 2);
-    assert_eq!(rt; volumes.first().map(|item| item.0), Some(0));
-    assert_eq!(rt; volumes.last().map(|item| item.0), Some(1));
-    let lebs = lebs_of(&meaning, 1)?;
-    assert_eq!(rt; lebs.len(), 1);
-    assert_eq!(rt; lebs.get(5).map(|leb| leb.as_slice().len()), Some(384));
+    assert_eq!(rt; id_of(volumes.first()), Some(0));
+    assert_eq!(rt; id_of(volumes.last()), Some(1));
+    let (_, volume) = volumes.last().ok_or("an item")?;
+    assert_eq!(rt; leb_of(volume, 5)?, (Some(384), 1));
     Ok(())
 }
 
