@@ -139,6 +139,6 @@ blocks_or_refused s bs m c a (inr (inl h)) = table_or_fault s bs a.clean a.recor
 blocks_or_refused s bs m c a (inr (inr h)) =
     no_volume_fault s bs h.1 c (subst (NoMismatch s bs) (table_unique s bs a.clean a.records h.1 a.table h.2) a.alike) h.3
 
-pub accepted_or_refused : (image : Image) (m : Meant) (c : Refusal) → Accepts image m → Refuses image c → ⊥
-accepted_or_refused image m c a (inl h) = no_size_fault image c a.whole h
-accepted_or_refused image m c a (inr h) = blocks_or_refused image.sizes (eraseblocks image) m c a.accepted h.1
+pub never_accepted_and_refused : (image : Image) (m : Meant) (c : Refusal) → Accepts image m → Refuses image c → ⊥
+never_accepted_and_refused image m c a (inl h) = no_size_fault image c a.whole h
+never_accepted_and_refused image m c a (inr h) = blocks_or_refused image.sizes (eraseblocks image) m c a.accepted h.1

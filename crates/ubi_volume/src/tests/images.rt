@@ -1,20 +1,18 @@
 //! Images that tests are made of: eraseblocks of 512 bytes, with their volume-identifier header at byte 64 and 384
 //! bytes of data from byte 128 on. Their table has two slots.
+//!
+//! The eraseblocks are constants: a proof takes those as they stand, and pays for each loop and each call of a test.
 
-use crate::{Attached, BlockState, Meaning, ReadError, attach, read_leb};
+ghost use Rattle.std.specs.Prelude.{◌≤◌};
+
+use crate::{Attached, BlockState, Meaning, ReadError, attach, read_leb, read_volume};
 use std::alloc::{AllocError, Global};
+use std::process::Abort;
 use std::test::Fail;
 use ubi_media::{
     AttachError, EcHeader, Geometry, GeometryError, LAYOUT_VOLUME, Refusal, VidHeader, VolKind,
     write_ec, write_vid,
 };
-use ubi_scan::Blocks;
-
-/// A header that is erased.
-pub const BLANK: [u8; 64] = [0xFF; 64];
-
-/// A header of which nothing can be read.
-pub const CORRUPT: [u8; 64] = [0; 64];
 
 /// The check of 64 bytes 0x37. This and those below were worked out by another program.
 pub const CHECK_OF_37: u32 = 0x6BFF_21BA;
@@ -46,7 +44,7 @@ pub struct Slot {
     pub kind: u8,
     pub marker: u8,
     pub name_len: u8,
-    pub name: &'static [u8],
+    pub name: [u8; 4],
     pub check: u32,
 }
 
@@ -58,7 +56,7 @@ const EMPTY: Slot = Slot {
     kind: 0,
     marker: 0,
     name_len: 0,
-    name: b"",
+    name: [0; 4],
     check: 0xF116_C36B,
 };
 
@@ -70,13 +68,13 @@ pub const ROOT: Slot = Slot {
     kind: 1,
     marker: 0,
     name_len: 4,
-    name: b"root",
+    name: *b"root",
     check: 0x71DF_B11D,
 };
 
 /// The same with one bit of its name flipped.
 pub const FLIPPED: Slot = Slot {
-    name: b"soot",
+    name: *b"soot",
     ..ROOT
 };
 
@@ -127,7 +125,7 @@ pub const OVERFULL: Slot = Slot {
 pub const BOOT: Slot = Slot {
     reserved: 3,
     kind: 2,
-    name: b"boot",
+    name: *b"boot",
     check: 0x5FAB_ACF8,
     ..ROOT
 };
@@ -147,38 +145,198 @@ pub const MARKED_BOOT: Slot = Slot {
     ..BOOT
 };
 
+/// Writes four bytes at a place.
+fn put(bytes: &mut [u8; 172], at: usize, part: [u8; 4])
+    requires { at ≤ 168 }
+{
+    bytes[at..at + 4].copy_from_slice(&part);
+}
+
 impl Slot {
     /// The bytes of the record.
-    fn bytes(self) -> [u8; 172] {
+    fn bytes(&self) -> [u8; 172] {
         let mut bytes = [0u8; 172];
-        bytes[..4].copy_from_slice(&self.reserved.to_be_bytes());
-        bytes[4..8].copy_from_slice(&self.alignment.to_be_bytes());
-        bytes[8..12].copy_from_slice(&self.data_pad.to_be_bytes());
-        bytes[12] = self.kind;
-        bytes[13] = self.marker;
-        bytes[15] = self.name_len;
-        for (place, byte) in bytes[16..144].iter_mut().zip(self.name) {
-            *place = *byte;
-        }
-        bytes[168..172].copy_from_slice(&self.check.to_be_bytes());
+        put(&mut bytes, 0, self.reserved.to_be_bytes());
+        put(&mut bytes, 4, self.alignment.to_be_bytes());
+        put(&mut bytes, 8, self.data_pad.to_be_bytes());
+        put(&mut bytes, 12, [self.kind, self.marker, 0, self.name_len]);
+        put(&mut bytes, 16, self.name);
+        put(&mut bytes, 168, self.check.to_be_bytes());
         bytes
     }
 }
 
-/// An eraseblock: its two headers and its data.
+/// What stands in the place of an erase-counter header.
 #[derive(Clone, Copy)]
-pub struct Peb {
-    pub ec: [u8; 64],
-    pub vid: [u8; 64],
-    pub data: [u8; 384],
+pub enum Ec {
+    /// 0xFF throughout.
+    Blank,
+    /// Bytes of which nothing can be read.
+    Corrupt,
+    /// A header of counter 0 and image 0x12345678.
+    Zero,
 }
 
-/// An erased eraseblock.
-pub const ERASED: Peb = Peb {
-    ec: BLANK,
-    vid: BLANK,
-    data: [0xFF; 384],
+/// What stands in the place of a volume-identifier header.
+#[derive(Clone, Copy)]
+pub enum Vid {
+    /// 0xFF throughout.
+    Blank,
+    /// Bytes of which nothing can be read.
+    Corrupt,
+    /// A header.
+    Is(VidHeader),
+}
+
+/// The data of an eraseblock.
+#[derive(Clone, Copy)]
+pub enum Data {
+    /// A table: a record in slot 0, and none in slot 1.
+    Table(Slot),
+    /// A byte, so many times, and 0xFF behind.
+    Filled(u8, usize),
+    /// A byte, so many times, and zeros behind.
+    Zeroed(u8, usize),
+}
+
+/// An eraseblock: its two headers and its data.
+#[derive(Clone, Copy)]
+pub struct Peb(pub Ec, pub Vid, pub Data);
+
+/// The header of logical eraseblock 0 of volume 0, neither copied nor static.
+pub const PLAIN: VidHeader = VidHeader {
+    kind: VolKind::Dynamic,
+    copy_flag: false,
+    compat: 0,
+    vol_id: 0,
+    lnum: 0,
+    data_size: 0,
+    used_ebs: 0,
+    data_pad: 0,
+    data_crc: 0,
+    sqnum: 0,
 };
+
+/// The same, of a volume that leaves 128 bytes free.
+pub const PADDED: VidHeader = VidHeader {
+    data_pad: 128,
+    ..PLAIN
+};
+
+/// The header of logical eraseblock 1.
+pub const LEB_1: VidHeader = VidHeader { lnum: 1, ..PLAIN };
+
+/// The header of logical eraseblock 0, as a copy of 64 bytes 0x37.
+pub const COPIED: VidHeader = VidHeader {
+    copy_flag: true,
+    data_size: 64,
+    data_crc: CHECK_OF_37,
+    sqnum: 7,
+    ..PLAIN
+};
+
+/// The same as a copy of 64 bytes 0x39, with a check that is wrong.
+pub const MISCOPIED: VidHeader = VidHeader {
+    data_crc: WRONG_CHECK_OF_39,
+    sqnum: 9,
+    ..COPIED
+};
+
+/// The header of logical eraseblock 0 of static volume 0, which has one of 384 bytes 0x41.
+pub const STATIC: VidHeader = VidHeader {
+    kind: VolKind::Static,
+    used_ebs: 1,
+    data_size: 384,
+    data_crc: CHECK_OF_41,
+    ..PLAIN
+};
+
+/// The header of the first of two logical eraseblocks of static volume 0, with 384 bytes 0x61.
+pub const STATIC_0: VidHeader = VidHeader {
+    used_ebs: 2,
+    data_crc: CHECK_OF_61,
+    ..STATIC
+};
+
+/// The header of the second, with one byte 0x62.
+pub const STATIC_1: VidHeader = VidHeader {
+    lnum: 1,
+    data_size: 1,
+    data_crc: CHECK_OF_ONE_62,
+    ..STATIC_0
+};
+
+/// The header of the first copy of the table.
+pub const COPY_0: VidHeader = VidHeader {
+    compat: 5,
+    vol_id: LAYOUT_VOLUME,
+    ..PLAIN
+};
+
+/// The header of the second copy.
+pub const COPY_1: VidHeader = VidHeader { lnum: 1, ..COPY_0 };
+
+/// The header of a volume of others, which may be dropped.
+pub const OTHERS: VidHeader = VidHeader {
+    compat: 1,
+    vol_id: 0x7FFF_F000,
+    ..PLAIN
+};
+
+/// An erased eraseblock.
+pub const ERASED: Peb = Peb(Ec::Blank, Vid::Blank, Data::Filled(0xFF, 384));
+
+/// The first copy of a table with the volume `root`.
+pub const FIRST: Peb = Peb(Ec::Zero, Vid::Is(COPY_0), Data::Table(ROOT));
+
+/// The second copy.
+pub const SECOND: Peb = Peb(Ec::Zero, Vid::Is(COPY_1), Data::Table(ROOT));
+
+/// The first copy with one bit of the record flipped.
+pub const FIRST_FLIPPED: Peb = Peb(Ec::Zero, Vid::Is(COPY_0), Data::Table(FLIPPED));
+
+/// The first copy of a table with a dynamic volume while it is updated.
+pub const FIRST_MARKED: Peb = Peb(Ec::Zero, Vid::Is(COPY_0), Data::Table(MARKED));
+
+/// The second copy.
+pub const SECOND_MARKED: Peb = Peb(Ec::Zero, Vid::Is(COPY_1), Data::Table(MARKED));
+
+/// The first copy of a table with the volume `boot`.
+pub const FIRST_BOOT: Peb = Peb(Ec::Zero, Vid::Is(COPY_0), Data::Table(BOOT));
+
+/// The second copy.
+pub const SECOND_BOOT: Peb = Peb(Ec::Zero, Vid::Is(COPY_1), Data::Table(BOOT));
+
+/// A logical eraseblock of 384 bytes 0x41.
+pub const A: Peb = Peb(Ec::Zero, Vid::Is(PLAIN), Data::Filled(0x41, 384));
+
+/// The next one, of 384 bytes 0x42.
+pub const B: Peb = Peb(Ec::Zero, Vid::Is(LEB_1), Data::Filled(0x42, 384));
+
+/// The one behind it, of 384 bytes 0x43.
+pub const C: Peb = Peb(
+    Ec::Zero,
+    Vid::Is(VidHeader { lnum: 2, ..PLAIN }),
+    Data::Filled(0x43, 384),
+);
+
+/// The first logical eraseblock of a static volume that has two.
+pub const TEXT_0: Peb = Peb(Ec::Zero, Vid::Is(STATIC_0), Data::Filled(0x61, 384));
+
+/// The second, which holds one byte.
+pub const TEXT_1: Peb = Peb(Ec::Zero, Vid::Is(STATIC_1), Data::Filled(0x62, 384));
+
+/// A dynamic volume, three of whose logical eraseblocks hold bytes 0x41, 0x42 and 0x43.
+pub const BASE: [Peb; 5] = [FIRST, SECOND, A, B, C];
+
+/// What its 20 logical eraseblocks read. It takes no memory.
+pub fn base_text() -> [u8; 7680] {
+    let mut text = [0xFF; 7680];
+    text[..384].fill(0x41);
+    text[384..768].fill(0x42);
+    text[768..1152].fill(0x43);
+    text
+}
 
 /// The geometry of the eraseblocks.
 pub fn geometry() -> Result<Geometry, GeometryError> {
@@ -186,7 +344,7 @@ pub fn geometry() -> Result<Geometry, GeometryError> {
 }
 
 /// An erase-counter header of counter 0 and image 0x12345678.
-pub fn ec() -> Result<[u8; 64], GeometryError> {
+fn ec_bytes() -> Result<[u8; 64], GeometryError> {
     let header = EcHeader {
         counter: 0,
         image_seq: 0x1234_5678,
@@ -194,128 +352,141 @@ pub fn ec() -> Result<[u8; 64], GeometryError> {
     Ok(write_ec(&geometry()?, &header))
 }
 
-/// So many bytes, and 0xFF behind them.
-pub fn filled(byte: u8, count: usize) -> [u8; 384] {
-    let mut data = [0xFF; 384];
-    for place in data.iter_mut().take(count) {
-        *place = byte;
-    }
+/// A byte, so many times, and another one behind.
+fn filled(byte: u8, count: usize, behind: u8) -> [u8; 384] {
+    let mut data = [behind; 384];
+    data[..count.min(384)].fill(byte);
     data
 }
 
-/// An eraseblock with a volume-identifier header and these data.
-pub fn holding(header: &VidHeader, data: [u8; 384]) -> Result<Peb, GeometryError> {
-    Ok(Peb {
-        ec: ec()?,
-        vid: write_vid(header),
-        data,
-    })
-}
-
-/// A copy of the table: a record in slot 0, and none in slot 1.
-pub fn copy(lnum: u32, slot: Slot) -> Result<Peb, GeometryError> {
-    let header = VidHeader {
-        compat: 5,
-        vol_id: LAYOUT_VOLUME,
-        ..plain(lnum, 0)
-    };
+/// The data of a copy of the table: a record in slot 0, and none in slot 1.
+fn table(slot: &Slot) -> [u8; 384] {
     let mut data = [0xFF; 384];
-    for (place, slot) in data.as_chunks_mut::<172>().0.iter_mut().zip([slot, EMPTY]) {
-        *place = slot.bytes();
-    }
-    holding(&header, data)
+    data[..172].copy_from_slice(&slot.bytes());
+    data[172..344].copy_from_slice(&EMPTY.bytes());
+    data
 }
 
-/// The header of a logical eraseblock of volume 0, neither copied nor static.
-pub fn plain(lnum: u32, sqnum: u64) -> VidHeader {
-    VidHeader {
-        kind: VolKind::Dynamic,
-        copy_flag: false,
-        compat: 0,
-        vol_id: 0,
-        lnum,
-        data_size: 0,
-        used_ebs: 0,
-        data_pad: 0,
-        data_crc: 0,
-        sqnum,
+impl Peb {
+    /// The bytes of the erase-counter header.
+    fn ec(&self) -> Result<[u8; 64], GeometryError> {
+        match self.0 {
+            Ec::Blank => Ok([0xFF; 64]),
+            Ec::Corrupt => Ok([0; 64]),
+            Ec::Zero => ec_bytes(),
+        }
     }
-}
 
-/// The same as a copy of 64 bytes.
-pub fn copied(sqnum: u64, data_crc: u32) -> VidHeader {
-    VidHeader {
-        copy_flag: true,
-        data_size: 64,
-        data_crc,
-        ..plain(0, sqnum)
+    /// The bytes of the volume-identifier header.
+    fn vid(&self) -> [u8; 64] {
+        match &self.1 {
+            Vid::Blank => [0xFF; 64],
+            Vid::Corrupt => [0; 64],
+            Vid::Is(header) => write_vid(header),
+        }
     }
-}
 
-/// The header of a logical eraseblock of static volume 0, which has so many.
-pub fn static_leb(lnum: u32, used_ebs: u32, data_size: u32, data_crc: u32) -> VidHeader {
-    VidHeader {
-        kind: VolKind::Static,
-        used_ebs,
-        data_size,
-        data_crc,
-        ..plain(lnum, 0)
+    /// The bytes of the data.
+    fn data(&self) -> [u8; 384] {
+        match &self.2 {
+            Data::Table(slot) => table(slot),
+            Data::Filled(byte, count) => filled(*byte, *count, 0xFF),
+            Data::Zeroed(byte, count) => filled(*byte, *count, 0),
+        }
     }
-}
 
-/// A dynamic volume, three of whose logical eraseblocks hold bytes 0x41, 0x42 and 0x43.
-pub fn base() -> Result<[Peb; 5], GeometryError> {
-    Ok([
-        copy(0, ROOT)?,
-        copy(1, ROOT)?,
-        holding(&plain(0, 0), filled(0x41, 384))?,
-        holding(&plain(1, 0), filled(0x42, 384))?,
-        holding(&plain(2, 0), filled(0x43, 384))?,
-    ])
+    /// The bytes in front of the data.
+    fn headers(&self) -> Result<[u8; 128], GeometryError> {
+        let (ec, vid) = (self.ec()?, self.vid());
+        let mut bytes = [0u8; 128];
+        bytes[..64].copy_from_slice(&ec);
+        bytes[64..].copy_from_slice(&vid);
+        Ok(bytes)
+    }
+
+    /// The bytes of the eraseblock. It takes no memory.
+    pub fn bytes(&self) -> Result<[u8; 512], GeometryError> {
+        let (headers, data) = (self.headers()?, self.data());
+        let mut bytes = [0u8; 512];
+        bytes[..128].copy_from_slice(&headers);
+        bytes[128..].copy_from_slice(&data);
+        Ok(bytes)
+    }
 }
 
 /// The bytes of some eraseblocks.
-pub fn image(alloc: Global, pebs: &[Peb]) -> Result<Vec<u8>, AllocError> {
+fn image(alloc: Global, pebs: &[Peb]) -> Result<Vec<u8>, Fail> {
     let mut bytes = Vec::new(alloc);
     for peb in pebs {
-        bytes.extend_from_slice(&peb.ec)?;
-        bytes.extend_from_slice(&peb.vid)?;
-        bytes.extend_from_slice(&peb.data)?;
+        bytes.extend_from_slice(&peb.bytes()?)?;
     }
     Ok(bytes)
+}
+
+/// What an attach of some bytes answers. It has no contract, so that a proof of a caller is spared that of `attach`.
+pub fn attach_bytes(
+    alloc: Global,
+    image: &[u8],
+) -> Result<Result<Attached, AttachError>, GeometryError> {
+    Ok(attach(alloc, &geometry()?, image))
 }
 
 /// Some eraseblocks, attached.
 pub fn attached(alloc: Global, pebs: &[Peb]) -> Result<Attached, Fail> {
     let bytes = image(alloc, pebs)?;
-    Ok(attach(alloc, &geometry()?, bytes.as_slice())?)
+    Ok(attach_bytes(alloc, bytes.as_slice())??)
 }
 
-/// The state of each of them.
-pub fn states(alloc: Global, pebs: &[Peb]) -> Result<Vec<BlockState>, Fail> {
-    let geometry = geometry()?;
-    let bytes = image(alloc, pebs)?;
-    let blocks = Blocks::new(&geometry, bytes.as_slice())?;
-    let attached = attach(alloc, &geometry, bytes.as_slice())?;
-    let mut states = Vec::new(alloc);
-    for p in 0..blocks.count() {
-        states.push(attached.state(p))?;
+/// The state of an eraseblock, where there is one.
+fn state_of(attached: &Attached, p: u32) -> Option<BlockState> {
+    if (p as usize) < attached.states().len() {
+        Some(attached.state(p))
+    } else {
+        None
     }
-    Ok(states)
+}
+
+/// The state of each of some eraseblocks.
+pub fn states(alloc: Global, pebs: &[Peb]) -> Result<Vec<BlockState>, Fail> {
+    let attached = attached(alloc, pebs)?;
+    let mut states = Vec::new(alloc);
+    for p in 0..33u32 {
+        match state_of(&attached, p) {
+            Some(state) => states.push(state)?,
+            None => return Ok(states),
+        }
+    }
+    Err("more eraseblocks than the device has".into())
 }
 
 /// For what cause some eraseblocks are refused, if they are.
-pub fn refusal(alloc: Global, pebs: &[Peb]) -> Result<Option<Refusal>, Fail> {
+fn refusal(alloc: Global, pebs: &[Peb]) -> Result<Option<Refusal>, Fail> {
     let bytes = image(alloc, pebs)?;
-    match attach(alloc, &geometry()?, bytes.as_slice()) {
+    match attach_bytes(alloc, bytes.as_slice())? {
         Ok(_) => Ok(None),
         Err(AttachError::Refused(cause)) => Ok(Some(cause)),
         Err(AttachError::Memory) => Err(AllocError.into()),
     }
 }
 
+/// Asserts for what cause some eraseblocks are refused, if they are.
+pub fn assert_refusal(
+    rt: &impl Abort,
+    alloc: Global,
+    pebs: &[Peb],
+    want: Option<Refusal>,
+) -> Result<(), Fail> {
+    assert_eq!(*rt; refusal(alloc, pebs)?, want);
+    Ok(())
+}
+
+/// What a volume reads, or why it isn't read. It has no contract, as `attach_bytes`.
+pub fn text_of(alloc: Global, meaning: &Meaning, id: u32) -> Result<Vec<u8>, ReadError> {
+    read_volume(alloc, meaning, id)
+}
+
 /// What a read into 400 bytes 0xAA answers, and what they are then.
-pub fn read(
+fn read(
     meaning: &Meaning,
     id: u32,
     lnum: u32,
@@ -328,21 +499,42 @@ pub fn read(
     Ok((answer, out))
 }
 
-/// What a read of a logical eraseblock answers that gives so many bytes, each as often as it says.
-pub fn reading(runs: &[(u8, usize)]) -> (Result<usize, ReadError>, [u8; 400]) {
+/// What a read answers that gives `size` bytes, the first `count` of them `byte`, and the others 0xFF.
+fn reading(byte: u8, count: usize, size: usize) -> (Result<usize, ReadError>, [u8; 400]) {
     let mut out = [0xAA; 400];
-    let mut places = out.iter_mut();
-    let mut count = 0usize;
-    for (byte, times) in runs {
-        for place in places.by_ref().take(*times) {
-            *place = *byte;
-            count = count.saturating_add(1);
-        }
-    }
-    (Ok(count), out)
+    out[..size.min(400)].fill(0xFF);
+    out[..count.min(400)].fill(byte);
+    (Ok(size), out)
 }
 
-/// What a refused read answers.
-pub fn refused(cause: ReadError) -> (Result<usize, ReadError>, [u8; 400]) {
-    (Err(cause), [0xAA; 400])
+/// Asserts that a logical eraseblock of volume 0 reads so many bytes: a byte and how often it stands there, 0xFF behind,
+/// and how many there are in all.
+pub fn assert_reads(
+    rt: &impl Abort,
+    meaning: &Meaning,
+    lnum: u32,
+    (byte, count, size): (u8, usize, usize),
+) -> Result<(), Fail> {
+    assert_eq!(*rt;
+        read(meaning, 0, lnum)?,
+        reading(byte, count, size),
+        "logical eraseblock {lnum}"
+    );
+    Ok(())
+}
+
+/// Asserts that a logical eraseblock of a volume isn't read, and why.
+pub fn assert_not_read(
+    rt: &impl Abort,
+    meaning: &Meaning,
+    id: u32,
+    lnum: u32,
+    cause: ReadError,
+) -> Result<(), Fail> {
+    assert_eq!(*rt;
+        read(meaning, id, lnum)?,
+        (Err(cause), [0xAA; 400]),
+        "logical eraseblock {lnum} of volume {id}"
+    );
+    Ok(())
 }

@@ -3,23 +3,41 @@
 use super::images::geometry;
 use crate::{Bytes, Content, Lebs, Meaning, MeaningCause, MeaningError, Volume};
 use std::alloc::{AllocError, Global};
+use std::process::Abort;
 use std::test::Fail;
 use ubi_media::{RecFault, VolKind, VolName, VolumeRecord};
 
-/// Some bytes, each as often as it is wanted.
+/// A volume that is handed in. It is dynamic, has the name `root` and 20 eraseblocks and is empty, but for what is said.
+#[derive(Clone, Copy)]
+enum Given {
+    /// It has so many eraseblocks.
+    Root(u32),
+    /// It has the name `boot`, and so many eraseblocks.
+    Boot(u32),
+    /// Its alignment is neither 1 nor a multiple of the page.
+    Odd,
+    /// It has one logical eraseblock, and so many bytes 0x41 in it.
+    Leb(u32, usize),
+    /// It has logical eraseblock 3, of 0xFF throughout, and 5, of bytes 0x42.
+    Blank,
+    /// It is static, has the name `boot` and 2 eraseblocks, and so many bytes 0x41.
+    Text(usize),
+    /// It has the update marker.
+    Marked,
+    /// It has no update marker, and is said to be updated.
+    Unmarked,
+    /// It is said to be damaged.
+    Damaged,
+}
+
+/// So many bytes.
 fn bytes(alloc: Global, byte: u8, count: usize) -> Result<Bytes, AllocError> {
-    let mut bytes = Vec::new(alloc);
-    for _ in 0..count {
-        bytes.push(byte)?;
-    }
-    Ok(Bytes::new(bytes))
+    Ok(Bytes::new(vec![in alloc; byte; count]?))
 }
 
 /// The record of a dynamic volume of so many eraseblocks.
 fn record(name: &[u8], reserved: u32) -> Result<VolumeRecord, Fail> {
-    let Some(name) = VolName::new(name) else {
-        return Err("not a name".into());
-    };
+    let name = VolName::new(name).ok_or("a name")?;
     Ok(VolumeRecord {
         reserved,
         alignment: 1,
@@ -30,233 +48,262 @@ fn record(name: &[u8], reserved: u32) -> Result<VolumeRecord, Fail> {
     })
 }
 
+/// A dynamic volume of 20 eraseblocks.
+fn root(content: Content) -> Result<Volume, Fail> {
+    let entry = record(b"root", 20)?;
+    Ok(Volume { entry, content })
+}
+
 /// A dynamic volume of so many eraseblocks, in which nothing is written.
 fn empty(alloc: Global, name: &[u8], reserved: u32) -> Result<Volume, Fail> {
+    let entry = record(name, reserved)?;
     Ok(Volume {
-        entry: record(name, reserved)?,
+        entry,
         content: Content::Dynamic(Lebs::new(alloc)),
     })
 }
 
-/// A dynamic volume of 20 eraseblocks with one logical eraseblock, of bytes 0x41.
+/// One whose alignment is neither 1 nor a multiple of the page.
+fn odd(alloc: Global) -> Result<Volume, Fail> {
+    let mut entry = record(b"root", 20)?;
+    entry.alignment = 65;
+    Ok(Volume {
+        entry,
+        content: Content::Dynamic(Lebs::new(alloc)),
+    })
+}
+
+/// One with the update marker.
+fn marked(alloc: Global) -> Result<Volume, Fail> {
+    let mut entry = record(b"root", 20)?;
+    entry.marker = true;
+    Ok(Volume {
+        entry,
+        content: Content::Dynamic(Lebs::new(alloc)),
+    })
+}
+
+/// A dynamic volume with one logical eraseblock, of bytes 0x41.
 fn written(alloc: Global, lnum: u32, size: usize) -> Result<Volume, Fail> {
     let mut lebs = Lebs::new(alloc);
     lebs.insert(lnum, bytes(alloc, 0x41, size)?)?;
-    Ok(Volume {
-        entry: record(b"root", 20)?,
-        content: Content::Dynamic(lebs),
-    })
+    root(Content::Dynamic(lebs))
+}
+
+/// A dynamic volume with one logical eraseblock of 0xFF throughout, and another one.
+fn half_blank(alloc: Global) -> Result<Volume, Fail> {
+    let mut lebs = Lebs::new(alloc);
+    lebs.insert(3, bytes(alloc, 0xFF, 384)?)?;
+    lebs.insert(5, bytes(alloc, 0x42, 384)?)?;
+    root(Content::Dynamic(lebs))
 }
 
 /// A static volume of 2 eraseblocks with so many bytes.
 fn text(alloc: Global, size: usize) -> Result<Volume, Fail> {
+    let mut entry = record(b"boot", 2)?;
+    entry.kind = VolKind::Static;
     Ok(Volume {
-        entry: VolumeRecord {
-            kind: VolKind::Static,
-            ..record(b"boot", 2)?
-        },
+        entry,
         content: Content::Static(bytes(alloc, 0x41, size)?),
     })
 }
 
-/// The volume with the update marker set.
-fn marked(volume: Volume) -> Volume {
-    Volume {
-        entry: VolumeRecord {
-            marker: true,
-            ..volume.entry
-        },
-        content: volume.content,
+impl Given {
+    /// The volume.
+    fn volume(self, alloc: Global) -> Result<Volume, Fail> {
+        match self {
+            Given::Root(reserved) => empty(alloc, b"root", reserved),
+            Given::Boot(reserved) => empty(alloc, b"boot", reserved),
+            Given::Odd => odd(alloc),
+            Given::Leb(lnum, size) => written(alloc, lnum, size),
+            Given::Blank => half_blank(alloc),
+            Given::Text(size) => text(alloc, size),
+            Given::Marked => marked(alloc),
+            Given::Unmarked => root(Content::Updating),
+            Given::Damaged => root(Content::Damaged),
+        }
     }
 }
 
+/// Some volumes, each with its number.
+fn volumes(alloc: Global, given: &[(u32, Given)]) -> Result<Vec<(u32, Volume)>, Fail> {
+    let mut volumes = Vec::new(alloc);
+    for (id, volume) in given {
+        volumes.push((*id, volume.volume(alloc)?))?;
+    }
+    Ok(volumes)
+}
+
 /// The error of volumes that have no meaning together.
-fn refused(volumes: Vec<(u32, Volume)>) -> Result<MeaningError, Fail> {
-    match Meaning::new(&geometry()?, volumes) {
+fn refused(alloc: Global, given: &[(u32, Given)]) -> Result<MeaningError, Fail> {
+    match Meaning::new(&geometry()?, volumes(alloc, given)?) {
         Ok(_) => Err("has a meaning".into()),
         Err(error) => Ok(error),
     }
 }
 
-/// Why one volume has no meaning.
-fn cause_of(alloc: Global, id: u32, volume: Volume) -> Result<MeaningCause, Fail> {
-    Ok(refused(vec![in alloc; (id, volume)]?)?.cause)
-}
-
-/// Why two volumes have no meaning together.
-fn cause_of_two(
-    alloc: Global,
-    first: (u32, Volume),
-    second: (u32, Volume),
-) -> Result<MeaningCause, Fail> {
-    Ok(refused(vec![in alloc; first, second]?)?.cause)
-}
-
 /// The meaning of volumes that have one.
-fn made(volumes: Vec<(u32, Volume)>) -> Result<Meaning, Fail> {
-    match Meaning::new(&geometry()?, volumes) {
+fn made(alloc: Global, given: &[(u32, Given)]) -> Result<Meaning, Fail> {
+    match Meaning::new(&geometry()?, volumes(alloc, given)?) {
         Ok(meaning) => Ok(meaning),
         Err(_) => Err("has no meaning".into()),
     }
 }
 
+/// Asserts why volumes have no meaning together.
+fn assert_cause(
+    rt: &impl Abort,
+    alloc: Global,
+    given: &[(u32, Given)],
+    want: MeaningCause,
+) -> Result<(), Fail> {
+    assert_eq!(*rt; refused(alloc, given)?.cause, want);
+    Ok(())
+}
+
 #[test]
 fn refuses_numbers_and_records(rt: HostRuntime) -> Result<(), Fail> {
     let alloc = rt.alloc();
-    let root = empty(alloc, b"root", 20)?;
-    assert_eq!(rt; cause_of(alloc, 2, root)?, MeaningCause::IdRange(0));
-    let (first, second) = (
-        (0, empty(alloc, b"root", 20)?),
-        (0, empty(alloc, b"boot", 2)?),
-    );
-    assert_eq!(rt;
-        cause_of_two(alloc, first, second)?,
-        MeaningCause::SameId(1)
-    );
-    let none = empty(alloc, b"root", 0)?;
-    let cause = cause_of(alloc, 0, none)?;
-    assert_eq!(rt; cause, MeaningCause::Record(0, RecFault::NotEmpty));
-    let mut odd = empty(alloc, b"root", 20)?;
-    odd.entry.alignment = 65;
-    let cause = cause_of(alloc, 0, odd)?;
-    assert_eq!(rt; cause, MeaningCause::Record(0, RecFault::AlignmentPage));
-    Ok(())
+    assert_cause(
+        &rt,
+        alloc,
+        &[(2, Given::Root(20))],
+        MeaningCause::IdRange(0),
+    )?;
+    let twice = &[(0, Given::Root(20)), (0, Given::Boot(2))];
+    assert_cause(&rt, alloc, twice, MeaningCause::SameId(1))?;
+    let not_empty = MeaningCause::Record(0, RecFault::NotEmpty);
+    assert_cause(&rt, alloc, &[(0, Given::Root(0))], not_empty)?;
+    let alignment = MeaningCause::Record(0, RecFault::AlignmentPage);
+    assert_cause(&rt, alloc, &[(0, Given::Odd)], alignment)
 }
 
 #[test]
 fn refuses_volumes_that_do_not_go_together(rt: HostRuntime) -> Result<(), Fail> {
     let alloc = rt.alloc();
-    let (first, second) = (
-        (0, empty(alloc, b"root", 20)?),
-        (1, empty(alloc, b"root", 2)?),
-    );
-    assert_eq!(rt;
-        cause_of_two(alloc, first, second)?,
-        MeaningCause::SameName(1, 0)
-    );
-    let large = empty(alloc, b"root", 31)?;
-    assert_eq!(rt; cause_of(alloc, 0, large)?, MeaningCause::NoSpace);
-    let (first, second) = (
-        (0, empty(alloc, b"root", 20)?),
-        (1, empty(alloc, b"boot", 11)?),
-    );
-    assert_eq!(rt; cause_of_two(alloc, first, second)?, MeaningCause::NoSpace);
-    Ok(())
+    let twice = &[(0, Given::Root(20)), (1, Given::Root(2))];
+    assert_cause(&rt, alloc, twice, MeaningCause::SameName(1, 0))?;
+    assert_cause(&rt, alloc, &[(0, Given::Root(31))], MeaningCause::NoSpace)?;
+    let large = &[(0, Given::Root(20)), (1, Given::Boot(11))];
+    assert_cause(&rt, alloc, large, MeaningCause::NoSpace)
 }
 
 #[test]
 fn refuses_contents(rt: HostRuntime) -> Result<(), Fail> {
     let alloc = rt.alloc();
-    let refused = MeaningCause::ContentRange(0);
-    assert_eq!(rt; cause_of(alloc, 0, written(alloc, 0, 383)?)?, refused);
-    assert_eq!(rt; cause_of(alloc, 0, written(alloc, 20, 384)?)?, refused);
-    assert_eq!(rt; cause_of(alloc, 0, text(alloc, 769)?)?, refused);
-    assert_eq!(rt;
-        cause_of(alloc, 0, marked(empty(alloc, b"root", 20)?))?,
-        refused
-    );
-    let unmarked = Volume {
-        content: Content::Updating,
-        ..empty(alloc, b"root", 20)?
-    };
-    assert_eq!(rt; cause_of(alloc, 0, unmarked)?, refused);
-    let damaged = Volume {
-        content: Content::Damaged,
-        ..empty(alloc, b"root", 20)?
-    };
-    assert_eq!(rt; cause_of(alloc, 0, damaged)?, refused);
-    Ok(())
+    let cause = MeaningCause::ContentRange(0);
+    assert_cause(&rt, alloc, &[(0, Given::Leb(0, 383))], cause)?;
+    assert_cause(&rt, alloc, &[(0, Given::Leb(20, 384))], cause)?;
+    assert_cause(&rt, alloc, &[(0, Given::Text(769))], cause)?;
+    assert_cause(&rt, alloc, &[(0, Given::Marked)], cause)?;
+    assert_cause(&rt, alloc, &[(0, Given::Unmarked)], cause)?;
+    assert_cause(&rt, alloc, &[(0, Given::Damaged)], cause)
 }
 
 #[test]
 fn tries_a_cause_of_a_later_item_first(rt: HostRuntime) -> Result<(), Fail> {
     let alloc = rt.alloc();
-    let volumes = vec![in alloc;
-        (0, empty(alloc, b"root", 20)?),
-        (0, empty(alloc, b"boot", 2)?),
-        (2, empty(alloc, b"root", 20)?),
-    ]?;
-    assert_eq!(rt; refused(volumes)?.cause, MeaningCause::IdRange(2));
-    let (first, second) = (
-        (0, written(alloc, 0, 383)?),
-        (1, empty(alloc, b"root", 20)?),
-    );
-    assert_eq!(rt;
-        cause_of_two(alloc, first, second)?,
-        MeaningCause::SameName(1, 0)
-    );
-    let (first, second) = (
-        (0, written(alloc, 0, 383)?),
-        (1, empty(alloc, b"boot", 20)?),
-    );
-    assert_eq!(rt; cause_of_two(alloc, first, second)?, MeaningCause::NoSpace);
-    Ok(())
+    let given = &[
+        (0, Given::Root(20)),
+        (0, Given::Boot(2)),
+        (2, Given::Root(20)),
+    ];
+    assert_cause(&rt, alloc, given, MeaningCause::IdRange(2))?;
+    let given = &[(0, Given::Leb(0, 383)), (1, Given::Root(20))];
+    assert_cause(&rt, alloc, given, MeaningCause::SameName(1, 0))?;
+    let given = &[(0, Given::Leb(0, 383)), (1, Given::Boot(20))];
+    assert_cause(&rt, alloc, given, MeaningCause::NoSpace)
+}
+
+/// The number of an item.
+fn id_of(item: Option<&(u32, Volume)>) -> Option<u32> {
+    item.map(|item| item.0)
+}
+
+/// How many bytes a logical eraseblock of a dynamic volume has, where it is kept, and how many are kept.
+fn leb_of(volume: &Volume, lnum: u32) -> Result<(Option<usize>, usize), Fail> {
+    match &volume.content {
+        Content::Dynamic(lebs) => {
+            let size = lebs.get(lnum).map(|leb| leb.as_slice().len());
+            Ok((size, lebs.len()))
+        }
+        _ => Err("another content".into()),
+    }
 }
 
 #[test]
 fn hands_the_volumes_back(rt: HostRuntime) -> Result<(), Fail> {
     let alloc = rt.alloc();
-    let volumes = vec![in alloc; (1, written(alloc, 0, 383)?), (0, text(alloc, 768)?)]?;
-    let error = refused(volumes)?;
+    let given = &[(1, Given::Leb(0, 383)), (0, Given::Text(768))];
+    let error = refused(alloc, given)?;
     assert_eq!(rt; error.cause, MeaningCause::ContentRange(0));
     assert_eq!(rt; error.volumes.len(), 2);
-    let volumes = error.volumes.as_slice();
-    assert_eq!(rt; (volumes[0].0, volumes[1].0), (1, 0));
-    let Content::Dynamic(lebs) = &volumes[0].1.content else {
-        return Err("another content".into());
-    };
-    assert_eq!(rt; lebs.get(0).map(|leb| leb.as_slice().len()), Some(383));
+    assert_eq!(rt; id_of(error.volumes.first()), Some(1));
+    assert_eq!(rt; id_of(error.volumes.last()), Some(0));
+    let (_, volume) = error.volumes.first().ok_or("an item")?;
+    assert_eq!(rt; leb_of(volume, 0)?, (Some(383), 1));
+    assert!(rt; error.volumes == volumes(alloc, given)?);
     Ok(())
 }
 
 #[test]
 fn sorts_and_drops_what_is_blank(rt: HostRuntime) -> Result<(), Fail> {
-    let alloc = rt.alloc();
-    let mut lebs = Lebs::new(alloc);
-    lebs.insert(3, bytes(alloc, 0xFF, 384)?)?;
-    lebs.insert(5, bytes(alloc, 0x42, 384)?)?;
-    let root = Volume {
-        entry: record(b"root", 20)?,
-        content: Content::Dynamic(lebs),
-    };
-    let meaning = made(vec![in alloc; (1, root), (0, text(alloc, 768)?)]?)?;
+    let meaning = made(rt.alloc(), &[(1, Given::Blank), (0, Given::Text(768))])?;
     let volumes = meaning.volumes();
     assert_eq!(rt; volumes.len(), 2);
-    assert_eq!(rt; (volumes[0].0, volumes[1].0), (0, 1));
-    let Content::Dynamic(lebs) = &volumes[1].1.content else {
-        return Err("another content".into());
-    };
-    assert_eq!(rt; lebs.len(), 1);
-    assert_eq!(rt; lebs.get(5).map(|leb| leb.as_slice().len()), Some(384));
+    assert_eq!(rt; id_of(volumes.first()), Some(0));
+    assert_eq!(rt; id_of(volumes.last()), Some(1));
+    let (_, volume) = volumes.last().ok_or("an item")?;
+    assert_eq!(rt; leb_of(volume, 5)?, (Some(384), 1));
+    Ok(())
+}
+
+/// Asserts whether a meaning is that of some volumes.
+fn assert_equal(
+    rt: &impl Abort,
+    alloc: Global,
+    meaning: &Meaning,
+    given: &[(u32, Given)],
+    want: bool,
+) -> Result<(), Fail> {
+    let other = made(alloc, given)?;
+    assert_eq!(*rt; *meaning == other, want);
     Ok(())
 }
 
 #[test]
 fn compares_meanings(rt: HostRuntime) -> Result<(), Fail> {
     let alloc = rt.alloc();
-    let one = made(vec![in alloc; (0, written(alloc, 3, 384)?), (1, text(alloc, 768)?)]?)?;
-    let turned = made(vec![in alloc; (1, text(alloc, 768)?), (0, written(alloc, 3, 384)?)]?)?;
-    assert_eq!(rt; one == turned, true);
-    let shorter = made(vec![in alloc; (0, written(alloc, 3, 384)?), (1, text(alloc, 767)?)]?)?;
-    assert_eq!(rt; one == shorter, false);
-    let elsewhere = made(vec![in alloc; (0, written(alloc, 4, 384)?), (1, text(alloc, 768)?)]?)?;
-    assert_eq!(rt; one == elsewhere, false);
-    let blank = made(vec![in alloc; (0, empty(alloc, b"root", 20)?), (1, text(alloc, 768)?)]?)?;
-    assert_eq!(rt; one == blank, false);
-    Ok(())
+    let one = made(alloc, &[(0, Given::Leb(3, 384)), (1, Given::Text(768))])?;
+    let turned = &[(1, Given::Text(768)), (0, Given::Leb(3, 384))];
+    assert_equal(&rt, alloc, &one, turned, true)?;
+    let shorter = &[(0, Given::Leb(3, 384)), (1, Given::Text(767))];
+    assert_equal(&rt, alloc, &one, shorter, false)?;
+    let elsewhere = &[(0, Given::Leb(4, 384)), (1, Given::Text(768))];
+    assert_equal(&rt, alloc, &one, elsewhere, false)?;
+    let blank = &[(0, Given::Root(20)), (1, Given::Text(768))];
+    assert_equal(&rt, alloc, &one, blank, false)
+}
+
+/// The number of a logical eraseblock, and how many bytes it has.
+fn size_of(entry: Option<(&u32, &Bytes)>) -> Option<(u32, usize)> {
+    match entry {
+        Some((lnum, bytes)) => Some((*lnum, bytes.as_slice().len())),
+        None => None,
+    }
 }
 
 #[test]
 fn goes_over_logical_eraseblocks(rt: HostRuntime) -> Result<(), Fail> {
     let alloc = rt.alloc();
     let mut lebs = Lebs::new(alloc);
-    for lnum in [7, 2, 5] {
-        lebs.insert(lnum, bytes(alloc, 0x41, lnum as usize)?)?;
-    }
-    let mut found = Vec::new(alloc);
-    for (lnum, bytes) in lebs.iter() {
-        found.push((*lnum, bytes.as_slice().len()))?;
-    }
-    assert_eq!(rt; found.as_slice(), [(2, 2), (5, 5), (7, 7)].as_slice());
+    lebs.insert(7, bytes(alloc, 0x41, 7)?)?;
+    lebs.insert(2, bytes(alloc, 0x41, 2)?)?;
+    lebs.insert(5, bytes(alloc, 0x41, 5)?)?;
+    let mut entries = lebs.iter();
+    assert_eq!(rt; size_of(entries.next()), Some((2, 2)));
+    assert_eq!(rt; size_of(entries.next()), Some((5, 5)));
+    assert_eq!(rt; size_of(entries.next()), Some((7, 7)));
+    assert_eq!(rt; size_of(entries.next()), None);
     Ok(())
 }

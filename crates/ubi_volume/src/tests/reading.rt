@@ -1,205 +1,261 @@
 //! What dynamic volumes read.
 
 use super::images::{
-    ALIGNMENT_256, BLANK, CHECK_OF_37, CORRUPT, ERASED, FLIPPED, MARKED, Peb, ROOT,
-    WRONG_CHECK_OF_39, attached, base, copied, copy, filled, holding, plain, read, reading,
-    refused,
+    A, ALIGNMENT_256, B, BASE, C, COPIED, COPY_0, COPY_1, Data, ERASED, Ec, FIRST, FIRST_FLIPPED,
+    FIRST_MARKED, LEB_1, MISCOPIED, PADDED, PLAIN, Peb, SECOND, SECOND_MARKED, Vid,
+    assert_not_read, assert_reads, attached, base_text, text_of,
 };
-use crate::{Content, ReadError, read_volume};
+use crate::{Attached, Content, Meaning, ReadError};
+use std::alloc::Global;
+use std::process::Abort;
 use std::test::Fail;
 use ubi_media::{LAYOUT_VOLUME, VidHeader, VolKind};
 
 #[test]
-fn attaches_a_volume(rt: HostRuntime) -> Result<(), Fail> {
-    let alloc = rt.alloc();
-    let attached = attached(alloc, &base()?)?;
+fn attaches_an_image(rt: HostRuntime) -> Result<(), Fail> {
+    let attached = attached(rt.alloc(), &BASE)?;
     assert_eq!(rt; attached.top_sqnum(), 0);
     assert_eq!(rt; attached.image_seq(), 305_419_896);
     assert_eq!(rt; attached.mean_ec(), 0);
     assert_eq!(rt; attached.winner(LAYOUT_VOLUME, 1), Some(1));
     assert_eq!(rt; attached.winner(0, 2), Some(4));
     assert_eq!(rt; attached.winner(0, 3), None);
-    let meaning = attached.meaning();
-    assert_eq!(rt; meaning.geometry().leb_size(), 384);
-    assert_eq!(rt; meaning.volumes().len(), 1);
-    assert_eq!(rt; meaning.volumes()[0].0, 0);
+    Ok(())
+}
+
+/// Asserts that a meaning has `root` alone.
+fn assert_root(rt: &impl Abort, meaning: &Meaning) -> Result<(), Fail> {
+    assert_eq!(*rt; meaning.volumes().len(), 1);
+    assert_eq!(*rt; meaning.volumes().first().map(|item| item.0), Some(0));
     let volume = meaning.get(0).ok_or("a volume")?;
-    assert_eq!(rt; volume.entry.name.as_bytes(), b"root".as_slice());
-    assert_eq!(rt; volume.entry.reserved, 20);
-    assert_eq!(rt; volume.entry.kind, VolKind::Dynamic);
-    assert!(rt; meaning.get(1).is_none());
+    assert_eq!(*rt; volume.entry.name.as_bytes(), b"root".as_slice());
+    assert_eq!(*rt; volume.entry.reserved, 20);
+    assert_eq!(*rt; volume.entry.kind, VolKind::Dynamic);
+    assert!(*rt; meaning.get(1).is_none());
+    Ok(())
+}
+
+#[test]
+fn attaches_a_volume(rt: HostRuntime) -> Result<(), Fail> {
+    let attached = attached(rt.alloc(), &BASE)?;
+    assert_eq!(rt; attached.meaning().geometry().leb_size(), 384);
+    assert_root(&rt, attached.meaning())
+}
+
+/// Asserts that neither a logical eraseblock of a volume is read nor all of it, since there is none.
+fn assert_no_volume(
+    rt: &impl Abort,
+    alloc: Global,
+    meaning: &Meaning,
+    id: u32,
+) -> Result<(), Fail> {
+    assert_not_read(rt, meaning, id, 0, ReadError::NoVolume)?;
+    assert_eq!(*rt;
+        text_of(alloc, meaning, id).err(),
+        Some(ReadError::NoVolume)
+    );
     Ok(())
 }
 
 #[test]
 fn reads_a_volume(rt: HostRuntime) -> Result<(), Fail> {
-    let alloc = rt.alloc();
-    let attached = attached(alloc, &base()?)?;
-    let meaning = attached.meaning();
-    assert_eq!(rt; read(meaning, 0, 0)?, reading(&[(0x41, 384)]));
-    assert_eq!(rt; read(meaning, 0, 1)?, reading(&[(0x42, 384)]));
-    assert_eq!(rt; read(meaning, 0, 2)?, reading(&[(0x43, 384)]));
-    for lnum in 3..20u32 {
-        assert_eq!(rt; read(meaning, 0, lnum)?, reading(&[(0xFF, 384)]));
-    }
-    for lnum in [20, u32::MAX] {
-        assert_eq!(rt; read(meaning, 0, lnum)?, refused(ReadError::OutOfRange));
-    }
-    for id in [1, 2, 200, LAYOUT_VOLUME] {
-        assert_eq!(rt; read(meaning, id, 0)?, refused(ReadError::NoVolume));
-        assert_eq!(rt;
-            read_volume(alloc, meaning, id).err(),
-            Some(ReadError::NoVolume)
-        );
-    }
-    let mut want = vec![in alloc; 0xFFu8; 7680]?;
-    for (at, byte) in want.iter_mut().enumerate().take(1152) {
-        *byte = if at < 384 {
-            0x41
-        } else if at < 768 {
-            0x42
-        } else {
-            0x43
-        };
-    }
-    assert_eq!(rt; read_volume(alloc, meaning, 0)?.as_slice(), want.as_slice());
+    let attached = attached(rt.alloc(), &BASE)?;
+    let text = text_of(rt.alloc(), attached.meaning(), 0)?;
+    assert_eq!(rt; text.as_slice(), base_text().as_slice());
     Ok(())
 }
+
+#[test]
+fn reads_logical_eraseblocks(rt: HostRuntime) -> Result<(), Fail> {
+    let attached = attached(rt.alloc(), &BASE)?;
+    let meaning = attached.meaning();
+    assert_reads(&rt, meaning, 0, (0x41, 384, 384))?;
+    assert_reads(&rt, meaning, 1, (0x42, 384, 384))?;
+    assert_reads(&rt, meaning, 2, (0x43, 384, 384))?;
+    for lnum in 3..20u32 {
+        assert_reads(&rt, meaning, lnum, (0xFF, 384, 384))?;
+    }
+    assert_not_read(&rt, meaning, 0, 20, ReadError::OutOfRange)?;
+    assert_not_read(&rt, meaning, 0, u32::MAX, ReadError::OutOfRange)
+}
+
+#[test]
+fn reads_no_volume_that_is_not_there(rt: HostRuntime) -> Result<(), Fail> {
+    let alloc = rt.alloc();
+    let attached = attached(alloc, &BASE)?;
+    let meaning = attached.meaning();
+    assert_no_volume(&rt, alloc, meaning, 1)?;
+    assert_no_volume(&rt, alloc, meaning, 2)?;
+    assert_no_volume(&rt, alloc, meaning, 200)?;
+    assert_no_volume(&rt, alloc, meaning, LAYOUT_VOLUME)
+}
+
+/// Asserts what the first logical eraseblock of an image reads: 64 times a byte, and 0xFF behind.
+fn assert_copy(rt: &impl Abort, alloc: Global, pebs: &[Peb], byte: u8) -> Result<Attached, Fail> {
+    let attached = attached(alloc, pebs)?;
+    assert_reads(rt, attached.meaning(), 0, (byte, 64, 384))?;
+    Ok(attached)
+}
+
+/// Asserts that of these eraseblocks the copy of bytes 0x37 is read.
+fn assert_good(rt: &impl Abort, alloc: Global, pebs: &[Peb]) -> Result<(), Fail> {
+    let attached = assert_copy(rt, alloc, pebs, 0x37)?;
+    assert_eq!(*rt; attached.top_sqnum(), 9);
+    Ok(())
+}
+
+/// What `A` holds, older than its copies.
+const OLD: Peb = Peb(
+    Ec::Zero,
+    Vid::Is(VidHeader { sqnum: 5, ..PLAIN }),
+    Data::Filled(0x35, 384),
+);
+
+/// A copy that is whole.
+const GOOD: Peb = Peb(Ec::Zero, Vid::Is(COPIED), Data::Filled(0x37, 64));
+
+/// A newer copy that isn't.
+const BAD: Peb = Peb(Ec::Zero, Vid::Is(MISCOPIED), Data::Filled(0x39, 64));
 
 #[test]
 fn reads_the_newest_good_copy_in_any_order(rt: HostRuntime) -> Result<(), Fail> {
     let alloc = rt.alloc();
-    let a = holding(&plain(0, 5), filled(0x35, 384))?;
-    let b = holding(&copied(7, CHECK_OF_37), filled(0x37, 64))?;
-    let c = holding(&copied(9, WRONG_CHECK_OF_39), filled(0x39, 64))?;
-    let (first, second) = (copy(0, ROOT)?, copy(1, ROOT)?);
-    for [x, y, z] in [
-        [a, b, c],
-        [a, c, b],
-        [b, a, c],
-        [b, c, a],
-        [c, a, b],
-        [c, b, a],
-    ] {
-        let attached = attached(alloc, &[first, second, x, y, z])?;
-        assert_eq!(rt;
-            read(attached.meaning(), 0, 0)?,
-            reading(&[(0x37, 64), (0xFF, 320)])
-        );
-        assert_eq!(rt; attached.top_sqnum(), 9);
-    }
-    Ok(())
+    assert_good(&rt, alloc, &[FIRST, SECOND, OLD, GOOD, BAD])?;
+    assert_good(&rt, alloc, &[FIRST, SECOND, OLD, BAD, GOOD])?;
+    assert_good(&rt, alloc, &[FIRST, SECOND, GOOD, OLD, BAD])?;
+    assert_good(&rt, alloc, &[FIRST, SECOND, GOOD, BAD, OLD])?;
+    assert_good(&rt, alloc, &[FIRST, SECOND, BAD, OLD, GOOD])?;
+    assert_good(&rt, alloc, &[FIRST, SECOND, BAD, GOOD, OLD])
 }
+
+/// A copy that isn't whole.
+const OLDER_BAD: Peb = Peb(
+    Ec::Zero,
+    Vid::Is(VidHeader {
+        sqnum: 4,
+        ..MISCOPIED
+    }),
+    Data::Filled(0x39, 64),
+);
+
+/// A newer one, of another byte.
+const NEWER_BAD: Peb = Peb(
+    Ec::Zero,
+    Vid::Is(VidHeader {
+        sqnum: 6,
+        ..MISCOPIED
+    }),
+    Data::Filled(0x38, 64),
+);
 
 #[test]
 fn reads_bad_copies_where_nothing_is_older(rt: HostRuntime) -> Result<(), Fail> {
     let alloc = rt.alloc();
-    let older = holding(&copied(4, WRONG_CHECK_OF_39), filled(0x39, 64))?;
-    let newer = holding(&copied(6, WRONG_CHECK_OF_39), filled(0x38, 64))?;
-    let (first, second) = (copy(0, ROOT)?, copy(1, ROOT)?);
-    for (pebs, byte) in [
-        ([first, second, older, newer].as_slice(), 0x39),
-        ([first, second, newer, older].as_slice(), 0x39),
-        ([first, second, newer].as_slice(), 0x38),
-    ] {
-        let attached = attached(alloc, pebs)?;
-        assert_eq!(rt;
-            read(attached.meaning(), 0, 0)?,
-            reading(&[(byte, 64), (0xFF, 320)])
-        );
-    }
+    assert_copy(&rt, alloc, &[FIRST, SECOND, OLDER_BAD, NEWER_BAD], 0x39)?;
+    assert_copy(&rt, alloc, &[FIRST, SECOND, NEWER_BAD, OLDER_BAD], 0x39)?;
+    assert_copy(&rt, alloc, &[FIRST, SECOND, NEWER_BAD], 0x38)?;
     Ok(())
 }
 
 #[test]
 fn reads_by_the_copy_of_the_table_that_is_whole(rt: HostRuntime) -> Result<(), Fail> {
-    let [_, second, a, b, c] = base()?;
-    let attached = attached(rt.alloc(), &[copy(0, FLIPPED)?, second, a, b, c])?;
-    let volume = attached.meaning().get(0).ok_or("a volume")?;
+    let attached = attached(rt.alloc(), &[FIRST_FLIPPED, SECOND, A, B, C])?;
+    let meaning = attached.meaning();
+    let volume = meaning.get(0).ok_or("a volume")?;
     assert_eq!(rt; volume.entry.name.as_bytes(), b"root".as_slice());
-    assert_eq!(rt; read(attached.meaning(), 0, 1)?, reading(&[(0x42, 384)]));
+    assert_reads(&rt, meaning, 1, (0x42, 384, 384))
+}
+
+/// The first copy of a table whose volume leaves 128 bytes of each logical eraseblock free.
+const FIRST_ALIGNED: Peb = Peb(Ec::Zero, Vid::Is(COPY_0), Data::Table(ALIGNMENT_256));
+
+/// The second copy.
+const SECOND_ALIGNED: Peb = Peb(Ec::Zero, Vid::Is(COPY_1), Data::Table(ALIGNMENT_256));
+
+/// A logical eraseblock of such a volume, with bytes 0xFF behind what it reads.
+const ALIGNED: Peb = Peb(Ec::Zero, Vid::Is(PADDED), Data::Filled(0x41, 256));
+
+/// The same, with zeros there.
+const ALIGNED_ZEROS: Peb = Peb(Ec::Zero, Vid::Is(PADDED), Data::Zeroed(0x41, 256));
+
+/// What 20 logical eraseblocks of 256 bytes read, of which the first holds bytes 0x41.
+fn aligned_text() -> [u8; 5120] {
+    let mut text = [0xFF; 5120];
+    text[..256].fill(0x41);
+    text
+}
+
+/// Asserts that an image has such a volume.
+fn assert_aligned(rt: &impl Abort, alloc: Global, pebs: &[Peb]) -> Result<(), Fail> {
+    let attached = attached(alloc, pebs)?;
+    let meaning = attached.meaning();
+    assert_reads(rt, meaning, 0, (0x41, 256, 256))?;
+    assert_reads(rt, meaning, 19, (0xFF, 256, 256))?;
+    let text = text_of(alloc, meaning, 0)?;
+    assert_eq!(*rt; text.as_slice(), aligned_text().as_slice());
     Ok(())
 }
 
 #[test]
 fn reads_as_many_bytes_as_the_alignment_leaves(rt: HostRuntime) -> Result<(), Fail> {
     let alloc = rt.alloc();
-    let header = VidHeader {
-        data_pad: 128,
-        ..plain(0, 0)
-    };
-    let mut zeros = filled(0x41, 256);
-    zeros[256..].copy_from_slice(&[0; 128]);
-    for data in [zeros, filled(0x41, 256)] {
-        let pebs = [
-            copy(0, ALIGNMENT_256)?,
-            copy(1, ALIGNMENT_256)?,
-            holding(&header, data)?,
-        ];
-        let attached = attached(alloc, &pebs)?;
-        let meaning = attached.meaning();
-        assert_eq!(rt; read(meaning, 0, 0)?, reading(&[(0x41, 256)]));
-        assert_eq!(rt; read(meaning, 0, 19)?, reading(&[(0xFF, 256)]));
-        let text = read_volume(alloc, meaning, 0)?;
-        assert_eq!(rt; text.len(), 5120);
-        assert!(rt; text.iter().take(256).all(|byte| *byte == 0x41));
-        assert!(rt; text.iter().skip(256).all(|byte| *byte == 0xFF));
-    }
-    Ok(())
+    assert_aligned(&rt, alloc, &[FIRST_ALIGNED, SECOND_ALIGNED, ALIGNED_ZEROS])?;
+    assert_aligned(&rt, alloc, &[FIRST_ALIGNED, SECOND_ALIGNED, ALIGNED])
 }
+
+/// A logical eraseblock of bytes 0xFF in the place of `B`.
+const BLANK_B: Peb = Peb(Ec::Zero, Vid::Is(LEB_1), Data::Filled(0xFF, 384));
 
 #[test]
 fn keeps_no_logical_eraseblock_of_0xff(rt: HostRuntime) -> Result<(), Fail> {
-    let [first, second, a, _, c] = base()?;
-    let attached = attached(
-        rt.alloc(),
-        &[first, second, a, holding(&plain(1, 0), [0xFF; 384])?, c],
-    )?;
-    let volume = attached.meaning().get(0).ok_or("a volume")?;
+    let attached = attached(rt.alloc(), &[FIRST, SECOND, A, BLANK_B, C])?;
+    let meaning = attached.meaning();
+    assert_reads(&rt, meaning, 1, (0xFF, 384, 384))?;
+    let volume = meaning.get(0).ok_or("a volume")?;
     let Content::Dynamic(lebs) = &volume.content else {
         return Err("a dynamic volume".into());
     };
-    for (lnum, kept) in [(0, true), (1, false), (2, true), (3, false)] {
-        assert_eq!(rt; lebs.get(lnum).is_some(), kept);
-    }
-    assert_eq!(rt; read(attached.meaning(), 0, 1)?, reading(&[(0xFF, 384)]));
+    assert!(rt; lebs.get(0).is_some());
+    assert!(rt; lebs.get(1).is_none());
+    assert!(rt; lebs.get(2).is_some());
+    assert!(rt; lebs.get(3).is_none());
     Ok(())
+}
+
+/// What `B` holds, behind an erase-counter header that is corrupt.
+const CORRUPT_B: Peb = Peb(Ec::Corrupt, Vid::Is(LEB_1), Data::Filled(0x42, 384));
+
+/// The same behind a blank one.
+const FORGOTTEN_B: Peb = Peb(Ec::Blank, Vid::Is(LEB_1), Data::Filled(0x42, 384));
+
+/// Asserts that the second logical eraseblock of an image reads a byte throughout.
+fn assert_leb_1(rt: &impl Abort, alloc: Global, pebs: &[Peb], byte: u8) -> Result<(), Fail> {
+    let attached = attached(alloc, pebs)?;
+    assert_reads(rt, attached.meaning(), 1, (byte, 384, 384))
 }
 
 #[test]
 fn reads_through_a_corrupt_erase_counter(rt: HostRuntime) -> Result<(), Fail> {
     let alloc = rt.alloc();
-    let [first, second, a, b, c] = base()?;
-    for (ec, want) in [(CORRUPT, 0x42), (BLANK, 0xFF)] {
-        let attached = attached(alloc, &[first, second, a, Peb { ec, ..b }, c])?;
-        assert_eq!(rt; read(attached.meaning(), 0, 1)?, reading(&[(want, 384)]));
-    }
-    Ok(())
+    assert_leb_1(&rt, alloc, &[FIRST, SECOND, A, CORRUPT_B, C], 0x42)?;
+    assert_leb_1(&rt, alloc, &[FIRST, SECOND, A, FORGOTTEN_B, C], 0xFF)
 }
 
 #[test]
 fn reads_no_volume_that_is_updated(rt: HostRuntime) -> Result<(), Fail> {
     let alloc = rt.alloc();
-    let [_, _, a, b, c] = base()?;
-    let attached = attached(alloc, &[copy(0, MARKED)?, copy(1, MARKED)?, a, b, c])?;
+    let attached = attached(alloc, &[FIRST_MARKED, SECOND_MARKED, A, B, C])?;
     let meaning = attached.meaning();
-    for lnum in [0, 20] {
-        assert_eq!(rt; read(meaning, 0, lnum)?, refused(ReadError::Updating));
-    }
-    assert_eq!(rt;
-        read_volume(alloc, meaning, 0).err(),
-        Some(ReadError::Updating)
-    );
+    assert_not_read(&rt, meaning, 0, 0, ReadError::Updating)?;
+    assert_not_read(&rt, meaning, 0, 20, ReadError::Updating)?;
+    assert_eq!(rt; text_of(alloc, meaning, 0).err(), Some(ReadError::Updating));
     Ok(())
 }
 
 #[test]
 fn an_erased_image_has_no_volume(rt: HostRuntime) -> Result<(), Fail> {
     let attached = attached(rt.alloc(), &[ERASED, ERASED])?;
-    assert!(rt; attached.meaning().volumes().is_empty());
-    assert_eq!(rt;
-        read(attached.meaning(), 0, 0)?,
-        refused(ReadError::NoVolume)
-    );
-    Ok(())
+    let meaning = attached.meaning();
+    assert!(rt; meaning.volumes().is_empty());
+    assert_not_read(&rt, meaning, 0, 0, ReadError::NoVolume)
 }

@@ -1,172 +1,210 @@
 //! What an attach says of each eraseblock.
 
 use super::images::{
-    BLANK, BOOT, CHECK_OF_37, CHECK_OF_41, CHECK_OF_61, CORRUPT, ERASED, Peb, ROOT,
-    WRONG_CHECK_OF_39, attached, base, copied, copy, ec, filled, holding, plain, states,
-    static_leb,
+    A, B, C, CHECK_OF_61, COPIED, COPY_0, Data, ERASED, Ec, FIRST, FIRST_BOOT, MISCOPIED, OTHERS,
+    PLAIN, Peb, ROOT, SECOND, SECOND_BOOT, STATIC, Vid, attached, states,
 };
 use crate::BlockState;
+use crate::BlockState::{Blank, Corrupt, Dropped, Free, Garbage, Orphan, Stale, Table, Used};
 use std::alloc::Global;
+use std::process::Abort;
 use std::test::Fail;
-use ubi_media::{GeometryError, LAYOUT_VOLUME, VidHeader};
+use ubi_media::VidHeader;
 
-/// What is said of the eraseblocks of a table with `root`, and of one behind them.
-fn with_a_table(alloc: Global, peb: Peb) -> Result<Vec<BlockState>, Fail> {
-    states(alloc, &[copy(0, ROOT)?, copy(1, ROOT)?, peb])
+/// Asserts the state of each eraseblock of an image.
+fn assert_states(
+    rt: &impl Abort,
+    alloc: Global,
+    pebs: &[Peb],
+    want: &[BlockState],
+) -> Result<(), Fail> {
+    assert_eq!(*rt; states(alloc, pebs)?.as_slice(), want);
+    Ok(())
 }
 
-/// An eraseblock with these headers and no data.
-fn headed(ec: [u8; 64], vid: [u8; 64]) -> Peb {
-    Peb { ec, vid, ..ERASED }
+/// Asserts the state of an eraseblock behind the two copies of a table.
+fn assert_third(
+    rt: &impl Abort,
+    alloc: Global,
+    pebs: &[Peb],
+    state: BlockState,
+) -> Result<(), Fail> {
+    assert_states(rt, alloc, pebs, &[Table, Table, state])
 }
 
-/// A member of a volume that has no record.
-fn stranger(vol_id: u32) -> Result<Peb, GeometryError> {
-    let header = VidHeader {
-        vol_id,
-        ..plain(0, 0)
-    };
-    holding(&header, filled(0x41, 384))
-}
+/// Data of which nothing is written.
+const NONE: Data = Data::Filled(0xFF, 384);
 
 #[test]
 fn says_what_headers_are(rt: HostRuntime) -> Result<(), Fail> {
     let alloc = rt.alloc();
-    let cases = [
-        (ERASED, BlockState::Blank),
-        (headed(BLANK, CORRUPT), BlockState::Blank),
-        (headed(ec()?, BLANK), BlockState::Free),
-        (headed(ec()?, CORRUPT), BlockState::Garbage),
-        (headed(CORRUPT, BLANK), BlockState::Corrupt),
-        (headed(CORRUPT, CORRUPT), BlockState::Corrupt),
-    ];
-    for (peb, state) in cases {
-        let found = with_a_table(alloc, peb)?;
-        let want = [BlockState::Table, BlockState::Table, state];
-        assert_eq!(rt; found.as_slice(), want.as_slice());
-    }
-    Ok(())
+    assert_third(&rt, alloc, &[FIRST, SECOND, ERASED], Blank)?;
+    let pebs = &[FIRST, SECOND, Peb(Ec::Blank, Vid::Corrupt, NONE)];
+    assert_third(&rt, alloc, pebs, Blank)?;
+    let pebs = &[FIRST, SECOND, Peb(Ec::Zero, Vid::Blank, NONE)];
+    assert_third(&rt, alloc, pebs, Free)?;
+    let pebs = &[FIRST, SECOND, Peb(Ec::Zero, Vid::Corrupt, NONE)];
+    assert_third(&rt, alloc, pebs, Garbage)?;
+    let pebs = &[FIRST, SECOND, Peb(Ec::Corrupt, Vid::Blank, NONE)];
+    assert_third(&rt, alloc, pebs, Corrupt)?;
+    let pebs = &[FIRST, SECOND, Peb(Ec::Corrupt, Vid::Corrupt, NONE)];
+    assert_third(&rt, alloc, pebs, Corrupt)
 }
+
+/// A header of others that may be dropped.
+const DROPPED: VidHeader = VidHeader {
+    sqnum: 12,
+    ..OTHERS
+};
+
+/// A logical eraseblock of others, with that header.
+const OF_OTHERS: Peb = Peb(Ec::Zero, Vid::Is(DROPPED), Data::Filled(0x41, 384));
+
+/// The header alone, behind a blank erase-counter header.
+const FORGOTTEN: Peb = Peb(Ec::Blank, Vid::Is(DROPPED), NONE);
+
+/// The last logical eraseblock that `root` reserves.
+const LAST: Peb = Peb(
+    Ec::Zero,
+    Vid::Is(VidHeader { lnum: 19, ..PLAIN }),
+    Data::Filled(0x41, 384),
+);
+
+/// The header of the one behind it.
+const BEYOND: VidHeader = VidHeader { lnum: 20, ..PLAIN };
+
+/// A logical eraseblock beyond what `root` reserves.
+const BEYOND_LAST: Peb = Peb(Ec::Zero, Vid::Is(BEYOND), Data::Filled(0x41, 384));
+
+/// One of a static volume.
+const STATIC_BEYOND: Peb = Peb(
+    Ec::Zero,
+    Vid::Is(VidHeader {
+        lnum: 20,
+        used_ebs: 21,
+        ..STATIC
+    }),
+    Data::Filled(0x41, 384),
+);
+
+/// A member of volume 1, which has no record.
+const STRANGER: Peb = Peb(
+    Ec::Zero,
+    Vid::Is(VidHeader { vol_id: 1, ..PLAIN }),
+    Data::Filled(0x41, 384),
+);
+
+/// A member of volume 127, which has none either.
+const STRANGER_127: Peb = Peb(
+    Ec::Zero,
+    Vid::Is(VidHeader {
+        vol_id: 127,
+        ..PLAIN
+    }),
+    Data::Filled(0x41, 384),
+);
 
 #[test]
 fn says_what_members_are(rt: HostRuntime) -> Result<(), Fail> {
     let alloc = rt.alloc();
-    let data = filled(0x41, 384);
-    let header = VidHeader {
-        compat: 1,
-        vol_id: 0x7FFF_F000,
-        ..plain(0, 12)
-    };
-    let dropped = holding(&header, data)?;
-    let fixed = static_leb(20, 21, 384, CHECK_OF_41);
-    let cases = [
-        (dropped, BlockState::Dropped),
-        (headed(BLANK, dropped.vid), BlockState::Blank),
-        (holding(&plain(19, 0), data)?, BlockState::Used),
-        (holding(&plain(20, 0), data)?, BlockState::Orphan),
-        (holding(&fixed, data)?, BlockState::Orphan),
-        (stranger(1)?, BlockState::Orphan),
-        (stranger(127)?, BlockState::Orphan),
-    ];
-    for (peb, state) in cases {
-        let found = with_a_table(alloc, peb)?;
-        let want = [BlockState::Table, BlockState::Table, state];
-        assert_eq!(rt; found.as_slice(), want.as_slice());
-    }
-    Ok(())
+    assert_third(&rt, alloc, &[FIRST, SECOND, OF_OTHERS], Dropped)?;
+    assert_third(&rt, alloc, &[FIRST, SECOND, FORGOTTEN], Blank)?;
+    assert_third(&rt, alloc, &[FIRST, SECOND, LAST], Used)?;
+    assert_third(&rt, alloc, &[FIRST, SECOND, BEYOND_LAST], Orphan)?;
+    assert_third(&rt, alloc, &[FIRST, SECOND, STATIC_BEYOND], Orphan)?;
+    assert_third(&rt, alloc, &[FIRST, SECOND, STRANGER], Orphan)?;
+    assert_third(&rt, alloc, &[FIRST, SECOND, STRANGER_127], Orphan)
 }
+
+/// A copy of what `A` holds, of 64 bytes.
+const COPY_OF_A: Peb = Peb(Ec::Zero, Vid::Is(COPIED), Data::Filled(0x37, 64));
+
+/// The header of a logical eraseblock beyond what `root` reserves, newer.
+const NEWER_BEYOND: VidHeader = VidHeader { sqnum: 1, ..BEYOND };
+
+/// The first copy of the table, newer.
+const NEWER_TABLE: VidHeader = VidHeader { sqnum: 3, ..COPY_0 };
+
+/// An image in which some eraseblocks are beaten by others.
+const BEATEN: [Peb; 9] = [
+    FIRST,
+    SECOND,
+    A,
+    B,
+    C,
+    COPY_OF_A,
+    BEYOND_LAST,
+    Peb(Ec::Zero, Vid::Is(NEWER_BEYOND), Data::Filled(0x41, 384)),
+    Peb(Ec::Zero, Vid::Is(NEWER_TABLE), Data::Table(ROOT)),
+];
+
+/// The state of each.
+const STATES_OF_BEATEN: [BlockState; 9] = [
+    Stale, Table, Stale, Used, Used, Used, Orphan, Orphan, Table,
+];
 
 #[test]
 fn tells_winners_from_beaten_members(rt: HostRuntime) -> Result<(), Fail> {
-    let alloc = rt.alloc();
-    let [first, second, a, b, c] = base()?;
-    let copy_of_a = holding(&copied(7, CHECK_OF_37), filled(0x37, 64))?;
-    let older_beyond = holding(&plain(20, 0), filled(0x41, 384))?;
-    let newer_beyond = holding(&plain(20, 1), filled(0x41, 384))?;
-    let layout = VidHeader {
-        compat: 5,
-        vol_id: LAYOUT_VOLUME,
-        ..plain(0, 3)
-    };
-    let newer_table = holding(&layout, first.data)?;
-    let found = states(
-        alloc,
-        &[
-            first,
-            second,
-            a,
-            b,
-            c,
-            copy_of_a,
-            older_beyond,
-            newer_beyond,
-            newer_table,
-        ],
-    )?;
-    let want = [
-        BlockState::Stale,
-        BlockState::Table,
-        BlockState::Stale,
-        BlockState::Used,
-        BlockState::Used,
-        BlockState::Used,
-        BlockState::Orphan,
-        BlockState::Orphan,
-        BlockState::Table,
-    ];
-    assert_eq!(rt; found.as_slice(), want.as_slice());
-    Ok(())
+    assert_states(&rt, rt.alloc(), &BEATEN, &STATES_OF_BEATEN)
+}
+
+/// What `A` holds, older than its copies.
+const OLD: Peb = Peb(
+    Ec::Zero,
+    Vid::Is(VidHeader { sqnum: 5, ..PLAIN }),
+    Data::Filled(0x35, 384),
+);
+
+/// A newer copy that isn't whole.
+const BAD: Peb = Peb(Ec::Zero, Vid::Is(MISCOPIED), Data::Filled(0x39, 64));
+
+/// Asserts the states of three eraseblocks behind the two copies of a table.
+fn assert_three(
+    rt: &impl Abort,
+    alloc: Global,
+    pebs: &[Peb],
+    [x, y, z]: [BlockState; 3],
+) -> Result<(), Fail> {
+    assert_states(rt, alloc, pebs, &[Table, Table, x, y, z])
 }
 
 #[test]
 fn says_which_copies_are_stale(rt: HostRuntime) -> Result<(), Fail> {
     let alloc = rt.alloc();
-    let (first, second) = (copy(0, ROOT)?, copy(1, ROOT)?);
-    let a = (holding(&plain(0, 5), filled(0x35, 384))?, BlockState::Stale);
-    let b = (
-        holding(&copied(7, CHECK_OF_37), filled(0x37, 64))?,
-        BlockState::Used,
-    );
-    let c = (
-        holding(&copied(9, WRONG_CHECK_OF_39), filled(0x39, 64))?,
-        BlockState::Stale,
-    );
-    for [x, y, z] in [
-        [a, b, c],
-        [a, c, b],
-        [b, a, c],
-        [b, c, a],
-        [c, a, b],
-        [c, b, a],
-    ] {
-        let found = states(alloc, &[first, second, x.0, y.0, z.0])?;
-        let want = [BlockState::Table, BlockState::Table, x.1, y.1, z.1];
-        assert_eq!(rt; found.as_slice(), want.as_slice());
-    }
-    Ok(())
+    let (second, third) = ([Stale, Used, Stale], [Stale, Stale, Used]);
+    let first = [Used, Stale, Stale];
+    assert_three(&rt, alloc, &[FIRST, SECOND, OLD, COPY_OF_A, BAD], second)?;
+    assert_three(&rt, alloc, &[FIRST, SECOND, OLD, BAD, COPY_OF_A], third)?;
+    assert_three(&rt, alloc, &[FIRST, SECOND, COPY_OF_A, OLD, BAD], first)?;
+    assert_three(&rt, alloc, &[FIRST, SECOND, COPY_OF_A, BAD, OLD], first)?;
+    assert_three(&rt, alloc, &[FIRST, SECOND, BAD, OLD, COPY_OF_A], third)?;
+    assert_three(&rt, alloc, &[FIRST, SECOND, BAD, COPY_OF_A, OLD], second)
 }
+
+/// The last of eight logical eraseblocks of a static volume that reserves fewer.
+const LAST_OF_8: Peb = Peb(
+    Ec::Zero,
+    Vid::Is(VidHeader {
+        lnum: 7,
+        used_ebs: 8,
+        data_crc: CHECK_OF_61,
+        ..STATIC
+    }),
+    Data::Filled(0x61, 384),
+);
 
 #[test]
 fn counts_static_winners_beyond_what_is_reserved(rt: HostRuntime) -> Result<(), Fail> {
-    let beyond = holding(&static_leb(7, 8, 384, CHECK_OF_61), filled(0x61, 384))?;
-    let found = states(rt.alloc(), &[copy(0, BOOT)?, copy(1, BOOT)?, beyond])?;
-    let want = [BlockState::Table, BlockState::Table, BlockState::Used];
-    assert_eq!(rt; found.as_slice(), want.as_slice());
-    Ok(())
+    let want = &[Table, Table, Used];
+    assert_states(&rt, rt.alloc(), &[FIRST_BOOT, SECOND_BOOT, LAST_OF_8], want)
 }
+
+/// A logical eraseblock of others, of zeros.
+const ZEROS_OF_OTHERS: Peb = Peb(Ec::Zero, Vid::Is(DROPPED), Data::Filled(0, 384));
 
 #[test]
 fn counts_sequence_numbers_of_dropped_eraseblocks(rt: HostRuntime) -> Result<(), Fail> {
-    let [first, second, a, b, c] = base()?;
-    let header = VidHeader {
-        compat: 1,
-        vol_id: 0x7FFF_F000,
-        ..plain(0, 12)
-    };
-    let attached = attached(
-        rt.alloc(),
-        &[first, second, a, b, c, holding(&header, [0; 384])?],
-    )?;
+    let attached = attached(rt.alloc(), &[FIRST, SECOND, A, B, C, ZEROS_OF_OTHERS])?;
     assert_eq!(rt; attached.top_sqnum(), 12);
     assert_eq!(rt; attached.winner(0x7FFF_F000, 0), None);
     Ok(())
