@@ -49,38 +49,39 @@ pub fn run_words<R: Files + Eprint>(
         Err(error) => return wrong_words(rt, alloc, &error),
     };
     match request_of(&matches) {
-        Some(Request::List { numbers, image }) => list_file(rt, alloc, numbers, image),
-        Some(Request::Check { numbers, image }) => check_file(rt, alloc, numbers, image),
-        Some(
-            Request::Show {
-                numbers,
-                image,
-                block,
-            },
-        ) => show_file(rt, alloc, numbers, image, block),
-        Some(
-            Request::Extract {
-                numbers,
-                image,
-                id,
-                out,
-            },
-        ) => extract_file(rt, alloc, numbers, image, id, out),
-        Some(
-            Request::Normalise {
-                numbers,
-                image,
-                out,
-            },
-        ) => normalise_file(rt, alloc, numbers, image, out),
-        Some(
-            Request::Same {
-                numbers,
-                left,
-                right,
-            },
-        ) => same_files(rt, alloc, numbers, left, right),
+        Some(request) => run_request(rt, alloc, request),
         None => Ok(nothing(alloc)),
+    }
+}
+
+/// Runs what the words ask for.
+fn run_request<R: Files>(rt: &R, alloc: Global, request: Request<'_>) -> Result<Outcome, AllocError>
+    ensures { IfOk result IsAnswer }
+{
+    match request {
+        Request::List { numbers, image } => list_file(rt, alloc, numbers, image),
+        Request::Check { numbers, image } => check_file(rt, alloc, numbers, image),
+        Request::Show {
+            numbers,
+            image,
+            block,
+        } => show_file(rt, alloc, numbers, image, block),
+        Request::Extract {
+            numbers,
+            image,
+            id,
+            out,
+        } => extract_file(rt, alloc, numbers, image, id, out),
+        Request::Normalise {
+            numbers,
+            image,
+            out,
+        } => normalise_file(rt, alloc, numbers, image, out),
+        Request::Same {
+            numbers,
+            left,
+            right,
+        } => same_files(rt, alloc, numbers, left, right),
     }
 }
 

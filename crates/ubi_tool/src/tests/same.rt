@@ -9,6 +9,7 @@ use crate::same::run_same;
 use crate::words::run_words;
 use std::alloc::{AllocError, Global};
 use std::fs;
+use std::fs::Files;
 use std::process::Abort;
 use std::test::Fail;
 use ubi_media::Geometry;
@@ -100,48 +101,37 @@ fn same_words(alloc: Global, left: &str, right: &str) -> Result<Vec<String>, All
     Ok(words)
 }
 
+/// Compares two files, with the wanted line and exit status.
+fn compare_files<R: Files + Eprint + Abort>(
+    rt: &R,
+    alloc: Global,
+    (left, right): (&str, &str),
+    (line, status): (&str, u8),
+) -> Result<(), Fail> {
+    let words = same_words(alloc, left, right)?;
+    let outcome = run_words(rt, alloc, words.as_slice())?;
+    assert_eq!(rt; outcome.text.as_slice(), line.as_bytes());
+    assert_eq!(rt; outcome.status, status);
+    Ok(())
+}
+
 #[test]
 fn compares_files(rt: HostRuntime) -> Result<(), Fail> {
     let alloc = rt.alloc();
     let geometry = small()?;
-    let root = root_image(alloc, &geometry)?;
-    let reversed = reversed_image(alloc, &geometry)?;
-    fs::write(&rt, "same_root.img", root.as_slice())?;
-    fs::write(&rt, "same_turned.img", reversed.as_slice())?;
-    fs::write(&rt, "same_odd.img", [0xFF; 511].as_slice())?;
-    for (left, right, line, status) in [
-        ("same_root.img", "same_turned.img", "same\n", 0u8),
-        (
-            "same_root.img",
-            "same_odd.img",
-            "right refused S1 Length\n",
-            1,
-        ),
-        (
-            "same_odd.img",
-            "same_root.img",
-            "left refused S1 Length\n",
-            1,
-        ),
-        (
-            "same_odd.img",
-            "same_gone.img",
-            "cannot read same_gone.img\n",
-            1,
-        ),
-        (
-            "same_lost.img",
-            "same_gone.img",
-            "cannot read same_lost.img\n",
-            1,
-        ),
-    ] {
-        let words = same_words(alloc, left, right)?;
-        let outcome = run_words(&rt, alloc, words.as_slice())?;
-        assert_eq!(rt; outcome.text.as_slice(), line.as_bytes());
-        assert_eq!(rt; outcome.status, status);
-    }
-    for path in ["same_root.img", "same_turned.img", "same_odd.img"] {
+    let (root, turned, odd) = ("same_root.img", "same_turned.img", "same_odd.img");
+    let (gone, lost) = ("same_gone.img", "same_lost.img");
+    fs::write(&rt, root, root_image(alloc, &geometry)?.as_slice())?;
+    fs::write(&rt, turned, reversed_image(alloc, &geometry)?.as_slice())?;
+    fs::write(&rt, odd, [0xFF; 511].as_slice())?;
+    let (left, right) = ("left refused S1 Length\n", "right refused S1 Length\n");
+    compare_files(&rt, alloc, (root, turned), ("same\n", 0))?;
+    compare_files(&rt, alloc, (root, odd), (right, 1))?;
+    compare_files(&rt, alloc, (odd, root), (left, 1))?;
+    let (unread, first) = ("cannot read same_gone.img\n", "cannot read same_lost.img\n");
+    compare_files(&rt, alloc, (odd, gone), (unread, 1))?;
+    compare_files(&rt, alloc, (lost, gone), (first, 1))?;
+    for path in [root, turned, odd] {
         fs::remove_file(&rt, path)?;
     }
     Ok(())
