@@ -88,11 +88,12 @@ pub fn scan(alloc: Global, blocks: &Blocks<'_>) -> Result<Scan, AttachError>
     for p in 0..blocks.count() {
         let ec = blocks.ec(p);
         let vid = blocks.vid(p);
-        match pass.fault(p, &ec, &vid) {
+        let held = pass.held(&ec, &vid);
+        match pass.fault(p, &ec, &vid, held) {
             None => {}
             Some(fault) => return Err(AttachError::Refused(fault)),
         }
-        let met = meeting(blocks, pass.held(&ec, &vid), p, &ec, &vid);
+        let met = meeting(blocks, held, p, &ec, &vid);
         pass.add(p, &ec, &vid, met)?;
     }
     Ok(Scan::of(pass))

@@ -9,14 +9,14 @@ returns-in-Some-clause-refused c =
     let s = c.args.blocks.now.sizes in
     let bs = eraseblocks c.args.blocks.now in
     let inside : c.loop-p.p < length bs = omega arith in
-    SoFar-fault s bs c.loop-p.p inside c.loop-p.pass c.in-Some.fault c.loop-p.invariant (rw (← c.ec-ec.ensures, ← c.vid-vid.ensures) (sym c.fault.ensures ∙ c.in-Some.is))
+    SoFar-fault s bs c.loop-p.p inside c.loop-p.pass c.held-held.result c.in-Some.fault c.loop-p.invariant (rw (← c.ec-ec.ensures, ← c.vid-vid.ensures) c.held-held.ensures) (rw (← c.ec-ec.ensures, ← c.vid-vid.ensures) (sym c.fault.ensures ∙ c.in-Some.is))
 
 pub meeting-met-requires-clause-held : goal.meeting-met-requires-clause-held
 meeting-met-requires-clause-held c =
     let s = c.args.blocks.now.sizes in
     let bs = eraseblocks c.args.blocks.now in
     let inside : c.loop-p.p < length bs = omega arith in
-    rw c.held.ensures (held_inside s bs c.loop-p.p inside c.loop-p.pass (member_if c.ec-ec.result c.vid-vid.result) c.loop-p.invariant)
+    rw c.held-held.ensures (held_inside s bs c.loop-p.p inside c.loop-p.pass (member_if c.ec-ec.result c.vid-vid.result) c.loop-p.invariant)
 
 pub add-requires-clause-counted : goal.add-requires-clause-counted
 add-requires-clause-counted c =
@@ -30,8 +30,8 @@ loop-p-preserved c =
     let s = c.args.blocks.now.sizes in
     let bs = eraseblocks c.args.blocks.now in
     let inside : c.loop-p.p < length bs = omega arith in
-    SoFar-more s bs c.loop-p.p inside c.loop-p.pass c.add.new.self c.meeting-met.result c.loop-p.invariant (rw (← c.ec-ec.ensures, ← c.vid-vid.ensures) (sym c.fault.ensures ∙ c.in-None.is))
-    (rw (← c.ec-ec.ensures, ← c.vid-vid.ensures) (c.meeting-met.ensures.held ∙ c.held.ensures)) (rw (← c.ec-ec.ensures, ← c.vid-vid.ensures) c.meeting-met.ensures.good) (rw (← c.ec-ec.ensures, ← c.vid-vid.ensures) c.in_ok-add.ensures)
+    SoFar-more s bs c.loop-p.p inside c.loop-p.pass c.add.new.self c.held-held.result c.meeting-met.result c.loop-p.invariant (rw (← c.ec-ec.ensures, ← c.vid-vid.ensures) c.held-held.ensures)
+    (rw (← c.ec-ec.ensures, ← c.vid-vid.ensures) (sym c.fault.ensures ∙ c.in-None.is)) c.meeting-met.ensures.held (rw (← c.ec-ec.ensures, ← c.vid-vid.ensures) c.meeting-met.ensures.good) (rw (← c.ec-ec.ensures, ← c.vid-vid.ensures) c.in_ok-add.ensures)
 
 pub returns-clause-found : goal.returns-clause-found
 returns-clause-found c =
