@@ -9,7 +9,8 @@ KIND says what the COUNT eraseblocks are:
   mixed     the same in an order that looks random
   one       all members of one logical eraseblock, their sequence numbers rising
   one-mixed the same in an order that looks random
-  copies    as mixed, each a copy of 384 bytes, so that the check of its data is taken
+  copies    as mixed, each a copy of 384 bytes
+  pairs     the same, but two of each logical eraseblock, so that the check of all data is taken
 """
 import random
 import struct
@@ -17,7 +18,7 @@ import sys
 import zlib
 
 PEB, PAGE, VID, DATA = 512, 64, 64, 128
-KINDS = ("rising", "mixed", "one", "one-mixed", "copies")
+KINDS = ("rising", "mixed", "one", "one-mixed", "copies", "pairs")
 
 
 def check(message):
@@ -55,9 +56,10 @@ def eraseblocks(kind, count):
     for place, k in enumerate(places(kind, count)):
         if kind in ("one", "one-mixed"):
             yield ec + identifier_header(0, 0, k + 1) + erased
-        elif kind == "copies":
+        elif kind in ("copies", "pairs"):
+            number = k if kind == "copies" else k // 2
             data = struct.pack(">I", k) * ((PEB - DATA) // 4)
-            yield ec + identifier_header(0, k, place + 1, data) + data
+            yield ec + identifier_header(0, number, place + 1, data) + data
         else:
             yield ec + identifier_header(0, k, place + 1) + erased
 
