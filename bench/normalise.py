@@ -1,5 +1,5 @@
 #!/usr/bin/env python3
-"""Measures `ubi_tool normalise`, file to file, against `cp` of the same file.
+"""Measures `./ubi_tool normalise`, file to file, against `cp` of the same file.
 
 usage: normalise.py [--dir FOLDER] [--blocks N]
 
@@ -73,8 +73,8 @@ def main():
             count = int(words.pop(0))
         else:
             sys.exit(__doc__)
-    subprocess.run([os.path.join(ROOT, "ubi_tool"), "--help"], stderr=subprocess.DEVNULL)
-    tool = os.path.join(ROOT, "crates", "ubi_tool", "out", "ubi_tool")
+    tool = os.path.join(ROOT, "ubi_tool")
+    subprocess.run([tool, "--help"], stderr=subprocess.DEVNULL)
     folder = tempfile.mkdtemp(dir=place)
     try:
         path, out = os.path.join(folder, "in.img"), os.path.join(folder, "out.img")

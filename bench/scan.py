@@ -29,6 +29,8 @@ import image
 HERE = os.path.dirname(os.path.abspath(__file__))
 ROOT = os.path.dirname(HERE)
 TIME = "/usr/bin/time"
+# As ./ubi_tool runs the program.
+ENVIRONMENT = {"GLIBC_TUNABLES": "glibc.malloc.hugetlb=1", **os.environ}
 MOST_MEMORY, MOST_CKSUMS, MOST_OF_PAIRS, MOST_GROWTH = 128, 10, 15, 1.5
 MIDDLE = 2 ** 18
 SIZES = (2 ** 16, 2 ** 18, 2 ** 20)
@@ -43,7 +45,7 @@ def run(words, folder):
     told = os.path.join(folder, "peak")
     for _ in range(3):
         quiet = {"stdout": subprocess.DEVNULL, "stderr": subprocess.DEVNULL}
-        child = subprocess.Popen([TIME, "--quiet", "-f", "%M", "-o", told, *words], **quiet)
+        child = subprocess.Popen([TIME, "--quiet", "-f", "%M", "-o", told, *words], env=ENVIRONMENT, **quiet)
         _, status, usage = os.wait4(child.pid, 0)
         child.returncode = os.waitstatus_to_exitcode(status)
         if child.returncode not in (0, 1):
