@@ -3,6 +3,9 @@
 #
 # usage: bench/refuse.sh [PROGRAM TEST]
 #
+# The other tests that it is for are tests::memory::reads_all_or_answers_want_of_memory of ubi_volume and
+# tests::memory::tells_all_or_answers_want_of_memory of ubi_tool, which `rt test` builds in those crates' folders.
+#
 # Runs a test again and again: of the first run the first growth is refused, of the second the second, and so on until
 # a run meets no refusal. Without words this is the test of `scan`, in the program that `rt test` leaves in
 # crates/ubi_scan/out (it is built first where it isn't there). Each run has to pass, and each run that meets a refusal
