@@ -8,8 +8,8 @@ volumes, and logical eraseblocks of one dynamic volume, full of random bytes, in
 new folder below FOLDER (/tmp where it is left out), which is removed again. The program is built first where it isn't
 yet.
 
-It prints the seconds of each, as they pass and of the processor (user and system), the least of five runs, and ends with
-status 1 where `normalise` takes more than six times the processor time of `cp`.
+It prints the seconds of each, as they pass and of the processor (user and system), the least of five runs, each into a
+new file, and ends with status 1 where `normalise` takes more than six times as long as `cp` by either.
 """
 import os
 import random
@@ -48,10 +48,12 @@ def eraseblocks(count):
         yield eraseblock(identifier_header(0, number, number + 1), random.Random(number).randbytes(PEB - 2 * PAGE))
 
 
-def measure(words):
-    """The seconds that pass and those of the processor, the least of five runs."""
+def measure(words, out):
+    """The seconds that pass and those of the processor, the least of five runs that write a new file."""
     passed, used = [], []
     for _ in range(5):
+        if os.path.exists(out):
+            os.remove(out)
         start = time.monotonic()
         child = subprocess.Popen(words, stdout=subprocess.DEVNULL)
         _, status, usage = os.wait4(child.pid, 0)
@@ -81,17 +83,17 @@ def main():
         with open(path, "wb") as it:
             for block in eraseblocks(count):
                 it.write(block)
-        copied = measure(["cp", path, out])
+        copied = measure(["cp", path, out], out)
         sizes = ["--peb", str(PEB), "--page", str(PAGE)]
-        normalised = measure([tool, "normalise", path, "--out", out, *sizes])
+        normalised = measure([tool, "normalise", path, "--out", out, *sizes], out)
     finally:
         shutil.rmtree(folder)
     print(f"{count} eraseblocks of {PEB} bytes      passed   of the processor")
     for name, (passed, used) in (("cp", copied), ("normalise", normalised)):
         print(f"{name:<38} {passed:>7.2f}   {used:>16.2f}")
-    times = normalised[1] / copied[1]
-    print(f"normalise takes {times:.1f} times as long as cp, {normalised[0] / copied[0]:.1f} as time passes")
-    sys.exit(1 if times > MOST else 0)
+    passed, used = normalised[0] / copied[0], normalised[1] / copied[1]
+    print(f"normalise takes {passed:.1f} times as long as cp, {used:.1f} times of the processor")
+    sys.exit(1 if max(passed, used) > MOST else 0)
 
 
 if __name__ == "__main__":
