@@ -23,8 +23,6 @@ pub struct Meaning {
 
 impl Model for Meaning {
     ghost use Rattle.std.specs.FinMap as finite;
-    ghost use Rattle.ubi_volume.specs.Made.{IsFirst, NoCause, meaning_of};
-    ghost use Rattle.ubi_volume.specs.EqualMeanings.{same_meaning};
     ghost use Rattle.ubi_volume.specs.Meant.{AreVolumes, Meant, meant_code};
 
     ghost Value = { Meant };
