@@ -1,7 +1,7 @@
 //! The normal image of a meaning, and of what an image means.
 
 ghost use Rattle.std.specs.FinMap as finite;
-ghost use Rattle.std.specs.Prelude.{◌≡◌, ◌++◌, IfErr, IfOk, OnOk, flat_map, length, replicate};
+ghost use Rattle.std.specs.Prelude.{◌≡◌, ◌≢◌, ◌++◌, IfErr, IfOk, OnOk, flat_map, length, replicate};
 ghost use Rattle.ubi_media.specs.Fields.{filled};
 ghost use Rattle.ubi_scan.specs.Image.{Image};
 ghost use Rattle.ubi_volume.specs.Accepts.{Accepts, IsAttachError};
@@ -85,6 +85,7 @@ pub fn compose(alloc: Global, meaning: &Meaning, spares: u32) -> Result<Vec<u8>,
     ensures bytes { IfOk result (λ out. out.items ≡ composed meaning.now spares) }
     ensures accepted { IfOk result (λ out. Accepts (image_of meaning.now out.items) meaning.now) }
     ensures refused { IfErr result (IsComposeError meaning.now spares) }
+    ensures fits { spares ≡ 0 → result ≢ Err ComposeError.TooMany }
 {
     let geometry = meaning.geometry();
     let count = block_count(meaning) + spares as usize;
@@ -111,7 +112,7 @@ pub fn normalise(alloc: Global, geometry: &Geometry, image: &[u8]) -> Result<Vec
     let attached = attach(alloc, geometry, image)?;
     match compose(alloc, attached.meaning(), 0) {
         Ok(normal) => Ok(normal),
-        // Without spares it fits.
-        Err(_) => Err(AttachError::Memory),
+        Err(ComposeError::Memory) => Err(AttachError::Memory),
+        Err(ComposeError::TooMany) => unreachable!(),
     }
 }

@@ -1,6 +1,7 @@
 -- The first element of a list that passes a test.
-use Rattle.std.proofs.Common.{◌≡◌, zero, suc, ◌<◌, Bool, true, false, cond, List, [], ◌∷◌, length, get_or, refl, ap, sym, ◌∙◌, arith}
-use Rattle.std.specs.Prelude.{All, None, Some, find}
+use Rattle.std.proofs.Common.{◌≡◌, ℕ, zero, suc, ◌<◌, Bool, true, false, cond, List, [], ◌∷◌, ◌++◌, length, get_or, refl, ap, sym, ◌∙◌, arith}
+use Rattle.std.specs.Prelude.{All, None, Option, Some, find}
+use Rattle.ubi_media.specs.First.{IsFirst}
 
 module _ {X : Type 0} (p : X → Bool) where
   -- where none is found, each fails, and the other way round
@@ -28,3 +29,24 @@ module _ {X : Type 0} (p : X → Bool) where
         | true ↦ λ t n. let same : y ≡ x = cc in ap p (sym same) ∙ t
         | false ↦ λ t n. found_passes xs x n
       ] refl e
+
+  first_of_none : All (λ x. p x ≡ false) []
+  first_of_none k d h = absurd (omega arith)
+
+  one_more : (x : X) (xs : List X) → p x ≡ false → All (λ y. p y ≡ false) xs → All (λ y. p y ≡ false) (x ∷ xs)
+  one_more x xs e h zero d l = e
+  one_more x xs e h (suc k) d l = h k d (omega arith)
+
+  behind : (x : X) (xs : List X) (o : Option X) → p x ≡ false → IsFirst p xs o → IsFirst p (x ∷ xs) o
+  behind x xs None e h = one_more x xs e h
+  behind x xs (Some y) e h = (x ∷ h.0, h.1, ap (λ l. x ∷ l) h.2, h.3, one_more x h.0 e h.4)
+
+  -- what is found is the first
+  pub find-IsFirst : (xs : List X) → IsFirst p xs (find p xs)
+  find-IsFirst [] = first_of_none
+  find-IsFirst (x ∷ xs) =
+      let rest = find-IsFirst xs in
+      elim (p x) as (λ b. p x ≡ b → IsFirst p (x ∷ xs) (cond b (Some x) (find p xs))) [
+        | true ↦ λ t. ([], xs, refl, t, first_of_none)
+        | false ↦ λ t. behind x xs (find p xs) t rest
+      ] refl

@@ -1,6 +1,7 @@
 pub mod Check
 pub mod Ec
 pub mod Fields
+pub mod First
 pub mod Geometry
 pub mod Header
 pub mod Name

@@ -1,22 +1,49 @@
 //! Laws of the definitions that the contracts cite, each as the contract of a function that does nothing.
 
-ghost use Rattle.std.specs.Prelude.{◌≡◌, ℕ, ◌+◌, ◌^◌, ◌<◌, ◌↔◌, List, Option};
+ghost use Rattle.std.specs.Prelude.{◌≡◌, ℕ, ◌+◌, ◌++◌, ◌^◌, ◌<◌, ◌↔◌, List, Option};
 ghost use Rattle.std.specs.Option.{ForSome};
-ghost use Rattle.ubi_media.specs.Check.{IsRemainder, remainder};
+ghost use Rattle.ubi_media.specs.Check.{IsRemainder, check_from, remainder};
+ghost use Rattle.ubi_media.specs.Ec as ec;
 ghost use Rattle.ubi_media.specs.Ec.{EcFits, EcIs, ec_bytes, ec_reading};
+ghost use Rattle.ubi_media.specs.First.{IsFirst};
 ghost use Rattle.ubi_media.specs.Geometry.{Sizes};
+ghost use Rattle.ubi_media.specs.Record as rec;
 ghost use Rattle.ubi_media.specs.Record.{RecFits, RecIs, rec_bytes, rec_reading};
+ghost use Rattle.ubi_media.specs.Vid as vid;
 ghost use Rattle.ubi_media.specs.Vid.{VidFits, VidIs, vid_bytes, vid_reading};
+ghost use Rattle.ubi_media.specs.declared.ec.EcFields.{EcFields};
 ghost use Rattle.ubi_media.specs.declared.ec.EcHeader.{EcHeader};
 ghost use Rattle.ubi_media.specs.declared.ec.EcRead.{EcRead};
+ghost use Rattle.ubi_media.specs.declared.record.RecFields.{RecFields};
 ghost use Rattle.ubi_media.specs.declared.record.RecRead.{RecRead};
 ghost use Rattle.ubi_media.specs.declared.record.VolumeRecord.{VolumeRecord};
+ghost use Rattle.ubi_media.specs.declared.vid.VidFields.{VidFields};
 ghost use Rattle.ubi_media.specs.declared.vid.VidHeader.{VidHeader};
 ghost use Rattle.ubi_media.specs.declared.vid.VidRead.{VidRead};
 
 /// The division by the generator leaves a remainder, and there is no other.
 pub fn one_remainder()
     ensures { (k p r : ℕ) → p < 2 ^ (32 + k) → IsRemainder p r ↔ (r ≡ remainder k p) }
+{}
+
+/// The check of a message that goes on is that of the whole.
+pub fn check_goes_on()
+    ensures { (state : ℕ) (xs ys : List ℕ) → state < 2 ^ 32 → check_from (check_from state xs) ys ≡ check_from state (xs ++ ys) }
+{}
+
+/// The fault of an erase-counter header is the first whose rule is broken.
+pub fn first_ec_fault()
+    ensures { (s : Sizes) (f : EcFields) → IsFirst (ec.breaks s f) ec.faults (ec.first_fault s f) }
+{}
+
+/// The fault of a volume-identifier header is the first whose rule is broken.
+pub fn first_vid_fault()
+    ensures { (s : Sizes) (f : VidFields) → IsFirst (vid.breaks s f) vid.faults (vid.first_fault s f) }
+{}
+
+/// The fault of a record is the first whose rule is broken.
+pub fn first_rec_fault()
+    ensures { (s : Sizes) (f : RecFields) → IsFirst (rec.breaks s f) rec.faults (rec.first_fault s f) }
 {}
 
 /// Bytes have one reading as an erase-counter header, and no other.

@@ -5,8 +5,11 @@ use crate::record::RecFault;
 use crate::vid::VidFault;
 use std::alloc::AllocError;
 
-/// The cause for which an image is refused, with the eraseblocks, slots and volumes that it names. Of several, the
-/// first in this order, and among eraseblocks the lowest number.
+/// The cause for which an image is refused, with the eraseblocks, slots and volumes that it names.
+///
+/// The size comes first: `TooMany`, and else `Length`. Then the lowest eraseblock with a fault decides, there the first of
+/// `Ec` to `SameSqnum`; then the table, the first of `NoTable` to `NoSpace`; and last the lowest eraseblock with a
+/// `Mismatch`.
 #[derive(Clone, Copy, Debug, PartialEq, Eq)]
 pub enum Refusal {
     /// The image has no byte, or its bytes aren't whole eraseblocks.

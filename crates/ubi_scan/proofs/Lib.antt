@@ -12,6 +12,7 @@ pub mod Finite
 pub mod Held
 pub mod Keys
 pub mod Least
+pub mod Moved
 pub mod Next
 pub mod OneFault
 pub mod Places

@@ -15,6 +15,10 @@ pub record Image : Type 0 where
   pub sizes : Sizes
   pub bytes : List ℕ
 
+-- of the bytes of a file, those that are judged: all, or the first ones up to one more than the device has
+abbrev pub judged : Sizes → List ℕ → List ℕ
+judged s bytes = take (s.pebs * s.peb_size + 1) bytes
+
 -- the bytes are an image: whole eraseblocks, at least one and no more than the device has
 pub record IsWhole (image : Image) : Type 0 where
   pub some : 0 < length image.bytes

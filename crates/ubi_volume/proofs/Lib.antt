@@ -8,6 +8,7 @@ pub mod Equal
 pub mod Exits
 pub mod Gathered
 pub mod LebsText
+pub mod Judged
 pub mod Lengths
 pub mod Listed
 pub mod MemberStates

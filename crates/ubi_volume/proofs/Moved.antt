@@ -9,15 +9,12 @@ use Rattle.ubi_media.specs.Geometry.{Sizes}
 use Rattle.ubi_media.specs.Record.{usable}
 use Rattle.ubi_media.specs.declared.record.VolumeRecord.{VolumeRecord}
 use Rattle.ubi_media.specs.declared.vid.VidHeader.{VidHeader}
-use Rattle.ubi_scan.specs.Clean.{IsClean, IsSound}
-use Rattle.ubi_scan.specs.Faults.{NoFault}
-use Rattle.ubi_scan.specs.Image.{block, leb}
-use Rattle.ubi_scan.specs.Members.{Wins, is_right, member, sqnum_in}
-use Rattle.ubi_scan.specs.Numbers.{seq_of}
-use Rattle.ubi_scan.proofs.Clean.{clean_from_none, none_from_clean}
+use Rattle.ubi_scan.specs.Image.{Image, IsWhole, block, eraseblocks, leb}
+use Rattle.ubi_scan.specs.Members.{Wins, is_right, member}
+use Rattle.ubi_scan.proofs.Moved.{IsMoved, clean_to, inside_of, moved_back, no_member_to, same_back, swapped, trade, wins_to}
 use Rattle.ubi_table.specs.Records.{Records}
-use Rattle.ubi_table.proofs.Moved.{IsMoved, member_of, no_member_to, same_back, swapped, table_to, trade, wins_to}
-use Rattle.ubi_volume.specs.Accepts.{AcceptsBlocks}
+use Rattle.ubi_table.proofs.Moved.{table_to}
+use Rattle.ubi_volume.specs.Accepts.{Accepts, AcceptsBlocks}
 use Rattle.ubi_volume.specs.Counted.{IsMismatched}
 use Rattle.ubi_volume.specs.Means.{Means, SlotMeans}
 use Rattle.ubi_volume.specs.Meant.{Meant}
@@ -26,38 +23,7 @@ use Rattle.ubi_volume.specs.declared.content.Content.{Content}
 use Rattle.ubi_volume.specs.declared.content.Content.TheVariants as content
 use Rattle.ubi_volume.specs.declared.content.Volume.{Volume}
 
--- a place of the one order is a place of the other
-inside_of : (bs cs : List (List ℕ)) (to : ℕ → ℕ) → IsMoved bs cs to → (p : ℕ) → p < length cs → p < length bs
-inside_of bs cs to h p i = let e = h.len in omega arith
-
 module _ (z : Sizes) (bs cs : List (List ℕ)) (to : ℕ → ℕ) (h : IsMoved bs cs to) where
-  -- the places of the first are those of the second, by the same way
-  moved_back : IsMoved cs bs to
-  moved_back = record {
-    len = sym h.len;
-    stays = λ p i. (let k = h.stays p (inside_of bs cs to h p i) in let e = h.len in omega arith);
-    back = h.back;
-    same = λ p i. sym (same_back z bs cs to h p (inside_of bs cs to h p i));
-  }
-
-  -- that no eraseblock has a fault
-  clean_to : NoFault z bs → NoFault z cs
-  clean_to none =
-      let c : IsClean z bs = clean_from_none z bs none in
-      let same : (p : ℕ) → p < length cs → block cs p ≡ block bs (to p) = λ p i. h.same p (inside_of bs cs to h p i) in
-      let stays : (p : ℕ) → p < length cs → to p < length bs = λ p i. h.stays p (inside_of bs cs to h p i) in
-      none_from_clean z cs (record {
-        sound = λ p i. subst (IsSound z) (sym (same p i)) (c.sound (to p) (stays p i));
-        one_image = λ p q i j a b.
-            (let e = ap (seq_of z) (same p i) in
-            let f = ap (seq_of z) (same q j) in
-            e ∙ c.one_image (to p) (to q) (stays p i) (stays q j) (λ k. a (e ∙ k)) (λ k. b (f ∙ k)) ∙ sym f);
-        apart = λ of p q a b e.
-            (let n = c.apart of (to p) (to q) (member_of z bs cs to h of p a) (member_of z bs cs to h of q b)
-            (ap (sqnum_in z) (sym (same p a.inside)) ∙ e ∙ ap (sqnum_in z) (same q b.inside)) in
-            sym (h.back p) ∙ ap to n ∙ h.back q);
-      })
-
   -- what a LEB reads
   leb_to : (vol : ℕ) (r : VolumeRecord) (lnum : ℕ) (text : List ℕ) → LebReads z bs vol r lnum text → LebReads z cs vol r lnum text
   leb_to vol r lnum text (inl k) = inl (
@@ -129,7 +95,7 @@ module _ (z : Sizes) (bs cs : List (List ℕ)) (to : ℕ → ℕ) (h : IsMoved b
   mismatch_of t p m =
       let c = m.2 in
       let w = wins_to z cs bs to (moved_back z bs cs to h) (c.vol, c.lnum) p c.wins in
-      let e = h.same p (inside_of bs cs to h p c.wins.member.inside) in
+      let e = h.same p (inside_of z bs cs to h p c.wins.member.inside) in
       (m.0, m.1, record { vol = c.vol; lnum = c.lnum; wins = w; recorded = c.recorded; within = c.within }, m.3, ap (member z) (sym e) ∙ m.4, m.5)
 
   accepts_to : (m : Meant) → AcceptsBlocks z bs m → AcceptsBlocks z cs m
@@ -141,6 +107,14 @@ module _ (z : Sizes) (bs cs : List (List ℕ)) (to : ℕ → ℕ) (h : IsMoved b
     means = means_to a.records m a.means;
   }
 
-pub reorder : (s : Sizes) (bs cs : List (List ℕ)) (m : Meant) → IsPermutation bs cs → AcceptsBlocks s bs m → AcceptsBlocks s cs m
-reorder s bs cs m moved a =
+pub blocks_in_any_order : (s : Sizes) (bs cs : List (List ℕ)) (m : Meant) → IsPermutation bs cs → AcceptsBlocks s bs m → AcceptsBlocks s cs m
+blocks_in_any_order s bs cs m moved a =
     IsPermutation-keeps bs (λ x. AcceptsBlocks s x m) a (λ l i j b c k. accepts_to s l (swap l i j) (trade i j) (swapped l i j b c) m k) cs moved
+
+pub reorder : (image other : Image) (m : Meant) → other.sizes ≡ image.sizes → IsWhole other
+    → IsPermutation (eraseblocks image) (eraseblocks other) → Accepts image m → Accepts other m
+reorder image other m same whole moved a = record {
+  whole = whole;
+  accepted = subst (λ s. AcceptsBlocks s (eraseblocks other) m) (sym same)
+      (blocks_in_any_order image.sizes (eraseblocks image) (eraseblocks other) m moved a.accepted);
+}

@@ -16,7 +16,7 @@ use Rattle.ubi_scan.specs.Members.{NoMember}
 use Rattle.ubi_scan.specs.Faults.{NoFault}
 use Rattle.ubi_scan.proofs.Decided.{Wins-unique}
 use Rattle.ubi_table.specs.Records.{Records}
-use Rattle.ubi_table.proofs.One.{table_unique, table_or_fault}
+use Rattle.ubi_table.proofs.One.{table_unique, never_table_and_fault}
 use Rattle.ubi_volume.specs.Accepts.{AcceptsBlocks, RefusesBlocks, Accepts, Refuses}
 use Rattle.ubi_volume.specs.Counted.{NoMismatch, IsVolumeFault}
 use Rattle.ubi_volume.specs.Means.{SlotMeans, Means}
@@ -135,7 +135,7 @@ no_volume_fault s bs t _ none h = h
 
 blocks_or_refused : (s : Sizes) (bs : List (List ℕ)) (m : Meant) (c : Refusal) → AcceptsBlocks s bs m → RefusesBlocks s bs c → ⊥
 blocks_or_refused s bs m c a (inl h) = a.clean h.at c h.inside h.fault.stands
-blocks_or_refused s bs m c a (inr (inl h)) = table_or_fault s bs a.clean a.records c a.table h.1
+blocks_or_refused s bs m c a (inr (inl h)) = never_table_and_fault s bs a.clean a.records c a.table h.1
 blocks_or_refused s bs m c a (inr (inr h)) =
     no_volume_fault s bs h.1 c (subst (NoMismatch s bs) (table_unique s bs a.clean a.records h.1 a.table h.2) a.alike) h.3
 

@@ -7,7 +7,7 @@ use Rattle.ubi_scan.specs.Faults.{IsScanFault, NoFault}
 use Rattle.ubi_scan.specs.Image.{Image, IsSizeFault, eraseblocks}
 use Rattle.ubi_scan.proofs.OneFault.{one_scan_fault}
 use Rattle.ubi_table.specs.Records.{Records}
-use Rattle.ubi_table.proofs.One.{fault_unique, table_or_fault, table_unique}
+use Rattle.ubi_table.proofs.One.{fault_unique, never_table_and_fault, table_unique}
 use Rattle.ubi_volume.specs.Accepts.{Refuses, RefusesBlocks}
 use Rattle.ubi_volume.specs.Counted.{IsVolumeFault}
 use Rattle.ubi_volume.proofs.One.{no_size_fault, same_or_less}
@@ -43,9 +43,9 @@ module _ (s : Sizes) (bs : List (List ℕ)) where
   one_blocks_fault c d (inl h) (inr (inr k)) = absurd (no_scan_fault c k.0 h)
   one_blocks_fault c d (inr (inl h)) (inl k) = absurd (no_scan_fault d h.0 k)
   one_blocks_fault c d (inr (inl h)) (inr (inl k)) = fault_unique s bs h.0 c d h.1 k.1
-  one_blocks_fault c d (inr (inl h)) (inr (inr k)) = absurd (table_or_fault s bs h.0 k.1 c k.2 h.1)
+  one_blocks_fault c d (inr (inl h)) (inr (inr k)) = absurd (never_table_and_fault s bs h.0 k.1 c k.2 h.1)
   one_blocks_fault c d (inr (inr h)) (inl k) = absurd (no_scan_fault d h.0 k)
-  one_blocks_fault c d (inr (inr h)) (inr (inl k)) = absurd (table_or_fault s bs h.0 h.1 d h.2 k.1)
+  one_blocks_fault c d (inr (inr h)) (inr (inl k)) = absurd (never_table_and_fault s bs h.0 h.1 d h.2 k.1)
   one_blocks_fault c d (inr (inr h)) (inr (inr k)) =
       let same : k.1 ≡ h.1 = table_unique s bs h.0 k.1 h.1 k.2 h.2 in
       one_volume_fault h.1 c d h.3 (subst (λ (t : Records). IsVolumeFault s bs t d) same k.3)

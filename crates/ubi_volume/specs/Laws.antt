@@ -1,8 +1,8 @@
 -- Laws of the definitions, as they stand on functions that do nothing.
-use Rattle.std.specs.Prelude.{◌≡◌, ℕ, ◌⊎◌, List, IsPermutation}
+use Rattle.std.specs.Prelude.{◌≡◌, ℕ, ◌⊎◌, ◌↔◌, List, IsPermutation}
 use Rattle.ubi_media.specs.Geometry.{Sizes, IsGeometry}
 use Rattle.ubi_media.specs.declared.refusal.Refusal.{Refusal}
-use Rattle.ubi_scan.specs.Image.{Image}
+use Rattle.ubi_scan.specs.Image.{Image, IsWhole, eraseblocks, judged}
 use Rattle.ubi_volume.specs.Accepts.{Accepts, AcceptsBlocks, Refuses}
 use Rattle.ubi_volume.specs.Meant.{Meant}
 
@@ -22,6 +22,14 @@ OneCause = (image : Image) (c d : Refusal) → Refuses image c → Refuses image
 abbrev pub OneOrOther : Type 0
 OneOrOther = (image : Image) → IsGeometry image.sizes → ((m : Meant) × Accepts image m) ⊎ ((c : Refusal) × Refuses image c)
 
--- the eraseblocks of an accepted image are accepted in any order, with the same meaning
+-- an image whose eraseblocks are those of an accepted one in another order is accepted with the same meaning
 abbrev pub Reorder : Type 0
-Reorder = (s : Sizes) (bs cs : List (List ℕ)) (m : Meant) → IsPermutation bs cs → AcceptsBlocks s bs m → AcceptsBlocks s cs m
+Reorder = (image other : Image) (m : Meant) → other.sizes ≡ image.sizes → IsWhole other
+    → IsPermutation (eraseblocks image) (eraseblocks other) → Accepts image m → Accepts other m
+
+-- what a file means, or why it is refused, is told by those of its bytes that are judged
+abbrev pub JudgedAlone : Type 0
+JudgedAlone = (s : Sizes) (bytes : List ℕ) →
+    let all : Image = record { sizes = s; bytes = bytes } in
+    let first : Image = record { sizes = s; bytes = judged s bytes } in
+    ((m : Meant) → Accepts first m ↔ Accepts all m) × ((c : Refusal) → Refuses first c ↔ Refuses all c)

@@ -1,6 +1,6 @@
 //! Laws of the definitions that the contracts cite, each as the contract of a function that does nothing.
 
-ghost use Rattle.ubi_volume.specs.Laws.{NeverBoth, OneCause, OneMeaning, OneOrOther, Reorder};
+ghost use Rattle.ubi_volume.specs.Laws.{JudgedAlone, NeverBoth, OneCause, OneMeaning, OneOrOther, Reorder};
 
 /// An image has one meaning at most.
 pub fn one_meaning()
@@ -22,7 +22,13 @@ pub fn accepted_or_refused()
     ensures { OneOrOther }
 {}
 
-/// The eraseblocks of an accepted image are accepted in any order, with the same meaning.
+/// Of two images of one geometry whose eraseblocks are the same in any order, one is accepted with the meaning of the
+/// other.
 pub fn reorder()
     ensures { Reorder }
+{}
+
+/// What a file means, or why it is refused, is told by its first bytes up to one more than the device has.
+pub fn judged_alone()
+    ensures { JudgedAlone }
 {}

@@ -1,4 +1,4 @@
-use Rattle.std.proofs.Common.{rules, ◌≡◌, ◌∙◌, arith}
+use Rattle.std.proofs.Common.{rules, ◌≡◌, ap, ◌∙◌, arith}
 use Rattle.ubi_compose.specs.Composed.{HasRoom, composed}
 use Rattle.ubi_compose.proofs.Accepted.{normal_accepted}
 use Rattle.ubi_compose.proofs.Puts.{composed_pieces}
@@ -27,3 +27,9 @@ returns-clause-accepted c =
     (composed_pieces m c.args.spares) in
     let room : HasRoom m c.args.spares = search rules in
     rw bytes (normal_accepted m g c.geometry-geometry.ensures.meaning c.args.spares room)
+
+pub returns-then-count-pebs-clause-fits : goal.returns-then-count-pebs-clause-fits
+returns-then-count-pebs-clause-fits c = λ none same.
+    let fits = normal_fits c.args.meaning.now c.geometry-geometry.ensures.meaning in
+    let size = ap (λ s. s.pebs) c.geometry-geometry.ensures.value in
+    omega (arith, fits, size)

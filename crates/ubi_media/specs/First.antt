@@ -1,0 +1,8 @@
+-- What it is to be the first of a list's elements that pass a test.
+use Rattle.std.specs.Prelude.{◌≡◌, Bool, true, false, All, List, ◌∷◌, ◌++◌, Option, Some, None}
+
+-- the element passes, and no element before it does; or none passes
+abbrev pub IsFirst : {A : Type 0} → (A → Bool) → List A → Option A → Type 0
+IsFirst passes xs None = All (λ x. passes x ≡ false) xs
+IsFirst passes xs (Some x) =
+    (before : List _) × (behind : List _) × (xs ≡ before ++ x ∷ behind) × (passes x ≡ true) × All (λ y. passes y ≡ false) before
