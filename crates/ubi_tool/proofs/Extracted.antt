@@ -86,3 +86,12 @@ of_meaning image m id old new tool.Read a h = absurd h
 -- a write that failed was one of the text of a volume
 pub failed_text : (image : Image) (id : ℕ) (old new : Option (List ℕ)) → IsExtractError image id old new tool.Write → HasText image id
 failed_text image id old new h = (h.0, h.2.0, h.1, h.2.2)
+
+-- of a writer whose bytes weren't known before nothing is told behind
+volume_of_unknown : (m : Meant) (id : ℕ) (new : Option (List ℕ)) (o : Outcome) → ReadsVolume m id None new o → ReadsVolume m id None None o
+volume_of_unknown m id new o (unread e h line kept) = unread e h line tt
+volume_of_unknown m id new o (read text h line got) = read text h line tt
+
+pub of_unknown : (image : Image) (id : ℕ) (new : Option (List ℕ)) (o : Outcome) → Extracts image id None new o → Extracts image id None None o
+of_unknown image id new o (accepted m a r) = accepted m a (volume_of_unknown m id new o r)
+of_unknown image id new o (refused c h line kept) = refused c h line tt

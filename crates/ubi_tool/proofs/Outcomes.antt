@@ -37,6 +37,11 @@ pub of_image : (numbers : Numbers) (path : List ℕ) (answers : Image → Outcom
 of_image numbers path answers s bytes o e read a =
     program.image bytes read (subst (λ (t : Sizes). answers (record { sizes = t; bytes = bytes }) o) e a)
 
+-- what is told is no less than more
+pub Tells-weaker : (P Q : Outcome → Type 0) → ((o : Outcome) → P o → Q o) → (u : Unread) → Tells P u → Tells Q u
+Tells-weaker P Q f Memory h = tt
+Tells-weaker P Q f (Told o) h = f o h
+
 -- what is answered in place of an image is what is told
 pub told : (is : Outcome → Type 0) (u : Unread) (r : Result Outcome AllocError) → Tells is u → MatchResult r (λ o. u ≡ Told o) (λ _. u ≡ Memory) → IfOk r is
 told is u (Ok o) h e = subst (Tells is) e h

@@ -1,5 +1,5 @@
 -- What is extracted of an image: what one of its volumes reads.
-use Rattle.std.specs.Prelude.{◌≡◌, ℕ, ◌<◌, List, Option, Result, Ok, Err, codes, length, take}
+use Rattle.std.specs.Prelude.{◌≡◌, ℕ, ◌<◌, List, Option, None, Result, Ok, Err, codes, length, take}
 use Rattle.std.specs.Io.KnownBytes.{Appends, Keeps}
 use Rattle.ubi_media.specs.declared.refusal.Refusal.{Refusal}
 use Rattle.ubi_scan.specs.Image.{Image}
@@ -59,8 +59,8 @@ abbrev pub IsExtractError : Image → ℕ → Option (List ℕ) → Option (List
 IsExtractError image id old new tool.Memory = Keeps old new
 IsExtractError image id old new e = (m : Meant) × Accepts image m × IsVolumeError m id old new e
 
--- what it answers over files: the same, or the line of an output that can't be written
+-- what it answers over files, whose bytes nothing tells: the same, or the line of an output that can't be written
 pub data ExtractsInto (id : ℕ) (out : List ℕ) (image : Image) : Outcome → Type 0 where
-  written : {o : Outcome} (old new : Option (List ℕ)) → Extracts image id old new o → ExtractsInto id out image o
+  written : {o : Outcome} → Extracts image id None None o → ExtractsInto id out image o
   unwritten : {o : Outcome} (m : Meant) (text : List ℕ) → Accepts image m → read_volume m id ≡ Ok text
       → Gives o (says (file_line (codes "cannot write ") out) 1) → ExtractsInto id out image o

@@ -6,6 +6,8 @@ pub mod Lines
 pub mod List
 pub mod Normalise
 pub mod Numbers
+pub mod Printed
 pub mod Program
+pub mod Read
 pub mod Same
 pub mod Show

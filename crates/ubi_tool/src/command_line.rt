@@ -50,13 +50,31 @@ pub enum Request<'a> {
     },
 }
 
+/// What `--version` shows.
+const VERSION: &str = "0.1.0";
+
+const ABOUT: &str = "Reads raw NAND dumps that hold UBI volumes";
+
+/// What stands below the help of the program.
+const EXAMPLES: &str = "Examples, for eraseblocks of 128 KiB with pages of 2 KiB:
+  ubi_tool list dump.img --peb 131072 --page 2048
+  ubi_tool extract dump.img --id 0 --out volume.bin --peb 131072 --page 2048
+  ubi_tool same old.img new.img --peb 131072 --page 2048 --vid 512 --data 2048
+
+Exit status: 0 done; 1 refused, different, a file that fails, or out of memory;
+2 wrong words, help, or a geometry that breaks a limit.";
+
 /// The whole command line. A command line is used up by reading words, so that each call makes a new one.
 pub fn command_line<'a>(alloc: Global) -> Result<Command<'a>, AllocError>
     ensures { IfOk result (λ c. subcommand_names c ≡ command_names) }
 {
-    let tool = Command::new(alloc, "ubi_tool").subcommand_required(true);
-    let tool = tool.subcommand(image_command(alloc, "list")?)?;
-    let tool = tool.subcommand(image_command(alloc, "check")?)?;
+    let tool = Command::new(alloc, "ubi_tool")
+        .about(ABOUT)
+        .version(VERSION)
+        .after_help(EXAMPLES)
+        .subcommand_required(true);
+    let tool = tool.subcommand(list_command(alloc)?)?;
+    let tool = tool.subcommand(check_command(alloc)?)?;
     let tool = tool.subcommand(show_command(alloc)?)?;
     let tool = tool.subcommand(extract_command(alloc)?)?;
     let tool = tool.subcommand(normalise_command(alloc)?)?;
@@ -101,57 +119,89 @@ pub fn request_of<'a>(matches: &'a ArgMatches<'_>) -> Option<Request<'a>>
     }
 }
 
+fn list_command<'a>(alloc: Global) -> Result<Command<'a>, AllocError>
+    ensures { IfOk result (λ c. (out-Command c).name.now ≡ codes "list") }
+{
+    image_command(alloc, "list", "Prints a line for each volume of an image")
+}
+
+fn check_command<'a>(alloc: Global) -> Result<Command<'a>, AllocError>
+    ensures { IfOk result (λ c. (out-Command c).name.now ≡ codes "check") }
+{
+    image_command(
+        alloc,
+        "check",
+        "Counts the states of an image's eraseblocks, or says why the image is refused",
+    )
+}
+
 fn show_command<'a>(alloc: Global) -> Result<Command<'a>, AllocError>
     ensures { IfOk result (λ c. (out-Command c).name.now ≡ codes "show") }
 {
     let block = Arg::new(alloc, "block")
         .long("block")
         .value_name("P")
+        .help("The eraseblock to show, counted from 0")
         .value_parser(value_parser!(u32))
         .required(true);
-    let command = image_command(alloc, "show")?;
+    let command = image_command(alloc, "show", "Prints the headers of one eraseblock")?;
     command.arg(block)
 }
 
 fn extract_command<'a>(alloc: Global) -> Result<Command<'a>, AllocError>
     ensures { IfOk result (λ c. (out-Command c).name.now ≡ codes "extract") }
 {
-    let command = out_command(alloc, "extract")?;
-    command.arg(number(alloc, "id").required(true))
+    let id = number(alloc, "id", "The number of the volume").required(true);
+    let command = out_command(alloc, "extract", "Writes what a volume reads")?;
+    command.arg(id)
 }
 
 fn normalise_command<'a>(alloc: Global) -> Result<Command<'a>, AllocError>
     ensures { IfOk result (λ c. (out-Command c).name.now ≡ codes "normalise") }
 {
-    out_command(alloc, "normalise")
+    out_command(
+        alloc,
+        "normalise",
+        "Writes the normal image: one byte string for all images that mean the same",
+    )
 }
 
 fn same_command<'a>(alloc: Global) -> Result<Command<'a>, AllocError>
     ensures { IfOk result (λ c. (out-Command c).name.now ≡ codes "same") }
 {
-    let other = Arg::new(alloc, "OTHER").value_name("IMAGE").required(true);
-    let command = image_command(alloc, "same")?;
+    let other = Arg::new(alloc, "OTHER")
+        .value_name("IMAGE")
+        .help("The image to compare it with")
+        .required(true);
+    let command = image_command(alloc, "same", "Says whether two images mean the same")?;
     command.arg(other)
 }
 
 /// A command over an image file that writes another file.
-fn out_command<'a>(alloc: Global, name: &'a str) -> Result<Command<'a>, AllocError>
+fn out_command<'a>(alloc: Global, name: &'a str, about: &'a str) -> Result<Command<'a>, AllocError>
     ensures { IfOk result (λ c. (out-Command c).name.now ≡ name.now) }
 {
     let out = Arg::new(alloc, "out")
         .long("out")
         .value_name("FILE")
+        .help("The file to write")
         .required(true);
-    let command = image_command(alloc, name)?;
+    let command = image_command(alloc, name, about)?;
     command.arg(out)
 }
 
 /// A command over an image file.
-fn image_command<'a>(alloc: Global, name: &'a str) -> Result<Command<'a>, AllocError>
+fn image_command<'a>(
+    alloc: Global,
+    name: &'a str,
+    about: &'a str,
+) -> Result<Command<'a>, AllocError>
     ensures { IfOk result (λ c. (out-Command c).name.now ≡ name.now) }
 {
-    let image = Arg::new(alloc, "IMAGE").required(true);
-    let command = with_numbers(alloc, Command::new(alloc, name))?;
+    let image = Arg::new(alloc, "IMAGE")
+        .help("The raw dump, without out-of-band bytes")
+        .required(true);
+    let command = with_numbers(alloc, Command::new(alloc, name).about(about))?;
     command.arg(image)
 }
 
@@ -159,18 +209,29 @@ fn image_command<'a>(alloc: Global, name: &'a str) -> Result<Command<'a>, AllocE
 fn with_numbers<'a>(alloc: Global, command: Command<'a>) -> Result<Command<'a>, AllocError>
     ensures { IfOk result (λ c. (out-Command c).name.now ≡ (out-Command command.entry).name.now) }
 {
-    let command = command.arg(number(alloc, "peb").required(true))?;
-    let command = command.arg(number(alloc, "page").required(true))?;
-    let command = command.arg(number(alloc, "vid"))?;
-    let command = command.arg(number(alloc, "data"))?;
-    command.arg(number(alloc, "pebs"))
+    let command = command.arg(number(alloc, "peb", PEB).required(true))?;
+    let command = command.arg(number(alloc, "page", PAGE).required(true))?;
+    let command = command.arg(number(alloc, "vid", VID))?;
+    let command = command.arg(number(alloc, "data", DATA))?;
+    command.arg(number(alloc, "pebs", PEBS))
 }
 
+const PEB: &str = "The bytes of an eraseblock";
+
+const PAGE: &str = "The bytes of a page";
+
+const VID: &str = "The offset of the VID header in an eraseblock [default: one page]";
+
+const DATA: &str = "The offset of the data in an eraseblock [default: two pages]";
+
+const PEBS: &str = "The eraseblocks of the device [default: 1048576]";
+
 /// An option that takes a number of 32 bits.
-fn number<'a>(alloc: Global, name: &'a str) -> Arg<'a> {
+fn number<'a>(alloc: Global, name: &'a str, help: &'a str) -> Arg<'a> {
     Arg::new(alloc, name)
         .long(name)
         .value_name("N")
+        .help(help)
         .value_parser(value_parser!(u32))
 }
 

@@ -1,6 +1,7 @@
 //! The image file that the words of a command name.
 
-ghost use Rattle.std.specs.Prelude.{◌≡◌, ◌+◌, ◌*◌, ◌≤◌, IfErr, IfOk, MatchResult, codes, vec_len};
+ghost use Rattle.std.specs.Prelude.{◌≡◌, ◌+◌, ◌*◌, ◌≤◌, IfErr, IfOk, IfSome, MatchResult, codes, vec_len};
+ghost use Rattle.ubi_scan.specs.Image.{judged};
 ghost use Rattle.ubi_tool.specs.Answer.{Gives, says};
 ghost use Rattle.ubi_tool.specs.Lines.{file_line, geometry_line};
 ghost use Rattle.ubi_tool.specs.Numbers.{sizes_of};
@@ -14,6 +15,7 @@ use crate::read::read_limited;
 use std::alloc::{AllocError, Global};
 use std::fs;
 use std::fs::Files;
+use std::io::Read;
 use ubi_media::{Geometry, GeometryError};
 
 /// An image, and the geometry that the words give it.
@@ -61,7 +63,20 @@ impl From<AllocError> for Unread {
     }
 }
 
-/// The bytes of an image file, up to one more than a device of the geometry has.
+/// Those bytes of an image that are judged: all, or the first ones up to one more than a device of the geometry has.
+fn read_judged<R: Read>(
+    alloc: Global,
+    reader: &mut R,
+    geometry: &Geometry,
+) -> Result<Vec<u8>, ToolError>
+    ensures bytes { IfOk result (λ v. IfSome (R.remaining reader.old) (λ xs. v.items ≡ judged geometry.now xs)) }
+    ensures few { IfOk result (λ v. vec_len v ≤ geometry.now.pebs * geometry.now.peb_size + 1) }
+{
+    let device = u64::from(geometry.pebs()) * u64::from(geometry.peb_size());
+    read_limited(alloc, reader, device + 1)
+}
+
+/// Those bytes of an image file that are judged.
 fn read_image<R: Files>(
     rt: &R,
     alloc: Global,
@@ -70,9 +85,8 @@ fn read_image<R: Files>(
 ) -> Result<Vec<u8>, ToolError>
     ensures { IfOk result (λ v. vec_len v ≤ geometry.now.pebs * geometry.now.peb_size + 1) }
 {
-    let limit = u64::from(geometry.pebs()) * u64::from(geometry.peb_size()) + 1;
     match fs::open(rt, path) {
-        Ok(mut file) => read_limited(alloc, &mut file, limit),
+        Ok(mut file) => read_judged(alloc, &mut file, geometry),
         Err(_) => Err(ToolError::Read),
     }
 }
@@ -84,11 +98,18 @@ fn limit_line(alloc: Global, limit: GeometryError) -> Result<Outcome, AllocError
     Ok(Outcome::saying(geometry_line(alloc, limit)?, WRONG_WORDS))
 }
 
-/// The line of a file that can't be read.
-fn unread_line(alloc: Global, path: &str) -> Result<Outcome, AllocError>
-    ensures { IfOk result (λ o. Gives o (says (file_line (codes "cannot read ") path.now) 1)) }
+/// What is told of a file that couldn't be read: its line, or that memory ran out.
+fn unread_file(alloc: Global, path: &str, error: ToolError) -> Unread
+    ensures line { Tells (λ o. Gives o (says (file_line (codes "cannot read ") path.now) 1)) result }
+    ensures memory { error ≡ ToolError.Memory → result ≡ Memory }
 {
-    Ok(Outcome::saying(file_line(alloc, "cannot read ", path)?, FAILED))
+    if error == ToolError::Memory {
+        return Unread::Memory;
+    }
+    match file_line(alloc, "cannot read ", path) {
+        Ok(text) => Unread::Told(Outcome::saying(text, FAILED)),
+        Err(AllocError) => Unread::Memory,
+    }
 }
 
 /// Reads the image of a path, once its geometry is known to break no limit.
@@ -112,7 +133,6 @@ pub fn load<R: Files>(
     };
     match read_image(rt, alloc, &geometry, path) {
         Ok(bytes) => Ok(ImageFile { geometry, bytes }),
-        Err(ToolError::Memory) => Err(Unread::Memory),
-        Err(_) => Err(Unread::Told(unread_line(alloc, path)?)),
+        Err(error) => Err(unread_file(alloc, path, error)),
     }
 }

@@ -1,6 +1,7 @@
 //! A file that is opened late.
 
-ghost use Rattle.std.specs.Prelude.{◌≡◌, IsSome, None, OnOk};
+ghost use Rattle.std.specs.Prelude.{◌≡◌, IsSome, None, OnOk, OnErr};
+ghost use Rattle.std.specs.Option.{option_and_then};
 
 use std::fs::{File, Files};
 use std::io;
@@ -8,6 +9,8 @@ use std::io::Write;
 
 /// A writer into a file that is opened anew at the first write. So a file that is there stays as it is where the work is
 /// refused.
+///
+/// Its contents are those of the file, once that is open. What a file holds as it is opened isn't known.
 #[derive(Drop)]
 pub struct LateFile<'a, R: Files> {
     rt: &'a R,
@@ -36,6 +39,8 @@ impl<'a, R: Files> LateFile<'a, R> {
     pub fn finish(&mut self) -> io::Result<()>
         ensures path { self.new.path.now ≡ self.old.path.now }
         ensures opened { OnOk result (IsSome self.new.file) }
+        ensures stays { IsSome self.old.file → self.new.file ≡ self.old.file }
+        ensures unopened { OnErr result (self.new.file ≡ None) }
     {
         if self.file.is_none() {
             self.file = Some(File::create(self.rt, self.path)?);
@@ -45,6 +50,8 @@ impl<'a, R: Files> LateFile<'a, R> {
 }
 
 impl<R: Files> Write for LateFile<'_, R> {
+    ghost contents = { λ late. option_and_then (λ file. R.File.contents file) late.file };
+
     fn write(&mut self, buf: &[u8]) -> io::Result<usize> {
         self.finish()?;
         match &mut self.file {

@@ -4,6 +4,9 @@
 //! and each of its commands is a function over bytes.
 #![tactic(auto)]
 
+ghost use Rattle.std.specs.IoError.{error_kind};
+ghost use Rattle.std.specs.Prelude.{◌≡◌, ◌≢◌};
+
 mod check;
 mod command_line;
 mod extract;
@@ -14,13 +17,15 @@ mod list;
 mod normalise;
 mod numbers;
 mod outcome;
+mod printing;
 mod read;
 mod same;
 mod show;
 mod words;
 
-use outcome::{FAILED, Outcome, WRONG_WORDS};
+use outcome::WRONG_WORDS;
 use std::alloc::AllocError;
+use std::io::ErrorKind;
 use std::process::ExitCode;
 use std::rt::Env;
 use std::{env, io};
@@ -29,12 +34,11 @@ use std::{env, io};
 mod tests;
 
 fn main(rt: HostRuntime) -> ExitCode {
-    let words = match words_of(&rt) {
-        Ok(words) => words,
-        Err(error) => return ExitCode::from(unread_words(&rt, &error)),
+    let status = match words_of(&rt) {
+        Ok(words) => printing::report(&rt, &words::run_words(&rt, rt.alloc(), words.as_slice())),
+        Err(error) => unread_words(&rt, &error),
     };
-    let outcome = words::run_words(&rt, rt.alloc(), words.as_slice());
-    ExitCode::from(print(&rt, &outcome))
+    ExitCode::from(status)
 }
 
 /// The words that the program was called with, its own name first.
@@ -47,24 +51,13 @@ fn words_of<R: Env + AllocGlobal>(rt: &R) -> io::Result<Vec<String>> {
 }
 
 /// The status to end with where the words can't be had: memory ran out, or they aren't text.
-fn unread_words<R: Print + Eprint>(rt: &R, error: &io::Error) -> u8 {
-    if error.kind() == io::ErrorKind::OutOfMemory {
-        return print(rt, &Err(AllocError));
+fn unread_words<R: Print + Eprint>(rt: &R, error: &io::Error) -> u8
+    ensures memory { error_kind error.now ≡ ErrorKind.OutOfMemory → result ≡ 1 }
+    ensures words { error_kind error.now ≢ ErrorKind.OutOfMemory → result ≡ 2 }
+{
+    if error.kind() == ErrorKind::OutOfMemory {
+        return printing::report(rt, &Err(AllocError));
     }
     let _ = rt.eprintln("error: the words aren't text");
     WRONG_WORDS
-}
-
-/// Prints what the command answered, and gives the status to end with.
-fn print<R: Print>(rt: &R, outcome: &Result<Outcome, AllocError>) -> u8 {
-    match outcome {
-        Ok(outcome) => match rt.write_all(outcome.text.as_slice()) {
-            Ok(()) => outcome.status,
-            Err(_) => FAILED,
-        },
-        Err(AllocError) => {
-            let _ = rt.println("out of memory");
-            FAILED
-        }
-    }
 }

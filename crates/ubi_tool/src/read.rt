@@ -1,7 +1,8 @@
 //! Reading the bytes of a file, up to a limit.
 
-ghost use Rattle.std.specs.Prelude.{◌≡◌, ◌≢◌, ◌≤◌, IfOk, IfErr, IfSome, take, vec_len};
+ghost use Rattle.std.specs.Prelude.{◌≡◌, ◌≢◌, ◌≤◌, IfOk, IfErr, IfSome, OnErr, take, vec_len};
 ghost use Rattle.std.specs.Io.KnownBytes.{Consumes};
+ghost use Rattle.ubi_tool.specs.Read.{TakesAtMost};
 
 use crate::outcome::ToolError;
 use std::alloc::Global;
@@ -15,7 +16,7 @@ const CHUNK: usize = 16_384;
 /// # Errors
 ///
 /// Read where a read fails, with an error of any kind; no read is tried again. Memory where memory ran out. The reader
-/// may then stand further on.
+/// may then stand further on, by `limit` bytes at most.
 pub fn read_limited<R: Read>(
     alloc: Global,
     reader: &mut R,
@@ -24,6 +25,7 @@ pub fn read_limited<R: Read>(
     ensures bytes { IfOk result (λ v. IfSome (R.remaining reader.old) (λ xs. v.items ≡ take limit xs)) }
     ensures within { IfOk result (λ v. vec_len v ≤ limit) }
     ensures rest { IfOk result (λ v. Consumes (R.remaining reader.old) (R.remaining reader.new) v.items) }
+    ensures taken { OnErr result (TakesAtMost limit (R.remaining reader.old) (R.remaining reader.new)) }
     ensures err { IfErr result (λ e. e ≢ ToolError.Write) }
 {
     let mut bytes = Vec::new(alloc);

@@ -1,3 +1,4 @@
+mod answers;
 mod check;
 mod extract;
 mod fake;
@@ -9,6 +10,7 @@ mod list;
 mod memory;
 mod normal;
 mod normalise;
+mod printing;
 mod same;
 mod show;
 mod streams;

@@ -1,6 +1,7 @@
 //! The commands over files: what the words ask for is read, done and written.
 
-ghost use Rattle.std.specs.Prelude.{IfOk, codes};
+ghost use Rattle.clap.specs.Values.{kind_of};
+ghost use Rattle.std.specs.Prelude.{◌≡◌, ◌↔◌, IfOk, IsErr, codes};
 ghost use Rattle.ubi_tool.specs.Answer.{Gives, says};
 ghost use Rattle.ubi_tool.specs.Check.{Checks};
 ghost use Rattle.ubi_tool.specs.Extract.{ExtractsInto};
@@ -36,7 +37,7 @@ use ubi_volume::write_all;
 ///
 /// # Errors
 ///
-/// Memory ran out. An output file may then have been opened, where the work was done.
+/// Memory ran out. No output file was opened then.
 pub fn run_words<R: Files + Eprint>(
     rt: &R,
     alloc: Global,
@@ -158,11 +159,13 @@ fn extract_file<R: Files>(
         Ok(file) => file,
         Err(unread) => return unread.answer(),
     };
+    // Made before the output is opened, so that no part of it is written where memory runs out.
+    let unwritten = unwritten(alloc, out)?;
     let mut late = LateFile::new(rt, out);
     match run_extract(alloc, &file.geometry, file.bytes.as_slice(), id, &mut late) {
-        Ok(outcome) if outcome.status == DONE && late.finish().is_err() => unwritten(alloc, out),
+        Ok(outcome) if outcome.status == DONE && late.finish().is_err() => Ok(unwritten),
         Ok(outcome) => Ok(outcome),
-        Err(ToolError::Write) => unwritten(alloc, out),
+        Err(ToolError::Write) => Ok(unwritten),
         Err(_) => Err(AllocError),
     }
 }
@@ -225,12 +228,15 @@ fn write_outcome<R: Files>(
 ) -> Result<Outcome, AllocError>
     ensures { IfOk result (IsWritten path.now outcome) }
 {
-    if let Some(bytes) = &outcome.file {
-        if write_file(rt, path, bytes.as_slice()).is_err() {
-            return unwritten(alloc, path);
-        }
+    let Some(bytes) = &outcome.file else {
+        return Ok(outcome);
+    };
+    // Made before the file is opened, so that no part of it is written where memory runs out.
+    let unwritten = unwritten(alloc, path)?;
+    match write_file(rt, path, bytes.as_slice()) {
+        Ok(()) => Ok(outcome),
+        Err(_) => Ok(unwritten),
     }
-    Ok(outcome)
 }
 
 /// The line of a file that can't be written.
@@ -248,9 +254,14 @@ fn write_file<R: Files>(rt: &R, path: &str, bytes: &[u8]) -> Result<(), ToolErro
     write_all(&mut file, bytes).map_err(|_| ToolError::Write)
 }
 
-/// Tells on the standard error what is wrong with the words.
+/// Prints to standard error what is wrong with the words.
+///
+/// # Errors
+///
+/// Memory ran out while they were read, and not otherwise.
 fn wrong_words<R: Eprint>(rt: &R, alloc: Global, error: &Error) -> Result<Outcome, AllocError>
-    ensures { IfOk result IsAnswer }
+    ensures answer { IfOk result IsAnswer }
+    ensures memory { kind_of error.now ≡ ErrorKind.OutOfMemory ↔ IsErr result }
 {
     if error.kind() == ErrorKind::OutOfMemory {
         return Err(AllocError);

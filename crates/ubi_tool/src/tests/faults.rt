@@ -1,215 +1,139 @@
 //! Images that are refused for a fault of an eraseblock, of the table or of a volume: the lines of `normalise`.
 
-use super::images::{CHECK_OF_41, COPY_FLAG_2, VERSION_2, ec_of, overwrite, plain, root_image};
+use super::answers::{assert_says, small};
+use super::images::{
+    CHECK_OF_41, COPY_FLAG_2, VERSION_2, ec_of, fixed, overwrite, plain, put_block, root_image,
+};
 use crate::normalise::run_normalise;
 use std::alloc::Global;
+use std::process::Abort;
 use std::test::Fail;
-use ubi_media::{Geometry, VidHeader, VolKind, write_vid};
+use ubi_media::{VidHeader, write_vid};
 
-/// A header to write over the bytes of an image, and from which place on.
-type Change = (usize, [u8; 64]);
-
-/// The line for the image of `root` with other headers, and with what is appended behind it.
-fn line_of(
+/// Asserts the line for the image of `root` with other bytes at a place, and at another one.
+fn assert_line(
+    rt: &impl Abort,
     alloc: Global,
-    geometry: &Geometry,
-    changes: &[Change],
-    behind: &[u8],
-) -> Result<Vec<u8>, Fail> {
-    let mut image = root_image(alloc, geometry)?;
-    for (at, header) in changes {
-        overwrite(image.as_mut_slice(), *at, header);
-    }
-    image.extend_from_slice(behind)?;
-    let outcome = run_normalise(alloc, geometry, image.as_slice())?;
-    Ok(outcome.text)
+    (at, bytes): (u16, &[u8]),
+    (then, more): (u16, &[u8]),
+    line: &str,
+) -> Result<(), Fail> {
+    let geometry = small()?;
+    let mut image = root_image(alloc, &geometry)?;
+    overwrite(image.as_mut_slice(), usize::from(at), bytes);
+    overwrite(image.as_mut_slice(), usize::from(then), more);
+    let answer = run_normalise(alloc, &geometry, image.as_slice());
+    assert_says(rt, answer, line, 1)
 }
+
+/// Nothing to write.
+const NOTHING: (u16, &[u8]) = (0, &[]);
 
 #[test]
 fn names_the_fault_of_a_header(rt: HostRuntime) -> Result<(), Fail> {
     let alloc = rt.alloc();
-    let geometry = Geometry::new(512, 64, 64, 128, 32)?;
-    let other_image = ec_of(&geometry, 8);
+    let version: (u16, &[u8]) = (1536, &VERSION_2);
+    assert_line(
+        &rt,
+        alloc,
+        version,
+        NOTHING,
+        "refused S3 Ec block=3 Version\n",
+    )?;
+    let other = ec_of(&small()?, 8);
+    let line = "refused S4 ImageSeq block=3\n";
+    assert_line(&rt, alloc, (1536, &other), NOTHING, line)?;
+    let copy_flag: (u16, &[u8]) = (1600, &COPY_FLAG_2);
+    let line = "refused S5 Vid block=3 CopyFlag\n";
+    assert_line(&rt, alloc, copy_flag, NOTHING, line)?;
     let layout = write_vid(&plain(0x7FFF_EFFF, 1, 0));
-    let cases = [
-        ((3 * 512, VERSION_2), "refused S3 Ec block=3 Version\n"),
-        ((3 * 512, other_image), "refused S4 ImageSeq block=3\n"),
-        (
-            (3 * 512 + 64, COPY_FLAG_2),
-            "refused S5 Vid block=3 CopyFlag\n",
-        ),
-        ((512 + 64, layout), "refused S5 Vid block=1 Compat\n"),
-    ];
-    for (change, line) in cases {
-        let text = line_of(alloc, &geometry, &[change], &[])?;
-        assert_eq!(rt; text.as_slice(), line.as_bytes());
-    }
-    Ok(())
-}
-
-#[test]
-fn names_the_first_of_two_faults(rt: HostRuntime) -> Result<(), Fail> {
-    let alloc = rt.alloc();
-    let geometry = Geometry::new(512, 64, 64, 128, 32)?;
-    let cases = [
-        (
-            [(4 * 512, VERSION_2), (512, VERSION_2)],
-            "refused S3 Ec block=1 Version\n",
-        ),
-        (
-            [(3 * 512 + 64, COPY_FLAG_2), (3 * 512, VERSION_2)],
-            "refused S3 Ec block=3 Version\n",
-        ),
-    ];
-    for (changes, line) in cases {
-        let text = line_of(alloc, &geometry, &changes, &[])?;
-        assert_eq!(rt; text.as_slice(), line.as_bytes());
-    }
-    Ok(())
+    let line = "refused S5 Vid block=1 Compat\n";
+    assert_line(&rt, alloc, (576, &layout), NOTHING, line)?;
+    // Of two faults the lower eraseblock decides, and there the erase-counter header.
+    let line = "refused S3 Ec block=1 Version\n";
+    assert_line(&rt, alloc, (2048, &VERSION_2), (512, &VERSION_2), line)?;
+    assert_line(
+        &rt,
+        alloc,
+        copy_flag,
+        version,
+        "refused S3 Ec block=3 Version\n",
+    )
 }
 
 #[test]
 fn names_the_fault_of_a_member(rt: HostRuntime) -> Result<(), Fail> {
     let alloc = rt.alloc();
-    let geometry = Geometry::new(512, 64, 64, 128, 32)?;
+    let geometry = small()?;
     let (five, seven) = (write_vid(&plain(0, 0, 5)), write_vid(&plain(0, 0, 7)));
-    let same = [
-        (2 * 512 + 64, five),
-        (3 * 512 + 64, seven),
-        (4 * 512 + 64, five),
-    ];
-    let text = line_of(alloc, &geometry, &same, &[])?;
-    assert_eq!(rt;
-        text.as_slice(),
-        b"refused S8 SameSqnum block=4 earlier=2\n".as_slice()
-    );
-    let beyond = write_vid(
-        &(VidHeader {
-            compat: 5,
-            ..plain(0x7FFF_EFFF, 2, 0)
-        }),
-    );
-    let text = line_of(alloc, &geometry, &[(2 * 512 + 64, beyond)], &[])?;
-    assert_eq!(rt; text.as_slice(), b"refused S7 Layout block=2\n".as_slice());
-    Ok(())
+    let mut image = root_image(alloc, &geometry)?;
+    overwrite(image.as_mut_slice(), 2 * 512 + 64, &five);
+    overwrite(image.as_mut_slice(), 3 * 512 + 64, &seven);
+    overwrite(image.as_mut_slice(), 4 * 512 + 64, &five);
+    let answer = run_normalise(alloc, &geometry, image.as_slice());
+    assert_says(&rt, answer, "refused S8 SameSqnum block=4 earlier=2\n", 1)?;
+    let beyond = VidHeader {
+        compat: 5,
+        ..plain(0x7FFF_EFFF, 2, 0)
+    };
+    let line = "refused S7 Layout block=2\n";
+    assert_line(&rt, alloc, (1088, &write_vid(&beyond)), NOTHING, line)?;
+    let unlike = write_vid(&fixed(0, 1, 384, CHECK_OF_41));
+    let line = "refused V1 Mismatch block=2\n";
+    assert_line(&rt, alloc, (1088, &unlike), NOTHING, line)
+}
+
+/// Asserts that an eraseblock of another internal volume is refused.
+fn assert_incompatible(rt: &impl Abort, alloc: Global, compat: u8) -> Result<(), Fail> {
+    let geometry = small()?;
+    let header = VidHeader {
+        compat,
+        ..plain(0x7FFF_F000, 0, 0)
+    };
+    let mut image = root_image(alloc, &geometry)?;
+    put_block(&mut image, &ec_of(&geometry, 0), &header, &[])?;
+    let answer = run_normalise(alloc, &geometry, image.as_slice());
+    let line = "refused S6 Incompatible block=5 volume=2147479552\n";
+    assert_says(rt, answer, line, 1)
 }
 
 #[test]
-fn drops_or_refuses_other_internal_volumes(rt: HostRuntime) -> Result<(), Fail> {
+fn refuses_other_internal_volumes(rt: HostRuntime) -> Result<(), Fail> {
     let alloc = rt.alloc();
-    let geometry = Geometry::new(512, 64, 64, 128, 32)?;
-    let accepted = "blocks 5\n";
-    let incompatible = "refused S6 Incompatible block=5 volume=2147479552\n";
-    for (compat, line) in [
-        (1, accepted),
-        (2, incompatible),
-        (4, incompatible),
-        (5, incompatible),
-    ] {
-        let header = VidHeader {
-            compat,
-            ..plain(0x7FFF_F000, 0, 0)
-        };
-        let mut behind = [0xFF; 512];
-        overwrite(&mut behind, 0, &ec_of(&geometry, 0x1234_5678));
-        overwrite(&mut behind, 64, &write_vid(&header));
-        let text = line_of(alloc, &geometry, &[], &behind)?;
-        assert_eq!(rt; text.as_slice(), line.as_bytes(), "of {compat}");
-    }
-    Ok(())
-}
-
-/// The line for the image of `root` with other bytes of copy 0 of its table, or of both copies.
-fn table_line(
-    alloc: Global,
-    geometry: &Geometry,
-    changes: &[(u16, [u8; 4])],
-    both: bool,
-) -> Result<Vec<u8>, Fail> {
-    let mut image = root_image(alloc, geometry)?;
-    for (at, bytes) in changes {
-        let at = usize::from(*at);
-        overwrite(image.as_mut_slice(), at, bytes);
-        if both {
-            overwrite(image.as_mut_slice(), 512 + at, bytes);
-        }
-    }
-    let outcome = run_normalise(alloc, geometry, image.as_slice())?;
-    Ok(outcome.text)
+    assert_incompatible(&rt, alloc, 2)?;
+    assert_incompatible(&rt, alloc, 4)?;
+    assert_incompatible(&rt, alloc, 5)
 }
 
 #[test]
 fn names_the_fault_of_a_table(rt: HostRuntime) -> Result<(), Fail> {
     let alloc = rt.alloc();
-    let geometry = Geometry::new(512, 64, 64, 128, 32)?;
-    let none = (0u16, *b"UBI#");
-    let soot = (144, *b"soot");
-    // Fields of the record of `root`, and its check, which another program worked out.
-    let (unaligned, unaligned_check) = ((132, [0; 4]), (296, [0xD1, 0x36, 0x07, 0x5E]));
-    let (most, most_check) = ((128, [0, 0, 0, 30]), (296, [0xDB, 0x2A, 0x7C, 0x85]));
-    let (more, more_check) = ((128, [0, 0, 0, 31]), (296, [0xCA, 0x32, 0xE2, 0xB9]));
-    let cases = [
-        ([none, none], false, "blocks 5\n"),
-        ([soot, none], false, "blocks 5\n"),
-        ([soot, none], true, "refused T2 BothCorrupt\n"),
-        (
-            [unaligned, unaligned_check],
-            false,
-            "refused T3 Record block=0 slot=0 Alignment\n",
-        ),
-        ([most, most_check], false, "blocks 5\n"),
-        ([more, more_check], false, "refused T5 NoSpace\n"),
-    ];
-    for (changes, both, line) in cases {
-        let text = table_line(alloc, &geometry, &changes, both)?;
-        assert_eq!(rt; text.as_slice(), line.as_bytes());
-    }
-    Ok(())
+    // A byte of the name in both copies.
+    let line = "refused T2 BothCorrupt\n";
+    assert_line(&rt, alloc, (144, b"s"), (656, b"s"), line)?;
+    // Fields of the record of `root` in copy 0, and its check, which another program worked out.
+    let check: (u16, &[u8]) = (296, &[0xD1, 0x36, 0x07, 0x5E]);
+    let line = "refused T3 Record block=0 slot=0 Alignment\n";
+    assert_line(&rt, alloc, (132, &[0; 4]), check, line)?;
+    let check: (u16, &[u8]) = (296, &[0xCA, 0x32, 0xE2, 0xB9]);
+    let line = "refused T5 NoSpace\n";
+    assert_line(&rt, alloc, (128, &[0, 0, 0, 31]), check, line)
 }
 
 #[test]
 fn names_an_image_without_a_table(rt: HostRuntime) -> Result<(), Fail> {
-    let alloc = rt.alloc();
-    let geometry = Geometry::new(512, 64, 64, 128, 32)?;
+    let geometry = small()?;
     let mut free = [0xFF; 512];
     overwrite(&mut free, 0, &ec_of(&geometry, 0));
-    let outcome = run_normalise(alloc, &geometry, &free)?;
-    assert_eq!(rt; outcome.text.as_slice(), b"refused T1 NoTable\n".as_slice());
-    assert_eq!(rt; outcome.status, 1);
-    Ok(())
+    let answer = run_normalise(rt.alloc(), &geometry, &free);
+    assert_says(&rt, answer, "refused T1 NoTable\n", 1)
 }
 
 #[test]
 fn names_two_equal_names(rt: HostRuntime) -> Result<(), Fail> {
     let alloc = rt.alloc();
-    let geometry = Geometry::new(512, 64, 64, 128, 32)?;
-    let mut image = root_image(alloc, &geometry)?;
-    let root = Vec::from_slice(alloc, image.as_slice().get(128..300).ok_or("short")?)?;
-    overwrite(image.as_mut_slice(), 300, root.as_slice());
-    let outcome = run_normalise(alloc, &geometry, image.as_slice())?;
-    assert_eq!(rt;
-        outcome.text.as_slice(),
-        b"refused T4 SameName block=0 slot=0 slot=1\n".as_slice()
-    );
-    Ok(())
-}
-
-#[test]
-fn names_a_winner_unlike_its_record(rt: HostRuntime) -> Result<(), Fail> {
-    let alloc = rt.alloc();
-    let geometry = Geometry::new(512, 64, 64, 128, 32)?;
-    let whole = VidHeader {
-        kind: VolKind::Static,
-        data_size: 384,
-        used_ebs: 1,
-        data_crc: CHECK_OF_41,
-        ..plain(0, 0, 0)
-    };
-    let changes = [(2 * 512 + 64, write_vid(&whole))];
-    let text = line_of(alloc, &geometry, &changes, &[])?;
-    assert_eq!(rt;
-        text.as_slice(),
-        b"refused V1 Mismatch block=2\n".as_slice()
-    );
-    Ok(())
+    let image = root_image(alloc, &small()?)?;
+    let root = image.as_slice().get(128..300).ok_or("short")?;
+    let line = "refused T4 SameName block=0 slot=0 slot=1\n";
+    assert_line(&rt, alloc, (300, root), NOTHING, line)
 }

@@ -3,9 +3,6 @@
 use std::alloc::{AllocError, Global};
 use ubi_media::{EcHeader, Geometry, VidHeader, VolKind, write_ec, write_vid};
 
-/// The words for a geometry of small eraseblocks.
-pub const SMALL: [&str; 6] = ["--peb", "512", "--page", "64", "--pebs", "32"];
-
 /// An erase-counter header of version 2, with counter 0 and the image 0x12345678.
 pub const VERSION_2: [u8; 64] = *b"UBI#\x02\0\0\0\
     \0\0\0\0\0\0\0\0\0\0\0\x40\0\0\0\x80\x12\x34\x56\x78\
@@ -60,31 +57,37 @@ pub const BOOT_UPDATING: Record = Record {
 pub fn root_image(alloc: Global, geometry: &Geometry) -> Result<Vec<u8>, AllocError> {
     let ec = ec_of(geometry, 0x1234_5678);
     let mut image = table_image(alloc, &ec, &ROOT)?;
-    for lnum in 0..3u8 {
-        let vid = plain(0, u32::from(lnum), 0);
-        put_block(&mut image, &ec, &vid, &[0x41 + lnum; 384])?;
-    }
+    put_block(&mut image, &ec, &plain(0, 0, 0), &[0x41; 384])?;
+    put_block(&mut image, &ec, &plain(0, 1, 0), &[0x42; 384])?;
+    put_block(&mut image, &ec, &plain(0, 2, 0), &[0x43; 384])?;
     Ok(image)
 }
 
 /// The image of `root` in another order: reversed, with erase counters from 10 on, and behind it a logical eraseblock
 /// that is blank throughout.
 pub fn reversed_image(alloc: Global, geometry: &Geometry) -> Result<Vec<u8>, AllocError> {
-    let root = root_image(alloc, geometry)?;
     let mut image = Vec::new(alloc);
-    for block in root.as_slice().rchunks(512) {
-        image.extend_from_slice(block)?;
-    }
-    for place in 0..5u8 {
-        let ec = EcHeader {
-            counter: 10 + u32::from(place),
-            image_seq: 0x1234_5678,
-        };
-        let at = 512 * usize::from(place);
-        overwrite(image.as_mut_slice(), at, &write_ec(geometry, &ec));
-    }
-    let blank = plain(0, 3, 0);
-    put_block(&mut image, &ec_of(geometry, 0), &blank, &[])?;
+    put_block(
+        &mut image,
+        &worn(geometry, 10),
+        &plain(0, 2, 0),
+        &[0x43; 384],
+    )?;
+    put_block(
+        &mut image,
+        &worn(geometry, 11),
+        &plain(0, 1, 0),
+        &[0x42; 384],
+    )?;
+    put_block(
+        &mut image,
+        &worn(geometry, 12),
+        &plain(0, 0, 0),
+        &[0x41; 384],
+    )?;
+    put_copy(&mut image, &worn(geometry, 13), 1, &ROOT)?;
+    put_copy(&mut image, &worn(geometry, 14), 0, &ROOT)?;
+    put_block(&mut image, &ec_of(geometry, 0), &plain(0, 3, 0), &[])?;
     Ok(image)
 }
 
@@ -124,60 +127,74 @@ pub fn motley_image(alloc: Global, geometry: &Geometry) -> Result<Vec<u8>, Alloc
 
 /// Adds a free eraseblock, one of which only the erase-counter header can be read, and one of which no header can.
 fn put_rest(image: &mut Vec<u8>, ec: &[u8; 64]) -> Result<(), AllocError> {
-    for (ec, vid) in [(ec, [0xFF; 64]), (ec, [0; 64]), (&[0; 64], [0; 64])] {
-        image.extend_from_slice(ec)?;
-        image.extend_from_slice(&vid)?;
-        image.extend_from_slice(&[0xFF; 384])?;
-    }
-    Ok(())
+    put_bytes(image, ec, &[0xFF; 64], &[])?;
+    put_bytes(image, ec, &[0; 64], &[])?;
+    put_bytes(image, &[0; 64], &[0; 64], &[])
 }
 
 /// A static volume while it is updated, whose eraseblocks don't agree on how many they are.
 pub fn updating_image(alloc: Global, geometry: &Geometry) -> Result<Vec<u8>, AllocError> {
     let ec = ec_of(geometry, 0);
     let mut image = table_image(alloc, &ec, &BOOT_UPDATING)?;
-    for (lnum, used_ebs) in [(0, 5), (1, 6), (2, 5), (3, 7), (4, 5)] {
-        let vid = fixed(lnum, used_ebs, 384, 0);
-        put_block(&mut image, &ec, &vid, &[0x41; 384])?;
-    }
+    put_block(&mut image, &ec, &fixed(0, 5, 384, 0), &[0x41; 384])?;
+    put_block(&mut image, &ec, &fixed(1, 6, 384, 0), &[0x41; 384])?;
+    put_block(&mut image, &ec, &fixed(2, 5, 384, 0), &[0x41; 384])?;
+    put_block(&mut image, &ec, &fixed(3, 7, 384, 0), &[0x41; 384])?;
+    put_block(&mut image, &ec, &fixed(4, 5, 384, 0), &[0x41; 384])?;
     Ok(image)
 }
 
-/// A static volume of two eraseblocks that reads 384 bytes 0x41 and a byte 0xFF; and how many of its eraseblocks are there.
-pub fn boot_image(alloc: Global, geometry: &Geometry, count: usize) -> Result<Vec<u8>, AllocError> {
-    let ec = ec_of(geometry, 0);
-    let mut image = table_image(alloc, &ec, &BOOT)?;
-    let headers = [fixed(0, 2, 384, CHECK_OF_41), fixed(1, 2, 1, 0x00FF_FFFF)];
-    let data = [[0x41; 384], [0xFF; 384]];
-    for (vid, data) in headers.iter().zip(&data).take(count) {
-        put_block(&mut image, &ec, vid, data)?;
-    }
+/// A static volume that has a record and no eraseblock: it reads nothing.
+pub fn empty_boot(alloc: Global, geometry: &Geometry) -> Result<Vec<u8>, AllocError> {
+    table_image(alloc, &ec_of(geometry, 0), &BOOT)
+}
+
+/// The same with the first of its two eraseblocks, so that it is damaged.
+pub fn damaged_boot(alloc: Global, geometry: &Geometry) -> Result<Vec<u8>, AllocError> {
+    let mut image = empty_boot(alloc, geometry)?;
+    let vid = fixed(0, 2, 384, CHECK_OF_41);
+    put_block(&mut image, &ec_of(geometry, 0), &vid, &[0x41; 384])?;
+    Ok(image)
+}
+
+/// The same with both: it reads 384 bytes 0x41 and a byte 0xFF.
+pub fn whole_boot(alloc: Global, geometry: &Geometry) -> Result<Vec<u8>, AllocError> {
+    let mut image = damaged_boot(alloc, geometry)?;
+    let vid = fixed(1, 2, 1, 0x00FF_FFFF);
+    put_block(&mut image, &ec_of(geometry, 0), &vid, &[])?;
     Ok(image)
 }
 
 /// The two eraseblocks of a table with a record in its first slot and none in its second.
 pub fn table_image(alloc: Global, ec: &[u8; 64], record: &Record) -> Result<Vec<u8>, AllocError> {
     let mut image = Vec::new(alloc);
-    for lnum in 0..2 {
-        let vid = VidHeader {
-            compat: 5,
-            ..plain(0x7FFF_EFFF, lnum, 0)
-        };
-        put_block(&mut image, ec, &vid, records(alloc, record)?.as_slice())?;
-    }
+    put_copy(&mut image, ec, 0, record)?;
+    put_copy(&mut image, ec, 1, record)?;
     Ok(image)
 }
 
+/// Adds one of them.
+fn put_copy(
+    image: &mut Vec<u8>,
+    ec: &[u8; 64],
+    copy: u32,
+    record: &Record,
+) -> Result<(), AllocError> {
+    let vid = VidHeader {
+        compat: 5,
+        ..plain(0x7FFF_EFFF, copy, 0)
+    };
+    put_block(image, ec, &vid, &records(record))
+}
+
 /// The bytes of a table with a record in its first slot and none in its second.
-pub fn records(alloc: Global, first: &Record) -> Result<Vec<u8>, AllocError> {
-    let mut records = Vec::from_slice(alloc, &first.start)?;
-    records.extend_from_slice(&[0; 124])?;
-    records.push(first.flags)?;
-    records.extend_from_slice(&[0; 23])?;
-    records.extend_from_slice(&first.check)?;
-    records.extend_from_slice(&[0; 168])?;
-    records.extend_from_slice(&EMPTY)?;
-    Ok(records)
+pub fn records(first: &Record) -> [u8; 344] {
+    let mut records = [0; 344];
+    records[..20].copy_from_slice(&first.start);
+    records[144] = first.flags;
+    records[168..172].copy_from_slice(&first.check);
+    records[340..].copy_from_slice(&EMPTY);
+    records
 }
 
 /// Adds an eraseblock of the small geometry: its headers, its data, and blank bytes behind them.
@@ -187,8 +204,18 @@ pub fn put_block(
     vid: &VidHeader,
     data: &[u8],
 ) -> Result<(), AllocError> {
+    put_bytes(image, ec, &write_vid(vid), data)
+}
+
+/// The same by the bytes of its headers.
+pub fn put_bytes(
+    image: &mut Vec<u8>,
+    ec: &[u8; 64],
+    vid: &[u8; 64],
+    data: &[u8],
+) -> Result<(), AllocError> {
     image.extend_from_slice(ec)?;
-    image.extend_from_slice(&write_vid(vid))?;
+    image.extend_from_slice(vid)?;
     image.extend_from_slice(data)?;
     image.extend_from_slice(&[0xFF; 384][data.len().min(384)..])
 }
@@ -226,6 +253,17 @@ pub fn ec_of(geometry: &Geometry, image_seq: u32) -> [u8; 64] {
         &EcHeader {
             counter: 0,
             image_seq,
+        },
+    )
+}
+
+/// Those of one with a counter, of the image 0x12345678.
+fn worn(geometry: &Geometry, counter: u32) -> [u8; 64] {
+    write_ec(
+        geometry,
+        &EcHeader {
+            counter,
+            image_seq: 0x1234_5678,
         },
     )
 }

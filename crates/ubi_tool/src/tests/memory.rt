@@ -1,6 +1,11 @@
-//! The commands where memory is refused.
+//! The commands where memory is refused: over bytes, and by their words over files.
+//!
+//! The script bench/refuse.sh refuses each growth of memory of these tests in turn, and looks for the line that is
+//! printed here.
 
+use super::answers::run_line;
 use super::extract::root_text;
+use super::fake::{Broken, FakeFiles};
 use super::normal::root_bytes;
 use crate::check::run_check;
 use crate::extract::run_extract;
@@ -9,7 +14,8 @@ use crate::normalise::run_normalise;
 use crate::outcome::{Outcome, ToolError};
 use crate::same::run_same;
 use crate::show::run_show;
-use std::alloc::Global;
+use std::alloc::{AllocError, Global};
+use std::cell::RefCell;
 use std::process::Abort;
 use std::test::Fail;
 use ubi_media::Geometry;
@@ -39,9 +45,8 @@ fn is_extracted(rt: &impl Abort, alloc: Global, geometry: &Geometry, image: &[u8
     is_told
 }
 
-/// The script bench/refuse.sh refuses each growth of memory in turn, and looks for the line that is printed here.
 #[test]
-fn tells_all_or_answers_want_of_memory(rt: HostRuntime) -> Result<(), Fail> {
+fn tells_all_or_runs_out_of_memory(rt: HostRuntime) -> Result<(), Fail> {
     let alloc = rt.alloc();
     let geometry = Geometry::new(512, 64, 64, 128, 32)?;
     let image = root_bytes();
@@ -54,7 +59,61 @@ fn tells_all_or_answers_want_of_memory(rt: HostRuntime) -> Result<(), Fail> {
         is_told(&rt, run_same(alloc, &geometry, &image, &image), "same\n"),
     ];
     if told.contains(&false) {
-        println!(rt; "want of memory")?;
+        println!(rt; "out of memory")?;
+    }
+    Ok(())
+}
+
+/// Whether the words of a line answered a text that begins so, over files that each hold an image, and wrote so many
+/// bytes. Else memory ran out, and no part of the output was written.
+fn is_run(
+    rt: &impl Abort,
+    alloc: Global,
+    image: &[u8],
+    line: &str,
+    (start, count): (&str, usize),
+) -> bool {
+    let shown = RefCell::new(String::new(alloc));
+    let written = RefCell::new(Vec::new(alloc));
+    let files = FakeFiles::new(image, Broken::Nothing, &written, &shown);
+    let answer = run_line(&files, alloc, line);
+    let written = written.into_inner().len();
+    match answer {
+        Ok(outcome) if written == count => {
+            assert!(rt; outcome.text.as_slice().starts_with(start.as_bytes()));
+            assert_eq!(rt; outcome.status, 0);
+            true
+        }
+        Ok(outcome) => {
+            // The fake file itself had no memory to keep what it was given.
+            assert_eq!(rt; outcome.text.as_slice(), b"cannot write b\n".as_slice());
+            false
+        }
+        Err(AllocError) => {
+            assert_eq!(rt; written, 0);
+            false
+        }
+    }
+}
+
+#[test]
+fn runs_words_or_out_of_memory(rt: HostRuntime) -> Result<(), Fail> {
+    let alloc = rt.alloc();
+    let image: &[u8] = &root_bytes();
+    let list = "list a --peb 512 --page 64";
+    let show = "show a --block 4 --peb 512 --page 64";
+    let extract = "extract a --id 0 --out b --peb 512 --page 64";
+    let normalise = "normalise a --out b --peb 512 --page 64";
+    let same = "same a b --peb 512 --page 64";
+    let ran = [
+        is_run(&rt, alloc, image, list, ("geometry peb=512 ", 0)),
+        is_run(&rt, alloc, image, show, ("ec valid 5542", 0)),
+        is_run(&rt, alloc, image, extract, ("bytes 7680\n", 7680)),
+        is_run(&rt, alloc, image, normalise, ("blocks 5\n", 2560)),
+        is_run(&rt, alloc, image, same, ("same\n", 0)),
+    ];
+    if ran.contains(&false) {
+        println!(rt; "out of memory")?;
     }
     Ok(())
 }

@@ -1,6 +1,6 @@
 //! Normal images. Their bytes are the format's, and their checks were worked out by another program.
 
-use super::images::{BOOT, BOOT_UPDATING, ROOT, Record, overwrite, records};
+use super::images::{BOOT, BOOT_UPDATING, ROOT, Record, overwrite, put_bytes, records};
 use std::alloc::{AllocError, Global};
 
 /// An erase-counter header of the small geometry, with counter 0 and no image.
@@ -65,24 +65,6 @@ const NONE: Record = Record {
     check: [0xF1, 0x16, 0xC3, 0x6B],
 };
 
-/// Adds an eraseblock: its two headers, its data, and 0xFF behind them.
-fn put(image: &mut Vec<u8>, vid: &[u8; 64], data: &[u8]) -> Result<(), AllocError> {
-    image.extend_from_slice(&EC)?;
-    image.extend_from_slice(vid)?;
-    image.extend_from_slice(data)?;
-    image.extend_from_slice(&[0xFF; 384][data.len().min(384)..])
-}
-
-/// A table with a record in its first slot and none in its second.
-fn table(alloc: Global, record: &Record) -> Result<Vec<u8>, AllocError> {
-    let records = records(alloc, record)?;
-    let mut image = Vec::new(alloc);
-    for vid in &COPIES {
-        put(&mut image, vid, records.as_slice())?;
-    }
-    Ok(image)
-}
-
 /// The normal image of no volume.
 pub fn normal_nothing(alloc: Global) -> Result<Vec<u8>, AllocError> {
     table(alloc, &NONE)
@@ -91,21 +73,20 @@ pub fn normal_nothing(alloc: Global) -> Result<Vec<u8>, AllocError> {
 /// That of the volume `root`, whose first three logical eraseblocks hold bytes 0x41, 0x42 and 0x43. It takes no memory.
 pub fn root_bytes() -> [u8; 2560] {
     let mut bytes = [0xFF; 2560];
-    for (block, vid) in bytes.chunks_mut(512).zip(COPIES.iter().chain(&LEBS)) {
-        overwrite(block, 0, &EC);
-        overwrite(block, 64, vid);
-    }
-    for at in [128u16, 640] {
-        let at = usize::from(at);
-        overwrite(&mut bytes, at, &[0; 344]);
-        overwrite(&mut bytes, at, &ROOT.start);
-        overwrite(&mut bytes, at + 168, &ROOT.check);
-        overwrite(&mut bytes, at + 340, &NONE.check);
-    }
-    for (at, byte) in [(1152, 0x41), (1664, 0x42), (2176, 0x43)] {
-        overwrite(&mut bytes, at, &[byte; 384]);
-    }
+    lay(&mut bytes, 0, &COPIES[0], &records(&ROOT));
+    lay(&mut bytes, 512, &COPIES[1], &records(&ROOT));
+    lay(&mut bytes, 1024, &LEBS[0], &[0x41; 384]);
+    lay(&mut bytes, 1536, &LEBS[1], &[0x42; 384]);
+    lay(&mut bytes, 2048, &LEBS[2], &[0x43; 384]);
     bytes
+}
+
+/// Writes an eraseblock over blank bytes from a place on.
+fn lay(bytes: &mut [u8], at: u16, vid: &[u8; 64], data: &[u8]) {
+    let at = usize::from(at);
+    overwrite(bytes, at, &EC);
+    overwrite(bytes, at + 64, vid);
+    overwrite(bytes, at + 128, data);
 }
 
 /// The same as a vector.
@@ -116,34 +97,41 @@ pub fn normal_root(alloc: Global) -> Result<Vec<u8>, AllocError> {
 /// That of the volume `root` whose logical eraseblock 0 holds some bytes, with 0xFF behind them.
 pub fn normal_first(alloc: Global, data: &[u8]) -> Result<Vec<u8>, AllocError> {
     let mut image = table(alloc, &ROOT)?;
-    put(&mut image, &LEBS[0], data)?;
+    put_bytes(&mut image, &EC, &LEBS[0], data)?;
     Ok(image)
 }
 
 /// That of the volume `root` of alignment 256 whose logical eraseblock 0 holds bytes 0x41.
 pub fn normal_aligned(alloc: Global) -> Result<Vec<u8>, AllocError> {
     let mut image = table(alloc, &ALIGNED_ROOT)?;
-    put(&mut image, &ALIGNED, &[0x41; 256])?;
+    put_bytes(&mut image, &EC, &ALIGNED, &[0x41; 256])?;
     Ok(image)
 }
 
 /// That of the static volume `boot`, which reads 384 bytes 0x41 and a byte 0xFF.
 pub fn normal_boot(alloc: Global) -> Result<Vec<u8>, AllocError> {
     let mut image = table(alloc, &BOOT)?;
-    for (vid, data) in WHOLE.iter().zip([[0x41; 384], [0xFF; 384]]) {
-        put(&mut image, vid, &data)?;
-    }
+    put_bytes(&mut image, &EC, &WHOLE[0], &[0x41; 384])?;
+    put_bytes(&mut image, &EC, &WHOLE[1], &[])?;
     Ok(image)
 }
 
 /// That of the static volume `boot` where it is damaged.
 pub fn normal_damaged(alloc: Global) -> Result<Vec<u8>, AllocError> {
     let mut image = table(alloc, &BOOT)?;
-    put(&mut image, &DAMAGED, &[])?;
+    put_bytes(&mut image, &EC, &DAMAGED, &[])?;
     Ok(image)
 }
 
 /// That of a static volume whose update didn't end.
 pub fn normal_updating(alloc: Global) -> Result<Vec<u8>, AllocError> {
     table(alloc, &BOOT_UPDATING)
+}
+
+/// A table with a record in its first slot and none in its second.
+fn table(alloc: Global, record: &Record) -> Result<Vec<u8>, AllocError> {
+    let mut image = Vec::new(alloc);
+    put_bytes(&mut image, &EC, &COPIES[0], &records(record))?;
+    put_bytes(&mut image, &EC, &COPIES[1], &records(record))?;
+    Ok(image)
 }

@@ -3,50 +3,53 @@
 use super::fake::{Broken, FakeFiles};
 use crate::outcome::ToolError;
 use crate::read::read_limited;
+use std::alloc::Global;
 use std::cell::RefCell;
 use std::fs;
 use std::io::ErrorKind;
+use std::process::Abort;
 use std::test::Fail;
+
+/// Asserts how many of 40,000 bytes are read up to a limit.
+fn assert_reads(rt: &impl Abort, alloc: Global, limit: u64, want: usize) -> Result<(), Fail> {
+    let bytes = vec![in alloc; 7u8; 40_000]?;
+    let mut reader = bytes.as_slice();
+    assert_eq!(rt; read_limited(alloc, &mut reader, limit)?.len(), want);
+    assert_eq!(rt; reader.len().saturating_add(want), 40_000);
+    Ok(())
+}
 
 #[test]
 fn reads_up_to_the_limit(rt: HostRuntime) -> Result<(), Fail> {
     let alloc = rt.alloc();
-    let bytes = vec![in alloc; 7u8; 40_000]?;
-    for (limit, want) in [
-        (0u64, 0usize),
-        (1, 1),
-        (16_384, 16_384),
-        (16_385, 16_385),
-        (39_999, 39_999),
-        (40_000, 40_000),
-        (u64::MAX, 40_000),
-    ] {
-        let mut reader = bytes.as_slice();
-        assert_eq!(rt; read_limited(alloc, &mut reader, limit)?.len(), want);
-        assert_eq!(rt; reader.len(), 40_000 - want);
-    }
+    assert_reads(&rt, alloc, 0, 0)?;
+    assert_reads(&rt, alloc, 1, 1)?;
+    assert_reads(&rt, alloc, 16_384, 16_384)?;
+    assert_reads(&rt, alloc, 16_385, 16_385)?;
+    assert_reads(&rt, alloc, 39_999, 39_999)?;
+    assert_reads(&rt, alloc, 40_000, 40_000)?;
+    assert_reads(&rt, alloc, u64::MAX, 40_000)
+}
+
+/// Asserts that a read is told of that fails by an error of a kind once so many bytes were read, and that these are read.
+fn assert_fails(rt: &impl Abort, alloc: Global, kind: ErrorKind, after: u16) -> Result<(), Fail> {
+    let shown = RefCell::new(String::new(alloc));
+    let written = RefCell::new(Vec::new(alloc));
+    let broken = Broken::Read(kind, usize::from(after));
+    let files = FakeFiles::new(&[7; 40_000], broken, &written, &shown);
+    let mut file = fs::open(&files, "a.img")?;
+    let answer = read_limited(alloc, &mut file, 40_000).err();
+    assert_eq!(rt; answer, Some(ToolError::Read));
+    let mut file = fs::open(&files, "a.img")?;
+    let bytes = read_limited(alloc, &mut file, u64::from(after))?;
+    assert_eq!(rt; bytes.len(), usize::from(after));
     Ok(())
 }
 
 #[test]
 fn tells_of_a_read_that_fails(rt: HostRuntime) -> Result<(), Fail> {
     let alloc = rt.alloc();
-    let image = [7u8; 40_000];
-    let shown = RefCell::new(String::new(alloc));
-    let written = RefCell::new(Vec::new(alloc));
-    for (kind, after) in [
-        (ErrorKind::Other, 0usize),
-        (ErrorKind::Interrupted, 0),
-        (ErrorKind::Interrupted, 20_000),
-    ] {
-        let files = FakeFiles::new(&image, Broken::Read(kind, after), &written, &shown);
-        let mut file = fs::open(&files, "a.img")?;
-        assert_eq!(rt;
-            read_limited(alloc, &mut file, 40_000).err(),
-            Some(ToolError::Read)
-        );
-        let mut file = fs::open(&files, "a.img")?;
-        assert_eq!(rt; read_limited(alloc, &mut file, after as u64)?.len(), after);
-    }
-    Ok(())
+    assert_fails(&rt, alloc, ErrorKind::Other, 0)?;
+    assert_fails(&rt, alloc, ErrorKind::Interrupted, 0)?;
+    assert_fails(&rt, alloc, ErrorKind::Interrupted, 20_000)
 }

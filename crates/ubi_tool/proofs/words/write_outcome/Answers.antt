@@ -1,12 +1,13 @@
 use Rattle.std.proofs.Common.{refl, sym, subst}
-use Rattle.std.proofs.lemmas.Result.{IfOk-weaker}
 use Rattle.std.specs.Prelude.{IsSome}
 use Rattle.ubi_tool.specs.Program.{written, unwritten}
 use Rattle.ubi_tool.proofs.words.write_outcome.Goals as goal
 
-pub returns-then-is_err : goal.returns-then-is_err
-returns-then-is_err g c =
-    IfOk-weaker c.unwritten.result _ _ (λ o h. unwritten (subst IsSome (sym c.in-Some.is) refl) h) c.unwritten.ensures
+pub returns-in_default : goal.returns-in_default
+returns-in_default g c = written
 
-pub returns : goal.returns
-returns g c = written
+pub returns-in-Ok : goal.returns-in-Ok
+returns-in-Ok g c = written
+
+pub returns-in-Err : goal.returns-in-Err
+returns-in-Err g c = unwritten (subst IsSome (sym c.in-Some.is) refl) c.in_ok-unwritten.ensures

@@ -1,0 +1,7 @@
+-- What is taken from a reader.
+use Rattle.std.specs.Prelude.{ℕ, ◌≤◌, List, Option, length}
+use Rattle.std.specs.Io.KnownBytes.{Consumes}
+
+-- known bytes lose so many of the first ones at most
+abbrev pub TakesAtMost : ℕ → Option (List ℕ) → Option (List ℕ) → Type 0
+TakesAtMost limit old new = (taken : List ℕ) × (length taken ≤ limit) × Consumes old new taken

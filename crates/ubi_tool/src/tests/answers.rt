@@ -1,0 +1,79 @@
+//! What commands answer, over bytes and over files, compared with what they are to answer.
+
+use super::fake::{Broken, FakeFiles};
+use crate::outcome::{Outcome, ToolError};
+use crate::words::run_words;
+use std::alloc::{AllocError, Global};
+use std::cell::RefCell;
+use std::fs::Files;
+use std::process::Abort;
+use std::test::Fail;
+use ubi_media::{Geometry, GeometryError};
+
+/// The geometry of small eraseblocks.
+pub fn small() -> Result<Geometry, GeometryError> {
+    Geometry::new(512, 64, 64, 128, 32)
+}
+
+/// Asserts what a command answers that writes no file.
+pub fn assert_says(
+    rt: &impl Abort,
+    answer: Result<Outcome, ToolError>,
+    text: &str,
+    status: u8,
+) -> Result<(), Fail> {
+    let outcome = answer?;
+    assert_eq!(rt; outcome.text.as_slice(), text.as_bytes());
+    assert_eq!(rt; outcome.status, status);
+    assert!(rt; outcome.file.is_none());
+    Ok(())
+}
+
+/// Runs the words of a line over files, with the program's name before them.
+pub fn run_line<R: Files + Eprint>(
+    files: &R,
+    alloc: Global,
+    line: &str,
+) -> Result<Outcome, AllocError> {
+    let mut words = Vec::new(alloc);
+    words.push(String::from_str(alloc, "ubi_tool")?)?;
+    for word in line.split_whitespace() {
+        words.push(String::from_str(alloc, word)?)?;
+    }
+    run_words(files, alloc, words.as_slice())
+}
+
+/// Runs the words of a line, and those of the geometry of small eraseblocks, over files; asserts what is answered.
+pub fn assert_line<R: Files + Eprint + Abort>(
+    rt: &R,
+    alloc: Global,
+    line: &str,
+    text: &str,
+    status: u8,
+) -> Result<(), Fail> {
+    let line = format!(in alloc; "{line} --peb 512 --page 64 --pebs 32")?;
+    let outcome = run_line(rt, alloc, line.as_str())?;
+    assert_eq!(rt; outcome.text.as_slice(), text.as_bytes());
+    assert_eq!(rt; outcome.status, status);
+    Ok(())
+}
+
+/// The same over files that each hold an image and fail as they are told to; asserts also which bytes were written.
+pub fn assert_over(
+    rt: &impl Abort,
+    alloc: Global,
+    (image, broken): (&[u8], Broken),
+    line: &str,
+    (text, status): (&str, u8),
+    output: &[u8],
+) -> Result<(), Fail> {
+    let shown = RefCell::new(String::new(alloc));
+    let written = RefCell::new(Vec::new(alloc));
+    let files = FakeFiles::new(image, broken, &written, &shown);
+    let line = format!(in alloc; "{line} --peb 512 --page 64 --pebs 32")?;
+    let outcome = run_line(&files, alloc, line.as_str())?;
+    assert_eq!(rt; outcome.text.as_slice(), text.as_bytes());
+    assert_eq!(rt; outcome.status, status);
+    assert_eq!(rt; written.into_inner().as_slice(), output);
+    Ok(())
+}
