@@ -193,7 +193,7 @@ pub fn records(first: &Record) -> [u8; 344] {
     records[..20].copy_from_slice(&first.start);
     records[144] = first.flags;
     records[168..172].copy_from_slice(&first.check);
-    records[340..].copy_from_slice(&EMPTY);
+    records[340..344].copy_from_slice(&EMPTY);
     records
 }
 
