@@ -8,12 +8,14 @@ pub mod Counted
 pub mod Decided
 pub mod Either
 pub mod Entries
+pub mod Filled
 pub mod Finite
 pub mod Held
 pub mod Keys
 pub mod Least
 pub mod Next
 pub mod OneFault
+pub mod Parts
 pub mod Places
 pub mod Seen
 pub mod Shown
