@@ -1,5 +1,5 @@
 -- The plan of an attached image, against which no cause stands, survives every cut.
-use Rattle.std.proofs.Common.{◌≡◌, ◌≢◌, ℕ, suc, ◌+◌, ◌-◌, ◌/◌, ◌%◌, ◌^◌, ◌<◌, ◌≤◌, ◌⊎◌, inl, inr, Bool, true, false, cond, not, List, [], ◌∷◌, ◌++◌, append_assoc, length, get_or, set, refl, ap, sym, ◌∙◌, subst, arith, length-append, length-set}
+use Rattle.std.proofs.Common.{◌≡◌, ◌≢◌, ℕ, suc, ◌+◌, ◌/◌, ◌%◌, ◌^◌, ◌<◌, ◌≤◌, inl, inr, Bool, true, false, cond, not, List, [], ◌∷◌, ◌++◌, append_assoc, length, set, refl, ap, sym, ◌∙◌, subst, arith, length-append, length-set}
 use Rattle.std.specs.Prelude.{None, Option, Some, ◌==◌, ◌||◌, IfSome, count_by, nat_lt, option_map}
 use Rattle.std.specs.Bool.{then_some}
 use Rattle.std.specs.FinMap as finite
@@ -24,7 +24,7 @@ use Rattle.ubi_table.specs.Records.{Records}
 use Rattle.ubi_table.specs.Table.{AllBlank}
 use Rattle.ubi_volume.specs.Accepts.{AcceptsBlocks}
 use Rattle.ubi_volume.specs.Attached.{IsAttached, Whole}
-use Rattle.ubi_volume.specs.Meant.{Fits, IsVolume, records_of}
+use Rattle.ubi_volume.specs.Meant.{Fits, IsVolume}
 use Rattle.ubi_volume.specs.States.{AreStates}
 use Rattle.ubi_volume.specs.declared.content.Content.{Content}
 use Rattle.ubi_volume.specs.declared.content.Content.TheVariants as content
@@ -41,7 +41,6 @@ use Rattle.ubi_change.specs.declared.refusal.ChangeRefusal.{ChangeRefusal}
 use Rattle.ubi_change.specs.declared.refusal.ChangeRefusal.TheVariants as refusal
 use Rattle.ubi_change.specs.declared.step.Step.{Step}
 use Rattle.ubi_change.proofs.Choosing.{MayBeTaken, may_be_taken, two_apart}
-use Rattle.ubi_change.proofs.Mapped as atomic
 use Rattle.ubi_change.proofs.Mapped.{copy_fits, copy_sound, IsNew, IsPrepared, IsRelease, mapped, used_by_volume}
 use Rattle.ubi_change.proofs.Premises.{counter_behind, next_counter, ready, taken_loses, valid_counter}
 use Rattle.ubi_scan.proofs.Parts.{laid}
@@ -98,7 +97,7 @@ pub record IsAllowed (s : Sizes) (bs : List (List ℕ)) (a : Whole) (r : VolumeR
   pub few : a.scan.top_sqnum + needs s bs a id lnum ≤ 0xFFFFFFFFFFFFFFFF
   pub enough : needs s bs a id lnum ≤ length (takeable s bs a.states)
 
-is_allowed : (s : Sizes) (bs : List (List ℕ)) (a : Whole) (r : VolumeRecord) (id lnum : ℕ) (new : List ℕ) → first_of (causes s bs a r id lnum new) ≡ None → IsAllowed s bs a r id lnum new
+pub is_allowed : (s : Sizes) (bs : List (List ℕ)) (a : Whole) (r : VolumeRecord) (id lnum : ℕ) (new : List ℕ) → first_of (causes s bs a r id lnum new) ≡ None → IsAllowed s bs a r id lnum new
 is_allowed s bs a r id lnum new e =
     let c1 = first_none _ _ e in
     let c2 = first_none _ _ c1.1 in

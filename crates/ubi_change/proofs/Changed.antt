@@ -1,23 +1,18 @@
 -- A meaning with another text in one LEB is a meaning.
-use Rattle.std.proofs.Common.{◌≡◌, ◌≢◌, ℕ, ◌+◌, ◌<◌, ◌≤◌, ◌⊎◌, inl, inr, T, Bool, true, false, cond, List, [], length, map, refl, ap, sym, ◌∙◌, subst, arith}
+use Rattle.std.proofs.Common.{◌≡◌, ◌≢◌, ℕ, ◌<◌, ◌≤◌, ◌⊎◌, inl, inr, cond, List, length, refl, ap, sym, ◌∙◌, subst, arith}
 use Rattle.std.specs.Prelude.{IfSome, None, Option, Some, option_map, unwrap_or}
 use Rattle.std.specs.Cmp.{nat_cmp_total}
 use Rattle.std.specs.FinMap as finite
-use Rattle.std.specs.FinMap.{FinMap, is_sorted, nat_cmp-IsAntisymmetric}
-use Rattle.std.specs.List.{sum_by}
+use Rattle.std.specs.FinMap.{FinMap, nat_cmp-IsAntisymmetric}
 use Rattle.std.specs.Option.{option_map_or}
-use Rattle.std.specs.Ordering.{eq_by_cmp, nat_cmp}
-use Rattle.std.proofs.lemmas.Map.Lookups.{exact_unsigned}
+use Rattle.std.specs.Ordering.{nat_cmp}
 use Rattle.ubi_media.specs.Fields.{blank, filled, is_blank}
-use Rattle.ubi_media.specs.Geometry.{Sizes}
 use Rattle.ubi_media.specs.Record.{usable}
 use Rattle.ubi_media.specs.declared.record.VolumeRecord.{VolumeRecord}
 use Rattle.ubi_scan.proofs.Choice.{false_or_true}
-use Rattle.ubi_scan.proofs.Entries.{sorted_entries}
 use Rattle.ubi_scan.proofs.Keys.{apart_test, same_or_apart, same_test}
-use Rattle.ubi_scan.proofs.Truths.{true_is}
 use Rattle.ubi_table.specs.Records.{space}
-use Rattle.ubi_volume.specs.Meant.{Fits, IsMeaning, IsVolume, KeepsNoBlank, Meant, records_of}
+use Rattle.ubi_volume.specs.Meant.{IsMeaning, IsVolume, Meant, records_of}
 use Rattle.ubi_volume.specs.declared.content.Content.TheVariants as content
 use Rattle.ubi_volume.specs.declared.content.Volume.{Volume}
 use Rattle.ubi_volume.proofs.Blanks.{blank_text, other_text}

@@ -10,18 +10,18 @@ use Rattle.std.proofs.lemmas.List.{get_or-set_same, length-take-le, set-set}
 use Rattle.ubi_media.specs.Check.{check}
 use Rattle.ubi_media.specs.Ec.{ec_reading}
 use Rattle.ubi_media.specs.Fields.{blank, filled, overwrite}
-use Rattle.ubi_media.specs.Geometry.{Sizes, IsGeometry, leb_size}
+use Rattle.ubi_media.specs.Geometry.{Sizes, IsGeometry}
 use Rattle.ubi_media.specs.Vid.{VidFits, vid_bytes, vid_fault}
 use Rattle.ubi_media.specs.declared.ec.EcHeader.{EcHeader}
 use Rattle.ubi_media.specs.declared.ec.EcRead.TheVariants as ec_read
 use Rattle.ubi_media.specs.declared.vid.VidHeader.{VidHeader}
 use Rattle.ubi_scan.specs.Faults.{IsMislaid}
-use Rattle.ubi_scan.specs.Image.{block, leb}
+use Rattle.ubi_scan.specs.Image.{leb}
 use Rattle.ubi_scan.specs.Members.{IsMember, Leb, has_members, is_good, leb_of, sqnum_at}
 use Rattle.ubi_scan.proofs.Chunks.{length-first_chunks}
 use Rattle.ubi_change.specs.Plan.{program_header, program_text}
 use Rattle.std.proofs.lemmas.List.Sums.{fold-append}
-use Rattle.ubi_change.specs.Steps.{after, block_after, step_done}
+use Rattle.ubi_change.specs.Steps.{after, step_done}
 use Rattle.ubi_change.specs.Weak.{pages_of, torn, weak_place, whole_place}
 use Rattle.ubi_change.specs.declared.step.Step.{Step}
 use Rattle.ubi_change.specs.declared.step.Step.TheVariants as step
@@ -31,7 +31,7 @@ use Rattle.ubi_change.proofs.Laid.{header_written, page_written}
 use Rattle.ubi_change.proofs.Mounted.{IsMount}
 use Rattle.ubi_change.proofs.PagePlaces.{data_pages}
 use Rattle.ubi_change.proofs.Runs.{AllOn, AtEachCut, TurnsAt, after-all, after-on, done, run, turns-before, turns-behind}
-use Rattle.ubi_change.proofs.Torn.{IsWholePlace, pages-all, told-before, told-from, whole-from, whole_place-is}
+use Rattle.ubi_change.proofs.Torn.{pages-all, told-before, told-from, whole-from, whole_place-is}
 use Rattle.ubi_change.proofs.Written.{leb-part, part-good, part-mount}
 
 abbrev page_step : ℕ → ℕ × List ℕ → Step

@@ -1,5 +1,5 @@
 -- What eraseblocks mean is that of the winners of the LEBs that count: where these stay, so does the meaning.
-use Rattle.std.proofs.Common.{◌≡◌, ◌≢◌, ℕ, suc, ◌<◌, ◌≤◌, inl, inr, Bool, true, false, List, [], ◌∷◌, ◌++◌, length, take, refl, ap, ap₂, sym, ◌∙◌, subst, arith}
+use Rattle.std.proofs.Common.{◌≡◌, ℕ, suc, ◌<◌, inl, inr, List, [], ◌∷◌, ◌++◌, length, take, refl, ap, ap₂, sym, ◌∙◌, subst, arith}
 use Rattle.std.specs.Prelude.{Option, Some, None, flat_map, slice_index}
 use Rattle.std.specs.FinMap as finite
 use Rattle.std.specs.Option.{option_map_or}
@@ -7,8 +7,7 @@ use Rattle.ubi_media.specs.Geometry.{Sizes}
 use Rattle.ubi_media.specs.Record.{usable}
 use Rattle.ubi_media.specs.declared.record.VolumeRecord.{VolumeRecord}
 use Rattle.ubi_media.specs.declared.vid.VidHeader.{VidHeader}
-use Rattle.ubi_media.specs.declared.vid.VolKind.{VolKind}
-use Rattle.ubi_media.specs.declared.vid.VolKind.TheVariants.{Dynamic, Static}
+use Rattle.ubi_media.specs.declared.vid.VolKind.TheVariants.{Static}
 use Rattle.ubi_scan.specs.Faults.{NoFault}
 use Rattle.ubi_scan.specs.Image.{block, leb}
 use Rattle.ubi_scan.specs.Members.{Leb, NoMember, Wins, is_right, layout, member}
@@ -19,7 +18,7 @@ use Rattle.ubi_table.specs.Table.{AllBlank, Decides, IsTable}
 use Rattle.ubi_table.specs.declared.copy.CopyRead.{CopyRead}
 use Rattle.ubi_table.specs.declared.copy.CopyRead.TheVariants as copy
 use Rattle.ubi_volume.specs.Accepts.{AcceptsBlocks}
-use Rattle.ubi_volume.specs.Counted.{IsMismatched, IsWithin, NoMismatch}
+use Rattle.ubi_volume.specs.Counted.{IsWithin, NoMismatch}
 use Rattle.ubi_volume.specs.Means.{Means, SlotMeans}
 use Rattle.ubi_volume.specs.Meant.{Meant}
 use Rattle.ubi_volume.specs.Reads.{AreWhole, IsPiece, LebReads, StaticReads, VolumeReads, piece}

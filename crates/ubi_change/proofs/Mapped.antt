@@ -1,11 +1,10 @@
 -- The cuts of an atomic copy of a LEB that has a winner: before the turn the old is meant, and from it on the new.
-use Rattle.std.proofs.Common.{◌≡◌, ◌≢◌, ℕ, zero, suc, ◌+◌, ◌-◌, ◌*◌, ◌/◌, ◌%◌, ◌^◌, ◌<◌, ◌≤◌, ◌⊎◌, inl, inr, Bool, true, false, List, [], ◌∷◌, ◌++◌, length, set, take, refl, ap, sym, ◌∙◌, subst, arith, length-set}
-use Rattle.std.specs.Prelude.{◌==◌, None, Option, Some}
+use Rattle.std.proofs.Common.{◌≡◌, ◌≢◌, ℕ, zero, suc, ◌+◌, ◌-◌, ◌/◌, ◌%◌, ◌^◌, ◌<◌, ◌≤◌, ◌⊎◌, inl, inr, true, false, List, [], ◌∷◌, ◌++◌, length, set, take, refl, ap, sym, ◌∙◌, subst, arith, length-set}
+use Rattle.std.specs.Prelude.{None, Option, Some}
 use Rattle.std.specs.FinMap as finite
 use Rattle.std.specs.FinMap.{FinMap}
 use Rattle.std.specs.Ordering.{nat_cmp}
 use Rattle.std.proofs.lemmas.Bool.Decides.{nat_tests}
-use Rattle.ubi_media.specs.Check.{check}
 use Rattle.ubi_media.specs.Ec.{ec_reading}
 use Rattle.ubi_media.specs.Fields.{blank, filled}
 use Rattle.ubi_media.specs.Geometry.{Sizes, IsGeometry, leb_size}
@@ -17,21 +16,20 @@ use Rattle.ubi_media.specs.declared.record.VolumeRecord.{VolumeRecord}
 use Rattle.ubi_media.specs.declared.vid.VidHeader.{VidHeader}
 use Rattle.ubi_media.specs.declared.vid.VolKind.TheVariants as kind
 use Rattle.ubi_media.proofs.Checks.{check_from-lt}
-use Rattle.ubi_scan.specs.Faults.{IsMislaid, NoFault}
-use Rattle.ubi_scan.specs.Image.{block, ec, leb}
-use Rattle.ubi_scan.specs.Members.{IsMember, Leb, Wins, has_members, is_good, layout, leb_of, sqnum_at}
-use Rattle.ubi_scan.specs.Numbers.{top_sqnum}
+use Rattle.ubi_scan.specs.Faults.{NoFault}
+use Rattle.ubi_scan.specs.Image.{block, leb}
+use Rattle.ubi_scan.specs.Members.{IsMember, Leb, Wins, has_members, is_good, layout, sqnum_at}
 use Rattle.ubi_scan.proofs.Decided.{Wins-unique}
 use Rattle.ubi_table.specs.Records.{Records}
 use Rattle.ubi_table.specs.Table.{AllBlank}
 use Rattle.ubi_volume.specs.Accepts.{AcceptsBlocks}
 use Rattle.ubi_volume.specs.Counted.{IsUnlike}
 use Rattle.ubi_volume.specs.Means.{SlotMeans}
-use Rattle.ubi_volume.specs.Meant.{IsMeaning, Meant}
+use Rattle.ubi_volume.specs.Meant.{Meant}
 use Rattle.ubi_volume.specs.States.{IsOutside}
 use Rattle.ubi_volume.specs.declared.content.Content.TheVariants as content
 use Rattle.ubi_volume.specs.declared.content.Volume.{Volume}
-use Rattle.ubi_change.specs.Changed.{changed, with_leb}
+use Rattle.ubi_change.specs.Changed.{changed}
 use Rattle.ubi_change.specs.Headers.{copy_header}
 use Rattle.ubi_change.specs.Plan.{program_header, program_text, renew}
 use Rattle.ubi_change.specs.Steps.{after}

@@ -1,8 +1,8 @@
 -- An eraseblock that is taken is made ready.
-use Rattle.std.proofs.Common.{◌≡◌, ◌≢◌, ℕ, zero, suc, ◌+◌, ◌-◌, ◌<◌, ◌≤◌, inl, inr, true, List, [], ◌++◌, length, set, take, drop, refl, ap, sym, ◌∙◌, subst, arith, length-drop}
-use Rattle.std.specs.Prelude.{IsSome, None, Option, Some}
+use Rattle.std.proofs.Common.{◌≡◌, ◌≢◌, ℕ, zero, suc, ◌-◌, ◌<◌, ◌≤◌, true, List, [], ◌++◌, length, set, take, drop, refl, ap, sym, ◌∙◌, arith, length-drop}
+use Rattle.std.specs.Prelude.{IsSome}
 use Rattle.std.proofs.lemmas.List.{length-take-le, set-get_or, take-append-drop}
-use Rattle.ubi_media.specs.Ec.{ec_bytes, ec_reading}
+use Rattle.ubi_media.specs.Ec.{ec_bytes}
 use Rattle.ubi_media.specs.Fields.{filled, is_blank}
 use Rattle.ubi_media.specs.Geometry.{Sizes, IsGeometry}
 use Rattle.ubi_media.specs.declared.ec.EcHeader.{EcHeader}
@@ -15,7 +15,6 @@ use Rattle.ubi_volume.specs.Accepts.{AcceptsBlocks}
 use Rattle.ubi_volume.specs.Meant.{Meant}
 use Rattle.ubi_volume.proofs.Blanks.{blank_text}
 use Rattle.ubi_change.specs.Plan.{renew}
-use Rattle.ubi_change.specs.Steps.{after}
 use Rattle.ubi_scan.proofs.Filled.{filled-by}
 use Rattle.ubi_change.proofs.Mapped.{IsPrepared}
 use Rattle.ubi_change.proofs.Renewed.{IsCounter, counter_back, counter_size, renew_accepted, renewed}

@@ -1,5 +1,5 @@
 -- An eraseblock is erased, and gets an erase-counter header.
-use Rattle.std.proofs.Common.{◌≡◌, ◌≢◌, ℕ, zero, suc, ◌+◌, ◌*◌, ◌^◌, ◌<◌, ◌≤◌, List, [], ◌∷◌, length, set, refl, ap, sym, ◌∙◌, subst, arith, length-set, get_or-set_same}
+use Rattle.std.proofs.Common.{◌≡◌, ◌≢◌, ℕ, zero, suc, ◌*◌, ◌^◌, ◌<◌, List, [], length, set, refl, ap, sym, ◌∙◌, subst, arith, get_or-set_same}
 use Rattle.std.proofs.lemmas.List.{set-set}
 use Rattle.ubi_media.specs.Ec.{ec_bytes, ec_reading}
 use Rattle.ubi_media.specs.Fields.{blank, filled, overwrite}
@@ -8,12 +8,10 @@ use Rattle.ubi_media.specs.declared.ec.EcHeader.{EcHeader}
 use Rattle.ubi_media.specs.declared.ec.EcRead.TheVariants as ec_read
 use Rattle.ubi_media.proofs.Headers.{ec_read_back}
 use Rattle.ubi_media.proofs.Readings.{one_ec_reading}
-use Rattle.ubi_scan.specs.Image.{block}
 use Rattle.ubi_table.specs.Table.{AllBlank}
 use Rattle.ubi_volume.specs.Accepts.{AcceptsBlocks}
 use Rattle.ubi_volume.specs.Meant.{Meant}
 use Rattle.ubi_change.specs.Plan.{renew}
-use Rattle.ubi_change.specs.Steps.{after, block_after, step_done}
 use Rattle.ubi_scan.proofs.Filled.{filled-none, filled_more, length-filled, overwrite_front}
 use Rattle.ubi_change.proofs.Runs.{AtEachCut, done}
 use Rattle.ubi_change.proofs.Seq.{Agrees}

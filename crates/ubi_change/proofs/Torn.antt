@@ -1,10 +1,8 @@
 -- From which number of pages on a text that was cut short is the whole, and that its check tells before.
-use Rattle.std.proofs.Common.{◌≡◌, ◌≢◌, ℕ, zero, suc, ◌+◌, ◌-◌, ◌*◌, ◌/◌, ◌%◌, ◌<◌, ◌≤◌, ◌⊎◌, inl, inr, Bool, true, false, cond, not, List, [], ◌∷◌, ◌++◌, length, take, drop, refl, ap, ap₂, sym, ◌∙◌, subst, arith, length-drop}
+use Rattle.std.proofs.Common.{◌≡◌, ℕ, zero, suc, ◌+◌, ◌-◌, ◌*◌, ◌%◌, ◌<◌, ◌≤◌, ◌⊎◌, inl, inr, Bool, true, false, cond, not, List, [], ◌∷◌, ◌++◌, length, take, drop, refl, ap, ap₂, sym, ◌∙◌, subst, arith}
 use Rattle.std.specs.Prelude.{None, Option, Some, ◌==◌, ◌&&◌, find, nat_eq, unwrap_or}
-use Rattle.std.specs.Cmp.Lexicographic.{pointwise}
 use Rattle.std.specs.List.{range_with_len}
 use Rattle.std.proofs.Math.Nat.{div-add-mod}
-use Rattle.std.proofs.Math.Seq.{drop-append_seam}
 use Rattle.std.proofs.lemmas.Bool.Decides.{nat_tests}
 use Rattle.std.proofs.lemmas.Nat as nat
 use Rattle.std.proofs.lemmas.List.{drop-drop, drop_at, length-take-le, take-append-drop, take_all}
@@ -12,7 +10,7 @@ use Rattle.ubi_media.specs.Check.{check}
 use Rattle.ubi_media.specs.Fields.{blank, filled, same_bytes}
 use Rattle.ubi_media.specs.Geometry.{Sizes}
 use Rattle.ubi_change.specs.Weak.{is_weak, is_whole, pages_of, torn, weak_place, whole_place}
-use Rattle.ubi_scan.proofs.Filled.{drop_blank, filled-by, filled-is}
+use Rattle.ubi_scan.proofs.Filled.{drop_blank, filled-by}
 
 same_true : (xs ys : List ℕ) → same_bytes xs ys ≡ true → xs ≡ ys
 same_true [] [] e = refl

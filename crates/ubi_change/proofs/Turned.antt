@@ -1,5 +1,5 @@
 -- Where in a plan the header of the copy is programmed: once, behind the steps that make its eraseblock ready.
-use Rattle.std.proofs.Common.{◌≡◌, ◌≢◌, ℕ, zero, suc, ◌+◌, ◌-◌, ◌*◌, ◌/◌, ◌%◌, ◌<◌, ◌≤◌, ◌⊎◌, inl, inr, Bool, true, false, cond, List, [], ◌∷◌, ◌++◌, append_assoc, length, map, take, drop, refl, ap, ap₂, sym, ◌∙◌, subst, arith, length-append}
+use Rattle.std.proofs.Common.{◌≡◌, ◌≢◌, ℕ, suc, ◌+◌, ◌-◌, ◌*◌, ◌/◌, ◌%◌, ◌<◌, ◌≤◌, ◌⊎◌, inl, inr, Bool, true, false, cond, List, [], ◌∷◌, ◌++◌, append_assoc, length, map, take, drop, refl, ap, sym, ◌∙◌, arith}
 use Rattle.std.specs.Prelude.{None, ◌==◌, ◌&&◌, count_by, fold, nat_lt, slice_range}
 use Rattle.std.specs.List.{enumerate_from, position_or_len}
 use Rattle.std.specs.Simd.{first_chunks}
@@ -24,7 +24,7 @@ use Rattle.ubi_change.specs.declared.step.Step.{Step}
 use Rattle.ubi_change.specs.declared.step.Step.TheVariants as step
 use Rattle.ubi_scan.proofs.Filled.{behind, filled-by, filled-is, length-filled}
 use Rattle.ubi_scan.proofs.Parts.{blank_vid}
-use Rattle.ubi_change.proofs.PagePlaces.{vid_before, vid_beside, vid_left}
+use Rattle.ubi_change.proofs.PagePlaces.{vid_before, vid_left}
 
 -- one element of a list passes
 module _ {X : Type 0} (p : X → Bool) where

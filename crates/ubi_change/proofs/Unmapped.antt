@@ -1,5 +1,5 @@
 -- A LEB without a winner is first mapped with a plain blank eraseblock: the meaning stays, and then it has a winner.
-use Rattle.std.proofs.Common.{◌≡◌, ◌≢◌, ℕ, zero, suc, ◌+◌, ◌-◌, ◌/◌, ◌^◌, ◌<◌, ◌≤◌, ◌⊎◌, inl, inr, true, false, List, [], ◌∷◌, ◌++◌, length, set, take, refl, ap, sym, ◌∙◌, subst, arith, length-set}
+use Rattle.std.proofs.Common.{◌≡◌, ◌≢◌, ℕ, zero, suc, ◌+◌, ◌-◌, ◌/◌, ◌^◌, ◌<◌, ◌≤◌, inl, inr, true, List, [], ◌∷◌, ◌++◌, length, set, take, refl, ap, sym, ◌∙◌, subst, arith, length-set}
 use Rattle.std.specs.Prelude.{None, Option, Some, unwrap_or}
 use Rattle.std.specs.FinMap as finite
 use Rattle.std.specs.FinMap.{FinMap}
@@ -15,10 +15,9 @@ use Rattle.ubi_media.specs.Vid.{VidFits, breaks, fields_from, first_fault, vid_b
 use Rattle.ubi_media.specs.declared.ec.EcHeader.{EcHeader}
 use Rattle.ubi_media.specs.declared.record.VolumeRecord.{VolumeRecord}
 use Rattle.ubi_media.specs.declared.vid.VidHeader.{VidHeader}
-use Rattle.ubi_media.specs.declared.vid.VolKind.TheVariants as kind
 use Rattle.ubi_scan.specs.Faults.{NoFault}
 use Rattle.ubi_scan.specs.Image.{block, leb}
-use Rattle.ubi_scan.specs.Members.{IsMember, Leb, NoMember, Wins, has_members, is_good, layout, leb_of, member, named_in, sqnum_at, sqnum_in}
+use Rattle.ubi_scan.specs.Members.{IsMember, Leb, NoMember, Wins, has_members, sqnum_at, sqnum_in}
 use Rattle.ubi_scan.proofs.Decided.{Wins-unique}
 use Rattle.ubi_scan.proofs.Keys.{same_or_apart}
 use Rattle.ubi_table.specs.Records.{Records}
@@ -28,13 +27,12 @@ use Rattle.ubi_volume.specs.Counted.{IsUnlike}
 use Rattle.ubi_volume.specs.Means.{SlotMeans}
 use Rattle.ubi_volume.specs.Meant.{Meant}
 use Rattle.ubi_volume.specs.Reads.{LebReads}
-use Rattle.ubi_volume.specs.States.{IsOutside}
 use Rattle.ubi_volume.specs.declared.content.Content.TheVariants as content
 use Rattle.ubi_volume.specs.declared.content.Volume.{Volume}
 use Rattle.ubi_change.specs.Changed.{changed}
 use Rattle.ubi_change.specs.Headers.{blank_header, copy_header}
 use Rattle.ubi_change.specs.Plan.{program_header, program_text}
-use Rattle.ubi_change.specs.Steps.{after, block_after, step_done}
+use Rattle.ubi_change.specs.Steps.{block_after, step_done}
 use Rattle.ubi_change.specs.Weak.{whole_place}
 use Rattle.ubi_change.specs.declared.step.Step.{Step}
 use Rattle.ubi_change.proofs.Changed.{unchanged}

@@ -1,28 +1,25 @@
 -- What the eraseblocks are that the steps of a plan leave: blank, with an erase-counter header alone, or with a part of a
 -- copy.
-use Rattle.std.proofs.Common.{◌≡◌, ◌≢◌, ℕ, ◌+◌, ◌-◌, ◌*◌, ◌<◌, ◌≤◌, inl, inr, Bool, true, false, not, List, [], ◌++◌, length, take, drop, replicate, refl, ap, ap₂, sym, ◌∙◌, subst, arith, length-append}
-use Rattle.std.specs.Prelude.{None, Option, Some, ◌==◌, ◌||◌, option_map, slice_range}
+use Rattle.std.proofs.Common.{◌≡◌, ◌≢◌, ℕ, ◌+◌, ◌-◌, ◌*◌, ◌<◌, ◌≤◌, true, not, List, ◌++◌, length, take, refl, ap, ap₂, sym, ◌∙◌, subst, arith}
+use Rattle.std.specs.Prelude.{None, Some, ◌==◌, ◌||◌, option_map}
 use Rattle.std.specs.Bool.{then_some}
-use Rattle.std.specs.Option.{option_map_or}
-use Rattle.std.proofs.lemmas.List.{take_at, drop_at, drop-drop, drop-replicate, take-replicate, length-take-le}
+use Rattle.std.proofs.lemmas.List.{take_at, take-replicate, length-take-le}
 use Rattle.std.proofs.Math.Seq.{take-append-add}
-use Rattle.std.proofs.lemmas.List.Elements.{All-replicate}
 use Rattle.ubi_media.specs.Check.{check}
-use Rattle.ubi_media.specs.Ec.{ec_magic, ec_reading}
-use Rattle.ubi_media.specs.Fields.{blank, field, filled}
-use Rattle.ubi_media.specs.Geometry.{Sizes, IsGeometry, leb_size}
-use Rattle.ubi_media.specs.Vid.{VidFits, vid_bytes, vid_fault, vid_magic, vid_reading}
+use Rattle.ubi_media.specs.Ec.{ec_reading}
+use Rattle.ubi_media.specs.Fields.{blank, filled}
+use Rattle.ubi_media.specs.Geometry.{Sizes, IsGeometry}
+use Rattle.ubi_media.specs.Vid.{VidFits, vid_bytes, vid_fault, vid_reading}
 use Rattle.ubi_media.specs.declared.ec.EcHeader.{EcHeader}
 use Rattle.ubi_media.specs.declared.ec.EcRead.TheVariants as ec_read
 use Rattle.ubi_media.specs.declared.vid.VidHeader.{VidHeader}
 use Rattle.ubi_media.specs.declared.vid.VidRead.TheVariants as vid_read
 use Rattle.ubi_media.proofs.Headers.{fields_fit, vid_read_back}
-use Rattle.ubi_media.proofs.Readings.{one_ec_reading, one_vid_reading}
-use Rattle.ubi_scan.specs.Clean.{IsSound}
+use Rattle.ubi_media.proofs.Readings.{one_vid_reading}
 use Rattle.ubi_scan.specs.Faults.{IsMislaid}
 use Rattle.ubi_scan.specs.Image.{ec, leb, vid, vid_area}
-use Rattle.ubi_scan.specs.Members.{IsMember, Leb, foreign, foreign_if, has_members, is_good, is_right, leb_of, member, member_if, named_in, sqnum_at}
-use Rattle.ubi_scan.specs.Numbers.{image_seq, seq_if, seq_of}
+use Rattle.ubi_scan.specs.Members.{IsMember, Leb, foreign, foreign_if, has_members, is_good, is_right, leb_of, member, member_if, sqnum_at}
+use Rattle.ubi_scan.specs.Numbers.{seq_if}
 use Rattle.ubi_change.specs.Weak.{torn}
 use Rattle.ubi_scan.proofs.Filled.{behind, filled-by, filled-is}
 use Rattle.ubi_scan.proofs.Parts.{blank_ec, blank_vid, ec-laid, laid, leb-laid, vid-laid}

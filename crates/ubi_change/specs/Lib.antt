@@ -10,3 +10,4 @@ pub mod Cuts
 pub mod Frugal
 pub mod Planned
 pub mod Laws
+pub mod Making

@@ -4,11 +4,19 @@
 //! accepted, and means the old or the new.
 #![tactic(auto)]
 
+mod causes;
 pub mod laws;
+mod pages;
+mod places;
+mod planning;
+mod pushing;
 mod refusal;
 mod step;
 mod stepping;
+mod taking;
+mod weakness;
 
+pub use planning::plan_change;
 pub use refusal::ChangeRefusal;
 pub use step::Step;
 pub use stepping::{apply, step_fits};

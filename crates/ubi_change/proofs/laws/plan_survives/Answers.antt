@@ -1,26 +1,5 @@
-use Rattle.std.proofs.Common.{◌≡◌, ℕ, ◌^◌, ◌<◌, sym, subst}
-use Rattle.std.specs.Prelude.{IfSome, None, Option, Some}
-use Rattle.std.specs.FinMap.{get}
-use Rattle.ubi_media.specs.Geometry.{Sizes}
-use Rattle.ubi_media.specs.Record.{rec_fault}
-use Rattle.ubi_scan.specs.Image.{Image, eraseblocks}
-use Rattle.ubi_volume.specs.Attached.{IsAttached, Whole}
-use Rattle.ubi_volume.specs.Meant.{IsVolume}
-use Rattle.ubi_volume.specs.declared.content.Volume.{Volume}
-use Rattle.ubi_change.proofs.Attached.{survives_all}
-use Rattle.ubi_change.proofs.Mean.{mean_narrow}
-use Rattle.ubi_media.proofs.Padding.{half_pad, reserved_within}
+use Rattle.ubi_change.proofs.PlanSurvives.{plan_survives}
 use Rattle.ubi_change.proofs.laws.plan_survives.Goals as goal
 
--- the record of a volume that is meant breaks no rule
-sound : (image : Image) (a : Whole) → IsAttached image a → (id : ℕ) (v : Volume) → get a.meaning.volumes id ≡ Some v → rec_fault image.sizes v.entry ≡ None
-sound image a att id v there =
-    let means = att.accepted.accepted.means in
-    let is : IsVolume a.meaning.sizes id v = subst (λ (o : Option Volume). IfSome o (IsVolume a.meaning.sizes id)) there (means.meaning.each id) in
-    subst (λ (z : Sizes). rec_fault z v.entry ≡ None) means.sizes is.sound
-
 pub returns : goal.returns
-returns c = λ image a id lnum new v g att narrow there allowed.
-    let r = sound image a att id v there in
-    let few : a.scan.mean_ec < 2 ^ 31 = subst (λ (n : ℕ). n < 2 ^ 31) (sym att.scan.mean_ec) (mean_narrow image.sizes (eraseblocks image)) in
-    survives_all image g a att few narrow id lnum new v there allowed (half_pad image.sizes v.entry r g) (reserved_within image.sizes v.entry r)
+returns c = plan_survives
