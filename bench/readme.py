@@ -7,7 +7,6 @@ An example is a line of README.md that begins with '$ ' in a block without a lan
 the end of the block are what it prints. They run in their order, by the shell, at the top of the repository. The program is
 built first where it isn't yet. Ends with 'N passed, M failed', and with status 1 where some failed.
 """
-import re
 import subprocess
 import sys
 from pathlib import Path
@@ -15,19 +14,32 @@ from pathlib import Path
 ROOT = Path(__file__).resolve().parent.parent
 
 
+def blocks(text):
+    """The lines of each block without a language."""
+    block, language = None, None
+    for line in text.splitlines():
+        if line.startswith('```'):
+            if block is None:
+                block, language = [], line[3:]
+            else:
+                if not language:
+                    yield block
+                block = None
+        elif block is not None:
+            block.append(line)
+
+
 def examples(text):
     """Each example, and what it is to print."""
-    for block in re.findall(r'^```\n(.*?)^```$', text, re.M | re.S):
+    for block in blocks(text):
         command, wanted = None, []
-        for line in block.splitlines():
+        for line in block + ['$ ']:
             if line.startswith('$ '):
                 if command:
                     yield command, wanted
                 command, wanted = line[2:], []
             else:
                 wanted.append(line)
-        if command:
-            yield command, wanted
 
 
 def main():
