@@ -5,6 +5,7 @@ pub mod Clears
 pub mod Copied
 pub mod CopyFits
 pub mod Fits
+pub mod GivenUp
 pub mod Kept
 pub mod Laid
 pub mod Mapped
