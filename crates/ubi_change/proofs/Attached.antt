@@ -41,6 +41,7 @@ use Rattle.ubi_change.specs.declared.refusal.ChangeRefusal.{ChangeRefusal}
 use Rattle.ubi_change.specs.declared.refusal.ChangeRefusal.TheVariants as refusal
 use Rattle.ubi_change.specs.declared.step.Step.{Step}
 use Rattle.ubi_change.proofs.Choosing.{MayBeTaken, may_be_taken, two_apart}
+use Rattle.ubi_change.proofs.Mapped as mapped_copy
 use Rattle.ubi_change.proofs.Mapped.{copy_fits, copy_sound, IsNew, IsPrepared, IsRelease, mapped, used_by_volume}
 use Rattle.ubi_change.proofs.Premises.{counter_behind, next_counter, ready, taken_loses, valid_counter}
 use Rattle.ubi_scan.proofs.Parts.{laid}
@@ -224,6 +225,13 @@ module _ (image : Image) (g : IsGeometry image.sizes) (a : Whole) (att : IsAttac
     few_numbers : a.scan.top_sqnum + 1 < 2 ^ 64
     few_numbers = let f = no_cause.few in let n = needs-one in omega arith
 
+    -- the winner isn't the eraseblock that is taken
+    pub old_apart : old ≢ b
+    old_apart =
+        mapped_copy.apart s g bs a.meaning acc id lnum v.entry held.0 was slot number half new no_cause.is_new b may.0 a.scan.image_seq agrees (taken_loses s g bs a acc.records states b may)
+        (prepare s bs a b) (ready_bytes s bs a b) made.0 made.2 (a.scan.top_sqnum + 1) few_numbers above old wins (release s bs a old (ec_at s bs old))
+        (release_is old (ec_at s bs old) (next_counter s bs a few narrow old))
+
     -- where the new is meant from
     pub mapped_turn : turn s (mapped_plan s bs a v.entry id lnum new b old) new ≡ length (prepare s bs a b) + suc (whole_place s new)
     mapped_turn =
@@ -270,7 +278,7 @@ module _ (image : Image) (g : IsGeometry image.sizes) (a : Whole) (att : IsAttac
     pub may1 : MayBeTaken s bs a.states b1
     may1 = may_be_taken s bs a.states 1 enough
 
-    apart : b1 ≢ e0
+    pub apart : b1 ≢ e0
     apart z = two_apart s bs a.states enough (sym z)
 
     none : NoMember s bs (id, lnum)

@@ -1,10 +1,8 @@
 -- Once the copy is whole, a plan erases the eraseblock that is given up, unless it is worn by then.
-use Rattle.std.proofs.Common.{◌≡◌, ℕ, zero, suc, ◌+◌, ◌/◌, ◌%◌, ◌^◌, ◌<◌, ◌≤◌, Bool, false, cond, List, [], ◌∷◌, ◌++◌, length, refl, ap, ◌∙◌, arith, length-append}
+use Rattle.std.proofs.Common.{◌≡◌, ℕ, zero, suc, ◌+◌, ◌/◌, ◌%◌, ◌^◌, ◌<◌, ◌≤◌, false, cond, List, [], ◌∷◌, ◌++◌, length, refl, ap, ◌∙◌, arith, length-append}
 use Rattle.std.specs.Prelude.{None, Option, Some, slice_get}
 use Rattle.std.specs.FinMap as finite
 use Rattle.std.specs.Option.{option_map_or}
-use Rattle.ubi_media.specs.Ec.{ec_bytes}
-use Rattle.ubi_media.specs.Fields.{filled}
 use Rattle.ubi_media.specs.Geometry.{IsGeometry, Sizes, leb_size}
 use Rattle.ubi_media.specs.Record.{data_pad}
 use Rattle.ubi_media.specs.declared.ec.EcHeader.{EcHeader}
@@ -19,9 +17,8 @@ use Rattle.ubi_change.specs.Order.{Erases}
 use Rattle.ubi_change.specs.Plan.{atomic_copy, mapped_plan, mount, plan_of, prepare, program_header, program_text, ready_bytes, ready_ec, release, renew, taken, unmapped_plan}
 use Rattle.ubi_change.specs.Refused.{first_cause}
 use Rattle.ubi_change.specs.Takeable.{ec_at, is_worn}
-use Rattle.ubi_change.specs.Weak.{pages_of, whole_place}
+use Rattle.ubi_change.specs.Weak.{whole_place}
 use Rattle.ubi_change.specs.declared.step.Step.{Step}
-use Rattle.ubi_change.specs.declared.step.Step.TheVariants as step
 use Rattle.ubi_change.proofs.Attached as attached
 use Rattle.ubi_change.proofs.Copied.{length-program_text}
 use Rattle.ubi_change.proofs.Torn.{whole_place-is}

@@ -4,6 +4,7 @@ pub mod Choosing
 pub mod Clears
 pub mod Copied
 pub mod CopyFits
+pub mod CountsErases
 pub mod Fits
 pub mod GivenUp
 pub mod Kept
