@@ -15,6 +15,7 @@ pub mod Mounted
 pub mod PageBytes
 pub mod PagePlaces
 pub mod PlanFits
+pub mod PlanFrugal
 pub mod PlanMade
 pub mod PlanSurvives
 pub mod PlanVectors
