@@ -41,6 +41,7 @@ use Rattle.ubi_change.specs.declared.refusal.ChangeRefusal.{ChangeRefusal}
 use Rattle.ubi_change.specs.declared.refusal.ChangeRefusal.TheVariants as refusal
 use Rattle.ubi_change.specs.declared.step.Step.{Step}
 use Rattle.ubi_change.proofs.Choosing.{MayBeTaken, may_be_taken, two_apart}
+use Rattle.ubi_change.proofs.Mapped as mapped_copy
 use Rattle.ubi_change.proofs.Mapped.{copy_fits, copy_sound, IsNew, IsPrepared, IsRelease, mapped, used_by_volume}
 use Rattle.ubi_change.proofs.Premises.{counter_behind, next_counter, ready, taken_loses, valid_counter}
 use Rattle.ubi_scan.proofs.Parts.{laid}
@@ -224,6 +225,21 @@ module _ (image : Image) (g : IsGeometry image.sizes) (a : Whole) (att : IsAttac
     few_numbers : a.scan.top_sqnum + 1 < 2 ^ 64
     few_numbers = let f = no_cause.few in let n = needs-one in omega arith
 
+    -- the winner isn't the eraseblock that is taken
+    pub old_apart : old ≢ b
+    old_apart =
+        mapped_copy.apart s g bs a.meaning acc id lnum v.entry held.0 was slot number half new no_cause.is_new b may.0 a.scan.image_seq agrees (taken_loses s g bs a acc.records states b may)
+        (prepare s bs a b) (ready_bytes s bs a b) made.0 made.2 (a.scan.top_sqnum + 1) few_numbers above old wins (release s bs a old (ec_at s bs old))
+        (release_is old (ec_at s bs old) (next_counter s bs a few narrow old))
+
+    -- where the new is meant from
+    pub mapped_turn : turn s (mapped_plan s bs a v.entry id lnum new b old) new ≡ length (prepare s bs a b) + suc (whole_place s new)
+    mapped_turn =
+        let h = copy_header 0 (data_pad s v.entry) id lnum (a.scan.top_sqnum + 1) new in
+        let fits = copy_fits s v.entry id lnum (a.scan.top_sqnum + 1) new slot number half wide no_cause.is_new.some fits_leb few_numbers in
+        let sound = copy_sound s v.entry id lnum (a.scan.top_sqnum + 1) new slot number half wide no_cause.is_new.some fits_leb in
+        turn-is s g (ready_bytes s bs a b) made.2.size h fits sound refl b new (prepare s bs a b) (release s bs a old (ec_at s bs old)) (prepare_fails b) (release_fails old (ec_at s bs old))
+
     mapped_survives : SurvivesCuts s bs a.meaning id lnum new (mapped_plan s bs a v.entry id lnum new b old)
     mapped_survives =
         let h = copy_header 0 (data_pad s v.entry) id lnum (a.scan.top_sqnum + 1) new in
@@ -231,7 +247,7 @@ module _ (image : Image) (g : IsGeometry image.sizes) (a : Whole) (att : IsAttac
         let sound = copy_sound s v.entry id lnum (a.scan.top_sqnum + 1) new slot number half wide no_cause.is_new.some fits_leb in
         survives s bs a.meaning id lnum new (mapped_plan s bs a v.entry id lnum new b old) (length (prepare s bs a b) + suc (whole_place s new))
         (one-copy s g (ready_bytes s bs a b) made.2.size h fits sound refl b new (prepare s bs a b) (release s bs a old (ec_at s bs old)) (prepare_fails b) (release_fails old (ec_at s bs old)))
-        (turn-is s g (ready_bytes s bs a b) made.2.size h fits sound refl b new (prepare s bs a b) (release s bs a old (ec_at s bs old)) (prepare_fails b) (release_fails old (ec_at s bs old)))
+        mapped_turn
         (mapped s g bs a.meaning acc id lnum v.entry held.0 was slot number half new no_cause.is_new b may.0 a.scan.image_seq agrees (taken_loses s g bs a acc.records states b may)
         (prepare s bs a b) (ready_bytes s bs a b) made.0 made.2 (a.scan.top_sqnum + 1) few_numbers above old wins (release s bs a old (ec_at s bs old))
         (release_is old (ec_at s bs old) (next_counter s bs a few narrow old)))
@@ -262,7 +278,7 @@ module _ (image : Image) (g : IsGeometry image.sizes) (a : Whole) (att : IsAttac
     pub may1 : MayBeTaken s bs a.states b1
     may1 = may_be_taken s bs a.states 1 enough
 
-    apart : b1 ≢ e0
+    pub apart : b1 ≢ e0
     apart z = two_apart s bs a.states enough (sym z)
 
     none : NoMember s bs (id, lnum)
@@ -347,25 +363,39 @@ module _ (image : Image) (g : IsGeometry image.sizes) (a : Whole) (att : IsAttac
         (header_fails s g (ready_bytes s bs a e0) made0.2.size header0 (first.blank_fits s v.entry id lnum (a.scan.top_sqnum + 1) slot number half wide some_left) (first.blank_sound s v.entry id lnum (a.scan.top_sqnum + 1) slot number half wide) e0 refl, tt))
         (prepare_fails b1)
 
-    unmapped_survives : SurvivesCuts s bs a.meaning id lnum new steps
-    unmapped_survives =
+    -- where the new is meant from
+    steps_turn : turn s steps new ≡ length mount0 + (length (prepare s bs a b1) + suc (whole_place s new))
+    steps_turn =
         let fits = copy_fits s v.entry id lnum (a.scan.top_sqnum + 1 + 1) new slot number half wide no_cause.is_new.some fits_leb many in
         let sound = copy_sound s v.entry id lnum (a.scan.top_sqnum + 1 + 1) new slot number half wide no_cause.is_new.some fits_leb in
         let n = length-append mount0 (prepare s bs a b1) in
         let turn_at = turn-is s g (ready_bytes s bs a b1) made1.2.size header1 fits sound refl b1 new (mount0 ++ prepare s bs a b1) rel0 mount_fails (release_fails e0 (ready_ec s bs a e0)) in
+        ap (λ xs. turn s xs new) (sym steps-are) ∙ turn_at ∙ omega arith
+
+    plan-steps : unmapped_plan s bs a v.entry id lnum new e0 b1 ≡ steps
+    plan-steps =
+        let two : a.scan.top_sqnum + 2 ≡ a.scan.top_sqnum + 1 + 1 = omega arith in
+        ap (λ k. mount0 ++ ((prepare s bs a b1 ++ program_header s b1 (ready_bytes s bs a b1) (copy_header 0 (data_pad s v.entry) id lnum k new) ∷ []) ++ program_text s b1 new ++ rel0)) two
+
+    pub unmapped_turn : turn s (unmapped_plan s bs a v.entry id lnum new e0 b1) new ≡ length mount0 + (length (prepare s bs a b1) + suc (whole_place s new))
+    unmapped_turn = ap (λ xs. turn s xs new) plan-steps ∙ steps_turn
+
+    unmapped_survives : SurvivesCuts s bs a.meaning id lnum new steps
+    unmapped_survives =
+        let fits = copy_fits s v.entry id lnum (a.scan.top_sqnum + 1 + 1) new slot number half wide no_cause.is_new.some fits_leb many in
+        let sound = copy_sound s v.entry id lnum (a.scan.top_sqnum + 1 + 1) new slot number half wide no_cause.is_new.some fits_leb in
         let one = one-copy s g (ready_bytes s bs a b1) made1.2.size header1 fits sound refl b1 new (mount0 ++ prepare s bs a b1) rel0 mount_fails (release_fails e0 (ready_ec s bs a e0)) in
         survives s bs a.meaning id lnum new steps (length mount0 + (length (prepare s bs a b1) + suc (whole_place s new)))
         (ap (count_by (programs_copy s)) (sym steps-are) ∙ one)
-        (ap (λ xs. turn s xs new) (sym steps-are) ∙ turn_at ∙ omega arith)
+        steps_turn
         (first.unmapped s g bs a.meaning acc id lnum v.entry held.0 was slot number half no_cause.is_new.inside e0 may0.0 a.scan.image_seq agrees loses0 (prepare s bs a e0) (ready_bytes s bs a e0) made0.0 made0.2 (a.scan.top_sqnum + 1) some_left above none
         new no_cause.is_new b1 apart may1.0 loses1 (prepare s bs a b1) (ready_bytes s bs a b1) made1.0 made1.2 many rel0 release0)
 
     pub survives_unmapped : SurvivesCuts s bs a.meaning id lnum new (plan_of s bs a v.entry id lnum new)
     survives_unmapped =
-        let two : a.scan.top_sqnum + 2 ≡ a.scan.top_sqnum + 1 + 1 = omega arith in
         subst (SurvivesCuts s bs a.meaning id lnum new)
         (sym (ap (λ (o : Option ℕ). option_map_or (mapped_plan s bs a v.entry id lnum new (taken s bs a 0)) o (unmapped_plan s bs a v.entry id lnum new (taken s bs a 0) (taken s bs a 1))) found
-        ∙ ap (λ k. mount0 ++ ((prepare s bs a b1 ++ program_header s b1 (ready_bytes s bs a b1) (copy_header 0 (data_pad s v.entry) id lnum k new) ∷ []) ++ program_text s b1 new ++ rel0)) two))
+        ∙ plan-steps))
         unmapped_survives
 
   -- either

@@ -4,7 +4,9 @@ pub mod Choosing
 pub mod Clears
 pub mod Copied
 pub mod CopyFits
+pub mod CountsErases
 pub mod Fits
+pub mod GivenUp
 pub mod Kept
 pub mod Laid
 pub mod Mapped
@@ -13,6 +15,7 @@ pub mod Mounted
 pub mod PageBytes
 pub mod PagePlaces
 pub mod PlanFits
+pub mod PlanFrugal
 pub mod PlanMade
 pub mod PlanSurvives
 pub mod PlanVectors

@@ -189,7 +189,7 @@ module _ (s : Sizes) (g : IsGeometry s) (bs : List (List ℕ)) (m : Meant) (a : 
       mounted_good s bs b x inside id lnum header seq agrees mount k m next a used loses (λ z. (let l = slot in omega arith)) r (filled (usable m.sizes r) new) change_is reads like
 
   -- once the copy is good, the old winner wins nothing
-  apart : old ≢ b
+  pub apart : old ≢ b
   apart z = loses of counts (subst (Wins s bs of) z wins)
 
   old_loses : (x : List ℕ) (mount : IsMount s seq bs of header x) → is_good s x header ≡ true → (other : Leb) → Wins s (set bs b x) other old → ⊥

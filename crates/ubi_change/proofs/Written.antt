@@ -54,7 +54,7 @@ module _ (s : Sizes) (g : IsGeometry s) where
     bare-is : filled s.peb_size bytes ≡ bytes ++ blank (s.peb_size - 64)
     bare-is = filled-by s.peb_size 64 bytes size
 
-    ec-bare : ec s (filled s.peb_size bytes) ≡ ec_read.Valid e
+    pub ec-bare : ec s (filled s.peb_size bytes) ≡ ec_read.Valid e
     ec-bare = ap (λ b. ec_reading s (take 64 b)) bare-is ∙ ap (ec_reading s) (take_at bytes (blank (s.peb_size - 64)) 64 size) ∙ reads
 
     vid-bare : vid s (filled s.peb_size bytes) ≡ vid_read.Blank

@@ -1,0 +1,98 @@
+-- Once the copy is whole, a plan erases the eraseblock that is given up, unless it is worn by then.
+use Rattle.std.proofs.Common.{◌≡◌, ℕ, zero, suc, ◌+◌, ◌/◌, ◌%◌, ◌^◌, ◌<◌, ◌≤◌, false, cond, List, [], ◌∷◌, ◌++◌, length, refl, ap, ◌∙◌, arith, length-append}
+use Rattle.std.specs.Prelude.{None, Option, Some, slice_get}
+use Rattle.std.specs.FinMap as finite
+use Rattle.std.specs.Option.{option_map_or}
+use Rattle.ubi_media.specs.Geometry.{IsGeometry, Sizes, leb_size}
+use Rattle.ubi_media.specs.Record.{data_pad}
+use Rattle.ubi_media.specs.declared.ec.EcHeader.{EcHeader}
+use Rattle.ubi_media.specs.declared.vid.VidHeader.{VidHeader}
+use Rattle.ubi_scan.specs.Image.{Image, eraseblocks}
+use Rattle.ubi_volume.specs.Attached.{IsAttached, Whole}
+use Rattle.ubi_volume.specs.declared.content.Volume.{Volume}
+use Rattle.ubi_change.specs.Cuts.{turn}
+use Rattle.ubi_change.specs.Frugal.{given_up, is_worn_then}
+use Rattle.ubi_change.specs.Headers.{blank_header, copy_header, next_ec}
+use Rattle.ubi_change.specs.Order.{Erases}
+use Rattle.ubi_change.specs.Plan.{atomic_copy, mapped_plan, mount, plan_of, prepare, program_header, program_text, ready_bytes, ready_ec, release, renew, taken, unmapped_plan}
+use Rattle.ubi_change.specs.Refused.{first_cause}
+use Rattle.ubi_change.specs.Takeable.{ec_at, is_worn}
+use Rattle.ubi_change.specs.Weak.{whole_place}
+use Rattle.ubi_change.specs.declared.step.Step.{Step}
+use Rattle.ubi_change.proofs.Attached as attached
+use Rattle.ubi_change.proofs.Copied.{length-program_text}
+use Rattle.ubi_change.proofs.Torn.{whole_place-is}
+
+-- the steps of a list that stands behind another
+pub step_behind : (xs ys : List Step) (j k : ℕ) → j ≡ length xs + k → slice_get (xs ++ ys) j ≡ slice_get ys k
+step_behind [] ys j k e = (let same : j ≡ k = omega arith in ap (slice_get ys) same)
+step_behind (x ∷ xs) ys zero k e = absurd (omega arith)
+step_behind (x ∷ xs) ys (suc j) k e = step_behind xs ys j k (omega arith)
+
+module _ (s : Sizes) (bs : List (List ℕ)) (a : Whole) where
+  -- what isn't worn is erased by the first step of its release
+  erased_behind : (front : List Step) (p : ℕ) (now : Option EcHeader) → is_worn now ≡ false → Erases (front ++ release s bs a p now) (length front) p
+  erased_behind front p now fresh =
+      step_behind front (release s bs a p now) (length front) 0 (omega arith) ∙ ap (λ b. slice_get (cond b [] (renew s p (next_ec a.scan now))) 0) fresh
+
+  module _ (b : ℕ) (h : VidHeader) (new : List ℕ) where
+    abbrev written : List Step
+    written = mount s bs a b h ++ program_text s b new
+
+    -- by the end of its text a copy is whole
+    whole_by : length new % s.page ≡ 0 → length (prepare s bs a b) + suc (whole_place s new) ≤ length written
+    whole_by paged =
+        let n = length-append (mount s bs a b h) (program_text s b new) in
+        let m = length-append (prepare s bs a b) (program_header s b (ready_bytes s bs a b) h ∷ []) in
+        let t = length-program_text s b new in
+        let w = (whole_place-is s new paged).most in
+        omega arith
+
+module _ (image : Image) (g : IsGeometry image.sizes) (a : Whole) (att : IsAttached image a) (few : a.scan.mean_ec < 2 ^ 31) (narrow : a.scan.image_seq < 2 ^ 32)
+    (id lnum : ℕ) (new : List ℕ) (v : Volume) (there : finite.get a.meaning.volumes id ≡ Some v) (allowed : first_cause image.sizes (eraseblocks image) a id lnum new ≡ None)
+    (half : data_pad image.sizes v.entry < leb_size image.sizes / 2) (bounded : v.entry.reserved < 2 ^ 31) where
+  abbrev s : Sizes
+  s = image.sizes
+
+  abbrev bs : List (List ℕ)
+  bs = eraseblocks image
+
+  abbrev Gives : List Step → ℕ → Type 0
+  Gives steps p = (k : ℕ) × (turn s steps new ≤ k) × Erases steps k p
+
+  paged : length new % s.page ≡ 0
+  paged = (attached.no_cause image g a att few narrow id lnum new v there allowed half bounded).is_new.paged
+
+  mapped_gives : (old : ℕ) → finite.get a.scan.winners (id, lnum) ≡ Some old → is_worn (ec_at s bs old) ≡ false
+      → Gives (mapped_plan s bs a v.entry id lnum new (taken s bs a 0) old) old
+  mapped_gives old found fresh =
+      let b = taken s bs a 0 in
+      let h = copy_header 0 (data_pad s v.entry) id lnum (a.scan.top_sqnum + 1) new in
+      let at = attached.mapped_turn image g a att few narrow id lnum new v there allowed half bounded old found in
+      let by = whole_by s bs a b h new paged in
+      (length (written s bs a b h new), omega arith, erased_behind s bs a (written s bs a b h new) old (ec_at s bs old) fresh)
+
+  unmapped_gives : finite.get a.scan.winners (id, lnum) ≡ None → is_worn (ready_ec s bs a (taken s bs a 0)) ≡ false
+      → Gives (unmapped_plan s bs a v.entry id lnum new (taken s bs a 0) (taken s bs a 1)) (taken s bs a 0)
+  unmapped_gives found fresh =
+      let e = taken s bs a 0 in
+      let b = taken s bs a 1 in
+      let h = copy_header 0 (data_pad s v.entry) id lnum (a.scan.top_sqnum + 2) new in
+      let first = mount s bs a e (blank_header (data_pad s v.entry) id lnum (a.scan.top_sqnum + 1)) in
+      let at = attached.unmapped_turn image g a att few narrow id lnum new v there allowed half bounded found in
+      let by = whole_by s bs a b h new paged in
+      let place : ℕ = length (written s bs a b h new) in (
+        length first + place,
+        omega arith,
+        step_behind first (atomic_copy s bs a b h new e (ready_ec s bs a e)) (length first + place) place refl
+            ∙ erased_behind s bs a (written s bs a b h new) e (ready_ec s bs a e) fresh,
+      )
+
+  pub plan_gives_up : is_worn_then s bs a id lnum ≡ false → Gives (plan_of s bs a v.entry id lnum new) (given_up s bs a id lnum)
+  plan_gives_up = by_winner (finite.get a.scan.winners (id, lnum)) refl
+    where
+      by_winner : (o : Option ℕ) → finite.get a.scan.winners (id, lnum) ≡ o → is_worn (option_map_or (ec_at s bs) o (ready_ec s bs a (taken s bs a 0))) ≡ false
+          → Gives (option_map_or (mapped_plan s bs a v.entry id lnum new (taken s bs a 0)) o (unmapped_plan s bs a v.entry id lnum new (taken s bs a 0) (taken s bs a 1)))
+          (option_map_or (λ p. p) o (taken s bs a 0))
+      by_winner (Some old) e = mapped_gives old e
+      by_winner None e = unmapped_gives e
