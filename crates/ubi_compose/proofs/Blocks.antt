@@ -18,8 +18,8 @@ use Rattle.ubi_scan.specs.Faults.{IsMislaid}
 use Rattle.ubi_scan.specs.Image.{ec, leb, vid}
 use Rattle.ubi_scan.specs.Members.{foreign, foreign_if, good_in, has_members, is_good, leb_of, member, member_if, named_in, sqnum_in}
 use Rattle.ubi_scan.specs.Numbers.{seq_if, seq_of}
+use Rattle.ubi_scan.proofs.Parts as parts
 use Rattle.ubi_compose.specs.Normal.{Laid, laid_bytes, new_ec}
-use Rattle.ubi_compose.proofs.Parts as parts
 
 -- an eraseblock that can be laid out, and is then a good member of its LEB with the sequence number 0
 pub record IsFine (s : Sizes) (l : Laid) : Type 0 where
@@ -48,19 +48,19 @@ module _ (s : Sizes) (g : IsGeometry s) (l : Laid) (fine : IsFine s l) where
   vid_size = refl
 
   pub length-laid_bytes : length (laid_bytes s new_ec l) ≡ s.peb_size
-  length-laid_bytes = parts.length-laid s g _ _ l.text ec_size vid_size fine.room
+  length-laid_bytes = parts.length-laid s g _ _ ec_size vid_size l.text fine.room
 
   pub ec-laid_bytes : ec s (laid_bytes s new_ec l) ≡ ec_read.Valid new_ec
-  ec-laid_bytes = ap (ec_reading s) (parts.ec-laid s g _ _ l.text ec_size vid_size fine.room) ∙ new_ec_back s g
+  ec-laid_bytes = ap (ec_reading s) (parts.ec-laid s g _ _ ec_size vid_size l.text fine.room) ∙ new_ec_back s g
 
   vid-laid_bytes : vid s (laid_bytes s new_ec l) ≡ vid_read.Valid l.header
   vid-laid_bytes =
-      ap (vid_reading s) (parts.vid-laid s g _ _ l.text ec_size vid_size fine.room)
+      ap (vid_reading s) (parts.vid-laid s g _ _ ec_size vid_size l.text fine.room)
       ∙ sym ((one_vid_reading s (vid_bytes l.header) (vid_read.Valid l.header)).0 (vid_read_back s l.header (fields_fit l.header fine.fits) fine.sound))
 
   -- its LEB begins with the text, and is 0xFF behind it
   pub leb-laid_bytes : leb s (laid_bytes s new_ec l) ≡ l.text ++ blank (s.peb_size - (s.data_offset + length l.text))
-  leb-laid_bytes = parts.leb-laid s g _ _ l.text ec_size vid_size fine.room
+  leb-laid_bytes = parts.leb-laid s g _ _ ec_size vid_size l.text fine.room
 
   pub member-laid_bytes : member s (laid_bytes s new_ec l) ≡ Some l.header
   member-laid_bytes = ap₂ member_if ec-laid_bytes vid-laid_bytes ∙ ap (λ b. then_some b l.header) fine.known

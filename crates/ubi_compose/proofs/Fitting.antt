@@ -12,7 +12,7 @@ use Rattle.ubi_volume.specs.Meant.{Fits, IsVolume}
 use Rattle.ubi_volume.specs.declared.content.Content.TheVariants as content
 use Rattle.ubi_volume.specs.declared.content.Volume.{Volume}
 use Rattle.ubi_compose.proofs.Lists.{all_from, held_entry}
-use Rattle.ubi_compose.proofs.Padding.{reserved_within}
+use Rattle.ubi_media.proofs.Padding.{reserved_within}
 
 module _ (s : Sizes) (vol : ℕ) (v : Volume) (is : IsVolume s vol v) where
   -- a static text has few pieces

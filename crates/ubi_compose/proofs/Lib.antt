@@ -2,16 +2,14 @@ pub mod Accepted
 pub mod Apart
 pub mod Blocks
 pub mod Contents
-pub mod Filled
 pub mod Fitting
 pub mod Form
 pub mod Headers
 pub mod Image
+pub mod LaidPieces
 pub mod Lists
 pub mod Normal
 pub mod NormalVectors
-pub mod Padding
-pub mod Parts
 pub mod Pieces
 pub mod Puts
 pub mod Rising

@@ -15,28 +15,11 @@ use Rattle.ubi_scan.specs.Clean.{IsSound}
 use Rattle.ubi_scan.specs.Image.{ec, vid, vid_area}
 use Rattle.ubi_scan.specs.Members.{foreign, foreign_if, leb_of, member, member_if, named_in}
 use Rattle.ubi_scan.specs.Numbers.{seq_if, seq_of}
+use Rattle.ubi_scan.proofs.Filled.{behind, filled-is, length-filled}
+use Rattle.ubi_scan.proofs.Parts.{blank_vid}
 use Rattle.ubi_compose.specs.Composed.{spare}
 use Rattle.ubi_compose.specs.Normal.{new_ec}
 use Rattle.ubi_compose.proofs.Blocks.{new_ec_back}
-use Rattle.ubi_compose.proofs.Parts.{filled-is, length-filled}
-
--- a header of bytes 0xFF is none
-no_magic : field 4 0 (blank 64) ≢ vid_magic
-no_magic e = let all : field 4 0 (blank 64) ≡ 0xFFFFFFFF = refl in omega arith
-
-blank_vid : (s : Sizes) → vid_reading s (blank 64) ≡ vid_read.Blank
-blank_vid s = sym ((one_vid_reading s (blank 64) vid_read.Blank).0 (no_magic, All-replicate (λ byte. byte ≡ 255) 64 255 refl))
-
--- a part of what stands behind a list and is 0xFF
-behind : (xs : List ℕ) (n at k : ℕ) → length xs ≤ at → at + k ≤ length xs + n → slice_range (xs ++ blank n) at (at + k) ≡ blank k
-behind xs n at k from to =
-    let count : at + k - at ≡ k = omega arith in
-    let split : at ≡ length xs + (at - length xs) = omega arith in
-    let left : k ≤ n - (at - length xs) = omega arith in
-    let rest : drop at (xs ++ blank n) ≡ blank (n - (at - length xs)) =
-    ap (λ j. drop j (xs ++ blank n)) split ∙ sym (drop-drop (at - length xs) (length xs) (xs ++ blank n))
-    ∙ ap (drop (at - length xs)) (drop_at xs (blank n) (length xs) refl) ∙ drop-replicate (at - length xs) n 255 in
-    ap₂ take count rest ∙ take-replicate k (n - (at - length xs)) 255 left
 
 module _ (s : Sizes) (g : IsGeometry s) where
   ec_size : length (ec_bytes s new_ec) ≡ 64

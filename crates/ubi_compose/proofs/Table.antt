@@ -1,21 +1,15 @@
 -- The table of a meaning.
-use Rattle.std.proofs.Common.{◌≡◌, ℕ, ◌+◌, ◌≤◌, T, List, length, map, refl, sym, ap, ◌∙◌, subst, arith}
+use Rattle.std.proofs.Common.{◌≡◌, ℕ, ◌+◌, ◌≤◌, List, length, map, refl, sym, ap, ◌∙◌, subst, arith}
 use Rattle.std.specs.Prelude.{IfSome, None, Option, Some, option_map}
 use Rattle.std.specs.FinMap as finite
-use Rattle.std.specs.FinMap.{is_sorted}
-use Rattle.std.specs.List.{sum_by}
-use Rattle.std.specs.Ordering.{nat_cmp}
 use Rattle.ubi_media.specs.Geometry.{IsGeometry}
 use Rattle.ubi_media.specs.Record.{rec_fault}
 use Rattle.ubi_media.specs.declared.record.VolumeRecord.{VolumeRecord}
-use Rattle.ubi_scan.proofs.Entries.{sorted_entries}
-use Rattle.ubi_scan.proofs.Truths.{true_is}
 use Rattle.ubi_table.specs.Records.{AreRecords, HasSpace, table_bytes}
 use Rattle.ubi_table.proofs.ReadBack.{length-table_bytes}
 use Rattle.ubi_volume.specs.Meant.{IsMeaning, IsVolume, Meant, records_of}
 use Rattle.ubi_volume.specs.declared.content.Volume.{Volume}
-use Rattle.ubi_volume.proofs.Gathered.{same_order, same_sum}
-use Rattle.ubi_volume.proofs.Recorded.{record_of}
+use Rattle.ubi_volume.proofs.Recorded.{record_of, space_of}
 use Rattle.ubi_compose.proofs.Blocks.{some_same}
 
 -- its records are those of its volumes
@@ -43,13 +37,7 @@ module _ (m : Meant) (is : IsMeaning m) where
   }
 
   pub records_fit : HasSpace m.sizes (records_of m)
-  records_fit =
-      let es = finite.entries m.volumes in
-      let sorted = true_is (is_sorted nat_cmp (items m)) (subst T (sym (same_order es)) (finite.entries_sorted m.volumes)) in
-      let sum : sum_by (λ (r : VolumeRecord). r.reserved) (finite.values (records_of m).of) ≡ sum_by (λ (v : Volume). v.entry.reserved) (finite.values m.volumes) =
-      ap (λ x. sum_by (λ (r : VolumeRecord). r.reserved) (map (λ (e : ℕ × VolumeRecord). e.1) x)) (sorted_entries (items m) sorted) ∙ same_sum es 0 in
-      let room = is.space in
-      omega arith
+  records_fit = let sum = space_of m in let room = is.space in omega arith
 
   pub table_fits : IsGeometry m.sizes → m.sizes.data_offset + length (table_bytes (records_of m)) ≤ m.sizes.peb_size
   table_fits g = let n = length-table_bytes (records_of m) records_are in omega (arith, g.leb)

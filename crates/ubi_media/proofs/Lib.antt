@@ -8,6 +8,7 @@ pub mod Headers
 pub mod Lookups
 pub mod Mirror
 pub mod Names
+pub mod Padding
 pub mod Pages
 pub mod Polynomials
 pub mod Quotient

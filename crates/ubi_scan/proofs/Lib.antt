@@ -8,6 +8,7 @@ pub mod Counted
 pub mod Decided
 pub mod Either
 pub mod Entries
+pub mod Filled
 pub mod Finite
 pub mod Held
 pub mod Keys
@@ -15,6 +16,7 @@ pub mod Least
 pub mod Moved
 pub mod Next
 pub mod OneFault
+pub mod Parts
 pub mod Places
 pub mod Seen
 pub mod Shown

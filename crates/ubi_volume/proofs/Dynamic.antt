@@ -4,8 +4,7 @@ use Rattle.std.specs.Prelude.{IfSome, Option, Some, None}
 use Rattle.std.specs.Cmp.{nat_cmp_total}
 use Rattle.std.specs.FinMap as finite
 use Rattle.std.specs.FinMap.{FinMap}
-use Rattle.std.specs.Ordering.{eq_by_cmp, nat_cmp}
-use Rattle.std.proofs.lemmas.Map.Lookups.{exact_unsigned}
+use Rattle.std.specs.Ordering.{nat_cmp}
 use Rattle.ubi_media.specs.Fields.{blank, is_blank}
 use Rattle.ubi_media.specs.Geometry.{Sizes, leb_size}
 use Rattle.ubi_media.specs.Record.{usable}
@@ -13,7 +12,7 @@ use Rattle.ubi_media.specs.declared.record.VolumeRecord.{VolumeRecord}
 use Rattle.ubi_media.specs.declared.vid.VolKind.TheVariants as kind
 use Rattle.ubi_scan.specs.Image.{block, leb}
 use Rattle.ubi_scan.specs.Members.{NoMember, Wins}
-use Rattle.ubi_scan.proofs.Keys.{told}
+use Rattle.ubi_scan.proofs.Keys.{apart_test, same_test}
 use Rattle.ubi_volume.specs.Gathered.{AreGathered, ContentIs, LebKept}
 use Rattle.ubi_volume.specs.declared.content.Content.TheVariants as content
 use Rattle.ubi_volume.proofs.Blanks.{blank_text, other_text}
@@ -23,12 +22,6 @@ below_or_out l n = grind arith
 
 last_or_below : (l n : ℕ) → l < n + 1 → (l < n) ⊎ (l ≡ n)
 last_or_below l n h = grind arith
-
-apart_test : (l n : ℕ) → l ≢ n → eq_by_cmp nat_cmp l n ≡ false
-apart_test l n other = elim (told nat_cmp nat_cmp_total exact_unsigned l n) [ inl t ↦ absurd (other t.1) | inr t ↦ t.0 ]
-
-same_test : (n : ℕ) → eq_by_cmp nat_cmp n n ≡ true
-same_test n = elim (told nat_cmp nat_cmp_total exact_unsigned n n) [ inl t ↦ t.0 | inr t ↦ absurd (t.1 refl) ]
 
 module _ (s : Sizes) (bs : List (List ℕ)) (vol : ℕ) (r : VolumeRecord) where
   -- what is kept of one LEB

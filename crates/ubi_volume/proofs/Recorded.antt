@@ -1,18 +1,22 @@
 -- The records of a meaning are those of the table that it was made of.
-use Rattle.std.proofs.Common.{◌≡◌, ℕ, true, false, cond, List, [], ◌∷◌, map, refl, ap, sym, ◌∙◌}
+use Rattle.std.proofs.Common.{◌≡◌, ℕ, ◌+◌, T, true, false, cond, List, [], ◌∷◌, map, refl, ap, sym, ◌∙◌, subst}
 use Rattle.std.specs.Prelude.{Option, Some, None, option_map}
 use Rattle.std.specs.Cmp.{nat_cmp_total}
 use Rattle.std.specs.FinMap as finite
-use Rattle.std.specs.FinMap.{find, from_entries, nat_cmp-IsAntisymmetric}
+use Rattle.std.specs.FinMap.{find, from_entries, is_sorted, nat_cmp-IsAntisymmetric}
+use Rattle.std.specs.List.{sum_by}
 use Rattle.std.specs.Ordering.{is_eq, nat_cmp}
 use Rattle.ubi_media.specs.Geometry.{Sizes}
 use Rattle.ubi_media.specs.declared.record.VolumeRecord.{VolumeRecord}
-use Rattle.ubi_table.specs.Records.{Records}
+use Rattle.ubi_scan.proofs.Entries.{sorted_entries}
+use Rattle.ubi_scan.proofs.Truths.{true_is}
+use Rattle.ubi_table.specs.Records.{Records, space}
 use Rattle.ubi_table.specs.Table.{IsTable}
 use Rattle.ubi_volume.specs.Means.{Means, SlotMeans}
 use Rattle.ubi_volume.specs.Meant.{Meant, records_of}
 use Rattle.ubi_volume.specs.declared.content.Volume.{Volume}
 use Rattle.ubi_table.proofs.Held.{table_records}
+use Rattle.ubi_volume.proofs.Gathered.{same_order, same_sum}
 
 -- what is found among the records is the record of what is found
 find_entry : (id : ℕ) (vs : List (ℕ × Volume)) → find nat_cmp id (map (λ (e : ℕ × Volume). (e.0, e.1.entry)) vs) ≡ option_map (λ (v : Volume). v.entry) (find nat_cmp id vs)
@@ -43,3 +47,11 @@ records_meant s bs t m is means =
     let same : from_entries {R = nat_cmp} es ≡ t.of = finite.same_map nat_cmp_total nat_cmp-IsAntisymmetric (from_entries es) t.of
     (λ id. record_of m id ∙ same_record s bs id _ _ (means.slots id)) in
     λ i. record { sizes = sizes i; of = same i }
+
+-- how much the records of a meaning reserve
+pub space_of : (m : Meant) → space (records_of m) ≡ 2 + sum_by (λ (v : Volume). v.entry.reserved) (finite.values m.volumes)
+space_of m =
+    let es = finite.entries m.volumes in
+    let items : List (ℕ × VolumeRecord) = map (λ (e : ℕ × Volume). (e.0, e.1.entry)) es in
+    let sorted = true_is (is_sorted nat_cmp items) (subst T (sym (same_order es)) (finite.entries_sorted m.volumes)) in
+    ap (λ n. 2 + n) (ap (λ x. sum_by (λ (r : VolumeRecord). r.reserved) (map (λ (e : ℕ × VolumeRecord). e.1) x)) (sorted_entries items sorted) ∙ same_sum es 0)

@@ -14,7 +14,7 @@ use std::marker::Model;
 use ubi_media::{VolumeRecord, is_blank};
 
 /// Bytes that are kept.
-#[derive(Drop)]
+#[derive(Debug, Drop)]
 pub struct Bytes {
     bytes: Vec<u8>,
 }

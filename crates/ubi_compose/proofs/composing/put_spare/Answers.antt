@@ -1,8 +1,8 @@
 use Rattle.std.proofs.Common.{refl, sym, ap, ◌∙◌, ◌++◌, append_assoc}
 use Rattle.std.proofs.lemmas.Result.{on_ok_weaker}
 use Rattle.ubi_media.specs.Ec.{ec_bytes}
+use Rattle.ubi_scan.proofs.Filled.{filled-by}
 use Rattle.ubi_compose.specs.Normal.{new_ec}
-use Rattle.ubi_compose.proofs.Filled.{filled-is}
 use Rattle.ubi_compose.proofs.composing.put_spare.Goals as goal
 
 pub returns : goal.returns
@@ -10,5 +10,5 @@ returns c =
     let s = c.args.geometry.now in
     on_ok_weaker c.put_blank.result
     (λ e. e ∙ rw (c.in_ok-extend_from_slice.ensures.items, c.write_ec.ensures.bytes, c.peb_size.ensures.value)
-    (append_assoc c.args.image.now.items (ec_bytes s new_ec) _ ∙ ap (λ x. c.args.image.now.items ++ x) (sym (filled-is s.peb_size 64 (ec_bytes s new_ec) refl))))
+    (append_assoc c.args.image.now.items (ec_bytes s new_ec) _ ∙ ap (λ x. c.args.image.now.items ++ x) (sym (filled-by s.peb_size 64 (ec_bytes s new_ec) refl))))
     c.put_blank.ensures

@@ -1,46 +1,31 @@
 -- An eraseblock is laid piece by piece.
 use Rattle.std.proofs.Common.{◌≡◌, ℕ, ◌+◌, ◌-◌, List, ◌++◌, length, ap, sym, ◌∙◌, append_assoc, length-append, arith}
-use Rattle.std.proofs.lemmas.List.{length-replicate}
 use Rattle.ubi_media.specs.Fields.{blank, filled}
 use Rattle.ubi_media.specs.Geometry.{Sizes, IsGeometry, leb_size}
-
-pub filled-is : (n m : ℕ) (xs : List ℕ) → length xs ≡ m → filled n xs ≡ xs ++ blank (n - m)
-unfolding filled
-filled-is n m xs e = ap (λ k. xs ++ blank (n - k)) e
+use Rattle.ubi_scan.proofs.Filled.{filled-by}
+use Rattle.ubi_scan.proofs.Parts as parts
 
 module _ (s : Sizes) (g : IsGeometry s) (ec vid text : List ℕ) (ec_size : length ec ≡ 64) (vid_size : length vid ≡ 64) where
   front : List ℕ
   front = ec ++ blank (s.vid_offset - 64)
 
-  length-front : length front ≡ s.vid_offset
-  unfolding front
-  length-front =
-      let blanks = length-replicate {A = ℕ} (s.vid_offset - 64) 255 in
-      length-append ec (blank (s.vid_offset - 64)) ∙ omega (arith, g.vid_from, ec_size, blanks)
-
   headers : List ℕ
   headers = (front ++ vid) ++ blank (s.data_offset - s.vid_offset - 64)
 
-  length-with_vid : length (front ++ vid) ≡ s.vid_offset + 64
-  length-with_vid = length-append front vid ∙ omega (arith, length-front, vid_size)
-
-  length-headers : length headers ≡ s.data_offset
-  unfolding headers
-  length-headers =
-      let blanks = length-replicate {A = ℕ} (s.data_offset - s.vid_offset - 64) 255 in
-      length-append (front ++ vid) (blank (s.data_offset - s.vid_offset - 64)) ∙ omega (arith, g.data_from, length-with_vid, blanks)
-
   filled-front : filled s.vid_offset ec ≡ front
   unfolding front
-  filled-front = filled-is s.vid_offset 64 ec ec_size
+  filled-front = filled-by s.vid_offset 64 ec ec_size
 
-  filled-headers : filled s.data_offset (filled s.vid_offset ec ++ vid) ≡ headers
+  filled-headers : parts.headers s g ec vid ec_size vid_size ≡ headers
   unfolding headers
   filled-headers =
       let gap : s.data_offset - (s.vid_offset + 64) ≡ s.data_offset - s.vid_offset - 64 = omega arith in
-      ap (λ xs. filled s.data_offset (xs ++ vid)) filled-front
-      ∙ filled-is s.data_offset (s.vid_offset + 64) (front ++ vid) length-with_vid
-      ∙ ap (λ k. (front ++ vid) ++ blank k) gap
+      filled-by s.data_offset (s.vid_offset + 64) (filled s.vid_offset ec ++ vid) (parts.length-with_vid s g ec vid ec_size vid_size)
+      ∙ ap (λ k. (filled s.vid_offset ec ++ vid) ++ blank k) gap
+      ∙ ap (λ xs. (xs ++ vid) ++ blank (s.data_offset - s.vid_offset - 64)) filled-front
+
+  length-headers : length headers ≡ s.data_offset
+  length-headers = ap length (sym filled-headers) ∙ parts.length-headers s g ec vid ec_size vid_size
 
   length-with_text : length (headers ++ text) ≡ s.data_offset + length text
   length-with_text = length-append headers text ∙ omega (arith, length-headers)
@@ -48,7 +33,7 @@ module _ (s : Sizes) (g : IsGeometry s) (ec vid text : List ℕ) (ec_size : leng
   filled-all : filled s.peb_size (headers ++ text) ≡ (headers ++ text) ++ blank (leb_size s - length text)
   filled-all =
       let gap : s.peb_size - (s.data_offset + length text) ≡ leb_size s - length text = omega arith in
-      filled-is s.peb_size (s.data_offset + length text) (headers ++ text) length-with_text
+      filled-by s.peb_size (s.data_offset + length text) (headers ++ text) length-with_text
       ∙ ap (λ k. (headers ++ text) ++ blank k) gap
 
   with_headers : (image : List ℕ) → (((image ++ ec) ++ blank (s.vid_offset - 64)) ++ vid) ++ blank (s.data_offset - s.vid_offset - 64) ≡ image ++ headers

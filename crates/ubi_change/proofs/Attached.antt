@@ -1,0 +1,374 @@
+-- The plan of an attached image, against which no cause stands, survives every cut.
+use Rattle.std.proofs.Common.{◌≡◌, ◌≢◌, ℕ, suc, ◌+◌, ◌/◌, ◌%◌, ◌^◌, ◌<◌, ◌≤◌, inl, inr, Bool, true, false, cond, not, List, [], ◌∷◌, ◌++◌, append_assoc, length, set, refl, ap, sym, ◌∙◌, subst, arith, length-append, length-set}
+use Rattle.std.specs.Prelude.{None, Option, Some, ◌==◌, ◌||◌, IfSome, count_by, nat_lt, option_map}
+use Rattle.std.specs.Bool.{then_some}
+use Rattle.std.specs.FinMap as finite
+use Rattle.std.specs.FinMap.{FinMap}
+use Rattle.std.specs.Option.{option_map_or}
+use Rattle.std.specs.Ordering.{nat_cmp}
+use Rattle.std.proofs.Math.Nat as nat
+use Rattle.std.proofs.lemmas.Bool.Decides.{nat_tests}
+use Rattle.ubi_media.specs.Geometry.{Sizes, IsGeometry, leb_size}
+use Rattle.ubi_media.specs.Record.{data_pad, usable}
+use Rattle.ubi_media.specs.Vid.{vid_bytes}
+use Rattle.ubi_media.specs.declared.ec.EcHeader.{EcHeader}
+use Rattle.ubi_media.specs.declared.vid.VidHeader.{VidHeader}
+use Rattle.ubi_media.specs.declared.vid.VolKind.{VolKind}
+use Rattle.ubi_media.specs.declared.vid.VolKind.TheVariants as kind
+use Rattle.ubi_media.specs.declared.record.VolumeRecord.{VolumeRecord}
+use Rattle.ubi_scan.specs.Image.{Image, block, eraseblocks}
+use Rattle.ubi_scan.specs.Members.{IsMember, Leb, NoMember, Wins, sqnum_at}
+use Rattle.ubi_scan.proofs.Chunks.{length-of_chunk, length-first_chunks}
+use Rattle.ubi_scan.proofs.Clean.{clean_from_none}
+use Rattle.ubi_table.specs.Records.{Records}
+use Rattle.ubi_table.specs.Table.{AllBlank}
+use Rattle.ubi_volume.specs.Accepts.{AcceptsBlocks}
+use Rattle.ubi_volume.specs.Attached.{IsAttached, Whole}
+use Rattle.ubi_volume.specs.Meant.{Fits, IsVolume}
+use Rattle.ubi_volume.specs.States.{AreStates}
+use Rattle.ubi_volume.specs.declared.content.Content.{Content}
+use Rattle.ubi_volume.specs.declared.content.Content.TheVariants as content
+use Rattle.ubi_volume.specs.declared.content.Volume.{Volume}
+use Rattle.ubi_volume.proofs.Recorded.{records_meant}
+use Rattle.ubi_volume.proofs.Winners.{found_wins, none_found}
+use Rattle.ubi_change.specs.Cuts.{SurvivesCuts, programs_copy, turn}
+use Rattle.ubi_change.specs.Headers.{blank_header, copy_header, next_ec}
+use Rattle.ubi_change.specs.Plan.{mapped_plan, needs, plan_of, prepare, program_header, program_text, ready_bytes, ready_ec, release, renew, taken, unmapped_plan}
+use Rattle.ubi_change.specs.Refused.{causes, first_cause, first_of, is_bad_length, is_static}
+use Rattle.ubi_change.specs.Takeable.{ec_at, is_clean, is_worn, takeable}
+use Rattle.ubi_change.specs.Weak.{weak_place, whole_place}
+use Rattle.ubi_change.specs.declared.refusal.ChangeRefusal.{ChangeRefusal}
+use Rattle.ubi_change.specs.declared.refusal.ChangeRefusal.TheVariants as refusal
+use Rattle.ubi_change.specs.declared.step.Step.{Step}
+use Rattle.ubi_change.proofs.Choosing.{MayBeTaken, may_be_taken, two_apart}
+use Rattle.ubi_change.proofs.Mapped.{copy_fits, copy_sound, IsNew, IsPrepared, IsRelease, mapped, used_by_volume}
+use Rattle.ubi_change.proofs.Premises.{counter_behind, next_counter, ready, taken_loses, valid_counter}
+use Rattle.ubi_scan.proofs.Parts.{laid}
+use Rattle.ubi_change.proofs.Renewed.{IsCounter}
+use Rattle.ubi_change.proofs.Replaced.{block_other}
+use Rattle.ubi_change.proofs.Seq.{Agrees, seq_agrees}
+use Rattle.ubi_change.proofs.Survives.{survives}
+use Rattle.ubi_change.proofs.Top.{member_below}
+use Rattle.ubi_change.proofs.Turned.{AllFail, fail-append, header_fails, one-copy, renew_fails, turn-is}
+use Rattle.ubi_change.proofs.Unmapped as first
+use Rattle.ubi_change.proofs.Vacated.{LosesAll}
+
+-- what it says that no cause stands
+first_none : (o : Option ChangeRefusal) (rest : List (Option ChangeRefusal)) → first_of (o ∷ rest) ≡ None → (o ≡ None) × (first_of rest ≡ None)
+first_none None rest e = (refl, e)
+first_none (Some c) rest e = absurd (cc)
+
+not_some : (b : Bool) (c : ChangeRefusal) → then_some b c ≡ None → b ≡ false
+not_some true c e = absurd (cc)
+not_some false c e = refl
+
+not_weak : (o : Option ℕ) → option_map refusal.WeakCheck o ≡ None → o ≡ None
+not_weak None e = refl
+not_weak (Some k) e = absurd (cc)
+
+is_dynamic : (k : VolKind) → is_static k ≡ false → k ≡ kind.Dynamic
+is_dynamic kind.Dynamic e = refl
+is_dynamic kind.Static e = absurd (cc)
+
+not_not : (b : Bool) → not b ≡ false → b ≡ true
+not_not true e = refl
+not_not false e = absurd (cc)
+
+neither : (a b : Bool) → (a || b) ≡ false → (a ≡ false) × (b ≡ false)
+neither true b e = absurd (cc)
+neither false b e = (refl, e)
+
+some_of : (n : ℕ) → (n == 0) ≡ false → 1 ≤ n
+some_of n e = grind (arith, nat_tests)
+
+zero_of : (n : ℕ) → (n == 0) ≡ true → n ≡ 0
+zero_of n e = grind (arith, nat_tests)
+
+less_of : (a b : ℕ) → nat_lt a b ≡ true → a < b
+less_of a b e = grind (arith, nat_tests)
+
+most_of : (a b : ℕ) → nat_lt a b ≡ false → b ≤ a
+most_of a b e = grind (arith, nat_tests)
+
+pub record IsAllowed (s : Sizes) (bs : List (List ℕ)) (a : Whole) (r : VolumeRecord) (id lnum : ℕ) (new : List ℕ) : Type 0 where
+  pub dynamic : r.kind ≡ kind.Dynamic
+  pub unmarked : r.marker ≡ false
+  pub is_new : IsNew s r lnum new
+  pub few : a.scan.top_sqnum + needs s bs a id lnum ≤ 0xFFFFFFFFFFFFFFFF
+  pub enough : needs s bs a id lnum ≤ length (takeable s bs a.states)
+
+pub is_allowed : (s : Sizes) (bs : List (List ℕ)) (a : Whole) (r : VolumeRecord) (id lnum : ℕ) (new : List ℕ) → first_of (causes s bs a r id lnum new) ≡ None → IsAllowed s bs a r id lnum new
+is_allowed s bs a r id lnum new e =
+    let c1 = first_none _ _ e in
+    let c2 = first_none _ _ c1.1 in
+    let c3 = first_none _ _ c2.1 in
+    let c4 = first_none _ _ c3.1 in
+    let c5 = first_none _ _ c4.1 in
+    let c6 = first_none _ _ c5.1 in
+    let c7 = first_none _ _ c6.1 in
+    let length_fits = neither _ _ (not_some (is_bad_length s (usable s r) (length new)) refusal.BadLength c4.0) in
+    let first = neither (length new == 0) (not (length new % s.page == 0)) length_fits.0 in
+    record {
+      dynamic = is_dynamic r.kind (not_some (is_static r.kind) refusal.StaticVolume c1.0);
+      unmarked = not_some r.marker refusal.Updating c2.0;
+      is_new = record {
+        inside = less_of lnum r.reserved (not_not (nat_lt lnum r.reserved) (not_some (not (nat_lt lnum r.reserved)) refusal.OutOfRange c3.0));
+        some = some_of (length new) first.0;
+        short = most_of (usable s r) (length new) length_fits.1;
+        paged = zero_of (length new % s.page) (not_not (length new % s.page == 0) first.1);
+        strong = not_weak (weak_place s new) c5.0;
+      };
+      few = most_of 0xFFFFFFFFFFFFFFFF (a.scan.top_sqnum + needs s bs a id lnum) (not_some (nat_lt 0xFFFFFFFFFFFFFFFF (a.scan.top_sqnum + needs s bs a id lnum)) refusal.Exhausted c6.0);
+      enough = most_of (length (takeable s bs a.states)) (needs s bs a id lnum) (not_some (nat_lt (length (takeable s bs a.states)) (needs s bs a id lnum)) refusal.NoFree c7.0);
+    }
+
+-- a dynamic volume that isn't marked keeps LEBs
+lebs_of : (s : Sizes) (r : VolumeRecord) (c : Content) → r.kind ≡ kind.Dynamic → r.marker ≡ false → Fits s r c → (lebs : FinMap nat_cmp (List ℕ)) × (c ≡ content.Dynamic lebs)
+lebs_of s r content.Updating d u f = absurd (let k = f in cc)
+lebs_of s r content.Damaged d u f = absurd (let k = f.1 in cc)
+lebs_of s r (content.Static text) d u f = absurd (let k = f.1 in cc)
+lebs_of s r (content.Dynamic lebs) d u f = (lebs, refl)
+
+module _ (image : Image) (g : IsGeometry image.sizes) (a : Whole) (att : IsAttached image a) (few : a.scan.mean_ec < 2 ^ 31) (narrow : a.scan.image_seq < 2 ^ 32)
+    (id lnum : ℕ) (new : List ℕ) (v : Volume) (there : finite.get a.meaning.volumes id ≡ Some v) (allowed : first_cause image.sizes (eraseblocks image) a id lnum new ≡ None)
+    (half : data_pad image.sizes v.entry < leb_size image.sizes / 2) (bounded : v.entry.reserved < 2 ^ 31) where
+  abbrev s : Sizes
+  s = image.sizes
+
+  abbrev bs : List (List ℕ)
+  bs = eraseblocks image
+
+  acc : AcceptsBlocks s bs a.meaning
+  acc = att.accepted.accepted
+
+  agrees : Agrees s a.scan.image_seq bs
+  agrees = subst (λ (q : ℕ). Agrees s q bs) (sym att.scan.image_seq) (seq_agrees s bs (clean_from_none s bs att.scan.clean))
+
+  states : AreStates s bs acc.records a.states
+  states = subst (λ (t : Records). AreStates s bs t a.states) (records_meant s bs acc.records a.meaning acc.table acc.means) att.states
+
+  volume : IsVolume a.meaning.sizes id v
+  volume = subst (λ (o : Option Volume). IfSome o (IsVolume a.meaning.sizes id)) there (acc.means.meaning.each id)
+
+  slot : id < 128
+  slot = let l = volume.slot in omega arith
+
+  no_cause : IsAllowed s bs a v.entry id lnum new
+  no_cause = is_allowed s bs a v.entry id lnum new (ap (λ (o : Option Volume). option_map_or (λ (v : Volume). first_of (causes s bs a v.entry id lnum new)) o (Some refusal.NoVolume)) (sym there) ∙ allowed)
+
+  held : (lebs : FinMap nat_cmp (List ℕ)) × (v.content ≡ content.Dynamic lebs)
+  held = lebs_of a.meaning.sizes v.entry v.content no_cause.dynamic no_cause.unmarked volume.fits
+
+  was : finite.get a.meaning.volumes id ≡ Some (record { entry = v.entry; content = content.Dynamic held.0 })
+  was = there ∙ ap (λ (c : Content). Some (record { entry = v.entry; content = c })) held.1
+
+  number : lnum < 2 ^ 31
+  number = let l = no_cause.is_new.inside in omega arith
+
+  whole : (p : ℕ) → p < length bs → length (block bs p) ≡ s.peb_size
+  whole p l =
+      let n = length-first_chunks s.peb_size (length image.bytes / s.peb_size) image.bytes in
+      length-of_chunk s.peb_size (length image.bytes / s.peb_size) image.bytes p (let k = nat.div-add-mod (length image.bytes) s.peb_size in omega arith) (omega arith)
+
+  above : (of : Leb) (q : ℕ) → IsMember s bs of q → sqnum_at s bs q < a.scan.top_sqnum + 1
+  above of q m = let l = member_below s bs of q m in let e = att.scan.top_sqnum in omega arith
+
+  prepare_fails : (p : ℕ) → AllFail (programs_copy s) (prepare s bs a p)
+  prepare_fails p = by_test (is_clean s bs a.states p)
+    where
+      by_test : (b : Bool) → AllFail (programs_copy s) (cond b [] (renew s p (next_ec a.scan (ec_at s bs p))))
+      by_test true = tt
+      by_test false = renew_fails s g p (next_ec a.scan (ec_at s bs p))
+
+  release_fails : (p : ℕ) (now : Option EcHeader) → AllFail (programs_copy s) (release s bs a p now)
+  release_fails p now = by_test (is_worn now)
+    where
+      by_test : (b : Bool) → AllFail (programs_copy s) (cond b [] (renew s p (next_ec a.scan now)))
+      by_test true = tt
+      by_test false = renew_fails s g p (next_ec a.scan now)
+
+  release_is : (p : ℕ) (now : Option EcHeader) → (is_worn now ≡ false → IsCounter (next_ec a.scan now)) → IsRelease s p a.scan.image_seq (release s bs a p now)
+  release_is p now counter = by_test (is_worn now) refl
+    where
+      by_test : (b : Bool) → is_worn now ≡ b → IsRelease s p a.scan.image_seq (cond b [] (renew s p (next_ec a.scan now)))
+      by_test true e = inl refl
+      by_test false e = inr (next_ec a.scan now, counter e, (λ _. refl), refl)
+
+  used : AllBlank s bs → ⊥
+  used = used_by_volume s bs a.meaning acc id v there
+
+  fits_leb : length new ≤ leb_size s
+  fits_leb = let k = no_cause.is_new.short in omega arith
+
+  wide : leb_size s < 2 ^ 31
+  wide = omega (arith, g.peb_to)
+
+  -- a LEB with a winner
+  module _ (old : ℕ) (found : finite.get a.scan.winners (id, lnum) ≡ Some old) where
+    needs-one : needs s bs a id lnum ≡ 1
+    needs-one = ap (λ (o : Option ℕ). option_map_or (λ _. 1) o 2) found
+
+    b : ℕ
+    b = taken s bs a 0
+
+    may : MayBeTaken s bs a.states b
+    unfolding b
+    may = may_be_taken s bs a.states 0 (let e = no_cause.enough in let n = needs-one in omega arith)
+
+    wins : Wins s bs (id, lnum) old
+    wins = found_wins s bs a.scan att.scan (id, lnum) old found
+
+    made : (e : EcHeader) × (ready_ec s bs a b ≡ Some e) × IsPrepared s bs a.meaning b a.scan.image_seq (prepare s bs a b) (ready_bytes s bs a b) e
+    made = ready s g bs a acc.records states b may bs a.meaning acc may.0 refl (whole b may.0) agrees used (taken_loses s g bs a acc.records states b may) few narrow
+
+    few_numbers : a.scan.top_sqnum + 1 < 2 ^ 64
+    few_numbers = let f = no_cause.few in let n = needs-one in omega arith
+
+    mapped_survives : SurvivesCuts s bs a.meaning id lnum new (mapped_plan s bs a v.entry id lnum new b old)
+    mapped_survives =
+        let h = copy_header 0 (data_pad s v.entry) id lnum (a.scan.top_sqnum + 1) new in
+        let fits = copy_fits s v.entry id lnum (a.scan.top_sqnum + 1) new slot number half wide no_cause.is_new.some fits_leb few_numbers in
+        let sound = copy_sound s v.entry id lnum (a.scan.top_sqnum + 1) new slot number half wide no_cause.is_new.some fits_leb in
+        survives s bs a.meaning id lnum new (mapped_plan s bs a v.entry id lnum new b old) (length (prepare s bs a b) + suc (whole_place s new))
+        (one-copy s g (ready_bytes s bs a b) made.2.size h fits sound refl b new (prepare s bs a b) (release s bs a old (ec_at s bs old)) (prepare_fails b) (release_fails old (ec_at s bs old)))
+        (turn-is s g (ready_bytes s bs a b) made.2.size h fits sound refl b new (prepare s bs a b) (release s bs a old (ec_at s bs old)) (prepare_fails b) (release_fails old (ec_at s bs old)))
+        (mapped s g bs a.meaning acc id lnum v.entry held.0 was slot number half new no_cause.is_new b may.0 a.scan.image_seq agrees (taken_loses s g bs a acc.records states b may)
+        (prepare s bs a b) (ready_bytes s bs a b) made.0 made.2 (a.scan.top_sqnum + 1) few_numbers above old wins (release s bs a old (ec_at s bs old))
+        (release_is old (ec_at s bs old) (next_counter s bs a few narrow old)))
+
+    pub survives_mapped : SurvivesCuts s bs a.meaning id lnum new (plan_of s bs a v.entry id lnum new)
+    unfolding b
+    survives_mapped =
+        subst (SurvivesCuts s bs a.meaning id lnum new)
+        (sym (ap (λ (o : Option ℕ). option_map_or (mapped_plan s bs a v.entry id lnum new (taken s bs a 0)) o (unmapped_plan s bs a v.entry id lnum new (taken s bs a 0) (taken s bs a 1))) found))
+        mapped_survives
+
+  -- a LEB without one
+  module _ (found : finite.get a.scan.winners (id, lnum) ≡ None) where
+    needs-two : needs s bs a id lnum ≡ 2
+    needs-two = ap (λ (o : Option ℕ). option_map_or (λ _. 1) o 2) found
+
+    abbrev e0 : ℕ
+    e0 = taken s bs a 0
+
+    abbrev b1 : ℕ
+    b1 = taken s bs a 1
+
+    enough : 1 < length (takeable s bs a.states)
+    enough = let e = no_cause.enough in let n = needs-two in omega arith
+
+    may0 : MayBeTaken s bs a.states e0
+    may0 = may_be_taken s bs a.states 0 (let e = enough in omega arith)
+
+    may1 : MayBeTaken s bs a.states b1
+    may1 = may_be_taken s bs a.states 1 enough
+
+    apart : b1 ≢ e0
+    apart z = two_apart s bs a.states enough (sym z)
+
+    none : NoMember s bs (id, lnum)
+    none = none_found s bs a.scan att.scan (id, lnum) found
+
+    loses0 : LosesAll s bs acc.records e0
+    loses0 = taken_loses s g bs a acc.records states e0 may0
+
+    loses1 : LosesAll s bs acc.records b1
+    loses1 = taken_loses s g bs a acc.records states b1 may1
+
+    made0 : (e : EcHeader) × (ready_ec s bs a e0 ≡ Some e) × IsPrepared s bs a.meaning e0 a.scan.image_seq (prepare s bs a e0) (ready_bytes s bs a e0) e
+    made0 = ready s g bs a acc.records states e0 may0 bs a.meaning acc may0.0 refl (whole e0 may0.0) agrees used loses0 few narrow
+
+    many : a.scan.top_sqnum + 1 + 1 < 2 ^ 64
+    many = let f = no_cause.few in let n = needs-two in omega arith
+
+    some_left : a.scan.top_sqnum + 1 < 2 ^ 64
+    some_left = let f = many in omega arith
+
+    abbrev header0 : VidHeader
+    header0 = blank_header (data_pad s v.entry) id lnum (a.scan.top_sqnum + 1)
+
+    abbrev mounted0 : List ℕ
+    mounted0 = laid s (ready_bytes s bs a e0) (vid_bytes header0) []
+
+    abbrev cs : List (List ℕ)
+    cs = set bs e0 mounted0
+
+    acc1 : AcceptsBlocks s cs a.meaning
+    acc1 = first.mounted_accepted s g bs a.meaning acc id lnum v.entry held.0 was slot number half no_cause.is_new.inside e0 may0.0 a.scan.image_seq agrees loses0 (prepare s bs a e0) (ready_bytes s bs a e0) made0.0 made0.2 (a.scan.top_sqnum + 1) some_left above none
+
+    lost1 : LosesAll s cs acc1.records b1
+    unfolding acc1
+    lost1 =
+        subst (λ (t : Records). LosesAll s cs t b1)
+        (sym (first.now_records s g bs a.meaning acc id lnum v.entry held.0 was slot number half no_cause.is_new.inside e0 may0.0 a.scan.image_seq agrees loses0 (prepare s bs a e0) (ready_bytes s bs a e0) made0.0 made0.2 (a.scan.top_sqnum + 1) some_left above none))
+        (first.other_loses s g bs a.meaning acc id lnum v.entry held.0 was slot number half no_cause.is_new.inside e0 may0.0 a.scan.image_seq agrees loses0 (prepare s bs a e0) (ready_bytes s bs a e0) made0.0 made0.2 (a.scan.top_sqnum + 1) some_left above none b1 apart loses1)
+
+    agrees1 : Agrees s a.scan.image_seq cs
+    agrees1 = first.now_agrees s g bs a.meaning acc id lnum v.entry held.0 was slot number half no_cause.is_new.inside e0 may0.0 a.scan.image_seq agrees loses0 (prepare s bs a e0) (ready_bytes s bs a e0) made0.0 made0.2 (a.scan.top_sqnum + 1) some_left above none
+
+    inside1 : b1 < length cs
+    inside1 = let l = may1.0 in omega (arith, length-set bs e0 mounted0)
+
+    made1 : (e : EcHeader) × (ready_ec s bs a b1 ≡ Some e) × IsPrepared s cs a.meaning b1 a.scan.image_seq (prepare s bs a b1) (ready_bytes s bs a b1) e
+    made1 =
+        ready s g bs a acc.records states b1 may1 cs a.meaning acc1 inside1 (block_other s bs e0 mounted0 may0.0 b1 apart) (whole b1 may1.0) agrees1
+        (used_by_volume s cs a.meaning acc1 id v there) lost1 few narrow
+
+    release0 : IsRelease s e0 a.scan.image_seq (release s bs a e0 (ready_ec s bs a e0))
+    release0 = release_is e0 (ready_ec s bs a e0) (λ fresh.
+        subst (λ (o : Option EcHeader). IsCounter (next_ec a.scan o)) (sym made0.1)
+        (counter_behind a narrow made0.0 (valid_counter s (ready_bytes s bs a e0) made0.0 made0.2.reads) (ap is_worn (sym made0.1) ∙ fresh)))
+
+    abbrev header1 : VidHeader
+    header1 = copy_header 0 (data_pad s v.entry) id lnum (a.scan.top_sqnum + 1 + 1) new
+
+    abbrev mount0 : List Step
+    mount0 = prepare s bs a e0 ++ program_header s e0 (ready_bytes s bs a e0) header0 ∷ []
+
+    abbrev rel0 : List Step
+    rel0 = release s bs a e0 (ready_ec s bs a e0)
+
+    abbrev steps : List Step
+    steps = mount0 ++ ((prepare s bs a b1 ++ program_header s b1 (ready_bytes s bs a b1) header1 ∷ []) ++ program_text s b1 new ++ rel0)
+
+    steps-are : ((mount0 ++ prepare s bs a b1) ++ program_header s b1 (ready_bytes s bs a b1) header1 ∷ []) ++ program_text s b1 new ++ rel0 ≡ steps
+    steps-are =
+        ap (λ xs. xs ++ program_text s b1 new ++ rel0) (append_assoc mount0 (prepare s bs a b1) (program_header s b1 (ready_bytes s bs a b1) header1 ∷ []))
+        ∙ ap (λ xs. xs ++ rel0) (append_assoc mount0 (prepare s bs a b1 ++ program_header s b1 (ready_bytes s bs a b1) header1 ∷ []) (program_text s b1 new))
+        ∙ append_assoc mount0 ((prepare s bs a b1 ++ program_header s b1 (ready_bytes s bs a b1) header1 ∷ []) ++ program_text s b1 new) rel0
+
+    mount_fails : AllFail (programs_copy s) (mount0 ++ prepare s bs a b1)
+    mount_fails =
+        fail-append (programs_copy s) mount0 (prepare s bs a b1)
+        (fail-append (programs_copy s) (prepare s bs a e0) (program_header s e0 (ready_bytes s bs a e0) header0 ∷ []) (prepare_fails e0)
+        (header_fails s g (ready_bytes s bs a e0) made0.2.size header0 (first.blank_fits s v.entry id lnum (a.scan.top_sqnum + 1) slot number half wide some_left) (first.blank_sound s v.entry id lnum (a.scan.top_sqnum + 1) slot number half wide) e0 refl, tt))
+        (prepare_fails b1)
+
+    unmapped_survives : SurvivesCuts s bs a.meaning id lnum new steps
+    unmapped_survives =
+        let fits = copy_fits s v.entry id lnum (a.scan.top_sqnum + 1 + 1) new slot number half wide no_cause.is_new.some fits_leb many in
+        let sound = copy_sound s v.entry id lnum (a.scan.top_sqnum + 1 + 1) new slot number half wide no_cause.is_new.some fits_leb in
+        let n = length-append mount0 (prepare s bs a b1) in
+        let turn_at = turn-is s g (ready_bytes s bs a b1) made1.2.size header1 fits sound refl b1 new (mount0 ++ prepare s bs a b1) rel0 mount_fails (release_fails e0 (ready_ec s bs a e0)) in
+        let one = one-copy s g (ready_bytes s bs a b1) made1.2.size header1 fits sound refl b1 new (mount0 ++ prepare s bs a b1) rel0 mount_fails (release_fails e0 (ready_ec s bs a e0)) in
+        survives s bs a.meaning id lnum new steps (length mount0 + (length (prepare s bs a b1) + suc (whole_place s new)))
+        (ap (count_by (programs_copy s)) (sym steps-are) ∙ one)
+        (ap (λ xs. turn s xs new) (sym steps-are) ∙ turn_at ∙ omega arith)
+        (first.unmapped s g bs a.meaning acc id lnum v.entry held.0 was slot number half no_cause.is_new.inside e0 may0.0 a.scan.image_seq agrees loses0 (prepare s bs a e0) (ready_bytes s bs a e0) made0.0 made0.2 (a.scan.top_sqnum + 1) some_left above none
+        new no_cause.is_new b1 apart may1.0 loses1 (prepare s bs a b1) (ready_bytes s bs a b1) made1.0 made1.2 many rel0 release0)
+
+    pub survives_unmapped : SurvivesCuts s bs a.meaning id lnum new (plan_of s bs a v.entry id lnum new)
+    survives_unmapped =
+        let two : a.scan.top_sqnum + 2 ≡ a.scan.top_sqnum + 1 + 1 = omega arith in
+        subst (SurvivesCuts s bs a.meaning id lnum new)
+        (sym (ap (λ (o : Option ℕ). option_map_or (mapped_plan s bs a v.entry id lnum new (taken s bs a 0)) o (unmapped_plan s bs a v.entry id lnum new (taken s bs a 0) (taken s bs a 1))) found
+        ∙ ap (λ k. mount0 ++ ((prepare s bs a b1 ++ program_header s b1 (ready_bytes s bs a b1) (copy_header 0 (data_pad s v.entry) id lnum k new) ∷ []) ++ program_text s b1 new ++ rel0)) two))
+        unmapped_survives
+
+  -- either
+  pub survives_all : SurvivesCuts s bs a.meaning id lnum new (plan_of s bs a v.entry id lnum new)
+  survives_all = by_winner (finite.get a.scan.winners (id, lnum)) refl
+    where
+      by_winner : (o : Option ℕ) → finite.get a.scan.winners (id, lnum) ≡ o → SurvivesCuts s bs a.meaning id lnum new (plan_of s bs a v.entry id lnum new)
+      by_winner (Some old) e = survives_mapped old e
+      by_winner None e = survives_unmapped e

@@ -1,0 +1,236 @@
+-- The cuts of an atomic copy of a LEB that has a winner: before the turn the old is meant, and from it on the new.
+use Rattle.std.proofs.Common.{◌≡◌, ◌≢◌, ℕ, zero, suc, ◌+◌, ◌-◌, ◌/◌, ◌%◌, ◌^◌, ◌<◌, ◌≤◌, ◌⊎◌, inl, inr, true, false, List, [], ◌∷◌, ◌++◌, length, set, take, refl, ap, sym, ◌∙◌, subst, arith, length-set}
+use Rattle.std.specs.Prelude.{None, Option, Some}
+use Rattle.std.specs.FinMap as finite
+use Rattle.std.specs.FinMap.{FinMap}
+use Rattle.std.specs.Ordering.{nat_cmp}
+use Rattle.std.proofs.lemmas.Bool.Decides.{nat_tests}
+use Rattle.ubi_media.specs.Ec.{ec_reading}
+use Rattle.ubi_media.specs.Fields.{blank, filled}
+use Rattle.ubi_media.specs.Geometry.{Sizes, IsGeometry, leb_size}
+use Rattle.ubi_media.specs.Record.{data_pad, usable}
+use Rattle.ubi_media.specs.Vid.{VidFits, breaks, fields_from, first_fault, vid_fault}
+use Rattle.ubi_media.specs.declared.ec.EcHeader.{EcHeader}
+use Rattle.ubi_media.specs.declared.ec.EcRead.TheVariants as ec_read
+use Rattle.ubi_media.specs.declared.record.VolumeRecord.{VolumeRecord}
+use Rattle.ubi_media.specs.declared.vid.VidHeader.{VidHeader}
+use Rattle.ubi_media.specs.declared.vid.VolKind.TheVariants as kind
+use Rattle.ubi_media.proofs.Checks.{check_from-lt}
+use Rattle.ubi_scan.specs.Faults.{NoFault}
+use Rattle.ubi_scan.specs.Image.{block, leb}
+use Rattle.ubi_scan.specs.Members.{IsMember, Leb, Wins, has_members, is_good, layout, sqnum_at}
+use Rattle.ubi_scan.proofs.Decided.{Wins-unique}
+use Rattle.ubi_table.specs.Records.{Records}
+use Rattle.ubi_table.specs.Table.{AllBlank}
+use Rattle.ubi_volume.specs.Accepts.{AcceptsBlocks}
+use Rattle.ubi_volume.specs.Counted.{IsUnlike}
+use Rattle.ubi_volume.specs.Means.{SlotMeans}
+use Rattle.ubi_volume.specs.Meant.{Meant}
+use Rattle.ubi_volume.specs.States.{IsOutside}
+use Rattle.ubi_volume.specs.declared.content.Content.TheVariants as content
+use Rattle.ubi_volume.specs.declared.content.Volume.{Volume}
+use Rattle.ubi_change.specs.Changed.{changed}
+use Rattle.ubi_change.specs.Headers.{copy_header}
+use Rattle.ubi_change.specs.Plan.{program_header, program_text, renew}
+use Rattle.ubi_change.specs.Steps.{after}
+use Rattle.ubi_change.specs.Weak.{pages_of, weak_place, whole_place}
+use Rattle.ubi_change.specs.declared.step.Step.{Step}
+use Rattle.ubi_change.proofs.Changed as change
+use Rattle.ubi_change.proofs.Copied as copy
+use Rattle.ubi_change.proofs.Copied.{IsCopy}
+use Rattle.ubi_change.proofs.Mounted.{IsChanged, IsMount, mounted_bad, mounted_clean, mounted_good, mounted_wins, recorded_by}
+use Rattle.ubi_change.proofs.Renewed.{IsCounter, renew_accepted}
+use Rattle.ubi_change.proofs.Replaced.{member_was}
+use Rattle.ubi_change.proofs.Runs.{AtEachCut, TurnsAt, done}
+use Rattle.ubi_change.proofs.Seq.{Agrees}
+use Rattle.ubi_change.proofs.Torn.{told-from, whole_place-is}
+use Rattle.ubi_change.proofs.Unused.{nameless_ec, nameless_loses, one_name, within_counts}
+use Rattle.ubi_change.proofs.Vacated.{LosesAll, agrees_set}
+use Rattle.ubi_change.proofs.Written.{take_filled}
+
+-- an image with a volume has an erase-counter header
+no_entry : {X : Type 0} (o : Option X) (x : X) → o ≡ None → o ≡ Some x → ⊥
+no_entry o x e f = let k = e in cc
+
+pub used_by_volume : (s : Sizes) (bs : List (List ℕ)) (m : Meant) (a : AcceptsBlocks s bs m) (id : ℕ) (v : Volume) → finite.get m.volumes id ≡ Some v → AllBlank s bs → ⊥
+used_by_volume s bs m a id v there all =
+    let means : SlotMeans s bs id (finite.get a.records.of id) (Some v) = subst (λ (o : Option Volume). SlotMeans s bs id (finite.get a.records.of id) o) there (a.means.slots id) in
+    let recorded = recorded_by s bs id (finite.get a.records.of id) v means in
+    elim a.table [
+      | inl e ↦ no_entry (finite.get a.records.of id) v.entry (ap (λ (t : Records). finite.get t.of id) e.1 ∙ finite.get-empty nat_cmp id) recorded
+      | inr d ↦ (let w = d.1.is in nameless_loses s bs a.records w.0 (nameless_ec s (block bs w.0) (all w.0 [] w.1.member.inside)) (layout, d.0) w.1)
+    ]
+
+-- the header of a copy
+module _ (s : Sizes) (r : VolumeRecord) (id lnum sqnum : ℕ) (new : List ℕ) (slot : id < 128) (number : lnum < 2 ^ 31) (half : data_pad s r < leb_size s / 2)
+    (wide : leb_size s < 2 ^ 31) (some : 1 ≤ length new) (short : length new ≤ leb_size s) where
+  pub copy_sound : vid_fault s (copy_header 0 (data_pad s r) id lnum sqnum new) ≡ None
+  unfolding first_fault breaks fields_from
+  copy_sound = grind (arith, nat_tests)
+
+  pub copy_fits : sqnum < 2 ^ 64 → VidFits (copy_header 0 (data_pad s r) id lnum sqnum new)
+  copy_fits few = record {
+    vol_id = omega arith;
+    lnum = omega arith;
+    data_size = omega arith;
+    used_ebs = omega arith;
+    data_pad = omega arith;
+    data_crc = check_from-lt 0xFFFFFFFF new (omega arith);
+    sqnum = few;
+  }
+
+user_known : (vol : ℕ) → vol < 128 → has_members vol ≡ true
+user_known vol l = grind (arith, nat_tests)
+
+-- steps make an eraseblock ready: the meaning stays, and at the end it has an erase-counter header alone
+pub record IsPrepared (s : Sizes) (bs : List (List ℕ)) (m : Meant) (b seq : ℕ) (prep : List Step) (bytes : List ℕ) (e : EcHeader) : Type 0 where
+  pub cuts : AtEachCut s (λ x. AcceptsBlocks s x m) bs prep
+  pub ready : done s bs prep ≡ set bs b (filled s.peb_size bytes)
+  pub size : length bytes ≡ 64
+  pub reads : ec_reading s bytes ≡ ec_read.Valid e
+  pub image : e.image_seq ≢ 0 → e.image_seq ≡ seq
+
+-- the old eraseblock is left, or erased and given a header
+abbrev pub IsRelease : Sizes → ℕ → ℕ → List Step → Type 0
+IsRelease s old seq rel = (rel ≡ []) ⊎ ((e : EcHeader) × IsCounter e × (e.image_seq ≢ 0 → e.image_seq ≡ seq) × (rel ≡ renew s old e))
+
+-- new bytes that can be written to a LEB of a volume
+pub record IsNew (s : Sizes) (r : VolumeRecord) (lnum : ℕ) (new : List ℕ) : Type 0 where
+  pub inside : lnum < r.reserved
+  pub some : 1 ≤ length new
+  pub short : length new ≤ usable s r
+  pub paged : length new % s.page ≡ 0
+  pub strong : weak_place s new ≡ None
+
+module _ (s : Sizes) (g : IsGeometry s) (bs : List (List ℕ)) (m : Meant) (a : AcceptsBlocks s bs m) (id lnum : ℕ) (r : VolumeRecord) (lebs : FinMap nat_cmp (List ℕ))
+    (was : finite.get m.volumes id ≡ Some (record { entry = r; content = content.Dynamic lebs })) (slot : id < 128) (number : lnum < 2 ^ 31) (half : data_pad s r < leb_size s / 2)
+    (new : List ℕ) (n : IsNew s r lnum new) (b : ℕ) (inside : b < length bs) (seq : ℕ) (agrees : Agrees s seq bs) (loses : LosesAll s bs a.records b)
+    (prep : List Step) (bytes : List ℕ) (e : EcHeader) (prepared : IsPrepared s bs m b seq prep bytes e)
+    (sqnum : ℕ) (few : sqnum < 2 ^ 64) (above : (of : Leb) (q : ℕ) → IsMember s bs of q → sqnum_at s bs q < sqnum)
+    (old : ℕ) (wins : Wins s bs (id, lnum) old) (rel : List Step) (release : IsRelease s old seq rel) where
+  abbrev of : Leb
+  of = (id, lnum)
+
+  abbrev header : VidHeader
+  header = copy_header 0 (data_pad s r) id lnum sqnum new
+
+  sizes : m.sizes ≡ s
+  sizes = a.means.sizes
+
+  fits_leb : length new ≤ leb_size s
+  fits_leb = let k = n.short in omega arith
+
+  wide : leb_size s < 2 ^ 31
+  wide = omega (arith, g.peb_to)
+
+  copy_is : IsCopy s bs seq of bytes e header new
+  copy_is = record {
+    size = prepared.size;
+    reads = prepared.reads;
+    image = prepared.image;
+    fits = copy_fits s r id lnum sqnum new slot number half wide n.some fits_leb few;
+    sound = copy_sound s r id lnum sqnum new slot number half wide n.some fits_leb;
+    known = user_known id slot;
+    placed = λ k. (let far = k.0 in omega arith);
+    named = refl;
+    above = above;
+    copied = refl;
+    data_size = refl;
+    data_crc = refl;
+    paged = n.paged;
+    room = (let k = fits_leb in let l = g.leb in omega arith);
+    strong = n.strong;
+  }
+
+  used : AllBlank s bs → ⊥
+  used = used_by_volume s bs m a id _ was
+
+  short : length new ≤ usable m.sizes r
+  short = subst (λ (z : Sizes). length new ≤ usable z r) (sym sizes) n.short
+
+  abbrev next : Meant
+  next = change.next m a.means.meaning id lnum new r lebs was n.inside short
+
+  change_is : IsChanged m next id lnum r (filled (usable m.sizes r) new)
+  change_is = change.changed-next m a.means.meaning id lnum new r lebs was n.inside short
+
+  old_means : SlotMeans s bs id (finite.get a.records.of id) (Some (record { entry = r; content = content.Dynamic lebs }))
+  old_means = subst (λ (o : Option Volume). SlotMeans s bs id (finite.get a.records.of id) o) was (a.means.slots id)
+
+  recorded : finite.get a.records.of id ≡ Some r
+  recorded = recorded_by s bs id (finite.get a.records.of id) _ old_means
+
+  dynamic : r.kind ≡ kind.Dynamic
+  dynamic = (subst (λ (o : Option VolumeRecord). SlotMeans s bs id o (Some (record { entry = r; content = content.Dynamic lebs }))) recorded old_means).1.1
+
+  counts : IsOutside a.records of → ⊥
+  counts = within_counts a.records id r lnum recorded (λ _. n.inside)
+
+  like : IsUnlike s r header → ⊥
+  like (inl k) = k (sym dynamic)
+  like (inr k) = k refl
+
+  abbrev P : List (List ℕ) → Type 0
+  P x = AcceptsBlocks s x m
+
+  abbrev Q : List (List ℕ) → Type 0
+  Q x = AcceptsBlocks s x next
+
+  bad : (x : List ℕ) → IsMount s seq bs of header x → is_good s x header ≡ false → P (set bs b x)
+  bad x mount k = mounted_bad s bs b x inside of header seq agrees mount m a used loses counts old wins k
+
+  room : usable s r ≤ length new + (s.peb_size - (s.data_offset + length new))
+  room = let k = fits_leb in let l = g.leb in omega arith
+
+  good : (x : List ℕ) → IsMount s seq bs of header x → is_good s x header ≡ true → leb s x ≡ new ++ blank (s.peb_size - (s.data_offset + length new)) → Q (set bs b x)
+  good x mount k text =
+      let reads : filled (usable m.sizes r) new ≡ take (usable s r) (leb s x) =
+      ap (λ (z : Sizes). filled (usable z r) new) sizes ∙ sym (take_filled (usable s r) new (s.peb_size - (s.data_offset + length new)) n.short room) ∙ ap (take (usable s r)) (sym text) in
+      mounted_good s bs b x inside id lnum header seq agrees mount k m next a used loses (λ z. (let l = slot in omega arith)) r (filled (usable m.sizes r) new) change_is reads like
+
+  -- once the copy is good, the old winner wins nothing
+  apart : old ≢ b
+  apart z = loses of counts (subst (Wins s bs of) z wins)
+
+  old_loses : (x : List ℕ) (mount : IsMount s seq bs of header x) → is_good s x header ≡ true → (other : Leb) → Wins s (set bs b x) other old → ⊥
+  old_loses x mount k other w =
+      let here = member_was s bs b x inside other old apart w.member in
+      let same : other ≡ of = one_name s bs a.records old other of here wins.member in
+      let clean : NoFault s (set bs b x) = mounted_clean s bs b x inside of header seq agrees mount a.clean in
+      apart (Wins-unique s (set bs b x) of old b clean (subst (λ (o : Leb). Wins s (set bs b x) o old) same w) (mounted_wins s bs b x inside of header seq agrees mount k))
+
+  abbrev full : List ℕ
+  full = copy.part_at s g bs b inside seq of bytes e header new copy_is P Q (pages_of s new)
+
+  full_mount : IsMount s seq bs of header full
+  full_mount = copy.mount_at s g bs b inside seq of bytes e header new copy_is P Q (pages_of s new) (omega arith)
+
+  place : whole_place s new ≤ pages_of s new
+  place = (whole_place-is s new n.paged).most
+
+  full_good : is_good s full header ≡ true
+  full_good = copy.good_at s g bs b inside seq of bytes e header new copy_is P Q (pages_of s new) (omega arith) ∙ told-from s new n.paged (pages_of s new) place (omega arith)
+
+  full_accepted : Q (set bs b full)
+  full_accepted = good full full_mount full_good (copy.whole_at s g bs b inside seq of bytes e header new copy_is P Q (pages_of s new) place (omega arith))
+
+  old_inside : old < length (set bs b full)
+  old_inside = let l = wins.member.inside in omega (arith, length-set bs b full)
+
+  late_by : IsRelease s old seq rel → AtEachCut s Q (set bs b full) rel
+  late_by (inl z) = subst (AtEachCut s Q (set bs b full)) (sym z) (λ k l. subst Q (sym (none_after k)) full_accepted)
+    where
+      none_after : (k : ℕ) → after s (set bs b full) [] k ≡ set bs b full
+      none_after zero = refl
+      none_after (suc k) = refl
+  late_by (inr z) =
+      subst (AtEachCut s Q (set bs b full)) (sym z.3)
+      (renew_accepted s g z.0 z.1 (set bs b full) old old_inside seq next full_accepted (used_by_volume s (set bs b full) next full_accepted id _ change_is.is)
+      (agrees_set s bs b full inside seq agrees full_mount.image) (λ other _. old_loses full full_mount full_good other) z.2)
+
+  -- cut after any step, the eraseblocks are accepted: before the turn with the old meaning, from it on with the new
+  pub mapped : TurnsAt s P (λ x. AcceptsBlocks s x (changed m id lnum new)) bs ((prep ++ program_header s b bytes header ∷ []) ++ program_text s b new ++ rel) (length prep + suc (whole_place s new))
+  mapped =
+      subst (λ (k : Meant). TurnsAt s P (λ x. AcceptsBlocks s x k) bs ((prep ++ program_header s b bytes header ∷ []) ++ program_text s b new ++ rel) (length prep + suc (whole_place s new)))
+      (sym (change.changed-is m a.means.meaning id lnum new r lebs was n.inside short))
+      (copy.atomic_turns s g bs b inside seq of bytes e header new copy_is P Q prep rel prepared.cuts prepared.ready bad good (late_by release))

@@ -1,0 +1,65 @@
+-- An eraseblock that is taken is made ready.
+use Rattle.std.proofs.Common.{◌≡◌, ◌≢◌, ℕ, zero, suc, ◌-◌, ◌<◌, ◌≤◌, true, List, [], ◌++◌, length, set, take, drop, refl, ap, sym, ◌∙◌, arith, length-drop}
+use Rattle.std.specs.Prelude.{IsSome}
+use Rattle.std.proofs.lemmas.List.{length-take-le, set-get_or, take-append-drop}
+use Rattle.ubi_media.specs.Ec.{ec_bytes}
+use Rattle.ubi_media.specs.Fields.{filled, is_blank}
+use Rattle.ubi_media.specs.Geometry.{Sizes, IsGeometry}
+use Rattle.ubi_media.specs.declared.ec.EcHeader.{EcHeader}
+use Rattle.ubi_media.specs.declared.ec.EcRead.{EcRead}
+use Rattle.ubi_media.specs.declared.ec.EcRead.TheVariants as ec_read
+use Rattle.ubi_scan.specs.Image.{block, ec, ec_area}
+use Rattle.ubi_scan.specs.Numbers.{seq_if, valid_ec}
+use Rattle.ubi_table.specs.Table.{AllBlank}
+use Rattle.ubi_volume.specs.Accepts.{AcceptsBlocks}
+use Rattle.ubi_volume.specs.Meant.{Meant}
+use Rattle.ubi_volume.proofs.Blanks.{blank_text}
+use Rattle.ubi_change.specs.Plan.{renew}
+use Rattle.ubi_scan.proofs.Filled.{filled-by}
+use Rattle.ubi_change.proofs.Mapped.{IsPrepared}
+use Rattle.ubi_change.proofs.Renewed.{IsCounter, counter_back, counter_size, renew_accepted, renewed}
+use Rattle.ubi_change.proofs.Runs.{AtEachCut}
+use Rattle.ubi_change.proofs.Seq.{Agrees}
+use Rattle.ubi_change.proofs.Vacated.{LosesAll}
+
+-- a Valid header is one
+pub valid_is : (o : EcRead) → IsSome (valid_ec o) → (e : EcHeader) × (o ≡ ec_read.Valid e)
+valid_is ec_read.Blank h = absurd (cc)
+valid_is ec_read.Corrupt h = absurd (cc)
+valid_is (ec_read.Fault f) h = absurd (cc)
+valid_is (ec_read.Valid e) h = (e, refl)
+
+module _ (s : Sizes) (g : IsGeometry s) (bs : List (List ℕ)) (m : Meant) (a : AcceptsBlocks s bs m) (b : ℕ) (inside : b < length bs) (seq : ℕ) (agrees : Agrees s seq bs) where
+  -- no step leaves all as it is
+  pub no_steps : AtEachCut s (λ x. AcceptsBlocks s x m) bs []
+  no_steps zero l = a
+  no_steps (suc k) l = a
+
+  -- a clean one is ready
+  pub clean_prepared : length (block bs b) ≡ s.peb_size → is_blank (drop 64 (block bs b)) ≡ true → (e : EcHeader) → ec s (block bs b) ≡ ec_read.Valid e
+      → IsPrepared s bs m b seq [] (ec_area (block bs b)) e
+  clean_prepared whole empty e valid =
+      let y = block bs b in
+      let wide : 64 ≤ s.peb_size = omega (arith, g.page_from, g.peb_from) in
+      let size : length (take 64 y) ≡ 64 = length-take-le 64 y (omega arith) in
+      let rest : length (drop 64 y) ≡ s.peb_size - 64 = length-drop 64 y ∙ omega arith in
+      let is : filled s.peb_size (take 64 y) ≡ y =
+      filled-by s.peb_size 64 (take 64 y) size ∙ ap (λ z. take 64 y ++ z) (sym (blank_text (drop 64 y) (s.peb_size - 64) empty rest)) ∙ take-append-drop 64 y in
+      record {
+        cuts = no_steps;
+        ready = sym (ap (set bs b) is ∙ set-get_or bs b []);
+        size = size;
+        reads = valid;
+        image = λ h. (let named = ap seq_if valid in sym named ∙ agrees b inside (λ z. h (sym named ∙ z)));
+      }
+
+  -- any other is after an erase
+  pub renew_prepared : (AllBlank s bs → ⊥) → LosesAll s bs a.records b → (e : EcHeader) → IsCounter e → (e.image_seq ≢ 0 → e.image_seq ≡ seq)
+      → IsPrepared s bs m b seq (renew s b e) (ec_bytes s e) e
+  renew_prepared used loses e counter image = record {
+    cuts = renew_accepted s g e counter bs b inside seq m a used agrees loses image;
+    ready = renewed s g e counter bs b inside;
+    size = counter_size s g e counter;
+    reads = counter_back s g e counter;
+    image = image;
+  }

@@ -1,0 +1,7 @@
+use Rattle.std.proofs.Common.{◌≡◌, ◌*◌}
+use Rattle.ubi_media.specs.Check.{check_from}
+use Rattle.ubi_media.specs.Fields.{blank}
+use Rattle.ubi_change.proofs.weakness.check_with_blank.Given as goal
+
+abbrev pub invariant-loop : goal.invariant-loop
+invariant-loop l = l.register ≡ check_from l.state (blank (l.counter * 64))

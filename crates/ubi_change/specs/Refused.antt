@@ -1,0 +1,64 @@
+-- Why a change isn't planned, in the order in which the causes are tried.
+use Rattle.std.specs.Prelude.{◌≡◌, ℕ, ◌+◌, ◌%◌, ◌==◌, ◌||◌, Bool, true, false, not, nat_lt, List, [], ◌∷◌, length, Option, Some, None, option_map}
+use Rattle.std.specs.Bool.{then_some}
+use Rattle.std.specs.FinMap.{get}
+use Rattle.std.specs.Option.{option_map_or}
+use Rattle.ubi_media.specs.Geometry.{Sizes}
+use Rattle.ubi_media.specs.Record.{usable}
+use Rattle.ubi_media.specs.declared.refusal.AttachError.{AttachError}
+use Rattle.ubi_media.specs.declared.refusal.AttachError.TheVariants as attach
+use Rattle.ubi_media.specs.declared.record.VolumeRecord.{VolumeRecord}
+use Rattle.ubi_media.specs.declared.vid.VolKind.{VolKind}
+use Rattle.ubi_media.specs.declared.vid.VolKind.TheVariants as kind
+use Rattle.ubi_scan.specs.Image.{Image, eraseblocks}
+use Rattle.ubi_volume.specs.Accepts.{Refuses}
+use Rattle.ubi_volume.specs.Attached.{Whole, IsAttached}
+use Rattle.ubi_change.specs.Plan.{needs}
+use Rattle.ubi_change.specs.Takeable.{takeable}
+use Rattle.ubi_change.specs.Weak.{weak_place}
+use Rattle.ubi_change.specs.declared.refusal.ChangeRefusal.{ChangeRefusal}
+use Rattle.ubi_change.specs.declared.refusal.ChangeRefusal.TheVariants as refusal
+
+abbrev pub is_static : VolKind → Bool
+is_static kind.Static = true
+is_static kind.Dynamic = false
+
+-- the cause that an attach gives
+abbrev pub from_attach : AttachError → ChangeRefusal
+from_attach (attach.Refused c) = refusal.Attach c
+from_attach attach.Memory = refusal.Memory
+
+-- whether a length is no number of whole pages, or none, or above a limit
+abbrev pub is_bad_length : Sizes → ℕ → ℕ → Bool
+is_bad_length s limit n = (n == 0) || not (n % s.page == 0) || nat_lt limit n
+
+-- the first of some causes that stands
+abbrev pub first_of : List (Option ChangeRefusal) → Option ChangeRefusal
+first_of [] = None
+first_of (Some c ∷ rest) = Some c
+first_of (None ∷ rest) = first_of rest
+
+module _ (s : Sizes) (bs : List (List ℕ)) (a : Whole) where
+  -- why a LEB of a volume with this record isn't changed, each cause where it stands
+  abbrev pub causes : VolumeRecord → ℕ → ℕ → List ℕ → List (Option ChangeRefusal)
+  causes r id lnum new =
+      then_some (is_static r.kind) refusal.StaticVolume
+      ∷ then_some r.marker refusal.Updating
+      ∷ then_some (not (nat_lt lnum r.reserved)) refusal.OutOfRange
+      ∷ then_some (is_bad_length s (usable s r) (length new)) refusal.BadLength
+      ∷ option_map refusal.WeakCheck (weak_place s new)
+      ∷ then_some (nat_lt 0xFFFFFFFFFFFFFFFF (a.scan.top_sqnum + needs s bs a id lnum)) refusal.Exhausted
+      ∷ then_some (nat_lt (length (takeable s bs a.states)) (needs s bs a id lnum)) refusal.NoFree
+      ∷ []
+
+  -- the first cause not to change a LEB of an attached image
+  abbrev pub first_cause : ℕ → ℕ → List ℕ → Option ChangeRefusal
+  first_cause id lnum new =
+      option_map_or (λ v. first_of (causes v.entry id lnum new)) (get a.meaning.volumes id) (Some refusal.NoVolume)
+
+-- why a change isn't planned
+abbrev pub IsChangeRefusal : Image → ℕ → ℕ → List ℕ → ChangeRefusal → Type 0
+IsChangeRefusal image id lnum new refusal.Memory = Unit {0}
+IsChangeRefusal image id lnum new (refusal.Attach c) = Refuses image c
+IsChangeRefusal image id lnum new c =
+    (a : Whole) × IsAttached image a × (first_cause image.sizes (eraseblocks image) a id lnum new ≡ Some c)

@@ -1,0 +1,58 @@
+//! The eraseblocks that a plan works on.
+
+ghost use Rattle.std.specs.Prelude.{◌≡◌, IfErr, IfOk, Some, length};
+ghost use Rattle.ubi_change.specs.Making.{ArePlaces, image_causes};
+ghost use Rattle.ubi_change.specs.Refused.{first_of};
+ghost use Rattle.ubi_scan.specs.Image.{eraseblocks};
+
+use crate::refusal::ChangeRefusal;
+use crate::taking::first_takeable;
+use ubi_scan::Blocks;
+use ubi_volume::Attached;
+
+/// The eraseblocks that a plan works on.
+#[derive(Clone, Copy)]
+pub enum Places {
+    /// The logical eraseblock has a winner.
+    Mapped {
+        /// The eraseblock that gets the copy.
+        copy: u32,
+        /// The winner.
+        old: u32,
+    },
+    /// The logical eraseblock has none.
+    Unmapped {
+        /// The eraseblock that gets a blank one first.
+        first: u32,
+        /// The eraseblock that gets the copy.
+        copy: u32,
+    },
+}
+
+/// The eraseblocks that the plan of a change works on.
+///
+/// # Errors
+///
+/// `Exhausted`, and else `NoFree`.
+pub fn places_of(
+    blocks: &Blocks<'_>,
+    attached: &Attached,
+    id: u32,
+    lnum: u32,
+) -> Result<Places, ChangeRefusal>
+    requires { length attached.now.states ≡ length (eraseblocks blocks.now) }
+    ensures places { IfOk result (ArePlaces blocks.now.sizes (eraseblocks blocks.now) attached.now id lnum) }
+    ensures refused { IfErr result (λ e. first_of (image_causes blocks.now.sizes (eraseblocks blocks.now) attached.now id lnum) ≡ Some e) }
+{
+    let winner = attached.winner(id, lnum);
+    let needed = if winner.is_some() { 1 } else { 2 };
+    if attached.top_sqnum() > u64::MAX - needed {
+        return Err(ChangeRefusal::Exhausted);
+    }
+    let taken = first_takeable(blocks, attached);
+    match (winner, taken.first, taken.second) {
+        (Some(old), Some(copy), _) => Ok(Places::Mapped { copy, old }),
+        (None, Some(first), Some(copy)) => Ok(Places::Unmapped { first, copy }),
+        _ => Err(ChangeRefusal::NoFree),
+    }
+}

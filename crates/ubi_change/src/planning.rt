@@ -1,0 +1,189 @@
+//! The plan of an atomic change.
+
+ghost use Rattle.std.specs.Prelude.{◌≡◌, ◌%◌, ◌^◌, ◌<◌, IfErr, IfOk, length};
+ghost use Rattle.ubi_change.specs.Headers.{blank_header, copy_header};
+ghost use Rattle.ubi_change.specs.Making.{AreWithin, mapped_steps, steps_on, unmapped_steps};
+ghost use Rattle.ubi_change.specs.Planned.{IsPlan, SurvivesCutsOf};
+ghost use Rattle.ubi_change.specs.Refused.{IsChangeRefusal};
+ghost use Rattle.ubi_scan.specs.Image.{eraseblocks};
+
+use crate::causes::own_cause;
+use crate::places::{Places, places_of};
+use crate::pushing::{Replacement, push_copy, push_mount, ready_ec};
+use crate::refusal::ChangeRefusal;
+use crate::step::Step;
+use crate::taking::ec_at;
+use std::alloc::{AllocError, Global};
+use ubi_media::{Geometry, VidHeader, VolKind, VolumeRecord, crc};
+use ubi_scan::Blocks;
+use ubi_volume::{Attached, attach};
+
+/// A logical eraseblock of a dynamic volume.
+#[derive(Clone, Copy)]
+pub struct Target {
+    /// The number of the volume.
+    pub id: u32,
+    /// The number of the logical eraseblock.
+    pub lnum: u32,
+    /// The bytes that the volume leaves free at the end of each logical eraseblock.
+    pub data_pad: u32,
+}
+
+impl Target {
+    /// The header under which the logical eraseblock reads 0xFF.
+    fn blank_header(&self, sqnum: u64) -> VidHeader
+        ensures { result ≡ blank_header self.now.data_pad self.now.id self.now.lnum sqnum }
+    {
+        VidHeader {
+            kind: VolKind::Dynamic,
+            copy_flag: false,
+            compat: 0,
+            vol_id: self.id,
+            lnum: self.lnum,
+            data_size: 0,
+            used_ebs: 0,
+            data_pad: self.data_pad,
+            data_crc: 0,
+            sqnum,
+        }
+    }
+
+    /// The header of a copy of a text.
+    fn copy_header(&self, sqnum: u64, new: &[u8]) -> VidHeader
+        requires { length new.now < 2 ^ 31 }
+        ensures { result ≡ copy_header 0 self.now.data_pad self.now.id self.now.lnum sqnum new.now }
+    {
+        VidHeader {
+            copy_flag: true,
+            data_size: new.len() as u32,
+            data_crc: crc(new),
+            ..self.blank_header(sqnum)
+        }
+    }
+}
+
+/// The steps for a logical eraseblock with a winner: a copy, and then the winner is erased.
+fn mapped_steps(
+    alloc: Global,
+    blocks: &Blocks<'_>,
+    attached: &Attached,
+    target: &Target,
+    new: &[u8],
+    copy: u32,
+    old: u32,
+) -> Result<Vec<Step>, AllocError>
+    requires states { length attached.now.states ≡ length (eraseblocks blocks.now) }
+    requires paged { length new.now % blocks.now.sizes.page ≡ 0 }
+    requires short { length new.now < 2 ^ 31 }
+    requires within { AreWithin blocks.now.sizes (eraseblocks blocks.now) attached.now (Places.Mapped copy old) }
+    ensures { IfOk result (λ steps. steps.items ≡ mapped_steps blocks.now.sizes (eraseblocks blocks.now) attached.now target.now new.now copy old) }
+{
+    let copy = Replacement {
+        target: copy,
+        header: target.copy_header(attached.top_sqnum() + 1, new),
+        old,
+        old_ec: ec_at(blocks, old),
+    };
+    let mut steps = Vec::new(alloc);
+    push_copy(alloc, &mut steps, blocks, attached, &copy, new)?;
+    Ok(steps)
+}
+
+/// The steps for a logical eraseblock without a winner: a blank one, a copy, and then the blank one is erased.
+fn unmapped_steps(
+    alloc: Global,
+    blocks: &Blocks<'_>,
+    attached: &Attached,
+    target: &Target,
+    new: &[u8],
+    first: u32,
+    copy: u32,
+) -> Result<Vec<Step>, AllocError>
+    requires states { length attached.now.states ≡ length (eraseblocks blocks.now) }
+    requires mean { attached.now.scan.mean_ec < 2 ^ 31 }
+    requires paged { length new.now % blocks.now.sizes.page ≡ 0 }
+    requires short { length new.now < 2 ^ 31 }
+    requires within { AreWithin blocks.now.sizes (eraseblocks blocks.now) attached.now (Places.Unmapped first copy) }
+    ensures { IfOk result (λ steps. steps.items ≡ unmapped_steps blocks.now.sizes (eraseblocks blocks.now) attached.now target.now new.now first copy) }
+{
+    let header = target.blank_header(attached.top_sqnum() + 1);
+    let copy = Replacement {
+        target: copy,
+        header: target.copy_header(attached.top_sqnum() + 2, new),
+        old: first,
+        old_ec: ready_ec(blocks, attached, first),
+    };
+    let mut steps = Vec::new(alloc);
+    push_mount(alloc, &mut steps, blocks, attached, first, &header)?;
+    push_copy(alloc, &mut steps, blocks, attached, &copy, new)?;
+    Ok(steps)
+}
+
+/// The steps that work on these eraseblocks.
+fn steps_on(
+    alloc: Global,
+    blocks: &Blocks<'_>,
+    attached: &Attached,
+    target: &Target,
+    new: &[u8],
+    places: Places,
+) -> Result<Vec<Step>, AllocError>
+    requires states { length attached.now.states ≡ length (eraseblocks blocks.now) }
+    requires mean { attached.now.scan.mean_ec < 2 ^ 31 }
+    requires paged { length new.now % blocks.now.sizes.page ≡ 0 }
+    requires short { length new.now < 2 ^ 31 }
+    requires within { AreWithin blocks.now.sizes (eraseblocks blocks.now) attached.now places }
+    ensures { IfOk result (λ steps. steps.items ≡ steps_on blocks.now.sizes (eraseblocks blocks.now) attached.now target.now new.now places) }
+{
+    match places {
+        Places::Mapped { copy, old } => {
+            mapped_steps(alloc, blocks, attached, target, new, copy, old)
+        }
+        Places::Unmapped { first, copy } => {
+            unmapped_steps(alloc, blocks, attached, target, new, first, copy)
+        }
+    }
+}
+
+/// The steps that give a logical eraseblock of a dynamic volume new bytes, and 0xFF behind them.
+///
+/// The new bytes are whole pages, at least one, and no more than the volume uses of a logical eraseblock. Cut after any of
+/// the steps, the image is accepted and means the old or the new.
+///
+/// Not proved yet, and so no clause says it: that each step fits what those before it leave, that pages rise between two
+/// erases of an eraseblock, and that each eraseblock that is erased counts it.
+///
+/// # Errors
+///
+/// The first cause in the order of [`ChangeRefusal`] that stands, or `Memory`.
+pub fn plan_change(
+    alloc: Global,
+    geometry: &Geometry,
+    image: &[u8],
+    id: u32,
+    lnum: u32,
+    new: &[u8],
+) -> Result<Vec<Step>, ChangeRefusal>
+    ensures survives { IfOk result (λ steps. SurvivesCutsOf (record { sizes = geometry.now; bytes = image.now }) id lnum new.now steps.items) }
+    ensures plan { IfOk result (λ steps. IsPlan (record { sizes = geometry.now; bytes = image.now }) id lnum new.now steps.items) }
+    ensures refused { IfErr result (IsChangeRefusal (record { sizes = geometry.now; bytes = image.now }) id lnum new.now) }
+{
+    let blocks = Blocks::new(geometry, image)?;
+    let attached = attach(alloc, geometry, image)?;
+    // The law that plans survive asks for both.
+    prove!(geometry.page() >= 64);
+    prove!(attached.image_seq() <= u32::MAX);
+    let Some(volume) = attached.meaning().get(id) else {
+        return Err(ChangeRefusal::NoVolume);
+    };
+    if let Some(cause) = own_cause(geometry, &volume.entry, lnum, new) {
+        return Err(cause);
+    }
+    let places = places_of(&blocks, &attached, id, lnum)?;
+    let target = Target {
+        id,
+        lnum,
+        data_pad: volume.entry.data_pad(geometry),
+    };
+    Ok(steps_on(alloc, &blocks, &attached, &target, new, places)?)
+}

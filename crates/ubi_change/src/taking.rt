@@ -1,0 +1,167 @@
+//! Which eraseblocks a plan takes.
+
+ghost use Rattle.std.specs.Prelude.{◌≡◌, ◌≤◌, ◌<◌, ◌&&◌, IfSome, filter, length};
+ghost use Rattle.ubi_change.specs.Making.{first_two, is_wanted, joined, with_next};
+ghost use Rattle.ubi_change.specs.Takeable.{able, ec_at, is_clean, is_free, is_takeable, is_unused, is_worn, takeable};
+ghost use Rattle.ubi_scan.specs.Image.{block, ec_area, eraseblocks};
+
+use ubi_media::{EcHeader, EcRead, is_blank};
+use ubi_scan::Blocks;
+use ubi_volume::{Attached, BlockState};
+
+/// The greatest erase counter.
+const LARGEST_COUNTER: u32 = 0x7FFF_FFFF;
+
+/// The bytes of an erase-counter header.
+const HEADER_SIZE: usize = 64;
+
+/// The first two of some eraseblocks, as far as there are so many.
+#[derive(Clone, Copy)]
+pub struct FirstTwo {
+    /// The first.
+    pub first: Option<u32>,
+    /// The second.
+    pub second: Option<u32>,
+}
+
+impl FirstTwo {
+    /// Those of one eraseblock more.
+    fn with(self, p: u32) -> FirstTwo
+        ensures { result ≡ with_next self p }
+    {
+        match (self.first, self.second) {
+            (None, second) => FirstTwo {
+                first: Some(p),
+                second,
+            },
+            (first, None) => FirstTwo {
+                first,
+                second: Some(p),
+            },
+            (first, second) => FirstTwo { first, second },
+        }
+    }
+
+    /// Those of these eraseblocks and then others.
+    fn followed_by(self, others: FirstTwo) -> FirstTwo
+        ensures { result ≡ joined self others }
+    {
+        match (self.first, self.second) {
+            (None, _) => others,
+            (first, None) => FirstTwo {
+                first,
+                second: others.first,
+            },
+            (first, second) => FirstTwo { first, second },
+        }
+    }
+}
+
+/// Whether nothing is lost with an eraseblock in this state.
+fn is_unused(state: BlockState) -> bool
+    ensures { result ≡ is_unused state }
+{
+    match state {
+        BlockState::Free
+        | BlockState::Blank
+        | BlockState::Stale
+        | BlockState::Orphan
+        | BlockState::Dropped
+        | BlockState::Garbage => true,
+        BlockState::Corrupt | BlockState::Table | BlockState::Used => false,
+    }
+}
+
+/// Whether an eraseblock in this state is free.
+fn is_free(state: BlockState) -> bool
+    ensures { result ≡ is_free state }
+{
+    matches!(state, BlockState::Free)
+}
+
+/// Whether an erase-counter header can't count another erase.
+pub fn is_worn(header: Option<EcHeader>) -> bool
+    ensures { result ≡ is_worn header }
+{
+    match header {
+        Some(header) => header.counter == LARGEST_COUNTER,
+        None => false,
+    }
+}
+
+/// The erase-counter header of an eraseblock, None where it is blank or corrupt.
+pub fn ec_at(blocks: &Blocks<'_>, p: u32) -> Option<EcHeader>
+    requires { p < length (eraseblocks blocks.now) }
+    ensures value { result ≡ ec_at blocks.now.sizes (eraseblocks blocks.now) p }
+    ensures small { IfSome result (λ header. header.counter ≤ 0x7FFFFFFF) }
+{
+    match blocks.ec(p) {
+        EcRead::Valid(header) => Some(header),
+        EcRead::Blank | EcRead::Corrupt | EcRead::Fault(_) => None,
+    }
+}
+
+/// The bytes of the erase-counter header of an eraseblock, as they stand.
+pub fn ec_area<'a>(blocks: &Blocks<'a>, p: u32) -> &'a [u8]
+    requires { p < length (eraseblocks blocks.now) }
+    ensures value { result.now ≡ ec_area (block (eraseblocks blocks.now) p) }
+    ensures size { length result.now ≡ 64 }
+{
+    prove!(blocks.geometry().peb_size() >= 64);
+    &blocks.block(p)[..HEADER_SIZE]
+}
+
+/// Whether an eraseblock may be taken: nothing is lost with it, and it can count another erase.
+fn is_takeable(blocks: &Blocks<'_>, attached: &Attached, p: u32) -> bool
+    requires states { length attached.now.states ≡ length (eraseblocks blocks.now) }
+    requires inside { p < length (eraseblocks blocks.now) }
+    ensures { result ≡ is_takeable blocks.now.sizes (eraseblocks blocks.now) attached.now.states p }
+{
+    is_unused(attached.state(p)) && !is_worn(ec_at(blocks, p))
+}
+
+/// Whether an eraseblock needs no erase before it is written: it is free, and blank but for its erase-counter header.
+pub fn is_clean(blocks: &Blocks<'_>, attached: &Attached, p: u32) -> bool
+    requires states { length attached.now.states ≡ length (eraseblocks blocks.now) }
+    requires inside { p < length (eraseblocks blocks.now) }
+    ensures { result ≡ is_clean blocks.now.sizes (eraseblocks blocks.now) attached.now.states p }
+{
+    prove!(blocks.geometry().peb_size() >= 64);
+    is_free(attached.state(p)) && is_blank(&blocks.block(p)[HEADER_SIZE..])
+}
+
+/// Whether an eraseblock may be taken, and is clean or isn't.
+fn is_wanted(blocks: &Blocks<'_>, attached: &Attached, clean: bool, p: u32) -> bool
+    requires states { length attached.now.states ≡ length (eraseblocks blocks.now) }
+    requires inside { p < length (eraseblocks blocks.now) }
+    ensures { let s = blocks.now.sizes in let bs = eraseblocks blocks.now in
+        result ≡ (is_takeable s bs attached.now.states p && is_wanted s bs attached.now.states clean p) }
+{
+    is_takeable(blocks, attached, p) && is_clean(blocks, attached, p) == clean
+}
+
+/// The first two of the eraseblocks that may be taken and are clean, or of those that aren't.
+fn first_wanted(blocks: &Blocks<'_>, attached: &Attached, clean: bool) -> FirstTwo
+    requires { length attached.now.states ≡ length (eraseblocks blocks.now) }
+    ensures { let s = blocks.now.sizes in let bs = eraseblocks blocks.now in
+        result ≡ first_two (filter (is_wanted s bs attached.now.states clean) (able s bs attached.now.states)) }
+{
+    let mut found = FirstTwo {
+        first: None,
+        second: None,
+    };
+    for p in 0..blocks.count() {
+        if is_wanted(blocks, attached, clean, p) {
+            found = found.with(p);
+        }
+    }
+    found
+}
+
+/// The first two of the eraseblocks that may be taken: the clean ones first, and each of both kinds by rising number.
+pub fn first_takeable(blocks: &Blocks<'_>, attached: &Attached) -> FirstTwo
+    requires { length attached.now.states ≡ length (eraseblocks blocks.now) }
+    ensures { result ≡ first_two (takeable blocks.now.sizes (eraseblocks blocks.now) attached.now.states) }
+{
+    first_wanted(blocks, attached, true).followed_by(first_wanted(blocks, attached, false))
+}
