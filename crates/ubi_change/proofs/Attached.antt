@@ -46,6 +46,7 @@ use Rattle.ubi_change.proofs.Premises.{counter_behind, next_counter, ready, take
 use Rattle.ubi_scan.proofs.Parts.{laid}
 use Rattle.ubi_change.proofs.Renewed.{IsCounter}
 use Rattle.ubi_change.proofs.Replaced.{block_other}
+use Rattle.ubi_change.proofs.Runs.{done}
 use Rattle.ubi_change.proofs.Seq.{Agrees, seq_agrees}
 use Rattle.ubi_change.proofs.Survives.{survives}
 use Rattle.ubi_change.proofs.Top.{member_below}
@@ -153,7 +154,7 @@ module _ (image : Image) (g : IsGeometry image.sizes) (a : Whole) (att : IsAttac
   slot : id < 128
   slot = let l = volume.slot in omega arith
 
-  no_cause : IsAllowed s bs a v.entry id lnum new
+  pub no_cause : IsAllowed s bs a v.entry id lnum new
   no_cause = is_allowed s bs a v.entry id lnum new (ap (λ (o : Option Volume). option_map_or (λ (v : Volume). first_of (causes s bs a v.entry id lnum new)) o (Some refusal.NoVolume)) (sym there) ∙ allowed)
 
   held : (lebs : FinMap nat_cmp (List ℕ)) × (v.content ≡ content.Dynamic lebs)
@@ -197,7 +198,7 @@ module _ (image : Image) (g : IsGeometry image.sizes) (a : Whole) (att : IsAttac
   used : AllBlank s bs → ⊥
   used = used_by_volume s bs a.meaning acc id v there
 
-  fits_leb : length new ≤ leb_size s
+  pub fits_leb : length new ≤ leb_size s
   fits_leb = let k = no_cause.is_new.short in omega arith
 
   wide : leb_size s < 2 ^ 31
@@ -208,17 +209,16 @@ module _ (image : Image) (g : IsGeometry image.sizes) (a : Whole) (att : IsAttac
     needs-one : needs s bs a id lnum ≡ 1
     needs-one = ap (λ (o : Option ℕ). option_map_or (λ _. 1) o 2) found
 
-    b : ℕ
+    abbrev pub b : ℕ
     b = taken s bs a 0
 
-    may : MayBeTaken s bs a.states b
-    unfolding b
+    pub may : MayBeTaken s bs a.states b
     may = may_be_taken s bs a.states 0 (let e = no_cause.enough in let n = needs-one in omega arith)
 
     wins : Wins s bs (id, lnum) old
     wins = found_wins s bs a.scan att.scan (id, lnum) old found
 
-    made : (e : EcHeader) × (ready_ec s bs a b ≡ Some e) × IsPrepared s bs a.meaning b a.scan.image_seq (prepare s bs a b) (ready_bytes s bs a b) e
+    pub made : (e : EcHeader) × (ready_ec s bs a b ≡ Some e) × IsPrepared s bs a.meaning b a.scan.image_seq (prepare s bs a b) (ready_bytes s bs a b) e
     made = ready s g bs a acc.records states b may bs a.meaning acc may.0 refl (whole b may.0) agrees used (taken_loses s g bs a acc.records states b may) few narrow
 
     few_numbers : a.scan.top_sqnum + 1 < 2 ^ 64
@@ -237,7 +237,6 @@ module _ (image : Image) (g : IsGeometry image.sizes) (a : Whole) (att : IsAttac
         (release_is old (ec_at s bs old) (next_counter s bs a few narrow old)))
 
     pub survives_mapped : SurvivesCuts s bs a.meaning id lnum new (plan_of s bs a v.entry id lnum new)
-    unfolding b
     survives_mapped =
         subst (SurvivesCuts s bs a.meaning id lnum new)
         (sym (ap (λ (o : Option ℕ). option_map_or (mapped_plan s bs a v.entry id lnum new (taken s bs a 0)) o (unmapped_plan s bs a v.entry id lnum new (taken s bs a 0) (taken s bs a 1))) found))
@@ -248,19 +247,19 @@ module _ (image : Image) (g : IsGeometry image.sizes) (a : Whole) (att : IsAttac
     needs-two : needs s bs a id lnum ≡ 2
     needs-two = ap (λ (o : Option ℕ). option_map_or (λ _. 1) o 2) found
 
-    abbrev e0 : ℕ
+    abbrev pub e0 : ℕ
     e0 = taken s bs a 0
 
-    abbrev b1 : ℕ
+    abbrev pub b1 : ℕ
     b1 = taken s bs a 1
 
     enough : 1 < length (takeable s bs a.states)
     enough = let e = no_cause.enough in let n = needs-two in omega arith
 
-    may0 : MayBeTaken s bs a.states e0
+    pub may0 : MayBeTaken s bs a.states e0
     may0 = may_be_taken s bs a.states 0 (let e = enough in omega arith)
 
-    may1 : MayBeTaken s bs a.states b1
+    pub may1 : MayBeTaken s bs a.states b1
     may1 = may_be_taken s bs a.states 1 enough
 
     apart : b1 ≢ e0
@@ -275,7 +274,7 @@ module _ (image : Image) (g : IsGeometry image.sizes) (a : Whole) (att : IsAttac
     loses1 : LosesAll s bs acc.records b1
     loses1 = taken_loses s g bs a acc.records states b1 may1
 
-    made0 : (e : EcHeader) × (ready_ec s bs a e0 ≡ Some e) × IsPrepared s bs a.meaning e0 a.scan.image_seq (prepare s bs a e0) (ready_bytes s bs a e0) e
+    pub made0 : (e : EcHeader) × (ready_ec s bs a e0 ≡ Some e) × IsPrepared s bs a.meaning e0 a.scan.image_seq (prepare s bs a e0) (ready_bytes s bs a e0) e
     made0 = ready s g bs a acc.records states e0 may0 bs a.meaning acc may0.0 refl (whole e0 may0.0) agrees used loses0 few narrow
 
     many : a.scan.top_sqnum + 1 + 1 < 2 ^ 64
@@ -284,13 +283,13 @@ module _ (image : Image) (g : IsGeometry image.sizes) (a : Whole) (att : IsAttac
     some_left : a.scan.top_sqnum + 1 < 2 ^ 64
     some_left = let f = many in omega arith
 
-    abbrev header0 : VidHeader
+    abbrev pub header0 : VidHeader
     header0 = blank_header (data_pad s v.entry) id lnum (a.scan.top_sqnum + 1)
 
-    abbrev mounted0 : List ℕ
+    abbrev pub mounted0 : List ℕ
     mounted0 = laid s (ready_bytes s bs a e0) (vid_bytes header0) []
 
-    abbrev cs : List (List ℕ)
+    abbrev pub cs : List (List ℕ)
     cs = set bs e0 mounted0
 
     acc1 : AcceptsBlocks s cs a.meaning
@@ -309,7 +308,7 @@ module _ (image : Image) (g : IsGeometry image.sizes) (a : Whole) (att : IsAttac
     inside1 : b1 < length cs
     inside1 = let l = may1.0 in omega (arith, length-set bs e0 mounted0)
 
-    made1 : (e : EcHeader) × (ready_ec s bs a b1 ≡ Some e) × IsPrepared s cs a.meaning b1 a.scan.image_seq (prepare s bs a b1) (ready_bytes s bs a b1) e
+    pub made1 : (e : EcHeader) × (ready_ec s bs a b1 ≡ Some e) × IsPrepared s cs a.meaning b1 a.scan.image_seq (prepare s bs a b1) (ready_bytes s bs a b1) e
     made1 =
         ready s g bs a acc.records states b1 may1 cs a.meaning acc1 inside1 (block_other s bs e0 mounted0 may0.0 b1 apart) (whole b1 may1.0) agrees1
         (used_by_volume s cs a.meaning acc1 id v there) lost1 few narrow
@@ -322,7 +321,7 @@ module _ (image : Image) (g : IsGeometry image.sizes) (a : Whole) (att : IsAttac
     abbrev header1 : VidHeader
     header1 = copy_header 0 (data_pad s v.entry) id lnum (a.scan.top_sqnum + 1 + 1) new
 
-    abbrev mount0 : List Step
+    abbrev pub mount0 : List Step
     mount0 = prepare s bs a e0 ++ program_header s e0 (ready_bytes s bs a e0) header0 ∷ []
 
     abbrev rel0 : List Step
@@ -336,6 +335,10 @@ module _ (image : Image) (g : IsGeometry image.sizes) (a : Whole) (att : IsAttac
         ap (λ xs. xs ++ program_text s b1 new ++ rel0) (append_assoc mount0 (prepare s bs a b1) (program_header s b1 (ready_bytes s bs a b1) header1 ∷ []))
         ∙ ap (λ xs. xs ++ rel0) (append_assoc mount0 (prepare s bs a b1 ++ program_header s b1 (ready_bytes s bs a b1) header1 ∷ []) (program_text s b1 new))
         ∙ append_assoc mount0 ((prepare s bs a b1 ++ program_header s b1 (ready_bytes s bs a b1) header1 ∷ []) ++ program_text s b1 new) rel0
+
+    -- what the first mount leaves
+    pub mounted_done : done s bs mount0 ≡ cs
+    mounted_done = first.mount_done s g bs a.meaning acc id lnum v.entry held.0 was slot number half no_cause.is_new.inside e0 may0.0 a.scan.image_seq agrees loses0 (prepare s bs a e0) (ready_bytes s bs a e0) made0.0 made0.2 (a.scan.top_sqnum + 1) some_left above none
 
     mount_fails : AllFail (programs_copy s) (mount0 ++ prepare s bs a b1)
     mount_fails =

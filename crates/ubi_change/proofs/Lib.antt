@@ -3,6 +3,7 @@ pub mod Changed
 pub mod Choosing
 pub mod Clears
 pub mod Copied
+pub mod CopyFits
 pub mod Fits
 pub mod Kept
 pub mod Laid
@@ -11,6 +12,7 @@ pub mod Mean
 pub mod Mounted
 pub mod PageBytes
 pub mod PagePlaces
+pub mod PlanFits
 pub mod PlanMade
 pub mod PlanSurvives
 pub mod PlanVectors

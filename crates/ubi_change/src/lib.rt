@@ -20,3 +20,6 @@ pub use planning::plan_change;
 pub use refusal::ChangeRefusal;
 pub use step::Step;
 pub use stepping::{apply, step_fits};
+
+#[cfg(test)]
+mod tests;

@@ -3,7 +3,7 @@
 ghost use Rattle.std.specs.Prelude.{◌≡◌, ◌%◌, ◌^◌, ◌<◌, IfErr, IfOk, length};
 ghost use Rattle.ubi_change.specs.Headers.{blank_header, copy_header};
 ghost use Rattle.ubi_change.specs.Making.{AreWithin, mapped_steps, steps_on, unmapped_steps};
-ghost use Rattle.ubi_change.specs.Planned.{IsPlan, SurvivesCutsOf};
+ghost use Rattle.ubi_change.specs.Planned.{AllFitOf, IsPlan, SurvivesCutsOf};
 ghost use Rattle.ubi_change.specs.Refused.{IsChangeRefusal};
 ghost use Rattle.ubi_scan.specs.Image.{eraseblocks};
 
@@ -150,8 +150,10 @@ fn steps_on(
 /// The new bytes are whole pages, at least one, and no more than the volume uses of a logical eraseblock. Cut after any of
 /// the steps, the image is accepted and means the old or the new.
 ///
-/// Not proved yet, and so no clause says it: that each step fits what those before it leave, that pages rise between two
-/// erases of an eraseblock, and that each eraseblock that is erased counts it.
+/// Each step fits what those before it leave.
+///
+/// Not proved yet, and so no clause says it: that pages rise between two erases of an eraseblock, and that each eraseblock
+/// that is erased counts it.
 ///
 /// # Errors
 ///
@@ -165,6 +167,7 @@ pub fn plan_change(
     new: &[u8],
 ) -> Result<Vec<Step>, ChangeRefusal>
     ensures survives { IfOk result (λ steps. SurvivesCutsOf (record { sizes = geometry.now; bytes = image.now }) id lnum new.now steps.items) }
+    ensures fits { IfOk result (λ steps. AllFitOf (record { sizes = geometry.now; bytes = image.now }) steps.items) }
     ensures plan { IfOk result (λ steps. IsPlan (record { sizes = geometry.now; bytes = image.now }) id lnum new.now steps.items) }
     ensures refused { IfErr result (IsChangeRefusal (record { sizes = geometry.now; bytes = image.now }) id lnum new.now) }
 {

@@ -12,6 +12,10 @@ use Rattle.ubi_change.specs.Making.{ArePlaces, AreWithin, image_causes, own_caus
 use Rattle.ubi_change.specs.Planned.{IsPlan}
 use Rattle.ubi_change.specs.Refused.{IsChangeRefusal, first_of}
 use Rattle.ubi_change.specs.declared.planning.Target.{Target}
+use Rattle.ubi_media.proofs.Padding.{half_pad, reserved_within}
+use Rattle.ubi_change.specs.Steps.{AllFit}
+use Rattle.ubi_change.proofs.CopyFits.{bytes-each}
+use Rattle.ubi_change.proofs.PlanFits.{plan_fits}
 use Rattle.ubi_change.proofs.PlanMade.{allowed, are_within, image_stands, no_volume, own_stands, steps_are}
 use Rattle.ubi_change.proofs.PlanSurvives.{mean_few, plan_survives, sound}
 use Rattle.ubi_change.proofs.planning.plan_change.Goals as goal
@@ -106,3 +110,16 @@ returns-clause-survives c =
     let narrow : c.in_ok-attached.attached.scan.image_seq < 2 ^ 32 = subst (λ (n : ℕ). n < 2 ^ 32) c.image_seq.ensures c.image_seq.type_inv in
     let planned = plan_survives image made.from c.args.id c.args.lnum c.args.new.now made.volume c.page.ensures.limits made.attached narrow made.there made.allowed in
     (made.from.meaning, made.attached.accepted, subst (SurvivesCuts image.sizes (eraseblocks image) made.from.meaning c.args.id c.args.lnum c.args.new.now) (sym made.plan) planned)
+
+pub returns-clause-fits : goal.returns-clause-fits
+unfolding returns-clause-plan
+returns-clause-fits c =
+    let image : Image = record { sizes = c.args.geometry.now; bytes = c.args.image.now } in
+    let made : IsPlan image c.args.id c.args.lnum c.args.new.now c.in_ok-steps_on.field-0.items = returns-clause-plan c in
+    let narrow : c.in_ok-attached.attached.scan.image_seq < 2 ^ 32 = subst (λ (n : ℕ). n < 2 ^ 32) c.image_seq.ensures c.image_seq.type_inv in
+    let bytes = bytes-each c.args.new.now (λ i. (c.type_inv.new i).fits) in
+    let g = c.page.ensures.limits in
+    let sound_record = sound image made.from made.attached c.args.id made.volume made.there in
+    let planned = plan_fits image g made.from made.attached (mean_few image made.from made.attached) narrow c.args.id c.args.lnum c.args.new.now made.volume made.there made.allowed
+    (half_pad image.sizes made.volume.entry sound_record g) (reserved_within image.sizes made.volume.entry sound_record) bytes in
+    subst (AllFit image.sizes (eraseblocks image)) (sym made.plan) planned

@@ -1,0 +1,134 @@
+-- Each step of a plan fits what those before it leave.
+use Rattle.std.proofs.Common.{◌≡◌, ℕ, ◌+◌, ◌/◌, ◌%◌, ◌^◌, ◌<◌, ◌≤◌, Bool, true, false, cond, List, [], ◌∷◌, ◌++◌, length, set, refl, ap, sym, ◌∙◌, subst, arith, length-set, get_or-set_same}
+use Rattle.std.specs.Prelude.{None, Option, Some}
+use Rattle.std.specs.FinMap as finite
+use Rattle.std.specs.Option.{option_map_or}
+use Rattle.std.proofs.lemmas.List.Sums.{fold-append}
+use Rattle.ubi_media.specs.Fields.{filled}
+use Rattle.ubi_media.specs.Geometry.{IsGeometry, Sizes, leb_size}
+use Rattle.ubi_media.specs.Record.{data_pad}
+use Rattle.ubi_media.specs.Vid.{vid_bytes}
+use Rattle.ubi_media.specs.declared.ec.EcHeader.{EcHeader}
+use Rattle.ubi_media.specs.declared.vid.VidHeader.{VidHeader}
+use Rattle.ubi_scan.specs.Image.{Image, block, eraseblocks}
+use Rattle.ubi_scan.proofs.Parts.{laid}
+use Rattle.ubi_volume.proofs.Winners.{found_wins}
+use Rattle.ubi_volume.specs.Attached.{IsAttached, Whole}
+use Rattle.ubi_volume.specs.declared.content.Volume.{Volume}
+use Rattle.ubi_change.specs.Headers.{blank_header, copy_header, next_ec}
+use Rattle.ubi_change.specs.Plan.{atomic_copy, mapped_plan, plan_of, prepare, program_header, program_text, ready_bytes, ready_ec, release, renew, taken, unmapped_plan}
+use Rattle.ubi_change.specs.Refused.{first_cause}
+use Rattle.ubi_change.specs.Steps.{AllFit, step_done}
+use Rattle.ubi_change.specs.Takeable.{ec_at, is_clean, is_worn}
+use Rattle.ubi_change.specs.declared.step.Step.{Step}
+use Rattle.ubi_change.proofs.Attached as attached
+use Rattle.ubi_change.proofs.CopyFits.{bytes-ec, header_done, header_fits, text_fits}
+use Rattle.ubi_change.proofs.Fits.{AreBytes, FitAll, all_fit, fit-append, renew_fits}
+use Rattle.ubi_change.proofs.Runs.{done}
+use Rattle.ubi_change.proofs.Torn.{pages-all}
+
+module _ (s : Sizes) where
+  -- steps change no number of eraseblocks
+  pub length-done : (bs : List (List ℕ)) (steps : List Step) → length (done s bs steps) ≡ length bs
+  length-done bs [] = refl
+  length-done bs (x ∷ xs) = length-done (step_done s bs x) xs ∙ length-set bs _ _
+
+module _ (s : Sizes) (g : IsGeometry s) (bs : List (List ℕ)) (a : Whole) where
+  -- an eraseblock is made ready, or given up, whatever stands in the others
+  prepare_fits : (cs : List (List ℕ)) (p : ℕ) → p < length cs → FitAll s cs (prepare s bs a p)
+  prepare_fits cs p inside = by_test (is_clean s bs a.states p)
+    where
+      by_test : (b : Bool) → FitAll s cs (cond b [] (renew s p (next_ec a.scan (ec_at s bs p))))
+      by_test true = tt
+      by_test false = renew_fits s g (next_ec a.scan (ec_at s bs p)) (bytes-ec s (next_ec a.scan (ec_at s bs p))) cs p inside
+
+  release_fits : (cs : List (List ℕ)) (p : ℕ) (now : Option EcHeader) → p < length cs → FitAll s cs (release s bs a p now)
+  release_fits cs p now inside = by_test (is_worn now)
+    where
+      by_test : (b : Bool) → FitAll s cs (cond b [] (renew s p (next_ec a.scan now)))
+      by_test true = tt
+      by_test false = renew_fits s g (next_ec a.scan now) (bytes-ec s (next_ec a.scan now)) cs p inside
+
+  -- a header on an eraseblock that was made ready
+  module _ (cs : List (List ℕ)) (b : ℕ) (inside : b < length cs) (bytes : List ℕ) (size : length bytes ≡ 64) (h : VidHeader) (small : h.compat < 256)
+      (ready : done s cs (prepare s bs a b) ≡ set cs b (filled s.peb_size bytes)) where
+    prepared : block (done s cs (prepare s bs a b)) b ≡ filled s.peb_size bytes
+    prepared = ap (λ (z : List (List ℕ)). block z b) ready ∙ get_or-set_same cs b (filled s.peb_size bytes) [] inside
+
+    within : b < length (done s cs (prepare s bs a b))
+    within = omega (arith, length-done s cs (prepare s bs a b))
+
+    mount_fits : FitAll s cs (prepare s bs a b ++ program_header s b bytes h ∷ [])
+    mount_fits =
+        fit-append s cs (prepare s bs a b) (program_header s b bytes h ∷ []) (prepare_fits cs b inside)
+        (header_fits s g bytes size h small (done s cs (prepare s bs a b)) b within prepared)
+
+    -- with a text behind it, and another eraseblock given up
+    module _ (new : List ℕ) (paged : length new % s.page ≡ 0) (room : s.data_offset + length new ≤ s.peb_size) (are : AreBytes new) (old : ℕ) (now : Option EcHeader) (there : old < length cs) where
+      abbrev mount : List Step
+      mount = prepare s bs a b ++ program_header s b bytes h ∷ []
+
+      mounted : block (done s cs mount) b ≡ laid s bytes (vid_bytes h) []
+      mounted =
+          ap (λ (z : List (List ℕ)). block z b) (fold-append (step_done s) cs (prepare s bs a b) (program_header s b bytes h ∷ []))
+          ∙ header_done s g bytes size h small (done s cs (prepare s bs a b)) b within prepared
+
+      copy_fits : FitAll s cs (mount ++ program_text s b new ++ release s bs a old now)
+      copy_fits =
+          let n = length-done s cs mount in
+          let m = length-done s cs (mount ++ program_text s b new) in
+          fit-append s cs (mount ++ program_text s b new) (release s bs a old now)
+          (fit-append s cs mount (program_text s b new) mount_fits
+          (text_fits s g bytes size h small (done s cs mount) b (omega (arith, n)) new (pages-all s new paged) room are mounted))
+          (release_fits (done s cs (mount ++ program_text s b new)) old now (omega (arith, m)))
+
+module _ (image : Image) (g : IsGeometry image.sizes) (a : Whole) (att : IsAttached image a) (few : a.scan.mean_ec < 2 ^ 31) (narrow : a.scan.image_seq < 2 ^ 32)
+    (id lnum : ℕ) (new : List ℕ) (v : Volume) (there : finite.get a.meaning.volumes id ≡ Some v) (allowed : first_cause image.sizes (eraseblocks image) a id lnum new ≡ None)
+    (half : data_pad image.sizes v.entry < leb_size image.sizes / 2) (bounded : v.entry.reserved < 2 ^ 31) (are : AreBytes new) where
+  abbrev s : Sizes
+  s = image.sizes
+
+  abbrev bs : List (List ℕ)
+  bs = eraseblocks image
+
+  room : s.data_offset + length new ≤ s.peb_size
+  room = let l = attached.fits_leb image g a att few narrow id lnum new v there allowed half bounded in let k = g.leb in omega arith
+
+  paged : length new % s.page ≡ 0
+  paged = (attached.no_cause image g a att few narrow id lnum new v there allowed half bounded).is_new.paged
+
+  mapped_fits : (old : ℕ) → finite.get a.scan.winners (id, lnum) ≡ Some old → FitAll s bs (mapped_plan s bs a v.entry id lnum new (taken s bs a 0) old)
+  mapped_fits old found =
+      let made = attached.made image g a att few narrow id lnum new v there allowed half bounded old found in
+      let may = attached.may image g a att few narrow id lnum new v there allowed half bounded old found in
+      copy_fits s g bs a bs (taken s bs a 0) may.0 (ready_bytes s bs a (taken s bs a 0)) made.2.size (copy_header 0 (data_pad s v.entry) id lnum (a.scan.top_sqnum + 1) new) (omega arith)
+      made.2.ready new paged room are old (ec_at s bs old) (found_wins s bs a.scan att.scan (id, lnum) old found).member.inside
+
+  unmapped_fits : finite.get a.scan.winners (id, lnum) ≡ None → FitAll s bs (unmapped_plan s bs a v.entry id lnum new (taken s bs a 0) (taken s bs a 1))
+  unmapped_fits found =
+      let made0 = attached.made0 image g a att few narrow id lnum new v there allowed half bounded found in
+      let made1 = attached.made1 image g a att few narrow id lnum new v there allowed half bounded found in
+      let may0 = attached.may0 image g a att few narrow id lnum new v there allowed half bounded found in
+      let may1 = attached.may1 image g a att few narrow id lnum new v there allowed half bounded found in
+      let e0 = taken s bs a 0 in
+      let b1 = taken s bs a 1 in
+      let header0 = blank_header (data_pad s v.entry) id lnum (a.scan.top_sqnum + 1) in
+      let cs = attached.cs image g a att few narrow id lnum new v there allowed half bounded found in
+      let mount0 = prepare s bs a e0 ++ program_header s e0 (ready_bytes s bs a e0) header0 ∷ [] in
+      let first : FitAll s bs mount0 = mount_fits s g bs a bs e0 may0.0 (ready_bytes s bs a e0) made0.2.size header0 (omega arith) made0.2.ready in
+      let n = length-set bs e0 (laid s (ready_bytes s bs a e0) (vid_bytes header0) []) in
+      let e0_inside : e0 < length bs = may0.0 in
+      let b1_inside : b1 < length bs = may1.0 in
+      let second = copy_fits s g bs a cs b1 (omega arith) (ready_bytes s bs a b1) made1.2.size (copy_header 0 (data_pad s v.entry) id lnum (a.scan.top_sqnum + 2) new) (omega arith)
+      made1.2.ready new paged room are e0 (ready_ec s bs a e0) (omega arith) in
+      let rest : List Step = atomic_copy s bs a b1 (copy_header 0 (data_pad s v.entry) id lnum (a.scan.top_sqnum + 2) new) new e0 (ready_ec s bs a e0) in
+      fit-append s bs mount0 rest first
+      (subst (λ (z : List (List ℕ)). FitAll s z rest) (sym (attached.mounted_done image g a att few narrow id lnum new v there allowed half bounded found)) second)
+
+  pub plan_fits : AllFit s bs (plan_of s bs a v.entry id lnum new)
+  plan_fits = all_fit s bs (plan_of s bs a v.entry id lnum new) (by_winner (finite.get a.scan.winners (id, lnum)) refl)
+    where
+      by_winner : (o : Option ℕ) → finite.get a.scan.winners (id, lnum) ≡ o
+          → FitAll s bs (option_map_or (mapped_plan s bs a v.entry id lnum new (taken s bs a 0)) o (unmapped_plan s bs a v.entry id lnum new (taken s bs a 0) (taken s bs a 1)))
+      by_winner (Some old) e = mapped_fits old e
+      by_winner None e = unmapped_fits e

@@ -1,0 +1,5 @@
+mod images;
+mod mapped;
+mod refusals;
+mod steps;
+mod unmapped;

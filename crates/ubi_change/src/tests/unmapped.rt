@@ -1,0 +1,45 @@
+//! Changes of logical eraseblocks that have no winner.
+
+use super::images::{
+    A, B, C, COPY, Case, FIRST, FREE, ONE, PLAIN, Peb, SECOND, SMALL, Want, assert_change,
+};
+use std::test::Fail;
+use ubi_media::VidHeader;
+
+/// The header under which logical eraseblock 7 reads 0xFF.
+const BLANK_7: VidHeader = VidHeader {
+    lnum: 7,
+    sqnum: 1,
+    ..PLAIN
+};
+
+/// The header of its copy.
+const COPY_7: VidHeader = VidHeader {
+    lnum: 7,
+    sqnum: 2,
+    ..COPY
+};
+
+/// Three logical eraseblocks, and two free eraseblocks.
+const BASE: [Peb; 7] = [FIRST, SECOND, A, B, C, FREE, FREE];
+
+#[test]
+fn mounts_a_blank_one_first(rt: HostRuntime) -> Result<(), Fail> {
+    let alloc = rt.alloc();
+    let case = Case {
+        sizes: SMALL,
+        pebs: &BASE,
+        lnum: 7,
+        old: (0xFF, 384),
+        steps: &[
+            Want::Header(5, 1, BLANK_7),
+            Want::Header(6, 1, COPY_7),
+            Want::Text(6, 2, 0x61),
+            Want::Erase(5),
+            Want::Count(5, ONE),
+        ],
+        turn: 3,
+    };
+    assert_change(&rt, alloc, &case, &[0x61; 64])?;
+    Ok(())
+}
