@@ -1,22 +1,17 @@
 #!/bin/sh
-# Refuses each growth of memory of a scan in turn.
+# Refuses each growth of memory in turn: of the scan, of attaching and reading, and of the commands over bytes and by their
+# words.
 #
-# usage: bench/refuse.sh [PROGRAM TEST]
+# usage: bench/refuse.sh [CRATE TEST]
 #
-# The other tests that it is for are tests::memory::reads_all_or_answers_want_of_memory of ubi_volume and
-# tests::memory::tells_all_or_answers_want_of_memory of ubi_tool, which `rt test` builds in those crates' folders.
-#
-# Runs a test again and again: of the first run the first growth is refused, of the second the second, and so on until
-# a run meets no refusal. Without words this is the test of `scan`, in the program that `rt test` leaves in
-# crates/ubi_scan/out (it is built first where it isn't there). Each run has to pass, and each run that meets a refusal
-# has to print the line by which the test says that it was answered want of memory; the last one mustn't print it.
+# Runs a test again and again: of the first run the first growth is refused, of the second the second, and so on until a run
+# meets no refusal. Without words these are the tests of the list below, in the programs that `rt test` leaves in the
+# crates' folders out/ (each is built first where it isn't there). Each run has to pass, and each run that meets a refusal
+# has to print the line by which the test says that memory ran out; the last one mustn't print it.
 #
 # It needs a C compiler (cc, or what CC names), for a few lines that stand before the C library's malloc and realloc.
 set -u
 root=$(CDPATH='' cd -- "$(dirname -- "$0")/.." && pwd) || exit 1
-program=${1:-$root/crates/ubi_scan/out/ubi_scan_tests}
-name=${2:-tests::memory::finds_all_or_answers_want_of_memory}
-[ -x "$program" ] || (cd "$root/crates/ubi_scan" && mkdir -p out && rt test >out/build.log 2>&1) || exit 1
 room=$(mktemp -d) || exit 1
 trap 'rm -rf "$room"' EXIT
 
@@ -50,23 +45,40 @@ void *realloc(void *old, size_t size) {
 C
 ${CC:-cc} -O1 -shared -fPIC -o "$room/refuse.so" "$room/refuse.c" -ldl || exit 1
 
-at=1
-failed=0
-while :; do
-    REFUSE_AT=$at LD_PRELOAD=$room/refuse.so "$program" "$name" >"$room/out" 2>"$room/err"
-    status=$?
-    answered=0
-    grep -q 'want of memory' "$room/out" && answered=1
-    grep -q 'refused a growth' "$room/err" || break
-    if [ $status != 0 ] || [ $answered = 0 ]; then
-        echo "growth $at: status $status, $(tail -n 1 "$room/out")"
+# Refuses each growth of a test in turn, and counts the runs that went wrong.
+refuse_each() {
+    crate=$root/crates/$1
+    program=$crate/out/$1_tests
+    [ -x "$program" ] || (cd "$crate" && mkdir -p out && rt test >out/tests.log 2>&1) || return 1
+    at=1
+    failed=0
+    while :; do
+        REFUSE_AT=$at LD_PRELOAD=$room/refuse.so "$program" "$2" >"$room/out" 2>"$room/err"
+        status=$?
+        answered=0
+        grep -q 'out of memory' "$room/out" && answered=1
+        grep -q 'refused a growth' "$room/err" || break
+        if [ $status != 0 ] || [ $answered = 0 ]; then
+            echo "$1 $2, growth $at: status $status, $(tail -n 1 "$room/out")"
+            failed=$((failed + 1))
+        fi
+        at=$((at + 1))
+    done
+    if [ $status != 0 ] || [ $answered = 1 ]; then
+        echo "$1 $2, with ample memory: status $status, $(tail -n 1 "$room/out")"
         failed=$((failed + 1))
     fi
-    at=$((at + 1))
-done
-if [ $status != 0 ] || [ $answered = 1 ]; then
-    echo "with ample memory: status $status, $(tail -n 1 "$room/out")"
-    failed=$((failed + 1))
+    echo "$1 $2: $((at - 1)) growths refused, $failed of the runs wrong"
+    [ $failed = 0 ] && [ $at -gt 1 ]
+}
+
+if [ $# = 2 ]; then
+    refuse_each "$1" "$2"
+    exit
 fi
-echo "$((at - 1)) growths refused, $failed of the runs wrong"
-[ $failed = 0 ] && [ $at -gt 1 ]
+wrong=0
+refuse_each ubi_scan tests::memory::finds_all_or_runs_out_of_memory || wrong=1
+refuse_each ubi_volume tests::memory::reads_all_or_runs_out_of_memory || wrong=1
+refuse_each ubi_tool tests::memory::tells_all_or_runs_out_of_memory || wrong=1
+refuse_each ubi_tool tests::memory::runs_words_or_out_of_memory || wrong=1
+exit $wrong

@@ -28,6 +28,7 @@ pub mod Survives
 pub mod Taken
 pub mod Top
 pub mod Torn
+pub mod Touched
 pub mod Turned
 pub mod Unmapped
 pub mod Unused

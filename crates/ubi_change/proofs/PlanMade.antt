@@ -145,3 +145,9 @@ module _ (image : Image) (a : Whole) (att : IsAttached image a) (id lnum : ℕ) 
           let one = may_be_taken s bs a.states 0 (let e = k.enough in omega arith) in
           let two = may_be_taken s bs a.states 1 (let e = k.enough in omega arith) in
           (subst (λ (p : ℕ). p < length bs) (sym are.0.1) one.0, subst (λ (p : ℕ). p < length bs) (sym are.0.2) two.0, (let f = k.few in omega arith))
+
+-- no cause stands against a plan
+pub none_stands_in : (image : Image) (a : Whole) (id lnum : ℕ) (new : List ℕ) (v : Volume) → finite.get a.meaning.volumes id ≡ Some v
+    → first_cause image.sizes (eraseblocks image) a id lnum new ≡ None → first_of (causes image.sizes (eraseblocks image) a v.entry id lnum new) ≡ None
+none_stands_in image a id lnum new v there none =
+    ap (λ (o : Option Volume). option_map_or (λ v. first_of (causes image.sizes (eraseblocks image) a v.entry id lnum new)) o (Some refusal.NoVolume)) (sym there) ∙ none

@@ -3,7 +3,7 @@
 ghost use Rattle.std.specs.Prelude.{◌≡◌, ◌%◌, ◌^◌, ◌<◌, IfErr, IfOk, length};
 ghost use Rattle.ubi_change.specs.Headers.{blank_header, copy_header};
 ghost use Rattle.ubi_change.specs.Making.{AreWithin, mapped_steps, steps_on, unmapped_steps};
-ghost use Rattle.ubi_change.specs.Planned.{AllFitOf, IsPlan, SurvivesCutsOf};
+ghost use Rattle.ubi_change.specs.Planned.{AllFitOf, IsPlan, SurvivesCutsOf, TouchesOnlyOf};
 ghost use Rattle.ubi_change.specs.Refused.{IsChangeRefusal};
 ghost use Rattle.ubi_scan.specs.Image.{eraseblocks};
 
@@ -150,10 +150,11 @@ fn steps_on(
 /// The new bytes are whole pages, at least one, and no more than the volume uses of a logical eraseblock. Cut after any of
 /// the steps, the image is accepted and means the old or the new.
 ///
-/// Each step fits what those before it leave.
+/// Each step fits what those before it leave. The steps touch only the winner of the logical eraseblock, if it has one, and
+/// the first of the eraseblocks that may be taken: one if it has a winner, else two.
 ///
-/// Not proved yet, and so no clause says it: that pages rise between two erases of an eraseblock, and that each eraseblock
-/// that is erased counts it.
+/// Not proved yet, and so no clause says it: that pages rise between two erases of an eraseblock, that what is given up is
+/// erased once the copy is whole, and that each eraseblock that is erased counts it.
 ///
 /// # Errors
 ///
@@ -168,6 +169,7 @@ pub fn plan_change(
 ) -> Result<Vec<Step>, ChangeRefusal>
     ensures survives { IfOk result (λ steps. SurvivesCutsOf (record { sizes = geometry.now; bytes = image.now }) id lnum new.now steps.items) }
     ensures fits { IfOk result (λ steps. AllFitOf (record { sizes = geometry.now; bytes = image.now }) steps.items) }
+    ensures touches { IfOk result (λ steps. TouchesOnlyOf (record { sizes = geometry.now; bytes = image.now }) id lnum steps.items) }
     ensures plan { IfOk result (λ steps. IsPlan (record { sizes = geometry.now; bytes = image.now }) id lnum new.now steps.items) }
     ensures refused { IfErr result (IsChangeRefusal (record { sizes = geometry.now; bytes = image.now }) id lnum new.now) }
 {

@@ -116,7 +116,7 @@ fn unread_file(alloc: Global, path: &str, error: ToolError) -> Unread
 ///
 /// # Errors
 ///
-/// The line of the first limit that the numbers break, that of a file that can't be read, or want of memory.
+/// The line of the first limit that the numbers break, that of a file that can't be read, or that memory ran out.
 pub fn load<R: Files>(
     rt: &R,
     alloc: Global,

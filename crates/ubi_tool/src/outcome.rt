@@ -10,7 +10,7 @@ use thiserror::Error;
 /// The exit status of a command that did its work.
 pub const DONE: u8 = 0;
 
-/// The exit status of an image that is refused, of images that differ, of a file that fails, and of want of memory.
+/// The exit status of an image that is refused, of images that differ, of a file that fails, and of memory that ran out.
 pub const FAILED: u8 = 1;
 
 /// The exit status of wrong words, a call for help among them, and of a geometry that breaks a limit.

@@ -1,10 +1,12 @@
 //! What a volume reads.
 
 ghost use Rattle.std.specs.Prelude.{◌≡◌, ◌↔◌, ◌<◌, ℕ, List, IfSome, IsTrue, OnErr, OnOk, length};
+ghost use Rattle.std.specs.BTreeMap.{IsOrdered};
 ghost use Rattle.std.specs.FinMap as finite;
 ghost use Rattle.std.specs.List.{list_all};
 ghost use Rattle.std.specs.Map.Iter.{ShowsInOrder, deref_pair};
 ghost use Rattle.std.specs.Option.{option_copied};
+ghost use Rattle.std.specs.Ordering.{nat_cmp};
 ghost use Rattle.ubi_volume.specs.Made.{is_within, lebs_without_blank, without_blank};
 
 use std::alloc::{AllocError, Global};
@@ -148,6 +150,14 @@ impl Lebs {
     {
         self.held.insert(lnum, bytes)?;
         Ok(())
+    }
+
+    /// The map in which they are kept, by their number.
+    pub fn into_map(self) -> BTreeMap<u32, Bytes>
+        ensures held { finite.from_entries result.entries ≡ self }
+        ensures ordered { IsOrdered nat_cmp result }
+    {
+        self.held
     }
 
     /// Whether each that is kept has a number below `reserved`, and `size` bytes.

@@ -1,200 +1,228 @@
 //! Which member wins a logical eraseblock.
 
 use super::images::{
-    BLANK, CHECK_OF_37, CORRUPT, Peb, WRONG_CHECK_OF_39, copy, ec, found, holding, plain, states,
+    COPY, ERASED, Ec, FREE, INTERNAL, LAYOUT, NUMBERED, PLAIN, Peb, Vid, WRONG_CHECK_OF_39,
+    assert_states, assert_wins, found,
 };
 use crate::ScanState;
+use std::alloc::Global;
+use std::process::Abort;
 use std::test::Fail;
-use ubi_media::{GeometryError, LAYOUT_VOLUME, VidHeader};
-
-/// An internal volume that may be dropped.
-const INTERNAL: u32 = 0x7FFF_F000;
+use ubi_media::{LAYOUT_VOLUME, VidHeader};
 
 /// A member that is no copy.
-fn old() -> Result<Peb, GeometryError> {
-    Ok(Peb {
-        byte: 0x35,
-        count: 384,
-        ..holding(&plain(0, 0, 5))?
-    })
-}
+const OLD: Peb = Peb {
+    vid: Vid::Of(VidHeader { sqnum: 5, ..PLAIN }),
+    byte: 0x35,
+    count: 384,
+    ..FREE
+};
 
 /// A newer copy with the check of its data.
-fn right() -> Result<Peb, GeometryError> {
-    Ok(Peb {
-        byte: 0x37,
-        count: 64,
-        ..holding(&copy(7, CHECK_OF_37))?
-    })
-}
+const RIGHT: Peb = Peb {
+    vid: Vid::Of(COPY),
+    byte: 0x37,
+    count: 64,
+    ..FREE
+};
 
-/// A copy with another check.
-fn wrong(sqnum: u64) -> Result<Peb, GeometryError> {
-    Ok(Peb {
-        byte: 0x39,
-        count: 64,
-        ..holding(&copy(sqnum, WRONG_CHECK_OF_39))?
-    })
-}
+/// The header of a copy with another check.
+const WRONG: VidHeader = VidHeader {
+    data_crc: WRONG_CHECK_OF_39,
+    ..COPY
+};
 
-/// An eraseblock of an image that `ubinize` writes, which numbers its image and no member.
-fn fresh(header: &VidHeader) -> Result<Peb, GeometryError> {
-    Ok(Peb {
-        ec: ec(0, 0x1234_5678)?,
-        ..holding(header)?
-    })
-}
+/// Such copies, by their sequence number.
+const WRONG_4: Peb = Peb {
+    vid: Vid::Of(VidHeader { sqnum: 4, ..WRONG }),
+    byte: 0x39,
+    count: 64,
+    ..FREE
+};
 
-/// The two copies of a volume table, logical eraseblocks 0 to 2 of volume 0, and one of an internal volume.
-fn small() -> Result<[Peb; 6], GeometryError> {
-    let table = VidHeader {
-        compat: 5,
-        ..plain(LAYOUT_VOLUME, 0, 0)
-    };
-    let internal = VidHeader {
-        compat: 1,
-        ..plain(INTERNAL, 0, 0)
-    };
-    Ok([
-        fresh(&table)?,
-        fresh(&VidHeader { lnum: 1, ..table })?,
-        fresh(&plain(0, 0, 0))?,
-        fresh(&plain(0, 1, 0))?,
-        fresh(&plain(0, 2, 0))?,
-        fresh(&internal)?,
-    ])
-}
+const WRONG_6: Peb = Peb {
+    vid: Vid::Of(VidHeader { sqnum: 6, ..WRONG }),
+    ..WRONG_4
+};
+
+const WRONG_9: Peb = Peb {
+    vid: Vid::Of(VidHeader { sqnum: 9, ..WRONG }),
+    ..WRONG_4
+};
+
+/// The two copies of a volume table.
+const TABLE_0: Peb = Peb {
+    vid: Vid::Of(LAYOUT),
+    ..NUMBERED
+};
+
+const TABLE_1: Peb = Peb {
+    vid: Vid::Of(VidHeader { lnum: 1, ..LAYOUT }),
+    ..NUMBERED
+};
+
+/// Logical eraseblocks 0 to 2 of volume 0.
+const LEB_0: Peb = Peb {
+    vid: Vid::Of(PLAIN),
+    ..NUMBERED
+};
+
+const LEB_1: Peb = Peb {
+    vid: Vid::Of(VidHeader { lnum: 1, ..PLAIN }),
+    ..NUMBERED
+};
+
+const LEB_2: Peb = Peb {
+    vid: Vid::Of(VidHeader { lnum: 2, ..PLAIN }),
+    ..NUMBERED
+};
+
+/// One of an internal volume.
+const DROPPED: Peb = Peb {
+    vid: Vid::Of(INTERNAL),
+    ..NUMBERED
+};
 
 #[test]
 fn finds_the_winners_of_a_small_image(rt: HostRuntime) -> Result<(), Fail> {
-    let alloc = rt.alloc();
-    let pebs = small()?;
-    let found = found(alloc, &pebs)?;
-    for (vol, lnum, winner) in [
-        (LAYOUT_VOLUME, 0, Some(0)),
-        (LAYOUT_VOLUME, 1, Some(1)),
-        (LAYOUT_VOLUME, 2, None),
-        (0, 0, Some(2)),
-        (0, 1, Some(3)),
-        (0, 2, Some(4)),
-        (0, 3, None),
-        (1, 0, None),
-        (INTERNAL, 0, None),
-    ] {
-        assert_eq!(rt; found.winner(vol, lnum), winner, "of {vol} and {lnum}");
-    }
+    let pebs = [TABLE_0, TABLE_1, LEB_0, LEB_1, LEB_2, DROPPED];
+    let found = found(rt.alloc(), &pebs)?;
+    assert_eq!(rt; found.winner(LAYOUT_VOLUME, 0), Some(0));
+    assert_eq!(rt; found.winner(LAYOUT_VOLUME, 1), Some(1));
+    assert_eq!(rt; found.winner(LAYOUT_VOLUME, 2), None);
+    assert_eq!(rt; found.winner(0, 0), Some(2));
+    assert_eq!(rt; found.winner(0, 1), Some(3));
+    assert_eq!(rt; found.winner(0, 2), Some(4));
+    assert_eq!(rt; found.winner(0, 3), None);
+    assert_eq!(rt; found.winner(1, 0), None);
+    assert_eq!(rt; found.winner(0x7FFF_F000, 0), None);
     assert_eq!(rt; found.top_sqnum(), 0);
     assert_eq!(rt; found.image_seq(), 0x1234_5678);
-    let said = states(alloc, &pebs)?;
-    assert_eq!(rt; said.as_slice().last(), Some(&ScanState::Dropped));
+    Ok(())
+}
+
+/// Asserts what wins logical eraseblock 1 of an image, and that the others stay.
+fn assert_second(
+    rt: &impl Abort,
+    alloc: Global,
+    second: Peb,
+    winner: Option<u32>,
+    next: (u32, u32),
+) -> Result<(), Fail> {
+    let found = found(alloc, &[TABLE_0, TABLE_1, LEB_0, second, LEB_2])?;
+    assert_eq!(rt; found.winner(0, 0), Some(2));
+    assert_eq!(rt; found.winner(0, 1), winner);
+    assert_eq!(rt; found.winner(0, 2), Some(4));
+    assert_eq!(rt; found.next_winner(0, 1), Some(next));
     Ok(())
 }
 
 #[test]
-fn a_member_stays_without_its_magic_and_not_once_erased(rt: HostRuntime) -> Result<(), Fail> {
+fn a_member_stays_without_its_counter_and_not_once_erased(rt: HostRuntime) -> Result<(), Fail> {
     let alloc = rt.alloc();
-    let mut torn = ec(0, 0x1234_5678)?;
-    torn[0] = 0x54;
-    for (header, winner, next) in [(torn, Some(3), Some((1, 3))), (BLANK, None, Some((2, 4)))] {
-        let mut pebs = small()?;
-        pebs[3].ec = header;
-        let found = found(alloc, &pebs)?;
-        assert_eq!(rt; found.winner(0, 0), Some(2));
-        assert_eq!(rt; found.winner(0, 1), winner);
-        assert_eq!(rt; found.winner(0, 2), Some(4));
-        assert_eq!(rt; found.next_winner(0, 1), next);
-    }
-    Ok(())
+    let torn = Peb {
+        ec: Ec::Corrupt,
+        ..LEB_1
+    };
+    assert_second(&rt, alloc, torn, Some(3), (1, 3))?;
+    let erased = Peb {
+        ec: Ec::Blank,
+        ..LEB_1
+    };
+    assert_second(&rt, alloc, erased, None, (2, 4))?;
+    assert_states(&rt, alloc, &[torn], &[ScanState::Winner])?;
+    assert_states(&rt, alloc, &[erased], &[ScanState::Blank])
+}
+
+/// Asserts which of three members wins, and that the others are beaten.
+fn assert_third(
+    rt: &impl Abort,
+    alloc: Global,
+    pebs: [Peb; 3],
+    winner: u32,
+    states: [ScanState; 3],
+) -> Result<(), Fail> {
+    let found = found(alloc, &pebs)?;
+    assert_eq!(rt; found.winner(0, 0), Some(winner));
+    assert_eq!(rt; found.winner(0, 1), None);
+    assert_eq!(rt; found.top_sqnum(), 9);
+    assert_states(rt, alloc, &pebs, &states)
 }
 
 #[test]
 fn the_newest_good_member_wins_in_any_order(rt: HostRuntime) -> Result<(), Fail> {
     let alloc = rt.alloc();
-    let (a, b, c) = (old()?, right()?, wrong(9)?);
     let (won, lost) = (ScanState::Winner, ScanState::Beaten);
-    for (pebs, place, want) in [
-        ([a, b, c], 1u32, [lost, won, lost]),
-        ([a, c, b], 2, [lost, lost, won]),
-        ([b, a, c], 0, [won, lost, lost]),
-        ([b, c, a], 0, [won, lost, lost]),
-        ([c, a, b], 2, [lost, lost, won]),
-        ([c, b, a], 1, [lost, won, lost]),
-    ] {
-        let found = found(alloc, &pebs)?;
-        assert_eq!(rt; found.winner(0, 0), Some(place));
-        assert_eq!(rt; found.winner(0, 1), None);
-        assert_eq!(rt; found.top_sqnum(), 9);
-        assert_eq!(rt; states(alloc, &pebs)?.as_slice(), want.as_slice());
-    }
-    Ok(())
+    let (first, second, third) = ([won, lost, lost], [lost, won, lost], [lost, lost, won]);
+    assert_third(&rt, alloc, [OLD, RIGHT, WRONG_9], 1, second)?;
+    assert_third(&rt, alloc, [OLD, WRONG_9, RIGHT], 2, third)?;
+    assert_third(&rt, alloc, [RIGHT, OLD, WRONG_9], 0, first)?;
+    assert_third(&rt, alloc, [RIGHT, WRONG_9, OLD], 0, first)?;
+    assert_third(&rt, alloc, [WRONG_9, OLD, RIGHT], 2, third)?;
+    assert_third(&rt, alloc, [WRONG_9, RIGHT, OLD], 1, second)
 }
 
 #[test]
 fn the_oldest_of_bad_members_wins(rt: HostRuntime) -> Result<(), Fail> {
     let alloc = rt.alloc();
-    for (pebs, place) in [
-        ([wrong(4)?, wrong(6)?].as_slice(), 0),
-        ([wrong(6)?, wrong(4)?].as_slice(), 1),
-        ([wrong(6)?, wrong(4)?, wrong(5)?].as_slice(), 1),
-        ([wrong(9)?].as_slice(), 0),
-    ] {
-        assert_eq!(rt; found(alloc, pebs)?.winner(0, 0), Some(place));
-    }
-    Ok(())
+    assert_wins(&rt, alloc, &[WRONG_4, WRONG_6], Some(0))?;
+    assert_wins(&rt, alloc, &[WRONG_6, WRONG_4], Some(1))?;
+    assert_wins(&rt, alloc, &[WRONG_6, WRONG_4, WRONG_9], Some(1))?;
+    assert_wins(&rt, alloc, &[WRONG_9], Some(0))
 }
 
 #[test]
 fn a_copy_is_checked_once_it_meets_another_member(rt: HostRuntime) -> Result<(), Fail> {
     let alloc = rt.alloc();
-    for (pebs, place) in [
-        ([wrong(9)?, old()?].as_slice(), 1),
-        ([old()?, wrong(9)?].as_slice(), 0),
-        ([right()?, old()?].as_slice(), 0),
-        ([right()?, wrong(4)?].as_slice(), 0),
-        ([wrong(4)?, right()?].as_slice(), 1),
-        ([wrong(6)?, wrong(9)?, old()?].as_slice(), 2),
-        ([wrong(9)?, right()?, wrong(8)?].as_slice(), 1),
-    ] {
-        assert_eq!(rt; found(alloc, pebs)?.winner(0, 0), Some(place));
-    }
-    Ok(())
+    assert_wins(&rt, alloc, &[WRONG_9, OLD], Some(1))?;
+    assert_wins(&rt, alloc, &[OLD, WRONG_9], Some(0))?;
+    assert_wins(&rt, alloc, &[RIGHT, OLD], Some(0))?;
+    assert_wins(&rt, alloc, &[RIGHT, WRONG_4], Some(0))?;
+    assert_wins(&rt, alloc, &[WRONG_4, RIGHT], Some(1))?;
+    assert_wins(&rt, alloc, &[WRONG_6, WRONG_9, OLD], Some(2))?;
+    assert_wins(&rt, alloc, &[WRONG_9, RIGHT, WRONG_6], Some(1))
 }
 
-#[test]
-fn a_lost_counter_keeps_a_member_and_an_erased_one_does_not(rt: HostRuntime) -> Result<(), Fail> {
-    let alloc = rt.alloc();
-    for (ec, winner, state) in [
-        (CORRUPT, Some(0), ScanState::Winner),
-        (BLANK, None, ScanState::Blank),
-    ] {
-        let pebs = [Peb { ec, ..old()? }];
-        assert_eq!(rt; found(alloc, &pebs)?.winner(0, 0), winner);
-        assert_eq!(rt; states(alloc, &pebs)?.as_slice(), [state].as_slice());
-    }
-    Ok(())
-}
+/// Members of volumes 0, 1 and 2.
+const NINTH_OF_0: Peb = Peb {
+    vid: Vid::Of(VidHeader { lnum: 9, ..PLAIN }),
+    ..FREE
+};
+
+const FIFTH_OF_1: Peb = Peb {
+    vid: Vid::Of(VidHeader {
+        vol_id: 1,
+        lnum: 5,
+        ..PLAIN
+    }),
+    ..FREE
+};
+
+const SECOND_OF_1: Peb = Peb {
+    vid: Vid::Of(VidHeader {
+        vol_id: 1,
+        lnum: 2,
+        ..PLAIN
+    }),
+    ..FREE
+};
+
+const FIRST_OF_2: Peb = Peb {
+    vid: Vid::Of(VidHeader { vol_id: 2, ..PLAIN }),
+    ..FREE
+};
 
 #[test]
 fn finds_the_next_winner_of_a_volume(rt: HostRuntime) -> Result<(), Fail> {
-    let alloc = rt.alloc();
-    let pebs = [
-        holding(&plain(1, 5, 0))?,
-        holding(&plain(1, 2, 0))?,
-        holding(&plain(0, 9, 0))?,
-        holding(&plain(2, 0, 0))?,
-    ];
-    let found = found(alloc, &pebs)?;
-    for (vol, from, next) in [
-        (1, 0, Some((2, 1))),
-        (1, 2, Some((2, 1))),
-        (1, 3, Some((5, 0))),
-        (1, 6, None),
-        (1, u32::MAX, None),
-        (0, 0, Some((9, 2))),
-        (2, 1, None),
-        (3, 0, None),
-    ] {
-        assert_eq!(rt; found.next_winner(vol, from), next, "of {vol} from {from}");
-    }
+    let pebs = [FIFTH_OF_1, SECOND_OF_1, NINTH_OF_0, FIRST_OF_2, ERASED];
+    let found = found(rt.alloc(), &pebs)?;
+    assert_eq!(rt; found.next_winner(1, 0), Some((2, 1)));
+    assert_eq!(rt; found.next_winner(1, 2), Some((2, 1)));
+    assert_eq!(rt; found.next_winner(1, 3), Some((5, 0)));
+    assert_eq!(rt; found.next_winner(1, 6), None);
+    assert_eq!(rt; found.next_winner(1, u32::MAX), None);
+    assert_eq!(rt; found.next_winner(0, 0), Some((9, 2)));
+    assert_eq!(rt; found.next_winner(2, 1), None);
+    assert_eq!(rt; found.next_winner(3, 0), None);
     Ok(())
 }

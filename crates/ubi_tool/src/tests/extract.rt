@@ -161,19 +161,13 @@ fn tells_of_an_output_that_fails(rt: HostRuntime) -> Result<(), Fail> {
     let empty = empty_boot(alloc, &geometry)?;
     let empty = empty.as_slice();
     let text = root_text();
+    let start = text.get(..500).ok_or("short")?;
     let line = "extract a.img --id 0 --out b.bin";
     let (done, cannot) = (("bytes 7680\n", 0), ("cannot write b.bin\n", 1));
     assert_over(&rt, alloc, (root, Broken::Nothing), line, done, &text)?;
     assert_over(&rt, alloc, (root, Broken::Short(100)), line, done, &text)?;
     assert_over(&rt, alloc, (root, Broken::OpenWrite), line, cannot, &[])?;
-    assert_over(
-        &rt,
-        alloc,
-        (root, Broken::Write(500)),
-        line,
-        cannot,
-        &text[..500],
-    )?;
+    assert_over(&rt, alloc, (root, Broken::Write(500)), line, cannot, start)?;
     assert_over(
         &rt,
         alloc,

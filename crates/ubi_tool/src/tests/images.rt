@@ -200,10 +200,10 @@ fn put_copy(
 /// The bytes of a table with a record in its first slot and none in its second.
 pub fn records(first: &Record) -> [u8; 344] {
     let mut records = [0; 344];
-    records[..20].copy_from_slice(&first.start);
-    records[144] = first.flags;
-    records[168..172].copy_from_slice(&first.check);
-    records[340..].copy_from_slice(&EMPTY);
+    overwrite(&mut records, 0, &first.start);
+    overwrite(&mut records, 144, &[first.flags]);
+    overwrite(&mut records, 168, &first.check);
+    overwrite(&mut records, 340, &EMPTY);
     records
 }
 

@@ -44,10 +44,10 @@ fn text_if_memory(alloc: Global, image: &[u8]) -> Result<Option<Vec<u8>>, Fail> 
 
 /// The script bench/refuse.sh refuses each growth of memory in turn, and looks for the line that is printed here.
 #[test]
-fn reads_all_or_answers_want_of_memory(rt: HostRuntime) -> Result<(), Fail> {
+fn reads_all_or_runs_out_of_memory(rt: HostRuntime) -> Result<(), Fail> {
     let bytes = bytes_of_base()?;
     let Some(text) = text_if_memory(rt.alloc(), &bytes)? else {
-        println!(rt; "want of memory")?;
+        println!(rt; "out of memory")?;
         return Ok(());
     };
     assert_eq!(rt; text.as_slice(), base_text().as_slice());

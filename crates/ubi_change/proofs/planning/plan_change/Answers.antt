@@ -16,7 +16,10 @@ use Rattle.ubi_media.proofs.Padding.{half_pad, reserved_within}
 use Rattle.ubi_change.specs.Steps.{AllFit}
 use Rattle.ubi_change.proofs.CopyFits.{bytes-each}
 use Rattle.ubi_change.proofs.PlanFits.{plan_fits}
-use Rattle.ubi_change.proofs.PlanMade.{allowed, are_within, image_stands, no_volume, own_stands, steps_are}
+use Rattle.ubi_change.specs.Frugal.{TouchesOnly, touched}
+use Rattle.ubi_change.proofs.Attached.{is_allowed}
+use Rattle.ubi_change.proofs.Touched.{plan_touches}
+use Rattle.ubi_change.proofs.PlanMade.{none_stands_in, allowed, are_within, image_stands, no_volume, own_stands, steps_are}
 use Rattle.ubi_change.proofs.PlanSurvives.{mean_few, plan_survives, sound}
 use Rattle.ubi_change.proofs.planning.plan_change.Goals as goal
 
@@ -123,3 +126,16 @@ returns-clause-fits c =
     let planned = plan_fits image g made.from made.attached (mean_few image made.from made.attached) narrow c.args.id c.args.lnum c.args.new.now made.volume made.there made.allowed
     (half_pad image.sizes made.volume.entry sound_record g) (reserved_within image.sizes made.volume.entry sound_record) bytes in
     subst (AllFit image.sizes (eraseblocks image)) (sym made.plan) planned
+
+pub returns-clause-touches : goal.returns-clause-touches
+unfolding returns-clause-plan
+returns-clause-touches c =
+    let image : Image = record { sizes = c.args.geometry.now; bytes = c.args.image.now } in
+    let made : IsPlan image c.args.id c.args.lnum c.args.new.now c.in_ok-steps_on.field-0.items = returns-clause-plan c in
+    let none = none_stands_in image made.from c.args.id c.args.lnum c.args.new.now made.volume made.there made.allowed in
+    let enough = (is_allowed image.sizes (eraseblocks image) made.from made.volume.entry c.args.id c.args.lnum c.args.new.now none).enough in (
+      made.from,
+      made.attached,
+      subst (TouchesOnly (touched image.sizes (eraseblocks image) made.from c.args.id c.args.lnum)) (sym made.plan)
+          (plan_touches image.sizes (eraseblocks image) made.from made.volume.entry c.args.id c.args.lnum c.args.new.now enough),
+    )

@@ -1,0 +1,59 @@
+#!/usr/bin/env python3
+"""Runs the examples of README.md and compares what they print.
+
+usage: readme.py
+
+An example is a line of README.md that begins with '$ ' in a block without a language, and the lines up to the next one or
+the end of the block are what it prints. They run in their order, by the shell, at the top of the repository. The program is
+built first where it isn't yet. Ends with 'N passed, M failed', and with status 1 where some failed.
+"""
+import subprocess
+import sys
+from pathlib import Path
+
+ROOT = Path(__file__).resolve().parent.parent
+
+
+def blocks(text):
+    """The lines of each block without a language."""
+    block, language = None, None
+    for line in text.splitlines():
+        if line.startswith('```'):
+            if block is None:
+                block, language = [], line[3:]
+            else:
+                if not language:
+                    yield block
+                block = None
+        elif block is not None:
+            block.append(line)
+
+
+def examples(text):
+    """Each example, and what it is to print."""
+    for block in blocks(text):
+        command, wanted = None, []
+        for line in block + ['$ ']:
+            if line.startswith('$ '):
+                if command:
+                    yield command, wanted
+                command, wanted = line[2:], []
+            else:
+                wanted.append(line)
+
+
+def main():
+    passed = failed = 0
+    for command, wanted in examples((ROOT / 'README.md').read_text()):
+        ran = subprocess.run(command, shell=True, cwd=ROOT, stdin=subprocess.DEVNULL, capture_output=True, text=True)
+        if ran.stdout.splitlines() == wanted:
+            passed += 1
+        else:
+            failed += 1
+            print(f'{command}\nprinted:\n{ran.stdout}{ran.stderr}and not:', *wanted, '', sep='\n')
+    print(f'{passed} passed, {failed} failed')
+    return 1 if failed or not passed else 0
+
+
+if __name__ == '__main__':
+    sys.exit(main())
