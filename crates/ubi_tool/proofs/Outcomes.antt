@@ -8,6 +8,9 @@ use Rattle.ubi_media.specs.Geometry.{Sizes}
 use Rattle.ubi_scan.specs.Image.{Image}
 use Rattle.ubi_volume.specs.Accepts.{Accepts}
 use Rattle.ubi_volume.specs.Meant.{Meant}
+use Rattle.ubi_change.specs.declared.step.Step.{Step}
+use Rattle.ubi_tool.specs.Change.{Changes, ChangesInto, IsPlanned, planned, unplanned}
+use Rattle.ubi_tool.specs.Change as change
 use Rattle.ubi_tool.specs.Normalise.{Normalises, NormalisesInto, accepted, refused, written, unwritten}
 use Rattle.ubi_tool.specs.Numbers.{sizes_of}
 use Rattle.ubi_tool.specs.Program.{IsRead, IsWritten, OfImage, Tells}
@@ -30,6 +33,20 @@ accepted_with_file image o (refused c r gives) some = absurd (no_file o.file giv
 pub normalises_into : (image : Image) (out : List ℕ) (work o : Outcome) → Normalises image work → IsWritten out work o → NormalisesInto out image o
 normalises_into image out work o n program.written = written n
 normalises_into image out work o n (program.unwritten some gives) = (let h = accepted_with_file image work n some in unwritten h.0 h.1 gives)
+
+-- a file is there only where a change is planned
+planned_with_file : (image : Image) (id lnum : ℕ) (new : List ℕ) (stop : Option ℕ) (o : Outcome) → Changes image id lnum new stop o → IsSome o.file
+    → (steps : List Step) × IsPlanned image id lnum new steps
+planned_with_file image id lnum new stop o (planned steps is gives means) some = (steps, is)
+planned_with_file image id lnum new stop o (unplanned c line is e gives) some = absurd (no_file o.file gives.file some)
+
+-- changing, and then writing the file
+pub changes_into : (image : Image) (id lnum : ℕ) (new : List ℕ) (stop : Option ℕ) (out : List ℕ) (work o : Outcome)
+    → Changes image id lnum new stop work → IsWritten out work o → ChangesInto id lnum new stop out image o
+changes_into image id lnum new stop out work o n program.written = change.written n
+changes_into image id lnum new stop out work o n (program.unwritten some gives) =
+    let h = planned_with_file image id lnum new stop work n some in
+    change.unwritten h.0 h.1 gives
 
 -- what is answered of an image that was read
 pub of_image : (numbers : Numbers) (path : List ℕ) (answers : Image → Outcome → Type 0) (s : Sizes) (bytes : List ℕ) (o : Outcome)

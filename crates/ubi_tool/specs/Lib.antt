@@ -1,4 +1,5 @@
 pub mod Answer
+pub mod Change
 pub mod Check
 pub mod CommandLine
 pub mod Extract

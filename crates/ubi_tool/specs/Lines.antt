@@ -49,6 +49,7 @@ detail_text (detail.Block n) = codes " block=" ++ decimal n
 detail_text (detail.Slot n) = codes " slot=" ++ decimal n
 detail_text (detail.Volume n) = codes " volume=" ++ decimal n
 detail_text (detail.Earlier n) = codes " earlier=" ++ decimal n
+detail_text (detail.Pages n) = codes " pages=" ++ decimal n
 detail_text (detail.Ec f) = codes " " ++ ec_fault_name f
 detail_text (detail.Vid f) = codes " " ++ vid_fault_name f
 detail_text (detail.Rec f) = codes " " ++ rec_fault_name f

@@ -1,9 +1,10 @@
 -- What the program answers over files.
-use Rattle.std.specs.Prelude.{◌≡◌, ℕ, ◌*◌, ◌+◌, ◌≤◌, List, [], length, Some, None, IsSome, codes}
+use Rattle.std.specs.Prelude.{◌≡◌, ℕ, ◌*◌, ◌+◌, ◌≤◌, List, [], length, Option, Some, None, IsSome, codes}
 use Rattle.ubi_media.specs.Geometry.{Sizes, first_broken}
 use Rattle.ubi_media.specs.declared.geometry.GeometryError.{GeometryError}
 use Rattle.ubi_scan.specs.Image.{Image}
 use Rattle.ubi_tool.specs.Answer.{Gives, says}
+use Rattle.ubi_tool.specs.Change.{ChangesInto}
 use Rattle.ubi_tool.specs.Check.{Checks}
 use Rattle.ubi_tool.specs.Extract.{ExtractsInto}
 use Rattle.ubi_tool.specs.Lines.{file_line, geometry_line}
@@ -55,3 +56,5 @@ pub data IsAnswer : Outcome → Type 0 where
   extract : {o : Outcome} (numbers : Numbers) (path out : List ℕ) (id : ℕ) → OfImage numbers path (ExtractsInto id out) o → IsAnswer o
   normalise : {o : Outcome} (numbers : Numbers) (path out : List ℕ) → OfImage numbers path (NormalisesInto out) o → IsAnswer o
   same : {o : Outcome} (numbers : Numbers) (left right : List ℕ) → OfImage numbers left (λ i. OfImage numbers right (Compares i)) o → IsAnswer o
+  change : {o : Outcome} (numbers : Numbers) (path from out : List ℕ) (id lnum : ℕ) (stop : Option ℕ)
+      → OfImage numbers path (λ i. OfImage numbers from (λ f. ChangesInto id lnum f.bytes stop out i)) o → IsAnswer o

@@ -48,6 +48,27 @@ pub enum Request<'a> {
         left: &'a str,
         right: &'a str,
     },
+    /// A change of one file, written into another.
+    Change {
+        numbers: Numbers,
+        image: &'a str,
+        change: Change<'a>,
+    },
+}
+
+/// The change of a logical eraseblock.
+#[derive(Clone, Copy, Debug)]
+pub struct Change<'a> {
+    /// The number of the volume.
+    pub id: u32,
+    /// The number of the logical eraseblock.
+    pub lnum: u32,
+    /// The path of the file that holds the new bytes.
+    pub from: &'a str,
+    /// The path of the file that is written.
+    pub out: &'a str,
+    /// After how many steps the image is written; after all where it is left out.
+    pub stop: Option<u32>,
 }
 
 /// What `--version` shows.
@@ -78,7 +99,8 @@ pub fn command_line<'a>(alloc: Global) -> Result<Command<'a>, AllocError>
     let tool = tool.subcommand(show_command(alloc)?)?;
     let tool = tool.subcommand(extract_command(alloc)?)?;
     let tool = tool.subcommand(normalise_command(alloc)?)?;
-    tool.subcommand(same_command(alloc)?)
+    let tool = tool.subcommand(same_command(alloc)?)?;
+    tool.subcommand(change_command(alloc)?)
 }
 
 /// What is asked for, where the words name a command and have all that it needs.
@@ -114,6 +136,11 @@ pub fn request_of<'a>(matches: &'a ArgMatches<'_>) -> Option<Request<'a>>
             numbers: numbers_of(inner)?,
             left: inner.get_str("IMAGE")?,
             right: inner.get_str("OTHER")?,
+        }),
+        ("change", inner) => Some(Request::Change {
+            numbers: numbers_of(inner)?,
+            image: inner.get_str("IMAGE")?,
+            change: change_of(inner)?,
         }),
         _ => None,
     }
@@ -151,9 +178,8 @@ fn show_command<'a>(alloc: Global) -> Result<Command<'a>, AllocError>
 fn extract_command<'a>(alloc: Global) -> Result<Command<'a>, AllocError>
     ensures { IfOk result (λ c. (out-Command c).name.now ≡ codes "extract") }
 {
-    let id = number(alloc, "id", "The number of the volume").required(true);
     let command = out_command(alloc, "extract", "Writes what a volume reads")?;
-    command.arg(id)
+    command.arg(number(alloc, "id", ID).required(true))
 }
 
 fn normalise_command<'a>(alloc: Global) -> Result<Command<'a>, AllocError>
@@ -175,6 +201,21 @@ fn same_command<'a>(alloc: Global) -> Result<Command<'a>, AllocError>
         .required(true);
     let command = image_command(alloc, "same", "Says whether two images mean the same")?;
     command.arg(other)
+}
+
+fn change_command<'a>(alloc: Global) -> Result<Command<'a>, AllocError>
+    ensures { IfOk result (λ c. (out-Command c).name.now ≡ codes "change") }
+{
+    let from = Arg::new(alloc, "from")
+        .long("from")
+        .value_name("FILE")
+        .help("The file that holds the new bytes")
+        .required(true);
+    let command = out_command(alloc, "change", CHANGE)?;
+    let command = command.arg(number(alloc, "id", ID).required(true))?;
+    let command = command.arg(number(alloc, "lnum", LNUM).required(true))?;
+    let command = command.arg(from)?;
+    command.arg(number(alloc, "stop", STOP))
 }
 
 /// A command over an image file that writes another file.
@@ -216,6 +257,14 @@ fn with_numbers<'a>(alloc: Global, command: Command<'a>) -> Result<Command<'a>, 
     command.arg(number(alloc, "pebs", PEBS))
 }
 
+const ID: &str = "The number of the volume";
+
+const CHANGE: &str = "Gives one logical eraseblock new bytes, by steps that may be cut short";
+
+const LNUM: &str = "The number of the logical eraseblock (LEB)";
+
+const STOP: &str = "Writes the image after N steps only [default: all]";
+
 const PEB: &str = "The bytes of an eraseblock";
 
 const PAGE: &str = "The bytes of a page";
@@ -233,6 +282,16 @@ fn number<'a>(alloc: Global, name: &'a str, help: &'a str) -> Arg<'a> {
         .value_name("N")
         .help(help)
         .value_parser(value_parser!(u32))
+}
+
+fn change_of<'a>(matches: &'a ArgMatches<'_>) -> Option<Change<'a>> {
+    Some(Change {
+        id: matches.get_one::<u32>("id")?,
+        lnum: matches.get_one::<u32>("lnum")?,
+        from: matches.get_str("from")?,
+        out: matches.get_str("out")?,
+        stop: matches.get_one::<u32>("stop"),
+    })
 }
 
 fn numbers_of(matches: &ArgMatches<'_>) -> Option<Numbers> {

@@ -19,6 +19,8 @@ pub enum Detail {
     Volume(u32),
     /// An eraseblock before the one that is at fault.
     Earlier(u32),
+    /// A number of pages.
+    Pages(u32),
     /// The fault of an erase-counter header.
     Ec(EcFault),
     /// The fault of a volume-identifier header.
@@ -97,6 +99,7 @@ fn put_detail(text: &mut Vec<u8>, detail: Detail) -> Result<(), AllocError>
         Detail::Slot(slot) => put_number(text, " slot=", u64::from(slot)),
         Detail::Volume(volume) => put_number(text, " volume=", u64::from(volume)),
         Detail::Earlier(block) => put_number(text, " earlier=", u64::from(block)),
+        Detail::Pages(pages) => put_number(text, " pages=", u64::from(pages)),
         Detail::Ec(fault) => put_name(text, ec_fault_name(fault)),
         Detail::Vid(fault) => put_name(text, vid_fault_name(fault)),
         Detail::Rec(fault) => put_name(text, rec_fault_name(fault)),
@@ -121,7 +124,7 @@ fn put_details(text: &mut Vec<u8>, details: &[Detail]) -> Result<(), AllocError>
 }
 
 /// The line of a refusal: its cause, and the details.
-fn refused(alloc: Global, cause: &str, details: &[Detail]) -> Result<Vec<u8>, AllocError>
+pub fn refused(alloc: Global, cause: &str, details: &[Detail]) -> Result<Vec<u8>, AllocError>
     ensures { IfOk result (λ text. text.items ≡ refused cause.now details.now) }
 {
     let mut text = Vec::from_slice(alloc, b"refused ")?;

@@ -7,6 +7,7 @@
 ghost use Rattle.std.specs.IoError.{error_kind};
 ghost use Rattle.std.specs.Prelude.{◌≡◌, ◌≢◌};
 
+mod change;
 mod check;
 mod command_line;
 mod extract;

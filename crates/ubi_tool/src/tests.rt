@@ -1,4 +1,6 @@
 mod answers;
+mod change;
+mod change_files;
 mod check;
 mod extract;
 mod fake;

@@ -3,6 +3,7 @@
 ghost use Rattle.clap.specs.Values.{kind_of};
 ghost use Rattle.std.specs.Prelude.{◌≡◌, ◌↔◌, IfOk, IsErr, codes};
 ghost use Rattle.ubi_tool.specs.Answer.{Gives, says};
+ghost use Rattle.ubi_tool.specs.Change.{ChangesInto};
 ghost use Rattle.ubi_tool.specs.Check.{Checks};
 ghost use Rattle.ubi_tool.specs.Extract.{ExtractsInto};
 ghost use Rattle.ubi_tool.specs.Lines.{file_line};
@@ -12,8 +13,9 @@ ghost use Rattle.ubi_tool.specs.Program.{IsAnswer, IsWritten, OfImage};
 ghost use Rattle.ubi_tool.specs.Same.{Compares};
 ghost use Rattle.ubi_tool.specs.Show.{Shows};
 
+use crate::change::run_change;
 use crate::check::run_check;
-use crate::command_line::{Request, command_line, request_of};
+use crate::command_line::{Change, Request, command_line, request_of};
 use crate::extract::run_extract;
 use crate::image_file::load;
 use crate::late_file::LateFile;
@@ -83,6 +85,11 @@ fn run_request<R: Files>(rt: &R, alloc: Global, request: Request<'_>) -> Result<
             left,
             right,
         } => same_files(rt, alloc, numbers, left, right),
+        Request::Change {
+            numbers,
+            image,
+            change,
+        } => change_file(rt, alloc, numbers, image, &change),
     }
 }
 
@@ -215,6 +222,38 @@ fn same_files<R: Files>(
         second.bytes.as_slice(),
     ) {
         Ok(outcome) => Ok(outcome),
+        Err(_) => Err(AllocError),
+    }
+}
+
+/// Changes one file into another, by the bytes of a third.
+fn change_file<R: Files>(
+    rt: &R,
+    alloc: Global,
+    numbers: Numbers,
+    image: &str,
+    change: &Change<'_>,
+) -> Result<Outcome, AllocError>
+    ensures { IfOk result (OfImage numbers image.now (λ i. OfImage numbers change.now.from.now (λ f. ChangesInto change.now.id change.now.lnum f.bytes change.now.stop change.now.out.now i))) }
+{
+    let old = match load(rt, alloc, numbers, image) {
+        Ok(file) => file,
+        Err(unread) => return unread.answer(),
+    };
+    let new = match load(rt, alloc, numbers, change.from) {
+        Ok(file) => file,
+        Err(unread) => return unread.answer(),
+    };
+    match run_change(
+        alloc,
+        &old.geometry,
+        old.bytes.as_slice(),
+        change.id,
+        change.lnum,
+        new.bytes.as_slice(),
+        change.stop,
+    ) {
+        Ok(outcome) => write_outcome(rt, alloc, outcome, change.out),
         Err(_) => Err(AllocError),
     }
 }

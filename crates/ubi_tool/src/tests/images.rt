@@ -16,6 +16,9 @@ pub const COPY_FLAG_2: [u8; 64] = *b"UBI!\x01\x01\x02\0\
 /// The check of 384 bytes 0x41, worked out by another program.
 pub const CHECK_OF_41: u32 = 0xD6FB_3026;
 
+/// That of 64 bytes 0x61.
+pub const CHECK_OF_61: u32 = 0x764B_9AAA;
+
 /// Those of 64 bytes 0x37 and 0x39.
 const CHECK_OF_37: u32 = 0x6BFF_21BA;
 
@@ -37,6 +40,13 @@ pub const ROOT: Record = Record {
     start: *b"\0\0\0\x14\0\0\0\x01\0\0\0\0\x01\0\0\x04root",
     flags: 0,
     check: [0x71, 0xDF, 0xB1, 0x1D],
+};
+
+/// The same while it is updated.
+pub const MARKED_ROOT: Record = Record {
+    start: *b"\0\0\0\x14\0\0\0\x01\0\0\0\0\x01\x01\0\x04root",
+    flags: 0,
+    check: [0x9B, 0x01, 0x91, 0x0D],
 };
 
 /// The record of a static volume `boot` with 3 reserved eraseblocks.

@@ -6,7 +6,9 @@
 use super::answers::run_line;
 use super::extract::root_text;
 use super::fake::{Broken, FakeFiles};
-use super::normal::root_bytes;
+use super::images::overwrite;
+use super::normal::{EC, root_bytes};
+use crate::change::run_change;
 use crate::check::run_check;
 use crate::extract::run_extract;
 use crate::list::run_list;
@@ -45,6 +47,22 @@ fn is_extracted(rt: &impl Abort, alloc: Global, geometry: &Geometry, image: &[u8
     is_told
 }
 
+/// Whether `change` answered its plan, and the file of its last step. Else memory ran out.
+fn is_changed(rt: &impl Abort, alloc: Global, geometry: &Geometry) -> bool {
+    let image = spare_bytes();
+    let answer = run_change(alloc, geometry, &image, 0, 1, &[0x61; 64], None);
+    is_told(rt, answer, "steps 4\n")
+}
+
+/// The image of `root`, and a clean free eraseblock behind it. It takes no memory.
+fn spare_bytes() -> [u8; 3072] {
+    let root = root_bytes();
+    let mut bytes = [0xFF; 3072];
+    overwrite(&mut bytes, 0, &root);
+    overwrite(&mut bytes, 2560, &EC);
+    bytes
+}
+
 #[test]
 fn tells_all_or_runs_out_of_memory(rt: HostRuntime) -> Result<(), Fail> {
     let alloc = rt.alloc();
@@ -57,6 +75,7 @@ fn tells_all_or_runs_out_of_memory(rt: HostRuntime) -> Result<(), Fail> {
         is_extracted(&rt, alloc, &geometry, &image),
         is_told(&rt, run_normalise(alloc, &geometry, &image), "blocks 5\n"),
         is_told(&rt, run_same(alloc, &geometry, &image, &image), "same\n"),
+        is_changed(&rt, alloc, &geometry),
     ];
     if told.contains(&false) {
         println!(rt; "out of memory")?;
@@ -105,12 +124,15 @@ fn runs_words_or_out_of_memory(rt: HostRuntime) -> Result<(), Fail> {
     let extract = "extract a --id 0 --out b --peb 512 --page 64";
     let normalise = "normalise a --out b --peb 512 --page 64";
     let same = "same a b --peb 512 --page 64";
+    let change = "change a --id 0 --lnum 1 --from new.bin --out b --peb 512 --page 64";
+    let spare: &[u8] = &spare_bytes();
     let ran = [
         is_run(&rt, alloc, image, list, ("geometry peb=512 ", 0)),
         is_run(&rt, alloc, image, show, ("ec valid 5542", 0)),
         is_run(&rt, alloc, image, extract, ("bytes 7680\n", 7680)),
         is_run(&rt, alloc, image, normalise, ("blocks 5\n", 2560)),
         is_run(&rt, alloc, image, same, ("same\n", 0)),
+        is_run(&rt, alloc, spare, change, ("steps 4\n", 3072)),
     ];
     if ran.contains(&false) {
         println!(rt; "out of memory")?;

@@ -4,7 +4,7 @@ use super::images::{BOOT, BOOT_UPDATING, ROOT, Record, overwrite, put_bytes, rec
 use std::alloc::{AllocError, Global};
 
 /// An erase-counter header of the small geometry, with counter 0 and no image.
-const EC: [u8; 64] = *b"UBI#\x01\0\0\0\
+pub const EC: [u8; 64] = *b"UBI#\x01\0\0\0\
     \0\0\0\0\0\0\0\0\0\0\0\x40\0\0\0\x80\0\0\0\0\
     \0\0\0\0\0\0\0\0\0\0\0\0\0\0\0\0\0\0\0\0\0\0\0\0\0\0\0\0\0\0\0\0\x77\x52\xb3\xc4";
 

@@ -56,7 +56,8 @@ fn shows_wrong_commands_and_help(rt: HostRuntime) -> Result<(), Fail> {
     assert_wrong(&rt, alloc, "show --help", "Usage: ubi_tool show")?;
     assert_wrong(&rt, alloc, "same --help", "Usage: ubi_tool same")?;
     assert_wrong(&rt, alloc, "extract --help", "Usage: ubi_tool extract")?;
-    assert_wrong(&rt, alloc, "normalise --help", "Usage: ubi_tool normalise")
+    assert_wrong(&rt, alloc, "normalise --help", "Usage: ubi_tool normalise")?;
+    assert_wrong(&rt, alloc, "change --help", "Usage: ubi_tool change")
 }
 
 #[test]
@@ -75,6 +76,23 @@ fn shows_words_that_are_missing(rt: HostRuntime) -> Result<(), Fail> {
     assert_wrong(&rt, alloc, line, "--id <N>")?;
     let line = "extract a --peb 512 --page 64 --id 0";
     assert_wrong(&rt, alloc, line, "--out <FILE>")
+}
+
+#[test]
+fn shows_words_of_a_change_that_are_missing(rt: HostRuntime) -> Result<(), Fail> {
+    let alloc = rt.alloc();
+    let line = "change a --peb 512 --page 64 --lnum 0 --from b --out c";
+    assert_wrong(&rt, alloc, line, "--id <N>")?;
+    let line = "change a --peb 512 --page 64 --id 0 --from b --out c";
+    assert_wrong(&rt, alloc, line, "--lnum <N>")?;
+    let line = "change a --peb 512 --page 64 --id 0 --lnum 0 --out c";
+    assert_wrong(&rt, alloc, line, "--from <FILE>")?;
+    let line = "change a --peb 512 --page 64 --id 0 --lnum 0 --from b";
+    assert_wrong(&rt, alloc, line, "--out <FILE>")?;
+    let line = "change a --peb 512 --page 64 --id 0 --lnum 0 --from b --out c --stop x";
+    assert_wrong(&rt, alloc, line, "invalid value")?;
+    let line = "change a --peb 500 --page 64 --id 0 --lnum 0 --from b --out c --stop 0";
+    assert_answers(&rt, alloc, line, ("refused G2 PebSize\n", 2), "")
 }
 
 #[test]

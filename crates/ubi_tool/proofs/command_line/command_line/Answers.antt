@@ -15,6 +15,7 @@ returns c =
     let three = one_more _ _ _ _ (codes "show") c.in_ok-tool-3.ensures two c.in_ok-show_command.ensures in
     let four = one_more _ _ _ _ (codes "extract") c.in_ok-tool-4.ensures three c.in_ok-extract_command.ensures in
     let five = one_more _ _ _ _ (codes "normalise") c.in_ok-tool-5.ensures four c.in_ok-normalise_command.ensures in
-    IfOk-weaker c.subcommand-6.result (λ r. AddsSubcommand c.in_ok-tool-5.tool c.in_ok-same_command.field-0 r) _
-    (λ r adds. one_more _ _ _ _ (codes "same") adds five c.in_ok-same_command.ensures)
-    c.subcommand-6.ensures
+    let six = one_more _ _ _ _ (codes "same") c.in_ok-tool-6.ensures five c.in_ok-same_command.ensures in
+    IfOk-weaker c.subcommand-7.result (λ r. AddsSubcommand c.in_ok-tool-6.tool c.in_ok-change_command.field-0 r) _
+    (λ r adds. one_more _ _ _ _ (codes "change") adds six c.in_ok-change_command.ensures)
+    c.subcommand-7.ensures

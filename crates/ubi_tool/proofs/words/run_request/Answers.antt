@@ -1,5 +1,5 @@
 use Rattle.std.proofs.lemmas.Result.{IfOk-weaker}
-use Rattle.ubi_tool.specs.Program.{check, extract, list, normalise, same, show}
+use Rattle.ubi_tool.specs.Program.{change, check, extract, list, normalise, same, show}
 use Rattle.ubi_tool.proofs.words.run_request.Goals as goal
 
 pub returns-in-Normalise : goal.returns-in-Normalise
@@ -23,3 +23,7 @@ returns-in-Extract g c =
 pub returns-in-Same : goal.returns-in-Same
 returns-in-Same g c =
     IfOk-weaker c.same_files.result _ _ (λ o h. same _ _ _ h) c.same_files.ensures
+
+pub returns-in-Change : goal.returns-in-Change
+returns-in-Change g c =
+    IfOk-weaker c.change_file.result _ _ (λ o h. change _ _ _ _ _ _ _ h) c.change_file.ensures
