@@ -3,7 +3,7 @@ use Rattle.std.specs.Prelude.{◌≡◌, ℕ, List, [], ◌∷◌, ◌++◌, Opt
 use Rattle.std.specs.List.{concat, flat_map}
 use Rattle.ubi_change.specs.Changed.{changed}
 use Rattle.ubi_change.specs.Cuts.{turn}
-use Rattle.ubi_change.specs.Planned.{AllFitOf, IsPlan, SurvivesCutsOf}
+use Rattle.ubi_change.specs.Planned.{AllFitOf, IsFrugalOf, IsPlan, SurvivesCutsOf}
 use Rattle.ubi_change.specs.Refused.{IsChangeRefusal}
 use Rattle.ubi_change.specs.Steps.{after}
 use Rattle.ubi_change.specs.declared.refusal.ChangeRefusal.{ChangeRefusal}
@@ -31,7 +31,7 @@ step_line next = step_words next ++ codes "\n"
 abbrev pub plan_lines : List Step → List ℕ
 plan_lines steps = codes "steps " ++ decimal (length steps) ++ codes "\n" ++ flat_map step_line steps
 
--- the line of a change that isn't planned; want of memory has none
+-- the line of a change that isn't planned; memory that ran out has none
 abbrev pub cause_line : ChangeRefusal → Option (List ℕ)
 cause_line (refusal.Attach c) = Some (refusal_line c)
 cause_line refusal.NoVolume = Some (refused (codes "K2 NoVolume") [])
@@ -61,10 +61,12 @@ change_answer image steps stop = record {
   file = Some (cut_bytes image steps (steps_done steps stop));
 }
 
--- the steps are the plan of the change: each fits what those before it leave, and the image survives a cut between them
+-- the steps are the plan of the change: each fits what those before it leave, they touch just what they need and count
+-- each erase, and the image survives a cut between them
 pub record IsPlanned (image : Image) (id lnum : ℕ) (new : List ℕ) (steps : List Step) : Type 0 where
   pub plan : IsPlan image id lnum new steps
   pub fit : AllFitOf image steps
+  pub frugal : IsFrugalOf image id lnum new steps
   pub survives : SurvivesCutsOf image id lnum new steps
 
 -- the image after the first k steps is accepted: before the turn it means what it meant before them, and from the turn on

@@ -3,6 +3,7 @@ pub mod Change
 pub mod Check
 pub mod CommandLine
 pub mod Extract
+pub mod Headline
 pub mod Lines
 pub mod List
 pub mod Normalise

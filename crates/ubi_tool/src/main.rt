@@ -13,6 +13,7 @@ mod command_line;
 mod extract;
 mod image_file;
 mod late_file;
+mod laws;
 mod lines;
 mod list;
 mod normalise;
