@@ -14,6 +14,7 @@ pub mod Mean
 pub mod Mounted
 pub mod PageBytes
 pub mod PagePlaces
+pub mod PagesRise
 pub mod PlanFits
 pub mod PlanFrugal
 pub mod PlanMade
