@@ -1,13 +1,11 @@
 -- Between two erases of an eraseblock a plan programs its pages in rising order, none twice but page 0, and that not three
 -- times.
-use Rattle.std.proofs.Common.{◌≡◌, ◌≢◌, ℕ, zero, suc, ◌+◌, ◌-◌, ◌/◌, ◌<◌, ◌≤◌, ◌⊎◌, inl, inr, Bool, true, false, cond, List, [], ◌∷◌, ◌++◌, append_assoc, append-nil, length, map, refl, ap, sym, ◌∙◌, subst, arith}
-use Rattle.std.specs.Prelude.{None, Option, Some, slice_get}
+use Rattle.std.proofs.Common.{◌≡◌, ◌≢◌, ℕ, zero, suc, ◌+◌, ◌/◌, ◌<◌, ◌≤◌, ◌⊎◌, inl, inr, Bool, true, false, cond, List, [], ◌∷◌, ◌++◌, append_assoc, length, map, refl, ap, sym, ◌∙◌, subst, arith}
+use Rattle.std.specs.Prelude.{None, Option, Some}
 use Rattle.std.specs.FinMap as finite
 use Rattle.std.specs.List.{enumerate_from}
 use Rattle.std.specs.Option.{option_map_or}
 use Rattle.std.specs.Simd.{first_chunks}
-use Rattle.ubi_media.specs.Ec.{ec_bytes}
-use Rattle.ubi_media.specs.Fields.{filled}
 use Rattle.ubi_media.specs.Geometry.{IsGeometry, Sizes}
 use Rattle.ubi_media.specs.declared.ec.EcHeader.{EcHeader}
 use Rattle.ubi_media.specs.Record.{data_pad}
@@ -16,7 +14,7 @@ use Rattle.ubi_media.specs.declared.vid.VidHeader.{VidHeader}
 use Rattle.ubi_scan.proofs.Keys.{same_or_apart}
 use Rattle.ubi_volume.specs.Attached.{Whole}
 use Rattle.ubi_change.specs.Headers.{blank_header, copy_header, next_ec, vid_page}
-use Rattle.ubi_change.specs.Order.{Erases, NoErase, Programs}
+use Rattle.ubi_change.specs.Order.{NoErase, Programs}
 use Rattle.ubi_change.specs.Plan.{atomic_copy, mapped_plan, mount, needs, plan_of, prepare, program_header, program_text, ready_bytes, ready_ec, release, renew, taken, unmapped_plan}
 use Rattle.ubi_change.specs.Takeable.{ec_at, is_clean, is_worn, takeable}
 use Rattle.ubi_change.specs.Weak.{pages_of}
