@@ -188,9 +188,10 @@ program_order p q n (suc page) ys rest few here there = (λ same. inl (omega ari
 pages_order : (p q n i : ℕ) (es : List (List ℕ)) (rest : List Step) → (q ≡ p → n ≤ i + 1) → 1 ≤ i → ((m : ℕ) → InOrder p m rest)
     → InOrder p n (map (λ e. step.Program q e.0 e.1) (enumerate_from i es) ++ rest)
 pages_order p q n i [] rest low some any = any n
-pages_order p q n i (e ∷ es) rest low some any =
-    (λ same. inl (some, low same, pages_order p q (i + 2) (i + 1) es rest (λ _. omega arith) (omega arith) any),
-    λ apart. pages_order p q n (i + 1) es rest (λ same. absurd (apart same)) (omega arith) any)
+pages_order p q n i (e ∷ es) rest low some any = (
+  λ same. inl (some, low same, pages_order p q (i + 2) (i + 1) es rest (λ _. omega arith) (omega arith) any),
+  λ apart. pages_order p q n (i + 1) es rest (λ same. absurd (apart same)) (omega arith) any,
+)
 
 module _ (s : Sizes) (g : IsGeometry s) (bs : List (List ℕ)) (a : Whole) where
   release_order : (p old n : ℕ) (now : Option EcHeader) → InOrder p n (release s bs a old now)
