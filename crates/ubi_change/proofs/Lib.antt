@@ -7,6 +7,7 @@ pub mod CopyFits
 pub mod CountsErases
 pub mod Fits
 pub mod GivenUp
+pub mod HeadersKept
 pub mod Kept
 pub mod Laid
 pub mod Mapped
@@ -14,9 +15,11 @@ pub mod Mean
 pub mod Mounted
 pub mod PageBytes
 pub mod PagePlaces
+pub mod PagesRise
 pub mod PlanFits
 pub mod PlanFrugal
 pub mod PlanMade
+pub mod PlanRises
 pub mod PlanSurvives
 pub mod PlanVectors
 pub mod Premises

@@ -3,7 +3,7 @@
 ghost use Rattle.std.specs.Prelude.{◌≡◌, ◌%◌, ◌^◌, ◌<◌, IfErr, IfOk, length};
 ghost use Rattle.ubi_change.specs.Headers.{blank_header, copy_header};
 ghost use Rattle.ubi_change.specs.Making.{AreWithin, mapped_steps, steps_on, unmapped_steps};
-ghost use Rattle.ubi_change.specs.Planned.{AllFitOf, IsFrugalOf, IsPlan, SurvivesCutsOf};
+ghost use Rattle.ubi_change.specs.Planned.{AllFitOf, IsFrugalOf, IsPlan, RisesOf, SurvivesCutsOf};
 ghost use Rattle.ubi_change.specs.Refused.{IsChangeRefusal};
 ghost use Rattle.ubi_scan.specs.Image.{eraseblocks};
 
@@ -150,12 +150,14 @@ fn steps_on(
 /// The new bytes are whole pages, at least one, and no more than the volume uses of a logical eraseblock. Cut after any of
 /// the steps, the image is accepted and means the old or the new.
 ///
-/// Each step fits what those before it leave. The steps touch only the winner of the logical eraseblock, if it has one, and
-/// the first of the eraseblocks that may be taken: one if it has a winner, else two. Once the copy is whole, they erase what
-/// is given up (the winner, or the one that is taken first), unless it can't count another erase by then. Each eraseblock
-/// that is erased has at the end a Valid erase-counter header that counts each erase.
+/// Each step fits what those before it leave. Between two erases of an eraseblock its pages are programmed in rising order,
+/// none twice but page 0, and that not three times; a program of page 0 comes right behind an erase, or keeps the bytes of
+/// the erase-counter header as they stand.
 ///
-/// Not proved yet, and so no clause says it: that pages rise between two erases of an eraseblock.
+/// The steps touch only the winner of the logical eraseblock, if it has one, and the first of the eraseblocks that may be
+/// taken: one if it has a winner, else two. Once the copy is whole, they erase what is given up (the winner, or the one that
+/// is taken first), unless it can't count another erase by then. Each eraseblock that is erased has at the end a Valid
+/// erase-counter header that counts each erase.
 ///
 /// # Errors
 ///
@@ -170,6 +172,7 @@ pub fn plan_change(
 ) -> Result<Vec<Step>, ChangeRefusal>
     ensures survives { IfOk result (λ steps. SurvivesCutsOf (record { sizes = geometry.now; bytes = image.now }) id lnum new.now steps.items) }
     ensures fits { IfOk result (λ steps. AllFitOf (record { sizes = geometry.now; bytes = image.now }) steps.items) }
+    ensures rises { IfOk result (λ steps. RisesOf (record { sizes = geometry.now; bytes = image.now }) steps.items) }
     ensures frugal { IfOk result (λ steps. IsFrugalOf (record { sizes = geometry.now; bytes = image.now }) id lnum new.now steps.items) }
     ensures plan { IfOk result (λ steps. IsPlan (record { sizes = geometry.now; bytes = image.now }) id lnum new.now steps.items) }
     ensures refused { IfErr result (IsChangeRefusal (record { sizes = geometry.now; bytes = image.now }) id lnum new.now) }

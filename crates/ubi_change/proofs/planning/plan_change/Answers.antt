@@ -17,7 +17,9 @@ use Rattle.ubi_change.specs.Steps.{AllFit}
 use Rattle.ubi_change.proofs.CopyFits.{bytes-each}
 use Rattle.ubi_change.proofs.PlanFits.{plan_fits}
 use Rattle.ubi_change.specs.Frugal.{IsFrugal}
+use Rattle.ubi_change.specs.Order.{RisesBetweenErases}
 use Rattle.ubi_change.proofs.PlanFrugal.{plan_frugal}
+use Rattle.ubi_change.proofs.PlanRises.{plan_rises}
 use Rattle.ubi_change.proofs.PlanMade.{allowed, are_within, image_stands, no_volume, own_stands, steps_are}
 use Rattle.ubi_change.proofs.PlanSurvives.{mean_few, plan_survives, sound}
 use Rattle.ubi_change.proofs.planning.plan_change.Goals as goal
@@ -125,6 +127,15 @@ returns-clause-fits c =
     let planned = plan_fits image g made.from made.attached (mean_few image made.from made.attached) narrow c.args.id c.args.lnum c.args.new.now made.volume made.there made.allowed
     (half_pad image.sizes made.volume.entry sound_record g) (reserved_within image.sizes made.volume.entry sound_record) bytes in
     subst (AllFit image.sizes (eraseblocks image)) (sym made.plan) planned
+
+pub returns-clause-rises : goal.returns-clause-rises
+unfolding returns-clause-plan
+returns-clause-rises c =
+    let image : Image = record { sizes = c.args.geometry.now; bytes = c.args.image.now } in
+    let made : IsPlan image c.args.id c.args.lnum c.args.new.now c.in_ok-steps_on.field-0.items = returns-clause-plan c in
+    let narrow : c.in_ok-attached.attached.scan.image_seq < 2 ^ 32 = subst (λ (n : ℕ). n < 2 ^ 32) c.image_seq.ensures c.image_seq.type_inv in
+    let planned = plan_rises image c.page.ensures.limits made.from made.attached narrow c.args.id c.args.lnum c.args.new.now made.volume made.there made.allowed in
+    subst (RisesBetweenErases image.sizes (eraseblocks image)) (sym made.plan) planned
 
 pub returns-clause-frugal : goal.returns-clause-frugal
 unfolding returns-clause-plan
