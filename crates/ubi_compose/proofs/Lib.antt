@@ -2,11 +2,18 @@ pub mod Accepted
 pub mod Apart
 pub mod Blocks
 pub mod Contents
+pub mod Cuts
+pub mod Decimals
+pub mod Drafts
+pub mod Escapes
 pub mod Fitting
 pub mod Form
 pub mod Headers
+pub mod Hexadecimal
 pub mod Image
 pub mod LaidPieces
+pub mod LineForms
+pub mod LinesLeft
 pub mod Lists
 pub mod Normal
 pub mod NormalVectors
@@ -15,5 +22,6 @@ pub mod Puts
 pub mod Rising
 pub mod Room
 pub mod Spares
+pub mod SpecVectors
 pub mod Table
 pub mod Volumes

@@ -1,18 +1,25 @@
-//! The normal image of a meaning: the one byte string by which it is known.
+//! The normal image of a meaning: the one byte string by which it is known. And the composer's text, a plain way to
+//! write the volumes of a meaning down.
 #![tactic(auto)]
 
 mod comparing;
 mod composing;
+mod cutting;
 mod errors;
 mod header;
 pub mod laws;
 mod laying;
+mod line;
 mod records;
+mod shown;
+mod taking;
 mod volume;
+mod words;
 
 pub use comparing::same;
 pub use composing::{compose, normalise};
-pub use errors::{ComposeError, SameError};
+pub use errors::{ComposeError, SameError, SpecCause, SpecError};
+pub use shown::shown_name;
 
 #[cfg(test)]
 mod tests;

@@ -1,0 +1,228 @@
+//! A line of the composer's text by itself.
+
+ghost use Rattle.std.specs.List.{list_all, list_any};
+ghost use Rattle.std.specs.Prelude.{◌≡◌, ◌==◌, IfOk, MatchResult, Ok, length, map, take};
+ghost use Rattle.ubi_compose.specs.Words.{is_between};
+ghost use Rattle.ubi_compose.specs.Lines.{IsLineError, first_word, form_of, is_form, is_spelled, leb_line, line_of, number_word, said, text_line, volume_line, volume_of, word_count, words};
+
+use crate::errors::{LineError, SpecCause};
+use crate::shown::shown_name;
+use crate::words::{flags_of, hex_of, kind_of, number_of};
+use std::alloc::{AllocError, Global};
+use ubi_media::VolumeRecord;
+use ubi_volume::Bytes;
+
+/// The five forms of a line.
+#[derive(Clone, Copy, Debug, PartialEq, Eq)]
+pub(crate) enum Form {
+    Volume,
+    Leb,
+    Text,
+    Damaged,
+    Updating,
+}
+
+/// The words of the form that has the most.
+const MOST_WORDS: usize = 7;
+
+/// The forms.
+const FORMS: [Form; 5] = [
+    Form::Volume,
+    Form::Leb,
+    Form::Text,
+    Form::Damaged,
+    Form::Updating,
+];
+
+impl Form {
+    /// The first word of such a line.
+    fn first_word(self) -> &'static [u8]
+        ensures { result.now ≡ first_word self }
+    {
+        match self {
+            Form::Volume => b"volume",
+            Form::Leb => b"leb",
+            Form::Text => b"bytes",
+            Form::Damaged => b"damaged",
+            Form::Updating => b"updating",
+        }
+    }
+
+    /// How many words it has, at most [`MOST_WORDS`].
+    fn word_count(self) -> usize
+        ensures { result ≡ word_count self }
+    {
+        match self {
+            Form::Volume => 7,
+            Form::Leb => 4,
+            Form::Text => 3,
+            Form::Damaged | Form::Updating => 2,
+        }
+    }
+}
+
+/// What a line says of the volume whose number it begins with.
+#[derive(Drop)]
+pub(crate) enum Line {
+    /// Its record.
+    Volume(u32, VolumeRecord),
+    /// The first bytes of a logical eraseblock.
+    Leb(u32, u32, Bytes),
+    /// More bytes of its text.
+    Text(u32, Bytes),
+    /// It isn't whole.
+    Damaged(u32),
+    /// An update of it began that didn't end.
+    Updating(u32),
+}
+
+impl Line {
+    /// The number of its volume.
+    pub(crate) fn volume(&self) -> u32
+        ensures { result ≡ volume_of self.now }
+    {
+        match self {
+            Line::Volume(id, _)
+            | Line::Leb(id, _, _)
+            | Line::Text(id, _)
+            | Line::Damaged(id)
+            | Line::Updating(id) => *id,
+        }
+    }
+}
+
+/// The number of a word.
+fn number(word: &[u8]) -> Result<u32, SpecCause>
+    ensures { result ≡ number_word word.now }
+{
+    number_of(word).ok_or(SpecCause::Number)
+}
+
+/// What a line with a record says.
+#[tactic(auto, unfolding(crate::specs::Lines::volume_line))]
+fn volume_line(
+    id: &[u8],
+    kind: &[u8],
+    reserved: &[u8],
+    alignment: &[u8],
+    flags: &[u8],
+    name: &[u8],
+) -> Result<Line, SpecCause>
+    ensures { result ≡ volume_line id.now kind.now reserved.now alignment.now flags.now name.now }
+{
+    let kind = kind_of(kind).ok_or(SpecCause::Word)?;
+    let id = number(id)?;
+    let reserved = number(reserved)?;
+    let alignment = number(alignment)?;
+    let flags = flags_of(flags).ok_or(SpecCause::Hex)?;
+    let name = shown_name(name).ok_or(SpecCause::Name)?;
+    Ok(Line::Volume(
+        id,
+        VolumeRecord {
+            reserved,
+            alignment,
+            kind,
+            marker: false,
+            name,
+            flags,
+        },
+    ))
+}
+
+/// What a line with the bytes of a logical eraseblock says.
+#[tactic(auto, unfolding(crate::specs::Lines::leb_line))]
+fn leb_line(alloc: Global, id: &[u8], lnum: &[u8], bytes: &[u8]) -> Result<Line, LineError>
+    ensures { let said = leb_line id.now lnum.now bytes.now in MatchResult result (λ l. said ≡ Ok l) (IsLineError said) }
+{
+    let id = number(id)?;
+    let lnum = number(lnum)?;
+    let bytes = hex_of(alloc, bytes)?.ok_or(SpecCause::Hex)?;
+    Ok(Line::Leb(id, lnum, bytes))
+}
+
+/// What a line with more bytes of a text says.
+#[tactic(auto, unfolding(crate::specs::Lines::text_line))]
+fn text_line(alloc: Global, id: &[u8], bytes: &[u8]) -> Result<Line, LineError>
+    ensures { let said = text_line id.now bytes.now in MatchResult result (λ l. said ≡ Ok l) (IsLineError said) }
+{
+    let id = number(id)?;
+    let bytes = hex_of(alloc, bytes)?.ok_or(SpecCause::Hex)?;
+    Ok(Line::Text(id, bytes))
+}
+
+/// What a line of a form says, whose number of words is the form's.
+#[tactic(auto, unfolding(crate::specs::Lines::damaged_line, crate::specs::Lines::updating_line))]
+fn said(alloc: Global, words: &[&[u8]], form: Form) -> Result<Line, LineError>
+    requires { length words.now ≡ word_count form }
+    ensures { let said = said (map (λ w. w.now) words.now) form in MatchResult result (λ l. said ≡ Ok l) (IsLineError said) }
+{
+    match form {
+        Form::Volume => Ok(volume_line(
+            words[1], words[2], words[3], words[4], words[5], words[6],
+        )?),
+        Form::Leb => leb_line(alloc, words[1], words[2], words[3]),
+        Form::Text => text_line(alloc, words[1], words[2]),
+        Form::Damaged => Ok(Line::Damaged(number(words[1])?)),
+        Form::Updating => Ok(Line::Updating(number(words[1])?)),
+    }
+}
+
+/// The words of a line, of which there may be very many: but the first of them where they are more than any form has.
+fn words_of(alloc: Global, text: &[u8]) -> Result<Vec<&[u8]>, AllocError>
+    ensures { IfOk result (λ found. map (λ w. w.now) found.items ≡ take 8 (words text.now)) }
+{
+    text.split(|byte| *byte == b' ')
+        .take(MOST_WORDS + 1)
+        .collect(alloc)
+}
+
+/// Whether two spaces of a line stand side by side, or one at its end.
+fn has_empty_word(text: &[u8]) -> bool
+    ensures { result ≡ list_any (λ w. length w == 0) (words text.now) }
+{
+    text.split(|byte| *byte == b' ').any(|word| word.is_empty())
+}
+
+/// Whether a line has no byte outside 0x20 to 0x7E.
+fn are_printed(text: &[u8]) -> bool
+    ensures { result ≡ list_all (is_between 0x20 0x7E) text.now }
+{
+    text.iter().all(|byte| *byte >= 0x20 && *byte <= 0x7E)
+}
+
+/// Whether a line has no byte outside 0x20 to 0x7E, and no empty word.
+fn is_spelled(text: &[u8]) -> bool
+    ensures { result ≡ is_spelled text.now }
+{
+    are_printed(text) && !has_empty_word(text)
+}
+
+/// Whether the first word and the number of words are those of a form.
+fn is_form(words: &[&[u8]], form: Form) -> bool
+    ensures { result ≡ is_form (map (λ w. w.now) words.now) form }
+{
+    words.len() == form.word_count() && words[0] == form.first_word()
+}
+
+/// The form whose first word and number of words these are.
+#[tactic(auto, unfolding(crate::specs::Lines::form_of))]
+fn form_of(words: &[&[u8]]) -> Option<Form>
+    ensures { result ≡ form_of (map (λ w. w.now) words.now) }
+{
+    FORMS.iter().copied().find(|form| is_form(words, *form))
+}
+
+/// What a line that isn't skipped says by itself.
+#[tactic(auto, unfolding(crate::specs::Lines::line_of))]
+pub(crate) fn line_of(alloc: Global, text: &[u8]) -> Result<Line, LineError>
+    ensures { MatchResult result (λ l. line_of text.now ≡ Ok l) (IsLineError (line_of text.now)) }
+{
+    if !is_spelled(text) {
+        return Err(LineError::Cause(SpecCause::Word));
+    }
+    let words = words_of(alloc, text)?;
+    match form_of(words.as_slice()) {
+        Some(form) => said(alloc, words.as_slice(), form),
+        None => Err(LineError::Cause(SpecCause::Word)),
+    }
+}
