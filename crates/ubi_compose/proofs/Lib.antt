@@ -9,6 +9,7 @@ pub mod Escapes
 pub mod Fitting
 pub mod Form
 pub mod Headers
+pub mod Headings
 pub mod Hexadecimal
 pub mod Image
 pub mod LaidPieces
@@ -18,10 +19,13 @@ pub mod Lists
 pub mod Normal
 pub mod NormalVectors
 pub mod Pieces
+pub mod Places
 pub mod Puts
 pub mod Rising
 pub mod Room
+pub mod Sound
 pub mod Spares
 pub mod SpecVectors
 pub mod Table
+pub mod Taken
 pub mod Volumes
