@@ -1,10 +1,10 @@
 pub mod Accepted
 pub mod Apart
 pub mod Blocks
+pub mod Changes
 pub mod Contents
 pub mod Cuts
 pub mod Decimals
-pub mod Drafts
 pub mod Escapes
 pub mod Fitting
 pub mod Form
@@ -15,12 +15,14 @@ pub mod Image
 pub mod LaidPieces
 pub mod LineForms
 pub mod LinesLeft
+pub mod LinesRead
 pub mod Lists
 pub mod Normal
 pub mod NormalVectors
 pub mod Pieces
 pub mod Places
 pub mod Puts
+pub mod ReadSoFar
 pub mod Rising
 pub mod Room
 pub mod Sound
@@ -28,4 +30,5 @@ pub mod Spares
 pub mod SpecVectors
 pub mod Table
 pub mod Taken
+pub mod VolumeLines
 pub mod Volumes

@@ -1,5 +1,5 @@
 -- Where the volume with a number stands.
-use Rattle.std.proofs.Common.{add-zero, ◌≡◌, ◌≤◌, ◌<◌, ℕ, ◌+◌, ◌==◌, Bool, true, false, cond, List, [], ◌∷◌, ◌++◌, length, map, get_or, refl, sym, ap, ◌∙◌, arith}
+use Rattle.std.proofs.Common.{add-zero, ◌≡◌, ◌<◌, ℕ, ◌+◌, ◌==◌, Bool, true, false, cond, List, [], ◌∷◌, ◌++◌, length, map, refl, sym, ap, ◌∙◌, arith}
 use Rattle.std.specs.Prelude.{Option, Some, None, find, is_some, option_map, slice_get, slice_set}
 use Rattle.std.specs.List.{position_from}
 use Rattle.std.specs.Option.{option_or}

@@ -1,5 +1,5 @@
 -- What is known of lines without a cause.
-use Rattle.std.proofs.Common.{append-nil, ◌≡◌, ℕ, ◌==◌, ◌&&◌, Bool, true, false, List, [], ◌∷◌, ◌++◌, refl, sym, ap, ◌∙◌}
+use Rattle.std.proofs.Common.{◌≡◌, ℕ, ◌==◌, ◌&&◌, Bool, true, false, List, [], ◌∷◌, ◌++◌, refl, sym, ap, ◌∙◌}
 use Rattle.std.specs.Prelude.{cond, Option, Some, None, find, is_some, not, option_map}
 use Rattle.std.specs.Bool.{then_some}
 use Rattle.std.specs.List.{AllByRecursion, list_all}
@@ -15,7 +15,7 @@ use Rattle.ubi_compose.specs.declared.errors.SpecCause.{SpecCause}
 use Rattle.ubi_compose.specs.declared.errors.SpecCause.TheVariants as cause
 use Rattle.ubi_compose.specs.declared.line.Line.{Line}
 use Rattle.ubi_compose.specs.declared.line.Line.TheVariants as line
-use Rattle.ubi_compose.proofs.Drafts.{is_filled, is_sound}
+use Rattle.ubi_compose.proofs.VolumeLines.{is_filled, is_sound}
 use Rattle.ubi_compose.proofs.Headings.{headed, headings, headings_kept, headings_more, own_kept, own_more, record_headed, record_kept}
 use Rattle.ubi_compose.proofs.Places.{AreApart, apart_more, equal_number}
 

@@ -1,6 +1,6 @@
 -- Taking a line into the volumes that the lines above it give: the volumes of one line more, or its cause.
-use Rattle.std.proofs.Common.{append-nil, ◌≡◌, ℕ, ◌==◌, Bool, true, false, List, [], ◌∷◌, ◌++◌, map, refl, sym, ap, ◌∙◌}
-use Rattle.std.specs.Prelude.{cond, Option, Some, None, Result, Ok, Err, find, is_some, option_map, slice_get, slice_set}
+use Rattle.std.proofs.Common.{◌≡◌, ℕ, ◌==◌, Bool, true, false, List, [], ◌∷◌, ◌++◌, map, refl, sym, ap, ◌∙◌}
+use Rattle.std.specs.Prelude.{cond, Option, Some, None, Result, Ok, Err, is_some, option_map, slice_set}
 use Rattle.std.specs.List.{list_all, position_from}
 use Rattle.std.specs.Option.{option_map_or}
 use Rattle.std.specs.Result.{result_map_both}
@@ -19,9 +19,9 @@ use Rattle.ubi_compose.specs.declared.errors.SpecCause.{SpecCause}
 use Rattle.ubi_compose.specs.declared.errors.SpecCause.TheVariants as cause
 use Rattle.ubi_compose.specs.declared.line.Line.{Line}
 use Rattle.ubi_compose.specs.declared.line.Line.TheVariants as line
-use Rattle.ubi_compose.proofs.Drafts.{answer_of, damaged_taken, is_sound, leb_taken, text_taken, updating_taken}
+use Rattle.ubi_compose.proofs.VolumeLines.{answer_of, damaged_taken, is_sound, leb_taken, text_taken, updating_taken}
 use Rattle.ubi_compose.proofs.Headings.{headings, headings_kept, headings_more, own_kept, own_more, record_headed}
-use Rattle.ubi_compose.proofs.Places.{Cut, cut_of, equal_number, found_cut, get_same, map_same, other_number, place_is_some, same_number, set_same}
+use Rattle.ubi_compose.proofs.Places.{Cut, cut_of, found_cut, get_same, map_same, other_number, place_is_some, same_number, set_same}
 use Rattle.ubi_compose.proofs.Sound.{IsSoundText, cause_in, not_headed}
 
 -- the volumes, or the cause for which there are none
@@ -65,7 +65,7 @@ at_place s ls l place n t takes c =
     let grown : of_volume c.at.0 (ls ++ l ∷ []) ≡ of_volume id ls ++ l ∷ [] =
     ap (λ q. of_volume q (ls ++ l ∷ [])) c.is ∙ own_more id ls l (same_number id) in
     let set : slice_set (map (numbered_volume s ls) (headings ls)) place (c.at.0, volume_from s c.at.1 (of_volume id ls ++ l ∷ []))
-        ≡ map (numbered_volume s (ls ++ l ∷ [])) (headings (ls ++ l ∷ [])) =
+    ≡ map (numbered_volume s (ls ++ l ∷ [])) (headings (ls ++ l ∷ [])) =
     ap (λ own. slice_set (map (numbered_volume s ls) (headings ls)) place (c.at.0, volume_from s c.at.1 own)) (sym grown)
     ∙ set_same (numbered_volume s ls) (numbered_volume s (ls ++ l ∷ [])) id (same_elsewhere s ls l) (headings ls) place c t.apart
     ∙ ap (map (numbered_volume s (ls ++ l ∷ []))) (sym (headings_kept ls l n)) in

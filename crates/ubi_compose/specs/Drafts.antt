@@ -23,6 +23,8 @@ use Rattle.ubi_compose.specs.declared.errors.LineError.{LineError}
 use Rattle.ubi_compose.specs.declared.errors.LineError.TheVariants as line_error
 use Rattle.ubi_compose.specs.declared.errors.SpecCause.{SpecCause}
 use Rattle.ubi_compose.specs.declared.errors.SpecCause.TheVariants as cause
+use Rattle.ubi_compose.specs.declared.errors.SpecError.{SpecError}
+use Rattle.ubi_compose.specs.declared.errors.SpecError.TheVariants as error
 use Rattle.ubi_compose.specs.declared.line.Line.{Line}
 use Rattle.ubi_compose.specs.declared.line.Line.TheVariants as line
 
@@ -61,6 +63,11 @@ with_line s v (line.Leb _ lnum bytes) = with_leb (usable s v.entry) v.entry lnum
 with_line s v (line.Text _ bytes) = with_text v.entry bytes v.content
 with_line s v (line.Damaged _) = made_damaged v.entry v.content
 with_line s v (line.Updating _) = made_updating v.entry v.content
+
+-- the error of a text whose first line at fault has the number
+abbrev pub error_at : ℕ → LineError → SpecError
+error_at n (line_error.Cause c) = error.Refused n c
+error_at n line_error.Memory = error.Memory
 
 -- why a line isn't taken
 abbrev pub IsRefused : {X : Type 0} → Result X SpecCause → LineError → Type 0

@@ -5,11 +5,13 @@
 mod comparing;
 mod composing;
 mod cutting;
+mod drafts;
 mod errors;
 mod header;
 pub mod laws;
 mod laying;
 mod line;
+mod parsing;
 mod records;
 mod shown;
 mod taking;
@@ -19,6 +21,7 @@ mod words;
 pub use comparing::same;
 pub use composing::{compose, normalise};
 pub use errors::{ComposeError, SameError, SpecCause, SpecError};
+pub use parsing::parse_spec;
 pub use shown::shown_name;
 
 #[cfg(test)]
