@@ -1,5 +1,6 @@
 mod images;
 mod mapped;
 mod refusals;
+mod states;
 mod steps;
 mod unmapped;

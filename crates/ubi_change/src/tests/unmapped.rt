@@ -1,10 +1,11 @@
 //! Changes of logical eraseblocks that have no winner.
 
 use super::images::{
-    A, B, C, COPY, Case, FIRST, FREE, ONE, PLAIN, Peb, SECOND, SMALL, Want, assert_change,
+    A, B, C, COPY, Case, Data, Ec, FIRST, FREE, ONE, PLAIN, Peb, SECOND, SMALL, Want, ZERO,
+    assert_change,
 };
 use std::test::Fail;
-use ubi_media::VidHeader;
+use ubi_media::{EcHeader, VidHeader};
 
 /// The header under which logical eraseblock 7 reads 0xFF.
 const BLANK_7: VidHeader = VidHeader {
@@ -39,6 +40,49 @@ fn mounts_a_blank_one_first(rt: HostRuntime) -> Result<(), Fail> {
             Want::Count(5, ONE),
         ],
         turn: 3,
+    };
+    assert_change(&rt, alloc, &case, &[0x61; 64])?;
+    Ok(())
+}
+
+/// Members of logical eraseblocks that the volume doesn't reserve: one whose counter has one erase left, and another.
+const WORN_ORPHAN: Peb = Peb(
+    Ec::Is(EcHeader {
+        counter: 0x7FFF_FFFE,
+        ..ZERO
+    }),
+    Some(VidHeader { lnum: 20, ..PLAIN }),
+    Data::Filled(0x44, 384),
+);
+
+const ORPHAN: Peb = Peb(
+    Ec::Is(ZERO),
+    Some(VidHeader { lnum: 21, ..PLAIN }),
+    Data::Filled(0x44, 384),
+);
+
+#[test]
+fn leaves_a_worn_blank_one(rt: HostRuntime) -> Result<(), Fail> {
+    let alloc = rt.alloc();
+    let worn = EcHeader {
+        counter: 0x7FFF_FFFF,
+        ..ZERO
+    };
+    let case = Case {
+        sizes: SMALL,
+        pebs: &[FIRST, SECOND, A, B, C, WORN_ORPHAN, ORPHAN],
+        lnum: 7,
+        old: (0xFF, 384),
+        steps: &[
+            Want::Erase(5),
+            Want::Count(5, worn),
+            Want::Header(5, 1, BLANK_7),
+            Want::Erase(6),
+            Want::Count(6, ONE),
+            Want::Header(6, 1, COPY_7),
+            Want::Text(6, 2, 0x61),
+        ],
+        turn: 7,
     };
     assert_change(&rt, alloc, &case, &[0x61; 64])?;
     Ok(())
