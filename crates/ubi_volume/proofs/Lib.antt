@@ -6,6 +6,7 @@ pub mod Dynamic
 pub mod Either
 pub mod Equal
 pub mod Exits
+pub mod FirstCause
 pub mod Gathered
 pub mod LebsText
 pub mod Judged

@@ -4,7 +4,9 @@ use Rattle.ubi_media.specs.Geometry.{Sizes, IsGeometry}
 use Rattle.ubi_media.specs.declared.refusal.Refusal.{Refusal}
 use Rattle.ubi_scan.specs.Image.{Image, IsWhole, eraseblocks, judged}
 use Rattle.ubi_volume.specs.Accepts.{Accepts, AcceptsBlocks, Refuses}
+use Rattle.ubi_volume.specs.Made.{IsFirst, Items}
 use Rattle.ubi_volume.specs.Meant.{Meant}
+use Rattle.ubi_volume.specs.declared.errors.MeaningCause.{MeaningCause}
 
 -- an image has at most one meaning
 abbrev pub OneMeaning : Type 0
@@ -21,6 +23,10 @@ OneCause = (image : Image) (c d : Refusal) → Refuses image c → Refuses image
 -- an image is accepted or refused
 abbrev pub OneOrOther : Type 0
 OneOrOther = (image : Image) → IsGeometry image.sizes → ((m : Meant) × Accepts image m) ⊎ ((c : Refusal) × Refuses image c)
+
+-- volumes that have no meaning together have one first cause
+abbrev pub OneFirst : Type 0
+OneFirst = (s : Sizes) (items : Items) (c d : MeaningCause) → IsFirst s items c → IsFirst s items d → c ≡ d
 
 -- an image whose eraseblocks are those of an accepted one in another order is accepted with the same meaning
 abbrev pub Reorder : Type 0

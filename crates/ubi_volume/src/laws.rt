@@ -1,6 +1,6 @@
 //! Laws of the definitions that the contracts cite, each as the contract of a function that does nothing.
 
-ghost use Rattle.ubi_volume.specs.Laws.{JudgedAlone, NeverBoth, OneCause, OneMeaning, OneOrOther, Reorder};
+ghost use Rattle.ubi_volume.specs.Laws.{JudgedAlone, NeverBoth, OneCause, OneFirst, OneMeaning, OneOrOther, Reorder};
 
 /// An image has one meaning at most.
 pub fn one_meaning()
@@ -20,6 +20,11 @@ pub fn one_cause()
 /// An image is accepted, or it is refused.
 pub fn accepted_or_refused()
     ensures { OneOrOther }
+{}
+
+/// Volumes that have no meaning together have one first cause.
+pub fn one_first()
+    ensures { OneFirst }
 {}
 
 /// Of two images of one geometry whose eraseblocks are the same in any order, one is accepted with the meaning of the
