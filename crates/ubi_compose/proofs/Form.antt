@@ -1,5 +1,5 @@
 -- The normal image tells meanings apart, and normalising it changes nothing.
-use Rattle.std.proofs.Common.{◌≡◌, ℕ, ◌/◌, ◌<◌, List, length, sym, ap, ◌∙◌, subst, arith}
+use Rattle.std.proofs.Common.{◌≡◌, ℕ, ◌+◌, ◌/◌, ◌<◌, List, length, sym, ap, ◌∙◌, subst, arith}
 use Rattle.std.specs.Prelude.{◌↔◌}
 use Rattle.std.proofs.lemmas.List.{append-nil}
 use Rattle.std.proofs.lemmas.Nat.{div-mul-add}
@@ -18,12 +18,17 @@ use Rattle.ubi_compose.proofs.Room.{normal_fits}
 pub composed-none : (m : Meant) → composed m 0 ≡ normal_bytes m
 composed-none m = append-nil (normal_bytes m)
 
--- cut into eraseblocks, its bytes are as many as it has
+-- cut into eraseblocks, its bytes are as many as it has, the spare ones too
+pub count-composed : (m : Meant) → IsGeometry m.sizes → IsMeaning m → (spares : ℕ)
+    → length (composed m spares) / m.sizes.peb_size ≡ length (normal_blocks m) + spares
+count-composed m g is spares =
+    let some : 0 < m.sizes.peb_size = omega (arith, g.page_from, g.peb_from) in
+    ap (λ n. n / m.sizes.peb_size) (length-composed m g is spares ∙ omega arith)
+    ∙ div-mul-add (length (normal_blocks m) + spares) m.sizes.peb_size 0 some
+
 pub count-normal_bytes : (m : Meant) → IsGeometry m.sizes → IsMeaning m → length (normal_bytes m) / m.sizes.peb_size ≡ length (normal_blocks m)
 count-normal_bytes m g is =
-    let some : 0 < m.sizes.peb_size = omega (arith, g.page_from, g.peb_from) in
-    ap (λ bytes. length bytes / m.sizes.peb_size) (sym (composed-none m)) ∙ ap (λ n. n / m.sizes.peb_size) (length-composed m g is 0 ∙ omega arith)
-    ∙ div-mul-add (length (normal_blocks m)) m.sizes.peb_size 0 some
+    ap (λ bytes. length bytes / m.sizes.peb_size) (sym (composed-none m)) ∙ count-composed m g is 0 ∙ omega arith
 
 -- by itself it is accepted
 pub alone_accepted : (m : Meant) → IsGeometry m.sizes → IsMeaning m → Accepts (image_of m (normal_bytes m)) m
