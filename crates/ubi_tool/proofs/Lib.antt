@@ -1,4 +1,5 @@
 pub mod CommandNames
+pub mod Composed
 pub mod Cut
 pub mod Defaults
 pub mod Extracted

@@ -1,19 +1,22 @@
 -- What outcomes tell.
-use Rattle.std.proofs.Common.{◌≡◌, ℕ, List, Some, None, subst}
+use Rattle.std.proofs.Common.{◌≡◌, ℕ, ◌≤◌, List, Some, None, length, subst}
 use Rattle.std.specs.Prelude.{IsSome, MatchResult, Ok, Err, Option, Result, IfOk, option_map}
 use Rattle.std.specs.declared.alloc.AllocError.{AllocError}
 use Rattle.std.specs.declared.alloc.Global.{Global}
 use Rattle.std.specs.declared.vec.Vec.{Vec}
-use Rattle.ubi_media.specs.Geometry.{Sizes}
+use Rattle.ubi_media.specs.Geometry.{Sizes, first_broken}
 use Rattle.ubi_scan.specs.Image.{Image}
 use Rattle.ubi_volume.specs.Accepts.{Accepts}
 use Rattle.ubi_volume.specs.Meant.{Meant}
 use Rattle.ubi_change.specs.declared.step.Step.{Step}
+use Rattle.ubi_compose.specs.Composed.{HasRoom}
+use Rattle.ubi_tool.specs.Compose.{Composes, ComposesInto, ComposesOf, Describes, crowded, described, fits, unmade, unread}
+use Rattle.ubi_tool.specs.Compose as compose
 use Rattle.ubi_tool.specs.Change.{Changes, ChangesInto, IsPlanned, planned, unplanned}
 use Rattle.ubi_tool.specs.Change as change
 use Rattle.ubi_tool.specs.Normalise.{Normalises, NormalisesInto, accepted, refused, written, unwritten}
 use Rattle.ubi_tool.specs.Numbers.{sizes_of}
-use Rattle.ubi_tool.specs.Program.{IsRead, IsWritten, OfImage, Tells}
+use Rattle.ubi_tool.specs.Program.{IsRead, IsWritten, OfImage, OfText, Tells, text_limit}
 use Rattle.ubi_tool.specs.Program as program
 use Rattle.ubi_tool.specs.declared.image_file.Unread.{Unread}
 use Rattle.ubi_tool.specs.declared.image_file.Unread.TheVariants.{Memory, Told}
@@ -34,6 +37,26 @@ pub normalises_into : (image : Image) (out : List ℕ) (work o : Outcome) → No
 normalises_into image out work o n program.written = written n
 normalises_into image out work o n (program.unwritten some gives) = (let h = accepted_with_file image work n some in unwritten h.0 h.1 gives)
 
+-- a file is there only where the device has room for a meaning
+room_with_file : (m : Meant) (spares : ℕ) (o : Outcome) → ComposesOf m spares o → IsSome o.file → HasRoom m spares
+room_with_file m spares o (fits room a gives) some = room
+room_with_file m spares o (crowded many gives) some = absurd (no_file o.file gives.file some)
+
+-- and where a text describes it
+described_with_file : (s : Sizes) (text : List ℕ) (spares : ℕ) (o : Outcome) → Composes s text spares o → IsSome o.file
+    → (m : Meant) × Describes s text m × HasRoom m spares
+described_with_file s text spares o (described m d of_m) some = (m, d, room_with_file m spares o of_m some)
+described_with_file s text spares o (unread line c e gives) some = absurd (no_file o.file gives.file some)
+described_with_file s text spares o (unmade c e is gives) some = absurd (no_file o.file gives.file some)
+
+-- composing, and then writing the file
+pub composes_into : (s : Sizes) (text : List ℕ) (spares : ℕ) (out : List ℕ) (work o : Outcome) → Composes s text spares work → IsWritten out work o
+    → ComposesInto out s text spares o
+composes_into s text spares out work o n program.written = compose.written n
+composes_into s text spares out work o n (program.unwritten some gives) =
+    let h = described_with_file s text spares work n some in
+    compose.unwritten h.0 h.1 h.2 gives
+
 -- a file is there only where a change is planned
 planned_with_file : (image : Image) (id lnum : ℕ) (new : List ℕ) (stop : Option ℕ) (o : Outcome) → Changes image id lnum new stop o → IsSome o.file
     → (steps : List Step) × IsPlanned image id lnum new steps
@@ -53,6 +76,12 @@ pub of_image : (numbers : Numbers) (path : List ℕ) (answers : Image → Outcom
     → s ≡ sizes_of numbers → IsRead (sizes_of numbers) bytes → answers (record { sizes = s; bytes = bytes }) o → OfImage numbers path answers o
 of_image numbers path answers s bytes o e read a =
     program.image bytes read (subst (λ (t : Sizes). answers (record { sizes = t; bytes = bytes }) o) e a)
+
+-- what is answered of a text that was read
+pub of_text : (numbers : Numbers) (path : List ℕ) (answers : Sizes → List ℕ → Outcome → Type 0) (s : Sizes) (bytes : List ℕ) (o : Outcome)
+    → s ≡ sizes_of numbers → first_broken (sizes_of numbers) ≡ None → length bytes ≤ text_limit (sizes_of numbers) → answers s bytes o
+    → OfText numbers path answers o
+of_text numbers path answers s bytes o e limits few a = program.text bytes limits few (subst (λ (t : Sizes). answers t bytes o) e a)
 
 -- what is told is no less than more
 pub Tells-weaker : (P Q : Outcome → Type 0) → ((o : Outcome) → P o → Q o) → (u : Unread) → Tells P u → Tells Q u

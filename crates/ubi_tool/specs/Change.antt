@@ -3,7 +3,7 @@ use Rattle.std.specs.Prelude.{◌≡◌, ℕ, List, [], ◌∷◌, ◌++◌, Opt
 use Rattle.std.specs.List.{concat, flat_map}
 use Rattle.ubi_change.specs.Changed.{changed}
 use Rattle.ubi_change.specs.Cuts.{turn}
-use Rattle.ubi_change.specs.Planned.{AllFitOf, IsFrugalOf, IsPlan, SurvivesCutsOf}
+use Rattle.ubi_change.specs.Planned.{AllFitOf, IsFrugalOf, IsPlan, RisesOf, SurvivesCutsOf}
 use Rattle.ubi_change.specs.Refused.{IsChangeRefusal}
 use Rattle.ubi_change.specs.Steps.{after}
 use Rattle.ubi_change.specs.declared.refusal.ChangeRefusal.{ChangeRefusal}
@@ -66,6 +66,7 @@ change_answer image steps stop = record {
 pub record IsPlanned (image : Image) (id lnum : ℕ) (new : List ℕ) (steps : List Step) : Type 0 where
   pub plan : IsPlan image id lnum new steps
   pub fit : AllFitOf image steps
+  pub rises : RisesOf image steps
   pub frugal : IsFrugalOf image id lnum new steps
   pub survives : SurvivesCutsOf image id lnum new steps
 

@@ -2,8 +2,10 @@ pub mod Answer
 pub mod Change
 pub mod Check
 pub mod CommandLine
+pub mod Compose
 pub mod Extract
 pub mod Headline
+pub mod Laws
 pub mod Lines
 pub mod List
 pub mod Normalise

@@ -50,6 +50,9 @@ detail_text (detail.Slot n) = codes " slot=" ++ decimal n
 detail_text (detail.Volume n) = codes " volume=" ++ decimal n
 detail_text (detail.Earlier n) = codes " earlier=" ++ decimal n
 detail_text (detail.Pages n) = codes " pages=" ++ decimal n
+detail_text (detail.Line n) = codes " line=" ++ decimal n
+detail_text (detail.Item n) = codes " item=" ++ decimal n
+detail_text (detail.EarlierItem n) = codes " earlier=" ++ decimal n
 detail_text (detail.Ec f) = codes " " ++ ec_fault_name f
 detail_text (detail.Vid f) = codes " " ++ vid_fault_name f
 detail_text (detail.Rec f) = codes " " ++ rec_fault_name f

@@ -6,6 +6,7 @@ use Rattle.ubi_scan.specs.Image.{Image}
 use Rattle.ubi_tool.specs.Answer.{Gives, says}
 use Rattle.ubi_tool.specs.Change.{ChangesInto}
 use Rattle.ubi_tool.specs.Check.{Checks}
+use Rattle.ubi_tool.specs.Compose.{ComposesInto}
 use Rattle.ubi_tool.specs.Extract.{ExtractsInto}
 use Rattle.ubi_tool.specs.Lines.{file_line, geometry_line}
 use Rattle.ubi_tool.specs.List.{Lists}
@@ -42,6 +43,17 @@ pub data OfImage (numbers : Numbers) (path : List ℕ) (answers : Image → Outc
   image : {o : Outcome} (bytes : List ℕ) → IsRead (sizes_of numbers) bytes
       → answers (record { sizes = sizes_of numbers; bytes = bytes }) o → OfImage numbers path answers o
 
+-- how many bytes a text may have: four for each byte of the device, and 65,536 more
+abbrev pub text_limit : Sizes → ℕ
+text_limit s = 4 * (s.pebs * s.peb_size) + 65536
+
+-- what a command over a text file can answer: that of a file that can't be had, or what it answers of a text that isn't
+-- too long
+pub data OfText (numbers : Numbers) (path : List ℕ) (answers : Sizes → List ℕ → Outcome → Type 0) : Outcome → Type 0 where
+  no_text : {o : Outcome} → IsUnread numbers path o → OfText numbers path answers o
+  text : {o : Outcome} (bytes : List ℕ) → first_broken (sizes_of numbers) ≡ None → length bytes ≤ text_limit (sizes_of numbers)
+      → answers (sizes_of numbers) bytes o → OfText numbers path answers o
+
 -- once the file of an outcome is written, if it has one: the outcome, or the line of a file that can't be written
 pub data IsWritten (path : List ℕ) (outcome : Outcome) : Outcome → Type 0 where
   written : IsWritten path outcome outcome
@@ -54,6 +66,8 @@ pub data IsAnswer : Outcome → Type 0 where
   check : {o : Outcome} (numbers : Numbers) (path : List ℕ) → OfImage numbers path Checks o → IsAnswer o
   show : {o : Outcome} (numbers : Numbers) (path : List ℕ) (p : ℕ) → OfImage numbers path (λ i. Shows i p) o → IsAnswer o
   extract : {o : Outcome} (numbers : Numbers) (path out : List ℕ) (id : ℕ) → OfImage numbers path (ExtractsInto id out) o → IsAnswer o
+  compose : {o : Outcome} (numbers : Numbers) (path out : List ℕ) (spares : ℕ)
+      → OfText numbers path (λ s t. ComposesInto out s t spares) o → IsAnswer o
   normalise : {o : Outcome} (numbers : Numbers) (path out : List ℕ) → OfImage numbers path (NormalisesInto out) o → IsAnswer o
   same : {o : Outcome} (numbers : Numbers) (left right : List ℕ) → OfImage numbers left (λ i. OfImage numbers right (Compares i)) o → IsAnswer o
   change : {o : Outcome} (numbers : Numbers) (path from out : List ℕ) (id lnum : ℕ) (stop : Option ℕ)

@@ -36,6 +36,13 @@ pub enum Request<'a> {
         id: u32,
         out: &'a str,
     },
+    /// The image that a text file describes, into another file.
+    Compose {
+        numbers: Numbers,
+        spec: &'a str,
+        out: &'a str,
+        spares: u32,
+    },
     /// The normal image of one file, into another.
     Normalise {
         numbers: Numbers,
@@ -98,6 +105,7 @@ pub fn command_line<'a>(alloc: Global) -> Result<Command<'a>, AllocError>
     let tool = tool.subcommand(check_command(alloc)?)?;
     let tool = tool.subcommand(show_command(alloc)?)?;
     let tool = tool.subcommand(extract_command(alloc)?)?;
+    let tool = tool.subcommand(compose_command(alloc)?)?;
     let tool = tool.subcommand(normalise_command(alloc)?)?;
     let tool = tool.subcommand(same_command(alloc)?)?;
     tool.subcommand(change_command(alloc)?)
@@ -126,6 +134,12 @@ pub fn request_of<'a>(matches: &'a ArgMatches<'_>) -> Option<Request<'a>>
             image: inner.get_str("IMAGE")?,
             id: inner.get_one::<u32>("id")?,
             out: inner.get_str("out")?,
+        }),
+        ("compose", inner) => Some(Request::Compose {
+            numbers: numbers_of(inner)?,
+            spec: inner.get_str("SPEC")?,
+            out: inner.get_str("out")?,
+            spares: inner.get_one::<u32>("spares").unwrap_or(0),
         }),
         ("normalise", inner) => Some(Request::Normalise {
             numbers: numbers_of(inner)?,
@@ -182,6 +196,19 @@ fn extract_command<'a>(alloc: Global) -> Result<Command<'a>, AllocError>
     command.arg(number(alloc, "id", ID).required(true))
 }
 
+fn compose_command<'a>(alloc: Global) -> Result<Command<'a>, AllocError>
+    ensures { IfOk result (λ c. (out-Command c).name.now ≡ codes "compose") }
+{
+    let spec = Arg::new(alloc, "SPEC")
+        .help("The text that describes the volumes")
+        .required(true);
+    let about = "Writes the image that a text describes";
+    let command = device_command(alloc, "compose", about)?;
+    let command = command.arg(spec)?;
+    let command = command.arg(out_file(alloc))?;
+    command.arg(number(alloc, "spares", SPARES))
+}
+
 fn normalise_command<'a>(alloc: Global) -> Result<Command<'a>, AllocError>
     ensures { IfOk result (λ c. (out-Command c).name.now ≡ codes "normalise") }
 {
@@ -222,13 +249,17 @@ fn change_command<'a>(alloc: Global) -> Result<Command<'a>, AllocError>
 fn out_command<'a>(alloc: Global, name: &'a str, about: &'a str) -> Result<Command<'a>, AllocError>
     ensures { IfOk result (λ c. (out-Command c).name.now ≡ name.now) }
 {
-    let out = Arg::new(alloc, "out")
+    let command = image_command(alloc, name, about)?;
+    command.arg(out_file(alloc))
+}
+
+/// The option that names the output file.
+fn out_file<'a>(alloc: Global) -> Arg<'a> {
+    Arg::new(alloc, "out")
         .long("out")
         .value_name("FILE")
         .help("The file to write")
-        .required(true);
-    let command = image_command(alloc, name, about)?;
-    command.arg(out)
+        .required(true)
 }
 
 /// A command over an image file.
@@ -242,8 +273,19 @@ fn image_command<'a>(
     let image = Arg::new(alloc, "IMAGE")
         .help("The raw dump, without out-of-band bytes")
         .required(true);
-    let command = with_numbers(alloc, Command::new(alloc, name).about(about))?;
+    let command = device_command(alloc, name, about)?;
     command.arg(image)
+}
+
+/// A command that takes the numbers of a geometry.
+fn device_command<'a>(
+    alloc: Global,
+    name: &'a str,
+    about: &'a str,
+) -> Result<Command<'a>, AllocError>
+    ensures { IfOk result (λ c. (out-Command c).name.now ≡ name.now) }
+{
+    with_numbers(alloc, Command::new(alloc, name).about(about))
 }
 
 /// Adds the numbers of a geometry to a command.
@@ -262,6 +304,8 @@ const ID: &str = "The number of the volume";
 const CHANGE: &str = "Gives one logical eraseblock new bytes, by steps that may be cut short";
 
 const LNUM: &str = "The number of the logical eraseblock (LEB)";
+
+const SPARES: &str = "How many spare eraseblocks follow [default: 0]";
 
 const STOP: &str = "Writes the image after N steps only [default: all]";
 

@@ -92,14 +92,14 @@ fn read_image<R: Files>(
 }
 
 /// The line of a geometry that breaks a limit.
-fn limit_line(alloc: Global, limit: GeometryError) -> Result<Outcome, AllocError>
+pub fn limit_line(alloc: Global, limit: GeometryError) -> Result<Outcome, AllocError>
     ensures { IfOk result (λ o. Gives o (says (geometry_line limit) 2)) }
 {
     Ok(Outcome::saying(geometry_line(alloc, limit)?, WRONG_WORDS))
 }
 
 /// What is told of a file that couldn't be read: its line, or that memory ran out.
-fn unread_file(alloc: Global, path: &str, error: ToolError) -> Unread
+pub fn unread_file(alloc: Global, path: &str, error: ToolError) -> Unread
     ensures line { Tells (λ o. Gives o (says (file_line (codes "cannot read ") path.now) 1)) result }
     ensures memory { error ≡ ToolError.Memory → result ≡ Memory }
 {

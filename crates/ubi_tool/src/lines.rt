@@ -21,6 +21,12 @@ pub enum Detail {
     Earlier(u32),
     /// A number of pages.
     Pages(u32),
+    /// A line of a text, counted from 1.
+    Line(u32),
+    /// An item of several volumes, counted from 0.
+    Item(usize),
+    /// An item before the one that is at fault.
+    EarlierItem(usize),
     /// The fault of an erase-counter header.
     Ec(EcFault),
     /// The fault of a volume-identifier header.
@@ -100,6 +106,9 @@ fn put_detail(text: &mut Vec<u8>, detail: Detail) -> Result<(), AllocError>
         Detail::Volume(volume) => put_number(text, " volume=", u64::from(volume)),
         Detail::Earlier(block) => put_number(text, " earlier=", u64::from(block)),
         Detail::Pages(pages) => put_number(text, " pages=", u64::from(pages)),
+        Detail::Line(line) => put_number(text, " line=", u64::from(line)),
+        Detail::Item(item) => put_number(text, " item=", item as u64),
+        Detail::EarlierItem(item) => put_number(text, " earlier=", item as u64),
         Detail::Ec(fault) => put_name(text, ec_fault_name(fault)),
         Detail::Vid(fault) => put_name(text, vid_fault_name(fault)),
         Detail::Rec(fault) => put_name(text, rec_fault_name(fault)),

@@ -2,6 +2,8 @@ mod answers;
 mod change;
 mod change_files;
 mod check;
+mod compose;
+mod compose_files;
 mod extract;
 mod fake;
 mod faults;

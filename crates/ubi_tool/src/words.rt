@@ -1,40 +1,40 @@
 //! The commands over files: what the words ask for is read, done and written.
 
 ghost use Rattle.clap.specs.Values.{kind_of};
-ghost use Rattle.std.specs.Prelude.{◌≡◌, ◌↔◌, IfOk, IsErr, codes};
-ghost use Rattle.ubi_tool.specs.Answer.{Gives, says};
+ghost use Rattle.std.specs.Prelude.{◌≡◌, ◌↔◌, IfOk, IsErr};
 ghost use Rattle.ubi_tool.specs.Change.{ChangesInto};
 ghost use Rattle.ubi_tool.specs.Check.{Checks};
+ghost use Rattle.ubi_tool.specs.Compose.{ComposesInto};
 ghost use Rattle.ubi_tool.specs.Extract.{ExtractsInto};
-ghost use Rattle.ubi_tool.specs.Lines.{file_line};
 ghost use Rattle.ubi_tool.specs.List.{Lists};
 ghost use Rattle.ubi_tool.specs.Normalise.{NormalisesInto};
-ghost use Rattle.ubi_tool.specs.Program.{IsAnswer, IsWritten, OfImage};
+ghost use Rattle.ubi_tool.specs.Program.{IsAnswer, OfImage, OfText};
 ghost use Rattle.ubi_tool.specs.Same.{Compares};
 ghost use Rattle.ubi_tool.specs.Show.{Shows};
 
 use crate::change::run_change;
 use crate::check::run_check;
 use crate::command_line::{Change, Request, command_line, request_of};
+use crate::compose::run_compose;
 use crate::extract::run_extract;
 use crate::image_file::load;
 use crate::late_file::LateFile;
-use crate::lines::file_line;
 use crate::list::run_list;
 use crate::normalise::run_normalise;
 use crate::numbers::Numbers;
-use crate::outcome::{DONE, FAILED, Outcome, ToolError, WRONG_WORDS};
+use crate::outcome::{DONE, Outcome, ToolError, WRONG_WORDS};
+use crate::output_file::{unwritten, write_outcome};
 use crate::same::run_same;
 use crate::show::run_show;
+use crate::spec_file::load_spec;
 use clap::Error;
 use clap::error::ErrorKind;
 use std::alloc::{AllocError, Global};
-use std::fs::{File, Files};
-use ubi_volume::write_all;
+use std::fs::Files;
 
 /// Runs the command that the words name, over files. The first word is the program's name.
 ///
-/// Wrong words, a call for help among them, are told on the standard error, with nothing to print and status 2. A
+/// Wrong words, a call for help among them, are printed to standard error, with nothing else to print and status 2. A
 /// geometry is refused before a file is read, and an image before a file is written.
 ///
 /// # Errors
@@ -75,6 +75,12 @@ fn run_request<R: Files>(rt: &R, alloc: Global, request: Request<'_>) -> Result<
             id,
             out,
         } => extract_file(rt, alloc, numbers, image, id, out),
+        Request::Compose {
+            numbers,
+            spec,
+            out,
+            spares,
+        } => compose_file(rt, alloc, numbers, spec, out, spares),
         Request::Normalise {
             numbers,
             image,
@@ -177,6 +183,27 @@ fn extract_file<R: Files>(
     }
 }
 
+/// Composes the image that a text file describes, into another file.
+fn compose_file<R: Files>(
+    rt: &R,
+    alloc: Global,
+    numbers: Numbers,
+    spec: &str,
+    out: &str,
+    spares: u32,
+) -> Result<Outcome, AllocError>
+    ensures { IfOk result (OfText numbers spec.now (λ s t. ComposesInto out.now s t spares)) }
+{
+    let file = match load_spec(rt, alloc, numbers, spec) {
+        Ok(file) => file,
+        Err(unread) => return unread.answer(),
+    };
+    match run_compose(alloc, &file.geometry, file.text.as_slice(), spares) {
+        Ok(outcome) => write_outcome(rt, alloc, outcome, out),
+        Err(_) => Err(AllocError),
+    }
+}
+
 /// Normalises one file into another.
 fn normalise_file<R: Files>(
     rt: &R,
@@ -256,41 +283,6 @@ fn change_file<R: Files>(
         Ok(outcome) => write_outcome(rt, alloc, outcome, change.out),
         Err(_) => Err(AllocError),
     }
-}
-
-/// Writes the file of an outcome, if it has one, and answers the outcome, or the line of a file that can't be written.
-fn write_outcome<R: Files>(
-    rt: &R,
-    alloc: Global,
-    outcome: Outcome,
-    path: &str,
-) -> Result<Outcome, AllocError>
-    ensures { IfOk result (IsWritten path.now outcome) }
-{
-    let Some(bytes) = &outcome.file else {
-        return Ok(outcome);
-    };
-    // Made before the file is opened, so that no part of it is written where memory runs out.
-    let unwritten = unwritten(alloc, path)?;
-    match write_file(rt, path, bytes.as_slice()) {
-        Ok(()) => Ok(outcome),
-        Err(_) => Ok(unwritten),
-    }
-}
-
-/// The line of a file that can't be written.
-fn unwritten(alloc: Global, path: &str) -> Result<Outcome, AllocError>
-    ensures { IfOk result (λ o. Gives o (says (file_line (codes "cannot write ") path.now) 1)) }
-{
-    Ok(Outcome::saying(file_line(alloc, "cannot write ", path)?, FAILED))
-}
-
-/// Writes a file anew.
-fn write_file<R: Files>(rt: &R, path: &str, bytes: &[u8]) -> Result<(), ToolError> {
-    let Ok(mut file) = File::create(rt, path) else {
-        return Err(ToolError::Write);
-    };
-    write_all(&mut file, bytes).map_err(|_| ToolError::Write)
 }
 
 /// Prints to standard error what is wrong with the words.

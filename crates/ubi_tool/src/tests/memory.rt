@@ -10,6 +10,7 @@ use super::images::overwrite;
 use super::normal::{EC, root_bytes};
 use crate::change::run_change;
 use crate::check::run_check;
+use crate::compose::run_compose;
 use crate::extract::run_extract;
 use crate::list::run_list;
 use crate::normalise::run_normalise;
@@ -21,6 +22,10 @@ use std::cell::RefCell;
 use std::process::Abort;
 use std::test::Fail;
 use ubi_media::Geometry;
+
+/// A text of a dynamic and a static volume, with an eraseblock each.
+const SPEC: &[u8] = b"volume 0 dynamic 20 1 00 root\nleb 0 1 6162\n\
+    volume 1 static 2 1 00 boot\nbytes 1 61\nbytes 1 62\n";
 
 /// Whether a command answered a text that begins so. Else memory ran out.
 fn is_told(rt: &impl Abort, answer: Result<Outcome, ToolError>, start: &str) -> bool {
@@ -75,6 +80,7 @@ fn tells_all_or_runs_out_of_memory(rt: HostRuntime) -> Result<(), Fail> {
         is_extracted(&rt, alloc, &geometry, &image),
         is_told(&rt, run_normalise(alloc, &geometry, &image), "blocks 5\n"),
         is_told(&rt, run_same(alloc, &geometry, &image, &image), "same\n"),
+        is_told(&rt, run_compose(alloc, &geometry, SPEC, 1), "blocks 5\n"),
         is_changed(&rt, alloc, &geometry),
     ];
     if told.contains(&false) {
@@ -125,6 +131,7 @@ fn runs_words_or_out_of_memory(rt: HostRuntime) -> Result<(), Fail> {
     let normalise = "normalise a --out b --peb 512 --page 64";
     let same = "same a b --peb 512 --page 64";
     let change = "change a --id 0 --lnum 1 --from new.bin --out b --peb 512 --page 64";
+    let compose = "compose a --spares 1 --out b --peb 512 --page 64";
     let spare: &[u8] = &spare_bytes();
     let ran = [
         is_run(&rt, alloc, image, list, ("geometry peb=512 ", 0)),
@@ -133,6 +140,7 @@ fn runs_words_or_out_of_memory(rt: HostRuntime) -> Result<(), Fail> {
         is_run(&rt, alloc, image, normalise, ("blocks 5\n", 2560)),
         is_run(&rt, alloc, image, same, ("same\n", 0)),
         is_run(&rt, alloc, spare, change, ("steps 4\n", 3072)),
+        is_run(&rt, alloc, SPEC, compose, ("blocks 5\n", 2560)),
     ];
     if ran.contains(&false) {
         println!(rt; "out of memory")?;

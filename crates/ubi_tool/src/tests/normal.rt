@@ -19,7 +19,7 @@ const COPIES: [[u8; 64]; 2] = [
 ];
 
 /// The headers of the logical eraseblocks 0, 1 and 2 of the dynamic volume 0.
-const LEBS: [[u8; 64]; 3] = [
+pub const LEBS: [[u8; 64]; 3] = [
     *b"UBI!\x01\x01\0\0\
     \0\0\0\0\0\0\0\0\0\0\0\0\0\0\0\0\0\0\0\0\0\0\0\0\0\0\0\0\0\0\0\0\
     \0\0\0\0\0\0\0\0\0\0\0\0\0\0\0\0\0\0\0\0\x73\xb1\xab\x57",

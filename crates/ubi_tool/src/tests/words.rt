@@ -46,7 +46,7 @@ fn shows_wrong_commands_and_help(rt: HostRuntime) -> Result<(), Fail> {
     )?;
     assert_wrong(&rt, alloc, "help", "Usage: ubi_tool")?;
     assert_wrong(&rt, alloc, "--version", "ubi_tool 0.1.0\n")?;
-    assert_wrong(&rt, alloc, "compose a", "unrecognized subcommand")?;
+    assert_wrong(&rt, alloc, "rename a", "unrecognized subcommand")?;
     assert_wrong(
         &rt,
         alloc,
@@ -56,6 +56,7 @@ fn shows_wrong_commands_and_help(rt: HostRuntime) -> Result<(), Fail> {
     assert_wrong(&rt, alloc, "show --help", "Usage: ubi_tool show")?;
     assert_wrong(&rt, alloc, "same --help", "Usage: ubi_tool same")?;
     assert_wrong(&rt, alloc, "extract --help", "Usage: ubi_tool extract")?;
+    assert_wrong(&rt, alloc, "compose --help", "Usage: ubi_tool compose")?;
     assert_wrong(&rt, alloc, "normalise --help", "Usage: ubi_tool normalise")?;
     assert_wrong(&rt, alloc, "change --help", "Usage: ubi_tool change")
 }
@@ -72,6 +73,10 @@ fn shows_words_that_are_missing(rt: HostRuntime) -> Result<(), Fail> {
     assert_wrong(&rt, alloc, "check --peb 512 --page 64", "<IMAGE>")?;
     assert_wrong(&rt, alloc, "show a --peb 512 --page 64", "--block <P>")?;
     assert_wrong(&rt, alloc, "same a --peb 512 --page 64", "<IMAGE>")?;
+    let line = "compose a --peb 512 --page 64";
+    assert_wrong(&rt, alloc, line, "--out <FILE>")?;
+    let line = "compose --out b --peb 512 --page 64";
+    assert_wrong(&rt, alloc, line, "<SPEC>")?;
     let line = "extract a --peb 512 --page 64 --out b";
     assert_wrong(&rt, alloc, line, "--id <N>")?;
     let line = "extract a --peb 512 --page 64 --id 0";
@@ -105,6 +110,8 @@ fn shows_words_that_cannot_be_read(rt: HostRuntime) -> Result<(), Fail> {
     assert_wrong(&rt, alloc, line, unexpected)?;
     let line = "normalise a --out b --peb 512 --page x";
     assert_wrong(&rt, alloc, line, invalid)?;
+    let line = "compose a --out b --spares x --peb 512 --page 64";
+    assert_wrong(&rt, alloc, line, "'--spares <N>'")?;
     let line = "normalise a b --out c --peb 512 --page 64";
     assert_wrong(&rt, alloc, line, unexpected)?;
     let line = "list a --peb 512 --page 64 --out b";

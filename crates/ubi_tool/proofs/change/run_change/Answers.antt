@@ -12,7 +12,7 @@ returns-clause-ok c =
     let steps = c.in-Ok.steps.items in
     let stop = c.args.stop in
     let survives = c.in-Ok.ensures.survives in
-    planned steps (record { plan = c.in-Ok.ensures.plan; fit = c.in-Ok.ensures.fits; frugal = c.in-Ok.ensures.frugal; survives = survives }) (record {
+    planned steps (record { plan = c.in-Ok.ensures.plan; fit = c.in-Ok.ensures.fits; rises = c.in-Ok.ensures.rises; frugal = c.in-Ok.ensures.frugal; survives = survives }) (record {
       text = rw c.as_slice-steps.ensures.value at c.in_ok-text.ensures;
       status = refl;
       file = ap Some (rw (c.steps_done-count.ensures, c.as_slice-steps.ensures.value) at c.in_ok-file.ensures.cut);

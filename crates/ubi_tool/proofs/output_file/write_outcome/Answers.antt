@@ -1,7 +1,7 @@
 use Rattle.std.proofs.Common.{refl, sym, subst}
 use Rattle.std.specs.Prelude.{IsSome}
 use Rattle.ubi_tool.specs.Program.{written, unwritten}
-use Rattle.ubi_tool.proofs.words.write_outcome.Goals as goal
+use Rattle.ubi_tool.proofs.output_file.write_outcome.Goals as goal
 
 pub returns-in_default : goal.returns-in_default
 returns-in_default g c = written

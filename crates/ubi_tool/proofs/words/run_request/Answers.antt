@@ -1,5 +1,5 @@
 use Rattle.std.proofs.lemmas.Result.{IfOk-weaker}
-use Rattle.ubi_tool.specs.Program.{change, check, extract, list, normalise, same, show}
+use Rattle.ubi_tool.specs.Program.{change, check, compose, extract, list, normalise, same, show}
 use Rattle.ubi_tool.proofs.words.run_request.Goals as goal
 
 pub returns-in-Normalise : goal.returns-in-Normalise
@@ -23,6 +23,10 @@ returns-in-Extract g c =
 pub returns-in-Same : goal.returns-in-Same
 returns-in-Same g c =
     IfOk-weaker c.same_files.result _ _ (λ o h. same _ _ _ h) c.same_files.ensures
+
+pub returns-in-Compose : goal.returns-in-Compose
+returns-in-Compose g c =
+    IfOk-weaker c.compose_file.result _ _ (λ o h. compose _ _ _ _ h) c.compose_file.ensures
 
 pub returns-in-Change : goal.returns-in-Change
 returns-in-Change g c =

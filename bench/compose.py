@@ -1,0 +1,70 @@
+#!/usr/bin/env python3
+"""Measures `./ubi_tool compose`, file to file, against `cat` of the same text into a file.
+
+usage: compose.py [--dir FOLDER] [--mib N]
+
+The text has N MiB (64) of `leb` lines, once with whole LEBs of 126,976 bytes and once with LEBs of 384 bytes, each full of
+random bytes, in an order that looks random, after the line of their one dynamic volume. It lies in a new folder below FOLDER
+(/tmp where it is left out), which is removed again. The program is built first where it isn't yet.
+
+It prints the seconds of each, as they pass and of the processor (user and system), the least of five runs, each into a new
+file, and ends with status 1 where `compose` takes more than six times as long as `cat` by either.
+"""
+import os
+import random
+import shutil
+import subprocess
+import sys
+import tempfile
+
+from normalise import ROOT, measure
+
+MOST = 6
+SHAPES = ((131072, 2048), (512, 64))
+
+
+def text(peb, page, size):
+    """The lines of a text of at least so many bytes."""
+    leb = peb - 2 * page
+    count = size // (2 * leb + 12) + 1
+    yield f"volume 0 dynamic {count} 1 00 root\n"
+    numbers = list(range(count))
+    random.Random(count).shuffle(numbers)
+    for number in numbers:
+        yield f"leb 0 {number} {random.Random(number).randbytes(leb).hex()}\n"
+
+
+def main():
+    words, place, mib = sys.argv[1:], "/tmp", 64
+    while words:
+        word = words.pop(0)
+        if word == "--dir" and words:
+            place = words.pop(0)
+        elif word == "--mib" and words:
+            mib = int(words.pop(0))
+        else:
+            sys.exit(__doc__)
+    tool = os.path.join(ROOT, "ubi_tool")
+    subprocess.run([tool, "--help"], stderr=subprocess.DEVNULL)
+    folder = tempfile.mkdtemp(dir=place)
+    worst = 0
+    print(f"{'text':<38}  passed   of the processor")
+    try:
+        for peb, page in SHAPES:
+            path, out = os.path.join(folder, "in.txt"), os.path.join(folder, "out.img")
+            with open(path, "w", encoding="ascii") as it:
+                it.writelines(text(peb, page, mib << 20))
+            cat = measure(["sh", "-c", f"cat {path} > {out}"], out)
+            sizes = ["--peb", str(peb), "--page", str(page)]
+            composed = measure([tool, "compose", path, "--out", out, *sizes], out)
+            for name, (passed, used) in (("cat", cat), ("compose", composed)):
+                print(f"{f'{name}, LEBs of {peb - 2 * page} bytes':<38} {passed:>7.2f}   {used:>16.2f}")
+            worst = max(worst, composed[0] / cat[0], composed[1] / cat[1])
+    finally:
+        shutil.rmtree(folder)
+    print(f"compose takes at most {worst:.1f} times as long as cat")
+    sys.exit(1 if worst > MOST else 0)
+
+
+if __name__ == "__main__":
+    main()

@@ -1,0 +1,76 @@
+-- What composing an image from a text answers.
+use Rattle.std.specs.Prelude.{◌≡◌, ℕ, ◌+◌, ◌<◌, List, [], ◌∷◌, Some, None, codes, length}
+use Rattle.ubi_media.specs.Geometry.{Sizes}
+use Rattle.ubi_volume.specs.Accepts.{Accepts}
+use Rattle.ubi_volume.specs.Made.{IsFirst, NoCause, meaning_of}
+use Rattle.ubi_volume.specs.Meant.{Meant}
+use Rattle.ubi_volume.specs.declared.errors.MeaningCause.{MeaningCause}
+use Rattle.ubi_volume.specs.declared.errors.MeaningCause.TheVariants as meaning
+use Rattle.ubi_compose.specs.Composed.{HasRoom, composed, image_of}
+use Rattle.ubi_compose.specs.Normal.{normal_blocks}
+use Rattle.ubi_compose.specs.Spec.{first_cause, volumes_of}
+use Rattle.ubi_compose.specs.declared.errors.SpecCause.{SpecCause}
+use Rattle.ubi_compose.specs.declared.errors.SpecCause.TheVariants as spec
+use Rattle.ubi_tool.specs.Answer.{Answer, Gives, says}
+use Rattle.ubi_tool.specs.Lines.{blocks_line, file_line, refused}
+use Rattle.ubi_tool.specs.declared.lines.Detail.TheVariants as detail
+use Rattle.ubi_tool.specs.declared.outcome.Outcome.{Outcome}
+
+-- the line of a text's line that something is wrong with: what it is, and its number
+abbrev pub spec_line : ℕ → SpecCause → List ℕ
+spec_line n spec.Word = refused (codes "P1 Word") (detail.Line n ∷ [])
+spec_line n spec.Number = refused (codes "P2 Number") (detail.Line n ∷ [])
+spec_line n spec.Hex = refused (codes "P3 Hex") (detail.Line n ∷ [])
+spec_line n spec.Name = refused (codes "P4 Name") (detail.Line n ∷ [])
+spec_line n spec.Order = refused (codes "P5 Order") (detail.Line n ∷ [])
+spec_line n (spec.Record fault) = refused (codes "P6 Record") (detail.Line n ∷ detail.Rec fault ∷ [])
+spec_line n spec.Twice = refused (codes "P7 Twice") (detail.Line n ∷ [])
+spec_line n spec.Long = refused (codes "P8 Long") (detail.Line n ∷ [])
+
+-- the line of volumes that have no meaning together
+abbrev pub meaning_line : MeaningCause → List ℕ
+meaning_line (meaning.IdRange i) = refused (codes "M1 IdRange") (detail.Item i ∷ [])
+meaning_line (meaning.SameId i) = refused (codes "M2 SameId") (detail.Item i ∷ [])
+meaning_line (meaning.Record i fault) = refused (codes "M3 Record") (detail.Item i ∷ detail.Rec fault ∷ [])
+meaning_line (meaning.SameName i j) = refused (codes "M4 SameName") (detail.Item i ∷ detail.EarlierItem j ∷ [])
+meaning_line meaning.NoSpace = refused (codes "M5 NoSpace") []
+meaning_line (meaning.ContentRange i) = refused (codes "M6 ContentRange") (detail.Item i ∷ [])
+
+-- the line of an image that the device has no room for
+abbrev pub room_line : List ℕ
+room_line = refused (codes "C1 TooMany") []
+
+-- the text is read, its volumes have a meaning together, and this is it
+pub record Describes (s : Sizes) (text : List ℕ) (m : Meant) : Type 0 where
+  pub read : first_cause s text ≡ None
+  pub sound : NoCause s (volumes_of s text)
+  pub meaning : m ≡ meaning_of s (volumes_of s text)
+
+-- the number of eraseblocks of a composed image, and its bytes
+abbrev pub composed_answer : Meant → ℕ → Answer
+composed_answer m spares = record {
+  text = blocks_line (length (normal_blocks m) + spares);
+  status = 0;
+  file = Some (composed m spares);
+}
+
+-- what is answered of a meaning: its image, which is accepted with it, or the line of a device without room for it
+pub data ComposesOf (m : Meant) (spares : ℕ) : Outcome → Type 0 where
+  fits : {o : Outcome} → HasRoom m spares → Accepts (image_of m (composed m spares)) m → Gives o (composed_answer m spares)
+      → ComposesOf m spares o
+  crowded : {o : Outcome} → m.sizes.pebs < length (normal_blocks m) + spares → Gives o (says room_line 1) → ComposesOf m spares o
+
+-- what the command answers of a text: that of the meaning that it describes; or the line of the first of its lines that
+-- something is wrong with, or of volumes that have no meaning together
+pub data Composes (s : Sizes) (text : List ℕ) (spares : ℕ) : Outcome → Type 0 where
+  described : {o : Outcome} (m : Meant) → Describes s text m → ComposesOf m spares o → Composes s text spares o
+  unread : {o : Outcome} (line : ℕ) (cause : SpecCause) → first_cause s text ≡ Some (line, cause)
+      → Gives o (says (spec_line line cause) 1) → Composes s text spares o
+  unmade : {o : Outcome} (cause : MeaningCause) → first_cause s text ≡ None → IsFirst s (volumes_of s text) cause
+      → Gives o (says (meaning_line cause) 1) → Composes s text spares o
+
+-- what it answers over files: the same, or the line of an output that can't be written
+pub data ComposesInto (out : List ℕ) (s : Sizes) (text : List ℕ) (spares : ℕ) : Outcome → Type 0 where
+  written : {o : Outcome} → Composes s text spares o → ComposesInto out s text spares o
+  unwritten : {o : Outcome} (m : Meant) → Describes s text m → HasRoom m spares
+      → Gives o (says (file_line (codes "cannot write ") out) 1) → ComposesInto out s text spares o

@@ -1,0 +1,19 @@
+-- Laws of the commands, as they stand on functions that do nothing.
+use Rattle.std.specs.Prelude.{◌≡◌, ℕ, List, Some, option_map}
+use Rattle.ubi_media.specs.Geometry.{Sizes}
+use Rattle.ubi_volume.specs.Meant.{Meant}
+use Rattle.ubi_tool.specs.Answer.{Answer, Gives, says}
+use Rattle.ubi_tool.specs.Compose.{Composes, Describes}
+use Rattle.ubi_tool.specs.List.{Lists, list_lines}
+use Rattle.ubi_tool.specs.declared.outcome.Outcome.{Outcome}
+
+-- what composing answers is a function of the text and the number of spares: what one run gives, each gives
+abbrev pub OneComposed : Type 0
+OneComposed = (s : Sizes) (text : List ℕ) (spares : ℕ) (o p : Outcome) (a : Answer)
+    → Composes s text spares o → Composes s text spares p → Gives o a → Gives p a
+
+-- what is listed of a composed image are the volumes that the text describes
+abbrev pub ListsComposed : Type 0
+ListsComposed = (s : Sizes) (text bytes : List ℕ) (spares : ℕ) (o p : Outcome)
+    → Composes s text spares o → option_map (λ v. v.items) o.file ≡ Some bytes → Lists (record { sizes = s; bytes = bytes }) p
+    → (m : Meant) × Describes s text m × Gives p (says (list_lines m) 0)

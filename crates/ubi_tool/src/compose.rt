@@ -1,0 +1,105 @@
+//! The command `compose`: the image that a text describes.
+
+ghost use Rattle.std.specs.Prelude.{◌≡◌, IfErr, IfOk};
+ghost use Rattle.ubi_tool.specs.Compose.{Composes, ComposesOf, meaning_line, room_line, spec_line};
+
+use crate::lines::{Detail, blocks_line, refused};
+use crate::outcome::{DONE, FAILED, Outcome, ToolError};
+use std::alloc::{AllocError, Global};
+use ubi_compose::{ComposeError, SpecCause, SpecError, compose, parse_spec};
+use ubi_media::Geometry;
+use ubi_volume::{Meaning, MeaningCause};
+
+/// The line of a text's line that something is wrong with, which is counted from 1.
+fn spec_line(alloc: Global, line: u32, cause: SpecCause) -> Result<Vec<u8>, AllocError>
+    ensures { IfOk result (λ text. text.items ≡ spec_line line cause) }
+{
+    use Detail::{Line, Rec};
+    match cause {
+        SpecCause::Word => refused(alloc, "P1 Word", &[Line(line)]),
+        SpecCause::Number => refused(alloc, "P2 Number", &[Line(line)]),
+        SpecCause::Hex => refused(alloc, "P3 Hex", &[Line(line)]),
+        SpecCause::Name => refused(alloc, "P4 Name", &[Line(line)]),
+        SpecCause::Order => refused(alloc, "P5 Order", &[Line(line)]),
+        SpecCause::Record(fault) => refused(alloc, "P6 Record", &[Line(line), Rec(fault)]),
+        SpecCause::Twice => refused(alloc, "P7 Twice", &[Line(line)]),
+        SpecCause::Long => refused(alloc, "P8 Long", &[Line(line)]),
+    }
+}
+
+/// The line of volumes that have no meaning together.
+fn meaning_line(alloc: Global, cause: MeaningCause) -> Result<Vec<u8>, AllocError>
+    ensures { IfOk result (λ text. text.items ≡ meaning_line cause) }
+{
+    use Detail::{EarlierItem, Item, Rec};
+    match cause {
+        MeaningCause::IdRange(item) => refused(alloc, "M1 IdRange", &[Item(item)]),
+        MeaningCause::SameId(item) => refused(alloc, "M2 SameId", &[Item(item)]),
+        MeaningCause::Record(item, fault) => {
+            refused(alloc, "M3 Record", &[Item(item), Rec(fault)])
+        }
+        MeaningCause::SameName(item, earlier) => refused(
+            alloc,
+            "M4 SameName",
+            &[Item(item), EarlierItem(earlier)],
+        ),
+        MeaningCause::NoSpace => refused(alloc, "M5 NoSpace", &[]),
+        MeaningCause::ContentRange(item) => refused(alloc, "M6 ContentRange", &[Item(item)]),
+    }
+}
+
+/// The line of an image that the device has no room for.
+fn room_line(alloc: Global) -> Result<Vec<u8>, AllocError>
+    ensures { IfOk result (λ text. text.items ≡ room_line) }
+{
+    refused(alloc, "C1 TooMany", &[])
+}
+
+/// What is answered of a meaning: the number of eraseblocks of its image, and their bytes, or that the device has no room
+/// for them.
+fn compose_meaning(alloc: Global, meaning: &Meaning, spares: u32) -> Result<Outcome, ToolError>
+    ensures ok { IfOk result (ComposesOf meaning.now spares) }
+    ensures err { IfErr result (λ e. e ≡ ToolError.Memory) }
+{
+    match compose(alloc, meaning, spares) {
+        Ok(image) => Ok(Outcome {
+            text: blocks_line(alloc, image.len() / meaning.geometry().peb_size() as usize)?,
+            status: DONE,
+            file: Some(image),
+        }),
+        Err(ComposeError::TooMany) => Ok(Outcome::saying(room_line(alloc)?, FAILED)),
+        Err(ComposeError::Memory) => Err(ToolError::Memory),
+    }
+}
+
+/// Composes the image that a text describes, with so many spare eraseblocks at its end: the number of its eraseblocks and
+/// their bytes.
+///
+/// Where the text describes none, a line says why, and there is no file: the first line of the text that something is
+/// wrong with; or why its volumes have no meaning together, counted from 0 in the order of their lines; or that the
+/// device has fewer eraseblocks.
+///
+/// # Errors
+///
+/// Memory where memory ran out.
+pub fn run_compose(
+    alloc: Global,
+    geometry: &Geometry,
+    spec: &[u8],
+    spares: u32,
+) -> Result<Outcome, ToolError>
+    ensures ok { IfOk result (Composes geometry.now spec.now spares) }
+    ensures err { IfErr result (λ e. e ≡ ToolError.Memory) }
+{
+    let volumes = match parse_spec(alloc, geometry, spec) {
+        Ok(volumes) => volumes,
+        Err(SpecError::Refused { line, cause }) => {
+            return Ok(Outcome::saying(spec_line(alloc, line, cause)?, FAILED));
+        }
+        Err(SpecError::Memory) => return Err(ToolError::Memory),
+    };
+    match Meaning::new(geometry, volumes) {
+        Ok(meaning) => compose_meaning(alloc, &meaning, spares),
+        Err(error) => Ok(Outcome::saying(meaning_line(alloc, error.cause)?, FAILED)),
+    }
+}

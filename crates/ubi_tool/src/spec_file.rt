@@ -1,0 +1,97 @@
+//! The file of the text that the words of `compose` name.
+
+ghost use Rattle.std.specs.Prelude.{◌≡◌, ◌≢◌, ◌≤◌, IfErr, IfOk, IfSome, None, length, vec_len};
+ghost use Rattle.ubi_media.specs.Geometry.{first_broken};
+ghost use Rattle.ubi_tool.specs.Numbers.{sizes_of};
+ghost use Rattle.ubi_tool.specs.Program.{IsUnread, Tells, text_limit};
+
+use crate::image_file::{Unread, limit_line, unread_file};
+use crate::numbers::{Numbers, geometry_of};
+use crate::outcome::ToolError;
+use crate::read::read_limited;
+use std::alloc::Global;
+use std::fs;
+use std::fs::Files;
+use std::io::Read;
+use ubi_media::Geometry;
+
+/// A text, and the geometry that the words give the image.
+#[derive(Debug, Drop)]
+pub struct SpecFile {
+    /// The geometry of the device.
+    pub geometry: Geometry,
+    /// The bytes of the text.
+    pub text: Vec<u8>,
+}
+
+/// How many bytes a text may have: four for each byte of the device, so that all of them can be written in hexadecimal
+/// with room to spare, and 65,536 more.
+fn text_limit(geometry: &Geometry) -> u64
+    ensures { result ≡ text_limit geometry.now }
+{
+    4 * (u64::from(geometry.pebs()) * u64::from(geometry.peb_size())) + 65_536
+}
+
+/// All bytes of a reader.
+///
+/// # Errors
+///
+/// Read where a read fails, and where there are more bytes than a text may have. Memory where memory ran out.
+fn read_text<R: Read>(
+    alloc: Global,
+    reader: &mut R,
+    geometry: &Geometry,
+) -> Result<Vec<u8>, ToolError>
+    ensures bytes { IfOk result (λ v. IfSome (R.remaining reader.old) (λ xs. v.items ≡ xs)) }
+    ensures few { IfOk result (λ v. vec_len v ≤ text_limit geometry.now) }
+    ensures err { IfErr result (λ e. e ≢ ToolError.Write) }
+{
+    let limit = text_limit(geometry);
+    let text = read_limited(alloc, reader, limit + 1)?;
+    if text.len() as u64 > limit {
+        return Err(ToolError::Read);
+    }
+    Ok(text)
+}
+
+/// The bytes of the text at a path.
+fn read_spec<R: Files>(
+    rt: &R,
+    alloc: Global,
+    geometry: &Geometry,
+    path: &str,
+) -> Result<Vec<u8>, ToolError>
+    ensures { IfOk result (λ v. vec_len v ≤ text_limit geometry.now) }
+{
+    match fs::open(rt, path) {
+        Ok(mut file) => read_text(alloc, &mut file, geometry),
+        Err(_) => Err(ToolError::Read),
+    }
+}
+
+/// Reads the text of a path, once its geometry is known to break no limit.
+///
+/// # Errors
+///
+/// The line of the first limit that the numbers break, that of a file that can't be read, one that is too long among
+/// them, or that memory ran out.
+pub fn load_spec<R: Files>(
+    rt: &R,
+    alloc: Global,
+    numbers: Numbers,
+    path: &str,
+) -> Result<SpecFile, Unread>
+    ensures geometry { IfOk result (λ f. f.geometry ≡ sizes_of numbers) }
+    ensures limits { IfOk result (λ _. first_broken (sizes_of numbers) ≡ None) }
+    ensures few { IfOk result (λ f. length f.text.items ≤ text_limit (sizes_of numbers)) }
+    ensures unread { IfErr result (Tells (IsUnread numbers path.now)) }
+{
+    let geometry = match geometry_of(numbers) {
+        Ok(geometry) => geometry,
+        Err(limit) => return Err(Unread::Told(limit_line(alloc, limit)?)),
+    };
+    match read_spec(rt, alloc, &geometry, path) {
+        Ok(text) => Ok(SpecFile { geometry, text }),
+        Err(error) => Err(unread_file(alloc, path, error)),
+    }
+}

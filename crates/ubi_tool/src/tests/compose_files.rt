@@ -1,0 +1,97 @@
+//! The command `compose` over files.
+
+use super::answers::{assert_line, assert_over};
+use super::fake::Broken;
+use super::normal::normal_nothing;
+use std::fs;
+use std::io::ErrorKind;
+use std::test::Fail;
+
+/// The words that compose a text that isn't there but in tests with files that fail.
+const LINE: &str = "compose a.txt --out b.img";
+
+#[test]
+fn composes_a_file(rt: HostRuntime) -> Result<(), Fail> {
+    let alloc = rt.alloc();
+    let text = b"volume 0 dynamic 20 1 00 root\nleb 0 1 6162\n";
+    fs::write(&rt, "compose_in.txt", text.as_slice())?;
+    let line = "compose compose_in.txt --out composed.img --spares 1";
+    assert_line(&rt, alloc, line, "blocks 4\n", 0)?;
+    let lines = "geometry peb=512 page=64 vid=64 data=128 leb=384 slots=2 pebs=32\n\
+        volume 0 dynamic reserved=20 alignment=1 usable=384 flags=00 lebs=1 name=root\n\
+        volumes 1\n";
+    assert_line(&rt, alloc, "list composed.img", lines, 0)?;
+    let line = "extract composed.img --id 0 --out composed.bin";
+    assert_line(&rt, alloc, line, "bytes 7680\n", 0)?;
+    let read = fs::read(&rt, "composed.bin")?;
+    let mut want = vec![in alloc; 0xFFu8; 7680]?;
+    if let Some(first) = want.get_mut(384) {
+        *first = b'a';
+    }
+    if let Some(second) = want.get_mut(385) {
+        *second = b'b';
+    }
+    assert_eq!(rt; read.as_slice(), want.as_slice());
+    fs::remove_file(&rt, "compose_in.txt")?;
+    fs::remove_file(&rt, "composed.img")?;
+    fs::remove_file(&rt, "composed.bin")?;
+    Ok(())
+}
+
+#[test]
+fn opens_no_file_of_a_text_that_is_refused(rt: HostRuntime) -> Result<(), Fail> {
+    let alloc = rt.alloc();
+    fs::write(&rt, "faulty.txt", b"volume 0".as_slice())?;
+    fs::write(&rt, "crowded.txt", b"volume 0 dynamic 31 1 00 a".as_slice())?;
+    let line = "compose faulty.txt --out uncomposed.img";
+    assert_line(&rt, alloc, line, "refused P1 Word line=1\n", 1)?;
+    let line = "compose crowded.txt --out uncomposed.img";
+    assert_line(&rt, alloc, line, "refused M5 NoSpace\n", 1)?;
+    let line = "compose crowded.txt --out uncomposed.img --data 64";
+    assert_line(&rt, alloc, line, "refused G4 DataOffset\n", 2)?;
+    let line = "compose missing.txt --out uncomposed.img";
+    assert_line(&rt, alloc, line, "cannot read missing.txt\n", 1)?;
+    assert!(rt; !fs::exists(&rt, "uncomposed.img")?);
+    fs::remove_file(&rt, "faulty.txt")?;
+    fs::remove_file(&rt, "crowded.txt")?;
+    Ok(())
+}
+
+#[test]
+fn reads_a_text_of_limited_length(rt: HostRuntime) -> Result<(), Fail> {
+    let alloc = rt.alloc();
+    let longest = vec![in alloc; b'#'; 131_072]?;
+    let image = normal_nothing(alloc)?;
+    let over = (longest.as_slice(), Broken::Nothing);
+    assert_over(&rt, alloc, over, LINE, ("blocks 2\n", 0), image.as_slice())?;
+    let longer = vec![in alloc; b'#'; 131_073]?;
+    let over = (longer.as_slice(), Broken::Nothing);
+    assert_over(&rt, alloc, over, LINE, ("cannot read a.txt\n", 1), &[])
+}
+
+#[test]
+fn tells_of_files_that_fail(rt: HostRuntime) -> Result<(), Fail> {
+    let alloc = rt.alloc();
+    let image = normal_nothing(alloc)?;
+    let image = image.as_slice();
+    let cannot_read = ("cannot read a.txt\n", 1);
+    let cannot_write = ("cannot write b.img\n", 1);
+    let text = b"# nothing\n".as_slice();
+    let broken = Broken::OpenRead;
+    assert_over(&rt, alloc, (text, broken), LINE, cannot_read, &[])?;
+    let broken = Broken::Read(ErrorKind::Other, 4);
+    assert_over(&rt, alloc, (text, broken), LINE, cannot_read, &[])?;
+    let broken = Broken::OpenWrite;
+    assert_over(&rt, alloc, (text, broken), LINE, cannot_write, &[])?;
+    let broken = Broken::Write(700);
+    assert_over(
+        &rt,
+        alloc,
+        (text, broken),
+        LINE,
+        cannot_write,
+        image.split_at(700).0,
+    )?;
+    let broken = Broken::Short(9);
+    assert_over(&rt, alloc, (text, broken), LINE, ("blocks 2\n", 0), image)
+}
