@@ -1,3 +1,6 @@
 mod comparing;
 mod composing;
 mod images;
+mod memory;
+mod parsing;
+mod shown;

@@ -1,0 +1,213 @@
+//! Reading the composer's text.
+
+use super::images::{normal_damaged, normal_root, small};
+use crate::{SpecCause, SpecError, compose, parse_spec};
+use std::alloc::{AllocError, Global};
+use std::test::Fail;
+use ubi_media::{RecFault, VolKind, VolName, VolumeRecord};
+use ubi_volume::{Bytes, Content, Lebs, Meaning, Volume};
+
+/// The number and the cause of the first line of a text at fault.
+fn cause(alloc: Global, text: &[u8]) -> Result<Option<(u32, SpecCause)>, Fail> {
+    match parse_spec(alloc, &small()?, text) {
+        Ok(_) => Ok(None),
+        Err(SpecError::Refused { line, cause }) => Ok(Some((line, cause))),
+        Err(SpecError::Memory) => Err("out of memory".into()),
+    }
+}
+
+/// Adds a line that gives the logical eraseblock `lnum` of volume 0: so many pairs of the digits of a byte.
+fn put_leb(text: &mut Vec<u8>, lnum: &[u8], pair: &[u8], count: usize) -> Result<(), AllocError> {
+    text.extend_from_slice(b"\nleb 0 ")?;
+    text.extend_from_slice(lnum)?;
+    text.push(b' ')?;
+    for _ in 0..count {
+        text.extend_from_slice(pair)?;
+    }
+    Ok(())
+}
+
+/// The image that a text composes to.
+fn composed(alloc: Global, text: &[u8]) -> Result<Vec<u8>, Fail> {
+    let geometry = small()?;
+    let volumes = parse_spec(alloc, &geometry, text).map_err(|_| "not read")?;
+    let meaning = Meaning::new(&geometry, volumes).map_err(|_| "no meaning")?;
+    Ok(compose(alloc, &meaning, 0).map_err(|_| "not composed")?)
+}
+
+/// A record of 3 reserved eraseblocks.
+fn record(kind: VolKind, name: &[u8]) -> Result<VolumeRecord, Fail> {
+    Ok(VolumeRecord {
+        reserved: 3,
+        alignment: 1,
+        kind,
+        marker: false,
+        name: VolName::new(name).ok_or("no name")?,
+        flags: 0,
+    })
+}
+
+#[test]
+fn tells_the_first_line_at_fault(rt: HostRuntime) -> Result<(), Fail> {
+    let alloc = rt.alloc();
+    assert_eq!(rt; cause(alloc, b"")?, None);
+    assert_eq!(rt; cause(alloc, b"\n")?, None);
+    assert_eq!(rt;
+        cause(alloc, b"# a\n\nvolume 0 dynamic 20 1 00 root\nleb 0 1")?,
+        Some((4, SpecCause::Word))
+    );
+    assert_eq!(rt;
+        cause(alloc, b"volume 0 dynamic 20 1 00 root\nleb 0  1 61")?,
+        Some((2, SpecCause::Word))
+    );
+    assert_eq!(rt;
+        cause(alloc, b"volume 0 dynamic 20 1 00 root\r\n")?,
+        Some((1, SpecCause::Word))
+    );
+    assert_eq!(rt;
+        cause(alloc, b"volume 0 dynamic 20 1 00 root a b c d")?,
+        Some((1, SpecCause::Word))
+    );
+    assert_eq!(rt; cause(alloc, b" # a")?, Some((1, SpecCause::Word)));
+    assert_eq!(rt;
+        cause(alloc, b"volume 0 dynamic 020 1 00 root")?,
+        Some((1, SpecCause::Number))
+    );
+    assert_eq!(rt;
+        cause(alloc, b"volume 4294967295 dynamic 20 1 00 root")?,
+        None
+    );
+    assert_eq!(rt;
+        cause(alloc, b"volume 4294967296 dynamic 20 1 00 root")?,
+        Some((1, SpecCause::Number))
+    );
+    assert_eq!(rt;
+        cause(alloc, b"volume 0 dynamic 20 1 0 root")?,
+        Some((1, SpecCause::Hex))
+    );
+    assert_eq!(rt;
+        cause(alloc, b"volume 0 dynamic 20 1 00 root\nleb 0 1 6")?,
+        Some((2, SpecCause::Hex))
+    );
+    assert_eq!(rt;
+        cause(alloc, b"volume 0 dynamic 20 1 00 a\\x00")?,
+        Some((1, SpecCause::Name))
+    );
+    Ok(())
+}
+
+#[test]
+fn tells_what_the_lines_above_forbid(rt: HostRuntime) -> Result<(), Fail> {
+    let alloc = rt.alloc();
+    assert_eq!(rt;
+        cause(
+            alloc,
+            b"volume 0 dynamic 20 1 00 root\nvolume 0 dynamic 20 1 00 root"
+        )?,
+        Some((2, SpecCause::Order))
+    );
+    assert_eq!(rt;
+        cause(alloc, b"volume 0 dynamic 20 1 00 root\nbytes 0 61")?,
+        Some((2, SpecCause::Order))
+    );
+    assert_eq!(rt;
+        cause(alloc, b"volume 0 dynamic 20 1 00 root\nleb 1 0 61")?,
+        Some((2, SpecCause::Order))
+    );
+    assert_eq!(rt;
+        cause(
+            alloc,
+            b"volume 0 dynamic 20 1 00 root\nleb 0 1 61\nupdating 0\n"
+        )?,
+        Some((3, SpecCause::Order))
+    );
+    assert_eq!(rt;
+        cause(alloc, b"volume 0 dynamic 0 1 00 root")?,
+        Some((1, SpecCause::Record(RecFault::NotEmpty)))
+    );
+    assert_eq!(rt;
+        cause(alloc, b"volume 0 dynamic 20 65 00 root")?,
+        Some((1, SpecCause::Record(RecFault::AlignmentPage)))
+    );
+    assert_eq!(rt;
+        cause(
+            alloc,
+            b"volume 0 dynamic 20 1 00 root\nleb 0 1 61\nleb 0 1 61\n"
+        )?,
+        Some((3, SpecCause::Twice))
+    );
+    let mut text = Vec::new(alloc);
+    text.extend_from_slice(b"volume 0 dynamic 20 1 00 root")?;
+    put_leb(&mut text, b"0", b"61", 384)?;
+    assert_eq!(rt; cause(alloc, text.as_slice())?, None);
+    put_leb(&mut text, b"1", b"61", 385)?;
+    assert_eq!(rt; cause(alloc, text.as_slice())?, Some((3, SpecCause::Long)));
+    Ok(())
+}
+
+#[test]
+fn gives_the_volumes_of_a_text(rt: HostRuntime) -> Result<(), Fail> {
+    let alloc = rt.alloc();
+    let volumes = parse_spec(
+        alloc,
+        &small()?,
+        b"volume 7 static 3 1 00 text\nvolume 2 dynamic 3 1 00 map\nvolume 3 dynamic 3 1 00 half\nvolume 0 static 3 1 00 torn\n\
+        bytes 7 61\nleb 2 1 6Aff\nupdating 3\nbytes 7 6263\ndamaged 0\n",
+    )
+    .map_err(|_| "not read")?;
+    let mut leb = Vec::new(alloc);
+    leb.push(0x6A)?;
+    leb.resize(384, 0xFF)?;
+    let mut lebs = Lebs::new(alloc);
+    lebs.insert(1, Bytes::new(leb))?;
+    let text = Bytes::new(vec![in alloc; b'a', b'b', b'c']?);
+    let mut half = record(VolKind::Dynamic, b"half")?;
+    half.marker = true;
+    let want = [
+        (
+            7,
+            Volume {
+                entry: record(VolKind::Static, b"text")?,
+                content: Content::Static(text),
+            },
+        ),
+        (
+            2,
+            Volume {
+                entry: record(VolKind::Dynamic, b"map")?,
+                content: Content::Dynamic(lebs),
+            },
+        ),
+        (
+            3,
+            Volume {
+                entry: half,
+                content: Content::Updating,
+            },
+        ),
+        (
+            0,
+            Volume {
+                entry: record(VolKind::Static, b"torn")?,
+                content: Content::Damaged,
+            },
+        ),
+    ];
+    assert!(rt; volumes.as_slice() == want.as_slice());
+    Ok(())
+}
+
+#[test]
+fn composes_a_text(rt: HostRuntime) -> Result<(), Fail> {
+    let alloc = rt.alloc();
+    let mut text = Vec::new(alloc);
+    text.extend_from_slice(b"volume 0 dynamic 20 1 00 root")?;
+    put_leb(&mut text, b"2", b"43", 384)?;
+    put_leb(&mut text, b"0", b"41", 384)?;
+    put_leb(&mut text, b"1", b"42", 384)?;
+    let image = composed(alloc, text.as_slice())?;
+    assert_eq!(rt; image.as_slice(), normal_root(alloc)?.as_slice());
+    let image = composed(alloc, b"volume 0 static 3 1 00 boot\ndamaged 0")?;
+    assert_eq!(rt; image.as_slice(), normal_damaged(alloc)?.as_slice());
+    Ok(())
+}
