@@ -167,7 +167,7 @@ fn said(alloc: Global, words: &[&[u8]], form: Form) -> Result<Line, LineError>
     }
 }
 
-/// The words of a line, of which there may be very many: but the first of them where they are more than any form has.
+/// The words of a line, or the first of them alone where they are more than any form has: there may be very many.
 fn words_of(alloc: Global, text: &[u8]) -> Result<Vec<&[u8]>, AllocError>
     ensures { IfOk result (λ found. map (λ w. w.now) found.items ≡ take 8 (words text.now)) }
 {

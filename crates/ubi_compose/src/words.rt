@@ -69,10 +69,10 @@ pub fn byte_of(high: u8, low: u8) -> Option<u8>
 pub fn flags_of(word: &[u8]) -> Option<u8>
     ensures { result ≡ flags_of word.now }
 {
-    match word {
-        [high, low] => byte_of(*high, *low),
-        _ => None,
+    if word.len() != 2 {
+        return None;
     }
+    byte_of(word[0], word[1])
 }
 
 /// The kind that a word names.
