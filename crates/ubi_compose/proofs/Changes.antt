@@ -38,7 +38,8 @@ or_none (Some k) = refl
 
 -- one volume more
 place_by : (items : Items) (id q n : ℕ) (b : Bool) → (id == q) ≡ b → place_of id items ≡ None → n ≡ length items
-    → cond b (Some n) (place_of q items) ≡ option_or (place_of q items) (cond b (Some (0 + length (numbers items))) None)
+    → cond b (Some n) (place_of q items)
+    ≡ option_or (place_of q items) (cond b (Some (0 + length (numbers items))) None)
 place_by items id q n true e h l =
     let none : place_of q items ≡ None = ap (λ m. place_of m items) (sym (equal_number id q e)) ∙ h in
     let same : n ≡ 0 + length (numbers items) = omega (arith, length-map items (λ (e : ℕ × Volume). e.0)) in
@@ -51,8 +52,10 @@ place_more items id q n v h l =
     place_by items id q n (id == q) refl h l ∙ sym (place_end (λ m. m == q) (numbers items) id 0)
     ∙ ap (position_from (λ m. m == q) 0) (sym (map-append (λ (e : ℕ × Volume). e.0) items ((id, v) ∷ [])))
 
-pub drafts_more : (places more : BTreeMap ℕ ℕ) (items : Items) (id n : ℕ) (v : Volume) → AreDrafts places items → place_of id items ≡ None → n ≡ length items
-    → IsOrdered nat_cmp more → ((q : ℕ) → tree.get nat_cmp more q ≡ cond (is_at (nat_cmp id) q) (Some n) (tree.get nat_cmp places q))
+pub drafts_more : (places more : BTreeMap ℕ ℕ) (items : Items) (id n : ℕ) (v : Volume) → AreDrafts places items
+    → place_of id items ≡ None → n ≡ length items
+    → IsOrdered nat_cmp more
+    → ((q : ℕ) → tree.get nat_cmp more q ≡ cond (is_at (nat_cmp id) q) (Some n) (tree.get nat_cmp places q))
     → AreDrafts more (items ++ (id, v) ∷ [])
 drafts_more places more items id n v d h l ordered gets = record {
   ordered = ordered;
@@ -61,12 +64,14 @@ drafts_more places more items id n v d h l ordered gets = record {
 }
 
 -- a volume that is put at a place keeps its number
-numbers_kept : (items : Items) (k : ℕ) (e : ℕ × Volume) (v : Volume) → e ≡ get_or items k e → numbers (slice_set items k (e.0, v)) ≡ numbers items
+numbers_kept : (items : Items) (k : ℕ) (e : ℕ × Volume) (v : Volume) → e ≡ get_or items k e
+    → numbers (slice_set items k (e.0, v)) ≡ numbers items
 numbers_kept items k e v h =
     map-set (λ (e : ℕ × Volume). e.0) items k (e.0, v) ∙ sym (map-set (λ (e : ℕ × Volume). e.0) items k e)
     ∙ ap (λ d. numbers (set items k d)) h ∙ ap numbers (set-get_or items k e)
 
-pub drafts_kept : (places : BTreeMap ℕ ℕ) (items : Items) (k : ℕ) (e : ℕ × Volume) (v : Volume) → AreDrafts places items → e ≡ get_or items k e
+pub drafts_kept : (places : BTreeMap ℕ ℕ) (items : Items) (k : ℕ) (e : ℕ × Volume) (v : Volume) → AreDrafts places items
+    → e ≡ get_or items k e
     → AreDrafts places (slice_set items k (e.0, v))
 drafts_kept places items k e v d h = record {
   ordered = d.ordered;
@@ -79,18 +84,21 @@ within_place items id k h =
     omega (arith, length-map items (λ (e : ℕ × Volume). e.0))
 
 -- what a content line makes of the volumes
-pub changed_is : (s : Sizes) (items : Items) (l : Line) (k : ℕ) (e : ℕ × Volume) → place_of (volume_of l) items ≡ Some k → slice_get items k ≡ Some e
+pub changed_is : (s : Sizes) (items : Items) (l : Line) (k : ℕ) (e : ℕ × Volume) → place_of (volume_of l) items ≡ Some k
+    → slice_get items k ≡ Some e
     → changed s items l ≡ result_map_both (λ v. slice_set items k (e.0, v)) (λ c. c) (with_line s e.1 l)
 changed_is s items l k e p g = rw (p, g) refl
 
 pub change_answer : (r : Result (Unit {0}) LineError) (made : Result Volume SpecCause) (v : Volume) (f : Volume → Items) (out : Result Items SpecCause)
-    → out ≡ result_map_both f (λ c. c) made → MatchResult r (λ _. made ≡ Ok v) (IsRefused made) → MatchResult r (λ _. out ≡ Ok (f v)) (IsRefused out)
+    → out ≡ result_map_both f (λ c. c) made → MatchResult r (λ _. made ≡ Ok v) (IsRefused made)
+    → MatchResult r (λ _. out ≡ Ok (f v)) (IsRefused out)
 change_answer (Ok u) made v f out o h = o ∙ ap (result_map_both f (λ c. c)) h
 change_answer (Err (line_error.Cause c)) made v f out o h = o ∙ ap (result_map_both f (λ c. c)) h
 change_answer (Err line_error.Memory) made v f out o h = tt
 
 -- a volume without content lines
-pub dynamic_new : (s : Sizes) (r : VolumeRecord) (k : Content) → r.kind ≡ kind.Dynamic → k ≡ content.Dynamic finite.empty
+pub dynamic_new : (s : Sizes) (r : VolumeRecord) (k : Content) → r.kind ≡ kind.Dynamic
+    → k ≡ content.Dynamic finite.empty
     → record { entry = r; content = k } ≡ volume_from s r []
 unfolding volume_from
 dynamic_new s r k h e = rw (h, e) refl

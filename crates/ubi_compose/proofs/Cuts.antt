@@ -8,7 +8,8 @@ use Rattle.std.proofs.lemmas.Bool.Decides.{nat_tests}
 
 uncut_here : (p : ℕ → Bool) (x : ℕ) (xs : List ℕ) (b : Bool) → p x ≡ b
     → (nat_lt (position_or_len p xs) (length xs) ≡ false → slice_split p xs ≡ xs ∷ [])
-    → nat_lt (cond (not b) (1 + position_or_len p xs) 0) (1 + length xs) ≡ false → slice_split p (x ∷ xs) ≡ (x ∷ xs) ∷ []
+    → nat_lt (cond (not b) (1 + position_or_len p xs) 0) (1 + length xs) ≡ false
+    → slice_split p (x ∷ xs) ≡ (x ∷ xs) ∷ []
 uncut_here p x xs true e rest h = absurd (grind (arith, nat_tests))
 uncut_here p x xs false e rest h =
     slice_split-cons_no p x xs e ∙ ap (onto_first x) (rest (grind (arith, nat_tests)))

@@ -25,7 +25,8 @@ decoded_pair h l = pair_by h l (hex_digit_value h) (hex_digit_value l)
 pub escape_read : (name part : List ℕ) (parts : List (List ℕ)) → is_escape part ≡ true
     → then_some (list_all is_escape (part ∷ parts)) (name ++ flat_map escaped (part ∷ parts))
     ≡ then_some (list_all is_escape parts) ((name ++ escaped part) ++ flat_map escaped parts)
-escape_read name part parts h = rw h (ap (then_some (list_all is_escape parts)) (sym (append_assoc name (escaped part) (flat_map escaped parts))))
+escape_read name part parts h =
+    rw h (ap (then_some (list_all is_escape parts)) (sym (append_assoc name (escaped part) (flat_map escaped parts))))
 
 pub escape_refused : (name part : List ℕ) (parts : List (List ℕ)) → is_escape part ≡ false
     → then_some (list_all is_escape (part ∷ parts)) (name ++ flat_map escaped (part ∷ parts)) ≡ None
@@ -36,7 +37,8 @@ second_no : (a b c : Bool) → b ≡ false → (a && b && c) ≡ false
 second_no true b c h = rw h refl
 second_no false b c h = refl
 
-too_long : (ok : Bool) (name more : List ℕ) → nat_le (length name) 127 ≡ false → option_and_then some_name (then_some ok (name ++ more)) ≡ None
+too_long : (ok : Bool) (name more : List ℕ) → nat_le (length name) 127 ≡ false
+    → option_and_then some_name (then_some ok (name ++ more)) ≡ None
 too_long false name more h = refl
 too_long true name more h =
     let l : nat_le (length (name ++ more)) 127 ≡ false = grind (arith, nat_tests, length-append name more) in
@@ -46,7 +48,8 @@ not_read_by : (name part : List ℕ) (parts : List (List ℕ)) (b : Bool) → is
     → (b && nat_le (length (name ++ escaped part)) 127) ≡ false
     → option_and_then some_name (then_some (list_all is_escape (part ∷ parts)) (name ++ flat_map escaped (part ∷ parts))) ≡ None
 not_read_by name part parts true e h =
-    ap (option_and_then some_name) (escape_read name part parts e) ∙ too_long (list_all is_escape parts) (name ++ escaped part) (flat_map escaped parts) h
+    ap (option_and_then some_name) (escape_read name part parts e)
+        ∙ too_long (list_all is_escape parts) (name ++ escaped part) (flat_map escaped parts) h
 not_read_by name part parts false e h = ap (option_and_then some_name) (escape_refused name part parts e)
 
 -- where a part isn't read, or makes the name too long, there is no name
@@ -55,7 +58,8 @@ pub not_read : (word name part : List ℕ) (left parts : List (List ℕ))
     → (is_escape part && nat_le (length (name ++ escaped part)) 127) ≡ false → shown_name word ≡ None
 unfolding shown_name
 not_read word name part left parts h l bad =
-    ap (option_and_then some_name) (h ∙ ap (λ (ps : List (List ℕ)). then_some (list_all is_escape ps) (name ++ flat_map escaped ps)) l)
+    ap (option_and_then some_name)
+        (h ∙ ap (λ (ps : List (List ℕ)). then_some (list_all is_escape ps) (name ++ flat_map escaped ps)) l)
     ∙ not_read_by name part parts (is_escape part) refl bad
 
 first_yes : (a b : Bool) → (a && b) ≡ true → a ≡ true
@@ -73,7 +77,8 @@ part_read word name part more left parts h l good m =
 
 pub pair_ok : (r : Result (List ℕ) FromHexError) (answer : Result (Unit {0}) FromHexError) (out : List ℕ) (o : Option ℕ) (x : Unit {0})
     → MatchResult r (λ bytes. o ≡ Some (slice_index bytes 0)) (λ _. o ≡ None)
-    → MatchResult r (λ bytes. (answer ≡ Ok tt) × (out ≡ bytes)) (λ e. answer ≡ Err e) → answer ≡ Ok x → Some (slice_index out 0) ≡ o
+    → MatchResult r (λ bytes. (answer ≡ Ok tt) × (out ≡ bytes)) (λ e. answer ≡ Err e) → answer ≡ Ok x
+    → Some (slice_index out 0) ≡ o
 pair_ok (Ok bytes) answer out o x d v h = ap (λ b. Some (slice_index b 0)) v.1 ∙ sym d
 pair_ok (Err e) answer out o x d v h = absurd (cc)
 

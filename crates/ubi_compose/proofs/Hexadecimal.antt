@@ -12,7 +12,8 @@ given_ok : (r : Result (List ℕ) FromHexError) (bytes : List ℕ) → result_ok
 given_ok (Ok other) bytes h = cc
 given_ok (Err e) bytes h = absurd (cc)
 
-long_by : (word bytes : List ℕ) (b : Bool) → (length word == 0) ≡ b → cond b None (result_ok (decode_of word)) ≡ Some bytes
+long_by : (word bytes : List ℕ) (b : Bool) → (length word == 0) ≡ b
+    → cond b None (result_ok (decode_of word)) ≡ Some bytes
     → (length word ≡ 2 * length bytes) × (1 ≤ length word)
 long_by word bytes true e h = absurd (cc)
 long_by word bytes false e h =
@@ -43,7 +44,8 @@ flags_two (a ∷ []) h = absurd (omega arith)
 flags_two (a ∷ b ∷ []) h = flags_pair a b
 flags_two (a ∷ b ∷ c ∷ word) h = absurd (omega arith)
 
-no_flags_by : (word : List ℕ) (o : Option (List ℕ)) → hex_of word ≡ o → (length word ≡ 2 → ⊥) → option_and_then only_byte o ≡ None
+no_flags_by : (word : List ℕ) (o : Option (List ℕ)) → hex_of word ≡ o → (length word ≡ 2 → ⊥)
+    → option_and_then only_byte o ≡ None
 no_flags_by word None e other = refl
 no_flags_by word (Some bytes) e other =
     let l = hex_length word bytes e in

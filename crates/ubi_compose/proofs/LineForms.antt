@@ -10,7 +10,8 @@ use Rattle.ubi_compose.specs.declared.errors.SpecCause.TheVariants as cause
 use Rattle.ubi_compose.specs.declared.line.Form.{Form}
 use Rattle.ubi_compose.specs.declared.line.Form.TheVariants as form
 
-pub form_fits : {X : Type 0} (read : X → List ℕ) (ws : List X) (f : Form) → form_of (map read ws) ≡ Some f → length ws ≡ word_count f
+pub form_fits : {X : Type 0} (read : X → List ℕ) (ws : List X) (f : Form) → form_of (map read ws) ≡ Some f
+    → length ws ≡ word_count f
 unfolding form_of
 form_fits read ws f h =
     sym (length-map ws read)

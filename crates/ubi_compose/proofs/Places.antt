@@ -21,19 +21,24 @@ pub equal_number : (n m : ℕ) → (n == m) ≡ true → n ≡ m
 equal_number n m h = grind (arith, nat_tests)
 
 module _ {K : Type 0} (t : K → Bool) where
-  end_by : (x y : K) (xs : List K) (i : ℕ) (b : Bool) → position_from t (i + 1) (xs ++ y ∷ []) ≡ option_or (position_from t (i + 1) xs) (cond (t y) (Some (i + 1 + length xs)) None)
-      → cond b (Some i) (position_from t (i + 1) (xs ++ y ∷ [])) ≡ option_or (cond b (Some i) (position_from t (i + 1) xs)) (cond (t y) (Some (i + length (x ∷ xs))) None)
+  end_by : (x y : K) (xs : List K) (i : ℕ) (b : Bool)
+      → position_from t (i + 1) (xs ++ y ∷ [])
+      ≡ option_or (position_from t (i + 1) xs) (cond (t y) (Some (i + 1 + length xs)) None)
+      → cond b (Some i) (position_from t (i + 1) (xs ++ y ∷ []))
+      ≡ option_or (cond b (Some i) (position_from t (i + 1) xs)) (cond (t y) (Some (i + length (x ∷ xs))) None)
   end_by x y xs i true h = refl
   end_by x y xs i false h =
       let e : i + 1 + length xs ≡ i + length (x ∷ xs) = omega arith in
       h ∙ ap (λ n. option_or (position_from t (i + 1) xs) (cond (t y) (Some n) None)) e
 
   -- of a list with one element more
-  pub place_end : (xs : List K) (y : K) (i : ℕ) → position_from t i (xs ++ y ∷ []) ≡ option_or (position_from t i xs) (cond (t y) (Some (i + length xs)) None)
+  pub place_end : (xs : List K) (y : K) (i : ℕ)
+      → position_from t i (xs ++ y ∷ []) ≡ option_or (position_from t i xs) (cond (t y) (Some (i + length xs)) None)
   place_end [] y i = ap (λ n. cond (t y) (Some n) None) (sym (add-zero i))
   place_end (x ∷ xs) y i = end_by x y xs i (t x) (place_end xs y (i + 1))
 
-  below_by : (x : K) (xs : List K) (i k : ℕ) (b : Bool) → ((k : ℕ) → position_from t (i + 1) xs ≡ Some k → k < i + 1 + length xs)
+  below_by : (x : K) (xs : List K) (i k : ℕ) (b : Bool)
+      → ((k : ℕ) → position_from t (i + 1) xs ≡ Some k → k < i + 1 + length xs)
       → cond b (Some i) (position_from t (i + 1) xs) ≡ Some k → k < i + length (x ∷ xs)
   below_by x xs i k true more h = let e : i ≡ k = cc in omega arith
   below_by x xs i k false more h = let l = more k h in omega arith
@@ -44,14 +49,17 @@ module _ {K : Type 0} (t : K → Bool) where
 
 module _ {X : Type 0} where
   some_by : (id i : ℕ) (e : ℕ × X) (es : List (ℕ × X)) (b : Bool)
-      → is_some (position_from (λ n. n == id) (i + 1) (map (λ (e : ℕ × X). e.0) es)) ≡ is_some (option_map (λ (e : ℕ × X). e.1) (find (has id) es))
-      → is_some (cond b (Some i) (position_from (λ n. n == id) (i + 1) (map (λ (e : ℕ × X). e.0) es))) ≡ is_some (option_map (λ (e : ℕ × X). e.1) (cond b (Some e) (find (has id) es)))
+      → is_some (position_from (λ n. n == id) (i + 1) (map (λ (e : ℕ × X). e.0) es))
+      ≡ is_some (option_map (λ (e : ℕ × X). e.1) (find (has id) es))
+      → is_some (cond b (Some i) (position_from (λ n. n == id) (i + 1) (map (λ (e : ℕ × X). e.0) es)))
+      ≡ is_some (option_map (λ (e : ℕ × X). e.1) (cond b (Some e) (find (has id) es)))
   some_by id i e es true h = refl
   some_by id i e es false h = h
 
   -- there is a place exactly where one is found
   pub place_is_some : (id i : ℕ) (es : List (ℕ × X))
-      → is_some (position_from (λ n. n == id) i (map (λ (e : ℕ × X). e.0) es)) ≡ is_some (option_map (λ (e : ℕ × X). e.1) (find (has id) es))
+      → is_some (position_from (λ n. n == id) i (map (λ (e : ℕ × X). e.0) es))
+      ≡ is_some (option_map (λ (e : ℕ × X). e.1) (find (has id) es))
   place_is_some id i [] = refl
   place_is_some id i (e ∷ es) = some_by id i e es (e.0 == id) (place_is_some id (i + 1) es)
 
@@ -64,7 +72,8 @@ module _ {X : Type 0} where
   none_by e o true h = absurd (cc)
   none_by e o false h = (refl, h)
 
-  pub apart_more : (es : List (ℕ × X)) (y : ℕ × X) → AreApart es → find (λ (d : ℕ × X). d.0 == y.0) es ≡ None → AreApart (es ++ y ∷ [])
+  pub apart_more : (es : List (ℕ × X)) (y : ℕ × X) → AreApart es → find (λ (d : ℕ × X). d.0 == y.0) es ≡ None
+      → AreApart (es ++ y ∷ [])
   apart_more [] y a h = (refl, tt)
   apart_more (e ∷ es) y a h =
       let n = none_by e (find (λ (d : ℕ × X). d.0 == y.0) es) (e.0 == y.0) h in
@@ -83,7 +92,8 @@ module _ {X : Type 0} where
 
   cut_by : (id i k : ℕ) (e : ℕ × X) (es : List (ℕ × X)) (b : Bool) → (e.0 == id) ≡ b
       → ((k : ℕ) → position_from (λ n. n == id) (i + 1) (map (λ (e : ℕ × X). e.0) es) ≡ Some k → Cut id (i + 1) es k)
-      → cond b (Some i) (position_from (λ n. n == id) (i + 1) (map (λ (e : ℕ × X). e.0) es)) ≡ Some k → Cut id i (e ∷ es) k
+      → cond b (Some i) (position_from (λ n. n == id) (i + 1) (map (λ (e : ℕ × X). e.0) es)) ≡ Some k
+      → Cut id i (e ∷ es) k
   cut_by id i k e es true h more p = record {
     before = [];
     at = e;
@@ -104,11 +114,13 @@ module _ {X : Type 0} where
         none_before = rw h c.none_before;
       }
 
-  pub cut_of : (id i k : ℕ) (es : List (ℕ × X)) → position_from (λ n. n == id) i (map (λ (e : ℕ × X). e.0) es) ≡ Some k → Cut id i es k
+  pub cut_of : (id i k : ℕ) (es : List (ℕ × X)) → position_from (λ n. n == id) i (map (λ (e : ℕ × X). e.0) es) ≡ Some k
+      → Cut id i es k
   cut_of id i k [] h = absurd (cc)
   cut_of id i k (e ∷ es) h = cut_by id i k e es (e.0 == id) refl (λ k p. cut_of id (i + 1) k es p) h
 
-  apart_after : (before : List (ℕ × X)) (e : ℕ × X) (after : List (ℕ × X)) → AreApart (before ++ e ∷ after) → find (λ (d : ℕ × X). d.0 == e.0) after ≡ None
+  apart_after : (before : List (ℕ × X)) (e : ℕ × X) (after : List (ℕ × X)) → AreApart (before ++ e ∷ after)
+      → find (λ (d : ℕ × X). d.0 == e.0) after ≡ None
   apart_after [] e after a = a.0
   apart_after (d ∷ before) e after a = apart_after before e after a.1
 
@@ -121,7 +133,8 @@ module _ {X : Type 0} where
         ap (λ y. y ∷ map f es) (same e n.0) ∙ ap (λ l. g e ∷ l) (map_same es n.1)
 
     -- what is made anew at the place
-    pub set_same : (es : List (ℕ × X)) (k : ℕ) (c : Cut id 0 es k) → AreApart es → slice_set (map f es) k (g c.at) ≡ map g es
+    pub set_same : (es : List (ℕ × X)) (k : ℕ) (c : Cut id 0 es k) → AreApart es
+        → slice_set (map f es) k (g c.at) ≡ map g es
     set_same es k c a =
         let none : find (has id) c.after ≡ None = rw (← c.is) (apart_after c.before c.at c.after (rw (← c.whole) a)) in
         let at : length (map f c.before) ≡ k = simp length-map (omega (arith, c.place)) in
@@ -133,7 +146,8 @@ module _ {X : Type 0} where
       (slice_get-get_or (c.before ++ c.at ∷ c.after) (0 + length c.before) c.at (simp length-append (omega arith))
       ∙ ap (λ e. Some e) (get_or_at c.before c.at c.after c.at (0 + length c.before) (omega arith)))
 
-  pub get_same : {Y : Type 0} (f : ℕ × X → Y) (id k : ℕ) (es : List (ℕ × X)) (c : Cut id 0 es k) → slice_get (map f es) k ≡ Some (f c.at)
+  pub get_same : {Y : Type 0} (f : ℕ × X → Y) (id k : ℕ) (es : List (ℕ × X)) (c : Cut id 0 es k)
+      → slice_get (map f es) k ≡ Some (f c.at)
   get_same f id k es c = slice_get-map f es k ∙ ap (option_map f) (within id k es c)
 
   pub found_cut : (id k : ℕ) (es : List (ℕ × X)) (c : Cut id 0 es k) → find (has id) es ≡ Some c.at

@@ -59,20 +59,24 @@ module _ (s : Sizes) (text : List ℕ) (before : List (List ℕ)) (items : Items
   reads = ap (λ (items : Items). read s items line) k.volumes ∙ read_more s before line k.sound
 
   next_line : drop (length before) (lines text) ≡ line ∷ drop (length before + 1) (lines text)
-  next_line = drop_more (lines text) (length before) line within ∙ ap (λ l. l ∷ drop (length before + 1) (lines text)) (sym is)
+  next_line =
+      drop_more (lines text) (length before) line within ∙ ap (λ l. l ∷ drop (length before + 1) (lines text)) (sym is)
 
   this_line : first_cause s text
-      ≡ option_or (option_map (λ c. (line_number (length before), c)) (cause_of s before line)) (first_left s (before ++ line ∷ []) (drop (length before + 1) (lines text)))
+      ≡ option_or (option_map (λ c. (line_number (length before), c)) (cause_of s before line))
+      (first_left s (before ++ line ∷ []) (drop (length before + 1) (lines text)))
   this_line = k.left ∙ ap (first_left s before) next_line
 
   -- a line more is read
-  pub read_one : (more : Items) (m : ℕ) → read s items line ≡ Ok more → m ≡ min (n + 1) 0xFFFFFFFF → IsReadSoFar s text (before ++ line ∷ []) more m
+  pub read_one : (more : Items) (m : ℕ) → read s items line ≡ Ok more → m ≡ min (n + 1) 0xFFFFFFFF
+      → IsReadSoFar s text (before ++ line ∷ []) more m
   read_one more m h e =
       let o = none_if (cause_of s before line) (volumes_in s (sayings (before ++ line ∷ []))) more (sym reads ∙ h) in
       let long : length before + 1 ≡ length (before ++ line ∷ []) = sym (length_push before line) in
       let number = k.number_is in
       record {
-        left = this_line ∙ ap (λ o. option_or (option_map (λ c. (line_number (length before), c)) o) (first_left s (before ++ line ∷ []) (drop (length before + 1) (lines text)))) o.0
+        left = this_line
+            ∙ ap (λ o. option_or (option_map (λ c. (line_number (length before), c)) o) (first_left s (before ++ line ∷ []) (drop (length before + 1) (lines text)))) o.0
             ∙ ap (λ i. first_left s (before ++ line ∷ []) (drop i (lines text))) long;
         volumes = sym o.1;
         sound = sound_read s before line k.sound o.0;
@@ -80,27 +84,33 @@ module _ (s : Sizes) (text : List ℕ) (before : List (List ℕ)) (items : Items
       }
 
   -- it is refused for its cause
-  refused_one : (c : SpecCause) (m : ℕ) → read s items line ≡ Err c → m ≡ min (n + 1) 0xFFFFFFFF → first_cause s text ≡ Some (m, c)
+  refused_one : (c : SpecCause) (m : ℕ) → read s items line ≡ Err c → m ≡ min (n + 1) 0xFFFFFFFF
+      → first_cause s text ≡ Some (m, c)
   refused_one c m h e =
       let o = some_if (cause_of s before line) (volumes_in s (sayings (before ++ line ∷ []))) c (sym reads ∙ h) in
       let number = k.number_is in
       let same : line_number (length before) ≡ m = omega arith in
-      this_line ∙ ap (λ o. option_or (option_map (λ c. (line_number (length before), c)) o) (first_left s (before ++ line ∷ []) (drop (length before + 1) (lines text)))) o
+      this_line
+          ∙ ap (λ o. option_or (option_map (λ c. (line_number (length before), c)) o) (first_left s (before ++ line ∷ []) (drop (length before + 1) (lines text)))) o
       ∙ ap (λ i. Some (i, c)) same
 
-  pub refused_at : (e : LineError) (m : ℕ) → IsRefused (read s items line) e → m ≡ min (n + 1) 0xFFFFFFFF → IsSpecError s text (error_at m e)
+  pub refused_at : (e : LineError) (m : ℕ) → IsRefused (read s items line) e → m ≡ min (n + 1) 0xFFFFFFFF
+      → IsSpecError s text (error_at m e)
   refused_at (line_error.Cause c) m h e = refused_one c m h e
   refused_at line_error.Memory m h e = tt
 
 -- all lines are read
-pub read_all : (s : Sizes) (text : List ℕ) (before : List (List ℕ)) (items : Items) (n : ℕ) → IsReadSoFar s text before items n → before ≡ lines text
+pub read_all : (s : Sizes) (text : List ℕ) (before : List (List ℕ)) (items : Items) (n : ℕ)
+    → IsReadSoFar s text before items n → before ≡ lines text
     → (first_cause s text ≡ None) × (items ≡ volumes_of s text)
 read_all s text before items n k h =
-    let none : drop (length before) (lines text) ≡ [] = drop_all (length before) (lines text) (omega (arith, ap length h)) in
+    let none : drop (length before) (lines text) ≡ [] =
+    drop_all (length before) (lines text) (omega (arith, ap length h)) in
     (k.left ∙ ap (first_left s before) none, k.volumes ∙ ap (λ ls. volumes_in s (sayings ls)) h)
 
 -- the update marker breaks no rule
-marked : (s : Sizes) (r : VolumeRecord) (m : Bool) → rec_fault s (record r { marker = m }) ≡ rec_fault s (record r { marker = false })
+marked : (s : Sizes) (r : VolumeRecord) (m : Bool)
+    → rec_fault s (record r { marker = m }) ≡ rec_fault s (record r { marker = false })
 unfolding first_fault breaks fields_from
 marked s r true = refl
 marked s r false = refl
@@ -113,7 +123,8 @@ entry_by s r false true k a b h = h
 entry_by s r false false true a b h = h
 entry_by s r false false false a b h = h
 
-entry_fault : (s : Sizes) (r : VolumeRecord) (own : List Line) → rec_fault s r ≡ None → rec_fault s (volume_from s r own).entry ≡ None
+entry_fault : (s : Sizes) (r : VolumeRecord) (own : List Line) → rec_fault s r ≡ None
+    → rec_fault s (volume_from s r own).entry ≡ None
 unfolding volume_from
 entry_fault s r own h = entry_by s r (list_any is_updating own) (list_any is_damaged own) (is_dynamic r.kind) _ _ h
 
@@ -124,7 +135,9 @@ each_faultless s ls (e ∷ hs) a = (entry_fault s e.1 (of_volume e.0 ls) a.0, ea
 
 faultless : (s : Sizes) (ls : List Line) → IsSoundText s ls → AreFaultless s (volumes_in s ls)
 unfolding volumes_in
-faultless s ls t = All-from_recursion (λ (e : ℕ × Volume). rec_fault s e.1.entry ≡ None) _ (each_faultless s ls _ t.right)
+faultless s ls t =
+    All-from_recursion (λ (e : ℕ × Volume). rec_fault s e.1.entry ≡ None) _ (each_faultless s ls _ t.right)
 
-pub faultless_so_far : (s : Sizes) (text : List ℕ) (before : List (List ℕ)) (items : Items) (n : ℕ) → IsReadSoFar s text before items n → AreFaultless s items
+pub faultless_so_far : (s : Sizes) (text : List ℕ) (before : List (List ℕ)) (items : Items) (n : ℕ)
+    → IsReadSoFar s text before items n → AreFaultless s items
 faultless_so_far s text before items n k = rw k.volumes (faultless s (sayings before) k.sound)

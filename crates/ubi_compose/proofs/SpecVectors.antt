@@ -28,11 +28,13 @@ three_words : first_cause small (codes "# a" ++ (10 ∷ []) ++ [] ++ (10 ∷ [])
 unfolding spec_on_literals
 three_words = refl
 
-empty_word : first_cause small (codes "volume 0 dynamic 20 1 00 root" ++ (10 ∷ []) ++ codes "leb 0  1 61") ≡ Some (2, cause.Word)
+empty_word : first_cause small (codes "volume 0 dynamic 20 1 00 root" ++ (10 ∷ []) ++ codes "leb 0  1 61")
+    ≡ Some (2, cause.Word)
 unfolding spec_on_literals
 empty_word = refl
 
-space_at_the_end : first_cause small (codes "volume 0 dynamic 20 1 00 root" ++ (10 ∷ []) ++ codes "updating 0 ") ≡ Some (2, cause.Word)
+space_at_the_end : first_cause small (codes "volume 0 dynamic 20 1 00 root" ++ (10 ∷ []) ++ codes "updating 0 ")
+    ≡ Some (2, cause.Word)
 unfolding spec_on_literals
 space_at_the_end = refl
 
@@ -68,7 +70,8 @@ four_digits : first_cause small (codes "volume 0 dynamic 20 1 0000 root") ≡ So
 unfolding spec_on_literals
 four_digits = refl
 
-half_a_byte : first_cause small (codes "volume 0 dynamic 20 1 00 root" ++ (10 ∷ []) ++ codes "leb 0 1 6") ≡ Some (2, cause.Hex)
+half_a_byte : first_cause small (codes "volume 0 dynamic 20 1 00 root" ++ (10 ∷ []) ++ codes "leb 0 1 6")
+    ≡ Some (2, cause.Hex)
 unfolding spec_on_literals
 half_a_byte = refl
 
@@ -88,15 +91,18 @@ second_volume : first_cause small (codes "volume 0 dynamic 20 1 00 root" ++ (10 
 unfolding spec_on_literals
 second_volume = refl
 
-bytes_of_a_dynamic_one : first_cause small (codes "volume 0 dynamic 20 1 00 root" ++ (10 ∷ []) ++ codes "bytes 0 61") ≡ Some (2, cause.Order)
+bytes_of_a_dynamic_one : first_cause small (codes "volume 0 dynamic 20 1 00 root" ++ (10 ∷ []) ++ codes "bytes 0 61")
+    ≡ Some (2, cause.Order)
 unfolding spec_on_literals
 bytes_of_a_dynamic_one = refl
 
-leb_of_a_static_one : first_cause small (codes "volume 0 static 20 1 00 root" ++ (10 ∷ []) ++ codes "leb 0 0 61") ≡ Some (2, cause.Order)
+leb_of_a_static_one : first_cause small (codes "volume 0 static 20 1 00 root" ++ (10 ∷ []) ++ codes "leb 0 0 61")
+    ≡ Some (2, cause.Order)
 unfolding spec_on_literals
 leb_of_a_static_one = refl
 
-no_volume_yet : first_cause small (codes "leb 0 0 61" ++ (10 ∷ []) ++ codes "volume 0 dynamic 20 1 00 root") ≡ Some (1, cause.Order)
+no_volume_yet : first_cause small (codes "leb 0 0 61" ++ (10 ∷ []) ++ codes "volume 0 dynamic 20 1 00 root")
+    ≡ Some (1, cause.Order)
 unfolding spec_on_literals
 no_volume_yet = refl
 
@@ -116,7 +122,8 @@ none_reserved : first_cause small (codes "volume 0 dynamic 0 1 00 root") ≡ Som
 unfolding spec_on_literals
 none_reserved = refl
 
-too_many_reserved : first_cause small (codes "volume 0 dynamic 2147483648 0 00 root") ≡ Some (1, (cause.Record fault.Negative))
+too_many_reserved : first_cause small (codes "volume 0 dynamic 2147483648 0 00 root")
+    ≡ Some (1, (cause.Record fault.Negative))
 unfolding spec_on_literals
 too_many_reserved = refl
 
@@ -124,7 +131,8 @@ no_alignment : first_cause small (codes "volume 0 dynamic 20 0 00 root") ≡ Som
 unfolding spec_on_literals
 no_alignment = refl
 
-alignment_of_65 : first_cause small (codes "volume 0 dynamic 20 65 00 root") ≡ Some (1, (cause.Record fault.AlignmentPage))
+alignment_of_65 : first_cause small (codes "volume 0 dynamic 20 65 00 root")
+    ≡ Some (1, (cause.Record fault.AlignmentPage))
 unfolding spec_on_literals
 alignment_of_65 = refl
 
@@ -148,7 +156,8 @@ number_beyond_the_slots : first_cause small (codes "volume 5 dynamic 20 1 00 roo
 unfolding spec_on_literals
 number_beyond_the_slots = refl
 
-leb_beyond_the_reserved : first_cause small (codes "volume 0 dynamic 20 1 00 root" ++ (10 ∷ []) ++ codes "leb 0 25 61") ≡ None
+leb_beyond_the_reserved : first_cause small (codes "volume 0 dynamic 20 1 00 root" ++ (10 ∷ []) ++ codes "leb 0 25 61")
+    ≡ None
 unfolding spec_on_literals
 leb_beyond_the_reserved = refl
 
@@ -160,11 +169,14 @@ earlier_line_first = refl
 root : VolumeRecord
 root = record { reserved = 20; alignment = 1; kind = kind.Dynamic; marker = false; name = codes "root"; flags = 0 }
 
-filled_leb : volumes_of small (codes "volume 0 dynamic 20 1 00 root" ++ (10 ∷ []) ++ codes "leb 0 1 6162") ≡ (0, record { entry = root; content = content.Dynamic (from_entries ((1, 97 ∷ 98 ∷ replicate 382 255) ∷ [])) }) ∷ []
+filled_leb : volumes_of small (codes "volume 0 dynamic 20 1 00 root" ++ (10 ∷ []) ++ codes "leb 0 1 6162")
+    ≡ (0, record { entry = root; content = content.Dynamic (from_entries ((1, 97 ∷ 98 ∷ replicate 382 255) ∷ [])) }) ∷
+    []
 unfolding spec_on_literals root
 filled_leb = refl
 
-updating_volume : volumes_of small (codes "volume 0 dynamic 20 1 00 root" ++ (10 ∷ []) ++ codes "updating 0") ≡ (0, record { entry = record root { marker = true }; content = content.Updating }) ∷ []
+updating_volume : volumes_of small (codes "volume 0 dynamic 20 1 00 root" ++ (10 ∷ []) ++ codes "updating 0")
+    ≡ (0, record { entry = record root { marker = true }; content = content.Updating }) ∷ []
 unfolding spec_on_literals root
 updating_volume = refl
 

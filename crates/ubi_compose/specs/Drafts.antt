@@ -42,7 +42,8 @@ leb_added size lnum bytes lebs =
 
 abbrev pub with_leb : ℕ → VolumeRecord → ℕ → List ℕ → Content → Result Volume SpecCause
 with_leb size r lnum bytes (content.Dynamic lebs) =
-    result_map_both (λ added. record { entry = r; content = content.Dynamic added }) (λ c. c) (leb_added size lnum bytes lebs)
+    result_map_both (λ added. record { entry = r; content = content.Dynamic added }) (λ c. c)
+        (leb_added size lnum bytes lebs)
 with_leb size r lnum bytes _ = Err cause.Order
 
 abbrev pub with_text : VolumeRecord → List ℕ → Content → Result Volume SpecCause
@@ -50,11 +51,14 @@ with_text r bytes (content.Static text) = Ok (record { entry = r; content = cont
 with_text r bytes _ = Err cause.Order
 
 abbrev pub made_damaged : VolumeRecord → Content → Result Volume SpecCause
-made_damaged r (content.Static text) = if length text == 0 then Ok (record { entry = r; content = content.Damaged }) else Err cause.Order
+made_damaged r (content.Static text) =
+    if length text == 0 then Ok (record { entry = r; content = content.Damaged }) else Err cause.Order
 made_damaged r _ = Err cause.Order
 
 abbrev pub made_updating : VolumeRecord → Content → Result Volume SpecCause
-made_updating r c = if is_empty c then Ok (record { entry = record r { marker = true }; content = content.Updating }) else Err cause.Order
+made_updating r c =
+    if is_empty c then Ok (record { entry = record r { marker = true }; content = content.Updating })
+    else Err cause.Order
 
 -- what a content line makes of a volume
 abbrev pub with_line : Sizes → Volume → Line → Result Volume SpecCause

@@ -62,7 +62,8 @@ escape_byte part = shown_byte (slice_index part 1) (slice_index part 2)
 
 abbrev pub is_escape : List ℕ → Bool
 is_escape part =
-    nat_le 3 (length part) && (slice_index part 0 == 120) && list_all is_plain (drop 3 part) && is_some (escape_byte part)
+    nat_le 3 (length part) && (slice_index part 0 == 120) && list_all is_plain (drop 3 part)
+    && is_some (escape_byte part)
 
 -- the byte that the two digits write, and the bytes that follow them
 abbrev pub escaped : List ℕ → List ℕ
@@ -71,7 +72,8 @@ escaped part = unwrap_or (escape_byte part) 0 ∷ drop 3 part
 -- the bytes that a word shows, cut at its backslashes
 abbrev pub joined_parts : List (List ℕ) → Option (List ℕ)
 joined_parts [] = None
-joined_parts (first ∷ parts) = then_some (list_all is_plain first && list_all is_escape parts) (first ++ flat_map escaped parts)
+joined_parts (first ∷ parts) =
+    then_some (list_all is_plain first && list_all is_escape parts) (first ++ flat_map escaped parts)
 
 unfoldable pub shown_bytes : List ℕ → Option (List ℕ)
 shown_bytes word = joined_parts (slice_split (λ b. b == 92) word)

@@ -11,5 +11,7 @@ returns c =
     map_from_collect _ c.collect.ensures.ran
     (YieldsList-from_take {s = c.take.result} 8
     (YieldsList-from_slice_split {s = take_source c.take.result} _ _ c.args.text.now
-    (ap slice.split_rest c.take.ensures.source ∙ c.split.ensures.rest) (ap slice.split_done c.take.ensures.source ∙ c.split.ensures.done)
-    (ap slice.split_callee c.take.ensures.source ∙ c.split.ensures.closure) (λ x r q k. search (rules, tests))) c.take.ensures.count)
+    (ap slice.split_rest c.take.ensures.source ∙ c.split.ensures.rest)
+    (ap slice.split_done c.take.ensures.source ∙ c.split.ensures.done)
+    (ap slice.split_callee c.take.ensures.source ∙ c.split.ensures.closure)
+    (λ x r q k. search (rules, tests))) c.take.ensures.count)
