@@ -11,6 +11,7 @@ pub mod Entries
 pub mod Filled
 pub mod Finite
 pub mod Held
+pub mod InMemory
 pub mod Keys
 pub mod Least
 pub mod Moved
@@ -18,8 +19,10 @@ pub mod Next
 pub mod OneFault
 pub mod Parts
 pub mod Places
+pub mod ReadParts
 pub mod Seen
 pub mod Shown
 pub mod SoFar
 pub mod Told
 pub mod Truths
+pub mod Within

@@ -19,19 +19,25 @@ pub record Image : Type 0 where
 abbrev pub judged : Sizes → List ℕ → List ℕ
 judged s bytes = take (s.pebs * s.peb_size + 1) bytes
 
--- the bytes are an image: whole eraseblocks, at least one and no more than the device has
-pub record IsWhole (image : Image) : Type 0 where
-  pub some : 0 < length image.bytes
-  pub cut : length image.bytes % image.sizes.peb_size ≡ 0
-  pub fits : length image.bytes ≤ image.sizes.pebs * image.sizes.peb_size
+-- n bytes have the size of an image: whole eraseblocks, at least one and no more than the device has
+pub record IsWholeSize (s : Sizes) (n : ℕ) : Type 0 where
+  pub some : 0 < n
+  pub cut : n % s.peb_size ≡ 0
+  pub fits : n ≤ s.pebs * s.peb_size
 
--- why bytes are no image: there are too many, or they aren't whole eraseblocks
+-- the bytes are an image
+abbrev pub IsWhole : Image → Type 0
+IsWhole image = IsWholeSize image.sizes (length image.bytes)
+
+-- why n bytes are no image: there are too many, or they aren't whole eraseblocks
+abbrev pub IsLengthFault : Sizes → ℕ → Refusal → Type 0
+IsLengthFault s n refusal.TooMany = s.pebs * s.peb_size < n
+IsLengthFault s n refusal.Length = (n ≤ s.pebs * s.peb_size) × ((n ≡ 0) ⊎ (n % s.peb_size ≢ 0))
+IsLengthFault s n _ = ⊥
+
+-- and why these bytes are none
 abbrev pub IsSizeFault : Image → Refusal → Type 0
-IsSizeFault image refusal.TooMany = image.sizes.pebs * image.sizes.peb_size < length image.bytes
-IsSizeFault image refusal.Length =
-    (length image.bytes ≤ image.sizes.pebs * image.sizes.peb_size)
-    × ((length image.bytes ≡ 0) ⊎ (length image.bytes % image.sizes.peb_size ≢ 0))
-IsSizeFault image _ = ⊥
+IsSizeFault image c = IsLengthFault image.sizes (length image.bytes) c
 
 -- the eraseblocks of an image
 abbrev pub eraseblocks : Image → List (List ℕ)

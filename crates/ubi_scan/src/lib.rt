@@ -3,21 +3,34 @@
 //!
 //! A scan goes once over the eraseblocks, by rising number. What it finds is exactly what its definitions say of all
 //! eraseblocks together; only a scan takes memory, and what it found is asked without.
+//!
+//! An image may lie in memory ([`Blocks`], [`scan`]) or behind any [`BlockSource`], which is read at places
+//! ([`scan_from`]): a scan of a file holds the bytes of one eraseblock at a time.
 #![tactic(auto)]
 
 mod blocks;
 mod candidate;
 mod counts;
+mod errors;
 mod faults;
+mod file;
 mod found;
 mod header;
 pub mod laws;
 mod pass;
+mod probe;
+mod reading;
 mod scanning;
+mod source;
 
 pub use blocks::Blocks;
+pub use errors::StreamError;
+pub use file::FileSource;
 pub use found::{Scan, ScanState};
-pub use scanning::scan;
+pub use probe::ProbeSource;
+pub use reading::{read_headers, read_leb, read_member};
+pub use scanning::{scan, scan_from};
+pub use source::{BlockSource, MemorySource, SourceFault};
 
 #[cfg(test)]
 mod tests;

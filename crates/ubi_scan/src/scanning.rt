@@ -1,77 +1,192 @@
-//! The scan of an image that lies in memory.
+//! The scan of an image, over a source of its bytes.
 
-ghost use Rattle.std.specs.Prelude.{◌≡◌, ◌<◌, length, IfErr, IfOk, IfSome, false, unwrap_or};
+ghost use Rattle.std.specs.Prelude.{◌≡◌, ◌<◌, ◌/◌, length, IfErr, IfOk, IfSome, MatchResult, false, unwrap_or};
 ghost use Rattle.std.specs.Option.{option_map_or};
 ghost use Rattle.ubi_scan.specs.Choice.{held_of};
 ghost use Rattle.ubi_scan.specs.Faults.{IsScanError};
-ghost use Rattle.ubi_scan.specs.Image.{block, eraseblocks};
+ghost use Rattle.ubi_scan.specs.Image.{IsLengthFault, IsWholeSize, block, eraseblocks};
 ghost use Rattle.ubi_scan.specs.Members.{good_at, is_good, is_right, member_if};
 ghost use Rattle.ubi_scan.specs.Pass.{IsMeeting};
 ghost use Rattle.ubi_scan.specs.Scan.{IsScan};
+ghost use Rattle.ubi_scan.specs.Source.{WhereHeld, blocks_in, blocks_of};
+ghost use Rattle.ubi_scan.specs.Stream.{IsReadFault, IsScanOf, IsScanOfError, after};
 
 use crate::blocks::Blocks;
 use crate::candidate::{Candidate, Meeting};
+use crate::errors::StreamError;
 use crate::found::Scan;
 use crate::header::member_of;
 use crate::pass::Pass;
+use crate::reading::{read_headers, read_leb};
+use crate::source::{BlockSource, MemorySource};
 use std::alloc::Global;
-use ubi_media::{AttachError, EcRead, VidHeader, VidRead, crc};
+use ubi_media::{AttachError, EcRead, Geometry, Refusal, VidHeader, VidRead, crc};
 
-/// Whether the data that a header speaks of are in the logical eraseblock.
-fn is_right(blocks: &Blocks<'_>, p: u32, header: &VidHeader) -> bool
-    requires { p < length (eraseblocks blocks.now) }
-    ensures { result ≡ is_right blocks.now.sizes (block (eraseblocks blocks.now) p) header.now }
+/// How many eraseblocks `len` bytes are.
+///
+/// # Errors
+///
+/// `TooMany` where they are more than the device has, and else `Length` where there are none or they aren't whole
+/// eraseblocks.
+fn block_count(geometry: &Geometry, len: u64) -> Result<u32, Refusal>
+    ensures { MatchResult result (λ n. (n ≡ len / geometry.now.peb_size) × IsWholeSize geometry.now len) (IsLengthFault geometry.now len) }
 {
-    let leb = blocks.leb(p);
-    let size = (header.data_size as usize).min(leb.len());
-    crc(&leb[..size]) == header.data_crc
+    let size = u64::from(geometry.peb_size());
+    if len > u64::from(geometry.pebs()) * size {
+        return Err(Refusal::TooMany);
+    }
+    if len == 0 || len % size != 0 {
+        return Err(Refusal::Length);
+    }
+    Ok((len / size) as u32)
+}
+
+/// Whether the data that a header speaks of are in the logical eraseblock. They are read into the buffer.
+fn is_right<S: BlockSource>(
+    source: &mut S,
+    geometry: &Geometry,
+    p: u32,
+    header: &VidHeader,
+    buffer: &mut [u8],
+) -> Result<bool, StreamError>
+    requires block { p < blocks_in geometry.now (S.known source.old) }
+    requires room { length buffer.old ≡ geometry.now.peb_size }
+    ensures known { S.known source.new ≡ after (S.known source.old) result }
+    ensures right { IfOk result (λ right. WhereHeld (S.known source.old) (λ bytes. right ≡ is_right geometry.now (block (blocks_of geometry.now bytes) p) header.now)) }
+    ensures failed { IfErr result (IsReadFault (blocks_in geometry.now (S.known source.old))) }
+{
+    let size = header.data_size.min(geometry.leb_size()) as usize;
+    prove!(geometry.data_offset() <= geometry.peb_size());
+    let data = &mut buffer[..size];
+    read_leb(source, geometry, p, data)?;
+    Ok(crc(data) == header.data_crc)
 }
 
 /// Whether an eraseblock with these headers is a good member: it is no copy, or its copied data are right.
-fn is_good(blocks: &Blocks<'_>, p: u32, ec: &EcRead, vid: &VidRead) -> bool
-    requires { p < length (eraseblocks blocks.now) }
-    ensures { result ≡ option_map_or (is_good blocks.now.sizes (block (eraseblocks blocks.now) p)) (member_if ec.now vid.now) false }
+fn is_good<S: BlockSource>(
+    source: &mut S,
+    geometry: &Geometry,
+    p: u32,
+    ec: &EcRead,
+    vid: &VidRead,
+    buffer: &mut [u8],
+) -> Result<bool, StreamError>
+    requires block { p < blocks_in geometry.now (S.known source.old) }
+    requires room { length buffer.old ≡ geometry.now.peb_size }
+    ensures known { S.known source.new ≡ after (S.known source.old) result }
+    ensures good { IfOk result (λ good. WhereHeld (S.known source.old) (λ bytes. good ≡ option_map_or (is_good geometry.now (block (blocks_of geometry.now bytes) p)) (member_if ec.now vid.now) false)) }
+    ensures failed { IfErr result (IsReadFault (blocks_in geometry.now (S.known source.old))) }
 {
     match member_of(ec, vid) {
-        Some(header) => !header.copy_flag || is_right(blocks, p, &header),
-        None => false,
+        Some(header) if header.copy_flag => is_right(source, geometry, p, &header, buffer),
+        Some(_) => Ok(true),
+        None => Ok(false),
     }
 }
 
 /// Whether a candidate is good. Where that isn't known yet, its eraseblock is asked.
-fn is_held_good(blocks: &Blocks<'_>, held: &Candidate) -> bool
-    requires { held.now.place < length (eraseblocks blocks.now) }
-    ensures { result ≡ unwrap_or held.now.good (good_at blocks.now.sizes (eraseblocks blocks.now) held.now.place) }
+fn is_held_good<S: BlockSource>(
+    source: &mut S,
+    geometry: &Geometry,
+    held: &Candidate,
+    buffer: &mut [u8],
+) -> Result<bool, StreamError>
+    requires block { held.now.place < blocks_in geometry.now (S.known source.old) }
+    requires room { length buffer.old ≡ geometry.now.peb_size }
+    ensures known { S.known source.new ≡ after (S.known source.old) result }
+    ensures good { IfOk result (λ good. WhereHeld (S.known source.old) (λ bytes. good ≡ unwrap_or held.now.good (good_at geometry.now (blocks_of geometry.now bytes) held.now.place))) }
+    ensures failed { IfErr result (IsReadFault (blocks_in geometry.now (S.known source.old))) }
 {
     match held.good {
-        Some(good) => good,
+        Some(good) => Ok(good),
         None => {
             let q = held.place;
-            is_good(blocks, q, &blocks.ec(q), &blocks.vid(q))
+            let (ec, vid) = read_headers(source, geometry, q, buffer)?;
+            is_good(source, geometry, q, &ec, &vid, buffer)
         }
     }
 }
 
 /// The meeting of an eraseblock that has these headers with a candidate, None where it meets none. Only here copied
 /// data are checked.
-fn meeting(
-    blocks: &Blocks<'_>,
+fn meeting<S: BlockSource>(
+    source: &mut S,
+    geometry: &Geometry,
     held: Option<Candidate>,
     p: u32,
     ec: &EcRead,
     vid: &VidRead,
-) -> Option<Meeting>
-    requires new { p < length (eraseblocks blocks.now) }
-    requires held { IfSome held (λ c. c.place < length (eraseblocks blocks.now)) }
-    ensures held { held_of result ≡ held }
-    ensures good { IfSome result (IsMeeting blocks.now.sizes (eraseblocks blocks.now) p ec.now vid.now) }
+    buffer: &mut [u8],
+) -> Result<Option<Meeting>, StreamError>
+    requires new { p < blocks_in geometry.now (S.known source.old) }
+    requires held { IfSome held (λ c. c.place < blocks_in geometry.now (S.known source.old)) }
+    requires room { length buffer.old ≡ geometry.now.peb_size }
+    ensures known { S.known source.new ≡ after (S.known source.old) result }
+    ensures held { IfOk result (λ met. held_of met ≡ held) }
+    ensures good { IfOk result (λ met. WhereHeld (S.known source.old) (λ bytes. IfSome met (IsMeeting geometry.now (blocks_of geometry.now bytes) p ec.now vid.now))) }
+    ensures failed { IfErr result (IsReadFault (blocks_in geometry.now (S.known source.old))) }
 {
-    let held = held?;
-    Some(Meeting {
+    let Some(held) = held else {
+        return Ok(None);
+    };
+    let held_good = is_held_good(source, geometry, &held, buffer)?;
+    let new_good = is_good(source, geometry, p, ec, vid, buffer)?;
+    Ok(Some(Meeting {
         held,
-        held_good: is_held_good(blocks, &held),
-        new_good: is_good(blocks, p, ec, vid),
-    })
+        held_good,
+        new_good,
+    }))
+}
+
+/// Scans the `count` eraseblocks of a source, through a buffer of the size of one.
+fn scan_blocks<S: BlockSource>(
+    alloc: Global,
+    geometry: &Geometry,
+    source: &mut S,
+    count: u32,
+    buffer: &mut [u8],
+) -> Result<Scan, StreamError>
+    requires whole { IsWholeSize geometry.now (S.known source.old).size }
+    requires count { count ≡ blocks_in geometry.now (S.known source.old) }
+    requires room { length buffer.old ≡ geometry.now.peb_size }
+    ensures known { S.known source.new ≡ after (S.known source.old) result }
+    ensures found { IfOk result (IsScanOf geometry.now (S.known source.old)) }
+    ensures refused { IfErr result (IsScanOfError geometry.now (S.known source.old)) }
+{
+    let mut pass = Pass::new(alloc);
+    for p in 0..count {
+        let (ec, vid) = read_headers(source, geometry, p, buffer)?;
+        let held = pass.held(&ec, &vid);
+        match pass.fault(p, &ec, &vid, held) {
+            None => {}
+            Some(fault) => return Err(StreamError::Refused(fault)),
+        }
+        let met = meeting(source, geometry, held, p, &ec, &vid, buffer)?;
+        pass.add(p, &ec, &vid, met)?;
+    }
+    Ok(Scan::of(pass))
+}
+
+/// Finds in a source which member wins each logical eraseblock, and what else a [`Scan`] tells. It reads the headers of
+/// the eraseblocks by rising number, and the data of a copy only where it meets another member.
+///
+/// # Errors
+///
+/// Refused with `TooMany` or `Length` where the source hasn't the size of an image, before any read. Read where a read
+/// failed, with the count 0. Refused with the first fault of the lowest eraseblock that has one: `Ec`, `ImageSeq`,
+/// `Vid`, `Incompatible`, `Layout` or `SameSqnum`, tried in this order. Memory where it ran out.
+pub fn scan_from<S: BlockSource>(
+    alloc: Global,
+    geometry: &Geometry,
+    source: &mut S,
+) -> Result<Scan, StreamError>
+    ensures known { S.known source.new ≡ after (S.known source.old) result }
+    ensures found { IfOk result (IsScanOf geometry.now (S.known source.old)) }
+    ensures refused { IfErr result (IsScanOfError geometry.now (S.known source.old)) }
+{
+    let count = block_count(geometry, source.len())?;
+    let mut buffer = Vec::from_elem(alloc, 0u8, geometry.peb_size() as usize)?;
+    scan_blocks(alloc, geometry, source, count, buffer.as_mut_slice())
 }
 
 /// Finds which member wins each logical eraseblock, and what else a [`Scan`] tells.
@@ -84,17 +199,12 @@ pub fn scan(alloc: Global, blocks: &Blocks<'_>) -> Result<Scan, AttachError>
     ensures found { IfOk result (IsScan blocks.now.sizes (eraseblocks blocks.now)) }
     ensures refused { IfErr result (IsScanError blocks.now.sizes (eraseblocks blocks.now)) }
 {
-    let mut pass = Pass::new(alloc);
-    for p in 0..blocks.count() {
-        let ec = blocks.ec(p);
-        let vid = blocks.vid(p);
-        let held = pass.held(&ec, &vid);
-        match pass.fault(p, &ec, &vid, held) {
-            None => {}
-            Some(fault) => return Err(AttachError::Refused(fault)),
-        }
-        let met = meeting(blocks, held, p, &ec, &vid);
-        pass.add(p, &ec, &vid, met)?;
+    let mut source = MemorySource::new(blocks.bytes());
+    match scan_from(alloc, &blocks.geometry(), &mut source) {
+        Ok(found) => Ok(found),
+        Err(StreamError::Refused(cause)) => Err(AttachError::Refused(cause)),
+        Err(StreamError::Memory) => Err(AttachError::Memory),
+        // No read fails, and nothing is written.
+        Err(StreamError::Read(_, _) | StreamError::Write(_)) => unreachable!(),
     }
-    Ok(Scan::of(pass))
 }

@@ -11,7 +11,7 @@ use std::test::Fail;
 use ubi_media::{LAYOUT_VOLUME, VidHeader};
 
 /// A member that is no copy.
-const OLD: Peb = Peb {
+pub const OLD: Peb = Peb {
     vid: Vid::Of(VidHeader { sqnum: 5, ..PLAIN }),
     byte: 0x35,
     count: 384,
@@ -19,7 +19,7 @@ const OLD: Peb = Peb {
 };
 
 /// A newer copy with the check of its data.
-const RIGHT: Peb = Peb {
+pub const RIGHT: Peb = Peb {
     vid: Vid::Of(COPY),
     byte: 0x37,
     count: 64,
@@ -33,19 +33,19 @@ const WRONG: VidHeader = VidHeader {
 };
 
 /// Such copies, by their sequence number.
-const WRONG_4: Peb = Peb {
+pub const WRONG_4: Peb = Peb {
     vid: Vid::Of(VidHeader { sqnum: 4, ..WRONG }),
     byte: 0x39,
     count: 64,
     ..FREE
 };
 
-const WRONG_6: Peb = Peb {
+pub const WRONG_6: Peb = Peb {
     vid: Vid::Of(VidHeader { sqnum: 6, ..WRONG }),
     ..WRONG_4
 };
 
-const WRONG_9: Peb = Peb {
+pub const WRONG_9: Peb = Peb {
     vid: Vid::Of(VidHeader { sqnum: 9, ..WRONG }),
     ..WRONG_4
 };

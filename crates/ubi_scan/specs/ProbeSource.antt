@@ -1,0 +1,73 @@
+-- A source for tests: what it holds, where it fails, and what it has counted.
+use Rattle.std.specs.Prelude.{◌≡◌, ℕ, ◌+◌, ◌-◌, ◌/◌, ◌%◌, ◌^◌, ◌==◌, Bool, nat_le, nat_lt, List, Some, if◌then◌else◌, length, min, refl, slice_index, slice_set}
+use Rattle.std.specs.Coded.{Coded, code_by, coded×, coded_ℕ, coded_list}
+use Rattle.std.proofs.Common.{ap, sym}
+use Rattle.std.specs.Prelude.{unwrap_or, []}
+use Rattle.ubi_scan.specs.Source.{IsSource, Source}
+
+-- its bytes, how an eraseblock is cut, the read that fails (0 for none), and how many reads were made, failed, began in
+-- each eraseblock, began in the data of each, and went beyond the eraseblock in which they began
+pub record Probed : Type 0 where
+  pub bytes : List ℕ
+  pub peb_size : ℕ
+  pub data_offset : ℕ
+  pub fail_at : ℕ
+  pub made : ℕ
+  pub failures : ℕ
+  pub reads : List ℕ
+  pub data_reads : List ℕ
+  pub crossing : ℕ
+
+abbrev pub probed_code : Coded Probed
+probed_code =
+    code_by (List ℕ × (ℕ × (ℕ × (ℕ × (ℕ × (ℕ × (List ℕ × (List ℕ × ℕ))))))))
+    (coded× (coded_list coded_ℕ) (coded× coded_ℕ (coded× coded_ℕ (coded× coded_ℕ (coded× coded_ℕ (coded× coded_ℕ (coded× (coded_list coded_ℕ) (coded× (coded_list coded_ℕ) coded_ℕ))))))))
+    (λ p. (p.bytes, (p.peb_size, (p.data_offset, (p.fail_at, (p.made, (p.failures, (p.reads, (p.data_reads, p.crossing)))))))))
+    (λ t. record {
+      bytes = t.0;
+      peb_size = t.1.0;
+      data_offset = t.1.1.0;
+      fail_at = t.1.1.1.0;
+      made = t.1.1.1.1.0;
+      failures = t.1.1.1.1.1.0;
+      reads = t.1.1.1.1.1.1.0;
+      data_reads = t.1.1.1.1.1.1.1.0;
+      crossing = t.1.1.1.1.1.1.1.1;
+    })
+    (λ _. refl)
+
+-- one more, up to the greatest number of 64 bits
+abbrev pub next : ℕ → ℕ
+next n = min (n + 1) (2 ^ 64 - 1)
+
+-- one more at a place
+abbrev pub bumped : List ℕ → ℕ → List ℕ
+bumped counts i = slice_set counts i (next (slice_index counts i))
+
+abbrev pub bumped_if : Bool → List ℕ → ℕ → List ℕ
+bumped_if b counts i = if b then bumped counts i else counts
+
+abbrev pub next_if : Bool → ℕ → ℕ
+next_if b n = if b then next n else n
+
+-- what is known of it
+abbrev pub probe_source : Probed → Source
+probe_source p = record { held = Some p.bytes; size = length p.bytes; failures = p.failures }
+
+pub probe_sized : (p : Probed) → IsSource (probe_source p)
+probe_sized p = record { sized = λ held is. ap (λ o. length (unwrap_or o [])) (sym is) }
+
+-- what a read of n bytes from a place on counts
+pub record IsCounted (old new : Probed) (at n : ℕ) : Type 0 where
+  pub made : new.made ≡ next old.made
+  pub failures : new.failures ≡ next_if (next old.made == old.fail_at) old.failures
+  pub reads : new.reads ≡ bumped old.reads (at / old.peb_size)
+  pub data_reads : new.data_reads ≡ bumped_if (nat_le old.data_offset (at % old.peb_size)) old.data_reads (at / old.peb_size)
+  pub crossing : new.crossing ≡ next_if (nat_lt old.peb_size (at % old.peb_size + n)) old.crossing
+
+-- what it leaves as it was
+pub record IsSameProbe (old new : Probed) : Type 0 where
+  pub bytes : new.bytes ≡ old.bytes
+  pub peb_size : new.peb_size ≡ old.peb_size
+  pub data_offset : new.data_offset ≡ old.data_offset
+  pub fail_at : new.fail_at ≡ old.fail_at

@@ -1,0 +1,46 @@
+-- What a call over a source answers.
+use Rattle.std.specs.Prelude.{◌≡◌, ℕ, ◌<◌, ◌⊎◌, length, Result, Ok, Err, IfSome}
+use Rattle.std.specs.FinMap.{get}
+use Rattle.ubi_media.specs.Geometry.{Sizes}
+use Rattle.ubi_scan.specs.Faults.{IsScanFault}
+use Rattle.ubi_scan.specs.Image.{IsLengthFault, IsWholeSize}
+use Rattle.ubi_scan.specs.Members.{Leb}
+use Rattle.ubi_scan.specs.Scan.{Found, IsScan}
+use Rattle.ubi_scan.specs.Source.{Source, WhereHeld, blocks_in, blocks_of, failed}
+use Rattle.ubi_scan.specs.declared.errors.StreamError.{StreamError}
+use Rattle.ubi_scan.specs.declared.errors.StreamError.TheVariants as stream
+
+-- what is known of a source after a call that failed: one read failed where the answer is Read, none where it isn't
+abbrev pub after_error : Source → StreamError → Source
+after_error k (stream.Read _ _) = failed k
+after_error k _ = k
+
+-- and after any call
+abbrev pub after : {A : Type 0} → Source → Result A StreamError → Source
+after k (Ok _) = k
+after k (Err e) = after_error k e
+
+-- a read of one of n eraseblocks failed, before anything was written
+abbrev pub IsReadFault : ℕ → StreamError → Type 0
+IsReadFault n (stream.Read p written) = (p < n) × (written ≡ 0)
+IsReadFault n _ = ⊥
+
+-- each eraseblock that a scan tells of is one of n
+pub record LiesWithin (n : ℕ) (found : Found) : Type 0 where
+  pub winners : (of : Leb) → IfSome (get found.winners of) (λ p. p < n)
+  pub states : length found.states ≡ n
+
+-- what a scan of a source finds: it lies in the source and, where the bytes are known, it is that of their eraseblocks
+pub record IsScanOf (s : Sizes) (k : Source) (found : Found) : Type 0 where
+  pub whole : IsWholeSize s k.size
+  pub within : LiesWithin (blocks_in s k) found
+  pub held : WhereHeld k (λ bytes. IsScan s (blocks_of s bytes) found)
+
+-- why it fails: the source's size isn't that of an image; or its eraseblocks are refused for their fault; or a read
+-- failed, or memory ran out
+abbrev pub IsScanOfError : Sizes → Source → StreamError → Type 0
+IsScanOfError s k (stream.Refused c) =
+    IsLengthFault s k.size c ⊎ (IsWholeSize s k.size × WhereHeld k (λ bytes. IsScanFault s (blocks_of s bytes) c))
+IsScanOfError s k (stream.Read p written) = IsReadFault (blocks_in s k) (stream.Read p written)
+IsScanOfError s k (stream.Write _) = ⊥
+IsScanOfError s k stream.Memory = Unit {0}

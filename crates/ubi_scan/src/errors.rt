@@ -1,0 +1,39 @@
+//! Why a call over a source fails.
+
+use std::alloc::AllocError;
+use ubi_media::Refusal;
+
+/// Why a call over a source fails. A count of bytes is what the call wrote before, 0 where it has no writer.
+#[derive(Clone, Copy, Debug, PartialEq, Eq)]
+pub enum StreamError {
+    /// The image is refused.
+    Refused(Refusal),
+    /// A read failed: the eraseblock, and the count of bytes.
+    Read(u32, u64),
+    /// A write failed: the count of bytes.
+    Write(u64),
+    /// Memory ran out.
+    Memory,
+}
+
+impl From<AllocError> for StreamError {
+    ghost use Rattle.std.specs.Prelude.{◌≡◌};
+    ghost use Rattle.ubi_scan.specs.declared.errors.StreamError.TheVariants.{Memory};
+
+    ghost from_gives = { λ _ e. e ≡ Memory };
+
+    fn from(_: AllocError) -> StreamError {
+        StreamError::Memory
+    }
+}
+
+impl From<Refusal> for StreamError {
+    ghost use Rattle.std.specs.Prelude.{◌≡◌};
+    ghost use Rattle.ubi_scan.specs.declared.errors.StreamError.TheVariants.{Refused};
+
+    ghost from_gives = { λ r e. e ≡ Refused r };
+
+    fn from(refusal: Refusal) -> StreamError {
+        StreamError::Refused(refusal)
+    }
+}

@@ -1,0 +1,74 @@
+//! Sources: bytes that are read at places, and what is known of them.
+
+ghost use Rattle.std.specs.Prelude.{◌≡◌, ◌+◌, ◌≤◌, length, slice_range, OnOk};
+ghost use Rattle.ubi_scan.specs.Source.{IsSource, Source, WhereHeld, after_read};
+
+use std::marker::Model;
+
+/// A read that failed.
+#[derive(Clone, Copy, Debug, PartialEq, Eq)]
+pub struct SourceFault;
+
+/// Bytes that are read at places: those of an image in memory, or of one in a file.
+pub trait BlockSource {
+    // The bytes that it holds, where they are known, its size, and how many of its reads failed.
+    ghost known: { Self → Source };
+
+    /// Its size in bytes. No read changes it.
+    fn len(&self) -> u64
+        ensures { result ≡ (known self.now).size };
+
+    /// Fills `out` with the bytes that begin at the place `at`.
+    ///
+    /// # Errors
+    ///
+    /// The read failed. `out` may then hold any bytes.
+    fn read(&mut self, at: u64, out: &mut [u8]) -> Result<(), SourceFault>
+        requires { at + length out.old ≤ (known self.old).size }
+        ensures known { known self.new ≡ after_read (known self.old) result }
+        ensures bytes { OnOk result (WhereHeld (known self.old) (λ bytes. out.new ≡ slice_range bytes at (at + length out.old))) };
+
+    // Where its bytes are known, its size is their number.
+    ghost sized: { (s : Self) → IsSource (known s) };
+}
+
+/// A source over bytes in memory. Its reads never fail.
+#[derive(Drop)]
+pub struct MemorySource<'a> {
+    bytes: &'a [u8],
+}
+
+impl<'a> Model for MemorySource<'a> {
+    ghost use Rattle.std.specs.Prelude.{List, ℕ};
+
+    ghost Value = { List ℕ };
+
+    ghost view = { λ s. s.bytes.now };
+}
+
+impl<'a> MemorySource<'a> {
+    /// A source over bytes.
+    pub fn new(bytes: &'a [u8]) -> MemorySource<'a>
+        ensures { result ≡ bytes.now }
+    {
+        MemorySource { bytes }
+    }
+}
+
+impl BlockSource for MemorySource<'_> {
+    ghost use Rattle.ubi_scan.specs.Source.{memory, memory_sized};
+
+    ghost known = { λ s. memory s };
+
+    fn len(&self) -> u64 {
+        self.bytes.len() as u64
+    }
+
+    fn read(&mut self, at: u64, out: &mut [u8]) -> Result<(), SourceFault> {
+        let start = at as usize;
+        out.copy_from_slice(&self.bytes[start..start + out.len()]);
+        Ok(())
+    }
+
+    ghost sized = { λ s. memory_sized s };
+}
