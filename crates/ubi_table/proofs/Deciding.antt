@@ -3,8 +3,6 @@ use Rattle.std.proofs.Common.{◌≡◌, ℕ, ◌+◌, ◌<◌, inl, inr, true, 
 use Rattle.std.specs.Prelude.{MatchOption, None, Some}
 use Rattle.std.specs.FinMap as finite
 use Rattle.ubi_media.specs.Geometry.{Sizes}
-use Rattle.ubi_media.specs.declared.refusal.AttachError.{AttachError}
-use Rattle.ubi_media.specs.declared.refusal.AttachError.TheVariants as attach
 use Rattle.ubi_media.specs.declared.refusal.Refusal.{Refusal}
 use Rattle.ubi_media.specs.declared.refusal.Refusal.TheVariants as refusal
 use Rattle.ubi_scan.specs.Members.{NoMember, Wins, layout}
@@ -12,7 +10,7 @@ use Rattle.ubi_scan.specs.Scan.{Found, IsScan}
 use Rattle.ubi_scan.proofs.Decided.{below_or_above}
 use Rattle.ubi_table.specs.Copies.{CopyIs}
 use Rattle.ubi_table.specs.Records.{Records}
-use Rattle.ubi_table.specs.Table.{Decides, IsCopyError, IsCopyFault, IsCopyTable, IsTable, IsTableError, IsTableFault, can_decide}
+use Rattle.ubi_table.specs.Table.{Decides, IsCopyFault, IsCopyTable, IsTable, IsTableFault, can_decide}
 use Rattle.ubi_table.specs.declared.copy.CopyRead.{CopyRead}
 use Rattle.ubi_table.specs.declared.copy.CopyRead.TheVariants as copy
 use Rattle.ubi_table.proofs.One.{copy_unique}
@@ -47,15 +45,11 @@ module _ (s : Sizes) (bs : List (List ℕ)) where
   pub table_chosen : (c : ℕ) (t : Records) → c < 2 → NoneDecides c → IsCopyTable s bs c (Some t) → IsTable s bs t
   table_chosen c t l h k = inr (c, decides c (copy.Good t) l h k.0 refl, k.1)
 
-  fault_chosen : (c : ℕ) (cause : Refusal) → c < 2 → NoneDecides c → IsCopyFault s bs c cause → IsTableFault s bs cause
+  pub fault_chosen : (c : ℕ) (cause : Refusal) → c < 2 → NoneDecides c → IsCopyFault s bs c cause → IsTableFault s bs cause
   fault_chosen c (refusal.Record p slot f) l h k = (c, decides c (copy.Faulty slot f) l h k.0 refl, k.1)
   fault_chosen c (refusal.SameName p i j) l h k = (c, decides c (copy.Twice i j) l h k.0 refl, k.1)
   fault_chosen c refusal.NoSpace l h k = (c, k.0, decides c (copy.Good k.0) l h k.1 refl, k.2)
   fault_chosen c _ l h k = absurd k
-
-  pub error_chosen : (c : ℕ) (e : AttachError) → c < 2 → NoneDecides c → IsCopyError s bs c e → IsTableError s bs e
-  error_chosen c attach.Memory l h k = tt
-  error_chosen c (attach.Refused cause) l h k = fault_chosen c cause l h k
 
   -- where neither can, both are corrupt
   pub both_corrupt : (found : Found) (next : ℕ × ℕ) → IsScan s bs found → NoneDecides 2 → finite.get found.winners (layout, next.0) ≡ Some next.1

@@ -6,7 +6,9 @@ pub mod Held
 pub mod Kept
 pub mod Moved
 pub mod Names
+pub mod NoRecords
 pub mod One
 pub mod ReadBack
 pub mod Reading
+pub mod Streamed
 pub mod TableVectors

@@ -1,22 +1,29 @@
 //! Which copy of the volume table decides.
 
-ghost use Rattle.std.specs.Prelude.{◌≡◌, IfErr, IfOk, IsTrue, ◌↔◌, length};
+ghost use Rattle.std.specs.FinMap as finite;
+ghost use Rattle.std.specs.Prelude.{◌≡◌, Some, List, ℕ, IfErr, IfOk, IfSome, IsTrue, ◌↔◌, length};
+ghost use Rattle.ubi_media.specs.Geometry.{Sizes, leb_size};
 ghost use Rattle.ubi_scan.specs.Image.{eraseblocks};
+ghost use Rattle.ubi_scan.specs.Members.{layout};
 ghost use Rattle.ubi_scan.specs.Scan.{IsScan};
-ghost use Rattle.ubi_table.specs.Table.{AllBlank, IsCopyError, IsCopyTable, IsTable, IsTableError};
+ghost use Rattle.ubi_scan.specs.Source.{WhereHeld, blocks_of};
+ghost use Rattle.ubi_scan.specs.Stream.{IsScanOf, after};
+ghost use Rattle.ubi_table.specs.Records.{HasSpace};
+ghost use Rattle.ubi_table.specs.Stream.{IsCopyOfError, IsCopyTableOf, IsTableOf, IsTableOfError};
+ghost use Rattle.ubi_table.specs.Table.{AllBlank, IsTable, IsTableError};
 
-use crate::copy::{CopyRead, read_copy};
+use crate::copy::{CopyRead, read_copy_from};
 use crate::table::{COPIES, Table};
 use std::alloc::Global;
-use ubi_media::{AttachError, LAYOUT_VOLUME, Refusal};
-use ubi_scan::{Blocks, Scan, ScanState};
+use ubi_media::{AttachError, Geometry, LAYOUT_VOLUME, Refusal};
+use ubi_scan::{BlockSource, Blocks, MemorySource, Scan, ScanState, StreamError};
 
-/// Whether every erase-counter header is blank.
-fn is_erased(blocks: &Blocks<'_>, scan: &Scan) -> bool
-    requires { IsScan blocks.now.sizes (eraseblocks blocks.now) scan.now }
-    ensures { IsTrue result ↔ AllBlank blocks.now.sizes (eraseblocks blocks.now) }
+/// Whether the erase-counter header of each of `count` eraseblocks is blank, whatever bytes were scanned.
+fn is_erased(count: u32, scan: &Scan) -> bool
+    requires { length scan.now.states ≡ count }
+    ensures { (s : Sizes) (bs : List (List ℕ)) → IsScan s bs scan.now → (IsTrue result ↔ AllBlank s bs) }
 {
-    for p in 0..blocks.count() {
+    for p in 0..count {
         match scan.state(p) {
             ScanState::Blank => {}
             _ => return false,
@@ -29,26 +36,33 @@ fn is_erased(blocks: &Blocks<'_>, scan: &Scan) -> bool
 ///
 /// # Errors
 ///
-/// Refused with `Record`, `SameName` or `NoSpace`, where it decides against a table. Memory where it ran out.
-fn decided(
+/// Refused with `Record`, `SameName` or `NoSpace`, where it decides against a table. Read where the read of the copy
+/// failed. Memory where it ran out.
+fn decided<S: BlockSource>(
     alloc: Global,
-    blocks: &Blocks<'_>,
+    geometry: &Geometry,
+    source: &mut S,
     scan: &Scan,
     c: u32,
-) -> Result<Option<Table>, AttachError>
-    requires { IsScan blocks.now.sizes (eraseblocks blocks.now) scan.now }
-    ensures table { IfOk result (IsCopyTable blocks.now.sizes (eraseblocks blocks.now) c) }
-    ensures refused { IfErr result (IsCopyError blocks.now.sizes (eraseblocks blocks.now) c) }
+    buffer: &mut [u8],
+) -> Result<Option<Table>, StreamError>
+    requires scan { IsScanOf geometry.now (S.known source.old) scan.now }
+    requires room { length buffer.old ≡ leb_size geometry.now }
+    ensures known { S.known source.new ≡ after (S.known source.old) result }
+    ensures table { IfOk result (IsCopyTableOf geometry.now (S.known source.old) c) }
+    ensures sizes { IfOk result (λ t. IfSome t (λ t. t.sizes ≡ geometry.now)) }
+    ensures space { IfOk result (λ t. IfSome t (HasSpace geometry.now)) }
+    ensures refused { IfErr result (IsCopyOfError geometry.now (S.known source.old) c) }
 {
     let Some(p) = scan.winner(LAYOUT_VOLUME, c) else {
         return Ok(None);
     };
-    match read_copy(alloc, blocks, scan, c)? {
+    match read_copy_from(alloc, geometry, source, scan, c, buffer)? {
         CopyRead::Absent | CopyRead::Corrupt => Ok(None),
         CopyRead::Faulty(slot, fault) => Err(Refusal::Record(p, slot, fault).into()),
         CopyRead::Twice(first, next) => Err(Refusal::SameName(p, first, next).into()),
         CopyRead::Good(table) => {
-            if table.space() > u64::from(blocks.geometry().pebs()) {
+            if table.space() > u64::from(geometry.pebs()) {
                 return Err(Refusal::NoSpace.into());
             }
             Ok(Some(table))
@@ -56,32 +70,85 @@ fn decided(
     }
 }
 
-/// Finds the volume table of an image that was scanned: none but empty slots where no eraseblock is in use, else that
+/// The table of the first copy that decides, where the layout volume has a winner. The buffer has the size of a logical
+/// eraseblock.
+///
+/// # Errors
+///
+/// Those of [`choose_from`], but for `NoTable`.
+fn first_decided<S: BlockSource>(
+    alloc: Global,
+    geometry: &Geometry,
+    source: &mut S,
+    scan: &Scan,
+    buffer: &mut [u8],
+) -> Result<Table, StreamError>
+    requires scan { IsScanOf geometry.now (S.known source.old) scan.now }
+    requires some { (e : ℕ × ℕ) × (finite.get scan.now.winners (layout, e.0) ≡ Some e.1) }
+    requires room { length buffer.old ≡ leb_size geometry.now }
+    ensures known { S.known source.new ≡ after (S.known source.old) result }
+    ensures table { IfOk result (IsTableOf geometry.now (S.known source.old)) }
+    ensures refused { IfErr result (IsTableOfError geometry.now (S.known source.old)) }
+{
+    for c in 0..COPIES {
+        match decided(alloc, geometry, source, scan, c, buffer)? {
+            Some(table) => return Ok(table),
+            None => {}
+        }
+    }
+    Err(Refusal::BothCorrupt.into())
+}
+
+/// Finds the volume table of a source that was scanned: none but empty slots where no eraseblock is in use, else that
 /// of copy 0, or of copy 1 where copy 0 is absent or corrupt.
 ///
 /// # Errors
 ///
 /// Refused with `NoTable` where some eraseblock is in use and none holds a copy, with `BothCorrupt` where neither copy
 /// can decide, and else by the copy that decides: with `Record` for its first record at fault, with `SameName` for the
-/// first name that comes again, with `NoSpace` where the volumes reserve more eraseblocks than the device has. Memory
-/// where it ran out.
-pub fn choose(alloc: Global, blocks: &Blocks<'_>, scan: &Scan) -> Result<Table, AttachError>
-    requires { IsScan blocks.now.sizes (eraseblocks blocks.now) scan.now }
-    ensures table { IfOk result (IsTable blocks.now.sizes (eraseblocks blocks.now)) }
-    ensures refused { IfErr result (IsTableError blocks.now.sizes (eraseblocks blocks.now)) }
+/// first name that comes again, with `NoSpace` where the volumes reserve more eraseblocks than the device has. Read
+/// where a read failed, with the count 0. Memory where it ran out.
+pub fn choose_from<S: BlockSource>(
+    alloc: Global,
+    geometry: &Geometry,
+    source: &mut S,
+    scan: &Scan,
+) -> Result<Table, StreamError>
+    requires { IsScanOf geometry.now (S.known source.old) scan.now }
+    ensures known { S.known source.new ≡ after (S.known source.old) result }
+    ensures table { IfOk result (IsTableOf geometry.now (S.known source.old)) }
+    ensures refused { IfErr result (IsTableOfError geometry.now (S.known source.old)) }
 {
-    if is_erased(blocks, scan) {
-        return Ok(Table::empty(alloc, &blocks.geometry()));
+    let count = (source.len() / u64::from(geometry.peb_size())) as u32;
+    if is_erased(count, scan) {
+        return Ok(Table::empty(alloc, geometry));
     }
     match scan.next_winner(LAYOUT_VOLUME, 0) {
         Some(_) => {}
         None => return Err(Refusal::NoTable.into()),
     }
-    for c in 0..COPIES {
-        match decided(alloc, blocks, scan, c)? {
-            Some(table) => return Ok(table),
-            None => {}
-        }
+    prove!(geometry.data_offset() <= geometry.peb_size());
+    let mut buffer = Vec::from_elem(alloc, 0u8, geometry.leb_size() as usize)?;
+    first_decided(alloc, geometry, source, scan, buffer.as_mut_slice())
+}
+
+/// Finds the volume table of an image that was scanned: none but empty slots where no eraseblock is in use, else that
+/// of copy 0, or of copy 1 where copy 0 is absent or corrupt.
+///
+/// # Errors
+///
+/// Refused as by [`choose_from`]. Memory where it ran out.
+pub fn choose(alloc: Global, blocks: &Blocks<'_>, scan: &Scan) -> Result<Table, AttachError>
+    requires { IsScan blocks.now.sizes (eraseblocks blocks.now) scan.now }
+    ensures table { IfOk result (IsTable blocks.now.sizes (eraseblocks blocks.now)) }
+    ensures refused { IfErr result (IsTableError blocks.now.sizes (eraseblocks blocks.now)) }
+{
+    let mut source = MemorySource::new(blocks.bytes());
+    match choose_from(alloc, &blocks.geometry(), &mut source, scan) {
+        Ok(table) => Ok(table),
+        Err(StreamError::Refused(cause)) => Err(AttachError::Refused(cause)),
+        Err(StreamError::Memory) => Err(AttachError::Memory),
+        // No read fails, and nothing is written.
+        Err(StreamError::Read(_, _) | StreamError::Write(_)) => unreachable!(),
     }
-    Err(Refusal::BothCorrupt.into())
 }

@@ -1,18 +1,19 @@
 //! What a copy of the volume table is.
 
-ghost use Rattle.std.specs.Prelude.{◌≡◌, IfOk, length, option_copied};
+ghost use Rattle.std.specs.Prelude.{◌≡◌, IfErr, IfOk, length, option_copied};
 ghost use Rattle.ubi_media.specs.Geometry.{leb_size};
-ghost use Rattle.ubi_scan.specs.Image.{eraseblocks};
-ghost use Rattle.ubi_scan.specs.Scan.{IsScan};
+ghost use Rattle.ubi_scan.specs.Source.{WhereHeld, blocks_in, blocks_of};
+ghost use Rattle.ubi_scan.specs.Stream.{IsScanOf, after};
 ghost use Rattle.ubi_table.specs.Copies.{CopyIs, copy_of};
 ghost use Rattle.ubi_table.specs.Slots.{first_named, twice};
+ghost use Rattle.ubi_table.specs.Stream.{HasSizes, IsCopyReadError};
 
 use crate::table::Table;
 use std::alloc::{AllocError, Global};
 use ubi_media::{
     Geometry, LAYOUT_VOLUME, RECORD_SIZE, RecFault, RecRead, VolName, VolumeRecord, read_rec,
 };
-use ubi_scan::{Blocks, Scan};
+use ubi_scan::{BlockSource, Scan, StreamError, read_leb};
 
 /// What a copy of the volume table is.
 #[derive(Drop)]
@@ -75,18 +76,32 @@ pub fn copy_in(alloc: Global, geometry: &Geometry, leb: &[u8]) -> Result<CopyRea
     }
 }
 
-/// What a copy of the volume table is, by the eraseblock that wins its logical eraseblock.
-pub fn read_copy(
+/// What a copy of the volume table is, by the eraseblock that wins its logical eraseblock. The buffer has the size of a
+/// logical eraseblock.
+///
+/// # Errors
+///
+/// Read where the read failed. Memory where it ran out.
+pub fn read_copy_from<S: BlockSource>(
     alloc: Global,
-    blocks: &Blocks<'_>,
+    geometry: &Geometry,
+    source: &mut S,
     scan: &Scan,
     c: u32,
-) -> Result<CopyRead, AllocError>
-    requires { IsScan blocks.now.sizes (eraseblocks blocks.now) scan.now }
-    ensures { IfOk result (CopyIs blocks.now.sizes (eraseblocks blocks.now) c) }
+    buffer: &mut [u8],
+) -> Result<CopyRead, StreamError>
+    requires scan { IsScanOf geometry.now (S.known source.old) scan.now }
+    requires room { length buffer.old ≡ leb_size geometry.now }
+    ensures known { S.known source.new ≡ after (S.known source.old) result }
+    ensures copy { IfOk result (λ what. WhereHeld (S.known source.old) (λ bytes. CopyIs geometry.now (blocks_of geometry.now bytes) c what)) }
+    ensures sizes { IfOk result (HasSizes geometry.now) }
+    ensures failed { IfErr result (IsCopyReadError (blocks_in geometry.now (S.known source.old))) }
 {
     match scan.winner(LAYOUT_VOLUME, c) {
         None => Ok(CopyRead::Absent),
-        Some(p) => copy_in(alloc, &blocks.geometry(), blocks.leb(p)),
+        Some(p) => {
+            read_leb(source, geometry, p, buffer)?;
+            Ok(copy_in(alloc, geometry, buffer)?)
+        }
     }
 }

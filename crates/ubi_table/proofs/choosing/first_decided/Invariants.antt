@@ -1,0 +1,10 @@
+use Rattle.std.proofs.Common.{◌≡◌}
+use Rattle.ubi_scan.specs.Source.{WhereHeld, blocks_of}
+use Rattle.ubi_table.proofs.Deciding.{NoneDecides}
+use Rattle.ubi_table.proofs.choosing.first_decided.Given as goal
+
+abbrev pub invariant-loop-c : goal.invariant-loop-c
+invariant-loop-c g l = record {
+  source : g.S.BlockSource.known l.source ≡ g.S.BlockSource.known l.fn.source;
+  none : WhereHeld (g.S.BlockSource.known l.fn.source) (λ bytes. NoneDecides l.geometry (blocks_of l.geometry bytes) l.c);
+}

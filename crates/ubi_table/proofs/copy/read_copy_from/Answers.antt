@@ -1,0 +1,26 @@
+use Rattle.std.proofs.Common.{◌∙◌, ap, slice_range, sym, subst}
+use Rattle.std.specs.Prelude.{MatchOption}
+use Rattle.ubi_scan.specs.Image.{block, leb}
+use Rattle.ubi_scan.specs.Members.{Leb, NoMember, Wins, layout}
+use Rattle.ubi_scan.specs.Scan.{IsScan}
+use Rattle.ubi_scan.specs.Source.{blocks_of}
+use Rattle.ubi_scan.proofs.ReadParts.{leb_of_read}
+use Rattle.ubi_table.specs.Copies.{copy_of}
+use Rattle.ubi_table.specs.Stream.{HasSizes}
+use Rattle.ubi_table.proofs.One.{copy_held}
+use Rattle.ubi_table.proofs.Streamed.{copy_sizes}
+use Rattle.ubi_table.proofs.copy.read_copy_from.Goals as goal
+
+pub returns-in_ok-copy_in-in-Some-clause-copy : goal.returns-in_ok-copy_in-in-Some-clause-copy
+returns-in_ok-copy_in-in-Some-clause-copy g c = λ bytes holds.
+    let s = c.args.geometry.now in
+    let bs = blocks_of s bytes in
+    let p = c.in-Some.p in
+    let of : Leb = (layout, c.args.c) in
+    let scan : IsScan s bs c.args.scan.now = c.requires.scan.held bytes holds in
+    let w : Wins s bs of p = subst (λ o. MatchOption o (NoMember s bs of) (Wins s bs of)) (sym c.in-Some.ensures) (scan.winners of) in
+    let read = leb_of_read s bytes c.read_leb.new.out p w.member.inside (c.in_ok-read_leb-in-Some.ensures.bytes bytes holds ∙ ap (slice_range (leb s (block bs p)) 0) c.requires.room) in
+    copy_held s bs c.args.c p c.in_ok-copy_in-in-Some.field-0 w (c.in_ok-copy_in-in-Some.ensures ∙ ap (copy_of s) read)
+
+pub returns-in_ok-copy_in-in-Some-clause-sizes : goal.returns-in_ok-copy_in-in-Some-clause-sizes
+returns-in_ok-copy_in-in-Some-clause-sizes g c = subst (HasSizes c.args.geometry.now) (sym c.in_ok-copy_in-in-Some.ensures) (copy_sizes c.args.geometry.now c.read_leb.new.out)
