@@ -16,7 +16,7 @@ use Rattle.ubi_scan.proofs.Entries.{sorted_entries}
 use Rattle.ubi_volume.specs.Meant.{Meant, records_of}
 use Rattle.ubi_volume.specs.declared.content.Content.TheVariants as content
 use Rattle.ubi_volume.specs.declared.content.Volume.{Volume}
-use Rattle.ubi_volume.proofs.Gathered.{no_entries}
+use Rattle.ubi_table.proofs.NoRecords.{no_entries}
 use Rattle.ubi_compose.specs.Composed.{spare}
 use Rattle.ubi_compose.specs.Normal.{Laid, blocks_of, damaged_block, dynamic_block, laid_bytes, layout_block, new_ec, normal_bytes, static_blocks, volume_blocks}
 use Rattle.ubi_volume.proofs.Recorded.{record_of}

@@ -16,13 +16,14 @@ use Rattle.ubi_media.specs.declared.record.VolumeRecord.{VolumeRecord}
 use Rattle.ubi_scan.proofs.Entries.{sorted_entries}
 use Rattle.ubi_scan.proofs.Finite.{find_at}
 use Rattle.ubi_scan.proofs.Keys.{told}
-use Rattle.ubi_table.specs.Records.{AreRecords, HasSpace, Records, no_records}
+use Rattle.ubi_table.specs.Records.{AreRecords, HasSpace, Records}
 use Rattle.ubi_table.specs.Table.{IsTable}
 use Rattle.ubi_volume.specs.Gathered.{AreContents, ContentIs}
 use Rattle.ubi_volume.specs.Means.{Means, SlotMeans}
 use Rattle.ubi_volume.specs.Meant.{AreVolumes, IsVolume}
 use Rattle.ubi_volume.specs.declared.content.Volume.{Volume}
 use Rattle.ubi_table.proofs.Held.{table_records}
+use Rattle.ubi_table.proofs.NoRecords.{no_space}
 use Rattle.ubi_volume.proofs.Winners.{no_some, some_same}
 
 abbrev pub Item : Type 0
@@ -46,20 +47,6 @@ pub same_sum : (vs : List Item) (n : ℕ) → fold (λ k (r : VolumeRecord). k +
     ≡ fold (λ k (v : Volume). k + v.entry.reserved) n (map (λ (v : Item). v.1) vs)
 same_sum [] n = refl
 same_sum (v ∷ vs) n = same_sum vs (n + v.1.entry.reserved)
-
--- a map without entries
-module _ {X : Type 0} where
-  nothing_found : (es : List (ℕ × X)) → T (is_sorted nat_cmp es) → ((q : ℕ) → find nat_cmp q es ≡ None) → es ≡ []
-  nothing_found [] sorted none = refl
-  nothing_found (e ∷ es) sorted none = absurd (no_some e.1 (sym (none e.0) ∙ find_at nat_cmp_total (e ∷ es) 0 e sorted (omega arith)))
-
-  pub no_entries : finite.entries {X = X} {R = nat_cmp} finite.empty ≡ []
-  no_entries = nothing_found _ (finite.entries_sorted finite.empty) (λ q. sym (finite.get-entries finite.empty q) ∙ finite.get-empty nat_cmp q)
-
-pub no_space : (s : Sizes) → IsGeometry s → HasSpace s (no_records s)
-no_space s g =
-    let none = ap (λ es. sum_by (λ (r : VolumeRecord). r.reserved) (map (λ (e : ℕ × VolumeRecord). e.1) es)) no_entries in
-    omega (arith, none, g.pebs_from)
 
 module _ (s : Sizes) (bs : List (List ℕ)) where
   -- a volume that is found has its record and its content

@@ -1,11 +1,10 @@
 -- What a file means, or why it is refused, is told by its first bytes up to one more than the device has.
-use Rattle.std.proofs.Common.{◌≡◌, ℕ, ◌+◌, ◌*◌, ◌<◌, ◌≤◌, ◌⊎◌, inl, inr, List, length, min, ap, sym, ◌∙◌, subst, arith}
-use Rattle.std.specs.Prelude.{◌↔◌}
+use Rattle.std.proofs.Common.{◌≡◌, ℕ, ◌+◌, ◌*◌, ◌<◌, ◌≤◌, ◌⊎◌, inl, inr, List, length, sym, subst, arith}
 use Rattle.std.proofs.lemmas.List.{length-take-le, take_all}
 use Rattle.ubi_media.specs.Geometry.{Sizes}
 use Rattle.ubi_media.specs.declared.refusal.Refusal.{Refusal}
 use Rattle.ubi_media.specs.declared.refusal.Refusal.TheVariants as refusal
-use Rattle.ubi_scan.specs.Image.{Image, IsSizeFault, IsWhole, judged}
+use Rattle.ubi_scan.specs.Image.{Image, judged}
 use Rattle.ubi_volume.specs.Accepts.{Accepts, Refuses}
 use Rattle.ubi_volume.specs.Laws.{JudgedAlone}
 use Rattle.ubi_volume.specs.Meant.{Meant}

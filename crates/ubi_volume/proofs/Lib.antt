@@ -1,6 +1,7 @@
 pub mod Alike
 pub mod Arranged
 pub mod Blanks
+pub mod CaseSizes
 pub mod Causes
 pub mod Dynamic
 pub mod Either
@@ -17,6 +18,7 @@ pub mod Mismatches
 pub mod Moved
 pub mod One
 pub mod OneCause
+pub mod PlacesOf
 pub mod Recorded
 pub mod SomeContent
 pub mod SomeMismatch

@@ -9,7 +9,7 @@ use Rattle.ubi_media.specs.Geometry.{Sizes}
 use Rattle.ubi_media.specs.Record.{usable}
 use Rattle.ubi_media.specs.declared.record.VolumeRecord.{VolumeRecord}
 use Rattle.ubi_media.specs.declared.vid.VidHeader.{VidHeader}
-use Rattle.ubi_scan.specs.Image.{Image, IsWhole, block, eraseblocks, leb}
+use Rattle.ubi_scan.specs.Image.{Image, IsWhole, eraseblocks, leb}
 use Rattle.ubi_scan.specs.Members.{Wins, is_right, member}
 use Rattle.ubi_scan.proofs.Moved.{IsMoved, clean_to, inside_of, moved_back, no_member_to, same_back, swapped, trade, wins_to}
 use Rattle.ubi_table.specs.Records.{Records}

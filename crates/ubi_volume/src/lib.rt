@@ -2,10 +2,15 @@
 //!
 //! An image is attached, and is then accepted with its one meaning or refused with the first cause that stands. A meaning
 //! is read volume by volume, or one logical eraseblock at a time.
+//!
+//! An image behind a source is attached without its contents ([`attach_places`]): what is found then is its table, the
+//! eraseblock of each logical eraseblock, and what kind of content each volume has.
 #![tactic(auto)]
 
 mod attached;
 mod attaching;
+mod cases;
+mod checking;
 mod content;
 mod errors;
 mod gathering;
@@ -15,6 +20,7 @@ mod making;
 mod meaning;
 mod mismatch;
 mod output;
+mod places;
 mod probe;
 mod reading;
 mod states;
@@ -28,6 +34,7 @@ pub use errors::{MeaningCause, MeaningError, ReadError};
 pub use length::volume_len;
 pub use meaning::Meaning;
 pub use output::write_all;
+pub use places::{PlaceContent, Places, attach_places};
 pub use probe::{Failure, ProbeWriter};
 pub use reading::read_leb;
 pub use writing::{read_volume, write_volume};

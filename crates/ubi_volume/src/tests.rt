@@ -4,6 +4,7 @@ mod making;
 mod memory;
 mod reading;
 mod refusals;
+mod sources;
 mod states;
 mod statics;
 mod writing;

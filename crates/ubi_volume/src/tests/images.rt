@@ -415,7 +415,7 @@ impl Peb {
 }
 
 /// The bytes of some eraseblocks.
-fn image(alloc: Global, pebs: &[Peb]) -> Result<Vec<u8>, Fail> {
+pub fn image(alloc: Global, pebs: &[Peb]) -> Result<Vec<u8>, Fail> {
     let mut bytes = Vec::new(alloc);
     for peb in pebs {
         bytes.extend_from_slice(&peb.bytes()?)?;

@@ -1,0 +1,53 @@
+-- What is known of each volume of a source without its contents, piece by piece.
+use Rattle.std.specs.Prelude.{◌≡◌, ℕ, List, [], ◌∷◌, Option, length, map, option_map}
+use Rattle.ubi_media.specs.Geometry.{Sizes}
+use Rattle.ubi_media.specs.declared.record.VolumeRecord.{VolumeRecord}
+use Rattle.ubi_scan.specs.Source.{Source, WhereHeld, blocks_in, blocks_of}
+use Rattle.ubi_scan.specs.Stream.{IsReadFault}
+use Rattle.ubi_scan.specs.declared.errors.StreamError.{StreamError}
+use Rattle.ubi_scan.specs.declared.errors.StreamError.TheVariants as stream
+use Rattle.ubi_table.specs.Records.{Records}
+use Rattle.ubi_volume.specs.Counted.{IsVolumeFault}
+use Rattle.ubi_volume.specs.Gathered.{AreContents, AreRead, ContentIs, PieceIs}
+use Rattle.ubi_volume.specs.Places.{IsReserved, case_of}
+use Rattle.ubi_volume.specs.declared.content.Content.{Content}
+use Rattle.ubi_volume.specs.declared.content.Volume.{Volume}
+use Rattle.ubi_volume.specs.declared.places.PlaceContent.{PlaceContent}
+
+-- a winner of a source is unlike its record, or a read failed
+abbrev pub IsMismatchError : Sizes → Source → Records → StreamError → Type 0
+IsMismatchError s k t (stream.Refused c) = WhereHeld k (λ bytes. IsVolumeFault s (blocks_of s bytes) t c)
+IsMismatchError s k t e = IsReadFault (blocks_in s k) e
+
+-- the size of the piece of a text of so many LEBs that the winner of a LEB holds, if it holds one
+abbrev pub PieceSizeIs : Sizes → List (List ℕ) → ℕ → ℕ → ℕ → Option ℕ → Type 0
+PieceSizeIs s bs vol used lnum size = (text : Option (List ℕ)) × PieceIs s bs vol used lnum text × (size ≡ option_map length text)
+
+-- the size of the text of the first n pieces
+abbrev pub SizeIsRead : Sizes → List (List ℕ) → ℕ → ℕ → ℕ → ℕ → Type 0
+SizeIsRead s bs vol used n size = (text : List ℕ) × AreRead s bs vol used n text × (size ≡ length text)
+
+-- the case and size of what a volume with this record reads
+abbrev pub CaseIs : Sizes → List (List ℕ) → ℕ → VolumeRecord → PlaceContent → Type 0
+CaseIs s bs vol r case = (c : Content) × ContentIs s bs vol r c × (case ≡ case_of s r c)
+
+-- those of a volume, behind its number
+abbrev pub case_in : Sizes → ℕ × Volume → ℕ × PlaceContent
+case_in s v = (v.0, case_of s v.1.entry v.1.content)
+
+-- those of the volumes of the entries
+pub record AreCases (s : Sizes) (bs : List (List ℕ)) (entries : List (ℕ × VolumeRecord)) (listed : List (ℕ × PlaceContent)) : Type 0 where
+  pub volumes : List (ℕ × Volume)
+  pub contents : AreContents s bs entries volumes
+  pub cases : listed ≡ map (case_in s) volumes
+
+-- each entry has a case behind its number, whose LEBs its volume reserves
+abbrev pub AreNumbered : List (ℕ × VolumeRecord) → List (ℕ × PlaceContent) → Type 0
+AreNumbered [] [] = Unit {0}
+AreNumbered (e ∷ entries) (c ∷ cases) = (c.0 ≡ e.0) × IsReserved e.1 c.1 × AreNumbered entries cases
+AreNumbered _ _ = ⊥
+
+-- why there are none: a winner is unlike its record, a read failed, or memory ran out
+abbrev pub IsContentsError : Sizes → Source → Records → StreamError → Type 0
+IsContentsError s k t stream.Memory = Unit {0}
+IsContentsError s k t e = IsMismatchError s k t e

@@ -1,0 +1,86 @@
+-- What is known of an image without its contents: its table, where each LEB stands, and what its volumes read.
+use Rattle.std.specs.Prelude.{◌≡◌, ℕ, ◌<◌, ◌≤◌, ◌⊎◌, List, length, Option, Some, IfSome, IsSome, MatchOption, ◌==◌, find}
+use Rattle.std.specs.FinMap.{FinMap, get}
+use Rattle.std.specs.Ordering.{nat_cmp}
+use Rattle.ubi_media.specs.Geometry.{Sizes}
+use Rattle.ubi_media.specs.Record.{usable}
+use Rattle.ubi_media.specs.declared.record.VolumeRecord.{VolumeRecord}
+use Rattle.ubi_scan.specs.Image.{Image, IsLengthFault, IsWholeSize, eraseblocks}
+use Rattle.ubi_scan.specs.Members.{Leb}
+use Rattle.ubi_scan.specs.Scan.{AreWinners, leb_cmp}
+use Rattle.ubi_scan.specs.Source.{Source, WhereHeld, blocks_in, blocks_of}
+use Rattle.ubi_scan.specs.Stream.{IsReadFault}
+use Rattle.ubi_scan.specs.declared.errors.StreamError.{StreamError}
+use Rattle.ubi_scan.specs.declared.errors.StreamError.TheVariants as stream
+use Rattle.ubi_table.specs.Records.{HasSpace, Records}
+use Rattle.ubi_volume.specs.Accepts.{Accepts, RefusesBlocks}
+use Rattle.ubi_volume.specs.Counted.{IsWithin}
+use Rattle.ubi_volume.specs.Meant.{Meant, records_of}
+use Rattle.ubi_volume.specs.Reading.{pieces}
+use Rattle.ubi_volume.specs.declared.content.Content.{Content}
+use Rattle.ubi_volume.specs.declared.content.Content.TheVariants as content
+use Rattle.ubi_volume.specs.declared.content.Volume.{Volume}
+use Rattle.ubi_volume.specs.declared.places.PlaceContent.{PlaceContent}
+use Rattle.ubi_volume.specs.declared.places.PlaceContent.TheVariants as place
+
+-- the value of places: the records of the table, the winner of each LEB, and the case and size of what each volume
+-- reads
+pub record Placed : Type 0 where
+  pub records : Records
+  pub winners : FinMap leb_cmp ℕ
+  pub contents : FinMap nat_cmp PlaceContent
+
+-- the case of a content, and the size of a text
+abbrev pub case_of : Sizes → VolumeRecord → Content → PlaceContent
+case_of s r content.Updating = place.Updating
+case_of s r content.Damaged = place.Damaged
+case_of s r (content.Static text) = place.Static (pieces (usable s r) (length text)) (length text)
+case_of s r (content.Dynamic lebs) = place.Dynamic
+
+-- the first LEB of a volume from a number on that counts and has a winner, with the winner; or none
+abbrev pub IsCountedPlace : Placed → ℕ → ℕ → ℕ → Type 0
+IsCountedPlace p vol lnum at = (r : VolumeRecord) × (get p.records.of vol ≡ Some r) × IsWithin r lnum × (get p.winners (vol, lnum) ≡ Some at)
+
+abbrev pub IsNextPlace : Placed → ℕ → ℕ → Option (ℕ × ℕ) → Type 0
+IsNextPlace p vol from next = MatchOption next
+    ((lnum at : ℕ) → from ≤ lnum → IsCountedPlace p vol lnum at → ⊥)
+    (λ e. (from ≤ e.0) × IsCountedPlace p vol e.0 e.1 × ((lnum at : ℕ) → from ≤ lnum → lnum < e.0 → IsCountedPlace p vol lnum at → ⊥))
+
+-- each record of a table has a content
+abbrev pub AreListed : Records → List (ℕ × PlaceContent) → Type 0
+AreListed t contents = (id : ℕ) → IsSome (get t.of id) → IsSome (find (λ e. e.0 == id) contents)
+
+-- the LEBs of a text are no more than its volume reserves
+abbrev pub IsReserved : VolumeRecord → PlaceContent → Type 0
+IsReserved r (place.Static lebs bytes) = lebs ≤ r.reserved
+IsReserved r _ = Unit {0}
+
+-- what holds of places in n eraseblocks, whatever these hold: each place is one of them, the volumes fit the device,
+-- and each has a case, whose LEBs it reserves
+pub record AreWithin (n : ℕ) (p : Placed) : Type 0 where
+  pub winners : (of : Leb) → IfSome (get p.winners of) (λ at. at < n)
+  pub space : HasSpace p.records.sizes p.records
+  pub contents : (id : ℕ) (r : VolumeRecord) → get p.records.of id ≡ Some r → (c : PlaceContent) × (get p.contents id ≡ Some c) × IsReserved r c
+
+-- the places are those of an image that is accepted
+pub record ArePlaces (image : Image) (p : Placed) : Type 0 where
+  pub meaning : Meant
+  pub accepted : Accepts image meaning
+  pub records : p.records ≡ records_of meaning
+  pub winners : AreWinners image.sizes (eraseblocks image) p.winners
+  pub contents : (id : ℕ) (v : Volume) → get meaning.volumes id ≡ Some v → get p.contents id ≡ Some (case_of image.sizes v.entry v.content)
+
+-- what attaching a source gives
+pub record ArePlacesOf (s : Sizes) (k : Source) (p : Placed) : Type 0 where
+  pub sizes : p.records.sizes ≡ s
+  pub whole : IsWholeSize s k.size
+  pub within : AreWithin (blocks_in s k) p
+  pub held : WhereHeld k (λ bytes. ArePlaces (record { sizes = s; bytes = bytes }) p)
+
+-- why it fails
+abbrev pub ArePlacesError : Sizes → Source → StreamError → Type 0
+ArePlacesError s k (stream.Refused c) =
+    IsLengthFault s k.size c ⊎ (IsWholeSize s k.size × WhereHeld k (λ bytes. RefusesBlocks s (blocks_of s bytes) c))
+ArePlacesError s k (stream.Read p written) = IsReadFault (blocks_in s k) (stream.Read p written)
+ArePlacesError s k (stream.Write _) = ⊥
+ArePlacesError s k stream.Memory = Unit {0}

@@ -1,0 +1,181 @@
+//! What the volumes of a source read, without their bytes.
+
+ghost use Rattle.std.specs.FinMap as finite;
+ghost use Rattle.std.specs.Prelude.{◌≡◌, ◌<◌, ◌↔◌, IfErr, IfOk, IsTrue, Some, None, false, length};
+ghost use Rattle.ubi_media.specs.Record.{rec_fault};
+ghost use Rattle.ubi_media.specs.declared.vid.VolKind.TheVariants.{Static};
+ghost use Rattle.ubi_scan.specs.Source.{WhereHeld, blocks_in, blocks_of};
+ghost use Rattle.ubi_scan.specs.Stream.{IsReadFault, IsScanOf, after};
+ghost use Rattle.ubi_table.specs.Stream.{IsCopyReadError, IsTableOf};
+ghost use Rattle.ubi_volume.specs.Cases.{AreCases, AreNumbered, CaseIs, PieceSizeIs};
+ghost use Rattle.ubi_volume.specs.Counted.{NoMismatch};
+ghost use Rattle.ubi_volume.specs.Gathered.{UsedIs};
+ghost use Rattle.ubi_volume.specs.Places.{IsReserved};
+
+use crate::places::PlaceContent;
+use crate::static_text::holds_piece;
+use std::alloc::{AllocError, Global};
+use ubi_media::{Geometry, VolKind, VolumeRecord};
+use ubi_scan::{BlockSource, Scan, StreamError, read_leb, read_member};
+use ubi_table::Table;
+
+/// How many logical eraseblocks the first winner of a volume says that the volume uses. 0 where it has none. The buffer
+/// has the size of an eraseblock, here and below.
+fn used_ebs<S: BlockSource>(
+    geometry: &Geometry,
+    source: &mut S,
+    scan: &Scan,
+    id: u32,
+    buffer: &mut [u8],
+) -> Result<u32, StreamError>
+    requires scan { IsScanOf geometry.now (S.known source.old) scan.now }
+    requires room { length buffer.old ≡ geometry.now.peb_size }
+    ensures known { S.known source.new ≡ after (S.known source.old) result }
+    ensures used { IfOk result (λ used. WhereHeld (S.known source.old) (λ bytes. UsedIs geometry.now (blocks_of geometry.now bytes) id used)) }
+    ensures failed { IfErr result (IsReadFault (blocks_in geometry.now (S.known source.old))) }
+{
+    match scan.next_winner(id, 0) {
+        Some((_, p)) => match read_member(source, geometry, p, buffer)? {
+            Some(header) => Ok(header.used_ebs),
+            None => Ok(0),
+        },
+        None => Ok(0),
+    }
+}
+
+/// The size in bytes of the piece that the winner of a logical eraseblock holds of a text of `used` of them. None where
+/// there is no winner, where it says that the volume uses another number of them, or where its data have another check.
+fn piece_size<S: BlockSource>(
+    geometry: &Geometry,
+    source: &mut S,
+    scan: &Scan,
+    id: u32,
+    used: u32,
+    lnum: u32,
+    buffer: &mut [u8],
+) -> Result<Option<u32>, StreamError>
+    requires scan { IsScanOf geometry.now (S.known source.old) scan.now }
+    requires room { length buffer.old ≡ geometry.now.peb_size }
+    ensures known { S.known source.new ≡ after (S.known source.old) result }
+    ensures piece { IfOk result (λ size. WhereHeld (S.known source.old) (λ bytes. PieceSizeIs geometry.now (blocks_of geometry.now bytes) id used lnum size)) }
+    ensures failed { IfErr result (IsReadFault (blocks_in geometry.now (S.known source.old))) }
+{
+    let Some(p) = scan.winner(id, lnum) else {
+        return Ok(None);
+    };
+    let Some(header) = read_member(source, geometry, p, buffer)? else {
+        return Ok(None);
+    };
+    let size = header.data_size.min(geometry.leb_size());
+    prove!(geometry.data_offset() <= geometry.peb_size());
+    let text = &mut buffer[..size as usize];
+    read_leb(source, geometry, p, text)?;
+    if holds_piece(&header, used, text) {
+        Ok(Some(size))
+    } else {
+        Ok(None)
+    }
+}
+
+/// What a static volume without update marker reads: nothing where it has no winner, its text where its winners hold
+/// all of it, and else it is damaged.
+fn static_case<S: BlockSource>(
+    geometry: &Geometry,
+    source: &mut S,
+    scan: &Scan,
+    table: &Table,
+    id: u32,
+    entry: &VolumeRecord,
+    buffer: &mut [u8],
+) -> Result<PlaceContent, StreamError>
+    requires scan { IsScanOf geometry.now (S.known source.old) scan.now }
+    requires alike { WhereHeld (S.known source.old) (λ bytes. NoMismatch geometry.now (blocks_of geometry.now bytes) table.now) }
+    requires recorded { finite.get table.now.of id ≡ Some entry.now }
+    requires sound { rec_fault geometry.now entry.now ≡ None }
+    requires unmarked { entry.now.marker ≡ false }
+    requires kind { entry.now.kind ≡ Static }
+    requires room { length buffer.old ≡ geometry.now.peb_size }
+    ensures known { S.known source.new ≡ after (S.known source.old) result }
+    ensures case { IfOk result (λ case. WhereHeld (S.known source.old) (λ bytes. CaseIs geometry.now (blocks_of geometry.now bytes) id entry.now case)) }
+    ensures reserved { IfOk result (IsReserved entry.now) }
+    ensures failed { IfErr result (IsReadFault (blocks_in geometry.now (S.known source.old))) }
+{
+    let used = used_ebs(geometry, source, scan, id, buffer)?;
+    if used > entry.reserved {
+        return Ok(PlaceContent::Damaged);
+    }
+    if scan.next_winner(id, used).is_some() {
+        return Ok(PlaceContent::Damaged);
+    }
+    let mut bytes = 0;
+    for lnum in 0..used {
+        match piece_size(geometry, source, scan, id, used, lnum, buffer)? {
+            Some(size) => bytes += u64::from(size),
+            None => return Ok(PlaceContent::Damaged),
+        }
+    }
+    Ok(PlaceContent::Static { lebs: used, bytes })
+}
+
+/// What a volume of the table reads.
+fn case_of<S: BlockSource>(
+    geometry: &Geometry,
+    source: &mut S,
+    scan: &Scan,
+    table: &Table,
+    id: u32,
+    entry: &VolumeRecord,
+    buffer: &mut [u8],
+) -> Result<PlaceContent, StreamError>
+    requires scan { IsScanOf geometry.now (S.known source.old) scan.now }
+    requires alike { WhereHeld (S.known source.old) (λ bytes. NoMismatch geometry.now (blocks_of geometry.now bytes) table.now) }
+    requires recorded { finite.get table.now.of id ≡ Some entry.now }
+    requires sound { rec_fault geometry.now entry.now ≡ None }
+    requires room { length buffer.old ≡ geometry.now.peb_size }
+    ensures known { S.known source.new ≡ after (S.known source.old) result }
+    ensures case { IfOk result (λ case. WhereHeld (S.known source.old) (λ bytes. CaseIs geometry.now (blocks_of geometry.now bytes) id entry.now case)) }
+    ensures reserved { IfOk result (IsReserved entry.now) }
+    ensures failed { IfErr result (IsReadFault (blocks_in geometry.now (S.known source.old))) }
+{
+    if entry.marker {
+        return Ok(PlaceContent::Updating);
+    }
+    match entry.kind {
+        VolKind::Dynamic => Ok(PlaceContent::Dynamic),
+        VolKind::Static => static_case(geometry, source, scan, table, id, entry, buffer),
+    }
+}
+
+/// What each volume of the table reads.
+///
+/// # Errors
+///
+/// Read where a read failed. Memory where it ran out.
+pub fn cases_from<S: BlockSource>(
+    alloc: Global,
+    geometry: &Geometry,
+    source: &mut S,
+    scan: &Scan,
+    table: &Table,
+    buffer: &mut [u8],
+) -> Result<Vec<(u32, PlaceContent)>, StreamError>
+    requires scan { IsScanOf geometry.now (S.known source.old) scan.now }
+    requires table { IsTableOf geometry.now (S.known source.old) table.now }
+    requires alike { WhereHeld (S.known source.old) (λ bytes. NoMismatch geometry.now (blocks_of geometry.now bytes) table.now) }
+    requires room { length buffer.old ≡ geometry.now.peb_size }
+    ensures known { S.known source.new ≡ after (S.known source.old) result }
+    ensures numbered { IfOk result (λ cases. AreNumbered (finite.entries table.now.of) cases.items) }
+    ensures cases { IfOk result (λ cases. WhereHeld (S.known source.old) (λ bytes. AreCases geometry.now (blocks_of geometry.now bytes) (finite.entries table.now.of) cases.items)) }
+    ensures failed { IfErr result (IsCopyReadError (blocks_in geometry.now (S.known source.old))) }
+{
+    let mut cases = Vec::new(alloc);
+    for listed in table.entries() {
+        let (id, entry) = *listed;
+        let case = case_of(geometry, source, scan, table, id, &entry, buffer)?;
+        match cases.push((id, case)) {
+            Ok(()) => {}
+            Err(full) => return Err(AllocError::from(full).into()),
+        }
+    }
+    Ok(cases)
+}

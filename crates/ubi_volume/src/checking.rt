@@ -1,0 +1,91 @@
+//! Winners of a source whose header isn't what the record of their volume says.
+//!
+//! Each buffer has the size of an eraseblock.
+
+ghost use Rattle.std.specs.Prelude.{◌≡◌, ◌<◌, ◌↔◌, IfErr, IfOk, IsTrue, OnOk, length};
+ghost use Rattle.ubi_scan.specs.Source.{WhereHeld, blocks_in, blocks_of};
+ghost use Rattle.ubi_scan.specs.Stream.{IsReadFault, IsScanOf, after};
+ghost use Rattle.ubi_table.specs.Stream.{IsTableOf};
+ghost use Rattle.ubi_volume.specs.Cases.{IsMismatchError};
+ghost use Rattle.ubi_volume.specs.Counted.{IsMismatched, NoMismatch, WinnerHeaderIs};
+
+use crate::mismatch::disagrees;
+use ubi_media::{Geometry, Refusal, VidHeader};
+use ubi_scan::{BlockSource, Scan, ScanState, StreamError, read_member};
+use ubi_table::Table;
+
+/// The header of an eraseblock that wins its logical eraseblock. None where it wins none.
+fn winner_header<S: BlockSource>(
+    geometry: &Geometry,
+    source: &mut S,
+    scan: &Scan,
+    p: u32,
+    buffer: &mut [u8],
+) -> Result<Option<VidHeader>, StreamError>
+    requires scan { IsScanOf geometry.now (S.known source.old) scan.now }
+    requires inside { p < blocks_in geometry.now (S.known source.old) }
+    requires room { length buffer.old ≡ geometry.now.peb_size }
+    ensures known { S.known source.new ≡ after (S.known source.old) result }
+    ensures header { IfOk result (λ header. WhereHeld (S.known source.old) (λ bytes. WinnerHeaderIs geometry.now (blocks_of geometry.now bytes) p header)) }
+    ensures failed { IfErr result (IsReadFault (blocks_in geometry.now (S.known source.old))) }
+{
+    if scan.state(p) == ScanState::Winner {
+        read_member(source, geometry, p, buffer)
+    } else {
+        Ok(None)
+    }
+}
+
+/// Whether an eraseblock is a winner that counts for a volume without update marker, and is unlike its record.
+fn is_mismatched<S: BlockSource>(
+    geometry: &Geometry,
+    source: &mut S,
+    scan: &Scan,
+    table: &Table,
+    p: u32,
+    buffer: &mut [u8],
+) -> Result<bool, StreamError>
+    requires scan { IsScanOf geometry.now (S.known source.old) scan.now }
+    requires table { IsTableOf geometry.now (S.known source.old) table.now }
+    requires inside { p < blocks_in geometry.now (S.known source.old) }
+    requires room { length buffer.old ≡ geometry.now.peb_size }
+    ensures known { S.known source.new ≡ after (S.known source.old) result }
+    ensures mismatched { IfOk result (λ b. WhereHeld (S.known source.old) (λ bytes. IsTrue b ↔ IsMismatched geometry.now (blocks_of geometry.now bytes) table.now p)) }
+    ensures failed { IfErr result (IsReadFault (blocks_in geometry.now (S.known source.old))) }
+{
+    let Some(header) = winner_header(geometry, source, scan, p, buffer)? else {
+        return Ok(false);
+    };
+    match table.get(header.vol_id) {
+        Some(entry) => Ok(disagrees(geometry, entry, &header)),
+        None => Ok(false),
+    }
+}
+
+/// Looks for a winner that is unlike the record of its volume.
+///
+/// # Errors
+///
+/// Refused with `Mismatch` and the lowest one. Read where a read failed.
+pub fn check_winners_from<S: BlockSource>(
+    geometry: &Geometry,
+    source: &mut S,
+    scan: &Scan,
+    table: &Table,
+    buffer: &mut [u8],
+) -> Result<(), StreamError>
+    requires scan { IsScanOf geometry.now (S.known source.old) scan.now }
+    requires table { IsTableOf geometry.now (S.known source.old) table.now }
+    requires room { length buffer.old ≡ geometry.now.peb_size }
+    ensures known { S.known source.new ≡ after (S.known source.old) result }
+    ensures alike { OnOk result (WhereHeld (S.known source.old) (λ bytes. NoMismatch geometry.now (blocks_of geometry.now bytes) table.now)) }
+    ensures refused { IfErr result (IsMismatchError geometry.now (S.known source.old) table.now) }
+{
+    let count = (source.len() / u64::from(geometry.peb_size())) as u32;
+    for p in 0..count {
+        if is_mismatched(geometry, source, scan, table, p, buffer)? {
+            return Err(Refusal::Mismatch(p).into());
+        }
+    }
+    Ok(())
+}
