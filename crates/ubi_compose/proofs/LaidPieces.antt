@@ -1,5 +1,5 @@
 -- An eraseblock is laid piece by piece.
-use Rattle.std.proofs.Common.{◌≡◌, ℕ, ◌+◌, ◌-◌, List, ◌++◌, length, ap, sym, ◌∙◌, append_assoc, length-append, arith}
+use Rattle.std.proofs.Common.{◌≡◌, ℕ, ◌+◌, ◌-◌, List, [], ◌++◌, length, ap, sym, ◌∙◌, append_assoc, length-append, arith}
 use Rattle.ubi_media.specs.Fields.{blank, filled}
 use Rattle.ubi_media.specs.Geometry.{Sizes, IsGeometry, leb_size}
 use Rattle.ubi_scan.proofs.Filled.{filled-by}
@@ -55,3 +55,15 @@ module _ (s : Sizes) (g : IsGeometry s) (ec vid text : List ℕ) (ec_size : leng
       ∙ ap (λ xs. xs ++ rest) (append_assoc image headers text)
       ∙ append_assoc image (headers ++ text) rest
       ∙ ap (λ xs. image ++ xs) (sym filled-all ∙ ap (λ xs. filled s.peb_size (xs ++ text)) (sym filled-headers))
+
+-- an eraseblock is laid in a buffer, part by part
+pub laid_in_place : (s : Sizes) (g : IsGeometry s) (ec vid text first second back : List ℕ) → length ec ≡ 64 → length vid ≡ 64 → first ≡ ec ++ blank (s.vid_offset - 64)
+    → second ≡ vid ++ blank (s.data_offset - s.vid_offset - 64) → back ≡ text ++ blank (leb_size s - length text)
+    → (first ++ second) ++ back ≡ filled s.peb_size (filled s.data_offset (filled s.vid_offset ec ++ vid) ++ text)
+laid_in_place s g ec vid text first second back ec_size vid_size a b d =
+    let front : List ℕ = ec ++ blank (s.vid_offset - 64) in
+    let gap : List ℕ = blank (s.data_offset - s.vid_offset - 64) in
+    let rest : List ℕ = blank (leb_size s - length text) in
+    ap (λ xs. (xs ++ second) ++ back) a ∙ ap (λ xs. (front ++ xs) ++ back) b ∙ ap (λ xs. (front ++ (vid ++ gap)) ++ xs) d
+    ∙ ap (λ xs. xs ++ (text ++ rest)) (sym (append_assoc front vid gap)) ∙ sym (append_assoc ((front ++ vid) ++ gap) text rest)
+    ∙ laid-pieces s g ec vid text ec_size vid_size []

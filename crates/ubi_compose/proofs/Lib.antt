@@ -1,6 +1,7 @@
 pub mod Accepted
 pub mod Apart
 pub mod Blocks
+pub mod ByNumber
 pub mod Changes
 pub mod Contents
 pub mod Cuts
@@ -20,11 +21,13 @@ pub mod Lists
 pub mod Normal
 pub mod NormalVectors
 pub mod Pieces
+pub mod Placed
 pub mod Places
 pub mod Puts
 pub mod ReadSoFar
 pub mod Rising
 pub mod Room
+pub mod Shares
 pub mod Sound
 pub mod Spares
 pub mod SpecVectors
@@ -32,3 +35,4 @@ pub mod Table
 pub mod Taken
 pub mod VolumeLines
 pub mod Volumes
+pub mod Writing

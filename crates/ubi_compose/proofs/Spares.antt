@@ -1,16 +1,14 @@
 -- A spare eraseblock is a member of no LEB, and has no fault.
-use Rattle.std.proofs.Common.{◌≡◌, ◌≢◌, ℕ, ◌+◌, ◌-◌, ◌≤◌, ◌++◌, length, List, drop, take, refl, ap, sym, ◌∙◌, arith}
-use Rattle.std.specs.Prelude.{None, option_map, slice_range}
+use Rattle.std.proofs.Common.{◌≡◌, ◌-◌, ◌++◌, length, take, refl, ap, ◌∙◌, arith}
+use Rattle.std.specs.Prelude.{None, option_map}
 use Rattle.std.proofs.Math.Path.{ap₂}
-use Rattle.std.proofs.lemmas.List.{drop-drop, drop-replicate, drop_at, take-replicate, take_at}
-use Rattle.std.proofs.lemmas.List.Elements.{All-replicate}
+use Rattle.std.proofs.lemmas.List.{take_at}
 use Rattle.ubi_media.specs.Ec.{ec_bytes, ec_reading}
-use Rattle.ubi_media.specs.Fields.{blank, field}
+use Rattle.ubi_media.specs.Fields.{blank}
 use Rattle.ubi_media.specs.Geometry.{IsGeometry, Sizes}
-use Rattle.ubi_media.specs.Vid.{vid_magic, vid_reading}
+use Rattle.ubi_media.specs.Vid.{vid_reading}
 use Rattle.ubi_media.specs.declared.ec.EcRead.TheVariants as ec_read
 use Rattle.ubi_media.specs.declared.vid.VidRead.TheVariants as vid_read
-use Rattle.ubi_media.proofs.Readings.{one_vid_reading}
 use Rattle.ubi_scan.specs.Clean.{IsSound}
 use Rattle.ubi_scan.specs.Image.{ec, vid, vid_area}
 use Rattle.ubi_scan.specs.Members.{foreign, foreign_if, leb_of, member, member_if, named_in}

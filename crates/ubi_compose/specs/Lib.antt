@@ -5,3 +5,5 @@ pub mod Lines
 pub mod Spec
 pub mod Drafts
 pub mod Laws
+pub mod Streamed
+pub mod Wrote

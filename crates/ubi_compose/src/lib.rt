@@ -2,6 +2,7 @@
 //! write the volumes of a meaning down.
 #![tactic(auto)]
 
+mod buffer;
 mod comparing;
 mod composing;
 mod cutting;
@@ -12,6 +13,7 @@ pub mod laws;
 mod laying;
 mod line;
 mod parsing;
+mod placing;
 mod records;
 mod shown;
 mod taking;
