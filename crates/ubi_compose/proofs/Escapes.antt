@@ -49,7 +49,7 @@ not_read_by : (name part : List ℕ) (parts : List (List ℕ)) (b : Bool) → is
     → option_and_then some_name (then_some (list_all is_escape (part ∷ parts)) (name ++ flat_map escaped (part ∷ parts))) ≡ None
 not_read_by name part parts true e h =
     ap (option_and_then some_name) (escape_read name part parts e)
-        ∙ too_long (list_all is_escape parts) (name ++ escaped part) (flat_map escaped parts) h
+    ∙ too_long (list_all is_escape parts) (name ++ escaped part) (flat_map escaped parts) h
 not_read_by name part parts false e h = ap (option_and_then some_name) (escape_refused name part parts e)
 
 -- where a part isn't read, or makes the name too long, there is no name
@@ -59,7 +59,7 @@ pub not_read : (word name part : List ℕ) (left parts : List (List ℕ))
 unfolding shown_name
 not_read word name part left parts h l bad =
     ap (option_and_then some_name)
-        (h ∙ ap (λ (ps : List (List ℕ)). then_some (list_all is_escape ps) (name ++ flat_map escaped ps)) l)
+    (h ∙ ap (λ (ps : List (List ℕ)). then_some (list_all is_escape ps) (name ++ flat_map escaped ps)) l)
     ∙ not_read_by name part parts (is_escape part) refl bad
 
 first_yes : (a b : Bool) → (a && b) ≡ true → a ≡ true

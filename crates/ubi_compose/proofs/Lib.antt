@@ -33,6 +33,7 @@ pub mod Spares
 pub mod SpecVectors
 pub mod Table
 pub mod Taken
+pub mod TextAnswers
 pub mod VolumeLines
 pub mod Volumes
 pub mod Writing

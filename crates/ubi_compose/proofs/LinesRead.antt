@@ -60,7 +60,7 @@ said_filled : (ws : List (List ℕ)) (f : Form) → IsFilled (said ws f)
 unfolding volume_line leb_line text_line damaged_line updating_line
 said_filled ws form.Volume =
     volume_filled (kind_of (word ws 2)) (number_word (word ws 1)) (number_word (word ws 3)) (number_word (word ws 4))
-        (flags_of (word ws 5)) (shown_name (word ws 6))
+    (flags_of (word ws 5)) (shown_name (word ws 6))
 said_filled ws form.Leb = leb_filled (number_word (word ws 1)) (number_word (word ws 2)) (hex_of (word ws 3))
 said_filled ws form.Text = text_filled (number_word (word ws 1)) (word ws 2) (hex_of (word ws 2)) refl
 said_filled ws form.Damaged = damaged_filled (number_word (word ws 1))

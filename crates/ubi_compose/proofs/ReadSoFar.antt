@@ -91,7 +91,7 @@ module _ (s : Sizes) (text : List ℕ) (before : List (List ℕ)) (items : Items
       let number = k.number_is in
       let same : line_number (length before) ≡ m = omega arith in
       this_line
-          ∙ ap (λ o. option_or (option_map (λ c. (line_number (length before), c)) o) (first_left s (before ++ line ∷ []) (drop (length before + 1) (lines text)))) o
+      ∙ ap (λ o. option_or (option_map (λ c. (line_number (length before), c)) o) (first_left s (before ++ line ∷ []) (drop (length before + 1) (lines text)))) o
       ∙ ap (λ i. Some (i, c)) same
 
   pub refused_at : (e : LineError) (m : ℕ) → IsRefused (read s items line) e → m ≡ min (n + 1) 0xFFFFFFFF

@@ -63,7 +63,7 @@ suits_if s r own l h =
 abbrev pub cause_in : Sizes → List Line → Line → Option SpecCause
 cause_in s ls l =
     option_map_or (λ r. content_cause s r (of_volume (volume_of l) ls) l) (record_of (volume_of l) ls)
-        (Some cause.Order)
+    (Some cause.Order)
 
 record_if : (s : Sizes) (ls : List Line) (l : Line) (o : Option VolumeRecord)
     → option_map_or (λ r. content_cause s r (of_volume (volume_of l) ls) l) o (Some cause.Order) ≡ None
@@ -93,7 +93,7 @@ content_kept s ls l n t f h =
     let at = record_if s ls l (record_of (volume_of l) ls) h in
     let k : headings (ls ++ l ∷ []) ≡ headings ls = headings_kept ls l n in
     let sound : (id : ℕ) (r : VolumeRecord) → record_of id ls ≡ Some r → (volume_of l == id) ≡ true → is_sound r l
-        ≡ true =
+    ≡ true =
     λ id r q e.
     let m : record_of (volume_of l) ls ≡ record_of id ls = ap (λ m. record_of m ls) (equal_number (volume_of l) id e) in
     let same : at.0 ≡ r = cc (sym at.1 ∙ m ∙ q) in
@@ -146,7 +146,7 @@ heading_suited : (s : Sizes) (ls : List Line) (id q : ℕ) (r v : VolumeRecord) 
 heading_suited s ls id q r v true t n e h =
     let m : record_of q ls ≡ None = sym (ap (λ k. record_of k ls) (equal_number id q e)) ∙ n in
     ap (list_all (is_sound v))
-        (own_more q ls (line.Volume id r) e ∙ ap (λ own. own ++ line.Volume id r ∷ []) (t.none q m))
+    (own_more q ls (line.Volume id r) e ∙ ap (λ own. own ++ line.Volume id r ∷ []) (t.none q m))
 heading_suited s ls id q r v false t n e h =
     ap (list_all (is_sound v)) (own_kept q ls (line.Volume id r) e)
     ∙ t.suited q v (record_headed q ls ∙ some_or (find (λ (e : ℕ × VolumeRecord). e.0 == q) (headings ls)) id r v h)
@@ -157,7 +157,7 @@ heading_kept : (s : Sizes) (ls : List Line) (id : ℕ) (r : VolumeRecord) → Is
 heading_kept s ls id r t n f = record {
   none = λ q h.
       let o = none_or (find (λ (e : ℕ × VolumeRecord). e.0 == q) (headings ls)) (id == q) id r
-          (sym (record_more q ls id r) ∙ h) in
+      (sym (record_more q ls id r) ∙ h) in
       own_kept q ls (line.Volume id r) o.1 ∙ t.none q (record_headed q ls ∙ o.0);
   suited = λ q v h. heading_suited s ls id q r v (id == q) t n refl (sym (record_more q ls id r) ∙ h);
   right = rw (headings_more ls (line.Volume id r)) (right_more s (headings ls) (id, r) t.right f);

@@ -68,10 +68,10 @@ at_place s ls l place n t takes c =
     let grown : of_volume c.at.0 (ls ++ l ∷ []) ≡ of_volume id ls ++ l ∷ [] =
     ap (λ q. of_volume q (ls ++ l ∷ [])) c.is ∙ own_more id ls l (same_number id) in
     let set : slice_set (map (numbered_volume s ls) (headings ls)) place
-        (c.at.0, volume_from s c.at.1 (of_volume id ls ++ l ∷ []))
+    (c.at.0, volume_from s c.at.1 (of_volume id ls ++ l ∷ []))
     ≡ map (numbered_volume s (ls ++ l ∷ [])) (headings (ls ++ l ∷ [])) =
     ap (λ own. slice_set (map (numbered_volume s ls) (headings ls)) place (c.at.0, volume_from s c.at.1 own))
-        (sym grown)
+    (sym grown)
     ∙ set_same (numbered_volume s ls) (numbered_volume s (ls ++ l ∷ [])) id (same_elsewhere s ls l)
     (headings ls) place c t.apart
     ∙ ap (map (numbered_volume s (ls ++ l ∷ []))) (sym (headings_kept ls l n)) in
@@ -117,9 +117,9 @@ unfolding volumes_in
 pushed s ls id r t n =
     let l = line.Volume id r in
     let old : map (numbered_volume s ls) (headings ls)
-        ≡ map (numbered_volume s (ls ++ line.Volume id r ∷ [])) (headings ls) =
+    ≡ map (numbered_volume s (ls ++ line.Volume id r ∷ [])) (headings ls) =
     map_same (numbered_volume s ls) (numbered_volume s (ls ++ line.Volume id r ∷ [])) id
-        (same_elsewhere s ls (line.Volume id r)) (headings ls) (not_headed id ls n) in
+    (same_elsewhere s ls (line.Volume id r)) (headings ls) (not_headed id ls n) in
     let own : of_volume id (ls ++ line.Volume id r ∷ []) ≡ line.Volume id r ∷ [] =
     own_more id ls (line.Volume id r) (same_number id) ∙ ap (λ own. own ++ line.Volume id r ∷ []) (t.none id n) in
     let new : volume_from s r [] ≡ volume_from s r (of_volume id (ls ++ line.Volume id r ∷ [])) =

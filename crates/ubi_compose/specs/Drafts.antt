@@ -43,7 +43,7 @@ leb_added size lnum bytes lebs =
 abbrev pub with_leb : ℕ → VolumeRecord → ℕ → List ℕ → Content → Result Volume SpecCause
 with_leb size r lnum bytes (content.Dynamic lebs) =
     result_map_both (λ added. record { entry = r; content = content.Dynamic added }) (λ c. c)
-        (leb_added size lnum bytes lebs)
+    (leb_added size lnum bytes lebs)
 with_leb size r lnum bytes _ = Err cause.Order
 
 abbrev pub with_text : VolumeRecord → List ℕ → Content → Result Volume SpecCause

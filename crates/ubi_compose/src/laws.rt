@@ -1,6 +1,6 @@
 //! Laws of the definitions that the contracts cite, each as the contract of a function that does nothing.
 
-ghost use Rattle.ubi_compose.specs.Laws.{NormalAccepted, NormalFits, NormalForm, Normalising, TwiceIsOnce};
+ghost use Rattle.ubi_compose.specs.Laws.{NormalAccepted, NormalFits, NormalForm, Normalising, OneAnswer, TwiceIsOnce};
 
 /// The normal image of a meaning is accepted with that meaning, and so it is with any number of spare eraseblocks behind
 /// it, as far as the device has room.
@@ -27,4 +27,9 @@ pub fn twice_is_once()
 /// normalising keeps the meaning, and twice is once.
 pub fn normalising()
     ensures { Normalising }
+{}
+
+/// A text without a line at fault comes to one meaning, or to one cause for which its volumes have none together.
+pub fn one_answer()
+    ensures { OneAnswer }
 {}

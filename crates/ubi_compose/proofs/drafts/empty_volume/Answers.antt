@@ -9,7 +9,7 @@ returns c =
     elim c.match-entry.branch [
       | in-Dynamic w ↦
           dynamic_new c.args.geometry.now c.args.entry c.match-entry.content w.in-Dynamic.is
-              (w.content-is ∙ ap (λ l. content.Dynamic l) w.new.ensures)
+          (w.content-is ∙ ap (λ l. content.Dynamic l) w.new.ensures)
       | in-Static w ↦ static_new c.args.geometry.now c.args.entry c.match-entry.content w.in-Static.is
           (w.content-is ∙ ap (λ t. content.Static t) (w.new-in-Static-2.ensures ∙ w.new-in-Static.ensures.items))
     ]

@@ -18,5 +18,5 @@ returns-in-Some c =
 pub returns : goal.returns
 returns c =
     nothing_said c.args.text.now (map (λ w. w.now) c.as_slice.result.now)
-        (sym c.is_spelled.ensures ∙ c.if-not-is_spelled.false)
+    (sym c.is_spelled.ensures ∙ c.if-not-is_spelled.false)
     (ap (map (λ w. w.now)) c.as_slice.ensures.value ∙ c.in_ok-words.ensures) (sym c.in-None.ensures)

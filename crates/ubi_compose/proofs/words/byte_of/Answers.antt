@@ -7,11 +7,11 @@ use Rattle.ubi_compose.proofs.words.byte_of.Goals as goal
 pub returns-in-Ok : goal.returns-in-Ok
 returns-in-Ok c =
     pair_ok (decode_sized (c.args.high ∷ c.args.low ∷ []) 1) _ c.decode_to_slice.new.out
-        (shown_byte c.args.high c.args.low) c.in-Ok.field-0
+    (shown_byte c.args.high c.args.low) c.in-Ok.field-0
     (decoded_pair c.args.high c.args.low) c.decode_to_slice.ensures.value c.in-Ok.is
 
 pub returns-in-Err : goal.returns-in-Err
 returns-in-Err c =
     pair_err (decode_sized (c.args.high ∷ c.args.low ∷ []) 1) _ c.decode_to_slice.new.out
-        (shown_byte c.args.high c.args.low) c.in-Err.field-0
+    (shown_byte c.args.high c.args.low) c.in-Err.field-0
     (decoded_pair c.args.high c.args.low) c.decode_to_slice.ensures.value c.in-Err.is

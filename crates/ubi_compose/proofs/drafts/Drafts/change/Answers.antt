@@ -35,13 +35,13 @@ returns-in-Some c =
     let same = ap length c.self.view_is in
     let place : place_of (volume_of c.args.line) c.self.inside.volumes.items ≡ Some c.in-Some.place =
     ap (place_of (volume_of c.args.line)) c.self.view_is ∙ ap (λ id. place_of id c.args.self.now) (sym c.volume.ensures)
-        ∙ sym c.in-Some.ensures in
+    ∙ sym c.in-Some.ensures in
     let read : slice_get c.self.inside.volumes.items c.in-Some.place ≡ Some c.index_mut.result.now =
     slice_get_read c.self.inside.volumes.items
-        (length c.self.inside.volumes.items) c.in-Some.place c.index_mut.result.now refl
-        (omega arith) c.index_mut.ensures.value in
+    (length c.self.inside.volumes.items) c.in-Some.place c.index_mut.result.now refl
+    (omega arith) c.index_mut.ensures.value in
     change_answer c.take_content.result
-        (with_line c.args.geometry.now c.index_mut.result.now.1 c.args.line) c.take_content.new.volume
+    (with_line c.args.geometry.now c.index_mut.result.now.1 c.args.line) c.take_content.new.volume
     (λ v. slice_set c.self.inside.volumes.items c.in-Some.place (c.index_mut.result.now.0, v))
     (changed c.args.geometry.now c.args.self.now c.args.line)
     (ap (λ items. changed c.args.geometry.now items c.args.line) (sym c.self.view_is)

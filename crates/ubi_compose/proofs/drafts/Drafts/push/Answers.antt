@@ -6,7 +6,7 @@ use Rattle.ubi_compose.proofs.drafts.Drafts.push.Goals as goal
 pub invariant_of-self-2 : goal.invariant_of-self-2
 invariant_of-self-2 c =
     let same = c.push_reserved.ensures.items
-        ∙ ap (λ items. items ++ (c.args.id, c.args.volume) ∷ []) c.reserve.ensures.items in
+    ∙ ap (λ items. items ++ (c.args.id, c.args.volume) ∷ []) c.reserve.ensures.items in
     let long = c.self.inside.volumes.ok.0 in
     let n : c.len.result ≡ length c.self.inside.volumes.items = omega (arith, c.len.ensures, c.reserve.ensures.len) in
     rw same
