@@ -6,10 +6,11 @@ use super::images::{
 };
 use crate::{PlaceContent, Places, attach_places};
 use std::alloc::Global;
+use std::fs;
 use std::process::Abort;
 use std::test::Fail;
 use ubi_media::{Refusal, VidHeader};
-use ubi_scan::{MemorySource, ProbeSource, StreamError, scan_from};
+use ubi_scan::{FileSource, MemorySource, ProbeSource, StreamError, scan_from};
 use ubi_table::choose_from;
 
 /// What a volume reads. None where the table has no such volume.
@@ -106,6 +107,26 @@ fn scans_chooses_and_attaches(rt: HostRuntime) -> Result<(), Fail> {
     let table = choose_from(alloc, &geometry, &mut source, &found)?;
     assert_eq!(rt; table.get(0).map(|volume| volume.reserved), Some(20));
     assert!(rt; attach_places(alloc, &geometry, &mut source).is_ok());
+    Ok(())
+}
+
+#[test]
+fn attaches_a_file_as_memory(rt: HostRuntime) -> Result<(), Fail> {
+    let alloc = rt.alloc();
+    let bytes = image(alloc, &BASE)?;
+    fs::write(&rt, "attached.img", bytes.as_slice())?;
+    let mut file = FileSource::open(&rt, "attached.img")?;
+    let places = attach_places(alloc, &geometry()?, &mut file)?;
+    assert_eq!(rt; content(&places, 0), Some(PlaceContent::Dynamic));
+    assert_eq!(rt; places.next_place(0, 1), Some((1, 3)));
+    fs::write(
+        &rt,
+        "attached.img",
+        bytes.as_slice().get(..1700).unwrap_or(&[]),
+    )?;
+    let error = attach_places(alloc, &geometry()?, &mut file).err();
+    assert_eq!(rt; error, Some(StreamError::Read(3, 0)));
+    fs::remove_file(&rt, "attached.img")?;
     Ok(())
 }
 
