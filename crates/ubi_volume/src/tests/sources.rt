@@ -122,7 +122,7 @@ fn attaches_a_file_as_memory(rt: HostRuntime) -> Result<(), Fail> {
     fs::write(
         &rt,
         "attached.img",
-        bytes.as_slice().get(..1700).unwrap_or(&[]),
+        bytes.as_slice().get(..1600).unwrap_or(&[]),
     )?;
     let error = attach_places(alloc, &geometry()?, &mut file).err();
     assert_eq!(rt; error, Some(StreamError::Read(3, 0)));
