@@ -171,9 +171,11 @@ fn said(alloc: Global, words: &[&[u8]], form: Form) -> Result<Line, LineError>
 fn words_of(alloc: Global, text: &[u8]) -> Result<Vec<&[u8]>, AllocError>
     ensures { IfOk result (λ found. map (λ w. w.now) found.items ≡ take 8 (words text.now)) }
 {
-    text.split(|byte| *byte == b' ')
-        .take(MOST_WORDS + 1)
-        .collect(alloc)
+    let mut words = Vec::with_capacity(alloc, MOST_WORDS + 1)?;
+    for word in text.split(|byte| *byte == b' ').take(MOST_WORDS + 1) {
+        words.push(word)?;
+    }
+    Ok(words)
 }
 
 /// Whether two spaces of a line stand side by side, or one at its end.

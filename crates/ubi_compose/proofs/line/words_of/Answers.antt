@@ -1,17 +1,14 @@
-use Rattle.std.proofs.Common.{ap, ◌∙◌, rules, tests}
+use Rattle.std.proofs.Common.{ap, map, ◌==◌, ◌∙◌, rules, tests}
 use Rattle.std.specs.Iterator.Adapters.{take_source}
-use Rattle.std.specs.Slice.Iter as slice
 use Rattle.std.proofs.lemmas.Iterator.{YieldsList-from_take}
-use Rattle.std.proofs.lemmas.Iterator.Consumers.{map_from_collect}
+use Rattle.std.proofs.lemmas.Iterator.Consumers.{YieldsList-end}
 use Rattle.std.proofs.lemmas.Iterator.Splits.{YieldsList-from_slice_split}
 use Rattle.ubi_compose.proofs.line.words_of.Goals as goal
 
 pub returns : goal.returns
 returns c =
-    map_from_collect _ c.collect.ensures.ran
-    (YieldsList-from_take {s = c.take.result} 8
-    (YieldsList-from_slice_split {s = take_source c.take.result} _ _ c.args.text.now
-    (ap slice.split_rest c.take.ensures.source ∙ c.split.ensures.rest)
-    (ap slice.split_done c.take.ensures.source ∙ c.split.ensures.done)
-    (ap slice.split_callee c.take.ensures.source ∙ c.split.ensures.closure)
-    (λ x r q k. search (rules, tests))) c.take.ensures.count)
+    let end = YieldsList-end (YieldsList-from_take {s = c.into_iter-word-iterator.result} 8
+    (YieldsList-from_slice_split {s = take_source c.into_iter-word-iterator.result} _ (λ b. b == 32) c.args.text.now (cc) (cc) (cc)
+    (λ x r q k. search (rules, tests)))
+    (cc)) c.loop-word.yielded _ c.loop-word.yielded_by _ _ c.in-None.is c.next.ensures.steps in
+    ap (map (λ w. w.now)) c.loop-word.invariant ∙ end.0
