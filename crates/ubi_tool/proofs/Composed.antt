@@ -1,6 +1,6 @@
 -- What is composed of a text, and listed of that.
 use Rattle.std.proofs.Common.{◌≡◌, ℕ, ◌+◌, ◌<◌, ◌≤◌, List, Some, None, length, ap, sym, subst, ◌∙◌, arith}
-use Rattle.std.specs.Prelude.{Option, option_map}
+use Rattle.std.specs.Prelude.{Ok, Option, option_map}
 use Rattle.ubi_media.specs.Geometry.{Sizes}
 use Rattle.ubi_scan.specs.Image.{Image}
 use Rattle.ubi_volume.specs.Accepts.{Accepts, Refuses}
@@ -9,10 +9,11 @@ use Rattle.ubi_volume.specs.declared.errors.MeaningCause.{MeaningCause}
 use Rattle.ubi_volume.proofs.FirstCause.{one_first}
 use Rattle.ubi_volume.proofs.One.{Accepts-unique, never_accepted_and_refused}
 use Rattle.ubi_compose.specs.Composed.{composed, image_of}
+use Rattle.ubi_compose.specs.Laws.{ComesTo}
 use Rattle.ubi_compose.specs.Spec.{volumes_of}
 use Rattle.ubi_compose.specs.declared.errors.SpecCause.{SpecCause}
 use Rattle.ubi_tool.specs.Answer.{Answer, Gives, says}
-use Rattle.ubi_tool.specs.Compose.{Composes, ComposesOf, Describes, crowded, described, fits, meaning_line, spec_line, unmade, unread}
+use Rattle.ubi_tool.specs.Compose.{Composes, ComposesOf, crowded, described, fits, meaning_line, spec_line, unmade, unread}
 use Rattle.ubi_tool.specs.List.{Lists, accepted, list_lines, refused}
 use Rattle.ubi_tool.specs.declared.outcome.Outcome.{Outcome}
 
@@ -50,26 +51,26 @@ some_cause x y e = cc
 pub one_composed : (s : Sizes) (text : List ℕ) (spares : ℕ) (o p : Outcome) (a : Answer)
     → Composes s text spares o → Composes s text spares p → Gives o a → Gives p a
 one_composed s text spares o p a (described m d x) (described n e y) g =
-    composed_of m spares o p a x (subst (λ k. ComposesOf k spares p) (e.meaning ∙ sym d.meaning) y) g
-one_composed s text spares o p a (described m d x) (unread line c e k) g = absurd (let h = sym d.read ∙ e in cc)
-one_composed s text spares o p a (described m d x) (unmade c e is k) g = absurd (d.sound c is.stands)
-one_composed s text spares o p a (unread line c e h) (described n d y) g = absurd (let k = sym d.read ∙ e in cc)
+    composed_of m spares o p a x (subst (λ k. ComposesOf k spares p) (e.2 ∙ sym d.2) y) g
+one_composed s text spares o p a (described m d x) (unread line c e k) g = absurd (let h = sym d.0 ∙ e in cc)
+one_composed s text spares o p a (described m d x) (unmade c is k) g = absurd (d.1 c is.1.stands)
+one_composed s text spares o p a (unread line c e h) (described n d y) g = absurd (let k = sym d.0 ∙ e in cc)
 one_composed s text spares o p a (unread line c e h) (unread other b f k) g =
     let one : (line, c) ≡ (other, b) = some_cause (line, c) (other, b) (sym e ∙ f) in
     one_text o p a _ g h (subst (λ (x : ℕ × SpecCause). Gives p (says (spec_line x.0 x.1) 1)) (sym one) k)
-one_composed s text spares o p a (unread line c e h) (unmade b f is k) g = absurd (let x = sym e ∙ f in cc)
-one_composed s text spares o p a (unmade c e is h) (described n d y) g = absurd (d.sound c is.stands)
-one_composed s text spares o p a (unmade c e is h) (unread line b f k) g = absurd (let x = sym e ∙ f in cc)
-one_composed s text spares o p a (unmade c e is h) (unmade b f other k) g =
-    let one : c ≡ b = one_first s (volumes_of s text) c b is other in
+one_composed s text spares o p a (unread line c e h) (unmade b is k) g = absurd (let x = sym e ∙ is.0 in cc)
+one_composed s text spares o p a (unmade c is h) (described n d y) g = absurd (d.1 c is.1.stands)
+one_composed s text spares o p a (unmade c is h) (unread line b f k) g = absurd (let x = sym is.0 ∙ f in cc)
+one_composed s text spares o p a (unmade c is h) (unmade b other k) g =
+    let one : c ≡ b = one_first s (volumes_of s text) c b is.1 other.1 in
     one_text o p a _ g h (subst (λ (x : MeaningCause). Gives p (says (meaning_line x) 1)) (sym one) k)
 
 pub lists_composed : (s : Sizes) (text bytes : List ℕ) (spares : ℕ) (o p : Outcome)
     → Composes s text spares o → option_map (λ v. v.items) o.file ≡ Some bytes → Lists (record { sizes = s; bytes = bytes }) p
-    → (m : Meant) × Describes s text m × Gives p (says (list_lines m) 0)
+    → (m : Meant) × ComesTo s text (Ok m) × Gives p (says (list_lines m) 0)
 lists_composed s text bytes spares o p (described m d of_m) e l =
-    let sizes : m.sizes ≡ s = ap (λ k. k.sizes) d.meaning in
+    let sizes : m.sizes ≡ s = ap (λ k. k.sizes) d.2 in
     let a : Accepts (record { sizes = s; bytes = bytes }) m = subst (λ i. Accepts i m) (same_sizes m.sizes s bytes sizes) (file_accepted m spares o bytes of_m e) in
     (m, d, listed (record { sizes = s; bytes = bytes }) m p a l)
 lists_composed s text bytes spares o p (unread line c is gives) e l = absurd (let h = sym gives.file ∙ e in cc)
-lists_composed s text bytes spares o p (unmade c is first gives) e l = absurd (let h = sym gives.file ∙ e in cc)
+lists_composed s text bytes spares o p (unmade c is gives) e l = absurd (let h = sym gives.file ∙ e in cc)

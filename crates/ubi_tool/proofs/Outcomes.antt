@@ -10,7 +10,8 @@ use Rattle.ubi_volume.specs.Accepts.{Accepts}
 use Rattle.ubi_volume.specs.Meant.{Meant}
 use Rattle.ubi_change.specs.declared.step.Step.{Step}
 use Rattle.ubi_compose.specs.Composed.{HasRoom}
-use Rattle.ubi_tool.specs.Compose.{Composes, ComposesInto, ComposesOf, Describes, crowded, described, fits, unmade, unread}
+use Rattle.ubi_compose.specs.Laws.{ComesTo}
+use Rattle.ubi_tool.specs.Compose.{Composes, ComposesInto, ComposesOf, crowded, described, fits, unmade, unread}
 use Rattle.ubi_tool.specs.Compose as compose
 use Rattle.ubi_tool.specs.Change.{Changes, ChangesInto, IsPlanned, planned, unplanned}
 use Rattle.ubi_tool.specs.Change as change
@@ -44,10 +45,10 @@ room_with_file m spares o (crowded many gives) some = absurd (no_file o.file giv
 
 -- and where a text describes it
 described_with_file : (s : Sizes) (text : List ℕ) (spares : ℕ) (o : Outcome) → Composes s text spares o → IsSome o.file
-    → (m : Meant) × Describes s text m × HasRoom m spares
+    → (m : Meant) × ComesTo s text (Ok m) × HasRoom m spares
 described_with_file s text spares o (described m d of_m) some = (m, d, room_with_file m spares o of_m some)
 described_with_file s text spares o (unread line c e gives) some = absurd (no_file o.file gives.file some)
-described_with_file s text spares o (unmade c e is gives) some = absurd (no_file o.file gives.file some)
+described_with_file s text spares o (unmade c is gives) some = absurd (no_file o.file gives.file some)
 
 -- composing, and then writing the file
 pub composes_into : (s : Sizes) (text : List ℕ) (spares : ℕ) (out : List ℕ) (work o : Outcome) → Composes s text spares work → IsWritten out work o

@@ -1,14 +1,14 @@
 -- What composing an image from a text answers.
-use Rattle.std.specs.Prelude.{◌≡◌, ℕ, ◌+◌, ◌<◌, List, [], ◌∷◌, Some, None, codes, length}
+use Rattle.std.specs.Prelude.{◌≡◌, ℕ, ◌+◌, ◌<◌, List, [], ◌∷◌, Some, Ok, Err, codes, length}
 use Rattle.ubi_media.specs.Geometry.{Sizes}
 use Rattle.ubi_volume.specs.Accepts.{Accepts}
-use Rattle.ubi_volume.specs.Made.{IsFirst, NoCause, meaning_of}
 use Rattle.ubi_volume.specs.Meant.{Meant}
 use Rattle.ubi_volume.specs.declared.errors.MeaningCause.{MeaningCause}
 use Rattle.ubi_volume.specs.declared.errors.MeaningCause.TheVariants as meaning
 use Rattle.ubi_compose.specs.Composed.{HasRoom, composed, image_of}
 use Rattle.ubi_compose.specs.Normal.{normal_blocks}
-use Rattle.ubi_compose.specs.Spec.{first_cause, volumes_of}
+use Rattle.ubi_compose.specs.Laws.{ComesTo}
+use Rattle.ubi_compose.specs.Spec.{first_cause}
 use Rattle.ubi_compose.specs.declared.errors.SpecCause.{SpecCause}
 use Rattle.ubi_compose.specs.declared.errors.SpecCause.TheVariants as spec
 use Rattle.ubi_tool.specs.Answer.{Answer, Gives, says}
@@ -40,12 +40,6 @@ meaning_line (meaning.ContentRange i) = refused (codes "M6 ContentRange") (detai
 abbrev pub room_line : List ℕ
 room_line = refused (codes "C1 TooMany") []
 
--- the text is read, its volumes have a meaning together, and this is it
-pub record Describes (s : Sizes) (text : List ℕ) (m : Meant) : Type 0 where
-  pub read : first_cause s text ≡ None
-  pub sound : NoCause s (volumes_of s text)
-  pub meaning : m ≡ meaning_of s (volumes_of s text)
-
 -- the number of eraseblocks of a composed image, and its bytes
 abbrev pub composed_answer : Meant → ℕ → Answer
 composed_answer m spares = record {
@@ -60,17 +54,16 @@ pub data ComposesOf (m : Meant) (spares : ℕ) : Outcome → Type 0 where
       → ComposesOf m spares o
   crowded : {o : Outcome} → m.sizes.pebs < length (normal_blocks m) + spares → Gives o (says room_line 1) → ComposesOf m spares o
 
--- what the command answers of a text: that of the meaning that it describes; or the line of the first of its lines that
+-- what the command answers of a text: that of the meaning that it comes to; or the line of the first of its lines that
 -- something is wrong with, or of volumes that have no meaning together
 pub data Composes (s : Sizes) (text : List ℕ) (spares : ℕ) : Outcome → Type 0 where
-  described : {o : Outcome} (m : Meant) → Describes s text m → ComposesOf m spares o → Composes s text spares o
+  described : {o : Outcome} (m : Meant) → ComesTo s text (Ok m) → ComposesOf m spares o → Composes s text spares o
   unread : {o : Outcome} (line : ℕ) (cause : SpecCause) → first_cause s text ≡ Some (line, cause)
       → Gives o (says (spec_line line cause) 1) → Composes s text spares o
-  unmade : {o : Outcome} (cause : MeaningCause) → first_cause s text ≡ None → IsFirst s (volumes_of s text) cause
-      → Gives o (says (meaning_line cause) 1) → Composes s text spares o
+  unmade : {o : Outcome} (cause : MeaningCause) → ComesTo s text (Err cause) → Gives o (says (meaning_line cause) 1) → Composes s text spares o
 
 -- what it answers over files: the same, or the line of an output that can't be written
 pub data ComposesInto (out : List ℕ) (s : Sizes) (text : List ℕ) (spares : ℕ) : Outcome → Type 0 where
   written : {o : Outcome} → Composes s text spares o → ComposesInto out s text spares o
-  unwritten : {o : Outcome} (m : Meant) → Describes s text m → HasRoom m spares
+  unwritten : {o : Outcome} (m : Meant) → ComesTo s text (Ok m) → HasRoom m spares
       → Gives o (says (file_line (codes "cannot write ") out) 1) → ComposesInto out s text spares o

@@ -1,9 +1,10 @@
 -- Laws of the commands, as they stand on functions that do nothing.
-use Rattle.std.specs.Prelude.{◌≡◌, ℕ, List, Some, option_map}
+use Rattle.std.specs.Prelude.{◌≡◌, ℕ, List, Some, Ok, option_map}
 use Rattle.ubi_media.specs.Geometry.{Sizes}
 use Rattle.ubi_volume.specs.Meant.{Meant}
+use Rattle.ubi_compose.specs.Laws.{ComesTo}
 use Rattle.ubi_tool.specs.Answer.{Answer, Gives, says}
-use Rattle.ubi_tool.specs.Compose.{Composes, Describes}
+use Rattle.ubi_tool.specs.Compose.{Composes}
 use Rattle.ubi_tool.specs.List.{Lists, list_lines}
 use Rattle.ubi_tool.specs.declared.outcome.Outcome.{Outcome}
 
@@ -12,8 +13,8 @@ abbrev pub OneComposed : Type 0
 OneComposed = (s : Sizes) (text : List ℕ) (spares : ℕ) (o p : Outcome) (a : Answer)
     → Composes s text spares o → Composes s text spares p → Gives o a → Gives p a
 
--- what is listed of a composed image are the volumes that the text describes
+-- what is listed of a composed image is the meaning that the text comes to
 abbrev pub ListsComposed : Type 0
 ListsComposed = (s : Sizes) (text bytes : List ℕ) (spares : ℕ) (o p : Outcome)
     → Composes s text spares o → option_map (λ v. v.items) o.file ≡ Some bytes → Lists (record { sizes = s; bytes = bytes }) p
-    → (m : Meant) × Describes s text m × Gives p (says (list_lines m) 0)
+    → (m : Meant) × ComesTo s text (Ok m) × Gives p (says (list_lines m) 0)

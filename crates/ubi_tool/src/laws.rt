@@ -15,7 +15,7 @@ pub fn one_composed()
     ensures { OneComposed }
 {}
 
-/// What is listed of a composed image are the volumes that the text describes.
+/// What is listed of a composed image is the meaning that the text comes to.
 pub fn lists_composed()
     ensures { ListsComposed }
 {}

@@ -10,12 +10,12 @@ returns-in-Err-Refused-clause-ok c =
 pub returns-in_ok-meaning_line-in-Err-clause-ok : goal.returns-in_ok-meaning_line-in-Err-clause-ok
 returns-in_ok-meaning_line-in-Err-clause-ok c =
     let read = c.in-Ok.ensures.volumes in
-    unmade c.in-Err.error.cause read.0 (rw read.1 at c.in-Err.ensures.cause) (rw c.in_ok-meaning_line-in-Err.ensures at c.saying-in-Err.ensures)
+    unmade c.in-Err.error.cause (read.0, rw read.1 at c.in-Err.ensures.cause) (rw c.in_ok-meaning_line-in-Err.ensures at c.saying-in-Err.ensures)
 
 pub returns-in-Ok-new-clause-ok : goal.returns-in-Ok-new-clause-ok
 returns-in-Ok-new-clause-ok c =
     let read = c.in-Ok.ensures.volumes in
     let made = rw read.1 at c.in-Ok-new.ensures.made in
     IfOk-weaker c.compose_meaning.result _ _
-    (λ o h. described c.in-Ok-new.meaning (record { read = read.0; sound = made.0; meaning = made.1 }) h)
+    (λ o h. described c.in-Ok-new.meaning (read.0, made.0, made.1) h)
     c.compose_meaning.ensures.ok
