@@ -24,7 +24,8 @@ no_byte : first_cause small ([]) ≡ None
 unfolding spec_on_literals
 no_byte = refl
 
-three_words : first_cause small (codes "# a" ++ (10 ∷ []) ++ [] ++ (10 ∷ []) ++ codes "volume 0 dynamic 20 1 00 root" ++ (10 ∷ []) ++ codes "leb 0 1") ≡ Some (4, cause.Word)
+three_words : first_cause small (codes "# a" ++ (10 ∷ []) ++ [] ++ (10 ∷ [])
+    ++ codes "volume 0 dynamic 20 1 00 root" ++ (10 ∷ []) ++ codes "leb 0 1") ≡ Some (4, cause.Word)
 unfolding spec_on_literals
 three_words = refl
 
@@ -87,7 +88,8 @@ digits_of_both_cases : first_cause small (codes "volume 0 dynamic 20 1 aF \\x4a\
 unfolding spec_on_literals
 digits_of_both_cases = refl
 
-second_volume : first_cause small (codes "volume 0 dynamic 20 1 00 root" ++ (10 ∷ []) ++ codes "volume 0 dynamic 20 1 00 root") ≡ Some (2, cause.Order)
+second_volume : first_cause small (codes "volume 0 dynamic 20 1 00 root" ++ (10 ∷ [])
+    ++ codes "volume 0 dynamic 20 1 00 root") ≡ Some (2, cause.Order)
 unfolding spec_on_literals
 second_volume = refl
 
@@ -106,15 +108,18 @@ no_volume_yet : first_cause small (codes "leb 0 0 61" ++ (10 ∷ []) ++ codes "v
 unfolding spec_on_literals
 no_volume_yet = refl
 
-leb_after_updating : first_cause small (codes "volume 0 dynamic 20 1 00 root" ++ (10 ∷ []) ++ codes "updating 0" ++ (10 ∷ []) ++ codes "leb 0 0 61") ≡ Some (3, cause.Order)
+leb_after_updating : first_cause small (codes "volume 0 dynamic 20 1 00 root" ++ (10 ∷ [])
+    ++ codes "updating 0" ++ (10 ∷ []) ++ codes "leb 0 0 61") ≡ Some (3, cause.Order)
 unfolding spec_on_literals
 leb_after_updating = refl
 
-updating_after_leb : first_cause small (codes "volume 0 dynamic 20 1 00 root" ++ (10 ∷ []) ++ codes "leb 0 0 61" ++ (10 ∷ []) ++ codes "updating 0") ≡ Some (3, cause.Order)
+updating_after_leb : first_cause small (codes "volume 0 dynamic 20 1 00 root" ++ (10 ∷ [])
+    ++ codes "leb 0 0 61" ++ (10 ∷ []) ++ codes "updating 0") ≡ Some (3, cause.Order)
 unfolding spec_on_literals
 updating_after_leb = refl
 
-updating_twice : first_cause small (codes "volume 0 dynamic 20 1 00 root" ++ (10 ∷ []) ++ codes "updating 0" ++ (10 ∷ []) ++ codes "updating 0") ≡ Some (3, cause.Order)
+updating_twice : first_cause small (codes "volume 0 dynamic 20 1 00 root" ++ (10 ∷ [])
+    ++ codes "updating 0" ++ (10 ∷ []) ++ codes "updating 0") ≡ Some (3, cause.Order)
 unfolding spec_on_literals
 updating_twice = refl
 
@@ -136,19 +141,23 @@ alignment_of_65 : first_cause small (codes "volume 0 dynamic 20 65 00 root")
 unfolding spec_on_literals
 alignment_of_65 = refl
 
-leb_again : first_cause small (codes "volume 0 dynamic 20 1 00 root" ++ (10 ∷ []) ++ codes "leb 0 1 61" ++ (10 ∷ []) ++ codes "leb 0 1 61") ≡ Some (3, cause.Twice)
+leb_again : first_cause small (codes "volume 0 dynamic 20 1 00 root" ++ (10 ∷ [])
+    ++ codes "leb 0 1 61" ++ (10 ∷ []) ++ codes "leb 0 1 61") ≡ Some (3, cause.Twice)
 unfolding spec_on_literals
 leb_again = refl
 
-twice_before_long : first_cause small (codes "volume 0 dynamic 20 1 00 root" ++ (10 ∷ []) ++ codes "leb 0 1 61" ++ (10 ∷ []) ++ codes "leb 0 1 " ++ replicate 770 48) ≡ Some (3, cause.Twice)
+twice_before_long : first_cause small (codes "volume 0 dynamic 20 1 00 root" ++ (10 ∷ [])
+    ++ codes "leb 0 1 61" ++ (10 ∷ []) ++ codes "leb 0 1 " ++ replicate 770 48) ≡ Some (3, cause.Twice)
 unfolding spec_on_literals
 twice_before_long = refl
 
-whole_leb : first_cause small (codes "volume 0 dynamic 20 1 00 root" ++ (10 ∷ []) ++ codes "leb 0 1 " ++ replicate 768 48) ≡ None
+whole_leb : first_cause small (codes "volume 0 dynamic 20 1 00 root" ++ (10 ∷ [])
+    ++ codes "leb 0 1 " ++ replicate 768 48) ≡ None
 unfolding spec_on_literals
 whole_leb = refl
 
-leb_too_long : first_cause small (codes "volume 0 dynamic 20 1 00 root" ++ (10 ∷ []) ++ codes "leb 0 1 " ++ replicate 770 48) ≡ Some (2, cause.Long)
+leb_too_long : first_cause small (codes "volume 0 dynamic 20 1 00 root" ++ (10 ∷ [])
+    ++ codes "leb 0 1 " ++ replicate 770 48) ≡ Some (2, cause.Long)
 unfolding spec_on_literals
 leb_too_long = refl
 
@@ -161,7 +170,8 @@ leb_beyond_the_reserved : first_cause small (codes "volume 0 dynamic 20 1 00 roo
 unfolding spec_on_literals
 leb_beyond_the_reserved = refl
 
-earlier_line_first : first_cause small (codes "volume 0 dynamic 20 1 00 root" ++ (10 ∷ []) ++ codes "leb 0 1 61" ++ (10 ∷ []) ++ codes "leb 0 1 61" ++ (10 ∷ []) ++ codes "nothing") ≡ Some (3, cause.Twice)
+earlier_line_first : first_cause small (codes "volume 0 dynamic 20 1 00 root" ++ (10 ∷ [])
+    ++ codes "leb 0 1 61" ++ (10 ∷ []) ++ codes "leb 0 1 61" ++ (10 ∷ []) ++ codes "nothing") ≡ Some (3, cause.Twice)
 unfolding spec_on_literals
 earlier_line_first = refl
 
@@ -180,7 +190,10 @@ updating_volume : volumes_of small (codes "volume 0 dynamic 20 1 00 root" ++ (10
 unfolding spec_on_literals root
 updating_volume = refl
 
-static_volumes : volumes_of small (codes "volume 1 static 20 1 00 root" ++ (10 ∷ []) ++ codes "volume 0 static 20 1 00 root" ++ (10 ∷ []) ++ codes "bytes 1 61" ++ (10 ∷ []) ++ codes "damaged 0" ++ (10 ∷ []) ++ codes "bytes 1 6263") ≡ (1, record { entry = record root { kind = kind.Static }; content = content.Static (codes "abc") })
+static_volumes : volumes_of small (codes "volume 1 static 20 1 00 root" ++ (10 ∷ [])
+    ++ codes "volume 0 static 20 1 00 root" ++ (10 ∷ []) ++ codes "bytes 1 61" ++ (10 ∷ [])
+    ++ codes "damaged 0" ++ (10 ∷ [])
+    ++ codes "bytes 1 6263") ≡ (1, record { entry = record root { kind = kind.Static }; content = content.Static (codes "abc") })
     ∷ (0, record { entry = record root { kind = kind.Static }; content = content.Damaged }) ∷ []
 unfolding spec_on_literals root
 static_volumes = refl
@@ -204,3 +217,19 @@ lone_backslash = refl
 one_digit_shown : shown_name (codes "a\\x4") ≡ None
 unfolding spec_on_literals
 one_digit_shown = refl
+
+digits_of_either_case : shown_name (codes "\\xfF\\x5c") ≡ Some (255 ∷ 92 ∷ [])
+unfolding spec_on_literals
+digits_of_either_case = refl
+
+zero_shown : shown_name (codes "a\\x00") ≡ None
+unfolding spec_on_literals
+zero_shown = refl
+
+longest_name : shown_name (replicate 127 97) ≡ Some (replicate 127 97)
+unfolding spec_on_literals
+longest_name = refl
+
+name_too_long : shown_name (replicate 128 97) ≡ None
+unfolding spec_on_literals
+name_too_long = refl

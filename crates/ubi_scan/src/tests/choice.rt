@@ -4,7 +4,7 @@ use super::images::{
     COPY, ERASED, Ec, FREE, INTERNAL, LAYOUT, NUMBERED, PLAIN, Peb, Vid, WRONG_CHECK_OF_39,
     assert_states, assert_wins, found,
 };
-use crate::ScanState;
+use crate::{Scan, ScanState};
 use std::alloc::Global;
 use std::process::Abort;
 use std::test::Fail;
@@ -83,19 +83,34 @@ const DROPPED: Peb = Peb {
     ..NUMBERED
 };
 
+/// A logical eraseblock, by its volume and its number, and what wins it.
+type Won = (u32, u32, Option<u32>);
+
+/// Asserts what wins some logical eraseblocks.
+fn assert_winners(rt: &impl Abort, found: &Scan, want: &[Won]) {
+    for won in want {
+        assert_eq!(*rt; found.winner(won.0, won.1), won.2);
+    }
+}
+
+/// What wins the logical eraseblocks of a small image, and some that it hasn't.
+const WON: [Won; 9] = [
+    (LAYOUT_VOLUME, 0, Some(0)),
+    (LAYOUT_VOLUME, 1, Some(1)),
+    (LAYOUT_VOLUME, 2, None),
+    (0, 0, Some(2)),
+    (0, 1, Some(3)),
+    (0, 2, Some(4)),
+    (0, 3, None),
+    (1, 0, None),
+    (0x7FFF_F000, 0, None),
+];
+
 #[test]
 fn finds_the_winners_of_a_small_image(rt: HostRuntime) -> Result<(), Fail> {
     let pebs = [TABLE_0, TABLE_1, LEB_0, LEB_1, LEB_2, DROPPED];
     let found = found(rt.alloc(), &pebs)?;
-    assert_eq!(rt; found.winner(LAYOUT_VOLUME, 0), Some(0));
-    assert_eq!(rt; found.winner(LAYOUT_VOLUME, 1), Some(1));
-    assert_eq!(rt; found.winner(LAYOUT_VOLUME, 2), None);
-    assert_eq!(rt; found.winner(0, 0), Some(2));
-    assert_eq!(rt; found.winner(0, 1), Some(3));
-    assert_eq!(rt; found.winner(0, 2), Some(4));
-    assert_eq!(rt; found.winner(0, 3), None);
-    assert_eq!(rt; found.winner(1, 0), None);
-    assert_eq!(rt; found.winner(0x7FFF_F000, 0), None);
+    assert_winners(&rt, &found, &WON);
     assert_eq!(rt; found.top_sqnum(), 0);
     assert_eq!(rt; found.image_seq(), 0x1234_5678);
     Ok(())
@@ -110,10 +125,9 @@ fn assert_second(
     next: (u32, u32),
 ) -> Result<(), Fail> {
     let found = found(alloc, &[TABLE_0, TABLE_1, LEB_0, second, LEB_2])?;
-    assert_eq!(rt; found.winner(0, 0), Some(2));
-    assert_eq!(rt; found.winner(0, 1), winner);
-    assert_eq!(rt; found.winner(0, 2), Some(4));
-    assert_eq!(rt; found.next_winner(0, 1), Some(next));
+    let want = [(0, 0, Some(2)), (0, 1, winner), (0, 2, Some(4))];
+    assert_winners(rt, &found, &want);
+    assert_next(rt, &found, &[(0, 1, Some(next))]);
     Ok(())
 }
 
@@ -212,17 +226,31 @@ const FIRST_OF_2: Peb = Peb {
     ..FREE
 };
 
+/// A volume and a number, and the next logical eraseblock of it from that number on, with its winner.
+type Next = (u32, u32, Option<(u32, u32)>);
+
+/// Asserts which logical eraseblocks are next.
+fn assert_next(rt: &impl Abort, found: &Scan, want: &[Next]) {
+    for next in want {
+        assert_eq!(*rt; found.next_winner(next.0, next.1), next.2);
+    }
+}
+
+const NEXT: [Next; 8] = [
+    (1, 0, Some((2, 1))),
+    (1, 2, Some((2, 1))),
+    (1, 3, Some((5, 0))),
+    (1, 6, None),
+    (1, u32::MAX, None),
+    (0, 0, Some((9, 2))),
+    (2, 1, None),
+    (3, 0, None),
+];
+
 #[test]
 fn finds_the_next_winner_of_a_volume(rt: HostRuntime) -> Result<(), Fail> {
     let pebs = [FIFTH_OF_1, SECOND_OF_1, NINTH_OF_0, FIRST_OF_2, ERASED];
     let found = found(rt.alloc(), &pebs)?;
-    assert_eq!(rt; found.next_winner(1, 0), Some((2, 1)));
-    assert_eq!(rt; found.next_winner(1, 2), Some((2, 1)));
-    assert_eq!(rt; found.next_winner(1, 3), Some((5, 0)));
-    assert_eq!(rt; found.next_winner(1, 6), None);
-    assert_eq!(rt; found.next_winner(1, u32::MAX), None);
-    assert_eq!(rt; found.next_winner(0, 0), Some((9, 2)));
-    assert_eq!(rt; found.next_winner(2, 1), None);
-    assert_eq!(rt; found.next_winner(3, 0), None);
+    assert_next(&rt, &found, &NEXT);
     Ok(())
 }

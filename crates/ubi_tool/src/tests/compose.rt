@@ -272,6 +272,35 @@ fn names_the_line_that_does_not_fit(rt: HostRuntime) -> Result<(), Fail> {
 }
 
 #[test]
+fn reads_lines_of_a_mebibyte(rt: HostRuntime) -> Result<(), Fail> {
+    let alloc = rt.alloc();
+    let mut text = Vec::from_slice(alloc, b"volume 0 dynamic 20 1 00 root\n")?;
+    Line {
+        front: "# ",
+        pair: "no",
+        count: 524_288,
+    }
+    .put(&mut text)?;
+    Line {
+        front: "leb 0 1 ",
+        pair: "61",
+        count: 524_288,
+    }
+    .put(&mut text)?;
+    let answer = run_compose(alloc, &small()?, text.as_slice(), 0);
+    assert_says(&rt, answer, "refused P8 Long line=3\n", 1)?;
+    let mut text = Vec::new(alloc);
+    Line {
+        front: "leb",
+        pair: " 0",
+        count: 524_288,
+    }
+    .put(&mut text)?;
+    let answer = run_compose(alloc, &small()?, text.as_slice(), 0);
+    assert_says(&rt, answer, "refused P1 Word line=1\n", 1)
+}
+
+#[test]
 fn refuses_volumes_without_a_meaning(rt: HostRuntime) -> Result<(), Fail> {
     let alloc = rt.alloc();
     let text = "volume 5 dynamic 20 1 00 root";

@@ -84,14 +84,8 @@ fn tells_of_files_that_fail(rt: HostRuntime) -> Result<(), Fail> {
     let broken = Broken::OpenWrite;
     assert_over(&rt, alloc, (text, broken), LINE, cannot_write, &[])?;
     let broken = Broken::Write(700);
-    assert_over(
-        &rt,
-        alloc,
-        (text, broken),
-        LINE,
-        cannot_write,
-        image.split_at(700).0,
-    )?;
+    let start = image.get(..700).ok_or("short")?;
+    assert_over(&rt, alloc, (text, broken), LINE, cannot_write, start)?;
     let broken = Broken::Short(9);
     assert_over(&rt, alloc, (text, broken), LINE, ("blocks 2\n", 0), image)
 }

@@ -1,16 +1,15 @@
 //! Attaching sources: what is found without the contents, what is read for it, and what fails.
 
 use super::images::{
-    BASE, Data, Ec, FIRST, FIRST_BOOT, FIRST_MARKED, PLAIN, Peb, SECOND, SECOND_BOOT,
-    SECOND_MARKED, STATIC, STATIC_0, STATIC_1, TEXT_0, TEXT_1, Vid, geometry, image,
+    A, B, BASE, Data, Ec, FIRST, FIRST_BOOT, FIRST_MARKED, PLAIN, Peb, SECOND, SECOND_BOOT,
+    SECOND_MARKED, STATIC, TEXT_0, TEXT_1, Vid, geometry, image,
 };
 use crate::{PlaceContent, Places, attach_places};
 use std::alloc::Global;
-use std::fs;
 use std::process::Abort;
 use std::test::Fail;
 use ubi_media::{Refusal, VidHeader};
-use ubi_scan::{FileSource, MemorySource, ProbeSource, StreamError, scan_from};
+use ubi_scan::{MemorySource, ProbeSource, StreamError, scan_from};
 use ubi_table::choose_from;
 
 /// What a volume reads. None where the table has no such volume.
@@ -72,26 +71,45 @@ const BEYOND: Peb = Peb(
     Data::Filled(0x44, 384),
 );
 
+/// What is known of an image without its contents.
+fn places_of(alloc: Global, bytes: &[u8]) -> Result<Places, Fail> {
+    let mut source = MemorySource::new(bytes);
+    Ok(attach_places(alloc, &geometry()?, &mut source)?)
+}
+
+/// A source of an image that was attached.
+fn attached_source(alloc: Global, bytes: &[u8]) -> Result<ProbeSource<'_>, Fail> {
+    let mut source = ProbeSource::new(alloc, &geometry()?, bytes, 0)?;
+    attach_places(alloc, &geometry()?, &mut source)?;
+    Ok(source)
+}
+
+/// Asserts which logical eraseblock of a volume is the first from a number on, and where it is.
+fn assert_place(rt: &impl Abort, places: &Places, id: u32, from: u32, want: Option<(u32, u32)>) {
+    assert_eq!(*rt; places.next_place(id, from), want);
+}
+
 #[test]
 fn finds_the_eraseblock_of_each_logical_one(rt: HostRuntime) -> Result<(), Fail> {
-    let alloc = rt.alloc();
-    let pebs = [BASE[0], BASE[1], BASE[2], BASE[3], BASE[4], BEYOND];
-    let bytes = image(alloc, &pebs)?;
-    let mut source = ProbeSource::new(alloc, &geometry()?, bytes.as_slice(), 0)?;
-    let places = attach_places(alloc, &geometry()?, &mut source)?;
-    assert_eq!(rt; places.table().entries().len(), 1);
-    assert_eq!(rt; places.next_place(0, 0), Some((0, 2)));
-    assert_eq!(rt; places.next_place(0, 1), Some((1, 3)));
-    assert_eq!(rt; places.next_place(0, 2), Some((2, 4)));
-    assert_eq!(rt; places.next_place(0, 3), None);
-    assert_eq!(rt; places.next_place(1, 0), None);
-    // The headers are read for the scan and to compare them with the record, the data of one copy of the table alone.
+    let bytes = image(rt.alloc(), &[FIRST, SECOND, A, B, BEYOND])?;
+    let places = places_of(rt.alloc(), bytes.as_slice())?;
+    assert_place(&rt, &places, 0, 0, Some((0, 2)));
+    assert_place(&rt, &places, 0, 1, Some((1, 3)));
+    assert_place(&rt, &places, 0, 2, None);
+    assert_place(&rt, &places, 1, 0, None);
+    Ok(())
+}
+
+/// The headers are read for the scan and to compare them with the record, the data of one copy of the table alone.
+#[test]
+fn reads_no_contents_of_dynamic_volumes(rt: HostRuntime) -> Result<(), Fail> {
+    let bytes = image(rt.alloc(), &BASE)?;
+    let source = attached_source(rt.alloc(), bytes.as_slice())?;
     assert_read(&rt, &source, 0, 3, 1);
     assert_read(&rt, &source, 1, 2, 0);
     assert_read(&rt, &source, 2, 2, 0);
     assert_read(&rt, &source, 3, 2, 0);
     assert_read(&rt, &source, 4, 2, 0);
-    assert_read(&rt, &source, 5, 2, 0);
     assert_eq!(rt; source.crossing(), 0);
     Ok(())
 }
@@ -107,72 +125,6 @@ fn scans_chooses_and_attaches(rt: HostRuntime) -> Result<(), Fail> {
     let table = choose_from(alloc, &geometry, &mut source, &found)?;
     assert_eq!(rt; table.get(0).map(|volume| volume.reserved), Some(20));
     assert!(rt; attach_places(alloc, &geometry, &mut source).is_ok());
-    Ok(())
-}
-
-#[test]
-fn attaches_a_file_as_memory(rt: HostRuntime) -> Result<(), Fail> {
-    let alloc = rt.alloc();
-    let bytes = image(alloc, &BASE)?;
-    fs::write(&rt, "attached.img", bytes.as_slice())?;
-    let mut file = FileSource::open(&rt, "attached.img")?;
-    let places = attach_places(alloc, &geometry()?, &mut file)?;
-    assert_eq!(rt; content(&places, 0), Some(PlaceContent::Dynamic));
-    assert_eq!(rt; places.next_place(0, 1), Some((1, 3)));
-    fs::write(
-        &rt,
-        "attached.img",
-        bytes.as_slice().get(..1600).unwrap_or(&[]),
-    )?;
-    let error = attach_places(alloc, &geometry()?, &mut file).err();
-    assert_eq!(rt; error, Some(StreamError::Read(3, 0)));
-    fs::remove_file(&rt, "attached.img")?;
-    Ok(())
-}
-
-/// A newer copy of each logical eraseblock of a text.
-const NEWER_0: Peb = Peb(
-    Ec::Zero,
-    Vid::Is(VidHeader {
-        copy_flag: true,
-        sqnum: 1,
-        ..STATIC_0
-    }),
-    Data::Filled(0x61, 384),
-);
-
-const NEWER_1: Peb = Peb(
-    Ec::Zero,
-    Vid::Is(VidHeader {
-        copy_flag: true,
-        sqnum: 2,
-        ..STATIC_1
-    }),
-    Data::Filled(0x62, 384),
-);
-
-/// The most reads come where a candidate of a static volume is checked as a copy and then as a piece of the text.
-#[test]
-fn reads_each_eraseblock_a_few_times(rt: HostRuntime) -> Result<(), Fail> {
-    let alloc = rt.alloc();
-    let pebs = [FIRST_BOOT, SECOND_BOOT, NEWER_0, TEXT_0, TEXT_1, NEWER_1];
-    let bytes = image(alloc, &pebs)?;
-    let mut source = ProbeSource::new(alloc, &geometry()?, bytes.as_slice(), 0)?;
-    let places = attach_places(alloc, &geometry()?, &mut source)?;
-    let text = PlaceContent::Static {
-        lebs: 2,
-        bytes: 385,
-    };
-    assert_eq!(rt; content(&places, 0), Some(text));
-    assert_eq!(rt; places.next_place(0, 0), Some((0, 2)));
-    assert_eq!(rt; places.next_place(0, 1), Some((1, 5)));
-    assert_read(&rt, &source, 0, 3, 1);
-    assert_read(&rt, &source, 1, 2, 0);
-    assert_read(&rt, &source, 2, 7, 2);
-    assert_read(&rt, &source, 3, 1, 0);
-    assert_read(&rt, &source, 4, 2, 0);
-    assert_read(&rt, &source, 5, 5, 2);
-    assert_eq!(rt; source.crossing(), 0);
     Ok(())
 }
 
