@@ -31,6 +31,8 @@ pub mod Shares
 pub mod Sound
 pub mod Spares
 pub mod SpecVectors
+pub mod StaticPlaces
+pub mod StoredVolume
 pub mod Table
 pub mod Taken
 pub mod TextAnswers

@@ -1,11 +1,15 @@
 -- The eraseblocks of the normal image, by the bytes of the image whose places they are read from.
-use Rattle.std.specs.Prelude.{◌≡◌, ℕ, List, [], take, if◌then◌else◌}
+use Rattle.std.specs.Prelude.{◌≡◌, ℕ, List, [], Some, flat_map, take, if◌then◌else◌}
+use Rattle.std.specs.FinMap.{entries, get}
 use Rattle.ubi_media.specs.Fields.{is_blank}
 use Rattle.ubi_media.specs.Geometry.{Sizes}
 use Rattle.ubi_media.specs.declared.vid.VidHeader.{VidHeader}
 use Rattle.ubi_scan.specs.Image.{block, leb}
 use Rattle.ubi_scan.specs.Source.{blocks_of}
-use Rattle.ubi_compose.specs.Normal.{dynamic_block, laid_bytes, new_ec, static_block}
+use Rattle.ubi_volume.specs.Places.{ArePlaces, Placed}
+use Rattle.ubi_volume.specs.declared.content.Volume.{Volume}
+use Rattle.ubi_compose.specs.Normal as normal
+use Rattle.ubi_compose.specs.Normal.{dynamic_block, laid_bytes, layout_block, new_ec, normal_bytes, static_block, volume_blocks}
 
 -- the eraseblock with a header and a text, whatever the image
 abbrev pub laid_text : Sizes → VidHeader → List ℕ → List ℕ → List ℕ → Type 0
@@ -23,3 +27,19 @@ kept_bytes s pad vol lnum text = if is_blank text then [] else laid_bytes s new_
 -- the same, where the text is the first `size` bytes at a place of an image
 abbrev pub dynamic_text : Sizes → ℕ → ℕ → ℕ → ℕ → ℕ → List ℕ → List ℕ → Type 0
 dynamic_text s pad vol lnum size p image text = text ≡ kept_bytes s pad vol lnum (take size (leb s (block (blocks_of s image) p)))
+
+-- the volume with a number, of the meaning of an image whose places these are
+pub record IsVolumeOf (s : Sizes) (p : Placed) (id : ℕ) (image : List ℕ) (v : Volume) : Type 0 where
+  pub places : ArePlaces (record { sizes = s; bytes = image }) p
+  pub at : get places.meaning.volumes id ≡ Some v
+
+-- the eraseblocks of that volume
+abbrev pub volume_text : Sizes → Placed → ℕ → List ℕ → List ℕ → Type 0
+volume_text s p id image text =
+    (v : Volume) × IsVolumeOf s p id image v × (text ≡ flat_map (laid_bytes s new_ec) (volume_blocks s id v.entry v.content))
+
+-- those of the first n volumes
+abbrev pub volumes_text : Sizes → Placed → ℕ → List ℕ → List ℕ → Type 0
+volumes_text s p n image text =
+    (h : ArePlaces (record { sizes = s; bytes = image }) p)
+    × (text ≡ flat_map (laid_bytes s new_ec) (normal.blocks_of s (take n (entries h.meaning.volumes))))

@@ -16,6 +16,7 @@ mod parsing;
 mod placing;
 mod records;
 mod shown;
+mod stored;
 mod taking;
 mod volume;
 mod words;

@@ -1,0 +1,169 @@
+-- The static text of a volume, by the places of its LEBs.
+use Rattle.std.proofs.Common.{◌≡◌, ℕ, zero, suc, ◌+◌, ◌-◌, ◌*◌, ◌<◌, ◌≤◌, ◌⊎◌, inl, inr, false, List, [], ◌∷◌, ◌++◌, length, take, drop, refl, ap, sym, ◌∙◌, subst, arith, length-append, append_assoc, zero-add}
+use Rattle.std.specs.Prelude.{None, Option, Some, MatchOption, flat_map, min, slice_index}
+use Rattle.std.specs.FinMap as finite
+use Rattle.std.specs.List.{range_with_len}
+use Rattle.std.proofs.lemmas.Grind.{flat_map-append}
+use Rattle.std.proofs.lemmas.List.Folds.{flat_map-map}
+use Rattle.ubi_media.specs.Geometry.{Sizes}
+use Rattle.ubi_media.specs.Record.{data_pad, rec_fault, usable}
+use Rattle.ubi_media.specs.declared.record.VolumeRecord.{VolumeRecord}
+use Rattle.ubi_media.specs.declared.vid.VolKind.TheVariants as kind
+use Rattle.ubi_media.proofs.Records.{usable_some}
+use Rattle.ubi_scan.specs.Image.{block, leb}
+use Rattle.ubi_scan.specs.Members.{Leb, NoMember, Wins}
+use Rattle.ubi_scan.specs.Source.{Source, blocks_of}
+use Rattle.ubi_scan.specs.declared.errors.StreamError.{StreamError}
+use Rattle.ubi_table.specs.Records.{Records}
+use Rattle.ubi_table.proofs.ReadBack.{pieces_more}
+use Rattle.ubi_volume.specs.Means.{SlotMeans}
+use Rattle.ubi_volume.specs.Meant.{Meant}
+use Rattle.ubi_volume.specs.Places.{ArePlaces, IsCountedPlace, IsNextPlace, Placed, case_of}
+use Rattle.ubi_volume.specs.Reading.{pieces, share}
+use Rattle.ubi_volume.specs.Reads.{AreWhole, StaticReads, VolumeReads, piece}
+use Rattle.ubi_volume.specs.declared.content.Content.{Content}
+use Rattle.ubi_volume.specs.declared.content.Content.TheVariants as content
+use Rattle.ubi_volume.specs.declared.content.Volume.{Volume}
+use Rattle.ubi_volume.specs.declared.places.PlaceContent.TheVariants as place
+use Rattle.ubi_volume.proofs.Alike.{short_piece}
+use Rattle.ubi_volume.proofs.Either.{are_lebs}
+use Rattle.ubi_volume.proofs.Recorded.{records_meant}
+use Rattle.ubi_compose.specs.Normal.{laid_bytes, new_ec, static_block, static_part, volume_blocks}
+use Rattle.ubi_compose.specs.Streamed.{IsVolumeOf, static_text, volume_text}
+use Rattle.ubi_compose.specs.Wrote.{All, IsWroteError, Wanted, Wrote}
+use Rattle.ubi_compose.proofs.Blocks.{some_same}
+use Rattle.ubi_compose.proofs.Pieces.{length-share, pieces_few}
+use Rattle.ubi_compose.proofs.Shares.{share_at}
+use Rattle.ubi_compose.proofs.StoredVolume.{case_is, in_table, is_next, is_some, reads_of, table}
+use Rattle.ubi_compose.proofs.Writing.{Splits, error_behind, error_front, wrote_more}
+
+-- the eraseblocks of the first n pieces
+abbrev pub first_pieces : Sizes → Placed → ℕ → VolumeRecord → ℕ → Wanted
+first_pieces s p id r n image text =
+    (v : Volume) × IsVolumeOf s p id image v × (t : List ℕ) × (v.content ≡ content.Static t)
+    × (text ≡ flat_map (λ l. laid_bytes s new_ec (static_part (data_pad s r) (usable s r) id t l)) (range_with_len 0 n))
+
+-- pieces that are no larger than a size
+most_pieces : (f : ℕ → List ℕ) (size : ℕ) (ps : List ℕ) → ((i : ℕ) → i < length ps → length (f (slice_index ps i)) ≤ size) → length (flat_map f ps) ≤ length ps * size
+most_pieces f size [] most = omega arith
+most_pieces f size (p ∷ ps) most =
+    let first : length (f p) ≤ size = most 0 (omega arith) in
+    let rest = most_pieces f size ps (λ i b. most (suc i) (omega arith)) in
+    let both = length-append (f p) (flat_map f ps) in
+    let next : suc (length ps) * size ≡ length ps * size + size = omega arith in
+    omega (arith, first, rest, both, next)
+
+front_of : (f : ℕ → List ℕ) (a n k : ℕ) → flat_map f (range_with_len a (n + k)) ≡ flat_map f (range_with_len a n) ++ flat_map f (range_with_len (a + n) k)
+front_of f a zero k =
+    let none : 0 + k ≡ k = zero-add k in
+    let same : a ≡ a + 0 = omega arith in
+    ap (λ n. flat_map f (range_with_len a n)) none ∙ ap (λ b. flat_map f (range_with_len b k)) same
+front_of f a (suc n) k =
+    let more : suc n + k ≡ suc (n + k) = omega arith in
+    let next : a + 1 + n ≡ a + suc n = omega arith in
+    ap (λ m. flat_map f (range_with_len a m)) more
+    ∙ ap (λ x. f a ++ x) (front_of f (a + 1) n k ∙ ap (λ (b : ℕ). flat_map f (range_with_len (a + 1) n) ++ flat_map f (range_with_len b k)) next)
+    ∙ sym (append_assoc (f a) (flat_map f (range_with_len (a + 1) n)) (flat_map f (range_with_len (a + suc n) k)))
+
+module _ (s : Sizes) (p : Placed) (id : ℕ) (r : VolumeRecord) (recorded : finite.get p.records.of id ≡ Some r) (sound : rec_fault s r ≡ None) (lebs bytes : ℕ)
+    (listed : finite.get p.contents id ≡ Some (place.Static lebs bytes)) where
+  abbrev size : ℕ
+  size = usable s r
+
+  -- the text of the volume
+  static_content : (c : Content) → case_of s r c ≡ place.Static lebs bytes → (t : List ℕ) × (c ≡ content.Static t) × (pieces size (length t) ≡ lebs) × (length t ≡ bytes)
+  static_content content.Updating e = absurd (cc)
+  static_content content.Damaged e = absurd (cc)
+  static_content (content.Static t) e = (t, refl, cc, cc)
+  static_content (content.Dynamic l) e = absurd (cc)
+
+  module _ (image : List ℕ) (v : Volume) (of : IsVolumeOf s p id image v) where
+    abbrev bs : List (List ℕ)
+    bs = blocks_of s image
+
+    text_of : (t : List ℕ) × (v.content ≡ content.Static t) × (pieces size (length t) ≡ lebs) × (length t ≡ bytes)
+    text_of = static_content v.content (case_is s p image of.places id r recorded v of.at (place.Static lebs bytes) listed)
+
+    reads : (r.marker ≡ false) × (r.kind ≡ kind.Static) × StaticReads s bs id r text_of.0
+    reads = subst (VolumeReads s bs id r) text_of.1 (reads_of s p image of.places id r recorded v of.at).1
+
+    not_dynamic : r.kind ≡ kind.Dynamic → ⊥
+    not_dynamic e = let f = reads.1 in cc
+
+    module _ (n : ℕ) (inside : n < lebs) where
+      whole : (ps : List ℕ) × AreWhole s bs id r ps × (text_of.0 ≡ flat_map (piece s bs) ps) × (n < length ps)
+      whole = elim reads.2 [
+        | inl none ↦
+            let few = pieces_few size (usable_some s r sound) (length text_of.0) 0 (omega (arith, ap length none.1)) in
+            absurd (let e = text_of.2 in omega (arith, few, e))
+        | inr w ↦
+            let short = short_piece s bs (table s p image of.places) of.places.accepted.accepted.alike id r (in_table s p image of.places id r recorded) reads.0 reads.1 in
+            let long = most_pieces (piece s bs) size w.0 (λ i b. short i (slice_index w.0 i) (w.1.win i b)) in
+            let few = pieces_few size (usable_some s r sound) (length text_of.0) (length w.0) (omega (arith, ap length w.2, long)) in
+            (w.0, w.1, w.2, let e = text_of.2 in omega (arith, few, e))
+      ]
+
+      no_gap : NoMember s bs (id, n) → ⊥
+      no_gap none = none _ (whole.1.win n whole.3).member
+
+      pub static_found : IsNextPlace p id n None → ⊥
+      static_found next = is_some s p image of.places id r recorded n (λ e. absurd (not_dynamic e)) next no_gap
+
+      module _ (l q len : ℕ) (next : IsNextPlace p id n (Some (l, q))) (long : len ≡ min size (bytes - n * size)) where
+        share_is : share size text_of.0 n ≡ take len (leb s (block bs q))
+        share_is =
+            let won = is_next s p image of.places id r recorded n (λ e. absurd (not_dynamic e)) l q next no_gap in
+            let here =
+            share_at s bs of.places.accepted.accepted.clean (are_lebs (record { sizes = s; bytes = image })) (table s p image of.places) of.places.accepted.accepted.alike id r (in_table s p image of.places id r recorded)
+            reads.0 reads.1 whole.0 whole.1 n q whole.3 won in
+            let there : share size text_of.0 n ≡ take (length (share size text_of.0 n)) (leb s (block bs q)) =
+            subst (λ (x : List ℕ). share size x n ≡ take (length (share size x n)) (leb s (block bs q))) (sym whole.2) here in
+            let count : length (share size text_of.0 n) ≡ len = length-share size (usable_some s r sound) text_of.0 n ∙ ap (λ k. min size (k - n * size)) text_of.3 ∙ sym long in
+            there ∙ ap (λ k. take k (leb s (block bs q))) count
+
+        block_is : (t : List ℕ) → v.content ≡ content.Static t
+            → laid_bytes s new_ec (static_part (data_pad s r) size id t n) ≡ laid_bytes s new_ec (static_block (data_pad s r) id lebs n (take len (leb s (block bs q))))
+        block_is t e =
+            let same : t ≡ text_of.0 = let f = text_of.1 in cc in
+            ap (λ x. laid_bytes s new_ec (static_part (data_pad s r) size id x n)) same
+            ∙ ap (λ k. laid_bytes s new_ec (static_block (data_pad s r) id k n (share size text_of.0 n))) text_of.2
+            ∙ ap (λ x. laid_bytes s new_ec (static_block (data_pad s r) id lebs n x)) share_is
+
+  -- one piece more
+  pub static_step : (n l q len : ℕ) → n < lebs → IsNextPlace p id n (Some (l, q)) → len ≡ min size (bytes - n * size)
+      → Splits (first_pieces s p id r (n + 1)) (first_pieces s p id r n) (static_text s (data_pad s r) id lebs n len q)
+  static_step n l q len inside next long image text w =
+      let f = λ (l : ℕ). laid_bytes s new_ec (static_part (data_pad s r) size id w.2 l) in
+      (flat_map f (range_with_len 0 n), f n, w.4 ∙ pieces_more f 0 n n (zero-add n), (w.0, w.1, w.2, w.3, refl), block_is image w.0 w.1 n inside l q len next long w.2 w.3)
+
+  -- all pieces
+  pub static_all : (image text : List ℕ) → volume_text s p id image text → first_pieces s p id r lebs image text
+  static_all image text w =
+      let t = text_of image w.0 w.1 in
+      let entry : w.0.entry ≡ r = (reads_of s p image w.1.places id r recorded w.0 w.1.at).0 in
+      (w.0, w.1, t.0, t.1,
+        w.2 ∙ ap (λ (x : VolumeRecord). flat_map (laid_bytes s new_ec) (volume_blocks s id x w.0.content)) entry
+        ∙ ap (λ (x : Content). flat_map (laid_bytes s new_ec) (volume_blocks s id r x)) t.1
+        ∙ flat_map-map (laid_bytes s new_ec) (static_part (data_pad s r) size id t.0) (range_with_len 0 (pieces size (length t.0)))
+        ∙ ap (λ n. flat_map (λ l. laid_bytes s new_ec (static_part (data_pad s r) size id t.0 l)) (range_with_len 0 n)) t.2)
+
+  -- the first of them
+  pub static_front : (n : ℕ) → n ≤ lebs → Splits (volume_text s p id) (first_pieces s p id r n) (λ image text. Unit {0})
+  static_front n few image text w =
+      let all = static_all image text w in
+      let f = λ (l : ℕ). laid_bytes s new_ec (static_part (data_pad s r) size id all.2 l) in
+      let cut = front_of f 0 n (lebs - n) in
+      let total : n + (lebs - n) ≡ lebs = omega arith in
+      (flat_map f (range_with_len 0 n), flat_map f (range_with_len (0 + n) (lebs - n)), all.4 ∙ ap (λ k. flat_map f (range_with_len 0 k)) (sym total) ∙ cut, (all.0, all.1, all.2, all.3, refl), tt)
+
+  -- what is written when a piece is, or isn't
+  module _ (k : Source) (a b c : Option (List ℕ)) (n l q len : ℕ) (inside : n < lebs) (next : IsNextPlace p id n (Some (l, q))) (long : len ≡ min size (bytes - n * size)) where
+    pub static_wrote : (done total more : ℕ) → Wrote k a b (first_pieces s p id r n) All done total → Wrote k b c (static_text s (data_pad s r) id lebs n len q) All total more
+        → Wrote k a c (first_pieces s p id r (n + 1)) All done more
+    static_wrote done total more front back = wrote_more k a b c (first_pieces s p id r (n + 1)) (first_pieces s p id r n) (static_text s (data_pad s r) id lebs n len q) done total more (static_step n l q len inside next long) front back
+
+    pub static_failed : (done total : ℕ) (e : StreamError) → Wrote k a b (first_pieces s p id r n) All done total → IsWroteError s k b c (static_text s (data_pad s r) id lebs n len q) total e
+        → IsWroteError s k a c (volume_text s p id) done e
+    static_failed done total e front back =
+        error_front k s a c (volume_text s p id) (first_pieces s p id r (n + 1)) (λ image text. Unit {0}) done e (static_front (n + 1) (omega arith))
+        (error_behind k s a b c (first_pieces s p id r (n + 1)) (first_pieces s p id r n) (static_text s (data_pad s r) id lebs n len q) done total e (static_step n l q len inside next long) front back)

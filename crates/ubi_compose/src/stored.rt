@@ -1,0 +1,64 @@
+//! The eraseblocks of a volume in the normal image, from their places in a source to a writer.
+//!
+//! Each buffer has the size of an eraseblock. `done` is how many bytes were written before.
+
+ghost use Rattle.std.specs.FinMap as finite;
+ghost use Rattle.std.specs.Prelude.{◌≡◌, ◌+◌, ◌*◌, ◌<◌, ◌≤◌, ◌^◌, IfErr, IfOk, None, Some, length};
+ghost use Rattle.ubi_media.specs.Record.{rec_fault};
+ghost use Rattle.ubi_media.specs.declared.vid.VolKind.TheVariants as kind;
+ghost use Rattle.ubi_scan.specs.Source.{Source};
+ghost use Rattle.ubi_scan.specs.Stream.{after};
+ghost use Rattle.ubi_volume.specs.Places.{ArePlacesOf};
+ghost use Rattle.ubi_volume.specs.declared.places.PlaceContent.TheVariants as place;
+ghost use Rattle.ubi_compose.specs.Streamed.{volume_text};
+ghost use Rattle.ubi_compose.specs.Wrote.{All, IsWroteError, Wrote};
+
+use crate::placing::put_piece;
+use std::io::Write;
+use ubi_media::{Geometry, VolumeRecord};
+use ubi_scan::{BlockSource, StreamError};
+use ubi_volume::Places;
+
+/// Writes the eraseblocks of a static text of so many bytes in `lebs` logical eraseblocks, and gives how many bytes are
+/// written then.
+///
+/// # Errors
+///
+/// A read failed, or a write.
+fn put_static<S: BlockSource, W: Write>(
+    geometry: &Geometry,
+    source: &mut S,
+    places: &Places,
+    id: u32,
+    entry: &VolumeRecord,
+    lebs: u32,
+    bytes: u64,
+    buffer: &mut [u8],
+    writer: &mut W,
+    done: u64,
+) -> Result<u64, StreamError>
+    requires places { ArePlacesOf geometry.now (S.known source.old) places.now }
+    requires recorded { finite.get places.now.records.of id ≡ Some entry.now }
+    requires sound { rec_fault geometry.now entry.now ≡ None }
+    requires listed { finite.get places.now.contents id ≡ Some (place.Static lebs bytes) }
+    requires room { length buffer.old ≡ geometry.now.peb_size }
+    requires few { done + lebs * geometry.now.peb_size < 2 ^ 64 }
+    ensures known { S.known source.new ≡ after (S.known source.old) result }
+    ensures written { IfOk result (Wrote (S.known source.old) (W.contents writer.old) (W.contents writer.new) (volume_text geometry.now places.now id) All done) }
+    ensures most { IfOk result (λ n. n ≤ done + lebs * geometry.now.peb_size) }
+    ensures failed { IfErr result (IsWroteError geometry.now (S.known source.old) (W.contents writer.old) (W.contents writer.new) (volume_text geometry.now places.now id) done) }
+{
+    let data_pad = entry.data_pad(geometry);
+    let size = u64::from(entry.usable(geometry));
+    let mut total = done;
+    for lnum in 0..lebs {
+        let Some((_, p)) = places.next_place(id, lnum) else {
+            return Ok(total);
+        };
+        let len = bytes.saturating_sub(u64::from(lnum) * size).min(size) as usize;
+        total = put_piece(
+            geometry, source, p, data_pad, id, lebs, lnum, len, buffer, writer, total,
+        )?;
+    }
+    Ok(total)
+}
