@@ -5,6 +5,7 @@ use Rattle.std.specs.Ordering.{nat_cmp}
 use Rattle.ubi_media.specs.Geometry.{Sizes}
 use Rattle.ubi_media.specs.Record.{usable}
 use Rattle.ubi_media.specs.declared.record.VolumeRecord.{VolumeRecord}
+use Rattle.ubi_media.specs.declared.vid.VolKind.TheVariants as kind
 use Rattle.ubi_scan.specs.Image.{Image, IsLengthFault, IsWholeSize, eraseblocks}
 use Rattle.ubi_scan.specs.Members.{Leb}
 use Rattle.ubi_scan.specs.Scan.{AreWinners, leb_cmp}
@@ -50,9 +51,10 @@ IsNextPlace p vol from next = MatchOption next
 abbrev pub AreListed : Records → List (ℕ × PlaceContent) → Type 0
 AreListed t contents = (id : ℕ) → IsSome (get t.of id) → IsSome (find (λ e. e.0 == id) contents)
 
--- the LEBs of a text are no more than its volume reserves
+-- the LEBs of a text are no more than its volume reserves, and what reads as dynamic is a dynamic volume
 abbrev pub IsReserved : VolumeRecord → PlaceContent → Type 0
 IsReserved r (place.Static lebs bytes) = lebs ≤ r.reserved
+IsReserved r place.Dynamic = r.kind ≡ kind.Dynamic
 IsReserved r _ = Unit {0}
 
 -- what holds of places in n eraseblocks, whatever these hold: each place is one of them, the volumes fit the device,
