@@ -6,6 +6,7 @@ pub mod Changes
 pub mod Contents
 pub mod Cuts
 pub mod Decimals
+pub mod DynamicPlaces
 pub mod Escapes
 pub mod Fitting
 pub mod Form

@@ -53,7 +53,7 @@ most_pieces f size (p ∷ ps) most =
     let next : suc (length ps) * size ≡ length ps * size + size = omega arith in
     omega (arith, first, rest, both, next)
 
-front_of : (f : ℕ → List ℕ) (a n k : ℕ) → flat_map f (range_with_len a (n + k)) ≡ flat_map f (range_with_len a n) ++ flat_map f (range_with_len (a + n) k)
+pub front_of : (f : ℕ → List ℕ) (a n k : ℕ) → flat_map f (range_with_len a (n + k)) ≡ flat_map f (range_with_len a n) ++ flat_map f (range_with_len (a + n) k)
 front_of f a zero k =
     let none : 0 + k ≡ k = zero-add k in
     let same : a ≡ a + 0 = omega arith in

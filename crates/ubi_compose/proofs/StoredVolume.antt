@@ -1,9 +1,11 @@
 -- A volume of an image whose places are known.
-use Rattle.std.proofs.Common.{◌≡◌, ℕ, ◌<◌, ◌≤◌, ◌⊎◌, inl, inr, List, refl, ap, sym, ◌∙◌, subst, arith}
+use Rattle.std.proofs.Common.{◌≡◌, ℕ, ◌+◌, ◌*◌, ◌<◌, ◌≤◌, ◌⊎◌, inl, inr, List, refl, ap, sym, ◌∙◌, subst, arith}
 use Rattle.std.specs.Prelude.{None, Option, Some, MatchOption}
 use Rattle.std.specs.FinMap as finite
+use Rattle.std.proofs.lemmas.Nat.{mul-le}
 use Rattle.ubi_media.specs.Geometry.{Sizes}
 use Rattle.ubi_media.specs.declared.record.VolumeRecord.{VolumeRecord}
+use Rattle.ubi_media.specs.declared.vid.VolKind.TheVariants as kind
 use Rattle.ubi_scan.specs.Members.{Leb, NoMember, Wins}
 use Rattle.ubi_scan.specs.Source.{blocks_of}
 use Rattle.ubi_table.specs.Records.{Records}
@@ -69,3 +71,16 @@ module _ (s : Sizes) (p : Placed) (image : List ℕ) (places : ArePlaces (record
         | inr none ↦ some none
         | inl w ↦ next n w.0 (omega arith) (r, recorded, within, w.1)
       ]
+
+-- a place that counts for a dynamic volume is below what it reserves
+pub counted_below : (p : Placed) (id : ℕ) (r : VolumeRecord) → finite.get p.records.of id ≡ Some r → r.kind ≡ kind.Dynamic → (l q : ℕ) → IsCountedPlace p id l q → l < r.reserved
+counted_below p id r recorded dynamic l q is =
+    let same : r ≡ is.0 = some_same r is.0 (sym recorded ∙ is.1) in
+    subst (λ (x : VolumeRecord). IsWithin x l) (sym same) is.2 dynamic
+
+-- a number of eraseblocks more
+pub next_few : (n l size : ℕ) → n ≤ l → n * size + size ≤ (l + 1) * size
+next_few n l size low =
+    let most : (n + 1) * size ≤ (l + 1) * size = mul-le (n + 1) size (l + 1) size (omega arith) (omega arith) in
+    let next : (n + 1) * size ≡ n * size + size = omega arith in
+    omega (arith, most, next)

@@ -13,7 +13,7 @@ ghost use Rattle.ubi_volume.specs.declared.places.PlaceContent.TheVariants as pl
 ghost use Rattle.ubi_compose.specs.Streamed.{volume_text};
 ghost use Rattle.ubi_compose.specs.Wrote.{All, IsWroteError, Wrote};
 
-use crate::placing::put_piece;
+use crate::placing::{put_piece, put_unless_blank};
 use std::io::Write;
 use ubi_media::{Geometry, VolumeRecord};
 use ubi_scan::{BlockSource, StreamError};
@@ -59,6 +59,46 @@ fn put_static<S: BlockSource, W: Write>(
         total = put_piece(
             geometry, source, p, data_pad, id, lebs, lnum, len, buffer, writer, total,
         )?;
+    }
+    Ok(total)
+}
+
+/// Writes the eraseblocks of what is kept of a dynamic volume, and gives how many bytes are written then.
+///
+/// # Errors
+///
+/// A read failed, or a write.
+fn put_dynamic<S: BlockSource, W: Write>(
+    geometry: &Geometry,
+    source: &mut S,
+    places: &Places,
+    id: u32,
+    entry: &VolumeRecord,
+    buffer: &mut [u8],
+    writer: &mut W,
+    done: u64,
+) -> Result<u64, StreamError>
+    requires places { ArePlacesOf geometry.now (S.known source.old) places.now }
+    requires recorded { finite.get places.now.records.of id ≡ Some entry.now }
+    requires sound { rec_fault geometry.now entry.now ≡ None }
+    requires listed { finite.get places.now.contents id ≡ Some place.Dynamic }
+    requires kind { entry.now.kind ≡ kind.Dynamic }
+    requires room { length buffer.old ≡ geometry.now.peb_size }
+    requires few { done + entry.now.reserved * geometry.now.peb_size < 2 ^ 64 }
+    ensures known { S.known source.new ≡ after (S.known source.old) result }
+    ensures written { IfOk result (Wrote (S.known source.old) (W.contents writer.old) (W.contents writer.new) (volume_text geometry.now places.now id) All done) }
+    ensures most { IfOk result (λ n. n ≤ done + entry.now.reserved * geometry.now.peb_size) }
+    ensures failed { IfErr result (IsWroteError geometry.now (S.known source.old) (W.contents writer.old) (W.contents writer.new) (volume_text geometry.now places.now id) done) }
+{
+    let data_pad = entry.data_pad(geometry);
+    let size = entry.usable(geometry) as usize;
+    let mut total = done;
+    let mut from = 0;
+    while let Some((lnum, p)) = places.next_place(id, from) {
+        total = put_unless_blank(
+            geometry, source, p, data_pad, id, lnum, size, buffer, writer, total,
+        )?;
+        from = lnum + 1;
     }
     Ok(total)
 }

@@ -1,0 +1,15 @@
+use Rattle.std.proofs.Common.{◌≡◌, ◌+◌, ◌-◌, ◌*◌, ◌≤◌}
+use Rattle.ubi_compose.specs.Wrote.{All, Wrote}
+use Rattle.ubi_compose.proofs.DynamicPlaces.{first_lebs}
+use Rattle.ubi_compose.proofs.stored.put_dynamic.Given as goal
+
+abbrev pub invariant-loop-lnum : goal.invariant-loop-lnum
+invariant-loop-lnum g l = record {
+  source : g.S.BlockSource.known l.source ≡ g.S.BlockSource.known l.fn.source;
+  wrote : Wrote (g.S.BlockSource.known l.fn.source) (g.W.Write.contents l.fn.writer) (g.W.Write.contents l.writer) (first_lebs l.geometry l.places l.id l.entry l.from) All l.done l.total;
+  few : l.total ≤ l.done + l.from * l.geometry.peb_size;
+  within : l.from ≤ l.entry.reserved;
+}
+
+abbrev pub decreases-loop-lnum : goal.decreases-loop-lnum
+decreases-loop-lnum g l = l.entry.reserved - l.from
