@@ -20,6 +20,7 @@ pub mod LinesLeft
 pub mod LinesRead
 pub mod Lists
 pub mod Normal
+pub mod NormalParts
 pub mod NormalVectors
 pub mod Pieces
 pub mod Placed
@@ -34,6 +35,7 @@ pub mod Spares
 pub mod SpecVectors
 pub mod StaticPlaces
 pub mod StoredVolume
+pub mod StoredVolumes
 pub mod Table
 pub mod Taken
 pub mod TextAnswers

@@ -25,7 +25,7 @@ use Rattle.ubi_compose.proofs.Rising.{Rises, entries_rise}
 use Rattle.ubi_compose.proofs.Table.{volume_is}
 
 -- numbers that rise, from k on and below n, are no more than those between
-few_rising : {X : Type 0} (key : X → ℕ) (xs : List X) (k n : ℕ) → k ≤ n → Rises key xs → AllByRecursion (λ x. k ≤ key x) xs
+pub few_rising : {X : Type 0} (key : X → ℕ) (xs : List X) (k n : ℕ) → k ≤ n → Rises key xs → AllByRecursion (λ x. k ≤ key x) xs
     → AllByRecursion (λ x. key x < n) xs → k + length xs ≤ n
 few_rising key [] k n h rises from below = omega arith
 few_rising {X = X} key (x ∷ xs) k n h rises from below =

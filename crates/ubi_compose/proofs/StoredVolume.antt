@@ -1,23 +1,30 @@
 -- A volume of an image whose places are known.
-use Rattle.std.proofs.Common.{◌≡◌, ℕ, ◌+◌, ◌*◌, ◌<◌, ◌≤◌, ◌⊎◌, inl, inr, List, refl, ap, sym, ◌∙◌, subst, arith}
-use Rattle.std.specs.Prelude.{None, Option, Some, MatchOption}
+use Rattle.std.proofs.Common.{◌≡◌, ℕ, ◌+◌, ◌*◌, ◌<◌, ◌≤◌, ◌⊎◌, inl, inr, List, [], refl, ap, sym, ◌∙◌, subst, arith}
+use Rattle.std.specs.Prelude.{None, Option, Some, MatchOption, flat_map}
 use Rattle.std.specs.FinMap as finite
 use Rattle.std.proofs.lemmas.Nat.{mul-le}
 use Rattle.ubi_media.specs.Geometry.{Sizes}
+use Rattle.ubi_media.specs.Record.{data_pad}
 use Rattle.ubi_media.specs.declared.record.VolumeRecord.{VolumeRecord}
+use Rattle.ubi_media.specs.declared.vid.VidHeader.{VidHeader}
 use Rattle.ubi_media.specs.declared.vid.VolKind.TheVariants as kind
 use Rattle.ubi_scan.specs.Members.{Leb, NoMember, Wins}
 use Rattle.ubi_scan.specs.Source.{blocks_of}
 use Rattle.ubi_table.specs.Records.{Records}
 use Rattle.ubi_volume.specs.Counted.{IsWithin}
 use Rattle.ubi_volume.specs.Means.{SlotMeans}
-use Rattle.ubi_volume.specs.Places.{ArePlaces, IsCountedPlace, IsNextPlace, Placed, case_of}
+use Rattle.ubi_volume.specs.Places.{ArePlaces, AreWithin, IsCountedPlace, IsNextPlace, IsReserved, Placed, case_of}
 use Rattle.ubi_volume.specs.Reads.{VolumeReads}
+use Rattle.ubi_volume.specs.declared.content.Content.{Content}
+use Rattle.ubi_volume.specs.declared.content.Content.TheVariants as content
 use Rattle.ubi_volume.specs.declared.content.Volume.{Volume}
 use Rattle.ubi_volume.specs.declared.places.PlaceContent.{PlaceContent}
+use Rattle.ubi_volume.specs.declared.places.PlaceContent.TheVariants as place
 use Rattle.ubi_volume.proofs.Recorded.{records_meant}
-use Rattle.ubi_compose.specs.Streamed.{IsVolumeOf}
+use Rattle.ubi_compose.specs.Normal.{damaged_block, laid_bytes, new_ec, volume_blocks}
+use Rattle.ubi_compose.specs.Streamed.{laid_text, volume_text}
 use Rattle.ubi_compose.proofs.Blocks.{some_same}
+use Rattle.ubi_compose.proofs.Puts.{damaged_is}
 
 module _ (s : Sizes) (p : Placed) (image : List ℕ) (places : ArePlaces (record { sizes = s; bytes = image }) p) where
   abbrev pub table : Records
@@ -84,3 +91,40 @@ next_few n l size low =
     let most : (n + 1) * size ≤ (l + 1) * size = mul-le (n + 1) size (l + 1) size (omega arith) (omega arith) in
     let next : (n + 1) * size ≡ n * size + size = omega arith in
     omega (arith, most, next)
+
+-- so many eraseblocks are at least one, and no more than more of them
+pub more_blocks : (m n size : ℕ) → m ≤ n → m * size ≤ n * size
+more_blocks m n size low = mul-le m size n size low (omega arith)
+
+-- what holds of a volume's content whatever the source holds
+pub reserved_of : (n id : ℕ) (p : Placed) (r : VolumeRecord) (c : PlaceContent) → AreWithin n p → finite.get p.records.of id ≡ Some r → finite.get p.contents id ≡ Some c → IsReserved r c
+reserved_of n id p r c within recorded listed =
+    let h = within.contents id r recorded in
+    subst (IsReserved r) (some_same h.0 c (sym h.1 ∙ listed)) h.2
+
+module _ (s : Sizes) (p : Placed) (id : ℕ) (r : VolumeRecord) (recorded : finite.get p.records.of id ≡ Some r) where
+  -- a volume whose update didn't end has no eraseblock
+  pub updating_text : finite.get p.contents id ≡ Some place.Updating → (image text : List ℕ) → volume_text s p id image text → text ≡ []
+  updating_text listed image text w =
+      let case = case_is s p image w.1.places id r recorded w.0 w.1.at place.Updating listed in
+      w.2 ∙ ap (λ (x : Content). flat_map (laid_bytes s new_ec) (volume_blocks s id w.0.entry x)) (is_updating w.0.content case)
+    where
+      is_updating : (c : Content) → case_of s r c ≡ place.Updating → c ≡ content.Updating
+      is_updating content.Updating e = refl
+      is_updating content.Damaged e = absurd (cc)
+      is_updating (content.Static t) e = absurd (cc)
+      is_updating (content.Dynamic l) e = absurd (cc)
+
+  -- a damaged one has one
+  pub damaged_text : (h : VidHeader) → h ≡ (damaged_block (data_pad s r) id).header → finite.get p.contents id ≡ Some place.Damaged → (image text : List ℕ) → volume_text s p id image text → laid_text s h [] image text
+  damaged_text h header listed image text w =
+      let case = case_is s p image w.1.places id r recorded w.0 w.1.at place.Damaged listed in
+      let entry : w.0.entry ≡ r = (reads_of s p image w.1.places id r recorded w.0 w.1.at).0 in
+      w.2 ∙ ap (λ (x : VolumeRecord). flat_map (laid_bytes s new_ec) (volume_blocks s id x w.0.content)) entry
+      ∙ sym (damaged_is s id r w.0.content (data_pad s r) h refl header (is_damaged w.0.content case))
+    where
+      is_damaged : (c : Content) → case_of s r c ≡ place.Damaged → c ≡ content.Damaged
+      is_damaged content.Updating e = absurd (cc)
+      is_damaged content.Damaged e = refl
+      is_damaged (content.Static t) e = absurd (cc)
+      is_damaged (content.Dynamic l) e = absurd (cc)

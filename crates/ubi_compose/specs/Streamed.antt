@@ -1,15 +1,20 @@
 -- The eraseblocks of the normal image, by the bytes of the image whose places they are read from.
-use Rattle.std.specs.Prelude.{◌≡◌, ℕ, List, [], Some, flat_map, take, if◌then◌else◌}
+use Rattle.std.specs.Prelude.{◌≡◌, ℕ, ◌<◌, ◌≤◌, ◌⊎◌, List, [], Some, flat_map, length, take, Option, if◌then◌else◌}
+use Rattle.std.specs.Io.KnownBytes.{Appends, Keeps}
 use Rattle.std.specs.FinMap.{entries, get}
 use Rattle.ubi_media.specs.Fields.{is_blank}
 use Rattle.ubi_media.specs.Geometry.{Sizes}
 use Rattle.ubi_media.specs.declared.vid.VidHeader.{VidHeader}
-use Rattle.ubi_scan.specs.Image.{block, leb}
-use Rattle.ubi_scan.specs.Source.{blocks_of}
-use Rattle.ubi_volume.specs.Places.{ArePlaces, Placed}
+use Rattle.ubi_scan.specs.Image.{Image, block, leb}
+use Rattle.ubi_scan.specs.Source.{Source, WhereHeld, blocks_in, blocks_of}
+use Rattle.ubi_scan.specs.declared.errors.StreamError.{StreamError}
+use Rattle.ubi_scan.specs.declared.errors.StreamError.TheVariants as stream
+use Rattle.ubi_volume.specs.Accepts.{Accepts}
+use Rattle.ubi_volume.specs.Meant.{Meant}
+use Rattle.ubi_volume.specs.Places.{ArePlaces, ArePlacesError, Placed}
 use Rattle.ubi_volume.specs.declared.content.Volume.{Volume}
 use Rattle.ubi_compose.specs.Normal as normal
-use Rattle.ubi_compose.specs.Normal.{dynamic_block, laid_bytes, layout_block, new_ec, normal_bytes, static_block, volume_blocks}
+use Rattle.ubi_compose.specs.Normal.{dynamic_block, laid_bytes, new_ec, normal_bytes, static_block, volume_blocks}
 
 -- the eraseblock with a header and a text, whatever the image
 abbrev pub laid_text : Sizes → VidHeader → List ℕ → List ℕ → List ℕ → Type 0
@@ -38,8 +43,53 @@ abbrev pub volume_text : Sizes → Placed → ℕ → List ℕ → List ℕ → 
 volume_text s p id image text =
     (v : Volume) × IsVolumeOf s p id image v × (text ≡ flat_map (laid_bytes s new_ec) (volume_blocks s id v.entry v.content))
 
--- those of the first n volumes
-abbrev pub volumes_text : Sizes → Placed → ℕ → List ℕ → List ℕ → Type 0
-volumes_text s p n image text =
+-- those of all volumes
+abbrev pub volumes_text : Sizes → Placed → List ℕ → List ℕ → Type 0
+volumes_text s p image text =
     (h : ArePlaces (record { sizes = s; bytes = image }) p)
-    × (text ≡ flat_map (laid_bytes s new_ec) (normal.blocks_of s (take n (entries h.meaning.volumes))))
+    × (text ≡ flat_map (laid_bytes s new_ec) (normal.blocks_of s (entries h.meaning.volumes)))
+
+-- the normal image
+abbrev pub normal_text : Sizes → Placed → List ℕ → List ℕ → Type 0
+normal_text s p image text = (h : ArePlaces (record { sizes = s; bytes = image }) p) × (text ≡ normal_bytes h.meaning)
+
+-- the writer received the whole normal image, of n bytes
+pub record IsStreamed (image : Image) (old new : Option (List ℕ)) (n : ℕ) : Type 0 where
+  pub meaning : Meant
+  pub accepted : Accepts image meaning
+  pub count : n ≡ length (normal_bytes meaning)
+  pub written : Appends old new (normal_bytes meaning)
+
+-- it received the first n bytes of it: perhaps all, where what is read last turns out to be left out
+pub record IsPart (image : Image) (old new : Option (List ℕ)) (n : ℕ) : Type 0 where
+  pub meaning : Meant
+  pub accepted : Accepts image meaning
+  pub within : n ≤ length (normal_bytes meaning)
+  pub written : Appends old new (take n (normal_bytes meaning))
+
+-- and not all
+pub record IsCut (image : Image) (old new : Option (List ℕ)) (n : ℕ) : Type 0 where
+  pub meaning : Meant
+  pub accepted : Accepts image meaning
+  pub short : n < length (normal_bytes meaning)
+  pub written : Appends old new (take n (normal_bytes meaning))
+
+-- it received n bytes, whatever the source holds
+abbrev pub HasGot : Option (List ℕ) → Option (List ℕ) → ℕ → Type 0
+HasGot old new n = (bytes : List ℕ) × (length bytes ≡ n) × Appends old new bytes
+
+-- what a normalising of a source answers
+pub record IsNormalisedTo (s : Sizes) (k : Source) (old new : Option (List ℕ)) (n : ℕ) : Type 0 where
+  pub got : HasGot old new n
+  pub held : WhereHeld k (λ bytes. IsStreamed (record { sizes = s; bytes = bytes }) old new n)
+
+-- why it answers nothing: the image is refused, or memory ran out, and nothing was written; a read failed, while
+-- attaching, or after n bytes were written; or a write failed after so many
+abbrev pub IsNormaliseToError : Sizes → Source → Option (List ℕ) → Option (List ℕ) → StreamError → Type 0
+IsNormaliseToError s k old new (stream.Refused c) = Keeps old new × ArePlacesError s k (stream.Refused c)
+IsNormaliseToError s k old new stream.Memory = Keeps old new
+IsNormaliseToError s k old new (stream.Read p n) =
+    (p < blocks_in s k) × HasGot old new n
+    × (((n ≡ 0) × Keeps old new) ⊎ WhereHeld k (λ bytes. IsPart (record { sizes = s; bytes = bytes }) old new n))
+IsNormaliseToError s k old new (stream.Write n) =
+    HasGot old new n × WhereHeld k (λ bytes. IsCut (record { sizes = s; bytes = bytes }) old new n)

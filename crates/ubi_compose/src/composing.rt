@@ -18,7 +18,7 @@ use ubi_media::{AttachError, Geometry, LAYOUT_VOLUME, VolKind, write_ec};
 use ubi_volume::{Meaning, attach};
 
 /// What a system that doesn't know the layout volume is to do: reject the image.
-const REJECT: u8 = 5;
+pub(crate) const REJECT: u8 = 5;
 
 /// How many eraseblocks the normal image of a meaning has.
 fn block_count(meaning: &Meaning) -> usize

@@ -17,6 +17,7 @@ mod placing;
 mod records;
 mod shown;
 mod stored;
+mod streaming;
 mod taking;
 mod volume;
 mod words;
@@ -24,8 +25,10 @@ mod words;
 pub use comparing::same;
 pub use composing::{compose, normalise};
 pub use errors::{ComposeError, SameError, SpecCause, SpecError};
+pub use errors::{ComposeError, SameError};
 pub use parsing::parse_spec;
 pub use shown::shown_name;
+pub use streaming::normalise_to;
 
 #[cfg(test)]
 mod tests;

@@ -13,11 +13,12 @@ ghost use Rattle.ubi_volume.specs.declared.places.PlaceContent.TheVariants as pl
 ghost use Rattle.ubi_compose.specs.Streamed.{volume_text};
 ghost use Rattle.ubi_compose.specs.Wrote.{All, IsWroteError, Wrote};
 
-use crate::placing::{put_piece, put_unless_blank};
+use crate::header::damaged_header;
+use crate::placing::{put_piece, put_text, put_unless_blank};
 use std::io::Write;
 use ubi_media::{Geometry, VolumeRecord};
 use ubi_scan::{BlockSource, StreamError};
-use ubi_volume::Places;
+use ubi_volume::{PlaceContent, Places};
 
 /// Writes the eraseblocks of a static text of so many bytes in `lebs` logical eraseblocks, and gives how many bytes are
 /// written then.
@@ -101,4 +102,47 @@ fn put_dynamic<S: BlockSource, W: Write>(
         from = lnum + 1;
     }
     Ok(total)
+}
+
+/// Writes the eraseblocks of a volume, and gives how many bytes are written then.
+///
+/// # Errors
+///
+/// A read failed, or a write.
+pub fn put_volume<S: BlockSource, W: Write>(
+    geometry: &Geometry,
+    source: &mut S,
+    places: &Places,
+    id: u32,
+    entry: &VolumeRecord,
+    buffer: &mut [u8],
+    writer: &mut W,
+    done: u64,
+) -> Result<u64, StreamError>
+    requires places { ArePlacesOf geometry.now (S.known source.old) places.now }
+    requires recorded { finite.get places.now.records.of id ≡ Some entry.now }
+    requires sound { rec_fault geometry.now entry.now ≡ None }
+    requires room { length buffer.old ≡ geometry.now.peb_size }
+    requires few { done + entry.now.reserved * geometry.now.peb_size < 2 ^ 64 }
+    ensures known { S.known source.new ≡ after (S.known source.old) result }
+    ensures written { IfOk result (Wrote (S.known source.old) (W.contents writer.old) (W.contents writer.new) (volume_text geometry.now places.now id) All done) }
+    ensures most { IfOk result (λ n. n ≤ done + entry.now.reserved * geometry.now.peb_size) }
+    ensures failed { IfErr result (IsWroteError geometry.now (S.known source.old) (W.contents writer.old) (W.contents writer.new) (volume_text geometry.now places.now id) done) }
+{
+    match places.content(id) {
+        PlaceContent::Updating => Ok(done),
+        PlaceContent::Damaged => {
+            let header = damaged_header(entry.data_pad(geometry), id);
+            match put_text(geometry, &header, &[], buffer, writer, done) {
+                Ok(total) => Ok(total),
+                Err(total) => Err(StreamError::Write(total)),
+            }
+        }
+        PlaceContent::Static { lebs, bytes } => put_static(
+            geometry, source, places, id, entry, lebs, bytes, buffer, writer, done,
+        ),
+        PlaceContent::Dynamic => {
+            put_dynamic(geometry, source, places, id, entry, buffer, writer, done)
+        }
+    }
 }

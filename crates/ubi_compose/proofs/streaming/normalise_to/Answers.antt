@@ -1,0 +1,29 @@
+use Rattle.std.proofs.Common.{◌≡◌, ◌∙◌, ap, sym, subst}
+use Rattle.std.proofs.lemmas.Result.{IfErr-weaker, IfOk-weaker}
+use Rattle.ubi_scan.specs.Source.{Source}
+use Rattle.ubi_compose.specs.Streamed.{normal_text}
+use Rattle.ubi_compose.specs.Wrote.{All, IsWroteError, Wrote}
+use Rattle.ubi_compose.proofs.NormalParts.{normalised, not_normalised}
+use Rattle.ubi_compose.proofs.streaming.normalise_to.Goals as goal
+
+pub returns-clause-written : goal.returns-clause-written
+returns-clause-written g c =
+    let s = c.args.geometry.now in
+    let k = g.S.BlockSource.known c.args.source.now in
+    let p = c.in_ok-places.places in
+    let same = c.in_ok-places.ensures.known in
+    IfOk-weaker c.put_image.result _ _
+    (λ n h. normalised s k p c.in_ok-places.ensures.places _ _ n
+    (subst (λ (k : Source). Wrote k (g.W.Write.contents c.args.writer.now) (g.W.Write.contents c.put_image.new.writer) (normal_text s p) All 0 n) same h))
+    c.put_image.ensures.written
+
+pub returns-clause-refused : goal.returns-clause-refused
+returns-clause-refused g c =
+    let s = c.args.geometry.now in
+    let k = g.S.BlockSource.known c.args.source.now in
+    let p = c.in_ok-places.places in
+    let same = c.in_ok-places.ensures.known in
+    IfErr-weaker c.put_image.result _ _
+    (λ e h. not_normalised s k p c.in_ok-places.ensures.places _ _ e
+    (subst (λ (k : Source). IsWroteError s k (g.W.Write.contents c.args.writer.now) (g.W.Write.contents c.put_image.new.writer) (normal_text s p) 0 e) same h))
+    c.put_image.ensures.failed

@@ -1,0 +1,143 @@
+//! The normal image of a source, into a writer.
+//!
+//! Each buffer has the size of an eraseblock. `done` is how many bytes were written before.
+
+ghost use Rattle.std.specs.Prelude.{◌≡◌, ◌+◌, ◌<◌, ◌≤◌, ◌^◌, IfErr, IfOk, length};
+ghost use Rattle.ubi_media.specs.Geometry.{leb_size};
+ghost use Rattle.ubi_media.specs.Vid.{plain};
+ghost use Rattle.ubi_media.specs.declared.vid.VolKind.TheVariants as kind;
+ghost use Rattle.ubi_scan.specs.Members.{layout};
+ghost use Rattle.ubi_scan.specs.Source.{Source};
+ghost use Rattle.ubi_scan.specs.Stream.{after};
+ghost use Rattle.ubi_table.specs.Records.{table_bytes};
+ghost use Rattle.ubi_volume.specs.Places.{ArePlacesOf};
+ghost use Rattle.ubi_compose.specs.Streamed.{IsNormaliseToError, IsNormalisedTo, laid_text, normal_text, volumes_text};
+ghost use Rattle.ubi_compose.specs.Wrote.{All, IsWroteError, Wrote};
+
+use crate::composing::REJECT;
+use crate::header::plain;
+use crate::placing::put_text;
+use crate::records::records_text;
+use crate::stored::put_volume;
+use std::alloc::Global;
+use std::io::Write;
+use ubi_media::{Geometry, LAYOUT_VOLUME, VolKind};
+use ubi_scan::{BlockSource, StreamError};
+use ubi_volume::{Places, attach_places};
+
+/// Writes a copy of the volume table, 0 or 1, and gives how many bytes are written then.
+///
+/// # Errors
+///
+/// A write failed.
+fn put_copy<W: Write>(
+    geometry: &Geometry,
+    copy: u32,
+    text: &[u8],
+    buffer: &mut [u8],
+    writer: &mut W,
+    done: u64,
+) -> Result<u64, StreamError>
+    requires room { length buffer.old ≡ geometry.now.peb_size }
+    requires text { length text.now ≤ leb_size geometry.now }
+    requires few { done + geometry.now.peb_size < 2 ^ 64 }
+    ensures known { (k : Source) → after k result ≡ k }
+    ensures written { IfOk result (λ n. (k : Source) → Wrote k (W.contents writer.old) (W.contents writer.new) (laid_text geometry.now (plain kind.Dynamic 5 0 layout copy) text.now) All done n) }
+    ensures least { IfOk result (λ n. n ≡ done + geometry.now.peb_size) }
+    ensures failed { IfErr result (λ e. (k : Source) → IsWroteError geometry.now k (W.contents writer.old) (W.contents writer.new) (laid_text geometry.now (plain kind.Dynamic 5 0 layout copy) text.now) done e) }
+{
+    let header = plain(VolKind::Dynamic, REJECT, 0, LAYOUT_VOLUME, copy);
+    match put_text(geometry, &header, text, buffer, writer, done) {
+        Ok(total) => Ok(total),
+        Err(total) => Err(StreamError::Write(total)),
+    }
+}
+
+/// Writes the eraseblocks of the volumes, and gives how many bytes are written then.
+///
+/// # Errors
+///
+/// A read failed, or a write.
+fn put_volumes<S: BlockSource, W: Write>(
+    geometry: &Geometry,
+    source: &mut S,
+    places: &Places,
+    buffer: &mut [u8],
+    writer: &mut W,
+    done: u64,
+) -> Result<u64, StreamError>
+    requires places { ArePlacesOf geometry.now (S.known source.old) places.now }
+    requires room { length buffer.old ≡ geometry.now.peb_size }
+    requires few { done ≤ 2 ^ 25 }
+    ensures known { S.known source.new ≡ after (S.known source.old) result }
+    ensures written { IfOk result (Wrote (S.known source.old) (W.contents writer.old) (W.contents writer.new) (volumes_text geometry.now places.now) All done) }
+    ensures failed { IfErr result (IsWroteError geometry.now (S.known source.old) (W.contents writer.old) (W.contents writer.new) (volumes_text geometry.now places.now) done) }
+{
+    prove!(geometry.peb_size() >= 64);
+    let mut total = done;
+    for listed in places.table().entries() {
+        let (id, entry) = *listed;
+        total = put_volume(
+            geometry, source, places, id, &entry, buffer, writer, total,
+        )?;
+    }
+    Ok(total)
+}
+
+/// Writes the normal image: two copies of the table, whose bytes are given, and the volumes. Gives how many bytes that
+/// are.
+///
+/// # Errors
+///
+/// A read failed, or a write.
+fn put_image<S: BlockSource, W: Write>(
+    geometry: &Geometry,
+    source: &mut S,
+    places: &Places,
+    text: &[u8],
+    buffer: &mut [u8],
+    writer: &mut W,
+) -> Result<u64, StreamError>
+    requires places { ArePlacesOf geometry.now (S.known source.old) places.now }
+    requires text { text.now ≡ table_bytes places.now.records }
+    requires fits { length text.now ≤ leb_size geometry.now }
+    requires room { length buffer.old ≡ geometry.now.peb_size }
+    ensures known { S.known source.new ≡ after (S.known source.old) result }
+    ensures written { IfOk result (Wrote (S.known source.old) (W.contents writer.old) (W.contents writer.new) (normal_text geometry.now places.now) All 0) }
+    ensures failed { IfErr result (IsWroteError geometry.now (S.known source.old) (W.contents writer.old) (W.contents writer.new) (normal_text geometry.now places.now) 0) }
+{
+    prove!(geometry.peb_size() >= 64);
+    let first = put_copy(geometry, 0, text, buffer, writer, 0)?;
+    let second = put_copy(geometry, 1, text, buffer, writer, first)?;
+    put_volumes(geometry, source, places, buffer, writer, second)
+}
+
+/// Writes the normal image of what a source holds, and answers how many bytes that are. It holds one eraseblock of
+/// contents at a time, and takes all memory before it writes.
+///
+/// # Errors
+///
+/// Refused as [`crate::normalise`], and Memory where memory ran out: then nothing is written. Read where a read failed,
+/// and Write where a write failed, after so many bytes of the normal image.
+pub fn normalise_to<S: BlockSource, W: Write>(
+    alloc: Global,
+    geometry: &Geometry,
+    source: &mut S,
+    writer: &mut W,
+) -> Result<u64, StreamError>
+    ensures known { S.known source.new ≡ after (S.known source.old) result }
+    ensures written { IfOk result (IsNormalisedTo geometry.now (S.known source.old) (W.contents writer.old) (W.contents writer.new)) }
+    ensures refused { IfErr result (IsNormaliseToError geometry.now (S.known source.old) (W.contents writer.old) (W.contents writer.new)) }
+{
+    let places = attach_places(alloc, geometry, source)?;
+    let text = records_text(alloc, geometry, places.table())?;
+    let mut buffer = Vec::from_elem(alloc, 0u8, geometry.peb_size() as usize)?;
+    put_image(
+        geometry,
+        source,
+        &places,
+        text.as_slice(),
+        buffer.as_mut_slice(),
+        writer,
+    )
+}
