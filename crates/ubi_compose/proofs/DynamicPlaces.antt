@@ -175,12 +175,14 @@ module _ (s : Sizes) (p : Placed) (id : ℕ) (r : VolumeRecord) (recorded : fini
   pub dynamic_step : (n l q : ℕ) → IsNextPlace p id n (Some (l, q)) → l < r.reserved → Splits (first_lebs s p id r (l + 1)) (first_lebs s p id r n) (dynamic_text s (data_pad s r) id l size q)
   dynamic_step n l q next below image text w =
       let g = kept_at (leb_bytes s id r) (finite.entries w.2) in
-      let won = found_wins s p image w.1.places (id, l) q next.1.3 in
-      (flat_map g (range_with_len 0 n), g l,
+      let won = found_wins s p image w.1.places (id, l) q next.1.3 in (
+        flat_map g (range_with_len 0 n),
+        g l,
         w.4 ∙ pieces_more g 0 l l (zero-add l) ∙ ap (λ x. x ++ g l) (same_until (leb_bytes s id r) (finite.entries w.2) n l next.0
-        (λ i low high. nothing_at image w.0 w.1 w.2 w.3 i (omega (arith, below, high)) (λ k is. next.2 i k low high is))),
+            (λ i low high. nothing_at image w.0 w.1 w.2 w.3 i (omega (arith, below, high)) (λ k is. next.2 i k low high is))),
         (w.0, w.1, w.2, w.3, refl),
-        kept_there image w.0 w.1 w.2 w.3 l q below won)
+        kept_there image w.0 w.1 w.2 w.3 l q below won,
+      )
 
   whole : (image text : List ℕ) (w : volume_text s p id image text) → text ≡ flat_map (kept_at (leb_bytes s id r) (finite.entries (lebs_of image w.0 w.1).0)) (range_with_len 0 r.reserved)
   whole image text w =

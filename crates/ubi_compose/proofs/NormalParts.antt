@@ -42,9 +42,13 @@ module _ (s : Sizes) (p : Placed) (table : List ℕ) (bytes : table ≡ table_by
 
   normal_splits : Splits (normal_text s p) (copy_text 0) rest_text
   normal_splits image text w =
-      let h = w.0 in
-      (laid_bytes s new_ec (layout_block h.meaning 0), laid_bytes s new_ec (layout_block h.meaning 1) ++ flat_map (laid_bytes s new_ec) (normal.blocks_of s (finite.entries h.meaning.volumes)),
-        w.1 ∙ whole h.meaning h.accepted.accepted.means.sizes, copy_is image h 0, (h, refl))
+      let h = w.0 in (
+        laid_bytes s new_ec (layout_block h.meaning 0),
+        laid_bytes s new_ec (layout_block h.meaning 1) ++ flat_map (laid_bytes s new_ec) (normal.blocks_of s (finite.entries h.meaning.volumes)),
+        w.1 ∙ whole h.meaning h.accepted.accepted.means.sizes,
+        copy_is image h 0,
+        (h, refl),
+      )
 
   rest_splits : Splits rest_text (copy_text 1) (volumes_text s p)
   rest_splits image text w =
@@ -83,26 +87,31 @@ module _ (s : Sizes) (k : Source) (p : Placed) (places : ArePlacesOf s k p) (a b
   pub not_normalised : (e : StreamError) → IsWroteError s k a b (normal_text s p) 0 e → IsNormaliseToError s k a b e
   not_normalised (stream.Read q n) e =
       let h = e.1 in
-      let long : length h.bytes ≡ n = (let c = h.count in omega (arith, c)) in
-      (e.0, (h.bytes, long, h.got), inr (λ image is.
-        let at = places.held image is in
-        let first = h.held image is (normal_bytes at.meaning) (at, refl) in
-        record {
-          meaning = at.meaning;
-          accepted = at.accepted;
-          within = (let l = first.0 in omega (arith, l, long));
-          written = subst (Appends a b) (first.1 ∙ ap (λ i. take i (normal_bytes at.meaning)) long) h.got;
-        }))
+      let long : length h.bytes ≡ n = (let c = h.count in omega (arith, c)) in (
+        e.0,
+        (h.bytes, long, h.got),
+        inr (λ image is.
+            let at = places.held image is in
+            let first = h.held image is (normal_bytes at.meaning) (at, refl) in
+            record {
+              meaning = at.meaning;
+              accepted = at.accepted;
+              within = (let l = first.0 in omega (arith, l, long));
+              written = subst (Appends a b) (first.1 ∙ ap (λ i. take i (normal_bytes at.meaning)) long) h.got;
+            }),
+      )
   not_normalised (stream.Write n) h =
-      let long : length h.bytes ≡ n = (let c = h.count in omega (arith, c)) in
-      ((h.bytes, long, h.got), λ image is.
-        let at = places.held image is in
-        let first = h.held image is (normal_bytes at.meaning) (at, refl) in
-        record {
-          meaning = at.meaning;
-          accepted = at.accepted;
-          short = (let l = first.0 in omega (arith, l, long));
-          written = subst (Appends a b) (first.1 ∙ ap (λ i. take i (normal_bytes at.meaning)) long) h.got;
-        })
+      let long : length h.bytes ≡ n = (let c = h.count in omega (arith, c)) in (
+        (h.bytes, long, h.got),
+        λ image is.
+            let at = places.held image is in
+            let first = h.held image is (normal_bytes at.meaning) (at, refl) in
+            record {
+              meaning = at.meaning;
+              accepted = at.accepted;
+              short = (let l = first.0 in omega (arith, l, long));
+              written = subst (Appends a b) (first.1 ∙ ap (λ i. take i (normal_bytes at.meaning)) long) h.got;
+            },
+      )
   not_normalised (stream.Refused c) h = absurd h
   not_normalised stream.Memory h = absurd h

@@ -140,12 +140,16 @@ module _ (s : Sizes) (p : Placed) (id : ℕ) (r : VolumeRecord) (recorded : fini
   pub static_all : (image text : List ℕ) → volume_text s p id image text → first_pieces s p id r lebs image text
   static_all image text w =
       let t = text_of image w.0 w.1 in
-      let entry : w.0.entry ≡ r = (reads_of s p image w.1.places id r recorded w.0 w.1.at).0 in
-      (w.0, w.1, t.0, t.1,
+      let entry : w.0.entry ≡ r = (reads_of s p image w.1.places id r recorded w.0 w.1.at).0 in (
+        w.0,
+        w.1,
+        t.0,
+        t.1,
         w.2 ∙ ap (λ (x : VolumeRecord). flat_map (laid_bytes s new_ec) (volume_blocks s id x w.0.content)) entry
-        ∙ ap (λ (x : Content). flat_map (laid_bytes s new_ec) (volume_blocks s id r x)) t.1
-        ∙ flat_map-map (laid_bytes s new_ec) (static_part (data_pad s r) size id t.0) (range_with_len 0 (pieces size (length t.0)))
-        ∙ ap (λ n. flat_map (λ l. laid_bytes s new_ec (static_part (data_pad s r) size id t.0 l)) (range_with_len 0 n)) t.2)
+            ∙ ap (λ (x : Content). flat_map (laid_bytes s new_ec) (volume_blocks s id r x)) t.1
+            ∙ flat_map-map (laid_bytes s new_ec) (static_part (data_pad s r) size id t.0) (range_with_len 0 (pieces size (length t.0)))
+            ∙ ap (λ n. flat_map (λ l. laid_bytes s new_ec (static_part (data_pad s r) size id t.0 l)) (range_with_len 0 n)) t.2,
+      )
 
   -- the first of them
   pub static_front : (n : ℕ) → n ≤ lebs → Splits (volume_text s p id) (first_pieces s p id r n) (λ image text. Unit {0})

@@ -80,11 +80,13 @@ module _ (s : Sizes) (p : Placed) where
       let number : x.0 ≡ e.0 = sym (ap (λ (e : ℕ × VolumeRecord). e.0) same) in
       let found : finite.get h.meaning.volumes x.0 ≡ Some x.1 = finite.get-entries h.meaning.volumes x.0 ∙ find_at nat_cmp_total es n d (finite.entries_sorted h.meaning.volumes) here in
       let front : List Laid = normal.blocks_of s (take n es) in
-      let back : List Laid = volume_blocks s x.0 x.1.entry x.1.content in
-      (flat_map (laid_bytes s new_ec) front, flat_map (laid_bytes s new_ec) back,
+      let back : List Laid = volume_blocks s x.0 x.1.entry x.1.content in (
+        flat_map (laid_bytes s new_ec) front,
+        flat_map (laid_bytes s new_ec) back,
         w.1 ∙ ap (flat_map (laid_bytes s new_ec)) (blocks_more s es n d here) ∙ flat_map-append (laid_bytes s new_ec) front back,
         (h, refl),
-        (x.1, record { places = h; at = subst (λ id. finite.get h.meaning.volumes id ≡ Some x.1) number found }, ap (λ id. flat_map (laid_bytes s new_ec) (volume_blocks s id x.1.entry x.1.content)) number))
+        (x.1, record { places = h; at = subst (λ id. finite.get h.meaning.volumes id ≡ Some x.1) number found }, ap (λ id. flat_map (laid_bytes s new_ec) (volume_blocks s id x.1.entry x.1.content)) number),
+      )
 
   pub volumes_all : (n : ℕ) → n ≡ length (finite.entries p.records.of) → (image text : List ℕ) → volumes_text s p image text → first_volumes s p n image text
   volumes_all n all image text w =
@@ -95,9 +97,13 @@ module _ (s : Sizes) (p : Placed) where
   volumes_front n image text w =
       let es = finite.entries w.0.meaning.volumes in
       let f = λ (e : ℕ × Volume). volume_blocks s e.0 e.1.entry e.1.content in
-      let cut : normal.blocks_of s es ≡ normal.blocks_of s (take n es) ++ normal.blocks_of s (drop n es) = ap (flat_map f) (sym (take-append-drop n es)) ∙ flat_map-append f (take n es) (drop n es) in
-      (flat_map (laid_bytes s new_ec) (normal.blocks_of s (take n es)), flat_map (laid_bytes s new_ec) (normal.blocks_of s (drop n es)),
-        w.1 ∙ ap (flat_map (laid_bytes s new_ec)) cut ∙ flat_map-append (laid_bytes s new_ec) (normal.blocks_of s (take n es)) (normal.blocks_of s (drop n es)), (w.0, refl), tt)
+      let cut : normal.blocks_of s es ≡ normal.blocks_of s (take n es) ++ normal.blocks_of s (drop n es) = ap (flat_map f) (sym (take-append-drop n es)) ∙ flat_map-append f (take n es) (drop n es) in (
+        flat_map (laid_bytes s new_ec) (normal.blocks_of s (take n es)),
+        flat_map (laid_bytes s new_ec) (normal.blocks_of s (drop n es)),
+        w.1 ∙ ap (flat_map (laid_bytes s new_ec)) cut ∙ flat_map-append (laid_bytes s new_ec) (normal.blocks_of s (take n es)) (normal.blocks_of s (drop n es)),
+        (w.0, refl),
+        tt,
+      )
 
   -- what is written when a volume is, or isn't
   module _ (k : Source) (a b c : Option (List ℕ)) (n : ℕ) (e : ℕ × VolumeRecord) (inside : n < length (finite.entries p.records.of)) (is : e ≡ get_or (finite.entries p.records.of) n e) where

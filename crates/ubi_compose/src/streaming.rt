@@ -77,9 +77,7 @@ fn put_volumes<S: BlockSource, W: Write>(
     let mut total = done;
     for listed in places.table().entries() {
         let (id, entry) = *listed;
-        total = put_volume(
-            geometry, source, places, id, &entry, buffer, writer, total,
-        )?;
+        total = put_volume(geometry, source, places, id, &entry, buffer, writer, total)?;
     }
     Ok(total)
 }
