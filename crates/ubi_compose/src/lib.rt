@@ -25,7 +25,6 @@ mod words;
 pub use comparing::same;
 pub use composing::{compose, normalise};
 pub use errors::{ComposeError, SameError, SpecCause, SpecError};
-pub use errors::{ComposeError, SameError};
 pub use parsing::parse_spec;
 pub use shown::shown_name;
 pub use streaming::normalise_to;

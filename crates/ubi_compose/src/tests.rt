@@ -4,3 +4,4 @@ mod images;
 mod memory;
 mod parsing;
 mod shown;
+mod streaming;
