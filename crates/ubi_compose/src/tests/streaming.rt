@@ -9,12 +9,7 @@ use ubi_scan::{MemorySource, ProbeSource, StreamError};
 use ubi_volume::{Failure, ProbeWriter};
 
 /// Asserts to which bytes a source is normalised, into a writer that takes 100 bytes at once.
-fn assert_streams(
-    rt: &impl Abort,
-    alloc: Global,
-    image: &[u8],
-    want: &[u8],
-) -> Result<(), Fail> {
+fn assert_streams(rt: &impl Abort, alloc: Global, image: &[u8], want: &[u8]) -> Result<(), Fail> {
     let mut source = MemorySource::new(image);
     let mut writer = ProbeWriter::new(alloc, 4096, 100, Failure::Nothing)?;
     let count = normalise_to(alloc, &small()?, &mut source, &mut writer)?;
@@ -63,7 +58,13 @@ fn tells_how_much_was_written(rt: HostRuntime) -> Result<(), Fail> {
     let want = normal_root(alloc)?;
     let image = want.as_slice();
     let first = image.get(..700).ok_or("short")?;
-    assert_fails(&rt, alloc, image, (0, 700), (StreamError::Write(700), first))?;
+    assert_fails(
+        &rt,
+        alloc,
+        image,
+        (0, 700),
+        (StreamError::Write(700), first),
+    )?;
     assert_fails(&rt, alloc, image, (1, 4096), (StreamError::Read(0, 0), &[]))?;
     assert_fails(&rt, alloc, image, (0, 0), (StreamError::Write(0), &[]))
 }

@@ -164,7 +164,11 @@ fn scans_a_file_as_memory(rt: HostRuntime) -> Result<(), Fail> {
         winner(scan_from(alloc, &geometry()?, &mut memory)),
         Some(1)
     );
-    fs::write(&rt, "scanned.img", bytes.as_slice().get(..1024).unwrap_or(&[]))?;
+    fs::write(
+        &rt,
+        "scanned.img",
+        bytes.as_slice().get(..1024).unwrap_or(&[]),
+    )?;
     let error = scan_from(alloc, &geometry()?, &mut file).err();
     assert_eq!(rt; error, Some(StreamError::Read(2, 0)));
     fs::remove_file(&rt, "scanned.img")?;
