@@ -7,10 +7,7 @@ ghost use Rattle.ubi_compose.specs.Words.{escaped, is_escape, is_plain, shown_na
 use crate::cutting::cut;
 use crate::words::byte_of;
 use arrayvec::ArrayVec;
-use ubi_media::VolName;
-
-/// The bytes of the longest name.
-const LONGEST: usize = 127;
+use ubi_media::{LONGEST_NAME, VolName};
 
 /// Whether each byte is shown as it is.
 fn are_plain(bytes: &[u8]) -> bool
@@ -23,7 +20,7 @@ fn are_plain(bytes: &[u8]) -> bool
 
 /// Adds the bytes that are shown from a backslash up to the next, of which this is what follows it. False where it
 /// isn't a shown form, or where with them there are more bytes than a name has.
-fn put_escape(name: &mut ArrayVec<u8, LONGEST>, part: &[u8]) -> bool
+fn put_escape(name: &mut ArrayVec<u8, LONGEST_NAME>, part: &[u8]) -> bool
     ensures fits { result ≡ (is_escape part.now && nat_le (length (name.old.items ++ escaped part.now)) 127) }
     ensures added { result ≡ true → name.new.items ≡ name.old.items ++ escaped part.now }
 {
@@ -40,7 +37,7 @@ fn put_escape(name: &mut ArrayVec<u8, LONGEST>, part: &[u8]) -> bool
 
 /// The bytes that a word shows. None where it isn't a shown form, or shows more bytes than a name has.
 #[tactic(auto, unfolding(crate::specs::Words::shown_name, crate::specs::Words::shown_bytes))]
-fn shown_bytes(word: &[u8]) -> Option<ArrayVec<u8, LONGEST>>
+fn shown_bytes(word: &[u8]) -> Option<ArrayVec<u8, LONGEST_NAME>>
     ensures { shown_name word.now ≡ option_and_then (λ bytes. some_name bytes.items) result }
 {
     let (first, mut rest) = cut(word, b'\\');

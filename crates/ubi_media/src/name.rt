@@ -7,7 +7,7 @@ use crate::bytes::put;
 use std::marker::Model;
 
 /// The bytes of the longest name (`UBI_VOL_NAME_MAX`).
-pub const LONGEST: usize = 127;
+pub const LONGEST_NAME: usize = 127;
 
 /// The bytes that a record has for a name and at least one zero behind it.
 const ROOM: usize = 128;
@@ -40,7 +40,7 @@ impl VolName {
     pub fn new(name: &[u8]) -> Option<VolName>
         ensures { MatchOption result (is_name name.now ≡ false) (λ n. (is_name name.now ≡ true) × (n ≡ name.now)) }
     {
-        if name.is_empty() || name.len() > LONGEST || name.contains(&0) {
+        if name.is_empty() || name.len() > LONGEST_NAME || name.contains(&0) {
             return None;
         }
         Some(VolName {

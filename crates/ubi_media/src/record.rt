@@ -8,7 +8,7 @@ ghost use Rattle.ubi_media.specs.Record.{IsNumberFault, RecIs, breaks, data_pad,
 use crate::bytes::{put, put_u16, put_u32};
 use crate::check::{is_sealed, seal};
 use crate::geometry::Geometry;
-use crate::name::{LONGEST, VolName, padded};
+use crate::name::{LONGEST_NAME, VolName, padded};
 use crate::vid::{DYNAMIC, NEGATIVE, STATIC, VolKind};
 use byteorder::{BigEndian, ByteOrder};
 
@@ -156,7 +156,7 @@ fn breaks(geometry: &Geometry, fields: &RecFields, fault: RecFault) -> bool
         RecFault::DataPad => f.alignment != 0 && f.data_pad != leb_size % f.alignment,
         RecFault::Kind => f.kind != DYNAMIC && f.kind != STATIC,
         RecFault::Marker => f.marker > 1,
-        RecFault::NameTooLong => usize::from(f.name_len) > LONGEST,
+        RecFault::NameTooLong => usize::from(f.name_len) > LONGEST_NAME,
         RecFault::NameBlank => f.name[0] == 0,
         RecFault::NameLength => !ends_at(&f.name, f.name_len),
     }

@@ -36,7 +36,9 @@ impl<F: FileExt + OpenFile + Seek + Drop> FileSource<F> {
     /// # Errors
     ///
     /// The file can't be opened, it is a folder, or its size can't be found out.
-    pub fn open<R: Files<File = F>>(rt: &R, path: &str) -> Result<FileSource<F>, SourceFault> {
+    pub fn open<R: Files<File = F>>(rt: &R, path: &str) -> Result<FileSource<F>, SourceFault>
+        ensures { OnOk result (λ s. s.failures ≡ 0) }
+    {
         let Ok(mut file) = fs::open(rt, path) else {
             return Err(SourceFault);
         };
