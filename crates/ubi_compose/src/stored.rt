@@ -53,6 +53,7 @@ fn put_static<S: BlockSource, W: Write>(
     let size = u64::from(entry.usable(geometry));
     let mut total = done;
     for lnum in 0..lebs {
+        // There is one for each, but in a source of which no bytes are known nothing says so.
         let Some((_, p)) = places.next_place(id, lnum) else {
             return Ok(total);
         };

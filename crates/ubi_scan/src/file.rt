@@ -1,6 +1,6 @@
 //! Sources over files.
 
-ghost use Rattle.std.specs.Prelude.{◌≡◌, ◌+◌, ◌≤◌, IsOk, OnOk, length};
+ghost use Rattle.std.specs.Prelude.{◌≡◌, IfOk};
 
 use crate::source::{BlockSource, SourceFault};
 use std::fs;
@@ -37,7 +37,7 @@ impl<F: FileExt + OpenFile + Seek + Drop> FileSource<F> {
     ///
     /// The file can't be opened, it is a folder, or its size can't be found out.
     pub fn open<R: Files<File = F>>(rt: &R, path: &str) -> Result<FileSource<F>, SourceFault>
-        ensures { OnOk result (λ s. s.failures ≡ 0) }
+        ensures { IfOk result (λ s. s.failures ≡ 0) }
     {
         let Ok(mut file) = fs::open(rt, path) else {
             return Err(SourceFault);
