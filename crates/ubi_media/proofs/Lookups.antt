@@ -1,5 +1,5 @@
 -- Bytes that come into the register together are a look-up each.
-use Rattle.std.proofs.Common.{◌≡◌, ℕ, zero, suc, ◌+◌, ◌*◌, ◌/◌, ◌%◌, ◌^◌, ◌<◌, ◌≤◌, List, [], ◌∷◌, length, get_or, drop, bit_xor, refl, sym, ap, ◌∙◌, arith}
+use Rattle.std.proofs.Common.{◌≡◌, ℕ, zero, suc, ◌+◌, ◌*◌, ◌/◌, ◌%◌, ◌^◌, ◌<◌, ◌≤◌, List, [], ◌∷◌, length, get_or, drop, bit_xor, refl, sym, ap, ◌∙◌, arith, zero-add}
 use Rattle.std.proofs.Math.Seq.{drop-cons}
 use Rattle.std.proofs.lemmas.List.{drop_all}
 use Rattle.std.proofs.lemmas.Nat.{mod_below, shr_split, xor_comm, xor_lt}
@@ -49,7 +49,7 @@ abbrev pub lookups : List ℕ → ℕ
 lookups [] = 0
 lookups (b ∷ bs) = bit_xor (lookups bs) (found (length bs) b)
 
-lookups-word : (bs : List ℕ) → length bs ≤ 8 → AreBytes bs → lookups bs ≡ steps (8 * length bs) (word bs)
+lookups-word : (bs : List ℕ) → length bs ≤ 16 → AreBytes bs → lookups bs ≡ steps (8 * length bs) (word bs)
 unfolding AreBytes word steps
 lookups-word [] h bytes = refl
 lookups-word (b ∷ bs) h bytes =
@@ -115,15 +115,28 @@ unfolding AreBytes
 AreBytes-elements i zero m h = tt
 AreBytes-elements i (suc n) m h = (h i, AreBytes-elements (suc i) n m h)
 
--- eight bytes and the four of a state, which are added to the first four
-pub check_from-eight : (s : ℕ) (m state : List ℕ) → s < 2 ^ 32 → length m ≡ 8 → ((k : ℕ) → get_or m k 0 < 256) → state ≡ to_le_bytes w32 s
-    → lookups (add_to_front (elements 0 4 state) (elements 0 8 m)) ≡ check_from s m
-check_from-eight s m state h size below same =
+elements-length : (i n : ℕ) (m : List ℕ) → length (elements i n m) ≡ n
+elements-length i zero m = refl
+elements-length i (suc n) m = ap suc (elements-length (suc i) n m)
+
+add_to_front-length : (xs ys : List ℕ) → length xs ≤ length ys → length (add_to_front xs ys) ≡ length ys
+add_to_front-length [] ys h = refl
+add_to_front-length (x ∷ xs) [] h = absurd (omega arith)
+add_to_front-length (x ∷ xs) (y ∷ ys) h = ap suc (add_to_front-length xs ys (omega arith))
+
+-- n bytes and the four of a state, which are added to the first four
+pub check_from-elements : (n s : ℕ) (m state : List ℕ) → 4 ≤ n → n ≤ 16 → s < 2 ^ 32 → length m ≡ n → ((k : ℕ) → get_or m k 0 < 256)
+    → state ≡ to_le_bytes w32 s → lookups (add_to_front (elements 0 4 state) (elements 0 n m)) ≡ check_from s m
+check_from-elements n s m state some most h size below same =
     let front : List ℕ = to_le_bytes w32 s in
-    let eight : List ℕ = elements 0 8 m in
-    let bytes : AreBytes eight = AreBytes-elements 0 8 m below in
+    let piece : List ℕ = elements 0 n m in
+    let long : length piece ≡ n = elements-length 0 n m in
+    let fits : length front ≤ length piece = omega (arith, long) in
+    let sum : length (add_to_front front piece) ≡ n = add_to_front-length front piece fits ∙ long in
+    let bytes : AreBytes piece = AreBytes-elements 0 n m below in
     rw same
-    (lookups-word (add_to_front front eight) (omega arith) (AreBytes-sum front eight (AreBytes-state s) bytes)
-    ∙ ap (steps 64) (word-sum front eight (omega arith) ∙ ap (λ x. bit_xor x (word eight)) (word-state s h))
-    ∙ sym (check_from-word s eight h bytes)
-    ∙ ap (check_from s) (elements-all 0 8 m (sym size)))
+    (lookups-word (add_to_front front piece) (omega (arith, sum)) (AreBytes-sum front piece (AreBytes-state s) bytes)
+    ∙ ap (λ k. steps (8 * k) (word (add_to_front front piece))) (sum ∙ sym long)
+    ∙ ap (steps (8 * length piece)) (word-sum front piece fits ∙ ap (λ x. bit_xor x (word piece)) (word-state s h))
+    ∙ sym (check_from-word s piece h bytes)
+    ∙ ap (check_from s) (elements-all 0 n m (zero-add n ∙ sym size)))

@@ -1,11 +1,13 @@
 -- The steps of a byte in the register are a look-up in a table.
-use Rattle.std.proofs.Common.{◌≡◌, ℕ, zero, suc, ◌+◌, ◌*◌, ◌/◌, ◌%◌, ◌^◌, ◌<◌, Bool, true, ◌&&◌, ◌==◌, List, [], ◌∷◌, length, get_or, bit_xor, bit_and, refl, sym, ap, ◌∙◌, arith, eqb-true, zero-add}
-use Rattle.std.proofs.lemmas.Bool.{and_parts}
+use Rattle.std.proofs.Common.{◌≡◌, ℕ, zero, suc, ◌+◌, ◌*◌, ◌/◌, ◌%◌, ◌^◌, ◌<◌, Bool, true, ◌&&◌, ◌==◌, List, [], ◌∷◌, length, get_or, bit_xor, bit_and, refl, sym, ap, ◌∙◌, arith, eqb-true, false, zero-add}
+use Rattle.std.proofs.lemmas.Bool.{and_parts, false≢true}
+use Rattle.std.proofs.lemmas.List.FromFn.{get_or-range_with_len}
 use Rattle.std.proofs.lemmas.Nat.{shr_split, mod_below, and_mask, xor_shr}
 use Rattle.std.proofs.Math.Nat.{pow-suc}
+use Rattle.std.specs.List.{range_with_len}
 use lib.Bits.{xor_shifted, xor_zero_r}
 use Rattle.ubi_media.specs.declared.tables.TheConstants.{TABLES}
-use Rattle.ubi_media.proofs.Register.{step, steps}
+use Rattle.ubi_media.proofs.Register.{step, steps, steps-more}
 use Rattle.ubi_media.proofs.Xor.{xor-div2, xor-mod2, xor-four}
 
 bit_product : (x y : ℕ) → x < 2 → y < 2 → bit_xor x y * 0xEDB88320 ≡ bit_xor (x * 0xEDB88320) (y * 0xEDB88320)
@@ -44,55 +46,73 @@ steps-split t =
     ap (steps 8) (sym parts) ∙ steps-sum 8 (t / 256 * 2 ^ 8) (t % 256)
     ∙ ap (λ (q : ℕ). bit_xor q (steps 8 (t % 256))) (steps-high 8 (t / 256))
 
--- whether the words from a place on are n steps of their places
-are_steps : ℕ → ℕ → List ℕ → Bool
-are_steps n i [] = true
-are_steps n i (x ∷ xs) = (x == steps n i) && are_steps n (suc i) xs
+-- whether each word is eight steps of the one at its place before it
+are_next : List ℕ → List ℕ → Bool
+are_next [] [] = true
+are_next [] (y ∷ ys) = false
+are_next (x ∷ xs) [] = false
+are_next (x ∷ xs) (y ∷ ys) = (y == steps 8 x) && are_next xs ys
 
-are_steps-at : (n i : ℕ) (xs : List ℕ) (k : ℕ) → are_steps n i xs ≡ true → k < length xs → get_or xs k 0 ≡ steps n (i + k)
-unfolding are_steps
-are_steps-at n i [] k e h = absurd (omega arith)
-are_steps-at n i (x ∷ xs) zero e h =
-    let here = (and_parts (x == steps n i) (are_steps n (suc i) xs) e).0 in
-    let same : i + 0 ≡ i = omega arith in
-    rw same (eqb-true x (steps n i) here)
-are_steps-at n i (x ∷ xs) (suc k) e h =
-    let there = (and_parts (x == steps n i) (are_steps n (suc i) xs) e).1 in
-    let same : suc i + k ≡ i + suc k = omega arith in
-    rw (← same) (are_steps-at n (suc i) xs k there (omega arith))
+are_next-length : (xs ys : List ℕ) → are_next xs ys ≡ true → length ys ≡ length xs
+unfolding are_next
+are_next-length [] [] e = refl
+are_next-length [] (y ∷ ys) e = absurd (false≢true e)
+are_next-length (x ∷ xs) [] e = absurd (false≢true e)
+are_next-length (x ∷ xs) (y ∷ ys) e = ap suc (are_next-length xs ys (and_parts (y == steps 8 x) (are_next xs ys) e).1)
 
--- whether the tables have the steps of each byte, n for the first and 8 more for each next
-are_tables : ℕ → List (List ℕ) → Bool
-are_tables n [] = true
-are_tables n (t ∷ ts) = (length t == 256) && (are_steps n 0 t && are_tables (n + 8) ts)
+are_next-at : (xs ys : List ℕ) (k : ℕ) → are_next xs ys ≡ true → k < length xs → get_or ys k 0 ≡ steps 8 (get_or xs k 0)
+unfolding are_next
+are_next-at [] ys k e h = absurd (omega arith)
+are_next-at (x ∷ xs) [] k e h = absurd (false≢true e)
+are_next-at (x ∷ xs) (y ∷ ys) zero e h = eqb-true y (steps 8 x) (and_parts (y == steps 8 x) (are_next xs ys) e).0
+are_next-at (x ∷ xs) (y ∷ ys) (suc k) e h = are_next-at xs ys k (and_parts (y == steps 8 x) (are_next xs ys) e).1 (omega arith)
 
-are_tables-at : (n : ℕ) (ts : List (List ℕ)) (k x : ℕ) → are_tables n ts ≡ true → k < length ts → x < 256 → get_or (get_or ts k []) x 0 ≡ steps (n + 8 * k) x
-unfolding are_tables
-are_tables-at n [] k x e h below = absurd (omega arith)
-are_tables-at n (t ∷ ts) zero x e h below =
-    let parts = and_parts (length t == 256) (are_steps n 0 t && are_tables (n + 8) ts) e in
-    let size : length t ≡ 256 = eqb-true (length t) 256 parts.0 in
-    let here = (and_parts (are_steps n 0 t) (are_tables (n + 8) ts) parts.1).0 in
-    let same : n + 8 * 0 ≡ n = omega arith in
-    rw same (are_steps-at n 0 t x here (omega arith) ∙ ap (steps n) (zero-add x))
-are_tables-at n (t ∷ ts) (suc k) x e h below =
-    let parts = and_parts (length t == 256) (are_steps n 0 t && are_tables (n + 8) ts) e in
-    let there = (and_parts (are_steps n 0 t) (are_tables (n + 8) ts) parts.1).1 in
-    let same : n + 8 + 8 * k ≡ n + 8 * suc k = omega arith in
-    rw (← same) (are_tables-at (n + 8) ts k x there (omega arith) below)
+-- whether each table is the next of the one before it
+are_tables : List ℕ → List (List ℕ) → Bool
+are_tables last [] = true
+are_tables last (t ∷ ts) = are_next last t && are_tables t ts
 
-tables_are : are_tables 8 TABLES ≡ true
-unfolding are_tables are_steps steps
+-- the words are n steps of their places
+AreSteps : ℕ → List ℕ → Type 0
+AreSteps n xs = (length xs ≡ 256) × ((x : ℕ) → x < 256 → get_or xs x 0 ≡ steps n x)
+
+are_next-steps : (n : ℕ) (xs ys : List ℕ) → AreSteps n xs → are_next xs ys ≡ true → AreSteps (n + 8) ys
+unfolding AreSteps
+are_next-steps n xs ys h e = (
+  are_next-length xs ys e ∙ h.0,
+  λ x below. are_next-at xs ys x e (omega (arith, h.0)) ∙ ap (steps 8) (h.1 x below) ∙ sym (steps-more n 8 x),
+)
+
+are_tables-at : (n : ℕ) (last : List ℕ) (ts : List (List ℕ)) (k x : ℕ) → AreSteps n last → are_tables last ts ≡ true → k < length ts → x < 256
+    → get_or (get_or ts k []) x 0 ≡ steps (n + 8 * suc k) x
+unfolding are_tables AreSteps
+are_tables-at n last [] k x steps_of e h below = absurd (omega arith)
+are_tables-at n last (t ∷ ts) zero x steps_of e h below =
+    let here = (and_parts (are_next last t) (are_tables t ts) e).0 in
+    (are_next-steps n last t steps_of here).1 x below
+are_tables-at n last (t ∷ ts) (suc k) x steps_of e h below =
+    let parts = and_parts (are_next last t) (are_tables t ts) e in
+    let same : n + 8 + 8 * suc k ≡ n + 8 * suc (suc k) = omega arith in
+    rw (← same) (are_tables-at (n + 8) t ts k x (are_next-steps n last t steps_of parts.0) parts.1 (omega arith) below)
+
+places : List ℕ
+places = range_with_len 0 256
+
+places-steps : AreSteps 0 places
+unfolding AreSteps places steps
+places-steps = (refl, λ x below. get_or-range_with_len 0 256 x 0 below ∙ zero-add x)
+
+tables_are : are_tables places TABLES ≡ true
+unfolding are_tables are_next steps places
 tables_are = refl
 
 -- the word of a table for a byte
 abbrev pub found : ℕ → ℕ → ℕ
 found k x = get_or (get_or TABLES k []) x 0
 
-pub found-steps : (k x : ℕ) → k < 8 → x < 256 → found k x ≡ steps (8 * suc k) x
+pub found-steps : (k x : ℕ) → k < 16 → x < 256 → found k x ≡ steps (8 * suc k) x
 found-steps k x h below =
-    let same : 8 + 8 * k ≡ 8 * suc k = omega arith in
-    are_tables-at 8 TABLES k x tables_are h below ∙ ap (λ n. steps n x) same
+    are_tables-at 0 places TABLES k x places-steps tables_are h below ∙ ap (λ n. steps n x) (zero-add (8 * suc k))
 
 -- the look-up
 pub steps-found : (s b : ℕ) → b < 256 → bit_xor (s / 256) (found 0 (bit_and (bit_xor s b) 255)) ≡ steps 8 (bit_xor s b)

@@ -25,7 +25,26 @@ pub fn crc(message: &[u8]) -> u32
 pub fn crc_more(state: u32, message: &[u8]) -> u32
     ensures { result ≡ check_from state message.now }
 {
-    let (eights, rest) = message.as_chunks::<8>();
+    let (sixteens, rest) = message.as_chunks::<16>();
+    with_rest(with_sixteens(state, sixteens), rest)
+}
+
+/// The state after more bytes, sixteen at a time.
+fn with_sixteens(state: u32, sixteens: &[[u8; 16]]) -> u32
+    ensures { result ≡ check_from state (concat sixteens.now) }
+{
+    let mut register = state;
+    for sixteen in sixteens {
+        register = with_sixteen(register, sixteen);
+    }
+    register
+}
+
+/// The state after more bytes, eight at a time and then one at a time.
+fn with_rest(state: u32, bytes: &[u8]) -> u32
+    ensures { result ≡ check_from state bytes.now }
+{
+    let (eights, rest) = bytes.as_chunks::<8>();
     with_bytes(with_eights(state, eights), rest)
 }
 
@@ -49,6 +68,31 @@ fn with_bytes(state: u32, bytes: &[u8]) -> u32
         register = with_byte(register, *byte);
     }
     register
+}
+
+/// The state after sixteen more bytes: the sum of what each adds, found in the table of how many bytes come behind it.
+/// The four bytes of the state come in with the first four.
+fn with_sixteen(state: u32, sixteen: &[u8; 16]) -> u32
+    ensures { result ≡ check_from state sixteen.now }
+{
+    let [a, b, c, d] = state.to_le_bytes();
+    // What doesn't wait for the state comes first.
+    TABLES[0][sixteen[15] as usize]
+        ^ TABLES[1][sixteen[14] as usize]
+        ^ TABLES[2][sixteen[13] as usize]
+        ^ TABLES[3][sixteen[12] as usize]
+        ^ TABLES[4][sixteen[11] as usize]
+        ^ TABLES[5][sixteen[10] as usize]
+        ^ TABLES[6][sixteen[9] as usize]
+        ^ TABLES[7][sixteen[8] as usize]
+        ^ TABLES[8][sixteen[7] as usize]
+        ^ TABLES[9][sixteen[6] as usize]
+        ^ TABLES[10][sixteen[5] as usize]
+        ^ TABLES[11][sixteen[4] as usize]
+        ^ TABLES[12][(d ^ sixteen[3]) as usize]
+        ^ TABLES[13][(c ^ sixteen[2]) as usize]
+        ^ TABLES[14][(b ^ sixteen[1]) as usize]
+        ^ TABLES[15][(a ^ sixteen[0]) as usize]
 }
 
 /// The state after eight more bytes: the sum of what each adds, found in the table of how many bytes come behind it.
