@@ -4,7 +4,7 @@ use Rattle.std.specs.List.{flat_map}
 use Rattle.ubi_media.specs.declared.refusal.Refusal.{Refusal}
 use Rattle.ubi_scan.specs.Image.{Image}
 use Rattle.ubi_volume.specs.Accepts.{Refuses}
-use Rattle.ubi_volume.specs.Attached.{IsAttached, Whole}
+use Rattle.ubi_volume.specs.Survey.{IsSurvey, Seen}
 use Rattle.ubi_volume.specs.declared.attached.BlockState.{BlockState}
 use Rattle.ubi_volume.specs.declared.attached.BlockState.TheVariants as state
 use Rattle.ubi_tool.specs.Answer.{Gives, says}
@@ -50,8 +50,8 @@ printed_states =
     state.Blank ∷ state.Free ∷ state.Table ∷ state.Used ∷ state.Stale ∷ state.Orphan ∷ state.Dropped ∷ state.Corrupt
     ∷ state.Garbage ∷ []
 
--- the lines of an image that is attached
-abbrev pub check_lines : Whole → List ℕ
+-- the lines of an image that is surveyed
+abbrev pub check_lines : Seen → List ℕ
 check_lines a =
     number_line (codes "blocks ") (length a.states) ++ flat_map (state_line a.states) printed_states
     ++ number_line (codes "top sqnum ") a.scan.top_sqnum ++ number_line (codes "image seq ") a.scan.image_seq
@@ -59,5 +59,5 @@ check_lines a =
 
 -- what the command answers of an image: those lines, or the line of its refusal
 pub data Checks (image : Image) : Outcome → Type 0 where
-  accepted : {o : Outcome} (a : Whole) → IsAttached image a → Gives o (says (check_lines a) 0) → Checks image o
+  accepted : {o : Outcome} (a : Seen) → IsSurvey image a → Gives o (says (check_lines a) 0) → Checks image o
   refused : {o : Outcome} (c : Refusal) → Refuses image c → Gives o (says (refusal_line c) 1) → Checks image o

@@ -8,7 +8,7 @@ use crate::lines::{put_number, put_word, refusal_line};
 use crate::outcome::{DONE, FAILED, Outcome, ToolError};
 use std::alloc::{AllocError, Global};
 use ubi_media::{AttachError, Geometry};
-use ubi_volume::{Attached, BlockState, attach};
+use ubi_volume::{BlockState, Surveyed, survey};
 
 fn is_same(state: BlockState, of: BlockState) -> bool
     ensures { result ≡ same_state state of }
@@ -89,22 +89,23 @@ fn put_states(text: &mut Vec<u8>, states: &[BlockState]) -> Result<(), AllocErro
     )
 }
 
-/// The lines of an image that is attached.
-fn check_lines(alloc: Global, attached: &Attached) -> Result<Vec<u8>, AllocError>
-    ensures { IfOk result (λ text. text.items ≡ check_lines attached.now) }
+/// The lines of an image that is surveyed.
+fn check_lines(alloc: Global, surveyed: &Surveyed) -> Result<Vec<u8>, AllocError>
+    ensures { IfOk result (λ text. text.items ≡ check_lines surveyed.now) }
 {
-    let states = attached.states();
+    let states = surveyed.states();
     let mut text = Vec::new(alloc);
     put_line(&mut text, "blocks ", states.len() as u64)?;
     put_states(&mut text, states)?;
-    put_line(&mut text, "top sqnum ", attached.top_sqnum())?;
-    put_line(&mut text, "image seq ", u64::from(attached.image_seq()))?;
-    put_line(&mut text, "mean counter ", u64::from(attached.mean_ec()))?;
+    put_line(&mut text, "top sqnum ", surveyed.top_sqnum())?;
+    put_line(&mut text, "image seq ", u64::from(surveyed.image_seq()))?;
+    put_line(&mut text, "mean counter ", u64::from(surveyed.mean_ec()))?;
     put_word(&mut text, "accepted\n")?;
     Ok(text)
 }
 
-/// Counts the states of the eraseblocks of an image, or answers the line of its refusal.
+/// Counts the states of the eraseblocks of an image, or answers the line of its refusal. Of the contents of volumes none
+/// is held, and only the table and copied data are read.
 ///
 /// # Errors
 ///
@@ -113,8 +114,8 @@ pub fn run_check(alloc: Global, geometry: &Geometry, image: &[u8]) -> Result<Out
     ensures ok { IfOk result (Checks (record { sizes = geometry.now; bytes = image.now })) }
     ensures err { IfErr result (λ e. e ≡ ToolError.Memory) }
 {
-    match attach(alloc, geometry, image) {
-        Ok(attached) => Ok(Outcome::saying(check_lines(alloc, &attached)?, DONE)),
+    match survey(alloc, geometry, image) {
+        Ok(surveyed) => Ok(Outcome::saying(check_lines(alloc, &surveyed)?, DONE)),
         Err(AttachError::Refused(cause)) => {
             Ok(Outcome::saying(refusal_line(alloc, cause)?, FAILED))
         }

@@ -19,6 +19,7 @@ pub mod Moved
 pub mod One
 pub mod OneCause
 pub mod PlacesOf
+pub mod SurveyOf
 pub mod Recorded
 pub mod SomeContent
 pub mod SomeMismatch

@@ -20,7 +20,7 @@ use Rattle.ubi_scan.proofs.Entries.{first_entry}
 use Rattle.ubi_scan.proofs.Keys.{told}
 use Rattle.ubi_table.specs.Records.{Records}
 use Rattle.ubi_table.specs.Stream.{IsTableOf}
-use Rattle.ubi_volume.specs.Cases.{AreCases, AreNumbered, CaseIs, IsContentsError, case_in}
+use Rattle.ubi_volume.specs.Cases.{AreCases, AreNumbered, CaseIs, IsContentsError, IsMismatchError, case_in}
 use Rattle.ubi_volume.specs.Counted.{NoMismatch}
 use Rattle.ubi_volume.specs.Means.{Means}
 use Rattle.ubi_volume.specs.Meant.{Meant}
@@ -95,8 +95,14 @@ module _ (t : Records) (cs : List (ℕ × PlaceContent)) (numbered : AreNumbered
       by_record (Some r) e some = let c = has_case id r e in by_found _ c.0 (first_entry cs id ∙ c.1)
 
 module _ (s : Sizes) (k : Source) (found : Found) (t : Records) (scan : IsScanOf s k found) (table : IsTableOf s k t) where
+  pub winners_refused : (e : StreamError) → IsMismatchError s k t e → ArePlacesError s k e
+  winners_refused (stream.Refused c) h = inr (scan.whole, λ bytes holds. inr (inr ((scan.held bytes holds).clean, t, table.held bytes holds, h bytes holds)))
+  winners_refused (stream.Read p n) h = h
+  winners_refused (stream.Write n) h = h
+  winners_refused stream.Memory h = absurd h
+
   pub contents_refused : (e : StreamError) → IsContentsError s k t e → ArePlacesError s k e
-  contents_refused (stream.Refused c) h = inr (scan.whole, λ bytes holds. inr (inr ((scan.held bytes holds).clean, t, table.held bytes holds, h bytes holds)))
+  contents_refused (stream.Refused c) h = winners_refused (stream.Refused c) h
   contents_refused (stream.Read p n) h = h
   contents_refused (stream.Write n) h = h
   contents_refused stream.Memory h = tt

@@ -25,6 +25,7 @@ mod probe;
 mod reading;
 mod states;
 mod static_text;
+mod surveying;
 mod writing;
 
 pub use attached::{Attached, BlockState};
@@ -37,6 +38,7 @@ pub use output::write_all;
 pub use places::{PlaceContent, Places, attach_places};
 pub use probe::{Failure, ProbeWriter};
 pub use reading::read_leb;
+pub use surveying::{Surveyed, survey, survey_from};
 pub use writing::{read_volume, write_volume};
 
 #[cfg(test)]

@@ -26,7 +26,7 @@ fn is_outside(table: &Table, vol: u32, lnum: u32) -> bool
 }
 
 /// The state of a member, by whether it wins its logical eraseblock.
-fn member_state(table: &Table, header: &VidHeader, wins: bool) -> BlockState
+pub fn member_state(table: &Table, header: &VidHeader, wins: bool) -> BlockState
     ensures { MemberStateIs table.now (leb_of header.now) wins result }
 {
     if is_outside(table, header.vol_id, header.lnum) {

@@ -7,4 +7,5 @@ mod refusals;
 mod sources;
 mod states;
 mod statics;
+mod surveys;
 mod writing;

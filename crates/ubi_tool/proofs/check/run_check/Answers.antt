@@ -3,7 +3,7 @@ use Rattle.ubi_tool.proofs.check.run_check.Goals as goal
 
 pub returns-in_ok-check_lines-in-Ok-clause-ok : goal.returns-in_ok-check_lines-in-Ok-clause-ok
 returns-in_ok-check_lines-in-Ok-clause-ok c =
-    accepted c.in-Ok.attached c.in-Ok.ensures.attached (rw c.in_ok-check_lines-in-Ok.ensures at c.saying.ensures)
+    accepted c.in-Ok.surveyed c.in-Ok.ensures.survey (rw c.in_ok-check_lines-in-Ok.ensures at c.saying.ensures)
 
 pub returns-in_ok-refusal_line-in-Err-Refused-clause-ok : goal.returns-in_ok-refusal_line-in-Err-Refused-clause-ok
 returns-in_ok-refusal_line-in-Err-Refused-clause-ok c =

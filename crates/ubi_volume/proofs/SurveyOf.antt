@@ -1,0 +1,41 @@
+-- What surveying a source gives, by what its parts answered.
+use Rattle.std.proofs.Common.{◌≡◌, ℕ, List, sym, subst}
+use Rattle.std.specs.Prelude.{Some}
+use Rattle.ubi_media.specs.Geometry.{IsGeometry, Sizes}
+use Rattle.ubi_scan.specs.Scan.{Found}
+use Rattle.ubi_scan.specs.Image.{Image, IsWholeSize}
+use Rattle.ubi_scan.specs.Source.{IsSource, Source, WhereHeld, blocks_in, blocks_of}
+use Rattle.ubi_scan.specs.Stream.{IsScanOf}
+use Rattle.ubi_scan.specs.declared.errors.StreamError.{StreamError}
+use Rattle.ubi_scan.specs.declared.errors.StreamError.TheVariants as stream
+use Rattle.ubi_table.specs.Records.{Records}
+use Rattle.ubi_table.specs.Stream.{IsTableOf}
+use Rattle.ubi_volume.specs.Counted.{NoMismatch}
+use Rattle.ubi_volume.specs.Places.{ArePlacesError}
+use Rattle.ubi_volume.specs.Survey.{AreStatesOf, IsStatesError, IsSurvey, IsSurveyOf}
+use Rattle.ubi_volume.specs.declared.attached.BlockState.{BlockState}
+use Rattle.ubi_volume.proofs.Either.{are_lebs, some_meaning}
+use Rattle.ubi_volume.proofs.Exits.{attached}
+
+pub states_refused : (s : Sizes) (k : Source) (e : StreamError) → IsStatesError (blocks_in s k) e → ArePlacesError s k e
+states_refused s k (stream.Refused c) h = absurd h
+states_refused s k (stream.Read p n) h = h
+states_refused s k (stream.Write n) h = h
+states_refused s k stream.Memory h = tt
+
+module _ (s : Sizes) (k : Source) (found : Found) (t : Records) (states : List BlockState) (g : IsGeometry s) (sized : IsSource k)
+    (scan : IsScanOf s k found) (table : IsTableOf s k t) (alike : WhereHeld k (λ bytes. NoMismatch s (blocks_of s bytes) t)) (are : AreStatesOf s k t states) where
+  held : (bytes : List ℕ) → k.held ≡ Some bytes → IsSurvey (record { sizes = s; bytes = bytes }) (record { scan = found; states = states })
+  held bytes holds =
+      let image : Image = record { sizes = s; bytes = bytes } in
+      let bs = blocks_of s bytes in
+      let is = scan.held bytes holds in
+      let whole = subst (IsWholeSize s) (sym (sized.sized bytes holds)) scan.whole in
+      let m = some_meaning s bs (are_lebs image) is.clean t (alike bytes holds) g (table.held bytes holds) in
+      record {
+        meaning = m.0;
+        attached = attached image whole is.clean found t m.0 states is (table.held bytes holds) (alike bytes holds) m.1 (are.held bytes holds);
+      }
+
+  pub is_survey : IsSurveyOf s k (record { scan = found; states = states })
+  is_survey = record { whole = scan.whole; count = are.count; held = held }

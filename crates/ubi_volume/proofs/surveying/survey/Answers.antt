@@ -1,0 +1,23 @@
+use Rattle.std.proofs.Common.{inl, inr, refl}
+use Rattle.ubi_scan.specs.Source.{memory}
+use Rattle.ubi_scan.specs.declared.errors.StreamError.TheVariants as stream
+use Rattle.ubi_volume.specs.Places.{ArePlacesError}
+use Rattle.ubi_volume.specs.Survey.{IsSurveyOf}
+use Rattle.ubi_volume.proofs.surveying.survey.Goals as goal
+
+pub returns-in-Ok-clause-survey : goal.returns-in-Ok-clause-survey
+returns-in-Ok-clause-survey c =
+    let image = c.args.image.now in
+    let is : IsSurveyOf c.args.geometry.now (memory image) c.in-Ok.survey = rw c.new.ensures at c.in-Ok.ensures.survey in
+    is.held image refl
+
+pub returns-in-Err-Refused-clause-refused : goal.returns-in-Err-Refused-clause-refused
+returns-in-Err-Refused-clause-refused c =
+    let image = c.args.image.now in
+    let cause = c.in-Err-Refused.cause in
+    let h : ArePlacesError c.args.geometry.now (memory image) (stream.Refused cause) =
+    rw (c.in-Err-Refused.field-0-is, c.new.ensures) at c.in-Err-Refused.ensures.refused in
+    elim h [
+      | inl fault ↦ inl fault
+      | inr held ↦ inr (held.0, held.1 image refl)
+    ]

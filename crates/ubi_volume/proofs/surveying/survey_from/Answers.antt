@@ -1,0 +1,32 @@
+use Rattle.std.proofs.Common.{◌∙◌, ap, subst}
+use Rattle.std.proofs.lemmas.Result.{err_from_is_err_and}
+use Rattle.ubi_scan.specs.Source.{Source}
+use Rattle.ubi_table.specs.Stream.{IsTableOf}
+use Rattle.ubi_volume.specs.Cases.{IsMismatchError}
+use Rattle.ubi_volume.specs.Survey.{AreStatesOf}
+use Rattle.ubi_volume.proofs.PlacesOf.{winners_refused}
+use Rattle.ubi_volume.proofs.SurveyOf.{is_survey}
+use Rattle.ubi_volume.proofs.surveying.survey_from.Goals as goal
+
+pub returns-in_err-check_winners_from-clause-refused : goal.returns-in_err-check_winners_from-clause-refused
+returns-in_err-check_winners_from-clause-refused g c =
+    let s = c.args.geometry.now in
+    let known = g.S.BlockSource.known c.args.source.now in
+    let t = c.in_ok-table.table in
+    let e = c.in_err-check_winners_from.field-0.0 in
+    let p = err_from_is_err_and c.from_residual-in_err-check_winners_from.result c.from_residual-in_err-check_winners_from.ensures.1 in
+    let same = c.in_ok-table.ensures.known ∙ c.in_ok-scan.ensures.known in
+    rw (p.1, p.2) (winners_refused s known c.in_ok-scan.scan t c.in_ok-scan.ensures.found (subst (λ (k : Source). IsTableOf s k t) c.in_ok-scan.ensures.known c.in_ok-table.ensures.table) e
+    (subst (λ (k : Source). IsMismatchError s k t e) same c.in_err-check_winners_from.ensures.refused))
+
+pub returns-clause-survey : goal.returns-clause-survey
+returns-clause-survey g c =
+    let s = c.args.geometry.now in
+    let known = g.S.BlockSource.known c.args.source.now in
+    let t = c.in_ok-table.table in
+    let states = c.in_ok-states.states.items in
+    let same = c.in_ok-table.ensures.known ∙ c.in_ok-scan.ensures.known in
+    is_survey s known c.in_ok-scan.scan t states c.peb_size.ensures.limits (g.met.S.BlockSource.sized c.args.source.now) c.in_ok-scan.ensures.found
+    (subst (λ (k : Source). IsTableOf s k t) c.in_ok-scan.ensures.known c.in_ok-table.ensures.table)
+    (λ bytes holds. c.in_ok-check_winners_from.ensures.alike bytes (ap (λ (k : Source). k.held) same ∙ holds))
+    (subst (λ (k : Source). AreStatesOf s k t states) (c.in_ok-check_winners_from.ensures.known ∙ same) c.in_ok-states.ensures.states)

@@ -1,0 +1,48 @@
+-- What is known of an image without what its volumes read.
+use Rattle.std.specs.Prelude.{◌≡◌, ℕ, List, length, refl}
+use Rattle.std.specs.Coded.{Coded, code_by, coded×, coded_list}
+use Rattle.ubi_media.specs.Geometry.{Sizes}
+use Rattle.ubi_scan.specs.Coded.{found_code}
+use Rattle.ubi_scan.specs.Image.{Image, IsWholeSize}
+use Rattle.ubi_scan.specs.Scan.{Found}
+use Rattle.ubi_scan.specs.Source.{Source, WhereHeld, blocks_in, blocks_of}
+use Rattle.ubi_scan.specs.Stream.{IsReadFault}
+use Rattle.ubi_scan.specs.declared.errors.StreamError.{StreamError}
+use Rattle.ubi_scan.specs.declared.errors.StreamError.TheVariants as stream
+use Rattle.ubi_table.specs.Records.{Records}
+use Rattle.ubi_volume.specs.Attached.{IsAttached}
+use Rattle.ubi_volume.specs.Meant.{Meant}
+use Rattle.ubi_volume.specs.States.{AreStates}
+use Rattle.ubi_volume.specs.declared.attached.BlockState.{BlockState}
+use Rattle.ubi_volume.specs.contracts.attached.BlockState as state_type
+
+-- what the scan found, and the state of each eraseblock
+pub record Seen : Type 0 where
+  pub scan : Found
+  pub states : List BlockState
+
+abbrev pub seen_code : Coded Seen
+seen_code =
+    code_by (Found × List BlockState) (coded× found_code (coded_list state_type.the_row.coded)) (λ a. (a.scan, a.states))
+    (λ p. record { scan = p.0; states = p.1 }) (λ _. refl)
+
+-- each eraseblock of a source has a state and, where its bytes are known, its own
+pub record AreStatesOf (s : Sizes) (k : Source) (t : Records) (states : List BlockState) : Type 0 where
+  pub count : length states ≡ blocks_in s k
+  pub held : WhereHeld k (λ bytes. AreStates s (blocks_of s bytes) t states)
+
+-- why there are none: a read failed, or memory ran out
+abbrev pub IsStatesError : ℕ → StreamError → Type 0
+IsStatesError n stream.Memory = Unit {0}
+IsStatesError n e = IsReadFault n e
+
+-- it is that of the image, which is accepted: with a meaning, it is what attaching gives
+pub record IsSurvey (image : Image) (v : Seen) : Type 0 where
+  pub meaning : Meant
+  pub attached : IsAttached image (record { meaning = meaning; scan = v.scan; states = v.states })
+
+-- what surveying a source gives
+pub record IsSurveyOf (s : Sizes) (k : Source) (v : Seen) : Type 0 where
+  pub whole : IsWholeSize s k.size
+  pub count : length v.states ≡ blocks_in s k
+  pub held : WhereHeld k (λ bytes. IsSurvey (record { sizes = s; bytes = bytes }) v)

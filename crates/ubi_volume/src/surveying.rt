@@ -1,0 +1,190 @@
+//! What is known of an image without what its volumes read.
+
+ghost use Rattle.std.specs.Prelude.{◌≡◌, ◌<◌, IfErr, IfOk, Some, length};
+ghost use Rattle.ubi_media.specs.declared.vid.VidHeader.{VidHeader};
+ghost use Rattle.ubi_scan.specs.Image.{block};
+ghost use Rattle.ubi_scan.specs.Members.{leb_of, member};
+ghost use Rattle.ubi_scan.specs.Source.{WhereHeld, blocks_in, blocks_of};
+ghost use Rattle.ubi_scan.specs.Stream.{IsReadFault, IsScanOf, after};
+ghost use Rattle.ubi_table.specs.Stream.{IsTableOf};
+ghost use Rattle.ubi_volume.specs.Accepts.{IsAttachError};
+ghost use Rattle.ubi_volume.specs.Places.{ArePlacesError};
+ghost use Rattle.ubi_volume.specs.States.{MemberStateIs, StateIs};
+ghost use Rattle.ubi_volume.specs.Survey.{AreStatesOf, IsStatesError, IsSurvey, IsSurveyOf};
+
+use crate::attached::BlockState;
+use crate::checking::check_winners_from;
+use crate::states::member_state;
+use std::alloc::Global;
+use std::marker::Model;
+use ubi_media::{AttachError, Geometry};
+use ubi_scan::{BlockSource, MemorySource, Scan, ScanState, StreamError, read_member, scan_from};
+use ubi_table::{Table, choose_from};
+
+/// What is known of an image without what its volumes read.
+#[derive(Drop)]
+pub struct Surveyed {
+    scan: Scan,
+    states: Vec<BlockState>,
+}
+
+impl Model for Surveyed {
+    ghost use Rattle.ubi_volume.specs.Survey.{Seen, seen_code};
+
+    ghost Value = { Seen };
+
+    ghost coded = { seen_code };
+
+    ghost view = { λ v. record { scan = v.scan; states = v.states.items } };
+}
+
+impl Surveyed {
+    /// What is said of each eraseblock, by rising number.
+    pub fn states(&self) -> &[BlockState]
+        ensures { result.now ≡ self.now.states }
+    {
+        self.states.as_slice()
+    }
+
+    /// The greatest sequence number of a member or a dropped eraseblock, 0 if there is none.
+    pub fn top_sqnum(&self) -> u64
+        ensures { result ≡ self.now.scan.top_sqnum }
+    {
+        self.scan.top_sqnum()
+    }
+
+    /// The image sequence number: the first one that isn't zero, 0 if there is none.
+    pub fn image_seq(&self) -> u32
+        ensures { result ≡ self.now.scan.image_seq }
+    {
+        self.scan.image_seq()
+    }
+
+    /// The mean of the erase counters that can be read, rounded down, 0 if there are none.
+    pub fn mean_ec(&self) -> u32
+        ensures { result ≡ self.now.scan.mean_ec }
+    {
+        self.scan.mean_ec()
+    }
+}
+
+/// The state of an eraseblock that a scan found to be a member, by whether it wins. The buffer has the size of an
+/// eraseblock.
+fn member_state_from<S: BlockSource>(
+    geometry: &Geometry,
+    source: &mut S,
+    table: &Table,
+    p: u32,
+    wins: bool,
+    buffer: &mut [u8],
+) -> Result<BlockState, StreamError>
+    requires inside { p < blocks_in geometry.now (S.known source.old) }
+    requires room { length buffer.old ≡ geometry.now.peb_size }
+    ensures known { S.known source.new ≡ after (S.known source.old) result }
+    ensures state { IfOk result (λ state. WhereHeld (S.known source.old) (λ bytes. (h : VidHeader) → member geometry.now (block (blocks_of geometry.now bytes) p) ≡ Some h → MemberStateIs table.now (leb_of h) wins state)) }
+    ensures failed { IfErr result (IsReadFault (blocks_in geometry.now (S.known source.old))) }
+{
+    match read_member(source, geometry, p, buffer)? {
+        Some(header) => Ok(member_state(table, &header, wins)),
+        // Only of a source that doesn't hold any more what it held when it was scanned.
+        None => Ok(BlockState::Garbage),
+    }
+}
+
+/// The state of an eraseblock. The buffer has the size of an eraseblock.
+fn state_from<S: BlockSource>(
+    geometry: &Geometry,
+    source: &mut S,
+    scan: &Scan,
+    table: &Table,
+    p: u32,
+    buffer: &mut [u8],
+) -> Result<BlockState, StreamError>
+    requires scan { IsScanOf geometry.now (S.known source.old) scan.now }
+    requires inside { p < blocks_in geometry.now (S.known source.old) }
+    requires room { length buffer.old ≡ geometry.now.peb_size }
+    ensures known { S.known source.new ≡ after (S.known source.old) result }
+    ensures state { IfOk result (λ state. WhereHeld (S.known source.old) (λ bytes. StateIs geometry.now (blocks_of geometry.now bytes) table.now p state)) }
+    ensures failed { IfErr result (IsReadFault (blocks_in geometry.now (S.known source.old))) }
+{
+    match scan.state(p) {
+        ScanState::Blank => Ok(BlockState::Blank),
+        ScanState::Free => Ok(BlockState::Free),
+        ScanState::Garbage => Ok(BlockState::Garbage),
+        ScanState::Corrupt => Ok(BlockState::Corrupt),
+        ScanState::Dropped => Ok(BlockState::Dropped),
+        ScanState::Winner => member_state_from(geometry, source, table, p, true, buffer),
+        ScanState::Beaten => member_state_from(geometry, source, table, p, false, buffer),
+    }
+}
+
+/// The state of each eraseblock. The buffer has the size of an eraseblock.
+fn states_from<S: BlockSource>(
+    alloc: Global,
+    geometry: &Geometry,
+    source: &mut S,
+    scan: &Scan,
+    table: &Table,
+    buffer: &mut [u8],
+) -> Result<Vec<BlockState>, StreamError>
+    requires scan { IsScanOf geometry.now (S.known source.old) scan.now }
+    requires room { length buffer.old ≡ geometry.now.peb_size }
+    ensures known { S.known source.new ≡ after (S.known source.old) result }
+    ensures states { IfOk result (λ states. AreStatesOf geometry.now (S.known source.old) table.now states.items) }
+    ensures failed { IfErr result (IsStatesError (blocks_in geometry.now (S.known source.old))) }
+{
+    let count = (source.len() / u64::from(geometry.peb_size())) as u32;
+    let mut states = Vec::new(alloc);
+    for p in 0..count {
+        let state = state_from(geometry, source, scan, table, p, buffer)?;
+        states.reserve(1)?;
+        states.push_reserved(state);
+    }
+    Ok(states)
+}
+
+/// Surveys the image of a source: finds the state of each of its eraseblocks, without what its volumes read.
+///
+/// # Errors
+///
+/// As [`crate::attach_places`].
+pub fn survey_from<S: BlockSource>(
+    alloc: Global,
+    geometry: &Geometry,
+    source: &mut S,
+) -> Result<Surveyed, StreamError>
+    ensures known { S.known source.new ≡ after (S.known source.old) result }
+    ensures survey { IfOk result (IsSurveyOf geometry.now (S.known source.old)) }
+    ensures refused { IfErr result (ArePlacesError geometry.now (S.known source.old)) }
+{
+    let scan = scan_from(alloc, geometry, source)?;
+    let table = choose_from(alloc, geometry, source, &scan)?;
+    let mut buffer = Vec::from_elem(alloc, 0u8, geometry.peb_size() as usize)?;
+    check_winners_from(geometry, source, &scan, &table, buffer.as_mut_slice())?;
+    let states = states_from(
+        alloc,
+        geometry,
+        source,
+        &scan,
+        &table,
+        buffer.as_mut_slice(),
+    )?;
+    Ok(Surveyed { scan, states })
+}
+
+/// Surveys an image: finds the state of each of its eraseblocks, without what its volumes read.
+///
+/// # Errors
+///
+/// As [`crate::attach`].
+pub fn survey(alloc: Global, geometry: &Geometry, image: &[u8]) -> Result<Surveyed, AttachError>
+    ensures survey { IfOk result (IsSurvey (record { sizes = geometry.now; bytes = image.now })) }
+    ensures refused { IfErr result (IsAttachError (record { sizes = geometry.now; bytes = image.now })) }
+{
+    match survey_from(alloc, geometry, &mut MemorySource::new(image)) {
+        Ok(survey) => Ok(survey),
+        Err(StreamError::Refused(cause)) => Err(AttachError::Refused(cause)),
+        Err(StreamError::Memory) => Err(AttachError::Memory),
+        Err(StreamError::Read(..) | StreamError::Write(_)) => unreachable!(),
+    }
+}

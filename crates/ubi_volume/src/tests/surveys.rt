@@ -1,0 +1,99 @@
+//! Surveying: what is found of an image without its contents, what is read for it, and what fails.
+
+use super::images::{
+    A, B, Data, ERASED, Ec, FIRST, FIRST_BOOT, PLAIN, Peb, SECOND, SECOND_BOOT, STATIC, TEXT_0,
+    TEXT_1, Vid, geometry, image,
+};
+use crate::BlockState::{Blank, Orphan, Table, Used};
+use crate::{survey, survey_from};
+use std::alloc::Global;
+use std::test::Fail;
+use ubi_media::{AttachError, Refusal, VidHeader};
+use ubi_scan::{ProbeSource, StreamError};
+
+/// A logical eraseblock beyond those that its volume reserves.
+const BEYOND: Peb = Peb(
+    Ec::Zero,
+    Vid::Is(VidHeader {
+        lnum: 20,
+        sqnum: 7,
+        ..PLAIN
+    }),
+    Data::Filled(0x44, 384),
+);
+
+#[test]
+fn tells_the_state_of_each_eraseblock(rt: HostRuntime) -> Result<(), Fail> {
+    let alloc = rt.alloc();
+    let bytes = image(alloc, &[FIRST, SECOND, A, B, BEYOND, ERASED])?;
+    let surveyed = survey(alloc, &geometry()?, bytes.as_slice())?;
+    let want = [Table, Table, Used, Used, Orphan, Blank];
+    assert_eq!(rt; surveyed.states(), want.as_slice());
+    let numbers = (
+        surveyed.top_sqnum(),
+        surveyed.image_seq(),
+        surveyed.mean_ec(),
+    );
+    assert_eq!(rt; numbers, (7, 0x1234_5678, 0));
+    Ok(())
+}
+
+#[test]
+fn refuses_what_attaching_refuses(rt: HostRuntime) -> Result<(), Fail> {
+    let alloc = rt.alloc();
+    let unlike = Peb(Ec::Zero, Vid::Is(STATIC), Data::Filled(0x41, 384));
+    let bytes = image(alloc, &[FIRST, SECOND, unlike])?;
+    let mismatch = survey(alloc, &geometry()?, bytes.as_slice()).err();
+    assert!(rt; mismatch == Some(AttachError::Refused(Refusal::Mismatch(2))));
+    let cut = survey(alloc, &geometry()?, &[0xFF; 511]).err();
+    assert!(rt; cut == Some(AttachError::Refused(Refusal::Length)));
+    Ok(())
+}
+
+/// How many reads begin in an eraseblock of a source that is surveyed, how many of them in its
+/// data, and how many reads leave an eraseblock.
+fn reads_of(alloc: Global, bytes: &[u8], p: u32) -> Result<(u64, u64, u64), Fail> {
+    let mut source = ProbeSource::new(alloc, &geometry()?, bytes, 0)?;
+    survey_from(alloc, &geometry()?, &mut source)?;
+    Ok((source.reads(p), source.data_reads(p), source.crossing()))
+}
+
+/// The headers are read for the scan, to compare them with the record and for the state; of the data those of one copy
+/// of the table alone, and none of a static volume.
+#[test]
+fn reads_no_contents(rt: HostRuntime) -> Result<(), Fail> {
+    let alloc = rt.alloc();
+    let bytes = image(alloc, &[FIRST_BOOT, SECOND_BOOT, TEXT_0, TEXT_1])?;
+    for (p, want) in [
+        (0, (4, 1, 0)),
+        (1, (3, 0, 0)),
+        (2, (3, 0, 0)),
+        (3, (3, 0, 0)),
+    ] {
+        assert!(rt;
+            reads_of(alloc, bytes.as_slice(), p)? == want,
+            "eraseblock {p}"
+        );
+    }
+    Ok(())
+}
+
+/// Why a source isn't surveyed whose read `at` fails.
+fn failure_at(alloc: Global, bytes: &[u8], at: u64) -> Result<Option<StreamError>, Fail> {
+    let mut source = ProbeSource::new(alloc, &geometry()?, bytes, at)?;
+    Ok(survey_from(alloc, &geometry()?, &mut source).err())
+}
+
+/// Each read fails in turn: those of the scan, of the table, of the winners and of the states.
+#[test]
+fn tells_which_read_failed(rt: HostRuntime) -> Result<(), Fail> {
+    let alloc = rt.alloc();
+    let bytes = image(alloc, &[FIRST_BOOT, SECOND_BOOT, TEXT_0])?;
+    let failing = [0, 1, 2, 0, 0, 1, 2, 0, 1, 2];
+    for (at, p) in (1..).zip(failing) {
+        let failure = failure_at(alloc, bytes.as_slice(), at)?;
+        assert!(rt; failure == Some(StreamError::Read(p, 0)), "read {at}");
+    }
+    assert!(rt; failure_at(alloc, bytes.as_slice(), 11)? == None);
+    Ok(())
+}
