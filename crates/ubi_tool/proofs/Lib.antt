@@ -3,4 +3,5 @@ pub mod Composed
 pub mod Cut
 pub mod Defaults
 pub mod Extracted
+pub mod Normalised
 pub mod Outcomes

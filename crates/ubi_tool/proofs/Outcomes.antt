@@ -6,7 +6,6 @@ use Rattle.std.specs.declared.alloc.Global.{Global}
 use Rattle.std.specs.declared.vec.Vec.{Vec}
 use Rattle.ubi_media.specs.Geometry.{Sizes, first_broken}
 use Rattle.ubi_scan.specs.Image.{Image}
-use Rattle.ubi_volume.specs.Accepts.{Accepts}
 use Rattle.ubi_volume.specs.Meant.{Meant}
 use Rattle.ubi_change.specs.declared.step.Step.{Step}
 use Rattle.ubi_compose.specs.Composed.{HasRoom}
@@ -15,7 +14,6 @@ use Rattle.ubi_tool.specs.Compose.{Composes, ComposesInto, ComposesOf, crowded, 
 use Rattle.ubi_tool.specs.Compose as compose
 use Rattle.ubi_tool.specs.Change.{Changes, ChangesInto, IsPlanned, planned, unplanned}
 use Rattle.ubi_tool.specs.Change as change
-use Rattle.ubi_tool.specs.Normalise.{Normalises, NormalisesInto, accepted, refused, written, unwritten}
 use Rattle.ubi_tool.specs.Numbers.{sizes_of}
 use Rattle.ubi_tool.specs.Program.{IsRead, IsWritten, OfImage, OfText, Tells, text_limit}
 use Rattle.ubi_tool.specs.Program as program
@@ -27,16 +25,6 @@ use Rattle.ubi_tool.specs.declared.outcome.Outcome.{Outcome}
 no_file : (file : Option (Vec ℕ Global)) → option_map (λ v. v.items) file ≡ None → IsSome file → ⊥
 no_file None e h = cc
 no_file (Some v) e h = cc
-
--- a file is there only where the image is accepted
-accepted_with_file : (image : Image) (o : Outcome) → Normalises image o → IsSome o.file → (m : Meant) × Accepts image m
-accepted_with_file image o (accepted m a gives) some = (m, a)
-accepted_with_file image o (refused c r gives) some = absurd (no_file o.file gives.file some)
-
--- normalising, and then writing the file
-pub normalises_into : (image : Image) (out : List ℕ) (work o : Outcome) → Normalises image work → IsWritten out work o → NormalisesInto out image o
-normalises_into image out work o n program.written = written n
-normalises_into image out work o n (program.unwritten some gives) = (let h = accepted_with_file image work n some in unwritten h.0 h.1 gives)
 
 -- a file is there only where the device has room for a meaning
 room_with_file : (m : Meant) (spares : ℕ) (o : Outcome) → ComposesOf m spares o → IsSome o.file → HasRoom m spares

@@ -1,29 +1,63 @@
--- What normalising answers.
-use Rattle.std.specs.Prelude.{ℕ, List, length, Some, codes}
+-- What normalising a source into a writer answers.
+use Rattle.std.specs.Prelude.{ℕ, ◌/◌, List, Option, None, Result, Ok, Err, codes, length}
+use Rattle.std.specs.Io.KnownBytes.{Appends, Keeps}
+use Rattle.ubi_media.specs.Geometry.{Sizes}
 use Rattle.ubi_media.specs.declared.refusal.Refusal.{Refusal}
 use Rattle.ubi_scan.specs.Image.{Image}
+use Rattle.ubi_scan.specs.Source.{Source, failed, unheld}
+use Rattle.ubi_scan.specs.declared.errors.StreamError.TheVariants as stream
 use Rattle.ubi_volume.specs.Accepts.{Accepts, Refuses}
 use Rattle.ubi_volume.specs.Meant.{Meant}
+use Rattle.ubi_volume.specs.Places.{ArePlacesError}
 use Rattle.ubi_compose.specs.Normal.{normal_blocks, normal_bytes}
-use Rattle.ubi_tool.specs.Answer.{Answer, Gives, says}
+use Rattle.ubi_compose.specs.Streamed.{IsNormaliseToError, IsNormalisedTo}
+use Rattle.ubi_tool.specs.Answer.{Gives, says}
 use Rattle.ubi_tool.specs.Lines.{blocks_line, file_line, refusal_line}
 use Rattle.ubi_tool.specs.declared.outcome.Outcome.{Outcome}
+use Rattle.ubi_tool.specs.declared.outcome.ToolError.{ToolError}
+use Rattle.ubi_tool.specs.declared.outcome.ToolError.TheVariants as tool
 
--- the number of eraseblocks of the normal image, and its bytes
-abbrev pub normal_answer : Meant → Answer
-normal_answer m = record {
-  text = blocks_line (length (normal_blocks m));
-  status = 0;
-  file = Some (normal_bytes m);
-}
+-- what the command answers of an image: how many eraseblocks the normal image of what it means has, and the writer
+-- received that; or the line of its refusal, and the writer received nothing
+pub data Normalises (image : Image) (old new : Option (List ℕ)) : Outcome → Type 0 where
+  accepted : {o : Outcome} (m : Meant) → Accepts image m → Gives o (says (blocks_line (length (normal_blocks m))) 0)
+      → Appends old new (normal_bytes m) → Normalises image old new o
+  refused : {o : Outcome} (c : Refusal) → Refuses image c → Gives o (says (refusal_line c) 1) → Keeps old new
+      → Normalises image old new o
 
--- what the command answers of an image: that of what it means, or the line of its refusal
-pub data Normalises (image : Image) : Outcome → Type 0 where
-  accepted : {o : Outcome} (m : Meant) → Accepts image m → Gives o (normal_answer m) → Normalises image o
-  refused : {o : Outcome} (c : Refusal) → Refuses image c → Gives o (says (refusal_line c) 1) → Normalises image o
+-- what it answers of any source: how many eraseblocks the n bytes are that the writer received; or the line of a refusal,
+-- and the writer received nothing
+pub data NormalisesTo (s : Sizes) (k : Source) (old new : Option (List ℕ)) : Outcome → Type 0 where
+  wrote : {o : Outcome} (n : ℕ) → IsNormalisedTo s k old new n → Gives o (says (blocks_line (n / s.peb_size)) 0)
+      → NormalisesTo s k old new o
+  wrote_nothing : {o : Outcome} (c : Refusal) → ArePlacesError s k (stream.Refused c) → Gives o (says (refusal_line c) 1) → Keeps old new
+      → NormalisesTo s k old new o
 
--- what it answers over files: the same, or the line of an output that can't be written
+-- why it answers nothing: memory ran out, and the writer received nothing; or a read or a write failed, and it received a
+-- first part
+abbrev pub IsNormaliseError : Sizes → Source → Option (List ℕ) → Option (List ℕ) → ToolError → Type 0
+IsNormaliseError s k old new tool.Memory = Keeps old new
+IsNormaliseError s k old new tool.Read = (p : ℕ) × (n : ℕ) × IsNormaliseToError s k old new (stream.Read p n)
+IsNormaliseError s k old new tool.Write = (n : ℕ) × IsNormaliseToError s k old new (stream.Write n)
+
+-- what is known of a source then: one read failed where the answer is Read, none where it isn't
+abbrev pub after_fault : Source → ToolError → Source
+after_fault k tool.Read = failed k
+after_fault k _ = k
+
+abbrev pub after_run : Source → Result Outcome ToolError → Source
+after_run k (Ok _) = k
+after_run k (Err e) = after_fault k e
+
+-- what it answers of an image into a file, of whose bytes nothing is known: the same, or the line of an output that can't
+-- be written
 pub data NormalisesInto (out : List ℕ) (image : Image) : Outcome → Type 0 where
-  written : {o : Outcome} → Normalises image o → NormalisesInto out image o
+  written : {o : Outcome} → Normalises image None None o → NormalisesInto out image o
   unwritten : {o : Outcome} (m : Meant) → Accepts image m → Gives o (says (file_line (codes "cannot write ") out) 1)
       → NormalisesInto out image o
+
+-- what it answers of a file of some size whose bytes nothing tells either: the same, or the line of the file that fails
+pub data NormalisesFile (s : Sizes) (path out : List ℕ) : Outcome → Type 0 where
+  told : {o : Outcome} (size failures : ℕ) → NormalisesTo s (unheld size failures) None None o → NormalisesFile s path out o
+  cannot_read : {o : Outcome} → Gives o (says (file_line (codes "cannot read ") path) 1) → NormalisesFile s path out o
+  cannot_write : {o : Outcome} → Gives o (says (file_line (codes "cannot write ") out) 1) → NormalisesFile s path out o

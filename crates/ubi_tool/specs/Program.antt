@@ -10,7 +10,7 @@ use Rattle.ubi_tool.specs.Compose.{ComposesInto}
 use Rattle.ubi_tool.specs.Extract.{ExtractsInto}
 use Rattle.ubi_tool.specs.Lines.{file_line, geometry_line}
 use Rattle.ubi_tool.specs.List.{Lists}
-use Rattle.ubi_tool.specs.Normalise.{NormalisesInto}
+use Rattle.ubi_tool.specs.Normalise.{NormalisesFile, NormalisesInto}
 use Rattle.ubi_tool.specs.Numbers.{sizes_of}
 use Rattle.ubi_tool.specs.Same.{Compares}
 use Rattle.ubi_tool.specs.Show.{Shows}
@@ -54,6 +54,13 @@ pub data OfText (numbers : Numbers) (path : List ℕ) (answers : Sizes → List 
   text : {o : Outcome} (bytes : List ℕ) → first_broken (sizes_of numbers) ≡ None → length bytes ≤ text_limit (sizes_of numbers)
       → answers (sizes_of numbers) bytes o → OfText numbers path answers o
 
+-- what normalising one file into another can answer: that of an image that was read whole, or that of a file that is read
+-- at places
+pub data NormalisesFiles (numbers : Numbers) (path out : List ℕ) : Outcome → Type 0 where
+  whole : {o : Outcome} → OfImage numbers path (NormalisesInto out) o → NormalisesFiles numbers path out o
+  places : {o : Outcome} → first_broken (sizes_of numbers) ≡ None → NormalisesFile (sizes_of numbers) path out o
+      → NormalisesFiles numbers path out o
+
 -- once the file of an outcome is written, if it has one: the outcome, or the line of a file that can't be written
 pub data IsWritten (path : List ℕ) (outcome : Outcome) : Outcome → Type 0 where
   written : IsWritten path outcome outcome
@@ -68,7 +75,7 @@ pub data IsAnswer : Outcome → Type 0 where
   extract : {o : Outcome} (numbers : Numbers) (path out : List ℕ) (id : ℕ) → OfImage numbers path (ExtractsInto id out) o → IsAnswer o
   compose : {o : Outcome} (numbers : Numbers) (path out : List ℕ) (spares : ℕ)
       → OfText numbers path (λ s t. ComposesInto out s t spares) o → IsAnswer o
-  normalise : {o : Outcome} (numbers : Numbers) (path out : List ℕ) → OfImage numbers path (NormalisesInto out) o → IsAnswer o
+  normalise : {o : Outcome} (numbers : Numbers) (path out : List ℕ) → NormalisesFiles numbers path out o → IsAnswer o
   same : {o : Outcome} (numbers : Numbers) (left right : List ℕ) → OfImage numbers left (λ i. OfImage numbers right (Compares i)) o → IsAnswer o
   change : {o : Outcome} (numbers : Numbers) (path from out : List ℕ) (id lnum : ℕ) (stop : Option ℕ)
       → OfImage numbers path (λ i. OfImage numbers from (λ f. ChangesInto id lnum f.bytes stop out i)) o → IsAnswer o

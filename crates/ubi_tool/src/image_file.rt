@@ -98,6 +98,13 @@ pub fn limit_line(alloc: Global, limit: GeometryError) -> Result<Outcome, AllocE
     Ok(Outcome::saying(geometry_line(alloc, limit)?, WRONG_WORDS))
 }
 
+/// The line of a file that can't be read.
+pub fn unread_line(alloc: Global, path: &str) -> Result<Outcome, AllocError>
+    ensures { IfOk result (λ o. Gives o (says (file_line (codes "cannot read ") path.now) 1)) }
+{
+    Ok(Outcome::saying(file_line(alloc, "cannot read ", path)?, FAILED))
+}
+
 /// What is told of a file that couldn't be read: its line, or that memory ran out.
 pub fn unread_file(alloc: Global, path: &str, error: ToolError) -> Unread
     ensures line { Tells (λ o. Gives o (says (file_line (codes "cannot read ") path.now) 1)) result }
@@ -106,8 +113,8 @@ pub fn unread_file(alloc: Global, path: &str, error: ToolError) -> Unread
     if error == ToolError::Memory {
         return Unread::Memory;
     }
-    match file_line(alloc, "cannot read ", path) {
-        Ok(text) => Unread::Told(Outcome::saying(text, FAILED)),
+    match unread_line(alloc, path) {
+        Ok(outcome) => Unread::Told(outcome),
         Err(AllocError) => Unread::Memory,
     }
 }

@@ -1,6 +1,6 @@
 //! Printed lines.
 
-ghost use Rattle.std.specs.Prelude.{◌≡◌, ◌++◌, IfOk, OnOk, codes, decimal};
+ghost use Rattle.std.specs.Prelude.{◌≡◌, ◌+◌, ◌++◌, ◌≤◌, IfOk, IsOk, OnOk, codes, decimal, vec_capacity, vec_len};
 ghost use Rattle.std.specs.List.{flat_map};
 ghost use Rattle.ubi_tool.specs.Lines.{blocks_line, bytes_line, comparison_line, detail_text, ec_fault_name, file_line, geometry_line, no_block_line, read_line, rec_fault_name, refusal_line, refused, side_line, vid_fault_name};
 
@@ -237,13 +237,30 @@ pub fn bytes_line(alloc: Global, count: u64) -> Result<Vec<u8>, AllocError>
     Ok(text)
 }
 
+/// The bytes of the longest line of a number of eraseblocks: its word, twenty digits and the line's end.
+pub const LONGEST_BLOCKS_LINE: usize = 28;
+
+/// Adds the line of a number of eraseblocks. Where there is room for the longest one, it takes no memory.
+///
+/// # Errors
+///
+/// Memory ran out.
+pub fn put_blocks_line(text: &mut Vec<u8>, count: u64) -> Result<(), AllocError>
+    ensures line { OnOk result (text.new.items ≡ text.old.items ++ blocks_line count) }
+    ensures room { vec_len text.old + 28 ≤ vec_capacity text.old → IsOk result }
+{
+    let mut buffer = Buffer::new();
+    text.extend_from_slice(b"blocks ")?;
+    text.extend_from_slice(buffer.format(count).as_bytes())?;
+    text.extend_from_slice(b"\n")
+}
+
 /// The line of a number of eraseblocks.
 pub fn blocks_line(alloc: Global, count: usize) -> Result<Vec<u8>, AllocError>
     ensures { IfOk result (λ text. text.items ≡ blocks_line count) }
 {
     let mut text = Vec::new(alloc);
-    put_number(&mut text, "blocks ", count as u64)?;
-    put_word(&mut text, "\n")?;
+    put_blocks_line(&mut text, count as u64)?;
     Ok(text)
 }
 

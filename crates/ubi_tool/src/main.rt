@@ -13,6 +13,7 @@ mod command_line;
 mod compose;
 mod extract;
 mod image_file;
+mod image_source;
 mod late_file;
 mod laws;
 mod lines;

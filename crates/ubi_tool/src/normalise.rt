@@ -1,32 +1,48 @@
-//! The command `normalise`: the normal image of what an image means.
+//! The command `normalise`: the normal image of what a source holds, into a writer.
 
 ghost use Rattle.std.specs.Prelude.{◌≡◌, IfErr, IfOk};
-ghost use Rattle.ubi_tool.specs.Normalise.{Normalises};
+ghost use Rattle.ubi_scan.specs.Source.{WhereHeld};
+ghost use Rattle.ubi_tool.specs.Normalise.{IsNormaliseError, Normalises, NormalisesTo, after_run};
 
-use crate::lines::{blocks_line, refusal_line};
+use crate::lines::{LONGEST_BLOCKS_LINE, put_blocks_line, refusal_line};
 use crate::outcome::{DONE, FAILED, Outcome, ToolError};
 use std::alloc::Global;
-use ubi_compose::normalise;
-use ubi_media::{AttachError, Geometry};
+use std::io::Write;
+use ubi_compose::normalise_to;
+use ubi_media::Geometry;
+use ubi_scan::{BlockSource, StreamError};
 
-/// Normalises an image: the number of eraseblocks of its normal image and their bytes, or the line of its refusal.
+/// Writes the normal image of what a source holds, and answers how many eraseblocks it has; or the line of its refusal,
+/// and nothing is written then.
+///
+/// The room for the answer is taken before the first byte is written.
 ///
 /// # Errors
 ///
-/// Memory where memory ran out.
-pub fn run_normalise(alloc: Global, geometry: &Geometry, image: &[u8]) -> Result<Outcome, ToolError>
-    ensures ok { IfOk result (Normalises (record { sizes = geometry.now; bytes = image.now })) }
-    ensures err { IfErr result (λ e. e ≡ ToolError.Memory) }
+/// Read where a read failed, and Write where a write failed: the writer received the first of the bytes then. Memory
+/// where memory ran out, and nothing is written then.
+pub fn run_normalise<S: BlockSource, W: Write>(
+    alloc: Global,
+    geometry: &Geometry,
+    source: &mut S,
+    writer: &mut W,
+) -> Result<Outcome, ToolError>
+    ensures known { S.known source.new ≡ after_run (S.known source.old) result }
+    ensures ok { IfOk result (NormalisesTo geometry.now (S.known source.old) (W.contents writer.old) (W.contents writer.new)) }
+    ensures image { IfOk result (λ o. WhereHeld (S.known source.old) (λ bytes. Normalises (record { sizes = geometry.now; bytes = bytes }) (W.contents writer.old) (W.contents writer.new) o)) }
+    ensures err { IfErr result (IsNormaliseError geometry.now (S.known source.old) (W.contents writer.old) (W.contents writer.new)) }
 {
-    match normalise(alloc, geometry, image) {
-        Ok(normal) => Ok(Outcome {
-            text: blocks_line(alloc, normal.len() / geometry.peb_size() as usize)?,
-            status: DONE,
-            file: Some(normal),
-        }),
-        Err(AttachError::Refused(cause)) => {
+    let mut line = Vec::with_capacity(alloc, LONGEST_BLOCKS_LINE)?;
+    match normalise_to(alloc, geometry, source, writer) {
+        Ok(count) => {
+            put_blocks_line(&mut line, count / u64::from(geometry.peb_size()))?;
+            Ok(Outcome::saying(line, DONE))
+        }
+        Err(StreamError::Refused(cause)) => {
             Ok(Outcome::saying(refusal_line(alloc, cause)?, FAILED))
         }
-        Err(AttachError::Memory) => Err(ToolError::Memory),
+        Err(StreamError::Read(_, _)) => Err(ToolError::Read),
+        Err(StreamError::Write(_)) => Err(ToolError::Write),
+        Err(StreamError::Memory) => Err(ToolError::Memory),
     }
 }

@@ -14,6 +14,7 @@ mod list;
 mod memory;
 mod normal;
 mod normalise;
+mod normalise_files;
 mod printing;
 mod same;
 mod show;

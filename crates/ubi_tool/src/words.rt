@@ -7,8 +7,8 @@ ghost use Rattle.ubi_tool.specs.Check.{Checks};
 ghost use Rattle.ubi_tool.specs.Compose.{ComposesInto};
 ghost use Rattle.ubi_tool.specs.Extract.{ExtractsInto};
 ghost use Rattle.ubi_tool.specs.List.{Lists};
-ghost use Rattle.ubi_tool.specs.Normalise.{NormalisesInto};
-ghost use Rattle.ubi_tool.specs.Program.{IsAnswer, OfImage, OfText};
+ghost use Rattle.ubi_tool.specs.Normalise.{NormalisesFile, NormalisesInto};
+ghost use Rattle.ubi_tool.specs.Program.{IsAnswer, NormalisesFiles, OfImage, OfText};
 ghost use Rattle.ubi_tool.specs.Same.{Compares};
 ghost use Rattle.ubi_tool.specs.Show.{Shows};
 
@@ -17,11 +17,12 @@ use crate::check::run_check;
 use crate::command_line::{Change, Request, command_line, request_of};
 use crate::compose::run_compose;
 use crate::extract::run_extract;
-use crate::image_file::load;
+use crate::image_file::{limit_line, load, unread_line};
+use crate::image_source::source_of;
 use crate::late_file::LateFile;
 use crate::list::run_list;
 use crate::normalise::run_normalise;
-use crate::numbers::Numbers;
+use crate::numbers::{Numbers, geometry_of};
 use crate::outcome::{DONE, Outcome, ToolError, WRONG_WORDS};
 use crate::output_file::{unwritten, write_outcome};
 use crate::same::run_same;
@@ -31,6 +32,9 @@ use clap::Error;
 use clap::error::ErrorKind;
 use std::alloc::{AllocError, Global};
 use std::fs::Files;
+use std::os::unix::fs::FileExt;
+use ubi_media::Geometry;
+use ubi_scan::{FileSource, MemorySource};
 
 /// Runs the command that the words name, over files. The first word is the program's name.
 ///
@@ -45,6 +49,8 @@ pub fn run_words<R: Files + Eprint>(
     alloc: Global,
     words: &[String],
 ) -> Result<Outcome, AllocError>
+where
+    R::File: FileExt,
     ensures { IfOk result IsAnswer }
 {
     let matches = match command_line(alloc)?.try_get_matches_from(words) {
@@ -59,6 +65,8 @@ pub fn run_words<R: Files + Eprint>(
 
 /// Runs what the words ask for.
 fn run_request<R: Files>(rt: &R, alloc: Global, request: Request<'_>) -> Result<Outcome, AllocError>
+where
+    R::File: FileExt,
     ensures { IfOk result IsAnswer }
 {
     match request {
@@ -204,8 +212,57 @@ fn compose_file<R: Files>(
     }
 }
 
-/// Normalises one file into another.
+/// Normalises one file into another, which is opened at the first write. The image is read at places, or whole where
+/// that can't be or where it may be the output too.
 fn normalise_file<R: Files>(
+    rt: &R,
+    alloc: Global,
+    numbers: Numbers,
+    image: &str,
+    out: &str,
+) -> Result<Outcome, AllocError>
+where
+    R::File: FileExt,
+    ensures { IfOk result (NormalisesFiles numbers image.now out.now) }
+{
+    let geometry = match geometry_of(numbers) {
+        Ok(geometry) => geometry,
+        Err(limit) => return limit_line(alloc, limit),
+    };
+    match source_of(rt, image, out) {
+        Some(source) => normalise_places(rt, alloc, &geometry, source, image, out),
+        None => normalise_whole(rt, alloc, numbers, image, out),
+    }
+}
+
+/// Normalises a file that is read at places.
+fn normalise_places<R: Files>(
+    rt: &R,
+    alloc: Global,
+    geometry: &Geometry,
+    mut source: FileSource<R::File>,
+    image: &str,
+    out: &str,
+) -> Result<Outcome, AllocError>
+where
+    R::File: FileExt,
+    ensures { IfOk result (NormalisesFile geometry.now image.now out.now) }
+{
+    // Made before the output is opened, so that no part of it is written where memory runs out.
+    let unread = unread_line(alloc, image)?;
+    let unwritten = unwritten(alloc, out)?;
+    let mut late = LateFile::new(rt, out);
+    match run_normalise(alloc, geometry, &mut source, &mut late) {
+        Ok(outcome) if outcome.status == DONE && late.finish().is_err() => Ok(unwritten),
+        Ok(outcome) => Ok(outcome),
+        Err(ToolError::Read) => Ok(unread),
+        Err(ToolError::Write) => Ok(unwritten),
+        Err(ToolError::Memory) => Err(AllocError),
+    }
+}
+
+/// Normalises a file that is read whole.
+fn normalise_whole<R: Files>(
     rt: &R,
     alloc: Global,
     numbers: Numbers,
@@ -218,8 +275,14 @@ fn normalise_file<R: Files>(
         Ok(file) => file,
         Err(unread) => return unread.answer(),
     };
-    match run_normalise(alloc, &file.geometry, file.bytes.as_slice()) {
-        Ok(outcome) => write_outcome(rt, alloc, outcome, out),
+    // Made before the output is opened, so that no part of it is written where memory runs out.
+    let unwritten = unwritten(alloc, out)?;
+    let mut late = LateFile::new(rt, out);
+    let mut source = MemorySource::new(file.bytes.as_slice());
+    match run_normalise(alloc, &file.geometry, &mut source, &mut late) {
+        Ok(outcome) if outcome.status == DONE && late.finish().is_err() => Ok(unwritten),
+        Ok(outcome) => Ok(outcome),
+        Err(ToolError::Write) => Ok(unwritten),
         Err(_) => Err(AllocError),
     }
 }

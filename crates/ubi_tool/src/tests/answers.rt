@@ -1,14 +1,18 @@
 //! What commands answer, over bytes and over files, compared with what they are to answer.
 
 use super::fake::{Broken, FakeFiles};
+use crate::normalise::run_normalise;
 use crate::outcome::{Outcome, ToolError};
 use crate::words::run_words;
 use std::alloc::{AllocError, Global};
 use std::cell::RefCell;
 use std::fs::Files;
+use std::os::unix::fs::FileExt;
 use std::process::Abort;
 use std::test::Fail;
 use ubi_media::{Geometry, GeometryError};
+use ubi_scan::MemorySource;
+use ubi_volume::{Failure, ProbeWriter};
 
 /// The geometry of small eraseblocks.
 pub fn small() -> Result<Geometry, GeometryError> {
@@ -29,12 +33,31 @@ pub fn assert_says(
     Ok(())
 }
 
+/// Asserts what is answered of the bytes of an image that is normalised, and what a writer with ample room receives.
+pub fn assert_normal(
+    rt: &impl Abort,
+    alloc: Global,
+    image: &[u8],
+    (line, status): (&str, u8),
+    want: &[u8],
+) -> Result<(), Fail> {
+    let mut source = MemorySource::new(image);
+    let mut writer = ProbeWriter::new(alloc, 4096, 100, Failure::Nothing)?;
+    let answer = run_normalise(alloc, &small()?, &mut source, &mut writer);
+    assert_says(rt, answer, line, status)?;
+    assert_eq!(rt; writer.taken(), want);
+    Ok(())
+}
+
 /// Runs the words of a line over files, with the program's name before them.
 pub fn run_line<R: Files + Eprint>(
     files: &R,
     alloc: Global,
     line: &str,
-) -> Result<Outcome, AllocError> {
+) -> Result<Outcome, AllocError>
+where
+    R::File: FileExt,
+{
     let mut words = Vec::new(alloc);
     words.push(String::from_str(alloc, "ubi_tool")?)?;
     for word in line.split_whitespace() {
@@ -50,7 +73,10 @@ pub fn assert_line<R: Files + Eprint + Abort>(
     line: &str,
     text: &str,
     status: u8,
-) -> Result<(), Fail> {
+) -> Result<(), Fail>
+where
+    R::File: FileExt,
+{
     let line = format!(in alloc; "{line} --peb 512 --page 64 --pebs 32")?;
     let outcome = run_line(rt, alloc, line.as_str())?;
     assert_eq!(rt; outcome.text.as_slice(), text.as_bytes());

@@ -1,10 +1,9 @@
 //! Images that are refused for a fault of an eraseblock, of the table or of a volume: the lines of `normalise`.
 
-use super::answers::{assert_says, small};
+use super::answers::{assert_normal, small};
 use super::images::{
     CHECK_OF_41, COPY_FLAG_2, VERSION_2, ec_of, fixed, overwrite, plain, put_block, root_image,
 };
-use crate::normalise::run_normalise;
 use std::alloc::Global;
 use std::process::Abort;
 use std::test::Fail;
@@ -22,8 +21,7 @@ fn assert_line(
     let mut image = root_image(alloc, &geometry)?;
     overwrite(image.as_mut_slice(), usize::from(at), bytes);
     overwrite(image.as_mut_slice(), usize::from(then), more);
-    let answer = run_normalise(alloc, &geometry, image.as_slice());
-    assert_says(rt, answer, line, 1)
+    assert_normal(rt, alloc, image.as_slice(), (line, 1), &[])
 }
 
 /// Nothing to write.
@@ -70,8 +68,8 @@ fn names_the_fault_of_a_member(rt: HostRuntime) -> Result<(), Fail> {
     overwrite(image.as_mut_slice(), 2 * 512 + 64, &five);
     overwrite(image.as_mut_slice(), 3 * 512 + 64, &seven);
     overwrite(image.as_mut_slice(), 4 * 512 + 64, &five);
-    let answer = run_normalise(alloc, &geometry, image.as_slice());
-    assert_says(&rt, answer, "refused S8 SameSqnum block=4 earlier=2\n", 1)?;
+    let line = "refused S8 SameSqnum block=4 earlier=2\n";
+    assert_normal(&rt, alloc, image.as_slice(), (line, 1), &[])?;
     let beyond = VidHeader {
         compat: 5,
         ..plain(0x7FFF_EFFF, 2, 0)
@@ -92,9 +90,8 @@ fn assert_incompatible(rt: &impl Abort, alloc: Global, compat: u8) -> Result<(),
     };
     let mut image = root_image(alloc, &geometry)?;
     put_block(&mut image, &ec_of(&geometry, 0), &header, &[])?;
-    let answer = run_normalise(alloc, &geometry, image.as_slice());
     let line = "refused S6 Incompatible block=5 volume=2147479552\n";
-    assert_says(rt, answer, line, 1)
+    assert_normal(rt, alloc, image.as_slice(), (line, 1), &[])
 }
 
 #[test]
@@ -125,8 +122,8 @@ fn names_an_image_without_a_table(rt: HostRuntime) -> Result<(), Fail> {
     let geometry = small()?;
     let mut free = [0xFF; 512];
     overwrite(&mut free, 0, &ec_of(&geometry, 0));
-    let answer = run_normalise(rt.alloc(), &geometry, &free);
-    assert_says(&rt, answer, "refused T1 NoTable\n", 1)
+    let line = ("refused T1 NoTable\n", 1);
+    assert_normal(&rt, rt.alloc(), &free, line, &[])
 }
 
 #[test]

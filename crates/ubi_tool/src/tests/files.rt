@@ -29,21 +29,6 @@ fn normalises_a_file_twice(rt: HostRuntime) -> Result<(), Fail> {
 }
 
 #[test]
-fn normalises_a_file_onto_itself(rt: HostRuntime) -> Result<(), Fail> {
-    let alloc = rt.alloc();
-    let want = normal_nothing(alloc)?;
-    fs::write(&rt, "onto_itself.img", [0xFF; 1536].as_slice())?;
-    let line = "normalise onto_itself.img --out onto_itself.img";
-    assert_line(&rt, alloc, line, "blocks 2\n", 0)?;
-    assert_eq!(rt;
-        fs::read(&rt, "onto_itself.img")?.as_slice(),
-        want.as_slice()
-    );
-    fs::remove_file(&rt, "onto_itself.img")?;
-    Ok(())
-}
-
-#[test]
 fn opens_no_file_where_the_work_is_refused(rt: HostRuntime) -> Result<(), Fail> {
     let alloc = rt.alloc();
     let geometry = small()?;

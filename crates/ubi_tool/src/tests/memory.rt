@@ -22,6 +22,7 @@ use std::cell::RefCell;
 use std::process::Abort;
 use std::test::Fail;
 use ubi_media::Geometry;
+use ubi_scan::MemorySource;
 
 /// A text of a dynamic and a static volume, with an eraseblock each.
 const SPEC: &[u8] = b"volume 0 dynamic 20 1 00 root\nleb 0 1 6162\n\
@@ -52,6 +53,18 @@ fn is_extracted(rt: &impl Abort, alloc: Global, geometry: &Geometry, image: &[u8
     is_told
 }
 
+/// Whether `normalise` wrote the whole normal image. Else memory ran out, and nothing was written.
+fn is_normalised(rt: &impl Abort, alloc: Global, geometry: &Geometry, image: &[u8]) -> bool {
+    let mut written = [0; 2560];
+    let mut writer = written.as_mut_slice();
+    let mut source = MemorySource::new(image);
+    let answer = run_normalise(alloc, geometry, &mut source, &mut writer);
+    let is_told = is_told(rt, answer, "blocks 5\n");
+    let wanted = if is_told { root_bytes() } else { [0; 2560] };
+    assert!(rt; written == wanted);
+    is_told
+}
+
 /// Whether `change` answered its plan, and the file of its last step. Else memory ran out.
 fn is_changed(rt: &impl Abort, alloc: Global, geometry: &Geometry) -> bool {
     let image = spare_bytes();
@@ -78,7 +91,7 @@ fn tells_all_or_runs_out_of_memory(rt: HostRuntime) -> Result<(), Fail> {
         is_told(&rt, run_check(alloc, &geometry, &image), "blocks 5\n"),
         is_told(&rt, run_show(alloc, &geometry, &image, 4), "ec valid 5542"),
         is_extracted(&rt, alloc, &geometry, &image),
-        is_told(&rt, run_normalise(alloc, &geometry, &image), "blocks 5\n"),
+        is_normalised(&rt, alloc, &geometry, &image),
         is_told(&rt, run_same(alloc, &geometry, &image, &image), "same\n"),
         is_told(&rt, run_compose(alloc, &geometry, SPEC, 1), "blocks 5\n"),
         is_changed(&rt, alloc, &geometry),
@@ -111,7 +124,7 @@ fn is_run(
         }
         Ok(outcome) => {
             // The fake file itself had no memory to keep what it was given.
-            assert_eq!(rt; outcome.text.as_slice(), b"cannot write b\n".as_slice());
+            assert!(rt; outcome.text.as_slice().starts_with(b"cannot write "));
             false
         }
         Err(AllocError) => {
@@ -129,6 +142,7 @@ fn runs_words_or_out_of_memory(rt: HostRuntime) -> Result<(), Fail> {
     let show = "show a --block 4 --peb 512 --page 64";
     let extract = "extract a --id 0 --out b --peb 512 --page 64";
     let normalise = "normalise a --out b --peb 512 --page 64";
+    let normalise_whole = "normalise a --out a --peb 512 --page 64";
     let same = "same a b --peb 512 --page 64";
     let change = "change a --id 0 --lnum 1 --from new.bin --out b --peb 512 --page 64";
     let compose = "compose a --spares 1 --out b --peb 512 --page 64";
@@ -138,6 +152,7 @@ fn runs_words_or_out_of_memory(rt: HostRuntime) -> Result<(), Fail> {
         is_run(&rt, alloc, image, show, ("ec valid 5542", 0)),
         is_run(&rt, alloc, image, extract, ("bytes 7680\n", 7680)),
         is_run(&rt, alloc, image, normalise, ("blocks 5\n", 2560)),
+        is_run(&rt, alloc, image, normalise_whole, ("blocks 5\n", 2560)),
         is_run(&rt, alloc, image, same, ("same\n", 0)),
         is_run(&rt, alloc, spare, change, ("steps 4\n", 3072)),
         is_run(&rt, alloc, SPEC, compose, ("blocks 5\n", 2560)),

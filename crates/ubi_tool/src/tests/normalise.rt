@@ -1,6 +1,7 @@
-//! The command `normalise` over bytes.
+//! The command `normalise`: which bytes images are normalised to.
 
-use super::answers::{assert_says, small};
+use super::answers::{assert_normal, assert_over, small};
+use super::fake::Broken;
 use super::images::{
     damaged_boot, ec_of, motley_image, overwrite, plain, put_block, reversed_image, rivals_image,
     root_image, table_image, updating_image, whole_boot,
@@ -9,13 +10,13 @@ use super::normal::{
     ALIGNED_ROOT, normal_aligned, normal_boot, normal_damaged, normal_first, normal_nothing,
     normal_root, normal_updating,
 };
-use crate::normalise::run_normalise;
 use std::alloc::Global;
 use std::process::Abort;
 use std::test::Fail;
 use ubi_media::VidHeader;
 
-/// Asserts which bytes an image is normalised to, and with which line.
+/// Asserts which bytes an image is normalised to, and with which line: in memory, as a file that is read at places, and
+/// as one that is read whole, since it has none.
 fn assert_gives(
     rt: &impl Abort,
     alloc: Global,
@@ -23,12 +24,10 @@ fn assert_gives(
     want: &[u8],
     line: &str,
 ) -> Result<(), Fail> {
-    let outcome = run_normalise(alloc, &small()?, image)?;
-    assert_eq!(rt; outcome.text.as_slice(), line.as_bytes());
-    assert_eq!(rt; outcome.status, 0);
-    let normal = outcome.file.ok_or("no file")?;
-    assert_eq!(rt; normal.as_slice(), want);
-    Ok(())
+    let words = "normalise a.img --out b.img";
+    assert_normal(rt, alloc, image, (line, 0), want)?;
+    assert_over(rt, alloc, (image, Broken::Whole), words, (line, 0), want)?;
+    assert_over(rt, alloc, (image, Broken::Places), words, (line, 0), want)
 }
 
 /// Asserts the same, and that these bytes are normalised to themselves.
@@ -150,30 +149,23 @@ fn takes_either_copy_of_the_table(rt: HostRuntime) -> Result<(), Fail> {
     assert_other_copy(&rt, alloc, 511)
 }
 
+/// Asserts the line of bytes that are no image: in memory, as a file that is read at places, and as one that is read
+/// whole. Nothing is written.
+fn assert_no_image(rt: &impl Abort, alloc: Global, image: &[u8], line: &str) -> Result<(), Fail> {
+    let words = "normalise a.img --out b.img";
+    assert_normal(rt, alloc, image, (line, 1), &[])?;
+    assert_over(rt, alloc, (image, Broken::Whole), words, (line, 1), &[])?;
+    assert_over(rt, alloc, (image, Broken::Places), words, (line, 1), &[])
+}
+
 #[test]
 fn refuses_what_is_no_image(rt: HostRuntime) -> Result<(), Fail> {
     let alloc = rt.alloc();
-    let geometry = small()?;
     let bytes: &[u8] = &[0xFF; 16_896];
     let (length, many) = ("refused S1 Length\n", "refused S2 TooMany\n");
-    assert_says(&rt, run_normalise(alloc, &geometry, &[]), length, 1)?;
-    assert_says(
-        &rt,
-        run_normalise(alloc, &geometry, &bytes[..511]),
-        length,
-        1,
-    )?;
-    assert_says(
-        &rt,
-        run_normalise(alloc, &geometry, &bytes[..513]),
-        length,
-        1,
-    )?;
-    assert_says(&rt, run_normalise(alloc, &geometry, bytes), many, 1)?;
-    assert_says(
-        &rt,
-        run_normalise(alloc, &geometry, &bytes[..16_385]),
-        many,
-        1,
-    )
+    assert_no_image(&rt, alloc, &[], length)?;
+    assert_no_image(&rt, alloc, &bytes[..511], length)?;
+    assert_no_image(&rt, alloc, &bytes[..513], length)?;
+    assert_no_image(&rt, alloc, bytes, many)?;
+    assert_no_image(&rt, alloc, &bytes[..16_385], many)
 }

@@ -1,27 +1,30 @@
-use Rattle.std.proofs.Common.{◌≡◌, ℕ, ◌/◌, List, Some, length, ap, refl, subst, sym, ◌∙◌}
-use Rattle.ubi_media.specs.Geometry.{IsGeometry}
+use Rattle.std.proofs.Common.{◌≡◌, ◌/◌}
 use Rattle.ubi_tool.specs.Lines.{blocks_line}
-use Rattle.ubi_tool.specs.Normalise.{accepted, refused}
-use Rattle.ubi_compose.proofs.Form.{count-normal_bytes}
+use Rattle.ubi_tool.specs.Normalise.{refused, wrote, wrote_nothing}
+use Rattle.ubi_tool.proofs.Normalised.{of_streamed, refuses}
 use Rattle.ubi_tool.proofs.normalise.run_normalise.Goals as goal
 
--- how many eraseblocks bytes have
-count : {len size peb_size : ℕ} {xs ys : List ℕ} → len ≡ length xs → size ≡ peb_size → xs ≡ ys → len / size ≡ length ys / peb_size
-count e f same = rw (e, f, same) refl
+pub returns-in-Ok-clause-ok : goal.returns-in-Ok-clause-ok
+returns-in-Ok-clause-ok g c =
+    let line : c.put_blocks_line.new.text.items ≡ blocks_line (c.in-Ok.count / c.args.geometry.now.peb_size) =
+    rw (c.in_ok-line.ensures.items, c.from.ensures, c.peb_size.ensures.value) at c.in_ok-put_blocks_line-in-Ok.ensures.line in
+    wrote c.in-Ok.count c.in-Ok.ensures.written (rw line at c.saying.ensures)
 
-pub returns-in_ok-blocks_line-in-Ok-clause-ok : goal.returns-in_ok-blocks_line-in-Ok-clause-ok
-returns-in_ok-blocks_line-in-Ok-clause-ok c =
-    let normal = c.in-Ok.ensures.normal in
-    let means = normal.1.accepted.means in
-    let size = c.peb_size.ensures.value ∙ ap (λ s. s.peb_size) (sym means.sizes) in
-    let blocks = count-normal_bytes normal.0 (subst IsGeometry (sym means.sizes) c.peb_size.ensures.limits) means.meaning in
-    accepted normal.0 normal.1 (record {
-      text = c.in_ok-blocks_line-in-Ok.ensures ∙ ap blocks_line (count (c.len.ensures ∙ c.in-Ok.normal.ok.0) size normal.2 ∙ blocks);
-      status = refl;
-      file = ap Some normal.2;
-    })
+pub returns-in-Ok-clause-image : goal.returns-in-Ok-clause-image
+returns-in-Ok-clause-image g c bytes holds =
+    let line : c.put_blocks_line.new.text.items ≡ blocks_line (c.in-Ok.count / c.args.geometry.now.peb_size) =
+    rw (c.in_ok-line.ensures.items, c.from.ensures, c.peb_size.ensures.value) at c.in_ok-put_blocks_line-in-Ok.ensures.line in
+    of_streamed c.args.geometry.now bytes _ _ c.in-Ok.count _ c.peb_size.ensures.limits (c.in-Ok.ensures.written.held bytes holds)
+    (rw line at c.saying.ensures)
 
-pub returns-in_ok-refusal_line-in-Err-Refused-clause-ok : goal.returns-in_ok-refusal_line-in-Err-Refused-clause-ok
-returns-in_ok-refusal_line-in-Err-Refused-clause-ok c =
-    refused c.in-Err-Refused.cause (rw c.in-Err-Refused.field-0-is at c.in-Err-Refused.ensures.refused)
-    (rw c.in_ok-refusal_line-in-Err-Refused.ensures at c.saying.ensures)
+pub returns-in-Err-Refused-clause-ok : goal.returns-in-Err-Refused-clause-ok
+returns-in-Err-Refused-clause-ok g c =
+    let fault = rw c.in-Err-Refused.field-0-is at c.in-Err-Refused.ensures.refused in
+    wrote_nothing c.in-Err-Refused.cause fault.1 (rw c.in_ok-refusal_line-in-Err-Refused.ensures at c.saying-in-Err-Refused.ensures) fault.0
+
+pub returns-in-Err-Refused-clause-image : goal.returns-in-Err-Refused-clause-image
+returns-in-Err-Refused-clause-image g c bytes holds =
+    let fault = rw c.in-Err-Refused.field-0-is at c.in-Err-Refused.ensures.refused in
+    refused c.in-Err-Refused.cause
+    (refuses c.args.geometry.now (g.S.BlockSource.known c.args.source.now) bytes c.in-Err-Refused.cause (g.met.S.BlockSource.sized c.args.source.now) holds fault.1)
+    (rw c.in_ok-refusal_line-in-Err-Refused.ensures at c.saying-in-Err-Refused.ensures) fault.0

@@ -1,18 +1,18 @@
+use Rattle.std.proofs.Common.{subst}
 use Rattle.std.proofs.lemmas.Result.{IfOk-weaker}
-use Rattle.ubi_tool.specs.Normalise.{Normalises, NormalisesInto}
-use Rattle.ubi_tool.specs.Program.{no_image}
-use Rattle.ubi_tool.proofs.Outcomes.{normalises_into, of_image, told}
+use Rattle.ubi_tool.specs.Normalise.{NormalisesFile}
+use Rattle.ubi_tool.specs.Program.{bad_limit, no_image, places, whole}
 use Rattle.ubi_tool.proofs.words.normalise_file.Goals as goal
 
 pub returns-in-Err : goal.returns-in-Err
 returns-in-Err g c =
-    IfOk-weaker c.answer.result _ _ (λ o h. no_image h) (told _ c.in-Err.unread c.answer.result c.in-Err.ensures.unread c.answer.ensures)
+    IfOk-weaker c.limit_line.result _ _ (λ o h. whole (no_image (bad_limit c.in-Err.limit c.in-Err.ensures h))) c.limit_line.ensures
 
-pub returns-in-Ok-run_normalise : goal.returns-in-Ok-run_normalise
-returns-in-Ok-run_normalise g c =
-    let file = c.in-Ok.file in
-    let work : Normalises (record { sizes = file.geometry; bytes = file.bytes.items }) c.in-Ok-run_normalise.outcome =
-    rw c.as_slice.ensures.value at c.in-Ok-run_normalise.ensures.ok in
-    IfOk-weaker c.write_outcome.result _ _
-    (λ o h. of_image c.args.numbers _ (NormalisesInto c.args.out.now) file.geometry file.bytes.items o c.in-Ok.ensures.geometry c.in-Ok.ensures.read (normalises_into _ c.args.out.now _ o work h))
-    c.write_outcome.ensures
+pub returns-in-Some : goal.returns-in-Some
+returns-in-Some g c =
+    IfOk-weaker c.normalise_places.result _ _
+    (λ o h. places c.in-Ok.ensures.0 (subst (λ s. NormalisesFile s c.args.image.now c.args.out.now o) c.in-Ok.ensures.1 h))
+    c.normalise_places.ensures
+
+pub returns-in-None : goal.returns-in-None
+returns-in-None g c = IfOk-weaker c.normalise_whole.result _ _ (λ o h. whole h) c.normalise_whole.ensures

@@ -1,0 +1,193 @@
+//! The command `normalise` over sources and files that fail, that have no places, or that are the output too.
+
+use super::answers::{assert_line, assert_over, small};
+use super::fake::Broken;
+use super::images::{ec_of, overwrite, root_image};
+use super::normal::{normal_nothing, normal_root, root_bytes};
+use crate::normalise::run_normalise;
+use crate::outcome::ToolError;
+use std::alloc::Global;
+use std::io::{ErrorKind, Write};
+use std::os::unix::fs::symlink;
+use std::os::unix::io::AsRawFd;
+use std::process::Abort;
+use std::test::Fail;
+use std::{fs, io};
+use ubi_scan::{FileSource, MemorySource, ProbeSource};
+use ubi_volume::{Failure, ProbeWriter};
+
+/// Reads of the image of `root` that fail, each with the number of bytes that are written before. The headers of its five
+/// eraseblocks are read first, then the first copy of the table, then the five headers again, which all win, and at last
+/// the data of the three logical eraseblocks, each of which is written before the next is read.
+const FAILING: [(u64, usize); 8] = [
+    (1, 0),
+    (5, 0),
+    (6, 0),
+    (7, 0),
+    (11, 0),
+    (12, 1024),
+    (13, 1536),
+    (14, 2048),
+];
+
+#[test]
+fn tells_of_a_read_that_fails(rt: HostRuntime) -> Result<(), Fail> {
+    let alloc = rt.alloc();
+    let image = root_image(alloc, &small()?)?;
+    let want = root_bytes();
+    for (at, count) in FAILING {
+        let mut source = ProbeSource::new(alloc, &small()?, image.as_slice(), at)?;
+        let mut writer = ProbeWriter::new(alloc, 4096, 4096, Failure::Nothing)?;
+        let answer = run_normalise(alloc, &small()?, &mut source, &mut writer).err();
+        assert_eq!(rt; answer, Some(ToolError::Read));
+        assert_eq!(rt; writer.taken().len(), count);
+        assert!(rt; want.starts_with(writer.taken()));
+    }
+    let mut source = ProbeSource::new(alloc, &small()?, image.as_slice(), 15)?;
+    let mut writer = ProbeWriter::new(alloc, 4096, 4096, Failure::Nothing)?;
+    let outcome = run_normalise(alloc, &small()?, &mut source, &mut writer)?;
+    assert_eq!(rt; outcome.text.as_slice(), b"blocks 5\n".as_slice());
+    assert_eq!(rt; writer.taken(), want.as_slice());
+    Ok(())
+}
+
+/// Asserts that a write is told of that fails after so many bytes, in a way.
+fn assert_cut(
+    rt: &impl Abort,
+    alloc: Global,
+    image: &[u8],
+    room: usize,
+    failure: Failure,
+) -> Result<(), Fail> {
+    let want = root_bytes();
+    let mut source = MemorySource::new(image);
+    let mut writer = ProbeWriter::new(alloc, room, 100, failure)?;
+    let answer = run_normalise(alloc, &small()?, &mut source, &mut writer).err();
+    assert_eq!(rt; answer, Some(ToolError::Write));
+    assert_eq!(rt; writer.taken().len(), room);
+    assert!(rt; want.starts_with(writer.taken()));
+    Ok(())
+}
+
+#[test]
+fn tells_of_a_write_that_fails(rt: HostRuntime) -> Result<(), Fail> {
+    let alloc = rt.alloc();
+    let image = root_image(alloc, &small()?)?;
+    let bytes = image.as_slice();
+    let interrupted = Failure::Error(ErrorKind::Interrupted);
+    assert_cut(&rt, alloc, bytes, 0, Failure::Nothing)?;
+    assert_cut(&rt, alloc, bytes, 1, interrupted)?;
+    assert_cut(&rt, alloc, bytes, 512, Failure::Nothing)?;
+    assert_cut(&rt, alloc, bytes, 1600, interrupted)?;
+    assert_cut(&rt, alloc, bytes, 2559, Failure::Error(ErrorKind::Other))
+}
+
+#[test]
+fn tells_of_a_file_that_is_cut_short(rt: HostRuntime) -> Result<(), Fail> {
+    let alloc = rt.alloc();
+    let image = root_image(alloc, &small()?)?;
+    fs::write(&rt, "cut.img", image.as_slice())?;
+    let mut source = FileSource::open(&rt, "cut.img")?;
+    let mut writer = ProbeWriter::new(alloc, 4096, 4096, Failure::Nothing)?;
+    let outcome = run_normalise(alloc, &small()?, &mut source, &mut writer)?;
+    assert_eq!(rt; outcome.text.as_slice(), b"blocks 5\n".as_slice());
+    assert_eq!(rt; writer.taken(), root_bytes().as_slice());
+    fs::write(&rt, "cut.img", [0xFF; 1024].as_slice())?;
+    let mut writer = ProbeWriter::new(alloc, 4096, 4096, Failure::Nothing)?;
+    let answer = run_normalise(alloc, &small()?, &mut source, &mut writer).err();
+    assert_eq!(rt; answer, Some(ToolError::Read));
+    assert_eq!(rt; writer.taken().len(), 0);
+    fs::remove_file(&rt, "cut.img")?;
+    let unread = ("cannot read a.img\n", 1);
+    let cut = (image.as_slice(), Broken::Cut);
+    assert_over(&rt, alloc, cut, "normalise a.img --out b.img", unread, &[])
+}
+
+#[test]
+fn tells_of_a_file_that_fails_while_it_is_written(rt: HostRuntime) -> Result<(), Fail> {
+    let alloc = rt.alloc();
+    let image = root_image(alloc, &small()?)?;
+    let want = root_bytes();
+    let line = "normalise a.img --out b.img";
+    let unread = ("cannot read a.img\n", 1);
+    // Of the last eraseblock the headers can be read.
+    let broken = Broken::Read(ErrorKind::Other, 2048 + 128);
+    let start = want.get(..2048).ok_or("short")?;
+    assert_over(&rt, alloc, (image.as_slice(), broken), line, unread, start)?;
+    let broken = Broken::Read(ErrorKind::Other, 2048 + 127);
+    assert_over(&rt, alloc, (image.as_slice(), broken), line, unread, &[])
+}
+
+/// Where the output may be the image, that is read whole before. A whole read fails here.
+#[test]
+fn reads_whole_what_may_be_the_output(rt: HostRuntime) -> Result<(), Fail> {
+    let alloc = rt.alloc();
+    let over: (&[u8], Broken) = (&[0xFF; 1536], Broken::Whole);
+    let unread = ("cannot read a.img\n", 1);
+    let line = "normalise a.img --out a.img";
+    assert_over(&rt, alloc, over, line, unread, &[])?;
+    let line = "normalise a.img --out other.img";
+    assert_over(&rt, alloc, over, line, unread, &[])?;
+    let line = "normalise a.img --out untold.img";
+    assert_over(&rt, alloc, over, line, unread, &[])
+}
+
+#[test]
+fn normalises_a_file_onto_itself(rt: HostRuntime) -> Result<(), Fail> {
+    let alloc = rt.alloc();
+    let image = root_image(alloc, &small()?)?;
+    let want = normal_root(alloc)?;
+    let lines = [
+        "normalise onto_itself.img --out onto_itself.img",
+        "normalise onto_itself.img --out ./onto_itself.img",
+        "normalise onto_itself.img --out linked.img",
+        "normalise onto_itself.img --out pointing.img",
+    ];
+    for line in lines {
+        fs::write(&rt, "onto_itself.img", image.as_slice())?;
+        fs::hard_link(&rt, "onto_itself.img", "linked.img")?;
+        symlink(&rt, "onto_itself.img", "pointing.img")?;
+        assert_line(&rt, alloc, line, "blocks 5\n", 0)?;
+        assert_eq!(rt;
+            fs::read(&rt, "onto_itself.img")?.as_slice(),
+            want.as_slice()
+        );
+        fs::remove_file(&rt, "onto_itself.img")?;
+        fs::remove_file(&rt, "linked.img")?;
+        fs::remove_file(&rt, "pointing.img")?;
+    }
+    Ok(())
+}
+
+#[test]
+fn normalises_what_a_pipe_gives(rt: HostRuntime) -> Result<(), Fail> {
+    let alloc = rt.alloc();
+    let want = normal_nothing(alloc)?;
+    let (reader, mut writer) = io::pipe(&rt)?;
+    writer.write_all(&[0xFF; 1536])?;
+    drop(writer);
+    let end = reader.as_raw_fd();
+    let line = format!(in alloc; "normalise /proc/self/fd/{end} --out piped.img")?;
+    assert_line(&rt, alloc, line.as_str(), "blocks 2\n", 0)?;
+    assert_eq!(rt; fs::read(&rt, "piped.img")?.as_slice(), want.as_slice());
+    fs::remove_file(&rt, "piped.img")?;
+    Ok(())
+}
+
+#[test]
+fn leaves_a_file_as_it_is_where_the_image_is_refused(rt: HostRuntime) -> Result<(), Fail> {
+    let alloc = rt.alloc();
+    let mut image = root_image(alloc, &small()?)?;
+    overwrite(image.as_mut_slice(), 3 * 512, &ec_of(&small()?, 8));
+    fs::write(&rt, "refused.img", image.as_slice())?;
+    fs::write(&rt, "kept.img", b"as it was".as_slice())?;
+    let line = "normalise refused.img --out kept.img";
+    assert_line(&rt, alloc, line, "refused S4 ImageSeq block=3\n", 1)?;
+    assert_eq!(rt;
+        fs::read(&rt, "kept.img")?.as_slice(),
+        b"as it was".as_slice()
+    );
+    fs::remove_file(&rt, "refused.img")?;
+    fs::remove_file(&rt, "kept.img")?;
+    Ok(())
+}
