@@ -25,16 +25,16 @@ pub data Normalises (image : Image) (old new : Option (List ℕ)) : Outcome → 
   refused : {o : Outcome} (c : Refusal) → Refuses image c → Gives o (says (refusal_line c) 1) → Keeps old new
       → Normalises image old new o
 
--- what it answers of any source: how many eraseblocks the n bytes are that the writer received; or the line of a refusal,
--- and the writer received nothing
+-- what it answers of any source: how many eraseblocks the n bytes are that the writer received; or the line of a
+-- refusal, and the writer received nothing
 pub data NormalisesTo (s : Sizes) (k : Source) (old new : Option (List ℕ)) : Outcome → Type 0 where
   wrote : {o : Outcome} (n : ℕ) → IsNormalisedTo s k old new n → Gives o (says (blocks_line (n / s.peb_size)) 0)
       → NormalisesTo s k old new o
-  wrote_nothing : {o : Outcome} (c : Refusal) → ArePlacesError s k (stream.Refused c) → Gives o (says (refusal_line c) 1) → Keeps old new
-      → NormalisesTo s k old new o
+  wrote_nothing : {o : Outcome} (c : Refusal) → ArePlacesError s k (stream.Refused c) → Gives o (says (refusal_line c) 1)
+      → Keeps old new → NormalisesTo s k old new o
 
--- why it answers nothing: memory ran out, and the writer received nothing; or a read or a write failed, and it received a
--- first part
+-- why it answers nothing: memory ran out, and the writer received nothing; or a read or a write failed, and it
+-- received a first part
 abbrev pub IsNormaliseError : Sizes → Source → Option (List ℕ) → Option (List ℕ) → ToolError → Type 0
 IsNormaliseError s k old new tool.Memory = Keeps old new
 IsNormaliseError s k old new tool.Read = (p : ℕ) × (n : ℕ) × IsNormaliseToError s k old new (stream.Read p n)
@@ -49,8 +49,8 @@ abbrev pub after_run : Source → Result Outcome ToolError → Source
 after_run k (Ok _) = k
 after_run k (Err e) = after_fault k e
 
--- what it answers of an image into a file, of whose bytes nothing is known: the same, or the line of an output that can't
--- be written
+-- what it answers of an image into a file, of whose bytes nothing is known: the same, or the line of an output that
+-- can't be written
 pub data NormalisesInto (out : List ℕ) (image : Image) : Outcome → Type 0 where
   written : {o : Outcome} → Normalises image None None o → NormalisesInto out image o
   unwritten : {o : Outcome} (m : Meant) → Accepts image m → Gives o (says (file_line (codes "cannot write ") out) 1)
@@ -58,6 +58,7 @@ pub data NormalisesInto (out : List ℕ) (image : Image) : Outcome → Type 0 wh
 
 -- what it answers of a file of some size whose bytes nothing tells either: the same, or the line of the file that fails
 pub data NormalisesFile (s : Sizes) (path out : List ℕ) : Outcome → Type 0 where
-  told : {o : Outcome} (size failures : ℕ) → NormalisesTo s (unheld size failures) None None o → NormalisesFile s path out o
+  told : {o : Outcome} (size failures : ℕ) → NormalisesTo s (unheld size failures) None None o
+      → NormalisesFile s path out o
   cannot_read : {o : Outcome} → Gives o (says (file_line (codes "cannot read ") path) 1) → NormalisesFile s path out o
   cannot_write : {o : Outcome} → Gives o (says (file_line (codes "cannot write ") out) 1) → NormalisesFile s path out o

@@ -54,8 +54,8 @@ pub data OfText (numbers : Numbers) (path : List ℕ) (answers : Sizes → List 
   text : {o : Outcome} (bytes : List ℕ) → first_broken (sizes_of numbers) ≡ None → length bytes ≤ text_limit (sizes_of numbers)
       → answers (sizes_of numbers) bytes o → OfText numbers path answers o
 
--- what normalising one file into another can answer: that of an image that was read whole, or that of a file that is read
--- at places
+-- what normalising one file into another can answer: that of an image that was read whole, or that of a file that is
+-- read at places
 pub data NormalisesFiles (numbers : Numbers) (path out : List ℕ) : Outcome → Type 0 where
   whole : {o : Outcome} → OfImage numbers path (NormalisesInto out) o → NormalisesFiles numbers path out o
   places : {o : Outcome} → first_broken (sizes_of numbers) ≡ None → NormalisesFile (sizes_of numbers) path out o

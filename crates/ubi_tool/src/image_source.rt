@@ -14,8 +14,8 @@ fn is_same(one: &Metadata, other: &Metadata) -> bool {
     is_one_file || is_one_device
 }
 
-/// Whether an image that is read at places stays as it is while the file at a path is written. It is denied where it can't
-/// be told.
+/// Whether an image that is read at places stays as it is while the file at a path is written. It is denied where it
+/// can't be told.
 fn stays<R: Files>(rt: &R, image: &Metadata, out: &str) -> bool {
     match fs::metadata(rt, out) {
         Ok(output) => !is_same(image, &output),

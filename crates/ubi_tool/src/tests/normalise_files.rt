@@ -16,9 +16,9 @@ use std::{fs, io};
 use ubi_scan::{FileSource, MemorySource, ProbeSource};
 use ubi_volume::{Failure, ProbeWriter};
 
-/// Reads of the image of `root` that fail, each with the number of bytes that are written before. The headers of its five
-/// eraseblocks are read first, then the first copy of the table, then the five headers again, which all win, and at last
-/// the data of the three logical eraseblocks, each of which is written before the next is read.
+/// Reads of the image of `root` that fail, each with the number of bytes that are written before. The headers of its
+/// five eraseblocks are read first, then the first copy of the table, then the headers again, since all five win, and at
+/// last the data of the three logical eraseblocks, each of which is written before the next is read.
 const FAILING: [(u64, usize); 8] = [
     (1, 0),
     (5, 0),
