@@ -3,13 +3,15 @@
 
 usage: normalise.py [--dir FOLDER] [--blocks N]
 
-The image has N eraseblocks (1,024, which is 128 MiB) of 128 KiB with pages of 2 KiB: the two copies of the table of
-volumes, and logical eraseblocks of one dynamic volume, full of random bytes, in an order that looks random. It lies in a
-new folder below FOLDER (/tmp where it is left out), which is removed again. The program is built first where it isn't
-yet.
+Each image has N eraseblocks (1,024, which is 128 MiB) of 128 KiB with pages of 2 KiB: the two copies of the table of
+volumes, and logical eraseblocks of one volume, full of random bytes, in an order that looks random. The volume of one
+image is dynamic, that of the other static. They lie in a new folder below FOLDER (/tmp where it is left out), which is
+removed again. The program is built first where it isn't yet.
 
 It prints the seconds of each, as they pass and of the processor (user and system), the least of five runs, each into a
-new file, and ends with status 1 where `normalise` takes more than six times as long as `cp` by either.
+new file, and the peak of memory, which needs GNU time. It ends with status 1 where `normalise` takes more than three
+times as long as `cp` by either, or more than eight times where the volume is static, whose bytes are read and checked
+before they are written; or where it takes more than 8 MiB.
 """
 import os
 import random
@@ -20,16 +22,24 @@ import sys
 import tempfile
 import time
 
-from image import counter_header, identifier_header, sealed
+from image import check, counter_header, identifier_header, sealed
 
+# Of each kind its number in a record, and how many times as long as `cp` it may take.
+KINDS = {"dynamic": (1, 3), "static": (2, 8)}
 HERE = os.path.dirname(os.path.abspath(__file__))
 ROOT = os.path.dirname(HERE)
 PEB, PAGE = 131072, 2048
-LAYOUT, SLOTS, MOST = 0x7FFFEFFF, 128, 6
+LAYOUT, SLOTS, ROOM = 0x7FFFEFFF, 128, 8
 
 
-def record(name, reserved):
-    return sealed(struct.pack(">IIIBBH128sB23x", reserved, 1, 0, 1, 0, len(name), name, 0))
+def record(name, reserved, kind):
+    return sealed(struct.pack(">IIIBBH128sB23x", reserved, 1, 0, kind, 0, len(name), name, 0))
+
+
+def static_header(number, count, data):
+    """The header of one of COUNT logical eraseblocks of a static volume."""
+    sizes = (len(data), count, 0, check(data))
+    return sealed(struct.pack(">4sBBBBII4xIIII4xQ12x", b"UBI!", 1, 2, 0, 0, 0, number, *sizes, number + 1))
 
 
 def eraseblock(vid, data):
@@ -37,19 +47,23 @@ def eraseblock(vid, data):
     return (front + data).ljust(PEB, b"\xFF")
 
 
-def eraseblocks(count):
-    """The eraseblocks of the image, one after the other."""
-    table = record(b"root", count - 2) + sealed(bytes(168)) * (SLOTS - 1)
+def eraseblocks(kind, count):
+    """The eraseblocks of the image of a volume, dynamic or static, one after the other."""
+    table = record(b"root", count - 2, KINDS[kind][0]) + sealed(bytes(168)) * (SLOTS - 1)
     for copy in range(2):
         yield eraseblock(identifier_header(LAYOUT, copy, 0, compat=5), table)
     numbers = list(range(count - 2))
     random.Random(count).shuffle(numbers)
     for number in numbers:
-        yield eraseblock(identifier_header(0, number, number + 1), random.Random(number).randbytes(PEB - 2 * PAGE))
+        data = random.Random(number).randbytes(PEB - 2 * PAGE)
+        if kind == "static":
+            yield eraseblock(static_header(number, count - 2, data), data)
+        else:
+            yield eraseblock(identifier_header(0, number, number + 1), data)
 
 
 def measure(words, out):
-    """The seconds that pass and those of the processor, the least of five runs that write a new file."""
+    """The seconds that pass and those of the processor, the least of five runs into a new file, and MiB at the peak."""
     passed, used = [], []
     for _ in range(5):
         if os.path.exists(out):
@@ -62,7 +76,13 @@ def measure(words, out):
         if child.returncode != 0:
             sys.exit(f"{words} ended with {child.returncode}")
         used.append(usage.ru_utime + usage.ru_stime)
-    return min(passed), min(used)
+    return min(passed), min(used), peak(words)
+
+
+def peak(words):
+    """The most MiB that a run takes. GNU time starts it, since what Python starts has Python's memory in its peak."""
+    ran = subprocess.run(["time", "-f", "%M", *words], stdout=subprocess.DEVNULL, stderr=subprocess.PIPE, check=True)
+    return int(ran.stderr.split()[-1]) / 1024
 
 
 def main():
@@ -78,22 +98,25 @@ def main():
     tool = os.path.join(ROOT, "ubi_tool")
     subprocess.run([tool, "--help"], stderr=subprocess.DEVNULL)
     folder = tempfile.mkdtemp(dir=place)
+    above = False
+    print(f"{count} eraseblocks of {PEB} bytes      passed   of the processor   MiB at the peak")
     try:
         path, out = os.path.join(folder, "in.img"), os.path.join(folder, "out.img")
-        with open(path, "wb") as it:
-            for block in eraseblocks(count):
-                it.write(block)
-        copied = measure(["cp", path, out], out)
-        sizes = ["--peb", str(PEB), "--page", str(PAGE)]
-        normalised = measure([tool, "normalise", path, "--out", out, *sizes], out)
+        for kind in KINDS:
+            with open(path, "wb") as it:
+                for block in eraseblocks(kind, count):
+                    it.write(block)
+            copied = measure(["cp", path, out], out)
+            sizes = ["--peb", str(PEB), "--page", str(PAGE)]
+            normalised = measure([tool, "normalise", path, "--out", out, *sizes], out)
+            for name, (passed, used, most) in ((f"cp, {kind}", copied), (f"normalise, {kind}", normalised)):
+                print(f"{name:<38} {passed:>7.2f}   {used:>16.2f}   {most:>15.1f}")
+            passed, used = normalised[0] / copied[0], normalised[1] / copied[1]
+            print(f"normalise takes {passed:.1f} times as long as cp, {used:.1f} times of the processor")
+            above |= max(passed, used) > KINDS[kind][1] or normalised[2] > ROOM
     finally:
         shutil.rmtree(folder)
-    print(f"{count} eraseblocks of {PEB} bytes      passed   of the processor")
-    for name, (passed, used) in (("cp", copied), ("normalise", normalised)):
-        print(f"{name:<38} {passed:>7.2f}   {used:>16.2f}")
-    passed, used = normalised[0] / copied[0], normalised[1] / copied[1]
-    print(f"normalise takes {passed:.1f} times as long as cp, {used:.1f} times of the processor")
-    sys.exit(1 if max(passed, used) > MOST else 0)
+    sys.exit(1 if above else 0)
 
 
 if __name__ == "__main__":

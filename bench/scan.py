@@ -3,7 +3,7 @@
 
 usage: scan.py [--dir FOLDER] [--quick] [PROGRAM WORD ..]
 
-Without PROGRAM it measures `ubi_tool normalise` (built first where it isn't yet). The images have no table of volumes,
+Without PROGRAM it measures `ubi_tool check` (built first where it isn't yet). The images have no table of volumes,
 so all that is done is to read them, to scan them and to refuse them. With PROGRAM it measures that one, called with
 the words; the word IMAGE stands for the image's path. Images are made in a new folder below FOLDER (/tmp where it is
 left out), up to 512 MiB each, and removed again. --quick leaves out the images of 1,048,576 eraseblocks.
@@ -59,9 +59,8 @@ def run(words, folder):
 def words_of(program, folder, path):
     if program:
         return [path if word == "IMAGE" else word for word in program]
-    out = os.path.join(folder, "out.img")
     tool = os.path.join(ROOT, "crates", "ubi_tool", "out", "ubi_tool")
-    return [tool, "normalise", path, "--out", out, "--peb", "512", "--page", "64"]
+    return [tool, "check", path, "--peb", "512", "--page", "64"]
 
 
 def make(folder, kind, count):
@@ -73,7 +72,7 @@ def make(folder, kind, count):
 
 
 def is_scanning(folder):
-    """Whether `ubi_tool normalise` refuses two members of a logical eraseblock with one sequence number."""
+    """Whether `ubi_tool check` refuses two members of a logical eraseblock with one sequence number."""
     path = make(folder, "one", 1)
     with open(path, "rb") as it:
         block = it.read()
@@ -130,7 +129,7 @@ def main():
     folder = tempfile.mkdtemp(dir=place)
     try:
         if not words and not is_scanning(folder):
-            sys.exit("ubi_tool normalise doesn't scan, so there is nothing to measure")
+            sys.exit("ubi_tool check doesn't scan, so there is nothing to measure")
         above = measure(folder, words, sizes)
     finally:
         shutil.rmtree(folder)
