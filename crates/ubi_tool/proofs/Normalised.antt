@@ -1,6 +1,5 @@
 -- What a normalising of a source tells of an image whose bytes are known, and over files.
 use Rattle.std.proofs.Common.{◌≡◌, ℕ, ◌/◌, List, ap, inl, inr, length, refl, subst, sym, ◌∙◌}
-use Rattle.std.specs.Io.KnownBytes.{Keeps}
 use Rattle.std.specs.Prelude.{Option, Some, None}
 use Rattle.ubi_media.specs.Geometry.{IsGeometry, Sizes}
 use Rattle.ubi_media.specs.declared.refusal.Refusal.{Refusal}
@@ -10,11 +9,11 @@ use Rattle.ubi_scan.specs.declared.errors.StreamError.TheVariants as stream
 use Rattle.ubi_volume.specs.Accepts.{Accepts, Refuses}
 use Rattle.ubi_volume.specs.Meant.{Meant}
 use Rattle.ubi_volume.specs.Places.{ArePlacesError}
-use Rattle.ubi_compose.specs.Normal.{normal_blocks, normal_bytes}
+use Rattle.ubi_compose.specs.Normal.{normal_blocks}
 use Rattle.ubi_compose.specs.Streamed.{IsStreamed}
 use Rattle.ubi_compose.proofs.Form.{count-normal_bytes}
 use Rattle.ubi_tool.specs.Answer.{Gives, says}
-use Rattle.ubi_tool.specs.Lines.{blocks_line, refusal_line}
+use Rattle.ubi_tool.specs.Lines.{blocks_line}
 use Rattle.ubi_tool.specs.Normalise.{IsNormaliseError, Normalises, NormalisesTo, accepted, refused, wrote, wrote_nothing}
 use Rattle.ubi_tool.specs.declared.outcome.Outcome.{Outcome}
 use Rattle.ubi_tool.specs.declared.outcome.ToolError.TheVariants as tool
