@@ -25,8 +25,9 @@ fn stays<R: Files>(rt: &R, image: &Metadata, out: &str) -> bool {
 
 /// A source over an image file, to be read while the output is written; or none where the image is to be read whole.
 ///
-/// That is so where it can't be read at places, as a pipe can't, and where the output may be the same file, by the same
-/// path or by a link: what isn't read when that is opened would be lost.
+/// That is so where it can't be read at places, as a pipe can't; where the system tells no size, as of some of its own
+/// files; and where the output may be the same file, by the same path or by a link: what isn't read when that is opened
+/// would be lost.
 pub fn source_of<R: Files>(rt: &R, image: &str, out: &str) -> Option<FileSource<R::File>>
 where
     R::File: FileExt,
@@ -35,7 +36,7 @@ where
         return None;
     };
     let kind = metadata.file_type();
-    let has_places = kind.is_file() || kind.is_block_device();
+    let has_places = (kind.is_file() && metadata.len() > 0) || kind.is_block_device();
     if !has_places || image == out || !stays(rt, &metadata, out) {
         return None;
     }

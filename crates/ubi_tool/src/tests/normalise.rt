@@ -15,6 +15,9 @@ use std::process::Abort;
 use std::test::Fail;
 use ubi_media::VidHeader;
 
+/// The words that normalise the image.
+const WORDS: &str = "normalise a.img --out b.img";
+
 /// Asserts which bytes an image is normalised to, and with which line: in memory, as a file that is read at places, and
 /// as one that is read whole, since it has none.
 fn assert_gives(
@@ -24,10 +27,9 @@ fn assert_gives(
     want: &[u8],
     line: &str,
 ) -> Result<(), Fail> {
-    let words = "normalise a.img --out b.img";
     assert_normal(rt, alloc, image, (line, 0), want)?;
-    assert_over(rt, alloc, (image, Broken::Whole), words, (line, 0), want)?;
-    assert_over(rt, alloc, (image, Broken::Places), words, (line, 0), want)
+    assert_over(rt, alloc, (image, Broken::Whole), WORDS, (line, 0), want)?;
+    assert_over(rt, alloc, (image, Broken::Places), WORDS, (line, 0), want)
 }
 
 /// Asserts the same, and that these bytes are normalised to themselves.
@@ -152,10 +154,9 @@ fn takes_either_copy_of_the_table(rt: HostRuntime) -> Result<(), Fail> {
 /// Asserts the line of bytes that are no image: in memory, as a file that is read at places, and as one that is read
 /// whole. Nothing is written.
 fn assert_no_image(rt: &impl Abort, alloc: Global, image: &[u8], line: &str) -> Result<(), Fail> {
-    let words = "normalise a.img --out b.img";
     assert_normal(rt, alloc, image, (line, 1), &[])?;
-    assert_over(rt, alloc, (image, Broken::Whole), words, (line, 1), &[])?;
-    assert_over(rt, alloc, (image, Broken::Places), words, (line, 1), &[])
+    assert_over(rt, alloc, (image, Broken::Whole), WORDS, (line, 1), &[])?;
+    assert_over(rt, alloc, (image, Broken::Places), WORDS, (line, 1), &[])
 }
 
 #[test]
@@ -163,7 +164,8 @@ fn refuses_what_is_no_image(rt: HostRuntime) -> Result<(), Fail> {
     let alloc = rt.alloc();
     let bytes: &[u8] = &[0xFF; 16_896];
     let (length, many) = ("refused S1 Length\n", "refused S2 TooMany\n");
-    assert_no_image(&rt, alloc, &[], length)?;
+    // A file of no size is read whole.
+    assert_over(&rt, alloc, (&[], Broken::Places), WORDS, (length, 1), &[])?;
     assert_no_image(&rt, alloc, &bytes[..511], length)?;
     assert_no_image(&rt, alloc, &bytes[..513], length)?;
     assert_no_image(&rt, alloc, bytes, many)?;
