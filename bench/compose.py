@@ -13,11 +13,10 @@ file, and ends with status 1 where `compose` takes more than six times as long a
 import os
 import random
 import shutil
-import subprocess
 import sys
 import tempfile
 
-from normalise import ROOT, measure
+from normalise import built_tool, measure, options
 
 MOST = 6
 SHAPES = ((131072, 2048), (512, 64))
@@ -35,17 +34,8 @@ def text(peb, page, size):
 
 
 def main():
-    words, place, mib = sys.argv[1:], "/tmp", 64
-    while words:
-        word = words.pop(0)
-        if word == "--dir" and words:
-            place = words.pop(0)
-        elif word == "--mib" and words:
-            mib = int(words.pop(0))
-        else:
-            sys.exit(__doc__)
-    tool = os.path.join(ROOT, "ubi_tool")
-    subprocess.run([tool, "--help"], stderr=subprocess.DEVNULL)
+    place, mib = options(__doc__, "--mib", 64)
+    tool = built_tool()
     folder = tempfile.mkdtemp(dir=place)
     worst = 0
     print(f"{'text':<38}  passed   of the processor")
@@ -57,7 +47,7 @@ def main():
             cat = measure(["sh", "-c", f"cat {path} > {out}"], out)
             sizes = ["--peb", str(peb), "--page", str(page)]
             composed = measure([tool, "compose", path, "--out", out, *sizes], out)
-            for name, (passed, used) in (("cat", cat), ("compose", composed)):
+            for name, (passed, used, _) in (("cat", cat), ("compose", composed)):
                 print(f"{f'{name}, LEBs of {peb - 2 * page} bytes':<38} {passed:>7.2f}   {used:>16.2f}")
             worst = max(worst, composed[0] / cat[0], composed[1] / cat[1])
     finally:

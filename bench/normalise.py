@@ -85,18 +85,30 @@ def peak(words):
     return int(ran.stderr.split()[-1]) / 1024
 
 
-def main():
-    words, place, count = sys.argv[1:], "/tmp", 1024
+def options(usage, name, number):
+    """The folder that --dir names and the number that an option names, or /tmp and the given one."""
+    words, place = sys.argv[1:], "/tmp"
     while words:
         word = words.pop(0)
         if word == "--dir" and words:
             place = words.pop(0)
-        elif word == "--blocks" and words:
-            count = int(words.pop(0))
+        elif word == name and words:
+            number = int(words.pop(0))
         else:
-            sys.exit(__doc__)
+            sys.exit(usage)
+    return place, number
+
+
+def built_tool():
+    """The path of the program, which is built where it isn't yet."""
     tool = os.path.join(ROOT, "ubi_tool")
     subprocess.run([tool, "--help"], stderr=subprocess.DEVNULL)
+    return tool
+
+
+def main():
+    place, count = options(__doc__, "--blocks", 1024)
+    tool = built_tool()
     folder = tempfile.mkdtemp(dir=place)
     above = False
     print(f"{count} eraseblocks of {PEB} bytes      passed   of the processor   MiB at the peak")
