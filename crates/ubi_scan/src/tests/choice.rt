@@ -1,12 +1,10 @@
 //! Which member wins a logical eraseblock.
 
 use super::images::{
-    COPY, ERASED, Ec, FREE, INTERNAL, LAYOUT, NUMBERED, PLAIN, Peb, Vid, WRONG_CHECK_OF_39,
-    assert_states, assert_wins, found,
+    COPY, Case, ERASED, Ec, FREE, INTERNAL, LAYOUT, NUMBERED, PLAIN, Peb, Vid, WRONG_CHECK_OF_39,
+    assert_found, found,
 };
 use crate::{Scan, ScanState};
-use std::alloc::Global;
-use std::process::Abort;
 use std::test::Fail;
 use ubi_media::{LAYOUT_VOLUME, VidHeader};
 
@@ -83,118 +81,233 @@ const DROPPED: Peb = Peb {
     ..NUMBERED
 };
 
-/// A logical eraseblock, by its volume and its number, and what wins it.
-type Won = (u32, u32, Option<u32>);
+/// Logical eraseblock 1 of volume 0 without its counter, and once it is erased.
+const TORN_1: Peb = Peb {
+    ec: Ec::Corrupt,
+    ..LEB_1
+};
 
-/// Asserts what wins some logical eraseblocks.
-fn assert_winners(rt: &impl Abort, found: &Scan, want: &[Won]) {
-    for won in want {
-        assert_eq!(*rt; found.winner(won.0, won.1), won.2);
-    }
-}
+const ERASED_1: Peb = Peb {
+    ec: Ec::Blank,
+    ..LEB_1
+};
 
-/// What wins the logical eraseblocks of a small image, and some that it hasn't.
-const WON: [Won; 9] = [
-    (LAYOUT_VOLUME, 0, Some(0)),
-    (LAYOUT_VOLUME, 1, Some(1)),
-    (LAYOUT_VOLUME, 2, None),
-    (0, 0, Some(2)),
-    (0, 1, Some(3)),
-    (0, 2, Some(4)),
-    (0, 3, None),
-    (1, 0, None),
-    (0x7FFF_F000, 0, None),
+const SMALL: [Case; 5] = [
+    Case {
+        what: "a small image, and logical eraseblocks that it hasn't",
+        pebs: &[TABLE_0, TABLE_1, LEB_0, LEB_1, LEB_2, DROPPED],
+        states: &[
+            ScanState::Winner,
+            ScanState::Winner,
+            ScanState::Winner,
+            ScanState::Winner,
+            ScanState::Winner,
+            ScanState::Dropped,
+        ],
+        winners: &[
+            (LAYOUT_VOLUME, 0, Some(0)),
+            (LAYOUT_VOLUME, 1, Some(1)),
+            (LAYOUT_VOLUME, 2, None),
+            (0, 0, Some(2)),
+            (0, 1, Some(3)),
+            (0, 2, Some(4)),
+            (0, 3, None),
+            (1, 0, None),
+            (0x7FFF_F000, 0, None),
+        ],
+        numbers: (0, 0x1234_5678, 0),
+    },
+    Case {
+        what: "a member without its counter",
+        pebs: &[TABLE_0, TABLE_1, LEB_0, TORN_1, LEB_2],
+        states: &[
+            ScanState::Winner,
+            ScanState::Winner,
+            ScanState::Winner,
+            ScanState::Winner,
+            ScanState::Winner,
+        ],
+        winners: &[(0, 0, Some(2)), (0, 1, Some(3)), (0, 2, Some(4))],
+        numbers: (0, 0x1234_5678, 0),
+    },
+    Case {
+        what: "a member that is erased",
+        pebs: &[TABLE_0, TABLE_1, LEB_0, ERASED_1, LEB_2],
+        states: &[
+            ScanState::Winner,
+            ScanState::Winner,
+            ScanState::Winner,
+            ScanState::Blank,
+            ScanState::Winner,
+        ],
+        winners: &[(0, 0, Some(2)), (0, 1, None), (0, 2, Some(4))],
+        numbers: (0, 0x1234_5678, 0),
+    },
+    Case {
+        what: "a member without its counter, alone",
+        pebs: &[TORN_1],
+        states: &[ScanState::Winner],
+        winners: &[(0, 1, Some(0))],
+        numbers: (0, 0, 0),
+    },
+    Case {
+        what: "a member that is erased, alone",
+        pebs: &[ERASED_1],
+        states: &[ScanState::Blank],
+        winners: &[(0, 1, None)],
+        numbers: (0, 0, 0),
+    },
 ];
 
 #[test]
 fn finds_the_winners_of_a_small_image(rt: HostRuntime) -> Result<(), Fail> {
-    let pebs = [TABLE_0, TABLE_1, LEB_0, LEB_1, LEB_2, DROPPED];
-    let found = found(rt.alloc(), &pebs)?;
-    assert_winners(&rt, &found, &WON);
-    assert_eq!(rt; found.top_sqnum(), 0);
-    assert_eq!(rt; found.image_seq(), 0x1234_5678);
-    Ok(())
+    assert_found(&rt, rt.alloc(), &SMALL)
 }
 
-/// Asserts what wins logical eraseblock 1 of an image, and that the others stay.
-fn assert_second(
-    rt: &impl Abort,
-    alloc: Global,
-    second: Peb,
-    winner: Option<u32>,
-    next: (u32, u32),
-) -> Result<(), Fail> {
-    let found = found(alloc, &[TABLE_0, TABLE_1, LEB_0, second, LEB_2])?;
-    let want = [(0, 0, Some(2)), (0, 1, winner), (0, 2, Some(4))];
-    assert_winners(rt, &found, &want);
-    assert_next(rt, &found, &[(0, 1, Some(next))]);
-    Ok(())
-}
-
-#[test]
-fn a_member_stays_without_its_counter_and_not_once_erased(rt: HostRuntime) -> Result<(), Fail> {
-    let alloc = rt.alloc();
-    let torn = Peb {
-        ec: Ec::Corrupt,
-        ..LEB_1
-    };
-    assert_second(&rt, alloc, torn, Some(3), (1, 3))?;
-    let erased = Peb {
-        ec: Ec::Blank,
-        ..LEB_1
-    };
-    assert_second(&rt, alloc, erased, None, (2, 4))?;
-    assert_states(&rt, alloc, &[torn], &[ScanState::Winner])?;
-    assert_states(&rt, alloc, &[erased], &[ScanState::Blank])
-}
-
-/// Asserts which of three members wins, and that the others are beaten.
-fn assert_third(
-    rt: &impl Abort,
-    alloc: Global,
-    pebs: [Peb; 3],
-    winner: u32,
-    states: [ScanState; 3],
-) -> Result<(), Fail> {
-    let found = found(alloc, &pebs)?;
-    assert_eq!(rt; found.winner(0, 0), Some(winner));
-    assert_eq!(rt; found.winner(0, 1), None);
-    assert_eq!(rt; found.top_sqnum(), 9);
-    assert_states(rt, alloc, &pebs, &states)
-}
+/// An old member, a newer copy and a bad one that is newer still, in any order.
+const IN_ANY_ORDER: [Case; 6] = [
+    Case {
+        what: "an old member, a good copy, a bad copy 9",
+        pebs: &[OLD, RIGHT, WRONG_9],
+        states: &[ScanState::Beaten, ScanState::Winner, ScanState::Beaten],
+        winners: &[(0, 0, Some(1)), (0, 1, None)],
+        numbers: (9, 0, 0),
+    },
+    Case {
+        what: "an old member, a bad copy 9, a good copy",
+        pebs: &[OLD, WRONG_9, RIGHT],
+        states: &[ScanState::Beaten, ScanState::Beaten, ScanState::Winner],
+        winners: &[(0, 0, Some(2)), (0, 1, None)],
+        numbers: (9, 0, 0),
+    },
+    Case {
+        what: "a good copy, an old member, a bad copy 9",
+        pebs: &[RIGHT, OLD, WRONG_9],
+        states: &[ScanState::Winner, ScanState::Beaten, ScanState::Beaten],
+        winners: &[(0, 0, Some(0)), (0, 1, None)],
+        numbers: (9, 0, 0),
+    },
+    Case {
+        what: "a good copy, a bad copy 9, an old member",
+        pebs: &[RIGHT, WRONG_9, OLD],
+        states: &[ScanState::Winner, ScanState::Beaten, ScanState::Beaten],
+        winners: &[(0, 0, Some(0)), (0, 1, None)],
+        numbers: (9, 0, 0),
+    },
+    Case {
+        what: "a bad copy 9, an old member, a good copy",
+        pebs: &[WRONG_9, OLD, RIGHT],
+        states: &[ScanState::Beaten, ScanState::Beaten, ScanState::Winner],
+        winners: &[(0, 0, Some(2)), (0, 1, None)],
+        numbers: (9, 0, 0),
+    },
+    Case {
+        what: "a bad copy 9, a good copy, an old member",
+        pebs: &[WRONG_9, RIGHT, OLD],
+        states: &[ScanState::Beaten, ScanState::Winner, ScanState::Beaten],
+        winners: &[(0, 0, Some(1)), (0, 1, None)],
+        numbers: (9, 0, 0),
+    },
+];
 
 #[test]
 fn the_newest_good_member_wins_in_any_order(rt: HostRuntime) -> Result<(), Fail> {
-    let alloc = rt.alloc();
-    let (won, lost) = (ScanState::Winner, ScanState::Beaten);
-    let (first, second, third) = ([won, lost, lost], [lost, won, lost], [lost, lost, won]);
-    assert_third(&rt, alloc, [OLD, RIGHT, WRONG_9], 1, second)?;
-    assert_third(&rt, alloc, [OLD, WRONG_9, RIGHT], 2, third)?;
-    assert_third(&rt, alloc, [RIGHT, OLD, WRONG_9], 0, first)?;
-    assert_third(&rt, alloc, [RIGHT, WRONG_9, OLD], 0, first)?;
-    assert_third(&rt, alloc, [WRONG_9, OLD, RIGHT], 2, third)?;
-    assert_third(&rt, alloc, [WRONG_9, RIGHT, OLD], 1, second)
+    assert_found(&rt, rt.alloc(), &IN_ANY_ORDER)
 }
+
+/// Bad members alone: the oldest wins.
+const BAD: [Case; 4] = [
+    Case {
+        what: "a bad copy 4, a bad copy 6",
+        pebs: &[WRONG_4, WRONG_6],
+        states: &[ScanState::Winner, ScanState::Beaten],
+        winners: &[(0, 0, Some(0)), (0, 1, None)],
+        numbers: (6, 0, 0),
+    },
+    Case {
+        what: "a bad copy 6, a bad copy 4",
+        pebs: &[WRONG_6, WRONG_4],
+        states: &[ScanState::Beaten, ScanState::Winner],
+        winners: &[(0, 0, Some(1)), (0, 1, None)],
+        numbers: (6, 0, 0),
+    },
+    Case {
+        what: "a bad copy 6, a bad copy 4, a bad copy 9",
+        pebs: &[WRONG_6, WRONG_4, WRONG_9],
+        states: &[ScanState::Beaten, ScanState::Winner, ScanState::Beaten],
+        winners: &[(0, 0, Some(1)), (0, 1, None)],
+        numbers: (9, 0, 0),
+    },
+    Case {
+        what: "a bad copy 9",
+        pebs: &[WRONG_9],
+        states: &[ScanState::Winner],
+        winners: &[(0, 0, Some(0)), (0, 1, None)],
+        numbers: (9, 0, 0),
+    },
+];
 
 #[test]
 fn the_oldest_of_bad_members_wins(rt: HostRuntime) -> Result<(), Fail> {
-    let alloc = rt.alloc();
-    assert_wins(&rt, alloc, &[WRONG_4, WRONG_6], Some(0))?;
-    assert_wins(&rt, alloc, &[WRONG_6, WRONG_4], Some(1))?;
-    assert_wins(&rt, alloc, &[WRONG_6, WRONG_4, WRONG_9], Some(1))?;
-    assert_wins(&rt, alloc, &[WRONG_9], Some(0))
+    assert_found(&rt, rt.alloc(), &BAD)
 }
+
+/// Copies that meet another member.
+const MEETING: [Case; 7] = [
+    Case {
+        what: "a bad copy 9, an old member",
+        pebs: &[WRONG_9, OLD],
+        states: &[ScanState::Beaten, ScanState::Winner],
+        winners: &[(0, 0, Some(1)), (0, 1, None)],
+        numbers: (9, 0, 0),
+    },
+    Case {
+        what: "an old member, a bad copy 9",
+        pebs: &[OLD, WRONG_9],
+        states: &[ScanState::Winner, ScanState::Beaten],
+        winners: &[(0, 0, Some(0)), (0, 1, None)],
+        numbers: (9, 0, 0),
+    },
+    Case {
+        what: "a good copy, an old member",
+        pebs: &[RIGHT, OLD],
+        states: &[ScanState::Winner, ScanState::Beaten],
+        winners: &[(0, 0, Some(0)), (0, 1, None)],
+        numbers: (7, 0, 0),
+    },
+    Case {
+        what: "a good copy, a bad copy 4",
+        pebs: &[RIGHT, WRONG_4],
+        states: &[ScanState::Winner, ScanState::Beaten],
+        winners: &[(0, 0, Some(0)), (0, 1, None)],
+        numbers: (7, 0, 0),
+    },
+    Case {
+        what: "a bad copy 4, a good copy",
+        pebs: &[WRONG_4, RIGHT],
+        states: &[ScanState::Beaten, ScanState::Winner],
+        winners: &[(0, 0, Some(1)), (0, 1, None)],
+        numbers: (7, 0, 0),
+    },
+    Case {
+        what: "a bad copy 6, a bad copy 9, an old member",
+        pebs: &[WRONG_6, WRONG_9, OLD],
+        states: &[ScanState::Beaten, ScanState::Beaten, ScanState::Winner],
+        winners: &[(0, 0, Some(2)), (0, 1, None)],
+        numbers: (9, 0, 0),
+    },
+    Case {
+        what: "a bad copy 9, a good copy, a bad copy 6",
+        pebs: &[WRONG_9, RIGHT, WRONG_6],
+        states: &[ScanState::Beaten, ScanState::Winner, ScanState::Beaten],
+        winners: &[(0, 0, Some(1)), (0, 1, None)],
+        numbers: (9, 0, 0),
+    },
+];
 
 #[test]
 fn a_copy_is_checked_once_it_meets_another_member(rt: HostRuntime) -> Result<(), Fail> {
-    let alloc = rt.alloc();
-    assert_wins(&rt, alloc, &[WRONG_9, OLD], Some(1))?;
-    assert_wins(&rt, alloc, &[OLD, WRONG_9], Some(0))?;
-    assert_wins(&rt, alloc, &[RIGHT, OLD], Some(0))?;
-    assert_wins(&rt, alloc, &[RIGHT, WRONG_4], Some(0))?;
-    assert_wins(&rt, alloc, &[WRONG_4, RIGHT], Some(1))?;
-    assert_wins(&rt, alloc, &[WRONG_6, WRONG_9, OLD], Some(2))?;
-    assert_wins(&rt, alloc, &[WRONG_9, RIGHT, WRONG_6], Some(1))
+    assert_found(&rt, rt.alloc(), &MEETING)
 }
 
 /// Members of volumes 0, 1 and 2.
@@ -229,11 +342,13 @@ const FIRST_OF_2: Peb = Peb {
 /// A volume and a number, and the next logical eraseblock of it from that number on, with its winner.
 type Next = (u32, u32, Option<(u32, u32)>);
 
-/// Asserts which logical eraseblocks are next.
-fn assert_next(rt: &impl Abort, found: &Scan, want: &[Next]) {
+/// Whether the logical eraseblocks that are wanted are next.
+fn has_next(found: &Scan, want: &[Next]) -> bool {
+    let mut has = true;
     for next in want {
-        assert_eq!(*rt; found.next_winner(next.0, next.1), next.2);
+        has = has && found.next_winner(next.0, next.1) == next.2;
     }
+    has
 }
 
 const NEXT: [Next; 8] = [
@@ -249,8 +364,15 @@ const NEXT: [Next; 8] = [
 
 #[test]
 fn finds_the_next_winner_of_a_volume(rt: HostRuntime) -> Result<(), Fail> {
-    let pebs = [FIFTH_OF_1, SECOND_OF_1, NINTH_OF_0, FIRST_OF_2, ERASED];
-    let found = found(rt.alloc(), &pebs)?;
-    assert_next(&rt, &found, &NEXT);
+    let alloc = rt.alloc();
+    let volumes = found(
+        alloc,
+        &[FIFTH_OF_1, SECOND_OF_1, NINTH_OF_0, FIRST_OF_2, ERASED],
+    )?;
+    assert!(rt; has_next(&volumes, &NEXT));
+    let torn = found(alloc, &[TABLE_0, TABLE_1, LEB_0, TORN_1, LEB_2])?;
+    assert!(rt; has_next(&torn, &[(0, 1, Some((1, 3)))]));
+    let erased = found(alloc, &[TABLE_0, TABLE_1, LEB_0, ERASED_1, LEB_2])?;
+    assert!(rt; has_next(&erased, &[(0, 1, Some((2, 4)))]));
     Ok(())
 }

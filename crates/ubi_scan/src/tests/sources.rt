@@ -9,7 +9,6 @@ use crate::{
 };
 use std::alloc::Global;
 use std::fs;
-use std::process::Abort;
 use std::test::Fail;
 use ubi_media::{Refusal, VidHeader};
 
@@ -21,14 +20,16 @@ const OLDER: Peb = Peb {
     ..FREE
 };
 
-/// Asserts how many reads begin in an eraseblock, and how many of them in its data.
-fn assert_reads(rt: &impl Abort, source: &ProbeSource<'_>, p: u32, reads: u64, data_reads: u64) {
-    assert_eq!(rt; source.reads(p), reads, "eraseblock {p}");
-    assert_eq!(rt;
-        source.data_reads(p),
-        data_reads,
-        "the data of eraseblock {p}"
-    );
+/// An eraseblock, how many reads begin in it, and how many of them in its data.
+type Reads = (u32, u64, u64);
+
+/// Whether so many reads began in the eraseblocks, and none went beyond one.
+fn has_reads(source: &ProbeSource<'_>, want: &[Reads]) -> bool {
+    let mut has = source.crossing() == 0;
+    for reads in want {
+        has = has && source.reads(reads.0) == reads.1 && source.data_reads(reads.0) == reads.2;
+    }
+    has
 }
 
 /// The winner of logical eraseblock 0 of volume 0.
@@ -36,118 +37,133 @@ fn winner(answer: Result<Scan, StreamError>) -> Option<u32> {
     answer.ok().and_then(|found| found.winner(0, 0))
 }
 
-/// Of members that meet one another the copies' data are read once each, and those of the others never.
-#[test]
-fn checks_copied_data_once(rt: HostRuntime) -> Result<(), Fail> {
-    let alloc = rt.alloc();
-    let bytes = image(alloc, &[OLD, RIGHT, WRONG_9, OLDER])?;
-    let mut source = ProbeSource::new(alloc, &geometry()?, bytes.as_slice(), 0)?;
-    assert_eq!(rt;
-        winner(scan_from(alloc, &geometry()?, &mut source)),
-        Some(1)
-    );
-    assert_reads(&rt, &source, 0, 2, 0);
-    assert_reads(&rt, &source, 1, 2, 1);
-    assert_reads(&rt, &source, 2, 2, 1);
-    assert_reads(&rt, &source, 3, 1, 0);
-    assert_eq!(rt; source.crossing(), 0);
-    Ok(())
-}
+/// Members of a logical eraseblock, which of them wins, and what is read to find it.
+type Case = (&'static [Peb], u32, &'static [Reads]);
 
-/// Asserts which of three members wins, and how often the data of each are read.
-fn assert_checked(
-    rt: &impl Abort,
-    alloc: Global,
-    pebs: &[Peb],
-    winning: u32,
-    data_reads: [u64; 3],
-) -> Result<(), Fail> {
+/// Of members that meet one another the copies' data are read once each, and those of the others never. The candidate's
+/// headers are read again when the second member comes. A copy is checked where it meets another one, and a copy that is
+/// alone never.
+const CHECKED: [Case; 9] = [
+    (
+        &[OLD, RIGHT, WRONG_9, OLDER],
+        1,
+        &[(0, 2, 0), (1, 2, 1), (2, 2, 1), (3, 1, 0)],
+    ),
+    (
+        &[OLD, RIGHT, WRONG_9],
+        1,
+        &[(0, 2, 0), (1, 2, 1), (2, 2, 1)],
+    ),
+    (
+        &[OLD, WRONG_9, RIGHT],
+        2,
+        &[(0, 2, 0), (1, 2, 1), (2, 2, 1)],
+    ),
+    (
+        &[RIGHT, OLD, WRONG_9],
+        0,
+        &[(0, 3, 1), (1, 1, 0), (2, 2, 1)],
+    ),
+    (
+        &[RIGHT, WRONG_9, OLD],
+        0,
+        &[(0, 3, 1), (1, 2, 1), (2, 1, 0)],
+    ),
+    (
+        &[WRONG_9, OLD, RIGHT],
+        2,
+        &[(0, 3, 1), (1, 1, 0), (2, 2, 1)],
+    ),
+    (
+        &[WRONG_9, RIGHT, OLD],
+        1,
+        &[(0, 3, 1), (1, 2, 1), (2, 1, 0)],
+    ),
+    (
+        &[WRONG_6, WRONG_4, ERASED],
+        1,
+        &[(0, 3, 1), (1, 2, 1), (2, 1, 0)],
+    ),
+    (
+        &[ERASED, WRONG_6, ERASED],
+        1,
+        &[(0, 1, 0), (1, 1, 0), (2, 1, 0)],
+    ),
+];
+
+/// Whether a member wins, and so much is read to find it.
+fn is_checked(alloc: Global, (pebs, winning, reads): &Case) -> Result<bool, Fail> {
     let bytes = image(alloc, pebs)?;
     let mut source = ProbeSource::new(alloc, &geometry()?, bytes.as_slice(), 0)?;
-    assert_eq!(rt;
-        winner(scan_from(alloc, &geometry()?, &mut source)),
-        Some(winning)
-    );
-    assert_eq!(rt; source.data_reads(0), data_reads[0]);
-    assert_eq!(rt; source.data_reads(1), data_reads[1]);
-    assert_eq!(rt; source.data_reads(2), data_reads[2]);
-    assert_eq!(rt; source.crossing(), 0);
-    Ok(())
+    let won = winner(scan_from(alloc, &geometry()?, &mut source));
+    Ok(won == Some(*winning) && has_reads(&source, reads))
 }
 
 #[test]
 fn checks_copied_data_once_in_any_order(rt: HostRuntime) -> Result<(), Fail> {
-    let alloc = rt.alloc();
-    assert_checked(&rt, alloc, &[OLD, RIGHT, WRONG_9], 1, [0, 1, 1])?;
-    assert_checked(&rt, alloc, &[OLD, WRONG_9, RIGHT], 2, [0, 1, 1])?;
-    assert_checked(&rt, alloc, &[RIGHT, OLD, WRONG_9], 0, [1, 0, 1])?;
-    assert_checked(&rt, alloc, &[RIGHT, WRONG_9, OLD], 0, [1, 1, 0])?;
-    assert_checked(&rt, alloc, &[WRONG_9, OLD, RIGHT], 2, [1, 0, 1])?;
-    assert_checked(&rt, alloc, &[WRONG_9, RIGHT, OLD], 1, [1, 1, 0])?;
+    for (index, case) in CHECKED.iter().enumerate() {
+        assert!(rt; is_checked(rt.alloc(), case)?, "case {index}");
+    }
     Ok(())
 }
 
-/// A copy is checked where it meets another one, and a copy that is alone never.
-#[test]
-fn leaves_a_lone_copy_unchecked(rt: HostRuntime) -> Result<(), Fail> {
-    let alloc = rt.alloc();
-    assert_checked(&rt, alloc, &[WRONG_6, WRONG_4, ERASED], 1, [1, 1, 0])?;
-    assert_checked(&rt, alloc, &[ERASED, WRONG_6, ERASED], 1, [0, 0, 0])?;
-    Ok(())
-}
-
-/// Asserts at which eraseblock the read `at` of the scan of some members fails, if any does.
-fn assert_fails(
-    rt: &impl Abort,
-    alloc: Global,
-    bytes: &[u8],
-    at: u64,
-    failed: Option<u32>,
-) -> Result<(), Fail> {
+/// Why a scan fails whose read `at` fails, if it does.
+fn error_of(alloc: Global, bytes: &[u8], at: u64) -> Result<Option<StreamError>, Fail> {
     let mut source = ProbeSource::new(alloc, &geometry()?, bytes, at)?;
-    let error = scan_from(alloc, &geometry()?, &mut source).err();
-    assert_eq!(rt; error, failed.map(|p| StreamError::Read(p, 0)));
-    Ok(())
+    Ok(scan_from(alloc, &geometry()?, &mut source).err())
 }
 
-/// Each read fails in turn, up to one more than there are.
+/// The read that fails, and the error that is told: each in turn, up to one more than there are.
+const FAILING: [(u64, Option<StreamError>); 8] = [
+    (1, Some(StreamError::Read(0, 0))),
+    (2, Some(StreamError::Read(1, 0))),
+    (3, Some(StreamError::Read(0, 0))),
+    (4, Some(StreamError::Read(1, 0))),
+    (5, Some(StreamError::Read(2, 0))),
+    (6, Some(StreamError::Read(2, 0))),
+    (7, Some(StreamError::Read(3, 0))),
+    (8, None),
+];
+
 #[test]
 fn tells_which_read_failed(rt: HostRuntime) -> Result<(), Fail> {
-    let alloc = rt.alloc();
-    let bytes = image(alloc, &[OLD, RIGHT, WRONG_9, OLDER])?;
-    assert_fails(&rt, alloc, bytes.as_slice(), 1, Some(0))?;
-    assert_fails(&rt, alloc, bytes.as_slice(), 2, Some(1))?;
-    assert_fails(&rt, alloc, bytes.as_slice(), 3, Some(0))?;
-    assert_fails(&rt, alloc, bytes.as_slice(), 4, Some(1))?;
-    assert_fails(&rt, alloc, bytes.as_slice(), 5, Some(2))?;
-    assert_fails(&rt, alloc, bytes.as_slice(), 6, Some(2))?;
-    assert_fails(&rt, alloc, bytes.as_slice(), 7, Some(3))?;
-    assert_fails(&rt, alloc, bytes.as_slice(), 8, None)?;
+    let bytes = image(rt.alloc(), &[OLD, RIGHT, WRONG_9, OLDER])?;
+    for (at, want) in &FAILING {
+        assert!(rt;
+            error_of(rt.alloc(), bytes.as_slice(), *at)? == *want,
+            "read {at}"
+        );
+    }
     Ok(())
 }
 
-/// Asserts for what cause bytes of a number are refused, by a source whose first read would fail.
-fn assert_size_refused(
-    rt: &impl Abort,
-    alloc: Global,
-    len: usize,
-    cause: Refusal,
-) -> Result<(), Fail> {
-    let bytes = vec![in alloc; 0xFFu8; len]?;
-    let mut source = ProbeSource::new(alloc, &geometry()?, bytes.as_slice(), 1)?;
-    let error = scan_from(alloc, &geometry()?, &mut source).err();
-    assert_eq!(rt; error, Some(StreamError::Refused(cause)));
-    assert_eq!(rt; source.reads(0), 0);
-    Ok(())
-}
+/// How many bytes there are, and for what cause they are refused before the first read, which would fail.
+const SIZES: [(usize, Refusal); 3] = [
+    (0, Refusal::Length),
+    (511, Refusal::Length),
+    (33 * 512, Refusal::TooMany),
+];
 
 #[test]
 fn refuses_a_size_before_any_read(rt: HostRuntime) -> Result<(), Fail> {
-    let alloc = rt.alloc();
-    assert_size_refused(&rt, alloc, 0, Refusal::Length)?;
-    assert_size_refused(&rt, alloc, 511, Refusal::Length)?;
-    assert_size_refused(&rt, alloc, 33 * 512, Refusal::TooMany)?;
+    let bytes = [0xFF; 33 * 512];
+    for (len, cause) in &SIZES {
+        let bytes = bytes.get(..*len).ok_or("too short")?;
+        let error = error_of(rt.alloc(), bytes, 1)?;
+        assert!(rt; error == Some(StreamError::Refused(*cause)), "{len} bytes");
+    }
     Ok(())
+}
+
+/// Which eraseblock of a file wins, or why it isn't scanned.
+fn file_winner(
+    alloc: Global,
+    file: &mut impl BlockSource,
+) -> Result<Result<Option<u32>, StreamError>, Fail> {
+    Ok(match scan_from(alloc, &geometry()?, file) {
+        Ok(found) => Ok(found.winner(0, 0)),
+        Err(error) => Err(error),
+    })
 }
 
 /// A file is scanned as its bytes are. One that is cut short while it is open fails where its bytes are missing.
@@ -157,20 +173,13 @@ fn scans_a_file_as_memory(rt: HostRuntime) -> Result<(), Fail> {
     let bytes = image(alloc, &[OLD, RIGHT, WRONG_9])?;
     fs::write(&rt, "scanned.img", bytes.as_slice())?;
     let mut memory = MemorySource::new(bytes.as_slice());
+    assert!(rt; file_winner(alloc, &mut memory)? == Ok(Some(1)));
     let mut file = FileSource::open(&rt, "scanned.img")?;
-    assert_eq!(rt; file.len(), memory.len());
-    assert_eq!(rt; winner(scan_from(alloc, &geometry()?, &mut file)), Some(1));
-    assert_eq!(rt;
-        winner(scan_from(alloc, &geometry()?, &mut memory)),
-        Some(1)
-    );
-    fs::write(
-        &rt,
-        "scanned.img",
-        bytes.as_slice().get(..1024).unwrap_or(&[]),
-    )?;
-    let error = scan_from(alloc, &geometry()?, &mut file).err();
-    assert_eq!(rt; error, Some(StreamError::Read(2, 0)));
+    assert!(rt; file.len() == 1536);
+    assert!(rt; file_winner(alloc, &mut file)? == Ok(Some(1)));
+    let short = bytes.as_slice().get(..1024).ok_or("too short")?;
+    fs::write(&rt, "scanned.img", short)?;
+    assert!(rt; file_winner(alloc, &mut file)? == Err(StreamError::Read(2, 0)));
     fs::remove_file(&rt, "scanned.img")?;
     assert!(rt; FileSource::open(&rt, "scanned.img").is_err());
     assert!(rt; FileSource::open(&rt, ".").is_err());
