@@ -5,13 +5,13 @@
 
 ghost use Rattle.std.specs.Prelude.{◌≤◌};
 
-use crate::{Attached, BlockState, Meaning, ReadError, attach, read_leb, read_volume};
+use crate::{Attached, Meaning, ReadError, attach, read_leb, read_volume};
 use std::alloc::{AllocError, Global};
 use std::process::Abort;
 use std::test::Fail;
 use ubi_media::{
-    AttachError, EcHeader, Geometry, GeometryError, LAYOUT_VOLUME, Refusal, VidHeader, VolKind,
-    write_ec, write_vid,
+    AttachError, EcHeader, Geometry, GeometryError, LAYOUT_VOLUME, VidHeader, VolKind, write_ec,
+    write_vid,
 };
 
 /// The check of 64 bytes 0x37. This and those below were worked out by another program.
@@ -437,49 +437,6 @@ pub fn attached(alloc: Global, pebs: &[Peb]) -> Result<Attached, Fail> {
     Ok(attach_bytes(alloc, bytes.as_slice())??)
 }
 
-/// The state of an eraseblock, where there is one.
-fn state_of(attached: &Attached, p: u32) -> Option<BlockState> {
-    if (p as usize) < attached.states().len() {
-        Some(attached.state(p))
-    } else {
-        None
-    }
-}
-
-/// The state of each of some eraseblocks.
-pub fn states(alloc: Global, pebs: &[Peb]) -> Result<Vec<BlockState>, Fail> {
-    let attached = attached(alloc, pebs)?;
-    let mut states = Vec::new(alloc);
-    for p in 0..33u32 {
-        match state_of(&attached, p) {
-            Some(state) => states.push(state)?,
-            None => return Ok(states),
-        }
-    }
-    Err("more eraseblocks than the device has".into())
-}
-
-/// For what cause some eraseblocks are refused, if they are.
-fn refusal(alloc: Global, pebs: &[Peb]) -> Result<Option<Refusal>, Fail> {
-    let bytes = image(alloc, pebs)?;
-    match attach_bytes(alloc, bytes.as_slice())? {
-        Ok(_) => Ok(None),
-        Err(AttachError::Refused(cause)) => Ok(Some(cause)),
-        Err(AttachError::Memory) => Err(AllocError.into()),
-    }
-}
-
-/// Asserts for what cause some eraseblocks are refused, if they are.
-pub fn assert_refusal(
-    rt: &impl Abort,
-    alloc: Global,
-    pebs: &[Peb],
-    want: Option<Refusal>,
-) -> Result<(), Fail> {
-    assert_eq!(*rt; refusal(alloc, pebs)?, want);
-    Ok(())
-}
-
 /// What a volume reads, or why it isn't read. It has no contract, as `attach_bytes`.
 pub fn text_of(alloc: Global, meaning: &Meaning, id: u32) -> Result<Vec<u8>, ReadError> {
     read_volume(alloc, meaning, id)
@@ -507,34 +464,107 @@ fn reading(byte: u8, count: usize, size: usize) -> (Result<usize, ReadError>, [u
     (Ok(size), out)
 }
 
-/// Asserts that a logical eraseblock of volume 0 reads so many bytes: a byte and how often it stands there, 0xFF behind,
-/// and how many there are in all.
-pub fn assert_reads(
-    rt: &impl Abort,
-    meaning: &Meaning,
-    lnum: u32,
-    (byte, count, size): (u8, usize, usize),
-) -> Result<(), Fail> {
-    assert_eq!(*rt;
-        read(meaning, 0, lnum)?,
-        reading(byte, count, size),
-        "logical eraseblock {lnum}"
-    );
-    Ok(())
+/// What a logical eraseblock reads.
+#[derive(Clone, Copy)]
+pub enum Leb {
+    /// So many bytes: a byte and how often it stands there, 0xFF behind, and how many there are in all.
+    Reads(u8, usize, usize),
+    /// It isn't read, and why.
+    Not(ReadError),
 }
 
-/// Asserts that a logical eraseblock of a volume isn't read, and why.
-pub fn assert_not_read(
-    rt: &impl Abort,
-    meaning: &Meaning,
-    id: u32,
-    lnum: u32,
-    cause: ReadError,
-) -> Result<(), Fail> {
-    assert_eq!(*rt;
-        read(meaning, id, lnum)?,
-        (Err(cause), [0xAA; 400]),
-        "logical eraseblock {lnum} of volume {id}"
-    );
+/// What a volume reads as a whole.
+#[derive(Clone, Copy)]
+pub enum Text {
+    /// Bytes, each so many times.
+    Reads(&'static [(u8, usize)]),
+    /// It isn't read, and why.
+    Not(ReadError),
+}
+
+/// Some eraseblocks, and what they mean.
+pub struct Case {
+    pub what: &'static str,
+    pub pebs: &'static [Peb],
+    /// The greatest sequence number.
+    pub top: u64,
+    /// The name of volume 0, where there is one. There are no other volumes.
+    pub name: Option<&'static [u8]>,
+    /// What some logical eraseblocks read, each by its volume and its number.
+    pub lebs: &'static [(u32, u32, Leb)],
+    /// What some volumes read.
+    pub texts: &'static [(u32, Text)],
+}
+
+/// Whether some logical eraseblocks read what is wanted.
+fn has_lebs(meaning: &Meaning, want: &[(u32, u32, Leb)]) -> Result<bool, Fail> {
+    let mut has = true;
+    for (id, lnum, leb) in want {
+        let want = match leb {
+            Leb::Reads(byte, count, size) => reading(*byte, *count, *size),
+            Leb::Not(cause) => (Err(*cause), [0xAA; 400]),
+        };
+        has = has && read(meaning, *id, *lnum)? == want;
+    }
+    Ok(has)
+}
+
+/// Bytes, each so many times.
+fn run(alloc: Global, runs: &[(u8, usize)]) -> Result<Vec<u8>, AllocError> {
+    let mut bytes = Vec::new(alloc);
+    for (byte, count) in runs {
+        for _ in 0..*count {
+            bytes.push(*byte)?;
+        }
+    }
+    Ok(bytes)
+}
+
+/// Whether a volume reads what is wanted.
+fn has_text(alloc: Global, meaning: &Meaning, id: u32, want: &Text) -> Result<bool, Fail> {
+    match (text_of(alloc, meaning, id), want) {
+        (Ok(text), Text::Reads(runs)) => Ok(text.as_slice() == run(alloc, runs)?.as_slice()),
+        (Err(error), Text::Not(cause)) => Ok(error == *cause),
+        _ => Ok(false),
+    }
+}
+
+/// Whether some volumes read what is wanted.
+fn has_texts(alloc: Global, meaning: &Meaning, want: &[(u32, Text)]) -> Result<bool, Fail> {
+    let mut has = true;
+    for (id, text) in want {
+        has = has && has_text(alloc, meaning, *id, text)?;
+    }
+    Ok(has)
+}
+
+/// Whether a meaning has volume 0 with a name alone, or no volume.
+fn has_name(meaning: &Meaning, name: Option<&[u8]>) -> bool {
+    match (meaning.volumes().first(), name) {
+        (Some((id, volume)), Some(name)) => {
+            meaning.volumes().len() == 1 && *id == 0 && volume.entry.name.as_bytes() == name
+        }
+        (None, None) => true,
+        _ => false,
+    }
+}
+
+/// Whether the eraseblocks of a case mean what is wanted.
+fn holds(alloc: Global, case: &Case) -> Result<bool, Fail> {
+    let attached = attached(alloc, case.pebs)?;
+    let meaning = attached.meaning();
+    Ok(
+        attached.top_sqnum() == case.top
+            && has_name(meaning, case.name)
+            && has_lebs(meaning, case.lebs)?
+            && has_texts(alloc, meaning, case.texts)?,
+    )
+}
+
+/// Asserts what the eraseblocks of each case mean.
+pub fn assert_meanings(rt: &impl Abort, alloc: Global, cases: &[Case]) -> Result<(), Fail> {
+    for case in cases {
+        assert!(*rt; holds(alloc, case)?, "{}", case.what);
+    }
     Ok(())
 }

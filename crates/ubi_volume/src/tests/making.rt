@@ -3,7 +3,6 @@
 use super::images::geometry;
 use crate::{Bytes, Content, Lebs, Meaning, MeaningCause, MeaningError, Volume};
 use std::alloc::{AllocError, Global};
-use std::process::Abort;
 use std::test::Fail;
 use ubi_media::{RecFault, VolKind, VolName, VolumeRecord};
 
@@ -150,69 +149,64 @@ fn made(alloc: Global, given: &[(u32, Given)]) -> Result<Meaning, Fail> {
     }
 }
 
-/// Asserts why volumes have no meaning together.
-fn assert_cause(
-    rt: &impl Abort,
-    alloc: Global,
-    given: &[(u32, Given)],
-    want: MeaningCause,
-) -> Result<(), Fail> {
-    assert_eq!(*rt; refused(alloc, given)?.cause, want);
+/// Some volumes, and why they have no meaning together.
+const REFUSED: [(&[(u32, Given)], MeaningCause); 16] = [
+    // Numbers and records.
+    (&[(2, Given::Root(20))], MeaningCause::IdRange(0)),
+    (
+        &[(0, Given::Root(20)), (0, Given::Boot(2))],
+        MeaningCause::SameId(1),
+    ),
+    (
+        &[(0, Given::Root(0))],
+        MeaningCause::Record(0, RecFault::NotEmpty),
+    ),
+    (
+        &[(0, Given::Odd)],
+        MeaningCause::Record(0, RecFault::AlignmentPage),
+    ),
+    // Volumes that don't go together.
+    (
+        &[(0, Given::Root(20)), (1, Given::Root(2))],
+        MeaningCause::SameName(1, 0),
+    ),
+    (&[(0, Given::Root(31))], MeaningCause::NoSpace),
+    (
+        &[(0, Given::Root(20)), (1, Given::Boot(11))],
+        MeaningCause::NoSpace,
+    ),
+    // Contents.
+    (&[(0, Given::Leb(0, 383))], MeaningCause::ContentRange(0)),
+    (&[(0, Given::Leb(20, 384))], MeaningCause::ContentRange(0)),
+    (&[(0, Given::Text(769))], MeaningCause::ContentRange(0)),
+    (&[(0, Given::Marked)], MeaningCause::ContentRange(0)),
+    (&[(0, Given::Unmarked)], MeaningCause::ContentRange(0)),
+    (&[(0, Given::Damaged)], MeaningCause::ContentRange(0)),
+    // A cause of a later item that is tried first.
+    (
+        &[
+            (0, Given::Root(20)),
+            (0, Given::Boot(2)),
+            (2, Given::Root(20)),
+        ],
+        MeaningCause::IdRange(2),
+    ),
+    (
+        &[(0, Given::Leb(0, 383)), (1, Given::Root(20))],
+        MeaningCause::SameName(1, 0),
+    ),
+    (
+        &[(0, Given::Leb(0, 383)), (1, Given::Boot(20))],
+        MeaningCause::NoSpace,
+    ),
+];
+
+#[test]
+fn names_the_first_cause(rt: HostRuntime) -> Result<(), Fail> {
+    for (index, (given, cause)) in REFUSED.iter().enumerate() {
+        assert!(rt; refused(rt.alloc(), given)?.cause == *cause, "case {index}");
+    }
     Ok(())
-}
-
-#[test]
-fn refuses_numbers_and_records(rt: HostRuntime) -> Result<(), Fail> {
-    let alloc = rt.alloc();
-    assert_cause(
-        &rt,
-        alloc,
-        &[(2, Given::Root(20))],
-        MeaningCause::IdRange(0),
-    )?;
-    let twice = &[(0, Given::Root(20)), (0, Given::Boot(2))];
-    assert_cause(&rt, alloc, twice, MeaningCause::SameId(1))?;
-    let not_empty = MeaningCause::Record(0, RecFault::NotEmpty);
-    assert_cause(&rt, alloc, &[(0, Given::Root(0))], not_empty)?;
-    let alignment = MeaningCause::Record(0, RecFault::AlignmentPage);
-    assert_cause(&rt, alloc, &[(0, Given::Odd)], alignment)
-}
-
-#[test]
-fn refuses_volumes_that_do_not_go_together(rt: HostRuntime) -> Result<(), Fail> {
-    let alloc = rt.alloc();
-    let twice = &[(0, Given::Root(20)), (1, Given::Root(2))];
-    assert_cause(&rt, alloc, twice, MeaningCause::SameName(1, 0))?;
-    assert_cause(&rt, alloc, &[(0, Given::Root(31))], MeaningCause::NoSpace)?;
-    let large = &[(0, Given::Root(20)), (1, Given::Boot(11))];
-    assert_cause(&rt, alloc, large, MeaningCause::NoSpace)
-}
-
-#[test]
-fn refuses_contents(rt: HostRuntime) -> Result<(), Fail> {
-    let alloc = rt.alloc();
-    let cause = MeaningCause::ContentRange(0);
-    assert_cause(&rt, alloc, &[(0, Given::Leb(0, 383))], cause)?;
-    assert_cause(&rt, alloc, &[(0, Given::Leb(20, 384))], cause)?;
-    assert_cause(&rt, alloc, &[(0, Given::Text(769))], cause)?;
-    assert_cause(&rt, alloc, &[(0, Given::Marked)], cause)?;
-    assert_cause(&rt, alloc, &[(0, Given::Unmarked)], cause)?;
-    assert_cause(&rt, alloc, &[(0, Given::Damaged)], cause)
-}
-
-#[test]
-fn tries_a_cause_of_a_later_item_first(rt: HostRuntime) -> Result<(), Fail> {
-    let alloc = rt.alloc();
-    let given = &[
-        (0, Given::Root(20)),
-        (0, Given::Boot(2)),
-        (2, Given::Root(20)),
-    ];
-    assert_cause(&rt, alloc, given, MeaningCause::IdRange(2))?;
-    let given = &[(0, Given::Leb(0, 383)), (1, Given::Root(20))];
-    assert_cause(&rt, alloc, given, MeaningCause::SameName(1, 0))?;
-    let given = &[(0, Given::Leb(0, 383)), (1, Given::Boot(20))];
-    assert_cause(&rt, alloc, given, MeaningCause::NoSpace)
 }
 
 /// The number of an item.
@@ -236,12 +230,12 @@ fn hands_the_volumes_back(rt: HostRuntime) -> Result<(), Fail> {
     let alloc = rt.alloc();
     let given = &[(1, Given::Leb(0, 383)), (0, Given::Text(768))];
     let error = refused(alloc, given)?;
-    assert_eq!(rt; error.cause, MeaningCause::ContentRange(0));
-    assert_eq!(rt; error.volumes.len(), 2);
-    assert_eq!(rt; id_of(error.volumes.first()), Some(1));
-    assert_eq!(rt; id_of(error.volumes.last()), Some(0));
+    assert!(rt; error.cause == MeaningCause::ContentRange(0));
+    assert!(rt; error.volumes.len() == 2);
+    assert!(rt; id_of(error.volumes.first()) == Some(1));
+    assert!(rt; id_of(error.volumes.last()) == Some(0));
     let (_, volume) = error.volumes.first().ok_or("an item")?;
-    assert_eq!(rt; leb_of(volume, 0)?, (Some(383), 1));
+    assert!(rt; leb_of(volume, 0)? == (Some(383), 1));
     assert!(rt; error.volumes == volumes(alloc, given)?);
     Ok(())
 }
@@ -250,39 +244,33 @@ fn hands_the_volumes_back(rt: HostRuntime) -> Result<(), Fail> {
 fn sorts_and_drops_what_is_blank(rt: HostRuntime) -> Result<(), Fail> {
     let meaning = made(rt.alloc(), &[(1, Given::Blank), (0, Given::Text(768))])?;
     let volumes = meaning.volumes();
-    assert_eq!(rt; volumes.len(), 2);
-    assert_eq!(rt; id_of(volumes.first()), Some(0));
-    assert_eq!(rt; id_of(volumes.last()), Some(1));
+    assert!(rt; volumes.len() == 2);
+    assert!(rt; id_of(volumes.first()) == Some(0));
+    assert!(rt; id_of(volumes.last()) == Some(1));
     let (_, volume) = volumes.last().ok_or("an item")?;
-    assert_eq!(rt; leb_of(volume, 5)?, (Some(384), 1));
+    assert!(rt; leb_of(volume, 5)? == (Some(384), 1));
     Ok(())
 }
 
-/// Asserts whether a meaning is that of some volumes.
-fn assert_equal(
-    rt: &impl Abort,
-    alloc: Global,
-    meaning: &Meaning,
-    given: &[(u32, Given)],
-    want: bool,
-) -> Result<(), Fail> {
-    let other = made(alloc, given)?;
-    assert_eq!(*rt; *meaning == other, want);
-    Ok(())
-}
+/// Volumes, and whether their meaning is that of a dynamic volume with logical eraseblock 3 and a full static one.
+const COMPARED: [(&[(u32, Given)], bool); 4] = [
+    (&[(1, Given::Text(768)), (0, Given::Leb(3, 384))], true),
+    (&[(0, Given::Leb(3, 384)), (1, Given::Text(767))], false),
+    (&[(0, Given::Leb(4, 384)), (1, Given::Text(768))], false),
+    (&[(0, Given::Root(20)), (1, Given::Text(768))], false),
+];
 
 #[test]
 fn compares_meanings(rt: HostRuntime) -> Result<(), Fail> {
-    let alloc = rt.alloc();
-    let one = made(alloc, &[(0, Given::Leb(3, 384)), (1, Given::Text(768))])?;
-    let turned = &[(1, Given::Text(768)), (0, Given::Leb(3, 384))];
-    assert_equal(&rt, alloc, &one, turned, true)?;
-    let shorter = &[(0, Given::Leb(3, 384)), (1, Given::Text(767))];
-    assert_equal(&rt, alloc, &one, shorter, false)?;
-    let elsewhere = &[(0, Given::Leb(4, 384)), (1, Given::Text(768))];
-    assert_equal(&rt, alloc, &one, elsewhere, false)?;
-    let blank = &[(0, Given::Root(20)), (1, Given::Text(768))];
-    assert_equal(&rt, alloc, &one, blank, false)
+    let one = made(
+        rt.alloc(),
+        &[(0, Given::Leb(3, 384)), (1, Given::Text(768))],
+    )?;
+    for (index, (given, is_equal)) in COMPARED.iter().enumerate() {
+        let other = made(rt.alloc(), given)?;
+        assert!(rt; (one == other) == *is_equal, "case {index}");
+    }
+    Ok(())
 }
 
 /// The number of a logical eraseblock, and how many bytes it has.
@@ -301,9 +289,9 @@ fn goes_over_logical_eraseblocks(rt: HostRuntime) -> Result<(), Fail> {
     lebs.insert(2, bytes(alloc, 0x41, 2)?)?;
     lebs.insert(5, bytes(alloc, 0x41, 5)?)?;
     let mut entries = lebs.iter();
-    assert_eq!(rt; size_of(entries.next()), Some((2, 2)));
-    assert_eq!(rt; size_of(entries.next()), Some((5, 5)));
-    assert_eq!(rt; size_of(entries.next()), Some((7, 7)));
-    assert_eq!(rt; size_of(entries.next()), None);
+    assert!(rt; size_of(entries.next()) == Some((2, 2)));
+    assert!(rt; size_of(entries.next()) == Some((5, 5)));
+    assert!(rt; size_of(entries.next()) == Some((7, 7)));
+    assert!(rt; size_of(entries.next()) == None);
     Ok(())
 }

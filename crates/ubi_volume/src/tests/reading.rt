@@ -1,107 +1,118 @@
 //! What dynamic volumes read.
 
 use super::images::{
-    A, ALIGNMENT_256, B, BASE, C, COPIED, COPY_0, COPY_1, Data, ERASED, Ec, FIRST, FIRST_FLIPPED,
-    FIRST_MARKED, LEB_1, MISCOPIED, PADDED, PLAIN, Peb, SECOND, SECOND_MARKED, Vid,
-    assert_not_read, assert_reads, attached, base_text, text_of,
+    A, ALIGNMENT_256, B, BASE, C, COPIED, COPY_0, COPY_1, Case, Data, ERASED, Ec, FIRST,
+    FIRST_FLIPPED, FIRST_MARKED, LEB_1, Leb, MISCOPIED, PADDED, PLAIN, Peb, SECOND, SECOND_MARKED,
+    Text, Vid, assert_meanings, attached,
 };
-use crate::{Attached, Content, Meaning, ReadError};
-use std::alloc::Global;
-use std::process::Abort;
+use crate::{Content, ReadError};
 use std::test::Fail;
 use ubi_media::{LAYOUT_VOLUME, VidHeader, VolKind};
 
 #[test]
 fn attaches_an_image(rt: HostRuntime) -> Result<(), Fail> {
     let attached = attached(rt.alloc(), &BASE)?;
-    assert_eq!(rt; attached.top_sqnum(), 0);
-    assert_eq!(rt; attached.image_seq(), 305_419_896);
-    assert_eq!(rt; attached.mean_ec(), 0);
-    assert_eq!(rt; attached.winner(LAYOUT_VOLUME, 1), Some(1));
-    assert_eq!(rt; attached.winner(0, 2), Some(4));
-    assert_eq!(rt; attached.winner(0, 3), None);
-    Ok(())
-}
-
-/// Asserts that a meaning has `root` alone.
-fn assert_root(rt: &impl Abort, meaning: &Meaning) -> Result<(), Fail> {
-    assert_eq!(*rt; meaning.volumes().len(), 1);
-    assert_eq!(*rt; meaning.volumes().first().map(|item| item.0), Some(0));
-    let volume = meaning.get(0).ok_or("a volume")?;
-    assert_eq!(*rt; volume.entry.name.as_bytes(), b"root".as_slice());
-    assert_eq!(*rt; volume.entry.reserved, 20);
-    assert_eq!(*rt; volume.entry.kind, VolKind::Dynamic);
-    assert!(*rt; meaning.get(1).is_none());
+    assert!(rt; attached.image_seq() == 305_419_896);
+    assert!(rt; attached.mean_ec() == 0);
+    assert!(rt; attached.winner(LAYOUT_VOLUME, 1) == Some(1));
+    assert!(rt; attached.winner(0, 2) == Some(4));
+    assert!(rt; attached.winner(0, 3).is_none());
     Ok(())
 }
 
 #[test]
 fn attaches_a_volume(rt: HostRuntime) -> Result<(), Fail> {
     let attached = attached(rt.alloc(), &BASE)?;
-    assert_eq!(rt; attached.meaning().geometry().leb_size(), 384);
-    assert_root(&rt, attached.meaning())
-}
-
-/// Asserts that neither a logical eraseblock of a volume is read nor all of it, since there is none.
-fn assert_no_volume(
-    rt: &impl Abort,
-    alloc: Global,
-    meaning: &Meaning,
-    id: u32,
-) -> Result<(), Fail> {
-    assert_not_read(rt, meaning, id, 0, ReadError::NoVolume)?;
-    assert_eq!(*rt;
-        text_of(alloc, meaning, id).err(),
-        Some(ReadError::NoVolume)
-    );
-    Ok(())
-}
-
-#[test]
-fn reads_a_volume(rt: HostRuntime) -> Result<(), Fail> {
-    let attached = attached(rt.alloc(), &BASE)?;
-    let text = text_of(rt.alloc(), attached.meaning(), 0)?;
-    assert_eq!(rt; text.as_slice(), base_text().as_slice());
-    Ok(())
-}
-
-#[test]
-fn reads_logical_eraseblocks(rt: HostRuntime) -> Result<(), Fail> {
-    let attached = attached(rt.alloc(), &BASE)?;
     let meaning = attached.meaning();
-    assert_reads(&rt, meaning, 0, (0x41, 384, 384))?;
-    assert_reads(&rt, meaning, 1, (0x42, 384, 384))?;
-    assert_reads(&rt, meaning, 2, (0x43, 384, 384))?;
-    for lnum in 3..20u32 {
-        assert_reads(&rt, meaning, lnum, (0xFF, 384, 384))?;
-    }
-    assert_not_read(&rt, meaning, 0, 20, ReadError::OutOfRange)?;
-    assert_not_read(&rt, meaning, 0, u32::MAX, ReadError::OutOfRange)
+    assert!(rt; meaning.geometry().leb_size() == 384);
+    let volume = meaning.get(0).ok_or("a volume")?;
+    assert!(rt; volume.entry.reserved == 20);
+    assert!(rt; volume.entry.kind == VolKind::Dynamic);
+    assert!(rt; meaning.get(1).is_none());
+    Ok(())
 }
+
+/// A logical eraseblock that is blank.
+const BLANK: Leb = Leb::Reads(0xFF, 384, 384);
+
+/// A volume that reads three logical eraseblocks and 17 blank ones, and volumes that are not there.
+const READ: [Case; 4] = [
+    Case {
+        what: "a volume",
+        pebs: &BASE,
+        top: 0,
+        name: Some(b"root"),
+        lebs: &[
+            (0, 0, Leb::Reads(0x41, 384, 384)),
+            (0, 1, Leb::Reads(0x42, 384, 384)),
+            (0, 2, Leb::Reads(0x43, 384, 384)),
+            (0, 3, BLANK),
+            (0, 4, BLANK),
+            (0, 5, BLANK),
+            (0, 6, BLANK),
+            (0, 7, BLANK),
+            (0, 8, BLANK),
+            (0, 9, BLANK),
+            (0, 10, BLANK),
+            (0, 11, BLANK),
+            (0, 12, BLANK),
+            (0, 13, BLANK),
+            (0, 14, BLANK),
+            (0, 15, BLANK),
+            (0, 16, BLANK),
+            (0, 17, BLANK),
+            (0, 18, BLANK),
+            (0, 19, BLANK),
+            (0, 20, Leb::Not(ReadError::OutOfRange)),
+            (0, u32::MAX, Leb::Not(ReadError::OutOfRange)),
+            (1, 0, Leb::Not(ReadError::NoVolume)),
+            (2, 0, Leb::Not(ReadError::NoVolume)),
+            (200, 0, Leb::Not(ReadError::NoVolume)),
+            (LAYOUT_VOLUME, 0, Leb::Not(ReadError::NoVolume)),
+        ],
+        texts: &[
+            (
+                0,
+                Text::Reads(&[(0x41, 384), (0x42, 384), (0x43, 384), (0xFF, 6528)]),
+            ),
+            (1, Text::Not(ReadError::NoVolume)),
+            (2, Text::Not(ReadError::NoVolume)),
+            (200, Text::Not(ReadError::NoVolume)),
+            (LAYOUT_VOLUME, Text::Not(ReadError::NoVolume)),
+        ],
+    },
+    Case {
+        what: "a copy of the table that is corrupt",
+        pebs: &[FIRST_FLIPPED, SECOND, A, B, C],
+        top: 0,
+        name: Some(b"root"),
+        lebs: &[(0, 1, Leb::Reads(0x42, 384, 384))],
+        texts: &[],
+    },
+    Case {
+        what: "a volume that is updated",
+        pebs: &[FIRST_MARKED, SECOND_MARKED, A, B, C],
+        top: 0,
+        name: Some(b"root"),
+        lebs: &[
+            (0, 0, Leb::Not(ReadError::Updating)),
+            (0, 20, Leb::Not(ReadError::Updating)),
+        ],
+        texts: &[(0, Text::Not(ReadError::Updating))],
+    },
+    Case {
+        what: "an erased image",
+        pebs: &[ERASED, ERASED],
+        top: 0,
+        name: None,
+        lebs: &[(0, 0, Leb::Not(ReadError::NoVolume))],
+        texts: &[],
+    },
+];
 
 #[test]
-fn reads_no_volume_that_is_not_there(rt: HostRuntime) -> Result<(), Fail> {
-    let alloc = rt.alloc();
-    let attached = attached(alloc, &BASE)?;
-    let meaning = attached.meaning();
-    assert_no_volume(&rt, alloc, meaning, 1)?;
-    assert_no_volume(&rt, alloc, meaning, 2)?;
-    assert_no_volume(&rt, alloc, meaning, 200)?;
-    assert_no_volume(&rt, alloc, meaning, LAYOUT_VOLUME)
-}
-
-/// Asserts what the first logical eraseblock of an image reads: 64 times a byte, and 0xFF behind.
-fn assert_copy(rt: &impl Abort, alloc: Global, pebs: &[Peb], byte: u8) -> Result<Attached, Fail> {
-    let attached = attached(alloc, pebs)?;
-    assert_reads(rt, attached.meaning(), 0, (byte, 64, 384))?;
-    Ok(attached)
-}
-
-/// Asserts that of these eraseblocks the copy of bytes 0x37 is read.
-fn assert_good(rt: &impl Abort, alloc: Global, pebs: &[Peb]) -> Result<(), Fail> {
-    let attached = assert_copy(rt, alloc, pebs, 0x37)?;
-    assert_eq!(*rt; attached.top_sqnum(), 9);
-    Ok(())
+fn reads_volumes(rt: HostRuntime) -> Result<(), Fail> {
+    assert_meanings(&rt, rt.alloc(), &READ)
 }
 
 /// What `A` holds, older than its copies.
@@ -117,15 +128,61 @@ const GOOD: Peb = Peb(Ec::Zero, Vid::Is(COPIED), Data::Filled(0x37, 64));
 /// A newer copy that isn't.
 const BAD: Peb = Peb(Ec::Zero, Vid::Is(MISCOPIED), Data::Filled(0x39, 64));
 
+/// A member, a newer copy that is whole and one that is newer still and isn't, in any order.
+const COPIES: [Case; 6] = [
+    Case {
+        what: "old, good, bad",
+        pebs: &[FIRST, SECOND, OLD, GOOD, BAD],
+        top: 9,
+        name: Some(b"root"),
+        lebs: &[(0, 0, Leb::Reads(0x37, 64, 384))],
+        texts: &[],
+    },
+    Case {
+        what: "old, bad, good",
+        pebs: &[FIRST, SECOND, OLD, BAD, GOOD],
+        top: 9,
+        name: Some(b"root"),
+        lebs: &[(0, 0, Leb::Reads(0x37, 64, 384))],
+        texts: &[],
+    },
+    Case {
+        what: "good, old, bad",
+        pebs: &[FIRST, SECOND, GOOD, OLD, BAD],
+        top: 9,
+        name: Some(b"root"),
+        lebs: &[(0, 0, Leb::Reads(0x37, 64, 384))],
+        texts: &[],
+    },
+    Case {
+        what: "good, bad, old",
+        pebs: &[FIRST, SECOND, GOOD, BAD, OLD],
+        top: 9,
+        name: Some(b"root"),
+        lebs: &[(0, 0, Leb::Reads(0x37, 64, 384))],
+        texts: &[],
+    },
+    Case {
+        what: "bad, old, good",
+        pebs: &[FIRST, SECOND, BAD, OLD, GOOD],
+        top: 9,
+        name: Some(b"root"),
+        lebs: &[(0, 0, Leb::Reads(0x37, 64, 384))],
+        texts: &[],
+    },
+    Case {
+        what: "bad, good, old",
+        pebs: &[FIRST, SECOND, BAD, GOOD, OLD],
+        top: 9,
+        name: Some(b"root"),
+        lebs: &[(0, 0, Leb::Reads(0x37, 64, 384))],
+        texts: &[],
+    },
+];
+
 #[test]
 fn reads_the_newest_good_copy_in_any_order(rt: HostRuntime) -> Result<(), Fail> {
-    let alloc = rt.alloc();
-    assert_good(&rt, alloc, &[FIRST, SECOND, OLD, GOOD, BAD])?;
-    assert_good(&rt, alloc, &[FIRST, SECOND, OLD, BAD, GOOD])?;
-    assert_good(&rt, alloc, &[FIRST, SECOND, GOOD, OLD, BAD])?;
-    assert_good(&rt, alloc, &[FIRST, SECOND, GOOD, BAD, OLD])?;
-    assert_good(&rt, alloc, &[FIRST, SECOND, BAD, OLD, GOOD])?;
-    assert_good(&rt, alloc, &[FIRST, SECOND, BAD, GOOD, OLD])
+    assert_meanings(&rt, rt.alloc(), &COPIES)
 }
 
 /// A copy that isn't whole.
@@ -148,22 +205,37 @@ const NEWER_BAD: Peb = Peb(
     Data::Filled(0x38, 64),
 );
 
-#[test]
-fn reads_bad_copies_where_nothing_is_older(rt: HostRuntime) -> Result<(), Fail> {
-    let alloc = rt.alloc();
-    assert_copy(&rt, alloc, &[FIRST, SECOND, OLDER_BAD, NEWER_BAD], 0x39)?;
-    assert_copy(&rt, alloc, &[FIRST, SECOND, NEWER_BAD, OLDER_BAD], 0x39)?;
-    assert_copy(&rt, alloc, &[FIRST, SECOND, NEWER_BAD], 0x38)?;
-    Ok(())
-}
+/// Copies that are not whole, alone.
+const BAD_COPIES: [Case; 3] = [
+    Case {
+        what: "older, newer",
+        pebs: &[FIRST, SECOND, OLDER_BAD, NEWER_BAD],
+        top: 6,
+        name: Some(b"root"),
+        lebs: &[(0, 0, Leb::Reads(0x39, 64, 384))],
+        texts: &[],
+    },
+    Case {
+        what: "newer, older",
+        pebs: &[FIRST, SECOND, NEWER_BAD, OLDER_BAD],
+        top: 6,
+        name: Some(b"root"),
+        lebs: &[(0, 0, Leb::Reads(0x39, 64, 384))],
+        texts: &[],
+    },
+    Case {
+        what: "one alone",
+        pebs: &[FIRST, SECOND, NEWER_BAD],
+        top: 6,
+        name: Some(b"root"),
+        lebs: &[(0, 0, Leb::Reads(0x38, 64, 384))],
+        texts: &[],
+    },
+];
 
 #[test]
-fn reads_by_the_copy_of_the_table_that_is_whole(rt: HostRuntime) -> Result<(), Fail> {
-    let attached = attached(rt.alloc(), &[FIRST_FLIPPED, SECOND, A, B, C])?;
-    let meaning = attached.meaning();
-    let volume = meaning.get(0).ok_or("a volume")?;
-    assert_eq!(rt; volume.entry.name.as_bytes(), b"root".as_slice());
-    assert_reads(&rt, meaning, 1, (0x42, 384, 384))
+fn reads_bad_copies_where_nothing_is_older(rt: HostRuntime) -> Result<(), Fail> {
+    assert_meanings(&rt, rt.alloc(), &BAD_COPIES)
 }
 
 /// The first copy of a table whose volume leaves 128 bytes of each logical eraseblock free.
@@ -178,40 +250,76 @@ const ALIGNED: Peb = Peb(Ec::Zero, Vid::Is(PADDED), Data::Filled(0x41, 256));
 /// The same, with zeros there.
 const ALIGNED_ZEROS: Peb = Peb(Ec::Zero, Vid::Is(PADDED), Data::Zeroed(0x41, 256));
 
-/// What 20 logical eraseblocks of 256 bytes read, of which the first holds bytes 0x41.
-fn aligned_text() -> [u8; 5120] {
-    let mut text = [0xFF; 5120];
-    text[..256].fill(0x41);
-    text
-}
+/// What `B` holds, behind an erase-counter header that is corrupt.
+const CORRUPT_B: Peb = Peb(Ec::Corrupt, Vid::Is(LEB_1), Data::Filled(0x42, 384));
 
-/// Asserts that an image has such a volume.
-fn assert_aligned(rt: &impl Abort, alloc: Global, pebs: &[Peb]) -> Result<(), Fail> {
-    let attached = attached(alloc, pebs)?;
-    let meaning = attached.meaning();
-    assert_reads(rt, meaning, 0, (0x41, 256, 256))?;
-    assert_reads(rt, meaning, 19, (0xFF, 256, 256))?;
-    let text = text_of(alloc, meaning, 0)?;
-    assert_eq!(*rt; text.as_slice(), aligned_text().as_slice());
-    Ok(())
-}
+/// The same behind a blank one.
+const FORGOTTEN_B: Peb = Peb(Ec::Blank, Vid::Is(LEB_1), Data::Filled(0x42, 384));
+
+/// An alignment that leaves bytes free, and erase-counter headers that can't be read.
+const HALF: [Case; 4] = [
+    Case {
+        what: "zeros behind what is read",
+        pebs: &[FIRST_ALIGNED, SECOND_ALIGNED, ALIGNED_ZEROS],
+        top: 0,
+        name: Some(b"root"),
+        lebs: &[
+            (0, 0, Leb::Reads(0x41, 256, 256)),
+            (0, 19, Leb::Reads(0xFF, 256, 256)),
+        ],
+        texts: &[(0, Text::Reads(&[(0x41, 256), (0xFF, 4864)]))],
+    },
+    Case {
+        what: "0xFF behind what is read",
+        pebs: &[FIRST_ALIGNED, SECOND_ALIGNED, ALIGNED],
+        top: 0,
+        name: Some(b"root"),
+        lebs: &[
+            (0, 0, Leb::Reads(0x41, 256, 256)),
+            (0, 19, Leb::Reads(0xFF, 256, 256)),
+        ],
+        texts: &[(0, Text::Reads(&[(0x41, 256), (0xFF, 4864)]))],
+    },
+    Case {
+        what: "a corrupt erase-counter header",
+        pebs: &[FIRST, SECOND, A, CORRUPT_B, C],
+        top: 0,
+        name: Some(b"root"),
+        lebs: &[(0, 1, Leb::Reads(0x42, 384, 384))],
+        texts: &[],
+    },
+    Case {
+        what: "a blank erase-counter header",
+        pebs: &[FIRST, SECOND, A, FORGOTTEN_B, C],
+        top: 0,
+        name: Some(b"root"),
+        lebs: &[(0, 1, BLANK)],
+        texts: &[],
+    },
+];
 
 #[test]
-fn reads_as_many_bytes_as_the_alignment_leaves(rt: HostRuntime) -> Result<(), Fail> {
-    let alloc = rt.alloc();
-    assert_aligned(&rt, alloc, &[FIRST_ALIGNED, SECOND_ALIGNED, ALIGNED_ZEROS])?;
-    assert_aligned(&rt, alloc, &[FIRST_ALIGNED, SECOND_ALIGNED, ALIGNED])
+fn reads_by_alignment_and_behind_erase_counters(rt: HostRuntime) -> Result<(), Fail> {
+    assert_meanings(&rt, rt.alloc(), &HALF)
 }
 
 /// A logical eraseblock of bytes 0xFF in the place of `B`.
 const BLANK_B: Peb = Peb(Ec::Zero, Vid::Is(LEB_1), Data::Filled(0xFF, 384));
 
+const WITH_BLANK: [Case; 1] = [Case {
+    what: "a logical eraseblock of 0xFF",
+    pebs: &[FIRST, SECOND, A, BLANK_B, C],
+    top: 0,
+    name: Some(b"root"),
+    lebs: &[(0, 1, BLANK)],
+    texts: &[],
+}];
+
 #[test]
 fn keeps_no_logical_eraseblock_of_0xff(rt: HostRuntime) -> Result<(), Fail> {
+    assert_meanings(&rt, rt.alloc(), &WITH_BLANK)?;
     let attached = attached(rt.alloc(), &[FIRST, SECOND, A, BLANK_B, C])?;
-    let meaning = attached.meaning();
-    assert_reads(&rt, meaning, 1, (0xFF, 384, 384))?;
-    let volume = meaning.get(0).ok_or("a volume")?;
+    let volume = attached.meaning().get(0).ok_or("a volume")?;
     let Content::Dynamic(lebs) = &volume.content else {
         return Err("a dynamic volume".into());
     };
@@ -220,42 +328,4 @@ fn keeps_no_logical_eraseblock_of_0xff(rt: HostRuntime) -> Result<(), Fail> {
     assert!(rt; lebs.get(2).is_some());
     assert!(rt; lebs.get(3).is_none());
     Ok(())
-}
-
-/// What `B` holds, behind an erase-counter header that is corrupt.
-const CORRUPT_B: Peb = Peb(Ec::Corrupt, Vid::Is(LEB_1), Data::Filled(0x42, 384));
-
-/// The same behind a blank one.
-const FORGOTTEN_B: Peb = Peb(Ec::Blank, Vid::Is(LEB_1), Data::Filled(0x42, 384));
-
-/// Asserts that the second logical eraseblock of an image reads a byte throughout.
-fn assert_leb_1(rt: &impl Abort, alloc: Global, pebs: &[Peb], byte: u8) -> Result<(), Fail> {
-    let attached = attached(alloc, pebs)?;
-    assert_reads(rt, attached.meaning(), 1, (byte, 384, 384))
-}
-
-#[test]
-fn reads_through_a_corrupt_erase_counter(rt: HostRuntime) -> Result<(), Fail> {
-    let alloc = rt.alloc();
-    assert_leb_1(&rt, alloc, &[FIRST, SECOND, A, CORRUPT_B, C], 0x42)?;
-    assert_leb_1(&rt, alloc, &[FIRST, SECOND, A, FORGOTTEN_B, C], 0xFF)
-}
-
-#[test]
-fn reads_no_volume_that_is_updated(rt: HostRuntime) -> Result<(), Fail> {
-    let alloc = rt.alloc();
-    let attached = attached(alloc, &[FIRST_MARKED, SECOND_MARKED, A, B, C])?;
-    let meaning = attached.meaning();
-    assert_not_read(&rt, meaning, 0, 0, ReadError::Updating)?;
-    assert_not_read(&rt, meaning, 0, 20, ReadError::Updating)?;
-    assert_eq!(rt; text_of(alloc, meaning, 0).err(), Some(ReadError::Updating));
-    Ok(())
-}
-
-#[test]
-fn an_erased_image_has_no_volume(rt: HostRuntime) -> Result<(), Fail> {
-    let attached = attached(rt.alloc(), &[ERASED, ERASED])?;
-    let meaning = attached.meaning();
-    assert!(rt; meaning.volumes().is_empty());
-    assert_not_read(&rt, meaning, 0, 0, ReadError::NoVolume)
 }

@@ -2,14 +2,14 @@
 
 use super::images::{
     A, B, BASE, Data, Ec, FIRST, FIRST_BOOT, FIRST_MARKED, PLAIN, Peb, SECOND, SECOND_BOOT,
-    SECOND_MARKED, STATIC, TEXT_0, TEXT_1, Vid, geometry, image,
+    SECOND_MARKED, STATIC, STATIC_0, STATIC_1, TEXT_0, TEXT_1, Vid, geometry, image,
 };
 use crate::{PlaceContent, Places, attach_places};
 use std::alloc::Global;
-use std::process::Abort;
+use std::fs;
 use std::test::Fail;
 use ubi_media::{Refusal, VidHeader};
-use ubi_scan::{MemorySource, ProbeSource, StreamError, scan_from};
+use ubi_scan::{FileSource, MemorySource, ProbeSource, StreamError, scan_from};
 use ubi_table::choose_from;
 
 /// What a volume reads. None where the table has no such volume.
@@ -20,48 +20,40 @@ fn content(places: &Places, id: u32) -> Option<PlaceContent> {
     }
 }
 
-/// Asserts what volume 0 of some eraseblocks reads.
-fn assert_content(
-    rt: &impl Abort,
-    alloc: Global,
-    pebs: &[Peb],
-    want: PlaceContent,
-) -> Result<(), Fail> {
+/// A text in two logical eraseblocks.
+const TEXT: PlaceContent = PlaceContent::Static {
+    lebs: 2,
+    bytes: 385,
+};
+
+/// What is known of an image without its contents.
+fn places_of(alloc: Global, pebs: &[Peb]) -> Result<Places, Fail> {
     let bytes = image(alloc, pebs)?;
     let mut source = MemorySource::new(bytes.as_slice());
-    let places = attach_places(alloc, &geometry()?, &mut source)?;
-    assert_eq!(*rt; content(&places, 0), Some(want));
-    assert_eq!(*rt; content(&places, 1), None);
-    Ok(())
+    Ok(attach_places(alloc, &geometry()?, &mut source)?)
 }
+
+/// Some eraseblocks, and what volume 0 of them reads.
+const CONTENTS: [(&[Peb], PlaceContent); 6] = [
+    (&BASE, PlaceContent::Dynamic),
+    (&[FIRST_MARKED, SECOND_MARKED], PlaceContent::Updating),
+    (
+        &[FIRST_BOOT, SECOND_BOOT],
+        PlaceContent::Static { lebs: 0, bytes: 0 },
+    ),
+    (&[FIRST_BOOT, SECOND_BOOT, TEXT_0, TEXT_1], TEXT),
+    (&[FIRST_BOOT, SECOND_BOOT, TEXT_0], PlaceContent::Damaged),
+    (&[FIRST_BOOT, SECOND_BOOT, TEXT_1], PlaceContent::Damaged),
+];
 
 #[test]
 fn finds_what_volumes_read(rt: HostRuntime) -> Result<(), Fail> {
-    let alloc = rt.alloc();
-    let (dynamic, updating) = (PlaceContent::Dynamic, PlaceContent::Updating);
-    assert_content(&rt, alloc, &BASE, dynamic)?;
-    assert_content(&rt, alloc, &[FIRST_MARKED, SECOND_MARKED], updating)?;
-    let empty = PlaceContent::Static { lebs: 0, bytes: 0 };
-    assert_content(&rt, alloc, &[FIRST_BOOT, SECOND_BOOT], empty)?;
-    let text = PlaceContent::Static {
-        lebs: 2,
-        bytes: 385,
-    };
-    assert_content(&rt, alloc, &[FIRST_BOOT, SECOND_BOOT, TEXT_0, TEXT_1], text)?;
-    let damaged = PlaceContent::Damaged;
-    assert_content(&rt, alloc, &[FIRST_BOOT, SECOND_BOOT, TEXT_0], damaged)?;
-    assert_content(&rt, alloc, &[FIRST_BOOT, SECOND_BOOT, TEXT_1], damaged)?;
+    for (index, (pebs, want)) in CONTENTS.iter().enumerate() {
+        let places = places_of(rt.alloc(), pebs)?;
+        assert!(rt; content(&places, 0) == Some(*want), "case {index}");
+        assert!(rt; content(&places, 1).is_none(), "case {index}");
+    }
     Ok(())
-}
-
-/// Asserts how many reads begin in an eraseblock, and how many of them in its data.
-fn assert_read(rt: &impl Abort, source: &ProbeSource<'_>, p: u32, reads: u64, data_reads: u64) {
-    assert_eq!(*rt; source.reads(p), reads, "eraseblock {p}");
-    assert_eq!(*rt;
-        source.data_reads(p),
-        data_reads,
-        "the data of eraseblock {p}"
-    );
 }
 
 /// A logical eraseblock beyond those that its volume reserves. It doesn't count.
@@ -71,46 +63,115 @@ const BEYOND: Peb = Peb(
     Data::Filled(0x44, 384),
 );
 
-/// What is known of an image without its contents.
-fn places_of(alloc: Global, bytes: &[u8]) -> Result<Places, Fail> {
-    let mut source = MemorySource::new(bytes);
-    Ok(attach_places(alloc, &geometry()?, &mut source)?)
+/// A volume, a number, and the first logical eraseblock of it from that number on, with where it is.
+type Next = (u32, u32, Option<(u32, u32)>);
+
+/// Whether the logical eraseblocks that are wanted are next.
+fn has_next(places: &Places, want: &[Next]) -> bool {
+    let mut has = true;
+    for next in want {
+        has = has && places.next_place(next.0, next.1) == next.2;
+    }
+    has
 }
 
-/// A source of an image that was attached.
-fn attached_source(alloc: Global, bytes: &[u8]) -> Result<ProbeSource<'_>, Fail> {
-    let mut source = ProbeSource::new(alloc, &geometry()?, bytes, 0)?;
-    attach_places(alloc, &geometry()?, &mut source)?;
-    Ok(source)
-}
-
-/// Asserts which logical eraseblock of a volume is the first from a number on, and where it is.
-fn assert_place(rt: &impl Abort, places: &Places, id: u32, from: u32, want: Option<(u32, u32)>) {
-    assert_eq!(*rt; places.next_place(id, from), want);
-}
+const NEXT: [Next; 4] = [
+    (0, 0, Some((0, 2))),
+    (0, 1, Some((1, 3))),
+    (0, 2, None),
+    (1, 0, None),
+];
 
 #[test]
 fn finds_the_eraseblock_of_each_logical_one(rt: HostRuntime) -> Result<(), Fail> {
-    let bytes = image(rt.alloc(), &[FIRST, SECOND, A, B, BEYOND])?;
-    let places = places_of(rt.alloc(), bytes.as_slice())?;
-    assert_place(&rt, &places, 0, 0, Some((0, 2)));
-    assert_place(&rt, &places, 0, 1, Some((1, 3)));
-    assert_place(&rt, &places, 0, 2, None);
-    assert_place(&rt, &places, 1, 0, None);
+    let places = places_of(rt.alloc(), &[FIRST, SECOND, A, B, BEYOND])?;
+    assert!(rt; has_next(&places, &NEXT));
     Ok(())
 }
 
-/// The headers are read for the scan and to compare them with the record, the data of one copy of the table alone.
+/// Newer copies of the two logical eraseblocks of the text.
+const NEWER_0: Peb = Peb(
+    Ec::Zero,
+    Vid::Is(VidHeader {
+        copy_flag: true,
+        sqnum: 1,
+        ..STATIC_0
+    }),
+    Data::Filled(0x61, 384),
+);
+
+const NEWER_1: Peb = Peb(
+    Ec::Zero,
+    Vid::Is(VidHeader {
+        copy_flag: true,
+        sqnum: 2,
+        ..STATIC_1
+    }),
+    Data::Filled(0x62, 384),
+);
+
+/// An eraseblock, how many reads begin in it, and how many of them in its data.
+type Reads = (u32, u64, u64);
+
+/// Whether so many reads began in the eraseblocks, and none went beyond one.
+fn has_reads(source: &ProbeSource<'_>, want: &[Reads]) -> bool {
+    let mut has = source.crossing() == 0;
+    for reads in want {
+        has = has && source.reads(reads.0) == reads.1 && source.data_reads(reads.0) == reads.2;
+    }
+    has
+}
+
+/// An image, what its volume reads, where the first two logical eraseblocks are, and what is read to find that.
+type Case = (
+    &'static [Peb],
+    PlaceContent,
+    &'static [Next],
+    &'static [Reads],
+);
+
+/// Of a dynamic volume the headers are read for the scan and to compare them with the record, the data of one copy of the
+/// table alone. The most reads come where a candidate of a static volume is checked as a copy and then as a piece of the
+/// text.
+const READ: [Case; 2] = [
+    (
+        &BASE,
+        PlaceContent::Dynamic,
+        &[(0, 0, Some((0, 2))), (0, 1, Some((1, 3)))],
+        &[(0, 3, 1), (1, 2, 0), (2, 2, 0), (3, 2, 0), (4, 2, 0)],
+    ),
+    (
+        &[FIRST_BOOT, SECOND_BOOT, NEWER_0, TEXT_0, TEXT_1, NEWER_1],
+        TEXT,
+        &[(0, 0, Some((0, 2))), (0, 1, Some((1, 5)))],
+        &[
+            (0, 3, 1),
+            (1, 2, 0),
+            (2, 7, 2),
+            (3, 1, 0),
+            (4, 2, 0),
+            (5, 5, 2),
+        ],
+    ),
+];
+
+/// Whether an image has what is wanted, and so much is read to find it.
+fn is_read(alloc: Global, (pebs, reads_as, next, reads): &Case) -> Result<bool, Fail> {
+    let bytes = image(alloc, pebs)?;
+    let mut source = ProbeSource::new(alloc, &geometry()?, bytes.as_slice(), 0)?;
+    let places = attach_places(alloc, &geometry()?, &mut source)?;
+    Ok(
+        content(&places, 0) == Some(*reads_as)
+            && has_next(&places, next)
+            && has_reads(&source, reads),
+    )
+}
+
 #[test]
-fn reads_no_contents_of_dynamic_volumes(rt: HostRuntime) -> Result<(), Fail> {
-    let bytes = image(rt.alloc(), &BASE)?;
-    let source = attached_source(rt.alloc(), bytes.as_slice())?;
-    assert_read(&rt, &source, 0, 3, 1);
-    assert_read(&rt, &source, 1, 2, 0);
-    assert_read(&rt, &source, 2, 2, 0);
-    assert_read(&rt, &source, 3, 2, 0);
-    assert_read(&rt, &source, 4, 2, 0);
-    assert_eq!(rt; source.crossing(), 0);
+fn reads_each_eraseblock_a_few_times(rt: HostRuntime) -> Result<(), Fail> {
+    for (index, case) in READ.iter().enumerate() {
+        assert!(rt; is_read(rt.alloc(), case)?, "case {index}");
+    }
     Ok(())
 }
 
@@ -121,62 +182,80 @@ fn scans_chooses_and_attaches(rt: HostRuntime) -> Result<(), Fail> {
     let bytes = image(alloc, &BASE)?;
     let mut source = MemorySource::new(bytes.as_slice());
     let found = scan_from(alloc, &geometry, &mut source)?;
-    assert_eq!(rt; found.winner(0, 2), Some(4));
+    assert!(rt; found.winner(0, 2) == Some(4));
     let table = choose_from(alloc, &geometry, &mut source, &found)?;
-    assert_eq!(rt; table.get(0).map(|volume| volume.reserved), Some(20));
+    let volume = table.get(0).ok_or("a volume")?;
+    assert!(rt; volume.reserved == 20);
     assert!(rt; attach_places(alloc, &geometry, &mut source).is_ok());
     Ok(())
 }
 
-/// Asserts why a source isn't attached, where its read `at` fails.
-fn assert_fails(
-    rt: &impl Abort,
-    alloc: Global,
-    bytes: &[u8],
-    at: u64,
-    want: Option<StreamError>,
-) -> Result<(), Fail> {
+/// Why bytes aren't attached, where a read of them fails.
+fn error_of(alloc: Global, bytes: &[u8], at: u64) -> Result<Option<StreamError>, Fail> {
     let mut source = ProbeSource::new(alloc, &geometry()?, bytes, at)?;
-    let error = attach_places(alloc, &geometry()?, &mut source).err();
-    assert_eq!(*rt; error, want);
-    Ok(())
+    Ok(attach_places(alloc, &geometry()?, &mut source).err())
 }
 
-/// Each read fails in turn, up to one more than there are.
-#[test]
-fn tells_which_read_failed(rt: HostRuntime) -> Result<(), Fail> {
-    let alloc = rt.alloc();
-    let bytes = image(alloc, &[FIRST_BOOT, SECOND_BOOT, TEXT_0])?;
-    let bytes = bytes.as_slice();
+/// The first piece of two.
+const HALF: [Peb; 3] = [FIRST_BOOT, SECOND_BOOT, TEXT_0];
+
+/// A logical eraseblock of a static volume in a dynamic one.
+const UNLIKE: [Peb; 3] = [
+    FIRST,
+    SECOND,
+    Peb(Ec::Zero, Vid::Is(STATIC), Data::Filled(0x41, 384)),
+];
+
+/// Some eraseblocks, which read of them fails, and why they aren't attached then. Each read of the first image fails in
+/// turn, up to one more than there are.
+const FAILING: [(&[Peb], u64, Option<StreamError>); 13] = [
     // The scan.
-    assert_fails(&rt, alloc, bytes, 1, Some(StreamError::Read(0, 0)))?;
-    assert_fails(&rt, alloc, bytes, 2, Some(StreamError::Read(1, 0)))?;
-    assert_fails(&rt, alloc, bytes, 3, Some(StreamError::Read(2, 0)))?;
+    (&HALF, 1, Some(StreamError::Read(0, 0))),
+    (&HALF, 2, Some(StreamError::Read(1, 0))),
+    (&HALF, 3, Some(StreamError::Read(2, 0))),
     // The table.
-    assert_fails(&rt, alloc, bytes, 4, Some(StreamError::Read(0, 0)))?;
+    (&HALF, 4, Some(StreamError::Read(0, 0))),
     // The winners.
-    assert_fails(&rt, alloc, bytes, 5, Some(StreamError::Read(0, 0)))?;
-    assert_fails(&rt, alloc, bytes, 6, Some(StreamError::Read(1, 0)))?;
-    assert_fails(&rt, alloc, bytes, 7, Some(StreamError::Read(2, 0)))?;
+    (&HALF, 5, Some(StreamError::Read(0, 0))),
+    (&HALF, 6, Some(StreamError::Read(1, 0))),
+    (&HALF, 7, Some(StreamError::Read(2, 0))),
     // The text: in how many logical eraseblocks it lies, and the piece in the first of them.
-    assert_fails(&rt, alloc, bytes, 8, Some(StreamError::Read(2, 0)))?;
-    assert_fails(&rt, alloc, bytes, 9, Some(StreamError::Read(2, 0)))?;
-    assert_fails(&rt, alloc, bytes, 10, Some(StreamError::Read(2, 0)))?;
-    assert_fails(&rt, alloc, bytes, 11, None)?;
+    (&HALF, 8, Some(StreamError::Read(2, 0))),
+    (&HALF, 9, Some(StreamError::Read(2, 0))),
+    (&HALF, 10, Some(StreamError::Read(2, 0))),
+    (&HALF, 11, None),
+    // Sources that are refused as their bytes are.
+    (&UNLIKE, 0, Some(StreamError::Refused(Refusal::Mismatch(2)))),
+    (&[TEXT_0], 0, Some(StreamError::Refused(Refusal::NoTable))),
+];
+
+#[test]
+fn tells_why_a_source_is_not_attached(rt: HostRuntime) -> Result<(), Fail> {
+    for (index, (pebs, at, want)) in FAILING.iter().enumerate() {
+        let bytes = image(rt.alloc(), pebs)?;
+        assert!(rt;
+            error_of(rt.alloc(), bytes.as_slice(), *at)? == *want,
+            "case {index}"
+        );
+    }
+    let length = Some(StreamError::Refused(Refusal::Length));
+    assert!(rt; error_of(rt.alloc(), &[0xFF; 511], 1)? == length);
     Ok(())
 }
 
+/// A file is attached as its bytes are, and fails once its bytes are missing.
 #[test]
-fn refuses_a_source_as_its_bytes(rt: HostRuntime) -> Result<(), Fail> {
+fn attaches_a_file(rt: HostRuntime) -> Result<(), Fail> {
     let alloc = rt.alloc();
-    let unlike = Peb(Ec::Zero, Vid::Is(STATIC), Data::Filled(0x41, 384));
-    let bytes = image(alloc, &[FIRST, SECOND, unlike])?;
-    let cause = StreamError::Refused(Refusal::Mismatch(2));
-    assert_fails(&rt, alloc, bytes.as_slice(), 0, Some(cause))?;
-    let cause = StreamError::Refused(Refusal::NoTable);
-    let lone = image(alloc, &[TEXT_0])?;
-    assert_fails(&rt, alloc, lone.as_slice(), 0, Some(cause))?;
-    let cause = StreamError::Refused(Refusal::Length);
-    assert_fails(&rt, alloc, &[0xFF; 511], 1, Some(cause))?;
+    let bytes = image(alloc, &[FIRST_BOOT, SECOND_BOOT, TEXT_0, TEXT_1])?;
+    fs::write(&rt, "attached.img", bytes.as_slice())?;
+    let mut file = FileSource::open(&rt, "attached.img")?;
+    let places = attach_places(alloc, &geometry()?, &mut file)?;
+    assert!(rt; content(&places, 0) == Some(TEXT));
+    let short = bytes.as_slice().get(..1024).ok_or("too short")?;
+    fs::write(&rt, "attached.img", short)?;
+    let error = attach_places(alloc, &geometry()?, &mut file).err();
+    assert!(rt; error == Some(StreamError::Read(2, 0)));
+    fs::remove_file(&rt, "attached.img")?;
     Ok(())
 }

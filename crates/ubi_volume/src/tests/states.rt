@@ -2,54 +2,47 @@
 
 use super::images::{
     A, B, C, CHECK_OF_61, COPIED, COPY_0, Data, ERASED, Ec, FIRST, FIRST_BOOT, MISCOPIED, OTHERS,
-    PLAIN, Peb, ROOT, SECOND, SECOND_BOOT, STATIC, Vid, attached, states,
+    PLAIN, Peb, ROOT, SECOND, SECOND_BOOT, STATIC, Vid, attached,
 };
-use crate::BlockState;
 use crate::BlockState::{Blank, Corrupt, Dropped, Free, Garbage, Orphan, Stale, Table, Used};
+use crate::{Attached, BlockState};
 use std::alloc::Global;
 use std::process::Abort;
 use std::test::Fail;
 use ubi_media::VidHeader;
 
-/// Asserts the state of each eraseblock of an image.
-fn assert_states(
-    rt: &impl Abort,
-    alloc: Global,
-    pebs: &[Peb],
-    want: &[BlockState],
-) -> Result<(), Fail> {
-    assert_eq!(*rt; states(alloc, pebs)?.as_slice(), want);
-    Ok(())
+/// Some eraseblocks, and the state of each.
+type Case = (&'static [Peb], &'static [BlockState]);
+
+/// The state of an eraseblock, where there is one.
+fn state_of(attached: &Attached, p: u32) -> Option<BlockState> {
+    if (p as usize) < attached.states().len() {
+        Some(attached.state(p))
+    } else {
+        None
+    }
 }
 
-/// Asserts the state of an eraseblock behind the two copies of a table.
-fn assert_third(
-    rt: &impl Abort,
-    alloc: Global,
-    pebs: &[Peb],
-    state: BlockState,
-) -> Result<(), Fail> {
-    assert_states(rt, alloc, pebs, &[Table, Table, state])
+/// Whether each eraseblock has the state that is wanted, and there are no others.
+fn has_states(alloc: Global, (pebs, want): &Case) -> Result<bool, Fail> {
+    let attached = attached(alloc, pebs)?;
+    let mut has = attached.states() == *want;
+    for p in 0..33u32 {
+        has = has && state_of(&attached, p) == want.get(p as usize).copied();
+    }
+    Ok(has)
+}
+
+/// Asserts the states of the eraseblocks of each case.
+fn assert_states(rt: &impl Abort, alloc: Global, cases: &[Case]) -> Result<(), Fail> {
+    for (index, case) in cases.iter().enumerate() {
+        assert!(*rt; has_states(alloc, case)?, "case {index}");
+    }
+    Ok(())
 }
 
 /// Data of which nothing is written.
 const NONE: Data = Data::Filled(0xFF, 384);
-
-#[test]
-fn says_what_headers_are(rt: HostRuntime) -> Result<(), Fail> {
-    let alloc = rt.alloc();
-    assert_third(&rt, alloc, &[FIRST, SECOND, ERASED], Blank)?;
-    let pebs = &[FIRST, SECOND, Peb(Ec::Blank, Vid::Corrupt, NONE)];
-    assert_third(&rt, alloc, pebs, Blank)?;
-    let pebs = &[FIRST, SECOND, Peb(Ec::Zero, Vid::Blank, NONE)];
-    assert_third(&rt, alloc, pebs, Free)?;
-    let pebs = &[FIRST, SECOND, Peb(Ec::Zero, Vid::Corrupt, NONE)];
-    assert_third(&rt, alloc, pebs, Garbage)?;
-    let pebs = &[FIRST, SECOND, Peb(Ec::Corrupt, Vid::Blank, NONE)];
-    assert_third(&rt, alloc, pebs, Corrupt)?;
-    let pebs = &[FIRST, SECOND, Peb(Ec::Corrupt, Vid::Corrupt, NONE)];
-    assert_third(&rt, alloc, pebs, Corrupt)
-}
 
 /// A header of others that may be dropped.
 const DROPPED: VidHeader = VidHeader {
@@ -104,18 +97,6 @@ const STRANGER_127: Peb = Peb(
     Data::Filled(0x41, 384),
 );
 
-#[test]
-fn says_what_members_are(rt: HostRuntime) -> Result<(), Fail> {
-    let alloc = rt.alloc();
-    assert_third(&rt, alloc, &[FIRST, SECOND, OF_OTHERS], Dropped)?;
-    assert_third(&rt, alloc, &[FIRST, SECOND, FORGOTTEN], Blank)?;
-    assert_third(&rt, alloc, &[FIRST, SECOND, LAST], Used)?;
-    assert_third(&rt, alloc, &[FIRST, SECOND, BEYOND_LAST], Orphan)?;
-    assert_third(&rt, alloc, &[FIRST, SECOND, STATIC_BEYOND], Orphan)?;
-    assert_third(&rt, alloc, &[FIRST, SECOND, STRANGER], Orphan)?;
-    assert_third(&rt, alloc, &[FIRST, SECOND, STRANGER_127], Orphan)
-}
-
 /// A copy of what `A` holds, of 64 bytes.
 const COPY_OF_A: Peb = Peb(Ec::Zero, Vid::Is(COPIED), Data::Filled(0x37, 64));
 
@@ -143,11 +124,6 @@ const STATES_OF_BEATEN: [BlockState; 9] = [
     Stale, Table, Stale, Used, Used, Used, Orphan, Orphan, Table,
 ];
 
-#[test]
-fn tells_winners_from_beaten_members(rt: HostRuntime) -> Result<(), Fail> {
-    assert_states(&rt, rt.alloc(), &BEATEN, &STATES_OF_BEATEN)
-}
-
 /// What `A` holds, older than its copies.
 const OLD: Peb = Peb(
     Ec::Zero,
@@ -157,29 +133,6 @@ const OLD: Peb = Peb(
 
 /// A newer copy that isn't whole.
 const BAD: Peb = Peb(Ec::Zero, Vid::Is(MISCOPIED), Data::Filled(0x39, 64));
-
-/// Asserts the states of three eraseblocks behind the two copies of a table.
-fn assert_three(
-    rt: &impl Abort,
-    alloc: Global,
-    pebs: &[Peb],
-    [x, y, z]: [BlockState; 3],
-) -> Result<(), Fail> {
-    assert_states(rt, alloc, pebs, &[Table, Table, x, y, z])
-}
-
-#[test]
-fn says_which_copies_are_stale(rt: HostRuntime) -> Result<(), Fail> {
-    let alloc = rt.alloc();
-    let (second, third) = ([Stale, Used, Stale], [Stale, Stale, Used]);
-    let first = [Used, Stale, Stale];
-    assert_three(&rt, alloc, &[FIRST, SECOND, OLD, COPY_OF_A, BAD], second)?;
-    assert_three(&rt, alloc, &[FIRST, SECOND, OLD, BAD, COPY_OF_A], third)?;
-    assert_three(&rt, alloc, &[FIRST, SECOND, COPY_OF_A, OLD, BAD], first)?;
-    assert_three(&rt, alloc, &[FIRST, SECOND, COPY_OF_A, BAD, OLD], first)?;
-    assert_three(&rt, alloc, &[FIRST, SECOND, BAD, OLD, COPY_OF_A], third)?;
-    assert_three(&rt, alloc, &[FIRST, SECOND, BAD, COPY_OF_A, OLD], second)
-}
 
 /// The last of eight logical eraseblocks of a static volume that reserves fewer.
 const LAST_OF_8: Peb = Peb(
@@ -193,19 +146,85 @@ const LAST_OF_8: Peb = Peb(
     Data::Filled(0x61, 384),
 );
 
-#[test]
-fn counts_static_winners_beyond_what_is_reserved(rt: HostRuntime) -> Result<(), Fail> {
-    let want = &[Table, Table, Used];
-    assert_states(&rt, rt.alloc(), &[FIRST_BOOT, SECOND_BOOT, LAST_OF_8], want)
-}
-
 /// A logical eraseblock of others, of zeros.
 const ZEROS_OF_OTHERS: Peb = Peb(Ec::Zero, Vid::Is(DROPPED), Data::Filled(0, 384));
+
+/// An eraseblock of each sort behind the two copies of a table: by its headers, and then by the member that it is.
+const SORTS: [Case; 13] = [
+    (&[FIRST, SECOND, ERASED], &[Table, Table, Blank]),
+    (
+        &[FIRST, SECOND, Peb(Ec::Blank, Vid::Corrupt, NONE)],
+        &[Table, Table, Blank],
+    ),
+    (
+        &[FIRST, SECOND, Peb(Ec::Zero, Vid::Blank, NONE)],
+        &[Table, Table, Free],
+    ),
+    (
+        &[FIRST, SECOND, Peb(Ec::Zero, Vid::Corrupt, NONE)],
+        &[Table, Table, Garbage],
+    ),
+    (
+        &[FIRST, SECOND, Peb(Ec::Corrupt, Vid::Blank, NONE)],
+        &[Table, Table, Corrupt],
+    ),
+    (
+        &[FIRST, SECOND, Peb(Ec::Corrupt, Vid::Corrupt, NONE)],
+        &[Table, Table, Corrupt],
+    ),
+    (&[FIRST, SECOND, OF_OTHERS], &[Table, Table, Dropped]),
+    (&[FIRST, SECOND, FORGOTTEN], &[Table, Table, Blank]),
+    (&[FIRST, SECOND, LAST], &[Table, Table, Used]),
+    (&[FIRST, SECOND, BEYOND_LAST], &[Table, Table, Orphan]),
+    (&[FIRST, SECOND, STATIC_BEYOND], &[Table, Table, Orphan]),
+    (&[FIRST, SECOND, STRANGER], &[Table, Table, Orphan]),
+    (&[FIRST, SECOND, STRANGER_127], &[Table, Table, Orphan]),
+];
+
+#[test]
+fn says_what_headers_and_members_are(rt: HostRuntime) -> Result<(), Fail> {
+    assert_states(&rt, rt.alloc(), &SORTS)
+}
+
+/// Members that are beaten, copies in any order, and a static winner beyond what its volume reserves.
+const BEATEN_OR_NOT: [Case; 8] = [
+    (&BEATEN, &STATES_OF_BEATEN),
+    (
+        &[FIRST, SECOND, OLD, COPY_OF_A, BAD],
+        &[Table, Table, Stale, Used, Stale],
+    ),
+    (
+        &[FIRST, SECOND, OLD, BAD, COPY_OF_A],
+        &[Table, Table, Stale, Stale, Used],
+    ),
+    (
+        &[FIRST, SECOND, COPY_OF_A, OLD, BAD],
+        &[Table, Table, Used, Stale, Stale],
+    ),
+    (
+        &[FIRST, SECOND, COPY_OF_A, BAD, OLD],
+        &[Table, Table, Used, Stale, Stale],
+    ),
+    (
+        &[FIRST, SECOND, BAD, OLD, COPY_OF_A],
+        &[Table, Table, Stale, Stale, Used],
+    ),
+    (
+        &[FIRST, SECOND, BAD, COPY_OF_A, OLD],
+        &[Table, Table, Stale, Used, Stale],
+    ),
+    (&[FIRST_BOOT, SECOND_BOOT, LAST_OF_8], &[Table, Table, Used]),
+];
+
+#[test]
+fn tells_winners_from_beaten_members(rt: HostRuntime) -> Result<(), Fail> {
+    assert_states(&rt, rt.alloc(), &BEATEN_OR_NOT)
+}
 
 #[test]
 fn counts_sequence_numbers_of_dropped_eraseblocks(rt: HostRuntime) -> Result<(), Fail> {
     let attached = attached(rt.alloc(), &[FIRST, SECOND, A, B, C, ZEROS_OF_OTHERS])?;
-    assert_eq!(rt; attached.top_sqnum(), 12);
-    assert_eq!(rt; attached.winner(0x7FFF_F000, 0), None);
+    assert!(rt; attached.top_sqnum() == 12);
+    assert!(rt; attached.winner(0x7FFF_F000, 0).is_none());
     Ok(())
 }

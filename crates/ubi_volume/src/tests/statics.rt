@@ -1,60 +1,13 @@
 //! What static volumes read.
 
 use super::images::{
-    BOOT_OF_2, CHECK_OF_62, CHECK_OF_FF, COPY_0, COPY_1, Data, Ec, FIRST_BOOT, MARKED_BOOT, Peb,
-    SECOND_BOOT, STATIC_0, STATIC_1, TEXT_0, TEXT_1, Vid, assert_not_read, assert_reads, attached,
-    text_of,
+    BOOT_OF_2, CHECK_OF_62, CHECK_OF_FF, COPY_0, COPY_1, Case, Data, Ec, FIRST_BOOT, Leb,
+    MARKED_BOOT, Peb, SECOND_BOOT, STATIC_0, STATIC_1, TEXT_0, TEXT_1, Text, Vid, assert_meanings,
+    attached,
 };
-use crate::{Content, Meaning, ReadError};
-use std::alloc::{AllocError, Global};
-use std::process::Abort;
+use crate::{Content, ReadError};
 use std::test::Fail;
 use ubi_media::VidHeader;
-
-/// 384 bytes 0x61 and so many 0x62.
-fn text(alloc: Global, more: usize) -> Result<Vec<u8>, AllocError> {
-    let mut bytes = vec![in alloc; 0x61u8; 384]?;
-    let rest = vec![in alloc; 0x62u8; more]?;
-    bytes.extend_from_slice(rest.as_slice())?;
-    Ok(bytes)
-}
-
-/// Asserts that volume 0 reads 384 bytes 0x61 and so many 0x62.
-fn assert_text(rt: &impl Abort, alloc: Global, meaning: &Meaning, more: usize) -> Result<(), Fail> {
-    let found = text_of(alloc, meaning, 0)?;
-    assert_eq!(*rt; found.as_slice(), text(alloc, more)?.as_slice());
-    Ok(())
-}
-
-/// Asserts that volume 0 isn't read as a whole, and why.
-fn assert_no_text(
-    rt: &impl Abort,
-    alloc: Global,
-    meaning: &Meaning,
-    cause: ReadError,
-) -> Result<(), Fail> {
-    assert_eq!(*rt; text_of(alloc, meaning, 0).err(), Some(cause));
-    Ok(())
-}
-
-/// Asserts that an image has a text whose last piece has one byte.
-fn assert_short(rt: &impl Abort, alloc: Global, pebs: &[Peb]) -> Result<(), Fail> {
-    let attached = attached(alloc, pebs)?;
-    let meaning = attached.meaning();
-    assert_reads(rt, meaning, 0, (0x61, 384, 384))?;
-    assert_reads(rt, meaning, 1, (0x62, 1, 1))?;
-    assert_not_read(rt, meaning, 0, 2, ReadError::OutOfRange)?;
-    assert_not_read(rt, meaning, 0, 3, ReadError::OutOfRange)?;
-    assert_not_read(rt, meaning, 0, u32::MAX, ReadError::OutOfRange)?;
-    assert_text(rt, alloc, meaning, 1)
-}
-
-#[test]
-fn reads_a_text_whose_last_piece_is_short(rt: HostRuntime) -> Result<(), Fail> {
-    let alloc = rt.alloc();
-    assert_short(&rt, alloc, &[FIRST_BOOT, SECOND_BOOT, TEXT_0, TEXT_1])?;
-    assert_short(&rt, alloc, &[FIRST_BOOT, SECOND_BOOT, TEXT_1, TEXT_0])
-}
 
 /// A static volume of two logical eraseblocks, both of them full.
 const FULL_TEXT: [Peb; 4] = [
@@ -72,30 +25,64 @@ const FULL_TEXT: [Peb; 4] = [
     ),
 ];
 
-#[test]
-fn reads_a_text_that_fills_its_volume(rt: HostRuntime) -> Result<(), Fail> {
-    let attached = attached(rt.alloc(), &FULL_TEXT)?;
-    let meaning = attached.meaning();
-    assert_reads(&rt, meaning, 0, (0x61, 384, 384))?;
-    assert_reads(&rt, meaning, 1, (0x62, 384, 384))?;
-    assert_not_read(&rt, meaning, 0, 2, ReadError::OutOfRange)?;
-    assert_text(&rt, rt.alloc(), meaning, 384)
-}
+/// Texts that are read.
+const TEXTS: [Case; 4] = [
+    Case {
+        what: "a text whose last piece is short",
+        pebs: &[FIRST_BOOT, SECOND_BOOT, TEXT_0, TEXT_1],
+        top: 0,
+        name: Some(b"boot"),
+        lebs: &[
+            (0, 0, Leb::Reads(0x61, 384, 384)),
+            (0, 1, Leb::Reads(0x62, 1, 1)),
+            (0, 2, Leb::Not(ReadError::OutOfRange)),
+            (0, 3, Leb::Not(ReadError::OutOfRange)),
+            (0, u32::MAX, Leb::Not(ReadError::OutOfRange)),
+        ],
+        texts: &[(0, Text::Reads(&[(0x61, 384), (0x62, 1)]))],
+    },
+    Case {
+        what: "the same in the other order",
+        pebs: &[FIRST_BOOT, SECOND_BOOT, TEXT_1, TEXT_0],
+        top: 0,
+        name: Some(b"boot"),
+        lebs: &[
+            (0, 0, Leb::Reads(0x61, 384, 384)),
+            (0, 1, Leb::Reads(0x62, 1, 1)),
+            (0, 2, Leb::Not(ReadError::OutOfRange)),
+            (0, 3, Leb::Not(ReadError::OutOfRange)),
+            (0, u32::MAX, Leb::Not(ReadError::OutOfRange)),
+        ],
+        texts: &[(0, Text::Reads(&[(0x61, 384), (0x62, 1)]))],
+    },
+    Case {
+        what: "a text that fills its volume",
+        pebs: &FULL_TEXT,
+        top: 0,
+        name: Some(b"boot"),
+        lebs: &[
+            (0, 0, Leb::Reads(0x61, 384, 384)),
+            (0, 1, Leb::Reads(0x62, 384, 384)),
+            (0, 2, Leb::Not(ReadError::OutOfRange)),
+        ],
+        texts: &[(0, Text::Reads(&[(0x61, 384), (0x62, 384)]))],
+    },
+    Case {
+        what: "an empty text",
+        pebs: &[FIRST_BOOT, SECOND_BOOT],
+        top: 0,
+        name: Some(b"boot"),
+        lebs: &[
+            (0, 0, Leb::Not(ReadError::OutOfRange)),
+            (0, 1, Leb::Not(ReadError::OutOfRange)),
+        ],
+        texts: &[(0, Text::Reads(&[]))],
+    },
+];
 
 #[test]
-fn reads_an_empty_text(rt: HostRuntime) -> Result<(), Fail> {
-    let attached = attached(rt.alloc(), &[FIRST_BOOT, SECOND_BOOT])?;
-    let meaning = attached.meaning();
-    assert_not_read(&rt, meaning, 0, 0, ReadError::OutOfRange)?;
-    assert_not_read(&rt, meaning, 0, 1, ReadError::OutOfRange)?;
-    assert!(rt; text_of(rt.alloc(), meaning, 0)?.is_empty());
-    Ok(())
-}
-
-/// Asserts that an image has a static volume that isn't whole.
-fn assert_damaged(rt: &impl Abort, alloc: Global, pebs: &[Peb]) -> Result<(), Fail> {
-    let attached = attached(alloc, pebs)?;
-    assert_no_text(rt, alloc, attached.meaning(), ReadError::Damaged)
+fn reads_texts(rt: HostRuntime) -> Result<(), Fail> {
+    assert_meanings(&rt, rt.alloc(), &TEXTS)
 }
 
 /// The second logical eraseblock of three, full.
@@ -133,33 +120,6 @@ const MANY: Peb = Peb(
     }),
     Data::Filled(0x61, 384),
 );
-
-#[test]
-fn finds_volumes_that_are_damaged(rt: HostRuntime) -> Result<(), Fail> {
-    let alloc = rt.alloc();
-    assert_damaged(&rt, alloc, &[FIRST_BOOT, SECOND_BOOT, TEXT_0])?;
-    assert_damaged(&rt, alloc, &[FIRST_BOOT, SECOND_BOOT, TEXT_1])?;
-    assert_damaged(&rt, alloc, &[FIRST_BOOT, SECOND_BOOT, TEXT_0, OTHER])?;
-    assert_damaged(&rt, alloc, &[FIRST_BOOT, SECOND_BOOT, TEXT_0, UNLIKE])?;
-    let with_more = &[FIRST_BOOT, SECOND_BOOT, TEXT_0, TEXT_1, BEYOND];
-    assert_damaged(&rt, alloc, with_more)?;
-    assert_damaged(&rt, alloc, &[FIRST_BOOT, SECOND_BOOT, BEYOND])?;
-    assert_damaged(&rt, alloc, &[FIRST_BOOT, SECOND_BOOT, MANY])?;
-    let whole = attached(alloc, &[FIRST_BOOT, SECOND_BOOT, TEXT_0, TEXT_1])?;
-    assert_text(&rt, alloc, whole.meaning(), 1)
-}
-
-#[test]
-fn refuses_damaged_volumes_before_a_place(rt: HostRuntime) -> Result<(), Fail> {
-    let attached = attached(rt.alloc(), &[FIRST_BOOT, SECOND_BOOT, TEXT_0])?;
-    let meaning = attached.meaning();
-    assert_not_read(&rt, meaning, 0, 0, ReadError::Damaged)?;
-    assert_not_read(&rt, meaning, 0, 1, ReadError::Damaged)?;
-    assert_not_read(&rt, meaning, 0, 3, ReadError::Damaged)?;
-    let volume = meaning.get(0).ok_or("a volume")?;
-    assert!(rt; matches!(&volume.content, Content::Damaged));
-    Ok(())
-}
 
 /// The header of the first of five logical eraseblocks of a volume of 8, of bytes 0xFF.
 const UPDATED: VidHeader = VidHeader {
@@ -203,10 +163,87 @@ const UPDATING: [Peb; 7] = [
     ),
 ];
 
+/// Volumes that are damaged, and one that is updated, which isn't.
+const DAMAGED: [Case; 8] = [
+    Case {
+        what: "no last piece",
+        pebs: &[FIRST_BOOT, SECOND_BOOT, TEXT_0],
+        top: 0,
+        name: Some(b"boot"),
+        lebs: &[
+            (0, 0, Leb::Not(ReadError::Damaged)),
+            (0, 1, Leb::Not(ReadError::Damaged)),
+            (0, 3, Leb::Not(ReadError::Damaged)),
+        ],
+        texts: &[(0, Text::Not(ReadError::Damaged))],
+    },
+    Case {
+        what: "no first piece",
+        pebs: &[FIRST_BOOT, SECOND_BOOT, TEXT_1],
+        top: 0,
+        name: Some(b"boot"),
+        lebs: &[],
+        texts: &[(0, Text::Not(ReadError::Damaged))],
+    },
+    Case {
+        what: "pieces of two and of three",
+        pebs: &[FIRST_BOOT, SECOND_BOOT, TEXT_0, OTHER],
+        top: 0,
+        name: Some(b"boot"),
+        lebs: &[],
+        texts: &[(0, Text::Not(ReadError::Damaged))],
+    },
+    Case {
+        what: "a piece with a wrong check",
+        pebs: &[FIRST_BOOT, SECOND_BOOT, TEXT_0, UNLIKE],
+        top: 0,
+        name: Some(b"boot"),
+        lebs: &[],
+        texts: &[(0, Text::Not(ReadError::Damaged))],
+    },
+    Case {
+        what: "a piece behind the last",
+        pebs: &[FIRST_BOOT, SECOND_BOOT, TEXT_0, TEXT_1, BEYOND],
+        top: 0,
+        name: Some(b"boot"),
+        lebs: &[],
+        texts: &[(0, Text::Not(ReadError::Damaged))],
+    },
+    Case {
+        what: "a piece beyond the volume",
+        pebs: &[FIRST_BOOT, SECOND_BOOT, BEYOND],
+        top: 0,
+        name: Some(b"boot"),
+        lebs: &[],
+        texts: &[(0, Text::Not(ReadError::Damaged))],
+    },
+    Case {
+        what: "more pieces than the volume",
+        pebs: &[FIRST_BOOT, SECOND_BOOT, MANY],
+        top: 0,
+        name: Some(b"boot"),
+        lebs: &[],
+        texts: &[(0, Text::Not(ReadError::Damaged))],
+    },
+    Case {
+        what: "pieces of five, six and seven while they are updated",
+        pebs: &UPDATING,
+        top: 0,
+        name: Some(b"boot"),
+        lebs: &[(0, 0, Leb::Not(ReadError::Updating))],
+        texts: &[(0, Text::Not(ReadError::Updating))],
+    },
+];
+
 #[test]
-fn finds_no_damage_while_a_volume_is_updated(rt: HostRuntime) -> Result<(), Fail> {
-    let attached = attached(rt.alloc(), &UPDATING)?;
-    let meaning = attached.meaning();
-    assert_not_read(&rt, meaning, 0, 0, ReadError::Updating)?;
-    assert_no_text(&rt, rt.alloc(), meaning, ReadError::Updating)
+fn finds_volumes_that_are_damaged(rt: HostRuntime) -> Result<(), Fail> {
+    assert_meanings(&rt, rt.alloc(), &DAMAGED)
+}
+
+#[test]
+fn keeps_nothing_of_a_damaged_volume(rt: HostRuntime) -> Result<(), Fail> {
+    let attached = attached(rt.alloc(), &[FIRST_BOOT, SECOND_BOOT, TEXT_0])?;
+    let volume = attached.meaning().get(0).ok_or("a volume")?;
+    assert!(rt; matches!(&volume.content, Content::Damaged));
+    Ok(())
 }

@@ -49,8 +49,8 @@ fn assert_written(
     want: Result<u64, ReadError>,
     taken: &[u8],
 ) {
-    assert_eq!(*rt; write_volume(meaning, 0, &mut writer), want);
-    assert_eq!(*rt; writer.taken(), taken);
+    assert!(*rt; write_volume(meaning, 0, &mut writer) == want);
+    assert!(*rt; writer.taken() == taken);
 }
 
 /// Asserts that a writer with so much room takes all of a text that fits, and else as much as does.
@@ -152,7 +152,7 @@ fn assert_not_written(
     cause: ReadError,
 ) -> Result<(), Fail> {
     let mut writer = ProbeWriter::new(alloc, 1024, 1, Failure::Nothing)?;
-    assert_eq!(*rt; write_volume(meaning, id, &mut writer), Err(cause));
+    assert!(*rt; write_volume(meaning, id, &mut writer) == Err(cause));
     assert!(*rt; writer.taken().is_empty());
     Ok(())
 }
@@ -183,8 +183,8 @@ fn assert_all_written(
     want: Result<(), usize>,
     taken: &[u8],
 ) {
-    assert_eq!(*rt; write_all(&mut writer, bytes), want);
-    assert_eq!(*rt; writer.taken(), taken);
+    assert!(*rt; write_all(&mut writer, bytes) == want);
+    assert!(*rt; writer.taken() == taken);
 }
 
 /// Asserts that a writer with so much room takes all of some bytes if they fit, and else as many as do.
