@@ -15,12 +15,12 @@ fn checks_messages(rt: HostRuntime) {
         (&[0; 168], 0xF116_C36B),
     ];
     for (message, check) in vectors {
-        assert_eq!(rt; crc(message), check, "of {message:?}");
+        assert!(rt; crc(message) == check, "of {message:?}");
     }
 }
 
 #[test]
 fn goes_on_from_a_state(rt: HostRuntime) {
-    assert_eq!(rt; crc_more(crc(b"12345"), b"6789"), 0x340B_C6D9);
-    assert_eq!(rt; crc_more(0x1234_5678, b""), 0x1234_5678);
+    assert!(rt; crc_more(crc(b"12345"), b"6789") == 0x340B_C6D9);
+    assert!(rt; crc_more(0x1234_5678, b"") == 0x1234_5678);
 }

@@ -15,27 +15,26 @@ fn writes_and_reads_a_header(rt: HostRuntime) -> Result<(), Fail> {
         counter: 0,
         image_seq: 0x1234_5678,
     };
-    assert_eq!(rt; write_ec(&geometry, &header), BASE);
-    assert_eq!(rt; read_ec(&geometry, &BASE), EcRead::Valid(header));
+    assert!(rt; write_ec(&geometry, &header) == BASE);
+    assert!(rt; read_ec(&geometry, &BASE) == EcRead::Valid(header));
     let other = Geometry::new(512, 64, 64, 192, 32)?;
-    assert_eq!(rt; read_ec(&other, &BASE), EcRead::Fault(EcFault::Offsets));
+    assert!(rt; read_ec(&other, &BASE) == EcRead::Fault(EcFault::Offsets));
     Ok(())
 }
 
 #[test]
 fn reads_what_is_no_header(rt: HostRuntime) -> Result<(), Fail> {
     let geometry = Geometry::new(512, 64, 64, 128, 32)?;
-    assert_eq!(rt; read_ec(&geometry, &[0xFF; 64]), EcRead::Blank);
-    assert_eq!(rt; read_ec(&geometry, &[0; 64]), EcRead::Corrupt);
+    assert!(rt; read_ec(&geometry, &[0xFF; 64]) == EcRead::Blank);
+    assert!(rt; read_ec(&geometry, &[0; 64]) == EcRead::Corrupt);
     for at in 0..64 {
         let mut torn = BASE;
         torn[at] ^= 0x10;
-        assert_eq!(rt; read_ec(&geometry, &torn), EcRead::Corrupt, "at {at}");
+        assert!(rt; read_ec(&geometry, &torn) == EcRead::Corrupt, "at {at}");
         let mut nearly_blank = [0xFF; 64];
         nearly_blank[at] = 0xFE;
-        assert_eq!(rt;
-            read_ec(&geometry, &nearly_blank),
-            EcRead::Corrupt,
+        assert!(rt;
+            read_ec(&geometry, &nearly_blank) == EcRead::Corrupt,
             "at {at}"
         );
     }
@@ -51,7 +50,7 @@ fn reads_back_the_largest_counter(rt: HostRuntime) -> Result<(), Fail> {
             image_seq: 0,
         };
         let read = fault.map_or(EcRead::Valid(header), EcRead::Fault);
-        assert_eq!(rt; read_ec(&geometry, &write_ec(&geometry, &header)), read);
+        assert!(rt; read_ec(&geometry, &write_ec(&geometry, &header)) == read);
     }
     Ok(())
 }
