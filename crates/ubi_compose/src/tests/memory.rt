@@ -21,9 +21,9 @@ fn reads_all_or_runs_out_of_memory(rt: HostRuntime) -> Result<(), Fail> {
         }
         Err(SpecError::Refused { .. }) => return Err("refused".into()),
     };
-    assert_eq!(rt; volumes.len(), 4);
+    assert!(rt; volumes.len() == 4);
     match &volumes.as_slice()[0].1.content {
-        Content::Static(text) => assert_eq!(rt; text.as_slice(), b"abc".as_slice()),
+        Content::Static(text) => assert!(rt; text.as_slice() == b"abc".as_slice()),
         _ => return Err("not a text".into()),
     }
     Ok(())

@@ -47,101 +47,93 @@ fn record(kind: VolKind, name: &[u8]) -> Result<VolumeRecord, Fail> {
     })
 }
 
+/// A text, and the number and the cause of its first line at fault, if one is.
+const CAUSES: [(&[u8], Option<(u32, SpecCause)>); 20] = [
+    (b"", None),
+    (b"\n", None),
+    (
+        b"# a\n\nvolume 0 dynamic 20 1 00 root\nleb 0 1",
+        Some((4, SpecCause::Word)),
+    ),
+    (
+        b"volume 0 dynamic 20 1 00 root\nleb 0  1 61",
+        Some((2, SpecCause::Word)),
+    ),
+    (
+        b"volume 0 dynamic 20 1 00 root\r\n",
+        Some((1, SpecCause::Word)),
+    ),
+    (
+        b"volume 0 dynamic 20 1 00 root a b c d",
+        Some((1, SpecCause::Word)),
+    ),
+    (b" # a", Some((1, SpecCause::Word))),
+    (
+        b"volume 0 dynamic 020 1 00 root",
+        Some((1, SpecCause::Number)),
+    ),
+    (b"volume 4294967295 dynamic 20 1 00 root", None),
+    (
+        b"volume 4294967296 dynamic 20 1 00 root",
+        Some((1, SpecCause::Number)),
+    ),
+    (b"volume 0 dynamic 20 1 0 root", Some((1, SpecCause::Hex))),
+    (
+        b"volume 0 dynamic 20 1 00 root\nleb 0 1 6",
+        Some((2, SpecCause::Hex)),
+    ),
+    (
+        b"volume 0 dynamic 20 1 00 a\\x00",
+        Some((1, SpecCause::Name)),
+    ),
+    // What the lines above forbid.
+    (
+        b"volume 0 dynamic 20 1 00 root\nvolume 0 dynamic 20 1 00 root",
+        Some((2, SpecCause::Order)),
+    ),
+    (
+        b"volume 0 dynamic 20 1 00 root\nbytes 0 61",
+        Some((2, SpecCause::Order)),
+    ),
+    (
+        b"volume 0 dynamic 20 1 00 root\nleb 1 0 61",
+        Some((2, SpecCause::Order)),
+    ),
+    (
+        b"volume 0 dynamic 20 1 00 root\nleb 0 1 61\nupdating 0\n",
+        Some((3, SpecCause::Order)),
+    ),
+    (
+        b"volume 0 dynamic 0 1 00 root",
+        Some((1, SpecCause::Record(RecFault::NotEmpty))),
+    ),
+    (
+        b"volume 0 dynamic 20 65 00 root",
+        Some((1, SpecCause::Record(RecFault::AlignmentPage))),
+    ),
+    (
+        b"volume 0 dynamic 20 1 00 root\nleb 0 1 61\nleb 0 1 61\n",
+        Some((3, SpecCause::Twice)),
+    ),
+];
+
 #[test]
 fn tells_the_first_line_at_fault(rt: HostRuntime) -> Result<(), Fail> {
-    let alloc = rt.alloc();
-    assert_eq!(rt; cause(alloc, b"")?, None);
-    assert_eq!(rt; cause(alloc, b"\n")?, None);
-    assert_eq!(rt;
-        cause(alloc, b"# a\n\nvolume 0 dynamic 20 1 00 root\nleb 0 1")?,
-        Some((4, SpecCause::Word))
-    );
-    assert_eq!(rt;
-        cause(alloc, b"volume 0 dynamic 20 1 00 root\nleb 0  1 61")?,
-        Some((2, SpecCause::Word))
-    );
-    assert_eq!(rt;
-        cause(alloc, b"volume 0 dynamic 20 1 00 root\r\n")?,
-        Some((1, SpecCause::Word))
-    );
-    assert_eq!(rt;
-        cause(alloc, b"volume 0 dynamic 20 1 00 root a b c d")?,
-        Some((1, SpecCause::Word))
-    );
-    assert_eq!(rt; cause(alloc, b" # a")?, Some((1, SpecCause::Word)));
-    assert_eq!(rt;
-        cause(alloc, b"volume 0 dynamic 020 1 00 root")?,
-        Some((1, SpecCause::Number))
-    );
-    assert_eq!(rt;
-        cause(alloc, b"volume 4294967295 dynamic 20 1 00 root")?,
-        None
-    );
-    assert_eq!(rt;
-        cause(alloc, b"volume 4294967296 dynamic 20 1 00 root")?,
-        Some((1, SpecCause::Number))
-    );
-    assert_eq!(rt;
-        cause(alloc, b"volume 0 dynamic 20 1 0 root")?,
-        Some((1, SpecCause::Hex))
-    );
-    assert_eq!(rt;
-        cause(alloc, b"volume 0 dynamic 20 1 00 root\nleb 0 1 6")?,
-        Some((2, SpecCause::Hex))
-    );
-    assert_eq!(rt;
-        cause(alloc, b"volume 0 dynamic 20 1 00 a\\x00")?,
-        Some((1, SpecCause::Name))
-    );
+    for (index, (text, want)) in CAUSES.iter().enumerate() {
+        assert!(rt; cause(rt.alloc(), text)? == *want, "case {index}");
+    }
     Ok(())
 }
 
 #[test]
-fn tells_what_the_lines_above_forbid(rt: HostRuntime) -> Result<(), Fail> {
+fn tells_a_logical_eraseblock_that_is_too_long(rt: HostRuntime) -> Result<(), Fail> {
     let alloc = rt.alloc();
-    assert_eq!(rt;
-        cause(
-            alloc,
-            b"volume 0 dynamic 20 1 00 root\nvolume 0 dynamic 20 1 00 root"
-        )?,
-        Some((2, SpecCause::Order))
-    );
-    assert_eq!(rt;
-        cause(alloc, b"volume 0 dynamic 20 1 00 root\nbytes 0 61")?,
-        Some((2, SpecCause::Order))
-    );
-    assert_eq!(rt;
-        cause(alloc, b"volume 0 dynamic 20 1 00 root\nleb 1 0 61")?,
-        Some((2, SpecCause::Order))
-    );
-    assert_eq!(rt;
-        cause(
-            alloc,
-            b"volume 0 dynamic 20 1 00 root\nleb 0 1 61\nupdating 0\n"
-        )?,
-        Some((3, SpecCause::Order))
-    );
-    assert_eq!(rt;
-        cause(alloc, b"volume 0 dynamic 0 1 00 root")?,
-        Some((1, SpecCause::Record(RecFault::NotEmpty)))
-    );
-    assert_eq!(rt;
-        cause(alloc, b"volume 0 dynamic 20 65 00 root")?,
-        Some((1, SpecCause::Record(RecFault::AlignmentPage)))
-    );
-    assert_eq!(rt;
-        cause(
-            alloc,
-            b"volume 0 dynamic 20 1 00 root\nleb 0 1 61\nleb 0 1 61\n"
-        )?,
-        Some((3, SpecCause::Twice))
-    );
     let mut text = Vec::new(alloc);
     text.extend_from_slice(b"volume 0 dynamic 20 1 00 root")?;
     put_leb(&mut text, b"0", b"61", 384)?;
-    assert_eq!(rt; cause(alloc, text.as_slice())?, None);
+    assert!(rt; cause(alloc, text.as_slice())?.is_none());
     put_leb(&mut text, b"1", b"61", 385)?;
-    assert_eq!(rt; cause(alloc, text.as_slice())?, Some((3, SpecCause::Long)));
+    assert!(rt; cause(alloc, text.as_slice())? == Some((3, SpecCause::Long)));
     Ok(())
 }
 
@@ -206,8 +198,8 @@ fn composes_a_text(rt: HostRuntime) -> Result<(), Fail> {
     put_leb(&mut text, b"0", b"41", 384)?;
     put_leb(&mut text, b"1", b"42", 384)?;
     let image = composed(alloc, text.as_slice())?;
-    assert_eq!(rt; image.as_slice(), normal_root(alloc)?.as_slice());
+    assert!(rt; image.as_slice() == normal_root(alloc)?.as_slice());
     let image = composed(alloc, b"volume 0 static 3 1 00 boot\ndamaged 0")?;
-    assert_eq!(rt; image.as_slice(), normal_damaged(alloc)?.as_slice());
+    assert!(rt; image.as_slice() == normal_damaged(alloc)?.as_slice());
     Ok(())
 }
