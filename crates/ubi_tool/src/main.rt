@@ -23,6 +23,7 @@ mod numbers;
 mod outcome;
 mod output_file;
 mod printing;
+mod progress;
 mod read;
 mod same;
 mod show;
@@ -31,7 +32,7 @@ mod words;
 
 use outcome::WRONG_WORDS;
 use std::alloc::AllocError;
-use std::io::ErrorKind;
+use std::io::{ErrorKind, IsTerminal};
 use std::process::ExitCode;
 use std::rt::Env;
 use std::{env, io};
@@ -41,7 +42,11 @@ mod tests;
 
 fn main(rt: HostRuntime) -> ExitCode {
     let status = match words_of(&rt) {
-        Ok(words) => printing::report(&rt, &words::run_words(&rt, rt.alloc(), words.as_slice())),
+        Ok(words) => {
+            let is_watched = rt.stderr().is_terminal();
+            let answer = words::run_words(&rt, rt.alloc(), words.as_slice(), is_watched);
+            printing::report(&rt, &answer)
+        }
         Err(error) => unread_words(&rt, &error),
     };
     ExitCode::from(status)

@@ -16,6 +16,7 @@ mod normal;
 mod normalise;
 mod normalise_files;
 mod printing;
+mod progress;
 mod same;
 mod show;
 mod streams;

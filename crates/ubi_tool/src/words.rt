@@ -25,6 +25,7 @@ use crate::normalise::run_normalise;
 use crate::numbers::{Numbers, geometry_of};
 use crate::outcome::{DONE, Outcome, ToolError, WRONG_WORDS};
 use crate::output_file::{unwritten, write_outcome};
+use crate::progress::Told;
 use crate::same::run_same;
 use crate::show::run_show;
 use crate::spec_file::load_spec;
@@ -34,9 +35,10 @@ use std::alloc::{AllocError, Global};
 use std::fs::Files;
 use std::os::unix::fs::FileExt;
 use ubi_media::Geometry;
-use ubi_scan::{FileSource, MemorySource};
+use ubi_scan::{BlockSource, FileSource, MemorySource};
 
-/// Runs the command that the words name, over files. The first word is the program's name.
+/// Runs the command that the words name, over files. The first word is the program's name. Where somebody watches the
+/// standard error, it is told there how far long work is.
 ///
 /// Wrong words, a call for help among them, are printed to standard error, with nothing else to print and status 2. A
 /// geometry is refused before a file is read, and an image before a file is written.
@@ -48,6 +50,7 @@ pub fn run_words<R: Files + Eprint>(
     rt: &R,
     alloc: Global,
     words: &[String],
+    is_watched: bool,
 ) -> Result<Outcome, AllocError>
 where
     R::File: FileExt,
@@ -58,13 +61,18 @@ where
         Err(error) => return wrong_words(rt, alloc, &error),
     };
     match request_of(&matches) {
-        Some(request) => run_request(rt, alloc, request),
+        Some(request) => run_request(rt, alloc, request, is_watched),
         None => Ok(nothing(alloc)),
     }
 }
 
 /// Runs what the words ask for.
-fn run_request<R: Files>(rt: &R, alloc: Global, request: Request<'_>) -> Result<Outcome, AllocError>
+fn run_request<R: Files + Eprint>(
+    rt: &R,
+    alloc: Global,
+    request: Request<'_>,
+    is_watched: bool,
+) -> Result<Outcome, AllocError>
 where
     R::File: FileExt,
     ensures { IfOk result IsAnswer }
@@ -93,7 +101,7 @@ where
             numbers,
             image,
             out,
-        } => normalise_file(rt, alloc, numbers, image, out),
+        } => normalise_file(rt, alloc, numbers, image, out, is_watched),
         Request::Same {
             numbers,
             left,
@@ -214,12 +222,13 @@ fn compose_file<R: Files>(
 
 /// Normalises one file into another, which is opened at the first write. The image is read at places, or whole where
 /// that can't be or where it may be the output too.
-fn normalise_file<R: Files>(
+fn normalise_file<R: Files + Eprint>(
     rt: &R,
     alloc: Global,
     numbers: Numbers,
     image: &str,
     out: &str,
+    is_watched: bool,
 ) -> Result<Outcome, AllocError>
 where
     R::File: FileExt,
@@ -230,19 +239,20 @@ where
         Err(limit) => return limit_line(alloc, limit),
     };
     match source_of(rt, image, out) {
-        Some(source) => normalise_places(rt, alloc, &geometry, source, image, out),
+        Some(source) => normalise_places(rt, alloc, &geometry, source, image, out, is_watched),
         None => normalise_whole(rt, alloc, numbers, image, out),
     }
 }
 
 /// Normalises a file that is read at places.
-fn normalise_places<R: Files>(
+fn normalise_places<R: Files + Eprint>(
     rt: &R,
     alloc: Global,
     geometry: &Geometry,
     mut source: FileSource<R::File>,
     image: &str,
     out: &str,
+    is_watched: bool,
 ) -> Result<Outcome, AllocError>
 where
     R::File: FileExt,
@@ -251,9 +261,11 @@ where
     // Made before the output is opened, so that no part of it is written where memory runs out.
     let unread = unread_line(alloc, image)?;
     let unwritten = unwritten(alloc, out)?;
-    let mut late = LateFile::new(rt, out);
-    match run_normalise(alloc, geometry, &mut source, &mut late) {
-        Ok(outcome) if outcome.status == DONE && late.finish().is_err() => Ok(unwritten),
+    let mut told = Told::new(rt, LateFile::new(rt, out), source.len(), is_watched);
+    let answer = run_normalise(alloc, geometry, &mut source, &mut told);
+    told.clear();
+    match answer {
+        Ok(outcome) if outcome.status == DONE && told.writer.finish().is_err() => Ok(unwritten),
         Ok(outcome) => Ok(outcome),
         Err(ToolError::Read) => Ok(unread),
         Err(ToolError::Write) => Ok(unwritten),

@@ -63,7 +63,7 @@ where
     for word in line.split_whitespace() {
         words.push(String::from_str(alloc, word)?)?;
     }
-    run_words(files, alloc, words.as_slice())
+    run_words(files, alloc, words.as_slice(), false)
 }
 
 /// Runs the words of a line, and those of the geometry of small eraseblocks, over files; asserts what is answered.

@@ -7,7 +7,7 @@ returns-in-Ok g c = cannot_write c.in_ok-unwritten.ensures
 
 pub returns-in-Ok-2 : goal.returns-in-Ok-2
 returns-in-Ok-2 g c =
-    let work = rw c.new-late.ensures.unopened at c.in-Ok.ensures.ok in
+    let work = rw (c.new-told.ensures, c.new.ensures.unopened) at c.in-Ok.ensures.ok in
     told c.args.source.len c.args.source.failures (to_unknown _ _ _ _ _ work)
 
 pub returns-in-Err-Read : goal.returns-in-Err-Read

@@ -1,0 +1,80 @@
+//! A line on the terminal that tells how far long work is.
+
+ghost use Rattle.std.specs.Prelude.{◌≡◌};
+
+use std::io;
+use std::io::Write;
+
+/// From how many bytes on the work on an image is told of.
+const LONG: u64 = 1 << 28;
+
+/// A writer that hands all on to another, and tells on the standard error how far that is.
+///
+/// Its contents are those of the other.
+#[derive(Drop)]
+pub struct Told<'a, R, W> {
+    rt: &'a R,
+    /// The other writer.
+    pub writer: W,
+    /// How many bytes it may receive, where that is told of.
+    most: Option<u64>,
+    /// How many it has received.
+    received: u64,
+    /// The hundredth that was told last.
+    last: u64,
+}
+
+impl<'a, R: Eprint, W: Write> Told<'a, R, W> {
+    /// A writer of work on `most` bytes, which is told of where these are many and somebody watches.
+    pub fn new(rt: &'a R, writer: W, most: u64, is_watched: bool) -> Told<'a, R, W>
+        ensures { W.contents result.writer ≡ W.contents writer }
+    {
+        Told {
+            rt,
+            writer,
+            most: if is_watched && most >= LONG {
+                Some(most)
+            } else {
+                None
+            },
+            received: 0,
+            last: 0,
+        }
+    }
+
+    /// Tells how far it is, where that is another hundredth than before.
+    fn tell(&mut self)
+        ensures { W.contents self.new.writer ≡ W.contents self.old.writer }
+    {
+        let Some(most) = self.most else {
+            return;
+        };
+        let now = self.received / (most / 100).max(1);
+        if now != self.last {
+            self.last = now;
+            let _ = self.rt.eprint(format_args!("\r{now} % of the image"));
+        }
+    }
+
+    /// Takes the line away again.
+    pub fn clear(&self) {
+        if self.last > 0 {
+            let _ = self.rt.eprint("\r\x1b[K");
+        }
+    }
+}
+
+impl<R: Eprint, W: Write> Write for Told<'_, R, W> {
+    ghost contents = { λ told. W.contents told.writer };
+
+    fn write(&mut self, buf: &[u8]) -> io::Result<usize> {
+        let count = self.writer.write(buf)?;
+        self.received = self.received.saturating_add(count as u64);
+        self.tell();
+        Ok(count)
+    }
+
+    fn flush(&mut self) -> io::Result<()> {
+        self.writer.flush()
+    }
+}

@@ -1,0 +1,40 @@
+//! What is told of long work.
+
+use super::fake::{Broken, FakeFiles};
+use crate::progress::Told;
+use std::alloc::Global;
+use std::cell::RefCell;
+use std::io::Write;
+use std::test::Fail;
+
+/// A hundredth of 256 MiB, and one byte more.
+const HUNDREDTH: usize = 2_684_355;
+
+/// What is told of work on so many bytes of which the output receives two hundredths of 256 MiB.
+fn told(alloc: Global, most: u64, is_watched: bool) -> Result<String, Fail> {
+    let shown = RefCell::new(String::new(alloc));
+    let written = RefCell::new(Vec::new(alloc));
+    let files = FakeFiles::new(&[], Broken::Nothing, &written, &shown);
+    let part = vec![in alloc; 0xFFu8; HUNDREDTH]?;
+    let mut writer = Told::new(&files, Vec::new(alloc), most, is_watched);
+    writer.write_all(&[0xFF; 100])?;
+    writer.write_all(part.as_slice())?;
+    writer.write_all(part.as_slice())?;
+    writer.clear();
+    Ok(shown.into_inner())
+}
+
+#[test]
+fn tells_each_hundredth_and_takes_it_away(rt: HostRuntime) -> Result<(), Fail> {
+    let text = told(rt.alloc(), 1 << 28, true)?;
+    assert!(rt; text.as_str() == "\r1 % of the image\r2 % of the image\r\x1b[K");
+    Ok(())
+}
+
+#[test]
+fn tells_nothing_of_short_work_or_to_nobody(rt: HostRuntime) -> Result<(), Fail> {
+    let alloc = rt.alloc();
+    assert!(rt; told(alloc, (1 << 28) - 1, true)?.as_str() == "");
+    assert!(rt; told(alloc, 1 << 30, false)?.as_str() == "");
+    Ok(())
+}
