@@ -10,17 +10,23 @@ use std::test::Fail;
 /// A hundredth of 256 MiB, and one byte more.
 const HUNDREDTH: usize = 2_684_355;
 
-/// What is told of work on so many bytes of which the output receives two hundredths of 256 MiB.
-fn told(alloc: Global, most: u64, is_watched: bool) -> Result<String, Fail> {
-    let shown = RefCell::new(String::new(alloc));
-    let written = RefCell::new(Vec::new(alloc));
-    let files = FakeFiles::new(&[], Broken::Nothing, &written, &shown);
+/// Does work on so many bytes, of which the output receives two hundredths of 256 MiB.
+fn work(terminal: &impl Eprint, alloc: Global, most: u64, is_watched: bool) -> Result<(), Fail> {
     let part = vec![in alloc; 0xFFu8; HUNDREDTH]?;
-    let mut writer = Told::new(&files, Vec::new(alloc), most, is_watched);
+    let mut writer = Told::new(terminal, Vec::new(alloc), most, is_watched);
     writer.write_all(&[0xFF; 100])?;
     writer.write_all(part.as_slice())?;
     writer.write_all(part.as_slice())?;
     writer.clear();
+    Ok(())
+}
+
+/// What is told of that work.
+fn told(alloc: Global, most: u64, is_watched: bool) -> Result<String, Fail> {
+    let shown = RefCell::new(String::new(alloc));
+    let written = RefCell::new(Vec::new(alloc));
+    let files = FakeFiles::new(&[], Broken::Nothing, &written, &shown);
+    work(&files, alloc, most, is_watched)?;
     Ok(shown.into_inner())
 }
 
