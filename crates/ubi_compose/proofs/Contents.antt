@@ -27,7 +27,7 @@ use Rattle.ubi_compose.proofs.Apart.{AreApart}
 use Rattle.ubi_compose.proofs.Blocks.{IsFine, leb-laid_bytes, member-laid_bytes}
 use Rattle.ubi_compose.proofs.Image.{block_laid, image_blocks, image_clean, laid_wins, none_laid}
 use Rattle.ubi_compose.proofs.Lists.{Holds, all_at, entry_held, held_entry, holds_map, holds_range, map_holds, range_holds}
-use Rattle.ubi_compose.proofs.Pieces.{pieces_few, share_more, share_none, shares_all}
+use Rattle.ubi_volume.proofs.Pieces.{pieces_few, share_more, share_none, shares_all}
 
 -- of the eraseblocks, those of a volume
 pub record AreOwn (ls : List Laid) (vol : ℕ) (own : List Laid) : Type 0 where

@@ -1,8 +1,8 @@
 -- The LEBs of a dynamic volume, by their places.
-use Rattle.std.proofs.Common.{◌≡◌, ◌≢◌, ℕ, zero, suc, ◌+◌, ◌-◌, ◌<◌, ◌≤◌, ◌⊎◌, inl, inr, Bool, true, false, cond, List, [], ◌∷◌, ◌++◌, length, take, refl, ap, sym, ◌∙◌, subst, arith, append-nil, zero-add}
-use Rattle.std.specs.Prelude.{IfSome, None, Option, Some, MatchOption, flat_map, unwrap_or}
+use Rattle.std.proofs.Common.{◌≡◌, ◌≢◌, ℕ, zero, suc, ◌+◌, ◌-◌, ◌<◌, ◌≤◌, inl, inr, Bool, true, false, cond, List, [], ◌∷◌, ◌++◌, length, take, refl, ap, sym, ◌∙◌, subst, arith, append-nil, zero-add}
+use Rattle.std.specs.Prelude.{IfSome, None, Option, Some, flat_map, unwrap_or}
 use Rattle.std.specs.FinMap as finite
-use Rattle.std.specs.FinMap.{FinMap, find}
+use Rattle.std.specs.FinMap.{FinMap}
 use Rattle.std.specs.List.{AllByRecursion, range_with_len}
 use Rattle.std.specs.Option.{option_map_or}
 use Rattle.std.specs.Ordering.{nat_cmp}
@@ -13,10 +13,9 @@ use Rattle.ubi_media.specs.Record.{data_pad, usable}
 use Rattle.ubi_media.specs.declared.record.VolumeRecord.{VolumeRecord}
 use Rattle.ubi_media.specs.declared.vid.VolKind.TheVariants as kind
 use Rattle.ubi_scan.specs.Image.{block, leb}
-use Rattle.ubi_scan.specs.Members.{NoMember, Wins}
+use Rattle.ubi_scan.specs.Members.{Wins}
 use Rattle.ubi_scan.specs.Source.{Source, blocks_of}
 use Rattle.ubi_scan.specs.declared.errors.StreamError.{StreamError}
-use Rattle.ubi_scan.proofs.Choice.{false_or_true}
 use Rattle.ubi_scan.proofs.Decided.{Wins-unique}
 use Rattle.ubi_table.proofs.ReadBack.{pieces_more}
 use Rattle.ubi_volume.specs.Meant.{Fits, IsVolume, KeepsNoBlank}
@@ -29,15 +28,14 @@ use Rattle.ubi_volume.specs.declared.places.PlaceContent.TheVariants as place
 use Rattle.ubi_volume.proofs.Blanks.{blank_text, other_text}
 use Rattle.ubi_compose.specs.Normal.{dynamic_block, laid_bytes, new_ec, volume_blocks}
 use Rattle.ubi_compose.specs.Streamed.{IsVolumeOf, dynamic_text, kept_bytes, volume_text}
-use Rattle.ubi_compose.specs.Wrote.{All, IsWroteError, Wanted, Wrote}
-use Rattle.ubi_compose.proofs.Blocks.{some_same}
+use Rattle.ubi_volume.specs.Wrote.{All, IsWroteError, Wanted, Wrote}
 use Rattle.ubi_compose.proofs.ByNumber.{Rises, by_number, kept_at}
 use Rattle.ubi_compose.proofs.Lists.{all_from, held_entry}
 use Rattle.ubi_compose.proofs.Rising as rising
-use Rattle.ubi_compose.proofs.StaticPlaces.{front_of}
-use Rattle.ubi_compose.proofs.StoredVolume.{case_is, found_or_none, found_wins, reads_of}
+use Rattle.ubi_volume.proofs.Extracted.{front_of}
+use Rattle.ubi_volume.proofs.VolumeAt.{case_is, found_or_none, found_wins, reads_of}
 use Rattle.ubi_compose.proofs.Table.{volume_is}
-use Rattle.ubi_compose.proofs.Writing.{Splits, error_behind, error_front, wrote_more}
+use Rattle.ubi_volume.proofs.Received.{Splits, error_behind, error_front, wrote_more}
 
 -- the eraseblock of what is kept of a LEB
 abbrev pub leb_bytes : Sizes → ℕ → VolumeRecord → ℕ × List ℕ → List ℕ

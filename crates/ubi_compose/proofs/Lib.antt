@@ -22,14 +22,12 @@ pub mod Lists
 pub mod Normal
 pub mod NormalParts
 pub mod NormalVectors
-pub mod Pieces
 pub mod Placed
 pub mod Places
 pub mod Puts
 pub mod ReadSoFar
 pub mod Rising
 pub mod Room
-pub mod Shares
 pub mod Sound
 pub mod Spares
 pub mod SpecVectors
@@ -41,4 +39,3 @@ pub mod Taken
 pub mod TextAnswers
 pub mod VolumeLines
 pub mod Volumes
-pub mod Writing

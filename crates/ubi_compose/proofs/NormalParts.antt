@@ -1,6 +1,6 @@
 -- What a writer received of the normal image of a source: the copies of the table, and the volumes.
-use Rattle.std.proofs.Common.{◌≡◌, ℕ, ◌+◌, ◌<◌, ◌≤◌, inl, inr, List, ◌++◌, length, take, refl, ap, sym, ◌∙◌, subst, arith}
-use Rattle.std.specs.Prelude.{Option, Some, flat_map}
+use Rattle.std.proofs.Common.{◌≡◌, ℕ, inr, List, ◌++◌, length, take, refl, ap, sym, ◌∙◌, subst, arith}
+use Rattle.std.specs.Prelude.{Option, flat_map}
 use Rattle.std.specs.FinMap as finite
 use Rattle.std.specs.Io.KnownBytes.{Appends}
 use Rattle.std.proofs.lemmas.List.{take_all}
@@ -11,14 +11,14 @@ use Rattle.ubi_scan.specs.Members.{layout}
 use Rattle.ubi_scan.specs.Source.{Source}
 use Rattle.ubi_scan.specs.declared.errors.StreamError.{StreamError}
 use Rattle.ubi_scan.specs.declared.errors.StreamError.TheVariants as stream
-use Rattle.ubi_table.specs.Records.{Records, table_bytes}
+use Rattle.ubi_table.specs.Records.{table_bytes}
 use Rattle.ubi_volume.specs.Meant.{Meant}
 use Rattle.ubi_volume.specs.Places.{ArePlaces, ArePlacesOf, Placed}
 use Rattle.ubi_compose.specs.Normal as normal
 use Rattle.ubi_compose.specs.Normal.{laid_bytes, layout_block, new_ec, normal_bytes}
-use Rattle.ubi_compose.specs.Streamed.{IsCut, IsNormaliseToError, IsNormalisedTo, IsPart, laid_text, normal_text, volumes_text}
-use Rattle.ubi_compose.specs.Wrote.{All, IsWroteError, Wanted, Wrote}
-use Rattle.ubi_compose.proofs.Writing.{Splits, error_behind, error_front, wrote_more}
+use Rattle.ubi_compose.specs.Streamed.{IsNormaliseToError, IsNormalisedTo, laid_text, normal_text, volumes_text}
+use Rattle.ubi_volume.specs.Wrote.{All, IsWroteError, Wanted, Wrote}
+use Rattle.ubi_volume.proofs.Received.{Splits, error_behind, error_front, wrote_more}
 
 module _ (s : Sizes) (p : Placed) (table : List ℕ) (bytes : table ≡ table_bytes p.records) where
   -- a copy of the table, and what follows the first

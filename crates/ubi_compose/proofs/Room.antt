@@ -20,7 +20,7 @@ use Rattle.ubi_compose.specs.Composed.{HasRoom}
 use Rattle.ubi_compose.specs.Normal.{blocks_of, dynamic_block, normal_blocks, static_part, volume_blocks}
 use Rattle.ubi_compose.proofs.Lists.{all_from, held_entry}
 use Rattle.ubi_media.proofs.Padding.{reserved_some}
-use Rattle.ubi_compose.proofs.Pieces.{pieces_few}
+use Rattle.ubi_volume.proofs.Pieces.{pieces_few}
 use Rattle.ubi_compose.proofs.Rising.{Rises, entries_rise}
 use Rattle.ubi_compose.proofs.Table.{volume_is}
 

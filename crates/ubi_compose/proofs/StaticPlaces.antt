@@ -1,9 +1,8 @@
 -- The static text of a volume, by the places of its LEBs.
-use Rattle.std.proofs.Common.{◌≡◌, ℕ, zero, suc, ◌+◌, ◌-◌, ◌*◌, ◌<◌, ◌≤◌, ◌⊎◌, inl, inr, false, List, [], ◌∷◌, ◌++◌, length, take, drop, refl, ap, sym, ◌∙◌, subst, arith, length-append, append_assoc, zero-add}
-use Rattle.std.specs.Prelude.{None, Option, Some, MatchOption, flat_map, min, slice_index}
+use Rattle.std.proofs.Common.{◌≡◌, ℕ, suc, ◌+◌, ◌-◌, ◌*◌, ◌<◌, ◌≤◌, inl, inr, false, List, [], ◌∷◌, length, take, refl, ap, sym, ◌∙◌, subst, arith, length-append, zero-add}
+use Rattle.std.specs.Prelude.{None, Option, Some, flat_map, min, slice_index}
 use Rattle.std.specs.FinMap as finite
 use Rattle.std.specs.List.{range_with_len}
-use Rattle.std.proofs.lemmas.Grind.{flat_map-append}
 use Rattle.std.proofs.lemmas.List.Folds.{flat_map-map}
 use Rattle.ubi_media.specs.Geometry.{Sizes}
 use Rattle.ubi_media.specs.Record.{data_pad, rec_fault, usable}
@@ -11,14 +10,11 @@ use Rattle.ubi_media.specs.declared.record.VolumeRecord.{VolumeRecord}
 use Rattle.ubi_media.specs.declared.vid.VolKind.TheVariants as kind
 use Rattle.ubi_media.proofs.Records.{usable_some}
 use Rattle.ubi_scan.specs.Image.{block, leb}
-use Rattle.ubi_scan.specs.Members.{Leb, NoMember, Wins}
+use Rattle.ubi_scan.specs.Members.{NoMember}
 use Rattle.ubi_scan.specs.Source.{Source, blocks_of}
 use Rattle.ubi_scan.specs.declared.errors.StreamError.{StreamError}
-use Rattle.ubi_table.specs.Records.{Records}
 use Rattle.ubi_table.proofs.ReadBack.{pieces_more}
-use Rattle.ubi_volume.specs.Means.{SlotMeans}
-use Rattle.ubi_volume.specs.Meant.{Meant}
-use Rattle.ubi_volume.specs.Places.{ArePlaces, IsCountedPlace, IsNextPlace, Placed, case_of}
+use Rattle.ubi_volume.specs.Places.{IsNextPlace, Placed, case_of}
 use Rattle.ubi_volume.specs.Reading.{pieces, share}
 use Rattle.ubi_volume.specs.Reads.{AreWhole, StaticReads, VolumeReads, piece}
 use Rattle.ubi_volume.specs.declared.content.Content.{Content}
@@ -27,15 +23,14 @@ use Rattle.ubi_volume.specs.declared.content.Volume.{Volume}
 use Rattle.ubi_volume.specs.declared.places.PlaceContent.TheVariants as place
 use Rattle.ubi_volume.proofs.Alike.{short_piece}
 use Rattle.ubi_volume.proofs.Either.{are_lebs}
-use Rattle.ubi_volume.proofs.Recorded.{records_meant}
+use Rattle.ubi_volume.proofs.Extracted.{front_of}
 use Rattle.ubi_compose.specs.Normal.{laid_bytes, new_ec, static_block, static_part, volume_blocks}
 use Rattle.ubi_compose.specs.Streamed.{IsVolumeOf, static_text, volume_text}
-use Rattle.ubi_compose.specs.Wrote.{All, IsWroteError, Wanted, Wrote}
-use Rattle.ubi_compose.proofs.Blocks.{some_same}
-use Rattle.ubi_compose.proofs.Pieces.{length-share, pieces_few}
-use Rattle.ubi_compose.proofs.Shares.{share_at}
-use Rattle.ubi_compose.proofs.StoredVolume.{case_is, in_table, is_next, is_some, reads_of, table}
-use Rattle.ubi_compose.proofs.Writing.{Splits, error_behind, error_front, wrote_more}
+use Rattle.ubi_volume.specs.Wrote.{All, IsWroteError, Wanted, Wrote}
+use Rattle.ubi_volume.proofs.Pieces.{length-share, pieces_few}
+use Rattle.ubi_volume.proofs.Shares.{share_at}
+use Rattle.ubi_volume.proofs.VolumeAt.{case_is, in_table, is_next, is_some, reads_of, table}
+use Rattle.ubi_volume.proofs.Received.{Splits, error_behind, error_front, wrote_more}
 
 -- the eraseblocks of the first n pieces
 abbrev pub first_pieces : Sizes → Placed → ℕ → VolumeRecord → ℕ → Wanted
@@ -52,18 +47,6 @@ most_pieces f size (p ∷ ps) most =
     let both = length-append (f p) (flat_map f ps) in
     let next : suc (length ps) * size ≡ length ps * size + size = omega arith in
     omega (arith, first, rest, both, next)
-
-pub front_of : (f : ℕ → List ℕ) (a n k : ℕ) → flat_map f (range_with_len a (n + k)) ≡ flat_map f (range_with_len a n) ++ flat_map f (range_with_len (a + n) k)
-front_of f a zero k =
-    let none : 0 + k ≡ k = zero-add k in
-    let same : a ≡ a + 0 = omega arith in
-    ap (λ n. flat_map f (range_with_len a n)) none ∙ ap (λ b. flat_map f (range_with_len b k)) same
-front_of f a (suc n) k =
-    let more : suc n + k ≡ suc (n + k) = omega arith in
-    let next : a + 1 + n ≡ a + suc n = omega arith in
-    ap (λ m. flat_map f (range_with_len a m)) more
-    ∙ ap (λ x. f a ++ x) (front_of f (a + 1) n k ∙ ap (λ (b : ℕ). flat_map f (range_with_len (a + 1) n) ++ flat_map f (range_with_len b k)) next)
-    ∙ sym (append_assoc (f a) (flat_map f (range_with_len (a + 1) n)) (flat_map f (range_with_len (a + suc n) k)))
 
 module _ (s : Sizes) (p : Placed) (id : ℕ) (r : VolumeRecord) (recorded : finite.get p.records.of id ≡ Some r) (sound : rec_fault s r ≡ None) (lebs bytes : ℕ)
     (listed : finite.get p.contents id ≡ Some (place.Static lebs bytes)) where

@@ -1,15 +1,15 @@
 -- The volumes of an image whose places are known.
-use Rattle.std.proofs.Common.{◌≡◌, ℕ, ◌+◌, ◌*◌, ◌<◌, ◌≤◌, ◌^◌, T, List, [], ◌∷◌, ◌++◌, length, map, take, drop, get_or, refl, ap, sym, ◌∙◌, subst, arith}
+use Rattle.std.proofs.Common.{◌≡◌, ℕ, ◌+◌, ◌*◌, ◌<◌, ◌≤◌, ◌^◌, T, List, ◌++◌, length, map, take, drop, get_or, refl, ap, sym, ◌∙◌, subst, arith}
 use Rattle.std.specs.Prelude.{Option, Some, flat_map}
 use Rattle.std.specs.Cmp.{nat_cmp_total}
 use Rattle.std.specs.FinMap as finite
-use Rattle.std.specs.FinMap.{from_entries, is_sorted}
+use Rattle.std.specs.FinMap.{is_sorted}
 use Rattle.std.specs.List.{AllByRecursion}
 use Rattle.std.specs.Ordering.{nat_cmp}
 use Rattle.std.proofs.lemmas.Grind.{flat_map-append}
 use Rattle.std.proofs.lemmas.List.{get_or-map, length-map, take-append-drop, take_all}
 use Rattle.std.proofs.lemmas.Nat.{mul-le}
-use Rattle.ubi_media.specs.Geometry.{IsGeometry, Sizes, slots}
+use Rattle.ubi_media.specs.Geometry.{Sizes, slots}
 use Rattle.ubi_media.specs.declared.record.VolumeRecord.{VolumeRecord}
 use Rattle.ubi_scan.specs.Source.{Source}
 use Rattle.ubi_scan.specs.declared.errors.StreamError.{StreamError}
@@ -25,12 +25,12 @@ use Rattle.ubi_volume.proofs.Gathered.{same_order}
 use Rattle.ubi_compose.specs.Normal as normal
 use Rattle.ubi_compose.specs.Normal.{Laid, laid_bytes, new_ec, volume_blocks}
 use Rattle.ubi_compose.specs.Streamed.{volume_text, volumes_text}
-use Rattle.ubi_compose.specs.Wrote.{All, IsWroteError, Wanted, Wrote}
+use Rattle.ubi_volume.specs.Wrote.{All, IsWroteError, Wanted, Wrote}
 use Rattle.ubi_compose.proofs.Lists.{all_from, held_entry}
 use Rattle.ubi_compose.proofs.Puts.{blocks_more}
 use Rattle.ubi_compose.proofs.Rising.{entries_rise}
 use Rattle.ubi_compose.proofs.Room.{few_rising}
-use Rattle.ubi_compose.proofs.Writing.{Splits, error_behind, error_front, wrote_more}
+use Rattle.ubi_volume.proofs.Received.{Splits, error_behind, error_front, wrote_more}
 
 -- the eraseblocks of the first n volumes
 abbrev pub first_volumes : Sizes → Placed → ℕ → Wanted

@@ -21,7 +21,7 @@ use Rattle.ubi_compose.proofs.Blocks.{IsFine}
 use Rattle.ubi_compose.proofs.Headers.{IsPart, IsUsers, dynamic_fits, dynamic_sound, static_fits, static_sound, user_known, user_placed}
 use Rattle.ubi_compose.proofs.Lists.{Holds, all_map, held_entry, range_holds}
 use Rattle.ubi_media.proofs.Padding.{half_pad, reserved_within}
-use Rattle.ubi_compose.proofs.Pieces.{pieces_few, share_full, share_most, share_some}
+use Rattle.ubi_volume.proofs.Pieces.{pieces_few, share_full, share_most, share_some}
 
 -- what holds of each piece of a static text, or of each LEB that is kept of a dynamic volume
 all_static : (P : Laid → Type 0) (pad size vol : ℕ) (text : List ℕ) → ((lnum : ℕ) → lnum < pieces size (length text) → P (static_part pad size vol text lnum))

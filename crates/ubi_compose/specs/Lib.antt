@@ -6,4 +6,3 @@ pub mod Spec
 pub mod Drafts
 pub mod Laws
 pub mod Streamed
-pub mod Wrote

@@ -11,7 +11,7 @@ ghost use Rattle.ubi_scan.specs.Stream.{after};
 ghost use Rattle.ubi_volume.specs.Places.{ArePlacesOf};
 ghost use Rattle.ubi_volume.specs.declared.places.PlaceContent.TheVariants as place;
 ghost use Rattle.ubi_compose.specs.Streamed.{volume_text};
-ghost use Rattle.ubi_compose.specs.Wrote.{All, IsWroteError, Wrote};
+ghost use Rattle.ubi_volume.specs.Wrote.{All, IsWroteError, Wrote};
 
 use crate::header::damaged_header;
 use crate::placing::{put_piece, put_text, put_unless_blank};

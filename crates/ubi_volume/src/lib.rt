@@ -4,7 +4,8 @@
 //! is read volume by volume, or one logical eraseblock at a time.
 //!
 //! An image behind a source is attached without its contents ([`attach_places`]): what is found then is its table, the
-//! eraseblock of each logical eraseblock, and what kind of content each volume has.
+//! eraseblock of each logical eraseblock, and what kind of content each volume has. A volume is then written from the
+//! source ([`write_places`]).
 #![tactic(auto)]
 
 mod attached;
@@ -13,6 +14,7 @@ mod cases;
 mod checking;
 mod content;
 mod errors;
+mod extracting;
 mod gathering;
 pub mod laws;
 mod length;
@@ -32,6 +34,7 @@ pub use attached::{Attached, BlockState};
 pub use attaching::attach;
 pub use content::{Bytes, Content, Lebs, Volume};
 pub use errors::{MeaningCause, MeaningError, ReadError};
+pub use extracting::{places_len, write_places};
 pub use length::volume_len;
 pub use meaning::Meaning;
 pub use output::write_all;

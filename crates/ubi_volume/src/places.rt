@@ -75,6 +75,13 @@ impl Places {
         &self.table
     }
 
+    /// The winner of a logical eraseblock, where it has one.
+    pub fn place(&self, id: u32, lnum: u32) -> Option<u32>
+        ensures { result ≡ finite.get self.now.winners (id, lnum) }
+    {
+        self.scan.winner(id, lnum)
+    }
+
     /// The first logical eraseblock of a volume from `from` on that counts and has a winner, and that winner. Of a
     /// static volume all count, of a dynamic one those below what it reserves. None where the volume isn't in the
     /// table.

@@ -2,7 +2,7 @@ use Rattle.std.proofs.Common.{◌≡◌, ◌+◌, ◌-◌, drop, take, ap, ◌�
 use Rattle.ubi_scan.specs.Image.{block, leb}
 use Rattle.ubi_scan.specs.Source.{blocks_of}
 use Rattle.ubi_compose.proofs.Placed.{piece_is}
-use Rattle.ubi_compose.proofs.Writing.{wrote_cut, wrote_first, wrote_text}
+use Rattle.ubi_volume.proofs.Received.{wrote_cut, wrote_first, wrote_text}
 use Rattle.ubi_compose.proofs.placing.put_piece.Goals as goal
 
 pub returns-in-Err-clause-failed : goal.returns-in-Err-clause-failed

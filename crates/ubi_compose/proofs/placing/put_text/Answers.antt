@@ -1,6 +1,6 @@
 use Rattle.std.proofs.Common.{◌+◌, length, take, drop, ap, ◌∙◌, refl, sym}
 use Rattle.ubi_compose.specs.Normal.{laid_bytes, new_ec}
-use Rattle.ubi_compose.proofs.Writing.{wrote_cut, wrote_text}
+use Rattle.ubi_volume.proofs.Received.{wrote_cut, wrote_text}
 use Rattle.ubi_compose.proofs.placing.put_text.Goals as goal
 
 pub returns-in-Ok-clause-written : goal.returns-in-Ok-clause-written

@@ -1,12 +1,11 @@
-use Rattle.std.proofs.Common.{◌≡◌, ◌+◌, ◌*◌, ◌<◌, ◌≤◌, ◌∙◌, ap, sym, arith}
+use Rattle.std.proofs.Common.{◌∙◌, arith}
 use Rattle.std.proofs.lemmas.Result.{err_from_is_err_and}
-use Rattle.ubi_media.specs.Record.{data_pad, usable}
 use Rattle.ubi_media.proofs.Padding.{reserved_within}
 use Rattle.ubi_compose.specs.Streamed.{dynamic_text, volume_text}
-use Rattle.ubi_compose.specs.Wrote.{All, IsWroteError, Wrote}
+use Rattle.ubi_volume.specs.Wrote.{All, IsWroteError, Wrote}
 use Rattle.ubi_compose.proofs.DynamicPlaces.{dynamic_all, dynamic_failed, dynamic_wrote, first_lebs}
 use Rattle.ubi_compose.proofs.StoredVolume.{counted_below, next_few}
-use Rattle.ubi_compose.proofs.Writing.{wrote_as}
+use Rattle.ubi_volume.proofs.Received.{wrote_as}
 use Rattle.ubi_compose.proofs.stored.put_dynamic.Goals as goal
 
 pub returns-in_err-total-clause-failed : goal.returns-in_err-total-clause-failed

@@ -1,11 +1,10 @@
-use Rattle.std.proofs.Common.{◌≡◌, ◌+◌, ◌-◌, ◌*◌, ◌<◌, ◌≤◌, ◌∙◌, ap, min, sym, subst, arith}
+use Rattle.std.proofs.Common.{◌≡◌, ◌+◌, ◌*◌, ◌<◌, ◌∙◌, ap, subst, arith}
 use Rattle.std.proofs.lemmas.Result.{err_from_is_err_and}
-use Rattle.ubi_media.specs.Record.{data_pad, usable}
-use Rattle.ubi_scan.specs.Source.{Source}
+use Rattle.ubi_media.specs.Record.{usable}
 use Rattle.ubi_compose.specs.Streamed.{static_text, volume_text}
-use Rattle.ubi_compose.specs.Wrote.{All, IsWroteError, Wrote}
+use Rattle.ubi_volume.specs.Wrote.{All, IsWroteError, Wrote}
 use Rattle.ubi_compose.proofs.StaticPlaces.{first_pieces, static_all, static_found, static_failed, static_wrote}
-use Rattle.ubi_compose.proofs.Writing.{wrote_as}
+use Rattle.ubi_volume.proofs.Received.{wrote_as}
 use Rattle.ubi_compose.proofs.stored.put_static.Goals as goal
 
 pub returns-in_default-clause-written : goal.returns-in_default-clause-written

@@ -1,5 +1,5 @@
 use Rattle.std.proofs.Common.{◌≡◌, ◌+◌, ◌*◌, ◌≤◌}
-use Rattle.ubi_compose.specs.Wrote.{All, Wrote}
+use Rattle.ubi_volume.specs.Wrote.{All, Wrote}
 use Rattle.ubi_compose.proofs.StaticPlaces.{first_pieces}
 use Rattle.ubi_compose.proofs.stored.put_static.Given as goal
 

@@ -1,12 +1,11 @@
-use Rattle.std.proofs.Common.{◌≡◌, ◌+◌, ◌*◌, ◌≤◌, ◌∙◌, [], ap, arith}
+use Rattle.std.proofs.Common.{◌≡◌, ◌∙◌, [], ap, arith}
 use Rattle.std.proofs.lemmas.Result.{IfOk-weaker}
-use Rattle.ubi_media.specs.Record.{data_pad}
 use Rattle.ubi_media.proofs.Padding.{reserved_some}
 use Rattle.ubi_compose.specs.Normal.{damaged_block}
 use Rattle.ubi_compose.specs.Streamed.{laid_text, volume_text}
-use Rattle.ubi_compose.specs.Wrote.{All, NotAll}
+use Rattle.ubi_volume.specs.Wrote.{All, NotAll}
 use Rattle.ubi_compose.proofs.StoredVolume.{damaged_text, more_blocks, reserved_of, updating_text}
-use Rattle.ubi_compose.proofs.Writing.{wrote_as, wrote_none}
+use Rattle.ubi_volume.proofs.Received.{wrote_as, wrote_none}
 use Rattle.ubi_compose.proofs.stored.put_volume.Goals as goal
 
 pub put_text-requires-clause-few : goal.put_text-requires-clause-few

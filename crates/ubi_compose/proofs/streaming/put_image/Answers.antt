@@ -1,4 +1,3 @@
-use Rattle.std.proofs.Common.{◌≡◌, ◌∙◌, ap, sym, subst}
 use Rattle.std.proofs.lemmas.Result.{err_from_is_err_and, IfErr-weaker, IfOk-weaker}
 use Rattle.ubi_compose.proofs.NormalParts.{all_parts, first_failed, second_failed, volumes_behind}
 use Rattle.ubi_compose.proofs.streaming.put_image.Goals as goal

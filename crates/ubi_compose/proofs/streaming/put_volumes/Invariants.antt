@@ -1,5 +1,5 @@
 use Rattle.std.proofs.Common.{◌≡◌, ◌+◌, ◌*◌, ◌≤◌, ◌^◌}
-use Rattle.ubi_compose.specs.Wrote.{All, Wrote}
+use Rattle.ubi_volume.specs.Wrote.{All, Wrote}
 use Rattle.ubi_compose.proofs.StoredVolumes.{first_volumes}
 use Rattle.ubi_compose.proofs.streaming.put_volumes.Given as goal
 

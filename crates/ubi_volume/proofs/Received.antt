@@ -9,7 +9,7 @@ use Rattle.ubi_media.specs.Geometry.{Sizes}
 use Rattle.ubi_scan.specs.Source.{Source}
 use Rattle.ubi_scan.specs.declared.errors.StreamError.{StreamError}
 use Rattle.ubi_scan.specs.declared.errors.StreamError.TheVariants as stream
-use Rattle.ubi_compose.specs.Wrote.{All, First, IsWroteError, NotAll, Wanted, Wrote}
+use Rattle.ubi_volume.specs.Wrote.{All, First, IsWroteError, NotAll, Wanted, Wrote}
 
 -- the bytes that are wanted are those of two parts, in order
 abbrev pub Splits : Wanted → Wanted → Wanted → Type 0
@@ -56,6 +56,13 @@ module _ (k : Source) where
   pub wrote_as : (a b : Option (List ℕ)) (wanted other : Wanted) (many : ℕ → ℕ → Type 0) (m n : ℕ) → ((image text : List ℕ) → other image text → wanted image text)
       → Wrote k a b wanted many m n → Wrote k a b other many m n
   wrote_as a b wanted other many m n same h = record { bytes = h.bytes; got = h.got; count = h.count; held = λ image is text o. h.held image is text (same image text o) }
+
+  pub error_as : (s : Sizes) (a b : Option (List ℕ)) (wanted other : Wanted) (m : ℕ) (e : StreamError) → ((image text : List ℕ) → other image text → wanted image text)
+      → IsWroteError s k a b wanted m e → IsWroteError s k a b other m e
+  error_as s a b wanted other m (stream.Read p n) same h = (h.0, wrote_as a b wanted other First m n same h.1)
+  error_as s a b wanted other m (stream.Write n) same h = wrote_as a b wanted other NotAll m n same h
+  error_as s a b wanted other m (stream.Refused c) same h = h
+  error_as s a b wanted other m stream.Memory same h = h
 
   -- a part after what was written
   wrote_both : (a b c : Option (List ℕ)) (wanted front back : Wanted) (many : ℕ → ℕ → Type 0) (l m n : ℕ) → Splits wanted front back → ((x i j : ℕ) → many i j → many (x + i) (x + j))

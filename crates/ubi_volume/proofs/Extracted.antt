@@ -1,0 +1,282 @@
+-- What is extracted of a volume by the places of its LEBs.
+use Rattle.std.proofs.Common.{◌≡◌, ℕ, zero, suc, ◌+◌, ◌-◌, ◌*◌, ◌<◌, ◌≤◌, inl, inr, false, List, [], ◌∷◌, ◌++◌, length, take, refl, ap, sym, ◌∙◌, subst, arith, length-append, append_assoc, zero-add}
+use Rattle.std.specs.Prelude.{Err, IfSome, None, Ok, Option, Result, Some, MatchOption, flat_map, slice_index, unwrap_or}
+use Rattle.std.specs.FinMap as finite
+use Rattle.std.specs.FinMap.{FinMap}
+use Rattle.std.specs.List.{range_with_len}
+use Rattle.std.specs.Option.{option_map_or}
+use Rattle.std.specs.Ordering.{nat_cmp}
+use Rattle.std.specs.Result.{result_map_both}
+use Rattle.std.proofs.lemmas.Nat.{mul-le}
+use Rattle.std.proofs.lemmas.Option.{IfSome_then}
+use Rattle.ubi_media.specs.Fields.{blank}
+use Rattle.ubi_media.specs.Geometry.{Sizes}
+use Rattle.ubi_media.specs.Record.{rec_fault, usable}
+use Rattle.ubi_media.specs.declared.record.VolumeRecord.{VolumeRecord}
+use Rattle.ubi_media.specs.declared.vid.VolKind.TheVariants as kind
+use Rattle.ubi_media.proofs.Records.{usable_some}
+use Rattle.ubi_scan.specs.Image.{Image, block, leb}
+use Rattle.ubi_scan.specs.Members.{NoMember, Wins}
+use Rattle.ubi_scan.specs.Source.{Source, blocks_of}
+use Rattle.ubi_scan.specs.declared.errors.StreamError.{StreamError}
+use Rattle.ubi_scan.proofs.Decided.{Wins-unique}
+use Rattle.ubi_table.specs.Records.{Records}
+use Rattle.ubi_table.proofs.ReadBack.{pieces_more}
+use Rattle.ubi_volume.specs.Extract.{case_len, leb_at, leb_bytes, lebs_at, lebs_bytes, read_text, share_len}
+use Rattle.ubi_volume.specs.Means.{SlotMeans}
+use Rattle.ubi_volume.specs.Meant.{Fits, IsVolume}
+use Rattle.ubi_volume.specs.Places.{ArePlaces, Placed, case_of}
+use Rattle.ubi_volume.specs.Reading.{leb_text, lebs_text, pieces, share, volume_len, volume_read}
+use Rattle.ubi_volume.specs.Reads.{AreWhole, LebReads, StaticReads, VolumeReads, piece}
+use Rattle.ubi_volume.specs.Wrote.{All, IsWroteError, Wrote}
+use Rattle.ubi_volume.specs.declared.content.Content.{Content}
+use Rattle.ubi_volume.specs.declared.content.Content.TheVariants as content
+use Rattle.ubi_volume.specs.declared.content.Volume.{Volume}
+use Rattle.ubi_volume.specs.declared.errors.ReadError.{ReadError}
+use Rattle.ubi_volume.specs.declared.errors.ReadError.TheVariants as error
+use Rattle.ubi_volume.specs.declared.places.PlaceContent.{PlaceContent}
+use Rattle.ubi_volume.specs.declared.places.PlaceContent.TheVariants as place
+use Rattle.ubi_volume.proofs.Alike.{short_piece}
+use Rattle.ubi_volume.proofs.Either.{are_lebs}
+use Rattle.ubi_volume.proofs.LebsText.{length-lebs}
+use Rattle.ubi_volume.proofs.Pieces.{length-share, pieces_few, share_more, share_none, shares_all}
+use Rattle.ubi_volume.proofs.Received.{Splits, error_behind, error_front, wrote_more}
+use Rattle.ubi_volume.proofs.Shares.{share_at}
+use Rattle.ubi_volume.proofs.VolumeAt.{case_is, in_table, reads_of, same_records, table}
+
+-- the first n of n + k
+pub front_of : (f : ℕ → List ℕ) (a n k : ℕ) → flat_map f (range_with_len a (n + k)) ≡ flat_map f (range_with_len a n) ++ flat_map f (range_with_len (a + n) k)
+front_of f a zero k =
+    let none : 0 + k ≡ k = zero-add k in
+    let same : a ≡ a + 0 = omega arith in
+    ap (λ n. flat_map f (range_with_len a n)) none ∙ ap (λ b. flat_map f (range_with_len b k)) same
+front_of f a (suc n) k =
+    let more : suc n + k ≡ suc (n + k) = omega arith in
+    let next : a + 1 + n ≡ a + suc n = omega arith in
+    ap (λ m. flat_map f (range_with_len a m)) more
+    ∙ ap (λ x. f a ++ x) (front_of f (a + 1) n k ∙ ap (λ (b : ℕ). flat_map f (range_with_len (a + 1) n) ++ flat_map f (range_with_len b k)) next)
+    ∙ sym (append_assoc (f a) (flat_map f (range_with_len (a + 1) n)) (flat_map f (range_with_len (a + suc n) k)))
+
+-- what is the same at each number
+same_range : (f g : ℕ → List ℕ) (a n : ℕ) → ((i : ℕ) → a ≤ i → i < a + n → f i ≡ g i) → flat_map f (range_with_len a n) ≡ flat_map g (range_with_len a n)
+same_range f g a zero h = refl
+same_range f g a (suc n) h =
+    ap (λ x. x ++ flat_map f (range_with_len (a + 1) n)) (h a (omega arith) (omega arith))
+    ∙ ap (λ x. g a ++ x) (same_range f g (a + 1) n (λ i low high. h i (omega arith) (omega arith)))
+
+module _ (s : Sizes) (p : Placed) (id size bytes : ℕ) where
+  leb_of : List ℕ → ℕ → List ℕ
+  leb_of image lnum = leb_bytes s (share_len size bytes lnum) (finite.get p.winners (id, lnum)) image
+
+  -- the first LEBs
+  pub lebs_front : (n m : ℕ) → n ≤ m → Splits (lebs_at s p id size bytes m) (lebs_at s p id size bytes n) (λ image text. Unit {0})
+  unfolding leb_of
+  lebs_front n m few image text w =
+      let total : n + (m - n) ≡ m = omega arith in
+      (lebs_bytes s p id size bytes image n, flat_map (leb_of image) (range_with_len (0 + n) (m - n)), w ∙ ap (λ k. flat_map (leb_of image) (range_with_len 0 k)) (sym total) ∙ front_of (leb_of image) 0 n (m - n), refl, tt)
+
+  -- one LEB more
+  module _ (n m : ℕ) (at : Option ℕ) (long : m ≡ share_len size bytes n) (is : at ≡ finite.get p.winners (id, n)) where
+    lebs_step : Splits (lebs_at s p id size bytes (n + 1)) (lebs_at s p id size bytes n) (leb_at s m at)
+    unfolding leb_of
+    lebs_step image text w = (
+      lebs_bytes s p id size bytes image n,
+      leb_of image n,
+      w ∙ pieces_more (leb_of image) 0 n n (zero-add n),
+      refl,
+      ap (λ (k : ℕ). leb_bytes s k (finite.get p.winners (id, n)) image) (sym long) ∙ ap (λ (o : Option ℕ). leb_bytes s m o image) (sym is),
+    )
+
+    module _ (k : Source) (a b c : Option (List ℕ)) (done : ℕ) (front : Wrote k a b (lebs_at s p id size bytes n) All 0 done) where
+      pub lebs_wrote : (more : ℕ) → Wrote k b c (leb_at s m at) All done more → Wrote k a c (lebs_at s p id size bytes (n + 1)) All 0 more
+      lebs_wrote more back = wrote_more k a b c (lebs_at s p id size bytes (n + 1)) (lebs_at s p id size bytes n) (leb_at s m at) 0 done more lebs_step front back
+
+      pub lebs_failed : (l : ℕ) (e : StreamError) → n < l → IsWroteError s k b c (leb_at s m at) done e → IsWroteError s k a c (lebs_at s p id size bytes l) 0 e
+      lebs_failed l e below back =
+          error_front k s a c (lebs_at s p id size bytes l) (lebs_at s p id size bytes (n + 1)) (λ image text. Unit {0}) 0 e (lebs_front (n + 1) l (omega arith))
+          (error_behind k s a b c (lebs_at s p id size bytes (n + 1)) (lebs_at s p id size bytes n) (leb_at s m at) 0 done e lebs_step front back)
+
+-- pieces that are no larger than a size
+most_pieces : (f : ℕ → List ℕ) (size : ℕ) (ps : List ℕ) → ((i : ℕ) → i < length ps → length (f (slice_index ps i)) ≤ size) → length (flat_map f ps) ≤ length ps * size
+most_pieces f size [] most = omega arith
+most_pieces f size (p ∷ ps) most =
+    let first : length (f p) ≤ size = most 0 (omega arith) in
+    let rest = most_pieces f size ps (λ i b. most (suc i) (omega arith)) in
+    let both = length-append (f p) (flat_map f ps) in
+    let next : suc (length ps) * size ≡ length ps * size + size = omega arith in
+    omega (arith, first, rest, both, next)
+
+module _ (s : Sizes) (p : Placed) (image : List ℕ) (places : ArePlaces (record { sizes = s; bytes = image }) p) (id : ℕ) (r : VolumeRecord)
+    (recorded : finite.get p.records.of id ≡ Some r) (v : Volume) (at : finite.get places.meaning.volumes id ≡ Some v) where
+  abbrev bs : List (List ℕ)
+  bs = blocks_of s image
+
+  abbrev size : ℕ
+  size = usable s r
+
+  entry : v.entry ≡ r
+  entry = (reads_of s p image places id r recorded v at).0
+
+  volume : IsVolume s id v
+  volume = subst (λ (z : Sizes). IsVolume z id v) places.accepted.accepted.means.sizes
+      (subst (λ (o : Option Volume). IfSome o (IsVolume places.meaning.sizes id)) at (places.accepted.accepted.means.meaning.each id))
+
+  sound : rec_fault s r ≡ None
+  sound = subst (λ (x : VolumeRecord). rec_fault s x ≡ None) entry volume.sound
+
+  module _ (lebs bytes : ℕ) (t : List ℕ) (is : v.content ≡ content.Static t) (count : pieces size (length t) ≡ lebs) (long : length t ≡ bytes) where
+    static_reads : (r.marker ≡ false) × (r.kind ≡ kind.Static) × StaticReads s bs id r t
+    static_reads = subst (VolumeReads s bs id r) is (reads_of s p image places id r recorded v at).1
+
+    module _ (n : ℕ) (inside : n < lebs) where
+      whole : (ps : List ℕ) × AreWhole s bs id r ps × (t ≡ flat_map (piece s bs) ps) × (n < length ps)
+      whole = elim static_reads.2 [
+        | inl none ↦
+            let few = pieces_few size (usable_some s r sound) (length t) 0 (omega (arith, ap length none.1)) in
+            absurd (omega (arith, few, count, inside))
+        | inr w ↦
+            let short = short_piece s bs (table s p image places) places.accepted.accepted.alike id r (in_table s p image places id r recorded) static_reads.0 static_reads.1 in
+            let most = most_pieces (piece s bs) size w.0 (λ i b. short i (slice_index w.0 i) (w.1.win i b)) in
+            let few = pieces_few size (usable_some s r sound) (length t) (length w.0) (omega (arith, ap length w.2, most)) in
+            (w.0, w.1, w.2, omega (arith, few, count, inside))
+      ]
+
+      piece_is : leb_bytes s (share_len size bytes n) (finite.get p.winners (id, n)) image ≡ share size t n
+      piece_is = by_place (finite.get p.winners (id, n)) (places.winners (id, n))
+        where
+          share_is : (q : ℕ) → Wins s bs (id, n) q → share size t n ≡ take (share_len size bytes n) (leb s (block bs q))
+          share_is q won =
+              let here =
+              share_at s bs places.accepted.accepted.clean (are_lebs (record { sizes = s; bytes = image })) (table s p image places) places.accepted.accepted.alike id r (in_table s p image places id r recorded)
+              static_reads.0 static_reads.1 whole.0 whole.1 n q whole.3 won in
+              let there : share size t n ≡ take (length (share size t n)) (leb s (block bs q)) =
+              subst (λ (x : List ℕ). share size x n ≡ take (length (share size x n)) (leb s (block bs q))) (sym whole.2) here in
+              let some : length (share size t n) ≡ share_len size bytes n = length-share size (usable_some s r sound) t n ∙ ap (λ k. share_len size k n) long in
+              there ∙ ap (λ k. take k (leb s (block bs q))) some
+
+          by_place : (o : Option ℕ) → MatchOption o (NoMember s bs (id, n)) (Wins s bs (id, n)) → leb_bytes s (share_len size bytes n) o image ≡ share size t n
+          by_place None none = absurd (none _ (whole.1.win n whole.3).member)
+          by_place (Some q) won = sym (share_is q won)
+
+    static_so_far : (n : ℕ) → n ≤ lebs → lebs_bytes s p id size bytes image n ≡ take (n * size) t
+    static_so_far zero few = sym (share_none size t)
+    static_so_far (suc n) few =
+        let f : ℕ → List ℕ = λ lnum. leb_bytes s (share_len size bytes lnum) (finite.get p.winners (id, lnum)) image in
+        let next : suc n ≡ n + 1 = omega arith in
+        ap (λ k. flat_map f (range_with_len 0 k)) next ∙ pieces_more f 0 n n (zero-add n)
+        ∙ ap (λ x. x ++ f n) (static_so_far n (omega arith)) ∙ ap (λ x. take (n * size) t ++ x) (piece_is n (omega arith))
+        ∙ share_more size t n ∙ ap (λ k. take (k * size) t) (sym next)
+
+    static_is : lebs_bytes s p id size bytes image lebs ≡ t
+    static_is = static_so_far lebs (omega arith) ∙ ap (λ k. take (k * size) t) (sym count) ∙ shares_all size (usable_some s r sound) t
+
+  module _ (l : FinMap nat_cmp (List ℕ)) (is : v.content ≡ content.Dynamic l) where
+    dynamic_reads : (r.marker ≡ false) × (r.kind ≡ kind.Dynamic) × ((lnum : ℕ) → lnum < r.reserved → LebReads s bs id r lnum (unwrap_or (finite.get l lnum) (blank size)))
+    dynamic_reads = subst (VolumeReads s bs id r) is (reads_of s p image places id r recorded v at).1
+
+    leb_is : (n : ℕ) → n < r.reserved → leb_bytes s (share_len size (r.reserved * size) n) (finite.get p.winners (id, n)) image ≡ leb_text size (finite.get l n)
+    leb_is n inside =
+        let room : (n + 1) * size ≤ r.reserved * size = mul-le (n + 1) size r.reserved size (omega arith) (omega arith) in
+        let next : (n + 1) * size ≡ n * size + size = omega arith in
+        let full : share_len size (r.reserved * size) n ≡ size = omega (arith, room, next) in
+        ap (λ k. leb_bytes s k (finite.get p.winners (id, n)) image) full ∙ by_place (finite.get p.winners (id, n)) (places.winners (id, n))
+      where
+        by_place : (o : Option ℕ) → MatchOption o (NoMember s bs (id, n)) (Wins s bs (id, n)) → leb_bytes s size o image ≡ leb_text size (finite.get l n)
+        by_place None none = elim (dynamic_reads.2 n inside) [
+          | inl w ↦ absurd (none w.0 w.1.member)
+          | inr w ↦ sym w.1
+        ]
+        by_place (Some q) won = elim (dynamic_reads.2 n inside) [
+          | inl w ↦ ap (λ (k : ℕ). take size (leb s (block bs k))) (Wins-unique s bs (id, n) q w.0 places.accepted.accepted.clean won w.1) ∙ sym w.2
+          | inr w ↦ absurd (w.0 q won.member)
+        ]
+
+    dynamic_is : lebs_bytes s p id size (r.reserved * size) image r.reserved ≡ lebs_text size l r.reserved
+    dynamic_is = same_range (λ lnum. leb_bytes s (share_len size (r.reserved * size) lnum) (finite.get p.winners (id, lnum)) image) (λ lnum. leb_text size (finite.get l lnum)) 0 r.reserved
+        (λ i low high. leb_is i (omega arith))
+
+  -- what the volume reads, by its case
+  module _ (text : List ℕ) where
+    by_static : (lebs bytes : ℕ) (c : Content) → v.content ≡ c → case_of s r c ≡ place.Static lebs bytes → volume_read s r c ≡ Ok text → lebs_bytes s p id size bytes image lebs ≡ text
+    by_static lebs bytes content.Updating is case h = absurd (cc)
+    by_static lebs bytes content.Damaged is case h = absurd (cc)
+    by_static lebs bytes (content.Static t) is case h = static_is lebs bytes t is (cc) (cc) ∙ (let e : t ≡ text = cc in e)
+    by_static lebs bytes (content.Dynamic l) is case h = absurd (cc)
+
+    by_dynamic : (c : Content) → v.content ≡ c → case_of s r c ≡ place.Dynamic → volume_read s r c ≡ Ok text → lebs_bytes s p id size (r.reserved * size) image r.reserved ≡ text
+    by_dynamic content.Updating is case h = absurd (cc)
+    by_dynamic content.Damaged is case h = absurd (cc)
+    by_dynamic (content.Static t) is case h = absurd (cc)
+    by_dynamic (content.Dynamic l) is case h = dynamic_is l is ∙ (let e : lebs_text size l r.reserved ≡ text = cc in e)
+
+    -- under its own record
+    read_is : volume_read places.meaning.sizes v.entry v.content ≡ Ok text → volume_read s r v.content ≡ Ok text
+    read_is h = ap (λ (x : VolumeRecord). volume_read s x v.content) (sym entry) ∙ ap (λ (z : Sizes). volume_read z v.entry v.content) (sym places.accepted.accepted.means.sizes) ∙ h
+
+    pub static_at : (lebs bytes : ℕ) → finite.get p.contents id ≡ Some (place.Static lebs bytes) → volume_read places.meaning.sizes v.entry v.content ≡ Ok text
+        → text ≡ lebs_bytes s p id size bytes image lebs
+    static_at lebs bytes listed h = sym (by_static lebs bytes v.content refl (case_is s p image places id r recorded v at (place.Static lebs bytes) listed) (read_is h))
+
+    pub dynamic_at : finite.get p.contents id ≡ Some place.Dynamic → volume_read places.meaning.sizes v.entry v.content ≡ Ok text
+        → text ≡ lebs_bytes s p id size (r.reserved * size) image r.reserved
+    dynamic_at listed h = sym (by_dynamic v.content refl (case_is s p image places id r recorded v at place.Dynamic listed) (read_is h))
+
+-- a volume that is read is one of the meaning
+read_of : (s : Sizes) (id : ℕ) (text : List ℕ) (o : Option Volume) → option_map_or (λ v. volume_read s v.entry v.content) o (Err error.NoVolume) ≡ Ok text
+    → (v : Volume) × (o ≡ Some v) × (volume_read s v.entry v.content ≡ Ok text)
+read_of s id text None h = absurd (cc)
+read_of s id text (Some v) h = (v, refl, h)
+
+module _ (s : Sizes) (p : Placed) (id : ℕ) (r : VolumeRecord) (recorded : finite.get p.records.of id ≡ Some r) (n : ℕ) (used : n ≡ usable s r) where
+  pub static_wanted : (lebs bytes : ℕ) → finite.get p.contents id ≡ Some (place.Static lebs bytes)
+      → (image text : List ℕ) → read_text s p id image text → lebs_at s p id n bytes lebs image text
+  static_wanted lebs bytes listed image text w =
+      let of = read_of w.0.meaning.sizes id text (finite.get w.0.meaning.volumes id) w.1 in
+      static_at s p image w.0 id r recorded of.0 of.1 text lebs bytes listed of.2 ∙ ap (λ k. lebs_bytes s p id k bytes image lebs) (sym used)
+
+  pub dynamic_wanted : (bytes : ℕ) → bytes ≡ r.reserved * n → finite.get p.contents id ≡ Some place.Dynamic
+      → (image text : List ℕ) → read_text s p id image text → lebs_at s p id n bytes r.reserved image text
+  dynamic_wanted bytes total listed image text w =
+      let of = read_of w.0.meaning.sizes id text (finite.get w.0.meaning.volumes id) w.1 in
+      dynamic_at s p image w.0 id r recorded of.0 of.1 text listed of.2 ∙ ap (λ k. lebs_bytes s p id k (r.reserved * k) image r.reserved) (sym used)
+      ∙ ap (λ k. lebs_bytes s p id n k image r.reserved) (sym total)
+
+-- how many bytes it reads, by the case
+case_len_is : (s : Sizes) (r : VolumeRecord) (c : Content) → Fits s r c → case_len s r (case_of s r c) ≡ result_map_both length (λ (e : ReadError). e) (volume_read s r c)
+case_len_is s r content.Updating fits = refl
+case_len_is s r content.Damaged fits = refl
+case_len_is s r (content.Static t) fits = refl
+case_len_is s r (content.Dynamic l) fits = ap Ok (sym (length-lebs (usable s r) l (λ n. IfSome_then (finite.get l n) (fits.2 n) (λ text h. h.1)) r.reserved))
+
+len_in : Sizes → Option Volume → Result ℕ ReadError
+len_in s o = result_map_both length (λ (e : ReadError). e) (option_map_or (λ v. volume_read s v.entry v.content) o (Err error.NoVolume))
+
+module _ (image : Image) (p : Placed) (h : ArePlaces image p) (id : ℕ) where
+  pub len_none : finite.get p.records.of id ≡ None → Err error.NoVolume ≡ volume_len h.meaning id
+  unfolding len_in
+  len_none e = by_volume (finite.get h.meaning.volumes id) refl (subst (λ (o : Option VolumeRecord). SlotMeans image.sizes (blocks_of image.sizes image.bytes) id o (finite.get h.meaning.volumes id))
+      (ap (λ (x : Records). finite.get x.of id) (same_records image.sizes p image.bytes h) ∙ e) (h.accepted.accepted.means.slots id))
+    where
+      by_volume : (o : Option Volume) → finite.get h.meaning.volumes id ≡ o → SlotMeans image.sizes (blocks_of image.sizes image.bytes) id None o → Err error.NoVolume ≡ volume_len h.meaning id
+      by_volume None at is = ap (len_in h.meaning.sizes) (sym at)
+      by_volume (Some v) at is = absurd is
+
+  pub len_some : (s : Sizes) (r : VolumeRecord) (c : PlaceContent) → p.records.sizes ≡ s → finite.get p.records.of id ≡ Some r → finite.get p.contents id ≡ Some c
+      → case_len s r c ≡ volume_len h.meaning id
+  unfolding len_in
+  len_some s r c sizes recorded listed = by_volume (finite.get h.meaning.volumes id) refl
+      (subst (λ (o : Option VolumeRecord). SlotMeans image.sizes (blocks_of image.sizes image.bytes) id o (finite.get h.meaning.volumes id))
+      (in_table image.sizes p image.bytes h id r recorded) (h.accepted.accepted.means.slots id))
+    where
+      by_volume : (o : Option Volume) → finite.get h.meaning.volumes id ≡ o → SlotMeans image.sizes (blocks_of image.sizes image.bytes) id (Some r) o → case_len s r c ≡ volume_len h.meaning id
+      by_volume None at is = absurd is
+      by_volume (Some v) at is =
+          let z : Sizes = image.sizes in
+          let same : s ≡ z = sym sizes ∙ ap (λ (x : Records). x.sizes) h.records ∙ h.accepted.accepted.means.sizes in
+          let case = case_is z p image.bytes h id r recorded v at c listed in
+          let whole : IsVolume h.meaning.sizes id v = subst (λ (o : Option Volume). IfSome o (IsVolume h.meaning.sizes id)) at (h.accepted.accepted.means.meaning.each id) in
+          let fits : Fits z r v.content = subst (λ (x : VolumeRecord). Fits z x v.content) is.0 (subst (λ (x : Sizes). Fits x v.entry v.content) h.accepted.accepted.means.sizes whole.fits) in
+          ap (λ (x : Sizes). case_len x r c) same ∙ ap (case_len z r) (sym case) ∙ case_len_is z r v.content fits
+          ∙ ap (λ (x : VolumeRecord). result_map_both length (λ (e : ReadError). e) (volume_read z x v.content)) (sym is.0)
+          ∙ ap (λ (x : Sizes). result_map_both length (λ (e : ReadError). e) (volume_read x v.entry v.content)) (sym h.accepted.accepted.means.sizes)
+          ∙ ap (len_in h.meaning.sizes) (sym at)

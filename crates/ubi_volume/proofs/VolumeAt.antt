@@ -1,0 +1,70 @@
+-- A volume of an image whose places are known.
+use Rattle.std.proofs.Common.{◌≡◌, ℕ, ◌<◌, ◌≤◌, ◌⊎◌, inl, inr, List, refl, ap, sym, ◌∙◌, subst, arith}
+use Rattle.std.specs.Prelude.{None, Option, Some, MatchOption}
+use Rattle.std.specs.FinMap as finite
+use Rattle.ubi_media.specs.Geometry.{Sizes}
+use Rattle.ubi_media.specs.declared.record.VolumeRecord.{VolumeRecord}
+use Rattle.ubi_scan.specs.Members.{Leb, NoMember, Wins}
+use Rattle.ubi_scan.specs.Source.{blocks_of}
+use Rattle.ubi_table.specs.Records.{Records}
+use Rattle.ubi_volume.specs.Counted.{IsWithin}
+use Rattle.ubi_volume.specs.Means.{SlotMeans}
+use Rattle.ubi_volume.specs.Places.{ArePlaces, IsNextPlace, Placed, case_of}
+use Rattle.ubi_volume.specs.Reads.{VolumeReads}
+use Rattle.ubi_volume.specs.declared.content.Volume.{Volume}
+use Rattle.ubi_volume.specs.declared.places.PlaceContent.{PlaceContent}
+use Rattle.ubi_volume.proofs.Recorded.{records_meant}
+use Rattle.ubi_volume.proofs.Winners.{some_same}
+
+module _ (s : Sizes) (p : Placed) (image : List ℕ) (places : ArePlaces (record { sizes = s; bytes = image }) p) where
+  abbrev pub table : Records
+  table = places.accepted.accepted.records
+
+  pub same_records : table ≡ p.records
+  same_records = sym (records_meant s (blocks_of s image) table places.meaning places.accepted.accepted.table places.accepted.accepted.means) ∙ sym places.records
+
+  -- the winner of a LEB that is found, or there is none
+  pub found_or_none : (of : Leb) → ((q : ℕ) × (finite.get p.winners of ≡ Some q) × Wins s (blocks_of s image) of q) ⊎ NoMember s (blocks_of s image) of
+  found_or_none of = by_found (finite.get p.winners of) refl (places.winners of)
+    where
+      by_found : (o : Option ℕ) → finite.get p.winners of ≡ o → MatchOption o (NoMember s (blocks_of s image) of) (Wins s (blocks_of s image) of)
+          → ((q : ℕ) × (finite.get p.winners of ≡ Some q) × Wins s (blocks_of s image) of q) ⊎ NoMember s (blocks_of s image) of
+      by_found None e h = inr h
+      by_found (Some q) e h = inl (q, e, h)
+
+  pub found_wins : (of : Leb) (q : ℕ) → finite.get p.winners of ≡ Some q → Wins s (blocks_of s image) of q
+  found_wins of q e = subst (λ (o : Option ℕ). MatchOption o (NoMember s (blocks_of s image) of) (Wins s (blocks_of s image) of)) e (places.winners of)
+
+  module _ (id : ℕ) (r : VolumeRecord) (recorded : finite.get p.records.of id ≡ Some r) where
+    pub in_table : finite.get table.of id ≡ Some r
+    in_table = ap (λ (x : Records). finite.get x.of id) same_records ∙ recorded
+
+    -- what the volume reads
+    pub reads_of : (v : Volume) → finite.get places.meaning.volumes id ≡ Some v → (v.entry ≡ r) × VolumeReads s (blocks_of s image) id r v.content
+    reads_of v at = subst (SlotMeans s (blocks_of s image) id (Some r)) at
+        (subst (λ (o : Option VolumeRecord). SlotMeans s (blocks_of s image) id o (finite.get places.meaning.volumes id)) in_table (places.accepted.accepted.means.slots id))
+
+    -- and its case
+    pub case_is : (v : Volume) → finite.get places.meaning.volumes id ≡ Some v → (c : PlaceContent) → finite.get p.contents id ≡ Some c → case_of s r v.content ≡ c
+    case_is v at c e =
+        some_same (case_of s r v.content) c
+        (ap (λ (x : VolumeRecord). Some (case_of s x v.content)) (sym (reads_of v at).0) ∙ sym (places.contents id v at) ∙ e)
+
+    -- the next place of a LEB that counts and has a member is its winner
+    module _ (n : ℕ) (within : IsWithin r n) where
+      pub is_next : (l q : ℕ) → IsNextPlace p id n (Some (l, q)) → (NoMember s (blocks_of s image) (id, n) → ⊥) → Wins s (blocks_of s image) (id, n) q
+      is_next l q next some = elim (found_or_none (id, n)) [
+        | inr none ↦ absurd (some none)
+        | inl w ↦
+            let same : l ≡ n = at_most l (next.0) (λ less. next.2 n w.0 (omega arith) less (r, recorded, within, w.1)) in
+            subst (λ (k : ℕ). Wins s (blocks_of s image) (id, k) q) same (found_wins (id, l) q next.1.3)
+      ]
+        where
+          at_most : (l : ℕ) → n ≤ l → (n < l → ⊥) → l ≡ n
+          at_most l low none = grind arith
+
+      pub is_some : IsNextPlace p id n None → (NoMember s (blocks_of s image) (id, n) → ⊥) → ⊥
+      is_some next some = elim (found_or_none (id, n)) [
+        | inr none ↦ some none
+        | inl w ↦ next n w.0 (omega arith) (r, recorded, within, w.1)
+      ]

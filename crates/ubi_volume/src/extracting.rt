@@ -1,0 +1,218 @@
+//! What a volume of a source reads, from the places of its logical eraseblocks to a writer.
+
+ghost use Rattle.std.specs.FinMap as finite;
+ghost use Rattle.std.specs.Prelude.{◌≡◌, ℕ, ◌+◌, ◌<◌, ◌≤◌, ◌^◌, IfErr, IfOk, IfSome, IsOk, List, None, Some, length};
+ghost use Rattle.ubi_media.specs.Geometry.{Sizes, leb_size};
+ghost use Rattle.ubi_media.specs.Record.{rec_fault};
+ghost use Rattle.ubi_scan.specs.Image.{Image};
+ghost use Rattle.ubi_scan.specs.Source.{Source, WhereHeld, blocks_in};
+ghost use Rattle.ubi_scan.specs.Stream.{after};
+ghost use Rattle.ubi_volume.specs.Extract.{case_len, leb_at, lebs_at, places_len, read_text};
+ghost use Rattle.ubi_volume.specs.Places.{ArePlaces, ArePlacesOf};
+ghost use Rattle.ubi_volume.specs.Reading.{volume_len};
+ghost use Rattle.ubi_volume.specs.Wrote.{All, IsWroteError, Wrote};
+
+use crate::errors::ReadError;
+use crate::output::{write_all, write_blank};
+use crate::places::{PlaceContent, Places};
+use std::io::Write;
+use ubi_media::{Geometry, VolumeRecord};
+use ubi_scan::{BlockSource, StreamError, read_leb};
+
+/// How many bytes a volume with this record reads, by what it reads.
+///
+/// # Errors
+///
+/// `Updating` or `Damaged`: it can't be read.
+fn case_len(
+    geometry: &Geometry,
+    entry: &VolumeRecord,
+    content: PlaceContent,
+) -> Result<u64, ReadError>
+    requires { rec_fault geometry.now entry.now ≡ None }
+    ensures { result ≡ case_len geometry.now entry.now content }
+{
+    match content {
+        PlaceContent::Updating => Err(ReadError::Updating),
+        PlaceContent::Damaged => Err(ReadError::Damaged),
+        PlaceContent::Static { bytes, .. } => Ok(bytes),
+        PlaceContent::Dynamic => Ok(u64::from(entry.reserved) * u64::from(entry.usable(geometry))),
+    }
+}
+
+/// How many bytes a volume reads. The geometry is the one that the places were found with.
+///
+/// # Errors
+///
+/// The first of these that stands: `NoVolume`, `Updating`, `Damaged`.
+pub fn places_len(geometry: &Geometry, places: &Places, id: u32) -> Result<u64, ReadError>
+    requires { places.now.records.sizes ≡ geometry.now }
+    ensures value { result ≡ places_len places.now id }
+    ensures meant { (image : Image) (h : ArePlaces image places.now) → result ≡ volume_len h.meaning id }
+{
+    match places.table().get(id) {
+        Some(entry) => case_len(geometry, entry, places.content(id)),
+        None => Err(ReadError::NoVolume),
+    }
+}
+
+/// Writes the first bytes of the logical eraseblock in an eraseblock, as many as the buffer has, and gives how many bytes
+/// are written then. `done` of them were written before.
+///
+/// # Errors
+///
+/// The read failed, or a write.
+fn write_place<S: BlockSource, W: Write>(
+    geometry: &Geometry,
+    source: &mut S,
+    p: u32,
+    buffer: &mut [u8],
+    writer: &mut W,
+    done: u64,
+) -> Result<u64, StreamError>
+    requires block { p < blocks_in geometry.now (S.known source.old) }
+    requires text { length buffer.old ≤ leb_size geometry.now }
+    requires few { done + length buffer.old < 2 ^ 64 }
+    ensures known { S.known source.new ≡ after (S.known source.old) result }
+    ensures written { IfOk result (Wrote (S.known source.old) (W.contents writer.old) (W.contents writer.new) (leb_at geometry.now (length buffer.old) (Some p)) All done) }
+    ensures count { IfOk result (λ n. n ≡ done + length buffer.old) }
+    ensures failed { IfErr result (IsWroteError geometry.now (S.known source.old) (W.contents writer.old) (W.contents writer.new) (leb_at geometry.now (length buffer.old) (Some p)) done) }
+{
+    match read_leb(source, geometry, p, buffer) {
+        Ok(()) => {}
+        Err(_) => return Err(StreamError::Read(p, done)),
+    }
+    match write_all(writer, buffer) {
+        Ok(()) => Ok(done + buffer.len() as u64),
+        Err(more) => Err(StreamError::Write(done + more as u64)),
+    }
+}
+
+/// Writes so many bytes 0xFF, and gives how many bytes are written then. `done` of them were written before.
+///
+/// # Errors
+///
+/// How many bytes were written before a write failed.
+fn write_hole<W: Write>(writer: &mut W, len: usize, done: u64) -> Result<u64, StreamError>
+    requires few { done + len < 2 ^ 64 }
+    ensures known { (k : Source) → after k result ≡ k }
+    ensures written { IfOk result (λ n. (s : Sizes) (k : Source) → Wrote k (W.contents writer.old) (W.contents writer.new) (leb_at s len None) All done n) }
+    ensures count { IfOk result (λ n. n ≡ done + len) }
+    ensures failed { IfErr result (λ e. (s : Sizes) (k : Source) → IsWroteError s k (W.contents writer.old) (W.contents writer.new) (leb_at s len None) done e) }
+{
+    match write_blank(writer, len) {
+        Ok(()) => Ok(done + len as u64),
+        Err(more) => Err(StreamError::Write(done + more as u64)),
+    }
+}
+
+/// Writes the first bytes of a logical eraseblock, as many as the buffer has, and gives how many bytes are written then.
+/// They are 0xFF where it has no place.
+///
+/// # Errors
+///
+/// The read failed, or a write.
+fn write_leb<S: BlockSource, W: Write>(
+    geometry: &Geometry,
+    source: &mut S,
+    place: Option<u32>,
+    buffer: &mut [u8],
+    writer: &mut W,
+    done: u64,
+) -> Result<u64, StreamError>
+    requires block { IfSome place (λ p. p < blocks_in geometry.now (S.known source.old)) }
+    requires text { length buffer.old ≤ leb_size geometry.now }
+    requires few { done + length buffer.old < 2 ^ 64 }
+    ensures known { S.known source.new ≡ after (S.known source.old) result }
+    ensures written { IfOk result (Wrote (S.known source.old) (W.contents writer.old) (W.contents writer.new) (leb_at geometry.now (length buffer.old) place) All done) }
+    ensures count { IfOk result (λ n. n ≡ done + length buffer.old) }
+    ensures failed { IfErr result (IsWroteError geometry.now (S.known source.old) (W.contents writer.old) (W.contents writer.new) (leb_at geometry.now (length buffer.old) place) done) }
+{
+    match place {
+        Some(p) => write_place(geometry, source, p, buffer, writer, done),
+        None => write_hole(writer, buffer.len(), done),
+    }
+}
+
+/// Writes so many bytes that stand in the first `lebs` logical eraseblocks of a volume, `size` in each, and gives how
+/// many bytes those are.
+///
+/// # Errors
+///
+/// A read failed, or a write.
+fn write_lebs<S: BlockSource, W: Write>(
+    geometry: &Geometry,
+    source: &mut S,
+    places: &Places,
+    id: u32,
+    size: u32,
+    lebs: u32,
+    bytes: u64,
+    buffer: &mut [u8],
+    writer: &mut W,
+) -> Result<u64, StreamError>
+    requires places { ArePlacesOf geometry.now (S.known source.old) places.now }
+    requires room { length buffer.old ≡ geometry.now.peb_size }
+    requires size { size ≤ leb_size geometry.now }
+    ensures known { S.known source.new ≡ after (S.known source.old) result }
+    ensures written { IfOk result (Wrote (S.known source.old) (W.contents writer.old) (W.contents writer.new) (lebs_at geometry.now places.now id size bytes lebs) All 0) }
+    ensures failed { IfErr result (IsWroteError geometry.now (S.known source.old) (W.contents writer.old) (W.contents writer.new) (lebs_at geometry.now places.now id size bytes lebs) 0) }
+{
+    let mut done = 0;
+    for lnum in 0..lebs {
+        let before = u64::from(lnum) * u64::from(size);
+        let len = u64::from(size).min(bytes.saturating_sub(before)) as usize;
+        let place = places.place(id, lnum);
+        done = write_leb(geometry, source, place, &mut buffer[..len], writer, done)?;
+    }
+    Ok(done)
+}
+
+/// Writes what a volume reads, where it can be read ([`places_len`]), and gives how many bytes that are. The places are
+/// those that were found in the source. One logical eraseblock is held at a time, in a buffer of the size of an
+/// eraseblock; no other memory is taken, and each eraseblock is read at most once.
+///
+/// # Errors
+///
+/// Read where a read failed, and Write where a write failed: the writer received the first of the bytes then, and they
+/// say how many.
+pub fn write_places<S: BlockSource, W: Write>(
+    geometry: &Geometry,
+    source: &mut S,
+    places: &Places,
+    id: u32,
+    buffer: &mut [u8],
+    writer: &mut W,
+) -> Result<u64, StreamError>
+    requires places { ArePlacesOf geometry.now (S.known source.old) places.now }
+    requires room { length buffer.old ≡ geometry.now.peb_size }
+    requires reads { IsOk (places_len places.now id) }
+    ensures known { S.known source.new ≡ after (S.known source.old) result }
+    ensures written { IfOk result (Wrote (S.known source.old) (W.contents writer.old) (W.contents writer.new) (read_text geometry.now places.now id) All 0) }
+    ensures failed { IfErr result (IsWroteError geometry.now (S.known source.old) (W.contents writer.old) (W.contents writer.new) (read_text geometry.now places.now id) 0) }
+{
+    let Some(entry) = places.table().get(id) else {
+        unreachable!()
+    };
+    let size = entry.usable(geometry);
+    match places.content(id) {
+        PlaceContent::Static { lebs, bytes } => write_lebs(
+            geometry, source, places, id, size, lebs, bytes, buffer, writer,
+        ),
+        PlaceContent::Dynamic => {
+            let bytes = u64::from(entry.reserved) * u64::from(size);
+            write_lebs(
+                geometry,
+                source,
+                places,
+                id,
+                size,
+                entry.reserved,
+                bytes,
+                buffer,
+                writer,
+            )
+        }
+        PlaceContent::Updating | PlaceContent::Damaged => unreachable!(),
+    }
+}
