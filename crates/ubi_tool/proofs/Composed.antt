@@ -1,14 +1,14 @@
 -- What is composed of a text, and listed of that.
-use Rattle.std.proofs.Common.{◌≡◌, ℕ, ◌+◌, ◌<◌, ◌≤◌, List, Some, None, length, ap, sym, subst, ◌∙◌, arith}
-use Rattle.std.specs.Prelude.{Ok, Option, option_map}
+use Rattle.std.proofs.Common.{◌≡◌, ℕ, List, Some, ap, sym, subst, ◌∙◌, arith}
+use Rattle.std.specs.Prelude.{Ok, option_map}
 use Rattle.ubi_media.specs.Geometry.{Sizes}
 use Rattle.ubi_scan.specs.Image.{Image}
-use Rattle.ubi_volume.specs.Accepts.{Accepts, Refuses}
+use Rattle.ubi_volume.specs.Accepts.{Accepts}
 use Rattle.ubi_volume.specs.Meant.{Meant}
 use Rattle.ubi_volume.specs.declared.errors.MeaningCause.{MeaningCause}
 use Rattle.ubi_volume.proofs.FirstCause.{one_first}
 use Rattle.ubi_volume.proofs.One.{Accepts-unique, never_accepted_and_refused}
-use Rattle.ubi_compose.specs.Composed.{composed, image_of}
+use Rattle.ubi_compose.specs.Composed.{image_of}
 use Rattle.ubi_compose.specs.Laws.{ComesTo}
 use Rattle.ubi_compose.specs.Spec.{volumes_of}
 use Rattle.ubi_compose.specs.declared.errors.SpecCause.{SpecCause}

@@ -1,5 +1,5 @@
 -- The bytes of an image after some steps of a plan, and what they mean.
-use Rattle.std.proofs.Common.{◌≡◌, ℕ, ◌*◌, ◌/◌, ◌%◌, ◌≤◌, List, length, take, arith, ap, sym, subst, ◌∙◌}
+use Rattle.std.proofs.Common.{◌≡◌, ℕ, ◌*◌, ◌/◌, ◌%◌, ◌≤◌, List, length, arith, ap, sym, subst, ◌∙◌}
 use Rattle.std.specs.Prelude.{Option, Some, None, if◌then◌else◌, nat_lt}
 use Rattle.std.proofs.Math.Nat as nat
 use Rattle.std.proofs.lemmas.List.{take_all}
@@ -9,7 +9,6 @@ use Rattle.ubi_change.specs.Cuts.{turn}
 use Rattle.ubi_change.specs.Planned.{SurvivesCutsOf}
 use Rattle.ubi_change.specs.Steps.{after}
 use Rattle.ubi_change.specs.declared.step.Step.{Step}
-use Rattle.ubi_media.specs.Geometry.{Sizes}
 use Rattle.ubi_scan.specs.Image.{Image, IsWhole, eraseblocks}
 use Rattle.ubi_scan.proofs.Chunks.{concat-first_chunks}
 use Rattle.ubi_volume.specs.Accepts.{Accepts, AcceptsBlocks}

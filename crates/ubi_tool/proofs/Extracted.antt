@@ -1,5 +1,5 @@
 -- What was extracted where the command did its work, or where a write failed.
-use Rattle.std.proofs.Common.{◌≡◌, ℕ, List, ap, refl, length, sym, ◌∙◌}
+use Rattle.std.proofs.Common.{◌≡◌, ℕ, List, ap, refl, length, sym, ◌∙◌, subst, arith}
 use Rattle.std.specs.FinMap.{get}
 use Rattle.std.specs.Option.{option_map_or}
 use Rattle.std.specs.Prelude.{Option, Some, None, Result, Ok, Err}
@@ -14,7 +14,14 @@ use Rattle.ubi_volume.specs.declared.content.Volume.{Volume}
 use Rattle.ubi_volume.specs.declared.errors.ReadError.{ReadError}
 use Rattle.ubi_volume.specs.declared.errors.ReadError.TheVariants as error
 use Rattle.ubi_tool.specs.Extract.{Extracts, IsExtractError, IsUntold, IsVolumeError, ReadsVolume, accepted, read, read_refusal, refused, unread}
-use Rattle.std.specs.Io.KnownBytes.{Keeps}
+use Rattle.std.proofs.lemmas.List.{take_all}
+use Rattle.std.specs.Io.KnownBytes.{Appends, Keeps}
+use Rattle.ubi_scan.specs.Source.{Source}
+use Rattle.ubi_volume.specs.Extract.{read_text}
+use Rattle.ubi_volume.specs.Places.{ArePlaces, Placed}
+use Rattle.ubi_volume.specs.Wrote.{All, NotAll, Wrote}
+use Rattle.ubi_tool.specs.Answer.{Gives, says}
+use Rattle.ubi_tool.specs.Lines.{bytes_line}
 use Rattle.ubi_tool.specs.declared.outcome.Outcome.{Outcome}
 use Rattle.ubi_tool.specs.declared.outcome.ToolError.{ToolError}
 use Rattle.ubi_tool.specs.declared.outcome.ToolError.TheVariants as tool
@@ -95,3 +102,24 @@ volume_of_unknown m id new o (read text h line got) = read text h line tt
 pub of_unknown : (image : Image) (id : ℕ) (new : Option (List ℕ)) (o : Outcome) → Extracts image id None new o → Extracts image id None None o
 of_unknown image id new o (accepted m a r) = accepted m a (volume_of_unknown m id new o r)
 of_unknown image id new o (refused c h line kept) = refused c h line tt
+
+-- a volume with a length has a text
+has_text : (r : Result (List ℕ) ReadError) (n : ℕ) → Ok n ≡ result_map_both length (λ (x : ReadError). x) r → (text : List ℕ) × (r ≡ Ok text) × (n ≡ length text)
+has_text (Ok text) n h = (text, refl, cc)
+has_text (Err e) n h = absurd (cc)
+
+-- what a writer received of a volume of a source, by the places of its LEBs
+module _ (s : Sizes) (k : Source) (bytes : List ℕ) (holds : k.held ≡ Some bytes) (p : Placed) (h : ArePlaces (record { sizes = s; bytes = bytes }) p)
+    (id len : ℕ) (is : Ok len ≡ volume_len h.meaning id) (old new : Option (List ℕ)) (n : ℕ) where
+  pub places_read : (o : Outcome) → Wrote k old new (read_text s p id) All 0 n → Gives o (says (bytes_line len) 0) → Extracts (record { sizes = s; bytes = bytes }) id old new o
+  places_read o w gives =
+      let t = has_text (read_volume h.meaning id) len is in
+      let got = w.held bytes holds t.0 (h, t.1) in
+      let whole : w.bytes ≡ t.0 = got.1 ∙ take_all (length w.bytes) t.0 (let e = got.0 in omega arith) in
+      accepted h.meaning h.accepted (read t.0 t.1 (subst (λ (l : ℕ). Gives o (says (bytes_line l) 0)) t.2 gives) (subst (λ (x : List ℕ). Appends old new x) whole w.got))
+
+  pub places_cut : Wrote k old new (read_text s p id) NotAll 0 n → IsExtractError (record { sizes = s; bytes = bytes }) id old new tool.Write
+  places_cut w =
+      let t = has_text (read_volume h.meaning id) len is in
+      let got = w.held bytes holds t.0 (h, t.1) in
+      (h.meaning, h.accepted, (t.0, length w.bytes, t.1, got.0, subst (λ (x : List ℕ). Appends old new x) got.1 w.got))

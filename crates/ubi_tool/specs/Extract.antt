@@ -2,7 +2,9 @@
 use Rattle.std.specs.Prelude.{◌≡◌, ℕ, ◌<◌, List, Option, None, Result, Ok, Err, codes, length, take}
 use Rattle.std.specs.Io.KnownBytes.{Appends, Keeps}
 use Rattle.ubi_media.specs.declared.refusal.Refusal.{Refusal}
+use Rattle.ubi_media.specs.Geometry.{Sizes}
 use Rattle.ubi_scan.specs.Image.{Image}
+use Rattle.ubi_scan.specs.Source.{Source, WhereHeld}
 use Rattle.ubi_volume.specs.Accepts.{Accepts, Refuses}
 use Rattle.ubi_volume.specs.Meant.{Meant}
 use Rattle.ubi_volume.specs.Reading.{read_volume}
@@ -58,6 +60,13 @@ pub data Extracts (image : Image) (id : ℕ) (old new : Option (List ℕ)) : Out
 abbrev pub IsExtractError : Image → ℕ → Option (List ℕ) → Option (List ℕ) → ToolError → Type 0
 IsExtractError image id old new tool.Memory = Keeps old new
 IsExtractError image id old new e = (m : Meant) × Accepts image m × IsVolumeError m id old new e
+
+-- why it answers nothing of a source: memory ran out, and the writer has got nothing; a read failed; or a write failed,
+-- as over the bytes where they are known
+abbrev pub IsExtractFault : Sizes → Source → ℕ → Option (List ℕ) → Option (List ℕ) → ToolError → Type 0
+IsExtractFault s k id old new tool.Memory = Keeps old new
+IsExtractFault s k id old new tool.Read = Unit {0}
+IsExtractFault s k id old new tool.Write = WhereHeld k (λ bytes. IsExtractError (record { sizes = s; bytes = bytes }) id old new tool.Write)
 
 -- what it answers over files, whose bytes nothing tells: the same, or the line of an output that can't be written
 pub data ExtractsInto (id : ℕ) (out : List ℕ) (image : Image) : Outcome → Type 0 where

@@ -2,14 +2,17 @@
 
 ghost use Rattle.std.specs.Prelude.{◌≡◌, IfErr, IfOk};
 ghost use Rattle.std.specs.Result.{result_map_both};
-ghost use Rattle.ubi_tool.specs.Extract.{Extracts, IsExtractError, IsUnread, IsUntold, IsVolumeError, ReadsVolume, read_refusal};
+ghost use Rattle.ubi_scan.specs.Source.{WhereHeld};
+ghost use Rattle.ubi_tool.specs.Extract.{Extracts, IsExtractError, IsExtractFault, IsUnread, IsUntold, read_refusal};
+ghost use Rattle.ubi_tool.specs.Normalise.{after_run};
 
 use crate::lines::{bytes_line, read_line, refusal_line};
 use crate::outcome::{DONE, FAILED, Outcome, ToolError};
 use std::alloc::Global;
 use std::io::Write;
-use ubi_media::{AttachError, Geometry};
-use ubi_volume::{Meaning, ReadError, attach, volume_len, write_volume};
+use ubi_media::Geometry;
+use ubi_scan::{BlockSource, MemorySource, StreamError};
+use ubi_volume::{ReadError, attach_places, places_len, write_places};
 
 /// The name of a refusal to read, with its number.
 ///
@@ -38,24 +41,40 @@ fn unread(alloc: Global, error: ReadError) -> Result<Outcome, ToolError>
     Ok(Outcome::saying(read_line(alloc, name)?, FAILED))
 }
 
-/// Writes what a volume reads. The line is made before, so that nothing is written where memory runs out.
-fn extract<W: Write>(
+/// Writes what a volume of a source reads. At most an eraseblock of contents is held, and all memory is taken before the
+/// first byte is written.
+fn extract<S: BlockSource, W: Write>(
     alloc: Global,
-    meaning: &Meaning,
+    geometry: &Geometry,
+    source: &mut S,
     id: u32,
     writer: &mut W,
 ) -> Result<Outcome, ToolError>
-    ensures ok { IfOk result (ReadsVolume meaning.now id (W.contents writer.old) (W.contents writer.new)) }
-    ensures err { IfErr result (IsVolumeError meaning.now id (W.contents writer.old) (W.contents writer.new)) }
+    ensures known { S.known source.new ≡ after_run (S.known source.old) result }
+    ensures ok { IfOk result (λ o. WhereHeld (S.known source.old) (λ bytes. Extracts (record { sizes = geometry.now; bytes = bytes }) id (W.contents writer.old) (W.contents writer.new) o)) }
+    ensures err { IfErr result (IsExtractFault geometry.now (S.known source.old) id (W.contents writer.old) (W.contents writer.new)) }
 {
-    let len = match volume_len(meaning, id) {
+    let places = match attach_places(alloc, geometry, source) {
+        Ok(places) => places,
+        Err(StreamError::Refused(cause)) => {
+            return Ok(Outcome::saying(refusal_line(alloc, cause)?, FAILED));
+        }
+        Err(StreamError::Read(_, _)) => return Err(ToolError::Read),
+        Err(StreamError::Write(_)) => return Err(ToolError::Write),
+        Err(StreamError::Memory) => return Err(ToolError::Memory),
+    };
+    let len = match places_len(geometry, &places, id) {
         Ok(len) => len,
         Err(error) => return unread(alloc, error),
     };
     let text = bytes_line(alloc, len)?;
-    match write_volume(meaning, id, writer) {
+    let mut buffer = Vec::from_elem(alloc, 0u8, geometry.peb_size() as usize)?;
+    match write_places(geometry, source, &places, id, buffer.as_mut_slice(), writer) {
         Ok(_) => Ok(Outcome::saying(text, DONE)),
-        Err(_) => Err(ToolError::Write),
+        Err(StreamError::Read(_, _)) => Err(ToolError::Read),
+        Err(StreamError::Write(_)) => Err(ToolError::Write),
+        // Nothing is refused any more, and all memory was taken.
+        Err(StreamError::Refused(_) | StreamError::Memory) => unreachable!(),
     }
 }
 
@@ -78,11 +97,12 @@ pub fn run_extract<W: Write>(
     ensures ok { IfOk result (Extracts (record { sizes = geometry.now; bytes = image.now }) id (W.contents writer.old) (W.contents writer.new)) }
     ensures err { IfErr result (IsExtractError (record { sizes = geometry.now; bytes = image.now }) id (W.contents writer.old) (W.contents writer.new)) }
 {
-    match attach(alloc, geometry, image) {
-        Ok(attached) => extract(alloc, attached.meaning(), id, writer),
-        Err(AttachError::Refused(cause)) => {
-            Ok(Outcome::saying(refusal_line(alloc, cause)?, FAILED))
-        }
-        Err(AttachError::Memory) => Err(ToolError::Memory),
+    let mut source = MemorySource::new(image);
+    match extract(alloc, geometry, &mut source, id, writer) {
+        Ok(outcome) => Ok(outcome),
+        // Reading memory doesn't fail.
+        Err(ToolError::Read) => unreachable!(),
+        Err(ToolError::Write) => Err(ToolError::Write),
+        Err(ToolError::Memory) => Err(ToolError::Memory),
     }
 }

@@ -1,24 +1,38 @@
-use Rattle.std.proofs.Common.{sym, subst, ◌∙◌}
+use Rattle.std.proofs.Common.{ap, sym, ◌∙◌}
 use Rattle.std.proofs.KnownBytes.{Keeps-refl}
-use Rattle.std.proofs.lemmas.Result.{IfOk-weaker, IfErr-weaker}
-use Rattle.ubi_tool.specs.Answer.{Gives, says}
-use Rattle.ubi_tool.specs.Extract.{read, unread}
-use Rattle.ubi_tool.specs.Lines.{bytes_line}
-use Rattle.ubi_tool.proofs.Extracted.{error_is, length_is, untold}
+use Rattle.std.proofs.lemmas.Result.{IfOk-weaker}
+use Rattle.ubi_scan.specs.Source.{Source}
+use Rattle.ubi_tool.specs.Extract.{accepted, refused, unread}
+use Rattle.ubi_tool.proofs.Extracted.{error_is, places_cut, places_read}
+use Rattle.ubi_tool.proofs.Normalised.{refuses}
 use Rattle.ubi_tool.proofs.extract.extract.Goals as goal
+
+pub returns-in-Err-Refused-clause-ok : goal.returns-in-Err-Refused-clause-ok
+returns-in-Err-Refused-clause-ok g c = λ bytes holds.
+    refused c.in-Err-Refused.cause
+    (refuses c.args.geometry.now (g.S.BlockSource.known c.args.source.now) bytes c.in-Err-Refused.cause (g.met.S.BlockSource.sized c.args.source.now) holds
+    (rw c.in-Err-Refused.field-0-is at c.in-Err-Refused.ensures.refused))
+    (rw c.in_ok-refusal_line-in-Err-Refused.ensures at c.saying.ensures) (Keeps-refl _)
 
 pub returns-in-Err-clause-ok : goal.returns-in-Err-clause-ok
 returns-in-Err-clause-ok g c =
-    let e = error_is c.args.meaning.now c.args.id c.in-Err.error (sym c.in-Err.is ∙ c.volume_len.ensures) in
-    IfOk-weaker c.unread.result _ _ (λ o h. unread c.in-Err.error e h (Keeps-refl _)) c.unread.ensures.ok
+    IfOk-weaker c.unread.result _ _
+    (λ o h bytes holds.
+    let p = c.in-Ok.ensures.places.held bytes holds in
+    let e = error_is p.meaning c.args.id c.in-Err.error (sym c.in-Err.is ∙ c.places_len.ensures.meant _ p) in
+    accepted p.meaning p.accepted (unread c.in-Err.error e h (Keeps-refl _)))
+    c.unread.ensures.ok
 
-pub returns-in-Err-clause-err : goal.returns-in-Err-clause-err
-returns-in-Err-clause-err g c =
-    let e = error_is c.args.meaning.now c.args.id c.in-Err.error (sym c.in-Err.is ∙ c.volume_len.ensures) in
-    IfErr-weaker c.unread.result _ _ (λ fault h. untold c.args.meaning.now c.args.id _ c.in-Err.error fault e h (Keeps-refl _)) c.unread.ensures.err
+pub returns-in-Ok-write_places-clause-ok : goal.returns-in-Ok-write_places-clause-ok
+returns-in-Ok-write_places-clause-ok g c = λ bytes holds.
+    let p = c.in-Ok.ensures.places.held bytes holds in
+    let still = ap (λ (k : Source). k.held) c.in-Ok.ensures.known ∙ holds in
+    places_read c.args.geometry.now _ bytes still c.in-Ok.places p c.args.id c.in-Ok-places_len.len (sym c.in-Ok-places_len.is ∙ c.places_len.ensures.meant _ p) _ _ _ _
+    c.in-Ok-write_places.ensures.written (rw c.in_ok-text.ensures at c.saying-in-Ok-write_places.ensures)
 
-pub returns-in-Ok-write_volume-clause-ok : goal.returns-in-Ok-write_volume-clause-ok
-returns-in-Ok-write_volume-clause-ok g c =
-    let w = c.in-Ok-write_volume.ensures.written in
-    let len = length_is c.args.meaning.now c.args.id c.in-Ok.len w.0 (sym c.in-Ok.is ∙ c.volume_len.ensures) w.1 in
-    read w.0 w.1 (subst (λ n. Gives c.saying.result (says (bytes_line n) 0)) len (rw c.in_ok-text.ensures at c.saying.ensures)) w.3
+pub returns-in-Err-Write-write_places-clause-err : goal.returns-in-Err-Write-write_places-clause-err
+returns-in-Err-Write-write_places-clause-err g c = λ bytes holds.
+    let p = c.in-Ok.ensures.places.held bytes holds in
+    let still = ap (λ (k : Source). k.held) c.in-Ok.ensures.known ∙ holds in
+    places_cut c.args.geometry.now _ bytes still c.in-Ok.places p c.args.id c.in-Ok-places_len.len (sym c.in-Ok-places_len.is ∙ c.places_len.ensures.meant _ p) _ _ _
+    (rw c.in-Err-Write-write_places.field-0-is at c.in-Err-Write-write_places.ensures.failed)

@@ -1,4 +1,4 @@
-use Rattle.std.proofs.Common.{ℕ, ◌≤◌, ◌++◌, length, length-append, rules, take, vec_items, arith}
+use Rattle.std.proofs.Common.{◌≤◌, ◌++◌, length, length-append, rules, take, vec_items, arith}
 use Rattle.std.proofs.KnownBytes.{Consumes-trans}
 use Rattle.std.specs.Prelude.{Result, Ok, Err, OnErr}
 use Rattle.ubi_tool.proofs.read.read_limited.Goals as goal
