@@ -1,3 +1,4 @@
+mod extracting;
 mod images;
 mod length;
 mod making;
