@@ -23,7 +23,7 @@ use Rattle.ubi_volume.specs.declared.content.Volume.{Volume}
 use Rattle.ubi_volume.specs.declared.places.PlaceContent.TheVariants as place
 use Rattle.ubi_volume.proofs.Alike.{short_piece}
 use Rattle.ubi_volume.proofs.Either.{are_lebs}
-use Rattle.ubi_volume.proofs.Extracted.{front_of}
+use Rattle.ubi_volume.proofs.Extracted.{front_of, static_whole}
 use Rattle.ubi_compose.specs.Normal.{laid_bytes, new_ec, static_block, static_part, volume_blocks}
 use Rattle.ubi_compose.specs.Streamed.{IsVolumeOf, static_text, volume_text}
 use Rattle.ubi_volume.specs.Wrote.{All, IsWroteError, Wanted, Wrote}
@@ -37,16 +37,6 @@ abbrev pub first_pieces : Sizes → Placed → ℕ → VolumeRecord → ℕ → 
 first_pieces s p id r n image text =
     (v : Volume) × IsVolumeOf s p id image v × (t : List ℕ) × (v.content ≡ content.Static t)
     × (text ≡ flat_map (λ l. laid_bytes s new_ec (static_part (data_pad s r) (usable s r) id t l)) (range_with_len 0 n))
-
--- pieces that are no larger than a size
-most_pieces : (f : ℕ → List ℕ) (size : ℕ) (ps : List ℕ) → ((i : ℕ) → i < length ps → length (f (slice_index ps i)) ≤ size) → length (flat_map f ps) ≤ length ps * size
-most_pieces f size [] most = omega arith
-most_pieces f size (p ∷ ps) most =
-    let first : length (f p) ≤ size = most 0 (omega arith) in
-    let rest = most_pieces f size ps (λ i b. most (suc i) (omega arith)) in
-    let both = length-append (f p) (flat_map f ps) in
-    let next : suc (length ps) * size ≡ length ps * size + size = omega arith in
-    omega (arith, first, rest, both, next)
 
 module _ (s : Sizes) (p : Placed) (id : ℕ) (r : VolumeRecord) (recorded : finite.get p.records.of id ≡ Some r) (sound : rec_fault s r ≡ None) (lebs bytes : ℕ)
     (listed : finite.get p.contents id ≡ Some (place.Static lebs bytes)) where
@@ -75,16 +65,7 @@ module _ (s : Sizes) (p : Placed) (id : ℕ) (r : VolumeRecord) (recorded : fini
 
     module _ (n : ℕ) (inside : n < lebs) where
       whole : (ps : List ℕ) × AreWhole s bs id r ps × (text_of.0 ≡ flat_map (piece s bs) ps) × (n < length ps)
-      whole = elim reads.2 [
-        | inl none ↦
-            let few = pieces_few size (usable_some s r sound) (length text_of.0) 0 (omega (arith, ap length none.1)) in
-            absurd (let e = text_of.2 in omega (arith, few, e))
-        | inr w ↦
-            let short = short_piece s bs (table s p image of.places) of.places.accepted.accepted.alike id r (in_table s p image of.places id r recorded) reads.0 reads.1 in
-            let long = most_pieces (piece s bs) size w.0 (λ i b. short i (slice_index w.0 i) (w.1.win i b)) in
-            let few = pieces_few size (usable_some s r sound) (length text_of.0) (length w.0) (omega (arith, ap length w.2, long)) in
-            (w.0, w.1, w.2, let e = text_of.2 in omega (arith, few, e))
-      ]
+      whole = static_whole s p image of.places id r recorded v of.at lebs bytes text_of.0 text_of.1 text_of.2 text_of.3 n inside
 
       no_gap : NoMember s bs (id, n) → ⊥
       no_gap none = none _ (whole.1.win n whole.3).member

@@ -13,25 +13,23 @@ use Rattle.ubi_volume.specs.declared.content.Content.TheVariants as content
 use Rattle.ubi_volume.specs.declared.content.Volume.{Volume}
 use Rattle.ubi_volume.specs.declared.errors.ReadError.{ReadError}
 use Rattle.ubi_volume.specs.declared.errors.ReadError.TheVariants as error
-use Rattle.ubi_tool.specs.Extract.{Extracts, IsExtractError, IsUntold, IsVolumeError, ReadsVolume, accepted, read, read_refusal, refused, unread}
+use Rattle.ubi_tool.specs.Extract.{Extracts, HasFirst, IsExtractError, IsUntold, IsVolumeError, ReadsVolume, accepted, read, read_refusal, refused, unread}
 use Rattle.std.proofs.lemmas.List.{take_all}
 use Rattle.std.specs.Io.KnownBytes.{Appends, Keeps}
 use Rattle.ubi_scan.specs.Source.{Source}
 use Rattle.ubi_volume.specs.Extract.{read_text}
 use Rattle.ubi_volume.specs.Places.{ArePlaces, Placed}
-use Rattle.ubi_volume.specs.Wrote.{All, NotAll, Wrote}
+use Rattle.ubi_volume.specs.Wrote.{All, First, NotAll, Wrote}
 use Rattle.ubi_tool.specs.Answer.{Gives, says}
 use Rattle.ubi_tool.specs.Lines.{bytes_line}
 use Rattle.ubi_tool.specs.declared.outcome.Outcome.{Outcome}
 use Rattle.ubi_tool.specs.declared.outcome.ToolError.{ToolError}
 use Rattle.ubi_tool.specs.declared.outcome.ToolError.TheVariants as tool
+use Rattle.ubi_tool.proofs.Outcomes.{not_both}
 
 -- a text that a volume of the image's meaning reads
 abbrev pub HasText : Image → ℕ → Type 0
 HasText image id = (m : Meant) × (text : List ℕ) × Accepts image m × (read_volume m id ≡ Ok text)
-
-not_both : (o : Outcome) → o.status ≡ 0 → o.status ≡ 1 → ⊥
-not_both o zero one = let e = sym zero ∙ one in cc
 
 volume_text : (m : Meant) (id : ℕ) (old new : Option (List ℕ)) (o : Outcome) → ReadsVolume m id old new o → o.status ≡ 0
     → (text : List ℕ) × (read_volume m id ≡ Ok text)
@@ -120,6 +118,12 @@ module _ (s : Sizes) (k : Source) (bytes : List ℕ) (holds : k.held ≡ Some by
 
   pub places_cut : Wrote k old new (read_text s p id) NotAll 0 n → IsExtractError (record { sizes = s; bytes = bytes }) id old new tool.Write
   places_cut w =
+      let t = has_text (read_volume h.meaning id) len is in
+      let got = w.held bytes holds t.0 (h, t.1) in
+      (h.meaning, h.accepted, (t.0, length w.bytes, t.1, got.0, subst (λ (x : List ℕ). Appends old new x) got.1 w.got))
+
+  pub places_first : Wrote k old new (read_text s p id) First 0 n → HasFirst (record { sizes = s; bytes = bytes }) id old new
+  places_first w =
       let t = has_text (read_volume h.meaning id) len is in
       let got = w.held bytes holds t.0 (h, t.1) in
       (h.meaning, h.accepted, (t.0, length w.bytes, t.1, got.0, subst (λ (x : List ℕ). Appends old new x) got.1 w.got))

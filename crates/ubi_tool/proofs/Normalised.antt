@@ -17,6 +17,7 @@ use Rattle.ubi_tool.specs.Lines.{blocks_line}
 use Rattle.ubi_tool.specs.Normalise.{IsNormaliseError, Normalises, NormalisesTo, accepted, refused, wrote, wrote_nothing}
 use Rattle.ubi_tool.specs.declared.outcome.Outcome.{Outcome}
 use Rattle.ubi_tool.specs.declared.outcome.ToolError.TheVariants as tool
+use Rattle.ubi_tool.proofs.Outcomes.{not_both}
 
 -- the image of some sizes and bytes
 abbrev pub image_of : Sizes → List ℕ → Image
@@ -42,9 +43,6 @@ pub refuses : (s : Sizes) (k : Source) (bytes : List ℕ) (c : Refusal) → IsSo
 refuses s k bytes c is holds (inl fault) =
     inl (subst (λ (n : ℕ). IsLengthFault s n c) (sym (is.sized bytes holds)) fault)
 refuses s k bytes c is holds (inr h) = inr (subst (IsWholeSize s) (sym (is.sized bytes holds)) h.0, h.1 bytes holds)
-
-not_both : (o : Outcome) → o.status ≡ 0 → o.status ≡ 1 → ⊥
-not_both o zero one = let e = sym zero ∙ one in cc
 
 -- work that was done is that of an accepted image
 pub done_image : (image : Image) (old new : Option (List ℕ)) (o : Outcome) → Normalises image old new o → o.status ≡ 0

@@ -1,5 +1,5 @@
 -- What outcomes tell.
-use Rattle.std.proofs.Common.{◌≡◌, ℕ, ◌≤◌, List, Some, None, length, subst}
+use Rattle.std.proofs.Common.{◌≡◌, ℕ, ◌≤◌, ◌∙◌, List, Some, None, length, subst, sym}
 use Rattle.std.specs.Prelude.{IsSome, MatchResult, Ok, Err, Option, Result, IfOk, option_map}
 use Rattle.std.specs.declared.alloc.AllocError.{AllocError}
 use Rattle.std.specs.declared.alloc.Global.{Global}
@@ -21,6 +21,10 @@ use Rattle.ubi_tool.specs.declared.image_file.Unread.{Unread}
 use Rattle.ubi_tool.specs.declared.image_file.Unread.TheVariants.{Memory, Told}
 use Rattle.ubi_tool.specs.declared.numbers.Numbers.{Numbers}
 use Rattle.ubi_tool.specs.declared.outcome.Outcome.{Outcome}
+
+-- work that was done isn't refused
+pub not_both : (o : Outcome) → o.status ≡ 0 → o.status ≡ 1 → ⊥
+not_both o zero one = let e = sym zero ∙ one in cc
 
 no_file : (file : Option (Vec ℕ Global)) → option_map (λ v. v.items) file ≡ None → IsSome file → ⊥
 no_file None e h = cc

@@ -1,5 +1,5 @@
 -- What is extracted of an image: what one of its volumes reads.
-use Rattle.std.specs.Prelude.{◌≡◌, ℕ, ◌<◌, List, Option, None, Result, Ok, Err, codes, length, take}
+use Rattle.std.specs.Prelude.{◌≡◌, ℕ, ◌<◌, ◌≤◌, ◌⊎◌, List, Option, None, Result, Ok, Err, codes, length, take}
 use Rattle.std.specs.Io.KnownBytes.{Appends, Keeps}
 use Rattle.ubi_media.specs.declared.refusal.Refusal.{Refusal}
 use Rattle.ubi_media.specs.Geometry.{Sizes}
@@ -61,11 +61,16 @@ abbrev pub IsExtractError : Image → ℕ → Option (List ℕ) → Option (List
 IsExtractError image id old new tool.Memory = Keeps old new
 IsExtractError image id old new e = (m : Meant) × Accepts image m × IsVolumeError m id old new e
 
--- why it answers nothing of a source: memory ran out, and the writer has got nothing; a read failed; or a write failed,
--- as over the bytes where they are known
+-- a writer received the first of what the volume of an image's meaning reads, perhaps all
+abbrev pub HasFirst : Image → ℕ → Option (List ℕ) → Option (List ℕ) → Type 0
+HasFirst image id old new =
+    (m : Meant) × Accepts image m × (text : List ℕ) × (n : ℕ) × (read_volume m id ≡ Ok text) × (n ≤ length text) × Appends old new (take n text)
+
+-- why it answers nothing of a source: memory ran out, and the writer has got nothing; or, where its bytes are known, a
+-- read failed, before anything was written or after the first of the text, or a write, as over the bytes
 abbrev pub IsExtractFault : Sizes → Source → ℕ → Option (List ℕ) → Option (List ℕ) → ToolError → Type 0
 IsExtractFault s k id old new tool.Memory = Keeps old new
-IsExtractFault s k id old new tool.Read = Unit {0}
+IsExtractFault s k id old new tool.Read = Keeps old new ⊎ WhereHeld k (λ bytes. HasFirst (record { sizes = s; bytes = bytes }) id old new)
 IsExtractFault s k id old new tool.Write = WhereHeld k (λ bytes. IsExtractError (record { sizes = s; bytes = bytes }) id old new tool.Write)
 
 -- what it answers over files, whose bytes nothing tells: the same, or the line of an output that can't be written

@@ -1,3 +1,4 @@
+pub mod AfterRun
 pub mod Answer
 pub mod Change
 pub mod Check

@@ -1,10 +1,10 @@
 -- What normalising a source into a writer answers.
-use Rattle.std.specs.Prelude.{ℕ, ◌/◌, List, Option, None, Result, Ok, Err, codes, length}
+use Rattle.std.specs.Prelude.{ℕ, ◌/◌, List, Option, None, codes, length}
 use Rattle.std.specs.Io.KnownBytes.{Appends, Keeps}
 use Rattle.ubi_media.specs.Geometry.{Sizes}
 use Rattle.ubi_media.specs.declared.refusal.Refusal.{Refusal}
 use Rattle.ubi_scan.specs.Image.{Image}
-use Rattle.ubi_scan.specs.Source.{Source, failed, unheld}
+use Rattle.ubi_scan.specs.Source.{Source, unheld}
 use Rattle.ubi_scan.specs.declared.errors.StreamError.TheVariants as stream
 use Rattle.ubi_volume.specs.Accepts.{Accepts, Refuses}
 use Rattle.ubi_volume.specs.Meant.{Meant}
@@ -39,15 +39,6 @@ abbrev pub IsNormaliseError : Sizes → Source → Option (List ℕ) → Option 
 IsNormaliseError s k old new tool.Memory = Keeps old new
 IsNormaliseError s k old new tool.Read = (p : ℕ) × (n : ℕ) × IsNormaliseToError s k old new (stream.Read p n)
 IsNormaliseError s k old new tool.Write = (n : ℕ) × IsNormaliseToError s k old new (stream.Write n)
-
--- what is known of a source then: one read failed where the answer is Read, none where it isn't
-abbrev pub after_fault : Source → ToolError → Source
-after_fault k tool.Read = failed k
-after_fault k _ = k
-
-abbrev pub after_run : Source → Result Outcome ToolError → Source
-after_run k (Ok _) = k
-after_run k (Err e) = after_fault k e
 
 -- what it answers of an image into a file, of whose bytes nothing is known: the same, or the line of an output that
 -- can't be written

@@ -3,8 +3,8 @@
 ghost use Rattle.std.specs.Prelude.{◌≡◌, IfErr, IfOk};
 ghost use Rattle.std.specs.Result.{result_map_both};
 ghost use Rattle.ubi_scan.specs.Source.{WhereHeld};
+ghost use Rattle.ubi_tool.specs.AfterRun.{after_run};
 ghost use Rattle.ubi_tool.specs.Extract.{Extracts, IsExtractError, IsExtractFault, IsUnread, IsUntold, read_refusal};
-ghost use Rattle.ubi_tool.specs.Normalise.{after_run};
 
 use crate::lines::{bytes_line, read_line, refusal_line};
 use crate::outcome::{DONE, FAILED, Outcome, ToolError};

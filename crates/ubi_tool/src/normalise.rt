@@ -2,7 +2,8 @@
 
 ghost use Rattle.std.specs.Prelude.{◌≡◌, IfErr, IfOk};
 ghost use Rattle.ubi_scan.specs.Source.{WhereHeld};
-ghost use Rattle.ubi_tool.specs.Normalise.{IsNormaliseError, Normalises, NormalisesTo, after_run};
+ghost use Rattle.ubi_tool.specs.AfterRun.{after_run};
+ghost use Rattle.ubi_tool.specs.Normalise.{IsNormaliseError, Normalises, NormalisesTo};
 
 use crate::lines::{LONGEST_BLOCKS_LINE, put_blocks_line, refusal_line};
 use crate::outcome::{DONE, FAILED, Outcome, ToolError};

@@ -39,7 +39,7 @@ use Rattle.ubi_volume.specs.declared.places.PlaceContent.TheVariants as place
 use Rattle.ubi_volume.proofs.Alike.{short_piece}
 use Rattle.ubi_volume.proofs.Either.{are_lebs}
 use Rattle.ubi_volume.proofs.LebsText.{length-lebs}
-use Rattle.ubi_volume.proofs.Pieces.{length-share, pieces_few, share_more, share_none, shares_all}
+use Rattle.ubi_volume.proofs.Pieces.{length-share, most_pieces, pieces_few, share_more, share_none, shares_all}
 use Rattle.ubi_volume.proofs.Received.{Splits, error_behind, error_front, wrote_more}
 use Rattle.ubi_volume.proofs.Shares.{share_at}
 use Rattle.ubi_volume.proofs.VolumeAt.{case_is, in_table, reads_of, same_records, table}
@@ -96,16 +96,6 @@ module _ (s : Sizes) (p : Placed) (id size bytes : ℕ) where
           error_front k s a c (lebs_at s p id size bytes l) (lebs_at s p id size bytes (n + 1)) (λ image text. Unit {0}) 0 e (lebs_front (n + 1) l (omega arith))
           (error_behind k s a b c (lebs_at s p id size bytes (n + 1)) (lebs_at s p id size bytes n) (leb_at s m at) 0 done e lebs_step front back)
 
--- pieces that are no larger than a size
-most_pieces : (f : ℕ → List ℕ) (size : ℕ) (ps : List ℕ) → ((i : ℕ) → i < length ps → length (f (slice_index ps i)) ≤ size) → length (flat_map f ps) ≤ length ps * size
-most_pieces f size [] most = omega arith
-most_pieces f size (p ∷ ps) most =
-    let first : length (f p) ≤ size = most 0 (omega arith) in
-    let rest = most_pieces f size ps (λ i b. most (suc i) (omega arith)) in
-    let both = length-append (f p) (flat_map f ps) in
-    let next : suc (length ps) * size ≡ length ps * size + size = omega arith in
-    omega (arith, first, rest, both, next)
-
 module _ (s : Sizes) (p : Placed) (image : List ℕ) (places : ArePlaces (record { sizes = s; bytes = image }) p) (id : ℕ) (r : VolumeRecord)
     (recorded : finite.get p.records.of id ≡ Some r) (v : Volume) (at : finite.get places.meaning.volumes id ≡ Some v) where
   abbrev bs : List (List ℕ)
@@ -129,8 +119,8 @@ module _ (s : Sizes) (p : Placed) (image : List ℕ) (places : ArePlaces (record
     static_reads = subst (VolumeReads s bs id r) is (reads_of s p image places id r recorded v at).1
 
     module _ (n : ℕ) (inside : n < lebs) where
-      whole : (ps : List ℕ) × AreWhole s bs id r ps × (t ≡ flat_map (piece s bs) ps) × (n < length ps)
-      whole = elim static_reads.2 [
+      pub static_whole : (ps : List ℕ) × AreWhole s bs id r ps × (t ≡ flat_map (piece s bs) ps) × (n < length ps)
+      static_whole = elim static_reads.2 [
         | inl none ↦
             let few = pieces_few size (usable_some s r sound) (length t) 0 (omega (arith, ap length none.1)) in
             absurd (omega (arith, few, count, inside))
@@ -148,14 +138,14 @@ module _ (s : Sizes) (p : Placed) (image : List ℕ) (places : ArePlaces (record
           share_is q won =
               let here =
               share_at s bs places.accepted.accepted.clean (are_lebs (record { sizes = s; bytes = image })) (table s p image places) places.accepted.accepted.alike id r (in_table s p image places id r recorded)
-              static_reads.0 static_reads.1 whole.0 whole.1 n q whole.3 won in
+              static_reads.0 static_reads.1 static_whole.0 static_whole.1 n q static_whole.3 won in
               let there : share size t n ≡ take (length (share size t n)) (leb s (block bs q)) =
-              subst (λ (x : List ℕ). share size x n ≡ take (length (share size x n)) (leb s (block bs q))) (sym whole.2) here in
+              subst (λ (x : List ℕ). share size x n ≡ take (length (share size x n)) (leb s (block bs q))) (sym static_whole.2) here in
               let some : length (share size t n) ≡ share_len size bytes n = length-share size (usable_some s r sound) t n ∙ ap (λ k. share_len size k n) long in
               there ∙ ap (λ k. take k (leb s (block bs q))) some
 
           by_place : (o : Option ℕ) → MatchOption o (NoMember s bs (id, n)) (Wins s bs (id, n)) → leb_bytes s (share_len size bytes n) o image ≡ share size t n
-          by_place None none = absurd (none _ (whole.1.win n whole.3).member)
+          by_place None none = absurd (none _ (static_whole.1.win n static_whole.3).member)
           by_place (Some q) won = sym (share_is q won)
 
     static_so_far : (n : ℕ) → n ≤ lebs → lebs_bytes s p id size bytes image n ≡ take (n * size) t

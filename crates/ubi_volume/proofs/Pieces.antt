@@ -1,5 +1,6 @@
 -- The pieces of a static text.
-use Rattle.std.proofs.Common.{◌≡◌, ℕ, ◌+◌, ◌-◌, ◌*◌, ◌%◌, ◌<◌, ◌≤◌, List, ◌++◌, length, take, drop, min, sym, ap, ◌∙◌, arith, length-take, length-drop}
+use Rattle.std.proofs.Common.{◌≡◌, ℕ, suc, ◌+◌, ◌-◌, ◌*◌, ◌%◌, ◌<◌, ◌≤◌, List, [], ◌∷◌, ◌++◌, length, take, drop, min, sym, ap, ◌∙◌, arith, length-append, length-take, length-drop}
+use Rattle.std.specs.Prelude.{flat_map, slice_index}
 use Rattle.std.proofs.Math.Nat.{div-add-mod, mod-lt}
 use Rattle.std.proofs.Math.Seq.{take-add}
 use Rattle.std.proofs.lemmas.List.{take_all}
@@ -59,3 +60,13 @@ share_none size text = let none : 0 * size ≡ 0 = omega arith in ap (λ n. take
 
 pub shares_all : (size : ℕ) → 1 ≤ size → (text : List ℕ) → take (pieces size (length text) * size) text ≡ text
 shares_all size some text = take_all (pieces size (length text) * size) text (pieces_suffice size some (length text))
+
+-- pieces that are no larger than a size
+pub most_pieces : (f : ℕ → List ℕ) (size : ℕ) (ps : List ℕ) → ((i : ℕ) → i < length ps → length (f (slice_index ps i)) ≤ size) → length (flat_map f ps) ≤ length ps * size
+most_pieces f size [] most = omega arith
+most_pieces f size (p ∷ ps) most =
+    let first : length (f p) ≤ size = most 0 (omega arith) in
+    let rest = most_pieces f size ps (λ i b. most (suc i) (omega arith)) in
+    let both = length-append (f p) (flat_map f ps) in
+    let next : suc (length ps) * size ≡ length ps * size + size = omega arith in
+    omega (arith, first, rest, both, next)

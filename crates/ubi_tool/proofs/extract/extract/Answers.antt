@@ -1,9 +1,9 @@
-use Rattle.std.proofs.Common.{ap, sym, ◌∙◌}
+use Rattle.std.proofs.Common.{ap, inl, inr, sym, ◌∙◌}
 use Rattle.std.proofs.KnownBytes.{Keeps-refl}
 use Rattle.std.proofs.lemmas.Result.{IfOk-weaker}
 use Rattle.ubi_scan.specs.Source.{Source}
 use Rattle.ubi_tool.specs.Extract.{accepted, refused, unread}
-use Rattle.ubi_tool.proofs.Extracted.{error_is, places_cut, places_read}
+use Rattle.ubi_tool.proofs.Extracted.{error_is, places_cut, places_first, places_read}
 use Rattle.ubi_tool.proofs.Normalised.{refuses}
 use Rattle.ubi_tool.proofs.extract.extract.Goals as goal
 
@@ -36,3 +36,13 @@ returns-in-Err-Write-write_places-clause-err g c = λ bytes holds.
     let still = ap (λ (k : Source). k.held) c.in-Ok.ensures.known ∙ holds in
     places_cut c.args.geometry.now _ bytes still c.in-Ok.places p c.args.id c.in-Ok-places_len.len (sym c.in-Ok-places_len.is ∙ c.places_len.ensures.meant _ p) _ _ _
     (rw c.in-Err-Write-write_places.field-0-is at c.in-Err-Write-write_places.ensures.failed)
+
+pub returns-in-Err-Read-clause-err : goal.returns-in-Err-Read-clause-err
+returns-in-Err-Read-clause-err g c = inl (Keeps-refl _)
+
+pub returns-in-Err-Read-write_places-clause-err : goal.returns-in-Err-Read-write_places-clause-err
+returns-in-Err-Read-write_places-clause-err g c = inr (λ bytes holds.
+    let p = c.in-Ok.ensures.places.held bytes holds in
+    let still = ap (λ (k : Source). k.held) c.in-Ok.ensures.known ∙ holds in
+    let failed = rw c.in-Err-Read-write_places.field-0-is at c.in-Err-Read-write_places.ensures.failed in
+    places_first c.args.geometry.now _ bytes still c.in-Ok.places p c.args.id c.in-Ok-places_len.len (sym c.in-Ok-places_len.is ∙ c.places_len.ensures.meant _ p) _ _ _ failed.1)
