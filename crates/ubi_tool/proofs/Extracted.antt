@@ -126,4 +126,4 @@ module _ (s : Sizes) (k : Source) (bytes : List ℕ) (holds : k.held ≡ Some by
   places_first w =
       let t = has_text (read_volume h.meaning id) len is in
       let got = w.held bytes holds t.0 (h, t.1) in
-      (h.meaning, h.accepted, (t.0, length w.bytes, t.1, got.0, subst (λ (x : List ℕ). Appends old new x) got.1 w.got))
+      (h.meaning, h.accepted, t.0, length w.bytes, t.1, got.0, subst (λ (x : List ℕ). Appends old new x) got.1 w.got)

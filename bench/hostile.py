@@ -1,0 +1,221 @@
+#!/usr/bin/env python3
+"""Damages an image in every way of some families, and compares each answer with the one that the rules give.
+
+usage: hostile.py [--dir FOLDER] [FAMILY ..]
+
+The image is crates/ubi_tool/data/root.img: the two copies of a table with one dynamic volume, and its LEBs 0, 1 and 2, as
+`ubinize` writes it. The families, all of which are run where none is named:
+  counters  each bit of each erase-counter header flipped: the meaning stays
+  headers   each bit of the volume-identifier header of LEB 1 flipped: LEB 1 reads 0xFF
+  records   each bit of the records of a copy of the table flipped: the meaning stays; of both: refused T2 BothCorrupt
+  lengths   each length from 0 on: refused S1 Length where it isn't whole eraseblocks, else the LEBs that are left
+  faults    each rule of each header and record broken, with a right check, wherever it can be
+  pairs     each two of these: the cause of the lower eraseblock comes first, and those of the table last
+
+What is expected is said here, family by family. The images lie in a new folder below FOLDER (/tmp where it is left out),
+which is removed again. The program is built first where it isn't yet. The last line is 'N passed, M failed', and the exit
+status is 0 where none failed.
+"""
+import argparse
+import itertools
+import os
+import shutil
+import subprocess
+import sys
+import tempfile
+
+import rules
+from fuzz import ROOT, built
+
+GEOMETRY = rules.Geometry(512, 64, 64, 128, 1048576)
+PEB, LEB = GEOMETRY.peb, GEOMETRY.leb
+with open(os.path.join(ROOT, "crates", "ubi_tool", "data", "root.img"), "rb") as file:
+    BASE = file.read()
+MEANT = rules.Image(GEOMETRY, BASE)
+LEBS = {lnum: text for lnum, text in MEANT.contents[0].items()}
+
+
+def flipped(image, *bits):
+    """An image with some bits of it flipped, counted from its first byte's lowest."""
+    out = bytearray(image)
+    for bit in bits:
+        out[bit // 8] ^= 1 << bit % 8
+    return bytes(out)
+
+
+def reads(lebs):
+    """What `extract` writes of the volume with these LEBs."""
+    return b"".join(lebs.get(lnum, b"\xFF" * LEB) for lnum in range(MEANT.records[0].reserved))
+
+
+def counters():
+    for p, bit in itertools.product(range(5), range(512)):
+        yield flipped(BASE, 8 * p * PEB + bit), reads(LEBS)
+
+
+def headers():
+    without = {lnum: text for lnum, text in LEBS.items() if lnum != 1}
+    for bit in range(512):
+        yield flipped(BASE, 8 * (3 * PEB + GEOMETRY.vid) + bit), reads(without)
+
+
+def records():
+    first = 8 * GEOMETRY.data
+    for bit in range(first, first + 8 * 172 * GEOMETRY.slots):
+        yield flipped(BASE, bit), reads(LEBS)
+        yield flipped(BASE, 8 * PEB + bit), reads(LEBS)
+        yield flipped(BASE, bit, 8 * PEB + bit), "refused T2 BothCorrupt\n"
+
+
+def lengths():
+    for length in range(len(BASE) + 1):
+        if length == 0 or length % PEB:
+            yield BASE[:length], "refused S1 Length\n"
+        else:
+            there = length // PEB - 2
+            yield BASE[:length], reads({lnum: LEBS[lnum] for lnum in range(there)} if there > 0 else {})
+
+
+# The faults: of each the place of a field, its bytes, and the rule that they break. Fields that other rules look at are
+# left as the image has them.
+EC_FAULTS = (
+    ("Version", ((4, "02"),)),
+    ("Offsets", ((16, "00000080"),)),
+    ("Offsets", ((20, "000000C0"),)),
+    ("Counter", ((8, "0000000080000000"),)),
+)
+# What can be broken of the header of any member, and what of one of the table (compat 5) or of a user's volume alone.
+VID_FAULTS = (
+    ("CopyFlag", ((6, "02"),)),
+    ("Negative", ((8, "80000000"),)),
+    ("Negative", ((12, "80000000"),)),
+    ("Negative", ((20, "80000000"),)),
+    ("Negative", ((24, "80000000"),)),
+    ("Negative", ((28, "80000000"),)),
+    ("VolumeId", ((8, "00000080"),)),
+    ("VolumeId", ((8, "7FFFEFFE"),)),
+    ("Compat", ((7, "03"),)),
+    ("Kind", ((5, "00"),)),
+    ("Kind", ((5, "03"),)),
+    ("Pad", ((28, "000000C0"),)),
+    ("Size", ((20, "00000181"),)),
+    ("Size", ((5, "02"), (24, "00000001"), (12, "00000000"))),
+    ("Size", ((5, "02"), (24, "00000002"), (12, "00000000"), (20, "0000017F"))),
+    ("UsedEbs", ((24, "00000001"),)),
+    ("UsedEbs", ((5, "02"), (20, "00000180"))),
+    ("Lnum", ((5, "02"), (24, "00000003"), (12, "00000003"), (20, "00000180"))),
+    ("CopyFields", ((20, "00000001"),)),
+    ("CopyFields", ((32, "00000001"),)),
+    ("CopyFields", ((6, "01"),)),
+)
+RECORD_FAULTS = (
+    ("NotEmpty", ((0, "00000000"),)),
+    ("Negative", ((0, "80000000"),)),
+    ("Negative", ((4, "80000000"),)),
+    ("Negative", ((8, "80000000"),)),
+    ("Alignment", ((4, "00000000"),)),
+    ("Alignment", ((4, "00000181"),)),
+    ("AlignmentPage", ((4, "00000002"),)),
+    ("DataPad", ((8, "00000001"),)),
+    ("Kind", ((12, "00"),)),
+    ("Kind", ((12, "03"),)),
+    ("Marker", ((13, "02"),)),
+    ("NameTooLong", ((14, "0080"),)),
+    ("NameBlank", ((16, "00"),)),
+    ("NameLength", ((14, "0003"),)),
+    ("NameLength", ((17, "00"),)),
+)
+
+
+def broken(image, at, size, fields):
+    """An image whose header or record of SIZE bytes at a place has other fields and its check made right again."""
+    raw = bytearray(image[at : at + size])
+    for where, digits in fields:
+        raw[where : where + len(digits) // 2] = bytes.fromhex(digits)
+    return image[:at] + rules.sealed(bytes(raw[:-4])) + image[at + size :]
+
+
+def all_faults():
+    """Each fault: its rank among causes, the headers or records that have it, and its line."""
+    for p, (name, fields) in itertools.product(range(5), EC_FAULTS):
+        yield (p, 0), ((p * PEB, 64, fields),), f"refused S3 Ec block={p} {name}\n"
+    for p, (name, fields) in itertools.product(range(5), VID_FAULTS):
+        yield (p, 1), ((p * PEB + GEOMETRY.vid, 64, fields),), f"refused S5 Vid block={p} {name}\n"
+    for name, fields in RECORD_FAULTS:
+        yield (5, 2), ((GEOMETRY.data, 172, fields),), f"refused T3 Record block=0 slot=0 {name}\n"
+    # Copy 1 is looked at where copy 0 is corrupt: here the check of its first record is wrong.
+    for name, fields in RECORD_FAULTS:
+        yield (5, 3), ((PEB + GEOMETRY.data, 172, fields),), f"refused T3 Record block=1 slot=0 {name}\n"
+
+
+def with_fault(image, rank, places):
+    for place in places:
+        image = broken(image, *place)
+    return flipped(image, 8 * (GEOMETRY.data + 171)) if rank[1] == 3 else image
+
+
+def faults():
+    for rank, places, line in all_faults():
+        yield with_fault(BASE, rank, places), line
+
+
+def pairs():
+    """Each two faults in different headers, and not both in the table's records."""
+    for (rank, places, line), (other, others, other_line) in itertools.combinations(all_faults(), 2):
+        if rank[0] < 5 and rank != other:
+            yield with_fault(with_fault(BASE, rank, places), other, others), min((rank, line), (other, other_line))[1]
+
+
+FAMILIES = {"counters": counters, "headers": headers, "records": records, "lengths": lengths, "faults": faults, "pairs": pairs}
+
+
+class Looker:
+    """Compares the program's answers with what is expected and with what bench/rules.py reads."""
+
+    def __init__(self, tool, folder):
+        self.tool = tool
+        self.path, self.out = os.path.join(folder, "image"), os.path.join(folder, "out")
+
+    def run(self, command, *words):
+        ran = subprocess.run([self.tool, command, self.path, *words, *GEOMETRY.words()], capture_output=True, text=True)
+        return ran.stdout, ran.returncode
+
+    def is_right(self, image, expected):
+        """Whether an image is refused with a line, or its volume reads some bytes; and `check` says the same."""
+        with open(self.path, "wb") as file:
+            file.write(image)
+        try:
+            checked = ("".join(rules.check_lines(rules.Image(GEOMETRY, image))), 0)
+        except rules.Refused as refused:
+            checked = (f"refused {refused}\n", 1)
+        if self.run("check") != checked:
+            return False
+        if isinstance(expected, str):
+            return checked == (expected, 1)
+        extracted = self.run("extract", "--id", "0", "--out", self.out)
+        with open(self.out, "rb") as file:
+            return extracted == (f"bytes {len(expected)}\n", 0) and file.read() == expected
+
+
+def main():
+    words = argparse.ArgumentParser(description=__doc__, formatter_class=argparse.RawDescriptionHelpFormatter)
+    words.add_argument("--dir", default="/tmp")
+    words.add_argument("families", nargs="*", metavar="FAMILY", choices=[*FAMILIES, []])
+    words = words.parse_args()
+    folder = tempfile.mkdtemp(dir=words.dir)
+    looker = Looker(built(), folder)
+    passed = failed = 0
+    try:
+        for name in words.families or FAMILIES:
+            verdicts = [looker.is_right(*case) for case in FAMILIES[name]()]
+            wrong = [k for k, right in enumerate(verdicts) if not right]
+            print(f"{name}: {len(verdicts)} images", *(["wrong:", *wrong[:10]] if wrong else []))
+            passed, failed = passed + len(verdicts) - len(wrong), failed + len(wrong)
+    finally:
+        shutil.rmtree(folder)
+    print(f"{passed} passed, {failed} failed")
+    sys.exit(1 if failed else 0)
+
+
+if __name__ == "__main__":
+    main()

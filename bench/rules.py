@@ -1,0 +1,498 @@
+"""A second reading of docs/FORMAT.md: what an image means, or why it is refused.
+
+It was written from that document and not from the program, so that the answers of the program can be compared with it.
+It is short and slow: each rule stands once, in the document's words. A refusal is the exception `Refused`, which holds the
+line that the program prints, without `refused `.
+"""
+import dataclasses
+import struct
+import zlib
+
+LAYOUT, TOP_COUNTER, TOP_SQNUM = 0x7FFFEFFF, 0x7FFFFFFF, 2**64 - 1
+RECORD = 172
+
+
+class Refused(Exception):
+    """Why an image, a volume or a change is refused."""
+
+
+def check(message):
+    """The format's check: the usual CRC-32, but not complemented at the end."""
+    return zlib.crc32(message) ^ 0xFFFFFFFF
+
+
+def sealed(front):
+    return front + struct.pack(">I", check(front))
+
+
+def is_blank(data):
+    return not data.strip(b"\xFF")
+
+
+EMPTY_RECORD = sealed(bytes(168))
+
+
+@dataclasses.dataclass(frozen=True)
+class Geometry:
+    """The sizes of a device: bytes of an eraseblock and a page, where the header and the data lie, eraseblocks."""
+
+    peb: int
+    page: int
+    vid: int
+    data: int
+    pebs: int
+
+    @property
+    def leb(self):
+        return self.peb - self.data
+
+    @property
+    def slots(self):
+        return min(128, self.leb // RECORD)
+
+    def fault(self):
+        """The first limit that is broken, or None."""
+        limits = (
+            ("G1 Page", self.page in {2**k for k in range(6, 17)}),
+            ("G2 PebSize", self.page and self.peb % self.page == 0 and self.page <= self.peb <= 2**24),
+            ("G3 VidOffset", self.vid % 64 == 0 and self.vid >= 64),
+            ("G4 DataOffset", self.page and self.data % self.page == 0 and self.data >= self.vid + 64),
+            ("G5 LebTooSmall", self.leb >= RECORD),
+            ("G6 Pebs", 2 <= self.pebs <= 2**20),
+        )
+        return next((name for name, holds in limits if not holds), None)
+
+    def words(self):
+        """The words that name it on the command line."""
+        pairs = (("--peb", self.peb), ("--page", self.page), ("--vid", self.vid), ("--data", self.data), ("--pebs", self.pebs))
+        return [str(word) for pair in pairs for word in pair]
+
+
+# What is read of 64 bytes: 'blank', 'corrupt', 'valid' or 'fault:NAME', and the fields of a header that is valid.
+
+
+def read_header(bytes64, magic, rules):
+    if bytes64[:4] != magic:
+        return ("blank" if is_blank(bytes64) else "corrupt"), None
+    if struct.unpack(">I", bytes64[60:])[0] != check(bytes64[:60]):
+        return "corrupt", None
+    header, broken = rules(bytes64)
+    return ("valid" if broken is None else f"fault:{broken}"), header
+
+
+@dataclasses.dataclass(frozen=True)
+class Ec:
+    counter: int
+    image_seq: int
+
+
+def read_ec(geometry, bytes64):
+    def rules(raw):
+        version, counter, vid, data, seq = struct.unpack(">4xB3xQIII32x4x", raw)
+        if version != 1:
+            return None, "Version"
+        if (vid, data) != (geometry.vid, geometry.data):
+            return None, "Offsets"
+        return Ec(counter, seq), None if counter <= TOP_COUNTER else "Counter"
+
+    return read_header(bytes64, b"UBI#", rules)
+
+
+@dataclasses.dataclass(frozen=True)
+class Vid:
+    kind: int
+    copy: int
+    compat: int
+    volume: int
+    lnum: int
+    size: int
+    used: int
+    pad: int
+    data_check: int
+    sqnum: int
+
+
+def vid_fault(geometry, h):
+    """The first rule that the header of an eraseblock's volume breaks, or None."""
+    usable = geometry.leb - h.pad
+    is_user, is_static = h.volume <= 127, h.kind == 2
+    rules = (
+        ("CopyFlag", h.copy in (0, 1)),
+        ("Negative", all(n < 2**31 for n in (h.volume, h.lnum, h.size, h.used, h.pad))),
+        ("VolumeId", is_user or h.volume >= LAYOUT),
+        ("Compat", h.compat == 0 if is_user else h.compat in (1, 2, 4, 5)),
+        ("Kind", h.kind in (1, 2)),
+        ("Pad", 2 * h.pad < geometry.leb),
+        ("Size", h.size <= geometry.leb and (not is_static or 0 < h.size <= usable)
+            and (not is_static or h.lnum + 1 >= h.used or h.size == usable)),
+        ("UsedEbs", (h.used != 0) == is_static),
+        ("Lnum", not is_static or h.lnum < h.used),
+        ("CopyFields", is_static or (h.size != 0 if h.copy else h.size == h.data_check == 0)),
+    )
+    return next((name for name, holds in rules if not holds), None)
+
+
+def read_vid(geometry, bytes64):
+    def rules(raw):
+        kind, copy, compat, volume, lnum, size, used, pad, data_check, sqnum = struct.unpack(">4xxBBBII4xIIII4xQ12x4x", raw)
+        header = Vid(kind, copy, compat, volume, lnum, size, used, pad, data_check, sqnum)
+        return header, vid_fault(geometry, header)
+
+    return read_header(bytes64, b"UBI!", rules)
+
+
+@dataclasses.dataclass(frozen=True)
+class Record:
+    """A volume's record: what it reserves, its alignment, its kind, whether it is marked, its name and its flags."""
+
+    reserved: int
+    alignment: int
+    kind: int
+    marker: int
+    name: bytes
+    flags: int
+
+    def pad(self, geometry):
+        return geometry.leb % self.alignment
+
+    def usable(self, geometry):
+        return geometry.leb - self.pad(geometry)
+
+
+def read_record(geometry, raw):
+    """The record, None where it is the empty one, or the name of the first rule that it breaks."""
+    if struct.unpack(">I", raw[168:])[0] != check(raw[:168]):
+        return "BadCrc"
+    if raw == EMPTY_RECORD:
+        return None
+    reserved, alignment, pad, kind, marker, length, name, flags = struct.unpack(">IIIBBH128sB23x4x", raw)
+    end = name.find(b"\0")
+    rules = (
+        ("NotEmpty", reserved != 0),
+        ("Negative", all(n < 2**31 for n in (reserved, alignment, pad))),
+        ("Alignment", 1 <= alignment <= geometry.leb),
+        ("AlignmentPage", alignment == 1 or alignment % geometry.page == 0),
+        ("DataPad", alignment and pad == geometry.leb % alignment),
+        ("Kind", kind in (1, 2)),
+        ("Marker", marker in (0, 1)),
+        ("NameTooLong", length <= 127),
+        ("NameBlank", end != 0),
+        ("NameLength", length == end),
+    )
+    broken = next((rule for rule, holds in rules if not holds), None)
+    return broken or Record(reserved, alignment, kind, marker, name[:length], flags)
+
+
+class Blocks:
+    """The eraseblocks of an image, the headers of each, and its members."""
+
+    def __init__(self, geometry, image):
+        self.geometry = geometry
+        if len(image) > geometry.pebs * geometry.peb:
+            raise Refused("S2 TooMany")
+        if not image or len(image) % geometry.peb:
+            raise Refused("S1 Length")
+        self.blocks = [image[at : at + geometry.peb] for at in range(0, len(image), geometry.peb)]
+        self.ecs = [read_ec(geometry, block[:64]) for block in self.blocks]
+        self.vids = [read_vid(geometry, block[geometry.vid : geometry.vid + 64]) for block in self.blocks]
+        self.members = {}
+        self.dropped = set()
+        self.image_seq = 0
+        seen = {}
+        for p in range(len(self.blocks)):
+            self.judge(p, seen)
+
+    def judge(self, p, seen):
+        """The first cause of an eraseblock, or what it is a member of."""
+        (ec_state, ec), (vid_state, vid) = self.ecs[p], self.vids[p]
+        if ec_state.startswith("fault"):
+            raise Refused(f"S3 Ec block={p} {ec_state[6:]}")
+        if ec_state == "valid" and ec.image_seq:
+            if self.image_seq not in (0, ec.image_seq):
+                raise Refused(f"S4 ImageSeq block={p}")
+            self.image_seq = ec.image_seq
+        if ec_state == "blank":
+            return
+        if vid_state.startswith("fault"):
+            raise Refused(f"S5 Vid block={p} {vid_state[6:]}")
+        if vid_state != "valid":
+            return
+        if vid.volume > 127 and vid.volume != LAYOUT:
+            if vid.compat != 1:
+                raise Refused(f"S6 Incompatible block={p} volume={vid.volume}")
+            self.dropped.add(p)
+            return
+        if vid.volume == LAYOUT and (vid.lnum >= 2 or vid.kind == 2 or vid.pad):
+            raise Refused(f"S7 Layout block={p}")
+        earlier = seen.setdefault((vid.volume, vid.lnum, vid.sqnum), p)
+        if earlier != p:
+            raise Refused(f"S8 SameSqnum block={p} earlier={earlier}")
+        self.members[p] = vid
+
+    def leb(self, p):
+        return self.blocks[p][self.geometry.data :]
+
+    def is_right(self, p):
+        """Whether the check of the first data_size bytes of an eraseblock's LEB is its data_crc."""
+        header = self.members[p]
+        return check(self.leb(p)[: header.size]) == header.data_check
+
+    def winners(self):
+        """The eraseblock of each LEB that has members."""
+        of = {}
+        for p, header in self.members.items():
+            of.setdefault((header.volume, header.lnum), []).append(p)
+        return {leb: self.winner(places) for leb, places in of.items()}
+
+    def winner(self, places):
+        if len(places) == 1:
+            return places[0]
+
+        def sqnum(p):
+            return self.members[p].sqnum
+
+        good = [p for p in places if not self.members[p].copy or self.is_right(p)]
+        return max(good, key=sqnum) if good else min(places, key=sqnum)
+
+
+def read_table(blocks, winners):
+    """The records by slot, those that aren't empty."""
+    if not any(header.volume == LAYOUT for header in blocks.members.values()):
+        if any(state != "blank" for state, _ in blocks.ecs):
+            raise Refused("T1 NoTable")
+        return {}
+    for copy in range(2):
+        p = winners.get((LAYOUT, copy))
+        records = None if p is None else read_copy(blocks, p)
+        if records is not None:
+            if 2 + sum(record.reserved for record in records.values()) > blocks.geometry.pebs:
+                raise Refused("T5 NoSpace")
+            return records
+    raise Refused("T2 BothCorrupt")
+
+
+def read_copy(blocks, p):
+    """The records of a copy of the table, None where it is corrupt."""
+    records, geometry = {}, blocks.geometry
+    for slot in range(geometry.slots):
+        record = read_record(geometry, blocks.leb(p)[RECORD * slot : RECORD * (slot + 1)])
+        if record == "BadCrc":
+            return None
+        if isinstance(record, str):
+            raise Refused(f"T3 Record block={p} slot={slot} {record}")
+        if record is not None:
+            records[slot] = record
+    for slot, record in records.items():
+        for later in range(slot + 1, geometry.slots):
+            if later in records and records[later].name == record.name:
+                raise Refused(f"T4 SameName block={p} slot={slot} slot={later}")
+    return records
+
+
+def is_counted(record, lnum):
+    """Whether a volume counts a LEB: a dynamic one counts those below what it reserves."""
+    return record.kind == 2 or lnum < record.reserved
+
+
+class Image:
+    """What an accepted image means: its records, and what each volume reads; and what is said of its eraseblocks.
+
+    A content is 'updating', 'damaged', the bytes of a static volume, or the LEBs of a dynamic one that aren't blank.
+    """
+
+    def __init__(self, geometry, image):
+        self.geometry = geometry
+        self.found = Blocks(geometry, image)
+        self.winners = self.found.winners()
+        self.records = read_table(self.found, self.winners)
+        self.check_winners()
+        self.contents = {number: self.content(number, record) for number, record in self.records.items()}
+        self.states = [self.state(p) for p in range(len(self.found.blocks))]
+        sqnums = [h.sqnum for p, (_, h) in enumerate(self.found.vids) if p in self.found.members or p in self.found.dropped]
+        self.top_sqnum = max(sqnums, default=0)
+        counters = [ec.counter for state, ec in self.found.ecs if state == "valid"]
+        self.mean_counter = sum(counters) // len(counters) if counters else 0
+
+    def check_winners(self):
+        for p in sorted(self.winners.values()):
+            header = self.found.members[p]
+            record = self.records.get(header.volume)
+            if record is None or record.marker or not is_counted(record, header.lnum):
+                continue
+            if (header.kind, header.pad) != (record.kind, record.pad(self.geometry)):
+                raise Refused(f"V1 Mismatch block={p}")
+
+    def content(self, number, record):
+        if record.marker:
+            return "updating"
+        mapped = {lnum: p for (volume, lnum), p in self.winners.items() if volume == number and is_counted(record, lnum)}
+        if record.kind == 1:
+            read = {lnum: self.found.leb(p)[: record.usable(self.geometry)] for lnum, p in mapped.items()}
+            return {lnum: text for lnum, text in read.items() if not is_blank(text)}
+        for lnum, p in mapped.items():
+            whole = len(mapped) <= record.reserved and lnum < len(mapped)
+            if not whole or self.found.members[p].used != len(mapped) or not self.found.is_right(p):
+                return "damaged"
+        return b"".join(self.found.leb(mapped[lnum])[: self.found.members[mapped[lnum]].size] for lnum in sorted(mapped))
+
+    def state(self, p):
+        ec, vid = self.found.ecs[p][0], self.found.vids[p][0]
+        if ec == "blank":
+            return "blank"
+        if vid != "valid":
+            return "corrupt" if ec == "corrupt" else {"blank": "free", "corrupt": "garbage"}[vid]
+        if p in self.found.dropped:
+            return "dropped"
+        header = self.found.members[p]
+        if header.volume != LAYOUT:
+            record = self.records.get(header.volume)
+            if record is None or not is_counted(record, header.lnum):
+                return "orphan"
+        if self.winners[(header.volume, header.lnum)] != p:
+            return "stale"
+        return "table" if header.volume == LAYOUT else "used"
+
+    def meaning(self):
+        """What is compared: the records but for what no field says, and the contents."""
+        return self.records, self.contents
+
+    def read_volume(self, number):
+        if number not in self.records:
+            raise Refused("L1 NoVolume")
+        record, content = self.records[number], self.contents[number]
+        if content == "updating":
+            raise Refused("L2 Updating")
+        if content == "damaged":
+            raise Refused("L3 Damaged")
+        if record.kind == 2:
+            return content
+        blank = b"\xFF" * record.usable(self.geometry)
+        return b"".join(content.get(lnum, blank) for lnum in range(record.reserved))
+
+
+def shown(name):
+    return "".join(chr(b) if 0x21 <= b <= 0x7E and b != 0x5C else f"\\x{b:02x}" for b in name)
+
+
+def list_lines(image):
+    g = image.geometry
+    yield f"geometry peb={g.peb} page={g.page} vid={g.vid} data={g.data} leb={g.leb} slots={g.slots} pebs={g.pebs}\n"
+    for number, r in sorted(image.records.items()):
+        content = image.contents[number]
+        how = content if isinstance(content, str) else f"bytes={len(content)}" if r.kind == 2 else f"lebs={len(content)}"
+        kind = {1: "dynamic", 2: "static"}[r.kind]
+        sizes = f"reserved={r.reserved} alignment={r.alignment} usable={r.usable(g)} flags={r.flags:02x}"
+        yield f"volume {number} {kind} {sizes} {how} name={shown(r.name)}\n"
+    yield f"volumes {len(image.records)}\n"
+
+
+def check_lines(image):
+    yield f"blocks {len(image.states)}\n"
+    for state in ("blank", "free", "table", "used", "stale", "orphan", "dropped", "corrupt", "garbage"):
+        yield f"{state} {image.states.count(state)}\n"
+    yield f"top sqnum {image.top_sqnum}\nimage seq {image.found.image_seq}\nmean counter {image.mean_counter}\naccepted\n"
+
+
+# Writing: headers and records as an image holds them, and the normal image of a meaning.
+
+
+def put_ec(geometry, counter=0, image_seq=0):
+    return sealed(struct.pack(">4sB3xQIII32x", b"UBI#", 1, counter, geometry.vid, geometry.data, image_seq))
+
+
+def put_vid(h):
+    fields = (h.kind, h.copy, h.compat, h.volume, h.lnum, h.size, h.used, h.pad, h.data_check, h.sqnum)
+    return sealed(struct.pack(">4sBBBBII4xIIII4xQ12x", b"UBI!", 1, *fields))
+
+
+def put_record(geometry, r):
+    front = (r.reserved, r.alignment, r.pad(geometry), r.kind, r.marker, len(r.name), r.name, r.flags)
+    return sealed(struct.pack(">IIIBBH128sB23x", *front))
+
+
+def put_block(geometry, ec, vid=b"", data=b""):
+    """An eraseblock of two headers and data, all else blank."""
+    front = (ec.ljust(geometry.vid, b"\xFF") + vid).ljust(geometry.data, b"\xFF")
+    return (front + data).ljust(geometry.peb, b"\xFF")
+
+
+def put_table(geometry, records):
+    return b"".join(put_record(geometry, records[slot]) if slot in records else EMPTY_RECORD for slot in range(geometry.slots))
+
+
+def volume_blocks(geometry, number, record, content):
+    """The headers and data of the eraseblocks of a volume in the normal image."""
+    pad, usable = record.pad(geometry), record.usable(geometry)
+    if content == "updating":
+        return
+    if content == "damaged":
+        yield Vid(2, 0, 0, number, 0, 1, 1, pad, 0, 0), b""
+    elif record.kind == 1:
+        for lnum, text in sorted(content.items()):
+            yield Vid(1, 0, 0, number, lnum, 0, 0, pad, 0, 0), text
+    else:
+        shares = [content[at : at + usable] for at in range(0, len(content), usable)]
+        for lnum, share in enumerate(shares):
+            yield Vid(2, 0, 0, number, lnum, len(share), len(shares), pad, check(share), 0), share
+
+
+def normal_image(image):
+    geometry = image.geometry
+    table = put_table(geometry, image.records)
+    parts = [(Vid(1, 0, 5, LAYOUT, copy, 0, 0, 0, 0, 0), table) for copy in range(2)]
+    for number, record in sorted(image.records.items()):
+        parts += volume_blocks(geometry, number, record, image.contents[number])
+    return b"".join(put_block(geometry, put_ec(geometry), put_vid(header), data) for header, data in parts)
+
+
+# What README says of changes: why one isn't planned, and which eraseblocks may be taken.
+
+
+def weak_pages(geometry, new):
+    """The least number of first pages of the new bytes that have, with 0xFF behind them, the check of all; or None."""
+    for pages in range(len(new) // geometry.page):
+        torn = new[: pages * geometry.page].ljust(len(new), b"\xFF")
+        if torn != new and check(torn) == check(new):
+            return pages
+    return None
+
+
+def may_be_taken(image):
+    """How many eraseblocks may be taken: those that nothing is read of, but one whose counter is at its largest."""
+    unread = ("free", "blank", "stale", "orphan", "dropped", "garbage")
+    ecs = image.found.ecs
+    return sum(
+        state in unread and not (ecs[p][0] == "valid" and ecs[p][1].counter == TOP_COUNTER)
+        for p, state in enumerate(image.states)
+    )
+
+
+def change_refusal(image, number, lnum, new):
+    """The first cause for which a change of a LEB isn't planned, or None."""
+    geometry, record = image.geometry, image.records.get(number)
+    if record is None:
+        return "K2 NoVolume"
+    if record.kind == 2:
+        return "K3 StaticVolume"
+    if record.marker:
+        return "K4 Updating"
+    if lnum >= record.reserved:
+        return "K5 OutOfRange"
+    if not new or len(new) % geometry.page or len(new) > record.usable(geometry):
+        return "K6 BadLength"
+    weak = weak_pages(geometry, new)
+    if weak is not None:
+        return f"K7 WeakCheck pages={weak}"
+    needed = 1 if (number, lnum) in image.winners else 2
+    if image.top_sqnum + needed > TOP_SQNUM:
+        return "K8 Exhausted"
+    return "K9 NoFree" if may_be_taken(image) < needed else None
+
+
+def changed(image, number, lnum, new):
+    """What the image means once a LEB has new bytes."""
+    text = new.ljust(image.records[number].usable(image.geometry), b"\xFF")
+    lebs = {at: old for at, old in image.contents[number].items() if at != lnum}
+    if not is_blank(text):
+        lebs[lnum] = text
+    return image.records, image.contents | {number: lebs}
