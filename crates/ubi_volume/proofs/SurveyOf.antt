@@ -16,6 +16,7 @@ use Rattle.ubi_volume.specs.Survey.{AreStatesOf, IsStatesError, IsSurvey, IsSurv
 use Rattle.ubi_volume.specs.declared.attached.BlockState.{BlockState}
 use Rattle.ubi_volume.proofs.Either.{are_lebs, some_meaning}
 use Rattle.ubi_volume.proofs.Exits.{attached}
+use Rattle.ubi_volume.proofs.Recorded.{records_meant}
 
 pub states_refused : (s : Sizes) (k : Source) (e : StreamError) → IsStatesError (blocks_in s k) e → ArePlacesError s k e
 states_refused s k (stream.Refused c) h = absurd h
@@ -25,7 +26,7 @@ states_refused s k stream.Memory h = tt
 
 module _ (s : Sizes) (k : Source) (found : Found) (t : Records) (states : List BlockState) (g : IsGeometry s) (sized : IsSource k)
     (scan : IsScanOf s k found) (table : IsTableOf s k t) (alike : WhereHeld k (λ bytes. NoMismatch s (blocks_of s bytes) t)) (are : AreStatesOf s k t states) where
-  held : (bytes : List ℕ) → k.held ≡ Some bytes → IsSurvey (record { sizes = s; bytes = bytes }) (record { scan = found; states = states })
+  held : (bytes : List ℕ) → k.held ≡ Some bytes → IsSurvey (record { sizes = s; bytes = bytes }) (record { records = t; scan = found; states = states })
   held bytes holds =
       let image : Image = record { sizes = s; bytes = bytes } in
       let bs = blocks_of s bytes in
@@ -35,7 +36,8 @@ module _ (s : Sizes) (k : Source) (found : Found) (t : Records) (states : List B
       record {
         meaning = m.0;
         attached = attached image whole is.clean found t m.0 states is (table.held bytes holds) (alike bytes holds) m.1 (are.held bytes holds);
+        records = sym (records_meant s bs t m.0 (table.held bytes holds) m.1);
       }
 
-  pub is_survey : IsSurveyOf s k (record { scan = found; states = states })
+  pub is_survey : IsSurveyOf s k (record { records = t; scan = found; states = states })
   is_survey = record { whole = scan.whole; count = are.count; held = held }

@@ -9,22 +9,23 @@ use Rattle.ubi_scan.specs.Source.{Source, WhereHeld, blocks_in, blocks_of}
 use Rattle.ubi_scan.specs.Stream.{IsReadFault}
 use Rattle.ubi_scan.specs.declared.errors.StreamError.{StreamError}
 use Rattle.ubi_scan.specs.declared.errors.StreamError.TheVariants as stream
-use Rattle.ubi_table.specs.Records.{Records}
+use Rattle.ubi_table.specs.Records.{Records, records_code}
 use Rattle.ubi_volume.specs.Attached.{IsAttached}
-use Rattle.ubi_volume.specs.Meant.{Meant}
+use Rattle.ubi_volume.specs.Meant.{Meant, records_of}
 use Rattle.ubi_volume.specs.States.{AreStates}
 use Rattle.ubi_volume.specs.declared.attached.BlockState.{BlockState}
 use Rattle.ubi_volume.specs.contracts.attached.BlockState as state_type
 
--- what the scan found, and the state of each eraseblock
+-- the records of the table, what the scan found, and the state of each eraseblock
 pub record Seen : Type 0 where
+  pub records : Records
   pub scan : Found
   pub states : List BlockState
 
 abbrev pub seen_code : Coded Seen
 seen_code =
-    code_by (Found × List BlockState) (coded× found_code (coded_list state_type.the_row.coded)) (λ a. (a.scan, a.states))
-    (λ p. record { scan = p.0; states = p.1 }) (λ _. refl)
+    code_by (Records × (Found × List BlockState)) (coded× records_code (coded× found_code (coded_list state_type.the_row.coded)))
+    (λ a. (a.records, (a.scan, a.states))) (λ p. record { records = p.0; scan = p.1.0; states = p.1.1 }) (λ _. refl)
 
 -- each eraseblock of a source has a state and, where its bytes are known, its own
 pub record AreStatesOf (s : Sizes) (k : Source) (t : Records) (states : List BlockState) : Type 0 where
@@ -36,10 +37,12 @@ abbrev pub IsStatesError : ℕ → StreamError → Type 0
 IsStatesError n stream.Memory = Unit {0}
 IsStatesError n e = IsReadFault n e
 
--- it is that of the image, which is accepted: with a meaning, it is what attaching gives
+-- it is that of the image, which is accepted: with a meaning, it is what attaching gives, and the records are those of
+-- the meaning
 pub record IsSurvey (image : Image) (v : Seen) : Type 0 where
   pub meaning : Meant
   pub attached : IsAttached image (record { meaning = meaning; scan = v.scan; states = v.states })
+  pub records : v.records ≡ records_of meaning
 
 -- what surveying a source gives
 pub record IsSurveyOf (s : Sizes) (k : Source) (v : Seen) : Type 0 where

@@ -1,6 +1,7 @@
 //! What is known of an image without what its volumes read.
 
-ghost use Rattle.std.specs.Prelude.{◌≡◌, ◌<◌, IfErr, IfOk, Some, length};
+ghost use Rattle.std.specs.Prelude.{◌≡◌, ◌<◌, IfErr, IfOk, Some, length, slice_get};
+ghost use Rattle.std.specs.FinMap as finite;
 ghost use Rattle.ubi_media.specs.declared.vid.VidHeader.{VidHeader};
 ghost use Rattle.ubi_scan.specs.Image.{block};
 ghost use Rattle.ubi_scan.specs.Members.{leb_of, member};
@@ -25,6 +26,7 @@ use ubi_table::{Table, choose_from};
 #[derive(Drop)]
 pub struct Surveyed {
     scan: Scan,
+    table: Table,
     states: Vec<BlockState>,
 }
 
@@ -35,15 +37,37 @@ impl Model for Surveyed {
 
     ghost coded = { seen_code };
 
-    ghost view = { λ v. record { scan = v.scan; states = v.states.items } };
+    ghost view = { λ v. record { records = v.table; scan = v.scan; states = v.states.items } };
 }
 
 impl Surveyed {
+    /// The volume table.
+    pub fn table(&self) -> &Table
+        ensures { result.now ≡ self.now.records }
+    {
+        &self.table
+    }
+
     /// What is said of each eraseblock, by rising number.
     pub fn states(&self) -> &[BlockState]
         ensures { result.now ≡ self.now.states }
     {
         self.states.as_slice()
+    }
+
+    /// What is said of an eraseblock.
+    pub fn state(&self, p: u32) -> BlockState
+        requires { p < length self.now.states }
+        ensures { slice_get self.now.states p ≡ Some result }
+    {
+        self.states[p as usize]
+    }
+
+    /// The eraseblock that wins a logical eraseblock of a volume, None where it has no member.
+    pub fn winner(&self, vol: u32, lnum: u32) -> Option<u32>
+        ensures { result ≡ finite.get self.now.scan.winners (vol, lnum) }
+    {
+        self.scan.winner(vol, lnum)
     }
 
     /// The greatest sequence number of a member or a dropped eraseblock, 0 if there is none.
@@ -169,7 +193,11 @@ pub fn survey_from<S: BlockSource>(
         &table,
         buffer.as_mut_slice(),
     )?;
-    Ok(Surveyed { scan, states })
+    Ok(Surveyed {
+        scan,
+        table,
+        states,
+    })
 }
 
 /// Surveys an image: finds the state of each of its eraseblocks, without what its volumes read.

@@ -35,6 +35,17 @@ fn tells_the_state_of_each_eraseblock(rt: HostRuntime) -> Result<(), Fail> {
         surveyed.mean_ec(),
     );
     assert!(rt; numbers == (7, 0x1234_5678, 0));
+    assert!(rt; surveyed.state(4) == Orphan);
+    // Of volume 0 and of none: the winners, and the records.
+    let winners = (
+        surveyed.winner(0, 0),
+        surveyed.winner(0, 20),
+        surveyed.winner(1, 0),
+    );
+    assert!(rt; winners == (Some(2), Some(4), None));
+    let table = surveyed.table();
+    let records = (table.get(0).is_some(), table.get(1).is_some());
+    assert!(rt; records == (true, false));
     Ok(())
 }
 
