@@ -30,6 +30,7 @@ pub mod Replaced
 pub mod Runs
 pub mod Seq
 pub mod Stepped
+pub mod Surveys
 pub mod Survives
 pub mod Taken
 pub mod Top

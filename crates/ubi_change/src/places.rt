@@ -1,14 +1,14 @@
 //! The eraseblocks that a plan works on.
 
 ghost use Rattle.std.specs.Prelude.{◌≡◌, IfErr, IfOk, Some, length};
-ghost use Rattle.ubi_change.specs.Making.{ArePlaces, image_causes};
+ghost use Rattle.ubi_change.specs.Making.{ArePlaces, image_causes, shown};
 ghost use Rattle.ubi_change.specs.Refused.{first_of};
 ghost use Rattle.ubi_scan.specs.Image.{eraseblocks};
 
 use crate::refusal::ChangeRefusal;
 use crate::taking::first_takeable;
 use ubi_scan::Blocks;
-use ubi_volume::Attached;
+use ubi_volume::Surveyed;
 
 /// The eraseblocks that a plan works on.
 #[derive(Clone, Copy)]
@@ -36,20 +36,20 @@ pub enum Places {
 /// `Exhausted`, and else `NoFree`.
 pub fn places_of(
     blocks: &Blocks<'_>,
-    attached: &Attached,
+    surveyed: &Surveyed,
     id: u32,
     lnum: u32,
 ) -> Result<Places, ChangeRefusal>
-    requires { length attached.now.states ≡ length (eraseblocks blocks.now) }
-    ensures places { IfOk result (ArePlaces blocks.now.sizes (eraseblocks blocks.now) attached.now id lnum) }
-    ensures refused { IfErr result (λ e. first_of (image_causes blocks.now.sizes (eraseblocks blocks.now) attached.now id lnum) ≡ Some e) }
+    requires { length surveyed.now.states ≡ length (eraseblocks blocks.now) }
+    ensures places { IfOk result (ArePlaces blocks.now.sizes (eraseblocks blocks.now) (shown surveyed.now) id lnum) }
+    ensures refused { IfErr result (λ e. first_of (image_causes blocks.now.sizes (eraseblocks blocks.now) (shown surveyed.now) id lnum) ≡ Some e) }
 {
-    let winner = attached.winner(id, lnum);
+    let winner = surveyed.winner(id, lnum);
     let needed = if winner.is_some() { 1 } else { 2 };
-    if attached.top_sqnum() > u64::MAX - needed {
+    if surveyed.top_sqnum() > u64::MAX - needed {
         return Err(ChangeRefusal::Exhausted);
     }
-    let taken = first_takeable(blocks, attached);
+    let taken = first_takeable(blocks, surveyed);
     match (winner, taken.first, taken.second) {
         (Some(old), Some(copy), _) => Ok(Places::Mapped { copy, old }),
         (None, Some(first), Some(copy)) => Ok(Places::Unmapped { first, copy }),

@@ -2,7 +2,7 @@
 
 ghost use Rattle.std.specs.Prelude.{◌≡◌, ◌%◌, ◌^◌, ◌<◌, IfErr, IfOk, length};
 ghost use Rattle.ubi_change.specs.Headers.{blank_header, copy_header};
-ghost use Rattle.ubi_change.specs.Making.{AreWithin, mapped_steps, steps_on, unmapped_steps};
+ghost use Rattle.ubi_change.specs.Making.{AreWithin, mapped_steps, shown, steps_on, unmapped_steps};
 ghost use Rattle.ubi_change.specs.Planned.{AllFitOf, IsFrugalOf, IsPlan, RisesOf, SurvivesCutsOf};
 ghost use Rattle.ubi_change.specs.Refused.{IsChangeRefusal};
 ghost use Rattle.ubi_scan.specs.Image.{eraseblocks};
@@ -16,7 +16,7 @@ use crate::taking::ec_at;
 use std::alloc::{AllocError, Global};
 use ubi_media::{Geometry, VidHeader, VolKind, VolumeRecord, crc};
 use ubi_scan::Blocks;
-use ubi_volume::{Attached, attach};
+use ubi_volume::{Surveyed, survey};
 
 /// A logical eraseblock of a dynamic volume.
 #[derive(Clone, Copy)]
@@ -66,26 +66,26 @@ impl Target {
 fn mapped_steps(
     alloc: Global,
     blocks: &Blocks<'_>,
-    attached: &Attached,
+    surveyed: &Surveyed,
     target: &Target,
     new: &[u8],
     copy: u32,
     old: u32,
 ) -> Result<Vec<Step>, AllocError>
-    requires states { length attached.now.states ≡ length (eraseblocks blocks.now) }
+    requires states { length surveyed.now.states ≡ length (eraseblocks blocks.now) }
     requires paged { length new.now % blocks.now.sizes.page ≡ 0 }
     requires short { length new.now < 2 ^ 31 }
-    requires within { AreWithin blocks.now.sizes (eraseblocks blocks.now) attached.now (Places.Mapped copy old) }
-    ensures { IfOk result (λ steps. steps.items ≡ mapped_steps blocks.now.sizes (eraseblocks blocks.now) attached.now target.now new.now copy old) }
+    requires within { AreWithin blocks.now.sizes (eraseblocks blocks.now) (shown surveyed.now) (Places.Mapped copy old) }
+    ensures { IfOk result (λ steps. steps.items ≡ mapped_steps blocks.now.sizes (eraseblocks blocks.now) (shown surveyed.now) target.now new.now copy old) }
 {
     let copy = Replacement {
         target: copy,
-        header: target.copy_header(attached.top_sqnum() + 1, new),
+        header: target.copy_header(surveyed.top_sqnum() + 1, new),
         old,
         old_ec: ec_at(blocks, old),
     };
     let mut steps = Vec::new(alloc);
-    push_copy(alloc, &mut steps, blocks, attached, &copy, new)?;
+    push_copy(alloc, &mut steps, blocks, surveyed, &copy, new)?;
     Ok(steps)
 }
 
@@ -93,29 +93,29 @@ fn mapped_steps(
 fn unmapped_steps(
     alloc: Global,
     blocks: &Blocks<'_>,
-    attached: &Attached,
+    surveyed: &Surveyed,
     target: &Target,
     new: &[u8],
     first: u32,
     copy: u32,
 ) -> Result<Vec<Step>, AllocError>
-    requires states { length attached.now.states ≡ length (eraseblocks blocks.now) }
-    requires mean { attached.now.scan.mean_ec < 2 ^ 31 }
+    requires states { length surveyed.now.states ≡ length (eraseblocks blocks.now) }
+    requires mean { surveyed.now.scan.mean_ec < 2 ^ 31 }
     requires paged { length new.now % blocks.now.sizes.page ≡ 0 }
     requires short { length new.now < 2 ^ 31 }
-    requires within { AreWithin blocks.now.sizes (eraseblocks blocks.now) attached.now (Places.Unmapped first copy) }
-    ensures { IfOk result (λ steps. steps.items ≡ unmapped_steps blocks.now.sizes (eraseblocks blocks.now) attached.now target.now new.now first copy) }
+    requires within { AreWithin blocks.now.sizes (eraseblocks blocks.now) (shown surveyed.now) (Places.Unmapped first copy) }
+    ensures { IfOk result (λ steps. steps.items ≡ unmapped_steps blocks.now.sizes (eraseblocks blocks.now) (shown surveyed.now) target.now new.now first copy) }
 {
-    let header = target.blank_header(attached.top_sqnum() + 1);
+    let header = target.blank_header(surveyed.top_sqnum() + 1);
     let copy = Replacement {
         target: copy,
-        header: target.copy_header(attached.top_sqnum() + 2, new),
+        header: target.copy_header(surveyed.top_sqnum() + 2, new),
         old: first,
-        old_ec: ready_ec(blocks, attached, first),
+        old_ec: ready_ec(blocks, surveyed, first),
     };
     let mut steps = Vec::new(alloc);
-    push_mount(alloc, &mut steps, blocks, attached, first, &header)?;
-    push_copy(alloc, &mut steps, blocks, attached, &copy, new)?;
+    push_mount(alloc, &mut steps, blocks, surveyed, first, &header)?;
+    push_copy(alloc, &mut steps, blocks, surveyed, &copy, new)?;
     Ok(steps)
 }
 
@@ -123,24 +123,24 @@ fn unmapped_steps(
 fn steps_on(
     alloc: Global,
     blocks: &Blocks<'_>,
-    attached: &Attached,
+    surveyed: &Surveyed,
     target: &Target,
     new: &[u8],
     places: Places,
 ) -> Result<Vec<Step>, AllocError>
-    requires states { length attached.now.states ≡ length (eraseblocks blocks.now) }
-    requires mean { attached.now.scan.mean_ec < 2 ^ 31 }
+    requires states { length surveyed.now.states ≡ length (eraseblocks blocks.now) }
+    requires mean { surveyed.now.scan.mean_ec < 2 ^ 31 }
     requires paged { length new.now % blocks.now.sizes.page ≡ 0 }
     requires short { length new.now < 2 ^ 31 }
-    requires within { AreWithin blocks.now.sizes (eraseblocks blocks.now) attached.now places }
-    ensures { IfOk result (λ steps. steps.items ≡ steps_on blocks.now.sizes (eraseblocks blocks.now) attached.now target.now new.now places) }
+    requires within { AreWithin blocks.now.sizes (eraseblocks blocks.now) (shown surveyed.now) places }
+    ensures { IfOk result (λ steps. steps.items ≡ steps_on blocks.now.sizes (eraseblocks blocks.now) (shown surveyed.now) target.now new.now places) }
 {
     match places {
         Places::Mapped { copy, old } => {
-            mapped_steps(alloc, blocks, attached, target, new, copy, old)
+            mapped_steps(alloc, blocks, surveyed, target, new, copy, old)
         }
         Places::Unmapped { first, copy } => {
-            unmapped_steps(alloc, blocks, attached, target, new, first, copy)
+            unmapped_steps(alloc, blocks, surveyed, target, new, first, copy)
         }
     }
 }
@@ -178,21 +178,21 @@ pub fn plan_change(
     ensures refused { IfErr result (IsChangeRefusal (record { sizes = geometry.now; bytes = image.now }) id lnum new.now) }
 {
     let blocks = Blocks::new(geometry, image)?;
-    let attached = attach(alloc, geometry, image)?;
+    let surveyed = survey(alloc, geometry, image)?;
     // The law that plans survive asks for both.
     prove!(geometry.page() >= 64);
-    prove!(attached.image_seq() <= u32::MAX);
-    let Some(volume) = attached.meaning().get(id) else {
+    prove!(surveyed.image_seq() <= u32::MAX);
+    let Some(entry) = surveyed.table().get(id) else {
         return Err(ChangeRefusal::NoVolume);
     };
-    if let Some(cause) = own_cause(geometry, &volume.entry, lnum, new) {
+    if let Some(cause) = own_cause(geometry, entry, lnum, new) {
         return Err(cause);
     }
-    let places = places_of(&blocks, &attached, id, lnum)?;
+    let places = places_of(&blocks, &surveyed, id, lnum)?;
     let target = Target {
         id,
         lnum,
-        data_pad: volume.entry.data_pad(geometry),
+        data_pad: entry.data_pad(geometry),
     };
-    Ok(steps_on(alloc, &blocks, &attached, &target, new, places)?)
+    Ok(steps_on(alloc, &blocks, &surveyed, &target, new, places)?)
 }

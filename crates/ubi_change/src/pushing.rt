@@ -2,6 +2,7 @@
 
 ghost use Rattle.std.specs.Prelude.{◌≡◌, ◌++◌, ◌∷◌, [], ◌%◌, ◌^◌, ◌≤◌, ◌<◌, IfOk, IfSome, OnOk, length};
 ghost use Rattle.ubi_change.specs.Headers.{next_ec};
+ghost use Rattle.ubi_change.specs.Making.{shown};
 ghost use Rattle.ubi_change.specs.Plan.{atomic_copy, mount, prepare, program_header, program_text, ready_bytes, ready_ec, release, renew};
 ghost use Rattle.ubi_scan.specs.Image.{eraseblocks};
 
@@ -11,7 +12,7 @@ use crate::taking::{ec_area, ec_at, is_clean, is_worn};
 use std::alloc::{AllocError, Global};
 use ubi_media::{EcHeader, Geometry, VidHeader, write_ec};
 use ubi_scan::Blocks;
-use ubi_volume::{Attached, Bytes};
+use ubi_volume::{Bytes, Surveyed};
 
 /// A copy that takes the place of the winner of a logical eraseblock.
 #[derive(Clone, Copy)]
@@ -28,32 +29,32 @@ pub struct Replacement {
 
 /// The erase-counter header that an erase puts in the place of another: its counter is one above that, or the mean where
 /// there is none.
-fn next_ec(attached: &Attached, old: Option<EcHeader>) -> EcHeader
+fn next_ec(surveyed: &Surveyed, old: Option<EcHeader>) -> EcHeader
     requires { IfSome old (λ header. header.counter ≤ 2 ^ 31) }
-    ensures { result ≡ next_ec attached.now.scan old }
+    ensures { result ≡ next_ec surveyed.now.scan old }
 {
     EcHeader {
         counter: match old {
             Some(header) => header.counter + 1,
-            None => attached.mean_ec(),
+            None => surveyed.mean_ec(),
         },
-        image_seq: attached.image_seq(),
+        image_seq: surveyed.image_seq(),
     }
 }
 
 /// The erase-counter header of an eraseblock that was made ready.
-pub fn ready_ec(blocks: &Blocks<'_>, attached: &Attached, p: u32) -> Option<EcHeader>
-    requires states { length attached.now.states ≡ length (eraseblocks blocks.now) }
-    requires mean { attached.now.scan.mean_ec < 2 ^ 31 }
+pub fn ready_ec(blocks: &Blocks<'_>, surveyed: &Surveyed, p: u32) -> Option<EcHeader>
+    requires states { length surveyed.now.states ≡ length (eraseblocks blocks.now) }
+    requires mean { surveyed.now.scan.mean_ec < 2 ^ 31 }
     requires inside { p < length (eraseblocks blocks.now) }
-    ensures value { result ≡ ready_ec blocks.now.sizes (eraseblocks blocks.now) attached.now p }
+    ensures value { result ≡ ready_ec blocks.now.sizes (eraseblocks blocks.now) (shown surveyed.now) p }
     ensures small { IfSome result (λ header. header.counter ≤ 2 ^ 31) }
 {
     let old = ec_at(blocks, p);
-    if is_clean(blocks, attached, p) {
+    if is_clean(blocks, surveyed, p) {
         old
     } else {
-        Some(next_ec(attached, old))
+        Some(next_ec(surveyed, old))
     }
 }
 
@@ -129,19 +130,19 @@ pub fn push_mount(
     alloc: Global,
     steps: &mut Vec<Step>,
     blocks: &Blocks<'_>,
-    attached: &Attached,
+    surveyed: &Surveyed,
     p: u32,
     header: &VidHeader,
 ) -> Result<(), AllocError>
-    requires states { length attached.now.states ≡ length (eraseblocks blocks.now) }
+    requires states { length surveyed.now.states ≡ length (eraseblocks blocks.now) }
     requires inside { p < length (eraseblocks blocks.now) }
-    ensures { OnOk result (steps.new.items ≡ steps.old.items ++ mount blocks.now.sizes (eraseblocks blocks.now) attached.now p header.now) }
+    ensures { OnOk result (steps.new.items ≡ steps.old.items ++ mount blocks.now.sizes (eraseblocks blocks.now) (shown surveyed.now) p header.now) }
 {
     let geometry = blocks.geometry();
-    if is_clean(blocks, attached, p) {
+    if is_clean(blocks, surveyed, p) {
         return push_header(alloc, steps, &geometry, p, ec_area(blocks, p), header);
     }
-    let ec = next_ec(attached, ec_at(blocks, p));
+    let ec = next_ec(surveyed, ec_at(blocks, p));
     push_renew(alloc, steps, &geometry, p, &ec)?;
     push_header(
         alloc,
@@ -158,17 +159,17 @@ fn push_release(
     alloc: Global,
     steps: &mut Vec<Step>,
     blocks: &Blocks<'_>,
-    attached: &Attached,
+    surveyed: &Surveyed,
     p: u32,
     ec: Option<EcHeader>,
 ) -> Result<(), AllocError>
     requires { IfSome ec (λ header. header.counter ≤ 2 ^ 31) }
-    ensures { OnOk result (steps.new.items ≡ steps.old.items ++ release blocks.now.sizes (eraseblocks blocks.now) attached.now p ec) }
+    ensures { OnOk result (steps.new.items ≡ steps.old.items ++ release blocks.now.sizes (eraseblocks blocks.now) (shown surveyed.now) p ec) }
 {
     if is_worn(ec) {
         return Ok(());
     }
-    push_renew(alloc, steps, &blocks.geometry(), p, &next_ec(attached, ec))
+    push_renew(alloc, steps, &blocks.geometry(), p, &next_ec(surveyed, ec))
 }
 
 /// Adds a copy with this text, and the erase of the old winner behind it.
@@ -176,19 +177,19 @@ pub fn push_copy(
     alloc: Global,
     steps: &mut Vec<Step>,
     blocks: &Blocks<'_>,
-    attached: &Attached,
+    surveyed: &Surveyed,
     copy: &Replacement,
     new: &[u8],
 ) -> Result<(), AllocError>
-    requires states { length attached.now.states ≡ length (eraseblocks blocks.now) }
+    requires states { length surveyed.now.states ≡ length (eraseblocks blocks.now) }
     requires inside { copy.now.target < length (eraseblocks blocks.now) }
     requires counter { IfSome copy.now.old_ec (λ header. header.counter ≤ 2 ^ 31) }
     requires paged { length new.now % blocks.now.sizes.page ≡ 0 }
     requires short { length new.now < 2 ^ 31 }
     ensures { OnOk result (steps.new.items ≡ steps.old.items
-        ++ atomic_copy blocks.now.sizes (eraseblocks blocks.now) attached.now copy.now.target copy.now.header new.now copy.now.old copy.now.old_ec) }
+        ++ atomic_copy blocks.now.sizes (eraseblocks blocks.now) (shown surveyed.now) copy.now.target copy.now.header new.now copy.now.old copy.now.old_ec) }
 {
-    push_mount(alloc, steps, blocks, attached, copy.target, &copy.header)?;
+    push_mount(alloc, steps, blocks, surveyed, copy.target, &copy.header)?;
     push_text(alloc, steps, &blocks.geometry(), copy.target, new)?;
-    push_release(alloc, steps, blocks, attached, copy.old, copy.old_ec)
+    push_release(alloc, steps, blocks, surveyed, copy.old, copy.old_ec)
 }

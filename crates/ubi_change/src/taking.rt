@@ -7,7 +7,7 @@ ghost use Rattle.ubi_scan.specs.Image.{block, ec_area, eraseblocks};
 
 use ubi_media::{EcHeader, EcRead, is_blank};
 use ubi_scan::Blocks;
-use ubi_volume::{Attached, BlockState};
+use ubi_volume::{BlockState, Surveyed};
 
 /// The greatest erase counter.
 const LARGEST_COUNTER: u32 = 0x7FFF_FFFF;
@@ -112,46 +112,46 @@ pub fn ec_area<'a>(blocks: &Blocks<'a>, p: u32) -> &'a [u8]
 }
 
 /// Whether an eraseblock may be taken: nothing is lost with it, and it can count another erase.
-fn is_takeable(blocks: &Blocks<'_>, attached: &Attached, p: u32) -> bool
-    requires states { length attached.now.states ≡ length (eraseblocks blocks.now) }
+fn is_takeable(blocks: &Blocks<'_>, surveyed: &Surveyed, p: u32) -> bool
+    requires states { length surveyed.now.states ≡ length (eraseblocks blocks.now) }
     requires inside { p < length (eraseblocks blocks.now) }
-    ensures { result ≡ is_takeable blocks.now.sizes (eraseblocks blocks.now) attached.now.states p }
+    ensures { result ≡ is_takeable blocks.now.sizes (eraseblocks blocks.now) surveyed.now.states p }
 {
-    is_unused(attached.state(p)) && !is_worn(ec_at(blocks, p))
+    is_unused(surveyed.state(p)) && !is_worn(ec_at(blocks, p))
 }
 
 /// Whether an eraseblock needs no erase before it is written: it is free, and blank but for its erase-counter header.
-pub fn is_clean(blocks: &Blocks<'_>, attached: &Attached, p: u32) -> bool
-    requires states { length attached.now.states ≡ length (eraseblocks blocks.now) }
+pub fn is_clean(blocks: &Blocks<'_>, surveyed: &Surveyed, p: u32) -> bool
+    requires states { length surveyed.now.states ≡ length (eraseblocks blocks.now) }
     requires inside { p < length (eraseblocks blocks.now) }
-    ensures { result ≡ is_clean blocks.now.sizes (eraseblocks blocks.now) attached.now.states p }
+    ensures { result ≡ is_clean blocks.now.sizes (eraseblocks blocks.now) surveyed.now.states p }
 {
     prove!(blocks.geometry().peb_size() >= 64);
-    is_free(attached.state(p)) && is_blank(&blocks.block(p)[HEADER_SIZE..])
+    is_free(surveyed.state(p)) && is_blank(&blocks.block(p)[HEADER_SIZE..])
 }
 
 /// Whether an eraseblock may be taken, and is clean or isn't.
-fn is_wanted(blocks: &Blocks<'_>, attached: &Attached, clean: bool, p: u32) -> bool
-    requires states { length attached.now.states ≡ length (eraseblocks blocks.now) }
+fn is_wanted(blocks: &Blocks<'_>, surveyed: &Surveyed, clean: bool, p: u32) -> bool
+    requires states { length surveyed.now.states ≡ length (eraseblocks blocks.now) }
     requires inside { p < length (eraseblocks blocks.now) }
     ensures { let s = blocks.now.sizes in let bs = eraseblocks blocks.now in
-        result ≡ (is_takeable s bs attached.now.states p && is_wanted s bs attached.now.states clean p) }
+        result ≡ (is_takeable s bs surveyed.now.states p && is_wanted s bs surveyed.now.states clean p) }
 {
-    is_takeable(blocks, attached, p) && is_clean(blocks, attached, p) == clean
+    is_takeable(blocks, surveyed, p) && is_clean(blocks, surveyed, p) == clean
 }
 
 /// The first two of the eraseblocks that may be taken and are clean, or of those that aren't.
-fn first_wanted(blocks: &Blocks<'_>, attached: &Attached, clean: bool) -> FirstTwo
-    requires { length attached.now.states ≡ length (eraseblocks blocks.now) }
+fn first_wanted(blocks: &Blocks<'_>, surveyed: &Surveyed, clean: bool) -> FirstTwo
+    requires { length surveyed.now.states ≡ length (eraseblocks blocks.now) }
     ensures { let s = blocks.now.sizes in let bs = eraseblocks blocks.now in
-        result ≡ first_two (filter (is_wanted s bs attached.now.states clean) (able s bs attached.now.states)) }
+        result ≡ first_two (filter (is_wanted s bs surveyed.now.states clean) (able s bs surveyed.now.states)) }
 {
     let mut found = FirstTwo {
         first: None,
         second: None,
     };
     for p in 0..blocks.count() {
-        if is_wanted(blocks, attached, clean, p) {
+        if is_wanted(blocks, surveyed, clean, p) {
             found = found.with(p);
         }
     }
@@ -159,9 +159,9 @@ fn first_wanted(blocks: &Blocks<'_>, attached: &Attached, clean: bool) -> FirstT
 }
 
 /// The first two of the eraseblocks that may be taken: the clean ones first, and each of both kinds by rising number.
-pub fn first_takeable(blocks: &Blocks<'_>, attached: &Attached) -> FirstTwo
-    requires { length attached.now.states ≡ length (eraseblocks blocks.now) }
-    ensures { result ≡ first_two (takeable blocks.now.sizes (eraseblocks blocks.now) attached.now.states) }
+pub fn first_takeable(blocks: &Blocks<'_>, surveyed: &Surveyed) -> FirstTwo
+    requires { length surveyed.now.states ≡ length (eraseblocks blocks.now) }
+    ensures { result ≡ first_two (takeable blocks.now.sizes (eraseblocks blocks.now) surveyed.now.states) }
 {
-    first_wanted(blocks, attached, true).followed_by(first_wanted(blocks, attached, false))
+    first_wanted(blocks, surveyed, true).followed_by(first_wanted(blocks, surveyed, false))
 }

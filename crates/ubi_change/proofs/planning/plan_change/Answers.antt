@@ -4,7 +4,8 @@ use Rattle.std.specs.FinMap.{get}
 use Rattle.ubi_media.specs.Record.{data_pad}
 use Rattle.ubi_scan.specs.Image.{Image, eraseblocks}
 use Rattle.ubi_volume.specs.Attached.{IsAttached, Whole}
-use Rattle.ubi_volume.specs.Meant.{Meant}
+use Rattle.ubi_table.specs.Records.{Records}
+use Rattle.ubi_volume.specs.Survey.{IsSurvey}
 use Rattle.ubi_volume.specs.declared.content.Volume.{Volume}
 use Rattle.ubi_volume.proofs.Exits.{passed_on}
 use Rattle.ubi_change.specs.Cuts.{SurvivesCuts}
@@ -22,71 +23,91 @@ use Rattle.ubi_change.proofs.PlanFrugal.{plan_frugal}
 use Rattle.ubi_change.proofs.PlanRises.{plan_rises}
 use Rattle.ubi_change.proofs.PlanMade.{allowed, are_within, image_stands, no_volume, own_stands, steps_are}
 use Rattle.ubi_change.proofs.PlanSurvives.{mean_few, plan_survives, sound}
+use Rattle.ubi_change.proofs.Surveys.{has_none, has_volume, whole}
 use Rattle.ubi_change.proofs.planning.plan_change.Goals as goal
 
 pub returns-in_default-clause-refused : goal.returns-in_default-clause-refused
 returns-in_default-clause-refused c =
     let image : Image = record { sizes = c.args.geometry.now; bytes = c.args.image.now } in
-    let a : Whole = c.in_ok-attached.attached in
-    let none : None ≡ get a.meaning.volumes c.args.id = c.in_default.ensures.value ∙ ap (λ (m : Meant). get m.volumes c.args.id) c.meaning.ensures in
-    no_volume image a c.in_ok-attached.ensures.attached c.args.id c.args.lnum c.args.new.now (sym none)
+    let is : IsSurvey image c.in_ok-surveyed.surveyed = c.in_ok-surveyed.ensures.survey in
+    let a : Whole = whole image c.in_ok-surveyed.surveyed is in
+    no_volume image a is.attached c.args.id c.args.lnum c.args.new.now
+    (has_none image c.in_ok-surveyed.surveyed is c.args.id (sym (c.in_default.ensures.value ∙ ap (λ (t : Records). get t.of c.args.id) c.table.ensures)))
 
 pub returns-in-Some-own_cause-clause-refused : goal.returns-in-Some-own_cause-clause-refused
 returns-in-Some-own_cause-clause-refused c =
     let image : Image = record { sizes = c.args.geometry.now; bytes = c.args.image.now } in
-    let a : Whole = c.in_ok-attached.attached in
-    let v : Volume = c.in-Some.volume.now in
-    let there : Some v ≡ get a.meaning.volumes c.args.id = c.in-Some.ensures.value ∙ ap (λ (m : Meant). get m.volumes c.args.id) c.meaning.ensures in
+    let is : IsSurvey image c.in_ok-surveyed.surveyed = c.in_ok-surveyed.ensures.survey in
+    let a : Whole = whole image c.in_ok-surveyed.surveyed is in
+    let meant = has_volume image c.in_ok-surveyed.surveyed is c.args.id c.in-Some.entry.now
+    (sym (c.in-Some.ensures.value ∙ ap (λ (t : Records). get t.of c.args.id) c.table.ensures)) in
+    let v : Volume = record { entry = c.in-Some.entry.now; content = meant.0 } in
+    let there : get a.meaning.volumes c.args.id ≡ Some v = meant.1 in
     let cause : Some c.in-Some-own_cause.cause ≡ first_of (own_causes c.args.geometry.now v.entry c.args.lnum c.args.new.now) = c.in-Some-own_cause.ensures in
-    own_stands image a c.in_ok-attached.ensures.attached c.args.id c.args.lnum c.args.new.now v (sym there) c.in-Some-own_cause.cause (sym cause)
+    own_stands image a is.attached c.args.id c.args.lnum c.args.new.now v there c.in-Some-own_cause.cause (sym cause)
 
 pub returns-in_err-places-clause-refused : goal.returns-in_err-places-clause-refused
 returns-in_err-places-clause-refused c =
     let image : Image = record { sizes = c.args.geometry.now; bytes = c.args.image.now } in
-    let a : Whole = c.in_ok-attached.attached in
-    let v : Volume = c.in-Some.volume.now in
-    let there : Some v ≡ get a.meaning.volumes c.args.id = c.in-Some.ensures.value ∙ ap (λ (m : Meant). get m.volumes c.args.id) c.meaning.ensures in
+    let is : IsSurvey image c.in_ok-surveyed.surveyed = c.in_ok-surveyed.ensures.survey in
+    let a : Whole = whole image c.in_ok-surveyed.surveyed is in
+    let meant = has_volume image c.in_ok-surveyed.surveyed is c.args.id c.in-Some.entry.now
+    (sym (c.in-Some.ensures.value ∙ ap (λ (t : Records). get t.of c.args.id) c.table.ensures)) in
+    let v : Volume = record { entry = c.in-Some.entry.now; content = meant.0 } in
+    let there : get a.meaning.volumes c.args.id ≡ Some v = meant.1 in
     let own : None ≡ first_of (own_causes c.args.geometry.now v.entry c.args.lnum c.args.new.now) = c.in_default-own_cause.ensures in
     let cause : first_of (image_causes c.in_ok-blocks.blocks.sizes (eraseblocks c.in_ok-blocks.blocks) a c.args.id c.args.lnum) ≡ Some c.in_err-places.field-0.0 = c.in_err-places.ensures.refused in
     let here : first_of (image_causes image.sizes (eraseblocks image) a c.args.id c.args.lnum) ≡ Some c.in_err-places.field-0.0 =
     subst (λ (z : Image). first_of (image_causes z.sizes (eraseblocks z) a c.args.id c.args.lnum) ≡ Some c.in_err-places.field-0.0) c.in_ok-blocks.ensures.ok cause in
-    let is : IsChangeRefusal image c.args.id c.args.lnum c.args.new.now c.in_err-places.field-0.0 =
-    image_stands image a c.in_ok-attached.ensures.attached c.args.id c.args.lnum c.args.new.now v (sym there) (sym own) c.in_err-places.field-0.0 here in
-    passed_on c.from_residual-in_err-places.result _ _ (λ e same. subst (IsChangeRefusal image c.args.id c.args.lnum c.args.new.now) (sym same) is) c.from_residual-in_err-places.ensures.1
+    let stands : IsChangeRefusal image c.args.id c.args.lnum c.args.new.now c.in_err-places.field-0.0 =
+    image_stands image a is.attached c.args.id c.args.lnum c.args.new.now v there (sym own) c.in_err-places.field-0.0 here in
+    passed_on c.from_residual-in_err-places.result _ _ (λ e same. subst (IsChangeRefusal image c.args.id c.args.lnum c.args.new.now) (sym same) stands) c.from_residual-in_err-places.ensures.1
 
 pub data_pad-requires : goal.data_pad-requires
 data_pad-requires c =
     let image : Image = record { sizes = c.args.geometry.now; bytes = c.args.image.now } in
-    let a : Whole = c.in_ok-attached.attached in
-    let v : Volume = c.in-Some.volume.now in
-    let there : Some v ≡ get a.meaning.volumes c.args.id = c.in-Some.ensures.value ∙ ap (λ (m : Meant). get m.volumes c.args.id) c.meaning.ensures in
-    sound image a c.in_ok-attached.ensures.attached c.args.id v (sym there)
+    let is : IsSurvey image c.in_ok-surveyed.surveyed = c.in_ok-surveyed.ensures.survey in
+    let a : Whole = whole image c.in_ok-surveyed.surveyed is in
+    let meant = has_volume image c.in_ok-surveyed.surveyed is c.args.id c.in-Some.entry.now
+    (sym (c.in-Some.ensures.value ∙ ap (λ (t : Records). get t.of c.args.id) c.table.ensures)) in
+    let v : Volume = record { entry = c.in-Some.entry.now; content = meant.0 } in
+    let there : get a.meaning.volumes c.args.id ≡ Some v = meant.1 in
+    sound image a is.attached c.args.id v there
 
 pub steps_on-requires-clause-mean : goal.steps_on-requires-clause-mean
-steps_on-requires-clause-mean c = mean_few (record { sizes = c.args.geometry.now; bytes = c.args.image.now }) c.in_ok-attached.attached c.in_ok-attached.ensures.attached
+steps_on-requires-clause-mean c =
+    let image : Image = record { sizes = c.args.geometry.now; bytes = c.args.image.now } in
+    let is : IsSurvey image c.in_ok-surveyed.surveyed = c.in_ok-surveyed.ensures.survey in
+    mean_few image (whole image c.in_ok-surveyed.surveyed is) is.attached
 
 pub steps_on-requires-clause-within : goal.steps_on-requires-clause-within
 steps_on-requires-clause-within c =
     let image : Image = record { sizes = c.args.geometry.now; bytes = c.args.image.now } in
-    let a : Whole = c.in_ok-attached.attached in
-    let v : Volume = c.in-Some.volume.now in
+    let is : IsSurvey image c.in_ok-surveyed.surveyed = c.in_ok-surveyed.ensures.survey in
+    let a : Whole = whole image c.in_ok-surveyed.surveyed is in
+    let meant = has_volume image c.in_ok-surveyed.surveyed is c.args.id c.in-Some.entry.now
+    (sym (c.in-Some.ensures.value ∙ ap (λ (t : Records). get t.of c.args.id) c.table.ensures)) in
+    let v : Volume = record { entry = c.in-Some.entry.now; content = meant.0 } in
+    let there : get a.meaning.volumes c.args.id ≡ Some v = meant.1 in
     let on = c.in_ok-places.places in
-    let there : Some v ≡ get a.meaning.volumes c.args.id = c.in-Some.ensures.value ∙ ap (λ (m : Meant). get m.volumes c.args.id) c.meaning.ensures in
     let own : None ≡ first_of (own_causes c.args.geometry.now v.entry c.args.lnum c.args.new.now) = c.in_default-own_cause.ensures in
     let are : ArePlaces c.in_ok-blocks.blocks.sizes (eraseblocks c.in_ok-blocks.blocks) a c.args.id c.args.lnum on = c.in_ok-places.ensures.places in
     let here : ArePlaces image.sizes (eraseblocks image) a c.args.id c.args.lnum on =
     subst (λ (z : Image). ArePlaces z.sizes (eraseblocks z) a c.args.id c.args.lnum on) c.in_ok-blocks.ensures.ok are in
     subst (λ (z : Image). AreWithin z.sizes (eraseblocks z) a on) (sym c.in_ok-blocks.ensures.ok)
-    (are_within image a c.in_ok-attached.ensures.attached c.args.id c.args.lnum c.args.new.now v (sym there) (sym own) on here)
+    (are_within image a is.attached c.args.id c.args.lnum c.args.new.now v there (sym own) on here)
 
 pub returns-clause-plan : goal.returns-clause-plan
 returns-clause-plan c =
     let image : Image = record { sizes = c.args.geometry.now; bytes = c.args.image.now } in
-    let a : Whole = c.in_ok-attached.attached in
-    let v : Volume = c.in-Some.volume.now in
+    let is : IsSurvey image c.in_ok-surveyed.surveyed = c.in_ok-surveyed.ensures.survey in
+    let a : Whole = whole image c.in_ok-surveyed.surveyed is in
+    let meant = has_volume image c.in_ok-surveyed.surveyed is c.args.id c.in-Some.entry.now
+    (sym (c.in-Some.ensures.value ∙ ap (λ (t : Records). get t.of c.args.id) c.table.ensures)) in
+    let v : Volume = record { entry = c.in-Some.entry.now; content = meant.0 } in
+    let there : get a.meaning.volumes c.args.id ≡ Some v = meant.1 in
     let on = c.in_ok-places.places in
-    let att : IsAttached image a = c.in_ok-attached.ensures.attached in
-    let there : Some v ≡ get a.meaning.volumes c.args.id = c.in-Some.ensures.value ∙ ap (λ (m : Meant). get m.volumes c.args.id) c.meaning.ensures in
+    let att : IsAttached image a = is.attached in
     let own : None ≡ first_of (own_causes c.args.geometry.now v.entry c.args.lnum c.args.new.now) = c.in_default-own_cause.ensures in
     let are : ArePlaces c.in_ok-blocks.blocks.sizes (eraseblocks c.in_ok-blocks.blocks) a c.args.id c.args.lnum on = c.in_ok-places.ensures.places in
     let here : ArePlaces image.sizes (eraseblocks image) a c.args.id c.args.lnum on =
@@ -98,12 +119,12 @@ returns-clause-plan c =
     record {
       from = a;
       attached = att;
-      allowed = allowed image a att c.args.id c.args.lnum c.args.new.now v (sym there) (sym own) on here;
+      allowed = allowed image a att c.args.id c.args.lnum c.args.new.now v there (sym own) on here;
       volume = v;
-      there = sym there;
+      there = there;
       plan =
           made ∙ ap (λ (z : Image). steps_on z.sizes (eraseblocks z) a t c.args.new.now on) c.in_ok-blocks.ensures.ok
-          ∙ steps_are image a att c.args.id c.args.lnum c.args.new.now v (sym there) (sym own) on here t pad;
+          ∙ steps_are image a att c.args.id c.args.lnum c.args.new.now v there (sym own) on here t pad;
     }
 
 pub returns-clause-survives : goal.returns-clause-survives
@@ -111,7 +132,7 @@ unfolding returns-clause-plan
 returns-clause-survives c =
     let image : Image = record { sizes = c.args.geometry.now; bytes = c.args.image.now } in
     let made : IsPlan image c.args.id c.args.lnum c.args.new.now c.in_ok-steps_on.field-0.items = returns-clause-plan c in
-    let narrow : c.in_ok-attached.attached.scan.image_seq < 2 ^ 32 = subst (λ (n : ℕ). n < 2 ^ 32) c.image_seq.ensures c.image_seq.type_inv in
+    let narrow : c.in_ok-surveyed.surveyed.scan.image_seq < 2 ^ 32 = subst (λ (n : ℕ). n < 2 ^ 32) c.image_seq.ensures c.image_seq.type_inv in
     let planned = plan_survives image made.from c.args.id c.args.lnum c.args.new.now made.volume c.page.ensures.limits made.attached narrow made.there made.allowed in
     (made.from.meaning, made.attached.accepted, subst (SurvivesCuts image.sizes (eraseblocks image) made.from.meaning c.args.id c.args.lnum c.args.new.now) (sym made.plan) planned)
 
@@ -120,7 +141,7 @@ unfolding returns-clause-plan
 returns-clause-fits c =
     let image : Image = record { sizes = c.args.geometry.now; bytes = c.args.image.now } in
     let made : IsPlan image c.args.id c.args.lnum c.args.new.now c.in_ok-steps_on.field-0.items = returns-clause-plan c in
-    let narrow : c.in_ok-attached.attached.scan.image_seq < 2 ^ 32 = subst (λ (n : ℕ). n < 2 ^ 32) c.image_seq.ensures c.image_seq.type_inv in
+    let narrow : c.in_ok-surveyed.surveyed.scan.image_seq < 2 ^ 32 = subst (λ (n : ℕ). n < 2 ^ 32) c.image_seq.ensures c.image_seq.type_inv in
     let bytes = bytes-each c.args.new.now (λ i. (c.type_inv.new i).fits) in
     let g = c.page.ensures.limits in
     let sound_record = sound image made.from made.attached c.args.id made.volume made.there in
@@ -133,7 +154,7 @@ unfolding returns-clause-plan
 returns-clause-rises c =
     let image : Image = record { sizes = c.args.geometry.now; bytes = c.args.image.now } in
     let made : IsPlan image c.args.id c.args.lnum c.args.new.now c.in_ok-steps_on.field-0.items = returns-clause-plan c in
-    let narrow : c.in_ok-attached.attached.scan.image_seq < 2 ^ 32 = subst (λ (n : ℕ). n < 2 ^ 32) c.image_seq.ensures c.image_seq.type_inv in
+    let narrow : c.in_ok-surveyed.surveyed.scan.image_seq < 2 ^ 32 = subst (λ (n : ℕ). n < 2 ^ 32) c.image_seq.ensures c.image_seq.type_inv in
     let planned = plan_rises image c.page.ensures.limits made.from made.attached narrow c.args.id c.args.lnum c.args.new.now made.volume made.there made.allowed in
     subst (RisesBetweenErases image.sizes (eraseblocks image)) (sym made.plan) planned
 
@@ -142,6 +163,6 @@ unfolding returns-clause-plan
 returns-clause-frugal c =
     let image : Image = record { sizes = c.args.geometry.now; bytes = c.args.image.now } in
     let made : IsPlan image c.args.id c.args.lnum c.args.new.now c.in_ok-steps_on.field-0.items = returns-clause-plan c in
-    let narrow : c.in_ok-attached.attached.scan.image_seq < 2 ^ 32 = subst (λ (n : ℕ). n < 2 ^ 32) c.image_seq.ensures c.image_seq.type_inv in
+    let narrow : c.in_ok-surveyed.surveyed.scan.image_seq < 2 ^ 32 = subst (λ (n : ℕ). n < 2 ^ 32) c.image_seq.ensures c.image_seq.type_inv in
     let planned = plan_frugal image c.page.ensures.limits made.from made.attached narrow c.args.id c.args.lnum c.args.new.now made.volume made.there made.allowed in
     (made.from, made.attached, subst (IsFrugal image.sizes (eraseblocks image) made.from c.args.id c.args.lnum c.args.new.now) (sym made.plan) planned)
