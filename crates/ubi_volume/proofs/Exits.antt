@@ -1,18 +1,14 @@
 -- How an attach ends, by what its parts answered.
-use Rattle.std.proofs.Common.{inl, inr, List, sym, subst}
+use Rattle.std.proofs.Common.{List, sym, subst}
 use Rattle.std.specs.Prelude.{IfErr, Result, Ok, Err}
 use Rattle.std.specs.Result.{IsErrAnd}
-use Rattle.ubi_media.specs.declared.refusal.AttachError.{AttachError}
-use Rattle.ubi_media.specs.declared.refusal.AttachError.TheVariants as attach
-use Rattle.ubi_media.specs.declared.refusal.Refusal.{Refusal}
 use Rattle.ubi_scan.specs.Faults.{NoFault}
 use Rattle.ubi_scan.specs.Image.{Image, IsWhole, eraseblocks}
 use Rattle.ubi_scan.specs.Scan.{Found, IsScan}
 use Rattle.ubi_table.specs.Records.{Records}
-use Rattle.ubi_table.specs.Table.{IsTable, IsTableError}
-use Rattle.ubi_volume.specs.Accepts.{IsAttachError, Refuses}
+use Rattle.ubi_table.specs.Table.{IsTable}
 use Rattle.ubi_volume.specs.Attached.{IsAttached}
-use Rattle.ubi_volume.specs.Counted.{IsVolumeFault, NoMismatch}
+use Rattle.ubi_volume.specs.Counted.{NoMismatch}
 use Rattle.ubi_volume.specs.Means.{Means}
 use Rattle.ubi_volume.specs.Meant.{Meant}
 use Rattle.ubi_volume.specs.States.{AreStates}
@@ -25,13 +21,6 @@ passed_on (Ok x) P Q f h = tt
 passed_on (Err e) P Q f h = f e h
 
 module _ (image : Image) (whole : IsWhole image) (clean : NoFault image.sizes (eraseblocks image)) where
-  pub table_refused : (e : AttachError) → IsTableError image.sizes (eraseblocks image) e → IsAttachError image e
-  table_refused attach.Memory h = tt
-  table_refused (attach.Refused c) h = inr (whole, inr (inl (clean, h)))
-
-  pub volume_refused : (t : Records) (c : Refusal) → IsTable image.sizes (eraseblocks image) t → IsVolumeFault image.sizes (eraseblocks image) t c → Refuses image c
-  volume_refused t c is h = inr (whole, inr (inr (clean, t, is, h)))
-
   pub attached : (found : Found) (t : Records) (m : Meant) (states : List BlockState) → IsScan image.sizes (eraseblocks image) found → IsTable image.sizes (eraseblocks image) t
       → NoMismatch image.sizes (eraseblocks image) t → Means image.sizes (eraseblocks image) t m → AreStates image.sizes (eraseblocks image) t states
       → IsAttached image (record { meaning = m; scan = found; states = states })

@@ -27,6 +27,7 @@ pub mod Shares
 pub mod SomeContent
 pub mod SomeMismatch
 pub mod Static
+pub mod SurveyKnown
 pub mod SurveyOf
 pub mod Tables
 pub mod VolumeAt

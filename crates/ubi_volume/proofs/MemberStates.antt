@@ -31,11 +31,11 @@ module _ (s : Sizes) (bs : List (List ℕ)) (t : Records) (p : ℕ) where
     moved : (P : Leb → Type 0) (of : Leb) → IsMember s bs of p → P of → P (leb_of h)
     moved P of m x = subst P (named_by s bs of p h m e) x
 
-    pub winner_state : (of : Leb) → Wins s bs of p → (b : BlockState) → MemberStateIs t (leb_of h) true b → StateIs s bs t p b
+    winner_state : (of : Leb) → Wins s bs of p → (b : BlockState) → MemberStateIs t (leb_of h) true b → StateIs s bs t p b
     winner_state of w b k =
         by_leb (leb_of h) (moved (λ of. IsMember s bs of p) of w.member w.member) true (λ e. moved (λ of. Wins s bs of p) of w.member w) (λ e. absurd (cc)) b k
 
-    pub beaten_state : (of : Leb) → IsMember s bs of p → (Wins s bs of p → ⊥) → (b : BlockState) → MemberStateIs t (leb_of h) false b → StateIs s bs t p b
+    beaten_state : (of : Leb) → IsMember s bs of p → (Wins s bs of p → ⊥) → (b : BlockState) → MemberStateIs t (leb_of h) false b → StateIs s bs t p b
     beaten_state of m l b k =
         by_leb (leb_of h) (moved (λ of. IsMember s bs of p) of m m) false (λ e. absurd (cc)) (λ e. moved (λ of. Wins s bs of p → ⊥) of m l) b k
 

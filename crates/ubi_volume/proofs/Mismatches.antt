@@ -1,5 +1,5 @@
 -- Winners that are unlike their records, by their headers.
-use Rattle.std.proofs.Common.{◌≡◌, ℕ, ◌+◌, ◌<◌, ◌⊎◌, inl, inr, Bool, false, List, length, ap, sym, ◌∙◌, subst, arith}
+use Rattle.std.proofs.Common.{◌≡◌, ℕ, ◌+◌, ◌<◌, ◌⊎◌, inl, inr, Bool, false, List, ap, sym, ◌∙◌, subst, arith}
 use Rattle.std.specs.Prelude.{◌↔◌, IsTrue, Some, None}
 use Rattle.std.specs.FinMap as finite
 use Rattle.ubi_media.specs.Geometry.{Sizes}
@@ -57,6 +57,3 @@ module _ (s : Sizes) (bs : List (List ℕ)) (t : Records) where
     | inl less ↦ below q less m
     | inr same ↦ not_true b e (h.1 (subst (IsMismatched s bs t) same m))
   ]
-
-  pub none_at_all : (n : ℕ) → n ≡ length bs → NoneBelow n → (p : ℕ) → IsMismatched s bs t p → ⊥
-  none_at_all n e below p m = below p (let i = m.2.wins.member.inside in omega arith) m

@@ -4,8 +4,8 @@ ghost use Rattle.std.specs.Prelude.{◌≡◌, ◌<◌, Some, length, slice_get}
 ghost use Rattle.std.specs.FinMap as finite;
 
 use crate::meaning::Meaning;
+use crate::surveying::Surveyed;
 use std::marker::Model;
-use ubi_scan::Scan;
 
 /// What an attach says of an eraseblock.
 #[derive(Clone, Copy, Debug, PartialEq, Eq)]
@@ -34,8 +34,7 @@ pub enum BlockState {
 #[derive(Drop)]
 pub struct Attached {
     pub(crate) meaning: Meaning,
-    pub(crate) scan: Scan,
-    pub(crate) states: Vec<BlockState>,
+    pub(crate) surveyed: Surveyed,
 }
 
 impl Model for Attached {
@@ -46,7 +45,7 @@ impl Model for Attached {
 
     ghost coded = { whole_code };
 
-    ghost view = { λ a. record { meaning = a.meaning; scan = a.scan; states = a.states.items } };
+    ghost view = { λ a. record { meaning = a.meaning; scan = a.surveyed.scan; states = a.surveyed.states } };
 }
 
 impl Attached {
@@ -61,7 +60,7 @@ impl Attached {
     pub fn states(&self) -> &[BlockState]
         ensures { result.now ≡ self.now.states }
     {
-        self.states.as_slice()
+        self.surveyed.states()
     }
 
     /// What is said of an eraseblock.
@@ -69,34 +68,34 @@ impl Attached {
         requires { p < length self.now.states }
         ensures { slice_get self.now.states p ≡ Some result }
     {
-        self.states[p as usize]
+        self.surveyed.state(p)
     }
 
     /// The eraseblock that wins a logical eraseblock of a volume, None where it has no member.
     pub fn winner(&self, vol: u32, lnum: u32) -> Option<u32>
         ensures { result ≡ finite.get self.now.scan.winners (vol, lnum) }
     {
-        self.scan.winner(vol, lnum)
+        self.surveyed.winner(vol, lnum)
     }
 
     /// The greatest sequence number of a member or a dropped eraseblock, 0 if there is none.
     pub fn top_sqnum(&self) -> u64
         ensures { result ≡ self.now.scan.top_sqnum }
     {
-        self.scan.top_sqnum()
+        self.surveyed.top_sqnum()
     }
 
     /// The image sequence number: the first one that isn't zero, 0 if there is none.
     pub fn image_seq(&self) -> u32
         ensures { result ≡ self.now.scan.image_seq }
     {
-        self.scan.image_seq()
+        self.surveyed.image_seq()
     }
 
     /// The mean of the erase counters that can be read, rounded down, 0 if there are none.
     pub fn mean_ec(&self) -> u32
         ensures { result ≡ self.now.scan.mean_ec }
     {
-        self.scan.mean_ec()
+        self.surveyed.mean_ec()
     }
 }

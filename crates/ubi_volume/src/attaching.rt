@@ -6,12 +6,10 @@ ghost use Rattle.ubi_volume.specs.Attached.{IsAttached};
 
 use crate::attached::Attached;
 use crate::gathering::gather;
-use crate::mismatch::check_winners;
-use crate::states::states_of;
+use crate::surveying::survey;
 use std::alloc::Global;
 use ubi_media::{AttachError, Geometry};
-use ubi_scan::{Blocks, scan};
-use ubi_table::choose;
+use ubi_scan::Blocks;
 
 /// Attaches an image: finds what it means, and the state of each of its eraseblocks.
 ///
@@ -24,14 +22,7 @@ pub fn attach(alloc: Global, geometry: &Geometry, image: &[u8]) -> Result<Attach
     ensures refused { IfErr result (IsAttachError (record { sizes = geometry.now; bytes = image.now })) }
 {
     let blocks = Blocks::new(geometry, image)?;
-    let found = scan(alloc, &blocks)?;
-    let table = choose(alloc, &blocks, &found)?;
-    check_winners(&blocks, &found, &table)?;
-    let meaning = gather(alloc, &blocks, &found, &table)?;
-    let states = states_of(alloc, &blocks, &found, &table)?;
-    Ok(Attached {
-        meaning,
-        scan: found,
-        states,
-    })
+    let surveyed = survey(alloc, geometry, image)?;
+    let meaning = gather(alloc, &blocks, surveyed.scan(), surveyed.table())?;
+    Ok(Attached { meaning, surveyed })
 }

@@ -48,6 +48,13 @@ impl Surveyed {
         &self.table
     }
 
+    /// What the scan found.
+    pub(crate) fn scan(&self) -> &Scan
+        ensures { result.now ≡ self.now.scan }
+    {
+        &self.scan
+    }
+
     /// What is said of each eraseblock, by rising number.
     pub fn states(&self) -> &[BlockState]
         ensures { result.now ≡ self.now.states }
