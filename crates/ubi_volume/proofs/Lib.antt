@@ -1,12 +1,12 @@
 pub mod Alike
 pub mod Arranged
+pub mod AttachedOf
 pub mod Blanks
 pub mod CaseSizes
 pub mod Causes
 pub mod Dynamic
 pub mod Either
 pub mod Equal
-pub mod Exits
 pub mod Extracted
 pub mod FirstCause
 pub mod Gathered

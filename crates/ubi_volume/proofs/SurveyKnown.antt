@@ -11,7 +11,7 @@ use Rattle.ubi_volume.specs.Means.{Means}
 use Rattle.ubi_volume.specs.Meant.{Meant}
 use Rattle.ubi_volume.specs.States.{AreStates}
 use Rattle.ubi_volume.specs.Survey.{IsSurvey, Seen}
-use Rattle.ubi_volume.proofs.Exits.{attached}
+use Rattle.ubi_volume.proofs.AttachedOf.{attached}
 use Rattle.ubi_volume.proofs.Recorded.{records_meant}
 
 module _ (image : Image) (seen : Seen) (is : IsSurvey image seen) where

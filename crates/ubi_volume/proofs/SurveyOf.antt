@@ -14,8 +14,8 @@ use Rattle.ubi_volume.specs.Counted.{NoMismatch}
 use Rattle.ubi_volume.specs.Places.{ArePlacesError}
 use Rattle.ubi_volume.specs.Survey.{AreStatesOf, IsStatesError, IsSurvey, IsSurveyOf}
 use Rattle.ubi_volume.specs.declared.attached.BlockState.{BlockState}
+use Rattle.ubi_volume.proofs.AttachedOf.{attached}
 use Rattle.ubi_volume.proofs.Either.{are_lebs, some_meaning}
-use Rattle.ubi_volume.proofs.Exits.{attached}
 use Rattle.ubi_volume.proofs.Recorded.{records_meant}
 
 pub states_refused : (s : Sizes) (k : Source) (e : StreamError) → IsStatesError (blocks_in s k) e → ArePlacesError s k e

@@ -1,5 +1,6 @@
 use Rattle.std.proofs.Common.{◌≡◌, ◌^◌, ◌<◌, ℕ, ap, sym, subst, ◌∙◌}
 use Rattle.std.specs.Prelude.{None, Some}
+use Rattle.std.proofs.lemmas.Result.{err_from_is_err_and}
 use Rattle.std.specs.FinMap.{get}
 use Rattle.ubi_media.specs.Record.{data_pad}
 use Rattle.ubi_scan.specs.Image.{Image, eraseblocks}
@@ -7,7 +8,6 @@ use Rattle.ubi_volume.specs.Attached.{IsAttached, Whole}
 use Rattle.ubi_table.specs.Records.{Records}
 use Rattle.ubi_volume.specs.Survey.{IsSurvey}
 use Rattle.ubi_volume.specs.declared.content.Volume.{Volume}
-use Rattle.ubi_volume.proofs.Exits.{passed_on}
 use Rattle.ubi_change.specs.Cuts.{SurvivesCuts}
 use Rattle.ubi_change.specs.Making.{ArePlaces, AreWithin, image_causes, own_causes, steps_on}
 use Rattle.ubi_change.specs.Planned.{IsPlan}
@@ -61,7 +61,8 @@ returns-in_err-places-clause-refused c =
     subst (λ (z : Image). first_of (image_causes z.sizes (eraseblocks z) a c.args.id c.args.lnum) ≡ Some c.in_err-places.field-0.0) c.in_ok-blocks.ensures.ok cause in
     let stands : IsChangeRefusal image c.args.id c.args.lnum c.args.new.now c.in_err-places.field-0.0 =
     image_stands image a is.attached c.args.id c.args.lnum c.args.new.now v there (sym own) c.in_err-places.field-0.0 here in
-    passed_on c.from_residual-in_err-places.result _ _ (λ e same. subst (IsChangeRefusal image c.args.id c.args.lnum c.args.new.now) (sym same) stands) c.from_residual-in_err-places.ensures.1
+    let p = err_from_is_err_and c.from_residual-in_err-places.result c.from_residual-in_err-places.ensures.1 in
+    rw (p.1, p.2) stands
 
 pub data_pad-requires : goal.data_pad-requires
 data_pad-requires c =

@@ -1,7 +1,5 @@
--- How an attach ends, by what its parts answered.
+-- What attaching an image gives, by what its parts answered.
 use Rattle.std.proofs.Common.{List, sym, subst}
-use Rattle.std.specs.Prelude.{IfErr, Result, Ok, Err}
-use Rattle.std.specs.Result.{IsErrAnd}
 use Rattle.ubi_scan.specs.Faults.{NoFault}
 use Rattle.ubi_scan.specs.Image.{Image, IsWhole, eraseblocks}
 use Rattle.ubi_scan.specs.Scan.{Found, IsScan}
@@ -14,11 +12,6 @@ use Rattle.ubi_volume.specs.Meant.{Meant}
 use Rattle.ubi_volume.specs.States.{AreStates}
 use Rattle.ubi_volume.specs.declared.attached.BlockState.{BlockState}
 use Rattle.ubi_volume.proofs.Recorded.{records_meant}
-
--- an error that is passed on
-pub passed_on : {T E : Type 0} (r : Result T E) (P Q : E → Type 0) → ((e : E) → P e → Q e) → IsErrAnd r P → IfErr r Q
-passed_on (Ok x) P Q f h = tt
-passed_on (Err e) P Q f h = f e h
 
 module _ (image : Image) (whole : IsWhole image) (clean : NoFault image.sizes (eraseblocks image)) where
   pub attached : (found : Found) (t : Records) (m : Meant) (states : List BlockState) → IsScan image.sizes (eraseblocks image) found → IsTable image.sizes (eraseblocks image) t
