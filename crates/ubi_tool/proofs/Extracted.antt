@@ -1,8 +1,10 @@
 -- What was extracted where the command did its work, or where a write failed.
-use Rattle.std.proofs.Common.{◌≡◌, ℕ, List, ap, refl, length, sym, ◌∙◌, subst, arith}
+use Rattle.std.proofs.Common.{◌≡◌, ℕ, List, ap, refl, length, sym, zero-add, ◌∙◌, subst, arith}
+use Rattle.std.proofs.lemmas.Result.{IfErr-at_err, IfOk-at_ok}
 use Rattle.std.specs.FinMap.{get}
 use Rattle.std.specs.Option.{option_map_or}
-use Rattle.std.specs.Prelude.{Option, Some, None, Result, Ok, Err}
+use Rattle.std.specs.Prelude.{IfErr, IfOk, MatchResult, Option, Some, None, Result, Ok, Err, codes}
+use Rattle.std.specs.declared.alloc.AllocError.{AllocError}
 use Rattle.std.specs.Result.{result_map_both}
 use Rattle.ubi_media.specs.Geometry.{Sizes}
 use Rattle.ubi_scan.specs.Image.{Image}
@@ -13,23 +15,23 @@ use Rattle.ubi_volume.specs.declared.content.Content.TheVariants as content
 use Rattle.ubi_volume.specs.declared.content.Volume.{Volume}
 use Rattle.ubi_volume.specs.declared.errors.ReadError.{ReadError}
 use Rattle.ubi_volume.specs.declared.errors.ReadError.TheVariants as error
-use Rattle.ubi_tool.specs.Extract.{Extracts, HasFirst, IsExtractError, IsUntold, IsVolumeError, ReadsVolume, accepted, read, read_refusal, refused, unread}
+use Rattle.ubi_tool.specs.Extract.{Extracts, ExtractsFrom, ExtractsSource, HasFirst, HasText, IsExtractError, IsExtractFault, IsUntold, IsVolumeError, ReadsVolume, accepted, read, read_refusal, refused, refused_from, unread, unread_from, wrote}
 use Rattle.std.proofs.lemmas.List.{take_all}
 use Rattle.std.specs.Io.KnownBytes.{Appends, Keeps}
-use Rattle.ubi_scan.specs.Source.{Source}
+use Rattle.ubi_scan.specs.Source.{Source, WhereHeld}
 use Rattle.ubi_volume.specs.Extract.{read_text}
 use Rattle.ubi_volume.specs.Places.{ArePlaces, Placed}
-use Rattle.ubi_volume.specs.Wrote.{All, First, NotAll, Wrote}
+use Rattle.ubi_volume.specs.Wrote.{All, First, NotAll, Wanted, Wrote}
+use Rattle.ubi_compose.specs.Streamed.{HasGot}
 use Rattle.ubi_tool.specs.Answer.{Gives, says}
-use Rattle.ubi_tool.specs.Lines.{bytes_line}
+use Rattle.ubi_tool.specs.Lines.{bytes_line, file_line}
+use Rattle.ubi_tool.specs.AfterRun.{after_run}
+use Rattle.ubi_tool.specs.Streams.{IsEnded}
+use Rattle.ubi_tool.proofs.Ended.{ends}
 use Rattle.ubi_tool.specs.declared.outcome.Outcome.{Outcome}
 use Rattle.ubi_tool.specs.declared.outcome.ToolError.{ToolError}
 use Rattle.ubi_tool.specs.declared.outcome.ToolError.TheVariants as tool
 use Rattle.ubi_tool.proofs.Outcomes.{not_both}
-
--- a text that a volume of the image's meaning reads
-abbrev pub HasText : Image → ℕ → Type 0
-HasText image id = (m : Meant) × (text : List ℕ) × Accepts image m × (read_volume m id ≡ Ok text)
 
 volume_text : (m : Meant) (id : ℕ) (old new : Option (List ℕ)) (o : Outcome) → ReadsVolume m id old new o → o.status ≡ 0
     → (text : List ℕ) × (read_volume m id ≡ Ok text)
@@ -106,15 +108,40 @@ has_text : (r : Result (List ℕ) ReadError) (n : ℕ) → Ok n ≡ result_map_b
 has_text (Ok text) n h = (text, refl, cc)
 has_text (Err e) n h = absurd (cc)
 
+-- what a writer received, whatever the source holds
+pub received : (k : Source) (old new : Option (List ℕ)) (wanted : Wanted) (many : ℕ → ℕ → Type 0) (n : ℕ) → Wrote k old new wanted many 0 n → HasGot old new n
+received k old new wanted many n w = (w.bytes, sym (w.count ∙ zero-add (length w.bytes)), w.got)
+
+-- of any source likewise
+from_unknown : (s : Sizes) (k : Source) (new : Option (List ℕ)) (o : Outcome) → ExtractsFrom s k None new o → ExtractsFrom s k None None o
+from_unknown s k new o (wrote n got line) = wrote n (got.0, got.1, tt) line
+from_unknown s k new o (unread_from e line kept) = unread_from e line tt
+from_unknown s k new o (refused_from c h line kept) = refused_from c h line tt
+
+-- what is answered of a source into a file, once the work is over
+pub into_file : (s : Sizes) (k after : Source) (id : ℕ) (path out : List ℕ) (new : Option (List ℕ)) (answer : Result Outcome ToolError)
+    (no_source no_output : Outcome) (r : Result Outcome AllocError) → MatchResult r (IsEnded answer no_source no_output) (λ _. answer ≡ Err tool.Memory)
+    → IfOk answer (ExtractsFrom s k None new) → IfOk answer (λ o. WhereHeld k (λ bytes. Extracts (record { sizes = s; bytes = bytes }) id None new o))
+    → IfErr answer (IsExtractFault s k id None new) → after ≡ after_run k answer
+    → Gives no_source (says (file_line (codes "cannot read ") path) 1) → Gives no_output (says (file_line (codes "cannot write ") out) 1)
+    → IfOk r (ExtractsSource s k after id path out)
+into_file s k after id path out new answer no_source no_output r ended ok image err known source output =
+    ends answer k after path out _ _ no_source no_output r ended
+    (λ o is. (from_unknown s k new o (IfOk-at_ok _ is ok), λ bytes holds. of_unknown _ id new o (IfOk-at_ok _ is image bytes holds)))
+    (λ o is zero bytes holds. done_text _ id None new o (IfOk-at_ok _ is image bytes holds) zero)
+    (λ is bytes holds. failed_text _ id None new (IfErr-at_err _ is err bytes holds))
+    known source output
+
 -- what a writer received of a volume of a source, by the places of its LEBs
 module _ (s : Sizes) (k : Source) (bytes : List ℕ) (holds : k.held ≡ Some bytes) (p : Placed) (h : ArePlaces (record { sizes = s; bytes = bytes }) p)
     (id len : ℕ) (is : Ok len ≡ volume_len h.meaning id) (old new : Option (List ℕ)) (n : ℕ) where
-  pub places_read : (o : Outcome) → Wrote k old new (read_text s p id) All 0 n → Gives o (says (bytes_line len) 0) → Extracts (record { sizes = s; bytes = bytes }) id old new o
+  pub places_read : (o : Outcome) → Wrote k old new (read_text s p id) All 0 n → Gives o (says (bytes_line n) 0) → Extracts (record { sizes = s; bytes = bytes }) id old new o
   places_read o w gives =
       let t = has_text (read_volume h.meaning id) len is in
       let got = w.held bytes holds t.0 (h, t.1) in
       let whole : w.bytes ≡ t.0 = got.1 ∙ take_all (length w.bytes) t.0 (let e = got.0 in omega arith) in
-      accepted h.meaning h.accepted (read t.0 t.1 (subst (λ (l : ℕ). Gives o (says (bytes_line l) 0)) t.2 gives) (subst (λ (x : List ℕ). Appends old new x) whole w.got))
+      let count : n ≡ length t.0 = w.count ∙ zero-add (length w.bytes) ∙ ap length whole in
+      accepted h.meaning h.accepted (read t.0 t.1 (subst (λ (l : ℕ). Gives o (says (bytes_line l) 0)) count gives) (subst (λ (x : List ℕ). Appends old new x) whole w.got))
 
   pub places_cut : Wrote k old new (read_text s p id) NotAll 0 n → IsExtractError (record { sizes = s; bytes = bytes }) id old new tool.Write
   places_cut w =

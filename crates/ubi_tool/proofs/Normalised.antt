@@ -1,10 +1,12 @@
 -- What a normalising of a source tells of an image whose bytes are known, and over files.
 use Rattle.std.proofs.Common.{◌≡◌, ℕ, ◌/◌, List, ap, inl, inr, length, refl, subst, sym, ◌∙◌}
-use Rattle.std.specs.Prelude.{Option, Some, None}
+use Rattle.std.proofs.lemmas.Result.{IfErr-at_err, IfOk-at_ok}
+use Rattle.std.specs.Prelude.{IfErr, IfOk, MatchResult, Option, Result, Some, None, Err, codes}
+use Rattle.std.specs.declared.alloc.AllocError.{AllocError}
 use Rattle.ubi_media.specs.Geometry.{IsGeometry, Sizes}
 use Rattle.ubi_media.specs.declared.refusal.Refusal.{Refusal}
 use Rattle.ubi_scan.specs.Image.{Image, IsLengthFault, IsWholeSize}
-use Rattle.ubi_scan.specs.Source.{IsSource, Source, memory, unheld}
+use Rattle.ubi_scan.specs.Source.{IsSource, Source, WhereHeld}
 use Rattle.ubi_scan.specs.declared.errors.StreamError.TheVariants as stream
 use Rattle.ubi_volume.specs.Accepts.{Accepts, Refuses}
 use Rattle.ubi_volume.specs.Meant.{Meant}
@@ -12,11 +14,15 @@ use Rattle.ubi_volume.specs.Places.{ArePlacesError}
 use Rattle.ubi_compose.specs.Normal.{normal_blocks}
 use Rattle.ubi_compose.specs.Streamed.{IsStreamed}
 use Rattle.ubi_compose.proofs.Form.{count-normal_bytes}
+use Rattle.ubi_tool.specs.AfterRun.{after_run}
 use Rattle.ubi_tool.specs.Answer.{Gives, says}
-use Rattle.ubi_tool.specs.Lines.{blocks_line}
-use Rattle.ubi_tool.specs.Normalise.{IsNormaliseError, Normalises, NormalisesTo, accepted, refused, wrote, wrote_nothing}
+use Rattle.ubi_tool.specs.Lines.{blocks_line, file_line}
+use Rattle.ubi_tool.specs.Normalise.{IsNormaliseError, Normalises, NormalisesSource, NormalisesTo, accepted, refused, wrote, wrote_nothing}
+use Rattle.ubi_tool.specs.Streams.{IsEnded}
 use Rattle.ubi_tool.specs.declared.outcome.Outcome.{Outcome}
+use Rattle.ubi_tool.specs.declared.outcome.ToolError.{ToolError}
 use Rattle.ubi_tool.specs.declared.outcome.ToolError.TheVariants as tool
+use Rattle.ubi_tool.proofs.Ended.{ends}
 use Rattle.ubi_tool.proofs.Outcomes.{not_both}
 
 -- the image of some sizes and bytes
@@ -50,20 +56,31 @@ pub done_image : (image : Image) (old new : Option (List ℕ)) (o : Outcome) →
 done_image image old new o (accepted m a line written) done = (m, a)
 done_image image old new o (refused c h line kept) done = absurd (not_both o done line.status)
 
--- and so is that of a write that failed
-pub failed_image : (s : Sizes) (bytes : List ℕ) (old new : Option (List ℕ))
-    → IsNormaliseError s (memory bytes) old new tool.Write → (m : Meant) × Accepts (image_of s bytes) m
-failed_image s bytes old new h = (let cut = h.1.1 bytes refl in (cut.meaning, cut.accepted))
-
 -- of a writer whose bytes weren't known before nothing is told behind
 pub of_unknown : (image : Image) (new : Option (List ℕ)) (o : Outcome) → Normalises image None new o
     → Normalises image None None o
 of_unknown image new o (accepted m a line written) = accepted m a line tt
 of_unknown image new o (refused c h line kept) = refused c h line tt
 
--- of any source likewise, where its bytes aren't known
-pub to_unknown : (s : Sizes) (size failures : ℕ) (new : Option (List ℕ)) (o : Outcome)
-    → NormalisesTo s (unheld size failures) None new o → NormalisesTo s (unheld size failures) None None o
-to_unknown s size failures new o (wrote n h line) =
-    wrote n (record { got = (h.got.0, h.got.1, tt); held = λ bytes is. absurd cc }) line
-to_unknown s size failures new o (wrote_nothing c h line kept) = wrote_nothing c h line tt
+-- of any source likewise
+streamed_to_unknown : (image : Image) (new : Option (List ℕ)) (n : ℕ) → IsStreamed image None new n → IsStreamed image None None n
+streamed_to_unknown image new n h = record { meaning = h.meaning; accepted = h.accepted; count = h.count; written = tt }
+
+to_unknown : (s : Sizes) (k : Source) (new : Option (List ℕ)) (o : Outcome) → NormalisesTo s k None new o → NormalisesTo s k None None o
+to_unknown s k new o (wrote n h line) =
+    wrote n (record { got = (h.got.0, h.got.1, tt); held = λ bytes is. streamed_to_unknown (image_of s bytes) new n (h.held bytes is) }) line
+to_unknown s k new o (wrote_nothing c h line kept) = wrote_nothing c h line tt
+
+-- what is answered of a source into a file, once the work is over
+pub into_file : (s : Sizes) (k after : Source) (path out : List ℕ) (new : Option (List ℕ)) (answer : Result Outcome ToolError) (unread unwritten : Outcome)
+    (r : Result Outcome AllocError) → MatchResult r (IsEnded answer unread unwritten) (λ _. answer ≡ Err tool.Memory)
+    → IfOk answer (NormalisesTo s k None new) → IfOk answer (λ o. WhereHeld k (λ bytes. Normalises (image_of s bytes) None new o))
+    → IfErr answer (IsNormaliseError s k None new) → after ≡ after_run k answer
+    → Gives unread (says (file_line (codes "cannot read ") path) 1) → Gives unwritten (says (file_line (codes "cannot write ") out) 1)
+    → IfOk r (NormalisesSource s k after path out)
+into_file s k after path out new answer unread unwritten r ended ok image err known no_source no_output =
+    ends answer k after path out _ _ unread unwritten r ended
+    (λ o is. (to_unknown s k new o (IfOk-at_ok _ is ok), λ bytes holds. of_unknown (image_of s bytes) new o (IfOk-at_ok _ is image bytes holds)))
+    (λ o is zero bytes holds. done_image (image_of s bytes) None new o (IfOk-at_ok _ is image bytes holds) zero)
+    (λ is bytes holds. let cut = (IfErr-at_err _ is err).1.1 bytes holds in (cut.meaning, cut.accepted))
+    known no_source no_output

@@ -5,13 +5,17 @@ use Rattle.ubi_media.specs.declared.refusal.Refusal.{Refusal}
 use Rattle.ubi_media.specs.Geometry.{Sizes}
 use Rattle.ubi_scan.specs.Image.{Image}
 use Rattle.ubi_scan.specs.Source.{Source, WhereHeld}
+use Rattle.ubi_scan.specs.declared.errors.StreamError.TheVariants as stream
 use Rattle.ubi_volume.specs.Accepts.{Accepts, Refuses}
 use Rattle.ubi_volume.specs.Meant.{Meant}
+use Rattle.ubi_volume.specs.Places.{ArePlacesError}
 use Rattle.ubi_volume.specs.Reading.{read_volume}
 use Rattle.ubi_volume.specs.declared.errors.ReadError.{ReadError}
 use Rattle.ubi_volume.specs.declared.errors.ReadError.TheVariants as error
+use Rattle.ubi_compose.specs.Streamed.{HasGot}
 use Rattle.ubi_tool.specs.Answer.{Gives, says}
 use Rattle.ubi_tool.specs.Lines.{bytes_line, file_line, read_line, refusal_line}
+use Rattle.ubi_tool.specs.Streams.{Streams}
 use Rattle.ubi_tool.specs.declared.outcome.Outcome.{Outcome}
 use Rattle.ubi_tool.specs.declared.outcome.ToolError.{ToolError}
 use Rattle.ubi_tool.specs.declared.outcome.ToolError.TheVariants as tool
@@ -34,14 +38,14 @@ abbrev pub IsUntold : ReadError → ToolError → Type 0
 IsUntold e tool.Memory = Unit {0}
 IsUntold e fault = read_refusal e ≡ Err fault
 
--- what is answered of a volume of a meaning: the line of the refusal to read it, and the writer has got nothing; or how
--- many bytes it reads, and the writer has got them
+-- what is answered of a volume of a meaning: the line of the refusal to read it, and the writer received nothing; or how
+-- many bytes it reads, and the writer received them
 pub data ReadsVolume (m : Meant) (id : ℕ) (old new : Option (List ℕ)) : Outcome → Type 0 where
   unread : {o : Outcome} (e : ReadError) → read_volume m id ≡ Err e → IsUnread e o → Keeps old new → ReadsVolume m id old new o
   read : {o : Outcome} (text : List ℕ) → read_volume m id ≡ Ok text → Gives o (says (bytes_line (length text)) 0)
       → Appends old new text → ReadsVolume m id old new o
 
--- why nothing is answered of it: memory ran out, and the writer has got nothing; or a write failed, and it has got the
+-- why nothing is answered of it: memory ran out, and the writer received nothing; or a write failed, and it received the
 -- first n bytes and not all
 abbrev pub IsVolumeError : Meant → ℕ → Option (List ℕ) → Option (List ℕ) → ToolError → Type 0
 IsVolumeError m id old new tool.Memory = Keeps old new
@@ -49,8 +53,8 @@ IsVolumeError m id old new tool.Write =
     (text : List ℕ) × (n : ℕ) × (read_volume m id ≡ Ok text) × (n < length text) × Appends old new (take n text)
 IsVolumeError m id old new tool.Read = ⊥
 
--- what the command answers of an image: that of the volume of its meaning, or the line of its refusal, and the writer has
--- got nothing
+-- what the command answers of an image: that of the volume of its meaning, or the line of its refusal, and the writer
+-- received nothing
 pub data Extracts (image : Image) (id : ℕ) (old new : Option (List ℕ)) : Outcome → Type 0 where
   accepted : {o : Outcome} (m : Meant) → Accepts image m → ReadsVolume m id old new o → Extracts image id old new o
   refused : {o : Outcome} (c : Refusal) → Refuses image c → Gives o (says (refusal_line c) 1) → Keeps old new
@@ -66,15 +70,34 @@ abbrev pub HasFirst : Image → ℕ → Option (List ℕ) → Option (List ℕ) 
 HasFirst image id old new =
     (m : Meant) × Accepts image m × (text : List ℕ) × (n : ℕ) × (read_volume m id ≡ Ok text) × (n ≤ length text) × Appends old new (take n text)
 
--- why it answers nothing of a source: memory ran out, and the writer has got nothing; or, where its bytes are known, a
+-- why it answers nothing of a source: memory ran out, and the writer received nothing; or, where its bytes are known, a
 -- read failed, before anything was written or after the first of the text, or a write, as over the bytes
 abbrev pub IsExtractFault : Sizes → Source → ℕ → Option (List ℕ) → Option (List ℕ) → ToolError → Type 0
 IsExtractFault s k id old new tool.Memory = Keeps old new
 IsExtractFault s k id old new tool.Read = Keeps old new ⊎ WhereHeld k (λ bytes. HasFirst (record { sizes = s; bytes = bytes }) id old new)
 IsExtractFault s k id old new tool.Write = WhereHeld k (λ bytes. IsExtractError (record { sizes = s; bytes = bytes }) id old new tool.Write)
 
--- what it answers over files, whose bytes nothing tells: the same, or the line of an output that can't be written
+-- what it answers of any source: how many bytes the writer received; or the line of a refusal, of the image or to read the
+-- volume, and the writer received nothing
+pub data ExtractsFrom (s : Sizes) (k : Source) (old new : Option (List ℕ)) : Outcome → Type 0 where
+  wrote : {o : Outcome} (n : ℕ) → HasGot old new n → Gives o (says (bytes_line n) 0) → ExtractsFrom s k old new o
+  unread_from : {o : Outcome} (e : ReadError) → IsUnread e o → Keeps old new → ExtractsFrom s k old new o
+  refused_from : {o : Outcome} (c : Refusal) → ArePlacesError s k (stream.Refused c) → Gives o (says (refusal_line c) 1) → Keeps old new
+      → ExtractsFrom s k old new o
+
+-- what a volume of the image's meaning reads
+abbrev pub HasText : Image → ℕ → Type 0
+HasText image id = (m : Meant) × (text : List ℕ) × Accepts image m × (read_volume m id ≡ Ok text)
+
+-- what it answers of an image into a file, of whose bytes nothing is known: the same, or the line of an output that can't be
+-- written
 pub data ExtractsInto (id : ℕ) (out : List ℕ) (image : Image) : Outcome → Type 0 where
   written : {o : Outcome} → Extracts image id None None o → ExtractsInto id out image o
-  unwritten : {o : Outcome} (m : Meant) (text : List ℕ) → Accepts image m → read_volume m id ≡ Ok text
-      → Gives o (says (file_line (codes "cannot write ") out) 1) → ExtractsInto id out image o
+  unwritten : {o : Outcome} → HasText image id → Gives o (says (file_line (codes "cannot write ") out) 1) → ExtractsInto id out image o
+
+-- what it answers of a source into such a file
+abbrev pub ExtractsSource : Sizes → Source → Source → ℕ → List ℕ → List ℕ → Outcome → Type 0
+ExtractsSource s k after id path out =
+    Streams k after path out
+    (λ o. ExtractsFrom s k None None o × WhereHeld k (λ bytes. Extracts (record { sizes = s; bytes = bytes }) id None None o))
+    (WhereHeld k (λ bytes. HasText (record { sizes = s; bytes = bytes }) id))

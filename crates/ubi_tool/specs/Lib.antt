@@ -16,3 +16,4 @@ pub mod Program
 pub mod Read
 pub mod Same
 pub mod Show
+pub mod Streams

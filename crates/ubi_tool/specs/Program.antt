@@ -3,17 +3,19 @@ use Rattle.std.specs.Prelude.{◌≡◌, ℕ, ◌*◌, ◌+◌, ◌≤◌, List,
 use Rattle.ubi_media.specs.Geometry.{Sizes, first_broken}
 use Rattle.ubi_media.specs.declared.geometry.GeometryError.{GeometryError}
 use Rattle.ubi_scan.specs.Image.{Image}
+use Rattle.ubi_scan.specs.Source.{Source}
 use Rattle.ubi_tool.specs.Answer.{Gives, says}
 use Rattle.ubi_tool.specs.Change.{ChangesInto}
 use Rattle.ubi_tool.specs.Check.{Checks}
 use Rattle.ubi_tool.specs.Compose.{ComposesInto}
-use Rattle.ubi_tool.specs.Extract.{ExtractsInto}
+use Rattle.ubi_tool.specs.Extract.{ExtractsFrom, ExtractsInto}
 use Rattle.ubi_tool.specs.Lines.{file_line, geometry_line}
 use Rattle.ubi_tool.specs.List.{Lists}
-use Rattle.ubi_tool.specs.Normalise.{NormalisesFile, NormalisesInto}
+use Rattle.ubi_tool.specs.Normalise.{NormalisesInto, NormalisesTo}
 use Rattle.ubi_tool.specs.Numbers.{sizes_of}
 use Rattle.ubi_tool.specs.Same.{Compares}
 use Rattle.ubi_tool.specs.Show.{Shows}
+use Rattle.ubi_tool.specs.Streams.{OfPlaces}
 use Rattle.ubi_tool.specs.declared.image_file.Unread.{Unread}
 use Rattle.ubi_tool.specs.declared.image_file.Unread.TheVariants as unread
 use Rattle.ubi_tool.specs.declared.numbers.Numbers.{Numbers}
@@ -54,12 +56,12 @@ pub data OfText (numbers : Numbers) (path : List ℕ) (answers : Sizes → List 
   text : {o : Outcome} (bytes : List ℕ) → first_broken (sizes_of numbers) ≡ None → length bytes ≤ text_limit (sizes_of numbers)
       → answers (sizes_of numbers) bytes o → OfText numbers path answers o
 
--- what normalising one file into another can answer: that of an image that was read whole, or that of a file that is
--- read at places
-pub data NormalisesFiles (numbers : Numbers) (path out : List ℕ) : Outcome → Type 0 where
-  whole : {o : Outcome} → OfImage numbers path (NormalisesInto out) o → NormalisesFiles numbers path out o
-  places : {o : Outcome} → first_broken (sizes_of numbers) ≡ None → NormalisesFile (sizes_of numbers) path out o
-      → NormalisesFiles numbers path out o
+-- what a command can answer that reads an image file while it writes another: that of an image that was read whole, or that
+-- of a file that is read at places
+pub data OfFile (numbers : Numbers) (path out : List ℕ) (answers : Image → Outcome → Type 0) (streams : Sizes → Source → Outcome → Type 0) : Outcome → Type 0 where
+  whole : {o : Outcome} → OfImage numbers path answers o → OfFile numbers path out answers streams o
+  places : {o : Outcome} → first_broken (sizes_of numbers) ≡ None → OfPlaces path out (streams (sizes_of numbers)) o
+      → OfFile numbers path out answers streams o
 
 -- once the file of an outcome is written, if it has one: the outcome, or the line of a file that can't be written
 pub data IsWritten (path : List ℕ) (outcome : Outcome) : Outcome → Type 0 where
@@ -72,10 +74,12 @@ pub data IsAnswer : Outcome → Type 0 where
   list : {o : Outcome} (numbers : Numbers) (path : List ℕ) → OfImage numbers path Lists o → IsAnswer o
   check : {o : Outcome} (numbers : Numbers) (path : List ℕ) → OfImage numbers path Checks o → IsAnswer o
   show : {o : Outcome} (numbers : Numbers) (path : List ℕ) (p : ℕ) → OfImage numbers path (λ i. Shows i p) o → IsAnswer o
-  extract : {o : Outcome} (numbers : Numbers) (path out : List ℕ) (id : ℕ) → OfImage numbers path (ExtractsInto id out) o → IsAnswer o
+  extract : {o : Outcome} (numbers : Numbers) (path out : List ℕ) (id : ℕ)
+      → OfFile numbers path out (ExtractsInto id out) (λ s k. ExtractsFrom s k None None) o → IsAnswer o
   compose : {o : Outcome} (numbers : Numbers) (path out : List ℕ) (spares : ℕ)
       → OfText numbers path (λ s t. ComposesInto out s t spares) o → IsAnswer o
-  normalise : {o : Outcome} (numbers : Numbers) (path out : List ℕ) → NormalisesFiles numbers path out o → IsAnswer o
+  normalise : {o : Outcome} (numbers : Numbers) (path out : List ℕ)
+      → OfFile numbers path out (NormalisesInto out) (λ s k. NormalisesTo s k None None) o → IsAnswer o
   same : {o : Outcome} (numbers : Numbers) (left right : List ℕ) → OfImage numbers left (λ i. OfImage numbers right (Compares i)) o → IsAnswer o
   change : {o : Outcome} (numbers : Numbers) (path from out : List ℕ) (id lnum : ℕ) (stop : Option ℕ)
       → OfImage numbers path (λ i. OfImage numbers from (λ f. ChangesInto id lnum f.bytes stop out i)) o → IsAnswer o

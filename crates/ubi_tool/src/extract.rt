@@ -4,9 +4,9 @@ ghost use Rattle.std.specs.Prelude.{◌≡◌, IfErr, IfOk};
 ghost use Rattle.std.specs.Result.{result_map_both};
 ghost use Rattle.ubi_scan.specs.Source.{WhereHeld};
 ghost use Rattle.ubi_tool.specs.AfterRun.{after_run};
-ghost use Rattle.ubi_tool.specs.Extract.{Extracts, IsExtractError, IsExtractFault, IsUnread, IsUntold, read_refusal};
+ghost use Rattle.ubi_tool.specs.Extract.{Extracts, ExtractsFrom, IsExtractError, IsExtractFault, IsUnread, IsUntold, read_refusal};
 
-use crate::lines::{bytes_line, read_line, refusal_line};
+use crate::lines::{LONGEST_COUNT_LINE, put_bytes_line, read_line, refusal_line};
 use crate::outcome::{DONE, FAILED, Outcome, ToolError};
 use std::alloc::Global;
 use std::io::Write;
@@ -41,9 +41,17 @@ fn unread(alloc: Global, error: ReadError) -> Result<Outcome, ToolError>
     Ok(Outcome::saying(read_line(alloc, name)?, FAILED))
 }
 
-/// Writes what a volume of a source reads. At most an eraseblock of contents is held, and all memory is taken before the
-/// first byte is written.
-fn extract<S: BlockSource, W: Write>(
+/// Writes what the volume `id` of a source reads, and answers how many bytes that are. At most an eraseblock of contents is
+/// held.
+///
+/// An image that is refused, or a volume that can't be read, is answered with the line of its refusal; nothing is written
+/// then. The room for the answer is taken before the first byte is written.
+///
+/// # Errors
+///
+/// Read where a read failed, and Write where a write failed: the writer received the first of the bytes then, or nothing.
+/// Memory where memory ran out, and nothing is written then.
+pub fn run_extract_from<S: BlockSource, W: Write>(
     alloc: Global,
     geometry: &Geometry,
     source: &mut S,
@@ -51,9 +59,11 @@ fn extract<S: BlockSource, W: Write>(
     writer: &mut W,
 ) -> Result<Outcome, ToolError>
     ensures known { S.known source.new ≡ after_run (S.known source.old) result }
-    ensures ok { IfOk result (λ o. WhereHeld (S.known source.old) (λ bytes. Extracts (record { sizes = geometry.now; bytes = bytes }) id (W.contents writer.old) (W.contents writer.new) o)) }
+    ensures ok { IfOk result (ExtractsFrom geometry.now (S.known source.old) (W.contents writer.old) (W.contents writer.new)) }
+    ensures image { IfOk result (λ o. WhereHeld (S.known source.old) (λ bytes. Extracts (record { sizes = geometry.now; bytes = bytes }) id (W.contents writer.old) (W.contents writer.new) o)) }
     ensures err { IfErr result (IsExtractFault geometry.now (S.known source.old) id (W.contents writer.old) (W.contents writer.new)) }
 {
+    let mut line = Vec::with_capacity(alloc, LONGEST_COUNT_LINE)?;
     let places = match attach_places(alloc, geometry, source) {
         Ok(places) => places,
         Err(StreamError::Refused(cause)) => {
@@ -63,14 +73,16 @@ fn extract<S: BlockSource, W: Write>(
         Err(StreamError::Write(_)) => return Err(ToolError::Write),
         Err(StreamError::Memory) => return Err(ToolError::Memory),
     };
-    let len = match places_len(geometry, &places, id) {
-        Ok(len) => len,
+    match places_len(geometry, &places, id) {
+        Ok(_) => {}
         Err(error) => return unread(alloc, error),
-    };
-    let text = bytes_line(alloc, len)?;
+    }
     let mut buffer = Vec::from_elem(alloc, 0u8, geometry.peb_size() as usize)?;
     match write_places(geometry, source, &places, id, buffer.as_mut_slice(), writer) {
-        Ok(_) => Ok(Outcome::saying(text, DONE)),
+        Ok(count) => {
+            put_bytes_line(&mut line, count)?;
+            Ok(Outcome::saying(line, DONE))
+        }
         Err(StreamError::Read(_, _)) => Err(ToolError::Read),
         Err(StreamError::Write(_)) => Err(ToolError::Write),
         // Nothing is refused any more, and all memory was taken.
@@ -85,7 +97,7 @@ fn extract<S: BlockSource, W: Write>(
 ///
 /// # Errors
 ///
-/// Write where a write failed: the writer has got the first of the bytes then. Memory where memory ran out, and nothing
+/// Write where a write failed: the writer received the first of the bytes then. Memory where memory ran out, and nothing
 /// is written then.
 pub fn run_extract<W: Write>(
     alloc: Global,
@@ -98,7 +110,7 @@ pub fn run_extract<W: Write>(
     ensures err { IfErr result (IsExtractError (record { sizes = geometry.now; bytes = image.now }) id (W.contents writer.old) (W.contents writer.new)) }
 {
     let mut source = MemorySource::new(image);
-    match extract(alloc, geometry, &mut source, id, writer) {
+    match run_extract_from(alloc, geometry, &mut source, id, writer) {
         Ok(outcome) => Ok(outcome),
         // Reading memory doesn't fail.
         Err(ToolError::Read) => unreachable!(),

@@ -1,6 +1,6 @@
 //! Printed lines.
 
-ghost use Rattle.std.specs.Prelude.{◌≡◌, ◌+◌, ◌++◌, ◌≤◌, IfOk, IsOk, OnOk, codes, decimal, vec_capacity, vec_len};
+ghost use Rattle.std.specs.Prelude.{◌≡◌, ◌+◌, ◌++◌, ◌≤◌, IfOk, IsOk, OnOk, codes, decimal, length, vec_capacity, vec_len};
 ghost use Rattle.std.specs.List.{flat_map};
 ghost use Rattle.ubi_tool.specs.Lines.{blocks_line, bytes_line, comparison_line, detail_text, ec_fault_name, file_line, geometry_line, no_block_line, read_line, rec_fault_name, refusal_line, refused, side_line, vid_fault_name};
 
@@ -227,18 +227,31 @@ pub fn read_line(alloc: Global, name: &str) -> Result<Vec<u8>, AllocError>
     refused(alloc, name, &[])
 }
 
-/// The line of a number of bytes.
-pub fn bytes_line(alloc: Global, count: u64) -> Result<Vec<u8>, AllocError>
-    ensures { IfOk result (λ text. text.items ≡ bytes_line count) }
+/// The bytes of the longest line of a count: its word, twenty digits and the line's end.
+pub const LONGEST_COUNT_LINE: usize = 28;
+
+/// Adds a word, a number and the end of a line. Where there is room for the longest number, it takes no memory.
+fn put_count_line(text: &mut Vec<u8>, word: &[u8], count: u64) -> Result<(), AllocError>
+    ensures line { OnOk result (text.new.items ≡ text.old.items ++ (word.now ++ decimal count ++ codes "\n")) }
+    ensures room { vec_len text.old + length word.now + 21 ≤ vec_capacity text.old → IsOk result }
 {
-    let mut text = Vec::new(alloc);
-    put_number(&mut text, "bytes ", count)?;
-    put_word(&mut text, "\n")?;
-    Ok(text)
+    let mut buffer = Buffer::new();
+    text.extend_from_slice(word)?;
+    text.extend_from_slice(buffer.format(count).as_bytes())?;
+    text.extend_from_slice(b"\n")
 }
 
-/// The bytes of the longest line of a number of eraseblocks: its word, twenty digits and the line's end.
-pub const LONGEST_BLOCKS_LINE: usize = 28;
+/// Adds the line of a number of bytes. Where there is room for the longest one, it takes no memory.
+///
+/// # Errors
+///
+/// Memory ran out.
+pub fn put_bytes_line(text: &mut Vec<u8>, count: u64) -> Result<(), AllocError>
+    ensures line { OnOk result (text.new.items ≡ text.old.items ++ bytes_line count) }
+    ensures room { vec_len text.old + 28 ≤ vec_capacity text.old → IsOk result }
+{
+    put_count_line(text, b"bytes ", count)
+}
 
 /// Adds the line of a number of eraseblocks. Where there is room for the longest one, it takes no memory.
 ///
@@ -249,10 +262,7 @@ pub fn put_blocks_line(text: &mut Vec<u8>, count: u64) -> Result<(), AllocError>
     ensures line { OnOk result (text.new.items ≡ text.old.items ++ blocks_line count) }
     ensures room { vec_len text.old + 28 ≤ vec_capacity text.old → IsOk result }
 {
-    let mut buffer = Buffer::new();
-    text.extend_from_slice(b"blocks ")?;
-    text.extend_from_slice(buffer.format(count).as_bytes())?;
-    text.extend_from_slice(b"\n")
+    put_count_line(text, b"blocks ", count)
 }
 
 /// The line of a number of eraseblocks.

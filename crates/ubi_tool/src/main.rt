@@ -28,6 +28,7 @@ mod read;
 mod same;
 mod show;
 mod spec_file;
+mod streaming;
 mod words;
 
 use outcome::WRONG_WORDS;

@@ -5,7 +5,7 @@ ghost use Rattle.ubi_scan.specs.Source.{WhereHeld};
 ghost use Rattle.ubi_tool.specs.AfterRun.{after_run};
 ghost use Rattle.ubi_tool.specs.Normalise.{IsNormaliseError, Normalises, NormalisesTo};
 
-use crate::lines::{LONGEST_BLOCKS_LINE, put_blocks_line, refusal_line};
+use crate::lines::{LONGEST_COUNT_LINE, put_blocks_line, refusal_line};
 use crate::outcome::{DONE, FAILED, Outcome, ToolError};
 use std::alloc::Global;
 use std::io::Write;
@@ -33,7 +33,7 @@ pub fn run_normalise<S: BlockSource, W: Write>(
     ensures image { IfOk result (λ o. WhereHeld (S.known source.old) (λ bytes. Normalises (record { sizes = geometry.now; bytes = bytes }) (W.contents writer.old) (W.contents writer.new) o)) }
     ensures err { IfErr result (IsNormaliseError geometry.now (S.known source.old) (W.contents writer.old) (W.contents writer.new)) }
 {
-    let mut line = Vec::with_capacity(alloc, LONGEST_BLOCKS_LINE)?;
+    let mut line = Vec::with_capacity(alloc, LONGEST_COUNT_LINE)?;
     match normalise_to(alloc, geometry, source, writer) {
         Ok(count) => {
             put_blocks_line(&mut line, count / u64::from(geometry.peb_size()))?;

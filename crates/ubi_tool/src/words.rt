@@ -5,10 +5,8 @@ ghost use Rattle.std.specs.Prelude.{◌≡◌, ◌↔◌, IfOk, IsErr};
 ghost use Rattle.ubi_tool.specs.Change.{ChangesInto};
 ghost use Rattle.ubi_tool.specs.Check.{Checks};
 ghost use Rattle.ubi_tool.specs.Compose.{ComposesInto};
-ghost use Rattle.ubi_tool.specs.Extract.{ExtractsInto};
 ghost use Rattle.ubi_tool.specs.List.{Lists};
-ghost use Rattle.ubi_tool.specs.Normalise.{NormalisesFile, NormalisesInto};
-ghost use Rattle.ubi_tool.specs.Program.{IsAnswer, NormalisesFiles, OfImage, OfText};
+ghost use Rattle.ubi_tool.specs.Program.{IsAnswer, OfImage, OfText};
 ghost use Rattle.ubi_tool.specs.Same.{Compares};
 ghost use Rattle.ubi_tool.specs.Show.{Shows};
 
@@ -16,26 +14,20 @@ use crate::change::run_change;
 use crate::check::run_check;
 use crate::command_line::{Change, Request, command_line, request_of};
 use crate::compose::run_compose;
-use crate::extract::run_extract;
-use crate::image_file::{limit_line, load, unread_line};
-use crate::image_source::source_of;
-use crate::late_file::LateFile;
+use crate::image_file::load;
 use crate::list::run_list;
-use crate::normalise::run_normalise;
-use crate::numbers::{Numbers, geometry_of};
-use crate::outcome::{DONE, Outcome, ToolError, WRONG_WORDS};
-use crate::output_file::{unwritten, write_outcome};
-use crate::progress::Told;
+use crate::numbers::Numbers;
+use crate::outcome::{Outcome, WRONG_WORDS};
+use crate::output_file::write_outcome;
 use crate::same::run_same;
 use crate::show::run_show;
 use crate::spec_file::load_spec;
+use crate::streaming::{extract_file, normalise_file};
 use clap::Error;
 use clap::error::ErrorKind;
 use std::alloc::{AllocError, Global};
 use std::fs::Files;
 use std::os::unix::fs::FileExt;
-use ubi_media::Geometry;
-use ubi_scan::{BlockSource, FileSource, MemorySource};
 
 /// Runs the command that the words name, over files. The first word is the program's name. Where somebody watches the
 /// standard error, it is told there how far long work is.
@@ -173,32 +165,6 @@ fn show_file<R: Files>(
     }
 }
 
-/// Extracts a volume of one file into another, which is opened at the first write, or once the work is done.
-fn extract_file<R: Files>(
-    rt: &R,
-    alloc: Global,
-    numbers: Numbers,
-    image: &str,
-    id: u32,
-    out: &str,
-) -> Result<Outcome, AllocError>
-    ensures { IfOk result (OfImage numbers image.now (ExtractsInto id out.now)) }
-{
-    let file = match load(rt, alloc, numbers, image) {
-        Ok(file) => file,
-        Err(unread) => return unread.answer(),
-    };
-    // Made before the output is opened, so that no part of it is written where memory runs out.
-    let unwritten = unwritten(alloc, out)?;
-    let mut late = LateFile::new(rt, out);
-    match run_extract(alloc, &file.geometry, file.bytes.as_slice(), id, &mut late) {
-        Ok(outcome) if outcome.status == DONE && late.finish().is_err() => Ok(unwritten),
-        Ok(outcome) => Ok(outcome),
-        Err(ToolError::Write) => Ok(unwritten),
-        Err(_) => Err(AllocError),
-    }
-}
-
 /// Composes the image that a text file describes, into another file.
 fn compose_file<R: Files>(
     rt: &R,
@@ -216,85 +182,6 @@ fn compose_file<R: Files>(
     };
     match run_compose(alloc, &file.geometry, file.text.as_slice(), spares) {
         Ok(outcome) => write_outcome(rt, alloc, outcome, out),
-        Err(_) => Err(AllocError),
-    }
-}
-
-/// Normalises one file into another, which is opened at the first write. The image is read at places, or whole where
-/// that can't be or where it may be the output too.
-fn normalise_file<R: Files + Eprint>(
-    rt: &R,
-    alloc: Global,
-    numbers: Numbers,
-    image: &str,
-    out: &str,
-    is_watched: bool,
-) -> Result<Outcome, AllocError>
-where
-    R::File: FileExt,
-    ensures { IfOk result (NormalisesFiles numbers image.now out.now) }
-{
-    let geometry = match geometry_of(numbers) {
-        Ok(geometry) => geometry,
-        Err(limit) => return limit_line(alloc, limit),
-    };
-    match source_of(rt, image, out) {
-        Some(source) => normalise_places(rt, alloc, &geometry, source, image, out, is_watched),
-        None => normalise_whole(rt, alloc, numbers, image, out),
-    }
-}
-
-/// Normalises a file that is read at places.
-fn normalise_places<R: Files + Eprint>(
-    rt: &R,
-    alloc: Global,
-    geometry: &Geometry,
-    mut source: FileSource<R::File>,
-    image: &str,
-    out: &str,
-    is_watched: bool,
-) -> Result<Outcome, AllocError>
-where
-    R::File: FileExt,
-    ensures { IfOk result (NormalisesFile geometry.now image.now out.now) }
-{
-    // Made before the output is opened, so that no part of it is written where memory runs out.
-    let unread = unread_line(alloc, image)?;
-    let unwritten = unwritten(alloc, out)?;
-    let mut told = Told::new(rt, LateFile::new(rt, out), source.len(), is_watched);
-    let answer = run_normalise(alloc, geometry, &mut source, &mut told);
-    told.clear();
-    match answer {
-        Ok(outcome) if outcome.status == DONE && told.writer.finish().is_err() => Ok(unwritten),
-        Ok(outcome) => Ok(outcome),
-        Err(ToolError::Read) => Ok(unread),
-        Err(ToolError::Write) => Ok(unwritten),
-        Err(ToolError::Memory) => Err(AllocError),
-    }
-}
-
-/// Normalises a file that is read whole.
-fn normalise_whole<R: Files>(
-    rt: &R,
-    alloc: Global,
-    numbers: Numbers,
-    image: &str,
-    out: &str,
-) -> Result<Outcome, AllocError>
-    ensures { IfOk result (OfImage numbers image.now (NormalisesInto out.now)) }
-{
-    let file = match load(rt, alloc, numbers, image) {
-        Ok(file) => file,
-        Err(unread) => return unread.answer(),
-    };
-    // Made before the output is opened, so that no part of it is written where memory runs out.
-    let unwritten = unwritten(alloc, out)?;
-    let mut late = LateFile::new(rt, out);
-    let mut source = MemorySource::new(file.bytes.as_slice());
-    match run_normalise(alloc, &file.geometry, &mut source, &mut late) {
-        Ok(outcome) if outcome.status == DONE && late.finish().is_err() => Ok(unwritten),
-        Ok(outcome) => Ok(outcome),
-        Err(ToolError::Write) => Ok(unwritten),
         Err(_) => Err(AllocError),
     }
 }

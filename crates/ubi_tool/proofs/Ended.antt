@@ -1,0 +1,55 @@
+-- How work ends that reads a source while it writes a file.
+use Rattle.std.proofs.Common.{◌≡◌, ℕ, List, ap, arith, subst, sym, ◌∙◌}
+use Rattle.std.specs.Prelude.{IfOk, MatchResult, Result, Ok, Err, codes}
+use Rattle.std.specs.declared.alloc.AllocError.{AllocError}
+use Rattle.ubi_scan.specs.Source.{Source, memory, unheld}
+use Rattle.ubi_tool.specs.AfterRun.{after_run}
+use Rattle.ubi_tool.specs.Answer.{Gives, says}
+use Rattle.ubi_tool.specs.Lines.{file_line}
+use Rattle.ubi_tool.specs.Streams.{IsEnded, OfPlaces, Streams, answered, cannot_read, cannot_write, done, no_output, no_read, no_source, no_write, told, unopened}
+use Rattle.ubi_tool.specs.declared.outcome.Outcome.{Outcome}
+use Rattle.ubi_tool.specs.declared.outcome.ToolError.{ToolError}
+use Rattle.ubi_tool.specs.declared.outcome.ToolError.TheVariants as tool
+
+-- work that failed ends so
+pub after_error : (answer : Result Outcome ToolError) (e : ToolError) (unread unwritten : Outcome) (r : Result Outcome AllocError) → answer ≡ Err e
+    → MatchResult r (IsEnded (Err e) unread unwritten) (λ _. e ≡ tool.Memory)
+    → MatchResult r (IsEnded answer unread unwritten) (λ _. answer ≡ Err tool.Memory)
+after_error answer e unread unwritten (Ok o) is h = subst (λ (a : Result Outcome ToolError). IsEnded a unread unwritten o) (sym is) h
+after_error answer e unread unwritten (Err x) is h = is ∙ ap Err h
+
+module _ (answer : Result Outcome ToolError) (k after : Source) (path out : List ℕ) (answers : Outcome → Type 0) (writes : Type 0) (unread unwritten : Outcome) where
+  ends_in : (o : Outcome) → IsEnded answer unread unwritten o → ((d : Outcome) → answer ≡ Ok d → answers d)
+      → ((d : Outcome) → answer ≡ Ok d → d.status ≡ 0 → writes) → (answer ≡ Err tool.Write → writes) → after ≡ after_run k answer
+      → Gives unread (says (file_line (codes "cannot read ") path) 1) → Gives unwritten (says (file_line (codes "cannot write ") out) 1)
+      → Streams k after path out answers writes o
+  ends_in o (done is) ok late failed known source output = answered (ok o is)
+  ends_in o (unopened d is zero) ok late failed known source output = no_output (late d is zero) output
+  ends_in o (no_read is) ok late failed known source output = no_source (known ∙ ap (after_run k) is) source
+  ends_in o (no_write is) ok late failed known source output = no_output (failed is) output
+
+  -- the work's answer, and what was to be written where the file failed
+  pub ends : (r : Result Outcome AllocError) → MatchResult r (IsEnded answer unread unwritten) (λ _. answer ≡ Err tool.Memory)
+      → ((d : Outcome) → answer ≡ Ok d → answers d) → ((d : Outcome) → answer ≡ Ok d → d.status ≡ 0 → writes) → (answer ≡ Err tool.Write → writes)
+      → after ≡ after_run k answer → Gives unread (says (file_line (codes "cannot read ") path) 1)
+      → Gives unwritten (says (file_line (codes "cannot write ") out) 1) → IfOk r (Streams k after path out answers writes)
+  ends (Ok o) h ok late failed known source output = ends_in o h ok late failed known source output
+  ends (Err e) h ok late failed known source output = tt
+
+-- over a file of which nothing is known
+pub at_places : (size failures : ℕ) (after : Source) (path out : List ℕ) (answers : Outcome → Type 0) (writes : Type 0) (streams : Source → Outcome → Type 0)
+    (o : Outcome) → ((d : Outcome) → answers d → streams (unheld size failures) d) → Streams (unheld size failures) after path out answers writes o
+    → OfPlaces path out streams o
+at_places size failures after path out answers writes streams o f (answered h) = told size failures (f o h)
+at_places size failures after path out answers writes streams o f (no_source is line) = cannot_read line
+at_places size failures after path out answers writes streams o f (no_output h line) = cannot_write line
+
+-- over bytes in memory, whose reads don't fail
+pub in_memory : (bytes later path out : List ℕ) (answers : Outcome → Type 0) (writes : Type 0) (into : Outcome → Type 0) (o : Outcome)
+    → ((d : Outcome) → answers d → into d)
+    → ((d : Outcome) → writes → Gives d (says (file_line (codes "cannot write ") out) 1) → into d)
+    → Streams (memory bytes) (memory later) path out answers writes o → into o
+in_memory bytes later path out answers writes into o f g (answered h) = f o h
+in_memory bytes later path out answers writes into o f g (no_source is line) =
+    let e = ap (λ (k : Source). k.failures) is in absurd (omega (arith, e))
+in_memory bytes later path out answers writes into o f g (no_output h line) = g o h line

@@ -1,0 +1,166 @@
+//! The commands that read an image while they write a file.
+//!
+//! The image is read at places; or whole, where that can't be or where it may be the output too.
+
+ghost use Rattle.std.specs.Prelude.{◌≡◌, Err, IfOk, MatchResult};
+ghost use Rattle.ubi_scan.specs.Source.{WhereHeld};
+ghost use Rattle.ubi_tool.specs.Extract.{ExtractsFrom, ExtractsInto, ExtractsSource, HasText};
+ghost use Rattle.ubi_tool.specs.Normalise.{NormalisesInto, NormalisesSource, NormalisesTo};
+ghost use Rattle.ubi_tool.specs.Program.{OfFile};
+ghost use Rattle.ubi_tool.specs.Streams.{IsEnded, Streams};
+
+use crate::extract::run_extract_from;
+use crate::image_file::{limit_line, load, unread_line};
+use crate::image_source::source_of;
+use crate::late_file::LateFile;
+use crate::normalise::run_normalise;
+use crate::numbers::{Numbers, geometry_of};
+use crate::outcome::{DONE, Outcome, ToolError};
+use crate::output_file::unwritten;
+use crate::progress::Told;
+use std::alloc::{AllocError, Global};
+use std::fs::Files;
+use std::os::unix::fs::FileExt;
+use ubi_media::Geometry;
+use ubi_scan::{BlockSource, MemorySource};
+
+/// The line of the file that failed.
+///
+/// # Errors
+///
+/// Memory ran out.
+fn failed(error: ToolError, unread: Outcome, unwritten: Outcome) -> Result<Outcome, AllocError>
+    ensures { MatchResult result (IsEnded (Err error) unread unwritten) (λ _. error ≡ ToolError.Memory) }
+{
+    match error {
+        ToolError::Read => Ok(unread),
+        ToolError::Write => Ok(unwritten),
+        ToolError::Memory => Err(AllocError),
+    }
+}
+
+/// What is answered once the work into a file is over: its outcome; or the line of the file that failed. Where there was
+/// nothing to write, the file is opened now.
+///
+/// # Errors
+///
+/// Memory ran out while the work was done.
+fn ended<R: Files>(
+    answer: Result<Outcome, ToolError>,
+    late: &mut LateFile<'_, R>,
+    unread: Outcome,
+    unwritten: Outcome,
+) -> Result<Outcome, AllocError>
+    ensures { MatchResult result (IsEnded answer unread unwritten) (λ _. answer ≡ Err ToolError.Memory) }
+{
+    match answer {
+        Ok(outcome) if outcome.status == DONE && late.finish().is_err() => Ok(unwritten),
+        Ok(outcome) => Ok(outcome),
+        Err(error) => failed(error, unread, unwritten),
+    }
+}
+
+/// Normalises a source into a file, which is opened at the first write.
+fn normalise<R: Files + Eprint, S: BlockSource>(
+    rt: &R,
+    alloc: Global,
+    geometry: &Geometry,
+    source: &mut S,
+    image: &str,
+    out: &str,
+    is_watched: bool,
+) -> Result<Outcome, AllocError>
+    ensures { IfOk result (NormalisesSource geometry.now (S.known source.old) (S.known source.new) image.now out.now) }
+{
+    // Made before the output is opened, so that no part of it is written where memory runs out.
+    let unread = unread_line(alloc, image)?;
+    let unwritten = unwritten(alloc, out)?;
+    let mut told = Told::new(rt, LateFile::new(rt, out), source.len(), is_watched);
+    let answer = run_normalise(alloc, geometry, source, &mut told);
+    told.clear();
+    ended(answer, &mut told.writer, unread, unwritten)
+}
+
+/// Normalises one file into another.
+pub fn normalise_file<R: Files + Eprint>(
+    rt: &R,
+    alloc: Global,
+    numbers: Numbers,
+    image: &str,
+    out: &str,
+    is_watched: bool,
+) -> Result<Outcome, AllocError>
+where
+    R::File: FileExt,
+    ensures { IfOk result (OfFile numbers image.now out.now (NormalisesInto out.now) (λ s k. NormalisesTo s k None None)) }
+{
+    let geometry = match geometry_of(numbers) {
+        Ok(geometry) => geometry,
+        Err(limit) => return limit_line(alloc, limit),
+    };
+    if let Some(mut source) = source_of(rt, image, out) {
+        return normalise(rt, alloc, &geometry, &mut source, image, out, is_watched);
+    }
+    let file = match load(rt, alloc, numbers, image) {
+        Ok(file) => file,
+        Err(unread) => return unread.answer(),
+    };
+    let mut source = MemorySource::new(file.bytes.as_slice());
+    normalise(
+        rt,
+        alloc,
+        &file.geometry,
+        &mut source,
+        image,
+        out,
+        is_watched,
+    )
+}
+
+/// Extracts a volume of a source into a file, which is opened at the first write, or once the work is done.
+fn extract<R: Files, S: BlockSource>(
+    rt: &R,
+    alloc: Global,
+    geometry: &Geometry,
+    source: &mut S,
+    image: &str,
+    id: u32,
+    out: &str,
+) -> Result<Outcome, AllocError>
+    ensures { IfOk result (ExtractsSource geometry.now (S.known source.old) (S.known source.new) id image.now out.now) }
+{
+    // Made before the output is opened, so that no part of it is written where memory runs out.
+    let unread = unread_line(alloc, image)?;
+    let unwritten = unwritten(alloc, out)?;
+    let mut late = LateFile::new(rt, out);
+    let answer = run_extract_from(alloc, geometry, source, id, &mut late);
+    ended(answer, &mut late, unread, unwritten)
+}
+
+/// Extracts a volume of one file into another.
+pub fn extract_file<R: Files>(
+    rt: &R,
+    alloc: Global,
+    numbers: Numbers,
+    image: &str,
+    id: u32,
+    out: &str,
+) -> Result<Outcome, AllocError>
+where
+    R::File: FileExt,
+    ensures { IfOk result (OfFile numbers image.now out.now (ExtractsInto id out.now) (λ s k. ExtractsFrom s k None None)) }
+{
+    let geometry = match geometry_of(numbers) {
+        Ok(geometry) => geometry,
+        Err(limit) => return limit_line(alloc, limit),
+    };
+    if let Some(mut source) = source_of(rt, image, out) {
+        return extract(rt, alloc, &geometry, &mut source, image, id, out);
+    }
+    let file = match load(rt, alloc, numbers, image) {
+        Ok(file) => file,
+        Err(unread) => return unread.answer(),
+    };
+    let mut source = MemorySource::new(file.bytes.as_slice());
+    extract(rt, alloc, &file.geometry, &mut source, image, id, out)
+}
