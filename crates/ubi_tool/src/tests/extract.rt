@@ -178,3 +178,35 @@ fn tells_of_an_output_that_fails(rt: HostRuntime) -> Result<(), Fail> {
     )?;
     assert_over(&rt, alloc, (empty, Broken::OpenWrite), line, cannot, &[])
 }
+
+#[test]
+fn reads_a_file_at_places(rt: HostRuntime) -> Result<(), Fail> {
+    let alloc = rt.alloc();
+    let image = root_image(alloc, &small()?)?;
+    let text = root_text();
+    let line = "extract a.img --id 0 --out b.img";
+    let unread = ("cannot read a.img\n", 1);
+    // Of the last eraseblock the headers can be read.
+    let broken = Broken::Read(ErrorKind::Other, 2048 + 128);
+    let start = text.get(..768).ok_or("short")?;
+    assert_over(&rt, alloc, (image.as_slice(), broken), line, unread, start)?;
+    let broken = Broken::Read(ErrorKind::Other, 2048 + 127);
+    assert_over(&rt, alloc, (image.as_slice(), broken), line, unread, &[])?;
+    // Where the output may be the image, that is read whole before. A whole read fails here.
+    let over: (&[u8], Broken) = (&[0xFF; 1536], Broken::Whole);
+    let line = "extract a.img --id 0 --out a.img";
+    assert_over(&rt, alloc, over, line, unread, &[])
+}
+
+#[test]
+fn extracts_a_file_onto_itself(rt: HostRuntime) -> Result<(), Fail> {
+    let alloc = rt.alloc();
+    let image = root_image(alloc, &small()?)?;
+    fs::write(&rt, "extracted_onto.img", image.as_slice())?;
+    let line = "extract extracted_onto.img --id 0 --out ./extracted_onto.img";
+    assert_line(&rt, alloc, line, "bytes 7680\n", 0)?;
+    let read = fs::read(&rt, "extracted_onto.img")?;
+    assert_eq!(rt; read.as_slice(), root_text().as_slice());
+    fs::remove_file(&rt, "extracted_onto.img")?;
+    Ok(())
+}
