@@ -131,7 +131,7 @@ module _ (s : Sizes) (p : Placed) (image : List ℕ) (places : ArePlaces (record
             (w.0, w.1, w.2, omega (arith, few, count, inside))
       ]
 
-      piece_is : leb_bytes s (share_len size bytes n) (finite.get p.winners (id, n)) image ≡ share size t n
+      pub piece_is : leb_bytes s (share_len size bytes n) (finite.get p.winners (id, n)) image ≡ share size t n
       piece_is = by_place (finite.get p.winners (id, n)) (places.winners (id, n))
         where
           share_is : (q : ℕ) → Wins s bs (id, n) q → share size t n ≡ take (share_len size bytes n) (leb s (block bs q))
@@ -164,7 +164,7 @@ module _ (s : Sizes) (p : Placed) (image : List ℕ) (places : ArePlaces (record
     dynamic_reads : (r.marker ≡ false) × (r.kind ≡ kind.Dynamic) × ((lnum : ℕ) → lnum < r.reserved → LebReads s bs id r lnum (unwrap_or (finite.get l lnum) (blank size)))
     dynamic_reads = subst (VolumeReads s bs id r) is (reads_of s p image places id r recorded v at).1
 
-    leb_is : (n : ℕ) → n < r.reserved → leb_bytes s (share_len size (r.reserved * size) n) (finite.get p.winners (id, n)) image ≡ leb_text size (finite.get l n)
+    pub leb_is : (n : ℕ) → n < r.reserved → leb_bytes s (share_len size (r.reserved * size) n) (finite.get p.winners (id, n)) image ≡ leb_text size (finite.get l n)
     leb_is n inside =
         let room : (n + 1) * size ≤ r.reserved * size = mul-le (n + 1) size r.reserved size (omega arith) (omega arith) in
         let next : (n + 1) * size ≡ n * size + size = omega arith in

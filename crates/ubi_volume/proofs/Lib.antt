@@ -1,4 +1,5 @@
 pub mod Alike
+pub mod AmountAt
 pub mod Arranged
 pub mod AttachedOf
 pub mod Blanks

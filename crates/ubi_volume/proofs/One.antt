@@ -71,7 +71,7 @@ module _ (s : Sizes) (bs : List (List ℕ)) (clean : NoFault s bs) (vol : ℕ) (
   static_unique x y (inr a) (inl b) = absurd (none_and_whole a.0 b.0 a.1)
   static_unique x y (inr a) (inr b) = a.2 ∙ ap (flat_map (piece s bs)) (whole_unique a.0 b.0 a.1 b.1) ∙ sym b.2
 
-  reads_unique : (x y : Content) → VolumeReads s bs vol r x → VolumeReads s bs vol r y → Fits s r x → Fits s r y → KeepsNoBlank s r x → KeepsNoBlank s r y → x ≡ y
+  pub reads_unique : (x y : Content) → VolumeReads s bs vol r x → VolumeReads s bs vol r y → Fits s r x → Fits s r y → KeepsNoBlank s r x → KeepsNoBlank s r y → x ≡ y
   reads_unique content.Updating content.Updating h k f g u v = refl
   reads_unique content.Updating content.Damaged h k f g u v = let e = k.0 in absurd (cc)
   reads_unique content.Updating (content.Static y) h k f g u v = let e = k.0 in absurd (cc)

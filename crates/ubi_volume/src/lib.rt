@@ -8,6 +8,7 @@
 //! source ([`write_places`]).
 #![tactic(auto)]
 
+mod amounts;
 mod attached;
 mod attaching;
 mod cases;
@@ -15,6 +16,7 @@ mod checking;
 mod content;
 mod errors;
 mod extracting;
+mod fetching;
 mod gathering;
 pub mod laws;
 mod length;
@@ -30,11 +32,13 @@ mod static_text;
 mod surveying;
 mod writing;
 
+pub use amounts::{Amount, amount_of};
 pub use attached::{Attached, BlockState};
 pub use attaching::attach;
 pub use content::{Bytes, Content, Lebs, Volume};
 pub use errors::{MeaningCause, MeaningError, ReadError};
 pub use extracting::{places_len, write_places};
+pub use fetching::read_place;
 pub use length::volume_len;
 pub use meaning::Meaning;
 pub use output::write_all;

@@ -1,3 +1,4 @@
+mod amounts;
 mod extracting;
 mod images;
 mod length;
