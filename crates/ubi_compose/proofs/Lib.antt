@@ -26,8 +26,10 @@ pub mod Placed
 pub mod Places
 pub mod Puts
 pub mod ReadSoFar
+pub mod Refusals
 pub mod Rising
 pub mod Room
+pub mod SamePlaces
 pub mod Sound
 pub mod Spares
 pub mod SpecVectors

@@ -64,8 +64,21 @@ module _ (s : Sizes) (p : Placed) where
   listed : (image : List ℕ) (h : ArePlaces (record { sizes = s; bytes = image }) p) → finite.entries p.records.of ≡ map entry_in (finite.entries h.meaning.volumes)
   listed image h = ap (λ (t : Records). finite.entries t.of) h.records ∙ records_listed h.meaning
 
-  count : (image : List ℕ) (h : ArePlaces (record { sizes = s; bytes = image }) p) → length (finite.entries p.records.of) ≡ length (finite.entries h.meaning.volumes)
+  pub count : (image : List ℕ) (h : ArePlaces (record { sizes = s; bytes = image }) p) → length (finite.entries p.records.of) ≡ length (finite.entries h.meaning.volumes)
   count image h = ap length (listed image h) ∙ length-map (finite.entries h.meaning.volumes) entry_in
+
+  -- the volume of an entry, at its place among the volumes
+  pub volume_at : (image : List ℕ) (h : ArePlaces (record { sizes = s; bytes = image }) p) (n : ℕ) (e : ℕ × VolumeRecord) (d : ℕ × Volume)
+      → n < length (finite.entries p.records.of) → e ≡ get_or (finite.entries p.records.of) n e
+      → (v : Volume) × (n < length (finite.entries h.meaning.volumes)) × (get_or (finite.entries h.meaning.volumes) n d ≡ (e.0, v)) × (v.entry ≡ e.1) × (finite.get h.meaning.volumes e.0 ≡ Some v)
+  volume_at image h n e d inside is =
+      let es = finite.entries h.meaning.volumes in
+      let x : ℕ × Volume = get_or es n d in
+      let here : n < length es = omega (arith, count image h) in
+      let same : e ≡ entry_in x = is ∙ ap (λ es. get_or es n e) (listed image h) ∙ get_or-map entry_in es n d e here in
+      let number : x.0 ≡ e.0 = sym (ap (λ (e : ℕ × VolumeRecord). e.0) same) in
+      let found : finite.get h.meaning.volumes x.0 ≡ Some x.1 = finite.get-entries h.meaning.volumes x.0 ∙ find_at nat_cmp_total es n d (finite.entries_sorted h.meaning.volumes) here in
+      (x.1, here, λ i. (number i, x.1), sym (ap (λ (e : ℕ × VolumeRecord). e.1) same), subst (λ id. finite.get h.meaning.volumes id ≡ Some x.1) number found)
 
   -- one volume more
   pub volumes_step : (n : ℕ) (e : ℕ × VolumeRecord) → n < length (finite.entries p.records.of) → e ≡ get_or (finite.entries p.records.of) n e
@@ -75,17 +88,14 @@ module _ (s : Sizes) (p : Placed) where
       let es = finite.entries h.meaning.volumes in
       let d : ℕ × Volume = (e.0, record { entry = e.1; content = content.Updating }) in
       let x : ℕ × Volume = get_or es n d in
-      let here : n < length es = omega (arith, count image h) in
-      let same : e ≡ entry_in x = is ∙ ap (λ es. get_or es n e) (listed image h) ∙ get_or-map entry_in es n d e here in
-      let number : x.0 ≡ e.0 = sym (ap (λ (e : ℕ × VolumeRecord). e.0) same) in
-      let found : finite.get h.meaning.volumes x.0 ≡ Some x.1 = finite.get-entries h.meaning.volumes x.0 ∙ find_at nat_cmp_total es n d (finite.entries_sorted h.meaning.volumes) here in
+      let v = volume_at image h n e d inside is in
       let front : List Laid = normal.blocks_of s (take n es) in
       let back : List Laid = volume_blocks s x.0 x.1.entry x.1.content in (
         flat_map (laid_bytes s new_ec) front,
         flat_map (laid_bytes s new_ec) back,
-        w.1 ∙ ap (flat_map (laid_bytes s new_ec)) (blocks_more s es n d here) ∙ flat_map-append (laid_bytes s new_ec) front back,
+        w.1 ∙ ap (flat_map (laid_bytes s new_ec)) (blocks_more s es n d v.1) ∙ flat_map-append (laid_bytes s new_ec) front back,
         (h, refl),
-        (x.1, record { places = h; at = subst (λ id. finite.get h.meaning.volumes id ≡ Some x.1) number found }, ap (λ id. flat_map (laid_bytes s new_ec) (volume_blocks s id x.1.entry x.1.content)) number),
+        (v.0, record { places = h; at = v.4 }, ap (λ (y : ℕ × Volume). flat_map (laid_bytes s new_ec) (volume_blocks s y.0 y.1.entry y.1.content)) v.2),
       )
 
   pub volumes_all : (n : ℕ) → n ≡ length (finite.entries p.records.of) → (image text : List ℕ) → volumes_text s p image text → first_volumes s p n image text

@@ -6,3 +6,4 @@ pub mod Spec
 pub mod Drafts
 pub mod Laws
 pub mod Streamed
+pub mod Compared

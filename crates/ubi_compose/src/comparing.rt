@@ -1,12 +1,85 @@
 //! Comparing what two images mean.
 
-ghost use Rattle.std.specs.Prelude.{IfErr, IfOk};
+ghost use Rattle.std.specs.FinMap as finite;
+ghost use Rattle.std.specs.Prelude.{◌≡◌, ◌↔◌, IfErr, IfOk, IsTrue};
+ghost use Rattle.ubi_scan.specs.Source.{blocks_in};
+ghost use Rattle.ubi_volume.specs.Places.{ArePlacesOf};
+ghost use Rattle.ubi_compose.specs.Compared.{IsSameFault, IsSidesError, OfMeanings, TellsMeaning, WhereBothHeld, after_left, after_right};
 ghost use Rattle.ubi_compose.specs.Composed.{IsComparison, IsSameError};
 
-use crate::errors::SameError;
+use crate::errors::{SameError, SameFault};
+use crate::matching::same_volumes;
 use std::alloc::Global;
-use ubi_media::{AttachError, Geometry};
-use ubi_volume::attach;
+use ubi_media::Geometry;
+use ubi_scan::{BlockSource, MemorySource, StreamError};
+use ubi_table::Table;
+use ubi_volume::{Places, attach_places};
+
+/// Whether two tables have the same records.
+fn same_records(left: &Table, right: &Table) -> bool
+    ensures { IsTrue result ↔ (left.now.of ≡ right.now.of) }
+{
+    left.entries() == right.entries()
+}
+
+/// Whether two sources mean the same, whose places are known.
+///
+/// # Errors
+///
+/// A read of a side failed, or memory ran out.
+fn same_places<L: BlockSource, R: BlockSource>(
+    alloc: Global,
+    geometry: &Geometry,
+    left: &mut L,
+    right: &mut R,
+    here: &Places,
+    there: &Places,
+) -> Result<bool, SameFault>
+    requires here { ArePlacesOf geometry.now (L.known left.old) here.now }
+    requires there { ArePlacesOf geometry.now (R.known right.old) there.now }
+    ensures left { L.known left.new ≡ after_left (L.known left.old) result }
+    ensures right { R.known right.new ≡ after_right (R.known right.old) result }
+    ensures answer { IfOk result (λ answer. WhereBothHeld (L.known left.old) (R.known right.old) (λ x y. OfMeanings geometry.now here.now there.now x y (TellsMeaning answer))) }
+    ensures failed { IfErr result (IsSidesError (blocks_in geometry.now (L.known left.old)) (blocks_in geometry.now (R.known right.old))) }
+{
+    if !same_records(here.table(), there.table()) {
+        return Ok(false);
+    }
+    let mut one = Vec::from_elem(alloc, 0u8, geometry.peb_size() as usize)?;
+    let mut other = Vec::from_elem(alloc, 0u8, geometry.peb_size() as usize)?;
+    let (one, other) = (one.as_mut_slice(), other.as_mut_slice());
+    same_volumes(geometry, left, right, here, there, one, other)
+}
+
+/// Whether two sources of one geometry mean the same, as [`same`] says of images. It holds one eraseblock of contents of
+/// each, and reads those of a volume only where the tables agree, and up to the first that differ.
+///
+/// # Errors
+///
+/// `Left` where the first isn't attached ([`attach_places`]) or a read of it failed, and else `Right` of the second; the
+/// first is attached first. `Memory` where memory ran out then.
+pub fn same_from<L: BlockSource, R: BlockSource>(
+    alloc: Global,
+    geometry: &Geometry,
+    left: &mut L,
+    right: &mut R,
+) -> Result<bool, SameFault>
+    ensures left { L.known left.new ≡ after_left (L.known left.old) result }
+    ensures right { R.known right.new ≡ after_right (R.known right.old) result }
+    ensures answer { IfOk result (λ answer. WhereBothHeld (L.known left.old) (R.known right.old) (λ x y. IsComparison (record { sizes = geometry.now; bytes = x }) (record { sizes = geometry.now; bytes = y }) answer)) }
+    ensures refused { IfErr result (IsSameFault geometry.now (L.known left.old) (R.known right.old)) }
+{
+    let here = match attach_places(alloc, geometry, left) {
+        Ok(places) => places,
+        Err(error) => return Err(SameFault::Left(error)),
+    };
+    let there = match attach_places(alloc, geometry, right) {
+        Ok(places) => places,
+        Err(error) => return Err(SameFault::Right(error)),
+    };
+    prove!(geometry.peb_size() >= 64);
+    same_places(alloc, geometry, left, right, &here, &there)
+}
 
 /// Whether two images of one geometry mean the same; so they do exactly if their normal images are equal byte for byte.
 ///
@@ -23,16 +96,21 @@ pub fn same(
     ensures answer { IfOk result (IsComparison (record { sizes = geometry.now; bytes = left.now }) (record { sizes = geometry.now; bytes = right.now })) }
     ensures refused { IfErr result (IsSameError (record { sizes = geometry.now; bytes = left.now }) (record { sizes = geometry.now; bytes = right.now })) }
 {
-    let left = match attach(alloc, geometry, left) {
-        Ok(left) => left,
-        Err(AttachError::Refused(cause)) => return Err(SameError::Left(cause)),
-        Err(AttachError::Memory) => return Err(SameError::Memory),
-    };
-    let right = match attach(alloc, geometry, right) {
-        Ok(right) => right,
-        Err(AttachError::Refused(cause)) => return Err(SameError::Right(cause)),
-        Err(AttachError::Memory) => return Err(SameError::Memory),
-    };
-    prove!(geometry.peb_size() >= 64);
-    Ok(left.meaning() == right.meaning())
+    let mut left = MemorySource::new(left);
+    let mut right = MemorySource::new(right);
+    match same_from(alloc, geometry, &mut left, &mut right) {
+        Ok(answer) => Ok(answer),
+        Err(SameFault::Left(StreamError::Refused(cause))) => Err(SameError::Left(cause)),
+        Err(SameFault::Right(StreamError::Refused(cause))) => Err(SameError::Right(cause)),
+        Err(
+            SameFault::Left(StreamError::Memory)
+            | SameFault::Right(StreamError::Memory)
+            | SameFault::Memory,
+        ) => Err(SameError::Memory),
+        // Reading memory doesn't fail, and nothing is written.
+        Err(
+            SameFault::Left(StreamError::Read(..) | StreamError::Write(_))
+            | SameFault::Right(StreamError::Read(..) | StreamError::Write(_)),
+        ) => unreachable!(),
+    }
 }

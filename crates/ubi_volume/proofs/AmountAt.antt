@@ -1,31 +1,27 @@
 -- How much a volume reads, by the places of its LEBs.
-use Rattle.std.proofs.Common.{◌≡◌, ◌≢◌, ℕ, ◌+◌, ◌-◌, ◌<◌, ◌≤◌, Bool, true, false, cond, List, [], length, take, refl, ap, sym, ◌∙◌, subst, arith}
+use Rattle.std.proofs.Common.{◌≡◌, ℕ, ◌+◌, ◌-◌, Bool, true, false, cond, List, [], length, take, refl, ap, sym, ◌∙◌, subst, arith}
 use Rattle.std.specs.Prelude.{IfSome, MatchOption, None, Option, Some, is_some, not, slice_range}
 use Rattle.std.specs.Cmp.{nat_cmp_total}
 use Rattle.std.specs.FinMap as finite
-use Rattle.std.specs.FinMap.{FinMap}
 use Rattle.std.specs.FinMap.Entries.{length-put}
 use Rattle.std.specs.Ordering.{nat_cmp}
 use Rattle.ubi_media.specs.Fields.{is_blank}
 use Rattle.ubi_media.specs.Geometry.{Sizes}
 use Rattle.ubi_media.specs.Record.{usable}
 use Rattle.ubi_media.specs.declared.record.VolumeRecord.{VolumeRecord}
-use Rattle.ubi_media.specs.declared.vid.VolKind.TheVariants as kind
-use Rattle.ubi_scan.specs.Image.{Image, block, leb}
+use Rattle.ubi_scan.specs.Image.{block, leb}
 use Rattle.ubi_scan.specs.Members.{NoMember, Wins}
 use Rattle.ubi_scan.specs.Source.{blocks_of}
 use Rattle.ubi_scan.proofs.Entries.{sorted_entries}
 use Rattle.ubi_volume.specs.Amounts.{AmountIs, AreKept, IsKept, amount_of}
-use Rattle.ubi_volume.specs.Gathered.{ContentIs, LebKept}
+use Rattle.ubi_volume.specs.Gathered.{ContentIs}
 use Rattle.ubi_volume.specs.Meant.{Fits, IsVolume, KeepsNoBlank}
 use Rattle.ubi_volume.specs.Places.{ArePlaces, Placed, case_of}
 use Rattle.ubi_volume.specs.Reads.{VolumeReads}
-use Rattle.ubi_volume.specs.declared.amounts.Amount.{Amount}
 use Rattle.ubi_volume.specs.declared.amounts.Amount.TheVariants as amount
 use Rattle.ubi_volume.specs.declared.content.Content.{Content}
 use Rattle.ubi_volume.specs.declared.content.Content.TheVariants as content
 use Rattle.ubi_volume.specs.declared.content.Volume.{Volume}
-use Rattle.ubi_volume.specs.declared.places.PlaceContent.{PlaceContent}
 use Rattle.ubi_volume.specs.declared.places.PlaceContent.TheVariants as place
 use Rattle.ubi_volume.proofs.Dynamic.{dynamic_is, gathered_blank, gathered_none, gathered_text, kept_none, winner_blank, winner_text}
 use Rattle.ubi_volume.proofs.Either.{are_lebs}
@@ -47,8 +43,16 @@ module _ (s : Sizes) (p : Placed) (image : List ℕ) (places : ArePlaces (record
     place_kept = by_test (is_blank text) refl
       where
         by_test : (b : Bool) → is_blank text ≡ b → IsKept s bs id r lnum (not b)
-        by_test true e = (None, winner_blank s bs id r lnum q n (leb s (block bs q)) (found_wins s p image places (id, lnum) q found) size refl (are_lebs (record { sizes = s; bytes = image }) q (found_wins s p image places (id, lnum) q found).member.inside) (ap is_blank (sym read_is) ∙ e), refl)
-        by_test false e = (Some (take n (leb s (block bs q))), winner_text s bs id r lnum q n (leb s (block bs q)) (found_wins s p image places (id, lnum) q found) size refl (are_lebs (record { sizes = s; bytes = image }) q (found_wins s p image places (id, lnum) q found).member.inside) (ap is_blank (sym read_is) ∙ e), refl)
+        by_test true e =
+            let w = found_wins s p image places (id, lnum) q found in
+            let whole = are_lebs (record { sizes = s; bytes = image }) q w.member.inside in
+            let test = ap is_blank (sym read_is) ∙ e in
+            (None, winner_blank s bs id r lnum q n (leb s (block bs q)) w size refl whole test, refl)
+        by_test false e =
+            let w = found_wins s p image places (id, lnum) q found in
+            let whole = are_lebs (record { sizes = s; bytes = image }) q w.member.inside in
+            let test = ap is_blank (sym read_is) ∙ e in
+            (Some (take n (leb s (block bs q))), winner_text s bs id r lnum q n (leb s (block bs q)) w size refl whole test, refl)
 
 module _ (s : Sizes) (bs : List (List ℕ)) (vol : ℕ) (r : VolumeRecord) where
   pub none_kept : AreKept s bs vol r 0 0

@@ -64,7 +64,7 @@ kind_Decides kind.Dynamic kind.Static = (λ e. absurd (cc), λ e. absurd (cc))
 kind_Decides kind.Static kind.Dynamic = (λ e. absurd (cc), λ e. absurd (cc))
 kind_Decides kind.Static kind.Static = (λ e. refl, λ e. refl)
 
-record_Decides : (a b : VolumeRecord) → Decides ((record_eq.ghosts).eq a b) (a ≡ b)
+pub record_Decides : (a b : VolumeRecord) → Decides ((record_eq.ghosts).eq a b) (a ≡ b)
 record_Decides a b = Decides-like _ (λ e i. record {
   reserved = e.0 i;
   alignment = e.1.0 i;

@@ -1,5 +1,5 @@
 -- What is extracted of a volume by the places of its LEBs.
-use Rattle.std.proofs.Common.{◌≡◌, ℕ, zero, suc, ◌+◌, ◌-◌, ◌*◌, ◌<◌, ◌≤◌, inl, inr, false, List, [], ◌∷◌, ◌++◌, length, take, refl, ap, sym, ◌∙◌, subst, arith, length-append, append_assoc, zero-add}
+use Rattle.std.proofs.Common.{◌≡◌, ℕ, zero, suc, ◌+◌, ◌-◌, ◌*◌, ◌<◌, ◌≤◌, inl, inr, false, List, ◌++◌, length, take, refl, ap, sym, ◌∙◌, subst, arith, append_assoc, zero-add}
 use Rattle.std.specs.Prelude.{Err, IfSome, None, Ok, Option, Result, Some, MatchOption, flat_map, slice_index, unwrap_or}
 use Rattle.std.specs.FinMap as finite
 use Rattle.std.specs.FinMap.{FinMap}
@@ -58,7 +58,7 @@ front_of f a (suc n) k =
     ∙ sym (append_assoc (f a) (flat_map f (range_with_len (a + 1) n)) (flat_map f (range_with_len (a + suc n) k)))
 
 -- what is the same at each number
-same_range : (f g : ℕ → List ℕ) (a n : ℕ) → ((i : ℕ) → a ≤ i → i < a + n → f i ≡ g i) → flat_map f (range_with_len a n) ≡ flat_map g (range_with_len a n)
+pub same_range : (f g : ℕ → List ℕ) (a n : ℕ) → ((i : ℕ) → a ≤ i → i < a + n → f i ≡ g i) → flat_map f (range_with_len a n) ≡ flat_map g (range_with_len a n)
 same_range f g a zero h = refl
 same_range f g a (suc n) h =
     ap (λ x. x ++ flat_map f (range_with_len (a + 1) n)) (h a (omega arith) (omega arith))
@@ -157,7 +157,7 @@ module _ (s : Sizes) (p : Placed) (image : List ℕ) (places : ArePlaces (record
         ∙ ap (λ x. x ++ f n) (static_so_far n (omega arith)) ∙ ap (λ x. take (n * size) t ++ x) (piece_is n (omega arith))
         ∙ share_more size t n ∙ ap (λ k. take (k * size) t) (sym next)
 
-    static_is : lebs_bytes s p id size bytes image lebs ≡ t
+    pub static_is : lebs_bytes s p id size bytes image lebs ≡ t
     static_is = static_so_far lebs (omega arith) ∙ ap (λ k. take (k * size) t) (sym count) ∙ shares_all size (usable_some s r sound) t
 
   module _ (l : FinMap nat_cmp (List ℕ)) (is : v.content ≡ content.Dynamic l) where

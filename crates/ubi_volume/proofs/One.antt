@@ -33,13 +33,13 @@ within_or_out : (l n : ℕ) → (l < n) ⊎ (n ≤ l)
 within_or_out l n = grind arith
 
 -- texts that aren't blank are kept alike where they are read alike
-kept_alike : (size : ℕ) (o p : Option (List ℕ)) → IfSome o (λ text. text ≢ blank size) → IfSome p (λ text. text ≢ blank size) → unwrap_or o (blank size) ≡ unwrap_or p (blank size) → o ≡ p
+pub kept_alike : (size : ℕ) (o p : Option (List ℕ)) → IfSome o (λ text. text ≢ blank size) → IfSome p (λ text. text ≢ blank size) → unwrap_or o (blank size) ≡ unwrap_or p (blank size) → o ≡ p
 kept_alike size None None a b e = refl
 kept_alike size None (Some y) a b e = absurd (b (sym e))
 kept_alike size (Some x) None a b e = absurd (a e)
 kept_alike size (Some x) (Some y) a b e = ap Some e
 
-outside : (n l size : ℕ) (o : Option (List ℕ)) → n ≤ l → IfSome o (λ text. (l < n) × (length text ≡ size)) → o ≡ None
+pub outside : (n l size : ℕ) (o : Option (List ℕ)) → n ≤ l → IfSome o (λ text. (l < n) × (length text ≡ size)) → o ≡ None
 outside n l size None h a = refl
 outside n l size (Some x) h a = let k = a.0 in absurd (omega arith)
 

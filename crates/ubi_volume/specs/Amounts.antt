@@ -22,7 +22,8 @@ amount_of (content.Dynamic lebs) = amount.Lebs (length (entries lebs))
 -- how much a volume reads, of the meaning of an image whose places these are
 abbrev pub AmountIs : Sizes → Placed → ℕ → List ℕ → Amount → Type 0
 AmountIs s p id image a =
-    (h : ArePlaces (record { sizes = s; bytes = image }) p) (v : Volume) → get h.meaning.volumes id ≡ Some v → a ≡ amount_of v.content
+    (h : ArePlaces (record { sizes = s; bytes = image }) p) (v : Volume) → get h.meaning.volumes id ≡ Some v
+    → a ≡ amount_of v.content
 
 -- whether a text is kept of a LEB
 abbrev pub IsKept : Sizes → List (List ℕ) → ℕ → VolumeRecord → ℕ → Bool → Type 0
@@ -30,4 +31,5 @@ IsKept s bs vol r lnum kept = (text : Option (List ℕ)) × LebKept s bs vol r l
 
 -- of how many of the first n LEBs
 abbrev pub AreKept : Sizes → List (List ℕ) → ℕ → VolumeRecord → ℕ → ℕ → Type 0
-AreKept s bs vol r n count = (lebs : FinMap nat_cmp (List ℕ)) × AreGathered s bs vol r n lebs × (count ≡ length (entries lebs))
+AreKept s bs vol r n count =
+    (lebs : FinMap nat_cmp (List ℕ)) × AreGathered s bs vol r n lebs × (count ≡ length (entries lebs))

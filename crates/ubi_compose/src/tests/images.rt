@@ -2,7 +2,7 @@
 
 use std::alloc::{AllocError, Global};
 use std::test::Fail;
-use ubi_media::{EcHeader, Geometry, VidHeader, VolKind, write_ec, write_vid};
+use ubi_media::{EcHeader, Geometry, VidHeader, VolKind, crc, write_ec, write_vid};
 
 /// An erase-counter header of the small geometry, with counter 0 and no image.
 const EC: [u8; 64] = *b"UBI#\x01\0\0\0\
@@ -38,9 +38,15 @@ const DAMAGED: [u8; 64] = *b"UBI!\x01\x02\0\0\
     \0\0\0\0\0\0\0\0\0\0\0\0\0\0\0\0\0\0\0\0\xa3\xb7\xf9\x8b";
 
 /// The first bytes and the check of the record of a dynamic volume `root` with 20 reserved eraseblocks.
-const ROOT: ([u8; 20], [u8; 4]) = (
+pub const ROOT: ([u8; 20], [u8; 4]) = (
     *b"\0\0\0\x14\0\0\0\x01\0\0\0\0\x01\0\0\x04root",
     [0x71, 0xDF, 0xB1, 0x1D],
+);
+
+/// Those of the same volume with 21 reserved eraseblocks.
+pub const WIDER_ROOT: ([u8; 20], [u8; 4]) = (
+    *b"\0\0\0\x15\0\0\0\x01\0\0\0\0\x01\0\0\x04root",
+    [0x60, 0xC7, 0x2F, 0x21],
 );
 
 /// Those of a static volume `boot` with 3 reserved eraseblocks.
@@ -95,12 +101,47 @@ pub fn normal_table(alloc: Global, first: ([u8; 20], [u8; 4])) -> Result<Vec<u8>
     Ok(image)
 }
 
-/// The normal image of the volume `root`, whose first three logical eraseblocks hold bytes 0x41, 0x42 and 0x43.
-pub fn normal_root(alloc: Global) -> Result<Vec<u8>, AllocError> {
-    let mut image = normal_table(alloc, ROOT)?;
+/// The normal image of a volume with a record, whose first three logical eraseblocks hold bytes 0x41, 0x42 and 0x43.
+pub fn normal_lebs(alloc: Global, first: ([u8; 20], [u8; 4])) -> Result<Vec<u8>, AllocError> {
+    let mut image = normal_table(alloc, first)?;
     for (vid, byte) in LEBS.iter().zip([0x41, 0x42, 0x43]) {
         put_block(&mut image, &EC, vid, &[byte; 384])?;
     }
+    Ok(image)
+}
+
+/// That of the volume `root`.
+pub fn normal_root(alloc: Global) -> Result<Vec<u8>, AllocError> {
+    normal_lebs(alloc, ROOT)
+}
+
+/// Its eraseblocks in the opposite order.
+pub fn turned_root(alloc: Global) -> Result<Vec<u8>, AllocError> {
+    let image = normal_root(alloc)?;
+    let mut turned = Vec::new(alloc);
+    for (start, end) in [
+        (2048, 2560),
+        (1536, 2048),
+        (1024, 1536),
+        (512, 1024),
+        (0, 512),
+    ] {
+        turned.extend_from_slice(image.as_slice().get(start..end).unwrap_or(&[]))?;
+    }
+    Ok(turned)
+}
+
+/// The normal image of the volume `boot` with a text in one logical eraseblock.
+pub fn normal_text(alloc: Global, text: &[u8]) -> Result<Vec<u8>, AllocError> {
+    let mut image = normal_table(alloc, BOOT)?;
+    let vid = VidHeader {
+        kind: VolKind::Static,
+        data_size: u32::try_from(text.len()).unwrap_or(0),
+        used_ebs: 1,
+        data_crc: crc(text),
+        ..plain(0, 0, 0)
+    };
+    put_block(&mut image, &EC, &write_vid(&vid), text)?;
     Ok(image)
 }
 

@@ -1,32 +1,32 @@
-use Rattle.std.proofs.Common.{◌≡◌, sym, subst, ◌∙◌}
-use Rattle.std.specs.Prelude.{◌↔◌, IsTrue}
-use Rattle.ubi_media.specs.Geometry.{IsGeometry}
-use Rattle.ubi_volume.proofs.Equal.{tells_equal}
-use Rattle.ubi_compose.proofs.Form.{normal_form}
+use Rattle.std.proofs.Common.{ap, refl}
+use Rattle.std.specs.Prelude.{Some}
+use Rattle.ubi_scan.specs.Source.{memory, memory_sized}
+use Rattle.ubi_scan.specs.declared.errors.StreamError.TheVariants as stream
+use Rattle.ubi_volume.specs.Places.{ArePlacesError}
+use Rattle.ubi_compose.specs.Compared.{IsSameFault}
+use Rattle.ubi_compose.specs.declared.errors.SameFault.TheVariants as fault
+use Rattle.ubi_compose.proofs.Refusals.{refuses}
 use Rattle.ubi_compose.proofs.comparing.same.Goals as goal
 
-pub returns-in-Err-Refused-clause-refused : goal.returns-in-Err-Refused-clause-refused
-returns-in-Err-Refused-clause-refused c = rw c.in-Err-Refused.field-0-is (rw c.in-Err-Refused.field-0-is at c.in-Err-Refused.ensures.refused)
+pub returns-in-Ok-clause-answer : goal.returns-in-Ok-clause-answer
+returns-in-Ok-clause-answer c = c.in-Ok.ensures.answer c.args.left.now (ap Some c.new-left.ensures) c.args.right.now (ap Some c.new-right.ensures)
 
-pub returns-in-Err-Refused-attach-clause-refused : goal.returns-in-Err-Refused-attach-clause-refused
-returns-in-Err-Refused-attach-clause-refused c =
-    ((c.in-Ok.left.meaning, c.in-Ok.ensures.attached.accepted), rw c.in-Err-Refused-attach.field-0-is at c.in-Err-Refused-attach.ensures.refused)
+pub returns-in-Err-Left-Refused-clause-refused : goal.returns-in-Err-Left-Refused-clause-refused
+returns-in-Err-Left-Refused-clause-refused c =
+    let s = c.args.geometry.now in
+    let left = c.args.left.now in
+    let right = c.args.right.now in
+    let cause = c.in-Err-Left-Refused.cause in
+    let h : ArePlacesError s (memory left) (stream.Refused cause) =
+    rw (c.in-Err-Left-Refused.field-0-is, c.in-Err-Left-Refused.field-0-0-is, c.new-left.ensures) at c.in-Err-Left-Refused.ensures.refused in
+    refuses s (memory left) left cause (memory_sized left) refl h
 
-pub returns-clause-answer : goal.returns-clause-answer
-returns-clause-answer c =
-    let m = c.in-Ok.left.meaning in
-    let n = c.in-Ok-attach.right.meaning in
-    let a = c.in-Ok.ensures.attached.accepted in
-    let b = c.in-Ok-attach.ensures.attached.accepted in
-    let left = a.accepted.means in
-    let right = b.accepted.means in
-    let equal : IsTrue c.eq.result ↔ (m ≡ n) = tells_equal m n c.eq.result (rw (c.meaning.ensures, c.meaning-2.ensures) at c.eq.ensures) in
-    let form = normal_form m n (subst IsGeometry (sym left.sizes) c.peb_size.ensures.limits) (left.sizes ∙ sym right.sizes) left.meaning right.meaning in
-    record {
-      left = m;
-      right = n;
-      left_means = a;
-      right_means = b;
-      meanings = equal;
-      images = ((λ t. form.0 (equal.0 t)), (λ e. equal.1 (form.1 e)));
-    }
+pub returns-in-Err-Right-Refused-clause-refused : goal.returns-in-Err-Right-Refused-clause-refused
+returns-in-Err-Right-Refused-clause-refused c =
+    let s = c.args.geometry.now in
+    let left = c.args.left.now in
+    let right = c.args.right.now in
+    let cause = c.in-Err-Right-Refused.cause in
+    let h : IsSameFault s (memory left) (memory right) (fault.Right (stream.Refused cause)) =
+    rw (c.in-Err-Right-Refused.field-0-is, c.in-Err-Right-Refused.field-0-0-is, c.new-left.ensures, c.new-right.ensures) at c.in-Err-Right-Refused.ensures.refused in
+    (h.0 left refl, refuses s (memory right) right cause (memory_sized right) refl h.1)

@@ -1,0 +1,195 @@
+-- Whether two images mean the same, by their places and the bytes of their LEBs.
+use Rattle.std.proofs.Common.{◌≡◌, ℕ, ◌+◌, ◌*◌, ◌<◌, ◌≤◌, ◌⊎◌, inl, inr, ◌==◌, ◌&&◌, Bool, true, false, Decides, List, [], ◌∷◌, ◌++◌, length, take, get_or, refl, ap, sym, ◌∙◌, subst, arith}
+use Rattle.std.specs.Prelude.{◌↔◌, IfSome, Option, Some}
+use Rattle.std.specs.Cmp.{nat_cmp_total, unsigned_Decides}
+use Rattle.std.specs.Cmp.Lexicographic.{pointwise}
+use Rattle.std.specs.FinMap as finite
+use Rattle.std.specs.FinMap.{FinMap, nat_cmp-IsAntisymmetric, same_entries_map}
+use Rattle.std.specs.Ordering.{nat_cmp}
+use Rattle.std.proofs.lemmas.Bool.{false≢true}
+use Rattle.std.proofs.lemmas.Bool.Decides.{Decides-and, Decides-like}
+use Rattle.std.proofs.lemmas.List.{take_all, take_more}
+use Rattle.std.proofs.lemmas.Slice.Eq.{slice_eq-Decides}
+use Rattle.ubi_media.specs.Geometry.{Sizes}
+use Rattle.ubi_media.specs.Record.{usable}
+use Rattle.ubi_media.specs.contracts.record.VolumeRecordPartialEq.TheImpl as record_eq
+use Rattle.ubi_media.specs.declared.record.VolumeRecord.{VolumeRecord}
+use Rattle.ubi_table.specs.Records.{Records}
+use Rattle.ubi_volume.specs.Extract.{leb_bytes, share_len}
+use Rattle.ubi_volume.specs.Meant.{Fits, IsVolume, KeepsNoBlank, Meant, records_of}
+use Rattle.ubi_volume.specs.Places.{ArePlaces, Placed, case_of}
+use Rattle.ubi_volume.specs.Reading.{leb_text, share}
+use Rattle.ubi_volume.specs.declared.content.Content.{Content}
+use Rattle.ubi_volume.specs.declared.content.Content.TheVariants as content
+use Rattle.ubi_volume.specs.declared.content.Volume.{Volume}
+use Rattle.ubi_volume.specs.declared.places.PlaceContent.{PlaceContent}
+use Rattle.ubi_volume.specs.declared.places.PlaceContent.TheVariants as place
+use Rattle.ubi_volume.proofs.Equal.{record_Decides}
+use Rattle.ubi_volume.proofs.Extracted.{leb_is, piece_is, same_range, static_is}
+use Rattle.ubi_volume.proofs.One.{kept_alike, outside}
+use Rattle.ubi_volume.proofs.VolumeAt.{case_is, reads_of}
+use Rattle.ubi_compose.specs.Compared.{AreSameLebs, TellsVolume}
+use Rattle.ubi_compose.proofs.Blocks.{some_same}
+use Rattle.ubi_compose.proofs.StoredVolumes.{count, volume_at}
+
+within_or_out : (l n : ℕ) → (l < n) ⊎ (n ≤ l)
+within_or_out l n = grind arith
+
+-- one fact told by another
+pub both : {A B C : Type 0} → A ↔ B → B ↔ C → A ↔ C
+both f g = (λ a. g.0 (f.0 a), λ c. f.1 (g.1 c))
+
+-- the records of two tables
+entry_Decides : (p q : ℕ × VolumeRecord) → Decides ((p.0 == q.0) && (record_eq.ghosts).eq p.1 q.1) (p ≡ q)
+entry_Decides p q = Decides-like _ (λ e i. (e.0 i, e.1 i)) (λ e. (ap (λ x. x.0) e, ap (λ x. x.1) e)) (Decides-and _ _ (unsigned_Decides p.0 q.0) (record_Decides p.1 q.1))
+
+pub records_Decides : (a b : FinMap nat_cmp VolumeRecord) (r : Bool) → r ≡ pointwise (λ p q. (p.0 == q.0) && (record_eq.ghosts).eq p.1 q.1) (finite.entries a) (finite.entries b) → Decides r (a ≡ b)
+records_Decides a b r e = Decides-like r (same_entries_map a b) (ap finite.entries) (slice_eq-Decides entry_Decides (finite.entries a) (finite.entries b) r e)
+
+-- what a volume of an image is
+module _ (s : Sizes) (p : Placed) (x : List ℕ) (h : ArePlaces (record { sizes = s; bytes = x }) p) (id : ℕ) (r : VolumeRecord)
+    (recorded : finite.get p.records.of id ≡ Some r) (v : Volume) (at : finite.get h.meaning.volumes id ≡ Some v) where
+  entry : v.entry ≡ r
+  entry = (reads_of s p x h id r recorded v at).0
+
+  volume : IsVolume s id v
+  volume = subst (λ (z : Sizes). IsVolume z id v) h.accepted.accepted.means.sizes
+      (subst (λ (o : Option Volume). IfSome o (IsVolume h.meaning.sizes id)) at (h.accepted.accepted.means.meaning.each id))
+
+  fits_as : (c : Content) → v.content ≡ c → Fits s r c
+  fits_as c is = subst (λ (y : VolumeRecord). Fits s y c) entry (subst (Fits s v.entry) is volume.fits)
+
+  keeps_as : (c : Content) → v.content ≡ c → KeepsNoBlank s r c
+  keeps_as c is = subst (λ (y : VolumeRecord). KeepsNoBlank s y c) entry (subst (KeepsNoBlank s v.entry) is volume.kept)
+
+module _ (s : Sizes) (p q : Placed) (x y : List ℕ) (h : ArePlaces (record { sizes = s; bytes = x }) p) (k : ArePlaces (record { sizes = s; bytes = y }) q)
+    (id : ℕ) (r : VolumeRecord) (here : finite.get p.records.of id ≡ Some r) (there : finite.get q.records.of id ≡ Some r)
+    (v w : Volume) (at : finite.get h.meaning.volumes id ≡ Some v) (bt : finite.get k.meaning.volumes id ≡ Some w) where
+  abbrev size : ℕ
+  size = usable s r
+
+  -- volumes whose cases differ read other things
+  pub apart : (a b : PlaceContent) → finite.get p.contents id ≡ Some a → finite.get q.contents id ≡ Some b → v.content ≡ w.content → a ≡ b
+  apart a b one other same = sym (case_is s p x h id r here v at a one) ∙ ap (case_of s r) same ∙ case_is s q y k id r there w bt b other
+
+  updating_is : (c d : Content) → case_of s r c ≡ place.Updating → case_of s r d ≡ place.Updating → c ≡ d
+  updating_is content.Updating content.Updating e f = refl
+  updating_is content.Updating content.Damaged e f = absurd (cc)
+  updating_is content.Updating (content.Static t) e f = absurd (cc)
+  updating_is content.Updating (content.Dynamic t) e f = absurd (cc)
+  updating_is content.Damaged d e f = absurd (cc)
+  updating_is (content.Static t) d e f = absurd (cc)
+  updating_is (content.Dynamic t) d e f = absurd (cc)
+
+  damaged_is : (c d : Content) → case_of s r c ≡ place.Damaged → case_of s r d ≡ place.Damaged → c ≡ d
+  damaged_is content.Damaged content.Damaged e f = refl
+  damaged_is content.Damaged content.Updating e f = absurd (cc)
+  damaged_is content.Damaged (content.Static t) e f = absurd (cc)
+  damaged_is content.Damaged (content.Dynamic t) e f = absurd (cc)
+  damaged_is content.Updating d e f = absurd (cc)
+  damaged_is (content.Static t) d e f = absurd (cc)
+  damaged_is (content.Dynamic t) d e f = absurd (cc)
+
+  pub updating_same : finite.get p.contents id ≡ Some place.Updating → finite.get q.contents id ≡ Some place.Updating → v.content ≡ w.content
+  updating_same one other = updating_is v.content w.content (case_is s p x h id r here v at place.Updating one) (case_is s q y k id r there w bt place.Updating other)
+
+  pub damaged_same : finite.get p.contents id ≡ Some place.Damaged → finite.get q.contents id ≡ Some place.Damaged → v.content ≡ w.content
+  damaged_same one other = damaged_is v.content w.content (case_is s p x h id r here v at place.Damaged one) (case_is s q y k id r there w bt place.Damaged other)
+
+  static_is_same : (lebs bytes : ℕ) (c d : Content) → v.content ≡ c → w.content ≡ d → case_of s r c ≡ place.Static lebs bytes → case_of s r d ≡ place.Static lebs bytes
+      → AreSameLebs s p q id size bytes x y lebs ↔ (c ≡ d)
+  static_is_same lebs bytes content.Updating d is js e f = absurd (cc)
+  static_is_same lebs bytes content.Damaged d is js e f = absurd (cc)
+  static_is_same lebs bytes (content.Dynamic t) d is js e f = absurd (cc)
+  static_is_same lebs bytes (content.Static t) content.Updating is js e f = absurd (cc)
+  static_is_same lebs bytes (content.Static t) content.Damaged is js e f = absurd (cc)
+  static_is_same lebs bytes (content.Static t) (content.Dynamic u) is js e f = absurd (cc)
+  static_is_same lebs bytes (content.Static t) (content.Static u) is js e f = (
+    λ same. ap content.Static (sym (static_is s p x h id r here v at lebs bytes t is (cc) (cc))
+        ∙ same_range (λ n. leb_bytes s (share_len size bytes n) (finite.get p.winners (id, n)) x) (λ n. leb_bytes s (share_len size bytes n) (finite.get q.winners (id, n)) y) 0 lebs (λ n low high. same n (omega arith))
+        ∙ static_is s q y k id r there w bt lebs bytes u js (cc) (cc)),
+    λ same n inside. let text : t ≡ u = cc in
+        piece_is s p x h id r here v at lebs bytes t is (cc) (cc) n inside ∙ ap (λ z. share size z n) text ∙ sym (piece_is s q y k id r there w bt lebs bytes u js (cc) (cc) n inside),
+  )
+
+  pub static_same : (lebs bytes : ℕ) → finite.get p.contents id ≡ Some (place.Static lebs bytes) → finite.get q.contents id ≡ Some (place.Static lebs bytes)
+      → AreSameLebs s p q id size bytes x y lebs ↔ (v.content ≡ w.content)
+  static_same lebs bytes one other = static_is_same lebs bytes v.content w.content refl refl
+      (case_is s p x h id r here v at (place.Static lebs bytes) one) (case_is s q y k id r there w bt (place.Static lebs bytes) other)
+
+  module _ (l m : FinMap nat_cmp (List ℕ)) (is : v.content ≡ content.Dynamic l) (js : w.content ≡ content.Dynamic m) where
+    lebs_same : AreSameLebs s p q id size (r.reserved * size) x y r.reserved → l ≡ m
+    lebs_same same = finite.same_map nat_cmp_total nat_cmp-IsAntisymmetric l m (λ n. elim (within_or_out n r.reserved) [
+      | inl inside ↦ kept_alike size (finite.get l n) (finite.get m n) (keeps_as s p x h id r here v at (content.Dynamic l) is n) (keeps_as s q y k id r there w bt (content.Dynamic m) js n)
+          (sym (leb_is s p x h id r here v at l is n inside) ∙ same n inside ∙ leb_is s q y k id r there w bt m js n inside)
+      | inr beyond ↦ outside r.reserved n size (finite.get l n) beyond ((fits_as s p x h id r here v at (content.Dynamic l) is).2 n)
+          ∙ sym (outside r.reserved n size (finite.get m n) beyond ((fits_as s q y k id r there w bt (content.Dynamic m) js).2 n))
+    ])
+
+    same_lebs : l ≡ m → AreSameLebs s p q id size (r.reserved * size) x y r.reserved
+    same_lebs same n inside =
+        leb_is s p x h id r here v at l is n inside ∙ ap (λ (z : FinMap nat_cmp (List ℕ)). leb_text size (finite.get z n)) same ∙ sym (leb_is s q y k id r there w bt m js n inside)
+
+  dynamic_is_same : (c d : Content) → v.content ≡ c → w.content ≡ d → case_of s r c ≡ place.Dynamic → case_of s r d ≡ place.Dynamic
+      → AreSameLebs s p q id size (r.reserved * size) x y r.reserved ↔ (c ≡ d)
+  dynamic_is_same content.Updating d is js e f = absurd (cc)
+  dynamic_is_same content.Damaged d is js e f = absurd (cc)
+  dynamic_is_same (content.Static t) d is js e f = absurd (cc)
+  dynamic_is_same (content.Dynamic l) content.Updating is js e f = absurd (cc)
+  dynamic_is_same (content.Dynamic l) content.Damaged is js e f = absurd (cc)
+  dynamic_is_same (content.Dynamic l) (content.Static u) is js e f = absurd (cc)
+  dynamic_is_same (content.Dynamic l) (content.Dynamic m) is js e f = (λ same. ap content.Dynamic (lebs_same l m is js same), λ same. same_lebs l m is js (cc))
+
+  pub dynamic_same : finite.get p.contents id ≡ Some place.Dynamic → finite.get q.contents id ≡ Some place.Dynamic
+      → AreSameLebs s p q id size (r.reserved * size) x y r.reserved ↔ (v.content ≡ w.content)
+  dynamic_same one other = dynamic_is_same v.content w.content refl refl
+      (case_is s p x h id r here v at place.Dynamic one) (case_is s q y k id r there w bt place.Dynamic other)
+
+module _ (s : Sizes) (p q : Placed) (x y : List ℕ) (h : ArePlaces (record { sizes = s; bytes = x }) p) (k : ArePlaces (record { sizes = s; bytes = y }) q) where
+  -- equal meanings have equal records
+  pub equal_records : h.meaning ≡ k.meaning → p.records.of ≡ q.records.of
+  equal_records same = ap (λ (t : Records). t.of) (h.records ∙ ap records_of same ∙ sym k.records)
+
+  -- one volume that reads another thing
+  module _ (same : p.records ≡ q.records) (n : ℕ) (e : ℕ × VolumeRecord) (inside : n < length (finite.entries p.records.of)) (is : e ≡ get_or (finite.entries p.records.of) n e) where
+    abbrev d : ℕ × Volume
+    d = (e.0, record { entry = e.1; content = content.Updating })
+
+    there : n < length (finite.entries q.records.of)
+    there = subst (λ (t : Records). n < length (finite.entries t.of)) same inside
+
+    is_there : e ≡ get_or (finite.entries q.records.of) n e
+    is_there = is ∙ ap (λ (t : Records). get_or (finite.entries t.of) n e) same
+
+    pub one_other : TellsVolume e.0 false h.meaning k.meaning → h.meaning ≡ k.meaning → ⊥
+    one_other tells equal =
+        let v = volume_at s p x h n e d inside is in
+        let w = volume_at s q y k n e d there is_there in
+        let one : v.0 ≡ w.0 = some_same v.0 w.0 (sym v.4 ∙ ap (λ (m : Meant). finite.get m.volumes e.0) equal ∙ w.4) in
+        false≢true ((tells v.0 w.0 v.4 w.4).1 (ap (λ (z : Volume). z.content) one))
+
+    -- and one more that reads the same
+    pub one_same : TellsVolume e.0 true h.meaning k.meaning → take n (finite.entries h.meaning.volumes) ≡ take n (finite.entries k.meaning.volumes)
+        → take (n + 1) (finite.entries h.meaning.volumes) ≡ take (n + 1) (finite.entries k.meaning.volumes)
+    one_same tells before =
+        let xs = finite.entries h.meaning.volumes in
+        let ys = finite.entries k.meaning.volumes in
+        let v = volume_at s p x h n e d inside is in
+        let w = volume_at s q y k n e d there is_there in
+        let record_is : v.0.entry ≡ w.0.entry = v.3 ∙ sym w.3 in
+        let text_is : v.0.content ≡ w.0.content = (tells v.0 w.0 v.4 w.4).0 refl in
+        let one : v.0 ≡ w.0 = λ i. record { entry = record_is i; content = text_is i } in
+        let here : get_or xs n d ≡ get_or ys n d = v.2 ∙ ap (λ (z : Volume). (e.0, z)) one ∙ sym w.2 in
+        take_more xs n d v.1 ∙ ap (λ a. a ++ get_or xs n d ∷ []) before ∙ ap (λ (z : ℕ × Volume). take n ys ++ z ∷ []) here ∙ sym (take_more ys n d w.1)
+
+  pub all_same : p.records ≡ q.records → (n : ℕ) → n ≡ length (finite.entries p.records.of)
+      → take n (finite.entries h.meaning.volumes) ≡ take n (finite.entries k.meaning.volumes) → h.meaning ≡ k.meaning
+  all_same same n all are =
+      let xs = finite.entries h.meaning.volumes in
+      let ys = finite.entries k.meaning.volumes in
+      let here : length xs ≡ n = sym (count s p x h) ∙ sym all in
+      let there : length ys ≡ n = sym (count s q y k) ∙ ap (λ (t : Records). length (finite.entries t.of)) (sym same) ∙ sym all in
+      let lists : xs ≡ ys = sym (take_all n xs (omega (arith, here))) ∙ are ∙ take_all n ys (omega (arith, there)) in
+      let volumes : h.meaning.volumes ≡ k.meaning.volumes = same_entries_map h.meaning.volumes k.meaning.volumes lists in
+      let sizes : h.meaning.sizes ≡ k.meaning.sizes = h.accepted.accepted.means.sizes ∙ sym k.accepted.accepted.means.sizes in
+      λ i. record { sizes = sizes i; volumes = volumes i }

@@ -1,0 +1,12 @@
+use Rattle.std.proofs.Common.{◌≡◌, take}
+use Rattle.std.specs.FinMap as finite
+use Rattle.ubi_compose.specs.Compared.{OfMeanings, WhereBothHeld}
+use Rattle.ubi_compose.proofs.matching.same_volumes.Given as goal
+
+abbrev pub invariant-loop-listed : goal.invariant-loop-listed
+invariant-loop-listed g l = record {
+  left : g.L.BlockSource.known l.left ≡ g.L.BlockSource.known l.fn.left;
+  right : g.R.BlockSource.known l.right ≡ g.R.BlockSource.known l.fn.right;
+  same : WhereBothHeld (g.L.BlockSource.known l.fn.left) (g.R.BlockSource.known l.fn.right)
+      (λ x y. OfMeanings l.geometry l.here l.there x y (λ m n. take l.listed-index (finite.entries m.volumes) ≡ take l.listed-index (finite.entries n.volumes)));
+}

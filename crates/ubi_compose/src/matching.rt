@@ -1,0 +1,206 @@
+//! Whether volumes of two sources read the same, one logical eraseblock of each at a time.
+//!
+//! Each buffer has the size of an eraseblock, one for each side. The places are those that were found in the sources.
+
+ghost use Rattle.std.specs.FinMap as finite;
+ghost use Rattle.std.specs.Prelude.{◌≡◌, ◌↔◌, ◌<◌, ◌≤◌, IfErr, IfOk, IfSome, IsTrue, None, Some, length};
+ghost use Rattle.ubi_media.specs.Geometry.{leb_size};
+ghost use Rattle.ubi_media.specs.Record.{rec_fault};
+ghost use Rattle.ubi_scan.specs.Source.{blocks_in};
+ghost use Rattle.ubi_volume.specs.Extract.{leb_bytes};
+ghost use Rattle.ubi_volume.specs.Places.{ArePlacesOf};
+ghost use Rattle.ubi_compose.specs.Compared.{AreSameLebs, IsSideRead, OfMeanings, TellsMeaning, TellsVolume, WhereBothHeld, after_left, after_right};
+
+use crate::errors::SameFault;
+use ubi_media::{Geometry, VolumeRecord};
+use ubi_scan::BlockSource;
+use ubi_volume::{PlaceContent, Places, read_place};
+
+fn are_equal(one: &[u8], other: &[u8]) -> bool
+    ensures { IsTrue result ↔ (one.now ≡ other.now) }
+{
+    one == other
+}
+
+/// Whether two volumes with one record are alike in their cases, and their texts in size.
+fn is_alike(left: PlaceContent, right: PlaceContent) -> bool
+    ensures { IsTrue result ↔ (left ≡ right) }
+{
+    left == right
+}
+
+/// Whether two logical eraseblocks begin with the same bytes, as many as the buffers have, by their places. One without a
+/// place reads 0xFF.
+///
+/// # Errors
+///
+/// A read of a side failed.
+fn same_leb<L: BlockSource, R: BlockSource>(
+    geometry: &Geometry,
+    left: &mut L,
+    right: &mut R,
+    here: Option<u32>,
+    there: Option<u32>,
+    one: &mut [u8],
+    other: &mut [u8],
+) -> Result<bool, SameFault>
+    requires here { IfSome here (λ p. p < blocks_in geometry.now (L.known left.old)) }
+    requires there { IfSome there (λ p. p < blocks_in geometry.now (R.known right.old)) }
+    requires part { length one.old ≤ leb_size geometry.now }
+    requires same { length other.old ≡ length one.old }
+    ensures left { L.known left.new ≡ after_left (L.known left.old) result }
+    ensures right { R.known right.new ≡ after_right (R.known right.old) result }
+    ensures answer { IfOk result (λ answer. WhereBothHeld (L.known left.old) (R.known right.old) (λ x y. IsTrue answer ↔ (leb_bytes geometry.now (length one.old) here x ≡ leb_bytes geometry.now (length one.old) there y))) }
+    ensures failed { IfErr result (IsSideRead (blocks_in geometry.now (L.known left.old)) (blocks_in geometry.now (R.known right.old))) }
+{
+    if here.is_none() && there.is_none() {
+        return Ok(true);
+    }
+    match read_place(geometry, left, here, one) {
+        Ok(()) => {}
+        Err(error) => return Err(SameFault::Left(error)),
+    }
+    match read_place(geometry, right, there, other) {
+        Ok(()) => {}
+        Err(error) => return Err(SameFault::Right(error)),
+    }
+    Ok(are_equal(one, other))
+}
+
+/// Whether so many bytes that stand in the first `lebs` logical eraseblocks of a volume, `size` in each, are the same.
+///
+/// # Errors
+///
+/// A read of a side failed.
+fn same_lebs<L: BlockSource, R: BlockSource>(
+    geometry: &Geometry,
+    left: &mut L,
+    right: &mut R,
+    here: &Places,
+    there: &Places,
+    id: u32,
+    size: u32,
+    lebs: u32,
+    bytes: u64,
+    one: &mut [u8],
+    other: &mut [u8],
+) -> Result<bool, SameFault>
+    requires here { ArePlacesOf geometry.now (L.known left.old) here.now }
+    requires there { ArePlacesOf geometry.now (R.known right.old) there.now }
+    requires one { length one.old ≡ geometry.now.peb_size }
+    requires other { length other.old ≡ geometry.now.peb_size }
+    requires size { size ≤ leb_size geometry.now }
+    ensures left { L.known left.new ≡ after_left (L.known left.old) result }
+    ensures right { R.known right.new ≡ after_right (R.known right.old) result }
+    ensures answer { IfOk result (λ answer. WhereBothHeld (L.known left.old) (R.known right.old) (λ x y. IsTrue answer ↔ AreSameLebs geometry.now here.now there.now id size bytes x y lebs)) }
+    ensures failed { IfErr result (IsSideRead (blocks_in geometry.now (L.known left.old)) (blocks_in geometry.now (R.known right.old))) }
+{
+    for lnum in 0..lebs {
+        let before = u64::from(lnum) * u64::from(size);
+        let len = u64::from(size).min(bytes.saturating_sub(before)) as usize;
+        let (p, q) = (here.place(id, lnum), there.place(id, lnum));
+        if !same_leb(
+            geometry,
+            left,
+            right,
+            p,
+            q,
+            &mut one[..len],
+            &mut other[..len],
+        )? {
+            return Ok(false);
+        }
+    }
+    Ok(true)
+}
+
+/// Whether the volumes with a number, which have one record, read the same.
+///
+/// # Errors
+///
+/// A read of a side failed.
+fn same_volume<L: BlockSource, R: BlockSource>(
+    geometry: &Geometry,
+    left: &mut L,
+    right: &mut R,
+    here: &Places,
+    there: &Places,
+    id: u32,
+    entry: &VolumeRecord,
+    one: &mut [u8],
+    other: &mut [u8],
+) -> Result<bool, SameFault>
+    requires here { ArePlacesOf geometry.now (L.known left.old) here.now }
+    requires there { ArePlacesOf geometry.now (R.known right.old) there.now }
+    requires recorded { finite.get here.now.records.of id ≡ Some entry.now }
+    requires same { here.now.records ≡ there.now.records }
+    requires sound { rec_fault geometry.now entry.now ≡ None }
+    requires one { length one.old ≡ geometry.now.peb_size }
+    requires other { length other.old ≡ geometry.now.peb_size }
+    ensures left { L.known left.new ≡ after_left (L.known left.old) result }
+    ensures right { R.known right.new ≡ after_right (R.known right.old) result }
+    ensures answer { IfOk result (λ answer. WhereBothHeld (L.known left.old) (R.known right.old) (λ x y. OfMeanings geometry.now here.now there.now x y (TellsVolume id answer))) }
+    ensures failed { IfErr result (IsSideRead (blocks_in geometry.now (L.known left.old)) (blocks_in geometry.now (R.known right.old))) }
+{
+    let content = here.content(id);
+    if !is_alike(content, there.content(id)) {
+        return Ok(false);
+    }
+    let size = entry.usable(geometry);
+    match content {
+        PlaceContent::Updating => Ok(true),
+        PlaceContent::Damaged => Ok(true),
+        PlaceContent::Static { lebs, bytes } => same_lebs(
+            geometry, left, right, here, there, id, size, lebs, bytes, one, other,
+        ),
+        PlaceContent::Dynamic => {
+            let bytes = u64::from(entry.reserved) * u64::from(size);
+            same_lebs(
+                geometry,
+                left,
+                right,
+                here,
+                there,
+                id,
+                size,
+                entry.reserved,
+                bytes,
+                one,
+                other,
+            )
+        }
+    }
+}
+
+/// Whether the volumes of one table read the same.
+///
+/// # Errors
+///
+/// A read of a side failed.
+pub fn same_volumes<L: BlockSource, R: BlockSource>(
+    geometry: &Geometry,
+    left: &mut L,
+    right: &mut R,
+    here: &Places,
+    there: &Places,
+    one: &mut [u8],
+    other: &mut [u8],
+) -> Result<bool, SameFault>
+    requires here { ArePlacesOf geometry.now (L.known left.old) here.now }
+    requires there { ArePlacesOf geometry.now (R.known right.old) there.now }
+    requires same { here.now.records ≡ there.now.records }
+    requires one { length one.old ≡ geometry.now.peb_size }
+    requires other { length other.old ≡ geometry.now.peb_size }
+    ensures left { L.known left.new ≡ after_left (L.known left.old) result }
+    ensures right { R.known right.new ≡ after_right (R.known right.old) result }
+    ensures answer { IfOk result (λ answer. WhereBothHeld (L.known left.old) (R.known right.old) (λ x y. OfMeanings geometry.now here.now there.now x y (TellsMeaning answer))) }
+    ensures failed { IfErr result (IsSideRead (blocks_in geometry.now (L.known left.old)) (blocks_in geometry.now (R.known right.old))) }
+{
+    for listed in here.table().entries() {
+        let (id, entry) = *listed;
+        if !same_volume(geometry, left, right, here, there, id, &entry, one, other)? {
+            return Ok(false);
+        }
+    }
+    Ok(true)
+}
