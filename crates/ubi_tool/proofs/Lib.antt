@@ -4,5 +4,6 @@ pub mod Cut
 pub mod Defaults
 pub mod Ended
 pub mod Extracted
+pub mod Listing
 pub mod Normalised
 pub mod Outcomes

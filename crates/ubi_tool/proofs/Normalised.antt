@@ -1,16 +1,13 @@
 -- What a normalising of a source tells of an image whose bytes are known, and over files.
-use Rattle.std.proofs.Common.{◌≡◌, ℕ, ◌/◌, List, ap, inl, inr, length, refl, subst, sym, ◌∙◌}
+use Rattle.std.proofs.Common.{◌≡◌, ℕ, ◌/◌, List, ap, length, refl, subst, sym, ◌∙◌}
 use Rattle.std.proofs.lemmas.Result.{IfErr-at_err, IfOk-at_ok}
 use Rattle.std.specs.Prelude.{IfErr, IfOk, MatchResult, Option, Result, Some, None, Err, codes}
 use Rattle.std.specs.declared.alloc.AllocError.{AllocError}
 use Rattle.ubi_media.specs.Geometry.{IsGeometry, Sizes}
-use Rattle.ubi_media.specs.declared.refusal.Refusal.{Refusal}
-use Rattle.ubi_scan.specs.Image.{Image, IsLengthFault, IsWholeSize}
-use Rattle.ubi_scan.specs.Source.{IsSource, Source, WhereHeld}
-use Rattle.ubi_scan.specs.declared.errors.StreamError.TheVariants as stream
-use Rattle.ubi_volume.specs.Accepts.{Accepts, Refuses}
+use Rattle.ubi_scan.specs.Image.{Image}
+use Rattle.ubi_scan.specs.Source.{Source, WhereHeld}
+use Rattle.ubi_volume.specs.Accepts.{Accepts}
 use Rattle.ubi_volume.specs.Meant.{Meant}
-use Rattle.ubi_volume.specs.Places.{ArePlacesError}
 use Rattle.ubi_compose.specs.Normal.{normal_blocks}
 use Rattle.ubi_compose.specs.Streamed.{IsStreamed}
 use Rattle.ubi_compose.proofs.Form.{count-normal_bytes}
@@ -42,13 +39,6 @@ of_streamed s bytes old new n o g h gives =
     let count : n / s.peb_size ≡ length (normal_blocks h.meaning) =
     quotient h.count size ∙ count-normal_bytes h.meaning (subst IsGeometry (sym means.sizes) g) means.meaning in
     accepted h.meaning h.accepted (subst (λ (b : ℕ). Gives o (says (blocks_line b) 0)) count gives) h.written
-
--- a cause for which a source isn't attached is one for which its bytes are refused
-pub refuses : (s : Sizes) (k : Source) (bytes : List ℕ) (c : Refusal) → IsSource k → k.held ≡ Some bytes
-    → ArePlacesError s k (stream.Refused c) → Refuses (image_of s bytes) c
-refuses s k bytes c is holds (inl fault) =
-    inl (subst (λ (n : ℕ). IsLengthFault s n c) (sym (is.sized bytes holds)) fault)
-refuses s k bytes c is holds (inr h) = inr (subst (IsWholeSize s) (sym (is.sized bytes holds)) h.0, h.1 bytes holds)
 
 -- work that was done is that of an accepted image
 pub done_image : (image : Image) (old new : Option (List ℕ)) (o : Outcome) → Normalises image old new o → o.status ≡ 0

@@ -1,7 +1,6 @@
 -- What is known of a source after a command over it.
 use Rattle.std.specs.Prelude.{Result, Ok, Err}
 use Rattle.ubi_scan.specs.Source.{Source, failed}
-use Rattle.ubi_tool.specs.declared.outcome.Outcome.{Outcome}
 use Rattle.ubi_tool.specs.declared.outcome.ToolError.{ToolError}
 use Rattle.ubi_tool.specs.declared.outcome.ToolError.TheVariants as tool
 
@@ -10,6 +9,6 @@ abbrev pub after_fault : Source → ToolError → Source
 after_fault k tool.Read = failed k
 after_fault k _ = k
 
-abbrev pub after_run : Source → Result Outcome ToolError → Source
+abbrev pub after_run : {A : Type 0} → Source → Result A ToolError → Source
 after_run k (Ok _) = k
 after_run k (Err e) = after_fault k e

@@ -11,13 +11,16 @@ use Rattle.ubi_media.specs.declared.vid.VolKind.{VolKind}
 use Rattle.ubi_media.specs.declared.vid.VolKind.TheVariants as kind
 use Rattle.ubi_scan.specs.Image.{Image}
 use Rattle.ubi_volume.specs.Accepts.{Accepts, Refuses}
+use Rattle.ubi_volume.specs.Amounts.{amount_of}
 use Rattle.ubi_volume.specs.Meant.{Meant}
-use Rattle.ubi_volume.specs.declared.content.Content.{Content}
-use Rattle.ubi_volume.specs.declared.content.Content.TheVariants as content
+use Rattle.ubi_volume.specs.declared.amounts.Amount.{Amount}
+use Rattle.ubi_volume.specs.declared.amounts.Amount.TheVariants as amount
 use Rattle.ubi_volume.specs.declared.content.Volume.{Volume}
 use Rattle.ubi_tool.specs.Answer.{Gives, says}
 use Rattle.ubi_tool.specs.Lines.{refusal_line}
 use Rattle.ubi_tool.specs.declared.outcome.Outcome.{Outcome}
+use Rattle.ubi_tool.specs.declared.outcome.ToolError.{ToolError}
+use Rattle.ubi_tool.specs.declared.outcome.ToolError.TheVariants as tool
 
 -- a name as it is shown: the printable bytes but the backslash as they are, and any other by its two digits
 abbrev pub shown_byte : ℕ → List ℕ
@@ -31,11 +34,11 @@ kind_word kind.Dynamic = codes "dynamic"
 kind_word kind.Static = codes "static"
 
 -- how much a volume reads, or why it can't be read
-abbrev pub content_word : Content → List ℕ
-content_word content.Updating = codes "updating"
-content_word content.Damaged = codes "damaged"
-content_word (content.Static text) = codes "bytes=" ++ decimal (length text)
-content_word (content.Dynamic lebs) = codes "lebs=" ++ decimal (length (entries lebs))
+abbrev pub amount_word : Amount → List ℕ
+amount_word amount.Updating = codes "updating"
+amount_word amount.Damaged = codes "damaged"
+amount_word (amount.Bytes bytes) = codes "bytes=" ++ decimal bytes
+amount_word (amount.Lebs count) = codes "lebs=" ++ decimal count
 
 -- the numbers of a geometry but how many eraseblocks there are
 unfoldable pub layout_words : Sizes → List ℕ
@@ -57,11 +60,15 @@ record_words s r =
     kind_word r.kind ++ codes " reserved=" ++ decimal r.reserved ++ codes " alignment=" ++ decimal r.alignment
     ++ codes " usable=" ++ decimal (usable s r) ++ codes " flags=" ++ encode_lower (r.flags ∷ [])
 
+-- the line of a record and its number, and how much its volume reads
+abbrev pub record_line : Sizes → ℕ → VolumeRecord → Amount → List ℕ
+record_line s id r amount =
+    codes "volume " ++ decimal id ++ codes " " ++ record_words s r ++ codes " " ++ amount_word amount
+    ++ codes " name=" ++ shown r.name ++ codes "\n"
+
 -- the line of a volume and its number
 abbrev pub volume_line : Sizes → ℕ × Volume → List ℕ
-volume_line s (id, v) =
-    codes "volume " ++ decimal id ++ codes " " ++ record_words s v.entry ++ codes " " ++ content_word v.content
-    ++ codes " name=" ++ shown v.entry.name ++ codes "\n"
+volume_line s (id, v) = record_line s id v.entry (amount_of v.content)
 
 -- the lines of a meaning
 abbrev pub list_lines : Meant → List ℕ
@@ -73,3 +80,8 @@ list_lines m =
 pub data Lists (image : Image) : Outcome → Type 0 where
   accepted : {o : Outcome} (m : Meant) → Accepts image m → Gives o (says (list_lines m) 0) → Lists image o
   refused : {o : Outcome} (c : Refusal) → Refuses image c → Gives o (says (refusal_line c) 1) → Lists image o
+
+-- why it answers nothing: a read failed, or memory ran out
+abbrev pub IsListFault : ToolError → Type 0
+IsListFault tool.Write = ⊥
+IsListFault _ = Unit {0}

@@ -1,17 +1,21 @@
 //! The command `list`: the volumes of an image.
 
-ghost use Rattle.std.specs.Prelude.{◌≡◌, ◌++◌, ◌∷◌, [], IfErr, IfOk, None, OnOk, codes};
+ghost use Rattle.std.specs.Prelude.{◌≡◌, ◌++◌, ◌∷◌, [], IfErr, IfOk, None, OnOk, codes, length};
 ghost use Rattle.std.specs.FinMap as finite;
 ghost use Rattle.std.specs.List.{flat_map};
 ghost use Rattle.hex.specs.Hex.{encode_lower};
 ghost use Rattle.ubi_media.specs.Record.{rec_fault};
-ghost use Rattle.ubi_tool.specs.List.{Lists, content_word, kind_word, layout_words, list_lines, record_words, room_words, shown, shown_byte, sizes_line, volume_line};
+ghost use Rattle.ubi_scan.specs.Source.{WhereHeld};
+ghost use Rattle.ubi_volume.specs.Places.{ArePlaces, ArePlacesOf};
+ghost use Rattle.ubi_tool.specs.AfterRun.{after_run};
+ghost use Rattle.ubi_tool.specs.List.{IsListFault, Lists, amount_word, kind_word, layout_words, list_lines, record_line, record_words, room_words, shown, shown_byte, sizes_line, volume_line};
 
 use crate::lines::{put_number, put_word, refusal_line};
 use crate::outcome::{DONE, FAILED, Outcome, ToolError};
 use std::alloc::{AllocError, Global};
-use ubi_media::{AttachError, Geometry, VolKind, VolumeRecord};
-use ubi_volume::{Content, Meaning, Volume, attach};
+use ubi_media::{Geometry, VolKind, VolumeRecord};
+use ubi_scan::{BlockSource, MemorySource, StreamError};
+use ubi_volume::{Amount, Places, amount_of, attach_places};
 
 /// Adds a byte as two digits.
 fn put_digits(alloc: Global, text: &mut Vec<u8>, byte: u8) -> Result<(), AllocError>
@@ -53,14 +57,14 @@ fn kind_word(kind: VolKind) -> &'static str
 }
 
 /// Adds how much a volume reads, or why it can't be read.
-fn put_content(text: &mut Vec<u8>, content: &Content) -> Result<(), AllocError>
-    ensures { OnOk result (text.new.items ≡ text.old.items ++ content_word content.now) }
+fn put_amount(text: &mut Vec<u8>, amount: Amount) -> Result<(), AllocError>
+    ensures { OnOk result (text.new.items ≡ text.old.items ++ amount_word amount) }
 {
-    match content {
-        Content::Updating => put_word(text, "updating"),
-        Content::Damaged => put_word(text, "damaged"),
-        Content::Static(bytes) => put_number(text, "bytes=", bytes.as_slice().len() as u64),
-        Content::Dynamic(lebs) => put_number(text, "lebs=", lebs.len() as u64),
+    match amount {
+        Amount::Updating => put_word(text, "updating"),
+        Amount::Damaged => put_word(text, "damaged"),
+        Amount::Bytes(bytes) => put_number(text, "bytes=", bytes),
+        Amount::Lebs(count) => put_number(text, "lebs=", u64::from(count)),
     }
 }
 
@@ -111,49 +115,120 @@ fn put_record(
     put_digits(alloc, text, entry.flags)
 }
 
-/// Adds the line of a volume and its number.
+/// Adds the line of a volume with a number.
 fn put_volume(
     alloc: Global,
     text: &mut Vec<u8>,
     geometry: &Geometry,
-    numbered: &(u32, Volume),
+    id: u32,
+    entry: &VolumeRecord,
+    amount: Amount,
 ) -> Result<(), AllocError>
-    requires { rec_fault geometry.now numbered.now.1.entry ≡ None }
-    ensures { OnOk result (text.new.items ≡ text.old.items ++ volume_line geometry.now numbered.now) }
+    requires { rec_fault geometry.now entry.now ≡ None }
+    ensures { OnOk result (text.new.items ≡ text.old.items ++ record_line geometry.now id entry.now amount) }
 {
-    let (id, volume) = numbered;
-    put_number(text, "volume ", u64::from(*id))?;
+    put_number(text, "volume ", u64::from(id))?;
     put_word(text, " ")?;
-    put_record(alloc, text, geometry, &volume.entry)?;
+    put_record(alloc, text, geometry, entry)?;
     put_word(text, " ")?;
-    put_content(text, &volume.content)?;
+    put_amount(text, amount)?;
     put_word(text, " name=")?;
-    put_shown(alloc, text, volume.entry.name.as_bytes())?;
+    put_shown(alloc, text, entry.name.as_bytes())?;
     put_word(text, "\n")
 }
 
-/// Adds the lines of the volumes of a meaning, by rising number.
-fn put_volumes(alloc: Global, text: &mut Vec<u8>, meaning: &Meaning) -> Result<(), AllocError>
-    ensures { OnOk result (text.new.items ≡ text.old.items ++ flat_map (volume_line meaning.now.sizes) (finite.entries meaning.now.volumes)) }
+/// Adds the lines of the volumes of a source, by rising number. The buffer has the size of an eraseblock.
+///
+/// # Errors
+///
+/// Read where a read failed. Memory where memory ran out.
+fn put_volumes<S: BlockSource>(
+    alloc: Global,
+    text: &mut Vec<u8>,
+    geometry: &Geometry,
+    source: &mut S,
+    places: &Places,
+    buffer: &mut [u8],
+) -> Result<(), ToolError>
+    requires places { ArePlacesOf geometry.now (S.known source.old) places.now }
+    requires room { length buffer.old ≡ geometry.now.peb_size }
+    ensures known { S.known source.new ≡ after_run (S.known source.old) result }
+    ensures text { OnOk result (WhereHeld (S.known source.old) (λ bytes. (h : ArePlaces (record { sizes = geometry.now; bytes = bytes }) places.now) → text.new.items ≡ text.old.items ++ flat_map (volume_line geometry.now) (finite.entries h.meaning.volumes))) }
+    ensures failed { IfErr result IsListFault }
 {
-    let geometry = meaning.geometry();
-    let volumes = meaning.volumes();
-    for numbered in volumes {
-        put_volume(alloc, text, &geometry, numbered)?;
+    for listed in places.table().entries() {
+        let (id, entry) = *listed;
+        match amount_of(geometry, source, places, id, &entry, buffer) {
+            Ok(amount) => put_volume(alloc, text, geometry, id, &entry, amount)?,
+            Err(StreamError::Read(_, _)) => return Err(ToolError::Read),
+            // Nothing is refused any more, and nothing is written.
+            Err(StreamError::Refused(_) | StreamError::Write(_) | StreamError::Memory) => {
+                unreachable!()
+            }
+        }
     }
     Ok(())
 }
 
-/// The lines of a meaning: the sizes of its device, its volumes, and how many there are.
-fn list_lines(alloc: Global, meaning: &Meaning) -> Result<Vec<u8>, AllocError>
-    ensures { IfOk result (λ text. text.items ≡ list_lines meaning.now) }
+/// The lines of a source: the sizes of its device, its volumes, and how many there are.
+///
+/// # Errors
+///
+/// Read where a read failed. Memory where memory ran out.
+fn list_lines<S: BlockSource>(
+    alloc: Global,
+    geometry: &Geometry,
+    source: &mut S,
+    places: &Places,
+) -> Result<Vec<u8>, ToolError>
+    requires { ArePlacesOf geometry.now (S.known source.old) places.now }
+    ensures known { S.known source.new ≡ after_run (S.known source.old) result }
+    ensures text { IfOk result (λ text. WhereHeld (S.known source.old) (λ bytes. (h : ArePlaces (record { sizes = geometry.now; bytes = bytes }) places.now) → text.items ≡ list_lines h.meaning)) }
+    ensures failed { IfErr result IsListFault }
 {
+    let mut buffer = Vec::from_elem(alloc, 0u8, geometry.peb_size() as usize)?;
     let mut text = Vec::new(alloc);
-    put_sizes(&mut text, &meaning.geometry())?;
-    put_volumes(alloc, &mut text, meaning)?;
-    put_number(&mut text, "volumes ", meaning.volumes().len() as u64)?;
+    put_sizes(&mut text, geometry)?;
+    put_volumes(
+        alloc,
+        &mut text,
+        geometry,
+        source,
+        places,
+        buffer.as_mut_slice(),
+    )?;
+    put_number(&mut text, "volumes ", places.table().entries().len() as u64)?;
     put_word(&mut text, "\n")?;
     Ok(text)
+}
+
+/// Lists the volumes of a source, or answers the line of its refusal. One eraseblock of contents is held at a time.
+///
+/// # Errors
+///
+/// Read where a read failed. Memory where memory ran out.
+fn list<S: BlockSource>(
+    alloc: Global,
+    geometry: &Geometry,
+    source: &mut S,
+) -> Result<Outcome, ToolError>
+    ensures known { S.known source.new ≡ after_run (S.known source.old) result }
+    ensures ok { IfOk result (λ o. WhereHeld (S.known source.old) (λ bytes. Lists (record { sizes = geometry.now; bytes = bytes }) o)) }
+    ensures err { IfErr result IsListFault }
+{
+    match attach_places(alloc, geometry, source) {
+        Ok(places) => {
+            let text = list_lines(alloc, geometry, source, &places)?;
+            Ok(Outcome::saying(text, DONE))
+        }
+        Err(StreamError::Refused(cause)) => {
+            Ok(Outcome::saying(refusal_line(alloc, cause)?, FAILED))
+        }
+        Err(StreamError::Read(_, _)) => Err(ToolError::Read),
+        Err(StreamError::Memory) => Err(ToolError::Memory),
+        // Nothing is written.
+        Err(StreamError::Write(_)) => unreachable!(),
+    }
 }
 
 /// Lists the volumes of an image, or answers the line of its refusal.
@@ -165,11 +240,10 @@ pub fn run_list(alloc: Global, geometry: &Geometry, image: &[u8]) -> Result<Outc
     ensures ok { IfOk result (Lists (record { sizes = geometry.now; bytes = image.now })) }
     ensures err { IfErr result (λ e. e ≡ ToolError.Memory) }
 {
-    match attach(alloc, geometry, image) {
-        Ok(attached) => Ok(Outcome::saying(list_lines(alloc, attached.meaning())?, DONE)),
-        Err(AttachError::Refused(cause)) => {
-            Ok(Outcome::saying(refusal_line(alloc, cause)?, FAILED))
-        }
-        Err(AttachError::Memory) => Err(ToolError::Memory),
+    match list(alloc, geometry, &mut MemorySource::new(image)) {
+        Ok(outcome) => Ok(outcome),
+        Err(ToolError::Memory) => Err(ToolError::Memory),
+        // Reading memory doesn't fail.
+        Err(ToolError::Read | ToolError::Write) => unreachable!(),
     }
 }

@@ -3,8 +3,8 @@ use Rattle.std.proofs.KnownBytes.{Keeps-refl}
 use Rattle.std.proofs.lemmas.Result.{IfOk-weaker}
 use Rattle.ubi_scan.specs.Source.{Source}
 use Rattle.ubi_tool.specs.Extract.{accepted, refused, refused_from, unread, unread_from, wrote}
+use Rattle.ubi_compose.proofs.Refusals.{refuses}
 use Rattle.ubi_tool.proofs.Extracted.{error_is, places_cut, places_first, places_read, received}
-use Rattle.ubi_tool.proofs.Normalised.{refuses}
 use Rattle.ubi_tool.proofs.extract.run_extract_from.Goals as goal
 
 pub returns-in-Err-Refused-clause-ok : goal.returns-in-Err-Refused-clause-ok

@@ -1,8 +1,14 @@
 use Rattle.std.proofs.Common.{◌≡◌, ◌++◌, take, vec_items}
+use Rattle.std.specs.FinMap as finite
 use Rattle.std.specs.List.{flat_map}
+use Rattle.ubi_scan.specs.Source.{WhereHeld}
+use Rattle.ubi_volume.specs.Places.{ArePlaces}
 use Rattle.ubi_tool.specs.List.{volume_line}
 use Rattle.ubi_tool.proofs.list.put_volumes.Given as goal
 
-abbrev pub invariant-loop-numbered : goal.invariant-loop-numbered
-invariant-loop-numbered l =
-    vec_items l.text ≡ vec_items l.initial.text ++ flat_map (volume_line l.geometry) (take l.numbered-index l.volumes)
+abbrev pub invariant-loop-listed : goal.invariant-loop-listed
+invariant-loop-listed g l = record {
+  source : g.S.BlockSource.known l.source ≡ g.S.BlockSource.known l.fn.source;
+  text : WhereHeld (g.S.BlockSource.known l.fn.source) (λ bytes. (h : ArePlaces (record { sizes = l.geometry; bytes = bytes }) l.places) →
+      vec_items l.text ≡ vec_items l.initial.text ++ flat_map (volume_line l.geometry) (take l.listed-index (finite.entries h.meaning.volumes)));
+}

@@ -1,7 +1,8 @@
 use Rattle.std.proofs.Common.{◌≡◌, ◌/◌}
 use Rattle.ubi_tool.specs.Lines.{blocks_line}
 use Rattle.ubi_tool.specs.Normalise.{refused, wrote, wrote_nothing}
-use Rattle.ubi_tool.proofs.Normalised.{of_streamed, refuses}
+use Rattle.ubi_compose.proofs.Refusals.{refuses}
+use Rattle.ubi_tool.proofs.Normalised.{of_streamed}
 use Rattle.ubi_tool.proofs.normalise.run_normalise.Goals as goal
 
 pub returns-in-Ok-clause-ok : goal.returns-in-Ok-clause-ok
