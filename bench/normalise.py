@@ -112,26 +112,38 @@ def put_image(path, kind, count):
         it.writelines(eraseblocks(kind, count))
 
 
+def over_images(place, count, runs):
+    """Prints what some runs take over the image of each kind, and yields the kind and what they took.
+
+    RUNS gives, of the image's path and that of the output, the words of each run by its name.
+    """
+    folder = tempfile.mkdtemp(dir=place)
+    print(f"{count} eraseblocks of {PEB} bytes      passed   of the processor   MiB at the peak")
+    try:
+        path, out = os.path.join(folder, "in.img"), os.path.join(folder, "out.bin")
+        for kind in KINDS:
+            put_image(path, kind, count)
+            ran = {name: measure(words, out) for name, words in runs(path, out).items()}
+            for name, (passed, used, most) in ran.items():
+                print(f"{f'{name}, {kind}':<38} {passed:>7.2f}   {used:>16.2f}   {most:>15.1f}")
+            yield kind, ran
+    finally:
+        shutil.rmtree(folder)
+
+
 def main():
     place, count = options(__doc__, "--blocks", 1024)
     tool = built_tool()
-    folder = tempfile.mkdtemp(dir=place)
+    sizes = ["--peb", str(PEB), "--page", str(PAGE)]
+
+    def runs(path, out):
+        return {"cp": ["cp", path, out], "normalise": [tool, "normalise", path, "--out", out, *sizes]}
+
     above = False
-    print(f"{count} eraseblocks of {PEB} bytes      passed   of the processor   MiB at the peak")
-    try:
-        path, out = os.path.join(folder, "in.img"), os.path.join(folder, "out.img")
-        for kind in KINDS:
-            put_image(path, kind, count)
-            copied = measure(["cp", path, out], out)
-            sizes = ["--peb", str(PEB), "--page", str(PAGE)]
-            normalised = measure([tool, "normalise", path, "--out", out, *sizes], out)
-            for name, (passed, used, most) in ((f"cp, {kind}", copied), (f"normalise, {kind}", normalised)):
-                print(f"{name:<38} {passed:>7.2f}   {used:>16.2f}   {most:>15.1f}")
-            passed, used = normalised[0] / copied[0], normalised[1] / copied[1]
-            print(f"normalise takes {passed:.1f} times as long as cp, {used:.1f} times of the processor")
-            above |= max(passed, used) > KINDS[kind][1] or normalised[2] > ROOM
-    finally:
-        shutil.rmtree(folder)
+    for kind, ran in over_images(place, count, runs):
+        passed, used = (ran["normalise"][n] / ran["cp"][n] for n in range(2))
+        print(f"normalise takes {passed:.1f} times as long as cp, {used:.1f} times of the processor")
+        above |= max(passed, used) > KINDS[kind][1] or ran["normalise"][2] > ROOM
     sys.exit(1 if above else 0)
 
 
