@@ -50,7 +50,7 @@ pub length-program_text : (s : Sizes) (p : ℕ) (new : List ℕ) → length (pro
 length-program_text s p new = length_pages p (s.data_offset / s.page) (first_chunks s.page (pages_of s new) new) ∙ length-first_chunks s.page (pages_of s new) new
 
 module _ (s : Sizes) (g : IsGeometry s) (ec vid : List ℕ) (ec_size : length ec ≡ 64) (vid_size : length vid ≡ 64) (p : ℕ) where
-  -- the pages of a text, one behind the other
+  -- the pages of a text, in order
   run_pages : (n j i : ℕ) (text rest : List ℕ) → length text ≡ i * s.page → n * s.page ≤ length rest → j ≤ n
       → run s (laid s ec vid text) (take j (map (page_step p) (enumerate_from (s.data_offset / s.page + i) (first_chunks s.page n rest)))) ≡ laid s ec vid (text ++ take (j * s.page) rest)
   run_pages n zero i text rest e room l =

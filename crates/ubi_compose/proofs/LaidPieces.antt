@@ -45,7 +45,7 @@ module _ (s : Sizes) (g : IsGeometry s) (ec vid text : List ℕ) (ec_size : leng
       ∙ ap (λ xs. xs ++ b) (append_assoc image (ec ++ a) vid)
       ∙ append_assoc image ((ec ++ a) ++ vid) b
 
-  -- the pieces, one behind the other, are the eraseblock that is filled up
+  -- the pieces, in order, are the eraseblock that is filled up
   pub laid-pieces : (image : List ℕ)
       → ((((((image ++ ec) ++ blank (s.vid_offset - 64)) ++ vid) ++ blank (s.data_offset - s.vid_offset - 64)) ++ text) ++ blank (leb_size s - length text))
       ≡ image ++ filled s.peb_size (filled s.data_offset (filled s.vid_offset ec ++ vid) ++ text)

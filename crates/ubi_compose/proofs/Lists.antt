@@ -29,7 +29,7 @@ module _ {X : Type 0} where
   all_from P [] h = tt
   all_from P (x ∷ xs) h = (h x (0, refl), all_from P xs (λ y at. h y (suc at.0, at.1)))
 
-  -- the elements of two lists, one behind the other
+  -- the elements of two lists, in order
   pub holds_left : (xs ys : List X) (x : X) → Holds xs x → Holds (xs ++ ys) x
   holds_left [] ys x h = absurd (let e = h.1 in cc)
   holds_left (y ∷ xs) ys x (zero, e) = (zero, e)

@@ -1,4 +1,4 @@
--- Eraseblocks that are laid one behind the other.
+-- Eraseblocks that are laid in order.
 use Rattle.std.proofs.Common.{◌≡◌, ℕ, ◌+◌, List, [], ◌∷◌, ◌++◌, ◌<◌, get_or, length, map, replicate, take, append_assoc, append-nil, arith, length-append, ap, sym, ◌∙◌, zero-add}
 use Rattle.std.specs.FinMap as finite
 use Rattle.std.specs.List.{flat_map, range_with_len}
@@ -87,7 +87,7 @@ static_count s vol r c text is =
     sym (length-map-range_with_len (λ lnum. static_block (data_pad s r) vol used lnum (share (usable s r) text lnum)) 0 used)
     ∙ ap (λ x. length (volume_blocks s vol r x)) (sym is)
 
--- the table, the volumes and the spares, one behind the other
+-- the table, the volumes and the spares, in order
 pub composed_pieces : (m : Meant) (spares : ℕ)
     → (([] ++ laid_bytes m.sizes new_ec (layout_block m 0)) ++ laid_bytes m.sizes new_ec (layout_block m 1)) ++ flat_map (laid_bytes m.sizes new_ec) (blocks_of m.sizes (finite.entries m.volumes))
     ++ flat_map (λ b. b) (replicate spares (spare m.sizes)) ≡ composed m spares

@@ -1,4 +1,4 @@
-//! The eraseblocks of the normal image, one behind the other.
+//! The eraseblocks of the normal image, in order.
 
 ghost use Rattle.std.specs.Prelude.{◌≡◌, ◌++◌, ◌≤◌, OnOk, length};
 ghost use Rattle.ubi_media.specs.Fields.{blank};

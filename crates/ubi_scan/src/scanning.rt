@@ -172,7 +172,7 @@ fn scan_blocks<S: BlockSource>(
 ///
 /// # Errors
 ///
-/// Refused with `TooMany` or `Length` where the source hasn't the size of an image, before any read. Read where a read
+/// Refused with `TooMany` or `Length` where the source doesn't have the size of an image, before any read. Read where a read
 /// failed, with the count 0. Refused with the first fault of the lowest eraseblock that has one: `Ec`, `ImageSeq`,
 /// `Vid`, `Incompatible`, `Layout` or `SameSqnum`, tried in this order. Memory where it ran out.
 pub fn scan_from<S: BlockSource>(

@@ -76,7 +76,7 @@ by_volume : (s : Sizes) (o : Option Volume) (e : ReadError) (fault : ToolError)
 by_volume s None e fault h u = has_name e error.NoVolume _ fault h refl u
 by_volume s (Some v) e fault h u = by_content s v v.content e fault h u
 
--- so what isn't told of it is want of memory
+-- so what isn't told of it is that memory ran out
 pub untold : (m : Meant) (id : ℕ) (kept : Option (List ℕ)) (e : ReadError) (fault : ToolError) → read_volume m id ≡ Err e → IsUntold e fault
     → Keeps kept kept → IsVolumeError m id kept kept fault
 untold m id kept e tool.Memory h u k = k

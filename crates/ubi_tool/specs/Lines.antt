@@ -96,7 +96,7 @@ abbrev pub comparison_line : Bool → List ℕ
 comparison_line true = codes "same\n"
 comparison_line false = codes "different\n"
 
--- the line of an eraseblock that the image hasn't
+-- the line of an eraseblock that isn't in the image
 abbrev pub no_block_line : List ℕ
 no_block_line = refused (codes "B1 Block") []
 

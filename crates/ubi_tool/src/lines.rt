@@ -213,7 +213,7 @@ pub fn comparison_line(alloc: Global, same: bool) -> Result<Vec<u8>, AllocError>
     Vec::from_slice(alloc, if same { b"same\n" } else { b"different\n" })
 }
 
-/// The line of an eraseblock that the image hasn't.
+/// The line of an eraseblock that isn't in the image.
 pub fn no_block_line(alloc: Global) -> Result<Vec<u8>, AllocError>
     ensures { IfOk result (λ text. text.items ≡ no_block_line) }
 {

@@ -1,4 +1,4 @@
--- What the LEBs of a dynamic volume read, one behind the other.
+-- What the LEBs of a dynamic volume read, in order.
 use Rattle.std.proofs.Common.{◌≡◌, ℕ, zero, suc, ◌+◌, ◌-◌, ◌*◌, ◌<◌, ◌≤◌, List, ◌∷◌, ◌++◌, length, take, ap, sym, ◌∙◌, subst, arith, length-append, append-nil}
 use Rattle.std.proofs.Math.Seq.{take-append-add}
 use Rattle.std.proofs.lemmas.Grind.{flat_map-append}
@@ -62,7 +62,7 @@ module _ (size : ℕ) (lebs : FinMap nat_cmp (List ℕ)) where
         ∙ take-append-add (lebs_text size lebs n) (leb_text size (get lebs n) ++ flat_map f (range_with_len (n + 1) rest)) k
         ∙ ap (λ xs. lebs_text size lebs n ++ xs) (take-append-le k (leb_text size (get lebs n)) (flat_map f (range_with_len (n + 1) rest)) within)
 
-    -- what a writer has got that failed at a place in n
+    -- what a writer received that failed at a place in n
     pub lebs_failed : (a b c : Option (List ℕ)) (n m k : ℕ) → n < m → k ≤ size → Appends a b (lebs_text size lebs n) → Appends b c (take k (leb_text size (get lebs n)))
         → Appends a c (take (n * size + k) (lebs_text size lebs m))
     lebs_failed a b c n m k inside less before next = subst (Appends a c) (sym (lebs_part n m k inside less)) (Appends-trans a b c _ _ before next)

@@ -1,4 +1,4 @@
--- What a writer has got after several writes.
+-- What a writer received in several writes.
 use Rattle.std.proofs.Common.{◌≡◌, ℕ, ◌+◌, ◌-◌, ◌≤◌, List, ◌++◌, Option, ap, sym, ◌∙◌, subst, take, drop, length}
 use Rattle.std.specs.Io.KnownBytes.{Appends}
 use Rattle.std.proofs.KnownBytes.{Appends-trans}

@@ -36,7 +36,7 @@ pub record Accepts (image : Image) (m : Meant) : Type 0 where
 abbrev pub Refuses : Image → Refusal → Type 0
 Refuses image c = IsSizeFault image c ⊎ (IsWhole image × RefusesBlocks image.sizes (eraseblocks image) c)
 
--- an error is want of memory, or a cause for which the image is refused
+-- an error: memory ran out, or a cause for which the image is refused
 abbrev pub IsAttachError : Image → AttachError → Type 0
 IsAttachError image attach.Memory = Unit {0}
 IsAttachError image (attach.Refused c) = Refuses image c

@@ -27,7 +27,7 @@ share size text lnum = take size (drop (lnum * size) text)
 abbrev pub leb_text : ℕ → Option (List ℕ) → List ℕ
 leb_text size kept = unwrap_or kept (blank size)
 
--- what the first n LEBs of a dynamic volume read, one behind the other
+-- what the first n LEBs of a dynamic volume read, in order
 abbrev pub lebs_text : ℕ → FinMap nat_cmp (List ℕ) → ℕ → List ℕ
 lebs_text size lebs n = flat_map (λ lnum. leb_text size (get lebs lnum)) (range_with_len 0 n)
 

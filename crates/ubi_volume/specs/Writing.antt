@@ -1,4 +1,4 @@
--- What a writer has got of a volume.
+-- What a writer received of a volume.
 use Rattle.std.specs.Prelude.{◌≡◌, ℕ, ◌<◌, List, length, take, Option, Ok, Err}
 use Rattle.std.specs.Io.KnownBytes.{Appends, Keeps}
 use Rattle.ubi_volume.specs.Meant.{Meant}
@@ -6,11 +6,11 @@ use Rattle.ubi_volume.specs.Reading.{read_volume}
 use Rattle.ubi_volume.specs.declared.errors.ReadError.{ReadError}
 use Rattle.ubi_volume.specs.declared.errors.ReadError.TheVariants as error
 
--- the writer has got the whole text, of n bytes
+-- the writer received the whole text, of n bytes
 abbrev pub IsWritten : Meant → ℕ → Option (List ℕ) → Option (List ℕ) → ℕ → Type 0
 IsWritten m id old new n = (text : List ℕ) × (read_volume m id ≡ Ok text) × (n ≡ length text) × Appends old new text
 
--- the writer failed, with the first n bytes of the text and not all of it, or the volume can't be read, and it has got nothing
+-- the writer failed, with the first n bytes of the text and not all of it, or the volume can't be read, and it received nothing
 abbrev pub IsNotWritten : Meant → ℕ → Option (List ℕ) → Option (List ℕ) → ReadError → Type 0
 IsNotWritten m id old new (error.Write n) =
     (text : List ℕ) × (read_volume m id ≡ Ok text) × (n < length text) × Appends old new (take n text)

@@ -13,7 +13,7 @@ pub enum ReadError {
     Updating,
     /// The volume is static, and isn't whole.
     Damaged,
-    /// The volume hasn't the logical eraseblock.
+    /// The volume has no such logical eraseblock.
     OutOfRange,
     /// A write failed, after so many bytes were written.
     Write(u64),
