@@ -1,23 +1,27 @@
 -- The shares of a static text stand at the places of its LEBs.
-use Rattle.std.proofs.Common.{◌≡◌, ℕ, zero, suc, ◌+◌, ◌*◌, ◌<◌, ◌≤◌, false, List, [], ◌∷◌, ◌++◌, length, take, drop, refl, ap, sym, ◌∙◌, arith, append-nil}
+use Rattle.std.proofs.Common.{◌≡◌, ℕ, zero, suc, ◌+◌, ◌*◌, ◌<◌, ◌≤◌, false, List, [], ◌∷◌, ◌++◌, length, take, drop, refl, ap, sym, ◌∙◌, subst, arith, append-nil}
 use Rattle.std.specs.Prelude.{Some, flat_map, slice_index}
 use Rattle.std.specs.FinMap as finite
 use Rattle.std.proofs.Math.Seq.{drop-append-add, take-append_seam}
+use Rattle.std.proofs.lemmas.Bool.{eqb-true}
 use Rattle.std.proofs.lemmas.List.{take_all}
+use Rattle.ubi_media.specs.Check.{check}
 use Rattle.ubi_media.specs.Geometry.{Sizes}
 use Rattle.ubi_media.specs.Record.{usable}
 use Rattle.ubi_media.specs.declared.record.VolumeRecord.{VolumeRecord}
+use Rattle.ubi_media.specs.declared.vid.VidHeader.{VidHeader}
 use Rattle.ubi_media.specs.declared.vid.VolKind.TheVariants as kind
 use Rattle.ubi_scan.specs.Faults.{NoFault}
 use Rattle.ubi_scan.specs.Image.{block, leb}
-use Rattle.ubi_scan.specs.Members.{Wins}
+use Rattle.ubi_scan.specs.Members.{Wins, member}
 use Rattle.ubi_scan.proofs.Decided.{Wins-unique}
 use Rattle.ubi_table.specs.Records.{Records}
 use Rattle.ubi_volume.specs.Counted.{NoMismatch}
 use Rattle.ubi_volume.specs.Reading.{share}
-use Rattle.ubi_volume.specs.Reads.{AreWhole, piece}
+use Rattle.ubi_volume.specs.Reads.{AreWhole, IsPiece, piece}
 use Rattle.ubi_volume.proofs.Alike.{full_piece, short_piece}
 use Rattle.ubi_volume.proofs.SomeContent.{AreLebs}
+use Rattle.ubi_volume.proofs.Static.{piece_by}
 
 -- pieces that are full but for the last are the shares of their text
 pub share_of_pieces : (f : ℕ → List ℕ) (size : ℕ) (ps : List ℕ) (l : ℕ) → l < length ps → ((i : ℕ) → i < length ps → length (f (slice_index ps i)) ≤ size)
@@ -39,10 +43,9 @@ share_of_pieces f size (p ∷ ps) (suc l) inside most full =
 
 module _ (s : Sizes) (bs : List (List ℕ)) (clean : NoFault s bs) (whole : AreLebs s bs) (t : Records) (alike : NoMismatch s bs t) (vol : ℕ) (r : VolumeRecord)
     (recorded : finite.get t.of vol ≡ Some r) (unmarked : r.marker ≡ false) (static : r.kind ≡ kind.Static) (ps : List ℕ) (are : AreWhole s bs vol r ps) where
-  -- so the share of a LEB is the front of its winner's
-  pub share_at : (l p : ℕ) → l < length ps → Wins s bs (vol, l) p
-      → share (usable s r) (flat_map (piece s bs) ps) l ≡ take (length (share (usable s r) (flat_map (piece s bs) ps) l)) (leb s (block bs p))
-  share_at l p inside w =
+  -- so the share of a LEB is the piece of its winner
+  share_is : (l p : ℕ) → l < length ps → Wins s bs (vol, l) p → share (usable s r) (flat_map (piece s bs) ps) l ≡ piece s bs p
+  share_is l p inside w =
       let most : (i : ℕ) → i < length ps → length (piece s bs (slice_index ps i)) ≤ usable s r =
       λ i b. short_piece s bs t alike vol r recorded unmarked static i (slice_index ps i) (are.win i b) in
       let full : (i : ℕ) → i + 1 < length ps → length (piece s bs (slice_index ps i)) ≡ usable s r =
@@ -50,12 +53,25 @@ module _ (s : Sizes) (bs : List (List ℕ)) (clean : NoFault s bs) (whole : AreL
       let k = are.pieces i (omega arith) in
       let x = are.win i (omega arith) in
       (full_piece s bs t alike vol r recorded unmarked static i (slice_index ps i) k.0 x k.1 (whole (slice_index ps i) x.member.inside)).1 (let e = k.2 in omega arith) in
-      let here = share_of_pieces (piece s bs) (usable s r) ps l inside most full in
-      let same : slice_index ps l ≡ p = Wins-unique s bs (vol, l) (slice_index ps l) p clean (are.win l inside) w in
-      let is : share (usable s r) (flat_map (piece s bs) ps) l ≡ piece s bs p = here ∙ ap (piece s bs) same in
+      share_of_pieces (piece s bs) (usable s r) ps l inside most full ∙ ap (piece s bs) (Wins-unique s bs (vol, l) (slice_index ps l) p clean (are.win l inside) w)
+
+  -- the front of its LEB
+  pub share_at : (l p : ℕ) → l < length ps → Wins s bs (vol, l) p
+      → share (usable s r) (flat_map (piece s bs) ps) l ≡ take (length (share (usable s r) (flat_map (piece s bs) ps) l)) (leb s (block bs p))
+  share_at l p inside w =
+      let is = share_is l p inside w in
       is ∙ front_again _ (leb s (block bs p)) ∙ ap (λ (x : List ℕ). take (length x) (leb s (block bs p))) (sym is)
     where
       front_again : (n : ℕ) (b : List ℕ) → take n b ≡ take (length (take n b)) b
       front_again zero b = refl
       front_again (suc n) [] = refl
       front_again (suc n) (x ∷ b) = ap (λ (y : List ℕ). x ∷ y) (front_again n b)
+
+  -- and its header gives the check of just that share
+  pub header_at : (l p : ℕ) → l < length ps → Wins s bs (vol, l) p
+      → (h : VidHeader) × (member s (block bs p) ≡ Some h) × (h.data_crc ≡ check (share (usable s r) (flat_map (piece s bs) ps) l))
+  header_at l p inside w =
+      let same : slice_index ps l ≡ p = Wins-unique s bs (vol, l) (slice_index ps l) p clean (are.win l inside) w in
+      let k = subst (IsPiece s bs (length ps)) same (are.pieces l inside) in
+      let right : check (take k.0.data_size (leb s (block bs p))) ≡ k.0.data_crc = eqb-true (check (take k.0.data_size (leb s (block bs p)))) k.0.data_crc k.3 in
+      (k.0, k.1, sym right ∙ ap check (piece_by s bs p k.0 k.1 ∙ sym (share_is l p inside w)))
