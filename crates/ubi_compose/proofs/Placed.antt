@@ -1,32 +1,60 @@
 -- An eraseblock whose text was read from a place.
-use Rattle.std.proofs.Common.{◌≡◌, ℕ, true, false, cond, List, [], ◌++◌, length, take, drop, ap, sym, ◌∙◌, append-nil}
+use Rattle.std.proofs.Common.{◌≡◌, ℕ, ◌+◌, ◌-◌, ◌*◌, ◌/◌, ◌<◌, ◌≤◌, true, false, cond, List, [], ◌++◌, length, take, drop, slice_range, ap, sym, ◌∙◌, arith, length-take-le}
 use Rattle.std.proofs.Math.Seq.{drop-append_seam, take-append_seam}
+use Rattle.std.proofs.lemmas.List.{take-take}
+use Rattle.ubi_media.specs.Check.{check}
 use Rattle.ubi_media.specs.Fields.{is_blank}
 use Rattle.ubi_media.specs.Geometry.{Sizes}
 use Rattle.ubi_media.specs.Vid.{plain}
 use Rattle.ubi_media.specs.declared.vid.VidHeader.{VidHeader}
+use Rattle.ubi_media.specs.declared.vid.VidRead.TheVariants as vid_read
 use Rattle.ubi_media.specs.declared.vid.VolKind.TheVariants as kind
-use Rattle.ubi_compose.specs.Normal.{dynamic_block, laid_bytes, new_ec, static_block}
-use Rattle.ubi_compose.specs.Streamed.{kept_bytes}
+use Rattle.ubi_scan.specs.Image.{block, leb, vid, vid_area}
+use Rattle.ubi_scan.specs.Source.{blocks_of}
+use Rattle.ubi_scan.proofs.Chunks.{get_or-first_chunks}
+use Rattle.ubi_compose.specs.Normal.{dynamic_block, laid_bytes, new_ec, piece_header, static_block}
+use Rattle.ubi_compose.specs.Streamed.{GivesCheck, kept_bytes}
 
--- what stands behind the headers' bytes
-pub behind_is : (xs out rest : List ℕ) (n : ℕ) → length xs ≡ n → rest ≡ [] → drop n (xs ++ (out ++ rest)) ≡ out
-behind_is xs out rest n size none =
-    ap (λ k. drop k (xs ++ (out ++ rest))) (sym size) ∙ drop-append_seam xs (out ++ rest) ∙ ap (λ r. out ++ r) none ∙ append-nil out
-
+-- what was put behind the headers' bytes
 pub text_is : (xs text rest : List ℕ) (n : ℕ) → length xs ≡ n → take (length text) (drop n (xs ++ (text ++ rest))) ≡ text
 text_is xs text rest n size =
     ap (λ k. take (length text) (drop k (xs ++ (text ++ rest)))) (sym size) ∙ ap (take (length text)) (drop-append_seam xs (text ++ rest)) ∙ take-append_seam text rest
 
+-- a whole eraseblock that was read
+pub block_of_read : (s : Sizes) (bytes : List ℕ) (p : ℕ) → p < length bytes / s.peb_size
+    → slice_range bytes (p * s.peb_size) (p * s.peb_size + s.peb_size) ≡ block (blocks_of s bytes) p
+block_of_read s bytes p inside =
+    let size = s.peb_size in
+    let count : p * size + size - p * size ≡ size = omega arith in
+    ap (λ n. take n (drop (p * size) bytes)) count ∙ sym (get_or-first_chunks size (length bytes / size) bytes p [] inside)
+
+-- the bytes of its volume-identifier header
+pub vid_area_of : (s : Sizes) (b : List ℕ) (start : ℕ) → start ≡ s.vid_offset → start + 64 ≤ length b
+    → take 64 (take (length b - start) (drop start b)) ≡ vid_area s b
+vid_area_of s b start begin room =
+    let count : 64 ≡ start + 64 - start = omega arith in
+    take-take 64 (length b - start) (drop start b) (omega arith) ∙ ap (λ n. take n (drop start b)) count
+    ∙ ap (λ n. slice_range b n (n + 64)) begin
+
+-- a piece whose check is the one that its header gave
+module _ (s : Sizes) (pad vol used lnum len crc : ℕ) (bytes b : List ℕ) (read : bytes ≡ b) (h : VidHeader)
+    (header : h ≡ piece_header pad vol used lnum len crc) (given : (k : VidHeader) → vid s bytes ≡ vid_read.Valid k → crc ≡ k.data_crc) where
+  abbrev text : List ℕ
+  text = take len (leb s bytes)
+
+  pub piece_is : (t : List ℕ) → len ≤ length (leb s bytes) → GivesCheck s b len
+      → t ≡ laid_bytes s new_ec (static_block pad vol used lnum (take len (leb s b))) → t ≡ laid_bytes s new_ec (record { header = h; text = text })
+  piece_is t long right e =
+      let same : take len (leb s b) ≡ text = ap (λ x. take len (leb s x)) (sym read) in
+      let crcs : check text ≡ crc = sym (given right.0 (ap (vid s) read ∙ right.1) ∙ right.2 ∙ ap check same) in
+      let f = λ (n c : ℕ). laid_bytes s new_ec (record { header = piece_header pad vol used lnum n c; text = text }) in
+      e ∙ ap (λ x. laid_bytes s new_ec (static_block pad vol used lnum x)) same
+      ∙ ap (λ n. f n (check text)) (length-take-le len (leb s bytes) long) ∙ ap (f len) crcs
+      ∙ ap (λ x. laid_bytes s new_ec (record { header = x; text = text })) (sym header)
+
 module _ (s : Sizes) (pad vol lnum len : ℕ) (behind leb part : List ℕ) (is : part ≡ take len behind) (read : behind ≡ leb) (h : VidHeader) (t : List ℕ) where
   same_part : part ≡ take len leb
   same_part = is ∙ ap (take len) read
-
-  pub piece_is : (used : ℕ) → h ≡ (static_block pad vol used lnum part).header → t ≡ laid_bytes s new_ec (static_block pad vol used lnum (take len leb))
-      → t ≡ laid_bytes s new_ec (record { header = h; text = take len behind })
-  piece_is used header e =
-      e ∙ ap (λ x. laid_bytes s new_ec (static_block pad vol used lnum x)) (sym same_part) ∙ ap (λ x. laid_bytes s new_ec (record { header = x; text = part })) (sym header)
-      ∙ ap (λ x. laid_bytes s new_ec (record { header = h; text = x })) is
 
   pub nothing_is : is_blank part ≡ true → t ≡ kept_bytes s pad vol lnum (take len leb) → t ≡ []
   nothing_is blank e = e ∙ ap (kept_bytes s pad vol lnum) (sym same_part) ∙ ap (λ b. cond b [] (laid_bytes s new_ec (dynamic_block pad vol (lnum, part)))) blank

@@ -1,16 +1,17 @@
 -- The static text of a volume, by the places of its LEBs.
-use Rattle.std.proofs.Common.{◌≡◌, ℕ, suc, ◌+◌, ◌-◌, ◌*◌, ◌<◌, ◌≤◌, inl, inr, false, List, [], ◌∷◌, length, take, refl, ap, sym, ◌∙◌, subst, arith, length-append, zero-add}
-use Rattle.std.specs.Prelude.{None, Option, Some, flat_map, min, slice_index}
+use Rattle.std.proofs.Common.{◌≡◌, ℕ, ◌+◌, ◌-◌, ◌*◌, ◌<◌, ◌≤◌, false, List, length, take, refl, ap, sym, ◌∙◌, subst, arith, zero-add}
+use Rattle.std.specs.Prelude.{None, Option, Some, flat_map, min}
 use Rattle.std.specs.FinMap as finite
 use Rattle.std.specs.List.{range_with_len}
 use Rattle.std.proofs.lemmas.List.Folds.{flat_map-map}
+use Rattle.ubi_media.specs.Check.{check}
 use Rattle.ubi_media.specs.Geometry.{Sizes}
 use Rattle.ubi_media.specs.Record.{data_pad, rec_fault, usable}
 use Rattle.ubi_media.specs.declared.record.VolumeRecord.{VolumeRecord}
 use Rattle.ubi_media.specs.declared.vid.VolKind.TheVariants as kind
 use Rattle.ubi_media.proofs.Records.{usable_some}
 use Rattle.ubi_scan.specs.Image.{block, leb}
-use Rattle.ubi_scan.specs.Members.{NoMember}
+use Rattle.ubi_scan.specs.Members.{NoMember, Wins}
 use Rattle.ubi_scan.specs.Source.{Source, blocks_of}
 use Rattle.ubi_scan.specs.declared.errors.StreamError.{StreamError}
 use Rattle.ubi_table.proofs.ReadBack.{pieces_more}
@@ -21,14 +22,14 @@ use Rattle.ubi_volume.specs.declared.content.Content.{Content}
 use Rattle.ubi_volume.specs.declared.content.Content.TheVariants as content
 use Rattle.ubi_volume.specs.declared.content.Volume.{Volume}
 use Rattle.ubi_volume.specs.declared.places.PlaceContent.TheVariants as place
-use Rattle.ubi_volume.proofs.Alike.{short_piece}
+use Rattle.ubi_volume.proofs.Alike.{member_valid}
 use Rattle.ubi_volume.proofs.Either.{are_lebs}
 use Rattle.ubi_volume.proofs.Extracted.{front_of, static_whole}
 use Rattle.ubi_compose.specs.Normal.{laid_bytes, new_ec, static_block, static_part, volume_blocks}
-use Rattle.ubi_compose.specs.Streamed.{IsVolumeOf, static_text, volume_text}
+use Rattle.ubi_compose.specs.Streamed.{GivesCheck, IsVolumeOf, static_text, volume_text}
 use Rattle.ubi_volume.specs.Wrote.{All, IsWroteError, Wanted, Wrote}
-use Rattle.ubi_volume.proofs.Pieces.{length-share, pieces_few}
-use Rattle.ubi_volume.proofs.Shares.{share_at}
+use Rattle.ubi_volume.proofs.Pieces.{length-share}
+use Rattle.ubi_volume.proofs.Shares.{header_at, share_at}
 use Rattle.ubi_volume.proofs.VolumeAt.{case_is, in_table, is_next, is_some, reads_of, table}
 use Rattle.ubi_volume.proofs.Received.{Splits, error_behind, error_front, wrote_more}
 
@@ -74,9 +75,11 @@ module _ (s : Sizes) (p : Placed) (id : ℕ) (r : VolumeRecord) (recorded : fini
       static_found next = is_some s p image of.places id r recorded n (λ e. absurd (not_dynamic e)) next no_gap
 
       module _ (l q len : ℕ) (next : IsNextPlace p id n (Some (l, q))) (long : len ≡ min size (bytes - n * size)) where
+        won : Wins s bs (id, n) q
+        won = is_next s p image of.places id r recorded n (λ e. absurd (not_dynamic e)) l q next no_gap
+
         share_is : share size text_of.0 n ≡ take len (leb s (block bs q))
         share_is =
-            let won = is_next s p image of.places id r recorded n (λ e. absurd (not_dynamic e)) l q next no_gap in
             let here =
             share_at s bs of.places.accepted.accepted.clean (are_lebs (record { sizes = s; bytes = image })) (table s p image of.places) of.places.accepted.accepted.alike id r (in_table s p image of.places id r recorded)
             reads.0 reads.1 whole.0 whole.1 n q whole.3 won in
@@ -84,6 +87,13 @@ module _ (s : Sizes) (p : Placed) (id : ℕ) (r : VolumeRecord) (recorded : fini
             subst (λ (x : List ℕ). share size x n ≡ take (length (share size x n)) (leb s (block bs q))) (sym whole.2) here in
             let count : length (share size text_of.0 n) ≡ len = length-share size (usable_some s r sound) text_of.0 n ∙ ap (λ k. min size (k - n * size)) text_of.3 ∙ sym long in
             there ∙ ap (λ k. take k (leb s (block bs q))) count
+
+        gives_check : GivesCheck s (block bs q) len
+        gives_check =
+            let k =
+            header_at s bs of.places.accepted.accepted.clean (are_lebs (record { sizes = s; bytes = image })) (table s p image of.places) of.places.accepted.accepted.alike id r (in_table s p image of.places id r recorded)
+            reads.0 reads.1 whole.0 whole.1 n q whole.3 won in
+            (k.0, member_valid s (block bs q) k.0 k.1, k.2 ∙ ap (λ x. check (share size x n)) (sym whole.2) ∙ ap check share_is)
 
         block_is : (t : List ℕ) → v.content ≡ content.Static t
             → laid_bytes s new_ec (static_part (data_pad s r) size id t n) ≡ laid_bytes s new_ec (static_block (data_pad s r) id lebs n (take len (leb s (block bs q))))
@@ -98,7 +108,7 @@ module _ (s : Sizes) (p : Placed) (id : ℕ) (r : VolumeRecord) (recorded : fini
       → Splits (first_pieces s p id r (n + 1)) (first_pieces s p id r n) (static_text s (data_pad s r) id lebs n len q)
   static_step n l q len inside next long image text w =
       let f = λ (l : ℕ). laid_bytes s new_ec (static_part (data_pad s r) size id w.2 l) in
-      (flat_map f (range_with_len 0 n), f n, w.4 ∙ pieces_more f 0 n n (zero-add n), (w.0, w.1, w.2, w.3, refl), block_is image w.0 w.1 n inside l q len next long w.2 w.3)
+      (flat_map f (range_with_len 0 n), f n, w.4 ∙ pieces_more f 0 n n (zero-add n), (w.0, w.1, w.2, w.3, refl), (gives_check image w.0 w.1 n inside l q len next long, block_is image w.0 w.1 n inside l q len next long w.2 w.3))
 
   -- all pieces
   pub static_all : (image text : List ℕ) → volume_text s p id image text → first_pieces s p id r lebs image text

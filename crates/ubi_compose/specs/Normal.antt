@@ -33,10 +33,15 @@ layout_block m copy = record { header = plain kind.Dynamic 5 0 layout copy; text
 abbrev pub dynamic_block : ℕ → ℕ → ℕ × List ℕ → Laid
 dynamic_block pad vol leb = record { header = plain kind.Dynamic 0 pad vol leb.0; text = leb.1 }
 
--- a LEB of a static volume that uses a number of them
+-- the header of a LEB of a static volume that uses a number of them, by the size of its data and their check
+abbrev pub piece_header : ℕ → ℕ → ℕ → ℕ → ℕ → ℕ → VidHeader
+piece_header pad vol used lnum size crc =
+    record (plain kind.Static 0 pad vol lnum) { data_size = size; used_ebs = used; data_crc = crc }
+
+-- such a LEB
 abbrev pub static_block : ℕ → ℕ → ℕ → ℕ → List ℕ → Laid
 static_block pad vol used lnum text = record {
-  header = record (plain kind.Static 0 pad vol lnum) { data_size = length text; used_ebs = used; data_crc = check text };
+  header = piece_header pad vol used lnum (length text) (check text);
   text = text;
 }
 

@@ -2,10 +2,12 @@
 use Rattle.std.specs.Prelude.{◌≡◌, ℕ, ◌<◌, ◌≤◌, ◌⊎◌, List, [], Some, flat_map, length, take, Option, if◌then◌else◌}
 use Rattle.std.specs.Io.KnownBytes.{Appends, Keeps}
 use Rattle.std.specs.FinMap.{entries, get}
+use Rattle.ubi_media.specs.Check.{check}
 use Rattle.ubi_media.specs.Fields.{is_blank}
 use Rattle.ubi_media.specs.Geometry.{Sizes}
 use Rattle.ubi_media.specs.declared.vid.VidHeader.{VidHeader}
-use Rattle.ubi_scan.specs.Image.{Image, block, leb}
+use Rattle.ubi_media.specs.declared.vid.VidRead.TheVariants as vid_read
+use Rattle.ubi_scan.specs.Image.{Image, block, leb, vid}
 use Rattle.ubi_scan.specs.Source.{Source, WhereHeld, blocks_in, blocks_of}
 use Rattle.ubi_scan.specs.declared.errors.StreamError.{StreamError}
 use Rattle.ubi_scan.specs.declared.errors.StreamError.TheVariants as stream
@@ -20,10 +22,16 @@ use Rattle.ubi_compose.specs.Normal.{dynamic_block, laid_bytes, new_ec, normal_b
 abbrev pub laid_text : Sizes → VidHeader → List ℕ → List ℕ → List ℕ → Type 0
 laid_text s h part image text = text ≡ laid_bytes s new_ec (record { header = h; text = part })
 
--- the eraseblock of a static volume whose piece of the text is the first `len` bytes at a place of an image
+-- the header of an eraseblock gives the check of the first `len` bytes of its LEB
+abbrev pub GivesCheck : Sizes → List ℕ → ℕ → Type 0
+GivesCheck s b len = (h : VidHeader) × (vid s b ≡ vid_read.Valid h) × (h.data_crc ≡ check (take len (leb s b)))
+
+-- the eraseblock of a static volume whose piece of the text is the first `len` bytes at a place of an image, where the
+-- header there gives their check
 abbrev pub static_text : Sizes → ℕ → ℕ → ℕ → ℕ → ℕ → ℕ → List ℕ → List ℕ → Type 0
 static_text s pad vol used lnum len p image text =
-    text ≡ laid_bytes s new_ec (static_block pad vol used lnum (take len (leb s (block (blocks_of s image) p))))
+    GivesCheck s (block (blocks_of s image) p) len
+    × (text ≡ laid_bytes s new_ec (static_block pad vol used lnum (take len (leb s (block (blocks_of s image) p)))))
 
 -- the eraseblock of a dynamic volume with a text, or none where that is 0xFF throughout
 abbrev pub kept_bytes : Sizes → ℕ → ℕ → ℕ → List ℕ → List ℕ

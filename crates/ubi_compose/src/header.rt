@@ -4,7 +4,7 @@ ghost use Rattle.std.specs.Prelude.{◌≡◌, ◌<◌, ◌^◌, length};
 ghost use Rattle.ubi_media.specs.Check.{check};
 ghost use Rattle.ubi_media.specs.Vid.{plain};
 ghost use Rattle.ubi_media.specs.declared.vid.VolKind.TheVariants as kind;
-ghost use Rattle.ubi_compose.specs.Normal.{damaged_block, static_block};
+ghost use Rattle.ubi_compose.specs.Normal.{damaged_block, piece_header, static_block};
 
 use ubi_media::{VidHeader, VolKind, crc};
 
@@ -26,17 +26,32 @@ pub fn plain(kind: VolKind, compat: u8, data_pad: u32, vol_id: u32, lnum: u32) -
     }
 }
 
+/// The header of a logical eraseblock of a static volume of `used_ebs` of them, by the size of its data and their check.
+pub fn piece_header(
+    data_pad: u32,
+    vol_id: u32,
+    used_ebs: u32,
+    lnum: u32,
+    data_size: u32,
+    data_crc: u32,
+) -> VidHeader
+    ensures { result ≡ piece_header data_pad vol_id used_ebs lnum data_size data_crc }
+{
+    VidHeader {
+        data_size,
+        used_ebs,
+        data_crc,
+        ..plain(VolKind::Static, 0, data_pad, vol_id, lnum)
+    }
+}
+
 /// The header of a logical eraseblock of a static volume of `used_ebs` of them, which holds a text.
 pub fn static_header(data_pad: u32, vol_id: u32, used_ebs: u32, lnum: u32, text: &[u8]) -> VidHeader
     requires { length text.now < 2 ^ 32 }
     ensures { result ≡ (static_block data_pad vol_id used_ebs lnum text.now).header }
 {
-    VidHeader {
-        data_size: text.len() as u32,
-        used_ebs,
-        data_crc: crc(text),
-        ..plain(VolKind::Static, 0, data_pad, vol_id, lnum)
-    }
+    let size = text.len() as u32;
+    piece_header(data_pad, vol_id, used_ebs, lnum, size, crc(text))
 }
 
 /// The header of the one eraseblock of a damaged volume: its check isn't that of its one byte.

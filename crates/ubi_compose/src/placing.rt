@@ -5,7 +5,9 @@
 ghost use Rattle.std.specs.Io.KnownBytes.{Appends};
 ghost use Rattle.std.specs.Prelude.{◌≡◌, ◌+◌, ◌<◌, ◌≤◌, ◌^◌, IfErr, IfOk, OnOk, drop, length, slice_range, take};
 ghost use Rattle.ubi_media.specs.Geometry.{leb_size};
-ghost use Rattle.ubi_scan.specs.Image.{block, leb};
+ghost use Rattle.ubi_media.specs.declared.vid.VidHeader.{VidHeader};
+ghost use Rattle.ubi_media.specs.declared.vid.VidRead.TheVariants as vid_read;
+ghost use Rattle.ubi_scan.specs.Image.{block, vid};
 ghost use Rattle.ubi_scan.specs.Source.{Source, WhereHeld, blocks_in, blocks_of};
 ghost use Rattle.ubi_scan.specs.Stream.{IsReadFault, after};
 ghost use Rattle.ubi_compose.specs.Normal.{damaged_block, dynamic_block, laid_bytes, new_ec, static_block};
@@ -13,10 +15,10 @@ ghost use Rattle.ubi_volume.specs.Wrote.{All, IsWroteError, NotAll, Wrote};
 ghost use Rattle.ubi_compose.specs.Streamed.{dynamic_text, laid_text, static_text};
 
 use crate::buffer::lay;
-use crate::header::{plain, static_header};
+use crate::header::{piece_header, plain};
 use std::io::Write;
-use ubi_media::{Geometry, VidHeader, VolKind, is_blank};
-use ubi_scan::{BlockSource, StreamError, read_leb};
+use ubi_media::{Geometry, VidHeader, VidRead, VolKind, is_blank, read_vid};
+use ubi_scan::{BlockSource, StreamError};
 use ubi_volume::write_all;
 
 /// Lays out an eraseblock in a buffer in which the first `len` bytes of the logical eraseblock stand, and writes it.
@@ -42,7 +44,7 @@ fn put_laid<W: Write>(
     write_all(writer, buffer)
 }
 
-/// Reads the logical eraseblock in an eraseblock into a buffer, to its place behind the headers.
+/// Reads an eraseblock into a buffer of its size.
 ///
 /// # Errors
 ///
@@ -56,12 +58,34 @@ fn fetch<S: BlockSource>(
     requires block { p < blocks_in geometry.now (S.known source.old) }
     requires room { length buffer.old ≡ geometry.now.peb_size }
     ensures known { S.known source.new ≡ after (S.known source.old) result }
-    ensures text { OnOk result (WhereHeld (S.known source.old) (λ bytes. drop geometry.now.data_offset buffer.new ≡ leb geometry.now (block (blocks_of geometry.now bytes) p))) }
+    ensures bytes { OnOk result (WhereHeld (S.known source.old) (λ bytes. buffer.new ≡ block (blocks_of geometry.now bytes) p)) }
     ensures failed { IfErr result (IsReadFault (blocks_in geometry.now (S.known source.old))) }
 {
-    let data = geometry.data_offset() as usize;
+    match source.read(u64::from(p) * u64::from(geometry.peb_size()), buffer) {
+        Ok(()) => Ok(()),
+        Err(_) => Err(StreamError::Read(p, 0)),
+    }
+}
+
+/// What the volume-identifier header of an eraseblock is.
+fn vid_in(geometry: &Geometry, bytes: &[u8]) -> VidRead
+    requires { length bytes.now ≡ geometry.now.peb_size }
+    ensures { result ≡ vid geometry.now bytes.now }
+{
+    let start = geometry.vid_offset() as usize;
     prove!(geometry.data_offset() <= geometry.peb_size());
-    read_leb(source, geometry, p, &mut buffer[data..])
+    read_vid(geometry, bytes[start..].first_chunk::<64>().unwrap())
+}
+
+/// The check that the volume-identifier header of an eraseblock gives for its data. 0 where that isn't Valid.
+fn given_check(geometry: &Geometry, bytes: &[u8]) -> u32
+    requires { length bytes.now ≡ geometry.now.peb_size }
+    ensures { (h : VidHeader) → vid geometry.now bytes.now ≡ vid_read.Valid h → result ≡ h.data_crc }
+{
+    match vid_in(geometry, bytes) {
+        VidRead::Valid(header) => header.data_crc,
+        _ => 0,
+    }
 }
 
 /// Copies a text into a buffer, from the byte `begin` on.
@@ -102,7 +126,8 @@ pub fn put_text<W: Write>(
 }
 
 /// Writes a logical eraseblock of a static volume that uses `used` of them, and gives how many bytes are written then.
-/// Its piece of the text is the first `len` bytes of the logical eraseblock in `p`.
+/// Its piece of the text is the first `len` bytes of the logical eraseblock in `p`, and their check is the one that the
+/// header there gives: it was compared with them when the volume's size was found.
 ///
 /// # Errors
 ///
@@ -133,9 +158,9 @@ pub fn put_piece<S: BlockSource, W: Write>(
         Ok(()) => {}
         Err(_) => return Err(StreamError::Read(p, done)),
     }
-    let data = geometry.data_offset() as usize;
     prove!(geometry.data_offset() <= geometry.peb_size());
-    let header = static_header(data_pad, id, used, lnum, &buffer[data..data + len]);
+    let check = given_check(geometry, buffer);
+    let header = piece_header(data_pad, id, used, lnum, len as u32, check);
     match put_laid(geometry, &header, len, buffer, writer) {
         Ok(()) => Ok(done + u64::from(geometry.peb_size())),
         Err(more) => Err(StreamError::Write(done + more as u64)),

@@ -1,24 +1,12 @@
-use Rattle.std.proofs.Common.{◌≡◌, ◌-◌, ◌≤◌, length, length-take-le, length-drop, slice_range, take, drop, ap, ◌∙◌, arith}
-use Rattle.std.proofs.lemmas.List.{drop_all}
-use Rattle.std.proofs.lemmas.Result.{on_ok_weaker}
-use Rattle.ubi_media.specs.Geometry.{leb_size}
-use Rattle.ubi_scan.specs.Image.{block, leb}
-use Rattle.ubi_scan.specs.Source.{blocks_of}
-use Rattle.ubi_scan.proofs.ReadParts.{count_blocks, leb_of_read}
-use Rattle.ubi_compose.proofs.Placed.{behind_is}
+use Rattle.std.proofs.Common.{◌≡◌, ◌+◌, ◌*◌, ◌/◌, ◌<◌, length, slice_range, ap, ◌∙◌, refl}
+use Rattle.ubi_compose.proofs.Placed.{block_of_read}
 use Rattle.ubi_compose.proofs.placing.fetch.Goals as goal
 
-pub returns-clause-text : goal.returns-clause-text
-returns-clause-text g c =
-    on_ok_weaker c.read_leb.result
-    (λ read bytes holds.
+pub returns-in-Ok-clause-bytes : goal.returns-in-Ok-clause-bytes
+returns-in-Ok-clause-bytes g c = λ bytes holds.
     let s = c.args.geometry.now in
-    let b = leb s (block (blocks_of s bytes) c.args.p) in
-    let begin = c.data_offset-data.ensures.value in
-    let known = g.S.BlockSource.known c.args.source.now in
-    let count = count_blocks s known bytes (g.met.S.BlockSource.sized c.args.source.now) holds in
-    let size : length (drop c.data_offset-data.result c.args.buffer.now) ≡ leb_size s = length-drop c.data_offset-data.result c.args.buffer.now ∙ omega (arith, begin, c.requires.room) in
-    let within : c.data_offset-data.result ≤ length c.args.buffer.now = omega arith in
-    behind_is (take c.data_offset-data.result c.args.buffer.now) c.read_leb.new.out _ s.data_offset (length-take-le c.data_offset-data.result c.args.buffer.now within ∙ begin) (drop_all (length c.args.buffer.now - c.data_offset-data.result) (drop c.data_offset-data.result c.args.buffer.now) (omega (arith, length-drop c.data_offset-data.result c.args.buffer.now)))
-    ∙ leb_of_read s bytes c.read_leb.new.out c.args.p (rw count c.requires.block) (read bytes holds ∙ ap (slice_range b 0) (length-take-le (length c.args.buffer.now - c.data_offset-data.result) (drop c.data_offset-data.result c.args.buffer.now) (omega (arith, length-drop c.data_offset-data.result c.args.buffer.now)) ∙ omega (arith, begin, c.requires.room))))
-    c.read_leb.ensures.bytes
+    let size : length bytes ≡ (g.S.BlockSource.known c.args.source.now).size = (g.met.S.BlockSource.sized c.args.source.now).sized bytes holds in
+    let inside : c.args.p < length bytes / s.peb_size = rw size c.requires.block in
+    let at : c.from.result * c.from-2.result ≡ c.args.p * s.peb_size = rw (c.from.ensures, c.from-2.ensures, c.peb_size.ensures.value) refl in
+    c.in-Ok.ensures.bytes bytes holds ∙ ap (λ n. slice_range bytes n (n + length c.args.buffer.now)) at
+    ∙ ap (λ n. slice_range bytes (c.args.p * s.peb_size) (c.args.p * s.peb_size + n)) c.requires.room ∙ block_of_read s bytes c.args.p inside
