@@ -37,6 +37,21 @@ const DAMAGED: [u8; 64] = *b"UBI!\x01\x02\0\0\
     \0\0\0\0\0\0\0\0\0\0\0\0\0\0\0\x01\0\0\0\x01\0\0\0\0\0\0\0\0\0\0\0\0\
     \0\0\0\0\0\0\0\0\0\0\0\0\0\0\0\0\0\0\0\0\xa3\xb7\xf9\x8b";
 
+/// The headers of the two logical eraseblocks of the static volume 0, of 384 bytes 0x41 and a byte 0xFF.
+const PIECES: [[u8; 64]; 2] = [
+    *b"UBI!\x01\x02\0\0\
+    \0\0\0\0\0\0\0\0\0\0\0\0\0\0\x01\x80\0\0\0\x02\0\0\0\0\xd6\xfb\x30\x26\0\0\0\0\
+    \0\0\0\0\0\0\0\0\0\0\0\0\0\0\0\0\0\0\0\0\xaa\xd6\x69\x2c",
+    *b"UBI!\x01\x02\0\0\
+    \0\0\0\0\0\0\0\x01\0\0\0\0\0\0\0\x01\0\0\0\x02\0\0\0\0\0\xff\xff\xff\0\0\0\0\
+    \0\0\0\0\0\0\0\0\0\0\0\0\0\0\0\0\0\0\0\0\xb7\x7e\x48\xcf",
+];
+
+/// The header of a copy of the first one, with sequence number 1.
+const COPY: [u8; 64] = *b"UBI!\x01\x02\x01\0\
+    \0\0\0\0\0\0\0\0\0\0\0\0\0\0\x01\x80\0\0\0\x02\0\0\0\0\xd6\xfb\x30\x26\0\0\0\0\
+    \0\0\0\0\0\0\0\x01\0\0\0\0\0\0\0\0\0\0\0\0\x76\xe5\x19\x1f";
+
 /// The first bytes and the check of the record of a dynamic volume `root` with 20 reserved eraseblocks.
 pub const ROOT: ([u8; 20], [u8; 4]) = (
     *b"\0\0\0\x14\0\0\0\x01\0\0\0\0\x01\0\0\x04root",
@@ -149,6 +164,23 @@ pub fn normal_text(alloc: Global, text: &[u8]) -> Result<Vec<u8>, AllocError> {
 pub fn normal_damaged(alloc: Global) -> Result<Vec<u8>, AllocError> {
     let mut image = normal_table(alloc, BOOT)?;
     put_block(&mut image, &EC, &DAMAGED, &[])?;
+    Ok(image)
+}
+
+/// The normal image of the volume `boot` with a text in two pieces.
+pub fn normal_pieces(alloc: Global) -> Result<Vec<u8>, AllocError> {
+    let mut image = normal_table(alloc, BOOT)?;
+    put_block(&mut image, &EC, &PIECES[0], &[0x41; 384])?;
+    put_block(&mut image, &EC, &PIECES[1], &[])?;
+    Ok(image)
+}
+
+/// The same volume, with a copy of the first logical eraseblock before it.
+pub fn copied_pieces(alloc: Global) -> Result<Vec<u8>, AllocError> {
+    let mut image = normal_table(alloc, BOOT)?;
+    put_block(&mut image, &EC, &COPY, &[0x41; 384])?;
+    put_block(&mut image, &EC, &PIECES[0], &[0x41; 384])?;
+    put_block(&mut image, &EC, &PIECES[1], &[])?;
     Ok(image)
 }
 

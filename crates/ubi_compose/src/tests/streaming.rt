@@ -1,6 +1,9 @@
 //! Normalising sources.
 
-use super::images::{EMPTY, normal_damaged, normal_root, normal_table, small, used_root};
+use super::images::{
+    EMPTY, copied_pieces, normal_damaged, normal_pieces, normal_root, normal_table, small,
+    used_root,
+};
 use crate::normalise_to;
 use std::alloc::Global;
 use std::process::Abort;
@@ -67,4 +70,19 @@ fn tells_how_much_was_written(rt: HostRuntime) -> Result<(), Fail> {
     )?;
     assert_fails(&rt, alloc, image, (1, 4096), (StreamError::Read(0, 0), &[]))?;
     assert_fails(&rt, alloc, image, (0, 0), (StreamError::Write(0), &[]))
+}
+
+/// Each eraseblock is read 8 times at most: once more than to attach it, if it is a winner.
+#[test]
+fn reads_each_piece_once_more(rt: HostRuntime) -> Result<(), Fail> {
+    let alloc = rt.alloc();
+    let image = copied_pieces(alloc)?;
+    let want = normal_pieces(alloc)?;
+    let mut source = ProbeSource::new(alloc, &small()?, image.as_slice(), 0)?;
+    let mut writer = ProbeWriter::new(alloc, 4096, 4096, Failure::Nothing)?;
+    assert!(rt; normalise_to(alloc, &small()?, &mut source, &mut writer)? == 2048);
+    assert!(rt; writer.taken() == want.as_slice());
+    assert!(rt; source.reads(2) == 8 && source.data_reads(2) == 2);
+    assert!(rt; source.reads(3) == 1 && source.crossing() == 0);
+    Ok(())
 }
