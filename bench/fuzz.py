@@ -1,7 +1,7 @@
 #!/usr/bin/env python3
 """Compares what the program answers of random images with what docs/FORMAT.md says, as bench/rules.py reads it.
 
-usage: fuzz.py [--seed N] [--count N] [--dir FOLDER]
+usage: fuzz.py [--seed N] [--count N] [--first N] [--dir FOLDER]
 
 An image is made from volumes of all kinds and states, with stale copies, copies that were cut short, and eraseblocks that
 are free, erased, dropped, orphans or unreadable, in a random order. Most images are then changed up to three times: a byte
@@ -17,7 +17,6 @@ is left out), which is removed again. The program is built first where it isn't 
 import argparse
 import os
 import random
-import shutil
 import struct
 import subprocess
 import sys
@@ -384,16 +383,27 @@ class Case:
                 raise Failure(f"{line} does something else")
 
 
-def main():
-    words = argparse.ArgumentParser(description=__doc__, formatter_class=argparse.RawDescriptionHelpFormatter)
+def options(usage, count):
+    """The words of a program over random images: --seed, --count and --dir."""
+    words = argparse.ArgumentParser(description=usage, formatter_class=argparse.RawDescriptionHelpFormatter)
     words.add_argument("--seed", type=int, default=1)
-    words.add_argument("--count", type=int, default=500)
+    words.add_argument("--count", type=int, default=count)
     words.add_argument("--first", type=int, default=0, help="the number of the first image")
     words.add_argument("--dir", default="/tmp")
-    words = words.parse_args()
-    tool, folder = built(), tempfile.mkdtemp(dir=words.dir)
+    return words.parse_args()
+
+
+def finish(passed, failed):
+    """Prints the last line, and ends with status 0 where none failed."""
+    print(f"{passed} passed, {failed} failed")
+    sys.exit(1 if failed else 0)
+
+
+def main():
+    words = options(__doc__, 500)
+    tool = built()
     passed = failed = accepted = cuts = 0
-    try:
+    with tempfile.TemporaryDirectory(dir=words.dir) as folder:
         for k in range(words.first, words.first + words.count):
             try:
                 is_accepted, looked = Case(random.Random(f"{words.seed} {k}"), tool, folder).look()
@@ -401,11 +411,8 @@ def main():
             except Failure as failure:
                 print(f"image {k} of seed {words.seed}: {failure}")
                 failed += 1
-    finally:
-        shutil.rmtree(folder)
     print(f"{accepted} accepted, {cuts} cuts")
-    print(f"{passed} passed, {failed} failed")
-    sys.exit(1 if failed else 0)
+    finish(passed, failed)
 
 
 if __name__ == "__main__":

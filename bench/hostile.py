@@ -19,13 +19,11 @@ status is 0 where none failed.
 import argparse
 import itertools
 import os
-import shutil
 import subprocess
-import sys
 import tempfile
 
 import rules
-from fuzz import ROOT, built
+from fuzz import ROOT, built, finish
 
 GEOMETRY = rules.Geometry(512, 64, 64, 128, 1048576)
 PEB, LEB = GEOMETRY.peb, GEOMETRY.leb
@@ -202,19 +200,15 @@ def main():
     words.add_argument("--dir", default="/tmp")
     words.add_argument("families", nargs="*", metavar="FAMILY", choices=[*FAMILIES, []])
     words = words.parse_args()
-    folder = tempfile.mkdtemp(dir=words.dir)
-    looker = Looker(built(), folder)
     passed = failed = 0
-    try:
+    with tempfile.TemporaryDirectory(dir=words.dir) as folder:
+        looker = Looker(built(), folder)
         for name in words.families or FAMILIES:
             verdicts = [looker.is_right(*case) for case in FAMILIES[name]()]
             wrong = [k for k, right in enumerate(verdicts) if not right]
             print(f"{name}: {len(verdicts)} images", *(["wrong:", *wrong[:10]] if wrong else []))
             passed, failed = passed + len(verdicts) - len(wrong), failed + len(wrong)
-    finally:
-        shutil.rmtree(folder)
-    print(f"{passed} passed, {failed} failed")
-    sys.exit(1 if failed else 0)
+    finish(passed, failed)
 
 
 if __name__ == "__main__":

@@ -15,35 +15,7 @@ root=$(CDPATH='' cd -- "$(dirname -- "$0")/.." && pwd) || exit 1
 room=$(mktemp -d) || exit 1
 trap 'rm -rf "$room"' EXIT
 
-cat >"$room/refuse.c" <<'C'
-#define _GNU_SOURCE
-#include <dlfcn.h>
-#include <stdlib.h>
-#include <unistd.h>
-
-static long count;
-
-/* Whether this growth is the one to refuse. */
-static int is_refused(void) {
-    const char *at = getenv("REFUSE_AT");
-    if (!at || ++count != atol(at)) return 0;
-    (void)!write(2, "refused a growth\n", 17);
-    return 1;
-}
-
-void *malloc(size_t size) {
-    static void *(*next)(size_t);
-    if (!next) next = (void *(*)(size_t))dlsym(RTLD_NEXT, "malloc");
-    return is_refused() ? 0 : next(size);
-}
-
-void *realloc(void *old, size_t size) {
-    static void *(*next)(void *, size_t);
-    if (!next) next = (void *(*)(void *, size_t))dlsym(RTLD_NEXT, "realloc");
-    return size && is_refused() ? 0 : next(old, size);
-}
-C
-${CC:-cc} -O1 -shared -fPIC -o "$room/refuse.so" "$room/refuse.c" -ldl || exit 1
+${CC:-cc} -O1 -shared -fPIC -o "$room/refuse.so" "$root/bench/refuse.c" -ldl || exit 1
 
 # Refuses each growth of a test in turn, and counts the runs that went wrong.
 refuse_each() {

@@ -1,7 +1,7 @@
 #!/usr/bin/env python3
 """Refuses each growth of memory of the program in turn, over random images.
 
-usage: starve.py [--seed N] [--count N] [--dir FOLDER]
+usage: starve.py [--seed N] [--count N] [--first N] [--dir FOLDER]
 
 The images are those of fuzz.py that are accepted. Each command is run over an image again and again: of the first run the
 first growth is refused, of the second the second, and so on until a run meets no refusal. Each run that meets one has to
@@ -13,51 +13,17 @@ left out), which is removed again. The program is built first where it isn't yet
 names), for a few lines that stand before the C library's malloc and realloc. The last line is 'N passed, M failed', of runs,
 and the exit status is 0 where none failed.
 """
-import argparse
 import os
 import random
-import shutil
 import subprocess
-import sys
 import tempfile
 
 import rules
-from fuzz import Case, Failure, built, spec_of
-
-REFUSING = r"""
-#define _GNU_SOURCE
-#include <dlfcn.h>
-#include <stdlib.h>
-#include <unistd.h>
-
-static long count;
-
-static int is_refused(void) {
-    const char *at = getenv("REFUSE_AT");
-    if (!at || ++count != atol(at)) return 0;
-    (void)!write(2, "refused a growth\n", 17);
-    return 1;
-}
-
-void *malloc(size_t size) {
-    static void *(*next)(size_t);
-    if (!next) next = (void *(*)(size_t))dlsym(RTLD_NEXT, "malloc");
-    return is_refused() ? 0 : next(size);
-}
-
-void *realloc(void *old, size_t size) {
-    static void *(*next)(void *, size_t);
-    if (!next) next = (void *(*)(void *, size_t))dlsym(RTLD_NEXT, "realloc");
-    return size && is_refused() ? 0 : next(old, size);
-}
-"""
-
+from fuzz import ROOT, Case, Failure, built, finish, options, spec_of
 
 def refusing(folder):
     """The path of a library that refuses one growth, which REFUSE_AT counts from 1."""
-    source, library = os.path.join(folder, "refuse.c"), os.path.join(folder, "refuse.so")
-    with open(source, "w", encoding="ascii") as file:
-        file.write(REFUSING)
+    source, library = os.path.join(ROOT, "bench", "refuse.c"), os.path.join(folder, "refuse.so")
     subprocess.run([os.environ.get("CC", "cc"), "-O1", "-shared", "-fPIC", "-o", library, source, "-ldl"], check=True)
     return library
 
@@ -97,15 +63,11 @@ class Starved(Case):
 
 
 def main():
-    words = argparse.ArgumentParser(description=__doc__, formatter_class=argparse.RawDescriptionHelpFormatter)
-    words.add_argument("--seed", type=int, default=1)
-    words.add_argument("--count", type=int, default=20)
-    words.add_argument("--dir", default="/tmp")
-    words = words.parse_args()
-    tool, folder = built(), tempfile.mkdtemp(dir=words.dir)
-    passed = failed = images = number = 0
-    try:
-        library = refusing(folder)
+    words = options(__doc__, 20)
+    passed = failed = images = 0
+    number = words.first
+    with tempfile.TemporaryDirectory(dir=words.dir) as folder:
+        tool, library = built(), refusing(folder)
         while images < words.count:
             case = Starved(random.Random(f"{words.seed} {number}"), tool, folder)
             number += 1
@@ -120,10 +82,7 @@ def main():
                 except Failure as failure:
                     print(f"image {number - 1} of seed {words.seed}: {failure}")
                     failed += 1
-    finally:
-        shutil.rmtree(folder)
-    print(f"{passed} passed, {failed} failed")
-    sys.exit(1 if failed else 0)
+    finish(passed, failed)
 
 
 if __name__ == "__main__":
