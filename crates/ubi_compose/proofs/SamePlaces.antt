@@ -1,6 +1,6 @@
 -- Whether two images mean the same, by their places and the bytes of their LEBs.
 use Rattle.std.proofs.Common.{◌≡◌, ℕ, ◌+◌, ◌*◌, ◌<◌, ◌≤◌, ◌⊎◌, inl, inr, ◌==◌, ◌&&◌, Bool, true, false, Decides, List, [], ◌∷◌, ◌++◌, length, take, get_or, refl, ap, sym, ◌∙◌, subst, arith}
-use Rattle.std.specs.Prelude.{◌↔◌, IfSome, Option, Some}
+use Rattle.std.specs.Prelude.{◌↔◌, IfSome, IsTrue, None, Option, Some}
 use Rattle.std.specs.Cmp.{nat_cmp_total, unsigned_Decides}
 use Rattle.std.specs.Cmp.Lexicographic.{pointwise}
 use Rattle.std.specs.FinMap as finite
@@ -9,26 +9,28 @@ use Rattle.std.specs.Ordering.{nat_cmp}
 use Rattle.std.proofs.lemmas.Bool.{false≢true}
 use Rattle.std.proofs.lemmas.Bool.Decides.{Decides-and, Decides-like}
 use Rattle.std.proofs.lemmas.List.{take_all, take_more}
+use Rattle.std.proofs.lemmas.Option.{same_Some}
 use Rattle.std.proofs.lemmas.Slice.Eq.{slice_eq-Decides}
 use Rattle.ubi_media.specs.Geometry.{Sizes}
 use Rattle.ubi_media.specs.Record.{usable}
 use Rattle.ubi_media.specs.contracts.record.VolumeRecordPartialEq.TheImpl as record_eq
 use Rattle.ubi_media.specs.declared.record.VolumeRecord.{VolumeRecord}
 use Rattle.ubi_table.specs.Records.{Records}
-use Rattle.ubi_volume.specs.Extract.{leb_bytes, share_len}
+use Rattle.ubi_volume.specs.Extract.{extent_of, leb_bytes, share_len}
 use Rattle.ubi_volume.specs.Meant.{Fits, IsVolume, KeepsNoBlank, Meant, records_of}
 use Rattle.ubi_volume.specs.Places.{ArePlaces, Placed, case_of}
 use Rattle.ubi_volume.specs.Reading.{leb_text, share}
 use Rattle.ubi_volume.specs.declared.content.Content.{Content}
 use Rattle.ubi_volume.specs.declared.content.Content.TheVariants as content
 use Rattle.ubi_volume.specs.declared.content.Volume.{Volume}
+use Rattle.ubi_volume.specs.declared.extent.Extent.{Extent}
 use Rattle.ubi_volume.specs.declared.places.PlaceContent.{PlaceContent}
 use Rattle.ubi_volume.specs.declared.places.PlaceContent.TheVariants as place
 use Rattle.ubi_volume.proofs.Equal.{record_Decides}
 use Rattle.ubi_volume.proofs.Extracted.{leb_is, piece_is, same_range, static_is}
 use Rattle.ubi_volume.proofs.One.{kept_alike, outside}
 use Rattle.ubi_volume.proofs.VolumeAt.{case_is, reads_of}
-use Rattle.ubi_compose.specs.Compared.{AreSameLebs, TellsVolume}
+use Rattle.ubi_compose.specs.Compared.{AreSameLebs, IsSameLeb, TellsVolume}
 use Rattle.ubi_compose.proofs.Blocks.{some_same}
 use Rattle.ubi_compose.proofs.StoredVolumes.{count, volume_at}
 
@@ -36,7 +38,7 @@ within_or_out : (l n : ℕ) → (l < n) ⊎ (n ≤ l)
 within_or_out l n = grind arith
 
 -- one fact told by another
-pub both : {A B C : Type 0} → A ↔ B → B ↔ C → A ↔ C
+both : {A B C : Type 0} → A ↔ B → B ↔ C → A ↔ C
 both f g = (λ a. g.0 (f.0 a), λ c. f.1 (g.1 c))
 
 -- the records of two tables
@@ -72,29 +74,29 @@ module _ (s : Sizes) (p q : Placed) (x y : List ℕ) (h : ArePlaces (record { si
   pub apart : (a b : PlaceContent) → finite.get p.contents id ≡ Some a → finite.get q.contents id ≡ Some b → v.content ≡ w.content → a ≡ b
   apart a b one other same = sym (case_is s p x h id r here v at a one) ∙ ap (case_of s r) same ∙ case_is s q y k id r there w bt b other
 
-  updating_is : (c d : Content) → case_of s r c ≡ place.Updating → case_of s r d ≡ place.Updating → c ≡ d
-  updating_is content.Updating content.Updating e f = refl
-  updating_is content.Updating content.Damaged e f = absurd (cc)
-  updating_is content.Updating (content.Static t) e f = absurd (cc)
-  updating_is content.Updating (content.Dynamic t) e f = absurd (cc)
-  updating_is content.Damaged d e f = absurd (cc)
-  updating_is (content.Static t) d e f = absurd (cc)
-  updating_is (content.Dynamic t) d e f = absurd (cc)
+  -- those that can't be read are the same where their cases are
+  unread_is : (a : PlaceContent) (c d : Content) → extent_of s r a ≡ None → case_of s r c ≡ a → case_of s r d ≡ a → c ≡ d
+  unread_is place.Updating content.Updating content.Updating none e f = refl
+  unread_is place.Updating content.Updating content.Damaged none e f = absurd (cc)
+  unread_is place.Updating content.Updating (content.Static t) none e f = absurd (cc)
+  unread_is place.Updating content.Updating (content.Dynamic t) none e f = absurd (cc)
+  unread_is place.Updating content.Damaged d none e f = absurd (cc)
+  unread_is place.Updating (content.Static t) d none e f = absurd (cc)
+  unread_is place.Updating (content.Dynamic t) d none e f = absurd (cc)
+  unread_is place.Damaged content.Damaged content.Damaged none e f = refl
+  unread_is place.Damaged content.Damaged content.Updating none e f = absurd (cc)
+  unread_is place.Damaged content.Damaged (content.Static t) none e f = absurd (cc)
+  unread_is place.Damaged content.Damaged (content.Dynamic t) none e f = absurd (cc)
+  unread_is place.Damaged content.Updating d none e f = absurd (cc)
+  unread_is place.Damaged (content.Static t) d none e f = absurd (cc)
+  unread_is place.Damaged (content.Dynamic t) d none e f = absurd (cc)
+  unread_is (place.Static lebs bytes) c d none e f = absurd (cc)
+  unread_is place.Dynamic c d none e f = absurd (cc)
 
-  damaged_is : (c d : Content) → case_of s r c ≡ place.Damaged → case_of s r d ≡ place.Damaged → c ≡ d
-  damaged_is content.Damaged content.Damaged e f = refl
-  damaged_is content.Damaged content.Updating e f = absurd (cc)
-  damaged_is content.Damaged (content.Static t) e f = absurd (cc)
-  damaged_is content.Damaged (content.Dynamic t) e f = absurd (cc)
-  damaged_is content.Updating d e f = absurd (cc)
-  damaged_is (content.Static t) d e f = absurd (cc)
-  damaged_is (content.Dynamic t) d e f = absurd (cc)
-
-  pub updating_same : finite.get p.contents id ≡ Some place.Updating → finite.get q.contents id ≡ Some place.Updating → v.content ≡ w.content
-  updating_same one other = updating_is v.content w.content (case_is s p x h id r here v at place.Updating one) (case_is s q y k id r there w bt place.Updating other)
-
-  pub damaged_same : finite.get p.contents id ≡ Some place.Damaged → finite.get q.contents id ≡ Some place.Damaged → v.content ≡ w.content
-  damaged_same one other = damaged_is v.content w.content (case_is s p x h id r here v at place.Damaged one) (case_is s q y k id r there w bt place.Damaged other)
+  pub unread_same : (a : PlaceContent) → finite.get p.contents id ≡ Some a → finite.get q.contents id ≡ Some a → extent_of s r a ≡ None
+      → v.content ≡ w.content
+  unread_same a one other none =
+      unread_is a v.content w.content none (case_is s p x h id r here v at a one) (case_is s q y k id r there w bt a other)
 
   static_is_same : (lebs bytes : ℕ) (c d : Content) → v.content ≡ c → w.content ≡ d → case_of s r c ≡ place.Static lebs bytes → case_of s r d ≡ place.Static lebs bytes
       → AreSameLebs s p q id size bytes x y lebs ↔ (c ≡ d)
@@ -112,7 +114,7 @@ module _ (s : Sizes) (p q : Placed) (x y : List ℕ) (h : ArePlaces (record { si
         piece_is s p x h id r here v at lebs bytes t is (cc) (cc) n inside ∙ ap (λ z. share size z n) text ∙ sym (piece_is s q y k id r there w bt lebs bytes u js (cc) (cc) n inside),
   )
 
-  pub static_same : (lebs bytes : ℕ) → finite.get p.contents id ≡ Some (place.Static lebs bytes) → finite.get q.contents id ≡ Some (place.Static lebs bytes)
+  static_same : (lebs bytes : ℕ) → finite.get p.contents id ≡ Some (place.Static lebs bytes) → finite.get q.contents id ≡ Some (place.Static lebs bytes)
       → AreSameLebs s p q id size bytes x y lebs ↔ (v.content ≡ w.content)
   static_same lebs bytes one other = static_is_same lebs bytes v.content w.content refl refl
       (case_is s p x h id r here v at (place.Static lebs bytes) one) (case_is s q y k id r there w bt (place.Static lebs bytes) other)
@@ -140,10 +142,31 @@ module _ (s : Sizes) (p q : Placed) (x y : List ℕ) (h : ArePlaces (record { si
   dynamic_is_same (content.Dynamic l) (content.Static u) is js e f = absurd (cc)
   dynamic_is_same (content.Dynamic l) (content.Dynamic m) is js e f = (λ same. ap content.Dynamic (lebs_same l m is js same), λ same. same_lebs l m is js (cc))
 
-  pub dynamic_same : finite.get p.contents id ≡ Some place.Dynamic → finite.get q.contents id ≡ Some place.Dynamic
+  dynamic_same : finite.get p.contents id ≡ Some place.Dynamic → finite.get q.contents id ≡ Some place.Dynamic
       → AreSameLebs s p q id size (r.reserved * size) x y r.reserved ↔ (v.content ≡ w.content)
   dynamic_same one other = dynamic_is_same v.content w.content refl refl
       (case_is s p x h id r here v at place.Dynamic one) (case_is s q y k id r there w bt place.Dynamic other)
+
+  -- those that can be read are the same where the bytes of their LEBs are
+  extent_same : (a : PlaceContent) (e : Extent) → finite.get p.contents id ≡ Some a → finite.get q.contents id ≡ Some a → extent_of s r a ≡ Some e
+      → AreSameLebs s p q id e.size e.bytes x y e.lebs ↔ (v.content ≡ w.content)
+  extent_same place.Updating e one other is = absurd (cc)
+  extent_same place.Damaged e one other is = absurd (cc)
+  extent_same (place.Static lebs bytes) e one other is =
+      subst (λ (z : Extent). AreSameLebs s p q id z.size z.bytes x y z.lebs ↔ (v.content ≡ w.content)) (same_Some _ e is) (static_same lebs bytes one other)
+  extent_same place.Dynamic e one other is =
+      subst (λ (z : Extent). AreSameLebs s p q id z.size z.bytes x y z.lebs ↔ (v.content ≡ w.content)) (same_Some _ e is) (dynamic_same one other)
+
+  pub read_same : (a : PlaceContent) (e : Extent) → finite.get p.contents id ≡ Some a → finite.get q.contents id ≡ Some a → Some e ≡ extent_of s r a
+      → (answer : Bool) → IsTrue answer ↔ AreSameLebs s p q id e.size e.bytes x y e.lebs → IsTrue answer ↔ (v.content ≡ w.content)
+  read_same a e one other is answer tells = both tells (extent_same a e one other (sym is))
+
+-- a LEB that reads the same does so by its places, and as much of it
+pub leb_same : (s : Sizes) (p q : Placed) (id size bytes : ℕ) (x y : List ℕ) (n m : ℕ) (at bt : Option ℕ) → m ≡ share_len size bytes n
+    → at ≡ finite.get p.winners (id, n) → bt ≡ finite.get q.winners (id, n) → IsSameLeb s p q id size bytes x y n → leb_bytes s m at x ≡ leb_bytes s m bt y
+leb_same s p q id size bytes x y n m at bt long one other same =
+    ap (λ k. leb_bytes s k at x) long ∙ ap (λ (o : Option ℕ). leb_bytes s (share_len size bytes n) o x) one ∙ same
+    ∙ sym (ap (λ k. leb_bytes s k bt y) long ∙ ap (λ (o : Option ℕ). leb_bytes s (share_len size bytes n) o y) other)
 
 module _ (s : Sizes) (p q : Placed) (x y : List ℕ) (h : ArePlaces (record { sizes = s; bytes = x }) p) (k : ArePlaces (record { sizes = s; bytes = y }) q) where
   -- equal meanings have equal records

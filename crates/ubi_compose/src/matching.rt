@@ -14,7 +14,7 @@ ghost use Rattle.ubi_compose.specs.Compared.{AreSameLebs, IsSideRead, OfMeanings
 use crate::errors::SameFault;
 use ubi_media::{Geometry, VolumeRecord};
 use ubi_scan::BlockSource;
-use ubi_volume::{PlaceContent, Places, read_place};
+use ubi_volume::{Extent, PlaceContent, Places, read_place};
 
 fn are_equal(one: &[u8], other: &[u8]) -> bool
     ensures { IsTrue result ↔ (one.now ≡ other.now) }
@@ -67,7 +67,7 @@ fn same_leb<L: BlockSource, R: BlockSource>(
     Ok(are_equal(one, other))
 }
 
-/// Whether so many bytes that stand in the first `lebs` logical eraseblocks of a volume, `size` in each, are the same.
+/// Whether the bytes of a volume are the same that stand in its logical eraseblocks so.
 ///
 /// # Errors
 ///
@@ -79,9 +79,7 @@ fn same_lebs<L: BlockSource, R: BlockSource>(
     here: &Places,
     there: &Places,
     id: u32,
-    size: u32,
-    lebs: u32,
-    bytes: u64,
+    extent: Extent,
     one: &mut [u8],
     other: &mut [u8],
 ) -> Result<bool, SameFault>
@@ -89,15 +87,14 @@ fn same_lebs<L: BlockSource, R: BlockSource>(
     requires there { ArePlacesOf geometry.now (R.known right.old) there.now }
     requires one { length one.old ≡ geometry.now.peb_size }
     requires other { length other.old ≡ geometry.now.peb_size }
-    requires size { size ≤ leb_size geometry.now }
+    requires size { extent.size ≤ leb_size geometry.now }
     ensures left { L.known left.new ≡ after_left (L.known left.old) result }
     ensures right { R.known right.new ≡ after_right (R.known right.old) result }
-    ensures answer { IfOk result (λ answer. WhereBothHeld (L.known left.old) (R.known right.old) (λ x y. IsTrue answer ↔ AreSameLebs geometry.now here.now there.now id size bytes x y lebs)) }
+    ensures answer { IfOk result (λ answer. WhereBothHeld (L.known left.old) (R.known right.old) (λ x y. IsTrue answer ↔ AreSameLebs geometry.now here.now there.now id extent.size extent.bytes x y extent.lebs)) }
     ensures failed { IfErr result (IsSideRead (blocks_in geometry.now (L.known left.old)) (blocks_in geometry.now (R.known right.old))) }
 {
-    for lnum in 0..lebs {
-        let before = u64::from(lnum) * u64::from(size);
-        let len = u64::from(size).min(bytes.saturating_sub(before)) as usize;
+    for lnum in 0..extent.lebs {
+        let len = extent.share_len(lnum);
         let (p, q) = (here.place(id, lnum), there.place(id, lnum));
         if !same_leb(
             geometry,
@@ -146,29 +143,9 @@ fn same_volume<L: BlockSource, R: BlockSource>(
     if !is_alike(content, there.content(id)) {
         return Ok(false);
     }
-    let size = entry.usable(geometry);
-    match content {
-        PlaceContent::Updating => Ok(true),
-        PlaceContent::Damaged => Ok(true),
-        PlaceContent::Static { lebs, bytes } => same_lebs(
-            geometry, left, right, here, there, id, size, lebs, bytes, one, other,
-        ),
-        PlaceContent::Dynamic => {
-            let bytes = u64::from(entry.reserved) * u64::from(size);
-            same_lebs(
-                geometry,
-                left,
-                right,
-                here,
-                there,
-                id,
-                size,
-                entry.reserved,
-                bytes,
-                one,
-                other,
-            )
-        }
+    match Extent::of(geometry, entry, content) {
+        Some(extent) => same_lebs(geometry, left, right, here, there, id, extent, one, other),
+        None => Ok(true),
     }
 }
 

@@ -18,7 +18,7 @@ use crate::placing::{put_piece, put_text, put_unless_blank};
 use std::io::Write;
 use ubi_media::{Geometry, VolumeRecord};
 use ubi_scan::{BlockSource, StreamError};
-use ubi_volume::{PlaceContent, Places};
+use ubi_volume::{Extent, PlaceContent, Places};
 
 /// Writes the eraseblocks of a static text of so many bytes in `lebs` logical eraseblocks, and gives how many bytes are
 /// written then.
@@ -50,14 +50,15 @@ fn put_static<S: BlockSource, W: Write>(
     ensures failed { IfErr result (IsWroteError geometry.now (S.known source.old) (W.contents writer.old) (W.contents writer.new) (volume_text geometry.now places.now id) done) }
 {
     let data_pad = entry.data_pad(geometry);
-    let size = u64::from(entry.usable(geometry));
+    let size = entry.usable(geometry);
+    let extent = Extent { lebs, size, bytes };
     let mut total = done;
     for lnum in 0..lebs {
         // There is one for each, but in a source of which no bytes are known nothing says so.
         let Some((_, p)) = places.next_place(id, lnum) else {
             return Ok(total);
         };
-        let len = bytes.saturating_sub(u64::from(lnum) * size).min(size) as usize;
+        let len = extent.share_len(lnum);
         total = put_piece(
             geometry, source, p, data_pad, id, lebs, lnum, len, buffer, writer, total,
         )?;

@@ -8,7 +8,7 @@ use Rattle.std.specs.Option.{option_map_or}
 use Rattle.std.specs.Ordering.{nat_cmp}
 use Rattle.std.specs.Result.{result_map_both}
 use Rattle.std.proofs.lemmas.Nat.{mul-le}
-use Rattle.std.proofs.lemmas.Option.{IfSome_then}
+use Rattle.std.proofs.lemmas.Option.{IfSome_then, same_Some}
 use Rattle.ubi_media.specs.Fields.{blank}
 use Rattle.ubi_media.specs.Geometry.{Sizes}
 use Rattle.ubi_media.specs.Record.{rec_fault, usable}
@@ -22,7 +22,7 @@ use Rattle.ubi_scan.specs.declared.errors.StreamError.{StreamError}
 use Rattle.ubi_scan.proofs.Decided.{Wins-unique}
 use Rattle.ubi_table.specs.Records.{Records}
 use Rattle.ubi_table.proofs.ReadBack.{pieces_more}
-use Rattle.ubi_volume.specs.Extract.{case_len, leb_at, leb_bytes, lebs_at, lebs_bytes, read_text, share_len}
+use Rattle.ubi_volume.specs.Extract.{case_len, extent_of, leb_at, leb_bytes, lebs_at, lebs_bytes, read_text, share_len}
 use Rattle.ubi_volume.specs.Means.{SlotMeans}
 use Rattle.ubi_volume.specs.Meant.{Fits, IsVolume}
 use Rattle.ubi_volume.specs.Places.{ArePlaces, Placed, case_of}
@@ -34,6 +34,7 @@ use Rattle.ubi_volume.specs.declared.content.Content.TheVariants as content
 use Rattle.ubi_volume.specs.declared.content.Volume.{Volume}
 use Rattle.ubi_volume.specs.declared.errors.ReadError.{ReadError}
 use Rattle.ubi_volume.specs.declared.errors.ReadError.TheVariants as error
+use Rattle.ubi_volume.specs.declared.extent.Extent.{Extent}
 use Rattle.ubi_volume.specs.declared.places.PlaceContent.{PlaceContent}
 use Rattle.ubi_volume.specs.declared.places.PlaceContent.TheVariants as place
 use Rattle.ubi_volume.proofs.Alike.{short_piece}
@@ -217,19 +218,25 @@ read_of : (s : Sizes) (id : ℕ) (text : List ℕ) (o : Option Volume) → optio
 read_of s id text None h = absurd (cc)
 read_of s id text (Some v) h = (v, refl, h)
 
-module _ (s : Sizes) (p : Placed) (id : ℕ) (r : VolumeRecord) (recorded : finite.get p.records.of id ≡ Some r) (n : ℕ) (used : n ≡ usable s r) where
-  pub static_wanted : (lebs bytes : ℕ) → finite.get p.contents id ≡ Some (place.Static lebs bytes)
-      → (image text : List ℕ) → read_text s p id image text → lebs_at s p id n bytes lebs image text
-  static_wanted lebs bytes listed image text w =
-      let of = read_of w.0.meaning.sizes id text (finite.get w.0.meaning.volumes id) w.1 in
-      static_at s p image w.0 id r recorded of.0 of.1 text lebs bytes listed of.2 ∙ ap (λ k. lebs_bytes s p id k bytes image lebs) (sym used)
+-- what the volume reads, by its extent
+module _ (s : Sizes) (p : Placed) (id : ℕ) (r : VolumeRecord) (recorded : finite.get p.records.of id ≡ Some r) where
+  reads_at : (c : PlaceContent) (e : Extent) → finite.get p.contents id ≡ Some c → extent_of s r c ≡ Some e
+      → (image text : List ℕ) (h : ArePlaces (record { sizes = s; bytes = image }) p) (v : Volume) → finite.get h.meaning.volumes id ≡ Some v
+      → volume_read h.meaning.sizes v.entry v.content ≡ Ok text → text ≡ lebs_bytes s p id e.size e.bytes image e.lebs
+  reads_at place.Updating e listed is image text h v at w = absurd (cc)
+  reads_at place.Damaged e listed is image text h v at w = absurd (cc)
+  reads_at (place.Static lebs bytes) e listed is image text h v at w =
+      static_at s p image h id r recorded v at text lebs bytes listed w
+      ∙ ap (λ (x : Extent). lebs_bytes s p id x.size x.bytes image x.lebs) (same_Some _ e is)
+  reads_at place.Dynamic e listed is image text h v at w =
+      dynamic_at s p image h id r recorded v at text listed w
+      ∙ ap (λ (x : Extent). lebs_bytes s p id x.size x.bytes image x.lebs) (same_Some _ e is)
 
-  pub dynamic_wanted : (bytes : ℕ) → bytes ≡ r.reserved * n → finite.get p.contents id ≡ Some place.Dynamic
-      → (image text : List ℕ) → read_text s p id image text → lebs_at s p id n bytes r.reserved image text
-  dynamic_wanted bytes total listed image text w =
+  pub wanted : (c : PlaceContent) (e : Extent) → finite.get p.contents id ≡ Some c → Some e ≡ extent_of s r c
+      → (image text : List ℕ) → read_text s p id image text → lebs_at s p id e.size e.bytes e.lebs image text
+  wanted c e listed is image text w =
       let of = read_of w.0.meaning.sizes id text (finite.get w.0.meaning.volumes id) w.1 in
-      dynamic_at s p image w.0 id r recorded of.0 of.1 text listed of.2 ∙ ap (λ k. lebs_bytes s p id k (r.reserved * k) image r.reserved) (sym used)
-      ∙ ap (λ k. lebs_bytes s p id n k image r.reserved) (sym total)
+      reads_at c e listed (sym is) image text w.0 of.0 of.1 of.2
 
 -- how many bytes it reads, by the case
 case_len_is : (s : Sizes) (r : VolumeRecord) (c : Content) → Fits s r c → case_len s r (case_of s r c) ≡ result_map_both length (λ (e : ReadError). e) (volume_read s r c)

@@ -13,6 +13,7 @@ use Rattle.ubi_volume.specs.Places.{ArePlaces, Placed}
 use Rattle.ubi_volume.specs.Reading.{read_volume}
 use Rattle.ubi_volume.specs.declared.errors.ReadError.{ReadError}
 use Rattle.ubi_volume.specs.declared.errors.ReadError.TheVariants as error
+use Rattle.ubi_volume.specs.declared.extent.Extent.{Extent}
 use Rattle.ubi_volume.specs.declared.places.PlaceContent.{PlaceContent}
 use Rattle.ubi_volume.specs.declared.places.PlaceContent.TheVariants as place
 
@@ -38,6 +39,13 @@ leb_bytes s n (Some p) image = take n (leb s (block (blocks_of s image) p))
 
 abbrev pub leb_at : Sizes → ℕ → Option ℕ → List ℕ → List ℕ → Type 0
 leb_at s n at image text = text ≡ leb_bytes s n at image
+
+-- how the bytes that it reads are shared among its LEBs, by the case; not where it can't be read
+abbrev pub extent_of : Sizes → VolumeRecord → PlaceContent → Option Extent
+extent_of s r place.Updating = None
+extent_of s r place.Damaged = None
+extent_of s r (place.Static lebs bytes) = Some (record { lebs = lebs; size = usable s r; bytes = bytes })
+extent_of s r place.Dynamic = Some (record { lebs = r.reserved; size = usable s r; bytes = r.reserved * usable s r })
 
 -- how many of so many bytes stand in a LEB, which has room for `size` of them
 abbrev pub share_len : ℕ → ℕ → ℕ → ℕ

@@ -13,6 +13,7 @@ ghost use Rattle.ubi_volume.specs.Reading.{volume_len};
 ghost use Rattle.ubi_volume.specs.Wrote.{All, IsWroteError, Wrote};
 
 use crate::errors::ReadError;
+use crate::extent::Extent;
 use crate::output::{write_all, write_blank};
 use crate::places::{PlaceContent, Places};
 use std::io::Write;
@@ -134,8 +135,7 @@ fn write_leb<S: BlockSource, W: Write>(
     }
 }
 
-/// Writes so many bytes that stand in the first `lebs` logical eraseblocks of a volume, `size` in each, and gives how
-/// many bytes those are.
+/// Writes the bytes of a volume that stand in its logical eraseblocks so, and gives how many bytes those are.
 ///
 /// # Errors
 ///
@@ -145,23 +145,20 @@ fn write_lebs<S: BlockSource, W: Write>(
     source: &mut S,
     places: &Places,
     id: u32,
-    size: u32,
-    lebs: u32,
-    bytes: u64,
+    extent: Extent,
     buffer: &mut [u8],
     writer: &mut W,
 ) -> Result<u64, StreamError>
     requires places { ArePlacesOf geometry.now (S.known source.old) places.now }
     requires room { length buffer.old ≡ geometry.now.peb_size }
-    requires size { size ≤ leb_size geometry.now }
+    requires size { extent.size ≤ leb_size geometry.now }
     ensures known { S.known source.new ≡ after (S.known source.old) result }
-    ensures written { IfOk result (Wrote (S.known source.old) (W.contents writer.old) (W.contents writer.new) (lebs_at geometry.now places.now id size bytes lebs) All 0) }
-    ensures failed { IfErr result (IsWroteError geometry.now (S.known source.old) (W.contents writer.old) (W.contents writer.new) (lebs_at geometry.now places.now id size bytes lebs) 0) }
+    ensures written { IfOk result (Wrote (S.known source.old) (W.contents writer.old) (W.contents writer.new) (lebs_at geometry.now places.now id extent.size extent.bytes extent.lebs) All 0) }
+    ensures failed { IfErr result (IsWroteError geometry.now (S.known source.old) (W.contents writer.old) (W.contents writer.new) (lebs_at geometry.now places.now id extent.size extent.bytes extent.lebs) 0) }
 {
     let mut done = 0;
-    for lnum in 0..lebs {
-        let before = u64::from(lnum) * u64::from(size);
-        let len = u64::from(size).min(bytes.saturating_sub(before)) as usize;
+    for lnum in 0..extent.lebs {
+        let len = extent.share_len(lnum);
         let place = places.place(id, lnum);
         done = write_leb(geometry, source, place, &mut buffer[..len], writer, done)?;
     }
@@ -194,25 +191,8 @@ pub fn write_places<S: BlockSource, W: Write>(
     let Some(entry) = places.table().get(id) else {
         unreachable!()
     };
-    let size = entry.usable(geometry);
-    match places.content(id) {
-        PlaceContent::Static { lebs, bytes } => write_lebs(
-            geometry, source, places, id, size, lebs, bytes, buffer, writer,
-        ),
-        PlaceContent::Dynamic => {
-            let bytes = u64::from(entry.reserved) * u64::from(size);
-            write_lebs(
-                geometry,
-                source,
-                places,
-                id,
-                size,
-                entry.reserved,
-                bytes,
-                buffer,
-                writer,
-            )
-        }
-        PlaceContent::Updating | PlaceContent::Damaged => unreachable!(),
-    }
+    let Some(extent) = Extent::of(geometry, entry, places.content(id)) else {
+        unreachable!()
+    };
+    write_lebs(geometry, source, places, id, extent, buffer, writer)
 }

@@ -1,7 +1,7 @@
 use Rattle.std.proofs.Common.{◌≡◌, ◌+◌, ◌*◌, ◌<◌, ◌∙◌, ap, subst, arith}
 use Rattle.std.proofs.lemmas.Result.{err_from_is_err_and}
-use Rattle.ubi_media.specs.Record.{usable}
 use Rattle.ubi_compose.specs.Streamed.{static_text, volume_text}
+use Rattle.ubi_volume.specs.Extract.{share_len}
 use Rattle.ubi_volume.specs.Wrote.{All, IsWroteError, Wrote}
 use Rattle.ubi_compose.proofs.StaticPlaces.{first_pieces, static_all, static_found, static_failed, static_wrote}
 use Rattle.ubi_volume.proofs.Received.{wrote_as}
@@ -28,12 +28,11 @@ returns-in_err-total-clause-failed g c =
     let n = c.loop-lnum.lnum in
     let e = c.in_err-total.field-0.0 in
     let from = err_from_is_err_and c.from_residual.result c.from_residual.ensures.1 in
-    let size = c.from-size.ensures ∙ c.usable.ensures.value in
-    let times : c.from.result * c.from-size.result ≡ n * usable s r = ap (λ x. x * c.from-size.result) c.from.ensures ∙ ap (λ x. n * x) size in
+    let len = c.share_len-len.ensures ∙ ap (λ u. share_len u c.args.bytes n) c.usable-size.ensures.value in
     let below : n < c.args.lebs = c.loop-lnum-test.true in
-    let failed : IsWroteError s (g.S.BlockSource.known c.loop-lnum.source) (g.W.Write.contents c.loop-lnum.writer) (g.W.Write.contents c.put_piece.new.writer) (static_text s c.data_pad-data_pad.result id c.args.lebs n c.min-len.result c.in-Some.p) c.loop-lnum.total e = c.in_err-total.ensures.failed in
+    let failed : IsWroteError s (g.S.BlockSource.known c.loop-lnum.source) (g.W.Write.contents c.loop-lnum.writer) (g.W.Write.contents c.put_piece.new.writer) (static_text s c.data_pad-data_pad.result id c.args.lebs n c.share_len-len.result c.in-Some.p) c.loop-lnum.total e = c.in_err-total.ensures.failed in
     rw (from.1, from.2)
-    (static_failed s p id r c.requires.recorded c.requires.sound c.args.lebs c.args.bytes c.requires.listed k _ _ _ n c.in-Some.field-0-0 c.in-Some.p c.min-len.result below c.in-Some.ensures (omega (arith, times, size, c.min-len.ensures, c.saturating_sub.ensures))
+    (static_failed s p id r c.requires.recorded c.requires.sound c.args.lebs c.args.bytes c.requires.listed k _ _ _ n c.in-Some.field-0-0 c.in-Some.p c.share_len-len.result below c.in-Some.ensures len
     c.args.done c.loop-lnum.total e c.loop-lnum.invariant.wrote
     (rw (← c.loop-lnum.invariant.source, ← c.data_pad-data_pad.ensures) failed))
 
@@ -43,13 +42,12 @@ loop-lnum-preserved g c =
     let r = c.args.entry.now in
     let k = g.S.BlockSource.known c.args.source.now in
     let n = c.loop-lnum.lnum in
-    let size = c.from-size.ensures ∙ c.usable.ensures.value in
-    let times : c.from.result * c.from-size.result ≡ n * usable s r = ap (λ x. x * c.from-size.result) c.from.ensures ∙ ap (λ x. n * x) size in
+    let len = c.share_len-len.ensures ∙ ap (λ u. share_len u c.args.bytes n) c.usable-size.ensures.value in
     let written = c.in_ok-total.ensures.written in
     record {
       source = c.in_ok-total.ensures.known ∙ c.loop-lnum.invariant.source;
-      wrote = static_wrote s c.args.places.now c.args.id r c.requires.recorded c.requires.sound c.args.lebs c.args.bytes c.requires.listed k _ _ _ n c.in-Some.field-0-0 c.in-Some.p c.min-len.result c.loop-lnum-test.true c.in-Some.ensures
-          (omega (arith, times, size, c.min-len.ensures, c.saturating_sub.ensures)) c.args.done c.loop-lnum.total c.in_ok-total.total c.loop-lnum.invariant.wrote
+      wrote = static_wrote s c.args.places.now c.args.id r c.requires.recorded c.requires.sound c.args.lebs c.args.bytes c.requires.listed k _ _ _ n c.in-Some.field-0-0 c.in-Some.p c.share_len-len.result c.loop-lnum-test.true c.in-Some.ensures
+          len c.args.done c.loop-lnum.total c.in_ok-total.total c.loop-lnum.invariant.wrote
           (rw (← c.loop-lnum.invariant.source, ← c.data_pad-data_pad.ensures) written);
       few = (let few = c.loop-lnum.invariant.few in let least = c.in_ok-total.ensures.least in
           let next : (n + 1) * s.peb_size ≡ n * s.peb_size + s.peb_size = omega arith in omega (arith, few, least, next));

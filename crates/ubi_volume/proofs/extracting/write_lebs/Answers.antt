@@ -1,4 +1,4 @@
-use Rattle.std.proofs.Common.{◌≡◌, ◌+◌, ◌*◌, length, length-take-le, take, ap, ◌∙◌, arith}
+use Rattle.std.proofs.Common.{◌≡◌, ◌+◌, ◌*◌, length, length-take-le, take, ◌∙◌, arith}
 use Rattle.std.proofs.lemmas.Result.{err_from_is_err_and}
 use Rattle.ubi_volume.specs.Extract.{leb_at, share_len}
 use Rattle.ubi_volume.specs.Wrote.{All, IsWroteError, Wrote}
@@ -10,29 +10,27 @@ returns-in_err-done-clause-failed g c =
     let s = c.args.geometry.now in
     let n = c.loop-lnum.lnum in
     let e = c.in_err-done.field-0.0 in
-    let part = take c.min-len.result c.loop-lnum.buffer in
+    let part = take c.share_len-len.result c.loop-lnum.buffer in
     let from = err_from_is_err_and c.from_residual.result c.from_residual.ensures.1 in
-    let times : c.from.result * c.from-in-loop-lnum.result ≡ n * c.args.size = ap (λ x. x * c.from-in-loop-lnum.result) c.from.ensures ∙ ap (λ x. n * x) c.from-in-loop-lnum.ensures in
-    let count : c.min-len.result ≡ share_len c.args.size c.args.bytes n = omega (arith, times, c.from-in-loop-lnum-2.ensures, c.min-len.ensures, c.saturating_sub.ensures) in
-    let long : length part ≡ share_len c.args.size c.args.bytes n = length-take-le c.min-len.result c.loop-lnum.buffer (omega (arith, count)) ∙ count in
+    let count : c.share_len-len.result ≡ share_len c.args.extent.size c.args.extent.bytes n = c.share_len-len.ensures in
+    let long : length part ≡ share_len c.args.extent.size c.args.extent.bytes n = length-take-le c.share_len-len.result c.loop-lnum.buffer (omega (arith, count)) ∙ count in
     let failed : IsWroteError s (g.S.BlockSource.known c.loop-lnum.source) (g.W.Write.contents c.loop-lnum.writer) (g.W.Write.contents c.write_leb.new.writer) (leb_at s (length part) c.place-place.result) c.loop-lnum.done e = c.in_err-done.ensures.failed in
     rw (from.1, from.2)
-    (lebs_failed s c.args.places.now c.args.id c.args.size c.args.bytes n _ _ long c.place-place.ensures (g.S.BlockSource.known c.args.source.now) _ _ _ c.loop-lnum.done c.loop-lnum.invariant.wrote
-    c.args.lebs e c.loop-lnum-test.true (rw (← c.loop-lnum.invariant.source) failed))
+    (lebs_failed s c.args.places.now c.args.id c.args.extent.size c.args.extent.bytes n _ _ long c.place-place.ensures (g.S.BlockSource.known c.args.source.now) _ _ _ c.loop-lnum.done c.loop-lnum.invariant.wrote
+    c.args.extent.lebs e c.loop-lnum-test.true (rw (← c.loop-lnum.invariant.source) failed))
 
 pub loop-lnum-preserved : goal.loop-lnum-preserved
 loop-lnum-preserved g c =
     let s = c.args.geometry.now in
     let n = c.loop-lnum.lnum in
-    let part = take c.min-len.result c.loop-lnum.buffer in
-    let times : c.from.result * c.from-in-loop-lnum.result ≡ n * c.args.size = ap (λ x. x * c.from-in-loop-lnum.result) c.from.ensures ∙ ap (λ x. n * x) c.from-in-loop-lnum.ensures in
-    let count : c.min-len.result ≡ share_len c.args.size c.args.bytes n = omega (arith, times, c.from-in-loop-lnum-2.ensures, c.min-len.ensures, c.saturating_sub.ensures) in
-    let long : length part ≡ share_len c.args.size c.args.bytes n = length-take-le c.min-len.result c.loop-lnum.buffer (omega (arith, count)) ∙ count in
+    let part = take c.share_len-len.result c.loop-lnum.buffer in
+    let count : c.share_len-len.result ≡ share_len c.args.extent.size c.args.extent.bytes n = c.share_len-len.ensures in
+    let long : length part ≡ share_len c.args.extent.size c.args.extent.bytes n = length-take-le c.share_len-len.result c.loop-lnum.buffer (omega (arith, count)) ∙ count in
     let written : Wrote (g.S.BlockSource.known c.loop-lnum.source) (g.W.Write.contents c.loop-lnum.writer) (g.W.Write.contents c.write_leb.new.writer) (leb_at s (length part) c.place-place.result) All c.loop-lnum.done c.in_ok-done.done = c.in_ok-done.ensures.written in
     record {
       source = c.in_ok-done.ensures.known ∙ c.loop-lnum.invariant.source;
-      wrote = lebs_wrote s c.args.places.now c.args.id c.args.size c.args.bytes n _ _ long c.place-place.ensures (g.S.BlockSource.known c.args.source.now) _ _ _ c.loop-lnum.done c.loop-lnum.invariant.wrote
+      wrote = lebs_wrote s c.args.places.now c.args.id c.args.extent.size c.args.extent.bytes n _ _ long c.place-place.ensures (g.S.BlockSource.known c.args.source.now) _ _ _ c.loop-lnum.done c.loop-lnum.invariant.wrote
           c.in_ok-done.done (rw (← c.loop-lnum.invariant.source) written);
       few = (let few = c.loop-lnum.invariant.few in let more : c.in_ok-done.done ≡ c.loop-lnum.done + length part = c.in_ok-done.ensures.count in
-          let next : (n + 1) * c.args.size ≡ n * c.args.size + c.args.size = omega arith in omega (arith, few, more, next, long));
+          let next : (n + 1) * c.args.extent.size ≡ n * c.args.extent.size + c.args.extent.size = omega arith in omega (arith, few, more, next, long));
     }
