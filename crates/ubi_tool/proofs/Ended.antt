@@ -1,6 +1,6 @@
 -- How work ends that reads a source while it writes a file.
-use Rattle.std.proofs.Common.{◌≡◌, ℕ, List, ap, arith, subst, sym, ◌∙◌}
-use Rattle.std.specs.Prelude.{IfOk, MatchResult, Result, Ok, Err, codes}
+use Rattle.std.proofs.Common.{◌≡◌, ℕ, List, ap, arith, refl, subst, sym, ◌∙◌}
+use Rattle.std.specs.Prelude.{Bool, IfOk, IsSome, None, Option, Some, is_some, true, MatchResult, Result, Ok, Err, codes}
 use Rattle.std.specs.declared.alloc.AllocError.{AllocError}
 use Rattle.ubi_scan.specs.Source.{Source, memory, unheld}
 use Rattle.ubi_tool.specs.AfterRun.{after_run}
@@ -11,25 +11,35 @@ use Rattle.ubi_tool.specs.declared.outcome.Outcome.{Outcome}
 use Rattle.ubi_tool.specs.declared.outcome.ToolError.{ToolError}
 use Rattle.ubi_tool.specs.declared.outcome.ToolError.TheVariants as tool
 
--- work that failed ends so
-pub after_error : (answer : Result Outcome ToolError) (e : ToolError) (unread unwritten : Outcome) (r : Result Outcome AllocError) → answer ≡ Err e
-    → MatchResult r (IsEnded (Err e) unread unwritten) (λ _. e ≡ tool.Memory)
-    → MatchResult r (IsEnded answer unread unwritten) (λ _. answer ≡ Err tool.Memory)
-after_error answer e unread unwritten (Ok o) is h = subst (λ (a : Result Outcome ToolError). IsEnded a unread unwritten o) (sym is) h
-after_error answer e unread unwritten (Err x) is h = is ∙ ap Err h
+-- a file that is there is open
+pub is_open : {X : Type 0} → (file : Option X) → IsSome file → is_some file ≡ true
+is_open None h = absurd cc
+is_open (Some f) h = refl
 
-module _ (answer : Result Outcome ToolError) (k after : Source) (path out : List ℕ) (answers : Outcome → Type 0) (writes : Type 0) (unread unwritten : Outcome) where
-  ends_in : (o : Outcome) → IsEnded answer unread unwritten o → ((d : Outcome) → answer ≡ Ok d → answers d)
+-- work that came to an outcome ends so
+pub after_outcome : (answer : Result Outcome ToolError) (there : Bool) (d unread unwritten o : Outcome) → answer ≡ Ok d
+    → IsEnded (Ok d) there unread unwritten o → IsEnded answer there unread unwritten o
+after_outcome answer there d unread unwritten o is h = subst (λ (a : Result Outcome ToolError). IsEnded a there unread unwritten o) (sym is) h
+
+-- work that failed ends so
+pub after_error : (answer : Result Outcome ToolError) (there : Bool) (e : ToolError) (unread unwritten : Outcome) (r : Result Outcome AllocError) → answer ≡ Err e
+    → MatchResult r (λ o. (b : Bool) → IsEnded (Err e) b unread unwritten o) (λ _. e ≡ tool.Memory)
+    → MatchResult r (IsEnded answer there unread unwritten) (λ _. answer ≡ Err tool.Memory)
+after_error answer there e unread unwritten (Ok o) is h = subst (λ (a : Result Outcome ToolError). IsEnded a there unread unwritten o) (sym is) (h there)
+after_error answer there e unread unwritten (Err x) is h = is ∙ ap Err h
+
+module _ (answer : Result Outcome ToolError) (there : Bool) (k after : Source) (path out : List ℕ) (answers : Outcome → Type 0) (writes : Type 0) (unread unwritten : Outcome) where
+  ends_in : (o : Outcome) → IsEnded answer there unread unwritten o → ((d : Outcome) → answer ≡ Ok d → answers d)
       → ((d : Outcome) → answer ≡ Ok d → d.status ≡ 0 → writes) → (answer ≡ Err tool.Write → writes) → after ≡ after_run k answer
       → Gives unread (says (file_line (codes "cannot read ") path) 1) → Gives unwritten (says (file_line (codes "cannot write ") out) 1)
       → Streams k after path out answers writes o
-  ends_in o (done is) ok late failed known source output = answered (ok o is)
-  ends_in o (unopened d is zero) ok late failed known source output = no_output (late d is zero) output
+  ends_in o (done is opened) ok late failed known source output = answered (ok o is)
+  ends_in o (unopened d is zero closed) ok late failed known source output = no_output (late d is zero) output
   ends_in o (no_read is) ok late failed known source output = no_source (known ∙ ap (after_run k) is) source
   ends_in o (no_write is) ok late failed known source output = no_output (failed is) output
 
   -- the work's answer, and what was to be written where the file failed
-  pub ends : (r : Result Outcome AllocError) → MatchResult r (IsEnded answer unread unwritten) (λ _. answer ≡ Err tool.Memory)
+  pub ends : (r : Result Outcome AllocError) → MatchResult r (IsEnded answer there unread unwritten) (λ _. answer ≡ Err tool.Memory)
       → ((d : Outcome) → answer ≡ Ok d → answers d) → ((d : Outcome) → answer ≡ Ok d → d.status ≡ 0 → writes) → (answer ≡ Err tool.Write → writes)
       → after ≡ after_run k answer → Gives unread (says (file_line (codes "cannot read ") path) 1)
       → Gives unwritten (says (file_line (codes "cannot write ") out) 1) → IfOk r (Streams k after path out answers writes)

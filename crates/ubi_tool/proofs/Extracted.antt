@@ -3,7 +3,7 @@ use Rattle.std.proofs.Common.{◌≡◌, ℕ, List, ap, refl, length, sym, zero-
 use Rattle.std.proofs.lemmas.Result.{IfErr-at_err, IfOk-at_ok}
 use Rattle.std.specs.FinMap.{get}
 use Rattle.std.specs.Option.{option_map_or}
-use Rattle.std.specs.Prelude.{IfErr, IfOk, MatchResult, Option, Some, None, Result, Ok, Err, codes}
+use Rattle.std.specs.Prelude.{Bool, IfErr, IfOk, MatchResult, Option, Some, None, Result, Ok, Err, codes}
 use Rattle.std.specs.declared.alloc.AllocError.{AllocError}
 use Rattle.std.specs.Result.{result_map_both}
 use Rattle.ubi_media.specs.Geometry.{Sizes}
@@ -114,19 +114,19 @@ received k old new wanted many n w = (w.bytes, sym (w.count ∙ zero-add (length
 
 -- of any source likewise
 from_unknown : (s : Sizes) (k : Source) (new : Option (List ℕ)) (o : Outcome) → ExtractsFrom s k None new o → ExtractsFrom s k None None o
-from_unknown s k new o (wrote n got line) = wrote n (got.0, got.1, tt) line
-from_unknown s k new o (unread_from e line kept) = unread_from e line tt
+from_unknown s k new o (wrote n whole got line) = wrote n whole (got.0, got.1, tt) line
+from_unknown s k new o (unread_from e whole line kept) = unread_from e whole line tt
 from_unknown s k new o (refused_from c h line kept) = refused_from c h line tt
 
 -- what is answered of a source into a file, once the work is over
 pub into_file : (s : Sizes) (k after : Source) (id : ℕ) (path out : List ℕ) (new : Option (List ℕ)) (answer : Result Outcome ToolError)
-    (no_source no_output : Outcome) (r : Result Outcome AllocError) → MatchResult r (IsEnded answer no_source no_output) (λ _. answer ≡ Err tool.Memory)
+    (there : Bool) (no_source no_output : Outcome) (r : Result Outcome AllocError) → MatchResult r (IsEnded answer there no_source no_output) (λ _. answer ≡ Err tool.Memory)
     → IfOk answer (ExtractsFrom s k None new) → IfOk answer (λ o. WhereHeld k (λ bytes. Extracts (record { sizes = s; bytes = bytes }) id None new o))
     → IfErr answer (IsExtractFault s k id None new) → after ≡ after_run k answer
     → Gives no_source (says (file_line (codes "cannot read ") path) 1) → Gives no_output (says (file_line (codes "cannot write ") out) 1)
     → IfOk r (ExtractsSource s k after id path out)
-into_file s k after id path out new answer no_source no_output r ended ok image err known source output =
-    ends answer k after path out _ _ no_source no_output r ended
+into_file s k after id path out new answer there no_source no_output r ended ok image err known source output =
+    ends answer there k after path out _ _ no_source no_output r ended
     (λ o is. (from_unknown s k new o (IfOk-at_ok _ is ok), λ bytes holds. of_unknown _ id new o (IfOk-at_ok _ is image bytes holds)))
     (λ o is zero bytes holds. done_text _ id None new o (IfOk-at_ok _ is image bytes holds) zero)
     (λ is bytes holds. failed_text _ id None new (IfErr-at_err _ is err bytes holds))

@@ -1,7 +1,7 @@
 -- What a normalising of a source tells of an image whose bytes are known, and over files.
 use Rattle.std.proofs.Common.{◌≡◌, ℕ, ◌/◌, List, ap, length, refl, subst, sym, ◌∙◌}
 use Rattle.std.proofs.lemmas.Result.{IfErr-at_err, IfOk-at_ok}
-use Rattle.std.specs.Prelude.{IfErr, IfOk, MatchResult, Option, Result, Some, None, Err, codes}
+use Rattle.std.specs.Prelude.{Bool, IfErr, IfOk, MatchResult, Option, Result, Some, None, Err, codes}
 use Rattle.std.specs.declared.alloc.AllocError.{AllocError}
 use Rattle.ubi_media.specs.Geometry.{IsGeometry, Sizes}
 use Rattle.ubi_scan.specs.Image.{Image}
@@ -62,14 +62,14 @@ to_unknown s k new o (wrote n h line) =
 to_unknown s k new o (wrote_nothing c h line kept) = wrote_nothing c h line tt
 
 -- what is answered of a source into a file, once the work is over
-pub into_file : (s : Sizes) (k after : Source) (path out : List ℕ) (new : Option (List ℕ)) (answer : Result Outcome ToolError) (unread unwritten : Outcome)
-    (r : Result Outcome AllocError) → MatchResult r (IsEnded answer unread unwritten) (λ _. answer ≡ Err tool.Memory)
+pub into_file : (s : Sizes) (k after : Source) (path out : List ℕ) (new : Option (List ℕ)) (answer : Result Outcome ToolError) (there : Bool)
+    (unread unwritten : Outcome) (r : Result Outcome AllocError) → MatchResult r (IsEnded answer there unread unwritten) (λ _. answer ≡ Err tool.Memory)
     → IfOk answer (NormalisesTo s k None new) → IfOk answer (λ o. WhereHeld k (λ bytes. Normalises (image_of s bytes) None new o))
     → IfErr answer (IsNormaliseError s k None new) → after ≡ after_run k answer
     → Gives unread (says (file_line (codes "cannot read ") path) 1) → Gives unwritten (says (file_line (codes "cannot write ") out) 1)
     → IfOk r (NormalisesSource s k after path out)
-into_file s k after path out new answer unread unwritten r ended ok image err known no_source no_output =
-    ends answer k after path out _ _ unread unwritten r ended
+into_file s k after path out new answer there unread unwritten r ended ok image err known no_source no_output =
+    ends answer there k after path out _ _ unread unwritten r ended
     (λ o is. (to_unknown s k new o (IfOk-at_ok _ is ok), λ bytes holds. of_unknown (image_of s bytes) new o (IfOk-at_ok _ is image bytes holds)))
     (λ o is zero bytes holds. done_image (image_of s bytes) None new o (IfOk-at_ok _ is image bytes holds) zero)
     (λ is bytes holds. let cut = (IfErr-at_err _ is err).1.1 bytes holds in (cut.meaning, cut.accepted))

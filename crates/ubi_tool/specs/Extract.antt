@@ -3,7 +3,7 @@ use Rattle.std.specs.Prelude.{◌≡◌, ℕ, ◌<◌, ◌≤◌, ◌⊎◌, Lis
 use Rattle.std.specs.Io.KnownBytes.{Appends, Keeps}
 use Rattle.ubi_media.specs.declared.refusal.Refusal.{Refusal}
 use Rattle.ubi_media.specs.Geometry.{Sizes}
-use Rattle.ubi_scan.specs.Image.{Image}
+use Rattle.ubi_scan.specs.Image.{Image, IsWholeSize}
 use Rattle.ubi_scan.specs.Source.{Source, WhereHeld}
 use Rattle.ubi_scan.specs.declared.errors.StreamError.TheVariants as stream
 use Rattle.ubi_volume.specs.Accepts.{Accepts, Refuses}
@@ -77,11 +77,13 @@ IsExtractFault s k id old new tool.Memory = Keeps old new
 IsExtractFault s k id old new tool.Read = Keeps old new ⊎ WhereHeld k (λ bytes. HasFirst (record { sizes = s; bytes = bytes }) id old new)
 IsExtractFault s k id old new tool.Write = WhereHeld k (λ bytes. IsExtractError (record { sizes = s; bytes = bytes }) id old new tool.Write)
 
--- what it answers of any source: how many bytes the writer received; or the line of a refusal, of the image or to read the
--- volume, and the writer received nothing
+-- what it answers of any source: of one that has the size of an image how many bytes the writer received, or the line of a
+-- refusal to read the volume; or the line of a refusal of the image; the writer received nothing where it is a refusal
 pub data ExtractsFrom (s : Sizes) (k : Source) (old new : Option (List ℕ)) : Outcome → Type 0 where
-  wrote : {o : Outcome} (n : ℕ) → HasGot old new n → Gives o (says (bytes_line n) 0) → ExtractsFrom s k old new o
-  unread_from : {o : Outcome} (e : ReadError) → IsUnread e o → Keeps old new → ExtractsFrom s k old new o
+  wrote : {o : Outcome} (n : ℕ) → IsWholeSize s k.size → HasGot old new n → Gives o (says (bytes_line n) 0)
+      → ExtractsFrom s k old new o
+  unread_from : {o : Outcome} (e : ReadError) → IsWholeSize s k.size → IsUnread e o → Keeps old new
+      → ExtractsFrom s k old new o
   refused_from : {o : Outcome} (c : Refusal) → ArePlacesError s k (stream.Refused c) → Gives o (says (refusal_line c) 1) → Keeps old new
       → ExtractsFrom s k old new o
 

@@ -58,7 +58,8 @@ pub data OfText (numbers : Numbers) (path : List ℕ) (answers : Sizes → List 
 
 -- what a command can answer that reads an image file while it writes another: that of an image that was read whole, or that
 -- of a file that is read at places
-pub data OfFile (numbers : Numbers) (path out : List ℕ) (answers : Image → Outcome → Type 0) (streams : Sizes → Source → Outcome → Type 0) : Outcome → Type 0 where
+pub data OfFile (numbers : Numbers) (path out : List ℕ) (answers : Image → Outcome → Type 0)
+    (streams : Sizes → Source → Outcome → Type 0) : Outcome → Type 0 where
   whole : {o : Outcome} → OfImage numbers path answers o → OfFile numbers path out answers streams o
   places : {o : Outcome} → first_broken (sizes_of numbers) ≡ None → OfPlaces path out (streams (sizes_of numbers)) o
       → OfFile numbers path out answers streams o

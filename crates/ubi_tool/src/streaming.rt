@@ -2,7 +2,7 @@
 //!
 //! The image is read at places; or whole, where that can't be or where it may be the output too.
 
-ghost use Rattle.std.specs.Prelude.{◌≡◌, Err, IfOk, MatchResult};
+ghost use Rattle.std.specs.Prelude.{◌≡◌, Bool, Err, IfOk, MatchResult, Ok, is_some};
 ghost use Rattle.ubi_scan.specs.Source.{WhereHeld};
 ghost use Rattle.ubi_tool.specs.Extract.{ExtractsFrom, ExtractsInto, ExtractsSource, HasText};
 ghost use Rattle.ubi_tool.specs.Normalise.{NormalisesInto, NormalisesSource, NormalisesTo};
@@ -30,7 +30,7 @@ use ubi_scan::{BlockSource, MemorySource};
 ///
 /// Memory ran out.
 fn failed(error: ToolError, unread: Outcome, unwritten: Outcome) -> Result<Outcome, AllocError>
-    ensures { MatchResult result (IsEnded (Err error) unread unwritten) (λ _. error ≡ ToolError.Memory) }
+    ensures { MatchResult result (λ o. (there : Bool) → IsEnded (Err error) there unread unwritten o) (λ _. error ≡ ToolError.Memory) }
 {
     match error {
         ToolError::Read => Ok(unread),
@@ -39,8 +39,21 @@ fn failed(error: ToolError, unread: Outcome, unwritten: Outcome) -> Result<Outco
     }
 }
 
-/// What is answered once the work into a file is over: its outcome; or the line of the file that failed. Where there was
-/// nothing to write, the file is opened now.
+/// What is answered of work that came to an outcome. Where it was done and there was nothing to write, the file is opened
+/// now.
+fn finished<R: Files>(outcome: Outcome, late: &mut LateFile<'_, R>, unwritten: Outcome) -> Outcome
+    ensures { (unread : Outcome) → IsEnded (Ok outcome) (is_some late.new.file) unread unwritten result }
+{
+    if outcome.status != DONE {
+        return outcome;
+    }
+    match late.finish() {
+        Ok(()) => outcome,
+        Err(_) => unwritten,
+    }
+}
+
+/// What is answered once the work into a file is over: its outcome; or the line of the file that failed.
 ///
 /// # Errors
 ///
@@ -51,11 +64,10 @@ fn ended<R: Files>(
     unread: Outcome,
     unwritten: Outcome,
 ) -> Result<Outcome, AllocError>
-    ensures { MatchResult result (IsEnded answer unread unwritten) (λ _. answer ≡ Err ToolError.Memory) }
+    ensures { MatchResult result (IsEnded answer (is_some late.new.file) unread unwritten) (λ _. answer ≡ Err ToolError.Memory) }
 {
     match answer {
-        Ok(outcome) if outcome.status == DONE && late.finish().is_err() => Ok(unwritten),
-        Ok(outcome) => Ok(outcome),
+        Ok(outcome) => Ok(finished(outcome, late, unwritten)),
         Err(error) => failed(error, unread, unwritten),
     }
 }

@@ -21,7 +21,7 @@ returns-in-Err-Refused-clause-image g c = λ bytes holds.
 
 pub returns-in-Err-clause-ok : goal.returns-in-Err-clause-ok
 returns-in-Err-clause-ok g c =
-    IfOk-weaker c.unread.result _ _ (λ o h. unread_from c.in-Err.error h (Keeps-refl _)) c.unread.ensures.ok
+    IfOk-weaker c.unread.result _ _ (λ o h. unread_from c.in-Err.error c.in-Ok.ensures.places.whole h (Keeps-refl _)) c.unread.ensures.ok
 
 pub returns-in-Err-clause-image : goal.returns-in-Err-clause-image
 returns-in-Err-clause-image g c =
@@ -35,7 +35,7 @@ returns-in-Err-clause-image g c =
 pub returns-in-Ok-write_places-clause-ok : goal.returns-in-Ok-write_places-clause-ok
 returns-in-Ok-write_places-clause-ok g c =
     let line = rw c.in_ok-line.ensures.items at c.in_ok-put_bytes_line-in-Ok-write_places.ensures.line in
-    wrote c.in-Ok-write_places.count (received _ _ _ _ _ _ c.in-Ok-write_places.ensures.written) (rw line at c.saying-in-Ok-write_places.ensures)
+    wrote c.in-Ok-write_places.count c.in-Ok.ensures.places.whole (received _ _ _ _ _ _ c.in-Ok-write_places.ensures.written) (rw line at c.saying-in-Ok-write_places.ensures)
 
 pub returns-in-Ok-write_places-clause-image : goal.returns-in-Ok-write_places-clause-image
 returns-in-Ok-write_places-clause-image g c = λ bytes holds.

@@ -3,7 +3,7 @@ use Rattle.ubi_tool.specs.Streams.{no_read, no_write}
 use Rattle.ubi_tool.proofs.streaming.failed.Goals as goal
 
 pub returns-in-Read : goal.returns-in-Read
-returns-in-Read c = no_read (ap Err c.in-Read.is)
+returns-in-Read c = λ there. no_read (ap Err c.in-Read.is)
 
 pub returns-in-Write : goal.returns-in-Write
-returns-in-Write c = no_write (ap Err c.in-Write.is)
+returns-in-Write c = λ there. no_write (ap Err c.in-Write.is)
