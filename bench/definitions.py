@@ -2,16 +2,23 @@
 """Prints the definitions that the headline rests on, each once, those below before those above.
 
 usage: definitions.py [--files] [LAW ..]
+       definitions.py --check
 
 A law is named by crate, file and name, such as ubi_change.Planned.SurvivesCutsOf; without one it is the headline itself
 (ubi_tool.Headline.Headline). What a definition names is followed through the `use` lines of its file, as far as it lies
-in a folder specs/ of this repository; what the standard library defines isn't printed. With --files only the names of the
-files are, with the number of lines that count in each. The last line counts both. The exit status is 1 where a name can't
-be followed.
+in a folder specs/ of this repository; what the standard library defines isn't printed. Then, and with --files only, the
+files are listed, each behind those that it uses, with the number of lines of these definitions of all its lines. The exit
+status is 1 where a name can't be followed.
+
+With --check the files that the headline rests on are listed, and those that all public contracts rest on. What only private
+functions' contracts and proofs cite lies in specs/inner/. The exit status is 1 where a public contract or a file above that
+folder reaches into it, and where no public contract reaches a definition above it.
 """
 import os
 import re
 import sys
+
+import contracts
 
 ROOT = os.path.dirname(os.path.dirname(os.path.abspath(__file__)))
 CRATES = ("ubi_media", "ubi_scan", "ubi_table", "ubi_volume", "ubi_compose", "ubi_change", "ubi_tool")
@@ -19,24 +26,58 @@ HEADLINE = ("ubi_tool", "Headline", "Headline")
 NAME = r"[^\s(){}.,;:λ→←∷≡×⊎]+"
 # The first line of a definition: its modifiers, and then its name with a colon, or a record or a family with its own.
 START = re.compile(rf"^\s*(?:abbrev |unfoldable )?(?:pub )?(?:(?:record|data) (?P<kind>{NAME})|(?P<name>{NAME})(?: {NAME})* :(?!:))")
-USE = re.compile(r"^use Rattle\.(ubi_\w+)\.specs\.([\w.]+?)(?:\.\{(.*)\}| as (\S+))?$")
+USE = re.compile(r"^(?:ghost )?use Rattle\.(ubi_\w+)\.specs\.([\w.]+?)(?:\.\{(.*)\}| as ([^\s;]+))?;?$")
 
 
-class File:
-    """The definitions of a file, each with its lines, and what its `use` lines name."""
+def is_named(name, words, text):
+    """Whether a text names a definition: by its word, an operator by its signs, and `>>=` by the word `do` too."""
+    if "◌" not in name:
+        return name in words
+    return all(part in text for part in name.split("◌")) or (name == "◌>>=◌" and "do" in words)
 
-    def __init__(self, crate, name):
-        self.crate, self.name = crate, name
-        path = os.path.join(ROOT, "crates", crate, "specs", *name.split(".")) + ".antt"
-        with open(path, encoding="utf-8") as file:
-            lines = file.read().splitlines()
-        self.uses, self.files, self.items, self.heads = {}, {}, {}, {}
-        item, comment, head = None, [], []
+
+class Uses:
+    """What `use` lines name."""
+
+    def __init__(self, lines):
+        self.uses, self.files = {}, {}
         for line in lines:
             use = USE.match(line)
             if use:
                 self.take_use(*use.groups())
-            elif line.startswith("use ") or not line.strip():
+
+    def take_use(self, crate, name, names, alias):
+        for used in (names or "").split(","):
+            word = used.strip()
+            if word:
+                old, _, new = word.partition(" as ")
+                self.uses[new or old] = (crate, name, old)
+        if alias:
+            self.files[alias] = (crate, name)
+
+    def named_in(self, text):
+        """The definitions that a text names."""
+        for alias, word in re.findall(rf"\b({NAME})\.({NAME})", text):
+            if alias in self.files:
+                yield (*self.files[alias], word)
+        words = set(re.findall(NAME, text))
+        for word, used in self.uses.items():
+            if is_named(word, words, text):
+                yield used
+
+
+class File(Uses):
+    """The definitions of a file, each with its lines, and what its `use` lines name."""
+
+    def __init__(self, crate, name):
+        self.crate, self.name = crate, name
+        with open(os.path.join(ROOT, path_of(crate, name)), encoding="utf-8") as file:
+            lines = file.read().splitlines()
+        super().__init__(lines)
+        self.count, self.items, self.heads = len(lines), {}, {}
+        item, comment, head = None, [], []
+        for line in lines:
+            if line.startswith("use ") or not line.strip():
                 item = item if line.strip() else None
                 comment = comment if line.strip() else []
             elif line.lstrip().startswith("--"):
@@ -48,15 +89,6 @@ class File:
             else:
                 item = self.take_line(line, item, comment, head)
                 comment = []
-
-    def take_use(self, crate, name, names, alias):
-        for used in (names or "").split(","):
-            word = used.strip()
-            if word:
-                old, _, new = word.partition(" as ")
-                self.uses[new or old] = (crate, name, old)
-        if alias:
-            self.files[alias] = (crate, name)
 
     def take_line(self, line, item, comment, head):
         """Adds a line to the definition that it begins or goes on with. Gives the name of that."""
@@ -82,17 +114,18 @@ class File:
 
     def names_in(self, item):
         text = "\n".join(line for line in self.heads[item] + self.items[item] if not line.lstrip().startswith("--"))
-        for alias, word in re.findall(rf"\b({NAME})\.({NAME})", text):
-            if alias in self.files:
-                yield (*self.files[alias], word)
-        for word in re.findall(NAME, text):
-            if word in self.uses:
-                yield self.uses[word]
-            elif word in self.items and word != item:
-                yield (self.crate, self.name, word)
+        yield from self.named_in(text)
+        words = set(re.findall(NAME, text))
+        for own in self.items:
+            if own != item and own not in self.uses and is_named(own, words, text):
+                yield (self.crate, self.name, own)
 
 
 FILES = {}
+
+
+def path_of(crate, name):
+    return f"crates/{crate}/specs/{name.replace('.', '/')}.antt"
 
 
 def file_of(crate, name):
@@ -127,29 +160,109 @@ def follow(crate, name, item, seen, missing):
     seen[crate, name, item] = True
 
 
+def rests_on(names):
+    """The definitions that some rest on, those below before those above, and the names that can't be followed."""
+    seen, missing = {}, []
+    for name in names:
+        follow(*name, seen, missing)
+    return seen, missing
+
+
+def in_order(files):
+    """Files, each behind those of them that it uses."""
+    done = []
+
+    def put(key):
+        if key in files and key not in done:
+            uses = list(FILES[key].uses.values()) + list(FILES[key].files.values())
+            for crate, name, *_ in uses:
+                if (crate, name) != key:
+                    put((crate, name))
+            done.append(key)
+
+    for key in sorted(files, key=lambda key: (CRATES.index(key[0]), key[1])):
+        put(key)
+    return done
+
+
+def texts_of(key, seen):
+    """The texts of a file's definitions that were seen."""
+    file = FILES[key]
+    return [text for item, text in file.items.items() if (*key, item) in seen]
+
+
+def print_definitions(seen):
+    for key in in_order({name[:2] for name in seen}):
+        print(path_of(*key) + "\n\n" + "\n\n".join("\n".join(text) for text in texts_of(key, seen)) + "\n")
+
+
+def print_files(seen):
+    files = in_order({name[:2] for name in seen})
+    counts = [sum(map(len, texts_of(key, seen))) for key in files]
+    for key, count in zip(files, counts):
+        print(f"{path_of(*key)} {count} of {FILES[key].count}")
+    print(f"{len(files)} files, {sum(counts)} of {sum(FILES[key].count for key in files)} lines")
+
+
+def all_files(crate):
+    folder = os.path.join(ROOT, "crates", crate, "specs")
+    for where, _, names in os.walk(folder):
+        for name in sorted(names):
+            if name.endswith(".antt") and name not in ("Lib.antt", "inner.antt"):
+                yield os.path.relpath(os.path.join(where, name), folder)[:-len(".antt")].replace(os.sep, ".")
+
+
+def is_inner(name):
+    return name.startswith("inner.")
+
+
+def misplaced(public):
+    """What lies in the wrong folder, by the definitions that public contracts reach."""
+    for crate, name, item in public:
+        if is_inner(name):
+            yield f"{crate}.{name}.{item} is reached by a public contract"
+    for crate in CRATES:
+        for name in all_files(crate):
+            file = file_of(crate, name)
+            if is_inner(name):
+                continue
+            for used in sorted({used[:2] for used in [*file.uses.values(), *file.files.values()] if is_inner(used[1])}):
+                yield f"{crate}.{name} uses {used[0]}.{used[1]}"
+            for item in file.items:
+                if (crate, name, item) not in public:
+                    yield f"{crate}.{name}.{item} is reached by no public contract"
+
+
+def check():
+    """Prints what the headline and all public contracts rest on. Gives what is wrong with that."""
+    headline, missing = rests_on([HEADLINE])
+    cited = set()
+    for crate in CRATES:
+        for uses, lines in contracts.public_contracts(ROOT, crate):
+            text = "\n".join(line for line in lines if not line.strip().startswith("//"))
+            cited.update(Uses(uses).named_in(text))
+    public, more = rests_on(sorted(cited))
+    print("The headline rests on")
+    print_files(headline)
+    print("\nAll public contracts rest on")
+    print_files(public)
+    return [f"{name} can't be followed" for name in missing + more] + list(misplaced(public))
+
+
 def main():
     words = sys.argv[1:]
-    only_files = "--files" in words
-    laws = [tuple(re.match(r"(\w+)\.(.*)\.(\S+)$", word).groups()) for word in words if word != "--files"] or [HEADLINE]
-    seen, missing = {}, []
-    for law in laws:
-        follow(*law, seen, missing)
-    of = {}
-    for crate, name, item in seen:
-        of.setdefault((crate, name), []).append(item)
-    total = 0
-    for crate, name in sorted(of, key=lambda key: (CRATES.index(key[0]), list(of).index(key))):
-        file = FILES[crate, name]
-        texts = [file.items[item] for item in file.items if item in of[crate, name]]
-        count = sum(map(len, texts))
-        total += count
-        print(f"crates/{crate}/specs/{name.replace('.', '/')}.antt" + (f" {count}" if only_files else ""))
-        if not only_files:
-            print("\n" + "\n\n".join("\n".join(text) for text in texts) + "\n")
-    print(f"{len(of)} files, {total} lines")
-    for name in missing:
-        print(f"{name} can't be followed", file=sys.stderr)
-    sys.exit(1 if missing else 0)
+    if words == ["--check"]:
+        wrong = check()
+    else:
+        laws = [tuple(re.match(r"(\w+)\.(.*)\.(\S+)$", word).groups()) for word in words if word != "--files"] or [HEADLINE]
+        seen, missing = rests_on(laws)
+        if "--files" not in words:
+            print_definitions(seen)
+        print_files(seen)
+        wrong = [f"{name} can't be followed" for name in missing]
+    for line in wrong:
+        print(line, file=sys.stderr)
+    sys.exit(1 if wrong else 0)
 
 
 if __name__ == "__main__":

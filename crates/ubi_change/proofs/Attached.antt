@@ -23,17 +23,15 @@ use Rattle.ubi_scan.proofs.Clean.{clean_from_none}
 use Rattle.ubi_table.specs.Records.{Records}
 use Rattle.ubi_table.specs.Table.{AllBlank}
 use Rattle.ubi_volume.specs.Accepts.{AcceptsBlocks}
-use Rattle.ubi_volume.specs.Attached.{IsAttached, Whole}
+use Rattle.ubi_volume.specs.Attached.{IsAttached, Whole, AreStates}
 use Rattle.ubi_volume.specs.Meant.{Fits, IsVolume}
-use Rattle.ubi_volume.specs.States.{AreStates}
 use Rattle.ubi_volume.specs.declared.content.Content.{Content}
 use Rattle.ubi_volume.specs.declared.content.Content.TheVariants as content
 use Rattle.ubi_volume.specs.declared.content.Volume.{Volume}
 use Rattle.ubi_volume.proofs.Recorded.{records_meant}
 use Rattle.ubi_volume.proofs.Winners.{found_wins, none_found}
 use Rattle.ubi_change.specs.Cuts.{SurvivesCuts, programs_copy, turn}
-use Rattle.ubi_change.specs.Headers.{blank_header, copy_header, next_ec}
-use Rattle.ubi_change.specs.Plan.{mapped_plan, needs, plan_of, prepare, program_header, program_text, ready_bytes, ready_ec, release, renew, taken, unmapped_plan}
+use Rattle.ubi_change.specs.Plan.{blank_header, copy_header, next_ec, mapped_plan, needs, plan_of, prepare, program_header, program_text, ready_bytes, ready_ec, release, renew, taken, unmapped_plan}
 use Rattle.ubi_change.specs.Refused.{causes, first_cause, first_of, is_bad_length, is_static}
 use Rattle.ubi_change.specs.Takeable.{ec_at, is_clean, is_worn, takeable}
 use Rattle.ubi_change.specs.Weak.{weak_place, whole_place}

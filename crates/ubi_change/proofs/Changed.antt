@@ -17,8 +17,8 @@ use Rattle.ubi_volume.specs.declared.content.Content.TheVariants as content
 use Rattle.ubi_volume.specs.declared.content.Volume.{Volume}
 use Rattle.ubi_volume.proofs.Blanks.{blank_text, other_text}
 use Rattle.ubi_volume.proofs.Recorded.{record_of, space_of}
-use Rattle.ubi_change.specs.Changed.{changed, volume_with, with_leb}
 use Rattle.ubi_scan.proofs.Filled.{length-filled}
+use Rattle.ubi_change.specs.Cuts.{changed, volume_with, with_leb}
 use Rattle.ubi_change.proofs.Mounted.{IsChanged}
 
 module _ {X : Type 0} (m : FinMap nat_cmp X) (k : ℕ) where

@@ -21,9 +21,9 @@ use Rattle.ubi_scan.specs.Image.{block}
 use Rattle.ubi_scan.proofs.Filled.{filled-by, filled-is, length-blank, length-filled}
 use Rattle.ubi_scan.proofs.Parts.{laid}
 use Rattle.ubi_scan.proofs.Parts as parts
-use Rattle.ubi_change.specs.Headers.{vid_page}
-use Rattle.ubi_change.specs.Plan.{program_header, program_text}
-use Rattle.ubi_change.specs.Steps.{only_clears, page_of, step_done}
+use Rattle.ubi_change.specs.Fitting.{only_clears, page_of}
+use Rattle.ubi_change.specs.Plan.{vid_page, program_header, program_text}
+use Rattle.ubi_change.specs.Steps.{step_done}
 use Rattle.ubi_change.specs.Weak.{pages_of}
 use Rattle.ubi_change.specs.declared.step.Step.TheVariants as step
 use Rattle.ubi_change.proofs.Fits.{AreBytes, FitAll, blank_page, bytes-append, bytes-blank, clears-append, clears_blank, clears_same, program_fits}

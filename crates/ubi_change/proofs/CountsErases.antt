@@ -25,8 +25,7 @@ use Rattle.ubi_volume.proofs.Winners.{found_wins}
 use Rattle.ubi_volume.specs.Attached.{IsAttached, Whole}
 use Rattle.ubi_volume.specs.declared.content.Volume.{Volume}
 use Rattle.ubi_change.specs.Frugal.{CountsErases, counter_after, erases}
-use Rattle.ubi_change.specs.Headers.{blank_header, copy_header, next_ec}
-use Rattle.ubi_change.specs.Plan.{mapped_plan, mount, plan_of, prepare, program_header, program_text, ready_bytes, ready_ec, release, renew, taken, unmapped_plan}
+use Rattle.ubi_change.specs.Plan.{blank_header, copy_header, next_ec, mapped_plan, mount, plan_of, prepare, program_header, program_text, ready_bytes, ready_ec, release, renew, taken, unmapped_plan}
 use Rattle.ubi_change.specs.Refused.{first_cause}
 use Rattle.ubi_change.specs.Steps.{block_after, step_done, target}
 use Rattle.ubi_change.specs.Takeable.{ec_at, is_clean, is_worn}

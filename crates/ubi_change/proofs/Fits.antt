@@ -10,8 +10,9 @@ use Rattle.ubi_media.specs.Fields.{blank, filled}
 use Rattle.ubi_media.specs.Geometry.{Sizes, IsGeometry}
 use Rattle.ubi_media.specs.declared.ec.EcHeader.{EcHeader}
 use Rattle.ubi_scan.specs.Image.{block}
+use Rattle.ubi_change.specs.Fitting.{AllFit, fits, only_clears, page_of}
 use Rattle.ubi_change.specs.Plan.{renew}
-use Rattle.ubi_change.specs.Steps.{AllFit, fits, only_clears, page_of, step_done}
+use Rattle.ubi_change.specs.Steps.{step_done}
 use Rattle.ubi_change.specs.declared.step.Step.{Step}
 use Rattle.ubi_change.specs.declared.step.Step.TheVariants as step
 use Rattle.ubi_scan.proofs.Filled.{behind, filled-is, length-filled}

@@ -12,9 +12,8 @@ use Rattle.ubi_volume.specs.Attached.{IsAttached, Whole}
 use Rattle.ubi_volume.specs.declared.content.Volume.{Volume}
 use Rattle.ubi_change.specs.Cuts.{turn}
 use Rattle.ubi_change.specs.Frugal.{given_up, is_worn_then}
-use Rattle.ubi_change.specs.Headers.{blank_header, copy_header, next_ec}
 use Rattle.ubi_change.specs.Order.{Erases}
-use Rattle.ubi_change.specs.Plan.{atomic_copy, mapped_plan, mount, plan_of, prepare, program_header, program_text, ready_bytes, ready_ec, release, renew, taken, unmapped_plan}
+use Rattle.ubi_change.specs.Plan.{blank_header, copy_header, next_ec, atomic_copy, mapped_plan, mount, plan_of, prepare, program_header, program_text, ready_bytes, ready_ec, release, renew, taken, unmapped_plan}
 use Rattle.ubi_change.specs.Refused.{first_cause}
 use Rattle.ubi_change.specs.Takeable.{ec_at, is_worn}
 use Rattle.ubi_change.specs.Weak.{whole_place}

@@ -18,9 +18,8 @@ use Rattle.ubi_scan.specs.Image.{Image, block, ec_area, eraseblocks}
 use Rattle.ubi_scan.proofs.Filled.{filled-by, filled-is}
 use Rattle.ubi_volume.specs.Attached.{IsAttached, Whole}
 use Rattle.ubi_volume.specs.declared.content.Volume.{Volume}
-use Rattle.ubi_change.specs.Headers.{blank_header, copy_header, next_ec, vid_page}
 use Rattle.ubi_change.specs.Order.{ComesFirst, Programs}
-use Rattle.ubi_change.specs.Plan.{atomic_copy, mapped_plan, mount, plan_of, prepare, program_header, program_text, ready_bytes, ready_ec, release, renew, taken, unmapped_plan}
+use Rattle.ubi_change.specs.Plan.{blank_header, copy_header, next_ec, vid_page, atomic_copy, mapped_plan, mount, plan_of, prepare, program_header, program_text, ready_bytes, ready_ec, release, renew, taken, unmapped_plan}
 use Rattle.ubi_change.specs.Refused.{first_cause}
 use Rattle.ubi_change.specs.Steps.{after, step_done}
 use Rattle.ubi_change.specs.Takeable.{ec_at, is_clean, is_worn}

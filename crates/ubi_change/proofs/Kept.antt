@@ -12,16 +12,13 @@ use Rattle.ubi_scan.specs.Faults.{NoFault}
 use Rattle.ubi_scan.specs.Image.{block, leb}
 use Rattle.ubi_scan.specs.Members.{Leb, NoMember, Wins, is_right, layout, member}
 use Rattle.ubi_scan.proofs.Decided.{Wins-unique, winner_or_none}
-use Rattle.ubi_table.specs.Copies.{CopyIs, copy_of}
 use Rattle.ubi_table.specs.Records.{Records}
-use Rattle.ubi_table.specs.Table.{AllBlank, Decides, IsTable}
+use Rattle.ubi_table.specs.Table.{CopyIs, copy_of, AllBlank, Decides, IsTable}
 use Rattle.ubi_table.specs.declared.copy.CopyRead.{CopyRead}
 use Rattle.ubi_table.specs.declared.copy.CopyRead.TheVariants as copy
-use Rattle.ubi_volume.specs.Accepts.{AcceptsBlocks}
-use Rattle.ubi_volume.specs.Counted.{IsWithin, NoMismatch}
-use Rattle.ubi_volume.specs.Means.{Means, SlotMeans}
+use Rattle.ubi_volume.specs.Accepts.{AcceptsBlocks, IsWithin, NoMismatch}
+use Rattle.ubi_volume.specs.Means.{Means, SlotMeans, AreWhole, IsPiece, LebReads, StaticReads, VolumeReads, piece}
 use Rattle.ubi_volume.specs.Meant.{Meant}
-use Rattle.ubi_volume.specs.Reads.{AreWhole, IsPiece, LebReads, StaticReads, VolumeReads, piece}
 use Rattle.ubi_volume.specs.declared.content.Content.{Content}
 use Rattle.ubi_volume.specs.declared.content.Content.TheVariants as content
 use Rattle.ubi_volume.specs.declared.content.Volume.{Volume}

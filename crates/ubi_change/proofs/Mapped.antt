@@ -9,7 +9,8 @@ use Rattle.ubi_media.specs.Ec.{ec_reading}
 use Rattle.ubi_media.specs.Fields.{blank, filled}
 use Rattle.ubi_media.specs.Geometry.{Sizes, IsGeometry, leb_size}
 use Rattle.ubi_media.specs.Record.{data_pad, usable}
-use Rattle.ubi_media.specs.Vid.{VidFits, breaks, fields_from, first_fault, vid_fault}
+use Rattle.ubi_media.specs.Vid.{breaks, fields_from, first_fault, vid_fault}
+use Rattle.ubi_media.specs.Widths.{VidFits}
 use Rattle.ubi_media.specs.declared.ec.EcHeader.{EcHeader}
 use Rattle.ubi_media.specs.declared.ec.EcRead.TheVariants as ec_read
 use Rattle.ubi_media.specs.declared.record.VolumeRecord.{VolumeRecord}
@@ -22,16 +23,14 @@ use Rattle.ubi_scan.specs.Members.{IsMember, Leb, Wins, has_members, is_good, la
 use Rattle.ubi_scan.proofs.Decided.{Wins-unique}
 use Rattle.ubi_table.specs.Records.{Records}
 use Rattle.ubi_table.specs.Table.{AllBlank}
-use Rattle.ubi_volume.specs.Accepts.{AcceptsBlocks}
-use Rattle.ubi_volume.specs.Counted.{IsUnlike}
+use Rattle.ubi_volume.specs.Accepts.{AcceptsBlocks, IsUnlike}
+use Rattle.ubi_volume.specs.Attached.{IsOutside}
 use Rattle.ubi_volume.specs.Means.{SlotMeans}
 use Rattle.ubi_volume.specs.Meant.{Meant}
-use Rattle.ubi_volume.specs.States.{IsOutside}
 use Rattle.ubi_volume.specs.declared.content.Content.TheVariants as content
 use Rattle.ubi_volume.specs.declared.content.Volume.{Volume}
-use Rattle.ubi_change.specs.Changed.{changed}
-use Rattle.ubi_change.specs.Headers.{copy_header}
-use Rattle.ubi_change.specs.Plan.{program_header, program_text, renew}
+use Rattle.ubi_change.specs.Cuts.{changed}
+use Rattle.ubi_change.specs.Plan.{copy_header, program_header, program_text, renew}
 use Rattle.ubi_change.specs.Steps.{after}
 use Rattle.ubi_change.specs.Weak.{pages_of, weak_place, whole_place}
 use Rattle.ubi_change.specs.declared.step.Step.{Step}

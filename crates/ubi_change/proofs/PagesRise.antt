@@ -13,9 +13,8 @@ use Rattle.ubi_media.specs.declared.record.VolumeRecord.{VolumeRecord}
 use Rattle.ubi_media.specs.declared.vid.VidHeader.{VidHeader}
 use Rattle.ubi_scan.proofs.Keys.{same_or_apart}
 use Rattle.ubi_volume.specs.Attached.{Whole}
-use Rattle.ubi_change.specs.Headers.{blank_header, copy_header, next_ec, vid_page}
 use Rattle.ubi_change.specs.Order.{NoErase, Programs}
-use Rattle.ubi_change.specs.Plan.{atomic_copy, mapped_plan, mount, needs, plan_of, prepare, program_header, program_text, ready_bytes, ready_ec, release, renew, taken, unmapped_plan}
+use Rattle.ubi_change.specs.Plan.{blank_header, copy_header, next_ec, vid_page, atomic_copy, mapped_plan, mount, needs, plan_of, prepare, program_header, program_text, ready_bytes, ready_ec, release, renew, taken, unmapped_plan}
 use Rattle.ubi_change.specs.Takeable.{ec_at, is_clean, is_worn, takeable}
 use Rattle.ubi_change.specs.Weak.{pages_of}
 use Rattle.ubi_change.specs.declared.step.Step.{Step}

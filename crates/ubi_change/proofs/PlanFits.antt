@@ -15,10 +15,10 @@ use Rattle.ubi_scan.proofs.Parts.{laid}
 use Rattle.ubi_volume.proofs.Winners.{found_wins}
 use Rattle.ubi_volume.specs.Attached.{IsAttached, Whole}
 use Rattle.ubi_volume.specs.declared.content.Volume.{Volume}
-use Rattle.ubi_change.specs.Headers.{blank_header, copy_header, next_ec}
-use Rattle.ubi_change.specs.Plan.{atomic_copy, mapped_plan, plan_of, prepare, program_header, program_text, ready_bytes, ready_ec, release, renew, taken, unmapped_plan}
+use Rattle.ubi_change.specs.Fitting.{AllFit}
+use Rattle.ubi_change.specs.Plan.{blank_header, copy_header, next_ec, atomic_copy, mapped_plan, plan_of, prepare, program_header, program_text, ready_bytes, ready_ec, release, renew, taken, unmapped_plan}
 use Rattle.ubi_change.specs.Refused.{first_cause}
-use Rattle.ubi_change.specs.Steps.{AllFit, step_done}
+use Rattle.ubi_change.specs.Steps.{step_done}
 use Rattle.ubi_change.specs.Takeable.{ec_at, is_clean, is_worn}
 use Rattle.ubi_change.specs.declared.step.Step.{Step}
 use Rattle.ubi_change.proofs.Attached as attached

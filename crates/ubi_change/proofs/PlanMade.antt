@@ -12,9 +12,10 @@ use Rattle.ubi_scan.specs.Image.{Image, eraseblocks}
 use Rattle.ubi_volume.specs.Attached.{IsAttached, Whole}
 use Rattle.ubi_volume.specs.declared.content.Volume.{Volume}
 use Rattle.ubi_volume.proofs.Winners.{found_wins}
-use Rattle.ubi_change.specs.Making.{ArePlaces, AreWithin, image_causes, own_causes, steps_on}
+use Rattle.ubi_change.specs.inner.Making.{ArePlaces, AreWithin, image_causes, own_causes, steps_on}
 use Rattle.ubi_change.specs.Plan.{mapped_plan, needs, plan_of, taken, unmapped_plan}
-use Rattle.ubi_change.specs.Refused.{IsChangeRefusal, causes, first_cause, first_of}
+use Rattle.ubi_change.specs.Planned.{IsChangeRefusal}
+use Rattle.ubi_change.specs.Refused.{causes, first_cause, first_of}
 use Rattle.ubi_change.specs.declared.places.Places.{Places}
 use Rattle.ubi_change.specs.declared.places.Places.TheVariants as places
 use Rattle.ubi_change.specs.declared.planning.Target.{Target}

@@ -4,9 +4,8 @@ use Rattle.std.specs.FinMap.{FinMap}
 use Rattle.ubi_media.specs.Check.{check_from, remainder}
 use Rattle.ubi_media.specs.Ec as ec
 use Rattle.ubi_media.specs.Ec.{ec_fields, ec_reading}
-use Rattle.ubi_media.specs.Fields.{filled, overwrite}
+use Rattle.ubi_media.specs.Fields.{filled, overwrite, form_of}
 use Rattle.ubi_media.specs.Geometry.{Sizes}
-use Rattle.ubi_media.specs.Header.{form_of}
 use Rattle.ubi_media.specs.Vid as vid
 use Rattle.ubi_media.specs.Vid.{vid_fields, vid_reading}
 use Rattle.ubi_media.specs.declared.record.VolumeRecord.{VolumeRecord}

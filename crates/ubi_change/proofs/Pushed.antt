@@ -10,8 +10,7 @@ use Rattle.ubi_media.specs.declared.ec.EcHeader.{EcHeader}
 use Rattle.ubi_media.specs.declared.vid.VidHeader.{VidHeader}
 use Rattle.ubi_scan.specs.Image.{block, ec_area}
 use Rattle.ubi_volume.specs.Attached.{Whole}
-use Rattle.ubi_change.specs.Headers.{next_ec}
-use Rattle.ubi_change.specs.Plan.{atomic_copy, mount, program_header, program_text, release, renew}
+use Rattle.ubi_change.specs.Plan.{next_ec, atomic_copy, mount, program_header, program_text, release, renew}
 use Rattle.ubi_change.specs.Takeable.{ec_at, is_clean, is_worn}
 use Rattle.ubi_change.specs.declared.step.Step.{Step}
 use Rattle.ubi_change.specs.declared.step.Step.TheVariants as step

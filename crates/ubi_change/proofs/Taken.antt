@@ -3,7 +3,7 @@ use Rattle.std.proofs.Common.{◌≡◌, ℕ, zero, suc, ◌+◌, Bool, true, fa
 use Rattle.std.specs.Prelude.{◌&&◌, filter}
 use Rattle.std.specs.List.{range_with_len}
 use Rattle.std.proofs.lemmas.List.Elements.{filter-append}
-use Rattle.ubi_change.specs.Making.{first_two, joined, with_next}
+use Rattle.ubi_change.specs.inner.Making.{first_two, joined, with_next}
 use Rattle.ubi_change.specs.declared.taking.FirstTwo.{FirstTwo}
 
 pub two_more : (xs : List ℕ) (p : ℕ) → with_next (first_two xs) p ≡ first_two (xs ++ p ∷ [])

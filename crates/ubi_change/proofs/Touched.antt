@@ -12,8 +12,7 @@ use Rattle.ubi_media.specs.declared.vid.VidHeader.{VidHeader}
 use Rattle.ubi_volume.specs.Attached.{Whole}
 use Rattle.ubi_change.specs.Frugal.{TouchesOnly, given_up, touched}
 use Rattle.ubi_media.specs.Record.{data_pad}
-use Rattle.ubi_change.specs.Headers.{blank_header, copy_header, next_ec}
-use Rattle.ubi_change.specs.Plan.{atomic_copy, mapped_plan, mount, needs, plan_of, prepare, program_header, program_text, ready_bytes, ready_ec, release, renew, taken, unmapped_plan}
+use Rattle.ubi_change.specs.Plan.{blank_header, copy_header, next_ec, atomic_copy, mapped_plan, mount, needs, plan_of, prepare, program_header, program_text, ready_bytes, ready_ec, release, renew, taken, unmapped_plan}
 use Rattle.ubi_change.specs.Steps.{target}
 use Rattle.ubi_change.specs.Takeable.{ec_at, is_clean, is_worn, takeable}
 use Rattle.ubi_change.specs.Weak.{pages_of}

@@ -10,15 +10,15 @@ use Rattle.std.proofs.lemmas.List.Sums.{fold-append}
 use Rattle.ubi_media.specs.Ec.{ec_bytes}
 use Rattle.ubi_media.specs.Fields.{blank, filled}
 use Rattle.ubi_media.specs.Geometry.{Sizes, IsGeometry}
-use Rattle.ubi_media.specs.Vid.{VidFits, vid_bytes, vid_fault, vid_reading}
+use Rattle.ubi_media.specs.Vid.{vid_bytes, vid_fault, vid_reading}
+use Rattle.ubi_media.specs.Widths.{VidFits}
 use Rattle.ubi_media.specs.declared.ec.EcHeader.{EcHeader}
 use Rattle.ubi_media.specs.declared.vid.VidHeader.{VidHeader}
 use Rattle.ubi_media.specs.declared.vid.VidRead.TheVariants as vid_read
 use Rattle.ubi_media.proofs.Headers.{fields_fit, vid_read_back}
 use Rattle.ubi_media.proofs.Readings.{one_vid_reading}
 use Rattle.ubi_change.specs.Cuts.{header_in, is_copy, programs_copy, turn}
-use Rattle.ubi_change.specs.Headers.{vid_page}
-use Rattle.ubi_change.specs.Plan.{program_header, program_text, renew}
+use Rattle.ubi_change.specs.Plan.{vid_page, program_header, program_text, renew}
 use Rattle.ubi_change.specs.Weak.{pages_of, whole_place}
 use Rattle.ubi_change.specs.declared.step.Step.{Step}
 use Rattle.ubi_change.specs.declared.step.Step.TheVariants as step

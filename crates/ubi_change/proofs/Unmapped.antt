@@ -11,7 +11,8 @@ use Rattle.std.proofs.lemmas.List.Sums.{fold-append}
 use Rattle.ubi_media.specs.Fields.{blank, filled}
 use Rattle.ubi_media.specs.Geometry.{Sizes, IsGeometry, leb_size}
 use Rattle.ubi_media.specs.Record.{data_pad, usable}
-use Rattle.ubi_media.specs.Vid.{VidFits, breaks, fields_from, first_fault, vid_bytes, vid_fault}
+use Rattle.ubi_media.specs.Vid.{breaks, fields_from, first_fault, vid_bytes, vid_fault}
+use Rattle.ubi_media.specs.Widths.{VidFits}
 use Rattle.ubi_media.specs.declared.ec.EcHeader.{EcHeader}
 use Rattle.ubi_media.specs.declared.record.VolumeRecord.{VolumeRecord}
 use Rattle.ubi_media.specs.declared.vid.VidHeader.{VidHeader}
@@ -22,16 +23,13 @@ use Rattle.ubi_scan.proofs.Decided.{Wins-unique}
 use Rattle.ubi_scan.proofs.Keys.{same_or_apart}
 use Rattle.ubi_table.specs.Records.{Records}
 use Rattle.ubi_table.specs.Table.{AllBlank}
-use Rattle.ubi_volume.specs.Accepts.{AcceptsBlocks}
-use Rattle.ubi_volume.specs.Counted.{IsUnlike}
-use Rattle.ubi_volume.specs.Means.{SlotMeans}
+use Rattle.ubi_volume.specs.Accepts.{AcceptsBlocks, IsUnlike}
+use Rattle.ubi_volume.specs.Means.{SlotMeans, LebReads}
 use Rattle.ubi_volume.specs.Meant.{Meant}
-use Rattle.ubi_volume.specs.Reads.{LebReads}
 use Rattle.ubi_volume.specs.declared.content.Content.TheVariants as content
 use Rattle.ubi_volume.specs.declared.content.Volume.{Volume}
-use Rattle.ubi_change.specs.Changed.{changed}
-use Rattle.ubi_change.specs.Headers.{blank_header, copy_header}
-use Rattle.ubi_change.specs.Plan.{program_header, program_text}
+use Rattle.ubi_change.specs.Cuts.{changed}
+use Rattle.ubi_change.specs.Plan.{blank_header, copy_header, program_header, program_text}
 use Rattle.ubi_change.specs.Steps.{block_after, step_done}
 use Rattle.ubi_change.specs.Weak.{whole_place}
 use Rattle.ubi_change.specs.declared.step.Step.{Step}

@@ -1,13 +1,12 @@
 pub mod Steps
+pub mod Fitting
 pub mod Order
 pub mod Takeable
 pub mod Weak
-pub mod Changed
-pub mod Headers
 pub mod Plan
 pub mod Refused
 pub mod Cuts
 pub mod Frugal
 pub mod Planned
 pub mod Laws
-pub mod Making
+pub mod inner

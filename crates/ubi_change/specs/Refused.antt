@@ -1,18 +1,14 @@
 -- Why a change isn't planned, in the order in which the causes are tried.
-use Rattle.std.specs.Prelude.{◌≡◌, ℕ, ◌+◌, ◌%◌, ◌==◌, ◌||◌, Bool, true, false, not, nat_lt, List, [], ◌∷◌, length, Option, Some, None, option_map}
+use Rattle.std.specs.Prelude.{ℕ, ◌+◌, ◌%◌, ◌==◌, ◌||◌, Bool, true, false, not, nat_lt, List, [], ◌∷◌, length, Option, Some, None, option_map}
 use Rattle.std.specs.Bool.{then_some}
 use Rattle.std.specs.FinMap.{get}
 use Rattle.std.specs.Option.{option_map_or}
 use Rattle.ubi_media.specs.Geometry.{Sizes}
 use Rattle.ubi_media.specs.Record.{usable}
-use Rattle.ubi_media.specs.declared.refusal.AttachError.{AttachError}
-use Rattle.ubi_media.specs.declared.refusal.AttachError.TheVariants as attach
 use Rattle.ubi_media.specs.declared.record.VolumeRecord.{VolumeRecord}
 use Rattle.ubi_media.specs.declared.vid.VolKind.{VolKind}
 use Rattle.ubi_media.specs.declared.vid.VolKind.TheVariants as kind
-use Rattle.ubi_scan.specs.Image.{Image, eraseblocks}
-use Rattle.ubi_volume.specs.Accepts.{Refuses}
-use Rattle.ubi_volume.specs.Attached.{Whole, IsAttached}
+use Rattle.ubi_volume.specs.Attached.{Whole}
 use Rattle.ubi_change.specs.Plan.{needs}
 use Rattle.ubi_change.specs.Takeable.{takeable}
 use Rattle.ubi_change.specs.Weak.{weak_place}
@@ -22,11 +18,6 @@ use Rattle.ubi_change.specs.declared.refusal.ChangeRefusal.TheVariants as refusa
 abbrev pub is_static : VolKind → Bool
 is_static kind.Static = true
 is_static kind.Dynamic = false
-
--- the cause that an attach gives
-abbrev pub from_attach : AttachError → ChangeRefusal
-from_attach (attach.Refused c) = refusal.Attach c
-from_attach attach.Memory = refusal.Memory
 
 -- whether a length is no number of whole pages, or none, or above a limit
 abbrev pub is_bad_length : Sizes → ℕ → ℕ → Bool
@@ -55,10 +46,3 @@ module _ (s : Sizes) (bs : List (List ℕ)) (a : Whole) where
   abbrev pub first_cause : ℕ → ℕ → List ℕ → Option ChangeRefusal
   first_cause id lnum new =
       option_map_or (λ v. first_of (causes v.entry id lnum new)) (get a.meaning.volumes id) (Some refusal.NoVolume)
-
--- why a change isn't planned
-abbrev pub IsChangeRefusal : Image → ℕ → ℕ → List ℕ → ChangeRefusal → Type 0
-IsChangeRefusal image id lnum new refusal.Memory = Unit {0}
-IsChangeRefusal image id lnum new (refusal.Attach c) = Refuses image c
-IsChangeRefusal image id lnum new c =
-    (a : Whole) × IsAttached image a × (first_cause image.sizes (eraseblocks image) a id lnum new ≡ Some c)

@@ -1,7 +1,7 @@
 //! The causes not to plan a change that don't depend on which eraseblocks can be taken.
 
 ghost use Rattle.std.specs.Prelude.{◌≡◌, None};
-ghost use Rattle.ubi_change.specs.Making.{own_causes};
+ghost use Rattle.ubi_change.specs.inner.Making.{own_causes};
 ghost use Rattle.ubi_change.specs.Refused.{first_of, is_bad_length};
 ghost use Rattle.ubi_media.specs.Record.{rec_fault, usable};
 

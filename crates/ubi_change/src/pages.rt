@@ -1,7 +1,7 @@
 //! The bytes of the pages that a plan programs.
 
 ghost use Rattle.std.specs.Prelude.{◌≡◌, ◌%◌, ◌≤◌, [], IfOk, OnOk, if◌then◌else◌, length, nat_lt};
-ghost use Rattle.ubi_change.specs.Headers.{vid_page};
+ghost use Rattle.ubi_change.specs.Plan.{vid_page};
 ghost use Rattle.ubi_media.specs.Ec.{ec_bytes};
 ghost use Rattle.ubi_media.specs.Fields.{filled};
 

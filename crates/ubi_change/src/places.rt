@@ -1,7 +1,7 @@
 //! The eraseblocks that a plan works on.
 
 ghost use Rattle.std.specs.Prelude.{◌≡◌, IfErr, IfOk, Some, length};
-ghost use Rattle.ubi_change.specs.Making.{ArePlaces, image_causes, shown};
+ghost use Rattle.ubi_change.specs.inner.Making.{ArePlaces, image_causes, shown};
 ghost use Rattle.ubi_change.specs.Refused.{first_of};
 ghost use Rattle.ubi_scan.specs.Image.{eraseblocks};
 

@@ -1,10 +1,9 @@
 //! The plan of an atomic change.
 
 ghost use Rattle.std.specs.Prelude.{◌≡◌, ◌%◌, ◌^◌, ◌<◌, IfErr, IfOk, length};
-ghost use Rattle.ubi_change.specs.Headers.{blank_header, copy_header};
-ghost use Rattle.ubi_change.specs.Making.{AreWithin, mapped_steps, shown, steps_on, unmapped_steps};
-ghost use Rattle.ubi_change.specs.Planned.{AllFitOf, IsFrugalOf, IsPlan, RisesOf, SurvivesCutsOf};
-ghost use Rattle.ubi_change.specs.Refused.{IsChangeRefusal};
+ghost use Rattle.ubi_change.specs.inner.Making.{AreWithin, mapped_steps, shown, steps_on, unmapped_steps};
+ghost use Rattle.ubi_change.specs.Plan.{blank_header, copy_header};
+ghost use Rattle.ubi_change.specs.Planned.{AllFitOf, IsFrugalOf, IsPlan, RisesOf, SurvivesCutsOf, IsChangeRefusal};
 ghost use Rattle.ubi_scan.specs.Image.{eraseblocks};
 
 use crate::causes::own_cause;

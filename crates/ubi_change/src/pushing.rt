@@ -1,9 +1,8 @@
 //! The parts of a plan, each added to the steps before it.
 
 ghost use Rattle.std.specs.Prelude.{◌≡◌, ◌++◌, ◌∷◌, [], ◌%◌, ◌^◌, ◌≤◌, ◌<◌, IfOk, IfSome, OnOk, length};
-ghost use Rattle.ubi_change.specs.Headers.{next_ec};
-ghost use Rattle.ubi_change.specs.Making.{shown};
-ghost use Rattle.ubi_change.specs.Plan.{atomic_copy, mount, prepare, program_header, program_text, ready_bytes, ready_ec, release, renew};
+ghost use Rattle.ubi_change.specs.inner.Making.{shown};
+ghost use Rattle.ubi_change.specs.Plan.{next_ec, atomic_copy, mount, prepare, program_header, program_text, ready_bytes, ready_ec, release, renew};
 ghost use Rattle.ubi_scan.specs.Image.{eraseblocks};
 
 use crate::pages::{ec_page, vid_page};

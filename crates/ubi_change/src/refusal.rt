@@ -54,7 +54,7 @@ impl From<Refusal> for ChangeRefusal {
 
 impl From<AttachError> for ChangeRefusal {
     ghost use Rattle.std.specs.Prelude.{◌≡◌};
-    ghost use Rattle.ubi_change.specs.Refused.{from_attach};
+    ghost use Rattle.ubi_change.specs.Planned.{from_attach};
 
     ghost from_gives = { λ r e. e ≡ from_attach r };
 

@@ -1,7 +1,7 @@
 //! Which eraseblocks a plan takes.
 
 ghost use Rattle.std.specs.Prelude.{◌≡◌, ◌≤◌, ◌<◌, ◌&&◌, IfSome, filter, length};
-ghost use Rattle.ubi_change.specs.Making.{first_two, is_wanted, joined, with_next};
+ghost use Rattle.ubi_change.specs.inner.Making.{first_two, is_wanted, joined, with_next};
 ghost use Rattle.ubi_change.specs.Takeable.{able, ec_at, is_clean, is_free, is_takeable, is_unused, is_worn, takeable};
 ghost use Rattle.ubi_scan.specs.Image.{block, ec_area, eraseblocks};
 

@@ -12,11 +12,9 @@ use Rattle.ubi_scan.specs.Faults.{NoFault}
 use Rattle.ubi_scan.specs.Members.{Leb, layout}
 use Rattle.ubi_table.specs.Table.{IsTable}
 use Rattle.ubi_table.proofs.Held.{table_written}
-use Rattle.ubi_volume.specs.Accepts.{Accepts, AcceptsBlocks}
-use Rattle.ubi_volume.specs.Counted.{NoMismatch}
-use Rattle.ubi_volume.specs.Means.{SlotMeans}
+use Rattle.ubi_volume.specs.Accepts.{Accepts, AcceptsBlocks, NoMismatch}
+use Rattle.ubi_volume.specs.Means.{SlotMeans, VolumeReads}
 use Rattle.ubi_volume.specs.Meant.{Fits, IsMeaning, IsVolume, Meant, records_of}
-use Rattle.ubi_volume.specs.Reads.{VolumeReads}
 use Rattle.ubi_volume.specs.declared.content.Content.{Content}
 use Rattle.ubi_volume.specs.declared.content.Content.TheVariants as content
 use Rattle.ubi_volume.specs.declared.content.Volume.{Volume}

@@ -7,7 +7,8 @@ use Rattle.std.proofs.Math.Path.{ap₂}
 use Rattle.ubi_media.specs.Ec.{ec_bytes, ec_reading}
 use Rattle.ubi_media.specs.Fields.{blank}
 use Rattle.ubi_media.specs.Geometry.{IsGeometry, Sizes}
-use Rattle.ubi_media.specs.Vid.{VidFits, vid_bytes, vid_fault, vid_reading}
+use Rattle.ubi_media.specs.Vid.{vid_bytes, vid_fault, vid_reading}
+use Rattle.ubi_media.specs.Widths.{VidFits}
 use Rattle.ubi_media.specs.declared.ec.EcRead.TheVariants as ec_read
 use Rattle.ubi_media.specs.declared.vid.VidHeader.{VidHeader}
 use Rattle.ubi_media.specs.declared.vid.VidRead.TheVariants as vid_read

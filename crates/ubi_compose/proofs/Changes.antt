@@ -17,7 +17,7 @@ use Rattle.ubi_volume.specs.Made.{Items}
 use Rattle.ubi_volume.specs.declared.content.Content.{Content}
 use Rattle.ubi_volume.specs.declared.content.Content.TheVariants as content
 use Rattle.ubi_volume.specs.declared.content.Volume.{Volume}
-use Rattle.ubi_compose.specs.Drafts.{AreDrafts, IsRefused, changed, place_of, with_line}
+use Rattle.ubi_compose.specs.inner.Drafts.{AreDrafts, IsRefused, changed, place_of, with_line}
 use Rattle.ubi_compose.specs.Lines.{volume_of}
 use Rattle.ubi_compose.specs.Spec.{volume_from}
 use Rattle.ubi_compose.specs.declared.errors.LineError.{LineError}

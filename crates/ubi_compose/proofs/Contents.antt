@@ -16,10 +16,9 @@ use Rattle.ubi_media.specs.declared.vid.VidHeader.{VidHeader}
 use Rattle.ubi_scan.specs.Faults.{NoFault}
 use Rattle.ubi_scan.specs.Image.{block, leb}
 use Rattle.ubi_scan.specs.Members.{Leb, NoMember, member}
-use Rattle.ubi_volume.specs.Gathered.{AreRead, PieceIs, UsedIs}
-use Rattle.ubi_volume.specs.Meant.{Fits}
-use Rattle.ubi_volume.specs.Reading.{pieces, share}
-use Rattle.ubi_volume.specs.Reads.{LebReads, VolumeReads}
+use Rattle.ubi_volume.specs.inner.Gathered.{AreRead, PieceIs, UsedIs}
+use Rattle.ubi_volume.specs.Means.{LebReads, VolumeReads}
+use Rattle.ubi_volume.specs.Meant.{Fits, pieces, share}
 use Rattle.ubi_volume.specs.declared.content.Content.TheVariants as content
 use Rattle.ubi_volume.proofs.Static.{damaged_piece, piece_checked, piece_unchecked, read_more, read_none, static_reads}
 use Rattle.ubi_compose.specs.Normal.{Laid, damaged_block, dynamic_block, static_part, volume_blocks}

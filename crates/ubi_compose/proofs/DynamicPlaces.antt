@@ -18,16 +18,16 @@ use Rattle.ubi_scan.specs.Source.{Source, blocks_of}
 use Rattle.ubi_scan.specs.declared.errors.StreamError.{StreamError}
 use Rattle.ubi_scan.proofs.Decided.{Wins-unique}
 use Rattle.ubi_table.proofs.ReadBack.{pieces_more}
+use Rattle.ubi_volume.specs.Means.{LebReads, VolumeReads}
 use Rattle.ubi_volume.specs.Meant.{Fits, IsVolume, KeepsNoBlank}
 use Rattle.ubi_volume.specs.Places.{IsCountedPlace, IsNextPlace, Placed, case_of}
-use Rattle.ubi_volume.specs.Reads.{LebReads, VolumeReads}
 use Rattle.ubi_volume.specs.declared.content.Content.{Content}
 use Rattle.ubi_volume.specs.declared.content.Content.TheVariants as content
 use Rattle.ubi_volume.specs.declared.content.Volume.{Volume}
 use Rattle.ubi_volume.specs.declared.places.PlaceContent.TheVariants as place
 use Rattle.ubi_volume.proofs.Blanks.{blank_text, other_text}
+use Rattle.ubi_compose.specs.inner.Streaming.{IsVolumeOf, dynamic_text, kept_bytes, volume_text}
 use Rattle.ubi_compose.specs.Normal.{dynamic_block, laid_bytes, new_ec, volume_blocks}
-use Rattle.ubi_compose.specs.Streamed.{IsVolumeOf, dynamic_text, kept_bytes, volume_text}
 use Rattle.ubi_volume.specs.Wrote.{All, IsWroteError, Wanted, Wrote}
 use Rattle.ubi_compose.proofs.ByNumber.{Rises, by_number, kept_at}
 use Rattle.ubi_compose.proofs.Lists.{all_from, held_entry}

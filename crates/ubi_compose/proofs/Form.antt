@@ -8,9 +8,9 @@ use Rattle.ubi_scan.specs.Image.{Image}
 use Rattle.ubi_volume.specs.Accepts.{Accepts}
 use Rattle.ubi_volume.specs.Meant.{IsMeaning, Meant}
 use Rattle.ubi_volume.proofs.One.{Accepts-unique}
-use Rattle.ubi_compose.specs.Composed.{IsNormalised, composed, image_of}
+use Rattle.ubi_compose.specs.Composed.{composed, image_of}
 use Rattle.ubi_compose.specs.Laws.{MeanTheSame, Normalising}
-use Rattle.ubi_compose.specs.Normal.{normal_blocks, normal_bytes}
+use Rattle.ubi_compose.specs.Normal.{IsNormalised, normal_blocks, normal_bytes}
 use Rattle.ubi_compose.proofs.Accepted.{length-composed, normal_accepted}
 use Rattle.ubi_compose.proofs.Room.{normal_fits}
 

@@ -3,7 +3,8 @@ use Rattle.std.proofs.Common.{◌≡◌, ℕ, ◌+◌, ◌-◌, ◌/◌, ◌^◌
 use Rattle.std.specs.Prelude.{None}
 use Rattle.std.proofs.lemmas.Bool.Decides.{nat_tests}
 use Rattle.ubi_media.specs.Geometry.{IsGeometry, Sizes, leb_size}
-use Rattle.ubi_media.specs.Vid.{VidFits, breaks, fields_from, first_fault, plain, vid_fault}
+use Rattle.ubi_media.specs.Vid.{breaks, fields_from, first_fault, plain, vid_fault}
+use Rattle.ubi_media.specs.Widths.{VidFits}
 use Rattle.ubi_media.specs.declared.vid.VidHeader.{VidHeader}
 use Rattle.ubi_media.specs.declared.vid.VolKind.TheVariants as kind
 use Rattle.ubi_scan.specs.Faults.{IsMislaid}

@@ -5,7 +5,7 @@ use Rattle.std.specs.Option.{ok_or, option_map_or}
 use Rattle.std.proofs.lemmas.List.Elements.{filter_map-append}
 use Rattle.ubi_media.specs.Geometry.{Sizes}
 use Rattle.ubi_media.specs.declared.vid.VolKind.{VolKind}
-use Rattle.ubi_compose.specs.Drafts.{read, taken}
+use Rattle.ubi_compose.specs.inner.Drafts.{read, taken}
 use Rattle.ubi_compose.specs.Lines.{◌>>=◌, damaged_line, form_of, is_skipped, is_spelled, leb_line, line_of, number_word, said, text_line, updating_line, volume_line, word, words}
 use Rattle.ubi_compose.specs.Spec.{cause_after, cause_of, saying, sayings, volumes_in}
 use Rattle.ubi_compose.specs.Words.{flags_of, hex_of, kind_of, shown_name}

@@ -6,8 +6,7 @@ use Rattle.ubi_media.specs.Geometry.{IsGeometry, Sizes}
 use Rattle.ubi_media.specs.Record.{data_pad, usable}
 use Rattle.ubi_media.specs.declared.record.VolumeRecord.{VolumeRecord}
 use Rattle.ubi_scan.specs.Members.{Leb, layout}
-use Rattle.ubi_volume.specs.Meant.{IsMeaning, IsVolume, Meant}
-use Rattle.ubi_volume.specs.Reading.{pieces}
+use Rattle.ubi_volume.specs.Meant.{IsMeaning, IsVolume, Meant, pieces}
 use Rattle.ubi_volume.specs.declared.content.Content.{Content}
 use Rattle.ubi_volume.specs.declared.content.Content.TheVariants as content
 use Rattle.ubi_volume.specs.declared.content.Volume.{Volume}

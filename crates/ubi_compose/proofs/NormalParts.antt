@@ -14,9 +14,10 @@ use Rattle.ubi_scan.specs.declared.errors.StreamError.TheVariants as stream
 use Rattle.ubi_table.specs.Records.{table_bytes}
 use Rattle.ubi_volume.specs.Meant.{Meant}
 use Rattle.ubi_volume.specs.Places.{ArePlaces, ArePlacesOf, Placed}
+use Rattle.ubi_compose.specs.inner.Streaming.{laid_text, normal_text, volumes_text}
 use Rattle.ubi_compose.specs.Normal as normal
 use Rattle.ubi_compose.specs.Normal.{laid_bytes, layout_block, new_ec, normal_bytes}
-use Rattle.ubi_compose.specs.Streamed.{IsNormaliseToError, IsNormalisedTo, laid_text, normal_text, volumes_text}
+use Rattle.ubi_compose.specs.Streamed.{IsNormaliseToError, IsNormalisedTo}
 use Rattle.ubi_volume.specs.Wrote.{All, IsWroteError, Wanted, Wrote}
 use Rattle.ubi_volume.proofs.Received.{Splits, error_behind, error_front, wrote_more}
 

@@ -12,8 +12,8 @@ use Rattle.ubi_media.specs.declared.vid.VolKind.TheVariants as kind
 use Rattle.ubi_scan.specs.Image.{block, leb, vid, vid_area}
 use Rattle.ubi_scan.specs.Source.{blocks_of}
 use Rattle.ubi_scan.proofs.Chunks.{get_or-first_chunks}
+use Rattle.ubi_compose.specs.inner.Streaming.{GivesCheck, kept_bytes}
 use Rattle.ubi_compose.specs.Normal.{dynamic_block, laid_bytes, new_ec, piece_header, static_block}
-use Rattle.ubi_compose.specs.Streamed.{GivesCheck, kept_bytes}
 
 -- what was put behind the headers' bytes
 pub text_is : (xs text rest : List ℕ) (n : ℕ) → length xs ≡ n → take (length text) (drop n (xs ++ (text ++ rest))) ≡ text

@@ -13,11 +13,10 @@ use Rattle.ubi_media.specs.declared.record.VolumeRecord.{VolumeRecord}
 use Rattle.ubi_media.specs.declared.vid.VidHeader.{VidHeader}
 use Rattle.ubi_media.specs.declared.vid.VolKind.TheVariants as kind
 use Rattle.ubi_table.proofs.ReadBack.{pieces_more}
+use Rattle.ubi_volume.specs.Meant.{pieces, share, Meant}
 use Rattle.ubi_volume.specs.declared.content.Content.{Content}
 use Rattle.ubi_volume.specs.declared.content.Content.TheVariants as content
 use Rattle.ubi_volume.specs.declared.content.Volume.{Volume}
-use Rattle.ubi_volume.specs.Reading.{pieces, share}
-use Rattle.ubi_volume.specs.Meant.{Meant}
 use Rattle.ubi_compose.specs.Composed.{composed, spare}
 use Rattle.ubi_compose.specs.Normal.{Laid, blocks_of, damaged_block, dynamic_block, laid_bytes, layout_block, new_ec, normal_bytes, static_block, static_blocks, volume_blocks}
 

@@ -12,7 +12,7 @@ use Rattle.ubi_volume.specs.Made.{Items}
 use Rattle.ubi_volume.specs.declared.content.Content.{Content}
 use Rattle.ubi_volume.specs.declared.content.Content.TheVariants as content
 use Rattle.ubi_volume.specs.declared.content.Volume.{Volume}
-use Rattle.ubi_compose.specs.Drafts.{AreFaultless, IsRefused, error_at, read}
+use Rattle.ubi_compose.specs.inner.Drafts.{AreFaultless, IsRefused, error_at, read}
 use Rattle.ubi_compose.specs.Spec.{IsSpecError, cause_of, first_cause, is_damaged, is_dynamic, is_updating, line_number, lines, numbered_volume, of_volume, sayings, volume_from, volumes_in, volumes_of}
 use Rattle.ubi_compose.specs.declared.errors.LineError.{LineError}
 use Rattle.ubi_compose.specs.declared.errors.LineError.TheVariants as line_error

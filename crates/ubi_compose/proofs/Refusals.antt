@@ -11,7 +11,8 @@ use Rattle.ubi_scan.specs.declared.errors.StreamError.TheVariants as stream
 use Rattle.ubi_volume.specs.Accepts.{Accepts, Refuses}
 use Rattle.ubi_volume.specs.Meant.{Meant}
 use Rattle.ubi_volume.specs.Places.{ArePlacesError}
-use Rattle.ubi_compose.specs.Compared.{IsSameFault, IsSidesError}
+use Rattle.ubi_compose.specs.Compared.{IsSameFault}
+use Rattle.ubi_compose.specs.inner.Comparing.{IsSidesError}
 use Rattle.ubi_compose.specs.declared.errors.SameFault.{SameFault}
 use Rattle.ubi_compose.specs.declared.errors.SameFault.TheVariants as fault
 

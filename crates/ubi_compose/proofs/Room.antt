@@ -11,8 +11,7 @@ use Rattle.std.proofs.lemmas.List.FromFn.{length-map-range_with_len}
 use Rattle.ubi_media.specs.Geometry.{Sizes}
 use Rattle.ubi_media.specs.Record.{data_pad, usable}
 use Rattle.ubi_media.proofs.Records.{usable_some}
-use Rattle.ubi_volume.specs.Meant.{Fits, IsMeaning, IsVolume, Meant}
-use Rattle.ubi_volume.specs.Reading.{pieces}
+use Rattle.ubi_volume.specs.Meant.{Fits, IsMeaning, IsVolume, Meant, pieces}
 use Rattle.ubi_volume.specs.declared.content.Content.{Content}
 use Rattle.ubi_volume.specs.declared.content.Content.TheVariants as content
 use Rattle.ubi_volume.specs.declared.content.Volume.{Volume}

@@ -17,9 +17,9 @@ use Rattle.ubi_media.specs.contracts.record.VolumeRecordPartialEq.TheImpl as rec
 use Rattle.ubi_media.specs.declared.record.VolumeRecord.{VolumeRecord}
 use Rattle.ubi_table.specs.Records.{Records}
 use Rattle.ubi_volume.specs.Extract.{extent_of, leb_bytes, share_len}
-use Rattle.ubi_volume.specs.Meant.{Fits, IsVolume, KeepsNoBlank, Meant, records_of}
+use Rattle.ubi_volume.specs.Meant.{Fits, IsVolume, KeepsNoBlank, Meant, records_of, share}
 use Rattle.ubi_volume.specs.Places.{ArePlaces, Placed, case_of}
-use Rattle.ubi_volume.specs.Reading.{leb_text, share}
+use Rattle.ubi_volume.specs.Reading.{leb_text}
 use Rattle.ubi_volume.specs.declared.content.Content.{Content}
 use Rattle.ubi_volume.specs.declared.content.Content.TheVariants as content
 use Rattle.ubi_volume.specs.declared.content.Volume.{Volume}
@@ -30,7 +30,7 @@ use Rattle.ubi_volume.proofs.Equal.{record_Decides}
 use Rattle.ubi_volume.proofs.Extracted.{leb_is, piece_is, same_range, static_is}
 use Rattle.ubi_volume.proofs.One.{kept_alike, outside}
 use Rattle.ubi_volume.proofs.VolumeAt.{case_is, reads_of}
-use Rattle.ubi_compose.specs.Compared.{AreSameLebs, IsSameLeb, TellsVolume}
+use Rattle.ubi_compose.specs.inner.Comparing.{AreSameLebs, IsSameLeb, TellsVolume}
 use Rattle.ubi_compose.proofs.Blocks.{some_same}
 use Rattle.ubi_compose.proofs.StoredVolumes.{count, volume_at}
 

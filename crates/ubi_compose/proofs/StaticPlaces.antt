@@ -15,9 +15,9 @@ use Rattle.ubi_scan.specs.Members.{NoMember, Wins}
 use Rattle.ubi_scan.specs.Source.{Source, blocks_of}
 use Rattle.ubi_scan.specs.declared.errors.StreamError.{StreamError}
 use Rattle.ubi_table.proofs.ReadBack.{pieces_more}
+use Rattle.ubi_volume.specs.Means.{AreWhole, StaticReads, VolumeReads, piece}
+use Rattle.ubi_volume.specs.Meant.{pieces, share}
 use Rattle.ubi_volume.specs.Places.{IsNextPlace, Placed, case_of}
-use Rattle.ubi_volume.specs.Reading.{pieces, share}
-use Rattle.ubi_volume.specs.Reads.{AreWhole, StaticReads, VolumeReads, piece}
 use Rattle.ubi_volume.specs.declared.content.Content.{Content}
 use Rattle.ubi_volume.specs.declared.content.Content.TheVariants as content
 use Rattle.ubi_volume.specs.declared.content.Volume.{Volume}
@@ -25,8 +25,8 @@ use Rattle.ubi_volume.specs.declared.places.PlaceContent.TheVariants as place
 use Rattle.ubi_volume.proofs.Alike.{member_valid}
 use Rattle.ubi_volume.proofs.Either.{are_lebs}
 use Rattle.ubi_volume.proofs.Extracted.{front_of, static_whole}
+use Rattle.ubi_compose.specs.inner.Streaming.{GivesCheck, IsVolumeOf, static_text, volume_text}
 use Rattle.ubi_compose.specs.Normal.{laid_bytes, new_ec, static_block, static_part, volume_blocks}
-use Rattle.ubi_compose.specs.Streamed.{GivesCheck, IsVolumeOf, static_text, volume_text}
 use Rattle.ubi_volume.specs.Wrote.{All, IsWroteError, Wanted, Wrote}
 use Rattle.ubi_volume.proofs.Pieces.{length-share}
 use Rattle.ubi_volume.proofs.Shares.{header_at, share_at}

@@ -8,15 +8,15 @@ use Rattle.ubi_media.specs.Record.{data_pad}
 use Rattle.ubi_media.specs.declared.record.VolumeRecord.{VolumeRecord}
 use Rattle.ubi_media.specs.declared.vid.VidHeader.{VidHeader}
 use Rattle.ubi_media.specs.declared.vid.VolKind.TheVariants as kind
-use Rattle.ubi_volume.specs.Counted.{IsWithin}
+use Rattle.ubi_volume.specs.Accepts.{IsWithin}
 use Rattle.ubi_volume.specs.Places.{AreWithin, IsCountedPlace, IsReserved, Placed, case_of}
 use Rattle.ubi_volume.specs.declared.content.Content.{Content}
 use Rattle.ubi_volume.specs.declared.content.Content.TheVariants as content
 use Rattle.ubi_volume.specs.declared.places.PlaceContent.{PlaceContent}
 use Rattle.ubi_volume.specs.declared.places.PlaceContent.TheVariants as place
 use Rattle.ubi_volume.proofs.VolumeAt.{case_is, reads_of}
+use Rattle.ubi_compose.specs.inner.Streaming.{laid_text, volume_text}
 use Rattle.ubi_compose.specs.Normal.{damaged_block, laid_bytes, new_ec, volume_blocks}
-use Rattle.ubi_compose.specs.Streamed.{laid_text, volume_text}
 use Rattle.ubi_compose.proofs.Blocks.{some_same}
 use Rattle.ubi_compose.proofs.Puts.{damaged_is}
 

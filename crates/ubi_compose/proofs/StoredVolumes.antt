@@ -22,9 +22,9 @@ use Rattle.ubi_volume.specs.Places.{ArePlaces, Placed}
 use Rattle.ubi_volume.specs.declared.content.Content.TheVariants as content
 use Rattle.ubi_volume.specs.declared.content.Volume.{Volume}
 use Rattle.ubi_volume.proofs.Gathered.{same_order}
+use Rattle.ubi_compose.specs.inner.Streaming.{volume_text, volumes_text}
 use Rattle.ubi_compose.specs.Normal as normal
 use Rattle.ubi_compose.specs.Normal.{Laid, laid_bytes, new_ec, volume_blocks}
-use Rattle.ubi_compose.specs.Streamed.{volume_text, volumes_text}
 use Rattle.ubi_volume.specs.Wrote.{All, IsWroteError, Wanted, Wrote}
 use Rattle.ubi_compose.proofs.Lists.{all_from, held_entry}
 use Rattle.ubi_compose.proofs.Puts.{blocks_more}

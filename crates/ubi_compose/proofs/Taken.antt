@@ -12,7 +12,7 @@ use Rattle.ubi_media.specs.declared.record.RecFault.{RecFault}
 use Rattle.ubi_media.specs.declared.record.VolumeRecord.{VolumeRecord}
 use Rattle.ubi_volume.specs.Made.{Items}
 use Rattle.ubi_volume.specs.declared.content.Volume.{Volume}
-use Rattle.ubi_compose.specs.Drafts.{changed, changed_at, opened, place_of, taken, with_line}
+use Rattle.ubi_compose.specs.inner.Drafts.{changed, changed_at, opened, place_of, taken, with_line}
 use Rattle.ubi_compose.specs.Lines.{volume_of}
 use Rattle.ubi_compose.specs.Spec.{content_cause, heading, later_cause, numbered_volume, of_volume, record_of, volume_from, volumes_in}
 use Rattle.ubi_compose.specs.declared.errors.SpecCause.{SpecCause}

@@ -5,7 +5,7 @@ use Rattle.ubi_media.specs.Geometry.{Sizes}
 use Rattle.ubi_volume.specs.Meant.{Meant}
 use Rattle.ubi_volume.specs.declared.errors.MeaningCause.{MeaningCause}
 use Rattle.ubi_volume.proofs.FirstCause.{one_first}
-use Rattle.ubi_compose.specs.Laws.{ComesTo}
+use Rattle.ubi_compose.specs.TextLaws.{ComesTo}
 
 pub one_answer : (s : Sizes) (text : List ℕ) (a b : Result Meant MeaningCause) → ComesTo s text a → ComesTo s text b
     → a ≡ b

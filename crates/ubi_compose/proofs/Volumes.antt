@@ -11,8 +11,7 @@ use Rattle.ubi_media.specs.Record.{data_pad, usable}
 use Rattle.ubi_media.specs.declared.record.VolumeRecord.{VolumeRecord}
 use Rattle.ubi_media.proofs.Checks.{check_from-lt}
 use Rattle.ubi_media.proofs.Records.{usable_some}
-use Rattle.ubi_volume.specs.Meant.{Fits, IsVolume}
-use Rattle.ubi_volume.specs.Reading.{pieces, share}
+use Rattle.ubi_volume.specs.Meant.{Fits, IsVolume, pieces, share}
 use Rattle.ubi_volume.specs.declared.content.Content.{Content}
 use Rattle.ubi_volume.specs.declared.content.Content.TheVariants as content
 use Rattle.ubi_volume.specs.declared.content.Volume.{Volume}

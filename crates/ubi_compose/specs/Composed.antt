@@ -1,4 +1,4 @@
--- What is composed of a meaning, and what normalising gives.
+-- What is composed of a meaning, and what comparing two images gives.
 use Rattle.std.specs.Prelude.{◌≡◌, ◌↔◌, Bool, IsTrue, ℕ, ◌+◌, ◌<◌, ◌≤◌, List, ◌++◌, flat_map, length, replicate}
 use Rattle.ubi_media.specs.Ec.{ec_bytes}
 use Rattle.ubi_media.specs.Fields.{filled}
@@ -27,10 +27,6 @@ composed m spares = normal_bytes m ++ flat_map (λ b. b) (replicate spares (spar
 -- the device has room for them
 abbrev pub HasRoom : Meant → ℕ → Type 0
 HasRoom m spares = length (normal_blocks m) + spares ≤ m.sizes.pebs
-
--- bytes are the normal image of what an image means
-abbrev pub IsNormalised : Image → List ℕ → Type 0
-IsNormalised image out = (m : Meant) × Accepts image m × (out ≡ normal_bytes m)
 
 -- what a composing answers that composes nothing
 abbrev pub IsComposeError : Meant → ℕ → ComposeError → Type 0

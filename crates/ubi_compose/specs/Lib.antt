@@ -3,7 +3,9 @@ pub mod Composed
 pub mod Words
 pub mod Lines
 pub mod Spec
-pub mod Drafts
 pub mod Laws
+pub mod TextLaws
+pub mod NormalLaws
 pub mod Streamed
 pub mod Compared
+pub mod inner

@@ -1,5 +1,5 @@
--- The normal image of a meaning: its eraseblocks, and their bytes.
-use Rattle.std.specs.Prelude.{ℕ, List, [], ◌∷◌, ◌++◌, map, flat_map, length}
+-- The normal image of a meaning: its eraseblocks, and their bytes. And what normalising gives.
+use Rattle.std.specs.Prelude.{ℕ, List, [], ◌∷◌, ◌++◌, map, flat_map, length, ◌≡◌}
 use Rattle.std.specs.FinMap.{entries}
 use Rattle.std.specs.List.{range_with_len}
 use Rattle.ubi_media.specs.Check.{check}
@@ -12,10 +12,11 @@ use Rattle.ubi_media.specs.declared.ec.EcHeader.{EcHeader}
 use Rattle.ubi_media.specs.declared.record.VolumeRecord.{VolumeRecord}
 use Rattle.ubi_media.specs.declared.vid.VidHeader.{VidHeader}
 use Rattle.ubi_media.specs.declared.vid.VolKind.TheVariants as kind
+use Rattle.ubi_scan.specs.Image.{Image}
 use Rattle.ubi_scan.specs.Members.{layout}
 use Rattle.ubi_table.specs.Records.{table_bytes}
-use Rattle.ubi_volume.specs.Meant.{Meant, records_of}
-use Rattle.ubi_volume.specs.Reading.{pieces, share}
+use Rattle.ubi_volume.specs.Accepts.{Accepts}
+use Rattle.ubi_volume.specs.Meant.{Meant, records_of, pieces, share}
 use Rattle.ubi_volume.specs.declared.content.Content.{Content}
 use Rattle.ubi_volume.specs.declared.content.Content.TheVariants as content
 use Rattle.ubi_volume.specs.declared.content.Volume.{Volume}
@@ -80,9 +81,10 @@ abbrev pub laid_bytes : Sizes → EcHeader → Laid → List ℕ
 laid_bytes s ec b =
     filled s.peb_size (filled s.data_offset (filled s.vid_offset (ec_bytes s ec) ++ vid_bytes b.header) ++ b.text)
 
--- the eraseblocks of the normal image, and its bytes
-abbrev pub normal_image : Meant → List (List ℕ)
-normal_image m = map (laid_bytes m.sizes new_ec) (normal_blocks m)
-
+-- the bytes of the normal image
 unfoldable pub normal_bytes : Meant → List ℕ
 normal_bytes m = flat_map (laid_bytes m.sizes new_ec) (normal_blocks m)
+
+-- bytes are the normal image of what an image means
+abbrev pub IsNormalised : Image → List ℕ → Type 0
+IsNormalised image out = (m : Meant) × Accepts image m × (out ≡ normal_bytes m)

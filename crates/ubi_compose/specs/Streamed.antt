@@ -1,65 +1,15 @@
--- The eraseblocks of the normal image, by the bytes of the image whose places they are read from.
-use Rattle.std.specs.Prelude.{◌≡◌, ℕ, ◌<◌, ◌≤◌, ◌⊎◌, List, [], Some, flat_map, length, take, Option, if◌then◌else◌}
+-- What a writer received of the normal image, and what normalising a source answers.
+use Rattle.std.specs.Prelude.{◌≡◌, ℕ, ◌<◌, ◌≤◌, ◌⊎◌, List, length, take, Option}
 use Rattle.std.specs.Io.KnownBytes.{Appends, Keeps}
-use Rattle.std.specs.FinMap.{entries, get}
-use Rattle.ubi_media.specs.Check.{check}
-use Rattle.ubi_media.specs.Fields.{is_blank}
 use Rattle.ubi_media.specs.Geometry.{Sizes}
-use Rattle.ubi_media.specs.declared.vid.VidHeader.{VidHeader}
-use Rattle.ubi_media.specs.declared.vid.VidRead.TheVariants as vid_read
-use Rattle.ubi_scan.specs.Image.{Image, block, leb, vid}
-use Rattle.ubi_scan.specs.Source.{Source, WhereHeld, blocks_in, blocks_of}
+use Rattle.ubi_scan.specs.Image.{Image}
+use Rattle.ubi_scan.specs.Source.{Source, WhereHeld, blocks_in}
 use Rattle.ubi_scan.specs.declared.errors.StreamError.{StreamError}
 use Rattle.ubi_scan.specs.declared.errors.StreamError.TheVariants as stream
 use Rattle.ubi_volume.specs.Accepts.{Accepts}
 use Rattle.ubi_volume.specs.Meant.{Meant}
-use Rattle.ubi_volume.specs.Places.{ArePlaces, ArePlacesError, Placed}
-use Rattle.ubi_volume.specs.declared.content.Volume.{Volume}
-use Rattle.ubi_compose.specs.Normal as normal
-use Rattle.ubi_compose.specs.Normal.{dynamic_block, laid_bytes, new_ec, normal_bytes, static_block, volume_blocks}
-
--- the eraseblock with a header and a text, whatever the image
-abbrev pub laid_text : Sizes → VidHeader → List ℕ → List ℕ → List ℕ → Type 0
-laid_text s h part image text = text ≡ laid_bytes s new_ec (record { header = h; text = part })
-
--- the header of an eraseblock gives the check of the first `len` bytes of its LEB
-abbrev pub GivesCheck : Sizes → List ℕ → ℕ → Type 0
-GivesCheck s b len = (h : VidHeader) × (vid s b ≡ vid_read.Valid h) × (h.data_crc ≡ check (take len (leb s b)))
-
--- the eraseblock of a static volume whose piece of the text is the first `len` bytes at a place of an image, where the
--- header there gives their check
-abbrev pub static_text : Sizes → ℕ → ℕ → ℕ → ℕ → ℕ → ℕ → List ℕ → List ℕ → Type 0
-static_text s pad vol used lnum len p image text =
-    GivesCheck s (block (blocks_of s image) p) len
-    × (text ≡ laid_bytes s new_ec (static_block pad vol used lnum (take len (leb s (block (blocks_of s image) p)))))
-
--- the eraseblock of a dynamic volume with a text, or none where that is 0xFF throughout
-abbrev pub kept_bytes : Sizes → ℕ → ℕ → ℕ → List ℕ → List ℕ
-kept_bytes s pad vol lnum text = if is_blank text then [] else laid_bytes s new_ec (dynamic_block pad vol (lnum, text))
-
--- the same, where the text is the first `size` bytes at a place of an image
-abbrev pub dynamic_text : Sizes → ℕ → ℕ → ℕ → ℕ → ℕ → List ℕ → List ℕ → Type 0
-dynamic_text s pad vol lnum size p image text = text ≡ kept_bytes s pad vol lnum (take size (leb s (block (blocks_of s image) p)))
-
--- the volume with a number, of the meaning of an image whose places these are
-pub record IsVolumeOf (s : Sizes) (p : Placed) (id : ℕ) (image : List ℕ) (v : Volume) : Type 0 where
-  pub places : ArePlaces (record { sizes = s; bytes = image }) p
-  pub at : get places.meaning.volumes id ≡ Some v
-
--- the eraseblocks of that volume
-abbrev pub volume_text : Sizes → Placed → ℕ → List ℕ → List ℕ → Type 0
-volume_text s p id image text =
-    (v : Volume) × IsVolumeOf s p id image v × (text ≡ flat_map (laid_bytes s new_ec) (volume_blocks s id v.entry v.content))
-
--- those of all volumes
-abbrev pub volumes_text : Sizes → Placed → List ℕ → List ℕ → Type 0
-volumes_text s p image text =
-    (h : ArePlaces (record { sizes = s; bytes = image }) p)
-    × (text ≡ flat_map (laid_bytes s new_ec) (normal.blocks_of s (entries h.meaning.volumes)))
-
--- the normal image
-abbrev pub normal_text : Sizes → Placed → List ℕ → List ℕ → Type 0
-normal_text s p image text = (h : ArePlaces (record { sizes = s; bytes = image }) p) × (text ≡ normal_bytes h.meaning)
+use Rattle.ubi_volume.specs.Places.{ArePlacesError}
+use Rattle.ubi_compose.specs.Normal.{normal_bytes}
 
 -- the writer received the whole normal image, of n bytes
 pub record IsStreamed (image : Image) (old new : Option (List ℕ)) (n : ℕ) : Type 0 where

@@ -4,8 +4,9 @@ ghost use Rattle.std.specs.FinMap as finite;
 ghost use Rattle.std.specs.Prelude.{◌≡◌, ◌↔◌, IfErr, IfOk, IsTrue};
 ghost use Rattle.ubi_scan.specs.Source.{blocks_in};
 ghost use Rattle.ubi_volume.specs.Places.{ArePlacesOf};
-ghost use Rattle.ubi_compose.specs.Compared.{IsSameFault, IsSidesError, OfMeanings, TellsMeaning, WhereBothHeld, after_left, after_right};
+ghost use Rattle.ubi_compose.specs.Compared.{IsSameFault, WhereBothHeld, after_left, after_right};
 ghost use Rattle.ubi_compose.specs.Composed.{IsComparison, IsSameError};
+ghost use Rattle.ubi_compose.specs.inner.Comparing.{IsSidesError, OfMeanings, TellsMeaning};
 
 use crate::errors::{SameError, SameFault};
 use crate::matching::same_volumes;

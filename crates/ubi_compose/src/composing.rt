@@ -5,8 +5,8 @@ ghost use Rattle.std.specs.Prelude.{◌≡◌, ◌≢◌, ◌++◌, IfErr, IfOk,
 ghost use Rattle.ubi_media.specs.Fields.{filled};
 ghost use Rattle.ubi_scan.specs.Image.{Image};
 ghost use Rattle.ubi_volume.specs.Accepts.{Accepts, IsAttachError};
-ghost use Rattle.ubi_compose.specs.Composed.{HasRoom, IsComposeError, IsNormalised, composed, image_of, spare};
-ghost use Rattle.ubi_compose.specs.Normal.{blocks_of, laid_bytes, layout_block, new_ec, normal_blocks};
+ghost use Rattle.ubi_compose.specs.Composed.{HasRoom, IsComposeError, composed, image_of, spare};
+ghost use Rattle.ubi_compose.specs.Normal.{IsNormalised, blocks_of, laid_bytes, layout_block, new_ec, normal_blocks};
 
 use crate::errors::ComposeError;
 use crate::header::plain;

@@ -1,7 +1,7 @@
 //! The volumes of a text, as far as its lines were read.
 
 ghost use Rattle.std.specs.Prelude.{◌≡◌, ◌++◌, ◌∷◌, [], MatchResult, None, Ok, OnOk};
-ghost use Rattle.ubi_compose.specs.Drafts.{AreFaultless, IsRefused, changed, opened, place_of, read, taken};
+ghost use Rattle.ubi_compose.specs.inner.Drafts.{AreFaultless, IsRefused, changed, opened, place_of, read, taken};
 ghost use Rattle.ubi_compose.specs.Lines.{is_skipped};
 ghost use Rattle.ubi_compose.specs.Spec.{volume_from};
 
@@ -42,7 +42,7 @@ pub(crate) struct Drafts {
 
 impl Model for Drafts {
     ghost use Rattle.ubi_volume.specs.Made.{Items};
-    ghost use Rattle.ubi_compose.specs.Drafts.{AreDrafts, items_code};
+    ghost use Rattle.ubi_compose.specs.inner.Drafts.{AreDrafts, items_code};
 
     ghost Value = { Items };
 

@@ -1,6 +1,8 @@
 //! Laws of the definitions that the contracts cite, each as the contract of a function that does nothing.
 
-ghost use Rattle.ubi_compose.specs.Laws.{NormalAccepted, NormalFits, NormalForm, Normalising, OneAnswer, TwiceIsOnce};
+ghost use Rattle.ubi_compose.specs.Laws.{Normalising, TwiceIsOnce};
+ghost use Rattle.ubi_compose.specs.NormalLaws.{NormalAccepted, NormalFits, NormalForm};
+ghost use Rattle.ubi_compose.specs.TextLaws.{OneAnswer};
 
 /// The normal image of a meaning is accepted with that meaning, and so it is with any number of spare eraseblocks behind
 /// it, as far as the device has room.

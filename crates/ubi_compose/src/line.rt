@@ -2,8 +2,9 @@
 
 ghost use Rattle.std.specs.List.{list_all, list_any};
 ghost use Rattle.std.specs.Prelude.{◌≡◌, ◌==◌, IfOk, MatchResult, Ok, length, map, take};
+ghost use Rattle.ubi_compose.specs.inner.Drafts.{IsLineError};
+ghost use Rattle.ubi_compose.specs.Lines.{first_word, form_of, is_form, is_spelled, leb_line, line_of, number_word, said, text_line, volume_line, volume_of, word_count, words};
 ghost use Rattle.ubi_compose.specs.Words.{is_between};
-ghost use Rattle.ubi_compose.specs.Lines.{IsLineError, first_word, form_of, is_form, is_spelled, leb_line, line_of, number_word, said, text_line, volume_line, volume_of, word_count, words};
 
 use crate::errors::{LineError, SpecCause};
 use crate::shown::shown_name;

@@ -9,7 +9,8 @@ ghost use Rattle.ubi_media.specs.Record.{rec_fault};
 ghost use Rattle.ubi_scan.specs.Source.{blocks_in};
 ghost use Rattle.ubi_volume.specs.Extract.{leb_bytes};
 ghost use Rattle.ubi_volume.specs.Places.{ArePlacesOf};
-ghost use Rattle.ubi_compose.specs.Compared.{AreSameLebs, IsSideRead, OfMeanings, TellsMeaning, TellsVolume, WhereBothHeld, after_left, after_right};
+ghost use Rattle.ubi_compose.specs.Compared.{WhereBothHeld, after_left, after_right};
+ghost use Rattle.ubi_compose.specs.inner.Comparing.{AreSameLebs, IsSideRead, OfMeanings, TellsMeaning, TellsVolume};
 
 use crate::errors::SameFault;
 use ubi_media::{Geometry, VolumeRecord};

@@ -10,9 +10,9 @@ ghost use Rattle.ubi_media.specs.declared.vid.VidRead.TheVariants as vid_read;
 ghost use Rattle.ubi_scan.specs.Image.{block, vid};
 ghost use Rattle.ubi_scan.specs.Source.{Source, WhereHeld, blocks_in, blocks_of};
 ghost use Rattle.ubi_scan.specs.Stream.{IsReadFault, after};
+ghost use Rattle.ubi_compose.specs.inner.Streaming.{dynamic_text, laid_text, static_text};
 ghost use Rattle.ubi_compose.specs.Normal.{damaged_block, dynamic_block, laid_bytes, new_ec, static_block};
 ghost use Rattle.ubi_volume.specs.Wrote.{All, IsWroteError, NotAll, Wrote};
-ghost use Rattle.ubi_compose.specs.Streamed.{dynamic_text, laid_text, static_text};
 
 use crate::buffer::lay;
 use crate::header::{piece_header, plain};

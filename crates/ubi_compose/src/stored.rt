@@ -10,7 +10,7 @@ ghost use Rattle.ubi_scan.specs.Source.{Source};
 ghost use Rattle.ubi_scan.specs.Stream.{after};
 ghost use Rattle.ubi_volume.specs.Places.{ArePlacesOf};
 ghost use Rattle.ubi_volume.specs.declared.places.PlaceContent.TheVariants as place;
-ghost use Rattle.ubi_compose.specs.Streamed.{volume_text};
+ghost use Rattle.ubi_compose.specs.inner.Streaming.{volume_text};
 ghost use Rattle.ubi_volume.specs.Wrote.{All, IsWroteError, Wrote};
 
 use crate::header::damaged_header;

@@ -11,7 +11,8 @@ ghost use Rattle.ubi_scan.specs.Source.{Source};
 ghost use Rattle.ubi_scan.specs.Stream.{after};
 ghost use Rattle.ubi_table.specs.Records.{table_bytes};
 ghost use Rattle.ubi_volume.specs.Places.{ArePlacesOf};
-ghost use Rattle.ubi_compose.specs.Streamed.{IsNormaliseToError, IsNormalisedTo, laid_text, normal_text, volumes_text};
+ghost use Rattle.ubi_compose.specs.inner.Streaming.{laid_text, normal_text, volumes_text};
+ghost use Rattle.ubi_compose.specs.Streamed.{IsNormaliseToError, IsNormalisedTo};
 ghost use Rattle.ubi_volume.specs.Wrote.{All, IsWroteError, Wrote};
 
 use crate::composing::REJECT;

@@ -3,7 +3,7 @@
 
 ghost use Rattle.std.specs.Prelude.{◌≡◌, MatchResult, None, Ok};
 ghost use Rattle.ubi_media.specs.Record.{rec_fault, usable};
-ghost use Rattle.ubi_compose.specs.Drafts.{IsRefused, is_empty, leb_added, made_damaged, made_updating, with_leb, with_line, with_text};
+ghost use Rattle.ubi_compose.specs.inner.Drafts.{IsRefused, is_empty, leb_added, made_damaged, made_updating, with_leb, with_line, with_text};
 
 use crate::errors::{LineError, SpecCause};
 use crate::line::Line;

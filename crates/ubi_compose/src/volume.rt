@@ -4,8 +4,7 @@ ghost use Rattle.std.specs.FinMap as finite;
 ghost use Rattle.std.specs.List.{AllByRecursion};
 ghost use Rattle.std.specs.Prelude.{◌≡◌, ◌++◌, ◌*◌, ◌<◌, ◌≤◌, ◌^◌, OnOk, length, flat_map, map};
 ghost use Rattle.ubi_media.specs.Geometry.{leb_size};
-ghost use Rattle.ubi_volume.specs.Meant.{IsVolume};
-ghost use Rattle.ubi_volume.specs.Reading.{pieces, share};
+ghost use Rattle.ubi_volume.specs.Meant.{IsVolume, pieces, share};
 ghost use Rattle.ubi_compose.specs.Normal.{dynamic_block, laid_bytes, new_ec, static_blocks, volume_blocks};
 
 use crate::header::{damaged_header, plain, static_header};

@@ -9,7 +9,8 @@ use Rattle.ubi_media.specs.Geometry.{Sizes}
 use Rattle.ubi_media.specs.Header.{FormIs}
 use Rattle.ubi_media.specs.Ec.{EcIs, ec_magic, ec_front, ec_bytes, ec_fields}
 use Rattle.ubi_media.specs.Ec as ec
-use Rattle.ubi_media.specs.Vid.{VidFits, VidIs, kind_number, kind_of, vid_magic, vid_fault, vid_front, vid_bytes, vid_fields, fields_from, header_of}
+use Rattle.ubi_media.specs.Vid.{VidIs, kind_number, kind_of, vid_magic, vid_fault, vid_front, vid_bytes, vid_fields, fields_from, header_of}
+use Rattle.ubi_media.specs.Widths.{EcFits, VidFits}
 use Rattle.ubi_media.specs.declared.ec.EcHeader.{EcHeader}
 use Rattle.ubi_media.specs.declared.ec.EcRead.TheVariants as ec_read
 use Rattle.ubi_media.specs.declared.header.Form.TheVariants.{Sealed}
@@ -94,14 +95,14 @@ vid_read_back s h fits sound =
     (vid_bytes-Sealed h, rw e sound, rw e (sym (header_of-fields_from h)))
 
 -- and two headers with the same bytes are the same
-module _ (s : Sizes) (h : EcHeader) (fits : ec.EcFits h) where
+module _ (s : Sizes) (h : EcHeader) (fits : EcFits h) where
   counter_back : field 8 8 (ec_bytes s h) ≡ h.counter
   counter_back = big_number-reads_back 8 h.counter [] (let wide = fits.counter in omega arith)
 
   image_seq_back : field 4 24 (ec_bytes s h) ≡ h.image_seq
   image_seq_back = big_number-reads_back 4 h.image_seq [] fits.image_seq
 
-pub one_ec_header : (s : Sizes) (h k : EcHeader) → ec.EcFits h → ec.EcFits k → ec_bytes s h ≡ ec_bytes s k → h ≡ k
+pub one_ec_header : (s : Sizes) (h k : EcHeader) → EcFits h → EcFits k → ec_bytes s h ≡ ec_bytes s k → h ≡ k
 one_ec_header s h k fits fits_too e =
     let counter : h.counter ≡ k.counter = sym (counter_back s h fits) ∙ ap (field 8 8) e ∙ counter_back s k fits_too in
     let image_seq : h.image_seq ≡ k.image_seq = sym (image_seq_back s h fits) ∙ ap (field 4 24) e ∙ image_seq_back s k fits_too in

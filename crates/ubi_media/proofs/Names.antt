@@ -8,8 +8,8 @@ use Rattle.std.proofs.lemmas.List.{length-replicate, length-take-le, drop-replic
 use Rattle.std.proofs.lemmas.List.Folds.{list_any_at, list_any_none}
 use Rattle.std.proofs.lemmas.List.Quantifiers.{position-Some}
 use Rattle.std.proofs.lemmas.List.Sums.{position_or_len_is}
-use Rattle.ubi_media.specs.Fields.{overwrite}
-use Rattle.ubi_media.specs.Name.{is_name, padded}
+use Rattle.ubi_media.specs.Fields.{overwrite, padded}
+use Rattle.ubi_media.specs.Name.{is_name}
 use Rattle.ubi_media.specs.Record.{ends_at}
 
 -- a name written over zeros

@@ -6,8 +6,9 @@ use Rattle.std.proofs.lemmas.List.{length-replicate}
 use Rattle.std.proofs.lemmas.Nat.{pow_pos, pow-add, xor_comm, xor_lt, xor_block, shl_below, shr_split, shr_below, mod_below}
 use Rattle.std.proofs.Math.Nat.{mod-eq_of_lt, mod-lt, pow-suc}
 use lib.Bits.{xor_assoc, xor_self}
-use Rattle.ubi_media.specs.Check.{generator, remainder, product, IsRemainder}
+use Rattle.ubi_media.specs.Check.{generator, remainder}
 use Rattle.ubi_media.proofs.Xor.{xor-twice}
+use Rattle.ubi_media.specs.Remainder.{product, IsRemainder}
 
 -- the generator times x^k is x^(32 + k) and a part below
 generator-above : (c k : ℕ) → c * generator * 2 ^ k ≡ c * 2 ^ (32 + k) + c * 0x04C11DB7 * 2 ^ k

@@ -5,10 +5,10 @@ use Rattle.std.specs.Option.{option_map_or}
 use Rattle.std.proofs.lemmas.Bool.{eqb-true, eq-eqb}
 use Rattle.std.proofs.lemmas.Bool.Decides.{nat_tests}
 use Rattle.std.proofs.lemmas.List.Sums.{AllPass-from_list_all, list_all-from_AllPass}
-use Rattle.ubi_media.specs.Fields.{field, is_blank, is_sealed, IsBlank}
+use Rattle.ubi_media.specs.Fields.{field, is_blank, is_sealed, form_of}
 use Rattle.ubi_media.specs.Geometry.{Sizes}
-use Rattle.ubi_media.specs.Header.{FormIs, form_of}
 use Rattle.ubi_media.specs.Ec as ec
+use Rattle.ubi_media.specs.Header.{IsBlank, FormIs}
 use Rattle.ubi_media.specs.Vid as vid
 use Rattle.ubi_media.specs.declared.header.Form.{Form}
 use Rattle.ubi_media.specs.declared.header.Form.TheVariants.{Blank, Corrupt, Sealed}

@@ -8,11 +8,12 @@ use Rattle.std.proofs.lemmas.List.{take_at, get_or_at}
 use Rattle.byteorder.specs.Endian.{big_bytes}
 use Rattle.byteorder.specs.Numbers.{big_number-reads_back}
 use Rattle.ubi_media.specs.Check.{check}
-use Rattle.ubi_media.specs.Fields.{field, sealed, overwrite}
+use Rattle.ubi_media.specs.Fields.{field, sealed, overwrite, padded}
 use Rattle.ubi_media.specs.Geometry.{Sizes, leb_size}
-use Rattle.ubi_media.specs.Name.{is_name, padded}
-use Rattle.ubi_media.specs.Record.{RecFits, RecIs, data_pad, empty_record, fields_from, first_fault, rec_bytes, rec_fault, rec_fields, rec_front, record_of, slot_reading}
+use Rattle.ubi_media.specs.Name.{is_name}
+use Rattle.ubi_media.specs.Record.{RecIs, data_pad, empty_record, fields_from, first_fault, rec_bytes, rec_fault, rec_fields, rec_front, record_of, slot_reading}
 use Rattle.ubi_media.specs.Vid.{kind_number}
+use Rattle.ubi_media.specs.Widths.{RecFits}
 use Rattle.ubi_media.specs.declared.record.RecRead.TheVariants as read
 use Rattle.ubi_media.specs.declared.record.VolumeRecord.{VolumeRecord}
 use Rattle.ubi_media.specs.declared.vid.VolKind.{VolKind}

@@ -9,11 +9,13 @@ use Rattle.std.proofs.lemmas.Nat.{mod_below}
 use Rattle.byteorder.specs.Endian.{big_bytes, big_number}
 use Rattle.byteorder.specs.Numbers.{big_number-reads_back}
 use Rattle.ubi_media.specs.Check.{check}
-use Rattle.ubi_media.specs.Fields.{sealed, IsSealed, is_sealed, same_bytes}
+use Rattle.ubi_media.specs.Fields.{sealed, is_sealed, same_bytes}
 use Rattle.ubi_media.specs.Geometry.{Sizes, leb_size}
+use Rattle.ubi_media.specs.Header.{IsSealed}
 use Rattle.ubi_media.specs.Name.{is_name}
-use Rattle.ubi_media.specs.Record.{RecIs, IsNumberFault, breaks, data_pad, empty_record, ends_at, faults, fields_from, first_fault, judged, rec_fault, rec_fields, rec_reading, record_of, usable}
+use Rattle.ubi_media.specs.Record.{RecIs, breaks, data_pad, empty_record, ends_at, faults, fields_from, first_fault, judged, rec_fault, rec_fields, rec_reading, record_of, usable}
 use Rattle.ubi_media.specs.Vid.{kind_number}
+use Rattle.ubi_media.specs.Widths.{IsNumberFault}
 use Rattle.ubi_media.specs.declared.record.RecFault.{RecFault}
 use Rattle.ubi_media.specs.declared.record.RecFault.TheVariants as fault
 use Rattle.ubi_media.specs.declared.record.RecFields.{RecFields}

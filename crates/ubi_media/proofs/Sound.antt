@@ -6,7 +6,8 @@ use Rattle.std.proofs.lemmas.Bool.Decides.{nat_tests}
 use Rattle.ubi_media.specs.Fields.{is_sealed, same_bytes}
 use Rattle.ubi_media.specs.Geometry.{Sizes, leb_size}
 use Rattle.ubi_media.specs.Name.{is_name}
-use Rattle.ubi_media.specs.Record.{IsNumberFault, breaks, empty_record, faults, fields_from, first_fault, judged, rec_fault, rec_fields, rec_reading, record_of}
+use Rattle.ubi_media.specs.Record.{breaks, empty_record, faults, fields_from, first_fault, judged, rec_fault, rec_fields, rec_reading, record_of}
+use Rattle.ubi_media.specs.Widths.{IsNumberFault}
 use Rattle.ubi_media.specs.declared.record.RecFault.{RecFault}
 use Rattle.ubi_media.specs.declared.record.RecFault.TheVariants as fault
 use Rattle.ubi_media.specs.declared.record.RecRead.TheVariants as read

@@ -1,7 +1,7 @@
 -- Readings and bytes of volume-identifier headers on literals.
 use Rattle.std.proofs.Common.{◌≡◌, [], ◌∷◌, replicate, true, false, refl}
 use Rattle.ubi_media.specs.Check.{check_from, remainder}
-use Rattle.ubi_media.specs.Header.{form_of}
+use Rattle.ubi_media.specs.Fields.{form_of}
 use Rattle.ubi_media.specs.Vid.{vid_bytes, vid_fields, vid_reading, fields_from, header_of, judged, first_fault, breaks}
 use Rattle.ubi_media.specs.declared.vid.VidFault.TheVariants as fault
 use Rattle.ubi_media.specs.declared.vid.VidHeader.{VidHeader}

@@ -1,18 +1,18 @@
 -- The erase-counter header: the first 64 bytes of an eraseblock.
-use Rattle.std.specs.Prelude.{◌≡◌, ℕ, ◌^◌, ◌<◌, ◌==◌, ◌||◌, Bool, not, nat_lt, List, [], ◌∷◌, ◌++◌, Option, None, Some, find, replicate, slice_index}
+use Rattle.std.specs.Prelude.{◌≡◌, ℕ, ◌==◌, ◌||◌, Bool, not, nat_lt, List, [], ◌∷◌, ◌++◌, Option, None, Some, find, replicate, slice_index}
 use Rattle.std.specs.Option.{option_map_or}
 use Rattle.byteorder.specs.Endian.{big_bytes}
-use Rattle.ubi_media.specs.Fields.{field, sealed}
+use Rattle.ubi_media.specs.Fields.{field, sealed, form_of}
 use Rattle.ubi_media.specs.Geometry.{Sizes}
-use Rattle.ubi_media.specs.Header.{FormIs, form_of}
-use Rattle.ubi_media.specs.declared.header.Form.{Form}
-use Rattle.ubi_media.specs.declared.header.Form.TheVariants as form
+use Rattle.ubi_media.specs.Header.{FormIs}
 use Rattle.ubi_media.specs.declared.ec.EcFault.{EcFault}
 use Rattle.ubi_media.specs.declared.ec.EcFault.TheVariants as fault
 use Rattle.ubi_media.specs.declared.ec.EcFields.{EcFields}
 use Rattle.ubi_media.specs.declared.ec.EcHeader.{EcHeader}
 use Rattle.ubi_media.specs.declared.ec.EcRead.{EcRead}
 use Rattle.ubi_media.specs.declared.ec.EcRead.TheVariants as read
+use Rattle.ubi_media.specs.declared.header.Form.{Form}
+use Rattle.ubi_media.specs.declared.header.Form.TheVariants as form
 
 -- the text UBI#
 abbrev pub ec_magic : ℕ
@@ -76,8 +76,3 @@ ec_front s h =
 -- the bytes of a header
 abbrev pub ec_bytes : Sizes → EcHeader → List ℕ
 ec_bytes s h = sealed (ec_front s h)
-
--- the numbers of a header fit their widths
-pub record EcFits (h : EcHeader) : Type 0 where
-  pub counter : h.counter < 2 ^ 32
-  pub image_seq : h.image_seq < 2 ^ 32

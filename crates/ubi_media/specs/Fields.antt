@@ -1,9 +1,11 @@
--- What stands at a place of a list of bytes, blank bytes, and bytes that are sealed by their check.
-use Rattle.std.specs.Prelude.{◌≡◌, ℕ, Bool, ◌==◌, List, ◌+◌, ◌++◌, ◌-◌, All, take, drop, length, replicate, slice_range}
-use Rattle.std.specs.List.{list_all}
+-- What stands at a place of a list of bytes; blank, sealed and padded bytes; the form of a header, by magic and check.
+use Rattle.std.specs.Prelude.{ℕ, Bool, ◌==◌, List, ◌+◌, ◌++◌, ◌-◌, take, drop, length, replicate, slice_range, not, if◌then◌else◌}
 use Rattle.std.specs.Cmp.Lexicographic.{pointwise}
+use Rattle.std.specs.List.{list_all}
 use Rattle.byteorder.specs.Endian.{big_bytes, big_number}
 use Rattle.ubi_media.specs.Check.{check}
+use Rattle.ubi_media.specs.declared.header.Form.{Form}
+use Rattle.ubi_media.specs.declared.header.Form.TheVariants as form
 
 -- the number in the n bytes from a place on, the highest byte first
 abbrev pub field : ℕ → ℕ → List ℕ → ℕ
@@ -12,10 +14,6 @@ field n at bytes = big_number n (slice_range bytes at (at + n))
 -- the list with xs in the place of what stands from a place on
 unfoldable pub overwrite : ℕ → List ℕ → List ℕ → List ℕ
 overwrite at xs bytes = take at bytes ++ xs ++ drop (at + length xs) bytes
-
--- every byte is 0xFF
-abbrev pub IsBlank : List ℕ → Type 0
-IsBlank bytes = All (λ byte. byte ≡ 255) bytes
 
 -- whether every byte is 0xFF
 abbrev pub is_blank : List ℕ → Bool
@@ -33,10 +31,6 @@ filled n bytes = bytes ++ blank (n - length bytes)
 abbrev pub sealed : List ℕ → List ℕ
 sealed front = front ++ big_bytes 4 (check front)
 
--- the four bytes at a place are the check of all bytes before them
-abbrev pub IsSealed : ℕ → List ℕ → Type 0
-IsSealed at bytes = field 4 at bytes ≡ check (take at bytes)
-
 -- whether the four bytes at a place are the check of all bytes before them
 abbrev pub is_sealed : ℕ → List ℕ → Bool
 is_sealed at bytes = field 4 at bytes == check (take at bytes)
@@ -44,3 +38,13 @@ is_sealed at bytes = field 4 at bytes == check (take at bytes)
 -- whether two lists of bytes are the same
 abbrev pub same_bytes : List ℕ → List ℕ → Bool
 same_bytes = pointwise ◌==◌
+
+-- a name with zeros behind it, 128 bytes
+abbrev pub padded : List ℕ → List ℕ
+padded name = name ++ replicate (128 - length name) 0
+
+-- the one form of the bytes
+unfoldable pub form_of : ℕ → List ℕ → Form
+form_of magic bytes =
+    if not (field 4 0 bytes == magic) then (if is_blank bytes then form.Blank else form.Corrupt)
+    else (if is_sealed 60 bytes then form.Sealed else form.Corrupt)

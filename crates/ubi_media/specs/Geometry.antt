@@ -1,8 +1,6 @@
--- The geometry of a device: its limits, in the order in which they are tried, and the numbers that follow from it.
-use Rattle.std.specs.Prelude.{◌≡◌, ℕ, ◌+◌, ◌-◌, ◌/◌, ◌%◌, ◌≤◌, ◌==◌, ◌&&◌, Bool, not, nat_le, List, [], ◌∷◌, Option, find, IsTrue, min}
+-- The geometry of a device, and the numbers that follow from it.
+use Rattle.std.specs.Prelude.{◌≡◌, ℕ, ◌+◌, ◌-◌, ◌/◌, ◌%◌, ◌≤◌, ◌==◌, List, [], ◌∷◌, IsTrue, min}
 use Rattle.std.specs.List.{list_any}
-use Rattle.ubi_media.specs.declared.geometry.GeometryError.{GeometryError}
-use Rattle.ubi_media.specs.declared.geometry.GeometryError.TheVariants as fault
 
 -- the five numbers of a geometry: bytes of an eraseblock and of a page, the places of the volume-identifier header and
 -- of the data in an eraseblock, and the eraseblocks of the device
@@ -25,24 +23,6 @@ slots s = min 128 (leb_size s / 172)
 abbrev pub page_sizes : List ℕ
 page_sizes =
     64 ∷ 128 ∷ 256 ∷ 512 ∷ 1024 ∷ 2048 ∷ 4096 ∷ 8192 ∷ 16384 ∷ 32768 ∷ 65536 ∷ []
-
--- whether the numbers keep the limit that an error is named for
-abbrev pub keeps : Sizes → GeometryError → Bool
-keeps s fault.Page = list_any (λ size. size == s.page) page_sizes
-keeps s fault.PebSize = nat_le s.page s.peb_size && nat_le s.peb_size 16777216 && (s.peb_size % s.page == 0)
-keeps s fault.VidOffset = nat_le 64 s.vid_offset && (s.vid_offset % 64 == 0)
-keeps s fault.DataOffset = nat_le (s.vid_offset + 64) s.data_offset && (s.data_offset % s.page == 0)
-keeps s fault.LebTooSmall = nat_le 172 (leb_size s)
-keeps s fault.Pebs = nat_le 2 s.pebs && nat_le s.pebs 1048576
-
--- the limits, in the order in which they are tried
-abbrev pub limits : List GeometryError
-limits =
-    fault.Page ∷ fault.PebSize ∷ fault.VidOffset ∷ fault.DataOffset ∷ fault.LebTooSmall ∷ fault.Pebs ∷ []
-
--- the first limit that the numbers break
-unfoldable pub first_broken : Sizes → Option GeometryError
-first_broken s = find (λ limit. not (keeps s limit)) limits
 
 -- what holds of the numbers of every geometry
 pub record IsGeometry (s : Sizes) : Type 0 where

@@ -1,9 +1,17 @@
--- What the two headers of an eraseblock have in common: 64 bytes, of which the first four are a magic number and the
--- last four the check of those before.
-use Rattle.std.specs.Prelude.{◌≡◌, ◌≢◌, ℕ, ◌==◌, ◌⊎◌, not, if◌then◌else◌, List}
-use Rattle.ubi_media.specs.Fields.{field, IsBlank, is_blank, IsSealed, is_sealed}
+-- What it is that bytes are blank or sealed, and which form a header has.
+use Rattle.std.specs.Prelude.{◌≡◌, ℕ, List, All, take, ◌≢◌, ◌⊎◌}
+use Rattle.ubi_media.specs.Check.{check}
+use Rattle.ubi_media.specs.Fields.{field}
 use Rattle.ubi_media.specs.declared.header.Form.{Form}
 use Rattle.ubi_media.specs.declared.header.Form.TheVariants as form
+
+-- every byte is 0xFF
+abbrev pub IsBlank : List ℕ → Type 0
+IsBlank bytes = All (λ byte. byte ≡ 255) bytes
+
+-- the four bytes at a place are the check of all bytes before them
+abbrev pub IsSealed : ℕ → List ℕ → Type 0
+IsSealed at bytes = field 4 at bytes ≡ check (take at bytes)
 
 -- what bytes are before their rules are looked at: blank or corrupt without the magic, corrupt with a wrong check
 abbrev pub FormIs : ℕ → List ℕ → Form → Type 0
@@ -11,9 +19,3 @@ FormIs magic bytes form.Blank = (field 4 0 bytes ≢ magic) × IsBlank bytes
 FormIs magic bytes form.Corrupt =
     ((field 4 0 bytes ≢ magic) × (IsBlank bytes → ⊥)) ⊎ ((field 4 0 bytes ≡ magic) × (IsSealed 60 bytes → ⊥))
 FormIs magic bytes form.Sealed = (field 4 0 bytes ≡ magic) × IsSealed 60 bytes
-
--- the one form of the bytes
-unfoldable pub form_of : ℕ → List ℕ → Form
-form_of magic bytes =
-    if not (field 4 0 bytes == magic) then (if is_blank bytes then form.Blank else form.Corrupt)
-    else (if is_sealed 60 bytes then form.Sealed else form.Corrupt)

@@ -1,8 +1,11 @@
 pub mod Check
+pub mod Remainder
 pub mod Ec
+pub mod Widths
 pub mod Fields
 pub mod First
 pub mod Geometry
+pub mod Limits
 pub mod Header
 pub mod Name
 pub mod Record

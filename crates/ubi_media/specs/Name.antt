@@ -1,14 +1,11 @@
 -- The name of a volume: 1 to 127 bytes, none of them zero.
-use Rattle.std.specs.Prelude.{◌≡◌, ℕ, ◌-◌, ◌==◌, ◌&&◌, Bool, true, not, nat_le, List, ◌++◌, length, take, replicate}
+use Rattle.std.specs.Prelude.{◌≡◌, ℕ, ◌==◌, ◌&&◌, Bool, true, not, nat_le, List, length, take}
 use Rattle.std.specs.List.{list_any}
+use Rattle.ubi_media.specs.Fields.{padded}
 
 -- whether bytes are a name
 abbrev pub is_name : List ℕ → Bool
 is_name name = nat_le 1 (length name) && nat_le (length name) 127 && not (list_any (λ byte. byte == 0) name)
-
--- a name with zeros behind it, 128 bytes
-abbrev pub padded : List ℕ → List ℕ
-padded name = name ++ replicate (128 - length name) 0
 
 -- the first bytes are a name, and zeros stand behind it
 pub record IsPadded (bytes : List ℕ) (len : ℕ) : Type 0 where

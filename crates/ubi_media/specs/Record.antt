@@ -1,10 +1,10 @@
 -- A record of the volume table: 172 bytes.
-use Rattle.std.specs.Prelude.{◌≡◌, ◌≢◌, ℕ, ◌^◌, ◌<◌, ◌-◌, ◌%◌, ◌==◌, ◌&&◌, ◌||◌, Bool, true, false, not, nat_lt, if◌then◌else◌, ⊤, List, [], ◌∷◌, ◌++◌, Option, None, Some, find, length, position, replicate, slice_index, slice_range, take}
+use Rattle.std.specs.Prelude.{◌≡◌, ◌≢◌, ℕ, ◌-◌, ◌%◌, ◌==◌, ◌&&◌, ◌||◌, Bool, false, not, nat_lt, if◌then◌else◌, List, [], ◌∷◌, ◌++◌, Option, None, Some, find, length, position, replicate, slice_index, slice_range, take}
 use Rattle.std.specs.Option.{option_map_or}
 use Rattle.byteorder.specs.Endian.{big_bytes}
-use Rattle.ubi_media.specs.Fields.{field, sealed, IsSealed, is_sealed, same_bytes}
+use Rattle.ubi_media.specs.Fields.{field, sealed, is_sealed, same_bytes, padded}
 use Rattle.ubi_media.specs.Geometry.{Sizes, leb_size}
-use Rattle.ubi_media.specs.Name.{is_name, padded}
+use Rattle.ubi_media.specs.Header.{IsSealed}
 use Rattle.ubi_media.specs.Vid.{is_negative, kind_number, kind_of}
 use Rattle.ubi_media.specs.declared.record.RecFault.{RecFault}
 use Rattle.ubi_media.specs.declared.record.RecFault.TheVariants as fault
@@ -116,19 +116,6 @@ fields_from s r = record {
 abbrev pub rec_fault : Sizes → VolumeRecord → Option RecFault
 rec_fault s r = first_fault s (fields_from s r)
 
--- the fault is of the reserved eraseblocks or of the alignment
-abbrev pub IsNumberFault : RecFault → Type 0
-IsNumberFault fault.NotEmpty = ⊤
-IsNumberFault fault.Negative = ⊤
-IsNumberFault fault.Alignment = ⊤
-IsNumberFault fault.AlignmentPage = ⊤
-IsNumberFault fault.DataPad = ⊥
-IsNumberFault fault.Kind = ⊥
-IsNumberFault fault.Marker = ⊥
-IsNumberFault fault.NameTooLong = ⊥
-IsNumberFault fault.NameBlank = ⊥
-IsNumberFault fault.NameLength = ⊥
-
 -- the bytes before the check
 abbrev pub rec_front : Sizes → VolumeRecord → List ℕ
 rec_front s r =
@@ -145,9 +132,3 @@ rec_bytes s (Some r) = sealed (rec_front s r)
 abbrev pub slot_reading : Option VolumeRecord → RecRead
 slot_reading None = read.Empty
 slot_reading (Some r) = read.Valid r
-
--- the numbers of a record fit their widths, and its name is one
-pub record RecFits (r : VolumeRecord) : Type 0 where
-  pub reserved : r.reserved < 2 ^ 32
-  pub alignment : r.alignment < 2 ^ 32
-  pub name : is_name r.name ≡ true

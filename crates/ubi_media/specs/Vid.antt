@@ -1,21 +1,21 @@
 -- The volume-identifier header: 64 bytes at the VID offset of an eraseblock.
-use Rattle.std.specs.Prelude.{◌≡◌, ℕ, ◌+◌, ◌^◌, ◌<◌, ◌-◌, ◌/◌, ◌==◌, ◌&&◌, ◌||◌, Bool, false, not, nat_le, nat_lt, if◌then◌else◌, List, [], ◌∷◌, ◌++◌, Option, None, Some, replicate, find, slice_index}
-use Rattle.std.specs.Option.{option_map_or}
+use Rattle.std.specs.Prelude.{◌≡◌, ℕ, ◌+◌, ◌-◌, ◌/◌, ◌==◌, ◌&&◌, ◌||◌, Bool, false, not, nat_le, nat_lt, if◌then◌else◌, List, [], ◌∷◌, ◌++◌, Option, None, Some, replicate, find, slice_index}
 use Rattle.std.specs.List.{list_any}
+use Rattle.std.specs.Option.{option_map_or}
 use Rattle.byteorder.specs.Endian.{big_bytes}
-use Rattle.ubi_media.specs.Fields.{field, sealed}
+use Rattle.ubi_media.specs.Fields.{field, sealed, form_of}
 use Rattle.ubi_media.specs.Geometry.{Sizes, leb_size}
-use Rattle.ubi_media.specs.Header.{FormIs, form_of}
+use Rattle.ubi_media.specs.Header.{FormIs}
 use Rattle.ubi_media.specs.declared.header.Form.{Form}
 use Rattle.ubi_media.specs.declared.header.Form.TheVariants as form
 use Rattle.ubi_media.specs.declared.vid.VidFault.{VidFault}
 use Rattle.ubi_media.specs.declared.vid.VidFault.TheVariants as fault
 use Rattle.ubi_media.specs.declared.vid.VidFields.{VidFields}
 use Rattle.ubi_media.specs.declared.vid.VidHeader.{VidHeader}
-use Rattle.ubi_media.specs.declared.vid.VolKind.{VolKind}
-use Rattle.ubi_media.specs.declared.vid.VolKind.TheVariants as kind
 use Rattle.ubi_media.specs.declared.vid.VidRead.{VidRead}
 use Rattle.ubi_media.specs.declared.vid.VidRead.TheVariants as read
+use Rattle.ubi_media.specs.declared.vid.VolKind.{VolKind}
+use Rattle.ubi_media.specs.declared.vid.VolKind.TheVariants as kind
 
 -- the text UBI!
 abbrev pub vid_magic : ℕ
@@ -150,16 +150,6 @@ vid_front f =
 -- the bytes of a header
 abbrev pub vid_bytes : VidHeader → List ℕ
 vid_bytes h = sealed (vid_front (fields_from h))
-
--- the numbers of a header fit their widths
-pub record VidFits (h : VidHeader) : Type 0 where
-  pub vol_id : h.vol_id < 2 ^ 32
-  pub lnum : h.lnum < 2 ^ 32
-  pub data_size : h.data_size < 2 ^ 32
-  pub used_ebs : h.used_ebs < 2 ^ 32
-  pub data_pad : h.data_pad < 2 ^ 32
-  pub data_crc : h.data_crc < 2 ^ 32
-  pub sqnum : h.sqnum < 2 ^ 64
 
 -- a header of a logical eraseblock whose data have no check, neither copied nor static
 abbrev pub plain : VolKind → ℕ → ℕ → ℕ → ℕ → VidHeader

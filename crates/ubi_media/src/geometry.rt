@@ -1,7 +1,8 @@
 //! The geometry of a device: the sizes by which an image is cut, and the limits that they keep.
 
 ghost use Rattle.std.specs.Prelude.{◌≡◌, Some, None, MatchResult};
-ghost use Rattle.ubi_media.specs.Geometry.{Sizes, IsGeometry, first_broken, leb_size, slots};
+ghost use Rattle.ubi_media.specs.Geometry.{Sizes, IsGeometry, leb_size, slots};
+ghost use Rattle.ubi_media.specs.Limits.{first_broken};
 
 use crate::record;
 use std::marker::Model;
@@ -80,7 +81,7 @@ impl Geometry {
     /// # Errors
     ///
     /// The first limit that the numbers break, in the order of [`GeometryError`].
-    #[tactic(auto, unfolding(crate::specs::Geometry::first_broken))]
+    #[tactic(auto, unfolding(crate::specs::Limits::first_broken))]
     pub fn new(
         peb_size: u32,
         page: u32,

@@ -2,7 +2,7 @@
 //! last four the check of those before.
 
 ghost use Rattle.std.specs.Prelude.{◌≡◌};
-ghost use Rattle.ubi_media.specs.Header.{form_of};
+ghost use Rattle.ubi_media.specs.Fields.{form_of};
 
 use crate::bytes::is_blank;
 use crate::check::is_sealed;
@@ -23,7 +23,7 @@ pub enum Form {
 }
 
 /// The form of the bytes of a header with a magic.
-#[tactic(auto, unfolding(crate::specs::Header::form_of))]
+#[tactic(auto, unfolding(crate::specs::Fields::form_of))]
 pub fn form_of(magic: u32, bytes: &[u8; 64]) -> Form
     ensures { result ≡ form_of magic bytes.now }
 {

@@ -2,15 +2,17 @@
 
 ghost use Rattle.std.specs.Prelude.{◌≡◌, ℕ, ◌+◌, ◌++◌, ◌^◌, ◌<◌, ◌↔◌, List, Option};
 ghost use Rattle.std.specs.Option.{ForSome};
-ghost use Rattle.ubi_media.specs.Check.{IsRemainder, check_from, remainder};
+ghost use Rattle.ubi_media.specs.Check.{check_from, remainder};
 ghost use Rattle.ubi_media.specs.Ec as ec;
-ghost use Rattle.ubi_media.specs.Ec.{EcFits, EcIs, ec_bytes, ec_reading};
+ghost use Rattle.ubi_media.specs.Ec.{EcIs, ec_bytes, ec_reading};
 ghost use Rattle.ubi_media.specs.First.{IsFirst};
 ghost use Rattle.ubi_media.specs.Geometry.{Sizes};
 ghost use Rattle.ubi_media.specs.Record as rec;
-ghost use Rattle.ubi_media.specs.Record.{RecFits, RecIs, rec_bytes, rec_reading};
+ghost use Rattle.ubi_media.specs.Record.{RecIs, rec_bytes, rec_reading};
+ghost use Rattle.ubi_media.specs.Remainder.{IsRemainder};
 ghost use Rattle.ubi_media.specs.Vid as vid;
-ghost use Rattle.ubi_media.specs.Vid.{VidFits, VidIs, vid_bytes, vid_reading};
+ghost use Rattle.ubi_media.specs.Vid.{VidIs, vid_bytes, vid_reading};
+ghost use Rattle.ubi_media.specs.Widths.{EcFits, RecFits, VidFits};
 ghost use Rattle.ubi_media.specs.declared.ec.EcFields.{EcFields};
 ghost use Rattle.ubi_media.specs.declared.ec.EcHeader.{EcHeader};
 ghost use Rattle.ubi_media.specs.declared.ec.EcRead.{EcRead};

@@ -1,7 +1,8 @@
 //! The name of a volume.
 
 ghost use Rattle.std.specs.Prelude.{◌≡◌, ◌≤◌, true, false, length, MatchOption};
-ghost use Rattle.ubi_media.specs.Name.{is_name, padded};
+ghost use Rattle.ubi_media.specs.Fields.{padded};
+ghost use Rattle.ubi_media.specs.Name.{is_name};
 
 use crate::bytes::put;
 use std::marker::Model;
@@ -22,7 +23,8 @@ pub struct VolName {
 
 impl Model for VolName {
     ghost use Rattle.std.specs.Prelude.{List, ℕ, take, length};
-    ghost use Rattle.ubi_media.specs.Name.{padded, IsPadded};
+    ghost use Rattle.ubi_media.specs.Fields.{padded};
+    ghost use Rattle.ubi_media.specs.Name.{IsPadded};
 
     ghost Value = { List ℕ };
 

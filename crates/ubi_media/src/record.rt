@@ -3,7 +3,8 @@
 ghost use Rattle.std.specs.Prelude.{◌≡◌, ◌==◌, ◌≤◌, ◌++◌, Some, None, true, IfSome, option_copied, position, replicate, take};
 ghost use Rattle.std.specs.Option.{ForSome};
 ghost use Rattle.ubi_media.specs.Name.{is_name};
-ghost use Rattle.ubi_media.specs.Record.{IsNumberFault, RecIs, breaks, data_pad, empty_record, ends_at, fields_from, first_fault, judged, rec_bytes, rec_fault, rec_fields, rec_front, rec_reading, record_of, slot_reading, usable};
+ghost use Rattle.ubi_media.specs.Record.{RecIs, breaks, data_pad, empty_record, ends_at, fields_from, first_fault, judged, rec_bytes, rec_fault, rec_fields, rec_front, rec_reading, record_of, slot_reading, usable};
+ghost use Rattle.ubi_media.specs.Widths.{IsNumberFault};
 
 use crate::bytes::{put, put_u16, put_u32};
 use crate::check::{is_sealed, seal};

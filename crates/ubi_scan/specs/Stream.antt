@@ -1,7 +1,9 @@
--- What a call over a source answers.
-use Rattle.std.specs.Prelude.{◌≡◌, ℕ, ◌<◌, ◌⊎◌, length, Result, Ok, Err, IfSome}
+-- What a call answers that scans, over bytes or over a source.
+use Rattle.std.specs.Prelude.{ℕ, List, ◌≡◌, ◌<◌, ◌⊎◌, length, Result, Ok, Err, IfSome}
 use Rattle.std.specs.FinMap.{get}
 use Rattle.ubi_media.specs.Geometry.{Sizes}
+use Rattle.ubi_media.specs.declared.refusal.AttachError.{AttachError}
+use Rattle.ubi_media.specs.declared.refusal.AttachError.TheVariants as attach
 use Rattle.ubi_scan.specs.Faults.{IsScanFault}
 use Rattle.ubi_scan.specs.Image.{IsLengthFault, IsWholeSize}
 use Rattle.ubi_scan.specs.Members.{Leb}
@@ -9,6 +11,11 @@ use Rattle.ubi_scan.specs.Scan.{Found, IsScan}
 use Rattle.ubi_scan.specs.Source.{Source, WhereHeld, blocks_in, blocks_of, failed}
 use Rattle.ubi_scan.specs.declared.errors.StreamError.{StreamError}
 use Rattle.ubi_scan.specs.declared.errors.StreamError.TheVariants as stream
+
+-- an error: memory ran out, or that the eraseblocks are refused for their cause
+abbrev pub IsScanError : Sizes → List (List ℕ) → AttachError → Type 0
+IsScanError s bs attach.Memory = Unit {0}
+IsScanError s bs (attach.Refused c) = IsScanFault s bs c
 
 -- what is known of a source after a call that failed: one read failed where the answer is Read, none where it isn't
 abbrev pub after_error : Source → StreamError → Source

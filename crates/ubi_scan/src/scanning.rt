@@ -2,14 +2,13 @@
 
 ghost use Rattle.std.specs.Prelude.{◌≡◌, ◌<◌, ◌/◌, length, IfErr, IfOk, IfSome, MatchResult, false, unwrap_or};
 ghost use Rattle.std.specs.Option.{option_map_or};
-ghost use Rattle.ubi_scan.specs.Choice.{held_of};
-ghost use Rattle.ubi_scan.specs.Faults.{IsScanError};
 ghost use Rattle.ubi_scan.specs.Image.{IsLengthFault, IsWholeSize, block, eraseblocks};
+ghost use Rattle.ubi_scan.specs.inner.Choice.{held_of};
+ghost use Rattle.ubi_scan.specs.inner.Pass.{IsMeeting};
 ghost use Rattle.ubi_scan.specs.Members.{good_at, is_good, is_right, member_if};
-ghost use Rattle.ubi_scan.specs.Pass.{IsMeeting};
 ghost use Rattle.ubi_scan.specs.Scan.{IsScan};
 ghost use Rattle.ubi_scan.specs.Source.{WhereHeld, blocks_in, blocks_of};
-ghost use Rattle.ubi_scan.specs.Stream.{IsReadFault, IsScanOf, IsScanOfError, after};
+ghost use Rattle.ubi_scan.specs.Stream.{IsScanError, IsReadFault, IsScanOf, IsScanOfError, after};
 
 use crate::blocks::Blocks;
 use crate::candidate::{Candidate, Meeting};

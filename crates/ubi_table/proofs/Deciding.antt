@@ -8,9 +8,9 @@ use Rattle.ubi_media.specs.declared.refusal.Refusal.TheVariants as refusal
 use Rattle.ubi_scan.specs.Members.{NoMember, Wins, layout}
 use Rattle.ubi_scan.specs.Scan.{Found, IsScan}
 use Rattle.ubi_scan.proofs.Decided.{below_or_above}
-use Rattle.ubi_table.specs.Copies.{CopyIs}
+use Rattle.ubi_table.specs.inner.OneCopy.{IsCopyFault, IsCopyTable}
 use Rattle.ubi_table.specs.Records.{Records}
-use Rattle.ubi_table.specs.Table.{Decides, IsCopyFault, IsCopyTable, IsTable, IsTableFault, can_decide}
+use Rattle.ubi_table.specs.Table.{CopyIs, Decides, IsTable, IsTableFault, can_decide}
 use Rattle.ubi_table.specs.declared.copy.CopyRead.{CopyRead}
 use Rattle.ubi_table.specs.declared.copy.CopyRead.TheVariants as copy
 use Rattle.ubi_table.proofs.One.{copy_unique}

@@ -7,10 +7,11 @@ use Rattle.ubi_media.specs.declared.record.RecRead.TheVariants as read
 use Rattle.ubi_scan.specs.Source.{Source, WhereHeld, blocks_of}
 use Rattle.ubi_scan.specs.declared.errors.StreamError.{StreamError}
 use Rattle.ubi_scan.specs.declared.errors.StreamError.TheVariants as stream
-use Rattle.ubi_table.specs.Copies.{copy_by, copy_of, named_copy}
-use Rattle.ubi_table.specs.Slots.{is_faulty, readings, records_in, twice}
-use Rattle.ubi_table.specs.Stream.{HasSizes, IsCopyOfError, IsTableOfError}
+use Rattle.ubi_table.specs.inner.OneCopy.{HasSizes, IsCopyOfError}
 use Rattle.ubi_table.proofs.Deciding.{NoneDecides, fault_chosen}
+use Rattle.ubi_table.specs.Records.{is_faulty, readings, records_in, twice}
+use Rattle.ubi_table.specs.Stream.{IsTableOfError}
+use Rattle.ubi_table.specs.Table.{copy_by, copy_of, named_copy}
 
 -- the table of a copy has the sizes by which it was read
 module _ (s : Sizes) (bytes : List ℕ) where

@@ -8,9 +8,10 @@ ghost use Rattle.ubi_scan.specs.Members.{layout};
 ghost use Rattle.ubi_scan.specs.Scan.{IsScan};
 ghost use Rattle.ubi_scan.specs.Source.{WhereHeld, blocks_of};
 ghost use Rattle.ubi_scan.specs.Stream.{IsScanOf, after};
+ghost use Rattle.ubi_table.specs.inner.OneCopy.{IsCopyOfError, IsCopyTableOf};
 ghost use Rattle.ubi_table.specs.Records.{HasSpace};
-ghost use Rattle.ubi_table.specs.Stream.{IsCopyOfError, IsCopyTableOf, IsTableOf, IsTableOfError};
-ghost use Rattle.ubi_table.specs.Table.{AllBlank, IsTable, IsTableError};
+ghost use Rattle.ubi_table.specs.Stream.{IsTableOf, IsTableOfError, IsTableError};
+ghost use Rattle.ubi_table.specs.Table.{AllBlank, IsTable};
 
 use crate::copy::{CopyRead, read_copy_from};
 use crate::table::{COPIES, Table};

@@ -4,9 +4,9 @@ ghost use Rattle.std.specs.Prelude.{◌≡◌, IfErr, IfOk, length, option_copie
 ghost use Rattle.ubi_media.specs.Geometry.{leb_size};
 ghost use Rattle.ubi_scan.specs.Source.{WhereHeld, blocks_in, blocks_of};
 ghost use Rattle.ubi_scan.specs.Stream.{IsScanOf, after};
-ghost use Rattle.ubi_table.specs.Copies.{CopyIs, copy_of};
-ghost use Rattle.ubi_table.specs.Slots.{first_named, twice};
-ghost use Rattle.ubi_table.specs.Stream.{HasSizes, IsCopyReadError};
+ghost use Rattle.ubi_table.specs.inner.OneCopy.{HasSizes, IsCopyReadError};
+ghost use Rattle.ubi_table.specs.Records.{first_named, twice};
+ghost use Rattle.ubi_table.specs.Table.{CopyIs, copy_of};
 
 use crate::table::Table;
 use std::alloc::{AllocError, Global};

@@ -9,8 +9,8 @@ use Rattle.ubi_volume.specs.declared.errors.MeaningCause.{MeaningCause}
 use Rattle.ubi_volume.proofs.FirstCause.{one_first}
 use Rattle.ubi_volume.proofs.One.{Accepts-unique, never_accepted_and_refused}
 use Rattle.ubi_compose.specs.Composed.{image_of}
-use Rattle.ubi_compose.specs.Laws.{ComesTo}
 use Rattle.ubi_compose.specs.Spec.{volumes_of}
+use Rattle.ubi_compose.specs.TextLaws.{ComesTo}
 use Rattle.ubi_compose.specs.declared.errors.SpecCause.{SpecCause}
 use Rattle.ubi_tool.specs.Answer.{Answer, Gives, says}
 use Rattle.ubi_tool.specs.Compose.{Composes, ComposesOf, crowded, described, fits, meaning_line, spec_line, unmade, unread}

@@ -4,8 +4,7 @@ use Rattle.std.specs.Prelude.{Option, Some, None, if◌then◌else◌, nat_lt}
 use Rattle.std.proofs.Math.Nat as nat
 use Rattle.std.proofs.lemmas.List.{take_all}
 use Rattle.std.specs.List.{concat}
-use Rattle.ubi_change.specs.Changed.{changed}
-use Rattle.ubi_change.specs.Cuts.{turn}
+use Rattle.ubi_change.specs.Cuts.{changed, turn}
 use Rattle.ubi_change.specs.Planned.{SurvivesCutsOf}
 use Rattle.ubi_change.specs.Steps.{after}
 use Rattle.ubi_change.specs.declared.step.Step.{Step}

@@ -2,7 +2,8 @@
 use Rattle.std.proofs.Common.{◌≡◌, ℕ, ◌<◌, ◌==◌, Some, false, refl, arith}
 use Rattle.std.specs.List.{list_any}
 use Rattle.std.proofs.lemmas.Bool.Decides.{nat_tests}
-use Rattle.ubi_media.specs.Geometry.{Sizes, page_sizes, first_broken}
+use Rattle.ubi_media.specs.Geometry.{Sizes, page_sizes}
+use Rattle.ubi_media.specs.Limits.{first_broken}
 use Rattle.ubi_media.specs.declared.geometry.GeometryError.TheVariants as fault
 
 no_page_size : (page : ℕ) → 65536 < page → list_any (λ size. size == page) page_sizes ≡ false

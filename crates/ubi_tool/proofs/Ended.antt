@@ -5,8 +5,9 @@ use Rattle.std.specs.declared.alloc.AllocError.{AllocError}
 use Rattle.ubi_scan.specs.Source.{Source, memory, unheld}
 use Rattle.ubi_tool.specs.AfterRun.{after_run}
 use Rattle.ubi_tool.specs.Answer.{Gives, says}
+use Rattle.ubi_tool.specs.inner.Ended.{IsEnded, Streams, answered, done, no_output, no_read, no_source, no_write, unopened}
 use Rattle.ubi_tool.specs.Lines.{file_line}
-use Rattle.ubi_tool.specs.Streams.{IsEnded, OfPlaces, Streams, answered, cannot_read, cannot_write, done, no_output, no_read, no_source, no_write, told, unopened}
+use Rattle.ubi_tool.specs.Streams.{OfPlaces, cannot_read, cannot_write, told}
 use Rattle.ubi_tool.specs.declared.outcome.Outcome.{Outcome}
 use Rattle.ubi_tool.specs.declared.outcome.ToolError.{ToolError}
 use Rattle.ubi_tool.specs.declared.outcome.ToolError.TheVariants as tool

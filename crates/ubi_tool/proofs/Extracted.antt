@@ -15,7 +15,6 @@ use Rattle.ubi_volume.specs.declared.content.Content.TheVariants as content
 use Rattle.ubi_volume.specs.declared.content.Volume.{Volume}
 use Rattle.ubi_volume.specs.declared.errors.ReadError.{ReadError}
 use Rattle.ubi_volume.specs.declared.errors.ReadError.TheVariants as error
-use Rattle.ubi_tool.specs.Extract.{Extracts, ExtractsFrom, ExtractsSource, HasFirst, HasText, IsExtractError, IsExtractFault, IsUntold, IsVolumeError, ReadsVolume, accepted, read, read_refusal, refused, refused_from, unread, unread_from, wrote}
 use Rattle.std.proofs.lemmas.List.{take_all}
 use Rattle.std.specs.Io.KnownBytes.{Appends, Keeps}
 use Rattle.ubi_scan.specs.Source.{Source, WhereHeld}
@@ -24,9 +23,10 @@ use Rattle.ubi_volume.specs.Places.{ArePlaces, Placed}
 use Rattle.ubi_volume.specs.Wrote.{All, First, NotAll, Wanted, Wrote}
 use Rattle.ubi_compose.specs.Streamed.{HasGot}
 use Rattle.ubi_tool.specs.Answer.{Gives, says}
+use Rattle.ubi_tool.specs.Extract.{Extracts, ExtractsFrom, HasFirst, HasText, IsExtractError, IsExtractFault, IsVolumeError, ReadsVolume, accepted, read, read_refusal, refused, refused_from, unread, unread_from, wrote}
+use Rattle.ubi_tool.specs.inner.Ended.{ExtractsSource, IsUntold, IsEnded}
 use Rattle.ubi_tool.specs.Lines.{bytes_line, file_line}
 use Rattle.ubi_tool.specs.AfterRun.{after_run}
-use Rattle.ubi_tool.specs.Streams.{IsEnded}
 use Rattle.ubi_tool.proofs.Ended.{ends}
 use Rattle.ubi_tool.specs.declared.outcome.Outcome.{Outcome}
 use Rattle.ubi_tool.specs.declared.outcome.ToolError.{ToolError}

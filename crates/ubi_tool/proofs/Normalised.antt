@@ -13,9 +13,9 @@ use Rattle.ubi_compose.specs.Streamed.{IsStreamed}
 use Rattle.ubi_compose.proofs.Form.{count-normal_bytes}
 use Rattle.ubi_tool.specs.AfterRun.{after_run}
 use Rattle.ubi_tool.specs.Answer.{Gives, says}
+use Rattle.ubi_tool.specs.inner.Ended.{NormalisesSource, IsEnded}
 use Rattle.ubi_tool.specs.Lines.{blocks_line, file_line}
-use Rattle.ubi_tool.specs.Normalise.{IsNormaliseError, Normalises, NormalisesSource, NormalisesTo, accepted, refused, wrote, wrote_nothing}
-use Rattle.ubi_tool.specs.Streams.{IsEnded}
+use Rattle.ubi_tool.specs.Normalise.{IsNormaliseError, Normalises, NormalisesTo, accepted, refused, wrote, wrote_nothing}
 use Rattle.ubi_tool.specs.declared.outcome.Outcome.{Outcome}
 use Rattle.ubi_tool.specs.declared.outcome.ToolError.{ToolError}
 use Rattle.ubi_tool.specs.declared.outcome.ToolError.TheVariants as tool

@@ -4,12 +4,13 @@ use Rattle.std.specs.Prelude.{IsSome, MatchResult, Ok, Err, Option, Result, IfOk
 use Rattle.std.specs.declared.alloc.AllocError.{AllocError}
 use Rattle.std.specs.declared.alloc.Global.{Global}
 use Rattle.std.specs.declared.vec.Vec.{Vec}
-use Rattle.ubi_media.specs.Geometry.{Sizes, first_broken}
+use Rattle.ubi_media.specs.Geometry.{Sizes}
+use Rattle.ubi_media.specs.Limits.{first_broken}
 use Rattle.ubi_scan.specs.Image.{Image}
 use Rattle.ubi_volume.specs.Meant.{Meant}
 use Rattle.ubi_change.specs.declared.step.Step.{Step}
 use Rattle.ubi_compose.specs.Composed.{HasRoom}
-use Rattle.ubi_compose.specs.Laws.{ComesTo}
+use Rattle.ubi_compose.specs.TextLaws.{ComesTo}
 use Rattle.ubi_tool.specs.Compose.{Composes, ComposesInto, ComposesOf, crowded, described, fits, unmade, unread}
 use Rattle.ubi_tool.specs.Compose as compose
 use Rattle.ubi_tool.specs.Change.{Changes, ChangesInto, IsPlanned, planned, unplanned}

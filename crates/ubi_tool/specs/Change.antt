@@ -1,10 +1,8 @@
 -- What changing a logical eraseblock of an image answers.
 use Rattle.std.specs.Prelude.{◌≡◌, ℕ, List, [], ◌∷◌, ◌++◌, Option, Some, None, codes, decimal, if◌then◌else◌, length, min, nat_lt}
 use Rattle.std.specs.List.{concat, flat_map}
-use Rattle.ubi_change.specs.Changed.{changed}
-use Rattle.ubi_change.specs.Cuts.{turn}
-use Rattle.ubi_change.specs.Planned.{AllFitOf, IsFrugalOf, IsPlan, RisesOf, SurvivesCutsOf}
-use Rattle.ubi_change.specs.Refused.{IsChangeRefusal}
+use Rattle.ubi_change.specs.Cuts.{changed, turn}
+use Rattle.ubi_change.specs.Planned.{AllFitOf, IsFrugalOf, IsPlan, RisesOf, SurvivesCutsOf, IsChangeRefusal}
 use Rattle.ubi_change.specs.Steps.{after}
 use Rattle.ubi_change.specs.declared.refusal.ChangeRefusal.{ChangeRefusal}
 use Rattle.ubi_change.specs.declared.refusal.ChangeRefusal.TheVariants as refusal

@@ -7,7 +7,7 @@ use Rattle.ubi_volume.specs.declared.errors.MeaningCause.{MeaningCause}
 use Rattle.ubi_volume.specs.declared.errors.MeaningCause.TheVariants as meaning
 use Rattle.ubi_compose.specs.Composed.{HasRoom, composed, image_of}
 use Rattle.ubi_compose.specs.Normal.{normal_blocks}
-use Rattle.ubi_compose.specs.Laws.{ComesTo}
+use Rattle.ubi_compose.specs.TextLaws.{ComesTo}
 use Rattle.ubi_compose.specs.Spec.{first_cause}
 use Rattle.ubi_compose.specs.declared.errors.SpecCause.{SpecCause}
 use Rattle.ubi_compose.specs.declared.errors.SpecCause.TheVariants as spec

@@ -1,8 +1,8 @@
 -- What is extracted of an image: what one of its volumes reads.
 use Rattle.std.specs.Prelude.{◌≡◌, ℕ, ◌<◌, ◌≤◌, ◌⊎◌, List, Option, None, Result, Ok, Err, codes, length, take}
 use Rattle.std.specs.Io.KnownBytes.{Appends, Keeps}
-use Rattle.ubi_media.specs.declared.refusal.Refusal.{Refusal}
 use Rattle.ubi_media.specs.Geometry.{Sizes}
+use Rattle.ubi_media.specs.declared.refusal.Refusal.{Refusal}
 use Rattle.ubi_scan.specs.Image.{Image, IsWholeSize}
 use Rattle.ubi_scan.specs.Source.{Source, WhereHeld}
 use Rattle.ubi_scan.specs.declared.errors.StreamError.TheVariants as stream
@@ -15,7 +15,6 @@ use Rattle.ubi_volume.specs.declared.errors.ReadError.TheVariants as error
 use Rattle.ubi_compose.specs.Streamed.{HasGot}
 use Rattle.ubi_tool.specs.Answer.{Gives, says}
 use Rattle.ubi_tool.specs.Lines.{bytes_line, file_line, read_line, refusal_line}
-use Rattle.ubi_tool.specs.Streams.{Streams}
 use Rattle.ubi_tool.specs.declared.outcome.Outcome.{Outcome}
 use Rattle.ubi_tool.specs.declared.outcome.ToolError.{ToolError}
 use Rattle.ubi_tool.specs.declared.outcome.ToolError.TheVariants as tool
@@ -32,11 +31,6 @@ read_refusal error.Memory = Err tool.Memory
 -- the line of a refusal to read
 abbrev pub IsUnread : ReadError → Outcome → Type 0
 IsUnread e o = (name : List ℕ) × (read_refusal e ≡ Ok name) × Gives o (says (read_line name) 1)
-
--- why it isn't told: memory ran out, or it is none
-abbrev pub IsUntold : ReadError → ToolError → Type 0
-IsUntold e tool.Memory = Unit {0}
-IsUntold e fault = read_refusal e ≡ Err fault
 
 -- what is answered of a volume of a meaning: the line of the refusal to read it, and the writer received nothing; or how
 -- many bytes it reads, and the writer received them
@@ -96,10 +90,3 @@ HasText image id = (m : Meant) × (text : List ℕ) × Accepts image m × (read_
 pub data ExtractsInto (id : ℕ) (out : List ℕ) (image : Image) : Outcome → Type 0 where
   written : {o : Outcome} → Extracts image id None None o → ExtractsInto id out image o
   unwritten : {o : Outcome} → HasText image id → Gives o (says (file_line (codes "cannot write ") out) 1) → ExtractsInto id out image o
-
--- what it answers of a source into such a file
-abbrev pub ExtractsSource : Sizes → Source → Source → ℕ → List ℕ → List ℕ → Outcome → Type 0
-ExtractsSource s k after id path out =
-    Streams k after path out
-    (λ o. ExtractsFrom s k None None o × WhereHeld k (λ bytes. Extracts (record { sizes = s; bytes = bytes }) id None None o))
-    (WhereHeld k (λ bytes. HasText (record { sizes = s; bytes = bytes }) id))

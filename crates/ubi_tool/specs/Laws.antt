@@ -2,7 +2,7 @@
 use Rattle.std.specs.Prelude.{◌≡◌, ℕ, List, Some, Ok, option_map}
 use Rattle.ubi_media.specs.Geometry.{Sizes}
 use Rattle.ubi_volume.specs.Meant.{Meant}
-use Rattle.ubi_compose.specs.Laws.{ComesTo}
+use Rattle.ubi_compose.specs.TextLaws.{ComesTo}
 use Rattle.ubi_tool.specs.Answer.{Answer, Gives, says}
 use Rattle.ubi_tool.specs.Compose.{Composes}
 use Rattle.ubi_tool.specs.List.{Lists, list_lines}

@@ -17,3 +17,4 @@ pub mod Read
 pub mod Same
 pub mod Show
 pub mod Streams
+pub mod inner

@@ -19,8 +19,6 @@ use Rattle.ubi_volume.specs.declared.content.Volume.{Volume}
 use Rattle.ubi_tool.specs.Answer.{Gives, says}
 use Rattle.ubi_tool.specs.Lines.{refusal_line}
 use Rattle.ubi_tool.specs.declared.outcome.Outcome.{Outcome}
-use Rattle.ubi_tool.specs.declared.outcome.ToolError.{ToolError}
-use Rattle.ubi_tool.specs.declared.outcome.ToolError.TheVariants as tool
 
 -- a name as it is shown: the printable bytes but the backslash as they are, and any other by its two digits
 abbrev pub shown_byte : ℕ → List ℕ
@@ -80,8 +78,3 @@ list_lines m =
 pub data Lists (image : Image) : Outcome → Type 0 where
   accepted : {o : Outcome} (m : Meant) → Accepts image m → Gives o (says (list_lines m) 0) → Lists image o
   refused : {o : Outcome} (c : Refusal) → Refuses image c → Gives o (says (refusal_line c) 1) → Lists image o
-
--- why it answers nothing: a read failed, or memory ran out
-abbrev pub IsListFault : ToolError → Type 0
-IsListFault tool.Write = ⊥
-IsListFault _ = Unit {0}

@@ -4,7 +4,7 @@ use Rattle.std.specs.Io.KnownBytes.{Appends, Keeps}
 use Rattle.ubi_media.specs.Geometry.{Sizes}
 use Rattle.ubi_media.specs.declared.refusal.Refusal.{Refusal}
 use Rattle.ubi_scan.specs.Image.{Image}
-use Rattle.ubi_scan.specs.Source.{Source, WhereHeld}
+use Rattle.ubi_scan.specs.Source.{Source}
 use Rattle.ubi_scan.specs.declared.errors.StreamError.TheVariants as stream
 use Rattle.ubi_volume.specs.Accepts.{Accepts, Refuses}
 use Rattle.ubi_volume.specs.Meant.{Meant}
@@ -13,7 +13,6 @@ use Rattle.ubi_compose.specs.Normal.{normal_blocks, normal_bytes}
 use Rattle.ubi_compose.specs.Streamed.{IsNormaliseToError, IsNormalisedTo}
 use Rattle.ubi_tool.specs.Answer.{Gives, says}
 use Rattle.ubi_tool.specs.Lines.{blocks_line, file_line, refusal_line}
-use Rattle.ubi_tool.specs.Streams.{Streams}
 use Rattle.ubi_tool.specs.declared.outcome.Outcome.{Outcome}
 use Rattle.ubi_tool.specs.declared.outcome.ToolError.{ToolError}
 use Rattle.ubi_tool.specs.declared.outcome.ToolError.TheVariants as tool
@@ -47,10 +46,3 @@ pub data NormalisesInto (out : List ℕ) (image : Image) : Outcome → Type 0 wh
   written : {o : Outcome} → Normalises image None None o → NormalisesInto out image o
   unwritten : {o : Outcome} (m : Meant) → Accepts image m → Gives o (says (file_line (codes "cannot write ") out) 1)
       → NormalisesInto out image o
-
--- what it answers of a source into such a file
-abbrev pub NormalisesSource : Sizes → Source → Source → List ℕ → List ℕ → Outcome → Type 0
-NormalisesSource s k after path out =
-    Streams k after path out
-    (λ o. NormalisesTo s k None None o × WhereHeld k (λ bytes. Normalises (record { sizes = s; bytes = bytes }) None None o))
-    (WhereHeld k (λ bytes. (m : Meant) × Accepts (record { sizes = s; bytes = bytes }) m))

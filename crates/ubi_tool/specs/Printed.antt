@@ -1,12 +1,7 @@
--- What is printed of an answer, and the status that the program ends with.
-use Rattle.std.specs.Prelude.{ℕ, List, Result, Ok, Err, codes}
+-- The status that the program ends with.
+use Rattle.std.specs.Prelude.{ℕ, Result, Ok, Err}
 use Rattle.std.specs.declared.alloc.AllocError.{AllocError}
 use Rattle.ubi_tool.specs.declared.outcome.Outcome.{Outcome}
-
--- the text of the outcome, or one line where memory ran out
-abbrev pub printed_text : Result Outcome AllocError → List ℕ
-printed_text (Ok outcome) = outcome.text.items
-printed_text (Err _) = codes "out of memory\n"
 
 -- the status of the outcome, or that of a failure
 abbrev pub status_of : Result Outcome AllocError → ℕ

@@ -1,6 +1,7 @@
 -- What the program answers over files.
 use Rattle.std.specs.Prelude.{◌≡◌, ℕ, ◌*◌, ◌+◌, ◌≤◌, List, [], length, Option, Some, None, IsSome, codes}
-use Rattle.ubi_media.specs.Geometry.{Sizes, first_broken}
+use Rattle.ubi_media.specs.Geometry.{Sizes}
+use Rattle.ubi_media.specs.Limits.{first_broken}
 use Rattle.ubi_media.specs.declared.geometry.GeometryError.{GeometryError}
 use Rattle.ubi_scan.specs.Image.{Image}
 use Rattle.ubi_scan.specs.Source.{Source}

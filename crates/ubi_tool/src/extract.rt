@@ -4,7 +4,8 @@ ghost use Rattle.std.specs.Prelude.{◌≡◌, IfErr, IfOk};
 ghost use Rattle.std.specs.Result.{result_map_both};
 ghost use Rattle.ubi_scan.specs.Source.{WhereHeld};
 ghost use Rattle.ubi_tool.specs.AfterRun.{after_run};
-ghost use Rattle.ubi_tool.specs.Extract.{Extracts, ExtractsFrom, IsExtractError, IsExtractFault, IsUnread, IsUntold, read_refusal};
+ghost use Rattle.ubi_tool.specs.Extract.{Extracts, ExtractsFrom, IsExtractError, IsExtractFault, IsUnread, read_refusal};
+ghost use Rattle.ubi_tool.specs.inner.Ended.{IsUntold};
 
 use crate::lines::{LONGEST_COUNT_LINE, put_bytes_line, read_line, refusal_line};
 use crate::outcome::{DONE, FAILED, Outcome, ToolError};

@@ -1,7 +1,7 @@
 //! The numbers of a geometry, as the words of a command give them.
 
 ghost use Rattle.std.specs.Prelude.{◌≡◌, Some, None, MatchResult};
-ghost use Rattle.ubi_media.specs.Geometry.{first_broken};
+ghost use Rattle.ubi_media.specs.Limits.{first_broken};
 ghost use Rattle.ubi_tool.specs.Numbers.{sizes_of};
 
 use ubi_media::{Geometry, GeometryError, MOST_PEBS};

@@ -3,7 +3,8 @@
 ghost use Rattle.std.specs.Io.KnownBytes.{Appends};
 ghost use Rattle.std.specs.Prelude.{◌≡◌, ℕ, ◌<◌, ◌⊎◌, IfOk, OnErr, OnOk, length, take};
 ghost use Rattle.std.specs.Result.{result_unwrap_or};
-ghost use Rattle.ubi_tool.specs.Printed.{printed_text, status_of};
+ghost use Rattle.ubi_tool.specs.inner.Printed.{printed_text};
+ghost use Rattle.ubi_tool.specs.Printed.{status_of};
 
 use crate::outcome::{FAILED, Outcome};
 use std::alloc::AllocError;

@@ -1,7 +1,7 @@
 //! The file of the text that the words of `compose` name.
 
 ghost use Rattle.std.specs.Prelude.{◌≡◌, ◌≢◌, ◌≤◌, IfErr, IfOk, IfSome, None, length, vec_len};
-ghost use Rattle.ubi_media.specs.Geometry.{first_broken};
+ghost use Rattle.ubi_media.specs.Limits.{first_broken};
 ghost use Rattle.ubi_tool.specs.Numbers.{sizes_of};
 ghost use Rattle.ubi_tool.specs.Program.{IsUnread, Tells, text_limit};
 

@@ -4,10 +4,10 @@
 
 ghost use Rattle.std.specs.Prelude.{◌≡◌, Bool, Err, IfOk, MatchResult, Ok, is_some};
 ghost use Rattle.ubi_scan.specs.Source.{WhereHeld};
-ghost use Rattle.ubi_tool.specs.Extract.{ExtractsFrom, ExtractsInto, ExtractsSource, HasText};
-ghost use Rattle.ubi_tool.specs.Normalise.{NormalisesInto, NormalisesSource, NormalisesTo};
+ghost use Rattle.ubi_tool.specs.Extract.{ExtractsFrom, ExtractsInto, HasText};
+ghost use Rattle.ubi_tool.specs.inner.Ended.{ExtractsSource, NormalisesSource, IsEnded, Streams};
+ghost use Rattle.ubi_tool.specs.Normalise.{NormalisesInto, NormalisesTo};
 ghost use Rattle.ubi_tool.specs.Program.{OfFile};
-ghost use Rattle.ubi_tool.specs.Streams.{IsEnded, Streams};
 
 use crate::extract::run_extract_from;
 use crate::image_file::{limit_line, load, unread_line};

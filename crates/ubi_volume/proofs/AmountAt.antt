@@ -13,11 +13,11 @@ use Rattle.ubi_scan.specs.Image.{block, leb}
 use Rattle.ubi_scan.specs.Members.{NoMember, Wins}
 use Rattle.ubi_scan.specs.Source.{blocks_of}
 use Rattle.ubi_scan.proofs.Entries.{sorted_entries}
-use Rattle.ubi_volume.specs.Amounts.{AmountIs, AreKept, IsKept, amount_of}
-use Rattle.ubi_volume.specs.Gathered.{ContentIs}
+use Rattle.ubi_volume.specs.Amounts.{AmountIs, amount_of}
+use Rattle.ubi_volume.specs.inner.Gathered.{AreKept, IsKept, ContentIs}
+use Rattle.ubi_volume.specs.Means.{VolumeReads}
 use Rattle.ubi_volume.specs.Meant.{Fits, IsVolume, KeepsNoBlank}
 use Rattle.ubi_volume.specs.Places.{ArePlaces, Placed, case_of}
-use Rattle.ubi_volume.specs.Reads.{VolumeReads}
 use Rattle.ubi_volume.specs.declared.amounts.Amount.TheVariants as amount
 use Rattle.ubi_volume.specs.declared.content.Content.{Content}
 use Rattle.ubi_volume.specs.declared.content.Content.TheVariants as content

@@ -27,8 +27,10 @@ use Rattle.ubi_scan.proofs.Entries.{sorted_entries}
 use Rattle.ubi_scan.proofs.Finite.{place_of}
 use Rattle.ubi_scan.proofs.Keys.{told}
 use Rattle.ubi_scan.proofs.Truths.{both_are, true_is}
-use Rattle.ubi_volume.specs.Made.{IsItem, Items, NoCause, is_within, item_without_blank, without_blank}
-use Rattle.ubi_volume.specs.Meant.{AreVolumes, Fits, HasDistinctNames, IsVolume, KeepsNoBlank}
+use Rattle.ubi_volume.specs.inner.Making.{is_within}
+use Rattle.ubi_volume.specs.Made.{IsItem, Items, NoCause, item_without_blank, without_blank}
+use Rattle.ubi_volume.specs.Meant.{Fits, HasDistinctNames, IsVolume, KeepsNoBlank}
+use Rattle.ubi_volume.specs.MeantCoded.{AreVolumes}
 use Rattle.ubi_volume.specs.declared.content.Content.{Content}
 use Rattle.ubi_volume.specs.declared.content.Content.TheVariants as content
 use Rattle.ubi_volume.specs.declared.content.Volume.{Volume}

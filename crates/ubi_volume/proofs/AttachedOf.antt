@@ -5,11 +5,10 @@ use Rattle.ubi_scan.specs.Image.{Image, IsWhole, eraseblocks}
 use Rattle.ubi_scan.specs.Scan.{Found, IsScan}
 use Rattle.ubi_table.specs.Records.{Records}
 use Rattle.ubi_table.specs.Table.{IsTable}
-use Rattle.ubi_volume.specs.Attached.{IsAttached}
-use Rattle.ubi_volume.specs.Counted.{NoMismatch}
+use Rattle.ubi_volume.specs.Accepts.{NoMismatch}
+use Rattle.ubi_volume.specs.Attached.{IsAttached, AreStates}
 use Rattle.ubi_volume.specs.Means.{Means}
 use Rattle.ubi_volume.specs.Meant.{Meant}
-use Rattle.ubi_volume.specs.States.{AreStates}
 use Rattle.ubi_volume.specs.declared.attached.BlockState.{BlockState}
 use Rattle.ubi_volume.proofs.Recorded.{records_meant}
 

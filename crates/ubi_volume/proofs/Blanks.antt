@@ -2,7 +2,8 @@
 use Rattle.std.proofs.Common.{◌≡◌, ◌≢◌, ℕ, true, false, List, length, sym, ◌∙◌, subst, arith, refl}
 use Rattle.std.proofs.lemmas.List.{same_lists, length-replicate, get_or-replicate}
 use Rattle.std.proofs.lemmas.List.Elements.{All-replicate}
-use Rattle.ubi_media.specs.Fields.{IsBlank, blank, is_blank}
+use Rattle.ubi_media.specs.Fields.{blank, is_blank}
+use Rattle.ubi_media.specs.Header.{IsBlank}
 use Rattle.ubi_media.proofs.Readings.{blank_of, not_blank_of}
 
 pub blank_text : (text : List ℕ) (n : ℕ) → is_blank text ≡ true → length text ≡ n → text ≡ blank n

@@ -19,12 +19,12 @@ use Rattle.ubi_scan.specs.Source.{blocks_of}
 use Rattle.ubi_scan.proofs.Chunks.{length-first_chunks}
 use Rattle.ubi_scan.proofs.ReadParts.{data_of_read}
 use Rattle.ubi_table.specs.Records.{Records}
-use Rattle.ubi_volume.specs.Cases.{CaseIs, PieceSizeIs, SizeIsRead}
-use Rattle.ubi_volume.specs.Counted.{NoMismatch}
-use Rattle.ubi_volume.specs.Gathered.{ContentIs, PieceIs, UsedIs}
+use Rattle.ubi_volume.specs.Accepts.{NoMismatch}
+use Rattle.ubi_volume.specs.inner.Cases.{CaseIs, PieceSizeIs, SizeIsRead}
+use Rattle.ubi_volume.specs.inner.Gathered.{ContentIs, PieceIs, UsedIs}
+use Rattle.ubi_volume.specs.Means.{StaticReads, piece}
+use Rattle.ubi_volume.specs.Meant.{pieces}
 use Rattle.ubi_volume.specs.Places.{case_of}
-use Rattle.ubi_volume.specs.Reading.{pieces}
-use Rattle.ubi_volume.specs.Reads.{StaticReads, piece}
 use Rattle.ubi_volume.specs.declared.content.Content.{Content}
 use Rattle.ubi_volume.specs.declared.content.Content.TheVariants as content
 use Rattle.ubi_volume.specs.declared.places.PlaceContent.TheVariants as place

@@ -12,7 +12,8 @@ use Rattle.ubi_media.specs.Fields.{same_bytes}
 use Rattle.ubi_media.specs.Geometry.{Sizes}
 use Rattle.ubi_media.specs.Record.{rec_fault}
 use Rattle.ubi_media.specs.declared.record.RecFault.{RecFault}
-use Rattle.ubi_volume.specs.Made.{IsFirstOf, IsItem, Items, NoneBelow, Stands, item, rank}
+use Rattle.ubi_volume.specs.inner.Making.{IsFirstOf, NoneBelow}
+use Rattle.ubi_volume.specs.Made.{IsItem, Items, Stands, item, rank}
 use Rattle.ubi_volume.specs.Meant.{Fits}
 use Rattle.ubi_volume.specs.declared.content.Volume.{Volume}
 use Rattle.ubi_volume.specs.declared.errors.MeaningCause.{MeaningCause}

@@ -13,7 +13,7 @@ use Rattle.ubi_media.specs.declared.vid.VolKind.TheVariants as kind
 use Rattle.ubi_scan.specs.Image.{block, leb}
 use Rattle.ubi_scan.specs.Members.{NoMember, Wins}
 use Rattle.ubi_scan.proofs.Keys.{apart_test, same_test}
-use Rattle.ubi_volume.specs.Gathered.{AreGathered, ContentIs, LebKept}
+use Rattle.ubi_volume.specs.inner.Gathered.{AreGathered, ContentIs, LebKept}
 use Rattle.ubi_volume.specs.declared.content.Content.TheVariants as content
 use Rattle.ubi_volume.proofs.Blanks.{blank_text, other_text}
 

@@ -11,8 +11,8 @@ use Rattle.std.specs.Ordering.{nat_cmp}
 use Rattle.std.proofs.lemmas.Bool.Decides.{Decides-and, Decides-like}
 use Rattle.std.proofs.Math.Seq.{take-append_seam}
 use Rattle.std.proofs.lemmas.Slice.Eq.{slice_eq-Decides}
+use Rattle.ubi_media.specs.Fields.{padded}
 use Rattle.ubi_media.specs.Geometry.{Sizes}
-use Rattle.ubi_media.specs.Name.{padded}
 use Rattle.ubi_media.specs.contracts.geometry.GeometryPartialEq.TheImpl as geometry_eq
 use Rattle.ubi_media.specs.contracts.record.VolumeRecordPartialEq.TheImpl as record_eq
 use Rattle.ubi_media.specs.contracts.vid.VolKindPartialEq.TheImpl as kind_eq

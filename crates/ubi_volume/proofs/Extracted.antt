@@ -22,12 +22,12 @@ use Rattle.ubi_scan.specs.declared.errors.StreamError.{StreamError}
 use Rattle.ubi_scan.proofs.Decided.{Wins-unique}
 use Rattle.ubi_table.specs.Records.{Records}
 use Rattle.ubi_table.proofs.ReadBack.{pieces_more}
-use Rattle.ubi_volume.specs.Extract.{case_len, extent_of, leb_at, leb_bytes, lebs_at, lebs_bytes, read_text, share_len}
-use Rattle.ubi_volume.specs.Means.{SlotMeans}
-use Rattle.ubi_volume.specs.Meant.{Fits, IsVolume}
+use Rattle.ubi_volume.specs.Extract.{case_len, extent_of, leb_bytes, read_text, share_len}
+use Rattle.ubi_volume.specs.inner.Pieces.{leb_at, lebs_at, lebs_bytes}
+use Rattle.ubi_volume.specs.Means.{SlotMeans, AreWhole, LebReads, StaticReads, VolumeReads, piece}
+use Rattle.ubi_volume.specs.Meant.{Fits, IsVolume, pieces, share}
 use Rattle.ubi_volume.specs.Places.{ArePlaces, Placed, case_of}
-use Rattle.ubi_volume.specs.Reading.{leb_text, lebs_text, pieces, share, volume_len, volume_read}
-use Rattle.ubi_volume.specs.Reads.{AreWhole, LebReads, StaticReads, VolumeReads, piece}
+use Rattle.ubi_volume.specs.Reading.{leb_text, lebs_text, volume_len, volume_read}
 use Rattle.ubi_volume.specs.Wrote.{All, IsWroteError, Wrote}
 use Rattle.ubi_volume.specs.declared.content.Content.{Content}
 use Rattle.ubi_volume.specs.declared.content.Content.TheVariants as content

@@ -18,9 +18,10 @@ use Rattle.ubi_scan.proofs.Finite.{find_at}
 use Rattle.ubi_scan.proofs.Keys.{told}
 use Rattle.ubi_table.specs.Records.{AreRecords, HasSpace, Records}
 use Rattle.ubi_table.specs.Table.{IsTable}
-use Rattle.ubi_volume.specs.Gathered.{AreContents, ContentIs}
+use Rattle.ubi_volume.specs.inner.Gathered.{AreContents, ContentIs}
 use Rattle.ubi_volume.specs.Means.{Means, SlotMeans}
-use Rattle.ubi_volume.specs.Meant.{AreVolumes, IsVolume}
+use Rattle.ubi_volume.specs.Meant.{IsVolume}
+use Rattle.ubi_volume.specs.MeantCoded.{AreVolumes}
 use Rattle.ubi_volume.specs.declared.content.Volume.{Volume}
 use Rattle.ubi_table.proofs.Held.{table_records}
 use Rattle.ubi_table.proofs.NoRecords.{no_space}

@@ -6,7 +6,7 @@ use Rattle.ubi_media.specs.declared.refusal.Refusal.{Refusal}
 use Rattle.ubi_media.specs.declared.refusal.Refusal.TheVariants as refusal
 use Rattle.ubi_scan.specs.Image.{Image, judged}
 use Rattle.ubi_volume.specs.Accepts.{Accepts, Refuses}
-use Rattle.ubi_volume.specs.Laws.{JudgedAlone}
+use Rattle.ubi_volume.specs.MeaningLaws.{JudgedAlone}
 use Rattle.ubi_volume.specs.Meant.{Meant}
 
 within_or_beyond : (n most : ℕ) → (n ≤ most) ⊎ (most < n)

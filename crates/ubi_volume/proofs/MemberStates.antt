@@ -9,7 +9,8 @@ use Rattle.ubi_media.specs.declared.vid.VidHeader.{VidHeader}
 use Rattle.ubi_scan.specs.Image.{block}
 use Rattle.ubi_scan.specs.Members.{IsMember, Leb, Wins, leb_of, member}
 use Rattle.ubi_table.specs.Records.{Records}
-use Rattle.ubi_volume.specs.States.{MemberStateIs, StateIs}
+use Rattle.ubi_volume.specs.Attached.{StateIs}
+use Rattle.ubi_volume.specs.inner.Surveying.{MemberStateIs}
 use Rattle.ubi_volume.specs.declared.attached.BlockState.{BlockState}
 use Rattle.ubi_volume.specs.declared.attached.BlockState.TheVariants as state
 use Rattle.ubi_volume.proofs.Winners.{has_header, named_by}

@@ -8,7 +8,8 @@ use Rattle.ubi_media.specs.declared.vid.VidHeader.{VidHeader}
 use Rattle.ubi_scan.specs.Image.{block}
 use Rattle.ubi_scan.specs.Members.{Leb, Wins, leb_of, member}
 use Rattle.ubi_table.specs.Records.{Records}
-use Rattle.ubi_volume.specs.Counted.{Disagrees, IsMismatched, IsUnlike, IsWithin}
+use Rattle.ubi_volume.specs.Accepts.{IsMismatched, IsUnlike, IsWithin}
+use Rattle.ubi_volume.specs.inner.Headers.{Disagrees}
 use Rattle.ubi_volume.proofs.Winners.{named_by, some_same, no_some}
 
 -- a test that answers what doesn't hold is false

@@ -14,11 +14,9 @@ use Rattle.ubi_scan.specs.Members.{Wins, is_right, member}
 use Rattle.ubi_scan.proofs.Moved.{IsMoved, clean_to, inside_of, moved_back, no_member_to, same_back, swapped, trade, wins_to}
 use Rattle.ubi_table.specs.Records.{Records}
 use Rattle.ubi_table.proofs.Moved.{table_to}
-use Rattle.ubi_volume.specs.Accepts.{Accepts, AcceptsBlocks}
-use Rattle.ubi_volume.specs.Counted.{IsMismatched}
-use Rattle.ubi_volume.specs.Means.{Means, SlotMeans}
+use Rattle.ubi_volume.specs.Accepts.{Accepts, AcceptsBlocks, IsMismatched}
+use Rattle.ubi_volume.specs.Means.{Means, SlotMeans, AreWhole, IsPiece, LebReads, StaticReads, VolumeReads, piece}
 use Rattle.ubi_volume.specs.Meant.{Meant}
-use Rattle.ubi_volume.specs.Reads.{AreWhole, IsPiece, LebReads, StaticReads, VolumeReads, piece}
 use Rattle.ubi_volume.specs.declared.content.Content.{Content}
 use Rattle.ubi_volume.specs.declared.content.Content.TheVariants as content
 use Rattle.ubi_volume.specs.declared.content.Volume.{Volume}

@@ -17,11 +17,9 @@ use Rattle.ubi_scan.specs.Faults.{NoFault}
 use Rattle.ubi_scan.proofs.Decided.{Wins-unique}
 use Rattle.ubi_table.specs.Records.{Records}
 use Rattle.ubi_table.proofs.One.{table_unique, never_table_and_fault}
-use Rattle.ubi_volume.specs.Accepts.{AcceptsBlocks, RefusesBlocks, Accepts, Refuses}
-use Rattle.ubi_volume.specs.Counted.{NoMismatch, IsVolumeFault}
-use Rattle.ubi_volume.specs.Means.{SlotMeans, Means}
+use Rattle.ubi_volume.specs.Accepts.{AcceptsBlocks, RefusesBlocks, Accepts, Refuses, NoMismatch, IsVolumeFault}
+use Rattle.ubi_volume.specs.Means.{SlotMeans, Means, LebReads, AreWhole, StaticReads, VolumeReads, piece}
 use Rattle.ubi_volume.specs.Meant.{Meant, Fits, KeepsNoBlank, IsVolume}
-use Rattle.ubi_volume.specs.Reads.{LebReads, AreWhole, StaticReads, VolumeReads, piece}
 use Rattle.ubi_volume.specs.declared.content.Content.{Content}
 use Rattle.ubi_volume.specs.declared.content.Content.TheVariants as content
 use Rattle.ubi_volume.specs.declared.content.Volume.{Volume}

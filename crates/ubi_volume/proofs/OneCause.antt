@@ -8,8 +8,7 @@ use Rattle.ubi_scan.specs.Image.{Image, IsSizeFault, eraseblocks}
 use Rattle.ubi_scan.proofs.OneFault.{one_scan_fault}
 use Rattle.ubi_table.specs.Records.{Records}
 use Rattle.ubi_table.proofs.One.{fault_unique, never_table_and_fault, table_unique}
-use Rattle.ubi_volume.specs.Accepts.{Refuses, RefusesBlocks}
-use Rattle.ubi_volume.specs.Counted.{IsVolumeFault}
+use Rattle.ubi_volume.specs.Accepts.{Refuses, RefusesBlocks, IsVolumeFault}
 use Rattle.ubi_volume.proofs.One.{no_size_fault, same_or_less}
 
 -- of the size

@@ -5,7 +5,7 @@ use Rattle.std.proofs.Math.Nat.{div-add-mod, mod-lt}
 use Rattle.std.proofs.Math.Seq.{take-add}
 use Rattle.std.proofs.lemmas.List.{take_all}
 use Rattle.std.proofs.lemmas.Nat.{div_below, mul-le}
-use Rattle.ubi_volume.specs.Reading.{pieces, share}
+use Rattle.ubi_volume.specs.Meant.{pieces, share}
 
 module _ (size : ℕ) (some : 1 ≤ size) where
   -- they are enough

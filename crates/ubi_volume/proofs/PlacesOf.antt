@@ -20,8 +20,8 @@ use Rattle.ubi_scan.proofs.Entries.{first_entry}
 use Rattle.ubi_scan.proofs.Keys.{told}
 use Rattle.ubi_table.specs.Records.{Records}
 use Rattle.ubi_table.specs.Stream.{IsTableOf}
-use Rattle.ubi_volume.specs.Cases.{AreCases, AreNumbered, CaseIs, IsContentsError, IsMismatchError, case_in}
-use Rattle.ubi_volume.specs.Counted.{NoMismatch}
+use Rattle.ubi_volume.specs.Accepts.{NoMismatch}
+use Rattle.ubi_volume.specs.inner.Cases.{AreCases, AreNumbered, CaseIs, IsContentsError, IsMismatchError, case_in}
 use Rattle.ubi_volume.specs.Means.{Means}
 use Rattle.ubi_volume.specs.Meant.{Meant}
 use Rattle.ubi_volume.specs.Places.{AreListed, ArePlaces, ArePlacesError, ArePlacesOf, IsReserved, Placed, case_of}

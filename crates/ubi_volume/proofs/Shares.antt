@@ -16,9 +16,9 @@ use Rattle.ubi_scan.specs.Image.{block, leb}
 use Rattle.ubi_scan.specs.Members.{Wins, member}
 use Rattle.ubi_scan.proofs.Decided.{Wins-unique}
 use Rattle.ubi_table.specs.Records.{Records}
-use Rattle.ubi_volume.specs.Counted.{NoMismatch}
-use Rattle.ubi_volume.specs.Reading.{share}
-use Rattle.ubi_volume.specs.Reads.{AreWhole, IsPiece, piece}
+use Rattle.ubi_volume.specs.Accepts.{NoMismatch}
+use Rattle.ubi_volume.specs.Means.{AreWhole, IsPiece, piece}
+use Rattle.ubi_volume.specs.Meant.{share}
 use Rattle.ubi_volume.proofs.Alike.{full_piece, short_piece}
 use Rattle.ubi_volume.proofs.SomeContent.{AreLebs}
 use Rattle.ubi_volume.proofs.Static.{piece_by}

@@ -20,9 +20,9 @@ use Rattle.ubi_scan.proofs.Decided.{winner_or_none}
 use Rattle.ubi_scan.proofs.Keys.{same_or_apart}
 use Rattle.ubi_scan.proofs.Least.{least_or}
 use Rattle.ubi_table.specs.Records.{Records}
-use Rattle.ubi_volume.specs.Counted.{NoMismatch}
-use Rattle.ubi_volume.specs.Gathered.{AreGathered, AreRead, ContentIs, LebKept, PieceIs, UsedIs, used_in}
-use Rattle.ubi_volume.specs.Reads.{piece}
+use Rattle.ubi_volume.specs.Accepts.{NoMismatch}
+use Rattle.ubi_volume.specs.inner.Gathered.{AreGathered, AreRead, ContentIs, LebKept, PieceIs, UsedIs, used_in}
+use Rattle.ubi_volume.specs.Means.{piece}
 use Rattle.ubi_volume.specs.declared.content.Content.{Content}
 use Rattle.ubi_volume.specs.declared.content.Content.TheVariants as content
 use Rattle.ubi_volume.proofs.Alike.{short_piece}

@@ -18,7 +18,8 @@ use Rattle.ubi_scan.proofs.Decided.{Wins-unique, winner_or_none}
 use Rattle.ubi_scan.proofs.Keys.{same_or_apart}
 use Rattle.ubi_scan.proofs.Least.{least_or}
 use Rattle.ubi_table.specs.Records.{Records}
-use Rattle.ubi_volume.specs.Counted.{Disagrees, IsMismatched, IsUnlike, IsVolumeFault, IsWithin, NoMismatch}
+use Rattle.ubi_volume.specs.Accepts.{IsMismatched, IsUnlike, IsVolumeFault, IsWithin, NoMismatch}
+use Rattle.ubi_volume.specs.inner.Headers.{Disagrees}
 use Rattle.ubi_volume.proofs.Mismatches.{mismatch_by_header, no_record_no_mismatch}
 use Rattle.ubi_volume.proofs.Winners.{named_by, no_some}
 

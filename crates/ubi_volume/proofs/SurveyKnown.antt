@@ -3,13 +3,11 @@ use Rattle.std.proofs.Common.{◌≡◌, sym, ◌∙◌, subst}
 use Rattle.ubi_scan.specs.Image.{Image, eraseblocks}
 use Rattle.ubi_table.specs.Records.{Records}
 use Rattle.ubi_table.specs.Table.{IsTable}
-use Rattle.ubi_volume.specs.Accepts.{AcceptsBlocks}
-use Rattle.ubi_volume.specs.Attached.{IsAttached}
-use Rattle.ubi_volume.specs.Counted.{NoMismatch}
-use Rattle.ubi_volume.specs.Known.{AreKnown}
+use Rattle.ubi_volume.specs.Accepts.{AcceptsBlocks, NoMismatch}
+use Rattle.ubi_volume.specs.Attached.{IsAttached, AreStates}
+use Rattle.ubi_volume.specs.inner.Surveying.{AreKnown}
 use Rattle.ubi_volume.specs.Means.{Means}
 use Rattle.ubi_volume.specs.Meant.{Meant}
-use Rattle.ubi_volume.specs.States.{AreStates}
 use Rattle.ubi_volume.specs.Survey.{IsSurvey, Seen}
 use Rattle.ubi_volume.proofs.AttachedOf.{attached}
 use Rattle.ubi_volume.proofs.Recorded.{records_meant}

@@ -10,9 +10,10 @@ use Rattle.ubi_scan.specs.declared.errors.StreamError.{StreamError}
 use Rattle.ubi_scan.specs.declared.errors.StreamError.TheVariants as stream
 use Rattle.ubi_table.specs.Records.{Records}
 use Rattle.ubi_table.specs.Stream.{IsTableOf}
-use Rattle.ubi_volume.specs.Counted.{NoMismatch}
+use Rattle.ubi_volume.specs.Accepts.{NoMismatch}
+use Rattle.ubi_volume.specs.inner.Surveying.{AreStatesOf, IsStatesError}
 use Rattle.ubi_volume.specs.Places.{ArePlacesError}
-use Rattle.ubi_volume.specs.Survey.{AreStatesOf, IsStatesError, IsSurvey, IsSurveyOf}
+use Rattle.ubi_volume.specs.Survey.{IsSurvey, IsSurveyOf}
 use Rattle.ubi_volume.specs.declared.attached.BlockState.{BlockState}
 use Rattle.ubi_volume.proofs.AttachedOf.{attached}
 use Rattle.ubi_volume.proofs.Either.{are_lebs, some_meaning}

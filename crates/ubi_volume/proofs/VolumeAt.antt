@@ -7,10 +7,9 @@ use Rattle.ubi_media.specs.declared.record.VolumeRecord.{VolumeRecord}
 use Rattle.ubi_scan.specs.Members.{Leb, NoMember, Wins}
 use Rattle.ubi_scan.specs.Source.{blocks_of}
 use Rattle.ubi_table.specs.Records.{Records}
-use Rattle.ubi_volume.specs.Counted.{IsWithin}
-use Rattle.ubi_volume.specs.Means.{SlotMeans}
+use Rattle.ubi_volume.specs.Accepts.{IsWithin}
+use Rattle.ubi_volume.specs.Means.{SlotMeans, VolumeReads}
 use Rattle.ubi_volume.specs.Places.{ArePlaces, IsNextPlace, Placed, case_of}
-use Rattle.ubi_volume.specs.Reads.{VolumeReads}
 use Rattle.ubi_volume.specs.declared.content.Volume.{Volume}
 use Rattle.ubi_volume.specs.declared.places.PlaceContent.{PlaceContent}
 use Rattle.ubi_volume.proofs.Recorded.{records_meant}

@@ -7,7 +7,7 @@ use Rattle.ubi_media.specs.declared.vid.VidHeader.{VidHeader}
 use Rattle.ubi_scan.specs.Image.{block}
 use Rattle.ubi_scan.specs.Members.{IsMember, Leb, NoMember, Wins, leb_of, member}
 use Rattle.ubi_scan.specs.Scan.{Found, IsNextWinner, IsScan}
-use Rattle.ubi_scan.specs.States as scan_states
+use Rattle.ubi_scan.specs.Scan as scan_states
 use Rattle.ubi_scan.specs.declared.found.ScanState.{ScanState}
 
 pub some_same : {A : Type 0} (a b : A) → Some a ≡ Some b → a ≡ b

@@ -10,7 +10,7 @@ use Rattle.std.specs.FinMap.{FinMap, nat_cmp-IsAntisymmetric}
 use Rattle.std.specs.List.{list_all}
 use Rattle.std.specs.Ordering.{nat_cmp}
 use Rattle.ubi_scan.proofs.Finite.{entries_tree, find_at, place_of}
-use Rattle.ubi_volume.specs.Made.{is_within}
+use Rattle.ubi_volume.specs.inner.Making.{is_within}
 
 module _ (reserved size : ℕ) where
   abbrev Within : ℕ × List ℕ → Type 0

@@ -1,16 +1,53 @@
 -- Which images are accepted, with which meaning, and which are refused, with which cause.
-use Rattle.std.specs.Prelude.{ℕ, ◌⊎◌, List}
+use Rattle.std.specs.Prelude.{◌≡◌, ◌≢◌, ℕ, ◌<◌, ◌⊎◌, false, List, Some}
+use Rattle.std.specs.FinMap.{get}
 use Rattle.ubi_media.specs.Geometry.{Sizes}
-use Rattle.ubi_media.specs.declared.refusal.Refusal.{Refusal}
+use Rattle.ubi_media.specs.Record.{data_pad}
+use Rattle.ubi_media.specs.declared.record.VolumeRecord.{VolumeRecord}
 use Rattle.ubi_media.specs.declared.refusal.AttachError.{AttachError}
 use Rattle.ubi_media.specs.declared.refusal.AttachError.TheVariants as attach
-use Rattle.ubi_scan.specs.Image.{Image, IsWhole, IsSizeFault, eraseblocks}
+use Rattle.ubi_media.specs.declared.refusal.Refusal.{Refusal}
+use Rattle.ubi_media.specs.declared.refusal.Refusal.TheVariants as refusal
+use Rattle.ubi_media.specs.declared.vid.VidHeader.{VidHeader}
+use Rattle.ubi_media.specs.declared.vid.VolKind.TheVariants as kind
 use Rattle.ubi_scan.specs.Faults.{NoFault, IsScanFault}
+use Rattle.ubi_scan.specs.Image.{block, Image, IsWhole, IsSizeFault, eraseblocks}
+use Rattle.ubi_scan.specs.Members.{member, Wins}
 use Rattle.ubi_table.specs.Records.{Records}
 use Rattle.ubi_table.specs.Table.{IsTable, IsTableFault}
-use Rattle.ubi_volume.specs.Counted.{NoMismatch, IsVolumeFault}
 use Rattle.ubi_volume.specs.Means.{Means}
 use Rattle.ubi_volume.specs.Meant.{Meant}
+
+-- a LEB is within a volume: every one of a static volume is
+abbrev pub IsWithin : VolumeRecord → ℕ → Type 0
+IsWithin r lnum = r.kind ≡ kind.Dynamic → lnum < r.reserved
+
+-- p is a counted winner, of a volume with this record
+pub record IsCounted (s : Sizes) (bs : List (List ℕ)) (t : Records) (r : VolumeRecord) (p : ℕ) : Type 0 where
+  pub vol : ℕ
+  pub lnum : ℕ
+  pub wins : Wins s bs (vol, lnum) p
+  pub recorded : get t.of vol ≡ Some r
+  pub within : IsWithin r lnum
+
+-- a header's type or padding isn't that of a record
+abbrev pub IsUnlike : Sizes → VolumeRecord → VidHeader → Type 0
+IsUnlike s r h = (h.kind ≢ r.kind) ⊎ (h.data_pad ≢ data_pad s r)
+
+-- p is a counted winner of an unmarked volume, and is unlike its record
+abbrev pub IsMismatched : Sizes → List (List ℕ) → Records → ℕ → Type 0
+IsMismatched s bs t p =
+    (r : VolumeRecord) × (h : VidHeader) × IsCounted s bs t r p × (r.marker ≡ false)
+    × (member s (block bs p) ≡ Some h) × IsUnlike s r h
+
+-- no eraseblock is
+abbrev pub NoMismatch : Sizes → List (List ℕ) → Records → Type 0
+NoMismatch s bs t = (p : ℕ) → IsMismatched s bs t p → ⊥
+
+-- the refusal for it names the least such eraseblock
+abbrev pub IsVolumeFault : Sizes → List (List ℕ) → Records → Refusal → Type 0
+IsVolumeFault s bs t (refusal.Mismatch p) = IsMismatched s bs t p × ((q : ℕ) → q < p → IsMismatched s bs t q → ⊥)
+IsVolumeFault s bs t _ = ⊥
 
 -- eraseblocks are accepted with the meaning m: no fault stands, and m is that of their table
 pub record AcceptsBlocks (s : Sizes) (bs : List (List ℕ)) (m : Meant) : Type 0 where

@@ -1,7 +1,6 @@
 -- What a volume of a source reads, by the places of its LEBs.
-use Rattle.std.specs.Prelude.{◌≡◌, ℕ, ◌-◌, ◌*◌, List, Option, Some, None, Result, Ok, Err, flat_map, min, take}
+use Rattle.std.specs.Prelude.{◌≡◌, ℕ, ◌-◌, ◌*◌, List, Option, Some, None, Result, Ok, Err, min, take}
 use Rattle.std.specs.FinMap.{get}
-use Rattle.std.specs.List.{range_with_len}
 use Rattle.std.specs.Option.{option_map_or}
 use Rattle.ubi_media.specs.Fields.{blank}
 use Rattle.ubi_media.specs.Geometry.{Sizes}
@@ -37,9 +36,6 @@ abbrev pub leb_bytes : Sizes → ℕ → Option ℕ → List ℕ → List ℕ
 leb_bytes s n None image = blank n
 leb_bytes s n (Some p) image = take n (leb s (block (blocks_of s image) p))
 
-abbrev pub leb_at : Sizes → ℕ → Option ℕ → List ℕ → List ℕ → Type 0
-leb_at s n at image text = text ≡ leb_bytes s n at image
-
 -- how the bytes that it reads are shared among its LEBs, by the case; not where it can't be read
 abbrev pub extent_of : Sizes → VolumeRecord → PlaceContent → Option Extent
 extent_of s r place.Updating = None
@@ -50,10 +46,3 @@ extent_of s r place.Dynamic = Some (record { lebs = r.reserved; size = usable s 
 -- how many of so many bytes stand in a LEB, which has room for `size` of them
 abbrev pub share_len : ℕ → ℕ → ℕ → ℕ
 share_len size bytes lnum = min size (bytes - lnum * size)
-
--- the bytes that stand in the first n LEBs of a volume, of so many
-abbrev pub lebs_bytes : Sizes → Placed → ℕ → ℕ → ℕ → List ℕ → ℕ → List ℕ
-lebs_bytes s p id size bytes image n = flat_map (λ lnum. leb_bytes s (share_len size bytes lnum) (get p.winners (id, lnum)) image) (range_with_len 0 n)
-
-abbrev pub lebs_at : Sizes → Placed → ℕ → ℕ → ℕ → ℕ → List ℕ → List ℕ → Type 0
-lebs_at s p id size bytes n image text = text ≡ lebs_bytes s p id size bytes image n

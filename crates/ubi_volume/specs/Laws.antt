@@ -1,16 +1,10 @@
--- Laws of the definitions, as they stand on functions that do nothing.
-use Rattle.std.specs.Prelude.{◌≡◌, ℕ, ◌⊎◌, ◌↔◌, List, IsPermutation}
-use Rattle.ubi_media.specs.Geometry.{Sizes, IsGeometry}
+-- Laws of what is accepted and refused, as they stand on functions that do nothing.
+use Rattle.std.specs.Prelude.{◌≡◌, ◌⊎◌}
+use Rattle.ubi_media.specs.Geometry.{IsGeometry}
 use Rattle.ubi_media.specs.declared.refusal.Refusal.{Refusal}
-use Rattle.ubi_scan.specs.Image.{Image, IsWhole, eraseblocks, judged}
+use Rattle.ubi_scan.specs.Image.{Image}
 use Rattle.ubi_volume.specs.Accepts.{Accepts, Refuses}
-use Rattle.ubi_volume.specs.Made.{IsFirst, Items}
 use Rattle.ubi_volume.specs.Meant.{Meant}
-use Rattle.ubi_volume.specs.declared.errors.MeaningCause.{MeaningCause}
-
--- an image has at most one meaning
-abbrev pub OneMeaning : Type 0
-OneMeaning = (image : Image) (m n : Meant) → Accepts image m → Accepts image n → m ≡ n
 
 -- an image that is accepted isn't refused
 abbrev pub NeverBoth : Type 0
@@ -23,19 +17,3 @@ OneCause = (image : Image) (c d : Refusal) → Refuses image c → Refuses image
 -- an image is accepted or refused
 abbrev pub OneOrOther : Type 0
 OneOrOther = (image : Image) → IsGeometry image.sizes → ((m : Meant) × Accepts image m) ⊎ ((c : Refusal) × Refuses image c)
-
--- volumes that have no meaning together have one first cause
-abbrev pub OneFirst : Type 0
-OneFirst = (s : Sizes) (items : Items) (c d : MeaningCause) → IsFirst s items c → IsFirst s items d → c ≡ d
-
--- an image whose eraseblocks are those of an accepted one in another order is accepted with the same meaning
-abbrev pub Reorder : Type 0
-Reorder = (image other : Image) (m : Meant) → other.sizes ≡ image.sizes → IsWhole other
-    → IsPermutation (eraseblocks image) (eraseblocks other) → Accepts image m → Accepts other m
-
--- what a file means, or why it is refused, is told by those of its bytes that are judged
-abbrev pub JudgedAlone : Type 0
-JudgedAlone = (s : Sizes) (bytes : List ℕ) →
-    let all : Image = record { sizes = s; bytes = bytes } in
-    let first : Image = record { sizes = s; bytes = judged s bytes } in
-    ((m : Meant) → Accepts first m ↔ Accepts all m) × ((c : Refusal) → Refuses first c ↔ Refuses all c)

@@ -1,16 +1,16 @@
 -- Why volumes have no meaning together, and the meaning that they have.
-use Rattle.std.specs.Prelude.{◌≡◌, ℕ, ◌+◌, ◌<◌, ◌≤◌, ◌⊎◌, ◌==◌, ◌&&◌, Bool, not, nat_lt, length, List, [], map, Option, Some, MatchOption, slice_get, sum_by, unwrap_or}
+use Rattle.std.specs.Prelude.{◌≡◌, ℕ, ◌+◌, ◌<◌, ◌≤◌, ◌⊎◌, not, List, [], map, Some, slice_get, sum_by, unwrap_or}
 use Rattle.std.specs.FinMap.{FinMap, get, from_entries, retain_keys}
 use Rattle.std.specs.Ordering.{nat_cmp}
 use Rattle.ubi_media.specs.Fields.{is_blank}
 use Rattle.ubi_media.specs.Geometry.{Sizes, slots}
 use Rattle.ubi_media.specs.Record.{rec_fault}
+use Rattle.ubi_volume.specs.Meant.{Meant, Fits}
 use Rattle.ubi_volume.specs.declared.content.Content.{Content}
 use Rattle.ubi_volume.specs.declared.content.Content.TheVariants as content
 use Rattle.ubi_volume.specs.declared.content.Volume.{Volume}
 use Rattle.ubi_volume.specs.declared.errors.MeaningCause.{MeaningCause}
 use Rattle.ubi_volume.specs.declared.errors.MeaningCause.TheVariants as cause
-use Rattle.ubi_volume.specs.Meant.{Meant, Fits}
 
 -- volumes, each with its number
 abbrev pub Items : Type 0
@@ -62,20 +62,6 @@ pub record IsFirst (s : Sizes) (items : Items) (c : MeaningCause) : Type 0 where
 -- no cause stands
 abbrev pub NoCause : Sizes → Items → Type 0
 NoCause s items = (c : MeaningCause) → Stands s items c → ⊥
-
--- no cause of a rank stands whose item is below n
-abbrev pub NoneBelow : Sizes → Items → ℕ → ℕ → Type 0
-NoneBelow s items r n = (d : MeaningCause) → rank d ≡ r → item d < n → Stands s items d → ⊥
-
--- the first cause of a rank, if one stands
-abbrev pub IsFirstOf : Sizes → Items → ℕ → Option MeaningCause → Type 0
-IsFirstOf s items r found = MatchOption found
-    ((d : MeaningCause) → rank d ≡ r → Stands s items d → ⊥)
-    (λ c. (rank c ≡ r) × Stands s items c × NoneBelow s items r (item c))
-
--- whether a LEB has a number below `reserved`, and `size` bytes
-abbrev pub is_within : ℕ → ℕ → ℕ × List ℕ → Bool
-is_within reserved size e = nat_lt e.0 reserved && (length e.1 == size)
 
 -- LEBs without those that are 0xFF throughout
 abbrev pub lebs_without_blank : FinMap nat_cmp (List ℕ) → FinMap nat_cmp (List ℕ)

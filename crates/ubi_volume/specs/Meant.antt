@@ -1,34 +1,24 @@
--- A meaning: volumes by their number, each with its record and what it reads.
-use Rattle.std.specs.Prelude.{◌≡◌, ◌≢◌, ℕ, ◌+◌, ◌*◌, ◌<◌, ◌≤◌, true, false, IsTrue, List, map, Some, None, IfSome, refl, sum_by, length}
+-- A meaning: volumes by their number, each with its record and what it reads. And how a text is cut into LEBs.
+use Rattle.std.specs.Prelude.{◌≡◌, ◌≢◌, ℕ, ◌+◌, ◌*◌, ◌<◌, ◌≤◌, true, false, map, Some, None, IfSome, sum_by, length, ◌-◌, ◌/◌, List, take, drop}
+use Rattle.std.specs.FinMap.{FinMap, get, entries, from_entries, values}
 use Rattle.std.specs.Ordering.{nat_cmp}
-use Rattle.std.specs.FinMap.{FinMap, get, entries, from_entries, is_sorted, values, code}
-use Rattle.std.specs.Coded.{Coded, code_by, coded×, coded_ℕ}
 use Rattle.ubi_media.specs.Fields.{blank}
 use Rattle.ubi_media.specs.Geometry.{Sizes, slots}
 use Rattle.ubi_media.specs.Record.{usable, rec_fault}
 use Rattle.ubi_media.specs.declared.record.VolumeRecord.{VolumeRecord}
 use Rattle.ubi_media.specs.declared.vid.VolKind.TheVariants as kind
-use Rattle.ubi_table.specs.Records.{Records, sizes_code}
-use Rattle.ubi_volume.specs.declared.content.Volume.{Volume}
+use Rattle.ubi_table.specs.Records.{Records}
 use Rattle.ubi_volume.specs.declared.content.Content.{Content}
 use Rattle.ubi_volume.specs.declared.content.Content.TheVariants as content
-use Rattle.ubi_volume.specs.contracts.content.Volume as volume_type
+use Rattle.ubi_volume.specs.declared.content.Volume.{Volume}
 
 abbrev pub VolumeMap : Type 0
 VolumeMap = FinMap nat_cmp Volume
-
-abbrev pub volumes_code : Coded VolumeMap
-volumes_code = code coded_ℕ volume_type.the_row.coded
 
 -- volumes under sizes
 pub record Meant : Type 0 where
   pub sizes : Sizes
   pub volumes : VolumeMap
-
-abbrev pub meant_code : Coded Meant
-meant_code =
-    code_by (Sizes × VolumeMap) (coded× sizes_code volumes_code) (λ m. (m.sizes, m.volumes))
-    (λ p. record { sizes = p.0; volumes = p.1 }) (λ _. refl)
 
 -- the records of a meaning
 abbrev pub records_of : Meant → Records
@@ -66,7 +56,10 @@ pub record IsMeaning (m : Meant) : Type 0 where
   pub names : HasDistinctNames m.volumes
   pub space : 2 + sum_by (λ v. v.entry.reserved) (values m.volumes) ≤ m.sizes.pebs
 
--- what a meaning keeps of its volumes: they stand by rising number
-pub record AreVolumes (s : Sizes) (items : List (ℕ × Volume)) : Type 0 where
-  pub sorted : IsTrue (is_sorted nat_cmp items)
-  pub meaning : IsMeaning (record { sizes = s; volumes = from_entries items })
+-- how many pieces of a size a length has, the last perhaps short
+abbrev pub pieces : ℕ → ℕ → ℕ
+pieces size n = (n + (size - 1)) / size
+
+-- the share of a text that stands in a LEB
+abbrev pub share : ℕ → List ℕ → ℕ → List ℕ
+share size text lnum = take size (drop (lnum * size) text)

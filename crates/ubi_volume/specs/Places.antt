@@ -14,10 +14,8 @@ use Rattle.ubi_scan.specs.Stream.{IsReadFault}
 use Rattle.ubi_scan.specs.declared.errors.StreamError.{StreamError}
 use Rattle.ubi_scan.specs.declared.errors.StreamError.TheVariants as stream
 use Rattle.ubi_table.specs.Records.{HasSpace, Records}
-use Rattle.ubi_volume.specs.Accepts.{Accepts, RefusesBlocks}
-use Rattle.ubi_volume.specs.Counted.{IsWithin}
-use Rattle.ubi_volume.specs.Meant.{Meant, records_of}
-use Rattle.ubi_volume.specs.Reading.{pieces}
+use Rattle.ubi_volume.specs.Accepts.{Accepts, RefusesBlocks, IsWithin}
+use Rattle.ubi_volume.specs.Meant.{Meant, records_of, pieces}
 use Rattle.ubi_volume.specs.declared.content.Content.{Content}
 use Rattle.ubi_volume.specs.declared.content.Content.TheVariants as content
 use Rattle.ubi_volume.specs.declared.content.Volume.{Volume}

@@ -4,7 +4,8 @@ use Rattle.std.specs.Coded.{Coded, code_by, coded×, coded_ℕ}
 use Rattle.std.specs.FinMap.{FinMap, code}
 use Rattle.std.specs.Ordering.{nat_cmp}
 use Rattle.ubi_scan.specs.Scan.{leb_cmp}
-use Rattle.ubi_table.specs.Records.{Records, records_code}
+use Rattle.ubi_table.specs.Records.{Records}
+use Rattle.ubi_table.specs.Coded.{records_code}
 use Rattle.ubi_volume.specs.Places.{Placed}
 use Rattle.ubi_volume.specs.contracts.places.PlaceContent as place_type
 use Rattle.ubi_volume.specs.declared.places.PlaceContent.{PlaceContent}

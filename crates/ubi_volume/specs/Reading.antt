@@ -1,27 +1,19 @@
 -- What is read of a meaning: a LEB of a volume, or the whole volume.
-use Rattle.std.specs.Prelude.{◌≡◌, ℕ, ◌+◌, ◌-◌, ◌*◌, ◌/◌, ◌++◌, List, Option, Result, Ok, Err, if◌then◌else◌, nat_lt, unwrap_or, take, drop, length, flat_map}
-use Rattle.std.specs.Option.{option_map_or}
-use Rattle.std.specs.Result.{result_map_both}
-use Rattle.std.specs.List.{range_with_len}
+use Rattle.std.specs.Prelude.{◌≡◌, ℕ, ◌+◌, ◌++◌, List, Option, Result, Ok, Err, if◌then◌else◌, nat_lt, unwrap_or, drop, length, flat_map}
 use Rattle.std.specs.FinMap.{FinMap, get}
+use Rattle.std.specs.List.{range_with_len}
+use Rattle.std.specs.Option.{option_map_or}
 use Rattle.std.specs.Ordering.{nat_cmp}
+use Rattle.std.specs.Result.{result_map_both}
 use Rattle.ubi_media.specs.Fields.{blank}
 use Rattle.ubi_media.specs.Geometry.{Sizes}
 use Rattle.ubi_media.specs.Record.{usable}
 use Rattle.ubi_media.specs.declared.record.VolumeRecord.{VolumeRecord}
-use Rattle.ubi_volume.specs.Meant.{Meant}
+use Rattle.ubi_volume.specs.Meant.{Meant, pieces, share}
 use Rattle.ubi_volume.specs.declared.content.Content.{Content}
 use Rattle.ubi_volume.specs.declared.content.Content.TheVariants as content
 use Rattle.ubi_volume.specs.declared.errors.ReadError.{ReadError}
 use Rattle.ubi_volume.specs.declared.errors.ReadError.TheVariants as error
-
--- how many pieces of a size a length has, the last perhaps short
-abbrev pub pieces : ℕ → ℕ → ℕ
-pieces size n = (n + (size - 1)) / size
-
--- the share of a text that stands in a LEB
-abbrev pub share : ℕ → List ℕ → ℕ → List ℕ
-share size text lnum = take size (drop (lnum * size) text)
 
 -- what a LEB of a dynamic volume reads, by what is kept of it
 abbrev pub leb_text : ℕ → Option (List ℕ) → List ℕ

@@ -1,18 +1,15 @@
 -- What is known of an image without what its volumes read.
-use Rattle.std.specs.Prelude.{◌≡◌, ℕ, List, length, refl}
+use Rattle.std.specs.Prelude.{◌≡◌, List, length, refl}
 use Rattle.std.specs.Coded.{Coded, code_by, coded×, coded_list}
 use Rattle.ubi_media.specs.Geometry.{Sizes}
 use Rattle.ubi_scan.specs.Coded.{found_code}
 use Rattle.ubi_scan.specs.Image.{Image, IsWholeSize}
 use Rattle.ubi_scan.specs.Scan.{Found}
-use Rattle.ubi_scan.specs.Source.{Source, WhereHeld, blocks_in, blocks_of}
-use Rattle.ubi_scan.specs.Stream.{IsReadFault}
-use Rattle.ubi_scan.specs.declared.errors.StreamError.{StreamError}
-use Rattle.ubi_scan.specs.declared.errors.StreamError.TheVariants as stream
-use Rattle.ubi_table.specs.Records.{Records, records_code}
+use Rattle.ubi_scan.specs.Source.{Source, WhereHeld, blocks_in}
+use Rattle.ubi_table.specs.Coded.{records_code}
+use Rattle.ubi_table.specs.Records.{Records}
 use Rattle.ubi_volume.specs.Attached.{IsAttached}
 use Rattle.ubi_volume.specs.Meant.{Meant, records_of}
-use Rattle.ubi_volume.specs.States.{AreStates}
 use Rattle.ubi_volume.specs.declared.attached.BlockState.{BlockState}
 use Rattle.ubi_volume.specs.contracts.attached.BlockState as state_type
 
@@ -26,16 +23,6 @@ abbrev pub seen_code : Coded Seen
 seen_code =
     code_by (Records × (Found × List BlockState)) (coded× records_code (coded× found_code (coded_list state_type.the_row.coded)))
     (λ a. (a.records, (a.scan, a.states))) (λ p. record { records = p.0; scan = p.1.0; states = p.1.1 }) (λ _. refl)
-
--- each eraseblock of a source has a state and, where its bytes are known, its own
-pub record AreStatesOf (s : Sizes) (k : Source) (t : Records) (states : List BlockState) : Type 0 where
-  pub count : length states ≡ blocks_in s k
-  pub held : WhereHeld k (λ bytes. AreStates s (blocks_of s bytes) t states)
-
--- why there are none: a read failed, or memory ran out
-abbrev pub IsStatesError : ℕ → StreamError → Type 0
-IsStatesError n stream.Memory = Unit {0}
-IsStatesError n e = IsReadFault n e
 
 -- it is that of the image, which is accepted: with a meaning, it is what attaching gives, and the records are those of
 -- the meaning

@@ -6,8 +6,9 @@ ghost use Rattle.ubi_media.specs.Geometry.{leb_size};
 ghost use Rattle.ubi_media.specs.Record.{rec_fault};
 ghost use Rattle.ubi_scan.specs.Source.{WhereHeld, blocks_in, blocks_of};
 ghost use Rattle.ubi_scan.specs.Stream.{IsReadFault, after};
-ghost use Rattle.ubi_volume.specs.Amounts.{AmountIs, AreKept, IsKept};
+ghost use Rattle.ubi_volume.specs.Amounts.{AmountIs};
 ghost use Rattle.ubi_volume.specs.Extract.{leb_bytes};
+ghost use Rattle.ubi_volume.specs.inner.Gathered.{AreKept, IsKept};
 ghost use Rattle.ubi_volume.specs.Places.{ArePlaces, ArePlacesOf};
 
 use crate::places::{PlaceContent, Places};

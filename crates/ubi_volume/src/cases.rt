@@ -6,10 +6,11 @@ ghost use Rattle.ubi_media.specs.Record.{rec_fault};
 ghost use Rattle.ubi_media.specs.declared.vid.VolKind.TheVariants.{Static};
 ghost use Rattle.ubi_scan.specs.Source.{WhereHeld, blocks_in, blocks_of};
 ghost use Rattle.ubi_scan.specs.Stream.{IsReadFault, IsScanOf, after};
-ghost use Rattle.ubi_table.specs.Stream.{IsCopyReadError, IsTableOf};
-ghost use Rattle.ubi_volume.specs.Cases.{AreCases, AreNumbered, CaseIs, PieceSizeIs};
-ghost use Rattle.ubi_volume.specs.Counted.{NoMismatch};
-ghost use Rattle.ubi_volume.specs.Gathered.{UsedIs};
+ghost use Rattle.ubi_table.specs.inner.OneCopy.{IsCopyReadError};
+ghost use Rattle.ubi_table.specs.Stream.{IsTableOf};
+ghost use Rattle.ubi_volume.specs.Accepts.{NoMismatch};
+ghost use Rattle.ubi_volume.specs.inner.Cases.{AreCases, AreNumbered, CaseIs, PieceSizeIs};
+ghost use Rattle.ubi_volume.specs.inner.Gathered.{UsedIs};
 ghost use Rattle.ubi_volume.specs.Places.{IsReserved};
 
 use crate::places::PlaceContent;

@@ -6,8 +6,9 @@ ghost use Rattle.std.specs.Prelude.{◌≡◌, ◌<◌, ◌↔◌, IfErr, IfOk, 
 ghost use Rattle.ubi_scan.specs.Source.{WhereHeld, blocks_in, blocks_of};
 ghost use Rattle.ubi_scan.specs.Stream.{IsReadFault, IsScanOf, after};
 ghost use Rattle.ubi_table.specs.Stream.{IsTableOf};
-ghost use Rattle.ubi_volume.specs.Cases.{IsMismatchError};
-ghost use Rattle.ubi_volume.specs.Counted.{IsMismatched, NoMismatch, WinnerHeaderIs};
+ghost use Rattle.ubi_volume.specs.Accepts.{IsMismatched, NoMismatch};
+ghost use Rattle.ubi_volume.specs.inner.Cases.{IsMismatchError};
+ghost use Rattle.ubi_volume.specs.inner.Headers.{WinnerHeaderIs};
 
 use crate::mismatch::disagrees;
 use ubi_media::{Geometry, Refusal, VidHeader};

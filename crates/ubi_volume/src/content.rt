@@ -7,7 +7,8 @@ ghost use Rattle.std.specs.List.{list_all};
 ghost use Rattle.std.specs.Map.Iter.{ShowsInOrder, deref_pair};
 ghost use Rattle.std.specs.Option.{option_copied};
 ghost use Rattle.std.specs.Ordering.{nat_cmp};
-ghost use Rattle.ubi_volume.specs.Made.{is_within, lebs_without_blank, without_blank};
+ghost use Rattle.ubi_volume.specs.inner.Making.{is_within};
+ghost use Rattle.ubi_volume.specs.Made.{lebs_without_blank, without_blank};
 
 use std::alloc::{AllocError, Global};
 use std::collections::BTreeMap;

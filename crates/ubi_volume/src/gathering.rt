@@ -6,9 +6,9 @@ ghost use Rattle.ubi_media.specs.declared.vid.VolKind.TheVariants.{Dynamic};
 ghost use Rattle.ubi_media.specs.Record.{rec_fault};
 ghost use Rattle.ubi_scan.specs.Image.{eraseblocks};
 ghost use Rattle.ubi_scan.specs.Scan.{IsScan};
-ghost use Rattle.ubi_volume.specs.Counted.{NoMismatch};
-ghost use Rattle.ubi_volume.specs.Gathered.{ContentIs, LebKept};
-ghost use Rattle.ubi_volume.specs.Known.{AreKnown};
+ghost use Rattle.ubi_volume.specs.Accepts.{NoMismatch};
+ghost use Rattle.ubi_volume.specs.inner.Gathered.{ContentIs, LebKept};
+ghost use Rattle.ubi_volume.specs.inner.Surveying.{AreKnown};
 ghost use Rattle.ubi_volume.specs.Means.{Means};
 
 use crate::content::{Bytes, Content, Lebs, Volume};

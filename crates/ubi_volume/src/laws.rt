@@ -1,6 +1,7 @@
 //! Laws of the definitions that the contracts cite, each as the contract of a function that does nothing.
 
-ghost use Rattle.ubi_volume.specs.Laws.{JudgedAlone, NeverBoth, OneCause, OneFirst, OneMeaning, OneOrOther, Reorder};
+ghost use Rattle.ubi_volume.specs.Laws.{NeverBoth, OneCause, OneOrOther};
+ghost use Rattle.ubi_volume.specs.MeaningLaws.{JudgedAlone, OneFirst, OneMeaning, Reorder};
 
 /// An image has one meaning at most.
 pub fn one_meaning()

@@ -4,7 +4,8 @@ ghost use Rattle.std.specs.Prelude.{◌≡◌, ◌↔◌, ◌==◌, IsPermutatio
 ghost use Rattle.std.specs.List.Sorted.{IsNonDecreasingBy};
 ghost use Rattle.ubi_media.specs.Fields.{same_bytes};
 ghost use Rattle.ubi_media.specs.Record.{rec_fault};
-ghost use Rattle.ubi_volume.specs.Made.{IsFirst, IsFirstOf, NoCause, item_without_blank};
+ghost use Rattle.ubi_volume.specs.inner.Making.{IsFirstOf};
+ghost use Rattle.ubi_volume.specs.Made.{IsFirst, NoCause, item_without_blank};
 ghost use Rattle.ubi_volume.specs.Meant.{Fits};
 
 use crate::content::{Content, Volume};

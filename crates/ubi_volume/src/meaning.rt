@@ -5,7 +5,8 @@ ghost use Rattle.std.specs.FinMap as finite;
 ghost use Rattle.ubi_media.specs.Geometry.{IsGeometry};
 ghost use Rattle.ubi_volume.specs.EqualMeanings.{same_meaning};
 ghost use Rattle.ubi_volume.specs.Made.{IsFirst, NoCause, meaning_of};
-ghost use Rattle.ubi_volume.specs.Meant.{AreVolumes, IsMeaning, VolumeMap};
+ghost use Rattle.ubi_volume.specs.Meant.{IsMeaning, VolumeMap};
+ghost use Rattle.ubi_volume.specs.MeantCoded.{AreVolumes};
 
 use crate::content::Volume;
 use crate::errors::MeaningError;
@@ -23,7 +24,8 @@ pub struct Meaning {
 
 impl Model for Meaning {
     ghost use Rattle.std.specs.FinMap as finite;
-    ghost use Rattle.ubi_volume.specs.Meant.{AreVolumes, Meant, meant_code};
+    ghost use Rattle.ubi_volume.specs.Meant.{Meant};
+    ghost use Rattle.ubi_volume.specs.MeantCoded.{AreVolumes, meant_code};
 
     ghost Value = { Meant };
 

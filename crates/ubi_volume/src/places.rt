@@ -5,8 +5,8 @@ ghost use Rattle.std.specs.FinMap as finite;
 ghost use Rattle.ubi_scan.specs.Source.{WhereHeld, blocks_of};
 ghost use Rattle.ubi_scan.specs.Stream.{IsScanOf, after};
 ghost use Rattle.ubi_table.specs.Stream.{IsTableOf};
-ghost use Rattle.ubi_volume.specs.Cases.{AreCases, AreNumbered, IsContentsError};
-ghost use Rattle.ubi_volume.specs.Counted.{NoMismatch};
+ghost use Rattle.ubi_volume.specs.Accepts.{NoMismatch};
+ghost use Rattle.ubi_volume.specs.inner.Cases.{AreCases, AreNumbered, IsContentsError};
 ghost use Rattle.ubi_volume.specs.Places.{ArePlacesError, ArePlacesOf, IsNextPlace};
 
 use crate::cases::cases_from;

@@ -5,8 +5,8 @@ ghost use Rattle.std.specs.Option.{option_copied};
 ghost use Rattle.std.specs.Prelude.{◌≡◌, ◌≤◌, ◌<◌, Err, IfErr, IfOk, IfSome, MatchOption, None, Ok, OnErr, Some, length, option_map};
 ghost use Rattle.ubi_media.specs.Geometry.{leb_size};
 ghost use Rattle.ubi_media.specs.Record.{rec_fault, usable};
-ghost use Rattle.ubi_volume.specs.Meant.{Fits, IsVolume};
-ghost use Rattle.ubi_volume.specs.Reading.{IsLebRead, leb_read, leb_text, pieces, read_leb, share};
+ghost use Rattle.ubi_volume.specs.Meant.{Fits, IsVolume, pieces, share};
+ghost use Rattle.ubi_volume.specs.Reading.{IsLebRead, leb_read, leb_text, read_leb};
 ghost use Rattle.ubi_volume.specs.declared.errors.ReadError.TheVariants.{NoVolume};
 
 use crate::content::{Bytes, Content, Volume};

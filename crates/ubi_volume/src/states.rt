@@ -2,7 +2,8 @@
 
 ghost use Rattle.std.specs.Prelude.{◌↔◌, IsTrue};
 ghost use Rattle.ubi_scan.specs.Members.{leb_of};
-ghost use Rattle.ubi_volume.specs.States.{IsOutside, MemberStateIs};
+ghost use Rattle.ubi_volume.specs.Attached.{IsOutside};
+ghost use Rattle.ubi_volume.specs.inner.Surveying.{MemberStateIs};
 
 use crate::attached::BlockState;
 use ubi_media::{LAYOUT_VOLUME, MOST_VOLUMES, VidHeader, VolKind};

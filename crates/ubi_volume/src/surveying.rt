@@ -9,9 +9,10 @@ ghost use Rattle.ubi_scan.specs.Source.{WhereHeld, blocks_in, blocks_of};
 ghost use Rattle.ubi_scan.specs.Stream.{IsReadFault, IsScanOf, after};
 ghost use Rattle.ubi_table.specs.Stream.{IsTableOf};
 ghost use Rattle.ubi_volume.specs.Accepts.{IsAttachError};
+ghost use Rattle.ubi_volume.specs.Attached.{StateIs};
+ghost use Rattle.ubi_volume.specs.inner.Surveying.{MemberStateIs, AreStatesOf, IsStatesError};
 ghost use Rattle.ubi_volume.specs.Places.{ArePlacesError};
-ghost use Rattle.ubi_volume.specs.States.{MemberStateIs, StateIs};
-ghost use Rattle.ubi_volume.specs.Survey.{AreStatesOf, IsStatesError, IsSurvey, IsSurveyOf};
+ghost use Rattle.ubi_volume.specs.Survey.{IsSurvey, IsSurveyOf};
 
 use crate::attached::BlockState;
 use crate::checking::check_winners_from;

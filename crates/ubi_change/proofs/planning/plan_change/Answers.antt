@@ -9,12 +9,12 @@ use Rattle.ubi_table.specs.Records.{Records}
 use Rattle.ubi_volume.specs.Survey.{IsSurvey}
 use Rattle.ubi_volume.specs.declared.content.Volume.{Volume}
 use Rattle.ubi_change.specs.Cuts.{SurvivesCuts}
-use Rattle.ubi_change.specs.Making.{ArePlaces, AreWithin, image_causes, own_causes, steps_on}
-use Rattle.ubi_change.specs.Planned.{IsPlan}
-use Rattle.ubi_change.specs.Refused.{IsChangeRefusal, first_of}
+use Rattle.ubi_change.specs.Fitting.{AllFit}
+use Rattle.ubi_change.specs.inner.Making.{ArePlaces, AreWithin, image_causes, own_causes, steps_on}
+use Rattle.ubi_change.specs.Planned.{IsPlan, IsChangeRefusal}
+use Rattle.ubi_change.specs.Refused.{first_of}
 use Rattle.ubi_change.specs.declared.planning.Target.{Target}
 use Rattle.ubi_media.proofs.Padding.{half_pad, reserved_within}
-use Rattle.ubi_change.specs.Steps.{AllFit}
 use Rattle.ubi_change.proofs.CopyFits.{bytes-each}
 use Rattle.ubi_change.proofs.PlanFits.{plan_fits}
 use Rattle.ubi_change.specs.Frugal.{IsFrugal}

@@ -1,7 +1,7 @@
 use Rattle.std.proofs.Common.{ap, sym, ◌∙◌}
 use Rattle.std.proofs.lemmas.Result.{on_ok_weaker}
-use Rattle.ubi_change.specs.Headers.{next_ec}
-use Rattle.ubi_change.specs.Making.{shown}
+use Rattle.ubi_change.specs.inner.Making.{shown}
+use Rattle.ubi_change.specs.Plan.{next_ec}
 use Rattle.ubi_change.proofs.Pushed.{mount_pushed}
 use Rattle.ubi_scan.specs.Image.{eraseblocks}
 use Rattle.ubi_change.proofs.pushing.push_mount.Goals as goal

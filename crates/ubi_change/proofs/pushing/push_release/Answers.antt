@@ -1,6 +1,6 @@
 use Rattle.std.proofs.Common.{sym, ◌∙◌}
 use Rattle.std.proofs.lemmas.Result.{on_ok_weaker}
-use Rattle.ubi_change.specs.Making.{shown}
+use Rattle.ubi_change.specs.inner.Making.{shown}
 use Rattle.ubi_change.proofs.Pushed.{release_pushed}
 use Rattle.ubi_scan.specs.Image.{eraseblocks}
 use Rattle.ubi_change.proofs.pushing.push_release.Goals as goal

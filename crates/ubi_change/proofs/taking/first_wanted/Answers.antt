@@ -1,6 +1,6 @@
 use Rattle.std.proofs.Common.{◌∙◌, sym}
 use Rattle.ubi_scan.specs.Image.{eraseblocks}
-use Rattle.ubi_change.specs.Making.{is_wanted}
+use Rattle.ubi_change.specs.inner.Making.{is_wanted}
 use Rattle.ubi_change.specs.Takeable.{is_takeable}
 use Rattle.ubi_change.proofs.Taken.{found_more, found_same}
 use Rattle.ubi_change.proofs.taking.first_wanted.Goals as goal

@@ -1,6 +1,6 @@
 use Rattle.std.proofs.Common.{◌≡◌}
 use Rattle.ubi_scan.specs.Image.{eraseblocks}
-use Rattle.ubi_change.specs.Making.{first_two, is_wanted}
+use Rattle.ubi_change.specs.inner.Making.{first_two, is_wanted}
 use Rattle.ubi_change.specs.Takeable.{is_takeable}
 use Rattle.ubi_change.proofs.Taken.{passing}
 use Rattle.ubi_change.proofs.taking.first_wanted.Given as goal

@@ -1,5 +1,6 @@
 use Rattle.std.proofs.Common.{◌≡◌}
-use Rattle.ubi_compose.specs.Compared.{AreSameLebs, WhereBothHeld}
+use Rattle.ubi_compose.specs.Compared.{WhereBothHeld}
+use Rattle.ubi_compose.specs.inner.Comparing.{AreSameLebs}
 use Rattle.ubi_compose.proofs.matching.same_lebs.Given as goal
 
 abbrev pub invariant-loop-lnum : goal.invariant-loop-lnum

@@ -8,7 +8,7 @@ use Rattle.ubi_media.specs.declared.record.VolumeRecord.{VolumeRecord}
 use Rattle.ubi_scan.specs.Source.{Source}
 use Rattle.ubi_table.specs.Records.{AreRecords, Records}
 use Rattle.ubi_volume.proofs.Gathered.{listed_at}
-use Rattle.ubi_compose.specs.Compared.{TellsVolume}
+use Rattle.ubi_compose.specs.inner.Comparing.{TellsVolume}
 use Rattle.ubi_compose.proofs.SamePlaces.{all_same, one_other, one_same}
 use Rattle.ubi_compose.proofs.matching.same_volumes.Goals as goal
 

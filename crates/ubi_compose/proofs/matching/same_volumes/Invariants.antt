@@ -1,6 +1,7 @@
 use Rattle.std.proofs.Common.{◌≡◌, take}
 use Rattle.std.specs.FinMap as finite
-use Rattle.ubi_compose.specs.Compared.{OfMeanings, WhereBothHeld}
+use Rattle.ubi_compose.specs.Compared.{WhereBothHeld}
+use Rattle.ubi_compose.specs.inner.Comparing.{OfMeanings}
 use Rattle.ubi_compose.proofs.matching.same_volumes.Given as goal
 
 abbrev pub invariant-loop-listed : goal.invariant-loop-listed

@@ -1,8 +1,8 @@
 use Rattle.std.proofs.Common.{◌∙◌, arith}
 use Rattle.std.proofs.lemmas.Result.{err_from_is_err_and}
 use Rattle.ubi_media.proofs.Padding.{reserved_within}
-use Rattle.ubi_compose.specs.Streamed.{dynamic_text, volume_text}
 use Rattle.ubi_volume.specs.Wrote.{All, IsWroteError, Wrote}
+use Rattle.ubi_compose.specs.inner.Streaming.{dynamic_text, volume_text}
 use Rattle.ubi_compose.proofs.DynamicPlaces.{dynamic_all, dynamic_failed, dynamic_wrote, first_lebs}
 use Rattle.ubi_compose.proofs.StoredVolume.{counted_below, next_few}
 use Rattle.ubi_volume.proofs.Received.{wrote_as}

@@ -1,8 +1,8 @@
 use Rattle.std.proofs.Common.{◌≡◌, ◌+◌, ◌*◌, ◌<◌, ◌∙◌, ap, subst, arith}
 use Rattle.std.proofs.lemmas.Result.{err_from_is_err_and}
-use Rattle.ubi_compose.specs.Streamed.{static_text, volume_text}
 use Rattle.ubi_volume.specs.Extract.{share_len}
 use Rattle.ubi_volume.specs.Wrote.{All, IsWroteError, Wrote}
+use Rattle.ubi_compose.specs.inner.Streaming.{static_text, volume_text}
 use Rattle.ubi_compose.proofs.StaticPlaces.{first_pieces, static_all, static_found, static_failed, static_wrote}
 use Rattle.ubi_volume.proofs.Received.{wrote_as}
 use Rattle.ubi_compose.proofs.stored.put_static.Goals as goal

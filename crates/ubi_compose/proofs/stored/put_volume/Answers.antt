@@ -1,8 +1,8 @@
 use Rattle.std.proofs.Common.{◌≡◌, ◌∙◌, [], ap, arith}
 use Rattle.std.proofs.lemmas.Result.{IfOk-weaker}
 use Rattle.ubi_media.proofs.Padding.{reserved_some}
+use Rattle.ubi_compose.specs.inner.Streaming.{laid_text, volume_text}
 use Rattle.ubi_compose.specs.Normal.{damaged_block}
-use Rattle.ubi_compose.specs.Streamed.{laid_text, volume_text}
 use Rattle.ubi_volume.specs.Wrote.{All, NotAll}
 use Rattle.ubi_compose.proofs.StoredVolume.{damaged_text, more_blocks, reserved_of, updating_text}
 use Rattle.ubi_volume.proofs.Received.{wrote_as, wrote_none}

@@ -8,8 +8,8 @@ use Rattle.ubi_media.specs.declared.record.VolumeRecord.{VolumeRecord}
 use Rattle.ubi_media.proofs.Padding.{reserved_within}
 use Rattle.ubi_table.specs.Records.{AreRecords, Records}
 use Rattle.ubi_volume.proofs.Gathered.{listed_at}
-use Rattle.ubi_compose.specs.Streamed.{volume_text, volumes_text}
 use Rattle.ubi_volume.specs.Wrote.{All, IsWroteError, Wrote}
+use Rattle.ubi_compose.specs.inner.Streaming.{volume_text, volumes_text}
 use Rattle.ubi_compose.proofs.StoredVolumes.{few_records, first_volumes, volume_few, volumes_all, volumes_failed, volumes_wrote}
 use Rattle.ubi_volume.proofs.Received.{wrote_as}
 use Rattle.ubi_compose.proofs.streaming.put_volumes.Goals as goal

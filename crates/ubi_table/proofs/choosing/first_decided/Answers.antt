@@ -2,9 +2,8 @@ use Rattle.std.proofs.Common.{◌≡◌, ◌∙◌, ap, subst, arith}
 use Rattle.std.specs.Prelude.{IfSome}
 use Rattle.std.proofs.lemmas.Result.{err_from_is_err_and}
 use Rattle.ubi_scan.specs.Source.{Source, blocks_of}
+use Rattle.ubi_table.specs.inner.OneCopy.{IsCopyOfError, IsCopyTable}
 use Rattle.ubi_table.specs.Records.{HasSpace}
-use Rattle.ubi_table.specs.Stream.{IsCopyOfError}
-use Rattle.ubi_table.specs.Table.{IsCopyTable}
 use Rattle.ubi_table.proofs.Deciding.{NoneDecides, both_corrupt, none_more, table_chosen}
 use Rattle.ubi_table.proofs.Streamed.{error_of_copy}
 use Rattle.ubi_table.proofs.choosing.first_decided.Goals as goal

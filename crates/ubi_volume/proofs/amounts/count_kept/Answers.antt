@@ -1,6 +1,6 @@
 use Rattle.std.proofs.Common.{◌≡◌, ◌∙◌, ℕ, ap, arith, refl, subst}
 use Rattle.ubi_scan.specs.Source.{Source, blocks_of}
-use Rattle.ubi_volume.specs.Amounts.{AreKept}
+use Rattle.ubi_volume.specs.inner.Gathered.{AreKept}
 use Rattle.ubi_volume.proofs.AmountAt.{none_kept, none_more, one_kept}
 use Rattle.ubi_volume.proofs.amounts.count_kept.Goals as goal
 use Rattle.ubi_volume.proofs.amounts.count_kept.Goals.{else-branch, then-branch}

@@ -1,6 +1,6 @@
 use Rattle.std.proofs.Common.{◌≡◌, ◌≤◌}
 use Rattle.ubi_scan.specs.Source.{WhereHeld, blocks_of}
-use Rattle.ubi_volume.specs.Amounts.{AreKept}
+use Rattle.ubi_volume.specs.inner.Gathered.{AreKept}
 use Rattle.ubi_volume.proofs.amounts.count_kept.Given as goal
 
 abbrev pub invariant-loop-lnum : goal.invariant-loop-lnum

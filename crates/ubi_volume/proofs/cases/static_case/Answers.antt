@@ -1,7 +1,7 @@
 use Rattle.std.proofs.Common.{◌≡◌, ◌∙◌, ap, sym, subst, arith}
 use Rattle.ubi_media.proofs.Records.{usable_some}
 use Rattle.ubi_scan.specs.Source.{Source, blocks_of}
-use Rattle.ubi_volume.specs.Cases.{PieceSizeIs, SizeIsRead}
+use Rattle.ubi_volume.specs.inner.Cases.{PieceSizeIs, SizeIsRead}
 use Rattle.ubi_volume.proofs.CaseSizes.{damaged_case, no_piece, size_more, size_none, static_case}
 use Rattle.ubi_volume.proofs.Either.{are_lebs}
 use Rattle.ubi_volume.proofs.Static.{damaged_behind, damaged_large, damaged_piece}

@@ -1,6 +1,6 @@
 use Rattle.std.proofs.Common.{sym, subst}
 use Rattle.ubi_scan.specs.Source.{blocks_of}
-use Rattle.ubi_volume.specs.Counted.{WinnerHeaderIs}
+use Rattle.ubi_volume.specs.inner.Headers.{WinnerHeaderIs}
 use Rattle.ubi_volume.proofs.Mismatches.{by_both, mismatch_by_header, never, no_record_no_mismatch, no_winner_no_mismatch}
 use Rattle.ubi_volume.proofs.checking.is_mismatched.Goals as goal
 

@@ -1,6 +1,7 @@
 use Rattle.std.proofs.Common.{◌≡◌, ◌+◌, ◌*◌, length, length-take-le, take, ◌∙◌, arith}
 use Rattle.std.proofs.lemmas.Result.{err_from_is_err_and}
-use Rattle.ubi_volume.specs.Extract.{leb_at, share_len}
+use Rattle.ubi_volume.specs.Extract.{share_len}
+use Rattle.ubi_volume.specs.inner.Pieces.{leb_at}
 use Rattle.ubi_volume.specs.Wrote.{All, IsWroteError, Wrote}
 use Rattle.ubi_volume.proofs.Extracted.{lebs_failed, lebs_wrote}
 use Rattle.ubi_volume.proofs.extracting.write_lebs.Goals as goal

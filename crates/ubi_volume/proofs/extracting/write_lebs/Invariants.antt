@@ -1,5 +1,5 @@
 use Rattle.std.proofs.Common.{◌≡◌, ◌*◌, ◌≤◌}
-use Rattle.ubi_volume.specs.Extract.{lebs_at}
+use Rattle.ubi_volume.specs.inner.Pieces.{lebs_at}
 use Rattle.ubi_volume.specs.Wrote.{All, Wrote}
 use Rattle.ubi_volume.proofs.extracting.write_lebs.Given as goal
 

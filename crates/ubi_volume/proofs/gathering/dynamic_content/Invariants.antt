@@ -1,5 +1,5 @@
 use Rattle.ubi_scan.specs.Image.{eraseblocks}
-use Rattle.ubi_volume.specs.Gathered.{AreGathered}
+use Rattle.ubi_volume.specs.inner.Gathered.{AreGathered}
 use Rattle.ubi_volume.proofs.gathering.dynamic_content.Given as goal
 
 abbrev pub invariant-loop-lnum : goal.invariant-loop-lnum

@@ -5,7 +5,7 @@ use Rattle.ubi_media.specs.Geometry.{Sizes}
 use Rattle.ubi_media.specs.declared.record.VolumeRecord.{VolumeRecord}
 use Rattle.ubi_scan.specs.Image.{eraseblocks}
 use Rattle.ubi_table.specs.Table.{IsTable}
-use Rattle.ubi_volume.specs.Gathered.{AreContents}
+use Rattle.ubi_volume.specs.inner.Gathered.{AreContents}
 use Rattle.ubi_volume.specs.Means.{Means}
 use Rattle.ubi_volume.proofs.Gathered.{are_volumes, contents_mean, contents_more, listed_at}
 use Rattle.ubi_volume.proofs.Tables.{recorded_sound}

@@ -1,6 +1,6 @@
 use Rattle.std.proofs.Common.{take, vec_items}
 use Rattle.ubi_scan.specs.Image.{eraseblocks}
-use Rattle.ubi_volume.specs.Gathered.{AreContents}
+use Rattle.ubi_volume.specs.inner.Gathered.{AreContents}
 use Rattle.ubi_volume.proofs.gathering.gather.Given as goal
 
 abbrev pub invariant-loop-listed : goal.invariant-loop-listed

@@ -1,4 +1,4 @@
-use Rattle.ubi_volume.specs.Made.{NoneBelow}
+use Rattle.ubi_volume.specs.inner.Making.{NoneBelow}
 use Rattle.ubi_volume.proofs.making.same_name.Given as goal
 
 abbrev pub invariant-loop-i : goal.invariant-loop-i

@@ -2,7 +2,7 @@ use Rattle.std.proofs.Common.{◌∙◌, ap, subst}
 use Rattle.std.proofs.lemmas.Result.{err_from_is_err_and}
 use Rattle.ubi_scan.specs.Source.{Source}
 use Rattle.ubi_table.specs.Stream.{IsTableOf}
-use Rattle.ubi_volume.specs.Cases.{IsContentsError}
+use Rattle.ubi_volume.specs.inner.Cases.{IsContentsError}
 use Rattle.ubi_volume.proofs.PlacesOf.{are_listed, are_places, contents_refused}
 use Rattle.ubi_volume.proofs.places.attach_places.Goals as goal
 

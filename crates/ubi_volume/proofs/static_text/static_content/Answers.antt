@@ -1,6 +1,6 @@
 use Rattle.std.proofs.Common.{◌≡◌, ℕ, sym, subst, ◌∙◌, arith}
 use Rattle.ubi_scan.specs.Image.{eraseblocks}
-use Rattle.ubi_volume.specs.Gathered.{AreRead}
+use Rattle.ubi_volume.specs.inner.Gathered.{AreRead}
 use Rattle.ubi_volume.proofs.Alike.{short_piece}
 use Rattle.ubi_volume.proofs.Static.{damaged_behind, damaged_is, damaged_large, damaged_piece, read_more, static_is}
 use Rattle.ubi_volume.proofs.Winners.{found_wins, next_none, next_some, none_found}

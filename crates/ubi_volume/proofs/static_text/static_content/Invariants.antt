@@ -1,6 +1,6 @@
 use Rattle.std.proofs.Common.{vec_items}
 use Rattle.ubi_scan.specs.Image.{eraseblocks}
-use Rattle.ubi_volume.specs.Gathered.{AreRead}
+use Rattle.ubi_volume.specs.inner.Gathered.{AreRead}
 use Rattle.ubi_volume.proofs.static_text.static_content.Given as goal
 
 abbrev pub invariant-loop-lnum : goal.invariant-loop-lnum

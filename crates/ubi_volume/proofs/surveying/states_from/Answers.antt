@@ -1,7 +1,7 @@
 use Rattle.std.proofs.Common.{◌≡◌, ◌+◌, ◌≤◌, ◌∙◌, [], ◌∷◌, ◌++◌, length, length-append, ap, sym, arith}
 use Rattle.ubi_scan.specs.Source.{Source, blocks_in, blocks_of}
 use Rattle.ubi_scan.proofs.ReadParts.{count_blocks}
-use Rattle.ubi_volume.specs.States.{StateIs}
+use Rattle.ubi_volume.specs.Attached.{StateIs}
 use Rattle.ubi_volume.proofs.MemberStates.{states_more}
 use Rattle.ubi_volume.proofs.surveying.states_from.Goals as goal
 

@@ -1,7 +1,7 @@
 use Rattle.std.proofs.Common.{◌≡◌, ℕ, vec_items}
 use Rattle.std.specs.Prelude.{IfSome, length, slice_get}
 use Rattle.ubi_scan.specs.Source.{WhereHeld, blocks_of}
-use Rattle.ubi_volume.specs.States.{StateIs}
+use Rattle.ubi_volume.specs.Attached.{StateIs}
 use Rattle.ubi_volume.proofs.surveying.states_from.Given as goal
 
 -- each of the eraseblocks so far has its state

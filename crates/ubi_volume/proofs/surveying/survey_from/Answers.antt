@@ -2,8 +2,8 @@ use Rattle.std.proofs.Common.{◌∙◌, ap, subst}
 use Rattle.std.proofs.lemmas.Result.{err_from_is_err_and}
 use Rattle.ubi_scan.specs.Source.{Source}
 use Rattle.ubi_table.specs.Stream.{IsTableOf}
-use Rattle.ubi_volume.specs.Cases.{IsMismatchError}
-use Rattle.ubi_volume.specs.Survey.{AreStatesOf}
+use Rattle.ubi_volume.specs.inner.Cases.{IsMismatchError}
+use Rattle.ubi_volume.specs.inner.Surveying.{AreStatesOf}
 use Rattle.ubi_volume.proofs.PlacesOf.{winners_refused}
 use Rattle.ubi_volume.proofs.SurveyOf.{is_survey}
 use Rattle.ubi_volume.proofs.surveying.survey_from.Goals as goal

@@ -3,7 +3,7 @@ use Rattle.std.specs.Prelude.{None, Some, slice_get, slice_set}
 use Rattle.std.proofs.lemmas.List.Elements.{All-get_or}
 use Rattle.std.proofs.lemmas.Option.{slice_get_read}
 use Rattle.ubi_media.specs.Record.{rec_fault}
-use Rattle.ubi_compose.specs.Drafts.{changed, place_of, with_line}
+use Rattle.ubi_compose.specs.inner.Drafts.{changed, place_of, with_line}
 use Rattle.ubi_compose.specs.Lines.{volume_of}
 use Rattle.ubi_compose.proofs.Changes.{change_answer, changed_is, drafts_kept, within_place}
 use Rattle.ubi_compose.proofs.drafts.Drafts.change.Goals as goal

@@ -1,15 +1,14 @@
--- What private functions give on the way to a plan. No public contract cites these definitions.
-use Rattle.std.specs.Prelude.{◌≡◌, ℕ, ◌+◌, ◌^◌, ◌<◌, Bool, not, if◌then◌else◌, List, [], ◌∷◌, ◌++◌, length, nat_lt, Option, Some, None, option_map, slice_get}
+-- What private functions give on the way to a plan.
+use Rattle.std.specs.Prelude.{◌≡◌, ◌/◌, ◌<◌, length, ℕ, ◌+◌, ◌^◌, Bool, not, if◌then◌else◌, List, [], ◌∷◌, ◌++◌, nat_lt, Option, Some, None, option_map, slice_get}
 use Rattle.std.specs.Bool.{then_some}
 use Rattle.std.specs.FinMap.{empty, get}
 use Rattle.ubi_media.specs.Geometry.{Sizes}
 use Rattle.ubi_media.specs.Record.{usable}
 use Rattle.ubi_media.specs.declared.record.VolumeRecord.{VolumeRecord}
-use Rattle.ubi_volume.specs.declared.attached.BlockState.{BlockState}
 use Rattle.ubi_volume.specs.Attached.{Whole}
 use Rattle.ubi_volume.specs.Survey.{Seen}
-use Rattle.ubi_change.specs.Headers.{blank_header, copy_header}
-use Rattle.ubi_change.specs.Plan.{atomic_copy, mount, needs, ready_ec, taken}
+use Rattle.ubi_volume.specs.declared.attached.BlockState.{BlockState}
+use Rattle.ubi_change.specs.Plan.{blank_header, copy_header, atomic_copy, mount, needs, ready_ec, taken}
 use Rattle.ubi_change.specs.Refused.{first_of, is_bad_length, is_static}
 use Rattle.ubi_change.specs.Takeable.{ec_at, is_clean, takeable}
 use Rattle.ubi_change.specs.Weak.{weak_place}
@@ -19,7 +18,13 @@ use Rattle.ubi_change.specs.declared.planning.Target.{Target}
 use Rattle.ubi_change.specs.declared.refusal.ChangeRefusal.{ChangeRefusal}
 use Rattle.ubi_change.specs.declared.refusal.ChangeRefusal.TheVariants as refusal
 use Rattle.ubi_change.specs.declared.step.Step.{Step}
+use Rattle.ubi_change.specs.declared.step.Step.TheVariants as step
 use Rattle.ubi_change.specs.declared.taking.FirstTwo.{FirstTwo}
+
+-- what a step needs of its eraseblock: a program's page lies there, and its bytes are one page
+abbrev pub FitsBlock : Sizes → Step → Type 0
+FitsBlock s (step.Erase p) = Unit {0}
+FitsBlock s (step.Program p page bytes) = (page < s.peb_size / s.page) × (length bytes ≡ s.page)
 
 -- what an attach shows of an image that is surveyed, but for the volumes that it means: the steps don't depend on them
 abbrev pub shown : Seen → Whole

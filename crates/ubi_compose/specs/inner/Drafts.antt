@@ -1,22 +1,22 @@
 -- Reading line by line: what a line makes of the volumes that the lines above it give.
-use Rattle.std.specs.Prelude.{◌≡◌, ℕ, ◌==◌, Bool, true, false, nat_lt, if◌then◌else◌, List, [], ◌∷◌, ◌++◌, length, map, Option, None, Result, Ok, Err, is_some, slice_get, slice_set}
-use Rattle.std.specs.BTreeMap as tree
+use Rattle.std.specs.Prelude.{◌≡◌, Result, Err, ℕ, ◌==◌, Bool, true, false, nat_lt, if◌then◌else◌, List, [], ◌∷◌, ◌++◌, length, map, Option, None, Ok, is_some, slice_get, slice_set}
 use Rattle.std.specs.BTreeMap.{BTreeMap, IsOrdered}
+use Rattle.std.specs.BTreeMap as tree
 use Rattle.std.specs.Coded.{Coded, coded×, coded_list, coded_ℕ}
+use Rattle.std.specs.FinMap.{FinMap, entries, get, insert}
 use Rattle.std.specs.List.{All, position_from}
 use Rattle.std.specs.Option.{option_map_or}
-use Rattle.std.specs.FinMap.{FinMap, entries, get, insert}
 use Rattle.std.specs.Ordering.{nat_cmp}
 use Rattle.std.specs.Result.{result_map_both}
 use Rattle.ubi_media.specs.Fields.{filled}
 use Rattle.ubi_media.specs.Geometry.{Sizes}
 use Rattle.ubi_media.specs.Record.{rec_fault, usable}
 use Rattle.ubi_media.specs.declared.record.VolumeRecord.{VolumeRecord}
+use Rattle.ubi_volume.specs.Made.{Items}
 use Rattle.ubi_volume.specs.declared.content.Content.{Content}
 use Rattle.ubi_volume.specs.declared.content.Content.TheVariants as content
 use Rattle.ubi_volume.specs.declared.content.Volume.{Volume}
 use Rattle.ubi_volume.specs.contracts.content.Volume as volume_type
-use Rattle.ubi_volume.specs.Made.{Items}
 use Rattle.ubi_compose.specs.Lines.{◌>>=◌, is_skipped, line_of, volume_of}
 use Rattle.ubi_compose.specs.Spec.{volume_from}
 use Rattle.ubi_compose.specs.declared.errors.LineError.{LineError}
@@ -27,6 +27,11 @@ use Rattle.ubi_compose.specs.declared.errors.SpecError.{SpecError}
 use Rattle.ubi_compose.specs.declared.errors.SpecError.TheVariants as error
 use Rattle.ubi_compose.specs.declared.line.Line.{Line}
 use Rattle.ubi_compose.specs.declared.line.Line.TheVariants as line
+
+-- why a line isn't read by itself
+abbrev pub IsLineError : Result Line SpecCause → LineError → Type 0
+IsLineError r (line_error.Cause c) = r ≡ Err c
+IsLineError r line_error.Memory = Unit {0}
 
 -- nothing was given yet
 abbrev pub is_empty : Content → Bool

@@ -1,6 +1,6 @@
 -- What is gathered of a volume, piece by piece.
-use Rattle.std.specs.Prelude.{◌≡◌, ◌≢◌, ℕ, ◌<◌, ◌≤◌, ◌⊎◌, List, Option, None, All, IfSome, MatchOption, length, map, unwrap_or, flat_map, slice_index}
-use Rattle.std.specs.FinMap.{FinMap, get}
+use Rattle.std.specs.Prelude.{◌≡◌, ◌≢◌, ℕ, ◌<◌, ◌≤◌, ◌⊎◌, List, Option, None, All, IfSome, MatchOption, length, map, unwrap_or, flat_map, slice_index, Bool, is_some}
+use Rattle.std.specs.FinMap.{FinMap, get, entries}
 use Rattle.std.specs.Option.{option_map_or}
 use Rattle.std.specs.Ordering.{nat_cmp}
 use Rattle.ubi_media.specs.Fields.{blank}
@@ -9,8 +9,8 @@ use Rattle.ubi_media.specs.Record.{usable}
 use Rattle.ubi_media.specs.declared.record.VolumeRecord.{VolumeRecord}
 use Rattle.ubi_scan.specs.Image.{block}
 use Rattle.ubi_scan.specs.Members.{NoMember, Wins, member}
+use Rattle.ubi_volume.specs.Means.{IsPiece, LebReads, VolumeReads, piece}
 use Rattle.ubi_volume.specs.Meant.{Fits, KeepsNoBlank}
-use Rattle.ubi_volume.specs.Reads.{IsPiece, LebReads, VolumeReads, piece}
 use Rattle.ubi_volume.specs.declared.content.Content.{Content}
 use Rattle.ubi_volume.specs.declared.content.Volume.{Volume}
 
@@ -58,3 +58,12 @@ pub record AreRead (s : Sizes) (bs : List (List ℕ)) (vol used n : ℕ) (text :
 pub record AreContents (s : Sizes) (bs : List (List ℕ)) (entries : List (ℕ × VolumeRecord)) (volumes : List (ℕ × Volume)) : Type 0 where
   pub alike : map (λ v. (v.0, v.1.entry)) volumes ≡ entries
   pub contents : All (λ v. ContentIs s bs v.0 v.1.entry v.1.content) volumes
+
+-- whether a text is kept of a LEB
+abbrev pub IsKept : Sizes → List (List ℕ) → ℕ → VolumeRecord → ℕ → Bool → Type 0
+IsKept s bs vol r lnum kept = (text : Option (List ℕ)) × LebKept s bs vol r lnum text × (kept ≡ is_some text)
+
+-- of how many of the first n LEBs
+abbrev pub AreKept : Sizes → List (List ℕ) → ℕ → VolumeRecord → ℕ → ℕ → Type 0
+AreKept s bs vol r n count =
+    (lebs : FinMap nat_cmp (List ℕ)) × AreGathered s bs vol r n lebs × (count ≡ length (entries lebs))

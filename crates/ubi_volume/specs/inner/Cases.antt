@@ -7,8 +7,8 @@ use Rattle.ubi_scan.specs.Stream.{IsReadFault}
 use Rattle.ubi_scan.specs.declared.errors.StreamError.{StreamError}
 use Rattle.ubi_scan.specs.declared.errors.StreamError.TheVariants as stream
 use Rattle.ubi_table.specs.Records.{Records}
-use Rattle.ubi_volume.specs.Counted.{IsVolumeFault}
-use Rattle.ubi_volume.specs.Gathered.{AreContents, AreRead, ContentIs, PieceIs}
+use Rattle.ubi_volume.specs.Accepts.{IsVolumeFault}
+use Rattle.ubi_volume.specs.inner.Gathered.{AreContents, AreRead, ContentIs, PieceIs}
 use Rattle.ubi_volume.specs.Places.{IsReserved, case_of}
 use Rattle.ubi_volume.specs.declared.content.Content.{Content}
 use Rattle.ubi_volume.specs.declared.content.Volume.{Volume}

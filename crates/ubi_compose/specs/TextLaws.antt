@@ -1,0 +1,17 @@
+-- What a text comes to, and the law that the text alone tells it.
+use Rattle.std.specs.Prelude.{◌≡◌, ℕ, List, None, Result, Ok, Err}
+use Rattle.ubi_media.specs.Geometry.{Sizes}
+use Rattle.ubi_volume.specs.Made.{IsFirst, NoCause, meaning_of}
+use Rattle.ubi_volume.specs.Meant.{Meant}
+use Rattle.ubi_volume.specs.declared.errors.MeaningCause.{MeaningCause}
+use Rattle.ubi_compose.specs.Spec.{first_cause, volumes_of}
+
+-- what a text without a line at fault comes to: the meaning of its volumes, or the first cause for which they have none
+abbrev pub ComesTo : Sizes → List ℕ → Result Meant MeaningCause → Type 0
+ComesTo s text (Ok m) =
+    (first_cause s text ≡ None) × NoCause s (volumes_of s text) × (m ≡ meaning_of s (volumes_of s text))
+ComesTo s text (Err c) = (first_cause s text ≡ None) × IsFirst s (volumes_of s text) c
+
+-- that is told by the text alone
+abbrev pub OneAnswer : Type 0
+OneAnswer = (s : Sizes) (text : List ℕ) (a b : Result Meant MeaningCause) → ComesTo s text a → ComesTo s text b → a ≡ b

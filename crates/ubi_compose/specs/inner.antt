@@ -1,0 +1,4 @@
+-- Definitions that only private functions' contracts and proofs cite.
+pub mod Comparing
+pub mod Drafts
+pub mod Streaming

@@ -1,0 +1,21 @@
+-- What one more eraseblock adds to the numbers of all.
+use Rattle.std.specs.Prelude.{ℕ, ◌==◌, if◌then◌else◌, option_and_then, unwrap_or}
+use Rattle.std.specs.Option.{option_map_or}
+use Rattle.ubi_media.specs.declared.ec.EcRead.{EcRead}
+use Rattle.ubi_media.specs.declared.vid.VidRead.{VidRead}
+use Rattle.ubi_scan.specs.Members.{header_if}
+use Rattle.ubi_scan.specs.Numbers.{valid_ec, sqnum_in_use}
+
+-- what one more eraseblock adds to these numbers: the first of two image sequence numbers that isn't zero, the counter
+-- of its EC, and its sequence number
+abbrev pub first_seq : ℕ → ℕ → ℕ
+first_seq known seq = if known == 0 then seq else known
+
+abbrev pub counter_if : EcRead → ℕ
+counter_if e = option_map_or (λ h. h.counter) (valid_ec e) 0
+
+abbrev pub counted_if : EcRead → ℕ
+counted_if e = option_map_or (λ _. 1) (valid_ec e) 0
+
+abbrev pub sqnum_if : EcRead → VidRead → ℕ
+sqnum_if e v = unwrap_or (option_and_then sqnum_in_use (header_if e v)) 0

@@ -1,0 +1,25 @@
+-- What a meaning keeps of its volumes, and how it is stored.
+use Rattle.std.specs.Prelude.{ℕ, IsTrue, List, refl}
+use Rattle.std.specs.Coded.{Coded, code_by, coded×, coded_ℕ}
+use Rattle.std.specs.FinMap.{from_entries, is_sorted, code}
+use Rattle.std.specs.Ordering.{nat_cmp}
+use Rattle.ubi_media.specs.Geometry.{Sizes}
+use Rattle.ubi_table.specs.Coded.{sizes_code}
+use Rattle.ubi_volume.specs.Meant.{VolumeMap, Meant, IsMeaning}
+use Rattle.ubi_volume.specs.declared.content.Volume.{Volume}
+use Rattle.ubi_volume.specs.contracts.content.Volume as volume_type
+
+-- volumes are stored by their number
+abbrev pub volumes_code : Coded VolumeMap
+volumes_code = code coded_ℕ volume_type.the_row.coded
+
+-- and a meaning with its sizes
+abbrev pub meant_code : Coded Meant
+meant_code =
+    code_by (Sizes × VolumeMap) (coded× sizes_code volumes_code) (λ m. (m.sizes, m.volumes))
+    (λ p. record { sizes = p.0; volumes = p.1 }) (λ _. refl)
+
+-- what a meaning keeps of its volumes: they stand by rising number
+pub record AreVolumes (s : Sizes) (items : List (ℕ × Volume)) : Type 0 where
+  pub sorted : IsTrue (is_sorted nat_cmp items)
+  pub meaning : IsMeaning (record { sizes = s; volumes = from_entries items })
