@@ -6,11 +6,13 @@ use Rattle.std.specs.FinMap as finite
 use Rattle.std.specs.FinMap.{FinMap, nat_cmp-IsAntisymmetric}
 use Rattle.std.specs.Option.{option_map_or}
 use Rattle.std.specs.Ordering.{nat_cmp}
+use Rattle.std.proofs.lemmas.Option.{same_Some}
+use Rattle.std.proofs.lemmas.Bool.{cases_eq}
 use Rattle.ubi_media.specs.Fields.{blank, filled, is_blank}
 use Rattle.ubi_media.specs.Record.{usable}
 use Rattle.ubi_media.specs.declared.record.VolumeRecord.{VolumeRecord}
 use Rattle.ubi_scan.proofs.Choice.{false_or_true}
-use Rattle.ubi_scan.proofs.Keys.{apart_test, same_or_apart, same_test}
+use Rattle.ubi_scan.proofs.Keys.{apart_test, same_test}
 use Rattle.ubi_table.specs.Records.{space}
 use Rattle.ubi_volume.specs.Meant.{IsMeaning, IsVolume, Meant, records_of}
 use Rattle.ubi_volume.specs.declared.content.Content.TheVariants as content
@@ -57,7 +59,7 @@ module _ (lebs : FinMap nat_cmp (List ℕ)) (lnum size : ℕ) (text : List ℕ) 
   -- what holds of each text that is kept, if it holds of this one where it isn't blank
   pub each_text : (P : ℕ → List ℕ → Type 0) → ((l : ℕ) → IfSome (finite.get lebs l) (P l)) → (text ≢ blank size → P lnum text)
       → (l : ℕ) → IfSome (finite.get (with_leb lebs lnum text) l) (P l)
-  each_text P old here l = elim (same_or_apart l lnum) [
+  each_text P old here l = elim (cases_eq l lnum) [
     | inl e ↦ subst (λ (k : ℕ). IfSome (finite.get (with_leb lebs lnum text) k) (P k)) (sym e) (elim leb_here [
       | inl h ↦ subst (λ (o : Option (List ℕ)). IfSome o (P lnum)) (sym h.0) tt
       | inr h ↦ subst (λ (o : Option (List ℕ)). IfSome o (P lnum)) (sym h.0) (here h.1)
@@ -99,7 +101,7 @@ module _ (m : Meant) (is : IsMeaning m) (id lnum : ℕ) (new : List ℕ) (r : Vo
 
   -- each volume of the one has its record in the other
   entries_same : (i : ℕ) → option_map (λ (v : Volume). v.entry) (finite.get next.volumes i) ≡ option_map (λ (v : Volume). v.entry) (finite.get m.volumes i)
-  entries_same i = elim (same_or_apart i id) [
+  entries_same i = elim (cases_eq i id) [
     | inl e ↦ subst (λ (k : ℕ). option_map (λ (v : Volume). v.entry) (finite.get next.volumes k) ≡ option_map (λ (v : Volume). v.entry) (finite.get m.volumes k)) (sym e)
         (ap (option_map (λ (v : Volume). v.entry)) (insert_same m.volumes id now) ∙ sym (ap (option_map (λ (v : Volume). v.entry)) was))
     | inr e ↦ ap (option_map (λ (v : Volume). v.entry)) (insert_other m.volumes id now i e)
@@ -112,19 +114,16 @@ module _ (m : Meant) (is : IsMeaning m) (id lnum : ℕ) (new : List ℕ) (r : Vo
 
   -- a volume of the one is one of the other with the same record
   was_volume : (i : ℕ) (v : Volume) → finite.get next.volumes i ≡ Some v → (w : Volume) × (finite.get m.volumes i ≡ Some w) × (w.entry ≡ v.entry)
-  was_volume i v e = elim (same_or_apart i id) [
+  was_volume i v e = elim (cases_eq i id) [
     | inl k ↦
-        let here : v ≡ now = some_same v now (sym e ∙ ap (λ (j : ℕ). finite.get next.volumes j) k ∙ insert_same m.volumes id now) in
+        let here : v ≡ now = same_Some v now (sym e ∙ ap (λ (j : ℕ). finite.get next.volumes j) k ∙ insert_same m.volumes id now) in
         (record { entry = r; content = content.Dynamic lebs }, ap (λ (j : ℕ). finite.get m.volumes j) k ∙ was, ap (λ (v : Volume). v.entry) (sym here))
     | inr k ↦ (v, sym (insert_other m.volumes id now i k) ∙ e, refl)
   ]
-    where
-      some_same : (a b : Volume) → Some a ≡ Some b → a ≡ b
-      some_same a b e = cc
 
   pub meaning_next : IsMeaning next
   meaning_next = record {
-    each = λ i. elim (same_or_apart i id) [
+    each = λ i. elim (cases_eq i id) [
       | inl e ↦ subst (λ (k : ℕ). IfSome (finite.get next.volumes k) (IsVolume m.sizes k)) (sym e) (subst (λ (o : Option Volume). IfSome o (IsVolume m.sizes id)) (sym (insert_same m.volumes id now)) volume_now)
       | inr e ↦ subst (λ (o : Option Volume). IfSome o (IsVolume m.sizes i)) (sym (insert_other m.volumes id now i e)) (is.each i)
     ];

@@ -8,6 +8,7 @@ use Rattle.std.proofs.Math.Nat.{div-add-mod, div-eq_of_lt, mod-lt}
 use Rattle.std.proofs.lemmas.Bool.Decides.{nat_tests}
 use Rattle.std.proofs.lemmas.List.{length-take-le}
 use Rattle.std.proofs.lemmas.Nat.{mul-le}
+use Rattle.std.proofs.lemmas.Bool.{cases_lt}
 use Rattle.ubi_media.specs.Check.{check}
 use Rattle.ubi_media.specs.Ec.{ec_bytes, ec_front}
 use Rattle.ubi_media.specs.Fields.{blank, filled, overwrite}
@@ -17,6 +18,7 @@ use Rattle.ubi_media.specs.declared.ec.EcHeader.{EcHeader}
 use Rattle.ubi_media.specs.declared.vid.VidHeader.{VidHeader}
 use Rattle.ubi_media.specs.declared.vid.VolKind.{VolKind}
 use Rattle.ubi_media.specs.declared.vid.VolKind.TheVariants as kind
+use Rattle.ubi_media.proofs.Cases.{zero_or_more}
 use Rattle.ubi_scan.specs.Image.{block}
 use Rattle.ubi_scan.proofs.Filled.{filled-by, filled-is, length-blank, length-filled}
 use Rattle.ubi_scan.proofs.Parts.{laid}
@@ -101,22 +103,16 @@ bytes-each (x ∷ xs) h = (h 0, bytes-each xs (λ i. h (suc i)))
 zero_front : (n : ℕ) → 0 + n - 0 ≡ n
 zero_front n = omega arith
 
-less_or_not : (a b : ℕ) → (a < b) ⊎ (b ≤ a)
-less_or_not a b = grind arith
-
 less_test : (a b : ℕ) → a < b → nat_lt a b ≡ true
 less_test a b l = grind (arith, nat_tests)
 
 not_less_test : (a b : ℕ) → b ≤ a → nat_lt a b ≡ false
 not_less_test a b l = grind (arith, nat_tests)
 
-zero_or_more : (q : ℕ) → (q ≡ 0) ⊎ (1 ≤ q)
-zero_or_more q = grind arith
-
 module _ (s : Sizes) (g : IsGeometry s) where
   -- a page that ends in the eraseblock is one of its pages
   pub page_inside : (page : ℕ) → page * s.page + s.page ≤ s.peb_size → page < s.peb_size / s.page
-  page_inside page l = elim (less_or_not page (s.peb_size / s.page)) [
+  page_inside page l = elim (cases_lt page (s.peb_size / s.page)) [
     | inl k ↦ k
     | inr k ↦
         let m = mul-le (s.peb_size / s.page) s.page page s.page k (omega arith) in
@@ -209,13 +205,13 @@ module _ (s : Sizes) (g : IsGeometry s) where
             ∙ filled-by s.page 64 ec ec_size
 
     header_clears : only_clears (page_of s (filled s.peb_size ec) (s.vid_offset / s.page)) (vid_page s ec h) ≡ true
-    header_clears = elim (less_or_not s.vid_offset s.page) [
+    header_clears = elim (cases_lt s.vid_offset s.page) [
       | inl l ↦ ap (λ t. only_clears (page_of s (filled s.peb_size ec) (s.vid_offset / s.page)) (filled s.page (filled r (cond t ec []) ++ vid_bytes h))) (less_test _ _ l) ∙ clears_beside l
       | inr l ↦ ap (λ t. only_clears (page_of s (filled s.peb_size ec) (s.vid_offset / s.page)) (filled s.page (filled r (cond t ec []) ++ vid_bytes h))) (not_less_test _ _ l) ∙ clears_apart l
     ]
 
     length-vid_page : length (vid_page s ec h) ≡ s.page
-    length-vid_page = elim (less_or_not s.vid_offset s.page) [
+    length-vid_page = elim (cases_lt s.vid_offset s.page) [
       | inl l ↦
           ap (λ t. length (filled s.page (filled r (cond t ec []) ++ vid_bytes h))) (less_test _ _ l)
           ∙ length-page ec

@@ -8,6 +8,8 @@ use Rattle.std.specs.Simd.{first_chunks}
 use Rattle.std.proofs.lemmas.Bool.Decides.{nat_tests}
 use Rattle.std.proofs.lemmas.List.{set-set, take_all}
 use Rattle.std.proofs.lemmas.List.Sums.{fold-append, sum_by-append}
+use Rattle.std.proofs.lemmas.Option.{same_Some}
+use Rattle.std.proofs.lemmas.Bool.{cases_eq}
 use Rattle.ubi_media.specs.Ec.{ec_bytes, ec_reading}
 use Rattle.ubi_media.specs.Fields.{filled}
 use Rattle.ubi_media.specs.Geometry.{IsGeometry, Sizes, leb_size}
@@ -19,7 +21,6 @@ use Rattle.ubi_media.specs.declared.ec.EcRead.TheVariants as ec_read
 use Rattle.ubi_media.specs.declared.vid.VidHeader.{VidHeader}
 use Rattle.ubi_scan.specs.Image.{Image, block, ec, eraseblocks}
 use Rattle.ubi_scan.specs.Numbers.{valid_ec}
-use Rattle.ubi_scan.proofs.Keys.{same_or_apart}
 use Rattle.ubi_scan.proofs.Parts.{ec-laid, laid}
 use Rattle.ubi_volume.proofs.Winners.{found_wins}
 use Rattle.ubi_volume.specs.Attached.{IsAttached, Whole}
@@ -90,9 +91,6 @@ valid_back ec_read.Corrupt e h = absurd (cc)
 valid_back (ec_read.Fault f) e h = absurd (cc)
 valid_back (ec_read.Valid k) e h = cc
 
-some_same : (a b : EcHeader) → Some a ≡ Some b → a ≡ b
-some_same a b e = cc
-
 module _ (s : Sizes) (g : IsGeometry s) (bs : List (List ℕ)) (a : Whole) where
   -- what the erase-counter header of an eraseblock reads after some erases
   abbrev ec_after : ℕ → ℕ → EcRead
@@ -113,7 +111,7 @@ module _ (s : Sizes) (g : IsGeometry s) (bs : List (List ℕ)) (a : Whole) where
   -- steps on one eraseblock that leave it with the header that is due
   counted_at : (front piece : List Step) (b : ℕ) (y : List ℕ) → AllCounted front → b < length bs → AllOn s b piece → done s (done s bs front) piece ≡ set (done s bs front) b y
       → ec s y ≡ ec_after b (count_by (erases b) (front ++ piece)) → AllCounted (front ++ piece)
-  counted_at front piece b y all inside on leaves due p = ap (λ (z : List (List ℕ)). ec s (block z p)) (fold-append (step_done s) bs front piece ∙ leaves) ∙ elim (same_or_apart p b) [
+  counted_at front piece b y all inside on leaves due p = ap (λ (z : List (List ℕ)). ec s (block z p)) (fold-append (step_done s) bs front piece ∙ leaves) ∙ elim (cases_eq p b) [
     | inl same ↦
         ap (λ q. ec s (block (set (done s bs front) b y) q)) same ∙ ap (ec s) (block_same s (done s bs front) b y within) ∙ due
         ∙ ap (λ q. ec_after q (count_by (erases q) (front ++ piece))) (sym same)
@@ -138,7 +136,7 @@ module _ (s : Sizes) (g : IsGeometry s) (bs : List (List ℕ)) (a : Whole) where
           → ec_read.Valid e ≡ ec_after b (count_by (erases b) (cond t [] (renew s b (next_ec a.scan (ec_at s bs b)))))
       by_test true h = sym (valid_back (ec s (block bs b)) e h)
       by_test false h =
-          ap ec_read.Valid (sym (some_same _ _ h) ∙ ap (λ n. record { counter = n; image_seq = a.scan.image_seq }) (first_count (ec_at s bs b)))
+          ap ec_read.Valid (sym (same_Some _ _ h) ∙ ap (λ n. record { counter = n; image_seq = a.scan.image_seq }) (first_count (ec_at s bs b)))
           ∙ ap (ec_after b) (sym (renew_once s b (next_ec a.scan (ec_at s bs b))))
 
   prepare_on : (b : ℕ) → AllOn s b (prepare s bs a b)

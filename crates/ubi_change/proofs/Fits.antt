@@ -5,10 +5,12 @@ use Rattle.std.specs.Int.Bits.{and_self}
 use Rattle.std.proofs.lemmas.Bool.Decides.{nat_tests}
 use Rattle.std.proofs.lemmas.Grind.{common_steps}
 use Rattle.std.proofs.Math.Nat.{div-add-mod}
+use Rattle.std.proofs.lemmas.Option.{same_Some}
 use Rattle.ubi_media.specs.Ec.{ec_bytes}
 use Rattle.ubi_media.specs.Fields.{blank, filled}
 use Rattle.ubi_media.specs.Geometry.{Sizes, IsGeometry}
 use Rattle.ubi_media.specs.declared.ec.EcHeader.{EcHeader}
+use Rattle.ubi_media.proofs.Cases.{zero_or_more}
 use Rattle.ubi_scan.specs.Image.{block}
 use Rattle.ubi_change.specs.Fitting.{AllFit, fits, only_clears, page_of}
 use Rattle.ubi_change.specs.Plan.{renew}
@@ -74,12 +76,9 @@ module _ (s : Sizes) where
   fit-append bs [] ys a b = b
   fit-append bs (x ∷ xs) ys a b = (a.0, fit-append (step_done s bs x) xs ys a.1 b)
 
-  some_same : (a b : Step) → Some a ≡ Some b → a ≡ b
-  some_same a b e = cc
-
   pub all_fit : (bs : List (List ℕ)) (steps : List Step) → FitAll bs steps → AllFit s bs steps
   all_fit bs [] a k next e = absurd (cc)
-  all_fit bs (x ∷ xs) a zero next e = subst (λ (y : Step). fits s bs y ≡ true) (some_same x next e) a.0
+  all_fit bs (x ∷ xs) a zero next e = subst (λ (y : Step). fits s bs y ≡ true) (same_Some x next e) a.0
   all_fit bs (x ∷ xs) a (suc k) next e = all_fit (step_done s bs x) xs a.1 k next e
 
   less_test : (a b : ℕ) → a < b → nat_lt a b ≡ true
@@ -99,9 +98,6 @@ module _ (s : Sizes) where
   blank_page front n page from to = behind front n (page * s.page) s.page from to
 
   module _ (g : IsGeometry s) (e : EcHeader) (bytes : AreBytes (ec_bytes s e)) (bs : List (List ℕ)) (p : ℕ) (inside : p < length bs) where
-    zero_or_more : (q : ℕ) → (q ≡ 0) ⊎ (1 ≤ q)
-    zero_or_more q = grind arith
-
     pages_some : 0 < s.peb_size / s.page
     pages_some = elim (zero_or_more (s.peb_size / s.page)) [
       | inr m ↦ m

@@ -8,6 +8,7 @@ use Rattle.std.specs.Simd.{first_chunks}
 use Rattle.std.proofs.Math.Nat.{div-add-mod, mod-lt}
 use Rattle.std.proofs.lemmas.Bool.Decides.{nat_tests}
 use Rattle.std.proofs.lemmas.List.{take_at}
+use Rattle.std.proofs.lemmas.Option.{same_Some}
 use Rattle.ubi_media.specs.Fields.{blank, filled}
 use Rattle.ubi_media.specs.Geometry.{IsGeometry, Sizes, leb_size}
 use Rattle.ubi_media.specs.Record.{data_pad}
@@ -30,12 +31,6 @@ use Rattle.ubi_change.proofs.Attached as attached
 use Rattle.ubi_change.proofs.PagePlaces.{vid_before}
 use Rattle.ubi_change.proofs.PlanFits.{length-done}
 use Rattle.ubi_change.proofs.Runs.{done}
-
-some_same : (a b : Step) → Some a ≡ Some b → a ≡ b
-some_same a b e = cc
-
-some_number : (a b : ℕ) → Some a ≡ Some b → a ≡ b
-some_number a b e = cc
 
 no_program : (p q a : ℕ) (xs : List ℕ) → step.Erase q ≡ step.Program p a xs → ⊥
 no_program p q a xs e = cc
@@ -69,9 +64,9 @@ module _ (s : Sizes) where
 
   kept_at : (last : Option ℕ) (bs : List (List ℕ)) (steps : List Step) → KeepAll last bs steps → (k p : ℕ) (bytes : List ℕ) → Programs steps k p 0 bytes → Kept last bs steps k p bytes
   kept_at last bs [] a k p bytes at = absurd (cc)
-  kept_at last bs (step.Erase q ∷ xs) a zero p bytes at = absurd (no_program p q 0 bytes (some_same _ _ at))
+  kept_at last bs (step.Erase q ∷ xs) a zero p bytes at = absurd (no_program p q 0 bytes (same_Some _ _ at))
   kept_at last bs (step.Program q page ys ∷ xs) a zero p bytes at =
-      let same : step.Program q page ys ≡ step.Program p 0 bytes = some_same _ _ at in
+      let same : step.Program q page ys ≡ step.Program p 0 bytes = same_Some _ _ at in
       let e : q ≡ p = cc in
       let f : page ≡ 0 = cc in
       let i : ys ≡ bytes = cc in
@@ -85,7 +80,7 @@ module _ (s : Sizes) where
       | inl h ↦
           let z = h.0 in
           let back : suc j - 1 ≡ 0 = omega arith in
-          inl (inr (omega arith, ap (λ n. slice_get (step.Erase q ∷ xs) n) back ∙ ap (λ n. Some (step.Erase n)) (some_number q p h.1)))
+          inl (inr (omega arith, ap (λ n. slice_get (step.Erase q ∷ xs) n) back ∙ ap (λ n. Some (step.Erase n)) (same_Some q p h.1)))
       | inr h ↦ inl (inr (one_back (step.Erase q) xs j p h))
     ]
   ]

@@ -4,24 +4,20 @@ use Rattle.std.specs.Prelude.{nat_lt}
 use Rattle.std.proofs.Math.Nat.{div-add-mod, div-eq_of_lt, mod-lt}
 use Rattle.std.proofs.lemmas.Bool.Decides.{nat_tests}
 use Rattle.std.proofs.lemmas.Nat.{mul-le}
+use Rattle.std.proofs.lemmas.Bool.{cases_lt}
 use Rattle.ubi_media.specs.Fields.{blank, filled, overwrite}
 use Rattle.ubi_media.specs.Geometry.{Sizes, IsGeometry}
+use Rattle.ubi_media.proofs.Cases.{zero_or_more}
 use Rattle.ubi_change.proofs.PagePlaces.{vid_beside, vid_left, vid_page_within}
 use Rattle.ubi_scan.proofs.Filled.{filled-by, filled-none, filled_inner, filled_more, join_blank, length-filled, overwrite_filled, overwrite_front}
 use Rattle.ubi_scan.proofs.Parts.{laid}
 use Rattle.ubi_scan.proofs.Parts as parts
-
-less_or_not : (a b : ℕ) → (a < b) ⊎ (b ≤ a)
-less_or_not a b = grind arith
 
 less_test : (a b : ℕ) → a < b → nat_lt a b ≡ true
 less_test a b l = grind (arith, nat_tests)
 
 not_less_test : (a b : ℕ) → b ≤ a → nat_lt a b ≡ false
 not_less_test a b l = grind (arith, nat_tests)
-
-zero_or_more : (q : ℕ) → (q ≡ 0) ⊎ (1 ≤ q)
-zero_or_more q = grind arith
 
 module _ (s : Sizes) (g : IsGeometry s) (ec vid : List ℕ) (ec_size : length ec ≡ 64) (vid_size : length vid ≡ 64) where
   abbrev front : List ℕ
@@ -101,7 +97,7 @@ module _ (s : Sizes) (g : IsGeometry s) (ec vid : List ℕ) (ec_size : length ec
       beside l = let k = vid_beside s g l in let n = length-with_vid in omega arith
 
   pub header_written : overwrite page_start (filled s.page (filled (s.vid_offset % s.page) (cond (nat_lt s.vid_offset s.page) ec []) ++ vid)) (filled s.peb_size ec) ≡ laid s ec vid []
-  header_written = elim (less_or_not s.vid_offset s.page) [
+  header_written = elim (cases_lt s.vid_offset s.page) [
     | inl l ↦ ap (λ t. overwrite page_start (filled s.page (filled (s.vid_offset % s.page) (cond t ec []) ++ vid)) (filled s.peb_size ec)) (less_test _ _ l) ∙ header_beside l
     | inr l ↦ ap (λ t. overwrite page_start (filled s.page (filled (s.vid_offset % s.page) (cond t ec []) ++ vid)) (filled s.peb_size ec)) (not_less_test _ _ l) ∙ header_apart l
   ]

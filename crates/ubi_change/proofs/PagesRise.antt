@@ -6,12 +6,13 @@ use Rattle.std.specs.FinMap as finite
 use Rattle.std.specs.List.{enumerate_from}
 use Rattle.std.specs.Option.{option_map_or}
 use Rattle.std.specs.Simd.{first_chunks}
+use Rattle.std.proofs.lemmas.Option.{same_Some}
+use Rattle.std.proofs.lemmas.Bool.{cases_eq}
 use Rattle.ubi_media.specs.Geometry.{IsGeometry, Sizes}
 use Rattle.ubi_media.specs.declared.ec.EcHeader.{EcHeader}
 use Rattle.ubi_media.specs.Record.{data_pad}
 use Rattle.ubi_media.specs.declared.record.VolumeRecord.{VolumeRecord}
 use Rattle.ubi_media.specs.declared.vid.VidHeader.{VidHeader}
-use Rattle.ubi_scan.proofs.Keys.{same_or_apart}
 use Rattle.ubi_volume.specs.Attached.{Whole}
 use Rattle.ubi_change.specs.Order.{NoErase, Programs}
 use Rattle.ubi_change.specs.Plan.{blank_header, copy_header, next_ec, vid_page, atomic_copy, mapped_plan, mount, needs, plan_of, prepare, program_header, program_text, ready_bytes, ready_ec, release, renew, taken, unmapped_plan}
@@ -42,9 +43,6 @@ less_order p m n (step.Program q b ys ∷ xs) l o =
     by_page (inl h) less = inl (h.0, (let k = h.1 in omega arith), h.2)
     by_page (inr h) less = inr (h.0, (let k = h.1 in omega arith), less h.2)
 
-some_same : (a b : Step) → Some a ≡ Some b → a ≡ b
-some_same a b e = cc
-
 same_erase : (p q : ℕ) → step.Erase q ≡ step.Erase p → q ≡ p
 same_erase p q e = cc
 
@@ -60,11 +58,11 @@ NoEraseBehind x xs p j none k l m e = none (suc k) (omega arith) (omega arith) e
 -- no page comes that is behind what was programmed
 page_from : (p n j b : ℕ) (ys : List ℕ) (steps : List Step) → InOrder p n steps → Programs steps j p b ys → NoErase steps p 0 j → n ≤ b + 1
 page_from p n j b ys [] o at none = absurd (cc)
-page_from p n zero b ys (step.Erase q ∷ xs) o at none = absurd (no_program p q b ys (some_same _ _ at))
+page_from p n zero b ys (step.Erase q ∷ xs) o at none = absurd (no_program p q b ys (same_Some _ _ at))
 page_from p n (suc j) b ys (step.Erase q ∷ xs) o at none =
     page_from p n j b ys xs (o.1 (λ same. none 0 (omega arith) (omega arith) (ap (λ r. Some (step.Erase r)) same))) at (NoEraseBehind (step.Erase q) xs p j none)
 page_from p n zero b ys (step.Program q c zs ∷ xs) o at none =
-    let same = same_place p q b c ys zs (some_same _ _ at) in
+    let same = same_place p q b c ys zs (same_Some _ _ at) in
     elim (o.0 same.0) [
       | inl h ↦ (let k = h.1 in let e = same.1 in omega arith)
       | inr h ↦ (let k = h.1 in omega arith)
@@ -72,7 +70,7 @@ page_from p n zero b ys (step.Program q c zs ∷ xs) o at none =
 page_from p n (suc j) b ys (step.Program q c zs ∷ xs) o at none =
     let rest : NoErase xs p 0 j = NoEraseBehind (step.Program q c zs) xs p j none in
     let from : (m : ℕ) → InOrder p m xs → m ≤ b + 1 = λ m k. page_from p m j b ys xs k at rest in
-    elim (same_or_apart q p) [
+    elim (cases_eq q p) [
       | inl same ↦ elim (o.0 same) [
         | inl h ↦ (let k = from (c + 2) h.2 in let l = h.1 in omega arith)
         | inr h ↦ (let k = from (n + 1) h.2 in omega arith)
@@ -86,22 +84,22 @@ rises_from p n i j a b xs ys [] o l at then none = absurd (cc)
 rises_from p n i zero a b xs ys (x ∷ rest) o l at then none = absurd (omega arith)
 rises_from p n (suc i) (suc j) a b xs ys (step.Erase q ∷ rest) o l at then none =
     let behind : NoErase rest p i j = λ k h m e. none (suc k) (omega arith) (omega arith) e in
-    elim (same_or_apart q p) [
+    elim (cases_eq q p) [
       | inl same ↦ rises_from p 0 i j a b xs ys rest (o.0 same) (omega arith) at then behind
       | inr apart ↦ rises_from p n i j a b xs ys rest (o.1 apart) (omega arith) at then behind
     ]
 rises_from p n (suc i) (suc j) a b xs ys (step.Program q c zs ∷ rest) o l at then none =
     let behind : NoErase rest p i j = λ k h m e. none (suc k) (omega arith) (omega arith) e in
-    elim (same_or_apart q p) [
+    elim (cases_eq q p) [
       | inl same ↦ elim (o.0 same) [
         | inl h ↦ rises_from p (c + 2) i j a b xs ys rest h.2 (omega arith) at then behind
         | inr h ↦ rises_from p (n + 1) i j a b xs ys rest h.2 (omega arith) at then behind
       ]
       | inr apart ↦ rises_from p n i j a b xs ys rest (o.1 apart) (omega arith) at then behind
     ]
-rises_from p n zero (suc j) a b xs ys (step.Erase q ∷ rest) o l at then none = absurd (no_program p q a xs (some_same _ _ at))
+rises_from p n zero (suc j) a b xs ys (step.Erase q ∷ rest) o l at then none = absurd (no_program p q a xs (same_Some _ _ at))
 rises_from p n zero (suc j) a b xs ys (step.Program q c zs ∷ rest) o l at then none =
-    let same = same_place p q a c xs zs (some_same _ _ at) in
+    let same = same_place p q a c xs zs (same_Some _ _ at) in
     let behind : NoErase rest p 0 j = NoEraseBehind (step.Program q c zs) rest p j none in
     elim (o.0 same.0) [
       | inl h ↦ (let k = page_from p (c + 2) j b ys rest h.2 then behind in let e = same.1 in inl (omega arith))
@@ -116,9 +114,9 @@ rises_from p n zero (suc j) a b xs ys (step.Program q c zs ∷ rest) o l at then
 twice_more : (p n j k : ℕ) (ys zs : List ℕ) (steps : List Step) → InOrder p n steps → 1 ≤ n → j < k → Programs steps j p 0 ys → Programs steps k p 0 zs → NoErase steps p 0 k → ⊥
 twice_more p n j k ys zs [] o one l at then none = absurd (cc)
 twice_more p n j zero ys zs (x ∷ rest) o one l at then none = absurd (omega arith)
-twice_more p n zero (suc k) ys zs (step.Erase q ∷ rest) o one l at then none = absurd (no_program p q 0 ys (some_same _ _ at))
+twice_more p n zero (suc k) ys zs (step.Erase q ∷ rest) o one l at then none = absurd (no_program p q 0 ys (same_Some _ _ at))
 twice_more p n zero (suc k) ys zs (step.Program q c bytes ∷ rest) o one l at then none =
-    let same = same_place p q 0 c ys bytes (some_same _ _ at) in
+    let same = same_place p q 0 c ys bytes (same_Some _ _ at) in
     let behind : NoErase rest p 0 k = NoEraseBehind (step.Program q c bytes) rest p k none in
     elim (o.0 same.0) [
       | inl h ↦ (let e = same.1 in let m = h.0 in absurd (omega arith))
@@ -128,7 +126,7 @@ twice_more p n (suc j) (suc k) ys zs (step.Erase q ∷ rest) o one l at then non
     twice_more p n j k ys zs rest (o.1 (λ same. none 0 (omega arith) (omega arith) (ap (λ r. Some (step.Erase r)) same))) one (omega arith) at then (NoEraseBehind (step.Erase q) rest p k none)
 twice_more p n (suc j) (suc k) ys zs (step.Program q c bytes ∷ rest) o one l at then none =
     let behind : NoErase rest p 0 k = NoEraseBehind (step.Program q c bytes) rest p k none in
-    elim (same_or_apart q p) [
+    elim (cases_eq q p) [
       | inl same ↦ elim (o.0 same) [
         | inl h ↦ twice_more p (c + 2) j k ys zs rest h.2 (omega arith) (omega arith) at then behind
         | inr h ↦ twice_more p (n + 1) j k ys zs rest h.2 (omega arith) (omega arith) at then behind
@@ -141,9 +139,9 @@ twice_from : (p n i j k : ℕ) (xs ys zs : List ℕ) (steps : List Step) → InO
 twice_from p n i j k xs ys zs [] o l m at then last none = absurd (cc)
 twice_from p n i zero k xs ys zs (x ∷ rest) o l m at then last none = absurd (omega arith)
 twice_from p n i j zero xs ys zs (x ∷ rest) o l m at then last none = absurd (omega arith)
-twice_from p n zero (suc j) (suc k) xs ys zs (step.Erase q ∷ rest) o l m at then last none = absurd (no_program p q 0 xs (some_same _ _ at))
+twice_from p n zero (suc j) (suc k) xs ys zs (step.Erase q ∷ rest) o l m at then last none = absurd (no_program p q 0 xs (same_Some _ _ at))
 twice_from p n zero (suc j) (suc k) xs ys zs (step.Program q c bytes ∷ rest) o l m at then last none =
-    let same = same_place p q 0 c xs bytes (some_same _ _ at) in
+    let same = same_place p q 0 c xs bytes (same_Some _ _ at) in
     let behind : NoErase rest p 0 k = NoEraseBehind (step.Program q c bytes) rest p k none in
     elim (o.0 same.0) [
       | inl h ↦ (let e = same.1 in let d = h.0 in absurd (omega arith))
@@ -151,13 +149,13 @@ twice_from p n zero (suc j) (suc k) xs ys zs (step.Program q c bytes ∷ rest) o
     ]
 twice_from p n (suc i) (suc j) (suc k) xs ys zs (step.Erase q ∷ rest) o l m at then last none =
     let behind : NoErase rest p i k = λ d h f e. none (suc d) (omega arith) (omega arith) e in
-    elim (same_or_apart q p) [
+    elim (cases_eq q p) [
       | inl same ↦ twice_from p 0 i j k xs ys zs rest (o.0 same) (omega arith) (omega arith) at then last behind
       | inr apart ↦ twice_from p n i j k xs ys zs rest (o.1 apart) (omega arith) (omega arith) at then last behind
     ]
 twice_from p n (suc i) (suc j) (suc k) xs ys zs (step.Program q c bytes ∷ rest) o l m at then last none =
     let behind : NoErase rest p i k = λ d h f e. none (suc d) (omega arith) (omega arith) e in
-    elim (same_or_apart q p) [
+    elim (cases_eq q p) [
       | inl same ↦ elim (o.0 same) [
         | inl h ↦ twice_from p (c + 2) i j k xs ys zs rest h.2 (omega arith) (omega arith) at then last behind
         | inr h ↦ twice_from p (n + 1) i j k xs ys zs rest h.2 (omega arith) (omega arith) at then last behind
@@ -204,7 +202,7 @@ module _ (s : Sizes) (g : IsGeometry s) (bs : List (List ℕ)) (a : Whole) where
   prepare_order p b n rest few here there = by_test (is_clean s bs a.states b)
     where
       by_test : (t : Bool) → InOrder p n (cond t [] (renew s b (next_ec a.scan (ec_at s bs b))) ++ rest)
-      by_test true = elim (same_or_apart b p) [ inl same ↦ here n same (few same) | inr apart ↦ there apart ]
+      by_test true = elim (cases_eq b p) [ inl same ↦ here n same (few same) | inr apart ↦ there apart ]
       by_test false = renew_order s p b n (next_ec a.scan (ec_at s bs b)) rest (λ same. here 1 same (omega arith)) there
 
   mount_order : (p b n : ℕ) (h : VidHeader) (rest : List Step) → (b ≡ p → n ≤ 1) → (b ≡ p → InOrder p (s.vid_offset / s.page + 2) rest) → (b ≢ p → InOrder p n rest)

@@ -1,12 +1,12 @@
 -- One eraseblock is given other bytes: who is a member then, who wins, and that nothing is at fault.
 use Rattle.std.proofs.Common.{◌≡◌, ◌≢◌, ℕ, ◌<◌, ◌≤◌, inl, inr, Bool, true, false, List, [], length, set, ap, sym, ◌∙◌, subst, arith, length-set, get_or-set_same, get_or-set_other}
 use Rattle.std.specs.Prelude.{Some, None}
+use Rattle.std.proofs.lemmas.Bool.{cases_eq}
 use Rattle.ubi_media.specs.Geometry.{Sizes}
 use Rattle.ubi_scan.specs.Clean.{IsClean, IsSound}
 use Rattle.ubi_scan.specs.Image.{block}
 use Rattle.ubi_scan.specs.Members.{IsMember, Leb, NoMember, Wins, good_at, good_in, named_in, sqnum_at, sqnum_in}
 use Rattle.ubi_scan.specs.Numbers.{seq_of}
-use Rattle.ubi_scan.proofs.Keys.{same_or_apart}
 use Rattle.ubi_change.proofs.Kept.{KeepsLeb}
 
 module _ (s : Sizes) (bs : List (List ℕ)) (b : ℕ) (x : List ℕ) (inside : b < length bs) where
@@ -43,7 +43,7 @@ module _ (s : Sizes) (bs : List (List ℕ)) (b : ℕ) (x : List ℕ) (inside : b
   -- what holds of each other member's number and goodness still does
   over_set : (P : ℕ → Bool → Type 0) (of : Leb) → ((q : ℕ) → q ≢ b → IsMember s bs of q → P (sqnum_at s bs q) (good_at s bs q))
       → (named_in s x ≡ Some of → P (sqnum_in s x) (good_in s x)) → (q : ℕ) → IsMember s (set bs b x) of q → P (sqnum_at s (set bs b x) q) (good_at s (set bs b x) q)
-  over_set P of old new q h = elim (same_or_apart q b) [
+  over_set P of old new q h = elim (cases_eq q b) [
     | inl e ↦ subst (λ (k : ℕ). P (sqnum_at s (set bs b x) k) (good_at s (set bs b x) k)) (sym e)
         (subst (λ y. P (sqnum_in s y) (good_in s y)) (sym block_same) (new (named_here of (subst (IsMember s (set bs b x) of) e h))))
     | inr e ↦ subst (λ y. P (sqnum_in s y) (good_in s y)) (sym (block_other q e)) (old q e (member_was of q e h))
@@ -72,7 +72,7 @@ module _ (s : Sizes) (bs : List (List ℕ)) (b : ℕ) (x : List ℕ) (inside : b
 
   -- no member where there was none but b
   pub none_kept : (of : Leb) → NoMember s bs of → (named_in s x ≡ Some of → ⊥) → NoMember s (set bs b x) of
-  none_kept of none new p h = elim (same_or_apart p b) [
+  none_kept of none new p h = elim (cases_eq p b) [
     | inl e ↦ new (named_here of (subst (IsMember s (set bs b x) of) e h))
     | inr e ↦ none p (member_was of p e h)
   ]
@@ -91,29 +91,29 @@ module _ (s : Sizes) (bs : List (List ℕ)) (b : ℕ) (x : List ℕ) (inside : b
   -- nothing is at fault, where x isn't
   pub clean_kept : IsClean s bs → IsSound s x → NamesImage → IsFresh → IsClean s (set bs b x)
   clean_kept h sound names fresh = record {
-    sound = λ p l. elim (same_or_apart p b) [
+    sound = λ p l. elim (cases_eq p b) [
       | inl e ↦ subst (λ (k : ℕ). IsSound s (block (set bs b x) k)) (sym e) (subst (IsSound s) (sym block_same) sound)
       | inr e ↦ subst (IsSound s) (sym (block_other p e)) (h.sound p (inside_was p l))
     ];
-    one_image = λ p q i j u v. elim (same_or_apart p b) [
-      | inl e ↦ elim (same_or_apart q b) [
+    one_image = λ p q i j u v. elim (cases_eq p b) [
+      | inl e ↦ elim (cases_eq q b) [
         | inl f ↦ ap (λ (k : ℕ). seq_of s (block (set bs b x) k)) (e ∙ sym f)
         | inr f ↦ (let here = seq_here p e in let there = ap (seq_of s) (block_other q f) in
             here ∙ names q (inside_was q j) (λ z. u (here ∙ z)) (λ z. v (there ∙ z)) ∙ sym there)
       ]
-      | inr e ↦ elim (same_or_apart q b) [
+      | inr e ↦ elim (cases_eq q b) [
         | inl f ↦ (let here = seq_here q f in let there = ap (seq_of s) (block_other p e) in
             there ∙ sym (names p (inside_was p i) (λ z. v (here ∙ z)) (λ z. u (there ∙ z))) ∙ sym here)
         | inr f ↦ (let a = ap (seq_of s) (block_other p e) in let c = ap (seq_of s) (block_other q f) in
             a ∙ h.one_image p q (inside_was p i) (inside_was q j) (λ z. u (a ∙ z)) (λ z. v (c ∙ z)) ∙ sym c)
       ]
     ];
-    apart = λ of p q a c e. elim (same_or_apart p b) [
-      | inl k ↦ elim (same_or_apart q b) [
+    apart = λ of p q a c e. elim (cases_eq p b) [
+      | inl k ↦ elim (cases_eq q b) [
         | inl t ↦ k ∙ sym t
         | inr t ↦ absurd (fresh of (named_here of (subst (IsMember s (set bs b x) of) k a)) q t (member_was of q t c) (sym (sqnum_kept q t) ∙ sym e ∙ ap (sqnum_at s (set bs b x)) k ∙ sqnum_here))
       ]
-      | inr k ↦ elim (same_or_apart q b) [
+      | inr k ↦ elim (cases_eq q b) [
         | inl t ↦ absurd (fresh of (named_here of (subst (IsMember s (set bs b x) of) t c)) p k (member_was of p k a) (sym (sqnum_kept p k) ∙ e ∙ ap (sqnum_at s (set bs b x)) t ∙ sqnum_here))
         | inr t ↦ h.apart of p q (member_was of p k a) (member_was of q t c) (sym (sqnum_kept p k) ∙ e ∙ sqnum_kept q t)
       ]

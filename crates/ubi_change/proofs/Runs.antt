@@ -6,12 +6,10 @@ use Rattle.std.proofs.lemmas.List.Sums.{fold-append}
 use Rattle.std.proofs.Math.Seq.{take-append-add}
 use Rattle.std.proofs.lemmas.List.{take-append-le}
 use Rattle.ubi_media.specs.Geometry.{Sizes}
+use Rattle.ubi_media.proofs.Cases.{within_or_past}
 use Rattle.ubi_scan.specs.Image.{block}
 use Rattle.ubi_change.specs.Steps.{after, block_after, step_done, target}
 use Rattle.ubi_change.specs.declared.step.Step.{Step}
-
-within_or_past : (a b : ℕ) → (a ≤ b) ⊎ (b < a)
-within_or_past a b = grind arith
 
 module _ (s : Sizes) where
   -- after all of the steps

@@ -2,6 +2,7 @@
 use Rattle.std.proofs.Common.{◌≡◌, ℕ, refl, ap, sym, ◌∙◌}
 use Rattle.std.specs.Prelude.{None, Option, Some, option_map}
 use Rattle.std.specs.FinMap.{get}
+use Rattle.std.proofs.lemmas.Option.{same_Some}
 use Rattle.ubi_media.specs.declared.record.VolumeRecord.{VolumeRecord}
 use Rattle.ubi_scan.specs.Image.{Image}
 use Rattle.ubi_table.specs.Records.{Records}
@@ -10,11 +11,11 @@ use Rattle.ubi_volume.specs.Survey.{IsSurvey, Seen}
 use Rattle.ubi_volume.specs.declared.content.Content.{Content}
 use Rattle.ubi_volume.specs.declared.content.Volume.{Volume}
 use Rattle.ubi_volume.proofs.Recorded.{record_of}
-use Rattle.ubi_volume.proofs.Winners.{no_some, some_same}
+use Rattle.ubi_volume.proofs.Winners.{no_some}
 
 with_entry : (o : Option Volume) (r : VolumeRecord) → option_map (λ (v : Volume). v.entry) o ≡ Some r → (c : Content) × (o ≡ Some (record { entry = r; content = c }))
 with_entry None r e = absurd (no_some r e)
-with_entry (Some v) r e = (v.content, ap (λ (x : VolumeRecord). Some (record { entry = x; content = v.content })) (some_same v.entry r e))
+with_entry (Some v) r e = (v.content, ap (λ (x : VolumeRecord). Some (record { entry = x; content = v.content })) (same_Some v.entry r e))
 
 without_entry : (o : Option Volume) → option_map (λ (v : Volume). v.entry) o ≡ None → o ≡ None
 without_entry None e = refl

@@ -5,6 +5,7 @@ use Rattle.std.specs.FinMap as finite
 use Rattle.std.specs.List.{enumerate_from}
 use Rattle.std.specs.Option.{option_map_or}
 use Rattle.std.specs.Simd.{first_chunks}
+use Rattle.std.proofs.lemmas.Option.{same_Some}
 use Rattle.ubi_media.specs.Geometry.{Sizes}
 use Rattle.ubi_media.specs.declared.ec.EcHeader.{EcHeader}
 use Rattle.ubi_media.specs.declared.record.VolumeRecord.{VolumeRecord}
@@ -27,12 +28,9 @@ touch-append : (ps : List ℕ) (xs ys : List Step) → TouchAll ps xs → TouchA
 touch-append ps [] ys a b = b
 touch-append ps (x ∷ xs) ys a b = (a.0, touch-append ps xs ys a.1 b)
 
-some_same : (a b : Step) → Some a ≡ Some b → a ≡ b
-some_same a b e = cc
-
 touch_all : (ps : List ℕ) (steps : List Step) → TouchAll ps steps → TouchesOnly ps steps
 touch_all ps [] a k next e = absurd (cc)
-touch_all ps (x ∷ xs) a zero next e = subst (λ (y : Step). Contains ps (target y)) (some_same x next e) a.0
+touch_all ps (x ∷ xs) a zero next e = subst (λ (y : Step). Contains ps (target y)) (same_Some x next e) a.0
 touch_all ps (x ∷ xs) a (suc k) next e = touch_all ps xs a.1 k next e
 
 -- the first of a list are in its front

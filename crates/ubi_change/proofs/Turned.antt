@@ -7,6 +7,7 @@ use Rattle.std.proofs.Math.Nat.{div-add-mod, div-eq_of_lt}
 use Rattle.std.proofs.lemmas.Bool.Decides.{nat_tests}
 use Rattle.std.proofs.lemmas.List.{take_at, drop_at}
 use Rattle.std.proofs.lemmas.List.Sums.{fold-append}
+use Rattle.std.proofs.lemmas.Bool.{cases_lt}
 use Rattle.ubi_media.specs.Ec.{ec_bytes}
 use Rattle.ubi_media.specs.Fields.{blank, filled}
 use Rattle.ubi_media.specs.Geometry.{Sizes, IsGeometry}
@@ -17,6 +18,7 @@ use Rattle.ubi_media.specs.declared.vid.VidHeader.{VidHeader}
 use Rattle.ubi_media.specs.declared.vid.VidRead.TheVariants as vid_read
 use Rattle.ubi_media.proofs.Headers.{fields_fit, vid_read_back}
 use Rattle.ubi_media.proofs.Readings.{one_vid_reading}
+use Rattle.ubi_media.proofs.Cases.{zero_or_more}
 use Rattle.ubi_change.specs.Cuts.{header_in, is_copy, programs_copy, turn}
 use Rattle.ubi_change.specs.Plan.{vid_page, program_header, program_text, renew}
 use Rattle.ubi_change.specs.Weak.{pages_of, whole_place}
@@ -55,12 +57,6 @@ module _ {X : Type 0} (p : X → Bool) where
       fold-append more 0 xs (x ∷ ys) ∙ ap (λ k. fold more k (x ∷ ys)) (count-from 0 xs a) ∙ ap (λ k. fold more k ys) one ∙ count-from 1 ys b
 
 -- which steps program the header of a copy
-less_or_not : (a b : ℕ) → (a < b) ⊎ (b ≤ a)
-less_or_not a b = grind arith
-
-zero_or_more : (q : ℕ) → (q ≡ 0) ⊎ (1 ≤ q)
-zero_or_more q = grind arith
-
 other_test : (a b : ℕ) → a ≢ b → (a == b) ≡ false
 other_test a b e = grind (arith, nat_tests)
 
@@ -109,7 +105,7 @@ module _ (s : Sizes) (g : IsGeometry s) where
 
     part-short : length part ≤ s.vid_offset % s.page
     unfolding part
-    part-short = elim (less_or_not s.vid_offset s.page) [
+    part-short = elim (cases_lt s.vid_offset s.page) [
       | inl l ↦
           let q : s.vid_offset / s.page ≡ 0 = div-eq_of_lt l in
           let split = div-add-mod s.vid_offset s.page in

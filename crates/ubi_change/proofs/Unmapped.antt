@@ -8,6 +8,7 @@ use Rattle.std.specs.Ordering.{nat_cmp}
 use Rattle.std.proofs.lemmas.Bool.Decides.{nat_tests}
 use Rattle.std.proofs.lemmas.List.{get_or-set_same, set-set, take-replicate}
 use Rattle.std.proofs.lemmas.List.Sums.{fold-append}
+use Rattle.std.proofs.lemmas.Bool.{cases_eq}
 use Rattle.ubi_media.specs.Fields.{blank, filled}
 use Rattle.ubi_media.specs.Geometry.{Sizes, IsGeometry, leb_size}
 use Rattle.ubi_media.specs.Record.{data_pad, usable}
@@ -20,7 +21,6 @@ use Rattle.ubi_scan.specs.Faults.{NoFault}
 use Rattle.ubi_scan.specs.Image.{block, leb}
 use Rattle.ubi_scan.specs.Members.{IsMember, Leb, NoMember, Wins, has_members, sqnum_at, sqnum_in}
 use Rattle.ubi_scan.proofs.Decided.{Wins-unique}
-use Rattle.ubi_scan.proofs.Keys.{same_or_apart}
 use Rattle.ubi_table.specs.Records.{Records}
 use Rattle.ubi_table.specs.Table.{AllBlank}
 use Rattle.ubi_volume.specs.Accepts.{AcceptsBlocks, IsUnlike}
@@ -160,7 +160,7 @@ module _ (s : Sizes) (g : IsGeometry s) (bs : List (List ℕ)) (m : Meant) (a : 
 
   -- the next sequence number is above all
   pub now_above : (other : Leb) (q : ℕ) → IsMember s then_blocks other q → sqnum_at s then_blocks q < sqnum + 1
-  now_above other q k = elim (same_or_apart q b) [
+  now_above other q k = elim (cases_eq q b) [
     | inl z ↦
         let here : sqnum_at s then_blocks q ≡ sqnum =
         ap (λ (j : ℕ). sqnum_in s (block then_blocks j)) z ∙ ap (sqnum_in s) (block_same s bs b mounted inside) ∙ ap (λ (o : Option VidHeader). option_map_or (λ (h : VidHeader). h.sqnum) o 0) mount.is in

@@ -8,6 +8,7 @@ use Rattle.ubi_media.specs.Check.{check, check_from}
 use Rattle.ubi_media.specs.Fields.{blank, is_blank, same_bytes}
 use Rattle.ubi_media.specs.Geometry.{Sizes}
 use Rattle.ubi_media.proofs.Checks.{check_from-append, check_from-empty}
+use Rattle.ubi_media.proofs.Cases.{below_same_or_above}
 use Rattle.ubi_scan.proofs.Filled.{filled-by, join_blank}
 use Rattle.ubi_change.specs.Weak.{is_weak, is_whole, pages_of, torn, weak_place}
 use Rattle.ubi_change.proofs.Torn.{find_range}
@@ -76,9 +77,6 @@ blank_more state n part small e =
     let sum : n * 64 + 64 ≡ (n + 1) * 64 = omega arith in
     ap (λ x. check_from x (blank 64)) e ∙ sym (check_from-append state (blank (n * 64)) (blank 64) small) ∙ ap (check_from state) (join_blank (n * 64) 64 ∙ ap blank sum)
 
-trichotomy : (a b : ℕ) → (a < b) ⊎ (a ≡ b) ⊎ (b < a)
-trichotomy a b = grind arith
-
 module _ (s : Sizes) (new : List ℕ) where
   pub no_place : ((j : ℕ) → j < pages_of s new → is_weak s new j ≡ false) → weak_place s new ≡ None
   no_place none = elim (find_range (is_weak s new) 0 (pages_of s new)) [
@@ -89,7 +87,7 @@ module _ (s : Sizes) (new : List ℕ) where
   pub first_place : (k : ℕ) → k < pages_of s new → is_weak s new k ≡ true → ((j : ℕ) → j < k → is_weak s new j ≡ false) → weak_place s new ≡ Some k
   first_place k inside here before = elim (find_range (is_weak s new) 0 (pages_of s new)) [
     | inl r ↦ (let e = r.1 k (omega arith) (omega arith) in absurd (cc))
-    | inr r ↦ (let f = r.2 in elim (trichotomy r.0 k) [
+    | inr r ↦ (let f = r.2 in elim (below_same_or_above r.0 k) [
       | inl l ↦ (let e = before r.0 l in let p = f.passes in absurd (cc))
       | inr o ↦ elim o [
         | inl same ↦ r.1 ∙ ap Some same

@@ -5,6 +5,7 @@ use Rattle.std.specs.Prelude.{None, Some, ◌==◌, ◌||◌, option_map}
 use Rattle.std.specs.Bool.{then_some}
 use Rattle.std.proofs.lemmas.List.{take_at, take-replicate, length-take-le}
 use Rattle.std.proofs.Math.Seq.{take-append-add}
+use Rattle.std.proofs.lemmas.Option.{same_Some}
 use Rattle.ubi_media.specs.Check.{check}
 use Rattle.ubi_media.specs.Ec.{ec_reading}
 use Rattle.ubi_media.specs.Fields.{blank, filled}
@@ -108,9 +109,6 @@ module _ (s : Sizes) (g : IsGeometry s) where
       pub leb-part : leb s part ≡ text ++ blank (s.peb_size - (s.data_offset + length text))
       leb-part = leb-laid s g bytes (vid_bytes h) size vid_size text room
 
-      some_same : (a b : VidHeader) → Some a ≡ Some b → a ≡ b
-      some_same a b k = cc
-
       pub part-mount : (seq : ℕ) (bs : List (List ℕ)) (of : Leb) → (e.image_seq ≢ 0 → e.image_seq ≡ seq) → leb_of h ≡ of
           → ((other : Leb) (q : ℕ) → IsMember s bs other q → sqnum_at s bs q < h.sqnum) → IsMount s seq bs of h part
       part-mount seq bs of image named above = record {
@@ -118,7 +116,7 @@ module _ (s : Sizes) (g : IsGeometry s) where
           no_ec_fault = λ f k. let is = ec-part in cc;
           no_vid_fault = λ f used k. let is = vid-part in cc;
           compatible = λ h k i. let is = foreign-part in cc;
-          laid = λ k e i. placed (subst IsMislaid (some_same k h (sym e ∙ member-part)) i);
+          laid = λ k e i. placed (subst IsMislaid (same_Some k h (sym e ∙ member-part)) i);
         };
         image = subst (λ (q : ℕ). q ≢ 0 → q ≡ seq) (sym (ap seq_if ec-part)) image;
         is = member-part;

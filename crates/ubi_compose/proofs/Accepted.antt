@@ -3,6 +3,7 @@ use Rattle.std.proofs.Common.{◌≡◌, ℕ, ◌+◌, ◌*◌, zero, suc, List,
 use Rattle.std.specs.Prelude.{None, Option, Some, flat_map, option_map}
 use Rattle.std.specs.FinMap as finite
 use Rattle.std.specs.List.{AllByRecursion, concat}
+use Rattle.std.proofs.lemmas.Option.{same_Some}
 use Rattle.ubi_media.specs.Geometry.{IsGeometry}
 use Rattle.ubi_media.specs.Record.{data_pad}
 use Rattle.ubi_media.specs.declared.record.VolumeRecord.{VolumeRecord}
@@ -22,7 +23,7 @@ use Rattle.ubi_volume.proofs.Recorded.{record_of}
 use Rattle.ubi_compose.specs.Composed.{HasRoom, composed, image_of}
 use Rattle.ubi_compose.specs.Normal.{Laid, layout_block, normal_blocks, normal_bytes, volume_blocks}
 use Rattle.ubi_compose.proofs.Apart.{AreApart}
-use Rattle.ubi_compose.proofs.Blocks.{IsFine, some_same}
+use Rattle.ubi_compose.proofs.Blocks.{IsFine}
 use Rattle.ubi_compose.proofs.Contents.{AreOwn, damaged_reads, dynamic_reads, header_at, text_at, text_reads}
 use Rattle.ubi_compose.proofs.Image.{blocks_again, concat-image_blocks, image_blocks, image_clean, image_whole, laid_wins, length-bytes, length-image_blocks, member_laid}
 use Rattle.ubi_compose.proofs.Lists.{Holds, all_at, entry_held, flat_map_holds, held_entry, holds_flat_map}
@@ -56,18 +57,18 @@ module _ (m : Meant) (g : IsGeometry m.sizes) (is : IsMeaning m) (spares : ℕ) 
       let r = flat_map_holds blocks_in (finite.entries m.volumes) l h in
       let mine = all_at (λ (l : Laid). l.header.vol_id ≡ r.0.0) (blocks_in r.0) r.2.0 l (own_blocks m.sizes r.0.0 r.0.1.entry r.0.1.content) r.2.1 in
       let number : r.0.0 ≡ id = sym mine ∙ same in
-      let value : r.0.1 ≡ v = some_same r.0.1 v (sym (held_entry m.volumes r.0 r.1) ∙ ap (finite.get m.volumes) number ∙ e) in
+      let value : r.0.1 ≡ v = same_Some r.0.1 v (sym (held_entry m.volumes r.0 r.1) ∙ ap (finite.get m.volumes) number ∙ e) in
       subst (λ (x : ℕ × Volume). Holds (blocks_in x) l) (λ i. (number i, value i)) r.2
 
   of_volume : (l : Laid) (id : ℕ) (v : Volume) → finite.get m.volumes id ≡ Some v → Holds (normal_blocks m) l → l.header.vol_id ≡ id
       → Holds (blocks_in (id, v)) l
   of_volume l id v e (zero, at) same =
       let slot = (volume_is m is id v e).slot in
-      let one : layout ≡ l.header.vol_id = ap (λ (l : Laid). l.header.vol_id) (some_same (layout_block m 0) l at) in
+      let one : layout ≡ l.header.vol_id = ap (λ (l : Laid). l.header.vol_id) (same_Some (layout_block m 0) l at) in
       absurd (omega arith)
   of_volume l id v e (suc zero, at) same =
       let slot = (volume_is m is id v e).slot in
-      let one : layout ≡ l.header.vol_id = ap (λ (l : Laid). l.header.vol_id) (some_same (layout_block m 1) l at) in
+      let one : layout ≡ l.header.vol_id = ap (λ (l : Laid). l.header.vol_id) (same_Some (layout_block m 1) l at) in
       absurd (omega arith)
   of_volume l id v e (suc (suc p), at) same = of_entries l id v e (p, at) same
 
@@ -107,7 +108,7 @@ module _ (m : Meant) (g : IsGeometry m.sizes) (is : IsMeaning m) (spares : ℕ) 
       let mine = of_volume l counted.vol v rec.1 (p, at.1) (ap (λ (of : Leb). of.0) at.2) in
       let like = all_at (IsLike m.sizes counted.vol v.entry) (blocks_in (counted.vol, v)) mine.0 l
       (like_blocks m.sizes counted.vol v.entry v.content (volume_is m is counted.vol v rec.1).fits) mine.1 in
-      let header : h ≡ l.header = some_same h l.header (sym k.4 ∙ header_at m.sizes g ls spares fine p l at.1) in
+      let header : h ≡ l.header = same_Some h l.header (sym k.4 ∙ header_at m.sizes g ls spares fine p l at.1) in
       let kind : h.kind ≡ r.kind = ap (λ (h : VidHeader). h.kind) header ∙ like.0 ∙ ap (λ (r : VolumeRecord). r.kind) rec.2 in
       let pad : h.data_pad ≡ data_pad m.sizes r = ap (λ (h : VidHeader). h.data_pad) header ∙ like.1 ∙ ap (data_pad m.sizes) rec.2 in
       elim k.5 [ inl other ↦ other kind | inr other ↦ other pad ]

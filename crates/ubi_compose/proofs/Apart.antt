@@ -2,9 +2,9 @@
 use Rattle.std.proofs.Common.{◌≡◌, ◌≢◌, ℕ, zero, suc, List, [], ◌∷◌, ◌++◌, refl, ap, sym, ◌∙◌}
 use Rattle.std.specs.Prelude.{Some, slice_get}
 use Rattle.std.specs.List.{AllByRecursion}
+use Rattle.std.proofs.lemmas.Option.{same_Some}
 use Rattle.ubi_scan.specs.Members.{leb_of}
 use Rattle.ubi_compose.specs.Normal.{Laid}
-use Rattle.ubi_compose.proofs.Blocks.{some_same}
 use Rattle.ubi_compose.proofs.Lists.{all_append, all_at}
 
 -- two eraseblocks are of different LEBs
@@ -25,7 +25,7 @@ pub one_place : (ls : List Laid) (p q : ℕ) (k l : Laid) → AreApart ls → sl
 one_place [] p q k l a e f same = absurd (cc)
 one_place (x ∷ ls) zero zero k l a e f same = refl
 one_place (x ∷ ls) zero (suc q) k l a e f same =
-    absurd (all_at (Differ x) ls q l a.0 f (sym same ∙ ap (λ (b : Laid). leb_of b.header) (some_same k x (sym e))))
+    absurd (all_at (Differ x) ls q l a.0 f (sym same ∙ ap (λ (b : Laid). leb_of b.header) (same_Some k x (sym e))))
 one_place (x ∷ ls) (suc p) zero k l a e f same =
-    absurd (all_at (Differ x) ls p k a.0 e (same ∙ ap (λ (b : Laid). leb_of b.header) (some_same l x (sym f))))
+    absurd (all_at (Differ x) ls p k a.0 e (same ∙ ap (λ (b : Laid). leb_of b.header) (same_Some l x (sym f))))
 one_place (x ∷ ls) (suc p) (suc q) k l a e f same = ap suc (one_place ls p q k l a.1 e f same)

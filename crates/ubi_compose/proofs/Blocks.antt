@@ -4,6 +4,7 @@ use Rattle.std.specs.Bool.{then_some}
 use Rattle.std.specs.Option.{option_map_or}
 use Rattle.std.specs.Prelude.{None, Option, Some, option_map}
 use Rattle.std.proofs.Math.Path.{ap₂}
+use Rattle.std.proofs.lemmas.Option.{same_Some}
 use Rattle.ubi_media.specs.Ec.{ec_bytes, ec_reading}
 use Rattle.ubi_media.specs.Fields.{blank}
 use Rattle.ubi_media.specs.Geometry.{IsGeometry, Sizes}
@@ -31,9 +32,6 @@ pub record IsFine (s : Sizes) (l : Laid) : Type 0 where
   pub placed : IsMislaid l.header → ⊥
   pub number : l.header.sqnum ≡ 0
   pub original : l.header.copy_flag ≡ false
-
-pub some_same : {A : Type 0} (a b : A) → Some a ≡ Some b → a ≡ b
-some_same a b e = cc
 
 -- the erase-counter header of each eraseblock of a normal image
 pub new_ec_back : (s : Sizes) → IsGeometry s → ec_reading s (ec_bytes s new_ec) ≡ ec_read.Valid new_ec
@@ -91,5 +89,5 @@ module _ (s : Sizes) (g : IsGeometry s) (l : Laid) (fine : IsFine s l) where
     no_ec_fault = λ f e. let is = ec-laid_bytes in cc;
     no_vid_fault = λ f used e. let is = vid-laid_bytes in cc;
     compatible = λ h e k. let is = foreign-laid_bytes in cc;
-    laid = λ h e k. fine.placed (subst IsMislaid (some_same h l.header (sym e ∙ member-laid_bytes)) k);
+    laid = λ h e k. fine.placed (subst IsMislaid (same_Some h l.header (sym e ∙ member-laid_bytes)) k);
   }

@@ -7,7 +7,7 @@ use Rattle.std.proofs.Math.Nat.{mul-add-mod_self_right}
 use Rattle.std.proofs.lemmas.List.{get_or-append_right, get_or-replicate, length-map, length-replicate, append_assoc}
 use Rattle.std.proofs.lemmas.List.Concat.{concat_is}
 use Rattle.std.proofs.lemmas.Nat.{div-mul-add, mul-le}
-use Rattle.std.proofs.lemmas.Option.{get_or_from_slice_get, slice_get-map, slice_get_cases, slice_get_within}
+use Rattle.std.proofs.lemmas.Option.{get_or_from_slice_get, slice_get-map, slice_get_cases, slice_get_within, same_Some}
 use Rattle.ubi_media.specs.Geometry.{IsGeometry, Sizes}
 use Rattle.ubi_scan.specs.Clean.{IsSound}
 use Rattle.ubi_scan.specs.Faults.{NoFault}
@@ -19,7 +19,7 @@ use Rattle.ubi_scan.proofs.Clean.{none_from_clean}
 use Rattle.ubi_compose.specs.Composed.{spare}
 use Rattle.ubi_compose.specs.Normal.{Laid, laid_bytes, new_ec}
 use Rattle.ubi_compose.proofs.Apart.{AreApart, one_place}
-use Rattle.ubi_compose.proofs.Blocks.{IsFine, good-laid_bytes, length-laid_bytes, named-laid_bytes, seq-laid_bytes, some_same, sound-laid_bytes, sqnum-laid_bytes}
+use Rattle.ubi_compose.proofs.Blocks.{IsFine, good-laid_bytes, length-laid_bytes, named-laid_bytes, seq-laid_bytes, sound-laid_bytes, sqnum-laid_bytes}
 use Rattle.ubi_compose.proofs.Lists.{Holds, all_at, slice_get_left}
 use Rattle.ubi_compose.proofs.Spares.{length-spare, named-spare, seq-spare, sound-spare}
 
@@ -87,7 +87,7 @@ module _ (s : Sizes) (g : IsGeometry s) (ls : List Laid) (spares : ℕ) (fine : 
     | inl e ↦ (
       e.0,
       e.1,
-      some_same (leb_of e.0.header) of
+      same_Some (leb_of e.0.header) of
           (sym (named-laid_bytes s g e.0 (all_at (IsFine s) ls p e.0 fine e.1)) ∙ ap (named_in s) (sym (block_laid p e.0 e.1)) ∙ m.named),
     )
     | inr e ↦ absurd (let named = m.named in let none = ap (named_in s) e ∙ named-spare s g in cc)

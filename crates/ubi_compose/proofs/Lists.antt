@@ -6,9 +6,8 @@ use Rattle.std.specs.FinMap as finite
 use Rattle.std.specs.FinMap.{FinMap, find, nat_cmp-IsAntisymmetric}
 use Rattle.std.specs.List.{AllByRecursion, range_with_len}
 use Rattle.std.specs.Ordering.{nat_cmp}
-use Rattle.std.proofs.lemmas.Option.{get_or_from_slice_get, slice_get-get_or, slice_get-map, slice_get_within}
+use Rattle.std.proofs.lemmas.Option.{get_or_from_slice_get, slice_get-get_or, slice_get-map, slice_get_within, same_Some}
 use Rattle.ubi_scan.proofs.Finite.{find_at, place_of}
-use Rattle.ubi_compose.proofs.Blocks.{some_same}
 
 -- x stands in the list
 abbrev pub Holds : {X : Type 0} → List X → X → Type 0
@@ -18,7 +17,7 @@ module _ {X : Type 0} where
   -- what holds of each element holds of one
   pub all_at : (P : X → Type 0) (xs : List X) (p : ℕ) (x : X) → AllByRecursion P xs → slice_get xs p ≡ Some x → P x
   all_at P [] p x all e = absurd (cc)
-  all_at P (y ∷ ys) zero x all e = subst P (some_same y x e) all.0
+  all_at P (y ∷ ys) zero x all e = subst P (same_Some y x e) all.0
   all_at P (y ∷ ys) (suc p) x all e = all_at P ys p x all.1 e
 
   pub all_append : (P : X → Type 0) (xs ys : List X) → AllByRecursion P xs → AllByRecursion P ys → AllByRecursion P (xs ++ ys)
@@ -55,7 +54,7 @@ module _ {X Y : Type 0} (f : X → Y) where
 
   pub map_holds : (xs : List X) (y : Y) → Holds (map f xs) y → (x : X) × Holds xs x × (f x ≡ y)
   map_holds [] y h = absurd (let e = h.1 in cc)
-  map_holds (x ∷ xs) y (zero, e) = (x, (zero, refl), some_same (f x) y e)
+  map_holds (x ∷ xs) y (zero, e) = (x, (zero, refl), same_Some (f x) y e)
   map_holds (x ∷ xs) y (suc p, e) = (let r = map_holds xs y (p, e) in (r.0, (suc r.1.0, r.1.1), r.2))
 
 -- what holds of the images of each element
@@ -70,7 +69,7 @@ all_flat_map P f (x ∷ xs) h = all_append P (f x) (flat_map f xs) h.0 (all_flat
 module _ {X Y : Type 0} (f : X → List Y) where
   pub holds_flat_map : (xs : List X) (x : X) (y : Y) → Holds xs x → Holds (f x) y → Holds (flat_map f xs) y
   holds_flat_map [] x y h k = absurd (let e = h.1 in cc)
-  holds_flat_map (z ∷ xs) x y (zero, e) k = holds_left (f z) (flat_map f xs) y (subst (λ w. Holds (f w) y) (sym (some_same z x e)) k)
+  holds_flat_map (z ∷ xs) x y (zero, e) k = holds_left (f z) (flat_map f xs) y (subst (λ w. Holds (f w) y) (sym (same_Some z x e)) k)
   holds_flat_map (z ∷ xs) x y (suc p, e) k = holds_right (f z) (flat_map f xs) y (holds_flat_map xs x y (p, e) k)
 
   pub flat_map_holds : (xs : List X) (y : Y) → Holds (flat_map f xs) y → (x : X) × Holds xs x × Holds (f x) y
@@ -91,7 +90,7 @@ holds_range a (suc n) (suc k) h =
 
 pub range_holds : (a n x : ℕ) → Holds (range_with_len a n) x → (a ≤ x) × (x < a + n)
 range_holds a zero x h = absurd (let e = h.1 in cc)
-range_holds a (suc n) x (zero, e) = let same : a ≡ x = some_same a x e in (omega arith, omega arith)
+range_holds a (suc n) x (zero, e) = let same : a ≡ x = same_Some a x e in (omega arith, omega arith)
 range_holds a (suc n) x (suc p, e) = let r = range_holds (a + 1) n x (p, e) in let low = r.0 in let high = r.1 in (omega arith, omega arith)
 
 -- the entries of a map by number

@@ -6,7 +6,7 @@ use Rattle.std.specs.Cmp.Lexicographic.{pointwise}
 use Rattle.std.specs.FinMap as finite
 use Rattle.std.specs.FinMap.{FinMap, nat_cmp-IsAntisymmetric, same_entries_map}
 use Rattle.std.specs.Ordering.{nat_cmp}
-use Rattle.std.proofs.lemmas.Bool.{false≢true}
+use Rattle.std.proofs.lemmas.Bool.{false≢true, cases_lt}
 use Rattle.std.proofs.lemmas.Bool.Decides.{Decides-and, Decides-like}
 use Rattle.std.proofs.lemmas.List.{take_all, take_more}
 use Rattle.std.proofs.lemmas.Option.{same_Some}
@@ -31,11 +31,7 @@ use Rattle.ubi_volume.proofs.Extracted.{leb_is, piece_is, same_range, static_is}
 use Rattle.ubi_volume.proofs.One.{kept_alike, outside}
 use Rattle.ubi_volume.proofs.VolumeAt.{case_is, reads_of}
 use Rattle.ubi_compose.specs.inner.Comparing.{AreSameLebs, IsSameLeb, TellsVolume}
-use Rattle.ubi_compose.proofs.Blocks.{some_same}
 use Rattle.ubi_compose.proofs.StoredVolumes.{count, volume_at}
-
-within_or_out : (l n : ℕ) → (l < n) ⊎ (n ≤ l)
-within_or_out l n = grind arith
 
 -- one fact told by another
 both : {A B C : Type 0} → A ↔ B → B ↔ C → A ↔ C
@@ -121,7 +117,7 @@ module _ (s : Sizes) (p q : Placed) (x y : List ℕ) (h : ArePlaces (record { si
 
   module _ (l m : FinMap nat_cmp (List ℕ)) (is : v.content ≡ content.Dynamic l) (js : w.content ≡ content.Dynamic m) where
     lebs_same : AreSameLebs s p q id size (r.reserved * size) x y r.reserved → l ≡ m
-    lebs_same same = finite.same_map nat_cmp_total nat_cmp-IsAntisymmetric l m (λ n. elim (within_or_out n r.reserved) [
+    lebs_same same = finite.same_map nat_cmp_total nat_cmp-IsAntisymmetric l m (λ n. elim (cases_lt n r.reserved) [
       | inl inside ↦ kept_alike size (finite.get l n) (finite.get m n) (keeps_as s p x h id r here v at (content.Dynamic l) is n) (keeps_as s q y k id r there w bt (content.Dynamic m) js n)
           (sym (leb_is s p x h id r here v at l is n inside) ∙ same n inside ∙ leb_is s q y k id r there w bt m js n inside)
       | inr beyond ↦ outside r.reserved n size (finite.get l n) beyond ((fits_as s p x h id r here v at (content.Dynamic l) is).2 n)
@@ -188,7 +184,7 @@ module _ (s : Sizes) (p q : Placed) (x y : List ℕ) (h : ArePlaces (record { si
     one_other tells equal =
         let v = volume_at s p x h n e d inside is in
         let w = volume_at s q y k n e d there is_there in
-        let one : v.0 ≡ w.0 = some_same v.0 w.0 (sym v.4 ∙ ap (λ (m : Meant). finite.get m.volumes e.0) equal ∙ w.4) in
+        let one : v.0 ≡ w.0 = same_Some v.0 w.0 (sym v.4 ∙ ap (λ (m : Meant). finite.get m.volumes e.0) equal ∙ w.4) in
         false≢true ((tells v.0 w.0 v.4 w.4).1 (ap (λ (z : Volume). z.content) one))
 
     -- and one more that reads the same

@@ -3,6 +3,7 @@ use Rattle.std.proofs.Common.{◌≡◌, ℕ, ◌+◌, ◌*◌, ◌<◌, ◌≤�
 use Rattle.std.specs.Prelude.{Some, flat_map}
 use Rattle.std.specs.FinMap as finite
 use Rattle.std.proofs.lemmas.Nat.{mul-le}
+use Rattle.std.proofs.lemmas.Option.{same_Some}
 use Rattle.ubi_media.specs.Geometry.{Sizes}
 use Rattle.ubi_media.specs.Record.{data_pad}
 use Rattle.ubi_media.specs.declared.record.VolumeRecord.{VolumeRecord}
@@ -17,13 +18,12 @@ use Rattle.ubi_volume.specs.declared.places.PlaceContent.TheVariants as place
 use Rattle.ubi_volume.proofs.VolumeAt.{case_is, reads_of}
 use Rattle.ubi_compose.specs.inner.Streaming.{laid_text, volume_text}
 use Rattle.ubi_compose.specs.Normal.{damaged_block, laid_bytes, new_ec, volume_blocks}
-use Rattle.ubi_compose.proofs.Blocks.{some_same}
 use Rattle.ubi_compose.proofs.Puts.{damaged_is}
 
 -- a place that counts for a dynamic volume is below what it reserves
 pub counted_below : (p : Placed) (id : ℕ) (r : VolumeRecord) → finite.get p.records.of id ≡ Some r → r.kind ≡ kind.Dynamic → (l q : ℕ) → IsCountedPlace p id l q → l < r.reserved
 counted_below p id r recorded dynamic l q is =
-    let same : r ≡ is.0 = some_same r is.0 (sym recorded ∙ is.1) in
+    let same : r ≡ is.0 = same_Some r is.0 (sym recorded ∙ is.1) in
     subst (λ (x : VolumeRecord). IsWithin x l) (sym same) is.2 dynamic
 
 -- a number of eraseblocks more
@@ -41,7 +41,7 @@ more_blocks m n size low = mul-le m size n size low (omega arith)
 pub reserved_of : (n id : ℕ) (p : Placed) (r : VolumeRecord) (c : PlaceContent) → AreWithin n p → finite.get p.records.of id ≡ Some r → finite.get p.contents id ≡ Some c → IsReserved r c
 reserved_of n id p r c within recorded listed =
     let h = within.contents id r recorded in
-    subst (IsReserved r) (some_same h.0 c (sym h.1 ∙ listed)) h.2
+    subst (IsReserved r) (same_Some h.0 c (sym h.1 ∙ listed)) h.2
 
 module _ (s : Sizes) (p : Placed) (id : ℕ) (r : VolumeRecord) (recorded : finite.get p.records.of id ≡ Some r) where
   -- a volume whose update didn't end has no eraseblock

@@ -2,6 +2,7 @@
 use Rattle.std.proofs.Common.{◌≡◌, ℕ, ◌+◌, ◌≤◌, List, length, map, refl, sym, ap, ◌∙◌, subst, arith}
 use Rattle.std.specs.Prelude.{IfSome, None, Option, Some, option_map}
 use Rattle.std.specs.FinMap as finite
+use Rattle.std.proofs.lemmas.Option.{same_Some}
 use Rattle.ubi_media.specs.Geometry.{IsGeometry}
 use Rattle.ubi_media.specs.Record.{rec_fault}
 use Rattle.ubi_media.specs.declared.record.VolumeRecord.{VolumeRecord}
@@ -10,7 +11,6 @@ use Rattle.ubi_table.proofs.ReadBack.{length-table_bytes}
 use Rattle.ubi_volume.specs.Meant.{IsMeaning, IsVolume, Meant, records_of}
 use Rattle.ubi_volume.specs.declared.content.Volume.{Volume}
 use Rattle.ubi_volume.proofs.Recorded.{record_of, space_of}
-use Rattle.ubi_compose.proofs.Blocks.{some_same}
 
 -- its records are those of its volumes
 abbrev items : Meant → List (ℕ × VolumeRecord)
@@ -18,7 +18,7 @@ items m = map (λ (e : ℕ × Volume). (e.0, e.1.entry)) (finite.entries m.volum
 
 entry_some : (o : Option Volume) (r : VolumeRecord) → option_map (λ (v : Volume). v.entry) o ≡ Some r → (v : Volume) × (o ≡ Some v) × (v.entry ≡ r)
 entry_some None r e = absurd (cc)
-entry_some (Some v) r e = (v, refl, some_same v.entry r e)
+entry_some (Some v) r e = (v, refl, same_Some v.entry r e)
 
 pub recorded : (m : Meant) (id : ℕ) (r : VolumeRecord) → finite.get (records_of m).of id ≡ Some r → (v : Volume) × (finite.get m.volumes id ≡ Some v) × (v.entry ≡ r)
 recorded m id r e = entry_some (finite.get m.volumes id) r (sym (record_of m id) ∙ e)

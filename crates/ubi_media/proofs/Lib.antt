@@ -1,3 +1,4 @@
+pub mod Cases
 pub mod CheckVectors
 pub mod Checks
 pub mod EcVectors

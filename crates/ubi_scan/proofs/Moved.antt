@@ -6,6 +6,7 @@ use Rattle.std.proofs.lemmas.Bool.Decides.{nat_tests}
 use Rattle.std.proofs.lemmas.List.{get_or_default}
 use Rattle.std.proofs.lemmas.List.Edits.{length-swap}
 use Rattle.std.proofs.lemmas.List.Sorted.{IsPermutation-keeps}
+use Rattle.std.proofs.lemmas.Bool.{cases_eq}
 use Rattle.ubi_media.specs.Geometry.{Sizes}
 use Rattle.ubi_scan.specs.Clean.{IsClean, IsSound}
 use Rattle.ubi_scan.specs.Faults.{NoFault}
@@ -13,7 +14,6 @@ use Rattle.ubi_scan.specs.Image.{block}
 use Rattle.ubi_scan.specs.Members.{IsMember, Leb, NoMember, Wins, good_at, good_in, named_in, sqnum_at, sqnum_in}
 use Rattle.ubi_scan.specs.Numbers.{seq_of}
 use Rattle.ubi_scan.proofs.Clean.{clean_from_none, none_from_clean}
-use Rattle.ubi_scan.proofs.Keys.{same_or_apart}
 
 -- each eraseblock of cs stands at a place of bs, and the other way round
 pub record IsMoved (bs cs : List (List ℕ)) (to : ℕ → ℕ) : Type 0 where
@@ -122,12 +122,12 @@ swapped_block : (bs : List (List ℕ)) (i j p : ℕ) → i < length bs → j < l
 swapped_block bs i j p a b =
     let first = set bs i (block bs j) in
     let k : j < length first = let e = length-set bs i (block bs j) in omega arith in
-    elim (same_or_apart p j) [
-      | inl e ↦ elim (same_or_apart p i) [
+    elim (cases_eq p j) [
+      | inl e ↦ elim (cases_eq p i) [
         | inl f ↦ ap (block (set first j (block bs i))) e ∙ get_or-set_same first j (block bs i) [] k ∙ ap (block bs) (sym f ∙ e ∙ sym (trade_first i j p f))
         | inr f ↦ ap (block (set first j (block bs i))) e ∙ get_or-set_same first j (block bs i) [] k ∙ ap (block bs) (sym (trade_second i j p f e))
       ]
-      | inr e ↦ get_or-set_other first j p (block bs i) [] e ∙ elim (same_or_apart p i) [
+      | inr e ↦ get_or-set_other first j p (block bs i) [] e ∙ elim (cases_eq p i) [
         | inl f ↦ ap (block first) f ∙ get_or-set_same bs i (block bs j) [] a ∙ ap (block bs) (sym (trade_first i j p f))
         | inr f ↦ get_or-set_other bs i p (block bs j) [] f ∙ ap (block bs) (sym (trade_other i j p f e))
       ]

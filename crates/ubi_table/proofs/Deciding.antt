@@ -2,12 +2,12 @@
 use Rattle.std.proofs.Common.{◌≡◌, ℕ, ◌+◌, ◌<◌, inl, inr, true, List, refl, ap, sym, ◌∙◌, subst, arith}
 use Rattle.std.specs.Prelude.{MatchOption, None, Some}
 use Rattle.std.specs.FinMap as finite
+use Rattle.std.proofs.lemmas.Bool.{cases_order}
 use Rattle.ubi_media.specs.Geometry.{Sizes}
 use Rattle.ubi_media.specs.declared.refusal.Refusal.{Refusal}
 use Rattle.ubi_media.specs.declared.refusal.Refusal.TheVariants as refusal
 use Rattle.ubi_scan.specs.Members.{NoMember, Wins, layout}
 use Rattle.ubi_scan.specs.Scan.{Found, IsScan}
-use Rattle.ubi_scan.proofs.Decided.{below_or_above}
 use Rattle.ubi_table.specs.inner.OneCopy.{IsCopyFault, IsCopyTable}
 use Rattle.ubi_table.specs.Records.{Records}
 use Rattle.ubi_table.specs.Table.{CopyIs, Decides, IsTable, IsTableFault, can_decide}
@@ -25,7 +25,7 @@ module _ (s : Sizes) (bs : List (List ℕ)) where
 
   pub none_more : (c : ℕ) → NoneDecides c → IsCopyTable s bs c None → NoneDecides (c + 1)
   none_more c h here = record {
-    each = λ d l. elim (below_or_above d c) [
+    each = λ d l. elim (cases_order d c) [
       | inl e ↦ subst (λ n. IsCopyTable s bs n None) (sym e) here
       | inr o ↦ elim o [ inl less ↦ h.each d less | inr more ↦ absurd (omega arith) ]
     ];
@@ -36,7 +36,7 @@ module _ (s : Sizes) (bs : List (List ℕ)) where
   decides c what l h is can = record {
     is = is;
     can = can;
-    before = elim (below_or_above c 0) [
+    before = elim (cases_order c 0) [
       | inl e ↦ inl e
       | inr o ↦ elim o [ inl less ↦ absurd (omega arith) | inr more ↦ (let zero = h.each 0 more in inr (omega arith, zero.0, zero.1, zero.2)) ]
     ];

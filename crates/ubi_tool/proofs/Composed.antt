@@ -1,6 +1,7 @@
 -- What is composed of a text, and listed of that.
 use Rattle.std.proofs.Common.{◌≡◌, ℕ, List, Some, ap, sym, subst, ◌∙◌, arith}
 use Rattle.std.specs.Prelude.{Ok, option_map}
+use Rattle.std.proofs.lemmas.Option.{same_Some}
 use Rattle.ubi_media.specs.Geometry.{Sizes}
 use Rattle.ubi_scan.specs.Image.{Image}
 use Rattle.ubi_volume.specs.Accepts.{Accepts}
@@ -44,9 +45,6 @@ composed_of m spares o p a (fits room ok h) (crowded many k) g = absurd (omega (
 composed_of m spares o p a (crowded many h) (fits room ok k) g = absurd (omega (arith, room, many))
 composed_of m spares o p a (crowded many h) (crowded more k) g = one_text o p a _ g h k
 
-some_cause : (x y : ℕ × SpecCause) → Some x ≡ Some y → x ≡ y
-some_cause x y e = cc
-
 -- what composing answers is a function of the text and the number of spares
 pub one_composed : (s : Sizes) (text : List ℕ) (spares : ℕ) (o p : Outcome) (a : Answer)
     → Composes s text spares o → Composes s text spares p → Gives o a → Gives p a
@@ -56,7 +54,7 @@ one_composed s text spares o p a (described m d x) (unread line c e k) g = absur
 one_composed s text spares o p a (described m d x) (unmade c is k) g = absurd (d.1 c is.1.stands)
 one_composed s text spares o p a (unread line c e h) (described n d y) g = absurd (let k = sym d.0 ∙ e in cc)
 one_composed s text spares o p a (unread line c e h) (unread other b f k) g =
-    let one : (line, c) ≡ (other, b) = some_cause (line, c) (other, b) (sym e ∙ f) in
+    let one : (line, c) ≡ (other, b) = same_Some (line, c) (other, b) (sym e ∙ f) in
     one_text o p a _ g h (subst (λ (x : ℕ × SpecCause). Gives p (says (spec_line x.0 x.1) 1)) (sym one) k)
 one_composed s text spares o p a (unread line c e h) (unmade b is k) g = absurd (let x = sym e ∙ is.0 in cc)
 one_composed s text spares o p a (unmade c is h) (described n d y) g = absurd (d.1 c is.1.stands)

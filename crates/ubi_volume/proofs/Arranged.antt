@@ -14,7 +14,8 @@ use Rattle.std.proofs.lemmas.List.Sorted.{Contains-permutation, IsPermutation-ma
 use Rattle.std.proofs.lemmas.Map.Entries.{sum_by_values_permutation}
 use Rattle.std.proofs.lemmas.Map.Keys.{IsDistinct-IsPermutation, IsDistinct-from_apart, IsDistinct-head, IsDistinct-tail}
 use Rattle.std.proofs.lemmas.Map.Lookups.{exact_unsigned}
-use Rattle.std.proofs.lemmas.Option.{get_or_from_slice_get, slice_get-get_or, slice_get-map, slice_get_within}
+use Rattle.std.proofs.lemmas.Option.{get_or_from_slice_get, slice_get-get_or, slice_get-map, slice_get_within, same_Some}
+use Rattle.std.proofs.lemmas.Bool.{cases_order}
 use Rattle.ubi_media.specs.Fields.{blank, is_blank}
 use Rattle.ubi_media.specs.Geometry.{Sizes, slots}
 use Rattle.ubi_media.specs.Record.{rec_fault, usable}
@@ -22,7 +23,7 @@ use Rattle.ubi_media.specs.declared.record.RecFault.{RecFault}
 use Rattle.ubi_media.specs.declared.record.VolumeRecord.{VolumeRecord}
 use Rattle.ubi_media.specs.declared.vid.VolKind.{VolKind}
 use Rattle.ubi_media.specs.declared.vid.VolKind.TheVariants as kind
-use Rattle.ubi_scan.proofs.Decided.{below_or_above}
+use Rattle.ubi_media.proofs.Cases.{within_or_past}
 use Rattle.ubi_scan.proofs.Entries.{sorted_entries}
 use Rattle.ubi_scan.proofs.Finite.{place_of}
 use Rattle.ubi_scan.proofs.Keys.{told}
@@ -36,7 +37,7 @@ use Rattle.ubi_volume.specs.declared.content.Content.TheVariants as content
 use Rattle.ubi_volume.specs.declared.content.Volume.{Volume}
 use Rattle.ubi_volume.specs.declared.errors.MeaningCause.TheVariants as cause
 use Rattle.ubi_volume.proofs.Blanks.{other_text}
-use Rattle.ubi_volume.proofs.Winners.{no_some, some_same}
+use Rattle.ubi_volume.proofs.Winners.{no_some}
 use Rattle.ubi_volume.proofs.Within.{each_within}
 use Rattle.ubi_volume.proofs.WithoutBlank.{LebMap, get_without_blank, is_kept}
 
@@ -44,9 +45,6 @@ abbrev pub Item : Type 0
 Item = ℕ × Volume
 
 -- ---- a content fits, or it doesn't
-at_most_or_above : (a b : ℕ) → (a ≤ b) ⊎ (b < a)
-at_most_or_above a b = grind arith
-
 kind_or_other : (a b : VolKind) → (a ≡ b) ⊎ (a ≢ b)
 kind_or_other kind.Dynamic kind.Dynamic = inl refl
 kind_or_other kind.Dynamic kind.Static = inr (λ e. cc)
@@ -71,7 +69,7 @@ fits_or_not s r (content.Static text) = elim (is_or_not r.marker false) [
   | inr n ↦ inr (λ f. n f.0)
   | inl m ↦ elim (kind_or_other r.kind kind.Static) [
     | inr n ↦ inr (λ f. n f.1)
-    | inl k ↦ elim (at_most_or_above (length text) (r.reserved * usable s r)) [ inl l ↦ inl (m, k, l) | inr g ↦ inr (λ f. let l = f.2 in omega arith) ]
+    | inl k ↦ elim (within_or_past (length text) (r.reserved * usable s r)) [ inl l ↦ inl (m, k, l) | inr g ↦ inr (λ f. let l = f.2 in omega arith) ]
   ]
 ]
 fits_or_not s r (content.Dynamic lebs) = elim (is_or_not r.marker false) [
@@ -137,7 +135,7 @@ apart_tail e es h = record { each = λ i j x y a b same. (let n = h.each (suc i)
 found_at : (es : Items) (i q : ℕ) (v : Volume) → AreApart es → IsItem es i (q, v) → find nat_cmp q es ≡ Some v
 found_at [] i q v apart at = absurd (no_some (q, v) at)
 found_at (e ∷ es) zero q v apart at =
-    let same : e ≡ (q, v) = some_same e (q, v) at in
+    let same : e ≡ (q, v) = same_Some e (q, v) at in
     ap (λ r. cond (is_eq r) (Some e.1) (find nat_cmp q es)) (ap (nat_cmp q) (ap (λ (x : Item). x.0) same) ∙ tied_itself nat_cmp_total q) ∙ ap (λ (x : Item). Some x.1) same
 found_at (e ∷ es) (suc i) q v apart at = elim (told nat_cmp nat_cmp_total exact_unsigned q e.0) [
   | inl t ↦ absurd (let n = apart.each (suc i) 0 (q, v) e at refl t.1 in omega arith)
@@ -148,7 +146,7 @@ found_at (e ∷ es) (suc i) q v apart at = elim (told nat_cmp nat_cmp_total exac
 some_found : (es : Items) (i : ℕ) (x : Item) → IsItem es i x → find nat_cmp x.0 es ≡ None → ⊥
 some_found [] i x at none = no_some x at
 some_found (e ∷ es) zero x at none =
-    let same : e ≡ x = some_same e x at in
+    let same : e ≡ x = same_Some e x at in
     no_some e.1 (sym none ∙ ap (λ r. cond (is_eq r) (Some e.1) (find nat_cmp x.0 es)) (ap (nat_cmp x.0) (ap (λ (y : Item). y.0) same) ∙ tied_itself nat_cmp_total x.0))
 some_found (e ∷ es) (suc i) x at none = elim (told nat_cmp nat_cmp_total exact_unsigned x.0 e.0) [
   | inl t ↦ no_some e.1 (sym none ∙ ap (λ b. cond b (Some e.1) (find nat_cmp x.0 es)) t.0)
@@ -194,7 +192,7 @@ keyed es i d l = by (slice_get es i) refl
 
     by : (o : Option Item) → slice_get es i ≡ o → (x : Item) × IsItem es i x × (x.0 ≡ get_or (keys_of es) i d)
     by None e = absurd (no_some _ (sym (ap (option_map (λ (x : Item). x.0)) e) ∙ at))
-    by (Some x) e = (x, e, some_same x.0 _ (sym (ap (option_map (λ (x : Item). x.0)) e) ∙ at))
+    by (Some x) e = (x, e, same_Some x.0 _ (sym (ap (option_map (λ (x : Item). x.0)) e) ∙ at))
 
 distinct : (es : Items) → AreApart es → IsDistinct same_number (keys_of es)
 distinct es apart = IsDistinct-from_apart same_number (keys_of es) (λ i j d l k.
@@ -237,10 +235,10 @@ module _ (s : Sizes) (items : Items) (none : NoCause s items) where
 
       by : (o : Option Item) → slice_get items i ≡ o → (w : Item) × IsItem items i w × (item_without_blank w ≡ x)
       by None e = absurd (no_some x (sym (ap (option_map item_without_blank) e) ∙ from))
-      by (Some w) e = (w, e, some_same (item_without_blank w) x (sym (ap (option_map item_without_blank) e) ∙ from))
+      by (Some w) e = (w, e, same_Some (item_without_blank w) x (sym (ap (option_map item_without_blank) e) ∙ from))
 
   one_number : (i j : ℕ) (x y : Item) → IsItem items i x → IsItem items j y → x.0 ≡ y.0 → i ≡ j
-  one_number i j x y a b same = elim (below_or_above i j) [
+  one_number i j x y a b same = elim (cases_order i j) [
     | inl e ↦ e
     | inr o ↦ elim o [
       | inl l ↦ absurd (none (cause.SameId j) (i, y, x, b, a, l, same))
@@ -249,7 +247,7 @@ module _ (s : Sizes) (items : Items) (none : NoCause s items) where
   ]
 
   one_name : (i j : ℕ) (x y : Item) → IsItem items i x → IsItem items j y → x.1.entry.name ≡ y.1.entry.name → i ≡ j
-  one_name i j x y a b same = elim (below_or_above i j) [
+  one_name i j x y a b same = elim (cases_order i j) [
     | inl e ↦ e
     | inr o ↦ elim o [
       | inl l ↦ absurd (none (cause.SameName j i) (y, x, b, a, l, same))
@@ -270,7 +268,7 @@ module _ (s : Sizes) (items : Items) (none : NoCause s items) where
   sound i w at (Some f) e = absurd (none (cause.Record i f) (w, at, e))
 
   below_slots : (i : ℕ) (w : Item) → IsItem items i w → w.0 < slots s
-  below_slots i w at = elim (at_most_or_above (slots s) w.0) [ inl l ↦ absurd (none (cause.IdRange i) (w, at, l)) | inr l ↦ l ]
+  below_slots i w at = elim (within_or_past (slots s) w.0) [ inl l ↦ absurd (none (cause.IdRange i) (w, at, l)) | inr l ↦ l ]
 
   fits : (i : ℕ) (w : Item) → IsItem items i w → Fits s w.1.entry w.1.content
   fits i w at = elim (fits_or_not s w.1.entry w.1.content) [ inl f ↦ f | inr n ↦ absurd (none (cause.ContentRange i) (w, at, n)) ]
@@ -312,7 +310,7 @@ module _ (s : Sizes) (items : Items) (none : NoCause s items) where
         let b = volume_at j w f in
         let alike : a.1.1.entry.name ≡ b.1.1.entry.name = ap (λ (z : Item). z.1.entry.name) a.3 ∙ same ∙ sym (ap (λ (z : Item). z.1.entry.name) b.3) in
         let place : a.0 ≡ b.0 = one_name a.0 b.0 a.1 b.1 a.2 b.2 alike in
-        let one : a.1 ≡ b.1 = some_same a.1 b.1 (sym a.2 ∙ ap (slice_get items) place ∙ b.2) in
+        let one : a.1 ≡ b.1 = same_Some a.1 b.1 (sym a.2 ∙ ap (slice_get items) place ∙ b.2) in
         sym (ap (λ (z : Item). z.0) a.3) ∙ ap (λ (z : Item). z.0) one ∙ ap (λ (z : Item). z.0) b.3
 
     reserved : sum_by (λ (v : Volume). v.entry.reserved) (finite.values (from_entries {R = nat_cmp} sorted)) ≡ sum_by (λ (e : Item). e.1.entry.reserved) items
@@ -322,7 +320,7 @@ module _ (s : Sizes) (items : Items) (none : NoCause s items) where
         ∙ same_sum items 0
 
     space : 2 + sum_by (λ (v : Volume). v.entry.reserved) (finite.values (from_entries {R = nat_cmp} sorted)) ≤ s.pebs
-    space = elim (at_most_or_above (2 + sum_by (λ (e : Item). e.1.entry.reserved) items) s.pebs) [
+    space = elim (within_or_past (2 + sum_by (λ (e : Item). e.1.entry.reserved) items) s.pebs) [
       | inl l ↦ (let e = reserved in omega arith)
       | inr g ↦ absurd (none cause.NoSpace g)
     ]

@@ -5,6 +5,8 @@ use Rattle.std.specs.FinMap as finite
 use Rattle.std.specs.Option.{option_map_or}
 use Rattle.std.proofs.Math.Nat.{div-add-mod, mod-lt}
 use Rattle.std.proofs.lemmas.Nat.{mul-le}
+use Rattle.std.proofs.lemmas.Bool.{cases_order}
+use Rattle.std.proofs.lemmas.Option.{same_Some}
 use Rattle.ubi_media.specs.Check.{check}
 use Rattle.ubi_media.specs.Geometry.{Sizes, leb_size}
 use Rattle.ubi_media.specs.Record.{usable}
@@ -31,7 +33,7 @@ use Rattle.ubi_volume.specs.declared.places.PlaceContent.TheVariants as place
 use Rattle.ubi_volume.proofs.Alike.{full_piece, short_piece}
 use Rattle.ubi_volume.proofs.SomeContent.{AreLebs, some_content}
 use Rattle.ubi_volume.proofs.Static.{damaged_is, piece_checked, piece_unchecked, read_more, read_none, static_is, used_by}
-use Rattle.ubi_volume.proofs.Winners.{found_wins, no_some, some_same}
+use Rattle.ubi_volume.proofs.Winners.{found_wins, no_some}
 
 -- what is read of a winner
 module _ (s : Sizes) (bytes : List ℕ) (found : Found) (scan : IsScan s (blocks_of s bytes) found) (vol lnum p : ℕ)
@@ -67,7 +69,7 @@ module _ (s : Sizes) (bs : List (List ℕ)) (vol used : ℕ) where
       by_text : (text : Option (List ℕ)) → PieceIs s bs vol used n text → Some more ≡ option_map length text → SizeIsRead s bs vol used (n + 1) (size + more)
       by_text None is e = absurd (no_some more (sym e))
       by_text (Some text) is e =
-          let long : more ≡ length text = some_same more (length text) e in
+          let long : more ≡ length text = same_Some more (length text) e in
           (h.0 ++ text, read_more s bs vol used n h.0 text h.1 is, (let both = length-append h.0 text in let old = h.2 in omega (arith, both, old, long)))
 
   pub no_piece : (n : ℕ) → PieceSizeIs s bs vol used n None → PieceIs s bs vol used n None
@@ -93,15 +95,12 @@ module _ (f : ℕ → List ℕ) (size : ℕ) (some : 1 ≤ size) where
       let both = length-append (f p) (flat_map f (q ∷ ps)) in
       (omega (arith, first, rest, both), omega (arith, first, rest, both))
 
-apart : (a b : ℕ) → (a ≡ b) ⊎ (a < b) ⊎ (b < a)
-apart a b = grind arith
-
 pub pieces_are : (size t n : ℕ) → 1 ≤ size → t ≤ n * size → n * size < t + size → pieces size t ≡ n
 pieces_are size t n some most least =
     let whole = div-add-mod (t + (size - 1)) size in
     let rest : (t + (size - 1)) % size < size = mod-lt (t + (size - 1)) (omega arith) in
     let turned : size * pieces size t ≡ pieces size t * size = omega arith in
-    elim (apart (pieces size t) n) [
+    elim (cases_order (pieces size t) n) [
       | inl same ↦ same
       | inr (inl less) ↦
           let next : (pieces size t + 1) * size ≤ n * size = mul-le (pieces size t + 1) size n size (omega arith) (omega arith) in

@@ -3,7 +3,7 @@ use Rattle.std.proofs.Common.{◌≡◌, ℕ, zero, suc, ◌+◌, ◌<◌, ◌==
 use Rattle.std.specs.Prelude.{◌↔◌, IsTrue, None, Option, Some, position, slice_get, sum_by}
 use Rattle.std.proofs.lemmas.Bool.Decides.{nat_tests}
 use Rattle.std.proofs.lemmas.List.Quantifiers.{position-Some}
-use Rattle.std.proofs.lemmas.Option.{get_or_from_slice_get, slice_get-get_or, slice_get_read, slice_get_within}
+use Rattle.std.proofs.lemmas.Option.{get_or_from_slice_get, slice_get-get_or, slice_get_read, slice_get_within, same_Some}
 use Rattle.std.proofs.lemmas.List.Sums.{fails_before_first}
 use Rattle.std.specs.List.{position_or_len}
 use Rattle.std.proofs.lemmas.Slice.Eq.{slice_eq-Decides}
@@ -12,16 +12,14 @@ use Rattle.ubi_media.specs.Fields.{same_bytes}
 use Rattle.ubi_media.specs.Geometry.{Sizes}
 use Rattle.ubi_media.specs.Record.{rec_fault}
 use Rattle.ubi_media.specs.declared.record.RecFault.{RecFault}
+use Rattle.ubi_media.proofs.Cases.{below_or_last}
 use Rattle.ubi_volume.specs.inner.Making.{IsFirstOf, NoneBelow}
 use Rattle.ubi_volume.specs.Made.{IsItem, Items, Stands, item, rank}
 use Rattle.ubi_volume.specs.Meant.{Fits}
 use Rattle.ubi_volume.specs.declared.content.Volume.{Volume}
 use Rattle.ubi_volume.specs.declared.errors.MeaningCause.{MeaningCause}
 use Rattle.ubi_volume.specs.declared.errors.MeaningCause.TheVariants as cause
-use Rattle.ubi_volume.proofs.Winners.{no_some, some_same}
-
-last_or_below : (q n : ℕ) → q < n + 1 → (q < n) ⊎ (q ≡ n)
-last_or_below q n h = grind arith
+use Rattle.ubi_volume.proofs.Winners.{no_some}
 
 never_true : (b : Bool) → b ≡ false → IsTrue b → ⊥
 never_true b e t = cc
@@ -31,7 +29,7 @@ module _ (s : Sizes) (items : Items) where
   none_yet r d e l st = absurd (omega arith)
 
   one_more : (r n : ℕ) → NoneBelow s items r n → ((d : MeaningCause) → rank d ≡ r → item d ≡ n → Stands s items d → ⊥) → NoneBelow s items r (n + 1)
-  one_more r n below at d e l st = elim (last_or_below (item d) n l) [ inl b ↦ below d e b st | inr same ↦ at d e same st ]
+  one_more r n below at d e l st = elim (below_or_last (item d) n l) [ inl b ↦ below d e b st | inr same ↦ at d e same st ]
 
   -- a cause of an item names one of the list
   in_list : (d : MeaningCause) → (rank d ≡ 5 → ⊥) → Stands s items d → item d < length items
@@ -52,7 +50,7 @@ module _ (s : Sizes) (items : Items) where
     here = slice_get_read items (length items) n e refl inside is
 
     same_item : (i : ℕ) (x : ℕ × Volume) → i ≡ n → IsItem items i x → x ≡ e
-    same_item i x k h = some_same x e (sym h ∙ ap (slice_get items) k ∙ here)
+    same_item i x k h = same_Some x e (sym h ∙ ap (slice_get items) k ∙ here)
 
     -- the record breaks none, where none does
     pub sound_here : IsFirstOf s items 3 None → (o : Option RecFault) → rec_fault s e.1.entry ≡ o → rec_fault s e.1.entry ≡ None

@@ -5,23 +5,19 @@ use Rattle.std.specs.Cmp.{nat_cmp_total}
 use Rattle.std.specs.FinMap as finite
 use Rattle.std.specs.FinMap.{FinMap}
 use Rattle.std.specs.Ordering.{nat_cmp}
+use Rattle.std.proofs.lemmas.Bool.{cases_lt}
 use Rattle.ubi_media.specs.Fields.{blank, is_blank}
 use Rattle.ubi_media.specs.Geometry.{Sizes, leb_size}
 use Rattle.ubi_media.specs.Record.{usable}
 use Rattle.ubi_media.specs.declared.record.VolumeRecord.{VolumeRecord}
 use Rattle.ubi_media.specs.declared.vid.VolKind.TheVariants as kind
+use Rattle.ubi_media.proofs.Cases.{below_or_last}
 use Rattle.ubi_scan.specs.Image.{block, leb}
 use Rattle.ubi_scan.specs.Members.{NoMember, Wins}
 use Rattle.ubi_scan.proofs.Keys.{apart_test, same_test}
 use Rattle.ubi_volume.specs.inner.Gathered.{AreGathered, ContentIs, LebKept}
 use Rattle.ubi_volume.specs.declared.content.Content.TheVariants as content
 use Rattle.ubi_volume.proofs.Blanks.{blank_text, other_text}
-
-below_or_out : (l n : ℕ) → (l < n) ⊎ (n ≤ l)
-below_or_out l n = grind arith
-
-last_or_below : (l n : ℕ) → l < n + 1 → (l < n) ⊎ (l ≡ n)
-last_or_below l n h = grind arith
 
 module _ (s : Sizes) (bs : List (List ℕ)) (vol : ℕ) (r : VolumeRecord) where
   -- what is kept of one LEB
@@ -55,7 +51,7 @@ module _ (s : Sizes) (bs : List (List ℕ)) (vol : ℕ) (r : VolumeRecord) where
   gathered_more : (n : ℕ) (lebs more : FinMap nat_cmp (List ℕ)) → AreGathered s bs vol r n lebs → LebKept s bs vol r n (finite.get more n)
       → ((l : ℕ) → l ≢ n → finite.get more l ≡ finite.get lebs l) → AreGathered s bs vol r (n + 1) more
   gathered_more n lebs more h here same = record {
-    below = λ l k. elim (last_or_below l n k) [
+    below = λ l k. elim (below_or_last l n k) [
       | inl b ↦ subst (LebKept s bs vol r l) (sym (same l (λ e. omega arith))) (h.below l b)
       | inr e ↦ subst (λ (k : ℕ). LebKept s bs vol r k (finite.get more k)) (sym e) here
     ];
@@ -76,7 +72,7 @@ module _ (s : Sizes) (bs : List (List ℕ)) (vol : ℕ) (r : VolumeRecord) where
 
   kept_fits : (lebs : FinMap nat_cmp (List ℕ)) → AreGathered s bs vol r r.reserved lebs → (l : ℕ)
       → IfSome (finite.get lebs l) (λ text. (l < r.reserved) × (length text ≡ usable s r)) × IfSome (finite.get lebs l) (λ text. text ≢ blank (usable s r))
-  kept_fits lebs h l = elim (below_or_out l r.reserved) [
+  kept_fits lebs h l = elim (cases_lt l r.reserved) [
     | inl b ↦ by_size (finite.get lebs l) b (h.below l b)
     | inr o ↦ subst (λ (t : Option (List ℕ)). IfSome t (λ text. (l < r.reserved) × (length text ≡ usable s r)) × IfSome t (λ text. text ≢ blank (usable s r))) (sym (h.none l o)) (tt, tt)
   ]

@@ -10,6 +10,7 @@ use Rattle.std.specs.Ordering.{is_lt, nat_cmp}
 use Rattle.std.proofs.lemmas.List.{map-append}
 use Rattle.std.proofs.lemmas.List.Elements.{All-append, All-head, All-tail}
 use Rattle.std.proofs.lemmas.Map.Lookups.{exact_unsigned}
+use Rattle.std.proofs.lemmas.Option.{same_Some}
 use Rattle.ubi_media.specs.Geometry.{IsGeometry, Sizes, slots}
 use Rattle.ubi_media.specs.Record.{rec_fault}
 use Rattle.ubi_media.specs.declared.record.VolumeRecord.{VolumeRecord}
@@ -25,7 +26,7 @@ use Rattle.ubi_volume.specs.MeantCoded.{AreVolumes}
 use Rattle.ubi_volume.specs.declared.content.Volume.{Volume}
 use Rattle.ubi_table.proofs.Held.{table_records}
 use Rattle.ubi_table.proofs.NoRecords.{no_space}
-use Rattle.ubi_volume.proofs.Winners.{no_some, some_same}
+use Rattle.ubi_volume.proofs.Winners.{no_some}
 
 abbrev pub Item : Type 0
 Item = ℕ × Volume
@@ -56,7 +57,7 @@ module _ (s : Sizes) (bs : List (List ℕ)) where
   found_volume [] all id v e = absurd (no_some v e)
   found_volume (w ∷ vs) all id v e = elim (told nat_cmp nat_cmp_total exact_unsigned id w.0) [
     | inl t ↦
-        let same : w.1 ≡ v = some_same w.1 v (sym (ap (λ b. cond b (Some w.1) (find nat_cmp id vs)) t.0) ∙ e) in
+        let same : w.1 ≡ v = same_Some w.1 v (sym (ap (λ b. cond b (Some w.1) (find nat_cmp id vs)) t.0) ∙ e) in
         let is : ContentIs s bs w.0 w.1.entry w.1.content = All-head (λ (v : Item). ContentIs s bs v.0 v.1.entry v.1.content) w vs all in (
           ap (λ b. cond b (Some w.1.entry) (find nat_cmp id (map (λ (v : Item). (v.0, v.1.entry)) vs))) t.0 ∙ ap (λ (x : Volume). Some x.entry) same,
           subst (λ (x : Volume). ContentIs s bs id x.entry x.content) same (subst (λ (k : ℕ). ContentIs s bs k w.1.entry w.1.content) (sym t.1) is),

@@ -4,13 +4,11 @@ use Rattle.std.proofs.lemmas.List.{length-take-le, take_all}
 use Rattle.ubi_media.specs.Geometry.{Sizes}
 use Rattle.ubi_media.specs.declared.refusal.Refusal.{Refusal}
 use Rattle.ubi_media.specs.declared.refusal.Refusal.TheVariants as refusal
+use Rattle.ubi_media.proofs.Cases.{within_or_past}
 use Rattle.ubi_scan.specs.Image.{Image, judged}
 use Rattle.ubi_volume.specs.Accepts.{Accepts, Refuses}
 use Rattle.ubi_volume.specs.MeaningLaws.{JudgedAlone}
 use Rattle.ubi_volume.specs.Meant.{Meant}
-
-within_or_beyond : (n most : ℕ) → (n ≤ most) ⊎ (most < n)
-within_or_beyond n most = grind arith
 
 abbrev image : Sizes → List ℕ → Image
 image s bytes = record { sizes = s; bytes = bytes }
@@ -29,7 +27,7 @@ never_accepted s xs m a h = let few = h.whole.fits in omega arith
 pub judged_alone : JudgedAlone
 judged_alone s bytes =
     let most = s.pebs * s.peb_size in
-    elim (within_or_beyond (length bytes) most) [
+    elim (within_or_past (length bytes) most) [
       | inl few ↦
           let same : judged s bytes ≡ bytes = take_all (most + 1) bytes (omega arith) in (
             λ m. (λ h. subst (λ xs. Accepts (image s xs) m) same h, λ h. subst (λ xs. Accepts (image s xs) m) (sym same) h),

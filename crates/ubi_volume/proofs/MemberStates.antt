@@ -6,6 +6,7 @@ use Rattle.std.proofs.lemmas.Option.{slice_get-get_or, slice_get_past}
 use Rattle.std.proofs.Math.Seq.{get_or-append_seam}
 use Rattle.ubi_media.specs.Geometry.{Sizes}
 use Rattle.ubi_media.specs.declared.vid.VidHeader.{VidHeader}
+use Rattle.ubi_media.proofs.Cases.{below_same_or_above}
 use Rattle.ubi_scan.specs.Image.{block}
 use Rattle.ubi_scan.specs.Members.{IsMember, Leb, Wins, leb_of, member}
 use Rattle.ubi_table.specs.Records.{Records}
@@ -57,14 +58,11 @@ module _ (s : Sizes) (bs : List (List ℕ)) (t : Records) (p : ℕ) where
   state_of_beaten of m l b k = let h = some_header of m in beaten_state h.0 h.1 of m l b (k h.0 h.1)
 
 -- one more state behind the others
-last_or_below : (q n : ℕ) → (q < n) ⊎ (q ≡ n) ⊎ (n < q)
-last_or_below q n = grind arith
-
 pub states_more : (P : ℕ → BlockState → Type 0) (xs : List BlockState) (x : BlockState) (n : ℕ) → length xs ≡ n → ((q : ℕ) → IfSome (slice_get xs q) (P q)) → P n x
     → (q : ℕ) → IfSome (slice_get (xs ++ x ∷ []) q) (P q)
 states_more P xs x n size h new q =
     let len = length-append xs (x ∷ []) in
-    elim (last_or_below q n) [
+    elim (below_same_or_above q n) [
       | inl below ↦
           let old : IfSome (Some (get_or xs q state.Blank)) (P q) = subst (λ (o : Option BlockState). IfSome o (P q)) (slice_get-get_or xs q state.Blank (omega arith)) (h q) in
           subst (λ (o : Option BlockState). IfSome o (P q)) (sym (slice_get-get_or (xs ++ x ∷ []) q state.Blank (omega arith) ∙ ap Some (get_or_append_left xs (x ∷ []) state.Blank q (omega arith)))) old

@@ -2,15 +2,17 @@
 use Rattle.std.proofs.Common.{◌≡◌, ℕ, ◌+◌, ◌<◌, ◌⊎◌, inl, inr, Bool, false, List, ap, sym, ◌∙◌, subst, arith}
 use Rattle.std.specs.Prelude.{◌↔◌, IsTrue, Some, None}
 use Rattle.std.specs.FinMap as finite
+use Rattle.std.proofs.lemmas.Option.{same_Some}
 use Rattle.ubi_media.specs.Geometry.{Sizes}
 use Rattle.ubi_media.specs.declared.record.VolumeRecord.{VolumeRecord}
 use Rattle.ubi_media.specs.declared.vid.VidHeader.{VidHeader}
+use Rattle.ubi_media.proofs.Cases.{below_or_last}
 use Rattle.ubi_scan.specs.Image.{block}
 use Rattle.ubi_scan.specs.Members.{Leb, Wins, leb_of, member}
 use Rattle.ubi_table.specs.Records.{Records}
 use Rattle.ubi_volume.specs.Accepts.{IsMismatched, IsUnlike, IsWithin}
 use Rattle.ubi_volume.specs.inner.Headers.{Disagrees}
-use Rattle.ubi_volume.proofs.Winners.{named_by, some_same, no_some}
+use Rattle.ubi_volume.proofs.Winners.{named_by, no_some}
 
 -- a test that answers what doesn't hold is false
 pub never : {A : Type 0} → (A → ⊥) → IsTrue false ↔ A
@@ -18,9 +20,6 @@ never h = (λ e. absurd (cc), λ a. absurd (h a))
 
 pub by_both : {b : Bool} {A B : Type 0} → IsTrue b ↔ A → A ↔ B → IsTrue b ↔ B
 by_both h k = (λ t. k.0 (h.0 t), λ x. h.1 (k.1 x))
-
-last_or_below : (q n : ℕ) → q < n + 1 → (q < n) ⊎ (q ≡ n)
-last_or_below q n h = grind arith
 
 pub not_true : (b : Bool) → b ≡ false → IsTrue b → ⊥
 not_true b e t = cc
@@ -43,8 +42,8 @@ module _ (s : Sizes) (bs : List (List ℕ)) (t : Records) where
     mismatch_by_header r got = (
       λ d. (r, h, record { vol = h.vol_id; lnum = h.lnum; wins = w; recorded = got; within = d.1 }, d.0, e, d.2),
       λ m.
-          let same : m.0 ≡ r = some_same m.0 r (sym (recorded_as m) ∙ got) in
-          let header : m.1 ≡ h = some_same m.1 h (sym m.4 ∙ e) in
+          let same : m.0 ≡ r = same_Some m.0 r (sym (recorded_as m) ∙ got) in
+          let header : m.1 ≡ h = same_Some m.1 h (sym m.4 ∙ e) in
           let within : IsWithin m.0 h.lnum = subst (λ (of : Leb). IsWithin m.0 of.1) (named m) m.2.within in
           subst (λ (r : VolumeRecord). Disagrees s r h) same (m.3, within, subst (λ (k : VidHeader). IsUnlike s m.0 k) header m.5),
     )
@@ -54,7 +53,7 @@ module _ (s : Sizes) (bs : List (List ℕ)) (t : Records) where
   NoneBelow n = (q : ℕ) → q < n → IsMismatched s bs t q → ⊥
 
   pub none_more : (n : ℕ) (b : Bool) → b ≡ false → IsTrue b ↔ IsMismatched s bs t n → NoneBelow n → NoneBelow (n + 1)
-  none_more n b e h below q l m = elim (last_or_below q n l) [
+  none_more n b e h below q l m = elim (below_or_last q n l) [
     | inl less ↦ below q less m
     | inr same ↦ not_true b e (h.1 (subst (IsMismatched s bs t) same m))
   ]

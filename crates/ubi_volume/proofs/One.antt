@@ -5,6 +5,7 @@ use Rattle.std.specs.Cmp.{nat_cmp_total}
 use Rattle.std.specs.FinMap as finite
 use Rattle.std.specs.FinMap.{nat_cmp-IsAntisymmetric}
 use Rattle.std.proofs.lemmas.Grind.{same_number_lists}
+use Rattle.std.proofs.lemmas.Bool.{cases_order, cases_lt}
 use Rattle.ubi_media.specs.Fields.{blank}
 use Rattle.ubi_media.specs.Geometry.{Sizes}
 use Rattle.ubi_media.specs.Record.{usable}
@@ -23,12 +24,6 @@ use Rattle.ubi_volume.specs.Meant.{Meant, Fits, KeepsNoBlank, IsVolume}
 use Rattle.ubi_volume.specs.declared.content.Content.{Content}
 use Rattle.ubi_volume.specs.declared.content.Content.TheVariants as content
 use Rattle.ubi_volume.specs.declared.content.Volume.{Volume}
-
-pub same_or_less : (a b : ℕ) → (a ≡ b) ⊎ (a < b) ⊎ (b < a)
-same_or_less a b = grind arith
-
-within_or_out : (l n : ℕ) → (l < n) ⊎ (n ≤ l)
-within_or_out l n = grind arith
 
 -- texts that aren't blank are kept alike where they are read alike
 pub kept_alike : (size : ℕ) (o p : Option (List ℕ)) → IfSome o (λ text. text ≢ blank size) → IfSome p (λ text. text ≢ blank size) → unwrap_or o (blank size) ≡ unwrap_or p (blank size) → o ≡ p
@@ -54,7 +49,7 @@ module _ (s : Sizes) (bs : List (List ℕ)) (clean : NoFault s bs) (vol : ℕ) (
 
   whole_unique : (ps qs : List ℕ) → AreWhole s bs vol r ps → AreWhole s bs vol r qs → ps ≡ qs
   whole_unique ps qs a b =
-      let same : length ps ≡ length qs = elim (same_or_less (length ps) (length qs)) [
+      let same : length ps ≡ length qs = elim (cases_order (length ps) (length qs)) [
         | inl e ↦ e
         | inr t ↦ elim t [ inl h ↦ absurd (no_more ps qs a b h) | inr h ↦ absurd (no_more qs ps b a h) ]
       ] in
@@ -86,7 +81,7 @@ module _ (s : Sizes) (bs : List (List ℕ)) (clean : NoFault s bs) (vol : ℕ) (
   reads_unique (content.Dynamic x) content.Damaged h k f g u v = let e = h.1 in let d = k.1 in absurd (cc)
   reads_unique (content.Dynamic x) (content.Static y) h k f g u v = let e = h.1 in let d = k.1 in absurd (cc)
   reads_unique (content.Dynamic x) (content.Dynamic y) h k f g u v =
-      ap content.Dynamic (finite.same_map nat_cmp_total nat_cmp-IsAntisymmetric x y (λ l. elim (within_or_out l r.reserved) [
+      ap content.Dynamic (finite.same_map nat_cmp_total nat_cmp-IsAntisymmetric x y (λ l. elim (cases_lt l r.reserved) [
         | inl i ↦ kept_alike (usable s r) (finite.get x l) (finite.get y l) (u l) (v l) (leb_unique l _ _ (h.2 l i) (k.2 l i))
         | inr i ↦ outside r.reserved l (usable s r) (finite.get x l) i (f.2 l) ∙ sym (outside r.reserved l (usable s r) (finite.get y l) i (g.2 l))
       ]))

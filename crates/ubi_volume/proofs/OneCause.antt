@@ -1,5 +1,6 @@
 -- An image is refused for one cause at most.
 use Rattle.std.proofs.Common.{◌≡◌, ℕ, inl, inr, List, refl, ap, subst, arith}
+use Rattle.std.proofs.lemmas.Bool.{cases_order}
 use Rattle.ubi_media.specs.Geometry.{Sizes}
 use Rattle.ubi_media.specs.declared.refusal.Refusal.{Refusal}
 use Rattle.ubi_media.specs.declared.refusal.Refusal.TheVariants as refusal
@@ -9,7 +10,7 @@ use Rattle.ubi_scan.proofs.OneFault.{one_scan_fault}
 use Rattle.ubi_table.specs.Records.{Records}
 use Rattle.ubi_table.proofs.One.{fault_unique, never_table_and_fault, table_unique}
 use Rattle.ubi_volume.specs.Accepts.{Refuses, RefusesBlocks, IsVolumeFault}
-use Rattle.ubi_volume.proofs.One.{no_size_fault, same_or_less}
+use Rattle.ubi_volume.proofs.One.{no_size_fault}
 
 -- of the size
 one_size_fault : (image : Image) (c d : Refusal) → IsSizeFault image c → IsSizeFault image d → c ≡ d
@@ -24,7 +25,7 @@ one_size_fault image _ d h k = absurd h
 module _ (s : Sizes) (bs : List (List ℕ)) where
   -- of a volume
   one_volume_fault : (t : Records) (c d : Refusal) → IsVolumeFault s bs t c → IsVolumeFault s bs t d → c ≡ d
-  one_volume_fault t (refusal.Mismatch p) (refusal.Mismatch q) h k = elim (same_or_less p q) [
+  one_volume_fault t (refusal.Mismatch p) (refusal.Mismatch q) h k = elim (cases_order p q) [
     | inl e ↦ ap refusal.Mismatch e
     | inr o ↦ elim o [ inl l ↦ absurd (k.1 p l h.0) | inr l ↦ absurd (h.1 q l k.0) ]
   ]

@@ -8,6 +8,7 @@ use Rattle.std.specs.FinMap.{find, from_entries}
 use Rattle.std.specs.Ordering.{eq_by_cmp, nat_cmp}
 use Rattle.std.proofs.lemmas.List.{map-append}
 use Rattle.std.proofs.lemmas.Map.Lookups.{exact_unsigned}
+use Rattle.std.proofs.lemmas.Option.{same_Some}
 use Rattle.ubi_media.specs.Geometry.{IsGeometry, Sizes}
 use Rattle.ubi_media.specs.declared.record.VolumeRecord.{VolumeRecord}
 use Rattle.ubi_scan.specs.Scan.{Found}
@@ -29,7 +30,7 @@ use Rattle.ubi_volume.specs.declared.content.Volume.{Volume}
 use Rattle.ubi_volume.specs.declared.places.PlaceContent.{PlaceContent}
 use Rattle.ubi_volume.proofs.Gathered.{contents_mean, contents_more}
 use Rattle.ubi_volume.proofs.Recorded.{records_meant}
-use Rattle.ubi_volume.proofs.Winners.{no_some, some_same}
+use Rattle.ubi_volume.proofs.Winners.{no_some}
 
 -- one entry more
 pub numbered_more : (es : List (ℕ × VolumeRecord)) (cs : List (ℕ × PlaceContent)) (e : ℕ × VolumeRecord) (c : PlaceContent) → AreNumbered es cs → IsReserved e.1 c
@@ -59,7 +60,7 @@ found_too id (x ∷ es) (y ∷ cs) r h e =
     let other = ap (λ n. cond (eq_by_cmp nat_cmp id n) (Some x.1) (find nat_cmp id es)) h.0 in
     elim (told nat_cmp nat_cmp_total exact_unsigned id y.0) [
       | inl t ↦
-          let same : x.1 ≡ r = some_same x.1 r (sym (ap (λ b. cond b (Some x.1) (find nat_cmp id es)) t.0) ∙ other ∙ e) in
+          let same : x.1 ≡ r = same_Some x.1 r (sym (ap (λ b. cond b (Some x.1) (find nat_cmp id es)) t.0) ∙ other ∙ e) in
           (y.1, ap (λ b. cond b (Some y.1) (find nat_cmp id cs)) t.0, subst (λ (z : VolumeRecord). IsReserved z y.1) same h.1)
       | inr t ↦
           let next = found_too id es cs r h.2 (sym (ap (λ b. cond b (Some x.1) (find nat_cmp id es)) t.0) ∙ other ∙ e) in
@@ -70,7 +71,7 @@ find_case : (s : Sizes) (id : ℕ) (vs : List (ℕ × Volume)) (v : Volume) → 
 find_case s id [] v e = absurd (no_some v e)
 find_case s id (w ∷ vs) v e = elim (told nat_cmp nat_cmp_total exact_unsigned id w.0) [
   | inl t ↦
-      let same : w.1 ≡ v = some_same w.1 v (sym (ap (λ b. cond b (Some w.1) (find nat_cmp id vs)) t.0) ∙ e) in
+      let same : w.1 ≡ v = same_Some w.1 v (sym (ap (λ b. cond b (Some w.1) (find nat_cmp id vs)) t.0) ∙ e) in
       ap (λ b. cond b (Some (case_of s w.1.entry w.1.content)) (find nat_cmp id (map (case_in s) vs))) t.0 ∙ ap (λ (x : Volume). Some (case_of s x.entry x.content)) same
   | inr t ↦ ap (λ b. cond b (Some (case_of s w.1.entry w.1.content)) (find nat_cmp id (map (case_in s) vs))) t.0
       ∙ find_case s id vs v (sym (ap (λ b. cond b (Some w.1) (find nat_cmp id vs)) t.0) ∙ e)

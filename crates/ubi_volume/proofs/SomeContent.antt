@@ -4,6 +4,8 @@ use Rattle.std.specs.Prelude.{IsSome, None, Option, Some}
 use Rattle.std.specs.FinMap as finite
 use Rattle.std.specs.FinMap.{FinMap}
 use Rattle.std.specs.Ordering.{nat_cmp}
+use Rattle.std.proofs.lemmas.Bool.{cases_eq}
+use Rattle.std.proofs.lemmas.Option.{same_Some}
 use Rattle.ubi_media.specs.Check.{check}
 use Rattle.ubi_media.specs.Fields.{is_blank}
 use Rattle.ubi_media.specs.Geometry.{Sizes, leb_size}
@@ -12,12 +14,12 @@ use Rattle.ubi_media.specs.declared.record.VolumeRecord.{VolumeRecord}
 use Rattle.ubi_media.specs.declared.vid.VidHeader.{VidHeader}
 use Rattle.ubi_media.specs.declared.vid.VolKind.{VolKind}
 use Rattle.ubi_media.specs.declared.vid.VolKind.TheVariants as kind
+use Rattle.ubi_media.proofs.Cases.{within_or_past}
 use Rattle.ubi_scan.specs.Faults.{NoFault}
 use Rattle.ubi_scan.specs.Image.{block, leb}
 use Rattle.ubi_scan.specs.Members.{Leb, NoMember, Wins, member, named_in}
 use Rattle.ubi_scan.proofs.Choice.{false_or_true}
 use Rattle.ubi_scan.proofs.Decided.{winner_or_none}
-use Rattle.ubi_scan.proofs.Keys.{same_or_apart}
 use Rattle.ubi_scan.proofs.Least.{least_or}
 use Rattle.ubi_table.specs.Records.{Records}
 use Rattle.ubi_volume.specs.Accepts.{NoMismatch}
@@ -28,10 +30,7 @@ use Rattle.ubi_volume.specs.declared.content.Content.TheVariants as content
 use Rattle.ubi_volume.proofs.Alike.{short_piece}
 use Rattle.ubi_volume.proofs.Dynamic.{dynamic_is, gathered_blank, gathered_none, gathered_text, kept_none, winner_blank, winner_text}
 use Rattle.ubi_volume.proofs.Static.{damaged_behind, damaged_is, damaged_large, damaged_piece, piece_checked, piece_unchecked, read_more, read_none, static_is}
-use Rattle.ubi_volume.proofs.Winners.{has_header, some_same}
-
-within_or_past : (a b : ℕ) → (a ≤ b) ⊎ (b < a)
-within_or_past a b = grind arith
+use Rattle.ubi_volume.proofs.Winners.{has_header}
 
 -- every LEB is as large as the geometry says
 abbrev pub AreLebs : Sizes → List (List ℕ) → Type 0
@@ -73,11 +72,11 @@ module _ (s : Sizes) (bs : List (List ℕ)) (vol : ℕ) where
 
   names_or_not : (from : ℕ) (o : Option Leb) → Names from o ⊎ (Names from o → ⊥)
   names_or_not from None = inr (λ k. (let e = k.2 in cc))
-  names_or_not from (Some x) = elim (same_or_apart x.0 vol) [
-    | inr other ↦ inr (λ k. other (ap (λ (y : Leb). y.0) (some_same x (vol, k.0) k.2)))
+  names_or_not from (Some x) = elim (cases_eq x.0 vol) [
+    | inr other ↦ inr (λ k. other (ap (λ (y : Leb). y.0) (same_Some x (vol, k.0) k.2)))
     | inl e ↦ elim (within_or_past from x.1) [
       | inl l ↦ inl (x.1, l, ap (λ (v : ℕ). Some (v, x.1)) e)
-      | inr less ↦ inr (λ k. (let same : x.1 ≡ k.0 = ap (λ (y : Leb). y.1) (some_same x (vol, k.0) k.2) in let l = k.1 in omega arith))
+      | inr less ↦ inr (λ k. (let same : x.1 ≡ k.0 = ap (λ (y : Leb). y.1) (same_Some x (vol, k.0) k.2) in let l = k.1 in omega arith))
     ]
   ]
 
@@ -107,9 +106,9 @@ module _ (s : Sizes) (bs : List (List ℕ)) (clean : NoFault s bs) (vol used : �
   piece_by_header lnum p w None e some = absurd (cc)
   piece_by_header lnum p w (Some h) e some =
       let text = take h.data_size (leb s (block bs p)) in
-      elim (same_or_apart h.used_ebs used) [
+      elim (cases_eq h.used_ebs used) [
         | inr other ↦ (None, piece_unchecked s bs clean vol used lnum p h text w e refl (λ k. other k.0))
-        | inl u ↦ elim (same_or_apart (check text) h.data_crc) [
+        | inl u ↦ elim (cases_eq (check text) h.data_crc) [
           | inr other ↦ (None, piece_unchecked s bs clean vol used lnum p h text w e refl (λ k. other k.1))
           | inl right ↦ (Some text, piece_checked s bs clean vol used lnum p h text w e refl u right)
         ]

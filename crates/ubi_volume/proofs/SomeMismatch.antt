@@ -2,6 +2,7 @@
 use Rattle.std.proofs.Common.{◌≡◌, ◌≢◌, ℕ, ◌<◌, ◌≤◌, ◌⊎◌, inl, inr, List, length, refl, sym, ◌∙◌, subst, arith}
 use Rattle.std.specs.Prelude.{None, Option, Some}
 use Rattle.std.specs.FinMap as finite
+use Rattle.std.proofs.lemmas.Bool.{cases_lt, cases_eq}
 use Rattle.ubi_media.specs.Geometry.{Sizes}
 use Rattle.ubi_media.specs.Record.{data_pad}
 use Rattle.ubi_media.specs.declared.record.VolumeRecord.{VolumeRecord}
@@ -15,16 +16,12 @@ use Rattle.ubi_scan.specs.Image.{block}
 use Rattle.ubi_scan.specs.Members.{Leb, Wins, leb_of, member}
 use Rattle.ubi_scan.proofs.Choice.{false_or_true}
 use Rattle.ubi_scan.proofs.Decided.{Wins-unique, winner_or_none}
-use Rattle.ubi_scan.proofs.Keys.{same_or_apart}
 use Rattle.ubi_scan.proofs.Least.{least_or}
 use Rattle.ubi_table.specs.Records.{Records}
 use Rattle.ubi_volume.specs.Accepts.{IsMismatched, IsUnlike, IsVolumeFault, IsWithin, NoMismatch}
 use Rattle.ubi_volume.specs.inner.Headers.{Disagrees}
 use Rattle.ubi_volume.proofs.Mismatches.{mismatch_by_header, no_record_no_mismatch}
 use Rattle.ubi_volume.proofs.Winners.{named_by, no_some}
-
-below_or_out : (l n : ℕ) → (l < n) ⊎ (n ≤ l)
-below_or_out l n = grind arith
 
 kind_or_other : (a b : VolKind) → (a ≡ b) ⊎ (a ≢ b)
 kind_or_other kind.Dynamic kind.Dynamic = inl refl
@@ -34,7 +31,7 @@ kind_or_other kind.Static kind.Static = inl refl
 
 -- of a header and a record
 within_or_not : (r : VolumeRecord) (lnum : ℕ) → IsWithin r lnum ⊎ (IsWithin r lnum → ⊥)
-within_or_not r lnum = elim (below_or_out lnum r.reserved) [
+within_or_not r lnum = elim (cases_lt lnum r.reserved) [
   | inl l ↦ inl (λ e. l)
   | inr out ↦ elim (kind_or_other r.kind kind.Dynamic) [
     | inl e ↦ inr (λ within. (let l = within e in omega arith))
@@ -45,7 +42,7 @@ within_or_not r lnum = elim (below_or_out lnum r.reserved) [
 unlike_or_not : (s : Sizes) (r : VolumeRecord) (h : VidHeader) → IsUnlike s r h ⊎ (IsUnlike s r h → ⊥)
 unlike_or_not s r h = elim (kind_or_other h.kind r.kind) [
   | inr other ↦ inl (inl other)
-  | inl e ↦ elim (same_or_apart h.data_pad (data_pad s r)) [
+  | inl e ↦ elim (cases_eq h.data_pad (data_pad s r)) [
     | inr other ↦ inl (inr other)
     | inl f ↦ inr (λ unlike. elim unlike [ inl n ↦ n e | inr n ↦ n f ])
   ]
@@ -77,7 +74,7 @@ module _ (s : Sizes) (bs : List (List ℕ)) (t : Records) (clean : NoFault s bs)
   by_header p None none = inr (λ m. no_some m.1 (sym none ∙ m.4))
   by_header p (Some h) e = elim (winner_or_none s bs (leb_of h)) [
     | inl none ↦ inr (λ m. none p (moved m).member)
-    | inr w ↦ elim (same_or_apart p w.0) [
+    | inr w ↦ elim (cases_eq p w.0) [
       | inl same ↦ by_record p h e (subst (Wins s bs (leb_of h)) (sym same) w.1) (finite.get t.of h.vol_id) refl
       | inr apart ↦ inr (λ m. apart (Wins-unique s bs (leb_of h) p w.0 clean (moved m) w.1))
     ]

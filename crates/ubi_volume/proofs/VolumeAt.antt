@@ -2,6 +2,7 @@
 use Rattle.std.proofs.Common.{◌≡◌, ℕ, ◌<◌, ◌≤◌, ◌⊎◌, inl, inr, List, refl, ap, sym, ◌∙◌, subst, arith}
 use Rattle.std.specs.Prelude.{None, Option, Some, MatchOption}
 use Rattle.std.specs.FinMap as finite
+use Rattle.std.proofs.lemmas.Option.{same_Some}
 use Rattle.ubi_media.specs.Geometry.{Sizes}
 use Rattle.ubi_media.specs.declared.record.VolumeRecord.{VolumeRecord}
 use Rattle.ubi_scan.specs.Members.{Leb, NoMember, Wins}
@@ -13,7 +14,6 @@ use Rattle.ubi_volume.specs.Places.{ArePlaces, IsNextPlace, Placed, case_of}
 use Rattle.ubi_volume.specs.declared.content.Volume.{Volume}
 use Rattle.ubi_volume.specs.declared.places.PlaceContent.{PlaceContent}
 use Rattle.ubi_volume.proofs.Recorded.{records_meant}
-use Rattle.ubi_volume.proofs.Winners.{some_same}
 
 module _ (s : Sizes) (p : Placed) (image : List ℕ) (places : ArePlaces (record { sizes = s; bytes = image }) p) where
   abbrev pub table : Records
@@ -46,7 +46,7 @@ module _ (s : Sizes) (p : Placed) (image : List ℕ) (places : ArePlaces (record
     -- and its case
     pub case_is : (v : Volume) → finite.get places.meaning.volumes id ≡ Some v → (c : PlaceContent) → finite.get p.contents id ≡ Some c → case_of s r v.content ≡ c
     case_is v at c e =
-        some_same (case_of s r v.content) c
+        same_Some (case_of s r v.content) c
         (ap (λ (x : VolumeRecord). Some (case_of s x v.content)) (sym (reads_of v at).0) ∙ sym (places.contents id v at) ∙ e)
 
     -- the next place of a LEB that counts and has a member is its winner

@@ -2,6 +2,7 @@
 use Rattle.std.proofs.Common.{◌≡◌, ℕ, ◌≤◌, true, false, List, refl, ap, sym, ◌∙◌, subst}
 use Rattle.std.specs.Prelude.{IfSome, IsSome, MatchOption, Option, Some, None, is_some, option_map, slice_get}
 use Rattle.std.specs.FinMap as finite
+use Rattle.std.proofs.lemmas.Option.{same_Some}
 use Rattle.ubi_media.specs.Geometry.{Sizes}
 use Rattle.ubi_media.specs.declared.vid.VidHeader.{VidHeader}
 use Rattle.ubi_scan.specs.Image.{block}
@@ -10,15 +11,12 @@ use Rattle.ubi_scan.specs.Scan.{Found, IsNextWinner, IsScan}
 use Rattle.ubi_scan.specs.Scan as scan_states
 use Rattle.ubi_scan.specs.declared.found.ScanState.{ScanState}
 
-pub some_same : {A : Type 0} (a b : A) → Some a ≡ Some b → a ≡ b
-some_same a b e = cc
-
 pub no_some : {A : Type 0} (a : A) → None ≡ Some a → ⊥
 no_some a e = cc
 
 -- the LEB of a member is that of its header
 pub named_by : (s : Sizes) (bs : List (List ℕ)) (of : Leb) (p : ℕ) (h : VidHeader) → IsMember s bs of p → member s (block bs p) ≡ Some h → of ≡ leb_of h
-named_by s bs of p h m e = some_same of (leb_of h) (sym m.named ∙ ap (option_map leb_of) e)
+named_by s bs of p h m e = same_Some of (leb_of h) (sym m.named ∙ ap (option_map leb_of) e)
 
 -- a member has a header
 pub has_header : (s : Sizes) (bs : List (List ℕ)) (of : Leb) (p : ℕ) → IsMember s bs of p → IsSome (member s (block bs p))

@@ -1,11 +1,9 @@
 use Rattle.std.proofs.Common.{◌≡◌, ◌≤◌, ◌<◌, ◌⊎◌, inl, inr, ◌+◌, ◌*◌, ◌/◌, ℕ, false, length, refl, subst, sym, ◌∙◌, arith}
+use Rattle.ubi_media.proofs.Cases.{below_or_last}
 use Rattle.ubi_scan.proofs.Chunks.{piece_within}
 use Rattle.ubi_change.specs.Weak.{is_weak, pages_of}
 use Rattle.ubi_change.proofs.WeakPlaces.{first_place, front_more, front_none, no_place, weak_told}
 use Rattle.ubi_change.proofs.weakness.weak_place.Goals as goal
-
-last_or_below : (j k : ℕ) → j < k + 1 → (j < k) ⊎ (j ≡ k)
-last_or_below j k l = grind arith
 
 within : (n page k len : ℕ) → 64 ≤ page → n ≡ page → k < len / n → (k < len / page) × (k * page ≤ len)
 within n page k len some e l =
@@ -32,7 +30,7 @@ loop-k-preserved c =
     let told = weak_told s c.args.new.now k here.1 c.page-page.result (k * c.page-page.result) c.loop-k.front c.crc-whole.result c.is_weak.result
     c.page-page.ensures.value refl c.loop-k.invariant.0 c.crc-whole.ensures c.is_weak.ensures in (
       front_more s c.args.new.now k c.page-page.result (k * c.page-page.result) c.loop-k.front c.crc_more-front.result c.page-page.ensures.value refl c.loop-k.invariant.0 c.crc_more-front.ensures,
-      λ j l. elim (last_or_below j k l) [
+      λ j l. elim (below_or_last j k l) [
         | inl b ↦ c.loop-k.invariant.1 j b
         | inr e ↦ subst (λ (j : ℕ). is_weak s c.args.new.now j ≡ false) (sym e) (told ∙ c.if-is_weak.false)
       ],
