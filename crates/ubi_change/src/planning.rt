@@ -4,7 +4,7 @@ ghost use Rattle.std.specs.Prelude.{◌≡◌, ◌%◌, ◌^◌, ◌<◌, IfErr,
 ghost use Rattle.ubi_change.specs.inner.Making.{AreWithin, mapped_steps, shown, steps_on, unmapped_steps};
 ghost use Rattle.ubi_change.specs.Plan.{blank_header, copy_header};
 ghost use Rattle.ubi_change.specs.Planned.{AllFitOf, IsFrugalOf, IsPlan, RisesOf, SurvivesCutsOf, IsChangeRefusal};
-ghost use Rattle.ubi_scan.specs.Image.{eraseblocks};
+ghost use Rattle.ubi_scan.specs.Image.{eraseblocks, image_of};
 
 use crate::causes::own_cause;
 use crate::places::{Places, places_of};
@@ -169,12 +169,12 @@ pub fn plan_change(
     lnum: u32,
     new: &[u8],
 ) -> Result<Vec<Step>, ChangeRefusal>
-    ensures survives { IfOk result (λ steps. SurvivesCutsOf (record { sizes = geometry.now; bytes = image.now }) id lnum new.now steps.items) }
-    ensures fits { IfOk result (λ steps. AllFitOf (record { sizes = geometry.now; bytes = image.now }) steps.items) }
-    ensures rises { IfOk result (λ steps. RisesOf (record { sizes = geometry.now; bytes = image.now }) steps.items) }
-    ensures frugal { IfOk result (λ steps. IsFrugalOf (record { sizes = geometry.now; bytes = image.now }) id lnum new.now steps.items) }
-    ensures plan { IfOk result (λ steps. IsPlan (record { sizes = geometry.now; bytes = image.now }) id lnum new.now steps.items) }
-    ensures refused { IfErr result (IsChangeRefusal (record { sizes = geometry.now; bytes = image.now }) id lnum new.now) }
+    ensures survives { IfOk result (λ steps. SurvivesCutsOf (image_of geometry.now image.now) id lnum new.now steps.items) }
+    ensures fits { IfOk result (λ steps. AllFitOf (image_of geometry.now image.now) steps.items) }
+    ensures rises { IfOk result (λ steps. RisesOf (image_of geometry.now image.now) steps.items) }
+    ensures frugal { IfOk result (λ steps. IsFrugalOf (image_of geometry.now image.now) id lnum new.now steps.items) }
+    ensures plan { IfOk result (λ steps. IsPlan (image_of geometry.now image.now) id lnum new.now steps.items) }
+    ensures refused { IfErr result (IsChangeRefusal (image_of geometry.now image.now) id lnum new.now) }
 {
     let blocks = Blocks::new(geometry, image)?;
     let surveyed = survey(alloc, geometry, image)?;

@@ -10,6 +10,7 @@ use Rattle.ubi_media.specs.declared.record.VolumeRecord.{VolumeRecord}
 use Rattle.ubi_media.specs.declared.vid.VidHeader.{VidHeader}
 use Rattle.ubi_media.proofs.Records.{usable_some}
 use Rattle.ubi_scan.specs.Faults.{NoFault}
+use Rattle.ubi_scan.specs.Image.{image_of}
 use Rattle.ubi_scan.specs.Members.{Leb, layout}
 use Rattle.ubi_table.specs.Table.{IsTable}
 use Rattle.ubi_table.proofs.Held.{table_written}
@@ -20,7 +21,7 @@ use Rattle.ubi_volume.specs.declared.content.Content.{Content}
 use Rattle.ubi_volume.specs.declared.content.Content.TheVariants as content
 use Rattle.ubi_volume.specs.declared.content.Volume.{Volume}
 use Rattle.ubi_volume.proofs.Recorded.{record_of}
-use Rattle.ubi_compose.specs.Composed.{HasRoom, composed, image_of}
+use Rattle.ubi_compose.specs.Composed.{HasRoom, composed}
 use Rattle.ubi_compose.specs.Normal.{Laid, layout_block, normal_blocks, normal_bytes, volume_blocks}
 use Rattle.ubi_compose.proofs.Apart.{AreApart}
 use Rattle.ubi_compose.proofs.Blocks.{IsFine}
@@ -137,9 +138,9 @@ module _ (m : Meant) (g : IsGeometry m.sizes) (is : IsMeaning m) (spares : ℕ) 
       ap length (sym bytes_are) ∙ length-bytes m.sizes g ls spares fine
       ∙ ap (λ n. n * m.sizes.peb_size) (length-image_blocks m.sizes g ls spares fine)
 
-  pub normal_accepted : HasRoom m spares → Accepts (image_of m (composed m spares)) m
+  pub normal_accepted : HasRoom m spares → Accepts (image_of m.sizes (composed m spares)) m
   normal_accepted room =
-      subst (λ bytes. Accepts (image_of m bytes) m) bytes_are (record {
+      subst (λ bytes. Accepts (image_of m.sizes bytes) m) bytes_are (record {
         whole = image_whole m.sizes g ls spares fine (omega arith) room;
         accepted = subst (λ x. AcceptsBlocks m.sizes x m) (sym (blocks_again m.sizes g ls spares fine)) accepts_blocks;
       })

@@ -4,11 +4,11 @@ use Rattle.std.specs.Prelude.{◌↔◌}
 use Rattle.std.proofs.lemmas.List.{append-nil}
 use Rattle.std.proofs.lemmas.Nat.{div-mul-add}
 use Rattle.ubi_media.specs.Geometry.{IsGeometry, Sizes}
-use Rattle.ubi_scan.specs.Image.{Image}
+use Rattle.ubi_scan.specs.Image.{Image, image_of}
 use Rattle.ubi_volume.specs.Accepts.{Accepts}
 use Rattle.ubi_volume.specs.Meant.{IsMeaning, Meant}
 use Rattle.ubi_volume.proofs.One.{Accepts-unique}
-use Rattle.ubi_compose.specs.Composed.{composed, image_of}
+use Rattle.ubi_compose.specs.Composed.{composed}
 use Rattle.ubi_compose.specs.Laws.{MeanTheSame, Normalising}
 use Rattle.ubi_compose.specs.Normal.{IsNormalised, normal_blocks, normal_bytes}
 use Rattle.ubi_compose.proofs.Accepted.{length-composed, normal_accepted}
@@ -31,16 +31,16 @@ count-normal_bytes m g is =
     ap (λ bytes. length bytes / m.sizes.peb_size) (sym (composed-none m)) ∙ count-composed m g is 0 ∙ omega arith
 
 -- by itself it is accepted
-pub alone_accepted : (m : Meant) → IsGeometry m.sizes → IsMeaning m → Accepts (image_of m (normal_bytes m)) m
-alone_accepted m g is = subst (λ bytes. Accepts (image_of m bytes) m) (composed-none m) (normal_accepted m g is 0 (normal_fits m is))
+pub alone_accepted : (m : Meant) → IsGeometry m.sizes → IsMeaning m → Accepts (image_of m.sizes (normal_bytes m)) m
+alone_accepted m g is = subst (λ bytes. Accepts (image_of m.sizes bytes) m) (composed-none m) (normal_accepted m g is 0 (normal_fits m is))
 
-same_image : (s z : Sizes) (xs ys : List ℕ) → s ≡ z → xs ≡ ys → ◌≡◌ {A = Image} (record { sizes = s; bytes = xs }) (record { sizes = z; bytes = ys })
+same_image : (s z : Sizes) (xs ys : List ℕ) → s ≡ z → xs ≡ ys → ◌≡◌ {A = Image} (image_of s xs) (image_of z ys)
 same_image s z xs ys e f = λ i. record { sizes = e i; bytes = f i }
 
 same_meaning : (m n : Meant) → IsGeometry m.sizes → m.sizes ≡ n.sizes → IsMeaning m → IsMeaning n → normal_bytes m ≡ normal_bytes n → m ≡ n
 same_meaning m n g same is other e =
-    let there : Accepts (image_of n (normal_bytes n)) n = alone_accepted n (subst IsGeometry same g) other in
-    Accepts-unique (image_of m (normal_bytes m)) m n (alone_accepted m g is)
+    let there : Accepts (image_of n.sizes (normal_bytes n)) n = alone_accepted n (subst IsGeometry same g) other in
+    Accepts-unique (image_of m.sizes (normal_bytes m)) m n (alone_accepted m g is)
     (subst (λ image. Accepts image n) (same_image n.sizes m.sizes (normal_bytes n) (normal_bytes m) (sym same) (sym e)) there)
 
 pub normal_form : (m n : Meant) → IsGeometry m.sizes → m.sizes ≡ n.sizes → IsMeaning m → IsMeaning n → (m ≡ n) ↔ (normal_bytes m ≡ normal_bytes n)

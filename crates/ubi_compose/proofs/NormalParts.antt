@@ -7,6 +7,7 @@ use Rattle.std.proofs.lemmas.List.{take_all}
 use Rattle.ubi_media.specs.Geometry.{Sizes}
 use Rattle.ubi_media.specs.Vid.{plain}
 use Rattle.ubi_media.specs.declared.vid.VolKind.TheVariants as kind
+use Rattle.ubi_scan.specs.Image.{image_of}
 use Rattle.ubi_scan.specs.Members.{layout}
 use Rattle.ubi_scan.specs.Source.{Source}
 use Rattle.ubi_scan.specs.declared.errors.StreamError.{StreamError}
@@ -28,10 +29,10 @@ module _ (s : Sizes) (p : Placed) (table : List ℕ) (bytes : table ≡ table_by
 
   abbrev pub rest_text : Wanted
   rest_text image text =
-      (h : ArePlaces (record { sizes = s; bytes = image }) p)
+      (h : ArePlaces (image_of s image) p)
       × (text ≡ laid_bytes s new_ec (layout_block h.meaning 1) ++ flat_map (laid_bytes s new_ec) (normal.blocks_of s (finite.entries h.meaning.volumes)))
 
-  copy_is : (image : List ℕ) (h : ArePlaces (record { sizes = s; bytes = image }) p) (copy : ℕ) → copy_text copy image (laid_bytes s new_ec (layout_block h.meaning copy))
+  copy_is : (image : List ℕ) (h : ArePlaces (image_of s image) p) (copy : ℕ) → copy_text copy image (laid_bytes s new_ec (layout_block h.meaning copy))
   copy_is image h copy =
       ap (λ x. laid_bytes s new_ec (record { header = plain kind.Dynamic 5 0 layout copy; text = x })) (ap table_bytes (sym h.records) ∙ sym bytes)
 

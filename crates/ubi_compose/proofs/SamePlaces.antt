@@ -15,6 +15,7 @@ use Rattle.ubi_media.specs.Geometry.{Sizes}
 use Rattle.ubi_media.specs.Record.{usable}
 use Rattle.ubi_media.specs.contracts.record.VolumeRecordPartialEq.TheImpl as record_eq
 use Rattle.ubi_media.specs.declared.record.VolumeRecord.{VolumeRecord}
+use Rattle.ubi_scan.specs.Image.{image_of}
 use Rattle.ubi_table.specs.Records.{Records}
 use Rattle.ubi_volume.specs.Extract.{extent_of, leb_bytes, share_len}
 use Rattle.ubi_volume.specs.Meant.{Fits, IsVolume, KeepsNoBlank, Meant, records_of, share}
@@ -45,7 +46,7 @@ pub records_Decides : (a b : FinMap nat_cmp VolumeRecord) (r : Bool) → r ≡ p
 records_Decides a b r e = Decides-like r (same_entries_map a b) (ap finite.entries) (slice_eq-Decides entry_Decides (finite.entries a) (finite.entries b) r e)
 
 -- what a volume of an image is
-module _ (s : Sizes) (p : Placed) (x : List ℕ) (h : ArePlaces (record { sizes = s; bytes = x }) p) (id : ℕ) (r : VolumeRecord)
+module _ (s : Sizes) (p : Placed) (x : List ℕ) (h : ArePlaces (image_of s x) p) (id : ℕ) (r : VolumeRecord)
     (recorded : finite.get p.records.of id ≡ Some r) (v : Volume) (at : finite.get h.meaning.volumes id ≡ Some v) where
   entry : v.entry ≡ r
   entry = (reads_of s p x h id r recorded v at).0
@@ -60,7 +61,7 @@ module _ (s : Sizes) (p : Placed) (x : List ℕ) (h : ArePlaces (record { sizes 
   keeps_as : (c : Content) → v.content ≡ c → KeepsNoBlank s r c
   keeps_as c is = subst (λ (y : VolumeRecord). KeepsNoBlank s y c) entry (subst (KeepsNoBlank s v.entry) is volume.kept)
 
-module _ (s : Sizes) (p q : Placed) (x y : List ℕ) (h : ArePlaces (record { sizes = s; bytes = x }) p) (k : ArePlaces (record { sizes = s; bytes = y }) q)
+module _ (s : Sizes) (p q : Placed) (x y : List ℕ) (h : ArePlaces (image_of s x) p) (k : ArePlaces (image_of s y) q)
     (id : ℕ) (r : VolumeRecord) (here : finite.get p.records.of id ≡ Some r) (there : finite.get q.records.of id ≡ Some r)
     (v w : Volume) (at : finite.get h.meaning.volumes id ≡ Some v) (bt : finite.get k.meaning.volumes id ≡ Some w) where
   abbrev size : ℕ
@@ -164,7 +165,7 @@ leb_same s p q id size bytes x y n m at bt long one other same =
     ap (λ k. leb_bytes s k at x) long ∙ ap (λ (o : Option ℕ). leb_bytes s (share_len size bytes n) o x) one ∙ same
     ∙ sym (ap (λ k. leb_bytes s k bt y) long ∙ ap (λ (o : Option ℕ). leb_bytes s (share_len size bytes n) o y) other)
 
-module _ (s : Sizes) (p q : Placed) (x y : List ℕ) (h : ArePlaces (record { sizes = s; bytes = x }) p) (k : ArePlaces (record { sizes = s; bytes = y }) q) where
+module _ (s : Sizes) (p q : Placed) (x y : List ℕ) (h : ArePlaces (image_of s x) p) (k : ArePlaces (image_of s y) q) where
   -- equal meanings have equal records
   pub equal_records : h.meaning ≡ k.meaning → p.records.of ≡ q.records.of
   equal_records same = ap (λ (t : Records). t.of) (h.records ∙ ap records_of same ∙ sym k.records)

@@ -10,7 +10,7 @@ use Rattle.ubi_media.specs.Record.{data_pad, rec_fault, usable}
 use Rattle.ubi_media.specs.declared.record.VolumeRecord.{VolumeRecord}
 use Rattle.ubi_media.specs.declared.vid.VolKind.TheVariants as kind
 use Rattle.ubi_media.proofs.Records.{usable_some}
-use Rattle.ubi_scan.specs.Image.{block, leb}
+use Rattle.ubi_scan.specs.Image.{block, image_of, leb}
 use Rattle.ubi_scan.specs.Members.{NoMember, Wins}
 use Rattle.ubi_scan.specs.Source.{Source, blocks_of}
 use Rattle.ubi_scan.specs.declared.errors.StreamError.{StreamError}
@@ -81,7 +81,7 @@ module _ (s : Sizes) (p : Placed) (id : ℕ) (r : VolumeRecord) (recorded : fini
         share_is : share size text_of.0 n ≡ take len (leb s (block bs q))
         share_is =
             let here =
-            share_at s bs of.places.accepted.accepted.clean (are_lebs (record { sizes = s; bytes = image })) (table s p image of.places) of.places.accepted.accepted.alike id r (in_table s p image of.places id r recorded)
+            share_at s bs of.places.accepted.accepted.clean (are_lebs (image_of s image)) (table s p image of.places) of.places.accepted.accepted.alike id r (in_table s p image of.places id r recorded)
             reads.0 reads.1 whole.0 whole.1 n q whole.3 won in
             let there : share size text_of.0 n ≡ take (length (share size text_of.0 n)) (leb s (block bs q)) =
             subst (λ (x : List ℕ). share size x n ≡ take (length (share size x n)) (leb s (block bs q))) (sym whole.2) here in
@@ -91,7 +91,7 @@ module _ (s : Sizes) (p : Placed) (id : ℕ) (r : VolumeRecord) (recorded : fini
         gives_check : GivesCheck s (block bs q) len
         gives_check =
             let k =
-            header_at s bs of.places.accepted.accepted.clean (are_lebs (record { sizes = s; bytes = image })) (table s p image of.places) of.places.accepted.accepted.alike id r (in_table s p image of.places id r recorded)
+            header_at s bs of.places.accepted.accepted.clean (are_lebs (image_of s image)) (table s p image of.places) of.places.accepted.accepted.alike id r (in_table s p image of.places id r recorded)
             reads.0 reads.1 whole.0 whole.1 n q whole.3 won in
             (k.0, member_valid s (block bs q) k.0 k.1, k.2 ∙ ap (λ x. check (share size x n)) (sym whole.2) ∙ ap check share_is)
 

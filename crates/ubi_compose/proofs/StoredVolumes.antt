@@ -11,6 +11,7 @@ use Rattle.std.proofs.lemmas.List.{get_or-map, length-map, take-append-drop, tak
 use Rattle.std.proofs.lemmas.Nat.{mul-le}
 use Rattle.ubi_media.specs.Geometry.{Sizes, slots}
 use Rattle.ubi_media.specs.declared.record.VolumeRecord.{VolumeRecord}
+use Rattle.ubi_scan.specs.Image.{image_of}
 use Rattle.ubi_scan.specs.Source.{Source}
 use Rattle.ubi_scan.specs.declared.errors.StreamError.{StreamError}
 use Rattle.ubi_scan.proofs.Entries.{sorted_entries}
@@ -35,7 +36,7 @@ use Rattle.ubi_volume.proofs.Received.{Splits, error_behind, error_front, wrote_
 -- the eraseblocks of the first n volumes
 abbrev pub first_volumes : Sizes → Placed → ℕ → Wanted
 first_volumes s p n image text =
-    (h : ArePlaces (record { sizes = s; bytes = image }) p)
+    (h : ArePlaces (image_of s image) p)
     × (text ≡ flat_map (laid_bytes s new_ec) (normal.blocks_of s (take n (finite.entries h.meaning.volumes))))
 
 -- a table has no more records than slots
@@ -61,14 +62,14 @@ records_listed m =
     sorted_entries (map entry_in es) (true_is (is_sorted nat_cmp (map entry_in es)) (subst T (sym (same_order es)) (finite.entries_sorted m.volumes)))
 
 module _ (s : Sizes) (p : Placed) where
-  listed : (image : List ℕ) (h : ArePlaces (record { sizes = s; bytes = image }) p) → finite.entries p.records.of ≡ map entry_in (finite.entries h.meaning.volumes)
+  listed : (image : List ℕ) (h : ArePlaces (image_of s image) p) → finite.entries p.records.of ≡ map entry_in (finite.entries h.meaning.volumes)
   listed image h = ap (λ (t : Records). finite.entries t.of) h.records ∙ records_listed h.meaning
 
-  pub count : (image : List ℕ) (h : ArePlaces (record { sizes = s; bytes = image }) p) → length (finite.entries p.records.of) ≡ length (finite.entries h.meaning.volumes)
+  pub count : (image : List ℕ) (h : ArePlaces (image_of s image) p) → length (finite.entries p.records.of) ≡ length (finite.entries h.meaning.volumes)
   count image h = ap length (listed image h) ∙ length-map (finite.entries h.meaning.volumes) entry_in
 
   -- the volume of an entry, at its place among the volumes
-  pub volume_at : (image : List ℕ) (h : ArePlaces (record { sizes = s; bytes = image }) p) (n : ℕ) (e : ℕ × VolumeRecord) (d : ℕ × Volume)
+  pub volume_at : (image : List ℕ) (h : ArePlaces (image_of s image) p) (n : ℕ) (e : ℕ × VolumeRecord) (d : ℕ × Volume)
       → n < length (finite.entries p.records.of) → e ≡ get_or (finite.entries p.records.of) n e
       → (v : Volume) × (n < length (finite.entries h.meaning.volumes)) × (get_or (finite.entries h.meaning.volumes) n d ≡ (e.0, v)) × (v.entry ≡ e.1) × (finite.get h.meaning.volumes e.0 ≡ Some v)
   volume_at image h n e d inside is =

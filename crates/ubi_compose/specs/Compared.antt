@@ -1,6 +1,7 @@
 -- What comparing two sources answers, by the places of their LEBs.
 use Rattle.std.specs.Prelude.{ℕ, List, Result, Err}
 use Rattle.ubi_media.specs.Geometry.{Sizes}
+use Rattle.ubi_scan.specs.Image.{image_of}
 use Rattle.ubi_scan.specs.Source.{Source, WhereHeld}
 use Rattle.ubi_scan.specs.Stream.{after_error}
 use Rattle.ubi_volume.specs.Accepts.{Accepts}
@@ -28,5 +29,5 @@ after_right k _ = k
 abbrev pub IsSameFault : Sizes → Source → Source → SameFault → Type 0
 IsSameFault s k l (fault.Left e) = ArePlacesError s k e
 IsSameFault s k l (fault.Right e) =
-    WhereHeld k (λ bytes. (m : Meant) × Accepts (record { sizes = s; bytes = bytes }) m) × ArePlacesError s l e
+    WhereHeld k (λ bytes. (m : Meant) × Accepts (image_of s bytes) m) × ArePlacesError s l e
 IsSameFault s k l fault.Memory = Unit {0}

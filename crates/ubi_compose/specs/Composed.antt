@@ -3,7 +3,7 @@ use Rattle.std.specs.Prelude.{◌≡◌, ◌↔◌, Bool, IsTrue, ℕ, ◌+◌, 
 use Rattle.ubi_media.specs.Ec.{ec_bytes}
 use Rattle.ubi_media.specs.Fields.{filled}
 use Rattle.ubi_media.specs.Geometry.{Sizes}
-use Rattle.ubi_scan.specs.Image.{Image}
+use Rattle.ubi_scan.specs.Image.{Image, image_of}
 use Rattle.ubi_volume.specs.Accepts.{Accepts, Refuses}
 use Rattle.ubi_volume.specs.Meant.{Meant}
 use Rattle.ubi_compose.specs.Normal.{normal_blocks, normal_bytes, new_ec}
@@ -11,10 +11,6 @@ use Rattle.ubi_compose.specs.declared.errors.ComposeError.{ComposeError}
 use Rattle.ubi_compose.specs.declared.errors.ComposeError.TheVariants as compose
 use Rattle.ubi_compose.specs.declared.errors.SameError.{SameError}
 use Rattle.ubi_compose.specs.declared.errors.SameError.TheVariants as same
-
--- bytes as an image of a meaning's sizes
-abbrev pub image_of : Meant → List ℕ → Image
-image_of m bytes = record { sizes = m.sizes; bytes = bytes }
 
 -- an eraseblock that is ready to be programmed: an erase-counter header, and 0xFF behind it
 abbrev pub spare : Sizes → List ℕ

@@ -2,7 +2,7 @@
 use Rattle.std.specs.Prelude.{◌≡◌, ℕ, ◌<◌, ◌≤◌, ◌⊎◌, List, length, take, Option}
 use Rattle.std.specs.Io.KnownBytes.{Appends, Keeps}
 use Rattle.ubi_media.specs.Geometry.{Sizes}
-use Rattle.ubi_scan.specs.Image.{Image}
+use Rattle.ubi_scan.specs.Image.{Image, image_of}
 use Rattle.ubi_scan.specs.Source.{Source, WhereHeld, blocks_in}
 use Rattle.ubi_scan.specs.declared.errors.StreamError.{StreamError}
 use Rattle.ubi_scan.specs.declared.errors.StreamError.TheVariants as stream
@@ -39,7 +39,7 @@ HasGot old new n = (bytes : List ℕ) × (length bytes ≡ n) × Appends old new
 -- what a normalising of a source answers
 pub record IsNormalisedTo (s : Sizes) (k : Source) (old new : Option (List ℕ)) (n : ℕ) : Type 0 where
   pub got : HasGot old new n
-  pub held : WhereHeld k (λ bytes. IsStreamed (record { sizes = s; bytes = bytes }) old new n)
+  pub held : WhereHeld k (λ bytes. IsStreamed (image_of s bytes) old new n)
 
 -- why it answers nothing: the image is refused, or memory ran out, and nothing was written; a read failed, while
 -- attaching, or after n bytes were written; or a write failed after so many
@@ -48,6 +48,6 @@ IsNormaliseToError s k old new (stream.Refused c) = Keeps old new × ArePlacesEr
 IsNormaliseToError s k old new stream.Memory = Keeps old new
 IsNormaliseToError s k old new (stream.Read p n) =
     (p < blocks_in s k) × HasGot old new n
-    × (((n ≡ 0) × Keeps old new) ⊎ WhereHeld k (λ bytes. IsPart (record { sizes = s; bytes = bytes }) old new n))
+    × (((n ≡ 0) × Keeps old new) ⊎ WhereHeld k (λ bytes. IsPart (image_of s bytes) old new n))
 IsNormaliseToError s k old new (stream.Write n) =
-    HasGot old new n × WhereHeld k (λ bytes. IsCut (record { sizes = s; bytes = bytes }) old new n)
+    HasGot old new n × WhereHeld k (λ bytes. IsCut (image_of s bytes) old new n)

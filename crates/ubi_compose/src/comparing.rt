@@ -2,6 +2,7 @@
 
 ghost use Rattle.std.specs.FinMap as finite;
 ghost use Rattle.std.specs.Prelude.{◌≡◌, ◌↔◌, IfErr, IfOk, IsTrue};
+ghost use Rattle.ubi_scan.specs.Image.{image_of};
 ghost use Rattle.ubi_scan.specs.Source.{blocks_in};
 ghost use Rattle.ubi_volume.specs.Places.{ArePlacesOf};
 ghost use Rattle.ubi_compose.specs.Compared.{IsSameFault, WhereBothHeld, after_left, after_right};
@@ -67,7 +68,7 @@ pub fn same_from<L: BlockSource, R: BlockSource>(
 ) -> Result<bool, SameFault>
     ensures left { L.known left.new ≡ after_left (L.known left.old) result }
     ensures right { R.known right.new ≡ after_right (R.known right.old) result }
-    ensures answer { IfOk result (λ answer. WhereBothHeld (L.known left.old) (R.known right.old) (λ x y. IsComparison (record { sizes = geometry.now; bytes = x }) (record { sizes = geometry.now; bytes = y }) answer)) }
+    ensures answer { IfOk result (λ answer. WhereBothHeld (L.known left.old) (R.known right.old) (λ x y. IsComparison (image_of geometry.now x) (image_of geometry.now y) answer)) }
     ensures refused { IfErr result (IsSameFault geometry.now (L.known left.old) (R.known right.old)) }
 {
     let here = match attach_places(alloc, geometry, left) {
@@ -94,8 +95,8 @@ pub fn same(
     left: &[u8],
     right: &[u8],
 ) -> Result<bool, SameError>
-    ensures answer { IfOk result (IsComparison (record { sizes = geometry.now; bytes = left.now }) (record { sizes = geometry.now; bytes = right.now })) }
-    ensures refused { IfErr result (IsSameError (record { sizes = geometry.now; bytes = left.now }) (record { sizes = geometry.now; bytes = right.now })) }
+    ensures answer { IfOk result (IsComparison (image_of geometry.now left.now) (image_of geometry.now right.now)) }
+    ensures refused { IfErr result (IsSameError (image_of geometry.now left.now) (image_of geometry.now right.now)) }
 {
     let mut left = MemorySource::new(left);
     let mut right = MemorySource::new(right);

@@ -3,9 +3,9 @@
 ghost use Rattle.std.specs.FinMap as finite;
 ghost use Rattle.std.specs.Prelude.{◌≡◌, ◌≢◌, ◌++◌, IfErr, IfOk, OnOk, flat_map, length, replicate};
 ghost use Rattle.ubi_media.specs.Fields.{filled};
-ghost use Rattle.ubi_scan.specs.Image.{Image};
+ghost use Rattle.ubi_scan.specs.Image.{Image, image_of};
 ghost use Rattle.ubi_volume.specs.Accepts.{Accepts, IsAttachError};
-ghost use Rattle.ubi_compose.specs.Composed.{HasRoom, IsComposeError, composed, image_of, spare};
+ghost use Rattle.ubi_compose.specs.Composed.{HasRoom, IsComposeError, composed, spare};
 ghost use Rattle.ubi_compose.specs.Normal.{IsNormalised, blocks_of, laid_bytes, layout_block, new_ec, normal_blocks};
 
 use crate::errors::ComposeError;
@@ -83,7 +83,7 @@ fn put_spares(image: &mut Vec<u8>, geometry: &Geometry, count: u32) -> Result<()
 pub fn compose(alloc: Global, meaning: &Meaning, spares: u32) -> Result<Vec<u8>, ComposeError>
     ensures room { IfOk result (λ _. HasRoom meaning.now spares) }
     ensures bytes { IfOk result (λ out. out.items ≡ composed meaning.now spares) }
-    ensures accepted { IfOk result (λ out. Accepts (image_of meaning.now out.items) meaning.now) }
+    ensures accepted { IfOk result (λ out. Accepts (image_of meaning.now.sizes out.items) meaning.now) }
     ensures refused { IfErr result (IsComposeError meaning.now spares) }
     ensures fits { spares ≡ 0 → result ≢ Err ComposeError.TooMany }
 {
@@ -105,9 +105,9 @@ pub fn compose(alloc: Global, meaning: &Meaning, spares: u32) -> Result<Vec<u8>,
 ///
 /// Those of [`attach`], and Memory where memory ran out for the normal image.
 pub fn normalise(alloc: Global, geometry: &Geometry, image: &[u8]) -> Result<Vec<u8>, AttachError>
-    ensures normal { IfOk result (λ out. IsNormalised (record { sizes = geometry.now; bytes = image.now }) out.items) }
-    ensures again { IfOk result (λ out. IsNormalised (record { sizes = geometry.now; bytes = out.items }) out.items) }
-    ensures refused { IfErr result (IsAttachError (record { sizes = geometry.now; bytes = image.now })) }
+    ensures normal { IfOk result (λ out. IsNormalised (image_of geometry.now image.now) out.items) }
+    ensures again { IfOk result (λ out. IsNormalised (image_of geometry.now out.items) out.items) }
+    ensures refused { IfErr result (IsAttachError (image_of geometry.now image.now)) }
 {
     let attached = attach(alloc, geometry, image)?;
     match compose(alloc, attached.meaning(), 0) {

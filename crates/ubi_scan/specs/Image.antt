@@ -15,6 +15,9 @@ pub record Image : Type 0 where
   pub sizes : Sizes
   pub bytes : List ℕ
 
+abbrev pub image_of : Sizes → List ℕ → Image
+image_of s bytes = record { sizes = s; bytes = bytes }
+
 -- of the bytes of a file, those that are judged: all, or the first ones up to one more than the device has
 abbrev pub judged : Sizes → List ℕ → List ℕ
 judged s bytes = take (s.pebs * s.peb_size + 1) bytes

@@ -2,7 +2,7 @@
 use Rattle.std.specs.Prelude.{◌≡◌, ℕ, ◌+◌, ◌-◌, ◌/◌, ◌^◌, List, [], length, Option, None, Some, Result, Ok, Err, min, unwrap_or}
 use Rattle.std.proofs.Common.{ap, sym}
 use Rattle.ubi_media.specs.Geometry.{Sizes}
-use Rattle.ubi_scan.specs.Image.{eraseblocks}
+use Rattle.ubi_scan.specs.Image.{eraseblocks, image_of}
 
 -- what a source holds, where that is known, how many bytes it has, and how many of its reads have failed
 pub record Source : Type 0 where
@@ -33,7 +33,7 @@ blocks_in s k = k.size / s.peb_size
 
 -- the eraseblocks of bytes
 abbrev pub blocks_of : Sizes → List ℕ → List (List ℕ)
-blocks_of s bytes = eraseblocks (record { sizes = s; bytes = bytes })
+blocks_of s bytes = eraseblocks (image_of s bytes)
 
 -- a source that holds bytes in memory, and whose reads never fail
 abbrev pub memory : List ℕ → Source

@@ -3,13 +3,12 @@ use Rattle.std.proofs.Common.{◌≡◌, ℕ, List, Some, ap, sym, subst, ◌∙
 use Rattle.std.specs.Prelude.{Ok, option_map}
 use Rattle.std.proofs.lemmas.Option.{same_Some}
 use Rattle.ubi_media.specs.Geometry.{Sizes}
-use Rattle.ubi_scan.specs.Image.{Image}
+use Rattle.ubi_scan.specs.Image.{Image, image_of}
 use Rattle.ubi_volume.specs.Accepts.{Accepts}
 use Rattle.ubi_volume.specs.Meant.{Meant}
 use Rattle.ubi_volume.specs.declared.errors.MeaningCause.{MeaningCause}
 use Rattle.ubi_volume.proofs.FirstCause.{one_first}
 use Rattle.ubi_volume.proofs.One.{Accepts-unique, never_accepted_and_refused}
-use Rattle.ubi_compose.specs.Composed.{image_of}
 use Rattle.ubi_compose.specs.Spec.{volumes_of}
 use Rattle.ubi_compose.specs.TextLaws.{ComesTo}
 use Rattle.ubi_compose.specs.declared.errors.SpecCause.{SpecCause}
@@ -18,13 +17,13 @@ use Rattle.ubi_tool.specs.Compose.{Composes, ComposesOf, crowded, described, fit
 use Rattle.ubi_tool.specs.List.{Lists, accepted, list_lines, refused}
 use Rattle.ubi_tool.specs.declared.outcome.Outcome.{Outcome}
 
-same_sizes : (s z : Sizes) (bytes : List ℕ) → s ≡ z → ◌≡◌ {A = Image} (record { sizes = s; bytes = bytes }) (record { sizes = z; bytes = bytes })
+same_sizes : (s z : Sizes) (bytes : List ℕ) → s ≡ z → ◌≡◌ {A = Image} (image_of s bytes) (image_of z bytes)
 same_sizes s z bytes e = ap (λ (t : Sizes). record { sizes = t; bytes = bytes }) e
 
 -- the file of a composed image is accepted with the meaning that is described
 file_accepted : (m : Meant) (spares : ℕ) (o : Outcome) (bytes : List ℕ) → ComposesOf m spares o → option_map (λ v. v.items) o.file ≡ Some bytes
-    → Accepts (image_of m bytes) m
-file_accepted m spares o bytes (fits room a gives) e = subst (λ b. Accepts (image_of m b) m) (search (sym gives.file ∙ e)) a
+    → Accepts (image_of m.sizes bytes) m
+file_accepted m spares o bytes (fits room a gives) e = subst (λ b. Accepts (image_of m.sizes b) m) (search (sym gives.file ∙ e)) a
 file_accepted m spares o bytes (crowded many gives) e = absurd (let h = sym gives.file ∙ e in cc)
 
 listed : (image : Image) (m : Meant) (p : Outcome) → Accepts image m → Lists image p → Gives p (says (list_lines m) 0)
@@ -64,11 +63,11 @@ one_composed s text spares o p a (unmade c is h) (unmade b other k) g =
     one_text o p a _ g h (subst (λ (x : MeaningCause). Gives p (says (meaning_line x) 1)) (sym one) k)
 
 pub lists_composed : (s : Sizes) (text bytes : List ℕ) (spares : ℕ) (o p : Outcome)
-    → Composes s text spares o → option_map (λ v. v.items) o.file ≡ Some bytes → Lists (record { sizes = s; bytes = bytes }) p
+    → Composes s text spares o → option_map (λ v. v.items) o.file ≡ Some bytes → Lists (image_of s bytes) p
     → (m : Meant) × ComesTo s text (Ok m) × Gives p (says (list_lines m) 0)
 lists_composed s text bytes spares o p (described m d of_m) e l =
     let sizes : m.sizes ≡ s = ap (λ k. k.sizes) d.2 in
-    let a : Accepts (record { sizes = s; bytes = bytes }) m = subst (λ i. Accepts i m) (same_sizes m.sizes s bytes sizes) (file_accepted m spares o bytes of_m e) in
-    (m, d, listed (record { sizes = s; bytes = bytes }) m p a l)
+    let a : Accepts (image_of s bytes) m = subst (λ i. Accepts i m) (same_sizes m.sizes s bytes sizes) (file_accepted m spares o bytes of_m e) in
+    (m, d, listed (image_of s bytes) m p a l)
 lists_composed s text bytes spares o p (unread line c is gives) e l = absurd (let h = sym gives.file ∙ e in cc)
 lists_composed s text bytes spares o p (unmade c is gives) e l = absurd (let h = sym gives.file ∙ e in cc)

@@ -7,7 +7,7 @@ use Rattle.std.specs.Prelude.{Bool, IfErr, IfOk, MatchResult, Option, Some, None
 use Rattle.std.specs.declared.alloc.AllocError.{AllocError}
 use Rattle.std.specs.Result.{result_map_both}
 use Rattle.ubi_media.specs.Geometry.{Sizes}
-use Rattle.ubi_scan.specs.Image.{Image}
+use Rattle.ubi_scan.specs.Image.{Image, image_of}
 use Rattle.ubi_volume.specs.Accepts.{Accepts}
 use Rattle.ubi_volume.specs.Meant.{Meant}
 use Rattle.ubi_volume.specs.Reading.{read_volume, volume_len, volume_read}
@@ -121,7 +121,7 @@ from_unknown s k new o (refused_from c h line kept) = refused_from c h line tt
 -- what is answered of a source into a file, once the work is over
 pub into_file : (s : Sizes) (k after : Source) (id : ℕ) (path out : List ℕ) (new : Option (List ℕ)) (answer : Result Outcome ToolError)
     (there : Bool) (no_source no_output : Outcome) (r : Result Outcome AllocError) → MatchResult r (IsEnded answer there no_source no_output) (λ _. answer ≡ Err tool.Memory)
-    → IfOk answer (ExtractsFrom s k None new) → IfOk answer (λ o. WhereHeld k (λ bytes. Extracts (record { sizes = s; bytes = bytes }) id None new o))
+    → IfOk answer (ExtractsFrom s k None new) → IfOk answer (λ o. WhereHeld k (λ bytes. Extracts (image_of s bytes) id None new o))
     → IfErr answer (IsExtractFault s k id None new) → after ≡ after_run k answer
     → Gives no_source (says (file_line (codes "cannot read ") path) 1) → Gives no_output (says (file_line (codes "cannot write ") out) 1)
     → IfOk r (ExtractsSource s k after id path out)
@@ -133,9 +133,9 @@ into_file s k after id path out new answer there no_source no_output r ended ok 
     known source output
 
 -- what a writer received of a volume of a source, by the places of its LEBs
-module _ (s : Sizes) (k : Source) (bytes : List ℕ) (holds : k.held ≡ Some bytes) (p : Placed) (h : ArePlaces (record { sizes = s; bytes = bytes }) p)
+module _ (s : Sizes) (k : Source) (bytes : List ℕ) (holds : k.held ≡ Some bytes) (p : Placed) (h : ArePlaces (image_of s bytes) p)
     (id len : ℕ) (is : Ok len ≡ volume_len h.meaning id) (old new : Option (List ℕ)) (n : ℕ) where
-  pub places_read : (o : Outcome) → Wrote k old new (read_text s p id) All 0 n → Gives o (says (bytes_line n) 0) → Extracts (record { sizes = s; bytes = bytes }) id old new o
+  pub places_read : (o : Outcome) → Wrote k old new (read_text s p id) All 0 n → Gives o (says (bytes_line n) 0) → Extracts (image_of s bytes) id old new o
   places_read o w gives =
       let t = has_text (read_volume h.meaning id) len is in
       let got = w.held bytes holds t.0 (h, t.1) in
@@ -143,13 +143,13 @@ module _ (s : Sizes) (k : Source) (bytes : List ℕ) (holds : k.held ≡ Some by
       let count : n ≡ length t.0 = w.count ∙ zero-add (length w.bytes) ∙ ap length whole in
       accepted h.meaning h.accepted (read t.0 t.1 (subst (λ (l : ℕ). Gives o (says (bytes_line l) 0)) count gives) (subst (λ (x : List ℕ). Appends old new x) whole w.got))
 
-  pub places_cut : Wrote k old new (read_text s p id) NotAll 0 n → IsExtractError (record { sizes = s; bytes = bytes }) id old new tool.Write
+  pub places_cut : Wrote k old new (read_text s p id) NotAll 0 n → IsExtractError (image_of s bytes) id old new tool.Write
   places_cut w =
       let t = has_text (read_volume h.meaning id) len is in
       let got = w.held bytes holds t.0 (h, t.1) in
       (h.meaning, h.accepted, (t.0, length w.bytes, t.1, got.0, subst (λ (x : List ℕ). Appends old new x) got.1 w.got))
 
-  pub places_first : Wrote k old new (read_text s p id) First 0 n → HasFirst (record { sizes = s; bytes = bytes }) id old new
+  pub places_first : Wrote k old new (read_text s p id) First 0 n → HasFirst (image_of s bytes) id old new
   places_first w =
       let t = has_text (read_volume h.meaning id) len is in
       let got = w.held bytes holds t.0 (h, t.1) in

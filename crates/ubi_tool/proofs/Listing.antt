@@ -7,6 +7,7 @@ use Rattle.std.proofs.lemmas.Grind.{flat_map-append}
 use Rattle.std.proofs.lemmas.List.{take_all, take_more}
 use Rattle.ubi_media.specs.Geometry.{Sizes}
 use Rattle.ubi_media.specs.declared.record.VolumeRecord.{VolumeRecord}
+use Rattle.ubi_scan.specs.Image.{image_of}
 use Rattle.ubi_volume.specs.Amounts.{AmountIs, amount_of}
 use Rattle.ubi_volume.specs.Places.{ArePlaces, Placed}
 use Rattle.ubi_volume.specs.declared.amounts.Amount.{Amount}
@@ -15,7 +16,7 @@ use Rattle.ubi_volume.specs.declared.content.Volume.{Volume}
 use Rattle.ubi_compose.proofs.StoredVolumes.{count, volume_at}
 use Rattle.ubi_tool.specs.List.{list_lines, record_line, sizes_line, volume_line}
 
-module _ (s : Sizes) (p : Placed) (image : List ℕ) (h : ArePlaces (record { sizes = s; bytes = image }) p) where
+module _ (s : Sizes) (p : Placed) (image : List ℕ) (h : ArePlaces (image_of s image) p) where
   abbrev volumes : List (ℕ × Volume)
   volumes = finite.entries h.meaning.volumes
 

@@ -4,7 +4,7 @@ use Rattle.std.proofs.lemmas.Result.{IfErr-at_err, IfOk-at_ok}
 use Rattle.std.specs.Prelude.{Bool, IfErr, IfOk, MatchResult, Option, Result, Some, None, Err, codes}
 use Rattle.std.specs.declared.alloc.AllocError.{AllocError}
 use Rattle.ubi_media.specs.Geometry.{IsGeometry, Sizes}
-use Rattle.ubi_scan.specs.Image.{Image}
+use Rattle.ubi_scan.specs.Image.{Image, image_of}
 use Rattle.ubi_scan.specs.Source.{Source, WhereHeld}
 use Rattle.ubi_volume.specs.Accepts.{Accepts}
 use Rattle.ubi_volume.specs.Meant.{Meant}
@@ -21,10 +21,6 @@ use Rattle.ubi_tool.specs.declared.outcome.ToolError.{ToolError}
 use Rattle.ubi_tool.specs.declared.outcome.ToolError.TheVariants as tool
 use Rattle.ubi_tool.proofs.Ended.{ends}
 use Rattle.ubi_tool.proofs.Outcomes.{not_both}
-
--- the image of some sizes and bytes
-abbrev pub image_of : Sizes → List ℕ → Image
-image_of s bytes = record { sizes = s; bytes = bytes }
 
 quotient : {n l a b : ℕ} → n ≡ l → a ≡ b → n / a ≡ l / b
 quotient e f = rw (e, f) refl

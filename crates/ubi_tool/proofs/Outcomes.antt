@@ -6,7 +6,7 @@ use Rattle.std.specs.declared.alloc.Global.{Global}
 use Rattle.std.specs.declared.vec.Vec.{Vec}
 use Rattle.ubi_media.specs.Geometry.{Sizes}
 use Rattle.ubi_media.specs.Limits.{first_broken}
-use Rattle.ubi_scan.specs.Image.{Image}
+use Rattle.ubi_scan.specs.Image.{Image, image_of}
 use Rattle.ubi_volume.specs.Meant.{Meant}
 use Rattle.ubi_change.specs.declared.step.Step.{Step}
 use Rattle.ubi_compose.specs.Composed.{HasRoom}
@@ -67,9 +67,9 @@ changes_into image id lnum new stop out work o n (program.unwritten some gives) 
 
 -- what is answered of an image that was read
 pub of_image : (numbers : Numbers) (path : List ℕ) (answers : Image → Outcome → Type 0) (s : Sizes) (bytes : List ℕ) (o : Outcome)
-    → s ≡ sizes_of numbers → IsRead (sizes_of numbers) bytes → answers (record { sizes = s; bytes = bytes }) o → OfImage numbers path answers o
+    → s ≡ sizes_of numbers → IsRead (sizes_of numbers) bytes → answers (image_of s bytes) o → OfImage numbers path answers o
 of_image numbers path answers s bytes o e read a =
-    program.image bytes read (subst (λ (t : Sizes). answers (record { sizes = t; bytes = bytes }) o) e a)
+    program.image bytes read (subst (λ (t : Sizes). answers (image_of t bytes) o) e a)
 
 -- what is answered of a text that was read
 pub of_text : (numbers : Numbers) (path : List ℕ) (answers : Sizes → List ℕ → Outcome → Type 0) (s : Sizes) (bytes : List ℕ) (o : Outcome)

@@ -1,11 +1,12 @@
 -- What composing an image from a text answers.
 use Rattle.std.specs.Prelude.{◌≡◌, ℕ, ◌+◌, ◌<◌, List, [], ◌∷◌, Some, Ok, Err, codes, length}
 use Rattle.ubi_media.specs.Geometry.{Sizes}
+use Rattle.ubi_scan.specs.Image.{image_of}
 use Rattle.ubi_volume.specs.Accepts.{Accepts}
 use Rattle.ubi_volume.specs.Meant.{Meant}
 use Rattle.ubi_volume.specs.declared.errors.MeaningCause.{MeaningCause}
 use Rattle.ubi_volume.specs.declared.errors.MeaningCause.TheVariants as meaning
-use Rattle.ubi_compose.specs.Composed.{HasRoom, composed, image_of}
+use Rattle.ubi_compose.specs.Composed.{HasRoom, composed}
 use Rattle.ubi_compose.specs.Normal.{normal_blocks}
 use Rattle.ubi_compose.specs.TextLaws.{ComesTo}
 use Rattle.ubi_compose.specs.Spec.{first_cause}
@@ -50,7 +51,7 @@ composed_answer m spares = record {
 
 -- what is answered of a meaning: its image, which is accepted with it, or the line of a device without room for it
 pub data ComposesOf (m : Meant) (spares : ℕ) : Outcome → Type 0 where
-  fits : {o : Outcome} → HasRoom m spares → Accepts (image_of m (composed m spares)) m → Gives o (composed_answer m spares)
+  fits : {o : Outcome} → HasRoom m spares → Accepts (image_of m.sizes (composed m spares)) m → Gives o (composed_answer m spares)
       → ComposesOf m spares o
   crowded : {o : Outcome} → m.sizes.pebs < length (normal_blocks m) + spares → Gives o (says room_line 1) → ComposesOf m spares o
 

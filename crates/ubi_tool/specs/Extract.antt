@@ -3,7 +3,7 @@ use Rattle.std.specs.Prelude.{◌≡◌, ℕ, ◌<◌, ◌≤◌, ◌⊎◌, Lis
 use Rattle.std.specs.Io.KnownBytes.{Appends, Keeps}
 use Rattle.ubi_media.specs.Geometry.{Sizes}
 use Rattle.ubi_media.specs.declared.refusal.Refusal.{Refusal}
-use Rattle.ubi_scan.specs.Image.{Image, IsWholeSize}
+use Rattle.ubi_scan.specs.Image.{Image, IsWholeSize, image_of}
 use Rattle.ubi_scan.specs.Source.{Source, WhereHeld}
 use Rattle.ubi_scan.specs.declared.errors.StreamError.TheVariants as stream
 use Rattle.ubi_volume.specs.Accepts.{Accepts, Refuses}
@@ -68,8 +68,8 @@ HasFirst image id old new =
 -- read failed, before anything was written or after the first of the text, or a write, as over the bytes
 abbrev pub IsExtractFault : Sizes → Source → ℕ → Option (List ℕ) → Option (List ℕ) → ToolError → Type 0
 IsExtractFault s k id old new tool.Memory = Keeps old new
-IsExtractFault s k id old new tool.Read = Keeps old new ⊎ WhereHeld k (λ bytes. HasFirst (record { sizes = s; bytes = bytes }) id old new)
-IsExtractFault s k id old new tool.Write = WhereHeld k (λ bytes. IsExtractError (record { sizes = s; bytes = bytes }) id old new tool.Write)
+IsExtractFault s k id old new tool.Read = Keeps old new ⊎ WhereHeld k (λ bytes. HasFirst (image_of s bytes) id old new)
+IsExtractFault s k id old new tool.Write = WhereHeld k (λ bytes. IsExtractError (image_of s bytes) id old new tool.Write)
 
 -- what it answers of any source: of one that has the size of an image how many bytes the writer received, or the line of a
 -- refusal to read the volume; or the line of a refusal of the image; the writer received nothing where it is a refusal

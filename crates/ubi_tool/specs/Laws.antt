@@ -1,6 +1,7 @@
 -- Laws of the commands, as they stand on functions that do nothing.
 use Rattle.std.specs.Prelude.{◌≡◌, ℕ, List, Some, Ok, option_map}
 use Rattle.ubi_media.specs.Geometry.{Sizes}
+use Rattle.ubi_scan.specs.Image.{image_of}
 use Rattle.ubi_volume.specs.Meant.{Meant}
 use Rattle.ubi_compose.specs.TextLaws.{ComesTo}
 use Rattle.ubi_tool.specs.Answer.{Answer, Gives, says}
@@ -16,5 +17,5 @@ OneComposed = (s : Sizes) (text : List ℕ) (spares : ℕ) (o p : Outcome) (a : 
 -- what is listed of a composed image is the meaning that the text comes to
 abbrev pub ListsComposed : Type 0
 ListsComposed = (s : Sizes) (text bytes : List ℕ) (spares : ℕ) (o p : Outcome)
-    → Composes s text spares o → option_map (λ v. v.items) o.file ≡ Some bytes → Lists (record { sizes = s; bytes = bytes }) p
+    → Composes s text spares o → option_map (λ v. v.items) o.file ≡ Some bytes → Lists (image_of s bytes) p
     → (m : Meant) × ComesTo s text (Ok m) × Gives p (says (list_lines m) 0)

@@ -3,7 +3,7 @@ use Rattle.std.specs.Prelude.{◌≡◌, ℕ, ◌*◌, ◌+◌, ◌≤◌, List,
 use Rattle.ubi_media.specs.Geometry.{Sizes}
 use Rattle.ubi_media.specs.Limits.{first_broken}
 use Rattle.ubi_media.specs.declared.geometry.GeometryError.{GeometryError}
-use Rattle.ubi_scan.specs.Image.{Image}
+use Rattle.ubi_scan.specs.Image.{Image, image_of}
 use Rattle.ubi_scan.specs.Source.{Source}
 use Rattle.ubi_tool.specs.Answer.{Gives, says}
 use Rattle.ubi_tool.specs.Change.{ChangesInto}
@@ -44,7 +44,7 @@ Tells is (unread.Told o) = is o
 pub data OfImage (numbers : Numbers) (path : List ℕ) (answers : Image → Outcome → Type 0) : Outcome → Type 0 where
   no_image : {o : Outcome} → IsUnread numbers path o → OfImage numbers path answers o
   image : {o : Outcome} (bytes : List ℕ) → IsRead (sizes_of numbers) bytes
-      → answers (record { sizes = sizes_of numbers; bytes = bytes }) o → OfImage numbers path answers o
+      → answers (image_of (sizes_of numbers) bytes) o → OfImage numbers path answers o
 
 -- how many bytes a text may have: four for each byte of the device, and 65,536 more
 abbrev pub text_limit : Sizes → ℕ

@@ -4,7 +4,7 @@ ghost use Rattle.std.specs.Prelude.{◌≡◌, ◌++◌, ◌≤◌, IfErr, IfOk,
 ghost use Rattle.std.specs.List.{flat_map};
 ghost use Rattle.ubi_change.specs.Planned.{AllFitOf};
 ghost use Rattle.ubi_change.specs.Steps.{after};
-ghost use Rattle.ubi_scan.specs.Image.{IsWhole, eraseblocks};
+ghost use Rattle.ubi_scan.specs.Image.{IsWhole, eraseblocks, image_of};
 ghost use Rattle.ubi_tool.specs.Change.{Changes, cause_line, cut_bytes, plan_lines, step_line, step_words, steps_done};
 
 use crate::lines::{Detail, put_number, put_word, refusal_line, refused};
@@ -84,11 +84,11 @@ fn steps_done(steps: &[Step], stop: Option<u32>) -> usize
 
 /// Does the first steps of a plan to an image.
 fn apply_first(geometry: &Geometry, image: &mut [u8], steps: &[Step], count: usize)
-    requires whole { IsWhole (record { sizes = geometry.now; bytes = image.old }) }
-    requires fit { AllFitOf (record { sizes = geometry.now; bytes = image.old }) steps.now }
+    requires whole { IsWhole (image_of geometry.now image.old) }
+    requires fit { AllFitOf (image_of geometry.now image.old) steps.now }
     requires count { count ≤ length steps.now }
-    ensures cut { image.new ≡ cut_bytes (record { sizes = geometry.now; bytes = image.old }) steps.now count }
-    ensures done { eraseblocks (record { sizes = geometry.now; bytes = image.new }) ≡ after geometry.now (eraseblocks (record { sizes = geometry.now; bytes = image.old })) steps.now count }
+    ensures cut { image.new ≡ cut_bytes (image_of geometry.now image.old) steps.now count }
+    ensures done { eraseblocks (image_of geometry.now image.new) ≡ after geometry.now (eraseblocks (image_of geometry.now image.old)) steps.now count }
     ensures length { length image.new ≡ length image.old }
 {
     for step in &steps[..count] {
@@ -104,11 +104,11 @@ fn image_after(
     steps: &[Step],
     count: usize,
 ) -> Result<Vec<u8>, AllocError>
-    requires whole { IsWhole (record { sizes = geometry.now; bytes = image.now }) }
-    requires fit { AllFitOf (record { sizes = geometry.now; bytes = image.now }) steps.now }
+    requires whole { IsWhole (image_of geometry.now image.now) }
+    requires fit { AllFitOf (image_of geometry.now image.now) steps.now }
     requires count { count ≤ length steps.now }
-    ensures cut { IfOk result (λ bytes. bytes.items ≡ cut_bytes (record { sizes = geometry.now; bytes = image.now }) steps.now count) }
-    ensures done { IfOk result (λ bytes. eraseblocks (record { sizes = geometry.now; bytes = bytes.items }) ≡ after geometry.now (eraseblocks (record { sizes = geometry.now; bytes = image.now })) steps.now count) }
+    ensures cut { IfOk result (λ bytes. bytes.items ≡ cut_bytes (image_of geometry.now image.now) steps.now count) }
+    ensures done { IfOk result (λ bytes. eraseblocks (image_of geometry.now bytes.items) ≡ after geometry.now (eraseblocks (image_of geometry.now image.now)) steps.now count) }
     ensures length { IfOk result (λ bytes. length bytes.items ≡ length image.now) }
 {
     let mut bytes = Vec::from_slice(alloc, image)?;
@@ -134,7 +134,7 @@ pub fn run_change(
     new: &[u8],
     stop: Option<u32>,
 ) -> Result<Outcome, ToolError>
-    ensures ok { IfOk result (Changes (record { sizes = geometry.now; bytes = image.now }) id lnum new.now stop) }
+    ensures ok { IfOk result (Changes (image_of geometry.now image.now) id lnum new.now stop) }
     ensures err { IfErr result (λ e. e ≡ ToolError.Memory) }
 {
     let steps = match plan_change(alloc, geometry, image, id, lnum, new) {

@@ -2,6 +2,7 @@
 
 ghost use Rattle.std.specs.Prelude.{◌≡◌, ◌++◌, IfErr, IfOk, OnOk, codes, count_by};
 ghost use Rattle.std.specs.List.{flat_map};
+ghost use Rattle.ubi_scan.specs.Image.{image_of};
 ghost use Rattle.ubi_tool.specs.Check.{Checks, check_lines, number_line, printed_states, same_state, state_line, state_word};
 
 use crate::lines::{put_number, put_word, refusal_line};
@@ -111,7 +112,7 @@ fn check_lines(alloc: Global, surveyed: &Surveyed) -> Result<Vec<u8>, AllocError
 ///
 /// Memory where memory ran out.
 pub fn run_check(alloc: Global, geometry: &Geometry, image: &[u8]) -> Result<Outcome, ToolError>
-    ensures ok { IfOk result (Checks (record { sizes = geometry.now; bytes = image.now })) }
+    ensures ok { IfOk result (Checks (image_of geometry.now image.now)) }
     ensures err { IfErr result (λ e. e ≡ ToolError.Memory) }
 {
     match survey(alloc, geometry, image) {

@@ -2,6 +2,7 @@
 
 ghost use Rattle.std.specs.Prelude.{◌≡◌, IfErr, IfOk};
 ghost use Rattle.std.specs.Result.{result_map_both};
+ghost use Rattle.ubi_scan.specs.Image.{image_of};
 ghost use Rattle.ubi_scan.specs.Source.{WhereHeld};
 ghost use Rattle.ubi_tool.specs.AfterRun.{after_run};
 ghost use Rattle.ubi_tool.specs.Extract.{Extracts, ExtractsFrom, IsExtractError, IsExtractFault, IsUnread, read_refusal};
@@ -61,7 +62,7 @@ pub fn run_extract_from<S: BlockSource, W: Write>(
 ) -> Result<Outcome, ToolError>
     ensures known { S.known source.new ≡ after_run (S.known source.old) result }
     ensures ok { IfOk result (ExtractsFrom geometry.now (S.known source.old) (W.contents writer.old) (W.contents writer.new)) }
-    ensures image { IfOk result (λ o. WhereHeld (S.known source.old) (λ bytes. Extracts (record { sizes = geometry.now; bytes = bytes }) id (W.contents writer.old) (W.contents writer.new) o)) }
+    ensures image { IfOk result (λ o. WhereHeld (S.known source.old) (λ bytes. Extracts (image_of geometry.now bytes) id (W.contents writer.old) (W.contents writer.new) o)) }
     ensures err { IfErr result (IsExtractFault geometry.now (S.known source.old) id (W.contents writer.old) (W.contents writer.new)) }
 {
     let mut line = Vec::with_capacity(alloc, LONGEST_COUNT_LINE)?;
@@ -107,8 +108,8 @@ pub fn run_extract<W: Write>(
     id: u32,
     writer: &mut W,
 ) -> Result<Outcome, ToolError>
-    ensures ok { IfOk result (Extracts (record { sizes = geometry.now; bytes = image.now }) id (W.contents writer.old) (W.contents writer.new)) }
-    ensures err { IfErr result (IsExtractError (record { sizes = geometry.now; bytes = image.now }) id (W.contents writer.old) (W.contents writer.new)) }
+    ensures ok { IfOk result (Extracts (image_of geometry.now image.now) id (W.contents writer.old) (W.contents writer.new)) }
+    ensures err { IfErr result (IsExtractError (image_of geometry.now image.now) id (W.contents writer.old) (W.contents writer.new)) }
 {
     let mut source = MemorySource::new(image);
     match run_extract_from(alloc, geometry, &mut source, id, writer) {

@@ -5,6 +5,7 @@ ghost use Rattle.std.specs.FinMap as finite;
 ghost use Rattle.std.specs.List.{flat_map};
 ghost use Rattle.hex.specs.Hex.{encode_lower};
 ghost use Rattle.ubi_media.specs.Record.{rec_fault};
+ghost use Rattle.ubi_scan.specs.Image.{image_of};
 ghost use Rattle.ubi_scan.specs.Source.{WhereHeld};
 ghost use Rattle.ubi_volume.specs.Places.{ArePlaces, ArePlacesOf};
 ghost use Rattle.ubi_tool.specs.AfterRun.{after_run};
@@ -154,7 +155,7 @@ fn put_volumes<S: BlockSource>(
     requires places { ArePlacesOf geometry.now (S.known source.old) places.now }
     requires room { length buffer.old ≡ geometry.now.peb_size }
     ensures known { S.known source.new ≡ after_run (S.known source.old) result }
-    ensures text { OnOk result (WhereHeld (S.known source.old) (λ bytes. (h : ArePlaces (record { sizes = geometry.now; bytes = bytes }) places.now) → text.new.items ≡ text.old.items ++ flat_map (volume_line geometry.now) (finite.entries h.meaning.volumes))) }
+    ensures text { OnOk result (WhereHeld (S.known source.old) (λ bytes. (h : ArePlaces (image_of geometry.now bytes) places.now) → text.new.items ≡ text.old.items ++ flat_map (volume_line geometry.now) (finite.entries h.meaning.volumes))) }
     ensures failed { IfErr result IsListFault }
 {
     for listed in places.table().entries() {
@@ -184,7 +185,7 @@ fn list_lines<S: BlockSource>(
 ) -> Result<Vec<u8>, ToolError>
     requires { ArePlacesOf geometry.now (S.known source.old) places.now }
     ensures known { S.known source.new ≡ after_run (S.known source.old) result }
-    ensures text { IfOk result (λ text. WhereHeld (S.known source.old) (λ bytes. (h : ArePlaces (record { sizes = geometry.now; bytes = bytes }) places.now) → text.items ≡ list_lines h.meaning)) }
+    ensures text { IfOk result (λ text. WhereHeld (S.known source.old) (λ bytes. (h : ArePlaces (image_of geometry.now bytes) places.now) → text.items ≡ list_lines h.meaning)) }
     ensures failed { IfErr result IsListFault }
 {
     let mut buffer = Vec::from_elem(alloc, 0u8, geometry.peb_size() as usize)?;
@@ -214,7 +215,7 @@ fn list<S: BlockSource>(
     source: &mut S,
 ) -> Result<Outcome, ToolError>
     ensures known { S.known source.new ≡ after_run (S.known source.old) result }
-    ensures ok { IfOk result (λ o. WhereHeld (S.known source.old) (λ bytes. Lists (record { sizes = geometry.now; bytes = bytes }) o)) }
+    ensures ok { IfOk result (λ o. WhereHeld (S.known source.old) (λ bytes. Lists (image_of geometry.now bytes) o)) }
     ensures err { IfErr result IsListFault }
 {
     match attach_places(alloc, geometry, source) {
@@ -238,7 +239,7 @@ fn list<S: BlockSource>(
 ///
 /// Memory where memory ran out.
 pub fn run_list(alloc: Global, geometry: &Geometry, image: &[u8]) -> Result<Outcome, ToolError>
-    ensures ok { IfOk result (Lists (record { sizes = geometry.now; bytes = image.now })) }
+    ensures ok { IfOk result (Lists (image_of geometry.now image.now)) }
     ensures err { IfErr result (λ e. e ≡ ToolError.Memory) }
 {
     match list(alloc, geometry, &mut MemorySource::new(image)) {

@@ -1,6 +1,7 @@
 //! The command `same`: whether two images mean the same.
 
 ghost use Rattle.std.specs.Prelude.{◌≡◌, IfErr, IfOk};
+ghost use Rattle.ubi_scan.specs.Image.{image_of};
 ghost use Rattle.ubi_tool.specs.Same.{Compares};
 
 use crate::lines::{comparison_line, side_line};
@@ -21,7 +22,7 @@ pub fn run_same(
     left: &[u8],
     right: &[u8],
 ) -> Result<Outcome, ToolError>
-    ensures ok { IfOk result (Compares (record { sizes = geometry.now; bytes = left.now }) (record { sizes = geometry.now; bytes = right.now })) }
+    ensures ok { IfOk result (Compares (image_of geometry.now left.now) (image_of geometry.now right.now)) }
     ensures err { IfErr result (λ e. e ≡ ToolError.Memory) }
 {
     match same(alloc, geometry, left, right) {

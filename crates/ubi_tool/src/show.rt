@@ -2,7 +2,7 @@
 
 ghost use Rattle.std.specs.Prelude.{◌≡◌, ◌<◌, ◌++◌, length, codes, IfErr, IfOk, OnOk};
 ghost use Rattle.hex.specs.Hex.{encode_lower};
-ghost use Rattle.ubi_scan.specs.Image.{block, eraseblocks};
+ghost use Rattle.ubi_scan.specs.Image.{block, eraseblocks, image_of};
 ghost use Rattle.ubi_tool.specs.Show.{Shows, block_lines, ec_state, vid_state};
 
 use crate::lines::{ec_fault_name, no_block_line, put_word, refusal_line, vid_fault_name};
@@ -90,7 +90,7 @@ pub fn run_show(
     image: &[u8],
     p: u32,
 ) -> Result<Outcome, ToolError>
-    ensures ok { IfOk result (Shows (record { sizes = geometry.now; bytes = image.now }) p) }
+    ensures ok { IfOk result (Shows (image_of geometry.now image.now) p) }
     ensures err { IfErr result (λ e. e ≡ ToolError.Memory) }
 {
     let blocks = match Blocks::new(geometry, image) {

@@ -9,7 +9,7 @@ use Rattle.ubi_media.specs.Fields.{is_blank}
 use Rattle.ubi_media.specs.Geometry.{Sizes}
 use Rattle.ubi_media.specs.Record.{usable}
 use Rattle.ubi_media.specs.declared.record.VolumeRecord.{VolumeRecord}
-use Rattle.ubi_scan.specs.Image.{block, leb}
+use Rattle.ubi_scan.specs.Image.{block, image_of, leb}
 use Rattle.ubi_scan.specs.Members.{NoMember, Wins}
 use Rattle.ubi_scan.specs.Source.{blocks_of}
 use Rattle.ubi_scan.proofs.Entries.{sorted_entries}
@@ -28,7 +28,7 @@ use Rattle.ubi_volume.proofs.Either.{are_lebs}
 use Rattle.ubi_volume.proofs.One.{reads_unique}
 use Rattle.ubi_volume.proofs.VolumeAt.{case_is, found_wins, reads_of}
 
-module _ (s : Sizes) (p : Placed) (image : List ℕ) (places : ArePlaces (record { sizes = s; bytes = image }) p) (id : ℕ) (r : VolumeRecord) (lnum : ℕ) where
+module _ (s : Sizes) (p : Placed) (image : List ℕ) (places : ArePlaces (image_of s image) p) (id : ℕ) (r : VolumeRecord) (lnum : ℕ) where
   abbrev bs : List (List ℕ)
   bs = blocks_of s image
 
@@ -45,12 +45,12 @@ module _ (s : Sizes) (p : Placed) (image : List ℕ) (places : ArePlaces (record
         by_test : (b : Bool) → is_blank text ≡ b → IsKept s bs id r lnum (not b)
         by_test true e =
             let w = found_wins s p image places (id, lnum) q found in
-            let whole = are_lebs (record { sizes = s; bytes = image }) q w.member.inside in
+            let whole = are_lebs (image_of s image) q w.member.inside in
             let test = ap is_blank (sym read_is) ∙ e in
             (None, winner_blank s bs id r lnum q n (leb s (block bs q)) w size refl whole test, refl)
         by_test false e =
             let w = found_wins s p image places (id, lnum) q found in
-            let whole = are_lebs (record { sizes = s; bytes = image }) q w.member.inside in
+            let whole = are_lebs (image_of s image) q w.member.inside in
             let test = ap is_blank (sym read_is) ∙ e in
             (Some (take n (leb s (block bs q))), winner_text s bs id r lnum q n (leb s (block bs q)) w size refl whole test, refl)
 

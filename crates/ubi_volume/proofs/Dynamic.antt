@@ -1,5 +1,5 @@
 -- What is gathered of a dynamic volume.
-use Rattle.std.proofs.Common.{◌≡◌, ◌≢◌, ℕ, ◌+◌, ◌<◌, ◌≤◌, ◌⊎◌, inl, inr, true, false, cond, List, length, take, refl, ap, sym, ◌∙◌, subst, arith, length-take}
+use Rattle.std.proofs.Common.{◌≡◌, ◌≢◌, ℕ, ◌+◌, ◌<◌, inl, inr, true, false, cond, List, length, take, refl, ap, sym, ◌∙◌, subst, arith, length-take}
 use Rattle.std.specs.Prelude.{IfSome, Option, Some, None}
 use Rattle.std.specs.Cmp.{nat_cmp_total}
 use Rattle.std.specs.FinMap as finite

@@ -15,7 +15,7 @@ use Rattle.ubi_media.specs.Record.{rec_fault, usable}
 use Rattle.ubi_media.specs.declared.record.VolumeRecord.{VolumeRecord}
 use Rattle.ubi_media.specs.declared.vid.VolKind.TheVariants as kind
 use Rattle.ubi_media.proofs.Records.{usable_some}
-use Rattle.ubi_scan.specs.Image.{Image, block, leb}
+use Rattle.ubi_scan.specs.Image.{Image, block, image_of, leb}
 use Rattle.ubi_scan.specs.Members.{NoMember, Wins}
 use Rattle.ubi_scan.specs.Source.{Source, blocks_of}
 use Rattle.ubi_scan.specs.declared.errors.StreamError.{StreamError}
@@ -97,7 +97,7 @@ module _ (s : Sizes) (p : Placed) (id size bytes : ℕ) where
           error_front k s a c (lebs_at s p id size bytes l) (lebs_at s p id size bytes (n + 1)) (λ image text. Unit {0}) 0 e (lebs_front (n + 1) l (omega arith))
           (error_behind k s a b c (lebs_at s p id size bytes (n + 1)) (lebs_at s p id size bytes n) (leb_at s m at) 0 done e lebs_step front back)
 
-module _ (s : Sizes) (p : Placed) (image : List ℕ) (places : ArePlaces (record { sizes = s; bytes = image }) p) (id : ℕ) (r : VolumeRecord)
+module _ (s : Sizes) (p : Placed) (image : List ℕ) (places : ArePlaces (image_of s image) p) (id : ℕ) (r : VolumeRecord)
     (recorded : finite.get p.records.of id ≡ Some r) (v : Volume) (at : finite.get places.meaning.volumes id ≡ Some v) where
   abbrev bs : List (List ℕ)
   bs = blocks_of s image
@@ -138,7 +138,7 @@ module _ (s : Sizes) (p : Placed) (image : List ℕ) (places : ArePlaces (record
           share_is : (q : ℕ) → Wins s bs (id, n) q → share size t n ≡ take (share_len size bytes n) (leb s (block bs q))
           share_is q won =
               let here =
-              share_at s bs places.accepted.accepted.clean (are_lebs (record { sizes = s; bytes = image })) (table s p image places) places.accepted.accepted.alike id r (in_table s p image places id r recorded)
+              share_at s bs places.accepted.accepted.clean (are_lebs (image_of s image)) (table s p image places) places.accepted.accepted.alike id r (in_table s p image places id r recorded)
               static_reads.0 static_reads.1 static_whole.0 static_whole.1 n q static_whole.3 won in
               let there : share size t n ≡ take (length (share size t n)) (leb s (block bs q)) =
               subst (λ (x : List ℕ). share size x n ≡ take (length (share size x n)) (leb s (block bs q))) (sym static_whole.2) here in
@@ -221,7 +221,7 @@ read_of s id text (Some v) h = (v, refl, h)
 -- what the volume reads, by its extent
 module _ (s : Sizes) (p : Placed) (id : ℕ) (r : VolumeRecord) (recorded : finite.get p.records.of id ≡ Some r) where
   reads_at : (c : PlaceContent) (e : Extent) → finite.get p.contents id ≡ Some c → extent_of s r c ≡ Some e
-      → (image text : List ℕ) (h : ArePlaces (record { sizes = s; bytes = image }) p) (v : Volume) → finite.get h.meaning.volumes id ≡ Some v
+      → (image text : List ℕ) (h : ArePlaces (image_of s image) p) (v : Volume) → finite.get h.meaning.volumes id ≡ Some v
       → volume_read h.meaning.sizes v.entry v.content ≡ Ok text → text ≡ lebs_bytes s p id e.size e.bytes image e.lebs
   reads_at place.Updating e listed is image text h v at w = absurd (cc)
   reads_at place.Damaged e listed is image text h v at w = absurd (cc)

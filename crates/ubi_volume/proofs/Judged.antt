@@ -1,5 +1,5 @@
 -- What a file means, or why it is refused, is told by its first bytes up to one more than the device has.
-use Rattle.std.proofs.Common.{◌≡◌, ℕ, ◌+◌, ◌*◌, ◌<◌, ◌≤◌, ◌⊎◌, inl, inr, List, length, sym, subst, arith}
+use Rattle.std.proofs.Common.{◌≡◌, ℕ, ◌+◌, ◌*◌, ◌<◌, inl, inr, List, length, sym, subst, arith}
 use Rattle.std.proofs.lemmas.List.{length-take-le, take_all}
 use Rattle.ubi_media.specs.Geometry.{Sizes}
 use Rattle.ubi_media.specs.declared.refusal.Refusal.{Refusal}

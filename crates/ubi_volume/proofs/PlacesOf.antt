@@ -12,7 +12,7 @@ use Rattle.std.proofs.lemmas.Option.{same_Some}
 use Rattle.ubi_media.specs.Geometry.{IsGeometry, Sizes}
 use Rattle.ubi_media.specs.declared.record.VolumeRecord.{VolumeRecord}
 use Rattle.ubi_scan.specs.Scan.{Found}
-use Rattle.ubi_scan.specs.Image.{IsWholeSize}
+use Rattle.ubi_scan.specs.Image.{IsWholeSize, image_of}
 use Rattle.ubi_scan.specs.Source.{IsSource, Source, WhereHeld, blocks_of}
 use Rattle.ubi_scan.specs.Stream.{IsScanOf}
 use Rattle.ubi_scan.specs.declared.errors.StreamError.{StreamError}
@@ -113,7 +113,7 @@ module _ (s : Sizes) (k : Source) (found : Found) (t : Records) (scan : IsScanOf
     abbrev placed : Placed
     placed = record { records = t; winners = found.winners; contents = from_entries cs }
 
-    held : (bytes : List ℕ) → k.held ≡ Some bytes → ArePlaces (record { sizes = s; bytes = bytes }) placed
+    held : (bytes : List ℕ) → k.held ≡ Some bytes → ArePlaces (image_of s bytes) placed
     held bytes holds =
         let bs = blocks_of s bytes in
         let is = table.held bytes holds in

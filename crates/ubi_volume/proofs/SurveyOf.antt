@@ -3,7 +3,7 @@ use Rattle.std.proofs.Common.{◌≡◌, ℕ, List, sym, subst}
 use Rattle.std.specs.Prelude.{Some}
 use Rattle.ubi_media.specs.Geometry.{IsGeometry, Sizes}
 use Rattle.ubi_scan.specs.Scan.{Found}
-use Rattle.ubi_scan.specs.Image.{Image, IsWholeSize}
+use Rattle.ubi_scan.specs.Image.{Image, IsWholeSize, image_of}
 use Rattle.ubi_scan.specs.Source.{IsSource, Source, WhereHeld, blocks_in, blocks_of}
 use Rattle.ubi_scan.specs.Stream.{IsScanOf}
 use Rattle.ubi_scan.specs.declared.errors.StreamError.{StreamError}
@@ -27,7 +27,7 @@ states_refused s k stream.Memory h = tt
 
 module _ (s : Sizes) (k : Source) (found : Found) (t : Records) (states : List BlockState) (g : IsGeometry s) (sized : IsSource k)
     (scan : IsScanOf s k found) (table : IsTableOf s k t) (alike : WhereHeld k (λ bytes. NoMismatch s (blocks_of s bytes) t)) (are : AreStatesOf s k t states) where
-  held : (bytes : List ℕ) → k.held ≡ Some bytes → IsSurvey (record { sizes = s; bytes = bytes }) (record { records = t; scan = found; states = states })
+  held : (bytes : List ℕ) → k.held ≡ Some bytes → IsSurvey (image_of s bytes) (record { records = t; scan = found; states = states })
   held bytes holds =
       let image : Image = record { sizes = s; bytes = bytes } in
       let bs = blocks_of s bytes in

@@ -2,6 +2,7 @@
 use Rattle.std.specs.Prelude.{◌≡◌, ℕ, List, Some, length}
 use Rattle.std.specs.FinMap.{entries, get}
 use Rattle.ubi_media.specs.Geometry.{Sizes}
+use Rattle.ubi_scan.specs.Image.{image_of}
 use Rattle.ubi_volume.specs.Places.{ArePlaces, Placed}
 use Rattle.ubi_volume.specs.declared.amounts.Amount.{Amount}
 use Rattle.ubi_volume.specs.declared.amounts.Amount.TheVariants as amount
@@ -19,5 +20,5 @@ amount_of (content.Dynamic lebs) = amount.Lebs (length (entries lebs))
 -- how much a volume reads, of the meaning of an image whose places these are
 abbrev pub AmountIs : Sizes → Placed → ℕ → List ℕ → Amount → Type 0
 AmountIs s p id image a =
-    (h : ArePlaces (record { sizes = s; bytes = image }) p) (v : Volume) → get h.meaning.volumes id ≡ Some v
+    (h : ArePlaces (image_of s image) p) (v : Volume) → get h.meaning.volumes id ≡ Some v
     → a ≡ amount_of v.content

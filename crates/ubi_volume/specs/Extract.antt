@@ -6,7 +6,7 @@ use Rattle.ubi_media.specs.Fields.{blank}
 use Rattle.ubi_media.specs.Geometry.{Sizes}
 use Rattle.ubi_media.specs.Record.{usable}
 use Rattle.ubi_media.specs.declared.record.VolumeRecord.{VolumeRecord}
-use Rattle.ubi_scan.specs.Image.{block, leb}
+use Rattle.ubi_scan.specs.Image.{block, image_of, leb}
 use Rattle.ubi_scan.specs.Source.{blocks_of}
 use Rattle.ubi_volume.specs.Places.{ArePlaces, Placed}
 use Rattle.ubi_volume.specs.Reading.{read_volume}
@@ -29,7 +29,7 @@ places_len p id = option_map_or (λ r. option_map_or (case_len p.records.sizes r
 
 -- what the volume reads, of the meaning of an image whose places these are
 abbrev pub read_text : Sizes → Placed → ℕ → List ℕ → List ℕ → Type 0
-read_text s p id image text = (h : ArePlaces (record { sizes = s; bytes = image }) p) × (read_volume h.meaning id ≡ Ok text)
+read_text s p id image text = (h : ArePlaces (image_of s image) p) × (read_volume h.meaning id ≡ Ok text)
 
 -- the first n bytes of the LEB at a place of an image; 0xFF where it has no place
 abbrev pub leb_bytes : Sizes → ℕ → Option ℕ → List ℕ → List ℕ

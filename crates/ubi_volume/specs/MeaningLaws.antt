@@ -2,7 +2,7 @@
 use Rattle.std.specs.Prelude.{◌≡◌, ℕ, ◌↔◌, List, IsPermutation}
 use Rattle.ubi_media.specs.Geometry.{Sizes}
 use Rattle.ubi_media.specs.declared.refusal.Refusal.{Refusal}
-use Rattle.ubi_scan.specs.Image.{Image, IsWhole, eraseblocks, judged}
+use Rattle.ubi_scan.specs.Image.{Image, IsWhole, eraseblocks, image_of, judged}
 use Rattle.ubi_volume.specs.Accepts.{Accepts, Refuses}
 use Rattle.ubi_volume.specs.Made.{IsFirst, Items}
 use Rattle.ubi_volume.specs.Meant.{Meant}
@@ -24,6 +24,6 @@ Reorder = (image other : Image) (m : Meant) → other.sizes ≡ image.sizes → 
 -- what a file means, or why it is refused, is told by those of its bytes that are judged
 abbrev pub JudgedAlone : Type 0
 JudgedAlone = (s : Sizes) (bytes : List ℕ) →
-    let all : Image = record { sizes = s; bytes = bytes } in
-    let first : Image = record { sizes = s; bytes = judged s bytes } in
+    let all : Image = image_of s bytes in
+    let first : Image = image_of s (judged s bytes) in
     ((m : Meant) → Accepts first m ↔ Accepts all m) × ((c : Refusal) → Refuses first c ↔ Refuses all c)

@@ -6,7 +6,7 @@ use Rattle.ubi_media.specs.Geometry.{Sizes}
 use Rattle.ubi_media.specs.Record.{usable}
 use Rattle.ubi_media.specs.declared.record.VolumeRecord.{VolumeRecord}
 use Rattle.ubi_media.specs.declared.vid.VolKind.TheVariants as kind
-use Rattle.ubi_scan.specs.Image.{Image, IsLengthFault, IsWholeSize, eraseblocks}
+use Rattle.ubi_scan.specs.Image.{Image, IsLengthFault, IsWholeSize, eraseblocks, image_of}
 use Rattle.ubi_scan.specs.Members.{Leb}
 use Rattle.ubi_scan.specs.Scan.{AreWinners, leb_cmp}
 use Rattle.ubi_scan.specs.Source.{Source, WhereHeld, blocks_in, blocks_of}
@@ -75,7 +75,7 @@ pub record ArePlacesOf (s : Sizes) (k : Source) (p : Placed) : Type 0 where
   pub sizes : p.records.sizes ≡ s
   pub whole : IsWholeSize s k.size
   pub within : AreWithin (blocks_in s k) p
-  pub held : WhereHeld k (λ bytes. ArePlaces (record { sizes = s; bytes = bytes }) p)
+  pub held : WhereHeld k (λ bytes. ArePlaces (image_of s bytes) p)
 
 -- why it fails
 abbrev pub ArePlacesError : Sizes → Source → StreamError → Type 0

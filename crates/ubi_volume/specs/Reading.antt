@@ -1,5 +1,5 @@
 -- What is read of a meaning: a LEB of a volume, or the whole volume.
-use Rattle.std.specs.Prelude.{◌≡◌, ℕ, ◌+◌, ◌++◌, List, Option, Result, Ok, Err, if◌then◌else◌, nat_lt, unwrap_or, drop, length, flat_map}
+use Rattle.std.specs.Prelude.{◌≡◌, ℕ, ◌++◌, List, Option, Result, Ok, Err, if◌then◌else◌, nat_lt, unwrap_or, drop, length, flat_map}
 use Rattle.std.specs.FinMap.{FinMap, get}
 use Rattle.std.specs.List.{range_with_len}
 use Rattle.std.specs.Option.{option_map_or}

@@ -3,7 +3,7 @@ use Rattle.std.specs.Prelude.{◌≡◌, List, length, refl}
 use Rattle.std.specs.Coded.{Coded, code_by, coded×, coded_list}
 use Rattle.ubi_media.specs.Geometry.{Sizes}
 use Rattle.ubi_scan.specs.Coded.{found_code}
-use Rattle.ubi_scan.specs.Image.{Image, IsWholeSize}
+use Rattle.ubi_scan.specs.Image.{Image, IsWholeSize, image_of}
 use Rattle.ubi_scan.specs.Scan.{Found}
 use Rattle.ubi_scan.specs.Source.{Source, WhereHeld, blocks_in}
 use Rattle.ubi_table.specs.Coded.{records_code}
@@ -35,4 +35,4 @@ pub record IsSurvey (image : Image) (v : Seen) : Type 0 where
 pub record IsSurveyOf (s : Sizes) (k : Source) (v : Seen) : Type 0 where
   pub whole : IsWholeSize s k.size
   pub count : length v.states ≡ blocks_in s k
-  pub held : WhereHeld k (λ bytes. IsSurvey (record { sizes = s; bytes = bytes }) v)
+  pub held : WhereHeld k (λ bytes. IsSurvey (image_of s bytes) v)

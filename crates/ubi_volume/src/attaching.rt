@@ -1,6 +1,7 @@
 //! What an image means, or why it is refused.
 
 ghost use Rattle.std.specs.Prelude.{IfErr, IfOk};
+ghost use Rattle.ubi_scan.specs.Image.{image_of};
 ghost use Rattle.ubi_volume.specs.Accepts.{IsAttachError};
 ghost use Rattle.ubi_volume.specs.Attached.{IsAttached};
 
@@ -18,8 +19,8 @@ use ubi_scan::Blocks;
 /// Refused with the first cause that stands: `TooMany` or `Length` for its size, then the first fault of its lowest
 /// eraseblock that has one, then the fault of its volume table, then `Mismatch`. Memory where it ran out.
 pub fn attach(alloc: Global, geometry: &Geometry, image: &[u8]) -> Result<Attached, AttachError>
-    ensures attached { IfOk result (IsAttached (record { sizes = geometry.now; bytes = image.now })) }
-    ensures refused { IfErr result (IsAttachError (record { sizes = geometry.now; bytes = image.now })) }
+    ensures attached { IfOk result (IsAttached (image_of geometry.now image.now)) }
+    ensures refused { IfErr result (IsAttachError (image_of geometry.now image.now)) }
 {
     let blocks = Blocks::new(geometry, image)?;
     let surveyed = survey(alloc, geometry, image)?;

@@ -3,7 +3,7 @@
 ghost use Rattle.std.specs.Prelude.{◌≡◌, ◌<◌, IfErr, IfOk, Some, length, slice_get};
 ghost use Rattle.std.specs.FinMap as finite;
 ghost use Rattle.ubi_media.specs.declared.vid.VidHeader.{VidHeader};
-ghost use Rattle.ubi_scan.specs.Image.{block};
+ghost use Rattle.ubi_scan.specs.Image.{block, image_of};
 ghost use Rattle.ubi_scan.specs.Members.{leb_of, member};
 ghost use Rattle.ubi_scan.specs.Source.{WhereHeld, blocks_in, blocks_of};
 ghost use Rattle.ubi_scan.specs.Stream.{IsReadFault, IsScanOf, after};
@@ -214,8 +214,8 @@ pub fn survey_from<S: BlockSource>(
 ///
 /// As [`crate::attach`].
 pub fn survey(alloc: Global, geometry: &Geometry, image: &[u8]) -> Result<Surveyed, AttachError>
-    ensures survey { IfOk result (IsSurvey (record { sizes = geometry.now; bytes = image.now })) }
-    ensures refused { IfErr result (IsAttachError (record { sizes = geometry.now; bytes = image.now })) }
+    ensures survey { IfOk result (IsSurvey (image_of geometry.now image.now)) }
+    ensures refused { IfErr result (IsAttachError (image_of geometry.now image.now)) }
 {
     match survey_from(alloc, geometry, &mut MemorySource::new(image)) {
         Ok(survey) => Ok(survey),

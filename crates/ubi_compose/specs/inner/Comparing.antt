@@ -2,6 +2,7 @@
 use Rattle.std.specs.Prelude.{◌≡◌, ◌↔◌, ℕ, ◌<◌, Bool, IsTrue, List, Some}
 use Rattle.std.specs.FinMap.{get}
 use Rattle.ubi_media.specs.Geometry.{Sizes}
+use Rattle.ubi_scan.specs.Image.{image_of}
 use Rattle.ubi_scan.specs.Stream.{IsReadFault}
 use Rattle.ubi_volume.specs.Extract.{leb_bytes, share_len}
 use Rattle.ubi_volume.specs.Meant.{Meant}
@@ -34,7 +35,7 @@ AreSameLebs s p q id size bytes left right n = (lnum : ℕ) → lnum < n → IsS
 -- a fact about the meanings of two images whose places these are
 abbrev pub OfMeanings : Sizes → Placed → Placed → List ℕ → List ℕ → (Meant → Meant → Type 0) → Type 0
 OfMeanings s p q left right fact =
-    (h : ArePlaces (record { sizes = s; bytes = left }) p) (k : ArePlaces (record { sizes = s; bytes = right }) q)
+    (h : ArePlaces (image_of s left) p) (k : ArePlaces (image_of s right) q)
     → fact h.meaning k.meaning
 
 -- whether the volumes with a number read the same

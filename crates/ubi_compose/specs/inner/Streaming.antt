@@ -6,7 +6,7 @@ use Rattle.ubi_media.specs.Fields.{is_blank}
 use Rattle.ubi_media.specs.Geometry.{Sizes}
 use Rattle.ubi_media.specs.declared.vid.VidHeader.{VidHeader}
 use Rattle.ubi_media.specs.declared.vid.VidRead.TheVariants as vid_read
-use Rattle.ubi_scan.specs.Image.{block, leb, vid}
+use Rattle.ubi_scan.specs.Image.{block, image_of, leb, vid}
 use Rattle.ubi_scan.specs.Source.{blocks_of}
 use Rattle.ubi_volume.specs.Places.{ArePlaces, Placed}
 use Rattle.ubi_volume.specs.declared.content.Volume.{Volume}
@@ -38,7 +38,7 @@ dynamic_text s pad vol lnum size p image text = text ≡ kept_bytes s pad vol ln
 
 -- the volume with a number, of the meaning of an image whose places these are
 pub record IsVolumeOf (s : Sizes) (p : Placed) (id : ℕ) (image : List ℕ) (v : Volume) : Type 0 where
-  pub places : ArePlaces (record { sizes = s; bytes = image }) p
+  pub places : ArePlaces (image_of s image) p
   pub at : get places.meaning.volumes id ≡ Some v
 
 -- the eraseblocks of that volume
@@ -49,9 +49,9 @@ volume_text s p id image text =
 -- those of all volumes
 abbrev pub volumes_text : Sizes → Placed → List ℕ → List ℕ → Type 0
 volumes_text s p image text =
-    (h : ArePlaces (record { sizes = s; bytes = image }) p)
+    (h : ArePlaces (image_of s image) p)
     × (text ≡ flat_map (laid_bytes s new_ec) (normal.blocks_of s (entries h.meaning.volumes)))
 
 -- the normal image
 abbrev pub normal_text : Sizes → Placed → List ℕ → List ℕ → Type 0
-normal_text s p image text = (h : ArePlaces (record { sizes = s; bytes = image }) p) × (text ≡ normal_bytes h.meaning)
+normal_text s p image text = (h : ArePlaces (image_of s image) p) × (text ≡ normal_bytes h.meaning)

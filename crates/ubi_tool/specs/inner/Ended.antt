@@ -1,6 +1,7 @@
 -- What a command answers once its work is over, and which of its faults are told.
 use Rattle.std.specs.Prelude.{◌≡◌, ℕ, Bool, true, false, List, Result, Ok, Err, codes, None}
 use Rattle.ubi_media.specs.Geometry.{Sizes}
+use Rattle.ubi_scan.specs.Image.{image_of}
 use Rattle.ubi_scan.specs.Source.{Source, failed, WhereHeld}
 use Rattle.ubi_volume.specs.Accepts.{Accepts}
 use Rattle.ubi_volume.specs.Meant.{Meant}
@@ -40,15 +41,15 @@ IsUntold e fault = read_refusal e ≡ Err fault
 abbrev pub ExtractsSource : Sizes → Source → Source → ℕ → List ℕ → List ℕ → Outcome → Type 0
 ExtractsSource s k after id path out =
     Streams k after path out
-    (λ o. ExtractsFrom s k None None o × WhereHeld k (λ bytes. Extracts (record { sizes = s; bytes = bytes }) id None None o))
-    (WhereHeld k (λ bytes. HasText (record { sizes = s; bytes = bytes }) id))
+    (λ o. ExtractsFrom s k None None o × WhereHeld k (λ bytes. Extracts (image_of s bytes) id None None o))
+    (WhereHeld k (λ bytes. HasText (image_of s bytes) id))
 
 -- and what `normalise` does
 abbrev pub NormalisesSource : Sizes → Source → Source → List ℕ → List ℕ → Outcome → Type 0
 NormalisesSource s k after path out =
     Streams k after path out
-    (λ o. NormalisesTo s k None None o × WhereHeld k (λ bytes. Normalises (record { sizes = s; bytes = bytes }) None None o))
-    (WhereHeld k (λ bytes. (m : Meant) × Accepts (record { sizes = s; bytes = bytes }) m))
+    (λ o. NormalisesTo s k None None o × WhereHeld k (λ bytes. Normalises (image_of s bytes) None None o))
+    (WhereHeld k (λ bytes. (m : Meant) × Accepts (image_of s bytes) m))
 
 -- why `list` answers nothing: a read failed, or memory ran out
 abbrev pub IsListFault : ToolError → Type 0

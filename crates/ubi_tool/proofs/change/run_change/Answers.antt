@@ -1,4 +1,5 @@
 use Rattle.std.proofs.Common.{ap, refl, Some}
+use Rattle.ubi_scan.specs.Image.{image_of}
 use Rattle.ubi_tool.specs.Change.{planned, steps_done, unplanned}
 use Rattle.ubi_tool.proofs.Cut.{cut_means, few_done}
 use Rattle.ubi_tool.proofs.change.run_change.Goals as goal
@@ -16,6 +17,6 @@ returns-clause-ok c =
       text = rw c.as_slice-steps.ensures.value at c.in_ok-text.ensures;
       status = refl;
       file = ap Some (rw (c.steps_done-count.ensures, c.as_slice-steps.ensures.value) at c.in_ok-file.ensures.cut);
-    }) (cut_means (record { sizes = c.args.geometry.now; bytes = c.args.image.now }) steps (steps_done steps stop) c.in_ok-file.file.items
+    }) (cut_means (image_of c.args.geometry.now c.args.image.now) steps (steps_done steps stop) c.in_ok-file.file.items
     survives.1.whole (rw (c.steps_done-count.ensures, c.as_slice-steps.ensures.value) at c.in_ok-file.ensures.done) c.in_ok-file.ensures.length
     c.args.id c.args.lnum c.args.new.now survives (few_done steps stop))

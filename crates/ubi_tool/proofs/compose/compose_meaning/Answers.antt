@@ -1,6 +1,6 @@
 use Rattle.std.proofs.Common.{◌≡◌, ℕ, ◌/◌, List, Some, length, ap, refl, subst, ◌∙◌}
+use Rattle.ubi_scan.specs.Image.{image_of}
 use Rattle.ubi_volume.specs.Accepts.{Accepts}
-use Rattle.ubi_compose.specs.Composed.{image_of}
 use Rattle.ubi_tool.specs.Compose.{crowded, fits}
 use Rattle.ubi_tool.specs.Lines.{blocks_line}
 use Rattle.ubi_compose.proofs.Form.{count-composed}
@@ -15,7 +15,7 @@ returns-in_ok-blocks_line-in-Ok-clause-ok c =
     let m = c.args.meaning.now in
     let bytes = c.in-Ok.ensures.bytes in
     let blocks = count-composed m c.geometry.ensures.limits c.geometry.ensures.meaning c.args.spares in
-    fits c.in-Ok.ensures.room (subst (λ b. Accepts (image_of m b) m) bytes c.in-Ok.ensures.accepted) (record {
+    fits c.in-Ok.ensures.room (subst (λ b. Accepts (image_of m.sizes b) m) bytes c.in-Ok.ensures.accepted) (record {
       text = c.in_ok-blocks_line-in-Ok.ensures ∙ ap blocks_line (count (c.len.ensures ∙ c.in-Ok.image.ok.0) (c.peb_size.ensures.value ∙ ap (λ s. s.peb_size) c.geometry.ensures.value) bytes ∙ blocks);
       status = refl;
       file = ap Some bytes;

@@ -1,4 +1,5 @@
 use Rattle.std.proofs.lemmas.Result.{IfOk-weaker}
+use Rattle.ubi_scan.specs.Image.{image_of}
 use Rattle.ubi_tool.specs.List.{Lists}
 use Rattle.ubi_tool.specs.Program.{no_image}
 use Rattle.ubi_tool.proofs.Outcomes.{of_image, told}
@@ -11,6 +12,6 @@ returns-in-Err g c =
 pub returns-in-Ok-run_list : goal.returns-in-Ok-run_list
 returns-in-Ok-run_list g c =
     let file = c.in-Ok.file in
-    let work : Lists (record { sizes = file.geometry; bytes = file.bytes.items }) c.in-Ok-run_list.outcome =
+    let work : Lists (image_of file.geometry file.bytes.items) c.in-Ok-run_list.outcome =
     rw c.as_slice.ensures.value at c.in-Ok-run_list.ensures.ok in
     of_image c.args.numbers _ Lists file.geometry file.bytes.items _ c.in-Ok.ensures.geometry c.in-Ok.ensures.read work

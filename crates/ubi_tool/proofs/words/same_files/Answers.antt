@@ -1,4 +1,5 @@
 use Rattle.std.proofs.lemmas.Result.{IfOk-weaker}
+use Rattle.ubi_scan.specs.Image.{image_of}
 use Rattle.ubi_tool.specs.Program.{OfImage, no_image}
 use Rattle.ubi_tool.specs.Same.{Compares}
 use Rattle.ubi_tool.proofs.Outcomes.{of_image, told}
@@ -19,7 +20,7 @@ pub returns-in-Ok-run_same : goal.returns-in-Ok-run_same
 returns-in-Ok-run_same g c =
     let first = c.in-Ok.file in
     let second = c.in-Ok-load.file in
-    let work : Compares (record { sizes = first.geometry; bytes = first.bytes.items }) (record { sizes = first.geometry; bytes = second.bytes.items }) c.in-Ok-run_same.outcome =
+    let work : Compares (image_of first.geometry first.bytes.items) (image_of first.geometry second.bytes.items) c.in-Ok-run_same.outcome =
     rw (c.as_slice.ensures.value, c.as_slice-2.ensures.value) at c.in-Ok-run_same.ensures.ok in
     of_image c.args.numbers _ (λ i. OfImage c.args.numbers c.args.right.now (Compares i)) first.geometry first.bytes.items _ c.in-Ok.ensures.geometry c.in-Ok.ensures.read
-    (of_image c.args.numbers _ (Compares (record { sizes = first.geometry; bytes = first.bytes.items })) first.geometry second.bytes.items _ c.in-Ok.ensures.geometry c.in-Ok-load.ensures.read work)
+    (of_image c.args.numbers _ (Compares (image_of first.geometry first.bytes.items)) first.geometry second.bytes.items _ c.in-Ok.ensures.geometry c.in-Ok-load.ensures.read work)

@@ -1,4 +1,5 @@
 use Rattle.std.proofs.lemmas.Result.{IfOk-weaker}
+use Rattle.ubi_scan.specs.Image.{image_of}
 use Rattle.ubi_tool.specs.Program.{no_image}
 use Rattle.ubi_tool.specs.Show.{Shows}
 use Rattle.ubi_tool.proofs.Outcomes.{of_image, told}
@@ -11,6 +12,6 @@ returns-in-Err g c =
 pub returns-in-Ok-run_show : goal.returns-in-Ok-run_show
 returns-in-Ok-run_show g c =
     let file = c.in-Ok.file in
-    let work : Shows (record { sizes = file.geometry; bytes = file.bytes.items }) c.args.p c.in-Ok-run_show.outcome =
+    let work : Shows (image_of file.geometry file.bytes.items) c.args.p c.in-Ok-run_show.outcome =
     rw c.as_slice.ensures.value at c.in-Ok-run_show.ensures.ok in
     of_image c.args.numbers _ (λ i. Shows i c.args.p) file.geometry file.bytes.items _ c.in-Ok.ensures.geometry c.in-Ok.ensures.read work

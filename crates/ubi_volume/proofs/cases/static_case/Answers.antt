@@ -1,5 +1,6 @@
 use Rattle.std.proofs.Common.{◌≡◌, ◌∙◌, ap, sym, subst, arith}
 use Rattle.ubi_media.proofs.Records.{usable_some}
+use Rattle.ubi_scan.specs.Image.{image_of}
 use Rattle.ubi_scan.specs.Source.{Source, blocks_of}
 use Rattle.ubi_volume.specs.inner.Cases.{PieceSizeIs, SizeIsRead}
 use Rattle.ubi_volume.proofs.CaseSizes.{damaged_case, no_piece, size_more, size_none, static_case}
@@ -61,7 +62,7 @@ returns-clause-case g c = λ bytes holds.
     let scan = c.requires.scan.held bytes holds in
     let last : c.loop-lnum.lnum ≡ c.in_ok-used.used = omega arith in
     let none = next_none c.args.scan.now c.args.id c.in_ok-used.used c.next_winner.result (sym c.is_some.ensures ∙ c.if-is_some.false) c.next_winner.ensures in
-    static_case s bs c.args.id c.args.entry.now scan.clean (are_lebs (record { sizes = s; bytes = bytes })) c.args.table.now (c.requires.alike bytes holds) c.requires.recorded c.requires.unmarked c.requires.kind
+    static_case s bs c.args.id c.args.entry.now scan.clean (are_lebs (image_of s bytes)) c.args.table.now (c.requires.alike bytes holds) c.requires.recorded c.requires.unmarked c.requires.kind
     (usable_some s c.args.entry.now c.requires.sound) c.in_ok-used.used c.loop-lnum.bytes
     (subst (λ n. SizeIsRead s bs c.args.id c.in_ok-used.used n c.loop-lnum.bytes) last (c.loop-lnum.invariant.read bytes holds)) c.if-used-entry.false
     (λ lnum from. none_found s bs c.args.scan.now scan (c.args.id, lnum) (none lnum from))
