@@ -1,6 +1,8 @@
 mod answers;
+mod cases;
 mod change;
 mod change_files;
+mod changing;
 mod check;
 mod compose;
 mod compose_files;
@@ -15,6 +17,7 @@ mod memory;
 mod normal;
 mod normalise;
 mod normalise_files;
+mod pebs;
 mod printing;
 mod progress;
 mod same;

@@ -20,12 +20,9 @@ pub const CHECK_OF_41: u32 = 0xD6FB_3026;
 pub const CHECK_OF_61: u32 = 0x764B_9AAA;
 
 /// Those of 64 bytes 0x37 and 0x39.
-const CHECK_OF_37: u32 = 0x6BFF_21BA;
+pub const CHECK_OF_37: u32 = 0x6BFF_21BA;
 
-const CHECK_OF_39: u32 = 0xF1EC_52E7;
-
-/// The check of the empty record, which stands behind its 168 zeros.
-const EMPTY: [u8; 4] = [0xF1, 0x16, 0xC3, 0x6B];
+pub const CHECK_OF_39: u32 = 0xF1EC_52E7;
 
 /// A record: its first bytes, the flags, and the check, which another program worked out. Zeros stand between them.
 #[derive(Clone, Copy)]
@@ -34,6 +31,24 @@ pub struct Record {
     pub flags: u8,
     pub check: [u8; 4],
 }
+
+impl Record {
+    /// Its bytes.
+    pub fn bytes(&self) -> [u8; 172] {
+        let mut bytes = [0; 172];
+        overwrite(&mut bytes, 0, &self.start);
+        overwrite(&mut bytes, 144, &[self.flags]);
+        overwrite(&mut bytes, 168, &self.check);
+        bytes
+    }
+}
+
+/// No record.
+pub const NONE: Record = Record {
+    start: [0; 20],
+    flags: 0,
+    check: [0xF1, 0x16, 0xC3, 0x6B],
+};
 
 /// The record of a dynamic volume `root` with 20 reserved eraseblocks.
 pub const ROOT: Record = Record {
@@ -200,10 +215,8 @@ fn put_copy(
 /// The bytes of a table with a record in its first slot and none in its second.
 pub fn records(first: &Record) -> [u8; 344] {
     let mut records = [0; 344];
-    overwrite(&mut records, 0, &first.start);
-    overwrite(&mut records, 144, &[first.flags]);
-    overwrite(&mut records, 168, &first.check);
-    overwrite(&mut records, 340, &EMPTY);
+    overwrite(&mut records, 0, &first.bytes());
+    overwrite(&mut records, 172, &NONE.bytes());
     records
 }
 

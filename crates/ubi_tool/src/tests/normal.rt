@@ -1,6 +1,6 @@
 //! Normal images. Their bytes are the format's, and their checks were worked out by another program.
 
-use super::images::{BOOT, BOOT_UPDATING, ROOT, Record, overwrite, put_bytes, records};
+use super::images::{BOOT, BOOT_UPDATING, NONE, ROOT, Record, overwrite, put_bytes, records};
 use std::alloc::{AllocError, Global};
 
 /// An erase-counter header of the small geometry, with counter 0 and no image.
@@ -9,7 +9,7 @@ pub const EC: [u8; 64] = *b"UBI#\x01\0\0\0\
     \0\0\0\0\0\0\0\0\0\0\0\0\0\0\0\0\0\0\0\0\0\0\0\0\0\0\0\0\0\0\0\0\x77\x52\xb3\xc4";
 
 /// The headers of the two copies of the volume table.
-const COPIES: [[u8; 64]; 2] = [
+pub const COPIES: [[u8; 64]; 2] = [
     *b"UBI!\x01\x01\0\x05\
     \x7f\xff\xef\xff\0\0\0\0\0\0\0\0\0\0\0\0\0\0\0\0\0\0\0\0\0\0\0\0\0\0\0\0\
     \0\0\0\0\0\0\0\0\0\0\0\0\0\0\0\0\0\0\0\0\xb8\x25\x64\xa8",
@@ -32,12 +32,12 @@ pub const LEBS: [[u8; 64]; 3] = [
 ];
 
 /// That of logical eraseblock 0 where 128 bytes are left behind the aligned ones.
-const ALIGNED: [u8; 64] = *b"UBI!\x01\x01\0\0\
+pub const ALIGNED: [u8; 64] = *b"UBI!\x01\x01\0\0\
     \0\0\0\0\0\0\0\0\0\0\0\0\0\0\0\0\0\0\0\0\0\0\0\x80\0\0\0\0\
     \0\0\0\0\0\0\0\0\0\0\0\0\0\0\0\0\0\0\0\0\0\0\0\0\x9e\xd3\xd6\xf9";
 
 /// The headers of the two logical eraseblocks of a static volume: of 384 bytes 0x41, and of a byte 0xFF.
-const WHOLE: [[u8; 64]; 2] = [
+pub const WHOLE: [[u8; 64]; 2] = [
     *b"UBI!\x01\x02\0\0\
     \0\0\0\0\0\0\0\0\0\0\0\0\0\0\x01\x80\0\0\0\x02\0\0\0\0\xd6\xfb\x30\x26\
     \0\0\0\0\0\0\0\0\0\0\0\0\0\0\0\0\0\0\0\0\0\0\0\0\xaa\xd6\x69\x2c",
@@ -47,7 +47,7 @@ const WHOLE: [[u8; 64]; 2] = [
 ];
 
 /// The header of the one eraseblock of a damaged volume: one byte, whose check isn't 0.
-const DAMAGED: [u8; 64] = *b"UBI!\x01\x02\0\0\
+pub const DAMAGED: [u8; 64] = *b"UBI!\x01\x02\0\0\
     \0\0\0\0\0\0\0\0\0\0\0\0\0\0\0\x01\0\0\0\x01\0\0\0\0\0\0\0\0\0\0\0\0\
     \0\0\0\0\0\0\0\0\0\0\0\0\0\0\0\0\0\0\0\0\xa3\xb7\xf9\x8b";
 
@@ -56,13 +56,6 @@ pub const ALIGNED_ROOT: Record = Record {
     start: *b"\0\0\0\x14\0\0\x01\0\0\0\0\x80\x01\0\0\x04root",
     flags: 0,
     check: [0x30, 0xED, 0x19, 0xE0],
-};
-
-/// No record.
-const NONE: Record = Record {
-    start: [0; 20],
-    flags: 0,
-    check: [0xF1, 0x16, 0xC3, 0x6B],
 };
 
 /// The normal image of no volume.

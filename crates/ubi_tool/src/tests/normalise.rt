@@ -1,173 +1,336 @@
-//! The command `normalise`: which bytes images are normalised to.
+//! The command `normalise`: which bytes images are normalised to, and how much is read for it.
 
-use super::answers::{assert_normal, assert_over, small};
+use super::answers::{assert_over, small};
+use super::cases::{Answer, Case, WORDS, assert_cases, assert_gives};
 use super::fake::Broken;
-use super::images::{
-    damaged_boot, ec_of, motley_image, overwrite, plain, put_block, reversed_image, rivals_image,
-    root_image, table_image, updating_image, whole_boot,
-};
-use super::normal::{
-    ALIGNED_ROOT, normal_aligned, normal_boot, normal_damaged, normal_first, normal_nothing,
-    normal_root, normal_updating,
+use super::pebs::{
+    A, ALIGNED_A, ALIGNED_FIRST, ALIGNED_SECOND, ALIGNED_ZEROED, B, BEYOND, BOOT_FIRST,
+    BOOT_SECOND, C, DROPPED, EMPTY_D, ERASED, FIFTH_OF_5, FIRST, FIRST_ALIGNED, FIRST_BOOT,
+    FIRST_OF_5, FIRST_UPDATING, FOURTH_OF_7, FREE, GARBAGE, NEWER_0, NEWER_1, NORMAL_34, NORMAL_35,
+    NORMAL_37, NORMAL_A, NORMAL_ALIGNED, NORMAL_B, NORMAL_C, NORMAL_DAMAGED, NORMAL_FIRST,
+    NORMAL_SECOND, NORMAL_TEXT_0, NORMAL_TEXT_1, OLD, OLDER, RIGHT, ROOT_FIRST, ROOT_SECOND,
+    SECOND, SECOND_ALIGNED, SECOND_BOOT, SECOND_OF_6, SECOND_UPDATING, TEXT_0, TEXT_1, THIRD_OF_5,
+    TORN, UNLIKE, UNREAD, UPDATING_FIRST, UPDATING_SECOND, WORN_A, WORN_B, WORN_C, WORN_FIRST,
+    WORN_SECOND, WRONG_4, WRONG_6, WRONG_9,
 };
 use std::alloc::Global;
-use std::process::Abort;
 use std::test::Fail;
-use ubi_media::VidHeader;
+use ubi_compose::normalise_to;
+use ubi_media::Refusal;
+use ubi_scan::{ProbeSource, StreamError};
+use ubi_volume::{Failure, ProbeWriter};
 
-/// The words that normalise the image.
-const WORDS: &str = "normalise a.img --out b.img";
+/// An image of the volume `root`, with logical eraseblocks 0, 1 and 2.
+const ROOT: Case = Case {
+    what: "the volume as it is written at first",
+    pebs: &[FIRST, SECOND, A, B, C],
+    over: &[],
+    answer: Answer::Normal(
+        "blocks 5\n",
+        &[ROOT_FIRST, ROOT_SECOND, NORMAL_A, NORMAL_B, NORMAL_C],
+    ),
+    checked: &[(0, 1), (1, 0), (2, 0), (3, 0), (4, 0)],
+};
 
-/// Asserts which bytes an image is normalised to, and with which line: in memory, as a file that is read at places, and
-/// as one that is read whole, since it has none.
-fn assert_gives(
-    rt: &impl Abort,
-    alloc: Global,
-    image: &[u8],
-    want: &[u8],
-    line: &str,
-) -> Result<(), Fail> {
-    assert_normal(rt, alloc, image, (line, 0), want)?;
-    assert_over(rt, alloc, (image, Broken::Whole), WORDS, (line, 0), want)?;
-    assert_over(rt, alloc, (image, Broken::Places), WORDS, (line, 0), want)
-}
+/// One without volumes.
+const NOTHING: Case = Case {
+    what: "blank eraseblocks",
+    pebs: &[ERASED, ERASED, ERASED],
+    answer: Answer::Normal("blocks 2\n", &[NORMAL_FIRST, NORMAL_SECOND]),
+    checked: &[],
+    ..ROOT
+};
 
-/// Asserts the same, and that these bytes are normalised to themselves.
-fn assert_normalises(
-    rt: &impl Abort,
-    alloc: Global,
-    image: &[u8],
-    want: &[u8],
-    line: &str,
-) -> Result<(), Fail> {
-    assert_gives(rt, alloc, image, want, line)?;
-    assert_gives(rt, alloc, want, want, line)
-}
+/// Images of the volume `root` alone, which some eraseblock wins.
+const WON_BY_37: Case = Case {
+    answer: Answer::Normal("blocks 3\n", &[ROOT_FIRST, ROOT_SECOND, NORMAL_37]),
+    ..ROOT
+};
+
+const WON_BY_35: Case = Case {
+    answer: Answer::Normal("blocks 3\n", &[ROOT_FIRST, ROOT_SECOND, NORMAL_35]),
+    checked: &[],
+    ..ROOT
+};
+
+const WON_BY_34: Case = Case {
+    answer: Answer::Normal("blocks 3\n", &[ROOT_FIRST, ROOT_SECOND, NORMAL_34]),
+    ..ROOT
+};
+
+/// One of the volume `boot`, which reads 384 bytes 0x41 and a byte 0xFF.
+const BOOT: Case = Case {
+    what: "a static volume",
+    pebs: &[FIRST_BOOT, SECOND_BOOT, TEXT_0, TEXT_1],
+    over: &[],
+    answer: Answer::Normal(
+        "blocks 4\n",
+        &[BOOT_FIRST, BOOT_SECOND, NORMAL_TEXT_0, NORMAL_TEXT_1],
+    ),
+    checked: &[],
+};
+
+/// One of it where it is damaged.
+const DAMAGED: Case = Case {
+    what: "a static volume without its end",
+    pebs: &[FIRST_BOOT, SECOND_BOOT, TEXT_0],
+    answer: Answer::Normal("blocks 3\n", &[BOOT_FIRST, BOOT_SECOND, NORMAL_DAMAGED]),
+    ..BOOT
+};
+
+/// One of the volume `root` with alignment 256.
+const ALIGNED: Case = Case {
+    what: "an alignment that leaves bytes 0xFF",
+    pebs: &[FIRST_ALIGNED, SECOND_ALIGNED, ALIGNED_A],
+    answer: Answer::Normal(
+        "blocks 3\n",
+        &[ALIGNED_FIRST, ALIGNED_SECOND, NORMAL_ALIGNED],
+    ),
+    ..BOOT
+};
+
+/// One without volumes whose copy 0 of the table has another byte.
+const OTHER_BYTE: Case = Case {
+    what: "another byte in an erase-counter header of the table",
+    pebs: &[NORMAL_FIRST, NORMAL_SECOND],
+    over: &[(24, &[0x55])],
+    ..NOTHING
+};
+
+/// One of the volume `boot` without eraseblocks.
+const ONLY_TABLE: Case = Case {
+    answer: Answer::Normal("blocks 2\n", &[BOOT_FIRST, BOOT_SECOND]),
+    ..BOOT
+};
+
+/// One of the volume `boot` while it is updated. Its eraseblocks don't agree on how many they are.
+const UPDATE: Case = Case {
+    what: "a static volume that is updated",
+    pebs: &[
+        FIRST_UPDATING,
+        SECOND_UPDATING,
+        FIRST_OF_5,
+        SECOND_OF_6,
+        THIRD_OF_5,
+        FOURTH_OF_7,
+        FIFTH_OF_5,
+    ],
+    answer: Answer::Normal("blocks 2\n", &[UPDATING_FIRST, UPDATING_SECOND]),
+    ..BOOT
+};
+
+/// One of the volume `root` whose logical eraseblock 1 has no erase-counter header.
+const WITHOUT_B: Case = Case {
+    what: "an erase-counter header that is blank",
+    over: &[(1536, &[0xFF; 64])],
+    answer: Answer::Normal("blocks 4\n", &[ROOT_FIRST, ROOT_SECOND, NORMAL_A, NORMAL_C]),
+    ..ROOT
+};
+
+/// Images without volumes, and tables of which one copy is broken.
+const TABLES: [Case; 10] = [
+    NOTHING,
+    Case {
+        what: "a blank device",
+        pebs: &[ERASED; 32],
+        ..NOTHING
+    },
+    Case {
+        what: "a bit of a name in copy 0",
+        over: &[(144, b"s")],
+        checked: &[(0, 1), (1, 1), (2, 0), (3, 0), (4, 0)],
+        ..ROOT
+    },
+    Case {
+        what: "copy 0 of the table alone",
+        pebs: &[NORMAL_FIRST],
+        ..NOTHING
+    },
+    OTHER_BYTE,
+    Case {
+        what: "one in its volume-identifier header",
+        over: &[(100, &[0x55])],
+        ..OTHER_BYTE
+    },
+    Case {
+        what: "one in a record",
+        over: &[(300, &[0x55])],
+        ..OTHER_BYTE
+    },
+    Case {
+        what: "one in a record's check",
+        over: &[(471, &[0x55])],
+        ..OTHER_BYTE
+    },
+    Case {
+        what: "one behind the records",
+        over: &[(472, &[0x55])],
+        ..OTHER_BYTE
+    },
+    Case {
+        what: "the last one",
+        over: &[(511, &[0x55])],
+        ..OTHER_BYTE
+    },
+];
 
 #[test]
-fn normalises_blank_eraseblocks(rt: HostRuntime) -> Result<(), Fail> {
-    let alloc = rt.alloc();
-    let want = normal_nothing(alloc)?;
-    assert_normalises(&rt, alloc, &[0xFF; 1536], want.as_slice(), "blocks 2\n")?;
-    let device = vec![in alloc; 0xFFu8; 32 * 512]?;
-    assert_gives(&rt, alloc, device.as_slice(), want.as_slice(), "blocks 2\n")
+fn takes_the_copy_of_the_table_that_decides(rt: HostRuntime) -> Result<(), Fail> {
+    assert_cases(&rt, rt.alloc(), "tables.img", &TABLES)
 }
 
-#[test]
-fn normalises_a_volume_in_either_order(rt: HostRuntime) -> Result<(), Fail> {
-    let alloc = rt.alloc();
-    let geometry = small()?;
-    let want = normal_root(alloc)?;
-    let image = root_image(alloc, &geometry)?;
-    assert_normalises(&rt, alloc, image.as_slice(), want.as_slice(), "blocks 5\n")?;
-    let image = reversed_image(alloc, &geometry)?;
-    assert_gives(&rt, alloc, image.as_slice(), want.as_slice(), "blocks 5\n")
-}
+/// Members of one logical eraseblock.
+const MEMBERS: [Case; 10] = [
+    Case {
+        what: "an old member, a right copy, a wrong copy",
+        pebs: &[FIRST, SECOND, OLD, RIGHT, WRONG_9],
+        checked: &[(0, 1), (1, 0), (2, 0), (3, 1), (4, 1)],
+        ..WON_BY_37
+    },
+    Case {
+        what: "an old member, a wrong copy, a right copy",
+        pebs: &[FIRST, SECOND, OLD, WRONG_9, RIGHT],
+        checked: &[(0, 1), (1, 0), (2, 0), (3, 1), (4, 1)],
+        ..WON_BY_37
+    },
+    Case {
+        what: "a right copy, an old member, a wrong copy",
+        pebs: &[FIRST, SECOND, RIGHT, OLD, WRONG_9],
+        checked: &[(0, 1), (1, 0), (2, 1), (3, 0), (4, 1)],
+        ..WON_BY_37
+    },
+    Case {
+        what: "a right copy, a wrong copy, an old member",
+        pebs: &[FIRST, SECOND, RIGHT, WRONG_9, OLD],
+        checked: &[(0, 1), (1, 0), (2, 1), (3, 1), (4, 0)],
+        ..WON_BY_37
+    },
+    Case {
+        what: "a wrong copy, an old member, a right copy",
+        pebs: &[FIRST, SECOND, WRONG_9, OLD, RIGHT],
+        checked: &[(0, 1), (1, 0), (2, 1), (3, 0), (4, 1)],
+        ..WON_BY_37
+    },
+    Case {
+        what: "a wrong copy, a right copy, an old member",
+        pebs: &[FIRST, SECOND, WRONG_9, RIGHT, OLD],
+        checked: &[(0, 1), (1, 0), (2, 1), (3, 1), (4, 0)],
+        ..WON_BY_37
+    },
+    Case {
+        what: "an old member, a right copy, a wrong copy, a member between",
+        pebs: &[FIRST, SECOND, OLD, RIGHT, WRONG_9, OLDER],
+        checked: &[(0, 1), (1, 0), (2, 0), (3, 1), (4, 1), (5, 0)],
+        ..WON_BY_37
+    },
+    Case {
+        what: "two wrong copies",
+        pebs: &[FIRST, SECOND, WRONG_4, WRONG_6],
+        checked: &[(0, 1), (1, 0), (2, 1), (3, 1)],
+        ..WON_BY_34
+    },
+    Case {
+        what: "two wrong copies, the newer one first",
+        pebs: &[FIRST, SECOND, WRONG_6, WRONG_4],
+        checked: &[(0, 1), (1, 0), (2, 1), (3, 1)],
+        ..WON_BY_34
+    },
+    Case {
+        what: "a wrong copy alone",
+        pebs: &[FIRST, SECOND, WRONG_4],
+        checked: &[(0, 1), (1, 0), (2, 0)],
+        ..WON_BY_34
+    },
+];
 
 #[test]
 fn normalises_what_wins(rt: HostRuntime) -> Result<(), Fail> {
-    let alloc = rt.alloc();
-    let geometry = small()?;
-    let image = rivals_image(alloc, &geometry)?;
-    let want = normal_first(alloc, &[0x37; 64])?;
-    assert_normalises(&rt, alloc, image.as_slice(), want.as_slice(), "blocks 3\n")?;
-    let image = motley_image(alloc, &geometry)?;
-    let want = normal_first(alloc, &[0x35; 384])?;
-    assert_normalises(&rt, alloc, image.as_slice(), want.as_slice(), "blocks 3\n")
+    assert_cases(&rt, rt.alloc(), "members.img", &MEMBERS)
 }
+
+/// Volumes of every sort.
+const VOLUMES: [Case; 13] = [
+    ROOT,
+    Case {
+        what: "its eraseblocks reversed, with other counters and a blank logical eraseblock",
+        pebs: &[WORN_C, WORN_B, WORN_A, WORN_SECOND, WORN_FIRST, EMPTY_D],
+        checked: &[],
+        ..ROOT
+    },
+    BOOT,
+    Case {
+        what: "two copies of each logical eraseblock of a static volume",
+        pebs: &[FIRST_BOOT, SECOND_BOOT, NEWER_0, TEXT_0, TEXT_1, NEWER_1],
+        ..BOOT
+    },
+    DAMAGED,
+    Case {
+        what: "a static volume without its eraseblocks",
+        pebs: &[FIRST_BOOT, SECOND_BOOT],
+        ..ONLY_TABLE
+    },
+    ALIGNED,
+    Case {
+        what: "an alignment that leaves zeros",
+        pebs: &[FIRST_ALIGNED, SECOND_ALIGNED, ALIGNED_ZEROED],
+        ..ALIGNED
+    },
+    UPDATE,
+    Case {
+        what: "an erase-counter header of other magic",
+        over: &[(1536, b"V")],
+        ..ROOT
+    },
+    WITHOUT_B,
+    Case {
+        what: "an eraseblock that is dropped",
+        pebs: &[FIRST, SECOND, A, B, C, DROPPED],
+        checked: &[],
+        ..ROOT
+    },
+    Case {
+        what: "an eraseblock of each state",
+        pebs: &[
+            FIRST, SECOND, OLD, WRONG_9, BEYOND, UNLIKE, UNREAD, DROPPED, FREE, GARBAGE, TORN,
+        ],
+        ..WON_BY_35
+    },
+];
 
 #[test]
-fn leaves_out_what_is_dropped(rt: HostRuntime) -> Result<(), Fail> {
-    let alloc = rt.alloc();
-    let geometry = small()?;
-    let dropped = VidHeader {
-        compat: 1,
-        ..plain(0x7FFF_F000, 0, 0)
-    };
-    let mut image = root_image(alloc, &geometry)?;
-    put_block(&mut image, &ec_of(&geometry, 0), &dropped, &[])?;
-    let want = normal_root(alloc)?;
-    assert_gives(&rt, alloc, image.as_slice(), want.as_slice(), "blocks 5\n")
+fn normalises_volumes(rt: HostRuntime) -> Result<(), Fail> {
+    assert_cases(&rt, rt.alloc(), "volumes.img", &VOLUMES)
 }
 
-#[test]
-fn normalises_static_volumes(rt: HostRuntime) -> Result<(), Fail> {
-    let alloc = rt.alloc();
-    let geometry = small()?;
-    let image = whole_boot(alloc, &geometry)?;
-    let want = normal_boot(alloc)?;
-    assert_normalises(&rt, alloc, image.as_slice(), want.as_slice(), "blocks 4\n")?;
-    let image = damaged_boot(alloc, &geometry)?;
-    let want = normal_damaged(alloc)?;
-    assert_eq!(rt; want.len(), 1536);
-    assert_normalises(&rt, alloc, image.as_slice(), want.as_slice(), "blocks 3\n")?;
-    let image = updating_image(alloc, &geometry)?;
-    let want = normal_updating(alloc)?;
-    assert_eq!(rt; want.len(), 1024);
-    assert_normalises(&rt, alloc, image.as_slice(), want.as_slice(), "blocks 2\n")
-}
+/// How many bytes there are, and the line and the cause for which they are no image.
+const SIZES: [(usize, &str, Refusal); 4] = [
+    (511, "refused S1 Length\n", Refusal::Length),
+    (513, "refused S1 Length\n", Refusal::Length),
+    (32 * 512 + 1, "refused S2 TooMany\n", Refusal::TooMany),
+    (33 * 512, "refused S2 TooMany\n", Refusal::TooMany),
+];
 
-/// Asserts what a volume of alignment 256 is normalised to whose logical eraseblock 0 holds 256 bytes 0x41, and others
-/// behind them.
-fn assert_aligned(rt: &impl Abort, alloc: Global, behind: u8) -> Result<(), Fail> {
-    let ec = ec_of(&small()?, 0);
-    let vid = VidHeader {
-        data_pad: 128,
-        ..plain(0, 0, 0)
-    };
-    let mut image = table_image(alloc, &ec, &ALIGNED_ROOT)?;
-    put_block(&mut image, &ec, &vid, &[behind; 384])?;
-    overwrite(image.as_mut_slice(), 2 * 512 + 128, &[0x41; 256]);
-    let want = normal_aligned(alloc)?;
-    assert_normalises(rt, alloc, image.as_slice(), want.as_slice(), "blocks 3\n")
-}
-
-#[test]
-fn leaves_out_what_an_alignment_leaves(rt: HostRuntime) -> Result<(), Fail> {
-    assert_aligned(&rt, rt.alloc(), 0)?;
-    assert_aligned(&rt, rt.alloc(), 0xFF)
-}
-
-/// Asserts that an image without volumes is read by copy 1 where one byte of copy 0 is another.
-fn assert_other_copy(rt: &impl Abort, alloc: Global, at: u16) -> Result<(), Fail> {
-    let want = normal_nothing(alloc)?;
-    let mut image = normal_nothing(alloc)?;
-    overwrite(image.as_mut_slice(), usize::from(at), &[0x55]);
-    assert_gives(rt, alloc, image.as_slice(), want.as_slice(), "blocks 2\n")
-}
-
-#[test]
-fn takes_either_copy_of_the_table(rt: HostRuntime) -> Result<(), Fail> {
-    let alloc = rt.alloc();
-    let want = normal_nothing(alloc)?;
-    let first = want.as_slice().get(..512).ok_or("short")?;
-    assert_gives(&rt, alloc, first, want.as_slice(), "blocks 2\n")?;
-    // A byte of each of its two headers, of a record, and behind the records.
-    assert_other_copy(&rt, alloc, 24)?;
-    assert_other_copy(&rt, alloc, 100)?;
-    assert_other_copy(&rt, alloc, 300)?;
-    assert_other_copy(&rt, alloc, 471)?;
-    assert_other_copy(&rt, alloc, 472)?;
-    assert_other_copy(&rt, alloc, 511)
-}
-
-/// Asserts the line of bytes that are no image: in memory, as a file that is read at places, and as one that is read
-/// whole. Nothing is written.
-fn assert_no_image(rt: &impl Abort, alloc: Global, image: &[u8], line: &str) -> Result<(), Fail> {
-    assert_normal(rt, alloc, image, (line, 1), &[])?;
-    assert_over(rt, alloc, (image, Broken::Whole), WORDS, (line, 1), &[])?;
-    assert_over(rt, alloc, (image, Broken::Places), WORDS, (line, 1), &[])
+/// Whether so many bytes are refused for a cause, and none of them is read. The first read would fail.
+fn is_unread(alloc: Global, bytes: &[u8], cause: Refusal) -> Result<bool, Fail> {
+    let mut source = ProbeSource::new(alloc, &small()?, bytes, 1)?;
+    let mut writer = ProbeWriter::new(alloc, 4096, 4096, Failure::Nothing)?;
+    let answer = normalise_to(alloc, &small()?, &mut source, &mut writer);
+    let is_refused = answer == Err(StreamError::Refused(cause)) && writer.taken().is_empty();
+    Ok(is_refused && source.reads(0) == 0)
 }
 
 #[test]
 fn refuses_what_is_no_image(rt: HostRuntime) -> Result<(), Fail> {
     let alloc = rt.alloc();
-    let bytes: &[u8] = &[0xFF; 16_896];
-    let (length, many) = ("refused S1 Length\n", "refused S2 TooMany\n");
+    let bytes = [0xFF; 33 * 512];
+    let length = ("refused S1 Length\n", 1);
     // A file of no size is read whole.
-    assert_over(&rt, alloc, (&[], Broken::Places), WORDS, (length, 1), &[])?;
-    assert_no_image(&rt, alloc, &bytes[..511], length)?;
-    assert_no_image(&rt, alloc, &bytes[..513], length)?;
-    assert_no_image(&rt, alloc, bytes, many)?;
-    assert_no_image(&rt, alloc, &bytes[..16_385], many)
+    assert!(rt; is_unread(alloc, &[], Refusal::Length)?);
+    assert_over(&rt, alloc, (&[], Broken::Places), WORDS, length, &[])?;
+    for (len, line, cause) in &SIZES {
+        let bytes = bytes.get(..*len).ok_or("short")?;
+        assert!(rt; is_unread(alloc, bytes, *cause)?, "{len} bytes");
+        assert_gives(&rt, alloc, bytes, (*line, 1), &[])?;
+    }
+    Ok(())
 }

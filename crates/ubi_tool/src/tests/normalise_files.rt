@@ -10,76 +10,119 @@ use std::alloc::Global;
 use std::io::{ErrorKind, Write};
 use std::os::unix::fs::symlink;
 use std::os::unix::io::AsRawFd;
-use std::process::Abort;
 use std::test::Fail;
 use std::{fs, io};
-use ubi_scan::{FileSource, MemorySource, ProbeSource};
+use ubi_compose::normalise_to;
+use ubi_scan::{FileSource, MemorySource, ProbeSource, StreamError};
 use ubi_volume::{Failure, ProbeWriter};
 
-/// Reads of the image of `root` that fail, each with the number of bytes that are written before. The headers of its
-/// five eraseblocks are read first, then the first copy of the table, then the headers again, since all five win, and at
-/// last the data of the three logical eraseblocks, each of which is written before the next is read.
-const FAILING: [(u64, usize); 8] = [
-    (1, 0),
-    (5, 0),
-    (6, 0),
-    (7, 0),
-    (11, 0),
-    (12, 1024),
-    (13, 1536),
-    (14, 2048),
+/// The reads of the image of `root`, counted from 1, each with its eraseblock and the number of bytes that are written
+/// before it.
+const READS: [(u64, u32, usize); 14] = [
+    // The headers.
+    (1, 0, 0),
+    (2, 1, 0),
+    (3, 2, 0),
+    (4, 3, 0),
+    (5, 4, 0),
+    // The first copy of the table.
+    (6, 0, 0),
+    // The headers again, since all five win.
+    (7, 0, 0),
+    (8, 1, 0),
+    (9, 2, 0),
+    (10, 3, 0),
+    (11, 4, 0),
+    // The data of the three logical eraseblocks, each of which is written before the next is read.
+    (12, 2, 1024),
+    (13, 3, 1536),
+    (14, 4, 2048),
 ];
+
+/// Whether a read that fails is told with its eraseblock and the bytes that were written, and these are the first ones.
+fn is_told(alloc: Global, image: &[u8], at: u64, p: u32, count: usize) -> Result<bool, Fail> {
+    let want = root_bytes();
+    let mut source = ProbeSource::new(alloc, &small()?, image, at)?;
+    let mut writer = ProbeWriter::new(alloc, 4096, 4096, Failure::Nothing)?;
+    let answer = normalise_to(alloc, &small()?, &mut source, &mut writer);
+    let is_right = answer == Err(StreamError::Read(p, count as u64));
+    let mut source = ProbeSource::new(alloc, &small()?, image, at)?;
+    let mut other = ProbeWriter::new(alloc, 4096, 4096, Failure::Nothing)?;
+    let answer = run_normalise(alloc, &small()?, &mut source, &mut other).err();
+    Ok(
+        is_right
+            && answer == Some(ToolError::Read)
+            && want.get(..count) == Some(writer.taken())
+            && writer.taken() == other.taken(),
+    )
+}
 
 #[test]
 fn tells_of_a_read_that_fails(rt: HostRuntime) -> Result<(), Fail> {
     let alloc = rt.alloc();
     let image = root_image(alloc, &small()?)?;
-    let want = root_bytes();
-    for (at, count) in FAILING {
-        let mut source = ProbeSource::new(alloc, &small()?, image.as_slice(), at)?;
-        let mut writer = ProbeWriter::new(alloc, 4096, 4096, Failure::Nothing)?;
-        let answer = run_normalise(alloc, &small()?, &mut source, &mut writer).err();
-        assert_eq!(rt; answer, Some(ToolError::Read));
-        assert_eq!(rt; writer.taken().len(), count);
-        assert!(rt; want.starts_with(writer.taken()));
+    let image = image.as_slice();
+    for (at, p, count) in READS {
+        assert!(rt; is_told(alloc, image, at, p, count)?, "read {at}");
     }
-    let mut source = ProbeSource::new(alloc, &small()?, image.as_slice(), 15)?;
+    let mut source = ProbeSource::new(alloc, &small()?, image, 15)?;
     let mut writer = ProbeWriter::new(alloc, 4096, 4096, Failure::Nothing)?;
     let outcome = run_normalise(alloc, &small()?, &mut source, &mut writer)?;
     assert_eq!(rt; outcome.text.as_slice(), b"blocks 5\n".as_slice());
-    assert_eq!(rt; writer.taken(), want.as_slice());
+    assert_eq!(rt; writer.taken(), root_bytes().as_slice());
     Ok(())
 }
 
-/// Asserts that a write is told of that fails after so many bytes, in a way.
-fn assert_cut(
-    rt: &impl Abort,
+/// Whether a writer that fails once it has so many bytes is told with their number, and has the first ones.
+fn is_cut(
     alloc: Global,
-    image: &[u8],
+    (image, want): (&[u8], &[u8]),
     room: usize,
     failure: Failure,
-) -> Result<(), Fail> {
-    let want = root_bytes();
+) -> Result<bool, Fail> {
     let mut source = MemorySource::new(image);
     let mut writer = ProbeWriter::new(alloc, room, 100, failure)?;
-    let answer = run_normalise(alloc, &small()?, &mut source, &mut writer).err();
-    assert_eq!(rt; answer, Some(ToolError::Write));
-    assert_eq!(rt; writer.taken().len(), room);
-    assert!(rt; want.starts_with(writer.taken()));
-    Ok(())
+    let answer = normalise_to(alloc, &small()?, &mut source, &mut writer);
+    let mut other = ProbeWriter::new(alloc, room, 100, failure)?;
+    let run = run_normalise(alloc, &small()?, &mut source, &mut other).err();
+    Ok(
+        answer == Err(StreamError::Write(room as u64))
+            && run == Some(ToolError::Write)
+            && want.get(..room) == Some(writer.taken())
+            && writer.taken() == other.taken(),
+    )
 }
+
+/// How many bytes of the normal image of `root` a writer takes, and how it fails then.
+const CUTS: [(usize, Failure); 5] = [
+    (0, Failure::Nothing),
+    (1, Failure::Error(ErrorKind::Interrupted)),
+    (512, Failure::Nothing),
+    (1600, Failure::Error(ErrorKind::Interrupted)),
+    (2559, Failure::Error(ErrorKind::Other)),
+];
 
 #[test]
 fn tells_of_a_write_that_fails(rt: HostRuntime) -> Result<(), Fail> {
     let alloc = rt.alloc();
     let image = root_image(alloc, &small()?)?;
-    let bytes = image.as_slice();
-    let interrupted = Failure::Error(ErrorKind::Interrupted);
-    assert_cut(&rt, alloc, bytes, 0, Failure::Nothing)?;
-    assert_cut(&rt, alloc, bytes, 1, interrupted)?;
-    assert_cut(&rt, alloc, bytes, 512, Failure::Nothing)?;
-    assert_cut(&rt, alloc, bytes, 1600, interrupted)?;
-    assert_cut(&rt, alloc, bytes, 2559, Failure::Error(ErrorKind::Other))
+    let want = root_bytes();
+    for (room, failure) in CUTS {
+        let is_cut = is_cut(alloc, (image.as_slice(), &want), room, failure)?;
+        assert!(rt; is_cut, "after {room} bytes");
+    }
+    let blank = [0xFF; 1536];
+    let want = normal_nothing(alloc)?;
+    let want = want.as_slice();
+    for room in 0..1024 {
+        let is_cut = is_cut(alloc, (&blank, want), room, Failure::Nothing)?;
+        assert!(rt; is_cut, "after {room} bytes of blank eraseblocks");
+    }
+    let mut source = MemorySource::new(&blank);
+    let mut writer = ProbeWriter::new(alloc, 1024, 1, Failure::Nothing)?;
+    let answer = normalise_to(alloc, &small()?, &mut source, &mut writer);
+    assert!(rt; answer == Ok(1024) && writer.taken() == want);
+    Ok(())
 }
 
 #[test]

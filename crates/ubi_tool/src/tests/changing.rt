@@ -1,0 +1,121 @@
+//! Sources that change while they are read.
+
+use super::answers::small;
+use super::pebs::{
+    A, B, C, ERASED, FIRST, FIRST_BOOT, FIRST_OF_5, FIRST_UPDATING, NEWER_0, NEWER_1, OLD, Peb,
+    RIGHT, SECOND, SECOND_BOOT, SECOND_OF_6, SECOND_UPDATING, TEXT_0, TEXT_1, TORN, WRONG_6,
+    WRONG_9, bytes_of,
+};
+use std::alloc::Global;
+use std::test::Fail;
+use ubi_compose::normalise_to;
+use ubi_scan::{BlockSource, SourceFault, StreamError};
+use ubi_volume::{Failure, Places, ProbeWriter, attach_places};
+
+/// A source that answers the bytes of one image for so many reads, and then those of another.
+#[derive(Drop)]
+struct Changing<'a> {
+    first: &'a [u8],
+    then: &'a [u8],
+    left: u64,
+}
+
+impl BlockSource for Changing<'_> {
+    ghost use Rattle.std.specs.Prelude.{length};
+    ghost use Rattle.ubi_scan.specs.Source.{unheld, unheld_sized};
+
+    ghost known = { λ s. unheld (length s.first.now) 0 };
+
+    fn len(&self) -> u64 {
+        self.first.len() as u64
+    }
+
+    fn read(&mut self, at: u64, out: &mut [u8]) -> Result<(), SourceFault> {
+        let bytes = if self.left > 0 { self.first } else { self.then };
+        self.left = self.left.saturating_sub(1);
+        for (index, byte) in out.iter_mut().enumerate() {
+            *byte = bytes.get(at as usize + index).copied().unwrap_or(0xFF);
+        }
+        Ok(())
+    }
+
+    ghost sized = { λ s. unheld_sized (length s.first.now) 0 };
+}
+
+/// Whether each logical eraseblock of the first two volumes lies in one of so many eraseblocks.
+fn lie_within(places: &Places, count: usize) -> bool {
+    let mut lie = true;
+    for from in 0..32 {
+        for id in 0..2 {
+            let next = places.next_place(id, from);
+            let is_within = match next {
+                Some((_, p)) => (p as usize) < count,
+                None => true
+            };
+            lie = lie && is_within;
+        }
+    }
+    lie
+}
+
+/// Whether a source that changes after so many reads has its places within it, and what is written of it is told, and
+/// is whole eraseblocks, or nothing.
+fn is_sound(alloc: Global, first: &[u8], then: &[u8], left: u64) -> Result<bool, Fail> {
+    let geometry = small()?;
+    let mut source = Changing { first, then, left };
+    let lie = match attach_places(alloc, &geometry, &mut source) {
+        Ok(places) => lie_within(&places, first.len() / 512),
+        Err(StreamError::Refused(_)) => true,
+        Err(_) => false,
+    };
+    let mut source = Changing { first, then, left };
+    let mut writer = ProbeWriter::new(alloc, 32 * 512, 4096, Failure::Nothing)?;
+    let is_told = match normalise_to(alloc, &geometry, &mut source, &mut writer) {
+        Ok(count) => writer.taken().len() as u64 == count && count >= 1024 && count % 512 == 0,
+        Err(StreamError::Refused(_)) => writer.taken().is_empty(),
+        Err(_) => false,
+    };
+    Ok(lie && is_told)
+}
+
+/// Images, and what they change to while they are read.
+const CHANGES: [(&[Peb], &[Peb]); 8] = [
+    (&[FIRST, SECOND, A, B, C], &[C, B, A, SECOND, FIRST]),
+    (&[FIRST, SECOND, A, B, C], &[ERASED]),
+    (&[FIRST, SECOND, A, B, C], &[TORN, TORN, TORN, TORN, TORN]),
+    (
+        &[FIRST, SECOND, OLD, RIGHT, WRONG_9],
+        &[FIRST, SECOND, WRONG_9, WRONG_6, OLD],
+    ),
+    (
+        &[FIRST_BOOT, SECOND_BOOT, TEXT_0, TEXT_1],
+        &[FIRST_BOOT, SECOND_BOOT, TEXT_1, TEXT_0],
+    ),
+    (
+        &[FIRST_BOOT, SECOND_BOOT, NEWER_0, TEXT_0, TEXT_1, NEWER_1],
+        &[FIRST_BOOT, SECOND_BOOT, FIRST_OF_5, SECOND_OF_6, A, B],
+    ),
+    (
+        &[FIRST_BOOT, SECOND_BOOT, TEXT_0, TEXT_1],
+        &[FIRST, SECOND, A, B],
+    ),
+    (
+        &[FIRST_UPDATING, SECOND_UPDATING, FIRST_OF_5, SECOND_OF_6],
+        &[FIRST_BOOT, SECOND_BOOT, TEXT_0, TEXT_1],
+    ),
+];
+
+/// No eraseblock is read more than 8 times, so that the last numbers of reads are those of sources that don't change.
+#[test]
+fn normalises_a_source_that_changes(rt: HostRuntime) -> Result<(), Fail> {
+    let alloc = rt.alloc();
+    for (index, (first, then)) in CHANGES.iter().enumerate() {
+        let first = bytes_of(alloc, &small()?, first)?;
+        let then = bytes_of(alloc, &small()?, then)?;
+        for left in 0..50 {
+            let is_sound = is_sound(alloc, first.as_slice(), then.as_slice(), left)?;
+            assert!(rt; is_sound, "case {index}, after {left} reads");
+        }
+    }
+    Ok(())
+}
