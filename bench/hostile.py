@@ -11,6 +11,8 @@ The image is crates/ubi_tool/data/root.img: the two copies of a table with one d
   lengths   each length from 0 on: refused S1 Length where it isn't whole eraseblocks, else the LEBs that are left
   faults    each rule of each header and record broken, with a right check, wherever it can be
   pairs     each two of these: the cause of the lower eraseblock comes first, and those of the table last
+  devices   character devices without an end, for each file that a command reads: cannot read; and the image by way of
+            a pipe, of standard input from a file, and of a terminal: as from its file
 
 What is expected is said here, family by family. The images lie in a new folder below FOLDER (/tmp where it is left out),
 which is removed again. The program is built first where it isn't yet. The last line is 'N passed, M failed', and the exit
@@ -19,6 +21,7 @@ status is 0 where none failed.
 import argparse
 import itertools
 import os
+import pty
 import subprocess
 import tempfile
 
@@ -164,7 +167,50 @@ def pairs():
             yield with_fault(with_fault(BASE, rank, places), other, others), min((rank, line), (other, other_line))[1]
 
 
-FAMILIES = {"counters": counters, "headers": headers, "records": records, "lengths": lengths, "faults": faults, "pairs": pairs}
+ENDLESS = ("/dev/zero", "/dev/full", "/dev/random")
+
+
+def devices():
+    """Words, what they read from standard input, and what they print. OUT stands for a file that mustn't be there then."""
+    for path in ENDLESS:
+        line = f"cannot read {path}\n"
+        for words in (
+            ("list", path),
+            ("check", path),
+            ("show", path, "--block", "0"),
+            ("extract", path, "--id", "0", "--out", "OUT"),
+            ("normalise", path, "--out", "OUT"),
+            ("normalise", path, "--out", path),
+            ("same", path, path),
+            ("change", path, "--id", "0", "--lnum", "0", "--from", path, "--out", "OUT"),
+            ("compose", path, "--out", "OUT"),
+        ):
+            yield words, b"", line
+        yield ("check", "/dev/stdin"), path, "cannot read /dev/stdin\n"
+    checked = "".join(rules.check_lines(MEANT))
+    yield ("check", "/dev/stdin"), BASE, checked
+    yield ("check", "/dev/stdin"), os.path.join(ROOT, "crates", "ubi_tool", "data", "root.img"), checked
+    blank = b"\xFF" * PEB
+    yield ("check", "/dev/stdin"), Typed(blank), "".join(rules.check_lines(rules.Image(GEOMETRY, blank)))
+
+
+class Typed:
+    """Bytes that are typed at a terminal, and then twice the key that ends what is read."""
+
+    def __init__(self, keys):
+        self.keyboard, self.terminal = pty.openpty()
+        os.write(self.keyboard, keys + b"\x04\x04")
+
+
+FAMILIES = {
+    "counters": counters,
+    "headers": headers,
+    "records": records,
+    "lengths": lengths,
+    "faults": faults,
+    "pairs": pairs,
+    "devices": devices,
+}
 
 
 class Looker:
@@ -194,6 +240,19 @@ class Looker:
         with open(self.out, "rb") as file:
             return extracted == (f"bytes {len(expected)}\n", 0) and file.read() == expected
 
+    def is_printed(self, words, given, expected):
+        """Whether words print a text, and write no file, over standard input: bytes in a pipe, a path or a terminal."""
+        out = self.out + ".none"
+        words = [self.tool, *(out if word == "OUT" else word for word in words), *GEOMETRY.words()]
+        status = 1 if expected.startswith("cannot read ") else 0
+        if isinstance(given, bytes):
+            ran = subprocess.run(words, input=given, capture_output=True, timeout=60)
+        else:
+            end = given.terminal if isinstance(given, Typed) else os.open(given, os.O_RDONLY)
+            ran = subprocess.run(words, stdin=end, capture_output=True, timeout=60)
+            os.close(end)
+        return (ran.stdout.decode(), ran.returncode) == (expected, status) and not os.path.exists(out)
+
 
 def main():
     words = argparse.ArgumentParser(description=__doc__, formatter_class=argparse.RawDescriptionHelpFormatter)
@@ -204,9 +263,10 @@ def main():
     with tempfile.TemporaryDirectory(dir=words.dir) as folder:
         looker = Looker(built(), folder)
         for name in words.families or FAMILIES:
-            verdicts = [looker.is_right(*case) for case in FAMILIES[name]()]
+            judge = looker.is_printed if name == "devices" else looker.is_right
+            verdicts = [judge(*case) for case in FAMILIES[name]()]
             wrong = [k for k, right in enumerate(verdicts) if not right]
-            print(f"{name}: {len(verdicts)} images", *(["wrong:", *wrong[:10]] if wrong else []))
+            print(f"{name}: {len(verdicts)} {'runs' if name == 'devices' else 'images'}", *(["wrong:", *wrong[:10]] if wrong else []))
             passed, failed = passed + len(verdicts) - len(wrong), failed + len(wrong)
     finish(passed, failed)
 

@@ -11,9 +11,8 @@ ghost use Rattle.ubi_tool.specs.declared.image_file.Unread.TheVariants.{Memory, 
 use crate::lines::{file_line, geometry_line};
 use crate::numbers::{Numbers, geometry_of};
 use crate::outcome::{FAILED, Outcome, ToolError, WRONG_WORDS};
-use crate::read::read_limited;
+use crate::read::{open_whole, read_limited};
 use std::alloc::{AllocError, Global};
-use std::fs;
 use std::fs::Files;
 use std::io::Read;
 use ubi_media::{Geometry, GeometryError};
@@ -85,10 +84,8 @@ fn read_image<R: Files>(
 ) -> Result<Vec<u8>, ToolError>
     ensures { IfOk result (λ v. vec_len v ≤ geometry.now.pebs * geometry.now.peb_size + 1) }
 {
-    match fs::open(rt, path) {
-        Ok(mut file) => read_judged(alloc, &mut file, geometry),
-        Err(_) => Err(ToolError::Read),
-    }
+    let mut file = open_whole(rt, path)?;
+    read_judged(alloc, &mut file, geometry)
 }
 
 /// The line of a geometry that breaks a limit.

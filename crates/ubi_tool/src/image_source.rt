@@ -4,30 +4,32 @@ use std::fs;
 use std::fs::{Files, Metadata};
 use std::io::ErrorKind;
 use std::os::unix::fs::{FileExt, FileTypeExt, MetadataExt};
-use ubi_scan::FileSource;
+use ubi_scan::{BlockSource, FileSource};
 
-/// Whether two paths lead to one file, by what the system tells of them: its device and its number there, or which
-/// device it is itself.
-fn is_same(one: &Metadata, other: &Metadata) -> bool {
-    let is_one_file = one.dev() == other.dev() && one.ino() == other.ino();
-    let is_one_device = one.rdev() == other.rdev() && one.file_type().is_block_device();
-    is_one_file || is_one_device
+/// Whether an image and an output may be one file, by what the system tells of them: its device and its number there, or
+/// which device it is itself. A flash memory has several devices, so that any other device may be the same.
+fn may_be_same(image: &Metadata, output: &Metadata) -> bool {
+    let (kind, other) = (image.file_type(), output.file_type());
+    let is_one_file = image.dev() == output.dev() && image.ino() == output.ino();
+    let is_one_device = image.rdev() == output.rdev() && kind.is_block_device();
+    let is_other = other.is_char_device() || other.is_block_device();
+    is_one_file || is_one_device || (kind.is_char_device() && is_other)
 }
 
 /// Whether an image that is read at places stays as it is while the file at a path is written. It is denied where it
 /// can't be told.
 fn stays<R: Files>(rt: &R, image: &Metadata, out: &str) -> bool {
     match fs::metadata(rt, out) {
-        Ok(output) => !is_same(image, &output),
+        Ok(output) => !may_be_same(image, &output),
         Err(error) => error.kind() == ErrorKind::NotFound,
     }
 }
 
 /// A source over an image file, to be read while the output is written; or none where the image is to be read whole.
 ///
-/// That is so where it can't be read at places, as a pipe can't; where the system tells no size, as of some of its own
-/// files; and where the output may be the same file, by the same path or by a link: what isn't read when that is opened
-/// would be lost.
+/// That is so where it can't be read at places, as a pipe or a terminal can't; where the system tells no size, as of some
+/// of its own files; and where the output may be the same file, by the same path or by a link: what isn't read when that
+/// is opened would be lost.
 pub fn source_of<R: Files>(rt: &R, image: &str, out: &str) -> Option<FileSource<R::File>>
 where
     R::File: FileExt,
@@ -36,12 +38,13 @@ where
         return None;
     };
     let kind = metadata.file_type();
-    let has_places = (kind.is_file() && metadata.len() > 0) || kind.is_block_device();
-    if !has_places || image == out || !stays(rt, &metadata, out) {
+    let is_device = kind.is_block_device() || kind.is_char_device();
+    let may_have_places = is_device || (kind.is_file() && metadata.len() > 0);
+    if !may_have_places || image == out || !stays(rt, &metadata, out) {
         return None;
     }
     match FileSource::open(rt, image) {
-        Ok(source) => Some(source),
-        Err(_) => None,
+        Ok(source) if source.len() > 0 => Some(source),
+        _ => None,
     }
 }

@@ -1,4 +1,4 @@
-//! Reading the bytes of a file, up to a limit.
+//! Reading the bytes of a file to its end, or up to a limit.
 
 ghost use Rattle.std.specs.Prelude.{◌≡◌, ◌≢◌, ◌≤◌, IfOk, IfErr, IfSome, OnErr, take, vec_len};
 ghost use Rattle.std.specs.Io.KnownBytes.{Consumes};
@@ -6,7 +6,10 @@ ghost use Rattle.ubi_tool.specs.Read.{TakesAtMost};
 
 use crate::outcome::ToolError;
 use std::alloc::Global;
-use std::io::Read;
+use std::fs;
+use std::fs::{Files, OpenFile};
+use std::io::{ErrorKind, Read, Seek, SeekFrom};
+use std::os::unix::fs::FileTypeExt;
 
 /// The bytes that are read at once. What is kept grows with what was read, whatever the limit.
 const CHUNK: usize = 16_384;
@@ -42,4 +45,38 @@ pub fn read_limited<R: Read>(
         left -= count as u64;
     }
     Ok(bytes)
+}
+
+/// Whether a file that was just opened has an end: not so a character device that has places and tells no size, as
+/// `/dev/zero`. One that has no places, as a terminal, is read like a pipe.
+fn has_end<F: OpenFile + Seek>(file: &mut F) -> bool {
+    let is_device = match file.metadata() {
+        Ok(metadata) => metadata.file_type().is_char_device(),
+        Err(_) => false,
+    };
+    if !is_device {
+        return true;
+    }
+    match file.seek(SeekFrom::End(0)) {
+        Ok(len) => len > 0 && file.seek(SeekFrom::Start(0)).is_ok(),
+        Err(error) => error.kind() == ErrorKind::NotSeekable,
+    }
+}
+
+/// Opens a file that is to be read from its beginning to its end.
+///
+/// # Errors
+///
+/// Read where it can't be opened, and where it has no end.
+pub fn open_whole<R: Files>(rt: &R, path: &str) -> Result<R::File, ToolError>
+    ensures { IfErr result (λ e. e ≡ ToolError.Read) }
+{
+    let Ok(mut file) = fs::open(rt, path) else {
+        return Err(ToolError::Read);
+    };
+    if has_end(&mut file) {
+        Ok(file)
+    } else {
+        Err(ToolError::Read)
+    }
 }

@@ -8,9 +8,8 @@ ghost use Rattle.ubi_tool.specs.Program.{IsUnread, Tells, text_limit};
 use crate::image_file::{Unread, limit_line, unread_file};
 use crate::numbers::{Numbers, geometry_of};
 use crate::outcome::ToolError;
-use crate::read::read_limited;
+use crate::read::{open_whole, read_limited};
 use std::alloc::Global;
-use std::fs;
 use std::fs::Files;
 use std::io::Read;
 use ubi_media::Geometry;
@@ -63,10 +62,8 @@ fn read_spec<R: Files>(
 ) -> Result<Vec<u8>, ToolError>
     ensures { IfOk result (λ v. vec_len v ≤ text_limit geometry.now) }
 {
-    match fs::open(rt, path) {
-        Ok(mut file) => read_text(alloc, &mut file, geometry),
-        Err(_) => Err(ToolError::Read),
-    }
+    let mut file = open_whole(rt, path)?;
+    read_text(alloc, &mut file, geometry)
 }
 
 /// Reads the text of a path, once its geometry is known to break no limit.

@@ -217,6 +217,28 @@ fn normalises_what_a_pipe_gives(rt: HostRuntime) -> Result<(), Fail> {
     Ok(())
 }
 
+/// The words of each command that reads a file, over a character device that has no end.
+const ENDLESS: [&str; 9] = [
+    "list /dev/zero",
+    "check /dev/zero",
+    "show /dev/zero --block 0",
+    "extract /dev/zero --id 0 --out endless.bin",
+    "normalise /dev/zero --out endless.bin",
+    "normalise /dev/zero --out /dev/zero",
+    "same /dev/zero /dev/zero",
+    "change /dev/zero --id 0 --lnum 0 --from /dev/zero --out endless.bin",
+    "compose /dev/zero --out endless.bin",
+];
+
+#[test]
+fn reads_no_file_without_an_end(rt: HostRuntime) -> Result<(), Fail> {
+    for line in ENDLESS {
+        assert_line(&rt, rt.alloc(), line, "cannot read /dev/zero\n", 1)?;
+    }
+    assert!(rt; !fs::exists(&rt, "endless.bin")?);
+    Ok(())
+}
+
 #[test]
 fn leaves_a_file_as_it_is_where_the_image_is_refused(rt: HostRuntime) -> Result<(), Fail> {
     let alloc = rt.alloc();
