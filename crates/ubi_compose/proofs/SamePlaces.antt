@@ -1,5 +1,5 @@
 -- Whether two images mean the same, by their places and the bytes of their LEBs.
-use Rattle.std.proofs.Common.{◌≡◌, ℕ, ◌+◌, ◌*◌, ◌<◌, ◌≤◌, ◌⊎◌, inl, inr, ◌==◌, ◌&&◌, Bool, true, false, Decides, List, [], ◌∷◌, ◌++◌, length, take, get_or, refl, ap, sym, ◌∙◌, subst, arith}
+use Rattle.std.proofs.Common.{◌≡◌, ℕ, ◌+◌, ◌*◌, ◌<◌, inl, inr, ◌==◌, ◌&&◌, Bool, true, false, Decides, List, [], ◌∷◌, ◌++◌, length, take, get_or, refl, ap, sym, ◌∙◌, subst, arith}
 use Rattle.std.specs.Prelude.{◌↔◌, IfSome, IsTrue, None, Option, Some}
 use Rattle.std.specs.Cmp.{nat_cmp_total, unsigned_Decides}
 use Rattle.std.specs.Cmp.Lexicographic.{pointwise}

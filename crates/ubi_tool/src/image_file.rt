@@ -11,7 +11,7 @@ ghost use Rattle.ubi_tool.specs.declared.image_file.Unread.TheVariants.{Memory, 
 use crate::lines::{file_line, geometry_line};
 use crate::numbers::{Numbers, geometry_of};
 use crate::outcome::{FAILED, Outcome, ToolError, WRONG_WORDS};
-use crate::read::{open_whole, read_limited};
+use crate::read::{expected_len, open_whole, read_limited};
 use std::alloc::{AllocError, Global};
 use std::fs::Files;
 use std::io::Read;
@@ -67,12 +67,13 @@ fn read_judged<R: Read>(
     alloc: Global,
     reader: &mut R,
     geometry: &Geometry,
+    expected: u64,
 ) -> Result<Vec<u8>, ToolError>
     ensures bytes { IfOk result (λ v. IfSome (R.remaining reader.old) (λ xs. v.items ≡ judged geometry.now xs)) }
     ensures few { IfOk result (λ v. vec_len v ≤ geometry.now.pebs * geometry.now.peb_size + 1) }
 {
     let device = u64::from(geometry.pebs()) * u64::from(geometry.peb_size());
-    read_limited(alloc, reader, device + 1)
+    read_limited(alloc, reader, device + 1, expected)
 }
 
 /// Those bytes of an image file that are judged.
@@ -85,7 +86,8 @@ fn read_image<R: Files>(
     ensures { IfOk result (λ v. vec_len v ≤ geometry.now.pebs * geometry.now.peb_size + 1) }
 {
     let mut file = open_whole(rt, path)?;
-    read_judged(alloc, &mut file, geometry)
+    let expected = expected_len(&file);
+    read_judged(alloc, &mut file, geometry, expected)
 }
 
 /// The line of a geometry that breaks a limit.

@@ -11,10 +11,11 @@ use std::fs::{Files, OpenFile};
 use std::io::{ErrorKind, Read, Seek, SeekFrom};
 use std::os::unix::fs::FileTypeExt;
 
-/// The bytes that are read at once. What is kept grows with what was read, whatever the limit.
+/// The bytes that are read at once.
 const CHUNK: usize = 16_384;
 
-/// All bytes of a reader, or the first `limit` of them where there are more.
+/// All bytes of a reader, or the first `limit` of them where there are more. Room for so many as are expected is taken
+/// first, within the limit, so that it is taken once; what is kept grows with what was read where there are more.
 ///
 /// # Errors
 ///
@@ -24,6 +25,7 @@ pub fn read_limited<R: Read>(
     alloc: Global,
     reader: &mut R,
     limit: u64,
+    expected: u64,
 ) -> Result<Vec<u8>, ToolError>
     ensures bytes { IfOk result (λ v. IfSome (R.remaining reader.old) (λ xs. v.items ≡ take limit xs)) }
     ensures within { IfOk result (λ v. vec_len v ≤ limit) }
@@ -32,6 +34,7 @@ pub fn read_limited<R: Read>(
     ensures err { IfErr result (λ e. e ≢ ToolError.Write) }
 {
     let mut bytes = Vec::new(alloc);
+    bytes.reserve(limit.min(expected) as usize)?;
     let mut chunk = [0u8; CHUNK];
     let mut left = limit;
     while left > 0 {
@@ -60,6 +63,14 @@ fn has_end<F: OpenFile + Seek>(file: &mut F) -> bool {
     match file.seek(SeekFrom::End(0)) {
         Ok(len) => len > 0 && file.seek(SeekFrom::Start(0)).is_ok(),
         Err(error) => error.kind() == ErrorKind::NotSeekable,
+    }
+}
+
+/// How many bytes a file is expected to have: what the system tells of it, or none.
+pub fn expected_len<F: OpenFile>(file: &F) -> u64 {
+    match file.metadata() {
+        Ok(metadata) => metadata.len(),
+        Err(_) => 0,
     }
 }
 

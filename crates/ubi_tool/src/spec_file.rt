@@ -8,7 +8,7 @@ ghost use Rattle.ubi_tool.specs.Program.{IsUnread, Tells, text_limit};
 use crate::image_file::{Unread, limit_line, unread_file};
 use crate::numbers::{Numbers, geometry_of};
 use crate::outcome::ToolError;
-use crate::read::{open_whole, read_limited};
+use crate::read::{expected_len, open_whole, read_limited};
 use std::alloc::Global;
 use std::fs::Files;
 use std::io::Read;
@@ -40,13 +40,14 @@ fn read_text<R: Read>(
     alloc: Global,
     reader: &mut R,
     geometry: &Geometry,
+    expected: u64,
 ) -> Result<Vec<u8>, ToolError>
     ensures bytes { IfOk result (λ v. IfSome (R.remaining reader.old) (λ xs. v.items ≡ xs)) }
     ensures few { IfOk result (λ v. vec_len v ≤ text_limit geometry.now) }
     ensures err { IfErr result (λ e. e ≢ ToolError.Write) }
 {
     let limit = text_limit(geometry);
-    let text = read_limited(alloc, reader, limit + 1)?;
+    let text = read_limited(alloc, reader, limit + 1, expected)?;
     if text.len() as u64 > limit {
         return Err(ToolError::Read);
     }
@@ -63,7 +64,8 @@ fn read_spec<R: Files>(
     ensures { IfOk result (λ v. vec_len v ≤ text_limit geometry.now) }
 {
     let mut file = open_whole(rt, path)?;
-    read_text(alloc, &mut file, geometry)
+    let expected = expected_len(&file);
+    read_text(alloc, &mut file, geometry, expected)
 }
 
 /// Reads the text of a path, once its geometry is known to break no limit.

@@ -140,12 +140,7 @@ pub fn assert_gives(
 
 /// Asserts what is answered of an image and what is written, from each sort of source, and that what was written is
 /// normalised to itself. The file is that of a path.
-fn assert_case<R: Files + Abort>(
-    rt: &R,
-    alloc: Global,
-    path: &str,
-    case: &Case,
-) -> Result<(), Fail>
+fn assert_case<R: Files + Abort>(rt: &R, alloc: Global, path: &str, case: &Case) -> Result<(), Fail>
 where
     R::File: FileExt,
 {

@@ -1,4 +1,4 @@
-use Rattle.std.proofs.Common.{◌≡◌, ◌≤◌, ◌<◌, ◌⊎◌, inl, inr, ◌+◌, ◌*◌, ◌/◌, ℕ, false, length, refl, subst, sym, ◌∙◌, arith}
+use Rattle.std.proofs.Common.{◌≡◌, ◌≤◌, ◌<◌, inl, inr, ◌*◌, ◌/◌, ℕ, false, length, refl, subst, sym, ◌∙◌, arith}
 use Rattle.ubi_media.proofs.Cases.{below_or_last}
 use Rattle.ubi_scan.proofs.Chunks.{piece_within}
 use Rattle.ubi_change.specs.Weak.{is_weak, pages_of}
