@@ -54,7 +54,8 @@ use Rattle.ubi_change.proofs.Unmapped as first
 use Rattle.ubi_change.proofs.Vacated.{LosesAll}
 
 -- what it says that no cause stands
-first_none : (o : Option ChangeRefusal) (rest : List (Option ChangeRefusal)) → first_of (o ∷ rest) ≡ None → (o ≡ None) × (first_of rest ≡ None)
+first_none : (o : Option ChangeRefusal) (rest : List (Option ChangeRefusal)) → first_of (o ∷ rest) ≡ None
+    → (o ≡ None) × (first_of rest ≡ None)
 first_none None rest e = (refl, e)
 first_none (Some c) rest e = absurd (cc)
 
@@ -90,14 +91,16 @@ less_of a b e = grind (arith, nat_tests)
 most_of : (a b : ℕ) → nat_lt a b ≡ false → b ≤ a
 most_of a b e = grind (arith, nat_tests)
 
-pub record IsAllowed (s : Sizes) (bs : List (List ℕ)) (a : Whole) (r : VolumeRecord) (id lnum : ℕ) (new : List ℕ) : Type 0 where
+pub record IsAllowed (s : Sizes) (bs : List (List ℕ)) (a : Whole) (r : VolumeRecord) (id lnum : ℕ)
+    (new : List ℕ) : Type 0 where
   pub dynamic : r.kind ≡ kind.Dynamic
   pub unmarked : r.marker ≡ false
   pub is_new : IsNew s r lnum new
   pub few : a.scan.top_sqnum + needs s bs a id lnum ≤ 0xFFFFFFFFFFFFFFFF
   pub enough : needs s bs a id lnum ≤ length (takeable s bs a.states)
 
-pub is_allowed : (s : Sizes) (bs : List (List ℕ)) (a : Whole) (r : VolumeRecord) (id lnum : ℕ) (new : List ℕ) → first_of (causes s bs a r id lnum new) ≡ None → IsAllowed s bs a r id lnum new
+pub is_allowed : (s : Sizes) (bs : List (List ℕ)) (a : Whole) (r : VolumeRecord) (id lnum : ℕ) (new : List ℕ)
+    → first_of (causes s bs a r id lnum new) ≡ None → IsAllowed s bs a r id lnum new
 is_allowed s bs a r id lnum new e =
     let c1 = first_none _ _ e in
     let c2 = first_none _ _ c1.1 in
@@ -112,25 +115,31 @@ is_allowed s bs a r id lnum new e =
       dynamic = is_dynamic r.kind (not_some (is_static r.kind) refusal.StaticVolume c1.0);
       unmarked = not_some r.marker refusal.Updating c2.0;
       is_new = record {
-        inside = less_of lnum r.reserved (not_not (nat_lt lnum r.reserved) (not_some (not (nat_lt lnum r.reserved)) refusal.OutOfRange c3.0));
+        inside = less_of lnum r.reserved
+            (not_not (nat_lt lnum r.reserved) (not_some (not (nat_lt lnum r.reserved)) refusal.OutOfRange c3.0));
         some = some_of (length new) first.0;
         short = most_of (usable s r) (length new) length_fits.1;
         paged = zero_of (length new % s.page) (not_not (length new % s.page == 0) first.1);
         strong = not_weak (weak_place s new) c5.0;
       };
-      few = most_of 0xFFFFFFFFFFFFFFFF (a.scan.top_sqnum + needs s bs a id lnum) (not_some (nat_lt 0xFFFFFFFFFFFFFFFF (a.scan.top_sqnum + needs s bs a id lnum)) refusal.Exhausted c6.0);
-      enough = most_of (length (takeable s bs a.states)) (needs s bs a id lnum) (not_some (nat_lt (length (takeable s bs a.states)) (needs s bs a id lnum)) refusal.NoFree c7.0);
+      few = most_of 0xFFFFFFFFFFFFFFFF (a.scan.top_sqnum + needs s bs a id lnum)
+          (not_some (nat_lt 0xFFFFFFFFFFFFFFFF (a.scan.top_sqnum + needs s bs a id lnum)) refusal.Exhausted c6.0);
+      enough = most_of (length (takeable s bs a.states)) (needs s bs a id lnum)
+          (not_some (nat_lt (length (takeable s bs a.states)) (needs s bs a id lnum)) refusal.NoFree c7.0);
     }
 
 -- a dynamic volume that isn't marked keeps LEBs
-lebs_of : (s : Sizes) (r : VolumeRecord) (c : Content) → r.kind ≡ kind.Dynamic → r.marker ≡ false → Fits s r c → (lebs : FinMap nat_cmp (List ℕ)) × (c ≡ content.Dynamic lebs)
+lebs_of : (s : Sizes) (r : VolumeRecord) (c : Content) → r.kind ≡ kind.Dynamic → r.marker ≡ false → Fits s r c
+    → (lebs : FinMap nat_cmp (List ℕ)) × (c ≡ content.Dynamic lebs)
 lebs_of s r content.Updating d u f = absurd (let k = f in cc)
 lebs_of s r content.Damaged d u f = absurd (let k = f.1 in cc)
 lebs_of s r (content.Static text) d u f = absurd (let k = f.1 in cc)
 lebs_of s r (content.Dynamic lebs) d u f = (lebs, refl)
 
-module _ (image : Image) (g : IsGeometry image.sizes) (a : Whole) (att : IsAttached image a) (few : a.scan.mean_ec < 2 ^ 31) (narrow : a.scan.image_seq < 2 ^ 32)
-    (id lnum : ℕ) (new : List ℕ) (v : Volume) (there : finite.get a.meaning.volumes id ≡ Some v) (allowed : first_cause image.sizes (eraseblocks image) a id lnum new ≡ None)
+module _ (image : Image) (g : IsGeometry image.sizes) (a : Whole) (att : IsAttached image a)
+    (few : a.scan.mean_ec < 2 ^ 31) (narrow : a.scan.image_seq < 2 ^ 32)
+    (id lnum : ℕ) (new : List ℕ) (v : Volume) (there : finite.get a.meaning.volumes id ≡ Some v)
+    (allowed : first_cause image.sizes (eraseblocks image) a id lnum new ≡ None)
     (half : data_pad image.sizes v.entry < leb_size image.sizes / 2) (bounded : v.entry.reserved < 2 ^ 31) where
   abbrev s : Sizes
   s = image.sizes
@@ -142,10 +151,12 @@ module _ (image : Image) (g : IsGeometry image.sizes) (a : Whole) (att : IsAttac
   acc = att.accepted.accepted
 
   agrees : Agrees s a.scan.image_seq bs
-  agrees = subst (λ (q : ℕ). Agrees s q bs) (sym att.scan.image_seq) (seq_agrees s bs (clean_from_none s bs att.scan.clean))
+  agrees = subst (λ (q : ℕ). Agrees s q bs) (sym att.scan.image_seq)
+      (seq_agrees s bs (clean_from_none s bs att.scan.clean))
 
   states : AreStates s bs acc.records a.states
-  states = subst (λ (t : Records). AreStates s bs t a.states) (records_meant s bs acc.records a.meaning acc.table acc.means) att.states
+  states = subst (λ (t : Records). AreStates s bs t a.states)
+      (records_meant s bs acc.records a.meaning acc.table acc.means) att.states
 
   volume : IsVolume a.meaning.sizes id v
   volume = subst (λ (o : Option Volume). IfSome o (IsVolume a.meaning.sizes id)) there (acc.means.meaning.each id)
@@ -154,7 +165,9 @@ module _ (image : Image) (g : IsGeometry image.sizes) (a : Whole) (att : IsAttac
   slot = let l = volume.slot in omega arith
 
   pub no_cause : IsAllowed s bs a v.entry id lnum new
-  no_cause = is_allowed s bs a v.entry id lnum new (ap (λ (o : Option Volume). option_map_or (λ (v : Volume). first_of (causes s bs a v.entry id lnum new)) o (Some refusal.NoVolume)) (sym there) ∙ allowed)
+  no_cause = is_allowed s bs a v.entry id lnum new
+      (ap (λ (o : Option Volume). option_map_or (λ (v : Volume). first_of (causes s bs a v.entry id lnum new)) o
+      (Some refusal.NoVolume)) (sym there) ∙ allowed)
 
   held : (lebs : FinMap nat_cmp (List ℕ)) × (v.content ≡ content.Dynamic lebs)
   held = lebs_of a.meaning.sizes v.entry v.content no_cause.dynamic no_cause.unmarked volume.fits
@@ -168,7 +181,8 @@ module _ (image : Image) (g : IsGeometry image.sizes) (a : Whole) (att : IsAttac
   whole : (p : ℕ) → p < length bs → length (block bs p) ≡ s.peb_size
   whole p l =
       let n = length-first_chunks s.peb_size (length image.bytes / s.peb_size) image.bytes in
-      length-of_chunk s.peb_size (length image.bytes / s.peb_size) image.bytes p (let k = nat.div-add-mod (length image.bytes) s.peb_size in omega arith) (omega arith)
+      length-of_chunk s.peb_size (length image.bytes / s.peb_size) image.bytes p
+      (let k = nat.div-add-mod (length image.bytes) s.peb_size in omega arith) (omega arith)
 
   above : (of : Leb) (q : ℕ) → IsMember s bs of q → sqnum_at s bs q < a.scan.top_sqnum + 1
   above of q m = let l = member_below s bs of q m in let e = att.scan.top_sqnum in omega arith
@@ -187,10 +201,12 @@ module _ (image : Image) (g : IsGeometry image.sizes) (a : Whole) (att : IsAttac
       by_test true = tt
       by_test false = renew_fails s g p (next_ec a.scan now)
 
-  release_is : (p : ℕ) (now : Option EcHeader) → (is_worn now ≡ false → IsCounter (next_ec a.scan now)) → IsRelease s p a.scan.image_seq (release s bs a p now)
+  release_is : (p : ℕ) (now : Option EcHeader) → (is_worn now ≡ false → IsCounter (next_ec a.scan now))
+      → IsRelease s p a.scan.image_seq (release s bs a p now)
   release_is p now counter = by_test (is_worn now) refl
     where
-      by_test : (b : Bool) → is_worn now ≡ b → IsRelease s p a.scan.image_seq (cond b [] (renew s p (next_ec a.scan now)))
+      by_test : (b : Bool) → is_worn now ≡ b
+          → IsRelease s p a.scan.image_seq (cond b [] (renew s p (next_ec a.scan now)))
       by_test true e = inl refl
       by_test false e = inr (next_ec a.scan now, counter e, (λ _. refl), refl)
 
@@ -217,8 +233,10 @@ module _ (image : Image) (g : IsGeometry image.sizes) (a : Whole) (att : IsAttac
     wins : Wins s bs (id, lnum) old
     wins = found_wins s bs a.scan att.scan (id, lnum) old found
 
-    pub made : (e : EcHeader) × (ready_ec s bs a b ≡ Some e) × IsPrepared s bs a.meaning b a.scan.image_seq (prepare s bs a b) (ready_bytes s bs a b) e
-    made = ready s g bs a acc.records states b may bs a.meaning acc may.0 refl (whole b may.0) agrees used (taken_loses s g bs a acc.records states b may) few narrow
+    pub made : (e : EcHeader) × (ready_ec s bs a b ≡ Some e)
+        × IsPrepared s bs a.meaning b a.scan.image_seq (prepare s bs a b) (ready_bytes s bs a b) e
+    made = ready s g bs a acc.records states b may bs a.meaning acc may.0 refl (whole b may.0) agrees used
+        (taken_loses s g bs a acc.records states b may) few narrow
 
     few_numbers : a.scan.top_sqnum + 1 < 2 ^ 64
     few_numbers = let f = no_cause.few in let n = needs-one in omega arith
@@ -226,34 +244,48 @@ module _ (image : Image) (g : IsGeometry image.sizes) (a : Whole) (att : IsAttac
     -- the winner isn't the eraseblock that is taken
     pub old_apart : old ≢ b
     old_apart =
-        mapped_copy.apart s g bs a.meaning acc id lnum v.entry held.0 was slot number half new no_cause.is_new b may.0 a.scan.image_seq agrees (taken_loses s g bs a acc.records states b may)
-        (prepare s bs a b) (ready_bytes s bs a b) made.0 made.2 (a.scan.top_sqnum + 1) few_numbers above old wins (release s bs a old (ec_at s bs old))
+        mapped_copy.apart s g bs a.meaning acc id lnum v.entry held.0 was slot number half new no_cause.is_new b may.0
+        a.scan.image_seq agrees (taken_loses s g bs a acc.records states b may)
+        (prepare s bs a b) (ready_bytes s bs a b) made.0 made.2 (a.scan.top_sqnum + 1) few_numbers above old wins
+        (release s bs a old (ec_at s bs old))
         (release_is old (ec_at s bs old) (next_counter s bs a few narrow old))
 
     -- where the new is meant from
-    pub mapped_turn : turn s (mapped_plan s bs a v.entry id lnum new b old) new ≡ length (prepare s bs a b) + suc (whole_place s new)
+    pub mapped_turn : turn s (mapped_plan s bs a v.entry id lnum new b old) new
+        ≡ length (prepare s bs a b) + suc (whole_place s new)
     mapped_turn =
         let h = copy_header 0 (data_pad s v.entry) id lnum (a.scan.top_sqnum + 1) new in
-        let fits = copy_fits s v.entry id lnum (a.scan.top_sqnum + 1) new slot number half wide no_cause.is_new.some fits_leb few_numbers in
-        let sound = copy_sound s v.entry id lnum (a.scan.top_sqnum + 1) new slot number half wide no_cause.is_new.some fits_leb in
-        turn-is s g (ready_bytes s bs a b) made.2.size h fits sound refl b new (prepare s bs a b) (release s bs a old (ec_at s bs old)) (prepare_fails b) (release_fails old (ec_at s bs old))
+        let fits = copy_fits s v.entry id lnum (a.scan.top_sqnum + 1) new slot number half wide no_cause.is_new.some
+        fits_leb few_numbers in
+        let sound = copy_sound s v.entry id lnum (a.scan.top_sqnum + 1) new slot number half wide no_cause.is_new.some
+        fits_leb in
+        turn-is s g (ready_bytes s bs a b) made.2.size h fits sound refl b new (prepare s bs a b)
+        (release s bs a old (ec_at s bs old)) (prepare_fails b) (release_fails old (ec_at s bs old))
 
     mapped_survives : SurvivesCuts s bs a.meaning id lnum new (mapped_plan s bs a v.entry id lnum new b old)
     mapped_survives =
         let h = copy_header 0 (data_pad s v.entry) id lnum (a.scan.top_sqnum + 1) new in
-        let fits = copy_fits s v.entry id lnum (a.scan.top_sqnum + 1) new slot number half wide no_cause.is_new.some fits_leb few_numbers in
-        let sound = copy_sound s v.entry id lnum (a.scan.top_sqnum + 1) new slot number half wide no_cause.is_new.some fits_leb in
-        survives s bs a.meaning id lnum new (mapped_plan s bs a v.entry id lnum new b old) (length (prepare s bs a b) + suc (whole_place s new))
-        (one-copy s g (ready_bytes s bs a b) made.2.size h fits sound refl b new (prepare s bs a b) (release s bs a old (ec_at s bs old)) (prepare_fails b) (release_fails old (ec_at s bs old)))
+        let fits = copy_fits s v.entry id lnum (a.scan.top_sqnum + 1) new slot number half wide no_cause.is_new.some
+        fits_leb few_numbers in
+        let sound = copy_sound s v.entry id lnum (a.scan.top_sqnum + 1) new slot number half wide no_cause.is_new.some
+        fits_leb in
+        survives s bs a.meaning id lnum new (mapped_plan s bs a v.entry id lnum new b old)
+        (length (prepare s bs a b) + suc (whole_place s new))
+        (one-copy s g (ready_bytes s bs a b) made.2.size h fits sound refl b new (prepare s bs a b)
+        (release s bs a old (ec_at s bs old)) (prepare_fails b) (release_fails old (ec_at s bs old)))
         mapped_turn
-        (mapped s g bs a.meaning acc id lnum v.entry held.0 was slot number half new no_cause.is_new b may.0 a.scan.image_seq agrees (taken_loses s g bs a acc.records states b may)
-        (prepare s bs a b) (ready_bytes s bs a b) made.0 made.2 (a.scan.top_sqnum + 1) few_numbers above old wins (release s bs a old (ec_at s bs old))
+        (mapped s g bs a.meaning acc id lnum v.entry held.0 was slot number half new no_cause.is_new b may.0
+        a.scan.image_seq agrees (taken_loses s g bs a acc.records states b may)
+        (prepare s bs a b) (ready_bytes s bs a b) made.0 made.2 (a.scan.top_sqnum + 1) few_numbers above old wins
+        (release s bs a old (ec_at s bs old))
         (release_is old (ec_at s bs old) (next_counter s bs a few narrow old)))
 
     pub survives_mapped : SurvivesCuts s bs a.meaning id lnum new (plan_of s bs a v.entry id lnum new)
     survives_mapped =
         subst (SurvivesCuts s bs a.meaning id lnum new)
-        (sym (ap (λ (o : Option ℕ). option_map_or (mapped_plan s bs a v.entry id lnum new (taken s bs a 0)) o (unmapped_plan s bs a v.entry id lnum new (taken s bs a 0) (taken s bs a 1))) found))
+        (sym
+        (ap (λ (o : Option ℕ). option_map_or (mapped_plan s bs a v.entry id lnum new (taken s bs a 0)) o
+        (unmapped_plan s bs a v.entry id lnum new (taken s bs a 0) (taken s bs a 1))) found))
         mapped_survives
 
   -- a LEB without one
@@ -288,8 +320,10 @@ module _ (image : Image) (g : IsGeometry image.sizes) (a : Whole) (att : IsAttac
     loses1 : LosesAll s bs acc.records b1
     loses1 = taken_loses s g bs a acc.records states b1 may1
 
-    pub made0 : (e : EcHeader) × (ready_ec s bs a e0 ≡ Some e) × IsPrepared s bs a.meaning e0 a.scan.image_seq (prepare s bs a e0) (ready_bytes s bs a e0) e
-    made0 = ready s g bs a acc.records states e0 may0 bs a.meaning acc may0.0 refl (whole e0 may0.0) agrees used loses0 few narrow
+    pub made0 : (e : EcHeader) × (ready_ec s bs a e0 ≡ Some e)
+        × IsPrepared s bs a.meaning e0 a.scan.image_seq (prepare s bs a e0) (ready_bytes s bs a e0) e
+    made0 = ready s g bs a acc.records states e0 may0 bs a.meaning acc may0.0 refl
+        (whole e0 may0.0) agrees used loses0 few narrow
 
     many : a.scan.top_sqnum + 1 + 1 < 2 ^ 64
     many = let f = no_cause.few in let n = needs-two in omega arith
@@ -307,30 +341,41 @@ module _ (image : Image) (g : IsGeometry image.sizes) (a : Whole) (att : IsAttac
     cs = set bs e0 mounted0
 
     acc1 : AcceptsBlocks s cs a.meaning
-    acc1 = first.mounted_accepted s g bs a.meaning acc id lnum v.entry held.0 was slot number half no_cause.is_new.inside e0 may0.0 a.scan.image_seq agrees loses0 (prepare s bs a e0) (ready_bytes s bs a e0) made0.0 made0.2 (a.scan.top_sqnum + 1) some_left above none
+    acc1 = first.mounted_accepted s g bs a.meaning acc id lnum v.entry held.0 was slot number half
+        no_cause.is_new.inside e0 may0.0 a.scan.image_seq agrees loses0 (prepare s bs a e0)
+        (ready_bytes s bs a e0) made0.0 made0.2 (a.scan.top_sqnum + 1) some_left above none
 
     lost1 : LosesAll s cs acc1.records b1
     unfolding acc1
     lost1 =
         subst (λ (t : Records). LosesAll s cs t b1)
-        (sym (first.now_records s g bs a.meaning acc id lnum v.entry held.0 was slot number half no_cause.is_new.inside e0 may0.0 a.scan.image_seq agrees loses0 (prepare s bs a e0) (ready_bytes s bs a e0) made0.0 made0.2 (a.scan.top_sqnum + 1) some_left above none))
-        (first.other_loses s g bs a.meaning acc id lnum v.entry held.0 was slot number half no_cause.is_new.inside e0 may0.0 a.scan.image_seq agrees loses0 (prepare s bs a e0) (ready_bytes s bs a e0) made0.0 made0.2 (a.scan.top_sqnum + 1) some_left above none b1 apart loses1)
+        (sym (first.now_records s g bs a.meaning acc id lnum v.entry held.0 was slot number half no_cause.is_new.inside
+        e0 may0.0 a.scan.image_seq agrees loses0 (prepare s bs a e0) (ready_bytes s bs a e0) made0.0 made0.2
+        (a.scan.top_sqnum + 1) some_left above none))
+        (first.other_loses s g bs a.meaning acc id lnum v.entry held.0 was slot number half no_cause.is_new.inside e0
+        may0.0 a.scan.image_seq agrees loses0 (prepare s bs a e0) (ready_bytes s bs a e0) made0.0 made0.2
+        (a.scan.top_sqnum + 1) some_left above none b1 apart loses1)
 
     agrees1 : Agrees s a.scan.image_seq cs
-    agrees1 = first.now_agrees s g bs a.meaning acc id lnum v.entry held.0 was slot number half no_cause.is_new.inside e0 may0.0 a.scan.image_seq agrees loses0 (prepare s bs a e0) (ready_bytes s bs a e0) made0.0 made0.2 (a.scan.top_sqnum + 1) some_left above none
+    agrees1 = first.now_agrees s g bs a.meaning acc id lnum v.entry held.0 was slot number half no_cause.is_new.inside
+        e0 may0.0 a.scan.image_seq agrees loses0 (prepare s bs a e0) (ready_bytes s bs a e0) made0.0 made0.2
+        (a.scan.top_sqnum + 1) some_left above none
 
     inside1 : b1 < length cs
     inside1 = let l = may1.0 in omega (arith, length-set bs e0 mounted0)
 
-    pub made1 : (e : EcHeader) × (ready_ec s bs a b1 ≡ Some e) × IsPrepared s cs a.meaning b1 a.scan.image_seq (prepare s bs a b1) (ready_bytes s bs a b1) e
+    pub made1 : (e : EcHeader) × (ready_ec s bs a b1 ≡ Some e)
+        × IsPrepared s cs a.meaning b1 a.scan.image_seq (prepare s bs a b1) (ready_bytes s bs a b1) e
     made1 =
-        ready s g bs a acc.records states b1 may1 cs a.meaning acc1 inside1 (block_other s bs e0 mounted0 may0.0 b1 apart) (whole b1 may1.0) agrees1
+        ready s g bs a acc.records states b1 may1 cs a.meaning acc1 inside1
+        (block_other s bs e0 mounted0 may0.0 b1 apart) (whole b1 may1.0) agrees1
         (used_by_volume s cs a.meaning acc1 id v there) lost1 few narrow
 
     release0 : IsRelease s e0 a.scan.image_seq (release s bs a e0 (ready_ec s bs a e0))
     release0 = release_is e0 (ready_ec s bs a e0) (λ fresh.
         subst (λ (o : Option EcHeader). IsCounter (next_ec a.scan o)) (sym made0.1)
-        (counter_behind a narrow made0.0 (valid_counter s (ready_bytes s bs a e0) made0.0 made0.2.reads) (ap is_worn (sym made0.1) ∙ fresh)))
+        (counter_behind a narrow made0.0 (valid_counter s (ready_bytes s bs a e0) made0.0 made0.2.reads)
+        (ap is_worn (sym made0.1) ∙ fresh)))
 
     abbrev header1 : VidHeader
     header1 = copy_header 0 (data_pad s v.entry) id lnum (a.scan.top_sqnum + 1 + 1) new
@@ -342,57 +387,86 @@ module _ (image : Image) (g : IsGeometry image.sizes) (a : Whole) (att : IsAttac
     rel0 = release s bs a e0 (ready_ec s bs a e0)
 
     abbrev steps : List Step
-    steps = mount0 ++ ((prepare s bs a b1 ++ program_header s b1 (ready_bytes s bs a b1) header1 ∷ []) ++ program_text s b1 new ++ rel0)
+    steps = mount0 ++ ((prepare s bs a b1 ++ program_header s b1 (ready_bytes s bs a b1) header1 ∷ [])
+        ++ program_text s b1 new ++ rel0)
 
-    steps-are : ((mount0 ++ prepare s bs a b1) ++ program_header s b1 (ready_bytes s bs a b1) header1 ∷ []) ++ program_text s b1 new ++ rel0 ≡ steps
+    steps-are : ((mount0 ++ prepare s bs a b1) ++ program_header s b1 (ready_bytes s bs a b1) header1 ∷ [])
+        ++ program_text s b1 new ++ rel0 ≡ steps
     steps-are =
-        ap (λ xs. xs ++ program_text s b1 new ++ rel0) (append_assoc mount0 (prepare s bs a b1) (program_header s b1 (ready_bytes s bs a b1) header1 ∷ []))
-        ∙ ap (λ xs. xs ++ rel0) (append_assoc mount0 (prepare s bs a b1 ++ program_header s b1 (ready_bytes s bs a b1) header1 ∷ []) (program_text s b1 new))
-        ∙ append_assoc mount0 ((prepare s bs a b1 ++ program_header s b1 (ready_bytes s bs a b1) header1 ∷ []) ++ program_text s b1 new) rel0
+        ap (λ xs. xs ++ program_text s b1 new ++ rel0)
+        (append_assoc mount0 (prepare s bs a b1) (program_header s b1 (ready_bytes s bs a b1) header1 ∷ []))
+        ∙ ap (λ xs. xs ++ rel0)
+        (append_assoc mount0 (prepare s bs a b1 ++ program_header s b1 (ready_bytes s bs a b1) header1 ∷ [])
+        (program_text s b1 new))
+        ∙ append_assoc mount0 ((prepare s bs a b1 ++ program_header s b1 (ready_bytes s bs a b1) header1 ∷ [])
+        ++ program_text s b1 new) rel0
 
     -- what the first mount leaves
     pub mounted_done : done s bs mount0 ≡ cs
-    mounted_done = first.mount_done s g bs a.meaning acc id lnum v.entry held.0 was slot number half no_cause.is_new.inside e0 may0.0 a.scan.image_seq agrees loses0 (prepare s bs a e0) (ready_bytes s bs a e0) made0.0 made0.2 (a.scan.top_sqnum + 1) some_left above none
+    mounted_done = first.mount_done s g bs a.meaning acc id lnum v.entry held.0 was slot number half
+        no_cause.is_new.inside e0 may0.0 a.scan.image_seq agrees loses0 (prepare s bs a e0)
+        (ready_bytes s bs a e0) made0.0 made0.2 (a.scan.top_sqnum + 1) some_left above none
 
     mount_fails : AllFail (programs_copy s) (mount0 ++ prepare s bs a b1)
     mount_fails =
         fail-append (programs_copy s) mount0 (prepare s bs a b1)
-        (fail-append (programs_copy s) (prepare s bs a e0) (program_header s e0 (ready_bytes s bs a e0) header0 ∷ []) (prepare_fails e0)
-        (header_fails s g (ready_bytes s bs a e0) made0.2.size header0 (first.blank_fits s v.entry id lnum (a.scan.top_sqnum + 1) slot number half wide some_left) (first.blank_sound s v.entry id lnum (a.scan.top_sqnum + 1) slot number half wide) e0 refl, tt))
+        (fail-append (programs_copy s) (prepare s bs a e0) (program_header s e0 (ready_bytes s bs a e0) header0 ∷ [])
+        (prepare_fails e0) (
+          header_fails s g (ready_bytes s bs a e0) made0.2.size header0
+              (first.blank_fits s v.entry id lnum (a.scan.top_sqnum + 1) slot number half wide some_left)
+              (first.blank_sound s v.entry id lnum (a.scan.top_sqnum + 1) slot number half wide) e0 refl,
+          tt,
+        ))
         (prepare_fails b1)
 
     -- where the new is meant from
     steps_turn : turn s steps new ≡ length mount0 + (length (prepare s bs a b1) + suc (whole_place s new))
     steps_turn =
-        let fits = copy_fits s v.entry id lnum (a.scan.top_sqnum + 1 + 1) new slot number half wide no_cause.is_new.some fits_leb many in
-        let sound = copy_sound s v.entry id lnum (a.scan.top_sqnum + 1 + 1) new slot number half wide no_cause.is_new.some fits_leb in
+        let fits = copy_fits s v.entry id lnum (a.scan.top_sqnum + 1 + 1) new slot number half wide no_cause.is_new.some
+        fits_leb many in
+        let sound = copy_sound s v.entry id lnum (a.scan.top_sqnum + 1 + 1) new slot number half wide
+        no_cause.is_new.some fits_leb in
         let n = length-append mount0 (prepare s bs a b1) in
-        let turn_at = turn-is s g (ready_bytes s bs a b1) made1.2.size header1 fits sound refl b1 new (mount0 ++ prepare s bs a b1) rel0 mount_fails (release_fails e0 (ready_ec s bs a e0)) in
+        let turn_at = turn-is s g (ready_bytes s bs a b1) made1.2.size header1 fits sound refl b1 new
+        (mount0 ++ prepare s bs a b1) rel0 mount_fails (release_fails e0 (ready_ec s bs a e0)) in
         ap (λ xs. turn s xs new) (sym steps-are) ∙ turn_at ∙ omega arith
 
     plan-steps : unmapped_plan s bs a v.entry id lnum new e0 b1 ≡ steps
     plan-steps =
         let two : a.scan.top_sqnum + 2 ≡ a.scan.top_sqnum + 1 + 1 = omega arith in
-        ap (λ k. mount0 ++ ((prepare s bs a b1 ++ program_header s b1 (ready_bytes s bs a b1) (copy_header 0 (data_pad s v.entry) id lnum k new) ∷ []) ++ program_text s b1 new ++ rel0)) two
+        ap
+        (λ k. mount0
+        ++ ((prepare s bs a b1 ++ program_header s b1 (ready_bytes s bs a b1)
+        (copy_header 0 (data_pad s v.entry) id lnum k new) ∷ []) ++ program_text s b1 new ++ rel0)) two
 
-    pub unmapped_turn : turn s (unmapped_plan s bs a v.entry id lnum new e0 b1) new ≡ length mount0 + (length (prepare s bs a b1) + suc (whole_place s new))
+    pub unmapped_turn : turn s (unmapped_plan s bs a v.entry id lnum new e0 b1) new
+        ≡ length mount0 + (length (prepare s bs a b1) + suc (whole_place s new))
     unmapped_turn = ap (λ xs. turn s xs new) plan-steps ∙ steps_turn
 
     unmapped_survives : SurvivesCuts s bs a.meaning id lnum new steps
     unmapped_survives =
-        let fits = copy_fits s v.entry id lnum (a.scan.top_sqnum + 1 + 1) new slot number half wide no_cause.is_new.some fits_leb many in
-        let sound = copy_sound s v.entry id lnum (a.scan.top_sqnum + 1 + 1) new slot number half wide no_cause.is_new.some fits_leb in
-        let one = one-copy s g (ready_bytes s bs a b1) made1.2.size header1 fits sound refl b1 new (mount0 ++ prepare s bs a b1) rel0 mount_fails (release_fails e0 (ready_ec s bs a e0)) in
-        survives s bs a.meaning id lnum new steps (length mount0 + (length (prepare s bs a b1) + suc (whole_place s new)))
+        let fits = copy_fits s v.entry id lnum (a.scan.top_sqnum + 1 + 1) new slot number half wide no_cause.is_new.some
+        fits_leb many in
+        let sound = copy_sound s v.entry id lnum (a.scan.top_sqnum + 1 + 1) new slot number half wide
+        no_cause.is_new.some fits_leb in
+        let one = one-copy s g (ready_bytes s bs a b1) made1.2.size header1 fits sound refl b1 new
+        (mount0 ++ prepare s bs a b1) rel0 mount_fails (release_fails e0 (ready_ec s bs a e0)) in
+        survives s bs a.meaning id lnum new steps
+        (length mount0 + (length (prepare s bs a b1) + suc (whole_place s new)))
         (ap (count_by (programs_copy s)) (sym steps-are) ∙ one)
         steps_turn
-        (first.unmapped s g bs a.meaning acc id lnum v.entry held.0 was slot number half no_cause.is_new.inside e0 may0.0 a.scan.image_seq agrees loses0 (prepare s bs a e0) (ready_bytes s bs a e0) made0.0 made0.2 (a.scan.top_sqnum + 1) some_left above none
-        new no_cause.is_new b1 apart may1.0 loses1 (prepare s bs a b1) (ready_bytes s bs a b1) made1.0 made1.2 many rel0 release0)
+        (first.unmapped s g bs a.meaning acc id lnum v.entry held.0 was slot number half no_cause.is_new.inside e0
+        may0.0 a.scan.image_seq agrees loses0 (prepare s bs a e0) (ready_bytes s bs a e0) made0.0 made0.2
+        (a.scan.top_sqnum + 1) some_left above none
+        new no_cause.is_new b1 apart may1.0 loses1 (prepare s bs a b1)
+        (ready_bytes s bs a b1) made1.0 made1.2 many rel0 release0)
 
     pub survives_unmapped : SurvivesCuts s bs a.meaning id lnum new (plan_of s bs a v.entry id lnum new)
     survives_unmapped =
         subst (SurvivesCuts s bs a.meaning id lnum new)
-        (sym (ap (λ (o : Option ℕ). option_map_or (mapped_plan s bs a v.entry id lnum new (taken s bs a 0)) o (unmapped_plan s bs a v.entry id lnum new (taken s bs a 0) (taken s bs a 1))) found
+        (sym
+        (ap (λ (o : Option ℕ). option_map_or (mapped_plan s bs a v.entry id lnum new (taken s bs a 0)) o
+        (unmapped_plan s bs a v.entry id lnum new (taken s bs a 0) (taken s bs a 1))) found
         ∙ plan-steps))
         unmapped_survives
 
@@ -400,6 +474,7 @@ module _ (image : Image) (g : IsGeometry image.sizes) (a : Whole) (att : IsAttac
   pub survives_all : SurvivesCuts s bs a.meaning id lnum new (plan_of s bs a v.entry id lnum new)
   survives_all = by_winner (finite.get a.scan.winners (id, lnum)) refl
     where
-      by_winner : (o : Option ℕ) → finite.get a.scan.winners (id, lnum) ≡ o → SurvivesCuts s bs a.meaning id lnum new (plan_of s bs a v.entry id lnum new)
+      by_winner : (o : Option ℕ) → finite.get a.scan.winners (id, lnum) ≡ o
+          → SurvivesCuts s bs a.meaning id lnum new (plan_of s bs a v.entry id lnum new)
       by_winner (Some old) e = survives_mapped old e
       by_winner None e = survives_unmapped e

@@ -28,7 +28,8 @@ module _ {X : Type 0} (m : FinMap nat_cmp X) (k : ℕ) where
   insert_same x = finite.get-insert nat_cmp_total m k x k ∙ ap (λ b. cond b (Some x) (finite.get m k)) (same_test k)
 
   insert_other : (x : X) (q : ℕ) → q ≢ k → finite.get (finite.insert m k x) q ≡ finite.get m q
-  insert_other x q e = finite.get-insert nat_cmp_total m k x q ∙ ap (λ b. cond b (Some x) (finite.get m q)) (apart_test q k e)
+  insert_other x q e = finite.get-insert nat_cmp_total m k x q
+      ∙ ap (λ b. cond b (Some x) (finite.get m q)) (apart_test q k e)
 
   remove_same : finite.get (finite.remove m k) k ≡ None
   remove_same = finite.get-remove nat_cmp_total m k k ∙ ap (λ b. cond b None (finite.get m k)) (same_test k)
@@ -40,14 +41,25 @@ module _ {X : Type 0} (m : FinMap nat_cmp X) (k : ℕ) where
 module _ (lebs : FinMap nat_cmp (List ℕ)) (lnum size : ℕ) (text : List ℕ) (long : length text ≡ size) where
   pub leb_there : (l : ℕ) → l ≢ lnum → finite.get (with_leb lebs lnum text) l ≡ finite.get lebs l
   leb_there l e = elim (false_or_true (is_blank text)) [
-    | inl t ↦ ap (λ b. finite.get (cond b (finite.remove lebs lnum) (finite.insert lebs lnum text)) l) t ∙ remove_other lebs lnum l e
-    | inr t ↦ ap (λ b. finite.get (cond b (finite.remove lebs lnum) (finite.insert lebs lnum text)) l) t ∙ insert_other lebs lnum text l e
+    | inl t ↦ ap (λ b. finite.get (cond b (finite.remove lebs lnum) (finite.insert lebs lnum text)) l) t
+        ∙ remove_other lebs lnum l e
+    | inr t ↦ ap (λ b. finite.get (cond b (finite.remove lebs lnum) (finite.insert lebs lnum text)) l) t
+        ∙ insert_other lebs lnum text l e
   ]
 
-  leb_here : ((finite.get (with_leb lebs lnum text) lnum ≡ None) × (text ≡ blank size)) ⊎ ((finite.get (with_leb lebs lnum text) lnum ≡ Some text) × (text ≢ blank size))
+  leb_here : ((finite.get (with_leb lebs lnum text) lnum ≡ None) × (text ≡ blank size))
+      ⊎ ((finite.get (with_leb lebs lnum text) lnum ≡ Some text) × (text ≢ blank size))
   leb_here = elim (false_or_true (is_blank text)) [
-    | inl t ↦ inl (ap (λ b. finite.get (cond b (finite.remove lebs lnum) (finite.insert lebs lnum text)) lnum) t ∙ remove_same lebs lnum, blank_text text size t long)
-    | inr t ↦ inr (ap (λ b. finite.get (cond b (finite.remove lebs lnum) (finite.insert lebs lnum text)) lnum) t ∙ insert_same lebs lnum text, other_text text size t)
+    | inl t ↦ inl (
+      ap (λ b. finite.get (cond b (finite.remove lebs lnum) (finite.insert lebs lnum text)) lnum) t
+          ∙ remove_same lebs lnum,
+      blank_text text size t long,
+    )
+    | inr t ↦ inr (
+      ap (λ b. finite.get (cond b (finite.remove lebs lnum) (finite.insert lebs lnum text)) lnum) t
+          ∙ insert_same lebs lnum text,
+      other_text text size t,
+    )
   ]
 
   pub leb_reads : unwrap_or (finite.get (with_leb lebs lnum text) lnum) (blank size) ≡ text
@@ -57,7 +69,8 @@ module _ (lebs : FinMap nat_cmp (List ℕ)) (lnum size : ℕ) (text : List ℕ) 
   ]
 
   -- what holds of each text that is kept, if it holds of this one where it isn't blank
-  pub each_text : (P : ℕ → List ℕ → Type 0) → ((l : ℕ) → IfSome (finite.get lebs l) (P l)) → (text ≢ blank size → P lnum text)
+  pub each_text : (P : ℕ → List ℕ → Type 0) → ((l : ℕ) → IfSome (finite.get lebs l) (P l))
+      → (text ≢ blank size → P lnum text)
       → (l : ℕ) → IfSome (finite.get (with_leb lebs lnum text) l) (P l)
   each_text P old here l = elim (cases_eq l lnum) [
     | inl e ↦ subst (λ (k : ℕ). IfSome (finite.get (with_leb lebs lnum text) k) (P k)) (sym e) (elim leb_here [
@@ -68,7 +81,8 @@ module _ (lebs : FinMap nat_cmp (List ℕ)) (lnum size : ℕ) (text : List ℕ) 
   ]
 
 module _ (m : Meant) (is : IsMeaning m) (id lnum : ℕ) (new : List ℕ) (r : VolumeRecord) (lebs : FinMap nat_cmp (List ℕ))
-    (was : finite.get m.volumes id ≡ Some (record { entry = r; content = content.Dynamic lebs })) (inside : lnum < r.reserved)
+    (was : finite.get m.volumes id ≡ Some (record { entry = r; content = content.Dynamic lebs }))
+    (inside : lnum < r.reserved)
     (short : length new ≤ usable m.sizes r) where
   abbrev pub text : List ℕ
   text = filled (usable m.sizes r) new
@@ -80,7 +94,10 @@ module _ (m : Meant) (is : IsMeaning m) (id lnum : ℕ) (new : List ℕ) (r : Vo
   next = record m { volumes = finite.insert m.volumes id now }
 
   pub changed-is : changed m id lnum new ≡ next
-  changed-is = ap (λ (o : Option Volume). option_map_or (λ (v : Volume). record m { volumes = finite.insert m.volumes id (volume_with m.sizes v lnum new) }) o m) was
+  changed-is =
+      ap
+      (λ (o : Option Volume). option_map_or
+      (λ (v : Volume). record m { volumes = finite.insert m.volumes id (volume_with m.sizes v lnum new) }) o m) was
 
   long : length text ≡ usable m.sizes r
   long = length-filled (usable m.sizes r) new short
@@ -95,41 +112,60 @@ module _ (m : Meant) (is : IsMeaning m) (id lnum : ℕ) (new : List ℕ) (r : Vo
       record {
         slot = volume_was.slot;
         sound = volume_was.sound;
-        fits = (fits.0, fits.1, each_text lebs lnum (usable m.sizes r) text long (λ l t. (l < r.reserved) × (length t ≡ usable m.sizes r)) fits.2 (λ _. (inside, long)));
+        fits = (
+          fits.0,
+          fits.1,
+          each_text lebs lnum (usable m.sizes r) text long
+              (λ l t. (l < r.reserved) × (length t ≡ usable m.sizes r)) fits.2 (λ _. (inside, long)),
+        );
         kept = each_text lebs lnum (usable m.sizes r) text long (λ l t. t ≢ blank (usable m.sizes r)) kept (λ e. e);
       }
 
   -- each volume of the one has its record in the other
-  entries_same : (i : ℕ) → option_map (λ (v : Volume). v.entry) (finite.get next.volumes i) ≡ option_map (λ (v : Volume). v.entry) (finite.get m.volumes i)
+  entries_same : (i : ℕ) → option_map (λ (v : Volume). v.entry) (finite.get next.volumes i)
+      ≡ option_map (λ (v : Volume). v.entry) (finite.get m.volumes i)
   entries_same i = elim (cases_eq i id) [
-    | inl e ↦ subst (λ (k : ℕ). option_map (λ (v : Volume). v.entry) (finite.get next.volumes k) ≡ option_map (λ (v : Volume). v.entry) (finite.get m.volumes k)) (sym e)
-        (ap (option_map (λ (v : Volume). v.entry)) (insert_same m.volumes id now) ∙ sym (ap (option_map (λ (v : Volume). v.entry)) was))
+    | inl e ↦ subst (λ (k : ℕ). option_map (λ (v : Volume). v.entry) (finite.get next.volumes k)
+        ≡ option_map (λ (v : Volume). v.entry) (finite.get m.volumes k)) (sym e)
+        (ap (option_map (λ (v : Volume). v.entry)) (insert_same m.volumes id now)
+        ∙ sym (ap (option_map (λ (v : Volume). v.entry)) was))
     | inr e ↦ ap (option_map (λ (v : Volume). v.entry)) (insert_other m.volumes id now i e)
   ]
 
   pub records_same : records_of next ≡ records_of m
   records_same =
-      let same = finite.same_map nat_cmp_total nat_cmp-IsAntisymmetric (records_of next).of (records_of m).of (λ i. record_of next i ∙ entries_same i ∙ sym (record_of m i)) in
+      let same = finite.same_map nat_cmp_total nat_cmp-IsAntisymmetric (records_of next).of (records_of m).of
+      (λ i. record_of next i ∙ entries_same i ∙ sym (record_of m i)) in
       λ j. record { sizes = m.sizes; of = same j }
 
   -- a volume of the one is one of the other with the same record
-  was_volume : (i : ℕ) (v : Volume) → finite.get next.volumes i ≡ Some v → (w : Volume) × (finite.get m.volumes i ≡ Some w) × (w.entry ≡ v.entry)
+  was_volume : (i : ℕ) (v : Volume) → finite.get next.volumes i ≡ Some v
+      → (w : Volume) × (finite.get m.volumes i ≡ Some w) × (w.entry ≡ v.entry)
   was_volume i v e = elim (cases_eq i id) [
     | inl k ↦
-        let here : v ≡ now = same_Some v now (sym e ∙ ap (λ (j : ℕ). finite.get next.volumes j) k ∙ insert_same m.volumes id now) in
-        (record { entry = r; content = content.Dynamic lebs }, ap (λ (j : ℕ). finite.get m.volumes j) k ∙ was, ap (λ (v : Volume). v.entry) (sym here))
+        let here : v ≡ now = same_Some v now (sym e ∙ ap (λ (j : ℕ). finite.get next.volumes j) k
+        ∙ insert_same m.volumes id now) in (
+          record { entry = r; content = content.Dynamic lebs },
+          ap (λ (j : ℕ). finite.get m.volumes j) k
+              ∙ was,
+          ap (λ (v : Volume). v.entry) (sym here),
+        )
     | inr k ↦ (v, sym (insert_other m.volumes id now i k) ∙ e, refl)
   ]
 
   pub meaning_next : IsMeaning next
   meaning_next = record {
     each = λ i. elim (cases_eq i id) [
-      | inl e ↦ subst (λ (k : ℕ). IfSome (finite.get next.volumes k) (IsVolume m.sizes k)) (sym e) (subst (λ (o : Option Volume). IfSome o (IsVolume m.sizes id)) (sym (insert_same m.volumes id now)) volume_now)
-      | inr e ↦ subst (λ (o : Option Volume). IfSome o (IsVolume m.sizes i)) (sym (insert_other m.volumes id now i e)) (is.each i)
+      | inl e ↦ subst (λ (k : ℕ). IfSome (finite.get next.volumes k) (IsVolume m.sizes k)) (sym e)
+          (subst (λ (o : Option Volume). IfSome o (IsVolume m.sizes id)) (sym (insert_same m.volumes id now))
+          volume_now)
+      | inr e ↦ subst (λ (o : Option Volume). IfSome o (IsVolume m.sizes i)) (sym (insert_other m.volumes id now i e))
+          (is.each i)
     ];
     names = λ i j v w e f same.
         (let a = was_volume i v e in let b = was_volume j w f in
-        is.names i j a.0 b.0 a.1 b.1 (ap (λ (r : VolumeRecord). r.name) a.2 ∙ same ∙ ap (λ (r : VolumeRecord). r.name) (sym b.2)));
+        is.names i j a.0 b.0 a.1 b.1 (ap (λ (r : VolumeRecord). r.name) a.2 ∙ same
+        ∙ ap (λ (r : VolumeRecord). r.name) (sym b.2)));
     space = (let e = sym (space_of next) ∙ ap space records_same ∙ space_of m in let l = is.space in omega arith);
   }
 
@@ -149,7 +185,8 @@ module _ (m : Meant) (is : IsMeaning m) (id lnum : ℕ) (new : List ℕ) (r : Vo
 -- nothing changes where a LEB that reads 0xFF is made to
 pub unchanged : (m : Meant) → IsMeaning m → (id lnum : ℕ) (r : VolumeRecord) (lebs : FinMap nat_cmp (List ℕ))
     → finite.get m.volumes id ≡ Some (record { entry = r; content = content.Dynamic lebs })
-    → unwrap_or (finite.get lebs lnum) (blank (usable m.sizes r)) ≡ blank (usable m.sizes r) → IsChanged m m id lnum r (blank (usable m.sizes r))
+    → unwrap_or (finite.get lebs lnum) (blank (usable m.sizes r)) ≡ blank (usable m.sizes r)
+    → IsChanged m m id lnum r (blank (usable m.sizes r))
 unchanged m is id lnum r lebs was reads = record {
   sizes = refl;
   meaning = is;

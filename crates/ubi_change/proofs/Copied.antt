@@ -48,12 +48,16 @@ length_pages p n [] = refl
 length_pages p n (e ∷ es) = ap suc (length_pages p (n + 1) es)
 
 pub length-program_text : (s : Sizes) (p : ℕ) (new : List ℕ) → length (program_text s p new) ≡ pages_of s new
-length-program_text s p new = length_pages p (s.data_offset / s.page) (first_chunks s.page (pages_of s new) new) ∙ length-first_chunks s.page (pages_of s new) new
+length-program_text s p new = length_pages p (s.data_offset / s.page) (first_chunks s.page (pages_of s new) new)
+    ∙ length-first_chunks s.page (pages_of s new) new
 
-module _ (s : Sizes) (g : IsGeometry s) (ec vid : List ℕ) (ec_size : length ec ≡ 64) (vid_size : length vid ≡ 64) (p : ℕ) where
+module _ (s : Sizes) (g : IsGeometry s) (ec vid : List ℕ) (ec_size : length ec ≡ 64) (vid_size : length vid ≡ 64)
+    (p : ℕ) where
   -- the pages of a text, in order
   run_pages : (n j i : ℕ) (text rest : List ℕ) → length text ≡ i * s.page → n * s.page ≤ length rest → j ≤ n
-      → run s (laid s ec vid text) (take j (map (page_step p) (enumerate_from (s.data_offset / s.page + i) (first_chunks s.page n rest)))) ≡ laid s ec vid (text ++ take (j * s.page) rest)
+      → run s (laid s ec vid text)
+      (take j (map (page_step p) (enumerate_from (s.data_offset / s.page + i) (first_chunks s.page n rest))))
+      ≡ laid s ec vid (text ++ take (j * s.page) rest)
   run_pages n zero i text rest e room l =
       let none : 0 ≡ zero * s.page = omega arith in
       ap (laid s ec vid) (sym (append-nil text) ∙ ap (λ k. text ++ take k rest) none)
@@ -62,28 +66,41 @@ module _ (s : Sizes) (g : IsGeometry s) (ec vid : List ℕ) (ec_size : length ec
       let c = take s.page rest in
       let enough : s.page ≤ length rest = omega arith in
       let piece : length c ≡ s.page = length-take-le s.page rest enough in
-      let place : (s.data_offset / s.page + i) * s.page ≡ s.data_offset + i * s.page = (let d = data_pages s g in omega arith) in
+      let place : (s.data_offset / s.page + i) * s.page ≡ s.data_offset + i * s.page =
+      (let d = data_pages s g in omega arith) in
       let first : overwrite ((s.data_offset / s.page + i) * s.page) c (laid s ec vid text) ≡ laid s ec vid (text ++ c) =
       ap (λ k. overwrite k c (laid s ec vid text)) place ∙ page_written s g ec vid ec_size vid_size text c i e in
       let next : s.data_offset / s.page + i + 1 ≡ s.data_offset / s.page + (i + 1) = omega arith in
       let more : s.page + j * s.page ≡ suc j * s.page = omega arith in
       let rest_length = length-drop s.page rest in
-      ap (λ b. run s b (take j (map (page_step p) (enumerate_from (s.data_offset / s.page + i + 1) (first_chunks s.page n (drop s.page rest)))))) first
-      ∙ ap (λ k. run s (laid s ec vid (text ++ c)) (take j (map (page_step p) (enumerate_from k (first_chunks s.page n (drop s.page rest)))))) next
+      ap
+      (λ b. run s b
+      (take j
+      (map (page_step p) (enumerate_from (s.data_offset / s.page + i + 1)
+      (first_chunks s.page n (drop s.page rest)))))) first
+      ∙ ap
+      (λ k. run s (laid s ec vid (text ++ c))
+      (take j (map (page_step p) (enumerate_from k (first_chunks s.page n (drop s.page rest)))))) next
       ∙ run_pages n j (i + 1) (text ++ c) (drop s.page rest) (longer text c i e piece) (omega arith) (omega arith)
-      ∙ ap (laid s ec vid) (append_assoc text c (take (j * s.page) (drop s.page rest)) ∙ ap (λ ys. text ++ ys) (sym (take-add s.page (j * s.page) rest)) ∙ ap (λ k. text ++ take k rest) more)
+      ∙ ap (laid s ec vid) (append_assoc text c (take (j * s.page) (drop s.page rest))
+      ∙ ap (λ ys. text ++ ys) (sym (take-add s.page (j * s.page) rest)) ∙ ap (λ k. text ++ take k rest) more)
     where
-      longer : (text c : List ℕ) (i : ℕ) → length text ≡ i * s.page → length c ≡ s.page → length (text ++ c) ≡ (i + 1) * s.page
+      longer : (text c : List ℕ) (i : ℕ) → length text ≡ i * s.page → length c ≡ s.page
+          → length (text ++ c) ≡ (i + 1) * s.page
       longer text c i e f = lists.length-append text c ∙ omega arith
 
-  pub run_text : (new : List ℕ) (j : ℕ) → pages_of s new * s.page ≡ length new → j ≤ pages_of s new → run s (laid s ec vid []) (take j (program_text s p new)) ≡ laid s ec vid (take (j * s.page) new)
+  pub run_text : (new : List ℕ) (j : ℕ) → pages_of s new * s.page ≡ length new → j ≤ pages_of s new
+      → run s (laid s ec vid []) (take j (program_text s p new)) ≡ laid s ec vid (take (j * s.page) new)
   run_text new j paged l =
       let start : s.data_offset / s.page ≡ s.data_offset / s.page + 0 = omega arith in
-      ap (λ k. run s (laid s ec vid []) (take j (map (page_step p) (enumerate_from k (first_chunks s.page (pages_of s new) new))))) start
+      ap
+      (λ k. run s (laid s ec vid [])
+      (take j (map (page_step p) (enumerate_from k (first_chunks s.page (pages_of s new) new))))) start
       ∙ run_pages (pages_of s new) j 0 [] new (omega arith) (omega arith) l
 
 -- an eraseblock that was made ready, a header for it, and a text
-pub record IsCopy (s : Sizes) (bs : List (List ℕ)) (seq : ℕ) (of : Leb) (bytes : List ℕ) (e : EcHeader) (h : VidHeader) (new : List ℕ) : Type 0 where
+pub record IsCopy (s : Sizes) (bs : List (List ℕ)) (seq : ℕ) (of : Leb) (bytes : List ℕ) (e : EcHeader) (h : VidHeader)
+    (new : List ℕ) : Type 0 where
   pub size : length bytes ≡ 64
   pub reads : ec_reading s bytes ≡ ec_read.Valid e
   pub image : e.image_seq ≢ 0 → e.image_seq ≡ seq
@@ -100,7 +117,8 @@ pub record IsCopy (s : Sizes) (bs : List (List ℕ)) (seq : ℕ) (of : Leb) (byt
   pub room : s.data_offset + length new ≤ s.peb_size
   pub strong : weak_place s new ≡ None
 
-module _ (s : Sizes) (g : IsGeometry s) (bs : List (List ℕ)) (b : ℕ) (inside : b < length bs) (seq : ℕ) (of : Leb) (bytes : List ℕ) (e : EcHeader) (h : VidHeader) (new : List ℕ)
+module _ (s : Sizes) (g : IsGeometry s) (bs : List (List ℕ)) (b : ℕ) (inside : b < length bs) (seq : ℕ) (of : Leb)
+    (bytes : List ℕ) (e : EcHeader) (h : VidHeader) (new : List ℕ)
     (c : IsCopy s bs seq of bytes e h new) (P Q : List (List ℕ) → Type 0) where
   -- the eraseblock with j pages of the text
   abbrev pub part_at : ℕ → List ℕ
@@ -122,29 +140,36 @@ module _ (s : Sizes) (g : IsGeometry s) (bs : List (List ℕ)) (b : ℕ) (inside
   within j l = let f = front j l in let k = short j l in let r = c.room in omega arith
 
   pub mount_at : (j : ℕ) → j ≤ pages_of s new → IsMount s seq bs of h (part_at j)
-  mount_at j l = part-mount s g bytes e c.size c.reads h c.fits c.sound c.known c.placed (take (j * s.page) new) (within j l) seq bs of c.image c.named c.above
+  mount_at j l = part-mount s g bytes e c.size c.reads h c.fits c.sound c.known c.placed (take (j * s.page) new)
+      (within j l) seq bs of c.image c.named c.above
 
-  pub leb_at : (j : ℕ) → j ≤ pages_of s new → leb s (part_at j) ≡ take (j * s.page) new ++ blank (s.peb_size - (s.data_offset + j * s.page))
+  pub leb_at : (j : ℕ) → j ≤ pages_of s new → leb s (part_at j) ≡ take (j * s.page) new
+      ++ blank (s.peb_size - (s.data_offset + j * s.page))
   leb_at j l =
       leb-part s g bytes e c.size c.reads h c.fits c.sound c.known c.placed (take (j * s.page) new) (within j l)
       ∙ ap (λ n. take (j * s.page) new ++ blank (s.peb_size - (s.data_offset + n))) (front j l)
 
   pub good_at : (j : ℕ) → j ≤ pages_of s new → is_good s (part_at j) h ≡ (check (torn s new j) == check new)
   good_at j l =
-      part-good s (part_at j) h new j (s.peb_size - (s.data_offset + j * s.page)) c.copied c.data_size c.data_crc (short j l) (leb_at j l)
+      part-good s (part_at j) h new j (s.peb_size - (s.data_offset + j * s.page)) c.copied c.data_size c.data_crc
+      (short j l) (leb_at j l)
       (let k = short j l in let r = c.room in omega arith)
 
   -- from the place on where the text is whole, the LEB reads it
-  pub whole_at : (j : ℕ) → whole_place s new ≤ j → j ≤ pages_of s new → leb s (part_at j) ≡ new ++ blank (s.peb_size - (s.data_offset + length new))
+  pub whole_at : (j : ℕ) → whole_place s new ≤ j → j ≤ pages_of s new
+      → leb s (part_at j) ≡ new ++ blank (s.peb_size - (s.data_offset + length new))
   whole_at j w l =
       let k = short j l in
       let r = c.room in
-      let sum : (length new - j * s.page) + (s.peb_size - (s.data_offset + length new)) ≡ s.peb_size - (s.data_offset + j * s.page) = omega arith in
+      let sum : (length new - j * s.page) + (s.peb_size - (s.data_offset + length new))
+      ≡ s.peb_size - (s.data_offset + j * s.page) = omega arith in
       let torn_is : take (j * s.page) new ++ blank (length new - j * s.page) ≡ new =
       sym (filled-by (length new) (j * s.page) (take (j * s.page) new) (front j l)) ∙ whole-from s new c.paged j w l in
       leb_at j l
-      ∙ ap (λ ys. take (j * s.page) new ++ ys) (sym (join_blank (length new - j * s.page) (s.peb_size - (s.data_offset + length new)) ∙ ap blank sum))
-      ∙ sym (append_assoc (take (j * s.page) new) (blank (length new - j * s.page)) (blank (s.peb_size - (s.data_offset + length new))))
+      ∙ ap (λ ys. take (j * s.page) new ++ ys)
+      (sym (join_blank (length new - j * s.page) (s.peb_size - (s.data_offset + length new)) ∙ ap blank sum))
+      ∙ sym (append_assoc (take (j * s.page) new) (blank (length new - j * s.page))
+      (blank (s.peb_size - (s.data_offset + length new))))
       ∙ ap (λ ys. ys ++ blank (s.peb_size - (s.data_offset + length new))) torn_is
 
   abbrev pub copy_steps : List Step
@@ -155,23 +180,30 @@ module _ (s : Sizes) (g : IsGeometry s) (bs : List (List ℕ)) (b : ℕ) (inside
 
   run_steps : (j : ℕ) → j ≤ pages_of s new → run s (filled s.peb_size bytes) (take (suc j) copy_steps) ≡ part_at j
   run_steps j l =
-      ap (λ y. run s y (take j (program_text s b new))) (header_written s g bytes (vid_bytes h) c.size vid_size) ∙ run_text s g bytes (vid_bytes h) c.size vid_size b new j paged l
+      ap (λ y. run s y (take j (program_text s b new))) (header_written s g bytes (vid_bytes h) c.size vid_size)
+      ∙ run_text s g bytes (vid_bytes h) c.size vid_size b new j paged l
 
   start_inside : b < length (set bs b (filled s.peb_size bytes))
   start_inside = omega (arith, lists.length-set bs b (filled s.peb_size bytes))
 
-  after_steps : (j : ℕ) → j ≤ pages_of s new → after s (set bs b (filled s.peb_size bytes)) copy_steps (suc j) ≡ set bs b (part_at j)
+  after_steps : (j : ℕ) → j ≤ pages_of s new → after s (set bs b (filled s.peb_size bytes)) copy_steps (suc j)
+      ≡ set bs b (part_at j)
   after_steps j l =
       after-on s (set bs b (filled s.peb_size bytes)) b copy_steps (suc j) start_inside on_steps
-      ∙ ap (λ y. set (set bs b (filled s.peb_size bytes)) b (run s y (take (suc j) copy_steps))) (get_or-set_same bs b (filled s.peb_size bytes) [] inside)
-      ∙ ap (set (set bs b (filled s.peb_size bytes)) b) (run_steps j l) ∙ set-set bs b (filled s.peb_size bytes) (part_at j)
+      ∙ ap (λ y. set (set bs b (filled s.peb_size bytes)) b (run s y (take (suc j) copy_steps)))
+      (get_or-set_same bs b (filled s.peb_size bytes) [] inside)
+      ∙ ap (set (set bs b (filled s.peb_size bytes)) b) (run_steps j l)
+      ∙ set-set bs b (filled s.peb_size bytes) (part_at j)
 
   length_steps : length copy_steps ≡ suc (pages_of s new)
   length_steps = ap suc (length-program_text s b new)
 
-  -- what holds of the start and while the copy is bad holds before the turn, and what holds with the whole copy from it on
-  pub copy_turns : P (set bs b (filled s.peb_size bytes)) → ((x : List ℕ) → IsMount s seq bs of h x → is_good s x h ≡ false → P (set bs b x))
-      → ((x : List ℕ) → IsMount s seq bs of h x → is_good s x h ≡ true → leb s x ≡ new ++ blank (s.peb_size - (s.data_offset + length new)) → Q (set bs b x))
+  -- what holds of the start and while the copy is bad holds before the turn, and what holds with the whole copy from it
+  -- on
+  pub copy_turns : P (set bs b (filled s.peb_size bytes))
+      → ((x : List ℕ) → IsMount s seq bs of h x → is_good s x h ≡ false → P (set bs b x))
+      → ((x : List ℕ) → IsMount s seq bs of h x → is_good s x h ≡ true
+      → leb s x ≡ new ++ blank (s.peb_size - (s.data_offset + length new)) → Q (set bs b x))
       → TurnsAt s P Q (set bs b (filled s.peb_size bytes)) copy_steps (suc (whole_place s new))
   copy_turns start bad good = record {
     comes = (let m = whole_place-is s new c.paged in let k = m.most in let n = length_steps in omega arith);
@@ -187,32 +219,45 @@ module _ (s : Sizes) (g : IsGeometry s) (bs : List (List ℕ)) (b : ℕ) (inside
       before (suc j) l =
           let most = place in
           let m : j ≤ pages_of s new = omega arith in
-          subst P (sym (after_steps j m)) (bad (part_at j) (mount_at j m) (good_at j m ∙ told-before s new c.paged c.strong j (omega arith)))
+          subst P (sym (after_steps j m))
+          (bad (part_at j) (mount_at j m) (good_at j m ∙ told-before s new c.paged c.strong j (omega arith)))
 
-      from : (k : ℕ) → suc (whole_place s new) ≤ k → k ≤ length copy_steps → Q (after s (set bs b (filled s.peb_size bytes)) copy_steps k)
+      from : (k : ℕ) → suc (whole_place s new) ≤ k → k ≤ length copy_steps
+          → Q (after s (set bs b (filled s.peb_size bytes)) copy_steps k)
       from zero l n = absurd (omega arith)
       from (suc j) l n =
           let m : j ≤ pages_of s new = (let k = length_steps in omega arith) in
           let w : whole_place s new ≤ j = omega arith in
-          subst Q (sym (after_steps j m)) (good (part_at j) (mount_at j m) (good_at j m ∙ told-from s new c.paged j w m) (whole_at j w m))
+          subst Q (sym (after_steps j m))
+          (good (part_at j) (mount_at j m) (good_at j m ∙ told-from s new c.paged j w m) (whole_at j w m))
 
   -- the eraseblocks once the copy is written
-  pub copy_done : after s (set bs b (filled s.peb_size bytes)) copy_steps (length copy_steps) ≡ set bs b (part_at (pages_of s new))
-  copy_done = ap (after s (set bs b (filled s.peb_size bytes)) copy_steps) length_steps ∙ after_steps (pages_of s new) (omega arith)
+  pub copy_done : after s (set bs b (filled s.peb_size bytes)) copy_steps (length copy_steps)
+      ≡ set bs b (part_at (pages_of s new))
+  copy_done = ap (after s (set bs b (filled s.peb_size bytes)) copy_steps) length_steps
+      ∙ after_steps (pages_of s new) (omega arith)
 
   -- the whole atomic copy: made ready by some steps, written, and then what was there before is given up by others
-  pub atomic_turns : (prep rel : List Step) → AtEachCut s P bs prep → done s bs prep ≡ set bs b (filled s.peb_size bytes)
+  pub atomic_turns : (prep rel : List Step) → AtEachCut s P bs prep
+      → done s bs prep ≡ set bs b (filled s.peb_size bytes)
       → ((x : List ℕ) → IsMount s seq bs of h x → is_good s x h ≡ false → P (set bs b x))
-      → ((x : List ℕ) → IsMount s seq bs of h x → is_good s x h ≡ true → leb s x ≡ new ++ blank (s.peb_size - (s.data_offset + length new)) → Q (set bs b x))
+      → ((x : List ℕ) → IsMount s seq bs of h x → is_good s x h ≡ true
+      → leb s x ≡ new ++ blank (s.peb_size - (s.data_offset + length new)) → Q (set bs b x))
       → AtEachCut s Q (set bs b (part_at (pages_of s new))) rel
-      → TurnsAt s P Q bs ((prep ++ program_header s b bytes h ∷ []) ++ program_text s b new ++ rel) (length prep + suc (whole_place s new))
+      → TurnsAt s P Q bs ((prep ++ program_header s b bytes h ∷ []) ++ program_text s b new ++ rel)
+      (length prep + suc (whole_place s new))
   atomic_turns prep rel early ready bad good late =
-      let start : P (set bs b (filled s.peb_size bytes)) = subst P (after-all s bs prep ∙ ready) (early (length prep) (omega arith)) in
+      let start : P (set bs b (filled s.peb_size bytes)) = subst P (after-all s bs prep ∙ ready)
+      (early (length prep) (omega arith)) in
       let turns = copy_turns start bad good in
       let first : TurnsAt s P Q bs (prep ++ copy_steps) (length prep + suc (whole_place s new)) =
-      turns-behind s P Q bs prep copy_steps (suc (whole_place s new)) early (subst (λ (z : List (List ℕ)). TurnsAt s P Q z copy_steps (suc (whole_place s new))) (sym ready) turns) in
+      turns-behind s P Q bs prep copy_steps (suc (whole_place s new)) early
+      (subst (λ (z : List (List ℕ)). TurnsAt s P Q z copy_steps (suc (whole_place s new))) (sym ready) turns) in
       let end : done s bs (prep ++ copy_steps) ≡ set bs b (part_at (pages_of s new)) =
-      fold-append (step_done s) bs prep copy_steps ∙ ap (λ (z : List (List ℕ)). done s z copy_steps) ready ∙ sym (after-all s (set bs b (filled s.peb_size bytes)) copy_steps) ∙ copy_done in
-      let joined : prep ++ copy_steps ≡ (prep ++ program_header s b bytes h ∷ []) ++ program_text s b new = sym (append_assoc prep (program_header s b bytes h ∷ []) (program_text s b new)) in
+      fold-append (step_done s) bs prep copy_steps ∙ ap (λ (z : List (List ℕ)). done s z copy_steps) ready
+      ∙ sym (after-all s (set bs b (filled s.peb_size bytes)) copy_steps) ∙ copy_done in
+      let joined : prep ++ copy_steps ≡ (prep ++ program_header s b bytes h ∷ []) ++ program_text s b new =
+      sym (append_assoc prep (program_header s b bytes h ∷ []) (program_text s b new)) in
       subst (λ (xs : List Step). TurnsAt s P Q bs (xs ++ rel) (length prep + suc (whole_place s new))) joined
-      (turns-before s P Q bs (prep ++ copy_steps) rel (length prep + suc (whole_place s new)) first (subst (λ (z : List (List ℕ)). AtEachCut s Q z rel) (sym end) late))
+      (turns-before s P Q bs (prep ++ copy_steps) rel (length prep + suc (whole_place s new)) first
+      (subst (λ (z : List (List ℕ)). AtEachCut s Q z rel) (sym end) late))

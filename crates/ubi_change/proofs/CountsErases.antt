@@ -51,7 +51,8 @@ other_test q p e = grind (arith, nat_tests)
 same_test : (p : ℕ) → (p == p) ≡ true
 same_test p = grind (arith, nat_tests)
 
-pub erases-append : (p : ℕ) (xs ys : List Step) → count_by (erases p) (xs ++ ys) ≡ count_by (erases p) xs + count_by (erases p) ys
+pub erases-append : (p : ℕ) (xs ys : List Step)
+    → count_by (erases p) (xs ++ ys) ≡ count_by (erases p) xs + count_by (erases p) ys
 erases-append p xs ys = sum_by-append (λ x. cond (erases p x) 1 0) xs ys
 
 abbrev more : ℕ → ℕ → Step → ℕ
@@ -72,13 +73,16 @@ erases_none : (s : Sizes) (q p : ℕ) (xs : List Step) → AllOn s q xs → p �
 erases_none s q p xs on apart = none_from s q p 0 xs on apart
 
 -- nor do programs of pages
-pages_from : (p q n i : ℕ) (es : List (List ℕ)) → fold (more p) n (map (λ e. step.Program q e.0 e.1) (enumerate_from i es)) ≡ n
+pages_from : (p q n i : ℕ) (es : List (List ℕ))
+    → fold (more p) n (map (λ e. step.Program q e.0 e.1) (enumerate_from i es)) ≡ n
 pages_from p q n i [] = refl
 pages_from p q n i (e ∷ es) =
     let same : more p n (step.Program q i e) ≡ n = omega arith in
-    ap (λ k. fold (more p) k (map (λ e. step.Program q e.0 e.1) (enumerate_from (i + 1) es))) same ∙ pages_from p q n (i + 1) es
+    ap (λ k. fold (more p) k (map (λ e. step.Program q e.0 e.1) (enumerate_from (i + 1) es))) same
+    ∙ pages_from p q n (i + 1) es
 
-pages_on : (s : Sizes) (q i : ℕ) (es : List (List ℕ)) → AllOn s q (map (λ e. step.Program q e.0 e.1) (enumerate_from i es))
+pages_on : (s : Sizes) (q i : ℕ) (es : List (List ℕ))
+    → AllOn s q (map (λ e. step.Program q e.0 e.1) (enumerate_from i es))
 pages_on s q i [] = tt
 pages_on s q i (e ∷ es) = (refl, pages_on s q (i + 1) es)
 
@@ -102,41 +106,49 @@ module _ (s : Sizes) (g : IsGeometry s) (bs : List (List ℕ)) (a : Whole) where
   AllCounted steps = (p : ℕ) → ec s (block (done s bs steps) p) ≡ ec_after p (count_by (erases p) steps)
 
   counted : (steps : List Step) → AllCounted steps → CountsErases s bs a steps
-  counted steps all p some = ap (λ (z : List (List ℕ)). ec s (block z p)) (after-all s bs steps) ∙ by_count (count_by (erases p) steps) (ec s (block (done s bs steps) p)) some (all p)
+  counted steps all p some = ap (λ (z : List (List ℕ)). ec s (block z p)) (after-all s bs steps)
+      ∙ by_count (count_by (erases p) steps) (ec s (block (done s bs steps) p)) some (all p)
     where
-      by_count : (n : ℕ) (r : EcRead) → 1 ≤ n → r ≡ ec_after p n → r ≡ ec_read.Valid (record { counter = counter_after s bs a p n; image_seq = a.scan.image_seq })
+      by_count : (n : ℕ) (r : EcRead) → 1 ≤ n → r ≡ ec_after p n
+          → r ≡ ec_read.Valid (record { counter = counter_after s bs a p n; image_seq = a.scan.image_seq })
       by_count zero r l e = absurd (omega arith)
       by_count (suc n) r l e = e
 
   -- steps on one eraseblock that leave it with the header that is due
-  counted_at : (front piece : List Step) (b : ℕ) (y : List ℕ) → AllCounted front → b < length bs → AllOn s b piece → done s (done s bs front) piece ≡ set (done s bs front) b y
+  counted_at : (front piece : List Step) (b : ℕ) (y : List ℕ) → AllCounted front → b < length bs → AllOn s b piece
+      → done s (done s bs front) piece ≡ set (done s bs front) b y
       → ec s y ≡ ec_after b (count_by (erases b) (front ++ piece)) → AllCounted (front ++ piece)
-  counted_at front piece b y all inside on leaves due p = ap (λ (z : List (List ℕ)). ec s (block z p)) (fold-append (step_done s) bs front piece ∙ leaves) ∙ elim (cases_eq p b) [
-    | inl same ↦
-        ap (λ q. ec s (block (set (done s bs front) b y) q)) same ∙ ap (ec s) (block_same s (done s bs front) b y within) ∙ due
-        ∙ ap (λ q. ec_after q (count_by (erases q) (front ++ piece))) (sym same)
-    | inr apart ↦
-        let none : count_by (erases p) (front ++ piece) ≡ count_by (erases p) front =
-        (let k = erases-append p front piece in let z = erases_none s b p piece on apart in omega arith) in
-        ap (ec s) (block_other s (done s bs front) b y within p apart) ∙ all p ∙ ap (ec_after p) (sym none)
-  ]
+  counted_at front piece b y all inside on leaves due p = ap (λ (z : List (List ℕ)). ec s (block z p))
+      (fold-append (step_done s) bs front piece ∙ leaves) ∙ elim (cases_eq p b) [
+        | inl same ↦
+            ap (λ q. ec s (block (set (done s bs front) b y) q)) same
+            ∙ ap (ec s) (block_same s (done s bs front) b y within) ∙ due
+            ∙ ap (λ q. ec_after q (count_by (erases q) (front ++ piece))) (sym same)
+        | inr apart ↦
+            let none : count_by (erases p) (front ++ piece) ≡ count_by (erases p) front =
+            (let k = erases-append p front piece in let z = erases_none s b p piece on apart in omega arith) in
+            ap (ec s) (block_other s (done s bs front) b y within p apart) ∙ all p ∙ ap (ec_after p) (sym none)
+      ]
     where
       within : b < length (done s bs front)
       within = let n = length-done s bs front in omega arith
 
-  first_count : (o : Option EcHeader) → option_map_or (λ h. h.counter + 1) o a.scan.mean_ec ≡ option_map_or (λ h. h.counter + 1) o (a.scan.mean_ec + 1 - 1)
+  first_count : (o : Option EcHeader) → option_map_or (λ h. h.counter + 1) o a.scan.mean_ec
+      ≡ option_map_or (λ h. h.counter + 1) o (a.scan.mean_ec + 1 - 1)
   first_count None = omega arith
   first_count (Some h) = refl
 
   -- an eraseblock that was made ready has the header that is due
-  ready_due : (b : ℕ) (e : EcHeader) → ready_ec s bs a b ≡ Some e → ec_read.Valid e ≡ ec_after b (count_by (erases b) (prepare s bs a b))
+  ready_due : (b : ℕ) (e : EcHeader) → ready_ec s bs a b ≡ Some e
+      → ec_read.Valid e ≡ ec_after b (count_by (erases b) (prepare s bs a b))
   ready_due b e is = by_test (is_clean s bs a.states b) is
     where
       by_test : (t : Bool) → cond t (ec_at s bs b) (Some (next_ec a.scan (ec_at s bs b))) ≡ Some e
           → ec_read.Valid e ≡ ec_after b (count_by (erases b) (cond t [] (renew s b (next_ec a.scan (ec_at s bs b)))))
       by_test true h = sym (valid_back (ec s (block bs b)) e h)
       by_test false h =
-          ap ec_read.Valid (sym (same_Some _ _ h) ∙ ap (λ n. record { counter = n; image_seq = a.scan.image_seq }) (first_count (ec_at s bs b)))
+          ap ec_read.Valid (sym (same_Some _ _ h)
+          ∙ ap (λ n. record { counter = n; image_seq = a.scan.image_seq }) (first_count (ec_at s bs b)))
           ∙ ap (ec_after b) (sym (renew_once s b (next_ec a.scan (ec_at s bs b))))
 
   prepare_on : (b : ℕ) → AllOn s b (prepare s bs a b)
@@ -147,26 +159,33 @@ module _ (s : Sizes) (g : IsGeometry s) (bs : List (List ℕ)) (a : Whole) where
       by_test false = (refl, (refl, tt))
 
   next_due : (p : ℕ) → ec_read.Valid (next_ec a.scan (ec_at s bs p)) ≡ ec_after p 1
-  next_due p = ap ec_read.Valid (ap (λ n. record { counter = n; image_seq = a.scan.image_seq }) (first_count (ec_at s bs p)))
+  next_due p = ap ec_read.Valid
+      (ap (λ n. record { counter = n; image_seq = a.scan.image_seq }) (first_count (ec_at s bs p)))
 
   -- and so has one that is given up behind that
-  again_due : (p : ℕ) → ec_read.Valid (next_ec a.scan (ready_ec s bs a p)) ≡ ec_after p (suc (count_by (erases p) (prepare s bs a p)))
+  again_due : (p : ℕ) → ec_read.Valid (next_ec a.scan (ready_ec s bs a p))
+      ≡ ec_after p (suc (count_by (erases p) (prepare s bs a p)))
   again_due p = by_test (is_clean s bs a.states p)
     where
-      second_count : (o : Option EcHeader) → option_map_or (λ h. h.counter + 1) o a.scan.mean_ec + 1 ≡ option_map_or (λ h. h.counter + 2) o (a.scan.mean_ec + 2 - 1)
+      second_count : (o : Option EcHeader) → option_map_or (λ h. h.counter + 1) o a.scan.mean_ec + 1
+          ≡ option_map_or (λ h. h.counter + 2) o (a.scan.mean_ec + 2 - 1)
       second_count None = omega arith
       second_count (Some h) = omega arith
 
-      by_test : (t : Bool) → ec_read.Valid (next_ec a.scan (cond t (ec_at s bs p) (Some (next_ec a.scan (ec_at s bs p)))))
+      by_test : (t : Bool)
+          → ec_read.Valid (next_ec a.scan (cond t (ec_at s bs p) (Some (next_ec a.scan (ec_at s bs p)))))
           ≡ ec_after p (suc (count_by (erases p) (cond t [] (renew s p (next_ec a.scan (ec_at s bs p))))))
       by_test true = next_due p
       by_test false =
-          ap ec_read.Valid (ap (λ n. record { counter = n; image_seq = a.scan.image_seq }) (second_count (ec_at s bs p)))
+          ap ec_read.Valid (ap (λ n. record { counter = n; image_seq = a.scan.image_seq })
+          (second_count (ec_at s bs p)))
           ∙ ap (λ n. ec_after p (suc n)) (sym (renew_once s p (next_ec a.scan (ec_at s bs p))))
 
   -- an eraseblock is given up
-  release_counted : (front : List Step) (p : ℕ) (now : Option EcHeader) → AllCounted front → p < length bs → (is_worn now ≡ false → IsCounter (next_ec a.scan now))
-      → ec_read.Valid (next_ec a.scan now) ≡ ec_after p (suc (count_by (erases p) front)) → AllCounted (front ++ release s bs a p now)
+  release_counted : (front : List Step) (p : ℕ) (now : Option EcHeader) → AllCounted front → p < length bs
+      → (is_worn now ≡ false → IsCounter (next_ec a.scan now))
+      → ec_read.Valid (next_ec a.scan now) ≡ ec_after p (suc (count_by (erases p) front))
+      → AllCounted (front ++ release s bs a p now)
   release_counted front p now all inside counter due = by_test (is_worn now) refl
     where
       by_test : (t : Bool) → is_worn now ≡ t → AllCounted (front ++ cond t [] (renew s p (next_ec a.scan now)))
@@ -177,12 +196,15 @@ module _ (s : Sizes) (g : IsGeometry s) (bs : List (List ℕ)) (a : Whole) where
           (let k = erases-append p front (renew s p e) in let n = renew_once s p e in omega arith) in
           counted_at front (renew s p e) p (filled s.peb_size (ec_bytes s e)) all inside (refl, (refl, tt))
           (renewed s g e (counter w) (done s bs front) p (let n = length-done s bs front in omega arith))
-          (ec-bare s g (ec_bytes s e) e (counter_size s g e (counter w)) (counter_back s g e (counter w)) ∙ due ∙ ap (ec_after p) once)
+          (ec-bare s g (ec_bytes s e) e (counter_size s g e (counter w)) (counter_back s g e (counter w)) ∙ due
+          ∙ ap (ec_after p) once)
 
   -- an eraseblock is made ready, and gets a header
-  module _ (front : List Step) (all : AllCounted front) (b : ℕ) (inside : b < length bs) (never : count_by (erases b) front ≡ 0) (e : EcHeader) (is : ready_ec s bs a b ≡ Some e)
+  module _ (front : List Step) (all : AllCounted front) (b : ℕ) (inside : b < length bs)
+      (never : count_by (erases b) front ≡ 0) (e : EcHeader) (is : ready_ec s bs a b ≡ Some e)
       (size : length (ready_bytes s bs a b) ≡ 64) (reads : ec_reading s (ready_bytes s bs a b) ≡ ec_read.Valid e)
-      (ready : done s (done s bs front) (prepare s bs a b) ≡ set (done s bs front) b (filled s.peb_size (ready_bytes s bs a b))) (h : VidHeader) where
+      (ready : done s (done s bs front) (prepare s bs a b)
+      ≡ set (done s bs front) b (filled s.peb_size (ready_bytes s bs a b))) (h : VidHeader) where
     abbrev bytes : List ℕ
     bytes = ready_bytes s bs a b
 
@@ -238,7 +260,8 @@ module _ (s : Sizes) (g : IsGeometry s) (bs : List (List ℕ)) (a : Whole) where
       run_all =
           let n = length-program_text s b new in
           let p = pages-all s new paged in
-          ap (run s (part [])) (sym (take_all (pages_of s new) text (omega arith))) ∙ run_text s g bytes (vid_bytes h) size refl b new (pages_of s new) p (omega arith)
+          ap (run s (part [])) (sym (take_all (pages_of s new) text (omega arith)))
+          ∙ run_text s g bytes (vid_bytes h) size refl b new (pages_of s new) p (omega arith)
           ∙ ap part (take_all (pages_of s new * s.page) new (omega arith))
 
       written_leaves : done s cs (mount s bs a b h ++ text) ≡ set cs b (part new)
@@ -248,13 +271,15 @@ module _ (s : Sizes) (g : IsGeometry s) (bs : List (List ℕ)) (a : Whole) where
           ∙ ap (λ y. set (set cs b (part [])) b (run s y text)) (get_or-set_same cs b (part []) [] within)
           ∙ set-set cs b (part []) (run s (part []) text) ∙ ap (set cs b) run_all
 
-      written_erases : count_by (erases b) (front ++ (mount s bs a b h ++ text)) ≡ count_by (erases b) (prepare s bs a b)
+      written_erases : count_by (erases b) (front ++ (mount s bs a b h ++ text))
+          ≡ count_by (erases b) (prepare s bs a b)
       written_erases =
           let n = erases-append b front (mount s bs a b h ++ text) in
           let m = erases-append b (mount s bs a b h) text in
           let k = erases-append b front (mount s bs a b h) in
           let j = mount_erases in
-          let z : count_by (erases b) text ≡ 0 = pages_from b b 0 (s.data_offset / s.page) (first_chunks s.page (pages_of s new) new) in
+          let z : count_by (erases b) text ≡ 0 = pages_from b b 0 (s.data_offset / s.page)
+          (first_chunks s.page (pages_of s new) new) in
           omega arith
 
       written_counted : AllCounted (front ++ (mount s bs a b h ++ text))
@@ -262,8 +287,10 @@ module _ (s : Sizes) (g : IsGeometry s) (bs : List (List ℕ)) (a : Whole) where
           counted_at front (mount s bs a b h ++ text) b (part new) all inside written_on written_leaves
           (ec_part new room ∙ ready_due b e is ∙ ap (ec_after b) (sym written_erases))
 
-module _ (image : Image) (g : IsGeometry image.sizes) (a : Whole) (att : IsAttached image a) (few : a.scan.mean_ec < 2 ^ 31) (narrow : a.scan.image_seq < 2 ^ 32)
-    (id lnum : ℕ) (new : List ℕ) (v : Volume) (there : finite.get a.meaning.volumes id ≡ Some v) (allowed : first_cause image.sizes (eraseblocks image) a id lnum new ≡ None)
+module _ (image : Image) (g : IsGeometry image.sizes) (a : Whole) (att : IsAttached image a)
+    (few : a.scan.mean_ec < 2 ^ 31) (narrow : a.scan.image_seq < 2 ^ 32)
+    (id lnum : ℕ) (new : List ℕ) (v : Volume) (there : finite.get a.meaning.volumes id ≡ Some v)
+    (allowed : first_cause image.sizes (eraseblocks image) a id lnum new ≡ None)
     (half : data_pad image.sizes v.entry < leb_size image.sizes / 2) (bounded : v.entry.reserved < 2 ^ 31) where
   abbrev s : Sizes
   s = image.sizes
@@ -272,7 +299,8 @@ module _ (image : Image) (g : IsGeometry image.sizes) (a : Whole) (att : IsAttac
   bs = eraseblocks image
 
   room : s.data_offset + length new ≤ s.peb_size
-  room = let l = attached.fits_leb image g a att few narrow id lnum new v there allowed half bounded in let k = g.leb in omega arith
+  room = let l = attached.fits_leb image g a att few narrow id lnum new v there allowed half bounded in let k = g.leb in
+      omega arith
 
   paged : length new % s.page ≡ 0
   paged = (attached.no_cause image g a att few narrow id lnum new v there allowed half bounded).is_new.paged
@@ -280,7 +308,8 @@ module _ (image : Image) (g : IsGeometry image.sizes) (a : Whole) (att : IsAttac
   start : AllCounted s g bs a []
   start p = refl
 
-  mapped_counts : (old : ℕ) → finite.get a.scan.winners (id, lnum) ≡ Some old → AllCounted s g bs a (mapped_plan s bs a v.entry id lnum new (taken s bs a 0) old)
+  mapped_counts : (old : ℕ) → finite.get a.scan.winners (id, lnum) ≡ Some old
+      → AllCounted s g bs a (mapped_plan s bs a v.entry id lnum new (taken s bs a 0) old)
   mapped_counts old found =
       let made = attached.made image g a att few narrow id lnum new v there allowed half bounded old found in
       let may = attached.may image g a att few narrow id lnum new v there allowed half bounded old found in
@@ -288,13 +317,17 @@ module _ (image : Image) (g : IsGeometry image.sizes) (a : Whole) (att : IsAttac
       let b = taken s bs a 0 in
       let h = copy_header 0 (data_pad s v.entry) id lnum (a.scan.top_sqnum + 1) new in
       let written : List Step = mount s bs a b h ++ program_text s b new in
-      let all : AllCounted s g bs a written = written_counted s g bs a [] start b may.0 refl made.0 made.1 made.2.size made.2.reads made.2.ready h new paged room in
-      let on : AllOn s b written = written_on s g bs a [] start b may.0 refl made.0 made.1 made.2.size made.2.reads made.2.ready h new paged room in
+      let all : AllCounted s g bs a written = written_counted s g bs a [] start b may.0 refl made.0 made.1 made.2.size
+      made.2.reads made.2.ready h new paged room in
+      let on : AllOn s b written = written_on s g bs a [] start b may.0 refl made.0 made.1 made.2.size made.2.reads
+      made.2.ready h new paged room in
       let never : count_by (erases old) written ≡ 0 = erases_none s b old written on apart in
-      release_counted s g bs a written old (ec_at s bs old) all (found_wins s bs a.scan att.scan (id, lnum) old found).member.inside (next_counter s bs a few narrow old)
+      release_counted s g bs a written old (ec_at s bs old) all
+      (found_wins s bs a.scan att.scan (id, lnum) old found).member.inside (next_counter s bs a few narrow old)
       (next_due s g bs a old ∙ ap (λ n. ec_after s g bs a old (suc n)) (sym never))
 
-  unmapped_counts : finite.get a.scan.winners (id, lnum) ≡ None → AllCounted s g bs a (unmapped_plan s bs a v.entry id lnum new (taken s bs a 0) (taken s bs a 1))
+  unmapped_counts : finite.get a.scan.winners (id, lnum) ≡ None
+      → AllCounted s g bs a (unmapped_plan s bs a v.entry id lnum new (taken s bs a 0) (taken s bs a 1))
   unmapped_counts found =
       let made0 = attached.made0 image g a att few narrow id lnum new v there allowed half bounded found in
       let made1 = attached.made1 image g a att few narrow id lnum new v there allowed half bounded found in
@@ -307,27 +340,38 @@ module _ (image : Image) (g : IsGeometry image.sizes) (a : Whole) (att : IsAttac
       let h1 = copy_header 0 (data_pad s v.entry) id lnum (a.scan.top_sqnum + 2) new in
       let mount0 : List Step = mount s bs a e0 h0 in
       let written : List Step = mount s bs a b1 h1 ++ program_text s b1 new in
-      let all0 : AllCounted s g bs a mount0 = mount_counted s g bs a [] start e0 may0.0 refl made0.0 made0.1 made0.2.size made0.2.reads made0.2.ready h0 in
-      let on0 : AllOn s e0 mount0 = mount_on s g bs a [] start e0 may0.0 refl made0.0 made0.1 made0.2.size made0.2.reads made0.2.ready h0 in
+      let all0 : AllCounted s g bs a mount0 = mount_counted s g bs a [] start e0 may0.0 refl made0.0 made0.1
+      made0.2.size made0.2.reads made0.2.ready h0 in
+      let on0 : AllOn s e0 mount0 = mount_on s g bs a [] start e0 may0.0 refl made0.0 made0.1 made0.2.size made0.2.reads
+      made0.2.ready h0 in
       let count0 : count_by (erases e0) mount0 ≡ count_by (erases e0) (prepare s bs a e0) =
       mount_erases s g bs a [] start e0 may0.0 refl made0.0 made0.1 made0.2.size made0.2.reads made0.2.ready h0 in
       let never : count_by (erases b1) mount0 ≡ 0 = erases_none s e0 b1 mount0 on0 apart in
-      let ready1 = subst (λ (z : List (List ℕ)). done s z (prepare s bs a b1) ≡ set z b1 (filled s.peb_size (ready_bytes s bs a b1)))
-      (sym (attached.mounted_done image g a att few narrow id lnum new v there allowed half bounded found)) made1.2.ready in
-      let all1 : AllCounted s g bs a (mount0 ++ written) = written_counted s g bs a mount0 all0 b1 may1.0 never made1.0 made1.1 made1.2.size made1.2.reads ready1 h1 new paged room in
-      let on1 : AllOn s b1 written = written_on s g bs a mount0 all0 b1 may1.0 never made1.0 made1.1 made1.2.size made1.2.reads ready1 h1 new paged room in
+      let ready1 = subst (λ (z : List (List ℕ)). done s z (prepare s bs a b1)
+      ≡ set z b1 (filled s.peb_size (ready_bytes s bs a b1)))
+      (sym (attached.mounted_done image g a att few narrow id lnum new v there allowed half bounded found))
+      made1.2.ready in
+      let all1 : AllCounted s g bs a (mount0 ++ written) =
+      written_counted s g bs a mount0 all0 b1 may1.0 never made1.0 made1.1 made1.2.size made1.2.reads ready1 h1 new
+      paged room in
+      let on1 : AllOn s b1 written = written_on s g bs a mount0 all0 b1 may1.0 never made1.0 made1.1 made1.2.size
+      made1.2.reads ready1 h1 new paged room in
       let count1 : count_by (erases e0) written ≡ 0 = erases_none s b1 e0 written on1 (λ same. apart (sym same)) in
-      let count : count_by (erases e0) (prepare s bs a e0) ≡ count_by (erases e0) (mount0 ++ written) = (let k = erases-append e0 mount0 written in omega arith) in
+      let count : count_by (erases e0) (prepare s bs a e0) ≡ count_by (erases e0) (mount0 ++ written) =
+      (let k = erases-append e0 mount0 written in omega arith) in
       subst (AllCounted s g bs a) (append_assoc mount0 written (release s bs a e0 (ready_ec s bs a e0)))
       (release_counted s g bs a (mount0 ++ written) e0 (ready_ec s bs a e0) all1 may0.0
       (λ fresh. subst (λ (o : Option EcHeader). IsCounter (next_ec a.scan o)) (sym made0.1)
-      (counter_behind a narrow made0.0 (valid_counter s (ready_bytes s bs a e0) made0.0 made0.2.reads) (ap is_worn (sym made0.1) ∙ fresh)))
+      (counter_behind a narrow made0.0 (valid_counter s (ready_bytes s bs a e0) made0.0 made0.2.reads)
+      (ap is_worn (sym made0.1) ∙ fresh)))
       (again_due s g bs a e0 ∙ ap (λ n. ec_after s g bs a e0 (suc n)) count))
 
   pub plan_counts : CountsErases s bs a (plan_of s bs a v.entry id lnum new)
-  plan_counts = counted s g bs a (plan_of s bs a v.entry id lnum new) (by_winner (finite.get a.scan.winners (id, lnum)) refl)
+  plan_counts = counted s g bs a (plan_of s bs a v.entry id lnum new)
+      (by_winner (finite.get a.scan.winners (id, lnum)) refl)
     where
       by_winner : (o : Option ℕ) → finite.get a.scan.winners (id, lnum) ≡ o
-          → AllCounted s g bs a (option_map_or (mapped_plan s bs a v.entry id lnum new (taken s bs a 0)) o (unmapped_plan s bs a v.entry id lnum new (taken s bs a 0) (taken s bs a 1)))
+          → AllCounted s g bs a (option_map_or (mapped_plan s bs a v.entry id lnum new (taken s bs a 0)) o
+          (unmapped_plan s bs a v.entry id lnum new (taken s bs a 0) (taken s bs a 1)))
       by_winner (Some old) e = mapped_counts old e
       by_winner None e = unmapped_counts e

@@ -30,9 +30,11 @@ step_behind (x ∷ xs) ys (suc j) k e = step_behind xs ys j k (omega arith)
 
 module _ (s : Sizes) (bs : List (List ℕ)) (a : Whole) where
   -- what isn't worn is erased by the first step of its release
-  erased_behind : (front : List Step) (p : ℕ) (now : Option EcHeader) → is_worn now ≡ false → Erases (front ++ release s bs a p now) (length front) p
+  erased_behind : (front : List Step) (p : ℕ) (now : Option EcHeader) → is_worn now ≡ false
+      → Erases (front ++ release s bs a p now) (length front) p
   erased_behind front p now fresh =
-      step_behind front (release s bs a p now) (length front) 0 (omega arith) ∙ ap (λ b. slice_get (cond b [] (renew s p (next_ec a.scan now))) 0) fresh
+      step_behind front (release s bs a p now) (length front) 0 (omega arith)
+      ∙ ap (λ b. slice_get (cond b [] (renew s p (next_ec a.scan now))) 0) fresh
 
   module _ (b : ℕ) (h : VidHeader) (new : List ℕ) where
     abbrev written : List Step
@@ -47,8 +49,10 @@ module _ (s : Sizes) (bs : List (List ℕ)) (a : Whole) where
         let w = (whole_place-is s new paged).most in
         omega arith
 
-module _ (image : Image) (g : IsGeometry image.sizes) (a : Whole) (att : IsAttached image a) (few : a.scan.mean_ec < 2 ^ 31) (narrow : a.scan.image_seq < 2 ^ 32)
-    (id lnum : ℕ) (new : List ℕ) (v : Volume) (there : finite.get a.meaning.volumes id ≡ Some v) (allowed : first_cause image.sizes (eraseblocks image) a id lnum new ≡ None)
+module _ (image : Image) (g : IsGeometry image.sizes) (a : Whole) (att : IsAttached image a)
+    (few : a.scan.mean_ec < 2 ^ 31) (narrow : a.scan.image_seq < 2 ^ 32)
+    (id lnum : ℕ) (new : List ℕ) (v : Volume) (there : finite.get a.meaning.volumes id ≡ Some v)
+    (allowed : first_cause image.sizes (eraseblocks image) a id lnum new ≡ None)
     (half : data_pad image.sizes v.entry < leb_size image.sizes / 2) (bounded : v.entry.reserved < 2 ^ 31) where
   abbrev s : Sizes
   s = image.sizes
@@ -68,8 +72,11 @@ module _ (image : Image) (g : IsGeometry image.sizes) (a : Whole) (att : IsAttac
       let b = taken s bs a 0 in
       let h = copy_header 0 (data_pad s v.entry) id lnum (a.scan.top_sqnum + 1) new in
       let at = attached.mapped_turn image g a att few narrow id lnum new v there allowed half bounded old found in
-      let by = whole_by s bs a b h new paged in
-      (length (written s bs a b h new), omega arith, erased_behind s bs a (written s bs a b h new) old (ec_at s bs old) fresh)
+      let by = whole_by s bs a b h new paged in (
+        length (written s bs a b h new),
+        omega arith,
+        erased_behind s bs a (written s bs a b h new) old (ec_at s bs old) fresh,
+      )
 
   unmapped_gives : finite.get a.scan.winners (id, lnum) ≡ None → is_worn (ready_ec s bs a (taken s bs a 0)) ≡ false
       → Gives (unmapped_plan s bs a v.entry id lnum new (taken s bs a 0) (taken s bs a 1)) (taken s bs a 0)
@@ -87,11 +94,14 @@ module _ (image : Image) (g : IsGeometry image.sizes) (a : Whole) (att : IsAttac
             ∙ erased_behind s bs a (written s bs a b h new) e (ready_ec s bs a e) fresh,
       )
 
-  pub plan_gives_up : is_worn_then s bs a id lnum ≡ false → Gives (plan_of s bs a v.entry id lnum new) (given_up s bs a id lnum)
+  pub plan_gives_up : is_worn_then s bs a id lnum ≡ false
+      → Gives (plan_of s bs a v.entry id lnum new) (given_up s bs a id lnum)
   plan_gives_up = by_winner (finite.get a.scan.winners (id, lnum)) refl
     where
-      by_winner : (o : Option ℕ) → finite.get a.scan.winners (id, lnum) ≡ o → is_worn (option_map_or (ec_at s bs) o (ready_ec s bs a (taken s bs a 0))) ≡ false
-          → Gives (option_map_or (mapped_plan s bs a v.entry id lnum new (taken s bs a 0)) o (unmapped_plan s bs a v.entry id lnum new (taken s bs a 0) (taken s bs a 1)))
+      by_winner : (o : Option ℕ) → finite.get a.scan.winners (id, lnum) ≡ o
+          → is_worn (option_map_or (ec_at s bs) o (ready_ec s bs a (taken s bs a 0))) ≡ false
+          → Gives (option_map_or (mapped_plan s bs a v.entry id lnum new (taken s bs a 0)) o
+          (unmapped_plan s bs a v.entry id lnum new (taken s bs a 0) (taken s bs a 1)))
           (option_map_or (λ p. p) o (taken s bs a 0))
       by_winner (Some old) e = mapped_gives old e
       by_winner None e = unmapped_gives e

@@ -44,15 +44,19 @@ module _ (s : Sizes) where
   KeepAll last bs [] = Unit {0}
   KeepAll last bs (step.Erase q ∷ xs) = KeepAll (Some q) (step_done s bs (step.Erase q)) xs
   KeepAll last bs (step.Program q b ys ∷ xs) =
-      (b ≡ 0 → (last ≡ Some q) ⊎ (ec_area ys ≡ ec_area (block bs q))) × KeepAll None (step_done s bs (step.Program q b ys)) xs
+      (b ≡ 0 → (last ≡ Some q) ⊎ (ec_area ys ≡ ec_area (block bs q)))
+      × KeepAll None (step_done s bs (step.Program q b ys)) xs
 
-  keep-append : (last : Option ℕ) (bs : List (List ℕ)) (xs ys : List Step) → KeepAll last bs xs → ((l : Option ℕ) → KeepAll l (done s bs xs) ys) → KeepAll last bs (xs ++ ys)
+  keep-append : (last : Option ℕ) (bs : List (List ℕ)) (xs ys : List Step) → KeepAll last bs xs
+      → ((l : Option ℕ) → KeepAll l (done s bs xs) ys) → KeepAll last bs (xs ++ ys)
   keep-append last bs [] ys a b = b last
   keep-append last bs (step.Erase q ∷ xs) ys a b = keep-append (Some q) (step_done s bs (step.Erase q)) xs ys a b
-  keep-append last bs (step.Program q page bytes ∷ xs) ys a b = (a.0, keep-append None (step_done s bs (step.Program q page bytes)) xs ys a.1 b)
+  keep-append last bs (step.Program q page bytes ∷ xs) ys a b =
+      (a.0, keep-append None (step_done s bs (step.Program q page bytes)) xs ys a.1 b)
 
   abbrev Kept : Option ℕ → List (List ℕ) → List Step → ℕ → ℕ → List ℕ → Type 0
-  Kept last bs steps k p bytes = (((k ≡ 0) × (last ≡ Some p)) ⊎ ComesFirst steps k p) ⊎ (ec_area bytes ≡ ec_area (block (after s bs steps k) p))
+  Kept last bs steps k p bytes = (((k ≡ 0) × (last ≡ Some p)) ⊎ ComesFirst steps k p)
+      ⊎ (ec_area bytes ≡ ec_area (block (after s bs steps k) p))
 
   -- the step before the next
   one_back : (x : Step) (xs : List Step) (j p : ℕ) → ComesFirst xs j p → ComesFirst (x ∷ xs) (suc j) p
@@ -62,7 +66,8 @@ module _ (s : Sizes) where
       let same : j ≡ suc j - 1 = omega arith in
       (omega arith, ap (λ n. slice_get (x ∷ xs) n) back ∙ ap (λ n. slice_get xs n) same ∙ h.1)
 
-  kept_at : (last : Option ℕ) (bs : List (List ℕ)) (steps : List Step) → KeepAll last bs steps → (k p : ℕ) (bytes : List ℕ) → Programs steps k p 0 bytes → Kept last bs steps k p bytes
+  kept_at : (last : Option ℕ) (bs : List (List ℕ)) (steps : List Step) → KeepAll last bs steps
+      → (k p : ℕ) (bytes : List ℕ) → Programs steps k p 0 bytes → Kept last bs steps k p bytes
   kept_at last bs [] a k p bytes at = absurd (cc)
   kept_at last bs (step.Erase q ∷ xs) a zero p bytes at = absurd (no_program p q 0 bytes (same_Some _ _ at))
   kept_at last bs (step.Program q page ys ∷ xs) a zero p bytes at =
@@ -74,25 +79,32 @@ module _ (s : Sizes) where
         | inl h ↦ inl (inl (refl, h ∙ ap (λ (n : ℕ). Some n) e))
         | inr h ↦ inr (ap ec_area (sym i) ∙ h ∙ ap (λ n. ec_area (block bs n)) e)
       ]
-  kept_at last bs (step.Erase q ∷ xs) a (suc j) p bytes at = elim (kept_at (Some q) (step_done s bs (step.Erase q)) xs a j p bytes at) [
-    | inr h ↦ inr h
-    | inl f ↦ elim f [
-      | inl h ↦
-          let z = h.0 in
-          let back : suc j - 1 ≡ 0 = omega arith in
-          inl (inr (omega arith, ap (λ n. slice_get (step.Erase q ∷ xs) n) back ∙ ap (λ n. Some (step.Erase n)) (same_Some q p h.1)))
-      | inr h ↦ inl (inr (one_back (step.Erase q) xs j p h))
-    ]
-  ]
-  kept_at last bs (step.Program q page ys ∷ xs) a (suc j) p bytes at = elim (kept_at None (step_done s bs (step.Program q page ys)) xs a.1 j p bytes at) [
-    | inr h ↦ inr h
-    | inl f ↦ elim f [
-      | inl h ↦ absurd (not_here p h.1)
-      | inr h ↦ inl (inr (one_back (step.Program q page ys) xs j p h))
-    ]
-  ]
+  kept_at last bs (step.Erase q ∷ xs) a (suc j) p bytes at =
+      elim (kept_at (Some q) (step_done s bs (step.Erase q)) xs a j p bytes at) [
+        | inr h ↦ inr h
+        | inl f ↦ elim f [
+          | inl h ↦
+              let z = h.0 in
+              let back : suc j - 1 ≡ 0 = omega arith in
+              inl (inr (
+                omega arith,
+                ap (λ n. slice_get (step.Erase q ∷ xs) n) back
+                    ∙ ap (λ n. Some (step.Erase n)) (same_Some q p h.1),
+              ))
+          | inr h ↦ inl (inr (one_back (step.Erase q) xs j p h))
+        ]
+      ]
+  kept_at last bs (step.Program q page ys ∷ xs) a (suc j) p bytes at =
+      elim (kept_at None (step_done s bs (step.Program q page ys)) xs a.1 j p bytes at) [
+        | inr h ↦ inr h
+        | inl f ↦ elim f [
+          | inl h ↦ absurd (not_here p h.1)
+          | inr h ↦ inl (inr (one_back (step.Program q page ys) xs j p h))
+        ]
+      ]
 
-  pub keeps_all : (bs : List (List ℕ)) (steps : List Step) → KeepAll None bs steps → (k p : ℕ) (bytes : List ℕ) → Programs steps k p 0 bytes
+  pub keeps_all : (bs : List (List ℕ)) (steps : List Step) → KeepAll None bs steps → (k p : ℕ) (bytes : List ℕ)
+      → Programs steps k p 0 bytes
       → ComesFirst steps k p ⊎ (ec_area bytes ≡ ec_area (block (after s bs steps k) p))
   keeps_all bs steps a k p bytes at = elim (kept_at None bs steps a k p bytes at) [
     | inr h ↦ inr h
@@ -105,9 +117,13 @@ module _ (s : Sizes) where
   renew_keeps : (last : Option ℕ) (bs : List (List ℕ)) (p : ℕ) (e : EcHeader) → KeepAll last bs (renew s p e)
   renew_keeps last bs p e = ((λ _. inl refl), tt)
 
-  pages_keep : (last : Option ℕ) (bs : List (List ℕ)) (p i : ℕ) (es : List (List ℕ)) → 1 ≤ i → KeepAll last bs (map (λ e. step.Program p e.0 e.1) (enumerate_from i es))
+  pages_keep : (last : Option ℕ) (bs : List (List ℕ)) (p i : ℕ) (es : List (List ℕ)) → 1 ≤ i
+      → KeepAll last bs (map (λ e. step.Program p e.0 e.1) (enumerate_from i es))
   pages_keep last bs p i [] l = tt
-  pages_keep last bs p i (e ∷ es) l = ((λ z. absurd (omega arith)), pages_keep None (step_done s bs (step.Program p i e)) p (i + 1) es (omega arith))
+  pages_keep last bs p i (e ∷ es) l = (
+    (λ z. absurd (omega arith)),
+    pages_keep None (step_done s bs (step.Program p i e)) p (i + 1) es (omega arith),
+  )
 
 less_test : (a b : ℕ) → a < b → nat_lt a b ≡ true
 less_test a b l = grind (arith, nat_tests)
@@ -117,7 +133,8 @@ module _ (s : Sizes) (g : IsGeometry s) where
   front_of n bytes size = ap (take 64) (filled-by n 64 bytes size) ∙ take_at bytes (blank (n - 64)) 64 size
 
   -- the page of a volume-identifier header that is page 0 starts with the erase-counter header
-  page_front : (bytes : List ℕ) (h : VidHeader) → length bytes ≡ 64 → s.vid_offset / s.page ≡ 0 → ec_area (vid_page s bytes h) ≡ bytes
+  page_front : (bytes : List ℕ) (h : VidHeader) → length bytes ≡ 64 → s.vid_offset / s.page ≡ 0
+      → ec_area (vid_page s bytes h) ≡ bytes
   page_front bytes h size zero_page =
       let r = s.vid_offset % s.page in
       let split = div-add-mod s.vid_offset s.page in
@@ -126,8 +143,10 @@ module _ (s : Sizes) (g : IsGeometry s) where
       let inside : s.vid_offset < s.page = omega arith in
       let gap : List ℕ = blank (r - 64) in
       let rest : List ℕ = blank (s.page - length (filled r bytes ++ vid_bytes h)) in
-      ap (λ b. take 64 (filled s.page (filled r (cond b bytes []) ++ vid_bytes h))) (less_test s.vid_offset s.page inside)
-      ∙ ap (take 64) (filled-is s.page (filled r bytes ++ vid_bytes h) ∙ ap (λ x. (x ++ vid_bytes h) ++ rest) (filled-by r 64 bytes size)
+      ap (λ b. take 64 (filled s.page (filled r (cond b bytes []) ++ vid_bytes h)))
+      (less_test s.vid_offset s.page inside)
+      ∙ ap (take 64) (filled-is s.page (filled r bytes ++ vid_bytes h)
+      ∙ ap (λ x. (x ++ vid_bytes h) ++ rest) (filled-by r 64 bytes size)
       ∙ append_assoc (bytes ++ gap) (vid_bytes h) rest ∙ append_assoc bytes gap (vid_bytes h ++ rest))
       ∙ take_at bytes (gap ++ (vid_bytes h ++ rest)) 64 size
 
@@ -139,7 +158,8 @@ module _ (s : Sizes) (g : IsGeometry s) where
         by_test true = tt
         by_test false = renew_keeps s last cs p (next_ec a.scan (ec_at s bs p))
 
-    release_keeps : (last : Option ℕ) (cs : List (List ℕ)) (p : ℕ) (now : Option EcHeader) → KeepAll s last cs (release s bs a p now)
+    release_keeps : (last : Option ℕ) (cs : List (List ℕ)) (p : ℕ) (now : Option EcHeader)
+        → KeepAll s last cs (release s bs a p now)
     release_keeps last cs p now = by_test (is_worn now)
       where
         by_test : (b : Bool) → KeepAll s last cs (cond b [] (renew s p (next_ec a.scan now)))
@@ -147,26 +167,37 @@ module _ (s : Sizes) (g : IsGeometry s) where
         by_test false = renew_keeps s last cs p (next_ec a.scan now)
 
     -- a header on an eraseblock that was made ready, and a text behind it
-    module _ (last : Option ℕ) (cs : List (List ℕ)) (b : ℕ) (inside : b < length cs) (size : length (ready_bytes s bs a b) ≡ 64) (h : VidHeader)
+    module _ (last : Option ℕ) (cs : List (List ℕ)) (b : ℕ) (inside : b < length cs)
+        (size : length (ready_bytes s bs a b) ≡ 64) (h : VidHeader)
         (ready : done s cs (prepare s bs a b) ≡ set cs b (filled s.peb_size (ready_bytes s bs a b))) where
       prepared : block (done s cs (prepare s bs a b)) b ≡ filled s.peb_size (ready_bytes s bs a b)
-      prepared = ap (λ (z : List (List ℕ)). block z b) ready ∙ get_or-set_same cs b (filled s.peb_size (ready_bytes s bs a b)) [] inside
+      prepared = ap (λ (z : List (List ℕ)). block z b) ready
+          ∙ get_or-set_same cs b (filled s.peb_size (ready_bytes s bs a b)) [] inside
 
       mount_keeps : KeepAll s last cs (mount s bs a b h)
       mount_keeps =
-          keep-append s last cs (prepare s bs a b) (program_header s b (ready_bytes s bs a b) h ∷ []) (prepare_keeps last cs b)
-          (λ l. ((λ zero_page. inr (page_front (ready_bytes s bs a b) h size zero_page ∙ sym (front_of s.peb_size (ready_bytes s bs a b) size) ∙ ap ec_area (sym prepared))), tt))
+          keep-append s last cs (prepare s bs a b) (program_header s b (ready_bytes s bs a b) h ∷ [])
+          (prepare_keeps last cs b)
+          (λ l. (
+            (λ zero_page. inr (page_front (ready_bytes s bs a b) h size zero_page
+                ∙ sym (front_of s.peb_size (ready_bytes s bs a b) size) ∙ ap ec_area (sym prepared))),
+            tt,
+          ))
 
-      copy_keeps : (new : List ℕ) (old : ℕ) (now : Option EcHeader) → KeepAll s last cs (atomic_copy s bs a b h new old now)
+      copy_keeps : (new : List ℕ) (old : ℕ) (now : Option EcHeader)
+          → KeepAll s last cs (atomic_copy s bs a b h new old now)
       copy_keeps new old now =
           let before = vid_before s g in
           keep-append s last cs (mount s bs a b h ++ program_text s b new) (release s bs a old now)
           (keep-append s last cs (mount s bs a b h) (program_text s b new) mount_keeps
-          (λ l. pages_keep s l (done s cs (mount s bs a b h)) b (s.data_offset / s.page) (first_chunks s.page (pages_of s new) new) (omega arith)))
+          (λ l. pages_keep s l (done s cs (mount s bs a b h)) b (s.data_offset / s.page)
+          (first_chunks s.page (pages_of s new) new) (omega arith)))
           (λ l. release_keeps l (done s cs (mount s bs a b h ++ program_text s b new)) old now)
 
-module _ (image : Image) (g : IsGeometry image.sizes) (a : Whole) (att : IsAttached image a) (few : a.scan.mean_ec < 2 ^ 31) (narrow : a.scan.image_seq < 2 ^ 32)
-    (id lnum : ℕ) (new : List ℕ) (v : Volume) (there : finite.get a.meaning.volumes id ≡ Some v) (allowed : first_cause image.sizes (eraseblocks image) a id lnum new ≡ None)
+module _ (image : Image) (g : IsGeometry image.sizes) (a : Whole) (att : IsAttached image a)
+    (few : a.scan.mean_ec < 2 ^ 31) (narrow : a.scan.image_seq < 2 ^ 32)
+    (id lnum : ℕ) (new : List ℕ) (v : Volume) (there : finite.get a.meaning.volumes id ≡ Some v)
+    (allowed : first_cause image.sizes (eraseblocks image) a id lnum new ≡ None)
     (half : data_pad image.sizes v.entry < leb_size image.sizes / 2) (bounded : v.entry.reserved < 2 ^ 31) where
   abbrev s : Sizes
   s = image.sizes
@@ -174,13 +205,16 @@ module _ (image : Image) (g : IsGeometry image.sizes) (a : Whole) (att : IsAttac
   abbrev bs : List (List ℕ)
   bs = eraseblocks image
 
-  mapped_keeps : (old : ℕ) → finite.get a.scan.winners (id, lnum) ≡ Some old → KeepAll s None bs (mapped_plan s bs a v.entry id lnum new (taken s bs a 0) old)
+  mapped_keeps : (old : ℕ) → finite.get a.scan.winners (id, lnum) ≡ Some old
+      → KeepAll s None bs (mapped_plan s bs a v.entry id lnum new (taken s bs a 0) old)
   mapped_keeps old found =
       let made = attached.made image g a att few narrow id lnum new v there allowed half bounded old found in
       let may = attached.may image g a att few narrow id lnum new v there allowed half bounded old found in
-      copy_keeps s g bs a None bs (taken s bs a 0) may.0 made.2.size (copy_header 0 (data_pad s v.entry) id lnum (a.scan.top_sqnum + 1) new) made.2.ready new old (ec_at s bs old)
+      copy_keeps s g bs a None bs (taken s bs a 0) may.0 made.2.size
+      (copy_header 0 (data_pad s v.entry) id lnum (a.scan.top_sqnum + 1) new) made.2.ready new old (ec_at s bs old)
 
-  unmapped_keeps : finite.get a.scan.winners (id, lnum) ≡ None → KeepAll s None bs (unmapped_plan s bs a v.entry id lnum new (taken s bs a 0) (taken s bs a 1))
+  unmapped_keeps : finite.get a.scan.winners (id, lnum) ≡ None
+      → KeepAll s None bs (unmapped_plan s bs a v.entry id lnum new (taken s bs a 0) (taken s bs a 1))
   unmapped_keeps found =
       let made0 = attached.made0 image g a att few narrow id lnum new v there allowed half bounded found in
       let made1 = attached.made1 image g a att few narrow id lnum new v there allowed half bounded found in
@@ -192,17 +226,23 @@ module _ (image : Image) (g : IsGeometry image.sizes) (a : Whole) (att : IsAttac
       let h1 = copy_header 0 (data_pad s v.entry) id lnum (a.scan.top_sqnum + 2) new in
       let rest : List Step = atomic_copy s bs a b1 h1 new e0 (ready_ec s bs a e0) in
       let left = attached.mounted_done image g a att few narrow id lnum new v there allowed half bounded found in
-      let ready1 = subst (λ (z : List (List ℕ)). done s z (prepare s bs a b1) ≡ set z b1 (filled s.peb_size (ready_bytes s bs a b1))) (sym left) made1.2.ready in
+      let ready1 = subst (λ (z : List (List ℕ)). done s z (prepare s bs a b1)
+      ≡ set z b1 (filled s.peb_size (ready_bytes s bs a b1))) (sym left) made1.2.ready in
       let n = length-done s bs (mount s bs a e0 h0) in
       let b1_inside : b1 < length bs = may1.0 in
-      keep-append s None bs (mount s bs a e0 h0) rest (mount_keeps s g bs a None bs e0 may0.0 made0.2.size h0 made0.2.ready)
-      (λ l. copy_keeps s g bs a l (done s bs (mount s bs a e0 h0)) b1 (omega arith) made1.2.size h1 ready1 new e0 (ready_ec s bs a e0))
+      keep-append s None bs (mount s bs a e0 h0) rest
+      (mount_keeps s g bs a None bs e0 may0.0 made0.2.size h0 made0.2.ready)
+      (λ l. copy_keeps s g bs a l (done s bs (mount s bs a e0 h0)) b1 (omega arith) made1.2.size h1 ready1 new e0
+      (ready_ec s bs a e0))
 
   pub plan_keeps : (k p : ℕ) (bytes : List ℕ) → Programs (plan_of s bs a v.entry id lnum new) k p 0 bytes
-      → ComesFirst (plan_of s bs a v.entry id lnum new) k p ⊎ (ec_area bytes ≡ ec_area (block (after s bs (plan_of s bs a v.entry id lnum new) k) p))
-  plan_keeps = keeps_all s bs (plan_of s bs a v.entry id lnum new) (by_winner (finite.get a.scan.winners (id, lnum)) refl)
+      → ComesFirst (plan_of s bs a v.entry id lnum new) k p
+      ⊎ (ec_area bytes ≡ ec_area (block (after s bs (plan_of s bs a v.entry id lnum new) k) p))
+  plan_keeps = keeps_all s bs (plan_of s bs a v.entry id lnum new)
+      (by_winner (finite.get a.scan.winners (id, lnum)) refl)
     where
       by_winner : (o : Option ℕ) → finite.get a.scan.winners (id, lnum) ≡ o
-          → KeepAll s None bs (option_map_or (mapped_plan s bs a v.entry id lnum new (taken s bs a 0)) o (unmapped_plan s bs a v.entry id lnum new (taken s bs a 0) (taken s bs a 1)))
+          → KeepAll s None bs (option_map_or (mapped_plan s bs a v.entry id lnum new (taken s bs a 0)) o
+          (unmapped_plan s bs a v.entry id lnum new (taken s bs a 0) (taken s bs a 1)))
       by_winner (Some old) e = mapped_keeps old e
       by_winner None e = unmapped_keeps e

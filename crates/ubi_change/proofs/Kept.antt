@@ -49,7 +49,8 @@ module _ (s : Sizes) (bs cs : List (List ℕ)) where
   }
 
   -- the table
-  held_kept : (c : ℕ) (what : CopyRead) → KeepsLeb s bs cs (layout, c) → (p : ℕ) × Wins s bs (layout, c) p × (copy_of s (leb s (block bs p)) ≡ what)
+  held_kept : (c : ℕ) (what : CopyRead) → KeepsLeb s bs cs (layout, c)
+      → (p : ℕ) × Wins s bs (layout, c) p × (copy_of s (leb s (block bs p)) ≡ what)
       → (p : ℕ) × Wins s cs (layout, c) p × (copy_of s (leb s (block cs p)) ≡ what)
   held_kept c what k h = let w = k.winner h.0 h.1 in (h.0, w.0, ap (λ b. copy_of s (leb s b)) w.1 ∙ h.2)
 
@@ -60,20 +61,24 @@ module _ (s : Sizes) (bs cs : List (List ℕ)) where
   copy_kept c (copy.Twice i j) k h = held_kept c (copy.Twice i j) k h
   copy_kept c (copy.Good t) k h = held_kept c (copy.Good t) k h
 
-  pub decides_kept : ((c : ℕ) → KeepsLeb s bs cs (layout, c)) → (c : ℕ) (what : CopyRead) → Decides s bs c what → Decides s cs c what
+  pub decides_kept : ((c : ℕ) → KeepsLeb s bs cs (layout, c)) → (c : ℕ) (what : CopyRead) → Decides s bs c what
+      → Decides s cs c what
   decides_kept k c what d = record {
     is = copy_kept c what (k c) d.is;
     can = d.can;
     before = elim d.before [ inl e ↦ inl e | inr e ↦ inr (e.0, e.1, copy_kept 0 e.1 (k 0) e.2, e.3) ];
   }
 
-  pub table_kept : ((c : ℕ) → KeepsLeb s bs cs (layout, c)) → (AllBlank s bs → ⊥) → (t : Records) → IsTable s bs t → IsTable s cs t
+  pub table_kept : ((c : ℕ) → KeepsLeb s bs cs (layout, c)) → (AllBlank s bs → ⊥) → (t : Records) → IsTable s bs t
+      → IsTable s cs t
   table_kept k used t (inl e) = absurd (used e.0)
   table_kept k used t (inr e) = inr (e.0, decides_kept k e.0 (copy.Good t) e.1, e.2)
 
   -- what volumes read
-  pub leb_kept : (vol : ℕ) (r : VolumeRecord) (lnum : ℕ) (text : List ℕ) → KeepsLeb s bs cs (vol, lnum) → LebReads s bs vol r lnum text → LebReads s cs vol r lnum text
-  leb_kept vol r lnum text k (inl h) = let w = k.winner h.0 h.1 in inl (h.0, w.0, h.2 ∙ ap (λ b. take (usable s r) (leb s b)) (sym w.1))
+  pub leb_kept : (vol : ℕ) (r : VolumeRecord) (lnum : ℕ) (text : List ℕ) → KeepsLeb s bs cs (vol, lnum)
+      → LebReads s bs vol r lnum text → LebReads s cs vol r lnum text
+  leb_kept vol r lnum text k (inl h) = let w = k.winner h.0 h.1 in
+      inl (h.0, w.0, h.2 ∙ ap (λ b. take (usable s r) (leb s b)) (sym w.1))
   leb_kept vol r lnum text k (inr h) = inr (k.none h.0, h.1)
 
   piece_kept : (p : ℕ) → block cs p ≡ block bs p → piece s cs p ≡ piece s bs p
@@ -82,23 +87,33 @@ module _ (s : Sizes) (bs cs : List (List ℕ)) where
   is_piece_kept : (u p : ℕ) → block cs p ≡ block bs p → IsPiece s bs u p → IsPiece s cs u p
   is_piece_kept u p e h = (h.0, ap (member s) e ∙ h.1, h.2, ap (λ b. is_right s b h.0) e ∙ h.3)
 
-  pieces_kept : (ps : List ℕ) → ((l : ℕ) → l < length ps → block cs (slice_index ps l) ≡ block bs (slice_index ps l)) → flat_map (piece s cs) ps ≡ flat_map (piece s bs) ps
+  pieces_kept : (ps : List ℕ) → ((l : ℕ) → l < length ps → block cs (slice_index ps l) ≡ block bs (slice_index ps l))
+      → flat_map (piece s cs) ps ≡ flat_map (piece s bs) ps
   pieces_kept [] all = refl
-  pieces_kept (p ∷ ps) all = ap₂ (λ x y. x ++ y) (piece_kept p (all 0 (omega arith))) (pieces_kept ps (λ l i. all (suc l) (omega arith)))
+  pieces_kept (p ∷ ps) all = ap₂ (λ x y. x ++ y) (piece_kept p (all 0 (omega arith)))
+      (pieces_kept ps (λ l i. all (suc l) (omega arith)))
 
-  whole_kept : (vol : ℕ) (r : VolumeRecord) (ps : List ℕ) → ((l : ℕ) → KeepsLeb s bs cs (vol, l)) → AreWhole s bs vol r ps → AreWhole s cs vol r ps
+  whole_kept : (vol : ℕ) (r : VolumeRecord) (ps : List ℕ) → ((l : ℕ) → KeepsLeb s bs cs (vol, l))
+      → AreWhole s bs vol r ps → AreWhole s cs vol r ps
   whole_kept vol r ps k a = record {
     some = a.some;
     within = a.within;
     win = λ l i. ((k l).winner (slice_index ps l) (a.win l i)).0;
     no_other = λ l i. (k l).none (a.no_other l i);
-    pieces = λ l i. is_piece_kept (length ps) (slice_index ps l) ((k l).winner (slice_index ps l) (a.win l i)).1 (a.pieces l i);
+    pieces = λ l i. is_piece_kept (length ps) (slice_index ps l) ((k l).winner (slice_index ps l) (a.win l i)).1
+        (a.pieces l i);
   }
 
-  pub static_kept : (vol : ℕ) (r : VolumeRecord) (text : List ℕ) → ((l : ℕ) → KeepsLeb s bs cs (vol, l)) → StaticReads s bs vol r text → StaticReads s cs vol r text
+  pub static_kept : (vol : ℕ) (r : VolumeRecord) (text : List ℕ) → ((l : ℕ) → KeepsLeb s bs cs (vol, l))
+      → StaticReads s bs vol r text → StaticReads s cs vol r text
   static_kept vol r text k (inl h) = inl ((λ l. (k l).none (h.0 l)), h.1)
   static_kept vol r text k (inr h) =
-      inr (h.0, whole_kept vol r h.0 k h.1, h.2 ∙ sym (pieces_kept h.0 (λ l i. ((k l).winner (slice_index h.0 l) (h.1.win l i)).1)))
+      inr (
+        h.0,
+        whole_kept vol r h.0 k h.1,
+        h.2
+            ∙ sym (pieces_kept h.0 (λ l i. ((k l).winner (slice_index h.0 l) (h.1.win l i)).1)),
+      )
 
   -- the LEBs that a volume with this record reads
   abbrev pub KeepsVolume : ℕ → VolumeRecord → Type 0
@@ -109,31 +124,50 @@ module _ (s : Sizes) (bs cs : List (List ℕ)) where
   KeepsVolumes t = (vol : ℕ) (r : VolumeRecord) → finite.get t.of vol ≡ Some r → KeepsVolume vol r
 
 module _ (s : Sizes) (bs cs : List (List ℕ)) (clean : NoFault s cs) where
-  pub volume_kept : (vol : ℕ) (r : VolumeRecord) (c : Content) → KeepsVolume s bs cs vol r → VolumeReads s bs vol r c → VolumeReads s cs vol r c
+  pub volume_kept : (vol : ℕ) (r : VolumeRecord) (c : Content) → KeepsVolume s bs cs vol r → VolumeReads s bs vol r c
+      → VolumeReads s cs vol r c
   volume_kept vol r content.Updating k h = h
   volume_kept vol r (content.Dynamic lebs) k h = (h.0, h.1, λ l i. leb_kept s bs cs vol r l _ (k l (λ _. i)) (h.2 l i))
-  volume_kept vol r (content.Static text) k h = (h.0, h.1, static_kept s bs cs vol r text (λ l. k l (static_within r l h.1)) h.2)
-  volume_kept vol r content.Damaged k h =
-      (h.0, h.1, λ text d. h.2 text (static_kept s cs bs vol r text (λ l. kept_back s bs cs clean (vol, l) (k l (static_within r l h.1))) d))
+  volume_kept vol r (content.Static text) k h =
+      (h.0, h.1, static_kept s bs cs vol r text (λ l. k l (static_within r l h.1)) h.2)
+  volume_kept vol r content.Damaged k h = (
+    h.0,
+    h.1,
+    λ text d. h.2 text
+        (static_kept s cs bs vol r text (λ l. kept_back s bs cs clean (vol, l) (k l (static_within r l h.1))) d),
+  )
 
-  pub slot_kept : (id : ℕ) (o : Option VolumeRecord) (v : Option Volume) → ((r : VolumeRecord) → o ≡ Some r → KeepsVolume s bs cs id r) → SlotMeans s bs id o v → SlotMeans s cs id o v
+  pub slot_kept : (id : ℕ) (o : Option VolumeRecord) (v : Option Volume)
+      → ((r : VolumeRecord) → o ≡ Some r → KeepsVolume s bs cs id r) → SlotMeans s bs id o v → SlotMeans s cs id o v
   slot_kept id None None k h = h
   slot_kept id (Some r) (Some v) k h = (h.0, volume_kept id r v.content (k r refl) h.1)
   slot_kept id None (Some v) k h = h
   slot_kept id (Some r) None k h = h
 
   pub means_kept : (t : Records) (m : Meant) → KeepsVolumes s bs cs t → Means s bs t m → Means s cs t m
-  means_kept t m k h = record { sizes = h.sizes; meaning = h.meaning; slots = λ id. slot_kept id _ _ (k id) (h.slots id) }
+  means_kept t m k h = record {
+    sizes = h.sizes;
+    meaning = h.meaning;
+    slots = λ id. slot_kept id _ _ (k id) (h.slots id);
+  }
 
   -- a winner that is unlike its record was so before
   pub alike_kept : (t : Records) → KeepsVolumes s bs cs t → NoMismatch s bs t → NoMismatch s cs t
   alike_kept t k alike p m =
       let c = m.2 in
       let w = (kept_back s bs cs clean (c.vol, c.lnum) (k c.vol m.0 c.recorded c.lnum c.within)).winner p c.wins in
-      alike p (m.0, m.1, record { vol = c.vol; lnum = c.lnum; wins = w.0; recorded = c.recorded; within = c.within }, m.3, ap (member s) w.1 ∙ m.4, m.5)
+      alike p (
+        m.0,
+        m.1,
+        record { vol = c.vol; lnum = c.lnum; wins = w.0; recorded = c.recorded; within = c.within },
+        m.3,
+        ap (member s) w.1 ∙ m.4,
+        m.5,
+      )
 
   -- eraseblocks that keep the winners of all LEBs that count are accepted with the same meaning
-  pub accepts_kept : (m : Meant) (a : AcceptsBlocks s bs m) → (AllBlank s bs → ⊥) → ((c : ℕ) → KeepsLeb s bs cs (layout, c)) → KeepsVolumes s bs cs a.records → AcceptsBlocks s cs m
+  pub accepts_kept : (m : Meant) (a : AcceptsBlocks s bs m) → (AllBlank s bs → ⊥)
+      → ((c : ℕ) → KeepsLeb s bs cs (layout, c)) → KeepsVolumes s bs cs a.records → AcceptsBlocks s cs m
   accepts_kept m a used copies volumes = record {
     clean = clean;
     records = a.records;

@@ -51,17 +51,22 @@ use Rattle.ubi_change.proofs.Written.{take_filled}
 no_entry : {X : Type 0} (o : Option X) (x : X) → o ≡ None → o ≡ Some x → ⊥
 no_entry o x e f = let k = e in cc
 
-pub used_by_volume : (s : Sizes) (bs : List (List ℕ)) (m : Meant) (a : AcceptsBlocks s bs m) (id : ℕ) (v : Volume) → finite.get m.volumes id ≡ Some v → AllBlank s bs → ⊥
+pub used_by_volume : (s : Sizes) (bs : List (List ℕ)) (m : Meant) (a : AcceptsBlocks s bs m) (id : ℕ) (v : Volume)
+    → finite.get m.volumes id ≡ Some v → AllBlank s bs → ⊥
 used_by_volume s bs m a id v there all =
-    let means : SlotMeans s bs id (finite.get a.records.of id) (Some v) = subst (λ (o : Option Volume). SlotMeans s bs id (finite.get a.records.of id) o) there (a.means.slots id) in
+    let means : SlotMeans s bs id (finite.get a.records.of id) (Some v) =
+    subst (λ (o : Option Volume). SlotMeans s bs id (finite.get a.records.of id) o) there (a.means.slots id) in
     let recorded = recorded_by s bs id (finite.get a.records.of id) v means in
     elim a.table [
-      | inl e ↦ no_entry (finite.get a.records.of id) v.entry (ap (λ (t : Records). finite.get t.of id) e.1 ∙ finite.get-empty nat_cmp id) recorded
-      | inr d ↦ (let w = d.1.is in nameless_loses s bs a.records w.0 (nameless_ec s (block bs w.0) (all w.0 [] w.1.member.inside)) (layout, d.0) w.1)
+      | inl e ↦ no_entry (finite.get a.records.of id) v.entry (ap (λ (t : Records). finite.get t.of id) e.1
+          ∙ finite.get-empty nat_cmp id) recorded
+      | inr d ↦ (let w = d.1.is in nameless_loses s bs a.records w.0
+          (nameless_ec s (block bs w.0) (all w.0 [] w.1.member.inside)) (layout, d.0) w.1)
     ]
 
 -- the header of a copy
-module _ (s : Sizes) (r : VolumeRecord) (id lnum sqnum : ℕ) (new : List ℕ) (slot : id < 128) (number : lnum < 2 ^ 31) (half : data_pad s r < leb_size s / 2)
+module _ (s : Sizes) (r : VolumeRecord) (id lnum sqnum : ℕ) (new : List ℕ) (slot : id < 128) (number : lnum < 2 ^ 31)
+    (half : data_pad s r < leb_size s / 2)
     (wide : leb_size s < 2 ^ 31) (some : 1 ≤ length new) (short : length new ≤ leb_size s) where
   pub copy_sound : vid_fault s (copy_header 0 (data_pad s r) id lnum sqnum new) ≡ None
   unfolding first_fault breaks fields_from
@@ -82,7 +87,8 @@ user_known : (vol : ℕ) → vol < 128 → has_members vol ≡ true
 user_known vol l = grind (arith, nat_tests)
 
 -- steps make an eraseblock ready: the meaning stays, and at the end it has an erase-counter header alone
-pub record IsPrepared (s : Sizes) (bs : List (List ℕ)) (m : Meant) (b seq : ℕ) (prep : List Step) (bytes : List ℕ) (e : EcHeader) : Type 0 where
+pub record IsPrepared (s : Sizes) (bs : List (List ℕ)) (m : Meant) (b seq : ℕ) (prep : List Step) (bytes : List ℕ)
+    (e : EcHeader) : Type 0 where
   pub cuts : AtEachCut s (λ x. AcceptsBlocks s x m) bs prep
   pub ready : done s bs prep ≡ set bs b (filled s.peb_size bytes)
   pub size : length bytes ≡ 64
@@ -91,7 +97,8 @@ pub record IsPrepared (s : Sizes) (bs : List (List ℕ)) (m : Meant) (b seq : �
 
 -- the old eraseblock is left, or erased and given a header
 abbrev pub IsRelease : Sizes → ℕ → ℕ → List Step → Type 0
-IsRelease s old seq rel = (rel ≡ []) ⊎ ((e : EcHeader) × IsCounter e × (e.image_seq ≢ 0 → e.image_seq ≡ seq) × (rel ≡ renew s old e))
+IsRelease s old seq rel = (rel ≡ [])
+    ⊎ ((e : EcHeader) × IsCounter e × (e.image_seq ≢ 0 → e.image_seq ≡ seq) × (rel ≡ renew s old e))
 
 -- new bytes that can be written to a LEB of a volume
 pub record IsNew (s : Sizes) (r : VolumeRecord) (lnum : ℕ) (new : List ℕ) : Type 0 where
@@ -101,9 +108,12 @@ pub record IsNew (s : Sizes) (r : VolumeRecord) (lnum : ℕ) (new : List ℕ) : 
   pub paged : length new % s.page ≡ 0
   pub strong : weak_place s new ≡ None
 
-module _ (s : Sizes) (g : IsGeometry s) (bs : List (List ℕ)) (m : Meant) (a : AcceptsBlocks s bs m) (id lnum : ℕ) (r : VolumeRecord) (lebs : FinMap nat_cmp (List ℕ))
-    (was : finite.get m.volumes id ≡ Some (record { entry = r; content = content.Dynamic lebs })) (slot : id < 128) (number : lnum < 2 ^ 31) (half : data_pad s r < leb_size s / 2)
-    (new : List ℕ) (n : IsNew s r lnum new) (b : ℕ) (inside : b < length bs) (seq : ℕ) (agrees : Agrees s seq bs) (loses : LosesAll s bs a.records b)
+module _ (s : Sizes) (g : IsGeometry s) (bs : List (List ℕ)) (m : Meant) (a : AcceptsBlocks s bs m) (id lnum : ℕ)
+    (r : VolumeRecord) (lebs : FinMap nat_cmp (List ℕ))
+    (was : finite.get m.volumes id ≡ Some (record { entry = r; content = content.Dynamic lebs })) (slot : id < 128)
+    (number : lnum < 2 ^ 31) (half : data_pad s r < leb_size s / 2)
+    (new : List ℕ) (n : IsNew s r lnum new) (b : ℕ) (inside : b < length bs) (seq : ℕ) (agrees : Agrees s seq bs)
+    (loses : LosesAll s bs a.records b)
     (prep : List Step) (bytes : List ℕ) (e : EcHeader) (prepared : IsPrepared s bs m b seq prep bytes e)
     (sqnum : ℕ) (few : sqnum < 2 ^ 64) (above : (of : Leb) (q : ℕ) → IsMember s bs of q → sqnum_at s bs q < sqnum)
     (old : ℕ) (wins : Wins s bs (id, lnum) old) (rel : List Step) (release : IsRelease s old seq rel) where
@@ -153,14 +163,17 @@ module _ (s : Sizes) (g : IsGeometry s) (bs : List (List ℕ)) (m : Meant) (a : 
   change_is : IsChanged m next id lnum r (filled (usable m.sizes r) new)
   change_is = change.changed-next m a.means.meaning id lnum new r lebs was n.inside short
 
-  old_means : SlotMeans s bs id (finite.get a.records.of id) (Some (record { entry = r; content = content.Dynamic lebs }))
+  old_means : SlotMeans s bs id (finite.get a.records.of id)
+      (Some (record { entry = r; content = content.Dynamic lebs }))
   old_means = subst (λ (o : Option Volume). SlotMeans s bs id (finite.get a.records.of id) o) was (a.means.slots id)
 
   recorded : finite.get a.records.of id ≡ Some r
   recorded = recorded_by s bs id (finite.get a.records.of id) _ old_means
 
   dynamic : r.kind ≡ kind.Dynamic
-  dynamic = (subst (λ (o : Option VolumeRecord). SlotMeans s bs id o (Some (record { entry = r; content = content.Dynamic lebs }))) recorded old_means).1.1
+  dynamic =
+      (subst (λ (o : Option VolumeRecord). SlotMeans s bs id o
+      (Some (record { entry = r; content = content.Dynamic lebs }))) recorded old_means).1.1
 
   counts : IsOutside a.records of → ⊥
   counts = within_counts a.records id r lnum recorded (λ _. n.inside)
@@ -181,22 +194,28 @@ module _ (s : Sizes) (g : IsGeometry s) (bs : List (List ℕ)) (m : Meant) (a : 
   room : usable s r ≤ length new + (s.peb_size - (s.data_offset + length new))
   room = let k = fits_leb in let l = g.leb in omega arith
 
-  good : (x : List ℕ) → IsMount s seq bs of header x → is_good s x header ≡ true → leb s x ≡ new ++ blank (s.peb_size - (s.data_offset + length new)) → Q (set bs b x)
+  good : (x : List ℕ) → IsMount s seq bs of header x → is_good s x header ≡ true
+      → leb s x ≡ new ++ blank (s.peb_size - (s.data_offset + length new)) → Q (set bs b x)
   good x mount k text =
       let reads : filled (usable m.sizes r) new ≡ take (usable s r) (leb s x) =
-      ap (λ (z : Sizes). filled (usable z r) new) sizes ∙ sym (take_filled (usable s r) new (s.peb_size - (s.data_offset + length new)) n.short room) ∙ ap (take (usable s r)) (sym text) in
-      mounted_good s bs b x inside id lnum header seq agrees mount k m next a used loses (λ z. (let l = slot in omega arith)) r (filled (usable m.sizes r) new) change_is reads like
+      ap (λ (z : Sizes). filled (usable z r) new) sizes
+      ∙ sym (take_filled (usable s r) new (s.peb_size - (s.data_offset + length new)) n.short room)
+      ∙ ap (take (usable s r)) (sym text) in
+      mounted_good s bs b x inside id lnum header seq agrees mount k m next a used loses
+      (λ z. (let l = slot in omega arith)) r (filled (usable m.sizes r) new) change_is reads like
 
   -- once the copy is good, the old winner wins nothing
   pub apart : old ≢ b
   apart z = loses of counts (subst (Wins s bs of) z wins)
 
-  old_loses : (x : List ℕ) (mount : IsMount s seq bs of header x) → is_good s x header ≡ true → (other : Leb) → Wins s (set bs b x) other old → ⊥
+  old_loses : (x : List ℕ) (mount : IsMount s seq bs of header x) → is_good s x header ≡ true → (other : Leb)
+      → Wins s (set bs b x) other old → ⊥
   old_loses x mount k other w =
       let here = member_was s bs b x inside other old apart w.member in
       let same : other ≡ of = one_name s bs a.records old other of here wins.member in
       let clean : NoFault s (set bs b x) = mounted_clean s bs b x inside of header seq agrees mount a.clean in
-      apart (Wins-unique s (set bs b x) of old b clean (subst (λ (o : Leb). Wins s (set bs b x) o old) same w) (mounted_wins s bs b x inside of header seq agrees mount k))
+      apart (Wins-unique s (set bs b x) of old b clean (subst (λ (o : Leb). Wins s (set bs b x) o old) same w)
+      (mounted_wins s bs b x inside of header seq agrees mount k))
 
   abbrev full : List ℕ
   full = copy.part_at s g bs b inside seq of bytes e header new copy_is P Q (pages_of s new)
@@ -208,10 +227,12 @@ module _ (s : Sizes) (g : IsGeometry s) (bs : List (List ℕ)) (m : Meant) (a : 
   place = (whole_place-is s new n.paged).most
 
   full_good : is_good s full header ≡ true
-  full_good = copy.good_at s g bs b inside seq of bytes e header new copy_is P Q (pages_of s new) (omega arith) ∙ told-from s new n.paged (pages_of s new) place (omega arith)
+  full_good = copy.good_at s g bs b inside seq of bytes e header new copy_is P Q (pages_of s new) (omega arith)
+      ∙ told-from s new n.paged (pages_of s new) place (omega arith)
 
   full_accepted : Q (set bs b full)
-  full_accepted = good full full_mount full_good (copy.whole_at s g bs b inside seq of bytes e header new copy_is P Q (pages_of s new) place (omega arith))
+  full_accepted = good full full_mount full_good
+      (copy.whole_at s g bs b inside seq of bytes e header new copy_is P Q (pages_of s new) place (omega arith))
 
   old_inside : old < length (set bs b full)
   old_inside = let l = wins.member.inside in omega (arith, length-set bs b full)
@@ -224,12 +245,19 @@ module _ (s : Sizes) (g : IsGeometry s) (bs : List (List ℕ)) (m : Meant) (a : 
       none_after (suc k) = refl
   late_by (inr z) =
       subst (AtEachCut s Q (set bs b full)) (sym z.3)
-      (renew_accepted s g z.0 z.1 (set bs b full) old old_inside seq next full_accepted (used_by_volume s (set bs b full) next full_accepted id _ change_is.is)
-      (agrees_set s bs b full inside seq agrees full_mount.image) (λ other _. old_loses full full_mount full_good other) z.2)
+      (renew_accepted s g z.0 z.1 (set bs b full) old old_inside seq next full_accepted
+      (used_by_volume s (set bs b full) next full_accepted id _ change_is.is)
+      (agrees_set s bs b full inside seq agrees full_mount.image)
+      (λ other _. old_loses full full_mount full_good other) z.2)
 
   -- cut after any step, the eraseblocks are accepted: before the turn with the old meaning, from it on with the new
-  pub mapped : TurnsAt s P (λ x. AcceptsBlocks s x (changed m id lnum new)) bs ((prep ++ program_header s b bytes header ∷ []) ++ program_text s b new ++ rel) (length prep + suc (whole_place s new))
+  pub mapped : TurnsAt s P (λ x. AcceptsBlocks s x (changed m id lnum new)) bs
+      ((prep ++ program_header s b bytes header ∷ []) ++ program_text s b new ++ rel)
+      (length prep + suc (whole_place s new))
   mapped =
-      subst (λ (k : Meant). TurnsAt s P (λ x. AcceptsBlocks s x k) bs ((prep ++ program_header s b bytes header ∷ []) ++ program_text s b new ++ rel) (length prep + suc (whole_place s new)))
+      subst (λ (k : Meant). TurnsAt s P (λ x. AcceptsBlocks s x k) bs
+      ((prep ++ program_header s b bytes header ∷ []) ++ program_text s b new ++ rel)
+      (length prep + suc (whole_place s new)))
       (sym (change.changed-is m a.means.meaning id lnum new r lebs was n.inside short))
-      (copy.atomic_turns s g bs b inside seq of bytes e header new copy_is P Q prep rel prepared.cuts prepared.ready bad good (late_by release))
+      (copy.atomic_turns s g bs b inside seq of bytes e header new copy_is P Q prep rel prepared.cuts prepared.ready bad
+      good (late_by release))

@@ -40,9 +40,11 @@ module _ (s : Sizes) (g : IsGeometry s) (bs : List (List ℕ)) (a : Whole) where
     where
       by_test : (b : Bool) → FitAll s cs (cond b [] (renew s p (next_ec a.scan (ec_at s bs p))))
       by_test true = tt
-      by_test false = renew_fits s g (next_ec a.scan (ec_at s bs p)) (bytes-ec s (next_ec a.scan (ec_at s bs p))) cs p inside
+      by_test false = renew_fits s g (next_ec a.scan (ec_at s bs p))
+          (bytes-ec s (next_ec a.scan (ec_at s bs p))) cs p inside
 
-  release_fits : (cs : List (List ℕ)) (p : ℕ) (now : Option EcHeader) → p < length cs → FitAll s cs (release s bs a p now)
+  release_fits : (cs : List (List ℕ)) (p : ℕ) (now : Option EcHeader) → p < length cs
+      → FitAll s cs (release s bs a p now)
   release_fits cs p now inside = by_test (is_worn now)
     where
       by_test : (b : Bool) → FitAll s cs (cond b [] (renew s p (next_ec a.scan now)))
@@ -50,7 +52,8 @@ module _ (s : Sizes) (g : IsGeometry s) (bs : List (List ℕ)) (a : Whole) where
       by_test false = renew_fits s g (next_ec a.scan now) (bytes-ec s (next_ec a.scan now)) cs p inside
 
   -- a header on an eraseblock that was made ready
-  module _ (cs : List (List ℕ)) (b : ℕ) (inside : b < length cs) (bytes : List ℕ) (size : length bytes ≡ 64) (h : VidHeader) (small : h.compat < 256)
+  module _ (cs : List (List ℕ)) (b : ℕ) (inside : b < length cs) (bytes : List ℕ) (size : length bytes ≡ 64)
+      (h : VidHeader) (small : h.compat < 256)
       (ready : done s cs (prepare s bs a b) ≡ set cs b (filled s.peb_size bytes)) where
     prepared : block (done s cs (prepare s bs a b)) b ≡ filled s.peb_size bytes
     prepared = ap (λ (z : List (List ℕ)). block z b) ready ∙ get_or-set_same cs b (filled s.peb_size bytes) [] inside
@@ -64,13 +67,15 @@ module _ (s : Sizes) (g : IsGeometry s) (bs : List (List ℕ)) (a : Whole) where
         (header_fits s g bytes size h small (done s cs (prepare s bs a b)) b within prepared)
 
     -- with a text behind it, and another eraseblock given up
-    module _ (new : List ℕ) (paged : length new % s.page ≡ 0) (room : s.data_offset + length new ≤ s.peb_size) (are : AreBytes new) (old : ℕ) (now : Option EcHeader) (there : old < length cs) where
+    module _ (new : List ℕ) (paged : length new % s.page ≡ 0) (room : s.data_offset + length new ≤ s.peb_size)
+        (are : AreBytes new) (old : ℕ) (now : Option EcHeader) (there : old < length cs) where
       abbrev mount : List Step
       mount = prepare s bs a b ++ program_header s b bytes h ∷ []
 
       mounted : block (done s cs mount) b ≡ laid s bytes (vid_bytes h) []
       mounted =
-          ap (λ (z : List (List ℕ)). block z b) (fold-append (step_done s) cs (prepare s bs a b) (program_header s b bytes h ∷ []))
+          ap (λ (z : List (List ℕ)). block z b)
+          (fold-append (step_done s) cs (prepare s bs a b) (program_header s b bytes h ∷ []))
           ∙ header_done s g bytes size h small (done s cs (prepare s bs a b)) b within prepared
 
       copy_fits : FitAll s cs (mount ++ program_text s b new ++ release s bs a old now)
@@ -79,12 +84,16 @@ module _ (s : Sizes) (g : IsGeometry s) (bs : List (List ℕ)) (a : Whole) where
           let m = length-done s cs (mount ++ program_text s b new) in
           fit-append s cs (mount ++ program_text s b new) (release s bs a old now)
           (fit-append s cs mount (program_text s b new) mount_fits
-          (text_fits s g bytes size h small (done s cs mount) b (omega (arith, n)) new (pages-all s new paged) room are mounted))
+          (text_fits s g bytes size h small (done s cs mount) b (omega (arith, n)) new (pages-all s new paged) room are
+          mounted))
           (release_fits (done s cs (mount ++ program_text s b new)) old now (omega (arith, m)))
 
-module _ (image : Image) (g : IsGeometry image.sizes) (a : Whole) (att : IsAttached image a) (few : a.scan.mean_ec < 2 ^ 31) (narrow : a.scan.image_seq < 2 ^ 32)
-    (id lnum : ℕ) (new : List ℕ) (v : Volume) (there : finite.get a.meaning.volumes id ≡ Some v) (allowed : first_cause image.sizes (eraseblocks image) a id lnum new ≡ None)
-    (half : data_pad image.sizes v.entry < leb_size image.sizes / 2) (bounded : v.entry.reserved < 2 ^ 31) (are : AreBytes new) where
+module _ (image : Image) (g : IsGeometry image.sizes) (a : Whole) (att : IsAttached image a)
+    (few : a.scan.mean_ec < 2 ^ 31) (narrow : a.scan.image_seq < 2 ^ 32)
+    (id lnum : ℕ) (new : List ℕ) (v : Volume) (there : finite.get a.meaning.volumes id ≡ Some v)
+    (allowed : first_cause image.sizes (eraseblocks image) a id lnum new ≡ None)
+    (half : data_pad image.sizes v.entry < leb_size image.sizes / 2) (bounded : v.entry.reserved < 2 ^ 31)
+    (are : AreBytes new) where
   abbrev s : Sizes
   s = image.sizes
 
@@ -92,19 +101,24 @@ module _ (image : Image) (g : IsGeometry image.sizes) (a : Whole) (att : IsAttac
   bs = eraseblocks image
 
   room : s.data_offset + length new ≤ s.peb_size
-  room = let l = attached.fits_leb image g a att few narrow id lnum new v there allowed half bounded in let k = g.leb in omega arith
+  room = let l = attached.fits_leb image g a att few narrow id lnum new v there allowed half bounded in let k = g.leb in
+      omega arith
 
   paged : length new % s.page ≡ 0
   paged = (attached.no_cause image g a att few narrow id lnum new v there allowed half bounded).is_new.paged
 
-  mapped_fits : (old : ℕ) → finite.get a.scan.winners (id, lnum) ≡ Some old → FitAll s bs (mapped_plan s bs a v.entry id lnum new (taken s bs a 0) old)
+  mapped_fits : (old : ℕ) → finite.get a.scan.winners (id, lnum) ≡ Some old
+      → FitAll s bs (mapped_plan s bs a v.entry id lnum new (taken s bs a 0) old)
   mapped_fits old found =
       let made = attached.made image g a att few narrow id lnum new v there allowed half bounded old found in
       let may = attached.may image g a att few narrow id lnum new v there allowed half bounded old found in
-      copy_fits s g bs a bs (taken s bs a 0) may.0 (ready_bytes s bs a (taken s bs a 0)) made.2.size (copy_header 0 (data_pad s v.entry) id lnum (a.scan.top_sqnum + 1) new) (omega arith)
-      made.2.ready new paged room are old (ec_at s bs old) (found_wins s bs a.scan att.scan (id, lnum) old found).member.inside
+      copy_fits s g bs a bs (taken s bs a 0) may.0 (ready_bytes s bs a (taken s bs a 0)) made.2.size
+      (copy_header 0 (data_pad s v.entry) id lnum (a.scan.top_sqnum + 1) new) (omega arith)
+      made.2.ready new paged room are old (ec_at s bs old)
+      (found_wins s bs a.scan att.scan (id, lnum) old found).member.inside
 
-  unmapped_fits : finite.get a.scan.winners (id, lnum) ≡ None → FitAll s bs (unmapped_plan s bs a v.entry id lnum new (taken s bs a 0) (taken s bs a 1))
+  unmapped_fits : finite.get a.scan.winners (id, lnum) ≡ None
+      → FitAll s bs (unmapped_plan s bs a v.entry id lnum new (taken s bs a 0) (taken s bs a 1))
   unmapped_fits found =
       let made0 = attached.made0 image g a att few narrow id lnum new v there allowed half bounded found in
       let made1 = attached.made1 image g a att few narrow id lnum new v there allowed half bounded found in
@@ -115,20 +129,25 @@ module _ (image : Image) (g : IsGeometry image.sizes) (a : Whole) (att : IsAttac
       let header0 = blank_header (data_pad s v.entry) id lnum (a.scan.top_sqnum + 1) in
       let cs = attached.cs image g a att few narrow id lnum new v there allowed half bounded found in
       let mount0 = prepare s bs a e0 ++ program_header s e0 (ready_bytes s bs a e0) header0 ∷ [] in
-      let first : FitAll s bs mount0 = mount_fits s g bs a bs e0 may0.0 (ready_bytes s bs a e0) made0.2.size header0 (omega arith) made0.2.ready in
+      let first : FitAll s bs mount0 = mount_fits s g bs a bs e0 may0.0 (ready_bytes s bs a e0) made0.2.size header0
+      (omega arith) made0.2.ready in
       let n = length-set bs e0 (laid s (ready_bytes s bs a e0) (vid_bytes header0) []) in
       let e0_inside : e0 < length bs = may0.0 in
       let b1_inside : b1 < length bs = may1.0 in
-      let second = copy_fits s g bs a cs b1 (omega arith) (ready_bytes s bs a b1) made1.2.size (copy_header 0 (data_pad s v.entry) id lnum (a.scan.top_sqnum + 2) new) (omega arith)
+      let second = copy_fits s g bs a cs b1 (omega arith) (ready_bytes s bs a b1) made1.2.size
+      (copy_header 0 (data_pad s v.entry) id lnum (a.scan.top_sqnum + 2) new) (omega arith)
       made1.2.ready new paged room are e0 (ready_ec s bs a e0) (omega arith) in
-      let rest : List Step = atomic_copy s bs a b1 (copy_header 0 (data_pad s v.entry) id lnum (a.scan.top_sqnum + 2) new) new e0 (ready_ec s bs a e0) in
+      let rest : List Step = atomic_copy s bs a b1
+      (copy_header 0 (data_pad s v.entry) id lnum (a.scan.top_sqnum + 2) new) new e0 (ready_ec s bs a e0) in
       fit-append s bs mount0 rest first
-      (subst (λ (z : List (List ℕ)). FitAll s z rest) (sym (attached.mounted_done image g a att few narrow id lnum new v there allowed half bounded found)) second)
+      (subst (λ (z : List (List ℕ)). FitAll s z rest)
+      (sym (attached.mounted_done image g a att few narrow id lnum new v there allowed half bounded found)) second)
 
   pub plan_fits : AllFit s bs (plan_of s bs a v.entry id lnum new)
   plan_fits = all_fit s bs (plan_of s bs a v.entry id lnum new) (by_winner (finite.get a.scan.winners (id, lnum)) refl)
     where
       by_winner : (o : Option ℕ) → finite.get a.scan.winners (id, lnum) ≡ o
-          → FitAll s bs (option_map_or (mapped_plan s bs a v.entry id lnum new (taken s bs a 0)) o (unmapped_plan s bs a v.entry id lnum new (taken s bs a 0) (taken s bs a 1)))
+          → FitAll s bs (option_map_or (mapped_plan s bs a v.entry id lnum new (taken s bs a 0)) o
+          (unmapped_plan s bs a v.entry id lnum new (taken s bs a 0) (taken s bs a 1)))
       by_winner (Some old) e = mapped_fits old e
       by_winner None e = unmapped_fits e

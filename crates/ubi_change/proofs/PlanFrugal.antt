@@ -1,4 +1,5 @@
--- The plan of an attached image, against which no cause stands, touches just what it needs, erases what is given up, and
+-- The plan of an attached image, against which no cause stands, touches just what it needs, erases what is given up,
+-- and
 -- counts each erase.
 use Rattle.std.proofs.Common.{◌≡◌, ℕ, ◌^◌, ◌<◌, List}
 use Rattle.std.specs.Prelude.{None, Some}
@@ -17,15 +18,19 @@ use Rattle.ubi_change.proofs.GivenUp.{plan_gives_up}
 use Rattle.ubi_change.proofs.PlanSurvives.{mean_few, sound}
 use Rattle.ubi_change.proofs.Touched.{plan_touches}
 
-pub plan_frugal : (image : Image) → IsGeometry image.sizes → (a : Whole) → IsAttached image a → a.scan.image_seq < 2 ^ 32 → (id lnum : ℕ) (new : List ℕ) (v : Volume) → get a.meaning.volumes id ≡ Some v
-    → first_cause image.sizes (eraseblocks image) a id lnum new ≡ None → IsFrugal image.sizes (eraseblocks image) a id lnum new (plan_of image.sizes (eraseblocks image) a v.entry id lnum new)
+pub plan_frugal : (image : Image) → IsGeometry image.sizes → (a : Whole) → IsAttached image a
+    → a.scan.image_seq < 2 ^ 32 → (id lnum : ℕ) (new : List ℕ) (v : Volume) → get a.meaning.volumes id ≡ Some v
+    → first_cause image.sizes (eraseblocks image) a id lnum new ≡ None
+    → IsFrugal image.sizes (eraseblocks image) a id lnum new
+    (plan_of image.sizes (eraseblocks image) a v.entry id lnum new)
 plan_frugal image g a att narrow id lnum new v there allowed =
     let r = sound image a att id v there in
     let few = mean_few image a att in
     let half = half_pad image.sizes v.entry r g in
     let bounded = reserved_within image.sizes v.entry r in
     record {
-      touches = plan_touches image.sizes (eraseblocks image) a v.entry id lnum new (no_cause image g a att few narrow id lnum new v there allowed half bounded).enough;
+      touches = plan_touches image.sizes (eraseblocks image) a v.entry id lnum new
+          (no_cause image g a att few narrow id lnum new v there allowed half bounded).enough;
       gives_up = plan_gives_up image g a att few narrow id lnum new v there allowed half bounded;
       counts = plan_counts image g a att few narrow id lnum new v there allowed half bounded;
     }

@@ -25,7 +25,8 @@ use Rattle.ubi_change.proofs.Attached.{IsAllowed, is_allowed}
 use Rattle.ubi_change.proofs.Choosing.{may_be_taken}
 
 -- the first of causes and of others behind them
-front_stands : (xs ys : List (Option ChangeRefusal)) (c : ChangeRefusal) → first_of xs ≡ Some c → first_of (xs ++ ys) ≡ Some c
+front_stands : (xs ys : List (Option ChangeRefusal)) (c : ChangeRefusal) → first_of xs ≡ Some c
+    → first_of (xs ++ ys) ≡ Some c
 front_stands [] ys c e = absurd (cc)
 front_stands (Some d ∷ xs) ys c e = e
 front_stands (None ∷ xs) ys c e = front_stands xs ys c e
@@ -64,7 +65,16 @@ module _ (s : Sizes) (bs : List (List ℕ)) (a : Whole) (r : VolumeRecord) (id l
       some_own _ refusal.Updating (λ c e. absurd (cc)),
       (
         some_own _ refusal.OutOfRange (λ c e. absurd (cc)),
-        (some_own _ refusal.BadLength (λ c e. absurd (cc)), (weak_own _, (some_own _ refusal.Exhausted (λ c e. absurd (cc)), (some_own _ refusal.NoFree (λ c e. absurd (cc)), tt)))),
+        (
+          some_own _ refusal.BadLength (λ c e. absurd (cc)),
+          (
+            weak_own _,
+            (
+              some_own _ refusal.Exhausted (λ c e. absurd (cc)),
+              (some_own _ refusal.NoFree (λ c e. absurd (cc)), tt),
+            ),
+          ),
+        ),
       ),
     ),
   )
@@ -78,15 +88,23 @@ module _ (image : Image) (a : Whole) (att : IsAttached image a) (id lnum : ℕ) 
 
   -- no volume has the number
   pub no_volume : finite.get a.meaning.volumes id ≡ None → IsChangeRefusal image id lnum new refusal.NoVolume
-  no_volume none = (a, att, ap (λ (o : Option Volume). option_map_or (λ v. first_of (causes s bs a v.entry id lnum new)) o (Some refusal.NoVolume)) none)
+  no_volume none = (
+    a,
+    att,
+    ap (λ (o : Option Volume). option_map_or (λ v. first_of (causes s bs a v.entry id lnum new)) o
+        (Some refusal.NoVolume)) none,
+  )
 
   module _ (v : Volume) (there : finite.get a.meaning.volumes id ≡ Some v) where
     cause_is : first_cause s bs a id lnum new ≡ first_of (causes s bs a v.entry id lnum new)
-    cause_is = ap (λ (o : Option Volume). option_map_or (λ v. first_of (causes s bs a v.entry id lnum new)) o (Some refusal.NoVolume)) there
+    cause_is = ap (λ (o : Option Volume). option_map_or (λ v. first_of (causes s bs a v.entry id lnum new)) o
+        (Some refusal.NoVolume)) there
 
-    stands : (c : ChangeRefusal) → first_of (causes s bs a v.entry id lnum new) ≡ Some c → IsChangeRefusal image id lnum new c
+    stands : (c : ChangeRefusal) → first_of (causes s bs a v.entry id lnum new) ≡ Some c
+        → IsChangeRefusal image id lnum new c
     stands refusal.Memory e = tt
-    stands (refusal.Attach c) e = absurd (first_own (causes s bs a v.entry id lnum new) (are_own s bs a v.entry id lnum new) c e)
+    stands (refusal.Attach c) e =
+        absurd (first_own (causes s bs a v.entry id lnum new) (are_own s bs a v.entry id lnum new) c e)
     stands refusal.NoVolume e = (a, att, cause_is ∙ e)
     stands refusal.StaticVolume e = (a, att, cause_is ∙ e)
     stands refusal.Updating e = (a, att, cause_is ∙ e)
@@ -96,11 +114,13 @@ module _ (image : Image) (a : Whole) (att : IsAttached image a) (id lnum : ℕ) 
     stands refusal.Exhausted e = (a, att, cause_is ∙ e)
     stands refusal.NoFree e = (a, att, cause_is ∙ e)
 
-    pub own_stands : (c : ChangeRefusal) → first_of (own_causes s v.entry lnum new) ≡ Some c → IsChangeRefusal image id lnum new c
+    pub own_stands : (c : ChangeRefusal) → first_of (own_causes s v.entry lnum new) ≡ Some c
+        → IsChangeRefusal image id lnum new c
     own_stands c e = stands c (front_stands (own_causes s v.entry lnum new) (image_causes s bs a id lnum) c e)
 
     module _ (own : first_of (own_causes s v.entry lnum new) ≡ None) where
-      pub image_stands : (c : ChangeRefusal) → first_of (image_causes s bs a id lnum) ≡ Some c → IsChangeRefusal image id lnum new c
+      pub image_stands : (c : ChangeRefusal) → first_of (image_causes s bs a id lnum) ≡ Some c
+          → IsChangeRefusal image id lnum new c
       image_stands c e = stands c (rest_stands (own_causes s v.entry lnum new) (image_causes s bs a id lnum) own ∙ e)
 
       -- no cause stands
@@ -121,16 +141,21 @@ module _ (image : Image) (a : Whole) (att : IsAttached image a) (id lnum : ℕ) 
         is_short g = let l = no_cause.is_new.short in let p = g.peb_to in omega arith
 
       -- the steps are those of the plan
-      pub steps_are : (on : Places) → ArePlaces s bs a id lnum on → (t : Target) → t ≡ record { id = id; lnum = lnum; data_pad = data_pad s v.entry }
+      pub steps_are : (on : Places) → ArePlaces s bs a id lnum on → (t : Target)
+          → t ≡ record { id = id; lnum = lnum; data_pad = data_pad s v.entry }
           → steps_on s bs a t new on ≡ plan_of s bs a v.entry id lnum new
       steps_are (places.Mapped copy old) are t e =
           ap (λ (t : Target). steps_on s bs a t new (places.Mapped copy old)) e
           ∙ ap (λ b. mapped_plan s bs a v.entry id lnum new b old) are.0.1
-          ∙ sym (ap (λ (o : Option ℕ). option_map_or (mapped_plan s bs a v.entry id lnum new (taken s bs a 0)) o (unmapped_plan s bs a v.entry id lnum new (taken s bs a 0) (taken s bs a 1))) are.0.0)
+          ∙ sym
+          (ap (λ (o : Option ℕ). option_map_or (mapped_plan s bs a v.entry id lnum new (taken s bs a 0)) o
+          (unmapped_plan s bs a v.entry id lnum new (taken s bs a 0) (taken s bs a 1))) are.0.0)
       steps_are (places.Unmapped first copy) are t e =
           ap (λ (t : Target). steps_on s bs a t new (places.Unmapped first copy)) e
           ∙ ap₂ (λ e b. unmapped_plan s bs a v.entry id lnum new e b) are.0.1 are.0.2
-          ∙ sym (ap (λ (o : Option ℕ). option_map_or (mapped_plan s bs a v.entry id lnum new (taken s bs a 0)) o (unmapped_plan s bs a v.entry id lnum new (taken s bs a 0) (taken s bs a 1))) are.0.0)
+          ∙ sym
+          (ap (λ (o : Option ℕ). option_map_or (mapped_plan s bs a v.entry id lnum new (taken s bs a 0)) o
+          (unmapped_plan s bs a v.entry id lnum new (taken s bs a 0) (taken s bs a 1))) are.0.0)
 
       -- they work within the image, and with numbers of 64 bits
       pub are_within : (on : Places) → ArePlaces s bs a id lnum on → AreWithin s bs a on
@@ -144,5 +169,8 @@ module _ (image : Image) (a : Whole) (att : IsAttached image a) (id lnum : ℕ) 
           let k = no_cause (places.Unmapped first copy) are in
           let n : needs s bs a id lnum ≡ 2 = ap (λ (o : Option ℕ). option_map_or (λ _. 1) o 2) are.0.0 in
           let one = may_be_taken s bs a.states 0 (let e = k.enough in omega arith) in
-          let two = may_be_taken s bs a.states 1 (let e = k.enough in omega arith) in
-          (subst (λ (p : ℕ). p < length bs) (sym are.0.1) one.0, subst (λ (p : ℕ). p < length bs) (sym are.0.2) two.0, (let f = k.few in omega arith))
+          let two = may_be_taken s bs a.states 1 (let e = k.enough in omega arith) in (
+            subst (λ (p : ℕ). p < length bs) (sym are.0.1) one.0,
+            subst (λ (p : ℕ). p < length bs) (sym are.0.2) two.0,
+            (let f = k.few in omega arith),
+          )

@@ -1,4 +1,5 @@
--- The plan of an attached image, against which no cause stands, programs the pages of an eraseblock in rising order between
+-- The plan of an attached image, against which no cause stands, programs the pages of an eraseblock in rising order
+-- between
 -- two erases.
 use Rattle.std.proofs.Common.{◌≡◌, ℕ, ◌^◌, ◌<◌, List}
 use Rattle.std.specs.Prelude.{None, Some}
@@ -16,8 +17,10 @@ use Rattle.ubi_change.proofs.HeadersKept.{plan_keeps}
 use Rattle.ubi_change.proofs.PagesRise.{page_0_twice, pages_rise, plan_order}
 use Rattle.ubi_change.proofs.PlanSurvives.{mean_few, sound}
 
-pub plan_rises : (image : Image) → IsGeometry image.sizes → (a : Whole) → IsAttached image a → a.scan.image_seq < 2 ^ 32 → (id lnum : ℕ) (new : List ℕ) (v : Volume) → get a.meaning.volumes id ≡ Some v
-    → first_cause image.sizes (eraseblocks image) a id lnum new ≡ None → RisesBetweenErases image.sizes (eraseblocks image) (plan_of image.sizes (eraseblocks image) a v.entry id lnum new)
+pub plan_rises : (image : Image) → IsGeometry image.sizes → (a : Whole) → IsAttached image a → a.scan.image_seq < 2 ^ 32
+    → (id lnum : ℕ) (new : List ℕ) (v : Volume) → get a.meaning.volumes id ≡ Some v
+    → first_cause image.sizes (eraseblocks image) a id lnum new ≡ None
+    → RisesBetweenErases image.sizes (eraseblocks image) (plan_of image.sizes (eraseblocks image) a v.entry id lnum new)
 plan_rises image g a att narrow id lnum new v there allowed =
     let r = sound image a att id v there in
     let few = mean_few image a att in

@@ -18,7 +18,8 @@ module _ (image : Image) (a : Whole) (att : IsAttached image a) where
   pub sound : (id : ℕ) (v : Volume) → get a.meaning.volumes id ≡ Some v → rec_fault image.sizes v.entry ≡ None
   sound id v there =
       let means = att.accepted.accepted.means in
-      let is : IsVolume a.meaning.sizes id v = subst (λ (o : Option Volume). IfSome o (IsVolume a.meaning.sizes id)) there (means.meaning.each id) in
+      let is : IsVolume a.meaning.sizes id v = subst (λ (o : Option Volume). IfSome o (IsVolume a.meaning.sizes id))
+      there (means.meaning.each id) in
       subst (λ (z : Sizes). rec_fault z v.entry ≡ None) means.sizes is.sound
 
   pub mean_few : a.scan.mean_ec < 2 ^ 31
@@ -27,4 +28,5 @@ module _ (image : Image) (a : Whole) (att : IsAttached image a) where
 pub plan_survives : PlanSurvives
 plan_survives image a id lnum new v g att narrow there allowed =
     let r = sound image a att id v there in
-    survives_all image g a att (mean_few image a att) narrow id lnum new v there allowed (half_pad image.sizes v.entry r g) (reserved_within image.sizes v.entry r)
+    survives_all image g a att (mean_few image a att) narrow id lnum new v there allowed
+    (half_pad image.sizes v.entry r g) (reserved_within image.sizes v.entry r)

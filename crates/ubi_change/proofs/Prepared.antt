@@ -29,14 +29,16 @@ valid_is ec_read.Corrupt h = absurd (cc)
 valid_is (ec_read.Fault f) h = absurd (cc)
 valid_is (ec_read.Valid e) h = (e, refl)
 
-module _ (s : Sizes) (g : IsGeometry s) (bs : List (List ℕ)) (m : Meant) (a : AcceptsBlocks s bs m) (b : ℕ) (inside : b < length bs) (seq : ℕ) (agrees : Agrees s seq bs) where
+module _ (s : Sizes) (g : IsGeometry s) (bs : List (List ℕ)) (m : Meant) (a : AcceptsBlocks s bs m) (b : ℕ)
+    (inside : b < length bs) (seq : ℕ) (agrees : Agrees s seq bs) where
   -- no step leaves all as it is
   pub no_steps : AtEachCut s (λ x. AcceptsBlocks s x m) bs []
   no_steps zero l = a
   no_steps (suc k) l = a
 
   -- a clean one is ready
-  pub clean_prepared : length (block bs b) ≡ s.peb_size → is_blank (drop 64 (block bs b)) ≡ true → (e : EcHeader) → ec s (block bs b) ≡ ec_read.Valid e
+  pub clean_prepared : length (block bs b) ≡ s.peb_size → is_blank (drop 64 (block bs b)) ≡ true → (e : EcHeader)
+      → ec s (block bs b) ≡ ec_read.Valid e
       → IsPrepared s bs m b seq [] (ec_area (block bs b)) e
   clean_prepared whole empty e valid =
       let y = block bs b in
@@ -44,7 +46,9 @@ module _ (s : Sizes) (g : IsGeometry s) (bs : List (List ℕ)) (m : Meant) (a : 
       let size : length (take 64 y) ≡ 64 = length-take-le 64 y (omega arith) in
       let rest : length (drop 64 y) ≡ s.peb_size - 64 = length-drop 64 y ∙ omega arith in
       let is : filled s.peb_size (take 64 y) ≡ y =
-      filled-by s.peb_size 64 (take 64 y) size ∙ ap (λ z. take 64 y ++ z) (sym (blank_text (drop 64 y) (s.peb_size - 64) empty rest)) ∙ take-append-drop 64 y in
+      filled-by s.peb_size 64 (take 64 y) size
+      ∙ ap (λ z. take 64 y ++ z) (sym (blank_text (drop 64 y) (s.peb_size - 64) empty rest))
+      ∙ take-append-drop 64 y in
       record {
         cuts = no_steps;
         ready = sym (ap (set bs b) is ∙ set-get_or bs b []);
@@ -54,7 +58,8 @@ module _ (s : Sizes) (g : IsGeometry s) (bs : List (List ℕ)) (m : Meant) (a : 
       }
 
   -- any other is after an erase
-  pub renew_prepared : (AllBlank s bs → ⊥) → LosesAll s bs a.records b → (e : EcHeader) → IsCounter e → (e.image_seq ≢ 0 → e.image_seq ≡ seq)
+  pub renew_prepared : (AllBlank s bs → ⊥) → LosesAll s bs a.records b → (e : EcHeader) → IsCounter e
+      → (e.image_seq ≢ 0 → e.image_seq ≡ seq)
       → IsPrepared s bs m b seq (renew s b e) (ec_bytes s e) e
   renew_prepared used loses e counter image = record {
     cuts = renew_accepted s g e counter bs b inside seq m a used agrees loses image;

@@ -17,10 +17,16 @@ module _ (s : Sizes) (bs : List (List ℕ)) (b : ℕ) (x : List ℕ) (inside : b
   block_same = get_or-set_same bs b x [] inside
 
   pub member_kept : (of : Leb) (p : ℕ) → p ≢ b → IsMember s bs of p → IsMember s (set bs b x) of p
-  member_kept of p e h = record { inside = (let i = h.inside in omega (arith, length-set bs b x)); named = ap (named_in s) (block_other p e) ∙ h.named }
+  member_kept of p e h = record {
+    inside = (let i = h.inside in omega (arith, length-set bs b x));
+    named = ap (named_in s) (block_other p e) ∙ h.named;
+  }
 
   pub member_was : (of : Leb) (p : ℕ) → p ≢ b → IsMember s (set bs b x) of p → IsMember s bs of p
-  member_was of p e h = record { inside = (let i = h.inside in omega (arith, length-set bs b x)); named = ap (named_in s) (sym (block_other p e)) ∙ h.named }
+  member_was of p e h = record {
+    inside = (let i = h.inside in omega (arith, length-set bs b x));
+    named = ap (named_in s) (sym (block_other p e)) ∙ h.named;
+  }
 
   pub member_here : (of : Leb) → named_in s x ≡ Some of → IsMember s (set bs b x) of b
   member_here of e = record { inside = omega (arith, length-set bs b x); named = ap (named_in s) block_same ∙ e }
@@ -41,33 +47,46 @@ module _ (s : Sizes) (bs : List (List ℕ)) (b : ℕ) (x : List ℕ) (inside : b
   good_here = ap (good_in s) block_same
 
   -- what holds of each other member's number and goodness still does
-  over_set : (P : ℕ → Bool → Type 0) (of : Leb) → ((q : ℕ) → q ≢ b → IsMember s bs of q → P (sqnum_at s bs q) (good_at s bs q))
-      → (named_in s x ≡ Some of → P (sqnum_in s x) (good_in s x)) → (q : ℕ) → IsMember s (set bs b x) of q → P (sqnum_at s (set bs b x) q) (good_at s (set bs b x) q)
+  over_set : (P : ℕ → Bool → Type 0) (of : Leb)
+      → ((q : ℕ) → q ≢ b → IsMember s bs of q → P (sqnum_at s bs q) (good_at s bs q))
+      → (named_in s x ≡ Some of → P (sqnum_in s x) (good_in s x)) → (q : ℕ) → IsMember s (set bs b x) of q
+      → P (sqnum_at s (set bs b x) q) (good_at s (set bs b x) q)
   over_set P of old new q h = elim (cases_eq q b) [
     | inl e ↦ subst (λ (k : ℕ). P (sqnum_at s (set bs b x) k) (good_at s (set bs b x) k)) (sym e)
-        (subst (λ y. P (sqnum_in s y) (good_in s y)) (sym block_same) (new (named_here of (subst (IsMember s (set bs b x) of) e h))))
+        (subst (λ y. P (sqnum_in s y) (good_in s y)) (sym block_same)
+        (new (named_here of (subst (IsMember s (set bs b x) of) e h))))
     | inr e ↦ subst (λ y. P (sqnum_in s y) (good_in s y)) (sym (block_other q e)) (old q e (member_was of q e h))
   ]
 
   -- a winner that isn't b stays, where b is no better than it
-  pub wins_kept : (of : Leb) (w : ℕ) → w ≢ b → Wins s bs of w → (named_in s x ≡ Some of → (good_in s x ≡ false) × (sqnum_at s bs w ≤ sqnum_in s x)) → Wins s (set bs b x) of w
+  pub wins_kept : (of : Leb) (w : ℕ) → w ≢ b → Wins s bs of w
+      → (named_in s x ≡ Some of → (good_in s x ≡ false) × (sqnum_at s bs w ≤ sqnum_in s x)) → Wins s (set bs b x) of w
   wins_kept of w e h new = record {
     member = member_kept of w e h.member;
     best = elim h.best [
       | inl g ↦ inl (
         good_kept w e ∙ g.0,
-        over_set (λ t f. f ≡ true → t ≤ sqnum_at s (set bs b x) w) of (λ q _ m y. (let k = g.1 q m y in let k' = sqnum_kept w e in omega arith)) (λ n y. (let k = (new n).0 in absurd (cc))),
+        over_set (λ t f. f ≡ true → t ≤ sqnum_at s (set bs b x) w) of
+            (λ q _ m y. (let k = g.1 q m y in let k' = sqnum_kept w e in omega arith))
+            (λ n y. (let k = (new n).0 in absurd (cc))),
       )
-      | inr g ↦ inr (over_set (λ t f. (f ≡ false) × (sqnum_at s (set bs b x) w ≤ t)) of (λ q _ m. ((g q m).0, (let k = (g q m).1 in let k' = sqnum_kept w e in omega arith)))
+      | inr g ↦ inr (over_set (λ t f. (f ≡ false) × (sqnum_at s (set bs b x) w ≤ t)) of
+          (λ q _ m. ((g q m).0, (let k = (g q m).1 in let k' = sqnum_kept w e in omega arith)))
           (λ n. ((new n).0, (let k = (new n).1 in let k' = sqnum_kept w e in omega arith))))
     ];
   }
 
   -- a good member with the greatest number wins
-  pub wins_here : (of : Leb) → named_in s x ≡ Some of → good_in s x ≡ true → ((q : ℕ) → q ≢ b → IsMember s bs of q → sqnum_at s bs q ≤ sqnum_in s x) → Wins s (set bs b x) of b
+  pub wins_here : (of : Leb) → named_in s x ≡ Some of → good_in s x ≡ true
+      → ((q : ℕ) → q ≢ b → IsMember s bs of q → sqnum_at s bs q ≤ sqnum_in s x) → Wins s (set bs b x) of b
   wins_here of named good top = record {
     member = member_here of named;
-    best = inl (good_here ∙ good, over_set (λ t f. f ≡ true → t ≤ sqnum_at s (set bs b x) b) of (λ q e m _. (let k = top q e m in let k' = sqnum_here in omega arith)) (λ _ _. (let k' = sqnum_here in omega arith)));
+    best = inl (
+      good_here ∙ good,
+      over_set (λ t f. f ≡ true → t ≤ sqnum_at s (set bs b x) b) of
+          (λ q e m _. (let k = top q e m in let k' = sqnum_here in omega arith))
+          (λ _ _. (let k' = sqnum_here in omega arith)),
+    );
   }
 
   -- no member where there was none but b
@@ -111,10 +130,12 @@ module _ (s : Sizes) (bs : List (List ℕ)) (b : ℕ) (x : List ℕ) (inside : b
     apart = λ of p q a c e. elim (cases_eq p b) [
       | inl k ↦ elim (cases_eq q b) [
         | inl t ↦ k ∙ sym t
-        | inr t ↦ absurd (fresh of (named_here of (subst (IsMember s (set bs b x) of) k a)) q t (member_was of q t c) (sym (sqnum_kept q t) ∙ sym e ∙ ap (sqnum_at s (set bs b x)) k ∙ sqnum_here))
+        | inr t ↦ absurd (fresh of (named_here of (subst (IsMember s (set bs b x) of) k a)) q t (member_was of q t c)
+            (sym (sqnum_kept q t) ∙ sym e ∙ ap (sqnum_at s (set bs b x)) k ∙ sqnum_here))
       ]
       | inr k ↦ elim (cases_eq q b) [
-        | inl t ↦ absurd (fresh of (named_here of (subst (IsMember s (set bs b x) of) t c)) p k (member_was of p k a) (sym (sqnum_kept p k) ∙ e ∙ ap (sqnum_at s (set bs b x)) t ∙ sqnum_here))
+        | inl t ↦ absurd (fresh of (named_here of (subst (IsMember s (set bs b x) of) t c)) p k (member_was of p k a)
+            (sym (sqnum_kept p k) ∙ e ∙ ap (sqnum_at s (set bs b x)) t ∙ sqnum_here))
         | inr t ↦ h.apart of p q (member_was of p k a) (member_was of q t c) (sym (sqnum_kept p k) ∙ e ∙ sqnum_kept q t)
       ]
     ];
@@ -128,22 +149,28 @@ module _ (s : Sizes) (bs : List (List ℕ)) (b : ℕ) (x : List ℕ) (inside : b
   keeps_vacated out of loses =
       let gone : named_in s x ≡ Some of → ⊥ = λ e. (let k = out in absurd (cc)) in
       record {
-        winner = λ p w. (let e : p ≢ b = λ e. loses (subst (Wins s bs of) e w) in (wins_kept of p e w (λ n. absurd (gone n)), block_other p e));
+        winner = λ p w. (let e : p ≢ b = λ e. loses (subst (Wins s bs of) e w) in
+            (wins_kept of p e w (λ n. absurd (gone n)), block_other p e));
         none = λ none. none_kept of none gone;
       }
 
   -- where x is a member of another LEB, each LEB that b doesn't win
-  pub keeps_others : (leb of : Leb) → named_in s x ≡ Some leb → of ≢ leb → (Wins s bs of b → ⊥) → KeepsLeb s bs (set bs b x) of
+  pub keeps_others : (leb of : Leb) → named_in s x ≡ Some leb → of ≢ leb → (Wins s bs of b → ⊥)
+      → KeepsLeb s bs (set bs b x) of
   keeps_others leb of named other loses =
       let gone : named_in s x ≡ Some of → ⊥ = λ e. (let k = named in other (cc)) in
       record {
-        winner = λ p w. (let e : p ≢ b = λ e. loses (subst (Wins s bs of) e w) in (wins_kept of p e w (λ n. absurd (gone n)), block_other p e));
+        winner = λ p w. (let e : p ≢ b = λ e. loses (subst (Wins s bs of) e w) in
+            (wins_kept of p e w (λ n. absurd (gone n)), block_other p e));
         none = λ none. none_kept of none gone;
       }
 
   -- where x is a bad member with the greatest number, the LEB itself too, if it has a winner
-  pub keeps_bad : (leb : Leb) (w : ℕ) → Wins s bs leb w → good_in s x ≡ false → ((q : ℕ) → IsMember s bs leb q → sqnum_at s bs q ≤ sqnum_in s x) → (Wins s bs leb b → ⊥) → KeepsLeb s bs (set bs b x) leb
+  pub keeps_bad : (leb : Leb) (w : ℕ) → Wins s bs leb w → good_in s x ≡ false
+      → ((q : ℕ) → IsMember s bs leb q → sqnum_at s bs q ≤ sqnum_in s x) → (Wins s bs leb b → ⊥)
+      → KeepsLeb s bs (set bs b x) leb
   keeps_bad leb w wins bad top loses = record {
-    winner = λ p k. (let e : p ≢ b = λ e. loses (subst (Wins s bs leb) e k) in (wins_kept leb p e k (λ n. (bad, top p k.member)), block_other p e));
+    winner = λ p k. (let e : p ≢ b = λ e. loses (subst (Wins s bs leb) e k) in
+        (wins_kept leb p e k (λ n. (bad, top p k.member)), block_other p e));
     none = λ none. absurd (none w wins.member);
   }

@@ -13,9 +13,11 @@ use Rattle.ubi_volume.specs.declared.content.Volume.{Volume}
 use Rattle.ubi_volume.proofs.Recorded.{record_of}
 use Rattle.ubi_volume.proofs.Winners.{no_some}
 
-with_entry : (o : Option Volume) (r : VolumeRecord) → option_map (λ (v : Volume). v.entry) o ≡ Some r → (c : Content) × (o ≡ Some (record { entry = r; content = c }))
+with_entry : (o : Option Volume) (r : VolumeRecord) → option_map (λ (v : Volume). v.entry) o ≡ Some r
+    → (c : Content) × (o ≡ Some (record { entry = r; content = c }))
 with_entry None r e = absurd (no_some r e)
-with_entry (Some v) r e = (v.content, ap (λ (x : VolumeRecord). Some (record { entry = x; content = v.content })) (same_Some v.entry r e))
+with_entry (Some v) r e =
+    (v.content, ap (λ (x : VolumeRecord). Some (record { entry = x; content = v.content })) (same_Some v.entry r e))
 
 without_entry : (o : Option Volume) → option_map (λ (v : Volume). v.entry) o ≡ None → o ≡ None
 without_entry None e = refl
@@ -30,7 +32,8 @@ module _ (image : Image) (seen : Seen) (is : IsSurvey image seen) where
   recorded id = ap (λ (t : Records). get t.of id) is.records ∙ record_of is.meaning id
 
   -- a record is that of a volume
-  pub has_volume : (id : ℕ) (r : VolumeRecord) → get seen.records.of id ≡ Some r → (c : Content) × (get is.meaning.volumes id ≡ Some (record { entry = r; content = c }))
+  pub has_volume : (id : ℕ) (r : VolumeRecord) → get seen.records.of id ≡ Some r
+      → (c : Content) × (get is.meaning.volumes id ≡ Some (record { entry = r; content = c }))
   has_volume id r e = with_entry (get is.meaning.volumes id) r (sym (recorded id) ∙ e)
 
   -- and without a record there is none

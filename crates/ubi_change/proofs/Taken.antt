@@ -18,7 +18,8 @@ two_of_both (x ∷ y ∷ xs) ys = refl
 
 range_more : (a n : ℕ) → range_with_len a (n + 1) ≡ range_with_len a n ++ (a + n) ∷ []
 range_more a zero = ap (λ k. k ∷ []) (omega arith)
-range_more a (suc n) = let e : a + 1 + n ≡ a + suc n = omega arith in let f : suc n + 1 ≡ suc (n + 1) = omega arith in ap (range_with_len a) f ∙ ap (λ xs. a ∷ xs) (range_more (a + 1) n ∙ ap (λ k. range_with_len (a + 1) n ++ k ∷ []) e)
+range_more a (suc n) = let e : a + 1 + n ≡ a + suc n = omega arith in let f : suc n + 1 ≡ suc (n + 1) = omega arith in
+    ap (range_with_len a) f ∙ ap (λ xs. a ∷ xs) (range_more (a + 1) n ∙ ap (λ k. range_with_len (a + 1) n ++ k ∷ []) e)
 
 module _ (t w : ℕ → Bool) where
   -- those below a number that pass both tests
@@ -50,10 +51,14 @@ module _ (t w : ℕ → Bool) (p : ℕ) where
       by_tests false b f g e = ap (λ x. filter w (cond x (p ∷ []) [])) f
 
   -- the next one passes
-  pub found_more : (old new : FirstTwo) → old ≡ first_two (passing t w p) → (t p && w p) ≡ true → new ≡ with_next old p → new ≡ first_two (passing t w (p + 1))
+  pub found_more : (old new : FirstTwo) → old ≡ first_two (passing t w p) → (t p && w p) ≡ true → new ≡ with_next old p
+      → new ≡ first_two (passing t w (p + 1))
   found_more old new e both f =
-      f ∙ ap (λ two. with_next two p) e ∙ two_more (passing t w p) p ∙ ap first_two (ap (λ xs. passing t w p ++ xs) (sym (here both)) ∙ sym passing-more)
+      f ∙ ap (λ two. with_next two p) e ∙ two_more (passing t w p) p
+      ∙ ap first_two (ap (λ xs. passing t w p ++ xs) (sym (here both)) ∙ sym passing-more)
 
   -- or it doesn't
-  pub found_same : (old : FirstTwo) → old ≡ first_two (passing t w p) → (t p && w p) ≡ false → old ≡ first_two (passing t w (p + 1))
-  found_same old e none = e ∙ ap first_two (sym (append-nil (passing t w p)) ∙ ap (λ xs. passing t w p ++ xs) (sym (nothing none)) ∙ sym passing-more)
+  pub found_same : (old : FirstTwo) → old ≡ first_two (passing t w p) → (t p && w p) ≡ false
+      → old ≡ first_two (passing t w (p + 1))
+  found_same old e none = e ∙ ap first_two (sym (append-nil (passing t w p))
+      ∙ ap (λ xs. passing t w p ++ xs) (sym (nothing none)) ∙ sym passing-more)

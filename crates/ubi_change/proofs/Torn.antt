@@ -18,7 +18,8 @@ same_true [] (y ∷ ys) e = absurd (cc)
 same_true (x ∷ xs) [] e = absurd (cc)
 same_true (x ∷ xs) (y ∷ ys) e = by_test (nat_eq x y) refl e (same_true xs ys)
   where
-    by_test : (b : Bool) → nat_eq x y ≡ b → (b && same_bytes xs ys) ≡ true → (same_bytes xs ys ≡ true → xs ≡ ys) → (x ∷ xs) ≡ (y ∷ ys)
+    by_test : (b : Bool) → nat_eq x y ≡ b → (b && same_bytes xs ys) ≡ true → (same_bytes xs ys ≡ true → xs ≡ ys)
+        → (x ∷ xs) ≡ (y ∷ ys)
     by_test true h e rest = let same : x ≡ y = (grind (arith, nat_tests)) in ap₂ (λ u v. u ∷ v) same (rest e)
     by_test false h e rest = absurd (cc)
 
@@ -40,10 +41,13 @@ same_or_above : (a j : ℕ) → a ≤ j → (j ≡ a) ⊎ (a + 1 ≤ j)
 same_or_above a j l = grind arith
 
 abbrev pub FoundOrNone : (ℕ → Bool) → ℕ → ℕ → Option ℕ → Type 0
-FoundOrNone p a n found = ((found ≡ None) × ((j : ℕ) → a ≤ j → j < a + n → p j ≡ false)) ⊎ ((k : ℕ) × (found ≡ Some k) × IsFirst p a n k)
+FoundOrNone p a n found = ((found ≡ None) × ((j : ℕ) → a ≤ j → j < a + n → p j ≡ false))
+    ⊎ ((k : ℕ) × (found ≡ Some k) × IsFirst p a n k)
 
-find_next : (p : ℕ → Bool) (a n : ℕ) (b : Bool) (rest : Option ℕ) → p a ≡ b → FoundOrNone p (a + 1) n rest → FoundOrNone p a (suc n) (cond b (Some a) rest)
-find_next p a n true rest e h = inr (a, refl, record { low = omega arith; high = omega arith; passes = e; before = λ j l h. absurd (omega arith) })
+find_next : (p : ℕ → Bool) (a n : ℕ) (b : Bool) (rest : Option ℕ) → p a ≡ b → FoundOrNone p (a + 1) n rest
+    → FoundOrNone p a (suc n) (cond b (Some a) rest)
+find_next p a n true rest e h =
+    inr (a, refl, record { low = omega arith; high = omega arith; passes = e; before = λ j l h. absurd (omega arith) })
 find_next p a n false rest e (inl r) = inl (
   r.0,
   λ j l h. elim (same_or_above a j l) [
@@ -96,20 +100,28 @@ module _ (s : Sizes) (new : List ℕ) (paged : length new % s.page ≡ 0) where
     | inl r ↦ subst IsWholePlace (sym (ap (λ (o : Option ℕ). unwrap_or o (pages_of s new)) r.0))
         (record { most = omega arith; whole = torn-all; before = λ j l. r.1 j (omega arith) (omega arith) })
     | inr r ↦ (let f = r.2 in subst IsWholePlace (sym (ap (λ (o : Option ℕ). unwrap_or o (pages_of s new)) r.1))
-        (record { most = (let h = f.high in omega arith); whole = same_true _ _ f.passes; before = λ j l. f.before j (omega arith) l }))
+        (record {
+          most = (let h = f.high in omega arith);
+          whole = same_true _ _ f.passes;
+          before = λ j l. f.before j (omega arith) l;
+        }))
   ]
 
   -- with more pages it is whole too
-  later : (k m : ℕ) (xs : List ℕ) → k ≤ m → m ≤ length xs → filled (length xs) (take k xs) ≡ xs → filled (length xs) (take m xs) ≡ xs
+  later : (k m : ℕ) (xs : List ℕ) → k ≤ m → m ≤ length xs → filled (length xs) (take k xs) ≡ xs
+      → filled (length xs) (take m xs) ≡ xs
   later k m xs l h e =
       let front : length (take k xs) ≡ k = length-take-le k xs (omega arith) in
       let rest : drop k xs ≡ blank (length xs - k) =
-      ap (drop k) (sym (sym (filled-by (length xs) k (take k xs) front) ∙ e)) ∙ drop_at (take k xs) (blank (length xs - k)) k front in
+      ap (drop k) (sym (sym (filled-by (length xs) k (take k xs) front) ∙ e))
+      ∙ drop_at (take k xs) (blank (length xs - k)) k front in
       let sum : m ≡ k + (m - k) = omega arith in
       let gap : (length xs - k) - (m - k) ≡ length xs - m = omega arith in
       let tail : drop m xs ≡ blank (length xs - m) =
-      ap (λ n. drop n xs) sum ∙ sym (drop_twice k (m - k) xs) ∙ ap (drop (m - k)) rest ∙ drop_blank (m - k) (length xs - k) ∙ ap blank gap in
-      filled-by (length xs) m (take m xs) (length-take-le m xs h) ∙ ap (λ ys. take m xs ++ ys) (sym tail) ∙ take-append-drop m xs
+      ap (λ n. drop n xs) sum ∙ sym (drop_twice k (m - k) xs) ∙ ap (drop (m - k)) rest
+      ∙ drop_blank (m - k) (length xs - k) ∙ ap blank gap in
+      filled-by (length xs) m (take m xs) (length-take-le m xs h) ∙ ap (λ ys. take m xs ++ ys) (sym tail)
+      ∙ take-append-drop m xs
     where
       drop_twice : (k n : ℕ) (xs : List ℕ) → drop n (drop k xs) ≡ drop (k + n) xs
       drop_twice k n xs = drop-drop n k xs
@@ -117,13 +129,15 @@ module _ (s : Sizes) (new : List ℕ) (paged : length new % s.page ≡ 0) where
   pub whole-from : (j : ℕ) → whole_place s new ≤ j → j ≤ pages_of s new → torn s new j ≡ new
   whole-from j l h =
       let p = pages-all in
-      later (whole_place s new * s.page) (j * s.page) new (mul-mono (whole_place s new) j s.page l) (let m = mul-mono j (pages_of s new) s.page h in omega arith) whole_place-is.whole
+      later (whole_place s new * s.page) (j * s.page) new (mul-mono (whole_place s new) j s.page l)
+      (let m = mul-mono j (pages_of s new) s.page h in omega arith) whole_place-is.whole
     where
       mul-mono : (a b c : ℕ) → a ≤ b → a * c ≤ b * c
       mul-mono a b c h = nat.mul-le a c b c h (omega arith)
 
   -- before it is whole the check tells, where none is weak
-  pub told-before : weak_place s new ≡ None → (j : ℕ) → j < whole_place s new → (check (torn s new j) == check new) ≡ false
+  pub told-before : weak_place s new ≡ None → (j : ℕ) → j < whole_place s new
+      → (check (torn s new j) == check new) ≡ false
   told-before strong j l =
       let w = whole_place-is in
       let below : j < pages_of s new = (let m = w.most in omega arith) in

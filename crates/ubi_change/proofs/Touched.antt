@@ -67,41 +67,54 @@ module _ (s : Sizes) (bs : List (List ℕ)) (a : Whole) (ps : List ℕ) where
       by_test true = tt
       by_test false = renew_touches p (next_ec a.scan now) c
 
-  pages_touch : (p n : ℕ) (es : List (List ℕ)) → Contains ps p → TouchAll ps (map (λ e. step.Program p e.0 e.1) (enumerate_from n es))
+  pages_touch : (p n : ℕ) (es : List (List ℕ)) → Contains ps p
+      → TouchAll ps (map (λ e. step.Program p e.0 e.1) (enumerate_from n es))
   pages_touch p n [] c = tt
   pages_touch p n (e ∷ es) c = (c, pages_touch p (n + 1) es c)
 
   mount_touches : (p : ℕ) (h : VidHeader) → Contains ps p → TouchAll ps (mount s bs a p h)
-  mount_touches p h c = touch-append ps (prepare s bs a p) (program_header s p (ready_bytes s bs a p) h ∷ []) (prepare_touches p c) (c, tt)
+  mount_touches p h c = touch-append ps (prepare s bs a p) (program_header s p (ready_bytes s bs a p) h ∷ [])
+      (prepare_touches p c) (c, tt)
 
-  copy_touches : (b : ℕ) (h : VidHeader) (new : List ℕ) (old : ℕ) (now : Option EcHeader) → Contains ps b → Contains ps old → TouchAll ps (atomic_copy s bs a b h new old now)
+  copy_touches : (b : ℕ) (h : VidHeader) (new : List ℕ) (old : ℕ) (now : Option EcHeader) → Contains ps b
+      → Contains ps old → TouchAll ps (atomic_copy s bs a b h new old now)
   copy_touches b h new old now c d =
       touch-append ps (mount s bs a b h ++ program_text s b new) (release s bs a old now)
-      (touch-append ps (mount s bs a b h) (program_text s b new) (mount_touches b h c) (pages_touch b (s.data_offset / s.page) (first_chunks s.page (pages_of s new) new) c))
+      (touch-append ps (mount s bs a b h) (program_text s b new) (mount_touches b h c)
+      (pages_touch b (s.data_offset / s.page) (first_chunks s.page (pages_of s new) new) c))
       (release_touches old now d)
 
-module _ (s : Sizes) (bs : List (List ℕ)) (a : Whole) (r : VolumeRecord) (id lnum : ℕ) (new : List ℕ) (enough : needs s bs a id lnum ≤ length (takeable s bs a.states)) where
+module _ (s : Sizes) (bs : List (List ℕ)) (a : Whole) (r : VolumeRecord) (id lnum : ℕ) (new : List ℕ)
+    (enough : needs s bs a id lnum ≤ length (takeable s bs a.states)) where
   -- the eraseblock that is given up is the first of those that a plan may touch
   given : (p : ℕ) → given_up s bs a id lnum ≡ p → Contains (touched s bs a id lnum) p
   given p e = (0, omega arith, e)
 
   taken_touched : (n : ℕ) → n < needs s bs a id lnum → Contains (touched s bs a id lnum) (taken s bs a n)
-  taken_touched n l = in_front (needs s bs a id lnum) n (takeable s bs a.states) (given_up s bs a id lnum) l (omega arith)
+  taken_touched n l = in_front (needs s bs a id lnum) n (takeable s bs a.states) (given_up s bs a id lnum) l
+      (omega arith)
 
   pub plan_touches : TouchesOnly (touched s bs a id lnum) (plan_of s bs a r id lnum new)
-  plan_touches = touch_all (touched s bs a id lnum) (plan_of s bs a r id lnum new) (by_winner (finite.get a.scan.winners (id, lnum)) refl)
+  plan_touches = touch_all (touched s bs a id lnum) (plan_of s bs a r id lnum new)
+      (by_winner (finite.get a.scan.winners (id, lnum)) refl)
     where
       by_winner : (o : Option ℕ) → finite.get a.scan.winners (id, lnum) ≡ o
-          → TouchAll (touched s bs a id lnum) (option_map_or (mapped_plan s bs a r id lnum new (taken s bs a 0)) o (unmapped_plan s bs a r id lnum new (taken s bs a 0) (taken s bs a 1)))
+          → TouchAll (touched s bs a id lnum)
+          (option_map_or (mapped_plan s bs a r id lnum new (taken s bs a 0)) o
+          (unmapped_plan s bs a r id lnum new (taken s bs a 0) (taken s bs a 1)))
       by_winner (Some old) e =
           let n : needs s bs a id lnum ≡ 1 = ap (λ (o : Option ℕ). option_map_or (λ _. 1) o 2) e in
-          copy_touches s bs a (touched s bs a id lnum) (taken s bs a 0) (copy_header 0 (data_pad s r) id lnum (a.scan.top_sqnum + 1) new) new old (ec_at s bs old) (taken_touched 0 (omega arith))
+          copy_touches s bs a (touched s bs a id lnum) (taken s bs a 0)
+          (copy_header 0 (data_pad s r) id lnum (a.scan.top_sqnum + 1) new) new old (ec_at s bs old)
+          (taken_touched 0 (omega arith))
           (given old (ap (λ (o : Option ℕ). option_map_or (λ p. p) o (taken s bs a 0)) e))
       by_winner None e =
           let n : needs s bs a id lnum ≡ 2 = ap (λ (o : Option ℕ). option_map_or (λ _. 1) o 2) e in
           let first = taken s bs a 0 in
           let blank_one = blank_header (data_pad s r) id lnum (a.scan.top_sqnum + 1) in
           let copy = copy_header 0 (data_pad s r) id lnum (a.scan.top_sqnum + 2) new in
-          touch-append (touched s bs a id lnum) (mount s bs a first blank_one) (atomic_copy s bs a (taken s bs a 1) copy new first (ready_ec s bs a first))
+          touch-append (touched s bs a id lnum) (mount s bs a first blank_one)
+          (atomic_copy s bs a (taken s bs a 1) copy new first (ready_ec s bs a first))
           (mount_touches s bs a (touched s bs a id lnum) first blank_one (taken_touched 0 (omega arith)))
-          (copy_touches s bs a (touched s bs a id lnum) (taken s bs a 1) copy new first (ready_ec s bs a first) (taken_touched 1 (omega arith)) (taken_touched 0 (omega arith)))
+          (copy_touches s bs a (touched s bs a id lnum) (taken s bs a 1) copy new first (ready_ec s bs a first)
+          (taken_touched 1 (omega arith)) (taken_touched 0 (omega arith)))

@@ -54,7 +54,8 @@ module _ {X : Type 0} (p : X → Bool) where
   pub count-one : (xs ys : List X) (x : X) → AllFail xs → p x ≡ true → AllFail ys → count_by p (xs ++ x ∷ ys) ≡ 1
   count-one xs ys x a h b =
       let one : more 0 x ≡ 1 = ap (λ b. 0 + cond b 1 0) h ∙ omega arith in
-      fold-append more 0 xs (x ∷ ys) ∙ ap (λ k. fold more k (x ∷ ys)) (count-from 0 xs a) ∙ ap (λ k. fold more k ys) one ∙ count-from 1 ys b
+      fold-append more 0 xs (x ∷ ys) ∙ ap (λ k. fold more k (x ∷ ys)) (count-from 0 xs a) ∙ ap (λ k. fold more k ys) one
+      ∙ count-from 1 ys b
 
 -- which steps program the header of a copy
 other_test : (a b : ℕ) → a ≢ b → (a == b) ≡ false
@@ -69,7 +70,8 @@ both_false false b e = refl
 
 module _ (s : Sizes) (g : IsGeometry s) where
   -- an erase-counter header alone is none
-  alone : (ec : List ℕ) → length ec ≡ 64 → is_copy (header_in s (filled s.page ec)) ≡ false ⊎ (1 ≤ s.vid_offset / s.page)
+  alone : (ec : List ℕ) → length ec ≡ 64 → is_copy (header_in s (filled s.page ec)) ≡ false
+      ⊎ (1 ≤ s.vid_offset / s.page)
   alone ec size = elim (zero_or_more (s.vid_offset / s.page)) [
     | inr m ↦ inr m
     | inl z ↦
@@ -78,8 +80,10 @@ module _ (s : Sizes) (g : IsGeometry s) where
         let at : s.vid_offset % s.page ≡ s.vid_offset = omega arith in
         let left = vid_left s g in
         let from = g.vid_from in
-        inl (ap (λ y. is_copy (vid_reading s (slice_range y (s.vid_offset % s.page) (s.vid_offset % s.page + 64)))) (filled-by s.page 64 ec size)
-        ∙ ap (λ y. is_copy (vid_reading s y)) (behind ec (s.page - 64) (s.vid_offset % s.page) 64 (omega arith) (omega arith)) ∙ ap is_copy (blank_vid s))
+        inl (ap (λ y. is_copy (vid_reading s (slice_range y (s.vid_offset % s.page) (s.vid_offset % s.page + 64))))
+        (filled-by s.page 64 ec size)
+        ∙ ap (λ y. is_copy (vid_reading s y))
+        (behind ec (s.page - 64) (s.vid_offset % s.page) 64 (omega arith) (omega arith)) ∙ ap is_copy (blank_vid s))
   ]
 
   pub renew_fails : (p : ℕ) (e : EcHeader) → AllFail (programs_copy s) (renew s p e)
@@ -88,12 +92,17 @@ module _ (s : Sizes) (g : IsGeometry s) where
       program : (p : ℕ) → programs_copy s (step.Program p 0 (filled s.page (ec_bytes s e))) ≡ false
       program p = elim (alone (ec_bytes s e) refl) [
         | inl k ↦ both_false (0 == s.vid_offset / s.page) (is_copy (header_in s (filled s.page (ec_bytes s e)))) k
-        | inr m ↦ ap (λ b. b && is_copy (header_in s (filled s.page (ec_bytes s e)))) (other_test 0 (s.vid_offset / s.page) (λ z. omega arith))
+        | inr m ↦ ap (λ b. b && is_copy (header_in s (filled s.page (ec_bytes s e))))
+            (other_test 0 (s.vid_offset / s.page) (λ z. omega arith))
       ]
 
-  pages_fail : (p i : ℕ) (es : List (List ℕ)) → s.vid_offset / s.page < i → AllFail (programs_copy s) (map (λ e. step.Program p e.0 e.1) (enumerate_from i es))
+  pages_fail : (p i : ℕ) (es : List (List ℕ)) → s.vid_offset / s.page < i
+      → AllFail (programs_copy s) (map (λ e. step.Program p e.0 e.1) (enumerate_from i es))
   pages_fail p i [] l = tt
-  pages_fail p i (e ∷ es) l = (ap (λ b. b && is_copy (header_in s e)) (other_test i (s.vid_offset / s.page) (λ z. omega arith)), pages_fail p (i + 1) es (omega arith))
+  pages_fail p i (e ∷ es) l = (
+    ap (λ b. b && is_copy (header_in s e)) (other_test i (s.vid_offset / s.page) (λ z. omega arith)),
+    pages_fail p (i + 1) es (omega arith),
+  )
 
   pub text_fails : (p : ℕ) (new : List ℕ) → AllFail (programs_copy s) (program_text s p new)
   text_fails p new = pages_fail p (s.data_offset / s.page) (first_chunks s.page (pages_of s new) new) (vid_before s g)
@@ -110,10 +119,12 @@ module _ (s : Sizes) (g : IsGeometry s) where
           let q : s.vid_offset / s.page ≡ 0 = div-eq_of_lt l in
           let split = div-add-mod s.vid_offset s.page in
           let zero_part : s.page * (s.vid_offset / s.page) ≡ 0 = ap (λ q. s.page * q) q ∙ omega arith in
-          let is : length (cond (nat_lt s.vid_offset s.page) ec []) ≡ 64 = ap (λ b. length (cond b ec [])) (less s.vid_offset s.page l) ∙ size in
+          let is : length (cond (nat_lt s.vid_offset s.page) ec []) ≡ 64 =
+          ap (λ b. length (cond b ec [])) (less s.vid_offset s.page l) ∙ size in
           let from = g.vid_from in
           omega arith
-      | inr l ↦ (let is : length (cond (nat_lt s.vid_offset s.page) ec []) ≡ 0 = ap (λ b. length (cond b ec [])) (not_less s.vid_offset s.page l) in omega arith)
+      | inr l ↦ (let is : length (cond (nat_lt s.vid_offset s.page) ec [])
+          ≡ 0 = ap (λ b. length (cond b ec [])) (not_less s.vid_offset s.page l) in omega arith)
     ]
       where
         less : (a b : ℕ) → a < b → nat_lt a b ≡ true
@@ -129,7 +140,8 @@ module _ (s : Sizes) (g : IsGeometry s) where
         let front : length (filled r part) ≡ r = length-filled r part part-short in
         let count : r + 64 - r ≡ 64 = omega arith in
         let rest : List ℕ = blank (s.page - length (filled r part ++ vid_bytes h)) in
-        let whole : vid_page s ec h ≡ filled r part ++ (vid_bytes h ++ rest) = filled-is s.page (filled r part ++ vid_bytes h) ∙ append_assoc (filled r part) (vid_bytes h) rest in
+        let whole : vid_page s ec h ≡ filled r part ++ (vid_bytes h ++ rest) =
+        filled-is s.page (filled r part ++ vid_bytes h) ∙ append_assoc (filled r part) (vid_bytes h) rest in
         ap (λ y. vid_reading s (slice_range y r (r + 64))) whole
         ∙ ap (λ n. vid_reading s (take n (drop r (filled r part ++ (vid_bytes h ++ rest))))) count
         ∙ ap (λ y. vid_reading s (take 64 y)) (drop_at (filled r part) (vid_bytes h ++ rest) r front)
@@ -138,26 +150,34 @@ module _ (s : Sizes) (g : IsGeometry s) where
 
     pub header_passes : (p : ℕ) → h.copy_flag ≡ true → programs_copy s (program_header s p ec h) ≡ true
     header_passes p copied =
-        ap (λ b. b && is_copy (header_in s (vid_page s ec h))) (same_test (s.vid_offset / s.page)) ∙ ap is_copy header-in ∙ copied
+        ap (λ b. b && is_copy (header_in s (vid_page s ec h))) (same_test (s.vid_offset / s.page))
+        ∙ ap is_copy header-in ∙ copied
 
     pub header_fails : (p : ℕ) → h.copy_flag ≡ false → programs_copy s (program_header s p ec h) ≡ false
-    header_fails p plain = both_false (s.vid_offset / s.page == s.vid_offset / s.page) (is_copy (header_in s (vid_page s ec h))) (ap is_copy header-in ∙ plain)
+    header_fails p plain = both_false (s.vid_offset / s.page == s.vid_offset / s.page)
+        (is_copy (header_in s (vid_page s ec h))) (ap is_copy header-in ∙ plain)
 
   -- so in a plan
-  module _ (ec : List ℕ) (size : length ec ≡ 64) (h : VidHeader) (fits : VidFits h) (sound : vid_fault s h ≡ None) (copied : h.copy_flag ≡ true) (p : ℕ) (new : List ℕ)
+  module _ (ec : List ℕ) (size : length ec ≡ 64) (h : VidHeader) (fits : VidFits h) (sound : vid_fault s h ≡ None)
+      (copied : h.copy_flag ≡ true) (p : ℕ) (new : List ℕ)
       (prep rel : List Step) (a : AllFail (programs_copy s) prep) (b : AllFail (programs_copy s) rel) where
     abbrev steps : List Step
     steps = (prep ++ program_header s p ec h ∷ []) ++ program_text s p new ++ rel
 
     steps-are : steps ≡ prep ++ program_header s p ec h ∷ (program_text s p new ++ rel)
-    steps-are = append_assoc (prep ++ program_header s p ec h ∷ []) (program_text s p new) rel ∙ append_assoc prep (program_header s p ec h ∷ []) (program_text s p new ++ rel)
+    steps-are = append_assoc (prep ++ program_header s p ec h ∷ []) (program_text s p new) rel
+        ∙ append_assoc prep (program_header s p ec h ∷ []) (program_text s p new ++ rel)
 
     pub turn-is : turn s steps new ≡ length prep + suc (whole_place s new)
     turn-is =
         ap (λ xs. turn s xs new) steps-are
-        ∙ ap (λ k. k + 1 + whole_place s new) (position-one (programs_copy s) prep (program_text s p new ++ rel) (program_header s p ec h) a (header_passes ec size h fits sound p copied)) ∙ omega arith
+        ∙ ap (λ k. k + 1 + whole_place s new)
+        (position-one (programs_copy s) prep (program_text s p new ++ rel) (program_header s p ec h) a
+        (header_passes ec size h fits sound p copied)) ∙ omega arith
 
     pub one-copy : count_by (programs_copy s) steps ≡ 1
     one-copy =
         ap (count_by (programs_copy s)) steps-are
-        ∙ count-one (programs_copy s) prep (program_text s p new ++ rel) (program_header s p ec h) a (header_passes ec size h fits sound p copied) (fail-append (programs_copy s) (program_text s p new) rel (text_fails p new) b)
+        ∙ count-one (programs_copy s) prep (program_text s p new ++ rel) (program_header s p ec h) a
+        (header_passes ec size h fits sound p copied)
+        (fail-append (programs_copy s) (program_text s p new) rel (text_fails p new) b)

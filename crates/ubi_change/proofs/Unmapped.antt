@@ -46,7 +46,8 @@ use Rattle.ubi_change.proofs.Seq.{Agrees}
 use Rattle.ubi_change.proofs.Vacated.{LosesAll, agrees_set}
 use Rattle.ubi_change.proofs.Written.{leb-part, part-mount}
 
-module _ (s : Sizes) (r : VolumeRecord) (id lnum sqnum : ℕ) (slot : id < 128) (number : lnum < 2 ^ 31) (half : data_pad s r < leb_size s / 2) (wide : leb_size s < 2 ^ 31) where
+module _ (s : Sizes) (r : VolumeRecord) (id lnum sqnum : ℕ) (slot : id < 128) (number : lnum < 2 ^ 31)
+    (half : data_pad s r < leb_size s / 2) (wide : leb_size s < 2 ^ 31) where
   pub blank_sound : vid_fault s (blank_header (data_pad s r) id lnum sqnum) ≡ None
   unfolding first_fault breaks fields_from
   blank_sound = grind (arith, nat_tests)
@@ -65,11 +66,15 @@ module _ (s : Sizes) (r : VolumeRecord) (id lnum sqnum : ℕ) (slot : id < 128) 
 user_known : (vol : ℕ) → vol < 128 → has_members vol ≡ true
 user_known vol l = grind (arith, nat_tests)
 
-module _ (s : Sizes) (g : IsGeometry s) (bs : List (List ℕ)) (m : Meant) (a : AcceptsBlocks s bs m) (id lnum : ℕ) (r : VolumeRecord) (lebs : FinMap nat_cmp (List ℕ))
-    (was : finite.get m.volumes id ≡ Some (record { entry = r; content = content.Dynamic lebs })) (slot : id < 128) (number : lnum < 2 ^ 31) (half : data_pad s r < leb_size s / 2)
-    (reserved : lnum < r.reserved) (b : ℕ) (inside : b < length bs) (seq : ℕ) (agrees : Agrees s seq bs) (loses : LosesAll s bs a.records b)
+module _ (s : Sizes) (g : IsGeometry s) (bs : List (List ℕ)) (m : Meant) (a : AcceptsBlocks s bs m) (id lnum : ℕ)
+    (r : VolumeRecord) (lebs : FinMap nat_cmp (List ℕ))
+    (was : finite.get m.volumes id ≡ Some (record { entry = r; content = content.Dynamic lebs })) (slot : id < 128)
+    (number : lnum < 2 ^ 31) (half : data_pad s r < leb_size s / 2)
+    (reserved : lnum < r.reserved) (b : ℕ) (inside : b < length bs) (seq : ℕ) (agrees : Agrees s seq bs)
+    (loses : LosesAll s bs a.records b)
     (prep : List Step) (bytes : List ℕ) (e : EcHeader) (prepared : IsPrepared s bs m b seq prep bytes e)
-    (sqnum : ℕ) (few : sqnum < 2 ^ 64) (above : (of : Leb) (q : ℕ) → IsMember s bs of q → sqnum_at s bs q < sqnum) (none : NoMember s bs (id, lnum)) where
+    (sqnum : ℕ) (few : sqnum < 2 ^ 64) (above : (of : Leb) (q : ℕ) → IsMember s bs of q → sqnum_at s bs q < sqnum)
+    (none : NoMember s bs (id, lnum)) where
   abbrev of : Leb
   of = (id, lnum)
 
@@ -90,12 +95,15 @@ module _ (s : Sizes) (g : IsGeometry s) (bs : List (List ℕ)) (m : Meant) (a : 
 
   pub mount : IsMount s seq bs of header mounted
   mount =
-      part-mount s g bytes e prepared.size prepared.reads header (blank_fits s r id lnum sqnum slot number half wide few) (blank_sound s r id lnum sqnum slot number half wide) (user_known id slot)
+      part-mount s g bytes e prepared.size prepared.reads header
+      (blank_fits s r id lnum sqnum slot number half wide few) (blank_sound s r id lnum sqnum slot number half wide)
+      (user_known id slot)
       (λ k. (let far = k.0 in omega arith)) [] room seq bs of prepared.image refl above
 
   leb_is : leb s mounted ≡ blank (s.peb_size - (s.data_offset + 0))
   leb_is =
-      leb-part s g bytes e prepared.size prepared.reads header (blank_fits s r id lnum sqnum slot number half wide few) (blank_sound s r id lnum sqnum slot number half wide) (user_known id slot)
+      leb-part s g bytes e prepared.size prepared.reads header (blank_fits s r id lnum sqnum slot number half wide few)
+      (blank_sound s r id lnum sqnum slot number half wide) (user_known id slot)
       (λ k. (let far = k.0 in omega arith)) [] room
 
   used : AllBlank s bs → ⊥
@@ -104,21 +112,25 @@ module _ (s : Sizes) (g : IsGeometry s) (bs : List (List ℕ)) (m : Meant) (a : 
   sizes : m.sizes ≡ s
   sizes = a.means.sizes
 
-  old_means : SlotMeans s bs id (finite.get a.records.of id) (Some (record { entry = r; content = content.Dynamic lebs }))
+  old_means : SlotMeans s bs id (finite.get a.records.of id)
+      (Some (record { entry = r; content = content.Dynamic lebs }))
   old_means = subst (λ (o : Option Volume). SlotMeans s bs id (finite.get a.records.of id) o) was (a.means.slots id)
 
   recorded : finite.get a.records.of id ≡ Some r
   recorded = recorded_by s bs id (finite.get a.records.of id) _ old_means
 
   volume_means : SlotMeans s bs id (Some r) (Some (record { entry = r; content = content.Dynamic lebs }))
-  volume_means = subst (λ (o : Option VolumeRecord). SlotMeans s bs id o (Some (record { entry = r; content = content.Dynamic lebs }))) recorded old_means
+  volume_means =
+      subst (λ (o : Option VolumeRecord). SlotMeans s bs id o
+      (Some (record { entry = r; content = content.Dynamic lebs }))) recorded old_means
 
   reads_blank : unwrap_or (finite.get lebs lnum) (blank (usable m.sizes r)) ≡ blank (usable m.sizes r)
   reads_blank =
       subst (λ (z : Sizes). unwrap_or (finite.get lebs lnum) (blank (usable z r)) ≡ blank (usable z r)) (sym sizes)
       (by_reads (volume_means.1.2 lnum reserved))
     where
-      by_reads : LebReads s bs id r lnum (unwrap_or (finite.get lebs lnum) (blank (usable s r))) → unwrap_or (finite.get lebs lnum) (blank (usable s r)) ≡ blank (usable s r)
+      by_reads : LebReads s bs id r lnum (unwrap_or (finite.get lebs lnum) (blank (usable s r)))
+          → unwrap_or (finite.get lebs lnum) (blank (usable s r)) ≡ blank (usable s r)
       by_reads (inl k) = absurd (none k.0 k.1.member)
       by_reads (inr k) = k.1
 
@@ -128,7 +140,9 @@ module _ (s : Sizes) (g : IsGeometry s) (bs : List (List ℕ)) (m : Meant) (a : 
   reads : blank (usable m.sizes r) ≡ take (usable s r) (leb s mounted)
   reads =
       let size : usable s r ≤ s.peb_size - (s.data_offset + 0) = omega arith in
-      ap (λ (z : Sizes). blank (usable z r)) sizes ∙ sym (ap (take (usable s r)) leb_is ∙ take-replicate (usable s r) (s.peb_size - (s.data_offset + 0)) 255 size)
+      ap (λ (z : Sizes). blank (usable z r)) sizes
+      ∙ sym (ap (take (usable s r)) leb_is
+      ∙ take-replicate (usable s r) (s.peb_size - (s.data_offset + 0)) 255 size)
 
   like : IsUnlike s r header → ⊥
   like (inl k) = k (sym volume_means.1.1)
@@ -136,11 +150,13 @@ module _ (s : Sizes) (g : IsGeometry s) (bs : List (List ℕ)) (m : Meant) (a : 
 
   -- it is accepted with the same meaning, and the LEB has a winner
   pub mounted_accepted : AcceptsBlocks s then_blocks m
-  mounted_accepted = mounted_good s bs b mounted inside id lnum header seq agrees mount refl m m a used loses (λ z. (let l = slot in omega arith)) r (blank (usable m.sizes r)) change_is reads like
+  mounted_accepted = mounted_good s bs b mounted inside id lnum header seq agrees mount refl m m a used loses
+      (λ z. (let l = slot in omega arith)) r (blank (usable m.sizes r)) change_is reads like
 
   pub now_records : mounted_accepted.records ≡ a.records
   unfolding mounted_accepted
-  now_records = mounted-records s bs b mounted inside id lnum header seq agrees mount refl m m a used loses (λ z. (let l = slot in omega arith)) r (blank (usable m.sizes r)) change_is reads like
+  now_records = mounted-records s bs b mounted inside id lnum header seq agrees mount refl m m a used loses
+      (λ z. (let l = slot in omega arith)) r (blank (usable m.sizes r)) change_is reads like
 
   pub now_wins : Wins s then_blocks of b
   now_wins = mounted_wins s bs b mounted inside of header seq agrees mount refl
@@ -154,8 +170,12 @@ module _ (s : Sizes) (g : IsGeometry s) (bs : List (List ℕ)) (m : Meant) (a : 
   -- another eraseblock that wins nothing goes on so
   pub other_loses : (p : ℕ) → p ≢ b → LosesAll s bs a.records p → LosesAll s then_blocks a.records p
   other_loses p apart lost other counts w = elim (leb_same other of) [
-    | inl z ↦ apart (Wins-unique s then_blocks of p b now_clean (subst (λ (o : Leb). Wins s then_blocks o p) z w) now_wins)
-    | inr z ↦ lost other counts ((kept_back s bs then_blocks now_clean other (keeps_others s bs b mounted inside of other (mount_named s bs b mounted inside of header seq agrees mount) z (loses other counts))).winner p w).0
+    | inl z ↦ apart (Wins-unique s then_blocks of p b now_clean (subst (λ (o : Leb). Wins s then_blocks o p) z w)
+        now_wins)
+    | inr z ↦ lost other counts
+        ((kept_back s bs then_blocks now_clean other
+        (keeps_others s bs b mounted inside of other (mount_named s bs b mounted inside of header seq agrees mount) z
+        (loses other counts))).winner p w).0
   ]
 
   -- the next sequence number is above all
@@ -163,11 +183,13 @@ module _ (s : Sizes) (g : IsGeometry s) (bs : List (List ℕ)) (m : Meant) (a : 
   now_above other q k = elim (cases_eq q b) [
     | inl z ↦
         let here : sqnum_at s then_blocks q ≡ sqnum =
-        ap (λ (j : ℕ). sqnum_in s (block then_blocks j)) z ∙ ap (sqnum_in s) (block_same s bs b mounted inside) ∙ ap (λ (o : Option VidHeader). option_map_or (λ (h : VidHeader). h.sqnum) o 0) mount.is in
+        ap (λ (j : ℕ). sqnum_in s (block then_blocks j)) z ∙ ap (sqnum_in s) (block_same s bs b mounted inside)
+        ∙ ap (λ (o : Option VidHeader). option_map_or (λ (h : VidHeader). h.sqnum) o 0) mount.is in
         omega arith
     | inr z ↦
         let before = above other q (member_was s bs b mounted inside other q z k) in
-        let there : sqnum_at s then_blocks q ≡ sqnum_at s bs q = ap (sqnum_in s) (replaced.block_other s bs b mounted inside q z) in
+        let there : sqnum_at s then_blocks q ≡ sqnum_at s bs q =
+        ap (sqnum_in s) (replaced.block_other s bs b mounted inside q z) in
         omega arith
   ]
 
@@ -177,24 +199,32 @@ module _ (s : Sizes) (g : IsGeometry s) (bs : List (List ℕ)) (m : Meant) (a : 
 
   one_step : done s (set bs b (filled s.peb_size bytes)) (program_header s b bytes header ∷ []) ≡ then_blocks
   one_step =
-      ap (λ y. set (set bs b (filled s.peb_size bytes)) b (block_after s y (program_header s b bytes header))) (get_or-set_same bs b (filled s.peb_size bytes) [] inside)
-      ∙ set-set bs b (filled s.peb_size bytes) (block_after s (filled s.peb_size bytes) (program_header s b bytes header))
+      ap (λ y. set (set bs b (filled s.peb_size bytes)) b (block_after s y (program_header s b bytes header)))
+      (get_or-set_same bs b (filled s.peb_size bytes) [] inside)
+      ∙ set-set bs b (filled s.peb_size bytes)
+      (block_after s (filled s.peb_size bytes) (program_header s b bytes header))
       ∙ ap (set bs b) (header_written s g bytes (vid_bytes header) prepared.size refl)
 
   header_cuts : AtEachCut s (λ x. AcceptsBlocks s x m) (done s bs prep) (program_header s b bytes header ∷ [])
-  header_cuts zero l = subst (λ x. AcceptsBlocks s x m) (after-all s bs prep) (prepared.cuts (length prep) (omega arith))
-  header_cuts (suc zero) l = subst (λ x. AcceptsBlocks s x m) (sym (ap (λ z. done s z (program_header s b bytes header ∷ [])) prepared.ready ∙ one_step)) mounted_accepted
+  header_cuts zero l = subst (λ x. AcceptsBlocks s x m) (after-all s bs prep)
+      (prepared.cuts (length prep) (omega arith))
+  header_cuts (suc zero) l = subst (λ x. AcceptsBlocks s x m)
+      (sym (ap (λ z. done s z (program_header s b bytes header ∷ [])) prepared.ready ∙ one_step)) mounted_accepted
   header_cuts (suc (suc k)) l = absurd (omega arith)
 
   pub mount_cuts : AtEachCut s (λ x. AcceptsBlocks s x m) bs mount_steps
-  mount_cuts = cuts-append s (λ x. AcceptsBlocks s x m) bs prep (program_header s b bytes header ∷ []) prepared.cuts header_cuts
+  mount_cuts = cuts-append s (λ x. AcceptsBlocks s x m) bs prep
+      (program_header s b bytes header ∷ []) prepared.cuts header_cuts
 
   pub mount_done : done s bs mount_steps ≡ then_blocks
-  mount_done = fold-append (step_done s) bs prep (program_header s b bytes header ∷ []) ∙ ap (λ z. done s z (program_header s b bytes header ∷ [])) prepared.ready ∙ one_step
+  mount_done = fold-append (step_done s) bs prep (program_header s b bytes header ∷ [])
+      ∙ ap (λ z. done s z (program_header s b bytes header ∷ [])) prepared.ready ∙ one_step
 
   -- and then it is copied to another eraseblock
-  module _ (new : List ℕ) (n : IsNew s r lnum new) (p : ℕ) (apart : p ≢ b) (within : p < length bs) (lost : LosesAll s bs a.records p)
-      (next_prep : List Step) (next_bytes : List ℕ) (next_ec : EcHeader) (next_prepared : IsPrepared s then_blocks m p seq next_prep next_bytes next_ec)
+  module _ (new : List ℕ) (n : IsNew s r lnum new) (p : ℕ) (apart : p ≢ b) (within : p < length bs)
+      (lost : LosesAll s bs a.records p)
+      (next_prep : List Step) (next_bytes : List ℕ) (next_ec : EcHeader)
+      (next_prepared : IsPrepared s then_blocks m p seq next_prep next_bytes next_ec)
       (many : sqnum + 1 < 2 ^ 64) (rel : List Step) (release : IsRelease s b seq rel) where
     within_then : p < length then_blocks
     within_then = omega (arith, length-set bs b mounted)
@@ -203,11 +233,18 @@ module _ (s : Sizes) (g : IsGeometry s) (bs : List (List ℕ)) (m : Meant) (a : 
     lost_then = subst (λ (t : Records). LosesAll s then_blocks t p) (sym now_records) (other_loses p apart lost)
 
     pub unmapped : TurnsAt s (λ x. AcceptsBlocks s x m) (λ x. AcceptsBlocks s x (changed m id lnum new)) bs
-        (mount_steps ++ ((next_prep ++ program_header s p next_bytes (copy_header 0 (data_pad s r) id lnum (sqnum + 1) new) ∷ []) ++ program_text s p new ++ rel))
+        (mount_steps
+        ++ ((next_prep ++ program_header s p next_bytes (copy_header 0 (data_pad s r) id lnum (sqnum + 1) new) ∷ [])
+        ++ program_text s p new ++ rel))
         (length mount_steps + (length next_prep + suc (whole_place s new)))
     unmapped =
-        let steps = (next_prep ++ program_header s p next_bytes (copy_header 0 (data_pad s r) id lnum (sqnum + 1) new) ∷ []) ++ program_text s p new ++ rel in
-        turns-behind s (λ x. AcceptsBlocks s x m) (λ x. AcceptsBlocks s x (changed m id lnum new)) bs mount_steps steps (length next_prep + suc (whole_place s new)) mount_cuts
-        (subst (λ (z : List (List ℕ)). TurnsAt s (λ x. AcceptsBlocks s x m) (λ x. AcceptsBlocks s x (changed m id lnum new)) z steps (length next_prep + suc (whole_place s new))) (sym mount_done)
-        (mapped s g then_blocks m mounted_accepted id lnum r lebs was slot number half new n p within_then seq now_agrees lost_then next_prep next_bytes next_ec next_prepared
+        let steps = (next_prep ++ program_header s p next_bytes (copy_header 0 (data_pad s r) id lnum (sqnum + 1) new)
+        ∷ []) ++ program_text s p new ++ rel in
+        turns-behind s (λ x. AcceptsBlocks s x m) (λ x. AcceptsBlocks s x (changed m id lnum new)) bs mount_steps steps
+        (length next_prep + suc (whole_place s new)) mount_cuts
+        (subst (λ (z : List (List ℕ)). TurnsAt s (λ x. AcceptsBlocks s x m)
+        (λ x. AcceptsBlocks s x (changed m id lnum new)) z steps (length next_prep + suc (whole_place s new)))
+        (sym mount_done)
+        (mapped s g then_blocks m mounted_accepted id lnum r lebs was slot number half new n p within_then seq
+        now_agrees lost_then next_prep next_bytes next_ec next_prepared
         (sqnum + 1) many now_above b now_wins rel release))

@@ -1,4 +1,5 @@
--- Whether the first pages of a text are weak, by the check of its front and the bytes behind it; and the least such place.
+-- Whether the first pages of a text are weak, by the check of its front and the bytes behind it; and the least such
+-- place.
 use Rattle.std.proofs.Common.{◌≡◌, ℕ, ◌+◌, ◌-◌, ◌*◌, ◌^◌, ◌<◌, ◌≤◌, inl, inr, Bool, true, false, not, List, [], ◌∷◌, ◌++◌, length, take, drop, refl, ap, ap₂, sym, ◌∙◌, arith, length-drop}
 use Rattle.std.specs.Prelude.{None, Some, ◌==◌, ◌&&◌}
 use Rattle.std.proofs.lemmas.Bool.Decides.{nat_tests}
@@ -40,7 +41,8 @@ module _ (s : Sizes) (new : List ℕ) (k : ℕ) (inside : k * s.page ≤ length 
       filled-by (length new) (k * s.page) front (length-take-le (k * s.page) new inside) ∙ ap (λ n. front ++ blank n) e
 
   whole-is : is_whole s new k ≡ is_blank rest
-  whole-is = ap₂ same_bytes torn-is (sym (take-append-drop (k * s.page) new)) ∙ same_front front (blank (length rest)) rest ∙ same_blank rest
+  whole-is = ap₂ same_bytes torn-is (sym (take-append-drop (k * s.page) new))
+      ∙ same_front front (blank (length rest)) rest ∙ same_blank rest
 
   check-is : check (torn s new k) ≡ check_from (check front) (blank (length rest))
   check-is = ap check torn-is ∙ check_from-append 0xFFFFFFFF front (blank (length rest)) (omega arith)
@@ -49,33 +51,43 @@ module _ (s : Sizes) (new : List ℕ) (k : ℕ) (inside : k * s.page ≤ length 
   weak-is = ap₂ (λ a c. not a && (c == check new)) whole-is check-is
 
   -- as the program finds it out
-  pub weak_told : (size start part whole : ℕ) (t : Bool) → size ≡ s.page → start ≡ k * size → part ≡ check front → whole ≡ check new
-      → t ≡ (not (is_blank (take (length new - start) (drop start new))) && (check_from part (blank (length (take (length new - start) (drop start new)))) == whole)) → is_weak s new k ≡ t
+  pub weak_told : (size start part whole : ℕ) (t : Bool) → size ≡ s.page → start ≡ k * size → part ≡ check front
+      → whole ≡ check new
+      → t
+      ≡ (not (is_blank (take (length new - start) (drop start new))) && (check_from part
+      (blank (length (take (length new - start) (drop start new)))) == whole)) → is_weak s new k ≡ t
   weak_told size start part whole t same at e f told =
       let place : start ≡ k * s.page = at ∙ ap (λ n. k * n) same in
       let all : take (length new - start) (drop start new) ≡ rest =
-      take_all (length new - start) (drop start new) (omega (arith, length-drop start new)) ∙ ap (λ n. drop n new) place in
-      weak-is ∙ sym (told ∙ ap (λ r. not (is_blank r) && (check_from part (blank (length r)) == whole)) all ∙ ap₂ (λ x y. not (is_blank rest) && (check_from x (blank (length rest)) == y)) e f)
+      take_all (length new - start) (drop start new) (omega (arith, length-drop start new))
+      ∙ ap (λ n. drop n new) place in
+      weak-is ∙ sym (told ∙ ap (λ r. not (is_blank r) && (check_from part (blank (length r)) == whole)) all
+      ∙ ap₂ (λ x y. not (is_blank rest) && (check_from x (blank (length rest)) == y)) e f)
 
 -- the check of a page more
-pub front_more : (s : Sizes) (new : List ℕ) (k size start part next : ℕ) → size ≡ s.page → start ≡ k * size → part ≡ check (take (k * s.page) new)
+pub front_more : (s : Sizes) (new : List ℕ) (k size start part next : ℕ) → size ≡ s.page → start ≡ k * size
+    → part ≡ check (take (k * s.page) new)
     → next ≡ check_from part (take (start + size - start) (drop start new)) → next ≡ check (take ((k + 1) * s.page) new)
 front_more s new k size start part next same at e f =
     let place : start ≡ k * s.page = at ∙ ap (λ n. k * n) same in
     let count : start + size - start ≡ s.page = omega arith in
     let sum : k * s.page + s.page ≡ (k + 1) * s.page = omega arith in
-    f ∙ ap₂ (λ x n. check_from x (take n (drop start new))) e count ∙ ap (λ n. check_from (check (take (k * s.page) new)) (take s.page (drop n new))) place
+    f ∙ ap₂ (λ x n. check_from x (take n (drop start new))) e count
+    ∙ ap (λ n. check_from (check (take (k * s.page) new)) (take s.page (drop n new))) place
     ∙ sym (check_from-append 0xFFFFFFFF (take (k * s.page) new) (take s.page (drop (k * s.page) new)) (omega arith))
     ∙ ap check (sym (take-add (k * s.page) s.page new) ∙ ap (λ n. take n new) sum)
 
 pub front_none : (s : Sizes) (new : List ℕ) → 0xFFFFFFFF ≡ check (take (0 * s.page) new)
-front_none s new = let e : 0 ≡ 0 * s.page = omega arith in sym (check_from-empty 0xFFFFFFFF (omega arith)) ∙ ap (λ n. check (take n new)) e
+front_none s new = let e : 0 ≡ 0 * s.page = omega arith in sym (check_from-empty 0xFFFFFFFF (omega arith))
+    ∙ ap (λ n. check (take n new)) e
 
 -- the check of 64 bytes 0xFF more
-pub blank_more : (state n part : ℕ) → state < 2 ^ 32 → part ≡ check_from state (blank (n * 64)) → check_from part (blank 64) ≡ check_from state (blank ((n + 1) * 64))
+pub blank_more : (state n part : ℕ) → state < 2 ^ 32 → part ≡ check_from state (blank (n * 64))
+    → check_from part (blank 64) ≡ check_from state (blank ((n + 1) * 64))
 blank_more state n part small e =
     let sum : n * 64 + 64 ≡ (n + 1) * 64 = omega arith in
-    ap (λ x. check_from x (blank 64)) e ∙ sym (check_from-append state (blank (n * 64)) (blank 64) small) ∙ ap (check_from state) (join_blank (n * 64) 64 ∙ ap blank sum)
+    ap (λ x. check_from x (blank 64)) e ∙ sym (check_from-append state (blank (n * 64)) (blank 64) small)
+    ∙ ap (check_from state) (join_blank (n * 64) 64 ∙ ap blank sum)
 
 module _ (s : Sizes) (new : List ℕ) where
   pub no_place : ((j : ℕ) → j < pages_of s new → is_weak s new j ≡ false) → weak_place s new ≡ None
@@ -84,7 +96,8 @@ module _ (s : Sizes) (new : List ℕ) where
     | inr r ↦ (let f = r.2 in let high = f.high in let e = none r.0 (omega arith) in let p = f.passes in absurd (cc))
   ]
 
-  pub first_place : (k : ℕ) → k < pages_of s new → is_weak s new k ≡ true → ((j : ℕ) → j < k → is_weak s new j ≡ false) → weak_place s new ≡ Some k
+  pub first_place : (k : ℕ) → k < pages_of s new → is_weak s new k ≡ true → ((j : ℕ) → j < k → is_weak s new j ≡ false)
+      → weak_place s new ≡ Some k
   first_place k inside here before = elim (find_range (is_weak s new) 0 (pages_of s new)) [
     | inl r ↦ (let e = r.1 k (omega arith) (omega arith) in absurd (cc))
     | inr r ↦ (let f = r.2 in elim (below_same_or_above r.0 k) [

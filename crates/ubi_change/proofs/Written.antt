@@ -1,4 +1,5 @@
--- What the eraseblocks are that the steps of a plan leave: blank, with an erase-counter header alone, or with a part of a
+-- What the eraseblocks are that the steps of a plan leave: blank, with an erase-counter header alone, or with a part of
+-- a
 -- copy.
 use Rattle.std.proofs.Common.{◌≡◌, ◌≢◌, ℕ, ◌+◌, ◌-◌, ◌*◌, ◌<◌, ◌≤◌, true, not, List, ◌++◌, length, take, refl, ap, ap₂, sym, ◌∙◌, subst, arith}
 use Rattle.std.specs.Prelude.{None, Some, ◌==◌, ◌||◌, option_map}
@@ -52,17 +53,20 @@ module _ (s : Sizes) (g : IsGeometry s) where
   }
 
   -- an eraseblock with an erase-counter header alone
-  module _ (bytes : List ℕ) (e : EcHeader) (size : length bytes ≡ 64) (reads : ec_reading s bytes ≡ ec_read.Valid e) where
+  module _ (bytes : List ℕ) (e : EcHeader) (size : length bytes ≡ 64)
+      (reads : ec_reading s bytes ≡ ec_read.Valid e) where
     bare-is : filled s.peb_size bytes ≡ bytes ++ blank (s.peb_size - 64)
     bare-is = filled-by s.peb_size 64 bytes size
 
     pub ec-bare : ec s (filled s.peb_size bytes) ≡ ec_read.Valid e
-    ec-bare = ap (λ b. ec_reading s (take 64 b)) bare-is ∙ ap (ec_reading s) (take_at bytes (blank (s.peb_size - 64)) 64 size) ∙ reads
+    ec-bare = ap (λ b. ec_reading s (take 64 b)) bare-is
+        ∙ ap (ec_reading s) (take_at bytes (blank (s.peb_size - 64)) 64 size) ∙ reads
 
     vid-bare : vid s (filled s.peb_size bytes) ≡ vid_read.Blank
     vid-bare =
         ap (λ b. vid_reading s (vid_area s b)) bare-is
-        ∙ ap (vid_reading s) (behind bytes (s.peb_size - 64) s.vid_offset 64 (omega (arith, size, g.vid_from)) (omega (arith, size, g.vid_from, g.data_from, g.leb)))
+        ∙ ap (vid_reading s) (behind bytes (s.peb_size - 64) s.vid_offset 64 (omega (arith, size, g.vid_from))
+        (omega (arith, size, g.vid_from, g.data_from, g.leb)))
         ∙ blank_vid s
 
     member-bare : member s (filled s.peb_size bytes) ≡ None
@@ -84,7 +88,8 @@ module _ (s : Sizes) (g : IsGeometry s) where
     }
 
     -- with a volume-identifier header and some text
-    module _ (h : VidHeader) (fits : VidFits h) (sound : vid_fault s h ≡ None) (known : has_members h.vol_id ≡ true) (placed : IsMislaid h → ⊥)
+    module _ (h : VidHeader) (fits : VidFits h) (sound : vid_fault s h ≡ None) (known : has_members h.vol_id ≡ true)
+        (placed : IsMislaid h → ⊥)
         (text : List ℕ) (room : s.data_offset + length text ≤ s.peb_size) where
       abbrev part : List ℕ
       part = laid s bytes (vid_bytes h) text
@@ -126,12 +131,15 @@ module _ (s : Sizes) (g : IsGeometry s) where
 
 -- whether a part of a copy is good
 -- a list's front with 0xFF behind it, cut to a length
-pub take_filled : (n : ℕ) (xs : List ℕ) (k : ℕ) → length xs ≤ n → n ≤ length xs + k → take n (xs ++ blank k) ≡ filled n xs
+pub take_filled : (n : ℕ) (xs : List ℕ) (k : ℕ) → length xs ≤ n → n ≤ length xs + k
+    → take n (xs ++ blank k) ≡ filled n xs
 take_filled n xs k h l =
     let e : n ≡ length xs + (n - length xs) = omega arith in
-    ap (λ m. take m (xs ++ blank k)) e ∙ take-append-add xs (blank k) (n - length xs) ∙ ap (λ ys. xs ++ ys) (take-replicate (n - length xs) k 255 (omega arith)) ∙ sym (filled-is n xs)
+    ap (λ m. take m (xs ++ blank k)) e ∙ take-append-add xs (blank k) (n - length xs)
+    ∙ ap (λ ys. xs ++ ys) (take-replicate (n - length xs) k 255 (omega arith)) ∙ sym (filled-is n xs)
 
-pub part-good : (s : Sizes) (x : List ℕ) (h : VidHeader) (new : List ℕ) (j k : ℕ) → h.copy_flag ≡ true → h.data_size ≡ length new → h.data_crc ≡ check new
+pub part-good : (s : Sizes) (x : List ℕ) (h : VidHeader) (new : List ℕ) (j k : ℕ) → h.copy_flag ≡ true
+    → h.data_size ≡ length new → h.data_crc ≡ check new
     → j * s.page ≤ length new → leb s x ≡ take (j * s.page) new ++ blank k → length new ≤ j * s.page + k
     → is_good s x h ≡ (check (torn s new j) == check new)
 part-good s x h new j k copied size crc inside text room =

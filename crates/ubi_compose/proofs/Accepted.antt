@@ -52,16 +52,20 @@ module _ (m : Meant) (g : IsGeometry m.sizes) (is : IsMeaning m) (spares : ℕ) 
   clean = image_clean m.sizes g ls spares fine apart
 
   -- the eraseblocks of a volume
-  of_entries : (l : Laid) (id : ℕ) (v : Volume) → finite.get m.volumes id ≡ Some v → Holds (flat_map blocks_in (finite.entries m.volumes)) l
+  of_entries : (l : Laid) (id : ℕ) (v : Volume) → finite.get m.volumes id ≡ Some v
+      → Holds (flat_map blocks_in (finite.entries m.volumes)) l
       → l.header.vol_id ≡ id → Holds (blocks_in (id, v)) l
   of_entries l id v e h same =
       let r = flat_map_holds blocks_in (finite.entries m.volumes) l h in
-      let mine = all_at (λ (l : Laid). l.header.vol_id ≡ r.0.0) (blocks_in r.0) r.2.0 l (own_blocks m.sizes r.0.0 r.0.1.entry r.0.1.content) r.2.1 in
+      let mine = all_at (λ (l : Laid). l.header.vol_id ≡ r.0.0) (blocks_in r.0) r.2.0 l
+      (own_blocks m.sizes r.0.0 r.0.1.entry r.0.1.content) r.2.1 in
       let number : r.0.0 ≡ id = sym mine ∙ same in
-      let value : r.0.1 ≡ v = same_Some r.0.1 v (sym (held_entry m.volumes r.0 r.1) ∙ ap (finite.get m.volumes) number ∙ e) in
+      let value : r.0.1 ≡ v = same_Some r.0.1 v (sym (held_entry m.volumes r.0 r.1) ∙ ap (finite.get m.volumes) number
+      ∙ e) in
       subst (λ (x : ℕ × Volume). Holds (blocks_in x) l) (λ i. (number i, value i)) r.2
 
-  of_volume : (l : Laid) (id : ℕ) (v : Volume) → finite.get m.volumes id ≡ Some v → Holds (normal_blocks m) l → l.header.vol_id ≡ id
+  of_volume : (l : Laid) (id : ℕ) (v : Volume) → finite.get m.volumes id ≡ Some v → Holds (normal_blocks m) l
+      → l.header.vol_id ≡ id
       → Holds (blocks_in (id, v)) l
   of_volume l id v e (zero, at) same =
       let slot = (volume_is m is id v e).slot in
@@ -75,12 +79,14 @@ module _ (m : Meant) (g : IsGeometry m.sizes) (is : IsMeaning m) (spares : ℕ) 
 
   own : (id : ℕ) (v : Volume) → finite.get m.volumes id ≡ Some v → AreOwn (normal_blocks m) id (blocks_in (id, v))
   own id v e = record {
-    there = λ l h. (let at = holds_flat_map blocks_in (finite.entries m.volumes) (id, v) l (entry_held m.volumes id v e) h in (suc (suc at.0), at.1));
+    there = λ l h. (let at = holds_flat_map blocks_in (finite.entries m.volumes) (id, v) l (entry_held m.volumes id v e)
+        h in (suc (suc at.0), at.1));
     only = λ l h same. of_volume l id v e h same;
   }
 
   -- each volume reads its content
-  reads_by : (id : ℕ) (v : Volume) → IsVolume m.sizes id v → (c : Content) → AreOwn (normal_blocks m) id (volume_blocks m.sizes id v.entry c)
+  reads_by : (id : ℕ) (v : Volume) → IsVolume m.sizes id v → (c : Content)
+      → AreOwn (normal_blocks m) id (volume_blocks m.sizes id v.entry c)
       → Fits m.sizes v.entry c → VolumeReads m.sizes bs id v.entry c
   reads_by id v h content.Updating mine fits = fits
   reads_by id v h content.Damaged mine fits = damaged_reads m.sizes g ls spares fine id v.entry apart mine fits
@@ -88,13 +94,15 @@ module _ (m : Meant) (g : IsGeometry m.sizes) (is : IsMeaning m) (spares : ℕ) 
       text_reads m.sizes g ls spares fine id v.entry apart text (usable_some m.sizes v.entry h.sound) mine fits
   reads_by id v h (content.Dynamic lebs) mine fits = dynamic_reads m.sizes g ls spares fine id v.entry lebs mine fits
 
-  slot_by : (id : ℕ) (o : Option Volume) → finite.get m.volumes id ≡ o → SlotMeans m.sizes bs id (option_map (λ (v : Volume). v.entry) o) o
+  slot_by : (id : ℕ) (o : Option Volume) → finite.get m.volumes id ≡ o
+      → SlotMeans m.sizes bs id (option_map (λ (v : Volume). v.entry) o) o
   slot_by id None e = tt
   slot_by id (Some v) e = (let h = volume_is m is id v e in (refl, reads_by id v h v.content (own id v e) h.fits))
 
   slots : (id : ℕ) → SlotMeans m.sizes bs id (finite.get (records_of m).of id) (finite.get m.volumes id)
   slots id =
-      subst (λ (r : Option VolumeRecord). SlotMeans m.sizes bs id r (finite.get m.volumes id)) (sym (record_of m id)) (slot_by id (finite.get m.volumes id) refl)
+      subst (λ (r : Option VolumeRecord). SlotMeans m.sizes bs id r (finite.get m.volumes id)) (sym (record_of m id))
+      (slot_by id (finite.get m.volumes id) refl)
 
   -- each winner is like its record
   alike : NoMismatch m.sizes bs (records_of m)
@@ -110,8 +118,10 @@ module _ (m : Meant) (g : IsGeometry m.sizes) (is : IsMeaning m) (spares : ℕ) 
       let like = all_at (IsLike m.sizes counted.vol v.entry) (blocks_in (counted.vol, v)) mine.0 l
       (like_blocks m.sizes counted.vol v.entry v.content (volume_is m is counted.vol v rec.1).fits) mine.1 in
       let header : h ≡ l.header = same_Some h l.header (sym k.4 ∙ header_at m.sizes g ls spares fine p l at.1) in
-      let kind : h.kind ≡ r.kind = ap (λ (h : VidHeader). h.kind) header ∙ like.0 ∙ ap (λ (r : VolumeRecord). r.kind) rec.2 in
-      let pad : h.data_pad ≡ data_pad m.sizes r = ap (λ (h : VidHeader). h.data_pad) header ∙ like.1 ∙ ap (data_pad m.sizes) rec.2 in
+      let kind : h.kind ≡ r.kind = ap (λ (h : VidHeader). h.kind) header ∙ like.0
+      ∙ ap (λ (r : VolumeRecord). r.kind) rec.2 in
+      let pad : h.data_pad ≡ data_pad m.sizes r = ap (λ (h : VidHeader). h.data_pad) header ∙ like.1
+      ∙ ap (data_pad m.sizes) rec.2 in
       elim k.5 [ inl other ↦ other kind | inr other ↦ other pad ]
 
   table : IsTable m.sizes bs (records_of m)

@@ -16,12 +16,14 @@ abbrev pub AreApart : List Laid → Type 0
 AreApart [] = Unit {0}
 AreApart (l ∷ ls) = AllByRecursion (Differ l) ls × AreApart ls
 
-pub apart_append : (ks ls : List Laid) → AreApart ks → AreApart ls → AllByRecursion (λ k. AllByRecursion (Differ k) ls) ks → AreApart (ks ++ ls)
+pub apart_append : (ks ls : List Laid) → AreApart ks → AreApart ls
+    → AllByRecursion (λ k. AllByRecursion (Differ k) ls) ks → AreApart (ks ++ ls)
 apart_append [] ls a b h = b
 apart_append (k ∷ ks) ls a b h = (all_append (Differ k) ks ls a.0 h.0, apart_append ks ls a.1 b h.1)
 
 -- so one LEB has one place
-pub one_place : (ls : List Laid) (p q : ℕ) (k l : Laid) → AreApart ls → slice_get ls p ≡ Some k → slice_get ls q ≡ Some l → leb_of k.header ≡ leb_of l.header → p ≡ q
+pub one_place : (ls : List Laid) (p q : ℕ) (k l : Laid) → AreApart ls → slice_get ls p ≡ Some k
+    → slice_get ls q ≡ Some l → leb_of k.header ≡ leb_of l.header → p ≡ q
 one_place [] p q k l a e f same = absurd (cc)
 one_place (x ∷ ls) zero zero k l a e f same = refl
 one_place (x ∷ ls) zero (suc q) k l a e f same =

@@ -37,7 +37,8 @@ pub record IsFine (s : Sizes) (l : Laid) : Type 0 where
 pub new_ec_back : (s : Sizes) → IsGeometry s → ec_reading s (ec_bytes s new_ec) ≡ ec_read.Valid new_ec
 new_ec_back s g =
     sym ((one_ec_reading s (ec_bytes s new_ec) (ec_read.Valid new_ec)).0
-    (ec_read_back s new_ec (omega (arith, g.data_from, g.leb, g.peb_to)) (omega (arith, g.leb, g.peb_to)) (omega arith) (omega arith)))
+    (ec_read_back s new_ec (omega (arith, g.data_from, g.leb, g.peb_to)) (omega (arith, g.leb, g.peb_to)) (omega arith)
+    (omega arith)))
 
 module _ (s : Sizes) (g : IsGeometry s) (l : Laid) (fine : IsFine s l) where
   ec_size : length (ec_bytes s new_ec) ≡ 64
@@ -55,7 +56,8 @@ module _ (s : Sizes) (g : IsGeometry s) (l : Laid) (fine : IsFine s l) where
   vid-laid_bytes : vid s (laid_bytes s new_ec l) ≡ vid_read.Valid l.header
   vid-laid_bytes =
       ap (vid_reading s) (parts.vid-laid s g _ _ ec_size vid_size l.text fine.room)
-      ∙ sym ((one_vid_reading s (vid_bytes l.header) (vid_read.Valid l.header)).0 (vid_read_back s l.header (fields_fit l.header fine.fits) fine.sound))
+      ∙ sym ((one_vid_reading s (vid_bytes l.header) (vid_read.Valid l.header)).0
+      (vid_read_back s l.header (fields_fit l.header fine.fits) fine.sound))
 
   -- its LEB begins with the text, and is 0xFF behind it
   pub leb-laid_bytes : leb s (laid_bytes s new_ec l) ≡ l.text ++ blank (s.peb_size - (s.data_offset + length l.text))

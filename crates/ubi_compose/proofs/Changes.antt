@@ -89,7 +89,8 @@ pub changed_is : (s : Sizes) (items : Items) (l : Line) (k : ℕ) (e : ℕ × Vo
     → changed s items l ≡ result_map_both (λ v. slice_set items k (e.0, v)) (λ c. c) (with_line s e.1 l)
 changed_is s items l k e p g = rw (p, g) refl
 
-pub change_answer : (r : Result (Unit {0}) LineError) (made : Result Volume SpecCause) (v : Volume) (f : Volume → Items) (out : Result Items SpecCause)
+pub change_answer : (r : Result (Unit {0}) LineError) (made : Result Volume SpecCause) (v : Volume) (f : Volume → Items)
+    (out : Result Items SpecCause)
     → out ≡ result_map_both f (λ c. c) made → MatchResult r (λ _. made ≡ Ok v) (IsRefused made)
     → MatchResult r (λ _. out ≡ Ok (f v)) (IsRefused out)
 change_answer (Ok u) made v f out o h = o ∙ ap (result_map_both f (λ c. c)) h

@@ -43,11 +43,14 @@ module _ (s : Sizes) (g : IsGeometry s) (ls : List Laid) (spares : ℕ) (fine : 
   bs = image_blocks s ls spares
 
   -- an eraseblock that is laid out begins with its text
-  pub text_at : (p : ℕ) (l : Laid) → slice_get ls p ≡ Some l → leb s (block bs p) ≡ l.text ++ blank (s.peb_size - (s.data_offset + length l.text))
-  text_at p l e = ap (leb s) (block_laid s g ls spares fine p l e) ∙ leb-laid_bytes s g l (all_at (IsFine s) ls p l fine e)
+  pub text_at : (p : ℕ) (l : Laid) → slice_get ls p ≡ Some l
+      → leb s (block bs p) ≡ l.text ++ blank (s.peb_size - (s.data_offset + length l.text))
+  text_at p l e = ap (leb s) (block_laid s g ls spares fine p l e)
+      ∙ leb-laid_bytes s g l (all_at (IsFine s) ls p l fine e)
 
   pub header_at : (p : ℕ) (l : Laid) → slice_get ls p ≡ Some l → member s (block bs p) ≡ Some l.header
-  header_at p l e = ap (member s) (block_laid s g ls spares fine p l e) ∙ member-laid_bytes s g l (all_at (IsFine s) ls p l fine e)
+  header_at p l e = ap (member s) (block_laid s g ls spares fine p l e)
+      ∙ member-laid_bytes s g l (all_at (IsFine s) ls p l fine e)
 
   module _ (vol : ℕ) (r : VolumeRecord) where
     -- a dynamic volume
@@ -60,17 +63,21 @@ module _ (s : Sizes) (g : IsGeometry s) (ls : List Laid) (spares : ℕ) (fine : 
           let held : finite.get lebs lnum ≡ Some e.0.1 = ap (finite.get lebs) (sym number) ∙ held_entry lebs e.0 e.1 in
           cc)
 
-      held : (lnum : ℕ) (text : List ℕ) → finite.get lebs lnum ≡ Some text → length text ≡ usable s r → LebReads s bs vol r lnum text
+      held : (lnum : ℕ) (text : List ℕ) → finite.get lebs lnum ≡ Some text → length text ≡ usable s r
+          → LebReads s bs vol r lnum text
       held lnum text some size =
           let l : Laid = dynamic_block (data_pad s r) vol (lnum, text) in
-          let at = own.there l (holds_map (dynamic_block (data_pad s r) vol) (finite.entries lebs) (lnum, text) (entry_held lebs lnum text some)) in
+          let at = own.there l (holds_map (dynamic_block (data_pad s r) vol) (finite.entries lebs) (lnum, text)
+          (entry_held lebs lnum text some)) in
           inl (
             at.0,
             laid_wins s g ls spares fine at.0 l at.1,
-            sym (ap (take (usable s r)) (text_at at.0 l at.1) ∙ take_at text (blank (s.peb_size - (s.data_offset + length text))) (usable s r) size),
+            sym (ap (take (usable s r)) (text_at at.0 l at.1)
+                ∙ take_at text (blank (s.peb_size - (s.data_offset + length text))) (usable s r) size),
           )
 
-      leb_by : (lnum : ℕ) (o : Option (List ℕ)) → finite.get lebs lnum ≡ o → IfSome o (λ text. (lnum < r.reserved) × (length text ≡ usable s r))
+      leb_by : (lnum : ℕ) (o : Option (List ℕ)) → finite.get lebs lnum ≡ o
+          → IfSome o (λ text. (lnum < r.reserved) × (length text ≡ usable s r))
           → LebReads s bs vol r lnum (unwrap_or o (blank (usable s r)))
       leb_by lnum None e h = inr (unheld lnum e, refl)
       leb_by lnum (Some text) e h = held lnum text e h.1
@@ -83,7 +90,8 @@ module _ (s : Sizes) (g : IsGeometry s) (ls : List Laid) (spares : ℕ) (fine : 
       clean = image_clean s g ls spares fine apart
 
       -- a static volume
-      module _ (text : List ℕ) (size_some : 1 ≤ usable s r) (own : AreOwn ls vol (volume_blocks s vol r (content.Static text))) where
+      module _ (text : List ℕ) (size_some : 1 ≤ usable s r)
+          (own : AreOwn ls vol (volume_blocks s vol r (content.Static text))) where
         abbrev used : ℕ
         used = pieces (usable s r) (length text)
 
@@ -100,17 +108,21 @@ module _ (s : Sizes) (g : IsGeometry s) (ls : List Laid) (spares : ℕ) (fine : 
         piece_read lnum below =
             let at = part_at lnum below in
             let l : Laid = part lnum in
-            piece_checked s bs clean vol used lnum at.0 l.header l.text (laid_wins s g ls spares fine at.0 l at.1) (header_at at.0 l at.1)
-            (sym (ap (take (length l.text)) (text_at at.0 l at.1) ∙ take_at l.text (blank (s.peb_size - (s.data_offset + length l.text))) (length l.text) refl))
+            piece_checked s bs clean vol used lnum at.0 l.header l.text (laid_wins s g ls spares fine at.0 l at.1)
+            (header_at at.0 l at.1)
+            (sym (ap (take (length l.text)) (text_at at.0 l at.1)
+            ∙ take_at l.text (blank (s.peb_size - (s.data_offset + length l.text))) (length l.text) refl))
             refl refl
 
         read_first : (n : ℕ) → n ≤ used → AreRead s bs vol used n (take (n * usable s r) text)
-        read_first zero h = subst (AreRead s bs vol used 0) (sym (share_none (usable s r) text)) (read_none s bs vol used)
+        read_first zero h = subst (AreRead s bs vol used 0) (sym (share_none (usable s r) text))
+            (read_none s bs vol used)
         read_first (suc n) h =
             let next : n + 1 ≡ suc n = omega arith in
             subst (λ k. AreRead s bs vol used k (take (k * usable s r) text)) next
             (subst (AreRead s bs vol used (n + 1)) (share_more (usable s r) text n)
-            (read_more s bs vol used n (take (n * usable s r) text) (share (usable s r) text n) (read_first n (omega arith)) (piece_read n (omega arith))))
+            (read_more s bs vol used n (take (n * usable s r) text) (share (usable s r) text n)
+            (read_first n (omega arith)) (piece_read n (omega arith))))
 
         none_behind : (lnum : ℕ) → used ≤ lnum → NoMember s bs (vol, lnum)
         none_behind lnum out = none_laid s g ls spares fine (vol, lnum) (λ l at same.
@@ -140,17 +152,20 @@ module _ (s : Sizes) (g : IsGeometry s) (ls : List Laid) (spares : ℕ) (fine : 
 
         lone_used : UsedIs s bs vol 1
         lone_used =
-            let used = ap (λ (o : Option VidHeader). option_map_or (λ h. h.used_ebs) o 0) (header_at lone_at.0 lone lone_at.1) in
+            let used = ap (λ (o : Option VidHeader). option_map_or (λ h. h.used_ebs) o 0)
+            (header_at lone_at.0 lone lone_at.1) in
             inr (0, lone_at.0, laid_wins s g ls spares fine lone_at.0 lone lone_at.1, used)
 
         lone_text : (255 ∷ []) ≡ take 1 (leb s (block bs lone_at.0))
         lone_text =
             let room : 1 ≤ s.peb_size - (s.data_offset + 0) = omega (arith, g.leb) in
-            sym (ap (take 1) (text_at lone_at.0 lone lone_at.1) ∙ take-replicate 1 (s.peb_size - (s.data_offset + 0)) 255 room)
+            sym (ap (take 1) (text_at lone_at.0 lone lone_at.1)
+            ∙ take-replicate 1 (s.peb_size - (s.data_offset + 0)) 255 room)
 
         no_piece : PieceIs s bs vol 1 0 None
         no_piece =
-            piece_unchecked s bs clean vol 1 0 lone_at.0 lone.header (255 ∷ []) (laid_wins s g ls spares fine lone_at.0 lone lone_at.1) (header_at lone_at.0 lone lone_at.1) lone_text
+            piece_unchecked s bs clean vol 1 0 lone_at.0 lone.header (255 ∷ [])
+            (laid_wins s g ls spares fine lone_at.0 lone lone_at.1) (header_at lone_at.0 lone lone_at.1) lone_text
             (λ h. (let right = h.1 in let other = check_blank in omega arith))
 
         pub damaged_reads : Fits s r content.Damaged → VolumeReads s bs vol r content.Damaged

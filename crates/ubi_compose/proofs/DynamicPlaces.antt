@@ -49,7 +49,8 @@ first_lebs s p id r n image text =
 
 module _ {X : Type 0} (f : ℕ × X → List ℕ) where
   -- numbers that rise do so from any bound below them
-  rises_from : (a b : ℕ) (es : List (ℕ × X)) → rising.Rises (λ e. e.0) es → AllByRecursion (λ e. a ≤ e.0) es → AllByRecursion (λ e. e.0 < b) es → Rises f a b es
+  rises_from : (a b : ℕ) (es : List (ℕ × X)) → rising.Rises (λ e. e.0) es → AllByRecursion (λ e. a ≤ e.0) es
+      → AllByRecursion (λ e. e.0 < b) es → Rises f a b es
   rises_from a b [] h low high = tt
   rises_from a b (e ∷ es) h low high = (low.0, high.0, rises_from (e.0 + 1) b es h.1 (above es h.0) high.1)
     where
@@ -58,7 +59,8 @@ module _ {X : Type 0} (f : ℕ × X → List ℕ) where
       above (y ∷ es) h = (let first = h.0 in omega arith, above es h.1)
 
   -- nothing stands at numbers at which nothing does
-  nothing_between : (es : List (ℕ × X)) (a k : ℕ) → ((i : ℕ) → a ≤ i → i < a + k → kept_at f es i ≡ []) → flat_map (kept_at f es) (range_with_len a k) ≡ []
+  nothing_between : (es : List (ℕ × X)) (a k : ℕ) → ((i : ℕ) → a ≤ i → i < a + k → kept_at f es i ≡ [])
+      → flat_map (kept_at f es) (range_with_len a k) ≡ []
   nothing_between es a zero h = refl
   nothing_between es a (suc k) h =
       ap (λ x. x ++ flat_map (kept_at f es) (range_with_len (a + 1) k)) (h a (omega arith) (omega arith))
@@ -70,15 +72,19 @@ module _ {X : Type 0} (f : ℕ × X → List ℕ) where
       let total : n + (l - n) ≡ l = omega arith in
       let begin : 0 + n ≡ n = zero-add n in
       ap (λ k. flat_map (kept_at f es) (range_with_len 0 k)) (sym total) ∙ front_of (kept_at f es) 0 n (l - n)
-      ∙ ap (λ b. flat_map (kept_at f es) (range_with_len 0 n) ++ flat_map (kept_at f es) (range_with_len b (l - n))) begin
-      ∙ ap (λ x. flat_map (kept_at f es) (range_with_len 0 n) ++ x) (nothing_between es n (l - n) (λ i a b. h i a (omega arith)))
+      ∙ ap (λ b. flat_map (kept_at f es) (range_with_len 0 n) ++ flat_map (kept_at f es) (range_with_len b (l - n)))
+      begin
+      ∙ ap (λ x. flat_map (kept_at f es) (range_with_len 0 n) ++ x)
+      (nothing_between es n (l - n) (λ i a b. h i a (omega arith)))
       ∙ append-nil (flat_map (kept_at f es) (range_with_len 0 n))
 
-module _ (s : Sizes) (p : Placed) (id : ℕ) (r : VolumeRecord) (recorded : finite.get p.records.of id ≡ Some r) (listed : finite.get p.contents id ≡ Some place.Dynamic) where
+module _ (s : Sizes) (p : Placed) (id : ℕ) (r : VolumeRecord) (recorded : finite.get p.records.of id ≡ Some r)
+    (listed : finite.get p.contents id ≡ Some place.Dynamic) where
   abbrev size : ℕ
   size = usable s r
 
-  dynamic_content : (c : Content) → case_of s r c ≡ place.Dynamic → (l : FinMap nat_cmp (List ℕ)) × (c ≡ content.Dynamic l)
+  dynamic_content : (c : Content) → case_of s r c ≡ place.Dynamic
+      → (l : FinMap nat_cmp (List ℕ)) × (c ≡ content.Dynamic l)
   dynamic_content content.Updating e = absurd (cc)
   dynamic_content content.Damaged e = absurd (cc)
   dynamic_content (content.Static t) e = absurd (cc)
@@ -92,11 +98,13 @@ module _ (s : Sizes) (p : Placed) (id : ℕ) (r : VolumeRecord) (recorded : fini
     lebs_of = dynamic_content v.content (case_is s p image of.places id r recorded v of.at place.Dynamic listed)
 
     module _ (l : FinMap nat_cmp (List ℕ)) (is : v.content ≡ content.Dynamic l) where
-      reads : (r.marker ≡ false) × (r.kind ≡ kind.Dynamic) × ((lnum : ℕ) → lnum < r.reserved → LebReads s bs id r lnum (unwrap_or (finite.get l lnum) (blank size)))
+      reads : (r.marker ≡ false) × (r.kind ≡ kind.Dynamic)
+          × ((lnum : ℕ) → lnum < r.reserved → LebReads s bs id r lnum (unwrap_or (finite.get l lnum) (blank size)))
       reads = subst (VolumeReads s bs id r) is (reads_of s p image of.places id r recorded v of.at).1
 
       volume : IsVolume s id v
-      volume = subst (λ (z : Sizes). IsVolume z id v) of.places.accepted.accepted.means.sizes (volume_is of.places.meaning of.places.accepted.accepted.means.meaning id v of.at)
+      volume = subst (λ (z : Sizes). IsVolume z id v) of.places.accepted.accepted.means.sizes
+          (volume_is of.places.meaning of.places.accepted.accepted.means.meaning id v of.at)
 
       entry : v.entry ≡ r
       entry = (reads_of s p image of.places id r recorded v of.at).0
@@ -105,13 +113,15 @@ module _ (s : Sizes) (p : Placed) (id : ℕ) (r : VolumeRecord) (recorded : fini
       fits = subst (λ (x : VolumeRecord). Fits s x (content.Dynamic l)) entry (subst (Fits s v.entry) is volume.fits)
 
       no_blank : (lnum : ℕ) → IfSome (finite.get l lnum) (λ text. text ≢ blank size)
-      no_blank = subst (λ (x : VolumeRecord). KeepsNoBlank s x (content.Dynamic l)) entry (subst (KeepsNoBlank s v.entry) is volume.kept)
+      no_blank = subst (λ (x : VolumeRecord). KeepsNoBlank s x (content.Dynamic l)) entry
+          (subst (KeepsNoBlank s v.entry) is volume.kept)
 
       abbrev es : List (ℕ × List ℕ)
       es = finite.entries l
 
       -- where no place counts, nothing is kept
-      nothing_at : (lnum : ℕ) → lnum < r.reserved → ((q : ℕ) → IsCountedPlace p id lnum q → ⊥) → kept_at (leb_bytes s id r) es lnum ≡ []
+      nothing_at : (lnum : ℕ) → lnum < r.reserved → ((q : ℕ) → IsCountedPlace p id lnum q → ⊥)
+          → kept_at (leb_bytes s id r) es lnum ≡ []
       nothing_at lnum below none = by_kept (finite.get l lnum) refl
         where
           no_winner : (q : ℕ) → Wins s bs (id, lnum) q → ⊥
@@ -121,14 +131,19 @@ module _ (s : Sizes) (p : Placed) (id : ℕ) (r : VolumeRecord) (recorded : fini
           ]
 
           by_kept : (o : Option (List ℕ)) → finite.get l lnum ≡ o → kept_at (leb_bytes s id r) es lnum ≡ []
-          by_kept None e = ap (λ o. option_map_or (λ x. leb_bytes s id r (lnum, x)) o []) (sym (finite.get-entries l lnum) ∙ e)
-          by_kept (Some x) e = elim (subst (λ (o : Option (List ℕ)). LebReads s bs id r lnum (unwrap_or o (blank size))) e (reads.2 lnum below)) [
-            | inl w ↦ absurd (no_winner w.0 w.1)
-            | inr w ↦ absurd (subst (λ (o : Option (List ℕ)). IfSome o (λ text. text ≢ blank size)) e (no_blank lnum) w.1)
-          ]
+          by_kept None e = ap (λ o. option_map_or (λ x. leb_bytes s id r (lnum, x)) o [])
+              (sym (finite.get-entries l lnum) ∙ e)
+          by_kept (Some x) e =
+              elim (subst (λ (o : Option (List ℕ)). LebReads s bs id r lnum (unwrap_or o (blank size))) e
+              (reads.2 lnum below)) [
+                | inl w ↦ absurd (no_winner w.0 w.1)
+                | inr w ↦ absurd (subst (λ (o : Option (List ℕ)). IfSome o (λ text. text ≢ blank size)) e (no_blank lnum)
+                    w.1)
+              ]
 
       -- and at a place that counts, what isn't blank there
-      kept_there : (lnum q : ℕ) → lnum < r.reserved → Wins s bs (id, lnum) q → kept_at (leb_bytes s id r) es lnum ≡ kept_bytes s (data_pad s r) id lnum (take size (leb s (block bs q)))
+      kept_there : (lnum q : ℕ) → lnum < r.reserved → Wins s bs (id, lnum) q
+          → kept_at (leb_bytes s id r) es lnum ≡ kept_bytes s (data_pad s r) id lnum (take size (leb s (block bs q)))
       kept_there lnum q below w = by_kept (finite.get l lnum) refl
         where
           text : List ℕ
@@ -136,11 +151,13 @@ module _ (s : Sizes) (p : Placed) (id : ℕ) (r : VolumeRecord) (recorded : fini
 
           read_is : (x : List ℕ) → LebReads s bs id r lnum x → x ≡ text
           read_is x h = elim h [
-            | inl won ↦ won.2 ∙ ap (λ (k : ℕ). take size (leb s (block bs k))) (Wins-unique s bs (id, lnum) won.0 q of.places.accepted.accepted.clean won.1 w)
+            | inl won ↦ won.2 ∙ ap (λ (k : ℕ). take size (leb s (block bs k)))
+                (Wins-unique s bs (id, lnum) won.0 q of.places.accepted.accepted.clean won.1 w)
             | inr none ↦ absurd (none.0 q w.member)
           ]
 
-          by_test : (x : List ℕ) (b : Bool) → is_blank x ≡ b → x ≢ blank size → length x ≡ size → leb_bytes s id r (lnum, x) ≡ kept_bytes s (data_pad s r) id lnum x
+          by_test : (x : List ℕ) (b : Bool) → is_blank x ≡ b → x ≢ blank size → length x ≡ size
+              → leb_bytes s id r (lnum, x) ≡ kept_bytes s (data_pad s r) id lnum x
           by_test x true e other long = absurd (other (blank_text x size e long))
           by_test x false e other long = ap (λ b. cond b [] (leb_bytes s id r (lnum, x))) (sym e)
 
@@ -148,70 +165,111 @@ module _ (s : Sizes) (p : Placed) (id : ℕ) (r : VolumeRecord) (recorded : fini
           by_blank true e = ap (λ b. cond b [] (leb_bytes s id r (lnum, blank size))) (sym e)
           by_blank false e = absurd (other_text (blank size) size e refl)
 
-          by_kept : (o : Option (List ℕ)) → finite.get l lnum ≡ o → kept_at (leb_bytes s id r) es lnum ≡ kept_bytes s (data_pad s r) id lnum text
+          by_kept : (o : Option (List ℕ)) → finite.get l lnum ≡ o
+              → kept_at (leb_bytes s id r) es lnum ≡ kept_bytes s (data_pad s r) id lnum text
           by_kept None e =
               ap (λ o. option_map_or (λ x. leb_bytes s id r (lnum, x)) o []) (sym (finite.get-entries l lnum) ∙ e)
               ∙ by_blank (is_blank (blank size)) refl
-              ∙ ap (kept_bytes s (data_pad s r) id lnum) (read_is (blank size) (subst (λ (o : Option (List ℕ)). LebReads s bs id r lnum (unwrap_or o (blank size))) e (reads.2 lnum below)))
+              ∙ ap (kept_bytes s (data_pad s r) id lnum)
+              (read_is (blank size)
+              (subst (λ (o : Option (List ℕ)). LebReads s bs id r lnum (unwrap_or o (blank size))) e
+              (reads.2 lnum below)))
           by_kept (Some x) e =
               ap (λ o. option_map_or (λ x. leb_bytes s id r (lnum, x)) o []) (sym (finite.get-entries l lnum) ∙ e)
-              ∙ by_test x (is_blank x) refl (subst (λ (o : Option (List ℕ)). IfSome o (λ text. text ≢ blank size)) e (no_blank lnum))
-              (subst (λ (o : Option (List ℕ)). IfSome o (λ text. (lnum < r.reserved) × (length text ≡ size))) e (fits.2 lnum)).1
-              ∙ ap (kept_bytes s (data_pad s r) id lnum) (read_is x (subst (λ (o : Option (List ℕ)). LebReads s bs id r lnum (unwrap_or o (blank size))) e (reads.2 lnum below)))
+              ∙ by_test x (is_blank x) refl
+              (subst (λ (o : Option (List ℕ)). IfSome o (λ text. text ≢ blank size)) e (no_blank lnum))
+              (subst (λ (o : Option (List ℕ)). IfSome o (λ text. (lnum < r.reserved) × (length text ≡ size))) e
+              (fits.2 lnum)).1
+              ∙ ap (kept_bytes s (data_pad s r) id lnum)
+              (read_is x (subst (λ (o : Option (List ℕ)). LebReads s bs id r lnum (unwrap_or o (blank size))) e
+              (reads.2 lnum below)))
 
       -- all that is kept
       all_kept : flat_map (kept_at (leb_bytes s id r) es) (range_with_len 0 r.reserved) ≡ flat_map (leb_bytes s id r) es
       all_kept =
-          let within : AllByRecursion (λ (e : ℕ × List ℕ). e.0 < r.reserved) es = all_from (λ (e : ℕ × List ℕ). e.0 < r.reserved) es (λ e at.
-          (subst (λ (o : Option (List ℕ)). IfSome o (λ text. (e.0 < r.reserved) × (length text ≡ size))) (held_entry l e at) (fits.2 e.0)).0) in
-          let from : AllByRecursion (λ (e : ℕ × List ℕ). 0 ≤ e.0) es = all_from (λ (e : ℕ × List ℕ). 0 ≤ e.0) es (λ e at. omega arith) in
+          let within : AllByRecursion (λ (e : ℕ × List ℕ). e.0 < r.reserved) es =
+          all_from (λ (e : ℕ × List ℕ). e.0 < r.reserved) es (λ e at.
+          (subst (λ (o : Option (List ℕ)). IfSome o (λ text. (e.0 < r.reserved) × (length text ≡ size)))
+          (held_entry l e at) (fits.2 e.0)).0) in
+          let from : AllByRecursion (λ (e : ℕ × List ℕ). 0 ≤ e.0) es =
+          all_from (λ (e : ℕ × List ℕ). 0 ≤ e.0) es (λ e at. omega arith) in
           let end : r.reserved ≡ 0 + r.reserved = sym (zero-add r.reserved) in
           by_number (leb_bytes s id r) r.reserved 0 es
-          (subst (λ b. Rises (leb_bytes s id r) 0 b es) end (rises_from (leb_bytes s id r) 0 r.reserved es (rising.entries_rise es (finite.entries_sorted l)) from within))
+          (subst (λ b. Rises (leb_bytes s id r) 0 b es) end
+          (rises_from (leb_bytes s id r) 0 r.reserved es (rising.entries_rise es (finite.entries_sorted l)) from
+          within))
 
   -- one place more
-  pub dynamic_step : (n l q : ℕ) → IsNextPlace p id n (Some (l, q)) → l < r.reserved → Splits (first_lebs s p id r (l + 1)) (first_lebs s p id r n) (dynamic_text s (data_pad s r) id l size q)
+  pub dynamic_step : (n l q : ℕ) → IsNextPlace p id n (Some (l, q)) → l < r.reserved
+      → Splits (first_lebs s p id r (l + 1)) (first_lebs s p id r n) (dynamic_text s (data_pad s r) id l size q)
   dynamic_step n l q next below image text w =
       let g = kept_at (leb_bytes s id r) (finite.entries w.2) in
       let won = found_wins s p image w.1.places (id, l) q next.1.3 in (
         flat_map g (range_with_len 0 n),
         g l,
-        w.4 ∙ pieces_more g 0 l l (zero-add l) ∙ ap (λ x. x ++ g l) (same_until (leb_bytes s id r) (finite.entries w.2) n l next.0
-            (λ i low high. nothing_at image w.0 w.1 w.2 w.3 i (omega (arith, below, high)) (λ k is. next.2 i k low high is))),
+        w.4 ∙ pieces_more g 0 l l (zero-add l)
+            ∙ ap (λ x. x ++ g l) (same_until (leb_bytes s id r) (finite.entries w.2) n l next.0
+            (λ i low high. nothing_at image w.0 w.1 w.2 w.3 i (omega (arith, below, high))
+            (λ k is. next.2 i k low high is))),
         (w.0, w.1, w.2, w.3, refl),
         kept_there image w.0 w.1 w.2 w.3 l q below won,
       )
 
-  whole : (image text : List ℕ) (w : volume_text s p id image text) → text ≡ flat_map (kept_at (leb_bytes s id r) (finite.entries (lebs_of image w.0 w.1).0)) (range_with_len 0 r.reserved)
+  whole : (image text : List ℕ) (w : volume_text s p id image text)
+      → text ≡ flat_map (kept_at (leb_bytes s id r) (finite.entries (lebs_of image w.0 w.1).0))
+      (range_with_len 0 r.reserved)
   whole image text w =
       let l = lebs_of image w.0 w.1 in
-      w.2 ∙ ap (λ (x : VolumeRecord). flat_map (laid_bytes s new_ec) (volume_blocks s id x w.0.content)) (entry image w.0 w.1 l.0 l.1)
+      w.2 ∙ ap (λ (x : VolumeRecord). flat_map (laid_bytes s new_ec) (volume_blocks s id x w.0.content))
+      (entry image w.0 w.1 l.0 l.1)
       ∙ ap (λ (x : Content). flat_map (laid_bytes s new_ec) (volume_blocks s id r x)) l.1
       ∙ flat_map-map (laid_bytes s new_ec) (dynamic_block (data_pad s r) id) (finite.entries l.0)
       ∙ sym (all_kept image w.0 w.1 l.0 l.1)
 
   -- all of them
-  pub dynamic_all : (n : ℕ) → n ≤ r.reserved → IsNextPlace p id n None → (image text : List ℕ) → volume_text s p id image text → first_lebs s p id r n image text
+  pub dynamic_all : (n : ℕ) → n ≤ r.reserved → IsNextPlace p id n None → (image text : List ℕ)
+      → volume_text s p id image text → first_lebs s p id r n image text
   dynamic_all n few next image text w =
-      let l = lebs_of image w.0 w.1 in
-      (w.0, w.1, l.0, l.1, whole image text w ∙ same_until (leb_bytes s id r) (finite.entries l.0) n r.reserved few (λ i low high. nothing_at image w.0 w.1 l.0 l.1 i high (λ k is. next i k low is)))
+      let l = lebs_of image w.0 w.1 in (
+        w.0,
+        w.1,
+        l.0,
+        l.1,
+        whole image text w
+            ∙ same_until (leb_bytes s id r) (finite.entries l.0) n r.reserved few
+            (λ i low high. nothing_at image w.0 w.1 l.0 l.1 i high (λ k is. next i k low is)),
+      )
 
   -- and the first
-  pub dynamic_front : (n : ℕ) → n ≤ r.reserved → Splits (volume_text s p id) (first_lebs s p id r n) (λ image text. Unit {0})
+  pub dynamic_front : (n : ℕ) → n ≤ r.reserved
+      → Splits (volume_text s p id) (first_lebs s p id r n) (λ image text. Unit {0})
   dynamic_front n few image text w =
       let l = lebs_of image w.0 w.1 in
       let g = kept_at (leb_bytes s id r) (finite.entries l.0) in
-      let total : n + (r.reserved - n) ≡ r.reserved = omega arith in
-      (flat_map g (range_with_len 0 n), flat_map g (range_with_len (0 + n) (r.reserved - n)), whole image text w ∙ ap (λ k. flat_map g (range_with_len 0 k)) (sym total) ∙ front_of g 0 n (r.reserved - n), (w.0, w.1, l.0, l.1, refl), tt)
+      let total : n + (r.reserved - n) ≡ r.reserved = omega arith in (
+        flat_map g (range_with_len 0 n),
+        flat_map g (range_with_len (0 + n) (r.reserved - n)),
+        whole image text w
+            ∙ ap (λ k. flat_map g (range_with_len 0 k)) (sym total)
+            ∙ front_of g 0 n (r.reserved - n),
+        (w.0, w.1, l.0, l.1, refl),
+        tt,
+      )
 
   -- what is written when a place is, or isn't
-  module _ (k : Source) (a b c : Option (List ℕ)) (n l q : ℕ) (next : IsNextPlace p id n (Some (l, q))) (below : l < r.reserved) where
-    pub dynamic_wrote : (done total more : ℕ) → Wrote k a b (first_lebs s p id r n) All done total → Wrote k b c (dynamic_text s (data_pad s r) id l size q) All total more
+  module _ (k : Source) (a b c : Option (List ℕ)) (n l q : ℕ) (next : IsNextPlace p id n (Some (l, q)))
+      (below : l < r.reserved) where
+    pub dynamic_wrote : (done total more : ℕ) → Wrote k a b (first_lebs s p id r n) All done total
+        → Wrote k b c (dynamic_text s (data_pad s r) id l size q) All total more
         → Wrote k a c (first_lebs s p id r (l + 1)) All done more
-    dynamic_wrote done total more front back = wrote_more k a b c (first_lebs s p id r (l + 1)) (first_lebs s p id r n) (dynamic_text s (data_pad s r) id l size q) done total more (dynamic_step n l q next below) front back
+    dynamic_wrote done total more front back = wrote_more k a b c (first_lebs s p id r (l + 1)) (first_lebs s p id r n)
+        (dynamic_text s (data_pad s r) id l size q) done total more (dynamic_step n l q next below) front back
 
-    pub dynamic_failed : (done total : ℕ) (e : StreamError) → Wrote k a b (first_lebs s p id r n) All done total → IsWroteError s k b c (dynamic_text s (data_pad s r) id l size q) total e
+    pub dynamic_failed : (done total : ℕ) (e : StreamError) → Wrote k a b (first_lebs s p id r n) All done total
+        → IsWroteError s k b c (dynamic_text s (data_pad s r) id l size q) total e
         → IsWroteError s k a c (volume_text s p id) done e
     dynamic_failed done total e front back =
-        error_front k s a c (volume_text s p id) (first_lebs s p id r (l + 1)) (λ image text. Unit {0}) done e (dynamic_front (l + 1) (omega arith))
-        (error_behind k s a b c (first_lebs s p id r (l + 1)) (first_lebs s p id r n) (dynamic_text s (data_pad s r) id l size q) done total e (dynamic_step n l q next below) front back)
+        error_front k s a c (volume_text s p id) (first_lebs s p id r (l + 1)) (λ image text. Unit {0}) done e
+        (dynamic_front (l + 1) (omega arith))
+        (error_behind k s a b c (first_lebs s p id r (l + 1)) (first_lebs s p id r n)
+        (dynamic_text s (data_pad s r) id l size q) done total e (dynamic_step n l q next below) front back)

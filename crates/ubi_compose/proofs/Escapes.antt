@@ -9,7 +9,8 @@ use Rattle.hex.specs.declared.error.FromHexError.{FromHexError}
 use Rattle.ubi_compose.specs.Words.{escaped, is_escape, shown_byte, shown_bytes, shown_name, some_name}
 
 pair_by : (h l : ℕ) (a b : Option ℕ)
-    → MatchResult ((digit_or_error h 0 a >>= (λ x. digit_or_error l 1 b >>= (λ y. Ok (x * 16 + y)))) >>= (λ byte. Ok (byte ∷ [])))
+    → MatchResult ((digit_or_error h 0 a >>= (λ x. digit_or_error l 1 b >>= (λ y. Ok (x * 16 + y)))) >>=
+    (λ byte. Ok (byte ∷ [])))
     (λ bytes. option_and_then (λ x. option_map (λ y. x * 16 + y) b) a ≡ Some (slice_index bytes 0))
     (λ _. option_and_then (λ x. option_map (λ y. x * 16 + y) b) a ≡ None)
 pair_by h l None b = refl
@@ -17,7 +18,8 @@ pair_by h l (Some x) None = refl
 pair_by h l (Some x) (Some y) = refl
 
 pub decoded_pair : (h l : ℕ)
-    → MatchResult (decode_sized (h ∷ l ∷ []) 1) (λ bytes. shown_byte h l ≡ Some (slice_index bytes 0)) (λ _. shown_byte h l ≡ None)
+    → MatchResult (decode_sized (h ∷ l ∷ []) 1) (λ bytes. shown_byte h l ≡ Some (slice_index bytes 0))
+    (λ _. shown_byte h l ≡ None)
 unfolding decode_pairs
 decoded_pair h l = pair_by h l (hex_digit_value h) (hex_digit_value l)
 
@@ -42,11 +44,13 @@ too_long : (ok : Bool) (name more : List ℕ) → nat_le (length name) 127 ≡ f
 too_long false name more h = refl
 too_long true name more h =
     let l : nat_le (length (name ++ more)) 127 ≡ false = grind (arith, nat_tests, length-append name more) in
-    rw (second_no (nat_le 1 (length (name ++ more))) (nat_le (length (name ++ more)) 127) (not (list_any (λ byte. byte == 0) (name ++ more))) l) refl
+    rw (second_no (nat_le 1 (length (name ++ more))) (nat_le (length (name ++ more)) 127)
+    (not (list_any (λ byte. byte == 0) (name ++ more))) l) refl
 
 not_read_by : (name part : List ℕ) (parts : List (List ℕ)) (b : Bool) → is_escape part ≡ b
     → (b && nat_le (length (name ++ escaped part)) 127) ≡ false
-    → option_and_then some_name (then_some (list_all is_escape (part ∷ parts)) (name ++ flat_map escaped (part ∷ parts))) ≡ None
+    → option_and_then some_name
+    (then_some (list_all is_escape (part ∷ parts)) (name ++ flat_map escaped (part ∷ parts))) ≡ None
 not_read_by name part parts true e h =
     ap (option_and_then some_name) (escape_read name part parts e)
     ∙ too_long (list_all is_escape parts) (name ++ escaped part) (flat_map escaped parts) h
@@ -75,14 +79,16 @@ part_read word name part more left parts h l good m =
     ∙ escape_read name part parts (first_yes (is_escape part) (nat_le (length (name ++ escaped part)) 127) good)
     ∙ ap (λ n. then_some (list_all is_escape parts) (n ++ flat_map escaped parts)) (sym m)
 
-pub pair_ok : (r : Result (List ℕ) FromHexError) (answer : Result (Unit {0}) FromHexError) (out : List ℕ) (o : Option ℕ) (x : Unit {0})
+pub pair_ok : (r : Result (List ℕ) FromHexError) (answer : Result (Unit {0}) FromHexError) (out : List ℕ) (o : Option ℕ)
+    (x : Unit {0})
     → MatchResult r (λ bytes. o ≡ Some (slice_index bytes 0)) (λ _. o ≡ None)
     → MatchResult r (λ bytes. (answer ≡ Ok tt) × (out ≡ bytes)) (λ e. answer ≡ Err e) → answer ≡ Ok x
     → Some (slice_index out 0) ≡ o
 pair_ok (Ok bytes) answer out o x d v h = ap (λ b. Some (slice_index b 0)) v.1 ∙ sym d
 pair_ok (Err e) answer out o x d v h = absurd (cc)
 
-pub pair_err : (r : Result (List ℕ) FromHexError) (answer : Result (Unit {0}) FromHexError) (out : List ℕ) (o : Option ℕ) (e : FromHexError)
+pub pair_err : (r : Result (List ℕ) FromHexError) (answer : Result (Unit {0}) FromHexError) (out : List ℕ)
+    (o : Option ℕ) (e : FromHexError)
     → MatchResult r (λ bytes. o ≡ Some (slice_index bytes 0)) (λ _. o ≡ None)
     → MatchResult r (λ bytes. (answer ≡ Ok tt) × (out ≡ bytes)) (λ f. answer ≡ Err f) → answer ≡ Err e → None ≡ o
 pair_err (Ok bytes) answer out o e d v h = absurd (cc (v.0, h))

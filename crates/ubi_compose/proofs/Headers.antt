@@ -10,7 +10,8 @@ use Rattle.ubi_media.specs.declared.vid.VolKind.TheVariants as kind
 use Rattle.ubi_scan.specs.Faults.{IsMislaid}
 use Rattle.ubi_scan.specs.Members.{has_members, layout}
 
-pub layout_sound : (s : Sizes) → IsGeometry s → (copy : ℕ) → copy < 2 → vid_fault s (plain kind.Dynamic 5 0 layout copy) ≡ None
+pub layout_sound : (s : Sizes) → IsGeometry s → (copy : ℕ) → copy < 2
+    → vid_fault s (plain kind.Dynamic 5 0 layout copy) ≡ None
 unfolding first_fault breaks fields_from
 layout_sound s g copy l = grind (arith, nat_tests, g.leb, l)
 
@@ -59,7 +60,8 @@ module _ (s : Sizes) (pad vol lnum : ℕ) (h : IsUsers s pad vol lnum) where
 
   pub dynamic_sound : vid_fault s (plain kind.Dynamic 0 pad vol lnum) ≡ None
   unfolding first_fault breaks fields_from
-  dynamic_sound = let slot = h.slot in let number = h.number in let half = h.half in let pads = short in grind (arith, nat_tests)
+  dynamic_sound = let slot = h.slot in let number = h.number in let half = h.half in let pads = short in
+      grind (arith, nat_tests)
 
   pub dynamic_fits : VidFits (plain kind.Dynamic 0 pad vol lnum)
   dynamic_fits = record {
@@ -73,7 +75,8 @@ module _ (s : Sizes) (pad vol lnum : ℕ) (h : IsUsers s pad vol lnum) where
   }
 
   module _ (size used crc : ℕ) (part : IsPart s pad lnum size used) where
-    pub static_sound : vid_fault s (record (plain kind.Static 0 pad vol lnum) { data_size = size; used_ebs = used; data_crc = crc }) ≡ None
+    pub static_sound : vid_fault s
+        (record (plain kind.Static 0 pad vol lnum) { data_size = size; used_ebs = used; data_crc = crc }) ≡ None
     unfolding first_fault breaks fields_from
     static_sound =
         let slot = h.slot in
@@ -88,7 +91,8 @@ module _ (s : Sizes) (pad vol lnum : ℕ) (h : IsUsers s pad vol lnum) where
         let full = part.full in
         grind (arith, nat_tests)
 
-    pub static_fits : crc < 2 ^ 32 → VidFits (record (plain kind.Static 0 pad vol lnum) { data_size = size; used_ebs = used; data_crc = crc })
+    pub static_fits : crc < 2 ^ 32
+        → VidFits (record (plain kind.Static 0 pad vol lnum) { data_size = size; used_ebs = used; data_crc = crc })
     static_fits checked = record {
       vol_id = (let slot = h.slot in omega arith);
       lnum = (let number = h.number in omega arith);

@@ -28,7 +28,9 @@ pub hex_filled : (word bytes : List ℕ) → hex_of word ≡ Some bytes → not 
 hex_filled word bytes h = let l = hex_length word bytes h in grind (arith, nat_tests)
 
 flags_by : (h l : ℕ) (a b : Option ℕ)
-    → option_and_then only_byte (result_ok ((digit_or_error h 0 a >>= (λ x. digit_or_error l 1 b >>= (λ y. Ok (x * 16 + y)))) >>= (λ byte. Ok (byte ∷ []))))
+    → option_and_then only_byte
+    (result_ok ((digit_or_error h 0 a >>= (λ x. digit_or_error l 1 b >>= (λ y. Ok (x * 16 + y)))) >>=
+    (λ byte. Ok (byte ∷ []))))
     ≡ option_and_then (λ x. option_map (λ y. x * 16 + y) b) a
 flags_by h l None b = refl
 flags_by h l (Some x) None = refl

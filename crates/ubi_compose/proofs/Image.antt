@@ -37,7 +37,8 @@ concat_map f (x ∷ xs) = ap (λ z. f x ++ z) (concat_map f xs)
 
 -- their bytes
 pub concat-image_blocks : (s : Sizes) (ls : List Laid) (spares : ℕ)
-    → concat (image_blocks s ls spares) ≡ flat_map (laid_bytes s new_ec) ls ++ flat_map (λ b. b) (replicate spares (spare s))
+    → concat (image_blocks s ls spares) ≡ flat_map (laid_bytes s new_ec) ls
+    ++ flat_map (λ b. b) (replicate spares (spare s))
 concat-image_blocks s ls spares =
     concat_append (map (laid_bytes s new_ec) ls) (replicate spares (spare s))
     ∙ ap (λ x. x ++ concat (replicate spares (spare s))) (concat_map (laid_bytes s new_ec) ls)
@@ -56,9 +57,11 @@ module _ (s : Sizes) (g : IsGeometry s) (ls : List Laid) (spares : ℕ) (fine : 
   pub block_laid : (p : ℕ) (l : Laid) → slice_get ls p ≡ Some l → block bs p ≡ laid_bytes s new_ec l
   block_laid p l e =
       let front = map (laid_bytes s new_ec) ls in
-      let inside : p < length front = let k = slice_get_within ls p l e in let n = length-map ls (laid_bytes s new_ec) in omega arith in
+      let inside : p < length front = let k = slice_get_within ls p l e in
+      let n = length-map ls (laid_bytes s new_ec) in omega arith in
       get_or_from_slice_get bs p (laid_bytes s new_ec l) []
-      (slice_get_left front (replicate spares (spare s)) p inside ∙ slice_get-map (laid_bytes s new_ec) ls p ∙ ap (option_map (laid_bytes s new_ec)) e)
+      (slice_get_left front (replicate spares (spare s)) p inside ∙ slice_get-map (laid_bytes s new_ec) ls p
+      ∙ ap (option_map (laid_bytes s new_ec)) e)
 
   block_spare : (p : ℕ) → length ls ≤ p → p < length bs → block bs p ≡ spare s
   block_spare p out inside =
@@ -75,20 +78,23 @@ module _ (s : Sizes) (g : IsGeometry s) (ls : List Laid) (spares : ℕ) (fine : 
   ]
 
   -- what holds of each eraseblock that is laid out, and of a spare one, holds of all
-  over_blocks : (P : List ℕ → Type 0) → ((l : Laid) → IsFine s l → P (laid_bytes s new_ec l)) → P (spare s) → (p : ℕ) → p < length bs → P (block bs p)
+  over_blocks : (P : List ℕ → Type 0) → ((l : Laid) → IsFine s l → P (laid_bytes s new_ec l)) → P (spare s) → (p : ℕ)
+      → p < length bs → P (block bs p)
   over_blocks P h k p inside = elim (laid_or_spare p inside) [
     | inl e ↦ subst P (sym (block_laid p e.0 e.1)) (h e.0 (all_at (IsFine s) ls p e.0 fine e.1))
     | inr e ↦ subst P (sym e) k
   ]
 
   -- a member is one that is laid out
-  pub member_laid : (of : Leb) (p : ℕ) → IsMember s bs of p → (l : Laid) × (slice_get ls p ≡ Some l) × (leb_of l.header ≡ of)
+  pub member_laid : (of : Leb) (p : ℕ) → IsMember s bs of p
+      → (l : Laid) × (slice_get ls p ≡ Some l) × (leb_of l.header ≡ of)
   member_laid of p m = elim (laid_or_spare p m.inside) [
     | inl e ↦ (
       e.0,
       e.1,
       same_Some (leb_of e.0.header) of
-          (sym (named-laid_bytes s g e.0 (all_at (IsFine s) ls p e.0 fine e.1)) ∙ ap (named_in s) (sym (block_laid p e.0 e.1)) ∙ m.named),
+          (sym (named-laid_bytes s g e.0 (all_at (IsFine s) ls p e.0 fine e.1))
+          ∙ ap (named_in s) (sym (block_laid p e.0 e.1)) ∙ m.named),
     )
     | inr e ↦ absurd (let named = m.named in let none = ap (named_in s) e ∙ named-spare s g in cc)
   ]
@@ -107,7 +113,8 @@ module _ (s : Sizes) (g : IsGeometry s) (ls : List Laid) (spares : ℕ) (fine : 
         best = inl (
           ap (good_in s) is ∙ good-laid_bytes s g l one,
           λ q m good. (let at = member_laid (leb_of l.header) q m in
-              let other : sqnum_at s bs q ≡ 0 = ap (sqnum_in s) (block_laid q at.0 at.1) ∙ sqnum-laid_bytes s g at.0 (all_at (IsFine s) ls q at.0 fine at.1) in
+              let other : sqnum_at s bs q ≡ 0 = ap (sqnum_in s) (block_laid q at.0 at.1)
+              ∙ sqnum-laid_bytes s g at.0 (all_at (IsFine s) ls q at.0 fine at.1) in
               omega arith),
         );
       }
@@ -118,7 +125,8 @@ module _ (s : Sizes) (g : IsGeometry s) (ls : List Laid) (spares : ℕ) (fine : 
   pub image_clean : AreApart ls → NoFault s bs
   image_clean apart = none_from_clean s bs (record {
     sound = over_blocks (IsSound s) (λ l one. sound-laid_bytes s g l one) (sound-spare s g);
-    one_image = λ p q i j some other. absurd (some (over_blocks (λ b. seq_of s b ≡ 0) (λ l one. seq-laid_bytes s g l one) (seq-spare s g) p i));
+    one_image = λ p q i j some other. absurd
+        (some (over_blocks (λ b. seq_of s b ≡ 0) (λ l one. seq-laid_bytes s g l one) (seq-spare s g) p i));
     apart = λ of p q m n same.
         (let a = member_laid of p m in let b = member_laid of q n in
         one_place ls p q a.0 b.0 apart a.1 b.1 (a.2 ∙ sym b.2));
@@ -134,18 +142,22 @@ module _ (s : Sizes) (g : IsGeometry s) (ls : List Laid) (spares : ℕ) (fine : 
   pub blocks_again : eraseblocks (record { sizes = s; bytes = concat bs }) ≡ bs
   blocks_again =
       let some : 0 < s.peb_size = omega (arith, g.page_from, g.peb_from) in
-      let count : length (concat bs) / s.peb_size ≡ length bs = ap (λ n. n / s.peb_size) (length-bytes ∙ omega arith) ∙ div-mul-add (length bs) s.peb_size 0 some in
+      let count : length (concat bs) / s.peb_size ≡ length bs = ap (λ n. n / s.peb_size) (length-bytes ∙ omega arith)
+      ∙ div-mul-add (length bs) s.peb_size 0 some in
       ap (λ n. first_chunks s.peb_size n (concat bs)) count ∙ first_chunks-concat s.peb_size bs sized
 
   pub image_whole : 0 < length ls → length ls + spares ≤ s.pebs → IsWhole (record { sizes = s; bytes = concat bs })
   image_whole some few =
       let n : length bs ≡ length ls + spares = length-image_blocks in
       let size : 0 < s.peb_size = omega (arith, g.page_from, g.peb_from) in
-      let least : 1 * s.peb_size ≤ length bs * s.peb_size = mul-le 1 s.peb_size (length bs) s.peb_size (omega arith) (omega arith) in
-      let room : length bs * s.peb_size ≤ s.pebs * s.peb_size = mul-le (length bs) s.peb_size s.pebs s.peb_size (omega arith) (omega arith) in
+      let least : 1 * s.peb_size ≤ length bs * s.peb_size = mul-le 1 s.peb_size (length bs) s.peb_size (omega arith)
+      (omega arith) in
+      let room : length bs * s.peb_size ≤ s.pebs * s.peb_size =
+      mul-le (length bs) s.peb_size s.pebs s.peb_size (omega arith) (omega arith) in
       let bytes = length-bytes in
       record {
         some = omega arith;
-        cut = ap (λ k. k % s.peb_size) (length-bytes ∙ omega arith) ∙ mul-add-mod_self_right (length bs) s.peb_size 0 ∙ omega arith;
+        cut = ap (λ k. k % s.peb_size) (length-bytes ∙ omega arith) ∙ mul-add-mod_self_right (length bs) s.peb_size 0
+            ∙ omega arith;
         fits = omega arith;
       }

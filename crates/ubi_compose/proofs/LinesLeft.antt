@@ -22,8 +22,10 @@ left_is s before (text ∷ rest) all n e h =
     let cut : take n all ≡ before = ap (take n) (sym e) ∙ take_at before (text ∷ rest) n (sym h) in
     let more = left_is s (before ++ text ∷ []) rest all (n + 1) (append_assoc before (text ∷ []) rest ∙ e)
     (omega (arith, length_push before text)) in
-    ap (λ b. option_or (option_map (λ c. (line_number n, c)) (cause_of s b text)) (first_some (map (cause_at s all) (enumerate_from (n + 1) rest)))) cut
-    ∙ ap (λ m. option_or (option_map (λ c. (line_number m, c)) (cause_of s before text)) (first_some (map (cause_at s all) (enumerate_from (n + 1) rest)))) h
+    ap (λ b. option_or (option_map (λ c. (line_number n, c)) (cause_of s b text))
+    (first_some (map (cause_at s all) (enumerate_from (n + 1) rest)))) cut
+    ∙ ap (λ m. option_or (option_map (λ c. (line_number m, c)) (cause_of s before text))
+    (first_some (map (cause_at s all) (enumerate_from (n + 1) rest)))) h
     ∙ ap (option_or (option_map (λ c. (line_number (length before), c)) (cause_of s before text))) more
 
 pub first_from_start : (s : Sizes) (text : List ℕ) → first_cause s text ≡ first_left s [] (lines text)

@@ -25,8 +25,19 @@ abbrev IsFilled : Result Line SpecCause → Type 0
 IsFilled r = IfOk r (λ l. is_filled l ≡ true)
 
 volume_filled : (k : Option VolKind) (i r a : Result ℕ SpecCause) (f : Option ℕ) (n : Option (List ℕ))
-    → IsFilled (ok_or k cause.Word >>= (λ kind. i >>= (λ id. r >>= (λ reserved. a >>= (λ alignment. ok_or f cause.Hex >>= (λ flags. ok_or n cause.Name >>= (λ name.
-    Ok (line.Volume id (record { reserved = reserved; alignment = alignment; kind = kind; marker = false; name = name; flags = flags })))))))))
+    → IsFilled
+    (ok_or k cause.Word >>=
+    (λ kind. i >>=
+    (λ id. r >>= (λ reserved. a >>= (λ alignment. ok_or f cause.Hex >>= (λ flags. ok_or n cause.Name >>= (λ name.
+    Ok
+    (line.Volume id (record {
+      reserved = reserved;
+      alignment = alignment;
+      kind = kind;
+      marker = false;
+      name = name;
+      flags = flags;
+    })))))))))
 volume_filled None i r a f n = tt
 volume_filled (Some kind) (Err c) r a f n = tt
 volume_filled (Some kind) (Ok id) (Err c) a f n = tt

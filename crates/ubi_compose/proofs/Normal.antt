@@ -25,9 +25,11 @@ apart_volume s vol r content.Updating = tt
 apart_volume s vol r content.Damaged = (tt, tt)
 apart_volume s vol r (content.Static text) =
     let used : ℕ = pieces (usable s r) (length text) in
-    apart_map (λ k. k) (static_part (data_pad s r) (usable s r) vol text) (range_with_len 0 used) (λ x. refl) (range_rises 0 used)
+    apart_map (λ k. k) (static_part (data_pad s r) (usable s r) vol text) (range_with_len 0 used) (λ x. refl)
+    (range_rises 0 used)
 apart_volume s vol r (content.Dynamic lebs) =
-    apart_map (λ (e : ℕ × List ℕ). e.0) (dynamic_block (data_pad s r) vol) (finite.entries lebs) (λ x. refl) (entries_rise (finite.entries lebs) (finite.entries_sorted lebs))
+    apart_map (λ (e : ℕ × List ℕ). e.0) (dynamic_block (data_pad s r) vol) (finite.entries lebs) (λ x. refl)
+    (entries_rise (finite.entries lebs) (finite.entries_sorted lebs))
 
 module _ (m : Meant) (g : IsGeometry m.sizes) (is : IsMeaning m) where
   abbrev es : List (ℕ × Volume)
@@ -56,17 +58,20 @@ module _ (m : Meant) (g : IsGeometry m.sizes) (is : IsMeaning m) where
     (
       fine_layout 1 (omega arith),
       all_flat_map (IsFine m.sizes) blocks_in es
-          (all_from (λ e. AllByRecursion (IsFine m.sizes) (blocks_in e)) es (λ e h. fine_volume m.sizes g e.0 e.1 (entry_is e h))),
+          (all_from (λ e. AllByRecursion (IsFine m.sizes) (blocks_in e)) es
+          (λ e h. fine_volume m.sizes g e.0 e.1 (entry_is e h))),
     ),
   )
 
   -- none of a volume of a user is of the layout volume
   from_layout : (copy : ℕ) → AllByRecursion (Differ (layout_block m copy)) (blocks_of m.sizes es)
   from_layout copy =
-      all_flat_map (Differ (layout_block m copy)) blocks_in es (all_from (λ e. AllByRecursion (Differ (layout_block m copy)) (blocks_in e)) es (λ e h.
+      all_flat_map (Differ (layout_block m copy)) blocks_in es
+      (all_from (λ e. AllByRecursion (Differ (layout_block m copy)) (blocks_in e)) es (λ e h.
       all_from (Differ (layout_block m copy)) (blocks_in e) (λ l at same.
       let slot = (entry_is e h).slot in
-      let own : l.header.vol_id ≡ e.0 = all_at (λ (l : Laid). l.header.vol_id ≡ e.0) (blocks_in e) at.0 l (own_blocks m.sizes e.0 e.1.entry e.1.content) at.1 in
+      let own : l.header.vol_id ≡ e.0 = all_at (λ (l : Laid). l.header.vol_id ≡ e.0) (blocks_in e) at.0 l
+      (own_blocks m.sizes e.0 e.1.entry e.1.content) at.1 in
       let one : l.header.vol_id ≡ layout = ap (λ (of : Leb). of.0) same in
       omega arith)))
 

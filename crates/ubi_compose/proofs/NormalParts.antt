@@ -30,23 +30,31 @@ module _ (s : Sizes) (p : Placed) (table : List ℕ) (bytes : table ≡ table_by
   abbrev pub rest_text : Wanted
   rest_text image text =
       (h : ArePlaces (image_of s image) p)
-      × (text ≡ laid_bytes s new_ec (layout_block h.meaning 1) ++ flat_map (laid_bytes s new_ec) (normal.blocks_of s (finite.entries h.meaning.volumes)))
+      × (text ≡ laid_bytes s new_ec (layout_block h.meaning 1)
+      ++ flat_map (laid_bytes s new_ec) (normal.blocks_of s (finite.entries h.meaning.volumes)))
 
-  copy_is : (image : List ℕ) (h : ArePlaces (image_of s image) p) (copy : ℕ) → copy_text copy image (laid_bytes s new_ec (layout_block h.meaning copy))
+  copy_is : (image : List ℕ) (h : ArePlaces (image_of s image) p) (copy : ℕ)
+      → copy_text copy image (laid_bytes s new_ec (layout_block h.meaning copy))
   copy_is image h copy =
-      ap (λ x. laid_bytes s new_ec (record { header = plain kind.Dynamic 5 0 layout copy; text = x })) (ap table_bytes (sym h.records) ∙ sym bytes)
+      ap (λ x. laid_bytes s new_ec (record { header = plain kind.Dynamic 5 0 layout copy; text = x }))
+      (ap table_bytes (sym h.records) ∙ sym bytes)
 
   whole : (m : Meant) → m.sizes ≡ s
-      → normal_bytes m ≡ laid_bytes s new_ec (layout_block m 0) ++ (laid_bytes s new_ec (layout_block m 1) ++ flat_map (laid_bytes s new_ec) (normal.blocks_of s (finite.entries m.volumes)))
+      → normal_bytes m ≡ laid_bytes s new_ec (layout_block m 0)
+      ++ (laid_bytes s new_ec (layout_block m 1) ++ flat_map (laid_bytes s new_ec)
+      (normal.blocks_of s (finite.entries m.volumes)))
   unfolding normal_bytes
   whole m sizes =
-      ap (λ z. laid_bytes z new_ec (layout_block m 0) ++ (laid_bytes z new_ec (layout_block m 1) ++ flat_map (laid_bytes z new_ec) (normal.blocks_of z (finite.entries m.volumes)))) sizes
+      ap (λ z. laid_bytes z new_ec (layout_block m 0)
+      ++ (laid_bytes z new_ec (layout_block m 1) ++ flat_map (laid_bytes z new_ec)
+      (normal.blocks_of z (finite.entries m.volumes)))) sizes
 
   normal_splits : Splits (normal_text s p) (copy_text 0) rest_text
   normal_splits image text w =
       let h = w.0 in (
         laid_bytes s new_ec (layout_block h.meaning 0),
-        laid_bytes s new_ec (layout_block h.meaning 1) ++ flat_map (laid_bytes s new_ec) (normal.blocks_of s (finite.entries h.meaning.volumes)),
+        laid_bytes s new_ec (layout_block h.meaning 1) ++ flat_map (laid_bytes s new_ec)
+            (normal.blocks_of s (finite.entries h.meaning.volumes)),
         w.1 ∙ whole h.meaning h.accepted.accepted.means.sizes,
         copy_is image h 0,
         (h, refl),
@@ -54,25 +62,37 @@ module _ (s : Sizes) (p : Placed) (table : List ℕ) (bytes : table ≡ table_by
 
   rest_splits : Splits rest_text (copy_text 1) (volumes_text s p)
   rest_splits image text w =
-      let h = w.0 in
-      (laid_bytes s new_ec (layout_block h.meaning 1), flat_map (laid_bytes s new_ec) (normal.blocks_of s (finite.entries h.meaning.volumes)), w.1, copy_is image h 1, (h, refl))
+      let h = w.0 in (
+        laid_bytes s new_ec (layout_block h.meaning 1),
+        flat_map (laid_bytes s new_ec) (normal.blocks_of s (finite.entries h.meaning.volumes)),
+        w.1,
+        copy_is image h 1,
+        (h, refl),
+      )
 
   module _ (k : Source) (a b c d : Option (List ℕ)) where
-    pub first_failed : (e : StreamError) → IsWroteError s k a b (copy_text 0) 0 e → IsWroteError s k a b (normal_text s p) 0 e
+    pub first_failed : (e : StreamError) → IsWroteError s k a b (copy_text 0) 0 e
+        → IsWroteError s k a b (normal_text s p) 0 e
     first_failed e h = error_front k s a b (normal_text s p) (copy_text 0) rest_text 0 e normal_splits h
 
-    pub second_failed : (n : ℕ) (e : StreamError) → Wrote k a b (copy_text 0) All 0 n → IsWroteError s k b c (copy_text 1) n e → IsWroteError s k a c (normal_text s p) 0 e
+    pub second_failed : (n : ℕ) (e : StreamError) → Wrote k a b (copy_text 0) All 0 n
+        → IsWroteError s k b c (copy_text 1) n e → IsWroteError s k a c (normal_text s p) 0 e
     second_failed n e g h =
-        error_behind k s a b c (normal_text s p) (copy_text 0) rest_text 0 n e normal_splits g (error_front k s b c rest_text (copy_text 1) (volumes_text s p) n e rest_splits h)
+        error_behind k s a b c (normal_text s p) (copy_text 0) rest_text 0 n e normal_splits g
+        (error_front k s b c rest_text (copy_text 1) (volumes_text s p) n e rest_splits h)
 
-    pub volumes_behind : (n m : ℕ) (e : StreamError) → Wrote k a b (copy_text 0) All 0 n → Wrote k b c (copy_text 1) All n m → IsWroteError s k c d (volumes_text s p) m e → IsWroteError s k a d (normal_text s p) 0 e
+    pub volumes_behind : (n m : ℕ) (e : StreamError) → Wrote k a b (copy_text 0) All 0 n
+        → Wrote k b c (copy_text 1) All n m → IsWroteError s k c d (volumes_text s p) m e
+        → IsWroteError s k a d (normal_text s p) 0 e
     volumes_behind n m e g h f =
         error_behind k s a b d (normal_text s p) (copy_text 0) rest_text 0 n e normal_splits g
         (error_behind k s b c d rest_text (copy_text 1) (volumes_text s p) n m e rest_splits h f)
 
-    pub all_parts : (n m l : ℕ) → Wrote k a b (copy_text 0) All 0 n → Wrote k b c (copy_text 1) All n m → Wrote k c d (volumes_text s p) All m l → Wrote k a d (normal_text s p) All 0 l
+    pub all_parts : (n m l : ℕ) → Wrote k a b (copy_text 0) All 0 n → Wrote k b c (copy_text 1) All n m
+        → Wrote k c d (volumes_text s p) All m l → Wrote k a d (normal_text s p) All 0 l
     all_parts n m l g h f =
-        wrote_more k a b d (normal_text s p) (copy_text 0) rest_text 0 n l normal_splits g (wrote_more k b c d rest_text (copy_text 1) (volumes_text s p) n m l rest_splits h f)
+        wrote_more k a b d (normal_text s p) (copy_text 0) rest_text 0 n l normal_splits g
+        (wrote_more k b c d rest_text (copy_text 1) (volumes_text s p) n m l rest_splits h f)
 
 module _ (s : Sizes) (k : Source) (p : Placed) (places : ArePlacesOf s k p) (a b : Option (List ℕ)) where
   pub normalised : (n : ℕ) → Wrote k a b (normal_text s p) All 0 n → IsNormalisedTo s k a b n
@@ -82,8 +102,14 @@ module _ (s : Sizes) (k : Source) (p : Placed) (places : ArePlacesOf s k p) (a b
         let at = places.held image is in
         let all = h.held image is (normal_bytes at.meaning) (at, refl) in
         let size : length h.bytes ≡ length (normal_bytes at.meaning) = all.0 in
-        let same : h.bytes ≡ normal_bytes at.meaning = all.1 ∙ take_all (length h.bytes) (normal_bytes at.meaning) (omega (arith, size)) in
-        record { meaning = at.meaning; accepted = at.accepted; count = (let c = h.count in omega (arith, c, size)); written = subst (Appends a b) same h.got };
+        let same : h.bytes ≡ normal_bytes at.meaning = all.1
+        ∙ take_all (length h.bytes) (normal_bytes at.meaning) (omega (arith, size)) in
+        record {
+          meaning = at.meaning;
+          accepted = at.accepted;
+          count = (let c = h.count in omega (arith, c, size));
+          written = subst (Appends a b) same h.got;
+        };
   }
 
   pub not_normalised : (e : StreamError) → IsWroteError s k a b (normal_text s p) 0 e → IsNormaliseToError s k a b e

@@ -34,7 +34,8 @@ spare_block = refl
 aligned : VolumeRecord
 aligned = record { reserved = 9; alignment = 256; kind = kind.Dynamic; marker = false; name = 97 ∷ []; flags = 0 }
 
-dynamic_volume : volume_blocks small 3 aligned (content.Dynamic (finite.from_entries ((7, replicate 256 1) ∷ []))) ≡ dynamic_block 128 3 (7, replicate 256 1) ∷ []
+dynamic_volume : volume_blocks small 3 aligned (content.Dynamic (finite.from_entries ((7, replicate 256 1) ∷ [])))
+    ≡ dynamic_block 128 3 (7, replicate 256 1) ∷ []
 unfolding aligned
 dynamic_volume = ap (map (dynamic_block 128 3)) (sorted_entries ((7, replicate 256 1) ∷ []) refl)
 
@@ -78,7 +79,8 @@ abbrev nothing : Meant
 nothing = record { sizes = small; volumes = finite.empty }
 
 no_record : (id : ℕ) → finite.get (records_of nothing).of id ≡ None
-no_record id = record_of nothing id ∙ ap (λ (o : Option Volume). option_map (λ (v : Volume). v.entry) o) (finite.get-empty nat_cmp id)
+no_record id = record_of nothing id ∙ ap (λ (o : Option Volume). option_map (λ (v : Volume). v.entry) o)
+    (finite.get-empty nat_cmp id)
 
 abbrev copy : List ℕ → List ℕ
 copy header =
@@ -86,14 +88,16 @@ copy header =
 
 abbrev with_records : ℕ → Option VolumeRecord → Option VolumeRecord → List ℕ
 with_records number a b =
-    laid_bytes small new_ec (record (layout_block nothing number) { text = rec_bytes small a ++ (rec_bytes small b ++ []) })
+    laid_bytes small new_ec
+    (record (layout_block nothing number) { text = rec_bytes small a ++ (rec_bytes small b ++ []) })
 
 empty_image : normal_bytes nothing ≡
     copy (0x55424921 ∷ 0x01010005 ∷ 0x7fffefff ∷ 0 ∷ 0 ∷ 0 ∷ 0 ∷ 0 ∷ 0 ∷ 0 ∷ 0 ∷ 0 ∷ 0 ∷ 0 ∷ 0 ∷ 0xb82564a8 ∷ [])
     ++ copy (0x55424921 ∷ 0x01010005 ∷ 0x7fffefff ∷ 1 ∷ 0 ∷ 0 ∷ 0 ∷ 0 ∷ 0 ∷ 0 ∷ 0 ∷ 0 ∷ 0 ∷ 0 ∷ 0 ∷ 0x1bb34ce4 ∷ [])
 unfolding normal_bytes rec_bytes filled empty_record fields_from check_from remainder
 empty_image =
-    ap (λ (es : List (ℕ × Volume)). flat_map (laid_bytes small new_ec) (layout_block nothing 0 ∷ layout_block nothing 1 ∷ blocks_of small es)) no_entries
+    ap (λ (es : List (ℕ × Volume)). flat_map (laid_bytes small new_ec)
+    (layout_block nothing 0 ∷ layout_block nothing 1 ∷ blocks_of small es)) no_entries
     ∙ ap₂ (λ a b. with_records 0 a b ++ (with_records 1 a b ++ [])) (no_record 0) (no_record 1)
 
 empty_size : length (normal_bytes nothing) ≡ 1024

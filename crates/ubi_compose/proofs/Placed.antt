@@ -16,9 +16,11 @@ use Rattle.ubi_compose.specs.inner.Streaming.{GivesCheck, kept_bytes}
 use Rattle.ubi_compose.specs.Normal.{dynamic_block, laid_bytes, new_ec, piece_header, static_block}
 
 -- what was put behind the headers' bytes
-pub text_is : (xs text rest : List ℕ) (n : ℕ) → length xs ≡ n → take (length text) (drop n (xs ++ (text ++ rest))) ≡ text
+pub text_is : (xs text rest : List ℕ) (n : ℕ) → length xs ≡ n
+    → take (length text) (drop n (xs ++ (text ++ rest))) ≡ text
 text_is xs text rest n size =
-    ap (λ k. take (length text) (drop k (xs ++ (text ++ rest)))) (sym size) ∙ ap (take (length text)) (drop-append_seam xs (text ++ rest)) ∙ take-append_seam text rest
+    ap (λ k. take (length text) (drop k (xs ++ (text ++ rest)))) (sym size)
+    ∙ ap (take (length text)) (drop-append_seam xs (text ++ rest)) ∙ take-append_seam text rest
 
 -- a whole eraseblock that was read
 pub block_of_read : (s : Sizes) (bytes : List ℕ) (p : ℕ) → p < length bytes / s.peb_size
@@ -26,7 +28,8 @@ pub block_of_read : (s : Sizes) (bytes : List ℕ) (p : ℕ) → p < length byte
 block_of_read s bytes p inside =
     let size = s.peb_size in
     let count : p * size + size - p * size ≡ size = omega arith in
-    ap (λ n. take n (drop (p * size) bytes)) count ∙ sym (get_or-first_chunks size (length bytes / size) bytes p [] inside)
+    ap (λ n. take n (drop (p * size) bytes)) count
+    ∙ sym (get_or-first_chunks size (length bytes / size) bytes p [] inside)
 
 -- the bytes of its volume-identifier header
 pub vid_area_of : (s : Sizes) (b : List ℕ) (start : ℕ) → start ≡ s.vid_offset → start + 64 ≤ length b
@@ -38,12 +41,14 @@ vid_area_of s b start begin room =
 
 -- a piece whose check is the one that its header gave
 module _ (s : Sizes) (pad vol used lnum len crc : ℕ) (bytes b : List ℕ) (read : bytes ≡ b) (h : VidHeader)
-    (header : h ≡ piece_header pad vol used lnum len crc) (given : (k : VidHeader) → vid s bytes ≡ vid_read.Valid k → crc ≡ k.data_crc) where
+    (header : h ≡ piece_header pad vol used lnum len crc) (given : (k : VidHeader) → vid s bytes ≡ vid_read.Valid k
+    → crc ≡ k.data_crc) where
   abbrev text : List ℕ
   text = take len (leb s bytes)
 
   pub piece_is : (t : List ℕ) → len ≤ length (leb s bytes) → GivesCheck s b len
-      → t ≡ laid_bytes s new_ec (static_block pad vol used lnum (take len (leb s b))) → t ≡ laid_bytes s new_ec (record { header = h; text = text })
+      → t ≡ laid_bytes s new_ec (static_block pad vol used lnum (take len (leb s b)))
+      → t ≡ laid_bytes s new_ec (record { header = h; text = text })
   piece_is t long right e =
       let same : take len (leb s b) ≡ text = ap (λ x. take len (leb s x)) (sym read) in
       let crcs : check text ≡ crc = sym (given right.0 (ap (vid s) read ∙ right.1) ∙ right.2 ∙ ap check same) in
@@ -52,15 +57,20 @@ module _ (s : Sizes) (pad vol used lnum len crc : ℕ) (bytes b : List ℕ) (rea
       ∙ ap (λ n. f n (check text)) (length-take-le len (leb s bytes) long) ∙ ap (f len) crcs
       ∙ ap (λ x. laid_bytes s new_ec (record { header = x; text = text })) (sym header)
 
-module _ (s : Sizes) (pad vol lnum len : ℕ) (behind leb part : List ℕ) (is : part ≡ take len behind) (read : behind ≡ leb) (h : VidHeader) (t : List ℕ) where
+module _ (s : Sizes) (pad vol lnum len : ℕ) (behind leb part : List ℕ) (is : part ≡ take len behind)
+    (read : behind ≡ leb) (h : VidHeader) (t : List ℕ) where
   same_part : part ≡ take len leb
   same_part = is ∙ ap (take len) read
 
   pub nothing_is : is_blank part ≡ true → t ≡ kept_bytes s pad vol lnum (take len leb) → t ≡ []
-  nothing_is blank e = e ∙ ap (kept_bytes s pad vol lnum) (sym same_part) ∙ ap (λ b. cond b [] (laid_bytes s new_ec (dynamic_block pad vol (lnum, part)))) blank
+  nothing_is blank e = e ∙ ap (kept_bytes s pad vol lnum) (sym same_part)
+      ∙ ap (λ b. cond b [] (laid_bytes s new_ec (dynamic_block pad vol (lnum, part)))) blank
 
-  pub kept_is : is_blank part ≡ false → h ≡ plain kind.Dynamic 0 pad vol lnum → t ≡ kept_bytes s pad vol lnum (take len leb)
+  pub kept_is : is_blank part ≡ false → h ≡ plain kind.Dynamic 0 pad vol lnum
+      → t ≡ kept_bytes s pad vol lnum (take len leb)
       → t ≡ laid_bytes s new_ec (record { header = h; text = take len behind })
   kept_is other header e =
-      e ∙ ap (kept_bytes s pad vol lnum) (sym same_part) ∙ ap (λ b. cond b [] (laid_bytes s new_ec (dynamic_block pad vol (lnum, part)))) other
-      ∙ ap (λ x. laid_bytes s new_ec (record { header = x; text = part })) (sym header) ∙ ap (λ x. laid_bytes s new_ec (record { header = h; text = x })) is
+      e ∙ ap (kept_bytes s pad vol lnum) (sym same_part)
+      ∙ ap (λ b. cond b [] (laid_bytes s new_ec (dynamic_block pad vol (lnum, part)))) other
+      ∙ ap (λ x. laid_bytes s new_ec (record { header = x; text = part })) (sym header)
+      ∙ ap (λ x. laid_bytes s new_ec (record { header = h; text = x })) is

@@ -138,7 +138,14 @@ module _ {X : Type 0} where
     set_same es k c a =
         let none : find (has id) c.after ≡ None = rw (← c.is) (apart_after c.before c.at c.after (rw (← c.whole) a)) in
         let at : length (map f c.before) ≡ k = simp length-map (omega (arith, c.place)) in
-        rw (c.whole, map-append f c.before (c.at ∷ c.after), map-append g c.before (c.at ∷ c.after), set_at (map f c.before) (f c.at) (map f c.after) (g c.at) k at, map_same c.before c.none_before, map_same c.after none) refl
+        rw (
+          c.whole,
+          map-append f c.before (c.at ∷ c.after),
+          map-append g c.before (c.at ∷ c.after),
+          set_at (map f c.before) (f c.at) (map f c.after) (g c.at) k at,
+          map_same c.before c.none_before,
+          map_same c.after none,
+        ) refl
 
   within : (id k : ℕ) (es : List (ℕ × X)) (c : Cut id 0 es k) → slice_get es k ≡ Some c.at
   within id k es c =

@@ -54,7 +54,8 @@ some_if None items c h = absurd (cc)
 some_if (Some d) items c h = cc
 
 module _ (s : Sizes) (text : List ℕ) (before : List (List ℕ)) (items : Items) (n : ℕ) (line : List ℕ)
-    (k : IsReadSoFar s text before items n) (within : length before < length (lines text)) (is : line ≡ get_or (lines text) (length before) line) where
+    (k : IsReadSoFar s text before items n) (within : length before < length (lines text))
+    (is : line ≡ get_or (lines text) (length before) line) where
   reads : read s items line ≡ answer (cause_of s before line) (volumes_in s (sayings (before ++ line ∷ [])))
   reads = ap (λ (items : Items). read s items line) k.volumes ∙ read_more s before line k.sound
 
@@ -76,7 +77,8 @@ module _ (s : Sizes) (text : List ℕ) (before : List (List ℕ)) (items : Items
       let number = k.number_is in
       record {
         left = this_line
-            ∙ ap (λ o. option_or (option_map (λ c. (line_number (length before), c)) o) (first_left s (before ++ line ∷ []) (drop (length before + 1) (lines text)))) o.0
+            ∙ ap (λ o. option_or (option_map (λ c. (line_number (length before), c)) o)
+            (first_left s (before ++ line ∷ []) (drop (length before + 1) (lines text)))) o.0
             ∙ ap (λ i. first_left s (before ++ line ∷ []) (drop i (lines text))) long;
         volumes = sym o.1;
         sound = sound_read s before line k.sound o.0;
@@ -91,7 +93,8 @@ module _ (s : Sizes) (text : List ℕ) (before : List (List ℕ)) (items : Items
       let number = k.number_is in
       let same : line_number (length before) ≡ m = omega arith in
       this_line
-      ∙ ap (λ o. option_or (option_map (λ c. (line_number (length before), c)) o) (first_left s (before ++ line ∷ []) (drop (length before + 1) (lines text)))) o
+      ∙ ap (λ o. option_or (option_map (λ c. (line_number (length before), c)) o)
+      (first_left s (before ++ line ∷ []) (drop (length before + 1) (lines text)))) o
       ∙ ap (λ i. Some (i, c)) same
 
   pub refused_at : (e : LineError) (m : ℕ) → IsRefused (read s items line) e → m ≡ min (n + 1) 0xFFFFFFFF
@@ -116,8 +119,10 @@ marked s r true = refl
 marked s r false = refl
 
 entry_by : (s : Sizes) (r : VolumeRecord) (u d k : Bool) (a b : Content) → rec_fault s r ≡ None
-    → rec_fault s (cond u (let v : Volume = record { entry = record r { marker = true }; content = content.Updating } in v)
-    (cond d (record { entry = r; content = content.Damaged }) (cond k (record { entry = r; content = a }) (record { entry = r; content = b })))).entry ≡ None
+    → rec_fault s (cond u (let v : Volume = record { entry = record r { marker = true }; content = content.Updating } in
+    v)
+    (cond d (record { entry = r; content = content.Damaged })
+    (cond k (record { entry = r; content = a }) (record { entry = r; content = b })))).entry ≡ None
 entry_by s r true d k a b h = marked s r true ∙ sym (marked s r r.marker) ∙ h
 entry_by s r false true k a b h = h
 entry_by s r false false true a b h = h

@@ -31,7 +31,8 @@ read_refused s k (stream.Write n) h = h
 read_refused s k stream.Memory h = tt
 
 -- what keeps two sources from being compared once both are attached
-pub sides_refused : (s : Sizes) (k l : Source) (e : SameFault) → WhereHeld k (λ bytes. (m : Meant) × Accepts (image_of s bytes) m)
+pub sides_refused : (s : Sizes) (k l : Source) (e : SameFault)
+    → WhereHeld k (λ bytes. (m : Meant) × Accepts (image_of s bytes) m)
     → IsSidesError (blocks_in s k) (blocks_in s l) e → IsSameFault s k l e
 sides_refused s k l (fault.Left e) accepted h = read_refused s k e h
 sides_refused s k l (fault.Right e) accepted h = (accepted, read_refused s l e h)

@@ -21,8 +21,10 @@ Rises key (x ∷ xs) = AllByRecursion (λ y. key x < key y) xs × Rises key xs
 
 pub range_rises : (a n : ℕ) → Rises (λ k. k) (range_with_len a n)
 range_rises a zero = tt
-range_rises a (suc n) =
-    (all_from (λ k. a < k) (range_with_len (a + 1) n) (λ k h. let low = (range_holds (a + 1) n k h).0 in omega arith), range_rises (a + 1) n)
+range_rises a (suc n) = (
+  all_from (λ k. a < k) (range_with_len (a + 1) n) (λ k h. let low = (range_holds (a + 1) n k h).0 in omega arith),
+  range_rises (a + 1) n,
+)
 
 less : (r : Ordering) → T (is_lt r) → r ≡ Less
 less Less p = refl
@@ -44,15 +46,18 @@ other_vol : (k l : Laid) (m n : ℕ) → k.header.vol_id ≡ m → l.header.vol_
 other_vol k l m n e f h same = let one : l.header.vol_id ≡ k.header.vol_id = ap (λ (of : Leb). of.0) same in omega arith
 
 -- one of each, whose LEB has its number
-pub apart_map : {X : Type 0} (key : X → ℕ) (f : X → Laid) (xs : List X) → ((x : X) → (f x).header.lnum ≡ key x) → Rises key xs → AreApart (map f xs)
+pub apart_map : {X : Type 0} (key : X → ℕ) (f : X → Laid) (xs : List X) → ((x : X) → (f x).header.lnum ≡ key x)
+    → Rises key xs → AreApart (map f xs)
 apart_map key f [] is h = tt
 apart_map key f (x ∷ xs) is h = (
-  all_map (Differ (f x)) f xs (λ y at. other_lnum (f x) (f y) (key x) (key y) (is x) (is y) (all_at (λ y. key x < key y) xs at.0 y h.0 at.1)),
+  all_map (Differ (f x)) f xs
+      (λ y at. other_lnum (f x) (f y) (key x) (key y) (is x) (is y) (all_at (λ y. key x < key y) xs at.0 y h.0 at.1)),
   apart_map key f xs is h.1,
 )
 
 -- some of each, of the volume with its number
-pub apart_flat_map : {X : Type 0} (key : X → ℕ) (f : X → List Laid) (xs : List X) → ((x : X) → AllByRecursion (λ (l : Laid). l.header.vol_id ≡ key x) (f x))
+pub apart_flat_map : {X : Type 0} (key : X → ℕ) (f : X → List Laid) (xs : List X)
+    → ((x : X) → AllByRecursion (λ (l : Laid). l.header.vol_id ≡ key x) (f x))
     → AllByRecursion (λ x. AreApart (f x)) xs → Rises key xs → AreApart (flat_map f xs)
 apart_flat_map key f [] own each h = tt
 apart_flat_map key f (x ∷ xs) own each h =

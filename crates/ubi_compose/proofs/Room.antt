@@ -24,7 +24,8 @@ use Rattle.ubi_compose.proofs.Rising.{Rises, entries_rise}
 use Rattle.ubi_compose.proofs.Table.{volume_is}
 
 -- numbers that rise, from k on and below n, are no more than those between
-pub few_rising : {X : Type 0} (key : X → ℕ) (xs : List X) (k n : ℕ) → k ≤ n → Rises key xs → AllByRecursion (λ x. k ≤ key x) xs
+pub few_rising : {X : Type 0} (key : X → ℕ) (xs : List X) (k n : ℕ) → k ≤ n → Rises key xs
+    → AllByRecursion (λ x. k ≤ key x) xs
     → AllByRecursion (λ x. key x < n) xs → k + length xs ≤ n
 few_rising key [] k n h rises from below = omega arith
 few_rising {X = X} key (x ∷ xs) k n h rises from below =
@@ -37,51 +38,64 @@ few_rising {X = X} key (x ∷ xs) k n h rises from below =
     above [] h = tt
     above (y ∷ ys) h = ((let l = h.0 in omega arith), above ys h.1)
 
-few_lebs : (lebs : FinMap nat_cmp (List ℕ)) (n size : ℕ) → ((lnum : ℕ) → IfSome (finite.get lebs lnum) (λ text. (lnum < n) × (length text ≡ size)))
+few_lebs : (lebs : FinMap nat_cmp (List ℕ)) (n size : ℕ)
+    → ((lnum : ℕ) → IfSome (finite.get lebs lnum) (λ text. (lnum < n) × (length text ≡ size)))
     → length (finite.entries lebs) ≤ n
 few_lebs lebs n size h =
     let es = finite.entries lebs in
     let below : AllByRecursion (λ (e : ℕ × List ℕ). e.0 < n) es = all_from (λ (e : ℕ × List ℕ). e.0 < n) es (λ e at.
-    (subst (λ (o : Option (List ℕ)). IfSome o (λ text. (e.0 < n) × (length text ≡ size))) (held_entry lebs e at) (h e.0)).0) in
-    let from : AllByRecursion (λ (e : ℕ × List ℕ). 0 ≤ e.0) es = all_from (λ (e : ℕ × List ℕ). 0 ≤ e.0) es (λ e at. omega arith) in
-    let few = few_rising (λ (e : ℕ × List ℕ). e.0) es 0 n (omega arith) (entries_rise es (finite.entries_sorted lebs)) from below in
+    (subst (λ (o : Option (List ℕ)). IfSome o (λ text. (e.0 < n) × (length text ≡ size))) (held_entry lebs e at)
+    (h e.0)).0) in
+    let from : AllByRecursion (λ (e : ℕ × List ℕ). 0 ≤ e.0) es =
+    all_from (λ (e : ℕ × List ℕ). 0 ≤ e.0) es (λ e at. omega arith) in
+    let few = few_rising (λ (e : ℕ × List ℕ). e.0) es 0 n (omega arith)
+    (entries_rise es (finite.entries_sorted lebs)) from below in
     omega arith
 
-few_by : (s : Sizes) (vol : ℕ) (v : Volume) → IsVolume s vol v → (c : Content) → Fits s v.entry c → length (volume_blocks s vol v.entry c) ≤ v.entry.reserved
+few_by : (s : Sizes) (vol : ℕ) (v : Volume) → IsVolume s vol v → (c : Content) → Fits s v.entry c
+    → length (volume_blocks s vol v.entry c) ≤ v.entry.reserved
 few_by s vol v is content.Updating fits = omega arith
 few_by s vol v is content.Damaged fits = reserved_some s v.entry is.sound
 few_by s vol v is (content.Static text) fits =
     let size : ℕ = usable s v.entry in
     let used : ℕ = pieces size (length text) in
-    let n : length (volume_blocks s vol v.entry (content.Static text)) ≡ used = length-map-range_with_len (static_part (data_pad s v.entry) size vol text) 0 used in
+    let n : length (volume_blocks s vol v.entry (content.Static text)) ≡ used =
+    length-map-range_with_len (static_part (data_pad s v.entry) size vol text) 0 used in
     omega (arith, n, pieces_few size (usable_some s v.entry is.sound) (length text) v.entry.reserved fits.2)
 few_by s vol v is (content.Dynamic lebs) fits =
-    let n : length (volume_blocks s vol v.entry (content.Dynamic lebs)) ≡ length (finite.entries lebs) = length-map (finite.entries lebs) (dynamic_block (data_pad s v.entry) vol) in
+    let n : length (volume_blocks s vol v.entry (content.Dynamic lebs)) ≡ length (finite.entries lebs) =
+    length-map (finite.entries lebs) (dynamic_block (data_pad s v.entry) vol) in
     omega (arith, n, few_lebs lebs v.entry.reserved (usable s v.entry) fits.2)
 
-few_all : (s : Sizes) (es : List (ℕ × Volume)) (n : ℕ) → AllByRecursion (λ (e : ℕ × Volume). length (volume_blocks s e.0 e.1.entry e.1.content) ≤ e.1.entry.reserved) es
+few_all : (s : Sizes) (es : List (ℕ × Volume)) (n : ℕ)
+    → AllByRecursion (λ (e : ℕ × Volume). length (volume_blocks s e.0 e.1.entry e.1.content) ≤ e.1.entry.reserved) es
     → n + length (blocks_of s es) ≤ fold (λ k (v : Volume). k + v.entry.reserved) n (map (λ (e : ℕ × Volume). e.1) es)
 few_all s [] n h = omega arith
 few_all s (e ∷ es) n h =
     let own = volume_blocks s e.0 e.1.entry e.1.content in
     let first : length own ≤ e.1.entry.reserved = h.0 in
-    let sum : ℕ = fold (λ k (v : Volume). k + v.entry.reserved) (n + e.1.entry.reserved) (map (λ (e : ℕ × Volume). e.1) es) in
+    let sum : ℕ = fold (λ k (v : Volume). k + v.entry.reserved) (n + e.1.entry.reserved)
+    (map (λ (e : ℕ × Volume). e.1) es) in
     let rest : n + e.1.entry.reserved + length (blocks_of s es) ≤ sum = few_all s es (n + e.1.entry.reserved) h.1 in
-    let both : length (own ++ blocks_of s es) ≡ length own + length (blocks_of s es) = length-append own (blocks_of s es) in
+    let both : length (own ++ blocks_of s es) ≡ length own + length (blocks_of s es) =
+    length-append own (blocks_of s es) in
     omega arith
 
 -- as many as there are in front are no more
 prefix_few : (s : Sizes) (es : List (ℕ × Volume)) (i : ℕ) → length (blocks_of s (take i es)) ≤ length (blocks_of s es)
 prefix_few s es i =
     let f = λ (e : ℕ × Volume). volume_blocks s e.0 e.1.entry e.1.content in
-    let cut : blocks_of s es ≡ blocks_of s (take i es) ++ blocks_of s (drop i es) = ap (flat_map f) (sym (take-append-drop i es)) ∙ flat_map-append f (take i es) (drop i es) in
+    let cut : blocks_of s es ≡ blocks_of s (take i es) ++ blocks_of s (drop i es) =
+    ap (flat_map f) (sym (take-append-drop i es)) ∙ flat_map-append f (take i es) (drop i es) in
     let both = ap length cut ∙ length-append (blocks_of s (take i es)) (blocks_of s (drop i es)) in
     omega arith
 
 pub normal_fits : (m : Meant) → IsMeaning m → HasRoom m 0
 normal_fits m is =
     let es = finite.entries m.volumes in
-    let each = all_from (λ (e : ℕ × Volume). length (volume_blocks m.sizes e.0 e.1.entry e.1.content) ≤ e.1.entry.reserved) es (λ e at.
+    let each =
+    all_from (λ (e : ℕ × Volume). length (volume_blocks m.sizes e.0 e.1.entry e.1.content) ≤ e.1.entry.reserved) es
+    (λ e at.
     let v = volume_is m is e.0 e.1 (held_entry m.volumes e at) in
     few_by m.sizes e.0 e.1 v e.1.content v.fits) in
     let few = few_all m.sizes es 0 each in
@@ -89,7 +103,8 @@ normal_fits m is =
     omega arith
 
 -- the eraseblocks of the first volumes fit it too
-pub first_fit : (m : Meant) → IsMeaning m → (i : ℕ) → 2 + length (blocks_of m.sizes (take i (finite.entries m.volumes))) ≤ m.sizes.pebs
+pub first_fit : (m : Meant) → IsMeaning m → (i : ℕ)
+    → 2 + length (blocks_of m.sizes (take i (finite.entries m.volumes))) ≤ m.sizes.pebs
 first_fit m is i =
     let all : length (normal_blocks m) + 0 ≤ m.sizes.pebs = normal_fits m is in
     let few = prefix_few m.sizes (finite.entries m.volumes) i in

@@ -40,10 +40,14 @@ both f g = (λ a. g.0 (f.0 a), λ c. f.1 (g.1 c))
 
 -- the records of two tables
 entry_Decides : (p q : ℕ × VolumeRecord) → Decides ((p.0 == q.0) && (record_eq.ghosts).eq p.1 q.1) (p ≡ q)
-entry_Decides p q = Decides-like _ (λ e i. (e.0 i, e.1 i)) (λ e. (ap (λ x. x.0) e, ap (λ x. x.1) e)) (Decides-and _ _ (unsigned_Decides p.0 q.0) (record_Decides p.1 q.1))
+entry_Decides p q = Decides-like _ (λ e i. (e.0 i, e.1 i)) (λ e. (ap (λ x. x.0) e, ap (λ x. x.1) e))
+    (Decides-and _ _ (unsigned_Decides p.0 q.0) (record_Decides p.1 q.1))
 
-pub records_Decides : (a b : FinMap nat_cmp VolumeRecord) (r : Bool) → r ≡ pointwise (λ p q. (p.0 == q.0) && (record_eq.ghosts).eq p.1 q.1) (finite.entries a) (finite.entries b) → Decides r (a ≡ b)
-records_Decides a b r e = Decides-like r (same_entries_map a b) (ap finite.entries) (slice_eq-Decides entry_Decides (finite.entries a) (finite.entries b) r e)
+pub records_Decides : (a b : FinMap nat_cmp VolumeRecord) (r : Bool)
+    → r ≡ pointwise (λ p q. (p.0 == q.0) && (record_eq.ghosts).eq p.1 q.1) (finite.entries a) (finite.entries b)
+    → Decides r (a ≡ b)
+records_Decides a b r e = Decides-like r (same_entries_map a b) (ap finite.entries)
+    (slice_eq-Decides entry_Decides (finite.entries a) (finite.entries b) r e)
 
 -- what a volume of an image is
 module _ (s : Sizes) (p : Placed) (x : List ℕ) (h : ArePlaces (image_of s x) p) (id : ℕ) (r : VolumeRecord)
@@ -53,7 +57,8 @@ module _ (s : Sizes) (p : Placed) (x : List ℕ) (h : ArePlaces (image_of s x) p
 
   volume : IsVolume s id v
   volume = subst (λ (z : Sizes). IsVolume z id v) h.accepted.accepted.means.sizes
-      (subst (λ (o : Option Volume). IfSome o (IsVolume h.meaning.sizes id)) at (h.accepted.accepted.means.meaning.each id))
+      (subst (λ (o : Option Volume). IfSome o (IsVolume h.meaning.sizes id)) at
+      (h.accepted.accepted.means.meaning.each id))
 
   fits_as : (c : Content) → v.content ≡ c → Fits s r c
   fits_as c is = subst (λ (y : VolumeRecord). Fits s y c) entry (subst (Fits s v.entry) is volume.fits)
@@ -62,17 +67,21 @@ module _ (s : Sizes) (p : Placed) (x : List ℕ) (h : ArePlaces (image_of s x) p
   keeps_as c is = subst (λ (y : VolumeRecord). KeepsNoBlank s y c) entry (subst (KeepsNoBlank s v.entry) is volume.kept)
 
 module _ (s : Sizes) (p q : Placed) (x y : List ℕ) (h : ArePlaces (image_of s x) p) (k : ArePlaces (image_of s y) q)
-    (id : ℕ) (r : VolumeRecord) (here : finite.get p.records.of id ≡ Some r) (there : finite.get q.records.of id ≡ Some r)
+    (id : ℕ) (r : VolumeRecord) (here : finite.get p.records.of id ≡ Some r)
+    (there : finite.get q.records.of id ≡ Some r)
     (v w : Volume) (at : finite.get h.meaning.volumes id ≡ Some v) (bt : finite.get k.meaning.volumes id ≡ Some w) where
   abbrev size : ℕ
   size = usable s r
 
   -- volumes whose cases differ read other things
-  pub apart : (a b : PlaceContent) → finite.get p.contents id ≡ Some a → finite.get q.contents id ≡ Some b → v.content ≡ w.content → a ≡ b
-  apart a b one other same = sym (case_is s p x h id r here v at a one) ∙ ap (case_of s r) same ∙ case_is s q y k id r there w bt b other
+  pub apart : (a b : PlaceContent) → finite.get p.contents id ≡ Some a → finite.get q.contents id ≡ Some b
+      → v.content ≡ w.content → a ≡ b
+  apart a b one other same = sym (case_is s p x h id r here v at a one) ∙ ap (case_of s r) same
+      ∙ case_is s q y k id r there w bt b other
 
   -- those that can't be read are the same where their cases are
-  unread_is : (a : PlaceContent) (c d : Content) → extent_of s r a ≡ None → case_of s r c ≡ a → case_of s r d ≡ a → c ≡ d
+  unread_is : (a : PlaceContent) (c d : Content) → extent_of s r a ≡ None → case_of s r c ≡ a → case_of s r d ≡ a
+      → c ≡ d
   unread_is place.Updating content.Updating content.Updating none e f = refl
   unread_is place.Updating content.Updating content.Damaged none e f = absurd (cc)
   unread_is place.Updating content.Updating (content.Static t) none e f = absurd (cc)
@@ -90,12 +99,15 @@ module _ (s : Sizes) (p q : Placed) (x y : List ℕ) (h : ArePlaces (image_of s 
   unread_is (place.Static lebs bytes) c d none e f = absurd (cc)
   unread_is place.Dynamic c d none e f = absurd (cc)
 
-  pub unread_same : (a : PlaceContent) → finite.get p.contents id ≡ Some a → finite.get q.contents id ≡ Some a → extent_of s r a ≡ None
+  pub unread_same : (a : PlaceContent) → finite.get p.contents id ≡ Some a → finite.get q.contents id ≡ Some a
+      → extent_of s r a ≡ None
       → v.content ≡ w.content
   unread_same a one other none =
-      unread_is a v.content w.content none (case_is s p x h id r here v at a one) (case_is s q y k id r there w bt a other)
+      unread_is a v.content w.content none (case_is s p x h id r here v at a one)
+      (case_is s q y k id r there w bt a other)
 
-  static_is_same : (lebs bytes : ℕ) (c d : Content) → v.content ≡ c → w.content ≡ d → case_of s r c ≡ place.Static lebs bytes → case_of s r d ≡ place.Static lebs bytes
+  static_is_same : (lebs bytes : ℕ) (c d : Content) → v.content ≡ c → w.content ≡ d
+      → case_of s r c ≡ place.Static lebs bytes → case_of s r d ≡ place.Static lebs bytes
       → AreSameLebs s p q id size bytes x y lebs ↔ (c ≡ d)
   static_is_same lebs bytes content.Updating d is js e f = absurd (cc)
   static_is_same lebs bytes content.Damaged d is js e f = absurd (cc)
@@ -105,31 +117,45 @@ module _ (s : Sizes) (p q : Placed) (x y : List ℕ) (h : ArePlaces (image_of s 
   static_is_same lebs bytes (content.Static t) (content.Dynamic u) is js e f = absurd (cc)
   static_is_same lebs bytes (content.Static t) (content.Static u) is js e f = (
     λ same. ap content.Static (sym (static_is s p x h id r here v at lebs bytes t is (cc) (cc))
-        ∙ same_range (λ n. leb_bytes s (share_len size bytes n) (finite.get p.winners (id, n)) x) (λ n. leb_bytes s (share_len size bytes n) (finite.get q.winners (id, n)) y) 0 lebs (λ n low high. same n (omega arith))
+        ∙ same_range (λ n. leb_bytes s (share_len size bytes n) (finite.get p.winners (id, n)) x)
+        (λ n. leb_bytes s (share_len size bytes n) (finite.get q.winners (id, n)) y) 0 lebs
+        (λ n low high. same n (omega arith))
         ∙ static_is s q y k id r there w bt lebs bytes u js (cc) (cc)),
     λ same n inside. let text : t ≡ u = cc in
-        piece_is s p x h id r here v at lebs bytes t is (cc) (cc) n inside ∙ ap (λ z. share size z n) text ∙ sym (piece_is s q y k id r there w bt lebs bytes u js (cc) (cc) n inside),
+        piece_is s p x h id r here v at lebs bytes t is (cc) (cc) n inside ∙ ap (λ z. share size z n) text
+        ∙ sym (piece_is s q y k id r there w bt lebs bytes u js (cc) (cc) n inside),
   )
 
-  static_same : (lebs bytes : ℕ) → finite.get p.contents id ≡ Some (place.Static lebs bytes) → finite.get q.contents id ≡ Some (place.Static lebs bytes)
+  static_same : (lebs bytes : ℕ) → finite.get p.contents id ≡ Some (place.Static lebs bytes)
+      → finite.get q.contents id ≡ Some (place.Static lebs bytes)
       → AreSameLebs s p q id size bytes x y lebs ↔ (v.content ≡ w.content)
   static_same lebs bytes one other = static_is_same lebs bytes v.content w.content refl refl
-      (case_is s p x h id r here v at (place.Static lebs bytes) one) (case_is s q y k id r there w bt (place.Static lebs bytes) other)
+      (case_is s p x h id r here v at (place.Static lebs bytes) one)
+      (case_is s q y k id r there w bt (place.Static lebs bytes) other)
 
-  module _ (l m : FinMap nat_cmp (List ℕ)) (is : v.content ≡ content.Dynamic l) (js : w.content ≡ content.Dynamic m) where
+  module _ (l m : FinMap nat_cmp (List ℕ)) (is : v.content ≡ content.Dynamic l)
+      (js : w.content ≡ content.Dynamic m) where
     lebs_same : AreSameLebs s p q id size (r.reserved * size) x y r.reserved → l ≡ m
     lebs_same same = finite.same_map nat_cmp_total nat_cmp-IsAntisymmetric l m (λ n. elim (cases_lt n r.reserved) [
-      | inl inside ↦ kept_alike size (finite.get l n) (finite.get m n) (keeps_as s p x h id r here v at (content.Dynamic l) is n) (keeps_as s q y k id r there w bt (content.Dynamic m) js n)
-          (sym (leb_is s p x h id r here v at l is n inside) ∙ same n inside ∙ leb_is s q y k id r there w bt m js n inside)
-      | inr beyond ↦ outside r.reserved n size (finite.get l n) beyond ((fits_as s p x h id r here v at (content.Dynamic l) is).2 n)
-          ∙ sym (outside r.reserved n size (finite.get m n) beyond ((fits_as s q y k id r there w bt (content.Dynamic m) js).2 n))
+      | inl inside ↦ kept_alike size (finite.get l n) (finite.get m n)
+          (keeps_as s p x h id r here v at (content.Dynamic l) is n)
+          (keeps_as s q y k id r there w bt (content.Dynamic m) js n)
+          (sym (leb_is s p x h id r here v at l is n inside) ∙ same n inside
+          ∙ leb_is s q y k id r there w bt m js n inside)
+      | inr beyond ↦ outside r.reserved n size (finite.get l n) beyond
+          ((fits_as s p x h id r here v at (content.Dynamic l) is).2 n)
+          ∙ sym (outside r.reserved n size (finite.get m n) beyond
+          ((fits_as s q y k id r there w bt (content.Dynamic m) js).2 n))
     ])
 
     same_lebs : l ≡ m → AreSameLebs s p q id size (r.reserved * size) x y r.reserved
     same_lebs same n inside =
-        leb_is s p x h id r here v at l is n inside ∙ ap (λ (z : FinMap nat_cmp (List ℕ)). leb_text size (finite.get z n)) same ∙ sym (leb_is s q y k id r there w bt m js n inside)
+        leb_is s p x h id r here v at l is n inside
+        ∙ ap (λ (z : FinMap nat_cmp (List ℕ)). leb_text size (finite.get z n)) same
+        ∙ sym (leb_is s q y k id r there w bt m js n inside)
 
-  dynamic_is_same : (c d : Content) → v.content ≡ c → w.content ≡ d → case_of s r c ≡ place.Dynamic → case_of s r d ≡ place.Dynamic
+  dynamic_is_same : (c d : Content) → v.content ≡ c → w.content ≡ d → case_of s r c ≡ place.Dynamic
+      → case_of s r d ≡ place.Dynamic
       → AreSameLebs s p q id size (r.reserved * size) x y r.reserved ↔ (c ≡ d)
   dynamic_is_same content.Updating d is js e f = absurd (cc)
   dynamic_is_same content.Damaged d is js e f = absurd (cc)
@@ -137,7 +163,8 @@ module _ (s : Sizes) (p q : Placed) (x y : List ℕ) (h : ArePlaces (image_of s 
   dynamic_is_same (content.Dynamic l) content.Updating is js e f = absurd (cc)
   dynamic_is_same (content.Dynamic l) content.Damaged is js e f = absurd (cc)
   dynamic_is_same (content.Dynamic l) (content.Static u) is js e f = absurd (cc)
-  dynamic_is_same (content.Dynamic l) (content.Dynamic m) is js e f = (λ same. ap content.Dynamic (lebs_same l m is js same), λ same. same_lebs l m is js (cc))
+  dynamic_is_same (content.Dynamic l) (content.Dynamic m) is js e f =
+      (λ same. ap content.Dynamic (lebs_same l m is js same), λ same. same_lebs l m is js (cc))
 
   dynamic_same : finite.get p.contents id ≡ Some place.Dynamic → finite.get q.contents id ≡ Some place.Dynamic
       → AreSameLebs s p q id size (r.reserved * size) x y r.reserved ↔ (v.content ≡ w.content)
@@ -145,33 +172,42 @@ module _ (s : Sizes) (p q : Placed) (x y : List ℕ) (h : ArePlaces (image_of s 
       (case_is s p x h id r here v at place.Dynamic one) (case_is s q y k id r there w bt place.Dynamic other)
 
   -- those that can be read are the same where the bytes of their LEBs are
-  extent_same : (a : PlaceContent) (e : Extent) → finite.get p.contents id ≡ Some a → finite.get q.contents id ≡ Some a → extent_of s r a ≡ Some e
+  extent_same : (a : PlaceContent) (e : Extent) → finite.get p.contents id ≡ Some a → finite.get q.contents id ≡ Some a
+      → extent_of s r a ≡ Some e
       → AreSameLebs s p q id e.size e.bytes x y e.lebs ↔ (v.content ≡ w.content)
   extent_same place.Updating e one other is = absurd (cc)
   extent_same place.Damaged e one other is = absurd (cc)
   extent_same (place.Static lebs bytes) e one other is =
-      subst (λ (z : Extent). AreSameLebs s p q id z.size z.bytes x y z.lebs ↔ (v.content ≡ w.content)) (same_Some _ e is) (static_same lebs bytes one other)
+      subst (λ (z : Extent). AreSameLebs s p q id z.size z.bytes x y z.lebs ↔ (v.content ≡ w.content))
+      (same_Some _ e is) (static_same lebs bytes one other)
   extent_same place.Dynamic e one other is =
-      subst (λ (z : Extent). AreSameLebs s p q id z.size z.bytes x y z.lebs ↔ (v.content ≡ w.content)) (same_Some _ e is) (dynamic_same one other)
+      subst (λ (z : Extent). AreSameLebs s p q id z.size z.bytes x y z.lebs ↔ (v.content ≡ w.content))
+      (same_Some _ e is) (dynamic_same one other)
 
-  pub read_same : (a : PlaceContent) (e : Extent) → finite.get p.contents id ≡ Some a → finite.get q.contents id ≡ Some a → Some e ≡ extent_of s r a
-      → (answer : Bool) → IsTrue answer ↔ AreSameLebs s p q id e.size e.bytes x y e.lebs → IsTrue answer ↔ (v.content ≡ w.content)
+  pub read_same : (a : PlaceContent) (e : Extent) → finite.get p.contents id ≡ Some a
+      → finite.get q.contents id ≡ Some a → Some e ≡ extent_of s r a
+      → (answer : Bool) → IsTrue answer ↔ AreSameLebs s p q id e.size e.bytes x y e.lebs → IsTrue answer
+      ↔ (v.content ≡ w.content)
   read_same a e one other is answer tells = both tells (extent_same a e one other (sym is))
 
 -- a LEB that reads the same does so by its places, and as much of it
-pub leb_same : (s : Sizes) (p q : Placed) (id size bytes : ℕ) (x y : List ℕ) (n m : ℕ) (at bt : Option ℕ) → m ≡ share_len size bytes n
-    → at ≡ finite.get p.winners (id, n) → bt ≡ finite.get q.winners (id, n) → IsSameLeb s p q id size bytes x y n → leb_bytes s m at x ≡ leb_bytes s m bt y
+pub leb_same : (s : Sizes) (p q : Placed) (id size bytes : ℕ) (x y : List ℕ) (n m : ℕ) (at bt : Option ℕ)
+    → m ≡ share_len size bytes n
+    → at ≡ finite.get p.winners (id, n) → bt ≡ finite.get q.winners (id, n) → IsSameLeb s p q id size bytes x y n
+    → leb_bytes s m at x ≡ leb_bytes s m bt y
 leb_same s p q id size bytes x y n m at bt long one other same =
     ap (λ k. leb_bytes s k at x) long ∙ ap (λ (o : Option ℕ). leb_bytes s (share_len size bytes n) o x) one ∙ same
     ∙ sym (ap (λ k. leb_bytes s k bt y) long ∙ ap (λ (o : Option ℕ). leb_bytes s (share_len size bytes n) o y) other)
 
-module _ (s : Sizes) (p q : Placed) (x y : List ℕ) (h : ArePlaces (image_of s x) p) (k : ArePlaces (image_of s y) q) where
+module _ (s : Sizes) (p q : Placed) (x y : List ℕ) (h : ArePlaces (image_of s x) p)
+    (k : ArePlaces (image_of s y) q) where
   -- equal meanings have equal records
   pub equal_records : h.meaning ≡ k.meaning → p.records.of ≡ q.records.of
   equal_records same = ap (λ (t : Records). t.of) (h.records ∙ ap records_of same ∙ sym k.records)
 
   -- one volume that reads another thing
-  module _ (same : p.records ≡ q.records) (n : ℕ) (e : ℕ × VolumeRecord) (inside : n < length (finite.entries p.records.of)) (is : e ≡ get_or (finite.entries p.records.of) n e) where
+  module _ (same : p.records ≡ q.records) (n : ℕ) (e : ℕ × VolumeRecord)
+      (inside : n < length (finite.entries p.records.of)) (is : e ≡ get_or (finite.entries p.records.of) n e) where
     abbrev d : ℕ × Volume
     d = (e.0, record { entry = e.1; content = content.Updating })
 
@@ -189,7 +225,8 @@ module _ (s : Sizes) (p q : Placed) (x y : List ℕ) (h : ArePlaces (image_of s 
         false≢true ((tells v.0 w.0 v.4 w.4).1 (ap (λ (z : Volume). z.content) one))
 
     -- and one more that reads the same
-    pub one_same : TellsVolume e.0 true h.meaning k.meaning → take n (finite.entries h.meaning.volumes) ≡ take n (finite.entries k.meaning.volumes)
+    pub one_same : TellsVolume e.0 true h.meaning k.meaning
+        → take n (finite.entries h.meaning.volumes) ≡ take n (finite.entries k.meaning.volumes)
         → take (n + 1) (finite.entries h.meaning.volumes) ≡ take (n + 1) (finite.entries k.meaning.volumes)
     one_same tells before =
         let xs = finite.entries h.meaning.volumes in
@@ -200,7 +237,8 @@ module _ (s : Sizes) (p q : Placed) (x y : List ℕ) (h : ArePlaces (image_of s 
         let text_is : v.0.content ≡ w.0.content = (tells v.0 w.0 v.4 w.4).0 refl in
         let one : v.0 ≡ w.0 = λ i. record { entry = record_is i; content = text_is i } in
         let here : get_or xs n d ≡ get_or ys n d = v.2 ∙ ap (λ (z : Volume). (e.0, z)) one ∙ sym w.2 in
-        take_more xs n d v.1 ∙ ap (λ a. a ++ get_or xs n d ∷ []) before ∙ ap (λ (z : ℕ × Volume). take n ys ++ z ∷ []) here ∙ sym (take_more ys n d w.1)
+        take_more xs n d v.1 ∙ ap (λ a. a ++ get_or xs n d ∷ []) before
+        ∙ ap (λ (z : ℕ × Volume). take n ys ++ z ∷ []) here ∙ sym (take_more ys n d w.1)
 
   pub all_same : p.records ≡ q.records → (n : ℕ) → n ≡ length (finite.entries p.records.of)
       → take n (finite.entries h.meaning.volumes) ≡ take n (finite.entries k.meaning.volumes) → h.meaning ≡ k.meaning
@@ -208,8 +246,11 @@ module _ (s : Sizes) (p q : Placed) (x y : List ℕ) (h : ArePlaces (image_of s 
       let xs = finite.entries h.meaning.volumes in
       let ys = finite.entries k.meaning.volumes in
       let here : length xs ≡ n = sym (count s p x h) ∙ sym all in
-      let there : length ys ≡ n = sym (count s q y k) ∙ ap (λ (t : Records). length (finite.entries t.of)) (sym same) ∙ sym all in
+      let there : length ys ≡ n = sym (count s q y k) ∙ ap (λ (t : Records). length (finite.entries t.of)) (sym same)
+      ∙ sym all in
       let lists : xs ≡ ys = sym (take_all n xs (omega (arith, here))) ∙ are ∙ take_all n ys (omega (arith, there)) in
-      let volumes : h.meaning.volumes ≡ k.meaning.volumes = same_entries_map h.meaning.volumes k.meaning.volumes lists in
-      let sizes : h.meaning.sizes ≡ k.meaning.sizes = h.accepted.accepted.means.sizes ∙ sym k.accepted.accepted.means.sizes in
+      let volumes : h.meaning.volumes ≡ k.meaning.volumes =
+      same_entries_map h.meaning.volumes k.meaning.volumes lists in
+      let sizes : h.meaning.sizes ≡ k.meaning.sizes = h.accepted.accepted.means.sizes
+      ∙ sym k.accepted.accepted.means.sizes in
       λ i. record { sizes = sizes i; volumes = volumes i }

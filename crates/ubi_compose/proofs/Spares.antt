@@ -30,12 +30,14 @@ module _ (s : Sizes) (g : IsGeometry s) where
   length-spare = length-filled s.peb_size (ec_bytes s new_ec) (omega (arith, ec_size, g.page_from, g.peb_from))
 
   ec-spare : ec s (spare s) ≡ ec_read.Valid new_ec
-  ec-spare = ap (λ b. ec_reading s (take 64 b)) spare-is ∙ ap (ec_reading s) (take_at (ec_bytes s new_ec) (blank (s.peb_size - 64)) 64 ec_size) ∙ new_ec_back s g
+  ec-spare = ap (λ b. ec_reading s (take 64 b)) spare-is
+      ∙ ap (ec_reading s) (take_at (ec_bytes s new_ec) (blank (s.peb_size - 64)) 64 ec_size) ∙ new_ec_back s g
 
   vid-spare : vid s (spare s) ≡ vid_read.Blank
   vid-spare =
       ap (λ b. vid_reading s (vid_area s b)) spare-is
-      ∙ ap (vid_reading s) (behind (ec_bytes s new_ec) (s.peb_size - 64) s.vid_offset 64 (omega (arith, ec_size, g.vid_from)) (omega (arith, ec_size, g.vid_from, g.data_from, g.leb)))
+      ∙ ap (vid_reading s) (behind (ec_bytes s new_ec) (s.peb_size - 64) s.vid_offset 64
+      (omega (arith, ec_size, g.vid_from)) (omega (arith, ec_size, g.vid_from, g.data_from, g.leb)))
       ∙ blank_vid s
 
   member-spare : member s (spare s) ≡ None

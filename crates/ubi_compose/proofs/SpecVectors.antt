@@ -17,7 +17,9 @@ use Rattle.ubi_compose.specs.declared.errors.SpecCause.TheVariants as cause
 
 -- what is unfolded to compute a text on a literal
 unfoldable spec_on_literals : ⊤
-unfolding first_cause cause_of later_cause content_cause sayings saying line_of form_of number_of is_number hex_of flags_of kind_of shown_bytes shown_name decode_pairs record_of first_fault breaks fields_from volume_line leb_line text_line damaged_line updating_line volumes_in volume_from filled
+unfolding first_cause cause_of later_cause content_cause sayings saying line_of form_of number_of is_number hex_of
+    flags_of kind_of shown_bytes shown_name decode_pairs record_of first_fault breaks fields_from volume_line leb_line
+    text_line damaged_line updating_line volumes_in volume_from filled
 spec_on_literals = tt
 
 no_byte : first_cause small ([]) ≡ None

@@ -39,13 +39,15 @@ first_pieces s p id r n image text =
     (v : Volume) × IsVolumeOf s p id image v × (t : List ℕ) × (v.content ≡ content.Static t)
     × (text ≡ flat_map (λ l. laid_bytes s new_ec (static_part (data_pad s r) (usable s r) id t l)) (range_with_len 0 n))
 
-module _ (s : Sizes) (p : Placed) (id : ℕ) (r : VolumeRecord) (recorded : finite.get p.records.of id ≡ Some r) (sound : rec_fault s r ≡ None) (lebs bytes : ℕ)
+module _ (s : Sizes) (p : Placed) (id : ℕ) (r : VolumeRecord) (recorded : finite.get p.records.of id ≡ Some r)
+    (sound : rec_fault s r ≡ None) (lebs bytes : ℕ)
     (listed : finite.get p.contents id ≡ Some (place.Static lebs bytes)) where
   abbrev size : ℕ
   size = usable s r
 
   -- the text of the volume
-  static_content : (c : Content) → case_of s r c ≡ place.Static lebs bytes → (t : List ℕ) × (c ≡ content.Static t) × (pieces size (length t) ≡ lebs) × (length t ≡ bytes)
+  static_content : (c : Content) → case_of s r c ≡ place.Static lebs bytes
+      → (t : List ℕ) × (c ≡ content.Static t) × (pieces size (length t) ≡ lebs) × (length t ≡ bytes)
   static_content content.Updating e = absurd (cc)
   static_content content.Damaged e = absurd (cc)
   static_content (content.Static t) e = (t, refl, cc, cc)
@@ -56,7 +58,8 @@ module _ (s : Sizes) (p : Placed) (id : ℕ) (r : VolumeRecord) (recorded : fini
     bs = blocks_of s image
 
     text_of : (t : List ℕ) × (v.content ≡ content.Static t) × (pieces size (length t) ≡ lebs) × (length t ≡ bytes)
-    text_of = static_content v.content (case_is s p image of.places id r recorded v of.at (place.Static lebs bytes) listed)
+    text_of = static_content v.content
+        (case_is s p image of.places id r recorded v of.at (place.Static lebs bytes) listed)
 
     reads : (r.marker ≡ false) × (r.kind ≡ kind.Static) × StaticReads s bs id r text_of.0
     reads = subst (VolumeReads s bs id r) text_of.1 (reads_of s p image of.places id r recorded v of.at).1
@@ -66,7 +69,8 @@ module _ (s : Sizes) (p : Placed) (id : ℕ) (r : VolumeRecord) (recorded : fini
 
     module _ (n : ℕ) (inside : n < lebs) where
       whole : (ps : List ℕ) × AreWhole s bs id r ps × (text_of.0 ≡ flat_map (piece s bs) ps) × (n < length ps)
-      whole = static_whole s p image of.places id r recorded v of.at lebs bytes text_of.0 text_of.1 text_of.2 text_of.3 n inside
+      whole = static_whole s p image of.places id r recorded v of.at lebs bytes text_of.0 text_of.1 text_of.2 text_of.3
+          n inside
 
       no_gap : NoMember s bs (id, n) → ⊥
       no_gap none = none _ (whole.1.win n whole.3).member
@@ -81,22 +85,33 @@ module _ (s : Sizes) (p : Placed) (id : ℕ) (r : VolumeRecord) (recorded : fini
         share_is : share size text_of.0 n ≡ take len (leb s (block bs q))
         share_is =
             let here =
-            share_at s bs of.places.accepted.accepted.clean (are_lebs (image_of s image)) (table s p image of.places) of.places.accepted.accepted.alike id r (in_table s p image of.places id r recorded)
+            share_at s bs of.places.accepted.accepted.clean (are_lebs (image_of s image))
+            (table s p image of.places) of.places.accepted.accepted.alike id r
+            (in_table s p image of.places id r recorded)
             reads.0 reads.1 whole.0 whole.1 n q whole.3 won in
             let there : share size text_of.0 n ≡ take (length (share size text_of.0 n)) (leb s (block bs q)) =
-            subst (λ (x : List ℕ). share size x n ≡ take (length (share size x n)) (leb s (block bs q))) (sym whole.2) here in
-            let count : length (share size text_of.0 n) ≡ len = length-share size (usable_some s r sound) text_of.0 n ∙ ap (λ k. min size (k - n * size)) text_of.3 ∙ sym long in
+            subst (λ (x : List ℕ). share size x n ≡ take (length (share size x n)) (leb s (block bs q)))
+            (sym whole.2) here in
+            let count : length (share size text_of.0 n) ≡ len = length-share size (usable_some s r sound) text_of.0 n
+            ∙ ap (λ k. min size (k - n * size)) text_of.3 ∙ sym long in
             there ∙ ap (λ k. take k (leb s (block bs q))) count
 
         gives_check : GivesCheck s (block bs q) len
         gives_check =
             let k =
-            header_at s bs of.places.accepted.accepted.clean (are_lebs (image_of s image)) (table s p image of.places) of.places.accepted.accepted.alike id r (in_table s p image of.places id r recorded)
-            reads.0 reads.1 whole.0 whole.1 n q whole.3 won in
-            (k.0, member_valid s (block bs q) k.0 k.1, k.2 ∙ ap (λ x. check (share size x n)) (sym whole.2) ∙ ap check share_is)
+            header_at s bs of.places.accepted.accepted.clean (are_lebs (image_of s image))
+            (table s p image of.places) of.places.accepted.accepted.alike id r
+            (in_table s p image of.places id r recorded)
+            reads.0 reads.1 whole.0 whole.1 n q whole.3 won in (
+              k.0,
+              member_valid s (block bs q) k.0 k.1,
+              k.2 ∙ ap (λ x. check (share size x n)) (sym whole.2)
+                  ∙ ap check share_is,
+            )
 
         block_is : (t : List ℕ) → v.content ≡ content.Static t
-            → laid_bytes s new_ec (static_part (data_pad s r) size id t n) ≡ laid_bytes s new_ec (static_block (data_pad s r) id lebs n (take len (leb s (block bs q))))
+            → laid_bytes s new_ec (static_part (data_pad s r) size id t n)
+            ≡ laid_bytes s new_ec (static_block (data_pad s r) id lebs n (take len (leb s (block bs q))))
         block_is t e =
             let same : t ≡ text_of.0 = let f = text_of.1 in cc in
             ap (λ x. laid_bytes s new_ec (static_part (data_pad s r) size id x n)) same
@@ -107,8 +122,16 @@ module _ (s : Sizes) (p : Placed) (id : ℕ) (r : VolumeRecord) (recorded : fini
   pub static_step : (n l q len : ℕ) → n < lebs → IsNextPlace p id n (Some (l, q)) → len ≡ min size (bytes - n * size)
       → Splits (first_pieces s p id r (n + 1)) (first_pieces s p id r n) (static_text s (data_pad s r) id lebs n len q)
   static_step n l q len inside next long image text w =
-      let f = λ (l : ℕ). laid_bytes s new_ec (static_part (data_pad s r) size id w.2 l) in
-      (flat_map f (range_with_len 0 n), f n, w.4 ∙ pieces_more f 0 n n (zero-add n), (w.0, w.1, w.2, w.3, refl), (gives_check image w.0 w.1 n inside l q len next long, block_is image w.0 w.1 n inside l q len next long w.2 w.3))
+      let f = λ (l : ℕ). laid_bytes s new_ec (static_part (data_pad s r) size id w.2 l) in (
+        flat_map f (range_with_len 0 n),
+        f n,
+        w.4 ∙ pieces_more f 0 n n (zero-add n),
+        (w.0, w.1, w.2, w.3, refl),
+        (
+          gives_check image w.0 w.1 n inside l q len next long,
+          block_is image w.0 w.1 n inside l q len next long w.2 w.3,
+        ),
+      )
 
   -- all pieces
   pub static_all : (image text : List ℕ) → volume_text s p id image text → first_pieces s p id r lebs image text
@@ -121,8 +144,10 @@ module _ (s : Sizes) (p : Placed) (id : ℕ) (r : VolumeRecord) (recorded : fini
         t.1,
         w.2 ∙ ap (λ (x : VolumeRecord). flat_map (laid_bytes s new_ec) (volume_blocks s id x w.0.content)) entry
             ∙ ap (λ (x : Content). flat_map (laid_bytes s new_ec) (volume_blocks s id r x)) t.1
-            ∙ flat_map-map (laid_bytes s new_ec) (static_part (data_pad s r) size id t.0) (range_with_len 0 (pieces size (length t.0)))
-            ∙ ap (λ n. flat_map (λ l. laid_bytes s new_ec (static_part (data_pad s r) size id t.0 l)) (range_with_len 0 n)) t.2,
+            ∙ flat_map-map (laid_bytes s new_ec) (static_part (data_pad s r) size id t.0)
+            (range_with_len 0 (pieces size (length t.0)))
+            ∙ ap (λ n. flat_map (λ l. laid_bytes s new_ec (static_part (data_pad s r) size id t.0 l))
+            (range_with_len 0 n)) t.2,
       )
 
   -- the first of them
@@ -131,17 +156,31 @@ module _ (s : Sizes) (p : Placed) (id : ℕ) (r : VolumeRecord) (recorded : fini
       let all = static_all image text w in
       let f = λ (l : ℕ). laid_bytes s new_ec (static_part (data_pad s r) size id all.2 l) in
       let cut = front_of f 0 n (lebs - n) in
-      let total : n + (lebs - n) ≡ lebs = omega arith in
-      (flat_map f (range_with_len 0 n), flat_map f (range_with_len (0 + n) (lebs - n)), all.4 ∙ ap (λ k. flat_map f (range_with_len 0 k)) (sym total) ∙ cut, (all.0, all.1, all.2, all.3, refl), tt)
+      let total : n + (lebs - n) ≡ lebs = omega arith in (
+        flat_map f (range_with_len 0 n),
+        flat_map f (range_with_len (0 + n) (lebs - n)),
+        all.4
+            ∙ ap (λ k. flat_map f (range_with_len 0 k)) (sym total) ∙ cut,
+        (all.0, all.1, all.2, all.3, refl),
+        tt,
+      )
 
   -- what is written when a piece is, or isn't
-  module _ (k : Source) (a b c : Option (List ℕ)) (n l q len : ℕ) (inside : n < lebs) (next : IsNextPlace p id n (Some (l, q))) (long : len ≡ min size (bytes - n * size)) where
-    pub static_wrote : (done total more : ℕ) → Wrote k a b (first_pieces s p id r n) All done total → Wrote k b c (static_text s (data_pad s r) id lebs n len q) All total more
+  module _ (k : Source) (a b c : Option (List ℕ)) (n l q len : ℕ) (inside : n < lebs)
+      (next : IsNextPlace p id n (Some (l, q))) (long : len ≡ min size (bytes - n * size)) where
+    pub static_wrote : (done total more : ℕ) → Wrote k a b (first_pieces s p id r n) All done total
+        → Wrote k b c (static_text s (data_pad s r) id lebs n len q) All total more
         → Wrote k a c (first_pieces s p id r (n + 1)) All done more
-    static_wrote done total more front back = wrote_more k a b c (first_pieces s p id r (n + 1)) (first_pieces s p id r n) (static_text s (data_pad s r) id lebs n len q) done total more (static_step n l q len inside next long) front back
+    static_wrote done total more front back = wrote_more k a b c (first_pieces s p id r (n + 1))
+        (first_pieces s p id r n) (static_text s (data_pad s r) id lebs n len q) done total more
+        (static_step n l q len inside next long) front back
 
-    pub static_failed : (done total : ℕ) (e : StreamError) → Wrote k a b (first_pieces s p id r n) All done total → IsWroteError s k b c (static_text s (data_pad s r) id lebs n len q) total e
+    pub static_failed : (done total : ℕ) (e : StreamError) → Wrote k a b (first_pieces s p id r n) All done total
+        → IsWroteError s k b c (static_text s (data_pad s r) id lebs n len q) total e
         → IsWroteError s k a c (volume_text s p id) done e
     static_failed done total e front back =
-        error_front k s a c (volume_text s p id) (first_pieces s p id r (n + 1)) (λ image text. Unit {0}) done e (static_front (n + 1) (omega arith))
-        (error_behind k s a b c (first_pieces s p id r (n + 1)) (first_pieces s p id r n) (static_text s (data_pad s r) id lebs n len q) done total e (static_step n l q len inside next long) front back)
+        error_front k s a c (volume_text s p id) (first_pieces s p id r (n + 1)) (λ image text. Unit {0}) done e
+        (static_front (n + 1) (omega arith))
+        (error_behind k s a b c (first_pieces s p id r (n + 1)) (first_pieces s p id r n)
+        (static_text s (data_pad s r) id lebs n len q) done total e
+        (static_step n l q len inside next long) front back)

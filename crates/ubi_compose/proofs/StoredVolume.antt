@@ -21,7 +21,8 @@ use Rattle.ubi_compose.specs.Normal.{damaged_block, laid_bytes, new_ec, volume_b
 use Rattle.ubi_compose.proofs.Puts.{damaged_is}
 
 -- a place that counts for a dynamic volume is below what it reserves
-pub counted_below : (p : Placed) (id : ℕ) (r : VolumeRecord) → finite.get p.records.of id ≡ Some r → r.kind ≡ kind.Dynamic → (l q : ℕ) → IsCountedPlace p id l q → l < r.reserved
+pub counted_below : (p : Placed) (id : ℕ) (r : VolumeRecord) → finite.get p.records.of id ≡ Some r
+    → r.kind ≡ kind.Dynamic → (l q : ℕ) → IsCountedPlace p id l q → l < r.reserved
 counted_below p id r recorded dynamic l q is =
     let same : r ≡ is.0 = same_Some r is.0 (sym recorded ∙ is.1) in
     subst (λ (x : VolumeRecord). IsWithin x l) (sym same) is.2 dynamic
@@ -38,17 +39,20 @@ pub more_blocks : (m n size : ℕ) → m ≤ n → m * size ≤ n * size
 more_blocks m n size low = mul-le m size n size low (omega arith)
 
 -- what holds of a volume's content whatever the source holds
-pub reserved_of : (n id : ℕ) (p : Placed) (r : VolumeRecord) (c : PlaceContent) → AreWithin n p → finite.get p.records.of id ≡ Some r → finite.get p.contents id ≡ Some c → IsReserved r c
+pub reserved_of : (n id : ℕ) (p : Placed) (r : VolumeRecord) (c : PlaceContent) → AreWithin n p
+    → finite.get p.records.of id ≡ Some r → finite.get p.contents id ≡ Some c → IsReserved r c
 reserved_of n id p r c within recorded listed =
     let h = within.contents id r recorded in
     subst (IsReserved r) (same_Some h.0 c (sym h.1 ∙ listed)) h.2
 
 module _ (s : Sizes) (p : Placed) (id : ℕ) (r : VolumeRecord) (recorded : finite.get p.records.of id ≡ Some r) where
   -- a volume whose update didn't end has no eraseblock
-  pub updating_text : finite.get p.contents id ≡ Some place.Updating → (image text : List ℕ) → volume_text s p id image text → text ≡ []
+  pub updating_text : finite.get p.contents id ≡ Some place.Updating → (image text : List ℕ)
+      → volume_text s p id image text → text ≡ []
   updating_text listed image text w =
       let case = case_is s p image w.1.places id r recorded w.0 w.1.at place.Updating listed in
-      w.2 ∙ ap (λ (x : Content). flat_map (laid_bytes s new_ec) (volume_blocks s id w.0.entry x)) (is_updating w.0.content case)
+      w.2 ∙ ap (λ (x : Content). flat_map (laid_bytes s new_ec) (volume_blocks s id w.0.entry x))
+      (is_updating w.0.content case)
     where
       is_updating : (c : Content) → case_of s r c ≡ place.Updating → c ≡ content.Updating
       is_updating content.Updating e = refl
@@ -57,7 +61,9 @@ module _ (s : Sizes) (p : Placed) (id : ℕ) (r : VolumeRecord) (recorded : fini
       is_updating (content.Dynamic l) e = absurd (cc)
 
   -- a damaged one has one
-  pub damaged_text : (h : VidHeader) → h ≡ (damaged_block (data_pad s r) id).header → finite.get p.contents id ≡ Some place.Damaged → (image text : List ℕ) → volume_text s p id image text → laid_text s h [] image text
+  pub damaged_text : (h : VidHeader) → h ≡ (damaged_block (data_pad s r) id).header
+      → finite.get p.contents id ≡ Some place.Damaged → (image text : List ℕ) → volume_text s p id image text
+      → laid_text s h [] image text
   damaged_text h header listed image text w =
       let case = case_is s p image w.1.places id r recorded w.0 w.1.at place.Damaged listed in
       let entry : w.0.entry ≡ r = (reads_of s p image w.1.places id r recorded w.0 w.1.at).0 in

@@ -16,11 +16,13 @@ use Rattle.ubi_volume.proofs.Recorded.{record_of, space_of}
 abbrev items : Meant → List (ℕ × VolumeRecord)
 items m = map (λ (e : ℕ × Volume). (e.0, e.1.entry)) (finite.entries m.volumes)
 
-entry_some : (o : Option Volume) (r : VolumeRecord) → option_map (λ (v : Volume). v.entry) o ≡ Some r → (v : Volume) × (o ≡ Some v) × (v.entry ≡ r)
+entry_some : (o : Option Volume) (r : VolumeRecord) → option_map (λ (v : Volume). v.entry) o ≡ Some r
+    → (v : Volume) × (o ≡ Some v) × (v.entry ≡ r)
 entry_some None r e = absurd (cc)
 entry_some (Some v) r e = (v, refl, same_Some v.entry r e)
 
-pub recorded : (m : Meant) (id : ℕ) (r : VolumeRecord) → finite.get (records_of m).of id ≡ Some r → (v : Volume) × (finite.get m.volumes id ≡ Some v) × (v.entry ≡ r)
+pub recorded : (m : Meant) (id : ℕ) (r : VolumeRecord) → finite.get (records_of m).of id ≡ Some r
+    → (v : Volume) × (finite.get m.volumes id ≡ Some v) × (v.entry ≡ r)
 recorded m id r e = entry_some (finite.get m.volumes id) r (sym (record_of m id) ∙ e)
 
 module _ (m : Meant) (is : IsMeaning m) where
@@ -30,10 +32,12 @@ module _ (m : Meant) (is : IsMeaning m) where
   pub records_are : AreRecords (records_of m)
   records_are = record {
     slot = λ id r e. (let h = recorded m id r e in (volume_is id h.0 h.1).slot);
-    sound = λ id r e. (let h = recorded m id r e in subst (λ (r : VolumeRecord). rec_fault m.sizes r ≡ None) h.2 (volume_is id h.0 h.1).sound);
+    sound = λ id r e. (let h = recorded m id r e in
+        subst (λ (r : VolumeRecord). rec_fault m.sizes r ≡ None) h.2 (volume_is id h.0 h.1).sound);
     apart = λ i j r q e f same.
         (let a = recorded m i r e in let b = recorded m j q f in
-        is.names i j a.0 b.0 a.1 b.1 (ap (λ (r : VolumeRecord). r.name) a.2 ∙ same ∙ ap (λ (r : VolumeRecord). r.name) (sym b.2)));
+        is.names i j a.0 b.0 a.1 b.1 (ap (λ (r : VolumeRecord). r.name) a.2 ∙ same
+        ∙ ap (λ (r : VolumeRecord). r.name) (sym b.2)));
   }
 
   pub records_fit : HasSpace m.sizes (records_of m)

@@ -75,14 +75,19 @@ at_place s ls l place n t takes c =
     ∙ set_same (numbered_volume s ls) (numbered_volume s (ls ++ l ∷ [])) id (same_elsewhere s ls l)
     (headings ls) place c t.apart
     ∙ ap (map (numbered_volume s (ls ++ l ∷ []))) (sym (headings_kept ls l n)) in
-    ap (λ o. option_map_or (λ (e : ℕ × Volume). result_map_both (λ v. slice_set (map (numbered_volume s ls) (headings ls)) place (e.0, v)) (λ c. c) (with_line s e.1 l)) o (Err cause.Order))
+    ap
+    (λ o. option_map_or (λ (e : ℕ × Volume). result_map_both
+    (λ v. slice_set (map (numbered_volume s ls) (headings ls)) place (e.0, v)) (λ c. c) (with_line s e.1 l)) o
+    (Err cause.Order))
     (get_same (numbered_volume s ls) id place (headings ls) c)
-    ∙ ap (λ o. result_map_both (λ v. slice_set (map (numbered_volume s ls) (headings ls)) place (c.at.0, v)) (λ c. c) (with_line s (volume_from s c.at.1 o) l)) own
+    ∙ ap (λ o. result_map_both (λ v. slice_set (map (numbered_volume s ls) (headings ls)) place (c.at.0, v)) (λ c. c)
+    (with_line s (volume_from s c.at.1 o) l)) own
     ∙ ap (result_map_both (λ v. slice_set (map (numbered_volume s ls) (headings ls)) place (c.at.0, v)) (λ c. c)) made
     ∙ put_by (map (numbered_volume s ls) (headings ls))
     (map (numbered_volume s (ls ++ l ∷ [])) (headings (ls ++ l ∷ []))) place c.at.0
     (volume_from s c.at.1 (of_volume id ls ++ l ∷ [])) (content_cause s c.at.1 (of_volume id ls) l) set
-    ∙ ap (λ o. answer (option_map_or (λ r. content_cause s r (of_volume id ls) l) o (Some cause.Order)) (map (numbered_volume s (ls ++ l ∷ [])) (headings (ls ++ l ∷ [])))) (sym found)
+    ∙ ap (λ o. answer (option_map_or (λ r. content_cause s r (of_volume id ls) l) o (Some cause.Order))
+    (map (numbered_volume s (ls ++ l ∷ [])) (headings (ls ++ l ∷ [])))) (sym found)
 
 not_some : (o : Option VolumeRecord) → is_some o ≡ false → o ≡ None
 not_some None h = refl
@@ -131,7 +136,8 @@ pushed s ls id r t n =
 
 opened_by : (s : Sizes) (ls : List Line) (id : ℕ) (r : VolumeRecord) (b : Bool) (f : Option RecFault) → IsSoundText s ls
     → is_some (record_of id ls) ≡ b
-    → cond b (Err cause.Order) (option_map_or (λ fault. Err (cause.Record fault)) f (Ok (volumes_in s ls ++ (id, volume_from s r []) ∷ [])))
+    → cond b (Err cause.Order)
+    (option_map_or (λ fault. Err (cause.Record fault)) f (Ok (volumes_in s ls ++ (id, volume_from s r []) ∷ [])))
     ≡ answer (cond b (Some cause.Order) (option_map cause.Record f)) (volumes_in s (ls ++ line.Volume id r ∷ []))
 opened_by s ls id r true f t e = refl
 opened_by s ls id r false (Some fault) t e = refl
@@ -145,7 +151,9 @@ opened_more : (s : Sizes) (ls : List Line) (id : ℕ) (r : VolumeRecord) → IsS
 opened_more s ls id r t =
     let p : is_some (place_of id (volumes_in s ls)) ≡ is_some (record_of id ls) =
     ap is_some (place_headed s ls id) ∙ place_is_some id 0 (headings ls) ∙ sym (ap is_some (record_headed id ls)) in
-    ap (λ b. cond b (Err cause.Order) (option_map_or (λ fault. Err (cause.Record fault)) (rec_fault s r) (Ok (volumes_in s ls ++ (id, volume_from s r []) ∷ [])))) p
+    ap
+    (λ b. cond b (Err cause.Order) (option_map_or (λ fault. Err (cause.Record fault)) (rec_fault s r)
+    (Ok (volumes_in s ls ++ (id, volume_from s r []) ∷ [])))) p
     ∙ opened_by s ls id r (is_some (record_of id ls)) (rec_fault s r) t refl
 
 pub taken_more : (s : Sizes) (ls : List Line) (l : Line) → IsSoundText s ls

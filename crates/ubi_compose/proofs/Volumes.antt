@@ -23,13 +23,16 @@ use Rattle.ubi_media.proofs.Padding.{half_pad, reserved_within}
 use Rattle.ubi_volume.proofs.Pieces.{pieces_few, share_full, share_most, share_some}
 
 -- what holds of each piece of a static text, or of each LEB that is kept of a dynamic volume
-all_static : (P : Laid → Type 0) (pad size vol : ℕ) (text : List ℕ) → ((lnum : ℕ) → lnum < pieces size (length text) → P (static_part pad size vol text lnum))
+all_static : (P : Laid → Type 0) (pad size vol : ℕ) (text : List ℕ)
+    → ((lnum : ℕ) → lnum < pieces size (length text) → P (static_part pad size vol text lnum))
     → AllByRecursion P (static_blocks pad size vol text)
 all_static P pad size vol text h =
     let used : ℕ = pieces size (length text) in
-    all_map P (static_part pad size vol text) (range_with_len 0 used) (λ lnum at. let below = (range_holds 0 used lnum at).1 in h lnum (omega arith))
+    all_map P (static_part pad size vol text) (range_with_len 0 used)
+    (λ lnum at. let below = (range_holds 0 used lnum at).1 in h lnum (omega arith))
 
-all_dynamic : (P : Laid → Type 0) (pad vol : ℕ) (lebs : FinMap nat_cmp (List ℕ)) → ((e : ℕ × List ℕ) → Holds (finite.entries lebs) e → P (dynamic_block pad vol e))
+all_dynamic : (P : Laid → Type 0) (pad vol : ℕ) (lebs : FinMap nat_cmp (List ℕ))
+    → ((e : ℕ × List ℕ) → Holds (finite.entries lebs) e → P (dynamic_block pad vol e))
     → AllByRecursion P (map (dynamic_block pad vol) (finite.entries lebs))
 all_dynamic P pad vol lebs h = all_map P (dynamic_block pad vol) (finite.entries lebs) h
 
@@ -38,8 +41,10 @@ module _ (s : Sizes) (vol : ℕ) (r : VolumeRecord) where
   pub own_blocks : (c : Content) → AllByRecursion (λ (l : Laid). l.header.vol_id ≡ vol) (volume_blocks s vol r c)
   own_blocks content.Updating = tt
   own_blocks content.Damaged = (refl, tt)
-  own_blocks (content.Static text) = all_static (λ (l : Laid). l.header.vol_id ≡ vol) (data_pad s r) (usable s r) vol text (λ lnum below. refl)
-  own_blocks (content.Dynamic lebs) = all_dynamic (λ (l : Laid). l.header.vol_id ≡ vol) (data_pad s r) vol lebs (λ e at. refl)
+  own_blocks (content.Static text) = all_static (λ (l : Laid). l.header.vol_id ≡ vol) (data_pad s r)
+      (usable s r) vol text (λ lnum below. refl)
+  own_blocks (content.Dynamic lebs) = all_dynamic (λ (l : Laid). l.header.vol_id ≡ vol) (data_pad s r) vol lebs
+      (λ e at. refl)
 
   -- and their headers are like its record
   abbrev pub IsLike : Laid → Type 0
@@ -48,7 +53,8 @@ module _ (s : Sizes) (vol : ℕ) (r : VolumeRecord) where
   pub like_blocks : (c : Content) → Fits s r c → AllByRecursion IsLike (volume_blocks s vol r c)
   like_blocks content.Updating fits = tt
   like_blocks content.Damaged fits = ((sym fits.1, refl), tt)
-  like_blocks (content.Static text) fits = all_static IsLike (data_pad s r) (usable s r) vol text (λ lnum below. (sym fits.1, refl))
+  like_blocks (content.Static text) fits = all_static IsLike (data_pad s r) (usable s r) vol text
+      (λ lnum below. (sym fits.1, refl))
   like_blocks (content.Dynamic lebs) fits = all_dynamic IsLike (data_pad s r) vol lebs (λ e at. (sym fits.1, refl))
 
 module _ (s : Sizes) (g : IsGeometry s) (vol : ℕ) (v : Volume) (is : IsVolume s vol v) where
@@ -65,13 +71,20 @@ module _ (s : Sizes) (g : IsGeometry s) (vol : ℕ) (v : Volume) (is : IsVolume 
   size_some = usable_some s v.entry is.sound
 
   users : (lnum : ℕ) → lnum < 2 ^ 31 → IsUsers s pad vol lnum
-  users lnum below = record { slot = slot_small; number = below; half = half_pad s v.entry is.sound g; wide = omega (arith, g.peb_to) }
+  users lnum below = record {
+    slot = slot_small;
+    number = below;
+    half = half_pad s v.entry is.sound g;
+    wide = omega (arith, g.peb_to);
+  }
 
-  fine_dynamic : (lebs : FinMap nat_cmp (List ℕ)) → Fits s v.entry (content.Dynamic lebs) → (e : ℕ × List ℕ) → Holds (finite.entries lebs) e
+  fine_dynamic : (lebs : FinMap nat_cmp (List ℕ)) → Fits s v.entry (content.Dynamic lebs) → (e : ℕ × List ℕ)
+      → Holds (finite.entries lebs) e
       → IsFine s (dynamic_block pad vol e)
   fine_dynamic lebs fits e at =
       let kept : List ℕ → Type 0 = λ text. (e.0 < v.entry.reserved) × (length text ≡ size) in
-      let held : (e.0 < v.entry.reserved) × (length e.1 ≡ size) = subst (λ (o : Option (List ℕ)). IfSome o kept) (held_entry lebs e at) (fits.2 e.0) in
+      let held : (e.0 < v.entry.reserved) × (length e.1 ≡ size) =
+      subst (λ (o : Option (List ℕ)). IfSome o kept) (held_entry lebs e at) (fits.2 e.0) in
       let below = held.0 in
       let whole = held.1 in
       let wide = reserved_within s v.entry is.sound in
@@ -86,7 +99,8 @@ module _ (s : Sizes) (g : IsGeometry s) (vol : ℕ) (v : Volume) (is : IsVolume 
         original = refl;
       }
 
-  fine_static : (text : List ℕ) → Fits s v.entry (content.Static text) → (lnum : ℕ) → lnum < pieces size (length text) → IsFine s (static_part pad size vol text lnum)
+  fine_static : (text : List ℕ) → Fits s v.entry (content.Static text) → (lnum : ℕ) → lnum < pieces size (length text)
+      → IsFine s (static_part pad size vol text lnum)
   fine_static text fits lnum below =
       let used : ℕ = pieces size (length text) in
       let held : List ℕ = share size text lnum in
@@ -103,7 +117,8 @@ module _ (s : Sizes) (g : IsGeometry s) (vol : ℕ) (v : Volume) (is : IsVolume 
       } in
       record {
         room = omega (arith, g.leb);
-        fits = static_fits s pad vol lnum u (length held) used (check held) part (check_from-lt 0xFFFFFFFF held (omega arith));
+        fits = static_fits s pad vol lnum u (length held) used (check held) part
+            (check_from-lt 0xFFFFFFFF held (omega arith));
         sound = static_sound s pad vol lnum u (length held) used (check held) part;
         known = user_known vol slot_small;
         placed = user_placed (static_part pad size vol text lnum).header slot_small;
@@ -114,7 +129,13 @@ module _ (s : Sizes) (g : IsGeometry s) (vol : ℕ) (v : Volume) (is : IsVolume 
   fine_damaged : IsFine s (damaged_block pad vol)
   fine_damaged =
       let u = users 0 (omega arith) in
-      let part : IsPart s pad 0 1 1 = record { some = omega arith; most = size_some; below = omega arith; few = omega arith; full = λ l. absurd (omega arith) } in
+      let part : IsPart s pad 0 1 1 = record {
+        some = omega arith;
+        most = size_some;
+        below = omega arith;
+        few = omega arith;
+        full = λ l. absurd (omega arith);
+      } in
       record {
         room = omega (arith, g.leb);
         fits = static_fits s pad vol 0 u 1 1 0 part (omega arith);

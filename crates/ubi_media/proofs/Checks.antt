@@ -11,11 +11,13 @@ use Rattle.ubi_media.proofs.Mirror.{mirror, polynomial-bits, mirror-mirror}
 use Rattle.ubi_media.proofs.Register.{rest, run, remainder-run, steps, run-bits, run-empty, run-append, run-lt}
 
 dividend-parts : (n s : ℕ) (bs : List ℕ) → AreBits bs
-    → polynomial (add_to_front (bits n s) (bs ++ replicate n 0)) ≡ bit_xor (mirror n s * 2 ^ length bs) (polynomial bs * 2 ^ n)
+    → polynomial (add_to_front (bits n s) (bs ++ replicate n 0))
+    ≡ bit_xor (mirror n s * 2 ^ length bs) (polynomial bs * 2 ^ n)
 dividend-parts n s bs h =
     let e : length (bs ++ replicate n 0) ≡ length (bits n s) + length bs =
     rw (length-append bs (replicate n 0), length-replicate {A = ℕ} n 0, length-bits n s) (omega arith) in
-    polynomial-add_to_front (length bs) (bits n s) (bs ++ replicate n 0) e (AreBits-bits n s) (AreBits-append bs (replicate n 0) h (AreBits-zeros n))
+    polynomial-add_to_front (length bs) (bits n s) (bs ++ replicate n 0) e (AreBits-bits n s)
+    (AreBits-append bs (replicate n 0) h (AreBits-zeros n))
     ∙ rw (polynomial-bits n s, polynomial-append bs (replicate n 0), length-replicate {A = ℕ} n 0, polynomial-zeros n)
     (ap (λ (q : ℕ). bit_xor (mirror n s * 2 ^ length bs) q) (omega arith))
 
@@ -35,7 +37,8 @@ check_from-run s m h =
     ∙ mirror-mirror 32 (run s bs) (run-lt bs s h are)
 
 -- a message in two parts: the check of the first is the state for the second
-pub check_from-append : (s : ℕ) (xs ys : List ℕ) → s < 2 ^ 32 → check_from s (xs ++ ys) ≡ check_from (check_from s xs) ys
+pub check_from-append : (s : ℕ) (xs ys : List ℕ) → s < 2 ^ 32
+    → check_from s (xs ++ ys) ≡ check_from (check_from s xs) ys
 check_from-append s xs ys h =
     let bits_x : List ℕ = flat_map (bits 8) xs in
     let bits_y : List ℕ = flat_map (bits 8) ys in
@@ -71,12 +74,14 @@ check_from-more s i m r t h below before now =
     ∙ ap (check_from s) (sym (take_more m i 0 below))
 
 -- one more piece of a message
-pub check_from-piece : (s i : ℕ) (pieces : List (List ℕ)) (r t : ℕ) → s < 2 ^ 32 → i < length pieces → r ≡ check_from s (concat (take i pieces))
+pub check_from-piece : (s i : ℕ) (pieces : List (List ℕ)) (r t : ℕ) → s < 2 ^ 32 → i < length pieces
+    → r ≡ check_from s (concat (take i pieces))
     → t ≡ check_from r (get_or pieces i []) → t ≡ check_from s (concat (take (i + 1) pieces))
 check_from-piece s i pieces r t h below before now =
     let piece : List ℕ = get_or pieces i [] in
     let joined : concat (take (i + 1) pieces) ≡ concat (take i pieces) ++ piece =
-    ap concat (take_more pieces i [] below) ∙ concat-append (take i pieces) (piece ∷ []) ∙ ap (λ (q : List ℕ). concat (take i pieces) ++ q) (append-nil piece) in
+    ap concat (take_more pieces i [] below) ∙ concat-append (take i pieces) (piece ∷ [])
+    ∙ ap (λ (q : List ℕ). concat (take i pieces) ++ q) (append-nil piece) in
     now ∙ ap (λ (q : ℕ). check_from q piece) before
     ∙ sym (check_from-append s (concat (take i pieces)) piece h)
     ∙ ap (check_from s) (sym joined)
@@ -94,7 +99,8 @@ first_chunks-rest size (suc n) m =
     ∙ take-append-drop size m
 
 -- a message that is cut into pieces and a rest
-pub check_from-cut : (s size n : ℕ) (m : List ℕ) (pieces : List (List ℕ)) (rest : List ℕ) (r t : ℕ) → s < 2 ^ 32 → pieces ≡ first_chunks size n m → rest ≡ drop (n * size) m
+pub check_from-cut : (s size n : ℕ) (m : List ℕ) (pieces : List (List ℕ)) (rest : List ℕ) (r t : ℕ) → s < 2 ^ 32
+    → pieces ≡ first_chunks size n m → rest ≡ drop (n * size) m
     → r ≡ check_from s (concat pieces) → t ≡ check_from r rest → t ≡ check_from s m
 check_from-cut s size n m pieces rest r t h front back before now =
     now ∙ ap (λ (q : ℕ). check_from q rest) before

@@ -13,7 +13,8 @@ base : EcHeader
 base = record { counter = 0; image_seq = 0x12345678 }
 
 base_words : List ℕ
-base_words = 0x55424923 ∷ 0x01000000 ∷ 0 ∷ 0 ∷ 0x40 ∷ 0x80 ∷ 0x12345678 ∷ 0 ∷ 0 ∷ 0 ∷ 0 ∷ 0 ∷ 0 ∷ 0 ∷ 0 ∷ 0x5b73f913 ∷ []
+base_words = 0x55424923 ∷ 0x01000000 ∷ 0 ∷ 0 ∷ 0x40 ∷ 0x80 ∷ 0x12345678 ∷ 0 ∷ 0 ∷ 0 ∷ 0 ∷ 0 ∷ 0 ∷ 0 ∷ 0 ∷ 0x5b73f913
+    ∷ []
 
 written : ec_bytes small base ≡ words base_words
 unfolding base base_words check_from remainder
@@ -23,23 +24,33 @@ read_back : ec_reading small (words base_words) ≡ Valid base
 unfolding base base_words ec_reading form_of judged first_fault breaks ec_fields check_from remainder
 read_back = refl
 
-version_2 : ec_reading small (words (0x55424923 ∷ 0x02000000 ∷ 0 ∷ 0 ∷ 0x40 ∷ 0x80 ∷ 0 ∷ 0 ∷ 0 ∷ 0 ∷ 0 ∷ 0 ∷ 0 ∷ 0 ∷ 0 ∷ 0x51ed87bd ∷ [])) ≡ Fault Version
+version_2 : ec_reading small
+    (words (0x55424923 ∷ 0x02000000 ∷ 0 ∷ 0 ∷ 0x40 ∷ 0x80 ∷ 0 ∷ 0 ∷ 0 ∷ 0 ∷ 0 ∷ 0 ∷ 0 ∷ 0 ∷ 0 ∷ 0x51ed87bd ∷ []))
+    ≡ Fault Version
 unfolding ec_reading form_of judged first_fault breaks ec_fields check_from remainder
 version_2 = refl
 
-other_data_offset : ec_reading small (words (0x55424923 ∷ 0x01000000 ∷ 0 ∷ 5 ∷ 0x40 ∷ 0xc0 ∷ 0 ∷ 0 ∷ 0 ∷ 0 ∷ 0 ∷ 0 ∷ 0 ∷ 0 ∷ 0 ∷ 0x648f44ce ∷ [])) ≡ Fault Offsets
+other_data_offset : ec_reading small
+    (words (0x55424923 ∷ 0x01000000 ∷ 0 ∷ 5 ∷ 0x40 ∷ 0xc0 ∷ 0 ∷ 0 ∷ 0 ∷ 0 ∷ 0 ∷ 0 ∷ 0 ∷ 0 ∷ 0 ∷ 0x648f44ce ∷ []))
+    ≡ Fault Offsets
 unfolding ec_reading form_of judged first_fault breaks ec_fields check_from remainder
 other_data_offset = refl
 
-counter_of_32_bits : ec_reading small (words (0x55424923 ∷ 0x01000000 ∷ 0 ∷ 0x80000000 ∷ 0x40 ∷ 0x80 ∷ 0 ∷ 0 ∷ 0 ∷ 0 ∷ 0 ∷ 0 ∷ 0 ∷ 0 ∷ 0 ∷ 0xae56b556 ∷ [])) ≡ Fault Counter
+counter_of_32_bits : ec_reading small
+    (words (0x55424923 ∷ 0x01000000 ∷ 0 ∷ 0x80000000 ∷ 0x40 ∷ 0x80 ∷ 0 ∷ 0 ∷ 0 ∷ 0 ∷ 0 ∷ 0 ∷ 0 ∷ 0 ∷ 0 ∷ 0xae56b556
+    ∷ [])) ≡ Fault Counter
 unfolding ec_reading form_of judged first_fault breaks ec_fields check_from remainder
 counter_of_32_bits = refl
 
-largest_counter : ec_reading small (words (0x55424923 ∷ 0x01000000 ∷ 0 ∷ 0x7fffffff ∷ 0x40 ∷ 0x80 ∷ 0 ∷ 0 ∷ 0 ∷ 0 ∷ 0 ∷ 0 ∷ 0 ∷ 0 ∷ 0 ∷ 0xa321f93c ∷ [])) ≡ Valid (record { counter = 0x7fffffff; image_seq = 0 })
+largest_counter : ec_reading small
+    (words (0x55424923 ∷ 0x01000000 ∷ 0 ∷ 0x7fffffff ∷ 0x40 ∷ 0x80 ∷ 0 ∷ 0 ∷ 0 ∷ 0 ∷ 0 ∷ 0 ∷ 0 ∷ 0 ∷ 0 ∷ 0xa321f93c
+    ∷ [])) ≡ Valid (record { counter = 0x7fffffff; image_seq = 0 })
 unfolding ec_reading form_of judged first_fault breaks ec_fields check_from remainder
 largest_counter = refl
 
-wrong_check : ec_reading small (words (0x55424923 ∷ 0x01000000 ∷ 0 ∷ 0x7fffffff ∷ 0x40 ∷ 0x80 ∷ 0 ∷ 0 ∷ 0 ∷ 0 ∷ 0 ∷ 0 ∷ 0 ∷ 0 ∷ 0 ∷ 0xa321f93d ∷ [])) ≡ Corrupt
+wrong_check : ec_reading small
+    (words (0x55424923 ∷ 0x01000000 ∷ 0 ∷ 0x7fffffff ∷ 0x40 ∷ 0x80 ∷ 0 ∷ 0 ∷ 0 ∷ 0 ∷ 0 ∷ 0 ∷ 0 ∷ 0 ∷ 0 ∷ 0xa321f93d
+    ∷ [])) ≡ Corrupt
 unfolding ec_reading form_of judged first_fault breaks ec_fields check_from remainder
 wrong_check = refl
 

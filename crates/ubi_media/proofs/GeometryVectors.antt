@@ -11,7 +11,8 @@ unfolding first_broken
 kept = refl
 
 -- of three broken limits the first
-no_page : first_broken (record { peb_size = 512; page = 96; vid_offset = 100; data_offset = 128; pebs = 1 }) ≡ Some limit.Page
+no_page : first_broken (record { peb_size = 512; page = 96; vid_offset = 100; data_offset = 128; pebs = 1 })
+    ≡ Some limit.Page
 unfolding first_broken
 no_page = refl
 

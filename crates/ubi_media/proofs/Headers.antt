@@ -22,8 +22,15 @@ use Rattle.ubi_media.specs.declared.vid.VidRead.TheVariants as vid_read
 use Rattle.ubi_media.proofs.Checks.{check_from-lt}
 
 -- the fields of what is written are the header's
-ec_fields-ec_bytes : (s : Sizes) (h : EcHeader) → s.vid_offset < 2 ^ 32 → s.data_offset < 2 ^ 32 → h.counter < 2 ^ 64 → h.image_seq < 2 ^ 32
-    → ec_fields (ec_bytes s h) ≡ record { version = 1; counter = h.counter; vid_offset = s.vid_offset; data_offset = s.data_offset; image_seq = h.image_seq }
+ec_fields-ec_bytes : (s : Sizes) (h : EcHeader) → s.vid_offset < 2 ^ 32 → s.data_offset < 2 ^ 32 → h.counter < 2 ^ 64
+    → h.image_seq < 2 ^ 32
+    → ec_fields (ec_bytes s h) ≡ record {
+      version = 1;
+      counter = h.counter;
+      vid_offset = s.vid_offset;
+      data_offset = s.data_offset;
+      image_seq = h.image_seq;
+    }
 unfolding ec_fields
 ec_fields-ec_bytes s h vid_fits data_fits counter seq =
     let e1 = big_number-reads_back 8 h.counter [] counter in
@@ -38,11 +45,18 @@ ec_bytes-Sealed s h =
 
 -- the fields of a header break no rule
 ec_unbroken : (s : Sizes) (counter seq : ℕ) → counter < 2 ^ 31
-    → ec.first_fault s (record { version = 1; counter = counter; vid_offset = s.vid_offset; data_offset = s.data_offset; image_seq = seq }) ≡ None
+    → ec.first_fault s (record {
+      version = 1;
+      counter = counter;
+      vid_offset = s.vid_offset;
+      data_offset = s.data_offset;
+      image_seq = seq;
+    }) ≡ None
 unfolding ec.first_fault ec.breaks
 ec_unbroken s counter seq small = grind (arith, nat_tests)
 
-pub ec_read_back : (s : Sizes) (h : EcHeader) → s.vid_offset < 2 ^ 32 → s.data_offset < 2 ^ 32 → h.counter < 2 ^ 31 → h.image_seq < 2 ^ 32
+pub ec_read_back : (s : Sizes) (h : EcHeader) → s.vid_offset < 2 ^ 32 → s.data_offset < 2 ^ 32 → h.counter < 2 ^ 31
+    → h.image_seq < 2 ^ 32
     → EcIs s (ec_bytes s h) (ec_read.Valid h)
 ec_read_back s h vid_fits data_fits counter seq =
     let e = ec_fields-ec_bytes s h vid_fits data_fits (omega arith) seq in
@@ -89,7 +103,8 @@ header_of-fields_from : (h : VidHeader) → header_of (fields_from h) ≡ h
 unfolding header_of fields_from
 header_of-fields_from h = rw (kind_back h.kind, flag_back h.copy_flag) refl
 
-pub vid_read_back : (s : Sizes) (h : VidHeader) → Fits (fields_from h) → vid_fault s h ≡ None → VidIs s (vid_bytes h) (vid_read.Valid h)
+pub vid_read_back : (s : Sizes) (h : VidHeader) → Fits (fields_from h) → vid_fault s h ≡ None
+    → VidIs s (vid_bytes h) (vid_read.Valid h)
 vid_read_back s h fits sound =
     let e = vid_fields-vid_bytes h fits in
     (vid_bytes-Sealed h, rw e sound, rw e (sym (header_of-fields_from h)))
@@ -105,7 +120,8 @@ module _ (s : Sizes) (h : EcHeader) (fits : EcFits h) where
 pub one_ec_header : (s : Sizes) (h k : EcHeader) → EcFits h → EcFits k → ec_bytes s h ≡ ec_bytes s k → h ≡ k
 one_ec_header s h k fits fits_too e =
     let counter : h.counter ≡ k.counter = sym (counter_back s h fits) ∙ ap (field 8 8) e ∙ counter_back s k fits_too in
-    let image_seq : h.image_seq ≡ k.image_seq = sym (image_seq_back s h fits) ∙ ap (field 4 24) e ∙ image_seq_back s k fits_too in
+    let image_seq : h.image_seq ≡ k.image_seq = sym (image_seq_back s h fits) ∙ ap (field 4 24) e
+    ∙ image_seq_back s k fits_too in
     λ i. record { counter = counter i; image_seq = image_seq i }
 
 pub fields_fit : (h : VidHeader) → VidFits h → Fits (fields_from h)

@@ -41,7 +41,8 @@ run-bytes (b ∷ bs) s h =
     ∙ sym (steps-byte (length bs) (bit_xor s b) (word bs))
     ∙ ap (steps (8 * suc (length bs))) (xor_assoc s b (word bs * 2 ^ 8))
 
-check_from-word : (s : ℕ) (m : List ℕ) → s < 2 ^ 32 → AreBytes m → check_from s m ≡ steps (8 * length m) (bit_xor s (word m))
+check_from-word : (s : ℕ) (m : List ℕ) → s < 2 ^ 32 → AreBytes m
+    → check_from s m ≡ steps (8 * length m) (bit_xor s (word m))
 check_from-word s m h bytes = check_from-run s m h ∙ run-bytes m s bytes
 
 -- the sum of what is found for each byte in the table of how many come behind it
@@ -125,7 +126,8 @@ add_to_front-length (x ∷ xs) [] h = absurd (omega arith)
 add_to_front-length (x ∷ xs) (y ∷ ys) h = ap suc (add_to_front-length xs ys (omega arith))
 
 -- n bytes and the four of a state, which are added to the first four
-pub check_from-elements : (n s : ℕ) (m state : List ℕ) → 4 ≤ n → n ≤ 16 → s < 2 ^ 32 → length m ≡ n → ((k : ℕ) → get_or m k 0 < 256)
+pub check_from-elements : (n s : ℕ) (m state : List ℕ) → 4 ≤ n → n ≤ 16 → s < 2 ^ 32 → length m ≡ n
+    → ((k : ℕ) → get_or m k 0 < 256)
     → state ≡ to_le_bytes w32 s → lookups (add_to_front (elements 0 4 state) (elements 0 n m)) ≡ check_from s m
 check_from-elements n s m state some most h size below same =
     let front : List ℕ = to_le_bytes w32 s in

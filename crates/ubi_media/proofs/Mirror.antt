@@ -44,7 +44,8 @@ unfolding mirror
 mirror-xor zero a b = refl
 mirror-xor (suc n) a b =
     rw (xor-mod2 a b, xor-div2 a b, mirror-xor n (a / 2) (b / 2))
-    (sym (xor_block n (a % 2) (b % 2) (mirror n (a / 2)) (mirror n (b / 2)) (mirror-lt n (a / 2)) (mirror-lt n (b / 2))))
+    (sym (xor_block n (a % 2) (b % 2) (mirror n (a / 2)) (mirror n (b / 2)) (mirror-lt n (a / 2))
+    (mirror-lt n (b / 2))))
 
 -- the mirror of a number that leaves its highest bit free
 pub mirror-short : (n x : ℕ) → x < 2 ^ n → mirror (suc n) x ≡ mirror n x * 2
@@ -82,7 +83,15 @@ mirror-end (suc n) x =
     let parts2 : x % 2 ^ suc n ≡ (x / 2 % 2 ^ n) * 2 + x % 2 = rw e at parts in
     let half : x % 2 ^ suc n / 2 ≡ x / 2 % 2 ^ n = omega (arith, parts2) in
     let low : x % 2 ^ suc n % 2 ≡ x % 2 = omega (arith, parts2) in
-    rw (mirror-suc (suc n) x, mirror-suc n (x % 2 ^ suc n), half, low, mirror-end n (x / 2), bit_at-suc x n, pow-suc 2 n) (omega arith)
+    rw (
+      mirror-suc (suc n) x,
+      mirror-suc n (x % 2 ^ suc n),
+      half,
+      low,
+      mirror-end n (x / 2),
+      bit_at-suc x n,
+      pow-suc 2 n,
+    ) (omega arith)
 
 -- the mirror of a mirror
 pub mirror-mirror : (n x : ℕ) → x < 2 ^ n → mirror n (mirror n x) ≡ x
@@ -92,7 +101,8 @@ mirror-mirror (suc n) x h =
     let top : bit_at x n < 2 = bit_at-lt x n in
     let half : mirror (suc n) x / 2 ≡ mirror n (x % 2 ^ n) = omega (arith, end, top) in
     let low : mirror (suc n) x % 2 ≡ bit_at x n = omega (arith, end, top) in
-    let small : x / 2 ^ n < 2 = let h2 : x < 2 ^ (1 + n) = let e : 1 + n ≡ suc n = omega arith in rw e h in shr_below x 1 n h2 in
+    let small : x / 2 ^ n < 2 = let h2 : x < 2 ^ (1 + n) = let e : 1 + n ≡ suc n = omega arith in rw e h in
+    shr_below x 1 n h2 in
     let bit : bit_at x n ≡ x / 2 ^ n = mod-eq_of_lt small in
     let ih = mirror-mirror n (x % 2 ^ n) (mod-lt x (pow_pos n)) in
     rw (mirror-suc n (mirror (suc n) x), half, low, ih, bit) (shr_split x n)

@@ -33,10 +33,16 @@ name_facts name e = record {
 
 pub length-padded : (name : List ℕ) → IsName name → length (padded name) ≡ 128
 length-padded name h =
-    omega (arith, h.to, length-append name (replicate (128 - length name) 0), length-replicate {A = ℕ} (128 - length name) 0)
+    omega (
+      arith,
+      h.to,
+      length-append name (replicate (128 - length name) 0),
+      length-replicate {A = ℕ} (128 - length name) 0,
+    )
 
 -- no byte of a name is zero
-each_byte : (name : List ℕ) → list_any (λ byte. byte == 0) name ≡ false → (k : ℕ) → k < length name → (get_or name k 0 == 0) ≡ false
+each_byte : (name : List ℕ) → list_any (λ byte. byte == 0) name ≡ false → (k : ℕ) → k < length name
+    → (get_or name k 0 == 0) ≡ false
 each_byte name e k h =
     elim (get_or name k 0 == 0) as (λ b. (get_or name k 0 == 0) ≡ b → (get_or name k 0 == 0) ≡ false) [
       | true ↦ λ t. let any = list_any_at (λ byte. byte == 0) name k 0 h t in cc
@@ -60,12 +66,14 @@ pub padded_ends : (name : List ℕ) → IsName name → ends_at (padded name) (l
 padded_ends name h =
     let more : 128 - length name ≡ suc (127 - length name) = omega (arith, h.to) in
     ap (λ n. ends_at (name ++ replicate n 0) (length name)) more
-    ∙ ap (λ o. option_map_or (λ place. place == length name) o false) (first_zero_behind name (replicate (127 - length name) 0) h.no_zero)
+    ∙ ap (λ o. option_map_or (λ place. place == length name) o false)
+    (first_zero_behind name (replicate (127 - length name) 0) h.no_zero)
     ∙ eq-eqb (length name) (length name) refl
 
 pub padded_begins : (name : List ℕ) → IsName name → (slice_index (padded name) 0 == 0) ≡ false
 padded_begins name h =
-    ap (λ byte. byte == 0) (get_or_append_left name (replicate (128 - length name) 0) 0 0 h.from) ∙ each_byte name h.no_zero 0 h.from
+    ap (λ byte. byte == 0) (get_or_append_left name (replicate (128 - length name) 0) 0 0 h.from)
+    ∙ each_byte name h.no_zero 0 h.from
 
 -- and bytes that break none of them begin with a name
 is_Some : (o : Option ℕ) (n : ℕ) → option_map_or (λ place. place == n) o false ≡ true → o ≡ Some n
@@ -76,13 +84,15 @@ is_later : (bytes : List ℕ) (n : ℕ) → (slice_index bytes 0 == 0) ≡ false
 is_later bytes zero first here = cc
 is_later bytes (suc n) first here = omega arith
 
-pub begins_with_name : (bytes : List ℕ) (n : ℕ) → n ≤ 127 → (slice_index bytes 0 == 0) ≡ false → ends_at bytes n ≡ true → is_name (take n bytes) ≡ true
+pub begins_with_name : (bytes : List ℕ) (n : ℕ) → n ≤ 127 → (slice_index bytes 0 == 0) ≡ false → ends_at bytes n ≡ true
+    → is_name (take n bytes) ≡ true
 begins_with_name bytes n short first ends =
     let at = position-Some (λ byte. byte == 0) bytes n 0 (is_Some (position (λ byte. byte == 0) bytes) n ends) in
     let size : length (take n bytes) ≡ n = length-take-le n bytes (omega (arith, at.0)) in
     let none : list_any (λ byte. byte == 0) (take n bytes) ≡ false =
     list_any_none (λ byte. byte == 0) (take n bytes) (λ i d h.
     let below : i < n = omega (arith, size) in
-    ap (λ byte. byte == 0) (get_or-take n bytes i d below ∙ get_or_default bytes i d 0 (omega (arith, at.0))) ∙ at.2 i below) in
+    ap (λ byte. byte == 0) (get_or-take n bytes i d below ∙ get_or_default bytes i d 0 (omega (arith, at.0)))
+    ∙ at.2 i below) in
     let later : 1 ≤ n = is_later bytes n first at.1 in
     rw (size, none) (grind (arith, nat_tests))

@@ -64,7 +64,8 @@ polynomial-add_to_front d (x ∷ xs) [] e hx hy = absurd (omega (arith, e))
 polynomial-add_to_front d (x ∷ xs) (y ∷ ys) e hx hy =
     let e1 : length ys ≡ length xs + d = omega (arith, e) in
     let ih = polynomial-add_to_front d xs ys e1 hx.1 hy.1 in
-    let front : polynomial xs * 2 ^ d < 2 ^ length ys = rw e1 (shl_below (polynomial xs) (length xs) d (polynomial-lt xs hx.1)) in
+    let front : polynomial xs * 2 ^ d < 2 ^ length ys =
+    rw e1 (shl_below (polynomial xs) (length xs) d (polynomial-lt xs hx.1)) in
     rw (length-add_to_front xs ys, ih)
     (sym (xor_block (length ys) x y (polynomial xs * 2 ^ d) (polynomial ys) front (polynomial-lt ys hy.1))
     ∙ ap (λ (p : ℕ). bit_xor p (y * 2 ^ length ys + polynomial ys)) (rw (e1, pow-add 2 (length xs) d) (omega arith)))

@@ -20,7 +20,8 @@ tail-lt c k h = shl_below (c * 0x04C11DB7) 32 k (omega arith)
 -- a number by its bit k and those below
 by_bit : (p k : ℕ) → p < 2 ^ suc k → p ≡ bit_at p k * 2 ^ k + p % 2 ^ k
 by_bit p k h =
-    let small : p / 2 ^ k < 2 = let h2 : p < 2 ^ (1 + k) = let e : 1 + k ≡ suc k = omega arith in rw e h in shr_below p 1 k h2 in
+    let small : p / 2 ^ k < 2 = let h2 : p < 2 ^ (1 + k) = let e : 1 + k ≡ suc k = omega arith in rw e h in
+    shr_below p 1 k h2 in
     let bit : bit_at p k ≡ p / 2 ^ k = mod-eq_of_lt small in
     rw bit (sym (shr_split p k))
 
@@ -46,7 +47,8 @@ chosen zero x h = omega arith
 chosen (suc zero) x h = omega arith
 chosen (suc (suc c)) x h = absurd (omega arith)
 
-divided : (k p : ℕ) → p < 2 ^ (32 + k) → (q : List Bool) × (length q ≡ k) × (p ≡ bit_xor (product q generator) (remainder k p)) × (remainder k p < 2 ^ 32)
+divided : (k p : ℕ) → p < 2 ^ (32 + k) → (q : List Bool) × (length q ≡ k)
+    × (p ≡ bit_xor (product q generator) (remainder k p)) × (remainder k p < 2 ^ 32)
 unfolding remainder
 divided zero p h = ([], refl, refl, h)
 divided (suc k) p h =
@@ -139,6 +141,13 @@ same (false ∷ q) (true ∷ t) r s e hr hs sum =
 pub one_remainder : (p r s : ℕ) → IsRemainder p r → IsRemainder p s → r ≡ s
 one_remainder p r s a b =
     same (replicate (length b.quotient) false ++ a.quotient) (replicate (length a.quotient) false ++ b.quotient) r s
-    (rw (length-append (replicate (length b.quotient) false) a.quotient, length-append (replicate (length a.quotient) false) b.quotient, length-replicate {A = Bool} (length b.quotient) false, length-replicate {A = Bool} (length a.quotient) false) (omega arith))
+    (rw (
+      length-append (replicate (length b.quotient) false) a.quotient,
+      length-append (replicate (length a.quotient) false) b.quotient,
+      length-replicate {A = Bool} (length b.quotient) false,
+      length-replicate {A = Bool} (length a.quotient) false,
+    )
+    (omega arith))
     a.degree b.degree
-    (rw (product-padded (length b.quotient) a.quotient, product-padded (length a.quotient) b.quotient) (sym a.sum ∙ b.sum))
+    (rw (product-padded (length b.quotient) a.quotient, product-padded (length a.quotient) b.quotient) (sym a.sum
+    ∙ b.sum))

@@ -25,7 +25,8 @@ pub blank_of : (bytes : List ℕ) → is_blank bytes ≡ true → IsBlank bytes
 blank_of bytes e = λ i d h. eqb-true _ 255 (AllPass-from_list_all (λ b. nat_eq b 255) bytes e i d h)
 
 pub not_blank_of : (bytes : List ℕ) → is_blank bytes ≡ false → IsBlank bytes → ⊥
-not_blank_of bytes e all = let t = list_all-from_AllPass (λ b. nat_eq b 255) bytes (λ i d h. eq-eqb _ 255 (all i d h)) in cc
+not_blank_of bytes e all = let t = list_all-from_AllPass (λ b. nat_eq b 255) bytes
+    (λ i d h. eq-eqb _ 255 (all i d h)) in cc
 
 pub not_equal : (a b : ℕ) → nat_eq a b ≡ false → a ≢ b
 not_equal a b e h = let t = eq-eqb a b h in cc

@@ -56,7 +56,9 @@ module _ (s : Sizes) (r : VolumeRecord) (sound : rec_fault s r ≡ None) where
   named : IsName r.name
   unfolding fields_from
   named =
-      name_facts r.name (subst (λ name. is_name name ≡ true) (take_at r.name (replicate (128 - length r.name) 0) (length r.name) refl) (name_kept s (fields_from s r) sound))
+      name_facts r.name
+      (subst (λ name. is_name name ≡ true) (take_at r.name (replicate (128 - length r.name) 0) (length r.name) refl)
+      (name_kept s (fields_from s r) sound))
 
   divisor : (r.alignment == 0) ≡ false
   unfolding fields_from
@@ -71,10 +73,12 @@ module _ (s : Sizes) (r : VolumeRecord) (sound : rec_fault s r ≡ None) where
       (overwrite 8 (big_bytes 4 (fields_from s r).data_pad)
       (overwrite 4 (big_bytes 4 (fields_from s r).alignment)
       (overwrite 0 (big_bytes 4 (fields_from s r).reserved)
-      (set (set (set (replicate 172 0) 12 (fields_from s r).kind) 13 (fields_from s r).marker) 144 (fields_from s r).flags)))))
+      (set (set (set (replicate 172 0) 12 (fields_from s r).kind) 13 (fields_from s r).marker) 144
+      (fields_from s r).flags)))))
       ≡ rec_front s r ++ replicate 4 0
   rec_assembled =
-      let pad : (fields_from s r).data_pad ≡ data_pad s r = unfold fields_from in ap (λ b. if b then 0 else data_pad s r) divisor in
+      let pad : (fields_from s r).data_pad ≡ data_pad s r = unfold fields_from in
+      ap (λ b. if b then 0 else data_pad s r) divisor in
       rw pad (unfold fields_from in over_zeros (data_pad s r) (padded r.name) r (length-padded r.name named))
 
   pub length-rec_front : length (rec_front s r) ≡ 168
@@ -97,8 +101,10 @@ module _ (pad : ℕ) (r : VolumeRecord) (named : IsName r.name) where
   flags_back : slice_index (sealed made) 144 ≡ r.flags
   unfolding made
   flags_back =
-      ap (λ bytes. get_or bytes 128 0) (append_assoc (padded r.name) (r.flags ∷ replicate 23 0) (big_bytes 4 (check made)))
-      ∙ get_or_at (padded r.name) r.flags (replicate 23 0 ++ big_bytes 4 (check made)) 0 128 (length-padded r.name named)
+      ap (λ bytes. get_or bytes 128 0)
+      (append_assoc (padded r.name) (r.flags ∷ replicate 23 0) (big_bytes 4 (check made)))
+      ∙ get_or_at (padded r.name) r.flags (replicate 23 0 ++ big_bytes 4 (check made)) 0 128
+      (length-padded r.name named)
 
   length_back : field 2 14 (sealed made) ≡ length r.name
   unfolding made
@@ -122,7 +128,8 @@ module _ (pad : ℕ) (r : VolumeRecord) (named : IsName r.name) where
         flags = flags_back i;
       }
 
-  fields_back : (s : Sizes) → r.reserved < 2 ^ 32 → r.alignment < 2 ^ 32 → pad < 2 ^ 32 → (if r.alignment == 0 then 0 else data_pad s r) ≡ pad
+  fields_back : (s : Sizes) → r.reserved < 2 ^ 32 → r.alignment < 2 ^ 32 → pad < 2 ^ 32
+      → (if r.alignment == 0 then 0 else data_pad s r) ≡ pad
       → rec_fields (sealed made) ≡ fields_from s r
   unfolding made rec_fields fields_from
   fields_back s reserved_fits alignment_fits pad_fits is_pad =
@@ -174,10 +181,16 @@ module _ (s : Sizes) (r : VolumeRecord) (sound : rec_fault s r ≡ None) where
       record_back (data_pad s r) r (named s r sound) (omega arith) (omega arith)
 
   pub rec_read_back : RecIs s (sealed (rec_front s r)) (read.Valid r)
-  rec_read_back =
-      (sealed_back 168 (rec_front s r) (length-rec_front s r sound), not_empty s r, ap (first_fault s) back_to_fields ∙ sound, sym back_to_record)
+  rec_read_back = (
+    sealed_back 168 (rec_front s r) (length-rec_front s r sound),
+    not_empty s r,
+    ap (first_fault s) back_to_fields
+        ∙ sound,
+    sym back_to_record,
+  )
 
-pub slot_read_back : (s : Sizes) (slot : Option VolumeRecord) → ForSome slot (λ r. rec_fault s r ≡ None) → RecIs s (rec_bytes s slot) (slot_reading slot)
+pub slot_read_back : (s : Sizes) (slot : Option VolumeRecord) → ForSome slot (λ r. rec_fault s r ≡ None)
+    → RecIs s (rec_bytes s slot) (slot_reading slot)
 unfolding rec_bytes
 slot_read_back s None sound = refl
 slot_read_back s (Some r) sound = rec_read_back s r (sound r refl)
@@ -187,11 +200,13 @@ record_of_bytes : (s : Sizes) (r : VolumeRecord) → RecFits r → record_of (re
 unfolding made
 record_of_bytes s r fits = record_back (data_pad s r) r (name_facts r.name fits.name) fits.reserved fits.alignment
 
-pub one_slot : (s : Sizes) (h k : Option VolumeRecord) → ForSome h RecFits → ForSome k RecFits → rec_bytes s h ≡ rec_bytes s k → h ≡ k
+pub one_slot : (s : Sizes) (h k : Option VolumeRecord) → ForSome h RecFits → ForSome k RecFits
+    → rec_bytes s h ≡ rec_bytes s k → h ≡ k
 unfolding rec_bytes
 one_slot s None None fits fits_too e = refl
 one_slot s None (Some k) fits fits_too e = absurd (not_empty s k (sym e))
 one_slot s (Some h) None fits fits_too e = absurd (not_empty s h e)
 one_slot s (Some h) (Some k) fits fits_too e =
     ap Some
-    (sym (record_of_bytes s h (fits h refl)) ∙ ap (λ bytes. record_of (rec_fields bytes)) e ∙ record_of_bytes s k (fits_too k refl))
+    (sym (record_of_bytes s h (fits h refl)) ∙ ap (λ bytes. record_of (rec_fields bytes)) e
+    ∙ record_of_bytes s k (fits_too k refl))

@@ -37,35 +37,45 @@ unfolding rec_reading judged first_fault breaks rec_fields record_of empty_recor
 none_reserved = refl
 
 -- one byte that isn't zero, and the right check
-one_byte_of_padding : rec_reading small (slot (0 ∷ 0 ∷ 0 ∷ 0 ∷ 0 ∷ 0 ∷ 0 ∷ 0 ∷ 0 ∷ 0 ∷ 0 ∷ 0 ∷ 0 ∷ 0 ∷ 0 ∷ 0 ∷ 0 ∷ 0 ∷ 0 ∷ 0 ∷ 0 ∷ 0 ∷ 0 ∷ 0 ∷ 0 ∷ 0 ∷ 0 ∷ 0 ∷ 0 ∷ 0 ∷ 0 ∷ 0 ∷ 0 ∷ 0 ∷ 0 ∷ 0 ∷ 0 ∷ 0 ∷ 0 ∷ 0 ∷ 0 ∷ 1 ∷ []) 0x8611f3fd) ≡ Fault fault.NotEmpty
+one_byte_of_padding : rec_reading small
+    (slot (0 ∷ 0 ∷ 0 ∷ 0 ∷ 0 ∷ 0 ∷ 0 ∷ 0 ∷ 0 ∷ 0 ∷ 0 ∷ 0 ∷ 0 ∷ 0 ∷ 0 ∷ 0 ∷ 0 ∷ 0 ∷ 0 ∷ 0 ∷ 0 ∷ 0 ∷ 0 ∷ 0 ∷ 0 ∷ 0 ∷ 0 ∷ 0
+    ∷ 0 ∷ 0 ∷ 0 ∷ 0 ∷ 0 ∷ 0 ∷ 0 ∷ 0 ∷ 0 ∷ 0 ∷ 0 ∷ 0 ∷ 0 ∷ 1 ∷ []) 0x8611f3fd) ≡ Fault fault.NotEmpty
 unfolding rec_reading judged first_fault breaks rec_fields record_of empty_record check_from remainder
 one_byte_of_padding = refl
 
-many_reserved : rec_reading small (slot (0x80000000 ∷ 1 ∷ 0 ∷ 0x01000004 ∷ 0x726f6f74 ∷ []) 0xcd67473e) ≡ Fault fault.Negative
+many_reserved : rec_reading small (slot (0x80000000 ∷ 1 ∷ 0 ∷ 0x01000004 ∷ 0x726f6f74 ∷ []) 0xcd67473e)
+    ≡ Fault fault.Negative
 unfolding rec_reading judged first_fault breaks rec_fields record_of empty_record check_from remainder
 many_reserved = refl
 
-negative_pad : rec_reading small (slot (0x00000014 ∷ 1 ∷ 0x80000000 ∷ 0x01000004 ∷ 0x726f6f74 ∷ []) 0x6a47c859) ≡ Fault fault.Negative
+negative_pad : rec_reading small (slot (0x00000014 ∷ 1 ∷ 0x80000000 ∷ 0x01000004 ∷ 0x726f6f74 ∷ []) 0x6a47c859)
+    ≡ Fault fault.Negative
 unfolding rec_reading judged first_fault breaks rec_fields record_of empty_record check_from remainder
 negative_pad = refl
 
-alignment_0 : rec_reading small (slot (0x00000014 ∷ 0 ∷ 0 ∷ 0x01000004 ∷ 0x726f6f74 ∷ []) 0xd136075e) ≡ Fault fault.Alignment
+alignment_0 : rec_reading small (slot (0x00000014 ∷ 0 ∷ 0 ∷ 0x01000004 ∷ 0x726f6f74 ∷ []) 0xd136075e)
+    ≡ Fault fault.Alignment
 unfolding rec_reading judged first_fault breaks rec_fields record_of empty_record check_from remainder
 alignment_0 = refl
 
-alignment_above : rec_reading small (slot (0x00000014 ∷ 0x000001c0 ∷ 0 ∷ 0x01000004 ∷ 0x726f6f74 ∷ []) 0x773cedca) ≡ Fault fault.Alignment
+alignment_above : rec_reading small (slot (0x00000014 ∷ 0x000001c0 ∷ 0 ∷ 0x01000004 ∷ 0x726f6f74 ∷ []) 0x773cedca)
+    ≡ Fault fault.Alignment
 unfolding rec_reading judged first_fault breaks rec_fields record_of empty_record check_from remainder
 alignment_above = refl
 
-alignment_65 : rec_reading small (slot (0x00000014 ∷ 0x00000041 ∷ 0 ∷ 0x01000004 ∷ 0x726f6f74 ∷ []) 0x490abfe5) ≡ Fault fault.AlignmentPage
+alignment_65 : rec_reading small (slot (0x00000014 ∷ 0x00000041 ∷ 0 ∷ 0x01000004 ∷ 0x726f6f74 ∷ []) 0x490abfe5)
+    ≡ Fault fault.AlignmentPage
 unfolding rec_reading judged first_fault breaks rec_fields record_of empty_record check_from remainder
 alignment_65 = refl
 
-alignment_256 : rec_reading small (slot (0x00000014 ∷ 0x00000100 ∷ 0x00000080 ∷ 0x01000004 ∷ 0x726f6f74 ∷ []) 0x30ed19e0) ≡ Valid (record root { alignment = 256 })
+alignment_256 : rec_reading small
+    (slot (0x00000014 ∷ 0x00000100 ∷ 0x00000080 ∷ 0x01000004 ∷ 0x726f6f74 ∷ []) 0x30ed19e0)
+    ≡ Valid (record root { alignment = 256 })
 unfolding root rec_reading judged first_fault breaks rec_fields record_of empty_record check_from remainder
 alignment_256 = refl
 
-no_pad : rec_reading small (slot (0x00000014 ∷ 0x00000100 ∷ 0 ∷ 0x01000004 ∷ 0x726f6f74 ∷ []) 0x3e43fec2) ≡ Fault fault.DataPad
+no_pad : rec_reading small (slot (0x00000014 ∷ 0x00000100 ∷ 0 ∷ 0x01000004 ∷ 0x726f6f74 ∷ []) 0x3e43fec2)
+    ≡ Fault fault.DataPad
 unfolding rec_reading judged first_fault breaks rec_fields record_of empty_record check_from remainder
 no_pad = refl
 
@@ -77,7 +87,8 @@ marker_2 : rec_reading small (slot (0x00000014 ∷ 1 ∷ 0 ∷ 0x01020004 ∷ 0x
 unfolding rec_reading judged first_fault breaks rec_fields record_of empty_record check_from remainder
 marker_2 = refl
 
-name_of_128 : rec_reading small (slot (0x00000014 ∷ 1 ∷ 0 ∷ 0x01000080 ∷ 0x726f6f74 ∷ []) 0x4a3dc51a) ≡ Fault fault.NameTooLong
+name_of_128 : rec_reading small (slot (0x00000014 ∷ 1 ∷ 0 ∷ 0x01000080 ∷ 0x726f6f74 ∷ []) 0x4a3dc51a)
+    ≡ Fault fault.NameTooLong
 unfolding rec_reading judged first_fault breaks rec_fields record_of empty_record check_from remainder
 name_of_128 = refl
 
@@ -85,29 +96,46 @@ no_name : rec_reading small (slot (0x00000014 ∷ 1 ∷ 0 ∷ 0x01000000 ∷ [])
 unfolding rec_reading judged first_fault breaks rec_fields record_of empty_record check_from remainder
 no_name = refl
 
-name_too_short : rec_reading small (slot (0x00000014 ∷ 1 ∷ 0 ∷ 0x01000003 ∷ 0x726f6f74 ∷ []) 0xf1fcc4f2) ≡ Fault fault.NameLength
+name_too_short : rec_reading small (slot (0x00000014 ∷ 1 ∷ 0 ∷ 0x01000003 ∷ 0x726f6f74 ∷ []) 0xf1fcc4f2)
+    ≡ Fault fault.NameLength
 unfolding rec_reading judged first_fault breaks rec_fields record_of empty_record check_from remainder
 name_too_short = refl
 
-name_without_end : rec_reading small (slot (0x00000014 ∷ 1 ∷ 0 ∷ 0x0100007f ∷ 0x61616161 ∷ 0x61616161 ∷ 0x61616161 ∷ 0x61616161 ∷ 0x61616161 ∷ 0x61616161 ∷ 0x61616161 ∷ 0x61616161 ∷ 0x61616161 ∷ 0x61616161 ∷ 0x61616161 ∷ 0x61616161 ∷ 0x61616161 ∷ 0x61616161 ∷ 0x61616161 ∷ 0x61616161 ∷ 0x61616161 ∷ 0x61616161 ∷ 0x61616161 ∷ 0x61616161 ∷ 0x61616161 ∷ 0x61616161 ∷ 0x61616161 ∷ 0x61616161 ∷ 0x61616161 ∷ 0x61616161 ∷ 0x61616161 ∷ 0x61616161 ∷ 0x61616161 ∷ 0x61616161 ∷ 0x61616161 ∷ 0x61616161 ∷ []) 0xeba19757) ≡ Fault fault.NameLength
+name_without_end : rec_reading small
+    (slot (0x00000014 ∷ 1 ∷ 0 ∷ 0x0100007f ∷ 0x61616161 ∷ 0x61616161 ∷ 0x61616161 ∷ 0x61616161 ∷ 0x61616161 ∷ 0x61616161
+    ∷ 0x61616161 ∷ 0x61616161 ∷ 0x61616161 ∷ 0x61616161 ∷ 0x61616161 ∷ 0x61616161 ∷ 0x61616161 ∷ 0x61616161 ∷ 0x61616161
+    ∷ 0x61616161 ∷ 0x61616161 ∷ 0x61616161 ∷ 0x61616161 ∷ 0x61616161 ∷ 0x61616161 ∷ 0x61616161 ∷ 0x61616161 ∷ 0x61616161
+    ∷ 0x61616161 ∷ 0x61616161 ∷ 0x61616161 ∷ 0x61616161 ∷ 0x61616161 ∷ 0x61616161 ∷ 0x61616161 ∷ 0x61616161 ∷ [])
+    0xeba19757) ≡ Fault fault.NameLength
 unfolding rec_reading judged first_fault breaks rec_fields record_of empty_record check_from remainder
 name_without_end = refl
 
-longest_name : rec_reading small (slot (0x00000014 ∷ 1 ∷ 0 ∷ 0x0100007f ∷ 0x61616161 ∷ 0x61616161 ∷ 0x61616161 ∷ 0x61616161 ∷ 0x61616161 ∷ 0x61616161 ∷ 0x61616161 ∷ 0x61616161 ∷ 0x61616161 ∷ 0x61616161 ∷ 0x61616161 ∷ 0x61616161 ∷ 0x61616161 ∷ 0x61616161 ∷ 0x61616161 ∷ 0x61616161 ∷ 0x61616161 ∷ 0x61616161 ∷ 0x61616161 ∷ 0x61616161 ∷ 0x61616161 ∷ 0x61616161 ∷ 0x61616161 ∷ 0x61616161 ∷ 0x61616161 ∷ 0x61616161 ∷ 0x61616161 ∷ 0x61616161 ∷ 0x61616161 ∷ 0x61616161 ∷ 0x61616161 ∷ 0x61616100 ∷ []) 0x4529d27c) ≡ Valid (record root { name = replicate 127 97 })
+longest_name : rec_reading small
+    (slot (0x00000014 ∷ 1 ∷ 0 ∷ 0x0100007f ∷ 0x61616161 ∷ 0x61616161 ∷ 0x61616161 ∷ 0x61616161 ∷ 0x61616161 ∷ 0x61616161
+    ∷ 0x61616161 ∷ 0x61616161 ∷ 0x61616161 ∷ 0x61616161 ∷ 0x61616161 ∷ 0x61616161 ∷ 0x61616161 ∷ 0x61616161 ∷ 0x61616161
+    ∷ 0x61616161 ∷ 0x61616161 ∷ 0x61616161 ∷ 0x61616161 ∷ 0x61616161 ∷ 0x61616161 ∷ 0x61616161 ∷ 0x61616161 ∷ 0x61616161
+    ∷ 0x61616161 ∷ 0x61616161 ∷ 0x61616161 ∷ 0x61616161 ∷ 0x61616161 ∷ 0x61616161 ∷ 0x61616161 ∷ 0x61616100 ∷ [])
+    0x4529d27c) ≡ Valid (record root { name = replicate 127 97 })
 unfolding root rec_reading judged first_fault breaks rec_fields record_of empty_record check_from remainder
 longest_name = refl
 
 -- what stands behind the zero of the name is nothing
-more_behind_the_name : rec_reading small (slot (0x00000014 ∷ 1 ∷ 0 ∷ 0x01000004 ∷ 0x726f6f74 ∷ 0x00010000 ∷ []) 0xa4dcaedb) ≡ Valid root
+more_behind_the_name : rec_reading small
+    (slot (0x00000014 ∷ 1 ∷ 0 ∷ 0x01000004 ∷ 0x726f6f74 ∷ 0x00010000 ∷ []) 0xa4dcaedb) ≡ Valid root
 unfolding root rec_reading judged first_fault breaks rec_fields record_of empty_record check_from remainder
 more_behind_the_name = refl
 
 -- and neither is what stands in the padding
-other_padding : rec_reading small (slot (0x00000014 ∷ 1 ∷ 0 ∷ 0x01000004 ∷ 0x726f6f74 ∷ 0 ∷ 0 ∷ 0 ∷ 0 ∷ 0 ∷ 0 ∷ 0 ∷ 0 ∷ 0 ∷ 0 ∷ 0 ∷ 0 ∷ 0 ∷ 0 ∷ 0 ∷ 0 ∷ 0 ∷ 0 ∷ 0 ∷ 0 ∷ 0 ∷ 0 ∷ 0 ∷ 0 ∷ 0 ∷ 0 ∷ 0 ∷ 0 ∷ 0 ∷ 0 ∷ 0 ∷ 0x00010000 ∷ []) 0xeaac5bc9) ≡ Valid root
+other_padding : rec_reading small
+    (slot (0x00000014 ∷ 1 ∷ 0 ∷ 0x01000004 ∷ 0x726f6f74 ∷ 0 ∷ 0 ∷ 0 ∷ 0 ∷ 0 ∷ 0 ∷ 0 ∷ 0 ∷ 0 ∷ 0 ∷ 0 ∷ 0 ∷ 0 ∷ 0 ∷ 0 ∷ 0
+    ∷ 0 ∷ 0 ∷ 0 ∷ 0 ∷ 0 ∷ 0 ∷ 0 ∷ 0 ∷ 0 ∷ 0 ∷ 0 ∷ 0 ∷ 0 ∷ 0 ∷ 0 ∷ 0x00010000 ∷ []) 0xeaac5bc9) ≡ Valid root
 unfolding root rec_reading judged first_fault breaks rec_fields record_of empty_record check_from remainder
 other_padding = refl
 
-static_and_marked : rec_reading small (slot (0x00000014 ∷ 1 ∷ 0 ∷ 0x02010004 ∷ 0x726f6f74 ∷ 0 ∷ 0 ∷ 0 ∷ 0 ∷ 0 ∷ 0 ∷ 0 ∷ 0 ∷ 0 ∷ 0 ∷ 0 ∷ 0 ∷ 0 ∷ 0 ∷ 0 ∷ 0 ∷ 0 ∷ 0 ∷ 0 ∷ 0 ∷ 0 ∷ 0 ∷ 0 ∷ 0 ∷ 0 ∷ 0 ∷ 0 ∷ 0 ∷ 0 ∷ 0 ∷ 0 ∷ 0xff000000 ∷ []) 0xb52a4690) ≡ Valid (record root { kind = Static; marker = true; flags = 0xff })
+static_and_marked : rec_reading small
+    (slot (0x00000014 ∷ 1 ∷ 0 ∷ 0x02010004 ∷ 0x726f6f74 ∷ 0 ∷ 0 ∷ 0 ∷ 0 ∷ 0 ∷ 0 ∷ 0 ∷ 0 ∷ 0 ∷ 0 ∷ 0 ∷ 0 ∷ 0 ∷ 0 ∷ 0 ∷ 0
+    ∷ 0 ∷ 0 ∷ 0 ∷ 0 ∷ 0 ∷ 0 ∷ 0 ∷ 0 ∷ 0 ∷ 0 ∷ 0 ∷ 0 ∷ 0 ∷ 0 ∷ 0 ∷ 0xff000000 ∷ []) 0xb52a4690)
+    ≡ Valid (record root { kind = Static; marker = true; flags = 0xff })
 unfolding root rec_reading judged first_fault breaks rec_fields record_of empty_record check_from remainder
 static_and_marked = refl
 

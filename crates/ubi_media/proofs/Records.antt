@@ -54,11 +54,13 @@ module _ (s : Sizes) (f : RecFields) where
 
   end_kept : first_fault s f ≡ None → ends_at f.name f.name_len ≡ true
   unfolding breaks
-  end_kept e = not_false _ (λ h. let broken : breaks s f fault.NameLength ≡ true = ap not h in let right = kept e 9 (lit< tt) in cc)
+  end_kept e = not_false _ (λ h. let broken : breaks s f fault.NameLength ≡ true = ap not h in
+      let right = kept e 9 (lit< tt) in cc)
 
   pub divisor_kept : first_fault s f ≡ None → (f.alignment == 0) ≡ false
   unfolding breaks
-  divisor_kept e = let h = kept e 2 (lit< tt) in not_true _ (λ t. let broken : breaks s f fault.Alignment ≡ true = rw t refl in cc)
+  divisor_kept e = let h = kept e 2 (lit< tt) in
+      not_true _ (λ t. let broken : breaks s f fault.Alignment ≡ true = rw t refl in cc)
 
   alignment_kept : first_fault s f ≡ None → (1 ≤ f.alignment) × (f.alignment ≤ leb_size s)
   unfolding breaks
@@ -117,7 +119,8 @@ module _ (s : Sizes) (bytes : List ℕ) where
   unfolding by
   reads_empty h k = reads true true h k
 
-  pub reads_judged : is_sealed 168 bytes ≡ true → same_bytes bytes empty_record ≡ false → judged s (rec_fields bytes) ≡ rec_reading s bytes
+  pub reads_judged : is_sealed 168 bytes ≡ true → same_bytes bytes empty_record ≡ false
+      → judged s (rec_fields bytes) ≡ rec_reading s bytes
   unfolding by
   reads_judged h k = reads true false h k
 
@@ -131,7 +134,8 @@ module _ (s : Sizes) (bytes : List ℕ) where
   rec_only : (r : RecRead) → RecIs s bytes r → r ≡ rec_reading s bytes
   rec_only read.BadCrc h = reads_bad (not_true _ (λ t. h (eqb-true _ _ t)))
   rec_only read.Empty h =
-      reads_empty (eq-eqb _ _ (subst (IsSealed 168) (sym h) empty_sealed)) (not_false _ (λ t. other_text bytes empty_record (sym t) h))
+      reads_empty (eq-eqb _ _ (subst (IsSealed 168) (sym h) empty_sealed))
+      (not_false _ (λ t. other_text bytes empty_record (sym t) h))
   rec_only (read.Fault f) h = reads_sound h.0 h.1 (Some f) h.2
   rec_only (read.Valid r) h = ap read.Valid h.3 ∙ reads_sound h.0 h.1 None h.2
 
@@ -158,7 +162,10 @@ pad_is alignment pad =
     ]
 
 of_numbers : (a b c d : Bool)
-    → IfSome (cond a (Some fault.NotEmpty) (cond b (Some fault.Negative) (cond c (Some fault.Alignment) (cond d (Some fault.AlignmentPage) None)))) IsNumberFault
+    → IfSome
+    (cond a (Some fault.NotEmpty)
+    (cond b (Some fault.Negative) (cond c (Some fault.Alignment) (cond d (Some fault.AlignmentPage) None))))
+    IsNumberFault
 of_numbers true b c d = tt
 of_numbers false true c d = tt
 of_numbers false false true d = tt
@@ -173,13 +180,17 @@ number_faults s r e =
     let pad : breaks s f fault.DataPad ≡ false = unfold breaks fields_from in pad_is r.alignment (data_pad s r) in
     let kind : breaks s f fault.Kind ≡ false = unfold breaks fields_from in kind_is r.kind in
     let marker : breaks s f fault.Marker ≡ false = unfold breaks fields_from in marker_is r.marker in
-    let long : breaks s f fault.NameTooLong ≡ false = unfold breaks fields_from in (let h = named.to in grind (arith, nat_tests)) in
+    let long : breaks s f fault.NameTooLong ≡ false = unfold breaks fields_from in
+    (let h = named.to in grind (arith, nat_tests)) in
     let blank : breaks s f fault.NameBlank ≡ false = unfold breaks fields_from in padded_begins r.name named in
     let ends : breaks s f fault.NameLength ≡ false = unfold breaks fields_from in ap not (padded_ends r.name named) in
-    rw (pad, kind, marker, long, blank, ends) (of_numbers (breaks s f fault.NotEmpty) (breaks s f fault.Negative) (breaks s f fault.Alignment) (breaks s f fault.AlignmentPage))
+    rw (pad, kind, marker, long, blank, ends)
+    (of_numbers (breaks s f fault.NotEmpty) (breaks s f fault.Negative) (breaks s f fault.Alignment)
+    (breaks s f fault.AlignmentPage))
 
 -- the numbers of a record that breaks no rule
-pub alignment_within : (s : Sizes) (r : VolumeRecord) → rec_fault s r ≡ None → (1 ≤ r.alignment) × (r.alignment ≤ leb_size s)
+pub alignment_within : (s : Sizes) (r : VolumeRecord) → rec_fault s r ≡ None
+    → (1 ≤ r.alignment) × (r.alignment ≤ leb_size s)
 unfolding fields_from
 alignment_within s r e = alignment_kept s (fields_from s r) e
 

@@ -32,7 +32,8 @@ mirror-step t h =
     mirror-twice 31 t h
     ∙ xor-above (t % 2) 32 (mirror 32 (t / 2)) half
     ∙ regroup (t % 2 * 2 ^ 32) (mirror 32 (t / 2)) (t % 2 * 0x04C11DB7)
-    ∙ sym (rw (mirror-xor 32 (t / 2) (t % 2 * 0xEDB88320), mirror-generator (t % 2) low, generator-parts (t % 2) low) refl)
+    ∙ sym (rw (mirror-xor 32 (t / 2) (t % 2 * 0xEDB88320), mirror-generator (t % 2) low, generator-parts (t % 2) low)
+    refl)
 
 pub step-lt : (t : ℕ) → t < 2 ^ 32 → step t < 2 ^ 32
 step-lt t h =
@@ -49,11 +50,14 @@ rest-front b w p hb hp =
     let e : (b * 2 ^ w + p) * 2 ^ 32 ≡ b * 2 ^ (w + 32) + p * 2 ^ 32 = rw (pow-add 2 w 32) (omega arith) in
     e ∙ xor-above b (w + 32) (p * 2 ^ 32) below
 
-rest-mirror : (s b w : ℕ) → b < 2 → mirror 32 (bit_xor s b) * 2 * 2 ^ w ≡ bit_xor (mirror 32 s * 2 ^ suc w) (b * 2 ^ (w + 32))
+rest-mirror : (s b w : ℕ) → b < 2 → mirror 32 (bit_xor s b) * 2 * 2 ^ w
+    ≡ bit_xor (mirror 32 s * 2 ^ suc w) (b * 2 ^ (w + 32))
 rest-mirror s b w hb =
-    let e1 : mirror 32 (bit_xor s b) * 2 * 2 ^ w ≡ mirror 32 (bit_xor s b) * 2 ^ suc w = rw (pow-suc 2 w) (omega arith) in
+    let e1 : mirror 32 (bit_xor s b) * 2 * 2 ^ w ≡ mirror 32 (bit_xor s b) * 2 ^ suc w =
+    rw (pow-suc 2 w) (omega arith) in
     let e2 : b * 2 ^ 31 * 2 ^ suc w ≡ b * 2 ^ (w + 32) = rw (pow-suc 2 w, pow-add 2 w 32) (omega arith) in
-    e1 ∙ rw (mirror-xor 32 s b, mirror-bit 31 b hb) (xor-scale (suc w) (mirror 32 s) (b * 2 ^ 31) ∙ ap (λ (q : ℕ). bit_xor (mirror 32 s * 2 ^ suc w) q) e2)
+    e1 ∙ rw (mirror-xor 32 s b, mirror-bit 31 b hb) (xor-scale (suc w) (mirror 32 s) (b * 2 ^ 31)
+    ∙ ap (λ (q : ℕ). bit_xor (mirror 32 s * 2 ^ suc w) q) e2)
 
 -- one more bit comes in
 pub rest-step : (s b w p : ℕ) → s < 2 ^ 32 → b < 2 → p < 2 ^ w
@@ -63,7 +67,8 @@ rest-step s b w p hs hb hp =
     let ht : t < 2 ^ 32 = xor_lt 32 s b hs (omega arith) in
     ap (λ (q : ℕ). bit_xor (mirror 32 s * 2 ^ suc w) q) (rest-front b w p hb hp)
     ∙ sym (xor_assoc (mirror 32 s * 2 ^ suc w) (b * 2 ^ (w + 32)) (p * 2 ^ 32))
-    ∙ ap (λ (q : ℕ). bit_xor q (p * 2 ^ 32)) (sym (rest-mirror s b w hb) ∙ ap (λ (q : ℕ). q * 2 ^ w) (mirror-step t ht) ∙ xor-scale w (mirror 32 (step t)) (t % 2 * generator))
+    ∙ ap (λ (q : ℕ). bit_xor q (p * 2 ^ 32)) (sym (rest-mirror s b w hb) ∙ ap (λ (q : ℕ). q * 2 ^ w) (mirror-step t ht)
+    ∙ xor-scale w (mirror 32 (step t)) (t % 2 * generator))
     ∙ xor-swap (mirror 32 (step t) * 2 ^ w) (t % 2 * generator * 2 ^ w) (p * 2 ^ 32)
 
 -- what is left has no coefficient from x^(32 + w) on
@@ -74,7 +79,8 @@ rest-lt s w p hp =
     xor_lt (w + 32) (mirror 32 s * 2 ^ w) (p * 2 ^ 32) (rw (← e) a) (shl_below p w 32 hp)
 
 -- the coefficient that a step takes off
-pub rest-top : (s b w p : ℕ) → s < 2 ^ 32 → b < 2 → p < 2 ^ w → bit_at (rest s (suc w) (b * 2 ^ w + p)) (32 + w) ≡ bit_xor s b % 2
+pub rest-top : (s b w p : ℕ) → s < 2 ^ 32 → b < 2 → p < 2 ^ w
+    → bit_at (rest s (suc w) (b * 2 ^ w + p)) (32 + w) ≡ bit_xor s b % 2
 rest-top s b w p hs hb hp =
     let t : ℕ = bit_xor s b in
     let ht : t < 2 ^ 32 = xor_lt 32 s b hs (omega arith) in
@@ -84,7 +90,8 @@ rest-top s b w p hs hb hp =
     let below : r < 2 ^ (32 + w) = let e : w + 32 ≡ 32 + w = omega arith in rw e at (rest-lt (step t) w p hp) in
     let tail : c * 0x04C11DB7 * 2 ^ w < 2 ^ (32 + w) = shl_below (c * 0x04C11DB7) 32 w (omega arith) in
     let parts : c * generator * 2 ^ w ≡ c * 2 ^ (32 + w) + c * 0x04C11DB7 * 2 ^ w = rw (pow-add 2 32 w) (omega arith) in
-    let high : c * generator * 2 ^ w / 2 ^ (32 + w) ≡ c = rw parts (shr_high c (32 + w) (c * 0x04C11DB7 * 2 ^ w) tail) in
+    let high : c * generator * 2 ^ w / 2 ^ (32 + w) ≡ c =
+    rw parts (shr_high c (32 + w) (c * 0x04C11DB7 * 2 ^ w) tail) in
     let none : bit_at r (32 + w) ≡ 0 = bit_at_above r (32 + w) (32 + w) below (omega arith) in
     let bit : bit_at (c * generator * 2 ^ w) (32 + w) ≡ c = rw high (mod-eq_of_lt low) in
     let both = bit_at_xor r (c * generator * 2 ^ w) (32 + w) in
@@ -97,7 +104,8 @@ run s [] = s
 run s (b ∷ bs) = run (step (bit_xor s b)) bs
 
 -- the division leaves the register
-pub remainder-run : (bs : List ℕ) (s : ℕ) → s < 2 ^ 32 → AreBits bs → remainder (length bs) (rest s (length bs) (polynomial bs)) ≡ mirror 32 (run s bs)
+pub remainder-run : (bs : List ℕ) (s : ℕ) → s < 2 ^ 32 → AreBits bs
+    → remainder (length bs) (rest s (length bs) (polynomial bs)) ≡ mirror 32 (run s bs)
 unfolding run remainder
 remainder-run [] s hs h =
     let one : mirror 32 s * 1 ≡ mirror 32 s = omega arith in
@@ -109,7 +117,8 @@ remainder-run (b ∷ bs) s hs h =
     let t : ℕ = bit_xor s b in
     let low : b < 2 = h.0 in
     let ht : t < 2 ^ 32 = xor_lt 32 s b hs (omega arith) in
-    ap (λ (c : ℕ). remainder w (bit_xor (rest s (suc w) (b * 2 ^ w + p)) (c * generator * 2 ^ w))) (rest-top s b w p hs h.0 below)
+    ap (λ (c : ℕ). remainder w (bit_xor (rest s (suc w) (b * 2 ^ w + p)) (c * generator * 2 ^ w)))
+    (rest-top s b w p hs h.0 below)
     ∙ ap (λ (q : ℕ). remainder w (bit_xor q (t % 2 * generator * 2 ^ w))) (rest-step s b w p hs h.0 below)
     ∙ ap (remainder w) (xor-twice (rest (step t) w p) (t % 2 * generator * 2 ^ w))
     ∙ remainder-run bs (step t) (step-lt t ht) h.1

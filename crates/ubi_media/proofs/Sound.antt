@@ -16,15 +16,18 @@ use Rattle.ubi_media.proofs.First.{found_passes}
 use Rattle.ubi_media.proofs.Records.{divisor_kept, kept, name_kept, number_faults}
 
 -- the padding that follows from the alignment is the one that was read
-pad_is : (alignment pad left : ℕ) → (alignment == 0) ≡ false → (not (alignment == 0) && not (pad == left)) ≡ false → (if alignment == 0 then 0 else left) ≡ pad
+pad_is : (alignment pad left : ℕ) → (alignment == 0) ≡ false → (not (alignment == 0) && not (pad == left)) ≡ false
+    → (if alignment == 0 then 0 else left) ≡ pad
 pad_is alignment pad left e h = rw e (grind (arith, nat_tests))
 
 module _ (s : Sizes) (bytes : List ℕ) (none : first_fault s (rec_fields bytes) ≡ None) where
   again : VolumeRecord
   again = record_of (rec_fields bytes)
 
-  same_pad : (if (rec_fields bytes).alignment == 0 then 0 else leb_size s % (rec_fields bytes).alignment) ≡ (rec_fields bytes).data_pad
-  same_pad = pad_is (rec_fields bytes).alignment (rec_fields bytes).data_pad (leb_size s % (rec_fields bytes).alignment) (divisor_kept s (rec_fields bytes) none)
+  same_pad : (if (rec_fields bytes).alignment == 0 then 0 else leb_size s % (rec_fields bytes).alignment)
+      ≡ (rec_fields bytes).data_pad
+  same_pad = pad_is (rec_fields bytes).alignment (rec_fields bytes).data_pad (leb_size s % (rec_fields bytes).alignment)
+      (divisor_kept s (rec_fields bytes) none)
       (unfold breaks in kept s (rec_fields bytes) none 4 (lit< tt))
 
   not_empty : breaks s (fields_from s again) fault.NotEmpty ≡ false
@@ -62,16 +65,21 @@ module _ (s : Sizes) (bytes : List ℕ) (none : first_fault s (rec_fields bytes)
   unfolding again
   record_sound = no_fault (rec_fault s again) refl (number_faults s again named)
 
-judged_sound : (s : Sizes) (bytes : List ℕ) (r : VolumeRecord) (o : Option RecFault) → first_fault s (rec_fields bytes) ≡ o
+judged_sound : (s : Sizes) (bytes : List ℕ) (r : VolumeRecord) (o : Option RecFault)
+    → first_fault s (rec_fields bytes) ≡ o
     → option_map_or read.Fault o (read.Valid (record_of (rec_fields bytes))) ≡ read.Valid r → rec_fault s r ≡ None
-judged_sound s bytes r None none e = let same : record_of (rec_fields bytes) ≡ r = cc in subst (λ x. rec_fault s x ≡ None) same (record_sound s bytes none)
+judged_sound s bytes r None none e = let same : record_of (rec_fields bytes) ≡ r = cc in
+    subst (λ x. rec_fault s x ≡ None) same (record_sound s bytes none)
 judged_sound s bytes r (Some f) some e = absurd (cc)
 
 valid_by : (s : Sizes) (bytes : List ℕ) (r : VolumeRecord) (q b : Bool)
-    → (if not q then read.BadCrc else (if b then read.Empty else judged s (rec_fields bytes))) ≡ read.Valid r → rec_fault s r ≡ None
+    → (if not q then read.BadCrc else (if b then read.Empty else judged s (rec_fields bytes))) ≡ read.Valid r
+    → rec_fault s r ≡ None
 valid_by s bytes r false b e = absurd (cc)
 valid_by s bytes r true true e = absurd (cc)
 valid_by s bytes r true false e = judged_sound s bytes r (first_fault s (rec_fields bytes)) refl (unfold judged in e)
 
-pub valid_sound : (s : Sizes) (bytes : List ℕ) (r : VolumeRecord) → rec_reading s bytes ≡ read.Valid r → rec_fault s r ≡ None
-valid_sound s bytes r e = valid_by s bytes r (is_sealed 168 bytes) (same_bytes bytes empty_record) (unfold rec_reading in e)
+pub valid_sound : (s : Sizes) (bytes : List ℕ) (r : VolumeRecord) → rec_reading s bytes ≡ read.Valid r
+    → rec_fault s r ≡ None
+valid_sound s bytes r e = valid_by s bytes r (is_sealed 168 bytes) (same_bytes bytes empty_record)
+    (unfold rec_reading in e)

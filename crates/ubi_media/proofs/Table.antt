@@ -24,7 +24,8 @@ step-sum : (a b : ℕ) → step (bit_xor a b) ≡ bit_xor (step a) (step b)
 step-sum a b =
     let la : a % 2 < 2 = mod_below a 2 (omega arith) in
     let lb : b % 2 < 2 = mod_below b 2 (omega arith) in
-    rw (xor-div2 a b, xor-mod2 a b, bit_product (a % 2) (b % 2) la lb) (xor-four (a / 2) (b / 2) (a % 2 * 0xEDB88320) (b % 2 * 0xEDB88320))
+    rw (xor-div2 a b, xor-mod2 a b, bit_product (a % 2) (b % 2) la lb)
+    (xor-four (a / 2) (b / 2) (a % 2 * 0xEDB88320) (b % 2 * 0xEDB88320))
 
 pub steps-sum : (n a b : ℕ) → steps n (bit_xor a b) ≡ bit_xor (steps n a) (steps n b)
 unfolding steps
@@ -42,7 +43,8 @@ steps-high (suc n) h =
 
 steps-split : (t : ℕ) → steps 8 t ≡ bit_xor (t / 256) (steps 8 (t % 256))
 steps-split t =
-    let parts : bit_xor (t / 256 * 2 ^ 8) (t % 256) ≡ t = xor_shifted (t / 256) 8 (t % 256) (mod_below t 256 (omega arith)) ∙ shr_split t 8 in
+    let parts : bit_xor (t / 256 * 2 ^ 8) (t % 256) ≡ t = xor_shifted (t / 256) 8 (t % 256)
+    (mod_below t 256 (omega arith)) ∙ shr_split t 8 in
     ap (steps 8) (sym parts) ∙ steps-sum 8 (t / 256 * 2 ^ 8) (t % 256)
     ∙ ap (λ (q : ℕ). bit_xor q (steps 8 (t % 256))) (steps-high 8 (t / 256))
 
@@ -65,7 +67,8 @@ unfolding are_next
 are_next-at [] ys k e h = absurd (omega arith)
 are_next-at (x ∷ xs) [] k e h = absurd (false≢true e)
 are_next-at (x ∷ xs) (y ∷ ys) zero e h = eqb-true y (steps 8 x) (and_parts (y == steps 8 x) (are_next xs ys) e).0
-are_next-at (x ∷ xs) (y ∷ ys) (suc k) e h = are_next-at xs ys k (and_parts (y == steps 8 x) (are_next xs ys) e).1 (omega arith)
+are_next-at (x ∷ xs) (y ∷ ys) (suc k) e h = are_next-at xs ys k (and_parts (y == steps 8 x) (are_next xs ys) e).1
+    (omega arith)
 
 -- whether each table is the next of the one before it
 are_tables : List ℕ → List (List ℕ) → Bool
@@ -83,7 +86,8 @@ are_next-steps n xs ys h e = (
   λ x below. are_next-at xs ys x e (omega (arith, h.0)) ∙ ap (steps 8) (h.1 x below) ∙ sym (steps-more n 8 x),
 )
 
-are_tables-at : (n : ℕ) (last : List ℕ) (ts : List (List ℕ)) (k x : ℕ) → AreSteps n last → are_tables last ts ≡ true → k < length ts → x < 256
+are_tables-at : (n : ℕ) (last : List ℕ) (ts : List (List ℕ)) (k x : ℕ) → AreSteps n last → are_tables last ts ≡ true
+    → k < length ts → x < 256
     → get_or (get_or ts k []) x 0 ≡ steps (n + 8 * suc k) x
 unfolding are_tables AreSteps
 are_tables-at n last [] k x steps_of e h below = absurd (omega arith)

@@ -24,93 +24,134 @@ base = record {
   sqnum = 0;
 }
 
-plain : vid_reading small (words (0x55424921 ∷ 0x01010000 ∷ 0 ∷ 0 ∷ 0 ∷ 0 ∷ 0 ∷ 0 ∷ 0 ∷ 0 ∷ 0 ∷ 0 ∷ 0 ∷ 0 ∷ 0 ∷ 0x73b1ab57 ∷ [])) ≡ Valid base
+plain : vid_reading small
+    (words (0x55424921 ∷ 0x01010000 ∷ 0 ∷ 0 ∷ 0 ∷ 0 ∷ 0 ∷ 0 ∷ 0 ∷ 0 ∷ 0 ∷ 0 ∷ 0 ∷ 0 ∷ 0 ∷ 0x73b1ab57 ∷ [])) ≡ Valid base
 unfolding base vid_reading form_of judged first_fault breaks vid_fields header_of check_from remainder
 plain = refl
 
 -- the version isn't compared
-other_version : vid_reading small (words (0x55424921 ∷ 0x09010000 ∷ 0 ∷ 0 ∷ 0 ∷ 0 ∷ 0 ∷ 0 ∷ 0 ∷ 0 ∷ 0 ∷ 0 ∷ 0 ∷ 0 ∷ 0 ∷ 0x9f1935ef ∷ [])) ≡ Valid base
+other_version : vid_reading small
+    (words (0x55424921 ∷ 0x09010000 ∷ 0 ∷ 0 ∷ 0 ∷ 0 ∷ 0 ∷ 0 ∷ 0 ∷ 0 ∷ 0 ∷ 0 ∷ 0 ∷ 0 ∷ 0 ∷ 0x9f1935ef ∷ [])) ≡ Valid base
 unfolding base vid_reading form_of judged first_fault breaks vid_fields header_of check_from remainder
 other_version = refl
 
 -- the first of two broken rules
-copy_flag_2 : vid_reading small (words (0x55424921 ∷ 0x01010200 ∷ 0x000000c8 ∷ 0 ∷ 0 ∷ 0 ∷ 0 ∷ 0 ∷ 0 ∷ 0 ∷ 0 ∷ 0 ∷ 0 ∷ 0 ∷ 0 ∷ 0xc0a9187c ∷ [])) ≡ Fault fault.CopyFlag
+copy_flag_2 : vid_reading small
+    (words (0x55424921 ∷ 0x01010200 ∷ 0x000000c8 ∷ 0 ∷ 0 ∷ 0 ∷ 0 ∷ 0 ∷ 0 ∷ 0 ∷ 0 ∷ 0 ∷ 0 ∷ 0 ∷ 0 ∷ 0xc0a9187c ∷ []))
+    ≡ Fault fault.CopyFlag
 unfolding vid_reading form_of judged first_fault breaks vid_fields header_of check_from remainder
 copy_flag_2 = refl
 
-negative_lnum : vid_reading small (words (0x55424921 ∷ 0x01010000 ∷ 0 ∷ 0x80000000 ∷ 0 ∷ 0 ∷ 0 ∷ 0 ∷ 0 ∷ 0 ∷ 0 ∷ 0 ∷ 0 ∷ 0 ∷ 0 ∷ 0xaab5adc5 ∷ [])) ≡ Fault fault.Negative
+negative_lnum : vid_reading small
+    (words (0x55424921 ∷ 0x01010000 ∷ 0 ∷ 0x80000000 ∷ 0 ∷ 0 ∷ 0 ∷ 0 ∷ 0 ∷ 0 ∷ 0 ∷ 0 ∷ 0 ∷ 0 ∷ 0 ∷ 0xaab5adc5 ∷ []))
+    ≡ Fault fault.Negative
 unfolding vid_reading form_of judged first_fault breaks vid_fields header_of check_from remainder
 negative_lnum = refl
 
-above_the_users : vid_reading small (words (0x55424921 ∷ 0x01010000 ∷ 0x00000080 ∷ 0 ∷ 0 ∷ 0 ∷ 0 ∷ 0 ∷ 0 ∷ 0 ∷ 0 ∷ 0 ∷ 0 ∷ 0 ∷ 0 ∷ 0x6d695d39 ∷ [])) ≡ Fault fault.VolumeId
+above_the_users : vid_reading small
+    (words (0x55424921 ∷ 0x01010000 ∷ 0x00000080 ∷ 0 ∷ 0 ∷ 0 ∷ 0 ∷ 0 ∷ 0 ∷ 0 ∷ 0 ∷ 0 ∷ 0 ∷ 0 ∷ 0 ∷ 0x6d695d39 ∷ []))
+    ≡ Fault fault.VolumeId
 unfolding vid_reading form_of judged first_fault breaks vid_fields header_of check_from remainder
 above_the_users = refl
 
-below_the_internal : vid_reading small (words (0x55424921 ∷ 0x01010000 ∷ 0x7fffeffe ∷ 0 ∷ 0 ∷ 0 ∷ 0 ∷ 0 ∷ 0 ∷ 0 ∷ 0 ∷ 0 ∷ 0 ∷ 0 ∷ 0 ∷ 0x69b63cbf ∷ [])) ≡ Fault fault.VolumeId
+below_the_internal : vid_reading small
+    (words (0x55424921 ∷ 0x01010000 ∷ 0x7fffeffe ∷ 0 ∷ 0 ∷ 0 ∷ 0 ∷ 0 ∷ 0 ∷ 0 ∷ 0 ∷ 0 ∷ 0 ∷ 0 ∷ 0 ∷ 0x69b63cbf ∷ []))
+    ≡ Fault fault.VolumeId
 unfolding vid_reading form_of judged first_fault breaks vid_fields header_of check_from remainder
 below_the_internal = refl
 
-compat_of_a_user : vid_reading small (words (0x55424921 ∷ 0x01010001 ∷ 0 ∷ 0 ∷ 0 ∷ 0 ∷ 0 ∷ 0 ∷ 0 ∷ 0 ∷ 0 ∷ 0 ∷ 0 ∷ 0 ∷ 0 ∷ 0x0d691b16 ∷ [])) ≡ Fault fault.Compat
+compat_of_a_user : vid_reading small
+    (words (0x55424921 ∷ 0x01010001 ∷ 0 ∷ 0 ∷ 0 ∷ 0 ∷ 0 ∷ 0 ∷ 0 ∷ 0 ∷ 0 ∷ 0 ∷ 0 ∷ 0 ∷ 0 ∷ 0x0d691b16 ∷ []))
+    ≡ Fault fault.Compat
 unfolding vid_reading form_of judged first_fault breaks vid_fields header_of check_from remainder
 compat_of_a_user = refl
 
-no_compat_of_the_layout : vid_reading small (words (0x55424921 ∷ 0x01010000 ∷ 0x7fffefff ∷ 0 ∷ 0 ∷ 0 ∷ 0 ∷ 0 ∷ 0 ∷ 0 ∷ 0 ∷ 0 ∷ 0 ∷ 0 ∷ 0 ∷ 0xe6ee13ac ∷ [])) ≡ Fault fault.Compat
+no_compat_of_the_layout : vid_reading small
+    (words (0x55424921 ∷ 0x01010000 ∷ 0x7fffefff ∷ 0 ∷ 0 ∷ 0 ∷ 0 ∷ 0 ∷ 0 ∷ 0 ∷ 0 ∷ 0 ∷ 0 ∷ 0 ∷ 0 ∷ 0xe6ee13ac ∷ []))
+    ≡ Fault fault.Compat
 unfolding vid_reading form_of judged first_fault breaks vid_fields header_of check_from remainder
 no_compat_of_the_layout = refl
 
-compat_3 : vid_reading small (words (0x55424921 ∷ 0x01010003 ∷ 0x7fffefff ∷ 0 ∷ 0 ∷ 0 ∷ 0 ∷ 0 ∷ 0 ∷ 0 ∷ 0 ∷ 0 ∷ 0 ∷ 0 ∷ 0 ∷ 0x6587c36f ∷ [])) ≡ Fault fault.Compat
+compat_3 : vid_reading small
+    (words (0x55424921 ∷ 0x01010003 ∷ 0x7fffefff ∷ 0 ∷ 0 ∷ 0 ∷ 0 ∷ 0 ∷ 0 ∷ 0 ∷ 0 ∷ 0 ∷ 0 ∷ 0 ∷ 0 ∷ 0x6587c36f ∷ []))
+    ≡ Fault fault.Compat
 unfolding vid_reading form_of judged first_fault breaks vid_fields header_of check_from remainder
 compat_3 = refl
 
-preserved : vid_reading small (words (0x55424921 ∷ 0x01010004 ∷ 0x7fffefff ∷ 0 ∷ 0 ∷ 0 ∷ 0 ∷ 0 ∷ 0 ∷ 0 ∷ 0 ∷ 0 ∷ 0 ∷ 0 ∷ 0 ∷ 0xc6fdd4e9 ∷ [])) ≡ Valid (record base { compat = 4; vol_id = 0x7fffefff })
+preserved : vid_reading small
+    (words (0x55424921 ∷ 0x01010004 ∷ 0x7fffefff ∷ 0 ∷ 0 ∷ 0 ∷ 0 ∷ 0 ∷ 0 ∷ 0 ∷ 0 ∷ 0 ∷ 0 ∷ 0 ∷ 0 ∷ 0xc6fdd4e9 ∷ []))
+    ≡ Valid (record base { compat = 4; vol_id = 0x7fffefff })
 unfolding base vid_reading form_of judged first_fault breaks vid_fields header_of check_from remainder
 preserved = refl
 
-kind_3 : vid_reading small (words (0x55424921 ∷ 0x01030000 ∷ 0 ∷ 0 ∷ 0 ∷ 0 ∷ 0 ∷ 0 ∷ 0 ∷ 0 ∷ 0 ∷ 0 ∷ 0 ∷ 0 ∷ 0 ∷ 0x37b6cd77 ∷ [])) ≡ Fault fault.Kind
+kind_3 : vid_reading small
+    (words (0x55424921 ∷ 0x01030000 ∷ 0 ∷ 0 ∷ 0 ∷ 0 ∷ 0 ∷ 0 ∷ 0 ∷ 0 ∷ 0 ∷ 0 ∷ 0 ∷ 0 ∷ 0 ∷ 0x37b6cd77 ∷ []))
+    ≡ Fault fault.Kind
 unfolding vid_reading form_of judged first_fault breaks vid_fields header_of check_from remainder
 kind_3 = refl
 
-largest_pad : vid_reading small (words (0x55424921 ∷ 0x01010000 ∷ 0 ∷ 0 ∷ 0 ∷ 0 ∷ 0 ∷ 0x000000bf ∷ 0 ∷ 0 ∷ 0 ∷ 0 ∷ 0 ∷ 0 ∷ 0 ∷ 0x92418ba8 ∷ [])) ≡ Valid (record base { data_pad = 191 })
+largest_pad : vid_reading small
+    (words (0x55424921 ∷ 0x01010000 ∷ 0 ∷ 0 ∷ 0 ∷ 0 ∷ 0 ∷ 0x000000bf ∷ 0 ∷ 0 ∷ 0 ∷ 0 ∷ 0 ∷ 0 ∷ 0 ∷ 0x92418ba8 ∷ []))
+    ≡ Valid (record base { data_pad = 191 })
 unfolding base vid_reading form_of judged first_fault breaks vid_fields header_of check_from remainder
 largest_pad = refl
 
-pad_of_half : vid_reading small (words (0x55424921 ∷ 0x01010000 ∷ 0 ∷ 0 ∷ 0 ∷ 0 ∷ 0 ∷ 0x000000c0 ∷ 0 ∷ 0 ∷ 0 ∷ 0 ∷ 0 ∷ 0 ∷ 0 ∷ 0xe862e82e ∷ [])) ≡ Fault fault.Pad
+pad_of_half : vid_reading small
+    (words (0x55424921 ∷ 0x01010000 ∷ 0 ∷ 0 ∷ 0 ∷ 0 ∷ 0 ∷ 0x000000c0 ∷ 0 ∷ 0 ∷ 0 ∷ 0 ∷ 0 ∷ 0 ∷ 0 ∷ 0xe862e82e ∷ []))
+    ≡ Fault fault.Pad
 unfolding vid_reading form_of judged first_fault breaks vid_fields header_of check_from remainder
 pad_of_half = refl
 
-copy_too_large : vid_reading small (words (0x55424921 ∷ 0x01010100 ∷ 0 ∷ 0 ∷ 0 ∷ 0x00000181 ∷ 0 ∷ 0 ∷ 0 ∷ 0 ∷ 0 ∷ 0 ∷ 0 ∷ 0 ∷ 0 ∷ 0xd86c0176 ∷ [])) ≡ Fault fault.Size
+copy_too_large : vid_reading small
+    (words (0x55424921 ∷ 0x01010100 ∷ 0 ∷ 0 ∷ 0 ∷ 0x00000181 ∷ 0 ∷ 0 ∷ 0 ∷ 0 ∷ 0 ∷ 0 ∷ 0 ∷ 0 ∷ 0 ∷ 0xd86c0176 ∷ []))
+    ≡ Fault fault.Size
 unfolding vid_reading form_of judged first_fault breaks vid_fields header_of check_from remainder
 copy_too_large = refl
 
-not_full_before_the_last : vid_reading small (words (0x55424921 ∷ 0x01020000 ∷ 0 ∷ 0 ∷ 0 ∷ 0x0000017f ∷ 2 ∷ 0 ∷ 0 ∷ 0 ∷ 0 ∷ 0 ∷ 0 ∷ 0 ∷ 0 ∷ 0xe888f7b0 ∷ [])) ≡ Fault fault.Size
+not_full_before_the_last : vid_reading small
+    (words (0x55424921 ∷ 0x01020000 ∷ 0 ∷ 0 ∷ 0 ∷ 0x0000017f ∷ 2 ∷ 0 ∷ 0 ∷ 0 ∷ 0 ∷ 0 ∷ 0 ∷ 0 ∷ 0 ∷ 0xe888f7b0 ∷ []))
+    ≡ Fault fault.Size
 unfolding vid_reading form_of judged first_fault breaks vid_fields header_of check_from remainder
 not_full_before_the_last = refl
 
-not_full_at_the_last : vid_reading small (words (0x55424921 ∷ 0x01020000 ∷ 0 ∷ 1 ∷ 0 ∷ 0x0000017f ∷ 2 ∷ 0 ∷ 0 ∷ 0 ∷ 0 ∷ 0 ∷ 0 ∷ 0 ∷ 0 ∷ 0x4b1edffc ∷ [])) ≡ Valid (record base { kind = Static; used_ebs = 2; data_size = 383; lnum = 1 })
+not_full_at_the_last : vid_reading small
+    (words (0x55424921 ∷ 0x01020000 ∷ 0 ∷ 1 ∷ 0 ∷ 0x0000017f ∷ 2 ∷ 0 ∷ 0 ∷ 0 ∷ 0 ∷ 0 ∷ 0 ∷ 0 ∷ 0 ∷ 0x4b1edffc ∷ []))
+    ≡ Valid (record base { kind = Static; used_ebs = 2; data_size = 383; lnum = 1 })
 unfolding base vid_reading form_of judged first_fault breaks vid_fields header_of check_from remainder
 not_full_at_the_last = refl
 
-behind_the_last : vid_reading small (words (0x55424921 ∷ 0x01020000 ∷ 0 ∷ 2 ∷ 0 ∷ 0x0000017f ∷ 2 ∷ 0 ∷ 0 ∷ 0 ∷ 0 ∷ 0 ∷ 0 ∷ 0 ∷ 0 ∷ 0x74d5a169 ∷ [])) ≡ Fault fault.Lnum
+behind_the_last : vid_reading small
+    (words (0x55424921 ∷ 0x01020000 ∷ 0 ∷ 2 ∷ 0 ∷ 0x0000017f ∷ 2 ∷ 0 ∷ 0 ∷ 0 ∷ 0 ∷ 0 ∷ 0 ∷ 0 ∷ 0 ∷ 0x74d5a169 ∷ []))
+    ≡ Fault fault.Lnum
 unfolding vid_reading form_of judged first_fault breaks vid_fields header_of check_from remainder
 behind_the_last = refl
 
-static_without_used_ebs : vid_reading small (words (0x55424921 ∷ 0x01020000 ∷ 0 ∷ 0 ∷ 0 ∷ 1 ∷ 0 ∷ 0 ∷ 0 ∷ 0 ∷ 0 ∷ 0 ∷ 0 ∷ 0 ∷ 0 ∷ 0x95456978 ∷ [])) ≡ Fault fault.UsedEbs
+static_without_used_ebs : vid_reading small
+    (words (0x55424921 ∷ 0x01020000 ∷ 0 ∷ 0 ∷ 0 ∷ 1 ∷ 0 ∷ 0 ∷ 0 ∷ 0 ∷ 0 ∷ 0 ∷ 0 ∷ 0 ∷ 0 ∷ 0x95456978 ∷ []))
+    ≡ Fault fault.UsedEbs
 unfolding vid_reading form_of judged first_fault breaks vid_fields header_of check_from remainder
 static_without_used_ebs = refl
 
-dynamic_with_used_ebs : vid_reading small (words (0x55424921 ∷ 0x01010000 ∷ 0 ∷ 0 ∷ 0 ∷ 0 ∷ 1 ∷ 0 ∷ 0 ∷ 0 ∷ 0 ∷ 0 ∷ 0 ∷ 0 ∷ 0 ∷ 0x45433ba4 ∷ [])) ≡ Fault fault.UsedEbs
+dynamic_with_used_ebs : vid_reading small
+    (words (0x55424921 ∷ 0x01010000 ∷ 0 ∷ 0 ∷ 0 ∷ 0 ∷ 1 ∷ 0 ∷ 0 ∷ 0 ∷ 0 ∷ 0 ∷ 0 ∷ 0 ∷ 0 ∷ 0x45433ba4 ∷ []))
+    ≡ Fault fault.UsedEbs
 unfolding vid_reading form_of judged first_fault breaks vid_fields header_of check_from remainder
 dynamic_with_used_ebs = refl
 
-check_of_no_copy : vid_reading small (words (0x55424921 ∷ 0x01010000 ∷ 0 ∷ 0 ∷ 0 ∷ 0 ∷ 0 ∷ 0 ∷ 1 ∷ 0 ∷ 0 ∷ 0 ∷ 0 ∷ 0 ∷ 0 ∷ 0xd63a3b59 ∷ [])) ≡ Fault fault.CopyFields
+check_of_no_copy : vid_reading small
+    (words (0x55424921 ∷ 0x01010000 ∷ 0 ∷ 0 ∷ 0 ∷ 0 ∷ 0 ∷ 0 ∷ 1 ∷ 0 ∷ 0 ∷ 0 ∷ 0 ∷ 0 ∷ 0 ∷ 0xd63a3b59 ∷ []))
+    ≡ Fault fault.CopyFields
 unfolding vid_reading form_of judged first_fault breaks vid_fields header_of check_from remainder
 check_of_no_copy = refl
 
-copy_of_nothing : vid_reading small (words (0x55424921 ∷ 0x01010100 ∷ 0 ∷ 0 ∷ 0 ∷ 0 ∷ 0 ∷ 0 ∷ 0 ∷ 0 ∷ 0 ∷ 0 ∷ 0 ∷ 0 ∷ 0 ∷ 0x721402e1 ∷ [])) ≡ Fault fault.CopyFields
+copy_of_nothing : vid_reading small
+    (words (0x55424921 ∷ 0x01010100 ∷ 0 ∷ 0 ∷ 0 ∷ 0 ∷ 0 ∷ 0 ∷ 0 ∷ 0 ∷ 0 ∷ 0 ∷ 0 ∷ 0 ∷ 0 ∷ 0x721402e1 ∷ []))
+    ≡ Fault fault.CopyFields
 unfolding vid_reading form_of judged first_fault breaks vid_fields header_of check_from remainder
 copy_of_nothing = refl
 
-wrong_check : vid_reading small (words (0x55424921 ∷ 0x01010000 ∷ 0 ∷ 0 ∷ 0 ∷ 0 ∷ 0 ∷ 0 ∷ 0 ∷ 0 ∷ 0 ∷ 0 ∷ 0 ∷ 0 ∷ 0 ∷ 0x73b1ab56 ∷ [])) ≡ Corrupt
+wrong_check : vid_reading small
+    (words (0x55424921 ∷ 0x01010000 ∷ 0 ∷ 0 ∷ 0 ∷ 0 ∷ 0 ∷ 0 ∷ 0 ∷ 0 ∷ 0 ∷ 0 ∷ 0 ∷ 0 ∷ 0 ∷ 0x73b1ab56 ∷ [])) ≡ Corrupt
 unfolding vid_reading form_of check_from remainder
 wrong_check = refl
 
@@ -122,14 +163,28 @@ zeros : vid_reading small (replicate 64 0) ≡ Corrupt
 unfolding vid_reading form_of
 zeros = refl
 
-layout_written : vid_bytes (record base { compat = 5; vol_id = 0x7fffefff; lnum = 1 }) ≡ words (0x55424921 ∷ 0x01010005 ∷ 0x7fffefff ∷ 1 ∷ 0 ∷ 0 ∷ 0 ∷ 0 ∷ 0 ∷ 0 ∷ 0 ∷ 0 ∷ 0 ∷ 0 ∷ 0 ∷ 0x1bb34ce4 ∷ [])
+layout_written : vid_bytes (record base { compat = 5; vol_id = 0x7fffefff; lnum = 1 })
+    ≡ words (0x55424921 ∷ 0x01010005 ∷ 0x7fffefff ∷ 1 ∷ 0 ∷ 0 ∷ 0 ∷ 0 ∷ 0 ∷ 0 ∷ 0 ∷ 0 ∷ 0 ∷ 0 ∷ 0 ∷ 0x1bb34ce4 ∷ [])
 unfolding base fields_from check_from remainder
 layout_written = refl
 
-copy_written : vid_bytes (record base { copy_flag = true; lnum = 2; data_size = 128; data_crc = 0x11223344; sqnum = 0x0102030405060708 }) ≡ words (0x55424921 ∷ 0x01010100 ∷ 0 ∷ 2 ∷ 0 ∷ 0x00000080 ∷ 0 ∷ 0 ∷ 0x11223344 ∷ 0 ∷ 0x01020304 ∷ 0x05060708 ∷ 0 ∷ 0 ∷ 0 ∷ 0x4a2291d7 ∷ [])
+copy_written : vid_bytes
+    (record base { copy_flag = true; lnum = 2; data_size = 128; data_crc = 0x11223344; sqnum = 0x0102030405060708 })
+    ≡ words (0x55424921 ∷ 0x01010100 ∷ 0 ∷ 2 ∷ 0 ∷ 0x00000080 ∷ 0 ∷ 0 ∷ 0x11223344 ∷ 0 ∷ 0x01020304 ∷ 0x05060708 ∷ 0 ∷ 0
+    ∷ 0 ∷ 0x4a2291d7 ∷ [])
 unfolding base fields_from check_from remainder
 copy_written = refl
 
-static_written : vid_bytes (record base { kind = Static; vol_id = 3; data_size = 1; used_ebs = 2; data_pad = 128; data_crc = 0x00ffffff; sqnum = 7 }) ≡ words (0x55424921 ∷ 0x01020000 ∷ 3 ∷ 0 ∷ 0 ∷ 1 ∷ 2 ∷ 0x00000080 ∷ 0x00ffffff ∷ 0 ∷ 0 ∷ 7 ∷ 0 ∷ 0 ∷ 0 ∷ 0xce606c01 ∷ [])
+static_written : vid_bytes
+    (record base {
+      kind = Static;
+      vol_id = 3;
+      data_size = 1;
+      used_ebs = 2;
+      data_pad = 128;
+      data_crc = 0x00ffffff;
+      sqnum = 7;
+    }) ≡ words (0x55424921 ∷ 0x01020000 ∷ 3 ∷ 0 ∷ 0 ∷ 1 ∷ 2 ∷ 0x00000080 ∷ 0x00ffffff ∷ 0 ∷ 0 ∷ 7 ∷ 0 ∷ 0 ∷ 0
+    ∷ 0xce606c01 ∷ [])
 unfolding base fields_from check_from remainder
 static_written = refl

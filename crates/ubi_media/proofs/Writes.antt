@@ -17,7 +17,8 @@ use Rattle.ubi_media.specs.declared.vid.VidHeader.{VidHeader}
 pub put_all : (at k : ℕ) (xs bytes : List ℕ) → length xs ≡ k → put_mid at k bytes xs ≡ overwrite at xs bytes
 unfolding overwrite
 put_all at k xs bytes e =
-    rw e (ap (λ (ys : List ℕ). take at bytes ++ (xs ++ ys)) (drop-drop k at bytes) ∙ sym (append_assoc (take at bytes) xs (drop (at + k) bytes)))
+    rw e (ap (λ (ys : List ℕ). take at bytes ++ (xs ++ ys)) (drop-drop k at bytes)
+    ∙ sym (append_assoc (take at bytes) xs (drop (at + k) bytes)))
 
 -- a write of k bytes into the part of k bytes
 pub put_is : (at k : ℕ) (xs bytes : List ℕ) → length xs ≡ k → at + k ≤ length bytes
@@ -28,10 +29,12 @@ put_is at k xs bytes e h =
     rw (none, append-nil xs) (put_all at k xs bytes e)
 
 -- a write over the end of bytes
-overwrite_end : (at : ℕ) (xs front rest : List ℕ) → length front ≡ at → length rest ≡ length xs → overwrite at xs (front ++ rest) ≡ front ++ xs
+overwrite_end : (at : ℕ) (xs front rest : List ℕ) → length front ≡ at → length rest ≡ length xs
+    → overwrite at xs (front ++ rest) ≡ front ++ xs
 unfolding overwrite
 overwrite_end at xs front rest e h =
-    let none : drop (at + length xs) (front ++ rest) ≡ [] = drop_of_length-le (front ++ rest) (omega (arith, length-append front rest)) in
+    let none : drop (at + length xs) (front ++ rest) ≡ [] =
+    drop_of_length-le (front ++ rest) (omega (arith, length-append front rest)) in
     rw (none, take_at front rest at e) (append-nil (front ++ xs))
 
 -- the check over the last four bytes
@@ -53,7 +56,8 @@ unfolding overwrite
 ec_assembled s h = refl
 
 pub ec_sealed : (s : Sizes) (h : EcHeader)
-    → overwrite 60 (big_bytes 4 (check (take 60 (ec_front s h ++ replicate 4 0)))) (ec_front s h ++ replicate 4 0) ≡ ec_bytes s h
+    → overwrite 60 (big_bytes 4 (check (take 60 (ec_front s h ++ replicate 4 0)))) (ec_front s h ++ replicate 4 0)
+    ≡ ec_bytes s h
 unfolding overwrite
 ec_sealed s h = refl
 
@@ -73,6 +77,7 @@ unfolding overwrite
 vid_assembled f = refl
 
 pub vid_sealed : (h : VidHeader)
-    → overwrite 60 (big_bytes 4 (check (take 60 (vid_front (fields_from h) ++ replicate 4 0)))) (vid_front (fields_from h) ++ replicate 4 0) ≡ vid_bytes h
+    → overwrite 60 (big_bytes 4 (check (take 60 (vid_front (fields_from h) ++ replicate 4 0))))
+    (vid_front (fields_from h) ++ replicate 4 0) ≡ vid_bytes h
 unfolding overwrite
 vid_sealed h = refl

@@ -36,14 +36,16 @@ unfolding overwrite
 overwrite-is at xs bytes = refl
 
 -- behind what is filled up already
-pub overwrite_filled : (n at : ℕ) (front c : List ℕ) → length front ≡ at → overwrite at c (filled n front) ≡ filled n (front ++ c)
+pub overwrite_filled : (n at : ℕ) (front c : List ℕ) → length front ≡ at
+    → overwrite at c (filled n front) ≡ filled n (front ++ c)
 overwrite_filled n at front c e =
     let r = n - at in
     let more : n - at - length c ≡ n - length (front ++ c) = (let k = length-append front c in omega arith) in
     overwrite-is at c (filled n front)
     ∙ ap (λ x. take at x ++ c ++ drop (at + length c) x) (filled-by n at front e)
     ∙ ap (λ x. x ++ c ++ drop (at + length c) (front ++ blank r)) (take_at front (blank r) at e)
-    ∙ ap (λ x. front ++ c ++ x) (sym (drop-drop (length c) at (front ++ blank r)) ∙ ap (drop (length c)) (drop_at front (blank r) at e) ∙ drop_blank (length c) r)
+    ∙ ap (λ x. front ++ c ++ x) (sym (drop-drop (length c) at (front ++ blank r))
+    ∙ ap (drop (length c)) (drop_at front (blank r) at e) ∙ drop_blank (length c) r)
     ∙ ap (λ k. (front ++ c) ++ blank k) more ∙ sym (filled-is n (front ++ c))
 
 pub filled_more : (n k : ℕ) (xs : List ℕ) → length xs ≤ k → k ≤ n → filled n (filled k xs) ≡ filled n xs
@@ -53,10 +55,12 @@ filled_more n k xs h l =
     ∙ append_assoc xs (blank (k - length xs)) (blank (n - k))
     ∙ ap (λ x. xs ++ x) (join_blank (k - length xs) (n - k) ∙ ap blank e) ∙ sym (filled-is n xs)
 
-pub filled_inner : (n k : ℕ) (a b : List ℕ) → length b ≤ k → length a + k ≤ n → filled n (a ++ filled k b) ≡ filled n (a ++ b)
+pub filled_inner : (n k : ℕ) (a b : List ℕ) → length b ≤ k → length a + k ≤ n
+    → filled n (a ++ filled k b) ≡ filled n (a ++ b)
 filled_inner n k a b h l =
     let e : (k - length b) + (n - (length a + k)) ≡ n - length (a ++ b) = (let m = length-append a b in omega arith) in
-    let whole : length (a ++ filled k b) ≡ length a + k = length-append a (filled k b) ∙ ap (λ j. length a + j) (length-filled k b h) in
+    let whole : length (a ++ filled k b) ≡ length a + k = length-append a (filled k b)
+    ∙ ap (λ j. length a + j) (length-filled k b h) in
     filled-by n (length a + k) (a ++ filled k b) whole
     ∙ ap (λ x. (a ++ x) ++ blank (n - (length a + k))) (filled-is k b)
     ∙ ap (λ x. x ++ blank (n - (length a + k))) (sym (append_assoc a b (blank (k - length b))))
@@ -67,13 +71,15 @@ pub filled-none : (n : ℕ) → filled n [] ≡ blank n
 filled-none n = filled-is n [] ∙ ap blank (omega arith)
 
 -- written over the front
-pub overwrite_front : (n k : ℕ) (c xs : List ℕ) → length xs ≤ k → length c ≡ k → overwrite 0 c (filled n xs) ≡ filled n c
+pub overwrite_front : (n k : ℕ) (c xs : List ℕ) → length xs ≤ k → length c ≡ k
+    → overwrite 0 c (filled n xs) ≡ filled n c
 overwrite_front n k c xs h e =
     let gap : (n - length xs) - (k - length xs) ≡ n - k = omega arith in
     let end : 0 + length c ≡ k = omega arith in
     overwrite-is 0 c (filled n xs) ∙ ap (λ j. c ++ drop j (filled n xs)) end
     ∙ ap (λ x. c ++ drop k x) (filled-is n xs)
-    ∙ ap (λ x. c ++ x) (drop_past xs (blank (n - length xs)) k h ∙ drop_blank (k - length xs) (n - length xs) ∙ ap blank gap)
+    ∙ ap (λ x. c ++ x) (drop_past xs (blank (n - length xs)) k h ∙ drop_blank (k - length xs) (n - length xs)
+    ∙ ap blank gap)
     ∙ sym (filled-by n k c e)
   where
     drop_past : (xs ys : List ℕ) (k : ℕ) → length xs ≤ k → drop k (xs ++ ys) ≡ drop (k - length xs) ys
@@ -82,7 +88,8 @@ overwrite_front n k c xs h e =
     drop_past (x ∷ xs) ys (suc k) h = drop_past xs ys k (omega arith) ∙ ap (λ j. drop j ys) (omega arith)
 
 -- a part of what stands behind a list and is 0xFF
-pub behind : (xs : List ℕ) (n at k : ℕ) → length xs ≤ at → at + k ≤ length xs + n → slice_range (xs ++ blank n) at (at + k) ≡ blank k
+pub behind : (xs : List ℕ) (n at k : ℕ) → length xs ≤ at → at + k ≤ length xs + n
+    → slice_range (xs ++ blank n) at (at + k) ≡ blank k
 behind xs n at k from to =
     let count : at + k - at ≡ k = omega arith in
     let split : at ≡ length xs + (at - length xs) = omega arith in

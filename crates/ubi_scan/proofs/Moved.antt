@@ -36,13 +36,17 @@ module _ (z : Sizes) (bs cs : List (List ℕ)) (to : ℕ → ℕ) (h : IsMoved b
 
   pub member_to : (of : Leb) (p : ℕ) → IsMember z bs of p → IsMember z cs of (to p)
   member_to of p m =
-      record { inside = (let k = h.stays p m.inside in let e = h.len in omega arith); named = ap (named_in z) (same_back p m.inside) ∙ m.named }
+      record {
+        inside = (let k = h.stays p m.inside in let e = h.len in omega arith);
+        named = ap (named_in z) (same_back p m.inside) ∙ m.named;
+      }
 
   -- what holds of the number and the goodness of each member
   over : (P : ℕ → Bool → Type 0) (of : Leb) → ((q : ℕ) → IsMember z bs of q → P (sqnum_at z bs q) (good_at z bs q))
       → (q : ℕ) → IsMember z cs of q → P (sqnum_at z cs q) (good_at z cs q)
   over P of all q m =
-      subst (λ b. P (sqnum_in z b) (good_in z b)) (sym (h.same q (inside_of q m.inside))) (all (to q) (member_of of q m))
+      subst (λ b. P (sqnum_in z b) (good_in z b)) (sym (h.same q (inside_of q m.inside)))
+      (all (to q) (member_of of q m))
 
   pub wins_to : (of : Leb) (p : ℕ) → Wins z bs of p → Wins z cs of (to p)
   wins_to of p w =
@@ -52,8 +56,13 @@ module _ (z : Sizes) (bs cs : List (List ℕ)) (to : ℕ → ℕ) (h : IsMoved b
       record {
         member = member_to of p w.member;
         best = elim w.best [
-          | inl n ↦ inl (g ∙ n.0, over (λ t f. f ≡ true → t ≤ sqnum_at z cs (to p)) of (λ q m y. (let k = n.1 q m y in omega arith)))
-          | inr n ↦ inr (over (λ t f. (f ≡ false) × (sqnum_at z cs (to p) ≤ t)) of (λ q m. ((n q m).0, (let k = (n q m).1 in omega arith))))
+          | inl n ↦ inl (
+            g ∙ n.0,
+            over (λ t f. f ≡ true → t ≤ sqnum_at z cs (to p)) of
+                (λ q m y. (let k = n.1 q m y in omega arith)),
+          )
+          | inr n ↦ inr (over (λ t f. (f ≡ false) × (sqnum_at z cs (to p) ≤ t)) of
+              (λ q m. ((n q m).0, (let k = (n q m).1 in omega arith))))
         ];
       }
 
@@ -91,7 +100,8 @@ module _ (z : Sizes) (bs cs : List (List ℕ)) (to : ℕ → ℕ) (h : IsMoved b
 pub trade : ℕ → ℕ → ℕ → ℕ
 trade i j p = cond (eqb p i) j (cond (eqb p j) i p)
 
-swap_is : (l : List (List ℕ)) (i j : ℕ) → i < length l → j < length l → swap l i j ≡ set (set l i (block l j)) j (block l i)
+swap_is : (l : List (List ℕ)) (i j : ℕ) → i < length l → j < length l
+    → swap l i j ≡ set (set l i (block l j)) j (block l i)
 swap_is [] i j a b = absurd (omega arith)
 swap_is (x ∷ xs) i j a b =
     let e = get_or_default (x ∷ xs) j x [] b in
@@ -118,17 +128,21 @@ trade_stays : (i j p n : ℕ) → i < n → j < n → p < n → trade i j p < n
 unfolding trade
 trade_stays i j p n a b c = grind (arith, nat_tests)
 
-swapped_block : (bs : List (List ℕ)) (i j p : ℕ) → i < length bs → j < length bs → block (set (set bs i (block bs j)) j (block bs i)) p ≡ block bs (trade i j p)
+swapped_block : (bs : List (List ℕ)) (i j p : ℕ) → i < length bs → j < length bs
+    → block (set (set bs i (block bs j)) j (block bs i)) p ≡ block bs (trade i j p)
 swapped_block bs i j p a b =
     let first = set bs i (block bs j) in
     let k : j < length first = let e = length-set bs i (block bs j) in omega arith in
     elim (cases_eq p j) [
       | inl e ↦ elim (cases_eq p i) [
-        | inl f ↦ ap (block (set first j (block bs i))) e ∙ get_or-set_same first j (block bs i) [] k ∙ ap (block bs) (sym f ∙ e ∙ sym (trade_first i j p f))
-        | inr f ↦ ap (block (set first j (block bs i))) e ∙ get_or-set_same first j (block bs i) [] k ∙ ap (block bs) (sym (trade_second i j p f e))
+        | inl f ↦ ap (block (set first j (block bs i))) e ∙ get_or-set_same first j (block bs i) [] k
+            ∙ ap (block bs) (sym f ∙ e ∙ sym (trade_first i j p f))
+        | inr f ↦ ap (block (set first j (block bs i))) e ∙ get_or-set_same first j (block bs i) [] k
+            ∙ ap (block bs) (sym (trade_second i j p f e))
       ]
       | inr e ↦ get_or-set_other first j p (block bs i) [] e ∙ elim (cases_eq p i) [
-        | inl f ↦ ap (block first) f ∙ get_or-set_same bs i (block bs j) [] a ∙ ap (block bs) (sym (trade_first i j p f))
+        | inl f ↦ ap (block first) f ∙ get_or-set_same bs i (block bs j) [] a
+            ∙ ap (block bs) (sym (trade_first i j p f))
         | inr f ↦ get_or-set_other bs i p (block bs j) [] f ∙ ap (block bs) (sym (trade_other i j p f e))
       ]
     ]
@@ -143,4 +157,5 @@ swapped bs i j a b = record {
 
 pub no_fault_in_any_order : (z : Sizes) (bs cs : List (List ℕ)) → IsPermutation bs cs → NoFault z bs → NoFault z cs
 no_fault_in_any_order z bs cs moved none =
-    IsPermutation-keeps bs (NoFault z) none (λ l i j a b k. clean_to z l (swap l i j) (trade i j) (swapped l i j a b) k) cs moved
+    IsPermutation-keeps bs (NoFault z) none (λ l i j a b k. clean_to z l (swap l i j) (trade i j) (swapped l i j a b) k)
+    cs moved

@@ -32,32 +32,45 @@ module _ (s : Sizes) (bs : List (List ℕ)) where
   }
 
   -- so the copy c decides, if it can
-  decides : (c : ℕ) (what : CopyRead) → c < 2 → NoneDecides c → CopyIs s bs c what → can_decide what ≡ true → Decides s bs c what
+  decides : (c : ℕ) (what : CopyRead) → c < 2 → NoneDecides c → CopyIs s bs c what → can_decide what ≡ true
+      → Decides s bs c what
   decides c what l h is can = record {
     is = is;
     can = can;
     before = elim (cases_order c 0) [
       | inl e ↦ inl e
-      | inr o ↦ elim o [ inl less ↦ absurd (omega arith) | inr more ↦ (let zero = h.each 0 more in inr (omega arith, zero.0, zero.1, zero.2)) ]
+      | inr o ↦ elim o [
+        | inl less ↦ absurd (omega arith)
+        | inr more ↦ (let zero = h.each 0 more in inr (omega arith, zero.0, zero.1, zero.2))
+      ]
     ];
   }
 
   pub table_chosen : (c : ℕ) (t : Records) → c < 2 → NoneDecides c → IsCopyTable s bs c (Some t) → IsTable s bs t
   table_chosen c t l h k = inr (c, decides c (copy.Good t) l h k.0 refl, k.1)
 
-  pub fault_chosen : (c : ℕ) (cause : Refusal) → c < 2 → NoneDecides c → IsCopyFault s bs c cause → IsTableFault s bs cause
+  pub fault_chosen : (c : ℕ) (cause : Refusal) → c < 2 → NoneDecides c → IsCopyFault s bs c cause
+      → IsTableFault s bs cause
   fault_chosen c (refusal.Record p slot f) l h k = (c, decides c (copy.Faulty slot f) l h k.0 refl, k.1)
   fault_chosen c (refusal.SameName p i j) l h k = (c, decides c (copy.Twice i j) l h k.0 refl, k.1)
   fault_chosen c refusal.NoSpace l h k = (c, k.0, decides c (copy.Good k.0) l h k.1 refl, k.2)
   fault_chosen c _ l h k = absurd k
 
   -- where neither can, both are corrupt
-  pub both_corrupt : (found : Found) (next : ℕ × ℕ) → IsScan s bs found → NoneDecides 2 → finite.get found.winners (layout, next.0) ≡ Some next.1
+  pub both_corrupt : (found : Found) (next : ℕ × ℕ) → IsScan s bs found → NoneDecides 2
+      → finite.get found.winners (layout, next.0) ≡ Some next.1
       → IsTableFault s bs refusal.BothCorrupt
   both_corrupt found next scan h e =
-      let w : Wins s bs (layout, next.0) next.1 = subst (λ o. MatchOption o (NoMember s bs (layout, next.0)) (Wins s bs (layout, next.0))) e (scan.winners (layout, next.0)) in
-      ((next.0, next.1, w.member), λ c what l is. (let k = h.each c l in ap can_decide (copy_unique s bs scan.clean c what k.0 is k.1) ∙ k.2))
+      let w : Wins s bs (layout, next.0) next.1 =
+      subst (λ o. MatchOption o (NoMember s bs (layout, next.0)) (Wins s bs (layout, next.0))) e
+      (scan.winners (layout, next.0)) in (
+        (next.0, next.1, w.member),
+        λ c what l is. (let k = h.each c l in
+            ap can_decide (copy_unique s bs scan.clean c what k.0 is k.1) ∙ k.2),
+      )
 
   -- where there is none, the layout volume has no member
-  pub no_copies : (found : Found) → IsScan s bs found → ((l : ℕ) → finite.get found.winners (layout, l) ≡ None) → (c : ℕ) → NoMember s bs (layout, c)
-  no_copies found scan none c = subst (λ o. MatchOption o (NoMember s bs (layout, c)) (Wins s bs (layout, c))) (none c) (scan.winners (layout, c))
+  pub no_copies : (found : Found) → IsScan s bs found → ((l : ℕ) → finite.get found.winners (layout, l) ≡ None)
+      → (c : ℕ) → NoMember s bs (layout, c)
+  no_copies found scan none c = subst (λ o. MatchOption o (NoMember s bs (layout, c)) (Wins s bs (layout, c))) (none c)
+      (scan.winners (layout, c))

@@ -31,8 +31,10 @@ module _ (s : Sizes) (bytes : List ℕ) where
   copy_sizes = sizes_by (find (λ e. is_faulty e.1) (readings s bytes))
 
 -- why a copy gives none is why there is none
-pub error_of_copy : (s : Sizes) (k : Source) (c : ℕ) (e : StreamError) → c < 2 → WhereHeld k (λ bytes. NoneDecides s (blocks_of s bytes) c) → IsCopyOfError s k c e → IsTableOfError s k e
-error_of_copy s k c (stream.Refused cause) l none h = λ bytes holds. fault_chosen s (blocks_of s bytes) c cause l (none bytes holds) (h bytes holds)
+pub error_of_copy : (s : Sizes) (k : Source) (c : ℕ) (e : StreamError) → c < 2
+    → WhereHeld k (λ bytes. NoneDecides s (blocks_of s bytes) c) → IsCopyOfError s k c e → IsTableOfError s k e
+error_of_copy s k c (stream.Refused cause) l none h = λ bytes holds. fault_chosen s (blocks_of s bytes) c cause l
+    (none bytes holds) (h bytes holds)
 error_of_copy s k c (stream.Read p written) l none h = h
 error_of_copy s k c (stream.Write n) l none h = h
 error_of_copy s k c stream.Memory l none h = tt

@@ -12,7 +12,8 @@ names_behind [] d = refl
 names_behind (c ∷ cs) d = ap (λ ns. name_of c ∷ ns) (names_behind cs d)
 
 -- a subcommand that is added brings its name
-pub one_more : (old sub new : Command) (ns : List (List ℕ)) (n : List ℕ) → AddsSubcommand old sub new → subcommand_names old ≡ ns → name_of sub ≡ n
+pub one_more : (old sub new : Command) (ns : List (List ℕ)) (n : List ℕ) → AddsSubcommand old sub new
+    → subcommand_names old ≡ ns → name_of sub ≡ n
     → subcommand_names new ≡ ns ++ n ∷ []
 one_more old sub new ns n adds before called =
     ap names_in adds.subcommands ∙ names_behind (out-Command old).subcommands.items adds.added

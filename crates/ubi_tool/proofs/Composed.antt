@@ -21,13 +21,16 @@ same_sizes : (s z : Sizes) (bytes : List ℕ) → s ≡ z → ◌≡◌ {A = Ima
 same_sizes s z bytes e = ap (λ (t : Sizes). record { sizes = t; bytes = bytes }) e
 
 -- the file of a composed image is accepted with the meaning that is described
-file_accepted : (m : Meant) (spares : ℕ) (o : Outcome) (bytes : List ℕ) → ComposesOf m spares o → option_map (λ v. v.items) o.file ≡ Some bytes
+file_accepted : (m : Meant) (spares : ℕ) (o : Outcome) (bytes : List ℕ) → ComposesOf m spares o
+    → option_map (λ v. v.items) o.file ≡ Some bytes
     → Accepts (image_of m.sizes bytes) m
-file_accepted m spares o bytes (fits room a gives) e = subst (λ b. Accepts (image_of m.sizes b) m) (search (sym gives.file ∙ e)) a
+file_accepted m spares o bytes (fits room a gives) e = subst (λ b. Accepts (image_of m.sizes b) m)
+    (search (sym gives.file ∙ e)) a
 file_accepted m spares o bytes (crowded many gives) e = absurd (let h = sym gives.file ∙ e in cc)
 
 listed : (image : Image) (m : Meant) (p : Outcome) → Accepts image m → Lists image p → Gives p (says (list_lines m) 0)
-listed image m p a (accepted n b gives) = subst (λ k. Gives p (says (list_lines k) 0)) (Accepts-unique image n m b a) gives
+listed image m p a (accepted n b gives) = subst (λ k. Gives p (says (list_lines k) 0))
+    (Accepts-unique image n m b a) gives
 listed image m p a (refused c b gives) = absurd (never_accepted_and_refused image m c a b)
 
 -- what is given is one answer
@@ -38,7 +41,8 @@ one_text o p a b g h k = record {
   file = k.file ∙ sym h.file ∙ g.file;
 }
 
-composed_of : (m : Meant) (spares : ℕ) (o p : Outcome) (a : Answer) → ComposesOf m spares o → ComposesOf m spares p → Gives o a → Gives p a
+composed_of : (m : Meant) (spares : ℕ) (o p : Outcome) (a : Answer) → ComposesOf m spares o → ComposesOf m spares p
+    → Gives o a → Gives p a
 composed_of m spares o p a (fits room ok h) (fits more also k) g = one_text o p a _ g h k
 composed_of m spares o p a (fits room ok h) (crowded many k) g = absurd (omega (arith, room, many))
 composed_of m spares o p a (crowded many h) (fits room ok k) g = absurd (omega (arith, room, many))
@@ -67,7 +71,8 @@ pub lists_composed : (s : Sizes) (text bytes : List ℕ) (spares : ℕ) (o p : O
     → (m : Meant) × ComesTo s text (Ok m) × Gives p (says (list_lines m) 0)
 lists_composed s text bytes spares o p (described m d of_m) e l =
     let sizes : m.sizes ≡ s = ap (λ k. k.sizes) d.2 in
-    let a : Accepts (image_of s bytes) m = subst (λ i. Accepts i m) (same_sizes m.sizes s bytes sizes) (file_accepted m spares o bytes of_m e) in
+    let a : Accepts (image_of s bytes) m = subst (λ i. Accepts i m) (same_sizes m.sizes s bytes sizes)
+    (file_accepted m spares o bytes of_m e) in
     (m, d, listed (image_of s bytes) m p a l)
 lists_composed s text bytes spares o p (unread line c is gives) e l = absurd (let h = sym gives.file ∙ e in cc)
 lists_composed s text bytes spares o p (unmade c is gives) e l = absurd (let h = sym gives.file ∙ e in cc)

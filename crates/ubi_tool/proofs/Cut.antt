@@ -30,7 +30,8 @@ module _ (image : Image) (steps : List Step) (k : ℕ) (bytes : List ℕ) (whole
   cut_whole : IsWhole (record image { bytes = bytes })
   cut_whole = record { some = rw same whole.some; cut = rw same whole.cut; fits = rw same whole.fits }
 
-  pub cut_means : (id lnum : ℕ) (new : List ℕ) → SurvivesCutsOf image id lnum new steps → k ≤ length steps → CutMeans image id lnum new steps k
+  pub cut_means : (id lnum : ℕ) (new : List ℕ) → SurvivesCutsOf image id lnum new steps → k ≤ length steps
+      → CutMeans image id lnum new steps k
   cut_means id lnum new h few =
       let meant : Meant = (if nat_lt k (turn image.sizes steps new) then h.0 else changed h.0 id lnum new) in
       let there : Accepts (record image { bytes = bytes }) meant = record {

@@ -20,18 +20,23 @@ is_open (Some f) h = refl
 -- work that came to an outcome ends so
 pub after_outcome : (answer : Result Outcome ToolError) (there : Bool) (d unread unwritten o : Outcome) → answer ≡ Ok d
     → IsEnded (Ok d) there unread unwritten o → IsEnded answer there unread unwritten o
-after_outcome answer there d unread unwritten o is h = subst (λ (a : Result Outcome ToolError). IsEnded a there unread unwritten o) (sym is) h
+after_outcome answer there d unread unwritten o is h =
+    subst (λ (a : Result Outcome ToolError). IsEnded a there unread unwritten o) (sym is) h
 
 -- work that failed ends so
-pub after_error : (answer : Result Outcome ToolError) (there : Bool) (e : ToolError) (unread unwritten : Outcome) (r : Result Outcome AllocError) → answer ≡ Err e
+pub after_error : (answer : Result Outcome ToolError) (there : Bool) (e : ToolError) (unread unwritten : Outcome)
+    (r : Result Outcome AllocError) → answer ≡ Err e
     → MatchResult r (λ o. (b : Bool) → IsEnded (Err e) b unread unwritten o) (λ _. e ≡ tool.Memory)
     → MatchResult r (IsEnded answer there unread unwritten) (λ _. answer ≡ Err tool.Memory)
-after_error answer there e unread unwritten (Ok o) is h = subst (λ (a : Result Outcome ToolError). IsEnded a there unread unwritten o) (sym is) (h there)
+after_error answer there e unread unwritten (Ok o) is h =
+    subst (λ (a : Result Outcome ToolError). IsEnded a there unread unwritten o) (sym is) (h there)
 after_error answer there e unread unwritten (Err x) is h = is ∙ ap Err h
 
-module _ (answer : Result Outcome ToolError) (there : Bool) (k after : Source) (path out : List ℕ) (answers : Outcome → Type 0) (writes : Type 0) (unread unwritten : Outcome) where
+module _ (answer : Result Outcome ToolError) (there : Bool) (k after : Source) (path out : List ℕ)
+    (answers : Outcome → Type 0) (writes : Type 0) (unread unwritten : Outcome) where
   ends_in : (o : Outcome) → IsEnded answer there unread unwritten o → ((d : Outcome) → answer ≡ Ok d → answers d)
-      → ((d : Outcome) → answer ≡ Ok d → d.status ≡ 0 → writes) → (answer ≡ Err tool.Write → writes) → after ≡ after_run k answer
+      → ((d : Outcome) → answer ≡ Ok d → d.status ≡ 0 → writes) → (answer ≡ Err tool.Write → writes)
+      → after ≡ after_run k answer
       → Gives unread (says (file_line (codes "cannot read ") path) 1) → Gives unwritten (says (file_line (codes "cannot write ") out) 1)
       → Streams k after path out answers writes o
   ends_in o (done is opened) ok late failed known source output = answered (ok o is)
@@ -40,23 +45,28 @@ module _ (answer : Result Outcome ToolError) (there : Bool) (k after : Source) (
   ends_in o (no_write is) ok late failed known source output = no_output (failed is) output
 
   -- the work's answer, and what was to be written where the file failed
-  pub ends : (r : Result Outcome AllocError) → MatchResult r (IsEnded answer there unread unwritten) (λ _. answer ≡ Err tool.Memory)
-      → ((d : Outcome) → answer ≡ Ok d → answers d) → ((d : Outcome) → answer ≡ Ok d → d.status ≡ 0 → writes) → (answer ≡ Err tool.Write → writes)
+  pub ends : (r : Result Outcome AllocError)
+      → MatchResult r (IsEnded answer there unread unwritten) (λ _. answer ≡ Err tool.Memory)
+      → ((d : Outcome) → answer ≡ Ok d → answers d) → ((d : Outcome) → answer ≡ Ok d → d.status ≡ 0 → writes)
+      → (answer ≡ Err tool.Write → writes)
       → after ≡ after_run k answer → Gives unread (says (file_line (codes "cannot read ") path) 1)
       → Gives unwritten (says (file_line (codes "cannot write ") out) 1) → IfOk r (Streams k after path out answers writes)
   ends (Ok o) h ok late failed known source output = ends_in o h ok late failed known source output
   ends (Err e) h ok late failed known source output = tt
 
 -- over a file of which nothing is known
-pub at_places : (size failures : ℕ) (after : Source) (path out : List ℕ) (answers : Outcome → Type 0) (writes : Type 0) (streams : Source → Outcome → Type 0)
-    (o : Outcome) → ((d : Outcome) → answers d → streams (unheld size failures) d) → Streams (unheld size failures) after path out answers writes o
+pub at_places : (size failures : ℕ) (after : Source) (path out : List ℕ) (answers : Outcome → Type 0) (writes : Type 0)
+    (streams : Source → Outcome → Type 0)
+    (o : Outcome) → ((d : Outcome) → answers d → streams (unheld size failures) d)
+    → Streams (unheld size failures) after path out answers writes o
     → OfPlaces path out streams o
 at_places size failures after path out answers writes streams o f (answered h) = told size failures (f o h)
 at_places size failures after path out answers writes streams o f (no_source is line) = cannot_read line
 at_places size failures after path out answers writes streams o f (no_output h line) = cannot_write line
 
 -- over bytes in memory, whose reads don't fail
-pub in_memory : (bytes later path out : List ℕ) (answers : Outcome → Type 0) (writes : Type 0) (into : Outcome → Type 0) (o : Outcome)
+pub in_memory : (bytes later path out : List ℕ) (answers : Outcome → Type 0) (writes : Type 0) (into : Outcome → Type 0)
+    (o : Outcome)
     → ((d : Outcome) → answers d → into d)
     → ((d : Outcome) → writes → Gives d (says (file_line (codes "cannot write ") out) 1) → into d)
     → Streams (memory bytes) (memory later) path out answers writes o → into o

@@ -39,12 +39,14 @@ volume_text m id old new o (unread e h line kept) done = absurd (not_both o done
 volume_text m id old new o (read text h line got) done = (text, h)
 
 -- work that was done gave the text of a volume
-pub done_text : (image : Image) (id : ℕ) (old new : Option (List ℕ)) (o : Outcome) → Extracts image id old new o → o.status ≡ 0 → HasText image id
+pub done_text : (image : Image) (id : ℕ) (old new : Option (List ℕ)) (o : Outcome) → Extracts image id old new o
+    → o.status ≡ 0 → HasText image id
 done_text image id old new o (accepted m a r) done = let t = volume_text m id old new o r done in (m, t.0, a, t.1)
 done_text image id old new o (refused c h line kept) done = absurd (not_both o done line.status)
 
 -- the length of a text, and the error of none
-pub length_is : (m : Meant) (id n : ℕ) (text : List ℕ) → Ok n ≡ volume_len m id → read_volume m id ≡ Ok text → n ≡ length text
+pub length_is : (m : Meant) (id n : ℕ) (text : List ℕ) → Ok n ≡ volume_len m id → read_volume m id ≡ Ok text
+    → n ≡ length text
 length_is m id n text len h =
     let e : Ok n ≡ Ok (length text) = len ∙ ap (λ r. result_map_both length (λ (x : ReadError). x) r) h in cc
 
@@ -59,91 +61,113 @@ abbrev failed : ReadError → Result (List ℕ) ReadError
 failed d = Err d
 
 -- an error of reading has a name
-has_name : (e d : ReadError) (name : List ℕ) (fault : ToolError) → failed d ≡ Err e → read_refusal d ≡ Ok name → read_refusal e ≡ Err fault → ⊥
+has_name : (e d : ReadError) (name : List ℕ) (fault : ToolError) → failed d ≡ Err e → read_refusal d ≡ Ok name
+    → read_refusal e ≡ Err fault → ⊥
 has_name e d name fault same named unnamed =
     let k : d ≡ e = cc in
     let both : Ok name ≡ Err fault = sym named ∙ ap read_refusal k ∙ unnamed in
     cc
 
-by_content : (s : Sizes) (v : Volume) (c : content.the_data) (e : ReadError) (fault : ToolError) → volume_read s v.entry c ≡ Err e → read_refusal e ≡ Err fault → ⊥
+by_content : (s : Sizes) (v : Volume) (c : content.the_data) (e : ReadError) (fault : ToolError)
+    → volume_read s v.entry c ≡ Err e → read_refusal e ≡ Err fault → ⊥
 by_content s v content.Updating e fault h u = has_name e error.Updating _ fault h refl u
 by_content s v content.Damaged e fault h u = has_name e error.Damaged _ fault h refl u
 by_content s v (content.Static text) e fault h u = cc
 by_content s v (content.Dynamic lebs) e fault h u = cc
 
 by_volume : (s : Sizes) (o : Option Volume) (e : ReadError) (fault : ToolError)
-    → option_map_or (λ v. volume_read s v.entry v.content) o (Err error.NoVolume) ≡ Err e → read_refusal e ≡ Err fault → ⊥
+    → option_map_or (λ v. volume_read s v.entry v.content) o (Err error.NoVolume) ≡ Err e → read_refusal e ≡ Err fault
+    → ⊥
 by_volume s None e fault h u = has_name e error.NoVolume _ fault h refl u
 by_volume s (Some v) e fault h u = by_content s v v.content e fault h u
 
 -- so what isn't told of it is that memory ran out
-pub untold : (m : Meant) (id : ℕ) (kept : Option (List ℕ)) (e : ReadError) (fault : ToolError) → read_volume m id ≡ Err e → IsUntold e fault
+pub untold : (m : Meant) (id : ℕ) (kept : Option (List ℕ)) (e : ReadError) (fault : ToolError)
+    → read_volume m id ≡ Err e → IsUntold e fault
     → Keeps kept kept → IsVolumeError m id kept kept fault
 untold m id kept e tool.Memory h u k = k
 untold m id kept e tool.Write h u k = absurd (by_volume m.sizes (get m.volumes id) e tool.Write h u)
 untold m id kept e tool.Read h u k = absurd (by_volume m.sizes (get m.volumes id) e tool.Read h u)
 
 -- an error of an image is that of its meaning's volume
-pub of_meaning : (image : Image) (m : Meant) (id : ℕ) (old new : Option (List ℕ)) (fault : ToolError) → Accepts image m → IsVolumeError m id old new fault
+pub of_meaning : (image : Image) (m : Meant) (id : ℕ) (old new : Option (List ℕ)) (fault : ToolError) → Accepts image m
+    → IsVolumeError m id old new fault
     → IsExtractError image id old new fault
 of_meaning image m id old new tool.Memory a h = h
 of_meaning image m id old new tool.Write a h = (m, a, h)
 of_meaning image m id old new tool.Read a h = absurd h
 
 -- a write that failed was one of the text of a volume
-pub failed_text : (image : Image) (id : ℕ) (old new : Option (List ℕ)) → IsExtractError image id old new tool.Write → HasText image id
+pub failed_text : (image : Image) (id : ℕ) (old new : Option (List ℕ)) → IsExtractError image id old new tool.Write
+    → HasText image id
 failed_text image id old new h = (h.0, h.2.0, h.1, h.2.2)
 
 -- of a writer whose bytes weren't known before nothing is told behind
-volume_of_unknown : (m : Meant) (id : ℕ) (new : Option (List ℕ)) (o : Outcome) → ReadsVolume m id None new o → ReadsVolume m id None None o
+volume_of_unknown : (m : Meant) (id : ℕ) (new : Option (List ℕ)) (o : Outcome) → ReadsVolume m id None new o
+    → ReadsVolume m id None None o
 volume_of_unknown m id new o (unread e h line kept) = unread e h line tt
 volume_of_unknown m id new o (read text h line got) = read text h line tt
 
-pub of_unknown : (image : Image) (id : ℕ) (new : Option (List ℕ)) (o : Outcome) → Extracts image id None new o → Extracts image id None None o
+pub of_unknown : (image : Image) (id : ℕ) (new : Option (List ℕ)) (o : Outcome) → Extracts image id None new o
+    → Extracts image id None None o
 of_unknown image id new o (accepted m a r) = accepted m a (volume_of_unknown m id new o r)
 of_unknown image id new o (refused c h line kept) = refused c h line tt
 
 -- a volume with a length has a text
-has_text : (r : Result (List ℕ) ReadError) (n : ℕ) → Ok n ≡ result_map_both length (λ (x : ReadError). x) r → (text : List ℕ) × (r ≡ Ok text) × (n ≡ length text)
+has_text : (r : Result (List ℕ) ReadError) (n : ℕ) → Ok n ≡ result_map_both length (λ (x : ReadError). x) r
+    → (text : List ℕ) × (r ≡ Ok text) × (n ≡ length text)
 has_text (Ok text) n h = (text, refl, cc)
 has_text (Err e) n h = absurd (cc)
 
 -- what a writer received, whatever the source holds
-pub received : (k : Source) (old new : Option (List ℕ)) (wanted : Wanted) (many : ℕ → ℕ → Type 0) (n : ℕ) → Wrote k old new wanted many 0 n → HasGot old new n
+pub received : (k : Source) (old new : Option (List ℕ)) (wanted : Wanted) (many : ℕ → ℕ → Type 0) (n : ℕ)
+    → Wrote k old new wanted many 0 n → HasGot old new n
 received k old new wanted many n w = (w.bytes, sym (w.count ∙ zero-add (length w.bytes)), w.got)
 
 -- of any source likewise
-from_unknown : (s : Sizes) (k : Source) (new : Option (List ℕ)) (o : Outcome) → ExtractsFrom s k None new o → ExtractsFrom s k None None o
+from_unknown : (s : Sizes) (k : Source) (new : Option (List ℕ)) (o : Outcome) → ExtractsFrom s k None new o
+    → ExtractsFrom s k None None o
 from_unknown s k new o (wrote n whole got line) = wrote n whole (got.0, got.1, tt) line
 from_unknown s k new o (unread_from e whole line kept) = unread_from e whole line tt
 from_unknown s k new o (refused_from c h line kept) = refused_from c h line tt
 
 -- what is answered of a source into a file, once the work is over
-pub into_file : (s : Sizes) (k after : Source) (id : ℕ) (path out : List ℕ) (new : Option (List ℕ)) (answer : Result Outcome ToolError)
-    (there : Bool) (no_source no_output : Outcome) (r : Result Outcome AllocError) → MatchResult r (IsEnded answer there no_source no_output) (λ _. answer ≡ Err tool.Memory)
-    → IfOk answer (ExtractsFrom s k None new) → IfOk answer (λ o. WhereHeld k (λ bytes. Extracts (image_of s bytes) id None new o))
+pub into_file : (s : Sizes) (k after : Source) (id : ℕ) (path out : List ℕ) (new : Option (List ℕ))
+    (answer : Result Outcome ToolError)
+    (there : Bool) (no_source no_output : Outcome) (r : Result Outcome AllocError)
+    → MatchResult r (IsEnded answer there no_source no_output) (λ _. answer ≡ Err tool.Memory)
+    → IfOk answer (ExtractsFrom s k None new)
+    → IfOk answer (λ o. WhereHeld k (λ bytes. Extracts (image_of s bytes) id None new o))
     → IfErr answer (IsExtractFault s k id None new) → after ≡ after_run k answer
     → Gives no_source (says (file_line (codes "cannot read ") path) 1) → Gives no_output (says (file_line (codes "cannot write ") out) 1)
     → IfOk r (ExtractsSource s k after id path out)
 into_file s k after id path out new answer there no_source no_output r ended ok image err known source output =
     ends answer there k after path out _ _ no_source no_output r ended
-    (λ o is. (from_unknown s k new o (IfOk-at_ok _ is ok), λ bytes holds. of_unknown _ id new o (IfOk-at_ok _ is image bytes holds)))
+    (λ o is. (
+      from_unknown s k new o (IfOk-at_ok _ is ok),
+      λ bytes holds. of_unknown _ id new o (IfOk-at_ok _ is image bytes holds),
+    ))
     (λ o is zero bytes holds. done_text _ id None new o (IfOk-at_ok _ is image bytes holds) zero)
     (λ is bytes holds. failed_text _ id None new (IfErr-at_err _ is err bytes holds))
     known source output
 
 -- what a writer received of a volume of a source, by the places of its LEBs
-module _ (s : Sizes) (k : Source) (bytes : List ℕ) (holds : k.held ≡ Some bytes) (p : Placed) (h : ArePlaces (image_of s bytes) p)
+module _ (s : Sizes) (k : Source) (bytes : List ℕ) (holds : k.held ≡ Some bytes) (p : Placed)
+    (h : ArePlaces (image_of s bytes) p)
     (id len : ℕ) (is : Ok len ≡ volume_len h.meaning id) (old new : Option (List ℕ)) (n : ℕ) where
-  pub places_read : (o : Outcome) → Wrote k old new (read_text s p id) All 0 n → Gives o (says (bytes_line n) 0) → Extracts (image_of s bytes) id old new o
+  pub places_read : (o : Outcome) → Wrote k old new (read_text s p id) All 0 n → Gives o (says (bytes_line n) 0)
+      → Extracts (image_of s bytes) id old new o
   places_read o w gives =
       let t = has_text (read_volume h.meaning id) len is in
       let got = w.held bytes holds t.0 (h, t.1) in
       let whole : w.bytes ≡ t.0 = got.1 ∙ take_all (length w.bytes) t.0 (let e = got.0 in omega arith) in
       let count : n ≡ length t.0 = w.count ∙ zero-add (length w.bytes) ∙ ap length whole in
-      accepted h.meaning h.accepted (read t.0 t.1 (subst (λ (l : ℕ). Gives o (says (bytes_line l) 0)) count gives) (subst (λ (x : List ℕ). Appends old new x) whole w.got))
+      accepted h.meaning h.accepted
+      (read t.0 t.1 (subst (λ (l : ℕ). Gives o (says (bytes_line l) 0)) count gives)
+      (subst (λ (x : List ℕ). Appends old new x) whole w.got))
 
-  pub places_cut : Wrote k old new (read_text s p id) NotAll 0 n → IsExtractError (image_of s bytes) id old new tool.Write
+  pub places_cut : Wrote k old new (read_text s p id) NotAll 0 n
+      → IsExtractError (image_of s bytes) id old new tool.Write
   places_cut w =
       let t = has_text (read_volume h.meaning id) len is in
       let got = w.held bytes holds t.0 (h, t.1) in

@@ -44,7 +44,8 @@ described_with_file s text spares o (unread line c e gives) some = absurd (no_fi
 described_with_file s text spares o (unmade c is gives) some = absurd (no_file o.file gives.file some)
 
 -- composing, and then writing the file
-pub composes_into : (s : Sizes) (text : List ℕ) (spares : ℕ) (out : List ℕ) (work o : Outcome) → Composes s text spares work → IsWritten out work o
+pub composes_into : (s : Sizes) (text : List ℕ) (spares : ℕ) (out : List ℕ) (work o : Outcome)
+    → Composes s text spares work → IsWritten out work o
     → ComposesInto out s text spares o
 composes_into s text spares out work o n program.written = compose.written n
 composes_into s text spares out work o n (program.unwritten some gives) =
@@ -52,7 +53,8 @@ composes_into s text spares out work o n (program.unwritten some gives) =
     compose.unwritten h.0 h.1 h.2 gives
 
 -- a file is there only where a change is planned
-planned_with_file : (image : Image) (id lnum : ℕ) (new : List ℕ) (stop : Option ℕ) (o : Outcome) → Changes image id lnum new stop o → IsSome o.file
+planned_with_file : (image : Image) (id lnum : ℕ) (new : List ℕ) (stop : Option ℕ) (o : Outcome)
+    → Changes image id lnum new stop o → IsSome o.file
     → (steps : List Step) × IsPlanned image id lnum new steps
 planned_with_file image id lnum new stop o (planned steps is gives means) some = (steps, is)
 planned_with_file image id lnum new stop o (unplanned c line is e gives) some = absurd (no_file o.file gives.file some)
@@ -66,16 +68,21 @@ changes_into image id lnum new stop out work o n (program.unwritten some gives) 
     change.unwritten h.0 h.1 gives
 
 -- what is answered of an image that was read
-pub of_image : (numbers : Numbers) (path : List ℕ) (answers : Image → Outcome → Type 0) (s : Sizes) (bytes : List ℕ) (o : Outcome)
-    → s ≡ sizes_of numbers → IsRead (sizes_of numbers) bytes → answers (image_of s bytes) o → OfImage numbers path answers o
+pub of_image : (numbers : Numbers) (path : List ℕ) (answers : Image → Outcome → Type 0) (s : Sizes) (bytes : List ℕ)
+    (o : Outcome)
+    → s ≡ sizes_of numbers → IsRead (sizes_of numbers) bytes → answers (image_of s bytes) o
+    → OfImage numbers path answers o
 of_image numbers path answers s bytes o e read a =
     program.image bytes read (subst (λ (t : Sizes). answers (image_of t bytes) o) e a)
 
 -- what is answered of a text that was read
-pub of_text : (numbers : Numbers) (path : List ℕ) (answers : Sizes → List ℕ → Outcome → Type 0) (s : Sizes) (bytes : List ℕ) (o : Outcome)
-    → s ≡ sizes_of numbers → first_broken (sizes_of numbers) ≡ None → length bytes ≤ text_limit (sizes_of numbers) → answers s bytes o
+pub of_text : (numbers : Numbers) (path : List ℕ) (answers : Sizes → List ℕ → Outcome → Type 0) (s : Sizes)
+    (bytes : List ℕ) (o : Outcome)
+    → s ≡ sizes_of numbers → first_broken (sizes_of numbers) ≡ None → length bytes ≤ text_limit (sizes_of numbers)
+    → answers s bytes o
     → OfText numbers path answers o
-of_text numbers path answers s bytes o e limits few a = program.text bytes limits few (subst (λ (t : Sizes). answers t bytes o) e a)
+of_text numbers path answers s bytes o e limits few a = program.text bytes limits few
+    (subst (λ (t : Sizes). answers t bytes o) e a)
 
 -- what is told is no less than more
 pub Tells-weaker : (P Q : Outcome → Type 0) → ((o : Outcome) → P o → Q o) → (u : Unread) → Tells P u → Tells Q u
@@ -83,6 +90,7 @@ Tells-weaker P Q f Memory h = tt
 Tells-weaker P Q f (Told o) h = f o h
 
 -- what is answered in place of an image is what is told
-pub told : (is : Outcome → Type 0) (u : Unread) (r : Result Outcome AllocError) → Tells is u → MatchResult r (λ o. u ≡ Told o) (λ _. u ≡ Memory) → IfOk r is
+pub told : (is : Outcome → Type 0) (u : Unread) (r : Result Outcome AllocError) → Tells is u
+    → MatchResult r (λ o. u ≡ Told o) (λ _. u ≡ Memory) → IfOk r is
 told is u (Ok o) h e = subst (Tells is) e h
 told is u (Err x) h e = tt

@@ -28,14 +28,22 @@ use Rattle.ubi_volume.proofs.Either.{are_lebs}
 use Rattle.ubi_volume.proofs.One.{reads_unique}
 use Rattle.ubi_volume.proofs.VolumeAt.{case_is, found_wins, reads_of}
 
-module _ (s : Sizes) (p : Placed) (image : List ℕ) (places : ArePlaces (image_of s image) p) (id : ℕ) (r : VolumeRecord) (lnum : ℕ) where
+module _ (s : Sizes) (p : Placed) (image : List ℕ) (places : ArePlaces (image_of s image) p) (id : ℕ) (r : VolumeRecord)
+    (lnum : ℕ) where
   abbrev bs : List (List ℕ)
   bs = blocks_of s image
 
   pub place_none : finite.get p.winners (id, lnum) ≡ None → IsKept s bs id r lnum false
-  place_none e = (None, kept_none s bs id r lnum (subst (λ (o : Option ℕ). MatchOption o (NoMember s bs (id, lnum)) (Wins s bs (id, lnum))) e (places.winners (id, lnum))), refl)
+  place_none e = (
+    None,
+    kept_none s bs id r lnum
+        (subst (λ (o : Option ℕ). MatchOption o (NoMember s bs (id, lnum)) (Wins s bs (id, lnum))) e
+        (places.winners (id, lnum))),
+    refl,
+  )
 
-  module _ (q : ℕ) (found : finite.get p.winners (id, lnum) ≡ Some q) (n : ℕ) (size : n ≡ usable s r) (text : List ℕ) (is : text ≡ slice_range (leb s (block bs q)) 0 n) where
+  module _ (q : ℕ) (found : finite.get p.winners (id, lnum) ≡ Some q) (n : ℕ) (size : n ≡ usable s r) (text : List ℕ)
+      (is : text ≡ slice_range (leb s (block bs q)) 0 n) where
     read_is : text ≡ take n (leb s (block bs q))
     read_is = is ∙ ap (λ k. take k (leb s (block bs q))) (let e : n - 0 ≡ n = omega arith in e)
 
@@ -51,29 +59,38 @@ module _ (s : Sizes) (p : Placed) (image : List ℕ) (places : ArePlaces (image_
         by_test false e =
             let w = found_wins s p image places (id, lnum) q found in
             let whole = are_lebs (image_of s image) q w.member.inside in
-            let test = ap is_blank (sym read_is) ∙ e in
-            (Some (take n (leb s (block bs q))), winner_text s bs id r lnum q n (leb s (block bs q)) w size refl whole test, refl)
+            let test = ap is_blank (sym read_is) ∙ e in (
+              Some (take n (leb s (block bs q))),
+              winner_text s bs id r lnum q n (leb s (block bs q)) w size refl whole test,
+              refl,
+            )
 
 module _ (s : Sizes) (bs : List (List ℕ)) (vol : ℕ) (r : VolumeRecord) where
   pub none_kept : AreKept s bs vol r 0 0
   none_kept = (finite.empty, gathered_none s bs vol r, sym (ap length (sorted_entries [] refl)))
 
   -- one LEB more
-  pub one_kept : (n count : ℕ) → AreKept s bs vol r n count → IsKept s bs vol r n true → AreKept s bs vol r (n + 1) (count + 1)
+  pub one_kept : (n count : ℕ) → AreKept s bs vol r n count → IsKept s bs vol r n true
+      → AreKept s bs vol r (n + 1) (count + 1)
   one_kept n count h (None, k, e) = absurd (cc)
   one_kept n count h (Some text, k, e) =
       let lebs = h.0 in
-      let free : finite.find nat_cmp n (finite.entries lebs) ≡ None = sym (finite.get-entries lebs n) ∙ h.1.none n (omega arith) in
+      let free : finite.find nat_cmp n (finite.entries lebs) ≡ None = sym (finite.get-entries lebs n)
+      ∙ h.1.none n (omega arith) in
       let long : length (finite.entries (finite.insert lebs n text)) ≡ length (finite.entries lebs) + 1 =
-      ap length (finite.entries-insert nat_cmp_total lebs n text) ∙ length-put nat_cmp nat_cmp_total n text (finite.entries lebs) (finite.entries_sorted lebs)
-      ∙ ap (λ (o : Option (List ℕ)). cond (is_some o) (length (finite.entries lebs)) (length (finite.entries lebs) + 1)) free in
+      ap length (finite.entries-insert nat_cmp_total lebs n text)
+      ∙ length-put nat_cmp nat_cmp_total n text (finite.entries lebs) (finite.entries_sorted lebs)
+      ∙ ap (λ (o : Option (List ℕ)). cond (is_some o) (length (finite.entries lebs)) (length (finite.entries lebs) + 1))
+      free in
       (finite.insert lebs n text, gathered_text s bs vol r n lebs text h.1 k, ap (λ k. k + 1) h.2 ∙ sym long)
 
-  pub none_more : (n count : ℕ) → AreKept s bs vol r n count → IsKept s bs vol r n false → AreKept s bs vol r (n + 1) count
+  pub none_more : (n count : ℕ) → AreKept s bs vol r n count → IsKept s bs vol r n false
+      → AreKept s bs vol r (n + 1) count
   none_more n count h (None, k, e) = (h.0, gathered_blank s bs vol r n h.0 h.1 k, h.2)
   none_more n count h (Some text, k, e) = absurd (cc)
 
-module _ (s : Sizes) (p : Placed) (id : ℕ) (r : VolumeRecord) (recorded : finite.get p.records.of id ≡ Some r) (image : List ℕ) where
+module _ (s : Sizes) (p : Placed) (id : ℕ) (r : VolumeRecord) (recorded : finite.get p.records.of id ≡ Some r)
+    (image : List ℕ) where
   updating_is : (c : Content) → case_of s r c ≡ place.Updating → amount.Updating ≡ amount_of c
   updating_is content.Updating e = refl
   updating_is content.Damaged e = absurd (cc)
@@ -86,7 +103,8 @@ module _ (s : Sizes) (p : Placed) (id : ℕ) (r : VolumeRecord) (recorded : fini
   damaged_is (content.Static t) e = absurd (cc)
   damaged_is (content.Dynamic l) e = absurd (cc)
 
-  static_is : (lebs bytes : ℕ) (c : Content) → case_of s r c ≡ place.Static lebs bytes → amount.Bytes bytes ≡ amount_of c
+  static_is : (lebs bytes : ℕ) (c : Content) → case_of s r c ≡ place.Static lebs bytes
+      → amount.Bytes bytes ≡ amount_of c
   static_is lebs bytes content.Updating e = absurd (cc)
   static_is lebs bytes content.Damaged e = absurd (cc)
   static_is lebs bytes (content.Static t) e = cc
@@ -98,11 +116,15 @@ module _ (s : Sizes) (p : Placed) (id : ℕ) (r : VolumeRecord) (recorded : fini
   pub damaged_amount : finite.get p.contents id ≡ Some place.Damaged → AmountIs s p id image amount.Damaged
   damaged_amount listed h v at = damaged_is v.content (case_is s p image h id r recorded v at place.Damaged listed)
 
-  pub static_amount : (lebs bytes : ℕ) → finite.get p.contents id ≡ Some (place.Static lebs bytes) → AmountIs s p id image (amount.Bytes bytes)
-  static_amount lebs bytes listed h v at = static_is lebs bytes v.content (case_is s p image h id r recorded v at (place.Static lebs bytes) listed)
+  pub static_amount : (lebs bytes : ℕ) → finite.get p.contents id ≡ Some (place.Static lebs bytes)
+      → AmountIs s p id image (amount.Bytes bytes)
+  static_amount lebs bytes listed h v at = static_is lebs bytes v.content
+      (case_is s p image h id r recorded v at (place.Static lebs bytes) listed)
 
-  pub dynamic_amount : finite.get p.contents id ≡ Some place.Dynamic → (count : ℕ) → AreKept s (blocks_of s image) id r r.reserved count → AmountIs s p id image (amount.Lebs count)
-  dynamic_amount listed count kept h v at = by_content v.content refl (case_is s p image h id r recorded v at place.Dynamic listed)
+  pub dynamic_amount : finite.get p.contents id ≡ Some place.Dynamic → (count : ℕ)
+      → AreKept s (blocks_of s image) id r r.reserved count → AmountIs s p id image (amount.Lebs count)
+  dynamic_amount listed count kept h v at = by_content v.content refl
+      (case_is s p image h id r recorded v at place.Dynamic listed)
     where
       bs : List (List ℕ)
       bs = blocks_of s image
@@ -112,16 +134,23 @@ module _ (s : Sizes) (p : Placed) (id : ℕ) (r : VolumeRecord) (recorded : fini
 
       volume : IsVolume s id v
       volume = subst (λ (z : Sizes). IsVolume z id v) h.accepted.accepted.means.sizes
-          (subst (λ (o : Option Volume). IfSome o (IsVolume h.meaning.sizes id)) at (h.accepted.accepted.means.meaning.each id))
+          (subst (λ (o : Option Volume). IfSome o (IsVolume h.meaning.sizes id)) at
+          (h.accepted.accepted.means.meaning.each id))
 
       by_content : (c : Content) → v.content ≡ c → case_of s r c ≡ place.Dynamic → amount.Lebs count ≡ amount_of c
       by_content content.Updating is e = absurd (cc)
       by_content content.Damaged is e = absurd (cc)
       by_content (content.Static t) is e = absurd (cc)
       by_content (content.Dynamic l) is e =
-          let reads : VolumeReads s bs id r (content.Dynamic l) = subst (VolumeReads s bs id r) is (reads_of s p image h id r recorded v at).1 in
-          let fits : Fits s r (content.Dynamic l) = subst (λ (x : VolumeRecord). Fits s x (content.Dynamic l)) entry (subst (Fits s v.entry) is volume.fits) in
-          let keeps : KeepsNoBlank s r (content.Dynamic l) = subst (λ (x : VolumeRecord). KeepsNoBlank s x (content.Dynamic l)) entry (subst (KeepsNoBlank s v.entry) is volume.kept) in
+          let reads : VolumeReads s bs id r (content.Dynamic l) =
+          subst (VolumeReads s bs id r) is (reads_of s p image h id r recorded v at).1 in
+          let fits : Fits s r (content.Dynamic l) = subst (λ (x : VolumeRecord). Fits s x (content.Dynamic l)) entry
+          (subst (Fits s v.entry) is volume.fits) in
+          let keeps : KeepsNoBlank s r (content.Dynamic l) =
+          subst (λ (x : VolumeRecord). KeepsNoBlank s x (content.Dynamic l)) entry
+          (subst (KeepsNoBlank s v.entry) is volume.kept) in
           let all : ContentIs s bs id r (content.Dynamic kept.0) = dynamic_is s bs id r kept.0 reads.0 reads.1 kept.1 in
-          let same : content.Dynamic kept.0 ≡ content.Dynamic l = reads_unique s bs h.accepted.accepted.clean id r (content.Dynamic kept.0) (content.Dynamic l) all.reads reads all.fits fits all.kept keeps in
+          let same : content.Dynamic kept.0 ≡ content.Dynamic l =
+          reads_unique s bs h.accepted.accepted.clean id r (content.Dynamic kept.0)
+          (content.Dynamic l) all.reads reads all.fits fits all.kept keeps in
           ap amount.Lebs kept.2 ∙ ap amount_of same

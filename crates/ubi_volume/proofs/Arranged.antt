@@ -64,12 +64,16 @@ is_or_not false false = inl refl
 
 fits_or_not : (s : Sizes) (r : VolumeRecord) (c : Content) → Fits s r c ⊎ (Fits s r c → ⊥)
 fits_or_not s r content.Updating = is_or_not r.marker true
-fits_or_not s r content.Damaged = both_or_not (r.marker ≡ false) (r.kind ≡ kind.Static) (is_or_not r.marker false) (kind_or_other r.kind kind.Static)
+fits_or_not s r content.Damaged = both_or_not (r.marker ≡ false) (r.kind ≡ kind.Static) (is_or_not r.marker false)
+    (kind_or_other r.kind kind.Static)
 fits_or_not s r (content.Static text) = elim (is_or_not r.marker false) [
   | inr n ↦ inr (λ f. n f.0)
   | inl m ↦ elim (kind_or_other r.kind kind.Static) [
     | inr n ↦ inr (λ f. n f.1)
-    | inl k ↦ elim (within_or_past (length text) (r.reserved * usable s r)) [ inl l ↦ inl (m, k, l) | inr g ↦ inr (λ f. let l = f.2 in omega arith) ]
+    | inl k ↦ elim (within_or_past (length text) (r.reserved * usable s r)) [
+      | inl l ↦ inl (m, k, l)
+      | inr g ↦ inr (λ f. let l = f.2 in omega arith)
+    ]
   ]
 ]
 fits_or_not s r (content.Dynamic lebs) = elim (is_or_not r.marker false) [
@@ -98,14 +102,16 @@ module _ (s : Sizes) (r : VolumeRecord) where
     f.1,
     λ lnum.
         let P : List ℕ → Type 0 = λ text. (lnum < r.reserved) × (length text ≡ usable s r) in
-        subst (λ (o : Option (List ℕ)). IfSome o P) (sym (get_without_blank lebs lnum)) (kept_if P (is_kept lebs lnum) (finite.get lebs lnum) (f.2 lnum)),
+        subst (λ (o : Option (List ℕ)). IfSome o P) (sym (get_without_blank lebs lnum))
+        (kept_if P (is_kept lebs lnum) (finite.get lebs lnum) (f.2 lnum)),
   )
 
   not_blank : (lebs : LebMap) (lnum : ℕ) (o : Option (List ℕ)) → finite.get lebs lnum ≡ o
       → IfSome (cond (not (is_blank (unwrap_or o []))) o None) (λ text. text ≢ blank (usable s r))
   not_blank lebs lnum None e = tt
   not_blank lebs lnum (Some text) e =
-      elim (is_blank text) as (λ b. is_blank text ≡ b → IfSome (cond (not b) (Some text) None) (λ text. text ≢ blank (usable s r))) [
+      elim (is_blank text) as (λ b. is_blank text ≡ b
+      → IfSome (cond (not b) (Some text) None) (λ text. text ≢ blank (usable s r))) [
         | true ↦ λ t. tt
         | false ↦ λ t. other_text text (usable s r) t
       ] refl
@@ -115,7 +121,8 @@ module _ (s : Sizes) (r : VolumeRecord) where
   keeps_no_blank content.Damaged = tt
   keeps_no_blank (content.Static text) = tt
   keeps_no_blank (content.Dynamic lebs) = λ lnum.
-      subst (λ (o : Option (List ℕ)). IfSome o (λ text. text ≢ blank (usable s r))) (sym (get_without_blank lebs lnum)) (not_blank lebs lnum (finite.get lebs lnum) refl)
+      subst (λ (o : Option (List ℕ)). IfSome o (λ text. text ≢ blank (usable s r))) (sym (get_without_blank lebs lnum))
+      (not_blank lebs lnum (finite.get lebs lnum) refl)
 
 -- ---- numbers that are apart
 abbrev same_number : ℕ → ℕ → Bool
@@ -136,7 +143,8 @@ found_at : (es : Items) (i q : ℕ) (v : Volume) → AreApart es → IsItem es i
 found_at [] i q v apart at = absurd (no_some (q, v) at)
 found_at (e ∷ es) zero q v apart at =
     let same : e ≡ (q, v) = same_Some e (q, v) at in
-    ap (λ r. cond (is_eq r) (Some e.1) (find nat_cmp q es)) (ap (nat_cmp q) (ap (λ (x : Item). x.0) same) ∙ tied_itself nat_cmp_total q) ∙ ap (λ (x : Item). Some x.1) same
+    ap (λ r. cond (is_eq r) (Some e.1) (find nat_cmp q es)) (ap (nat_cmp q) (ap (λ (x : Item). x.0) same)
+    ∙ tied_itself nat_cmp_total q) ∙ ap (λ (x : Item). Some x.1) same
 found_at (e ∷ es) (suc i) q v apart at = elim (told nat_cmp nat_cmp_total exact_unsigned q e.0) [
   | inl t ↦ absurd (let n = apart.each (suc i) 0 (q, v) e at refl t.1 in omega arith)
   | inr t ↦ ap (λ b. cond b (Some e.1) (find nat_cmp q es)) t.0 ∙ found_at es i q v (apart_tail e es apart) at
@@ -147,7 +155,8 @@ some_found : (es : Items) (i : ℕ) (x : Item) → IsItem es i x → find nat_cm
 some_found [] i x at none = no_some x at
 some_found (e ∷ es) zero x at none =
     let same : e ≡ x = same_Some e x at in
-    no_some e.1 (sym none ∙ ap (λ r. cond (is_eq r) (Some e.1) (find nat_cmp x.0 es)) (ap (nat_cmp x.0) (ap (λ (y : Item). y.0) same) ∙ tied_itself nat_cmp_total x.0))
+    no_some e.1 (sym none ∙ ap (λ r. cond (is_eq r) (Some e.1) (find nat_cmp x.0 es))
+    (ap (nat_cmp x.0) (ap (λ (y : Item). y.0) same) ∙ tied_itself nat_cmp_total x.0))
 some_found (e ∷ es) (suc i) x at none = elim (told nat_cmp nat_cmp_total exact_unsigned x.0 e.0) [
   | inl t ↦ no_some e.1 (sym none ∙ ap (λ b. cond b (Some e.1) (find nat_cmp x.0 es)) t.0)
   | inr t ↦ some_found es i x at (ap (λ b. cond b (Some e.1) (find nat_cmp x.0 es)) (sym t.0) ∙ none)
@@ -181,7 +190,8 @@ same_found es fs apart moved q = by (find nat_cmp q fs) (find nat_cmp q es) refl
 
 pub same_volumes : (es fs : Items) → AreApart es → IsPermutation es fs → from_entries {R = nat_cmp} fs ≡ from_entries es
 same_volumes es fs apart moved = finite.same_map nat_cmp_total nat_cmp-IsAntisymmetric _ _
-    (λ q. finite.get-from_entries nat_cmp_total fs q ∙ same_found es fs apart moved q ∙ sym (finite.get-from_entries nat_cmp_total es q))
+    (λ q. finite.get-from_entries nat_cmp_total fs q ∙ same_found es fs apart moved q
+    ∙ sym (finite.get-from_entries nat_cmp_total es q))
 
 -- ---- items by rising number
 keyed : (es : Items) (i d : ℕ) → i < length (keys_of es) → (x : Item) × IsItem es i x × (x.0 ≡ get_or (keys_of es) i d)
@@ -203,22 +213,28 @@ distinct es apart = IsDistinct-from_apart same_number (keys_of es) (λ i j d l k
       | inr t ↦ t.0
     ])
 
-below : (k : ℕ) (es : Items) → ((i : ℕ) (d : Item) → i < length es → k ≤ (get_or es i d).0) → AllByRecursion (λ n. same_number k n ≡ false) (keys_of es) → T (below_all nat_cmp k es)
+below : (k : ℕ) (es : Items) → ((i : ℕ) (d : Item) → i < length es → k ≤ (get_or es i d).0)
+    → AllByRecursion (λ n. same_number k n ≡ false) (keys_of es) → T (below_all nat_cmp k es)
 below k [] least apart = tt
-below k (e ∷ es) least apart = both_are _ _ (subst T (sym (lt_of k e.0 (least 0 e (omega arith)) apart.0)) tt) (below k es (λ i d l. least (suc i) d (omega arith)) apart.1)
+below k (e ∷ es) least apart = both_are _ _ (subst T (sym (lt_of k e.0 (least 0 e (omega arith)) apart.0)) tt)
+    (below k es (λ i d l. least (suc i) d (omega arith)) apart.1)
 
-rising : (es : Items) → IsNonDecreasingBy (λ (e : Item). e.0) es → IsDistinct same_number (keys_of es) → T (is_sorted nat_cmp es)
+rising : (es : Items) → IsNonDecreasingBy (λ (e : Item). e.0) es → IsDistinct same_number (keys_of es)
+    → T (is_sorted nat_cmp es)
 rising [] up apart = tt
 rising (e ∷ es) up apart =
-    both_are _ _ (below e.0 es (λ i d l. up 0 (suc i) d (omega arith) (omega arith)) (IsDistinct-head same_number e.0 (keys_of es) apart))
-    (rising es (λ i j d l k. up (suc i) (suc j) d (omega arith) (omega arith)) (IsDistinct-tail same_number e.0 (keys_of es) apart))
+    both_are _ _ (below e.0 es (λ i d l. up 0 (suc i) d (omega arith) (omega arith))
+    (IsDistinct-head same_number e.0 (keys_of es) apart))
+    (rising es (λ i j d l k. up (suc i) (suc j) d (omega arith) (omega arith))
+    (IsDistinct-tail same_number e.0 (keys_of es) apart))
 
 -- ---- the meaning
 same_keys : (es : Items) → keys_of (map item_without_blank es) ≡ keys_of es
 same_keys [] = refl
 same_keys (e ∷ es) = ap (λ ks. e.0 ∷ ks) (same_keys es)
 
-same_sum : (es : Items) (n : ℕ) → fold (λ k (v : Volume). k + v.entry.reserved) n (values_of (map item_without_blank es)) ≡ fold (λ k (e : Item). k + e.1.entry.reserved) n es
+same_sum : (es : Items) (n : ℕ) → fold (λ k (v : Volume). k + v.entry.reserved) n
+    (values_of (map item_without_blank es)) ≡ fold (λ k (e : Item). k + e.1.entry.reserved) n es
 same_sum [] n = refl
 same_sum (e ∷ es) n = same_sum es (n + e.1.entry.reserved)
 
@@ -227,7 +243,8 @@ module _ (s : Sizes) (items : Items) (none : NoCause s items) where
   stripped = map item_without_blank items
 
   -- an item without the LEBs that are blank comes from one with them
-  item_before : (i : ℕ) (x : Item) → IsItem (map item_without_blank items) i x → (w : Item) × IsItem items i w × (item_without_blank w ≡ x)
+  item_before : (i : ℕ) (x : Item) → IsItem (map item_without_blank items) i x
+      → (w : Item) × IsItem items i w × (item_without_blank w ≡ x)
   item_before i x at = by (slice_get items i) refl
     where
       from : option_map item_without_blank (slice_get items i) ≡ Some x
@@ -263,15 +280,22 @@ module _ (s : Sizes) (items : Items) (none : NoCause s items) where
         one_number i j v.0 w.0 v.1 w.1 (ap (λ (z : Item). z.0) v.2 ∙ same ∙ sym (ap (λ (z : Item). z.0) w.2));
   }
 
-  sound : (i : ℕ) (w : Item) → IsItem items i w → (o : Option RecFault) → rec_fault s w.1.entry ≡ o → rec_fault s w.1.entry ≡ None
+  sound : (i : ℕ) (w : Item) → IsItem items i w → (o : Option RecFault) → rec_fault s w.1.entry ≡ o
+      → rec_fault s w.1.entry ≡ None
   sound i w at None e = e
   sound i w at (Some f) e = absurd (none (cause.Record i f) (w, at, e))
 
   below_slots : (i : ℕ) (w : Item) → IsItem items i w → w.0 < slots s
-  below_slots i w at = elim (within_or_past (slots s) w.0) [ inl l ↦ absurd (none (cause.IdRange i) (w, at, l)) | inr l ↦ l ]
+  below_slots i w at = elim (within_or_past (slots s) w.0) [
+    | inl l ↦ absurd (none (cause.IdRange i) (w, at, l))
+    | inr l ↦ l
+  ]
 
   fits : (i : ℕ) (w : Item) → IsItem items i w → Fits s w.1.entry w.1.content
-  fits i w at = elim (fits_or_not s w.1.entry w.1.content) [ inl f ↦ f | inr n ↦ absurd (none (cause.ContentRange i) (w, at, n)) ]
+  fits i w at = elim (fits_or_not s w.1.entry w.1.content) [
+    | inl f ↦ f
+    | inr n ↦ absurd (none (cause.ContentRange i) (w, at, n))
+  ]
 
   is_volume : (i : ℕ) (w : Item) → IsItem items i w → IsVolume s w.0 (item_without_blank w).1
   is_volume i w at = record {
@@ -281,24 +305,31 @@ module _ (s : Sizes) (items : Items) (none : NoCause s items) where
     kept = keeps_no_blank s w.1.entry w.1.content;
   }
 
-  module _ (sorted : Items) (moved : IsPermutation (map item_without_blank items) sorted) (up : IsNonDecreasingBy (λ (e : Item). e.0) sorted) where
+  module _ (sorted : Items) (moved : IsPermutation (map item_without_blank items) sorted)
+      (up : IsNonDecreasingBy (λ (e : Item). e.0) sorted) where
     pub arranged_same : from_entries {R = nat_cmp} sorted ≡ from_entries (map item_without_blank items)
     arranged_same = same_volumes (map item_without_blank items) sorted apart moved
 
     in_order : IsTrue (is_sorted nat_cmp sorted)
-    in_order = true_is _ (rising sorted up (IsDistinct-IsPermutation same_number (eq_by_cmp_equiv nat_cmp_total).symm (keys_of (map item_without_blank items)) (keys_of sorted)
-        (IsPermutation-map (λ (e : Item). e.0) (map item_without_blank items) sorted moved) (distinct (map item_without_blank items) apart)))
+    in_order = true_is _
+        (rising sorted up (IsDistinct-IsPermutation same_number (eq_by_cmp_equiv nat_cmp_total).symm
+        (keys_of (map item_without_blank items)) (keys_of sorted)
+        (IsPermutation-map (λ (e : Item). e.0) (map item_without_blank items) sorted moved)
+        (distinct (map item_without_blank items) apart)))
 
     -- a volume of the meaning comes from an item
-    volume_at : (id : ℕ) (v : Volume) → finite.get (from_entries {R = nat_cmp} sorted) id ≡ Some v → (i : ℕ) × (w : Item) × IsItem items i w × (item_without_blank w ≡ (id, v))
+    volume_at : (id : ℕ) (v : Volume) → finite.get (from_entries {R = nat_cmp} sorted) id ≡ Some v
+        → (i : ℕ) × (w : Item) × IsItem items i w × (item_without_blank w ≡ (id, v))
     volume_at id v e =
         let f : find nat_cmp id (map item_without_blank items) ≡ Some v =
-        sym (finite.get-from_entries nat_cmp_total (map item_without_blank items) id) ∙ ap (λ m. finite.get m id) (sym arranged_same) ∙ e in
+        sym (finite.get-from_entries nat_cmp_total (map item_without_blank items) id)
+        ∙ ap (λ m. finite.get m id) (sym arranged_same) ∙ e in
         let at = item_of (map item_without_blank items) id v f in
         let from = item_before at.0 (id, v) at.1 in
         (at.0, from.0, from.1, from.2)
 
-    each_volume : (id : ℕ) (o : Option Volume) → finite.get (from_entries {R = nat_cmp} sorted) id ≡ o → IfSome o (IsVolume s id)
+    each_volume : (id : ℕ) (o : Option Volume) → finite.get (from_entries {R = nat_cmp} sorted) id ≡ o
+        → IfSome o (IsVolume s id)
     each_volume id None e = tt
     each_volume id (Some v) e =
         let at = volume_at id v e in
@@ -308,12 +339,14 @@ module _ (s : Sizes) (items : Items) (none : NoCause s items) where
     names i j v w e f same =
         let a = volume_at i v e in
         let b = volume_at j w f in
-        let alike : a.1.1.entry.name ≡ b.1.1.entry.name = ap (λ (z : Item). z.1.entry.name) a.3 ∙ same ∙ sym (ap (λ (z : Item). z.1.entry.name) b.3) in
+        let alike : a.1.1.entry.name ≡ b.1.1.entry.name = ap (λ (z : Item). z.1.entry.name) a.3 ∙ same
+        ∙ sym (ap (λ (z : Item). z.1.entry.name) b.3) in
         let place : a.0 ≡ b.0 = one_name a.0 b.0 a.1 b.1 a.2 b.2 alike in
         let one : a.1 ≡ b.1 = same_Some a.1 b.1 (sym a.2 ∙ ap (slice_get items) place ∙ b.2) in
         sym (ap (λ (z : Item). z.0) a.3) ∙ ap (λ (z : Item). z.0) one ∙ ap (λ (z : Item). z.0) b.3
 
-    reserved : sum_by (λ (v : Volume). v.entry.reserved) (finite.values (from_entries {R = nat_cmp} sorted)) ≡ sum_by (λ (e : Item). e.1.entry.reserved) items
+    reserved : sum_by (λ (v : Volume). v.entry.reserved) (finite.values (from_entries {R = nat_cmp} sorted))
+        ≡ sum_by (λ (e : Item). e.1.entry.reserved) items
     reserved =
         ap (λ (es : Items). sum_by (λ (v : Volume). v.entry.reserved) (values_of es)) (sorted_entries sorted in_order)
         ∙ sum_by_values_permutation (λ (v : Volume). v.entry.reserved) (map item_without_blank items) sorted moved
@@ -328,5 +361,9 @@ module _ (s : Sizes) (items : Items) (none : NoCause s items) where
     pub arranged_volumes : AreVolumes s sorted
     arranged_volumes = record {
       sorted = in_order;
-      meaning = record { each = λ id. each_volume id (finite.get (from_entries sorted) id) refl; names = names; space = space };
+      meaning = record {
+        each = λ id. each_volume id (finite.get (from_entries sorted) id) refl;
+        names = names;
+        space = space;
+      };
     }

@@ -13,11 +13,17 @@ use Rattle.ubi_volume.specs.declared.attached.BlockState.{BlockState}
 use Rattle.ubi_volume.proofs.Recorded.{records_meant}
 
 module _ (image : Image) (whole : IsWhole image) (clean : NoFault image.sizes (eraseblocks image)) where
-  pub attached : (found : Found) (t : Records) (m : Meant) (states : List BlockState) → IsScan image.sizes (eraseblocks image) found → IsTable image.sizes (eraseblocks image) t
-      → NoMismatch image.sizes (eraseblocks image) t → Means image.sizes (eraseblocks image) t m → AreStates image.sizes (eraseblocks image) t states
+  pub attached : (found : Found) (t : Records) (m : Meant) (states : List BlockState)
+      → IsScan image.sizes (eraseblocks image) found → IsTable image.sizes (eraseblocks image) t
+      → NoMismatch image.sizes (eraseblocks image) t → Means image.sizes (eraseblocks image) t m
+      → AreStates image.sizes (eraseblocks image) t states
       → IsAttached image (record { meaning = m; scan = found; states = states })
   attached found t m states scan is alike means are = record {
-    accepted = record { whole = whole; accepted = record { clean = clean; records = t; table = is; alike = alike; means = means } };
+    accepted = record {
+      whole = whole;
+      accepted = record { clean = clean; records = t; table = is; alike = alike; means = means };
+    };
     scan = scan;
-    states = subst (λ (r : Records). AreStates image.sizes (eraseblocks image) r states) (sym (records_meant image.sizes (eraseblocks image) t m is means)) are;
+    states = subst (λ (r : Records). AreStates image.sizes (eraseblocks image) r states)
+        (sym (records_meant image.sizes (eraseblocks image) t m is means)) are;
   }

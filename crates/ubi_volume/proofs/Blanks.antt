@@ -9,7 +9,9 @@ use Rattle.ubi_media.proofs.Readings.{blank_of, not_blank_of}
 pub blank_text : (text : List ℕ) (n : ℕ) → is_blank text ≡ true → length text ≡ n → text ≡ blank n
 blank_text text n e size =
     let each : IsBlank text = blank_of text e in
-    same_lists text (blank n) (size ∙ sym (length-replicate n 255)) (λ k d l. each k d l ∙ sym (get_or-replicate n k 255 d (omega arith)))
+    same_lists text (blank n) (size ∙ sym (length-replicate n 255))
+    (λ k d l. each k d l ∙ sym (get_or-replicate n k 255 d (omega arith)))
 
 pub other_text : (text : List ℕ) (n : ℕ) → is_blank text ≡ false → text ≢ blank n
-other_text text n e same = not_blank_of text e (subst IsBlank (sym same) (All-replicate (λ byte. byte ≡ 255) n 255 refl))
+other_text text n e same = not_blank_of text e
+    (subst IsBlank (sym same) (All-replicate (λ byte. byte ≡ 255) n 255 refl))

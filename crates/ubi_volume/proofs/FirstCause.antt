@@ -16,8 +16,15 @@ module _ (s : Sizes) (items : Items) where
   earlier : (i j k : ℕ) → IsFirst s items (cause.SameName i j) → IsFirst s items (cause.SameName i k) → j < k → ⊥
   earlier i j k p q h =
       let same : p.stands.0 ≡ q.stands.0 = let a = p.stands.2 in let b = q.stands.2 in cc in
-      p.first (cause.SameName k j) (inr (refl, q.stands.4))
-      (q.stands.1, p.stands.1, q.stands.3, p.stands.3, h, p.stands.5 ∙ ap (λ (e : ℕ × Volume). e.1.entry.name) same ∙ sym q.stands.5)
+      p.first (cause.SameName k j) (inr (refl, q.stands.4)) (
+        q.stands.1,
+        p.stands.1,
+        q.stands.3,
+        p.stands.3,
+        h,
+        p.stands.5 ∙ ap (λ (e : ℕ × Volume). e.1.entry.name) same
+            ∙ sym q.stands.5,
+      )
 
   one_by : (c d : MeaningCause) → rank c ≡ rank d → item c ≡ item d → IsFirst s items c → IsFirst s items d → c ≡ d
   one_by (cause.IdRange i) (cause.IdRange j) r h p q = ap (λ k. cause.IdRange k) h

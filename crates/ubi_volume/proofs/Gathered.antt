@@ -36,61 +36,78 @@ true_of true h = refl
 true_of false h = absurd h
 
 -- volumes stand in the order of their entries
-same_below : (n : ℕ) (vs : List Item) → below_all nat_cmp n (map (λ (v : Item). (v.0, v.1.entry)) vs) ≡ below_all nat_cmp n vs
+same_below : (n : ℕ) (vs : List Item) → below_all nat_cmp n (map (λ (v : Item). (v.0, v.1.entry)) vs)
+    ≡ below_all nat_cmp n vs
 same_below n [] = refl
 same_below n (v ∷ vs) = ap (λ b. is_lt (nat_cmp n v.0) && b) (same_below n vs)
 
 pub same_order : (vs : List Item) → is_sorted nat_cmp (map (λ (v : Item). (v.0, v.1.entry)) vs) ≡ is_sorted nat_cmp vs
 same_order [] = refl
-same_order (v ∷ vs) = ap (λ b. b && is_sorted nat_cmp (map (λ (v : Item). (v.0, v.1.entry)) vs)) (same_below v.0 vs) ∙ ap (λ b. below_all nat_cmp v.0 vs && b) (same_order vs)
+same_order (v ∷ vs) = ap (λ b. b && is_sorted nat_cmp (map (λ (v : Item). (v.0, v.1.entry)) vs)) (same_below v.0 vs)
+    ∙ ap (λ b. below_all nat_cmp v.0 vs && b) (same_order vs)
 
 -- how many eraseblocks they reserve
-pub same_sum : (vs : List Item) (n : ℕ) → fold (λ k (r : VolumeRecord). k + r.reserved) n (map (λ (e : ℕ × VolumeRecord). e.1) (map (λ (v : Item). (v.0, v.1.entry)) vs))
+pub same_sum : (vs : List Item) (n : ℕ)
+    → fold (λ k (r : VolumeRecord). k + r.reserved) n
+    (map (λ (e : ℕ × VolumeRecord). e.1) (map (λ (v : Item). (v.0, v.1.entry)) vs))
     ≡ fold (λ k (v : Volume). k + v.entry.reserved) n (map (λ (v : Item). v.1) vs)
 same_sum [] n = refl
 same_sum (v ∷ vs) n = same_sum vs (n + v.1.entry.reserved)
 
 module _ (s : Sizes) (bs : List (List ℕ)) where
   -- a volume that is found has its record and its content
-  found_volume : (vs : List Item) → All (λ (v : Item). ContentIs s bs v.0 v.1.entry v.1.content) vs → (id : ℕ) (v : Volume) → find nat_cmp id vs ≡ Some v
+  found_volume : (vs : List Item) → All (λ (v : Item). ContentIs s bs v.0 v.1.entry v.1.content) vs
+      → (id : ℕ) (v : Volume) → find nat_cmp id vs ≡ Some v
       → (find nat_cmp id (map (λ (v : Item). (v.0, v.1.entry)) vs) ≡ Some v.entry) × ContentIs s bs id v.entry v.content
   found_volume [] all id v e = absurd (no_some v e)
   found_volume (w ∷ vs) all id v e = elim (told nat_cmp nat_cmp_total exact_unsigned id w.0) [
     | inl t ↦
         let same : w.1 ≡ v = same_Some w.1 v (sym (ap (λ b. cond b (Some w.1) (find nat_cmp id vs)) t.0) ∙ e) in
-        let is : ContentIs s bs w.0 w.1.entry w.1.content = All-head (λ (v : Item). ContentIs s bs v.0 v.1.entry v.1.content) w vs all in (
-          ap (λ b. cond b (Some w.1.entry) (find nat_cmp id (map (λ (v : Item). (v.0, v.1.entry)) vs))) t.0 ∙ ap (λ (x : Volume). Some x.entry) same,
-          subst (λ (x : Volume). ContentIs s bs id x.entry x.content) same (subst (λ (k : ℕ). ContentIs s bs k w.1.entry w.1.content) (sym t.1) is),
+        let is : ContentIs s bs w.0 w.1.entry w.1.content =
+        All-head (λ (v : Item). ContentIs s bs v.0 v.1.entry v.1.content) w vs all in (
+          ap (λ b. cond b (Some w.1.entry) (find nat_cmp id (map (λ (v : Item). (v.0, v.1.entry)) vs))) t.0
+              ∙ ap (λ (x : Volume). Some x.entry) same,
+          subst (λ (x : Volume). ContentIs s bs id x.entry x.content) same
+              (subst (λ (k : ℕ). ContentIs s bs k w.1.entry w.1.content) (sym t.1) is),
         )
     | inr t ↦
-        let rest = found_volume vs (All-tail (λ (v : Item). ContentIs s bs v.0 v.1.entry v.1.content) w vs all) id v (sym (ap (λ b. cond b (Some w.1) (find nat_cmp id vs)) t.0) ∙ e) in
-        (ap (λ b. cond b (Some w.1.entry) (find nat_cmp id (map (λ (v : Item). (v.0, v.1.entry)) vs))) t.0 ∙ rest.0, rest.1)
+        let rest = found_volume vs (All-tail (λ (v : Item). ContentIs s bs v.0 v.1.entry v.1.content) w vs all) id v
+        (sym (ap (λ b. cond b (Some w.1) (find nat_cmp id vs)) t.0) ∙ e) in (
+          ap (λ b. cond b (Some w.1.entry) (find nat_cmp id (map (λ (v : Item). (v.0, v.1.entry)) vs))) t.0
+              ∙ rest.0,
+          rest.1,
+        )
   ]
 
-  no_volume : (vs : List Item) (id : ℕ) → find nat_cmp id vs ≡ None → find nat_cmp id (map (λ (v : Item). (v.0, v.1.entry)) vs) ≡ None
+  no_volume : (vs : List Item) (id : ℕ) → find nat_cmp id vs ≡ None
+      → find nat_cmp id (map (λ (v : Item). (v.0, v.1.entry)) vs) ≡ None
   no_volume [] id e = refl
   no_volume (w ∷ vs) id e = elim (told nat_cmp nat_cmp_total exact_unsigned id w.0) [
     | inl t ↦ absurd (no_some w.1 (sym e ∙ ap (λ b. cond b (Some w.1) (find nat_cmp id vs)) t.0))
-    | inr t ↦ ap (λ b. cond b (Some w.1.entry) (find nat_cmp id (map (λ (v : Item). (v.0, v.1.entry)) vs))) t.0 ∙ no_volume vs id (sym (ap (λ b. cond b (Some w.1) (find nat_cmp id vs)) t.0) ∙ e)
+    | inr t ↦ ap (λ b. cond b (Some w.1.entry) (find nat_cmp id (map (λ (v : Item). (v.0, v.1.entry)) vs))) t.0
+        ∙ no_volume vs id (sym (ap (λ b. cond b (Some w.1) (find nat_cmp id vs)) t.0) ∙ e)
   ]
 
   pub contents_none : AreContents s bs [] []
   contents_none = record { alike = refl; contents = λ k d h. absurd (omega arith) }
 
-  pub contents_more : (es : List (ℕ × VolumeRecord)) (vs : List Item) (e : ℕ × VolumeRecord) (v : Volume) → AreContents s bs es vs → v.entry ≡ e.1 → ContentIs s bs e.0 e.1 v.content
+  pub contents_more : (es : List (ℕ × VolumeRecord)) (vs : List Item) (e : ℕ × VolumeRecord) (v : Volume)
+      → AreContents s bs es vs → v.entry ≡ e.1 → ContentIs s bs e.0 e.1 v.content
       → AreContents s bs (es ++ e ∷ []) (vs ++ (e.0, v) ∷ [])
   contents_more es vs e v h same is = record {
     alike = map-append (λ (v : Item). (v.0, v.1.entry)) vs ((e.0, v) ∷ []) ∙ ap (λ x. x ++ (e.0, v.entry) ∷ []) h.alike
         ∙ ap (λ (r : VolumeRecord). es ++ (e.0, r) ∷ []) same;
     contents = All-append (λ (v : Item). ContentIs s bs v.0 v.1.entry v.1.content) vs ((e.0, v) ∷ []) h.contents
-        (λ k d l. subst (λ (x : Item). ContentIs s bs x.0 x.1.entry x.1.content) (first k d l) (subst (λ (r : VolumeRecord). ContentIs s bs e.0 r v.content) (sym same) is));
+        (λ k d l. subst (λ (x : Item). ContentIs s bs x.0 x.1.entry x.1.content) (first k d l)
+        (subst (λ (r : VolumeRecord). ContentIs s bs e.0 r v.content) (sym same) is));
   }
     where
       first : (k : ℕ) (d : Item) → k < 1 → (e.0, v) ≡ get_or ((e.0, v) ∷ []) k d
       first zero d l = refl
       first (suc k) d l = absurd (omega arith)
 
-  module _ (t : Records) (is : IsTable s bs t) (g : IsGeometry s) (vs : List Item) (h : AreContents s bs (finite.entries t.of) vs) where
+  module _ (t : Records) (is : IsTable s bs t) (g : IsGeometry s) (vs : List Item)
+      (h : AreContents s bs (finite.entries t.of) vs) where
     records : AreRecords t
     records = (table_records s bs t is).1
 
@@ -103,7 +120,8 @@ module _ (s : Sizes) (bs : List (List ℕ)) where
     recorded : (id : ℕ) → finite.get t.of id ≡ find nat_cmp id (map (λ (v : Item). (v.0, v.1.entry)) vs)
     recorded id = finite.get-entries t.of id ∙ ap (find nat_cmp id) (sym h.alike)
 
-    volume_at : (id : ℕ) (v : Volume) → finite.get (from_entries {R = nat_cmp} vs) id ≡ Some v → (finite.get t.of id ≡ Some v.entry) × ContentIs s bs id v.entry v.content
+    volume_at : (id : ℕ) (v : Volume) → finite.get (from_entries {R = nat_cmp} vs) id ≡ Some v
+        → (finite.get t.of id ≡ Some v.entry) × ContentIs s bs id v.entry v.content
     volume_at id v e =
         let f = found_volume vs h.contents id v (sym (listed id) ∙ e) in
         (recorded id ∙ f.0, f.1)
@@ -117,7 +135,8 @@ module _ (s : Sizes) (bs : List (List ℕ)) where
     slot_means : (id : ℕ) → SlotMeans s bs id (finite.get t.of id) (finite.get (from_entries {R = nat_cmp} vs) id)
     slot_means id = by_volume (finite.get (from_entries {R = nat_cmp} vs) id) refl
       where
-        by_volume : (o : Option Volume) → finite.get (from_entries {R = nat_cmp} vs) id ≡ o → SlotMeans s bs id (finite.get t.of id) o
+        by_volume : (o : Option Volume) → finite.get (from_entries {R = nat_cmp} vs) id ≡ o
+            → SlotMeans s bs id (finite.get t.of id) o
         by_volume None e = subst (λ (r : Option VolumeRecord). SlotMeans s bs id r None) (sym (none_at id e)) tt
         by_volume (Some v) e =
             let f = volume_at id v e in
@@ -137,10 +156,13 @@ module _ (s : Sizes) (bs : List (List ℕ)) where
               kept = f.1.kept;
             }
 
-    reserved : sum_by (λ (v : Volume). v.entry.reserved) (finite.values (from_entries {R = nat_cmp} vs)) ≡ sum_by (λ (r : VolumeRecord). r.reserved) (finite.values t.of)
+    reserved : sum_by (λ (v : Volume). v.entry.reserved) (finite.values (from_entries {R = nat_cmp} vs))
+        ≡ sum_by (λ (r : VolumeRecord). r.reserved) (finite.values t.of)
     reserved =
-        ap (λ (es : List Item). sum_by (λ (v : Volume). v.entry.reserved) (map (λ (v : Item). v.1) es)) (sorted_entries vs sorted)
-        ∙ sym (same_sum vs 0) ∙ ap (λ es. sum_by (λ (r : VolumeRecord). r.reserved) (map (λ (e : ℕ × VolumeRecord). e.1) es)) h.alike
+        ap (λ (es : List Item). sum_by (λ (v : Volume). v.entry.reserved) (map (λ (v : Item). v.1) es))
+        (sorted_entries vs sorted)
+        ∙ sym (same_sum vs 0)
+        ∙ ap (λ es. sum_by (λ (r : VolumeRecord). r.reserved) (map (λ (e : ℕ × VolumeRecord). e.1) es)) h.alike
 
     has_space : HasSpace s t
     has_space = elim is [ inl none ↦ subst (HasSpace s) (sym none.1) (no_space s g) | inr some ↦ some.2 ]
@@ -159,5 +181,7 @@ module _ (s : Sizes) (bs : List (List ℕ)) where
     contents_mean = record { sizes = refl; meaning = are_volumes.meaning; slots = slot_means }
 
 -- an entry of a table at a place is what the table has at its number
-pub listed_at : (t : Records) (i : ℕ) (d : ℕ × VolumeRecord) → i < length (finite.entries t.of) → finite.get t.of (get_or (finite.entries t.of) i d).0 ≡ Some (get_or (finite.entries t.of) i d).1
-listed_at t i d h = finite.get-entries t.of _ ∙ find_at nat_cmp_total (finite.entries t.of) i d (finite.entries_sorted t.of) h
+pub listed_at : (t : Records) (i : ℕ) (d : ℕ × VolumeRecord) → i < length (finite.entries t.of)
+    → finite.get t.of (get_or (finite.entries t.of) i d).0 ≡ Some (get_or (finite.entries t.of) i d).1
+listed_at t i d h = finite.get-entries t.of _
+    ∙ find_at nat_cmp_total (finite.entries t.of) i d (finite.entries_sorted t.of) h

@@ -14,7 +14,8 @@ abbrev image : Sizes → List ℕ → Image
 image s bytes = record { sizes = s; bytes = bytes }
 
 -- bytes that are more than the device has are refused for that, and for nothing else
-only_too_many : (s : Sizes) (xs ys : List ℕ) (c : Refusal) → s.pebs * s.peb_size < length xs → s.pebs * s.peb_size < length ys
+only_too_many : (s : Sizes) (xs ys : List ℕ) (c : Refusal) → s.pebs * s.peb_size < length xs
+    → s.pebs * s.peb_size < length ys
     → Refuses (image s xs) c → Refuses (image s ys) c
 only_too_many s xs ys refusal.TooMany a b (inl h) = inl b
 only_too_many s xs ys refusal.Length a b (inl h) = (let few = h.0 in absurd (omega arith))
@@ -30,8 +31,14 @@ judged_alone s bytes =
     elim (within_or_past (length bytes) most) [
       | inl few ↦
           let same : judged s bytes ≡ bytes = take_all (most + 1) bytes (omega arith) in (
-            λ m. (λ h. subst (λ xs. Accepts (image s xs) m) same h, λ h. subst (λ xs. Accepts (image s xs) m) (sym same) h),
-            λ c. (λ h. subst (λ xs. Refuses (image s xs) c) same h, λ h. subst (λ xs. Refuses (image s xs) c) (sym same) h),
+            λ m. (
+              λ h. subst (λ xs. Accepts (image s xs) m) same h,
+              λ h. subst (λ xs. Accepts (image s xs) m) (sym same) h,
+            ),
+            λ c. (
+              λ h. subst (λ xs. Refuses (image s xs) c) same h,
+              λ h. subst (λ xs. Refuses (image s xs) c) (sym same) h,
+            ),
           )
       | inr many ↦
           let len : length (judged s bytes) ≡ most + 1 = length-take-le (most + 1) bytes (omega arith) in

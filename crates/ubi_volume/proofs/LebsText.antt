@@ -20,16 +20,19 @@ range_append a zero m =
 range_append a (suc n) m =
     let more : suc n + m ≡ suc (n + m) = omega arith in
     let start : a + 1 + n ≡ a + suc n = omega arith in
-    ap (range_with_len a) more ∙ ap (λ xs. a ∷ xs) (range_append (a + 1) n m ∙ ap (λ k. range_with_len (a + 1) n ++ range_with_len k m) start)
+    ap (range_with_len a) more ∙ ap (λ xs. a ∷ xs) (range_append (a + 1) n m
+    ∙ ap (λ k. range_with_len (a + 1) n ++ range_with_len k m) start)
 
 -- each is of one size
-size_of : (size : ℕ) (kept : Option (List ℕ)) → IfSome kept (λ text. length text ≡ size) → length (leb_text size kept) ≡ size
+size_of : (size : ℕ) (kept : Option (List ℕ)) → IfSome kept (λ text. length text ≡ size)
+    → length (leb_text size kept) ≡ size
 size_of size None h = length-replicate size 255
 size_of size (Some text) h = h
 
 module _ (size : ℕ) (lebs : FinMap nat_cmp (List ℕ)) where
   -- those below n, and then n and the ones behind it
-  cut : (n rest : ℕ) → lebs_text size lebs (n + suc rest) ≡ lebs_text size lebs n ++ (leb_text size (get lebs n) ++ flat_map (λ lnum. leb_text size (get lebs lnum)) (range_with_len (n + 1) rest))
+  cut : (n rest : ℕ) → lebs_text size lebs (n + suc rest) ≡ lebs_text size lebs n
+      ++ (leb_text size (get lebs n) ++ flat_map (λ lnum. leb_text size (get lebs lnum)) (range_with_len (n + 1) rest))
   cut n rest =
       let f : ℕ → List ℕ = λ lnum. leb_text size (get lebs lnum) in
       let start : 0 + n ≡ n = omega arith in
@@ -46,11 +49,13 @@ module _ (size : ℕ) (lebs : FinMap nat_cmp (List ℕ)) where
         let next : n + 1 ≡ suc n = omega arith in
         let one = size_of size (get lebs n) (sized n) in
         let below = length-lebs n in
-        ap (λ k. length (lebs_text size lebs k)) (sym next) ∙ ap length (lebs_more n) ∙ length-append (lebs_text size lebs n) (leb_text size (get lebs n))
+        ap (λ k. length (lebs_text size lebs k)) (sym next) ∙ ap length (lebs_more n)
+        ∙ length-append (lebs_text size lebs n) (leb_text size (get lebs n))
         ∙ omega (arith, one, below)
 
     -- the text up to a place in n
-    pub lebs_part : (n m k : ℕ) → n < m → k ≤ size → take (n * size + k) (lebs_text size lebs m) ≡ lebs_text size lebs n ++ take k (leb_text size (get lebs n))
+    pub lebs_part : (n m k : ℕ) → n < m → k ≤ size → take (n * size + k) (lebs_text size lebs m) ≡ lebs_text size lebs n
+        ++ take k (leb_text size (get lebs n))
     lebs_part n m k inside less =
         let rest = m - (n + 1) in
         let f : ℕ → List ℕ = λ lnum. leb_text size (get lebs lnum) in
@@ -58,14 +63,20 @@ module _ (size : ℕ) (lebs : FinMap nat_cmp (List ℕ)) where
         let at : n * size + k ≡ length (lebs_text size lebs n) + k = ap (λ j. j + k) (sym (length-lebs n)) in
         let within : k ≤ length (leb_text size (get lebs n)) = omega (arith, size_of size (get lebs n) (sized n)) in
         ap (take (n * size + k)) (ap (lebs_text size lebs) all ∙ cut n rest)
-        ∙ ap (λ j. take j (lebs_text size lebs n ++ (leb_text size (get lebs n) ++ flat_map f (range_with_len (n + 1) rest)))) at
-        ∙ take-append-add (lebs_text size lebs n) (leb_text size (get lebs n) ++ flat_map f (range_with_len (n + 1) rest)) k
-        ∙ ap (λ xs. lebs_text size lebs n ++ xs) (take-append-le k (leb_text size (get lebs n)) (flat_map f (range_with_len (n + 1) rest)) within)
+        ∙ ap
+        (λ j. take j (lebs_text size lebs n
+        ++ (leb_text size (get lebs n) ++ flat_map f (range_with_len (n + 1) rest)))) at
+        ∙ take-append-add (lebs_text size lebs n)
+        (leb_text size (get lebs n) ++ flat_map f (range_with_len (n + 1) rest)) k
+        ∙ ap (λ xs. lebs_text size lebs n ++ xs)
+        (take-append-le k (leb_text size (get lebs n)) (flat_map f (range_with_len (n + 1) rest)) within)
 
     -- what a writer received that failed at a place in n
-    pub lebs_failed : (a b c : Option (List ℕ)) (n m k : ℕ) → n < m → k ≤ size → Appends a b (lebs_text size lebs n) → Appends b c (take k (leb_text size (get lebs n)))
+    pub lebs_failed : (a b c : Option (List ℕ)) (n m k : ℕ) → n < m → k ≤ size → Appends a b (lebs_text size lebs n)
+        → Appends b c (take k (leb_text size (get lebs n)))
         → Appends a c (take (n * size + k) (lebs_text size lebs m))
-    lebs_failed a b c n m k inside less before next = subst (Appends a c) (sym (lebs_part n m k inside less)) (Appends-trans a b c _ _ before next)
+    lebs_failed a b c n m k inside less before next = subst (Appends a c) (sym (lebs_part n m k inside less))
+        (Appends-trans a b c _ _ before next)
 
     pub lebs_short : (n m k : ℕ) → n < m → k < size → n * size + k < length (lebs_text size lebs m)
     lebs_short n m k inside less =

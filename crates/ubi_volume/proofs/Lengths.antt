@@ -18,7 +18,8 @@ use Rattle.ubi_volume.proofs.LebsText.{length-lebs}
 len_of : Result (List ℕ) ReadError → Result ℕ ReadError
 len_of text = result_map_both length (λ e. e) text
 
-pub volume_len-Dynamic : (m : Meant) (id : ℕ) (v : Volume) (lebs : FinMap nat_cmp (List ℕ)) → get m.volumes id ≡ Some v → v.content ≡ content.Dynamic lebs
+pub volume_len-Dynamic : (m : Meant) (id : ℕ) (v : Volume) (lebs : FinMap nat_cmp (List ℕ)) → get m.volumes id ≡ Some v
+    → v.content ≡ content.Dynamic lebs
     → IsVolume m.sizes id v → volume_len m id ≡ Ok (v.entry.reserved * usable m.sizes v.entry)
 unfolding len_of
 volume_len-Dynamic m id v lebs found is whole =

@@ -16,4 +16,5 @@ pub listed_volume : (m : Meant) → IsMeaning m → (i : ℕ) (d : ℕ × Volume
 listed_volume m meaning i d inside =
     let item = get_or (finite.entries m.volumes) i d in
     of_some (IsVolume m.sizes item.0) (finite.get m.volumes item.0) item.1 (meaning.each item.0)
-    (finite.get-entries m.volumes item.0 ∙ find_at nat_cmp_total (finite.entries m.volumes) i d (finite.entries_sorted m.volumes) inside)
+    (finite.get-entries m.volumes item.0
+    ∙ find_at nat_cmp_total (finite.entries m.volumes) i d (finite.entries_sorted m.volumes) inside)

@@ -17,7 +17,8 @@ use Rattle.ubi_volume.specs.declared.attached.BlockState.TheVariants as state
 use Rattle.ubi_volume.proofs.Winners.{has_header, named_by}
 
 module _ (s : Sizes) (bs : List (List ℕ)) (t : Records) (p : ℕ) where
-  by_leb : (of : Leb) → IsMember s bs of p → (wins : Bool) → (wins ≡ true → Wins s bs of p) → (wins ≡ false → Wins s bs of p → ⊥)
+  by_leb : (of : Leb) → IsMember s bs of p → (wins : Bool) → (wins ≡ true → Wins s bs of p)
+      → (wins ≡ false → Wins s bs of p → ⊥)
       → (b : BlockState) → MemberStateIs t of wins b → StateIs s bs t p b
   by_leb of m wins w l state.Blank h = absurd h
   by_leb of m wins w l state.Free h = absurd h
@@ -33,13 +34,17 @@ module _ (s : Sizes) (bs : List (List ℕ)) (t : Records) (p : ℕ) where
     moved : (P : Leb → Type 0) (of : Leb) → IsMember s bs of p → P of → P (leb_of h)
     moved P of m x = subst P (named_by s bs of p h m e) x
 
-    winner_state : (of : Leb) → Wins s bs of p → (b : BlockState) → MemberStateIs t (leb_of h) true b → StateIs s bs t p b
+    winner_state : (of : Leb) → Wins s bs of p → (b : BlockState) → MemberStateIs t (leb_of h) true b
+        → StateIs s bs t p b
     winner_state of w b k =
-        by_leb (leb_of h) (moved (λ of. IsMember s bs of p) of w.member w.member) true (λ e. moved (λ of. Wins s bs of p) of w.member w) (λ e. absurd (cc)) b k
+        by_leb (leb_of h) (moved (λ of. IsMember s bs of p) of w.member w.member) true
+        (λ e. moved (λ of. Wins s bs of p) of w.member w) (λ e. absurd (cc)) b k
 
-    beaten_state : (of : Leb) → IsMember s bs of p → (Wins s bs of p → ⊥) → (b : BlockState) → MemberStateIs t (leb_of h) false b → StateIs s bs t p b
+    beaten_state : (of : Leb) → IsMember s bs of p → (Wins s bs of p → ⊥) → (b : BlockState)
+        → MemberStateIs t (leb_of h) false b → StateIs s bs t p b
     beaten_state of m l b k =
-        by_leb (leb_of h) (moved (λ of. IsMember s bs of p) of m m) false (λ e. absurd (cc)) (λ e. moved (λ of. Wins s bs of p → ⊥) of m l) b k
+        by_leb (leb_of h) (moved (λ of. IsMember s bs of p) of m m) false (λ e. absurd (cc))
+        (λ e. moved (λ of. Wins s bs of p → ⊥) of m l) b k
 
   -- the same by the header that a member has
   some_header : (of : Leb) → IsMember s bs of p → (h : VidHeader) × (member s (block bs p) ≡ Some h)
@@ -49,7 +54,8 @@ module _ (s : Sizes) (bs : List (List ℕ)) (t : Records) (p : ℕ) where
       by_some None some = absurd (cc)
       by_some (Some h) some = (h, refl)
 
-  pub state_of_winner : (of : Leb) → Wins s bs of p → (b : BlockState) → ((h : VidHeader) → member s (block bs p) ≡ Some h → MemberStateIs t (leb_of h) true b)
+  pub state_of_winner : (of : Leb) → Wins s bs of p → (b : BlockState)
+      → ((h : VidHeader) → member s (block bs p) ≡ Some h → MemberStateIs t (leb_of h) true b)
       → StateIs s bs t p b
   state_of_winner of w b k = let h = some_header of w.member in winner_state h.0 h.1 of w b (k h.0 h.1)
 
@@ -58,18 +64,28 @@ module _ (s : Sizes) (bs : List (List ℕ)) (t : Records) (p : ℕ) where
   state_of_beaten of m l b k = let h = some_header of m in beaten_state h.0 h.1 of m l b (k h.0 h.1)
 
 -- one more state behind the others
-pub states_more : (P : ℕ → BlockState → Type 0) (xs : List BlockState) (x : BlockState) (n : ℕ) → length xs ≡ n → ((q : ℕ) → IfSome (slice_get xs q) (P q)) → P n x
+pub states_more : (P : ℕ → BlockState → Type 0) (xs : List BlockState) (x : BlockState) (n : ℕ) → length xs ≡ n
+    → ((q : ℕ) → IfSome (slice_get xs q) (P q)) → P n x
     → (q : ℕ) → IfSome (slice_get (xs ++ x ∷ []) q) (P q)
 states_more P xs x n size h new q =
     let len = length-append xs (x ∷ []) in
     elim (below_same_or_above q n) [
       | inl below ↦
-          let old : IfSome (Some (get_or xs q state.Blank)) (P q) = subst (λ (o : Option BlockState). IfSome o (P q)) (slice_get-get_or xs q state.Blank (omega arith)) (h q) in
-          subst (λ (o : Option BlockState). IfSome o (P q)) (sym (slice_get-get_or (xs ++ x ∷ []) q state.Blank (omega arith) ∙ ap Some (get_or_append_left xs (x ∷ []) state.Blank q (omega arith)))) old
+          let old : IfSome (Some (get_or xs q state.Blank)) (P q) =
+          subst (λ (o : Option BlockState). IfSome o (P q)) (slice_get-get_or xs q state.Blank (omega arith))
+          (h q) in
+          subst (λ (o : Option BlockState). IfSome o (P q))
+          (sym (slice_get-get_or (xs ++ x ∷ []) q state.Blank (omega arith)
+          ∙ ap Some (get_or_append_left xs (x ∷ []) state.Blank q (omega arith)))) old
       | inr o ↦ elim o [
         | inl same ↦
-            let here : get_or (xs ++ x ∷ []) q state.Blank ≡ x = ap (λ k. get_or (xs ++ x ∷ []) k state.Blank) (same ∙ sym size) ∙ get_or-append_seam xs x [] state.Blank in
-            subst (λ (o : Option BlockState). IfSome o (P q)) (sym (slice_get-get_or (xs ++ x ∷ []) q state.Blank (omega arith) ∙ ap Some here)) (subst (λ (k : ℕ). P k x) (sym same) new)
-        | inr past ↦ subst (λ (o : Option BlockState). IfSome o (P q)) (sym (slice_get_past (xs ++ x ∷ []) q (omega arith))) tt
+            let here : get_or (xs ++ x ∷ []) q state.Blank ≡ x =
+            ap (λ k. get_or (xs ++ x ∷ []) k state.Blank) (same ∙ sym size)
+            ∙ get_or-append_seam xs x [] state.Blank in
+            subst (λ (o : Option BlockState). IfSome o (P q))
+            (sym (slice_get-get_or (xs ++ x ∷ []) q state.Blank (omega arith) ∙ ap Some here))
+            (subst (λ (k : ℕ). P k x) (sym same) new)
+        | inr past ↦ subst (λ (o : Option BlockState). IfSome o (P q))
+            (sym (slice_get_past (xs ++ x ∷ []) q (omega arith))) tt
       ]
     ]

@@ -23,7 +23,8 @@ use Rattle.ubi_volume.specs.declared.content.Volume.{Volume}
 
 module _ (z : Sizes) (bs cs : List (List ℕ)) (to : ℕ → ℕ) (h : IsMoved bs cs to) where
   -- what a LEB reads
-  leb_to : (vol : ℕ) (r : VolumeRecord) (lnum : ℕ) (text : List ℕ) → LebReads z bs vol r lnum text → LebReads z cs vol r lnum text
+  leb_to : (vol : ℕ) (r : VolumeRecord) (lnum : ℕ) (text : List ℕ) → LebReads z bs vol r lnum text
+      → LebReads z cs vol r lnum text
   leb_to vol r lnum text (inl k) = inl (
     to k.0,
     wins_to z bs cs to h (vol, lnum) k.0 k.1,
@@ -33,23 +34,27 @@ module _ (z : Sizes) (bs cs : List (List ℕ)) (to : ℕ → ℕ) (h : IsMoved b
 
   -- the pieces of a static text
   piece_to : (p : ℕ) → p < length bs → piece z cs (to p) ≡ piece z bs p
-  piece_to p i = ap (λ (b : List ℕ). take (option_map_or (λ (k : VidHeader). k.data_size) (member z b) 0) (leb z b)) (same_back z bs cs to h p i)
+  piece_to p i = ap (λ (b : List ℕ). take (option_map_or (λ (k : VidHeader). k.data_size) (member z b) 0) (leb z b))
+      (same_back z bs cs to h p i)
 
   is_piece_to : (u p : ℕ) → p < length bs → IsPiece z bs u p → IsPiece z cs u (to p)
   is_piece_to u p i k =
       let e = same_back z bs cs to h p i in
       (k.0, ap (member z) e ∙ k.1, k.2, ap (λ b. is_right z b k.0) e ∙ k.3)
 
-  pieces_to : (ps : List ℕ) → ((l : ℕ) → l < length ps → slice_index ps l < length bs) → flat_map (piece z cs) (map to ps) ≡ flat_map (piece z bs) ps
+  pieces_to : (ps : List ℕ) → ((l : ℕ) → l < length ps → slice_index ps l < length bs)
+      → flat_map (piece z cs) (map to ps) ≡ flat_map (piece z bs) ps
   pieces_to [] all = refl
-  pieces_to (p ∷ ps) all = ap₂ (λ x y. x ++ y) (piece_to p (all 0 (omega arith))) (pieces_to ps (λ l i. all (suc l) (omega arith)))
+  pieces_to (p ∷ ps) all = ap₂ (λ x y. x ++ y) (piece_to p (all 0 (omega arith)))
+      (pieces_to ps (λ l i. all (suc l) (omega arith)))
 
   whole_to : (vol : ℕ) (r : VolumeRecord) (ps : List ℕ) → AreWhole z bs vol r ps → AreWhole z cs vol r (map to ps)
   whole_to vol r ps a =
       let size : length (map to ps) ≡ length ps = length-map ps to in
       let n = a.some in
       let w = a.within in
-      let at : (l : ℕ) → l < length ps → to (slice_index ps l) ≡ slice_index (map to ps) l = λ l i. sym (get_or-map to ps l 0 0 i) in
+      let at : (l : ℕ) → l < length ps → to (slice_index ps l) ≡ slice_index (map to ps) l =
+      λ l i. sym (get_or-map to ps l 0 0 i) in
       record {
         some = omega arith;
         within = omega arith;
@@ -59,8 +64,10 @@ module _ (z : Sizes) (bs cs : List (List ℕ)) (to : ℕ → ℕ) (h : IsMoved b
         no_other = λ l i. no_member_to z bs cs to h (vol, l) (a.no_other l (omega arith));
         pieces = λ l i.
             (let j : l < length ps = omega arith in
-            let k : IsPiece z cs (length ps) (to (slice_index ps l)) = is_piece_to (length ps) (slice_index ps l) (a.win l j).member.inside (a.pieces l j) in
-            subst (λ (u : ℕ). IsPiece z cs u (slice_index (map to ps) l)) (sym size) (subst (IsPiece z cs (length ps)) (at l j) k));
+            let k : IsPiece z cs (length ps) (to (slice_index ps l)) =
+            is_piece_to (length ps) (slice_index ps l) (a.win l j).member.inside (a.pieces l j) in
+            subst (λ (u : ℕ). IsPiece z cs u (slice_index (map to ps) l)) (sym size)
+            (subst (IsPiece z cs (length ps)) (at l j) k));
       }
 
   static_to : (vol : ℕ) (r : VolumeRecord) (text : List ℕ) → StaticReads z bs vol r text → StaticReads z cs vol r text
@@ -77,7 +84,8 @@ module _ (z : Sizes) (bs cs : List (List ℕ)) (to : ℕ → ℕ) (h : IsMoved b
   volume_to vol r content.Updating k = k
   volume_to vol r (content.Dynamic lebs) k = (k.0, k.1, λ l i. leb_to z bs cs to h vol r l _ (k.2 l i))
   volume_to vol r (content.Static text) k = (k.0, k.1, static_to z bs cs to h vol r text k.2)
-  volume_to vol r content.Damaged k = (k.0, k.1, λ text d. k.2 text (static_to z cs bs to (moved_back z bs cs to h) vol r text d))
+  volume_to vol r content.Damaged k =
+      (k.0, k.1, λ text d. k.2 text (static_to z cs bs to (moved_back z bs cs to h) vol r text d))
 
   slot_to : (id : ℕ) (o : Option VolumeRecord) (v : Option Volume) → SlotMeans z bs id o v → SlotMeans z cs id o v
   slot_to id None None k = k
@@ -93,8 +101,14 @@ module _ (z : Sizes) (bs cs : List (List ℕ)) (to : ℕ → ℕ) (h : IsMoved b
   mismatch_of t p m =
       let c = m.2 in
       let w = wins_to z cs bs to (moved_back z bs cs to h) (c.vol, c.lnum) p c.wins in
-      let e = h.same p (inside_of z bs cs to h p c.wins.member.inside) in
-      (m.0, m.1, record { vol = c.vol; lnum = c.lnum; wins = w; recorded = c.recorded; within = c.within }, m.3, ap (member z) (sym e) ∙ m.4, m.5)
+      let e = h.same p (inside_of z bs cs to h p c.wins.member.inside) in (
+        m.0,
+        m.1,
+        record { vol = c.vol; lnum = c.lnum; wins = w; recorded = c.recorded; within = c.within },
+        m.3,
+        ap (member z) (sym e) ∙ m.4,
+        m.5,
+      )
 
   accepts_to : (m : Meant) → AcceptsBlocks z bs m → AcceptsBlocks z cs m
   accepts_to m a = record {
@@ -105,9 +119,11 @@ module _ (z : Sizes) (bs cs : List (List ℕ)) (to : ℕ → ℕ) (h : IsMoved b
     means = means_to a.records m a.means;
   }
 
-pub blocks_in_any_order : (s : Sizes) (bs cs : List (List ℕ)) (m : Meant) → IsPermutation bs cs → AcceptsBlocks s bs m → AcceptsBlocks s cs m
+pub blocks_in_any_order : (s : Sizes) (bs cs : List (List ℕ)) (m : Meant) → IsPermutation bs cs → AcceptsBlocks s bs m
+    → AcceptsBlocks s cs m
 blocks_in_any_order s bs cs m moved a =
-    IsPermutation-keeps bs (λ x. AcceptsBlocks s x m) a (λ l i j b c k. accepts_to s l (swap l i j) (trade i j) (swapped l i j b c) m k) cs moved
+    IsPermutation-keeps bs (λ x. AcceptsBlocks s x m) a
+    (λ l i j b c k. accepts_to s l (swap l i j) (trade i j) (swapped l i j b c) m k) cs moved
 
 pub reorder : (image other : Image) (m : Meant) → other.sizes ≡ image.sizes → IsWhole other
     → IsPermutation (eraseblocks image) (eraseblocks other) → Accepts image m → Accepts other m

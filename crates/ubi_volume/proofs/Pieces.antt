@@ -20,7 +20,8 @@ module _ (size : ℕ) (some : 1 ≤ size) where
   pub piece_begins : (n k : ℕ) → k < pieces size n → k * size < n
   piece_begins n k l =
       let whole = div-add-mod (n + (size - 1)) size in
-      let most : (k + 1) * size ≤ pieces size n * size = mul-le (k + 1) size (pieces size n) size (omega arith) (omega arith) in
+      let most : (k + 1) * size ≤ pieces size n * size = mul-le (k + 1) size (pieces size n) size (omega arith)
+      (omega arith) in
       let turned : size * pieces size n ≡ pieces size n * size = omega arith in
       let next : (k + 1) * size ≡ k * size + size = omega arith in
       omega arith
@@ -50,7 +51,8 @@ module _ (size : ℕ) (some : 1 ≤ size) where
       omega arith
 
 -- one more piece, and all of them
-pub share_more : (size : ℕ) (text : List ℕ) (k : ℕ) → take (k * size) text ++ share size text k ≡ take ((k + 1) * size) text
+pub share_more : (size : ℕ) (text : List ℕ) (k : ℕ)
+    → take (k * size) text ++ share size text k ≡ take ((k + 1) * size) text
 share_more size text k =
     let next : k * size + size ≡ (k + 1) * size = omega arith in
     sym (take-add (k * size) size text) ∙ ap (λ n. take n text) next
@@ -62,7 +64,8 @@ pub shares_all : (size : ℕ) → 1 ≤ size → (text : List ℕ) → take (pie
 shares_all size some text = take_all (pieces size (length text) * size) text (pieces_suffice size some (length text))
 
 -- pieces that are no larger than a size
-pub most_pieces : (f : ℕ → List ℕ) (size : ℕ) (ps : List ℕ) → ((i : ℕ) → i < length ps → length (f (slice_index ps i)) ≤ size) → length (flat_map f ps) ≤ length ps * size
+pub most_pieces : (f : ℕ → List ℕ) (size : ℕ) (ps : List ℕ)
+    → ((i : ℕ) → i < length ps → length (f (slice_index ps i)) ≤ size) → length (flat_map f ps) ≤ length ps * size
 most_pieces f size [] most = omega arith
 most_pieces f size (p ∷ ps) most =
     let first : length (f p) ≤ size = most 0 (omega arith) in

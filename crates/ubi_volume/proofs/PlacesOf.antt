@@ -33,26 +33,30 @@ use Rattle.ubi_volume.proofs.Recorded.{records_meant}
 use Rattle.ubi_volume.proofs.Winners.{no_some}
 
 -- one entry more
-pub numbered_more : (es : List (ℕ × VolumeRecord)) (cs : List (ℕ × PlaceContent)) (e : ℕ × VolumeRecord) (c : PlaceContent) → AreNumbered es cs → IsReserved e.1 c
+pub numbered_more : (es : List (ℕ × VolumeRecord)) (cs : List (ℕ × PlaceContent)) (e : ℕ × VolumeRecord)
+    (c : PlaceContent) → AreNumbered es cs → IsReserved e.1 c
     → AreNumbered (es ++ e ∷ []) (cs ++ (e.0, c) ∷ [])
 numbered_more [] [] e c h few = (refl, few, tt)
 numbered_more [] (y ∷ cs) e c h few = absurd h
 numbered_more (x ∷ es) [] e c h few = absurd h
 numbered_more (x ∷ es) (y ∷ cs) e c h few = (h.0, h.1, numbered_more es cs e c h.2 few)
 
-pub cases_more : (s : Sizes) (bs : List (List ℕ)) (es : List (ℕ × VolumeRecord)) (cs : List (ℕ × PlaceContent)) (e : ℕ × VolumeRecord) (c : PlaceContent) → AreCases s bs es cs → CaseIs s bs e.0 e.1 c
+pub cases_more : (s : Sizes) (bs : List (List ℕ)) (es : List (ℕ × VolumeRecord)) (cs : List (ℕ × PlaceContent))
+    (e : ℕ × VolumeRecord) (c : PlaceContent) → AreCases s bs es cs → CaseIs s bs e.0 e.1 c
     → AreCases s bs (es ++ e ∷ []) (cs ++ (e.0, c) ∷ [])
 cases_more s bs es cs e c h is =
     let v : Volume = record { entry = e.1; content = is.0 } in
     record {
       volumes = h.volumes ++ (e.0, v) ∷ [];
       contents = contents_more s bs es h.volumes e v h.contents refl is.1;
-      cases = ap (λ (x : List (ℕ × PlaceContent)). x ++ (e.0, c) ∷ []) h.cases ∙ ap (λ (x : PlaceContent). map (case_in s) h.volumes ++ (e.0, x) ∷ []) is.2
+      cases = ap (λ (x : List (ℕ × PlaceContent)). x ++ (e.0, c) ∷ []) h.cases
+          ∙ ap (λ (x : PlaceContent). map (case_in s) h.volumes ++ (e.0, x) ∷ []) is.2
           ∙ sym (map-append (case_in s) h.volumes ((e.0, v) ∷ []));
     }
 
 -- what is found by its number
-found_too : (id : ℕ) (es : List (ℕ × VolumeRecord)) (cs : List (ℕ × PlaceContent)) (r : VolumeRecord) → AreNumbered es cs → find nat_cmp id es ≡ Some r
+found_too : (id : ℕ) (es : List (ℕ × VolumeRecord)) (cs : List (ℕ × PlaceContent)) (r : VolumeRecord)
+    → AreNumbered es cs → find nat_cmp id es ≡ Some r
     → (c : PlaceContent) × (find nat_cmp id cs ≡ Some c) × IsReserved r c
 found_too id [] cs r h e = absurd (no_some r e)
 found_too id (x ∷ es) [] r h e = absurd h
@@ -60,26 +64,34 @@ found_too id (x ∷ es) (y ∷ cs) r h e =
     let other = ap (λ n. cond (eq_by_cmp nat_cmp id n) (Some x.1) (find nat_cmp id es)) h.0 in
     elim (told nat_cmp nat_cmp_total exact_unsigned id y.0) [
       | inl t ↦
-          let same : x.1 ≡ r = same_Some x.1 r (sym (ap (λ b. cond b (Some x.1) (find nat_cmp id es)) t.0) ∙ other ∙ e) in
-          (y.1, ap (λ b. cond b (Some y.1) (find nat_cmp id cs)) t.0, subst (λ (z : VolumeRecord). IsReserved z y.1) same h.1)
+          let same : x.1 ≡ r = same_Some x.1 r (sym (ap (λ b. cond b (Some x.1) (find nat_cmp id es)) t.0) ∙ other
+          ∙ e) in (
+            y.1,
+            ap (λ b. cond b (Some y.1) (find nat_cmp id cs)) t.0,
+            subst (λ (z : VolumeRecord). IsReserved z y.1) same h.1,
+          )
       | inr t ↦
-          let next = found_too id es cs r h.2 (sym (ap (λ b. cond b (Some x.1) (find nat_cmp id es)) t.0) ∙ other ∙ e) in
+          let next = found_too id es cs r h.2 (sym (ap (λ b. cond b (Some x.1) (find nat_cmp id es)) t.0) ∙ other
+          ∙ e) in
           (next.0, ap (λ b. cond b (Some y.1) (find nat_cmp id cs)) t.0 ∙ next.1, next.2)
     ]
 
-find_case : (s : Sizes) (id : ℕ) (vs : List (ℕ × Volume)) (v : Volume) → find nat_cmp id vs ≡ Some v → find nat_cmp id (map (case_in s) vs) ≡ Some (case_of s v.entry v.content)
+find_case : (s : Sizes) (id : ℕ) (vs : List (ℕ × Volume)) (v : Volume) → find nat_cmp id vs ≡ Some v
+    → find nat_cmp id (map (case_in s) vs) ≡ Some (case_of s v.entry v.content)
 find_case s id [] v e = absurd (no_some v e)
 find_case s id (w ∷ vs) v e = elim (told nat_cmp nat_cmp_total exact_unsigned id w.0) [
   | inl t ↦
       let same : w.1 ≡ v = same_Some w.1 v (sym (ap (λ b. cond b (Some w.1) (find nat_cmp id vs)) t.0) ∙ e) in
-      ap (λ b. cond b (Some (case_of s w.1.entry w.1.content)) (find nat_cmp id (map (case_in s) vs))) t.0 ∙ ap (λ (x : Volume). Some (case_of s x.entry x.content)) same
+      ap (λ b. cond b (Some (case_of s w.1.entry w.1.content)) (find nat_cmp id (map (case_in s) vs))) t.0
+      ∙ ap (λ (x : Volume). Some (case_of s x.entry x.content)) same
   | inr t ↦ ap (λ b. cond b (Some (case_of s w.1.entry w.1.content)) (find nat_cmp id (map (case_in s) vs))) t.0
       ∙ find_case s id vs v (sym (ap (λ b. cond b (Some w.1) (find nat_cmp id vs)) t.0) ∙ e)
 ]
 
 module _ (t : Records) (cs : List (ℕ × PlaceContent)) (numbered : AreNumbered (finite.entries t.of) cs) where
   -- each record has a case
-  has_case : (id : ℕ) (r : VolumeRecord) → finite.get t.of id ≡ Some r → (c : PlaceContent) × (finite.get (from_entries {R = nat_cmp} cs) id ≡ Some c) × IsReserved r c
+  has_case : (id : ℕ) (r : VolumeRecord) → finite.get t.of id ≡ Some r
+      → (c : PlaceContent) × (finite.get (from_entries {R = nat_cmp} cs) id ≡ Some c) × IsReserved r c
   has_case id r e =
       let f = found_too id (finite.entries t.of) cs r numbered (sym (finite.get-entries t.of id) ∙ e) in
       (f.0, finite.get-from_entries nat_cmp_total cs id ∙ f.1, f.2)
@@ -87,17 +99,24 @@ module _ (t : Records) (cs : List (ℕ × PlaceContent)) (numbered : AreNumbered
   pub are_listed : AreListed t cs
   are_listed id some = by_record (finite.get t.of id) refl some
     where
-      by_found : (o : Option (ℕ × PlaceContent)) (c : PlaceContent) → option_map (λ (e : ℕ × PlaceContent). e.1) o ≡ Some c → IsSome o
+      by_found : (o : Option (ℕ × PlaceContent)) (c : PlaceContent)
+          → option_map (λ (e : ℕ × PlaceContent). e.1) o ≡ Some c → IsSome o
       by_found None c e = absurd (no_some c e)
       by_found (Some x) c e = refl
 
-      by_record : (o : Option VolumeRecord) → finite.get t.of id ≡ o → IsSome o → IsSome (prelude.find (λ (e : ℕ × PlaceContent). e.0 == id) cs)
+      by_record : (o : Option VolumeRecord) → finite.get t.of id ≡ o → IsSome o
+          → IsSome (prelude.find (λ (e : ℕ × PlaceContent). e.0 == id) cs)
       by_record None e some = absurd (cc)
       by_record (Some r) e some = let c = has_case id r e in by_found _ c.0 (first_entry cs id ∙ c.1)
 
-module _ (s : Sizes) (k : Source) (found : Found) (t : Records) (scan : IsScanOf s k found) (table : IsTableOf s k t) where
+module _ (s : Sizes) (k : Source) (found : Found) (t : Records) (scan : IsScanOf s k found)
+    (table : IsTableOf s k t) where
   pub winners_refused : (e : StreamError) → IsMismatchError s k t e → ArePlacesError s k e
-  winners_refused (stream.Refused c) h = inr (scan.whole, λ bytes holds. inr (inr ((scan.held bytes holds).clean, t, table.held bytes holds, h bytes holds)))
+  winners_refused (stream.Refused c) h =
+      inr (
+        scan.whole,
+        λ bytes holds. inr (inr ((scan.held bytes holds).clean, t, table.held bytes holds, h bytes holds)),
+      )
   winners_refused (stream.Read p n) h = h
   winners_refused (stream.Write n) h = h
   winners_refused stream.Memory h = absurd h
@@ -108,7 +127,9 @@ module _ (s : Sizes) (k : Source) (found : Found) (t : Records) (scan : IsScanOf
   contents_refused (stream.Write n) h = h
   contents_refused stream.Memory h = tt
 
-  module _ (sized : IsSource k) (g : IsGeometry s) (cs : List (ℕ × PlaceContent)) (numbered : AreNumbered (finite.entries t.of) cs) (alike : WhereHeld k (λ bytes. NoMismatch s (blocks_of s bytes) t))
+  module _ (sized : IsSource k) (g : IsGeometry s) (cs : List (ℕ × PlaceContent))
+      (numbered : AreNumbered (finite.entries t.of) cs)
+      (alike : WhereHeld k (λ bytes. NoMismatch s (blocks_of s bytes) t))
       (cases : WhereHeld k (λ bytes. AreCases s (blocks_of s bytes) (finite.entries t.of) cs)) where
     abbrev placed : Placed
     placed = record { records = t; winners = found.winners; contents = from_entries cs }
@@ -120,13 +141,24 @@ module _ (s : Sizes) (k : Source) (found : Found) (t : Records) (scan : IsScanOf
         let h = cases bytes holds in
         let m : Meant = record { sizes = s; volumes = from_entries h.volumes } in
         let means : Means s bs t m = contents_mean s bs t is g h.volumes h.contents in
-        let same : from_entries {R = nat_cmp} cs ≡ from_entries (map (case_in s) h.volumes) = ap (from_entries {R = nat_cmp}) h.cases in
+        let same : from_entries {R = nat_cmp} cs ≡ from_entries (map (case_in s) h.volumes) =
+        ap (from_entries {R = nat_cmp}) h.cases in
         record {
           meaning = m;
-          accepted = record { whole = subst (IsWholeSize s) (sym (sized.sized bytes holds)) scan.whole; accepted = record { clean = (scan.held bytes holds).clean; records = t; table = is; alike = alike bytes holds; means = means } };
+          accepted = record {
+            whole = subst (IsWholeSize s) (sym (sized.sized bytes holds)) scan.whole;
+            accepted = record {
+              clean = (scan.held bytes holds).clean;
+              records = t;
+              table = is;
+              alike = alike bytes holds;
+              means = means;
+            };
+          };
           records = sym (records_meant s bs t m is means);
           winners = (scan.held bytes holds).winners;
-          contents = λ id v e. ap (λ c. finite.get c id) same ∙ finite.get-from_entries nat_cmp_total (map (case_in s) h.volumes) id
+          contents = λ id v e. ap (λ c. finite.get c id) same
+              ∙ finite.get-from_entries nat_cmp_total (map (case_in s) h.volumes) id
               ∙ find_case s id h.volumes v (sym (finite.get-from_entries nat_cmp_total h.volumes id) ∙ e);
         }
 
@@ -134,6 +166,10 @@ module _ (s : Sizes) (k : Source) (found : Found) (t : Records) (scan : IsScanOf
     are_places = record {
       sizes = table.sizes;
       whole = scan.whole;
-      within = record { winners = scan.within.winners; space = rw table.sizes table.space; contents = has_case t cs numbered };
+      within = record {
+        winners = scan.within.winners;
+        space = rw table.sizes table.space;
+        contents = has_case t cs numbered;
+      };
       held = held;
     }

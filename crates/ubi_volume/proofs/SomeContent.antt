@@ -46,12 +46,16 @@ module _ (s : Sizes) (bs : List (List ℕ)) (vol : ℕ) (r : VolumeRecord) where
         let size = whole w.0 w.1.member.inside in
         elim (false_or_true (is_blank (take (usable s r) bytes))) [
           | inl e ↦ (None, winner_blank s bs vol r lnum w.0 (usable s r) bytes w.1 refl refl size e)
-          | inr e ↦ (Some (take (usable s r) bytes), winner_text s bs vol r lnum w.0 (usable s r) bytes w.1 refl refl size e)
+          | inr e ↦ (
+            Some (take (usable s r) bytes),
+            winner_text s bs vol r lnum w.0 (usable s r) bytes w.1 refl refl size e,
+          )
         ]
   ]
 
   -- and of the LEBs below n
-  one_leb : (n : ℕ) (lebs : FinMap nat_cmp (List ℕ)) → AreGathered s bs vol r n lebs → (text : Option (List ℕ)) → LebKept s bs vol r n text
+  one_leb : (n : ℕ) (lebs : FinMap nat_cmp (List ℕ)) → AreGathered s bs vol r n lebs → (text : Option (List ℕ))
+      → LebKept s bs vol r n text
       → (more : FinMap nat_cmp (List ℕ)) × AreGathered s bs vol r (n + 1) more
   one_leb n lebs h None k = (lebs, gathered_blank s bs vol r n lebs h k)
   one_leb n lebs h (Some text) k = (finite.insert lebs n text, gathered_text s bs vol r n lebs text h k)
@@ -76,19 +80,23 @@ module _ (s : Sizes) (bs : List (List ℕ)) (vol : ℕ) where
     | inr other ↦ inr (λ k. other (ap (λ (y : Leb). y.0) (same_Some x (vol, k.0) k.2)))
     | inl e ↦ elim (within_or_past from x.1) [
       | inl l ↦ inl (x.1, l, ap (λ (v : ℕ). Some (v, x.1)) e)
-      | inr less ↦ inr (λ k. (let same : x.1 ≡ k.0 = ap (λ (y : Leb). y.1) (same_Some x (vol, k.0) k.2) in let l = k.1 in omega arith))
+      | inr less ↦ inr (λ k. (let same : x.1 ≡ k.0 = ap (λ (y : Leb). y.1) (same_Some x (vol, k.0) k.2) in
+          let l = k.1 in omega arith))
     ]
   ]
 
-  some_winner : (from p lnum : ℕ) → p < length bs → from ≤ lnum → named_in s (block bs p) ≡ Some (vol, lnum) → (l q : ℕ) × (from ≤ l) × Wins s bs (vol, l) q
+  some_winner : (from p lnum : ℕ) → p < length bs → from ≤ lnum → named_in s (block bs p) ≡ Some (vol, lnum)
+      → (l q : ℕ) × (from ≤ l) × Wins s bs (vol, l) q
   some_winner from p lnum inside l e = elim (winner_or_none s bs (vol, lnum)) [
     | inl none ↦ absurd (none p (record { inside = inside; named = e }))
     | inr w ↦ (lnum, w.0, l, w.1)
   ]
 
-  winner_behind : (from : ℕ) → ((lnum p : ℕ) × (from ≤ lnum) × Wins s bs (vol, lnum) p) ⊎ ((lnum : ℕ) → from ≤ lnum → NoMember s bs (vol, lnum))
+  winner_behind : (from : ℕ) → ((lnum p : ℕ) × (from ≤ lnum) × Wins s bs (vol, lnum) p)
+      ⊎ ((lnum : ℕ) → from ≤ lnum → NoMember s bs (vol, lnum))
   winner_behind from =
-      elim (least_or (λ p. Names from (named_in s (block bs p))) (λ p. Names from (named_in s (block bs p)) → ⊥) (length bs) (λ p l. names_or_not from (named_in s (block bs p)))) [
+      elim (least_or (λ p. Names from (named_in s (block bs p))) (λ p. Names from (named_in s (block bs p))
+      → ⊥) (length bs) (λ p l. names_or_not from (named_in s (block bs p)))) [
         | inl f ↦ inl (some_winner from f.0 f.2.0 f.1 f.2.1 f.2.2)
         | inr none ↦ inr (λ lnum l p m. none p m.inside (lnum, l, m.named))
       ]
@@ -102,7 +110,8 @@ module _ (s : Sizes) (bs : List (List ℕ)) (vol : ℕ) where
 
 module _ (s : Sizes) (bs : List (List ℕ)) (clean : NoFault s bs) (vol used : ℕ) where
   -- the piece of a LEB
-  piece_by_header : (lnum p : ℕ) → Wins s bs (vol, lnum) p → (o : Option VidHeader) → member s (block bs p) ≡ o → IsSome o → (text : Option (List ℕ)) × PieceIs s bs vol used lnum text
+  piece_by_header : (lnum p : ℕ) → Wins s bs (vol, lnum) p → (o : Option VidHeader) → member s (block bs p) ≡ o
+      → IsSome o → (text : Option (List ℕ)) × PieceIs s bs vol used lnum text
   piece_by_header lnum p w None e some = absurd (cc)
   piece_by_header lnum p w (Some h) e some =
       let text = take h.data_size (leb s (block bs p)) in
@@ -122,13 +131,19 @@ module _ (s : Sizes) (bs : List (List ℕ)) (clean : NoFault s bs) (vol used : �
 
   -- the first n pieces, or one that isn't there
   abbrev ReadOr : ℕ → Type 0
-  ReadOr n = ((text : List ℕ) × AreRead s bs vol used n text) ⊎ ((lnum : ℕ) × (lnum < n) × PieceIs s bs vol used lnum None)
+  ReadOr n = ((text : List ℕ) × AreRead s bs vol used n text)
+      ⊎ ((lnum : ℕ) × (lnum < n) × PieceIs s bs vol used lnum None)
 
-  one_piece : (n : ℕ) (text : List ℕ) → AreRead s bs vol used n text → (o : Option (List ℕ)) → PieceIs s bs vol used n o → ReadOr (suc n)
+  one_piece : (n : ℕ) (text : List ℕ) → AreRead s bs vol used n text → (o : Option (List ℕ)) → PieceIs s bs vol used n o
+      → ReadOr (suc n)
   one_piece n text h None k = inr (n, omega arith, k)
   one_piece n text h (Some more) k =
       let next : n + 1 ≡ suc n = omega arith in
-      inl (text ++ more, subst (λ (m : ℕ). AreRead s bs vol used m (text ++ more)) next (read_more s bs vol used n text more h k))
+      inl (
+        text ++ more,
+        subst (λ (m : ℕ). AreRead s bs vol used m (text ++ more)) next
+            (read_more s bs vol used n text more h k),
+      )
 
   some_read : (n : ℕ) → ReadOr n
   some_read zero = inl ([], read_none s bs vol used)
@@ -139,15 +154,29 @@ module _ (s : Sizes) (bs : List (List ℕ)) (clean : NoFault s bs) (vol used : �
 
 module _ (s : Sizes) (bs : List (List ℕ)) (clean : NoFault s bs) (vol : ℕ) (r : VolumeRecord) where
   -- what a static volume reads
-  some_static : r.marker ≡ false → r.kind ≡ kind.Static → ((lnum p : ℕ) → Wins s bs (vol, lnum) p → length (piece s bs p) ≤ usable s r) → (c : Content) × ContentIs s bs vol r c
+  some_static : r.marker ≡ false → r.kind ≡ kind.Static
+      → ((lnum p : ℕ) → Wins s bs (vol, lnum) p → length (piece s bs p) ≤ usable s r)
+      → (c : Content) × ContentIs s bs vol r c
   some_static unmarked static short =
       let u = some_used s bs vol in
       elim (within_or_past u.0 r.reserved) [
-        | inr large ↦ (content.Damaged, damaged_is s bs vol r unmarked static (damaged_large s bs clean vol u.0 u.1 r large))
+        | inr large ↦ (
+          content.Damaged,
+          damaged_is s bs vol r unmarked static
+              (damaged_large s bs clean vol u.0 u.1 r large),
+        )
         | inl few ↦ elim (winner_behind s bs vol u.0) [
-          | inl w ↦ (content.Damaged, damaged_is s bs vol r unmarked static (damaged_behind s bs clean vol u.0 u.1 r w.0 w.1 w.2 w.3))
+          | inl w ↦ (
+            content.Damaged,
+            damaged_is s bs vol r unmarked static
+                (damaged_behind s bs clean vol u.0 u.1 r w.0 w.1 w.2 w.3),
+          )
           | inr none ↦ elim (some_read s bs clean vol u.0 u.0) [
-            | inr bad ↦ (content.Damaged, damaged_is s bs vol r unmarked static (damaged_piece s bs clean vol u.0 u.1 r bad.0 bad.1 bad.2))
+            | inr bad ↦ (
+              content.Damaged,
+              damaged_is s bs vol r unmarked static
+                  (damaged_piece s bs clean vol u.0 u.1 r bad.0 bad.1 bad.2),
+            )
             | inl t ↦ (content.Static t.0, static_is s bs vol r unmarked static u.0 t.0 t.1 few none short)
           ]
         ]
@@ -158,7 +187,8 @@ module _ (s : Sizes) (bs : List (List ℕ)) (clean : NoFault s bs) (vol : ℕ) (
       let lebs = some_lebs s bs vol r whole r.reserved in
       (content.Dynamic lebs.0, dynamic_is s bs vol r lebs.0 unmarked dynamic lebs.1)
 
-  module _ (whole : AreLebs s bs) (t : Records) (alike : NoMismatch s bs t) (recorded : finite.get t.of vol ≡ Some r) where
+  module _ (whole : AreLebs s bs) (t : Records) (alike : NoMismatch s bs t)
+      (recorded : finite.get t.of vol ≡ Some r) where
     by_kind : (k : VolKind) → r.kind ≡ k → r.marker ≡ false → (c : Content) × ContentIs s bs vol r c
     by_kind kind.Dynamic e unmarked = some_dynamic whole unmarked e
     by_kind kind.Static e unmarked = some_static unmarked e (short_piece s bs t alike vol r recorded unmarked e)

@@ -53,7 +53,10 @@ disagrees_or_not s r h = elim (false_or_true r.marker) [
   | inl marked ↦ inr (λ d. (let e = d.0 in cc))
   | inr unmarked ↦ elim (within_or_not r h.lnum) [
     | inr out ↦ inr (λ d. out d.1)
-    | inl within ↦ elim (unlike_or_not s r h) [ inl unlike ↦ inl (unmarked, within, unlike) | inr like ↦ inr (λ d. like d.2) ]
+    | inl within ↦ elim (unlike_or_not s r h) [
+      | inl unlike ↦ inl (unmarked, within, unlike)
+      | inr like ↦ inr (λ d. like d.2)
+    ]
   ]
 ]
 
@@ -62,7 +65,8 @@ module _ (s : Sizes) (bs : List (List ℕ)) (t : Records) (clean : NoFault s bs)
   OrNot p = IsMismatched s bs t p ⊎ (IsMismatched s bs t p → ⊥)
 
   -- by the record of a winner's volume
-  by_record : (p : ℕ) (h : VidHeader) → member s (block bs p) ≡ Some h → Wins s bs (leb_of h) p → (o : Option VolumeRecord) → finite.get t.of h.vol_id ≡ o → OrNot p
+  by_record : (p : ℕ) (h : VidHeader) → member s (block bs p) ≡ Some h → Wins s bs (leb_of h) p
+      → (o : Option VolumeRecord) → finite.get t.of h.vol_id ≡ o → OrNot p
   by_record p h e w None none = inr (no_record_no_mismatch s bs t p h e w none)
   by_record p h e w (Some r) got = elim (disagrees_or_not s r h) [
     | inl d ↦ inl ((mismatch_by_header s bs t p h e w r got).0 d)
@@ -84,7 +88,8 @@ module _ (s : Sizes) (bs : List (List ℕ)) (t : Records) (clean : NoFault s bs)
       moved m = subst (λ (of : Leb). Wins s bs of p) (named_by s bs (m.2.vol, m.2.lnum) p h m.2.wins.member e) m.2.wins
 
   pub mismatch_or_none : NoMismatch s bs t ⊎ ((c : Refusal) × IsVolumeFault s bs t c)
-  mismatch_or_none = elim (least_or (IsMismatched s bs t) (λ p. IsMismatched s bs t p → ⊥) (length bs) (λ p l. by_header p (member s (block bs p)) refl)) [
-    | inl f ↦ inr (refusal.Mismatch f.0, (f.2, f.3))
-    | inr none ↦ inl (λ p m. none p m.2.wins.member.inside m)
-  ]
+  mismatch_or_none = elim (least_or (IsMismatched s bs t) (λ p. IsMismatched s bs t p
+      → ⊥) (length bs) (λ p l. by_header p (member s (block bs p)) refl)) [
+        | inl f ↦ inr (refusal.Mismatch f.0, (f.2, f.3))
+        | inr none ↦ inl (λ p m. none p m.2.wins.member.inside m)
+      ]

@@ -18,7 +18,8 @@ module _ (image : Image) (seen : Seen) (is : IsSurvey image seen) where
 
   -- the records are those of the image's table
   same : accepts.records ≡ seen.records
-  same = sym (is.records ∙ records_meant image.sizes (eraseblocks image) accepts.records is.meaning accepts.table accepts.means)
+  same = sym (is.records ∙ records_meant image.sizes (eraseblocks image) accepts.records is.meaning accepts.table
+      accepts.means)
 
   table : IsTable image.sizes (eraseblocks image) seen.records
   table = subst (IsTable image.sizes (eraseblocks image)) same accepts.table
@@ -31,7 +32,10 @@ module _ (image : Image) (seen : Seen) (is : IsSurvey image seen) where
   are_alike = subst (NoMismatch image.sizes (eraseblocks image)) same accepts.alike
 
   -- with what the eraseblocks and these records mean, it is what attaching gives
-  pub attached_with : (m : Meant) → Means image.sizes (eraseblocks image) seen.records m → IsAttached image (record { meaning = m; scan = seen.scan; states = seen.states })
+  pub attached_with : (m : Meant) → Means image.sizes (eraseblocks image) seen.records m
+      → IsAttached image (record { meaning = m; scan = seen.scan; states = seen.states })
   attached_with m means =
-      attached image is.attached.accepted.whole accepts.clean seen.scan seen.records m seen.states is.attached.scan table are_alike means
-      (subst (λ (r : Records). AreStates image.sizes (eraseblocks image) r seen.states) (sym is.records) is.attached.states)
+      attached image is.attached.accepted.whole accepts.clean seen.scan seen.records m seen.states is.attached.scan
+      table are_alike means
+      (subst (λ (r : Records). AreStates image.sizes (eraseblocks image) r seen.states) (sym is.records)
+      is.attached.states)

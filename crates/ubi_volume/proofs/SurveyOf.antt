@@ -25,9 +25,12 @@ states_refused s k (stream.Read p n) h = h
 states_refused s k (stream.Write n) h = h
 states_refused s k stream.Memory h = tt
 
-module _ (s : Sizes) (k : Source) (found : Found) (t : Records) (states : List BlockState) (g : IsGeometry s) (sized : IsSource k)
-    (scan : IsScanOf s k found) (table : IsTableOf s k t) (alike : WhereHeld k (λ bytes. NoMismatch s (blocks_of s bytes) t)) (are : AreStatesOf s k t states) where
-  held : (bytes : List ℕ) → k.held ≡ Some bytes → IsSurvey (image_of s bytes) (record { records = t; scan = found; states = states })
+module _ (s : Sizes) (k : Source) (found : Found) (t : Records) (states : List BlockState) (g : IsGeometry s)
+    (sized : IsSource k)
+    (scan : IsScanOf s k found) (table : IsTableOf s k t)
+    (alike : WhereHeld k (λ bytes. NoMismatch s (blocks_of s bytes) t)) (are : AreStatesOf s k t states) where
+  held : (bytes : List ℕ) → k.held ≡ Some bytes
+      → IsSurvey (image_of s bytes) (record { records = t; scan = found; states = states })
   held bytes holds =
       let image : Image = record { sizes = s; bytes = bytes } in
       let bs = blocks_of s bytes in
@@ -36,7 +39,8 @@ module _ (s : Sizes) (k : Source) (found : Found) (t : Records) (states : List B
       let m = some_meaning s bs (are_lebs image) is.clean t (alike bytes holds) g (table.held bytes holds) in
       record {
         meaning = m.0;
-        attached = attached image whole is.clean found t m.0 states is (table.held bytes holds) (alike bytes holds) m.1 (are.held bytes holds);
+        attached = attached image whole is.clean found t m.0 states is (table.held bytes holds) (alike bytes holds) m.1
+            (are.held bytes holds);
         records = sym (records_meant s bs t m.0 (table.held bytes holds) m.1);
       }
 

@@ -10,7 +10,8 @@ use Rattle.ubi_table.specs.Table.{IsTable}
 use Rattle.ubi_table.proofs.Held.{table_records}
 
 -- they break no rule of the image's sizes
-pub recorded_sound : (s : Sizes) (bs : List (List ℕ)) (t : Records) → IsTable s bs t → (id : ℕ) (r : VolumeRecord) → finite.get t.of id ≡ Some r → rec_fault s r ≡ None
+pub recorded_sound : (s : Sizes) (bs : List (List ℕ)) (t : Records) → IsTable s bs t → (id : ℕ) (r : VolumeRecord)
+    → finite.get t.of id ≡ Some r → rec_fault s r ≡ None
 recorded_sound s bs t is id r e =
     let h = table_records s bs t is in
     subst (λ (z : Sizes). rec_fault z r ≡ None) h.0 (h.1.sound id r e)

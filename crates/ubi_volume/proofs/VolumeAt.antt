@@ -21,42 +21,54 @@ module _ (s : Sizes) (p : Placed) (image : List ℕ) (places : ArePlaces (image_
   table = places.accepted.accepted.records
 
   pub same_records : table ≡ p.records
-  same_records = sym (records_meant s (blocks_of s image) table places.meaning places.accepted.accepted.table places.accepted.accepted.means) ∙ sym places.records
+  same_records = sym (records_meant s (blocks_of s image) table places.meaning places.accepted.accepted.table
+      places.accepted.accepted.means) ∙ sym places.records
 
   -- the winner of a LEB that is found, or there is none
-  pub found_or_none : (of : Leb) → ((q : ℕ) × (finite.get p.winners of ≡ Some q) × Wins s (blocks_of s image) of q) ⊎ NoMember s (blocks_of s image) of
+  pub found_or_none : (of : Leb) → ((q : ℕ) × (finite.get p.winners of ≡ Some q) × Wins s (blocks_of s image) of q)
+      ⊎ NoMember s (blocks_of s image) of
   found_or_none of = by_found (finite.get p.winners of) refl (places.winners of)
     where
-      by_found : (o : Option ℕ) → finite.get p.winners of ≡ o → MatchOption o (NoMember s (blocks_of s image) of) (Wins s (blocks_of s image) of)
-          → ((q : ℕ) × (finite.get p.winners of ≡ Some q) × Wins s (blocks_of s image) of q) ⊎ NoMember s (blocks_of s image) of
+      by_found : (o : Option ℕ) → finite.get p.winners of ≡ o
+          → MatchOption o (NoMember s (blocks_of s image) of) (Wins s (blocks_of s image) of)
+          → ((q : ℕ) × (finite.get p.winners of ≡ Some q) × Wins s (blocks_of s image) of q)
+          ⊎ NoMember s (blocks_of s image) of
       by_found None e h = inr h
       by_found (Some q) e h = inl (q, e, h)
 
   pub found_wins : (of : Leb) (q : ℕ) → finite.get p.winners of ≡ Some q → Wins s (blocks_of s image) of q
-  found_wins of q e = subst (λ (o : Option ℕ). MatchOption o (NoMember s (blocks_of s image) of) (Wins s (blocks_of s image) of)) e (places.winners of)
+  found_wins of q e =
+      subst (λ (o : Option ℕ). MatchOption o (NoMember s (blocks_of s image) of) (Wins s (blocks_of s image) of)) e
+      (places.winners of)
 
   module _ (id : ℕ) (r : VolumeRecord) (recorded : finite.get p.records.of id ≡ Some r) where
     pub in_table : finite.get table.of id ≡ Some r
     in_table = ap (λ (x : Records). finite.get x.of id) same_records ∙ recorded
 
     -- what the volume reads
-    pub reads_of : (v : Volume) → finite.get places.meaning.volumes id ≡ Some v → (v.entry ≡ r) × VolumeReads s (blocks_of s image) id r v.content
+    pub reads_of : (v : Volume) → finite.get places.meaning.volumes id ≡ Some v
+        → (v.entry ≡ r) × VolumeReads s (blocks_of s image) id r v.content
     reads_of v at = subst (SlotMeans s (blocks_of s image) id (Some r)) at
-        (subst (λ (o : Option VolumeRecord). SlotMeans s (blocks_of s image) id o (finite.get places.meaning.volumes id)) in_table (places.accepted.accepted.means.slots id))
+        (subst (λ (o : Option VolumeRecord). SlotMeans s (blocks_of s image) id o
+        (finite.get places.meaning.volumes id)) in_table (places.accepted.accepted.means.slots id))
 
     -- and its case
-    pub case_is : (v : Volume) → finite.get places.meaning.volumes id ≡ Some v → (c : PlaceContent) → finite.get p.contents id ≡ Some c → case_of s r v.content ≡ c
+    pub case_is : (v : Volume) → finite.get places.meaning.volumes id ≡ Some v → (c : PlaceContent)
+        → finite.get p.contents id ≡ Some c → case_of s r v.content ≡ c
     case_is v at c e =
         same_Some (case_of s r v.content) c
-        (ap (λ (x : VolumeRecord). Some (case_of s x v.content)) (sym (reads_of v at).0) ∙ sym (places.contents id v at) ∙ e)
+        (ap (λ (x : VolumeRecord). Some (case_of s x v.content)) (sym (reads_of v at).0) ∙ sym (places.contents id v at)
+        ∙ e)
 
     -- the next place of a LEB that counts and has a member is its winner
     module _ (n : ℕ) (within : IsWithin r n) where
-      pub is_next : (l q : ℕ) → IsNextPlace p id n (Some (l, q)) → (NoMember s (blocks_of s image) (id, n) → ⊥) → Wins s (blocks_of s image) (id, n) q
+      pub is_next : (l q : ℕ) → IsNextPlace p id n (Some (l, q)) → (NoMember s (blocks_of s image) (id, n) → ⊥)
+          → Wins s (blocks_of s image) (id, n) q
       is_next l q next some = elim (found_or_none (id, n)) [
         | inr none ↦ absurd (some none)
         | inl w ↦
-            let same : l ≡ n = at_most l (next.0) (λ less. next.2 n w.0 (omega arith) less (r, recorded, within, w.1)) in
+            let same : l ≡ n = at_most l (next.0)
+            (λ less. next.2 n w.0 (omega arith) less (r, recorded, within, w.1)) in
             subst (λ (k : ℕ). Wins s (blocks_of s image) (id, k) q) same (found_wins (id, l) q next.1.3)
       ]
         where

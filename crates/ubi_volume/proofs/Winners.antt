@@ -15,11 +15,13 @@ pub no_some : {A : Type 0} (a : A) → None ≡ Some a → ⊥
 no_some a e = cc
 
 -- the LEB of a member is that of its header
-pub named_by : (s : Sizes) (bs : List (List ℕ)) (of : Leb) (p : ℕ) (h : VidHeader) → IsMember s bs of p → member s (block bs p) ≡ Some h → of ≡ leb_of h
+pub named_by : (s : Sizes) (bs : List (List ℕ)) (of : Leb) (p : ℕ) (h : VidHeader) → IsMember s bs of p
+    → member s (block bs p) ≡ Some h → of ≡ leb_of h
 named_by s bs of p h m e = same_Some of (leb_of h) (sym m.named ∙ ap (option_map leb_of) e)
 
 -- a member has a header
-pub has_header : (s : Sizes) (bs : List (List ℕ)) (of : Leb) (p : ℕ) → IsMember s bs of p → IsSome (member s (block bs p))
+pub has_header : (s : Sizes) (bs : List (List ℕ)) (of : Leb) (p : ℕ) → IsMember s bs of p
+    → IsSome (member s (block bs p))
 has_header s bs of p m = by_name (member s (block bs p)) m.named
   where
     by_name : (o : Option VidHeader) → option_map leb_of o ≡ Some of → IsSome o
@@ -28,7 +30,8 @@ has_header s bs of p m = by_name (member s (block bs p)) m.named
 
 module _ (s : Sizes) (bs : List (List ℕ)) (found : Found) (scan : IsScan s bs found) where
   -- what the scan says of an eraseblock holds of it
-  pub state_holds : (p : ℕ) (state : ScanState) → slice_get found.states p ≡ Some state → scan_states.StateIs s bs p state
+  pub state_holds : (p : ℕ) (state : ScanState) → slice_get found.states p ≡ Some state
+      → scan_states.StateIs s bs p state
   state_holds p state e = subst (λ (o : Option ScanState). IfSome o (scan_states.StateIs s bs p)) e (scan.states.1 p)
 
   -- the winner that is found wins, and where none is found there is no member
@@ -39,12 +42,14 @@ module _ (s : Sizes) (bs : List (List ℕ)) (found : Found) (scan : IsScan s bs 
   none_found of e = subst (λ (o : Option ℕ). MatchOption o (NoMember s bs of) (Wins s bs of)) e (scan.winners of)
 
 -- what a next winner is, by whether there is one
-pub next_none : (found : Found) (vol from : ℕ) (next : Option (ℕ × ℕ)) → is_some next ≡ false → IsNextWinner found.winners vol from next
+pub next_none : (found : Found) (vol from : ℕ) (next : Option (ℕ × ℕ)) → is_some next ≡ false
+    → IsNextWinner found.winners vol from next
     → (lnum : ℕ) → from ≤ lnum → finite.get found.winners (vol, lnum) ≡ None
 next_none found vol from None e h = h
 next_none found vol from (Some x) e h = absurd (cc)
 
-pub next_some : (found : Found) (vol from : ℕ) (next : Option (ℕ × ℕ)) → is_some next ≡ true → IsNextWinner found.winners vol from next
+pub next_some : (found : Found) (vol from : ℕ) (next : Option (ℕ × ℕ)) → is_some next ≡ true
+    → IsNextWinner found.winners vol from next
     → (lnum p : ℕ) × (from ≤ lnum) × (finite.get found.winners (vol, lnum) ≡ Some p)
 next_some found vol from None e h = absurd (cc)
 next_some found vol from (Some x) e h = (x.0, x.1, h.0, h.1)

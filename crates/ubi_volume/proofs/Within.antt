@@ -20,7 +20,8 @@ module _ (reserved size : ℕ) where
   within e = Decides-and _ _ (Decides-ltb e.0 reserved) (unsigned_Decides (length e.1) size)
 
   all_within : (es : List (ℕ × List ℕ)) → Decides (list_all (is_within reserved size) es) (All Within es)
-  all_within es = Decides-by_and (is_within reserved size) Within (list_all (is_within reserved size)) within refl (λ _ _. refl) es
+  all_within es = Decides-by_and (is_within reserved size) Within (list_all (is_within reserved size)) within refl
+      (λ _ _. refl) es
 
   pub each_within : (lebs : FinMap nat_cmp (List ℕ)) → IsTrue (list_all (is_within reserved size) (finite.entries lebs))
       ↔ ((lnum : ℕ) → IfSome (finite.get lebs lnum) (λ text. (lnum < reserved) × (length text ≡ size)))
@@ -35,15 +36,20 @@ module _ (reserved size : ℕ) where
       es : List (ℕ × List ℕ)
       es = finite.entries lebs
 
-      by_text : IsTrue (list_all (is_within reserved size) (finite.entries lebs)) → (lnum : ℕ) (o : Option (List ℕ)) → finite.get lebs lnum ≡ o
+      by_text : IsTrue (list_all (is_within reserved size) (finite.entries lebs)) → (lnum : ℕ) (o : Option (List ℕ))
+          → finite.get lebs lnum ≡ o
           → IfSome o (λ text. (lnum < reserved) × (length text ≡ size))
       by_text t lnum None e = tt
       by_text t lnum (Some text) e =
-          let at = place_of nat_cmp_total nat_cmp-IsAntisymmetric lnum text (lnum, text) (finite.entries lebs) (sym (finite.get-entries lebs lnum) ∙ e) in
+          let at = place_of nat_cmp_total nat_cmp-IsAntisymmetric lnum text (lnum, text) (finite.entries lebs)
+          (sym (finite.get-entries lebs lnum) ∙ e) in
           subst Within at.2 ((all_within (finite.entries lebs)).0 t at.0 (lnum, text) at.1)
 
-  pub tree_within : (m : BTreeMap ℕ (List ℕ)) → tree.IsOrdered nat_cmp m → (b : Bool) → b ≡ list_all (is_within reserved size) m.entries
-      → IsTrue b ↔ ((lnum : ℕ) → IfSome (finite.get (finite.from_entries {R = nat_cmp} m.entries) lnum) (λ text. (lnum < reserved) × (length text ≡ size)))
+  pub tree_within : (m : BTreeMap ℕ (List ℕ)) → tree.IsOrdered nat_cmp m → (b : Bool)
+      → b ≡ list_all (is_within reserved size) m.entries
+      → IsTrue b
+      ↔ ((lnum : ℕ) → IfSome (finite.get (finite.from_entries {R = nat_cmp} m.entries) lnum)
+      (λ text. (lnum < reserved) × (length text ≡ size)))
   tree_within m ordered b e =
       let same : list_all (is_within reserved size) (finite.entries (finite.from_entries {R = nat_cmp} m.entries)) ≡ b =
       ap (list_all (is_within reserved size)) (entries_tree nat_cmp_total nat_cmp-IsAntisymmetric m ordered) ∙ sym e in

@@ -75,7 +75,8 @@ image_causes s bs a id lnum =
 
 -- the eraseblocks that a plan works on: the winner if the LEB has one, and those that are taken
 abbrev pub ArePlacesOf : Sizes → List (List ℕ) → Whole → ℕ → ℕ → Places → Type 0
-ArePlacesOf s bs a id lnum (places.Mapped copy old) = (get a.scan.winners (id, lnum) ≡ Some old) × (copy ≡ taken s bs a 0)
+ArePlacesOf s bs a id lnum (places.Mapped copy old) = (get a.scan.winners (id, lnum) ≡ Some old)
+    × (copy ≡ taken s bs a 0)
 ArePlacesOf s bs a id lnum (places.Unmapped first copy) =
     (get a.scan.winners (id, lnum) ≡ None) × (first ≡ taken s bs a 0) × (copy ≡ taken s bs a 1)
 
@@ -86,7 +87,8 @@ ArePlaces s bs a id lnum on = ArePlacesOf s bs a id lnum on × (first_of (image_
 -- what is needed to write the steps: the eraseblocks lie in the image, and the sequence numbers have 64 bits
 abbrev pub AreWithin : Sizes → List (List ℕ) → Whole → Places → Type 0
 AreWithin s bs a (places.Mapped copy old) = (copy < length bs) × (old < length bs) × (a.scan.top_sqnum + 1 < 2 ^ 64)
-AreWithin s bs a (places.Unmapped first copy) = (first < length bs) × (copy < length bs) × (a.scan.top_sqnum + 2 < 2 ^ 64)
+AreWithin s bs a (places.Unmapped first copy) = (first < length bs) × (copy < length bs)
+    × (a.scan.top_sqnum + 2 < 2 ^ 64)
 
 -- the steps for a LEB with a winner
 abbrev pub mapped_steps : Sizes → List (List ℕ) → Whole → Target → List ℕ → ℕ → ℕ → List Step
@@ -97,7 +99,8 @@ mapped_steps s bs a t new copy old =
 abbrev pub unmapped_steps : Sizes → List (List ℕ) → Whole → Target → List ℕ → ℕ → ℕ → List Step
 unmapped_steps s bs a t new first copy =
     mount s bs a first (blank_header t.data_pad t.id t.lnum (a.scan.top_sqnum + 1))
-    ++ atomic_copy s bs a copy (copy_header 0 t.data_pad t.id t.lnum (a.scan.top_sqnum + 2) new) new first (ready_ec s bs a first)
+    ++ atomic_copy s bs a copy (copy_header 0 t.data_pad t.id t.lnum (a.scan.top_sqnum + 2) new) new first
+    (ready_ec s bs a first)
 
 abbrev pub steps_on : Sizes → List (List ℕ) → Whole → Target → List ℕ → Places → List Step
 steps_on s bs a t new (places.Mapped copy old) = mapped_steps s bs a t new copy old

@@ -34,7 +34,8 @@ kept_bytes s pad vol lnum text = if is_blank text then [] else laid_bytes s new_
 
 -- the same, where the text is the first `size` bytes at a place of an image
 abbrev pub dynamic_text : Sizes → ℕ → ℕ → ℕ → ℕ → ℕ → List ℕ → List ℕ → Type 0
-dynamic_text s pad vol lnum size p image text = text ≡ kept_bytes s pad vol lnum (take size (leb s (block (blocks_of s image) p)))
+dynamic_text s pad vol lnum size p image text = text ≡ kept_bytes s pad vol lnum
+    (take size (leb s (block (blocks_of s image) p)))
 
 -- the volume with a number, of the meaning of an image whose places these are
 pub record IsVolumeOf (s : Sizes) (p : Placed) (id : ℕ) (image : List ℕ) (v : Volume) : Type 0 where
@@ -44,7 +45,8 @@ pub record IsVolumeOf (s : Sizes) (p : Placed) (id : ℕ) (image : List ℕ) (v 
 -- the eraseblocks of that volume
 abbrev pub volume_text : Sizes → Placed → ℕ → List ℕ → List ℕ → Type 0
 volume_text s p id image text =
-    (v : Volume) × IsVolumeOf s p id image v × (text ≡ flat_map (laid_bytes s new_ec) (volume_blocks s id v.entry v.content))
+    (v : Volume) × IsVolumeOf s p id image v
+    × (text ≡ flat_map (laid_bytes s new_ec) (volume_blocks s id v.entry v.content))
 
 -- those of all volumes
 abbrev pub volumes_text : Sizes → Placed → List ℕ → List ℕ → Type 0

@@ -21,7 +21,8 @@ IsMismatchError s k t e = IsReadFault (blocks_in s k) e
 
 -- the size of the piece of a text of so many LEBs that the winner of a LEB holds, if it holds one
 abbrev pub PieceSizeIs : Sizes → List (List ℕ) → ℕ → ℕ → ℕ → Option ℕ → Type 0
-PieceSizeIs s bs vol used lnum size = (text : Option (List ℕ)) × PieceIs s bs vol used lnum text × (size ≡ option_map length text)
+PieceSizeIs s bs vol used lnum size = (text : Option (List ℕ)) × PieceIs s bs vol used lnum text
+    × (size ≡ option_map length text)
 
 -- the size of the text of the first n pieces
 abbrev pub SizeIsRead : Sizes → List (List ℕ) → ℕ → ℕ → ℕ → ℕ → Type 0
@@ -36,7 +37,8 @@ abbrev pub case_in : Sizes → ℕ × Volume → ℕ × PlaceContent
 case_in s v = (v.0, case_of s v.1.entry v.1.content)
 
 -- those of the volumes of the entries
-pub record AreCases (s : Sizes) (bs : List (List ℕ)) (entries : List (ℕ × VolumeRecord)) (listed : List (ℕ × PlaceContent)) : Type 0 where
+pub record AreCases (s : Sizes) (bs : List (List ℕ)) (entries : List (ℕ × VolumeRecord))
+    (listed : List (ℕ × PlaceContent)) : Type 0 where
   pub volumes : List (ℕ × Volume)
   pub contents : AreContents s bs entries volumes
   pub cases : listed ≡ map (case_in s) volumes

@@ -21,13 +21,15 @@ pub record ContentIs (s : Sizes) (bs : List (List ℕ)) (vol : ℕ) (r : VolumeR
   pub kept : KeepsNoBlank s r c
 
 -- what is kept of a LEB: its text, but where that is 0xFF throughout
-pub record LebKept (s : Sizes) (bs : List (List ℕ)) (vol : ℕ) (r : VolumeRecord) (lnum : ℕ) (text : Option (List ℕ)) : Type 0 where
+pub record LebKept (s : Sizes) (bs : List (List ℕ)) (vol : ℕ) (r : VolumeRecord) (lnum : ℕ)
+    (text : Option (List ℕ)) : Type 0 where
   pub reads : LebReads s bs vol r lnum (unwrap_or text (blank (usable s r)))
   pub size : IfSome text (λ t. length t ≡ usable s r)
   pub some : IfSome text (λ t. t ≢ blank (usable s r))
 
 -- the LEBs below n are kept, and no others
-pub record AreGathered (s : Sizes) (bs : List (List ℕ)) (vol : ℕ) (r : VolumeRecord) (n : ℕ) (lebs : FinMap nat_cmp (List ℕ)) : Type 0 where
+pub record AreGathered (s : Sizes) (bs : List (List ℕ)) (vol : ℕ) (r : VolumeRecord) (n : ℕ)
+    (lebs : FinMap nat_cmp (List ℕ)) : Type 0 where
   pub below : (lnum : ℕ) → lnum < n → LebKept s bs vol r lnum (get lebs lnum)
   pub none : (lnum : ℕ) → n ≤ lnum → get lebs lnum ≡ None
 
@@ -55,7 +57,8 @@ pub record AreRead (s : Sizes) (bs : List (List ℕ)) (vol used n : ℕ) (text :
   pub joined : text ≡ flat_map (piece s bs) ps
 
 -- the volume of an entry is its record and what it reads, for each of the entries
-pub record AreContents (s : Sizes) (bs : List (List ℕ)) (entries : List (ℕ × VolumeRecord)) (volumes : List (ℕ × Volume)) : Type 0 where
+pub record AreContents (s : Sizes) (bs : List (List ℕ)) (entries : List (ℕ × VolumeRecord))
+    (volumes : List (ℕ × Volume)) : Type 0 where
   pub alike : map (λ v. (v.0, v.1.entry)) volumes ≡ entries
   pub contents : All (λ v. ContentIs s bs v.0 v.1.entry v.1.content) volumes
 

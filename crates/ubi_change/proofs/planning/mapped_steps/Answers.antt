@@ -2,4 +2,10 @@ use Rattle.std.proofs.Common.{refl}
 use Rattle.ubi_change.proofs.planning.mapped_steps.Goals as goal
 
 pub returns : goal.returns
-returns c = rw (c.in_ok-push_copy.ensures, c.new-steps.ensures.items, c.copy_header.ensures, c.ec_at.ensures.value, c.top_sqnum.ensures) refl
+returns c = rw (
+  c.in_ok-push_copy.ensures,
+  c.new-steps.ensures.items,
+  c.copy_header.ensures,
+  c.ec_at.ensures.value,
+  c.top_sqnum.ensures,
+) refl

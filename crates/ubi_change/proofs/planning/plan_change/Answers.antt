@@ -32,7 +32,8 @@ returns-in_default-clause-refused c =
     let is : IsSurvey image c.in_ok-surveyed.surveyed = c.in_ok-surveyed.ensures.survey in
     let a : Whole = whole image c.in_ok-surveyed.surveyed is in
     no_volume image a is.attached c.args.id c.args.lnum c.args.new.now
-    (has_none image c.in_ok-surveyed.surveyed is c.args.id (sym (c.in_default.ensures.value ∙ ap (λ (t : Records). get t.of c.args.id) c.table.ensures)))
+    (has_none image c.in_ok-surveyed.surveyed is c.args.id
+    (sym (c.in_default.ensures.value ∙ ap (λ (t : Records). get t.of c.args.id) c.table.ensures)))
 
 pub returns-in-Some-own_cause-clause-refused : goal.returns-in-Some-own_cause-clause-refused
 returns-in-Some-own_cause-clause-refused c =
@@ -43,7 +44,8 @@ returns-in-Some-own_cause-clause-refused c =
     (sym (c.in-Some.ensures.value ∙ ap (λ (t : Records). get t.of c.args.id) c.table.ensures)) in
     let v : Volume = record { entry = c.in-Some.entry.now; content = meant.0 } in
     let there : get a.meaning.volumes c.args.id ≡ Some v = meant.1 in
-    let cause : Some c.in-Some-own_cause.cause ≡ first_of (own_causes c.args.geometry.now v.entry c.args.lnum c.args.new.now) = c.in-Some-own_cause.ensures in
+    let cause : Some c.in-Some-own_cause.cause ≡ first_of
+    (own_causes c.args.geometry.now v.entry c.args.lnum c.args.new.now) = c.in-Some-own_cause.ensures in
     own_stands image a is.attached c.args.id c.args.lnum c.args.new.now v there c.in-Some-own_cause.cause (sym cause)
 
 pub returns-in_err-places-clause-refused : goal.returns-in_err-places-clause-refused
@@ -55,12 +57,17 @@ returns-in_err-places-clause-refused c =
     (sym (c.in-Some.ensures.value ∙ ap (λ (t : Records). get t.of c.args.id) c.table.ensures)) in
     let v : Volume = record { entry = c.in-Some.entry.now; content = meant.0 } in
     let there : get a.meaning.volumes c.args.id ≡ Some v = meant.1 in
-    let own : None ≡ first_of (own_causes c.args.geometry.now v.entry c.args.lnum c.args.new.now) = c.in_default-own_cause.ensures in
-    let cause : first_of (image_causes c.in_ok-blocks.blocks.sizes (eraseblocks c.in_ok-blocks.blocks) a c.args.id c.args.lnum) ≡ Some c.in_err-places.field-0.0 = c.in_err-places.ensures.refused in
-    let here : first_of (image_causes image.sizes (eraseblocks image) a c.args.id c.args.lnum) ≡ Some c.in_err-places.field-0.0 =
-    subst (λ (z : Image). first_of (image_causes z.sizes (eraseblocks z) a c.args.id c.args.lnum) ≡ Some c.in_err-places.field-0.0) c.in_ok-blocks.ensures.ok cause in
+    let own : None ≡ first_of (own_causes c.args.geometry.now v.entry c.args.lnum c.args.new.now) =
+    c.in_default-own_cause.ensures in
+    let cause : first_of (image_causes c.in_ok-blocks.blocks.sizes (eraseblocks c.in_ok-blocks.blocks) a c.args.id
+    c.args.lnum) ≡ Some c.in_err-places.field-0.0 = c.in_err-places.ensures.refused in
+    let here : first_of (image_causes image.sizes (eraseblocks image) a c.args.id c.args.lnum)
+    ≡ Some c.in_err-places.field-0.0 =
+    subst (λ (z : Image). first_of (image_causes z.sizes (eraseblocks z) a c.args.id c.args.lnum)
+    ≡ Some c.in_err-places.field-0.0) c.in_ok-blocks.ensures.ok cause in
     let stands : IsChangeRefusal image c.args.id c.args.lnum c.args.new.now c.in_err-places.field-0.0 =
-    image_stands image a is.attached c.args.id c.args.lnum c.args.new.now v there (sym own) c.in_err-places.field-0.0 here in
+    image_stands image a is.attached c.args.id c.args.lnum c.args.new.now v there
+    (sym own) c.in_err-places.field-0.0 here in
     let p = err_from_is_err_and c.from_residual-in_err-places.result c.from_residual-in_err-places.ensures.1 in
     rw (p.1, p.2) stands
 
@@ -91,8 +98,10 @@ steps_on-requires-clause-within c =
     let v : Volume = record { entry = c.in-Some.entry.now; content = meant.0 } in
     let there : get a.meaning.volumes c.args.id ≡ Some v = meant.1 in
     let on = c.in_ok-places.places in
-    let own : None ≡ first_of (own_causes c.args.geometry.now v.entry c.args.lnum c.args.new.now) = c.in_default-own_cause.ensures in
-    let are : ArePlaces c.in_ok-blocks.blocks.sizes (eraseblocks c.in_ok-blocks.blocks) a c.args.id c.args.lnum on = c.in_ok-places.ensures.places in
+    let own : None ≡ first_of (own_causes c.args.geometry.now v.entry c.args.lnum c.args.new.now) =
+    c.in_default-own_cause.ensures in
+    let are : ArePlaces c.in_ok-blocks.blocks.sizes (eraseblocks c.in_ok-blocks.blocks) a c.args.id c.args.lnum on =
+    c.in_ok-places.ensures.places in
     let here : ArePlaces image.sizes (eraseblocks image) a c.args.id c.args.lnum on =
     subst (λ (z : Image). ArePlaces z.sizes (eraseblocks z) a c.args.id c.args.lnum on) c.in_ok-blocks.ensures.ok are in
     subst (λ (z : Image). AreWithin z.sizes (eraseblocks z) a on) (sym c.in_ok-blocks.ensures.ok)
@@ -109,14 +118,17 @@ returns-clause-plan c =
     let there : get a.meaning.volumes c.args.id ≡ Some v = meant.1 in
     let on = c.in_ok-places.places in
     let att : IsAttached image a = is.attached in
-    let own : None ≡ first_of (own_causes c.args.geometry.now v.entry c.args.lnum c.args.new.now) = c.in_default-own_cause.ensures in
-    let are : ArePlaces c.in_ok-blocks.blocks.sizes (eraseblocks c.in_ok-blocks.blocks) a c.args.id c.args.lnum on = c.in_ok-places.ensures.places in
+    let own : None ≡ first_of (own_causes c.args.geometry.now v.entry c.args.lnum c.args.new.now) =
+    c.in_default-own_cause.ensures in
+    let are : ArePlaces c.in_ok-blocks.blocks.sizes (eraseblocks c.in_ok-blocks.blocks) a c.args.id c.args.lnum on =
+    c.in_ok-places.ensures.places in
     let here : ArePlaces image.sizes (eraseblocks image) a c.args.id c.args.lnum on =
     subst (λ (z : Image). ArePlaces z.sizes (eraseblocks z) a c.args.id c.args.lnum on) c.in_ok-blocks.ensures.ok are in
     let t : Target = record { id = c.args.id; lnum = c.args.lnum; data_pad = c.data_pad.result } in
     let pad : t ≡ record { id = c.args.id; lnum = c.args.lnum; data_pad = data_pad image.sizes v.entry } =
     ap (λ (n : ℕ). record { id = c.args.id; lnum = c.args.lnum; data_pad = n }) c.data_pad.ensures in
-    let made : c.in_ok-steps_on.field-0.items ≡ steps_on c.in_ok-blocks.blocks.sizes (eraseblocks c.in_ok-blocks.blocks) a t c.args.new.now on = c.in_ok-steps_on.ensures in
+    let made : c.in_ok-steps_on.field-0.items ≡ steps_on c.in_ok-blocks.blocks.sizes
+    (eraseblocks c.in_ok-blocks.blocks) a t c.args.new.now on = c.in_ok-steps_on.ensures in
     record {
       from = a;
       attached = att;
@@ -132,38 +144,59 @@ pub returns-clause-survives : goal.returns-clause-survives
 unfolding returns-clause-plan
 returns-clause-survives c =
     let image : Image = record { sizes = c.args.geometry.now; bytes = c.args.image.now } in
-    let made : IsPlan image c.args.id c.args.lnum c.args.new.now c.in_ok-steps_on.field-0.items = returns-clause-plan c in
-    let narrow : c.in_ok-surveyed.surveyed.scan.image_seq < 2 ^ 32 = subst (λ (n : ℕ). n < 2 ^ 32) c.image_seq.ensures c.image_seq.type_inv in
-    let planned = plan_survives image made.from c.args.id c.args.lnum c.args.new.now made.volume c.page.ensures.limits made.attached narrow made.there made.allowed in
-    (made.from.meaning, made.attached.accepted, subst (SurvivesCuts image.sizes (eraseblocks image) made.from.meaning c.args.id c.args.lnum c.args.new.now) (sym made.plan) planned)
+    let made : IsPlan image c.args.id c.args.lnum c.args.new.now c.in_ok-steps_on.field-0.items =
+    returns-clause-plan c in
+    let narrow : c.in_ok-surveyed.surveyed.scan.image_seq < 2 ^ 32 =
+    subst (λ (n : ℕ). n < 2 ^ 32) c.image_seq.ensures c.image_seq.type_inv in
+    let planned = plan_survives image made.from c.args.id c.args.lnum c.args.new.now made.volume c.page.ensures.limits
+    made.attached narrow made.there made.allowed in (
+      made.from.meaning,
+      made.attached.accepted,
+      subst (SurvivesCuts image.sizes (eraseblocks image) made.from.meaning c.args.id c.args.lnum c.args.new.now)
+          (sym made.plan) planned,
+    )
 
 pub returns-clause-fits : goal.returns-clause-fits
 unfolding returns-clause-plan
 returns-clause-fits c =
     let image : Image = record { sizes = c.args.geometry.now; bytes = c.args.image.now } in
-    let made : IsPlan image c.args.id c.args.lnum c.args.new.now c.in_ok-steps_on.field-0.items = returns-clause-plan c in
-    let narrow : c.in_ok-surveyed.surveyed.scan.image_seq < 2 ^ 32 = subst (λ (n : ℕ). n < 2 ^ 32) c.image_seq.ensures c.image_seq.type_inv in
+    let made : IsPlan image c.args.id c.args.lnum c.args.new.now c.in_ok-steps_on.field-0.items =
+    returns-clause-plan c in
+    let narrow : c.in_ok-surveyed.surveyed.scan.image_seq < 2 ^ 32 =
+    subst (λ (n : ℕ). n < 2 ^ 32) c.image_seq.ensures c.image_seq.type_inv in
     let bytes = bytes-each c.args.new.now (λ i. (c.type_inv.new i).fits) in
     let g = c.page.ensures.limits in
     let sound_record = sound image made.from made.attached c.args.id made.volume made.there in
-    let planned = plan_fits image g made.from made.attached (mean_few image made.from made.attached) narrow c.args.id c.args.lnum c.args.new.now made.volume made.there made.allowed
-    (half_pad image.sizes made.volume.entry sound_record g) (reserved_within image.sizes made.volume.entry sound_record) bytes in
+    let planned = plan_fits image g made.from made.attached (mean_few image made.from made.attached) narrow c.args.id
+    c.args.lnum c.args.new.now made.volume made.there made.allowed
+    (half_pad image.sizes made.volume.entry sound_record g) (reserved_within image.sizes made.volume.entry sound_record)
+    bytes in
     subst (AllFit image.sizes (eraseblocks image)) (sym made.plan) planned
 
 pub returns-clause-rises : goal.returns-clause-rises
 unfolding returns-clause-plan
 returns-clause-rises c =
     let image : Image = record { sizes = c.args.geometry.now; bytes = c.args.image.now } in
-    let made : IsPlan image c.args.id c.args.lnum c.args.new.now c.in_ok-steps_on.field-0.items = returns-clause-plan c in
-    let narrow : c.in_ok-surveyed.surveyed.scan.image_seq < 2 ^ 32 = subst (λ (n : ℕ). n < 2 ^ 32) c.image_seq.ensures c.image_seq.type_inv in
-    let planned = plan_rises image c.page.ensures.limits made.from made.attached narrow c.args.id c.args.lnum c.args.new.now made.volume made.there made.allowed in
+    let made : IsPlan image c.args.id c.args.lnum c.args.new.now c.in_ok-steps_on.field-0.items =
+    returns-clause-plan c in
+    let narrow : c.in_ok-surveyed.surveyed.scan.image_seq < 2 ^ 32 =
+    subst (λ (n : ℕ). n < 2 ^ 32) c.image_seq.ensures c.image_seq.type_inv in
+    let planned = plan_rises image c.page.ensures.limits made.from made.attached narrow c.args.id c.args.lnum
+    c.args.new.now made.volume made.there made.allowed in
     subst (RisesBetweenErases image.sizes (eraseblocks image)) (sym made.plan) planned
 
 pub returns-clause-frugal : goal.returns-clause-frugal
 unfolding returns-clause-plan
 returns-clause-frugal c =
     let image : Image = record { sizes = c.args.geometry.now; bytes = c.args.image.now } in
-    let made : IsPlan image c.args.id c.args.lnum c.args.new.now c.in_ok-steps_on.field-0.items = returns-clause-plan c in
-    let narrow : c.in_ok-surveyed.surveyed.scan.image_seq < 2 ^ 32 = subst (λ (n : ℕ). n < 2 ^ 32) c.image_seq.ensures c.image_seq.type_inv in
-    let planned = plan_frugal image c.page.ensures.limits made.from made.attached narrow c.args.id c.args.lnum c.args.new.now made.volume made.there made.allowed in
-    (made.from, made.attached, subst (IsFrugal image.sizes (eraseblocks image) made.from c.args.id c.args.lnum c.args.new.now) (sym made.plan) planned)
+    let made : IsPlan image c.args.id c.args.lnum c.args.new.now c.in_ok-steps_on.field-0.items =
+    returns-clause-plan c in
+    let narrow : c.in_ok-surveyed.surveyed.scan.image_seq < 2 ^ 32 =
+    subst (λ (n : ℕ). n < 2 ^ 32) c.image_seq.ensures c.image_seq.type_inv in
+    let planned = plan_frugal image c.page.ensures.limits made.from made.attached narrow c.args.id c.args.lnum
+    c.args.new.now made.volume made.there made.allowed in (
+      made.from,
+      made.attached,
+      subst (IsFrugal image.sizes (eraseblocks image) made.from c.args.id c.args.lnum c.args.new.now)
+          (sym made.plan) planned,
+    )

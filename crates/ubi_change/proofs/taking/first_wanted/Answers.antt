@@ -11,6 +11,8 @@ loop-p-preserved c =
     let t = is_takeable c.args.blocks.now.sizes (eraseblocks c.args.blocks.now) c.args.surveyed.now.states in
     let w = is_wanted c.args.blocks.now.sizes (eraseblocks c.args.blocks.now) c.args.surveyed.now.states c.args.clean in
     elim c.if-is_wanted.branch [
-      | then-is_wanted v ↦ v.found-is ∙ found_more t w c.loop-p.p c.loop-p.found v.with-found.result c.loop-p.invariant (sym c.is_wanted.ensures ∙ v.if-is_wanted.true) v.with-found.ensures
-      | else-is_wanted v ↦ v.found-is ∙ found_same t w c.loop-p.p c.loop-p.found c.loop-p.invariant (sym c.is_wanted.ensures ∙ v.if-is_wanted.false)
+      | then-is_wanted v ↦ v.found-is ∙ found_more t w c.loop-p.p c.loop-p.found v.with-found.result c.loop-p.invariant
+          (sym c.is_wanted.ensures ∙ v.if-is_wanted.true) v.with-found.ensures
+      | else-is_wanted v ↦ v.found-is ∙ found_same t w c.loop-p.p c.loop-p.found c.loop-p.invariant
+          (sym c.is_wanted.ensures ∙ v.if-is_wanted.false)
     ]

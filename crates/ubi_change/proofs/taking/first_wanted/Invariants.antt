@@ -7,4 +7,5 @@ use Rattle.ubi_change.proofs.taking.first_wanted.Given as goal
 
 abbrev pub invariant-loop-p : goal.invariant-loop-p
 invariant-loop-p l =
-    l.found ≡ first_two (passing (is_takeable l.blocks.sizes (eraseblocks l.blocks) l.surveyed.states) (is_wanted l.blocks.sizes (eraseblocks l.blocks) l.surveyed.states l.clean) l.p)
+    l.found ≡ first_two (passing (is_takeable l.blocks.sizes (eraseblocks l.blocks) l.surveyed.states)
+    (is_wanted l.blocks.sizes (eraseblocks l.blocks) l.surveyed.states l.clean) l.p)

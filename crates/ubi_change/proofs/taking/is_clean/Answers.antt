@@ -12,6 +12,8 @@ pub returns-then-is_free : goal.returns-then-is_free
 returns-then-is_free c =
     let b : List ℕ = c.block.result.now in
     let rest = is_blank (drop 64 (block (eraseblocks c.args.blocks.now) c.args.p)) in
-    let all : take (length b - 64) (drop 64 b) ≡ drop 64 b = take_all (length b - 64) (drop 64 b) (omega (arith, length-drop 64 b)) in
+    let all : take (length b - 64) (drop 64 b) ≡ drop 64 b =
+    take_all (length b - 64) (drop 64 b) (omega (arith, length-drop 64 b)) in
     c.is_blank.ensures ∙ ap is_blank all ∙ ap (λ (y : List ℕ). is_blank (drop 64 y)) c.block.ensures.value
-    ∙ sym (ap (λ (o : Option BlockState). option_map_or is_free o false && rest) c.state.ensures ∙ ap (λ t. t && rest) (sym c.is_free.ensures ∙ c.if-is_free.true))
+    ∙ sym (ap (λ (o : Option BlockState). option_map_or is_free o false && rest) c.state.ensures
+    ∙ ap (λ t. t && rest) (sym c.is_free.ensures ∙ c.if-is_free.true))

@@ -7,4 +7,5 @@ pub loop-init : goal.loop-init
 loop-init c = sym (check_from-empty c.args.state c.ranges.state.fits)
 
 pub loop-preserved : goal.loop-preserved
-loop-preserved c = c.crc_more-register.ensures ∙ blank_more c.args.state c.loop.counter c.loop.register c.ranges.state.fits c.loop.invariant
+loop-preserved c = c.crc_more-register.ensures
+    ∙ blank_more c.args.state c.loop.counter c.loop.register c.ranges.state.fits c.loop.invariant

@@ -21,8 +21,10 @@ returns-clause-answer g c =
     let k = c.in-Ok-attach_places.ensures.places.held y ys in
     let left = h.accepted.accepted.means in
     let right = k.accepted.accepted.means in
-    let meanings = tells x (ap (λ (k : Source). k.held) c.in-Ok.ensures.known ∙ xs) y (ap (λ (k : Source). k.held) c.in-Ok-attach_places.ensures.known ∙ ys) h k in
-    let form = normal_form h.meaning k.meaning (subst IsGeometry (sym left.sizes) c.peb_size.ensures.limits) (left.sizes ∙ sym right.sizes) left.meaning right.meaning in
+    let meanings = tells x (ap (λ (k : Source). k.held) c.in-Ok.ensures.known ∙ xs) y
+    (ap (λ (k : Source). k.held) c.in-Ok-attach_places.ensures.known ∙ ys) h k in
+    let form = normal_form h.meaning k.meaning (subst IsGeometry (sym left.sizes) c.peb_size.ensures.limits)
+    (left.sizes ∙ sym right.sizes) left.meaning right.meaning in
     record {
       left = h.meaning;
       right = k.meaning;
@@ -39,6 +41,8 @@ returns-clause-refused g c =
     IfErr-weaker c.same_places.result _ _
     (λ e h. sides_refused s (g.L.BlockSource.known c.args.left.now) (g.R.BlockSource.known c.args.right.now) e
     (λ bytes holds. (let p = c.in-Ok.ensures.places.held bytes holds in (p.meaning, p.accepted)))
-    (subst (λ (k : Source). IsSidesError (blocks_in s k) (blocks_in s (g.R.BlockSource.known c.args.right.now)) e) c.in-Ok.ensures.known
-    (subst (λ (k : Source). IsSidesError (blocks_in s (g.L.BlockSource.known c.attach_places.new.source)) (blocks_in s k) e) c.in-Ok-attach_places.ensures.known h)))
+    (subst (λ (k : Source). IsSidesError (blocks_in s k) (blocks_in s (g.R.BlockSource.known c.args.right.now)) e)
+    c.in-Ok.ensures.known
+    (subst (λ (k : Source). IsSidesError (blocks_in s (g.L.BlockSource.known c.attach_places.new.source))
+    (blocks_in s k) e) c.in-Ok-attach_places.ensures.known h)))
     c.same_places.ensures.failed

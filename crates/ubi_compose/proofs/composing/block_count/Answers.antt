@@ -10,9 +10,11 @@ pub volume_count-count-requires : goal.volume_count-count-requires
 volume_count-count-requires c =
     let m = c.args.meaning.now in
     let item = c.numbered-item.result in
-    let here = c.numbered-item.is ∙ ap (λ xs. get_or xs c.loop-numbered.numbered-index item) c.volumes-numbered-items.ensures.value in
+    let here = c.numbered-item.is
+    ∙ ap (λ xs. get_or xs c.loop-numbered.numbered-index item) c.volumes-numbered-items.ensures.value in
     rw (c.geometry-geometry.ensures.value, here)
-    (listed_volume m c.volumes-numbered-items.ensures.meaning c.loop-numbered.numbered-index item (rw c.volumes-numbered-items.ensures.value at c.loop-numbered-test.true))
+    (listed_volume m c.volumes-numbered-items.ensures.meaning c.loop-numbered.numbered-index item
+    (rw c.volumes-numbered-items.ensures.value at c.loop-numbered-test.true))
 
 pub overflow_add-count : goal.overflow_add-count
 overflow_add-count c =
@@ -23,7 +25,8 @@ overflow_add-count c =
     count_more m.sizes (finite.entries m.volumes) i item c.loop-numbered.count c.volume_count-count.result
     (rw c.volumes-numbered-items.ensures.value at c.loop-numbered-test.true)
     (c.numbered-item.is ∙ ap (λ xs. get_or xs i item) c.volumes-numbered-items.ensures.value)
-    (c.volume_count-count.ensures ∙ ap (λ s. length (volume_blocks s item.0 item.1.entry item.1.content)) c.geometry-geometry.ensures.value)
+    (c.volume_count-count.ensures
+    ∙ ap (λ s. length (volume_blocks s item.0 item.1.entry item.1.content)) c.geometry-geometry.ensures.value)
     c.loop-numbered.invariant in
     let few = first_fit m c.geometry-geometry.ensures.meaning (i + 1) in
     omega (arith, more, few, c.geometry-geometry.ensures.limits.pebs_to)
@@ -36,5 +39,6 @@ loop-numbered-preserved c =
     count_more m.sizes (finite.entries m.volumes) i item c.loop-numbered.count c.volume_count-count.result
     (rw c.volumes-numbered-items.ensures.value at c.loop-numbered-test.true)
     (c.numbered-item.is ∙ ap (λ xs. get_or xs i item) c.volumes-numbered-items.ensures.value)
-    (c.volume_count-count.ensures ∙ ap (λ s. length (volume_blocks s item.0 item.1.entry item.1.content)) c.geometry-geometry.ensures.value)
+    (c.volume_count-count.ensures
+    ∙ ap (λ s. length (volume_blocks s item.0 item.1.entry item.1.content)) c.geometry-geometry.ensures.value)
     c.loop-numbered.invariant

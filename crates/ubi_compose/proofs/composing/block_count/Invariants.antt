@@ -5,4 +5,5 @@ use Rattle.ubi_compose.proofs.composing.block_count.Given as goal
 
 -- those of the table and of the volumes so far
 abbrev pub invariant-loop-numbered : goal.invariant-loop-numbered
-invariant-loop-numbered l = l.count ≡ 2 + length (blocks_of l.meaning.sizes (take l.numbered-index (finite.entries l.meaning.volumes)))
+invariant-loop-numbered l = l.count ≡ 2 + length
+    (blocks_of l.meaning.sizes (take l.numbered-index (finite.entries l.meaning.volumes)))

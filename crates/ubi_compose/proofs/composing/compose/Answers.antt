@@ -14,7 +14,12 @@ overflow_add-count c =
 pub returns-clause-bytes : goal.returns-clause-bytes
 returns-clause-bytes c =
     c.in_ok-put_spares.ensures
-    ∙ rw (c.in_ok-put_volumes.ensures, c.in_ok-put_table.ensures, c.in_ok-image.ensures.items, c.geometry-geometry.ensures.value)
+    ∙ rw (
+      c.in_ok-put_volumes.ensures,
+      c.in_ok-put_table.ensures,
+      c.in_ok-image.ensures.items,
+      c.geometry-geometry.ensures.value,
+    )
     (composed_pieces c.args.meaning.now c.args.spares)
 
 pub returns-clause-accepted : goal.returns-clause-accepted
@@ -23,7 +28,12 @@ returns-clause-accepted c =
     let g = c.geometry-geometry.ensures.limits in
     let bytes : c.put_spares.new.image.items ≡ composed m c.args.spares =
     c.in_ok-put_spares.ensures
-    ∙ rw (c.in_ok-put_volumes.ensures, c.in_ok-put_table.ensures, c.in_ok-image.ensures.items, c.geometry-geometry.ensures.value)
+    ∙ rw (
+      c.in_ok-put_volumes.ensures,
+      c.in_ok-put_table.ensures,
+      c.in_ok-image.ensures.items,
+      c.geometry-geometry.ensures.value,
+    )
     (composed_pieces m c.args.spares) in
     let room : HasRoom m c.args.spares = search rules in
     rw bytes (normal_accepted m g c.geometry-geometry.ensures.meaning c.args.spares room)

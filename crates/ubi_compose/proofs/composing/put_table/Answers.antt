@@ -18,5 +18,13 @@ put_block-requires-2 c =
 pub returns : goal.returns
 returns c =
     on_ok_weaker c.put_block-2.result
-    (λ e. e ∙ rw (c.in_ok-put_block.ensures, c.as_slice-2.ensures.value, c.as_slice.ensures.value, c.in_ok-text.ensures, c.plain-first.ensures, c.plain-second.ensures, c.geometry-geometry.ensures.value) refl)
+    (λ e. e ∙ rw (
+      c.in_ok-put_block.ensures,
+      c.as_slice-2.ensures.value,
+      c.as_slice.ensures.value,
+      c.in_ok-text.ensures,
+      c.plain-first.ensures,
+      c.plain-second.ensures,
+      c.geometry-geometry.ensures.value,
+    ) refl)
     c.put_block-2.ensures

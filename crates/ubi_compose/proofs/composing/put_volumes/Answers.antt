@@ -6,6 +6,8 @@ pub put_volume-requires : goal.put_volume-requires
 put_volume-requires c =
     let m = c.args.meaning.now in
     let item = c.numbered-item.result in
-    let here = c.numbered-item.is ∙ ap (λ xs. get_or xs c.loop-numbered.numbered-index item) c.volumes-volumes.ensures.value in
+    let here = c.numbered-item.is
+    ∙ ap (λ xs. get_or xs c.loop-numbered.numbered-index item) c.volumes-volumes.ensures.value in
     rw (c.geometry-geometry.ensures.value, here)
-    (listed_volume m c.volumes-volumes.ensures.meaning c.loop-numbered.numbered-index item (rw c.volumes-volumes.ensures.value at c.loop-numbered-test.true))
+    (listed_volume m c.volumes-volumes.ensures.meaning c.loop-numbered.numbered-index item
+    (rw c.volumes-volumes.ensures.value at c.loop-numbered-test.true))

@@ -9,6 +9,19 @@ use Rattle.ubi_compose.proofs.laying.put_block.Goals as goal
 pub returns : goal.returns
 returns c =
     on_ok_weaker c.put_blank-3.result
-    (λ e. e ∙ rw (c.in_ok-extend_from_slice-3.ensures.items, c.in_ok-put_blank-2.ensures, c.in_ok-extend_from_slice-2.ensures.items, c.in_ok-put_blank.ensures, c.in_ok-extend_from_slice.ensures.items, c.write_ec.ensures.bytes, c.write_vid.ensures.bytes, c.leb_size.ensures.value, c.data_offset.ensures.value, c.vid_offset-2.ensures.value, c.vid_offset.ensures.value)
-    (laid-pieces c.args.geometry.now c.vid_offset.ensures.limits (ec_bytes c.args.geometry.now new_ec) (vid_bytes c.args.header.now) c.args.text.now refl refl c.args.image.now.items))
+    (λ e. e ∙ rw (
+      c.in_ok-extend_from_slice-3.ensures.items,
+      c.in_ok-put_blank-2.ensures,
+      c.in_ok-extend_from_slice-2.ensures.items,
+      c.in_ok-put_blank.ensures,
+      c.in_ok-extend_from_slice.ensures.items,
+      c.write_ec.ensures.bytes,
+      c.write_vid.ensures.bytes,
+      c.leb_size.ensures.value,
+      c.data_offset.ensures.value,
+      c.vid_offset-2.ensures.value,
+      c.vid_offset.ensures.value,
+    )
+    (laid-pieces c.args.geometry.now c.vid_offset.ensures.limits (ec_bytes c.args.geometry.now new_ec)
+    (vid_bytes c.args.header.now) c.args.text.now refl refl c.args.image.now.items))
     c.put_blank-3.ensures

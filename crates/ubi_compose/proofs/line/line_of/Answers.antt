@@ -11,9 +11,11 @@ said-requires c =
 
 pub returns-in-Some : goal.returns-in-Some
 returns-in-Some c =
-    rw (line_said c.args.text.now (map (λ w. w.now) c.as_slice-in-Some.result.now) c.in-Some.form (sym c.is_spelled.ensures ∙ c.if-not-is_spelled.false)
+    rw (line_said c.args.text.now (map (λ w. w.now) c.as_slice-in-Some.result.now) c.in-Some.form
+    (sym c.is_spelled.ensures ∙ c.if-not-is_spelled.false)
     (ap (map (λ w. w.now)) c.as_slice-in-Some.ensures.value ∙ c.in_ok-words.ensures)
-    (ap (λ ws. form_of (map (λ w. w.now) ws)) (c.as_slice-in-Some.ensures.value ∙ sym c.as_slice.ensures.value) ∙ sym c.in-Some.ensures)) c.said.ensures
+    (ap (λ ws. form_of (map (λ w. w.now) ws)) (c.as_slice-in-Some.ensures.value ∙ sym c.as_slice.ensures.value)
+    ∙ sym c.in-Some.ensures)) c.said.ensures
 
 pub returns : goal.returns
 returns c =

@@ -11,11 +11,13 @@ returns-then-not-branch-clause-answer g c = λ x xs y ys.
     let e = c.args.extent in
     let part = take c.share_len-len.result c.loop-lnum.one in
     let count : c.share_len-len.result ≡ share_len e.size e.bytes n = c.share_len-len.ensures in
-    let long : length part ≡ share_len e.size e.bytes n = length-take-le c.share_len-len.result c.loop-lnum.one (omega (arith, count)) ∙ count in
+    let long : length part ≡ share_len e.size e.bytes n = length-take-le c.share_len-len.result c.loop-lnum.one
+    (omega (arith, count)) ∙ count in
     let left = ap (λ (k : Source). k.held) c.loop-lnum.invariant.left ∙ xs in
     let right = ap (λ (k : Source). k.held) c.loop-lnum.invariant.right ∙ ys in
     let tells = c.in_ok-same_leb.ensures.answer x left y right in (
       λ t. absurd (false≢true t),
-      λ same. sym c.if-not-branch.true ∙ tells.1 (leb_same c.args.geometry.now c.args.here.now c.args.there.now c.args.id e.size e.bytes
+      λ same. sym c.if-not-branch.true
+          ∙ tells.1 (leb_same c.args.geometry.now c.args.here.now c.args.there.now c.args.id e.size e.bytes
           x y n (length part) _ _ long c.place-p.ensures c.place-q.ensures (same n c.loop-lnum-test.true)),
     )

@@ -7,5 +7,6 @@ abbrev pub invariant-loop-lnum : goal.invariant-loop-lnum
 invariant-loop-lnum g l = record {
   left : g.L.BlockSource.known l.left ≡ g.L.BlockSource.known l.fn.left;
   right : g.R.BlockSource.known l.right ≡ g.R.BlockSource.known l.fn.right;
-  same : WhereBothHeld (g.L.BlockSource.known l.fn.left) (g.R.BlockSource.known l.fn.right) (λ x y. AreSameLebs l.geometry l.here l.there l.id l.extent.size l.extent.bytes x y l.lnum);
+  same : WhereBothHeld (g.L.BlockSource.known l.fn.left) (g.R.BlockSource.known l.fn.right)
+      (λ x y. AreSameLebs l.geometry l.here l.there l.id l.extent.size l.extent.bytes x y l.lnum);
 }

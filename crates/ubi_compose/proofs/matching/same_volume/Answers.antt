@@ -12,7 +12,8 @@ returns-then-not-is_alike-clause-answer g c = λ x xs y ys h k v w at bt.
     let there = ap (λ (t : Records). finite.get t.of c.args.id) (sym c.requires.same) ∙ c.requires.recorded in (
       λ t. absurd (false≢true t),
       λ same. absurd (false≢true (sym c.if-not-is_alike.true ∙ c.is_alike.ensures.1
-          (apart c.args.geometry.now c.args.here.now c.args.there.now x y h k c.args.id c.args.entry.now c.requires.recorded there v w at bt _ _ c.content-content.ensures c.content.ensures same))),
+          (apart c.args.geometry.now c.args.here.now c.args.there.now x y h k c.args.id c.args.entry.now
+          c.requires.recorded there v w at bt _ _ c.content-content.ensures c.content.ensures same))),
     )
 
 pub returns-in-Some-clause-answer : goal.returns-in-Some-clause-answer
@@ -21,15 +22,19 @@ returns-in-Some-clause-answer g c =
     let alike = c.is_alike.ensures.0 c.if-not-is_alike.false in
     IfOk-weaker c.same_lebs.result _ _
     (λ answer tells x xs y ys h k v w at bt.
-    read_same c.args.geometry.now c.args.here.now c.args.there.now x y h k c.args.id c.args.entry.now c.requires.recorded there v w at bt
-    c.content-content.result c.in-Some.extent c.content-content.ensures (c.content.ensures ∙ ap Some (sym alike)) c.in-Some.ensures.value answer (tells x xs y ys))
+    read_same c.args.geometry.now c.args.here.now c.args.there.now x y h k c.args.id c.args.entry.now
+    c.requires.recorded there v w at bt
+    c.content-content.result c.in-Some.extent c.content-content.ensures
+    (c.content.ensures ∙ ap Some (sym alike)) c.in-Some.ensures.value answer (tells x xs y ys))
     c.same_lebs.ensures.answer
 
 pub returns-in-None-clause-answer : goal.returns-in-None-clause-answer
 returns-in-None-clause-answer g c = λ x xs y ys h k v w at bt.
     let there = ap (λ (t : Records). finite.get t.of c.args.id) (sym c.requires.same) ∙ c.requires.recorded in
     let alike = c.is_alike.ensures.0 c.if-not-is_alike.false in (
-      λ t. unread_same c.args.geometry.now c.args.here.now c.args.there.now x y h k c.args.id c.args.entry.now c.requires.recorded there v w at bt
-          c.content-content.result c.content-content.ensures (c.content.ensures ∙ ap Some (sym alike)) (sym c.in-None.ensures.value),
+      λ t. unread_same c.args.geometry.now c.args.here.now c.args.there.now x y h k c.args.id c.args.entry.now
+          c.requires.recorded there v w at bt
+          c.content-content.result c.content-content.ensures (c.content.ensures ∙ ap Some (sym alike))
+          (sym c.in-None.ensures.value),
       λ same. refl,
     )

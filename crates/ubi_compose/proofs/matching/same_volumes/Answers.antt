@@ -26,18 +26,22 @@ pub same_volume-requires-clause-sound : goal.same_volume-requires-clause-sound
 same_volume-requires-clause-sound g c =
     let e = c.listed-item.result in
     let are = subst AreRecords c.table.ensures c.entries-listed-items.ensures.table in
-    subst (λ (z : Sizes). rec_fault z e.1 ≡ None) c.requires.here.sizes (are.sound e.0 e.1 (same_volume-requires-clause-recorded g c))
+    subst (λ (z : Sizes). rec_fault z e.1 ≡ None) c.requires.here.sizes
+    (are.sound e.0 e.1 (same_volume-requires-clause-recorded g c))
 
 pub returns-then-not-branch-clause-answer : goal.returns-then-not-branch-clause-answer
 returns-then-not-branch-clause-answer g c = λ x xs y ys h k.
     let e = c.listed-item.result in
     let i = c.loop-listed.listed-index in
     let entries = c.entries-listed-items.ensures.value ∙ ap (λ (x : Records). finite.entries x.of) c.table.ensures in
-    let here : e ≡ get_or (finite.entries c.args.here.now.records.of) i e = c.listed-item.is ∙ ap (λ es. get_or es i e) entries in
+    let here : e ≡ get_or (finite.entries c.args.here.now.records.of) i e = c.listed-item.is
+    ∙ ap (λ es. get_or es i e) entries in
     let inside : i < length (finite.entries c.args.here.now.records.of) = omega (arith, ap length entries) in
-    let tells = c.in_ok-same_volume.ensures.answer x (ap (λ (k : Source). k.held) c.loop-listed.invariant.left ∙ xs) y (ap (λ (k : Source). k.held) c.loop-listed.invariant.right ∙ ys) h k in (
+    let tells = c.in_ok-same_volume.ensures.answer x (ap (λ (k : Source). k.held) c.loop-listed.invariant.left ∙ xs) y
+    (ap (λ (k : Source). k.held) c.loop-listed.invariant.right ∙ ys) h k in (
       λ t. absurd (false≢true t),
-      λ same. absurd (one_other c.args.geometry.now c.args.here.now c.args.there.now x y h k c.requires.same i e inside here
+      λ same. absurd (one_other c.args.geometry.now c.args.here.now c.args.there.now x y h k c.requires.same i e inside
+          here
           (subst (λ (b : Bool). TellsVolume e.0 b h.meaning k.meaning) c.if-not-branch.true tells) same),
     )
 
@@ -46,15 +50,18 @@ loop-listed-preserved g c =
     let e = c.listed-item.result in
     let i = c.loop-listed.listed-index in
     let entries = c.entries-listed-items.ensures.value ∙ ap (λ (x : Records). finite.entries x.of) c.table.ensures in
-    let here : e ≡ get_or (finite.entries c.args.here.now.records.of) i e = c.listed-item.is ∙ ap (λ es. get_or es i e) entries in
+    let here : e ≡ get_or (finite.entries c.args.here.now.records.of) i e = c.listed-item.is
+    ∙ ap (λ es. get_or es i e) entries in
     let inside : i < length (finite.entries c.args.here.now.records.of) = omega (arith, ap length entries) in
     record {
       left = c.in_ok-same_volume.ensures.left ∙ c.loop-listed.invariant.left;
       right = c.in_ok-same_volume.ensures.right ∙ c.loop-listed.invariant.right;
       same = λ x xs y ys h k.
-          let tells = c.in_ok-same_volume.ensures.answer x (ap (λ (k : Source). k.held) c.loop-listed.invariant.left ∙ xs) y (ap (λ (k : Source). k.held) c.loop-listed.invariant.right ∙ ys) h k in
+          let tells = c.in_ok-same_volume.ensures.answer x (ap (λ (k : Source). k.held) c.loop-listed.invariant.left
+          ∙ xs) y (ap (λ (k : Source). k.held) c.loop-listed.invariant.right ∙ ys) h k in
           one_same c.args.geometry.now c.args.here.now c.args.there.now x y h k c.requires.same i e inside here
-          (subst (λ (b : Bool). TellsVolume e.0 b h.meaning k.meaning) c.if-not-branch.false tells) (c.loop-listed.invariant.same x xs y ys h k);
+          (subst (λ (b : Bool). TellsVolume e.0 b h.meaning k.meaning) c.if-not-branch.false tells)
+          (c.loop-listed.invariant.same x xs y ys h k);
     }
 
 pub returns-clause-answer : goal.returns-clause-answer
@@ -62,5 +69,10 @@ returns-clause-answer g c = λ x xs y ys h k.
     let p = c.args.here.now in
     let i = c.loop-listed.listed-index in
     let entries = c.entries-listed-items.ensures.value ∙ ap (λ (x : Records). finite.entries x.of) c.table.ensures in
-    let all : i ≡ length (finite.entries p.records.of) = (let end = c.loop-listed.auto.listed-index-end in let test = c.loop-listed-test.false in omega (arith, end, test, ap length entries)) in
-    (λ t. all_same c.args.geometry.now p c.args.there.now x y h k c.requires.same i all (c.loop-listed.invariant.same x xs y ys h k), λ same. refl)
+    let all : i ≡ length (finite.entries p.records.of) =
+    (let end = c.loop-listed.auto.listed-index-end in let test = c.loop-listed-test.false in
+    omega (arith, end, test, ap length entries)) in (
+      λ t. all_same c.args.geometry.now p c.args.there.now x y h k c.requires.same i all
+          (c.loop-listed.invariant.same x xs y ys h k),
+      λ same. refl,
+    )

@@ -9,5 +9,6 @@ invariant-loop-listed g l = record {
   left : g.L.BlockSource.known l.left ≡ g.L.BlockSource.known l.fn.left;
   right : g.R.BlockSource.known l.right ≡ g.R.BlockSource.known l.fn.right;
   same : WhereBothHeld (g.L.BlockSource.known l.fn.left) (g.R.BlockSource.known l.fn.right)
-      (λ x y. OfMeanings l.geometry l.here l.there x y (λ m n. take l.listed-index (finite.entries m.volumes) ≡ take l.listed-index (finite.entries n.volumes)));
+      (λ x y. OfMeanings l.geometry l.here l.there x y (λ m n. take l.listed-index (finite.entries m.volumes)
+      ≡ take l.listed-index (finite.entries n.volumes)));
 }

@@ -6,13 +6,17 @@ use Rattle.ubi_compose.proofs.placing.put_text.Goals as goal
 pub returns-in-Ok-clause-written : goal.returns-in-Ok-clause-written
 returns-in-Ok-clause-written g c = λ k.
     let s = c.args.geometry.now in
-    let is = ap (λ n. take (length c.args.text.now) (drop n c.fill.new.buffer)) (sym c.data_offset-data.ensures.value) ∙ c.fill.ensures in
-    wrote_text k _ _ _ _ s.peb_size c.args.done _ c.in-Ok.ensures.ok c.put_laid.ensures.long (ap (λ n. c.args.done + n) (c.from.ensures ∙ c.peb_size-in-Ok.ensures.value))
+    let is = ap (λ n. take (length c.args.text.now) (drop n c.fill.new.buffer)) (sym c.data_offset-data.ensures.value)
+    ∙ c.fill.ensures in
+    wrote_text k _ _ _ _ s.peb_size c.args.done _ c.in-Ok.ensures.ok c.put_laid.ensures.long
+    (ap (λ n. c.args.done + n) (c.from.ensures ∙ c.peb_size-in-Ok.ensures.value))
     (λ image t holds w. w ∙ ap (λ x. laid_bytes s new_ec (record { header = c.args.header.now; text = x })) (sym is))
 
 pub returns-in-Err-clause-failed : goal.returns-in-Err-clause-failed
 returns-in-Err-clause-failed g c = λ k.
     let s = c.args.geometry.now in
-    let is = ap (λ n. take (length c.args.text.now) (drop n c.fill.new.buffer)) (sym c.data_offset-data.ensures.value) ∙ c.fill.ensures in
-    wrote_cut k _ _ _ _ s.peb_size c.in-Err.more c.args.done _ c.in-Err.ensures.err c.put_laid.ensures.long c.in-Err.ensures.short refl
+    let is = ap (λ n. take (length c.args.text.now) (drop n c.fill.new.buffer)) (sym c.data_offset-data.ensures.value)
+    ∙ c.fill.ensures in
+    wrote_cut k _ _ _ _ s.peb_size c.in-Err.more c.args.done _ c.in-Err.ensures.err c.put_laid.ensures.long
+    c.in-Err.ensures.short refl
     (λ image t holds w. w ∙ ap (λ x. laid_bytes s new_ec (record { header = c.args.header.now; text = x })) (sym is))

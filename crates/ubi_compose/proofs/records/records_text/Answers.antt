@@ -12,7 +12,8 @@ loop-slot-preserved c =
     let slot = c.loop-slot.slot in
     let f = λ (n : ℕ). rec_bytes t.sizes (finite.get t.of n) in
     let here : c.write_rec.result ≡ f slot =
-    c.write_rec.ensures.bytes ∙ ap (λ s. rec_bytes s (option_copied c.get.result)) (sym c.requires) ∙ ap (rec_bytes t.sizes) c.get.ensures.value in
+    c.write_rec.ensures.bytes ∙ ap (λ s. rec_bytes s (option_copied c.get.result)) (sym c.requires)
+    ∙ ap (rec_bytes t.sizes) c.get.ensures.value in
     let all = c.in_ok-extend_from_slice.ensures.items in
     let long = ap length all ∙ length-append c.loop-slot.text.items c.write_rec.result in
     record {

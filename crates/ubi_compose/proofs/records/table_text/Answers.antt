@@ -13,6 +13,7 @@ loop-slot-preserved c =
     let slot = c.loop-slot.slot in
     let f = λ (n : ℕ). rec_bytes m.sizes (finite.get (records_of m).of n) in
     let here : c.write_rec.result ≡ f slot =
-    c.write_rec.ensures.bytes ∙ ap (λ s. rec_bytes s (option_copied c.entry_of.result)) c.geometry-geometry.ensures.value ∙ ap (rec_bytes m.sizes) c.entry_of.ensures.entry in
+    c.write_rec.ensures.bytes ∙ ap (λ s. rec_bytes s (option_copied c.entry_of.result))
+    c.geometry-geometry.ensures.value ∙ ap (rec_bytes m.sizes) c.entry_of.ensures.entry in
     c.in_ok-extend_from_slice.ensures.items ∙ ap (λ x. x ++ c.write_rec.result) c.loop-slot.invariant
     ∙ ap (λ x. flat_map f (range_with_len 0 slot) ++ x) here ∙ sym (pieces_more f 0 slot slot (zero-add slot))

@@ -6,7 +6,8 @@ use Rattle.ubi_compose.proofs.stored.put_dynamic.Given as goal
 abbrev pub invariant-loop-lnum : goal.invariant-loop-lnum
 invariant-loop-lnum g l = record {
   source : g.S.BlockSource.known l.source ≡ g.S.BlockSource.known l.fn.source;
-  wrote : Wrote (g.S.BlockSource.known l.fn.source) (g.W.Write.contents l.fn.writer) (g.W.Write.contents l.writer) (first_lebs l.geometry l.places l.id l.entry l.from) All l.done l.total;
+  wrote : Wrote (g.S.BlockSource.known l.fn.source) (g.W.Write.contents l.fn.writer) (g.W.Write.contents l.writer)
+      (first_lebs l.geometry l.places l.id l.entry l.from) All l.done l.total;
   few : l.total ≤ l.done + l.from * l.geometry.peb_size;
   within : l.from ≤ l.entry.reserved;
 }

@@ -6,6 +6,7 @@ use Rattle.ubi_compose.proofs.stored.put_static.Given as goal
 abbrev pub invariant-loop-lnum : goal.invariant-loop-lnum
 invariant-loop-lnum g l = record {
   source : g.S.BlockSource.known l.source ≡ g.S.BlockSource.known l.fn.source;
-  wrote : Wrote (g.S.BlockSource.known l.fn.source) (g.W.Write.contents l.fn.writer) (g.W.Write.contents l.writer) (first_pieces l.geometry l.places l.id l.entry l.lnum) All l.done l.total;
+  wrote : Wrote (g.S.BlockSource.known l.fn.source) (g.W.Write.contents l.fn.writer) (g.W.Write.contents l.writer)
+      (first_pieces l.geometry l.places l.id l.entry l.lnum) All l.done l.total;
   few : l.total ≤ l.done + l.lnum * l.geometry.peb_size;
 }

@@ -17,8 +17,10 @@ put_text-requires-clause-few g c =
 pub returns-in-Updating-clause-written : goal.returns-in-Updating-clause-written
 returns-in-Updating-clause-written g c =
     let k = g.S.BlockSource.known c.args.source.now in
-    wrote_as k _ _ (λ image text. text ≡ []) (volume_text c.args.geometry.now c.args.places.now c.args.id) All c.args.done c.args.done
-    (updating_text c.args.geometry.now c.args.places.now c.args.id c.args.entry.now c.requires.recorded c.in-Updating.ensures) (wrote_none k _ c.args.done)
+    wrote_as k _ _ (λ image text. text ≡ []) (volume_text c.args.geometry.now c.args.places.now c.args.id) All
+    c.args.done c.args.done
+    (updating_text c.args.geometry.now c.args.places.now c.args.id c.args.entry.now c.requires.recorded
+    c.in-Updating.ensures) (wrote_none k _ c.args.done)
 
 pub returns-in-Ok-clause-written : goal.returns-in-Ok-clause-written
 returns-in-Ok-clause-written g c =
@@ -27,7 +29,8 @@ returns-in-Ok-clause-written g c =
     let h = c.damaged_header-header.result in
     let is = c.damaged_header-header.ensures ∙ ap (λ n. (damaged_block n c.args.id).header) c.data_pad.ensures in
     wrote_as k _ _ (laid_text s h []) (volume_text s c.args.places.now c.args.id) All c.args.done c.in-Ok.total
-    (damaged_text s c.args.places.now c.args.id c.args.entry.now c.requires.recorded h is c.in-Damaged.ensures) (c.in-Ok.ensures.written k)
+    (damaged_text s c.args.places.now c.args.id c.args.entry.now c.requires.recorded h is c.in-Damaged.ensures)
+    (c.in-Ok.ensures.written k)
 
 pub returns-in-Ok-clause-most : goal.returns-in-Ok-clause-most
 returns-in-Ok-clause-most g c =
@@ -43,10 +46,12 @@ returns-in-Err-clause-failed g c =
     let h = c.damaged_header-header.result in
     let is = c.damaged_header-header.ensures ∙ ap (λ n. (damaged_block n c.args.id).header) c.data_pad.ensures in
     wrote_as k _ _ (laid_text s h []) (volume_text s c.args.places.now c.args.id) NotAll c.args.done c.in-Err.total
-    (damaged_text s c.args.places.now c.args.id c.args.entry.now c.requires.recorded h is c.in-Damaged.ensures) (c.in-Err.ensures.failed k)
+    (damaged_text s c.args.places.now c.args.id c.args.entry.now c.requires.recorded h is c.in-Damaged.ensures)
+    (c.in-Err.ensures.failed k)
 
 pub returns-in-Static-clause-most : goal.returns-in-Static-clause-most
 returns-in-Static-clause-most g c =
-    let few = reserved_of _ c.args.id c.args.places.now c.args.entry.now _ c.requires.places.within c.requires.recorded c.in-Static.ensures in
+    let few = reserved_of _ c.args.id c.args.places.now c.args.entry.now _ c.requires.places.within c.requires.recorded
+    c.in-Static.ensures in
     let more = more_blocks c.in-Static.lebs c.args.entry.now.reserved c.args.geometry.now.peb_size few in
     IfOk-weaker c.put_static.result _ _ (λ n most. omega (arith, more, most)) c.put_static.ensures.most

@@ -14,7 +14,8 @@ returns-clause-written g c =
     let same = c.in_ok-places.ensures.known in
     IfOk-weaker c.put_image.result _ _
     (λ n h. normalised s k p c.in_ok-places.ensures.places _ _ n
-    (subst (λ (k : Source). Wrote k (g.W.Write.contents c.args.writer.now) (g.W.Write.contents c.put_image.new.writer) (normal_text s p) All 0 n) same h))
+    (subst (λ (k : Source). Wrote k (g.W.Write.contents c.args.writer.now) (g.W.Write.contents c.put_image.new.writer)
+    (normal_text s p) All 0 n) same h))
     c.put_image.ensures.written
 
 pub returns-clause-refused : goal.returns-clause-refused
@@ -25,5 +26,6 @@ returns-clause-refused g c =
     let same = c.in_ok-places.ensures.known in
     IfErr-weaker c.put_image.result _ _
     (λ e h. not_normalised s k p c.in_ok-places.ensures.places _ _ e
-    (subst (λ (k : Source). IsWroteError s k (g.W.Write.contents c.args.writer.now) (g.W.Write.contents c.put_image.new.writer) (normal_text s p) 0 e) same h))
+    (subst (λ (k : Source). IsWroteError s k (g.W.Write.contents c.args.writer.now)
+    (g.W.Write.contents c.put_image.new.writer) (normal_text s p) 0 e) same h))
     c.put_image.ensures.failed

@@ -28,7 +28,8 @@ pub put_volume-requires-clause-sound : goal.put_volume-requires-clause-sound
 put_volume-requires-clause-sound g c =
     let e = c.listed-item.result in
     let are = subst AreRecords c.table.ensures c.entries-listed-items.ensures.table in
-    subst (λ (z : Sizes). rec_fault z e.1 ≡ None) c.requires.places.sizes (are.sound e.0 e.1 (put_volume-requires-clause-recorded g c))
+    subst (λ (z : Sizes). rec_fault z e.1 ≡ None) c.requires.places.sizes
+    (are.sound e.0 e.1 (put_volume-requires-clause-recorded g c))
 
 pub put_volume-requires-clause-few : goal.put_volume-requires-clause-few
 put_volume-requires-clause-few g c =
@@ -40,7 +41,8 @@ put_volume-requires-clause-few g c =
     let entries = c.entries-listed-items.ensures.value ∙ ap (λ (x : Records). finite.entries x.of) c.table.ensures in
     let inside : i < length (finite.entries t.of) = omega (arith, ap length entries) in
     let slots_few : length (finite.entries t.of) ≤ 128 = (let few = few_records t are in omega (arith, few)) in
-    let most = volume_few r.reserved s.peb_size (reserved_within s r (put_volume-requires-clause-sound g c)) c.peb_size.ensures.limits.peb_to in
+    let most = volume_few r.reserved s.peb_size (reserved_within s r (put_volume-requires-clause-sound g c))
+    c.peb_size.ensures.limits.peb_to in
     let few = c.loop-listed.invariant.few in
     omega (arith, few, most, inside, slots_few, c.requires.few)
 
@@ -55,9 +57,12 @@ returns-in_err-total-clause-failed g c =
     let here : e ≡ get_or (finite.entries p.records.of) i e = c.listed-item.is ∙ ap (λ es. get_or es i e) entries in
     let inside : i < length (finite.entries p.records.of) = omega (arith, ap length entries) in
     let from = err_from_is_err_and c.from_residual.result c.from_residual.ensures.1 in
-    let failed : IsWroteError s (g.S.BlockSource.known c.loop-listed.source) (g.W.Write.contents c.loop-listed.writer) (g.W.Write.contents c.put_volume.new.writer) (volume_text s p e.0) c.loop-listed.total err = c.in_err-total.ensures.failed in
+    let failed : IsWroteError s (g.S.BlockSource.known c.loop-listed.source) (g.W.Write.contents c.loop-listed.writer)
+    (g.W.Write.contents c.put_volume.new.writer) (volume_text s p e.0) c.loop-listed.total err =
+    c.in_err-total.ensures.failed in
     rw (from.1, from.2)
-    (volumes_failed s p (g.S.BlockSource.known c.args.source.now) _ _ _ i e inside here c.args.done c.loop-listed.total err c.loop-listed.invariant.wrote (rw (← c.loop-listed.invariant.source) failed))
+    (volumes_failed s p (g.S.BlockSource.known c.args.source.now) _ _ _ i e inside here c.args.done c.loop-listed.total
+    err c.loop-listed.invariant.wrote (rw (← c.loop-listed.invariant.source) failed))
 
 pub loop-listed-preserved : goal.loop-listed-preserved
 loop-listed-preserved g c =
@@ -69,15 +74,22 @@ loop-listed-preserved g c =
     let entries = c.entries-listed-items.ensures.value ∙ ap (λ (x : Records). finite.entries x.of) c.table.ensures in
     let here : e ≡ get_or (finite.entries p.records.of) i e = c.listed-item.is ∙ ap (λ es. get_or es i e) entries in
     let inside : i < length (finite.entries p.records.of) = omega (arith, ap length entries) in
-    let written : Wrote (g.S.BlockSource.known c.loop-listed.source) (g.W.Write.contents c.loop-listed.writer) (g.W.Write.contents c.put_volume.new.writer) (volume_text s p e.0) All c.loop-listed.total c.in_ok-total.total = c.in_ok-total.ensures.written in
+    let written : Wrote (g.S.BlockSource.known c.loop-listed.source) (g.W.Write.contents c.loop-listed.writer)
+    (g.W.Write.contents c.put_volume.new.writer) (volume_text s p e.0) All c.loop-listed.total c.in_ok-total.total =
+    c.in_ok-total.ensures.written in
     record {
       source = c.in_ok-total.ensures.known ∙ c.loop-listed.invariant.source;
-      wrote = volumes_wrote s p (g.S.BlockSource.known c.args.source.now) _ _ _ i e inside here c.args.done c.loop-listed.total c.in_ok-total.total c.loop-listed.invariant.wrote (rw (← c.loop-listed.invariant.source) written);
+      wrote = volumes_wrote s p (g.S.BlockSource.known c.args.source.now) _ _ _ i e inside here c.args.done
+          c.loop-listed.total c.in_ok-total.total c.loop-listed.invariant.wrote
+          (rw (← c.loop-listed.invariant.source) written);
       few = (let are = subst AreRecords c.table.ensures c.entries-listed-items.ensures.table in
-          let recorded : finite.get p.records.of e.0 ≡ Some r = subst (λ (x : ℕ × VolumeRecord). finite.get p.records.of x.0 ≡ Some x.1) (sym here) (listed_at p.records i e inside) in
+          let recorded : finite.get p.records.of e.0 ≡ Some r =
+          subst (λ (x : ℕ × VolumeRecord). finite.get p.records.of x.0 ≡ Some x.1) (sym here)
+          (listed_at p.records i e inside) in
           let sound = subst (λ (z : Sizes). rec_fault z r ≡ None) c.requires.places.sizes (are.sound e.0 r recorded) in
           let most = volume_few r.reserved s.peb_size (reserved_within s r sound) c.peb_size.ensures.limits.peb_to in
-          let few = c.loop-listed.invariant.few in let more = c.in_ok-total.ensures.most in omega (arith, few, most, more));
+          let few = c.loop-listed.invariant.few in let more = c.in_ok-total.ensures.most in
+          omega (arith, few, most, more));
     }
 
 pub returns-clause-written : goal.returns-clause-written
@@ -85,5 +97,9 @@ returns-clause-written g c =
     let s = c.args.geometry.now in
     let p = c.args.places.now in
     let entries = c.entries-listed-items.ensures.value ∙ ap (λ (x : Records). finite.entries x.of) c.table.ensures in
-    let all : c.loop-listed.listed-index ≡ length (finite.entries p.records.of) = (let end = c.loop-listed.auto.listed-index-end in let test = c.loop-listed-test.false in omega (arith, end, test, ap length entries)) in
-    wrote_as (g.S.BlockSource.known c.args.source.now) _ _ (first_volumes s p c.loop-listed.listed-index) (volumes_text s p) All c.args.done c.loop-listed.total (volumes_all s p c.loop-listed.listed-index all) c.loop-listed.invariant.wrote
+    let all : c.loop-listed.listed-index ≡ length (finite.entries p.records.of) =
+    (let end = c.loop-listed.auto.listed-index-end in let test = c.loop-listed-test.false in
+    omega (arith, end, test, ap length entries)) in
+    wrote_as (g.S.BlockSource.known c.args.source.now) _ _ (first_volumes s p c.loop-listed.listed-index)
+    (volumes_text s p) All c.args.done c.loop-listed.total
+    (volumes_all s p c.loop-listed.listed-index all) c.loop-listed.invariant.wrote

@@ -9,7 +9,8 @@ loop-byte-init c = sym (check_from-empty c.args.state c.ranges.state.fits)
 
 pub loop-byte-preserved : goal.loop-byte-preserved
 loop-byte-preserved c =
-    check_from-more c.args.state c.loop-byte.byte-index c.args.bytes.now _ _ c.ranges.state.fits c.loop-byte-test.true c.loop-byte.invariant c.with_byte-register.ensures
+    check_from-more c.args.state c.loop-byte.byte-index c.args.bytes.now _ _ c.ranges.state.fits c.loop-byte-test.true
+    c.loop-byte.invariant c.with_byte-register.ensures
 
 pub returns : goal.returns
 returns c =

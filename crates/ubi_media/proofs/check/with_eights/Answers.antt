@@ -10,9 +10,11 @@ loop-eight-init c = sym (check_from-empty c.args.state c.ranges.state.fits)
 
 pub loop-eight-preserved : goal.loop-eight-preserved
 loop-eight-preserved c =
-    check_from-piece c.args.state c.loop-eight.eight-index c.args.eights.now _ _ c.ranges.state.fits c.loop-eight-test.true c.loop-eight.invariant c.with_eight-register.ensures
+    check_from-piece c.args.state c.loop-eight.eight-index c.args.eights.now _ _ c.ranges.state.fits
+    c.loop-eight-test.true c.loop-eight.invariant c.with_eight-register.ensures
 
 pub returns : goal.returns
 returns c =
     c.loop-eight.invariant
-    ∙ ap (λ pieces. check_from c.args.state (concat pieces)) (take_all c.loop-eight.eight-index c.args.eights.now c.loop-eight-test.false)
+    ∙ ap (λ pieces. check_from c.args.state (concat pieces))
+    (take_all c.loop-eight.eight-index c.args.eights.now c.loop-eight-test.false)

@@ -3,4 +3,5 @@ use Rattle.ubi_media.proofs.check.with_rest.Goals as goal
 
 pub returns : goal.returns
 returns c =
-    check_from-cut c.args.state 8 _ c.args.bytes.now _ _ _ _ c.ranges.state.fits c.as_chunks.ensures.front c.as_chunks.ensures.back c.with_eights.ensures c.with_bytes.ensures
+    check_from-cut c.args.state 8 _ c.args.bytes.now _ _ _ _ c.ranges.state.fits c.as_chunks.ensures.front
+    c.as_chunks.ensures.back c.with_eights.ensures c.with_bytes.ensures

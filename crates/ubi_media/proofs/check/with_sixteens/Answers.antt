@@ -10,9 +10,11 @@ loop-sixteen-init c = sym (check_from-empty c.args.state c.ranges.state.fits)
 
 pub loop-sixteen-preserved : goal.loop-sixteen-preserved
 loop-sixteen-preserved c =
-    check_from-piece c.args.state c.loop-sixteen.sixteen-index c.args.sixteens.now _ _ c.ranges.state.fits c.loop-sixteen-test.true c.loop-sixteen.invariant c.with_sixteen-register.ensures
+    check_from-piece c.args.state c.loop-sixteen.sixteen-index c.args.sixteens.now _ _ c.ranges.state.fits
+    c.loop-sixteen-test.true c.loop-sixteen.invariant c.with_sixteen-register.ensures
 
 pub returns : goal.returns
 returns c =
     c.loop-sixteen.invariant
-    ∙ ap (λ pieces. check_from c.args.state (concat pieces)) (take_all c.loop-sixteen.sixteen-index c.args.sixteens.now c.loop-sixteen-test.false)
+    ∙ ap (λ pieces. check_from c.args.state (concat pieces))
+    (take_all c.loop-sixteen.sixteen-index c.args.sixteens.now c.loop-sixteen-test.false)

@@ -15,10 +15,12 @@ unfolding rec_bytes
 returns-in-Some-clause-bytes c =
     let sound = c.requires c.in-Some.volume.now (ap option_copied c.in-Some.is) in
     let front = rec_front c.args.geometry.now c.in-Some.volume.now in
-    rw (c.seal.ensures, c.front_of-bytes.ensures) (sealed_is 168 front (replicate 4 0) (length-rec_front c.args.geometry.now c.in-Some.volume.now sound) refl)
+    rw (c.seal.ensures, c.front_of-bytes.ensures)
+    (sealed_is 168 front (replicate 4 0) (length-rec_front c.args.geometry.now c.in-Some.volume.now sound) refl)
     ∙ sym (ap (λ o. rec_bytes c.args.geometry.now (option_copied o)) c.in-Some.is)
 
 pub returns-in-Some-clause-read_back : goal.returns-in-Some-clause-read_back
 returns-in-Some-clause-read_back c =
-    subst (λ (bytes : List ℕ). RecIs c.args.geometry.now bytes (slot_reading (option_copied c.args.volume))) (sym (returns-in-Some-clause-bytes c))
+    subst (λ (bytes : List ℕ). RecIs c.args.geometry.now bytes (slot_reading (option_copied c.args.volume)))
+    (sym (returns-in-Some-clause-bytes c))
     (slot_read_back c.args.geometry.now (option_copied c.args.volume) c.requires)

@@ -12,7 +12,8 @@ returns-in-Blank-clause-is c = vid_is_of _ _ _ (returns-in-Blank-clause-value c)
 
 pub returns-in-Corrupt-clause-value : goal.returns-in-Corrupt-clause-value
 unfolding vid_reading
-returns-in-Corrupt-clause-value c = ap (reading_by c.args.geometry.now (vid_fields c.args.bytes.now)) c.in-Corrupt.ensures
+returns-in-Corrupt-clause-value c = ap (reading_by c.args.geometry.now (vid_fields c.args.bytes.now))
+    c.in-Corrupt.ensures
 
 pub returns-in-Corrupt-clause-is : goal.returns-in-Corrupt-clause-is
 returns-in-Corrupt-clause-is c = vid_is_of _ _ _ (returns-in-Corrupt-clause-value c)
@@ -20,7 +21,8 @@ returns-in-Corrupt-clause-is c = vid_is_of _ _ _ (returns-in-Corrupt-clause-valu
 pub returns-in-Sealed-clause-value : goal.returns-in-Sealed-clause-value
 unfolding vid_reading
 returns-in-Sealed-clause-value c =
-    rw (c.judged.ensures, c.fields_of.ensures) (ap (reading_by c.args.geometry.now (vid_fields c.args.bytes.now)) c.in-Sealed.ensures)
+    rw (c.judged.ensures, c.fields_of.ensures)
+    (ap (reading_by c.args.geometry.now (vid_fields c.args.bytes.now)) c.in-Sealed.ensures)
 
 pub returns-in-Sealed-clause-is : goal.returns-in-Sealed-clause-is
 returns-in-Sealed-clause-is c = vid_is_of _ _ _ (returns-in-Sealed-clause-value c)

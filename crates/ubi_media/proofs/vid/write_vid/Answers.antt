@@ -22,4 +22,5 @@ returns-clause-read_back c =
       sqnum = omega arith;
     } in
     let fits = rw c.fields_from.ensures at made in
-    subst (λ (bytes : List ℕ). VidIs s bytes (Valid c.args.header.now)) (sym (returns-clause-bytes c)) (vid_read_back s c.args.header.now fits sound)
+    subst (λ (bytes : List ℕ). VidIs s bytes (Valid c.args.header.now)) (sym (returns-clause-bytes c))
+    (vid_read_back s c.args.header.now fits sound)

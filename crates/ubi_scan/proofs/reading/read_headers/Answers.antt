@@ -18,7 +18,8 @@ returns-clause-ec g c = λ bytes holds.
     let leb = limits.leb in
     let room : start + 64 ≤ length c.args.buffer.now = rw c.vid_offset-start.ensures.value (omega arith) in
     let count = length-take-le (start + 64) c.args.buffer.now room in
-    let read : area ≡ slice_range b 0 (0 + (start + 64)) = c.in_ok-read_part.ensures.bytes bytes holds ∙ ap (λ n. slice_range b 0 (0 + n)) count in
+    let read : area ≡ slice_range b 0 (0 + (start + 64)) = c.in_ok-read_part.ensures.bytes bytes holds
+    ∙ ap (λ n. slice_range b 0 (0 + n)) count in
     let first = rw c.unwrap.ensures at c.first_chunk.ensures.cases in
     c.read_ec-ec.ensures.value ∙ ap (ec_reading s) (first.same ∙ front_of_read b area (start + 64) (omega arith) read)
 
@@ -34,7 +35,9 @@ returns-clause-vid g c = λ bytes holds.
     let leb = limits.leb in
     let room : start + 64 ≤ length c.args.buffer.now = rw c.vid_offset-start.ensures.value (omega arith) in
     let count = length-take-le (start + 64) c.args.buffer.now room in
-    let read : area ≡ slice_range b 0 (0 + (start + 64)) = c.in_ok-read_part.ensures.bytes bytes holds ∙ ap (λ n. slice_range b 0 (0 + n)) count in
+    let read : area ≡ slice_range b 0 (0 + (start + 64)) = c.in_ok-read_part.ensures.bytes bytes holds
+    ∙ ap (λ n. slice_range b 0 (0 + n)) count in
     let size : length area ≡ start + 64 = c.read_part.auto.out ∙ count in
     let first = rw c.unwrap-2.ensures at c.first_chunk-2.ensures.cases in
-    c.read_vid-vid.ensures.value ∙ ap (vid_reading s) (first.same ∙ part_of_read b area start size read ∙ ap (λ n. slice_range b n (n + 64)) c.vid_offset-start.ensures.value)
+    c.read_vid-vid.ensures.value ∙ ap (vid_reading s) (first.same ∙ part_of_read b area start size read
+    ∙ ap (λ n. slice_range b n (n + 64)) c.vid_offset-start.ensures.value)

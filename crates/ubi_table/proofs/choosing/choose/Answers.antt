@@ -8,17 +8,20 @@ use Rattle.ubi_table.proofs.choosing.choose.Goals as goal
 pub choose_from-requires : goal.choose_from-requires
 choose_from-requires c =
     let image = c.args.blocks.now in
-    rw (c.geometry.ensures, c.new-source.ensures, c.bytes.ensures.value) (scan_of_memory image c.args.scan.now c.bytes.ensures.whole c.requires)
+    rw (c.geometry.ensures, c.new-source.ensures, c.bytes.ensures.value)
+    (scan_of_memory image c.args.scan.now c.bytes.ensures.whole c.requires)
 
 pub returns-in-Ok-clause-table : goal.returns-in-Ok-clause-table
 returns-in-Ok-clause-table c =
     let image = c.args.blocks.now in
-    let h : IsTableOf image.sizes (memory image.bytes) c.in-Ok.table = rw (c.geometry.ensures, c.new-source.ensures, c.bytes.ensures.value) at c.in-Ok.ensures.table in
+    let h : IsTableOf image.sizes (memory image.bytes) c.in-Ok.table =
+    rw (c.geometry.ensures, c.new-source.ensures, c.bytes.ensures.value) at c.in-Ok.ensures.table in
     h.held image.bytes refl
 
 pub returns-in-Err-Refused-clause-refused : goal.returns-in-Err-Refused-clause-refused
 returns-in-Err-Refused-clause-refused c =
     let image = c.args.blocks.now in
     let h : IsTableOfError image.sizes (memory image.bytes) (stream.Refused c.in-Err-Refused.cause) =
-    rw (c.in-Err-Refused.field-0-is, c.geometry.ensures, c.new-source.ensures, c.bytes.ensures.value) at c.in-Err-Refused.ensures.refused in
+    rw (c.in-Err-Refused.field-0-is, c.geometry.ensures, c.new-source.ensures, c.bytes.ensures.value) at
+    c.in-Err-Refused.ensures.refused in
     h image.bytes refl

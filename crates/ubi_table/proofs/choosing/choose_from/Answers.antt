@@ -10,7 +10,8 @@ returns-then-is_erased-clause-table g c =
     rw c.empty.ensures (record {
       sizes = refl;
       space = no_space s c.peb_size.ensures.limits;
-      held = λ bytes holds. inl ((c.is_erased.ensures s (blocks_of s bytes) (c.requires.held bytes holds)).0 c.if-is_erased.true, refl);
+      held = λ bytes holds. inl
+          ((c.is_erased.ensures s (blocks_of s bytes) (c.requires.held bytes holds)).0 c.if-is_erased.true, refl);
     })
 
 pub returns-in-None-clause-refused : goal.returns-in-None-clause-refused

@@ -14,7 +14,8 @@ returns-in_err-table-clause-refused g c =
     let known = g.S.BlockSource.known c.args.source.now in
     let e = c.in_err-table.field-0.0 in
     let p = err_from_is_err_and c.from_residual.result c.from_residual.ensures.1 in
-    let h = subst (λ (k : Source). IsCopyOfError s k c.loop-c.c e) c.loop-c.invariant.source c.in_err-table.ensures.refused in
+    let h = subst (λ (k : Source). IsCopyOfError s k c.loop-c.c e) c.loop-c.invariant.source
+    c.in_err-table.ensures.refused in
     rw (p.1, p.2) (error_of_copy s known c.loop-c.c e (omega arith) c.loop-c.invariant.none h)
 
 pub returns-in-Some-clause-table : goal.returns-in-Some-clause-table
@@ -26,7 +27,8 @@ returns-in-Some-clause-table g c =
       held = λ bytes holds.
           let bs = blocks_of s bytes in
           let still = ap (λ (k : Source). k.held) c.loop-c.invariant.source ∙ holds in
-          table_chosen s bs c.loop-c.c c.in-Some.table (omega arith) (c.loop-c.invariant.none bytes holds) (subst (IsCopyTable s bs c.loop-c.c) c.in-Some.is (c.in_ok-table.ensures.table.held bytes still));
+          table_chosen s bs c.loop-c.c c.in-Some.table (omega arith) (c.loop-c.invariant.none bytes holds)
+          (subst (IsCopyTable s bs c.loop-c.c) c.in-Some.is (c.in_ok-table.ensures.table.held bytes still));
     }
 
 pub loop-c-preserved : goal.loop-c-preserved
@@ -37,12 +39,14 @@ loop-c-preserved g c =
       none = λ bytes holds.
           let bs = blocks_of s bytes in
           let still = ap (λ (k : Source). k.held) c.loop-c.invariant.source ∙ holds in
-          none_more s bs c.loop-c.c (c.loop-c.invariant.none bytes holds) (subst (IsCopyTable s bs c.loop-c.c) c.in-None.is (c.in_ok-table.ensures.table.held bytes still));
+          none_more s bs c.loop-c.c (c.loop-c.invariant.none bytes holds)
+          (subst (IsCopyTable s bs c.loop-c.c) c.in-None.is (c.in_ok-table.ensures.table.held bytes still));
     }
 
 pub returns-clause-refused : goal.returns-clause-refused
 returns-clause-refused g c =
     let s = c.args.geometry.now in
     let both : c.loop-c.c ≡ 2 = omega arith in
-    rw c.into.ensures (λ bytes holds. both_corrupt s (blocks_of s bytes) c.args.scan.now c.requires.some.0 (c.requires.scan.held bytes holds)
+    rw c.into.ensures (λ bytes holds. both_corrupt s (blocks_of s bytes) c.args.scan.now c.requires.some.0
+    (c.requires.scan.held bytes holds)
     (subst (NoneDecides s (blocks_of s bytes)) both (c.loop-c.invariant.none bytes holds)) c.requires.some.1)

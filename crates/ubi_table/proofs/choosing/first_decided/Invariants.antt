@@ -6,5 +6,6 @@ use Rattle.ubi_table.proofs.choosing.first_decided.Given as goal
 abbrev pub invariant-loop-c : goal.invariant-loop-c
 invariant-loop-c g l = record {
   source : g.S.BlockSource.known l.source ≡ g.S.BlockSource.known l.fn.source;
-  none : WhereHeld (g.S.BlockSource.known l.fn.source) (λ bytes. NoneDecides l.geometry (blocks_of l.geometry bytes) l.c);
+  none : WhereHeld (g.S.BlockSource.known l.fn.source)
+      (λ bytes. NoneDecides l.geometry (blocks_of l.geometry bytes) l.c);
 }

@@ -18,9 +18,13 @@ returns-in_ok-copy_in-in-Some-clause-copy g c = λ bytes holds.
     let p = c.in-Some.p in
     let of : Leb = (layout, c.args.c) in
     let scan : IsScan s bs c.args.scan.now = c.requires.scan.held bytes holds in
-    let w : Wins s bs of p = subst (λ o. MatchOption o (NoMember s bs of) (Wins s bs of)) (sym c.in-Some.ensures) (scan.winners of) in
-    let read = leb_of_read s bytes c.read_leb.new.out p w.member.inside (c.in_ok-read_leb-in-Some.ensures.bytes bytes holds ∙ ap (slice_range (leb s (block bs p)) 0) c.requires.room) in
+    let w : Wins s bs of p = subst (λ o. MatchOption o (NoMember s bs of) (Wins s bs of)) (sym c.in-Some.ensures)
+    (scan.winners of) in
+    let read = leb_of_read s bytes c.read_leb.new.out p w.member.inside
+    (c.in_ok-read_leb-in-Some.ensures.bytes bytes holds
+    ∙ ap (slice_range (leb s (block bs p)) 0) c.requires.room) in
     copy_held s bs c.args.c p c.in_ok-copy_in-in-Some.field-0 w (c.in_ok-copy_in-in-Some.ensures ∙ ap (copy_of s) read)
 
 pub returns-in_ok-copy_in-in-Some-clause-sizes : goal.returns-in_ok-copy_in-in-Some-clause-sizes
-returns-in_ok-copy_in-in-Some-clause-sizes g c = subst (HasSizes c.args.geometry.now) (sym c.in_ok-copy_in-in-Some.ensures) (copy_sizes c.args.geometry.now c.read_leb.new.out)
+returns-in_ok-copy_in-in-Some-clause-sizes g c = subst (HasSizes c.args.geometry.now)
+    (sym c.in_ok-copy_in-in-Some.ensures) (copy_sizes c.args.geometry.now c.read_leb.new.out)

@@ -6,6 +6,7 @@ use Rattle.ubi_tool.proofs.change.apply_first.Given as goal
 -- so many steps are done
 abbrev pub invariant-loop-step : goal.invariant-loop-step
 invariant-loop-step l = record {
-  done : eraseblocks (image_of l.geometry l.image) ≡ after l.geometry (eraseblocks (image_of l.geometry l.initial.image)) l.steps l.step-index;
+  done : eraseblocks (image_of l.geometry l.image) ≡ after l.geometry
+      (eraseblocks (image_of l.geometry l.initial.image)) l.steps l.step-index;
   length : length l.image ≡ length l.initial.image;
 }

@@ -6,5 +6,6 @@ use Rattle.ubi_tool.proofs.command_line.change_command.Goals as goal
 pub returns : goal.returns
 returns c =
     IfOk-weaker c.arg-4.result (λ r. AddsArg c.in_ok-command-4.command c.number-3.result r) _
-    (λ r adds. adds.names.0 ∙ c.in_ok-command-4.ensures.names.0 ∙ c.in_ok-command-3.ensures.names.0 ∙ c.in_ok-command-2.ensures.names.0 ∙ c.in_ok-command.ensures)
+    (λ r adds. adds.names.0 ∙ c.in_ok-command-4.ensures.names.0 ∙ c.in_ok-command-3.ensures.names.0
+    ∙ c.in_ok-command-2.ensures.names.0 ∙ c.in_ok-command.ensures)
     c.arg-4.ensures

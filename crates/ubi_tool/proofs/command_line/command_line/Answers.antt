@@ -8,8 +8,10 @@ use Rattle.ubi_tool.proofs.command_line.command_line.Goals as goal
 pub returns : goal.returns
 returns c =
     let none : subcommand_names c.subcommand_required-tool.result ≡ [] =
-    ap (λ f. names_in f.subcommands.items) c.subcommand_required-tool.ensures ∙ ap (λ f. names_in f.subcommands.items) c.after_help.ensures
-    ∙ ap (λ f. names_in f.subcommands.items) c.version.ensures ∙ ap (λ f. names_in f.subcommands.items) c.about.ensures ∙ ap names_in c.new.ensures.empty.2 in
+    ap (λ f. names_in f.subcommands.items) c.subcommand_required-tool.ensures
+    ∙ ap (λ f. names_in f.subcommands.items) c.after_help.ensures
+    ∙ ap (λ f. names_in f.subcommands.items) c.version.ensures ∙ ap (λ f. names_in f.subcommands.items) c.about.ensures
+    ∙ ap names_in c.new.ensures.empty.2 in
     let one = one_more _ _ _ _ (codes "list") c.in_ok-tool.ensures none c.in_ok-list_command.ensures in
     let two = one_more _ _ _ _ (codes "check") c.in_ok-tool-2.ensures one c.in_ok-check_command.ensures in
     let three = one_more _ _ _ _ (codes "show") c.in_ok-tool-3.ensures two c.in_ok-show_command.ensures in

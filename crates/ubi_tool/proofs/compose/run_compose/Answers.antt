@@ -4,13 +4,15 @@ use Rattle.ubi_tool.proofs.compose.run_compose.Goals as goal
 
 pub returns-in-Err-Refused-clause-ok : goal.returns-in-Err-Refused-clause-ok
 returns-in-Err-Refused-clause-ok c =
-    unread c.in-Err-Refused.line c.in-Err-Refused.cause (rw c.in-Err-Refused.field-0-is at c.in-Err-Refused.ensures.refused)
+    unread c.in-Err-Refused.line c.in-Err-Refused.cause
+    (rw c.in-Err-Refused.field-0-is at c.in-Err-Refused.ensures.refused)
     (rw c.in_ok-spec_line-in-Err-Refused.ensures at c.saying.ensures)
 
 pub returns-in_ok-meaning_line-in-Err-clause-ok : goal.returns-in_ok-meaning_line-in-Err-clause-ok
 returns-in_ok-meaning_line-in-Err-clause-ok c =
     let read = c.in-Ok.ensures.volumes in
-    unmade c.in-Err.error.cause (read.0, rw read.1 at c.in-Err.ensures.cause) (rw c.in_ok-meaning_line-in-Err.ensures at c.saying-in-Err.ensures)
+    unmade c.in-Err.error.cause (read.0, rw read.1 at c.in-Err.ensures.cause)
+    (rw c.in_ok-meaning_line-in-Err.ensures at c.saying-in-Err.ensures)
 
 pub returns-in-Ok-new-clause-ok : goal.returns-in-Ok-new-clause-ok
 returns-in-Ok-new-clause-ok c =

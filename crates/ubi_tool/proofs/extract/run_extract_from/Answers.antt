@@ -15,13 +15,15 @@ returns-in-Err-Refused-clause-ok g c =
 pub returns-in-Err-Refused-clause-image : goal.returns-in-Err-Refused-clause-image
 returns-in-Err-Refused-clause-image g c = λ bytes holds.
     refused c.in-Err-Refused.cause
-    (refuses c.args.geometry.now (g.S.BlockSource.known c.args.source.now) bytes c.in-Err-Refused.cause (g.met.S.BlockSource.sized c.args.source.now) holds
+    (refuses c.args.geometry.now (g.S.BlockSource.known c.args.source.now) bytes c.in-Err-Refused.cause
+    (g.met.S.BlockSource.sized c.args.source.now) holds
     (rw c.in-Err-Refused.field-0-is at c.in-Err-Refused.ensures.refused))
     (rw c.in_ok-refusal_line-in-Err-Refused.ensures at c.saying.ensures) (Keeps-refl _)
 
 pub returns-in-Err-clause-ok : goal.returns-in-Err-clause-ok
 returns-in-Err-clause-ok g c =
-    IfOk-weaker c.unread.result _ _ (λ o h. unread_from c.in-Err.error c.in-Ok.ensures.places.whole h (Keeps-refl _)) c.unread.ensures.ok
+    IfOk-weaker c.unread.result _ _ (λ o h. unread_from c.in-Err.error c.in-Ok.ensures.places.whole h (Keeps-refl _))
+    c.unread.ensures.ok
 
 pub returns-in-Err-clause-image : goal.returns-in-Err-clause-image
 returns-in-Err-clause-image g c =
@@ -35,21 +37,24 @@ returns-in-Err-clause-image g c =
 pub returns-in-Ok-write_places-clause-ok : goal.returns-in-Ok-write_places-clause-ok
 returns-in-Ok-write_places-clause-ok g c =
     let line = rw c.in_ok-line.ensures.items at c.in_ok-put_bytes_line-in-Ok-write_places.ensures.line in
-    wrote c.in-Ok-write_places.count c.in-Ok.ensures.places.whole (received _ _ _ _ _ _ c.in-Ok-write_places.ensures.written) (rw line at c.saying-in-Ok-write_places.ensures)
+    wrote c.in-Ok-write_places.count c.in-Ok.ensures.places.whole
+    (received _ _ _ _ _ _ c.in-Ok-write_places.ensures.written) (rw line at c.saying-in-Ok-write_places.ensures)
 
 pub returns-in-Ok-write_places-clause-image : goal.returns-in-Ok-write_places-clause-image
 returns-in-Ok-write_places-clause-image g c = λ bytes holds.
     let p = c.in-Ok.ensures.places.held bytes holds in
     let still = ap (λ (k : Source). k.held) c.in-Ok.ensures.known ∙ holds in
     let line = rw c.in_ok-line.ensures.items at c.in_ok-put_bytes_line-in-Ok-write_places.ensures.line in
-    places_read c.args.geometry.now _ bytes still c.in-Ok.places p c.args.id _ (sym c.in-Ok-places_len.is ∙ c.places_len.ensures.meant _ p) _ _ _ _
+    places_read c.args.geometry.now _ bytes still c.in-Ok.places p c.args.id _
+    (sym c.in-Ok-places_len.is ∙ c.places_len.ensures.meant _ p) _ _ _ _
     c.in-Ok-write_places.ensures.written (rw line at c.saying-in-Ok-write_places.ensures)
 
 pub returns-in-Err-Write-write_places-clause-err : goal.returns-in-Err-Write-write_places-clause-err
 returns-in-Err-Write-write_places-clause-err g c = λ bytes holds.
     let p = c.in-Ok.ensures.places.held bytes holds in
     let still = ap (λ (k : Source). k.held) c.in-Ok.ensures.known ∙ holds in
-    places_cut c.args.geometry.now _ bytes still c.in-Ok.places p c.args.id _ (sym c.in-Ok-places_len.is ∙ c.places_len.ensures.meant _ p) _ _ _
+    places_cut c.args.geometry.now _ bytes still c.in-Ok.places p c.args.id _
+    (sym c.in-Ok-places_len.is ∙ c.places_len.ensures.meant _ p) _ _ _
     (rw c.in-Err-Write-write_places.field-0-is at c.in-Err-Write-write_places.ensures.failed)
 
 pub returns-in-Err-Read-clause-err : goal.returns-in-Err-Read-clause-err
@@ -60,4 +65,5 @@ returns-in-Err-Read-write_places-clause-err g c = inr (λ bytes holds.
     let p = c.in-Ok.ensures.places.held bytes holds in
     let still = ap (λ (k : Source). k.held) c.in-Ok.ensures.known ∙ holds in
     let failed = rw c.in-Err-Read-write_places.field-0-is at c.in-Err-Read-write_places.ensures.failed in
-    places_first c.args.geometry.now _ bytes still c.in-Ok.places p c.args.id _ (sym c.in-Ok-places_len.is ∙ c.places_len.ensures.meant _ p) _ _ _ failed.1)
+    places_first c.args.geometry.now _ bytes still c.in-Ok.places p c.args.id _
+    (sym c.in-Ok-places_len.is ∙ c.places_len.ensures.meant _ p) _ _ _ failed.1)

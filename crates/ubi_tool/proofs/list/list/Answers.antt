@@ -13,6 +13,7 @@ returns-in_ok-text-in-Ok-clause-ok g c = λ bytes holds.
 pub returns-in_ok-refusal_line-in-Err-Refused-clause-ok : goal.returns-in_ok-refusal_line-in-Err-Refused-clause-ok
 returns-in_ok-refusal_line-in-Err-Refused-clause-ok g c = λ bytes holds.
     refused c.in-Err-Refused.cause
-    (refuses c.args.geometry.now (g.S.BlockSource.known c.args.source.now) bytes c.in-Err-Refused.cause (g.met.S.BlockSource.sized c.args.source.now) holds
+    (refuses c.args.geometry.now (g.S.BlockSource.known c.args.source.now) bytes c.in-Err-Refused.cause
+    (g.met.S.BlockSource.sized c.args.source.now) holds
     (rw c.in-Err-Refused.field-0-is at c.in-Err-Refused.ensures.refused))
     (rw c.in_ok-refusal_line-in-Err-Refused.ensures at c.saying-in-Err-Refused.ensures)

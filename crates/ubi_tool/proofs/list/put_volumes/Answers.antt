@@ -27,7 +27,8 @@ pub amount_of-requires-clause-sound : goal.amount_of-requires-clause-sound
 amount_of-requires-clause-sound g c =
     let e = c.listed-item.result in
     let are = subst AreRecords c.table.ensures c.entries-listed-items.ensures.table in
-    subst (λ (z : Sizes). rec_fault z e.1 ≡ None) c.requires.places.sizes (are.sound e.0 e.1 (amount_of-requires-clause-recorded g c))
+    subst (λ (z : Sizes). rec_fault z e.1 ≡ None) c.requires.places.sizes
+    (are.sound e.0 e.1 (amount_of-requires-clause-recorded g c))
 
 pub put_volume-requires : goal.put_volume-requires
 put_volume-requires g c =
@@ -38,7 +39,8 @@ put_volume-requires g c =
     let here : e ≡ get_or (finite.entries t.of) i e = c.listed-item.is ∙ ap (λ es. get_or es i e) entries in
     let inside : i < length (finite.entries t.of) = omega (arith, ap length entries) in
     let are = subst AreRecords c.table.ensures c.entries-listed-items.ensures.table in
-    let recorded : finite.get t.of e.0 ≡ Some e.1 = subst (λ (x : ℕ × VolumeRecord). finite.get t.of x.0 ≡ Some x.1) (sym here) (listed_at t i e inside) in
+    let recorded : finite.get t.of e.0 ≡ Some e.1 = subst (λ (x : ℕ × VolumeRecord). finite.get t.of x.0 ≡ Some x.1)
+    (sym here) (listed_at t i e inside) in
     subst (λ (z : Sizes). rec_fault z e.1 ≡ None) c.requires.places.sizes (are.sound e.0 e.1 recorded)
 
 pub loop-listed-preserved : goal.loop-listed-preserved
@@ -46,12 +48,14 @@ loop-listed-preserved g c =
     let e = c.listed-item.result in
     let i = c.loop-listed.listed-index in
     let entries = c.entries-listed-items.ensures.value ∙ ap (λ (x : Records). finite.entries x.of) c.table.ensures in
-    let here : e ≡ get_or (finite.entries c.args.places.now.records.of) i e = c.listed-item.is ∙ ap (λ es. get_or es i e) entries in
+    let here : e ≡ get_or (finite.entries c.args.places.now.records.of) i e = c.listed-item.is
+    ∙ ap (λ es. get_or es i e) entries in
     let inside : i < length (finite.entries c.args.places.now.records.of) = omega (arith, ap length entries) in
     record {
       source = c.in-Ok.ensures.known ∙ c.loop-listed.invariant.source;
       text = λ bytes holds h.
-          lines_more c.args.geometry.now c.args.places.now bytes h i e c.in-Ok.amount c.args.text.now.items c.loop-listed.text.items c.put_volume.new.text.items inside here
+          lines_more c.args.geometry.now c.args.places.now bytes h i e c.in-Ok.amount c.args.text.now.items
+          c.loop-listed.text.items c.put_volume.new.text.items inside here
           (c.in-Ok.ensures.amount bytes (ap (λ (k : Source). k.held) c.loop-listed.invariant.source ∙ holds))
           (c.loop-listed.invariant.text bytes holds h) c.in_ok-put_volume-in-Ok.ensures;
     }
@@ -62,5 +66,9 @@ returns-clause-text g c = λ bytes holds h.
     let p = c.args.places.now in
     let i = c.loop-listed.listed-index in
     let entries = c.entries-listed-items.ensures.value ∙ ap (λ (x : Records). finite.entries x.of) c.table.ensures in
-    let all : i ≡ length (finite.entries p.records.of) = (let end = c.loop-listed.auto.listed-index-end in let test = c.loop-listed-test.false in omega (arith, end, test, ap length entries)) in
-    c.loop-listed.invariant.text bytes holds h ∙ ap (λ (es : List (ℕ × Volume)). c.args.text.now.items ++ flat_map (volume_line s) es) (lines_all s p bytes h i all)
+    let all : i ≡ length (finite.entries p.records.of) =
+    (let end = c.loop-listed.auto.listed-index-end in let test = c.loop-listed-test.false in
+    omega (arith, end, test, ap length entries)) in
+    c.loop-listed.invariant.text bytes holds h
+    ∙ ap (λ (es : List (ℕ × Volume)). c.args.text.now.items ++ flat_map (volume_line s) es)
+    (lines_all s p bytes h i all)

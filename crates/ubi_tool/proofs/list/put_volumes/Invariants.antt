@@ -11,5 +11,6 @@ abbrev pub invariant-loop-listed : goal.invariant-loop-listed
 invariant-loop-listed g l = record {
   source : g.S.BlockSource.known l.source ≡ g.S.BlockSource.known l.fn.source;
   text : WhereHeld (g.S.BlockSource.known l.fn.source) (λ bytes. (h : ArePlaces (image_of l.geometry bytes) l.places) →
-      vec_items l.text ≡ vec_items l.initial.text ++ flat_map (volume_line l.geometry) (take l.listed-index (finite.entries h.meaning.volumes)));
+      vec_items l.text ≡ vec_items l.initial.text ++ flat_map (volume_line l.geometry)
+      (take l.listed-index (finite.entries h.meaning.volumes)));
 }

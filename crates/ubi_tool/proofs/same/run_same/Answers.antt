@@ -27,4 +27,5 @@ returns-in_ok-side_line-in-Err-Left-clause-ok c =
 pub returns-in_ok-side_line-in-Err-Right-clause-ok : goal.returns-in_ok-side_line-in-Err-Right-clause-ok
 returns-in_ok-side_line-in-Err-Right-clause-ok c =
     let h = rw c.in-Err-Right.field-0-is at c.in-Err-Right.ensures.refused in
-    right_refused h.0.0 c.in-Err-Right.cause h.0.1 h.1 (rw c.in_ok-side_line-in-Err-Right.ensures at c.saying-in-Err-Right.ensures)
+    right_refused h.0.0 c.in-Err-Right.cause h.0.1 h.1
+    (rw c.in_ok-side_line-in-Err-Right.ensures at c.saying-in-Err-Right.ensures)

@@ -8,7 +8,8 @@ use Rattle.ubi_tool.proofs.streaming.extract_file.Goals as goal
 
 pub returns-in-Err : goal.returns-in-Err
 returns-in-Err g c =
-    IfOk-weaker c.limit_line.result _ _ (λ o h. whole (no_image (bad_limit c.in-Err.limit c.in-Err.ensures h))) c.limit_line.ensures
+    IfOk-weaker c.limit_line.result _ _ (λ o h. whole (no_image (bad_limit c.in-Err.limit c.in-Err.ensures h)))
+    c.limit_line.ensures
 
 pub returns-in-Some : goal.returns-in-Some
 returns-in-Some g c =
@@ -18,13 +19,17 @@ returns-in-Some g c =
 
 pub returns-in-Err-load : goal.returns-in-Err-load
 returns-in-Err-load g c =
-    IfOk-weaker c.answer.result _ _ (λ o h. whole (no_image h)) (told _ c.in-Err-load.unread c.answer.result c.in-Err-load.ensures.unread c.answer.ensures)
+    IfOk-weaker c.answer.result _ _ (λ o h. whole (no_image h))
+    (told _ c.in-Err-load.unread c.answer.result c.in-Err-load.ensures.unread c.answer.ensures)
 
 pub returns : goal.returns
 returns g c =
     let file = c.in-Ok-load.file in
     IfOk-weaker c.extract-2.result _ _
-    (λ o h. whole (of_image c.args.numbers _ (ExtractsInto c.args.id c.args.out.now) file.geometry file.bytes.items o c.in-Ok-load.ensures.geometry c.in-Ok-load.ensures.read
+    (λ o h. whole (of_image c.args.numbers _ (ExtractsInto c.args.id c.args.out.now) file.geometry file.bytes.items o
+    c.in-Ok-load.ensures.geometry c.in-Ok-load.ensures.read
     (in_memory _ _ _ _ _ _ _ o
-    (λ d n. written (n.1 file.bytes.items (rw (c.new-source.ensures, c.as_slice.ensures.value) refl))) (λ d means line. unwritten (means file.bytes.items (rw (c.new-source.ensures, c.as_slice.ensures.value) refl)) line) h)))
+    (λ d n. written (n.1 file.bytes.items (rw (c.new-source.ensures, c.as_slice.ensures.value) refl)))
+    (λ d means line. unwritten (means file.bytes.items (rw (c.new-source.ensures, c.as_slice.ensures.value) refl))
+    line) h)))
     c.extract-2.ensures

@@ -11,4 +11,5 @@ pub returns-in-Ok : goal.returns-in-Ok
 returns-in-Ok g c = λ unread. done refl (λ zero. is_open c.finish.new.self.file c.in-Ok.ensures.opened)
 
 pub returns-in-Err : goal.returns-in-Err
-returns-in-Err g c = λ unread. unopened c.args.outcome refl c.if-outcome-ne-DONE.false (ap is_some c.in-Err.ensures.unopened)
+returns-in-Err g c = λ unread. unopened c.args.outcome refl c.if-outcome-ne-DONE.false
+    (ap is_some c.in-Err.ensures.unopened)

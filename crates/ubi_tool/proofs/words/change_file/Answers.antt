@@ -7,14 +7,18 @@ use Rattle.ubi_tool.proofs.words.change_file.Goals as goal
 
 pub returns-in-Err : goal.returns-in-Err
 returns-in-Err g c =
-    IfOk-weaker c.answer.result _ _ (λ o h. no_image h) (told _ c.in-Err.unread c.answer.result c.in-Err.ensures.unread c.answer.ensures)
+    IfOk-weaker c.answer.result _ _ (λ o h. no_image h)
+    (told _ c.in-Err.unread c.answer.result c.in-Err.ensures.unread c.answer.ensures)
 
 pub returns-in-Err-load : goal.returns-in-Err-load
 returns-in-Err-load g c =
     let old = c.in-Ok.file in
     let change = c.args.change.now in
     IfOk-weaker c.answer-in-Err-load.result _ _
-    (λ o h. of_image c.args.numbers _ (λ i. OfImage c.args.numbers change.from.now (λ f. ChangesInto change.id change.lnum f.bytes change.stop change.out.now i)) old.geometry old.bytes.items o c.in-Ok.ensures.geometry c.in-Ok.ensures.read (no_image h))
+    (λ o h. of_image c.args.numbers _
+    (λ i. OfImage c.args.numbers change.from.now
+    (λ f. ChangesInto change.id change.lnum f.bytes change.stop change.out.now i)) old.geometry old.bytes.items o
+    c.in-Ok.ensures.geometry c.in-Ok.ensures.read (no_image h))
     (told _ c.in-Err-load.unread c.answer-in-Err-load.result c.in-Err-load.ensures.unread c.answer-in-Err-load.ensures)
 
 pub returns-in-Ok-run_change : goal.returns-in-Ok-run_change
@@ -26,7 +30,12 @@ returns-in-Ok-run_change g c =
     let work : Changes image change.id change.lnum new.bytes.items change.stop c.in-Ok-run_change.outcome =
     rw (c.as_slice.ensures.value, c.as_slice-2.ensures.value) at c.in-Ok-run_change.ensures.ok in
     IfOk-weaker c.write_outcome.result _ _
-    (λ o h. of_image c.args.numbers _ (λ i. OfImage c.args.numbers change.from.now (λ f. ChangesInto change.id change.lnum f.bytes change.stop change.out.now i)) old.geometry old.bytes.items o c.in-Ok.ensures.geometry c.in-Ok.ensures.read
-    (of_image c.args.numbers _ (λ f. ChangesInto change.id change.lnum f.bytes change.stop change.out.now image) old.geometry new.bytes.items o c.in-Ok.ensures.geometry c.in-Ok-load.ensures.read
-    (changes_into image change.id change.lnum new.bytes.items change.stop change.out.now c.in-Ok-run_change.outcome o work h)))
+    (λ o h. of_image c.args.numbers _
+    (λ i. OfImage c.args.numbers change.from.now
+    (λ f. ChangesInto change.id change.lnum f.bytes change.stop change.out.now i)) old.geometry old.bytes.items o
+    c.in-Ok.ensures.geometry c.in-Ok.ensures.read
+    (of_image c.args.numbers _ (λ f. ChangesInto change.id change.lnum f.bytes change.stop change.out.now image)
+    old.geometry new.bytes.items o c.in-Ok.ensures.geometry c.in-Ok-load.ensures.read
+    (changes_into image change.id change.lnum new.bytes.items change.stop change.out.now c.in-Ok-run_change.outcome o
+    work h)))
     c.write_outcome.ensures

@@ -7,7 +7,8 @@ use Rattle.ubi_tool.proofs.words.list_file.Goals as goal
 
 pub returns-in-Err : goal.returns-in-Err
 returns-in-Err g c =
-    IfOk-weaker c.answer.result _ _ (λ o h. no_image h) (told _ c.in-Err.unread c.answer.result c.in-Err.ensures.unread c.answer.ensures)
+    IfOk-weaker c.answer.result _ _ (λ o h. no_image h)
+    (told _ c.in-Err.unread c.answer.result c.in-Err.ensures.unread c.answer.ensures)
 
 pub returns-in-Ok-run_list : goal.returns-in-Ok-run_list
 returns-in-Ok-run_list g c =

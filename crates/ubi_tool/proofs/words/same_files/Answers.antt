@@ -7,20 +7,25 @@ use Rattle.ubi_tool.proofs.words.same_files.Goals as goal
 
 pub returns-in-Err : goal.returns-in-Err
 returns-in-Err g c =
-    IfOk-weaker c.answer.result _ _ (λ o h. no_image h) (told _ c.in-Err.unread c.answer.result c.in-Err.ensures.unread c.answer.ensures)
+    IfOk-weaker c.answer.result _ _ (λ o h. no_image h)
+    (told _ c.in-Err.unread c.answer.result c.in-Err.ensures.unread c.answer.ensures)
 
 pub returns-in-Err-load : goal.returns-in-Err-load
 returns-in-Err-load g c =
     let file = c.in-Ok.file in
     IfOk-weaker c.answer-in-Err-load.result _ _
-    (λ o h. of_image c.args.numbers _ (λ i. OfImage c.args.numbers c.args.right.now (Compares i)) file.geometry file.bytes.items o c.in-Ok.ensures.geometry c.in-Ok.ensures.read (no_image h))
+    (λ o h. of_image c.args.numbers _ (λ i. OfImage c.args.numbers c.args.right.now (Compares i)) file.geometry
+    file.bytes.items o c.in-Ok.ensures.geometry c.in-Ok.ensures.read (no_image h))
     (told _ c.in-Err-load.unread c.answer-in-Err-load.result c.in-Err-load.ensures.unread c.answer-in-Err-load.ensures)
 
 pub returns-in-Ok-run_same : goal.returns-in-Ok-run_same
 returns-in-Ok-run_same g c =
     let first = c.in-Ok.file in
     let second = c.in-Ok-load.file in
-    let work : Compares (image_of first.geometry first.bytes.items) (image_of first.geometry second.bytes.items) c.in-Ok-run_same.outcome =
+    let work : Compares (image_of first.geometry first.bytes.items)
+    (image_of first.geometry second.bytes.items) c.in-Ok-run_same.outcome =
     rw (c.as_slice.ensures.value, c.as_slice-2.ensures.value) at c.in-Ok-run_same.ensures.ok in
-    of_image c.args.numbers _ (λ i. OfImage c.args.numbers c.args.right.now (Compares i)) first.geometry first.bytes.items _ c.in-Ok.ensures.geometry c.in-Ok.ensures.read
-    (of_image c.args.numbers _ (Compares (image_of first.geometry first.bytes.items)) first.geometry second.bytes.items _ c.in-Ok.ensures.geometry c.in-Ok-load.ensures.read work)
+    of_image c.args.numbers _ (λ i. OfImage c.args.numbers c.args.right.now (Compares i)) first.geometry
+    first.bytes.items _ c.in-Ok.ensures.geometry c.in-Ok.ensures.read
+    (of_image c.args.numbers _ (Compares (image_of first.geometry first.bytes.items)) first.geometry second.bytes.items
+    _ c.in-Ok.ensures.geometry c.in-Ok-load.ensures.read work)

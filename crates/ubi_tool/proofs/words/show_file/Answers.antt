@@ -7,11 +7,13 @@ use Rattle.ubi_tool.proofs.words.show_file.Goals as goal
 
 pub returns-in-Err : goal.returns-in-Err
 returns-in-Err g c =
-    IfOk-weaker c.answer.result _ _ (λ o h. no_image h) (told _ c.in-Err.unread c.answer.result c.in-Err.ensures.unread c.answer.ensures)
+    IfOk-weaker c.answer.result _ _ (λ o h. no_image h)
+    (told _ c.in-Err.unread c.answer.result c.in-Err.ensures.unread c.answer.ensures)
 
 pub returns-in-Ok-run_show : goal.returns-in-Ok-run_show
 returns-in-Ok-run_show g c =
     let file = c.in-Ok.file in
     let work : Shows (image_of file.geometry file.bytes.items) c.args.p c.in-Ok-run_show.outcome =
     rw c.as_slice.ensures.value at c.in-Ok-run_show.ensures.ok in
-    of_image c.args.numbers _ (λ i. Shows i c.args.p) file.geometry file.bytes.items _ c.in-Ok.ensures.geometry c.in-Ok.ensures.read work
+    of_image c.args.numbers _ (λ i. Shows i c.args.p) file.geometry file.bytes.items _ c.in-Ok.ensures.geometry
+    c.in-Ok.ensures.read work

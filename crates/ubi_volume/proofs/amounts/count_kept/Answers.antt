@@ -22,14 +22,16 @@ loop-lnum-preserved g c =
         source = c.in_ok-is_kept.ensures.known ∙ still;
         kept = λ bytes holds.
             let kept = c.in_ok-is_kept.ensures.kept bytes (ap (λ (k : Source). k.held) still ∙ holds) in
-            rw w.count-is (one_kept s (blocks_of s bytes) c.args.id c.args.entry.now n c.loop-lnum.count (c.loop-lnum.invariant.kept bytes holds) (rw w.if-branch.true at kept));
+            rw w.count-is (one_kept s (blocks_of s bytes) c.args.id c.args.entry.now n c.loop-lnum.count
+            (c.loop-lnum.invariant.kept bytes holds) (rw w.if-branch.true at kept));
         few = (let few = c.loop-lnum.invariant.few in omega (arith, few, w.count-is));
       }
       | else-branch w ↦ record {
         source = c.in_ok-is_kept.ensures.known ∙ still;
         kept = λ bytes holds.
             let kept = c.in_ok-is_kept.ensures.kept bytes (ap (λ (k : Source). k.held) still ∙ holds) in
-            rw w.count-is (none_more s (blocks_of s bytes) c.args.id c.args.entry.now n c.loop-lnum.count (c.loop-lnum.invariant.kept bytes holds) (rw w.if-branch.false at kept));
+            rw w.count-is (none_more s (blocks_of s bytes) c.args.id c.args.entry.now n c.loop-lnum.count
+            (c.loop-lnum.invariant.kept bytes holds) (rw w.if-branch.false at kept));
         few = (let few = c.loop-lnum.invariant.few in omega (arith, few, w.count-is));
       }
     ]
@@ -37,5 +39,7 @@ loop-lnum-preserved g c =
 pub returns-clause-count : goal.returns-clause-count
 returns-clause-count g c = λ bytes holds.
     let s = c.args.geometry.now in
-    let all : c.loop-lnum.lnum ≡ c.args.entry.now.reserved = (let end = c.loop-lnum.auto.lnum-end in let test = c.loop-lnum-test.false in omega (arith, end, test)) in
-    subst (λ (n : ℕ). AreKept s (blocks_of s bytes) c.args.id c.args.entry.now n c.loop-lnum.count) all (c.loop-lnum.invariant.kept bytes holds)
+    let all : c.loop-lnum.lnum ≡ c.args.entry.now.reserved =
+    (let end = c.loop-lnum.auto.lnum-end in let test = c.loop-lnum-test.false in omega (arith, end, test)) in
+    subst (λ (n : ℕ). AreKept s (blocks_of s bytes) c.args.id c.args.entry.now n c.loop-lnum.count) all
+    (c.loop-lnum.invariant.kept bytes holds)

@@ -6,6 +6,7 @@ use Rattle.ubi_volume.proofs.amounts.count_kept.Given as goal
 abbrev pub invariant-loop-lnum : goal.invariant-loop-lnum
 invariant-loop-lnum g l = record {
   source : g.S.BlockSource.known l.source ≡ g.S.BlockSource.known l.fn.source;
-  kept : WhereHeld (g.S.BlockSource.known l.fn.source) (λ bytes. AreKept l.geometry (blocks_of l.geometry bytes) l.id l.entry l.lnum l.count);
+  kept : WhereHeld (g.S.BlockSource.known l.fn.source)
+      (λ bytes. AreKept l.geometry (blocks_of l.geometry bytes) l.id l.entry l.lnum l.count);
   few : l.count ≤ l.lnum;
 }

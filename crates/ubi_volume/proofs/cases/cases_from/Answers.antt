@@ -11,33 +11,41 @@ use Rattle.ubi_volume.proofs.PlacesOf.{cases_more, numbered_more}
 use Rattle.ubi_volume.proofs.cases.cases_from.Goals as goal
 
 pub case_of-requires-clause-alike : goal.case_of-requires-clause-alike
-case_of-requires-clause-alike g c = λ bytes holds. c.requires.alike bytes (ap (λ (k : Source). k.held) (sym c.loop-listed.invariant.source) ∙ holds)
+case_of-requires-clause-alike g c = λ bytes holds. c.requires.alike bytes
+    (ap (λ (k : Source). k.held) (sym c.loop-listed.invariant.source) ∙ holds)
 
 pub case_of-requires-clause-recorded : goal.case_of-requires-clause-recorded
 case_of-requires-clause-recorded g c =
     let t = c.args.table.now in
     let e = c.listed-item.result in
     let i = c.loop-listed.listed-index in
-    let here : e ≡ get_or (finite.entries t.of) i e = c.listed-item.is ∙ ap (λ es. get_or es i e) c.entries-listed-items.ensures.value in
+    let here : e ≡ get_or (finite.entries t.of) i e = c.listed-item.is
+    ∙ ap (λ es. get_or es i e) c.entries-listed-items.ensures.value in
     let inside : i < length (finite.entries t.of) = omega (arith, ap length c.entries-listed-items.ensures.value) in
     subst (λ (x : ℕ × VolumeRecord). finite.get t.of x.0 ≡ Some x.1) (sym here) (listed_at t i e inside)
 
 pub case_of-requires-clause-sound : goal.case_of-requires-clause-sound
 case_of-requires-clause-sound g c =
     let e = c.listed-item.result in
-    subst (λ (z : Sizes). rec_fault z e.1 ≡ None) c.requires.table.sizes (c.entries-listed-items.ensures.table.sound e.0 e.1 (case_of-requires-clause-recorded g c))
+    subst (λ (z : Sizes). rec_fault z e.1 ≡ None) c.requires.table.sizes
+    (c.entries-listed-items.ensures.table.sound e.0 e.1 (case_of-requires-clause-recorded g c))
 
 pub loop-listed-preserved : goal.loop-listed-preserved
 loop-listed-preserved g c =
     let e = c.listed-item.result in
     let es = c.entries-listed-items.result.now in
     let i = c.loop-listed.listed-index in
-    let next : take (i + 1) es ≡ take i es ++ e ∷ [] = take_more es i e (omega arith) ∙ ap (λ x. take i es ++ x ∷ []) (sym c.listed-item.is) in
+    let next : take (i + 1) es ≡ take i es ++ e ∷ [] = take_more es i e (omega arith)
+    ∙ ap (λ x. take i es ++ x ∷ []) (sym c.listed-item.is) in
     record {
       source = c.in_ok-case.ensures.known ∙ c.loop-listed.invariant.source;
-      numbered = rw (next, c.in-Ok.ensures.items) (numbered_more (take i es) c.loop-listed.cases.items e c.in_ok-case.case c.loop-listed.invariant.numbered c.in_ok-case.ensures.reserved);
+      numbered = rw (next, c.in-Ok.ensures.items)
+          (numbered_more (take i es) c.loop-listed.cases.items e c.in_ok-case.case c.loop-listed.invariant.numbered
+          c.in_ok-case.ensures.reserved);
       cases = λ bytes holds.
           let s = c.args.geometry.now in
           let still = ap (λ (k : Source). k.held) c.loop-listed.invariant.source ∙ holds in
-          rw (next, c.in-Ok.ensures.items) (cases_more s (blocks_of s bytes) (take i es) c.loop-listed.cases.items e c.in_ok-case.case (c.loop-listed.invariant.cases bytes holds) (c.in_ok-case.ensures.case bytes still));
+          rw (next, c.in-Ok.ensures.items)
+          (cases_more s (blocks_of s bytes) (take i es) c.loop-listed.cases.items e c.in_ok-case.case
+          (c.loop-listed.invariant.cases bytes holds) (c.in_ok-case.ensures.case bytes still));
     }

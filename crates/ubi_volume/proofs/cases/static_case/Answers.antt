@@ -14,16 +14,19 @@ returns-then-used-entry-clause-case g c = λ bytes holds.
     let s = c.args.geometry.now in
     let bs = blocks_of s bytes in
     damaged_case s bs c.args.id c.args.entry.now c.requires.unmarked c.requires.kind
-    (damaged_large s bs (c.requires.scan.held bytes holds).clean c.args.id c.in_ok-used.used (c.in_ok-used.ensures.used bytes holds) c.args.entry.now c.if-used-entry.true)
+    (damaged_large s bs (c.requires.scan.held bytes holds).clean c.args.id c.in_ok-used.used
+    (c.in_ok-used.ensures.used bytes holds) c.args.entry.now c.if-used-entry.true)
 
 pub returns-then-is_some-clause-case : goal.returns-then-is_some-clause-case
 returns-then-is_some-clause-case g c = λ bytes holds.
     let s = c.args.geometry.now in
     let bs = blocks_of s bytes in
     let scan = c.requires.scan.held bytes holds in
-    let next = next_some c.args.scan.now c.args.id c.in_ok-used.used c.next_winner.result (sym c.is_some.ensures ∙ c.if-is_some.true) c.next_winner.ensures in
+    let next = next_some c.args.scan.now c.args.id c.in_ok-used.used c.next_winner.result
+    (sym c.is_some.ensures ∙ c.if-is_some.true) c.next_winner.ensures in
     damaged_case s bs c.args.id c.args.entry.now c.requires.unmarked c.requires.kind
-    (damaged_behind s bs scan.clean c.args.id c.in_ok-used.used (c.in_ok-used.ensures.used bytes holds) c.args.entry.now next.0 next.1 next.2
+    (damaged_behind s bs scan.clean c.args.id c.in_ok-used.used (c.in_ok-used.ensures.used bytes holds) c.args.entry.now
+    next.0 next.1 next.2
     (found_wins s bs c.args.scan.now scan (c.args.id, next.0) next.1 next.3))
 
 pub loop-lnum-init : goal.loop-lnum-init
@@ -38,9 +41,11 @@ returns-in-None-clause-case g c = λ bytes holds.
     let s = c.args.geometry.now in
     let bs = blocks_of s bytes in
     let still = ap (λ (k : Source). k.held) c.loop-lnum.invariant.source ∙ holds in
-    let none = subst (PieceSizeIs s bs c.args.id c.in_ok-used.used c.loop-lnum.lnum) c.in-None.is (c.in_ok-size.ensures.piece bytes still) in
+    let none = subst (PieceSizeIs s bs c.args.id c.in_ok-used.used c.loop-lnum.lnum) c.in-None.is
+    (c.in_ok-size.ensures.piece bytes still) in
     damaged_case s bs c.args.id c.args.entry.now c.requires.unmarked c.requires.kind
-    (damaged_piece s bs (c.requires.scan.held bytes holds).clean c.args.id c.in_ok-used.used (c.in_ok-used.ensures.used bytes holds) c.args.entry.now c.loop-lnum.lnum c.loop-lnum-test.true
+    (damaged_piece s bs (c.requires.scan.held bytes holds).clean c.args.id c.in_ok-used.used
+    (c.in_ok-used.ensures.used bytes holds) c.args.entry.now c.loop-lnum.lnum c.loop-lnum-test.true
     (no_piece s bs c.args.id c.in_ok-used.used c.loop-lnum.lnum none))
 
 pub loop-lnum-preserved : goal.loop-lnum-preserved
@@ -51,8 +56,11 @@ loop-lnum-preserved g c = record {
       let s = c.args.geometry.now in
       let bs = blocks_of s bytes in
       let still = ap (λ (k : Source). k.held) c.loop-lnum.invariant.source ∙ holds in
-      let some = subst (PieceSizeIs s bs c.args.id c.in_ok-used.used c.loop-lnum.lnum) c.in-Some.is (c.in_ok-size.ensures.piece bytes still) in
-      rw c.from-bytes.ensures (size_more s bs c.args.id c.in_ok-used.used c.loop-lnum.lnum c.loop-lnum.bytes c.in-Some.size (c.loop-lnum.invariant.read bytes holds) some);
+      let some = subst (PieceSizeIs s bs c.args.id c.in_ok-used.used c.loop-lnum.lnum) c.in-Some.is
+      (c.in_ok-size.ensures.piece bytes still) in
+      rw c.from-bytes.ensures
+      (size_more s bs c.args.id c.in_ok-used.used c.loop-lnum.lnum c.loop-lnum.bytes c.in-Some.size
+      (c.loop-lnum.invariant.read bytes holds) some);
 }
 
 pub returns-clause-case : goal.returns-clause-case
@@ -61,8 +69,11 @@ returns-clause-case g c = λ bytes holds.
     let bs = blocks_of s bytes in
     let scan = c.requires.scan.held bytes holds in
     let last : c.loop-lnum.lnum ≡ c.in_ok-used.used = omega arith in
-    let none = next_none c.args.scan.now c.args.id c.in_ok-used.used c.next_winner.result (sym c.is_some.ensures ∙ c.if-is_some.false) c.next_winner.ensures in
-    static_case s bs c.args.id c.args.entry.now scan.clean (are_lebs (image_of s bytes)) c.args.table.now (c.requires.alike bytes holds) c.requires.recorded c.requires.unmarked c.requires.kind
+    let none = next_none c.args.scan.now c.args.id c.in_ok-used.used c.next_winner.result
+    (sym c.is_some.ensures ∙ c.if-is_some.false) c.next_winner.ensures in
+    static_case s bs c.args.id c.args.entry.now scan.clean (are_lebs (image_of s bytes)) c.args.table.now
+    (c.requires.alike bytes holds) c.requires.recorded c.requires.unmarked c.requires.kind
     (usable_some s c.args.entry.now c.requires.sound) c.in_ok-used.used c.loop-lnum.bytes
-    (subst (λ n. SizeIsRead s bs c.args.id c.in_ok-used.used n c.loop-lnum.bytes) last (c.loop-lnum.invariant.read bytes holds)) c.if-used-entry.false
+    (subst (λ n. SizeIsRead s bs c.args.id c.in_ok-used.used n c.loop-lnum.bytes) last
+    (c.loop-lnum.invariant.read bytes holds)) c.if-used-entry.false
     (λ lnum from. none_found s bs c.args.scan.now scan (c.args.id, lnum) (none lnum from))

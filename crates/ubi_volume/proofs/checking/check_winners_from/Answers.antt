@@ -15,14 +15,18 @@ loop-p-preserved g c = record {
   source = c.in_ok-is_mismatched.ensures.known ∙ c.loop-p.invariant.source;
   none = λ bytes holds.
       let still = ap (λ (k : Source). k.held) c.loop-p.invariant.source ∙ holds in
-      none_more c.args.geometry.now (blocks_of c.args.geometry.now bytes) c.args.table.now c.loop-p.p _ c.if-branch.false (c.in_ok-is_mismatched.ensures.mismatched bytes still) (c.loop-p.invariant.none bytes holds);
+      none_more c.args.geometry.now (blocks_of c.args.geometry.now bytes) c.args.table.now c.loop-p.p _
+      c.if-branch.false (c.in_ok-is_mismatched.ensures.mismatched bytes still)
+      (c.loop-p.invariant.none bytes holds);
 }
 
 pub returns-clause-alike : goal.returns-clause-alike
 returns-clause-alike g c = λ bytes holds p m.
     let s = c.args.geometry.now in
     let known : Source = g.S.BlockSource.known c.args.source.now in
-    let count : length (blocks_of s bytes) ≡ blocks_in s known = count_blocks s known bytes (g.met.S.BlockSource.sized c.args.source.now) holds in
-    let ends : blocks_in s known ≤ c.loop-p.p = rw (c.len.ensures, c.from.ensures, c.peb_size.ensures.value) at c.loop-p-test.false in
+    let count : length (blocks_of s bytes) ≡ blocks_in s known =
+    count_blocks s known bytes (g.met.S.BlockSource.sized c.args.source.now) holds in
+    let ends : blocks_in s known ≤ c.loop-p.p = rw (c.len.ensures, c.from.ensures, c.peb_size.ensures.value) at
+    c.loop-p-test.false in
     let inside = m.2.wins.member.inside in
     c.loop-p.invariant.none bytes holds p (omega (arith, count, ends, inside)) m

@@ -5,7 +5,9 @@ use Rattle.ubi_volume.proofs.extracting.places_len.Goals as goal
 pub returns-in-Some-clause-meant : goal.returns-in-Some-clause-meant
 returns-in-Some-clause-meant c = λ image h.
     c.case_len.ensures
-    ∙ len_some image c.args.places.now h c.args.id c.args.geometry.now c.in-Some.entry.now c.content.result c.requires (rw (← c.table.ensures) (sym c.in-Some.ensures.value)) c.content.ensures
+    ∙ len_some image c.args.places.now h c.args.id c.args.geometry.now c.in-Some.entry.now c.content.result c.requires
+    (rw (← c.table.ensures) (sym c.in-Some.ensures.value)) c.content.ensures
 
 pub returns-in-None-clause-meant : goal.returns-in-None-clause-meant
-returns-in-None-clause-meant c = λ image h. len_none image c.args.places.now h c.args.id (rw (← c.table.ensures) (sym c.in-None.ensures.value))
+returns-in-None-clause-meant c = λ image h. len_none image c.args.places.now h c.args.id
+    (rw (← c.table.ensures) (sym c.in-None.ensures.value))

@@ -14,10 +14,14 @@ returns-in_err-done-clause-failed g c =
     let part = take c.share_len-len.result c.loop-lnum.buffer in
     let from = err_from_is_err_and c.from_residual.result c.from_residual.ensures.1 in
     let count : c.share_len-len.result ≡ share_len c.args.extent.size c.args.extent.bytes n = c.share_len-len.ensures in
-    let long : length part ≡ share_len c.args.extent.size c.args.extent.bytes n = length-take-le c.share_len-len.result c.loop-lnum.buffer (omega (arith, count)) ∙ count in
-    let failed : IsWroteError s (g.S.BlockSource.known c.loop-lnum.source) (g.W.Write.contents c.loop-lnum.writer) (g.W.Write.contents c.write_leb.new.writer) (leb_at s (length part) c.place-place.result) c.loop-lnum.done e = c.in_err-done.ensures.failed in
+    let long : length part ≡ share_len c.args.extent.size c.args.extent.bytes n =
+    length-take-le c.share_len-len.result c.loop-lnum.buffer (omega (arith, count)) ∙ count in
+    let failed : IsWroteError s (g.S.BlockSource.known c.loop-lnum.source) (g.W.Write.contents c.loop-lnum.writer)
+    (g.W.Write.contents c.write_leb.new.writer) (leb_at s (length part) c.place-place.result) c.loop-lnum.done e =
+    c.in_err-done.ensures.failed in
     rw (from.1, from.2)
-    (lebs_failed s c.args.places.now c.args.id c.args.extent.size c.args.extent.bytes n _ _ long c.place-place.ensures (g.S.BlockSource.known c.args.source.now) _ _ _ c.loop-lnum.done c.loop-lnum.invariant.wrote
+    (lebs_failed s c.args.places.now c.args.id c.args.extent.size c.args.extent.bytes n _ _ long c.place-place.ensures
+    (g.S.BlockSource.known c.args.source.now) _ _ _ c.loop-lnum.done c.loop-lnum.invariant.wrote
     c.args.extent.lebs e c.loop-lnum-test.true (rw (← c.loop-lnum.invariant.source) failed))
 
 pub loop-lnum-preserved : goal.loop-lnum-preserved
@@ -26,12 +30,19 @@ loop-lnum-preserved g c =
     let n = c.loop-lnum.lnum in
     let part = take c.share_len-len.result c.loop-lnum.buffer in
     let count : c.share_len-len.result ≡ share_len c.args.extent.size c.args.extent.bytes n = c.share_len-len.ensures in
-    let long : length part ≡ share_len c.args.extent.size c.args.extent.bytes n = length-take-le c.share_len-len.result c.loop-lnum.buffer (omega (arith, count)) ∙ count in
-    let written : Wrote (g.S.BlockSource.known c.loop-lnum.source) (g.W.Write.contents c.loop-lnum.writer) (g.W.Write.contents c.write_leb.new.writer) (leb_at s (length part) c.place-place.result) All c.loop-lnum.done c.in_ok-done.done = c.in_ok-done.ensures.written in
+    let long : length part ≡ share_len c.args.extent.size c.args.extent.bytes n =
+    length-take-le c.share_len-len.result c.loop-lnum.buffer (omega (arith, count)) ∙ count in
+    let written : Wrote (g.S.BlockSource.known c.loop-lnum.source) (g.W.Write.contents c.loop-lnum.writer)
+    (g.W.Write.contents c.write_leb.new.writer) (leb_at s (length part) c.place-place.result) All c.loop-lnum.done
+    c.in_ok-done.done = c.in_ok-done.ensures.written in
     record {
       source = c.in_ok-done.ensures.known ∙ c.loop-lnum.invariant.source;
-      wrote = lebs_wrote s c.args.places.now c.args.id c.args.extent.size c.args.extent.bytes n _ _ long c.place-place.ensures (g.S.BlockSource.known c.args.source.now) _ _ _ c.loop-lnum.done c.loop-lnum.invariant.wrote
+      wrote = lebs_wrote s c.args.places.now c.args.id c.args.extent.size c.args.extent.bytes n _ _ long
+          c.place-place.ensures (g.S.BlockSource.known c.args.source.now) _ _ _ c.loop-lnum.done
+          c.loop-lnum.invariant.wrote
           c.in_ok-done.done (rw (← c.loop-lnum.invariant.source) written);
-      few = (let few = c.loop-lnum.invariant.few in let more : c.in_ok-done.done ≡ c.loop-lnum.done + length part = c.in_ok-done.ensures.count in
-          let next : (n + 1) * c.args.extent.size ≡ n * c.args.extent.size + c.args.extent.size = omega arith in omega (arith, few, more, next, long));
+      few = (let few = c.loop-lnum.invariant.few in let more : c.in_ok-done.done
+          ≡ c.loop-lnum.done + length part = c.in_ok-done.ensures.count in
+          let next : (n + 1) * c.args.extent.size ≡ n * c.args.extent.size + c.args.extent.size = omega arith in
+          omega (arith, few, more, next, long));
     }

@@ -6,6 +6,7 @@ use Rattle.ubi_volume.proofs.extracting.write_lebs.Given as goal
 abbrev pub invariant-loop-lnum : goal.invariant-loop-lnum
 invariant-loop-lnum g l = record {
   source : g.S.BlockSource.known l.source ≡ g.S.BlockSource.known l.fn.source;
-  wrote : Wrote (g.S.BlockSource.known l.fn.source) (g.W.Write.contents l.fn.writer) (g.W.Write.contents l.writer) (lebs_at l.geometry l.places l.id l.extent.size l.extent.bytes l.lnum) All 0 l.done;
+  wrote : Wrote (g.S.BlockSource.known l.fn.source) (g.W.Write.contents l.fn.writer) (g.W.Write.contents l.writer)
+      (lebs_at l.geometry l.places l.id l.extent.size l.extent.bytes l.lnum) All 0 l.done;
   few : l.done ≤ l.lnum * l.extent.size;
 }

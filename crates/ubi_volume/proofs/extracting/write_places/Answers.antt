@@ -14,9 +14,11 @@ returns-clause-written g c =
     let p = c.args.places.now in
     let r = c.in-Some.entry.now in
     let recorded : finite.get p.records.of c.args.id ≡ Some r = rw (← c.table.ensures) (sym c.in-Some.ensures.value) in
-    let has = wanted s p c.args.id r recorded c.content.result c.in-Some-of.extent c.content.ensures c.in-Some-of.ensures.value in
+    let has = wanted s p c.args.id r recorded c.content.result c.in-Some-of.extent c.content.ensures
+    c.in-Some-of.ensures.value in
     IfOk-weaker c.write_lebs.result _ _
-    (λ n h. wrote_as (g.S.BlockSource.known c.args.source.now) _ _ _ (read_text s p c.args.id) All 0 n has h) c.write_lebs.ensures.written
+    (λ n h. wrote_as (g.S.BlockSource.known c.args.source.now) _ _ _ (read_text s p c.args.id) All 0 n has h)
+    c.write_lebs.ensures.written
 
 pub returns-clause-failed : goal.returns-clause-failed
 returns-clause-failed g c =
@@ -24,6 +26,8 @@ returns-clause-failed g c =
     let p = c.args.places.now in
     let r = c.in-Some.entry.now in
     let recorded : finite.get p.records.of c.args.id ≡ Some r = rw (← c.table.ensures) (sym c.in-Some.ensures.value) in
-    let has = wanted s p c.args.id r recorded c.content.result c.in-Some-of.extent c.content.ensures c.in-Some-of.ensures.value in
+    let has = wanted s p c.args.id r recorded c.content.result c.in-Some-of.extent c.content.ensures
+    c.in-Some-of.ensures.value in
     IfErr-weaker c.write_lebs.result _ _
-    (λ e h. error_as (g.S.BlockSource.known c.args.source.now) s _ _ _ (read_text s p c.args.id) 0 e has h) c.write_lebs.ensures.failed
+    (λ e h. error_as (g.S.BlockSource.known c.args.source.now) s _ _ _ (read_text s p c.args.id) 0 e has h)
+    c.write_lebs.ensures.failed

@@ -8,12 +8,14 @@ pub returns-then-is_blank : goal.returns-then-is_blank
 returns-then-is_blank c =
     winner_blank _ _ c.args.id c.args.entry.now c.args.lnum c.in_ok-p.p c.usable.result c.leb.result.now
     (found_wins _ _ _ c.requires.scan (c.args.id, c.args.lnum) c.in_ok-p.p (sym c.in_ok-p.ensures))
-    (c.usable.ensures.value ∙ ap (λ s. usable s c.args.entry.now) c.geometry.ensures) c.leb.ensures.value c.leb.ensures.size
+    (c.usable.ensures.value ∙ ap (λ s. usable s c.args.entry.now) c.geometry.ensures) c.leb.ensures.value
+    c.leb.ensures.size
     (sym c.is_blank.ensures ∙ c.if-is_blank.true)
 
 pub returns-else-is_blank : goal.returns-else-is_blank
 returns-else-is_blank c =
     winner_text _ _ c.args.id c.args.entry.now c.args.lnum c.in_ok-p.p c.usable.result c.leb.result.now
     (found_wins _ _ _ c.requires.scan (c.args.id, c.args.lnum) c.in_ok-p.p (sym c.in_ok-p.ensures))
-    (c.usable.ensures.value ∙ ap (λ s. usable s c.args.entry.now) c.geometry.ensures) c.leb.ensures.value c.leb.ensures.size
+    (c.usable.ensures.value ∙ ap (λ s. usable s c.args.entry.now) c.geometry.ensures) c.leb.ensures.value
+    c.leb.ensures.size
     (sym c.is_blank.ensures ∙ c.if-is_blank.false)

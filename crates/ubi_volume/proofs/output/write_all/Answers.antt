@@ -5,5 +5,6 @@ use Rattle.ubi_volume.proofs.output.write_all.Goals as goal
 pub loop-written-preserved : goal.loop-written-preserved
 loop-written-preserved g c = record {
   within = search rules;
-  appended = Appends-next _ _ _ c.loop-written.written c.in-Ok.count _ c.loop-written.invariant.appended c.in-Ok.ensures.bytes;
+  appended = Appends-next _ _ _ c.loop-written.written c.in-Ok.count _ c.loop-written.invariant.appended
+      c.in-Ok.ensures.bytes;
 }

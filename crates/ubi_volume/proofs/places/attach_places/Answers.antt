@@ -14,11 +14,13 @@ returns-in_err-contents-clause-refused g c =
     let e = c.in_err-contents.field-0.0 in
     let p = err_from_is_err_and c.from_residual-in_err-contents.result c.from_residual-in_err-contents.ensures.1 in
     let same = c.in_ok-table.ensures.known ∙ c.in_ok-scan.ensures.known in
-    rw (p.1, p.2) (contents_refused s known c.in_ok-scan.scan t c.in_ok-scan.ensures.found (subst (λ (k : Source). IsTableOf s k t) c.in_ok-scan.ensures.known c.in_ok-table.ensures.table) e
+    rw (p.1, p.2) (contents_refused s known c.in_ok-scan.scan t c.in_ok-scan.ensures.found
+    (subst (λ (k : Source). IsTableOf s k t) c.in_ok-scan.ensures.known c.in_ok-table.ensures.table) e
     (subst (λ (k : Source). IsContentsError s k t e) same c.in_err-contents.ensures.refused))
 
 pub invariant_of-result : goal.invariant_of-result
-invariant_of-result g c = are_listed c.in_ok-table.table c.in_ok-contents.contents.items c.in_ok-contents.ensures.numbered
+invariant_of-result g c = are_listed c.in_ok-table.table c.in_ok-contents.contents.items
+    c.in_ok-contents.ensures.numbered
 
 pub returns-clause-places : goal.returns-clause-places
 returns-clause-places g c =
@@ -26,7 +28,9 @@ returns-clause-places g c =
     let known = g.S.BlockSource.known c.args.source.now in
     let t = c.in_ok-table.table in
     let same = c.in_ok-table.ensures.known ∙ c.in_ok-scan.ensures.known in
-    are_places s known c.in_ok-scan.scan t c.in_ok-scan.ensures.found (subst (λ (k : Source). IsTableOf s k t) c.in_ok-scan.ensures.known c.in_ok-table.ensures.table) (g.met.S.BlockSource.sized c.args.source.now) c.peb_size.ensures.limits
+    are_places s known c.in_ok-scan.scan t c.in_ok-scan.ensures.found
+    (subst (λ (k : Source). IsTableOf s k t) c.in_ok-scan.ensures.known c.in_ok-table.ensures.table)
+    (g.met.S.BlockSource.sized c.args.source.now) c.peb_size.ensures.limits
     c.in_ok-contents.contents.items c.in_ok-contents.ensures.numbered
     (λ bytes holds. c.in_ok-contents.ensures.alike bytes (ap (λ (k : Source). k.held) same ∙ holds))
     (λ bytes holds. c.in_ok-contents.ensures.cases bytes (ap (λ (k : Source). k.held) same ∙ holds))

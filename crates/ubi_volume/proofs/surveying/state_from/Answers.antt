@@ -7,7 +7,8 @@ use Rattle.ubi_volume.proofs.surveying.state_from.Goals as goal
 
 pub returns-in-Dropped-clause-state : goal.returns-in-Dropped-clause-state
 returns-in-Dropped-clause-state g c = λ bytes holds.
-    state_holds c.args.geometry.now (blocks_of c.args.geometry.now bytes) _ (c.requires.scan.held bytes holds) c.args.p scan_state.Dropped c.in-Dropped.ensures
+    state_holds c.args.geometry.now (blocks_of c.args.geometry.now bytes) _
+    (c.requires.scan.held bytes holds) c.args.p scan_state.Dropped c.in-Dropped.ensures
 
 pub returns-in-Winner-clause-state : goal.returns-in-Winner-clause-state
 returns-in-Winner-clause-state g c = IfOk-weaker c.member_state_from.result _ _ (λ b says bytes holds.
@@ -21,4 +22,5 @@ returns-in-Beaten-clause-state g c = IfOk-weaker c.member_state_from-in-Beaten.r
     let s = c.args.geometry.now in
     let bs = blocks_of s bytes in
     let is = state_holds s bs _ (c.requires.scan.held bytes holds) c.args.p scan_state.Beaten c.in-Beaten.ensures in
-    state_of_beaten s bs c.args.table.now c.args.p is.0 is.1 is.2 b (says bytes holds)) c.member_state_from-in-Beaten.ensures.state
+    state_of_beaten s bs c.args.table.now c.args.p is.0 is.1 is.2 b (says bytes holds))
+    c.member_state_from-in-Beaten.ensures.state

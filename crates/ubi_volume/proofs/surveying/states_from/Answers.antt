@@ -16,17 +16,23 @@ loop-p-preserved g c =
       count = length-append old (one ∷ []) ∙ ap (λ n. n + 1) c.loop-p.invariant.count;
       states = λ bytes holds.
           let still = ap (λ (k : Source). k.held) c.loop-p.invariant.source ∙ holds in
-          states_more (StateIs s (blocks_of s bytes) c.args.table.now) old one c.loop-p.p c.loop-p.invariant.count (c.loop-p.invariant.states bytes holds) (c.in_ok-state.ensures.state bytes still);
+          states_more (StateIs s (blocks_of s bytes) c.args.table.now) old one c.loop-p.p c.loop-p.invariant.count
+          (c.loop-p.invariant.states bytes holds) (c.in_ok-state.ensures.state bytes still);
     })
 
 pub returns-clause-states : goal.returns-clause-states
 returns-clause-states g c =
     let s = c.args.geometry.now in
     let known : Source = g.S.BlockSource.known c.args.source.now in
-    let ends : blocks_in s known ≤ c.loop-p.p = rw (c.len.ensures, c.from.ensures, c.peb_size.ensures.value) at c.loop-p-test.false in
-    let most : c.loop-p.p ≤ blocks_in s known = rw (c.len.ensures, c.from.ensures, c.peb_size.ensures.value) at c.loop-p.auto.p-end in
+    let ends : blocks_in s known ≤ c.loop-p.p = rw (c.len.ensures, c.from.ensures, c.peb_size.ensures.value) at
+    c.loop-p-test.false in
+    let most : c.loop-p.p ≤ blocks_in s known = rw (c.len.ensures, c.from.ensures, c.peb_size.ensures.value) at
+    c.loop-p.auto.p-end in
     let all : length c.loop-p.states.items ≡ blocks_in s known = c.loop-p.invariant.count ∙ omega (arith, ends, most) in
     record {
       count = all;
-      held = λ bytes holds. (all ∙ sym (count_blocks s known bytes (g.met.S.BlockSource.sized c.args.source.now) holds), c.loop-p.invariant.states bytes holds);
+      held = λ bytes holds. (
+        all ∙ sym (count_blocks s known bytes (g.met.S.BlockSource.sized c.args.source.now) holds),
+        c.loop-p.invariant.states bytes holds,
+      );
     }

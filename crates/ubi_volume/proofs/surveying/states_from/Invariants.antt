@@ -9,5 +9,6 @@ abbrev pub invariant-loop-p : goal.invariant-loop-p
 invariant-loop-p g l = record {
   source : g.S.BlockSource.known l.source ≡ g.S.BlockSource.known l.fn.source;
   count : length (vec_items l.states) ≡ l.p;
-  states : WhereHeld (g.S.BlockSource.known l.fn.source) (λ bytes. (q : ℕ) → IfSome (slice_get (vec_items l.states) q) (StateIs l.geometry (blocks_of l.geometry bytes) l.table q));
+  states : WhereHeld (g.S.BlockSource.known l.fn.source) (λ bytes. (q : ℕ)
+      → IfSome (slice_get (vec_items l.states) q) (StateIs l.geometry (blocks_of l.geometry bytes) l.table q));
 }

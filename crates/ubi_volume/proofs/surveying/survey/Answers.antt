@@ -8,7 +8,8 @@ use Rattle.ubi_volume.proofs.surveying.survey.Goals as goal
 pub returns-in-Ok-clause-survey : goal.returns-in-Ok-clause-survey
 returns-in-Ok-clause-survey c =
     let image = c.args.image.now in
-    let is : IsSurveyOf c.args.geometry.now (memory image) c.in-Ok.survey = rw c.new.ensures at c.in-Ok.ensures.survey in
+    let is : IsSurveyOf c.args.geometry.now (memory image) c.in-Ok.survey =
+    rw c.new.ensures at c.in-Ok.ensures.survey in
     is.held image refl
 
 pub returns-in-Err-Refused-clause-refused : goal.returns-in-Err-Refused-clause-refused

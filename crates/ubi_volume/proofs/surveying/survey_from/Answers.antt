@@ -14,9 +14,11 @@ returns-in_err-check_winners_from-clause-refused g c =
     let known = g.S.BlockSource.known c.args.source.now in
     let t = c.in_ok-table.table in
     let e = c.in_err-check_winners_from.field-0.0 in
-    let p = err_from_is_err_and c.from_residual-in_err-check_winners_from.result c.from_residual-in_err-check_winners_from.ensures.1 in
+    let p = err_from_is_err_and c.from_residual-in_err-check_winners_from.result
+    c.from_residual-in_err-check_winners_from.ensures.1 in
     let same = c.in_ok-table.ensures.known ∙ c.in_ok-scan.ensures.known in
-    rw (p.1, p.2) (winners_refused s known c.in_ok-scan.scan t c.in_ok-scan.ensures.found (subst (λ (k : Source). IsTableOf s k t) c.in_ok-scan.ensures.known c.in_ok-table.ensures.table) e
+    rw (p.1, p.2) (winners_refused s known c.in_ok-scan.scan t c.in_ok-scan.ensures.found
+    (subst (λ (k : Source). IsTableOf s k t) c.in_ok-scan.ensures.known c.in_ok-table.ensures.table) e
     (subst (λ (k : Source). IsMismatchError s k t e) same c.in_err-check_winners_from.ensures.refused))
 
 pub returns-clause-survey : goal.returns-clause-survey
@@ -26,7 +28,9 @@ returns-clause-survey g c =
     let t = c.in_ok-table.table in
     let states = c.in_ok-states.states.items in
     let same = c.in_ok-table.ensures.known ∙ c.in_ok-scan.ensures.known in
-    is_survey s known c.in_ok-scan.scan t states c.peb_size.ensures.limits (g.met.S.BlockSource.sized c.args.source.now) c.in_ok-scan.ensures.found
+    is_survey s known c.in_ok-scan.scan t states c.peb_size.ensures.limits
+    (g.met.S.BlockSource.sized c.args.source.now) c.in_ok-scan.ensures.found
     (subst (λ (k : Source). IsTableOf s k t) c.in_ok-scan.ensures.known c.in_ok-table.ensures.table)
     (λ bytes holds. c.in_ok-check_winners_from.ensures.alike bytes (ap (λ (k : Source). k.held) same ∙ holds))
-    (subst (λ (k : Source). AreStatesOf s k t states) (c.in_ok-check_winners_from.ensures.known ∙ same) c.in_ok-states.ensures.states)
+    (subst (λ (k : Source). AreStatesOf s k t states) (c.in_ok-check_winners_from.ensures.known
+    ∙ same) c.in_ok-states.ensures.states)

@@ -21,11 +21,13 @@ take_content-requires c =
     within_place c.args.self.now c.volume.result c.in-Some.place (sym c.in-Some.ensures) in
     let read : c.index_mut.result.now ≡ get_or c.args.self.now c.in-Some.place c.index_mut.result.now =
     c.index_mut.ensures.value ∙ ap (λ items. get_or items c.in-Some.place c.index_mut.result.now) c.self.view_is in
-    rw read (All-get_or (λ e. rec_fault c.args.geometry.now e.1.entry ≡ None) c.args.self.now c.in-Some.place c.index_mut.result.now h c.requires)
+    rw read (All-get_or (λ e. rec_fault c.args.geometry.now e.1.entry ≡ None) c.args.self.now c.in-Some.place
+    c.index_mut.result.now h c.requires)
 
 pub invariant_of-self : goal.invariant_of-self
 invariant_of-self c =
-    drafts_kept c.self.inside.places c.self.inside.volumes.items c.in-Some.place c.index_mut.result.now c.take_content.new.volume c.self.invariant
+    drafts_kept c.self.inside.places c.self.inside.volumes.items c.in-Some.place c.index_mut.result.now
+    c.take_content.new.volume c.self.invariant
     c.index_mut.ensures.value
 
 pub returns-in-Some : goal.returns-in-Some
@@ -45,4 +47,5 @@ returns-in-Some c =
     (λ v. slice_set c.self.inside.volumes.items c.in-Some.place (c.index_mut.result.now.0, v))
     (changed c.args.geometry.now c.args.self.now c.args.line)
     (ap (λ items. changed c.args.geometry.now items c.args.line) (sym c.self.view_is)
-    ∙ changed_is c.args.geometry.now c.self.inside.volumes.items c.args.line c.in-Some.place c.index_mut.result.now place read) c.take_content.ensures
+    ∙ changed_is c.args.geometry.now c.self.inside.volumes.items c.args.line c.in-Some.place c.index_mut.result.now
+    place read) c.take_content.ensures

@@ -10,5 +10,6 @@ invariant_of-self-2 c =
     let long = c.self.inside.volumes.ok.0 in
     let n : c.len.result ≡ length c.self.inside.volumes.items = omega (arith, c.len.ensures, c.reserve.ensures.len) in
     rw same
-    (drafts_more c.self.inside.places c.insert.new.self c.self.inside.volumes.items c.args.id c.len.result c.args.volume c.self.invariant
+    (drafts_more c.self.inside.places c.insert.new.self c.self.inside.volumes.items c.args.id c.len.result c.args.volume
+    c.self.invariant
     (ap (place_of c.args.id) c.self.view_is ∙ c.requires) n c.insert.ensures.ordered (c.in_ok-insert.ensures.updates.0))

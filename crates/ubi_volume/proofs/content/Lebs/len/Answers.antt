@@ -5,4 +5,5 @@ use Rattle.ubi_scan.proofs.Finite.{entries_tree}
 use Rattle.ubi_volume.proofs.content.Lebs.len.Goals as goal
 
 pub returns : goal.returns
-returns c = rw (← c.self.view_is) (c.len.ensures.len ∙ sym (ap length (entries_tree nat_cmp_total nat_cmp-IsAntisymmetric c.self.inside.held c.self.invariant)))
+returns c = rw (← c.self.view_is) (c.len.ensures.len
+    ∙ sym (ap length (entries_tree nat_cmp_total nat_cmp-IsAntisymmetric c.self.inside.held c.self.invariant)))

@@ -6,12 +6,16 @@ use Rattle.ubi_volume.proofs.meaning.Meaning.new.Goals as goal
 
 pub of-requires : goal.of-requires
 of-requires c =
-    let none = subst (λ (items : Items). NoCause c.args.geometry.now items) c.as_slice.ensures.value c.in-None.ensures in
-    arranged_volumes c.args.geometry.now c.args.volumes.items none c.arranged.result.items c.arranged.ensures.permutation c.arranged.ensures.sorted
+    let none = subst (λ (items : Items). NoCause c.args.geometry.now items) c.as_slice.ensures.value
+    c.in-None.ensures in
+    arranged_volumes c.args.geometry.now c.args.volumes.items none c.arranged.result.items
+    c.arranged.ensures.permutation c.arranged.ensures.sorted
 
 pub returns-in-None-clause-made : goal.returns-in-None-clause-made
 returns-in-None-clause-made c =
-    let none = subst (λ (items : Items). NoCause c.args.geometry.now items) c.as_slice.ensures.value c.in-None.ensures in
+    let none = subst (λ (items : Items). NoCause c.args.geometry.now items) c.as_slice.ensures.value
+    c.in-None.ensures in
     let as_meant : VolumeMap → Meant = λ volumes. record { sizes = c.args.geometry.now; volumes = volumes } in
-    let same = arranged_same c.args.geometry.now c.args.volumes.items none c.arranged.result.items c.arranged.ensures.permutation c.arranged.ensures.sorted in
+    let same = arranged_same c.args.geometry.now c.args.volumes.items none c.arranged.result.items
+    c.arranged.ensures.permutation c.arranged.ensures.sorted in
     (none, c.of.ensures ∙ ap as_meant same)
