@@ -8,7 +8,7 @@ use Rattle.std.proofs.lemmas.List.{take_all, take_more}
 use Rattle.ubi_media.specs.Geometry.{Sizes}
 use Rattle.ubi_media.specs.declared.record.VolumeRecord.{VolumeRecord}
 use Rattle.ubi_scan.specs.Image.{image_of}
-use Rattle.ubi_volume.specs.Amounts.{AmountIs, amount_of}
+use Rattle.ubi_volume.specs.Amounts.{AmountIs}
 use Rattle.ubi_volume.specs.Places.{ArePlaces, Placed}
 use Rattle.ubi_volume.specs.declared.amounts.Amount.{Amount}
 use Rattle.ubi_volume.specs.declared.content.Content.TheVariants as content

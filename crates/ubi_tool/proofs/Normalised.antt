@@ -1,7 +1,7 @@
 -- What a normalising of a source tells of an image whose bytes are known, and over files.
 use Rattle.std.proofs.Common.{◌≡◌, ℕ, ◌/◌, List, ap, length, refl, subst, sym, ◌∙◌}
 use Rattle.std.proofs.lemmas.Result.{IfErr-at_err, IfOk-at_ok}
-use Rattle.std.specs.Prelude.{Bool, IfErr, IfOk, MatchResult, Option, Result, Some, None, Err, codes}
+use Rattle.std.specs.Prelude.{Bool, IfErr, IfOk, MatchResult, Option, Result, None, Err, codes}
 use Rattle.std.specs.declared.alloc.AllocError.{AllocError}
 use Rattle.ubi_media.specs.Geometry.{IsGeometry, Sizes}
 use Rattle.ubi_scan.specs.Image.{Image, image_of}
