@@ -16,7 +16,7 @@ use Rattle.ubi_tool.specs.Compose as compose
 use Rattle.ubi_tool.specs.Change.{Changes, ChangesInto, IsPlanned, planned, unplanned}
 use Rattle.ubi_tool.specs.Change as change
 use Rattle.ubi_tool.specs.Numbers.{sizes_of}
-use Rattle.ubi_tool.specs.Program.{IsRead, IsWritten, OfImage, OfText, Tells, text_limit}
+use Rattle.ubi_tool.specs.Program.{IsRead, WritesFile, OfImage, OfText, Tells, text_limit}
 use Rattle.ubi_tool.specs.Program as program
 use Rattle.ubi_tool.specs.declared.image_file.Unread.{Unread}
 use Rattle.ubi_tool.specs.declared.image_file.Unread.TheVariants.{Memory, Told}
@@ -45,7 +45,7 @@ described_with_file s text spares o (unmade c is gives) some = absurd (no_file o
 
 -- composing, and then writing the file
 pub composes_into : (s : Sizes) (text : List ℕ) (spares : ℕ) (out : List ℕ) (work o : Outcome)
-    → Composes s text spares work → IsWritten out work o
+    → Composes s text spares work → WritesFile out work o
     → ComposesInto out s text spares o
 composes_into s text spares out work o n program.written = compose.written n
 composes_into s text spares out work o n (program.unwritten some gives) =
@@ -61,7 +61,7 @@ planned_with_file image id lnum new stop o (unplanned c line is e gives) some = 
 
 -- changing, and then writing the file
 pub changes_into : (image : Image) (id lnum : ℕ) (new : List ℕ) (stop : Option ℕ) (out : List ℕ) (work o : Outcome)
-    → Changes image id lnum new stop work → IsWritten out work o → ChangesInto id lnum new stop out image o
+    → Changes image id lnum new stop work → WritesFile out work o → ChangesInto id lnum new stop out image o
 changes_into image id lnum new stop out work o n program.written = change.written n
 changes_into image id lnum new stop out work o n (program.unwritten some gives) =
     let h = planned_with_file image id lnum new stop work n some in

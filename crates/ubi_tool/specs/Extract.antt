@@ -29,13 +29,13 @@ read_refusal (error.Write _) = Err tool.Write
 read_refusal error.Memory = Err tool.Memory
 
 -- the line of a refusal to read
-abbrev pub IsUnread : ReadError → Outcome → Type 0
-IsUnread e o = (name : List ℕ) × (read_refusal e ≡ Ok name) × Gives o (says (read_line name) 1)
+abbrev pub RefusesToRead : ReadError → Outcome → Type 0
+RefusesToRead e o = (name : List ℕ) × (read_refusal e ≡ Ok name) × Gives o (says (read_line name) 1)
 
 -- what is answered of a volume of a meaning: the line of the refusal to read it, and the writer received nothing; or how
 -- many bytes it reads, and the writer received them
 pub data ReadsVolume (m : Meant) (id : ℕ) (old new : Option (List ℕ)) : Outcome → Type 0 where
-  unread : {o : Outcome} (e : ReadError) → read_volume m id ≡ Err e → IsUnread e o → Keeps old new → ReadsVolume m id old new o
+  unread : {o : Outcome} (e : ReadError) → read_volume m id ≡ Err e → RefusesToRead e o → Keeps old new → ReadsVolume m id old new o
   read : {o : Outcome} (text : List ℕ) → read_volume m id ≡ Ok text → Gives o (says (bytes_line (length text)) 0)
       → Appends old new text → ReadsVolume m id old new o
 
@@ -76,7 +76,7 @@ IsExtractFault s k id old new tool.Write = WhereHeld k (λ bytes. IsExtractError
 pub data ExtractsFrom (s : Sizes) (k : Source) (old new : Option (List ℕ)) : Outcome → Type 0 where
   wrote : {o : Outcome} (n : ℕ) → IsWholeSize s k.size → HasGot old new n → Gives o (says (bytes_line n) 0)
       → ExtractsFrom s k old new o
-  unread_from : {o : Outcome} (e : ReadError) → IsWholeSize s k.size → IsUnread e o → Keeps old new
+  unread_from : {o : Outcome} (e : ReadError) → IsWholeSize s k.size → RefusesToRead e o → Keeps old new
       → ExtractsFrom s k old new o
   refused_from : {o : Outcome} (c : Refusal) → ArePlacesError s k (stream.Refused c) → Gives o (says (refusal_line c) 1) → Keeps old new
       → ExtractsFrom s k old new o

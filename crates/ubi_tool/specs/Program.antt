@@ -66,9 +66,9 @@ pub data OfFile (numbers : Numbers) (path out : List ℕ) (answers : Image → O
       → OfFile numbers path out answers streams o
 
 -- once the file of an outcome is written, if it has one: the outcome, or the line of a file that can't be written
-pub data IsWritten (path : List ℕ) (outcome : Outcome) : Outcome → Type 0 where
-  written : IsWritten path outcome outcome
-  unwritten : {o : Outcome} → IsSome outcome.file → Gives o (says (file_line (codes "cannot write ") path) 1) → IsWritten path outcome o
+pub data WritesFile (path : List ℕ) (outcome : Outcome) : Outcome → Type 0 where
+  written : WritesFile path outcome outcome
+  unwritten : {o : Outcome} → IsSome outcome.file → Gives o (says (file_line (codes "cannot write ") path) 1) → WritesFile path outcome o
 
 -- what the program can answer: nothing for wrong words, or what the command that they name can
 pub data IsAnswer : Outcome → Type 0 where

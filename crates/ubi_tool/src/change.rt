@@ -1,6 +1,6 @@
 //! The command `change`: the plan of an atomic change of an image, and the image after its first steps.
 
-ghost use Rattle.std.specs.Prelude.{◌≡◌, ◌++◌, ◌≤◌, IfErr, IfOk, OnOk, Some, length};
+ghost use Rattle.std.specs.Prelude.{◌≡◌, ◌++◌, ◌≤◌, IfOk, OnOk, Some, length};
 ghost use Rattle.std.specs.List.{flat_map};
 ghost use Rattle.ubi_change.specs.Planned.{AllFitOf};
 ghost use Rattle.ubi_change.specs.Steps.{after};
@@ -8,7 +8,7 @@ ghost use Rattle.ubi_scan.specs.Image.{IsWhole, eraseblocks, image_of};
 ghost use Rattle.ubi_tool.specs.Change.{Changes, cause_line, cut_bytes, plan_lines, step_line, step_words, steps_done};
 
 use crate::lines::{Detail, put_number, put_word, refusal_line, refused};
-use crate::outcome::{DONE, FAILED, Outcome, ToolError};
+use crate::outcome::{DONE, FAILED, Outcome};
 use std::alloc::{AllocError, Global};
 use ubi_change::{ChangeRefusal, Step, apply, plan_change};
 use ubi_media::Geometry;
@@ -124,7 +124,7 @@ fn image_after(
 ///
 /// # Errors
 ///
-/// Memory where memory ran out.
+/// Memory ran out.
 pub fn run_change(
     alloc: Global,
     geometry: &Geometry,
@@ -133,9 +133,8 @@ pub fn run_change(
     lnum: u32,
     new: &[u8],
     stop: Option<u32>,
-) -> Result<Outcome, ToolError>
-    ensures ok { IfOk result (Changes (image_of geometry.now image.now) id lnum new.now stop) }
-    ensures err { IfErr result (λ e. e ≡ ToolError.Memory) }
+) -> Result<Outcome, AllocError>
+    ensures { IfOk result (Changes (image_of geometry.now image.now) id lnum new.now stop) }
 {
     let steps = match plan_change(alloc, geometry, image, id, lnum, new) {
         Ok(steps) => steps,

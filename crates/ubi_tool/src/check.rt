@@ -1,12 +1,12 @@
 //! The command `check`: the states of the eraseblocks of an image.
 
-ghost use Rattle.std.specs.Prelude.{◌≡◌, ◌++◌, IfErr, IfOk, OnOk, codes, count_by};
+ghost use Rattle.std.specs.Prelude.{◌≡◌, ◌++◌, IfOk, OnOk, codes, count_by};
 ghost use Rattle.std.specs.List.{flat_map};
 ghost use Rattle.ubi_scan.specs.Image.{image_of};
 ghost use Rattle.ubi_tool.specs.Check.{Checks, check_lines, number_line, printed_states, same_state, state_line, state_word};
 
 use crate::lines::{put_number, put_word, refusal_line};
-use crate::outcome::{DONE, FAILED, Outcome, ToolError};
+use crate::outcome::{DONE, FAILED, Outcome};
 use std::alloc::{AllocError, Global};
 use ubi_media::{AttachError, Geometry};
 use ubi_volume::{BlockState, Surveyed, survey};
@@ -110,16 +110,15 @@ fn check_lines(alloc: Global, surveyed: &Surveyed) -> Result<Vec<u8>, AllocError
 ///
 /// # Errors
 ///
-/// Memory where memory ran out.
-pub fn run_check(alloc: Global, geometry: &Geometry, image: &[u8]) -> Result<Outcome, ToolError>
-    ensures ok { IfOk result (Checks (image_of geometry.now image.now)) }
-    ensures err { IfErr result (λ e. e ≡ ToolError.Memory) }
+/// Memory ran out.
+pub fn run_check(alloc: Global, geometry: &Geometry, image: &[u8]) -> Result<Outcome, AllocError>
+    ensures { IfOk result (Checks (image_of geometry.now image.now)) }
 {
     match survey(alloc, geometry, image) {
         Ok(surveyed) => Ok(Outcome::saying(check_lines(alloc, &surveyed)?, DONE)),
         Err(AttachError::Refused(cause)) => {
             Ok(Outcome::saying(refusal_line(alloc, cause)?, FAILED))
         }
-        Err(AttachError::Memory) => Err(ToolError::Memory),
+        Err(AttachError::Memory) => Err(AllocError),
     }
 }

@@ -1,10 +1,10 @@
 //! The command `compose`: the image that a text describes.
 
-ghost use Rattle.std.specs.Prelude.{◌≡◌, IfErr, IfOk};
+ghost use Rattle.std.specs.Prelude.{◌≡◌, IfOk};
 ghost use Rattle.ubi_tool.specs.Compose.{Composes, ComposesOf, meaning_line, room_line, spec_line};
 
 use crate::lines::{Detail, blocks_line, refused};
-use crate::outcome::{DONE, FAILED, Outcome, ToolError};
+use crate::outcome::{DONE, FAILED, Outcome};
 use std::alloc::{AllocError, Global};
 use ubi_compose::{ComposeError, SpecCause, SpecError, compose, parse_spec};
 use ubi_media::Geometry;
@@ -57,9 +57,8 @@ fn room_line(alloc: Global) -> Result<Vec<u8>, AllocError>
 
 /// What is answered of a meaning: the number of eraseblocks of its image, and their bytes, or that the device has no room
 /// for them.
-fn compose_meaning(alloc: Global, meaning: &Meaning, spares: u32) -> Result<Outcome, ToolError>
-    ensures ok { IfOk result (ComposesOf meaning.now spares) }
-    ensures err { IfErr result (λ e. e ≡ ToolError.Memory) }
+fn compose_meaning(alloc: Global, meaning: &Meaning, spares: u32) -> Result<Outcome, AllocError>
+    ensures { IfOk result (ComposesOf meaning.now spares) }
 {
     match compose(alloc, meaning, spares) {
         Ok(image) => Ok(Outcome {
@@ -68,7 +67,7 @@ fn compose_meaning(alloc: Global, meaning: &Meaning, spares: u32) -> Result<Outc
             file: Some(image),
         }),
         Err(ComposeError::TooMany) => Ok(Outcome::saying(room_line(alloc)?, FAILED)),
-        Err(ComposeError::Memory) => Err(ToolError::Memory),
+        Err(ComposeError::Memory) => Err(AllocError),
     }
 }
 
@@ -81,22 +80,21 @@ fn compose_meaning(alloc: Global, meaning: &Meaning, spares: u32) -> Result<Outc
 ///
 /// # Errors
 ///
-/// Memory where memory ran out.
+/// Memory ran out.
 pub fn run_compose(
     alloc: Global,
     geometry: &Geometry,
     spec: &[u8],
     spares: u32,
-) -> Result<Outcome, ToolError>
-    ensures ok { IfOk result (Composes geometry.now spec.now spares) }
-    ensures err { IfErr result (λ e. e ≡ ToolError.Memory) }
+) -> Result<Outcome, AllocError>
+    ensures { IfOk result (Composes geometry.now spec.now spares) }
 {
     let volumes = match parse_spec(alloc, geometry, spec) {
         Ok(volumes) => volumes,
         Err(SpecError::Refused { line, cause }) => {
             return Ok(Outcome::saying(spec_line(alloc, line, cause)?, FAILED));
         }
-        Err(SpecError::Memory) => return Err(ToolError::Memory),
+        Err(SpecError::Memory) => return Err(AllocError),
     };
     match Meaning::new(geometry, volumes) {
         Ok(meaning) => compose_meaning(alloc, &meaning, spares),

@@ -5,7 +5,7 @@ ghost use Rattle.std.specs.Result.{result_map_both};
 ghost use Rattle.ubi_scan.specs.Image.{image_of};
 ghost use Rattle.ubi_scan.specs.Source.{WhereHeld};
 ghost use Rattle.ubi_tool.specs.AfterRun.{after_run};
-ghost use Rattle.ubi_tool.specs.Extract.{Extracts, ExtractsFrom, IsExtractError, IsExtractFault, IsUnread, read_refusal};
+ghost use Rattle.ubi_tool.specs.Extract.{Extracts, ExtractsFrom, IsExtractError, IsExtractFault, RefusesToRead, read_refusal};
 ghost use Rattle.ubi_tool.specs.inner.Ended.{IsUntold};
 
 use crate::lines::{LONGEST_COUNT_LINE, put_bytes_line, read_line, refusal_line};
@@ -36,7 +36,7 @@ fn read_refusal(error: ReadError) -> Result<&'static str, ToolError>
 
 /// What is answered of a volume that isn't read.
 fn unread(alloc: Global, error: ReadError) -> Result<Outcome, ToolError>
-    ensures ok { IfOk result (IsUnread error) }
+    ensures ok { IfOk result (RefusesToRead error) }
     ensures err { IfErr result (IsUntold error) }
 {
     let name = read_refusal(error)?;

@@ -1,5 +1,7 @@
 //! Image files that are read at places.
 
+ghost use Rattle.std.specs.Prelude.{◌≢◌, IfSome};
+
 use std::fs;
 use std::fs::{Files, Metadata};
 use std::io::ErrorKind;
@@ -33,6 +35,7 @@ fn stays<R: Files>(rt: &R, image: &Metadata, out: &str) -> bool {
 pub fn source_of<R: Files>(rt: &R, image: &str, out: &str) -> Option<FileSource<R::File>>
 where
     R::File: FileExt,
+    ensures { IfSome result (λ _. image.now ≢ out.now) }
 {
     let Ok(metadata) = fs::metadata(rt, image) else {
         return None;

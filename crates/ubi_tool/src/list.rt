@@ -237,14 +237,13 @@ fn list<S: BlockSource>(
 ///
 /// # Errors
 ///
-/// Memory where memory ran out.
-pub fn run_list(alloc: Global, geometry: &Geometry, image: &[u8]) -> Result<Outcome, ToolError>
-    ensures ok { IfOk result (Lists (image_of geometry.now image.now)) }
-    ensures err { IfErr result (λ e. e ≡ ToolError.Memory) }
+/// Memory ran out.
+pub fn run_list(alloc: Global, geometry: &Geometry, image: &[u8]) -> Result<Outcome, AllocError>
+    ensures { IfOk result (Lists (image_of geometry.now image.now)) }
 {
     match list(alloc, geometry, &mut MemorySource::new(image)) {
         Ok(outcome) => Ok(outcome),
-        Err(ToolError::Memory) => Err(ToolError::Memory),
+        Err(ToolError::Memory) => Err(AllocError),
         // Reading memory doesn't fail.
         Err(ToolError::Read | ToolError::Write) => unreachable!(),
     }

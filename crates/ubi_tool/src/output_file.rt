@@ -3,7 +3,7 @@
 ghost use Rattle.std.specs.Prelude.{IfOk, codes};
 ghost use Rattle.ubi_tool.specs.Answer.{Gives, says};
 ghost use Rattle.ubi_tool.specs.Lines.{file_line};
-ghost use Rattle.ubi_tool.specs.Program.{IsWritten};
+ghost use Rattle.ubi_tool.specs.Program.{WritesFile};
 
 use crate::lines::file_line;
 use crate::outcome::{FAILED, Outcome, ToolError};
@@ -18,7 +18,7 @@ pub fn write_outcome<R: Files>(
     outcome: Outcome,
     path: &str,
 ) -> Result<Outcome, AllocError>
-    ensures { IfOk result (IsWritten path.now outcome) }
+    ensures { IfOk result (WritesFile path.now outcome) }
 {
     let Some(bytes) = &outcome.file else {
         return Ok(outcome);

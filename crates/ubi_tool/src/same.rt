@@ -1,12 +1,12 @@
 //! The command `same`: whether two images mean the same.
 
-ghost use Rattle.std.specs.Prelude.{◌≡◌, IfErr, IfOk};
+ghost use Rattle.std.specs.Prelude.{◌≡◌, IfOk};
 ghost use Rattle.ubi_scan.specs.Image.{image_of};
 ghost use Rattle.ubi_tool.specs.Same.{Compares};
 
 use crate::lines::{comparison_line, side_line};
-use crate::outcome::{DONE, FAILED, Outcome, ToolError};
-use std::alloc::Global;
+use crate::outcome::{DONE, FAILED, Outcome};
+use std::alloc::{AllocError, Global};
 use ubi_compose::{SameError, same};
 use ubi_media::Geometry;
 
@@ -15,15 +15,14 @@ use ubi_media::Geometry;
 ///
 /// # Errors
 ///
-/// Memory where memory ran out.
+/// Memory ran out.
 pub fn run_same(
     alloc: Global,
     geometry: &Geometry,
     left: &[u8],
     right: &[u8],
-) -> Result<Outcome, ToolError>
-    ensures ok { IfOk result (Compares (image_of geometry.now left.now) (image_of geometry.now right.now)) }
-    ensures err { IfErr result (λ e. e ≡ ToolError.Memory) }
+) -> Result<Outcome, AllocError>
+    ensures { IfOk result (Compares (image_of geometry.now left.now) (image_of geometry.now right.now)) }
 {
     match same(alloc, geometry, left, right) {
         Ok(true) => Ok(Outcome::saying(comparison_line(alloc, true)?, DONE)),
@@ -34,6 +33,6 @@ pub fn run_same(
         Err(SameError::Right(cause)) => {
             Ok(Outcome::saying(side_line(alloc, "right ", cause)?, FAILED))
         }
-        Err(SameError::Memory) => Err(ToolError::Memory),
+        Err(SameError::Memory) => Err(AllocError),
     }
 }

@@ -1,12 +1,12 @@
 //! The command `show`: the headers of one eraseblock.
 
-ghost use Rattle.std.specs.Prelude.{◌≡◌, ◌<◌, ◌++◌, length, codes, IfErr, IfOk, OnOk};
+ghost use Rattle.std.specs.Prelude.{◌≡◌, ◌<◌, ◌++◌, length, codes, IfOk, OnOk};
 ghost use Rattle.hex.specs.Hex.{encode_lower};
 ghost use Rattle.ubi_scan.specs.Image.{block, eraseblocks, image_of};
 ghost use Rattle.ubi_tool.specs.Show.{Shows, block_lines, ec_state, vid_state};
 
 use crate::lines::{ec_fault_name, no_block_line, put_word, refusal_line, vid_fault_name};
-use crate::outcome::{DONE, FAILED, Outcome, ToolError};
+use crate::outcome::{DONE, FAILED, Outcome};
 use std::alloc::{AllocError, Global};
 use ubi_media::{EcRead, Geometry, VidRead};
 use ubi_scan::Blocks;
@@ -83,15 +83,14 @@ fn block_lines(alloc: Global, blocks: &Blocks<'_>, p: u32) -> Result<Vec<u8>, Al
 ///
 /// # Errors
 ///
-/// Memory where memory ran out.
+/// Memory ran out.
 pub fn run_show(
     alloc: Global,
     geometry: &Geometry,
     image: &[u8],
     p: u32,
-) -> Result<Outcome, ToolError>
-    ensures ok { IfOk result (Shows (image_of geometry.now image.now) p) }
-    ensures err { IfErr result (λ e. e ≡ ToolError.Memory) }
+) -> Result<Outcome, AllocError>
+    ensures { IfOk result (Shows (image_of geometry.now image.now) p) }
 {
     let blocks = match Blocks::new(geometry, image) {
         Ok(blocks) => blocks,

@@ -120,10 +120,7 @@ fn list_file<R: Files>(
         Ok(file) => file,
         Err(unread) => return unread.answer(),
     };
-    match run_list(alloc, &file.geometry, file.bytes.as_slice()) {
-        Ok(outcome) => Ok(outcome),
-        Err(_) => Err(AllocError),
-    }
+    run_list(alloc, &file.geometry, file.bytes.as_slice())
 }
 
 /// Counts the states of the eraseblocks of a file.
@@ -139,10 +136,7 @@ fn check_file<R: Files>(
         Ok(file) => file,
         Err(unread) => return unread.answer(),
     };
-    match run_check(alloc, &file.geometry, file.bytes.as_slice()) {
-        Ok(outcome) => Ok(outcome),
-        Err(_) => Err(AllocError),
-    }
+    run_check(alloc, &file.geometry, file.bytes.as_slice())
 }
 
 /// Shows one eraseblock of a file.
@@ -159,10 +153,7 @@ fn show_file<R: Files>(
         Ok(file) => file,
         Err(unread) => return unread.answer(),
     };
-    match run_show(alloc, &file.geometry, file.bytes.as_slice(), p) {
-        Ok(outcome) => Ok(outcome),
-        Err(_) => Err(AllocError),
-    }
+    run_show(alloc, &file.geometry, file.bytes.as_slice(), p)
 }
 
 /// Composes the image that a text file describes, into another file.
@@ -180,10 +171,8 @@ fn compose_file<R: Files>(
         Ok(file) => file,
         Err(unread) => return unread.answer(),
     };
-    match run_compose(alloc, &file.geometry, file.text.as_slice(), spares) {
-        Ok(outcome) => write_outcome(rt, alloc, outcome, out),
-        Err(_) => Err(AllocError),
-    }
+    let outcome = run_compose(alloc, &file.geometry, file.text.as_slice(), spares)?;
+    write_outcome(rt, alloc, outcome, out)
 }
 
 /// Compares what two files mean.
@@ -204,15 +193,12 @@ fn same_files<R: Files>(
         Ok(file) => file,
         Err(unread) => return unread.answer(),
     };
-    match run_same(
+    run_same(
         alloc,
         &first.geometry,
         first.bytes.as_slice(),
         second.bytes.as_slice(),
-    ) {
-        Ok(outcome) => Ok(outcome),
-        Err(_) => Err(AllocError),
-    }
+    )
 }
 
 /// Changes one file into another, by the bytes of a third.
@@ -233,7 +219,7 @@ fn change_file<R: Files>(
         Ok(file) => file,
         Err(unread) => return unread.answer(),
     };
-    match run_change(
+    let outcome = run_change(
         alloc,
         &old.geometry,
         old.bytes.as_slice(),
@@ -241,10 +227,8 @@ fn change_file<R: Files>(
         change.lnum,
         new.bytes.as_slice(),
         change.stop,
-    ) {
-        Ok(outcome) => write_outcome(rt, alloc, outcome, change.out),
-        Err(_) => Err(AllocError),
-    }
+    )?;
+    write_outcome(rt, alloc, outcome, change.out)
 }
 
 /// Prints to standard error what is wrong with the words.

@@ -2,7 +2,7 @@
 
 use super::fake::{Broken, FakeFiles};
 use crate::normalise::run_normalise;
-use crate::outcome::{Outcome, ToolError};
+use crate::outcome::Outcome;
 use crate::words::run_words;
 use std::alloc::{AllocError, Global};
 use std::cell::RefCell;
@@ -20,13 +20,7 @@ pub fn small() -> Result<Geometry, GeometryError> {
 }
 
 /// Asserts what a command answers that writes no file.
-pub fn assert_says(
-    rt: &impl Abort,
-    answer: Result<Outcome, ToolError>,
-    text: &str,
-    status: u8,
-) -> Result<(), Fail> {
-    let outcome = answer?;
+pub fn assert_says(rt: &impl Abort, outcome: Outcome, text: &str, status: u8) -> Result<(), Fail> {
     assert_eq!(rt; outcome.text.as_slice(), text.as_bytes());
     assert_eq!(rt; outcome.status, status);
     assert!(rt; outcome.file.is_none());
@@ -43,7 +37,7 @@ pub fn assert_normal(
 ) -> Result<(), Fail> {
     let mut source = MemorySource::new(image);
     let mut writer = ProbeWriter::new(alloc, 4096, 100, Failure::Nothing)?;
-    let answer = run_normalise(alloc, &small()?, &mut source, &mut writer);
+    let answer = run_normalise(alloc, &small()?, &mut source, &mut writer)?;
     assert_says(rt, answer, line, status)?;
     assert_eq!(rt; writer.taken(), want);
     Ok(())

@@ -211,7 +211,7 @@ fn turns_at_the_header_of_blank_bytes(rt: HostRuntime) -> Result<(), Fail> {
     let listed = "geometry peb=512 page=64 vid=64 data=128 leb=384 slots=2 pebs=32\n\
         volume 0 dynamic reserved=20 alignment=1 usable=384 flags=00 lebs=2 name=root\n\
         volumes 1\n";
-    assert_says(&rt, run_list(alloc, &geometry, cut.as_slice()), listed, 0)
+    assert_says(&rt, run_list(alloc, &geometry, cut.as_slice())?, listed, 0)
 }
 
 #[test]
@@ -242,7 +242,12 @@ fn leaves_a_worn_eraseblock(rt: HostRuntime) -> Result<(), Fail> {
     let checked = "blocks 6\nblank 0\nfree 0\ntable 2\nused 3\nstale 1\norphan 0\n\
         dropped 0\ncorrupt 0\ngarbage 0\ntop sqnum 1\nimage seq 305419896\n\
         mean counter 357913941\naccepted\n";
-    assert_says(&rt, run_check(alloc, &geometry, cut.as_slice()), checked, 0)
+    assert_says(
+        &rt,
+        run_check(alloc, &geometry, cut.as_slice())?,
+        checked,
+        0,
+    )
 }
 
 #[test]
@@ -409,9 +414,9 @@ fn assert_refuses(
     new: &[u8],
     line: &str,
 ) -> Result<(), Fail> {
-    let answer = run_change(alloc, &small()?, image, id, lnum, new, None);
+    let answer = run_change(alloc, &small()?, image, id, lnum, new, None)?;
     assert_says(rt, answer, line, 1)?;
-    let answer = run_change(alloc, &small()?, image, id, lnum, new, Some(0));
+    let answer = run_change(alloc, &small()?, image, id, lnum, new, Some(0))?;
     assert_says(rt, answer, line, 1)
 }
 

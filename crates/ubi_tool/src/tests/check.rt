@@ -12,7 +12,7 @@ fn counts_blank_eraseblocks(rt: HostRuntime) -> Result<(), Fail> {
         mean counter 0\naccepted\n";
     assert_says(
         &rt,
-        run_check(rt.alloc(), &small()?, &[0xFF; 1536]),
+        run_check(rt.alloc(), &small()?, &[0xFF; 1536])?,
         text,
         0,
     )
@@ -26,7 +26,7 @@ fn counts_what_is_used(rt: HostRuntime) -> Result<(), Fail> {
     let text = "blocks 5\nblank 0\nfree 0\ntable 2\nused 3\nstale 0\norphan 0\n\
         dropped 0\ncorrupt 0\ngarbage 0\ntop sqnum 0\nimage seq 305419896\n\
         mean counter 0\naccepted\n";
-    assert_says(&rt, run_check(alloc, &geometry, image.as_slice()), text, 0)
+    assert_says(&rt, run_check(alloc, &geometry, image.as_slice())?, text, 0)
 }
 
 #[test]
@@ -37,7 +37,7 @@ fn counts_each_state(rt: HostRuntime) -> Result<(), Fail> {
     let text = "blocks 11\nblank 1\nfree 1\ntable 2\nused 1\nstale 1\norphan 2\n\
         dropped 1\ncorrupt 1\ngarbage 1\ntop sqnum 12\nimage seq 0\n\
         mean counter 0\naccepted\n";
-    assert_says(&rt, run_check(alloc, &geometry, image.as_slice()), text, 0)
+    assert_says(&rt, run_check(alloc, &geometry, image.as_slice())?, text, 0)
 }
 
 #[test]
@@ -46,6 +46,6 @@ fn counts_nothing_of_a_refused_image(rt: HostRuntime) -> Result<(), Fail> {
     let geometry = small()?;
     let mut image = root_image(alloc, &geometry)?;
     overwrite(image.as_mut_slice(), 3 * 512, &ec_of(&geometry, 8));
-    let answer = run_check(alloc, &geometry, image.as_slice());
+    let answer = run_check(alloc, &geometry, image.as_slice())?;
     assert_says(&rt, answer, "refused S4 ImageSeq block=3\n", 1)
 }

@@ -44,7 +44,7 @@ fn composed(alloc: Global, text: &[u8]) -> Result<Outcome, Fail> {
 
 /// Asserts why a text isn't composed.
 fn assert_refused(rt: &impl Abort, alloc: Global, text: &str, line: &str) -> Result<(), Fail> {
-    let answer = run_compose(alloc, &small()?, text.as_bytes(), 0);
+    let answer = run_compose(alloc, &small()?, text.as_bytes(), 0)?;
     assert_says(rt, answer, line, 1)
 }
 
@@ -70,14 +70,14 @@ fn assert_lists(rt: &impl Abort, alloc: Global, text: &[u8], lines: &str) -> Res
     let want = format!(in alloc;
         "geometry peb=512 page=64 vid=64 data=128 leb=384 slots=2 pebs=32\n{lines}"
     )?;
-    let listed = run_list(alloc, &small()?, image.as_slice());
+    let listed = run_list(alloc, &small()?, image.as_slice())?;
     assert_says(rt, listed, want.as_str(), 0)
 }
 
 /// Asserts that the image of a text means the same as another.
 fn assert_same(rt: &impl Abort, alloc: Global, text: &[u8], other: &[u8]) -> Result<(), Fail> {
     let image = composed(alloc, text)?.file.ok_or("no file")?;
-    let compared = run_same(alloc, &small()?, image.as_slice(), other);
+    let compared = run_same(alloc, &small()?, image.as_slice(), other)?;
     assert_says(rt, compared, "same\n", 0)
 }
 
@@ -206,9 +206,9 @@ fn refuses_what_has_no_room(rt: HostRuntime) -> Result<(), Fail> {
     let text = b"volume 0 dynamic 20 1 00 root";
     let outcome = run_compose(alloc, &geometry, text, 30)?;
     assert_eq!(rt; outcome.text.as_slice(), b"blocks 32\n".as_slice());
-    let answer = run_compose(alloc, &geometry, text, 31);
+    let answer = run_compose(alloc, &geometry, text, 31)?;
     assert_says(&rt, answer, "refused C1 TooMany\n", 1)?;
-    let answer = run_compose(alloc, &geometry, text, u32::MAX);
+    let answer = run_compose(alloc, &geometry, text, u32::MAX)?;
     assert_says(&rt, answer, "refused C1 TooMany\n", 1)
 }
 
@@ -267,7 +267,7 @@ fn names_the_line_that_does_not_fit(rt: HostRuntime) -> Result<(), Fail> {
         count: 385,
     }
     .put(&mut text)?;
-    let answer = run_compose(alloc, &small()?, text.as_slice(), 0);
+    let answer = run_compose(alloc, &small()?, text.as_slice(), 0)?;
     assert_says(&rt, answer, "refused P8 Long line=2\n", 1)
 }
 
@@ -287,7 +287,7 @@ fn reads_lines_of_a_mebibyte(rt: HostRuntime) -> Result<(), Fail> {
         count: 524_288,
     }
     .put(&mut text)?;
-    let answer = run_compose(alloc, &small()?, text.as_slice(), 0);
+    let answer = run_compose(alloc, &small()?, text.as_slice(), 0)?;
     assert_says(&rt, answer, "refused P8 Long line=3\n", 1)?;
     let mut text = Vec::new(alloc);
     Line {
@@ -296,7 +296,7 @@ fn reads_lines_of_a_mebibyte(rt: HostRuntime) -> Result<(), Fail> {
         count: 524_288,
     }
     .put(&mut text)?;
-    let answer = run_compose(alloc, &small()?, text.as_slice(), 0);
+    let answer = run_compose(alloc, &small()?, text.as_slice(), 0)?;
     assert_says(&rt, answer, "refused P1 Word line=1\n", 1)
 }
 

@@ -32,7 +32,7 @@ fn assert_extracts(
     text: &[u8],
 ) -> Result<(), Fail> {
     let mut writer = ProbeWriter::new(alloc, 8000, 100, Failure::Nothing)?;
-    let answer = run_extract(alloc, &small()?, image, id, &mut writer);
+    let answer = run_extract(alloc, &small()?, image, id, &mut writer)?;
     assert_says(rt, answer, line, status)?;
     assert_eq!(rt; writer.taken(), text);
     Ok(())

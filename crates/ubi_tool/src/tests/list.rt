@@ -16,17 +16,17 @@ use ubi_media::Geometry;
 fn assert_lists(rt: &impl Abort, alloc: Global, image: &[u8], volume: &str) -> Result<(), Fail> {
     let sizes = "geometry peb=512 page=64 vid=64 data=128 leb=384 slots=2 pebs=32";
     let text = format!(in alloc; "{sizes}\nvolume 0 {volume}\nvolumes 1\n")?;
-    assert_says(rt, run_list(alloc, &small()?, image), text.as_str(), 0)
+    assert_says(rt, run_list(alloc, &small()?, image)?, text.as_str(), 0)
 }
 
 #[test]
 fn lists_no_volume(rt: HostRuntime) -> Result<(), Fail> {
     let alloc = rt.alloc();
     let text = "geometry peb=512 page=64 vid=64 data=128 leb=384 slots=2 pebs=32\nvolumes 0\n";
-    assert_says(&rt, run_list(alloc, &small()?, &[0xFF; 1536]), text, 0)?;
+    assert_says(&rt, run_list(alloc, &small()?, &[0xFF; 1536])?, text, 0)?;
     let other = Geometry::new(1024, 256, 64, 256, 32)?;
     let text = "geometry peb=1024 page=256 vid=64 data=256 leb=768 slots=4 pebs=32\nvolumes 0\n";
-    assert_says(&rt, run_list(alloc, &other, &[0xFF; 1024]), text, 0)
+    assert_says(&rt, run_list(alloc, &other, &[0xFF; 1024])?, text, 0)
 }
 
 #[test]
@@ -118,6 +118,6 @@ fn lists_no_volume_of_a_refused_image(rt: HostRuntime) -> Result<(), Fail> {
         &fixed(0, 1, 384, CHECK_OF_41),
         &[0x41; 384],
     )?;
-    let answer = run_list(alloc, &geometry, image.as_slice());
+    let answer = run_list(alloc, &geometry, image.as_slice())?;
     assert_says(&rt, answer, "refused V1 Mismatch block=2\n", 1)
 }

@@ -29,15 +29,26 @@ const SPEC: &[u8] = b"volume 0 dynamic 20 1 00 root\nleb 0 1 6162\n\
     volume 1 static 2 1 00 boot\nbytes 1 61\nbytes 1 62\n";
 
 /// Whether a command answered a text that begins so. Else memory ran out.
-fn is_told(rt: &impl Abort, answer: Result<Outcome, ToolError>, start: &str) -> bool {
+fn is_told(rt: &impl Abort, answer: Result<Outcome, AllocError>, start: &str) -> bool {
     match answer {
         Ok(outcome) => {
             assert!(rt; outcome.text.as_slice().starts_with(start.as_bytes()));
             true
         }
+        Err(AllocError) => false,
+    }
+}
+
+/// The answer of a command that writes, which no read and no write has kept from answering.
+fn unless_memory(
+    rt: &impl Abort,
+    answer: Result<Outcome, ToolError>,
+) -> Result<Outcome, AllocError> {
+    match answer {
+        Ok(outcome) => Ok(outcome),
         Err(error) => {
             assert_eq!(rt; error, ToolError::Memory);
-            false
+            Err(AllocError)
         }
     }
 }
@@ -47,7 +58,7 @@ fn is_extracted(rt: &impl Abort, alloc: Global, geometry: &Geometry, image: &[u8
     let mut written = [0; 7680];
     let mut writer = written.as_mut_slice();
     let answer = run_extract(alloc, geometry, image, 0, &mut writer);
-    let is_told = is_told(rt, answer, "bytes 7680\n");
+    let is_told = is_told(rt, unless_memory(rt, answer), "bytes 7680\n");
     let wanted = if is_told { root_text() } else { [0; 7680] };
     assert!(rt; written == wanted);
     is_told
@@ -59,7 +70,7 @@ fn is_normalised(rt: &impl Abort, alloc: Global, geometry: &Geometry, image: &[u
     let mut writer = written.as_mut_slice();
     let mut source = MemorySource::new(image);
     let answer = run_normalise(alloc, geometry, &mut source, &mut writer);
-    let is_told = is_told(rt, answer, "blocks 5\n");
+    let is_told = is_told(rt, unless_memory(rt, answer), "blocks 5\n");
     let wanted = if is_told { root_bytes() } else { [0; 2560] };
     assert!(rt; written == wanted);
     is_told

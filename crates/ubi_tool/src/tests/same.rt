@@ -20,7 +20,7 @@ fn assert_compares(
     right: &[u8],
     (line, status): (&str, u8),
 ) -> Result<(), Fail> {
-    assert_says(rt, run_same(alloc, &small()?, left, right), line, status)
+    assert_says(rt, run_same(alloc, &small()?, left, right)?, line, status)
 }
 
 #[test]

@@ -13,7 +13,7 @@ fn shows_blank_headers(rt: HostRuntime) -> Result<(), Fail> {
         ffffffffffffffffffffffffffffffffffffffffffffffffffffffffffffffff\n";
     assert_says(
         &rt,
-        run_show(rt.alloc(), &small()?, &[0xFF; 1536], 0),
+        run_show(rt.alloc(), &small()?, &[0xFF; 1536], 0)?,
         text,
         0,
     )
@@ -32,7 +32,7 @@ fn shows_what_a_header_is(rt: HostRuntime) -> Result<(), Fail> {
         00000000000000000000000000000000000000000000000000000000d36cd077\n";
     assert_says(
         &rt,
-        run_show(alloc, &geometry, image.as_slice(), 3),
+        run_show(alloc, &geometry, image.as_slice(), 3)?,
         text,
         0,
     )
@@ -61,11 +61,16 @@ fn refuses_a_block_that_is_not_there(rt: HostRuntime) -> Result<(), Fail> {
     let geometry = small()?;
     let bytes: &[u8] = &[0xFF; 16_896];
     let (image, beyond) = (&bytes[..1536], "refused B1 Block\n");
-    assert_says(&rt, run_show(alloc, &geometry, image, 3), beyond, 1)?;
-    assert_says(&rt, run_show(alloc, &geometry, image, u32::MAX), beyond, 1)?;
+    assert_says(&rt, run_show(alloc, &geometry, image, 3)?, beyond, 1)?;
+    assert_says(&rt, run_show(alloc, &geometry, image, u32::MAX)?, beyond, 1)?;
     // The sizes of the image come first.
     let (length, many) = ("refused S1 Length\n", "refused S2 TooMany\n");
-    assert_says(&rt, run_show(alloc, &geometry, &bytes[..511], 3), length, 1)?;
-    assert_says(&rt, run_show(alloc, &geometry, &[], 0), length, 1)?;
-    assert_says(&rt, run_show(alloc, &geometry, bytes, 40), many, 1)
+    assert_says(
+        &rt,
+        run_show(alloc, &geometry, &bytes[..511], 3)?,
+        length,
+        1,
+    )?;
+    assert_says(&rt, run_show(alloc, &geometry, &[], 0)?, length, 1)?;
+    assert_says(&rt, run_show(alloc, &geometry, bytes, 40)?, many, 1)
 }

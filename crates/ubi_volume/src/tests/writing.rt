@@ -130,6 +130,7 @@ fn writes_20_logical_eraseblocks(rt: HostRuntime) -> Result<(), Fail> {
     let attached = attached(alloc, &BASE)?;
     let meaning = attached.meaning();
     let (text, all) = (base_text(), (Failure::Nothing, usize::MAX));
+    assert_taken(&rt, alloc, meaning, &text, 500, all)?;
     assert_taken(&rt, alloc, meaning, &text, 7680, (Failure::Nothing, 1))?;
     assert_taken(&rt, alloc, meaning, &text, 7679, (Failure::Nothing, 1))?;
     assert_taken(&rt, alloc, meaning, &text, 7680, all)?;

@@ -4,13 +4,13 @@ use Rattle.ubi_tool.specs.Change.{planned, steps_done, unplanned}
 use Rattle.ubi_tool.proofs.Cut.{cut_means, few_done}
 use Rattle.ubi_tool.proofs.change.run_change.Goals as goal
 
-pub returns-in-Err-clause-ok : goal.returns-in-Err-clause-ok
-returns-in-Err-clause-ok c =
+pub returns-in-Err : goal.returns-in-Err
+returns-in-Err c =
     unplanned c.in-Err.cause c.in_ok-cause_line-in-Err.field-0.items c.in-Err.ensures.refused
     c.in_ok-cause_line-in-Err.ensures c.saying.ensures
 
-pub returns-clause-ok : goal.returns-clause-ok
-returns-clause-ok c =
+pub returns : goal.returns
+returns c =
     let steps = c.in-Ok.steps.items in
     let stop = c.args.stop in
     let survives = c.in-Ok.ensures.survives in

@@ -11,8 +11,8 @@ count : {len size peb_size : ℕ} {xs ys : List ℕ} → len ≡ length xs → s
     → len / size ≡ length ys / peb_size
 count e f same = rw (e, f, same) refl
 
-pub returns-in_ok-blocks_line-in-Ok-clause-ok : goal.returns-in_ok-blocks_line-in-Ok-clause-ok
-returns-in_ok-blocks_line-in-Ok-clause-ok c =
+pub returns-in_ok-blocks_line-in-Ok : goal.returns-in_ok-blocks_line-in-Ok
+returns-in_ok-blocks_line-in-Ok c =
     let m = c.args.meaning.now in
     let bytes = c.in-Ok.ensures.bytes in
     let blocks = count-composed m c.geometry.ensures.limits c.geometry.ensures.meaning c.args.spares in
@@ -24,7 +24,7 @@ returns-in_ok-blocks_line-in-Ok-clause-ok c =
       file = ap Some bytes;
     })
 
-pub returns-in_ok-room_line-in-Err-TooMany-clause-ok : goal.returns-in_ok-room_line-in-Err-TooMany-clause-ok
-returns-in_ok-room_line-in-Err-TooMany-clause-ok c =
+pub returns-in_ok-room_line-in-Err-TooMany : goal.returns-in_ok-room_line-in-Err-TooMany
+returns-in_ok-room_line-in-Err-TooMany c =
     crowded (rw c.in-Err-TooMany.field-0-is at c.in-Err-TooMany.ensures.refused)
     (rw c.in_ok-room_line-in-Err-TooMany.ensures at c.saying.ensures)

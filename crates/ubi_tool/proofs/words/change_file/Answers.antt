@@ -21,14 +21,14 @@ returns-in-Err-load g c =
     c.in-Ok.ensures.geometry c.in-Ok.ensures.read (no_image h))
     (told _ c.in-Err-load.unread c.answer-in-Err-load.result c.in-Err-load.ensures.unread c.answer-in-Err-load.ensures)
 
-pub returns-in-Ok-run_change : goal.returns-in-Ok-run_change
-returns-in-Ok-run_change g c =
+pub returns : goal.returns
+returns g c =
     let old = c.in-Ok.file in
     let new = c.in-Ok-load.file in
     let change = c.args.change.now in
     let image : Image = record { sizes = old.geometry; bytes = old.bytes.items } in
-    let work : Changes image change.id change.lnum new.bytes.items change.stop c.in-Ok-run_change.outcome =
-    rw (c.as_slice.ensures.value, c.as_slice-2.ensures.value) at c.in-Ok-run_change.ensures.ok in
+    let work : Changes image change.id change.lnum new.bytes.items change.stop c.in_ok-outcome.outcome =
+    rw (c.as_slice.ensures.value, c.as_slice-2.ensures.value) at c.in_ok-outcome.ensures in
     IfOk-weaker c.write_outcome.result _ _
     (λ o h. of_image c.args.numbers _
     (λ i. OfImage c.args.numbers change.from.now
@@ -36,6 +36,6 @@ returns-in-Ok-run_change g c =
     c.in-Ok.ensures.geometry c.in-Ok.ensures.read
     (of_image c.args.numbers _ (λ f. ChangesInto change.id change.lnum f.bytes change.stop change.out.now image)
     old.geometry new.bytes.items o c.in-Ok.ensures.geometry c.in-Ok-load.ensures.read
-    (changes_into image change.id change.lnum new.bytes.items change.stop change.out.now c.in-Ok-run_change.outcome o
+    (changes_into image change.id change.lnum new.bytes.items change.stop change.out.now c.in_ok-outcome.outcome o
     work h)))
     c.write_outcome.ensures

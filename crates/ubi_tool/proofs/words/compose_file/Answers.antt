@@ -9,14 +9,14 @@ returns-in-Err g c =
     IfOk-weaker c.answer.result _ _ (λ o h. no_text h)
     (told _ c.in-Err.unread c.answer.result c.in-Err.ensures.unread c.answer.ensures)
 
-pub returns-in-Ok-run_compose : goal.returns-in-Ok-run_compose
-returns-in-Ok-run_compose g c =
+pub returns : goal.returns
+returns g c =
     let file = c.in-Ok.file in
     let spares = c.args.spares in
-    let work : Composes file.geometry file.text.items spares c.in-Ok-run_compose.outcome =
-    rw c.as_slice.ensures.value at c.in-Ok-run_compose.ensures.ok in
+    let work : Composes file.geometry file.text.items spares c.in_ok-outcome.outcome =
+    rw c.as_slice.ensures.value at c.in_ok-outcome.ensures in
     IfOk-weaker c.write_outcome.result _ _
     (λ o h. of_text c.args.numbers _ (λ s t. ComposesInto c.args.out.now s t spares) file.geometry file.text.items o
     c.in-Ok.ensures.geometry c.in-Ok.ensures.limits c.in-Ok.ensures.few
-    (composes_into file.geometry file.text.items spares c.args.out.now c.in-Ok-run_compose.outcome o work h))
+    (composes_into file.geometry file.text.items spares c.args.out.now c.in_ok-outcome.outcome o work h))
     c.write_outcome.ensures

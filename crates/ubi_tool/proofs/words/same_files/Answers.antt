@@ -18,14 +18,14 @@ returns-in-Err-load g c =
     file.bytes.items o c.in-Ok.ensures.geometry c.in-Ok.ensures.read (no_image h))
     (told _ c.in-Err-load.unread c.answer-in-Err-load.result c.in-Err-load.ensures.unread c.answer-in-Err-load.ensures)
 
-pub returns-in-Ok-run_same : goal.returns-in-Ok-run_same
-returns-in-Ok-run_same g c =
+pub returns : goal.returns
+returns g c =
     let first = c.in-Ok.file in
     let second = c.in-Ok-load.file in
-    let work : Compares (image_of first.geometry first.bytes.items)
-    (image_of first.geometry second.bytes.items) c.in-Ok-run_same.outcome =
-    rw (c.as_slice.ensures.value, c.as_slice-2.ensures.value) at c.in-Ok-run_same.ensures.ok in
-    of_image c.args.numbers _ (λ i. OfImage c.args.numbers c.args.right.now (Compares i)) first.geometry
-    first.bytes.items _ c.in-Ok.ensures.geometry c.in-Ok.ensures.read
+    IfOk-weaker c.run_same.result _ _
+    (λ o work. of_image c.args.numbers _ (λ i. OfImage c.args.numbers c.args.right.now (Compares i)) first.geometry
+    first.bytes.items o c.in-Ok.ensures.geometry c.in-Ok.ensures.read
     (of_image c.args.numbers _ (Compares (image_of first.geometry first.bytes.items)) first.geometry second.bytes.items
-    _ c.in-Ok.ensures.geometry c.in-Ok-load.ensures.read work)
+    o c.in-Ok.ensures.geometry c.in-Ok-load.ensures.read
+    (rw (c.as_slice.ensures.value, c.as_slice-2.ensures.value) at work)))
+    c.run_same.ensures

@@ -1,5 +1,4 @@
 use Rattle.std.proofs.lemmas.Result.{IfOk-weaker}
-use Rattle.ubi_scan.specs.Image.{image_of}
 use Rattle.ubi_tool.specs.Program.{no_image}
 use Rattle.ubi_tool.specs.Show.{Shows}
 use Rattle.ubi_tool.proofs.Outcomes.{of_image, told}
@@ -10,10 +9,10 @@ returns-in-Err g c =
     IfOk-weaker c.answer.result _ _ (λ o h. no_image h)
     (told _ c.in-Err.unread c.answer.result c.in-Err.ensures.unread c.answer.ensures)
 
-pub returns-in-Ok-run_show : goal.returns-in-Ok-run_show
-returns-in-Ok-run_show g c =
+pub returns : goal.returns
+returns g c =
     let file = c.in-Ok.file in
-    let work : Shows (image_of file.geometry file.bytes.items) c.args.p c.in-Ok-run_show.outcome =
-    rw c.as_slice.ensures.value at c.in-Ok-run_show.ensures.ok in
-    of_image c.args.numbers _ (λ i. Shows i c.args.p) file.geometry file.bytes.items _ c.in-Ok.ensures.geometry
-    c.in-Ok.ensures.read work
+    IfOk-weaker c.run_show.result _ _
+    (λ o work. of_image c.args.numbers _ (λ i. Shows i c.args.p) file.geometry file.bytes.items o
+    c.in-Ok.ensures.geometry c.in-Ok.ensures.read (rw c.as_slice.ensures.value at work))
+    c.run_show.ensures
