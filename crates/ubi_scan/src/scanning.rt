@@ -90,16 +90,16 @@ fn is_held_good<S: BlockSource>(
     held: &Candidate,
     buffer: &mut [u8],
 ) -> Result<bool, StreamError>
-    requires block { held.now.place < blocks_in geometry.now (S.known source.old) }
+    requires block { held.now.peb < blocks_in geometry.now (S.known source.old) }
     requires room { length buffer.old ≡ geometry.now.peb_size }
     ensures known { S.known source.new ≡ after (S.known source.old) result }
-    ensures good { IfOk result (λ good. WhereHeld (S.known source.old) (λ bytes. good ≡ unwrap_or held.now.good (good_at geometry.now (blocks_of geometry.now bytes) held.now.place))) }
+    ensures good { IfOk result (λ good. WhereHeld (S.known source.old) (λ bytes. good ≡ unwrap_or held.now.good (good_at geometry.now (blocks_of geometry.now bytes) held.now.peb))) }
     ensures failed { IfErr result (IsReadFault (blocks_in geometry.now (S.known source.old))) }
 {
     match held.good {
         Some(good) => Ok(good),
         None => {
-            let q = held.place;
+            let q = held.peb;
             let (ec, vid) = read_headers(source, geometry, q, buffer)?;
             is_good(source, geometry, q, &ec, &vid, buffer)
         }
@@ -118,7 +118,7 @@ fn meeting<S: BlockSource>(
     buffer: &mut [u8],
 ) -> Result<Option<Meeting>, StreamError>
     requires new { p < blocks_in geometry.now (S.known source.old) }
-    requires held { IfSome held (λ c. c.place < blocks_in geometry.now (S.known source.old)) }
+    requires held { IfSome held (λ c. c.peb < blocks_in geometry.now (S.known source.old)) }
     requires room { length buffer.old ≡ geometry.now.peb_size }
     ensures known { S.known source.new ≡ after (S.known source.old) result }
     ensures held { IfOk result (λ met. held_of met ≡ held) }
