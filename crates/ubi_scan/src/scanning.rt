@@ -2,7 +2,7 @@
 
 ghost use Rattle.std.specs.Prelude.{◌≡◌, ◌<◌, ◌/◌, length, IfErr, IfOk, IfSome, MatchResult, false, unwrap_or};
 ghost use Rattle.std.specs.Option.{option_map_or};
-ghost use Rattle.ubi_scan.specs.Image.{IsLengthFault, IsWholeSize, block, eraseblocks};
+ghost use Rattle.ubi_scan.specs.Image.{IsLengthFault, IsWholeSize, block, in_image};
 ghost use Rattle.ubi_scan.specs.inner.Choice.{held_of};
 ghost use Rattle.ubi_scan.specs.inner.Pass.{IsMeeting};
 ghost use Rattle.ubi_scan.specs.Members.{good_at, is_good, is_right, member_if};
@@ -195,8 +195,8 @@ pub fn scan_from<S: BlockSource>(
 /// Refused with the first fault of the lowest eraseblock that has one: `Ec`, `ImageSeq`, `Vid`, `Incompatible`,
 /// `Layout` or `SameSqnum`, tried in this order. Memory where it ran out.
 pub fn scan(alloc: Global, blocks: &Blocks<'_>) -> Result<Scan, AttachError>
-    ensures found { IfOk result (IsScan blocks.now.sizes (eraseblocks blocks.now)) }
-    ensures refused { IfErr result (IsScanError blocks.now.sizes (eraseblocks blocks.now)) }
+    ensures found { IfOk result (in_image IsScan blocks.now) }
+    ensures refused { IfErr result (in_image IsScanError blocks.now) }
 {
     let mut source = MemorySource::new(blocks.bytes());
     match scan_from(alloc, &blocks.geometry(), &mut source) {
