@@ -24,8 +24,10 @@ ROOT = os.path.dirname(os.path.dirname(os.path.abspath(__file__)))
 CRATES = ("ubi_media", "ubi_scan", "ubi_table", "ubi_volume", "ubi_compose", "ubi_change", "ubi_tool")
 HEADLINE = ("ubi_tool", "Headline", "Headline")
 NAME = r"[^\s(){}.,;:λ→←∷≡×⊎]+"
-# The first line of a definition: its modifiers, and then its name with a colon, or a record or a family with its own.
-START = re.compile(rf"^\s*(?:abbrev |unfoldable )?(?:pub )?(?:(?:record|data) (?P<kind>{NAME})|(?P<name>{NAME})(?: {NAME})* :(?!:))")
+# The first line of a definition: its modifiers, and then its name with a colon, or a record or a family with its own. A
+# level may stand before the colon.
+START = re.compile(
+    rf"^\s*(?:abbrev |unfoldable )?(?:pub )?(?:(?:record|data) (?P<kind>{NAME})|(?P<name>{NAME})(?: {NAME})*(?: \{{ℓ\}})? :(?!:))")
 USE = re.compile(r"^(?:ghost )?use Rattle\.(ubi_\w+)\.specs\.([\w.]+?)(?:\.\{(.*)\}| as ([^\s;]+))?;?$")
 
 

@@ -16,7 +16,7 @@ use Rattle.ubi_media.specs.declared.vid.VidHeader.{VidHeader}
 use Rattle.ubi_media.specs.declared.vid.VolKind.{VolKind}
 use Rattle.ubi_media.specs.declared.vid.VolKind.TheVariants as kind
 use Rattle.ubi_media.specs.declared.record.VolumeRecord.{VolumeRecord}
-use Rattle.ubi_scan.specs.Image.{Image, block, eraseblocks}
+use Rattle.ubi_scan.specs.Image.{Image, block, eraseblocks, in_image}
 use Rattle.ubi_scan.specs.Members.{IsMember, Leb, NoMember, Wins, sqnum_at}
 use Rattle.ubi_scan.proofs.Chunks.{length-of_chunk, length-first_chunks}
 use Rattle.ubi_scan.proofs.Clean.{clean_from_none}
@@ -139,7 +139,7 @@ lebs_of s r (content.Dynamic lebs) d u f = (lebs, refl)
 module _ (image : Image) (g : IsGeometry image.sizes) (a : Whole) (att : IsAttached image a)
     (few : a.scan.mean_ec < 2 ^ 31) (narrow : a.scan.image_seq < 2 ^ 32)
     (id lnum : ℕ) (new : List ℕ) (v : Volume) (there : finite.get a.meaning.volumes id ≡ Some v)
-    (allowed : first_cause image.sizes (eraseblocks image) a id lnum new ≡ None)
+    (allowed : in_image first_cause image a id lnum new ≡ None)
     (half : data_pad image.sizes v.entry < leb_size image.sizes / 2) (bounded : v.entry.reserved < 2 ^ 31) where
   abbrev s : Sizes
   s = image.sizes

@@ -19,7 +19,7 @@ use Rattle.ubi_media.specs.declared.ec.EcHeader.{EcHeader}
 use Rattle.ubi_media.specs.declared.ec.EcRead.{EcRead}
 use Rattle.ubi_media.specs.declared.ec.EcRead.TheVariants as ec_read
 use Rattle.ubi_media.specs.declared.vid.VidHeader.{VidHeader}
-use Rattle.ubi_scan.specs.Image.{Image, block, ec, eraseblocks}
+use Rattle.ubi_scan.specs.Image.{Image, block, ec, eraseblocks, in_image}
 use Rattle.ubi_scan.specs.Numbers.{valid_ec}
 use Rattle.ubi_scan.proofs.Parts.{ec-laid, laid}
 use Rattle.ubi_volume.proofs.Winners.{found_wins}
@@ -290,7 +290,7 @@ module _ (s : Sizes) (g : IsGeometry s) (bs : List (List ℕ)) (a : Whole) where
 module _ (image : Image) (g : IsGeometry image.sizes) (a : Whole) (att : IsAttached image a)
     (few : a.scan.mean_ec < 2 ^ 31) (narrow : a.scan.image_seq < 2 ^ 32)
     (id lnum : ℕ) (new : List ℕ) (v : Volume) (there : finite.get a.meaning.volumes id ≡ Some v)
-    (allowed : first_cause image.sizes (eraseblocks image) a id lnum new ≡ None)
+    (allowed : in_image first_cause image a id lnum new ≡ None)
     (half : data_pad image.sizes v.entry < leb_size image.sizes / 2) (bounded : v.entry.reserved < 2 ^ 31) where
   abbrev s : Sizes
   s = image.sizes

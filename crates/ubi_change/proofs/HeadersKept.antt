@@ -15,7 +15,7 @@ use Rattle.ubi_media.specs.Record.{data_pad}
 use Rattle.ubi_media.specs.Vid.{vid_bytes}
 use Rattle.ubi_media.specs.declared.ec.EcHeader.{EcHeader}
 use Rattle.ubi_media.specs.declared.vid.VidHeader.{VidHeader}
-use Rattle.ubi_scan.specs.Image.{Image, block, ec_area, eraseblocks}
+use Rattle.ubi_scan.specs.Image.{Image, block, ec_area, eraseblocks, in_image}
 use Rattle.ubi_scan.proofs.Filled.{filled-by, filled-is}
 use Rattle.ubi_volume.specs.Attached.{IsAttached, Whole}
 use Rattle.ubi_volume.specs.declared.content.Volume.{Volume}
@@ -197,7 +197,7 @@ module _ (s : Sizes) (g : IsGeometry s) where
 module _ (image : Image) (g : IsGeometry image.sizes) (a : Whole) (att : IsAttached image a)
     (few : a.scan.mean_ec < 2 ^ 31) (narrow : a.scan.image_seq < 2 ^ 32)
     (id lnum : ℕ) (new : List ℕ) (v : Volume) (there : finite.get a.meaning.volumes id ≡ Some v)
-    (allowed : first_cause image.sizes (eraseblocks image) a id lnum new ≡ None)
+    (allowed : in_image first_cause image a id lnum new ≡ None)
     (half : data_pad image.sizes v.entry < leb_size image.sizes / 2) (bounded : v.entry.reserved < 2 ^ 31) where
   abbrev s : Sizes
   s = image.sizes

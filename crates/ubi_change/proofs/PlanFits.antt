@@ -10,7 +10,7 @@ use Rattle.ubi_media.specs.Record.{data_pad}
 use Rattle.ubi_media.specs.Vid.{vid_bytes}
 use Rattle.ubi_media.specs.declared.ec.EcHeader.{EcHeader}
 use Rattle.ubi_media.specs.declared.vid.VidHeader.{VidHeader}
-use Rattle.ubi_scan.specs.Image.{Image, block, eraseblocks}
+use Rattle.ubi_scan.specs.Image.{Image, block, eraseblocks, in_image}
 use Rattle.ubi_scan.proofs.Parts.{laid}
 use Rattle.ubi_volume.proofs.Winners.{found_wins}
 use Rattle.ubi_volume.specs.Attached.{IsAttached, Whole}
@@ -91,7 +91,7 @@ module _ (s : Sizes) (g : IsGeometry s) (bs : List (List ℕ)) (a : Whole) where
 module _ (image : Image) (g : IsGeometry image.sizes) (a : Whole) (att : IsAttached image a)
     (few : a.scan.mean_ec < 2 ^ 31) (narrow : a.scan.image_seq < 2 ^ 32)
     (id lnum : ℕ) (new : List ℕ) (v : Volume) (there : finite.get a.meaning.volumes id ≡ Some v)
-    (allowed : first_cause image.sizes (eraseblocks image) a id lnum new ≡ None)
+    (allowed : in_image first_cause image a id lnum new ≡ None)
     (half : data_pad image.sizes v.entry < leb_size image.sizes / 2) (bounded : v.entry.reserved < 2 ^ 31)
     (are : AreBytes new) where
   abbrev s : Sizes

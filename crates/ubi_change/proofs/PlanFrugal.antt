@@ -6,7 +6,7 @@ use Rattle.std.specs.Prelude.{None, Some}
 use Rattle.std.specs.FinMap.{get}
 use Rattle.ubi_media.specs.Geometry.{IsGeometry}
 use Rattle.ubi_media.proofs.Padding.{half_pad, reserved_within}
-use Rattle.ubi_scan.specs.Image.{Image, eraseblocks}
+use Rattle.ubi_scan.specs.Image.{Image, eraseblocks, in_image}
 use Rattle.ubi_volume.specs.Attached.{IsAttached, Whole}
 use Rattle.ubi_volume.specs.declared.content.Volume.{Volume}
 use Rattle.ubi_change.specs.Frugal.{IsFrugal}
@@ -20,9 +20,8 @@ use Rattle.ubi_change.proofs.Touched.{plan_touches}
 
 pub plan_frugal : (image : Image) → IsGeometry image.sizes → (a : Whole) → IsAttached image a
     → a.scan.image_seq < 2 ^ 32 → (id lnum : ℕ) (new : List ℕ) (v : Volume) → get a.meaning.volumes id ≡ Some v
-    → first_cause image.sizes (eraseblocks image) a id lnum new ≡ None
-    → IsFrugal image.sizes (eraseblocks image) a id lnum new
-    (plan_of image.sizes (eraseblocks image) a v.entry id lnum new)
+    → in_image first_cause image a id lnum new ≡ None
+    → in_image IsFrugal image a id lnum new (in_image plan_of image a v.entry id lnum new)
 plan_frugal image g a att narrow id lnum new v there allowed =
     let r = sound image a att id v there in
     let few = mean_few image a att in

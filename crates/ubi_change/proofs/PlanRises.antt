@@ -6,7 +6,7 @@ use Rattle.std.specs.Prelude.{None, Some}
 use Rattle.std.specs.FinMap.{get}
 use Rattle.ubi_media.specs.Geometry.{IsGeometry}
 use Rattle.ubi_media.proofs.Padding.{half_pad, reserved_within}
-use Rattle.ubi_scan.specs.Image.{Image, eraseblocks}
+use Rattle.ubi_scan.specs.Image.{Image, eraseblocks, in_image}
 use Rattle.ubi_volume.specs.Attached.{IsAttached, Whole}
 use Rattle.ubi_volume.specs.declared.content.Volume.{Volume}
 use Rattle.ubi_change.specs.Order.{RisesBetweenErases}
@@ -19,15 +19,15 @@ use Rattle.ubi_change.proofs.PlanSurvives.{mean_few, sound}
 
 pub plan_rises : (image : Image) → IsGeometry image.sizes → (a : Whole) → IsAttached image a → a.scan.image_seq < 2 ^ 32
     → (id lnum : ℕ) (new : List ℕ) (v : Volume) → get a.meaning.volumes id ≡ Some v
-    → first_cause image.sizes (eraseblocks image) a id lnum new ≡ None
-    → RisesBetweenErases image.sizes (eraseblocks image) (plan_of image.sizes (eraseblocks image) a v.entry id lnum new)
+    → in_image first_cause image a id lnum new ≡ None
+    → in_image RisesBetweenErases image (in_image plan_of image a v.entry id lnum new)
 plan_rises image g a att narrow id lnum new v there allowed =
     let r = sound image a att id v there in
     let few = mean_few image a att in
     let half = half_pad image.sizes v.entry r g in
     let bounded = reserved_within image.sizes v.entry r in
     let enough = (no_cause image g a att few narrow id lnum new v there allowed half bounded).enough in
-    let steps = plan_of image.sizes (eraseblocks image) a v.entry id lnum new in
+    let steps = in_image plan_of image a v.entry id lnum new in
     let order = plan_order image.sizes g (eraseblocks image) a v.entry id lnum new enough in
     record {
       rises = pages_rise steps order;

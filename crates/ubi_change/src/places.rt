@@ -3,7 +3,7 @@
 ghost use Rattle.std.specs.Prelude.{◌≡◌, IfErr, IfOk, Some, length};
 ghost use Rattle.ubi_change.specs.inner.Making.{ArePlaces, image_causes, shown};
 ghost use Rattle.ubi_change.specs.Refused.{first_of};
-ghost use Rattle.ubi_scan.specs.Image.{eraseblocks};
+ghost use Rattle.ubi_scan.specs.Image.{eraseblocks, in_image};
 
 use crate::refusal::ChangeRefusal;
 use crate::taking::first_takeable;
@@ -41,8 +41,8 @@ pub fn places_of(
     lnum: u32,
 ) -> Result<Places, ChangeRefusal>
     requires { length surveyed.now.states ≡ length (eraseblocks blocks.now) }
-    ensures places { IfOk result (ArePlaces blocks.now.sizes (eraseblocks blocks.now) (shown surveyed.now) id lnum) }
-    ensures refused { IfErr result (λ e. first_of (image_causes blocks.now.sizes (eraseblocks blocks.now) (shown surveyed.now) id lnum) ≡ Some e) }
+    ensures places { IfOk result (in_image ArePlaces blocks.now (shown surveyed.now) id lnum) }
+    ensures refused { IfErr result (λ e. first_of (in_image image_causes blocks.now (shown surveyed.now) id lnum) ≡ Some e) }
 {
     let winner = surveyed.winner(id, lnum);
     let needed = if winner.is_some() { 1 } else { 2 };

@@ -1,10 +1,12 @@
 //! The plan of an atomic change.
 
 ghost use Rattle.std.specs.Prelude.{◌≡◌, ◌%◌, ◌^◌, ◌<◌, IfErr, IfOk, length};
+ghost use Rattle.ubi_change.specs.Fitting.{AllFit};
 ghost use Rattle.ubi_change.specs.inner.Making.{AreWithin, mapped_steps, shown, steps_on, unmapped_steps};
+ghost use Rattle.ubi_change.specs.Order.{RisesBetweenErases};
 ghost use Rattle.ubi_change.specs.Plan.{blank_header, copy_header};
-ghost use Rattle.ubi_change.specs.Planned.{AllFitOf, IsFrugalOf, IsPlan, RisesOf, SurvivesCutsOf, IsChangeRefusal};
-ghost use Rattle.ubi_scan.specs.Image.{eraseblocks, image_of};
+ghost use Rattle.ubi_change.specs.Planned.{IsFrugalOf, IsPlan, SurvivesCutsOf, IsChangeRefusal};
+ghost use Rattle.ubi_scan.specs.Image.{eraseblocks, image_of, in_image};
 
 use crate::causes::own_cause;
 use crate::places::{Places, places_of};
@@ -74,8 +76,8 @@ fn mapped_steps(
     requires states { length surveyed.now.states ≡ length (eraseblocks blocks.now) }
     requires paged { length new.now % blocks.now.sizes.page ≡ 0 }
     requires short { length new.now < 2 ^ 31 }
-    requires within { AreWithin blocks.now.sizes (eraseblocks blocks.now) (shown surveyed.now) (Places.Mapped copy old) }
-    ensures { IfOk result (λ steps. steps.items ≡ mapped_steps blocks.now.sizes (eraseblocks blocks.now) (shown surveyed.now) target.now new.now copy old) }
+    requires within { in_image AreWithin blocks.now (shown surveyed.now) (Places.Mapped copy old) }
+    ensures { IfOk result (λ steps. steps.items ≡ in_image mapped_steps blocks.now (shown surveyed.now) target.now new.now copy old) }
 {
     let copy = Replacement {
         target: copy,
@@ -102,8 +104,8 @@ fn unmapped_steps(
     requires mean { surveyed.now.scan.mean_ec < 2 ^ 31 }
     requires paged { length new.now % blocks.now.sizes.page ≡ 0 }
     requires short { length new.now < 2 ^ 31 }
-    requires within { AreWithin blocks.now.sizes (eraseblocks blocks.now) (shown surveyed.now) (Places.Unmapped first copy) }
-    ensures { IfOk result (λ steps. steps.items ≡ unmapped_steps blocks.now.sizes (eraseblocks blocks.now) (shown surveyed.now) target.now new.now first copy) }
+    requires within { in_image AreWithin blocks.now (shown surveyed.now) (Places.Unmapped first copy) }
+    ensures { IfOk result (λ steps. steps.items ≡ in_image unmapped_steps blocks.now (shown surveyed.now) target.now new.now first copy) }
 {
     let header = target.blank_header(surveyed.top_sqnum() + 1);
     let copy = Replacement {
@@ -131,8 +133,8 @@ fn steps_on(
     requires mean { surveyed.now.scan.mean_ec < 2 ^ 31 }
     requires paged { length new.now % blocks.now.sizes.page ≡ 0 }
     requires short { length new.now < 2 ^ 31 }
-    requires within { AreWithin blocks.now.sizes (eraseblocks blocks.now) (shown surveyed.now) places }
-    ensures { IfOk result (λ steps. steps.items ≡ steps_on blocks.now.sizes (eraseblocks blocks.now) (shown surveyed.now) target.now new.now places) }
+    requires within { in_image AreWithin blocks.now (shown surveyed.now) places }
+    ensures { IfOk result (λ steps. steps.items ≡ in_image steps_on blocks.now (shown surveyed.now) target.now new.now places) }
 {
     match places {
         Places::Mapped { copy, old } => {
@@ -170,8 +172,8 @@ pub fn plan_change(
     new: &[u8],
 ) -> Result<Vec<Step>, ChangeRefusal>
     ensures survives { IfOk result (λ steps. SurvivesCutsOf (image_of geometry.now image.now) id lnum new.now steps.items) }
-    ensures fits { IfOk result (λ steps. AllFitOf (image_of geometry.now image.now) steps.items) }
-    ensures rises { IfOk result (λ steps. RisesOf (image_of geometry.now image.now) steps.items) }
+    ensures fits { IfOk result (λ steps. in_image AllFit (image_of geometry.now image.now) steps.items) }
+    ensures rises { IfOk result (λ steps. in_image RisesBetweenErases (image_of geometry.now image.now) steps.items) }
     ensures frugal { IfOk result (λ steps. IsFrugalOf (image_of geometry.now image.now) id lnum new.now steps.items) }
     ensures plan { IfOk result (λ steps. IsPlan (image_of geometry.now image.now) id lnum new.now steps.items) }
     ensures refused { IfErr result (IsChangeRefusal (image_of geometry.now image.now) id lnum new.now) }

@@ -3,7 +3,7 @@
 ghost use Rattle.std.specs.Prelude.{◌≡◌, ◌++◌, ◌∷◌, [], ◌%◌, ◌^◌, ◌≤◌, ◌<◌, IfOk, IfSome, OnOk, length};
 ghost use Rattle.ubi_change.specs.inner.Making.{shown};
 ghost use Rattle.ubi_change.specs.Plan.{next_ec, atomic_copy, mount, prepare, program_header, program_text, ready_bytes, ready_ec, release, renew};
-ghost use Rattle.ubi_scan.specs.Image.{eraseblocks};
+ghost use Rattle.ubi_scan.specs.Image.{eraseblocks, in_image};
 
 use crate::pages::{ec_page, vid_page};
 use crate::step::Step;
@@ -46,7 +46,7 @@ pub fn ready_ec(blocks: &Blocks<'_>, surveyed: &Surveyed, p: u32) -> Option<EcHe
     requires states { length surveyed.now.states ≡ length (eraseblocks blocks.now) }
     requires mean { surveyed.now.scan.mean_ec < 2 ^ 31 }
     requires inside { p < length (eraseblocks blocks.now) }
-    ensures value { result ≡ ready_ec blocks.now.sizes (eraseblocks blocks.now) (shown surveyed.now) p }
+    ensures value { result ≡ in_image ready_ec blocks.now (shown surveyed.now) p }
     ensures small { IfSome result (λ header. header.counter ≤ 2 ^ 31) }
 {
     let old = ec_at(blocks, p);
@@ -135,7 +135,7 @@ pub fn push_mount(
 ) -> Result<(), AllocError>
     requires states { length surveyed.now.states ≡ length (eraseblocks blocks.now) }
     requires inside { p < length (eraseblocks blocks.now) }
-    ensures { OnOk result (steps.new.items ≡ steps.old.items ++ mount blocks.now.sizes (eraseblocks blocks.now) (shown surveyed.now) p header.now) }
+    ensures { OnOk result (steps.new.items ≡ steps.old.items ++ in_image mount blocks.now (shown surveyed.now) p header.now) }
 {
     let geometry = blocks.geometry();
     if is_clean(blocks, surveyed, p) {
@@ -163,7 +163,7 @@ fn push_release(
     ec: Option<EcHeader>,
 ) -> Result<(), AllocError>
     requires { IfSome ec (λ header. header.counter ≤ 2 ^ 31) }
-    ensures { OnOk result (steps.new.items ≡ steps.old.items ++ release blocks.now.sizes (eraseblocks blocks.now) (shown surveyed.now) p ec) }
+    ensures { OnOk result (steps.new.items ≡ steps.old.items ++ in_image release blocks.now (shown surveyed.now) p ec) }
 {
     if is_worn(ec) {
         return Ok(());
@@ -186,7 +186,7 @@ pub fn push_copy(
     requires paged { length new.now % blocks.now.sizes.page ≡ 0 }
     requires short { length new.now < 2 ^ 31 }
     ensures { OnOk result (steps.new.items ≡ steps.old.items
-        ++ atomic_copy blocks.now.sizes (eraseblocks blocks.now) (shown surveyed.now) copy.now.target copy.now.header new.now copy.now.old copy.now.old_ec) }
+        ++ in_image atomic_copy blocks.now (shown surveyed.now) copy.now.target copy.now.header new.now copy.now.old copy.now.old_ec) }
 {
     push_mount(alloc, steps, blocks, surveyed, copy.target, &copy.header)?;
     push_text(alloc, steps, &blocks.geometry(), copy.target, new)?;

@@ -3,7 +3,7 @@
 ghost use Rattle.std.specs.Prelude.{◌≡◌, ◌≤◌, ◌<◌, ◌&&◌, IfSome, filter, length};
 ghost use Rattle.ubi_change.specs.inner.Making.{first_two, is_wanted, joined, with_next};
 ghost use Rattle.ubi_change.specs.Takeable.{able, ec_at, is_clean, is_free, is_takeable, is_unused, is_worn, takeable};
-ghost use Rattle.ubi_scan.specs.Image.{block, ec_area, eraseblocks};
+ghost use Rattle.ubi_scan.specs.Image.{block, ec_area, eraseblocks, in_image};
 
 use ubi_media::{EcHeader, EcRead, is_blank};
 use ubi_scan::Blocks;
@@ -92,7 +92,7 @@ pub fn is_worn(header: Option<EcHeader>) -> bool
 /// The erase-counter header of an eraseblock, None where it is blank or corrupt.
 pub fn ec_at(blocks: &Blocks<'_>, p: u32) -> Option<EcHeader>
     requires { p < length (eraseblocks blocks.now) }
-    ensures value { result ≡ ec_at blocks.now.sizes (eraseblocks blocks.now) p }
+    ensures value { result ≡ in_image ec_at blocks.now p }
     ensures small { IfSome result (λ header. header.counter ≤ 0x7FFFFFFF) }
 {
     match blocks.ec(p) {
@@ -115,7 +115,7 @@ pub fn ec_area<'a>(blocks: &Blocks<'a>, p: u32) -> &'a [u8]
 fn is_takeable(blocks: &Blocks<'_>, surveyed: &Surveyed, p: u32) -> bool
     requires states { length surveyed.now.states ≡ length (eraseblocks blocks.now) }
     requires inside { p < length (eraseblocks blocks.now) }
-    ensures { result ≡ is_takeable blocks.now.sizes (eraseblocks blocks.now) surveyed.now.states p }
+    ensures { result ≡ in_image is_takeable blocks.now surveyed.now.states p }
 {
     is_unused(surveyed.state(p)) && !is_worn(ec_at(blocks, p))
 }
@@ -124,7 +124,7 @@ fn is_takeable(blocks: &Blocks<'_>, surveyed: &Surveyed, p: u32) -> bool
 pub fn is_clean(blocks: &Blocks<'_>, surveyed: &Surveyed, p: u32) -> bool
     requires states { length surveyed.now.states ≡ length (eraseblocks blocks.now) }
     requires inside { p < length (eraseblocks blocks.now) }
-    ensures { result ≡ is_clean blocks.now.sizes (eraseblocks blocks.now) surveyed.now.states p }
+    ensures { result ≡ in_image is_clean blocks.now surveyed.now.states p }
 {
     prove!(blocks.geometry().peb_size() >= 64);
     is_free(surveyed.state(p)) && is_blank(&blocks.block(p)[HEADER_SIZE..])
@@ -134,8 +134,7 @@ pub fn is_clean(blocks: &Blocks<'_>, surveyed: &Surveyed, p: u32) -> bool
 fn is_wanted(blocks: &Blocks<'_>, surveyed: &Surveyed, clean: bool, p: u32) -> bool
     requires states { length surveyed.now.states ≡ length (eraseblocks blocks.now) }
     requires inside { p < length (eraseblocks blocks.now) }
-    ensures { let s = blocks.now.sizes in let bs = eraseblocks blocks.now in
-        result ≡ (is_takeable s bs surveyed.now.states p && is_wanted s bs surveyed.now.states clean p) }
+    ensures { result ≡ (in_image is_takeable blocks.now surveyed.now.states p && in_image is_wanted blocks.now surveyed.now.states clean p) }
 {
     is_takeable(blocks, surveyed, p) && is_clean(blocks, surveyed, p) == clean
 }
@@ -143,8 +142,7 @@ fn is_wanted(blocks: &Blocks<'_>, surveyed: &Surveyed, clean: bool, p: u32) -> b
 /// The first two of the eraseblocks that may be taken and are clean, or of those that aren't.
 fn first_wanted(blocks: &Blocks<'_>, surveyed: &Surveyed, clean: bool) -> FirstTwo
     requires { length surveyed.now.states ≡ length (eraseblocks blocks.now) }
-    ensures { let s = blocks.now.sizes in let bs = eraseblocks blocks.now in
-        result ≡ first_two (filter (is_wanted s bs surveyed.now.states clean) (able s bs surveyed.now.states)) }
+    ensures { result ≡ first_two (filter (in_image is_wanted blocks.now surveyed.now.states clean) (in_image able blocks.now surveyed.now.states)) }
 {
     let mut found = FirstTwo {
         first: None,
@@ -161,7 +159,7 @@ fn first_wanted(blocks: &Blocks<'_>, surveyed: &Surveyed, clean: bool) -> FirstT
 /// The first two of the eraseblocks that may be taken: the clean ones first, and each of both kinds by rising number.
 pub fn first_takeable(blocks: &Blocks<'_>, surveyed: &Surveyed) -> FirstTwo
     requires { length surveyed.now.states ≡ length (eraseblocks blocks.now) }
-    ensures { result ≡ first_two (takeable blocks.now.sizes (eraseblocks blocks.now) surveyed.now.states) }
+    ensures { result ≡ first_two (in_image takeable blocks.now surveyed.now.states) }
 {
     first_wanted(blocks, surveyed, true).followed_by(first_wanted(blocks, surveyed, false))
 }

@@ -5,7 +5,7 @@ ghost use Rattle.ubi_media.specs.Fields.{blank};
 ghost use Rattle.ubi_media.specs.Geometry.{leb_size};
 ghost use Rattle.ubi_compose.specs.Normal.{laid_bytes, new_ec};
 
-use crate::laying::NEW;
+use crate::laying::NEW_EC;
 use ubi_media::{Geometry, VidHeader, write_ec, write_vid};
 
 /// Makes all bytes 0xFF but the first `len`.
@@ -38,7 +38,7 @@ pub fn lay(buffer: &mut [u8], geometry: &Geometry, header: &VidHeader, len: usiz
     prove!(geometry.data_offset() <= geometry.peb_size());
     let (headers, leb) = buffer.split_at_mut(data);
     let (first, second) = headers.split_at_mut(vid);
-    put_front(first, &write_ec(geometry, &NEW));
+    put_front(first, &write_ec(geometry, &NEW_EC));
     put_front(second, &write_vid(header));
     blank_behind(leb, len);
 }

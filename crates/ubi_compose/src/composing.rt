@@ -10,7 +10,7 @@ ghost use Rattle.ubi_compose.specs.Normal.{IsNormalised, blocks_of, laid_bytes, 
 
 use crate::errors::ComposeError;
 use crate::header::plain;
-use crate::laying::{HEADER_SIZE, NEW, put_blank, put_block};
+use crate::laying::{HEADER_SIZE, NEW_EC, put_blank, put_block};
 use crate::records::table_text;
 use crate::volume::{put_volume, volume_count};
 use std::alloc::{AllocError, Global};
@@ -60,7 +60,7 @@ fn put_volumes(image: &mut Vec<u8>, meaning: &Meaning) -> Result<(), AllocError>
 fn put_spare(image: &mut Vec<u8>, geometry: &Geometry) -> Result<(), AllocError>
     ensures { OnOk result (image.new.items ≡ image.old.items ++ spare geometry.now) }
 {
-    image.extend_from_slice(&write_ec(geometry, &NEW))?;
+    image.extend_from_slice(&write_ec(geometry, &NEW_EC))?;
     put_blank(image, geometry.peb_size() - HEADER_SIZE)
 }
 

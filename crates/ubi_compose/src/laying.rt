@@ -11,8 +11,8 @@ use ubi_media::{EcHeader, Geometry, VidHeader, write_ec, write_vid};
 /// The bytes of a header.
 pub const HEADER_SIZE: u32 = 64;
 
-/// The erase counter of an eraseblock that was never erased, in no image.
-pub const NEW: EcHeader = EcHeader {
+/// The erase-counter header of an eraseblock that was never erased, in no image.
+pub const NEW_EC: EcHeader = EcHeader {
     counter: 0,
     image_seq: 0,
 };
@@ -34,7 +34,7 @@ pub fn put_block(
     requires { length text.now ≤ leb_size geometry.now }
     ensures { OnOk result (image.new.items ≡ image.old.items ++ laid_bytes geometry.now new_ec (record { header = header.now; text = text.now })) }
 {
-    image.extend_from_slice(&write_ec(geometry, &NEW))?;
+    image.extend_from_slice(&write_ec(geometry, &NEW_EC))?;
     put_blank(image, geometry.vid_offset() - HEADER_SIZE)?;
     image.extend_from_slice(&write_vid(header))?;
     put_blank(

@@ -46,6 +46,10 @@ IsSizeFault image c = IsLengthFault image.sizes (length image.bytes) c
 abbrev pub eraseblocks : Image → List (List ℕ)
 eraseblocks image = first_chunks image.sizes.peb_size (length image.bytes / image.sizes.peb_size) image.bytes
 
+-- of an image, what is defined over sizes and a list of eraseblocks
+abbrev pub in_image {ℓ} : {A : Type ℓ} → (Sizes → List (List ℕ) → A) → Image → A
+in_image f image = f image.sizes (eraseblocks image)
+
 -- the eraseblock at a place
 abbrev pub block : List (List ℕ) → ℕ → List ℕ
 block bs p = slice_index_or bs p []

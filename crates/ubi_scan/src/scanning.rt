@@ -2,7 +2,7 @@
 
 ghost use Rattle.std.specs.Prelude.{◌≡◌, ◌<◌, ◌/◌, length, IfErr, IfOk, IfSome, MatchResult, false, unwrap_or};
 ghost use Rattle.std.specs.Option.{option_map_or};
-ghost use Rattle.ubi_scan.specs.Image.{IsLengthFault, IsWholeSize, block, eraseblocks};
+ghost use Rattle.ubi_scan.specs.Image.{IsLengthFault, IsWholeSize, block, in_image};
 ghost use Rattle.ubi_scan.specs.inner.Choice.{held_of};
 ghost use Rattle.ubi_scan.specs.inner.Pass.{IsMeeting};
 ghost use Rattle.ubi_scan.specs.Members.{good_at, is_good, is_right, member_if};
@@ -90,16 +90,16 @@ fn is_held_good<S: BlockSource>(
     held: &Candidate,
     buffer: &mut [u8],
 ) -> Result<bool, StreamError>
-    requires block { held.now.place < blocks_in geometry.now (S.known source.old) }
+    requires block { held.now.peb < blocks_in geometry.now (S.known source.old) }
     requires room { length buffer.old ≡ geometry.now.peb_size }
     ensures known { S.known source.new ≡ after (S.known source.old) result }
-    ensures good { IfOk result (λ good. WhereHeld (S.known source.old) (λ bytes. good ≡ unwrap_or held.now.good (good_at geometry.now (blocks_of geometry.now bytes) held.now.place))) }
+    ensures good { IfOk result (λ good. WhereHeld (S.known source.old) (λ bytes. good ≡ unwrap_or held.now.good (good_at geometry.now (blocks_of geometry.now bytes) held.now.peb))) }
     ensures failed { IfErr result (IsReadFault (blocks_in geometry.now (S.known source.old))) }
 {
     match held.good {
         Some(good) => Ok(good),
         None => {
-            let q = held.place;
+            let q = held.peb;
             let (ec, vid) = read_headers(source, geometry, q, buffer)?;
             is_good(source, geometry, q, &ec, &vid, buffer)
         }
@@ -118,7 +118,7 @@ fn meeting<S: BlockSource>(
     buffer: &mut [u8],
 ) -> Result<Option<Meeting>, StreamError>
     requires new { p < blocks_in geometry.now (S.known source.old) }
-    requires held { IfSome held (λ c. c.place < blocks_in geometry.now (S.known source.old)) }
+    requires held { IfSome held (λ c. c.peb < blocks_in geometry.now (S.known source.old)) }
     requires room { length buffer.old ≡ geometry.now.peb_size }
     ensures known { S.known source.new ≡ after (S.known source.old) result }
     ensures held { IfOk result (λ met. held_of met ≡ held) }
@@ -195,8 +195,8 @@ pub fn scan_from<S: BlockSource>(
 /// Refused with the first fault of the lowest eraseblock that has one: `Ec`, `ImageSeq`, `Vid`, `Incompatible`,
 /// `Layout` or `SameSqnum`, tried in this order. Memory where it ran out.
 pub fn scan(alloc: Global, blocks: &Blocks<'_>) -> Result<Scan, AttachError>
-    ensures found { IfOk result (IsScan blocks.now.sizes (eraseblocks blocks.now)) }
-    ensures refused { IfErr result (IsScanError blocks.now.sizes (eraseblocks blocks.now)) }
+    ensures found { IfOk result (in_image IsScan blocks.now) }
+    ensures refused { IfErr result (in_image IsScanError blocks.now) }
 {
     let mut source = MemorySource::new(blocks.bytes());
     match scan_from(alloc, &blocks.geometry(), &mut source) {

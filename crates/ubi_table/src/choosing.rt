@@ -3,7 +3,7 @@
 ghost use Rattle.std.specs.FinMap as finite;
 ghost use Rattle.std.specs.Prelude.{◌≡◌, Some, List, ℕ, IfErr, IfOk, IfSome, IsTrue, ◌↔◌, length};
 ghost use Rattle.ubi_media.specs.Geometry.{Sizes, leb_size};
-ghost use Rattle.ubi_scan.specs.Image.{eraseblocks};
+ghost use Rattle.ubi_scan.specs.Image.{in_image};
 ghost use Rattle.ubi_scan.specs.Members.{layout};
 ghost use Rattle.ubi_scan.specs.Scan.{IsScan};
 ghost use Rattle.ubi_scan.specs.Source.{WhereHeld, blocks_of};
@@ -140,9 +140,9 @@ pub fn choose_from<S: BlockSource>(
 ///
 /// Refused as by [`choose_from`]. Memory where it ran out.
 pub fn choose(alloc: Global, blocks: &Blocks<'_>, scan: &Scan) -> Result<Table, AttachError>
-    requires { IsScan blocks.now.sizes (eraseblocks blocks.now) scan.now }
-    ensures table { IfOk result (IsTable blocks.now.sizes (eraseblocks blocks.now)) }
-    ensures refused { IfErr result (IsTableError blocks.now.sizes (eraseblocks blocks.now)) }
+    requires { in_image IsScan blocks.now scan.now }
+    ensures table { IfOk result (in_image IsTable blocks.now) }
+    ensures refused { IfErr result (in_image IsTableError blocks.now) }
 {
     let mut source = MemorySource::new(blocks.bytes());
     match choose_from(alloc, &blocks.geometry(), &mut source, scan) {

@@ -2,13 +2,15 @@
 use Rattle.std.specs.Prelude.{◌≡◌, ℕ, List, [], ◌∷◌, ◌++◌, Option, Some, None, codes, decimal, if◌then◌else◌, length, min, nat_lt}
 use Rattle.std.specs.List.{concat, flat_map}
 use Rattle.ubi_change.specs.Cuts.{changed, turn}
-use Rattle.ubi_change.specs.Planned.{AllFitOf, IsFrugalOf, IsPlan, RisesOf, SurvivesCutsOf, IsChangeRefusal}
+use Rattle.ubi_change.specs.Fitting.{AllFit}
+use Rattle.ubi_change.specs.Order.{RisesBetweenErases}
+use Rattle.ubi_change.specs.Planned.{IsFrugalOf, IsPlan, SurvivesCutsOf, IsChangeRefusal}
 use Rattle.ubi_change.specs.Steps.{after}
 use Rattle.ubi_change.specs.declared.refusal.ChangeRefusal.{ChangeRefusal}
 use Rattle.ubi_change.specs.declared.refusal.ChangeRefusal.TheVariants as refusal
 use Rattle.ubi_change.specs.declared.step.Step.{Step}
 use Rattle.ubi_change.specs.declared.step.Step.TheVariants as step
-use Rattle.ubi_scan.specs.Image.{Image, eraseblocks}
+use Rattle.ubi_scan.specs.Image.{Image, in_image}
 use Rattle.ubi_volume.specs.Accepts.{Accepts}
 use Rattle.ubi_volume.specs.Meant.{Meant}
 use Rattle.ubi_tool.specs.Answer.{Answer, Gives, says}
@@ -49,7 +51,7 @@ steps_done steps None = length steps
 
 -- the bytes of an image after the first k steps
 abbrev pub cut_bytes : Image → List Step → ℕ → List ℕ
-cut_bytes image steps k = concat (after image.sizes (eraseblocks image) steps k)
+cut_bytes image steps k = concat (in_image after image steps k)
 
 -- the lines of the whole plan, and the image after those of its steps that are done
 abbrev pub change_answer : Image → List Step → Option ℕ → Answer
@@ -63,8 +65,8 @@ change_answer image steps stop = record {
 -- each erase, and the image survives a cut between them
 pub record IsPlanned (image : Image) (id lnum : ℕ) (new : List ℕ) (steps : List Step) : Type 0 where
   pub plan : IsPlan image id lnum new steps
-  pub fit : AllFitOf image steps
-  pub rises : RisesOf image steps
+  pub fit : in_image AllFit image steps
+  pub rises : in_image RisesBetweenErases image steps
   pub frugal : IsFrugalOf image id lnum new steps
   pub survives : SurvivesCutsOf image id lnum new steps
 

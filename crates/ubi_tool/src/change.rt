@@ -2,9 +2,9 @@
 
 ghost use Rattle.std.specs.Prelude.{◌≡◌, ◌++◌, ◌≤◌, IfOk, OnOk, Some, length};
 ghost use Rattle.std.specs.List.{flat_map};
-ghost use Rattle.ubi_change.specs.Planned.{AllFitOf};
+ghost use Rattle.ubi_change.specs.Fitting.{AllFit};
 ghost use Rattle.ubi_change.specs.Steps.{after};
-ghost use Rattle.ubi_scan.specs.Image.{IsWhole, eraseblocks, image_of};
+ghost use Rattle.ubi_scan.specs.Image.{IsWhole, eraseblocks, image_of, in_image};
 ghost use Rattle.ubi_tool.specs.Change.{Changes, cause_line, cut_bytes, plan_lines, step_line, step_words, steps_done};
 
 use crate::lines::{Detail, put_number, put_word, refusal_line, refused};
@@ -85,10 +85,10 @@ fn steps_done(steps: &[Step], stop: Option<u32>) -> usize
 /// Does the first steps of a plan to an image.
 fn apply_first(geometry: &Geometry, image: &mut [u8], steps: &[Step], count: usize)
     requires whole { IsWhole (image_of geometry.now image.old) }
-    requires fit { AllFitOf (image_of geometry.now image.old) steps.now }
+    requires fit { in_image AllFit (image_of geometry.now image.old) steps.now }
     requires count { count ≤ length steps.now }
     ensures cut { image.new ≡ cut_bytes (image_of geometry.now image.old) steps.now count }
-    ensures done { eraseblocks (image_of geometry.now image.new) ≡ after geometry.now (eraseblocks (image_of geometry.now image.old)) steps.now count }
+    ensures done { eraseblocks (image_of geometry.now image.new) ≡ in_image after (image_of geometry.now image.old) steps.now count }
     ensures length { length image.new ≡ length image.old }
 {
     for step in &steps[..count] {
@@ -105,10 +105,10 @@ fn image_after(
     count: usize,
 ) -> Result<Vec<u8>, AllocError>
     requires whole { IsWhole (image_of geometry.now image.now) }
-    requires fit { AllFitOf (image_of geometry.now image.now) steps.now }
+    requires fit { in_image AllFit (image_of geometry.now image.now) steps.now }
     requires count { count ≤ length steps.now }
     ensures cut { IfOk result (λ bytes. bytes.items ≡ cut_bytes (image_of geometry.now image.now) steps.now count) }
-    ensures done { IfOk result (λ bytes. eraseblocks (image_of geometry.now bytes.items) ≡ after geometry.now (eraseblocks (image_of geometry.now image.now)) steps.now count) }
+    ensures done { IfOk result (λ bytes. eraseblocks (image_of geometry.now bytes.items) ≡ in_image after (image_of geometry.now image.now) steps.now count) }
     ensures length { IfOk result (λ bytes. length bytes.items ≡ length image.now) }
 {
     let mut bytes = Vec::from_slice(alloc, image)?;

@@ -28,7 +28,7 @@ use Rattle.ubi_scan.proofs.Entries.{sorted_entries}
 use Rattle.ubi_scan.proofs.Finite.{place_of}
 use Rattle.ubi_scan.proofs.Keys.{told}
 use Rattle.ubi_scan.proofs.Truths.{both_are, true_is}
-use Rattle.ubi_volume.specs.inner.Making.{is_within}
+use Rattle.ubi_volume.specs.inner.Making.{leb_fits}
 use Rattle.ubi_volume.specs.Made.{IsItem, Items, NoCause, item_without_blank, without_blank}
 use Rattle.ubi_volume.specs.Meant.{Fits, HasDistinctNames, IsVolume, KeepsNoBlank}
 use Rattle.ubi_volume.specs.MeantCoded.{AreVolumes}
@@ -80,7 +80,7 @@ fits_or_not s r (content.Dynamic lebs) = elim (is_or_not r.marker false) [
   | inr n ↦ inr (λ f. n f.0)
   | inl m ↦ elim (kind_or_other r.kind kind.Dynamic) [
     | inr n ↦ inr (λ f. n f.1)
-    | inl k ↦ elim (is_or_not (list_all (is_within r.reserved (usable s r)) (finite.entries lebs)) true) [
+    | inl k ↦ elim (is_or_not (list_all (leb_fits r.reserved (usable s r)) (finite.entries lebs)) true) [
       | inl t ↦ inl (m, k, (each_within r.reserved (usable s r) lebs).0 t)
       | inr n ↦ inr (λ f. n ((each_within r.reserved (usable s r) lebs).1 f.2))
     ]

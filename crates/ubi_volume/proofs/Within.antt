@@ -10,20 +10,20 @@ use Rattle.std.specs.FinMap.{FinMap, nat_cmp-IsAntisymmetric}
 use Rattle.std.specs.List.{list_all}
 use Rattle.std.specs.Ordering.{nat_cmp}
 use Rattle.ubi_scan.proofs.Finite.{entries_tree, find_at, place_of}
-use Rattle.ubi_volume.specs.inner.Making.{is_within}
+use Rattle.ubi_volume.specs.inner.Making.{leb_fits}
 
 module _ (reserved size : ℕ) where
   abbrev Within : ℕ × List ℕ → Type 0
   Within e = (e.0 < reserved) × (length e.1 ≡ size)
 
-  within : (e : ℕ × List ℕ) → Decides (is_within reserved size e) (Within e)
+  within : (e : ℕ × List ℕ) → Decides (leb_fits reserved size e) (Within e)
   within e = Decides-and _ _ (Decides-ltb e.0 reserved) (unsigned_Decides (length e.1) size)
 
-  all_within : (es : List (ℕ × List ℕ)) → Decides (list_all (is_within reserved size) es) (All Within es)
-  all_within es = Decides-by_and (is_within reserved size) Within (list_all (is_within reserved size)) within refl
+  all_within : (es : List (ℕ × List ℕ)) → Decides (list_all (leb_fits reserved size) es) (All Within es)
+  all_within es = Decides-by_and (leb_fits reserved size) Within (list_all (leb_fits reserved size)) within refl
       (λ _ _. refl) es
 
-  pub each_within : (lebs : FinMap nat_cmp (List ℕ)) → IsTrue (list_all (is_within reserved size) (finite.entries lebs))
+  pub each_within : (lebs : FinMap nat_cmp (List ℕ)) → IsTrue (list_all (leb_fits reserved size) (finite.entries lebs))
       ↔ ((lnum : ℕ) → IfSome (finite.get lebs lnum) (λ text. (lnum < reserved) × (length text ≡ size)))
   each_within lebs = (
     λ t lnum. by_text t lnum (finite.get lebs lnum) refl,
@@ -36,7 +36,7 @@ module _ (reserved size : ℕ) where
       es : List (ℕ × List ℕ)
       es = finite.entries lebs
 
-      by_text : IsTrue (list_all (is_within reserved size) (finite.entries lebs)) → (lnum : ℕ) (o : Option (List ℕ))
+      by_text : IsTrue (list_all (leb_fits reserved size) (finite.entries lebs)) → (lnum : ℕ) (o : Option (List ℕ))
           → finite.get lebs lnum ≡ o
           → IfSome o (λ text. (lnum < reserved) × (length text ≡ size))
       by_text t lnum None e = tt
@@ -46,12 +46,12 @@ module _ (reserved size : ℕ) where
           subst Within at.2 ((all_within (finite.entries lebs)).0 t at.0 (lnum, text) at.1)
 
   pub tree_within : (m : BTreeMap ℕ (List ℕ)) → tree.IsOrdered nat_cmp m → (b : Bool)
-      → b ≡ list_all (is_within reserved size) m.entries
+      → b ≡ list_all (leb_fits reserved size) m.entries
       → IsTrue b
       ↔ ((lnum : ℕ) → IfSome (finite.get (finite.from_entries {R = nat_cmp} m.entries) lnum)
       (λ text. (lnum < reserved) × (length text ≡ size)))
   tree_within m ordered b e =
-      let same : list_all (is_within reserved size) (finite.entries (finite.from_entries {R = nat_cmp} m.entries)) ≡ b =
-      ap (list_all (is_within reserved size)) (entries_tree nat_cmp_total nat_cmp-IsAntisymmetric m ordered) ∙ sym e in
+      let same : list_all (leb_fits reserved size) (finite.entries (finite.from_entries {R = nat_cmp} m.entries)) ≡ b =
+      ap (list_all (leb_fits reserved size)) (entries_tree nat_cmp_total nat_cmp-IsAntisymmetric m ordered) ∙ sym e in
       let h = each_within (finite.from_entries m.entries) in
       (λ t. h.0 (same ∙ t), λ k. sym same ∙ h.1 k)

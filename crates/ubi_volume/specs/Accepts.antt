@@ -11,7 +11,7 @@ use Rattle.ubi_media.specs.declared.refusal.Refusal.TheVariants as refusal
 use Rattle.ubi_media.specs.declared.vid.VidHeader.{VidHeader}
 use Rattle.ubi_media.specs.declared.vid.VolKind.TheVariants as kind
 use Rattle.ubi_scan.specs.Faults.{NoFault, IsScanFault}
-use Rattle.ubi_scan.specs.Image.{block, Image, IsWhole, IsSizeFault, eraseblocks}
+use Rattle.ubi_scan.specs.Image.{block, Image, IsWhole, IsSizeFault, in_image}
 use Rattle.ubi_scan.specs.Members.{member, Wins}
 use Rattle.ubi_table.specs.Records.{Records}
 use Rattle.ubi_table.specs.Table.{IsTable, IsTableFault}
@@ -67,11 +67,11 @@ RefusesBlocks s bs c =
 -- an image is accepted with the meaning m
 pub record Accepts (image : Image) (m : Meant) : Type 0 where
   pub whole : IsWhole image
-  pub accepted : AcceptsBlocks image.sizes (eraseblocks image) m
+  pub accepted : in_image AcceptsBlocks image m
 
 -- an image is refused for c: for its length, or else for its eraseblocks
 abbrev pub Refuses : Image → Refusal → Type 0
-Refuses image c = IsSizeFault image c ⊎ (IsWhole image × RefusesBlocks image.sizes (eraseblocks image) c)
+Refuses image c = IsSizeFault image c ⊎ (IsWhole image × in_image RefusesBlocks image c)
 
 -- an error: memory ran out, or a cause for which the image is refused
 abbrev pub IsAttachError : Image → AttachError → Type 0

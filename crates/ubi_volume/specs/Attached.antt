@@ -6,7 +6,7 @@ use Rattle.ubi_media.specs.declared.ec.EcRead.TheVariants as ec_read
 use Rattle.ubi_media.specs.declared.record.VolumeRecord.{VolumeRecord}
 use Rattle.ubi_media.specs.declared.vid.VidRead.TheVariants as vid_read
 use Rattle.ubi_media.specs.declared.vid.VolKind.TheVariants as kind
-use Rattle.ubi_scan.specs.Image.{block, ec, vid, Image, eraseblocks}
+use Rattle.ubi_scan.specs.Image.{block, ec, vid, Image, in_image}
 use Rattle.ubi_scan.specs.Members.{Leb, layout, IsMember, Wins}
 use Rattle.ubi_scan.specs.Numbers.{valid_ec}
 use Rattle.ubi_scan.specs.Scan.{IsDropped, Found, IsScan}
@@ -48,5 +48,5 @@ pub record Whole : Type 0 where
 -- it is that of the image
 pub record IsAttached (image : Image) (a : Whole) : Type 0 where
   pub accepted : Accepts image a.meaning
-  pub scan : IsScan image.sizes (eraseblocks image) a.scan
-  pub states : AreStates image.sizes (eraseblocks image) (records_of a.meaning) a.states
+  pub scan : in_image IsScan image a.scan
+  pub states : in_image AreStates image (records_of a.meaning) a.states

@@ -7,7 +7,7 @@ ghost use Rattle.std.specs.List.{list_all};
 ghost use Rattle.std.specs.Map.Iter.{ShowsInOrder, deref_pair};
 ghost use Rattle.std.specs.Option.{option_copied};
 ghost use Rattle.std.specs.Ordering.{nat_cmp};
-ghost use Rattle.ubi_volume.specs.inner.Making.{is_within};
+ghost use Rattle.ubi_volume.specs.inner.Making.{leb_fits};
 ghost use Rattle.ubi_volume.specs.Made.{lebs_without_blank, without_blank};
 
 use std::alloc::{AllocError, Global};
@@ -113,8 +113,8 @@ impl PartialEq for Lebs {
 }
 
 /// Whether each of some logical eraseblocks has a number below `reserved`, and `size` bytes.
-fn are_within(held: &BTreeMap<u32, Bytes>, reserved: u32, size: u32) -> bool
-    ensures { result ≡ list_all (is_within reserved size) held.now.entries }
+fn all_fit(held: &BTreeMap<u32, Bytes>, reserved: u32, size: u32) -> bool
+    ensures { result ≡ list_all (leb_fits reserved size) held.now.entries }
 {
     held.iter().all(|(lnum, bytes)| *lnum < reserved && bytes.as_slice().len() == size as usize)
 }
@@ -173,10 +173,10 @@ impl Lebs {
     }
 
     /// Whether each that is kept has a number below `reserved`, and `size` bytes.
-    pub(crate) fn are_within(&self, reserved: u32, size: u32) -> bool
+    pub(crate) fn all_fit(&self, reserved: u32, size: u32) -> bool
         ensures { IsTrue result ↔ ((lnum : ℕ) → IfSome (finite.get self.now lnum) (λ text. (lnum < reserved) × (length text ≡ size))) }
     {
-        are_within(&self.held, reserved, size)
+        all_fit(&self.held, reserved, size)
     }
 
     /// Drops those that are 0xFF throughout.

@@ -4,7 +4,7 @@ ghost use Rattle.std.specs.Prelude.{◌≡◌, ◌<◌, IfOk, Some, false, lengt
 ghost use Rattle.std.specs.FinMap as finite;
 ghost use Rattle.ubi_media.specs.declared.vid.VolKind.TheVariants.{Dynamic};
 ghost use Rattle.ubi_media.specs.Record.{rec_fault};
-ghost use Rattle.ubi_scan.specs.Image.{eraseblocks};
+ghost use Rattle.ubi_scan.specs.Image.{in_image};
 ghost use Rattle.ubi_scan.specs.Scan.{IsScan};
 ghost use Rattle.ubi_volume.specs.Accepts.{NoMismatch};
 ghost use Rattle.ubi_volume.specs.inner.Gathered.{ContentIs, LebKept};
@@ -27,9 +27,9 @@ fn leb_text<'a>(
     entry: &VolumeRecord,
     lnum: u32,
 ) -> Option<&'a [u8]>
-    requires scan { IsScan blocks.now.sizes (eraseblocks blocks.now) scan.now }
+    requires scan { in_image IsScan blocks.now scan.now }
     requires sound { rec_fault blocks.now.sizes entry.now ≡ None }
-    ensures { LebKept blocks.now.sizes (eraseblocks blocks.now) id entry.now lnum (option_map (λ text. text.now) result) }
+    ensures { in_image LebKept blocks.now id entry.now lnum (option_map (λ text. text.now) result) }
 {
     let p = scan.winner(id, lnum)?;
     let text = &blocks.leb(p)[..entry.usable(&blocks.geometry()) as usize];
@@ -44,11 +44,11 @@ fn dynamic_content(
     id: u32,
     entry: &VolumeRecord,
 ) -> Result<Content, AllocError>
-    requires scan { IsScan blocks.now.sizes (eraseblocks blocks.now) scan.now }
+    requires scan { in_image IsScan blocks.now scan.now }
     requires sound { rec_fault blocks.now.sizes entry.now ≡ None }
     requires unmarked { entry.now.marker ≡ false }
     requires kind { entry.now.kind ≡ Dynamic }
-    ensures { IfOk result (ContentIs blocks.now.sizes (eraseblocks blocks.now) id entry.now) }
+    ensures { IfOk result (in_image ContentIs blocks.now id entry.now) }
 {
     let mut lebs = Lebs::new(alloc);
     for lnum in 0..entry.reserved {
@@ -69,11 +69,11 @@ fn content_of(
     id: u32,
     entry: &VolumeRecord,
 ) -> Result<Content, AllocError>
-    requires known { AreKnown blocks.now.sizes (eraseblocks blocks.now) scan.now table.now }
-    requires alike { NoMismatch blocks.now.sizes (eraseblocks blocks.now) table.now }
+    requires known { in_image AreKnown blocks.now scan.now table.now }
+    requires alike { in_image NoMismatch blocks.now table.now }
     requires recorded { finite.get table.now.of id ≡ Some entry.now }
     requires sound { rec_fault blocks.now.sizes entry.now ≡ None }
-    ensures { IfOk result (ContentIs blocks.now.sizes (eraseblocks blocks.now) id entry.now) }
+    ensures { IfOk result (in_image ContentIs blocks.now id entry.now) }
 {
     if entry.marker {
         return Ok(Content::Updating);
@@ -95,9 +95,9 @@ pub fn gather(
     scan: &Scan,
     table: &Table,
 ) -> Result<Meaning, AllocError>
-    requires known { AreKnown blocks.now.sizes (eraseblocks blocks.now) scan.now table.now }
-    requires alike { NoMismatch blocks.now.sizes (eraseblocks blocks.now) table.now }
-    ensures { IfOk result (Means blocks.now.sizes (eraseblocks blocks.now) table.now) }
+    requires known { in_image AreKnown blocks.now scan.now table.now }
+    requires alike { in_image NoMismatch blocks.now table.now }
+    ensures { IfOk result (in_image Means blocks.now table.now) }
 {
     let mut volumes = Vec::new(alloc);
     for listed in table.entries() {

@@ -110,9 +110,7 @@ fn fits(geometry: &Geometry, volume: &Volume) -> bool
             !entry.marker && entry.kind == VolKind::Static && text.as_slice().len() as u64 <= most
         }
         Content::Dynamic(lebs) => {
-            !entry.marker
-                && entry.kind == VolKind::Dynamic
-                && lebs.are_within(entry.reserved, usable)
+            !entry.marker && entry.kind == VolKind::Dynamic && lebs.all_fit(entry.reserved, usable)
         }
     }
 }

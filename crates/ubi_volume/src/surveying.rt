@@ -221,6 +221,7 @@ pub fn survey(alloc: Global, geometry: &Geometry, image: &[u8]) -> Result<Survey
         Ok(survey) => Ok(survey),
         Err(StreamError::Refused(cause)) => Err(AttachError::Refused(cause)),
         Err(StreamError::Memory) => Err(AttachError::Memory),
+        // No read fails, and nothing is written.
         Err(StreamError::Read(..) | StreamError::Write(_)) => unreachable!(),
     }
 }

@@ -15,5 +15,5 @@ IsFirstOf s items r found = MatchOption found
     (λ c. (rank c ≡ r) × Stands s items c × NoneBelow s items r (item c))
 
 -- whether a LEB has a number below `reserved`, and `size` bytes
-abbrev pub is_within : ℕ → ℕ → ℕ × List ℕ → Bool
-is_within reserved size e = nat_lt e.0 reserved && (length e.1 == size)
+abbrev pub leb_fits : ℕ → ℕ → ℕ × List ℕ → Bool
+leb_fits reserved size e = nat_lt e.0 reserved && (length e.1 == size)

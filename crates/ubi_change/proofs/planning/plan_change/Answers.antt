@@ -3,7 +3,7 @@ use Rattle.std.specs.Prelude.{None, Some}
 use Rattle.std.proofs.lemmas.Result.{err_from_is_err_and}
 use Rattle.std.specs.FinMap.{get}
 use Rattle.ubi_media.specs.Record.{data_pad}
-use Rattle.ubi_scan.specs.Image.{Image, eraseblocks}
+use Rattle.ubi_scan.specs.Image.{Image, in_image}
 use Rattle.ubi_volume.specs.Attached.{IsAttached, Whole}
 use Rattle.ubi_table.specs.Records.{Records}
 use Rattle.ubi_volume.specs.Survey.{IsSurvey}
@@ -59,11 +59,10 @@ returns-in_err-places-clause-refused c =
     let there : get a.meaning.volumes c.args.id ≡ Some v = meant.1 in
     let own : None ≡ first_of (own_causes c.args.geometry.now v.entry c.args.lnum c.args.new.now) =
     c.in_default-own_cause.ensures in
-    let cause : first_of (image_causes c.in_ok-blocks.blocks.sizes (eraseblocks c.in_ok-blocks.blocks) a c.args.id
-    c.args.lnum) ≡ Some c.in_err-places.field-0.0 = c.in_err-places.ensures.refused in
-    let here : first_of (image_causes image.sizes (eraseblocks image) a c.args.id c.args.lnum)
-    ≡ Some c.in_err-places.field-0.0 =
-    subst (λ (z : Image). first_of (image_causes z.sizes (eraseblocks z) a c.args.id c.args.lnum)
+    let cause : first_of (in_image image_causes c.in_ok-blocks.blocks a c.args.id c.args.lnum)
+    ≡ Some c.in_err-places.field-0.0 = c.in_err-places.ensures.refused in
+    let here : first_of (in_image image_causes image a c.args.id c.args.lnum) ≡ Some c.in_err-places.field-0.0 =
+    subst (λ (z : Image). first_of (in_image image_causes z a c.args.id c.args.lnum)
     ≡ Some c.in_err-places.field-0.0) c.in_ok-blocks.ensures.ok cause in
     let stands : IsChangeRefusal image c.args.id c.args.lnum c.args.new.now c.in_err-places.field-0.0 =
     image_stands image a is.attached c.args.id c.args.lnum c.args.new.now v there
@@ -100,11 +99,11 @@ steps_on-requires-clause-within c =
     let on = c.in_ok-places.places in
     let own : None ≡ first_of (own_causes c.args.geometry.now v.entry c.args.lnum c.args.new.now) =
     c.in_default-own_cause.ensures in
-    let are : ArePlaces c.in_ok-blocks.blocks.sizes (eraseblocks c.in_ok-blocks.blocks) a c.args.id c.args.lnum on =
+    let are : in_image ArePlaces c.in_ok-blocks.blocks a c.args.id c.args.lnum on =
     c.in_ok-places.ensures.places in
-    let here : ArePlaces image.sizes (eraseblocks image) a c.args.id c.args.lnum on =
-    subst (λ (z : Image). ArePlaces z.sizes (eraseblocks z) a c.args.id c.args.lnum on) c.in_ok-blocks.ensures.ok are in
-    subst (λ (z : Image). AreWithin z.sizes (eraseblocks z) a on) (sym c.in_ok-blocks.ensures.ok)
+    let here : in_image ArePlaces image a c.args.id c.args.lnum on =
+    subst (λ (z : Image). in_image ArePlaces z a c.args.id c.args.lnum on) c.in_ok-blocks.ensures.ok are in
+    subst (λ (z : Image). in_image AreWithin z a on) (sym c.in_ok-blocks.ensures.ok)
     (are_within image a is.attached c.args.id c.args.lnum c.args.new.now v there (sym own) on here)
 
 pub returns-clause-plan : goal.returns-clause-plan
@@ -120,15 +119,15 @@ returns-clause-plan c =
     let att : IsAttached image a = is.attached in
     let own : None ≡ first_of (own_causes c.args.geometry.now v.entry c.args.lnum c.args.new.now) =
     c.in_default-own_cause.ensures in
-    let are : ArePlaces c.in_ok-blocks.blocks.sizes (eraseblocks c.in_ok-blocks.blocks) a c.args.id c.args.lnum on =
+    let are : in_image ArePlaces c.in_ok-blocks.blocks a c.args.id c.args.lnum on =
     c.in_ok-places.ensures.places in
-    let here : ArePlaces image.sizes (eraseblocks image) a c.args.id c.args.lnum on =
-    subst (λ (z : Image). ArePlaces z.sizes (eraseblocks z) a c.args.id c.args.lnum on) c.in_ok-blocks.ensures.ok are in
+    let here : in_image ArePlaces image a c.args.id c.args.lnum on =
+    subst (λ (z : Image). in_image ArePlaces z a c.args.id c.args.lnum on) c.in_ok-blocks.ensures.ok are in
     let t : Target = record { id = c.args.id; lnum = c.args.lnum; data_pad = c.data_pad.result } in
     let pad : t ≡ record { id = c.args.id; lnum = c.args.lnum; data_pad = data_pad image.sizes v.entry } =
     ap (λ (n : ℕ). record { id = c.args.id; lnum = c.args.lnum; data_pad = n }) c.data_pad.ensures in
-    let made : c.in_ok-steps_on.field-0.items ≡ steps_on c.in_ok-blocks.blocks.sizes
-    (eraseblocks c.in_ok-blocks.blocks) a t c.args.new.now on = c.in_ok-steps_on.ensures in
+    let made : c.in_ok-steps_on.field-0.items ≡ in_image steps_on c.in_ok-blocks.blocks a t c.args.new.now on =
+    c.in_ok-steps_on.ensures in
     record {
       from = a;
       attached = att;
@@ -136,7 +135,7 @@ returns-clause-plan c =
       volume = v;
       there = there;
       plan =
-          made ∙ ap (λ (z : Image). steps_on z.sizes (eraseblocks z) a t c.args.new.now on) c.in_ok-blocks.ensures.ok
+          made ∙ ap (λ (z : Image). in_image steps_on z a t c.args.new.now on) c.in_ok-blocks.ensures.ok
           ∙ steps_are image a att c.args.id c.args.lnum c.args.new.now v there (sym own) on here t pad;
     }
 
@@ -152,8 +151,8 @@ returns-clause-survives c =
     made.attached narrow made.there made.allowed in (
       made.from.meaning,
       made.attached.accepted,
-      subst (SurvivesCuts image.sizes (eraseblocks image) made.from.meaning c.args.id c.args.lnum c.args.new.now)
-          (sym made.plan) planned,
+      subst (in_image SurvivesCuts image made.from.meaning c.args.id c.args.lnum c.args.new.now) (sym made.plan)
+          planned,
     )
 
 pub returns-clause-fits : goal.returns-clause-fits
@@ -171,7 +170,7 @@ returns-clause-fits c =
     c.args.lnum c.args.new.now made.volume made.there made.allowed
     (half_pad image.sizes made.volume.entry sound_record g) (reserved_within image.sizes made.volume.entry sound_record)
     bytes in
-    subst (AllFit image.sizes (eraseblocks image)) (sym made.plan) planned
+    subst (in_image AllFit image) (sym made.plan) planned
 
 pub returns-clause-rises : goal.returns-clause-rises
 unfolding returns-clause-plan
@@ -183,7 +182,7 @@ returns-clause-rises c =
     subst (λ (n : ℕ). n < 2 ^ 32) c.image_seq.ensures c.image_seq.type_inv in
     let planned = plan_rises image c.page.ensures.limits made.from made.attached narrow c.args.id c.args.lnum
     c.args.new.now made.volume made.there made.allowed in
-    subst (RisesBetweenErases image.sizes (eraseblocks image)) (sym made.plan) planned
+    subst (in_image RisesBetweenErases image) (sym made.plan) planned
 
 pub returns-clause-frugal : goal.returns-clause-frugal
 unfolding returns-clause-plan
@@ -197,6 +196,5 @@ returns-clause-frugal c =
     c.args.new.now made.volume made.there made.allowed in (
       made.from,
       made.attached,
-      subst (IsFrugal image.sizes (eraseblocks image) made.from c.args.id c.args.lnum c.args.new.now)
-          (sym made.plan) planned,
+      subst (in_image IsFrugal image made.from c.args.id c.args.lnum c.args.new.now) (sym made.plan) planned,
     )

@@ -1,5 +1,5 @@
 use Rattle.std.proofs.Common.{◌≡◌, ℕ, sym, subst, ◌∙◌, arith}
-use Rattle.ubi_scan.specs.Image.{eraseblocks}
+use Rattle.ubi_scan.specs.Image.{in_image}
 use Rattle.ubi_volume.specs.inner.Gathered.{AreRead}
 use Rattle.ubi_volume.proofs.Alike.{short_piece}
 use Rattle.ubi_volume.proofs.Static.{damaged_behind, damaged_is, damaged_large, damaged_piece, read_more, static_is}
@@ -40,8 +40,8 @@ returns c =
     (sym c.is_some.ensures ∙ c.if-is_some.false) c.next_winner.ensures in
     rw c.new.ensures (static_is _ _ c.args.id c.args.entry.now c.requires.unmarked c.requires.kind
     c.used_ebs-used.result c.loop-lnum.text.items
-    (subst (λ (n : ℕ). AreRead c.args.blocks.now.sizes (eraseblocks c.args.blocks.now) c.args.id c.used_ebs-used.result
-    n c.loop-lnum.text.items) last c.loop-lnum.invariant) c.if-used-entry.false
+    (subst (λ (n : ℕ). in_image AreRead c.args.blocks.now c.args.id c.used_ebs-used.result n c.loop-lnum.text.items)
+    last c.loop-lnum.invariant) c.if-used-entry.false
     (λ lnum from. none_found _ _ _ c.requires.known.scan (c.args.id, lnum) (none lnum from))
     (short_piece _ _ c.args.table.now c.requires.alike c.args.id c.args.entry.now c.requires.recorded
     c.requires.unmarked c.requires.kind))

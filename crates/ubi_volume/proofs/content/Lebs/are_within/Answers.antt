@@ -1,6 +1,0 @@
-use Rattle.ubi_volume.proofs.Within.{tree_within}
-use Rattle.ubi_volume.proofs.content.Lebs.are_within.Goals as goal
-
-pub returns : goal.returns
-returns c = rw (← c.self.view_is)
-    (tree_within c.args.reserved c.args.size c.self.inside.held c.self.invariant _ c.are_within.ensures)
