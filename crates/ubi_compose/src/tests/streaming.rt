@@ -131,7 +131,7 @@ fn tells_which_read_failed(rt: HostRuntime) -> Result<(), Fail> {
     let image = normal_root(alloc)?;
     let image = image.as_slice();
     let reads = reads_of(alloc, image)?;
-    for at in 1..reads + 1 {
+    for at in 1..reads.saturating_add(1) {
         let fault = fault_at(alloc, image, image, at)?;
         assert!(rt;
             matches!(fault, StreamError::Read(p, _) if p < 5),
