@@ -1,7 +1,7 @@
 #!/usr/bin/env python3
 """Compares what the program answers of random images with what docs/FORMAT.md says, as bench/rules.py reads it.
 
-usage: fuzz.py [--seed N] [--count N] [--first N] [--dir FOLDER]
+usage: fuzz.py [--seed N] [--count N] [--first N] [--dir FOLDER] [--tool PROGRAM]
 
 An image is made from volumes of all kinds and states, with stale copies, copies that were cut short, and eraseblocks that
 are free, erased, dropped, orphans or unreadable, in a random order. Most images are then changed up to three times: a byte
@@ -11,7 +11,7 @@ Of each image `check`, `list`, `show` and `normalise` have to answer what the ru
 plan is cut after each step: each cut means the old or the new, and the last the new.
 
 Without words there are 500 images (--count) of the seed 1 (--seed). They lie in a new folder below FOLDER (/tmp where it
-is left out), which is removed again. The program is built first where it isn't yet. The last line is
+is left out), which is removed again. Without --tool the program is built first where it isn't yet. The last line is
 'N passed, M failed', and the exit status is 0 where none failed; an image that failed can be made again by its number.
 """
 import argparse
@@ -35,10 +35,11 @@ class Failure(Exception):
     """What was expected of an image, and what came."""
 
 
-def built():
-    """The program, which the launcher builds where it isn't yet."""
-    subprocess.run([LAUNCHER, "--help"], stderr=subprocess.DEVNULL)
-    return TOOL
+def built(tool=None):
+    """The program that is named, or the one that the launcher builds where it isn't yet."""
+    if tool is None:
+        subprocess.run([LAUNCHER, "--help"], stderr=subprocess.DEVNULL)
+    return tool or TOOL
 
 
 class Maker:
@@ -391,12 +392,13 @@ class Case(Runner):
 
 
 def options(usage, count):
-    """The words of a program over random images: --seed, --count and --dir."""
+    """The words of a program over random images or texts."""
     words = argparse.ArgumentParser(description=usage, formatter_class=argparse.RawDescriptionHelpFormatter)
     words.add_argument("--seed", type=int, default=1)
     words.add_argument("--count", type=int, default=count)
-    words.add_argument("--first", type=int, default=0, help="the number of the first image")
+    words.add_argument("--first", type=int, default=0, help="the number of the first image or text")
     words.add_argument("--dir", default="/tmp")
+    words.add_argument("--tool", help="the program; the one that ./ubi_tool starts where it is left out")
     return words.parse_args()
 
 
@@ -421,7 +423,7 @@ def run_cases(words, look):
 
 def main():
     words = options(__doc__, 500)
-    tool = built()
+    tool = built(words.tool)
     answers, failed = run_cases(words, lambda rng, folder: Case(rng, tool, folder).look())
     accepted, cuts = (sum(answer[k] for answer in answers) for k in range(2))
     print(f"{accepted} accepted, {cuts} cuts")

@@ -1,7 +1,7 @@
 #!/usr/bin/env python3
 """Damages an image in every way of some families, and compares each answer with the one that the rules give.
 
-usage: hostile.py [--dir FOLDER] [FAMILY ..]
+usage: hostile.py [--dir FOLDER] [--tool PROGRAM] [FAMILY ..]
 
 The image is crates/ubi_tool/data/root.img: the two copies of a table with one dynamic volume, and its LEBs 0, 1 and 2, as
 `ubinize` writes it. The families, all of which are run where none is named:
@@ -17,8 +17,8 @@ The image is crates/ubi_tool/data/root.img: the two copies of a table with one d
             a pipe, of standard input from a file, and of a terminal: as from its file
 
 What is expected is said here, family by family. The images lie in a new folder below FOLDER (/tmp where it is left out),
-which is removed again. The program is built first where it isn't yet. The last line is 'N passed, M failed', and the exit
-status is 0 where none failed.
+which is removed again. Without --tool the program is built first where it isn't yet. The last line is 'N passed, M failed',
+and the exit status is 0 where none failed.
 """
 import argparse
 import itertools
@@ -283,11 +283,12 @@ class Looker:
 def main():
     words = argparse.ArgumentParser(description=__doc__, formatter_class=argparse.RawDescriptionHelpFormatter)
     words.add_argument("--dir", default="/tmp")
+    words.add_argument("--tool", help="the program; the one that ./ubi_tool starts where it is left out")
     words.add_argument("families", nargs="*", metavar="FAMILY", choices=[*FAMILIES, []])
     words = words.parse_args()
     passed = failed = 0
     with tempfile.TemporaryDirectory(dir=words.dir) as folder:
-        looker = Looker(built(), folder)
+        looker = Looker(built(words.tool), folder)
         for name in words.families or FAMILIES:
             judge, what = {"devices": (looker.is_printed, "runs"), "texts": (looker.is_composed, "texts")}.get(name, (looker.is_right, "images"))
             verdicts = [judge(*case) for case in FAMILIES[name]()]

@@ -1,7 +1,7 @@
 #!/usr/bin/env python3
 """Compares what `compose` answers of random texts with what docs/SPEC-FORMAT.md says, as bench/text_rules.py reads it.
 
-usage: texts.py [--seed N] [--count N] [--first N] [--dir FOLDER]
+usage: texts.py [--seed N] [--count N] [--first N] [--dir FOLDER] [--tool PROGRAM]
 
 A text describes random volumes of all kinds and states: its lines in a random order, so far as the order is free, names and
 hexadecimal digits in random forms, with remarks and empty lines between, the last newline there or not. Three of four texts
@@ -11,7 +11,7 @@ rules give, byte for byte. Then `list` and `extract` of that say what the text s
 without spares and with that of another text. A text that wasn't changed has to read as the volumes that it was made from.
 
 Without words there are 500 texts (--count) of the seed 1 (--seed). They lie in a new folder below FOLDER (/tmp where it is
-left out), which is removed again. The program is built first where it isn't yet. Each cause is counted. The last line is
+left out), which is removed again. Without --tool the program is built first where it isn't yet. Each cause is counted. The last line is
 'N passed, M failed', and the exit status is 0 where none failed; a text that failed can be made again by its number.
 """
 import collections
@@ -285,7 +285,7 @@ class Case(Runner):
 
 def main():
     words = options(__doc__, 500)
-    tool = built()
+    tool = built(words.tool)
     answers, failed = run_cases(words, lambda rng, folder: Case(rng, tool, folder).look())
     for cause, count in sorted(collections.Counter(re.sub(r"=\d+", "", answer) for answer in answers).items()):
         print(f"{count:>6} {cause}")
