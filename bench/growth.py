@@ -12,8 +12,9 @@ of the table, one that is free, and else, in an order that looks random (all KIN
   static    the pieces of one static volume
   reserved  nothing else; but the table's one volume reserves as many eraseblocks
 `compose` takes a text of as many lines: for lebs and pairs `leb` lines of a byte, for one remarks, for volumes `volume`
-lines, for static `bytes` lines of a byte; and for reserved the line of a volume that reserves as many eraseblocks. Outputs go to /dev/null. Images and texts are made in a new folder
-below FOLDER (/tmp where it is left out), up to 512 MiB each, and removed again. The program is built first where it isn't yet.
+lines, for static `bytes` lines of a byte; and for reserved the line of a volume that reserves as many eraseblocks. Outputs
+go to /dev/null. Images and texts are made in a new folder below FOLDER (/tmp where it is left out), up to 512 MiB each, and
+removed again. The program is built first where it isn't yet.
 
 It prints the seconds of the processor (user and system), the least of N runs (3), and the greatest growth: from one size to
 the next, how many times more than n log n. It ends with status 1 where that is above 1.3, in runs of 0.05 s and more.

@@ -289,8 +289,9 @@ def main():
     passed = failed = 0
     with tempfile.TemporaryDirectory(dir=words.dir) as folder:
         looker = Looker(built(words.tool), folder)
+        judges = {"devices": (looker.is_printed, "runs"), "texts": (looker.is_composed, "texts")}
         for name in words.families or FAMILIES:
-            judge, what = {"devices": (looker.is_printed, "runs"), "texts": (looker.is_composed, "texts")}.get(name, (looker.is_right, "images"))
+            judge, what = judges.get(name, (looker.is_right, "images"))
             verdicts = [judge(*case) for case in FAMILIES[name]()]
             wrong = [k for k, right in enumerate(verdicts) if not right]
             print(f"{name}: {len(verdicts)} {what}", *(["wrong:", *wrong[:10]] if wrong else []))

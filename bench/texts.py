@@ -171,7 +171,8 @@ class Mutator:
 
     def spaced(self, lines):
         at = self.place(lines)
-        lines[at] = self.rng.choice((b" " + lines[at], lines[at] + b" ", lines[at].replace(b" ", b"  ", 1), lines[at].replace(b" ", b"\t", 1)))
+        old = lines[at]
+        lines[at] = self.rng.choice((b" " + old, old + b" ", old.replace(b" ", b"  ", 1), old.replace(b" ", b"\t", 1)))
 
     def line_doubled(self, lines):
         lines.insert(self.rng.randrange(len(lines) + 1), lines[self.place(lines)])
@@ -191,7 +192,8 @@ class Mutator:
     def line_added(self, lines):
         rng, number = self.rng, self.known(lines)
         size = rng.choice((1, 2, 3, self.geometry.leb, self.geometry.leb + 1, 2 * self.geometry.leb))
-        forms = (f"damaged {number}", f"updating {number}", f"bytes {number} {size * '5a'}", *(f"leb {number} {lnum} {size * 'a5'}" for lnum in range(5)))
+        lebs = (f"leb {number} {lnum} {size * 'a5'}" for lnum in range(5))
+        forms = (f"damaged {number}", f"updating {number}", f"bytes {number} {size * '5a'}", *lebs)
         lines.insert(rng.randrange(len(lines) // 2, len(lines) + 1), rng.choice(forms).encode("latin-1"))
 
     def volume_added(self, lines):
@@ -241,7 +243,8 @@ class Case(Runner):
 
     def look(self):
         """Compares each answer. Gives the cause of a refusal, or 'composed'."""
-        words = ["compose", self.path, "--out", self.out, *(["--spares", str(self.spares)] if self.spares or self.rng.random() < 0.5 else [])]
+        spares = ["--spares", str(self.spares)] if self.spares or self.rng.random() < 0.5 else []
+        words = ["compose", self.path, "--out", self.out, *spares]
         if len(self.text) > text_rules.most(self.geometry):
             self.expect(words, f"cannot read {self.path}\n", 1)
             return "too long"
