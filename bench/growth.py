@@ -124,7 +124,7 @@ def make(folder, kind, count):
 
 def first_line(words):
     ran = subprocess.run(words, capture_output=True, text=True, env=ENVIRONMENT)
-    return (ran.stdout.splitlines() or [ran.stderr])[0]
+    return (ran.stdout.splitlines() or [ran.stderr])[0][:40]
 
 
 def growth(seconds):

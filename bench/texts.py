@@ -26,7 +26,8 @@ from text_rules import Described
 NUMBERS = ("0", "00", "01", "007", "1", "2", "3", "4", "5", "+1", "-1", "0x1", "1.0", "64", "127", "128", "192", "896", "897",
     "2147483647", "2147483648", "4294967295", "4294967296", "4294967297", "18446744073709551616", "18446744073709551617")
 OTHERS = ("", "#", "x", "dynamic", "static", "Static", "volume", "leb", "LEB", "bytes", "damaged", "updating", "f", "fg", "FF",
-    "000", "\\", "\\x", "\\x4", "\\x4g", "\\X41", "\\x00", "\\x41", "\\x0A", "a" * 127, "a" * 128, "\\xff" * 127, "\\xFF" * 128)
+    "000", "\\x41", "\\x0A", "a" * 127, "a" * 128, "\\xff" * 127, "\\xFF" * 128)
+IN_NAMES = ("\\", "\\x", "\\x4", "\\x4g", "\\X41", "\\x00", "\\x01", "\\xaF", "\\\\", "\\n", "~", "!")
 
 
 def cased(rng, digits):
@@ -34,11 +35,12 @@ def cased(rng, digits):
 
 
 def shown(rng, name):
-    """A name as it may stand in a text: any byte in two digits, and those that may as they are."""
-    plain = ((chr(byte), f"\\x{byte:02x}") for byte in name)
-    may = (0x21 <= byte <= 0x7E and byte != 0x5C for byte in name)
-    return "".join(char if is_plain and rng.random() < 0.9 else "\\x" + cased(rng, escape[2:])
-        for (char, escape), is_plain in zip(plain, may))
+    """A name as it may stand in a text: any byte in two digits, and most of those that may as they are."""
+    def of(byte):
+        is_plain = 0x21 <= byte <= 0x7E and byte != 0x5C and rng.random() < 0.9
+        return chr(byte) if is_plain else "\\x" + cased(rng, f"{byte:02x}")
+
+    return "".join(map(of, name))
 
 
 class Writer:
@@ -148,10 +150,15 @@ class Mutator:
         at = rng.randrange(len(word) + 1)
         return rng.choice((rng.choice(OTHERS).encode(), word + byte, word[:-1], word[:at] + byte + word[at + 1 :], word.swapcase()))
 
+    def other_name(self, word):
+        at = self.rng.randrange(len(word) + 1)
+        return word[:at] + self.rng.choice(IN_NAMES).encode() + word[at:]
+
     def word_changed(self, lines):
         def change(words):
             at = self.rng.randrange(len(words))
-            words[at] = self.other_word(words[at])
+            is_name = words[0] == b"volume" and at == 6
+            words[at] = self.other_name(words[at]) if is_name and self.rng.random() < 0.7 else self.other_word(words[at])
 
         self.change_words(lines, change)
 
