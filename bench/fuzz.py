@@ -1,7 +1,7 @@
 #!/usr/bin/env python3
 """Compares what the program answers of random images with what docs/FORMAT.md says, as bench/rules.py reads it.
 
-usage: fuzz.py [--seed N] [--count N] [--first N] [--dir FOLDER]
+usage: fuzz.py [--seed N] [--count N] [--first N] [--dir FOLDER] [--tool PROGRAM]
 
 An image is made from volumes of all kinds and states, with stale copies, copies that were cut short, and eraseblocks that
 are free, erased, dropped, orphans or unreadable, in a random order. Most images are then changed up to three times: a byte
@@ -11,7 +11,7 @@ Of each image `check`, `list`, `show` and `normalise` have to answer what the ru
 plan is cut after each step: each cut means the old or the new, and the last the new.
 
 Without words there are 500 images (--count) of the seed 1 (--seed). They lie in a new folder below FOLDER (/tmp where it
-is left out), which is removed again. The program is built first where it isn't yet. The last line is
+is left out), which is removed again. Without --tool the program is built first where it isn't yet. The last line is
 'N passed, M failed', and the exit status is 0 where none failed; an image that failed can be made again by its number.
 """
 import argparse
@@ -35,10 +35,11 @@ class Failure(Exception):
     """What was expected of an image, and what came."""
 
 
-def built():
-    """The program, which the launcher builds where it isn't yet."""
-    subprocess.run([LAUNCHER, "--help"], stderr=subprocess.DEVNULL)
-    return TOOL
+def built(tool=None):
+    """The program that is named, or the one that the launcher builds where it isn't yet."""
+    if tool is None:
+        subprocess.run([LAUNCHER, "--help"], stderr=subprocess.DEVNULL)
+    return tool or TOOL
 
 
 class Maker:
@@ -242,17 +243,11 @@ def spec_of(image):
             yield from (f"bytes {slot} {content[at : at + 100].hex()}\n" for at in range(0, len(content), 100))
 
 
-class Case:
-    """An image, and what the program is to answer of it."""
+class Runner:
+    """Runs the program over files of a folder, and compares what it answers."""
 
-    def __init__(self, rng, tool, folder):
-        self.rng, self.tool, self.folder = rng, tool, folder
-        maker = Maker(rng)
-        self.geometry = maker.geometry
-        self.mutator = Mutator(rng, self.geometry)
-        self.blocks = maker.blocks
-        self.image = self.mutator.mutate(self.blocks)
-        self.path = self.put("image", self.image)
+    def __init__(self, tool, folder, geometry):
+        self.tool, self.folder, self.geometry = tool, folder, geometry
         self.out = os.path.join(folder, "out")
 
     def put(self, name, data):
@@ -278,6 +273,29 @@ class Case:
             raise Failure(f"{words[0]} answers {came[:2]} where {(lines, status)} is right, and writes "
                 f"{'what is right' if came[2] == written else 'something else'}; {ran.stderr.decode()}")
 
+    def look_read(self, path, meaning, number):
+        """Compares what is extracted of a volume with what an image means."""
+        words = ["extract", path, "--id", str(number), "--out", self.out]
+        try:
+            text = meaning.read_volume(number)
+        except Refused as refused:
+            self.expect(words, f"refused {refused}\n", 1)
+            return
+        self.expect(words, f"bytes {len(text)}\n", 0, text)
+
+
+class Case(Runner):
+    """An image, and what the program is to answer of it."""
+
+    def __init__(self, rng, tool, folder):
+        maker = Maker(rng)
+        super().__init__(tool, folder, maker.geometry)
+        self.rng = rng
+        self.mutator = Mutator(rng, self.geometry)
+        self.blocks = maker.blocks
+        self.image = self.mutator.mutate(self.blocks)
+        self.path = self.put("image", self.image)
+
     def look(self):
         """Compares each answer. Gives whether the image is accepted, and how many cuts were looked at."""
         try:
@@ -296,7 +314,7 @@ class Case:
         self.expect(["compose", self.put("spec", "".join(spec_of(image)).encode()), "--out", self.out], blocks, 0, normal)
         self.expect(["same", self.path, self.put("normal", normal)], "same\n", 0)
         self.look_show(image)
-        self.look_extract(image)
+        self.look_read(self.path, image, self.rng.choice((*image.records, 127)))
         self.look_same(image, None)
         return True, self.look_change(image)
 
@@ -309,16 +327,6 @@ class Case:
         ec, vid = block[:64].hex(), block[self.geometry.vid : self.geometry.vid + 64].hex()
         lines = f"ec {image.found.ecs[p][0]} {ec}\nvid {image.found.vids[p][0]} {vid}\n"
         self.expect(["show", self.path, "--block", str(p)], lines, 0)
-
-    def look_extract(self, image):
-        number = self.rng.choice((*image.records, 127))
-        words = ["extract", self.path, "--id", str(number), "--out", self.out]
-        try:
-            text = image.read_volume(number)
-        except Refused as refused:
-            self.expect(words, f"refused {refused}\n", 1)
-            return
-        self.expect(words, f"bytes {len(text)}\n", 0, text)
 
     def look_same(self, image, refusal):
         """Compares with another image that was made from the same eraseblocks."""
@@ -384,12 +392,13 @@ class Case:
 
 
 def options(usage, count):
-    """The words of a program over random images: --seed, --count and --dir."""
+    """The words of a program over random images or texts."""
     words = argparse.ArgumentParser(description=usage, formatter_class=argparse.RawDescriptionHelpFormatter)
     words.add_argument("--seed", type=int, default=1)
     words.add_argument("--count", type=int, default=count)
-    words.add_argument("--first", type=int, default=0, help="the number of the first image")
+    words.add_argument("--first", type=int, default=0, help="the number of the first image or text")
     words.add_argument("--dir", default="/tmp")
+    words.add_argument("--tool", help="the program; the one that ./ubi_tool starts where it is left out")
     return words.parse_args()
 
 
@@ -399,20 +408,26 @@ def finish(passed, failed):
     sys.exit(1 if failed else 0)
 
 
-def main():
-    words = options(__doc__, 500)
-    tool = built()
-    passed = failed = accepted = cuts = 0
+def run_cases(words, look):
+    """Calls LOOK with each case's random numbers and a folder. Gives what it answered, and how many failed."""
+    answers, failed = [], 0
     with tempfile.TemporaryDirectory(dir=words.dir) as folder:
         for k in range(words.first, words.first + words.count):
             try:
-                is_accepted, looked = Case(random.Random(f"{words.seed} {k}"), tool, folder).look()
-                passed, accepted, cuts = passed + 1, accepted + is_accepted, cuts + looked
+                answers.append(look(random.Random(f"{words.seed} {k}"), folder))
             except Failure as failure:
-                print(f"image {k} of seed {words.seed}: {failure}")
+                print(f"number {k} of seed {words.seed}: {failure}")
                 failed += 1
+    return answers, failed
+
+
+def main():
+    words = options(__doc__, 500)
+    tool = built(words.tool)
+    answers, failed = run_cases(words, lambda rng, folder: Case(rng, tool, folder).look())
+    accepted, cuts = (sum(answer[k] for answer in answers) for k in range(2))
     print(f"{accepted} accepted, {cuts} cuts")
-    finish(passed, failed)
+    finish(len(answers), failed)
 
 
 if __name__ == "__main__":

@@ -1,7 +1,7 @@
 #!/usr/bin/env python3
 """Damages an image in every way of some families, and compares each answer with the one that the rules give.
 
-usage: hostile.py [--dir FOLDER] [FAMILY ..]
+usage: hostile.py [--dir FOLDER] [--tool PROGRAM] [FAMILY ..]
 
 The image is crates/ubi_tool/data/root.img: the two copies of a table with one dynamic volume, and its LEBs 0, 1 and 2, as
 `ubinize` writes it. The families, all of which are run where none is named:
@@ -11,12 +11,14 @@ The image is crates/ubi_tool/data/root.img: the two copies of a table with one d
   lengths   each length from 0 on: refused S1 Length where it isn't whole eraseblocks, else the LEBs that are left
   faults    each rule of each header and record broken, with a right check, wherever it can be
   pairs     each two of these: the cause of the lower eraseblock comes first, and those of the table last
+  texts     of `compose`: each form of line with each fault, each two faults in one text, each byte in each place that has
+            a rule of its own, and right texts at the limits; the cause of the first line comes first (text_faults.py)
   devices   character devices without an end, for each file that a command reads: cannot read; and the image by way of
             a pipe, of standard input from a file, and of a terminal: as from its file
 
 What is expected is said here, family by family. The images lie in a new folder below FOLDER (/tmp where it is left out),
-which is removed again. The program is built first where it isn't yet. The last line is 'N passed, M failed', and the exit
-status is 0 where none failed.
+which is removed again. Without --tool the program is built first where it isn't yet. The last line is 'N passed, M failed',
+and the exit status is 0 where none failed.
 """
 import argparse
 import itertools
@@ -26,7 +28,9 @@ import subprocess
 import tempfile
 
 import rules
-from fuzz import ROOT, built, finish
+import text_faults
+from fuzz import ROOT, Failure, Runner, built, finish
+from text_rules import Described
 
 GEOMETRY = rules.Geometry(512, 64, 64, 128, 1048576)
 PEB, LEB = GEOMETRY.peb, GEOMETRY.leb
@@ -209,6 +213,7 @@ FAMILIES = {
     "lengths": lengths,
     "faults": faults,
     "pairs": pairs,
+    "texts": text_faults.texts,
     "devices": devices,
 }
 
@@ -219,6 +224,7 @@ class Looker:
     def __init__(self, tool, folder):
         self.tool = tool
         self.path, self.out = os.path.join(folder, "image"), os.path.join(folder, "out")
+        self.runner = Runner(tool, folder, text_faults.GEOMETRY)
 
     def run(self, command, *words):
         ran = subprocess.run([self.tool, command, self.path, *words, *GEOMETRY.words()], capture_output=True, text=True)
@@ -240,6 +246,26 @@ class Looker:
         with open(self.out, "rb") as file:
             return extracted == (f"bytes {len(expected)}\n", 0) and file.read() == expected
 
+    def is_composed(self, text, spares, expected):
+        """Whether a text is refused with a line, or composed into an image whose volumes are listed so."""
+        words = ["compose", self.runner.put("text", text), "--out", self.runner.out, "--spares", str(spares)]
+        try:
+            image = Described(self.runner.geometry, text).image(spares)
+        except rules.Refused as refused:
+            image = f"refused {refused}\n"
+        try:
+            if isinstance(expected, str):
+                self.runner.expect(words, expected, 1)
+                return image == expected
+            self.runner.expect(words, f"blocks {len(image) // self.runner.geometry.peb}\n", 0, image)
+            front = next(rules.list_lines(rules.Meaning(self.runner.geometry, {}, {})))
+            lines = "".join(f"{line}\n" for line in (*expected, f"volumes {len(expected)}"))
+            self.runner.expect(["list", self.runner.put("composed", image)], front + lines, 0)
+        except Failure as failure:
+            print(failure)
+            return False
+        return True
+
     def is_printed(self, words, given, expected):
         """Whether words print a text, and write no file, over standard input: bytes in a pipe, a path or a terminal."""
         out = self.out + ".none"
@@ -257,16 +283,18 @@ class Looker:
 def main():
     words = argparse.ArgumentParser(description=__doc__, formatter_class=argparse.RawDescriptionHelpFormatter)
     words.add_argument("--dir", default="/tmp")
+    words.add_argument("--tool", help="the program; the one that ./ubi_tool starts where it is left out")
     words.add_argument("families", nargs="*", metavar="FAMILY", choices=[*FAMILIES, []])
     words = words.parse_args()
     passed = failed = 0
     with tempfile.TemporaryDirectory(dir=words.dir) as folder:
-        looker = Looker(built(), folder)
+        looker = Looker(built(words.tool), folder)
+        judges = {"devices": (looker.is_printed, "runs"), "texts": (looker.is_composed, "texts")}
         for name in words.families or FAMILIES:
-            judge = looker.is_printed if name == "devices" else looker.is_right
+            judge, what = judges.get(name, (looker.is_right, "images"))
             verdicts = [judge(*case) for case in FAMILIES[name]()]
             wrong = [k for k, right in enumerate(verdicts) if not right]
-            print(f"{name}: {len(verdicts)} {'runs' if name == 'devices' else 'images'}", *(["wrong:", *wrong[:10]] if wrong else []))
+            print(f"{name}: {len(verdicts)} {what}", *(["wrong:", *wrong[:10]] if wrong else []))
             passed, failed = passed + len(verdicts) - len(wrong), failed + len(wrong)
     finish(passed, failed)
 

@@ -294,19 +294,42 @@ def is_counted(record, lnum):
     return record.kind == 2 or lnum < record.reserved
 
 
-class Image:
-    """What an accepted image means: its records, and what each volume reads; and what is said of its eraseblocks.
+class Meaning:
+    """What is composed, and what an accepted image means: the records of volumes by number, and what each volume reads.
 
     A content is 'updating', 'damaged', the bytes of a static volume, or the LEBs of a dynamic one that aren't blank.
     """
 
+    def __init__(self, geometry, records, contents):
+        self.geometry, self.records, self.contents = geometry, records, contents
+
+    def meaning(self):
+        """What is compared: the records but for what no field says, and the contents."""
+        return self.records, self.contents
+
+    def read_volume(self, number):
+        if number not in self.records:
+            raise Refused("L1 NoVolume")
+        record, content = self.records[number], self.contents[number]
+        if content == "updating":
+            raise Refused("L2 Updating")
+        if content == "damaged":
+            raise Refused("L3 Damaged")
+        if record.kind == 2:
+            return content
+        blank = b"\xFF" * record.usable(self.geometry)
+        return b"".join(content.get(lnum, blank) for lnum in range(record.reserved))
+
+
+class Image(Meaning):
+    """An accepted image: what it means, and what is said of its eraseblocks."""
+
     def __init__(self, geometry, image):
-        self.geometry = geometry
         self.found = Blocks(geometry, image)
         self.winners = self.found.winners()
-        self.records = read_table(self.found, self.winners)
+        super().__init__(geometry, read_table(self.found, self.winners), {})
         self.check_winners()
-        self.contents = {number: self.content(number, record) for number, record in self.records.items()}
+        self.contents |= {number: self.content(number, record) for number, record in self.records.items()}
         self.states = [self.state(p) for p in range(len(self.found.blocks))]
         sqnums = [h.sqnum for p, (_, h) in enumerate(self.found.vids) if p in self.found.members or p in self.found.dropped]
         self.top_sqnum = max(sqnums, default=0)
@@ -352,38 +375,21 @@ class Image:
             return "stale"
         return "table" if header.volume == LAYOUT else "used"
 
-    def meaning(self):
-        """What is compared: the records but for what no field says, and the contents."""
-        return self.records, self.contents
-
-    def read_volume(self, number):
-        if number not in self.records:
-            raise Refused("L1 NoVolume")
-        record, content = self.records[number], self.contents[number]
-        if content == "updating":
-            raise Refused("L2 Updating")
-        if content == "damaged":
-            raise Refused("L3 Damaged")
-        if record.kind == 2:
-            return content
-        blank = b"\xFF" * record.usable(self.geometry)
-        return b"".join(content.get(lnum, blank) for lnum in range(record.reserved))
-
 
 def shown(name):
     return "".join(chr(b) if 0x21 <= b <= 0x7E and b != 0x5C else f"\\x{b:02x}" for b in name)
 
 
-def list_lines(image):
-    g = image.geometry
+def list_lines(meaning):
+    g = meaning.geometry
     yield f"geometry peb={g.peb} page={g.page} vid={g.vid} data={g.data} leb={g.leb} slots={g.slots} pebs={g.pebs}\n"
-    for number, r in sorted(image.records.items()):
-        content = image.contents[number]
+    for number, r in sorted(meaning.records.items()):
+        content = meaning.contents[number]
         how = content if isinstance(content, str) else f"bytes={len(content)}" if r.kind == 2 else f"lebs={len(content)}"
         kind = {1: "dynamic", 2: "static"}[r.kind]
         sizes = f"reserved={r.reserved} alignment={r.alignment} usable={r.usable(g)} flags={r.flags:02x}"
         yield f"volume {number} {kind} {sizes} {how} name={shown(r.name)}\n"
-    yield f"volumes {len(image.records)}\n"
+    yield f"volumes {len(meaning.records)}\n"
 
 
 def check_lines(image):
@@ -436,12 +442,12 @@ def volume_blocks(geometry, number, record, content):
             yield Vid(2, 0, 0, number, lnum, len(share), len(shares), pad, check(share), 0), share
 
 
-def normal_image(image):
-    geometry = image.geometry
-    table = put_table(geometry, image.records)
+def normal_image(meaning):
+    geometry = meaning.geometry
+    table = put_table(geometry, meaning.records)
     parts = [(Vid(1, 0, 5, LAYOUT, copy, 0, 0, 0, 0, 0), table) for copy in range(2)]
-    for number, record in sorted(image.records.items()):
-        parts += volume_blocks(geometry, number, record, image.contents[number])
+    for number, record in sorted(meaning.records.items()):
+        parts += volume_blocks(geometry, number, record, meaning.contents[number])
     return b"".join(put_block(geometry, put_ec(geometry), put_vid(header), data) for header, data in parts)
 
 

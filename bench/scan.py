@@ -36,14 +36,14 @@ MIDDLE = 2 ** 18
 SIZES = (2 ** 16, 2 ** 18, 2 ** 20)
 
 
-def run(words, folder):
-    """The processor seconds of a program, the least of three runs, and the peak of memory, in bytes, the greatest.
+def run(words, folder, runs=3):
+    """The processor seconds of a program, the least of some runs, and the peak of memory, in bytes, the greatest.
 
     GNU time starts it, since a program that Python starts has Python's own memory in its peak.
     """
     seconds, peaks = [], []
     told = os.path.join(folder, "peak")
-    for _ in range(3):
+    for _ in range(runs):
         quiet = {"stdout": subprocess.DEVNULL, "stderr": subprocess.DEVNULL}
         child = subprocess.Popen([TIME, "--quiet", "-f", "%M", "-o", told, *words], env=ENVIRONMENT, **quiet)
         _, status, usage = os.wait4(child.pid, 0)

@@ -1,7 +1,7 @@
 #!/usr/bin/env python3
 """Refuses each growth of memory of the program in turn, over random images.
 
-usage: starve.py [--seed N] [--count N] [--first N] [--dir FOLDER]
+usage: starve.py [--seed N] [--count N] [--first N] [--dir FOLDER] [--tool PROGRAM]
 
 The images are those of fuzz.py that are accepted. Each command is run over an image again and again: of the first run the
 first growth is refused, of the second the second, and so on until a run meets no refusal. Each run that meets one has to
@@ -9,9 +9,9 @@ print `out of memory` with the status 1, and to leave the output file as it was:
 with ample memory. bench/refuse.sh does the same with the program's tests.
 
 Without words there are 20 images (--count) of the seed 1 (--seed). They lie in a new folder below FOLDER (/tmp where it is
-left out), which is removed again. The program is built first where it isn't yet. It needs a C compiler (cc, or what CC
-names), for a few lines that stand before the C library's malloc and realloc. The last line is 'N passed, M failed', of runs,
-and the exit status is 0 where none failed.
+left out), which is removed again. Without --tool the program is built first where it isn't yet. It needs a C compiler (cc,
+or what CC names), for a few lines that stand before the C library's malloc and realloc. The last line is 'N passed,
+M failed', of runs, and the exit status is 0 where none failed.
 """
 import os
 import random
@@ -67,7 +67,7 @@ def main():
     passed = failed = images = 0
     number = words.first
     with tempfile.TemporaryDirectory(dir=words.dir) as folder:
-        tool, library = built(), refusing(folder)
+        tool, library = built(words.tool), refusing(folder)
         while images < words.count:
             case = Starved(random.Random(f"{words.seed} {number}"), tool, folder)
             number += 1

@@ -1,0 +1,179 @@
+#!/usr/bin/env python3
+"""Measures how the processor time of each command grows, over images that a stranger may have made.
+
+usage: growth.py [--dir FOLDER] [--blocks N] [--runs N] [KIND ..]
+
+The images have 2^14, 2^16, 2^18 and 2^20 eraseblocks (--blocks is the most) of 512 bytes with pages of 64: the two copies
+of the table, one that is free, and else, in an order that looks random (all KINDs where none is named):
+  lebs      a LEB of one dynamic volume each, written as copies
+  pairs     the same, but two of each LEB, so that the check of all data is taken
+  one       members of one LEB
+  volumes   LEBs of 128 volumes, of which the table has two
+  static    the pieces of one static volume
+  reserved  nothing else; but the table's one volume reserves as many eraseblocks
+`compose` takes a text of as many lines: for lebs and pairs `leb` lines of a byte, for one remarks, for volumes `volume`
+lines, for static `bytes` lines of a byte; and for reserved the line of a volume that reserves as many eraseblocks. Outputs
+go to /dev/null. Images and texts are made in a new folder below FOLDER (/tmp where it is left out), up to 512 MiB each, and
+removed again. The program is built first where it isn't yet.
+
+It prints the seconds of the processor (user and system), the least of N runs (3), and the greatest growth: from one size to
+the next, how many times more than n log n. It ends with status 1 where that is above 1.3, in runs of 0.05 s and more.
+"""
+import argparse
+import math
+import os
+import random
+import shutil
+import subprocess
+import sys
+import tempfile
+
+import image
+from fuzz import built
+from normalise import LAYOUT, record, static_header
+from scan import ENVIRONMENT, run
+
+SIZES = tuple(2**k for k in (14, 16, 18, 20))
+MOST, LEAST_SECONDS = 1.3, 0.05
+GEOMETRY = ("--peb", "512", "--page", "64")
+LEB = image.PEB - image.DATA
+EC = image.counter_header(7)
+
+
+def block(vid=b"", data=b""):
+    front = (EC + vid).ljust(image.DATA, b"\xFF")
+    return (front + data).ljust(image.PEB, b"\xFF")
+
+
+def mixed(count):
+    order = list(range(count))
+    random.Random(count).shuffle(order)
+    return order
+
+
+def members(kind, count):
+    """The eraseblocks of users' volumes."""
+    made = {"lebs": "copies", "pairs": "pairs", "one": "one-mixed"}.get(kind)
+    if made:
+        return image.eraseblocks(made, count)
+    if kind == "volumes":
+        return (block(image.identifier_header(k % 128, k // 128, k + 1)) for k in mixed(count))
+    if kind == "static":
+        texts = ((k, k.to_bytes(4, "big") * (LEB // 4)) for k in mixed(count))
+        return (block(static_header(k, count, text), text) for k, text in texts)
+    return ()
+
+
+def records(kind, count):
+    """The table's two records."""
+    if kind == "volumes":
+        return b"".join(record(name, count // 128 + 1, 1) for name in (b"zero", b"one"))
+    return record(b"root", 1 if kind == "one" else count, 2 if kind == "static" else 1) + image.sealed(bytes(168))
+
+
+def blocks(kind, count):
+    for copy in range(2):
+        yield block(image.identifier_header(LAYOUT, copy, 0, compat=5), records(kind, count - 3))
+    yield from members(kind, count - 3)
+    yield block()
+
+
+def text(kind, count):
+    """The lines of a text of `compose`."""
+    if kind == "volumes":
+        return (f"volume {k} dynamic 1 1 00 n{k}\n" for k in mixed(count))
+    heading = f"volume 0 {'static' if kind == 'static' else 'dynamic'} {count - 3} 1 00 root\n"
+    lebs = (f"leb 0 {k} 5a\n" for k in mixed(count - 3))
+    lines = {
+        "lebs": lebs,
+        "pairs": lebs,
+        "one": ("# A remark.\n" for _ in range(count)),
+        "static": ("bytes 0 5a\n" for _ in range(count - 3)),
+        "reserved": (),
+    }
+    return (line for part in ((heading,), lines[kind]) for line in part)
+
+
+KINDS = ("lebs", "pairs", "one", "volumes", "static", "reserved")
+
+
+def commands(path, spec, new):
+    """The words of each command."""
+    out = ("--out", "/dev/null")
+    yield "list", path
+    yield "check", path
+    yield "show", path, "--block", "1"
+    yield "extract", path, "--id", "0", *out
+    yield "compose", spec, *out
+    yield "normalise", path, *out
+    yield "same", path, path
+    yield "change", path, "--id", "0", "--lnum", "0", "--from", new, *out
+
+
+def make(folder, kind, count):
+    """The paths of an image, a text, and the bytes of a change."""
+    paths = [os.path.join(folder, name) for name in ("image", "text", "new")]
+    with open(paths[0], "wb") as it:
+        it.writelines(blocks(kind, count))
+    with open(paths[1], "w", encoding="ascii") as it:
+        it.writelines(text(kind, count))
+    with open(paths[2], "wb") as it:
+        it.write(bytes(image.PAGE))
+    return paths
+
+
+def first_line(words):
+    ran = subprocess.run(words, capture_output=True, text=True, env=ENVIRONMENT)
+    return (ran.stdout.splitlines() or [ran.stderr])[0][:40]
+
+
+def growth(seconds):
+    """The greatest growth from one size to the next, and whether it is above what is allowed in runs that are long enough."""
+    most, above = 0.0, False
+    for (count, before), (more, after) in zip(seconds.items(), list(seconds.items())[1:]):
+        times = after / before / (more * math.log(more) / (count * math.log(count)))
+        most, above = max(most, times), above or (times > MOST and before >= LEAST_SECONDS)
+    return most, above
+
+
+def measure(tool, folder, kind, sizes, runs):
+    """Prints what each command takes, and gives the commands whose time grows too fast."""
+    seconds, said = {}, {}
+    for count in sizes:
+        paths = make(folder, kind, count)
+        for command in commands(*paths):
+            words = [tool, *command, *GEOMETRY]
+            seconds.setdefault(command[0], {})[count] = run(words, folder, runs)[0]
+            said[command[0]] = first_line(words)
+    fast = []
+    for name, of in seconds.items():
+        most, above = growth(of)
+        print(f"{kind:<9} {name:<10}", *(f"{second:>9.3f}" for second in of.values()), f"{most:>8.2f}   {said[name]}", flush=True)
+        fast += [f"{name} of {kind}"] if above else []
+    return fast
+
+
+def main():
+    words = argparse.ArgumentParser(description=__doc__, formatter_class=argparse.RawDescriptionHelpFormatter)
+    words.add_argument("--dir", default="/tmp")
+    words.add_argument("--blocks", type=int, default=SIZES[-1])
+    words.add_argument("--runs", type=int, default=3)
+    words.add_argument("kinds", nargs="*", metavar="KIND", choices=[*KINDS, []])
+    words = words.parse_args()
+    tool = built()
+    sizes = [size for size in SIZES if size <= words.blocks]
+    folder = tempfile.mkdtemp(dir=words.dir)
+    fast = []
+    print(f"{'kind':<9} {'command':<10}", *(f"{size:>9,}" for size in sizes), "  growth   first line, of the most")
+    try:
+        for kind in words.kinds or KINDS:
+            fast += measure(tool, folder, kind, sizes, words.runs)
+    finally:
+        shutil.rmtree(folder)
+    for name in fast:
+        print(f"grows too fast: {name}")
+    sys.exit(1 if fast else 0)
+
+
+if __name__ == "__main__":
+    main()
