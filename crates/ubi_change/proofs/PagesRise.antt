@@ -48,9 +48,6 @@ less_order p m n (step.Program q b ys ∷ xs) l o = (
     by_page (inl h) less = inl (h.0, (let k = h.1 in omega arith), h.2)
     by_page (inr h) less = inr (h.0, (let k = h.1 in omega arith), less h.2)
 
-same_erase : (p q : ℕ) → step.Erase q ≡ step.Erase p → q ≡ p
-same_erase p q e = cc
-
 same_place : (p q a b : ℕ) (xs ys : List ℕ) → step.Program q b ys ≡ step.Program p a xs → (q ≡ p) × (b ≡ a)
 same_place p q a b xs ys e = (cc, cc)
 

@@ -1,10 +1,10 @@
 -- What is found out on the way to a plan: which cause stands, and on which eraseblocks the steps work.
-use Rattle.std.proofs.Common.{◌≡◌, ◌≢◌, ℕ, ◌%◌, ◌^◌, ◌<◌, Bool, true, false, List, [], ◌∷◌, ◌++◌, length, refl, ap, ap₂, sym, ◌∙◌, subst, arith}
+use Rattle.std.proofs.Common.{◌≡◌, ◌≢◌, ℕ, ◌<◌, Bool, true, false, List, [], ◌∷◌, ◌++◌, length, refl, ap, ap₂, sym, ◌∙◌, subst, arith}
 use Rattle.std.specs.Prelude.{None, Option, Some, option_map}
 use Rattle.std.specs.Bool.{then_some}
 use Rattle.std.specs.FinMap as finite
 use Rattle.std.specs.Option.{option_map_or}
-use Rattle.ubi_media.specs.Geometry.{IsGeometry, Sizes}
+use Rattle.ubi_media.specs.Geometry.{Sizes}
 use Rattle.ubi_media.specs.Record.{data_pad}
 use Rattle.ubi_media.specs.declared.record.VolumeRecord.{VolumeRecord}
 use Rattle.ubi_media.specs.declared.refusal.Refusal.{Refusal}
@@ -133,12 +133,6 @@ module _ (image : Image) (a : Whole) (att : IsAttached image a) (id lnum : ℕ) 
 
         no_cause : IsAllowed s bs a v.entry id lnum new
         no_cause = is_allowed s bs a v.entry id lnum new none_stands
-
-        pub is_paged : length new % s.page ≡ 0
-        is_paged = no_cause.is_new.paged
-
-        pub is_short : IsGeometry s → length new < 2 ^ 31
-        is_short g = let l = no_cause.is_new.short in let p = g.peb_to in omega arith
 
       -- the steps are those of the plan
       pub steps_are : (on : Places) → ArePlaces s bs a id lnum on → (t : Target)

@@ -10,7 +10,7 @@ use Rattle.ubi_media.specs.declared.ec.EcHeader.{EcHeader}
 use Rattle.ubi_media.specs.declared.vid.VidHeader.{VidHeader}
 use Rattle.ubi_scan.specs.Image.{block, ec_area}
 use Rattle.ubi_volume.specs.Attached.{Whole}
-use Rattle.ubi_change.specs.Plan.{next_ec, atomic_copy, mount, program_header, program_text, release, renew}
+use Rattle.ubi_change.specs.Plan.{next_ec, mount, program_header, release, renew}
 use Rattle.ubi_change.specs.Takeable.{ec_at, is_clean, is_worn}
 use Rattle.ubi_change.specs.declared.step.Step.{Step}
 use Rattle.ubi_change.specs.declared.step.Step.TheVariants as step
@@ -67,14 +67,3 @@ module _ (s : Sizes) (bs : List (List ℕ)) (a : Whole) where
   release_pushed old now g p e ec same fresh header put =
       put ∙ ap₂ (λ z x. old ++ renew z p x) same header
       ∙ ap (λ b. old ++ cond b [] (renew s p (next_ec a.scan ec))) (sym fresh)
-
-  -- the parts of a copy
-  pub copy_pushed : (old first second now : List Step) (g : Sizes) (b : ℕ) (h : VidHeader) (new : List ℕ) (p : ℕ)
-      (ec : Option EcHeader) → g ≡ s
-      → first ≡ old ++ mount s bs a b h → second ≡ first ++ program_text g b new → now ≡ second ++ release s bs a p ec
-      → now ≡ old ++ atomic_copy s bs a b h new p ec
-  copy_pushed old first second now g b h new p ec same mounted written released =
-      released
-      ∙ ap (λ x. x ++ release s bs a p ec) (written ∙ ap₂ (λ x z. x ++ program_text z b new) mounted same
-      ∙ append_assoc old (mount s bs a b h) (program_text s b new))
-      ∙ append_assoc old (mount s bs a b h ++ program_text s b new) (release s bs a p ec)

@@ -3,18 +3,13 @@ use Rattle.std.proofs.Common.{◌≡◌, ℕ, zero, suc, ◌+◌, Bool, true, fa
 use Rattle.std.specs.Prelude.{◌&&◌, filter}
 use Rattle.std.specs.List.{range_with_len}
 use Rattle.std.proofs.lemmas.List.Elements.{filter-append}
-use Rattle.ubi_change.specs.inner.Making.{first_two, joined, with_next}
+use Rattle.ubi_change.specs.inner.Making.{first_two, with_next}
 use Rattle.ubi_change.specs.declared.taking.FirstTwo.{FirstTwo}
 
 pub two_more : (xs : List ℕ) (p : ℕ) → with_next (first_two xs) p ≡ first_two (xs ++ p ∷ [])
 two_more [] p = refl
 two_more (x ∷ []) p = refl
 two_more (x ∷ y ∷ xs) p = refl
-
-pub two_of_both : (xs ys : List ℕ) → joined (first_two xs) (first_two ys) ≡ first_two (xs ++ ys)
-two_of_both [] ys = refl
-two_of_both (x ∷ []) ys = refl
-two_of_both (x ∷ y ∷ xs) ys = refl
 
 range_more : (a n : ℕ) → range_with_len a (n + 1) ≡ range_with_len a n ++ (a + n) ∷ []
 range_more a zero = ap (λ k. k ∷ []) (omega arith)

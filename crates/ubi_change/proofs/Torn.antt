@@ -23,13 +23,6 @@ same_true (x ∷ xs) (y ∷ ys) e = by_test (nat_eq x y) refl e (same_true xs ys
     by_test true h e rest = let same : x ≡ y = (grind (arith, nat_tests)) in ap₂ (λ u v. u ∷ v) same (rest e)
     by_test false h e rest = absurd (cc)
 
-true_same : (xs : List ℕ) → same_bytes xs xs ≡ true
-true_same [] = refl
-true_same (x ∷ xs) = ap (λ b. b && same_bytes xs xs) (one x) ∙ true_same xs
-  where
-    one : (x : ℕ) → nat_eq x x ≡ true
-    one x = grind (arith, nat_tests)
-
 -- the first number of a range that passes a test
 pub record IsFirst (p : ℕ → Bool) (a n k : ℕ) : Type 0 where
   pub low : a ≤ k

@@ -18,7 +18,7 @@ use Rattle.ubi_media.specs.declared.record.VolumeRecord.{VolumeRecord}
 use Rattle.ubi_scan.specs.Image.{image_of}
 use Rattle.ubi_table.specs.Records.{Records}
 use Rattle.ubi_volume.specs.Extract.{extent_of, leb_bytes, share_len}
-use Rattle.ubi_volume.specs.Meant.{Fits, IsVolume, KeepsNoBlank, Meant, records_of, share}
+use Rattle.ubi_volume.specs.Meant.{Fits, IsVolume, KeepsNoBlank, Meant, share}
 use Rattle.ubi_volume.specs.Places.{ArePlaces, Placed, case_of}
 use Rattle.ubi_volume.specs.Reading.{leb_text}
 use Rattle.ubi_volume.specs.declared.content.Content.{Content}
@@ -201,10 +201,6 @@ leb_same s p q id size bytes x y n m at bt long one other same =
 
 module _ (s : Sizes) (p q : Placed) (x y : List ℕ) (h : ArePlaces (image_of s x) p)
     (k : ArePlaces (image_of s y) q) where
-  -- equal meanings have equal records
-  pub equal_records : h.meaning ≡ k.meaning → p.records.of ≡ q.records.of
-  equal_records same = ap (λ (t : Records). t.of) (h.records ∙ ap records_of same ∙ sym k.records)
-
   -- one volume that reads another thing
   module _ (same : p.records ≡ q.records) (n : ℕ) (e : ℕ × VolumeRecord)
       (inside : n < length (finite.entries p.records.of)) (is : e ≡ get_or (finite.entries p.records.of) n e) where

@@ -20,9 +20,6 @@ module _ (s : Sizes) (bs : List (List ℕ)) where
   pub record NoneDecides (c : ℕ) : Type 0 where
     pub each : (d : ℕ) → d < c → IsCopyTable s bs d None
 
-  pub none_first : NoneDecides 0
-  none_first = record { each = λ d l. absurd (omega arith) }
-
   pub none_more : (c : ℕ) → NoneDecides c → IsCopyTable s bs c None → NoneDecides (c + 1)
   none_more c h here = record {
     each = λ d l. elim (cases_order d c) [

@@ -8,7 +8,6 @@ use Rattle.std.specs.declared.alloc.AllocError.{AllocError}
 use Rattle.std.specs.Result.{result_map_both}
 use Rattle.ubi_media.specs.Geometry.{Sizes}
 use Rattle.ubi_scan.specs.Image.{Image, image_of}
-use Rattle.ubi_volume.specs.Accepts.{Accepts}
 use Rattle.ubi_volume.specs.Meant.{Meant}
 use Rattle.ubi_volume.specs.Reading.{read_volume, volume_len, volume_read}
 use Rattle.ubi_volume.specs.declared.content.Content.TheVariants as content
@@ -43,12 +42,6 @@ pub done_text : (image : Image) (id : ℕ) (old new : Option (List ℕ)) (o : Ou
     → o.status ≡ 0 → HasText image id
 done_text image id old new o (accepted m a r) done = let t = volume_text m id old new o r done in (m, t.0, a, t.1)
 done_text image id old new o (refused c h line kept) done = absurd (not_both o done line.status)
-
--- the length of a text, and the error of none
-pub length_is : (m : Meant) (id n : ℕ) (text : List ℕ) → Ok n ≡ volume_len m id → read_volume m id ≡ Ok text
-    → n ≡ length text
-length_is m id n text len h =
-    let e : Ok n ≡ Ok (length text) = len ∙ ap (λ r. result_map_both length (λ (x : ReadError). x) r) h in cc
 
 error_in : (r : Result (List ℕ) ReadError) (e : ReadError) → Err e ≡ result_map_both length (λ x. x) r → r ≡ Err e
 error_in (Ok text) e h = absurd (cc)
@@ -88,14 +81,6 @@ pub untold : (m : Meant) (id : ℕ) (kept : Option (List ℕ)) (e : ReadError) (
 untold m id kept e tool.Memory h u k = k
 untold m id kept e tool.Write h u k = absurd (by_volume m.sizes (get m.volumes id) e tool.Write h u)
 untold m id kept e tool.Read h u k = absurd (by_volume m.sizes (get m.volumes id) e tool.Read h u)
-
--- an error of an image is that of its meaning's volume
-pub of_meaning : (image : Image) (m : Meant) (id : ℕ) (old new : Option (List ℕ)) (fault : ToolError) → Accepts image m
-    → IsVolumeError m id old new fault
-    → IsExtractError image id old new fault
-of_meaning image m id old new tool.Memory a h = h
-of_meaning image m id old new tool.Write a h = (m, a, h)
-of_meaning image m id old new tool.Read a h = absurd h
 
 -- a write that failed was one of the text of a volume
 pub failed_text : (image : Image) (id : ℕ) (old new : Option (List ℕ)) → IsExtractError image id old new tool.Write

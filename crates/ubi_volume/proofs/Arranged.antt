@@ -229,19 +229,12 @@ rising (e ∷ es) up apart =
     (IsDistinct-tail same_number e.0 (keys_of es) apart))
 
 -- ---- the meaning
-same_keys : (es : Items) → keys_of (map item_without_blank es) ≡ keys_of es
-same_keys [] = refl
-same_keys (e ∷ es) = ap (λ ks. e.0 ∷ ks) (same_keys es)
-
 same_sum : (es : Items) (n : ℕ) → fold (λ k (v : Volume). k + v.entry.reserved) n
     (values_of (map item_without_blank es)) ≡ fold (λ k (e : Item). k + e.1.entry.reserved) n es
 same_sum [] n = refl
 same_sum (e ∷ es) n = same_sum es (n + e.1.entry.reserved)
 
 module _ (s : Sizes) (items : Items) (none : NoCause s items) where
-  stripped : Items
-  stripped = map item_without_blank items
-
   -- an item without the LEBs that are blank comes from one with them
   item_before : (i : ℕ) (x : Item) → IsItem (map item_without_blank items) i x
       → (w : Item) × IsItem items i w × (item_without_blank w ≡ x)

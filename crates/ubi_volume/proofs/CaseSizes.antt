@@ -1,8 +1,7 @@
 -- The case and size of what the volumes of a source read.
-use Rattle.std.proofs.Common.{◌≡◌, ℕ, suc, ◌+◌, ◌-◌, ◌*◌, ◌%◌, ◌<◌, ◌≤◌, inl, inr, true, false, List, [], ◌∷◌, ◌++◌, length, take, slice_range, refl, ap, sym, ◌∙◌, arith, length-append}
+use Rattle.std.proofs.Common.{◌≡◌, ℕ, suc, ◌+◌, ◌-◌, ◌*◌, ◌%◌, ◌<◌, ◌≤◌, inl, inr, false, List, [], ◌∷◌, ◌++◌, length, take, slice_range, refl, ap, sym, ◌∙◌, arith, length-append}
 use Rattle.std.specs.Prelude.{Option, Some, None, flat_map, min, option_map, slice_index}
 use Rattle.std.specs.FinMap as finite
-use Rattle.std.specs.Option.{option_map_or}
 use Rattle.std.proofs.Math.Nat.{div-add-mod, mod-lt}
 use Rattle.std.proofs.lemmas.Nat.{mul-le}
 use Rattle.std.proofs.lemmas.Bool.{cases_order}
@@ -44,9 +43,6 @@ module _ (s : Sizes) (bytes : List ℕ) (found : Found) (scan : IsScan s (blocks
   pub used_is : (h : VidHeader) → Some h ≡ member s (block (blocks_of s bytes) p)
       → UsedIs s (blocks_of s bytes) vol h.used_ebs
   used_is h e = inr (lnum, p, wins, used_by s (blocks_of s bytes) p h (sym e))
-
-  pub used_none : None ≡ member s (block (blocks_of s bytes) p) → UsedIs s (blocks_of s bytes) vol 0
-  used_none e = inr (lnum, p, wins, ap (λ (o : Option VidHeader). option_map_or (λ h. h.used_ebs) o 0) (sym e))
 
   module _ (used : ℕ) (h : VidHeader) (e : Some h ≡ member s (block (blocks_of s bytes) p)) (text : List ℕ) (size : ℕ)
       (long : length text ≡ size)
@@ -133,9 +129,6 @@ pieces_are size t n some most least =
 
 -- the case of a volume
 module _ (s : Sizes) (bs : List (List ℕ)) (vol : ℕ) (r : VolumeRecord) where
-  pub updating_case : r.marker ≡ true → CaseIs s bs vol r place.Updating
-  updating_case marked = (content.Updating, record { reads = marked; fits = marked; kept = tt }, refl)
-
   pub damaged_case : r.marker ≡ false → r.kind ≡ kind.Static → ((text : List ℕ) → StaticReads s bs vol r text → ⊥)
       → CaseIs s bs vol r place.Damaged
   damaged_case unmarked static none = (content.Damaged, damaged_is s bs vol r unmarked static none, refl)

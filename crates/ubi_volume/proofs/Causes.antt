@@ -25,9 +25,6 @@ never_true : (b : Bool) → b ≡ false → IsTrue b → ⊥
 never_true b e t = cc
 
 module _ (s : Sizes) (items : Items) where
-  pub none_yet : (r : ℕ) → NoneBelow s items r 0
-  none_yet r d e l st = absurd (omega arith)
-
   one_more : (r n : ℕ) → NoneBelow s items r n → ((d : MeaningCause) → rank d ≡ r → item d ≡ n → Stands s items d → ⊥)
       → NoneBelow s items r (n + 1)
   one_more r n below at d e l st = elim (below_or_last (item d) n l) [

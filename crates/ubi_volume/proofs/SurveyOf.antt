@@ -4,26 +4,17 @@ use Rattle.std.specs.Prelude.{Some}
 use Rattle.ubi_media.specs.Geometry.{IsGeometry, Sizes}
 use Rattle.ubi_scan.specs.Scan.{Found}
 use Rattle.ubi_scan.specs.Image.{Image, IsWholeSize, image_of}
-use Rattle.ubi_scan.specs.Source.{IsSource, Source, WhereHeld, blocks_in, blocks_of}
+use Rattle.ubi_scan.specs.Source.{IsSource, Source, WhereHeld, blocks_of}
 use Rattle.ubi_scan.specs.Stream.{IsScanOf}
-use Rattle.ubi_scan.specs.declared.errors.StreamError.{StreamError}
-use Rattle.ubi_scan.specs.declared.errors.StreamError.TheVariants as stream
 use Rattle.ubi_table.specs.Records.{Records}
 use Rattle.ubi_table.specs.Stream.{IsTableOf}
 use Rattle.ubi_volume.specs.Accepts.{NoMismatch}
-use Rattle.ubi_volume.specs.inner.Surveying.{AreStatesOf, IsStatesError}
-use Rattle.ubi_volume.specs.Places.{ArePlacesError}
+use Rattle.ubi_volume.specs.inner.Surveying.{AreStatesOf}
 use Rattle.ubi_volume.specs.Survey.{IsSurvey, IsSurveyOf}
 use Rattle.ubi_volume.specs.declared.attached.BlockState.{BlockState}
 use Rattle.ubi_volume.proofs.AttachedOf.{attached}
 use Rattle.ubi_volume.proofs.Either.{are_lebs, some_meaning}
 use Rattle.ubi_volume.proofs.Recorded.{records_meant}
-
-pub states_refused : (s : Sizes) (k : Source) (e : StreamError) → IsStatesError (blocks_in s k) e → ArePlacesError s k e
-states_refused s k (stream.Refused c) h = absurd h
-states_refused s k (stream.Read p n) h = h
-states_refused s k (stream.Write n) h = h
-states_refused s k stream.Memory h = tt
 
 module _ (s : Sizes) (k : Source) (found : Found) (t : Records) (states : List BlockState) (g : IsGeometry s)
     (sized : IsSource k)
