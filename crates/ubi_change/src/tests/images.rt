@@ -570,3 +570,56 @@ pub fn assert_plan(
     assert_reads(rt, alloc, &geometry, image.as_slice(), case.lnum, new)?;
     Ok(image)
 }
+
+/// Asserts that a change is planned, whose cuts read what was read before and, from one on, the new bytes.
+fn assert_turns(
+    rt: &impl Abort,
+    alloc: Global,
+    geometry: &Geometry,
+    image: &[u8],
+    lnum: u32,
+    new: &[u8],
+) -> Result<(), Fail> {
+    let mut image = Vec::from_slice(alloc, image)?;
+    let old = leb_of(alloc, geometry, image.as_slice(), lnum)?;
+    let mut want = Vec::from_slice(alloc, new)?;
+    want.resize(old.len(), 0xFF)?;
+    let steps = match planned(alloc, geometry, image.as_slice(), lnum, new) {
+        Ok(steps) => steps,
+        Err(_) => return Err("no plan".into()),
+    };
+    let mut turned = false;
+    for step in steps.as_slice() {
+        assert!(*rt; step_fits(geometry, image.as_slice(), step));
+        apply(geometry, image.as_mut_slice(), step);
+        let is = leb_of(alloc, geometry, image.as_slice(), lnum)?;
+        turned = turned || is.as_slice() == want.as_slice();
+        let read = if turned { &want } else { &old };
+        assert_eq!(*rt; is.as_slice(), read.as_slice());
+    }
+    assert!(*rt; turned);
+    Ok(())
+}
+
+/// Asserts that a second change can be made of each cut of a first one.
+pub fn assert_changes_again(
+    rt: &impl Abort,
+    alloc: Global,
+    case: &Case<'_>,
+    image: Vec<u8>,
+    new: &[u8],
+    again: &[u8],
+) -> Result<(), Fail> {
+    let geometry = case.sizes.geometry()?;
+    let mut image = image;
+    let steps = match planned(alloc, &geometry, image.as_slice(), case.lnum, new) {
+        Ok(steps) => steps,
+        Err(_) => return Err("no plan".into()),
+    };
+    for step in steps.as_slice() {
+        assert_turns(rt, alloc, &geometry, image.as_slice(), case.lnum, again)?;
+        assert!(*rt; step_fits(&geometry, image.as_slice(), step));
+        apply(&geometry, image.as_mut_slice(), step);
+    }
+    assert_turns(rt, alloc, &geometry, image.as_slice(), case.lnum, again)
+}

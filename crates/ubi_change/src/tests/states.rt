@@ -2,7 +2,7 @@
 
 use super::images::{
     BAD, COPY, COPY_OF_1, Case, Data, Ec, LEB_1, NEW, NEW_FIRST, NEW_SECOND, PLAIN, Peb, SMALL,
-    Want, assert_plan, image_of,
+    Want, assert_changes_again, assert_plan, image_of,
 };
 use std::alloc::Global;
 use std::test::Fail;
@@ -110,7 +110,7 @@ fn takes_the_place_of_a_bad_copy(rt: HostRuntime) -> Result<(), Fail> {
         turn: 4,
     };
     assert_plan(&rt, alloc, &case, image(alloc)?, &[0x61; 64], usize::MAX)?;
-    Ok(())
+    assert_changes_again(&rt, alloc, &case, image(alloc)?, &[0x61; 64], &[0x62; 128])
 }
 
 /// Once eraseblock 4 is erased, the static member beside it wins its logical eraseblock, and is an orphan still.
@@ -143,5 +143,5 @@ fn takes_a_stale_member_and_an_orphan(rt: HostRuntime) -> Result<(), Fail> {
         turn: 7,
     };
     assert_plan(&rt, alloc, &case, image(alloc)?, &[0x61; 64], usize::MAX)?;
-    Ok(())
+    assert_changes_again(&rt, alloc, &case, image(alloc)?, &[0x61; 64], &[0x62; 128])
 }
