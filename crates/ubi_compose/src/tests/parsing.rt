@@ -137,6 +137,14 @@ fn tells_a_logical_eraseblock_that_is_too_long(rt: HostRuntime) -> Result<(), Fa
     Ok(())
 }
 
+/// A volume with such a record.
+fn volume(kind: VolKind, name: &[u8], content: Content) -> Result<Volume, Fail> {
+    Ok(Volume {
+        entry: record(kind, name)?,
+        content,
+    })
+}
+
 #[test]
 fn gives_the_volumes_of_a_text(rt: HostRuntime) -> Result<(), Fail> {
     let alloc = rt.alloc();
@@ -155,35 +163,15 @@ fn gives_the_volumes_of_a_text(rt: HostRuntime) -> Result<(), Fail> {
     let text = Bytes::new(vec![in alloc; b'a', b'b', b'c']?);
     let mut half = record(VolKind::Dynamic, b"half")?;
     half.marker = true;
+    let half = Volume {
+        entry: half,
+        content: Content::Updating,
+    };
     let want = [
-        (
-            7,
-            Volume {
-                entry: record(VolKind::Static, b"text")?,
-                content: Content::Static(text),
-            },
-        ),
-        (
-            2,
-            Volume {
-                entry: record(VolKind::Dynamic, b"map")?,
-                content: Content::Dynamic(lebs),
-            },
-        ),
-        (
-            3,
-            Volume {
-                entry: half,
-                content: Content::Updating,
-            },
-        ),
-        (
-            0,
-            Volume {
-                entry: record(VolKind::Static, b"torn")?,
-                content: Content::Damaged,
-            },
-        ),
+        (7, volume(VolKind::Static, b"text", Content::Static(text))?),
+        (2, volume(VolKind::Dynamic, b"map", Content::Dynamic(lebs))?),
+        (3, half),
+        (0, volume(VolKind::Static, b"torn", Content::Damaged)?),
     ];
     assert!(rt; volumes.as_slice() == want.as_slice());
     Ok(())
