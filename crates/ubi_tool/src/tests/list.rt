@@ -29,6 +29,26 @@ fn lists_no_volume(rt: HostRuntime) -> Result<(), Fail> {
     assert_says(&rt, run_list(alloc, &other, &[0xFF; 1024])?, text, 0)
 }
 
+/// What is listed of the first bytes of the small image: their number, and the line of the volume.
+const FRONTS: [(usize, &str); 4] = [
+    (
+        512,
+        "dynamic reserved=20 alignment=1 usable=384 flags=00 lebs=0 name=root",
+    ),
+    (
+        1024,
+        "dynamic reserved=20 alignment=1 usable=384 flags=00 lebs=0 name=root",
+    ),
+    (
+        1536,
+        "dynamic reserved=20 alignment=1 usable=384 flags=00 lebs=1 name=root",
+    ),
+    (
+        2048,
+        "dynamic reserved=20 alignment=1 usable=384 flags=00 lebs=2 name=root",
+    ),
+];
+
 #[test]
 fn lists_a_dynamic_volume(rt: HostRuntime) -> Result<(), Fail> {
     let alloc = rt.alloc();
@@ -37,6 +57,10 @@ fn lists_a_dynamic_volume(rt: HostRuntime) -> Result<(), Fail> {
     let two = "dynamic reserved=20 alignment=1 usable=384 flags=00 lebs=2 name=root";
     let mut image = root_image(alloc, &geometry)?;
     assert_lists(&rt, alloc, image.as_slice(), three)?;
+    for (len, volume) in &FRONTS {
+        let front = image.as_slice().get(..*len).ok_or("short")?;
+        assert_lists(&rt, alloc, front, volume)?;
+    }
     // A logical eraseblock that is blank isn't counted, one that the volume doesn't reserve is none of its own.
     let ec = ec_of(&geometry, 0x1234_5678);
     put_block(&mut image, &ec, &plain(0, 3, 0), &[])?;
