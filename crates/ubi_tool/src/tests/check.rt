@@ -1,7 +1,7 @@
 //! The command `check` over bytes.
 
 use super::answers::{assert_says, small};
-use super::images::{ec_of, motley_image, overwrite, root_image};
+use super::images::{ec_of, mixed_image, overwrite, plain, put_block, put_bytes, root_image};
 use crate::check::run_check;
 use std::test::Fail;
 
@@ -33,11 +33,22 @@ fn counts_what_is_used(rt: HostRuntime) -> Result<(), Fail> {
 fn counts_each_state(rt: HostRuntime) -> Result<(), Fail> {
     let alloc = rt.alloc();
     let geometry = small()?;
-    let image = motley_image(alloc, &geometry)?;
-    let text = "blocks 11\nblank 1\nfree 1\ntable 2\nused 1\nstale 1\norphan 2\n\
+    let mut image = mixed_image(alloc, &geometry)?;
+    let nine = "blocks 9\nblank 0\nfree 0\ntable 2\nused 1\nstale 1\norphan 2\n\
         dropped 1\ncorrupt 1\ngarbage 1\ntop sqnum 12\nimage seq 0\n\
         mean counter 0\naccepted\n";
-    assert_says(&rt, run_check(alloc, &geometry, image.as_slice())?, text, 0)
+    assert_says(&rt, run_check(alloc, &geometry, image.as_slice())?, nine, 0)?;
+    put_block(&mut image, &[0xFF; 64], &plain(0, 1, 13), &[])?;
+    put_bytes(&mut image, &ec_of(&geometry, 0), &[0xFF; 64], &[])?;
+    let eleven = "blocks 11\nblank 1\nfree 1\ntable 2\nused 1\nstale 1\norphan 2\n\
+        dropped 1\ncorrupt 1\ngarbage 1\ntop sqnum 12\nimage seq 0\n\
+        mean counter 0\naccepted\n";
+    assert_says(
+        &rt,
+        run_check(alloc, &geometry, image.as_slice())?,
+        eleven,
+        0,
+    )
 }
 
 #[test]

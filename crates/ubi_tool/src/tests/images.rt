@@ -127,8 +127,9 @@ pub fn rivals_image(alloc: Global, geometry: &Geometry) -> Result<Vec<u8>, Alloc
     Ok(image)
 }
 
-/// An image with an eraseblock of each state. It means the volume `root`, whose logical eraseblock 0 holds bytes 0x35.
-pub fn motley_image(alloc: Global, geometry: &Geometry) -> Result<Vec<u8>, AllocError> {
+/// An image with an eraseblock of each state but a blank and a free one. It means the volume `root`, whose logical
+/// eraseblock 0 holds bytes 0x35.
+pub fn mixed_image(alloc: Global, geometry: &Geometry) -> Result<Vec<u8>, AllocError> {
     let ec = ec_of(geometry, 0);
     let mut image = table_image(alloc, &ec, &ROOT)?;
     put_block(&mut image, &ec, &plain(0, 0, 5), &[0x35; 384])?;
@@ -139,22 +140,21 @@ pub fn motley_image(alloc: Global, geometry: &Geometry) -> Result<Vec<u8>, Alloc
         ..fixed(20, 21, 384, CHECK_OF_41)
     };
     put_block(&mut image, &ec, &orphan, &[0x41; 384])?;
-    let unread = [0xFF; 64];
-    put_block(&mut image, &unread, &plain(0, 1, 0), &[0x41; 384])?;
+    put_bytes(&mut image, &ec, &broken(write_vid(&plain(0, 1, 0))), &[])?;
     let dropped = VidHeader {
         compat: 1,
         ..plain(0x7FFF_F000, 0, 12)
     };
     put_block(&mut image, &ec, &dropped, &[])?;
-    put_rest(&mut image, &ec)?;
+    put_bytes(&mut image, &broken(ec), &[0xFF; 64], &[])?;
     Ok(image)
 }
 
-/// Adds a free eraseblock, one of which only the erase-counter header can be read, and one of which no header can.
-fn put_rest(image: &mut Vec<u8>, ec: &[u8; 64]) -> Result<(), AllocError> {
-    put_bytes(image, ec, &[0xFF; 64], &[])?;
-    put_bytes(image, ec, &[0; 64], &[])?;
-    put_bytes(image, &[0; 64], &[0; 64], &[])
+/// A header whose first byte is wrong.
+fn broken(header: [u8; 64]) -> [u8; 64] {
+    let mut bytes = header;
+    overwrite(&mut bytes, 0, b"u");
+    bytes
 }
 
 /// A static volume while it is updated, whose eraseblocks don't agree on how many they are.
