@@ -13,11 +13,11 @@ of the table, one that is free, and else, in an order that looks random (all KIN
   reserved  nothing else; but the table's one volume reserves as many eraseblocks
 `compose` takes a text of as many lines: for lebs and pairs `leb` lines of a byte, for one remarks, for volumes `volume`
 lines, for static `bytes` lines of a byte; and for reserved the line of a volume that reserves as many eraseblocks. Outputs
-go to /dev/null. Images and texts are made in a new folder below FOLDER (/tmp where it is left out), up to 512 MiB each, and
-removed again. The program is built first where it isn't yet.
+go to /dev/null. Images and texts are made in a new folder below FOLDER (/tmp where it is left out), 680 MiB of images a kind,
+and removed again. The program is built first where it isn't yet.
 
-It prints the seconds of the processor (user and system), the least of N runs (3), and the greatest growth: from one size to
-the next, how many times more than n log n. It ends with status 1 where that is above 1.3, in runs of 0.05 s and more.
+It prints the seconds of the processor (user and system), the least of N turns over all sizes (3), and the greatest growth: from
+one size to the next, how many times more than n log n. It ends with status 1 where that is above 1.3, in runs of 0.05 s and more.
 """
 import argparse
 import math
@@ -137,14 +137,25 @@ def growth(seconds):
 
 
 def measure(tool, folder, kind, sizes, runs):
-    """Prints what each command takes, and gives the commands whose time grows too fast."""
-    seconds, said = {}, {}
+    """Prints what each command takes, and gives the commands whose time grows too fast.
+
+    Each turn runs each command over each size once: so a machine that is slow for a while is slow for all of them.
+    """
+    paths = {}
     for count in sizes:
-        paths = make(folder, kind, count)
-        for command in commands(*paths):
-            words = [tool, *command, *GEOMETRY]
-            seconds.setdefault(command[0], {})[count] = run(words, folder, runs)[0]
-            said[command[0]] = first_line(words)
+        os.mkdir(os.path.join(folder, f"{kind}-{count}"))
+        paths[count] = make(os.path.join(folder, f"{kind}-{count}"), kind, count)
+    seconds, said = {}, {}
+    for _ in range(runs):
+        for count in sizes:
+            for command in commands(*paths[count]):
+                least = seconds.setdefault(command[0], {})
+                took = run([tool, *command, *GEOMETRY], folder, 1)[0]
+                least[count] = min(took, least.get(count, took))
+    for command in commands(*paths[sizes[-1]]):
+        said[command[0]] = first_line([tool, *command, *GEOMETRY])
+    for count in sizes:
+        shutil.rmtree(os.path.join(folder, f"{kind}-{count}"))
     fast = []
     for name, of in seconds.items():
         most, above = growth(of)
