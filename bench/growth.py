@@ -1,7 +1,7 @@
 #!/usr/bin/env python3
 """Measures how the processor time of each command grows, over images that a stranger may have made.
 
-usage: growth.py [--dir FOLDER] [--blocks N] [--runs N] [KIND ..]
+usage: growth.py [--dir FOLDER] [--blocks N] [--runs N] [--instructions] [KIND ..]
 
 The images have 2^14, 2^16, 2^18 and 2^20 eraseblocks (--blocks is the most) of 512 bytes with pages of 64: the two copies
 of the table, one that is free, and else, in an order that looks random (all KINDs where none is named):
@@ -16,13 +16,20 @@ lines, for static `bytes` lines of a byte; and for reserved the line of a volume
 go to /dev/null. Images and texts are made in a new folder below FOLDER (/tmp where it is left out), 680 MiB of images a kind,
 and removed again. The program is built first where it isn't yet.
 
-It prints the seconds of the processor (user and system), the least of N turns over all sizes (3), and the greatest growth: from
-one size to the next, how many times more than n log n. It ends with status 1 where that is above 1.3, in runs of 0.05 s and more.
+It prints the seconds of the processor (user and system), the least of N turns over all sizes (3); how many times more than
+n log n they grow over all sizes, and at most from one size to the next. It ends with status 1 where they grow more than 1.3
+times as fast over all sizes. From one size to the next they also grow where an image no longer fits into a cache.
+
+With --instructions it counts the program's instructions in place of seconds, in millions, in one run of each under valgrind,
+which takes some fifty times as long. Their number depends neither on what else the machine does nor on its caches, so it ends
+with status 1 where they grow more than 1.3 times as fast from any size to the next. They say nothing of what the system does,
+which reads the file and gives pages for it.
 """
 import argparse
 import math
 import os
 import random
+import re
 import shutil
 import subprocess
 import sys
@@ -34,7 +41,7 @@ from normalise import LAYOUT, record, static_header
 from scan import ENVIRONMENT, run
 
 SIZES = tuple(2**k for k in (14, 16, 18, 20))
-MOST, LEAST_SECONDS = 1.3, 0.05
+MOST = 1.3
 GEOMETRY = ("--peb", "512", "--page", "64")
 LEB = image.PEB - image.DATA
 EC = image.counter_header(7)
@@ -127,17 +134,33 @@ def first_line(words):
     return (ran.stdout.splitlines() or [ran.stderr])[0][:40]
 
 
-def growth(seconds):
-    """The greatest growth from one size to the next, and whether it is above what is allowed in runs that are long enough."""
-    most, above = 0.0, False
-    for (count, before), (more, after) in zip(seconds.items(), list(seconds.items())[1:]):
-        times = after / before / (more * math.log(more) / (count * math.log(count)))
-        most, above = max(most, times), above or (times > MOST and before >= LEAST_SECONDS)
-    return most, above
+def seconds(words, folder):
+    """The seconds of the processor that a program takes."""
+    return run(words, folder, 1)[0]
 
 
-def measure(tool, folder, kind, sizes, runs):
-    """Prints what each command takes, and gives the commands whose time grows too fast.
+def instructions(words, folder):
+    """How many instructions a program takes, in millions."""
+    told = os.path.join(folder, "instructions")
+    counted = ["valgrind", "--tool=cachegrind", "--cache-sim=no", "--cachegrind-out-file=/dev/null", f"--log-file={told}"]
+    subprocess.run([*counted, *words], stdout=subprocess.DEVNULL, stderr=subprocess.DEVNULL)
+    with open(told, encoding="ascii") as it:
+        return int(re.search(r"I +refs: +([0-9,]+)", it.read()).group(1).replace(",", "")) / 1e6
+
+
+def faster(taken, first, last):
+    """How many times more than n log n is taken of the last size than of the first."""
+    return taken[last] / taken[first] / (last * math.log(last) / (first * math.log(first)))
+
+
+def growth(taken):
+    """That over all sizes, and the most from one size to the next."""
+    sizes = list(taken)
+    return faster(taken, sizes[0], sizes[-1]), max(faster(taken, *pair) for pair in zip(sizes, sizes[1:]))
+
+
+def measure(tool, folder, kind, sizes, cost, runs):
+    """Prints what each command takes, and gives the growth of each.
 
     Each turn runs each command over each size once: so a machine that is slow for a while is slow for all of them.
     """
@@ -145,23 +168,22 @@ def measure(tool, folder, kind, sizes, runs):
     for count in sizes:
         os.mkdir(os.path.join(folder, f"{kind}-{count}"))
         paths[count] = make(os.path.join(folder, f"{kind}-{count}"), kind, count)
-    seconds, said = {}, {}
+    least, said = {}, {}
     for _ in range(runs):
         for count in sizes:
             for command in commands(*paths[count]):
-                least = seconds.setdefault(command[0], {})
-                took = run([tool, *command, *GEOMETRY], folder, 1)[0]
-                least[count] = min(took, least.get(count, took))
+                of = least.setdefault(command[0], {})
+                took = cost([tool, *command, *GEOMETRY], folder)
+                of[count] = min(took, of.get(count, took))
     for command in commands(*paths[sizes[-1]]):
         said[command[0]] = first_line([tool, *command, *GEOMETRY])
     for count in sizes:
         shutil.rmtree(os.path.join(folder, f"{kind}-{count}"))
-    fast = []
-    for name, of in seconds.items():
-        most, above = growth(of)
-        print(f"{kind:<9} {name:<10}", *(f"{second:>9.3f}" for second in of.values()), f"{most:>8.2f}   {said[name]}", flush=True)
-        fast += [f"{name} of {kind}"] if above else []
-    return fast
+    for name, of in least.items():
+        whole, most = growth(of)
+        took = (f"{one:>9.3f}" for one in of.values())
+        print(f"{kind:<9} {name:<10}", *took, f"{whole:>6.2f} {most:>6.2f}   {said[name]}", flush=True)
+    return {f"{name} of {kind}": growth(of) for name, of in least.items()}
 
 
 def main():
@@ -169,18 +191,21 @@ def main():
     words.add_argument("--dir", default="/tmp")
     words.add_argument("--blocks", type=int, default=SIZES[-1])
     words.add_argument("--runs", type=int, default=3)
+    words.add_argument("--instructions", action="store_true")
     words.add_argument("kinds", nargs="*", metavar="KIND", choices=[*KINDS, []])
     words = words.parse_args()
     tool = built()
     sizes = [size for size in SIZES if size <= words.blocks]
+    cost, runs = (instructions, 1) if words.instructions else (seconds, words.runs)
     folder = tempfile.mkdtemp(dir=words.dir)
-    fast = []
-    print(f"{'kind':<9} {'command':<10}", *(f"{size:>9,}" for size in sizes), "  growth   first line, of the most")
+    grown = {}
+    print(f"{'kind':<9} {'command':<10}", *(f"{size:>9,}" for size in sizes), " whole   step   first line, of the most")
     try:
         for kind in words.kinds or KINDS:
-            fast += measure(tool, folder, kind, sizes, words.runs)
+            grown.update(measure(tool, folder, kind, sizes, cost, runs))
     finally:
         shutil.rmtree(folder)
+    fast = [name for name, (whole, step) in grown.items() if (step if words.instructions else whole) > MOST]
     for name in fast:
         print(f"grows too fast: {name}")
     sys.exit(1 if fast else 0)

@@ -18,3 +18,9 @@ pub one_more : (old sub new : Command) (ns : List (List ℕ)) (n : List ℕ) →
 one_more old sub new ns n adds before called =
     ap names_in adds.subcommands ∙ names_behind (out-Command old).subcommands.items adds.added
     ∙ ap (λ ms. ms ++ name_of adds.added ∷ []) before ∙ ap (λ m. ns ++ m ∷ []) (ap (λ s. s.now) adds.name ∙ called)
+
+-- and so behind those that were there
+pub behind : (old new : Command) (ns : List (List ℕ)) (n : List ℕ) → subcommand_names old ≡ ns
+    → subcommand_names new ≡ subcommand_names old ++ n ∷ []
+    → subcommand_names new ≡ ns ++ n ∷ []
+behind old new ns n before next = next ∙ ap (λ ms. ms ++ n ∷ []) before

@@ -5,6 +5,7 @@ ghost use Rattle.clap.specs.Matches.{subcommand_name_of};
 ghost use Rattle.clap.specs.Built.{subcommand_names};
 ghost use Rattle.clap.specs.declared.builder.command.Command.TheViews.{out-Command};
 ghost use Rattle.ubi_tool.specs.CommandLine.{command_name, command_names};
+ghost use Rattle.ubi_tool.specs.inner.CommandLine.{HasOneMore};
 
 use crate::numbers::Numbers;
 use clap::{Arg, ArgMatches, Command, value_parser};
@@ -101,14 +102,24 @@ pub fn command_line<'a>(alloc: Global) -> Result<Command<'a>, AllocError>
         .version(VERSION)
         .after_help(EXAMPLES)
         .subcommand_required(true);
-    let tool = tool.subcommand(list_command(alloc)?)?;
-    let tool = tool.subcommand(check_command(alloc)?)?;
-    let tool = tool.subcommand(show_command(alloc)?)?;
-    let tool = tool.subcommand(extract_command(alloc)?)?;
-    let tool = tool.subcommand(compose_command(alloc)?)?;
-    let tool = tool.subcommand(normalise_command(alloc)?)?;
-    let tool = tool.subcommand(same_command(alloc)?)?;
-    tool.subcommand(change_command(alloc)?)
+    let tool = with_command(tool, list_command(alloc))?;
+    let tool = with_command(tool, check_command(alloc))?;
+    let tool = with_command(tool, show_command(alloc))?;
+    let tool = with_command(tool, extract_command(alloc))?;
+    let tool = with_command(tool, compose_command(alloc))?;
+    let tool = with_command(tool, normalise_command(alloc))?;
+    let tool = with_command(tool, same_command(alloc))?;
+    with_command(tool, change_command(alloc))
+}
+
+/// Adds a command, where memory didn't run out for it.
+fn with_command<'a>(
+    tool: Command<'a>,
+    command: Result<Command<'a>, AllocError>,
+) -> Result<Command<'a>, AllocError>
+    ensures { IfOk result (HasOneMore tool.entry command.entry) }
+{
+    tool.subcommand(command?)
 }
 
 /// What is asked for, where the words name a command and have all that it needs.
@@ -116,48 +127,96 @@ pub fn request_of<'a>(matches: &'a ArgMatches<'_>) -> Option<Request<'a>>
     ensures { IfSome result (λ r. subcommand_name_of matches.now ≡ Some (command_name r)) }
 {
     match matches.subcommand()? {
-        ("list", inner) => Some(Request::List {
-            numbers: numbers_of(inner)?,
-            image: inner.get_str("IMAGE")?,
-        }),
-        ("check", inner) => Some(Request::Check {
-            numbers: numbers_of(inner)?,
-            image: inner.get_str("IMAGE")?,
-        }),
-        ("show", inner) => Some(Request::Show {
-            numbers: numbers_of(inner)?,
-            image: inner.get_str("IMAGE")?,
-            block: inner.get_one::<u32>("block")?,
-        }),
-        ("extract", inner) => Some(Request::Extract {
-            numbers: numbers_of(inner)?,
-            image: inner.get_str("IMAGE")?,
-            id: inner.get_one::<u32>("id")?,
-            out: inner.get_str("out")?,
-        }),
-        ("compose", inner) => Some(Request::Compose {
-            numbers: numbers_of(inner)?,
-            spec: inner.get_str("SPEC")?,
-            out: inner.get_str("out")?,
-            spares: inner.get_one::<u32>("spares").unwrap_or(0),
-        }),
-        ("normalise", inner) => Some(Request::Normalise {
-            numbers: numbers_of(inner)?,
-            image: inner.get_str("IMAGE")?,
-            out: inner.get_str("out")?,
-        }),
-        ("same", inner) => Some(Request::Same {
-            numbers: numbers_of(inner)?,
-            left: inner.get_str("IMAGE")?,
-            right: inner.get_str("OTHER")?,
-        }),
-        ("change", inner) => Some(Request::Change {
-            numbers: numbers_of(inner)?,
-            image: inner.get_str("IMAGE")?,
-            change: change_of(inner)?,
-        }),
+        ("list", inner) => list_of(inner),
+        ("check", inner) => check_of(inner),
+        ("show", inner) => show_of(inner),
+        ("extract", inner) => extract_of(inner),
+        ("compose", inner) => compose_of(inner),
+        ("normalise", inner) => normalise_of(inner),
+        ("same", inner) => same_of(inner),
+        ("change", inner) => change_of(inner),
         _ => None,
     }
+}
+
+fn list_of<'a>(matches: &'a ArgMatches<'_>) -> Option<Request<'a>>
+    ensures { IfSome result (λ r. command_name r ≡ codes "list") }
+{
+    Some(Request::List {
+        numbers: numbers_of(matches)?,
+        image: matches.get_str("IMAGE")?,
+    })
+}
+
+fn check_of<'a>(matches: &'a ArgMatches<'_>) -> Option<Request<'a>>
+    ensures { IfSome result (λ r. command_name r ≡ codes "check") }
+{
+    Some(Request::Check {
+        numbers: numbers_of(matches)?,
+        image: matches.get_str("IMAGE")?,
+    })
+}
+
+fn show_of<'a>(matches: &'a ArgMatches<'_>) -> Option<Request<'a>>
+    ensures { IfSome result (λ r. command_name r ≡ codes "show") }
+{
+    Some(Request::Show {
+        numbers: numbers_of(matches)?,
+        image: matches.get_str("IMAGE")?,
+        block: matches.get_one::<u32>("block")?,
+    })
+}
+
+fn extract_of<'a>(matches: &'a ArgMatches<'_>) -> Option<Request<'a>>
+    ensures { IfSome result (λ r. command_name r ≡ codes "extract") }
+{
+    Some(Request::Extract {
+        numbers: numbers_of(matches)?,
+        image: matches.get_str("IMAGE")?,
+        id: matches.get_one::<u32>("id")?,
+        out: matches.get_str("out")?,
+    })
+}
+
+fn compose_of<'a>(matches: &'a ArgMatches<'_>) -> Option<Request<'a>>
+    ensures { IfSome result (λ r. command_name r ≡ codes "compose") }
+{
+    Some(Request::Compose {
+        numbers: numbers_of(matches)?,
+        spec: matches.get_str("SPEC")?,
+        out: matches.get_str("out")?,
+        spares: matches.get_one::<u32>("spares").unwrap_or(0),
+    })
+}
+
+fn normalise_of<'a>(matches: &'a ArgMatches<'_>) -> Option<Request<'a>>
+    ensures { IfSome result (λ r. command_name r ≡ codes "normalise") }
+{
+    Some(Request::Normalise {
+        numbers: numbers_of(matches)?,
+        image: matches.get_str("IMAGE")?,
+        out: matches.get_str("out")?,
+    })
+}
+
+fn same_of<'a>(matches: &'a ArgMatches<'_>) -> Option<Request<'a>>
+    ensures { IfSome result (λ r. command_name r ≡ codes "same") }
+{
+    Some(Request::Same {
+        numbers: numbers_of(matches)?,
+        left: matches.get_str("IMAGE")?,
+        right: matches.get_str("OTHER")?,
+    })
+}
+
+fn change_of<'a>(matches: &'a ArgMatches<'_>) -> Option<Request<'a>>
+    ensures { IfSome result (λ r. command_name r ≡ codes "change") }
+{
+    Some(Request::Change {
+        numbers: numbers_of(matches)?,
+        image: matches.get_str("IMAGE")?,
+        change: leb_change(matches)?,
+    })
 }
 
 fn list_command<'a>(alloc: Global) -> Result<Command<'a>, AllocError>
@@ -179,14 +238,18 @@ fn check_command<'a>(alloc: Global) -> Result<Command<'a>, AllocError>
 fn show_command<'a>(alloc: Global) -> Result<Command<'a>, AllocError>
     ensures { IfOk result (λ c. (out-Command c).name.now ≡ codes "show") }
 {
-    let block = Arg::new(alloc, "block")
+    let command = image_command(alloc, "show", "Prints the headers of one eraseblock")?;
+    command.arg(block(alloc))
+}
+
+/// The option that names an eraseblock.
+fn block<'a>(alloc: Global) -> Arg<'a> {
+    Arg::new(alloc, "block")
         .long("block")
         .value_name("P")
         .help("The eraseblock to show, counted from 0")
         .value_parser(value_parser!(u32))
-        .required(true);
-    let command = image_command(alloc, "show", "Prints the headers of one eraseblock")?;
-    command.arg(block)
+        .required(true)
 }
 
 fn extract_command<'a>(alloc: Global) -> Result<Command<'a>, AllocError>
@@ -199,14 +262,18 @@ fn extract_command<'a>(alloc: Global) -> Result<Command<'a>, AllocError>
 fn compose_command<'a>(alloc: Global) -> Result<Command<'a>, AllocError>
     ensures { IfOk result (λ c. (out-Command c).name.now ≡ codes "compose") }
 {
-    let spec = Arg::new(alloc, "SPEC")
-        .help("The text that describes the volumes")
-        .required(true);
     let about = "Writes the image that a text describes";
     let command = device_command(alloc, "compose", about)?;
-    let command = command.arg(spec)?;
+    let command = command.arg(spec_file(alloc))?;
     let command = command.arg(out_file(alloc))?;
     command.arg(number(alloc, "spares", SPARES))
+}
+
+/// The text file.
+fn spec_file<'a>(alloc: Global) -> Arg<'a> {
+    Arg::new(alloc, "SPEC")
+        .help("The text that describes the volumes")
+        .required(true)
 }
 
 fn normalise_command<'a>(alloc: Global) -> Result<Command<'a>, AllocError>
@@ -222,27 +289,35 @@ fn normalise_command<'a>(alloc: Global) -> Result<Command<'a>, AllocError>
 fn same_command<'a>(alloc: Global) -> Result<Command<'a>, AllocError>
     ensures { IfOk result (λ c. (out-Command c).name.now ≡ codes "same") }
 {
-    let other = Arg::new(alloc, "OTHER")
+    let command = image_command(alloc, "same", "Says whether two images mean the same")?;
+    command.arg(other_image(alloc))
+}
+
+/// The second image file.
+fn other_image<'a>(alloc: Global) -> Arg<'a> {
+    Arg::new(alloc, "OTHER")
         .value_name("IMAGE")
         .help("The image to compare it with")
-        .required(true);
-    let command = image_command(alloc, "same", "Says whether two images mean the same")?;
-    command.arg(other)
+        .required(true)
 }
 
 fn change_command<'a>(alloc: Global) -> Result<Command<'a>, AllocError>
     ensures { IfOk result (λ c. (out-Command c).name.now ≡ codes "change") }
 {
-    let from = Arg::new(alloc, "from")
-        .long("from")
-        .value_name("FILE")
-        .help("The file that holds the new bytes")
-        .required(true);
     let command = out_command(alloc, "change", CHANGE)?;
     let command = command.arg(number(alloc, "id", ID).required(true))?;
     let command = command.arg(number(alloc, "lnum", LNUM).required(true))?;
-    let command = command.arg(from)?;
+    let command = command.arg(new_bytes(alloc))?;
     command.arg(number(alloc, "stop", STOP))
+}
+
+/// The option that names the file of the new bytes.
+fn new_bytes<'a>(alloc: Global) -> Arg<'a> {
+    Arg::new(alloc, "from")
+        .long("from")
+        .value_name("FILE")
+        .help("The file that holds the new bytes")
+        .required(true)
 }
 
 /// A command over an image file that writes another file.
@@ -270,11 +345,15 @@ fn image_command<'a>(
 ) -> Result<Command<'a>, AllocError>
     ensures { IfOk result (λ c. (out-Command c).name.now ≡ name.now) }
 {
-    let image = Arg::new(alloc, "IMAGE")
-        .help("The raw dump, without out-of-band bytes")
-        .required(true);
     let command = device_command(alloc, name, about)?;
-    command.arg(image)
+    command.arg(image_file(alloc))
+}
+
+/// The image file.
+fn image_file<'a>(alloc: Global) -> Arg<'a> {
+    Arg::new(alloc, "IMAGE")
+        .help("The raw dump, without out-of-band bytes")
+        .required(true)
 }
 
 /// A command that takes the numbers of a geometry.
@@ -328,7 +407,7 @@ fn number<'a>(alloc: Global, name: &'a str, help: &'a str) -> Arg<'a> {
         .value_parser(value_parser!(u32))
 }
 
-fn change_of<'a>(matches: &'a ArgMatches<'_>) -> Option<Change<'a>> {
+fn leb_change<'a>(matches: &'a ArgMatches<'_>) -> Option<Change<'a>> {
     Some(Change {
         id: matches.get_one::<u32>("id")?,
         lnum: matches.get_one::<u32>("lnum")?,

@@ -1,0 +1,46 @@
+#!/usr/bin/env python3
+"""Lists what took longest in the last check of a crate, by the times at which its parts were saved.
+
+usage: slow.py CRATE [N]
+
+`rt check` saves each part of what it checks below crates/CRATE/out/incremental. A part is slow where a long time passes before it
+is saved in which no other is, and it is large where there was much to check. N of each are listed (20). Of two jobs that work
+side by side each hides the other's time. To time a whole crate, remove its folder out/ and check it anew.
+"""
+import re
+import sys
+from pathlib import Path
+
+CRATES = Path(__file__).resolve().parent.parent / "crates"
+
+
+def parts(crate):
+    """The parts that were saved: when, their names, and their sizes in kB, in the order of time."""
+    files = (CRATES / crate / "out" / "incremental").glob(f"*/Rattle-{crate}-*.oantt")
+    found = []
+    for file in files:
+        name = re.fullmatch(rf"Rattle-{crate}-(.*?)(\.decls)?\.oantt", file.name)
+        if not name.group(2):
+            about = file.stat()
+            found.append((about.st_mtime, name.group(1), about.st_size // 1000))
+    return sorted(found)
+
+
+def main():
+    if len(sys.argv) not in (2, 3):
+        sys.exit(__doc__)
+    most = int(sys.argv[2]) if len(sys.argv) == 3 else 20
+    saved = parts(sys.argv[1])
+    if not saved:
+        sys.exit(f"nothing was checked in {sys.argv[1]} yet")
+    waits = [(after - before, name) for (before, _, _), (after, name, _) in zip(saved, saved[1:])]
+    print("seconds before it was saved")
+    for seconds, name in sorted(waits, reverse=True)[:most]:
+        print(f"{seconds:>9.1f}  {name}")
+    print("kB")
+    for size, name in sorted(((size, name) for _, name, size in saved), reverse=True)[:most]:
+        print(f"{size:>9}  {name}")
+
+
+if __name__ == "__main__":
+    main()
