@@ -78,6 +78,21 @@ where
     Ok(())
 }
 
+/// The same of each of some lines, with what is answered.
+pub fn assert_lines<R: Files + Eprint + Abort>(
+    rt: &R,
+    alloc: Global,
+    lines: &[(&str, &str, u8)],
+) -> Result<(), Fail>
+where
+    R::File: FileExt,
+{
+    for (line, text, status) in lines {
+        assert_line(rt, alloc, line, text, *status)?;
+    }
+    Ok(())
+}
+
 /// The same over files that each hold an image and fail as they are told to; asserts also which bytes were written.
 pub fn assert_over(
     rt: &impl Abort,
@@ -95,5 +110,21 @@ pub fn assert_over(
     assert_eq!(rt; outcome.text.as_slice(), text.as_bytes());
     assert_eq!(rt; outcome.status, status);
     assert_eq!(rt; written.into_inner().as_slice(), output);
+    Ok(())
+}
+
+/// The same of files that fail in each of some ways, with what is answered and how many bytes of the output are written.
+pub fn assert_each(
+    rt: &impl Abort,
+    alloc: Global,
+    image: &[u8],
+    line: &str,
+    ways: &[(Broken, (&str, u8), usize)],
+    output: &[u8],
+) -> Result<(), Fail> {
+    for (broken, answer, count) in ways {
+        let written = output.get(..*count).ok_or("short")?;
+        assert_over(rt, alloc, (image, *broken), line, *answer, written)?;
+    }
     Ok(())
 }

@@ -65,6 +65,24 @@ impl Planned<'_> {
         Ok(())
     }
 
+    /// Asserts what its volume reads after each number of steps: the old text before the turn, and from it on the new one.
+    fn assert_turns(
+        &self,
+        rt: &impl Abort,
+        alloc: Global,
+        (turn, count): (u32, u32),
+        old: &[u8],
+        new: &[u8],
+    ) -> Result<(), Fail> {
+        for stop in 0..turn {
+            self.assert_reads(rt, alloc, stop, old)?;
+        }
+        for stop in turn..count {
+            self.assert_reads(rt, alloc, stop, new)?;
+        }
+        self.assert_reads(rt, alloc, count, new)
+    }
+
     /// Asserts the bytes of the image after some of the steps.
     fn assert_bytes(
         &self,
@@ -116,29 +134,30 @@ fn writes_each_cut(rt: HostRuntime) -> Result<(), Fail> {
         new: &[0x61; 128],
         lines: TWO_PAGES,
     };
-    let mut want = spare_image(alloc, &geometry)?;
-    let want = want.as_mut_slice();
-    planned.assert_bytes(&rt, alloc, 0, want)?;
     let copy = VidHeader {
         copy_flag: true,
         data_size: 128,
         data_crc: 0x0ED4_C973,
         ..plain(0, 1, 1)
     };
-    overwrite(want, 5 * 512 + 64, &write_vid(&copy));
-    planned.assert_bytes(&rt, alloc, 1, want)?;
-    overwrite(want, 5 * 512 + 128, &[0x61; 64]);
-    planned.assert_bytes(&rt, alloc, 2, want)?;
-    overwrite(want, 5 * 512 + 192, &[0x61; 64]);
-    planned.assert_bytes(&rt, alloc, 3, want)?;
-    overwrite(want, 3 * 512, &[0xFF; 512]);
-    planned.assert_bytes(&rt, alloc, 4, want)?;
-    let header = EcHeader {
+    let erased = EcHeader {
         counter: 1,
         image_seq: 0x1234_5678,
     };
-    overwrite(want, 3 * 512, &write_ec(&geometry, &header));
-    planned.assert_bytes(&rt, alloc, 5, want)?;
+    // Each step writes bytes at a place of the image.
+    let steps: [(u32, usize, &[u8]); 5] = [
+        (1, 5 * 512 + 64, &write_vid(&copy)),
+        (2, 5 * 512 + 128, &[0x61; 64]),
+        (3, 5 * 512 + 192, &[0x61; 64]),
+        (4, 3 * 512, &[0xFF; 512]),
+        (5, 3 * 512, &write_ec(&geometry, &erased)),
+    ];
+    let mut want = spare_image(alloc, &geometry)?;
+    planned.assert_bytes(&rt, alloc, 0, want.as_slice())?;
+    for (stop, at, bytes) in steps {
+        overwrite(want.as_mut_slice(), at, bytes);
+        planned.assert_bytes(&rt, alloc, stop, want.as_slice())?;
+    }
     planned.assert_all(&rt, alloc, 5)
 }
 
@@ -155,12 +174,7 @@ fn turns_at_the_last_page(rt: HostRuntime) -> Result<(), Fail> {
         lines: TWO_PAGES,
     };
     let (old, new) = (root_text(), text_with(1, 0x61));
-    planned.assert_reads(&rt, alloc, 0, &old)?;
-    planned.assert_reads(&rt, alloc, 1, &old)?;
-    planned.assert_reads(&rt, alloc, 2, &old)?;
-    planned.assert_reads(&rt, alloc, 3, &new)?;
-    planned.assert_reads(&rt, alloc, 4, &new)?;
-    planned.assert_reads(&rt, alloc, 5, &new)
+    planned.assert_turns(&rt, alloc, (3, 5), &old, &new)
 }
 
 #[test]
@@ -178,12 +192,7 @@ fn turns_before_blank_pages(rt: HostRuntime) -> Result<(), Fail> {
         lines: TWO_PAGES,
     };
     let (old, new) = (root_text(), text_with(1, 0xFF));
-    planned.assert_reads(&rt, alloc, 0, &old)?;
-    planned.assert_reads(&rt, alloc, 1, &old)?;
-    planned.assert_reads(&rt, alloc, 2, &new)?;
-    planned.assert_reads(&rt, alloc, 3, &new)?;
-    planned.assert_reads(&rt, alloc, 4, &new)?;
-    planned.assert_reads(&rt, alloc, 5, &new)
+    planned.assert_turns(&rt, alloc, (2, 5), &old, &new)
 }
 
 #[test]
@@ -202,11 +211,7 @@ fn turns_at_the_header_of_blank_bytes(rt: HostRuntime) -> Result<(), Fail> {
     let old = root_text();
     let mut new = root_text();
     overwrite(&mut new, 384, &[0xFF; 384]);
-    planned.assert_reads(&rt, alloc, 0, &old)?;
-    planned.assert_reads(&rt, alloc, 1, &new)?;
-    planned.assert_reads(&rt, alloc, 2, &new)?;
-    planned.assert_reads(&rt, alloc, 3, &new)?;
-    planned.assert_reads(&rt, alloc, 4, &new)?;
+    planned.assert_turns(&rt, alloc, (1, 4), &old, &new)?;
     let cut = planned.cut(&rt, alloc, None)?;
     let listed = "geometry peb=512 page=64 vid=64 data=128 leb=384 slots=2 pebs=32\n\
         volume 0 dynamic reserved=20 alignment=1 usable=384 flags=00 lebs=2 name=root\n\
@@ -233,10 +238,7 @@ fn leaves_a_worn_eraseblock(rt: HostRuntime) -> Result<(), Fail> {
             program block=5 page=3\n",
     };
     let (old, new) = (root_text(), text_with(1, 0x61));
-    planned.assert_reads(&rt, alloc, 0, &old)?;
-    planned.assert_reads(&rt, alloc, 1, &old)?;
-    planned.assert_reads(&rt, alloc, 2, &old)?;
-    planned.assert_reads(&rt, alloc, 3, &new)?;
+    planned.assert_turns(&rt, alloc, (3, 3), &old, &new)?;
     planned.assert_all(&rt, alloc, 3)?;
     let cut = planned.cut(&rt, alloc, None)?;
     let checked = "blocks 6\nblank 0\nfree 0\ntable 2\nused 3\nstale 1\norphan 0\n\
@@ -265,13 +267,7 @@ fn makes_a_blank_eraseblock_ready(rt: HostRuntime) -> Result<(), Fail> {
             program block=5 page=2\nerase block=3\nprogram block=3 page=0\n",
     };
     let (old, new) = (root_text(), text_with(1, 0xFF));
-    planned.assert_reads(&rt, alloc, 0, &old)?;
-    planned.assert_reads(&rt, alloc, 1, &old)?;
-    planned.assert_reads(&rt, alloc, 2, &old)?;
-    planned.assert_reads(&rt, alloc, 3, &old)?;
-    planned.assert_reads(&rt, alloc, 4, &new)?;
-    planned.assert_reads(&rt, alloc, 5, &new)?;
-    planned.assert_reads(&rt, alloc, 6, &new)?;
+    planned.assert_turns(&rt, alloc, (4, 6), &old, &new)?;
     planned.assert_all(&rt, alloc, 6)
 }
 
@@ -326,11 +322,7 @@ fn programs_both_headers_in_one_page(rt: HostRuntime) -> Result<(), Fail> {
     overwrite(&mut old, 0, &[0x41; 768]);
     let mut new = [0xFF; 15_360];
     overwrite(&mut new, 0, &[0x61; 256]);
-    planned.assert_reads(&rt, alloc, 0, &old)?;
-    planned.assert_reads(&rt, alloc, 1, &old)?;
-    planned.assert_reads(&rt, alloc, 2, &new)?;
-    planned.assert_reads(&rt, alloc, 3, &new)?;
-    planned.assert_reads(&rt, alloc, 4, &new)?;
+    planned.assert_turns(&rt, alloc, (2, 4), &old, &new)?;
     planned.assert_all(&rt, alloc, 4)
 }
 
@@ -350,12 +342,7 @@ fn mounts_what_is_unmapped(rt: HostRuntime) -> Result<(), Fail> {
             program block=6 page=2\nerase block=5\nprogram block=5 page=0\n",
     };
     let (old, new) = (root_text(), text_with(7, 0xFF));
-    planned.assert_reads(&rt, alloc, 0, &old)?;
-    planned.assert_reads(&rt, alloc, 1, &old)?;
-    planned.assert_reads(&rt, alloc, 2, &old)?;
-    planned.assert_reads(&rt, alloc, 3, &new)?;
-    planned.assert_reads(&rt, alloc, 4, &new)?;
-    planned.assert_reads(&rt, alloc, 5, &new)?;
+    planned.assert_turns(&rt, alloc, (3, 5), &old, &new)?;
     let copy = VidHeader {
         copy_flag: true,
         data_size: 64,
@@ -396,13 +383,7 @@ fn takes_a_stale_eraseblock(rt: HostRuntime) -> Result<(), Fail> {
     overwrite(&mut old, 0, &[0x37; 64]);
     let mut new = [0xFF; 7680];
     overwrite(&mut new, 0, &[0x61; 64]);
-    planned.assert_reads(&rt, alloc, 0, &old)?;
-    planned.assert_reads(&rt, alloc, 1, &old)?;
-    planned.assert_reads(&rt, alloc, 2, &old)?;
-    planned.assert_reads(&rt, alloc, 3, &old)?;
-    planned.assert_reads(&rt, alloc, 4, &new)?;
-    planned.assert_reads(&rt, alloc, 5, &new)?;
-    planned.assert_reads(&rt, alloc, 6, &new)
+    planned.assert_turns(&rt, alloc, (4, 6), &old, &new)
 }
 
 /// Asserts the line for which a change isn't planned, and that there is no file.
@@ -422,26 +403,26 @@ fn assert_refuses(
 
 #[test]
 fn refuses_by_the_request(rt: HostRuntime) -> Result<(), Fail> {
-    let alloc = rt.alloc();
-    let image = spare_image(alloc, &small()?)?;
+    let image = spare_image(rt.alloc(), &small()?)?;
     let image = image.as_slice();
     let new: &[u8] = &[0x61; 448];
-    let odd: &[u8] = &[0x61; 63];
-    let no_volume = "refused K2 NoVolume\n";
-    let range = "refused K5 OutOfRange\n";
-    let length = "refused K6 BadLength\n";
-    assert_refuses(&rt, alloc, &[0xFF; 511], (0, 1), new, "refused S1 Length\n")?;
-    assert_refuses(&rt, alloc, image, (1, 1), new, no_volume)?;
-    assert_refuses(&rt, alloc, image, (0x7FFF_EFFF, 0), new, no_volume)?;
-    assert_refuses(&rt, alloc, image, (0, 20), new, range)?;
-    assert_refuses(&rt, alloc, image, (0, u32::MAX), new, range)?;
-    assert_refuses(&rt, alloc, image, (0, 1), &[], length)?;
-    assert_refuses(&rt, alloc, image, (0, 1), odd, length)?;
-    assert_refuses(&rt, alloc, image, (0, 1), new, length)?;
     let mut weak = [0xFF; 64];
     overwrite(&mut weak, 59, &[0xBE, 0xF9, 0x8E, 0x24, 0xFE]);
-    let line = "refused K7 WeakCheck pages=0\n";
-    assert_refuses(&rt, alloc, image, (0, 1), &weak, line)
+    let cases: [(&[u8], (u32, u32), &[u8], &str); 9] = [
+        (&[0xFF; 511], (0, 1), new, "refused S1 Length\n"),
+        (image, (1, 1), new, "refused K2 NoVolume\n"),
+        (image, (0x7FFF_EFFF, 0), new, "refused K2 NoVolume\n"),
+        (image, (0, 20), new, "refused K5 OutOfRange\n"),
+        (image, (0, u32::MAX), new, "refused K5 OutOfRange\n"),
+        (image, (0, 1), &[], "refused K6 BadLength\n"),
+        (image, (0, 1), &[0x61; 63], "refused K6 BadLength\n"),
+        (image, (0, 1), new, "refused K6 BadLength\n"),
+        (image, (0, 1), &weak, "refused K7 WeakCheck pages=0\n"),
+    ];
+    for (image, leb, new, line) in cases {
+        assert_refuses(&rt, rt.alloc(), image, leb, new, line)?;
+    }
+    Ok(())
 }
 
 #[test]
@@ -462,17 +443,17 @@ fn refuses_by_what_is_left(rt: HostRuntime) -> Result<(), Fail> {
     let alloc = rt.alloc();
     let geometry = small()?;
     let new: &[u8] = &[0x61; 64];
-    let (exhausted, no_free) = ("refused K8 Exhausted\n", "refused K9 NoFree\n");
-    let root = root_image(alloc, &geometry)?;
-    assert_refuses(&rt, alloc, root.as_slice(), (0, 1), new, no_free)?;
-    let mut image = spare_image(alloc, &geometry)?;
+    let mut image = root_image(alloc, &geometry)?;
+    let no_free = "refused K9 NoFree\n";
+    assert_refuses(&rt, alloc, image.as_slice(), (0, 1), new, no_free)?;
+    put_bytes(&mut image, &ec_of(&geometry, 0x1234_5678), &[0xFF; 64], &[])?;
     assert_refuses(&rt, alloc, image.as_slice(), (0, 7), new, no_free)?;
-    let top = write_vid(&plain(0, 2, u64::MAX));
-    overwrite(image.as_mut_slice(), 4 * 512 + 64, &top);
-    assert_refuses(&rt, alloc, image.as_slice(), (0, 1), new, exhausted)?;
-    let below = write_vid(&plain(0, 2, u64::MAX - 1));
-    overwrite(image.as_mut_slice(), 4 * 512 + 64, &below);
-    assert_refuses(&rt, alloc, image.as_slice(), (0, 7), new, exhausted)?;
+    for (sqnum, lnum) in [(u64::MAX, 1), (u64::MAX - 1, 7)] {
+        let top = write_vid(&plain(0, 2, sqnum));
+        overwrite(image.as_mut_slice(), 4 * 512 + 64, &top);
+        let line = "refused K8 Exhausted\n";
+        assert_refuses(&rt, alloc, image.as_slice(), (0, lnum), new, line)?;
+    }
     // For a logical eraseblock that has a winner one number is enough.
     let planned = Planned {
         geometry: &geometry,

@@ -42,10 +42,12 @@ fn composed(alloc: Global, text: &[u8]) -> Result<Outcome, Fail> {
     Ok(run_compose(alloc, &small()?, text, 0)?)
 }
 
-/// Asserts why a text isn't composed.
-fn assert_refused(rt: &impl Abort, alloc: Global, text: &str, line: &str) -> Result<(), Fail> {
-    let answer = run_compose(alloc, &small()?, text.as_bytes(), 0)?;
-    assert_says(rt, answer, line, 1)
+/// Asserts why each of some texts isn't composed.
+fn assert_refused(rt: &impl Abort, alloc: Global, cases: &[(&str, &str)]) -> Result<(), Fail> {
+    for (text, line) in cases {
+        assert_says(rt, composed(alloc, text.as_bytes())?, line, 1)?;
+    }
+    Ok(())
 }
 
 /// Asserts which bytes a text is composed to, and with which line.
@@ -228,38 +230,76 @@ fn lists_what_was_composed(rt: HostRuntime) -> Result<(), Fail> {
     assert_lists(&rt, alloc, text, lines)
 }
 
+/// Texts that aren't composed, each with its first cause.
+const REFUSED: [(&str, &str); 16] = [
+    (
+        "# a\n\nvolume 0 dynamic 20 1 00 root\nleb 0 1",
+        "refused P1 Word line=4\n",
+    ),
+    (
+        "volume 0 dynamic 20 1 00 root\nleb 0  1 61",
+        "refused P1 Word line=2\n",
+    ),
+    (
+        "volume 0 dynamic 020 1 00 root",
+        "refused P2 Number line=1\n",
+    ),
+    ("volume 0 dynamic 20 1 0 root", "refused P3 Hex line=1\n"),
+    (
+        "volume 0 dynamic 20 1 00 root\nleb 0 1 6",
+        "refused P3 Hex line=2\n",
+    ),
+    (
+        "volume 0 dynamic 20 1 00 a\\x00",
+        "refused P4 Name line=1\n",
+    ),
+    (
+        "volume 0 dynamic 20 1 00 root\nvolume 0 dynamic 20 1 00 root",
+        "refused P5 Order line=2\n",
+    ),
+    (
+        "volume 0 dynamic 20 1 00 root\nbytes 0 61",
+        "refused P5 Order line=2\n",
+    ),
+    (
+        "volume 0 dynamic 20 1 00 root\nleb 1 0 61",
+        "refused P5 Order line=2\n",
+    ),
+    (
+        "volume 0 dynamic 0 1 00 root",
+        "refused P6 Record line=1 NotEmpty\n",
+    ),
+    (
+        "volume 0 dynamic 20 65 00 root",
+        "refused P6 Record line=1 AlignmentPage\n",
+    ),
+    (
+        "volume 0 dynamic 20 1 00 root\nleb 0 1 61\nleb 0 1 61",
+        "refused P7 Twice line=3\n",
+    ),
+    (
+        "volume 5 dynamic 20 1 00 root",
+        "refused M1 IdRange item=0\n",
+    ),
+    (
+        "volume 0 dynamic 1 1 00 a\nvolume 1 dynamic 1 1 00 a",
+        "refused M4 SameName item=1 earlier=0\n",
+    ),
+    ("volume 0 dynamic 31 1 00 root", "refused M5 NoSpace\n"),
+    (
+        "volume 0 dynamic 20 1 00 root\nleb 0 25 61",
+        "refused M6 ContentRange item=0\n",
+    ),
+];
+
 #[test]
-fn names_the_line_at_fault(rt: HostRuntime) -> Result<(), Fail> {
-    let alloc = rt.alloc();
-    let text = "# a\n\nvolume 0 dynamic 20 1 00 root\nleb 0 1";
-    assert_refused(&rt, alloc, text, "refused P1 Word line=4\n")?;
-    let text = "volume 0 dynamic 20 1 00 root\nleb 0  1 61";
-    assert_refused(&rt, alloc, text, "refused P1 Word line=2\n")?;
-    let text = "volume 0 dynamic 020 1 00 root";
-    assert_refused(&rt, alloc, text, "refused P2 Number line=1\n")?;
-    let text = "volume 0 dynamic 20 1 0 root";
-    assert_refused(&rt, alloc, text, "refused P3 Hex line=1\n")?;
-    let text = "volume 0 dynamic 20 1 00 root\nleb 0 1 6";
-    assert_refused(&rt, alloc, text, "refused P3 Hex line=2\n")?;
-    let text = "volume 0 dynamic 20 1 00 a\\x00";
-    assert_refused(&rt, alloc, text, "refused P4 Name line=1\n")
+fn names_what_is_wrong_with_a_text(rt: HostRuntime) -> Result<(), Fail> {
+    assert_refused(&rt, rt.alloc(), &REFUSED)
 }
 
 #[test]
-fn names_the_line_that_does_not_fit(rt: HostRuntime) -> Result<(), Fail> {
+fn names_a_logical_eraseblock_that_is_too_long(rt: HostRuntime) -> Result<(), Fail> {
     let alloc = rt.alloc();
-    let text = "volume 0 dynamic 20 1 00 root\nvolume 0 dynamic 20 1 00 root";
-    assert_refused(&rt, alloc, text, "refused P5 Order line=2\n")?;
-    let text = "volume 0 dynamic 20 1 00 root\nbytes 0 61";
-    assert_refused(&rt, alloc, text, "refused P5 Order line=2\n")?;
-    let text = "volume 0 dynamic 20 1 00 root\nleb 1 0 61";
-    assert_refused(&rt, alloc, text, "refused P5 Order line=2\n")?;
-    let text = "volume 0 dynamic 0 1 00 root";
-    assert_refused(&rt, alloc, text, "refused P6 Record line=1 NotEmpty\n")?;
-    let text = "volume 0 dynamic 20 65 00 root";
-    assert_refused(&rt, alloc, text, "refused P6 Record line=1 AlignmentPage\n")?;
-    let text = "volume 0 dynamic 20 1 00 root\nleb 0 1 61\nleb 0 1 61";
-    assert_refused(&rt, alloc, text, "refused P7 Twice line=3\n")?;
     let mut text = Vec::from_slice(alloc, b"volume 0 dynamic 20 1 00 root\n")?;
     Line {
         front: "leb 0 1 ",
@@ -271,44 +311,41 @@ fn names_the_line_that_does_not_fit(rt: HostRuntime) -> Result<(), Fail> {
     assert_says(&rt, answer, "refused P8 Long line=2\n", 1)
 }
 
-#[test]
-fn reads_lines_of_a_mebibyte(rt: HostRuntime) -> Result<(), Fail> {
-    let alloc = rt.alloc();
-    let mut text = Vec::from_slice(alloc, b"volume 0 dynamic 20 1 00 root\n")?;
-    Line {
-        front: "# ",
-        pair: "no",
-        count: 524_288,
-    }
-    .put(&mut text)?;
-    Line {
-        front: "leb 0 1 ",
-        pair: "61",
-        count: 524_288,
-    }
-    .put(&mut text)?;
-    let answer = run_compose(alloc, &small()?, text.as_slice(), 0)?;
-    assert_says(&rt, answer, "refused P8 Long line=3\n", 1)?;
-    let mut text = Vec::new(alloc);
-    Line {
-        front: "leb",
-        pair: " 0",
-        count: 524_288,
-    }
-    .put(&mut text)?;
-    let answer = run_compose(alloc, &small()?, text.as_slice(), 0)?;
-    assert_says(&rt, answer, "refused P1 Word line=1\n", 1)
+/// A line of a mebibyte, and the lines before it.
+fn long_text(alloc: Global, before: &[u8], line: Line) -> Result<Vec<u8>, AllocError> {
+    let mut text = Vec::from_slice(alloc, before)?;
+    line.put(&mut text)?;
+    Ok(text)
 }
 
 #[test]
-fn refuses_volumes_without_a_meaning(rt: HostRuntime) -> Result<(), Fail> {
+fn reads_lines_of_a_mebibyte(rt: HostRuntime) -> Result<(), Fail> {
     let alloc = rt.alloc();
-    let text = "volume 5 dynamic 20 1 00 root";
-    assert_refused(&rt, alloc, text, "refused M1 IdRange item=0\n")?;
-    let text = "volume 0 dynamic 1 1 00 a\nvolume 1 dynamic 1 1 00 a";
-    assert_refused(&rt, alloc, text, "refused M4 SameName item=1 earlier=0\n")?;
-    let text = "volume 0 dynamic 31 1 00 root";
-    assert_refused(&rt, alloc, text, "refused M5 NoSpace\n")?;
-    let text = "volume 0 dynamic 20 1 00 root\nleb 0 25 61";
-    assert_refused(&rt, alloc, text, "refused M6 ContentRange item=0\n")
+    let remark = Line {
+        front: "# ",
+        pair: "no",
+        count: 524_288,
+    };
+    let text = long_text(alloc, b"volume 0 dynamic 20 1 00 root\n", remark)?;
+    let bytes = Line {
+        front: "leb 0 1 ",
+        pair: "61",
+        count: 524_288,
+    };
+    let text = long_text(alloc, text.as_slice(), bytes)?;
+    let answer = composed(alloc, text.as_slice())?;
+    assert_says(&rt, answer, "refused P8 Long line=3\n", 1)
+}
+
+#[test]
+fn counts_the_words_of_a_line_of_a_mebibyte(rt: HostRuntime) -> Result<(), Fail> {
+    let alloc = rt.alloc();
+    let words = Line {
+        front: "leb",
+        pair: " 0",
+        count: 524_288,
+    };
+    let text = long_text(alloc, &[], words)?;
+    let answer = composed(alloc, text.as_slice())?;
+    assert_says(&rt, answer, "refused P1 Word line=1\n", 1)
 }

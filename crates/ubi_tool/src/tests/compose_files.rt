@@ -1,6 +1,6 @@
 //! The command `compose` over files.
 
-use super::answers::{assert_line, assert_over};
+use super::answers::{assert_each, assert_line, assert_lines, assert_over};
 use super::fake::Broken;
 use super::normal::normal_nothing;
 use std::fs;
@@ -38,19 +38,35 @@ fn composes_a_file(rt: HostRuntime) -> Result<(), Fail> {
     Ok(())
 }
 
+/// Lines for which no file is opened.
+const REFUSED: [(&str, &str, u8); 4] = [
+    (
+        "compose faulty.txt --out uncomposed.img",
+        "refused P1 Word line=1\n",
+        1,
+    ),
+    (
+        "compose crowded.txt --out uncomposed.img",
+        "refused M5 NoSpace\n",
+        1,
+    ),
+    (
+        "compose crowded.txt --out uncomposed.img --data 64",
+        "refused G4 DataOffset\n",
+        2,
+    ),
+    (
+        "compose missing.txt --out uncomposed.img",
+        "cannot read missing.txt\n",
+        1,
+    ),
+];
+
 #[test]
 fn opens_no_file_of_a_text_that_is_refused(rt: HostRuntime) -> Result<(), Fail> {
-    let alloc = rt.alloc();
     fs::write(&rt, "faulty.txt", b"volume 0".as_slice())?;
     fs::write(&rt, "crowded.txt", b"volume 0 dynamic 31 1 00 a".as_slice())?;
-    let line = "compose faulty.txt --out uncomposed.img";
-    assert_line(&rt, alloc, line, "refused P1 Word line=1\n", 1)?;
-    let line = "compose crowded.txt --out uncomposed.img";
-    assert_line(&rt, alloc, line, "refused M5 NoSpace\n", 1)?;
-    let line = "compose crowded.txt --out uncomposed.img --data 64";
-    assert_line(&rt, alloc, line, "refused G4 DataOffset\n", 2)?;
-    let line = "compose missing.txt --out uncomposed.img";
-    assert_line(&rt, alloc, line, "cannot read missing.txt\n", 1)?;
+    assert_lines(&rt, rt.alloc(), &REFUSED)?;
     assert!(rt; !fs::exists(&rt, "uncomposed.img")?);
     fs::remove_file(&rt, "faulty.txt")?;
     fs::remove_file(&rt, "crowded.txt")?;
@@ -69,23 +85,22 @@ fn reads_a_text_of_limited_length(rt: HostRuntime) -> Result<(), Fail> {
     assert_over(&rt, alloc, over, LINE, ("cannot read a.txt\n", 1), &[])
 }
 
+/// How files fail while nothing is composed, what is answered, and how many bytes are written.
+const WAYS: [(Broken, (&str, u8), usize); 5] = [
+    (Broken::OpenRead, ("cannot read a.txt\n", 1), 0),
+    (
+        Broken::Read(ErrorKind::Other, 4),
+        ("cannot read a.txt\n", 1),
+        0,
+    ),
+    (Broken::OpenWrite, ("cannot write b.img\n", 1), 0),
+    (Broken::Write(700), ("cannot write b.img\n", 1), 700),
+    (Broken::Short(9), ("blocks 2\n", 0), 1024),
+];
+
 #[test]
 fn tells_of_files_that_fail(rt: HostRuntime) -> Result<(), Fail> {
     let alloc = rt.alloc();
     let image = normal_nothing(alloc)?;
-    let image = image.as_slice();
-    let cannot_read = ("cannot read a.txt\n", 1);
-    let cannot_write = ("cannot write b.img\n", 1);
-    let text = b"# nothing\n".as_slice();
-    let broken = Broken::OpenRead;
-    assert_over(&rt, alloc, (text, broken), LINE, cannot_read, &[])?;
-    let broken = Broken::Read(ErrorKind::Other, 4);
-    assert_over(&rt, alloc, (text, broken), LINE, cannot_read, &[])?;
-    let broken = Broken::OpenWrite;
-    assert_over(&rt, alloc, (text, broken), LINE, cannot_write, &[])?;
-    let broken = Broken::Write(700);
-    let start = image.get(..700).ok_or("short")?;
-    assert_over(&rt, alloc, (text, broken), LINE, cannot_write, start)?;
-    let broken = Broken::Short(9);
-    assert_over(&rt, alloc, (text, broken), LINE, ("blocks 2\n", 0), image)
+    assert_each(&rt, alloc, b"# nothing\n", LINE, &WAYS, image.as_slice())
 }

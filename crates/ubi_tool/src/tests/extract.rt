@@ -1,6 +1,6 @@
 //! The command `extract` over bytes, and over files.
 
-use super::answers::{assert_line, assert_over, assert_says, small};
+use super::answers::{assert_each, assert_line, assert_lines, assert_over, assert_says, small};
 use super::fake::Broken;
 use super::images::{
     damaged_boot, ec_of, empty_boot, overwrite, root_image, updating_image, whole_boot,
@@ -91,46 +91,68 @@ fn assert_fails(
     Ok(())
 }
 
+/// How many bytes of what `root` reads a writer takes, and how it fails then.
+const CUTS: [(usize, Failure); 6] = [
+    (0, Failure::Nothing),
+    (1, Failure::Error(ErrorKind::Interrupted)),
+    (383, Failure::Nothing),
+    (384, Failure::Error(ErrorKind::Interrupted)),
+    (500, Failure::Nothing),
+    (7679, Failure::Error(ErrorKind::Interrupted)),
+];
+
 #[test]
 fn tells_of_a_writer_that_fails(rt: HostRuntime) -> Result<(), Fail> {
-    let alloc = rt.alloc();
-    let image = root_image(alloc, &small()?)?;
-    let image = image.as_slice();
-    let interrupted = Failure::Error(ErrorKind::Interrupted);
-    assert_fails(&rt, alloc, image, 0, Failure::Nothing)?;
-    assert_fails(&rt, alloc, image, 1, interrupted)?;
-    assert_fails(&rt, alloc, image, 383, Failure::Nothing)?;
-    assert_fails(&rt, alloc, image, 384, interrupted)?;
-    assert_fails(&rt, alloc, image, 500, Failure::Nothing)?;
-    assert_fails(&rt, alloc, image, 7679, interrupted)
+    let image = root_image(rt.alloc(), &small()?)?;
+    for (room, failure) in CUTS {
+        assert_fails(&rt, rt.alloc(), image.as_slice(), room, failure)?;
+    }
+    Ok(())
 }
 
 #[test]
 fn extracts_into_files(rt: HostRuntime) -> Result<(), Fail> {
     let alloc = rt.alloc();
-    let geometry = small()?;
-    fs::write(
-        &rt,
-        "extract_in.img",
-        root_image(alloc, &geometry)?.as_slice(),
-    )?;
-    let line = "extract extract_in.img --id 0 --out extracted.bin";
-    assert_line(&rt, alloc, line, "bytes 7680\n", 0)?;
-    assert_eq!(rt;
-        fs::read(&rt, "extracted.bin")?.as_slice(),
-        root_text().as_slice()
-    );
-    fs::write(
-        &rt,
-        "extract_in.img",
-        empty_boot(alloc, &geometry)?.as_slice(),
-    )?;
-    assert_line(&rt, alloc, line, "bytes 0\n", 0)?;
-    assert_eq!(rt; fs::read(&rt, "extracted.bin")?.len(), 0);
+    let (root, empty) = (root_image(alloc, &small()?)?, empty_boot(alloc, &small()?)?);
+    let text = root_text();
+    let cases: [(&[u8], &str, &[u8]); 2] = [
+        (root.as_slice(), "bytes 7680\n", &text),
+        (empty.as_slice(), "bytes 0\n", &[]),
+    ];
+    for (image, line, want) in cases {
+        fs::write(&rt, "extract_in.img", image)?;
+        let words = "extract extract_in.img --id 0 --out extracted.bin";
+        assert_line(&rt, alloc, words, line, 0)?;
+        assert_eq!(rt; fs::read(&rt, "extracted.bin")?.as_slice(), want);
+    }
     fs::remove_file(&rt, "extracted.bin")?;
     fs::remove_file(&rt, "extract_in.img")?;
     Ok(())
 }
+
+/// Lines for which no file is opened.
+const REFUSED: [(&str, &str, u8); 4] = [
+    (
+        "extract extract_marked.img --id 0 --out unextracted.bin",
+        "refused L2 Updating\n",
+        1,
+    ),
+    (
+        "extract extract_marked.img --id 1 --out unextracted.bin",
+        "refused L1 NoVolume\n",
+        1,
+    ),
+    (
+        "extract extract_odd.img --id 0 --out unextracted.bin",
+        "refused S1 Length\n",
+        1,
+    ),
+    (
+        "extract extract_gone.img --id 0 --out unextracted.bin",
+        "cannot read extract_gone.img\n",
+        1,
+    ),
+];
 
 #[test]
 fn opens_no_file_of_what_is_refused(rt: HostRuntime) -> Result<(), Fail> {
@@ -138,45 +160,35 @@ fn opens_no_file_of_what_is_refused(rt: HostRuntime) -> Result<(), Fail> {
     let marked = "extract_marked.img";
     fs::write(&rt, marked, updating_image(alloc, &small()?)?.as_slice())?;
     fs::write(&rt, "extract_odd.img", [0xFF; 511].as_slice())?;
-    let line = "extract extract_marked.img --id 0 --out unextracted.bin";
-    assert_line(&rt, alloc, line, "refused L2 Updating\n", 1)?;
-    let line = "extract extract_marked.img --id 1 --out unextracted.bin";
-    assert_line(&rt, alloc, line, "refused L1 NoVolume\n", 1)?;
-    let line = "extract extract_odd.img --id 0 --out unextracted.bin";
-    assert_line(&rt, alloc, line, "refused S1 Length\n", 1)?;
-    let line = "extract extract_gone.img --id 0 --out unextracted.bin";
-    assert_line(&rt, alloc, line, "cannot read extract_gone.img\n", 1)?;
+    assert_lines(&rt, alloc, &REFUSED)?;
     assert!(rt; !fs::exists(&rt, "unextracted.bin")?);
     fs::remove_file(&rt, marked)?;
     fs::remove_file(&rt, "extract_odd.img")?;
     Ok(())
 }
 
+/// How files fail while `root` is extracted, what is answered, and how many bytes are written.
+const WAYS: [(Broken, (&str, u8), usize); 4] = [
+    (Broken::Nothing, ("bytes 7680\n", 0), 7680),
+    (Broken::Short(100), ("bytes 7680\n", 0), 7680),
+    (Broken::OpenWrite, ("cannot write b.bin\n", 1), 0),
+    (Broken::Write(500), ("cannot write b.bin\n", 1), 500),
+];
+
+/// The same of a volume that reads nothing.
+const WAYS_OF_NOTHING: [(Broken, (&str, u8), usize); 2] = [
+    (Broken::Write(0), ("bytes 0\n", 0), 0),
+    (Broken::OpenWrite, ("cannot write b.bin\n", 1), 0),
+];
+
 #[test]
 fn tells_of_an_output_that_fails(rt: HostRuntime) -> Result<(), Fail> {
     let alloc = rt.alloc();
-    let geometry = small()?;
-    let root = root_image(alloc, &geometry)?;
-    let root = root.as_slice();
-    let empty = empty_boot(alloc, &geometry)?;
-    let empty = empty.as_slice();
-    let text = root_text();
-    let start = text.get(..500).ok_or("short")?;
     let line = "extract a.img --id 0 --out b.bin";
-    let (done, cannot) = (("bytes 7680\n", 0), ("cannot write b.bin\n", 1));
-    assert_over(&rt, alloc, (root, Broken::Nothing), line, done, &text)?;
-    assert_over(&rt, alloc, (root, Broken::Short(100)), line, done, &text)?;
-    assert_over(&rt, alloc, (root, Broken::OpenWrite), line, cannot, &[])?;
-    assert_over(&rt, alloc, (root, Broken::Write(500)), line, cannot, start)?;
-    assert_over(
-        &rt,
-        alloc,
-        (empty, Broken::Write(0)),
-        line,
-        ("bytes 0\n", 0),
-        &[],
-    )?;
-    assert_over(&rt, alloc, (empty, Broken::OpenWrite), line, cannot, &[])
+    let root = root_image(alloc, &small()?)?;
+    assert_each(&rt, alloc, root.as_slice(), line, &WAYS, &root_text())?;
+    let empty = empty_boot(alloc, &small()?)?;
+    assert_each(&rt, alloc, empty.as_slice(), line, &WAYS_OF_NOTHING, &[])
 }
 
 #[test]

@@ -1,6 +1,6 @@
 //! The commands over files: real ones, and some that fail.
 
-use super::answers::{assert_line, assert_over, small};
+use super::answers::{assert_each, assert_line, assert_over, small};
 use super::fake::Broken;
 use super::images::{ec_of, overwrite, root_image};
 use super::normal::normal_nothing;
@@ -86,38 +86,31 @@ fn tells_of_an_output_that_cannot_be_opened(rt: HostRuntime) -> Result<(), Fail>
     Ok(())
 }
 
+/// How files fail while blank eraseblocks are normalised, what is answered, and how many bytes are written.
+const WAYS: [(Broken, (&str, u8), usize); 7] = [
+    (Broken::Nothing, ("blocks 2\n", 0), 1024),
+    (Broken::Short(100), ("blocks 2\n", 0), 1024),
+    (Broken::OpenRead, ("cannot read a.img\n", 1), 0),
+    (
+        Broken::Read(ErrorKind::Other, 0),
+        ("cannot read a.img\n", 1),
+        0,
+    ),
+    (
+        Broken::Read(ErrorKind::Interrupted, 512),
+        ("cannot read a.img\n", 1),
+        0,
+    ),
+    (Broken::OpenWrite, ("cannot write b.img\n", 1), 0),
+    (Broken::Write(700), ("cannot write b.img\n", 1), 700),
+];
+
 #[test]
 fn tells_of_files_that_fail(rt: HostRuntime) -> Result<(), Fail> {
     let alloc = rt.alloc();
-    let blank: &[u8] = &[0xFF; 1536];
     let want = normal_nothing(alloc)?;
-    let want = want.as_slice();
     let line = "normalise a.img --out b.img";
-    let (done, unread) = (("blocks 2\n", 0), ("cannot read a.img\n", 1));
-    let unwritten = ("cannot write b.img\n", 1);
-    let interrupted = Broken::Read(ErrorKind::Interrupted, 512);
-    assert_over(&rt, alloc, (blank, Broken::Nothing), line, done, want)?;
-    assert_over(&rt, alloc, (blank, Broken::Short(100)), line, done, want)?;
-    assert_over(&rt, alloc, (blank, Broken::OpenRead), line, unread, &[])?;
-    assert_over(
-        &rt,
-        alloc,
-        (blank, Broken::Read(ErrorKind::Other, 0)),
-        line,
-        unread,
-        &[],
-    )?;
-    assert_over(&rt, alloc, (blank, interrupted), line, unread, &[])?;
-    assert_over(&rt, alloc, (blank, Broken::OpenWrite), line, unwritten, &[])?;
-    let start = want.get(..700).ok_or("short")?;
-    assert_over(
-        &rt,
-        alloc,
-        (blank, Broken::Write(700)),
-        line,
-        unwritten,
-        start,
-    )
+    assert_each(&rt, alloc, &[0xFF; 1536], line, &WAYS, want.as_slice())
 }
 
 #[test]

@@ -167,12 +167,15 @@ fn reads_whole_what_may_be_the_output(rt: HostRuntime) -> Result<(), Fail> {
     let alloc = rt.alloc();
     let over: (&[u8], Broken) = (&[0xFF; 1536], Broken::Whole);
     let unread = ("cannot read a.img\n", 1);
-    let line = "normalise a.img --out a.img";
-    assert_over(&rt, alloc, over, line, unread, &[])?;
-    let line = "normalise a.img --out other.img";
-    assert_over(&rt, alloc, over, line, unread, &[])?;
-    let line = "normalise a.img --out untold.img";
-    assert_over(&rt, alloc, over, line, unread, &[])
+    let lines = [
+        "normalise a.img --out a.img",
+        "normalise a.img --out other.img",
+        "normalise a.img --out untold.img",
+    ];
+    for line in lines {
+        assert_over(&rt, alloc, over, line, unread, &[])?;
+    }
+    Ok(())
 }
 
 #[test]

@@ -55,22 +55,21 @@ fn shows_corrupt_headers(rt: HostRuntime) -> Result<(), Fail> {
     Ok(())
 }
 
+/// Of how many bytes which eraseblock isn't shown, and why. The sizes of the image come first.
+const REFUSED: [(usize, u32, &str); 5] = [
+    (1536, 3, "refused B1 Block\n"),
+    (1536, u32::MAX, "refused B1 Block\n"),
+    (511, 3, "refused S1 Length\n"),
+    (0, 0, "refused S1 Length\n"),
+    (16_896, 40, "refused S2 TooMany\n"),
+];
+
 #[test]
 fn refuses_a_block_that_is_not_there(rt: HostRuntime) -> Result<(), Fail> {
-    let alloc = rt.alloc();
-    let geometry = small()?;
-    let bytes: &[u8] = &[0xFF; 16_896];
-    let (image, beyond) = (&bytes[..1536], "refused B1 Block\n");
-    assert_says(&rt, run_show(alloc, &geometry, image, 3)?, beyond, 1)?;
-    assert_says(&rt, run_show(alloc, &geometry, image, u32::MAX)?, beyond, 1)?;
-    // The sizes of the image come first.
-    let (length, many) = ("refused S1 Length\n", "refused S2 TooMany\n");
-    assert_says(
-        &rt,
-        run_show(alloc, &geometry, &bytes[..511], 3)?,
-        length,
-        1,
-    )?;
-    assert_says(&rt, run_show(alloc, &geometry, &[], 0)?, length, 1)?;
-    assert_says(&rt, run_show(alloc, &geometry, bytes, 40)?, many, 1)
+    let bytes = [0xFF; 16_896];
+    for (len, p, line) in REFUSED {
+        let image = bytes.get(..len).ok_or("short")?;
+        assert_says(&rt, run_show(rt.alloc(), &small()?, image, p)?, line, 1)?;
+    }
+    Ok(())
 }

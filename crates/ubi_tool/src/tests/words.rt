@@ -28,182 +28,204 @@ fn assert_answers(
     Ok(())
 }
 
-/// Asserts that the words of a line are wrong, and what standard error shows.
-fn assert_wrong(rt: &impl Abort, alloc: Global, line: &str, error: &str) -> Result<(), Fail> {
-    assert_answers(rt, alloc, line, ("", 2), error)
+/// Asserts that the words of each line are wrong, and what standard error shows.
+fn assert_wrong(rt: &impl Abort, alloc: Global, cases: &[(&str, &str)]) -> Result<(), Fail> {
+    for (line, error) in cases {
+        assert_answers(rt, alloc, line, ("", 2), error)?;
+    }
+    Ok(())
 }
+
+/// Lines that name no command or ask for help, with what is shown.
+const NO_COMMAND: [(&str, &str); 13] = [
+    ("", "requires a subcommand"),
+    ("--help", "Usage: ubi_tool"),
+    ("--help", "ubi_tool list dump.img --peb 131072 --page 2048"),
+    ("help", "Usage: ubi_tool"),
+    ("--version", "ubi_tool 0.1.0\n"),
+    ("rename a", "unrecognized subcommand"),
+    ("list --help", "--vid <N>   The offset of the VID header"),
+    ("show --help", "Usage: ubi_tool show"),
+    ("same --help", "Usage: ubi_tool same"),
+    ("extract --help", "Usage: ubi_tool extract"),
+    ("compose --help", "Usage: ubi_tool compose"),
+    ("normalise --help", "Usage: ubi_tool normalise"),
+    ("change --help", "Usage: ubi_tool change"),
+];
 
 #[test]
 fn shows_wrong_commands_and_help(rt: HostRuntime) -> Result<(), Fail> {
-    let alloc = rt.alloc();
-    assert_wrong(&rt, alloc, "", "requires a subcommand")?;
-    assert_wrong(&rt, alloc, "--help", "Usage: ubi_tool")?;
-    assert_wrong(
-        &rt,
-        alloc,
-        "--help",
-        "ubi_tool list dump.img --peb 131072 --page 2048",
-    )?;
-    assert_wrong(&rt, alloc, "help", "Usage: ubi_tool")?;
-    assert_wrong(&rt, alloc, "--version", "ubi_tool 0.1.0\n")?;
-    assert_wrong(&rt, alloc, "rename a", "unrecognized subcommand")?;
-    assert_wrong(
-        &rt,
-        alloc,
-        "list --help",
-        "--vid <N>   The offset of the VID header",
-    )?;
-    assert_wrong(&rt, alloc, "show --help", "Usage: ubi_tool show")?;
-    assert_wrong(&rt, alloc, "same --help", "Usage: ubi_tool same")?;
-    assert_wrong(&rt, alloc, "extract --help", "Usage: ubi_tool extract")?;
-    assert_wrong(&rt, alloc, "compose --help", "Usage: ubi_tool compose")?;
-    assert_wrong(&rt, alloc, "normalise --help", "Usage: ubi_tool normalise")?;
-    assert_wrong(&rt, alloc, "change --help", "Usage: ubi_tool change")
+    assert_wrong(&rt, rt.alloc(), &NO_COMMAND)
 }
+
+/// Lines of which words are missing.
+const MISSING: [(&str, &str); 15] = [
+    ("normalise a --out b --peb 512", "--page <N>"),
+    ("normalise --out b --peb 512 --page 64", "<IMAGE>"),
+    ("normalise a --peb 512 --page 64", "--out <FILE>"),
+    ("check --peb 512 --page 64", "<IMAGE>"),
+    ("show a --peb 512 --page 64", "--block <P>"),
+    ("same a --peb 512 --page 64", "<IMAGE>"),
+    ("compose a --peb 512 --page 64", "--out <FILE>"),
+    ("compose --out b --peb 512 --page 64", "<SPEC>"),
+    ("extract a --peb 512 --page 64 --out b", "--id <N>"),
+    ("extract a --peb 512 --page 64 --id 0", "--out <FILE>"),
+    (
+        "change a --peb 512 --page 64 --lnum 0 --from b --out c",
+        "--id <N>",
+    ),
+    (
+        "change a --peb 512 --page 64 --id 0 --from b --out c",
+        "--lnum <N>",
+    ),
+    (
+        "change a --peb 512 --page 64 --id 0 --lnum 0 --out c",
+        "--from <FILE>",
+    ),
+    (
+        "change a --peb 512 --page 64 --id 0 --lnum 0 --from b",
+        "--out <FILE>",
+    ),
+    (
+        "change a --peb 512 --page 64 --id 0 --lnum 0 --from b --out c --stop x",
+        "invalid value",
+    ),
+];
 
 #[test]
 fn shows_words_that_are_missing(rt: HostRuntime) -> Result<(), Fail> {
-    let alloc = rt.alloc();
-    let line = "normalise a --out b --peb 512";
-    assert_wrong(&rt, alloc, line, "--page <N>")?;
-    let line = "normalise --out b --peb 512 --page 64";
-    assert_wrong(&rt, alloc, line, "<IMAGE>")?;
-    let line = "normalise a --peb 512 --page 64";
-    assert_wrong(&rt, alloc, line, "--out <FILE>")?;
-    assert_wrong(&rt, alloc, "check --peb 512 --page 64", "<IMAGE>")?;
-    assert_wrong(&rt, alloc, "show a --peb 512 --page 64", "--block <P>")?;
-    assert_wrong(&rt, alloc, "same a --peb 512 --page 64", "<IMAGE>")?;
-    let line = "compose a --peb 512 --page 64";
-    assert_wrong(&rt, alloc, line, "--out <FILE>")?;
-    let line = "compose --out b --peb 512 --page 64";
-    assert_wrong(&rt, alloc, line, "<SPEC>")?;
-    let line = "extract a --peb 512 --page 64 --out b";
-    assert_wrong(&rt, alloc, line, "--id <N>")?;
-    let line = "extract a --peb 512 --page 64 --id 0";
-    assert_wrong(&rt, alloc, line, "--out <FILE>")
+    assert_wrong(&rt, rt.alloc(), &MISSING)
 }
 
-#[test]
-fn shows_words_of_a_change_that_are_missing(rt: HostRuntime) -> Result<(), Fail> {
-    let alloc = rt.alloc();
-    let line = "change a --peb 512 --page 64 --lnum 0 --from b --out c";
-    assert_wrong(&rt, alloc, line, "--id <N>")?;
-    let line = "change a --peb 512 --page 64 --id 0 --from b --out c";
-    assert_wrong(&rt, alloc, line, "--lnum <N>")?;
-    let line = "change a --peb 512 --page 64 --id 0 --lnum 0 --out c";
-    assert_wrong(&rt, alloc, line, "--from <FILE>")?;
-    let line = "change a --peb 512 --page 64 --id 0 --lnum 0 --from b";
-    assert_wrong(&rt, alloc, line, "--out <FILE>")?;
-    let line = "change a --peb 512 --page 64 --id 0 --lnum 0 --from b --out c --stop x";
-    assert_wrong(&rt, alloc, line, "invalid value")?;
-    let line = "change a --peb 500 --page 64 --id 0 --lnum 0 --from b --out c --stop 0";
-    assert_answers(&rt, alloc, line, ("refused G2 PebSize\n", 2), "")
-}
+/// Lines with words that can't be read.
+const UNREAD: [(&str, &str); 9] = [
+    (
+        "normalise a --out b --peb 4294967296 --page 64",
+        "invalid value",
+    ),
+    (
+        "normalise a --out b --peb -1 --page 64",
+        "unexpected argument",
+    ),
+    ("normalise a --out b --peb 512 --page x", "invalid value"),
+    (
+        "compose a --out b --spares x --peb 512 --page 64",
+        "'--spares <N>'",
+    ),
+    (
+        "normalise a b --out c --peb 512 --page 64",
+        "unexpected argument",
+    ),
+    ("list a --peb 512 --page 64 --out b", "unexpected argument"),
+    (
+        "show a --peb 512 --page 64 --block -1",
+        "unexpected argument",
+    ),
+    ("same a b c --peb 512 --page 64", "unexpected argument"),
+    (
+        "extract a --peb 512 --page 64 --id 0x1 --out b",
+        "invalid value",
+    ),
+];
 
 #[test]
 fn shows_words_that_cannot_be_read(rt: HostRuntime) -> Result<(), Fail> {
-    let alloc = rt.alloc();
-    let (unexpected, invalid) = ("unexpected argument", "invalid value");
-    let line = "normalise a --out b --peb 4294967296 --page 64";
-    assert_wrong(&rt, alloc, line, invalid)?;
-    let line = "normalise a --out b --peb -1 --page 64";
-    assert_wrong(&rt, alloc, line, unexpected)?;
-    let line = "normalise a --out b --peb 512 --page x";
-    assert_wrong(&rt, alloc, line, invalid)?;
-    let line = "compose a --out b --spares x --peb 512 --page 64";
-    assert_wrong(&rt, alloc, line, "'--spares <N>'")?;
-    let line = "normalise a b --out c --peb 512 --page 64";
-    assert_wrong(&rt, alloc, line, unexpected)?;
-    let line = "list a --peb 512 --page 64 --out b";
-    assert_wrong(&rt, alloc, line, unexpected)?;
-    let line = "show a --peb 512 --page 64 --block -1";
-    assert_wrong(&rt, alloc, line, unexpected)?;
-    let line = "same a b c --peb 512 --page 64";
-    assert_wrong(&rt, alloc, line, unexpected)?;
-    let line = "extract a --peb 512 --page 64 --id 0x1 --out b";
-    assert_wrong(&rt, alloc, line, invalid)
+    assert_wrong(&rt, rt.alloc(), &UNREAD)
 }
 
-/// Asserts that the numbers of a geometry are refused, before any file is read.
-fn assert_limit(rt: &impl Abort, alloc: Global, numbers: &str, text: &str) -> Result<(), Fail> {
-    let line = format!(in alloc; "list a --peb {numbers}")?;
-    assert_answers(rt, alloc, line.as_str(), (text, 2), "")
-}
-
-#[test]
-fn refuses_geometries_by_their_first_limit(rt: HostRuntime) -> Result<(), Fail> {
-    let alloc = rt.alloc();
-    let page = "refused G1 Page\n";
-    assert_limit(
-        &rt,
-        alloc,
-        "512 --page 96 --vid 100 --data 128 --pebs 1",
-        page,
-    )?;
-    assert_limit(&rt, alloc, "512 --page 4294967295", page)?;
-    assert_limit(&rt, alloc, "512 --page 2147483648", page)?;
-    assert_limit(&rt, alloc, "500 --page 64", "refused G2 PebSize\n")?;
-    assert_limit(&rt, alloc, "4294967295 --page 64", "refused G2 PebSize\n")?;
-    assert_limit(
-        &rt,
-        alloc,
-        "512 --page 64 --vid 0",
+/// Lines that are answered before any image is read, with the answers: of the numbers the first limit that they break, and
+/// of what is left out its default. A path that begins with a hyphen follows `--`.
+const ANSWERED: [(&str, &str, u8); 24] = [
+    (
+        "list a --peb 512 --page 96 --vid 100 --data 128 --pebs 1",
+        "refused G1 Page\n",
+        2,
+    ),
+    ("list a --peb 512 --page 4294967295", "refused G1 Page\n", 2),
+    ("list a --peb 512 --page 2147483648", "refused G1 Page\n", 2),
+    ("list a --peb 500 --page 64", "refused G2 PebSize\n", 2),
+    (
+        "list a --peb 4294967295 --page 64",
+        "refused G2 PebSize\n",
+        2,
+    ),
+    (
+        "list a --peb 512 --page 64 --vid 0",
         "refused G3 VidOffset\n",
-    )?;
-    assert_limit(
-        &rt,
-        alloc,
-        "512 --page 64 --data 64",
+        2,
+    ),
+    (
+        "list a --peb 512 --page 64 --data 64",
         "refused G4 DataOffset\n",
-    )
-}
-
-#[test]
-fn refuses_small_geometries(rt: HostRuntime) -> Result<(), Fail> {
-    let alloc = rt.alloc();
-    let offset = "refused G4 DataOffset\n";
-    assert_limit(&rt, alloc, "512 --page 64 --vid 4294967232", offset)?;
-    assert_limit(&rt, alloc, "256 --page 64", "refused G5 LebTooSmall\n")?;
-    let small = "refused G5 LebTooSmall\n";
-    assert_limit(&rt, alloc, "512 --page 64 --data 512", small)?;
-    assert_limit(&rt, alloc, "512 --page 64 --pebs 1", "refused G6 Pebs\n")?;
-    assert_limit(
-        &rt,
-        alloc,
-        "512 --page 64 --pebs 1048577",
+        2,
+    ),
+    (
+        "list a --peb 512 --page 64 --vid 4294967232",
+        "refused G4 DataOffset\n",
+        2,
+    ),
+    ("list a --peb 256 --page 64", "refused G5 LebTooSmall\n", 2),
+    (
+        "list a --peb 512 --page 64 --data 512",
+        "refused G5 LebTooSmall\n",
+        2,
+    ),
+    (
+        "list a --peb 512 --page 64 --pebs 1",
         "refused G6 Pebs\n",
-    )
-}
+        2,
+    ),
+    (
+        "list a --peb 512 --page 64 --pebs 1048577",
+        "refused G6 Pebs\n",
+        2,
+    ),
+    ("check a --peb 500 --page 64", "refused G2 PebSize\n", 2),
+    (
+        "show a --block 0 --peb 500 --page 64",
+        "refused G2 PebSize\n",
+        2,
+    ),
+    (
+        "extract a --id 0 --out b --peb 500 --page 64",
+        "refused G2 PebSize\n",
+        2,
+    ),
+    (
+        "normalise a --out b --peb 500 --page 64",
+        "refused G2 PebSize\n",
+        2,
+    ),
+    ("same a b --peb 500 --page 64", "refused G2 PebSize\n", 2),
+    (
+        "change a --peb 500 --page 64 --id 0 --lnum 0 --from b --out c --stop 0",
+        "refused G2 PebSize\n",
+        2,
+    ),
+    (
+        "normalise a --out b --peb 512 --page 64",
+        "cannot read a\n",
+        1,
+    ),
+    (
+        "normalise a --out b --peb 512 --page 64 --vid 64",
+        "cannot read a\n",
+        1,
+    ),
+    (
+        "list a --peb 512 --page 64 --data 128 --pebs 1048576",
+        "cannot read a\n",
+        1,
+    ),
+    ("check --peb=512 --page=64 a", "cannot read a\n", 1),
+    ("check --page 0064 --peb +512 a", "cannot read a\n", 1),
+    ("check --peb 512 --page 64 -- -a", "cannot read -a\n", 1),
+];
 
 #[test]
-fn refuses_a_geometry_to_each_command(rt: HostRuntime) -> Result<(), Fail> {
-    let alloc = rt.alloc();
-    let limit = ("refused G2 PebSize\n", 2);
-    let line = "check a --peb 500 --page 64";
-    assert_answers(&rt, alloc, line, limit, "")?;
-    let line = "show a --block 0 --peb 500 --page 64";
-    assert_answers(&rt, alloc, line, limit, "")?;
-    let line = "extract a --id 0 --out b --peb 500 --page 64";
-    assert_answers(&rt, alloc, line, limit, "")?;
-    let line = "normalise a --out b --peb 500 --page 64";
-    assert_answers(&rt, alloc, line, limit, "")?;
-    let line = "same a b --peb 500 --page 64";
-    assert_answers(&rt, alloc, line, limit, "")
-}
-
-#[test]
-fn takes_defaults(rt: HostRuntime) -> Result<(), Fail> {
-    let alloc = rt.alloc();
-    let unread = ("cannot read a\n", 1);
-    let line = "normalise a --out b --peb 512 --page 64";
-    assert_answers(&rt, alloc, line, unread, "")?;
-    let line = "normalise a --out b --peb 512 --page 64 --vid 64";
-    assert_answers(&rt, alloc, line, unread, "")?;
-    let line = "list a --peb 512 --page 64 --data 128 --pebs 1048576";
-    assert_answers(&rt, alloc, line, unread, "")?;
-    assert_answers(&rt, alloc, "check --peb=512 --page=64 a", unread, "")?;
-    assert_answers(&rt, alloc, "check --page 0064 --peb +512 a", unread, "")?;
-    // A path that begins with a hyphen follows `--`.
-    let unread = ("cannot read -a\n", 1);
-    assert_answers(&rt, alloc, "check --peb 512 --page 64 -- -a", unread, "")
+fn refuses_geometries_and_takes_defaults(rt: HostRuntime) -> Result<(), Fail> {
+    for (line, text, status) in &ANSWERED {
+        assert_answers(&rt, rt.alloc(), line, (text, *status), "")?;
+    }
+    Ok(())
 }
