@@ -6,6 +6,7 @@ use crate::outcome::Outcome;
 use crate::words::run_words;
 use std::alloc::{AllocError, Global};
 use std::cell::RefCell;
+use std::fs;
 use std::fs::Files;
 use std::os::unix::fs::FileExt;
 use std::process::Abort;
@@ -125,6 +126,14 @@ pub fn assert_each(
     for (broken, answer, count) in ways {
         let written = output.get(..*count).ok_or("short")?;
         assert_over(rt, alloc, (image, *broken), line, *answer, written)?;
+    }
+    Ok(())
+}
+
+/// Removes files.
+pub fn remove_files(rt: &impl Files, paths: &[&str]) -> Result<(), Fail> {
+    for path in paths {
+        fs::remove_file(rt, path)?;
     }
     Ok(())
 }

@@ -1,6 +1,6 @@
 //! The command `change` over files.
 
-use super::answers::{assert_each, assert_line, assert_lines, small};
+use super::answers::{assert_each, assert_line, assert_lines, remove_files, small};
 use super::change::spare_image;
 use super::fake::Broken;
 use super::images::{CHECK_OF_61, ec_of, overwrite, plain};
@@ -76,10 +76,7 @@ fn changes_a_file(rt: HostRuntime) -> Result<(), Fail> {
         let want = changed(alloc, &small()?, stop)?;
         assert_eq!(rt; fs::read(&rt, "changed.img")?.as_slice(), want.as_slice());
     }
-    fs::remove_file(&rt, "change_in.img")?;
-    fs::remove_file(&rt, "change_new.bin")?;
-    fs::remove_file(&rt, "changed.img")?;
-    Ok(())
+    remove_files(&rt, &["change_in.img", "change_new.bin", "changed.img"])
 }
 
 /// Changes that are refused. Both files are read before the work, and the image first.
@@ -121,10 +118,7 @@ fn opens_no_file_of_a_change_that_is_refused(rt: HostRuntime) -> Result<(), Fail
     fs::write(&rt, "kept_new.bin", [0x61; 64].as_slice())?;
     assert_lines(&rt, alloc, &REFUSED)?;
     assert!(rt; !fs::exists(&rt, "unchanged.img")?);
-    fs::remove_file(&rt, "kept_in.img")?;
-    fs::remove_file(&rt, "kept_faulty.img")?;
-    fs::remove_file(&rt, "kept_new.bin")?;
-    Ok(())
+    remove_files(&rt, &["kept_in.img", "kept_faulty.img", "kept_new.bin"])
 }
 
 /// How files fail while an image is changed, what is answered, and how many bytes are written. A read that fails does so once

@@ -1,6 +1,6 @@
 //! The command `compose` over files.
 
-use super::answers::{assert_each, assert_line, assert_lines, assert_over};
+use super::answers::{assert_each, assert_line, assert_lines, assert_over, remove_files};
 use super::fake::Broken;
 use super::normal::normal_nothing;
 use std::fs;
@@ -32,10 +32,7 @@ fn composes_a_file(rt: HostRuntime) -> Result<(), Fail> {
         *second = b'b';
     }
     assert_eq!(rt; read.as_slice(), want.as_slice());
-    fs::remove_file(&rt, "compose_in.txt")?;
-    fs::remove_file(&rt, "composed.img")?;
-    fs::remove_file(&rt, "composed.bin")?;
-    Ok(())
+    remove_files(&rt, &["compose_in.txt", "composed.img", "composed.bin"])
 }
 
 /// Lines for which no file is opened.
@@ -68,9 +65,7 @@ fn opens_no_file_of_a_text_that_is_refused(rt: HostRuntime) -> Result<(), Fail> 
     fs::write(&rt, "crowded.txt", b"volume 0 dynamic 31 1 00 a".as_slice())?;
     assert_lines(&rt, rt.alloc(), &REFUSED)?;
     assert!(rt; !fs::exists(&rt, "uncomposed.img")?);
-    fs::remove_file(&rt, "faulty.txt")?;
-    fs::remove_file(&rt, "crowded.txt")?;
-    Ok(())
+    remove_files(&rt, &["faulty.txt", "crowded.txt"])
 }
 
 #[test]

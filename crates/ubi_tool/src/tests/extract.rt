@@ -1,6 +1,8 @@
 //! The command `extract` over bytes, and over files.
 
-use super::answers::{assert_each, assert_line, assert_lines, assert_over, assert_says, small};
+use super::answers::{
+    assert_each, assert_line, assert_lines, assert_over, assert_says, remove_files, small,
+};
 use super::fake::Broken;
 use super::images::{
     damaged_boot, ec_of, empty_boot, overwrite, root_image, updating_image, whole_boot,
@@ -125,9 +127,7 @@ fn extracts_into_files(rt: HostRuntime) -> Result<(), Fail> {
         assert_line(&rt, alloc, words, line, 0)?;
         assert_eq!(rt; fs::read(&rt, "extracted.bin")?.as_slice(), want);
     }
-    fs::remove_file(&rt, "extracted.bin")?;
-    fs::remove_file(&rt, "extract_in.img")?;
-    Ok(())
+    remove_files(&rt, &["extracted.bin", "extract_in.img"])
 }
 
 /// Lines for which no file is opened.
@@ -162,9 +162,7 @@ fn opens_no_file_of_what_is_refused(rt: HostRuntime) -> Result<(), Fail> {
     fs::write(&rt, "extract_odd.img", [0xFF; 511].as_slice())?;
     assert_lines(&rt, alloc, &REFUSED)?;
     assert!(rt; !fs::exists(&rt, "unextracted.bin")?);
-    fs::remove_file(&rt, marked)?;
-    fs::remove_file(&rt, "extract_odd.img")?;
-    Ok(())
+    remove_files(&rt, &[marked, "extract_odd.img"])
 }
 
 /// How files fail while `root` is extracted, what is answered, and how many bytes are written.

@@ -1,6 +1,6 @@
 //! The commands over files: real ones, and some that fail.
 
-use super::answers::{assert_each, assert_line, assert_over, small};
+use super::answers::{assert_each, assert_line, assert_lines, assert_over, remove_files, small};
 use super::fake::Broken;
 use super::images::{ec_of, overwrite, root_image};
 use super::normal::normal_nothing;
@@ -22,11 +22,28 @@ fn normalises_a_file_twice(rt: HostRuntime) -> Result<(), Fail> {
         fs::read(&rt, "blank_again.img")?.as_slice(),
         want.as_slice()
     );
-    fs::remove_file(&rt, "blank_in.img")?;
-    fs::remove_file(&rt, "blank_out.img")?;
-    fs::remove_file(&rt, "blank_again.img")?;
-    Ok(())
+    remove_files(&rt, &["blank_in.img", "blank_out.img", "blank_again.img"])
 }
+
+/// Lines for which no file is opened.
+const REFUSED: [(&str, &str, u8); 4] = [
+    (
+        "normalise faulty_in.img --out refused_out.img",
+        "refused S4 ImageSeq block=3\n",
+        1,
+    ),
+    (
+        "normalise odd_in.img --out refused_out.img",
+        "refused S1 Length\n",
+        1,
+    ),
+    (
+        "normalise missing_in.img --out refused_out.img",
+        "cannot read missing_in.img\n",
+        1,
+    ),
+    ("normalise . --out refused_out.img", "cannot read .\n", 1),
+];
 
 #[test]
 fn opens_no_file_where_the_work_is_refused(rt: HostRuntime) -> Result<(), Fail> {
@@ -36,42 +53,38 @@ fn opens_no_file_where_the_work_is_refused(rt: HostRuntime) -> Result<(), Fail> 
     overwrite(faulty.as_mut_slice(), 3 * 512, &ec_of(&geometry, 8));
     fs::write(&rt, "faulty_in.img", faulty.as_slice())?;
     fs::write(&rt, "odd_in.img", [0xFF; 511].as_slice())?;
-    let line = "normalise faulty_in.img --out refused_out.img";
-    assert_line(&rt, alloc, line, "refused S4 ImageSeq block=3\n", 1)?;
-    let line = "normalise odd_in.img --out refused_out.img";
-    assert_line(&rt, alloc, line, "refused S1 Length\n", 1)?;
-    let line = "normalise missing_in.img --out refused_out.img";
-    assert_line(&rt, alloc, line, "cannot read missing_in.img\n", 1)?;
-    let line = "normalise . --out refused_out.img";
-    assert_line(&rt, alloc, line, "cannot read .\n", 1)?;
+    assert_lines(&rt, alloc, &REFUSED)?;
     assert!(rt; !fs::exists(&rt, "refused_out.img")?);
-    fs::remove_file(&rt, "faulty_in.img")?;
-    fs::remove_file(&rt, "odd_in.img")?;
-    Ok(())
+    remove_files(&rt, &["faulty_in.img", "odd_in.img"])
 }
+
+/// Lines that read a file, and the same of one that isn't there.
+const NAMED: [(&str, &str, u8); 6] = [
+    (
+        "list named_in.img",
+        "geometry peb=512 page=64 vid=64 data=128 leb=384 slots=2 pebs=32\n\
+            volume 0 dynamic reserved=20 alignment=1 usable=384 flags=00 lebs=3 name=root\n\
+            volumes 1\n",
+        0,
+    ),
+    (
+        "check named_in.img",
+        "blocks 5\nblank 0\nfree 0\ntable 2\nused 3\nstale 0\norphan 0\n\
+            dropped 0\ncorrupt 0\ngarbage 0\ntop sqnum 0\nimage seq 305419896\n\
+            mean counter 0\naccepted\n",
+        0,
+    ),
+    ("show named_in.img --block 5", "refused B1 Block\n", 1),
+    ("list unnamed.img", "cannot read unnamed.img\n", 1),
+    ("check unnamed.img", "cannot read unnamed.img\n", 1),
+    ("show unnamed.img --block 0", "cannot read unnamed.img\n", 1),
+];
 
 #[test]
 fn reads_the_files_that_are_named(rt: HostRuntime) -> Result<(), Fail> {
-    let alloc = rt.alloc();
-    fs::write(
-        &rt,
-        "named_in.img",
-        root_image(alloc, &small()?)?.as_slice(),
-    )?;
-    let listed = "geometry peb=512 page=64 vid=64 data=128 leb=384 slots=2 pebs=32\n\
-        volume 0 dynamic reserved=20 alignment=1 usable=384 flags=00 lebs=3 name=root\n\
-        volumes 1\n";
-    assert_line(&rt, alloc, "list named_in.img", listed, 0)?;
-    let checked = "blocks 5\nblank 0\nfree 0\ntable 2\nused 3\nstale 0\norphan 0\n\
-        dropped 0\ncorrupt 0\ngarbage 0\ntop sqnum 0\nimage seq 305419896\n\
-        mean counter 0\naccepted\n";
-    assert_line(&rt, alloc, "check named_in.img", checked, 0)?;
-    let beyond = "refused B1 Block\n";
-    assert_line(&rt, alloc, "show named_in.img --block 5", beyond, 1)?;
-    let missing = "cannot read unnamed.img\n";
-    assert_line(&rt, alloc, "list unnamed.img", missing, 1)?;
-    assert_line(&rt, alloc, "check unnamed.img", missing, 1)?;
-    assert_line(&rt, alloc, "show unnamed.img --block 0", missing, 1)?;
+    let image = root_image(rt.alloc(), &small()?)?;
+    fs::write(&rt, "named_in.img", image.as_slice())?;
+    assert_lines(&rt, rt.alloc(), &NAMED)?;
     fs::remove_file(&rt, "named_in.img")?;
     Ok(())
 }

@@ -1,6 +1,6 @@
 //! The command `normalise` over sources and files that fail, that have no places, or that are the output too.
 
-use super::answers::{assert_line, assert_over, small};
+use super::answers::{assert_line, assert_over, remove_files, small};
 use super::fake::Broken;
 use super::images::{ec_of, overwrite, root_image};
 use super::normal::{normal_nothing, normal_root, root_bytes};
@@ -198,9 +198,7 @@ fn normalises_a_file_onto_itself(rt: HostRuntime) -> Result<(), Fail> {
             fs::read(&rt, "onto_itself.img")?.as_slice(),
             want.as_slice()
         );
-        fs::remove_file(&rt, "onto_itself.img")?;
-        fs::remove_file(&rt, "linked.img")?;
-        fs::remove_file(&rt, "pointing.img")?;
+        remove_files(&rt, &["onto_itself.img", "linked.img", "pointing.img"])?;
     }
     Ok(())
 }
@@ -255,7 +253,5 @@ fn leaves_a_file_as_it_is_where_the_image_is_refused(rt: HostRuntime) -> Result<
         fs::read(&rt, "kept.img")?.as_slice(),
         b"as it was".as_slice()
     );
-    fs::remove_file(&rt, "refused.img")?;
-    fs::remove_file(&rt, "kept.img")?;
-    Ok(())
+    remove_files(&rt, &["refused.img", "kept.img"])
 }

@@ -1,6 +1,6 @@
 //! The command `same` over bytes, and over files.
 
-use super::answers::{assert_lines, assert_says, small};
+use super::answers::{assert_lines, assert_says, remove_files, small};
 use super::images::{
     damaged_boot, ec_of, overwrite, reversed_image, rivals_image, root_image, updating_image,
     whole_boot,
@@ -138,8 +138,5 @@ fn compares_files(rt: HostRuntime) -> Result<(), Fail> {
     fs::write(&rt, turned, reversed_image(alloc, &geometry)?.as_slice())?;
     fs::write(&rt, odd, [0xFF; 511].as_slice())?;
     assert_lines(&rt, alloc, &LINES)?;
-    fs::remove_file(&rt, root)?;
-    fs::remove_file(&rt, turned)?;
-    fs::remove_file(&rt, odd)?;
-    Ok(())
+    remove_files(&rt, &[root, turned, odd])
 }
