@@ -64,21 +64,21 @@ fn tells_how_much_volumes_read(rt: HostRuntime) -> Result<(), Fail> {
 #[test]
 fn tells_the_eraseblock_whose_read_fails(rt: HostRuntime) -> Result<(), Fail> {
     let bytes = image(rt.alloc(), &BASE)?;
-    let mut whole = ProbeSource::new(rt.alloc(), &geometry()?, bytes.as_slice(), 0)?;
-    assert!(rt; attach_places(rt.alloc(), &geometry()?, &mut whole).is_ok());
-    let before = whole
-        .reads(0)
-        .saturating_add(whole.reads(1))
-        .saturating_add(whole.reads(2))
-        .saturating_add(whole.reads(3))
-        .saturating_add(whole.reads(4));
-    let mut source = ProbeSource::new(
-        rt.alloc(),
-        &geometry()?,
-        bytes.as_slice(),
-        before.saturating_add(2),
-    )?;
+    let bytes = bytes.as_slice();
+    let second = attaching_reads(rt.alloc(), bytes)?.saturating_add(2);
+    let mut source = ProbeSource::new(rt.alloc(), &geometry()?, bytes, second)?;
     let failed = Err(StreamError::Read(3, 0));
     assert!(rt; amount(rt.alloc(), &mut source)? == failed);
     Ok(())
+}
+
+/// How often the five eraseblocks of an image are read while it is attached.
+fn attaching_reads(alloc: Global, bytes: &[u8]) -> Result<u64, Fail> {
+    let mut source = ProbeSource::new(alloc, &geometry()?, bytes, 0)?;
+    attach_places(alloc, &geometry()?, &mut source)?;
+    let mut reads = 0u64;
+    for p in 0..5 {
+        reads = reads.saturating_add(source.reads(p));
+    }
+    Ok(reads)
 }

@@ -6,6 +6,7 @@ use super::images::{
     Text, Vid, assert_meanings, attached,
 };
 use crate::{Content, ReadError};
+use std::alloc::Global;
 use std::test::Fail;
 use ubi_media::{LAYOUT_VOLUME, VidHeader, VolKind};
 
@@ -318,14 +319,24 @@ const WITH_BLANK: [Case; 1] = [Case {
 #[test]
 fn keeps_no_logical_eraseblock_of_0xff(rt: HostRuntime) -> Result<(), Fail> {
     assert_meanings(&rt, rt.alloc(), &WITH_BLANK)?;
-    let attached = attached(rt.alloc(), &[FIRST, SECOND, A, BLANK_B, C])?;
-    let volume = attached.meaning().get(0).ok_or("a volume")?;
-    let Content::Dynamic(lebs) = &volume.content else {
-        return Err("a dynamic volume".into());
-    };
-    assert!(rt; lebs.get(0).is_some());
-    assert!(rt; lebs.get(1).is_none());
-    assert!(rt; lebs.get(2).is_some());
-    assert!(rt; lebs.get(3).is_none());
+    let kept = kept_lebs(rt.alloc(), &[FIRST, SECOND, A, BLANK_B, C])?;
+    assert!(rt; kept == Some([true, false, true, false]));
     Ok(())
+}
+
+/// Which of the first four logical eraseblocks of volume 0 are kept, where it is dynamic.
+fn kept_lebs(alloc: Global, pebs: &[Peb]) -> Result<Option<[bool; 4]>, Fail> {
+    let attached = attached(alloc, pebs)?;
+    Ok(match attached.meaning().get(0) {
+        Some(volume) => match &volume.content {
+            Content::Dynamic(lebs) => Some([
+                lebs.get(0).is_some(),
+                lebs.get(1).is_some(),
+                lebs.get(2).is_some(),
+                lebs.get(3).is_some(),
+            ]),
+            _ => None,
+        },
+        None => None,
+    })
 }

@@ -9,7 +9,7 @@ use std::alloc::Global;
 use std::fs;
 use std::test::Fail;
 use ubi_media::{Refusal, VidHeader};
-use ubi_scan::{FileSource, MemorySource, ProbeSource, StreamError, scan_from};
+use ubi_scan::{BlockSource, FileSource, MemorySource, ProbeSource, StreamError, scan_from};
 use ubi_table::choose_from;
 
 /// What a volume reads. None where the table has no such volume.
@@ -243,18 +243,24 @@ fn tells_why_a_source_is_not_attached(rt: HostRuntime) -> Result<(), Fail> {
     Ok(())
 }
 
+/// What of volume 0 a source holds.
+fn attached_content<S: BlockSource>(
+    alloc: Global,
+    source: &mut S,
+) -> Result<Option<PlaceContent>, Fail> {
+    let places = attach_places(alloc, &geometry()?, source)?;
+    Ok(content(&places, 0))
+}
+
 /// A file is attached as its bytes are, and fails once its bytes are missing.
 #[test]
 fn attaches_a_file(rt: HostRuntime) -> Result<(), Fail> {
-    let alloc = rt.alloc();
-    let bytes = image(alloc, &[FIRST_BOOT, SECOND_BOOT, TEXT_0, TEXT_1])?;
+    let bytes = image(rt.alloc(), &[FIRST_BOOT, SECOND_BOOT, TEXT_0, TEXT_1])?;
     fs::write(&rt, "attached.img", bytes.as_slice())?;
     let mut file = FileSource::open(&rt, "attached.img")?;
-    let places = attach_places(alloc, &geometry()?, &mut file)?;
-    assert!(rt; content(&places, 0) == Some(TEXT));
-    let short = bytes.as_slice().get(..1024).ok_or("too short")?;
-    fs::write(&rt, "attached.img", short)?;
-    let error = attach_places(alloc, &geometry()?, &mut file).err();
+    assert!(rt; attached_content(rt.alloc(), &mut file)? == Some(TEXT));
+    fs::write(&rt, "attached.img", &bytes.as_slice()[..1024])?;
+    let error = attach_places(rt.alloc(), &geometry()?, &mut file).err();
     assert!(rt; error == Some(StreamError::Read(2, 0)));
     fs::remove_file(&rt, "attached.img")?;
     Ok(())
