@@ -137,43 +137,49 @@ fn tells_a_logical_eraseblock_that_is_too_long(rt: HostRuntime) -> Result<(), Fa
     Ok(())
 }
 
-/// A volume with such a record.
-fn volume(kind: VolKind, name: &[u8], content: Content) -> Result<Volume, Fail> {
-    Ok(Volume {
-        entry: record(kind, name)?,
-        content,
-    })
-}
+/// A text that gives a volume of each content.
+const FOUR: &[u8] = b"volume 7 static 3 1 00 text\nvolume 2 dynamic 3 1 00 map\n\
+    volume 3 dynamic 3 1 00 half\nvolume 0 static 3 1 00 torn\n\
+    bytes 7 61\nleb 2 1 6Aff\nupdating 3\nbytes 7 6263\ndamaged 0\n";
 
-#[test]
-fn gives_the_volumes_of_a_text(rt: HostRuntime) -> Result<(), Fail> {
-    let alloc = rt.alloc();
-    let volumes = parse_spec(
-        alloc,
-        &small()?,
-        b"volume 7 static 3 1 00 text\nvolume 2 dynamic 3 1 00 map\nvolume 3 dynamic 3 1 00 half\nvolume 0 static 3 1 00 torn\n\
-        bytes 7 61\nleb 2 1 6Aff\nupdating 3\nbytes 7 6263\ndamaged 0\n",
-    )
-    .map_err(|_| "not read")?;
+/// What its second volume holds: logical eraseblock 1, filled up with 0xFF.
+fn one_leb(alloc: Global) -> Result<Content, Fail> {
     let mut leb = Vec::new(alloc);
     leb.push(0x6A)?;
     leb.resize(384, 0xFF)?;
     let mut lebs = Lebs::new(alloc);
     lebs.insert(1, Bytes::new(leb))?;
-    let text = Bytes::new(vec![in alloc; b'a', b'b', b'c']?);
-    let mut half = record(VolKind::Dynamic, b"half")?;
-    half.marker = true;
-    let half = Volume {
-        entry: half,
-        content: Content::Updating,
+    Ok(Content::Dynamic(lebs))
+}
+
+/// Whether a volume of a text has a number, a record and a content.
+fn is_given(
+    volume: Option<&(u32, Volume)>,
+    id: u32,
+    entry: VolumeRecord,
+    content: Content,
+) -> bool {
+    volume == Some(&(id, Volume { entry, content }))
+}
+
+#[test]
+fn gives_the_volumes_of_a_text(rt: HostRuntime) -> Result<(), Fail> {
+    let alloc = rt.alloc();
+    let volumes = parse_spec(alloc, &small()?, FOUR).map_err(|_| "not read")?;
+    let volumes = volumes.as_slice();
+    let text = Content::Static(Bytes::new(Vec::from_slice(alloc, b"abc")?));
+    let first = record(VolKind::Static, b"text")?;
+    assert!(rt; is_given(volumes.first(), 7, first, text));
+    let second = record(VolKind::Dynamic, b"map")?;
+    assert!(rt; is_given(volumes.get(1), 2, second, one_leb(alloc)?));
+    let third = VolumeRecord {
+        marker: true,
+        ..record(VolKind::Dynamic, b"half")?
     };
-    let want = [
-        (7, volume(VolKind::Static, b"text", Content::Static(text))?),
-        (2, volume(VolKind::Dynamic, b"map", Content::Dynamic(lebs))?),
-        (3, half),
-        (0, volume(VolKind::Static, b"torn", Content::Damaged)?),
-    ];
-    assert!(rt; volumes.as_slice() == want.as_slice());
+    assert!(rt; is_given(volumes.get(2), 3, third, Content::Updating));
+    let fourth = record(VolKind::Static, b"torn")?;
+    assert!(rt; is_given(volumes.get(3), 0, fourth, Content::Damaged));
+    assert!(rt; volumes.len() == 4);
     Ok(())
 }
 
