@@ -143,7 +143,9 @@ def instructions(words, folder):
     """How many instructions a program takes, in millions."""
     told = os.path.join(folder, "instructions")
     counted = ["valgrind", "--tool=cachegrind", "--cache-sim=no", "--cachegrind-out-file=/dev/null", f"--log-file={told}"]
-    subprocess.run([*counted, *words], stdout=subprocess.DEVNULL, stderr=subprocess.DEVNULL)
+    ran = subprocess.run([*counted, *words], stdout=subprocess.DEVNULL, stderr=subprocess.DEVNULL)
+    if ran.returncode not in (0, 1):
+        sys.exit(f"{words} ended with {ran.returncode}")
     with open(told, encoding="ascii") as it:
         return int(re.search(r"I +refs: +([0-9,]+)", it.read()).group(1).replace(",", "")) / 1e6
 
@@ -194,8 +196,10 @@ def main():
     words.add_argument("--instructions", action="store_true")
     words.add_argument("kinds", nargs="*", metavar="KIND", choices=[*KINDS, []])
     words = words.parse_args()
-    tool = built()
     sizes = [size for size in SIZES if size <= words.blocks]
+    if len(sizes) < 2:
+        sys.exit(f"growth is seen over two sizes and more: --blocks {SIZES[1]}")
+    tool = built()
     cost, runs = (instructions, 1) if words.instructions else (seconds, words.runs)
     folder = tempfile.mkdtemp(dir=words.dir)
     grown = {}

@@ -5,17 +5,19 @@ usage: slow.py CRATE [N]
 
 `rt check` saves each part of what it checks below crates/CRATE/out/incremental. A part is slow where a long time passes before it
 is saved in which no other is, and it is large where there was much to check. N of each are listed (20). Of two jobs that work
-side by side each hides the other's time. To time a whole crate, remove its folder out/ and check it anew.
+side by side each hides the other's time. The last check begins where nothing was saved for five minutes; what it took from an
+earlier one isn't listed. To time a whole crate, remove its folder out/ and check it anew.
 """
 import re
 import sys
 from pathlib import Path
 
 CRATES = Path(__file__).resolve().parent.parent / "crates"
+PAUSE = 300
 
 
 def parts(crate):
-    """The parts that were saved: when, their names, and their sizes in kB, in the order of time."""
+    """The parts that were saved: when, their names, and their sizes in kB, the last first."""
     files = (CRATES / crate / "out" / "incremental").glob(f"*/Rattle-{crate}-*.oantt")
     found = []
     for file in files:
@@ -23,14 +25,22 @@ def parts(crate):
         if not name.group(2):
             about = file.stat()
             found.append((about.st_mtime, name.group(1), about.st_size // 1000))
-    return sorted(found)
+    return sorted(found, reverse=True)
+
+
+def last_check(saved):
+    """Of these the ones that the last check saved, in the order of time."""
+    for here, (later, earlier) in enumerate(zip(saved, saved[1:])):
+        if later[0] - earlier[0] > PAUSE:
+            return saved[here::-1]
+    return saved[::-1]
 
 
 def main():
     if len(sys.argv) not in (2, 3):
         sys.exit(__doc__)
     most = int(sys.argv[2]) if len(sys.argv) == 3 else 20
-    saved = parts(sys.argv[1])
+    saved = last_check(parts(sys.argv[1]))
     if not saved:
         sys.exit(f"nothing was checked in {sys.argv[1]} yet")
     waits = [(after - before, name) for (before, _, _), (after, name, _) in zip(saved, saved[1:])]

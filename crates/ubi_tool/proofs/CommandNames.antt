@@ -12,12 +12,11 @@ names_behind [] d = refl
 names_behind (c ∷ cs) d = ap (λ ns. name_of c ∷ ns) (names_behind cs d)
 
 -- a subcommand that is added brings its name
-pub one_more : (old sub new : Command) (ns : List (List ℕ)) (n : List ℕ) → AddsSubcommand old sub new
-    → subcommand_names old ≡ ns → name_of sub ≡ n
-    → subcommand_names new ≡ ns ++ n ∷ []
-one_more old sub new ns n adds before called =
+pub one_more : (old sub new : Command) (n : List ℕ) → AddsSubcommand old sub new → name_of sub ≡ n
+    → subcommand_names new ≡ subcommand_names old ++ n ∷ []
+one_more old sub new n adds called =
     ap names_in adds.subcommands ∙ names_behind (out-Command old).subcommands.items adds.added
-    ∙ ap (λ ms. ms ++ name_of adds.added ∷ []) before ∙ ap (λ m. ns ++ m ∷ []) (ap (λ s. s.now) adds.name ∙ called)
+    ∙ ap (λ m. subcommand_names old ++ m ∷ []) (ap (λ s. s.now) adds.name ∙ called)
 
 -- and so behind those that were there
 pub behind : (old new : Command) (ns : List (List ℕ)) (n : List ℕ) → subcommand_names old ≡ ns

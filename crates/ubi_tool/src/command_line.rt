@@ -269,7 +269,7 @@ fn compose_command<'a>(alloc: Global) -> Result<Command<'a>, AllocError>
     command.arg(number(alloc, "spares", SPARES))
 }
 
-/// The text file.
+/// The word that names the text file.
 fn spec_file<'a>(alloc: Global) -> Arg<'a> {
     Arg::new(alloc, "SPEC")
         .help("The text that describes the volumes")
@@ -293,7 +293,7 @@ fn same_command<'a>(alloc: Global) -> Result<Command<'a>, AllocError>
     command.arg(other_image(alloc))
 }
 
-/// The second image file.
+/// The word that names the second image file.
 fn other_image<'a>(alloc: Global) -> Arg<'a> {
     Arg::new(alloc, "OTHER")
         .value_name("IMAGE")
@@ -349,7 +349,7 @@ fn image_command<'a>(
     command.arg(image_file(alloc))
 }
 
-/// The image file.
+/// The word that names the image file.
 fn image_file<'a>(alloc: Global) -> Arg<'a> {
     Arg::new(alloc, "IMAGE")
         .help("The raw dump, without out-of-band bytes")
