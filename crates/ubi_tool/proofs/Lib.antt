@@ -1,4 +1,5 @@
 pub mod CommandNames
+pub mod CommandWords
 pub mod Composed
 pub mod Cut
 pub mod Defaults

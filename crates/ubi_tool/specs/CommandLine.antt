@@ -1,7 +1,14 @@
--- The names of the commands.
-use Rattle.std.specs.Prelude.{ℕ, List, [], ◌∷◌, codes}
+-- The names of the commands, and what the words behind one ask for.
+use Rattle.std.specs.Borrow.{Bor}
+use Rattle.std.specs.Prelude.{◌≡◌, ◌↔◌, ◌∷◌, ◌<◌, ◌^◌, [], List, Option, Some, codes, option_map, unwrap_or, ℕ}
+use Rattle.std.specs.Str.Parse.{IsNumeral, digits_value, without_leading_plus}
+use Rattle.clap.specs.Simple.{subcommand_rows_of}
+use Rattle.clap.specs.Walk.{Row, first_of, one_of}
+use Rattle.clap.specs.declared.parser.matches.ArgMatches.{ArgMatches}
+use Rattle.ubi_tool.specs.declared.command_line.Change.{Change}
 use Rattle.ubi_tool.specs.declared.command_line.Request.{Request}
 use Rattle.ubi_tool.specs.declared.command_line.Request.TheVariants as request
+use Rattle.ubi_tool.specs.declared.numbers.Numbers.{Numbers}
 
 -- the command by which a request is made
 abbrev pub command_name : Request → List ℕ
@@ -16,4 +23,59 @@ command_name (request.Change _ _ _) = codes "change"
 
 -- all of them, in the order of the help
 abbrev pub command_names : List (List ℕ)
-command_names = codes "list" ∷ codes "check" ∷ codes "show" ∷ codes "extract" ∷ codes "compose" ∷ codes "normalise" ∷ codes "same" ∷ codes "change" ∷ []
+command_names = codes "list" ∷ codes "check" ∷ codes "show" ∷ codes "extract" ∷ codes "compose" ∷ codes "normalise"
+    ∷ codes "same" ∷ codes "change" ∷ []
+
+-- the words behind the command that was named, by the names of its arguments
+abbrev pub words_behind : ArgMatches → Option (List Row)
+words_behind m = option_map (λ p. p.1) (subcommand_rows_of m)
+
+-- the words give this text under the name
+abbrev pub HasText : List Row → List ℕ → Bor (List ℕ) → Type 0
+HasText words name text = first_of name words ≡ Some text.now
+
+-- they give this number in decimal, where a plus may stand first
+abbrev pub HasNumber : List Row → List ℕ → ℕ → Type 0
+HasNumber words name n = (digits : List ℕ)
+    × (option_map without_leading_plus (one_of name words) ≡ Some digits)
+    × IsNumeral 10 digits × (n ≡ digits_value 10 digits)
+
+-- this is the number that they give, where they give one of 32 bits
+abbrev pub MayHaveNumber : List Row → List ℕ → Option ℕ → Type 0
+MayHaveNumber words name number = (n : ℕ) → (number ≡ Some n) ↔ (HasNumber words name n × (n < 2 ^ 32))
+
+-- they give this number, or none, and then it is the default
+abbrev pub HasNumberOr : ℕ → List Row → List ℕ → ℕ → Type 0
+HasNumberOr default words name n = (number : Option ℕ) × MayHaveNumber words name number
+    × (n ≡ unwrap_or number default)
+
+abbrev pub AsksNumbers : List Row → Numbers → Type 0
+AsksNumbers words numbers = HasNumber words (codes "peb") numbers.peb_size
+    × HasNumber words (codes "page") numbers.page
+    × MayHaveNumber words (codes "vid") numbers.vid_offset
+    × MayHaveNumber words (codes "data") numbers.data_offset
+    × MayHaveNumber words (codes "pebs") numbers.pebs
+
+abbrev pub AsksChange : List Row → Change → Type 0
+AsksChange words change = HasNumber words (codes "id") change.id
+    × HasNumber words (codes "lnum") change.lnum
+    × HasText words (codes "from") change.from
+    × HasText words (codes "out") change.out
+    × MayHaveNumber words (codes "stop") change.stop
+
+-- the words give what the request says
+abbrev pub Asks : List Row → Request → Type 0
+Asks words (request.List numbers image) = AsksNumbers words numbers × HasText words (codes "IMAGE") image
+Asks words (request.Check numbers image) = AsksNumbers words numbers × HasText words (codes "IMAGE") image
+Asks words (request.Show numbers image block) = AsksNumbers words numbers × HasText words (codes "IMAGE") image
+    × HasNumber words (codes "block") block
+Asks words (request.Extract numbers image id out) = AsksNumbers words numbers × HasText words (codes "IMAGE") image
+    × HasNumber words (codes "id") id × HasText words (codes "out") out
+Asks words (request.Compose numbers spec out spares) = AsksNumbers words numbers × HasText words (codes "SPEC") spec
+    × HasText words (codes "out") out × HasNumberOr 0 words (codes "spares") spares
+Asks words (request.Normalise numbers image out) = AsksNumbers words numbers × HasText words (codes "IMAGE") image
+    × HasText words (codes "out") out
+Asks words (request.Same numbers left right) = AsksNumbers words numbers × HasText words (codes "IMAGE") left
+    × HasText words (codes "OTHER") right
+Asks words (request.Change numbers image change) = AsksNumbers words numbers × HasText words (codes "IMAGE") image
+    × AsksChange words change

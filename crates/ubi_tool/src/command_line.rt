@@ -4,8 +4,8 @@ ghost use Rattle.std.specs.Prelude.{◌≡◌, IfOk, IfSome, Some, codes};
 ghost use Rattle.clap.specs.Matches.{subcommand_name_of};
 ghost use Rattle.clap.specs.Built.{subcommand_names};
 ghost use Rattle.clap.specs.declared.builder.command.Command.TheViews.{out-Command};
-ghost use Rattle.ubi_tool.specs.CommandLine.{command_name, command_names};
-ghost use Rattle.ubi_tool.specs.inner.CommandLine.{HasOneMore};
+ghost use Rattle.ubi_tool.specs.CommandLine.{Asks, AsksChange, AsksNumbers, HasNumber, HasText, MayHaveNumber, command_name, command_names, words_behind};
+ghost use Rattle.ubi_tool.specs.inner.CommandLine.{HasOneMore, words_in};
 
 use crate::numbers::Numbers;
 use clap::{Arg, ArgMatches, Command, value_parser};
@@ -124,7 +124,8 @@ fn with_command<'a>(
 
 /// What is asked for, where the words name a command and have all that it needs.
 pub fn request_of<'a>(matches: &'a ArgMatches<'_>) -> Option<Request<'a>>
-    ensures { IfSome result (λ r. subcommand_name_of matches.now ≡ Some (command_name r)) }
+    ensures command { IfSome result (λ r. subcommand_name_of matches.now ≡ Some (command_name r)) }
+    ensures words { IfSome result (λ r. IfSome (words_behind matches.now) (λ words. Asks words r)) }
 {
     match matches.subcommand()? {
         ("list", inner) => list_of(inner),
@@ -140,81 +141,89 @@ pub fn request_of<'a>(matches: &'a ArgMatches<'_>) -> Option<Request<'a>>
 }
 
 fn list_of<'a>(matches: &'a ArgMatches<'_>) -> Option<Request<'a>>
-    ensures { IfSome result (λ r. command_name r ≡ codes "list") }
+    ensures command { IfSome result (λ r. command_name r ≡ codes "list") }
+    ensures words { IfSome result (Asks (words_in matches.now)) }
 {
     Some(Request::List {
         numbers: numbers_of(matches)?,
-        image: matches.get_str("IMAGE")?,
+        image: text_of(matches, "IMAGE")?,
     })
 }
 
 fn check_of<'a>(matches: &'a ArgMatches<'_>) -> Option<Request<'a>>
-    ensures { IfSome result (λ r. command_name r ≡ codes "check") }
+    ensures command { IfSome result (λ r. command_name r ≡ codes "check") }
+    ensures words { IfSome result (Asks (words_in matches.now)) }
 {
     Some(Request::Check {
         numbers: numbers_of(matches)?,
-        image: matches.get_str("IMAGE")?,
+        image: text_of(matches, "IMAGE")?,
     })
 }
 
 fn show_of<'a>(matches: &'a ArgMatches<'_>) -> Option<Request<'a>>
-    ensures { IfSome result (λ r. command_name r ≡ codes "show") }
+    ensures command { IfSome result (λ r. command_name r ≡ codes "show") }
+    ensures words { IfSome result (Asks (words_in matches.now)) }
 {
     Some(Request::Show {
         numbers: numbers_of(matches)?,
-        image: matches.get_str("IMAGE")?,
-        block: matches.get_one::<u32>("block")?,
+        image: text_of(matches, "IMAGE")?,
+        block: number_of(matches, "block")?,
     })
 }
 
 fn extract_of<'a>(matches: &'a ArgMatches<'_>) -> Option<Request<'a>>
-    ensures { IfSome result (λ r. command_name r ≡ codes "extract") }
+    ensures command { IfSome result (λ r. command_name r ≡ codes "extract") }
+    ensures words { IfSome result (Asks (words_in matches.now)) }
 {
     Some(Request::Extract {
         numbers: numbers_of(matches)?,
-        image: matches.get_str("IMAGE")?,
-        id: matches.get_one::<u32>("id")?,
-        out: matches.get_str("out")?,
+        image: text_of(matches, "IMAGE")?,
+        id: number_of(matches, "id")?,
+        out: text_of(matches, "out")?,
     })
 }
 
 fn compose_of<'a>(matches: &'a ArgMatches<'_>) -> Option<Request<'a>>
-    ensures { IfSome result (λ r. command_name r ≡ codes "compose") }
+    ensures command { IfSome result (λ r. command_name r ≡ codes "compose") }
+    ensures words { IfSome result (Asks (words_in matches.now)) }
 {
     Some(Request::Compose {
         numbers: numbers_of(matches)?,
-        spec: matches.get_str("SPEC")?,
-        out: matches.get_str("out")?,
-        spares: matches.get_one::<u32>("spares").unwrap_or(0),
+        spec: text_of(matches, "SPEC")?,
+        out: text_of(matches, "out")?,
+        spares: number_of(matches, "spares").unwrap_or(0),
     })
 }
 
 fn normalise_of<'a>(matches: &'a ArgMatches<'_>) -> Option<Request<'a>>
-    ensures { IfSome result (λ r. command_name r ≡ codes "normalise") }
+    ensures command { IfSome result (λ r. command_name r ≡ codes "normalise") }
+    ensures words { IfSome result (Asks (words_in matches.now)) }
 {
     Some(Request::Normalise {
         numbers: numbers_of(matches)?,
-        image: matches.get_str("IMAGE")?,
-        out: matches.get_str("out")?,
+        image: text_of(matches, "IMAGE")?,
+        out: text_of(matches, "out")?,
     })
 }
 
 fn same_of<'a>(matches: &'a ArgMatches<'_>) -> Option<Request<'a>>
-    ensures { IfSome result (λ r. command_name r ≡ codes "same") }
+    ensures command { IfSome result (λ r. command_name r ≡ codes "same") }
+    ensures words { IfSome result (Asks (words_in matches.now)) }
 {
     Some(Request::Same {
         numbers: numbers_of(matches)?,
-        left: matches.get_str("IMAGE")?,
-        right: matches.get_str("OTHER")?,
+        left: text_of(matches, "IMAGE")?,
+        right: text_of(matches, "OTHER")?,
     })
 }
 
 fn change_of<'a>(matches: &'a ArgMatches<'_>) -> Option<Request<'a>>
-    ensures { IfSome result (λ r. command_name r ≡ codes "change") }
+    ensures command { IfSome result (λ r. command_name r ≡ codes "change") }
+    ensures words { IfSome result (Asks (words_in matches.now)) }
 {
     Some(Request::Change {
         numbers: numbers_of(matches)?,
-        image: matches.get_str("IMAGE")?,
+        image: text_of(matches, "IMAGE")?,
         change: leb_change(matches)?,
     })
 }
@@ -407,22 +416,41 @@ fn number<'a>(alloc: Global, name: &'a str, help: &'a str) -> Arg<'a> {
         .value_parser(value_parser!(u32))
 }
 
-fn leb_change<'a>(matches: &'a ArgMatches<'_>) -> Option<Change<'a>> {
+fn leb_change<'a>(matches: &'a ArgMatches<'_>) -> Option<Change<'a>>
+    ensures { IfSome result (AsksChange (words_in matches.now)) }
+{
     Some(Change {
-        id: matches.get_one::<u32>("id")?,
-        lnum: matches.get_one::<u32>("lnum")?,
-        from: matches.get_str("from")?,
-        out: matches.get_str("out")?,
-        stop: matches.get_one::<u32>("stop"),
+        id: number_of(matches, "id")?,
+        lnum: number_of(matches, "lnum")?,
+        from: text_of(matches, "from")?,
+        out: text_of(matches, "out")?,
+        stop: number_of(matches, "stop"),
     })
 }
 
-fn numbers_of(matches: &ArgMatches<'_>) -> Option<Numbers> {
+fn numbers_of(matches: &ArgMatches<'_>) -> Option<Numbers>
+    ensures { IfSome result (AsksNumbers (words_in matches.now)) }
+{
     Some(Numbers {
-        peb_size: matches.get_one::<u32>("peb")?,
-        page: matches.get_one::<u32>("page")?,
-        vid_offset: matches.get_one::<u32>("vid"),
-        data_offset: matches.get_one::<u32>("data"),
-        pebs: matches.get_one::<u32>("pebs"),
+        peb_size: number_of(matches, "peb")?,
+        page: number_of(matches, "page")?,
+        vid_offset: number_of(matches, "vid"),
+        data_offset: number_of(matches, "data"),
+        pebs: number_of(matches, "pebs"),
     })
+}
+
+/// The text that a word gives.
+fn text_of<'a>(matches: &'a ArgMatches<'_>, name: &str) -> Option<&'a str>
+    ensures { IfSome result (HasText (words_in matches.now) name.now) }
+{
+    matches.get_str(name)
+}
+
+/// The number that an option gives.
+fn number_of(matches: &ArgMatches<'_>, name: &str) -> Option<u32>
+    ensures number { IfSome result (HasNumber (words_in matches.now) name.now) }
+    ensures whole { MayHaveNumber (words_in matches.now) name.now result }
+{
+    matches.get_one::<u32>(name)
 }
