@@ -47,7 +47,7 @@ fn changed(alloc: Global, geometry: &Geometry, stop: u32) -> Result<Vec<u8>, All
 }
 
 /// Changes of a file, each with how many steps of the plan it takes.
-const CUTS: [(&str, u32); 3] = [
+static CUTS: [(&str, u32); 3] = [
     (
         "change change_in.img --id 0 --lnum 1 --from change_new.bin --out changed.img --stop 0",
         0,
@@ -80,7 +80,7 @@ fn changes_a_file(rt: HostRuntime) -> Result<(), Fail> {
 }
 
 /// Changes that are refused. Both files are read before the work, and the image first.
-const REFUSED: [(&str, &str, u8); 5] = [
+static REFUSED: [(&str, &str, u8); 5] = [
     (
         "change kept_faulty.img --id 0 --lnum 1 --from kept_new.bin --out unchanged.img",
         "refused S4 ImageSeq block=3\n",
@@ -123,7 +123,7 @@ fn opens_no_file_of_a_change_that_is_refused(rt: HostRuntime) -> Result<(), Fail
 
 /// How files fail while an image is changed, what is answered, and how many bytes are written. A read that fails does so once
 /// 64 bytes were read, so that of the image does.
-const WAYS: [(Broken, (&str, u8), usize); 6] = [
+static WAYS: [(Broken, (&str, u8), usize); 6] = [
     (Broken::Nothing, (LINES, 0), 3072),
     (Broken::Short(100), (LINES, 0), 3072),
     (Broken::OpenRead, ("cannot read a.img\n", 1), 0),

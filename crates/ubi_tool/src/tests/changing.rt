@@ -79,7 +79,7 @@ fn is_sound(alloc: Global, first: &[u8], then: &[u8], left: u64) -> Result<bool,
 }
 
 /// Images, and what they change to while they are read.
-const CHANGES: [(&[Peb], &[Peb]); 8] = [
+static CHANGES: [(&[Peb], &[Peb]); 8] = [
     (&[FIRST, SECOND, A, B, C], &[C, B, A, SECOND, FIRST]),
     (&[FIRST, SECOND, A, B, C], &[ERASED]),
     (&[FIRST, SECOND, A, B, C], &[TORN, TORN, TORN, TORN, TORN]),

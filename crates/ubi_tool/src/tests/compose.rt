@@ -231,7 +231,7 @@ fn lists_what_was_composed(rt: HostRuntime) -> Result<(), Fail> {
 }
 
 /// Texts that aren't composed, each with its first cause.
-const REFUSED: [(&str, &str); 16] = [
+static REFUSED: [(&str, &str); 16] = [
     (
         "# a\n\nvolume 0 dynamic 20 1 00 root\nleb 0 1",
         "refused P1 Word line=4\n",

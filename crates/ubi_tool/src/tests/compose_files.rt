@@ -36,7 +36,7 @@ fn composes_a_file(rt: HostRuntime) -> Result<(), Fail> {
 }
 
 /// Lines for which no file is opened.
-const REFUSED: [(&str, &str, u8); 4] = [
+static REFUSED: [(&str, &str, u8); 4] = [
     (
         "compose faulty.txt --out uncomposed.img",
         "refused P1 Word line=1\n",
@@ -81,7 +81,7 @@ fn reads_a_text_of_limited_length(rt: HostRuntime) -> Result<(), Fail> {
 }
 
 /// How files fail while nothing is composed, what is answered, and how many bytes are written.
-const WAYS: [(Broken, (&str, u8), usize); 5] = [
+static WAYS: [(Broken, (&str, u8), usize); 5] = [
     (Broken::OpenRead, ("cannot read a.txt\n", 1), 0),
     (
         Broken::Read(ErrorKind::Other, 4),

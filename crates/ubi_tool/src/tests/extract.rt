@@ -94,7 +94,7 @@ fn assert_fails(
 }
 
 /// How many bytes of what `root` reads a writer takes, and how it fails then.
-const CUTS: [(usize, Failure); 6] = [
+static CUTS: [(usize, Failure); 6] = [
     (0, Failure::Nothing),
     (1, Failure::Error(ErrorKind::Interrupted)),
     (383, Failure::Nothing),
@@ -131,7 +131,7 @@ fn extracts_into_files(rt: HostRuntime) -> Result<(), Fail> {
 }
 
 /// Lines for which no file is opened.
-const REFUSED: [(&str, &str, u8); 4] = [
+static REFUSED: [(&str, &str, u8); 4] = [
     (
         "extract extract_marked.img --id 0 --out unextracted.bin",
         "refused L2 Updating\n",
@@ -166,7 +166,7 @@ fn opens_no_file_of_what_is_refused(rt: HostRuntime) -> Result<(), Fail> {
 }
 
 /// How files fail while `root` is extracted, what is answered, and how many bytes are written.
-const WAYS: [(Broken, (&str, u8), usize); 4] = [
+static WAYS: [(Broken, (&str, u8), usize); 4] = [
     (Broken::Nothing, ("bytes 7680\n", 0), 7680),
     (Broken::Short(100), ("bytes 7680\n", 0), 7680),
     (Broken::OpenWrite, ("cannot write b.bin\n", 1), 0),
@@ -174,7 +174,7 @@ const WAYS: [(Broken, (&str, u8), usize); 4] = [
 ];
 
 /// The same of a volume that reads nothing.
-const WAYS_OF_NOTHING: [(Broken, (&str, u8), usize); 2] = [
+static WAYS_OF_NOTHING: [(Broken, (&str, u8), usize); 2] = [
     (Broken::Write(0), ("bytes 0\n", 0), 0),
     (Broken::OpenWrite, ("cannot write b.bin\n", 1), 0),
 ];

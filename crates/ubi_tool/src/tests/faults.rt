@@ -109,7 +109,7 @@ const SAME_NAME: [(usize, &[u8]); 2] = [
     (468, &[0x71, 0xDF, 0xB1, 0x1D]),
 ];
 
-const CASES: [Case; 17] = [
+static CASES: [Case; 17] = [
     VERSION,
     Case {
         what: "two of them",

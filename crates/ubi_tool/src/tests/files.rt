@@ -26,7 +26,7 @@ fn normalises_a_file_twice(rt: HostRuntime) -> Result<(), Fail> {
 }
 
 /// Lines for which no file is opened.
-const REFUSED: [(&str, &str, u8); 4] = [
+static REFUSED: [(&str, &str, u8); 4] = [
     (
         "normalise faulty_in.img --out refused_out.img",
         "refused S4 ImageSeq block=3\n",
@@ -59,7 +59,7 @@ fn opens_no_file_where_the_work_is_refused(rt: HostRuntime) -> Result<(), Fail> 
 }
 
 /// Lines that read a file, and the same of one that isn't there.
-const NAMED: [(&str, &str, u8); 6] = [
+static NAMED: [(&str, &str, u8); 6] = [
     (
         "list named_in.img",
         "geometry peb=512 page=64 vid=64 data=128 leb=384 slots=2 pebs=32\n\
@@ -100,7 +100,7 @@ fn tells_of_an_output_that_cannot_be_opened(rt: HostRuntime) -> Result<(), Fail>
 }
 
 /// How files fail while blank eraseblocks are normalised, what is answered, and how many bytes are written.
-const WAYS: [(Broken, (&str, u8), usize); 7] = [
+static WAYS: [(Broken, (&str, u8), usize); 7] = [
     (Broken::Nothing, ("blocks 2\n", 0), 1024),
     (Broken::Short(100), ("blocks 2\n", 0), 1024),
     (Broken::OpenRead, ("cannot read a.img\n", 1), 0),

@@ -5,7 +5,7 @@ use std::test::Fail;
 use ubi_media::{EcFault, GeometryError, RecFault, Refusal, VidFault};
 
 /// The causes for which images are refused, with their lines.
-const REFUSALS: [(Refusal, &str); 14] = [
+static REFUSALS: [(Refusal, &str); 14] = [
     (Refusal::Length, "refused S1 Length\n"),
     (Refusal::TooMany, "refused S2 TooMany\n"),
     (
@@ -55,7 +55,7 @@ fn prints_refusals(rt: HostRuntime) -> Result<(), Fail> {
 }
 
 /// The limits that a geometry breaks, with their lines.
-const LIMITS: [(GeometryError, &str); 6] = [
+static LIMITS: [(GeometryError, &str); 6] = [
     (GeometryError::Page, "refused G1 Page\n"),
     (GeometryError::PebSize, "refused G2 PebSize\n"),
     (GeometryError::VidOffset, "refused G3 VidOffset\n"),

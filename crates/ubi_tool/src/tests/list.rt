@@ -30,7 +30,7 @@ fn lists_no_volume(rt: HostRuntime) -> Result<(), Fail> {
 }
 
 /// What is listed of the first bytes of the small image: their number, and the line of the volume.
-const FRONTS: [(usize, &str); 4] = [
+static FRONTS: [(usize, &str); 4] = [
     (
         512,
         "dynamic reserved=20 alignment=1 usable=384 flags=00 lebs=0 name=root",

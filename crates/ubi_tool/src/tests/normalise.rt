@@ -128,7 +128,7 @@ const WITHOUT_B: Case = Case {
 };
 
 /// Images without volumes, and tables of which one copy is broken.
-const TABLES: [Case; 10] = [
+static TABLES: [Case; 10] = [
     NOTHING,
     Case {
         what: "a blank device",
@@ -180,7 +180,7 @@ fn takes_the_copy_of_the_table_that_decides(rt: HostRuntime) -> Result<(), Fail>
 }
 
 /// Members of one logical eraseblock.
-const MEMBERS: [Case; 10] = [
+static MEMBERS: [Case; 10] = [
     Case {
         what: "an old member, a right copy, a wrong copy",
         pebs: &[FIRST, SECOND, OLD, RIGHT, WRONG_9],
@@ -249,7 +249,7 @@ fn normalises_what_wins(rt: HostRuntime) -> Result<(), Fail> {
 }
 
 /// Volumes of every sort.
-const VOLUMES: [Case; 13] = [
+static VOLUMES: [Case; 13] = [
     ROOT,
     Case {
         what: "its eraseblocks reversed, with other counters and a blank logical eraseblock",
@@ -303,7 +303,7 @@ fn normalises_volumes(rt: HostRuntime) -> Result<(), Fail> {
 }
 
 /// How many bytes there are, and the line and the cause for which they are no image.
-const SIZES: [(usize, &str, Refusal); 4] = [
+static SIZES: [(usize, &str, Refusal); 4] = [
     (511, "refused S1 Length\n", Refusal::Length),
     (513, "refused S1 Length\n", Refusal::Length),
     (32 * 512 + 1, "refused S2 TooMany\n", Refusal::TooMany),

@@ -18,7 +18,7 @@ use ubi_volume::{Failure, ProbeWriter};
 
 /// The reads of the image of `root`, counted from 1, each with its eraseblock and the number of bytes that are written
 /// before it.
-const READS: [(u64, u32, usize); 14] = [
+static READS: [(u64, u32, usize); 14] = [
     // The headers.
     (1, 0, 0),
     (2, 1, 0),
@@ -94,7 +94,7 @@ fn is_cut(
 }
 
 /// How many bytes of the normal image of `root` a writer takes, and how it fails then.
-const CUTS: [(usize, Failure); 5] = [
+static CUTS: [(usize, Failure); 5] = [
     (0, Failure::Nothing),
     (1, Failure::Error(ErrorKind::Interrupted)),
     (512, Failure::Nothing),
@@ -219,7 +219,7 @@ fn normalises_what_a_pipe_gives(rt: HostRuntime) -> Result<(), Fail> {
 }
 
 /// The words of each command that reads a file, over a character device that has no end.
-const ENDLESS: [&str; 9] = [
+static ENDLESS: [&str; 9] = [
     "list /dev/zero",
     "check /dev/zero",
     "show /dev/zero --block 0",

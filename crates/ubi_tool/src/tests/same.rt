@@ -105,7 +105,7 @@ fn names_the_side_that_is_refused(rt: HostRuntime) -> Result<(), Fail> {
 }
 
 /// Lines that compare files. A file that can't be read comes before the work, and the first of two first.
-const LINES: [(&str, &str, u8); 5] = [
+static LINES: [(&str, &str, u8); 5] = [
     ("same same_root.img same_turned.img", "same\n", 0),
     (
         "same same_root.img same_odd.img",

@@ -56,7 +56,7 @@ fn shows_corrupt_headers(rt: HostRuntime) -> Result<(), Fail> {
 }
 
 /// Of how many bytes which eraseblock isn't shown, and why. The sizes of the image come first.
-const REFUSED: [(usize, u32, &str); 5] = [
+static REFUSED: [(usize, u32, &str); 5] = [
     (1536, 3, "refused B1 Block\n"),
     (1536, u32::MAX, "refused B1 Block\n"),
     (511, 3, "refused S1 Length\n"),

@@ -37,7 +37,7 @@ fn assert_wrong(rt: &impl Abort, alloc: Global, cases: &[(&str, &str)]) -> Resul
 }
 
 /// Lines that name no command or ask for help, with what is shown.
-const NO_COMMAND: [(&str, &str); 13] = [
+static NO_COMMAND: [(&str, &str); 13] = [
     ("", "requires a subcommand"),
     ("--help", "Usage: ubi_tool"),
     ("--help", "ubi_tool list dump.img --peb 131072 --page 2048"),
@@ -59,7 +59,7 @@ fn shows_wrong_commands_and_help(rt: HostRuntime) -> Result<(), Fail> {
 }
 
 /// Lines of which words are missing.
-const MISSING: [(&str, &str); 15] = [
+static MISSING: [(&str, &str); 15] = [
     ("normalise a --out b --peb 512", "--page <N>"),
     ("normalise --out b --peb 512 --page 64", "<IMAGE>"),
     ("normalise a --peb 512 --page 64", "--out <FILE>"),
@@ -98,7 +98,7 @@ fn shows_words_that_are_missing(rt: HostRuntime) -> Result<(), Fail> {
 }
 
 /// Lines with words that can't be read.
-const UNREAD: [(&str, &str); 9] = [
+static UNREAD: [(&str, &str); 9] = [
     (
         "normalise a --out b --peb 4294967296 --page 64",
         "invalid value",
@@ -135,7 +135,7 @@ fn shows_words_that_cannot_be_read(rt: HostRuntime) -> Result<(), Fail> {
 
 /// Lines that are answered before any image is read, with the answers: of the numbers the first limit that they break, and
 /// of what is left out its default. A path that begins with a hyphen follows `--`.
-const ANSWERED: [(&str, &str, u8); 24] = [
+static ANSWERED: [(&str, &str, u8); 24] = [
     (
         "list a --peb 512 --page 96 --vid 100 --data 128 --pebs 1",
         "refused G1 Page\n",
