@@ -92,7 +92,7 @@ const ERASED_1: Peb = Peb {
     ..LEB_1
 };
 
-const SMALL: [Case; 5] = [
+static SMALL: [Case; 5] = [
     Case {
         what: "a small image, and logical eraseblocks that it hasn't",
         pebs: &[TABLE_0, TABLE_1, LEB_0, LEB_1, LEB_2, DROPPED],
@@ -165,7 +165,7 @@ fn finds_the_winners_of_a_small_image(rt: HostRuntime) -> Result<(), Fail> {
 }
 
 /// An old member, a newer copy and a bad one that is newer still, in any order.
-const IN_ANY_ORDER: [Case; 6] = [
+static IN_ANY_ORDER: [Case; 6] = [
     Case {
         what: "an old member, a good copy, a bad copy 9",
         pebs: &[OLD, RIGHT, WRONG_9],
@@ -216,7 +216,7 @@ fn the_newest_good_member_wins_in_any_order(rt: HostRuntime) -> Result<(), Fail>
 }
 
 /// Bad members alone: the oldest wins.
-const BAD: [Case; 4] = [
+static BAD: [Case; 4] = [
     Case {
         what: "a bad copy 4, a bad copy 6",
         pebs: &[WRONG_4, WRONG_6],
@@ -253,7 +253,7 @@ fn the_oldest_of_bad_members_wins(rt: HostRuntime) -> Result<(), Fail> {
 }
 
 /// Copies that meet another member.
-const MEETING: [Case; 7] = [
+static MEETING: [Case; 7] = [
     Case {
         what: "a bad copy 9, an old member",
         pebs: &[WRONG_9, OLD],
@@ -351,7 +351,7 @@ fn has_next(found: &Scan, want: &[Next]) -> bool {
     has
 }
 
-const NEXT: [Next; 8] = [
+static NEXT: [Next; 8] = [
     (1, 0, Some((2, 1))),
     (1, 2, Some((2, 1))),
     (1, 3, Some((5, 0))),

@@ -43,7 +43,7 @@ type Case = (&'static [Peb], u32, &'static [Reads]);
 /// Of members that meet one another the copies' data are read once each, and those of the others never. The candidate's
 /// headers are read again when the second member comes. A copy is checked where it meets another one, and a copy that is
 /// alone never.
-const CHECKED: [Case; 9] = [
+static CHECKED: [Case; 9] = [
     (
         &[OLD, RIGHT, WRONG_9, OLDER],
         1,
@@ -114,7 +114,7 @@ fn error_of(alloc: Global, bytes: &[u8], at: u64) -> Result<Option<StreamError>,
 }
 
 /// The read that fails, and the error that is told: each in turn, up to one more than there are.
-const FAILING: [(u64, Option<StreamError>); 8] = [
+static FAILING: [(u64, Option<StreamError>); 8] = [
     (1, Some(StreamError::Read(0, 0))),
     (2, Some(StreamError::Read(1, 0))),
     (3, Some(StreamError::Read(0, 0))),
@@ -138,7 +138,7 @@ fn tells_which_read_failed(rt: HostRuntime) -> Result<(), Fail> {
 }
 
 /// How many bytes there are, and for what cause they are refused before the first read, which would fail.
-const SIZES: [(usize, Refusal); 3] = [
+static SIZES: [(usize, Refusal); 3] = [
     (0, Refusal::Length),
     (511, Refusal::Length),
     (33 * 512, Refusal::TooMany),
