@@ -4,7 +4,7 @@ use crate::{Geometry, GeometryError};
 use std::test::Fail;
 
 /// The five numbers of a geometry, and the limit that they don't keep.
-const REFUSED: [((u32, u32, u32, u32, u32), GeometryError); 16] = [
+static REFUSED: [((u32, u32, u32, u32, u32), GeometryError); 16] = [
     ((512, 96, 100, 128, 1), GeometryError::Page),
     ((512, 32, 64, 128, 32), GeometryError::Page),
     ((131_072, 131_072, 64, 131_072, 32), GeometryError::Page),

@@ -86,7 +86,7 @@ impl Said {
 }
 
 /// Fields, a check, and what they say. The checks were worked out by another program.
-const VALID: [(&str, Fields, u32, Said); 5] = [
+static VALID: [(&str, Fields, u32, Said); 5] = [
     ("a sound record", ROOT, 0x71DF_B11D, SAID),
     (
         "an alignment with its padding",
@@ -152,7 +152,7 @@ fn reads_records(rt: HostRuntime) -> Result<(), Fail> {
 }
 
 /// Fields, a check, and the first rule that they break. The checks were worked out by another program.
-const AT_FAULT: [(&str, Fields, u32, RecFault); 13] = [
+static AT_FAULT: [(&str, Fields, u32, RecFault); 13] = [
     (
         "none reserved",
         Fields {
@@ -298,7 +298,7 @@ fn writes_records(rt: HostRuntime) -> Result<(), Fail> {
 }
 
 /// How many eraseblocks a record reserves, its alignment, and the first rule that it breaks.
-const FAULTS: [(u32, u32, RecFault); 5] = [
+static FAULTS: [(u32, u32, RecFault); 5] = [
     (0, 1, RecFault::NotEmpty),
     (0x8000_0000, 1, RecFault::Negative),
     (20, 0, RecFault::Alignment),

@@ -76,7 +76,7 @@ impl Fields {
 }
 
 /// Headers and their bytes. The checks of these headers were worked out by another program.
-const WRITTEN: [(&str, VidHeader, [u8; 64]); 3] = [
+static WRITTEN: [(&str, VidHeader, [u8; 64]); 3] = [
     (
         "a header of the table",
         VidHeader {
@@ -130,7 +130,7 @@ fn writes_headers(rt: HostRuntime) {
 }
 
 /// Fields, a check, and what they are read as. The checks were worked out by another program.
-const READ: [(&str, Fields, u32, VidRead); 19] = [
+static READ: [(&str, Fields, u32, VidRead); 19] = [
     ("a sound header", BASE, 0x73B1_AB57, VidRead::Valid(HEADER)),
     (
         "another version",
