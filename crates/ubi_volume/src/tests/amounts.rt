@@ -36,7 +36,7 @@ const WITH_BLANK: [Peb; 4] = [
     ),
 ];
 
-const AMOUNTS: [(&[Peb], Amount); 6] = [
+static AMOUNTS: [(&[Peb], Amount); 6] = [
     (&BASE, Amount::Lebs(3)),
     (&WITH_BLANK, Amount::Lebs(0)),
     (&[FIRST_MARKED, SECOND_MARKED], Amount::Updating),

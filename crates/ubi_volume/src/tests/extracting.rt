@@ -80,7 +80,7 @@ type Case = (
 );
 
 /// Of the text all reads before the fifteenth are those of attaching.
-const CASES: [Case; 14] = [
+static CASES: [Case; 14] = [
     (
         &DYNAMIC,
         0,

@@ -7,7 +7,7 @@ use crate::{ReadError, volume_len};
 use std::test::Fail;
 
 /// Some eraseblocks, a volume, and how many bytes it reads.
-const LENGTHS: [(&[Peb], u32, Result<u64, ReadError>); 6] = [
+static LENGTHS: [(&[Peb], u32, Result<u64, ReadError>); 6] = [
     (&BASE, 0, Ok(7680)),
     (&BASE, 1, Err(ReadError::NoVolume)),
     (&[FIRST_BOOT, SECOND_BOOT], 0, Ok(0)),

@@ -150,7 +150,7 @@ fn made(alloc: Global, given: &[(u32, Given)]) -> Result<Meaning, Fail> {
 }
 
 /// Some volumes, and why they have no meaning together.
-const REFUSED: [(&[(u32, Given)], MeaningCause); 16] = [
+static REFUSED: [(&[(u32, Given)], MeaningCause); 16] = [
     // Numbers and records.
     (&[(2, Given::Root(20))], MeaningCause::IdRange(0)),
     (
@@ -253,7 +253,7 @@ fn sorts_and_drops_what_is_blank(rt: HostRuntime) -> Result<(), Fail> {
 }
 
 /// Volumes, and whether their meaning is that of a dynamic volume with logical eraseblock 3 and a full static one.
-const COMPARED: [(&[(u32, Given)], bool); 4] = [
+static COMPARED: [(&[(u32, Given)], bool); 4] = [
     (&[(1, Given::Text(768)), (0, Given::Leb(3, 384))], true),
     (&[(0, Given::Leb(3, 384)), (1, Given::Text(767))], false),
     (&[(0, Given::Leb(4, 384)), (1, Given::Text(768))], false),

@@ -37,7 +37,7 @@ fn attaches_a_volume(rt: HostRuntime) -> Result<(), Fail> {
 const BLANK: Leb = Leb::Reads(0xFF, 384, 384);
 
 /// A volume that reads three logical eraseblocks and 17 blank ones, and volumes that are not there.
-const READ: [Case; 4] = [
+static READ: [Case; 4] = [
     Case {
         what: "a volume",
         pebs: &BASE,
@@ -130,7 +130,7 @@ const GOOD: Peb = Peb(Ec::Zero, Vid::Is(COPIED), Data::Filled(0x37, 64));
 const BAD: Peb = Peb(Ec::Zero, Vid::Is(MISCOPIED), Data::Filled(0x39, 64));
 
 /// A member, a newer copy that is whole and one that is newer still and isn't, in any order.
-const COPIES: [Case; 6] = [
+static COPIES: [Case; 6] = [
     Case {
         what: "old, good, bad",
         pebs: &[FIRST, SECOND, OLD, GOOD, BAD],
@@ -207,7 +207,7 @@ const NEWER_BAD: Peb = Peb(
 );
 
 /// Copies that are not whole, alone.
-const BAD_COPIES: [Case; 3] = [
+static BAD_COPIES: [Case; 3] = [
     Case {
         what: "older, newer",
         pebs: &[FIRST, SECOND, OLDER_BAD, NEWER_BAD],
@@ -258,7 +258,7 @@ const CORRUPT_B: Peb = Peb(Ec::Corrupt, Vid::Is(LEB_1), Data::Filled(0x42, 384))
 const FORGOTTEN_B: Peb = Peb(Ec::Blank, Vid::Is(LEB_1), Data::Filled(0x42, 384));
 
 /// An alignment that leaves bytes free, and erase-counter headers that can't be read.
-const HALF: [Case; 4] = [
+static HALF: [Case; 4] = [
     Case {
         what: "zeros behind what is read",
         pebs: &[FIRST_ALIGNED, SECOND_ALIGNED, ALIGNED_ZEROS],
@@ -307,7 +307,7 @@ fn reads_by_alignment_and_behind_erase_counters(rt: HostRuntime) -> Result<(), F
 /// A logical eraseblock of bytes 0xFF in the place of `B`.
 const BLANK_B: Peb = Peb(Ec::Zero, Vid::Is(LEB_1), Data::Filled(0xFF, 384));
 
-const WITH_BLANK: [Case; 1] = [Case {
+static WITH_BLANK: [Case; 1] = [Case {
     what: "a logical eraseblock of 0xFF",
     pebs: &[FIRST, SECOND, A, BLANK_B, C],
     top: 0,

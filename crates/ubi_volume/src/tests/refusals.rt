@@ -19,7 +19,7 @@ fn is_refused(alloc: Global, bytes: &[u8], cause: Option<Refusal>) -> Result<boo
 }
 
 /// How many bytes there are, and for what cause they are refused, if they are.
-const LENGTHS: [(usize, Option<Refusal>); 4] = [
+static LENGTHS: [(usize, Option<Refusal>); 4] = [
     (0, Some(Refusal::Length)),
     (511, Some(Refusal::Length)),
     (16_896, Some(Refusal::TooMany)),
@@ -88,7 +88,7 @@ const DYNAMIC: Peb = Peb(
 );
 
 /// Some eraseblocks, and for what cause they are refused, if they are.
-const CASES: [(&[Peb], Option<Refusal>); 16] = [
+static CASES: [(&[Peb], Option<Refusal>); 16] = [
     // Tables that can't be read.
     (
         &[FIRST_FLIPPED, SECOND_FLIPPED, A, B, C],
@@ -173,7 +173,7 @@ const A_AND_B: [(u32, u32, Leb); 3] = [
     (0, 19, Leb::Reads(0xFF, 384, 384)),
 ];
 
-const TAKEN: [Case; 3] = [
+static TAKEN: [Case; 3] = [
     Case {
         what: "an eraseblock beyond what is reserved",
         pebs: &[FIRST, SECOND, A, B, C, BEYOND],

@@ -34,7 +34,7 @@ fn places_of(alloc: Global, pebs: &[Peb]) -> Result<Places, Fail> {
 }
 
 /// Some eraseblocks, and what volume 0 of them reads.
-const CONTENTS: [(&[Peb], PlaceContent); 6] = [
+static CONTENTS: [(&[Peb], PlaceContent); 6] = [
     (&BASE, PlaceContent::Dynamic),
     (&[FIRST_MARKED, SECOND_MARKED], PlaceContent::Updating),
     (
@@ -75,7 +75,7 @@ fn has_next(places: &Places, want: &[Next]) -> bool {
     has
 }
 
-const NEXT: [Next; 4] = [
+static NEXT: [Next; 4] = [
     (0, 0, Some((0, 2))),
     (0, 1, Some((1, 3))),
     (0, 2, None),
@@ -133,7 +133,7 @@ type Case = (
 /// Of a dynamic volume the headers are read for the scan and to compare them with the record, the data of one copy of the
 /// table alone. The most reads come where a candidate of a static volume is checked as a copy and then as a piece of the
 /// text.
-const READ: [Case; 2] = [
+static READ: [Case; 2] = [
     (
         &BASE,
         PlaceContent::Dynamic,
@@ -208,7 +208,7 @@ const UNLIKE: [Peb; 3] = [
 
 /// Some eraseblocks, which read of them fails, and why they aren't attached then. Each read of the first image fails in
 /// turn, up to one more than there are.
-const FAILING: [(&[Peb], u64, Option<StreamError>); 13] = [
+static FAILING: [(&[Peb], u64, Option<StreamError>); 13] = [
     // The scan.
     (&HALF, 1, Some(StreamError::Read(0, 0))),
     (&HALF, 2, Some(StreamError::Read(1, 0))),

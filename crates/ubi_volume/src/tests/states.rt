@@ -150,7 +150,7 @@ const LAST_OF_8: Peb = Peb(
 const ZEROS_OF_OTHERS: Peb = Peb(Ec::Zero, Vid::Is(DROPPED), Data::Filled(0, 384));
 
 /// An eraseblock of each sort behind the two copies of a table: by its headers, and then by the member that it is.
-const SORTS: [Case; 13] = [
+static SORTS: [Case; 13] = [
     (&[FIRST, SECOND, ERASED], &[Table, Table, Blank]),
     (
         &[FIRST, SECOND, Peb(Ec::Blank, Vid::Corrupt, NONE)],
@@ -187,7 +187,7 @@ fn says_what_headers_and_members_are(rt: HostRuntime) -> Result<(), Fail> {
 }
 
 /// Members that are beaten, copies in any order, and a static winner beyond what its volume reserves.
-const BEATEN_OR_NOT: [Case; 8] = [
+static BEATEN_OR_NOT: [Case; 8] = [
     (&BEATEN, &STATES_OF_BEATEN),
     (
         &[FIRST, SECOND, OLD, COPY_OF_A, BAD],

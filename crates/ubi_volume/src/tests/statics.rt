@@ -26,7 +26,7 @@ const FULL_TEXT: [Peb; 4] = [
 ];
 
 /// Texts that are read.
-const TEXTS: [Case; 4] = [
+static TEXTS: [Case; 4] = [
     Case {
         what: "a text whose last piece is short",
         pebs: &[FIRST_BOOT, SECOND_BOOT, TEXT_0, TEXT_1],
@@ -164,7 +164,7 @@ const UPDATING: [Peb; 7] = [
 ];
 
 /// Volumes that are damaged, and one that is updated, which isn't.
-const DAMAGED: [Case; 8] = [
+static DAMAGED: [Case; 8] = [
     Case {
         what: "no last piece",
         pebs: &[FIRST_BOOT, SECOND_BOOT, TEXT_0],

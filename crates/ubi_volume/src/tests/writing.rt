@@ -12,7 +12,7 @@ use std::test::Fail;
 use ubi_media::VidHeader;
 
 /// The ways in which a write fails, with how many bytes are taken at once.
-const WAYS: [(Failure, usize); 6] = [
+static WAYS: [(Failure, usize); 6] = [
     (Failure::Nothing, 1),
     (Failure::Error(ErrorKind::Interrupted), 1),
     (Failure::Error(ErrorKind::Other), 1),
@@ -22,7 +22,7 @@ const WAYS: [(Failure, usize); 6] = [
 ];
 
 /// A dynamic volume of three logical eraseblocks, the second of which isn't kept.
-const DYNAMIC: [Peb; 4] = [
+static DYNAMIC: [Peb; 4] = [
     Peb(Ec::Zero, Vid::Is(COPY_0), Data::Table(SMALL)),
     Peb(Ec::Zero, Vid::Is(COPY_1), Data::Table(SMALL)),
     A,
