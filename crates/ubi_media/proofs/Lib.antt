@@ -1,3 +1,4 @@
+pub mod ByteLists
 pub mod Cases
 pub mod CheckVectors
 pub mod Checks

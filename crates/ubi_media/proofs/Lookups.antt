@@ -7,14 +7,11 @@ use Rattle.std.specs.Int.{w32, to_le_bytes}
 use Rattle.std.specs.List.{flat_map}
 use lib.Bits.{xor_assoc, xor_shifted, xor_zero_r}
 use Rattle.ubi_media.specs.Check.{bits, add_to_front, check_from}
+use Rattle.ubi_media.specs.Fields.{AreBytes}
 use Rattle.ubi_media.proofs.Checks.{check_from-run}
 use Rattle.ubi_media.proofs.Register.{steps, steps-more, run, run-bits, run-empty, run-append}
 use Rattle.ubi_media.proofs.Table.{found, found-steps, steps-sum, steps-high}
 use Rattle.ubi_media.proofs.Xor.{xor-four, xor-scale}
-
-AreBytes : List ℕ → Type 0
-AreBytes [] = Unit {0}
-AreBytes (b ∷ bs) = (b < 256) × AreBytes bs
 
 -- bytes as one polynomial, the first byte lowest
 word : List ℕ → ℕ
@@ -31,7 +28,7 @@ steps-byte n x h =
 
 -- bytes may come in one by one, or all at once
 run-bytes : (m : List ℕ) (s : ℕ) → AreBytes m → run s (flat_map (bits 8) m) ≡ steps (8 * length m) (bit_xor s (word m))
-unfolding AreBytes word steps
+unfolding word steps
 run-bytes [] s h = run-empty s ∙ sym (xor_zero_r s)
 run-bytes (b ∷ bs) s h =
     let rest : List ℕ = flat_map (bits 8) bs in
@@ -51,7 +48,7 @@ lookups [] = 0
 lookups (b ∷ bs) = bit_xor (lookups bs) (found (length bs) b)
 
 lookups-word : (bs : List ℕ) → length bs ≤ 16 → AreBytes bs → lookups bs ≡ steps (8 * length bs) (word bs)
-unfolding AreBytes word steps
+unfolding word steps
 lookups-word [] h bytes = refl
 lookups-word (b ∷ bs) h bytes =
     let n : ℕ = length bs in
@@ -74,11 +71,10 @@ word-sum (x ∷ xs) (y ∷ ys) h =
     ∙ ap (bit_xor (bit_xor x y)) (xor-scale 8 (word xs) (word ys))
     ∙ xor-four x y (word xs * 2 ^ 8) (word ys * 2 ^ 8)
 
-AreBytes-sum : (xs ys : List ℕ) → AreBytes xs → AreBytes ys → AreBytes (add_to_front xs ys)
-unfolding AreBytes
-AreBytes-sum [] ys hx hy = hy
-AreBytes-sum (x ∷ xs) [] hx hy = tt
-AreBytes-sum (x ∷ xs) (y ∷ ys) hx hy = (xor_lt 8 x y hx.0 hy.0, AreBytes-sum xs ys hx.1 hy.1)
+bytes-sum : (xs ys : List ℕ) → AreBytes xs → AreBytes ys → AreBytes (add_to_front xs ys)
+bytes-sum [] ys hx hy = hy
+bytes-sum (x ∷ xs) [] hx hy = tt
+bytes-sum (x ∷ xs) (y ∷ ys) hx hy = (xor_lt 8 x y hx.0 hy.0, bytes-sum xs ys hx.1 hy.1)
 
 -- the bytes of a state
 low_byte : (x : ℕ) → bit_xor (x % 256) (x / 256 * 2 ^ 8) ≡ x
@@ -95,9 +91,8 @@ word-state s h =
     let top : s / 16777216 % 256 ≡ s / 65536 / 256 = omega arith in
     rw (top, xor_zero_r (s / 65536 / 256), low_byte (s / 65536), e1, low_byte (s / 256)) (low_byte s)
 
-AreBytes-state : (s : ℕ) → AreBytes (to_le_bytes w32 s)
-unfolding AreBytes
-AreBytes-state s =
+bytes-state : (s : ℕ) → AreBytes (to_le_bytes w32 s)
+bytes-state s =
     let below : (x : ℕ) → x % 256 < 256 = λ x. mod_below x 256 (omega arith) in
     (below s, (below (s / 256), (below (s / 65536), (below (s / 16777216), tt))))
 
@@ -111,10 +106,9 @@ elements-all i zero m e = sym (drop_all i m (omega arith))
 elements-all i (suc n) m e =
     ap (λ rest. get_or m i 0 ∷ rest) (elements-all (suc i) n m (omega arith)) ∙ sym (drop-cons m i 0 (omega arith))
 
-AreBytes-elements : (i n : ℕ) (m : List ℕ) → ((k : ℕ) → get_or m k 0 < 256) → AreBytes (elements i n m)
-unfolding AreBytes
-AreBytes-elements i zero m h = tt
-AreBytes-elements i (suc n) m h = (h i, AreBytes-elements (suc i) n m h)
+bytes-elements : (i n : ℕ) (m : List ℕ) → ((k : ℕ) → get_or m k 0 < 256) → AreBytes (elements i n m)
+bytes-elements i zero m h = tt
+bytes-elements i (suc n) m h = (h i, bytes-elements (suc i) n m h)
 
 elements-length : (i n : ℕ) (m : List ℕ) → length (elements i n m) ≡ n
 elements-length i zero m = refl
@@ -135,9 +129,9 @@ check_from-elements n s m state some most h size below same =
     let long : length piece ≡ n = elements-length 0 n m in
     let fits : length front ≤ length piece = omega (arith, long) in
     let sum : length (add_to_front front piece) ≡ n = add_to_front-length front piece fits ∙ long in
-    let bytes : AreBytes piece = AreBytes-elements 0 n m below in
+    let bytes : AreBytes piece = bytes-elements 0 n m below in
     rw same
-    (lookups-word (add_to_front front piece) (omega (arith, sum)) (AreBytes-sum front piece (AreBytes-state s) bytes)
+    (lookups-word (add_to_front front piece) (omega (arith, sum)) (bytes-sum front piece (bytes-state s) bytes)
     ∙ ap (λ k. steps (8 * k) (word (add_to_front front piece))) (sum ∙ sym long)
     ∙ ap (steps (8 * length piece)) (word-sum front piece fits ∙ ap (λ x. bit_xor x (word piece)) (word-state s h))
     ∙ sym (check_from-word s piece h bytes)

@@ -1,11 +1,15 @@
 -- What stands at a place of a list of bytes; blank, sealed and padded bytes; the form of a header, by magic and check.
-use Rattle.std.specs.Prelude.{ℕ, Bool, ◌==◌, List, ◌+◌, ◌++◌, ◌-◌, take, drop, length, replicate, slice_range, not, if◌then◌else◌}
+use Rattle.std.specs.Prelude.{ℕ, ◌<◌, Bool, ◌==◌, List, ◌+◌, ◌++◌, ◌-◌, take, drop, length, replicate, slice_range, not, if◌then◌else◌}
 use Rattle.std.specs.Cmp.Lexicographic.{pointwise}
-use Rattle.std.specs.List.{list_all}
+use Rattle.std.specs.List.{AllByRecursion, list_all}
 use Rattle.byteorder.specs.Endian.{big_bytes, big_number}
 use Rattle.ubi_media.specs.Check.{check}
 use Rattle.ubi_media.specs.declared.header.Form.{Form}
 use Rattle.ubi_media.specs.declared.header.Form.TheVariants as form
+
+-- each number is a byte
+abbrev pub AreBytes : List ℕ → Type 0
+AreBytes numbers = AllByRecursion (λ number. number < 256) numbers
 
 -- the number in the n bytes from a place on, the highest byte first
 abbrev pub field : ℕ → ℕ → List ℕ → ℕ
