@@ -21,6 +21,7 @@ pub mod Parts
 pub mod Places
 pub mod ReadParts
 pub mod Seen
+pub mod Seq
 pub mod Shown
 pub mod SoFar
 pub mod Told

@@ -12,8 +12,9 @@ use Rattle.ubi_scan.specs.Clean.{IsClean, IsSound}
 use Rattle.ubi_scan.specs.Faults.{NoFault}
 use Rattle.ubi_scan.specs.Image.{block}
 use Rattle.ubi_scan.specs.Members.{IsMember, Leb, NoMember, Wins, good_at, good_in, named_in, sqnum_at, sqnum_in}
-use Rattle.ubi_scan.specs.Numbers.{seq_of}
+use Rattle.ubi_scan.specs.Numbers.{image_seq, seq_of}
 use Rattle.ubi_scan.proofs.Clean.{clean_from_none, none_from_clean}
+use Rattle.ubi_scan.proofs.Seq.{seq_agrees, seq_is}
 
 -- each eraseblock of cs stands at a place of bs, and the other way round
 pub record IsMoved (bs cs : List (List ℕ)) (to : ℕ → ℕ) : Type 0 where
@@ -94,6 +95,25 @@ module _ (z : Sizes) (bs cs : List (List ℕ)) (to : ℕ → ℕ) (h : IsMoved b
             (let n = c.apart of (to p) (to q) (member_of of p a) (member_of of q b)
             (ap (sqnum_in z) (sym (same p a.inside)) ∙ e ∙ ap (sqnum_in z) (same q b.inside)) in
             sym (h.back p) ∙ ap to n ∙ h.back q);
+      })
+
+  -- their image sequence number is the same
+  pub seq_to : NoFault z bs → image_seq z cs ≡ image_seq z bs
+  seq_to none =
+      let a = seq_agrees z bs (clean_from_none z bs none) in
+      seq_is z (image_seq z bs) cs (record {
+        all = λ q l k.
+            (let i = inside_of q l in
+            let e = ap (seq_of z) (h.same q i) in
+            e ∙ a.all (to q) (h.stays q i) (λ n. k (e ∙ n)));
+        some = elim a.some [
+          | inl zero ↦ inl zero
+          | inr q ↦ inr (
+            to q.0,
+            (let k = h.stays q.0 q.1 in let e = h.len in omega arith),
+            ap (seq_of z) (same_back q.0 q.1) ∙ q.2,
+          )
+        ];
       })
 
 -- two places change their eraseblocks

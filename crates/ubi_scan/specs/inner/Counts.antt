@@ -4,12 +4,15 @@ use Rattle.std.specs.Option.{option_map_or}
 use Rattle.ubi_media.specs.declared.ec.EcRead.{EcRead}
 use Rattle.ubi_media.specs.declared.vid.VidRead.{VidRead}
 use Rattle.ubi_scan.specs.Members.{header_if}
-use Rattle.ubi_scan.specs.Numbers.{valid_ec, sqnum_in_use}
+use Rattle.ubi_scan.specs.Numbers.{valid_ec, seq_if, sqnum_in_use}
 
--- what one more eraseblock adds to these numbers: the first of two image sequence numbers that isn't zero, the counter
--- of its EC, and its sequence number
+-- what one more eraseblock adds to these numbers: the first of two image sequence numbers that isn't zero, whether it is a
+-- carrier, the counter of its EC, and its sequence number
 abbrev pub first_seq : ℕ → ℕ → ℕ
 first_seq known seq = if known == 0 then seq else known
+
+abbrev pub carrier_if : EcRead → ℕ
+carrier_if e = if seq_if e == 0 then 0 else 1
 
 abbrev pub counter_if : EcRead → ℕ
 counter_if e = option_map_or (λ h. h.counter) (valid_ec e) 0
