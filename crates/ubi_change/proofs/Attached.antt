@@ -20,6 +20,7 @@ use Rattle.ubi_scan.specs.Image.{Image, block, eraseblocks, in_image}
 use Rattle.ubi_scan.specs.Members.{IsMember, Leb, NoMember, Wins, sqnum_at}
 use Rattle.ubi_scan.proofs.Chunks.{length-of_chunk, length-first_chunks}
 use Rattle.ubi_scan.proofs.Clean.{clean_from_none}
+use Rattle.ubi_scan.proofs.Seq.{Agrees, seq_agrees}
 use Rattle.ubi_table.specs.Records.{Records}
 use Rattle.ubi_table.specs.Table.{AllBlank}
 use Rattle.ubi_volume.specs.Accepts.{AcceptsBlocks}
@@ -33,7 +34,7 @@ use Rattle.ubi_volume.proofs.Winners.{found_wins, none_found}
 use Rattle.ubi_change.specs.Cuts.{SurvivesCuts, programs_copy, turn}
 use Rattle.ubi_change.specs.Plan.{blank_header, copy_header, next_ec, mapped_plan, needs, plan_of, prepare, program_header, program_text, ready_bytes, ready_ec, release, renew, taken, unmapped_plan}
 use Rattle.ubi_change.specs.Refused.{causes, first_cause, first_of, is_bad_length, is_static}
-use Rattle.ubi_change.specs.Takeable.{ec_at, is_clean, is_worn, takeable}
+use Rattle.ubi_change.specs.Takeable.{ec_at, is_clean, is_sole_carrier, is_worn, stays, takeable}
 use Rattle.ubi_change.specs.Weak.{weak_place, whole_place}
 use Rattle.ubi_change.specs.declared.refusal.ChangeRefusal.{ChangeRefusal}
 use Rattle.ubi_change.specs.declared.refusal.ChangeRefusal.TheVariants as refusal
@@ -41,12 +42,12 @@ use Rattle.ubi_change.specs.declared.step.Step.{Step}
 use Rattle.ubi_change.proofs.Choosing.{MayBeTaken, may_be_taken, two_apart}
 use Rattle.ubi_change.proofs.Mapped as mapped_copy
 use Rattle.ubi_change.proofs.Mapped.{copy_fits, copy_sound, IsNew, IsPrepared, IsRelease, mapped, used_by_volume}
-use Rattle.ubi_change.proofs.Premises.{counter_behind, next_counter, ready, taken_loses, valid_counter}
+use Rattle.ubi_change.proofs.Premises.{counter_behind, neither, next_counter, ready, taken_beside, taken_loses, valid_counter}
 use Rattle.ubi_scan.proofs.Parts.{laid}
 use Rattle.ubi_change.proofs.Renewed.{IsCounter}
 use Rattle.ubi_change.proofs.Replaced.{block_other}
 use Rattle.ubi_change.proofs.Runs.{done}
-use Rattle.ubi_change.proofs.Seq.{Agrees, seq_agrees}
+use Rattle.ubi_change.proofs.Seq.{NamedBeside, not_sole}
 use Rattle.ubi_change.proofs.Survives.{survives}
 use Rattle.ubi_change.proofs.Top.{member_below}
 use Rattle.ubi_change.proofs.Turned.{AllFail, fail-append, header_fails, one-copy, renew_fails, turn-is}
@@ -74,10 +75,6 @@ is_dynamic kind.Static e = absurd (cc)
 not_not : (b : Bool) → not b ≡ false → b ≡ true
 not_not true e = refl
 not_not false e = absurd (cc)
-
-neither : (a b : Bool) → (a || b) ≡ false → (a ≡ false) × (b ≡ false)
-neither true b e = absurd (cc)
-neither false b e = (refl, e)
 
 some_of : (n : ℕ) → (n == 0) ≡ false → 1 ≤ n
 some_of n e = grind (arith, nat_tests)
@@ -195,20 +192,29 @@ module _ (image : Image) (g : IsGeometry image.sizes) (a : Whole) (att : IsAttac
       by_test false = renew_fails s g p (next_ec a.scan (ec_at s bs p))
 
   release_fails : (p : ℕ) (now : Option EcHeader) → AllFail (programs_copy s) (release s bs a p now)
-  release_fails p now = by_test (is_worn now)
+  release_fails p now = by_test (stays s bs p now)
     where
       by_test : (b : Bool) → AllFail (programs_copy s) (cond b [] (renew s p (next_ec a.scan now)))
       by_test true = tt
       by_test false = renew_fails s g p (next_ec a.scan now)
 
-  release_is : (p : ℕ) (now : Option EcHeader) → (is_worn now ≡ false → IsCounter (next_ec a.scan now))
-      → IsRelease s p a.scan.image_seq (release s bs a p now)
-  release_is p now counter = by_test (is_worn now) refl
+  release_is : (cs : List (List ℕ)) (p : ℕ) (now : Option EcHeader)
+      → (is_worn now ≡ false → IsCounter (next_ec a.scan now))
+      → (NamedBeside s a.scan.image_seq bs p → NamedBeside s a.scan.image_seq cs p)
+      → IsRelease s cs p a.scan.image_seq (release s bs a p now)
+  release_is cs p now counter named = by_test (stays s bs p now) refl
     where
-      by_test : (b : Bool) → is_worn now ≡ b
-          → IsRelease s p a.scan.image_seq (cond b [] (renew s p (next_ec a.scan now)))
+      by_test : (b : Bool) → stays s bs p now ≡ b
+          → IsRelease s cs p a.scan.image_seq (cond b [] (renew s p (next_ec a.scan now)))
       by_test true e = inl refl
-      by_test false e = inr (next_ec a.scan now, counter e, (λ _. refl), refl)
+      by_test false e =
+          let two = neither (is_worn now) (is_sole_carrier s bs p) e in inr (
+            next_ec a.scan now,
+            counter two.0,
+            (λ _. refl),
+            named (not_sole s a.scan.image_seq bs agrees p two.1),
+            refl,
+          )
 
   used : AllBlank s bs → ⊥
   used = used_by_volume s bs a.meaning acc id v there
@@ -230,12 +236,15 @@ module _ (image : Image) (g : IsGeometry image.sizes) (a : Whole) (att : IsAttac
     pub may : MayBeTaken s bs a.states b
     may = may_be_taken s bs a.states 0 (let e = no_cause.enough in let n = needs-one in omega arith)
 
+    named : NamedBeside s a.scan.image_seq bs b
+    named = taken_beside s g bs a acc.records states b may a.scan.image_seq agrees
+
     wins : Wins s bs (id, lnum) old
     wins = found_wins s bs a.scan att.scan (id, lnum) old found
 
     pub made : (e : EcHeader) × (ready_ec s bs a b ≡ Some e)
         × IsPrepared s bs a.meaning b a.scan.image_seq (prepare s bs a b) (ready_bytes s bs a b) e
-    made = ready s g bs a acc.records states b may bs a.meaning acc may.0 refl (whole b may.0) agrees used
+    made = ready s g bs a acc.records states b may bs a.meaning acc may.0 refl (whole b may.0) agrees named used
         (taken_loses s g bs a acc.records states b may) few narrow
 
     few_numbers : a.scan.top_sqnum + 1 < 2 ^ 64
@@ -245,10 +254,10 @@ module _ (image : Image) (g : IsGeometry image.sizes) (a : Whole) (att : IsAttac
     pub old_apart : old ≢ b
     old_apart =
         mapped_copy.apart s g bs a.meaning acc id lnum v.entry held.0 was slot number half new no_cause.is_new b may.0
-        a.scan.image_seq agrees (taken_loses s g bs a acc.records states b may)
+        a.scan.image_seq agrees named (taken_loses s g bs a acc.records states b may)
         (prepare s bs a b) (ready_bytes s bs a b) made.0 made.2 (a.scan.top_sqnum + 1) few_numbers above old wins
         (release s bs a old (ec_at s bs old))
-        (release_is old (ec_at s bs old) (next_counter s bs a few narrow old))
+        (release_is bs old (ec_at s bs old) (next_counter s bs a few narrow old) (λ n. n))
 
     -- where the new is meant from
     pub mapped_turn : turn s (mapped_plan s bs a v.entry id lnum new b old) new
@@ -275,10 +284,10 @@ module _ (image : Image) (g : IsGeometry image.sizes) (a : Whole) (att : IsAttac
         (release s bs a old (ec_at s bs old)) (prepare_fails b) (release_fails old (ec_at s bs old)))
         mapped_turn
         (mapped s g bs a.meaning acc id lnum v.entry held.0 was slot number half new no_cause.is_new b may.0
-        a.scan.image_seq agrees (taken_loses s g bs a acc.records states b may)
+        a.scan.image_seq agrees named (taken_loses s g bs a acc.records states b may)
         (prepare s bs a b) (ready_bytes s bs a b) made.0 made.2 (a.scan.top_sqnum + 1) few_numbers above old wins
         (release s bs a old (ec_at s bs old))
-        (release_is old (ec_at s bs old) (next_counter s bs a few narrow old)))
+        (release_is bs old (ec_at s bs old) (next_counter s bs a few narrow old) (λ n. n)))
 
     pub survives_mapped : SurvivesCuts s bs a.meaning id lnum new (plan_of s bs a v.entry id lnum new)
     survives_mapped =
@@ -314,6 +323,12 @@ module _ (image : Image) (g : IsGeometry image.sizes) (a : Whole) (att : IsAttac
     none : NoMember s bs (id, lnum)
     none = none_found s bs a.scan att.scan (id, lnum) found
 
+    named0 : NamedBeside s a.scan.image_seq bs e0
+    named0 = taken_beside s g bs a acc.records states e0 may0 a.scan.image_seq agrees
+
+    named1 : NamedBeside s a.scan.image_seq bs b1
+    named1 = taken_beside s g bs a acc.records states b1 may1 a.scan.image_seq agrees
+
     loses0 : LosesAll s bs acc.records e0
     loses0 = taken_loses s g bs a acc.records states e0 may0
 
@@ -323,7 +338,7 @@ module _ (image : Image) (g : IsGeometry image.sizes) (a : Whole) (att : IsAttac
     pub made0 : (e : EcHeader) × (ready_ec s bs a e0 ≡ Some e)
         × IsPrepared s bs a.meaning e0 a.scan.image_seq (prepare s bs a e0) (ready_bytes s bs a e0) e
     made0 = ready s g bs a acc.records states e0 may0 bs a.meaning acc may0.0 refl
-        (whole e0 may0.0) agrees used loses0 few narrow
+        (whole e0 may0.0) agrees named0 used loses0 few narrow
 
     many : a.scan.top_sqnum + 1 + 1 < 2 ^ 64
     many = let f = no_cause.few in let n = needs-two in omega arith
@@ -342,7 +357,7 @@ module _ (image : Image) (g : IsGeometry image.sizes) (a : Whole) (att : IsAttac
 
     acc1 : AcceptsBlocks s cs a.meaning
     acc1 = first.mounted_accepted s g bs a.meaning acc id lnum v.entry held.0 was slot number half
-        no_cause.is_new.inside e0 may0.0 a.scan.image_seq agrees loses0 (prepare s bs a e0)
+        no_cause.is_new.inside e0 may0.0 a.scan.image_seq agrees named0 loses0 (prepare s bs a e0)
         (ready_bytes s bs a e0) made0.0 made0.2 (a.scan.top_sqnum + 1) some_left above none
 
     lost1 : LosesAll s cs acc1.records b1
@@ -350,15 +365,21 @@ module _ (image : Image) (g : IsGeometry image.sizes) (a : Whole) (att : IsAttac
     lost1 =
         subst (λ (t : Records). LosesAll s cs t b1)
         (sym (first.now_records s g bs a.meaning acc id lnum v.entry held.0 was slot number half no_cause.is_new.inside
-        e0 may0.0 a.scan.image_seq agrees loses0 (prepare s bs a e0) (ready_bytes s bs a e0) made0.0 made0.2
+        e0 may0.0 a.scan.image_seq agrees named0 loses0 (prepare s bs a e0) (ready_bytes s bs a e0) made0.0 made0.2
         (a.scan.top_sqnum + 1) some_left above none))
         (first.other_loses s g bs a.meaning acc id lnum v.entry held.0 was slot number half no_cause.is_new.inside e0
-        may0.0 a.scan.image_seq agrees loses0 (prepare s bs a e0) (ready_bytes s bs a e0) made0.0 made0.2
+        may0.0 a.scan.image_seq agrees named0 loses0 (prepare s bs a e0) (ready_bytes s bs a e0) made0.0 made0.2
         (a.scan.top_sqnum + 1) some_left above none b1 apart loses1)
 
     agrees1 : Agrees s a.scan.image_seq cs
     agrees1 = first.now_agrees s g bs a.meaning acc id lnum v.entry held.0 was slot number half no_cause.is_new.inside
-        e0 may0.0 a.scan.image_seq agrees loses0 (prepare s bs a e0) (ready_bytes s bs a e0) made0.0 made0.2
+        e0 may0.0 a.scan.image_seq agrees named0 loses0 (prepare s bs a e0) (ready_bytes s bs a e0) made0.0 made0.2
+        (a.scan.top_sqnum + 1) some_left above none
+
+    -- another eraseblock goes on naming the image
+    beside1 : (p : ℕ) → NamedBeside s a.scan.image_seq bs p → NamedBeside s a.scan.image_seq cs p
+    beside1 = first.now_beside s g bs a.meaning acc id lnum v.entry held.0 was slot number half no_cause.is_new.inside
+        e0 may0.0 a.scan.image_seq agrees named0 loses0 (prepare s bs a e0) (ready_bytes s bs a e0) made0.0 made0.2
         (a.scan.top_sqnum + 1) some_left above none
 
     inside1 : b1 < length cs
@@ -368,14 +389,14 @@ module _ (image : Image) (g : IsGeometry image.sizes) (a : Whole) (att : IsAttac
         × IsPrepared s cs a.meaning b1 a.scan.image_seq (prepare s bs a b1) (ready_bytes s bs a b1) e
     made1 =
         ready s g bs a acc.records states b1 may1 cs a.meaning acc1 inside1
-        (block_other s bs e0 mounted0 may0.0 b1 apart) (whole b1 may1.0) agrees1
+        (block_other s bs e0 mounted0 may0.0 b1 apart) (whole b1 may1.0) agrees1 (beside1 b1 named1)
         (used_by_volume s cs a.meaning acc1 id v there) lost1 few narrow
 
-    release0 : IsRelease s e0 a.scan.image_seq (release s bs a e0 (ready_ec s bs a e0))
-    release0 = release_is e0 (ready_ec s bs a e0) (λ fresh.
+    release0 : IsRelease s cs e0 a.scan.image_seq (release s bs a e0 (ready_ec s bs a e0))
+    release0 = release_is cs e0 (ready_ec s bs a e0) (λ fresh.
         subst (λ (o : Option EcHeader). IsCounter (next_ec a.scan o)) (sym made0.1)
         (counter_behind a narrow made0.0 (valid_counter s (ready_bytes s bs a e0) made0.0 made0.2.reads)
-        (ap is_worn (sym made0.1) ∙ fresh)))
+        (ap is_worn (sym made0.1) ∙ fresh))) (beside1 e0)
 
     abbrev header1 : VidHeader
     header1 = copy_header 0 (data_pad s v.entry) id lnum (a.scan.top_sqnum + 1 + 1) new
@@ -404,7 +425,7 @@ module _ (image : Image) (g : IsGeometry image.sizes) (a : Whole) (att : IsAttac
     -- what the first mount leaves
     pub mounted_done : done s bs mount0 ≡ cs
     mounted_done = first.mount_done s g bs a.meaning acc id lnum v.entry held.0 was slot number half
-        no_cause.is_new.inside e0 may0.0 a.scan.image_seq agrees loses0 (prepare s bs a e0)
+        no_cause.is_new.inside e0 may0.0 a.scan.image_seq agrees named0 loses0 (prepare s bs a e0)
         (ready_bytes s bs a e0) made0.0 made0.2 (a.scan.top_sqnum + 1) some_left above none
 
     mount_fails : AllFail (programs_copy s) (mount0 ++ prepare s bs a b1)
@@ -456,9 +477,9 @@ module _ (image : Image) (g : IsGeometry image.sizes) (a : Whole) (att : IsAttac
         (ap (count_by (programs_copy s)) (sym steps-are) ∙ one)
         steps_turn
         (first.unmapped s g bs a.meaning acc id lnum v.entry held.0 was slot number half no_cause.is_new.inside e0
-        may0.0 a.scan.image_seq agrees loses0 (prepare s bs a e0) (ready_bytes s bs a e0) made0.0 made0.2
+        may0.0 a.scan.image_seq agrees named0 loses0 (prepare s bs a e0) (ready_bytes s bs a e0) made0.0 made0.2
         (a.scan.top_sqnum + 1) some_left above none
-        new no_cause.is_new b1 apart may1.0 loses1 (prepare s bs a b1)
+        new no_cause.is_new b1 apart may1.0 named1 loses1 (prepare s bs a b1)
         (ready_bytes s bs a b1) made1.0 made1.2 many rel0 release0)
 
     pub survives_unmapped : SurvivesCuts s bs a.meaning id lnum new (plan_of s bs a v.entry id lnum new)

@@ -155,6 +155,7 @@ module _ (m : Meant) (is : IsMeaning m) (id lnum : ℕ) (new : List ℕ) (r : Vo
 
   pub meaning_next : IsMeaning next
   meaning_next = record {
+    image_seq = is.image_seq;
     each = λ i. elim (cases_eq i id) [
       | inl e ↦ subst (λ (k : ℕ). IfSome (finite.get next.volumes k) (IsVolume m.sizes k)) (sym e)
           (subst (λ (o : Option Volume). IfSome o (IsVolume m.sizes id)) (sym (insert_same m.volumes id now))
@@ -172,6 +173,7 @@ module _ (m : Meant) (is : IsMeaning m) (id lnum : ℕ) (new : List ℕ) (r : Vo
   pub changed-next : IsChanged m next id lnum r text
   changed-next = record {
     sizes = refl;
+    image_seq = refl;
     meaning = meaning_next;
     others = insert_other m.volumes id now;
     old = lebs;
@@ -189,6 +191,7 @@ pub unchanged : (m : Meant) → IsMeaning m → (id lnum : ℕ) (r : VolumeRecor
     → IsChanged m m id lnum r (blank (usable m.sizes r))
 unchanged m is id lnum r lebs was reads = record {
   sizes = refl;
+  image_seq = refl;
   meaning = is;
   others = λ i e. refl;
   old = lebs;

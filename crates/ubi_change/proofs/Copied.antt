@@ -19,6 +19,7 @@ use Rattle.ubi_media.specs.declared.vid.VidHeader.{VidHeader}
 use Rattle.ubi_scan.specs.Faults.{IsMislaid}
 use Rattle.ubi_scan.specs.Image.{leb}
 use Rattle.ubi_scan.specs.Members.{IsMember, Leb, has_members, is_good, leb_of, sqnum_at}
+use Rattle.ubi_scan.specs.Numbers.{seq_of}
 use Rattle.ubi_scan.proofs.Chunks.{length-first_chunks}
 use Rattle.ubi_change.specs.Plan.{program_header, program_text}
 use Rattle.std.proofs.lemmas.List.Sums.{fold-append}
@@ -33,7 +34,7 @@ use Rattle.ubi_change.proofs.Mounted.{IsMount}
 use Rattle.ubi_change.proofs.PagePlaces.{data_pages}
 use Rattle.ubi_change.proofs.Runs.{AllOn, AtEachCut, TurnsAt, after-all, after-on, done, run, turns-before, turns-behind}
 use Rattle.ubi_change.proofs.Torn.{pages-all, told-before, told-from, whole-from, whole_place-is}
-use Rattle.ubi_change.proofs.Written.{leb-part, part-good, part-mount}
+use Rattle.ubi_change.proofs.Written.{leb-part, part-good, part-mount, seq-part}
 
 abbrev page_step : ℕ → ℕ × List ℕ → Step
 page_step p e = step.Program p e.0 e.1
@@ -142,6 +143,9 @@ module _ (s : Sizes) (g : IsGeometry s) (bs : List (List ℕ)) (b : ℕ) (inside
   pub mount_at : (j : ℕ) → j ≤ pages_of s new → IsMount s seq bs of h (part_at j)
   mount_at j l = part-mount s g bytes e c.size c.reads h c.fits c.sound c.known c.placed (take (j * s.page) new)
       (within j l) seq bs of c.image c.named c.above
+
+  pub seq_at : (j : ℕ) → j ≤ pages_of s new → seq_of s (part_at j) ≡ e.image_seq
+  seq_at j l = seq-part s g bytes e c.size c.reads h c.fits c.sound c.known c.placed (take (j * s.page) new) (within j l)
 
   pub leb_at : (j : ℕ) → j ≤ pages_of s new → leb s (part_at j) ≡ take (j * s.page) new
       ++ blank (s.peb_size - (s.data_offset + j * s.page))

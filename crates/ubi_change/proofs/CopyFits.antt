@@ -11,13 +11,14 @@ use Rattle.std.proofs.lemmas.Nat.{mul-le}
 use Rattle.std.proofs.lemmas.Bool.{cases_lt}
 use Rattle.ubi_media.specs.Check.{check}
 use Rattle.ubi_media.specs.Ec.{ec_bytes, ec_front}
-use Rattle.ubi_media.specs.Fields.{blank, filled, overwrite}
+use Rattle.ubi_media.specs.Fields.{AreBytes, blank, filled, overwrite}
 use Rattle.ubi_media.specs.Geometry.{IsGeometry, Sizes}
 use Rattle.ubi_media.specs.Vid.{fields_from, kind_number, vid_bytes, vid_front}
 use Rattle.ubi_media.specs.declared.ec.EcHeader.{EcHeader}
 use Rattle.ubi_media.specs.declared.vid.VidHeader.{VidHeader}
 use Rattle.ubi_media.specs.declared.vid.VolKind.{VolKind}
 use Rattle.ubi_media.specs.declared.vid.VolKind.TheVariants as kind
+use Rattle.ubi_media.proofs.ByteLists.{bytes-append, bytes-blank, bytes-drop, bytes-take}
 use Rattle.ubi_media.proofs.Cases.{zero_or_more}
 use Rattle.ubi_scan.specs.Image.{block}
 use Rattle.ubi_scan.proofs.Filled.{filled-by, filled-is, length-blank, length-filled}
@@ -28,7 +29,7 @@ use Rattle.ubi_change.specs.Plan.{vid_page, program_header, program_text}
 use Rattle.ubi_change.specs.Steps.{step_done}
 use Rattle.ubi_change.specs.Weak.{pages_of}
 use Rattle.ubi_change.specs.declared.step.Step.TheVariants as step
-use Rattle.ubi_change.proofs.Fits.{AreBytes, FitAll, blank_page, bytes-append, bytes-blank, clears-append, clears_blank, clears_same, program_fits}
+use Rattle.ubi_change.proofs.Fits.{FitAll, blank_page, clears-append, clears_blank, clears_same, program_fits}
 use Rattle.ubi_change.proofs.Laid.{header_written, page_written}
 use Rattle.ubi_change.proofs.PagePlaces.{data_pages, vid_before, vid_beside, vid_left}
 use Rattle.ubi_change.proofs.Written.{take_filled}
@@ -96,20 +97,6 @@ bytes-vid h small =
 bytes-filled : (n : ℕ) (xs : List ℕ) → AreBytes xs → AreBytes (filled n xs)
 bytes-filled n xs a = subst AreBytes (sym (filled-is n xs))
     (bytes-append xs (blank (n - length xs)) a (bytes-blank (n - length xs)))
-
-pub bytes-take : (n : ℕ) (xs : List ℕ) → AreBytes xs → AreBytes (take n xs)
-bytes-take zero xs a = tt
-bytes-take (suc n) [] a = tt
-bytes-take (suc n) (x ∷ xs) a = (a.0, bytes-take n xs a.1)
-
-pub bytes-drop : (n : ℕ) (xs : List ℕ) → AreBytes xs → AreBytes (drop n xs)
-bytes-drop zero xs a = a
-bytes-drop (suc n) [] a = tt
-bytes-drop (suc n) (x ∷ xs) a = bytes-drop n xs a.1
-
-pub bytes-each : (xs : List ℕ) → ((i : ℕ) → get_or xs i 0 < 256) → AreBytes xs
-bytes-each [] h = tt
-bytes-each (x ∷ xs) h = (h 0, bytes-each xs (λ i. h (suc i)))
 
 zero_front : (n : ℕ) → 0 + n - 0 ≡ n
 zero_front n = omega arith

@@ -29,7 +29,7 @@ use Rattle.ubi_change.specs.Frugal.{CountsErases, counter_after, erases}
 use Rattle.ubi_change.specs.Plan.{blank_header, copy_header, next_ec, mapped_plan, mount, plan_of, prepare, program_header, program_text, ready_bytes, ready_ec, release, renew, taken, unmapped_plan}
 use Rattle.ubi_change.specs.Refused.{first_cause}
 use Rattle.ubi_change.specs.Steps.{block_after, step_done, target}
-use Rattle.ubi_change.specs.Takeable.{ec_at, is_clean, is_worn}
+use Rattle.ubi_change.specs.Takeable.{ec_at, is_clean, is_sole_carrier, is_worn, stays}
 use Rattle.ubi_change.specs.Weak.{pages_of}
 use Rattle.ubi_change.specs.declared.step.Step.{Step}
 use Rattle.ubi_change.specs.declared.step.Step.TheVariants as step
@@ -37,7 +37,7 @@ use Rattle.ubi_change.proofs.Attached as attached
 use Rattle.ubi_change.proofs.Copied.{length-program_text, run_text}
 use Rattle.ubi_change.proofs.Laid.{header_written}
 use Rattle.ubi_change.proofs.PlanFits.{length-done}
-use Rattle.ubi_change.proofs.Premises.{counter_behind, next_counter, valid_counter}
+use Rattle.ubi_change.proofs.Premises.{counter_behind, neither, next_counter, valid_counter}
 use Rattle.ubi_change.proofs.Renewed.{IsCounter, counter_back, counter_size, renewed}
 use Rattle.ubi_change.proofs.Replaced.{block_other, block_same}
 use Rattle.ubi_change.proofs.Runs.{AllOn, after-all, done, done-on, on-append, run}
@@ -186,17 +186,18 @@ module _ (s : Sizes) (g : IsGeometry s) (bs : List (List ℕ)) (a : Whole) where
       → (is_worn now ≡ false → IsCounter (next_ec a.scan now))
       → ec_read.Valid (next_ec a.scan now) ≡ ec_after p (suc (count_by (erases p) front))
       → AllCounted (front ++ release s bs a p now)
-  release_counted front p now all inside counter due = by_test (is_worn now) refl
+  release_counted front p now all inside counter due = by_test (stays s bs p now) refl
     where
-      by_test : (t : Bool) → is_worn now ≡ t → AllCounted (front ++ cond t [] (renew s p (next_ec a.scan now)))
+      by_test : (t : Bool) → stays s bs p now ≡ t → AllCounted (front ++ cond t [] (renew s p (next_ec a.scan now)))
       by_test true w = subst AllCounted (sym (append-nil front)) all
       by_test false w =
           let e = next_ec a.scan now in
+          let counts = counter (neither (is_worn now) (is_sole_carrier s bs p) w).0 in
           let once : suc (count_by (erases p) front) ≡ count_by (erases p) (front ++ renew s p e) =
           (let k = erases-append p front (renew s p e) in let n = renew_once s p e in omega arith) in
           counted_at front (renew s p e) p (filled s.peb_size (ec_bytes s e)) all inside (refl, (refl, tt))
-          (renewed s g e (counter w) (done s bs front) p (let n = length-done s bs front in omega arith))
-          (ec-bare s g (ec_bytes s e) e (counter_size s g e (counter w)) (counter_back s g e (counter w)) ∙ due
+          (renewed s g e counts (done s bs front) p (let n = length-done s bs front in omega arith))
+          (ec-bare s g (ec_bytes s e) e (counter_size s g e counts) (counter_back s g e counts) ∙ due
           ∙ ap (ec_after p) once)
 
   -- an eraseblock is made ready, and gets a header

@@ -7,9 +7,10 @@ use Rattle.std.proofs.lemmas.Grind.{common_steps}
 use Rattle.std.proofs.Math.Nat.{div-add-mod}
 use Rattle.std.proofs.lemmas.Option.{same_Some}
 use Rattle.ubi_media.specs.Ec.{ec_bytes}
-use Rattle.ubi_media.specs.Fields.{blank, filled}
+use Rattle.ubi_media.specs.Fields.{AreBytes, blank, filled}
 use Rattle.ubi_media.specs.Geometry.{Sizes, IsGeometry}
 use Rattle.ubi_media.specs.declared.ec.EcHeader.{EcHeader}
+use Rattle.ubi_media.proofs.ByteLists.{bytes-append, bytes-blank}
 use Rattle.ubi_media.proofs.Cases.{zero_or_more}
 use Rattle.ubi_scan.specs.Image.{block}
 use Rattle.ubi_change.specs.Fitting.{AllFit, fits, only_clears, page_of}
@@ -19,19 +20,6 @@ use Rattle.ubi_change.specs.declared.step.Step.{Step}
 use Rattle.ubi_change.specs.declared.step.Step.TheVariants as step
 use Rattle.ubi_scan.proofs.Filled.{behind, filled-is, length-filled}
 use Rattle.ubi_change.proofs.Runs.{done}
-
--- bytes
-abbrev pub AreBytes : List ℕ → Type 0
-AreBytes [] = Unit {0}
-AreBytes (x ∷ xs) = (x < 256) × AreBytes xs
-
-pub bytes-append : (xs ys : List ℕ) → AreBytes xs → AreBytes ys → AreBytes (xs ++ ys)
-bytes-append [] ys a b = b
-bytes-append (x ∷ xs) ys a b = (a.0, bytes-append xs ys a.1 b)
-
-pub bytes-blank : (n : ℕ) → AreBytes (blank n)
-bytes-blank zero = tt
-bytes-blank (suc n) = (omega arith, bytes-blank n)
 
 cleared : (x : ℕ) → x < 256 → (bit_and 255 x == x) ≡ true
 cleared x l = same (bit_and 255 x) x (and_all x l)

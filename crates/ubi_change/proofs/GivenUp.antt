@@ -1,4 +1,4 @@
--- Once the copy is whole, a plan erases the eraseblock that is given up, unless it is worn by then.
+-- Once the copy is whole, a plan erases the eraseblock that is given up, unless it is worn by then or the sole carrier.
 use Rattle.std.proofs.Common.{◌≡◌, ℕ, zero, suc, ◌+◌, ◌/◌, ◌%◌, ◌^◌, ◌<◌, ◌≤◌, false, cond, List, [], ◌∷◌, ◌++◌, length, refl, ap, ◌∙◌, arith, length-append}
 use Rattle.std.specs.Prelude.{None, Option, Some, slice_get}
 use Rattle.std.specs.FinMap as finite
@@ -11,11 +11,11 @@ use Rattle.ubi_scan.specs.Image.{Image, eraseblocks, in_image}
 use Rattle.ubi_volume.specs.Attached.{IsAttached, Whole}
 use Rattle.ubi_volume.specs.declared.content.Volume.{Volume}
 use Rattle.ubi_change.specs.Cuts.{turn}
-use Rattle.ubi_change.specs.Frugal.{given_up, is_worn_then}
+use Rattle.ubi_change.specs.Frugal.{given_up, stays_then}
 use Rattle.ubi_change.specs.Order.{Erases}
 use Rattle.ubi_change.specs.Plan.{blank_header, copy_header, next_ec, atomic_copy, mapped_plan, mount, plan_of, prepare, program_header, program_text, ready_bytes, ready_ec, release, renew, taken, unmapped_plan}
 use Rattle.ubi_change.specs.Refused.{first_cause}
-use Rattle.ubi_change.specs.Takeable.{ec_at, is_worn}
+use Rattle.ubi_change.specs.Takeable.{ec_at, stays}
 use Rattle.ubi_change.specs.Weak.{whole_place}
 use Rattle.ubi_change.specs.declared.step.Step.{Step}
 use Rattle.ubi_change.proofs.Attached as attached
@@ -29,8 +29,8 @@ step_behind (x ∷ xs) ys zero k e = absurd (omega arith)
 step_behind (x ∷ xs) ys (suc j) k e = step_behind xs ys j k (omega arith)
 
 module _ (s : Sizes) (bs : List (List ℕ)) (a : Whole) where
-  -- what isn't worn is erased by the first step of its release
-  erased_behind : (front : List Step) (p : ℕ) (now : Option EcHeader) → is_worn now ≡ false
+  -- what doesn't stay is erased by the first step of its release
+  erased_behind : (front : List Step) (p : ℕ) (now : Option EcHeader) → stays s bs p now ≡ false
       → Erases (front ++ release s bs a p now) (length front) p
   erased_behind front p now fresh =
       step_behind front (release s bs a p now) (length front) 0 (omega arith)
@@ -66,7 +66,7 @@ module _ (image : Image) (g : IsGeometry image.sizes) (a : Whole) (att : IsAttac
   paged : length new % s.page ≡ 0
   paged = (attached.no_cause image g a att few narrow id lnum new v there allowed half bounded).is_new.paged
 
-  mapped_gives : (old : ℕ) → finite.get a.scan.winners (id, lnum) ≡ Some old → is_worn (ec_at s bs old) ≡ false
+  mapped_gives : (old : ℕ) → finite.get a.scan.winners (id, lnum) ≡ Some old → stays s bs old (ec_at s bs old) ≡ false
       → Gives (mapped_plan s bs a v.entry id lnum new (taken s bs a 0) old) old
   mapped_gives old found fresh =
       let b = taken s bs a 0 in
@@ -78,7 +78,8 @@ module _ (image : Image) (g : IsGeometry image.sizes) (a : Whole) (att : IsAttac
         erased_behind s bs a (written s bs a b h new) old (ec_at s bs old) fresh,
       )
 
-  unmapped_gives : finite.get a.scan.winners (id, lnum) ≡ None → is_worn (ready_ec s bs a (taken s bs a 0)) ≡ false
+  unmapped_gives : finite.get a.scan.winners (id, lnum) ≡ None
+      → stays s bs (taken s bs a 0) (ready_ec s bs a (taken s bs a 0)) ≡ false
       → Gives (unmapped_plan s bs a v.entry id lnum new (taken s bs a 0) (taken s bs a 1)) (taken s bs a 0)
   unmapped_gives found fresh =
       let e = taken s bs a 0 in
@@ -94,12 +95,13 @@ module _ (image : Image) (g : IsGeometry image.sizes) (a : Whole) (att : IsAttac
             ∙ erased_behind s bs a (written s bs a b h new) e (ready_ec s bs a e) fresh,
       )
 
-  pub plan_gives_up : is_worn_then s bs a id lnum ≡ false
+  pub plan_gives_up : stays_then s bs a id lnum ≡ false
       → Gives (plan_of s bs a v.entry id lnum new) (given_up s bs a id lnum)
   plan_gives_up = by_winner (finite.get a.scan.winners (id, lnum)) refl
     where
       by_winner : (o : Option ℕ) → finite.get a.scan.winners (id, lnum) ≡ o
-          → is_worn (option_map_or (ec_at s bs) o (ready_ec s bs a (taken s bs a 0))) ≡ false
+          → stays s bs (option_map_or (λ p. p) o (taken s bs a 0))
+          (option_map_or (ec_at s bs) o (ready_ec s bs a (taken s bs a 0))) ≡ false
           → Gives (option_map_or (mapped_plan s bs a v.entry id lnum new (taken s bs a 0)) o
           (unmapped_plan s bs a v.entry id lnum new (taken s bs a 0) (taken s bs a 1)))
           (option_map_or (λ p. p) o (taken s bs a 0))

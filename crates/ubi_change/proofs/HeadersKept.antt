@@ -23,7 +23,7 @@ use Rattle.ubi_change.specs.Order.{ComesFirst, Programs}
 use Rattle.ubi_change.specs.Plan.{blank_header, copy_header, next_ec, vid_page, atomic_copy, mapped_plan, mount, plan_of, prepare, program_header, program_text, ready_bytes, ready_ec, release, renew, taken, unmapped_plan}
 use Rattle.ubi_change.specs.Refused.{first_cause}
 use Rattle.ubi_change.specs.Steps.{after, step_done}
-use Rattle.ubi_change.specs.Takeable.{ec_at, is_clean, is_worn}
+use Rattle.ubi_change.specs.Takeable.{ec_at, is_clean, stays}
 use Rattle.ubi_change.specs.Weak.{pages_of}
 use Rattle.ubi_change.specs.declared.step.Step.{Step}
 use Rattle.ubi_change.specs.declared.step.Step.TheVariants as step
@@ -160,7 +160,7 @@ module _ (s : Sizes) (g : IsGeometry s) where
 
     release_keeps : (last : Option ℕ) (cs : List (List ℕ)) (p : ℕ) (now : Option EcHeader)
         → KeepAll s last cs (release s bs a p now)
-    release_keeps last cs p now = by_test (is_worn now)
+    release_keeps last cs p now = by_test (stays s bs p now)
       where
         by_test : (b : Bool) → KeepAll s last cs (cond b [] (renew s p (next_ec a.scan now)))
         by_test true = tt

@@ -1,4 +1,5 @@
--- What eraseblocks mean is that of the winners of the LEBs that count: where these stay, so does the meaning.
+-- What eraseblocks mean is that of the winners of the LEBs that count, and of the image sequence number: where these stay, so
+-- does the meaning.
 use Rattle.std.proofs.Common.{◌≡◌, ℕ, suc, ◌<◌, inl, inr, List, [], ◌∷◌, ◌++◌, length, take, refl, ap, ap₂, sym, ◌∙◌, subst, arith}
 use Rattle.std.specs.Prelude.{Option, Some, None, flat_map, slice_index}
 use Rattle.std.specs.FinMap as finite
@@ -11,6 +12,7 @@ use Rattle.ubi_media.specs.declared.vid.VolKind.TheVariants.{Static}
 use Rattle.ubi_scan.specs.Faults.{NoFault}
 use Rattle.ubi_scan.specs.Image.{block, leb}
 use Rattle.ubi_scan.specs.Members.{Leb, NoMember, Wins, is_right, layout, member}
+use Rattle.ubi_scan.specs.Numbers.{image_seq}
 use Rattle.ubi_scan.proofs.Decided.{Wins-unique, winner_or_none}
 use Rattle.ubi_table.specs.Records.{Records}
 use Rattle.ubi_table.specs.Table.{CopyIs, copy_of, AllBlank, Decides, IsTable}
@@ -144,9 +146,11 @@ module _ (s : Sizes) (bs cs : List (List ℕ)) (clean : NoFault s cs) where
   slot_kept id None (Some v) k h = h
   slot_kept id (Some r) None k h = h
 
-  pub means_kept : (t : Records) (m : Meant) → KeepsVolumes s bs cs t → Means s bs t m → Means s cs t m
-  means_kept t m k h = record {
+  pub means_kept : (t : Records) (m : Meant) → image_seq s cs ≡ image_seq s bs → KeepsVolumes s bs cs t → Means s bs t m
+      → Means s cs t m
+  means_kept t m same k h = record {
     sizes = h.sizes;
+    image_seq = h.image_seq ∙ sym same;
     meaning = h.meaning;
     slots = λ id. slot_kept id _ _ (k id) (h.slots id);
   }
@@ -165,13 +169,14 @@ module _ (s : Sizes) (bs cs : List (List ℕ)) (clean : NoFault s cs) where
         m.5,
       )
 
-  -- eraseblocks that keep the winners of all LEBs that count are accepted with the same meaning
-  pub accepts_kept : (m : Meant) (a : AcceptsBlocks s bs m) → (AllBlank s bs → ⊥)
+  -- eraseblocks that keep the image sequence number and the winners of all LEBs that count are accepted with the same
+  -- meaning
+  pub accepts_kept : (m : Meant) (a : AcceptsBlocks s bs m) → (AllBlank s bs → ⊥) → image_seq s cs ≡ image_seq s bs
       → ((c : ℕ) → KeepsLeb s bs cs (layout, c)) → KeepsVolumes s bs cs a.records → AcceptsBlocks s cs m
-  accepts_kept m a used copies volumes = record {
+  accepts_kept m a used same copies volumes = record {
     clean = clean;
     records = a.records;
     table = table_kept s bs cs copies used a.records a.table;
     alike = alike_kept a.records volumes a.alike;
-    means = means_kept a.records m volumes a.means;
+    means = means_kept a.records m same volumes a.means;
   }

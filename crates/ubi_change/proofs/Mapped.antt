@@ -20,7 +20,9 @@ use Rattle.ubi_media.proofs.Checks.{check_from-lt}
 use Rattle.ubi_scan.specs.Faults.{NoFault}
 use Rattle.ubi_scan.specs.Image.{block, leb}
 use Rattle.ubi_scan.specs.Members.{IsMember, Leb, Wins, has_members, is_good, layout, sqnum_at}
+use Rattle.ubi_scan.specs.Numbers.{seq_of}
 use Rattle.ubi_scan.proofs.Decided.{Wins-unique}
+use Rattle.ubi_scan.proofs.Seq.{Agrees}
 use Rattle.ubi_table.specs.Records.{Records}
 use Rattle.ubi_table.specs.Table.{AllBlank}
 use Rattle.ubi_volume.specs.Accepts.{AcceptsBlocks, IsUnlike}
@@ -41,10 +43,10 @@ use Rattle.ubi_change.proofs.Mounted.{IsChanged, IsMount, mounted_bad, mounted_c
 use Rattle.ubi_change.proofs.Renewed.{IsCounter, renew_accepted}
 use Rattle.ubi_change.proofs.Replaced.{member_was}
 use Rattle.ubi_change.proofs.Runs.{AtEachCut, TurnsAt, done}
-use Rattle.ubi_change.proofs.Seq.{Agrees}
+use Rattle.ubi_change.proofs.Seq.{NamedBeside}
 use Rattle.ubi_change.proofs.Torn.{told-from, whole_place-is}
 use Rattle.ubi_change.proofs.Unused.{nameless_ec, nameless_loses, one_name, within_counts}
-use Rattle.ubi_change.proofs.Vacated.{LosesAll, agrees_set}
+use Rattle.ubi_change.proofs.Vacated.{LosesAll, agrees_set, beside_set}
 use Rattle.ubi_change.proofs.Written.{take_filled}
 
 -- an image with a volume has an erase-counter header
@@ -94,11 +96,13 @@ pub record IsPrepared (s : Sizes) (bs : List (List ℕ)) (m : Meant) (b seq : �
   pub size : length bytes ≡ 64
   pub reads : ec_reading s bytes ≡ ec_read.Valid e
   pub image : e.image_seq ≢ 0 → e.image_seq ≡ seq
+  pub keeps : seq_of s (block bs b) ≡ seq → e.image_seq ≡ seq
 
--- the old eraseblock is left, or erased and given a header
-abbrev pub IsRelease : Sizes → ℕ → ℕ → List Step → Type 0
-IsRelease s old seq rel = (rel ≡ [])
-    ⊎ ((e : EcHeader) × IsCounter e × (e.image_seq ≢ 0 → e.image_seq ≡ seq) × (rel ≡ renew s old e))
+-- the old eraseblock is left, or another names the image, and it is erased and given a header
+abbrev pub IsRelease : Sizes → List (List ℕ) → ℕ → ℕ → List Step → Type 0
+IsRelease s bs old seq rel = (rel ≡ [])
+    ⊎ ((e : EcHeader) × IsCounter e × (e.image_seq ≢ 0 → e.image_seq ≡ seq) × NamedBeside s seq bs old
+    × (rel ≡ renew s old e))
 
 -- new bytes that can be written to a LEB of a volume
 pub record IsNew (s : Sizes) (r : VolumeRecord) (lnum : ℕ) (new : List ℕ) : Type 0 where
@@ -113,10 +117,10 @@ module _ (s : Sizes) (g : IsGeometry s) (bs : List (List ℕ)) (m : Meant) (a : 
     (was : finite.get m.volumes id ≡ Some (record { entry = r; content = content.Dynamic lebs })) (slot : id < 128)
     (number : lnum < 2 ^ 31) (half : data_pad s r < leb_size s / 2)
     (new : List ℕ) (n : IsNew s r lnum new) (b : ℕ) (inside : b < length bs) (seq : ℕ) (agrees : Agrees s seq bs)
-    (loses : LosesAll s bs a.records b)
+    (beside : NamedBeside s seq bs b) (loses : LosesAll s bs a.records b)
     (prep : List Step) (bytes : List ℕ) (e : EcHeader) (prepared : IsPrepared s bs m b seq prep bytes e)
     (sqnum : ℕ) (few : sqnum < 2 ^ 64) (above : (of : Leb) (q : ℕ) → IsMember s bs of q → sqnum_at s bs q < sqnum)
-    (old : ℕ) (wins : Wins s bs (id, lnum) old) (rel : List Step) (release : IsRelease s old seq rel) where
+    (old : ℕ) (wins : Wins s bs (id, lnum) old) (rel : List Step) (release : IsRelease s bs old seq rel) where
   abbrev of : Leb
   of = (id, lnum)
 
@@ -189,7 +193,7 @@ module _ (s : Sizes) (g : IsGeometry s) (bs : List (List ℕ)) (m : Meant) (a : 
   Q x = AcceptsBlocks s x next
 
   bad : (x : List ℕ) → IsMount s seq bs of header x → is_good s x header ≡ false → P (set bs b x)
-  bad x mount k = mounted_bad s bs b x inside of header seq agrees mount m a used loses counts old wins k
+  bad x mount k = mounted_bad s bs b x inside of header seq agrees mount m a used beside loses counts old wins k
 
   room : usable s r ≤ length new + (s.peb_size - (s.data_offset + length new))
   room = let k = fits_leb in let l = g.leb in omega arith
@@ -201,7 +205,7 @@ module _ (s : Sizes) (g : IsGeometry s) (bs : List (List ℕ)) (m : Meant) (a : 
       ap (λ (z : Sizes). filled (usable z r) new) sizes
       ∙ sym (take_filled (usable s r) new (s.peb_size - (s.data_offset + length new)) n.short room)
       ∙ ap (take (usable s r)) (sym text) in
-      mounted_good s bs b x inside id lnum header seq agrees mount k m next a used loses
+      mounted_good s bs b x inside id lnum header seq agrees mount k m next a used beside loses
       (λ z. (let l = slot in omega arith)) r (filled (usable m.sizes r) new) change_is reads like
 
   -- once the copy is good, the old winner wins nothing
@@ -234,20 +238,26 @@ module _ (s : Sizes) (g : IsGeometry s) (bs : List (List ℕ)) (m : Meant) (a : 
   full_accepted = good full full_mount full_good
       (copy.whole_at s g bs b inside seq of bytes e header new copy_is P Q (pages_of s new) place (omega arith))
 
+  -- what is named beside the old winner still is
+  full_beside : (p : ℕ) → NamedBeside s seq bs p → NamedBeside s seq (set bs b full) p
+  full_beside p there = beside_set s bs b full inside seq p there
+      (λ k. copy.seq_at s g bs b inside seq of bytes e header new copy_is P Q (pages_of s new) (omega arith)
+      ∙ prepared.keeps k)
+
   old_inside : old < length (set bs b full)
   old_inside = let l = wins.member.inside in omega (arith, length-set bs b full)
 
-  late_by : IsRelease s old seq rel → AtEachCut s Q (set bs b full) rel
+  late_by : IsRelease s bs old seq rel → AtEachCut s Q (set bs b full) rel
   late_by (inl z) = subst (AtEachCut s Q (set bs b full)) (sym z) (λ k l. subst Q (sym (none_after k)) full_accepted)
     where
       none_after : (k : ℕ) → after s (set bs b full) [] k ≡ set bs b full
       none_after zero = refl
       none_after (suc k) = refl
   late_by (inr z) =
-      subst (AtEachCut s Q (set bs b full)) (sym z.3)
+      subst (AtEachCut s Q (set bs b full)) (sym z.4)
       (renew_accepted s g z.0 z.1 (set bs b full) old old_inside seq next full_accepted
       (used_by_volume s (set bs b full) next full_accepted id _ change_is.is)
-      (agrees_set s bs b full inside seq agrees full_mount.image)
+      (agrees_set s bs b full inside seq agrees beside full_mount.image) (full_beside old z.3)
       (λ other _. old_loses full full_mount full_good other) z.2)
 
   -- cut after any step, the eraseblocks are accepted: before the turn with the old meaning, from it on with the new

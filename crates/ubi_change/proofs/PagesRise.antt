@@ -17,7 +17,7 @@ use Rattle.ubi_media.specs.declared.vid.VidHeader.{VidHeader}
 use Rattle.ubi_volume.specs.Attached.{Whole}
 use Rattle.ubi_change.specs.Order.{NoErase, Programs}
 use Rattle.ubi_change.specs.Plan.{blank_header, copy_header, next_ec, vid_page, atomic_copy, mapped_plan, mount, needs, plan_of, prepare, program_header, program_text, ready_bytes, ready_ec, release, renew, taken, unmapped_plan}
-use Rattle.ubi_change.specs.Takeable.{ec_at, is_clean, is_worn, takeable}
+use Rattle.ubi_change.specs.Takeable.{ec_at, is_clean, stays, takeable}
 use Rattle.ubi_change.specs.Weak.{pages_of}
 use Rattle.ubi_change.specs.declared.step.Step.{Step}
 use Rattle.ubi_change.specs.declared.step.Step.TheVariants as step
@@ -215,7 +215,7 @@ pages_order p q n i (e ∷ es) rest low some any = (
 
 module _ (s : Sizes) (g : IsGeometry s) (bs : List (List ℕ)) (a : Whole) where
   release_order : (p old n : ℕ) (now : Option EcHeader) → InOrder p n (release s bs a old now)
-  release_order p old n now = by_test (is_worn now)
+  release_order p old n now = by_test (stays s bs old now)
     where
       by_test : (b : Bool) → InOrder p n (cond b [] (renew s old (next_ec a.scan now)))
       by_test true = tt

@@ -4,7 +4,7 @@ use Rattle.std.specs.Prelude.{None, Option, Some}
 use Rattle.std.specs.FinMap as finite
 use Rattle.std.specs.Option.{option_map_or}
 use Rattle.std.proofs.lemmas.List.Sums.{fold-append}
-use Rattle.ubi_media.specs.Fields.{filled}
+use Rattle.ubi_media.specs.Fields.{AreBytes, filled}
 use Rattle.ubi_media.specs.Geometry.{IsGeometry, Sizes, leb_size}
 use Rattle.ubi_media.specs.Record.{data_pad}
 use Rattle.ubi_media.specs.Vid.{vid_bytes}
@@ -19,11 +19,11 @@ use Rattle.ubi_change.specs.Fitting.{AllFit}
 use Rattle.ubi_change.specs.Plan.{blank_header, copy_header, next_ec, atomic_copy, mapped_plan, plan_of, prepare, program_header, program_text, ready_bytes, ready_ec, release, renew, taken, unmapped_plan}
 use Rattle.ubi_change.specs.Refused.{first_cause}
 use Rattle.ubi_change.specs.Steps.{step_done}
-use Rattle.ubi_change.specs.Takeable.{ec_at, is_clean, is_worn}
+use Rattle.ubi_change.specs.Takeable.{ec_at, is_clean, stays}
 use Rattle.ubi_change.specs.declared.step.Step.{Step}
 use Rattle.ubi_change.proofs.Attached as attached
 use Rattle.ubi_change.proofs.CopyFits.{bytes-ec, header_done, header_fits, text_fits}
-use Rattle.ubi_change.proofs.Fits.{AreBytes, FitAll, all_fit, fit-append, renew_fits}
+use Rattle.ubi_change.proofs.Fits.{FitAll, all_fit, fit-append, renew_fits}
 use Rattle.ubi_change.proofs.Runs.{done}
 use Rattle.ubi_change.proofs.Torn.{pages-all}
 
@@ -45,7 +45,7 @@ module _ (s : Sizes) (g : IsGeometry s) (bs : List (List ℕ)) (a : Whole) where
 
   release_fits : (cs : List (List ℕ)) (p : ℕ) (now : Option EcHeader) → p < length cs
       → FitAll s cs (release s bs a p now)
-  release_fits cs p now inside = by_test (is_worn now)
+  release_fits cs p now inside = by_test (stays s bs p now)
     where
       by_test : (b : Bool) → FitAll s cs (cond b [] (renew s p (next_ec a.scan now)))
       by_test true = tt

@@ -1,5 +1,5 @@
 -- The law: the plan of an attached image, against which no cause stands, survives every cut.
-use Rattle.std.proofs.Common.{◌≡◌, ℕ, ◌^◌, ◌<◌, sym, subst}
+use Rattle.std.proofs.Common.{◌≡◌, ℕ, ◌^◌, ◌<◌, sym, ◌∙◌, subst}
 use Rattle.std.specs.Prelude.{IfSome, None, Option, Some}
 use Rattle.std.specs.FinMap.{get}
 use Rattle.ubi_media.specs.Geometry.{Sizes}
@@ -25,8 +25,15 @@ module _ (image : Image) (a : Whole) (att : IsAttached image a) where
   pub mean_few : a.scan.mean_ec < 2 ^ 31
   mean_few = subst (λ (n : ℕ). n < 2 ^ 31) (sym att.scan.mean_ec) (mean_narrow image.sizes (eraseblocks image))
 
+  -- the image sequence number is the meaning's
+  pub seq_narrow : a.scan.image_seq < 2 ^ 32
+  seq_narrow =
+      let means = att.accepted.accepted.means in
+      subst (λ (n : ℕ). n < 2 ^ 32) (means.image_seq ∙ sym att.scan.image_seq) means.meaning.image_seq
+
 pub plan_survives : PlanSurvives
-plan_survives image a id lnum new v g att narrow there allowed =
+plan_survives image a id lnum new v g att there allowed =
+    let narrow = seq_narrow image a att in
     let r = sound image a att id v there in
     survives_all image g a att (mean_few image a att) narrow id lnum new v there allowed
     (half_pad image.sizes v.entry r g) (reserved_within image.sizes v.entry r)

@@ -38,11 +38,12 @@ root = record {
   flags = 0;
 }
 
--- an attached image, by its states, greatest sequence number, image sequence number and mean counter
+-- an attached image, by its states, greatest sequence number, image sequence number and mean counter; its plans don't ask
+-- for the number of carriers that the scan found
 abbrev attached : Meant → FinMap leb_cmp ℕ → List BlockState → ℕ → ℕ → ℕ → Whole
 attached m w states top seq mean = record {
   meaning = m;
-  scan = record { winners = w; states = []; top_sqnum = top; image_seq = seq; mean_ec = mean };
+  scan = record { winners = w; states = []; top_sqnum = top; image_seq = seq; carriers = 0; mean_ec = mean };
   states = states;
 }
 

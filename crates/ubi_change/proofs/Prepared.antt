@@ -15,11 +15,12 @@ use Rattle.ubi_volume.specs.Accepts.{AcceptsBlocks}
 use Rattle.ubi_volume.specs.Meant.{Meant}
 use Rattle.ubi_volume.proofs.Blanks.{blank_text}
 use Rattle.ubi_change.specs.Plan.{renew}
+use Rattle.ubi_scan.proofs.Seq.{Agrees}
 use Rattle.ubi_scan.proofs.Filled.{filled-by}
 use Rattle.ubi_change.proofs.Mapped.{IsPrepared}
 use Rattle.ubi_change.proofs.Renewed.{IsCounter, counter_back, counter_size, renew_accepted, renewed}
 use Rattle.ubi_change.proofs.Runs.{AtEachCut}
-use Rattle.ubi_change.proofs.Seq.{Agrees}
+use Rattle.ubi_change.proofs.Seq.{NamedBeside}
 use Rattle.ubi_change.proofs.Vacated.{LosesAll}
 
 -- a Valid header is one
@@ -54,17 +55,19 @@ module _ (s : Sizes) (g : IsGeometry s) (bs : List (List ℕ)) (m : Meant) (a : 
         ready = sym (ap (set bs b) is ∙ set-get_or bs b []);
         size = size;
         reads = valid;
-        image = λ h. (let named = ap seq_if valid in sym named ∙ agrees b inside (λ z. h (sym named ∙ z)));
+        image = λ h. (let named = ap seq_if valid in sym named ∙ agrees.all b inside (λ z. h (sym named ∙ z)));
+        keeps = λ h. sym (ap seq_if valid) ∙ h;
       }
 
   -- any other is after an erase
-  pub renew_prepared : (AllBlank s bs → ⊥) → LosesAll s bs a.records b → (e : EcHeader) → IsCounter e
-      → (e.image_seq ≢ 0 → e.image_seq ≡ seq)
+  pub renew_prepared : (AllBlank s bs → ⊥) → NamedBeside s seq bs b → LosesAll s bs a.records b → (e : EcHeader)
+      → IsCounter e → e.image_seq ≡ seq
       → IsPrepared s bs m b seq (renew s b e) (ec_bytes s e) e
-  renew_prepared used loses e counter image = record {
-    cuts = renew_accepted s g e counter bs b inside seq m a used agrees loses image;
+  renew_prepared used beside loses e counter image = record {
+    cuts = renew_accepted s g e counter bs b inside seq m a used agrees beside loses (λ _. image);
     ready = renewed s g e counter bs b inside;
     size = counter_size s g e counter;
     reads = counter_back s g e counter;
-    image = image;
+    image = λ _. image;
+    keeps = λ _. image;
   }

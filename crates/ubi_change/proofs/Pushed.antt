@@ -11,7 +11,7 @@ use Rattle.ubi_media.specs.declared.vid.VidHeader.{VidHeader}
 use Rattle.ubi_scan.specs.Image.{block, ec_area}
 use Rattle.ubi_volume.specs.Attached.{Whole}
 use Rattle.ubi_change.specs.Plan.{next_ec, mount, program_header, release, renew}
-use Rattle.ubi_change.specs.Takeable.{ec_at, is_clean, is_worn}
+use Rattle.ubi_change.specs.Takeable.{ec_at, is_clean, stays}
 use Rattle.ubi_change.specs.declared.step.Step.{Step}
 use Rattle.ubi_change.specs.declared.step.Step.TheVariants as step
 
@@ -62,7 +62,7 @@ module _ (s : Sizes) (bs : List (List ℕ)) (a : Whole) where
       (sym unclean)
 
   pub release_pushed : (old now : List Step) (g : Sizes) (p : ℕ) (e : EcHeader) (ec : Option EcHeader) → g ≡ s
-      → is_worn ec ≡ false → e ≡ next_ec a.scan ec
+      → stays s bs p ec ≡ false → e ≡ next_ec a.scan ec
       → now ≡ old ++ renew g p e → now ≡ old ++ release s bs a p ec
   release_pushed old now g p e ec same fresh header put =
       put ∙ ap₂ (λ z x. old ++ renew z p x) same header

@@ -12,9 +12,10 @@ use Rattle.ubi_table.specs.Table.{AllBlank}
 use Rattle.ubi_volume.specs.Accepts.{AcceptsBlocks}
 use Rattle.ubi_volume.specs.Meant.{Meant}
 use Rattle.ubi_change.specs.Plan.{renew}
+use Rattle.ubi_scan.proofs.Seq.{Agrees}
 use Rattle.ubi_scan.proofs.Filled.{filled-none, filled_more, length-filled, overwrite_front}
 use Rattle.ubi_change.proofs.Runs.{AtEachCut, done}
-use Rattle.ubi_change.proofs.Seq.{Agrees}
+use Rattle.ubi_change.proofs.Seq.{NamedBeside}
 use Rattle.ubi_change.proofs.Vacated.{LosesAll, vacated}
 use Rattle.ubi_change.proofs.Written.{bare-vacant, blank-vacant}
 
@@ -61,12 +62,12 @@ module _ (s : Sizes) (g : IsGeometry s) (e : EcHeader) (h : IsCounter e) where
     renew_cuts P a b c (suc (suc zero)) l = subst P (sym renewed) c
     renew_cuts P a b c (suc (suc (suc k))) l = absurd (omega arith)
 
-    -- where nothing that counts is won by it, the meaning stays at each cut
+    -- where nothing that counts is won by it, and another names the image, the meaning stays at each cut
     pub renew_accepted : (seq : ℕ) (m : Meant) (a : AcceptsBlocks s bs m) → (AllBlank s bs → ⊥) → Agrees s seq bs
-        → LosesAll s bs a.records p → (e.image_seq ≢ 0 → e.image_seq ≡ seq)
+        → NamedBeside s seq bs p → LosesAll s bs a.records p → (e.image_seq ≢ 0 → e.image_seq ≡ seq)
         → AtEachCut s (λ x. AcceptsBlocks s x m) bs (renew s p e)
-    renew_accepted seq m a used agrees loses image =
+    renew_accepted seq m a used agrees beside loses image =
         renew_cuts (λ x. AcceptsBlocks s x m) a
-        (vacated s bs p (blank s.peb_size) inside seq m a used agrees loses (blank-vacant s g seq))
-        (vacated s bs p (filled s.peb_size (ec_bytes s e)) inside seq m a used agrees loses
+        (vacated s bs p (blank s.peb_size) inside seq m a used agrees beside loses (blank-vacant s g seq))
+        (vacated s bs p (filled s.peb_size (ec_bytes s e)) inside seq m a used agrees beside loses
         (bare-vacant s g (ec_bytes s e) e counter_size counter_back seq image))

@@ -15,7 +15,7 @@ use Rattle.ubi_change.specs.Frugal.{TouchesOnly, given_up, touched}
 use Rattle.ubi_media.specs.Record.{data_pad}
 use Rattle.ubi_change.specs.Plan.{blank_header, copy_header, next_ec, atomic_copy, mapped_plan, mount, needs, plan_of, prepare, program_header, program_text, ready_bytes, ready_ec, release, renew, taken, unmapped_plan}
 use Rattle.ubi_change.specs.Steps.{target}
-use Rattle.ubi_change.specs.Takeable.{ec_at, is_clean, is_worn, takeable}
+use Rattle.ubi_change.specs.Takeable.{ec_at, is_clean, stays, takeable}
 use Rattle.ubi_change.specs.Weak.{pages_of}
 use Rattle.ubi_change.specs.declared.step.Step.{Step}
 use Rattle.ubi_change.specs.declared.step.Step.TheVariants as step
@@ -61,7 +61,7 @@ module _ (s : Sizes) (bs : List (List ℕ)) (a : Whole) (ps : List ℕ) where
       by_test false = renew_touches p (next_ec a.scan (ec_at s bs p)) c
 
   release_touches : (p : ℕ) (now : Option EcHeader) → Contains ps p → TouchAll ps (release s bs a p now)
-  release_touches p now c = by_test (is_worn now)
+  release_touches p now c = by_test (stays s bs p now)
     where
       by_test : (b : Bool) → TouchAll ps (cond b [] (renew s p (next_ec a.scan now)))
       by_test true = tt

@@ -21,6 +21,7 @@ use Rattle.ubi_scan.specs.Faults.{NoFault}
 use Rattle.ubi_scan.specs.Image.{block, leb}
 use Rattle.ubi_scan.specs.Members.{IsMember, Leb, NoMember, Wins, has_members, sqnum_at, sqnum_in}
 use Rattle.ubi_scan.proofs.Decided.{Wins-unique}
+use Rattle.ubi_scan.proofs.Seq.{Agrees}
 use Rattle.ubi_table.specs.Records.{Records}
 use Rattle.ubi_table.specs.Table.{AllBlank}
 use Rattle.ubi_volume.specs.Accepts.{AcceptsBlocks, IsUnlike}
@@ -42,9 +43,9 @@ use Rattle.ubi_change.proofs.Mounted.{IsChanged, IsMount, leb_same, mount_named,
 use Rattle.ubi_change.proofs.Replaced as replaced
 use Rattle.ubi_change.proofs.Replaced.{block_same, keeps_others, member_was}
 use Rattle.ubi_change.proofs.Runs.{AtEachCut, TurnsAt, after-all, cuts-append, done, turns-behind}
-use Rattle.ubi_change.proofs.Seq.{Agrees}
-use Rattle.ubi_change.proofs.Vacated.{LosesAll, agrees_set}
-use Rattle.ubi_change.proofs.Written.{leb-part, part-mount}
+use Rattle.ubi_change.proofs.Seq.{NamedBeside}
+use Rattle.ubi_change.proofs.Vacated.{LosesAll, agrees_set, beside_set}
+use Rattle.ubi_change.proofs.Written.{leb-part, part-mount, seq-part}
 
 module _ (s : Sizes) (r : VolumeRecord) (id lnum sqnum : ℕ) (slot : id < 128) (number : lnum < 2 ^ 31)
     (half : data_pad s r < leb_size s / 2) (wide : leb_size s < 2 ^ 31) where
@@ -71,7 +72,7 @@ module _ (s : Sizes) (g : IsGeometry s) (bs : List (List ℕ)) (m : Meant) (a : 
     (was : finite.get m.volumes id ≡ Some (record { entry = r; content = content.Dynamic lebs })) (slot : id < 128)
     (number : lnum < 2 ^ 31) (half : data_pad s r < leb_size s / 2)
     (reserved : lnum < r.reserved) (b : ℕ) (inside : b < length bs) (seq : ℕ) (agrees : Agrees s seq bs)
-    (loses : LosesAll s bs a.records b)
+    (beside : NamedBeside s seq bs b) (loses : LosesAll s bs a.records b)
     (prep : List Step) (bytes : List ℕ) (e : EcHeader) (prepared : IsPrepared s bs m b seq prep bytes e)
     (sqnum : ℕ) (few : sqnum < 2 ^ 64) (above : (of : Leb) (q : ℕ) → IsMember s bs of q → sqnum_at s bs q < sqnum)
     (none : NoMember s bs (id, lnum)) where
@@ -150,12 +151,12 @@ module _ (s : Sizes) (g : IsGeometry s) (bs : List (List ℕ)) (m : Meant) (a : 
 
   -- it is accepted with the same meaning, and the LEB has a winner
   pub mounted_accepted : AcceptsBlocks s then_blocks m
-  mounted_accepted = mounted_good s bs b mounted inside id lnum header seq agrees mount refl m m a used loses
+  mounted_accepted = mounted_good s bs b mounted inside id lnum header seq agrees mount refl m m a used beside loses
       (λ z. (let l = slot in omega arith)) r (blank (usable m.sizes r)) change_is reads like
 
   pub now_records : mounted_accepted.records ≡ a.records
   unfolding mounted_accepted
-  now_records = mounted-records s bs b mounted inside id lnum header seq agrees mount refl m m a used loses
+  now_records = mounted-records s bs b mounted inside id lnum header seq agrees mount refl m m a used beside loses
       (λ z. (let l = slot in omega arith)) r (blank (usable m.sizes r)) change_is reads like
 
   pub now_wins : Wins s then_blocks of b
@@ -165,7 +166,15 @@ module _ (s : Sizes) (g : IsGeometry s) (bs : List (List ℕ)) (m : Meant) (a : 
   now_clean = mounted_clean s bs b mounted inside of header seq agrees mount a.clean
 
   pub now_agrees : Agrees s seq then_blocks
-  now_agrees = agrees_set s bs b mounted inside seq agrees mount.image
+  now_agrees = agrees_set s bs b mounted inside seq agrees beside mount.image
+
+  -- what is named beside an eraseblock still is
+  pub now_beside : (p : ℕ) → NamedBeside s seq bs p → NamedBeside s seq then_blocks p
+  now_beside p there = beside_set s bs b mounted inside seq p there
+      (λ k. seq-part s g bytes e prepared.size prepared.reads header
+      (blank_fits s r id lnum sqnum slot number half wide few) (blank_sound s r id lnum sqnum slot number half wide)
+      (user_known id slot)
+      (λ j. (let far = j.0 in omega arith)) [] room ∙ prepared.keeps k)
 
   -- another eraseblock that wins nothing goes on so
   pub other_loses : (p : ℕ) → p ≢ b → LosesAll s bs a.records p → LosesAll s then_blocks a.records p
@@ -222,10 +231,10 @@ module _ (s : Sizes) (g : IsGeometry s) (bs : List (List ℕ)) (m : Meant) (a : 
 
   -- and then it is copied to another eraseblock
   module _ (new : List ℕ) (n : IsNew s r lnum new) (p : ℕ) (apart : p ≢ b) (within : p < length bs)
-      (lost : LosesAll s bs a.records p)
+      (named : NamedBeside s seq bs p) (lost : LosesAll s bs a.records p)
       (next_prep : List Step) (next_bytes : List ℕ) (next_ec : EcHeader)
       (next_prepared : IsPrepared s then_blocks m p seq next_prep next_bytes next_ec)
-      (many : sqnum + 1 < 2 ^ 64) (rel : List Step) (release : IsRelease s b seq rel) where
+      (many : sqnum + 1 < 2 ^ 64) (rel : List Step) (release : IsRelease s then_blocks b seq rel) where
     within_then : p < length then_blocks
     within_then = omega (arith, length-set bs b mounted)
 
@@ -246,5 +255,5 @@ module _ (s : Sizes) (g : IsGeometry s) (bs : List (List ℕ)) (m : Meant) (a : 
         (λ x. AcceptsBlocks s x (changed m id lnum new)) z steps (length next_prep + suc (whole_place s new)))
         (sym mount_done)
         (mapped s g then_blocks m mounted_accepted id lnum r lebs was slot number half new n p within_then seq
-        now_agrees lost_then next_prep next_bytes next_ec next_prepared
+        now_agrees (now_beside p named) lost_then next_prep next_bytes next_ec next_prepared
         (sqnum + 1) many now_above b now_wins rel release))

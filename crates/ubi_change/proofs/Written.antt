@@ -22,7 +22,7 @@ use Rattle.ubi_media.proofs.Readings.{one_vid_reading}
 use Rattle.ubi_scan.specs.Faults.{IsMislaid}
 use Rattle.ubi_scan.specs.Image.{ec, leb, vid, vid_area}
 use Rattle.ubi_scan.specs.Members.{IsMember, Leb, foreign, foreign_if, has_members, is_good, is_right, leb_of, member, member_if, sqnum_at}
-use Rattle.ubi_scan.specs.Numbers.{seq_if}
+use Rattle.ubi_scan.specs.Numbers.{seq_if, seq_of}
 use Rattle.ubi_change.specs.Weak.{torn}
 use Rattle.ubi_scan.proofs.Filled.{behind, filled-by, filled-is}
 use Rattle.ubi_scan.proofs.Parts.{blank_ec, blank_vid, ec-laid, laid, leb-laid, vid-laid}
@@ -113,6 +113,10 @@ module _ (s : Sizes) (g : IsGeometry s) where
 
       pub leb-part : leb s part ≡ text ++ blank (s.peb_size - (s.data_offset + length text))
       leb-part = leb-laid s g bytes (vid_bytes h) size vid_size text room
+
+      -- it names the image that its erase-counter header names
+      pub seq-part : seq_of s part ≡ e.image_seq
+      seq-part = ap seq_if ec-part
 
       pub part-mount : (seq : ℕ) (bs : List (List ℕ)) (of : Leb) → (e.image_seq ≢ 0 → e.image_seq ≡ seq) → leb_of h ≡ of
           → ((other : Leb) (q : ℕ) → IsMember s bs other q → sqnum_at s bs q < h.sqnum) → IsMount s seq bs of h part

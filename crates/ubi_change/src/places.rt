@@ -4,6 +4,7 @@ ghost use Rattle.std.specs.Prelude.{◌≡◌, IfErr, IfOk, Some, length};
 ghost use Rattle.ubi_change.specs.inner.Making.{ArePlaces, image_causes, shown};
 ghost use Rattle.ubi_change.specs.Refused.{first_of};
 ghost use Rattle.ubi_scan.specs.Image.{eraseblocks, in_image};
+ghost use Rattle.ubi_scan.specs.Numbers.{carriers};
 
 use crate::refusal::ChangeRefusal;
 use crate::taking::first_takeable;
@@ -40,7 +41,8 @@ pub fn places_of(
     id: u32,
     lnum: u32,
 ) -> Result<Places, ChangeRefusal>
-    requires { length surveyed.now.states ≡ length (eraseblocks blocks.now) }
+    requires states { length surveyed.now.states ≡ length (eraseblocks blocks.now) }
+    requires carriers { surveyed.now.scan.carriers ≡ in_image carriers blocks.now }
     ensures places { IfOk result (in_image ArePlaces blocks.now (shown surveyed.now) id lnum) }
     ensures refused { IfErr result (λ e. first_of (in_image image_causes blocks.now (shown surveyed.now) id lnum) ≡ Some e) }
 {

@@ -7,6 +7,7 @@ ghost use Rattle.ubi_change.specs.Order.{RisesBetweenErases};
 ghost use Rattle.ubi_change.specs.Plan.{blank_header, copy_header};
 ghost use Rattle.ubi_change.specs.Planned.{IsFrugalOf, IsPlan, SurvivesCutsOf, IsChangeRefusal};
 ghost use Rattle.ubi_scan.specs.Image.{eraseblocks, image_of, in_image};
+ghost use Rattle.ubi_scan.specs.Numbers.{carriers};
 
 use crate::causes::own_cause;
 use crate::places::{Places, places_of};
@@ -74,6 +75,7 @@ fn mapped_steps(
     old: u32,
 ) -> Result<Vec<Step>, AllocError>
     requires states { length surveyed.now.states ≡ length (eraseblocks blocks.now) }
+    requires carriers { surveyed.now.scan.carriers ≡ in_image carriers blocks.now }
     requires paged { length new.now % blocks.now.sizes.page ≡ 0 }
     requires short { length new.now < 2 ^ 31 }
     requires within { in_image AreWithin blocks.now (shown surveyed.now) (Places.Mapped copy old) }
@@ -101,6 +103,7 @@ fn unmapped_steps(
     copy: u32,
 ) -> Result<Vec<Step>, AllocError>
     requires states { length surveyed.now.states ≡ length (eraseblocks blocks.now) }
+    requires carriers { surveyed.now.scan.carriers ≡ in_image carriers blocks.now }
     requires mean { surveyed.now.scan.mean_ec < 2 ^ 31 }
     requires paged { length new.now % blocks.now.sizes.page ≡ 0 }
     requires short { length new.now < 2 ^ 31 }
@@ -130,6 +133,7 @@ fn steps_on(
     places: Places,
 ) -> Result<Vec<Step>, AllocError>
     requires states { length surveyed.now.states ≡ length (eraseblocks blocks.now) }
+    requires carriers { surveyed.now.scan.carriers ≡ in_image carriers blocks.now }
     requires mean { surveyed.now.scan.mean_ec < 2 ^ 31 }
     requires paged { length new.now % blocks.now.sizes.page ≡ 0 }
     requires short { length new.now < 2 ^ 31 }
@@ -180,9 +184,8 @@ pub fn plan_change(
 {
     let blocks = Blocks::new(geometry, image)?;
     let surveyed = survey(alloc, geometry, image)?;
-    // The law that plans survive asks for both.
+    // The law that plans survive asks for it.
     prove!(geometry.page() >= 64);
-    prove!(surveyed.image_seq() <= u32::MAX);
     let Some(entry) = surveyed.table().get(id) else {
         return Err(ChangeRefusal::NoVolume);
     };

@@ -4,10 +4,11 @@ ghost use Rattle.std.specs.Prelude.{◌≡◌, ◌++◌, ◌∷◌, [], ◌%◌,
 ghost use Rattle.ubi_change.specs.inner.Making.{shown};
 ghost use Rattle.ubi_change.specs.Plan.{next_ec, atomic_copy, mount, prepare, program_header, program_text, ready_bytes, ready_ec, release, renew};
 ghost use Rattle.ubi_scan.specs.Image.{eraseblocks, in_image};
+ghost use Rattle.ubi_scan.specs.Numbers.{carriers};
 
 use crate::pages::{ec_page, vid_page};
 use crate::step::Step;
-use crate::taking::{ec_area, ec_at, is_clean, is_worn};
+use crate::taking::{ec_area, ec_at, is_clean, stays};
 use std::alloc::{AllocError, Global};
 use ubi_media::{EcHeader, Geometry, VidHeader, write_ec};
 use ubi_scan::Blocks;
@@ -153,7 +154,8 @@ pub fn push_mount(
     )
 }
 
-/// Adds the erase of an old winner, whose erase-counter header is this by then. One that can't count it is left.
+/// Adds the erase of an old winner, whose erase-counter header is this by then. One that can't count it, or is the only one
+/// that names the image, is left.
 fn push_release(
     alloc: Global,
     steps: &mut Vec<Step>,
@@ -162,10 +164,12 @@ fn push_release(
     p: u32,
     ec: Option<EcHeader>,
 ) -> Result<(), AllocError>
-    requires { IfSome ec (λ header. header.counter ≤ 2 ^ 31) }
+    requires carriers { surveyed.now.scan.carriers ≡ in_image carriers blocks.now }
+    requires inside { p < length (eraseblocks blocks.now) }
+    requires counter { IfSome ec (λ header. header.counter ≤ 2 ^ 31) }
     ensures { OnOk result (steps.new.items ≡ steps.old.items ++ in_image release blocks.now (shown surveyed.now) p ec) }
 {
-    if is_worn(ec) {
+    if stays(blocks, surveyed, p, ec) {
         return Ok(());
     }
     push_renew(alloc, steps, &blocks.geometry(), p, &next_ec(surveyed, ec))
@@ -181,7 +185,9 @@ pub fn push_copy(
     new: &[u8],
 ) -> Result<(), AllocError>
     requires states { length surveyed.now.states ≡ length (eraseblocks blocks.now) }
+    requires carriers { surveyed.now.scan.carriers ≡ in_image carriers blocks.now }
     requires inside { copy.now.target < length (eraseblocks blocks.now) }
+    requires old { copy.now.old < length (eraseblocks blocks.now) }
     requires counter { IfSome copy.now.old_ec (λ header. header.counter ≤ 2 ^ 31) }
     requires paged { length new.now % blocks.now.sizes.page ≡ 0 }
     requires short { length new.now < 2 ^ 31 }

@@ -2,8 +2,9 @@
 
 ghost use Rattle.std.specs.Prelude.{◌≡◌, ◌≤◌, ◌<◌, ◌&&◌, IfSome, filter, length};
 ghost use Rattle.ubi_change.specs.inner.Making.{first_two, is_wanted, joined, with_next};
-ghost use Rattle.ubi_change.specs.Takeable.{able, ec_at, is_clean, is_free, is_takeable, is_unused, is_worn, takeable};
+ghost use Rattle.ubi_change.specs.Takeable.{able, ec_at, is_clean, is_free, is_sole_carrier, is_takeable, is_unused, is_worn, stays, takeable};
 ghost use Rattle.ubi_scan.specs.Image.{block, ec_area, eraseblocks, in_image};
+ghost use Rattle.ubi_scan.specs.Numbers.{carriers};
 
 use ubi_media::{EcHeader, EcRead, is_blank};
 use ubi_scan::Blocks;
@@ -80,7 +81,7 @@ fn is_free(state: BlockState) -> bool
 }
 
 /// Whether an erase-counter header can't count another erase.
-pub fn is_worn(header: Option<EcHeader>) -> bool
+fn is_worn(header: Option<EcHeader>) -> bool
     ensures { result ≡ is_worn header }
 {
     match header {
@@ -111,13 +112,36 @@ pub fn ec_area<'a>(blocks: &Blocks<'a>, p: u32) -> &'a [u8]
     &blocks.block(p)[..HEADER_SIZE]
 }
 
-/// Whether an eraseblock may be taken: nothing is lost with it, and it can count another erase.
+/// Whether an eraseblock is the only one that names the image.
+fn is_sole_carrier(blocks: &Blocks<'_>, surveyed: &Surveyed, p: u32) -> bool
+    requires carriers { surveyed.now.scan.carriers ≡ in_image carriers blocks.now }
+    requires inside { p < length (eraseblocks blocks.now) }
+    ensures { result ≡ in_image is_sole_carrier blocks.now p }
+{
+    match ec_at(blocks, p) {
+        Some(header) => header.image_seq != 0 && surveyed.carriers() == 1,
+        None => false,
+    }
+}
+
+/// Whether an eraseblock, whose erase-counter header is this by then, is never erased: it can't count another erase, or it
+/// is the only one that names the image.
+pub fn stays(blocks: &Blocks<'_>, surveyed: &Surveyed, p: u32, ec: Option<EcHeader>) -> bool
+    requires carriers { surveyed.now.scan.carriers ≡ in_image carriers blocks.now }
+    requires inside { p < length (eraseblocks blocks.now) }
+    ensures { result ≡ in_image stays blocks.now p ec }
+{
+    is_worn(ec) || is_sole_carrier(blocks, surveyed, p)
+}
+
+/// Whether an eraseblock may be taken: nothing is lost with it, and it can be erased.
 fn is_takeable(blocks: &Blocks<'_>, surveyed: &Surveyed, p: u32) -> bool
     requires states { length surveyed.now.states ≡ length (eraseblocks blocks.now) }
+    requires carriers { surveyed.now.scan.carriers ≡ in_image carriers blocks.now }
     requires inside { p < length (eraseblocks blocks.now) }
     ensures { result ≡ in_image is_takeable blocks.now surveyed.now.states p }
 {
-    is_unused(surveyed.state(p)) && !is_worn(ec_at(blocks, p))
+    is_unused(surveyed.state(p)) && !stays(blocks, surveyed, p, ec_at(blocks, p))
 }
 
 /// Whether an eraseblock needs no erase before it is written: it is free, and blank but for its erase-counter header.
@@ -133,6 +157,7 @@ pub fn is_clean(blocks: &Blocks<'_>, surveyed: &Surveyed, p: u32) -> bool
 /// Whether an eraseblock may be taken, and is clean or isn't.
 fn is_wanted(blocks: &Blocks<'_>, surveyed: &Surveyed, clean: bool, p: u32) -> bool
     requires states { length surveyed.now.states ≡ length (eraseblocks blocks.now) }
+    requires carriers { surveyed.now.scan.carriers ≡ in_image carriers blocks.now }
     requires inside { p < length (eraseblocks blocks.now) }
     ensures { result ≡ (in_image is_takeable blocks.now surveyed.now.states p && in_image is_wanted blocks.now surveyed.now.states clean p) }
 {
@@ -141,7 +166,8 @@ fn is_wanted(blocks: &Blocks<'_>, surveyed: &Surveyed, clean: bool, p: u32) -> b
 
 /// The first two of the eraseblocks that may be taken and are clean, or of those that aren't.
 fn first_wanted(blocks: &Blocks<'_>, surveyed: &Surveyed, clean: bool) -> FirstTwo
-    requires { length surveyed.now.states ≡ length (eraseblocks blocks.now) }
+    requires states { length surveyed.now.states ≡ length (eraseblocks blocks.now) }
+    requires carriers { surveyed.now.scan.carriers ≡ in_image carriers blocks.now }
     ensures { result ≡ first_two (filter (in_image is_wanted blocks.now surveyed.now.states clean) (in_image able blocks.now surveyed.now.states)) }
 {
     let mut found = FirstTwo {
@@ -158,7 +184,8 @@ fn first_wanted(blocks: &Blocks<'_>, surveyed: &Surveyed, clean: bool) -> FirstT
 
 /// The first two of the eraseblocks that may be taken: the clean ones first, and each of both kinds by rising number.
 pub fn first_takeable(blocks: &Blocks<'_>, surveyed: &Surveyed) -> FirstTwo
-    requires { length surveyed.now.states ≡ length (eraseblocks blocks.now) }
+    requires states { length surveyed.now.states ≡ length (eraseblocks blocks.now) }
+    requires carriers { surveyed.now.scan.carriers ≡ in_image carriers blocks.now }
     ensures { result ≡ first_two (in_image takeable blocks.now surveyed.now.states) }
 {
     first_wanted(blocks, surveyed, true).followed_by(first_wanted(blocks, surveyed, false))

@@ -1,3 +1,4 @@
+mod carriers;
 mod images;
 mod mapped;
 mod refusals;

@@ -26,7 +26,7 @@ use Rattle.ubi_compose.specs.Normal.{Laid, layout_block, normal_blocks, normal_b
 use Rattle.ubi_compose.proofs.Apart.{AreApart}
 use Rattle.ubi_compose.proofs.Blocks.{IsFine}
 use Rattle.ubi_compose.proofs.Contents.{AreOwn, damaged_reads, dynamic_reads, header_at, text_at, text_reads}
-use Rattle.ubi_compose.proofs.Image.{blocks_again, concat-image_blocks, image_blocks, image_clean, image_whole, laid_wins, length-bytes, length-image_blocks, member_laid}
+use Rattle.ubi_compose.proofs.Image.{blocks_again, concat-image_blocks, image_blocks, image_clean, image_named, image_whole, laid_wins, length-bytes, length-image_blocks, member_laid}
 use Rattle.ubi_compose.proofs.Lists.{Holds, all_at, entry_held, flat_map_holds, held_entry, holds_flat_map}
 use Rattle.ubi_compose.proofs.Normal.{apart_normal, fine_normal}
 use Rattle.ubi_compose.proofs.Table.{recorded, records_are, records_fit, volume_is}
@@ -37,7 +37,7 @@ module _ (m : Meant) (g : IsGeometry m.sizes) (is : IsMeaning m) (spares : ℕ) 
   ls = normal_blocks m
 
   abbrev bs : List (List ℕ)
-  bs = image_blocks m.sizes (normal_blocks m) spares
+  bs = image_blocks m.sizes m.image_seq (normal_blocks m) spares
 
   abbrev blocks_in : ℕ × Volume → List Laid
   blocks_in e = volume_blocks m.sizes e.0 e.1.entry e.1.content
@@ -49,7 +49,7 @@ module _ (m : Meant) (g : IsGeometry m.sizes) (is : IsMeaning m) (spares : ℕ) 
   apart = apart_normal m g is
 
   clean : NoFault m.sizes bs
-  clean = image_clean m.sizes g ls spares fine apart
+  clean = image_clean m.sizes g m.image_seq is.image_seq ls spares fine apart
 
   -- the eraseblocks of a volume
   of_entries : (l : Laid) (id : ℕ) (v : Volume) → finite.get m.volumes id ≡ Some v
@@ -89,10 +89,10 @@ module _ (m : Meant) (g : IsGeometry m.sizes) (is : IsMeaning m) (spares : ℕ) 
       → AreOwn (normal_blocks m) id (volume_blocks m.sizes id v.entry c)
       → Fits m.sizes v.entry c → VolumeReads m.sizes bs id v.entry c
   reads_by id v h content.Updating mine fits = fits
-  reads_by id v h content.Damaged mine fits = damaged_reads m.sizes g ls spares fine id v.entry apart mine fits
+  reads_by id v h content.Damaged mine fits = damaged_reads m.sizes g m.image_seq is.image_seq ls spares fine id v.entry apart mine fits
   reads_by id v h (content.Static text) mine fits =
-      text_reads m.sizes g ls spares fine id v.entry apart text (usable_some m.sizes v.entry h.sound) mine fits
-  reads_by id v h (content.Dynamic lebs) mine fits = dynamic_reads m.sizes g ls spares fine id v.entry lebs mine fits
+      text_reads m.sizes g m.image_seq is.image_seq ls spares fine id v.entry apart text (usable_some m.sizes v.entry h.sound) mine fits
+  reads_by id v h (content.Dynamic lebs) mine fits = dynamic_reads m.sizes g m.image_seq is.image_seq ls spares fine id v.entry lebs mine fits
 
   slot_by : (id : ℕ) (o : Option Volume) → finite.get m.volumes id ≡ o
       → SlotMeans m.sizes bs id (option_map (λ (v : Volume). v.entry) o) o
@@ -110,14 +110,14 @@ module _ (m : Meant) (g : IsGeometry m.sizes) (is : IsMeaning m) (spares : ℕ) 
       let r = k.0 in
       let h = k.1 in
       let counted = k.2 in
-      let at = member_laid m.sizes g ls spares fine (counted.vol, counted.lnum) p counted.wins.member in
+      let at = member_laid m.sizes g m.image_seq is.image_seq ls spares fine (counted.vol, counted.lnum) p counted.wins.member in
       let l = at.0 in
       let rec = recorded m counted.vol r counted.recorded in
       let v = rec.0 in
       let mine = of_volume l counted.vol v rec.1 (p, at.1) (ap (λ (of : Leb). of.0) at.2) in
       let like = all_at (IsLike m.sizes counted.vol v.entry) (blocks_in (counted.vol, v)) mine.0 l
       (like_blocks m.sizes counted.vol v.entry v.content (volume_is m is counted.vol v rec.1).fits) mine.1 in
-      let header : h ≡ l.header = same_Some h l.header (sym k.4 ∙ header_at m.sizes g ls spares fine p l at.1) in
+      let header : h ≡ l.header = same_Some h l.header (sym k.4 ∙ header_at m.sizes g m.image_seq is.image_seq ls spares fine p l at.1) in
       let kind : h.kind ≡ r.kind = ap (λ (h : VidHeader). h.kind) header ∙ like.0
       ∙ ap (λ (r : VolumeRecord). r.kind) rec.2 in
       let pad : h.data_pad ≡ data_pad m.sizes r = ap (λ (h : VidHeader). h.data_pad) header ∙ like.1
@@ -127,8 +127,8 @@ module _ (m : Meant) (g : IsGeometry m.sizes) (is : IsMeaning m) (spares : ℕ) 
   table : IsTable m.sizes bs (records_of m)
   table =
       table_written m.sizes bs 0 (records_of m) _ refl (records_are m is) (records_fit m is)
-      (laid_wins m.sizes g ls spares fine 0 (layout_block m 0) refl)
-      (text_at m.sizes g ls spares fine 0 (layout_block m 0) refl)
+      (laid_wins m.sizes g m.image_seq is.image_seq ls spares fine 0 (layout_block m 0) refl)
+      (text_at m.sizes g m.image_seq is.image_seq ls spares fine 0 (layout_block m 0) refl)
 
   accepts_blocks : AcceptsBlocks m.sizes bs m
   accepts_blocks = record {
@@ -136,21 +136,26 @@ module _ (m : Meant) (g : IsGeometry m.sizes) (is : IsMeaning m) (spares : ℕ) 
     records = records_of m;
     table = table;
     alike = alike;
-    means = record { sizes = refl; meaning = is; slots = slots };
+    means = record {
+      sizes = refl;
+      image_seq = sym (image_named m.sizes g m.image_seq is.image_seq ls spares fine (omega arith));
+      meaning = is;
+      slots = slots;
+    };
   }
 
   bytes_are : concat bs ≡ composed m spares
   unfolding normal_bytes
-  bytes_are = concat-image_blocks m.sizes (normal_blocks m) spares
+  bytes_are = concat-image_blocks m.sizes m.image_seq (normal_blocks m) spares
 
   pub length-composed : length (composed m spares) ≡ (length (normal_blocks m) + spares) * m.sizes.peb_size
   length-composed =
-      ap length (sym bytes_are) ∙ length-bytes m.sizes g ls spares fine
-      ∙ ap (λ n. n * m.sizes.peb_size) (length-image_blocks m.sizes g ls spares fine)
+      ap length (sym bytes_are) ∙ length-bytes m.sizes g m.image_seq is.image_seq ls spares fine
+      ∙ ap (λ n. n * m.sizes.peb_size) (length-image_blocks m.sizes g m.image_seq is.image_seq ls spares fine)
 
   pub normal_accepted : HasRoom m spares → Accepts (image_of m.sizes (composed m spares)) m
   normal_accepted room =
       subst (λ bytes. Accepts (image_of m.sizes bytes) m) bytes_are (record {
-        whole = image_whole m.sizes g ls spares fine (omega arith) room;
-        accepted = subst (λ x. AcceptsBlocks m.sizes x m) (sym (blocks_again m.sizes g ls spares fine)) accepts_blocks;
+        whole = image_whole m.sizes g m.image_seq is.image_seq ls spares fine (omega arith) room;
+        accepted = subst (λ x. AcceptsBlocks m.sizes x m) (sym (blocks_again m.sizes g m.image_seq is.image_seq ls spares fine)) accepts_blocks;
       })

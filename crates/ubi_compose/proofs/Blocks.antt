@@ -1,5 +1,5 @@
 -- An eraseblock that was laid out is read back.
-use Rattle.std.proofs.Common.{◌≡◌, ℕ, ◌+◌, ◌-◌, ◌≤◌, ◌++◌, true, false, not, length, List, refl, ap, sym, ◌∙◌, subst, arith}
+use Rattle.std.proofs.Common.{◌≡◌, ℕ, ◌+◌, ◌-◌, ◌^◌, ◌<◌, ◌≤◌, ◌++◌, true, false, not, length, List, refl, ap, sym, ◌∙◌, subst, arith}
 use Rattle.std.specs.Bool.{then_some}
 use Rattle.std.specs.Option.{option_map_or}
 use Rattle.std.specs.Prelude.{None, Option, Some, option_map}
@@ -34,59 +34,60 @@ pub record IsFine (s : Sizes) (l : Laid) : Type 0 where
   pub original : l.header.copy_flag ≡ false
 
 -- the erase-counter header of each eraseblock of a normal image
-pub new_ec_back : (s : Sizes) → IsGeometry s → ec_reading s (ec_bytes s new_ec) ≡ ec_read.Valid new_ec
-new_ec_back s g =
-    sym ((one_ec_reading s (ec_bytes s new_ec) (ec_read.Valid new_ec)).0
-    (ec_read_back s new_ec (omega (arith, g.data_from, g.leb, g.peb_to)) (omega (arith, g.leb, g.peb_to)) (omega arith)
-    (omega arith)))
+pub new_ec_back : (s : Sizes) → IsGeometry s → (seq : ℕ) → seq < 2 ^ 32
+    → ec_reading s (ec_bytes s (new_ec seq)) ≡ ec_read.Valid (new_ec seq)
+new_ec_back s g seq narrow =
+    sym ((one_ec_reading s (ec_bytes s (new_ec seq)) (ec_read.Valid (new_ec seq))).0
+    (ec_read_back s (new_ec seq) (omega (arith, g.data_from, g.leb, g.peb_to)) (omega (arith, g.leb, g.peb_to))
+    (omega arith) narrow))
 
-module _ (s : Sizes) (g : IsGeometry s) (l : Laid) (fine : IsFine s l) where
-  ec_size : length (ec_bytes s new_ec) ≡ 64
+module _ (s : Sizes) (g : IsGeometry s) (seq : ℕ) (narrow : seq < 2 ^ 32) (l : Laid) (fine : IsFine s l) where
+  ec_size : length (ec_bytes s (new_ec seq)) ≡ 64
   ec_size = refl
 
   vid_size : length (vid_bytes l.header) ≡ 64
   vid_size = refl
 
-  pub length-laid_bytes : length (laid_bytes s new_ec l) ≡ s.peb_size
+  pub length-laid_bytes : length (laid_bytes s (new_ec seq) l) ≡ s.peb_size
   length-laid_bytes = parts.length-laid s g _ _ ec_size vid_size l.text fine.room
 
-  pub ec-laid_bytes : ec s (laid_bytes s new_ec l) ≡ ec_read.Valid new_ec
-  ec-laid_bytes = ap (ec_reading s) (parts.ec-laid s g _ _ ec_size vid_size l.text fine.room) ∙ new_ec_back s g
+  pub ec-laid_bytes : ec s (laid_bytes s (new_ec seq) l) ≡ ec_read.Valid (new_ec seq)
+  ec-laid_bytes = ap (ec_reading s) (parts.ec-laid s g _ _ ec_size vid_size l.text fine.room) ∙ new_ec_back s g seq narrow
 
-  vid-laid_bytes : vid s (laid_bytes s new_ec l) ≡ vid_read.Valid l.header
+  vid-laid_bytes : vid s (laid_bytes s (new_ec seq) l) ≡ vid_read.Valid l.header
   vid-laid_bytes =
       ap (vid_reading s) (parts.vid-laid s g _ _ ec_size vid_size l.text fine.room)
       ∙ sym ((one_vid_reading s (vid_bytes l.header) (vid_read.Valid l.header)).0
       (vid_read_back s l.header (fields_fit l.header fine.fits) fine.sound))
 
   -- its LEB begins with the text, and is 0xFF behind it
-  pub leb-laid_bytes : leb s (laid_bytes s new_ec l) ≡ l.text ++ blank (s.peb_size - (s.data_offset + length l.text))
+  pub leb-laid_bytes : leb s (laid_bytes s (new_ec seq) l) ≡ l.text ++ blank (s.peb_size - (s.data_offset + length l.text))
   leb-laid_bytes = parts.leb-laid s g _ _ ec_size vid_size l.text fine.room
 
-  pub member-laid_bytes : member s (laid_bytes s new_ec l) ≡ Some l.header
+  pub member-laid_bytes : member s (laid_bytes s (new_ec seq) l) ≡ Some l.header
   member-laid_bytes = ap₂ member_if ec-laid_bytes vid-laid_bytes ∙ ap (λ b. then_some b l.header) fine.known
 
-  foreign-laid_bytes : foreign s (laid_bytes s new_ec l) ≡ None
+  foreign-laid_bytes : foreign s (laid_bytes s (new_ec seq) l) ≡ None
   foreign-laid_bytes = ap₂ foreign_if ec-laid_bytes vid-laid_bytes ∙ ap (λ b. then_some (not b) l.header) fine.known
 
-  pub named-laid_bytes : named_in s (laid_bytes s new_ec l) ≡ Some (leb_of l.header)
+  pub named-laid_bytes : named_in s (laid_bytes s (new_ec seq) l) ≡ Some (leb_of l.header)
   named-laid_bytes = ap (option_map leb_of) member-laid_bytes
 
-  pub sqnum-laid_bytes : sqnum_in s (laid_bytes s new_ec l) ≡ 0
+  pub sqnum-laid_bytes : sqnum_in s (laid_bytes s (new_ec seq) l) ≡ 0
   sqnum-laid_bytes = ap (λ (o : Option VidHeader). option_map_or (λ h. h.sqnum) o 0) member-laid_bytes ∙ fine.number
 
-  pub good-laid_bytes : good_in s (laid_bytes s new_ec l) ≡ true
+  pub good-laid_bytes : good_in s (laid_bytes s (new_ec seq) l) ≡ true
   good-laid_bytes =
-      ap (λ (o : Option VidHeader). option_map_or (is_good s (laid_bytes s new_ec l)) o false) member-laid_bytes
-      ∙ good_original (laid_bytes s new_ec l) l.header fine.original
+      ap (λ (o : Option VidHeader). option_map_or (is_good s (laid_bytes s (new_ec seq) l)) o false) member-laid_bytes
+      ∙ good_original (laid_bytes s (new_ec seq) l) l.header fine.original
     where
       good_original : (b : List ℕ) (h : VidHeader) → h.copy_flag ≡ false → is_good s b h ≡ true
       good_original b h e = rw e refl
 
-  pub seq-laid_bytes : seq_of s (laid_bytes s new_ec l) ≡ 0
+  pub seq-laid_bytes : seq_of s (laid_bytes s (new_ec seq) l) ≡ seq
   seq-laid_bytes = ap seq_if ec-laid_bytes
 
-  pub sound-laid_bytes : IsSound s (laid_bytes s new_ec l)
+  pub sound-laid_bytes : IsSound s (laid_bytes s (new_ec seq) l)
   sound-laid_bytes = record {
     no_ec_fault = λ f e. let is = ec-laid_bytes in cc;
     no_vid_fault = λ f used e. let is = vid-laid_bytes in cc;

@@ -1,5 +1,5 @@
 -- What a volume reads whose eraseblocks are laid out.
-use Rattle.std.proofs.Common.{◌≡◌, ℕ, zero, suc, ◌+◌, ◌-◌, ◌*◌, ◌<◌, ◌≤◌, inl, inr, List, [], ◌∷◌, ◌++◌, length, take, refl, sym, ap, ◌∙◌, subst, arith}
+use Rattle.std.proofs.Common.{◌≡◌, ℕ, zero, suc, ◌+◌, ◌-◌, ◌*◌, ◌^◌, ◌<◌, ◌≤◌, inl, inr, List, [], ◌∷◌, ◌++◌, length, take, refl, sym, ap, ◌∙◌, subst, arith}
 use Rattle.std.specs.Prelude.{IfSome, None, Option, Some, slice_get, unwrap_or}
 use Rattle.std.specs.FinMap as finite
 use Rattle.std.specs.FinMap.{FinMap}
@@ -38,25 +38,26 @@ check_blank : check (255 ∷ []) ≡ 0x00FFFFFF
 unfolding check_from remainder
 check_blank = refl
 
-module _ (s : Sizes) (g : IsGeometry s) (ls : List Laid) (spares : ℕ) (fine : AllByRecursion (IsFine s) ls) where
+module _ (s : Sizes) (g : IsGeometry s) (seq : ℕ) (narrow : seq < 2 ^ 32) (ls : List Laid) (spares : ℕ)
+    (fine : AllByRecursion (IsFine s) ls) where
   abbrev bs : List (List ℕ)
-  bs = image_blocks s ls spares
+  bs = image_blocks s seq ls spares
 
   -- an eraseblock that is laid out begins with its text
   pub text_at : (p : ℕ) (l : Laid) → slice_get ls p ≡ Some l
       → leb s (block bs p) ≡ l.text ++ blank (s.peb_size - (s.data_offset + length l.text))
-  text_at p l e = ap (leb s) (block_laid s g ls spares fine p l e)
-      ∙ leb-laid_bytes s g l (all_at (IsFine s) ls p l fine e)
+  text_at p l e = ap (leb s) (block_laid s g seq narrow ls spares fine p l e)
+      ∙ leb-laid_bytes s g seq narrow l (all_at (IsFine s) ls p l fine e)
 
   pub header_at : (p : ℕ) (l : Laid) → slice_get ls p ≡ Some l → member s (block bs p) ≡ Some l.header
-  header_at p l e = ap (member s) (block_laid s g ls spares fine p l e)
-      ∙ member-laid_bytes s g l (all_at (IsFine s) ls p l fine e)
+  header_at p l e = ap (member s) (block_laid s g seq narrow ls spares fine p l e)
+      ∙ member-laid_bytes s g seq narrow l (all_at (IsFine s) ls p l fine e)
 
   module _ (vol : ℕ) (r : VolumeRecord) where
     -- a dynamic volume
     module _ (lebs : FinMap nat_cmp (List ℕ)) (own : AreOwn ls vol (volume_blocks s vol r (content.Dynamic lebs))) where
       unheld : (lnum : ℕ) → finite.get lebs lnum ≡ None → NoMember s bs (vol, lnum)
-      unheld lnum none = none_laid s g ls spares fine (vol, lnum) (λ l at same.
+      unheld lnum none = none_laid s g seq narrow ls spares fine (vol, lnum) (λ l at same.
           let mine = own.only l at (ap (λ (of : Leb). of.0) same) in
           let e = map_holds (dynamic_block (data_pad s r) vol) (finite.entries lebs) l mine in
           let number : e.0.0 ≡ lnum = ap (λ (l : Laid). l.header.lnum) e.2 ∙ ap (λ (of : Leb). of.1) same in
@@ -71,7 +72,7 @@ module _ (s : Sizes) (g : IsGeometry s) (ls : List Laid) (spares : ℕ) (fine : 
           (entry_held lebs lnum text some)) in
           inl (
             at.0,
-            laid_wins s g ls spares fine at.0 l at.1,
+            laid_wins s g seq narrow ls spares fine at.0 l at.1,
             sym (ap (take (usable s r)) (text_at at.0 l at.1)
                 ∙ take_at text (blank (s.peb_size - (s.data_offset + length text))) (usable s r) size),
           )
@@ -87,7 +88,7 @@ module _ (s : Sizes) (g : IsGeometry s) (ls : List Laid) (spares : ℕ) (fine : 
 
     module _ (apart : AreApart ls) where
       clean : NoFault s bs
-      clean = image_clean s g ls spares fine apart
+      clean = image_clean s g seq narrow ls spares fine apart
 
       -- a static volume
       module _ (text : List ℕ) (size_some : 1 ≤ usable s r)
@@ -108,7 +109,7 @@ module _ (s : Sizes) (g : IsGeometry s) (ls : List Laid) (spares : ℕ) (fine : 
         piece_read lnum below =
             let at = part_at lnum below in
             let l : Laid = part lnum in
-            piece_checked s bs clean vol used lnum at.0 l.header l.text (laid_wins s g ls spares fine at.0 l at.1)
+            piece_checked s bs clean vol used lnum at.0 l.header l.text (laid_wins s g seq narrow ls spares fine at.0 l at.1)
             (header_at at.0 l at.1)
             (sym (ap (take (length l.text)) (text_at at.0 l at.1)
             ∙ take_at l.text (blank (s.peb_size - (s.data_offset + length l.text))) (length l.text) refl))
@@ -125,7 +126,7 @@ module _ (s : Sizes) (g : IsGeometry s) (ls : List Laid) (spares : ℕ) (fine : 
             (read_first n (omega arith)) (piece_read n (omega arith))))
 
         none_behind : (lnum : ℕ) → used ≤ lnum → NoMember s bs (vol, lnum)
-        none_behind lnum out = none_laid s g ls spares fine (vol, lnum) (λ l at same.
+        none_behind lnum out = none_laid s g seq narrow ls spares fine (vol, lnum) (λ l at same.
             let mine = own.only l at (ap (λ (of : Leb). of.0) same) in
             let e = map_holds part (range_with_len 0 used) l mine in
             let number : e.0 ≡ lnum = ap (λ (l : Laid). l.header.lnum) e.2 ∙ ap (λ (of : Leb). of.1) same in
@@ -154,7 +155,7 @@ module _ (s : Sizes) (g : IsGeometry s) (ls : List Laid) (spares : ℕ) (fine : 
         lone_used =
             let used = ap (λ (o : Option VidHeader). option_map_or (λ h. h.used_ebs) o 0)
             (header_at lone_at.0 lone lone_at.1) in
-            inr (0, lone_at.0, laid_wins s g ls spares fine lone_at.0 lone lone_at.1, used)
+            inr (0, lone_at.0, laid_wins s g seq narrow ls spares fine lone_at.0 lone lone_at.1, used)
 
         lone_text : (255 ∷ []) ≡ take 1 (leb s (block bs lone_at.0))
         lone_text =
@@ -165,7 +166,7 @@ module _ (s : Sizes) (g : IsGeometry s) (ls : List Laid) (spares : ℕ) (fine : 
         no_piece : PieceIs s bs vol 1 0 None
         no_piece =
             piece_unchecked s bs clean vol 1 0 lone_at.0 lone.header (255 ∷ [])
-            (laid_wins s g ls spares fine lone_at.0 lone lone_at.1) (header_at lone_at.0 lone lone_at.1) lone_text
+            (laid_wins s g seq narrow ls spares fine lone_at.0 lone lone_at.1) (header_at lone_at.0 lone lone_at.1) lone_text
             (λ h. (let right = h.1 in let other = check_blank in omega arith))
 
         pub damaged_reads : Fits s r content.Damaged → VolumeReads s bs vol r content.Damaged

@@ -38,14 +38,14 @@ use Rattle.ubi_compose.proofs.Table.{volume_is}
 use Rattle.ubi_volume.proofs.Received.{Splits, error_behind, error_front, wrote_more}
 
 -- the eraseblock of what is kept of a LEB
-abbrev pub leb_bytes : Sizes → ℕ → VolumeRecord → ℕ × List ℕ → List ℕ
-leb_bytes s id r e = laid_bytes s new_ec (dynamic_block (data_pad s r) id e)
+abbrev pub leb_bytes : Sizes → ℕ → ℕ → VolumeRecord → ℕ × List ℕ → List ℕ
+leb_bytes s seq id r e = laid_bytes s (new_ec seq) (dynamic_block (data_pad s r) id e)
 
 -- those of the LEBs below n
 abbrev pub first_lebs : Sizes → Placed → ℕ → VolumeRecord → ℕ → Wanted
 first_lebs s p id r n image text =
     (v : Volume) × IsVolumeOf s p id image v × (l : FinMap nat_cmp (List ℕ)) × (v.content ≡ content.Dynamic l)
-    × (text ≡ flat_map (kept_at (leb_bytes s id r) (finite.entries l)) (range_with_len 0 n))
+    × (text ≡ flat_map (kept_at (leb_bytes s p.image_seq id r) (finite.entries l)) (range_with_len 0 n))
 
 module _ {X : Type 0} (f : ℕ × X → List ℕ) where
   -- numbers that rise do so from any bound below them
@@ -121,7 +121,7 @@ module _ (s : Sizes) (p : Placed) (id : ℕ) (r : VolumeRecord) (recorded : fini
 
       -- where no place counts, nothing is kept
       nothing_at : (lnum : ℕ) → lnum < r.reserved → ((q : ℕ) → IsCountedPlace p id lnum q → ⊥)
-          → kept_at (leb_bytes s id r) es lnum ≡ []
+          → kept_at (leb_bytes s p.image_seq id r) es lnum ≡ []
       nothing_at lnum below none = by_kept (finite.get l lnum) refl
         where
           no_winner : (q : ℕ) → Wins s bs (id, lnum) q → ⊥
@@ -130,8 +130,8 @@ module _ (s : Sizes) (p : Placed) (id : ℕ) (r : VolumeRecord) (recorded : fini
             | inr other ↦ other q w.member
           ]
 
-          by_kept : (o : Option (List ℕ)) → finite.get l lnum ≡ o → kept_at (leb_bytes s id r) es lnum ≡ []
-          by_kept None e = ap (λ o. option_map_or (λ x. leb_bytes s id r (lnum, x)) o [])
+          by_kept : (o : Option (List ℕ)) → finite.get l lnum ≡ o → kept_at (leb_bytes s p.image_seq id r) es lnum ≡ []
+          by_kept None e = ap (λ o. option_map_or (λ x. leb_bytes s p.image_seq id r (lnum, x)) o [])
               (sym (finite.get-entries l lnum) ∙ e)
           by_kept (Some x) e =
               elim (subst (λ (o : Option (List ℕ)). LebReads s bs id r lnum (unwrap_or o (blank size))) e
@@ -143,7 +143,7 @@ module _ (s : Sizes) (p : Placed) (id : ℕ) (r : VolumeRecord) (recorded : fini
 
       -- and at a place that counts, what isn't blank there
       kept_there : (lnum q : ℕ) → lnum < r.reserved → Wins s bs (id, lnum) q
-          → kept_at (leb_bytes s id r) es lnum ≡ kept_bytes s (data_pad s r) id lnum (take size (leb s (block bs q)))
+          → kept_at (leb_bytes s p.image_seq id r) es lnum ≡ kept_bytes s p.image_seq (data_pad s r) id lnum (take size (leb s (block bs q)))
       kept_there lnum q below w = by_kept (finite.get l lnum) refl
         where
           text : List ℕ
@@ -157,35 +157,35 @@ module _ (s : Sizes) (p : Placed) (id : ℕ) (r : VolumeRecord) (recorded : fini
           ]
 
           by_test : (x : List ℕ) (b : Bool) → is_blank x ≡ b → x ≢ blank size → length x ≡ size
-              → leb_bytes s id r (lnum, x) ≡ kept_bytes s (data_pad s r) id lnum x
+              → leb_bytes s p.image_seq id r (lnum, x) ≡ kept_bytes s p.image_seq (data_pad s r) id lnum x
           by_test x true e other long = absurd (other (blank_text x size e long))
-          by_test x false e other long = ap (λ b. cond b [] (leb_bytes s id r (lnum, x))) (sym e)
+          by_test x false e other long = ap (λ b. cond b [] (leb_bytes s p.image_seq id r (lnum, x))) (sym e)
 
-          by_blank : (b : Bool) → is_blank (blank size) ≡ b → [] ≡ kept_bytes s (data_pad s r) id lnum (blank size)
-          by_blank true e = ap (λ b. cond b [] (leb_bytes s id r (lnum, blank size))) (sym e)
+          by_blank : (b : Bool) → is_blank (blank size) ≡ b → [] ≡ kept_bytes s p.image_seq (data_pad s r) id lnum (blank size)
+          by_blank true e = ap (λ b. cond b [] (leb_bytes s p.image_seq id r (lnum, blank size))) (sym e)
           by_blank false e = absurd (other_text (blank size) size e refl)
 
           by_kept : (o : Option (List ℕ)) → finite.get l lnum ≡ o
-              → kept_at (leb_bytes s id r) es lnum ≡ kept_bytes s (data_pad s r) id lnum text
+              → kept_at (leb_bytes s p.image_seq id r) es lnum ≡ kept_bytes s p.image_seq (data_pad s r) id lnum text
           by_kept None e =
-              ap (λ o. option_map_or (λ x. leb_bytes s id r (lnum, x)) o []) (sym (finite.get-entries l lnum) ∙ e)
+              ap (λ o. option_map_or (λ x. leb_bytes s p.image_seq id r (lnum, x)) o []) (sym (finite.get-entries l lnum) ∙ e)
               ∙ by_blank (is_blank (blank size)) refl
-              ∙ ap (kept_bytes s (data_pad s r) id lnum)
+              ∙ ap (kept_bytes s p.image_seq (data_pad s r) id lnum)
               (read_is (blank size)
               (subst (λ (o : Option (List ℕ)). LebReads s bs id r lnum (unwrap_or o (blank size))) e
               (reads.2 lnum below)))
           by_kept (Some x) e =
-              ap (λ o. option_map_or (λ x. leb_bytes s id r (lnum, x)) o []) (sym (finite.get-entries l lnum) ∙ e)
+              ap (λ o. option_map_or (λ x. leb_bytes s p.image_seq id r (lnum, x)) o []) (sym (finite.get-entries l lnum) ∙ e)
               ∙ by_test x (is_blank x) refl
               (subst (λ (o : Option (List ℕ)). IfSome o (λ text. text ≢ blank size)) e (no_blank lnum))
               (subst (λ (o : Option (List ℕ)). IfSome o (λ text. (lnum < r.reserved) × (length text ≡ size))) e
               (fits.2 lnum)).1
-              ∙ ap (kept_bytes s (data_pad s r) id lnum)
+              ∙ ap (kept_bytes s p.image_seq (data_pad s r) id lnum)
               (read_is x (subst (λ (o : Option (List ℕ)). LebReads s bs id r lnum (unwrap_or o (blank size))) e
               (reads.2 lnum below)))
 
       -- all that is kept
-      all_kept : flat_map (kept_at (leb_bytes s id r) es) (range_with_len 0 r.reserved) ≡ flat_map (leb_bytes s id r) es
+      all_kept : flat_map (kept_at (leb_bytes s p.image_seq id r) es) (range_with_len 0 r.reserved) ≡ flat_map (leb_bytes s p.image_seq id r) es
       all_kept =
           let within : AllByRecursion (λ (e : ℕ × List ℕ). e.0 < r.reserved) es =
           all_from (λ (e : ℕ × List ℕ). e.0 < r.reserved) es (λ e at.
@@ -194,21 +194,21 @@ module _ (s : Sizes) (p : Placed) (id : ℕ) (r : VolumeRecord) (recorded : fini
           let from : AllByRecursion (λ (e : ℕ × List ℕ). 0 ≤ e.0) es =
           all_from (λ (e : ℕ × List ℕ). 0 ≤ e.0) es (λ e at. omega arith) in
           let end : r.reserved ≡ 0 + r.reserved = sym (zero-add r.reserved) in
-          by_number (leb_bytes s id r) r.reserved 0 es
-          (subst (λ b. Rises (leb_bytes s id r) 0 b es) end
-          (rises_from (leb_bytes s id r) 0 r.reserved es (rising.entries_rise es (finite.entries_sorted l)) from
+          by_number (leb_bytes s p.image_seq id r) r.reserved 0 es
+          (subst (λ b. Rises (leb_bytes s p.image_seq id r) 0 b es) end
+          (rises_from (leb_bytes s p.image_seq id r) 0 r.reserved es (rising.entries_rise es (finite.entries_sorted l)) from
           within))
 
   -- one place more
   pub dynamic_step : (n l q : ℕ) → IsNextPlace p id n (Some (l, q)) → l < r.reserved
-      → Splits (first_lebs s p id r (l + 1)) (first_lebs s p id r n) (dynamic_text s (data_pad s r) id l size q)
+      → Splits (first_lebs s p id r (l + 1)) (first_lebs s p id r n) (dynamic_text s p.image_seq (data_pad s r) id l size q)
   dynamic_step n l q next below image text w =
-      let g = kept_at (leb_bytes s id r) (finite.entries w.2) in
+      let g = kept_at (leb_bytes s p.image_seq id r) (finite.entries w.2) in
       let won = found_wins s p image w.1.places (id, l) q next.1.3 in (
         flat_map g (range_with_len 0 n),
         g l,
         w.4 ∙ pieces_more g 0 l l (zero-add l)
-            ∙ ap (λ x. x ++ g l) (same_until (leb_bytes s id r) (finite.entries w.2) n l next.0
+            ∙ ap (λ x. x ++ g l) (same_until (leb_bytes s p.image_seq id r) (finite.entries w.2) n l next.0
             (λ i low high. nothing_at image w.0 w.1 w.2 w.3 i (omega (arith, below, high))
             (λ k is. next.2 i k low high is))),
         (w.0, w.1, w.2, w.3, refl),
@@ -216,14 +216,14 @@ module _ (s : Sizes) (p : Placed) (id : ℕ) (r : VolumeRecord) (recorded : fini
       )
 
   whole : (image text : List ℕ) (w : volume_text s p id image text)
-      → text ≡ flat_map (kept_at (leb_bytes s id r) (finite.entries (lebs_of image w.0 w.1).0))
+      → text ≡ flat_map (kept_at (leb_bytes s p.image_seq id r) (finite.entries (lebs_of image w.0 w.1).0))
       (range_with_len 0 r.reserved)
   whole image text w =
       let l = lebs_of image w.0 w.1 in
-      w.2 ∙ ap (λ (x : VolumeRecord). flat_map (laid_bytes s new_ec) (volume_blocks s id x w.0.content))
+      w.2 ∙ ap (λ (x : VolumeRecord). flat_map (laid_bytes s (new_ec p.image_seq)) (volume_blocks s id x w.0.content))
       (entry image w.0 w.1 l.0 l.1)
-      ∙ ap (λ (x : Content). flat_map (laid_bytes s new_ec) (volume_blocks s id r x)) l.1
-      ∙ flat_map-map (laid_bytes s new_ec) (dynamic_block (data_pad s r) id) (finite.entries l.0)
+      ∙ ap (λ (x : Content). flat_map (laid_bytes s (new_ec p.image_seq)) (volume_blocks s id r x)) l.1
+      ∙ flat_map-map (laid_bytes s (new_ec p.image_seq)) (dynamic_block (data_pad s r) id) (finite.entries l.0)
       ∙ sym (all_kept image w.0 w.1 l.0 l.1)
 
   -- all of them
@@ -236,7 +236,7 @@ module _ (s : Sizes) (p : Placed) (id : ℕ) (r : VolumeRecord) (recorded : fini
         l.0,
         l.1,
         whole image text w
-            ∙ same_until (leb_bytes s id r) (finite.entries l.0) n r.reserved few
+            ∙ same_until (leb_bytes s p.image_seq id r) (finite.entries l.0) n r.reserved few
             (λ i low high. nothing_at image w.0 w.1 l.0 l.1 i high (λ k is. next i k low is)),
       )
 
@@ -245,7 +245,7 @@ module _ (s : Sizes) (p : Placed) (id : ℕ) (r : VolumeRecord) (recorded : fini
       → Splits (volume_text s p id) (first_lebs s p id r n) (λ image text. Unit {0})
   dynamic_front n few image text w =
       let l = lebs_of image w.0 w.1 in
-      let g = kept_at (leb_bytes s id r) (finite.entries l.0) in
+      let g = kept_at (leb_bytes s p.image_seq id r) (finite.entries l.0) in
       let total : n + (r.reserved - n) ≡ r.reserved = omega arith in (
         flat_map g (range_with_len 0 n),
         flat_map g (range_with_len (0 + n) (r.reserved - n)),
@@ -260,16 +260,16 @@ module _ (s : Sizes) (p : Placed) (id : ℕ) (r : VolumeRecord) (recorded : fini
   module _ (k : Source) (a b c : Option (List ℕ)) (n l q : ℕ) (next : IsNextPlace p id n (Some (l, q)))
       (below : l < r.reserved) where
     pub dynamic_wrote : (done total more : ℕ) → Wrote k a b (first_lebs s p id r n) All done total
-        → Wrote k b c (dynamic_text s (data_pad s r) id l size q) All total more
+        → Wrote k b c (dynamic_text s p.image_seq (data_pad s r) id l size q) All total more
         → Wrote k a c (first_lebs s p id r (l + 1)) All done more
     dynamic_wrote done total more front back = wrote_more k a b c (first_lebs s p id r (l + 1)) (first_lebs s p id r n)
-        (dynamic_text s (data_pad s r) id l size q) done total more (dynamic_step n l q next below) front back
+        (dynamic_text s p.image_seq (data_pad s r) id l size q) done total more (dynamic_step n l q next below) front back
 
     pub dynamic_failed : (done total : ℕ) (e : StreamError) → Wrote k a b (first_lebs s p id r n) All done total
-        → IsWroteError s k b c (dynamic_text s (data_pad s r) id l size q) total e
+        → IsWroteError s k b c (dynamic_text s p.image_seq (data_pad s r) id l size q) total e
         → IsWroteError s k a c (volume_text s p id) done e
     dynamic_failed done total e front back =
         error_front k s a c (volume_text s p id) (first_lebs s p id r (l + 1)) (λ image text. Unit {0}) done e
         (dynamic_front (l + 1) (omega arith))
         (error_behind k s a b c (first_lebs s p id r (l + 1)) (first_lebs s p id r n)
-        (dynamic_text s (data_pad s r) id l size q) done total e (dynamic_step n l q next below) front back)
+        (dynamic_text s p.image_seq (data_pad s r) id l size q) done total e (dynamic_step n l q next below) front back)

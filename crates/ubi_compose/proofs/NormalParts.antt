@@ -25,37 +25,40 @@ use Rattle.ubi_volume.proofs.Received.{Splits, error_behind, error_front, wrote_
 module _ (s : Sizes) (p : Placed) (table : List ℕ) (bytes : table ≡ table_bytes p.records) where
   -- a copy of the table, and what follows the first
   abbrev pub copy_text : ℕ → Wanted
-  copy_text copy = laid_text s (plain kind.Dynamic 5 0 layout copy) table
+  copy_text copy = laid_text s p.image_seq (plain kind.Dynamic 5 0 layout copy) table
 
   abbrev pub rest_text : Wanted
   rest_text image text =
       (h : ArePlaces (image_of s image) p)
-      × (text ≡ laid_bytes s new_ec (layout_block h.meaning 1)
-      ++ flat_map (laid_bytes s new_ec) (normal.blocks_of s (finite.entries h.meaning.volumes)))
+      × (text ≡ laid_bytes s (new_ec p.image_seq) (layout_block h.meaning 1)
+      ++ flat_map (laid_bytes s (new_ec p.image_seq)) (normal.blocks_of s (finite.entries h.meaning.volumes)))
 
   copy_is : (image : List ℕ) (h : ArePlaces (image_of s image) p) (copy : ℕ)
-      → copy_text copy image (laid_bytes s new_ec (layout_block h.meaning copy))
+      → copy_text copy image (laid_bytes s (new_ec p.image_seq) (layout_block h.meaning copy))
   copy_is image h copy =
-      ap (λ x. laid_bytes s new_ec (record { header = plain kind.Dynamic 5 0 layout copy; text = x }))
+      ap (λ x. laid_bytes s (new_ec p.image_seq) (record { header = plain kind.Dynamic 5 0 layout copy; text = x }))
       (ap table_bytes (sym h.records) ∙ sym bytes)
 
-  whole : (m : Meant) → m.sizes ≡ s
-      → normal_bytes m ≡ laid_bytes s new_ec (layout_block m 0)
-      ++ (laid_bytes s new_ec (layout_block m 1) ++ flat_map (laid_bytes s new_ec)
+  whole : (m : Meant) → m.sizes ≡ s → p.image_seq ≡ m.image_seq
+      → normal_bytes m ≡ laid_bytes s (new_ec p.image_seq) (layout_block m 0)
+      ++ (laid_bytes s (new_ec p.image_seq) (layout_block m 1) ++ flat_map (laid_bytes s (new_ec p.image_seq))
       (normal.blocks_of s (finite.entries m.volumes)))
   unfolding normal_bytes
-  whole m sizes =
-      ap (λ z. laid_bytes z new_ec (layout_block m 0)
-      ++ (laid_bytes z new_ec (layout_block m 1) ++ flat_map (laid_bytes z new_ec)
+  whole m sizes named =
+      ap (λ z. laid_bytes z (new_ec m.image_seq) (layout_block m 0)
+      ++ (laid_bytes z (new_ec m.image_seq) (layout_block m 1) ++ flat_map (laid_bytes z (new_ec m.image_seq))
       (normal.blocks_of z (finite.entries m.volumes)))) sizes
+      ∙ ap (λ n. laid_bytes s (new_ec n) (layout_block m 0)
+      ++ (laid_bytes s (new_ec n) (layout_block m 1) ++ flat_map (laid_bytes s (new_ec n))
+      (normal.blocks_of s (finite.entries m.volumes)))) (sym named)
 
   normal_splits : Splits (normal_text s p) (copy_text 0) rest_text
   normal_splits image text w =
       let h = w.0 in (
-        laid_bytes s new_ec (layout_block h.meaning 0),
-        laid_bytes s new_ec (layout_block h.meaning 1) ++ flat_map (laid_bytes s new_ec)
+        laid_bytes s (new_ec p.image_seq) (layout_block h.meaning 0),
+        laid_bytes s (new_ec p.image_seq) (layout_block h.meaning 1) ++ flat_map (laid_bytes s (new_ec p.image_seq))
             (normal.blocks_of s (finite.entries h.meaning.volumes)),
-        w.1 ∙ whole h.meaning h.accepted.accepted.means.sizes,
+        w.1 ∙ whole h.meaning h.accepted.accepted.means.sizes h.image_seq,
         copy_is image h 0,
         (h, refl),
       )
@@ -63,8 +66,8 @@ module _ (s : Sizes) (p : Placed) (table : List ℕ) (bytes : table ≡ table_by
   rest_splits : Splits rest_text (copy_text 1) (volumes_text s p)
   rest_splits image text w =
       let h = w.0 in (
-        laid_bytes s new_ec (layout_block h.meaning 1),
-        flat_map (laid_bytes s new_ec) (normal.blocks_of s (finite.entries h.meaning.volumes)),
+        laid_bytes s (new_ec p.image_seq) (layout_block h.meaning 1),
+        flat_map (laid_bytes s (new_ec p.image_seq)) (normal.blocks_of s (finite.entries h.meaning.volumes)),
         w.1,
         copy_is image h 1,
         (h, refl),

@@ -26,7 +26,7 @@ abbrev ec_part : List ℕ
 ec_part = words (0x55424923 ∷ 0x01000000 ∷ 0 ∷ 0 ∷ 0x40 ∷ 0x80 ∷ 0 ∷ 0 ∷ 0 ∷ 0 ∷ 0 ∷ 0 ∷ 0 ∷ 0 ∷ 0 ∷ 0x7752b3c4 ∷ [])
 
 -- a spare eraseblock has nothing else
-spare_block : spare small ≡ ec_part ++ replicate 448 255
+spare_block : spare small 0 ≡ ec_part ++ replicate 448 255
 unfolding filled check_from remainder
 spare_block = refl
 
@@ -39,7 +39,7 @@ dynamic_volume : volume_blocks small 3 aligned (content.Dynamic (finite.from_ent
 unfolding aligned
 dynamic_volume = ap (map (dynamic_block 128 3)) (sorted_entries ((7, replicate 256 1) ∷ []) refl)
 
-dynamic_bytes : laid_bytes small new_ec (dynamic_block 128 3 (7, replicate 256 1)) ≡
+dynamic_bytes : laid_bytes small (new_ec 0) (dynamic_block 128 3 (7, replicate 256 1)) ≡
     ec_part
     ++ words (0x55424921 ∷ 0x01010000 ∷ 3 ∷ 7 ∷ 0 ∷ 0 ∷ 0 ∷ 0x80 ∷ 0 ∷ 0 ∷ 0 ∷ 0 ∷ 0 ∷ 0 ∷ 0 ∷ 0x084a74eb ∷ [])
     ++ replicate 256 1 ++ replicate 128 255
@@ -67,7 +67,7 @@ no_text : static_blocks 0 4 3 [] ≡ []
 no_text = refl
 
 -- the one eraseblock of a damaged volume
-damaged_bytes : laid_bytes small new_ec (damaged_block 0 5) ≡
+damaged_bytes : laid_bytes small (new_ec 0) (damaged_block 0 5) ≡
     ec_part
     ++ words (0x55424921 ∷ 0x01020000 ∷ 5 ∷ 0 ∷ 0 ∷ 1 ∷ 1 ∷ 0 ∷ 0 ∷ 0 ∷ 0 ∷ 0 ∷ 0 ∷ 0 ∷ 0 ∷ 0x7c1c6017 ∷ [])
     ++ replicate 384 255
@@ -76,7 +76,7 @@ damaged_bytes = refl
 
 -- the meaning without volumes: two copies of the empty table, 1024 bytes
 abbrev nothing : Meant
-nothing = record { sizes = small; volumes = finite.empty }
+nothing = record { sizes = small; image_seq = 0; volumes = finite.empty }
 
 no_record : (id : ℕ) → finite.get (records_of nothing).of id ≡ None
 no_record id = record_of nothing id ∙ ap (λ (o : Option Volume). option_map (λ (v : Volume). v.entry) o)
@@ -88,7 +88,7 @@ copy header =
 
 abbrev with_records : ℕ → Option VolumeRecord → Option VolumeRecord → List ℕ
 with_records number a b =
-    laid_bytes small new_ec
+    laid_bytes small (new_ec 0)
     (record (layout_block nothing number) { text = rec_bytes small a ++ (rec_bytes small b ++ []) })
 
 empty_image : normal_bytes nothing ≡
@@ -96,7 +96,7 @@ empty_image : normal_bytes nothing ≡
     ++ copy (0x55424921 ∷ 0x01010005 ∷ 0x7fffefff ∷ 1 ∷ 0 ∷ 0 ∷ 0 ∷ 0 ∷ 0 ∷ 0 ∷ 0 ∷ 0 ∷ 0 ∷ 0 ∷ 0 ∷ 0x1bb34ce4 ∷ [])
 unfolding normal_bytes rec_bytes filled empty_record fields_from check_from remainder
 empty_image =
-    ap (λ (es : List (ℕ × Volume)). flat_map (laid_bytes small new_ec)
+    ap (λ (es : List (ℕ × Volume)). flat_map (laid_bytes small (new_ec 0))
     (layout_block nothing 0 ∷ layout_block nothing 1 ∷ blocks_of small es)) no_entries
     ∙ ap₂ (λ a b. with_records 0 a b ++ (with_records 1 a b ++ [])) (no_record 0) (no_record 1)
 

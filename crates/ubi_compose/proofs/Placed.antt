@@ -40,37 +40,37 @@ vid_area_of s b start begin room =
     ∙ ap (λ n. slice_range b n (n + 64)) begin
 
 -- a piece whose check is the one that its header gave
-module _ (s : Sizes) (pad vol used lnum len crc : ℕ) (bytes b : List ℕ) (read : bytes ≡ b) (h : VidHeader)
+module _ (s : Sizes) (seq pad vol used lnum len crc : ℕ) (bytes b : List ℕ) (read : bytes ≡ b) (h : VidHeader)
     (header : h ≡ piece_header pad vol used lnum len crc) (given : (k : VidHeader) → vid s bytes ≡ vid_read.Valid k
     → crc ≡ k.data_crc) where
   abbrev text : List ℕ
   text = take len (leb s bytes)
 
   pub piece_is : (t : List ℕ) → len ≤ length (leb s bytes) → GivesCheck s b len
-      → t ≡ laid_bytes s new_ec (static_block pad vol used lnum (take len (leb s b)))
-      → t ≡ laid_bytes s new_ec (record { header = h; text = text })
+      → t ≡ laid_bytes s (new_ec seq) (static_block pad vol used lnum (take len (leb s b)))
+      → t ≡ laid_bytes s (new_ec seq) (record { header = h; text = text })
   piece_is t long right e =
       let same : take len (leb s b) ≡ text = ap (λ x. take len (leb s x)) (sym read) in
       let crcs : check text ≡ crc = sym (given right.0 (ap (vid s) read ∙ right.1) ∙ right.2 ∙ ap check same) in
-      let f = λ (n c : ℕ). laid_bytes s new_ec (record { header = piece_header pad vol used lnum n c; text = text }) in
-      e ∙ ap (λ x. laid_bytes s new_ec (static_block pad vol used lnum x)) same
+      let f = λ (n c : ℕ). laid_bytes s (new_ec seq) (record { header = piece_header pad vol used lnum n c; text = text }) in
+      e ∙ ap (λ x. laid_bytes s (new_ec seq) (static_block pad vol used lnum x)) same
       ∙ ap (λ n. f n (check text)) (length-take-le len (leb s bytes) long) ∙ ap (f len) crcs
-      ∙ ap (λ x. laid_bytes s new_ec (record { header = x; text = text })) (sym header)
+      ∙ ap (λ x. laid_bytes s (new_ec seq) (record { header = x; text = text })) (sym header)
 
-module _ (s : Sizes) (pad vol lnum len : ℕ) (behind leb part : List ℕ) (is : part ≡ take len behind)
+module _ (s : Sizes) (seq pad vol lnum len : ℕ) (behind leb part : List ℕ) (is : part ≡ take len behind)
     (read : behind ≡ leb) (h : VidHeader) (t : List ℕ) where
   same_part : part ≡ take len leb
   same_part = is ∙ ap (take len) read
 
-  pub nothing_is : is_blank part ≡ true → t ≡ kept_bytes s pad vol lnum (take len leb) → t ≡ []
-  nothing_is blank e = e ∙ ap (kept_bytes s pad vol lnum) (sym same_part)
-      ∙ ap (λ b. cond b [] (laid_bytes s new_ec (dynamic_block pad vol (lnum, part)))) blank
+  pub nothing_is : is_blank part ≡ true → t ≡ kept_bytes s seq pad vol lnum (take len leb) → t ≡ []
+  nothing_is blank e = e ∙ ap (kept_bytes s seq pad vol lnum) (sym same_part)
+      ∙ ap (λ b. cond b [] (laid_bytes s (new_ec seq) (dynamic_block pad vol (lnum, part)))) blank
 
   pub kept_is : is_blank part ≡ false → h ≡ plain kind.Dynamic 0 pad vol lnum
-      → t ≡ kept_bytes s pad vol lnum (take len leb)
-      → t ≡ laid_bytes s new_ec (record { header = h; text = take len behind })
+      → t ≡ kept_bytes s seq pad vol lnum (take len leb)
+      → t ≡ laid_bytes s (new_ec seq) (record { header = h; text = take len behind })
   kept_is other header e =
-      e ∙ ap (kept_bytes s pad vol lnum) (sym same_part)
-      ∙ ap (λ b. cond b [] (laid_bytes s new_ec (dynamic_block pad vol (lnum, part)))) other
-      ∙ ap (λ x. laid_bytes s new_ec (record { header = x; text = part })) (sym header)
-      ∙ ap (λ x. laid_bytes s new_ec (record { header = h; text = x })) is
+      e ∙ ap (kept_bytes s seq pad vol lnum) (sym same_part)
+      ∙ ap (λ b. cond b [] (laid_bytes s (new_ec seq) (dynamic_block pad vol (lnum, part)))) other
+      ∙ ap (λ x. laid_bytes s (new_ec seq) (record { header = x; text = part })) (sym header)
+      ∙ ap (λ x. laid_bytes s (new_ec seq) (record { header = h; text = x })) is

@@ -30,48 +30,48 @@ put_more f n front image next x before put is =
     ∙ ap (λ r. front ++ r) (ap (λ y. done ++ y) is ∙ sym (pieces_more f 0 n n (zero-add n)))
 
 -- the eraseblock of a share of a static text
-pub static_is : (s : Sizes) (pad size vol used lnum : ℕ) (h : VidHeader) (text part : List ℕ)
+pub static_is : (s : Sizes) (seq : ℕ) (pad size vol used lnum : ℕ) (h : VidHeader) (text part : List ℕ)
     → h ≡ (static_block pad vol used lnum part).header
-    → part ≡ share size text lnum → laid_bytes s new_ec (record { header = h; text = part })
-    ≡ laid_bytes s new_ec (static_block pad vol used lnum (share size text lnum))
-static_is s pad size vol used lnum h text part header is =
-    ap (λ x. laid_bytes s new_ec (record { header = x; text = part })) header
-    ∙ ap (λ t. laid_bytes s new_ec (static_block pad vol used lnum t)) is
+    → part ≡ share size text lnum → laid_bytes s (new_ec seq) (record { header = h; text = part })
+    ≡ laid_bytes s (new_ec seq) (static_block pad vol used lnum (share size text lnum))
+static_is s seq pad size vol used lnum h text part header is =
+    ap (λ x. laid_bytes s (new_ec seq) (record { header = x; text = part })) header
+    ∙ ap (λ t. laid_bytes s (new_ec seq) (static_block pad vol used lnum t)) is
 
 -- all shares of a static text
-pub static_all : (s : Sizes) (pad size vol used n : ℕ) (text : List ℕ) → used ≡ pieces size (length text) → n ≡ used
-    → flat_map (λ l. laid_bytes s new_ec (static_block pad vol used l (share size text l))) (range_with_len 0 n)
-    ≡ flat_map (laid_bytes s new_ec) (static_blocks pad size vol text)
-static_all s pad size vol used n text all last =
+pub static_all : (s : Sizes) (seq : ℕ) (pad size vol used n : ℕ) (text : List ℕ) → used ≡ pieces size (length text) → n ≡ used
+    → flat_map (λ l. laid_bytes s (new_ec seq) (static_block pad vol used l (share size text l))) (range_with_len 0 n)
+    ≡ flat_map (laid_bytes s (new_ec seq)) (static_blocks pad size vol text)
+static_all s seq pad size vol used n text all last =
     rw (last, all)
-    (sym (flat_map-map (laid_bytes s new_ec)
+    (sym (flat_map-map (laid_bytes s (new_ec seq))
     (λ l. static_block pad vol (pieces size (length text)) l (share size text l))
     (range_with_len 0 (pieces size (length text)))))
 
 -- the eraseblocks of the entries of a list
-abbrev pub dynamic_bytes : Sizes → ℕ → ℕ → List (ℕ × List ℕ) → List ℕ
-dynamic_bytes s pad vol es = flat_map (laid_bytes s new_ec) (map (dynamic_block pad vol) es)
+abbrev pub dynamic_bytes : Sizes → ℕ → ℕ → ℕ → List (ℕ × List ℕ) → List ℕ
+dynamic_bytes s seq pad vol es = flat_map (laid_bytes s (new_ec seq)) (map (dynamic_block pad vol) es)
 
 -- the next of them is there, and the others are to come
-pub put_next : (s : Sizes) (pad vol lnum : ℕ) (text image next all : List ℕ) (h : VidHeader) (es fs : List (ℕ × List ℕ))
+pub put_next : (s : Sizes) (seq : ℕ) (pad vol lnum : ℕ) (text image next all : List ℕ) (h : VidHeader) (es fs : List (ℕ × List ℕ))
     → es ≡ (lnum, text) ∷ fs
-    → h ≡ plain kind.Dynamic 0 pad vol lnum → next ≡ image ++ laid_bytes s new_ec (record { header = h; text = text })
-    → image ++ dynamic_bytes s pad vol es ≡ all → next ++ dynamic_bytes s pad vol fs ≡ all
-put_next s pad vol lnum text image next all h es fs e header put before =
-    let here : List ℕ = laid_bytes s new_ec (dynamic_block pad vol (lnum, text)) in
-    let rest : List ℕ = dynamic_bytes s pad vol fs in
-    ap (λ x. x ++ rest) (put ∙ ap (λ x. image ++ laid_bytes s new_ec (record { header = x; text = text })) header)
-    ∙ append_assoc image here rest ∙ ap (λ x. image ++ dynamic_bytes s pad vol x) (sym e) ∙ before
+    → h ≡ plain kind.Dynamic 0 pad vol lnum → next ≡ image ++ laid_bytes s (new_ec seq) (record { header = h; text = text })
+    → image ++ dynamic_bytes s seq pad vol es ≡ all → next ++ dynamic_bytes s seq pad vol fs ≡ all
+put_next s seq pad vol lnum text image next all h es fs e header put before =
+    let here : List ℕ = laid_bytes s (new_ec seq) (dynamic_block pad vol (lnum, text)) in
+    let rest : List ℕ = dynamic_bytes s seq pad vol fs in
+    ap (λ x. x ++ rest) (put ∙ ap (λ x. image ++ laid_bytes s (new_ec seq) (record { header = x; text = text })) header)
+    ∙ append_assoc image here rest ∙ ap (λ x. image ++ dynamic_bytes s seq pad vol x) (sym e) ∙ before
 
 -- the one eraseblock of a damaged volume
-pub damaged_is : (s : Sizes) (vol : ℕ) (r : VolumeRecord) (c : Content) (pad : ℕ) (h : VidHeader) → pad ≡ data_pad s r
+pub damaged_is : (s : Sizes) (seq : ℕ) (vol : ℕ) (r : VolumeRecord) (c : Content) (pad : ℕ) (h : VidHeader) → pad ≡ data_pad s r
     → h ≡ (damaged_block pad vol).header → c ≡ content.Damaged
-    → laid_bytes s new_ec (record { header = h; text = [] }) ≡ flat_map (laid_bytes s new_ec) (volume_blocks s vol r c)
-damaged_is s vol r c pad h padding header is =
-    ap (λ x. laid_bytes s new_ec (record { header = x; text = [] })) header
-    ∙ ap (λ n. laid_bytes s new_ec (damaged_block n vol)) padding
-    ∙ sym (append-nil (laid_bytes s new_ec (damaged_block (data_pad s r) vol)))
-    ∙ ap (λ x. flat_map (laid_bytes s new_ec) (volume_blocks s vol r x)) (sym is)
+    → laid_bytes s (new_ec seq) (record { header = h; text = [] }) ≡ flat_map (laid_bytes s (new_ec seq)) (volume_blocks s vol r c)
+damaged_is s seq vol r c pad h padding header is =
+    ap (λ x. laid_bytes s (new_ec seq) (record { header = x; text = [] })) header
+    ∙ ap (λ n. laid_bytes s (new_ec seq) (damaged_block n vol)) padding
+    ∙ sym (append-nil (laid_bytes s (new_ec seq) (damaged_block (data_pad s r) vol)))
+    ∙ ap (λ x. flat_map (laid_bytes s (new_ec seq)) (volume_blocks s vol r x)) (sym is)
 
 -- the eraseblocks of one volume more
 pub blocks_more : (s : Sizes) (es : List (ℕ × Volume)) (i : ℕ) (d : ℕ × Volume) → i < length es
@@ -105,12 +105,12 @@ static_count s vol r c text is =
 
 -- the table, the volumes and the spares, in order
 pub composed_pieces : (m : Meant) (spares : ℕ)
-    → (([] ++ laid_bytes m.sizes new_ec (layout_block m 0)) ++ laid_bytes m.sizes new_ec (layout_block m 1))
-    ++ flat_map (laid_bytes m.sizes new_ec) (blocks_of m.sizes (finite.entries m.volumes))
-    ++ flat_map (λ b. b) (replicate spares (spare m.sizes)) ≡ composed m spares
+    → (([] ++ laid_bytes m.sizes (new_ec m.image_seq) (layout_block m 0)) ++ laid_bytes m.sizes (new_ec m.image_seq) (layout_block m 1))
+    ++ flat_map (laid_bytes m.sizes (new_ec m.image_seq)) (blocks_of m.sizes (finite.entries m.volumes))
+    ++ flat_map (λ b. b) (replicate spares (spare m.sizes m.image_seq)) ≡ composed m spares
 unfolding normal_bytes
 composed_pieces m spares =
-    let first : List ℕ = laid_bytes m.sizes new_ec (layout_block m 0) in
-    let second : List ℕ = laid_bytes m.sizes new_ec (layout_block m 1) in
-    let rest : List ℕ = flat_map (laid_bytes m.sizes new_ec) (blocks_of m.sizes (finite.entries m.volumes)) in
-    ap (λ x. x ++ flat_map (λ b. b) (replicate spares (spare m.sizes))) (append_assoc first second rest)
+    let first : List ℕ = laid_bytes m.sizes (new_ec m.image_seq) (layout_block m 0) in
+    let second : List ℕ = laid_bytes m.sizes (new_ec m.image_seq) (layout_block m 1) in
+    let rest : List ℕ = flat_map (laid_bytes m.sizes (new_ec m.image_seq)) (blocks_of m.sizes (finite.entries m.volumes)) in
+    ap (λ x. x ++ flat_map (λ b. b) (replicate spares (spare m.sizes m.image_seq))) (append_assoc first second rest)

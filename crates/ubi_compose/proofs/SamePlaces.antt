@@ -236,9 +236,9 @@ module _ (s : Sizes) (p q : Placed) (x y : List ℕ) (h : ArePlaces (image_of s 
         take_more xs n d v.1 ∙ ap (λ a. a ++ get_or xs n d ∷ []) before
         ∙ ap (λ (z : ℕ × Volume). take n ys ++ z ∷ []) here ∙ sym (take_more ys n d w.1)
 
-  pub all_same : p.records ≡ q.records → (n : ℕ) → n ≡ length (finite.entries p.records.of)
+  pub all_same : p.image_seq ≡ q.image_seq → p.records ≡ q.records → (n : ℕ) → n ≡ length (finite.entries p.records.of)
       → take n (finite.entries h.meaning.volumes) ≡ take n (finite.entries k.meaning.volumes) → h.meaning ≡ k.meaning
-  all_same same n all are =
+  all_same named same n all are =
       let xs = finite.entries h.meaning.volumes in
       let ys = finite.entries k.meaning.volumes in
       let here : length xs ≡ n = sym (count s p x h) ∙ sym all in
@@ -249,4 +249,5 @@ module _ (s : Sizes) (p q : Placed) (x y : List ℕ) (h : ArePlaces (image_of s 
       same_entries_map h.meaning.volumes k.meaning.volumes lists in
       let sizes : h.meaning.sizes ≡ k.meaning.sizes = h.accepted.accepted.means.sizes
       ∙ sym k.accepted.accepted.means.sizes in
-      λ i. record { sizes = sizes i; volumes = volumes i }
+      let number : h.meaning.image_seq ≡ k.meaning.image_seq = sym h.image_seq ∙ named ∙ k.image_seq in
+      λ i. record { sizes = sizes i; image_seq = number i; volumes = volumes i }

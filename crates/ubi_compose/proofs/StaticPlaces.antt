@@ -37,7 +37,7 @@ use Rattle.ubi_volume.proofs.Received.{Splits, error_behind, error_front, wrote_
 abbrev pub first_pieces : Sizes → Placed → ℕ → VolumeRecord → ℕ → Wanted
 first_pieces s p id r n image text =
     (v : Volume) × IsVolumeOf s p id image v × (t : List ℕ) × (v.content ≡ content.Static t)
-    × (text ≡ flat_map (λ l. laid_bytes s new_ec (static_part (data_pad s r) (usable s r) id t l)) (range_with_len 0 n))
+    × (text ≡ flat_map (λ l. laid_bytes s (new_ec p.image_seq) (static_part (data_pad s r) (usable s r) id t l)) (range_with_len 0 n))
 
 module _ (s : Sizes) (p : Placed) (id : ℕ) (r : VolumeRecord) (recorded : finite.get p.records.of id ≡ Some r)
     (sound : rec_fault s r ≡ None) (lebs bytes : ℕ)
@@ -110,19 +110,19 @@ module _ (s : Sizes) (p : Placed) (id : ℕ) (r : VolumeRecord) (recorded : fini
             )
 
         block_is : (t : List ℕ) → v.content ≡ content.Static t
-            → laid_bytes s new_ec (static_part (data_pad s r) size id t n)
-            ≡ laid_bytes s new_ec (static_block (data_pad s r) id lebs n (take len (leb s (block bs q))))
+            → laid_bytes s (new_ec p.image_seq) (static_part (data_pad s r) size id t n)
+            ≡ laid_bytes s (new_ec p.image_seq) (static_block (data_pad s r) id lebs n (take len (leb s (block bs q))))
         block_is t e =
             let same : t ≡ text_of.0 = let f = text_of.1 in cc in
-            ap (λ x. laid_bytes s new_ec (static_part (data_pad s r) size id x n)) same
-            ∙ ap (λ k. laid_bytes s new_ec (static_block (data_pad s r) id k n (share size text_of.0 n))) text_of.2
-            ∙ ap (λ x. laid_bytes s new_ec (static_block (data_pad s r) id lebs n x)) share_is
+            ap (λ x. laid_bytes s (new_ec p.image_seq) (static_part (data_pad s r) size id x n)) same
+            ∙ ap (λ k. laid_bytes s (new_ec p.image_seq) (static_block (data_pad s r) id k n (share size text_of.0 n))) text_of.2
+            ∙ ap (λ x. laid_bytes s (new_ec p.image_seq) (static_block (data_pad s r) id lebs n x)) share_is
 
   -- one piece more
   pub static_step : (n l q len : ℕ) → n < lebs → IsNextPlace p id n (Some (l, q)) → len ≡ min size (bytes - n * size)
-      → Splits (first_pieces s p id r (n + 1)) (first_pieces s p id r n) (static_text s (data_pad s r) id lebs n len q)
+      → Splits (first_pieces s p id r (n + 1)) (first_pieces s p id r n) (static_text s p.image_seq (data_pad s r) id lebs n len q)
   static_step n l q len inside next long image text w =
-      let f = λ (l : ℕ). laid_bytes s new_ec (static_part (data_pad s r) size id w.2 l) in (
+      let f = λ (l : ℕ). laid_bytes s (new_ec p.image_seq) (static_part (data_pad s r) size id w.2 l) in (
         flat_map f (range_with_len 0 n),
         f n,
         w.4 ∙ pieces_more f 0 n n (zero-add n),
@@ -142,11 +142,11 @@ module _ (s : Sizes) (p : Placed) (id : ℕ) (r : VolumeRecord) (recorded : fini
         w.1,
         t.0,
         t.1,
-        w.2 ∙ ap (λ (x : VolumeRecord). flat_map (laid_bytes s new_ec) (volume_blocks s id x w.0.content)) entry
-            ∙ ap (λ (x : Content). flat_map (laid_bytes s new_ec) (volume_blocks s id r x)) t.1
-            ∙ flat_map-map (laid_bytes s new_ec) (static_part (data_pad s r) size id t.0)
+        w.2 ∙ ap (λ (x : VolumeRecord). flat_map (laid_bytes s (new_ec p.image_seq)) (volume_blocks s id x w.0.content)) entry
+            ∙ ap (λ (x : Content). flat_map (laid_bytes s (new_ec p.image_seq)) (volume_blocks s id r x)) t.1
+            ∙ flat_map-map (laid_bytes s (new_ec p.image_seq)) (static_part (data_pad s r) size id t.0)
             (range_with_len 0 (pieces size (length t.0)))
-            ∙ ap (λ n. flat_map (λ l. laid_bytes s new_ec (static_part (data_pad s r) size id t.0 l))
+            ∙ ap (λ n. flat_map (λ l. laid_bytes s (new_ec p.image_seq) (static_part (data_pad s r) size id t.0 l))
             (range_with_len 0 n)) t.2,
       )
 
@@ -154,7 +154,7 @@ module _ (s : Sizes) (p : Placed) (id : ℕ) (r : VolumeRecord) (recorded : fini
   pub static_front : (n : ℕ) → n ≤ lebs → Splits (volume_text s p id) (first_pieces s p id r n) (λ image text. Unit {0})
   static_front n few image text w =
       let all = static_all image text w in
-      let f = λ (l : ℕ). laid_bytes s new_ec (static_part (data_pad s r) size id all.2 l) in
+      let f = λ (l : ℕ). laid_bytes s (new_ec p.image_seq) (static_part (data_pad s r) size id all.2 l) in
       let cut = front_of f 0 n (lebs - n) in
       let total : n + (lebs - n) ≡ lebs = omega arith in (
         flat_map f (range_with_len 0 n),
@@ -169,18 +169,18 @@ module _ (s : Sizes) (p : Placed) (id : ℕ) (r : VolumeRecord) (recorded : fini
   module _ (k : Source) (a b c : Option (List ℕ)) (n l q len : ℕ) (inside : n < lebs)
       (next : IsNextPlace p id n (Some (l, q))) (long : len ≡ min size (bytes - n * size)) where
     pub static_wrote : (done total more : ℕ) → Wrote k a b (first_pieces s p id r n) All done total
-        → Wrote k b c (static_text s (data_pad s r) id lebs n len q) All total more
+        → Wrote k b c (static_text s p.image_seq (data_pad s r) id lebs n len q) All total more
         → Wrote k a c (first_pieces s p id r (n + 1)) All done more
     static_wrote done total more front back = wrote_more k a b c (first_pieces s p id r (n + 1))
-        (first_pieces s p id r n) (static_text s (data_pad s r) id lebs n len q) done total more
+        (first_pieces s p id r n) (static_text s p.image_seq (data_pad s r) id lebs n len q) done total more
         (static_step n l q len inside next long) front back
 
     pub static_failed : (done total : ℕ) (e : StreamError) → Wrote k a b (first_pieces s p id r n) All done total
-        → IsWroteError s k b c (static_text s (data_pad s r) id lebs n len q) total e
+        → IsWroteError s k b c (static_text s p.image_seq (data_pad s r) id lebs n len q) total e
         → IsWroteError s k a c (volume_text s p id) done e
     static_failed done total e front back =
         error_front k s a c (volume_text s p id) (first_pieces s p id r (n + 1)) (λ image text. Unit {0}) done e
         (static_front (n + 1) (omega arith))
         (error_behind k s a b c (first_pieces s p id r (n + 1)) (first_pieces s p id r n)
-        (static_text s (data_pad s r) id lebs n len q) done total e
+        (static_text s p.image_seq (data_pad s r) id lebs n len q) done total e
         (static_step n l q len inside next long) front back)

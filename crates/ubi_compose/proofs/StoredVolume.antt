@@ -51,7 +51,7 @@ module _ (s : Sizes) (p : Placed) (id : ℕ) (r : VolumeRecord) (recorded : fini
       → volume_text s p id image text → text ≡ []
   updating_text listed image text w =
       let case = case_is s p image w.1.places id r recorded w.0 w.1.at place.Updating listed in
-      w.2 ∙ ap (λ (x : Content). flat_map (laid_bytes s new_ec) (volume_blocks s id w.0.entry x))
+      w.2 ∙ ap (λ (x : Content). flat_map (laid_bytes s (new_ec p.image_seq)) (volume_blocks s id w.0.entry x))
       (is_updating w.0.content case)
     where
       is_updating : (c : Content) → case_of s r c ≡ place.Updating → c ≡ content.Updating
@@ -63,12 +63,12 @@ module _ (s : Sizes) (p : Placed) (id : ℕ) (r : VolumeRecord) (recorded : fini
   -- a damaged one has one
   pub damaged_text : (h : VidHeader) → h ≡ (damaged_block (data_pad s r) id).header
       → finite.get p.contents id ≡ Some place.Damaged → (image text : List ℕ) → volume_text s p id image text
-      → laid_text s h [] image text
+      → laid_text s p.image_seq h [] image text
   damaged_text h header listed image text w =
       let case = case_is s p image w.1.places id r recorded w.0 w.1.at place.Damaged listed in
       let entry : w.0.entry ≡ r = (reads_of s p image w.1.places id r recorded w.0 w.1.at).0 in
-      w.2 ∙ ap (λ (x : VolumeRecord). flat_map (laid_bytes s new_ec) (volume_blocks s id x w.0.content)) entry
-      ∙ sym (damaged_is s id r w.0.content (data_pad s r) h refl header (is_damaged w.0.content case))
+      w.2 ∙ ap (λ (x : VolumeRecord). flat_map (laid_bytes s (new_ec p.image_seq)) (volume_blocks s id x w.0.content)) entry
+      ∙ sym (damaged_is s p.image_seq id r w.0.content (data_pad s r) h refl header (is_damaged w.0.content case))
     where
       is_damaged : (c : Content) → case_of s r c ≡ place.Damaged → c ≡ content.Damaged
       is_damaged content.Updating e = absurd (cc)

@@ -37,7 +37,7 @@ use Rattle.ubi_volume.proofs.Received.{Splits, error_behind, error_front, wrote_
 abbrev pub first_volumes : Sizes → Placed → ℕ → Wanted
 first_volumes s p n image text =
     (h : ArePlaces (image_of s image) p)
-    × (text ≡ flat_map (laid_bytes s new_ec) (normal.blocks_of s (take n (finite.entries h.meaning.volumes))))
+    × (text ≡ flat_map (laid_bytes s (new_ec p.image_seq)) (normal.blocks_of s (take n (finite.entries h.meaning.volumes))))
 
 -- a table has no more records than slots
 pub few_records : (t : Records) → AreRecords t → length (finite.entries t.of) ≤ slots t.sizes
@@ -109,15 +109,15 @@ module _ (s : Sizes) (p : Placed) where
       let v = volume_at image h n e d inside is in
       let front : List Laid = normal.blocks_of s (take n es) in
       let back : List Laid = volume_blocks s x.0 x.1.entry x.1.content in (
-        flat_map (laid_bytes s new_ec) front,
-        flat_map (laid_bytes s new_ec) back,
-        w.1 ∙ ap (flat_map (laid_bytes s new_ec)) (blocks_more s es n d v.1)
-            ∙ flat_map-append (laid_bytes s new_ec) front back,
+        flat_map (laid_bytes s (new_ec p.image_seq)) front,
+        flat_map (laid_bytes s (new_ec p.image_seq)) back,
+        w.1 ∙ ap (flat_map (laid_bytes s (new_ec p.image_seq))) (blocks_more s es n d v.1)
+            ∙ flat_map-append (laid_bytes s (new_ec p.image_seq)) front back,
         (h, refl),
         (
           v.0,
           record { places = h; at = v.4 },
-          ap (λ (y : ℕ × Volume). flat_map (laid_bytes s new_ec) (volume_blocks s y.0 y.1.entry y.1.content)) v.2,
+          ap (λ (y : ℕ × Volume). flat_map (laid_bytes s (new_ec p.image_seq)) (volume_blocks s y.0 y.1.entry y.1.content)) v.2,
         ),
       )
 
@@ -126,7 +126,7 @@ module _ (s : Sizes) (p : Placed) where
   volumes_all n all image text w =
       let es = finite.entries w.0.meaning.volumes in (
         w.0,
-        w.1 ∙ ap (λ es. flat_map (laid_bytes s new_ec) (normal.blocks_of s es))
+        w.1 ∙ ap (λ es. flat_map (laid_bytes s (new_ec p.image_seq)) (normal.blocks_of s es))
             (sym (take_all n es (omega (arith, all, count image w.0)))),
       )
 
@@ -136,10 +136,10 @@ module _ (s : Sizes) (p : Placed) where
       let f = λ (e : ℕ × Volume). volume_blocks s e.0 e.1.entry e.1.content in
       let cut : normal.blocks_of s es ≡ normal.blocks_of s (take n es) ++ normal.blocks_of s (drop n es) =
       ap (flat_map f) (sym (take-append-drop n es)) ∙ flat_map-append f (take n es) (drop n es) in (
-        flat_map (laid_bytes s new_ec) (normal.blocks_of s (take n es)),
-        flat_map (laid_bytes s new_ec) (normal.blocks_of s (drop n es)),
-        w.1 ∙ ap (flat_map (laid_bytes s new_ec)) cut
-            ∙ flat_map-append (laid_bytes s new_ec) (normal.blocks_of s (take n es)) (normal.blocks_of s (drop n es)),
+        flat_map (laid_bytes s (new_ec p.image_seq)) (normal.blocks_of s (take n es)),
+        flat_map (laid_bytes s (new_ec p.image_seq)) (normal.blocks_of s (drop n es)),
+        w.1 ∙ ap (flat_map (laid_bytes s (new_ec p.image_seq))) cut
+            ∙ flat_map-append (laid_bytes s (new_ec p.image_seq)) (normal.blocks_of s (take n es)) (normal.blocks_of s (drop n es)),
         (w.0, refl),
         tt,
       )

@@ -7,9 +7,9 @@ use Rattle.ubi_volume.specs.declared.errors.MeaningCause.{MeaningCause}
 use Rattle.ubi_volume.proofs.FirstCause.{one_first}
 use Rattle.ubi_compose.specs.TextLaws.{ComesTo}
 
-pub one_answer : (s : Sizes) (text : List ℕ) (a b : Result Meant MeaningCause) → ComesTo s text a → ComesTo s text b
-    → a ≡ b
-one_answer s text (Ok m) (Ok n) p q = ap (λ (k : Meant). Ok k) (p.2 ∙ sym q.2)
-one_answer s text (Ok m) (Err d) p q = absurd (p.1 d q.1.stands)
-one_answer s text (Err c) (Ok n) p q = absurd (q.1 c p.1.stands)
-one_answer s text (Err c) (Err d) p q = ap (λ (k : MeaningCause). Err k) (one_first s _ c d p.1 q.1)
+pub one_answer : (s : Sizes) (seq : ℕ) (text : List ℕ) (a b : Result Meant MeaningCause) → ComesTo s seq text a
+    → ComesTo s seq text b → a ≡ b
+one_answer s seq text (Ok m) (Ok n) p q = ap (λ (k : Meant). Ok k) (p.2 ∙ sym q.2)
+one_answer s seq text (Ok m) (Err d) p q = absurd (p.1 d q.1.stands)
+one_answer s seq text (Err c) (Ok n) p q = absurd (q.1 c p.1.stands)
+one_answer s seq text (Err c) (Err d) p q = ap (λ (k : MeaningCause). Err k) (one_first s _ c d p.1 q.1)

@@ -12,13 +12,13 @@ use Rattle.ubi_compose.specs.declared.errors.ComposeError.TheVariants as compose
 use Rattle.ubi_compose.specs.declared.errors.SameError.{SameError}
 use Rattle.ubi_compose.specs.declared.errors.SameError.TheVariants as same
 
--- an eraseblock that is ready to be programmed: an erase-counter header, and 0xFF behind it
-abbrev pub spare : Sizes → List ℕ
-spare s = filled s.peb_size (ec_bytes s new_ec)
+-- an eraseblock that is ready to be programmed: an erase-counter header with the image sequence number, and 0xFF behind it
+abbrev pub spare : Sizes → ℕ → List ℕ
+spare s seq = filled s.peb_size (ec_bytes s (new_ec seq))
 
 -- the normal image, and behind it a number of spare eraseblocks
 abbrev pub composed : Meant → ℕ → List ℕ
-composed m spares = normal_bytes m ++ flat_map (λ b. b) (replicate spares (spare m.sizes))
+composed m spares = normal_bytes m ++ flat_map (λ b. b) (replicate spares (spare m.sizes m.image_seq))
 
 -- the device has room for them
 abbrev pub HasRoom : Meant → ℕ → Type 0

@@ -72,9 +72,9 @@ blocks_of s volumes = flat_map (λ v. volume_blocks s v.0 v.1.entry v.1.content)
 abbrev pub normal_blocks : Meant → List Laid
 normal_blocks m = layout_block m 0 ∷ layout_block m 1 ∷ blocks_of m.sizes (entries m.volumes)
 
--- an erase-counter header of the normal image
-abbrev pub new_ec : EcHeader
-new_ec = record { counter = 0; image_seq = 0 }
+-- an erase-counter header of the normal image, with its image sequence number
+abbrev pub new_ec : ℕ → EcHeader
+new_ec seq = record { counter = 0; image_seq = seq }
 
 -- the bytes of an eraseblock: each header and the text at its place, and 0xFF elsewhere
 abbrev pub laid_bytes : Sizes → EcHeader → Laid → List ℕ
@@ -83,7 +83,7 @@ laid_bytes s ec b =
 
 -- the bytes of the normal image
 unfoldable pub normal_bytes : Meant → List ℕ
-normal_bytes m = flat_map (laid_bytes m.sizes new_ec) (normal_blocks m)
+normal_bytes m = flat_map (laid_bytes m.sizes (new_ec m.image_seq)) (normal_blocks m)
 
 -- bytes are the normal image of what an image means
 abbrev pub IsNormalised : Image → List ℕ → Type 0

@@ -6,12 +6,14 @@ use Rattle.ubi_volume.specs.Meant.{Meant}
 use Rattle.ubi_volume.specs.declared.errors.MeaningCause.{MeaningCause}
 use Rattle.ubi_compose.specs.Spec.{first_cause, volumes_of}
 
--- what a text without a line at fault comes to: the meaning of its volumes, or the first cause for which they have none
-abbrev pub ComesTo : Sizes → List ℕ → Result Meant MeaningCause → Type 0
-ComesTo s text (Ok m) =
-    (first_cause s text ≡ None) × NoCause s (volumes_of s text) × (m ≡ meaning_of s (volumes_of s text))
-ComesTo s text (Err c) = (first_cause s text ≡ None) × IsFirst s (volumes_of s text) c
+-- what a text without a line at fault comes to: the meaning of its volumes with an image sequence number, or the first
+-- cause for which they have none
+abbrev pub ComesTo : Sizes → ℕ → List ℕ → Result Meant MeaningCause → Type 0
+ComesTo s seq text (Ok m) =
+    (first_cause s text ≡ None) × NoCause s (volumes_of s text) × (m ≡ meaning_of s seq (volumes_of s text))
+ComesTo s seq text (Err c) = (first_cause s text ≡ None) × IsFirst s (volumes_of s text) c
 
--- that is told by the text alone
+-- that is told by the text and the number alone
 abbrev pub OneAnswer : Type 0
-OneAnswer = (s : Sizes) (text : List ℕ) (a b : Result Meant MeaningCause) → ComesTo s text a → ComesTo s text b → a ≡ b
+OneAnswer = (s : Sizes) (seq : ℕ) (text : List ℕ) (a b : Result Meant MeaningCause) → ComesTo s seq text a
+    → ComesTo s seq text b → a ≡ b

@@ -5,7 +5,7 @@ ghost use Rattle.ubi_media.specs.Fields.{blank};
 ghost use Rattle.ubi_media.specs.Geometry.{leb_size};
 ghost use Rattle.ubi_compose.specs.Normal.{laid_bytes, new_ec};
 
-use crate::laying::NEW_EC;
+use crate::laying::new_ec;
 use ubi_media::{Geometry, VidHeader, write_ec, write_vid};
 
 /// Makes all bytes 0xFF but the first `len`.
@@ -26,19 +26,19 @@ fn put_front(part: &mut [u8], header: &[u8])
     rest.fill(0xFF);
 }
 
-/// Lays out an eraseblock in a buffer of its size, in which the first `len` bytes of the logical eraseblock stand
+/// Lays out an eraseblock with an image sequence number in a buffer of its size, in which the first `len` bytes of the logical eraseblock stand
 /// already.
-pub fn lay(buffer: &mut [u8], geometry: &Geometry, header: &VidHeader, len: usize)
+pub fn lay(buffer: &mut [u8], geometry: &Geometry, image_seq: u32, header: &VidHeader, len: usize)
     requires room { length buffer.old ≡ geometry.now.peb_size }
     requires text { len ≤ leb_size geometry.now }
-    ensures { buffer.new ≡ laid_bytes geometry.now new_ec (record { header = header.now; text = take len (drop geometry.now.data_offset buffer.old) }) }
+    ensures { buffer.new ≡ laid_bytes geometry.now (new_ec image_seq) (record { header = header.now; text = take len (drop geometry.now.data_offset buffer.old) }) }
 {
     let vid = geometry.vid_offset() as usize;
     let data = geometry.data_offset() as usize;
     prove!(geometry.data_offset() <= geometry.peb_size());
     let (headers, leb) = buffer.split_at_mut(data);
     let (first, second) = headers.split_at_mut(vid);
-    put_front(first, &write_ec(geometry, &NEW_EC));
+    put_front(first, &write_ec(geometry, &new_ec(image_seq)));
     put_front(second, &write_vid(header));
     blank_behind(leb, len);
 }

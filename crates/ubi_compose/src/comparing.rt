@@ -44,6 +44,9 @@ fn same_places<L: BlockSource, R: BlockSource>(
     ensures answer { IfOk result (λ answer. WhereBothHeld (L.known left.old) (R.known right.old) (λ x y. OfMeanings geometry.now here.now there.now x y (TellsMeaning answer))) }
     ensures failed { IfErr result (IsSidesError (blocks_in geometry.now (L.known left.old)) (blocks_in geometry.now (R.known right.old))) }
 {
+    if here.image_seq() != there.image_seq() {
+        return Ok(false);
+    }
     if !same_records(here.table(), there.table()) {
         return Ok(false);
     }

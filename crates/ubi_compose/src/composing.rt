@@ -10,7 +10,7 @@ ghost use Rattle.ubi_compose.specs.Normal.{IsNormalised, blocks_of, laid_bytes, 
 
 use crate::errors::ComposeError;
 use crate::header::plain;
-use crate::laying::{HEADER_SIZE, NEW_EC, put_blank, put_block};
+use crate::laying::{HEADER_SIZE, new_ec, put_blank, put_block};
 use crate::records::table_text;
 use crate::volume::{put_volume, volume_count};
 use std::alloc::{AllocError, Global};
@@ -34,48 +34,55 @@ fn block_count(meaning: &Meaning) -> usize
 
 /// Adds the two copies of the volume table.
 fn put_table(alloc: Global, image: &mut Vec<u8>, meaning: &Meaning) -> Result<(), AllocError>
-    ensures { OnOk result (image.new.items ≡ (image.old.items ++ laid_bytes meaning.now.sizes new_ec (layout_block meaning.now 0)) ++ laid_bytes meaning.now.sizes new_ec (layout_block meaning.now 1)) }
+    ensures { OnOk result (image.new.items ≡ (image.old.items ++ laid_bytes meaning.now.sizes (new_ec meaning.now.image_seq) (layout_block meaning.now 0)) ++ laid_bytes meaning.now.sizes (new_ec meaning.now.image_seq) (layout_block meaning.now 1)) }
 {
     let geometry = meaning.geometry();
+    let image_seq = meaning.image_seq();
     let text = table_text(alloc, meaning)?;
     let first = plain(VolKind::Dynamic, REJECT, 0, LAYOUT_VOLUME, 0);
     let second = plain(VolKind::Dynamic, REJECT, 0, LAYOUT_VOLUME, 1);
-    put_block(image, &geometry, &first, text.as_slice())?;
-    put_block(image, &geometry, &second, text.as_slice())
+    put_block(image, &geometry, image_seq, &first, text.as_slice())?;
+    put_block(image, &geometry, image_seq, &second, text.as_slice())
 }
 
 /// Adds the eraseblocks of the volumes.
 fn put_volumes(image: &mut Vec<u8>, meaning: &Meaning) -> Result<(), AllocError>
-    ensures { OnOk result (image.new.items ≡ image.old.items ++ flat_map (laid_bytes meaning.now.sizes new_ec) (blocks_of meaning.now.sizes (finite.entries meaning.now.volumes))) }
+    ensures { OnOk result (image.new.items ≡ image.old.items ++ flat_map (laid_bytes meaning.now.sizes (new_ec meaning.now.image_seq)) (blocks_of meaning.now.sizes (finite.entries meaning.now.volumes))) }
 {
     let geometry = meaning.geometry();
+    let image_seq = meaning.image_seq();
     let volumes = meaning.volumes();
     for numbered in volumes {
-        put_volume(image, &geometry, numbered)?;
+        put_volume(image, &geometry, image_seq, numbered)?;
     }
     Ok(())
 }
 
 /// Adds an eraseblock that is ready to be programmed: an erase-counter header, and 0xFF behind it.
-fn put_spare(image: &mut Vec<u8>, geometry: &Geometry) -> Result<(), AllocError>
-    ensures { OnOk result (image.new.items ≡ image.old.items ++ spare geometry.now) }
+fn put_spare(image: &mut Vec<u8>, geometry: &Geometry, image_seq: u32) -> Result<(), AllocError>
+    ensures { OnOk result (image.new.items ≡ image.old.items ++ spare geometry.now image_seq) }
 {
-    image.extend_from_slice(&write_ec(geometry, &NEW_EC))?;
+    image.extend_from_slice(&write_ec(geometry, &new_ec(image_seq)))?;
     put_blank(image, geometry.peb_size() - HEADER_SIZE)
 }
 
 /// Adds so many of them.
-fn put_spares(image: &mut Vec<u8>, geometry: &Geometry, count: u32) -> Result<(), AllocError>
-    ensures { OnOk result (image.new.items ≡ image.old.items ++ flat_map (λ b. b) (replicate count (spare geometry.now))) }
+fn put_spares(
+    image: &mut Vec<u8>,
+    geometry: &Geometry,
+    image_seq: u32,
+    count: u32,
+) -> Result<(), AllocError>
+    ensures { OnOk result (image.new.items ≡ image.old.items ++ flat_map (λ b. b) (replicate count (spare geometry.now image_seq))) }
 {
     for _ in 0..count {
-        put_spare(image, geometry)?;
+        put_spare(image, geometry, image_seq)?;
     }
     Ok(())
 }
 
 /// The normal image of a meaning, and behind it so many spare eraseblocks: each has an erase-counter header with counter
-/// 0, and is else 0xFF. It is accepted, with this meaning.
+/// 0 and the image sequence number, and is else 0xFF. It is accepted, with this meaning.
 ///
 /// # Errors
 ///
@@ -95,7 +102,7 @@ pub fn compose(alloc: Global, meaning: &Meaning, spares: u32) -> Result<Vec<u8>,
     let mut image = Vec::with_capacity(alloc, count * geometry.peb_size() as usize)?;
     put_table(alloc, &mut image, meaning)?;
     put_volumes(&mut image, meaning)?;
-    put_spares(&mut image, &geometry, spares)?;
+    put_spares(&mut image, &geometry, meaning.image_seq(), spares)?;
     Ok(image)
 }
 

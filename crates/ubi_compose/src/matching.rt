@@ -150,7 +150,7 @@ fn same_volume<L: BlockSource, R: BlockSource>(
     }
 }
 
-/// Whether the volumes of one table read the same.
+/// Whether two sources with one image sequence number and one table mean the same: whether their volumes read the same.
 ///
 /// # Errors
 ///
@@ -166,6 +166,7 @@ pub fn same_volumes<L: BlockSource, R: BlockSource>(
 ) -> Result<bool, SameFault>
     requires here { ArePlacesOf geometry.now (L.known left.old) here.now }
     requires there { ArePlacesOf geometry.now (R.known right.old) there.now }
+    requires named { here.now.image_seq ≡ there.now.image_seq }
     requires same { here.now.records ≡ there.now.records }
     requires one { length one.old ≡ geometry.now.peb_size }
     requires other { length other.old ≡ geometry.now.peb_size }

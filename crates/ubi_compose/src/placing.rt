@@ -28,6 +28,7 @@ use ubi_volume::write_all;
 /// How many bytes were written before a write failed.
 fn put_laid<W: Write>(
     geometry: &Geometry,
+    image_seq: u32,
     header: &VidHeader,
     len: usize,
     buffer: &mut [u8],
@@ -35,12 +36,12 @@ fn put_laid<W: Write>(
 ) -> Result<(), usize>
     requires room { length buffer.old ≡ geometry.now.peb_size }
     requires text { len ≤ leb_size geometry.now }
-    ensures ok { OnOk result (Appends (W.contents writer.old) (W.contents writer.new) (laid_bytes geometry.now new_ec (record { header = header.now; text = take len (drop geometry.now.data_offset buffer.old) }))) }
-    ensures err { IfErr result (λ n. Appends (W.contents writer.old) (W.contents writer.new) (take n (laid_bytes geometry.now new_ec (record { header = header.now; text = take len (drop geometry.now.data_offset buffer.old) })))) }
+    ensures ok { OnOk result (Appends (W.contents writer.old) (W.contents writer.new) (laid_bytes geometry.now (new_ec image_seq) (record { header = header.now; text = take len (drop geometry.now.data_offset buffer.old) }))) }
+    ensures err { IfErr result (λ n. Appends (W.contents writer.old) (W.contents writer.new) (take n (laid_bytes geometry.now (new_ec image_seq) (record { header = header.now; text = take len (drop geometry.now.data_offset buffer.old) })))) }
     ensures short { IfErr result (λ n. n < geometry.now.peb_size) }
-    ensures long { length (laid_bytes geometry.now new_ec (record { header = header.now; text = take len (drop geometry.now.data_offset buffer.old) })) ≡ geometry.now.peb_size }
+    ensures long { length (laid_bytes geometry.now (new_ec image_seq) (record { header = header.now; text = take len (drop geometry.now.data_offset buffer.old) })) ≡ geometry.now.peb_size }
 {
-    lay(buffer, geometry, header, len);
+    lay(buffer, geometry, image_seq, header, len);
     write_all(writer, buffer)
 }
 
@@ -103,6 +104,7 @@ fn fill(buffer: &mut [u8], begin: usize, text: &[u8])
 /// How many bytes were written before a write failed.
 pub fn put_text<W: Write>(
     geometry: &Geometry,
+    image_seq: u32,
     header: &VidHeader,
     text: &[u8],
     buffer: &mut [u8],
@@ -112,14 +114,14 @@ pub fn put_text<W: Write>(
     requires room { length buffer.old ≡ geometry.now.peb_size }
     requires text { length text.now ≤ leb_size geometry.now }
     requires few { done + geometry.now.peb_size < 2 ^ 64 }
-    ensures written { IfOk result (λ n. (k : Source) → Wrote k (W.contents writer.old) (W.contents writer.new) (laid_text geometry.now header.now text.now) All done n) }
+    ensures written { IfOk result (λ n. (k : Source) → Wrote k (W.contents writer.old) (W.contents writer.new) (laid_text geometry.now image_seq header.now text.now) All done n) }
     ensures least { IfOk result (λ n. n ≡ done + geometry.now.peb_size) }
-    ensures failed { IfErr result (λ n. (k : Source) → Wrote k (W.contents writer.old) (W.contents writer.new) (laid_text geometry.now header.now text.now) NotAll done n) }
+    ensures failed { IfErr result (λ n. (k : Source) → Wrote k (W.contents writer.old) (W.contents writer.new) (laid_text geometry.now image_seq header.now text.now) NotAll done n) }
 {
     let data = geometry.data_offset() as usize;
     prove!(geometry.data_offset() <= geometry.peb_size());
     fill(buffer, data, text);
-    match put_laid(geometry, header, text.len(), buffer, writer) {
+    match put_laid(geometry, image_seq, header, text.len(), buffer, writer) {
         Ok(()) => Ok(done + u64::from(geometry.peb_size())),
         Err(more) => Err(done + more as u64),
     }
@@ -136,6 +138,7 @@ pub fn put_piece<S: BlockSource, W: Write>(
     geometry: &Geometry,
     source: &mut S,
     p: u32,
+    image_seq: u32,
     data_pad: u32,
     id: u32,
     used: u32,
@@ -150,9 +153,9 @@ pub fn put_piece<S: BlockSource, W: Write>(
     requires text { len ≤ leb_size geometry.now }
     requires few { done + geometry.now.peb_size < 2 ^ 64 }
     ensures known { S.known source.new ≡ after (S.known source.old) result }
-    ensures written { IfOk result (Wrote (S.known source.old) (W.contents writer.old) (W.contents writer.new) (static_text geometry.now data_pad id used lnum len p) All done) }
+    ensures written { IfOk result (Wrote (S.known source.old) (W.contents writer.old) (W.contents writer.new) (static_text geometry.now image_seq data_pad id used lnum len p) All done) }
     ensures least { IfOk result (λ n. n ≡ done + geometry.now.peb_size) }
-    ensures failed { IfErr result (IsWroteError geometry.now (S.known source.old) (W.contents writer.old) (W.contents writer.new) (static_text geometry.now data_pad id used lnum len p) done) }
+    ensures failed { IfErr result (IsWroteError geometry.now (S.known source.old) (W.contents writer.old) (W.contents writer.new) (static_text geometry.now image_seq data_pad id used lnum len p) done) }
 {
     match fetch(geometry, source, p, buffer) {
         Ok(()) => {}
@@ -161,7 +164,7 @@ pub fn put_piece<S: BlockSource, W: Write>(
     prove!(geometry.data_offset() <= geometry.peb_size());
     let check = given_check(geometry, buffer);
     let header = piece_header(data_pad, id, used, lnum, len as u32, check);
-    match put_laid(geometry, &header, len, buffer, writer) {
+    match put_laid(geometry, image_seq, &header, len, buffer, writer) {
         Ok(()) => Ok(done + u64::from(geometry.peb_size())),
         Err(more) => Err(StreamError::Write(done + more as u64)),
     }
@@ -177,6 +180,7 @@ pub fn put_unless_blank<S: BlockSource, W: Write>(
     geometry: &Geometry,
     source: &mut S,
     p: u32,
+    image_seq: u32,
     data_pad: u32,
     id: u32,
     lnum: u32,
@@ -190,9 +194,9 @@ pub fn put_unless_blank<S: BlockSource, W: Write>(
     requires text { size ≤ leb_size geometry.now }
     requires few { done + geometry.now.peb_size < 2 ^ 64 }
     ensures known { S.known source.new ≡ after (S.known source.old) result }
-    ensures written { IfOk result (Wrote (S.known source.old) (W.contents writer.old) (W.contents writer.new) (dynamic_text geometry.now data_pad id lnum size p) All done) }
+    ensures written { IfOk result (Wrote (S.known source.old) (W.contents writer.old) (W.contents writer.new) (dynamic_text geometry.now image_seq data_pad id lnum size p) All done) }
     ensures most { IfOk result (λ n. n ≤ done + geometry.now.peb_size) }
-    ensures failed { IfErr result (IsWroteError geometry.now (S.known source.old) (W.contents writer.old) (W.contents writer.new) (dynamic_text geometry.now data_pad id lnum size p) done) }
+    ensures failed { IfErr result (IsWroteError geometry.now (S.known source.old) (W.contents writer.old) (W.contents writer.new) (dynamic_text geometry.now image_seq data_pad id lnum size p) done) }
 {
     match fetch(geometry, source, p, buffer) {
         Ok(()) => {}
@@ -204,7 +208,7 @@ pub fn put_unless_blank<S: BlockSource, W: Write>(
         return Ok(done);
     }
     let header = plain(VolKind::Dynamic, 0, data_pad, id, lnum);
-    match put_laid(geometry, &header, size, buffer, writer) {
+    match put_laid(geometry, image_seq, &header, size, buffer, writer) {
         Ok(()) => Ok(done + u64::from(geometry.peb_size())),
         Err(more) => Err(StreamError::Write(done + more as u64)),
     }

@@ -49,6 +49,7 @@ fn put_static<S: BlockSource, W: Write>(
     ensures most { IfOk result (λ n. n ≤ done + lebs * geometry.now.peb_size) }
     ensures failed { IfErr result (IsWroteError geometry.now (S.known source.old) (W.contents writer.old) (W.contents writer.new) (volume_text geometry.now places.now id) done) }
 {
+    let image_seq = places.image_seq();
     let data_pad = entry.data_pad(geometry);
     let size = entry.usable(geometry);
     let extent = Extent { lebs, size, bytes };
@@ -60,7 +61,7 @@ fn put_static<S: BlockSource, W: Write>(
         };
         let len = extent.share_len(lnum);
         total = put_piece(
-            geometry, source, p, data_pad, id, lebs, lnum, len, buffer, writer, total,
+            geometry, source, p, image_seq, data_pad, id, lebs, lnum, len, buffer, writer, total,
         )?;
     }
     Ok(total)
@@ -93,13 +94,14 @@ fn put_dynamic<S: BlockSource, W: Write>(
     ensures most { IfOk result (λ n. n ≤ done + entry.now.reserved * geometry.now.peb_size) }
     ensures failed { IfErr result (IsWroteError geometry.now (S.known source.old) (W.contents writer.old) (W.contents writer.new) (volume_text geometry.now places.now id) done) }
 {
+    let image_seq = places.image_seq();
     let data_pad = entry.data_pad(geometry);
     let size = entry.usable(geometry) as usize;
     let mut total = done;
     let mut from = 0;
     while let Some((lnum, p)) = places.next_place(id, from) {
         total = put_unless_blank(
-            geometry, source, p, data_pad, id, lnum, size, buffer, writer, total,
+            geometry, source, p, image_seq, data_pad, id, lnum, size, buffer, writer, total,
         )?;
         from = lnum + 1;
     }
@@ -135,7 +137,15 @@ pub fn put_volume<S: BlockSource, W: Write>(
         PlaceContent::Updating => Ok(done),
         PlaceContent::Damaged => {
             let header = damaged_header(entry.data_pad(geometry), id);
-            match put_text(geometry, &header, &[], buffer, writer, done) {
+            match put_text(
+                geometry,
+                places.image_seq(),
+                &header,
+                &[],
+                buffer,
+                writer,
+                done,
+            ) {
                 Ok(total) => Ok(total),
                 Err(total) => Err(StreamError::Write(total)),
             }

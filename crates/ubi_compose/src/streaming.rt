@@ -33,6 +33,7 @@ use ubi_volume::{Places, attach_places};
 /// A write failed.
 fn put_copy<W: Write>(
     geometry: &Geometry,
+    image_seq: u32,
     copy: u32,
     text: &[u8],
     buffer: &mut [u8],
@@ -43,12 +44,12 @@ fn put_copy<W: Write>(
     requires text { length text.now ≤ leb_size geometry.now }
     requires few { done + geometry.now.peb_size < 2 ^ 64 }
     ensures known { (k : Source) → after k result ≡ k }
-    ensures written { IfOk result (λ n. (k : Source) → Wrote k (W.contents writer.old) (W.contents writer.new) (laid_text geometry.now (plain kind.Dynamic 5 0 layout copy) text.now) All done n) }
+    ensures written { IfOk result (λ n. (k : Source) → Wrote k (W.contents writer.old) (W.contents writer.new) (laid_text geometry.now image_seq (plain kind.Dynamic 5 0 layout copy) text.now) All done n) }
     ensures least { IfOk result (λ n. n ≡ done + geometry.now.peb_size) }
-    ensures failed { IfErr result (λ e. (k : Source) → IsWroteError geometry.now k (W.contents writer.old) (W.contents writer.new) (laid_text geometry.now (plain kind.Dynamic 5 0 layout copy) text.now) done e) }
+    ensures failed { IfErr result (λ e. (k : Source) → IsWroteError geometry.now k (W.contents writer.old) (W.contents writer.new) (laid_text geometry.now image_seq (plain kind.Dynamic 5 0 layout copy) text.now) done e) }
 {
     let header = plain(VolKind::Dynamic, REJECT, 0, LAYOUT_VOLUME, copy);
-    match put_text(geometry, &header, text, buffer, writer, done) {
+    match put_text(geometry, image_seq, &header, text, buffer, writer, done) {
         Ok(total) => Ok(total),
         Err(total) => Err(StreamError::Write(total)),
     }
@@ -106,8 +107,9 @@ fn put_image<S: BlockSource, W: Write>(
     ensures failed { IfErr result (IsWroteError geometry.now (S.known source.old) (W.contents writer.old) (W.contents writer.new) (normal_text geometry.now places.now) 0) }
 {
     prove!(geometry.peb_size() >= 64);
-    let first = put_copy(geometry, 0, text, buffer, writer, 0)?;
-    let second = put_copy(geometry, 1, text, buffer, writer, first)?;
+    let image_seq = places.image_seq();
+    let first = put_copy(geometry, image_seq, 0, text, buffer, writer, 0)?;
+    let second = put_copy(geometry, image_seq, 1, text, buffer, writer, first)?;
     put_volumes(geometry, source, places, buffer, writer, second)
 }
 

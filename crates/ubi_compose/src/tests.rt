@@ -1,6 +1,7 @@
 mod comparing;
 mod composing;
 mod images;
+mod large;
 mod memory;
 mod parsing;
 mod shown;

@@ -36,6 +36,7 @@ fn share_of(text: &[u8], size: u32, lnum: u32) -> &[u8]
 fn put_static(
     image: &mut Vec<u8>,
     geometry: &Geometry,
+    image_seq: u32,
     data_pad: u32,
     size: u32,
     vol_id: u32,
@@ -44,13 +45,13 @@ fn put_static(
     requires some { 1 ≤ size }
     requires fits { size ≤ leb_size geometry.now }
     requires few { length text.now ≤ 2 ^ 31 * size }
-    ensures { OnOk result (image.new.items ≡ image.old.items ++ flat_map (laid_bytes geometry.now new_ec) (static_blocks data_pad size vol_id text.now)) }
+    ensures { OnOk result (image.new.items ≡ image.old.items ++ flat_map (laid_bytes geometry.now (new_ec image_seq)) (static_blocks data_pad size vol_id text.now)) }
 {
     let used_ebs = pieces(text, size);
     for lnum in 0..used_ebs {
         let part = share_of(text, size, lnum);
         let header = static_header(data_pad, vol_id, used_ebs, lnum, part);
-        put_block(image, geometry, &header, part)?;
+        put_block(image, geometry, image_seq, &header, part)?;
     }
     Ok(())
 }
@@ -59,16 +60,17 @@ fn put_static(
 fn put_dynamic(
     image: &mut Vec<u8>,
     geometry: &Geometry,
+    image_seq: u32,
     data_pad: u32,
     vol_id: u32,
     lebs: &Lebs,
 ) -> Result<(), AllocError>
     requires { AllByRecursion (λ e. length e.1 ≤ leb_size geometry.now) (finite.entries lebs.now) }
-    ensures { OnOk result (image.new.items ≡ image.old.items ++ flat_map (laid_bytes geometry.now new_ec) (map (dynamic_block data_pad vol_id) (finite.entries lebs.now))) }
+    ensures { OnOk result (image.new.items ≡ image.old.items ++ flat_map (laid_bytes geometry.now (new_ec image_seq)) (map (dynamic_block data_pad vol_id) (finite.entries lebs.now))) }
 {
     for (lnum, text) in lebs.iter() {
         let header = plain(VolKind::Dynamic, 0, data_pad, vol_id, *lnum);
-        put_block(image, geometry, &header, text.as_slice())?;
+        put_block(image, geometry, image_seq, &header, text.as_slice())?;
     }
     Ok(())
 }
@@ -91,20 +93,32 @@ pub fn volume_count(geometry: &Geometry, numbered: &(u32, Volume)) -> usize
 pub fn put_volume(
     image: &mut Vec<u8>,
     geometry: &Geometry,
+    image_seq: u32,
     numbered: &(u32, Volume),
 ) -> Result<(), AllocError>
     requires { IsVolume geometry.now numbered.now.0 numbered.now.1 }
-    ensures { OnOk result (image.new.items ≡ image.old.items ++ flat_map (laid_bytes geometry.now new_ec) (volume_blocks geometry.now numbered.now.0 numbered.now.1.entry numbered.now.1.content)) }
+    ensures { OnOk result (image.new.items ≡ image.old.items ++ flat_map (laid_bytes geometry.now (new_ec image_seq)) (volume_blocks geometry.now numbered.now.0 numbered.now.1.entry numbered.now.1.content)) }
 {
     let (id, volume) = numbered;
     let data_pad = volume.entry.data_pad(geometry);
     match &volume.content {
         Content::Updating => Ok(()),
-        Content::Damaged => put_block(image, geometry, &damaged_header(data_pad, *id), &[]),
+        Content::Damaged => {
+            let header = damaged_header(data_pad, *id);
+            put_block(image, geometry, image_seq, &header, &[])
+        }
         Content::Static(text) => {
             let size = volume.entry.usable(geometry);
-            put_static(image, geometry, data_pad, size, *id, text.as_slice())
+            put_static(
+                image,
+                geometry,
+                image_seq,
+                data_pad,
+                size,
+                *id,
+                text.as_slice(),
+            )
         }
-        Content::Dynamic(lebs) => put_dynamic(image, geometry, data_pad, *id, lebs),
+        Content::Dynamic(lebs) => put_dynamic(image, geometry, image_seq, data_pad, *id, lebs),
     }
 }

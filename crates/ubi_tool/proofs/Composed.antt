@@ -48,31 +48,31 @@ composed_of m spares o p a (fits room ok h) (crowded many k) g = absurd (omega (
 composed_of m spares o p a (crowded many h) (fits room ok k) g = absurd (omega (arith, room, many))
 composed_of m spares o p a (crowded many h) (crowded more k) g = one_text o p a _ g h k
 
--- what composing answers is a function of the text and the number of spares
-pub one_composed : (s : Sizes) (text : List ℕ) (spares : ℕ) (o p : Outcome) (a : Answer)
-    → Composes s text spares o → Composes s text spares p → Gives o a → Gives p a
-one_composed s text spares o p a (described m d x) (described n e y) g =
+-- what composing answers is a function of the text, the number of spares and the image sequence number
+pub one_composed : (s : Sizes) (text : List ℕ) (spares seq : ℕ) (o p : Outcome) (a : Answer)
+    → Composes s text spares seq o → Composes s text spares seq p → Gives o a → Gives p a
+one_composed s text spares seq o p a (described m d x) (described n e y) g =
     composed_of m spares o p a x (subst (λ k. ComposesOf k spares p) (e.2 ∙ sym d.2) y) g
-one_composed s text spares o p a (described m d x) (unread line c e k) g = absurd (let h = sym d.0 ∙ e in cc)
-one_composed s text spares o p a (described m d x) (unmade c is k) g = absurd (d.1 c is.1.stands)
-one_composed s text spares o p a (unread line c e h) (described n d y) g = absurd (let k = sym d.0 ∙ e in cc)
-one_composed s text spares o p a (unread line c e h) (unread other b f k) g =
+one_composed s text spares seq o p a (described m d x) (unread line c e k) g = absurd (let h = sym d.0 ∙ e in cc)
+one_composed s text spares seq o p a (described m d x) (unmade c is k) g = absurd (d.1 c is.1.stands)
+one_composed s text spares seq o p a (unread line c e h) (described n d y) g = absurd (let k = sym d.0 ∙ e in cc)
+one_composed s text spares seq o p a (unread line c e h) (unread other b f k) g =
     let one : (line, c) ≡ (other, b) = same_Some (line, c) (other, b) (sym e ∙ f) in
     one_text o p a _ g h (subst (λ (x : ℕ × SpecCause). Gives p (says (spec_line x.0 x.1) 1)) (sym one) k)
-one_composed s text spares o p a (unread line c e h) (unmade b is k) g = absurd (let x = sym e ∙ is.0 in cc)
-one_composed s text spares o p a (unmade c is h) (described n d y) g = absurd (d.1 c is.1.stands)
-one_composed s text spares o p a (unmade c is h) (unread line b f k) g = absurd (let x = sym is.0 ∙ f in cc)
-one_composed s text spares o p a (unmade c is h) (unmade b other k) g =
+one_composed s text spares seq o p a (unread line c e h) (unmade b is k) g = absurd (let x = sym e ∙ is.0 in cc)
+one_composed s text spares seq o p a (unmade c is h) (described n d y) g = absurd (d.1 c is.1.stands)
+one_composed s text spares seq o p a (unmade c is h) (unread line b f k) g = absurd (let x = sym is.0 ∙ f in cc)
+one_composed s text spares seq o p a (unmade c is h) (unmade b other k) g =
     let one : c ≡ b = one_first s (volumes_of s text) c b is.1 other.1 in
     one_text o p a _ g h (subst (λ (x : MeaningCause). Gives p (says (meaning_line x) 1)) (sym one) k)
 
-pub lists_composed : (s : Sizes) (text bytes : List ℕ) (spares : ℕ) (o p : Outcome)
-    → Composes s text spares o → option_map (λ v. v.items) o.file ≡ Some bytes → Lists (image_of s bytes) p
-    → (m : Meant) × ComesTo s text (Ok m) × Gives p (says (list_lines m) 0)
-lists_composed s text bytes spares o p (described m d of_m) e l =
+pub lists_composed : (s : Sizes) (text bytes : List ℕ) (spares seq : ℕ) (o p : Outcome)
+    → Composes s text spares seq o → option_map (λ v. v.items) o.file ≡ Some bytes → Lists (image_of s bytes) p
+    → (m : Meant) × ComesTo s seq text (Ok m) × Gives p (says (list_lines m) 0)
+lists_composed s text bytes spares seq o p (described m d of_m) e l =
     let sizes : m.sizes ≡ s = ap (λ k. k.sizes) d.2 in
     let a : Accepts (image_of s bytes) m = subst (λ i. Accepts i m) (same_sizes m.sizes s bytes sizes)
     (file_accepted m spares o bytes of_m e) in
     (m, d, listed (image_of s bytes) m p a l)
-lists_composed s text bytes spares o p (unread line c is gives) e l = absurd (let h = sym gives.file ∙ e in cc)
-lists_composed s text bytes spares o p (unmade c is gives) e l = absurd (let h = sym gives.file ∙ e in cc)
+lists_composed s text bytes spares seq o p (unread line c is gives) e l = absurd (let h = sym gives.file ∙ e in cc)
+lists_composed s text bytes spares seq o p (unmade c is gives) e l = absurd (let h = sym gives.file ∙ e in cc)

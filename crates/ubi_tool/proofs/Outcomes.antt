@@ -37,19 +37,19 @@ room_with_file m spares o (fits room a gives) some = room
 room_with_file m spares o (crowded many gives) some = absurd (no_file o.file gives.file some)
 
 -- and where a text describes it
-described_with_file : (s : Sizes) (text : List ℕ) (spares : ℕ) (o : Outcome) → Composes s text spares o → IsSome o.file
-    → (m : Meant) × ComesTo s text (Ok m) × HasRoom m spares
-described_with_file s text spares o (described m d of_m) some = (m, d, room_with_file m spares o of_m some)
-described_with_file s text spares o (unread line c e gives) some = absurd (no_file o.file gives.file some)
-described_with_file s text spares o (unmade c is gives) some = absurd (no_file o.file gives.file some)
+described_with_file : (s : Sizes) (text : List ℕ) (spares seq : ℕ) (o : Outcome) → Composes s text spares seq o → IsSome o.file
+    → (m : Meant) × ComesTo s seq text (Ok m) × HasRoom m spares
+described_with_file s text spares seq o (described m d of_m) some = (m, d, room_with_file m spares o of_m some)
+described_with_file s text spares seq o (unread line c e gives) some = absurd (no_file o.file gives.file some)
+described_with_file s text spares seq o (unmade c is gives) some = absurd (no_file o.file gives.file some)
 
 -- composing, and then writing the file
-pub composes_into : (s : Sizes) (text : List ℕ) (spares : ℕ) (out : List ℕ) (work o : Outcome)
-    → Composes s text spares work → WritesFile out work o
-    → ComposesInto out s text spares o
-composes_into s text spares out work o n program.written = compose.written n
-composes_into s text spares out work o n (program.unwritten some gives) =
-    let h = described_with_file s text spares work n some in
+pub composes_into : (s : Sizes) (text : List ℕ) (spares seq : ℕ) (out : List ℕ) (work o : Outcome)
+    → Composes s text spares seq work → WritesFile out work o
+    → ComposesInto out s text spares seq o
+composes_into s text spares seq out work o n program.written = compose.written n
+composes_into s text spares seq out work o n (program.unwritten some gives) =
+    let h = described_with_file s text spares seq work n some in
     compose.unwritten h.0 h.1 h.2 gives
 
 -- a file is there only where a change is planned

@@ -16,7 +16,7 @@ command_name (request.List _ _) = codes "list"
 command_name (request.Check _ _) = codes "check"
 command_name (request.Show _ _ _) = codes "show"
 command_name (request.Extract _ _ _ _) = codes "extract"
-command_name (request.Compose _ _ _ _) = codes "compose"
+command_name (request.Compose _ _ _ _ _) = codes "compose"
 command_name (request.Normalise _ _ _) = codes "normalise"
 command_name (request.Same _ _ _) = codes "same"
 command_name (request.Change _ _ _) = codes "change"
@@ -71,8 +71,9 @@ Asks words (request.Show numbers image block) = AsksNumbers words numbers × Has
     × HasNumber words (codes "block") block
 Asks words (request.Extract numbers image id out) = AsksNumbers words numbers × HasText words (codes "IMAGE") image
     × HasNumber words (codes "id") id × HasText words (codes "out") out
-Asks words (request.Compose numbers spec out spares) = AsksNumbers words numbers × HasText words (codes "SPEC") spec
+Asks words (request.Compose numbers spec out spares seq) = AsksNumbers words numbers × HasText words (codes "SPEC") spec
     × HasText words (codes "out") out × HasNumberOr 0 words (codes "spares") spares
+    × HasNumberOr 0 words (codes "seq") seq
 Asks words (request.Normalise numbers image out) = AsksNumbers words numbers × HasText words (codes "IMAGE") image
     × HasText words (codes "out") out
 Asks words (request.Same numbers left right) = AsksNumbers words numbers × HasText words (codes "IMAGE") left

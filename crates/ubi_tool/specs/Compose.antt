@@ -57,14 +57,14 @@ pub data ComposesOf (m : Meant) (spares : ℕ) : Outcome → Type 0 where
 
 -- what the command answers of a text: that of the meaning that it comes to; or the line of the first of its lines that
 -- something is wrong with, or of volumes that have no meaning together
-pub data Composes (s : Sizes) (text : List ℕ) (spares : ℕ) : Outcome → Type 0 where
-  described : {o : Outcome} (m : Meant) → ComesTo s text (Ok m) → ComposesOf m spares o → Composes s text spares o
+pub data Composes (s : Sizes) (text : List ℕ) (spares seq : ℕ) : Outcome → Type 0 where
+  described : {o : Outcome} (m : Meant) → ComesTo s seq text (Ok m) → ComposesOf m spares o → Composes s text spares seq o
   unread : {o : Outcome} (line : ℕ) (cause : SpecCause) → first_cause s text ≡ Some (line, cause)
-      → Gives o (says (spec_line line cause) 1) → Composes s text spares o
-  unmade : {o : Outcome} (cause : MeaningCause) → ComesTo s text (Err cause) → Gives o (says (meaning_line cause) 1) → Composes s text spares o
+      → Gives o (says (spec_line line cause) 1) → Composes s text spares seq o
+  unmade : {o : Outcome} (cause : MeaningCause) → ComesTo s seq text (Err cause) → Gives o (says (meaning_line cause) 1) → Composes s text spares seq o
 
 -- what it answers over files: the same, or the line of an output that can't be written
-pub data ComposesInto (out : List ℕ) (s : Sizes) (text : List ℕ) (spares : ℕ) : Outcome → Type 0 where
-  written : {o : Outcome} → Composes s text spares o → ComposesInto out s text spares o
-  unwritten : {o : Outcome} (m : Meant) → ComesTo s text (Ok m) → HasRoom m spares
-      → Gives o (says (file_line (codes "cannot write ") out) 1) → ComposesInto out s text spares o
+pub data ComposesInto (out : List ℕ) (s : Sizes) (text : List ℕ) (spares seq : ℕ) : Outcome → Type 0 where
+  written : {o : Outcome} → Composes s text spares seq o → ComposesInto out s text spares seq o
+  unwritten : {o : Outcome} (m : Meant) → ComesTo s seq text (Ok m) → HasRoom m spares
+      → Gives o (says (file_line (codes "cannot write ") out) 1) → ComposesInto out s text spares seq o

@@ -9,13 +9,14 @@ use Rattle.ubi_tool.specs.Compose.{Composes}
 use Rattle.ubi_tool.specs.List.{Lists, list_lines}
 use Rattle.ubi_tool.specs.declared.outcome.Outcome.{Outcome}
 
--- what composing answers is a function of the text and the number of spares: what one run gives, each gives
+-- what composing answers is a function of the text, the number of spares and the image
+-- sequence number: what one run gives, each gives
 abbrev pub OneComposed : Type 0
-OneComposed = (s : Sizes) (text : List ℕ) (spares : ℕ) (o p : Outcome) (a : Answer)
-    → Composes s text spares o → Composes s text spares p → Gives o a → Gives p a
+OneComposed = (s : Sizes) (text : List ℕ) (spares seq : ℕ) (o p : Outcome) (a : Answer)
+    → Composes s text spares seq o → Composes s text spares seq p → Gives o a → Gives p a
 
 -- what is listed of a composed image is the meaning that the text comes to
 abbrev pub ListsComposed : Type 0
-ListsComposed = (s : Sizes) (text bytes : List ℕ) (spares : ℕ) (o p : Outcome)
-    → Composes s text spares o → option_map (λ v. v.items) o.file ≡ Some bytes → Lists (image_of s bytes) p
-    → (m : Meant) × ComesTo s text (Ok m) × Gives p (says (list_lines m) 0)
+ListsComposed = (s : Sizes) (text bytes : List ℕ) (spares seq : ℕ) (o p : Outcome)
+    → Composes s text spares seq o → option_map (λ v. v.items) o.file ≡ Some bytes → Lists (image_of s bytes) p
+    → (m : Meant) × ComesTo s seq text (Ok m) × Gives p (says (list_lines m) 0)

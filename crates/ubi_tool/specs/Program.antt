@@ -78,8 +78,8 @@ pub data IsAnswer : Outcome → Type 0 where
   show : {o : Outcome} (numbers : Numbers) (path : List ℕ) (p : ℕ) → OfImage numbers path (λ i. Shows i p) o → IsAnswer o
   extract : {o : Outcome} (numbers : Numbers) (path out : List ℕ) (id : ℕ)
       → OfFile numbers path out (ExtractsInto id out) (λ s k. ExtractsFrom s k None None) o → IsAnswer o
-  compose : {o : Outcome} (numbers : Numbers) (path out : List ℕ) (spares : ℕ)
-      → OfText numbers path (λ s t. ComposesInto out s t spares) o → IsAnswer o
+  compose : {o : Outcome} (numbers : Numbers) (path out : List ℕ) (spares seq : ℕ)
+      → OfText numbers path (λ s t. ComposesInto out s t spares seq) o → IsAnswer o
   normalise : {o : Outcome} (numbers : Numbers) (path out : List ℕ)
       → OfFile numbers path out (NormalisesInto out) (λ s k. NormalisesTo s k None None) o → IsAnswer o
   same : {o : Outcome} (numbers : Numbers) (left right : List ℕ) → OfImage numbers left (λ i. OfImage numbers right (Compares i)) o → IsAnswer o

@@ -43,6 +43,7 @@ pub enum Request<'a> {
         spec: &'a str,
         out: &'a str,
         spares: u32,
+        image_seq: u32,
     },
     /// The normal image of one file, into another.
     Normalise {
@@ -192,6 +193,7 @@ fn compose_of<'a>(matches: &'a ArgMatches<'_>) -> Option<Request<'a>>
         spec: text_of(matches, "SPEC")?,
         out: text_of(matches, "out")?,
         spares: number_of(matches, "spares").unwrap_or(0),
+        image_seq: number_of(matches, "seq").unwrap_or(0),
     })
 }
 
@@ -275,7 +277,8 @@ fn compose_command<'a>(alloc: Global) -> Result<Command<'a>, AllocError>
     let command = device_command(alloc, "compose", about)?;
     let command = command.arg(spec_file(alloc))?;
     let command = command.arg(out_file(alloc))?;
-    command.arg(number(alloc, "spares", SPARES))
+    let command = command.arg(number(alloc, "spares", SPARES))?;
+    command.arg(number(alloc, "seq", SEQ))
 }
 
 /// The word that names the text file.
@@ -394,6 +397,8 @@ const CHANGE: &str = "Gives one logical eraseblock new bytes, by steps that may 
 const LNUM: &str = "The number of the logical eraseblock (LEB)";
 
 const SPARES: &str = "How many spare eraseblocks follow [default: 0]";
+
+const SEQ: &str = "The image sequence number [default: 0]";
 
 const STOP: &str = "Writes the image after N steps only [default: all]";
 

@@ -71,8 +71,8 @@ fn compose_meaning(alloc: Global, meaning: &Meaning, spares: u32) -> Result<Outc
     }
 }
 
-/// Composes the image that a text describes, with so many spare eraseblocks at its end: the number of its eraseblocks and
-/// their bytes.
+/// Composes the image that a text describes, with so many spare eraseblocks at its end and an image sequence number: the
+/// number of its eraseblocks and their bytes.
 ///
 /// Where the text describes none, a line says why, and there is no file: the first line of the text that something is
 /// wrong with; or why its volumes have no meaning together, counted from 0 in the order of their lines; or that the
@@ -86,8 +86,9 @@ pub fn run_compose(
     geometry: &Geometry,
     spec: &[u8],
     spares: u32,
+    image_seq: u32,
 ) -> Result<Outcome, AllocError>
-    ensures { IfOk result (Composes geometry.now spec.now spares) }
+    ensures { IfOk result (Composes geometry.now spec.now spares image_seq) }
 {
     let volumes = match parse_spec(alloc, geometry, spec) {
         Ok(volumes) => volumes,
@@ -96,7 +97,7 @@ pub fn run_compose(
         }
         Err(SpecError::Memory) => return Err(AllocError),
     };
-    match Meaning::new(geometry, volumes) {
+    match Meaning::new(geometry, image_seq, volumes) {
         Ok(meaning) => compose_meaning(alloc, &meaning, spares),
         Err(error) => Ok(Outcome::saying(meaning_line(alloc, error.cause)?, FAILED)),
     }

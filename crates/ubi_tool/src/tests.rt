@@ -11,6 +11,7 @@ mod fake;
 mod faults;
 mod files;
 mod images;
+mod large;
 mod lines;
 mod list;
 mod memory;

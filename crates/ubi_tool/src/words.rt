@@ -88,7 +88,8 @@ where
             spec,
             out,
             spares,
-        } => compose_file(rt, alloc, numbers, spec, out, spares),
+            image_seq,
+        } => compose_file(rt, alloc, numbers, spec, out, spares, image_seq),
         Request::Normalise {
             numbers,
             image,
@@ -164,14 +165,16 @@ fn compose_file<R: Files>(
     spec: &str,
     out: &str,
     spares: u32,
+    image_seq: u32,
 ) -> Result<Outcome, AllocError>
-    ensures { IfOk result (OfText numbers spec.now (λ s t. ComposesInto out.now s t spares)) }
+    ensures { IfOk result (OfText numbers spec.now (λ s t. ComposesInto out.now s t spares image_seq)) }
 {
     let file = match load_spec(rt, alloc, numbers, spec) {
         Ok(file) => file,
         Err(unread) => return unread.answer(),
     };
-    let outcome = run_compose(alloc, &file.geometry, file.text.as_slice(), spares)?;
+    let text = file.text.as_slice();
+    let outcome = run_compose(alloc, &file.geometry, text, spares, image_seq)?;
     write_outcome(rt, alloc, outcome, out)
 }
 

@@ -1,5 +1,5 @@
 -- The meaning of volumes that have no cause against them.
-use Rattle.std.proofs.Common.{◌≡◌, ◌≢◌, ℕ, zero, suc, ◌+◌, ◌<◌, ◌≤◌, ◌⊎◌, inl, inr, Bool, true, false, cond, not, T, List, [], ◌∷◌, length, map, get_or, refl, ap, sym, ◌∙◌, subst, arith}
+use Rattle.std.proofs.Common.{◌≡◌, ◌≢◌, ℕ, zero, suc, ◌+◌, ◌^◌, ◌<◌, ◌≤◌, ◌⊎◌, inl, inr, Bool, true, false, cond, not, T, List, [], ◌∷◌, length, map, get_or, refl, ap, sym, ◌∙◌, subst, arith}
 use Rattle.std.specs.Prelude.{◌*◌, unwrap_or, IfSome, IsPermutation, IsTrue, None, Option, Some, fold, option_map, slice_get, sum_by}
 use Rattle.std.specs.Cmp.{eq_by_cmp_equiv, nat_cmp_total, tied_itself}
 use Rattle.std.specs.FinMap as finite
@@ -351,10 +351,11 @@ module _ (s : Sizes) (items : Items) (none : NoCause s items) where
       | inr g ↦ absurd (none cause.NoSpace g)
     ]
 
-    pub arranged_volumes : AreVolumes s sorted
-    arranged_volumes = record {
+    pub arranged_volumes : (seq : ℕ) → seq < 2 ^ 32 → AreVolumes s seq sorted
+    arranged_volumes seq narrow = record {
       sorted = in_order;
       meaning = record {
+        image_seq = narrow;
         each = λ id. each_volume id (finite.get (from_entries sorted) id) refl;
         names = names;
         space = space;

@@ -142,25 +142,28 @@ volumes_Decides a b = Decides-like _ (same_entries_map a b) (ap finite.entries)
     (slice_eq-Decides item_Decides (finite.entries a) (finite.entries b) _ refl)
 
 pub meaning_Decides : (a b : Meant) → Decides (same_meaning a b) (a ≡ b)
-meaning_Decides a b = Decides-like (same_meaning a b) (λ e i. record { sizes = e.0 i; volumes = e.1 i })
-    (λ e. (ap (λ m. m.sizes) e, ap (λ m. m.volumes) e))
-    (Decides-and _ _ (sizes_Decides a.sizes b.sizes) (volumes_Decides a.volumes b.volumes))
+meaning_Decides a b = Decides-like (same_meaning a b)
+    (λ e i. record { sizes = e.0.0 i; image_seq = e.0.1 i; volumes = e.1 i })
+    (λ e. ((ap (λ m. m.sizes) e, ap (λ m. m.image_seq) e), ap (λ m. m.volumes) e))
+    (Decides-and _ _ (Decides-and _ _ (sizes_Decides a.sizes b.sizes) (unsigned_Decides a.image_seq b.image_seq))
+    (volumes_Decides a.volumes b.volumes))
 
 abbrev pub same_item : ℕ × Volume → ℕ × Volume → Bool
 same_item p q = (p.0 == q.0) && (volume_eq.ghosts).eq p.1 q.1
 
--- of one geometry, meanings are equal where their volumes are
-pub same_volumes_same : (s t : Sizes) (xs ys : List (ℕ × Volume)) (b : Bool) → (geometry_eq.ghosts).eq s t ≡ true
+-- of one geometry and one image sequence number, meanings are equal where their volumes are
+pub same_volumes_same : (s t : Sizes) (n m : ℕ) (xs ys : List (ℕ × Volume)) (b : Bool)
+    → ((geometry_eq.ghosts).eq s t && (n == m)) ≡ true
     → IsTrue (is_sorted nat_cmp xs) → IsTrue (is_sorted nat_cmp ys)
     → b ≡ pointwise same_item xs ys
-    → b ≡ same_meaning (record { sizes = s; volumes = finite.from_entries xs })
-    (record { sizes = t; volumes = finite.from_entries ys })
-same_volumes_same s t xs ys b g h k e =
-    let m : VolumeMap = finite.from_entries xs in
-    let n : VolumeMap = finite.from_entries ys in
+    → b ≡ same_meaning (record { sizes = s; image_seq = n; volumes = finite.from_entries xs })
+    (record { sizes = t; image_seq = m; volumes = finite.from_entries ys })
+same_volumes_same s t n m xs ys b g h k e =
+    let v : VolumeMap = finite.from_entries xs in
+    let w : VolumeMap = finite.from_entries ys in
     e ∙ ap (λ es. pointwise same_item es ys) (sym (sorted_entries xs h))
-    ∙ ap (pointwise same_item (finite.entries m)) (sym (sorted_entries ys k))
-    ∙ ap (λ r. r && pointwise same_item (finite.entries m) (finite.entries n)) (sym g)
+    ∙ ap (pointwise same_item (finite.entries v)) (sym (sorted_entries ys k))
+    ∙ ap (λ r. r && pointwise same_item (finite.entries v) (finite.entries w)) (sym g)
 
 pub tells_equal : (a b : Meant) (r : Bool) → r ≡ same_meaning a b → IsTrue r ↔ (a ≡ b)
 tells_equal a b r e = (λ t. (meaning_Decides a b).0 (sym e ∙ t), λ same. e ∙ (meaning_Decides a b).1 same)

@@ -1,5 +1,5 @@
 -- The volumes that were gathered, as the meaning of eraseblocks with their table.
-use Rattle.std.proofs.Common.{◌≡◌, ℕ, zero, suc, ◌+◌, ◌<◌, inl, inr, Bool, true, false, cond, ◌&&◌, T, List, [], ◌∷◌, ◌++◌, length, map, get_or, refl, ap, sym, ◌∙◌, subst, arith}
+use Rattle.std.proofs.Common.{◌≡◌, ℕ, zero, suc, ◌+◌, ◌^◌, ◌<◌, inl, inr, Bool, true, false, cond, ◌&&◌, T, List, [], ◌∷◌, ◌++◌, length, map, get_or, refl, ap, sym, ◌∙◌, subst, arith}
 use Rattle.std.specs.Prelude.{All, IfSome, IsTrue, Option, Some, None, fold}
 use Rattle.std.specs.Cmp.{nat_cmp_total}
 use Rattle.std.specs.FinMap as finite
@@ -17,6 +17,7 @@ use Rattle.ubi_media.specs.declared.record.VolumeRecord.{VolumeRecord}
 use Rattle.ubi_scan.proofs.Entries.{sorted_entries}
 use Rattle.ubi_scan.proofs.Finite.{find_at}
 use Rattle.ubi_scan.proofs.Keys.{told}
+use Rattle.ubi_scan.specs.Numbers.{image_seq}
 use Rattle.ubi_table.specs.Records.{AreRecords, HasSpace, Records}
 use Rattle.ubi_table.specs.Table.{IsTable}
 use Rattle.ubi_volume.specs.inner.Gathered.{AreContents, ContentIs}
@@ -167,18 +168,25 @@ module _ (s : Sizes) (bs : List (List ℕ)) where
     has_space : HasSpace s t
     has_space = elim is [ inl none ↦ subst (HasSpace s) (sym none.1) (no_space s g) | inr some ↦ some.2 ]
 
-    pub are_volumes : AreVolumes s vs
-    are_volumes = record {
+    pub are_volumes : (seq : ℕ) → seq < 2 ^ 32 → AreVolumes s seq vs
+    are_volumes seq narrow = record {
       sorted = sorted;
       meaning = record {
+        image_seq = narrow;
         each = each_volume;
         names = λ i j v w e f same. records.apart i j v.entry w.entry (volume_at i v e).0 (volume_at j w f).0 same;
         space = (let sum = reserved in let room = has_space in omega arith);
       };
     }
 
-    pub contents_mean : Means s bs t (record { sizes = s; volumes = from_entries vs })
-    contents_mean = record { sizes = refl; meaning = are_volumes.meaning; slots = slot_means }
+    pub contents_mean : (seq : ℕ) → seq ≡ image_seq s bs → seq < 2 ^ 32
+        → Means s bs t (record { sizes = s; image_seq = seq; volumes = from_entries vs })
+    contents_mean seq is_seq narrow = record {
+      sizes = refl;
+      image_seq = is_seq;
+      meaning = (are_volumes seq narrow).meaning;
+      slots = slot_means;
+    }
 
 -- an entry of a table at a place is what the table has at its number
 pub listed_at : (t : Records) (i : ℕ) (d : ℕ × VolumeRecord) → i < length (finite.entries t.of)

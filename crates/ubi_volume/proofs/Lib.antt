@@ -18,6 +18,7 @@ pub mod Listed
 pub mod MemberStates
 pub mod Mismatches
 pub mod Moved
+pub mod Narrow
 pub mod One
 pub mod OneCause
 pub mod Pieces

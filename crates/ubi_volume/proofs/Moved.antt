@@ -9,9 +9,10 @@ use Rattle.ubi_media.specs.Geometry.{Sizes}
 use Rattle.ubi_media.specs.Record.{usable}
 use Rattle.ubi_media.specs.declared.record.VolumeRecord.{VolumeRecord}
 use Rattle.ubi_media.specs.declared.vid.VidHeader.{VidHeader}
+use Rattle.ubi_scan.specs.Faults.{NoFault}
 use Rattle.ubi_scan.specs.Image.{Image, IsWhole, eraseblocks, leb}
 use Rattle.ubi_scan.specs.Members.{Wins, is_right, member}
-use Rattle.ubi_scan.proofs.Moved.{IsMoved, clean_to, inside_of, moved_back, no_member_to, same_back, swapped, trade, wins_to}
+use Rattle.ubi_scan.proofs.Moved.{IsMoved, clean_to, inside_of, moved_back, no_member_to, same_back, seq_to, swapped, trade, wins_to}
 use Rattle.ubi_table.specs.Records.{Records}
 use Rattle.ubi_table.proofs.Moved.{table_to}
 use Rattle.ubi_volume.specs.Accepts.{Accepts, AcceptsBlocks, IsMismatched}
@@ -93,8 +94,13 @@ module _ (z : Sizes) (bs cs : List (List ℕ)) (to : ℕ → ℕ) (h : IsMoved b
   slot_to id None (Some v) k = k
   slot_to id (Some r) None k = k
 
-  means_to : (t : Records) (m : Meant) → Means z bs t m → Means z cs t m
-  means_to t m k = record { sizes = k.sizes; meaning = k.meaning; slots = λ id. slot_to id _ _ (k.slots id) }
+  means_to : (t : Records) (m : Meant) → NoFault z bs → Means z bs t m → Means z cs t m
+  means_to t m clean k = record {
+    sizes = k.sizes;
+    image_seq = k.image_seq ∙ sym (seq_to z bs cs to h clean);
+    meaning = k.meaning;
+    slots = λ id. slot_to id _ _ (k.slots id);
+  }
 
   -- an eraseblock that is unlike the record of its volume
   mismatch_of : (t : Records) (p : ℕ) → IsMismatched z cs t p → IsMismatched z bs t (to p)
@@ -116,7 +122,7 @@ module _ (z : Sizes) (bs cs : List (List ℕ)) (to : ℕ → ℕ) (h : IsMoved b
     records = a.records;
     table = table_to z bs cs to h a.records a.table;
     alike = λ p k. a.alike (to p) (mismatch_of a.records p k);
-    means = means_to a.records m a.means;
+    means = means_to a.records m a.clean a.means;
   }
 
 pub blocks_in_any_order : (s : Sizes) (bs cs : List (List ℕ)) (m : Meant) → IsPermutation bs cs → AcceptsBlocks s bs m

@@ -116,7 +116,8 @@ module _ (s : Sizes) (bs : List (List ℕ)) (clean : NoFault s bs) where
       slot_unique id (finite.get t.of id) (finite.get m.volumes id) (finite.get n.volumes id) (a.slots id) (b.slots id)
       (subst (λ z. IfSome (finite.get m.volumes id) (IsVolume z id)) a.sizes (a.meaning.each id))
       (subst (λ z. IfSome (finite.get n.volumes id) (IsVolume z id)) b.sizes (b.meaning.each id))) in
-      λ i. record { sizes = e i; volumes = f i }
+      let g : m.image_seq ≡ n.image_seq = a.image_seq ∙ sym b.image_seq in
+      λ i. record { sizes = e i; image_seq = g i; volumes = f i }
 
 pub blocks-unique : (s : Sizes) (bs : List (List ℕ)) (m n : Meant) → AcceptsBlocks s bs m → AcceptsBlocks s bs n → m ≡ n
 blocks-unique s bs m n a b =

@@ -1,5 +1,5 @@
 -- What attaching a source gives, by what its parts answered.
-use Rattle.std.proofs.Common.{◌≡◌, ℕ, inl, inr, cond, List, [], ◌∷◌, ◌++◌, map, refl, ap, sym, ◌∙◌, subst}
+use Rattle.std.proofs.Common.{◌≡◌, ℕ, ◌^◌, ◌<◌, inl, inr, cond, List, [], ◌∷◌, ◌++◌, map, refl, ap, sym, ◌∙◌, subst}
 use Rattle.std.specs.Prelude.{IsSome, Option, Some, None, ◌==◌, option_map}
 use Rattle.std.specs.Prelude as prelude
 use Rattle.std.specs.Cmp.{nat_cmp_total}
@@ -127,20 +127,26 @@ module _ (s : Sizes) (k : Source) (found : Found) (t : Records) (scan : IsScanOf
   contents_refused (stream.Write n) h = h
   contents_refused stream.Memory h = tt
 
-  module _ (sized : IsSource k) (g : IsGeometry s) (cs : List (ℕ × PlaceContent))
+  module _ (sized : IsSource k) (g : IsGeometry s) (narrow : found.image_seq < 2 ^ 32) (cs : List (ℕ × PlaceContent))
       (numbered : AreNumbered (finite.entries t.of) cs)
       (alike : WhereHeld k (λ bytes. NoMismatch s (blocks_of s bytes) t))
       (cases : WhereHeld k (λ bytes. AreCases s (blocks_of s bytes) (finite.entries t.of) cs)) where
     abbrev placed : Placed
-    placed = record { records = t; winners = found.winners; contents = from_entries cs }
+    placed = record {
+      records = t;
+      winners = found.winners;
+      contents = from_entries cs;
+      image_seq = found.image_seq;
+    }
 
     held : (bytes : List ℕ) → k.held ≡ Some bytes → ArePlaces (image_of s bytes) placed
     held bytes holds =
         let bs = blocks_of s bytes in
         let is = table.held bytes holds in
         let h = cases bytes holds in
-        let m : Meant = record { sizes = s; volumes = from_entries h.volumes } in
-        let means : Means s bs t m = contents_mean s bs t is g h.volumes h.contents in
+        let m : Meant = record { sizes = s; image_seq = found.image_seq; volumes = from_entries h.volumes } in
+        let means : Means s bs t m = contents_mean s bs t is g h.volumes h.contents found.image_seq
+        (scan.held bytes holds).image_seq narrow in
         let same : from_entries {R = nat_cmp} cs ≡ from_entries (map (case_in s) h.volumes) =
         ap (from_entries {R = nat_cmp}) h.cases in
         record {
@@ -156,6 +162,7 @@ module _ (s : Sizes) (k : Source) (found : Found) (t : Records) (scan : IsScanOf
             };
           };
           records = sym (records_meant s bs t m is means);
+          image_seq = refl;
           winners = (scan.held bytes holds).winners;
           contents = λ id v e. ap (λ c. finite.get c id) same
               ∙ finite.get-from_entries nat_cmp_total (map (case_in s) h.volumes) id

@@ -1,5 +1,5 @@
 -- What surveying a source gives, by what its parts answered.
-use Rattle.std.proofs.Common.{◌≡◌, ℕ, List, sym, subst}
+use Rattle.std.proofs.Common.{◌≡◌, ℕ, ◌^◌, ◌<◌, List, sym, subst}
 use Rattle.std.specs.Prelude.{Some}
 use Rattle.ubi_media.specs.Geometry.{IsGeometry, Sizes}
 use Rattle.ubi_scan.specs.Scan.{Found}
@@ -17,7 +17,7 @@ use Rattle.ubi_volume.proofs.Either.{are_lebs, some_meaning}
 use Rattle.ubi_volume.proofs.Recorded.{records_meant}
 
 module _ (s : Sizes) (k : Source) (found : Found) (t : Records) (states : List BlockState) (g : IsGeometry s)
-    (sized : IsSource k)
+    (sized : IsSource k) (narrow : found.image_seq < 2 ^ 32)
     (scan : IsScanOf s k found) (table : IsTableOf s k t)
     (alike : WhereHeld k (λ bytes. NoMismatch s (blocks_of s bytes) t)) (are : AreStatesOf s k t states) where
   held : (bytes : List ℕ) → k.held ≡ Some bytes
@@ -27,7 +27,8 @@ module _ (s : Sizes) (k : Source) (found : Found) (t : Records) (states : List B
       let bs = blocks_of s bytes in
       let is = scan.held bytes holds in
       let whole = subst (IsWholeSize s) (sym (sized.sized bytes holds)) scan.whole in
-      let m = some_meaning s bs (are_lebs image) is.clean t (alike bytes holds) g (table.held bytes holds) in
+      let m = some_meaning s bs (are_lebs image) is.clean t (alike bytes holds) g (table.held bytes holds)
+      (subst (λ (n : ℕ). n < 2 ^ 32) is.image_seq narrow) in
       record {
         meaning = m.0;
         attached = attached image whole is.clean found t m.0 states is (table.held bytes holds) (alike bytes holds) m.1

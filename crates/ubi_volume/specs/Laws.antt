@@ -1,5 +1,6 @@
 -- Laws of what is accepted and refused, as they stand on functions that do nothing.
 use Rattle.std.specs.Prelude.{◌≡◌, ◌⊎◌}
+use Rattle.ubi_media.specs.Fields.{AreBytes}
 use Rattle.ubi_media.specs.Geometry.{IsGeometry}
 use Rattle.ubi_media.specs.declared.refusal.Refusal.{Refusal}
 use Rattle.ubi_scan.specs.Image.{Image}
@@ -14,6 +15,7 @@ NeverBoth = (image : Image) (m : Meant) (c : Refusal) → Accepts image m → Re
 abbrev pub OneCause : Type 0
 OneCause = (image : Image) (c d : Refusal) → Refuses image c → Refuses image d → c ≡ d
 
--- an image is accepted or refused
+-- an image of bytes is accepted or refused
 abbrev pub OneOrOther : Type 0
-OneOrOther = (image : Image) → IsGeometry image.sizes → ((m : Meant) × Accepts image m) ⊎ ((c : Refusal) × Refuses image c)
+OneOrOther = (image : Image) → IsGeometry image.sizes → AreBytes image.bytes
+    → ((m : Meant) × Accepts image m) ⊎ ((c : Refusal) × Refuses image c)

@@ -76,6 +76,7 @@ without_blank other = other
 abbrev pub item_without_blank : ℕ × Volume → ℕ × Volume
 item_without_blank e = (e.0, record { entry = e.1.entry; content = without_blank e.1.content })
 
--- the meaning of the volumes
-abbrev pub meaning_of : Sizes → Items → Meant
-meaning_of s items = record { sizes = s; volumes = from_entries (map item_without_blank items) }
+-- the meaning of the volumes, with an image sequence number
+abbrev pub meaning_of : Sizes → ℕ → Items → Meant
+meaning_of s seq items =
+    record { sizes = s; image_seq = seq; volumes = from_entries (map item_without_blank items) }

@@ -1,5 +1,6 @@
--- A meaning: volumes by their number, each with its record and what it reads. And how a text is cut into LEBs.
-use Rattle.std.specs.Prelude.{◌≡◌, ◌≢◌, ℕ, ◌+◌, ◌*◌, ◌<◌, ◌≤◌, true, false, map, Some, None, IfSome, sum_by, length, ◌-◌, ◌/◌, List, take, drop}
+-- A meaning: the image sequence number, and volumes by their number, each with its record and what it reads. And how a text
+-- is cut into LEBs.
+use Rattle.std.specs.Prelude.{◌≡◌, ◌≢◌, ℕ, ◌+◌, ◌*◌, ◌^◌, ◌<◌, ◌≤◌, true, false, map, Some, None, IfSome, sum_by, length, ◌-◌, ◌/◌, List, take, drop}
 use Rattle.std.specs.FinMap.{FinMap, get, entries, from_entries, values}
 use Rattle.std.specs.Ordering.{nat_cmp}
 use Rattle.ubi_media.specs.Fields.{blank}
@@ -15,9 +16,10 @@ use Rattle.ubi_volume.specs.declared.content.Volume.{Volume}
 abbrev pub VolumeMap : Type 0
 VolumeMap = FinMap nat_cmp Volume
 
--- volumes under sizes
+-- volumes under sizes, and the image sequence number
 pub record Meant : Type 0 where
   pub sizes : Sizes
+  pub image_seq : ℕ
   pub volumes : VolumeMap
 
 -- the records of a meaning
@@ -52,6 +54,7 @@ HasDistinctNames volumes =
 
 -- just such values are meanings
 pub record IsMeaning (m : Meant) : Type 0 where
+  pub image_seq : m.image_seq < 2 ^ 32
   pub each : (id : ℕ) → IfSome (get m.volumes id) (IsVolume m.sizes id)
   pub names : HasDistinctNames m.volumes
   pub space : 2 + sum_by (λ v. v.entry.reserved) (values m.volumes) ≤ m.sizes.pebs

@@ -1,4 +1,5 @@
--- What is known of an image without its contents: its table, where each LEB stands, and what its volumes read.
+-- What is known of an image without its contents: its table, where each LEB stands, what its volumes read, and the image
+-- sequence number.
 use Rattle.std.specs.Prelude.{◌≡◌, ℕ, ◌<◌, ◌≤◌, ◌⊎◌, List, length, Option, Some, IfSome, IsSome, MatchOption, ◌==◌, find}
 use Rattle.std.specs.FinMap.{FinMap, get}
 use Rattle.std.specs.Ordering.{nat_cmp}
@@ -22,12 +23,13 @@ use Rattle.ubi_volume.specs.declared.content.Volume.{Volume}
 use Rattle.ubi_volume.specs.declared.places.PlaceContent.{PlaceContent}
 use Rattle.ubi_volume.specs.declared.places.PlaceContent.TheVariants as place
 
--- the value of places: the records of the table, the winner of each LEB, and the case and size of what each volume
--- reads
+-- the value of places: the records of the table, the winner of each LEB, the case and size of what each volume reads, and
+-- the image sequence number
 pub record Placed : Type 0 where
   pub records : Records
   pub winners : FinMap leb_cmp ℕ
   pub contents : FinMap nat_cmp PlaceContent
+  pub image_seq : ℕ
 
 -- the case of a content, and the size of a text
 abbrev pub case_of : Sizes → VolumeRecord → Content → PlaceContent
@@ -67,6 +69,7 @@ pub record ArePlaces (image : Image) (p : Placed) : Type 0 where
   pub meaning : Meant
   pub accepted : Accepts image meaning
   pub records : p.records ≡ records_of meaning
+  pub image_seq : p.image_seq ≡ meaning.image_seq
   pub winners : in_image AreWinners image p.winners
   pub contents : (id : ℕ) (v : Volume) → get meaning.volumes id ≡ Some v → get p.contents id ≡ Some (case_of image.sizes v.entry v.content)
 

@@ -13,6 +13,7 @@ use Rattle.ubi_volume.specs.declared.places.PlaceContent.{PlaceContent}
 -- as the tuple of their fields
 abbrev pub placed_code : Coded Placed
 placed_code =
-    code_by (Records × (FinMap leb_cmp ℕ × FinMap nat_cmp PlaceContent))
-    (coded× records_code (coded× (code (coded× coded_ℕ coded_ℕ) coded_ℕ) (code coded_ℕ place_type.the_row.coded)))
-    (λ p. (p.records, (p.winners, p.contents))) (λ t. record { records = t.0; winners = t.1.0; contents = t.1.1 }) (λ _. refl)
+    code_by (Records × (FinMap leb_cmp ℕ × (FinMap nat_cmp PlaceContent × ℕ)))
+    (coded× records_code (coded× (code (coded× coded_ℕ coded_ℕ) coded_ℕ) (coded× (code coded_ℕ place_type.the_row.coded) coded_ℕ)))
+    (λ p. (p.records, (p.winners, (p.contents, p.image_seq))))
+    (λ t. record { records = t.0; winners = t.1.0; contents = t.1.1.0; image_seq = t.1.1.1 }) (λ _. refl)

@@ -92,6 +92,14 @@ impl Attached {
         self.surveyed.image_seq()
     }
 
+    /// The number of carriers: of the eraseblocks whose erase-counter header can be read and has an image sequence number
+    /// that isn't zero.
+    pub fn carriers(&self) -> u32
+        ensures { result ≡ self.now.scan.carriers }
+    {
+        self.surveyed.carriers()
+    }
+
     /// The mean of the erase counters that can be read, rounded down, 0 if there are none.
     pub fn mean_ec(&self) -> u32
         ensures { result ≡ self.now.scan.mean_ec }

@@ -107,5 +107,5 @@ pub fn gather(
     }
     let geometry = blocks.geometry();
     prove!(geometry.pebs() >= 2);
-    Ok(Meaning::of(geometry, volumes))
+    Ok(Meaning::of(geometry, scan.image_seq(), volumes))
 }

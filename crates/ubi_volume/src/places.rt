@@ -64,7 +64,7 @@ impl Model for Places {
 
     ghost invariant = { λ p. AreListed p.table p.contents.items };
 
-    ghost view = { λ p. record { records = p.table; winners = p.scan.winners; contents = finite.from_entries p.contents.items } };
+    ghost view = { λ p. record { records = p.table; winners = p.scan.winners; contents = finite.from_entries p.contents.items; image_seq = p.scan.image_seq } };
 }
 
 impl Places {
@@ -73,6 +73,13 @@ impl Places {
         ensures { result.now ≡ self.now.records }
     {
         &self.table
+    }
+
+    /// The image sequence number, 0 where no eraseblock names an image.
+    pub fn image_seq(&self) -> u32
+        ensures { result ≡ self.now.image_seq }
+    {
+        self.scan.image_seq()
     }
 
     /// The winner of a logical eraseblock, where it has one.
@@ -155,6 +162,8 @@ pub fn attach_places<S: BlockSource>(
 {
     let scan = scan_from(alloc, geometry, source)?;
     let table = choose_from(alloc, geometry, source, &scan)?;
+    // A meaning's number has the width that a header gives it.
+    prove!(scan.image_seq() <= u32::MAX);
     let mut buffer = Vec::from_elem(alloc, 0u8, geometry.peb_size() as usize)?;
     let contents = contents_from(
         alloc,

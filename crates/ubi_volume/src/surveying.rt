@@ -92,6 +92,14 @@ impl Surveyed {
         self.scan.image_seq()
     }
 
+    /// The number of carriers: of the eraseblocks whose erase-counter header can be read and has an image sequence number
+    /// that isn't zero.
+    pub fn carriers(&self) -> u32
+        ensures { result ≡ self.now.scan.carriers }
+    {
+        self.scan.carriers()
+    }
+
     /// The mean of the erase counters that can be read, rounded down, 0 if there are none.
     pub fn mean_ec(&self) -> u32
         ensures { result ≡ self.now.scan.mean_ec }
@@ -191,6 +199,8 @@ pub fn survey_from<S: BlockSource>(
 {
     let scan = scan_from(alloc, geometry, source)?;
     let table = choose_from(alloc, geometry, source, &scan)?;
+    // A meaning's number has the width that a header gives it.
+    prove!(scan.image_seq() <= u32::MAX);
     let mut buffer = Vec::from_elem(alloc, 0u8, geometry.peb_size() as usize)?;
     check_winners_from(geometry, source, &scan, &table, buffer.as_mut_slice())?;
     let states = states_from(

@@ -28,7 +28,7 @@ FitsBlock s (step.Program p page bytes) = (page < s.peb_size / s.page) × (lengt
 
 -- what an attach shows of an image that is surveyed, but for the volumes that it means: the steps don't depend on them
 abbrev pub shown : Seen → Whole
-shown v = record { meaning = record { sizes = v.records.sizes; volumes = empty }; scan = v.scan; states = v.states }
+shown v = record { meaning = record { sizes = v.records.sizes; image_seq = v.scan.image_seq; volumes = empty }; scan = v.scan; states = v.states }
 
 -- the first two of some eraseblocks
 abbrev pub first_two : List ℕ → FirstTwo

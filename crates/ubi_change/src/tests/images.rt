@@ -18,6 +18,8 @@ pub const CHECK_OF_128: u32 = 0x0ED4_C973;
 
 pub const CHECK_OF_256: u32 = 0x4F82_C9A6;
 
+pub const CHECK_OF_2048: u32 = 0xBBC2_8D13;
+
 /// The check of 64 bytes 0x61 and then 64 bytes 0xFF.
 pub const CHECK_OF_HALF: u32 = 0x8801_2B9C;
 
@@ -48,6 +50,12 @@ pub const INSIDE: Sizes = Sizes(1024, 256, 320, 512);
 
 /// Eraseblocks of 9 pages of 64 bytes.
 pub const ODD: Sizes = Sizes(576, 64, 64, 128);
+
+/// Eraseblocks of 128 KiB in 64 pages, as chips have them, with a page for each header.
+pub const LARGE: Sizes = Sizes(131_072, 2048, 2048, 4096);
+
+/// The same with both headers in the first page, in sub-pages of 512 bytes.
+pub const LARGE_SHARED: Sizes = Sizes(131_072, 2048, 512, 2048);
 
 impl Sizes {
     /// The geometry of a device of 32 eraseblocks.
@@ -474,6 +482,11 @@ fn leb_of(alloc: Global, geometry: &Geometry, image: &[u8], lnum: u32) -> Result
     Ok(out)
 }
 
+/// The image sequence number that an image means.
+fn seq_of(alloc: Global, geometry: &Geometry, image: &[u8]) -> Result<u32, Fail> {
+    Ok(attached(alloc, geometry, image)?.meaning().image_seq())
+}
+
 /// Asserts that a logical eraseblock reads a text and then 0xFF.
 fn assert_reads(
     rt: &impl Abort,
@@ -523,7 +536,8 @@ pub struct Case<'a> {
     pub turn: usize,
 }
 
-/// Asserts what a change to new bytes is planned as, and what each cut of the plan reads. Gives the image at the end.
+/// Asserts what a change to new bytes is planned as, what each cut of the plan reads, and that it keeps the image sequence
+/// number. Gives the image at the end.
 pub fn assert_change(
     rt: &impl Abort,
     alloc: Global,
@@ -552,6 +566,7 @@ pub fn assert_plan(
         Err(_) => return Err("no plan".into()),
     };
     assert_steps(rt, alloc, &geometry, steps.as_slice(), case.steps)?;
+    let named = seq_of(alloc, &geometry, image.as_slice())?;
     let mut done = 0usize;
     for step in steps.as_slice() {
         let reads = if done < case.turn {
@@ -565,6 +580,7 @@ pub fn assert_plan(
         }
         assert!(*rt; step_fits(&geometry, image.as_slice(), step));
         apply(&geometry, image.as_mut_slice(), step);
+        assert_eq!(*rt; seq_of(alloc, &geometry, image.as_slice())?, named);
         done = done.saturating_add(1);
     }
     assert_reads(rt, alloc, &geometry, image.as_slice(), case.lnum, new)?;

@@ -2,9 +2,10 @@
 
 use super::images::{
     A, ALIGNED_FIRST, ALIGNED_SECOND, B, BAD, C, CHECK_OF_62, CHECK_OF_128, CHECK_OF_256,
-    CHECK_OF_FF, CHECK_OF_HALF, COPY, COPY_OF_1, Case, Data, ERASED, Ec, FIRST, FREE, GOOD, INSIDE,
-    LEB_1, NEW, NEW_FIRST, NEW_SECOND, ODD, ONE, ORIGINAL, PLAIN, Peb, SECOND, SHARED, SMALL, Want,
-    ZERO, assert_change, assert_plan, attached, image_of, text,
+    CHECK_OF_2048, CHECK_OF_FF, CHECK_OF_HALF, COPY, COPY_OF_1, Case, Data, ERASED, Ec, FIRST,
+    FREE, GOOD, INSIDE, LARGE, LARGE_SHARED, LEB_1, NEW, NEW_FIRST, NEW_SECOND, ODD, ONE, ORIGINAL,
+    PLAIN, Peb, SECOND, SHARED, SMALL, Want, ZERO, assert_change, assert_plan, attached, image_of,
+    text,
 };
 use std::test::Fail;
 use ubi_media::{EcHeader, VidHeader};
@@ -38,6 +39,53 @@ fn changes_two_pages(rt: HostRuntime) -> Result<(), Fail> {
         turn: 3,
     };
     assert_change(&rt, alloc, &case, &[0x61; 128])?;
+    Ok(())
+}
+
+/// The header of a copy of a page of 2,048 bytes.
+const LARGE_PAGE: VidHeader = VidHeader {
+    data_size: 2048,
+    data_crc: CHECK_OF_2048,
+    ..COPY_OF_1
+};
+
+/// Changes of eraseblocks of the size that chips have.
+static LARGE_CASES: [Case<'static>; 2] = [
+    Case {
+        sizes: LARGE,
+        pebs: &BASE,
+        lnum: 1,
+        old: (0x42, 384),
+        steps: &[
+            Want::Header(5, 1, LARGE_PAGE),
+            Want::Text(5, 2, 0x61),
+            Want::Erase(3),
+            Want::Count(3, ONE),
+        ],
+        turn: 2,
+    },
+    Case {
+        sizes: LARGE_SHARED,
+        pebs: &BASE,
+        lnum: 1,
+        old: (0x42, 384),
+        steps: &[
+            Want::Headers(5, Ec::Is(ZERO), LARGE_PAGE),
+            Want::Text(5, 1, 0x61),
+            Want::Erase(3),
+            Want::Count(3, ONE),
+        ],
+        turn: 2,
+    },
+];
+
+#[test]
+fn changes_eraseblocks_of_128_kib(rt: HostRuntime) -> Result<(), Fail> {
+    let alloc = rt.alloc();
+    let new = text(alloc, 0x61, 2048)?;
+    for case in &LARGE_CASES {
+        assert_change(&rt, alloc, case, new.as_slice())?;
+    }
     Ok(())
 }
 

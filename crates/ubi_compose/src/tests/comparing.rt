@@ -2,7 +2,7 @@
 
 use super::images::{
     WIDER_ROOT, normal_damaged, normal_lebs, normal_root, normal_text, small, turned_root,
-    used_root,
+    unnamed_root, used_root,
 };
 use crate::{SameError, SameFault, same, same_from};
 use std::alloc::Global;
@@ -35,6 +35,19 @@ fn tells_what_means_another(rt: HostRuntime) -> Result<(), Fail> {
     assert!(rt; answer == Ok(false));
     let answer = same(alloc, &geometry, &[0xFF; 512], root.as_slice());
     assert!(rt; answer == Ok(false));
+    Ok(())
+}
+
+#[test]
+fn tells_images_apart_by_their_number(rt: HostRuntime) -> Result<(), Fail> {
+    let alloc = rt.alloc();
+    let geometry = small()?;
+    let named = normal_root(alloc)?;
+    let unnamed = unnamed_root(alloc)?;
+    let answer = same(alloc, &geometry, named.as_slice(), unnamed.as_slice());
+    assert!(rt; answer == Ok(false));
+    let answer = same(alloc, &geometry, unnamed.as_slice(), unnamed.as_slice());
+    assert!(rt; answer == Ok(true));
     Ok(())
 }
 

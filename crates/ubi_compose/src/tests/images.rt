@@ -9,8 +9,13 @@ const EC: [u8; 64] = *b"UBI#\x01\0\0\0\
     \0\0\0\0\0\0\0\0\0\0\0\x40\0\0\0\x80\0\0\0\0\
     \0\0\0\0\0\0\0\0\0\0\0\0\0\0\0\0\0\0\0\0\0\0\0\0\0\0\0\0\0\0\0\0\x77\x52\xb3\xc4";
 
+/// The same in the image 0x12345678.
+const NAMED_EC: [u8; 64] = *b"UBI#\x01\0\0\0\
+    \0\0\0\0\0\0\0\0\0\0\0\x40\0\0\0\x80\x12\x34\x56\x78\
+    \0\0\0\0\0\0\0\0\0\0\0\0\0\0\0\0\0\0\0\0\0\0\0\0\0\0\0\0\0\0\0\0\x5b\x73\xf9\x13";
+
 /// The headers of the two copies of the volume table.
-const COPIES: [[u8; 64]; 2] = [
+pub const COPIES: [[u8; 64]; 2] = [
     *b"UBI!\x01\x01\0\x05\
     \x7f\xff\xef\xff\0\0\0\0\0\0\0\0\0\0\0\0\0\0\0\0\0\0\0\0\0\0\0\0\0\0\0\0\
     \0\0\0\0\0\0\0\0\0\0\0\0\0\0\0\0\0\0\0\0\xb8\x25\x64\xa8",
@@ -20,7 +25,7 @@ const COPIES: [[u8; 64]; 2] = [
 ];
 
 /// The headers of the logical eraseblocks 0, 1 and 2 of the dynamic volume 0.
-const LEBS: [[u8; 64]; 3] = [
+pub const LEBS: [[u8; 64]; 3] = [
     *b"UBI!\x01\x01\0\0\
     \0\0\0\0\0\0\0\0\0\0\0\0\0\0\0\0\0\0\0\0\0\0\0\0\0\0\0\0\0\0\0\0\
     \0\0\0\0\0\0\0\0\0\0\0\0\0\0\0\0\0\0\0\0\x73\xb1\xab\x57",
@@ -78,15 +83,28 @@ pub fn small() -> Result<Geometry, Fail> {
     Ok(Geometry::new(512, 64, 64, 128, 32)?)
 }
 
+/// Adds a record.
+fn put_record(bytes: &mut Vec<u8>, (start, check): ([u8; 20], [u8; 4])) -> Result<(), AllocError> {
+    bytes.extend_from_slice(&start)?;
+    bytes.extend_from_slice(&[0; 148])?;
+    bytes.extend_from_slice(&check)
+}
+
 /// The records of a table whose first slot has a record, and whose second has none.
 fn records(alloc: Global, first: ([u8; 20], [u8; 4])) -> Result<Vec<u8>, AllocError> {
     let mut bytes = Vec::new(alloc);
-    for (start, check) in [first, EMPTY] {
-        bytes.extend_from_slice(&start)?;
-        bytes.extend_from_slice(&[0; 148])?;
-        bytes.extend_from_slice(&check)?;
-    }
+    put_record(&mut bytes, first)?;
+    put_record(&mut bytes, EMPTY)?;
     Ok(bytes)
+}
+
+/// Adds those of a table of some slots, whose first has the volume `root`.
+pub fn put_records(bytes: &mut Vec<u8>, slots: u32) -> Result<(), AllocError> {
+    put_record(bytes, ROOT)?;
+    for _ in 1..slots {
+        put_record(bytes, EMPTY)?;
+    }
+    Ok(())
 }
 
 /// Adds an eraseblock: its headers, its data, and 0xFF behind them.
@@ -102,32 +120,55 @@ fn put_block(
     image.extend_from_slice(&[0xFF; 384][data.len().min(384)..])
 }
 
-/// Adds an eraseblock with nothing but its erase-counter header.
+/// Adds an eraseblock with nothing but its erase-counter header, in the image 0x12345678.
 pub fn put_spare(image: &mut Vec<u8>) -> Result<(), AllocError> {
-    put_block(image, &EC, &[0xFF; 64], &[])
+    put_block(image, &NAMED_EC, &[0xFF; 64], &[])
 }
 
-/// The normal image of a table alone.
-pub fn normal_table(alloc: Global, first: ([u8; 20], [u8; 4])) -> Result<Vec<u8>, AllocError> {
+/// The normal image of a table alone, whose eraseblocks have this erase-counter header.
+fn table_under(
+    alloc: Global,
+    ec: &[u8; 64],
+    first: ([u8; 20], [u8; 4]),
+) -> Result<Vec<u8>, AllocError> {
     let mut image = Vec::new(alloc);
     for vid in &COPIES {
-        put_block(&mut image, &EC, vid, records(alloc, first)?.as_slice())?;
+        put_block(&mut image, ec, vid, records(alloc, first)?.as_slice())?;
     }
     Ok(image)
+}
+
+/// The normal image of a table alone, in no image.
+pub fn normal_table(alloc: Global, first: ([u8; 20], [u8; 4])) -> Result<Vec<u8>, AllocError> {
+    table_under(alloc, &EC, first)
 }
 
 /// The normal image of a volume with a record, whose first three logical eraseblocks hold bytes 0x41, 0x42 and 0x43.
-pub fn normal_lebs(alloc: Global, first: ([u8; 20], [u8; 4])) -> Result<Vec<u8>, AllocError> {
-    let mut image = normal_table(alloc, first)?;
+fn lebs_under(
+    alloc: Global,
+    ec: &[u8; 64],
+    first: ([u8; 20], [u8; 4]),
+) -> Result<Vec<u8>, AllocError> {
+    let mut image = table_under(alloc, ec, first)?;
     for (vid, byte) in LEBS.iter().zip([0x41, 0x42, 0x43]) {
-        put_block(&mut image, &EC, vid, &[byte; 384])?;
+        put_block(&mut image, ec, vid, &[byte; 384])?;
     }
     Ok(image)
+}
+
+/// The same with the image sequence number 0x12345678.
+pub fn normal_lebs(alloc: Global, first: ([u8; 20], [u8; 4])) -> Result<Vec<u8>, AllocError> {
+    lebs_under(alloc, &NAMED_EC, first)
 }
 
 /// That of the volume `root`.
 pub fn normal_root(alloc: Global) -> Result<Vec<u8>, AllocError> {
     normal_lebs(alloc, ROOT)
+}
+
+/// The same in no image.
+pub fn unnamed_root(alloc: Global) -> Result<Vec<u8>, AllocError> {
+    lebs_under(alloc, &EC, ROOT)
 }
 
 /// Its eraseblocks in the opposite order.

@@ -27,11 +27,11 @@ fn put_leb(text: &mut Vec<u8>, lnum: &[u8], pair: &[u8], count: usize) -> Result
     Ok(())
 }
 
-/// The image that a text composes to.
-fn composed(alloc: Global, text: &[u8]) -> Result<Vec<u8>, Fail> {
+/// The image that a text composes to, with an image sequence number.
+fn composed(alloc: Global, image_seq: u32, text: &[u8]) -> Result<Vec<u8>, Fail> {
     let geometry = small()?;
     let volumes = parse_spec(alloc, &geometry, text).map_err(|_| "not read")?;
-    let meaning = Meaning::new(&geometry, volumes).map_err(|_| "no meaning")?;
+    let meaning = Meaning::new(&geometry, image_seq, volumes).map_err(|_| "no meaning")?;
     Ok(compose(alloc, &meaning, 0).map_err(|_| "not composed")?)
 }
 
@@ -191,9 +191,9 @@ fn composes_a_text(rt: HostRuntime) -> Result<(), Fail> {
     put_leb(&mut text, b"2", b"43", 384)?;
     put_leb(&mut text, b"0", b"41", 384)?;
     put_leb(&mut text, b"1", b"42", 384)?;
-    let image = composed(alloc, text.as_slice())?;
+    let image = composed(alloc, 0x1234_5678, text.as_slice())?;
     assert!(rt; image.as_slice() == normal_root(alloc)?.as_slice());
-    let image = composed(alloc, b"volume 0 static 3 1 00 boot\ndamaged 0")?;
+    let image = composed(alloc, 0, b"volume 0 static 3 1 00 boot\ndamaged 0")?;
     assert!(rt; image.as_slice() == normal_damaged(alloc)?.as_slice());
     Ok(())
 }

@@ -143,6 +143,16 @@ fn tells_which_read_failed(rt: HostRuntime) -> Result<(), Fail> {
     Ok(())
 }
 
+#[test]
+fn tells_which_read_of_a_text_failed(rt: HostRuntime) -> Result<(), Fail> {
+    let alloc = rt.alloc();
+    let image = normal_pieces(alloc)?;
+    let image = image.as_slice();
+    let reads = reads_of(alloc, image)?;
+    assert!(rt; fault_at(alloc, image, image, reads)? == StreamError::Read(3, 1536));
+    Ok(())
+}
+
 /// Each eraseblock is read 8 times at most: once more than to attach it, if it is a winner.
 #[test]
 fn reads_each_piece_once_more(rt: HostRuntime) -> Result<(), Fail> {

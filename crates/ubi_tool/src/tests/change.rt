@@ -4,12 +4,13 @@ use super::answers::{assert_says, small};
 use super::extract::root_text;
 use super::images::{
     CHECK_OF_61, MARKED_ROOT, ROOT, ec_of, overwrite, plain, put_bytes, records, rivals_image,
-    root_image, table_image, whole_boot,
+    root_image, table_image, unnamed_root, whole_boot,
 };
 use crate::change::run_change;
 use crate::check::run_check;
 use crate::extract::run_extract;
 use crate::list::run_list;
+use crate::same::run_same;
 use std::alloc::{AllocError, Global};
 use std::process::Abort;
 use std::test::Fail;
@@ -62,6 +63,36 @@ impl Planned<'_> {
         let read = run_extract(alloc, self.geometry, cut.as_slice(), 0, &mut writer)?;
         assert_eq!(rt; read.status, 0);
         assert_eq!(rt; writer.taken(), text);
+        Ok(())
+    }
+
+    /// Asserts that the image after some of the steps means the same as another.
+    fn assert_means(
+        &self,
+        rt: &impl Abort,
+        alloc: Global,
+        stop: u32,
+        other: &[u8],
+    ) -> Result<(), Fail> {
+        let cut = self.cut(rt, alloc, Some(stop))?;
+        let compared = run_same(alloc, self.geometry, cut.as_slice(), other)?;
+        assert_says(rt, compared, "same\n", 0)
+    }
+
+    /// Asserts what it means after each number of steps: the old before the turn, and from it on the new.
+    fn assert_kept(
+        &self,
+        rt: &impl Abort,
+        alloc: Global,
+        (turn, count): (u32, u32),
+    ) -> Result<(), Fail> {
+        let changed = self.cut(rt, alloc, None)?;
+        for stop in 0..turn {
+            self.assert_means(rt, alloc, stop, self.image)?;
+        }
+        for stop in turn..count {
+            self.assert_means(rt, alloc, stop, changed.as_slice())?;
+        }
         Ok(())
     }
 
@@ -271,6 +302,64 @@ fn makes_a_blank_eraseblock_ready(rt: HostRuntime) -> Result<(), Fail> {
     planned.assert_all(&rt, alloc, 6)
 }
 
+/// The image of `root` without an image sequence number but in one eraseblock, which names 8, and behind it an eraseblock.
+fn named_once(
+    alloc: Global,
+    geometry: &Geometry,
+    carrier: usize,
+    last: &[u8; 64],
+) -> Result<Vec<u8>, AllocError> {
+    let mut image = unnamed_root(alloc, geometry)?;
+    put_bytes(&mut image, last, &[0xFF; 64], &[])?;
+    overwrite(image.as_mut_slice(), carrier * 512, &ec_of(geometry, 8));
+    Ok(image)
+}
+
+/// The lines of `check` once logical eraseblock 1 was changed in it: the old eraseblock is stale.
+const NAMED_CHECKED: &str = "blocks 6\nblank 0\nfree 0\ntable 2\nused 3\nstale 1\norphan 0\n\
+    dropped 0\ncorrupt 0\ngarbage 0\ntop sqnum 1\nimage seq 8\nmean counter 0\naccepted\n";
+
+#[test]
+fn leaves_the_only_eraseblock_that_names_the_image(rt: HostRuntime) -> Result<(), Fail> {
+    let alloc = rt.alloc();
+    let geometry = small()?;
+    let cases: [([u8; 64], &str, u32); 2] = [
+        (
+            ec_of(&geometry, 0),
+            "steps 2\nprogram block=5 page=1\nprogram block=5 page=2\n",
+            2,
+        ),
+        (
+            [0xFF; 64],
+            "steps 4\nerase block=5\nprogram block=5 page=0\nprogram block=5 page=1\n\
+                program block=5 page=2\n",
+            4,
+        ),
+    ];
+    for (last, lines, count) in cases {
+        let image = named_once(alloc, &geometry, 3, &last)?;
+        let planned = Planned {
+            geometry: &geometry,
+            image: image.as_slice(),
+            lnum: 1,
+            new: &[0x61; 64],
+            lines,
+        };
+        planned.assert_turns(
+            &rt,
+            alloc,
+            (count, count),
+            &root_text(),
+            &text_with(1, 0xFF),
+        )?;
+        planned.assert_kept(&rt, alloc, (count, count))?;
+        let cut = planned.cut(&rt, alloc, None)?;
+        let checked = run_check(alloc, &geometry, cut.as_slice())?;
+        assert_says(&rt, checked, NAMED_CHECKED, 0)?;
+    }
+    Ok(())
+}
+
 /// Adds an eraseblock of 1,024 bytes whose headers share the first of its 4 pages.
 fn put_wide(
     image: &mut Vec<u8>,
@@ -446,6 +535,8 @@ fn refuses_by_what_is_left(rt: HostRuntime) -> Result<(), Fail> {
     let mut image = root_image(alloc, &geometry)?;
     let no_free = "refused K9 NoFree\n";
     assert_refuses(&rt, alloc, image.as_slice(), (0, 1), new, no_free)?;
+    let sole = named_once(alloc, &geometry, 5, &[0xFF; 64])?;
+    assert_refuses(&rt, alloc, sole.as_slice(), (0, 1), new, no_free)?;
     put_bytes(&mut image, &ec_of(&geometry, 0x1234_5678), &[0xFF; 64], &[])?;
     assert_refuses(&rt, alloc, image.as_slice(), (0, 7), new, no_free)?;
     for (sqnum, lnum) in [(u64::MAX, 1), (u64::MAX - 1, 7)] {

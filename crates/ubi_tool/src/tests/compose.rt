@@ -6,7 +6,7 @@ use super::images::{
     whole_boot,
 };
 use super::normal::{
-    ALIGNED_ROOT, EC, LEBS, normal_aligned, normal_boot, normal_damaged, normal_first,
+    ALIGNED_ROOT, LEBS, NAMED_EC, normal_aligned, normal_boot, normal_damaged, normal_first,
     normal_nothing, normal_root, normal_updating, root_bytes,
 };
 use crate::compose::run_compose;
@@ -39,7 +39,7 @@ impl Line<'_> {
 
 /// What composing a text without spares answers.
 fn composed(alloc: Global, text: &[u8]) -> Result<Outcome, Fail> {
-    Ok(run_compose(alloc, &small()?, text, 0)?)
+    Ok(run_compose(alloc, &small()?, text, 0, 0)?)
 }
 
 /// Asserts why each of some texts isn't composed.
@@ -120,10 +120,13 @@ fn composes_a_dynamic_volume(rt: HostRuntime) -> Result<(), Fail> {
     let alloc = rt.alloc();
     let text = root_text(alloc)?;
     let text = text.as_slice();
-    let want = normal_root(alloc)?;
-    assert_composes(&rt, alloc, text, want.as_slice(), "blocks 5\n")?;
+    let outcome = run_compose(alloc, &small()?, text, 0, 0x1234_5678)?;
+    assert_eq!(rt; outcome.text.as_slice(), b"blocks 5\n".as_slice());
+    let composed = outcome.file.ok_or("no file")?;
+    assert_eq!(rt; composed.as_slice(), normal_root(alloc)?.as_slice());
     let image = root_image(alloc, &small()?)?;
-    assert_same(&rt, alloc, text, image.as_slice())?;
+    let compared = run_same(alloc, &small()?, composed.as_slice(), image.as_slice())?;
+    assert_says(&rt, compared, "same\n", 0)?;
     let text = b"volume 0 dynamic 20 1 00 root\nleb 0 0 37\nleb 0 1 fFFf";
     let want = normal_first(alloc, &[0x37])?;
     assert_composes(&rt, alloc, text, want.as_slice(), "blocks 3\n")
@@ -187,15 +190,15 @@ fn composes_static_volumes(rt: HostRuntime) -> Result<(), Fail> {
 fn adds_spare_eraseblocks(rt: HostRuntime) -> Result<(), Fail> {
     let alloc = rt.alloc();
     let text = b"volume 0 dynamic 20 1 00 root\nleb 0 1 6162\n";
-    let outcome = run_compose(alloc, &small()?, text, 1)?;
+    let outcome = run_compose(alloc, &small()?, text, 1, 0x1234_5678)?;
     assert_eq!(rt; outcome.text.as_slice(), b"blocks 4\n".as_slice());
     let image = outcome.file.ok_or("no file")?;
     let mut want = Vec::from_slice(alloc, root_bytes().split_at(1024).0)?;
-    want.extend_from_slice(&EC)?;
+    want.extend_from_slice(&NAMED_EC)?;
     want.extend_from_slice(&LEBS[1])?;
     want.extend_from_slice(b"ab")?;
     want.resize(1536, 0xFF)?;
-    want.extend_from_slice(&EC)?;
+    want.extend_from_slice(&NAMED_EC)?;
     want.resize(2048, 0xFF)?;
     assert_eq!(rt; image.as_slice(), want.as_slice());
     Ok(())
@@ -206,11 +209,11 @@ fn refuses_what_has_no_room(rt: HostRuntime) -> Result<(), Fail> {
     let alloc = rt.alloc();
     let geometry = small()?;
     let text = b"volume 0 dynamic 20 1 00 root";
-    let outcome = run_compose(alloc, &geometry, text, 30)?;
+    let outcome = run_compose(alloc, &geometry, text, 30, 0)?;
     assert_eq!(rt; outcome.text.as_slice(), b"blocks 32\n".as_slice());
-    let answer = run_compose(alloc, &geometry, text, 31)?;
+    let answer = run_compose(alloc, &geometry, text, 31, 0)?;
     assert_says(&rt, answer, "refused C1 TooMany\n", 1)?;
-    let answer = run_compose(alloc, &geometry, text, u32::MAX)?;
+    let answer = run_compose(alloc, &geometry, text, u32::MAX, 0)?;
     assert_says(&rt, answer, "refused C1 TooMany\n", 1)
 }
 
@@ -307,7 +310,7 @@ fn names_a_logical_eraseblock_that_is_too_long(rt: HostRuntime) -> Result<(), Fa
         count: 385,
     }
     .put(&mut text)?;
-    let answer = run_compose(alloc, &small()?, text.as_slice(), 0)?;
+    let answer = run_compose(alloc, &small()?, text.as_slice(), 0, 0)?;
     assert_says(&rt, answer, "refused P8 Long line=2\n", 1)
 }
 

@@ -35,6 +35,38 @@ fn composes_a_file(rt: HostRuntime) -> Result<(), Fail> {
     remove_files(&rt, &["compose_in.txt", "composed.img", "composed.bin"])
 }
 
+/// Lines that give the image sequence number or leave it out, and compare what was composed.
+static NUMBERED: [(&str, &str, u8); 6] = [
+    ("compose numbered.txt --out zero.img", "blocks 2\n", 0),
+    (
+        "compose numbered.txt --out most.img --seq 4294967295 --spares 30",
+        "blocks 32\n",
+        0,
+    ),
+    (
+        "compose numbered.txt --out eight.img --seq 8",
+        "blocks 2\n",
+        0,
+    ),
+    ("same zero.img eight.img", "different\n", 1),
+    ("same eight.img most.img", "different\n", 1),
+    (
+        "check most.img",
+        "blocks 32\nblank 0\nfree 30\ntable 2\nused 0\nstale 0\norphan 0\ndropped 0\n\
+            corrupt 0\ngarbage 0\ntop sqnum 0\nimage seq 4294967295\nmean counter 0\naccepted\n",
+        0,
+    ),
+];
+
+#[test]
+fn composes_with_a_number(rt: HostRuntime) -> Result<(), Fail> {
+    fs::write(&rt, "numbered.txt", b"".as_slice())?;
+    assert_lines(&rt, rt.alloc(), &NUMBERED)?;
+    let zero = fs::read(&rt, "zero.img")?;
+    assert!(rt; zero.as_slice() == normal_nothing(rt.alloc())?.as_slice());
+    remove_files(&rt, &["numbered.txt", "zero.img", "eight.img", "most.img"])
+}
+
 /// Lines for which no file is opened.
 static REFUSED: [(&str, &str, u8); 4] = [
     (

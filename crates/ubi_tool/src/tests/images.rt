@@ -78,14 +78,23 @@ pub const BOOT_UPDATING: Record = Record {
     check: [0x0E, 0x98, 0xDF, 0x4C],
 };
 
-/// An image as `ubinize` writes it: a table with the volume `root`, and three of its logical eraseblocks.
-pub fn root_image(alloc: Global, geometry: &Geometry) -> Result<Vec<u8>, AllocError> {
-    let ec = ec_of(geometry, 0x1234_5678);
-    let mut image = table_image(alloc, &ec, &ROOT)?;
-    put_block(&mut image, &ec, &plain(0, 0, 0), &[0x41; 384])?;
-    put_block(&mut image, &ec, &plain(0, 1, 0), &[0x42; 384])?;
-    put_block(&mut image, &ec, &plain(0, 2, 0), &[0x43; 384])?;
+/// A table with the volume `root`, and three of its logical eraseblocks, under one erase-counter header.
+fn root_under(alloc: Global, ec: &[u8; 64]) -> Result<Vec<u8>, AllocError> {
+    let mut image = table_image(alloc, ec, &ROOT)?;
+    put_block(&mut image, ec, &plain(0, 0, 0), &[0x41; 384])?;
+    put_block(&mut image, ec, &plain(0, 1, 0), &[0x42; 384])?;
+    put_block(&mut image, ec, &plain(0, 2, 0), &[0x43; 384])?;
     Ok(image)
+}
+
+/// That image as `ubinize` writes it, with an image sequence number.
+pub fn root_image(alloc: Global, geometry: &Geometry) -> Result<Vec<u8>, AllocError> {
+    root_under(alloc, &ec_of(geometry, 0x1234_5678))
+}
+
+/// The same without one.
+pub fn unnamed_root(alloc: Global, geometry: &Geometry) -> Result<Vec<u8>, AllocError> {
+    root_under(alloc, &ec_of(geometry, 0))
 }
 
 /// The image of `root` in another order: reversed, with erase counters from 10 on, and behind it a logical eraseblock

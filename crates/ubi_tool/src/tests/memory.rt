@@ -104,7 +104,7 @@ fn tells_all_or_runs_out_of_memory(rt: HostRuntime) -> Result<(), Fail> {
         is_extracted(&rt, alloc, &geometry, &image),
         is_normalised(&rt, alloc, &geometry, &image),
         is_told(&rt, run_same(alloc, &geometry, &image, &image), "same\n"),
-        is_told(&rt, run_compose(alloc, &geometry, SPEC, 1), "blocks 5\n"),
+        is_told(&rt, run_compose(alloc, &geometry, SPEC, 1, 0), "blocks 5\n"),
         is_changed(&rt, alloc, &geometry),
     ];
     if told.contains(&false) {

@@ -8,6 +8,11 @@ pub const EC: [u8; 64] = *b"UBI#\x01\0\0\0\
     \0\0\0\0\0\0\0\0\0\0\0\x40\0\0\0\x80\0\0\0\0\
     \0\0\0\0\0\0\0\0\0\0\0\0\0\0\0\0\0\0\0\0\0\0\0\0\0\0\0\0\0\0\0\0\x77\x52\xb3\xc4";
 
+/// The same in the image 0x12345678.
+pub const NAMED_EC: [u8; 64] = *b"UBI#\x01\0\0\0\
+    \0\0\0\0\0\0\0\0\0\0\0\x40\0\0\0\x80\x12\x34\x56\x78\
+    \0\0\0\0\0\0\0\0\0\0\0\0\0\0\0\0\0\0\0\0\0\0\0\0\0\0\0\0\0\0\0\0\x5b\x73\xf9\x13";
+
 /// The headers of the two copies of the volume table.
 pub const COPIES: [[u8; 64]; 2] = [
     *b"UBI!\x01\x01\0\x05\
@@ -63,7 +68,8 @@ pub fn normal_nothing(alloc: Global) -> Result<Vec<u8>, AllocError> {
     table(alloc, &NONE)
 }
 
-/// That of the volume `root`, whose first three logical eraseblocks hold bytes 0x41, 0x42 and 0x43. It takes no memory.
+/// That of the volume `root`, whose first three logical eraseblocks hold bytes 0x41, 0x42 and 0x43, in the image
+/// 0x12345678. It takes no memory.
 pub fn root_bytes() -> [u8; 2560] {
     let mut bytes = [0xFF; 2560];
     lay(&mut bytes, 0, &COPIES[0], &records(&ROOT));
@@ -77,7 +83,7 @@ pub fn root_bytes() -> [u8; 2560] {
 /// Writes an eraseblock over blank bytes from a place on.
 fn lay(bytes: &mut [u8], at: u16, vid: &[u8; 64], data: &[u8]) {
     let at = usize::from(at);
-    overwrite(bytes, at, &EC);
+    overwrite(bytes, at, &NAMED_EC);
     overwrite(bytes, at + 64, vid);
     overwrite(bytes, at + 128, data);
 }

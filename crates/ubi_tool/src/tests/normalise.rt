@@ -7,10 +7,10 @@ use super::pebs::{
     A, ALIGNED_A, ALIGNED_FIRST, ALIGNED_SECOND, ALIGNED_ZEROED, B, BEYOND, BOOT_FIRST,
     BOOT_SECOND, C, DROPPED, EMPTY_D, ERASED, FIFTH_OF_5, FIRST, FIRST_ALIGNED, FIRST_BOOT,
     FIRST_OF_5, FIRST_UPDATING, FOURTH_OF_7, FREE, GARBAGE, NEWER_0, NEWER_1, NORMAL_34, NORMAL_35,
-    NORMAL_37, NORMAL_A, NORMAL_ALIGNED, NORMAL_B, NORMAL_C, NORMAL_DAMAGED, NORMAL_FIRST,
-    NORMAL_SECOND, NORMAL_TEXT_0, NORMAL_TEXT_1, OLD, OLDER, RIGHT, ROOT_FIRST, ROOT_SECOND,
-    SECOND, SECOND_ALIGNED, SECOND_BOOT, SECOND_OF_6, SECOND_UPDATING, TEXT_0, TEXT_1, THIRD_OF_5,
-    TORN, UNLIKE, UNREAD, UPDATING_FIRST, UPDATING_SECOND, WORN_A, WORN_B, WORN_C, WORN_FIRST,
+    NORMAL_37, NORMAL_A, NORMAL_ALIGNED, NORMAL_B, NORMAL_C, NORMAL_DAMAGED, NORMAL_TEXT_0,
+    NORMAL_TEXT_1, OLD, OLDER, RIGHT, ROOT_FIRST, ROOT_SECOND, SECOND, SECOND_ALIGNED, SECOND_BOOT,
+    SECOND_OF_6, SECOND_UPDATING, TEXT_0, TEXT_1, THIRD_OF_5, TORN, UNLIKE, UNNAMED_FIRST,
+    UNNAMED_SECOND, UNREAD, UPDATING_FIRST, UPDATING_SECOND, WORN_A, WORN_B, WORN_C, WORN_FIRST,
     WORN_SECOND, WRONG_4, WRONG_6, WRONG_9,
 };
 use std::alloc::Global;
@@ -36,7 +36,7 @@ const ROOT: Case = Case {
 const NOTHING: Case = Case {
     what: "blank eraseblocks",
     pebs: &[ERASED, ERASED, ERASED],
-    answer: Answer::Normal("blocks 2\n", &[NORMAL_FIRST, NORMAL_SECOND]),
+    answer: Answer::Normal("blocks 2\n", &[UNNAMED_FIRST, UNNAMED_SECOND]),
     checked: &[],
     ..ROOT
 };
@@ -92,7 +92,7 @@ const ALIGNED: Case = Case {
 /// One without volumes whose copy 0 of the table has another byte.
 const OTHER_BYTE: Case = Case {
     what: "another byte in an erase-counter header of the table",
-    pebs: &[NORMAL_FIRST, NORMAL_SECOND],
+    pebs: &[UNNAMED_FIRST, UNNAMED_SECOND],
     over: &[(24, &[0x55])],
     ..NOTHING
 };
@@ -143,7 +143,7 @@ static TABLES: [Case; 10] = [
     },
     Case {
         what: "copy 0 of the table alone",
-        pebs: &[NORMAL_FIRST],
+        pebs: &[UNNAMED_FIRST],
         ..NOTHING
     },
     OTHER_BYTE,

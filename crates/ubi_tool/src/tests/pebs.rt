@@ -6,7 +6,7 @@ use super::images::{
     BOOT, BOOT_UPDATING, CHECK_OF_37, CHECK_OF_39, CHECK_OF_41, NONE, ROOT, Record, overwrite,
     put_bytes, records,
 };
-use super::normal::{ALIGNED, ALIGNED_ROOT, COPIES, DAMAGED, EC, LEBS, WHOLE};
+use super::normal::{ALIGNED, ALIGNED_ROOT, COPIES, DAMAGED, EC, LEBS, NAMED_EC, WHOLE};
 use std::alloc::{AllocError, Global};
 use ubi_media::{EcHeader, Geometry, LAYOUT_VOLUME, VidHeader, VolKind, write_ec, write_vid};
 
@@ -18,8 +18,10 @@ pub const IMAGE: u32 = 0x1234_5678;
 pub enum Ec {
     /// A header with a counter, of an image.
     Is(u32, u32),
-    /// That of normal images.
+    /// That of normal images, of the image 0x12345678.
     Normal,
+    /// That of normal images of no image.
+    Unnamed,
     /// 0xFF throughout.
     Blank,
     /// Bytes of which nothing can be read.
@@ -113,7 +115,8 @@ impl Ec {
     fn bytes(&self, geometry: &Geometry) -> [u8; 64] {
         match *self {
             Ec::Is(counter, image_seq) => write_ec(geometry, &EcHeader { counter, image_seq }),
-            Ec::Normal => EC,
+            Ec::Normal => NAMED_EC,
+            Ec::Unnamed => EC,
             Ec::Blank => [0xFF; 64],
             Ec::Corrupt => [0; 64],
         }
@@ -416,6 +419,17 @@ pub const NORMAL_FIRST: Peb = Peb {
 pub const NORMAL_SECOND: Peb = Peb {
     vid: Vid::Copy1,
     ..NORMAL_FIRST
+};
+
+/// The same of no image.
+pub const UNNAMED_FIRST: Peb = Peb {
+    ec: Ec::Unnamed,
+    ..NORMAL_FIRST
+};
+
+pub const UNNAMED_SECOND: Peb = Peb {
+    ec: Ec::Unnamed,
+    ..NORMAL_SECOND
 };
 
 /// Those of a table with the volume `root`, and its logical eraseblocks 0, 1 and 2.

@@ -2,8 +2,8 @@
 
 use super::answers::{assert_lines, assert_says, remove_files, small};
 use super::images::{
-    damaged_boot, ec_of, overwrite, reversed_image, rivals_image, root_image, updating_image,
-    whole_boot,
+    damaged_boot, ec_of, overwrite, reversed_image, rivals_image, root_image, unnamed_root,
+    updating_image, whole_boot,
 };
 use super::normal::{normal_damaged, root_bytes};
 use crate::same::run_same;
@@ -65,6 +65,7 @@ fn tells_what_means_another(rt: HostRuntime) -> Result<(), Fail> {
     let alloc = rt.alloc();
     let root = root_image(alloc, &small()?)?;
     let root = root.as_slice();
+    assert_different(&rt, alloc, root, unnamed_root(alloc, &small()?)?.as_slice())?;
     assert_different(&rt, alloc, root, rivals_image(alloc, &small()?)?.as_slice())?;
     assert_different(
         &rt,

@@ -98,7 +98,7 @@ fn shows_words_that_are_missing(rt: HostRuntime) -> Result<(), Fail> {
 }
 
 /// Lines with words that can't be read.
-static UNREAD: [(&str, &str); 9] = [
+static UNREAD: [(&str, &str); 10] = [
     (
         "normalise a --out b --peb 4294967296 --page 64",
         "invalid value",
@@ -111,6 +111,10 @@ static UNREAD: [(&str, &str); 9] = [
     (
         "compose a --out b --spares x --peb 512 --page 64",
         "'--spares <N>'",
+    ),
+    (
+        "compose a --out b --seq 4294967296 --peb 512 --page 64",
+        "'--seq <N>'",
     ),
     (
         "normalise a b --out c --peb 512 --page 64",

@@ -135,7 +135,7 @@ fn volumes(alloc: Global, given: &[(u32, Given)]) -> Result<Vec<(u32, Volume)>, 
 
 /// The error of volumes that have no meaning together.
 fn refused(alloc: Global, given: &[(u32, Given)]) -> Result<MeaningError, Fail> {
-    match Meaning::new(&geometry()?, volumes(alloc, given)?) {
+    match Meaning::new(&geometry()?, 0x1234_5678, volumes(alloc, given)?) {
         Ok(_) => Err("has a meaning".into()),
         Err(error) => Ok(error),
     }
@@ -143,7 +143,7 @@ fn refused(alloc: Global, given: &[(u32, Given)]) -> Result<MeaningError, Fail> 
 
 /// The meaning of volumes that have one.
 fn made(alloc: Global, given: &[(u32, Given)]) -> Result<Meaning, Fail> {
-    match Meaning::new(&geometry()?, volumes(alloc, given)?) {
+    match Meaning::new(&geometry()?, 0x1234_5678, volumes(alloc, given)?) {
         Ok(meaning) => Ok(meaning),
         Err(_) => Err("has no meaning".into()),
     }

@@ -14,6 +14,8 @@ use ubi_media::{LAYOUT_VOLUME, VidHeader, VolKind};
 fn attaches_an_image(rt: HostRuntime) -> Result<(), Fail> {
     let attached = attached(rt.alloc(), &BASE)?;
     assert!(rt; attached.image_seq() == 305_419_896);
+    assert!(rt; attached.meaning().image_seq() == 305_419_896);
+    assert!(rt; attached.carriers() == 5);
     assert!(rt; attached.mean_ec() == 0);
     assert!(rt; attached.winner(LAYOUT_VOLUME, 1) == Some(1));
     assert!(rt; attached.winner(0, 2) == Some(4));

@@ -15,14 +15,14 @@ use Rattle.ubi_change.specs.Planned.{IsPlan, IsChangeRefusal}
 use Rattle.ubi_change.specs.Refused.{first_of}
 use Rattle.ubi_change.specs.declared.planning.Target.{Target}
 use Rattle.ubi_media.proofs.Padding.{half_pad, reserved_within}
-use Rattle.ubi_change.proofs.CopyFits.{bytes-each}
+use Rattle.ubi_media.proofs.ByteLists.{bytes_each}
 use Rattle.ubi_change.proofs.PlanFits.{plan_fits}
 use Rattle.ubi_change.specs.Frugal.{IsFrugal}
 use Rattle.ubi_change.specs.Order.{RisesBetweenErases}
 use Rattle.ubi_change.proofs.PlanFrugal.{plan_frugal}
 use Rattle.ubi_change.proofs.PlanRises.{plan_rises}
 use Rattle.ubi_change.proofs.PlanMade.{allowed, are_within, image_stands, no_volume, own_stands, steps_are}
-use Rattle.ubi_change.proofs.PlanSurvives.{mean_few, plan_survives, sound}
+use Rattle.ubi_change.proofs.PlanSurvives.{mean_few, plan_survives, seq_narrow, sound}
 use Rattle.ubi_change.proofs.Surveys.{has_none, has_volume, whole}
 use Rattle.ubi_change.proofs.planning.plan_change.Goals as goal
 
@@ -145,10 +145,8 @@ returns-clause-survives c =
     let image : Image = record { sizes = c.args.geometry.now; bytes = c.args.image.now } in
     let made : IsPlan image c.args.id c.args.lnum c.args.new.now c.in_ok-steps_on.field-0.items =
     returns-clause-plan c in
-    let narrow : c.in_ok-surveyed.surveyed.scan.image_seq < 2 ^ 32 =
-    subst (λ (n : ℕ). n < 2 ^ 32) c.image_seq.ensures c.image_seq.type_inv in
     let planned = plan_survives image made.from c.args.id c.args.lnum c.args.new.now made.volume c.page.ensures.limits
-    made.attached narrow made.there made.allowed in (
+    made.attached made.there made.allowed in (
       made.from.meaning,
       made.attached.accepted,
       subst (in_image SurvivesCuts image made.from.meaning c.args.id c.args.lnum c.args.new.now) (sym made.plan)
@@ -161,9 +159,8 @@ returns-clause-fits c =
     let image : Image = record { sizes = c.args.geometry.now; bytes = c.args.image.now } in
     let made : IsPlan image c.args.id c.args.lnum c.args.new.now c.in_ok-steps_on.field-0.items =
     returns-clause-plan c in
-    let narrow : c.in_ok-surveyed.surveyed.scan.image_seq < 2 ^ 32 =
-    subst (λ (n : ℕ). n < 2 ^ 32) c.image_seq.ensures c.image_seq.type_inv in
-    let bytes = bytes-each c.args.new.now (λ i. (c.type_inv.new i).fits) in
+    let narrow = seq_narrow image made.from made.attached in
+    let bytes = bytes_each c.args.new.now (λ i. (c.type_inv.new i).fits) in
     let g = c.page.ensures.limits in
     let sound_record = sound image made.from made.attached c.args.id made.volume made.there in
     let planned = plan_fits image g made.from made.attached (mean_few image made.from made.attached) narrow c.args.id
@@ -178,8 +175,7 @@ returns-clause-rises c =
     let image : Image = record { sizes = c.args.geometry.now; bytes = c.args.image.now } in
     let made : IsPlan image c.args.id c.args.lnum c.args.new.now c.in_ok-steps_on.field-0.items =
     returns-clause-plan c in
-    let narrow : c.in_ok-surveyed.surveyed.scan.image_seq < 2 ^ 32 =
-    subst (λ (n : ℕ). n < 2 ^ 32) c.image_seq.ensures c.image_seq.type_inv in
+    let narrow = seq_narrow image made.from made.attached in
     let planned = plan_rises image c.page.ensures.limits made.from made.attached narrow c.args.id c.args.lnum
     c.args.new.now made.volume made.there made.allowed in
     subst (in_image RisesBetweenErases image) (sym made.plan) planned
@@ -190,8 +186,7 @@ returns-clause-frugal c =
     let image : Image = record { sizes = c.args.geometry.now; bytes = c.args.image.now } in
     let made : IsPlan image c.args.id c.args.lnum c.args.new.now c.in_ok-steps_on.field-0.items =
     returns-clause-plan c in
-    let narrow : c.in_ok-surveyed.surveyed.scan.image_seq < 2 ^ 32 =
-    subst (λ (n : ℕ). n < 2 ^ 32) c.image_seq.ensures c.image_seq.type_inv in
+    let narrow = seq_narrow image made.from made.attached in
     let planned = plan_frugal image c.page.ensures.limits made.from made.attached narrow c.args.id c.args.lnum
     c.args.new.now made.volume made.there made.allowed in (
       made.from,

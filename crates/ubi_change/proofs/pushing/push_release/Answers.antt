@@ -11,5 +11,5 @@ returns c =
     (release_pushed c.args.blocks.now.sizes (eraseblocks c.args.blocks.now) (shown c.args.surveyed.now)
     c.args.steps.now.items c.push_renew.new.steps.items
     c.geometry.result c.args.p c.next_ec.result c.args.ec c.geometry.ensures
-    (sym c.is_worn.ensures ∙ c.if-is_worn.false) c.next_ec.ensures)
+    (sym c.stays.ensures ∙ c.if-stays.false) c.next_ec.ensures)
     c.push_renew.ensures

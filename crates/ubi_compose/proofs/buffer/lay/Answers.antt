@@ -14,7 +14,7 @@ returns c =
     let vid_from = limits.vid_from in
     let data_from = limits.data_from in
     let leb = limits.leb in
-    let ec : List ℕ = ec_bytes s new_ec in
+    let ec : List ℕ = ec_bytes s (new_ec c.args.image_seq) in
     let vid : List ℕ = vid_bytes c.args.header.now in
     let text : List ℕ = take c.args.len (drop s.data_offset c.args.buffer.now) in
     let ec_size : length ec ≡ 64 = refl in
@@ -36,7 +36,8 @@ returns c =
     omega (arith, h_first.back_len, h_leb.front_len, vid_at, data_at, vid_size) in
     let last_gap : length back - c.args.len ≡ leb_size s - length text = omega (arith, back_size, text_size) in
     let a = c.put_front.ensures
-    ∙ ap (λ xs. xs ++ blank (length c.split_at_mut-first.result.0.now - length xs)) c.write_ec.ensures.bytes
+    ∙ ap (λ xs. xs ++ blank (length c.split_at_mut-first.result.0.now - length xs))
+    (c.write_ec.ensures.bytes ∙ ap (ec_bytes s) c.new_ec.ensures)
     ∙ ap (λ n. ec ++ blank n) first_gap in
     let b = c.put_front-2.ensures
     ∙ ap (λ xs. xs ++ blank (length c.split_at_mut-first.result.1.now - length xs)) c.write_vid.ensures.bytes

@@ -19,6 +19,7 @@ returns-clause-bytes c =
       c.in_ok-put_table.ensures,
       c.in_ok-image.ensures.items,
       c.geometry-geometry.ensures.value,
+      c.image_seq.ensures.value,
     )
     (composed_pieces c.args.meaning.now c.args.spares)
 
@@ -33,6 +34,7 @@ returns-clause-accepted c =
       c.in_ok-put_table.ensures,
       c.in_ok-image.ensures.items,
       c.geometry-geometry.ensures.value,
+      c.image_seq.ensures.value,
     )
     (composed_pieces m c.args.spares) in
     let room : HasRoom m c.args.spares = search rules in

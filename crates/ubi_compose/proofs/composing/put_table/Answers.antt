@@ -26,5 +26,6 @@ returns c =
       c.plain-first.ensures,
       c.plain-second.ensures,
       c.geometry-geometry.ensures.value,
+      c.image_seq-image_seq.ensures.value,
     ) refl)
     c.put_block-2.ensures

@@ -16,12 +16,13 @@ returns c =
       c.in_ok-put_blank.ensures,
       c.in_ok-extend_from_slice.ensures.items,
       c.write_ec.ensures.bytes,
+      c.new_ec.ensures,
       c.write_vid.ensures.bytes,
       c.leb_size.ensures.value,
       c.data_offset.ensures.value,
       c.vid_offset-2.ensures.value,
       c.vid_offset.ensures.value,
     )
-    (laid-pieces c.args.geometry.now c.vid_offset.ensures.limits (ec_bytes c.args.geometry.now new_ec)
+    (laid-pieces c.args.geometry.now c.vid_offset.ensures.limits (ec_bytes c.args.geometry.now (new_ec c.args.image_seq))
     (vid_bytes c.args.header.now) c.args.text.now refl refl c.args.image.now.items))
     c.put_blank-3.ensures

@@ -72,7 +72,7 @@ returns-clause-answer g c = λ x xs y ys h k.
     let all : i ≡ length (finite.entries p.records.of) =
     (let end = c.loop-listed.auto.listed-index-end in let test = c.loop-listed-test.false in
     omega (arith, end, test, ap length entries)) in (
-      λ t. all_same c.args.geometry.now p c.args.there.now x y h k c.requires.same i all
+      λ t. all_same c.args.geometry.now p c.args.there.now x y h k c.requires.named c.requires.same i all
           (c.loop-listed.invariant.same x xs y ys h k),
       λ same. refl,
     )

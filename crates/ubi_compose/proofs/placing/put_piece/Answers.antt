@@ -16,7 +16,7 @@ returns-in-Ok-put_laid-clause-written g c =
     omega (arith, length-drop s.data_offset read, c.fetch.auto.buffer, c.requires.room, c.requires.text) in
     wrote_text _ _ _ _ _ s.peb_size c.args.done _ c.in-Ok-put_laid.ensures.ok c.put_laid.ensures.long
     (ap (λ n. c.args.done + n) (c.from.ensures ∙ c.peb_size-in-Ok-put_laid.ensures.value))
-    (λ image t holds w. piece_is s c.args.data_pad c.args.id c.args.used c.args.lnum c.args.len
+    (λ image t holds w. piece_is s c.args.image_seq c.args.data_pad c.args.id c.args.used c.args.lnum c.args.len
     c.given_check-check.result
     read (block (blocks_of s image) c.args.p) (c.in-Ok.ensures.bytes image holds) c.piece_header-header.result
     c.piece_header-header.ensures
@@ -30,7 +30,7 @@ returns-in-Err-put_laid-clause-failed g c =
     omega (arith, length-drop s.data_offset read, c.fetch.auto.buffer, c.requires.room, c.requires.text) in
     wrote_cut _ _ _ _ _ s.peb_size c.in-Err-put_laid.more c.args.done _ c.in-Err-put_laid.ensures.err
     c.put_laid.ensures.long c.in-Err-put_laid.ensures.short refl
-    (λ image t holds w. piece_is s c.args.data_pad c.args.id c.args.used c.args.lnum c.args.len
+    (λ image t holds w. piece_is s c.args.image_seq c.args.data_pad c.args.id c.args.used c.args.lnum c.args.len
     c.given_check-check.result
     read (block (blocks_of s image) c.args.p) (c.in-Ok.ensures.bytes image holds) c.piece_header-header.result
     c.piece_header-header.ensures

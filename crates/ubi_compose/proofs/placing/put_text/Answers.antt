@@ -10,7 +10,7 @@ returns-in-Ok-clause-written g c = λ k.
     ∙ c.fill.ensures in
     wrote_text k _ _ _ _ s.peb_size c.args.done _ c.in-Ok.ensures.ok c.put_laid.ensures.long
     (ap (λ n. c.args.done + n) (c.from.ensures ∙ c.peb_size-in-Ok.ensures.value))
-    (λ image t holds w. w ∙ ap (λ x. laid_bytes s new_ec (record { header = c.args.header.now; text = x })) (sym is))
+    (λ image t holds w. w ∙ ap (λ x. laid_bytes s (new_ec c.args.image_seq) (record { header = c.args.header.now; text = x })) (sym is))
 
 pub returns-in-Err-clause-failed : goal.returns-in-Err-clause-failed
 returns-in-Err-clause-failed g c = λ k.
@@ -19,4 +19,4 @@ returns-in-Err-clause-failed g c = λ k.
     ∙ c.fill.ensures in
     wrote_cut k _ _ _ _ s.peb_size c.in-Err.more c.args.done _ c.in-Err.ensures.err c.put_laid.ensures.long
     c.in-Err.ensures.short refl
-    (λ image t holds w. w ∙ ap (λ x. laid_bytes s new_ec (record { header = c.args.header.now; text = x })) (sym is))
+    (λ image t holds w. w ∙ ap (λ x. laid_bytes s (new_ec c.args.image_seq) (record { header = c.args.header.now; text = x })) (sym is))

@@ -20,13 +20,13 @@ returns-in_err-total-clause-failed g c =
     c.in-Some.ensures.1 in
     let failed : IsWroteError s (g.S.BlockSource.known c.loop-lnum.source) (g.W.Write.contents c.loop-lnum.writer)
     (g.W.Write.contents c.put_unless_blank.new.writer)
-    (dynamic_text s c.data_pad-data_pad.result c.args.id c.in-Some.lnum c.usable-size.result c.in-Some.p)
+    (dynamic_text s c.image_seq-image_seq.result c.data_pad-data_pad.result c.args.id c.in-Some.lnum c.usable-size.result c.in-Some.p)
     c.loop-lnum.total e = c.in_err-total.ensures.failed in
     rw (from.1, from.2)
     (dynamic_failed s p c.args.id r c.requires.recorded c.requires.listed k _ _ _ c.loop-lnum.from c.in-Some.lnum
     c.in-Some.p c.in-Some.ensures below
     c.args.done c.loop-lnum.total e c.loop-lnum.invariant.wrote
-    (rw (← c.loop-lnum.invariant.source, ← c.usable-size.ensures.value, ← c.data_pad-data_pad.ensures) failed))
+    (rw (← c.loop-lnum.invariant.source, ← c.image_seq-image_seq.ensures, ← c.usable-size.ensures.value, ← c.data_pad-data_pad.ensures) failed))
 
 pub loop-lnum-preserved : goal.loop-lnum-preserved
 loop-lnum-preserved g c =
@@ -39,13 +39,13 @@ loop-lnum-preserved g c =
     let below = counted_below p c.args.id r c.requires.recorded c.requires.kind l c.in-Some.p c.in-Some.ensures.1 in
     let written : Wrote (g.S.BlockSource.known c.loop-lnum.source) (g.W.Write.contents c.loop-lnum.writer)
     (g.W.Write.contents c.put_unless_blank.new.writer)
-    (dynamic_text s c.data_pad-data_pad.result c.args.id l c.usable-size.result c.in-Some.p) All c.loop-lnum.total
+    (dynamic_text s c.image_seq-image_seq.result c.data_pad-data_pad.result c.args.id l c.usable-size.result c.in-Some.p) All c.loop-lnum.total
     c.in_ok-total.total = c.in_ok-total.ensures.written in
     record {
       source = c.in_ok-total.ensures.known ∙ c.loop-lnum.invariant.source;
       wrote = dynamic_wrote s p c.args.id r c.requires.recorded c.requires.listed k _ _ _ c.loop-lnum.from l c.in-Some.p
           c.in-Some.ensures below c.args.done c.loop-lnum.total c.in_ok-total.total c.loop-lnum.invariant.wrote
-          (rw (← c.loop-lnum.invariant.source, ← c.usable-size.ensures.value, ← c.data_pad-data_pad.ensures) written);
+          (rw (← c.loop-lnum.invariant.source, ← c.image_seq-image_seq.ensures, ← c.usable-size.ensures.value, ← c.data_pad-data_pad.ensures) written);
       few = (let few = c.loop-lnum.invariant.few in let most = c.in_ok-total.ensures.most in
           let next = next_few c.loop-lnum.from l s.peb_size low in omega (arith, few, most, next));
       within = omega (arith, below);

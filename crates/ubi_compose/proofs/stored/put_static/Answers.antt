@@ -34,13 +34,13 @@ returns-in_err-total-clause-failed g c =
     let below : n < c.args.lebs = c.loop-lnum-test.true in
     let failed : IsWroteError s (g.S.BlockSource.known c.loop-lnum.source) (g.W.Write.contents c.loop-lnum.writer)
     (g.W.Write.contents c.put_piece.new.writer)
-    (static_text s c.data_pad-data_pad.result id c.args.lebs n c.share_len-len.result c.in-Some.p) c.loop-lnum.total
+    (static_text s c.image_seq-image_seq.result c.data_pad-data_pad.result id c.args.lebs n c.share_len-len.result c.in-Some.p) c.loop-lnum.total
     e = c.in_err-total.ensures.failed in
     rw (from.1, from.2)
     (static_failed s p id r c.requires.recorded c.requires.sound c.args.lebs c.args.bytes c.requires.listed k _ _ _ n
     c.in-Some.field-0-0 c.in-Some.p c.share_len-len.result below c.in-Some.ensures len
     c.args.done c.loop-lnum.total e c.loop-lnum.invariant.wrote
-    (rw (← c.loop-lnum.invariant.source, ← c.data_pad-data_pad.ensures) failed))
+    (rw (← c.loop-lnum.invariant.source, ← c.image_seq-image_seq.ensures, ← c.data_pad-data_pad.ensures) failed))
 
 pub loop-lnum-preserved : goal.loop-lnum-preserved
 loop-lnum-preserved g c =
@@ -56,7 +56,7 @@ loop-lnum-preserved g c =
           c.requires.listed k _ _ _ n c.in-Some.field-0-0 c.in-Some.p c.share_len-len.result c.loop-lnum-test.true
           c.in-Some.ensures
           len c.args.done c.loop-lnum.total c.in_ok-total.total c.loop-lnum.invariant.wrote
-          (rw (← c.loop-lnum.invariant.source, ← c.data_pad-data_pad.ensures) written);
+          (rw (← c.loop-lnum.invariant.source, ← c.image_seq-image_seq.ensures, ← c.data_pad-data_pad.ensures) written);
       few = (let few = c.loop-lnum.invariant.few in let least = c.in_ok-total.ensures.least in
           let next : (n + 1) * s.peb_size ≡ n * s.peb_size + s.peb_size = omega arith in
           omega (arith, few, least, next));

@@ -28,9 +28,9 @@ returns-in-Ok-clause-written g c =
     let s = c.args.geometry.now in
     let h = c.damaged_header-header.result in
     let is = c.damaged_header-header.ensures ∙ ap (λ n. (damaged_block n c.args.id).header) c.data_pad.ensures in
-    wrote_as k _ _ (laid_text s h []) (volume_text s c.args.places.now c.args.id) All c.args.done c.in-Ok.total
+    wrote_as k _ _ (laid_text s c.args.places.now.image_seq h []) (volume_text s c.args.places.now c.args.id) All c.args.done c.in-Ok.total
     (damaged_text s c.args.places.now c.args.id c.args.entry.now c.requires.recorded h is c.in-Damaged.ensures)
-    (c.in-Ok.ensures.written k)
+    (rw c.image_seq.ensures at (c.in-Ok.ensures.written k))
 
 pub returns-in-Ok-clause-most : goal.returns-in-Ok-clause-most
 returns-in-Ok-clause-most g c =
@@ -45,9 +45,9 @@ returns-in-Err-clause-failed g c =
     let s = c.args.geometry.now in
     let h = c.damaged_header-header.result in
     let is = c.damaged_header-header.ensures ∙ ap (λ n. (damaged_block n c.args.id).header) c.data_pad.ensures in
-    wrote_as k _ _ (laid_text s h []) (volume_text s c.args.places.now c.args.id) NotAll c.args.done c.in-Err.total
+    wrote_as k _ _ (laid_text s c.args.places.now.image_seq h []) (volume_text s c.args.places.now c.args.id) NotAll c.args.done c.in-Err.total
     (damaged_text s c.args.places.now c.args.id c.args.entry.now c.requires.recorded h is c.in-Damaged.ensures)
-    (c.in-Err.ensures.failed k)
+    (rw c.image_seq.ensures at (c.in-Err.ensures.failed k))
 
 pub returns-in-Static-clause-most : goal.returns-in-Static-clause-most
 returns-in-Static-clause-most g c =

@@ -8,7 +8,7 @@ returns-in_err-first-clause-failed g c =
     let k = g.S.BlockSource.known c.args.source.now in
     rw (from.1, from.2) (first_failed c.args.geometry.now c.args.places.now c.args.text.now c.requires.text k _ _
     (g.W.Write.contents c.args.writer.now) (g.W.Write.contents c.args.writer.now) c.in_err-first.field-0.0
-    (c.in_err-first.ensures.failed k))
+    (rw c.image_seq-image_seq.ensures at (c.in_err-first.ensures.failed k)))
 
 pub returns-in_err-second-clause-failed : goal.returns-in_err-second-clause-failed
 returns-in_err-second-clause-failed g c =
@@ -16,15 +16,16 @@ returns-in_err-second-clause-failed g c =
     let k = g.S.BlockSource.known c.args.source.now in
     rw (from.1, from.2) (second_failed c.args.geometry.now c.args.places.now c.args.text.now c.requires.text k _ _ _
     (g.W.Write.contents c.args.writer.now) c.in_ok-first.first c.in_err-second.field-0.0
-    (c.in_ok-first.ensures.written k) (c.in_err-second.ensures.failed k))
+    (rw c.image_seq-image_seq.ensures at (c.in_ok-first.ensures.written k))
+    (rw c.image_seq-image_seq.ensures at (c.in_err-second.ensures.failed k)))
 
 pub returns-clause-written : goal.returns-clause-written
 returns-clause-written g c =
     let k = g.S.BlockSource.known c.args.source.now in
     IfOk-weaker c.put_volumes.result _ _
     (λ n h. all_parts c.args.geometry.now c.args.places.now c.args.text.now c.requires.text k _ _ _ _
-    c.in_ok-first.first c.in_ok-second.second n (c.in_ok-first.ensures.written k)
-    (c.in_ok-second.ensures.written k) h)
+    c.in_ok-first.first c.in_ok-second.second n (rw c.image_seq-image_seq.ensures at (c.in_ok-first.ensures.written k))
+    (rw c.image_seq-image_seq.ensures at (c.in_ok-second.ensures.written k)) h)
     c.put_volumes.ensures.written
 
 pub returns-clause-failed : goal.returns-clause-failed
@@ -32,6 +33,6 @@ returns-clause-failed g c =
     let k = g.S.BlockSource.known c.args.source.now in
     IfErr-weaker c.put_volumes.result _ _
     (λ e h. volumes_behind c.args.geometry.now c.args.places.now c.args.text.now c.requires.text k _ _ _ _
-    c.in_ok-first.first c.in_ok-second.second e (c.in_ok-first.ensures.written k)
-    (c.in_ok-second.ensures.written k) h)
+    c.in_ok-first.first c.in_ok-second.second e (rw c.image_seq-image_seq.ensures at (c.in_ok-first.ensures.written k))
+    (rw c.image_seq-image_seq.ensures at (c.in_ok-second.ensures.written k)) h)
     c.put_volumes.ensures.failed

@@ -19,11 +19,11 @@ loop-lnum-preserved c =
       steps = (tt, tt);
       fit = (subst (AllByRecursion fits) c.in-Some.ensures.steps c.loop-lnum.invariant.fit).1;
       all =
-          put_next s c.args.data_pad c.args.vol_id c.in-Some.lnum.now c.in-Some.text.now _ _ _ c.plain-header.result
+          put_next s c.args.image_seq c.args.data_pad c.args.vol_id c.in-Some.lnum.now c.in-Some.text.now _ _ _ c.plain-header.result
           c.loop-lnum.lnum-iterator c.next.new.self
           c.in-Some.ensures.steps c.plain-header.ensures
           (c.in_ok-put_block.ensures
-          ∙ ap (λ t. c.loop-lnum.image.items ++ laid_bytes s new_ec
+          ∙ ap (λ t. c.loop-lnum.image.items ++ laid_bytes s (new_ec c.args.image_seq)
           (record { header = c.plain-header.result; text = t })) c.as_slice.ensures)
           c.loop-lnum.invariant.all;
     }

@@ -9,5 +9,5 @@ abbrev pub invariant-loop-lnum : goal.invariant-loop-lnum
 invariant-loop-lnum l =
     vec_items l.image
     ≡ vec_items l.initial.image ++ flat_map
-    (λ lnum. laid_bytes l.geometry new_ec
+    (λ lnum. laid_bytes l.geometry (new_ec l.image_seq)
     (static_block l.data_pad l.vol_id l.used_ebs lnum (share l.size l.text lnum))) (range_with_len 0 l.lnum)

@@ -18,6 +18,6 @@ pub returns-in-Damaged : goal.returns-in-Damaged
 returns-in-Damaged c =
     on_ok_weaker c.put_block.result
     (λ e. e ∙ ap (λ x. c.args.image.now.items ++ x)
-    (damaged_is c.args.geometry.now c.args.numbered.now.0 c.args.numbered.now.1.entry c.args.numbered.now.1.content
-    _ _ c.data_pad-data_pad.ensures c.damaged_header.ensures c.in-Damaged.is))
+    (damaged_is c.args.geometry.now c.args.image_seq c.args.numbered.now.0 c.args.numbered.now.1.entry c.args.numbered.now.1.content
+    _ _ c.data_pad-data_pad.ensures c.damaged_header-header.ensures c.in-Damaged.is))
     c.put_block.ensures

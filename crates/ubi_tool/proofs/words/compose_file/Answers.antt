@@ -13,10 +13,11 @@ pub returns : goal.returns
 returns g c =
     let file = c.in-Ok.file in
     let spares = c.args.spares in
-    let work : Composes file.geometry file.text.items spares c.in_ok-outcome.outcome =
-    rw c.as_slice.ensures.value at c.in_ok-outcome.ensures in
+    let seq = c.args.image_seq in
+    let work : Composes file.geometry file.text.items spares seq c.in_ok-outcome.outcome =
+    rw c.as_slice-text.ensures.value at c.in_ok-outcome.ensures in
     IfOk-weaker c.write_outcome.result _ _
-    (λ o h. of_text c.args.numbers _ (λ s t. ComposesInto c.args.out.now s t spares) file.geometry file.text.items o
+    (λ o h. of_text c.args.numbers _ (λ s t. ComposesInto c.args.out.now s t spares seq) file.geometry file.text.items o
     c.in-Ok.ensures.geometry c.in-Ok.ensures.limits c.in-Ok.ensures.few
-    (composes_into file.geometry file.text.items spares c.args.out.now c.in_ok-outcome.outcome o work h))
+    (composes_into file.geometry file.text.items spares seq c.args.out.now c.in_ok-outcome.outcome o work h))
     c.write_outcome.ensures

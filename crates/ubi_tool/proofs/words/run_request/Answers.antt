@@ -26,7 +26,7 @@ returns-in-Same g c =
 
 pub returns-in-Compose : goal.returns-in-Compose
 returns-in-Compose g c =
-    IfOk-weaker c.compose_file.result _ _ (λ o h. compose _ _ _ _ h) c.compose_file.ensures
+    IfOk-weaker c.compose_file.result _ _ (λ o h. compose _ _ _ _ _ h) c.compose_file.ensures
 
 pub returns-in-Change : goal.returns-in-Change
 returns-in-Change g c =

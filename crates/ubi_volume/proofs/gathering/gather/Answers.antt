@@ -4,6 +4,7 @@ use Rattle.std.specs.FinMap as finite
 use Rattle.ubi_media.specs.Geometry.{Sizes}
 use Rattle.ubi_media.specs.declared.record.VolumeRecord.{VolumeRecord}
 use Rattle.ubi_scan.specs.Image.{eraseblocks}
+use Rattle.ubi_scan.specs.Numbers.{image_seq}
 use Rattle.ubi_table.specs.Table.{IsTable}
 use Rattle.ubi_volume.specs.inner.Gathered.{AreContents}
 use Rattle.ubi_volume.specs.Means.{Means}
@@ -53,6 +54,7 @@ of-requires c =
     are_volumes s bs t (subst (λ (z : Sizes). IsTable z bs t) (sym c.geometry-geometry.ensures) c.requires.known.table)
     c.pebs.ensures.limits vs
     (subst (λ (z : Sizes). AreContents z bs (finite.entries t.of) vs) (sym c.geometry-geometry.ensures) gathered)
+    c.image_seq.result c.image_seq.type_inv
 
 pub returns : goal.returns
 returns c =
@@ -66,8 +68,11 @@ returns c =
     let gathered : AreContents c.args.blocks.now.sizes bs (finite.entries t.of) vs =
     subst (λ (x : List (ℕ × VolumeRecord)). AreContents c.args.blocks.now.sizes bs x vs) all
     c.loop-listed.invariant in
+    let named : c.image_seq.result ≡ image_seq s bs = c.image_seq.ensures ∙ c.requires.known.scan.image_seq
+    ∙ ap (λ (z : Sizes). image_seq z bs) (sym c.geometry-geometry.ensures) in
     let means : Means s bs t c.of.result = rw c.of.ensures
     (contents_mean s bs t (subst (λ (z : Sizes). IsTable z bs t) (sym c.geometry-geometry.ensures)
     c.requires.known.table) c.pebs.ensures.limits vs
-    (subst (λ (z : Sizes). AreContents z bs (finite.entries t.of) vs) (sym c.geometry-geometry.ensures) gathered)) in
+    (subst (λ (z : Sizes). AreContents z bs (finite.entries t.of) vs) (sym c.geometry-geometry.ensures) gathered)
+    c.image_seq.result named c.image_seq.type_inv) in
     subst (λ (z : Sizes). Means z bs t c.of.result) c.geometry-geometry.ensures means

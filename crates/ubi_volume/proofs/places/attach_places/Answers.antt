@@ -1,4 +1,4 @@
-use Rattle.std.proofs.Common.{◌∙◌, ap, subst}
+use Rattle.std.proofs.Common.{ℕ, ◌^◌, ◌<◌, ◌∙◌, ap, subst}
 use Rattle.std.proofs.lemmas.Result.{err_from_is_err_and}
 use Rattle.ubi_scan.specs.Source.{Source}
 use Rattle.ubi_table.specs.Stream.{IsTableOf}
@@ -31,6 +31,7 @@ returns-clause-places g c =
     are_places s known c.in_ok-scan.scan t c.in_ok-scan.ensures.found
     (subst (λ (k : Source). IsTableOf s k t) c.in_ok-scan.ensures.known c.in_ok-table.ensures.table)
     (g.met.S.BlockSource.sized c.args.source.now) c.peb_size.ensures.limits
+    (subst (λ (n : ℕ). n < 2 ^ 32) c.image_seq.ensures c.image_seq.type_inv)
     c.in_ok-contents.contents.items c.in_ok-contents.ensures.numbered
     (λ bytes holds. c.in_ok-contents.ensures.alike bytes (ap (λ (k : Source). k.held) same ∙ holds))
     (λ bytes holds. c.in_ok-contents.ensures.cases bytes (ap (λ (k : Source). k.held) same ∙ holds))

@@ -1,4 +1,4 @@
-use Rattle.std.proofs.Common.{◌∙◌, ap, subst}
+use Rattle.std.proofs.Common.{ℕ, ◌^◌, ◌<◌, ◌∙◌, ap, subst}
 use Rattle.std.proofs.lemmas.Result.{err_from_is_err_and}
 use Rattle.ubi_scan.specs.Source.{Source}
 use Rattle.ubi_table.specs.Stream.{IsTableOf}
@@ -29,7 +29,8 @@ returns-clause-survey g c =
     let states = c.in_ok-states.states.items in
     let same = c.in_ok-table.ensures.known ∙ c.in_ok-scan.ensures.known in
     is_survey s known c.in_ok-scan.scan t states c.peb_size.ensures.limits
-    (g.met.S.BlockSource.sized c.args.source.now) c.in_ok-scan.ensures.found
+    (g.met.S.BlockSource.sized c.args.source.now)
+    (subst (λ (n : ℕ). n < 2 ^ 32) c.image_seq.ensures c.image_seq.type_inv) c.in_ok-scan.ensures.found
     (subst (λ (k : Source). IsTableOf s k t) c.in_ok-scan.ensures.known c.in_ok-table.ensures.table)
     (λ bytes holds. c.in_ok-check_winners_from.ensures.alike bytes (ap (λ (k : Source). k.held) same ∙ holds))
     (subst (λ (k : Source). AreStatesOf s k t states) (c.in_ok-check_winners_from.ensures.known

@@ -9,13 +9,14 @@ of-requires c =
     let none = subst (λ (items : Items). NoCause c.args.geometry.now items) c.as_slice.ensures.value
     c.in-None.ensures in
     arranged_volumes c.args.geometry.now c.args.volumes.items none c.arranged.result.items
-    c.arranged.ensures.permutation c.arranged.ensures.sorted
+    c.arranged.ensures.permutation c.arranged.ensures.sorted c.args.image_seq c.ranges.image_seq.fits
 
 pub returns-in-None-clause-made : goal.returns-in-None-clause-made
 returns-in-None-clause-made c =
     let none = subst (λ (items : Items). NoCause c.args.geometry.now items) c.as_slice.ensures.value
     c.in-None.ensures in
-    let as_meant : VolumeMap → Meant = λ volumes. record { sizes = c.args.geometry.now; volumes = volumes } in
+    let as_meant : VolumeMap → Meant = λ volumes.
+    record { sizes = c.args.geometry.now; image_seq = c.args.image_seq; volumes = volumes } in
     let same = arranged_same c.args.geometry.now c.args.volumes.items none c.arranged.result.items
     c.arranged.ensures.permutation c.arranged.ensures.sorted in
     (none, c.of.ensures ∙ ap as_meant same)

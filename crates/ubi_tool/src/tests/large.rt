@@ -1,0 +1,149 @@
+//! Each command over files of eraseblocks of 128 KiB in pages of 2 KiB, the size that chips have.
+
+use super::answers::{remove_files, run_line};
+use std::alloc::{AllocError, Global};
+use std::fs;
+use std::process::Abort;
+use std::test::Fail;
+
+/// A chip: the words of its sizes, and the bytes that its volume of 3 logical eraseblocks reads.
+#[derive(Clone, Copy)]
+struct Chip {
+    sizes: &'static str,
+    leb: usize,
+    lines: &'static [(&'static str, &'static str)],
+}
+
+/// A page for each header, and both of them in one, in sub-pages of 512 bytes.
+static CHIPS: [Chip; 2] = [
+    Chip {
+        sizes: "--peb 131072 --page 2048 --pebs 64",
+        leb: 126_976,
+        lines: &[
+            (
+                "compose chip.txt --out chip.img --spares 1 --seq 305419896",
+                "blocks 4\n",
+            ),
+            (
+                "list chip.img",
+                "geometry peb=131072 page=2048 vid=2048 data=4096 leb=126976 slots=128 pebs=64\n\
+                    volume 0 dynamic reserved=3 alignment=1 usable=126976 flags=00 lebs=1 name=root\n\
+                    volumes 1\n",
+            ),
+            ("check chip.img", CHECKED),
+            (
+                "show chip.img --block 3",
+                "ec valid 55424923010000000000000000000000000008000000100012345678\
+                    0000000000000000000000000000000000000000000000000000000000000000f0ef3182\n\
+                    vid blank ffffffffffffffffffffffffffffffffffffffffffffffffffffffffffffffff\
+                    ffffffffffffffffffffffffffffffffffffffffffffffffffffffffffffffff\n",
+            ),
+            ("extract chip.img --id 0 --out chip.bin", "bytes 380928\n"),
+            ("normalise chip.img --out chip_normal.img", "blocks 3\n"),
+            ("same chip.img chip_normal.img", "same\n"),
+            (
+                "change chip.img --id 0 --lnum 1 --from chip.new --out chip_changed.img",
+                "steps 4\nprogram block=3 page=1\nprogram block=3 page=2\n\
+                    erase block=2\nprogram block=2 page=0\n",
+            ),
+            (
+                "extract chip_changed.img --id 0 --out chip_changed.bin",
+                "bytes 380928\n",
+            ),
+        ],
+    },
+    Chip {
+        sizes: "--peb 131072 --page 2048 --vid 512 --data 2048 --pebs 64",
+        leb: 129_024,
+        lines: &[
+            (
+                "compose chip.txt --out chip.img --spares 1 --seq 305419896",
+                "blocks 4\n",
+            ),
+            (
+                "list chip.img",
+                "geometry peb=131072 page=2048 vid=512 data=2048 leb=129024 slots=128 pebs=64\n\
+                    volume 0 dynamic reserved=3 alignment=1 usable=129024 flags=00 lebs=1 name=root\n\
+                    volumes 1\n",
+            ),
+            ("check chip.img", CHECKED),
+            (
+                "show chip.img --block 3",
+                "ec valid 55424923010000000000000000000000000002000000080012345678\
+                    000000000000000000000000000000000000000000000000000000000000000062a50353\n\
+                    vid blank ffffffffffffffffffffffffffffffffffffffffffffffffffffffffffffffff\
+                    ffffffffffffffffffffffffffffffffffffffffffffffffffffffffffffffff\n",
+            ),
+            ("extract chip.img --id 0 --out chip.bin", "bytes 387072\n"),
+            ("normalise chip.img --out chip_normal.img", "blocks 3\n"),
+            ("same chip.img chip_normal.img", "same\n"),
+            (
+                "change chip.img --id 0 --lnum 1 --from chip.new --out chip_changed.img",
+                "steps 4\nprogram block=3 page=0\nprogram block=3 page=1\n\
+                    erase block=2\nprogram block=2 page=0\n",
+            ),
+            (
+                "extract chip_changed.img --id 0 --out chip_changed.bin",
+                "bytes 387072\n",
+            ),
+        ],
+    },
+];
+
+/// The lines of `check` of what is composed.
+const CHECKED: &str = "blocks 4\nblank 0\nfree 1\ntable 2\nused 1\nstale 0\norphan 0\ndropped 0\n\
+    corrupt 0\ngarbage 0\ntop sqnum 0\nimage seq 305419896\nmean counter 0\naccepted\n";
+
+/// What the volume reads whose logical eraseblock 1 begins with some bytes.
+fn contents(alloc: Global, leb: usize, front: &[u8]) -> Result<Vec<u8>, AllocError> {
+    let mut bytes = vec![in alloc; 0xFFu8; leb]?;
+    bytes.extend_from_slice(front)?;
+    bytes.resize(leb.saturating_mul(3), 0xFF)?;
+    Ok(bytes)
+}
+
+/// Whether a file holds some bytes.
+fn holds(rt: &HostRuntime, path: &str, bytes: &[u8]) -> Result<bool, Fail> {
+    Ok(fs::read(rt, path)?.as_slice() == bytes)
+}
+
+/// Asserts what each line of a chip answers, and what is written.
+fn assert_chip(rt: &HostRuntime, alloc: Global, chip: &Chip) -> Result<(), Fail> {
+    for (line, text) in chip.lines {
+        let words = format!(in alloc; "{line} {}", chip.sizes)?;
+        let outcome = run_line(rt, alloc, words.as_str())?;
+        assert_eq!(rt; outcome.text.as_slice(), text.as_bytes(), "of {line:?}");
+        assert_eq!(rt; outcome.status, 0);
+    }
+    let image = fs::read(rt, "chip.img")?;
+    assert_eq!(rt; image.len(), 4 * 131_072);
+    let normal = image.as_slice().get(..3 * 131_072).ok_or("short")?;
+    assert!(rt; holds(rt, "chip_normal.img", normal)?);
+    let read = contents(alloc, chip.leb, b"ab")?;
+    assert!(rt; holds(rt, "chip.bin", read.as_slice())?);
+    let read = contents(alloc, chip.leb, &[0x61; 2048])?;
+    assert!(rt; holds(rt, "chip_changed.bin", read.as_slice())?);
+    Ok(())
+}
+
+#[test]
+fn answers_of_eraseblocks_of_128_kib(rt: HostRuntime) -> Result<(), Fail> {
+    let text = b"volume 0 dynamic 3 1 00 root\nleb 0 1 6162\n";
+    fs::write(&rt, "chip.txt", text.as_slice())?;
+    fs::write(&rt, "chip.new", [0x61; 2048].as_slice())?;
+    for chip in &CHIPS {
+        assert_chip(&rt, rt.alloc(), chip)?;
+    }
+    remove_files(
+        &rt,
+        &[
+            "chip.txt",
+            "chip.new",
+            "chip.img",
+            "chip.bin",
+            "chip_normal.img",
+            "chip_changed.img",
+            "chip_changed.bin",
+        ],
+    )
+}
