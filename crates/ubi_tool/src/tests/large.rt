@@ -3,6 +3,8 @@
 use super::answers::{remove_files, run_line};
 use std::alloc::{AllocError, Global};
 use std::fs;
+use std::fs::Files;
+use std::os::unix::fs::FileExt;
 use std::process::Abort;
 use std::test::Fail;
 
@@ -103,12 +105,19 @@ fn contents(alloc: Global, leb: usize, front: &[u8]) -> Result<Vec<u8>, AllocErr
 }
 
 /// Whether a file holds some bytes.
-fn holds(rt: &HostRuntime, path: &str, bytes: &[u8]) -> Result<bool, Fail> {
+fn holds(rt: &(impl Files + Alloc), path: &str, bytes: &[u8]) -> Result<bool, Fail> {
     Ok(fs::read(rt, path)?.as_slice() == bytes)
 }
 
 /// Asserts what each line of a chip answers, and what is written.
-fn assert_chip(rt: &HostRuntime, alloc: Global, chip: &Chip) -> Result<(), Fail> {
+fn assert_chip<R: Files + Alloc + Eprint + Abort>(
+    rt: &R,
+    alloc: Global,
+    chip: &Chip,
+) -> Result<(), Fail>
+where
+    R::File: FileExt,
+{
     for (line, text) in chip.lines {
         let words = format!(in alloc; "{line} {}", chip.sizes)?;
         let outcome = run_line(rt, alloc, words.as_str())?;
