@@ -1,43 +1,33 @@
 #!/usr/bin/env python3
 """Cuts random changes of random small images after each of their steps, and looks at what each cut means.
 
-usage: cuts.py [--seed N] [--count N] [--dir FOLDER]
+usage: cuts.py [--seed N] [--count N] [--first N] [--dir FOLDER] [--tool PROGRAM]
 
 An image has the two copies of a table with a dynamic volume, some of its logical eraseblocks, of some an older member
-too, and eraseblocks that are free, erased, or hold no header that can be read, all of it in a random order. Of each image
-one logical eraseblock is changed by `./ubi_tool change`, which is asked for the image after each number of steps from 0
-on. Each cut must be accepted by `check`, and `list` and `extract` must give of it what they are to give of the old image
-up to the step that turns, and of the new one from then on. Which step that is, and what is listed and extracted, is
-worked out here, by the format alone. Where too few eraseblocks can be taken, or the number isn't reserved, the refusal is
-looked at.
+too, and eraseblocks that are free, erased, or hold no header that can be read, all of it in a random order. None, one, two or
+all of those with an erase-counter header carry the image's number. Of each image one logical eraseblock is changed by
+`change`, which is asked for the image after each number of steps from 0 on. Each cut must be accepted by `check`, with the
+number, and `list` and `extract` must give of it what they are to give of the old image up to the step that turns, and of the
+new one from then on. Which step that is, what is listed and extracted, and which eraseblocks are touched, is worked out here, by
+the format alone. Where too few eraseblocks can be taken, or the number isn't reserved, the refusal is looked at.
 
-Without words there are 100 images (--count) of the seed 1 (--seed). They lie in a new folder below FOLDER (/tmp where
-it is left out), which is removed again. The program is built first where it isn't yet. The last line is
+Without words there are 100 images (--count) of the seed 1 (--seed). They lie in a new folder below FOLDER (/tmp where it is left
+out), which is removed again. Without --tool the program is built first where it isn't yet. The last line is
 'N passed, M failed', and the exit status is 0 where none failed.
 """
-import argparse
 import os
-import random
-import shutil
 import struct
 import subprocess
-import sys
-import tempfile
 
+from fuzz import Failure, built, finish, options, run_cases
 from image import check, counter_header, identifier_header, sealed
 
-ROOT = os.path.dirname(os.path.dirname(os.path.abspath(__file__)))
-TOOL = os.path.join(ROOT, "ubi_tool")
 LAYOUT, RESERVED, PEBS = 0x7FFFEFFF, 12, 32
 GEOMETRIES = ((512, 64, 64, 128), (1024, 256, 64, 256), (1024, 256, 320, 512), (576, 64, 64, 128))
 
 
-class Failure(Exception):
-    """What an image was expected to give, and didn't."""
-
-
 class Device:
-    """A random image, and what its volume reads."""
+    """A random image, what its volume reads, and which of its eraseblocks is what."""
 
     def __init__(self, rng):
         self.rng = rng
@@ -45,17 +35,39 @@ class Device:
         self.leb = self.peb - self.data
         self.slots = min(128, self.leb // 172)
         self.lebs = {}
-        self.unused = 0
-        blocks = [self.table(copy) for copy in range(2)]
+        blocks = [("table", self.table(copy)) for copy in range(2)]
         for number in rng.sample(range(RESERVED), rng.randrange(5)):
             blocks += self.members(number)
         for _ in range(rng.randrange(4)):
-            blocks.append(rng.choice((self.free, self.erased, self.garbage))())
-            self.unused += 1
+            blocks.append(rng.choice((("clean", self.free()), ("unused", self.erased()), ("unused", self.garbage()))))
         if rng.random() < 0.2:
-            blocks.append(self.corrupt())
+            blocks.append(("corrupt", self.corrupt()))
         rng.shuffle(blocks)
+        self.kinds, blocks = (list(of) for of in zip(*blocks))
+        self.number, self.sole = 0, None
+        self.carry(blocks)
         self.image = b"".join(blocks)
+
+    def carry(self, blocks):
+        """Gives the image's number to none, one, two or all of the eraseblocks with an erase-counter header."""
+        have = [p for p, block in enumerate(blocks) if block[:4] == b"UBI#"]
+        carriers = self.rng.sample(have, min(self.rng.choice((0, 1, 1, 1, 2, 2, len(have))), len(have)))
+        for p in carriers:
+            self.number = 0x12345678
+            counter = int.from_bytes(blocks[p][8:16], "big")
+            blocks[p] = counter_header(counter, self.vid, self.data, self.number) + blocks[p][64:]
+        if len(carriers) == 1:
+            self.sole = carriers[0]
+
+    def takeable(self):
+        """The eraseblocks that may be taken, in their order: the clean ones, and then the other unused ones."""
+        return [p for kind in ("clean", "unused") for p, of in enumerate(self.kinds) if of == kind and p != self.sole]
+
+    def touched(self, lnum):
+        """The eraseblocks that a change of a LEB erases or programs: what it takes, and the winner that it gives up."""
+        if lnum not in self.lebs:
+            return set(self.takeable()[:2])
+        return {self.takeable()[0], self.kinds.index(lnum)} - {self.sole}
 
     def block(self, ec, vid, data=b""):
         front = ec.ljust(self.vid, b"\xFF") + vid
@@ -76,15 +88,15 @@ class Device:
         return self.rng.randbytes((pages - blank) * self.page) + b"\xFF" * (blank * self.page)
 
     def members(self, number):
-        """A logical eraseblock: its winner, and maybe a member that is beaten."""
+        """A logical eraseblock: its winner, whose kind is its number, and maybe a member that is beaten."""
         text = self.text()
         copied = text if self.rng.random() < 0.5 else b""
         self.lebs[number] = text.ljust(self.leb, b"\xFF")
         winner = self.block(self.counted(), identifier_header(0, number, 2 * number + 2, copied), text)
         if self.rng.random() < 0.6:
-            return [winner]
-        self.unused += 1
-        return [winner, self.block(self.counted(), identifier_header(0, number, 2 * number + 1), self.text())]
+            return [(number, winner)]
+        beaten = self.block(self.counted(), identifier_header(0, number, 2 * number + 1), self.text())
+        return [(number, winner), ("unused", beaten)]
 
     def free(self):
         return self.block(self.counted(), b"\xFF" * 64)
@@ -101,11 +113,6 @@ class Device:
     def words(self):
         sizes = (("--peb", self.peb), ("--page", self.page), ("--vid", self.vid), ("--data", self.data), ("--pebs", PEBS))
         return [str(word) for pair in sizes for word in pair]
-
-
-def run(*words):
-    done = subprocess.run([TOOL, *words], capture_output=True, text=True)
-    return done.stdout, done.returncode
 
 
 def expect(is_right, what):
@@ -126,18 +133,6 @@ def listed(device, lebs):
 
 def extracted(device, lebs):
     return b"".join(lebs.get(number, b"\xFF" * device.leb) for number in range(RESERVED))
-
-
-def look(device, folder, lebs, what):
-    """Looks at what a cut means."""
-    cut, out = os.path.join(folder, "cut"), os.path.join(folder, "out")
-    text, status = run("check", cut, *device.words())
-    expect(status == 0 and text.endswith("accepted\n"), f"{what} isn't accepted: {text}")
-    text, status = run("list", cut, *device.words())
-    expect((text, status) == (listed(device, lebs), 0), f"{what} lists {text}")
-    text, status = run("extract", cut, "--id", "0", "--out", out, *device.words())
-    with open(out, "rb") as file:
-        expect(status == 0 and file.read() == extracted(device, lebs), f"{what} reads something else")
 
 
 def steps_of(text):
@@ -178,62 +173,83 @@ def is_one_step(device, before, after, step):
     return all(old & new == new for old, new in zip(before[start:end], after[start:end]))
 
 
-def try_change(device, folder):
-    """Changes one logical eraseblock of an image, and looks at each cut. Gives how many steps the plan has."""
-    lnum, new = device.rng.randrange(RESERVED + 1), device.text()
-    paths = {name: os.path.join(folder, name) for name in ("image", "new", "cut")}
-    for name, data in (("image", device.image), ("new", new)):
-        with open(paths[name], "wb") as file:
-            file.write(data)
-    if os.path.exists(paths["cut"]):
-        os.remove(paths["cut"])
-    words = ["change", paths["image"], "--id", "0", "--lnum", str(lnum), "--from", paths["new"], "--out", paths["cut"]]
-    words += device.words()
-    plan, status = run(*words)
-    needed = 1 if lnum in device.lebs else 2
-    if lnum == RESERVED or device.unused < needed:
-        line = "refused K5 OutOfRange\n" if lnum == RESERVED else "refused K9 NoFree\n"
-        expect((plan, status) == (line, 1) and not os.path.exists(paths["cut"]), f"of {line!r} comes {plan!r}")
-        return 0
-    expect(status == 0, f"the change is refused: {plan}")
-    steps = steps_of(plan)
-    cuts = []
-    for k in range(len(steps) + 2):
-        expect(run(*words, "--stop", str(k)) == (plan, 0), f"--stop {k} prints something else")
-        with open(paths["cut"], "rb") as file:
-            cuts.append(file.read())
-    expect(cuts[0] == device.image and cuts[-1] == cuts[-2], "--stop 0 isn't the image, or too large a one isn't all")
-    changed = device.lebs | {lnum: new.ljust(device.leb, b"\xFF")}
-    at = turn(device, steps, cuts, new)
-    for k, cut in enumerate(cuts[:-1]):
-        expect(k == 0 or is_one_step(device, cuts[k - 1], cut, steps[k - 1]), f"step {k} does something else")
-        with open(paths["cut"], "wb") as file:
-            file.write(cut)
-        look(device, folder, device.lebs if k < at else changed, f"cut {k} of {len(steps)}, which turns at {at},")
-    return len(steps)
+class Looker:
+    """Runs the program over files of a folder, and looks at what it answers."""
+
+    def __init__(self, tool, folder):
+        self.tool = tool
+        self.image, self.new, self.cut, self.out = (os.path.join(folder, name) for name in ("image", "new", "cut", "out"))
+
+    def run(self, *words):
+        done = subprocess.run([self.tool, *words], capture_output=True, text=True)
+        return done.stdout, done.returncode
+
+    def look(self, device, lebs, what):
+        """Looks at what a cut means."""
+        text, status = self.run("check", self.cut, *device.words())
+        expect(status == 0 and text.endswith("accepted\n"), f"{what} isn't accepted: {text}")
+        expect(f"\nimage seq {device.number}\n" in text, f"{what} has another number: {text}")
+        text, status = self.run("list", self.cut, *device.words())
+        expect((text, status) == (listed(device, lebs), 0), f"{what} lists {text}")
+        text, status = self.run("extract", self.cut, "--id", "0", "--out", self.out, *device.words())
+        expect(status == 0 and read(self.out) == extracted(device, lebs), f"{what} reads something else")
+
+    def try_change(self, device):
+        """Changes one logical eraseblock of an image, and looks at each cut. Gives how many steps the plan has."""
+        lnum, new = device.rng.randrange(RESERVED + 1), device.text()
+        if device.lebs and device.rng.random() < 0.5:
+            lnum = device.rng.choice(list(device.lebs))
+        write(self.image, device.image)
+        write(self.new, new)
+        if os.path.exists(self.cut):
+            os.remove(self.cut)
+        words = ["change", self.image, "--id", "0", "--lnum", str(lnum), "--from", self.new, "--out", self.cut, *device.words()]
+        plan, status = self.run(*words)
+        if lnum == RESERVED or len(device.takeable()) < (1 if lnum in device.lebs else 2):
+            line = "refused K5 OutOfRange\n" if lnum == RESERVED else "refused K9 NoFree\n"
+            expect((plan, status) == (line, 1) and not os.path.exists(self.cut), f"of {line!r} comes {plan!r}")
+            return 0
+        expect(status == 0, f"the change is refused: {plan}")
+        steps = steps_of(plan)
+        touched = {p for p, _ in steps}
+        expect(touched == device.touched(lnum), f"the steps touch {touched} and not {device.touched(lnum)}")
+        self.look_cuts(device, self.cuts(words, plan, len(steps)), steps, lnum, new)
+        return len(steps)
+
+    def cuts(self, words, plan, count):
+        """What is written behind each number of steps, and behind one more than there are."""
+        cuts = []
+        for k in range(count + 2):
+            expect(self.run(*words, "--stop", str(k)) == (plan, 0), f"--stop {k} prints something else")
+            cuts.append(read(self.cut))
+        return cuts
+
+    def look_cuts(self, device, cuts, steps, lnum, new):
+        expect(cuts[0] == device.image and cuts[-1] == cuts[-2], "--stop 0 isn't the image, or too large a one isn't all")
+        changed = device.lebs | {lnum: new.ljust(device.leb, b"\xFF")}
+        at = turn(device, steps, cuts, new)
+        for k, cut in enumerate(cuts[:-1]):
+            expect(k == 0 or is_one_step(device, cuts[k - 1], cut, steps[k - 1]), f"step {k} does something else")
+            write(self.cut, cut)
+            self.look(device, device.lebs if k < at else changed, f"cut {k} of {len(steps)}, which turns at {at},")
+
+
+def read(path):
+    with open(path, "rb") as file:
+        return file.read()
+
+
+def write(path, data):
+    with open(path, "wb") as file:
+        file.write(data)
 
 
 def main():
-    words = argparse.ArgumentParser(description=__doc__, formatter_class=argparse.RawDescriptionHelpFormatter)
-    words.add_argument("--seed", type=int, default=1)
-    words.add_argument("--count", type=int, default=100)
-    words.add_argument("--dir", default="/tmp")
-    words = words.parse_args()
-    folder = tempfile.mkdtemp(dir=words.dir)
-    passed = failed = steps = 0
-    try:
-        for k in range(words.count):
-            try:
-                steps += try_change(Device(random.Random(f"{words.seed} {k}")), folder)
-                passed += 1
-            except Failure as failure:
-                print(f"image {k} of seed {words.seed}: {failure}")
-                failed += 1
-    finally:
-        shutil.rmtree(folder)
-    print(f"{steps} steps in all")
-    print(f"{passed} passed, {failed} failed")
-    sys.exit(1 if failed else 0)
+    words = options(__doc__, 100)
+    tool = built(words.tool)
+    answers, failed = run_cases(words, {"": (lambda rng, folder: Looker(tool, folder).try_change(Device(rng)), words.count)})
+    print(f"{sum(answers)} steps in all")
+    finish(len(answers), failed)
 
 
 if __name__ == "__main__":

@@ -1,18 +1,22 @@
 #!/usr/bin/env python3
 """Compares what the program answers of random images with what docs/FORMAT.md says, as bench/rules.py reads it.
 
-usage: fuzz.py [--seed N] [--count N] [--first N] [--dir FOLDER] [--tool PROGRAM]
+usage: fuzz.py [--seed N] [--count N] [--large N] [--huge N] [--first N] [--dir FOLDER] [--tool PROGRAM]
 
 An image is made from volumes of all kinds and states, with stale copies, copies that were cut short, and eraseblocks that
-are free, erased, dropped, orphans or unreadable, in a random order. Most images are then changed up to three times: a byte
-anywhere, a field of a header or a record with its check made right again, eraseblocks doubled, erased, swapped or cut off.
+are free, erased, dropped, orphans or unreadable, in a random order. None, one, two, some or all of them carry the image's
+number. Most images are then changed up to three times: a byte anywhere, a field of a header or a record with its check made
+right again, eraseblocks doubled, erased, swapped or cut off.
 Of each image `check`, `list`, `show` and `normalise` have to answer what the rules say; and of one that is accepted
-`extract`, `same` with its normal image and with another, `compose` of a text that says what it means, and `change`, whose
-plan is cut after each step: each cut means the old or the new, and the last the new.
+`extract`, `same` with its normal image, with another and with its eraseblocks under another number, `compose` of a text that
+says what it means, and `change`, whose printed plan and whose bytes after each step are those of the rules: each cut means
+the old or the new, and the last the new. Numbers of volumes, LEBs, eraseblocks, spares and steps are also far out of range.
 
-Without words there are 500 images (--count) of the seed 1 (--seed). They lie in a new folder below FOLDER (/tmp where it
-is left out), which is removed again. Without --tool the program is built first where it isn't yet. The last line is
-'N passed, M failed', and the exit status is 0 where none failed; an image that failed can be made again by its number.
+Without words there are 500 images (--count) of the seed 1 (--seed) with eraseblocks of up to 1 KiB. Then come 20 (--large)
+with eraseblocks of 128 KiB and pages of 2 KiB, with sub-pages and without, of whose plans some cuts are looked at; and one
+(--huge) of which all that is written is above 16 MiB. They lie in a new folder below FOLDER (/tmp where it is left out), which
+is removed again. Without --tool the program is built first where it isn't yet. The last line is 'N passed, M failed', and the
+exit status is 0 where none failed; an image that failed can be made again by its number, which --first names.
 """
 import argparse
 import os
@@ -23,12 +27,15 @@ import sys
 import tempfile
 
 import rules
-from rules import LAYOUT, TOP_COUNTER, TOP_SQNUM, Geometry, Image, Record, Refused, Vid
+from rules import LAYOUT, TOP_COUNTER, Geometry, Image, Record, Refused, Vid
 
 ROOT = os.path.dirname(os.path.dirname(os.path.abspath(__file__)))
 LAUNCHER = os.path.join(ROOT, "ubi_tool")
 TOOL = os.path.join(ROOT, "crates", "ubi_tool", "out", "launched", "ubi_tool")
 SIZES = ((512, 64, 64, 128), (1024, 64, 64, 128), (1024, 256, 64, 256), (1024, 256, 320, 512), (576, 64, 64, 128), (448, 64, 128, 192))
+REAL_SIZES = ((131072, 2048, 2048, 4096), (131072, 2048, 512, 2048))
+# By how much a number is out of range, so that a program which takes it modulo any of these would take it for one in range.
+FAR = (64, 100, 128, 256, 1000, 65536, 2**31)
 
 
 class Failure(Exception):
@@ -42,25 +49,59 @@ def built(tool=None):
     return tool or TOOL
 
 
-class Maker:
-    """Makes a random image."""
+def far(rng, number):
+    """A number that is far above another one, or the largest."""
+    return rng.choice((*(number + step for step in FAR), 2**32 - 1))
 
-    def __init__(self, rng):
+
+def given(rng, name, number):
+    """A number among the words, which may be left out where it is 0."""
+    return [name, str(number)] if number or rng.random() < 0.5 else []
+
+
+def renumbered(block, image_seq):
+    """An eraseblock with another image sequence number, where it has an erase-counter header."""
+    if not block.startswith(b"UBI#"):
+        return block
+    return rules.sealed(block[:24] + struct.pack(">I", image_seq) + block[28:60]) + block[64:]
+
+
+class Maker:
+    """Makes a random image of one of some sizes."""
+
+    pebs = (8, 12, 20, 40)
+
+    def __init__(self, rng, sizes=SIZES):
         self.rng = rng
-        self.geometry = Geometry(*rng.choice(SIZES), rng.choice((8, 12, 20, 40)))
-        self.image_seq = rng.choice((0, 0, 7, 0xFFFFFFFF))
+        self.geometry = Geometry(*rng.choice(sizes), rng.choice(self.pebs))
         self.sqnums = iter(rng.sample(range(1, 4000), 400))
         self.records = {slot: self.record(slot) for slot in self.slots()}
-        blocks = self.tables()
-        for slot, record in self.records.items():
-            blocks += self.dynamic(slot, record) if record.kind == 1 else self.static(slot, record)
-        blocks += [rng.choice((self.free, self.erased, self.garbage, self.corrupt, self.dropped, self.orphan))() for _ in range(rng.randrange(4))]
-        rng.shuffle(blocks)
-        self.blocks = blocks
+        self.blocks = self.numbered(self.tables(), self.members(), self.others())
+        rng.shuffle(self.blocks)
+
+    def numbered(self, *groups):
+        """The eraseblocks of some groups. None, one, two, three or all of a group carry a number, or of all groups."""
+        rng = self.rng
+        number, count = rng.choice((1, 7, 0x12345678, 0xFFFFFFFF)), rng.choice((0, 1, 1, 1, 1, 2, 2, 2, 3, 999))
+        groups = rng.choice((groups, groups, (sum(groups, []),)))
+        group = rng.choice((*groups, *groups[1:]))
+        have = [k for k, block in enumerate(group) if block.startswith(b"UBI#")]
+        for k in rng.sample(have, min(count, len(have))):
+            group[k] = renumbered(group[k], number)
+        return sum(groups, [])
+
+    def members(self):
+        """The eraseblocks of volumes."""
+        of = ((self.dynamic if record.kind == 1 else self.static)(slot, record) for slot, record in self.records.items())
+        return sum(of, [])
+
+    def others(self):
+        kinds = (self.free, self.free, self.free, self.erased, self.garbage, self.corrupt, self.dropped, self.orphan)
+        return [self.rng.choice(kinds)() for _ in range(self.rng.randrange(5))]
 
     def slots(self):
         slots = self.geometry.slots
-        return sorted(self.rng.sample(range(slots), self.rng.randrange(min(slots, 4) + 1)))
+        return sorted(self.rng.sample(range(slots), min(slots, self.rng.choice((0, 1, 1, 2, 2, 3, 4)))))
 
     def name(self, slot):
         rng = self.rng
@@ -76,8 +117,7 @@ class Maker:
         return Record(rng.randrange(1, 5), alignment, rng.choice((1, 1, 2)), int(rng.random() < 0.1), self.name(slot), rng.choice((0, 1, 2, 0xFF)))
 
     def ec(self):
-        counter = self.rng.choice((0, 5, self.rng.randrange(1000), TOP_COUNTER))
-        return rules.put_ec(self.geometry, counter, self.rng.choice((0, self.image_seq)))
+        return rules.put_ec(self.geometry, self.rng.choice((0, 5, self.rng.randrange(1000), TOP_COUNTER)))
 
     def block(self, vid, data):
         return rules.put_block(self.geometry, self.ec(), rules.put_vid(vid), data)
@@ -126,7 +166,7 @@ class Maker:
         return blocks
 
     def free(self):
-        return rules.put_block(self.geometry, self.ec(), data=self.rng.choice((b"", b"\0")))
+        return rules.put_block(self.geometry, self.ec(), data=self.rng.choice((b"", b"", b"\0")))
 
     def erased(self):
         return b"\xFF" * self.geometry.peb
@@ -142,6 +182,25 @@ class Maker:
 
     def orphan(self):
         return self.block(Vid(1, 0, 0, self.rng.choice((77, 127)), 0, 0, 0, 0, 0, self.sqnum()), b"text")
+
+
+class HugeMaker(Maker):
+    """Makes an image above 16 MiB: a dynamic volume, of whose LEBs most have a few bytes, and two eraseblocks that are free."""
+
+    pebs = (160,)
+
+    def slots(self):
+        return [self.rng.randrange(self.geometry.slots)]
+
+    def record(self, slot):
+        return Record(140, 1, 1, 0, self.name(slot), 1)
+
+    def dynamic(self, slot, record):
+        lnums = self.rng.sample(range(record.reserved), 132)
+        return [self.block(Vid(1, 0, 0, slot, lnum, 0, 0, 0, 0, self.sqnum()), self.rng.randbytes(9)) for lnum in lnums]
+
+    def others(self):
+        return [self.free(), self.erased()]
 
 
 NUMBERS = (0, 1, 2, 3, 64, 127, 128, 2**31 - 1, 2**31, LAYOUT, LAYOUT + 1, 2**32 - 1)
@@ -160,16 +219,16 @@ def with_field(rng, raw, fields):
 
 
 class Mutator:
-    """Changes an image."""
+    """Changes an image as often as one of some numbers says."""
 
-    def __init__(self, rng, geometry):
-        self.rng, self.geometry = rng, geometry
+    def __init__(self, rng, geometry, times):
+        self.rng, self.geometry, self.times = rng, geometry, times
         self.ways = (self.any_byte, self.header_byte, self.ec_field, self.vid_field, self.vid_field, self.record_field, self.record_field,
             self.both_records, self.doubled, self.erased, self.swapped, self.cut_off)
 
     def mutate(self, blocks):
         blocks = list(blocks)
-        for _ in range(self.rng.choice((0, 1, 1, 2, 3))):
+        for _ in range(self.rng.choice(self.times)):
             if blocks:
                 self.rng.choice(self.ways)(blocks)
         return b"".join(blocks)
@@ -238,7 +297,9 @@ def spec_of(image):
         if isinstance(content, str):
             yield f"{content} {slot}\n"
         elif record.kind == 1:
-            yield from (f"leb {slot} {lnum} {text.hex()}\n" for lnum, text in content.items())
+            # Of every second LEB as few bytes as may be.
+            given = ((lnum, text.rstrip(b"\xFF") if lnum % 2 else text) for lnum, text in content.items())
+            yield from (f"leb {slot} {lnum} {text.hex()}\n" for lnum, text in given)
         else:
             yield from (f"bytes {slot} {content[at : at + 100].hex()}\n" for at in range(0, len(content), 100))
 
@@ -273,6 +334,23 @@ class Runner:
             raise Failure(f"{words[0]} answers {came[:2]} where {(lines, status)} is right, and writes "
                 f"{'what is right' if came[2] == written else 'something else'}; {ran.stderr.decode()}")
 
+    def change_words(self, path, number, lnum, new):
+        return ["change", path, "--id", str(number), "--lnum", str(lnum), "--from", self.put("new", new), "--out", self.out]
+
+    def look_cuts(self, image, words, steps, changed, stops):
+        """Compares the plan that is printed, and what is written behind each of some numbers of its steps. Gives the last."""
+        lines, whole, old, turned = "".join(rules.change_lines(steps)), b"".join(image.found.blocks), image.meaning(), []
+        for k in stops:
+            cut = rules.after(self.geometry, whole, steps[:k])
+            self.expect([*words, "--stop", str(k)], lines, 0, cut)
+            meaning = Image(self.geometry, cut).meaning()
+            if meaning not in (old, changed):
+                raise Failure(f"cut {k} of {len(steps)} means neither the old nor the new")
+            turned.append(meaning != old)
+        if turned != sorted(turned) or meaning != changed:
+            raise Failure("a cut turns back, or the last one doesn't mean the new")
+        return cut
+
     def look_read(self, path, meaning, number):
         """Compares what is extracted of a volume with what an image means."""
         words = ["extract", path, "--id", str(number), "--out", self.out]
@@ -285,13 +363,15 @@ class Runner:
 
 
 class Case(Runner):
-    """An image, and what the program is to answer of it."""
+    """An image, and what the program is to answer of it.
 
-    def __init__(self, rng, tool, folder):
-        maker = Maker(rng)
+    TIMES are how often it may be changed, PLANS is how many changes are planned, and CUTS how many cuts of each are looked at.
+    """
+
+    def __init__(self, rng, tool, folder, maker, times=(0, 1, 1, 2, 3), plans=3, cuts=99):
         super().__init__(tool, folder, maker.geometry)
-        self.rng = rng
-        self.mutator = Mutator(rng, self.geometry)
+        self.rng, self.plans, self.cuts = rng, plans, cuts
+        self.mutator = Mutator(rng, self.geometry, times)
         self.blocks = maker.blocks
         self.image = self.mutator.mutate(self.blocks)
         self.path = self.put("image", self.image)
@@ -301,40 +381,75 @@ class Case(Runner):
         try:
             image = Image(self.geometry, self.image)
         except Refused as refused:
-            line = f"refused {refused}\n"
-            for words in (["check"], ["list"], ["normalise", "--out", self.out]):
-                self.expect([words[0], self.path, *words[1:]], line, 1)
-            self.look_same(None, line)
+            self.look_refused(f"refused {refused}\n")
             return False, 0
-        normal = rules.normal_image(image)
+        self.look_meant(image)
+        self.look_far(image)
+        return True, sum(self.look_change(image, *self.target(image)) for _ in range(self.plans))
+
+    def look_refused(self, line):
+        of_volume = ("--id", "0", "--out", self.out)
+        new = self.put("new", bytes(self.geometry.page))
+        for command, *words in (["check"], ["list"], ["normalise", "--out", self.out], ["extract", *of_volume],
+                ["change", *of_volume, "--lnum", "0", "--from", new]):
+            self.expect([command, self.path, *words], line, 1)
+        self.expect(["same", self.path, self.put("other", self.mixed())], f"left {line}", 1)
+
+    def look_meant(self, image):
+        """Compares what is printed and written of an accepted image, and of others beside it."""
+        normal, p = rules.normal_image(image), self.rng.randrange(len(image.states))
         self.expect(["check", self.path], "".join(rules.check_lines(image)), 0)
         self.expect(["list", self.path], "".join(rules.list_lines(image)), 0)
-        blocks = f"blocks {len(normal) // self.geometry.peb}\n"
-        self.expect(["normalise", self.path, "--out", self.out], blocks, 0, normal)
-        self.expect(["compose", self.put("spec", "".join(spec_of(image)).encode()), "--out", self.out], blocks, 0, normal)
-        self.expect(["same", self.path, self.put("normal", normal)], "same\n", 0)
-        self.look_show(image)
-        self.look_read(self.path, image, self.rng.choice((*image.records, 127)))
-        self.look_same(image, None)
-        return True, self.look_change(image)
+        self.look_show(image, p)
+        for number in (*image.records, 127):
+            self.look_read(self.path, image, number)
+        self.expect(["normalise", self.path, "--out", self.out], f"blocks {len(normal) // self.geometry.peb}\n", 0, normal)
+        self.look_composed(image, self.rng.choice((0, 0, 1, 2, 3)))
+        for other in (normal, self.mixed(), self.with_number(image)):
+            self.look_same(image, other)
 
-    def look_show(self, image):
-        p = self.rng.randrange(len(image.states) + 1)
-        if p == len(image.states):
-            self.expect(["show", self.path, "--block", str(p)], "refused B1 Block\n", 1)
+    def look_far(self, image):
+        """Compares what is answered where a number among the words is far out of range."""
+        number, lnum = self.target(image)
+        self.look_show(image, far(self.rng, self.rng.randrange(len(image.states))))
+        self.look_read(self.path, image, far(self.rng, number))
+        self.look_composed(image, far(self.rng, 1))
+        self.look_change(image, *self.rng.choice(((far(self.rng, number), lnum), (number, far(self.rng, lnum)))))
+
+    def mixed(self):
+        """Another image that is made from the same eraseblocks."""
+        return self.mutator.mutate(self.rng.sample(self.blocks, len(self.blocks)))
+
+    def with_number(self, image):
+        """The eraseblocks of an image, all of which carry another number, or none, or the same one."""
+        number = self.rng.choice((0, image.image_seq, image.image_seq ^ 1 << self.rng.randrange(32)))
+        return b"".join(renumbered(block, number) for block in image.found.blocks)
+
+    def compose_words(self, image, spares):
+        """Words that compose what an image means, with spare eraseblocks behind it."""
+        words = ["compose", self.put("spec", "".join(spec_of(image)).encode()), "--out", self.out]
+        return words + given(self.rng, "--seq", image.image_seq) + given(self.rng, "--spares", spares)
+
+    def look_composed(self, image, spares):
+        words = self.compose_words(image, spares)
+        try:
+            composed = rules.composed(image, spares)
+        except Refused as refused:
+            self.expect(words, f"refused {refused}\n", 1)
+            return
+        self.expect(words, f"blocks {len(composed) // self.geometry.peb}\n", 0, composed)
+
+    def look_show(self, image, p):
+        words = ["show", self.path, "--block", str(p)]
+        if p >= len(image.states):
+            self.expect(words, "refused B1 Block\n", 1)
             return
         block = image.found.blocks[p]
         ec, vid = block[:64].hex(), block[self.geometry.vid : self.geometry.vid + 64].hex()
-        lines = f"ec {image.found.ecs[p][0]} {ec}\nvid {image.found.vids[p][0]} {vid}\n"
-        self.expect(["show", self.path, "--block", str(p)], lines, 0)
+        self.expect(words, f"ec {image.found.ecs[p][0]} {ec}\nvid {image.found.vids[p][0]} {vid}\n", 0)
 
-    def look_same(self, image, refusal):
-        """Compares with another image that was made from the same eraseblocks."""
-        other = self.mutator.mutate(self.rng.sample(self.blocks, len(self.blocks)))
+    def look_same(self, image, other):
         words = ["same", self.path, self.put("other", other)]
-        if image is None:
-            self.expect(words, f"left {refusal}", 1)
-            return
         try:
             is_same = Image(self.geometry, other).meaning() == image.meaning()
         except Refused as refused:
@@ -342,60 +457,47 @@ class Case(Runner):
             return
         self.expect(words, "same\n" if is_same else "different\n", 0 if is_same else 1)
 
-    def look_change(self, image):
-        """Plans a change, and looks at each cut of it. Gives how many there are."""
+    def target(self, image):
+        """A volume and a LEB to change: mostly of a dynamic volume, and often a LEB of an eraseblock that carries the number."""
+        rng, members = self.rng, image.found.members
+        dynamic = [number for number, record in image.records.items() if record.kind == 1]
+        carried = [members[p] for p in image.found.carriers if p in members and members[p].volume in dynamic]
+        if carried and rng.random() < 0.4:
+            member = rng.choice(carried)
+            return member.volume, member.lnum
+        number = rng.choice(dynamic if dynamic and rng.random() < 0.8 else (*image.records, 3))
+        lnums = range(image.records[number].reserved + 1) if number in image.records else (0,)
+        unmapped = [lnum for lnum in lnums[:-1] if (number, lnum) not in image.winners]
+        return number, rng.choice(unmapped if unmapped and rng.random() < 0.5 else lnums)
+
+    def new_bytes(self):
         rng, page = self.rng, self.geometry.page
-        number = rng.choice((*image.records, *image.records, 3))
-        record = image.records.get(number)
-        lnum = rng.randrange(record.reserved + 1) if record else 0
-        pages = rng.randrange(1, self.geometry.leb // page + 1)
-        new = rng.choice((rng.randbytes(pages * page), b"\xFF" * pages * page, rng.randbytes(page - 5) + b"\xFF" * 5, rng.randbytes(page // 2)))
-        if rng.random() < 0.05:
-            new = b"\xFF" * (page - 5) + bytes.fromhex("BEF98E24FE")
-        words = ["change", self.path, "--id", str(number), "--lnum", str(lnum), "--from", self.put("new", new), "--out", self.out]
+        whole = rng.randbytes(rng.randrange(1, self.geometry.leb // page + 1) * page)
+        blank = rng.choice((b"\xFF" * len(whole), whole[: page - 5] + b"\xFF" * 5, b"\xFF" * (page - 5) + bytes.fromhex("BEF98E24FE")))
+        return rng.choice((whole, whole, whole, whole, whole + blank, blank, whole[: page // 2]))
+
+    def look_change(self, image, number, lnum):
+        """Compares the plan of a change, and what is written behind its steps. Gives how many cuts those are."""
+        new = self.new_bytes()
+        words = self.change_words(self.path, number, lnum, new)
         refusal = rules.change_refusal(image, number, lnum, new)
         if refusal is not None:
             self.expect(words, f"refused {refusal}\n", 1)
             return 0
-        return self.look_cuts(image, words, rules.changed(image, number, lnum, new))
-
-    def look_cuts(self, image, words, changed):
-        plan, cuts = None, []
-        while plan is None or len(cuts) <= plan.count("\n") - 1:
-            ran = subprocess.run([self.tool, *words, *self.geometry.words(), "--stop", str(len(cuts))], capture_output=True)
-            if ran.returncode != 0 or plan not in (None, ran.stdout.decode()):
-                raise Failure(f"change answers {ran.stdout} behind {plan}")
-            plan = ran.stdout.decode()
-            cuts.append(self.written())
-        meanings = [Image(self.geometry, cut).meaning() for cut in cuts]
-        turned = [meaning != image.meaning() for meaning in meanings]
-        if cuts[0] != self.image or meanings[-1] != changed or turned != sorted(turned):
-            raise Failure("the first cut isn't the image, the last one doesn't mean the new, or one turns back")
-        if any(meaning not in (image.meaning(), changed) for meaning in meanings):
-            raise Failure("a cut means neither the old nor the new")
-        self.look_steps(plan.splitlines()[1:], cuts)
-        return len(cuts)
-
-    def look_steps(self, lines, cuts):
-        """Each step erases or programs what its line names, and nothing else; a program sets no bit."""
-        for line, before, after in zip(lines, cuts, cuts[1:]):
-            word, *numbers = line.split()
-            p, *page = (int(number.split("=")[1]) for number in numbers)
-            size = self.geometry.page if page else self.geometry.peb
-            at = p * self.geometry.peb + sum(page) * self.geometry.page
-            if before[:at] + before[at + size :] != after[:at] + after[at + size :]:
-                raise Failure(f"{line} changes something else")
-            pairs = zip(before[at : at + size], after[at : at + size])
-            right = all(new & old == new for old, new in pairs) if word == "program" else rules.is_blank(after[at : at + size])
-            if not right:
-                raise Failure(f"{line} does something else")
+        steps = rules.Plan(image, number, lnum, new).steps
+        stops = sorted(self.rng.sample(range(len(steps)), min(self.cuts, len(steps))))
+        last = self.look_cuts(image, words, steps, rules.changed(image, number, lnum, new), (*stops, len(steps)))
+        beyond = self.rng.choice(([], ["--stop", str(far(self.rng, len(steps)))]))
+        self.expect(words + beyond, "".join(rules.change_lines(steps)), 0, last)
+        return len(stops) + 1
 
 
-def options(usage, count):
-    """The words of a program over random images or texts."""
+def options(usage, count, **others):
+    """The words of a program over random images or texts, which may be counted by other words too."""
     words = argparse.ArgumentParser(description=usage, formatter_class=argparse.RawDescriptionHelpFormatter)
     words.add_argument("--seed", type=int, default=1)
-    words.add_argument("--count", type=int, default=count)
+    for name, number in {"count": count, **others}.items():
+        words.add_argument(f"--{name}", type=int, default=number)
     words.add_argument("--first", type=int, default=0, help="the number of the first image or text")
     words.add_argument("--dir", default="/tmp")
     words.add_argument("--tool", help="the program; the one that ./ubi_tool starts where it is left out")
@@ -408,23 +510,31 @@ def finish(passed, failed):
     sys.exit(1 if failed else 0)
 
 
-def run_cases(words, look):
-    """Calls LOOK with each case's random numbers and a folder. Gives what it answered, and how many failed."""
+def run_cases(words, looks):
+    """Calls each LOOK with random numbers of its name and a folder. Gives what they answered, and how many failed.
+
+    LOOKS has of each name the look, and how many there are of it, which are counted from --first.
+    """
     answers, failed = [], 0
     with tempfile.TemporaryDirectory(dir=words.dir) as folder:
-        for k in range(words.first, words.first + words.count):
-            try:
-                answers.append(look(random.Random(f"{words.seed} {k}"), folder))
-            except Failure as failure:
-                print(f"number {k} of seed {words.seed}: {failure}")
-                failed += 1
+        for name, (look, count) in looks.items():
+            for k in range(words.first, words.first + count):
+                try:
+                    answers.append(look(random.Random(f"{words.seed} {name}{k}"), folder))
+                except Failure as failure:
+                    print(f"number {name}{k} of seed {words.seed}: {failure}", flush=True)
+                    failed += 1
     return answers, failed
 
 
 def main():
-    words = options(__doc__, 500)
+    words = options(__doc__, 500, large=20, huge=1)
     tool = built(words.tool)
-    answers, failed = run_cases(words, lambda rng, folder: Case(rng, tool, folder).look())
+    answers, failed = run_cases(words, {
+        "": (lambda rng, folder: Case(rng, tool, folder, Maker(rng)).look(), words.count),
+        "large ": (lambda rng, folder: Case(rng, tool, folder, Maker(rng, REAL_SIZES), (0, 0, 1), 3, 5).look(), words.large),
+        "huge ": (lambda rng, folder: Case(rng, tool, folder, HugeMaker(rng, REAL_SIZES), (0,), 3, 5).look(), words.huge),
+    })
     accepted, cuts = (sum(answer[k] for answer in answers) for k in range(2))
     print(f"{accepted} accepted, {cuts} cuts")
     finish(len(answers), failed)

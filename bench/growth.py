@@ -44,7 +44,7 @@ SIZES = tuple(2**k for k in (14, 16, 18, 20))
 MOST = 1.3
 GEOMETRY = ("--peb", "512", "--page", "64")
 LEB = image.PEB - image.DATA
-EC = image.counter_header(7)
+EC = image.counter_header(7, image_seq=image.IMAGE_SEQ)
 
 
 def block(vid=b"", data=b""):

@@ -5,12 +5,14 @@ usage: hostile.py [--dir FOLDER] [--tool PROGRAM] [FAMILY ..]
 
 The image is crates/ubi_tool/data/root.img: the two copies of a table with one dynamic volume, and its LEBs 0, 1 and 2, as
 `ubinize` writes it. The families, all of which are run where none is named:
-  counters  each bit of each erase-counter header flipped: the meaning stays
+  counters  each bit of each erase-counter header flipped: the meaning stays, with the number that the others carry
   headers   each bit of the volume-identifier header of LEB 1 flipped: LEB 1 reads 0xFF
   records   each bit of the records of a copy of the table flipped: the meaning stays; of both: refused T2 BothCorrupt
   lengths   each length from 0 on: refused S1 Length where it isn't whole eraseblocks, else the LEBs that are left
   faults    each rule of each header and record broken, with a right check, wherever it can be
   pairs     each two of these: the cause of the lower eraseblock comes first, and those of the table last
+  carriers  the image, a free eraseblock and an erased one, where each subset of them carries the number: they mean the image
+            but for the number, which goes where none carries it; and changes of each LEB, whose plans leave a sole carrier be
   texts     of `compose`: each form of line with each fault, each two faults in one text, each byte in each place that has
             a rule of its own, and right texts at the limits; the cause of the first line comes first (text_faults.py)
   devices   character devices without an end, for each file that a command reads: cannot read; and the image by way of
@@ -29,12 +31,13 @@ import tempfile
 
 import rules
 import text_faults
-from fuzz import ROOT, Failure, Runner, built, finish
+from fuzz import ROOT, Failure, Runner, built, finish, renumbered
 from text_rules import Described
 
 GEOMETRY = rules.Geometry(512, 64, 64, 128, 1048576)
 PEB, LEB = GEOMETRY.peb, GEOMETRY.leb
-with open(os.path.join(ROOT, "crates", "ubi_tool", "data", "root.img"), "rb") as file:
+BASE_PATH = os.path.join(ROOT, "crates", "ubi_tool", "data", "root.img")
+with open(BASE_PATH, "rb") as file:
     BASE = file.read()
 MEANT = rules.Image(GEOMETRY, BASE)
 LEBS = {lnum: text for lnum, text in MEANT.contents[0].items()}
@@ -171,6 +174,43 @@ def pairs():
             yield with_fault(with_fault(BASE, rank, places), other, others), min((rank, line), (other, other_line))[1]
 
 
+FREE, ERASED = len(BASE) // PEB, len(BASE) // PEB + 1
+NEW = b"new" * 40 + b"page" * 2
+NUMBER = MEANT.image_seq
+
+
+def carriers():
+    """Each subset of the eraseblocks with an erase-counter header, a LEB to change, and the answer to that."""
+    blocks = [BASE[at : at + PEB] for at in range(0, len(BASE), PEB)] + [rules.put_block(GEOMETRY, rules.put_ec(GEOMETRY)), b"\xFF" * PEB]
+    for count in range(FREE + 2):
+        for carry in itertools.combinations(range(FREE + 1), count):
+            image = b"".join(renumbered(block, NUMBER if p in carry else 0) for p, block in enumerate(blocks))
+            for lnum in range(len(LEBS) + 1):
+                yield image, NUMBER if carry else 0, lnum, planned(carry, lnum)
+
+
+def planned(carry, lnum):
+    """What is printed of a change to two pages: the free eraseblock is taken first, and then the erased one."""
+    taken, old, lines = [FREE, ERASED], 2 + lnum, []
+    if carry == (FREE,):
+        taken.remove(FREE)
+    if lnum == len(LEBS):
+        if len(taken) < 2:
+            return "refused K9 NoFree\n"
+        old = taken.pop(0)
+        lines.append(f"program block={old} page=1")
+    if taken[0] == ERASED:
+        lines += erased(ERASED)
+    lines += [f"program block={taken[0]} page={page}" for page in (1, 2, 3)]
+    if carry != (old,):
+        lines += erased(old)
+    return "".join(f"{line}\n" for line in (f"steps {len(lines)}", *lines))
+
+
+def erased(p):
+    return [f"erase block={p}", f"program block={p} page=0"]
+
+
 ENDLESS = ("/dev/zero", "/dev/full", "/dev/random")
 
 
@@ -193,7 +233,7 @@ def devices():
         yield ("check", "/dev/stdin"), path, "cannot read /dev/stdin\n"
     checked = "".join(rules.check_lines(MEANT))
     yield ("check", "/dev/stdin"), BASE, checked
-    yield ("check", "/dev/stdin"), os.path.join(ROOT, "crates", "ubi_tool", "data", "root.img"), checked
+    yield ("check", "/dev/stdin"), BASE_PATH, checked
     blank = b"\xFF" * PEB
     yield ("check", "/dev/stdin"), Typed(blank), "".join(rules.check_lines(rules.Image(GEOMETRY, blank)))
 
@@ -213,6 +253,7 @@ FAMILIES = {
     "lengths": lengths,
     "faults": faults,
     "pairs": pairs,
+    "carriers": carriers,
     "texts": text_faults.texts,
     "devices": devices,
 }
@@ -223,15 +264,15 @@ class Looker:
 
     def __init__(self, tool, folder):
         self.tool = tool
-        self.path, self.out = os.path.join(folder, "image"), os.path.join(folder, "out")
-        self.runner = Runner(tool, folder, text_faults.GEOMETRY)
+        self.path, self.out = os.path.join(folder, "damaged"), os.path.join(folder, "read")
+        self.runner, self.of_texts = (Runner(tool, folder, geometry) for geometry in (GEOMETRY, text_faults.GEOMETRY))
 
     def run(self, command, *words):
         ran = subprocess.run([self.tool, command, self.path, *words, *GEOMETRY.words()], capture_output=True, text=True)
         return ran.stdout, ran.returncode
 
     def is_right(self, image, expected):
-        """Whether an image is refused with a line, or its volume reads some bytes; and `check` says the same."""
+        """Whether an image is refused with a line, or its volume reads some bytes; and `check` and `same` say the same."""
         with open(self.path, "wb") as file:
             file.write(image)
         try:
@@ -242,25 +283,46 @@ class Looker:
             return False
         if isinstance(expected, str):
             return checked == (expected, 1)
+        if self.run("same", BASE_PATH) != (("same\n", 0) if expected == reads(LEBS) else ("different\n", 1)):
+            return False
         extracted = self.run("extract", "--id", "0", "--out", self.out)
         with open(self.out, "rb") as file:
             return extracted == (f"bytes {len(expected)}\n", 0) and file.read() == expected
 
+    def is_carried(self, image, number, lnum, expected):
+        """Whether an image means the base under a number, and a change of a LEB prints what is expected and keeps the number."""
+        runner, found, path = self.runner, rules.Image(GEOMETRY, image), self.runner.put("carried", image)
+        normal = rules.normal_image(rules.Meaning(GEOMETRY, number, MEANT.records, MEANT.contents))
+        words = runner.change_words(path, 0, lnum, NEW)
+        try:
+            runner.expect(["check", path], "".join(rules.check_lines(found)), 0)
+            runner.expect(["same", BASE_PATH, path], *(("same\n", 0) if number == NUMBER else ("different\n", 1)))
+            runner.expect(["normalise", path, "--out", runner.out], f"blocks {len(normal) // PEB}\n", 0, normal)
+            if expected.startswith("refused"):
+                runner.expect(words, expected, 1)
+                return f"refused {rules.change_refusal(found, 0, lnum, NEW)}\n" == expected
+            steps = rules.Plan(found, 0, lnum, NEW).steps
+            runner.look_cuts(found, words, steps, rules.changed(found, 0, lnum, NEW), range(len(steps) + 1))
+        except Failure as failure:
+            print(failure)
+            return False
+        return found.image_seq == number and "".join(rules.change_lines(steps)) == expected
+
     def is_composed(self, text, spares, expected):
         """Whether a text is refused with a line, or composed into an image whose volumes are listed so."""
-        words = ["compose", self.runner.put("text", text), "--out", self.runner.out, "--spares", str(spares)]
+        words = ["compose", self.of_texts.put("text", text), "--out", self.of_texts.out, "--spares", str(spares)]
         try:
-            image = Described(self.runner.geometry, text).image(spares)
+            image = rules.composed(Described(self.of_texts.geometry, text), spares)
         except rules.Refused as refused:
             image = f"refused {refused}\n"
         try:
             if isinstance(expected, str):
-                self.runner.expect(words, expected, 1)
+                self.of_texts.expect(words, expected, 1)
                 return image == expected
-            self.runner.expect(words, f"blocks {len(image) // self.runner.geometry.peb}\n", 0, image)
-            front = next(rules.list_lines(rules.Meaning(self.runner.geometry, {}, {})))
+            self.of_texts.expect(words, f"blocks {len(image) // self.of_texts.geometry.peb}\n", 0, image)
+            front = next(rules.list_lines(rules.Meaning(self.of_texts.geometry, 0, {}, {})))
             lines = "".join(f"{line}\n" for line in (*expected, f"volumes {len(expected)}"))
-            self.runner.expect(["list", self.runner.put("composed", image)], front + lines, 0)
+            self.of_texts.expect(["list", self.of_texts.put("composed", image)], front + lines, 0)
         except Failure as failure:
             print(failure)
             return False
@@ -289,7 +351,7 @@ def main():
     passed = failed = 0
     with tempfile.TemporaryDirectory(dir=words.dir) as folder:
         looker = Looker(built(words.tool), folder)
-        judges = {"devices": (looker.is_printed, "runs"), "texts": (looker.is_composed, "texts")}
+        judges = {"devices": (looker.is_printed, "runs"), "texts": (looker.is_composed, "texts"), "carriers": (looker.is_carried, "plans")}
         for name in words.families or FAMILIES:
             judge, what = judges.get(name, (looker.is_right, "images"))
             verdicts = [judge(*case) for case in FAMILIES[name]()]

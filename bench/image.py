@@ -1,6 +1,6 @@
 #!/usr/bin/env python3
 """Makes images that scans are measured on: eraseblocks of 512 bytes with pages of 64, the volume-identifier header at
-byte 64 and the data at byte 128. No eraseblock is at fault, and no table of volumes is there.
+byte 64 and the data at byte 128. All carry one image sequence number, no eraseblock is at fault, and no table of volumes is there.
 
 usage: image.py KIND COUNT FILE
 
@@ -18,6 +18,7 @@ import sys
 import zlib
 
 PEB, PAGE, VID, DATA = 512, 64, 64, 128
+IMAGE_SEQ = 0x12345678
 KINDS = ("rising", "mixed", "one", "one-mixed", "copies", "pairs")
 
 
@@ -30,8 +31,8 @@ def sealed(front):
     return front + struct.pack(">I", check(front))
 
 
-def counter_header(counter, vid=VID, data=DATA):
-    return sealed(struct.pack(">4sB3xQIII32x", b"UBI#", 1, counter, vid, data, 0))
+def counter_header(counter, vid=VID, data=DATA, image_seq=0):
+    return sealed(struct.pack(">4sB3xQIII32x", b"UBI#", 1, counter, vid, data, image_seq))
 
 
 def identifier_header(volume, number, sqnum, copied=b"", compat=0):
@@ -51,7 +52,7 @@ def places(kind, count):
 
 def eraseblocks(kind, count):
     """The eraseblocks of an image, one after the other."""
-    ec = counter_header(7)
+    ec = counter_header(7, image_seq=IMAGE_SEQ)
     erased = b"\xFF" * (PEB - DATA)
     for place, k in enumerate(places(kind, count)):
         if kind in ("one", "one-mixed"):

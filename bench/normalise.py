@@ -22,7 +22,7 @@ import sys
 import tempfile
 import time
 
-from image import check, counter_header, identifier_header, sealed
+from image import IMAGE_SEQ, check, counter_header, identifier_header, sealed
 
 # Of each kind its number in a record, and how many times as long as `cp` it may take.
 KINDS = {"dynamic": (1, 2), "static": (2, 4)}
@@ -43,7 +43,7 @@ def static_header(number, count, data):
 
 
 def eraseblock(vid, data):
-    front = counter_header(7, PAGE, 2 * PAGE).ljust(PAGE, b"\xFF") + vid.ljust(PAGE, b"\xFF")
+    front = counter_header(7, PAGE, 2 * PAGE, IMAGE_SEQ).ljust(PAGE, b"\xFF") + vid.ljust(PAGE, b"\xFF")
     return (front + data).ljust(PEB, b"\xFF")
 
 

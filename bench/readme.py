@@ -1,12 +1,15 @@
 #!/usr/bin/env python3
 """Runs the examples of README.md and compares what they print.
 
-usage: readme.py
+usage: readme.py [--tool PROGRAM]
 
 An example is a line of README.md that begins with '$ ' in a block without a language, and the lines up to the next one or
-the end of the block are what it prints. They run in their order, by the shell, at the top of the repository. The program is
-built first where it isn't yet. Ends with 'N passed, M failed', and with status 1 where some failed.
+the end of the block are what it prints. They run in their order, by the shell, at the top of the repository. Without --tool the
+program is built first where it isn't yet; with it, PROGRAM stands in the place of `./ubi_tool` in each example. Ends with
+'N passed, M failed', and with status 1 where some failed.
 """
+import argparse
+import shlex
 import subprocess
 import sys
 from pathlib import Path
@@ -42,15 +45,24 @@ def examples(text):
                 wanted.append(line)
 
 
+def with_tool(command, tool):
+    """An example with another program in the place of ./ubi_tool."""
+    return command if tool is None else command.replace('./ubi_tool ', f'{shlex.quote(str(Path(tool).resolve()))} ')
+
+
 def main():
+    words = argparse.ArgumentParser(description=__doc__, formatter_class=argparse.RawDescriptionHelpFormatter)
+    words.add_argument('--tool', help='the program; ./ubi_tool where it is left out')
+    words = words.parse_args()
     passed = failed = 0
     for command, wanted in examples((ROOT / 'README.md').read_text()):
+        command = with_tool(command, words.tool)
         ran = subprocess.run(command, shell=True, cwd=ROOT, stdin=subprocess.DEVNULL, capture_output=True, text=True)
         if ran.stdout.splitlines() == wanted:
             passed += 1
         else:
             failed += 1
-            print(f'{command}\nprinted:\n{ran.stdout}{ran.stderr}and not:', *wanted, '', sep='\n')
+            print(f'failed: {command}\nprinted:\n{ran.stdout}{ran.stderr}and not:', *wanted, '', sep='\n')
     print(f'{passed} passed, {failed} failed')
     return 1 if failed or not passed else 0
 

@@ -1,4 +1,4 @@
-"""A second reading of docs/FORMAT.md: what an image means, or why it is refused.
+"""A second reading of docs/FORMAT.md: what an image means, or why it is refused, and the plan of a change.
 
 It was written from that document and not from the program, so that the answers of the program can be compared with it.
 It is short and slow: each rule stands once, in the document's words. A refusal is the exception `Refused`, which holds the
@@ -26,7 +26,7 @@ def sealed(front):
 
 
 def is_blank(data):
-    return not data.strip(b"\xFF")
+    return not data.lstrip(b"\xFF")
 
 
 EMPTY_RECORD = sealed(bytes(168))
@@ -197,6 +197,7 @@ class Blocks:
         self.vids = [read_vid(geometry, block[geometry.vid : geometry.vid + 64]) for block in self.blocks]
         self.members = {}
         self.dropped = set()
+        self.carriers = []
         self.image_seq = 0
         seen = {}
         for p in range(len(self.blocks)):
@@ -211,6 +212,7 @@ class Blocks:
             if self.image_seq not in (0, ec.image_seq):
                 raise Refused(f"S4 ImageSeq block={p}")
             self.image_seq = ec.image_seq
+            self.carriers.append(p)
         if ec_state == "blank":
             return
         if vid_state.startswith("fault"):
@@ -295,17 +297,17 @@ def is_counted(record, lnum):
 
 
 class Meaning:
-    """What is composed, and what an accepted image means: the records of volumes by number, and what each volume reads.
+    """What is composed, and what an accepted image means: its number, the records of volumes, and what each volume reads.
 
     A content is 'updating', 'damaged', the bytes of a static volume, or the LEBs of a dynamic one that aren't blank.
     """
 
-    def __init__(self, geometry, records, contents):
-        self.geometry, self.records, self.contents = geometry, records, contents
+    def __init__(self, geometry, image_seq, records, contents):
+        self.geometry, self.image_seq, self.records, self.contents = geometry, image_seq, records, contents
 
     def meaning(self):
-        """What is compared: the records but for what no field says, and the contents."""
-        return self.records, self.contents
+        """What is compared: the number, the records but for what no field says, and the contents."""
+        return self.image_seq, self.records, self.contents
 
     def read_volume(self, number):
         if number not in self.records:
@@ -327,7 +329,7 @@ class Image(Meaning):
     def __init__(self, geometry, image):
         self.found = Blocks(geometry, image)
         self.winners = self.found.winners()
-        super().__init__(geometry, read_table(self.found, self.winners), {})
+        super().__init__(geometry, self.found.image_seq, read_table(self.found, self.winners), {})
         self.check_winners()
         self.contents |= {number: self.content(number, record) for number, record in self.records.items()}
         self.states = [self.state(p) for p in range(len(self.found.blocks))]
@@ -396,7 +398,7 @@ def check_lines(image):
     yield f"blocks {len(image.states)}\n"
     for state in ("blank", "free", "table", "used", "stale", "orphan", "dropped", "corrupt", "garbage"):
         yield f"{state} {image.states.count(state)}\n"
-    yield f"top sqnum {image.top_sqnum}\nimage seq {image.found.image_seq}\nmean counter {image.mean_counter}\naccepted\n"
+    yield f"top sqnum {image.top_sqnum}\nimage seq {image.image_seq}\nmean counter {image.mean_counter}\naccepted\n"
 
 
 # Writing: headers and records as an image holds them, and the normal image of a meaning.
@@ -448,10 +450,128 @@ def normal_image(meaning):
     parts = [(Vid(1, 0, 5, LAYOUT, copy, 0, 0, 0, 0, 0), table) for copy in range(2)]
     for number, record in sorted(meaning.records.items()):
         parts += volume_blocks(geometry, number, record, meaning.contents[number])
-    return b"".join(put_block(geometry, put_ec(geometry), put_vid(header), data) for header, data in parts)
+    ec = put_ec(geometry, image_seq=meaning.image_seq)
+    return b"".join(put_block(geometry, ec, put_vid(header), data) for header, data in parts)
 
 
-# What README says of changes: why one isn't planned, and which eraseblocks may be taken.
+def composed(meaning, spares):
+    """The normal image, and spare eraseblocks behind it."""
+    geometry, normal = meaning.geometry, normal_image(meaning)
+    if len(normal) // geometry.peb + spares > geometry.pebs:
+        raise Refused("C1 TooMany")
+    return normal + spares * put_block(geometry, put_ec(geometry, image_seq=meaning.image_seq))
+
+
+# The plan of a change: which eraseblocks may be taken, and its steps. A step is ('erase', p) or ('program', p, page, bytes).
+
+
+def stays(image, p, ec):
+    """Whether an eraseblock with such an erase-counter header is never erased."""
+    return (ec is not None and ec.counter == TOP_COUNTER) or image.found.carriers == [p]
+
+
+def is_clean(image, p):
+    return image.states[p] == "free" and is_blank(image.found.blocks[p][64:])
+
+
+def takeable(image):
+    """The eraseblocks that may be taken, in the order in which they are."""
+    unread = ("free", "blank", "stale", "orphan", "dropped", "garbage")
+    may = [p for p, state in enumerate(image.states) if state in unread and not stays(image, p, image.found.ecs[p][1])]
+    return sorted(may, key=lambda p: not is_clean(image, p))
+
+
+def do(geometry, now, step):
+    """Does a step to the bytes of an image. A program sets no bit."""
+    _, p, *program = step
+    page, data = program or (0, b"\xFF" * geometry.peb)
+    at = p * geometry.peb + page * geometry.page
+    old, new = (int.from_bytes(part, "big") for part in (now[at : at + len(data)], data))
+    assert not program or old & new == new, f"{step[:3]} sets a bit"
+    now[at : at + len(data)] = data
+
+
+def after(geometry, image, steps):
+    """The image after some steps."""
+    now = bytearray(image)
+    for step in steps:
+        do(geometry, now, step)
+    return bytes(now)
+
+
+class Plan:
+    """The steps of a change of a LEB, and beside them what the eraseblocks hold by then."""
+
+    def __init__(self, image, number, lnum, new):
+        self.image, self.geometry = image, image.geometry
+        self.now, self.steps = bytearray(b"".join(image.found.blocks)), []
+        pad = image.records[number].pad(self.geometry)
+        header = Vid(1, 1, 0, number, lnum, len(new), 0, pad, check(new), image.top_sqnum + 1)
+        taken, old = takeable(image), image.winners.get((number, lnum))
+        if old is None:
+            old = taken.pop(0)
+            self.prepare(old)
+            self.put_header(old, dataclasses.replace(header, copy=0, size=0, data_check=0))
+            header = dataclasses.replace(header, sqnum=header.sqnum + 1)
+        self.prepare(taken[0])
+        self.copy(taken[0], header, new)
+        self.give_up(old)
+
+    def step(self, *step):
+        self.steps.append(step)
+        do(self.geometry, self.now, step)
+
+    def program(self, p, page, data):
+        self.step("program", p, page, data.ljust(self.geometry.page, b"\xFF"))
+
+    def ec_bytes(self, p):
+        """Bytes 0 to 63 of an eraseblock by then."""
+        at = p * self.geometry.peb
+        return bytes(self.now[at : at + 64])
+
+    def erase(self, p):
+        """Erases an eraseblock, and programs its erase-counter header."""
+        ec = read_ec(self.geometry, self.ec_bytes(p))[1]
+        self.step("erase", p)
+        counter = self.image.mean_counter if ec is None else ec.counter + 1
+        self.program(p, 0, put_ec(self.geometry, counter, self.image.image_seq))
+
+    def prepare(self, p):
+        if not is_clean(self.image, p):
+            self.erase(p)
+
+    def put_header(self, p, header):
+        """Programs the page of the VID offset. Where that is page 0, it keeps the erase-counter header."""
+        page, at = divmod(self.geometry.vid, self.geometry.page)
+        front = self.ec_bytes(p) if page == 0 else b""
+        self.program(p, page, front.ljust(at, b"\xFF") + put_vid(header))
+
+    def copy(self, p, header, new):
+        self.put_header(p, header)
+        for at in range(0, len(new), self.geometry.page):
+            self.program(p, (self.geometry.data + at) // self.geometry.page, new[at : at + self.geometry.page])
+
+    def give_up(self, p):
+        if not stays(self.image, p, read_ec(self.geometry, self.ec_bytes(p))[1]):
+            self.erase(p)
+
+
+def change_lines(steps):
+    yield f"steps {len(steps)}\n"
+    for word, p, *program in steps:
+        yield f"{word} block={p}" + (f" page={program[0]}" if program else "") + "\n"
+
+
+def changed(image, number, lnum, new):
+    """What the image means once a LEB has new bytes."""
+    text = new.ljust(image.records[number].usable(image.geometry), b"\xFF")
+    lebs = {at: old for at, old in image.contents[number].items() if at != lnum}
+    if not is_blank(text):
+        lebs[lnum] = text
+    return image.image_seq, image.records, image.contents | {number: lebs}
+
+
+# What README says of changes: why one isn't planned.
 
 
 def weak_pages(geometry, new):
@@ -461,16 +581,6 @@ def weak_pages(geometry, new):
         if torn != new and check(torn) == check(new):
             return pages
     return None
-
-
-def may_be_taken(image):
-    """How many eraseblocks may be taken: those that nothing is read of, but one whose counter is at its largest."""
-    unread = ("free", "blank", "stale", "orphan", "dropped", "garbage")
-    ecs = image.found.ecs
-    return sum(
-        state in unread and not (ecs[p][0] == "valid" and ecs[p][1].counter == TOP_COUNTER)
-        for p, state in enumerate(image.states)
-    )
 
 
 def change_refusal(image, number, lnum, new):
@@ -492,13 +602,4 @@ def change_refusal(image, number, lnum, new):
     needed = 1 if (number, lnum) in image.winners else 2
     if image.top_sqnum + needed > TOP_SQNUM:
         return "K8 Exhausted"
-    return "K9 NoFree" if may_be_taken(image) < needed else None
-
-
-def changed(image, number, lnum, new):
-    """What the image means once a LEB has new bytes."""
-    text = new.ljust(image.records[number].usable(image.geometry), b"\xFF")
-    lebs = {at: old for at, old in image.contents[number].items() if at != lnum}
-    if not is_blank(text):
-        lebs[lnum] = text
-    return image.records, image.contents | {number: lebs}
+    return "K9 NoFree" if len(takeable(image)) < needed else None

@@ -19,7 +19,8 @@ import subprocess
 import tempfile
 
 import rules
-from fuzz import ROOT, Case, Failure, built, finish, options, spec_of
+from fuzz import ROOT, Case, Failure, Maker, built, finish, options
+
 
 def refusing(folder):
     """The path of a library that refuses one growth, which REFUSE_AT counts from 1."""
@@ -40,7 +41,7 @@ class Starved(Case):
         yield ["same", self.path, other]
         yield ["extract", self.path, "--id", number, "--out", self.out]
         yield ["normalise", self.path, "--out", self.out]
-        yield ["compose", self.put("spec", "".join(spec_of(image)).encode()), "--out", self.out]
+        yield self.compose_words(image, 1)
         yield ["change", self.path, "--id", number, "--lnum", "0", "--from", new, "--out", self.out]
 
     def run(self, words, **environment):
@@ -69,7 +70,8 @@ def main():
     with tempfile.TemporaryDirectory(dir=words.dir) as folder:
         tool, library = built(words.tool), refusing(folder)
         while images < words.count:
-            case = Starved(random.Random(f"{words.seed} {number}"), tool, folder)
+            rng = random.Random(f"{words.seed} {number}")
+            case = Starved(rng, tool, folder, Maker(rng))
             number += 1
             try:
                 image = rules.Image(case.geometry, case.image)

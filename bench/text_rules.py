@@ -188,9 +188,9 @@ def judge_together(geometry, volumes):
 
 
 class Described(rules.Meaning):
-    """What a text describes."""
+    """What a text describes, with the number that is given beside it."""
 
-    def __init__(self, geometry, text):
+    def __init__(self, geometry, text, image_seq=0):
         lines = read_lines(geometry, text)
         volumes = []
         for head in (line for line in lines if line.said == b"volume"):
@@ -198,7 +198,7 @@ class Described(rules.Meaning):
             content = content_of(geometry, record, contents(lines, head.volume))
             volumes.append((head.volume, dataclasses.replace(record, marker=int(content == "updating")), content))
         judge_together(geometry, volumes)
-        super().__init__(geometry, {}, {})
+        super().__init__(geometry, image_seq, {}, {})
         for number, record, content in volumes:
             self.records[number] = record
             self.contents[number] = self.without_blanks(content) if isinstance(content, dict) else content
@@ -206,13 +206,6 @@ class Described(rules.Meaning):
     @staticmethod
     def without_blanks(lebs):
         return {lnum: data for lnum, data in lebs.items() if not rules.is_blank(data)}
-
-    def image(self, spares):
-        """The composed image: the normal one, and spare eraseblocks behind it."""
-        normal = rules.normal_image(self)
-        if len(normal) // self.geometry.peb + spares > self.geometry.pebs:
-            raise Refused("C1 TooMany")
-        return normal + spares * rules.put_block(self.geometry, rules.put_ec(self.geometry))
 
 
 def most(geometry):

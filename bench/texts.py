@@ -6,9 +6,10 @@ usage: texts.py [--seed N] [--count N] [--first N] [--dir FOLDER] [--tool PROGRA
 A text describes random volumes of all kinds and states: its lines in a random order, so far as the order is free, names and
 hexadecimal digits in random forms, with remarks and empty lines between, the last newline there or not. Three of four texts
 are then changed up to three times: a word, a line or a byte, the spaces, the ends of the lines, or the length.
-Of each text `compose`, also with spares, has to print the line of the first cause and write nothing; or to write what the
-rules give, byte for byte. Then `list` and `extract` of that say what the text says, and `same` compares it with the image
-without spares and with that of another text. A text that wasn't changed has to read as the volumes that it was made from.
+Of each text `compose`, also with spares and with an image sequence number, has to print the line of the first cause and write
+nothing; or to write what the rules give, byte for byte. Then `list` and `extract` of that say what the text says, and `same`
+compares it with the image without spares, with that of another number, which is different, and with that of another text. A
+text that wasn't changed has to read as the volumes that it was made from.
 
 Without words there are 500 texts (--count) of the seed 1 (--seed). They lie in a new folder below FOLDER (/tmp where it is
 left out), which is removed again. Without --tool the program is built first where it isn't yet. Each cause is counted. The last line is
@@ -19,7 +20,7 @@ import re
 
 import rules
 import text_rules
-from fuzz import Failure, Maker, Runner, built, finish, options, run_cases
+from fuzz import Failure, Maker, Runner, built, far, finish, given, options, run_cases
 from rules import Refused
 from text_rules import Described
 
@@ -27,6 +28,7 @@ NUMBERS = ("0", "00", "01", "007", "1", "2", "3", "4", "5", "+1", "-1", "0x1", "
     "2147483647", "2147483648", "4294967295", "4294967296", "4294967297", "18446744073709551616", "18446744073709551617")
 OTHERS = ("", "#", "x", "dynamic", "static", "Static", "volume", "leb", "LEB", "bytes", "damaged", "updating", "f", "fg", "FF",
     "000", "\\x41", "\\x0A", "a" * 127, "a" * 128, "\\xff" * 127, "\\xFF" * 128)
+SEQS = (0, 1, 0x12345678, 0xFFFFFFFF)
 IN_NAMES = ("\\", "\\x", "\\x4", "\\x4g", "\\X41", "\\x00", "\\x01", "\\xaF", "\\\\", "\\n", "~", "!")
 
 
@@ -44,13 +46,13 @@ def shown(rng, name):
 
 
 class Writer:
-    """Makes random volumes, and a text that describes them."""
+    """Makes random volumes, a text that describes them, and the number that is given beside it."""
 
     def __init__(self, rng):
         self.rng, maker = rng, Maker(rng)
         self.geometry, self.maker = maker.geometry, maker
         contents = {number: self.content(record) for number, record in maker.records.items()}
-        self.meant = rules.Meaning(self.geometry, maker.records, contents)
+        self.meant = rules.Meaning(self.geometry, rng.choice(SEQS), maker.records, contents)
         self.lines = self.mixed([[self.heading(number), *self.lines_of(number)] for number in contents])
 
     def content(self, record):
@@ -246,19 +248,23 @@ class Case(Runner):
         self.mutator = Mutator(rng, self.geometry)
         self.text, self.is_changed = self.mutator.mutate(self.writer.lines)
         self.path = self.put("text", self.text)
-        self.spares = rng.choice((0, 0, 0, 0, 1, 2, 3, self.geometry.pebs - 2, rng.choice((4, 2**32 - 1))))
+        self.seq = self.writer.meant.image_seq
+        self.spares = rng.choice((0, 0, 0, 1, 2, 3, 4, self.geometry.pebs - 2, far(rng, 1)))
+
+    def words(self, seq, spares):
+        """The words that compose the text with a number and spare eraseblocks."""
+        return ["compose", self.path, "--out", self.out, *given(self.rng, "--seq", seq), *given(self.rng, "--spares", spares)]
 
     def look(self):
         """Compares each answer. Gives the cause of a refusal, or 'composed'."""
-        spares = ["--spares", str(self.spares)] if self.spares or self.rng.random() < 0.5 else []
-        words = ["compose", self.path, "--out", self.out, *spares]
+        words = self.words(self.seq, self.spares)
         if len(self.text) > text_rules.most(self.geometry):
             self.expect(words, f"cannot read {self.path}\n", 1)
             return "too long"
         try:
-            described = Described(self.geometry, self.text)
+            described = Described(self.geometry, self.text, self.seq)
             self.look_made(described)
-            image = described.image(self.spares)
+            image = rules.composed(described, self.spares)
         except Refused as refused:
             if not self.is_changed and str(refused) not in ("M5 NoSpace", "C1 TooMany"):
                 raise Failure(f"a right text is refused: {refused}") from None
@@ -280,23 +286,32 @@ class Case(Runner):
         path = self.put("composed", image)
         self.expect(["list", path], "".join(rules.list_lines(described)), 0)
         self.look_read(path, described, self.rng.choice((*described.records, 127)))
-        self.expect(["same", path, self.put("normal", described.image(0))], "same\n", 0)
+        self.expect(["same", path, self.put("normal", rules.composed(described, 0))], "same\n", 0)
+        self.look_number(path)
         self.look_other(described, path)
+
+    def look_number(self, path):
+        """Composes the text with another number, and compares with that."""
+        seq = self.rng.choice((*(seq for seq in SEQS if seq != self.seq), self.seq ^ 1 << self.rng.randrange(32)))
+        image = rules.composed(Described(self.geometry, self.text, seq), 0)
+        self.expect(self.words(seq, 0), f"blocks {len(image) // self.geometry.peb}\n", 0, image)
+        self.expect(["same", path, self.put("other", image)], "different\n", 1)
 
     def look_other(self, described, path):
         """Compares with what another text of the same lines describes, where that is composed."""
         try:
-            other = Described(self.geometry, self.mutator.mutate(self.writer.lines)[0])
+            other = Described(self.geometry, self.mutator.mutate(self.writer.lines)[0], self.seq)
         except Refused:
             return
         is_same = other.meaning() == described.meaning()
-        self.expect(["same", path, self.put("other", other.image(0))], "same\n" if is_same else "different\n", 0 if is_same else 1)
+        image = rules.composed(other, 0)
+        self.expect(["same", path, self.put("other", image)], "same\n" if is_same else "different\n", 0 if is_same else 1)
 
 
 def main():
     words = options(__doc__, 500)
     tool = built(words.tool)
-    answers, failed = run_cases(words, lambda rng, folder: Case(rng, tool, folder).look())
+    answers, failed = run_cases(words, {"": (lambda rng, folder: Case(rng, tool, folder).look(), words.count)})
     for cause, count in sorted(collections.Counter(re.sub(r"=\d+", "", answer) for answer in answers).items()):
         print(f"{count:>6} {cause}")
     finish(len(answers), failed)

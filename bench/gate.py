@@ -1,0 +1,106 @@
+#!/usr/bin/env python3
+"""Measures the gate: runs it, and tells what it took of the processor, crate by crate.
+
+usage: gate.py [COMMAND ..]
+
+COMMAND is `.ci/run` where it is left out. While it runs, the processes below it are looked at each second, so what a process
+took is known but for its last second. It prints minutes of the processor: of each crate what its own proof took, its proof with
+tests, and its must-fail edits; what everything took, as the system counts it; and how many times that is what the proof of
+ubi_media took. The gate's budget is 60 times; with more the exit status is 1, as where COMMAND ends with another than 0.
+
+What `rt ci` passed before is kept on the machine and isn't done again: a ratio holds only where the gate proved everything anew,
+on a machine that did nothing else.
+"""
+import os
+import re
+import resource
+import subprocess
+import sys
+import time
+
+ROOT = os.path.dirname(os.path.dirname(os.path.abspath(__file__)))
+TICKS = os.sysconf("SC_CLK_TCK")
+KINDS = ("proof", "tests", "edits")
+MOST = 60
+
+
+def read(*path):
+    """What a file of a process says; nothing where the process is gone."""
+    try:
+        with open(os.path.join("/proc", *path), "rb") as file:
+            return file.read()
+    except OSError:
+        return b""
+
+
+def place(pid):
+    """The folder that a process runs in."""
+    try:
+        return os.readlink(f"/proc/{pid}/cwd")
+    except OSError:
+        return ""
+
+
+def work_of(pid):
+    """The crate that a process checks, and what of it; None where it does something else."""
+    words = read(pid, "cmdline").decode(errors="replace").split("\0")
+    if "--crate-name" not in words[:-1]:
+        return None
+    crate = words[words.index("--crate-name") + 1]
+    if "rt-edit" in place(pid):
+        return crate, "edits"
+    return crate, "tests" if "--test" in words else "proof"
+
+
+def look(seen, top):
+    """Notes what each process below TOP has taken so far. A process keeps the work that it was seen at first."""
+    parents, used = {}, {}
+    for pid in filter(str.isdigit, os.listdir("/proc")):
+        fields = read(pid, "stat").rpartition(b") ")[2].split()
+        if len(fields) > 20:
+            parents[pid] = fields[1].decode()
+            used[pid, fields[19]] = (int(fields[11]) + int(fields[12])) / TICKS
+    for (pid, start), seconds in used.items():
+        up = pid
+        while up in parents and up != top:
+            up = parents[up]
+        if up == top:
+            work = seen.get((pid, start), (None,))[0] or work_of(pid)
+            seen[pid, start] = (work, seconds)
+
+
+def measure(words):
+    """Runs a command. Gives its status and what each work below it took, in seconds of the processor."""
+    seen = {}
+    child = subprocess.Popen(words, cwd=ROOT, stdin=subprocess.DEVNULL)
+    while child.poll() is None:
+        look(seen, str(child.pid))
+        time.sleep(1)
+    took = {}
+    for work, seconds in seen.values():
+        took[work] = took.get(work, 0) + seconds
+    return child.returncode, took
+
+
+def crates():
+    """The crates of the repository, lowest first."""
+    with open(os.path.join(ROOT, "crates.txt"), encoding="utf-8") as file:
+        return re.findall(r"^(\w+):", file.read(), re.M)
+
+
+def main():
+    began = time.monotonic()
+    status, took = measure(sys.argv[1:] or [os.path.join(ROOT, ".ci", "run")])
+    usage = resource.getrusage(resource.RUSAGE_CHILDREN)
+    whole = (usage.ru_utime + usage.ru_stime) / 60
+    print(f"{'minutes of the processor':<26}" + "".join(f"{kind:>8}" for kind in KINDS))
+    for crate in crates():
+        print(f"{crate:<26}" + "".join(f"{took.get((crate, kind), 0) / 60:>8.1f}" for kind in KINDS))
+    first = took.get(("ubi_media", "proof"), 0) / 60
+    ratio = whole / first if first else float("inf")
+    print(f"{whole:.0f} in all, in {(time.monotonic() - began) / 60:.0f} minutes; {ratio:.0f} times the proof of ubi_media")
+    sys.exit(1 if status or ratio > MOST else 0)
+
+
+if __name__ == "__main__":
+    main()
