@@ -306,12 +306,16 @@ fn makes_a_blank_eraseblock_ready(rt: HostRuntime) -> Result<(), Fail> {
 fn named_once(
     alloc: Global,
     geometry: &Geometry,
-    carrier: usize,
+    carrier: u16,
     last: &[u8; 64],
 ) -> Result<Vec<u8>, AllocError> {
     let mut image = unnamed_root(alloc, geometry)?;
     put_bytes(&mut image, last, &[0xFF; 64], &[])?;
-    overwrite(image.as_mut_slice(), carrier * 512, &ec_of(geometry, 8));
+    overwrite(
+        image.as_mut_slice(),
+        usize::from(carrier) * 512,
+        &ec_of(geometry, 8),
+    );
     Ok(image)
 }
 
