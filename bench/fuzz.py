@@ -27,7 +27,7 @@ import sys
 import tempfile
 
 import rules
-from rules import LAYOUT, TOP_COUNTER, Geometry, Image, Record, Refused, Vid
+from rules import LAYOUT, TOP_COUNTER, TOP_SQNUM, Geometry, Image, Record, Refused, Vid
 
 ROOT = os.path.dirname(os.path.dirname(os.path.abspath(__file__)))
 LAUNCHER = os.path.join(ROOT, "ubi_tool")
@@ -117,13 +117,14 @@ class Maker:
         return Record(rng.randrange(1, 5), alignment, rng.choice((1, 1, 2)), int(rng.random() < 0.1), self.name(slot), rng.choice((0, 1, 2, 0xFF)))
 
     def ec(self):
-        return rules.put_ec(self.geometry, self.rng.choice((0, 5, self.rng.randrange(1000), TOP_COUNTER)))
+        return rules.put_ec(self.geometry, self.rng.choice((0, 5, self.rng.randrange(1000), TOP_COUNTER - 1, TOP_COUNTER)))
 
     def block(self, vid, data):
         return rules.put_block(self.geometry, self.ec(), rules.put_vid(vid), data)
 
     def sqnum(self):
-        return self.rng.choice((next(self.sqnums), next(self.sqnums) + 2**40))
+        """A sequence number: now and then one of the greatest that there are."""
+        return self.rng.choice((next(self.sqnums), next(self.sqnums) + 2**40) * 20 + (TOP_SQNUM - self.rng.randrange(3),))
 
     def tables(self):
         text = rules.put_table(self.geometry, self.records)

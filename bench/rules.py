@@ -462,12 +462,13 @@ def composed(meaning, spares):
     return normal + spares * put_block(geometry, put_ec(geometry, image_seq=meaning.image_seq))
 
 
-# The plan of a change: which eraseblocks may be taken, and its steps. A step is ('erase', p) or ('program', p, page, bytes).
+# The plan of a change. A step is ('erase', p) or ('program', p, page, bytes).
 
 
-def stays(image, p, ec):
-    """Whether an eraseblock with such an erase-counter header is never erased."""
-    return (ec is not None and ec.counter == TOP_COUNTER) or image.found.carriers == [p]
+def stays(image, p, front):
+    """Whether an eraseblock with these bytes 0 to 63 can't count another erase, or is the sole carrier."""
+    state, ec = read_ec(image.geometry, front)
+    return (state == "valid" and ec.counter == TOP_COUNTER) or image.found.carriers == [p]
 
 
 def is_clean(image, p):
@@ -476,130 +477,123 @@ def is_clean(image, p):
 
 def takeable(image):
     """The eraseblocks that may be taken, in the order in which they are."""
-    unread = ("free", "blank", "stale", "orphan", "dropped", "garbage")
-    may = [p for p, state in enumerate(image.states) if state in unread and not stays(image, p, image.found.ecs[p][1])]
-    return sorted(may, key=lambda p: not is_clean(image, p))
+    states = ("free", "blank", "stale", "orphan", "dropped", "garbage")
+    places = [p for p, block in enumerate(image.found.blocks) if image.states[p] in states and not stays(image, p, block[:64])]
+    return sorted(places, key=lambda p: (not is_clean(image, p), p))
 
 
-def do(geometry, now, step):
-    """Does a step to the bytes of an image. A program sets no bit."""
-    _, p, *program = step
-    page, data = program or (0, b"\xFF" * geometry.peb)
-    at = p * geometry.peb + page * geometry.page
-    old, new = (int.from_bytes(part, "big") for part in (now[at : at + len(data)], data))
-    assert not program or old & new == new, f"{step[:3]} sets a bit"
-    now[at : at + len(data)] = data
+def weak_pages(geometry, new):
+    """The least number of pages below theirs that, with 0xFF behind them, differ from the new bytes and have their check; or None."""
+    for n in range(len(new) // geometry.page):
+        front = new[: n * geometry.page].ljust(len(new), b"\xFF")
+        if front != new and check(front) == check(new):
+            return n
+    return None
 
 
-def after(geometry, image, steps):
-    """The image after some steps."""
-    now = bytearray(image)
-    for step in steps:
-        do(geometry, now, step)
-    return bytes(now)
+def change_refusal(image, number, lnum, new):
+    """The first cause for which no change is planned, or None."""
+    if number not in image.records:
+        return "K2 NoVolume"
+    geometry, record = image.geometry, image.records[number]
+    weak = weak_pages(geometry, new)
+    needed = 1 if (number, lnum) in image.winners else 2
+    causes = (
+        ("K3 StaticVolume", record.kind == 2),
+        ("K4 Updating", record.marker),
+        ("K5 OutOfRange", lnum >= record.reserved),
+        ("K6 BadLength", not new or len(new) % geometry.page or len(new) > record.usable(geometry)),
+        (f"K7 WeakCheck pages={weak}", weak is not None),
+        ("K8 Exhausted", image.top_sqnum + needed > TOP_SQNUM),
+        ("K9 NoFree", len(takeable(image)) < needed),
+    )
+    return next((cause for cause, is_so in causes if is_so), None)
 
 
 class Plan:
-    """The steps of a change of a LEB, and beside them what the eraseblocks hold by then."""
+    """The steps of a change that isn't refused, and the bytes of the image as they stand by then."""
 
     def __init__(self, image, number, lnum, new):
-        self.image, self.geometry = image, image.geometry
-        self.now, self.steps = bytearray(b"".join(image.found.blocks)), []
+        self.image, self.geometry, self.steps = image, image.geometry, []
+        self.now = bytearray(b"".join(image.found.blocks))
         pad = image.records[number].pad(self.geometry)
-        header = Vid(1, 1, 0, number, lnum, len(new), 0, pad, check(new), image.top_sqnum + 1)
-        taken, old = takeable(image), image.winners.get((number, lnum))
-        if old is None:
-            old = taken.pop(0)
+        copy = Vid(1, 1, 0, number, lnum, len(new), 0, pad, check(new), image.top_sqnum + 1)
+        if (number, lnum) in image.winners:
+            old, place = image.winners[(number, lnum)], takeable(image)[0]
+        else:
+            old, place = takeable(image)[:2]
             self.prepare(old)
-            self.put_header(old, dataclasses.replace(header, copy=0, size=0, data_check=0))
-            header = dataclasses.replace(header, sqnum=header.sqnum + 1)
-        self.prepare(taken[0])
-        self.copy(taken[0], header, new)
+            self.head(old, dataclasses.replace(copy, copy=0, size=0, data_check=0))
+            copy = dataclasses.replace(copy, sqnum=image.top_sqnum + 2)
+        self.prepare(place)
+        self.head(place, copy)
+        self.write(place, new)
         self.give_up(old)
 
-    def step(self, *step):
-        self.steps.append(step)
-        do(self.geometry, self.now, step)
-
-    def program(self, p, page, data):
-        self.step("program", p, page, data.ljust(self.geometry.page, b"\xFF"))
-
-    def ec_bytes(self, p):
-        """Bytes 0 to 63 of an eraseblock by then."""
+    def front(self, p):
+        """Bytes 0 to 63 of an eraseblock as they stand by then."""
         at = p * self.geometry.peb
         return bytes(self.now[at : at + 64])
 
-    def erase(self, p):
-        """Erases an eraseblock, and programs its erase-counter header."""
-        ec = read_ec(self.geometry, self.ec_bytes(p))[1]
+    def step(self, *step):
+        do(self.geometry, self.now, step)
+        self.steps.append(step)
+
+    def program(self, p, page, data):
+        """Gives a page all of its bytes: these, and 0xFF behind them."""
+        self.step("program", p, page, data.ljust(self.geometry.page, b"\xFF"))
+
+    def renew(self, p):
+        state, ec = read_ec(self.geometry, self.front(p))
+        counter = ec.counter + 1 if state == "valid" else self.image.mean_counter
         self.step("erase", p)
-        counter = self.image.mean_counter if ec is None else ec.counter + 1
         self.program(p, 0, put_ec(self.geometry, counter, self.image.image_seq))
 
     def prepare(self, p):
         if not is_clean(self.image, p):
-            self.erase(p)
+            self.renew(p)
 
-    def put_header(self, p, header):
-        """Programs the page of the VID offset. Where that is page 0, it keeps the erase-counter header."""
+    def head(self, p, header):
         page, at = divmod(self.geometry.vid, self.geometry.page)
-        front = self.ec_bytes(p) if page == 0 else b""
+        front = b"" if page else self.front(p)
         self.program(p, page, front.ljust(at, b"\xFF") + put_vid(header))
 
-    def copy(self, p, header, new):
-        self.put_header(p, header)
-        for at in range(0, len(new), self.geometry.page):
-            self.program(p, (self.geometry.data + at) // self.geometry.page, new[at : at + self.geometry.page])
+    def write(self, p, new):
+        size, first = self.geometry.page, self.geometry.data // self.geometry.page
+        for k in range(len(new) // size):
+            self.program(p, first + k, new[size * k : size * (k + 1)])
 
     def give_up(self, p):
-        if not stays(self.image, p, read_ec(self.geometry, self.ec_bytes(p))[1]):
-            self.erase(p)
+        if not stays(self.image, p, self.front(p)):
+            self.renew(p)
+
+
+def do(geometry, image, step):
+    """Does a step to the bytes of an image. A program must set no bit."""
+    word, p, *program = step
+    page, data = program if word == "program" else (0, b"\xFF" * geometry.peb)
+    at = p * geometry.peb + page * geometry.page
+    old, new = (int.from_bytes(part, "big") for part in (image[at : at + len(data)], data))
+    assert word == "erase" or new & ~old == 0, f"{step[:3]} sets a bit"
+    image[at : at + len(data)] = data
+
+
+def after(geometry, image, steps):
+    """The bytes of an image behind some steps."""
+    image = bytearray(image)
+    for step in steps:
+        do(geometry, image, step)
+    return bytes(image)
 
 
 def change_lines(steps):
     yield f"steps {len(steps)}\n"
     for word, p, *program in steps:
-        yield f"{word} block={p}" + (f" page={program[0]}" if program else "") + "\n"
+        yield f"program block={p} page={program[0]}\n" if word == "program" else f"erase block={p}\n"
 
 
 def changed(image, number, lnum, new):
-    """What the image means once a LEB has new bytes."""
-    text = new.ljust(image.records[number].usable(image.geometry), b"\xFF")
-    lebs = {at: old for at, old in image.contents[number].items() if at != lnum}
-    if not is_blank(text):
-        lebs[lnum] = text
+    """What an image means once a LEB has new bytes."""
+    lebs = image.contents[number] | {lnum: new.ljust(image.records[number].usable(image.geometry), b"\xFF")}
+    lebs = {lnum: text for lnum, text in lebs.items() if not is_blank(text)}
     return image.image_seq, image.records, image.contents | {number: lebs}
-
-
-# What README says of changes: why one isn't planned.
-
-
-def weak_pages(geometry, new):
-    """The least number of first pages of the new bytes that have, with 0xFF behind them, the check of all; or None."""
-    for pages in range(len(new) // geometry.page):
-        torn = new[: pages * geometry.page].ljust(len(new), b"\xFF")
-        if torn != new and check(torn) == check(new):
-            return pages
-    return None
-
-
-def change_refusal(image, number, lnum, new):
-    """The first cause for which a change of a LEB isn't planned, or None."""
-    geometry, record = image.geometry, image.records.get(number)
-    if record is None:
-        return "K2 NoVolume"
-    if record.kind == 2:
-        return "K3 StaticVolume"
-    if record.marker:
-        return "K4 Updating"
-    if lnum >= record.reserved:
-        return "K5 OutOfRange"
-    if not new or len(new) % geometry.page or len(new) > record.usable(geometry):
-        return "K6 BadLength"
-    weak = weak_pages(geometry, new)
-    if weak is not None:
-        return f"K7 WeakCheck pages={weak}"
-    needed = 1 if (number, lnum) in image.winners else 2
-    if image.top_sqnum + needed > TOP_SQNUM:
-        return "K8 Exhausted"
-    return "K9 NoFree" if len(takeable(image)) < needed else None
