@@ -1,11 +1,9 @@
 -- The volumes of an image whose places are known.
-use Rattle.std.proofs.Common.{◌≡◌, ℕ, ◌+◌, ◌*◌, ◌<◌, ◌≤◌, ◌^◌, T, List, ◌++◌, length, map, take, drop, get_or, refl, ap, sym, ◌∙◌, subst, arith}
+use Rattle.std.proofs.Common.{◌≡◌, ℕ, ◌+◌, ◌*◌, ◌<◌, ◌≤◌, ◌^◌, List, ◌++◌, length, map, take, drop, get_or, refl, ap, sym, ◌∙◌, subst, arith}
 use Rattle.std.specs.Prelude.{Option, Some, flat_map}
 use Rattle.std.specs.Cmp.{nat_cmp_total}
 use Rattle.std.specs.FinMap as finite
-use Rattle.std.specs.FinMap.{is_sorted}
 use Rattle.std.specs.List.{AllByRecursion}
-use Rattle.std.specs.Ordering.{nat_cmp}
 use Rattle.std.proofs.lemmas.Grind.{flat_map-append}
 use Rattle.std.proofs.lemmas.List.{get_or-map, length-map, take-append-drop, take_all}
 use Rattle.std.proofs.lemmas.Nat.{mul-le}
@@ -14,15 +12,14 @@ use Rattle.ubi_media.specs.declared.record.VolumeRecord.{VolumeRecord}
 use Rattle.ubi_scan.specs.Image.{image_of}
 use Rattle.ubi_scan.specs.Source.{Source}
 use Rattle.ubi_scan.specs.declared.errors.StreamError.{StreamError}
-use Rattle.ubi_scan.proofs.Entries.{sorted_entries}
+use Rattle.ubi_scan.proofs.Revalued.{entries_revalued}
 use Rattle.ubi_scan.proofs.Finite.{find_at}
-use Rattle.ubi_scan.proofs.Truths.{true_is}
 use Rattle.ubi_table.specs.Records.{AreRecords, Records}
 use Rattle.ubi_volume.specs.Meant.{Meant, records_of}
 use Rattle.ubi_volume.specs.Places.{ArePlaces, Placed}
 use Rattle.ubi_volume.specs.declared.content.Content.TheVariants as content
 use Rattle.ubi_volume.specs.declared.content.Volume.{Volume}
-use Rattle.ubi_volume.proofs.Gathered.{same_order}
+use Rattle.ubi_volume.proofs.Gathered.{record_at}
 use Rattle.ubi_compose.specs.inner.Streaming.{volume_text, volumes_text}
 use Rattle.ubi_compose.specs.Normal as normal
 use Rattle.ubi_compose.specs.Normal.{Laid, laid_bytes, new_ec, volume_blocks}
@@ -61,11 +58,7 @@ abbrev entry_in : ℕ × Volume → ℕ × VolumeRecord
 entry_in e = (e.0, e.1.entry)
 
 records_listed : (m : Meant) → finite.entries (records_of m).of ≡ map entry_in (finite.entries m.volumes)
-records_listed m =
-    let es = finite.entries m.volumes in
-    sorted_entries (map entry_in es)
-    (true_is (is_sorted nat_cmp (map entry_in es))
-    (subst T (sym (same_order es)) (finite.entries_sorted m.volumes)))
+records_listed m = entries_revalued record_at m.volumes
 
 module _ (s : Sizes) (p : Placed) where
   listed : (image : List ℕ) (h : ArePlaces (image_of s image) p)

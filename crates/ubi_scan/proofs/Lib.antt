@@ -20,6 +20,7 @@ pub mod OneFault
 pub mod Parts
 pub mod Places
 pub mod ReadParts
+pub mod Revalued
 pub mod Seen
 pub mod Seq
 pub mod Shown

@@ -1,12 +1,11 @@
 -- The volumes that were gathered, as the meaning of eraseblocks with their table.
-use Rattle.std.proofs.Common.{◌≡◌, ℕ, zero, suc, ◌+◌, ◌^◌, ◌<◌, inl, inr, Bool, true, false, cond, ◌&&◌, T, List, [], ◌∷◌, ◌++◌, length, map, get_or, refl, ap, sym, ◌∙◌, subst, arith}
-use Rattle.std.specs.Prelude.{All, IfSome, IsTrue, Option, Some, None, fold}
+use Rattle.std.proofs.Common.{◌≡◌, ℕ, zero, suc, ◌^◌, ◌<◌, inl, inr, Bool, true, false, cond, T, List, [], ◌∷◌, ◌++◌, length, map, get_or, refl, ap, sym, ◌∙◌, subst, arith}
+use Rattle.std.specs.Prelude.{All, IfSome, IsTrue, Option, Some, None, option_map}
 use Rattle.std.specs.Cmp.{nat_cmp_total}
 use Rattle.std.specs.FinMap as finite
 use Rattle.std.specs.FinMap.{find, from_entries, is_sorted}
-use Rattle.std.specs.FinMap.Entries.{below_all}
 use Rattle.std.specs.List.{sum_by}
-use Rattle.std.specs.Ordering.{is_lt, nat_cmp}
+use Rattle.std.specs.Ordering.{nat_cmp}
 use Rattle.std.proofs.lemmas.List.{map-append}
 use Rattle.std.proofs.lemmas.List.Elements.{All-append, All-head, All-tail}
 use Rattle.std.proofs.lemmas.Map.Lookups.{exact_unsigned}
@@ -17,6 +16,7 @@ use Rattle.ubi_media.specs.declared.record.VolumeRecord.{VolumeRecord}
 use Rattle.ubi_scan.proofs.Entries.{sorted_entries}
 use Rattle.ubi_scan.proofs.Finite.{find_at}
 use Rattle.ubi_scan.proofs.Keys.{told}
+use Rattle.ubi_scan.proofs.Revalued.{find_revalued, order_same, sums_same}
 use Rattle.ubi_scan.specs.Numbers.{image_seq}
 use Rattle.ubi_table.specs.Records.{AreRecords, HasSpace, Records}
 use Rattle.ubi_table.specs.Table.{IsTable}
@@ -36,24 +36,9 @@ true_of : (b : Bool) → T b → b ≡ true
 true_of true h = refl
 true_of false h = absurd h
 
--- volumes stand in the order of their entries
-same_below : (n : ℕ) (vs : List Item) → below_all nat_cmp n (map (λ (v : Item). (v.0, v.1.entry)) vs)
-    ≡ below_all nat_cmp n vs
-same_below n [] = refl
-same_below n (v ∷ vs) = ap (λ b. is_lt (nat_cmp n v.0) && b) (same_below n vs)
-
-pub same_order : (vs : List Item) → is_sorted nat_cmp (map (λ (v : Item). (v.0, v.1.entry)) vs) ≡ is_sorted nat_cmp vs
-same_order [] = refl
-same_order (v ∷ vs) = ap (λ b. b && is_sorted nat_cmp (map (λ (v : Item). (v.0, v.1.entry)) vs)) (same_below v.0 vs)
-    ∙ ap (λ b. below_all nat_cmp v.0 vs && b) (same_order vs)
-
--- how many eraseblocks they reserve
-pub same_sum : (vs : List Item) (n : ℕ)
-    → fold (λ k (r : VolumeRecord). k + r.reserved) n
-    (map (λ (e : ℕ × VolumeRecord). e.1) (map (λ (v : Item). (v.0, v.1.entry)) vs))
-    ≡ fold (λ k (v : Volume). k + v.entry.reserved) n (map (λ (v : Item). v.1) vs)
-same_sum [] n = refl
-same_sum (v ∷ vs) n = same_sum vs (n + v.1.entry.reserved)
+-- the record of a volume, whatever its number
+abbrev pub record_at : ℕ → Volume → VolumeRecord
+record_at id v = v.entry
 
 module _ (s : Sizes) (bs : List (List ℕ)) where
   -- a volume that is found has its record and its content
@@ -82,12 +67,7 @@ module _ (s : Sizes) (bs : List (List ℕ)) where
 
   no_volume : (vs : List Item) (id : ℕ) → find nat_cmp id vs ≡ None
       → find nat_cmp id (map (λ (v : Item). (v.0, v.1.entry)) vs) ≡ None
-  no_volume [] id e = refl
-  no_volume (w ∷ vs) id e = elim (told nat_cmp nat_cmp_total exact_unsigned id w.0) [
-    | inl t ↦ absurd (no_some w.1 (sym e ∙ ap (λ b. cond b (Some w.1) (find nat_cmp id vs)) t.0))
-    | inr t ↦ ap (λ b. cond b (Some w.1.entry) (find nat_cmp id (map (λ (v : Item). (v.0, v.1.entry)) vs))) t.0
-        ∙ no_volume vs id (sym (ap (λ b. cond b (Some w.1) (find nat_cmp id vs)) t.0) ∙ e)
-  ]
+  no_volume vs id e = find_revalued record_at id vs ∙ ap (option_map (record_at id)) e
 
   pub contents_none : AreContents s bs [] []
   contents_none = record { alike = refl; contents = λ k d h. absurd (omega arith) }
@@ -113,7 +93,8 @@ module _ (s : Sizes) (bs : List (List ℕ)) where
     records = (table_records s bs t is).1
 
     sorted : IsTrue (is_sorted nat_cmp vs)
-    sorted = true_of _ (subst T (ap (is_sorted nat_cmp) (sym h.alike) ∙ same_order vs) (finite.entries_sorted t.of))
+    sorted = true_of _ (subst T (ap (is_sorted nat_cmp) (sym h.alike) ∙ order_same record_at vs)
+        (finite.entries_sorted t.of))
 
     listed : (id : ℕ) → finite.get (from_entries {R = nat_cmp} vs) id ≡ find nat_cmp id vs
     listed id = finite.get-from_entries nat_cmp_total vs id
@@ -162,7 +143,8 @@ module _ (s : Sizes) (bs : List (List ℕ)) where
     reserved =
         ap (λ (es : List Item). sum_by (λ (v : Volume). v.entry.reserved) (map (λ (v : Item). v.1) es))
         (sorted_entries vs sorted)
-        ∙ sym (same_sum vs 0)
+        ∙ sym (sums_same record_at (λ (v : Volume). v.entry.reserved) (λ (r : VolumeRecord). r.reserved) (λ k v. refl) vs
+        0)
         ∙ ap (λ es. sum_by (λ (r : VolumeRecord). r.reserved) (map (λ (e : ℕ × VolumeRecord). e.1) es)) h.alike
 
     has_space : HasSpace s t
