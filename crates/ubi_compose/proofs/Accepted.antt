@@ -29,7 +29,7 @@ use Rattle.ubi_compose.proofs.Contents.{AreOwn, damaged_reads, dynamic_reads, he
 use Rattle.ubi_compose.proofs.Image.{blocks_again, concat-image_blocks, image_blocks, image_clean, image_named, image_whole, laid_wins, length-bytes, length-image_blocks, member_laid}
 use Rattle.ubi_compose.proofs.Lists.{Holds, all_at, entry_held, flat_map_holds, held_entry, holds_flat_map}
 use Rattle.ubi_compose.proofs.Normal.{apart_normal, fine_normal}
-use Rattle.ubi_compose.proofs.Table.{recorded, records_are, records_fit, volume_is}
+use Rattle.ubi_volume.proofs.MeantRecords.{meant_by, records_are, records_fit, volume_is}
 use Rattle.ubi_compose.proofs.Volumes.{IsLike, like_blocks, own_blocks}
 
 module _ (m : Meant) (g : IsGeometry m.sizes) (is : IsMeaning m) (spares : ℕ) where
@@ -112,7 +112,7 @@ module _ (m : Meant) (g : IsGeometry m.sizes) (is : IsMeaning m) (spares : ℕ) 
       let counted = k.2 in
       let at = member_laid m.sizes g m.image_seq is.image_seq ls spares fine (counted.vol, counted.lnum) p counted.wins.member in
       let l = at.0 in
-      let rec = recorded m counted.vol r counted.recorded in
+      let rec = meant_by m counted.vol r counted.recorded in
       let v = rec.0 in
       let mine = of_volume l counted.vol v rec.1 (p, at.1) (ap (λ (of : Leb). of.0) at.2) in
       let like = all_at (IsLike m.sizes counted.vol v.entry) (blocks_in (counted.vol, v)) mine.0 l

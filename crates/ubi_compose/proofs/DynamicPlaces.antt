@@ -26,6 +26,7 @@ use Rattle.ubi_volume.specs.declared.content.Content.TheVariants as content
 use Rattle.ubi_volume.specs.declared.content.Volume.{Volume}
 use Rattle.ubi_volume.specs.declared.places.PlaceContent.TheVariants as place
 use Rattle.ubi_volume.proofs.Blanks.{blank_text, other_text}
+use Rattle.ubi_volume.proofs.MeantRecords.{volume_is}
 use Rattle.ubi_compose.specs.inner.Streaming.{IsVolumeOf, dynamic_text, kept_bytes, volume_text}
 use Rattle.ubi_compose.specs.Normal.{dynamic_block, laid_bytes, new_ec, volume_blocks}
 use Rattle.ubi_volume.specs.Wrote.{All, IsWroteError, Wanted, Wrote}
@@ -34,7 +35,6 @@ use Rattle.ubi_compose.proofs.Lists.{all_from, held_entry}
 use Rattle.ubi_compose.proofs.Rising as rising
 use Rattle.ubi_volume.proofs.Extracted.{front_of}
 use Rattle.ubi_volume.proofs.VolumeAt.{case_is, found_or_none, found_wins, reads_of}
-use Rattle.ubi_compose.proofs.Table.{volume_is}
 use Rattle.ubi_volume.proofs.Received.{Splits, error_behind, error_front, wrote_more}
 
 -- the eraseblock of what is kept of a LEB

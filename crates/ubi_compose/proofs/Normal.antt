@@ -16,7 +16,8 @@ use Rattle.ubi_compose.proofs.Blocks.{IsFine}
 use Rattle.ubi_compose.proofs.Headers.{layout_fits, layout_placed, layout_sound}
 use Rattle.ubi_compose.proofs.Lists.{Holds, all_at, all_flat_map, all_from, held_entry}
 use Rattle.ubi_compose.proofs.Rising.{apart_flat_map, apart_map, entries_rise, range_rises}
-use Rattle.ubi_compose.proofs.Table.{table_fits, volume_is}
+use Rattle.ubi_compose.proofs.Table.{table_fits}
+use Rattle.ubi_volume.proofs.MeantRecords.{volume_is}
 use Rattle.ubi_compose.proofs.Volumes.{fine_volume, own_blocks}
 
 -- those of a volume are of different LEBs

@@ -20,8 +20,8 @@ use Rattle.ubi_compose.specs.Normal.{blocks_of, dynamic_block, normal_blocks, st
 use Rattle.ubi_compose.proofs.Lists.{all_from, held_entry}
 use Rattle.ubi_media.proofs.Padding.{reserved_some}
 use Rattle.ubi_volume.proofs.Pieces.{pieces_few}
+use Rattle.ubi_volume.proofs.MeantRecords.{volume_is}
 use Rattle.ubi_compose.proofs.Rising.{Rises, entries_rise}
-use Rattle.ubi_compose.proofs.Table.{volume_is}
 
 -- numbers that rise, from k on and below n, are no more than those between
 pub few_rising : {X : Type 0} (key : X → ℕ) (xs : List X) (k n : ℕ) → k ≤ n → Rises key xs

@@ -1,47 +1,11 @@
--- The table of a meaning.
-use Rattle.std.proofs.Common.{◌≡◌, ℕ, ◌+◌, ◌≤◌, List, length, map, refl, sym, ap, ◌∙◌, subst, arith}
-use Rattle.std.specs.Prelude.{IfSome, None, Option, Some, option_map}
-use Rattle.std.specs.FinMap as finite
-use Rattle.std.proofs.lemmas.Option.{same_Some}
+-- The bytes of the table of a meaning fit a LEB.
+use Rattle.std.proofs.Common.{◌+◌, ◌≤◌, length, arith}
 use Rattle.ubi_media.specs.Geometry.{IsGeometry}
-use Rattle.ubi_media.specs.Record.{rec_fault}
-use Rattle.ubi_media.specs.declared.record.VolumeRecord.{VolumeRecord}
-use Rattle.ubi_table.specs.Records.{AreRecords, HasSpace, table_bytes}
+use Rattle.ubi_table.specs.Records.{table_bytes}
 use Rattle.ubi_table.proofs.ReadBack.{length-table_bytes}
-use Rattle.ubi_volume.specs.Meant.{IsMeaning, IsVolume, Meant, records_of}
-use Rattle.ubi_volume.specs.declared.content.Volume.{Volume}
-use Rattle.ubi_volume.proofs.Recorded.{record_of, space_of}
+use Rattle.ubi_volume.specs.Meant.{IsMeaning, Meant, records_of}
+use Rattle.ubi_volume.proofs.MeantRecords.{records_are}
 
--- its records are those of its volumes
-abbrev items : Meant → List (ℕ × VolumeRecord)
-items m = map (λ (e : ℕ × Volume). (e.0, e.1.entry)) (finite.entries m.volumes)
-
-entry_some : (o : Option Volume) (r : VolumeRecord) → option_map (λ (v : Volume). v.entry) o ≡ Some r
-    → (v : Volume) × (o ≡ Some v) × (v.entry ≡ r)
-entry_some None r e = absurd (cc)
-entry_some (Some v) r e = (v, refl, same_Some v.entry r e)
-
-pub recorded : (m : Meant) (id : ℕ) (r : VolumeRecord) → finite.get (records_of m).of id ≡ Some r
-    → (v : Volume) × (finite.get m.volumes id ≡ Some v) × (v.entry ≡ r)
-recorded m id r e = entry_some (finite.get m.volumes id) r (sym (record_of m id) ∙ e)
-
-module _ (m : Meant) (is : IsMeaning m) where
-  pub volume_is : (id : ℕ) (v : Volume) → finite.get m.volumes id ≡ Some v → IsVolume m.sizes id v
-  volume_is id v e = subst (λ (o : Option Volume). IfSome o (IsVolume m.sizes id)) e (is.each id)
-
-  pub records_are : AreRecords (records_of m)
-  records_are = record {
-    slot = λ id r e. (let h = recorded m id r e in (volume_is id h.0 h.1).slot);
-    sound = λ id r e. (let h = recorded m id r e in
-        subst (λ (r : VolumeRecord). rec_fault m.sizes r ≡ None) h.2 (volume_is id h.0 h.1).sound);
-    apart = λ i j r q e f same.
-        (let a = recorded m i r e in let b = recorded m j q f in
-        is.names i j a.0 b.0 a.1 b.1 (ap (λ (r : VolumeRecord). r.name) a.2 ∙ same
-        ∙ ap (λ (r : VolumeRecord). r.name) (sym b.2)));
-  }
-
-  pub records_fit : HasSpace m.sizes (records_of m)
-  records_fit = let sum = space_of m in let room = is.space in omega arith
-
-  pub table_fits : IsGeometry m.sizes → m.sizes.data_offset + length (table_bytes (records_of m)) ≤ m.sizes.peb_size
-  table_fits g = let n = length-table_bytes (records_of m) records_are in omega (arith, g.leb)
+pub table_fits : (m : Meant) → IsMeaning m → IsGeometry m.sizes
+    → m.sizes.data_offset + length (table_bytes (records_of m)) ≤ m.sizes.peb_size
+table_fits m is g = let n = length-table_bytes (records_of m) (records_are m is) in omega (arith, g.leb)

@@ -15,6 +15,7 @@ pub mod Judged
 pub mod LebsText
 pub mod Lengths
 pub mod Listed
+pub mod MeantRecords
 pub mod MemberStates
 pub mod Mismatches
 pub mod Moved
