@@ -1,7 +1,9 @@
 //! What a copy of the volume table is.
 
-ghost use Rattle.std.specs.Prelude.{◌≡◌, IfErr, IfOk, length, option_copied};
+ghost use Rattle.std.specs.Prelude.{◌≡◌, ◌<◌, IfErr, IfOk, length, option_copied};
 ghost use Rattle.ubi_media.specs.Geometry.{leb_size};
+ghost use Rattle.ubi_scan.specs.Image.{in_image};
+ghost use Rattle.ubi_scan.specs.Scan.{IsScan};
 ghost use Rattle.ubi_scan.specs.Source.{WhereHeld, blocks_in, blocks_of};
 ghost use Rattle.ubi_scan.specs.Stream.{IsScanOf, after};
 ghost use Rattle.ubi_table.specs.inner.OneCopy.{HasSizes, IsCopyReadError};
@@ -13,7 +15,7 @@ use std::alloc::{AllocError, Global};
 use ubi_media::{
     Geometry, LAYOUT_VOLUME, RECORD_SIZE, RecFault, RecRead, VolName, VolumeRecord, read_rec,
 };
-use ubi_scan::{BlockSource, Scan, StreamError, read_leb};
+use ubi_scan::{BlockSource, Blocks, Scan, StreamError, read_leb};
 
 /// What a copy of the volume table is.
 #[derive(Drop)]
@@ -104,4 +106,25 @@ pub fn read_copy_from<S: BlockSource>(
             Ok(copy_in(alloc, geometry, buffer)?)
         }
     }
+}
+
+/// What copy 0 or copy 1 of the volume table of an image is, by the eraseblock that wins its logical eraseblock.
+///
+/// # Errors
+///
+/// Memory ran out.
+pub fn read_copy(
+    alloc: Global,
+    blocks: &Blocks<'_>,
+    scan: &Scan,
+    c: u32,
+) -> Result<CopyRead, AllocError>
+    requires copy { c < 2 }
+    requires scan { in_image IsScan blocks.now scan.now }
+    ensures { IfOk result (in_image CopyIs blocks.now c) }
+{
+    let Some(p) = scan.winner(LAYOUT_VOLUME, c) else {
+        return Ok(CopyRead::Absent);
+    };
+    copy_in(alloc, &blocks.geometry(), blocks.leb(p))
 }

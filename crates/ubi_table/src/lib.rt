@@ -1,8 +1,8 @@
 //! The volume table of an image: what each of its two copies is, which one decides, and the records of its volumes.
 //!
 //! A table is chosen from what a scan found, or refused with the first cause that stands: from an image in memory
-//! ([`choose`]), or from any source that was scanned ([`choose_from`]). What it says of volumes is asked without taking
-//! memory; its bytes read back as it.
+//! ([`choose`]), or from any source that was scanned ([`choose_from`]). What one copy is, whether or not it decides, is
+//! asked too ([`read_copy`]). What a table says of volumes is asked without taking memory; its bytes read back as it.
 #![tactic(auto)]
 
 mod choosing;
@@ -12,6 +12,7 @@ pub mod laws;
 mod table;
 
 pub use choosing::{choose, choose_from};
+pub use copy::{CopyRead, read_copy};
 pub use table::Table;
 
 #[cfg(test)]
