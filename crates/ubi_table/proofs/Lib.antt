@@ -5,6 +5,8 @@ pub mod Entries
 pub mod Held
 pub mod Kept
 pub mod Moved
+pub mod NameRules
+pub mod NamedTable
 pub mod Names
 pub mod NoRecords
 pub mod One

@@ -2,13 +2,15 @@
 //!
 //! A table is chosen from what a scan found, or refused with the first cause that stands: from an image in memory
 //! ([`choose`]), or from any source that was scanned ([`choose_from`]). What one copy is, whether or not it decides, is
-//! asked too ([`read_copy`]). What a table says of volumes is asked without taking memory; its bytes read back as it.
+//! asked too ([`read_copy`]). What a table says of volumes is asked without taking memory; its bytes read back as it, and a
+//! volume of it may get another name ([`Table::renamed`]).
 #![tactic(auto)]
 
 mod choosing;
 mod copy;
 mod encode;
 pub mod laws;
+mod naming;
 mod table;
 
 pub use choosing::{choose, choose_from};
