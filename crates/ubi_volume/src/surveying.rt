@@ -50,7 +50,7 @@ impl Surveyed {
     }
 
     /// What the scan found.
-    pub(crate) fn scan(&self) -> &Scan
+    pub fn scan(&self) -> &Scan
         ensures { result.now ≡ self.now.scan }
     {
         &self.scan
