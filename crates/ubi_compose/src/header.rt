@@ -2,29 +2,9 @@
 
 ghost use Rattle.std.specs.Prelude.{◌≡◌, ◌<◌, ◌^◌, length};
 ghost use Rattle.ubi_media.specs.Check.{check};
-ghost use Rattle.ubi_media.specs.Vid.{plain};
-ghost use Rattle.ubi_media.specs.declared.vid.VolKind.TheVariants as kind;
 ghost use Rattle.ubi_compose.specs.Normal.{damaged_block, piece_header, static_block};
 
 use ubi_media::{VidHeader, VolKind, crc};
-
-/// A header of a logical eraseblock that wasn't copied, with sequence number 0.
-pub fn plain(kind: VolKind, compat: u8, data_pad: u32, vol_id: u32, lnum: u32) -> VidHeader
-    ensures { result ≡ plain kind compat data_pad vol_id lnum }
-{
-    VidHeader {
-        kind,
-        copy_flag: false,
-        compat,
-        vol_id,
-        lnum,
-        data_size: 0,
-        used_ebs: 0,
-        data_pad,
-        data_crc: 0,
-        sqnum: 0,
-    }
-}
 
 /// The header of a logical eraseblock of a static volume of `used_ebs` of them, by the size of its data and their check.
 pub fn piece_header(
@@ -41,7 +21,7 @@ pub fn piece_header(
         data_size,
         used_ebs,
         data_crc,
-        ..plain(VolKind::Static, 0, data_pad, vol_id, lnum)
+        ..VidHeader::plain(VolKind::Static, 0, data_pad, vol_id, lnum)
     }
 }
 
@@ -61,6 +41,6 @@ pub fn damaged_header(data_pad: u32, vol_id: u32) -> VidHeader
     VidHeader {
         data_size: 1,
         used_ebs: 1,
-        ..plain(VolKind::Static, 0, data_pad, vol_id, 0)
+        ..VidHeader::plain(VolKind::Static, 0, data_pad, vol_id, 0)
     }
 }

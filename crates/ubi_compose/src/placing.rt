@@ -15,7 +15,7 @@ ghost use Rattle.ubi_compose.specs.Normal.{damaged_block, dynamic_block, laid_by
 ghost use Rattle.ubi_volume.specs.Wrote.{All, IsWroteError, NotAll, Wrote};
 
 use crate::buffer::lay;
-use crate::header::{piece_header, plain};
+use crate::header::piece_header;
 use std::io::Write;
 use ubi_media::{Geometry, VidHeader, VidRead, VolKind, is_blank, read_vid};
 use ubi_scan::{BlockSource, StreamError};
@@ -207,7 +207,7 @@ pub fn put_unless_blank<S: BlockSource, W: Write>(
     if is_blank(&buffer[data..data + size]) {
         return Ok(done);
     }
-    let header = plain(VolKind::Dynamic, 0, data_pad, id, lnum);
+    let header = VidHeader::plain(VolKind::Dynamic, 0, data_pad, id, lnum);
     match put_laid(geometry, image_seq, &header, size, buffer, writer) {
         Ok(()) => Ok(done + u64::from(geometry.peb_size())),
         Err(more) => Err(StreamError::Write(done + more as u64)),

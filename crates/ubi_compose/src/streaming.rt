@@ -15,14 +15,12 @@ ghost use Rattle.ubi_compose.specs.inner.Streaming.{laid_text, normal_text, volu
 ghost use Rattle.ubi_compose.specs.Streamed.{IsNormaliseToError, IsNormalisedTo};
 ghost use Rattle.ubi_volume.specs.Wrote.{All, IsWroteError, Wrote};
 
-use crate::composing::REJECT;
-use crate::header::plain;
 use crate::placing::put_text;
 use crate::records::records_text;
 use crate::stored::put_volume;
 use std::alloc::Global;
 use std::io::Write;
-use ubi_media::{Geometry, LAYOUT_VOLUME, VolKind};
+use ubi_media::{Geometry, LAYOUT_VOLUME, REJECT, VidHeader, VolKind};
 use ubi_scan::{BlockSource, StreamError};
 use ubi_volume::{Places, attach_places};
 
@@ -48,7 +46,7 @@ fn put_copy<W: Write>(
     ensures least { IfOk result (λ n. n ≡ done + geometry.now.peb_size) }
     ensures failed { IfErr result (λ e. (k : Source) → IsWroteError geometry.now k (W.contents writer.old) (W.contents writer.new) (laid_text geometry.now image_seq (plain kind.Dynamic 5 0 layout copy) text.now) done e) }
 {
-    let header = plain(VolKind::Dynamic, REJECT, 0, LAYOUT_VOLUME, copy);
+    let header = VidHeader::plain(VolKind::Dynamic, REJECT, 0, LAYOUT_VOLUME, copy);
     match put_text(geometry, image_seq, &header, text, buffer, writer, done) {
         Ok(total) => Ok(total),
         Err(total) => Err(StreamError::Write(total)),

@@ -7,10 +7,10 @@ ghost use Rattle.ubi_media.specs.Geometry.{leb_size};
 ghost use Rattle.ubi_volume.specs.Meant.{IsVolume, pieces, share};
 ghost use Rattle.ubi_compose.specs.Normal.{dynamic_block, laid_bytes, new_ec, static_blocks, volume_blocks};
 
-use crate::header::{damaged_header, plain, static_header};
+use crate::header::{damaged_header, static_header};
 use crate::laying::put_block;
 use std::alloc::AllocError;
-use ubi_media::{Geometry, VolKind};
+use ubi_media::{Geometry, VidHeader, VolKind};
 use ubi_volume::{Content, Lebs, Volume};
 
 /// In how many pieces of so many bytes a text lies, the last perhaps short.
@@ -69,7 +69,7 @@ fn put_dynamic(
     ensures { OnOk result (image.new.items ≡ image.old.items ++ flat_map (laid_bytes geometry.now (new_ec image_seq)) (map (dynamic_block data_pad vol_id) (finite.entries lebs.now))) }
 {
     for (lnum, text) in lebs.iter() {
-        let header = plain(VolKind::Dynamic, 0, data_pad, vol_id, *lnum);
+        let header = VidHeader::plain(VolKind::Dynamic, 0, data_pad, vol_id, *lnum);
         put_block(image, geometry, image_seq, &header, text.as_slice())?;
     }
     Ok(())

@@ -25,7 +25,7 @@ pub use name::{LONGEST_NAME, VolName};
 pub use record::{RECORD_SIZE, RecFault, RecRead, VolumeRecord, read_rec, rec_fault, write_rec};
 pub use refusal::{AttachError, Refusal};
 pub use vid::{
-    LAYOUT_VOLUME, MOST_VOLUMES, VidFault, VidHeader, VidRead, VolKind, read_vid, write_vid,
+    LAYOUT_VOLUME, MOST_VOLUMES, REJECT, VidFault, VidHeader, VidRead, VolKind, read_vid, write_vid,
 };
 
 #[cfg(test)]

@@ -3,7 +3,7 @@
 
 ghost use Rattle.std.specs.Prelude.{◌≡◌, ◌++◌, None, replicate};
 ghost use Rattle.ubi_media.specs.Geometry.{Sizes};
-ghost use Rattle.ubi_media.specs.Vid.{VidIs, breaks, fields_from, first_fault, header_of, judged, kind_number, kind_of, vid_bytes, vid_fault, vid_fields, vid_front, vid_reading};
+ghost use Rattle.ubi_media.specs.Vid.{VidIs, breaks, fields_from, first_fault, header_of, judged, kind_number, kind_of, plain, vid_bytes, vid_fault, vid_fields, vid_front, vid_reading};
 
 use crate::bytes::{put_u32, put_u64};
 use crate::check::seal;
@@ -20,6 +20,10 @@ const VERSION: u8 = 1;
 /// The number of the layout volume, which holds the volume table (`UBI_LAYOUT_VOLUME_ID`). Internal volumes have this
 /// number and those above.
 pub const LAYOUT_VOLUME: u32 = 0x7FFF_EFFF;
+
+/// What a system that doesn't know an internal volume is to do: reject the image (`UBI_COMPAT_REJECT`). The layout volume
+/// has this.
+pub const REJECT: u8 = 5;
 
 /// Users' volumes have the numbers below (`UBI_MAX_VOLUMES`).
 pub const MOST_VOLUMES: u32 = 128;
@@ -116,6 +120,26 @@ pub struct VidHeader {
     pub data_crc: u32,
     /// The number that this header was written as, counted over the whole device.
     pub sqnum: u64,
+}
+
+impl VidHeader {
+    /// The header of a logical eraseblock that wasn't copied, of no data and with sequence number 0.
+    pub fn plain(kind: VolKind, compat: u8, data_pad: u32, vol_id: u32, lnum: u32) -> VidHeader
+        ensures { result ≡ plain kind compat data_pad vol_id lnum }
+    {
+        VidHeader {
+            kind,
+            copy_flag: false,
+            compat,
+            vol_id,
+            lnum,
+            data_size: 0,
+            used_ebs: 0,
+            data_pad,
+            data_crc: 0,
+            sqnum: 0,
+        }
+    }
 }
 
 /// What 64 bytes are as a volume-identifier header.
