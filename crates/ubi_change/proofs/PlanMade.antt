@@ -18,7 +18,7 @@ use Rattle.ubi_change.specs.Planned.{IsChangeRefusal}
 use Rattle.ubi_change.specs.Refused.{causes, first_cause, first_of}
 use Rattle.ubi_change.specs.declared.places.Places.{Places}
 use Rattle.ubi_change.specs.declared.places.Places.TheVariants as places
-use Rattle.ubi_change.specs.declared.planning.Target.{Target}
+use Rattle.ubi_change.specs.declared.target.Target.{Target}
 use Rattle.ubi_change.specs.declared.refusal.ChangeRefusal.{ChangeRefusal}
 use Rattle.ubi_change.specs.declared.refusal.ChangeRefusal.TheVariants as refusal
 use Rattle.ubi_change.proofs.Attached.{IsAllowed, is_allowed}
@@ -136,7 +136,7 @@ module _ (image : Image) (a : Whole) (att : IsAttached image a) (id lnum : ℕ) 
 
       -- the steps are those of the plan
       pub steps_are : (on : Places) → ArePlaces s bs a id lnum on → (t : Target)
-          → t ≡ record { id = id; lnum = lnum; data_pad = data_pad s v.entry }
+          → t ≡ record { id = id; lnum = lnum; compat = 0; data_pad = data_pad s v.entry }
           → steps_on s bs a t new on ≡ plan_of s bs a v.entry id lnum new
       steps_are (places.Mapped copy old) are t e =
           ap (λ (t : Target). steps_on s bs a t new (places.Mapped copy old)) e

@@ -14,6 +14,7 @@ mod refusal;
 mod step;
 mod stepping;
 mod taking;
+mod target;
 mod weakness;
 
 pub use planning::plan_change;

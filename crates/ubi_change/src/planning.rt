@@ -4,7 +4,6 @@ ghost use Rattle.std.specs.Prelude.{◌≡◌, ◌%◌, ◌^◌, ◌<◌, IfErr,
 ghost use Rattle.ubi_change.specs.Fitting.{AllFit};
 ghost use Rattle.ubi_change.specs.inner.Making.{AreWithin, mapped_steps, shown, steps_on, unmapped_steps};
 ghost use Rattle.ubi_change.specs.Order.{RisesBetweenErases};
-ghost use Rattle.ubi_change.specs.Plan.{blank_header, copy_header};
 ghost use Rattle.ubi_change.specs.Planned.{IsFrugalOf, IsPlan, SurvivesCutsOf, IsChangeRefusal};
 ghost use Rattle.ubi_scan.specs.Image.{eraseblocks, image_of, in_image};
 ghost use Rattle.ubi_scan.specs.Numbers.{carriers};
@@ -15,54 +14,11 @@ use crate::pushing::{Replacement, push_copy, push_mount, ready_ec};
 use crate::refusal::ChangeRefusal;
 use crate::step::Step;
 use crate::taking::ec_at;
+use crate::target::Target;
 use std::alloc::{AllocError, Global};
-use ubi_media::{Geometry, VidHeader, VolKind, VolumeRecord, crc};
+use ubi_media::Geometry;
 use ubi_scan::Blocks;
 use ubi_volume::{Surveyed, survey};
-
-/// A logical eraseblock of a dynamic volume.
-#[derive(Clone, Copy)]
-pub struct Target {
-    /// The number of the volume.
-    pub id: u32,
-    /// The number of the logical eraseblock.
-    pub lnum: u32,
-    /// The bytes that the volume leaves free at the end of each logical eraseblock.
-    pub data_pad: u32,
-}
-
-impl Target {
-    /// The header under which the logical eraseblock reads 0xFF.
-    fn blank_header(&self, sqnum: u64) -> VidHeader
-        ensures { result ≡ blank_header self.now.data_pad self.now.id self.now.lnum sqnum }
-    {
-        VidHeader {
-            kind: VolKind::Dynamic,
-            copy_flag: false,
-            compat: 0,
-            vol_id: self.id,
-            lnum: self.lnum,
-            data_size: 0,
-            used_ebs: 0,
-            data_pad: self.data_pad,
-            data_crc: 0,
-            sqnum,
-        }
-    }
-
-    /// The header of a copy of a text.
-    fn copy_header(&self, sqnum: u64, new: &[u8]) -> VidHeader
-        requires { length new.now < 2 ^ 31 }
-        ensures { result ≡ copy_header 0 self.now.data_pad self.now.id self.now.lnum sqnum new.now }
-    {
-        VidHeader {
-            copy_flag: true,
-            data_size: new.len() as u32,
-            data_crc: crc(new),
-            ..self.blank_header(sqnum)
-        }
-    }
-}
 
 /// The steps for a logical eraseblock with a winner: a copy, and then the winner is erased.
 fn mapped_steps(
@@ -196,6 +152,7 @@ pub fn plan_change(
     let target = Target {
         id,
         lnum,
+        compat: 0,
         data_pad: entry.data_pad(geometry),
     };
     Ok(steps_on(alloc, &blocks, &surveyed, &target, new, places)?)

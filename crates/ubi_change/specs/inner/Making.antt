@@ -14,7 +14,7 @@ use Rattle.ubi_change.specs.Takeable.{ec_at, is_clean, takeable}
 use Rattle.ubi_change.specs.Weak.{weak_place}
 use Rattle.ubi_change.specs.declared.places.Places.{Places}
 use Rattle.ubi_change.specs.declared.places.Places.TheVariants as places
-use Rattle.ubi_change.specs.declared.planning.Target.{Target}
+use Rattle.ubi_change.specs.declared.target.Target.{Target}
 use Rattle.ubi_change.specs.declared.refusal.ChangeRefusal.{ChangeRefusal}
 use Rattle.ubi_change.specs.declared.refusal.ChangeRefusal.TheVariants as refusal
 use Rattle.ubi_change.specs.declared.step.Step.{Step}
@@ -93,13 +93,13 @@ AreWithin s bs a (places.Unmapped first copy) = (first < length bs) × (copy < l
 -- the steps for a LEB with a winner
 abbrev pub mapped_steps : Sizes → List (List ℕ) → Whole → Target → List ℕ → ℕ → ℕ → List Step
 mapped_steps s bs a t new copy old =
-    atomic_copy s bs a copy (copy_header 0 t.data_pad t.id t.lnum (a.scan.top_sqnum + 1) new) new old (ec_at s bs old)
+    atomic_copy s bs a copy (copy_header t.compat t.data_pad t.id t.lnum (a.scan.top_sqnum + 1) new) new old (ec_at s bs old)
 
 -- and for one without
 abbrev pub unmapped_steps : Sizes → List (List ℕ) → Whole → Target → List ℕ → ℕ → ℕ → List Step
 unmapped_steps s bs a t new first copy =
     mount s bs a first (blank_header t.data_pad t.id t.lnum (a.scan.top_sqnum + 1))
-    ++ atomic_copy s bs a copy (copy_header 0 t.data_pad t.id t.lnum (a.scan.top_sqnum + 2) new) new first
+    ++ atomic_copy s bs a copy (copy_header t.compat t.data_pad t.id t.lnum (a.scan.top_sqnum + 2) new) new first
     (ready_ec s bs a first)
 
 abbrev pub steps_on : Sizes → List (List ℕ) → Whole → Target → List ℕ → Places → List Step

@@ -13,7 +13,7 @@ use Rattle.ubi_change.specs.Fitting.{AllFit}
 use Rattle.ubi_change.specs.inner.Making.{ArePlaces, AreWithin, image_causes, own_causes, steps_on}
 use Rattle.ubi_change.specs.Planned.{IsPlan, IsChangeRefusal}
 use Rattle.ubi_change.specs.Refused.{first_of}
-use Rattle.ubi_change.specs.declared.planning.Target.{Target}
+use Rattle.ubi_change.specs.declared.target.Target.{Target}
 use Rattle.ubi_media.proofs.Padding.{half_pad, reserved_within}
 use Rattle.ubi_media.proofs.ByteLists.{bytes_each}
 use Rattle.ubi_change.proofs.PlanFits.{plan_fits}
@@ -123,9 +123,9 @@ returns-clause-plan c =
     c.in_ok-places.ensures.places in
     let here : in_image ArePlaces image a c.args.id c.args.lnum on =
     subst (λ (z : Image). in_image ArePlaces z a c.args.id c.args.lnum on) c.in_ok-blocks.ensures.ok are in
-    let t : Target = record { id = c.args.id; lnum = c.args.lnum; data_pad = c.data_pad.result } in
-    let pad : t ≡ record { id = c.args.id; lnum = c.args.lnum; data_pad = data_pad image.sizes v.entry } =
-    ap (λ (n : ℕ). record { id = c.args.id; lnum = c.args.lnum; data_pad = n }) c.data_pad.ensures in
+    let t : Target = record { id = c.args.id; lnum = c.args.lnum; compat = 0; data_pad = c.data_pad.result } in
+    let pad : t ≡ record { id = c.args.id; lnum = c.args.lnum; compat = 0; data_pad = data_pad image.sizes v.entry } =
+    ap (λ (n : ℕ). record { id = c.args.id; lnum = c.args.lnum; compat = 0; data_pad = n }) c.data_pad.ensures in
     let made : c.in_ok-steps_on.field-0.items ≡ in_image steps_on c.in_ok-blocks.blocks a t c.args.new.now on =
     c.in_ok-steps_on.ensures in
     record {
