@@ -1,12 +1,11 @@
 -- The plan of an attached image, against which no cause stands, survives every cut.
-use Rattle.std.proofs.Common.{◌≡◌, ◌≢◌, ℕ, suc, ◌+◌, ◌/◌, ◌%◌, ◌^◌, ◌<◌, ◌≤◌, inl, inr, Bool, true, false, cond, not, List, [], ◌∷◌, ◌++◌, append_assoc, length, set, refl, ap, sym, ◌∙◌, subst, arith, length-append, length-set}
-use Rattle.std.specs.Prelude.{None, Option, Some, ◌==◌, ◌||◌, IfSome, count_by, nat_lt, option_map}
+use Rattle.std.proofs.Common.{◌≡◌, ◌≢◌, ℕ, suc, ◌+◌, ◌/◌, ◌%◌, ◌^◌, ◌<◌, ◌≤◌, Bool, true, false, not, List, [], ◌∷◌, ◌++◌, append_assoc, length, set, refl, ap, sym, ◌∙◌, subst, arith, length-append, length-set}
+use Rattle.std.specs.Prelude.{None, Option, Some, ◌==◌, IfSome, count_by, nat_lt, option_map}
 use Rattle.std.specs.Bool.{then_some}
 use Rattle.std.specs.FinMap as finite
 use Rattle.std.specs.FinMap.{FinMap}
 use Rattle.std.specs.Option.{option_map_or}
 use Rattle.std.specs.Ordering.{nat_cmp}
-use Rattle.std.proofs.Math.Nat as nat
 use Rattle.std.proofs.lemmas.Bool.Decides.{nat_tests}
 use Rattle.ubi_media.specs.Geometry.{Sizes, IsGeometry, leb_size}
 use Rattle.ubi_media.specs.Record.{data_pad, usable}
@@ -16,11 +15,9 @@ use Rattle.ubi_media.specs.declared.vid.VidHeader.{VidHeader}
 use Rattle.ubi_media.specs.declared.vid.VolKind.{VolKind}
 use Rattle.ubi_media.specs.declared.vid.VolKind.TheVariants as kind
 use Rattle.ubi_media.specs.declared.record.VolumeRecord.{VolumeRecord}
-use Rattle.ubi_scan.specs.Image.{Image, block, eraseblocks, in_image}
-use Rattle.ubi_scan.specs.Members.{IsMember, Leb, NoMember, Wins, sqnum_at}
-use Rattle.ubi_scan.proofs.Chunks.{length-of_chunk, length-first_chunks}
-use Rattle.ubi_scan.proofs.Clean.{clean_from_none}
-use Rattle.ubi_scan.proofs.Seq.{Agrees, seq_agrees}
+use Rattle.ubi_scan.specs.Image.{Image, eraseblocks, in_image}
+use Rattle.ubi_scan.specs.Members.{NoMember, Wins}
+use Rattle.ubi_scan.proofs.Seq.{Agrees}
 use Rattle.ubi_table.specs.Records.{Records}
 use Rattle.ubi_table.specs.Table.{AllBlank}
 use Rattle.ubi_volume.specs.Accepts.{AcceptsBlocks}
@@ -32,25 +29,26 @@ use Rattle.ubi_volume.specs.declared.content.Volume.{Volume}
 use Rattle.ubi_volume.proofs.Recorded.{records_meant}
 use Rattle.ubi_volume.proofs.Winners.{found_wins, none_found}
 use Rattle.ubi_change.specs.Cuts.{SurvivesCuts, programs_copy, turn}
-use Rattle.ubi_change.specs.Plan.{blank_header, copy_header, next_ec, mapped_plan, needs, plan_of, prepare, program_header, program_text, ready_bytes, ready_ec, release, renew, taken, unmapped_plan}
+use Rattle.ubi_change.specs.Plan.{blank_header, copy_header, next_ec, mapped_plan, needs, plan_of, prepare, program_header, program_text, ready_bytes, ready_ec, release, taken, unmapped_plan}
 use Rattle.ubi_change.specs.Refused.{causes, first_cause, first_of, is_bad_length, is_static}
-use Rattle.ubi_change.specs.Takeable.{ec_at, is_clean, is_sole_carrier, is_worn, stays, takeable}
+use Rattle.ubi_change.specs.Takeable.{ec_at, is_worn, takeable}
 use Rattle.ubi_change.specs.Weak.{weak_place, whole_place}
 use Rattle.ubi_change.specs.declared.refusal.ChangeRefusal.{ChangeRefusal}
 use Rattle.ubi_change.specs.declared.refusal.ChangeRefusal.TheVariants as refusal
 use Rattle.ubi_change.specs.declared.step.Step.{Step}
+use Rattle.ubi_change.proofs.CopyReplaced.{IsPrepared, IsRelease}
+use Rattle.ubi_change.proofs.AttachedImage as on
 use Rattle.ubi_change.proofs.Choosing.{MayBeTaken, may_be_taken, two_apart}
 use Rattle.ubi_change.proofs.Mapped as mapped_copy
-use Rattle.ubi_change.proofs.Mapped.{copy_fits, copy_sound, IsNew, IsPrepared, IsRelease, mapped, used_by_volume}
+use Rattle.ubi_change.proofs.Mapped.{copy_fits, copy_sound, IsNew, mapped, used_by_volume}
 use Rattle.ubi_change.proofs.Premises.{counter_behind, neither, next_counter, ready, taken_beside, taken_loses, valid_counter}
 use Rattle.ubi_scan.proofs.Parts.{laid}
 use Rattle.ubi_change.proofs.Renewed.{IsCounter}
 use Rattle.ubi_change.proofs.Replaced.{block_other}
 use Rattle.ubi_change.proofs.Runs.{done}
-use Rattle.ubi_change.proofs.Seq.{NamedBeside, not_sole}
+use Rattle.ubi_change.proofs.Seq.{NamedBeside}
 use Rattle.ubi_change.proofs.Survives.{survives}
-use Rattle.ubi_change.proofs.Top.{member_below}
-use Rattle.ubi_change.proofs.Turned.{AllFail, fail-append, header_fails, one-copy, renew_fails, turn-is}
+use Rattle.ubi_change.proofs.Turned.{AllFail, fail-append, header_fails, one-copy, turn-is}
 use Rattle.ubi_change.proofs.Unmapped as first
 use Rattle.ubi_change.proofs.Vacated.{LosesAll}
 
@@ -148,8 +146,7 @@ module _ (image : Image) (g : IsGeometry image.sizes) (a : Whole) (att : IsAttac
   acc = att.accepted.accepted
 
   agrees : Agrees s a.scan.image_seq bs
-  agrees = subst (λ (q : ℕ). Agrees s q bs) (sym att.scan.image_seq)
-      (seq_agrees s bs (clean_from_none s bs att.scan.clean))
+  agrees = on.agrees image g a att
 
   states : AreStates s bs acc.records a.states
   states = subst (λ (t : Records). AreStates s bs t a.states)
@@ -174,47 +171,6 @@ module _ (image : Image) (g : IsGeometry image.sizes) (a : Whole) (att : IsAttac
 
   number : lnum < 2 ^ 31
   number = let l = no_cause.is_new.inside in omega arith
-
-  whole : (p : ℕ) → p < length bs → length (block bs p) ≡ s.peb_size
-  whole p l =
-      let n = length-first_chunks s.peb_size (length image.bytes / s.peb_size) image.bytes in
-      length-of_chunk s.peb_size (length image.bytes / s.peb_size) image.bytes p
-      (let k = nat.div-add-mod (length image.bytes) s.peb_size in omega arith) (omega arith)
-
-  above : (of : Leb) (q : ℕ) → IsMember s bs of q → sqnum_at s bs q < a.scan.top_sqnum + 1
-  above of q m = let l = member_below s bs of q m in let e = att.scan.top_sqnum in omega arith
-
-  prepare_fails : (p : ℕ) → AllFail (programs_copy s) (prepare s bs a p)
-  prepare_fails p = by_test (is_clean s bs a.states p)
-    where
-      by_test : (b : Bool) → AllFail (programs_copy s) (cond b [] (renew s p (next_ec a.scan (ec_at s bs p))))
-      by_test true = tt
-      by_test false = renew_fails s g p (next_ec a.scan (ec_at s bs p))
-
-  release_fails : (p : ℕ) (now : Option EcHeader) → AllFail (programs_copy s) (release s bs a p now)
-  release_fails p now = by_test (stays s bs p now)
-    where
-      by_test : (b : Bool) → AllFail (programs_copy s) (cond b [] (renew s p (next_ec a.scan now)))
-      by_test true = tt
-      by_test false = renew_fails s g p (next_ec a.scan now)
-
-  release_is : (cs : List (List ℕ)) (p : ℕ) (now : Option EcHeader)
-      → (is_worn now ≡ false → IsCounter (next_ec a.scan now))
-      → (NamedBeside s a.scan.image_seq bs p → NamedBeside s a.scan.image_seq cs p)
-      → IsRelease s cs p a.scan.image_seq (release s bs a p now)
-  release_is cs p now counter named = by_test (stays s bs p now) refl
-    where
-      by_test : (b : Bool) → stays s bs p now ≡ b
-          → IsRelease s cs p a.scan.image_seq (cond b [] (renew s p (next_ec a.scan now)))
-      by_test true e = inl refl
-      by_test false e =
-          let two = neither (is_worn now) (is_sole_carrier s bs p) e in inr (
-            next_ec a.scan now,
-            counter two.0,
-            (λ _. refl),
-            named (not_sole s a.scan.image_seq bs agrees p two.1),
-            refl,
-          )
 
   used : AllBlank s bs → ⊥
   used = used_by_volume s bs a.meaning acc id v there
@@ -244,8 +200,8 @@ module _ (image : Image) (g : IsGeometry image.sizes) (a : Whole) (att : IsAttac
 
     pub made : (e : EcHeader) × (ready_ec s bs a b ≡ Some e)
         × IsPrepared s bs a.meaning b a.scan.image_seq (prepare s bs a b) (ready_bytes s bs a b) e
-    made = ready s g bs a acc.records states b may bs a.meaning acc may.0 refl (whole b may.0) agrees named used
-        (taken_loses s g bs a acc.records states b may) few narrow
+    made = ready s g bs a acc.records states b may bs a.meaning acc may.0 refl (on.whole image g a att b may.0)
+        agrees named used (taken_loses s g bs a acc.records states b may) few narrow
 
     few_numbers : a.scan.top_sqnum + 1 < 2 ^ 64
     few_numbers = let f = no_cause.few in let n = needs-one in omega arith
@@ -255,9 +211,9 @@ module _ (image : Image) (g : IsGeometry image.sizes) (a : Whole) (att : IsAttac
     old_apart =
         mapped_copy.apart s g bs a.meaning acc id lnum v.entry held.0 was slot number half new no_cause.is_new b may.0
         a.scan.image_seq agrees named (taken_loses s g bs a acc.records states b may)
-        (prepare s bs a b) (ready_bytes s bs a b) made.0 made.2 (a.scan.top_sqnum + 1) few_numbers above old wins
-        (release s bs a old (ec_at s bs old))
-        (release_is bs old (ec_at s bs old) (next_counter s bs a few narrow old) (λ n. n))
+        (prepare s bs a b) (ready_bytes s bs a b) made.0 made.2 (a.scan.top_sqnum + 1) few_numbers
+        (on.above image g a att) old wins (release s bs a old (ec_at s bs old))
+        (on.release_is image g a att bs old (ec_at s bs old) (next_counter s bs a few narrow old) (λ n. n))
 
     -- where the new is meant from
     pub mapped_turn : turn s (mapped_plan s bs a v.entry id lnum new b old) new
@@ -269,7 +225,7 @@ module _ (image : Image) (g : IsGeometry image.sizes) (a : Whole) (att : IsAttac
         let sound = copy_sound s v.entry id lnum (a.scan.top_sqnum + 1) new slot number half wide no_cause.is_new.some
         fits_leb in
         turn-is s g (ready_bytes s bs a b) made.2.size h fits sound refl b new (prepare s bs a b)
-        (release s bs a old (ec_at s bs old)) (prepare_fails b) (release_fails old (ec_at s bs old))
+        (release s bs a old (ec_at s bs old)) (on.prepare_fails image g a att b)
 
     mapped_survives : SurvivesCuts s bs a.meaning id lnum new (mapped_plan s bs a v.entry id lnum new b old)
     mapped_survives =
@@ -281,13 +237,13 @@ module _ (image : Image) (g : IsGeometry image.sizes) (a : Whole) (att : IsAttac
         survives s bs a.meaning id lnum new (mapped_plan s bs a v.entry id lnum new b old)
         (length (prepare s bs a b) + suc (whole_place s new))
         (one-copy s g (ready_bytes s bs a b) made.2.size h fits sound refl b new (prepare s bs a b)
-        (release s bs a old (ec_at s bs old)) (prepare_fails b) (release_fails old (ec_at s bs old)))
-        mapped_turn
+        (release s bs a old (ec_at s bs old)) (on.prepare_fails image g a att b)
+        (on.release_fails image g a att old (ec_at s bs old))) mapped_turn
         (mapped s g bs a.meaning acc id lnum v.entry held.0 was slot number half new no_cause.is_new b may.0
         a.scan.image_seq agrees named (taken_loses s g bs a acc.records states b may)
-        (prepare s bs a b) (ready_bytes s bs a b) made.0 made.2 (a.scan.top_sqnum + 1) few_numbers above old wins
-        (release s bs a old (ec_at s bs old))
-        (release_is bs old (ec_at s bs old) (next_counter s bs a few narrow old) (λ n. n)))
+        (prepare s bs a b) (ready_bytes s bs a b) made.0 made.2 (a.scan.top_sqnum + 1) few_numbers
+        (on.above image g a att) old wins (release s bs a old (ec_at s bs old))
+        (on.release_is image g a att bs old (ec_at s bs old) (next_counter s bs a few narrow old) (λ n. n)))
 
     pub survives_mapped : SurvivesCuts s bs a.meaning id lnum new (plan_of s bs a v.entry id lnum new)
     survives_mapped =
@@ -338,7 +294,7 @@ module _ (image : Image) (g : IsGeometry image.sizes) (a : Whole) (att : IsAttac
     pub made0 : (e : EcHeader) × (ready_ec s bs a e0 ≡ Some e)
         × IsPrepared s bs a.meaning e0 a.scan.image_seq (prepare s bs a e0) (ready_bytes s bs a e0) e
     made0 = ready s g bs a acc.records states e0 may0 bs a.meaning acc may0.0 refl
-        (whole e0 may0.0) agrees named0 used loses0 few narrow
+        (on.whole image g a att e0 may0.0) agrees named0 used loses0 few narrow
 
     many : a.scan.top_sqnum + 1 + 1 < 2 ^ 64
     many = let f = no_cause.few in let n = needs-two in omega arith
@@ -358,7 +314,7 @@ module _ (image : Image) (g : IsGeometry image.sizes) (a : Whole) (att : IsAttac
     acc1 : AcceptsBlocks s cs a.meaning
     acc1 = first.mounted_accepted s g bs a.meaning acc id lnum v.entry held.0 was slot number half
         no_cause.is_new.inside e0 may0.0 a.scan.image_seq agrees named0 loses0 (prepare s bs a e0)
-        (ready_bytes s bs a e0) made0.0 made0.2 (a.scan.top_sqnum + 1) some_left above none
+        (ready_bytes s bs a e0) made0.0 made0.2 (a.scan.top_sqnum + 1) some_left (on.above image g a att) none
 
     lost1 : LosesAll s cs acc1.records b1
     unfolding acc1
@@ -366,21 +322,21 @@ module _ (image : Image) (g : IsGeometry image.sizes) (a : Whole) (att : IsAttac
         subst (λ (t : Records). LosesAll s cs t b1)
         (sym (first.now_records s g bs a.meaning acc id lnum v.entry held.0 was slot number half no_cause.is_new.inside
         e0 may0.0 a.scan.image_seq agrees named0 loses0 (prepare s bs a e0) (ready_bytes s bs a e0) made0.0 made0.2
-        (a.scan.top_sqnum + 1) some_left above none))
+        (a.scan.top_sqnum + 1) some_left (on.above image g a att) none))
         (first.other_loses s g bs a.meaning acc id lnum v.entry held.0 was slot number half no_cause.is_new.inside e0
         may0.0 a.scan.image_seq agrees named0 loses0 (prepare s bs a e0) (ready_bytes s bs a e0) made0.0 made0.2
-        (a.scan.top_sqnum + 1) some_left above none b1 apart loses1)
+        (a.scan.top_sqnum + 1) some_left (on.above image g a att) none b1 apart loses1)
 
     agrees1 : Agrees s a.scan.image_seq cs
     agrees1 = first.now_agrees s g bs a.meaning acc id lnum v.entry held.0 was slot number half no_cause.is_new.inside
         e0 may0.0 a.scan.image_seq agrees named0 loses0 (prepare s bs a e0) (ready_bytes s bs a e0) made0.0 made0.2
-        (a.scan.top_sqnum + 1) some_left above none
+        (a.scan.top_sqnum + 1) some_left (on.above image g a att) none
 
     -- another eraseblock goes on naming the image
     beside1 : (p : ℕ) → NamedBeside s a.scan.image_seq bs p → NamedBeside s a.scan.image_seq cs p
     beside1 = first.now_beside s g bs a.meaning acc id lnum v.entry held.0 was slot number half no_cause.is_new.inside
         e0 may0.0 a.scan.image_seq agrees named0 loses0 (prepare s bs a e0) (ready_bytes s bs a e0) made0.0 made0.2
-        (a.scan.top_sqnum + 1) some_left above none
+        (a.scan.top_sqnum + 1) some_left (on.above image g a att) none
 
     inside1 : b1 < length cs
     inside1 = let l = may1.0 in omega (arith, length-set bs e0 mounted0)
@@ -389,11 +345,11 @@ module _ (image : Image) (g : IsGeometry image.sizes) (a : Whole) (att : IsAttac
         × IsPrepared s cs a.meaning b1 a.scan.image_seq (prepare s bs a b1) (ready_bytes s bs a b1) e
     made1 =
         ready s g bs a acc.records states b1 may1 cs a.meaning acc1 inside1
-        (block_other s bs e0 mounted0 may0.0 b1 apart) (whole b1 may1.0) agrees1 (beside1 b1 named1)
+        (block_other s bs e0 mounted0 may0.0 b1 apart) (on.whole image g a att b1 may1.0) agrees1 (beside1 b1 named1)
         (used_by_volume s cs a.meaning acc1 id v there) lost1 few narrow
 
     release0 : IsRelease s cs e0 a.scan.image_seq (release s bs a e0 (ready_ec s bs a e0))
-    release0 = release_is cs e0 (ready_ec s bs a e0) (λ fresh.
+    release0 = on.release_is image g a att cs e0 (ready_ec s bs a e0) (λ fresh.
         subst (λ (o : Option EcHeader). IsCounter (next_ec a.scan o)) (sym made0.1)
         (counter_behind a narrow made0.0 (valid_counter s (ready_bytes s bs a e0) made0.0 made0.2.reads)
         (ap is_worn (sym made0.1) ∙ fresh))) (beside1 e0)
@@ -426,19 +382,19 @@ module _ (image : Image) (g : IsGeometry image.sizes) (a : Whole) (att : IsAttac
     pub mounted_done : done s bs mount0 ≡ cs
     mounted_done = first.mount_done s g bs a.meaning acc id lnum v.entry held.0 was slot number half
         no_cause.is_new.inside e0 may0.0 a.scan.image_seq agrees named0 loses0 (prepare s bs a e0)
-        (ready_bytes s bs a e0) made0.0 made0.2 (a.scan.top_sqnum + 1) some_left above none
+        (ready_bytes s bs a e0) made0.0 made0.2 (a.scan.top_sqnum + 1) some_left (on.above image g a att) none
 
     mount_fails : AllFail (programs_copy s) (mount0 ++ prepare s bs a b1)
     mount_fails =
         fail-append (programs_copy s) mount0 (prepare s bs a b1)
         (fail-append (programs_copy s) (prepare s bs a e0) (program_header s e0 (ready_bytes s bs a e0) header0 ∷ [])
-        (prepare_fails e0) (
+        (on.prepare_fails image g a att e0) (
           header_fails s g (ready_bytes s bs a e0) made0.2.size header0
               (first.blank_fits s v.entry id lnum (a.scan.top_sqnum + 1) slot number half wide some_left)
               (first.blank_sound s v.entry id lnum (a.scan.top_sqnum + 1) slot number half wide) e0 refl,
           tt,
         ))
-        (prepare_fails b1)
+        (on.prepare_fails image g a att b1)
 
     -- where the new is meant from
     steps_turn : turn s steps new ≡ length mount0 + (length (prepare s bs a b1) + suc (whole_place s new))
@@ -449,7 +405,7 @@ module _ (image : Image) (g : IsGeometry image.sizes) (a : Whole) (att : IsAttac
         no_cause.is_new.some fits_leb in
         let n = length-append mount0 (prepare s bs a b1) in
         let turn_at = turn-is s g (ready_bytes s bs a b1) made1.2.size header1 fits sound refl b1 new
-        (mount0 ++ prepare s bs a b1) rel0 mount_fails (release_fails e0 (ready_ec s bs a e0)) in
+        (mount0 ++ prepare s bs a b1) rel0 mount_fails in
         ap (λ xs. turn s xs new) (sym steps-are) ∙ turn_at ∙ omega arith
 
     plan-steps : unmapped_plan s bs a v.entry id lnum new e0 b1 ≡ steps
@@ -471,14 +427,14 @@ module _ (image : Image) (g : IsGeometry image.sizes) (a : Whole) (att : IsAttac
         let sound = copy_sound s v.entry id lnum (a.scan.top_sqnum + 1 + 1) new slot number half wide
         no_cause.is_new.some fits_leb in
         let one = one-copy s g (ready_bytes s bs a b1) made1.2.size header1 fits sound refl b1 new
-        (mount0 ++ prepare s bs a b1) rel0 mount_fails (release_fails e0 (ready_ec s bs a e0)) in
+        (mount0 ++ prepare s bs a b1) rel0 mount_fails (on.release_fails image g a att e0 (ready_ec s bs a e0)) in
         survives s bs a.meaning id lnum new steps
         (length mount0 + (length (prepare s bs a b1) + suc (whole_place s new)))
         (ap (count_by (programs_copy s)) (sym steps-are) ∙ one)
         steps_turn
         (first.unmapped s g bs a.meaning acc id lnum v.entry held.0 was slot number half no_cause.is_new.inside e0
         may0.0 a.scan.image_seq agrees named0 loses0 (prepare s bs a e0) (ready_bytes s bs a e0) made0.0 made0.2
-        (a.scan.top_sqnum + 1) some_left above none
+        (a.scan.top_sqnum + 1) some_left (on.above image g a att) none
         new no_cause.is_new b1 apart may1.0 named1 loses1 (prepare s bs a b1)
         (ready_bytes s bs a b1) made1.0 made1.2 many rel0 release0)
 

@@ -265,3 +265,17 @@ module _ (s : Sizes) (g : IsGeometry s) (bs : List (List ℕ)) (b : ℕ) (inside
       subst (λ (xs : List Step). TurnsAt s P Q bs (xs ++ rel) (length prep + suc (whole_place s new))) joined
       (turns-before s P Q bs (prep ++ copy_steps) rel (length prep + suc (whole_place s new)) first
       (subst (λ (z : List (List ℕ)). AtEachCut s Q z rel) (sym end) late))
+
+  -- the eraseblocks at its end
+  pub atomic_done : (prep rel : List Step) → done s bs prep ≡ set bs b (filled s.peb_size bytes)
+      → done s bs ((prep ++ program_header s b bytes h ∷ []) ++ program_text s b new ++ rel)
+      ≡ done s (set bs b (part_at (pages_of s new))) rel
+  atomic_done prep rel ready =
+      let end : done s bs (prep ++ copy_steps) ≡ set bs b (part_at (pages_of s new)) =
+      fold-append (step_done s) bs prep copy_steps ∙ ap (λ (z : List (List ℕ)). done s z copy_steps) ready
+      ∙ sym (after-all s (set bs b (filled s.peb_size bytes)) copy_steps) ∙ copy_done in
+      let joined : prep ++ copy_steps ≡ (prep ++ program_header s b bytes h ∷ []) ++ program_text s b new =
+      sym (append_assoc prep (program_header s b bytes h ∷ []) (program_text s b new)) in
+      ap (λ (xs : List Step). done s bs (xs ++ rel)) (sym joined)
+      ∙ fold-append (step_done s) bs (prep ++ copy_steps) rel
+      ∙ ap (λ (z : List (List ℕ)). done s z rel) end

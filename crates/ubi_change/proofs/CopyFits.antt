@@ -1,5 +1,5 @@
 -- The steps of a copy fit: the header on an eraseblock that was made ready, and the pages of the text behind it.
-use Rattle.std.proofs.Common.{◌≡◌, ℕ, zero, suc, ◌+◌, ◌-◌, ◌*◌, ◌/◌, ◌%◌, ◌^◌, ◌<◌, ◌≤◌, inl, inr, Bool, true, false, cond, List, [], ◌∷◌, ◌++◌, append_assoc, length, map, take, drop, get_or, replicate, refl, ap, ap₂, sym, ◌∙◌, subst, arith, length-append, length-drop, length-set, get_or-set_same}
+use Rattle.std.proofs.Common.{◌≡◌, ℕ, zero, suc, ◌+◌, ◌-◌, ◌*◌, ◌/◌, ◌%◌, ◌^◌, ◌<◌, ◌≤◌, inl, inr, Bool, true, false, cond, List, [], ◌∷◌, ◌++◌, append_assoc, length, map, take, drop, replicate, refl, ap, ap₂, sym, ◌∙◌, subst, arith, length-append, length-drop, length-set, get_or-set_same}
 use Rattle.std.specs.Prelude.{nat_lt, slice_range}
 use Rattle.std.specs.Int.{byte_at, bytes_high_first}
 use Rattle.std.specs.List.{enumerate_from}

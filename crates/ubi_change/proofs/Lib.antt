@@ -1,10 +1,13 @@
 pub mod Attached
+pub mod AttachedImage
 pub mod Changed
 pub mod Choosing
 pub mod Clears
 pub mod Copied
 pub mod CopyFits
+pub mod CopyReplaced
 pub mod CountsErases
+pub mod Emptied
 pub mod Fits
 pub mod GivenUp
 pub mod HeadersKept
@@ -13,6 +16,7 @@ pub mod Laid
 pub mod Mapped
 pub mod Mean
 pub mod Mounted
+pub mod Newest
 pub mod PageBytes
 pub mod PagePlaces
 pub mod PagesRise

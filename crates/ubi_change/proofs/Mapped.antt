@@ -1,27 +1,22 @@
 -- The cuts of an atomic copy of a LEB that has a winner: before the turn the old is meant, and from it on the new.
-use Rattle.std.proofs.Common.{◌≡◌, ◌≢◌, ℕ, zero, suc, ◌+◌, ◌-◌, ◌/◌, ◌%◌, ◌^◌, ◌<◌, ◌≤◌, ◌⊎◌, inl, inr, true, false, List, [], ◌∷◌, ◌++◌, length, set, take, refl, ap, sym, ◌∙◌, subst, arith, length-set}
+use Rattle.std.proofs.Common.{◌≡◌, ◌≢◌, ℕ, suc, ◌+◌, ◌-◌, ◌/◌, ◌%◌, ◌^◌, ◌<◌, ◌≤◌, inl, inr, true, List, [], ◌∷◌, ◌++◌, length, set, take, refl, ap, sym, ◌∙◌, subst, arith, length-set}
 use Rattle.std.specs.Prelude.{None, Option, Some}
 use Rattle.std.specs.FinMap as finite
 use Rattle.std.specs.FinMap.{FinMap}
 use Rattle.std.specs.Ordering.{nat_cmp}
 use Rattle.std.proofs.lemmas.Bool.Decides.{nat_tests}
-use Rattle.ubi_media.specs.Ec.{ec_reading}
-use Rattle.ubi_media.specs.Fields.{blank, filled}
+use Rattle.ubi_media.specs.Fields.{filled}
 use Rattle.ubi_media.specs.Geometry.{Sizes, IsGeometry, leb_size}
 use Rattle.ubi_media.specs.Record.{data_pad, usable}
 use Rattle.ubi_media.specs.Vid.{breaks, fields_from, first_fault, vid_fault}
 use Rattle.ubi_media.specs.Widths.{VidFits}
 use Rattle.ubi_media.specs.declared.ec.EcHeader.{EcHeader}
-use Rattle.ubi_media.specs.declared.ec.EcRead.TheVariants as ec_read
 use Rattle.ubi_media.specs.declared.record.VolumeRecord.{VolumeRecord}
 use Rattle.ubi_media.specs.declared.vid.VidHeader.{VidHeader}
 use Rattle.ubi_media.specs.declared.vid.VolKind.TheVariants as kind
 use Rattle.ubi_media.proofs.Checks.{check_from-lt}
-use Rattle.ubi_scan.specs.Faults.{NoFault}
 use Rattle.ubi_scan.specs.Image.{block, leb}
-use Rattle.ubi_scan.specs.Members.{IsMember, Leb, Wins, has_members, is_good, layout, sqnum_at}
-use Rattle.ubi_scan.specs.Numbers.{seq_of}
-use Rattle.ubi_scan.proofs.Decided.{Wins-unique}
+use Rattle.ubi_scan.specs.Members.{IsMember, Leb, Wins, has_members, layout, sqnum_at}
 use Rattle.ubi_scan.proofs.Seq.{Agrees}
 use Rattle.ubi_table.specs.Records.{Records}
 use Rattle.ubi_table.specs.Table.{AllBlank}
@@ -32,21 +27,18 @@ use Rattle.ubi_volume.specs.Meant.{Meant}
 use Rattle.ubi_volume.specs.declared.content.Content.TheVariants as content
 use Rattle.ubi_volume.specs.declared.content.Volume.{Volume}
 use Rattle.ubi_change.specs.Cuts.{changed}
-use Rattle.ubi_change.specs.Plan.{copy_header, program_header, program_text, renew}
-use Rattle.ubi_change.specs.Steps.{after}
-use Rattle.ubi_change.specs.Weak.{pages_of, weak_place, whole_place}
+use Rattle.ubi_change.specs.Plan.{copy_header, program_header, program_text}
+use Rattle.ubi_change.specs.Weak.{weak_place, whole_place}
 use Rattle.ubi_change.specs.declared.step.Step.{Step}
 use Rattle.ubi_change.proofs.Changed as change
-use Rattle.ubi_change.proofs.Copied as copy
 use Rattle.ubi_change.proofs.Copied.{IsCopy}
-use Rattle.ubi_change.proofs.Mounted.{IsChanged, IsMount, mounted_bad, mounted_clean, mounted_good, mounted_wins, recorded_by}
-use Rattle.ubi_change.proofs.Renewed.{IsCounter, renew_accepted}
-use Rattle.ubi_change.proofs.Replaced.{member_was}
-use Rattle.ubi_change.proofs.Runs.{AtEachCut, TurnsAt, done}
+use Rattle.ubi_change.proofs.CopyReplaced.{IsGoodCopy, IsPrepared, IsRelease, replaced}
+use Rattle.ubi_change.proofs.Mounted.{IsChanged, mounted_good, recorded_by}
+use Rattle.ubi_change.proofs.Newest.{old_loses}
+use Rattle.ubi_change.proofs.Runs.{TurnsAt}
 use Rattle.ubi_change.proofs.Seq.{NamedBeside}
-use Rattle.ubi_change.proofs.Torn.{told-from, whole_place-is}
-use Rattle.ubi_change.proofs.Unused.{nameless_ec, nameless_loses, one_name, within_counts}
-use Rattle.ubi_change.proofs.Vacated.{LosesAll, agrees_set, beside_set}
+use Rattle.ubi_change.proofs.Unused.{nameless_ec, nameless_loses, within_counts}
+use Rattle.ubi_change.proofs.Vacated.{IsVacant, LosesAll, agrees_set, vacated}
 use Rattle.ubi_change.proofs.Written.{take_filled}
 
 -- an image with a volume has an erase-counter header
@@ -87,22 +79,6 @@ module _ (s : Sizes) (r : VolumeRecord) (id lnum sqnum : ℕ) (new : List ℕ) (
 
 user_known : (vol : ℕ) → vol < 128 → has_members vol ≡ true
 user_known vol l = grind (arith, nat_tests)
-
--- steps make an eraseblock ready: the meaning stays, and at the end it has an erase-counter header alone
-pub record IsPrepared (s : Sizes) (bs : List (List ℕ)) (m : Meant) (b seq : ℕ) (prep : List Step) (bytes : List ℕ)
-    (e : EcHeader) : Type 0 where
-  pub cuts : AtEachCut s (λ x. AcceptsBlocks s x m) bs prep
-  pub ready : done s bs prep ≡ set bs b (filled s.peb_size bytes)
-  pub size : length bytes ≡ 64
-  pub reads : ec_reading s bytes ≡ ec_read.Valid e
-  pub image : e.image_seq ≢ 0 → e.image_seq ≡ seq
-  pub keeps : seq_of s (block bs b) ≡ seq → e.image_seq ≡ seq
-
--- the old eraseblock is left, or another names the image, and it is erased and given a header
-abbrev pub IsRelease : Sizes → List (List ℕ) → ℕ → ℕ → List Step → Type 0
-IsRelease s bs old seq rel = (rel ≡ [])
-    ⊎ ((e : EcHeader) × IsCounter e × (e.image_seq ≢ 0 → e.image_seq ≡ seq) × NamedBeside s seq bs old
-    × (rel ≡ renew s old e))
 
 -- new bytes that can be written to a LEB of a volume
 pub record IsNew (s : Sizes) (r : VolumeRecord) (lnum : ℕ) (new : List ℕ) : Type 0 where
@@ -186,88 +162,43 @@ module _ (s : Sizes) (g : IsGeometry s) (bs : List (List ℕ)) (m : Meant) (a : 
   like (inl k) = k (sym dynamic)
   like (inr k) = k refl
 
-  abbrev P : List (List ℕ) → Type 0
-  P x = AcceptsBlocks s x m
-
   abbrev Q : List (List ℕ) → Type 0
   Q x = AcceptsBlocks s x next
-
-  bad : (x : List ℕ) → IsMount s seq bs of header x → is_good s x header ≡ false → P (set bs b x)
-  bad x mount k = mounted_bad s bs b x inside of header seq agrees mount m a used beside loses counts old wins k
 
   room : usable s r ≤ length new + (s.peb_size - (s.data_offset + length new))
   room = let k = fits_leb in let l = g.leb in omega arith
 
-  good : (x : List ℕ) → IsMount s seq bs of header x → is_good s x header ≡ true
-      → leb s x ≡ new ++ blank (s.peb_size - (s.data_offset + length new)) → Q (set bs b x)
-  good x mount k text =
+  copied : (x : List ℕ) → IsGoodCopy s seq bs of header new x → Q (set bs b x)
+  copied x k =
       let reads : filled (usable m.sizes r) new ≡ take (usable s r) (leb s x) =
       ap (λ (z : Sizes). filled (usable z r) new) sizes
       ∙ sym (take_filled (usable s r) new (s.peb_size - (s.data_offset + length new)) n.short room)
-      ∙ ap (take (usable s r)) (sym text) in
-      mounted_good s bs b x inside id lnum header seq agrees mount k m next a used beside loses
+      ∙ ap (take (usable s r)) (sym k.text) in
+      mounted_good s bs b x inside id lnum header seq agrees k.mount k.good m next a used beside loses
       (λ z. (let l = slot in omega arith)) r (filled (usable m.sizes r) new) change_is reads like
 
   -- once the copy is good, the old winner wins nothing
   pub apart : old ≢ b
   apart z = loses of counts (subst (Wins s bs of) z wins)
 
-  old_loses : (x : List ℕ) (mount : IsMount s seq bs of header x) → is_good s x header ≡ true → (other : Leb)
-      → Wins s (set bs b x) other old → ⊥
-  old_loses x mount k other w =
-      let here = member_was s bs b x inside other old apart w.member in
-      let same : other ≡ of = one_name s bs a.records old other of here wins.member in
-      let clean : NoFault s (set bs b x) = mounted_clean s bs b x inside of header seq agrees mount a.clean in
-      apart (Wins-unique s (set bs b x) of old b clean (subst (λ (o : Leb). Wins s (set bs b x) o old) same w)
-      (mounted_wins s bs b x inside of header seq agrees mount k))
-
-  abbrev full : List ℕ
-  full = copy.part_at s g bs b inside seq of bytes e header new copy_is P Q (pages_of s new)
-
-  full_mount : IsMount s seq bs of header full
-  full_mount = copy.mount_at s g bs b inside seq of bytes e header new copy_is P Q (pages_of s new) (omega arith)
-
-  place : whole_place s new ≤ pages_of s new
-  place = (whole_place-is s new n.paged).most
-
-  full_good : is_good s full header ≡ true
-  full_good = copy.good_at s g bs b inside seq of bytes e header new copy_is P Q (pages_of s new) (omega arith)
-      ∙ told-from s new n.paged (pages_of s new) place (omega arith)
-
-  full_accepted : Q (set bs b full)
-  full_accepted = good full full_mount full_good
-      (copy.whole_at s g bs b inside seq of bytes e header new copy_is P Q (pages_of s new) place (omega arith))
-
-  -- what is named beside the old winner still is
-  full_beside : (p : ℕ) → NamedBeside s seq bs p → NamedBeside s seq (set bs b full) p
-  full_beside p there = beside_set s bs b full inside seq p there
-      (λ k. copy.seq_at s g bs b inside seq of bytes e header new copy_is P Q (pages_of s new) (omega arith)
-      ∙ prepared.keeps k)
-
-  old_inside : old < length (set bs b full)
-  old_inside = let l = wins.member.inside in omega (arith, length-set bs b full)
-
-  late_by : IsRelease s bs old seq rel → AtEachCut s Q (set bs b full) rel
-  late_by (inl z) = subst (AtEachCut s Q (set bs b full)) (sym z) (λ k l. subst Q (sym (none_after k)) full_accepted)
-    where
-      none_after : (k : ℕ) → after s (set bs b full) [] k ≡ set bs b full
-      none_after zero = refl
-      none_after (suc k) = refl
-  late_by (inr z) =
-      subst (AtEachCut s Q (set bs b full)) (sym z.4)
-      (renew_accepted s g z.0 z.1 (set bs b full) old old_inside seq next full_accepted
-      (used_by_volume s (set bs b full) next full_accepted id _ change_is.is)
-      (agrees_set s bs b full inside seq agrees beside full_mount.image) (full_beside old z.3)
-      (λ other _. old_loses full full_mount full_good other) z.2)
+  emptied : (x y : List ℕ) → IsGoodCopy s seq bs of header new x → NamedBeside s seq (set bs b x) old → IsVacant s seq y
+      → Q (set (set bs b x) old y)
+  emptied x y k near v =
+      let now = copied x k in
+      let l = wins.member.inside in
+      vacated s (set bs b x) old y (omega (arith, length-set bs b x)) seq next now
+      (used_by_volume s (set bs b x) next now id _ change_is.is)
+      (agrees_set s bs b x inside seq agrees beside k.mount.image) near
+      (old_loses s bs b x inside of header seq agrees k.mount a.clean k.good now.records old wins apart) v
 
   -- cut after any step, the eraseblocks are accepted: before the turn with the old meaning, from it on with the new
-  pub mapped : TurnsAt s P (λ x. AcceptsBlocks s x (changed m id lnum new)) bs
+  pub mapped : TurnsAt s (λ x. AcceptsBlocks s x m) (λ x. AcceptsBlocks s x (changed m id lnum new)) bs
       ((prep ++ program_header s b bytes header ∷ []) ++ program_text s b new ++ rel)
       (length prep + suc (whole_place s new))
   mapped =
-      subst (λ (k : Meant). TurnsAt s P (λ x. AcceptsBlocks s x k) bs
+      subst (λ (k : Meant). TurnsAt s (λ x. AcceptsBlocks s x m) (λ x. AcceptsBlocks s x k) bs
       ((prep ++ program_header s b bytes header ∷ []) ++ program_text s b new ++ rel)
       (length prep + suc (whole_place s new)))
       (sym (change.changed-is m a.means.meaning id lnum new r lebs was n.inside short))
-      (copy.atomic_turns s g bs b inside seq of bytes e header new copy_is P Q prep rel prepared.cuts prepared.ready bad
-      good (late_by release))
+      (replaced s g bs m a used of counts b inside seq agrees beside loses prep bytes e prepared header new copy_is old
+      wins rel release Q copied emptied)

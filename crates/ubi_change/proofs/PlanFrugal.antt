@@ -15,7 +15,8 @@ use Rattle.ubi_change.specs.Refused.{first_cause}
 use Rattle.ubi_change.proofs.Attached.{no_cause}
 use Rattle.ubi_change.proofs.CountsErases.{plan_counts}
 use Rattle.ubi_change.proofs.GivenUp.{plan_gives_up}
-use Rattle.ubi_change.proofs.PlanSurvives.{mean_few, sound}
+use Rattle.ubi_change.proofs.AttachedImage.{mean_few}
+use Rattle.ubi_change.proofs.PlanSurvives.{sound}
 use Rattle.ubi_change.proofs.Touched.{plan_touches}
 
 pub plan_frugal : (image : Image) → IsGeometry image.sizes → (a : Whole) → IsAttached image a

@@ -15,7 +15,8 @@ use Rattle.ubi_change.specs.Refused.{first_cause}
 use Rattle.ubi_change.proofs.Attached.{no_cause}
 use Rattle.ubi_change.proofs.HeadersKept.{plan_keeps}
 use Rattle.ubi_change.proofs.PagesRise.{page_0_twice, pages_rise, plan_order}
-use Rattle.ubi_change.proofs.PlanSurvives.{mean_few, sound}
+use Rattle.ubi_change.proofs.AttachedImage.{mean_few}
+use Rattle.ubi_change.proofs.PlanSurvives.{sound}
 
 pub plan_rises : (image : Image) → IsGeometry image.sizes → (a : Whole) → IsAttached image a → a.scan.image_seq < 2 ^ 32
     → (id lnum : ℕ) (new : List ℕ) (v : Volume) → get a.meaning.volumes id ≡ Some v

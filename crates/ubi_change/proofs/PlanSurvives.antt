@@ -1,17 +1,17 @@
 -- The law: the plan of an attached image, against which no cause stands, survives every cut.
-use Rattle.std.proofs.Common.{◌≡◌, ℕ, ◌^◌, ◌<◌, sym, ◌∙◌, subst}
+use Rattle.std.proofs.Common.{◌≡◌, ℕ, subst}
 use Rattle.std.specs.Prelude.{IfSome, None, Option, Some}
 use Rattle.std.specs.FinMap.{get}
 use Rattle.ubi_media.specs.Geometry.{Sizes}
 use Rattle.ubi_media.specs.Record.{rec_fault}
 use Rattle.ubi_media.proofs.Padding.{half_pad, reserved_within}
-use Rattle.ubi_scan.specs.Image.{Image, eraseblocks}
+use Rattle.ubi_scan.specs.Image.{Image}
 use Rattle.ubi_volume.specs.Attached.{IsAttached, Whole}
 use Rattle.ubi_volume.specs.Meant.{IsVolume}
 use Rattle.ubi_volume.specs.declared.content.Volume.{Volume}
 use Rattle.ubi_change.specs.Laws.{PlanSurvives}
 use Rattle.ubi_change.proofs.Attached.{survives_all}
-use Rattle.ubi_change.proofs.Mean.{mean_narrow}
+use Rattle.ubi_change.proofs.AttachedImage.{mean_few, seq_narrow}
 
 module _ (image : Image) (a : Whole) (att : IsAttached image a) where
   -- the record of a volume that is meant breaks no rule
@@ -21,15 +21,6 @@ module _ (image : Image) (a : Whole) (att : IsAttached image a) where
       let is : IsVolume a.meaning.sizes id v = subst (λ (o : Option Volume). IfSome o (IsVolume a.meaning.sizes id))
       there (means.meaning.each id) in
       subst (λ (z : Sizes). rec_fault z v.entry ≡ None) means.sizes is.sound
-
-  pub mean_few : a.scan.mean_ec < 2 ^ 31
-  mean_few = subst (λ (n : ℕ). n < 2 ^ 31) (sym att.scan.mean_ec) (mean_narrow image.sizes (eraseblocks image))
-
-  -- the image sequence number is the meaning's
-  pub seq_narrow : a.scan.image_seq < 2 ^ 32
-  seq_narrow =
-      let means = att.accepted.accepted.means in
-      subst (λ (n : ℕ). n < 2 ^ 32) (means.image_seq ∙ sym att.scan.image_seq) means.meaning.image_seq
 
 pub plan_survives : PlanSurvives
 plan_survives image a id lnum new v g att there allowed =

@@ -1,5 +1,5 @@
 -- An eraseblock that is taken is made ready.
-use Rattle.std.proofs.Common.{◌≡◌, ◌≢◌, ℕ, zero, suc, ◌-◌, ◌<◌, ◌≤◌, true, List, [], ◌++◌, length, set, take, drop, refl, ap, sym, ◌∙◌, arith, length-drop}
+use Rattle.std.proofs.Common.{◌≡◌, ℕ, zero, suc, ◌-◌, ◌<◌, ◌≤◌, true, List, [], ◌++◌, length, set, take, drop, refl, ap, sym, ◌∙◌, arith, length-drop}
 use Rattle.std.specs.Prelude.{IsSome}
 use Rattle.std.proofs.lemmas.List.{length-take-le, set-get_or, take-append-drop}
 use Rattle.ubi_media.specs.Ec.{ec_bytes}
@@ -17,7 +17,7 @@ use Rattle.ubi_volume.proofs.Blanks.{blank_text}
 use Rattle.ubi_change.specs.Plan.{renew}
 use Rattle.ubi_scan.proofs.Seq.{Agrees}
 use Rattle.ubi_scan.proofs.Filled.{filled-by}
-use Rattle.ubi_change.proofs.Mapped.{IsPrepared}
+use Rattle.ubi_change.proofs.CopyReplaced.{IsPrepared}
 use Rattle.ubi_change.proofs.Renewed.{IsCounter, counter_back, counter_size, renew_accepted, renewed}
 use Rattle.ubi_change.proofs.Runs.{AtEachCut}
 use Rattle.ubi_change.proofs.Seq.{NamedBeside}

@@ -157,27 +157,27 @@ module _ (s : Sizes) (g : IsGeometry s) where
     header_fails p plain = both_false (s.vid_offset / s.page == s.vid_offset / s.page)
         (is_copy (header_in s (vid_page s ec h))) (ap is_copy header-in ∙ plain)
 
-  -- so in a plan
+  -- so in steps that begin with a copy
   module _ (ec : List ℕ) (size : length ec ≡ 64) (h : VidHeader) (fits : VidFits h) (sound : vid_fault s h ≡ None)
       (copied : h.copy_flag ≡ true) (p : ℕ) (new : List ℕ)
-      (prep rel : List Step) (a : AllFail (programs_copy s) prep) (b : AllFail (programs_copy s) rel) where
+      (prep rest : List Step) (a : AllFail (programs_copy s) prep) where
     abbrev steps : List Step
-    steps = (prep ++ program_header s p ec h ∷ []) ++ program_text s p new ++ rel
+    steps = (prep ++ program_header s p ec h ∷ []) ++ program_text s p new ++ rest
 
-    steps-are : steps ≡ prep ++ program_header s p ec h ∷ (program_text s p new ++ rel)
-    steps-are = append_assoc (prep ++ program_header s p ec h ∷ []) (program_text s p new) rel
-        ∙ append_assoc prep (program_header s p ec h ∷ []) (program_text s p new ++ rel)
+    steps-are : steps ≡ prep ++ program_header s p ec h ∷ (program_text s p new ++ rest)
+    steps-are = append_assoc (prep ++ program_header s p ec h ∷ []) (program_text s p new) rest
+        ∙ append_assoc prep (program_header s p ec h ∷ []) (program_text s p new ++ rest)
 
     pub turn-is : turn s steps new ≡ length prep + suc (whole_place s new)
     turn-is =
         ap (λ xs. turn s xs new) steps-are
         ∙ ap (λ k. k + 1 + whole_place s new)
-        (position-one (programs_copy s) prep (program_text s p new ++ rel) (program_header s p ec h) a
+        (position-one (programs_copy s) prep (program_text s p new ++ rest) (program_header s p ec h) a
         (header_passes ec size h fits sound p copied)) ∙ omega arith
 
-    pub one-copy : count_by (programs_copy s) steps ≡ 1
-    one-copy =
+    pub one-copy : AllFail (programs_copy s) rest → count_by (programs_copy s) steps ≡ 1
+    one-copy b =
         ap (count_by (programs_copy s)) steps-are
-        ∙ count-one (programs_copy s) prep (program_text s p new ++ rel) (program_header s p ec h) a
+        ∙ count-one (programs_copy s) prep (program_text s p new ++ rest) (program_header s p ec h) a
         (header_passes ec size h fits sound p copied)
-        (fail-append (programs_copy s) (program_text s p new) rel (text_fails p new) b)
+        (fail-append (programs_copy s) (program_text s p new) rest (text_fails p new) b)

@@ -3,12 +3,10 @@ use Rattle.std.proofs.Common.{◌≡◌, ◌≢◌, ℕ, zero, suc, ◌+◌, ◌
 use Rattle.std.specs.Prelude.{None, Option, Some, unwrap_or}
 use Rattle.std.specs.FinMap as finite
 use Rattle.std.specs.FinMap.{FinMap}
-use Rattle.std.specs.Option.{option_map_or}
 use Rattle.std.specs.Ordering.{nat_cmp}
 use Rattle.std.proofs.lemmas.Bool.Decides.{nat_tests}
 use Rattle.std.proofs.lemmas.List.{get_or-set_same, set-set, take-replicate}
 use Rattle.std.proofs.lemmas.List.Sums.{fold-append}
-use Rattle.std.proofs.lemmas.Bool.{cases_eq}
 use Rattle.ubi_media.specs.Fields.{blank, filled}
 use Rattle.ubi_media.specs.Geometry.{Sizes, IsGeometry, leb_size}
 use Rattle.ubi_media.specs.Record.{data_pad, usable}
@@ -17,10 +15,8 @@ use Rattle.ubi_media.specs.Widths.{VidFits}
 use Rattle.ubi_media.specs.declared.ec.EcHeader.{EcHeader}
 use Rattle.ubi_media.specs.declared.record.VolumeRecord.{VolumeRecord}
 use Rattle.ubi_media.specs.declared.vid.VidHeader.{VidHeader}
-use Rattle.ubi_scan.specs.Faults.{NoFault}
-use Rattle.ubi_scan.specs.Image.{block, leb}
-use Rattle.ubi_scan.specs.Members.{IsMember, Leb, NoMember, Wins, has_members, sqnum_at, sqnum_in}
-use Rattle.ubi_scan.proofs.Decided.{Wins-unique}
+use Rattle.ubi_scan.specs.Image.{leb}
+use Rattle.ubi_scan.specs.Members.{IsMember, Leb, NoMember, Wins, has_members, sqnum_at}
 use Rattle.ubi_scan.proofs.Seq.{Agrees}
 use Rattle.ubi_table.specs.Records.{Records}
 use Rattle.ubi_table.specs.Table.{AllBlank}
@@ -34,14 +30,14 @@ use Rattle.ubi_change.specs.Plan.{blank_header, copy_header, program_header, pro
 use Rattle.ubi_change.specs.Steps.{block_after, step_done}
 use Rattle.ubi_change.specs.Weak.{whole_place}
 use Rattle.ubi_change.specs.declared.step.Step.{Step}
+use Rattle.ubi_change.proofs.CopyReplaced.{IsPrepared, IsRelease}
 use Rattle.ubi_change.proofs.Changed.{unchanged}
-use Rattle.ubi_change.proofs.Kept.{kept_back}
 use Rattle.ubi_scan.proofs.Parts.{laid}
 use Rattle.ubi_change.proofs.Laid.{header_written}
-use Rattle.ubi_change.proofs.Mapped.{IsNew, IsPrepared, IsRelease, mapped, used_by_volume}
-use Rattle.ubi_change.proofs.Mounted.{IsChanged, IsMount, leb_same, mount_named, mounted-records, mounted_clean, mounted_good, mounted_wins, recorded_by}
-use Rattle.ubi_change.proofs.Replaced as replaced
-use Rattle.ubi_change.proofs.Replaced.{block_same, keeps_others, member_was}
+use Rattle.ubi_change.proofs.Mapped.{IsNew, mapped, used_by_volume}
+use Rattle.ubi_change.proofs.Emptied.{AreBelow}
+use Rattle.ubi_change.proofs.Newest.{newest_below, newest_wins, others_lose}
+use Rattle.ubi_change.proofs.Mounted.{IsChanged, IsMount, mounted-records, mounted_good, recorded_by}
 use Rattle.ubi_change.proofs.Runs.{AtEachCut, TurnsAt, after-all, cuts-append, done, turns-behind}
 use Rattle.ubi_change.proofs.Seq.{NamedBeside}
 use Rattle.ubi_change.proofs.Vacated.{LosesAll, agrees_set, beside_set}
@@ -160,10 +156,7 @@ module _ (s : Sizes) (g : IsGeometry s) (bs : List (List ℕ)) (m : Meant) (a : 
       (λ z. (let l = slot in omega arith)) r (blank (usable m.sizes r)) change_is reads like
 
   pub now_wins : Wins s then_blocks of b
-  now_wins = mounted_wins s bs b mounted inside of header seq agrees mount refl
-
-  pub now_clean : NoFault s then_blocks
-  now_clean = mounted_clean s bs b mounted inside of header seq agrees mount a.clean
+  now_wins = newest_wins s bs b mounted inside of header seq agrees mount a.clean refl
 
   pub now_agrees : Agrees s seq then_blocks
   now_agrees = agrees_set s bs b mounted inside seq agrees beside mount.image
@@ -178,29 +171,11 @@ module _ (s : Sizes) (g : IsGeometry s) (bs : List (List ℕ)) (m : Meant) (a : 
 
   -- another eraseblock that wins nothing goes on so
   pub other_loses : (p : ℕ) → p ≢ b → LosesAll s bs a.records p → LosesAll s then_blocks a.records p
-  other_loses p apart lost other counts w = elim (leb_same other of) [
-    | inl z ↦ apart (Wins-unique s then_blocks of p b now_clean (subst (λ (o : Leb). Wins s then_blocks o p) z w)
-        now_wins)
-    | inr z ↦ lost other counts
-        ((kept_back s bs then_blocks now_clean other
-        (keeps_others s bs b mounted inside of other (mount_named s bs b mounted inside of header seq agrees mount) z
-        (loses other counts))).winner p w).0
-  ]
+  other_loses = others_lose s bs b mounted inside of header seq agrees mount a.clean refl a.records loses
 
   -- the next sequence number is above all
-  pub now_above : (other : Leb) (q : ℕ) → IsMember s then_blocks other q → sqnum_at s then_blocks q < sqnum + 1
-  now_above other q k = elim (cases_eq q b) [
-    | inl z ↦
-        let here : sqnum_at s then_blocks q ≡ sqnum =
-        ap (λ (j : ℕ). sqnum_in s (block then_blocks j)) z ∙ ap (sqnum_in s) (block_same s bs b mounted inside)
-        ∙ ap (λ (o : Option VidHeader). option_map_or (λ (h : VidHeader). h.sqnum) o 0) mount.is in
-        omega arith
-    | inr z ↦
-        let before = above other q (member_was s bs b mounted inside other q z k) in
-        let there : sqnum_at s then_blocks q ≡ sqnum_at s bs q =
-        ap (sqnum_in s) (replaced.block_other s bs b mounted inside q z) in
-        omega arith
-  ]
+  pub now_above : AreBelow s then_blocks (sqnum + 1)
+  now_above = newest_below s bs b mounted inside of header seq agrees mount a.clean
 
   -- cut after any step, the meaning stays
   abbrev pub mount_steps : List Step

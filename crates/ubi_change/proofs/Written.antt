@@ -75,6 +75,9 @@ module _ (s : Sizes) (g : IsGeometry s) where
     foreign-bare : foreign s (filled s.peb_size bytes) ≡ None
     foreign-bare = ap₂ foreign_if ec-bare vid-bare
 
+    pub bare-seq : seq_of s (filled s.peb_size bytes) ≡ e.image_seq
+    bare-seq = ap seq_if ec-bare
+
     pub bare-vacant : (seq : ℕ) → (e.image_seq ≢ 0 → e.image_seq ≡ seq) → IsVacant s seq (filled s.peb_size bytes)
     bare-vacant seq image = record {
       sound = record {

@@ -1,4 +1,4 @@
-use Rattle.std.proofs.Common.{◌≡◌, ◌^◌, ◌<◌, ℕ, ap, sym, subst, ◌∙◌}
+use Rattle.std.proofs.Common.{◌≡◌, ℕ, ap, sym, subst, ◌∙◌}
 use Rattle.std.specs.Prelude.{None, Some}
 use Rattle.std.proofs.lemmas.Result.{err_from_is_err_and}
 use Rattle.std.specs.FinMap.{get}
@@ -22,7 +22,8 @@ use Rattle.ubi_change.specs.Order.{RisesBetweenErases}
 use Rattle.ubi_change.proofs.PlanFrugal.{plan_frugal}
 use Rattle.ubi_change.proofs.PlanRises.{plan_rises}
 use Rattle.ubi_change.proofs.PlanMade.{allowed, are_within, image_stands, no_volume, own_stands, steps_are}
-use Rattle.ubi_change.proofs.PlanSurvives.{mean_few, plan_survives, seq_narrow, sound}
+use Rattle.ubi_change.proofs.AttachedImage.{mean_few, seq_narrow}
+use Rattle.ubi_change.proofs.PlanSurvives.{plan_survives, sound}
 use Rattle.ubi_change.proofs.Surveys.{has_none, has_volume, whole}
 use Rattle.ubi_change.proofs.planning.plan_change.Goals as goal
 

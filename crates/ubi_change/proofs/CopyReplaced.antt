@@ -1,0 +1,129 @@
+-- The cuts of an atomic copy of any LEB that has a winner and counts: before the turn the old is meant, and from it on
+-- there holds what holds of a good copy and of the old winner emptied.
+use Rattle.std.proofs.Common.{◌≡◌, ◌≢◌, ℕ, zero, suc, ◌+◌, ◌-◌, ◌<◌, ◌≤◌, ◌⊎◌, inl, inr, true, false, List, [], ◌∷◌, ◌++◌, length, set, refl, sym, ◌∙◌, subst, arith, length-set}
+use Rattle.ubi_media.specs.Ec.{ec_bytes, ec_reading}
+use Rattle.ubi_media.specs.Fields.{blank, filled}
+use Rattle.ubi_media.specs.Geometry.{Sizes, IsGeometry}
+use Rattle.ubi_media.specs.declared.ec.EcHeader.{EcHeader}
+use Rattle.ubi_media.specs.declared.ec.EcRead.TheVariants as ec_read
+use Rattle.ubi_media.specs.declared.vid.VidHeader.{VidHeader}
+use Rattle.ubi_scan.specs.Image.{block, leb}
+use Rattle.ubi_scan.specs.Members.{Leb, Wins, is_good}
+use Rattle.ubi_scan.specs.Numbers.{seq_of}
+use Rattle.ubi_table.specs.Table.{AllBlank}
+use Rattle.ubi_volume.specs.Accepts.{AcceptsBlocks}
+use Rattle.ubi_volume.specs.Attached.{IsOutside}
+use Rattle.ubi_volume.specs.Meant.{Meant}
+use Rattle.ubi_change.specs.Plan.{program_header, program_text, renew}
+use Rattle.ubi_change.specs.Steps.{after}
+use Rattle.ubi_change.specs.Weak.{pages_of, whole_place}
+use Rattle.ubi_change.specs.declared.step.Step.{Step}
+use Rattle.ubi_change.proofs.Copied as copy
+use Rattle.ubi_change.proofs.Copied.{IsCopy}
+use Rattle.ubi_change.proofs.Mounted.{IsMount, mounted_bad}
+use Rattle.ubi_change.proofs.Renewed.{IsCounter, counter_back, counter_size, renew_cuts, renewed}
+use Rattle.ubi_change.proofs.Runs.{AtEachCut, TurnsAt, done}
+use Rattle.ubi_scan.proofs.Seq.{Agrees}
+use Rattle.ubi_change.proofs.Seq.{NamedBeside}
+use Rattle.ubi_change.proofs.Torn.{told-from, whole_place-is}
+use Rattle.ubi_change.proofs.Vacated.{IsVacant, LosesAll, beside_set}
+use Rattle.ubi_change.proofs.Written.{bare-seq, bare-vacant, blank-vacant}
+
+-- steps make an eraseblock ready: the meaning stays, and at the end it has an erase-counter header alone
+pub record IsPrepared (s : Sizes) (bs : List (List ℕ)) (m : Meant) (b seq : ℕ) (prep : List Step) (bytes : List ℕ)
+    (e : EcHeader) : Type 0 where
+  pub cuts : AtEachCut s (λ x. AcceptsBlocks s x m) bs prep
+  pub ready : done s bs prep ≡ set bs b (filled s.peb_size bytes)
+  pub size : length bytes ≡ 64
+  pub reads : ec_reading s bytes ≡ ec_read.Valid e
+  pub image : e.image_seq ≢ 0 → e.image_seq ≡ seq
+  pub keeps : seq_of s (block bs b) ≡ seq → e.image_seq ≡ seq
+
+-- the old eraseblock is left, or another names the image, and it is erased and given a header
+abbrev pub IsRelease : Sizes → List (List ℕ) → ℕ → ℕ → List Step → Type 0
+IsRelease s bs old seq rel = (rel ≡ [])
+    ⊎ ((e : EcHeader) × IsCounter e × (e.image_seq ≡ seq) × NamedBeside s seq bs old
+    × (rel ≡ renew s old e))
+
+-- bytes of an eraseblock that is a good copy of this text
+pub record IsGoodCopy (s : Sizes) (seq : ℕ) (bs : List (List ℕ)) (of : Leb) (h : VidHeader) (new x : List ℕ)
+    : Type 0 where
+  pub mount : IsMount s seq bs of h x
+  pub good : is_good s x h ≡ true
+  pub text : leb s x ≡ new ++ blank (s.peb_size - (s.data_offset + length new))
+
+module _ (s : Sizes) (g : IsGeometry s) (bs : List (List ℕ)) (m : Meant) (a : AcceptsBlocks s bs m)
+    (used : AllBlank s bs → ⊥) (of : Leb) (counts : IsOutside a.records of → ⊥) (b : ℕ) (inside : b < length bs)
+    (seq : ℕ) (agrees : Agrees s seq bs) (beside : NamedBeside s seq bs b) (loses : LosesAll s bs a.records b)
+    (prep : List Step) (bytes : List ℕ) (e : EcHeader) (prepared : IsPrepared s bs m b seq prep bytes e)
+    (h : VidHeader) (new : List ℕ) (c : IsCopy s bs seq of bytes e h new) (old : ℕ) (wins : Wins s bs of old)
+    (rel : List Step) (release : IsRelease s bs old seq rel) (Q : List (List ℕ) → Type 0)
+    (copied : (x : List ℕ) → IsGoodCopy s seq bs of h new x → Q (set bs b x))
+    (emptied : (x y : List ℕ) → IsGoodCopy s seq bs of h new x → NamedBeside s seq (set bs b x) old → IsVacant s seq y
+    → Q (set (set bs b x) old y)) where
+  abbrev P : List (List ℕ) → Type 0
+  P x = AcceptsBlocks s x m
+
+  bad : (x : List ℕ) → IsMount s seq bs of h x → is_good s x h ≡ false → P (set bs b x)
+  bad x mount k = mounted_bad s bs b x inside of h seq agrees mount m a used beside loses counts old wins k
+
+  abbrev full : List ℕ
+  full = copy.part_at s g bs b inside seq of bytes e h new c P Q (pages_of s new)
+
+  place : whole_place s new ≤ pages_of s new
+  place = (whole_place-is s new c.paged).most
+
+  full_copy : IsGoodCopy s seq bs of h new full
+  full_copy = record {
+    mount = copy.mount_at s g bs b inside seq of bytes e h new c P Q (pages_of s new) (omega arith);
+    good = copy.good_at s g bs b inside seq of bytes e h new c P Q (pages_of s new) (omega arith)
+        ∙ told-from s new c.paged (pages_of s new) place (omega arith);
+    text = copy.whole_at s g bs b inside seq of bytes e h new c P Q (pages_of s new) place (omega arith);
+  }
+
+  old_inside : old < length (set bs b full)
+  old_inside = let l = wins.member.inside in omega (arith, length-set bs b full)
+
+  -- what is named beside an eraseblock still is, once the copy is written
+  full_beside : (p : ℕ) → NamedBeside s seq bs p → NamedBeside s seq (set bs b full) p
+  full_beside p there = beside_set s bs b full inside seq p there
+      (λ k. copy.seq_at s g bs b inside seq of bytes e h new c P Q (pages_of s new) (omega arith) ∙ prepared.keeps k)
+
+  -- and once the old winner is given up, whose new header names the image
+  behind_beside : IsRelease s bs old seq rel → (p : ℕ) → NamedBeside s seq (set bs b full) p
+      → NamedBeside s seq (done s (set bs b full) rel) p
+  behind_beside (inl z) p there = subst (λ (xs : List Step). NamedBeside s seq (done s (set bs b full) xs) p) (sym z)
+      there
+  behind_beside (inr z) p there =
+      subst (λ (xs : List Step). NamedBeside s seq (done s (set bs b full) xs) p) (sym z.4)
+      (subst (λ (y : List (List ℕ)). NamedBeside s seq y p) (sym (renewed s g z.0 z.1 (set bs b full) old old_inside))
+      (beside_set s (set bs b full) old (filled s.peb_size (ec_bytes s z.0)) old_inside seq p there
+      (λ _. bare-seq s g (ec_bytes s z.0) z.0 (counter_size s g z.0 z.1) (counter_back s g z.0 z.1) ∙ z.2)))
+
+  pub ends_beside : (p : ℕ) → NamedBeside s seq bs p
+      → NamedBeside s seq (done s bs ((prep ++ program_header s b bytes h ∷ []) ++ program_text s b new ++ rel)) p
+  ends_beside p there =
+      subst (λ (y : List (List ℕ)). NamedBeside s seq y p)
+      (sym (copy.atomic_done s g bs b inside seq of bytes e h new c P Q prep rel prepared.ready))
+      (behind_beside release p (full_beside p there))
+
+  late_by : IsRelease s bs old seq rel → AtEachCut s Q (set bs b full) rel
+  late_by (inl z) = subst (AtEachCut s Q (set bs b full)) (sym z) (λ k l. subst Q (sym (none_after k))
+      (copied full full_copy))
+    where
+      none_after : (k : ℕ) → after s (set bs b full) [] k ≡ set bs b full
+      none_after zero = refl
+      none_after (suc k) = refl
+  late_by (inr z) =
+      subst (AtEachCut s Q (set bs b full)) (sym z.4)
+      (renew_cuts s g z.0 z.1 (set bs b full) old old_inside Q (copied full full_copy)
+      (emptied full (blank s.peb_size) full_copy (full_beside old z.3) (blank-vacant s g seq))
+      (emptied full (filled s.peb_size (ec_bytes s z.0)) full_copy (full_beside old z.3)
+      (bare-vacant s g (ec_bytes s z.0) z.0 (counter_size s g z.0 z.1) (counter_back s g z.0 z.1) seq (λ _. z.2))))
+
+  pub replaced : TurnsAt s P Q bs
+      ((prep ++ program_header s b bytes h ∷ []) ++ program_text s b new ++ rel)
+      (length prep + suc (whole_place s new))
+  replaced =
+      copy.atomic_turns s g bs b inside seq of bytes e h new c P Q prep rel prepared.cuts prepared.ready bad
+      (λ x mount good text. copied x (record { mount = mount; good = good; text = text })) (late_by release)
