@@ -8,5 +8,9 @@ pub mod Refused
 pub mod Cuts
 pub mod Frugal
 pub mod Planned
+pub mod Renamed
+pub mod RenamePlan
+pub mod RenameRefused
+pub mod RenamePlanned
 pub mod Laws
 pub mod inner

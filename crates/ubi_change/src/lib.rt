@@ -11,6 +11,7 @@ mod places;
 mod planning;
 mod pushing;
 mod refusal;
+mod rename_refusal;
 mod step;
 mod stepping;
 mod taking;
@@ -19,6 +20,7 @@ mod weakness;
 
 pub use planning::plan_change;
 pub use refusal::ChangeRefusal;
+pub use rename_refusal::RenameRefusal;
 pub use step::Step;
 pub use stepping::{apply, step_fits};
 

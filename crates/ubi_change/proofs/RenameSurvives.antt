@@ -1,0 +1,17 @@
+-- The law: the plan of a rename of an attached image, against which nothing stands, survives every cut, and leaves both
+-- copies good.
+use Rattle.ubi_change.specs.Laws.{RenameSurvives}
+use Rattle.ubi_change.proofs.RenameAttached.{Renaming, leaves_both_good, survives_rename}
+
+pub rename_survives : RenameSurvives
+rename_survives image a id name g att may =
+    let r : Renaming = record {
+      image = image;
+      geometry = g;
+      from = a;
+      attached = att;
+      id = id;
+      name = name;
+      allowed = may;
+    } in
+    (survives_rename r, leaves_both_good r)

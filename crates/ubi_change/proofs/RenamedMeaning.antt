@@ -1,0 +1,199 @@
+-- A meaning with another name in one record is a meaning, and its volumes are the same but for that name.
+use Rattle.std.proofs.Common.{◌≡◌, ◌≢◌, ℕ, ◌==◌, inl, inr, Bool, true, false, cond, List, refl, ap, sym, ◌∙◌, subst, arith}
+use Rattle.std.specs.Prelude.{IfSome, None, Option, Some, option_map}
+use Rattle.std.specs.Cmp.{nat_cmp_total}
+use Rattle.std.specs.FinMap as finite
+use Rattle.std.specs.List.{sum_by}
+use Rattle.std.specs.Option.{option_map_or}
+use Rattle.std.proofs.lemmas.Bool.{cases_eq}
+use Rattle.std.proofs.lemmas.Option.{same_Some}
+use Rattle.ubi_media.specs.Geometry.{Sizes}
+use Rattle.ubi_media.specs.Name.{is_name}
+use Rattle.ubi_media.specs.declared.record.VolumeRecord.{VolumeRecord}
+use Rattle.ubi_scan.proofs.Keys.{apart_test, at_itself, at_other, same_test}
+use Rattle.ubi_scan.proofs.Revalued.{revalued_is, sum_revalued}
+use Rattle.ubi_volume.specs.Meant.{Fits, IsMeaning, IsVolume, KeepsNoBlank, Meant, VolumeMap, records_of}
+use Rattle.ubi_volume.specs.declared.content.Content.{Content}
+use Rattle.ubi_volume.specs.declared.content.Content.TheVariants as content
+use Rattle.ubi_volume.specs.declared.content.Volume.{Volume}
+use Rattle.ubi_volume.proofs.Recorded.{record_of}
+use Rattle.ubi_table.specs.Named.{with_name}
+use Rattle.ubi_table.proofs.NameRules.{sound_named}
+use Rattle.ubi_change.specs.Renamed.{ReadSame, nameless, renamed, volume_named}
+use Rattle.ubi_change.proofs.SameButName.{AreAlike, IsAlike}
+
+-- a meaning is another but for names
+pub record IsRenamed (m n : Meant) : Type 0 where
+  pub sizes : n.sizes ≡ m.sizes
+  pub image_seq : n.image_seq ≡ m.image_seq
+  pub meaning : IsMeaning n
+  pub same : ReadSame m n
+
+pub renamed_self : (m : Meant) → IsMeaning m → IsRenamed m m
+renamed_self m is = record {
+  sizes = refl;
+  image_seq = refl;
+  meaning = is;
+  same = λ id. refl;
+}
+
+-- a volume is missing in both, or is in both with the same content and records that are alike
+abbrev pub AreRenamed : Option Volume → Option Volume → Type 0
+AreRenamed None None = Unit {0}
+AreRenamed (Some v) (Some w) = IsAlike v.entry w.entry × (w.content ≡ v.content)
+AreRenamed _ _ = ⊥
+
+are_renamed : (o p : Option Volume) → option_map nameless p ≡ option_map nameless o → AreRenamed o p
+are_renamed None None e = tt
+are_renamed (Some v) (Some w) e =
+    let k : nameless w ≡ nameless v = same_Some (nameless w) (nameless v) e in (
+      record {
+        reserved = ap (λ (z : Volume). z.entry.reserved) k;
+        alignment = ap (λ (z : Volume). z.entry.alignment) k;
+        kind = ap (λ (z : Volume). z.entry.kind) k;
+        marker = ap (λ (z : Volume). z.entry.marker) k;
+      },
+      ap (λ (z : Volume). z.content) k,
+    )
+are_renamed None (Some w) e = absurd (cc)
+are_renamed (Some v) None e = absurd (cc)
+
+pub renamed_at : (m n : Meant) → IsRenamed m n → (id : ℕ)
+    → AreRenamed (finite.get m.volumes id) (finite.get n.volumes id)
+renamed_at m n r id = are_renamed (finite.get m.volumes id) (finite.get n.volumes id) (r.same id)
+
+entries_alike : (o p : Option Volume) → AreRenamed o p
+    → AreAlike (option_map (λ (v : Volume). v.entry) o) (option_map (λ (v : Volume). v.entry) p)
+entries_alike None None a = tt
+entries_alike (Some v) (Some w) a = a.0
+entries_alike None (Some w) a = absurd a
+entries_alike (Some v) None a = absurd a
+
+-- so are the records
+pub records_alike : (m n : Meant) → IsRenamed m n → (id : ℕ)
+    → AreAlike (finite.get (records_of m).of id) (finite.get (records_of n).of id)
+records_alike m n r id =
+    subst (λ (o : Option VolumeRecord). AreAlike o (finite.get (records_of n).of id)) (sym (record_of m id))
+    (subst (λ (o : Option VolumeRecord). AreAlike (option_map (λ (v : Volume). v.entry) (finite.get m.volumes id)) o)
+    (sym (record_of n id)) (entries_alike (finite.get m.volumes id) (finite.get n.volumes id) (renamed_at m n r id)))
+
+-- what a volume holds doesn't depend on its name
+fits_named : (s : Sizes) (r : VolumeRecord) (name : List ℕ) (c : Content) → Fits s r c → Fits s (with_name r name) c
+fits_named s r name content.Updating h = h
+fits_named s r name content.Damaged h = h
+fits_named s r name (content.Static text) h = h
+fits_named s r name (content.Dynamic lebs) h = h
+
+keeps_named : (s : Sizes) (r : VolumeRecord) (name : List ℕ) (c : Content) → KeepsNoBlank s r c
+    → KeepsNoBlank s (with_name r name) c
+keeps_named s r name content.Updating h = h
+keeps_named s r name content.Damaged h = h
+keeps_named s r name (content.Static text) h = h
+keeps_named s r name (content.Dynamic lebs) h = h
+
+module _ (m : Meant) (is : IsMeaning m) (id : ℕ) (name : List ℕ) (v : Volume) (was : finite.get m.volumes id ≡ Some v)
+    (named : is_name name ≡ true)
+    (free : (slot : ℕ) (w : Volume) → slot ≢ id → finite.get m.volumes slot ≡ Some w → w.entry.name ≡ name → ⊥) where
+  abbrev pub now : Volume
+  now = volume_named v name
+
+  abbrev pub next : Meant
+  next = record m { volumes = finite.insert m.volumes id now }
+
+  pub renamed-is : renamed m id name ≡ next
+  renamed-is =
+      ap
+      (λ (o : Option Volume). option_map_or
+      (λ (v : Volume). record m { volumes = finite.insert m.volumes id (volume_named v name) }) o m) was
+
+  here : finite.get next.volumes id ≡ Some now
+  here = finite.get-insert nat_cmp_total m.volumes id now id
+      ∙ ap (λ b. cond b (Some now) (finite.get m.volumes id)) (same_test id)
+
+  there : (i : ℕ) → i ≢ id → finite.get next.volumes i ≡ finite.get m.volumes i
+  there i e = finite.get-insert nat_cmp_total m.volumes id now i
+      ∙ ap (λ b. cond b (Some now) (finite.get m.volumes i)) (apart_test i id e)
+
+  volume_was : IsVolume m.sizes id v
+  volume_was = subst (λ (o : Option Volume). IfSome o (IsVolume m.sizes id)) was (is.each id)
+
+  volume_now : IsVolume m.sizes id now
+  volume_now = record {
+    slot = volume_was.slot;
+    sound = sound_named m.sizes v.entry name named volume_was.sound;
+    fits = fits_named m.sizes v.entry name v.content volume_was.fits;
+    kept = keeps_named m.sizes v.entry name v.content volume_was.kept;
+  }
+
+  -- the volumes are those of m, of which one is named
+  abbrev volume_at : ℕ → Volume → Volume
+  volume_at i w = cond (i == id) (volume_named w name) w
+
+  others_stay : (i : ℕ) → i ≢ id → (o : Option Volume) → option_map (volume_at i) o ≡ o
+  others_stay i e None = refl
+  others_stay i e (Some w) = ap (λ b. Some (cond b (volume_named w name) w)) (at_other i id e)
+
+  volumes_at : (i : ℕ) → finite.get next.volumes i ≡ option_map (volume_at i) (finite.get m.volumes i)
+  volumes_at i = elim (cases_eq i id) [
+    | inl e ↦ subst (λ (k : ℕ). finite.get next.volumes k ≡ option_map (volume_at k) (finite.get m.volumes k)) (sym e)
+        (here ∙ sym (ap (option_map (volume_at id)) was ∙ ap (λ b. Some (cond b now v)) (at_itself id)))
+    | inr e ↦ there i e ∙ sym (others_stay i e (finite.get m.volumes i))
+  ]
+
+  -- so each reads the same, and as much is reserved
+  read_one : (b : Bool) (w : Volume) → nameless (cond b (volume_named w name) w) ≡ nameless w
+  read_one true w = refl
+  read_one false w = refl
+
+  read_slot : (i : ℕ) (o : Option Volume) → option_map nameless (option_map (volume_at i) o) ≡ option_map nameless o
+  read_slot i None = refl
+  read_slot i (Some w) = ap Some (read_one (i == id) w)
+
+  read_next : ReadSame m next
+  read_next i = ap (option_map nameless) (volumes_at i) ∙ read_slot i (finite.get m.volumes i)
+
+  reserved_one : (b : Bool) (w : Volume) → (cond b (volume_named w name) w).entry.reserved ≡ w.entry.reserved
+  reserved_one true w = refl
+  reserved_one false w = refl
+
+  reserved_same : sum_by (λ (w : Volume). w.entry.reserved) (finite.values next.volumes)
+      ≡ sum_by (λ (w : Volume). w.entry.reserved) (finite.values m.volumes)
+  reserved_same =
+      ap (λ (z : VolumeMap). sum_by (λ (w : Volume). w.entry.reserved) (finite.values z))
+      (sym (revalued_is volume_at m.volumes next.volumes volumes_at))
+      ∙ sum_revalued volume_at m.volumes (λ (w : Volume). w.entry.reserved) (λ (w : Volume). w.entry.reserved)
+      (λ i w. reserved_one (i == id) w)
+
+  named_now : (w : Volume) → finite.get next.volumes id ≡ Some w → w.entry.name ≡ name
+  named_now w e = ap (λ (v : Volume). v.entry.name) (same_Some w now (sym e ∙ here))
+
+  pub meaning_next : IsMeaning next
+  meaning_next = record {
+    image_seq = is.image_seq;
+    each = λ i. elim (cases_eq i id) [
+      | inl e ↦ subst (λ (k : ℕ). IfSome (finite.get next.volumes k) (IsVolume m.sizes k)) (sym e)
+          (subst (λ (o : Option Volume). IfSome o (IsVolume m.sizes id)) (sym here) volume_now)
+      | inr e ↦ subst (λ (o : Option Volume). IfSome o (IsVolume m.sizes i)) (sym (there i e)) (is.each i)
+    ];
+    names = λ i j v w e f same. elim (cases_eq i id) [
+      | inl a ↦ elim (cases_eq j id) [
+        | inl b ↦ a ∙ sym b
+        | inr b ↦ absurd (free j w b (sym (there j b) ∙ f)
+            (sym same ∙ named_now v (ap (λ (k : ℕ). finite.get next.volumes k) (sym a) ∙ e)))
+      ]
+      | inr a ↦ elim (cases_eq j id) [
+        | inl b ↦ absurd (free i v a (sym (there i a) ∙ e)
+            (same ∙ named_now w (ap (λ (k : ℕ). finite.get next.volumes k) (sym b) ∙ f)))
+        | inr b ↦ is.names i j v w (sym (there i a) ∙ e) (sym (there j b) ∙ f) same
+      ]
+    ];
+    space = (let e = reserved_same in let l = is.space in omega arith);
+  }
+
+  pub renamed-next : IsRenamed m next
+  renamed-next = record {
+    sizes = refl;
+    image_seq = refl;
+    meaning = meaning_next;
+    same = read_next;
+  }

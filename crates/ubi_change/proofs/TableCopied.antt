@@ -1,0 +1,64 @@
+-- A good copy of the table stands on an eraseblock that won nothing: it wins, and each other LEB that counts keeps its
+-- winner.
+use Rattle.std.proofs.Common.{◌≡◌, ◌≢◌, ℕ, ◌<◌, List, length, set, ap, ◌∙◌, arith}
+use Rattle.std.specs.Prelude.{Some}
+use Rattle.std.specs.FinMap as finite
+use Rattle.ubi_media.specs.Geometry.{IsGeometry, Sizes}
+use Rattle.ubi_media.specs.declared.record.VolumeRecord.{VolumeRecord}
+use Rattle.ubi_media.specs.declared.vid.VidHeader.{VidHeader}
+use Rattle.ubi_scan.specs.Faults.{NoFault}
+use Rattle.ubi_scan.specs.Image.{block, leb}
+use Rattle.ubi_scan.specs.Members.{Leb, Wins, layout}
+use Rattle.ubi_scan.proofs.Seq.{Agrees}
+use Rattle.ubi_table.specs.Records.{AreRecords, Records}
+use Rattle.ubi_table.specs.Table.{copy_of}
+use Rattle.ubi_table.specs.declared.copy.CopyRead.TheVariants as copy
+use Rattle.ubi_volume.specs.Accepts.{AcceptsBlocks}
+use Rattle.ubi_volume.specs.Attached.{IsOutside}
+use Rattle.ubi_volume.specs.Meant.{Meant, records_of}
+use Rattle.ubi_volume.proofs.MeantRecords.{meant_by, volume_is}
+use Rattle.ubi_change.specs.RenamePlan.{table_pages}
+use Rattle.ubi_change.proofs.CopyReplaced.{IsGoodCopy}
+use Rattle.ubi_change.proofs.Kept.{KeepsLeb, KeepsVolumes}
+use Rattle.ubi_change.proofs.Newest.{newest_clean, newest_wins, others_keep}
+use Rattle.ubi_change.proofs.Replaced.{block_same}
+use Rattle.ubi_change.proofs.TablePages.{pages_read}
+use Rattle.ubi_change.proofs.Unused.{layout_counts, within_counts}
+use Rattle.ubi_change.proofs.Vacated.{LosesAll}
+
+module _ (s : Sizes) (g : IsGeometry s) (bs : List (List ℕ)) (m : Meant) (a : AcceptsBlocks s bs m) (b : ℕ)
+    (inside : b < length bs) (seq : ℕ) (agrees : Agrees s seq bs) (loses : LosesAll s bs (records_of m) b)
+    (c : ℕ) (h : VidHeader) (t : Records) (sizes : t.sizes ≡ s) (are : AreRecords t)
+    (x : List ℕ) (k : IsGoodCopy s seq bs (layout, c) h (table_pages s t) x) where
+  abbrev pub cs : List (List ℕ)
+  cs = set bs b x
+
+  pub copied_clean : NoFault s cs
+  copied_clean = newest_clean s bs b x inside (layout, c) h seq agrees k.mount a.clean
+
+  pub copied_wins : Wins s cs (layout, c) b
+  copied_wins = newest_wins s bs b x inside (layout, c) h seq agrees k.mount a.clean k.good
+
+  -- it reads the records that its pages are of
+  pub copied_reads : copy_of s (leb s (block cs b)) ≡ copy.Good t
+  copied_reads = ap (λ y. copy_of s (leb s y)) (block_same s bs b x inside) ∙ pages_read s g t sizes are x _ k.text
+
+  keeps_other : (of : Leb) → ◌≢◌ {A = Leb} of (layout, c) → (IsOutside (records_of m) of → ⊥) → KeepsLeb s bs cs of
+  keeps_other of other counts =
+      others_keep s bs b x inside (layout, c) h seq agrees k.mount a.clean of other (loses of counts)
+
+  -- the other copy stays
+  pub copied_keeps : (d : ℕ) → d ≢ c → KeepsLeb s bs cs (layout, d)
+  copied_keeps d apart = keeps_other (layout, d) (λ z. apart (ap (λ (y : Leb). y.1) z)) (layout_counts (records_of m) d)
+
+  user : (vol : ℕ) (q : VolumeRecord) → finite.get (records_of m).of vol ≡ Some q → vol ≢ layout
+  user vol q recorded z =
+      let v = meant_by m vol q recorded in
+      let l = (volume_is m a.means.meaning vol v.0 v.1).slot in
+      omega arith
+
+  -- and so do all volumes
+  pub copied_volumes : KeepsVolumes s bs cs (records_of m)
+  copied_volumes vol q recorded lnum within =
+      keeps_other (vol, lnum) (λ z. user vol q recorded (ap (λ (y : Leb). y.0) z))
+      (within_counts (records_of m) vol q lnum recorded within)

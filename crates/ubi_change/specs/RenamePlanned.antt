@@ -1,0 +1,78 @@
+-- What the plan of a rename is, what holds of it at every cut and at its end, and why there is none.
+use Rattle.std.specs.Prelude.{◌≡◌, ℕ, ◌<◌, ◌≤◌, false, nat_lt, if◌then◌else◌, List, ◌∷◌, length, take, count_by}
+use Rattle.ubi_media.specs.Geometry.{Sizes}
+use Rattle.ubi_media.specs.declared.refusal.AttachError.{AttachError}
+use Rattle.ubi_media.specs.declared.refusal.AttachError.TheVariants as attach
+use Rattle.ubi_scan.specs.Image.{Image, eraseblocks, in_image}
+use Rattle.ubi_table.specs.Table.{CopyIs}
+use Rattle.ubi_table.specs.declared.copy.CopyRead.TheVariants as copy
+use Rattle.ubi_volume.specs.Accepts.{Accepts, AcceptsBlocks, Refuses}
+use Rattle.ubi_volume.specs.Attached.{IsAttached, Whole}
+use Rattle.ubi_volume.specs.Meant.{Meant, records_of}
+use Rattle.ubi_change.specs.Cuts.{programs_copy, turn}
+use Rattle.ubi_change.specs.Frugal.{CountsErases, TouchesOnly}
+use Rattle.ubi_change.specs.Order.{Erases}
+use Rattle.ubi_change.specs.Renamed.{ReadSame, renamed}
+use Rattle.ubi_change.specs.RenamePlan.{holder, rename_plan, renamed_pages}
+use Rattle.ubi_change.specs.RenameRefused.{BothGood, IsFirstCause, MayBeNamed}
+use Rattle.ubi_change.specs.Steps.{after}
+use Rattle.ubi_change.specs.Takeable.{ec_at, stays, takeable}
+use Rattle.ubi_change.specs.declared.rename_refusal.RenameRefusal.{RenameRefusal}
+use Rattle.ubi_change.specs.declared.rename_refusal.RenameRefusal.TheVariants as refusal
+use Rattle.ubi_change.specs.declared.step.Step.{Step}
+
+-- after any number of steps the eraseblocks are accepted: before the turn, which comes once the first copy is whole, with
+-- the meaning m, and from it on with the renamed one; just two steps program the header of a copy
+pub record SurvivesRename (s : Sizes) (bs : List (List ℕ)) (m : Meant) (id : ℕ) (name : List ℕ) (steps : List Step) : Type 0 where
+  pub two_copies : count_by (programs_copy s) steps ≡ 2
+  pub comes : turn s steps (renamed_pages s m id name) ≤ length steps
+  pub each : (k : ℕ) → k ≤ length steps
+      → AcceptsBlocks s (after s bs steps k) (if nat_lt k (turn s steps (renamed_pages s m id name)) then m else renamed m id name)
+
+-- at the end both copies are good, with the table of the renamed meaning
+abbrev pub LeavesBothGood : Sizes → List (List ℕ) → Meant → ℕ → List ℕ → List Step → Type 0
+LeavesBothGood s bs m id name steps = BothGood s (after s bs steps (length steps)) (records_of (renamed m id name))
+
+-- the steps touch just what they need, erase what holds a copy where the new one is good, unless it stays, and count each
+-- erase
+pub record IsFrugalRename (s : Sizes) (bs : List (List ℕ)) (a : Whole) (id : ℕ) (name : List ℕ) (steps : List Step) : Type 0 where
+  pub touches : TouchesOnly (holder s bs a 0 ∷ holder s bs a 1 ∷ take 2 (takeable s bs a.states)) steps
+  pub gives_up : (c : ℕ) → c < 2 → stays s bs (holder s bs a c) (ec_at s bs (holder s bs a c)) ≡ false
+      → (k : ℕ) × Erases steps k (holder s bs a c)
+      × CopyIs s (after s bs steps k) c (copy.Good (records_of (renamed a.meaning id name)))
+  pub counts : CountsErases s bs a steps
+
+-- nothing stands against the rename, and the steps are those of its plan
+pub record IsRename (image : Image) (id : ℕ) (name : List ℕ) (steps : List Step) : Type 0 where
+  pub from : Whole
+  pub attached : IsAttached image from
+  pub allowed : in_image MayBeNamed image from id name
+  pub plan : steps ≡ in_image rename_plan image from id name
+
+-- the image is accepted, and cut after any of the steps it means the old or the renamed
+abbrev pub SurvivesRenameOf : Image → ℕ → List ℕ → List Step → Type 0
+SurvivesRenameOf image id name steps = (m : Meant) × Accepts image m × in_image SurvivesRename image m id name steps
+
+-- the image is accepted, and cut after any of the steps each volume reads as before
+abbrev pub KeepsReading : Image → List Step → Type 0
+KeepsReading image steps = (m : Meant) × Accepts image m × ((k : ℕ) → k ≤ length steps
+    → (n : Meant) × AcceptsBlocks image.sizes (after image.sizes (eraseblocks image) steps k) n × ReadSame m n)
+
+-- the image is accepted, and at the end both copies have the table of what it means then
+abbrev pub LeavesBothGoodOf : Image → ℕ → List ℕ → List Step → Type 0
+LeavesBothGoodOf image id name steps = (m : Meant) × Accepts image m × in_image LeavesBothGood image m id name steps
+
+-- the steps touch just what they need, erase what held the copies, and count each erase
+abbrev pub IsFrugalRenameOf : Image → ℕ → List ℕ → List Step → Type 0
+IsFrugalRenameOf image id name steps = (a : Whole) × IsAttached image a × in_image IsFrugalRename image a id name steps
+
+-- the cause that an attach gives
+abbrev pub from_attach : AttachError → RenameRefusal
+from_attach (attach.Refused c) = refusal.Attach c
+from_attach attach.Memory = refusal.Memory
+
+-- why a rename isn't planned
+abbrev pub IsRenameRefusal : Image → ℕ → List ℕ → RenameRefusal → Type 0
+IsRenameRefusal image id name refusal.Memory = Unit {0}
+IsRenameRefusal image id name (refusal.Attach c) = Refuses image c
+IsRenameRefusal image id name c = (a : Whole) × IsAttached image a × in_image IsFirstCause image a id name c
