@@ -69,7 +69,7 @@ none_from s q p n (x ∷ xs) on apart =
     let same : more p n x ≡ n = ap (λ b. n + cond b 1 0) (erases_other q p x on.0 apart) ∙ omega arith in
     ap (λ k. fold (more p) k xs) same ∙ none_from s q p n xs on.1 apart
 
-erases_none : (s : Sizes) (q p : ℕ) (xs : List Step) → AllOn s q xs → p ≢ q → count_by (erases p) xs ≡ 0
+pub erases_none : (s : Sizes) (q p : ℕ) (xs : List Step) → AllOn s q xs → p ≢ q → count_by (erases p) xs ≡ 0
 erases_none s q p xs on apart = none_from s q p 0 xs on apart
 
 -- nor do programs of pages
@@ -81,7 +81,7 @@ pages_from p q n i (e ∷ es) =
     ap (λ k. fold (more p) k (map (λ e. step.Program q e.0 e.1) (enumerate_from (i + 1) es))) same
     ∙ pages_from p q n (i + 1) es
 
-pages_on : (s : Sizes) (q i : ℕ) (es : List (List ℕ))
+pub pages_on : (s : Sizes) (q i : ℕ) (es : List (List ℕ))
     → AllOn s q (map (λ e. step.Program q e.0 e.1) (enumerate_from i es))
 pages_on s q i [] = tt
 pages_on s q i (e ∷ es) = (refl, pages_on s q (i + 1) es)
@@ -97,15 +97,15 @@ valid_back (ec_read.Valid k) e h = cc
 
 module _ (s : Sizes) (g : IsGeometry s) (bs : List (List ℕ)) (a : Whole) where
   -- what the erase-counter header of an eraseblock reads after some erases
-  abbrev ec_after : ℕ → ℕ → EcRead
+  abbrev pub ec_after : ℕ → ℕ → EcRead
   ec_after p zero = ec s (block bs p)
   ec_after p (suc n) = ec_read.Valid (record { counter = counter_after s bs a p (suc n); image_seq = a.scan.image_seq })
 
   -- after these steps each header counts the erases
-  abbrev AllCounted : List Step → Type 0
+  abbrev pub AllCounted : List Step → Type 0
   AllCounted steps = (p : ℕ) → ec s (block (done s bs steps) p) ≡ ec_after p (count_by (erases p) steps)
 
-  counted : (steps : List Step) → AllCounted steps → CountsErases s bs a steps
+  pub counted : (steps : List Step) → AllCounted steps → CountsErases s bs a steps
   counted steps all p some = ap (λ (z : List (List ℕ)). ec s (block z p)) (after-all s bs steps)
       ∙ by_count (count_by (erases p) steps) (ec s (block (done s bs steps) p)) some (all p)
     where
@@ -151,14 +151,14 @@ module _ (s : Sizes) (g : IsGeometry s) (bs : List (List ℕ)) (a : Whole) where
           ∙ ap (λ n. record { counter = n; image_seq = a.scan.image_seq }) (first_count (ec_at s bs b)))
           ∙ ap (ec_after b) (sym (renew_once s b (next_ec a.scan (ec_at s bs b))))
 
-  prepare_on : (b : ℕ) → AllOn s b (prepare s bs a b)
+  pub prepare_on : (b : ℕ) → AllOn s b (prepare s bs a b)
   prepare_on b = by_test (is_clean s bs a.states b)
     where
       by_test : (t : Bool) → AllOn s b (cond t [] (renew s b (next_ec a.scan (ec_at s bs b))))
       by_test true = tt
       by_test false = (refl, (refl, tt))
 
-  next_due : (p : ℕ) → ec_read.Valid (next_ec a.scan (ec_at s bs p)) ≡ ec_after p 1
+  pub next_due : (p : ℕ) → ec_read.Valid (next_ec a.scan (ec_at s bs p)) ≡ ec_after p 1
   next_due p = ap ec_read.Valid
       (ap (λ n. record { counter = n; image_seq = a.scan.image_seq }) (first_count (ec_at s bs p)))
 
@@ -182,7 +182,7 @@ module _ (s : Sizes) (g : IsGeometry s) (bs : List (List ℕ)) (a : Whole) where
           ∙ ap (λ n. ec_after p (suc n)) (sym (renew_once s p (next_ec a.scan (ec_at s bs p))))
 
   -- an eraseblock is given up
-  release_counted : (front : List Step) (p : ℕ) (now : Option EcHeader) → AllCounted front → p < length bs
+  pub release_counted : (front : List Step) (p : ℕ) (now : Option EcHeader) → AllCounted front → p < length bs
       → (is_worn now ≡ false → IsCounter (next_ec a.scan now))
       → ec_read.Valid (next_ec a.scan now) ≡ ec_after p (suc (count_by (erases p) front))
       → AllCounted (front ++ release s bs a p now)
@@ -248,7 +248,7 @@ module _ (s : Sizes) (g : IsGeometry s) (bs : List (List ℕ)) (a : Whole) where
 
     -- and a text
     module _ (new : List ℕ) (paged : length new % s.page ≡ 0) (room : s.data_offset + length new ≤ s.peb_size) where
-      abbrev text : List Step
+      abbrev pub text : List Step
       text = program_text s b new
 
       text_on : AllOn s b text
@@ -283,7 +283,7 @@ module _ (s : Sizes) (g : IsGeometry s) (bs : List (List ℕ)) (a : Whole) where
           (first_chunks s.page (pages_of s new) new) in
           omega arith
 
-      written_counted : AllCounted (front ++ (mount s bs a b h ++ text))
+      pub written_counted : AllCounted (front ++ (mount s bs a b h ++ text))
       written_counted =
           counted_at front (mount s bs a b h ++ text) b (part new) all inside written_on written_leaves
           (ec_part new room ∙ ready_due b e is ∙ ap (ec_after b) (sym written_erases))

@@ -28,9 +28,15 @@ step_behind [] ys j k e = (let same : j ≡ k = omega arith in ap (slice_get ys)
 step_behind (x ∷ xs) ys zero k e = absurd (omega arith)
 step_behind (x ∷ xs) ys (suc j) k e = step_behind xs ys j k (omega arith)
 
+-- a step of a front is that of the whole
+pub step_before : (xs ys : List Step) (k : ℕ) (x : Step) → slice_get xs k ≡ Some x → slice_get (xs ++ ys) k ≡ Some x
+step_before [] ys k x e = absurd (cc)
+step_before (y ∷ xs) ys zero x e = e
+step_before (y ∷ xs) ys (suc k) x e = step_before xs ys k x e
+
 module _ (s : Sizes) (bs : List (List ℕ)) (a : Whole) where
   -- what doesn't stay is erased by the first step of its release
-  erased_behind : (front : List Step) (p : ℕ) (now : Option EcHeader) → stays s bs p now ≡ false
+  pub erased_behind : (front : List Step) (p : ℕ) (now : Option EcHeader) → stays s bs p now ≡ false
       → Erases (front ++ release s bs a p now) (length front) p
   erased_behind front p now fresh =
       step_behind front (release s bs a p now) (length front) 0 (omega arith)
@@ -41,7 +47,7 @@ module _ (s : Sizes) (bs : List (List ℕ)) (a : Whole) where
     written = mount s bs a b h ++ program_text s b new
 
     -- by the end of its text a copy is whole
-    whole_by : length new % s.page ≡ 0 → length (prepare s bs a b) + suc (whole_place s new) ≤ length written
+    pub whole_by : length new % s.page ≡ 0 → length (prepare s bs a b) + suc (whole_place s new) ≤ length written
     whole_by paged =
         let n = length-append (mount s bs a b h) (program_text s b new) in
         let m = length-append (prepare s bs a b) (program_header s b (ready_bytes s bs a b) h ∷ []) in

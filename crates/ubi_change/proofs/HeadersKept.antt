@@ -40,14 +40,14 @@ not_here p e = cc
 
 module _ (s : Sizes) where
   -- each program of page 0, where the step before the first erases this eraseblock, or none
-  abbrev KeepAll : Option ℕ → List (List ℕ) → List Step → Type 0
+  abbrev pub KeepAll : Option ℕ → List (List ℕ) → List Step → Type 0
   KeepAll last bs [] = Unit {0}
   KeepAll last bs (step.Erase q ∷ xs) = KeepAll (Some q) (step_done s bs (step.Erase q)) xs
   KeepAll last bs (step.Program q b ys ∷ xs) =
       (b ≡ 0 → (last ≡ Some q) ⊎ (ec_area ys ≡ ec_area (block bs q)))
       × KeepAll None (step_done s bs (step.Program q b ys)) xs
 
-  keep-append : (last : Option ℕ) (bs : List (List ℕ)) (xs ys : List Step) → KeepAll last bs xs
+  pub keep-append : (last : Option ℕ) (bs : List (List ℕ)) (xs ys : List Step) → KeepAll last bs xs
       → ((l : Option ℕ) → KeepAll l (done s bs xs) ys) → KeepAll last bs (xs ++ ys)
   keep-append last bs [] ys a b = b last
   keep-append last bs (step.Erase q ∷ xs) ys a b = keep-append (Some q) (step_done s bs (step.Erase q)) xs ys a b
@@ -184,7 +184,7 @@ module _ (s : Sizes) (g : IsGeometry s) where
             tt,
           ))
 
-      copy_keeps : (new : List ℕ) (old : ℕ) (now : Option EcHeader)
+      pub copy_keeps : (new : List ℕ) (old : ℕ) (now : Option EcHeader)
           → KeepAll s last cs (atomic_copy s bs a b h new old now)
       copy_keeps new old now =
           let before = vid_before s g in

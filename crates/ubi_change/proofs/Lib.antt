@@ -33,6 +33,9 @@ pub mod Premises
 pub mod Prepared
 pub mod Pushed
 pub mod RenameAttached
+pub mod RenameFits
+pub mod RenameFrugal
+pub mod RenameRises
 pub mod RenameSurvives
 pub mod RenamedMeaning
 pub mod Renewed
@@ -42,6 +45,7 @@ pub mod SameButName
 pub mod SecondCopy
 pub mod Seq
 pub mod Stepped
+pub mod StepsApart
 pub mod Surveys
 pub mod Survives
 pub mod TableCopied

@@ -241,7 +241,7 @@ module _ (s : Sizes) (g : IsGeometry s) (bs : List (List ℕ)) (a : Whole) where
       (λ m same l. program_order p b m v page rest (λ _. l) here (λ apart. absurd (apart same)))
       (λ apart. program_order p b n v page rest (λ same. absurd (apart same)) here there))
 
-  copy_order : (p b n : ℕ) (h : VidHeader) (new : List ℕ) (old : ℕ) (now : Option EcHeader) → (b ≡ p → n ≤ 1)
+  pub copy_order : (p b n : ℕ) (h : VidHeader) (new : List ℕ) (old : ℕ) (now : Option EcHeader) → (b ≡ p → n ≤ 1)
       → InOrder p n (atomic_copy s bs a b h new old now)
   copy_order p b n h new old now few =
       let before = vid_before s g in

@@ -69,7 +69,7 @@ module _ (s : Sizes) (g : IsGeometry s) (bs : List (List ℕ)) (a : Whole) where
     -- with a text behind it, and another eraseblock given up
     module _ (new : List ℕ) (paged : length new % s.page ≡ 0) (room : s.data_offset + length new ≤ s.peb_size)
         (are : AreBytes new) (old : ℕ) (now : Option EcHeader) (there : old < length cs) where
-      abbrev mount : List Step
+      abbrev pub mount : List Step
       mount = prepare s bs a b ++ program_header s b bytes h ∷ []
 
       mounted : block (done s cs mount) b ≡ laid s bytes (vid_bytes h) []
@@ -78,7 +78,7 @@ module _ (s : Sizes) (g : IsGeometry s) (bs : List (List ℕ)) (a : Whole) where
           (fold-append (step_done s) cs (prepare s bs a b) (program_header s b bytes h ∷ []))
           ∙ header_done s g bytes size h small (done s cs (prepare s bs a b)) b within prepared
 
-      copy_fits : FitAll s cs (mount ++ program_text s b new ++ release s bs a old now)
+      pub copy_fits : FitAll s cs (mount ++ program_text s b new ++ release s bs a old now)
       copy_fits =
           let n = length-done s cs mount in
           let m = length-done s cs (mount ++ program_text s b new) in

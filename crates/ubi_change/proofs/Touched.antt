@@ -20,15 +20,15 @@ use Rattle.ubi_change.specs.Weak.{pages_of}
 use Rattle.ubi_change.specs.declared.step.Step.{Step}
 use Rattle.ubi_change.specs.declared.step.Step.TheVariants as step
 
-abbrev TouchAll : List ℕ → List Step → Type 0
+abbrev pub TouchAll : List ℕ → List Step → Type 0
 TouchAll ps [] = Unit {0}
 TouchAll ps (x ∷ xs) = Contains ps (target x) × TouchAll ps xs
 
-touch-append : (ps : List ℕ) (xs ys : List Step) → TouchAll ps xs → TouchAll ps ys → TouchAll ps (xs ++ ys)
+pub touch-append : (ps : List ℕ) (xs ys : List Step) → TouchAll ps xs → TouchAll ps ys → TouchAll ps (xs ++ ys)
 touch-append ps [] ys a b = b
 touch-append ps (x ∷ xs) ys a b = (a.0, touch-append ps xs ys a.1 b)
 
-touch_all : (ps : List ℕ) (steps : List Step) → TouchAll ps steps → TouchesOnly ps steps
+pub touch_all : (ps : List ℕ) (steps : List Step) → TouchAll ps steps → TouchesOnly ps steps
 touch_all ps [] a k next e = absurd (cc)
 touch_all ps (x ∷ xs) a zero next e = subst (λ (y : Step). Contains ps (target y)) (same_Some x next e) a.0
 touch_all ps (x ∷ xs) a (suc k) next e = touch_all ps xs a.1 k next e
@@ -46,7 +46,7 @@ front_length zero k (x ∷ xs) l m = absurd (omega arith)
 front_length (suc n) zero (x ∷ xs) l m = omega arith
 front_length (suc n) (suc k) (x ∷ xs) l m = let h = front_length n k xs (omega arith) (omega arith) in omega arith
 
-in_front : (n k : ℕ) (xs : List ℕ) (y : ℕ) → k < n → k < length xs → Contains (y ∷ take n xs) (get_or xs k 0)
+pub in_front : (n k : ℕ) (xs : List ℕ) (y : ℕ) → k < n → k < length xs → Contains (y ∷ take n xs) (get_or xs k 0)
 in_front n k xs y l m = (suc k, (let h = front_length n k xs l m in omega arith), at_front n k xs (get_or xs k 0) l m)
 
 module _ (s : Sizes) (bs : List (List ℕ)) (a : Whole) (ps : List ℕ) where
@@ -76,7 +76,7 @@ module _ (s : Sizes) (bs : List (List ℕ)) (a : Whole) (ps : List ℕ) where
   mount_touches p h c = touch-append ps (prepare s bs a p) (program_header s p (ready_bytes s bs a p) h ∷ [])
       (prepare_touches p c) (c, tt)
 
-  copy_touches : (b : ℕ) (h : VidHeader) (new : List ℕ) (old : ℕ) (now : Option EcHeader) → Contains ps b
+  pub copy_touches : (b : ℕ) (h : VidHeader) (new : List ℕ) (old : ℕ) (now : Option EcHeader) → Contains ps b
       → Contains ps old → TouchAll ps (atomic_copy s bs a b h new old now)
   copy_touches b h new old now c d =
       touch-append ps (mount s bs a b h ++ program_text s b new) (release s bs a old now)

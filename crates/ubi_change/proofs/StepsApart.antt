@@ -1,0 +1,68 @@
+-- Steps on other eraseblocks: those of a copy and of what is given up leave the order of an eraseblock's pages.
+use Rattle.std.proofs.Common.{◌≡◌, ◌≢◌, ℕ, ◌+◌, ◌/◌, ◌≤◌, ◌⊎◌, inl, inr, Bool, true, false, cond, List, [], ◌∷◌, ◌++◌, refl, sym, ◌∙◌}
+use Rattle.std.specs.Prelude.{Option}
+use Rattle.std.specs.Simd.{first_chunks}
+use Rattle.ubi_media.specs.Geometry.{IsGeometry, Sizes}
+use Rattle.ubi_media.specs.declared.ec.EcHeader.{EcHeader}
+use Rattle.ubi_media.specs.declared.vid.VidHeader.{VidHeader}
+use Rattle.ubi_volume.specs.Attached.{Whole}
+use Rattle.ubi_change.specs.Plan.{mount, next_ec, prepare, program_header, program_text, ready_bytes, release, renew}
+use Rattle.ubi_change.specs.Steps.{target}
+use Rattle.ubi_change.specs.Takeable.{stays}
+use Rattle.ubi_change.specs.Weak.{pages_of}
+use Rattle.ubi_change.specs.declared.step.Step.{Step}
+use Rattle.ubi_change.specs.declared.step.Step.TheVariants as step
+use Rattle.ubi_change.proofs.CountsErases.{pages_on, prepare_on}
+use Rattle.ubi_change.proofs.PagesRise.{InOrder}
+use Rattle.ubi_change.proofs.Runs.{AllOn, on-append}
+
+-- no step touches p
+abbrev pub AllOff : ℕ → List Step → Type 0
+AllOff p [] = Unit {0}
+AllOff p (x ∷ xs) = (target x ≢ p) × AllOff p xs
+
+pub off-append : (p : ℕ) (xs ys : List Step) → AllOff p xs → AllOff p ys → AllOff p (xs ++ ys)
+off-append p [] ys a b = b
+off-append p (x ∷ xs) ys a b = (a.0, off-append p xs ys a.1 b)
+
+pub on_off : (s : Sizes) (q p : ℕ) (xs : List Step) → AllOn s q xs → p ≢ q → AllOff p xs
+on_off s q p [] on apart = tt
+on_off s q p (x ∷ xs) on apart = ((λ e. apart (sym e ∙ on.0)), on_off s q p xs on.1 apart)
+
+-- the order of pages: before steps that are in order after anything, and behind steps on other eraseblocks
+pub order_any : (p n : ℕ) (xs ys : List Step) → InOrder p n xs → ((m : ℕ) → InOrder p m ys) → InOrder p n (xs ++ ys)
+order_any p n [] ys o any = any n
+order_any p n (step.Erase q ∷ xs) ys o any =
+    ((λ same. order_any p 0 xs ys (o.0 same) any), (λ apart. order_any p n xs ys (o.1 apart) any))
+order_any p n (step.Program q b zs ∷ xs) ys o any = (
+  λ same. by_page (o.0 same) (λ k. order_any p (b + 2) xs ys k any) (λ k. order_any p (n + 1) xs ys k any),
+  λ apart. order_any p n xs ys (o.1 apart) any,
+)
+  where
+    by_page : ((1 ≤ b) × (n ≤ b + 1) × InOrder p (b + 2) xs) ⊎ ((b ≡ 0) × (n ≤ 1) × InOrder p (n + 1) xs)
+        → (InOrder p (b + 2) xs → InOrder p (b + 2) (xs ++ ys)) → (InOrder p (n + 1) xs → InOrder p (n + 1) (xs ++ ys))
+        → ((1 ≤ b) × (n ≤ b + 1) × InOrder p (b + 2) (xs ++ ys)) ⊎ ((b ≡ 0) × (n ≤ 1) × InOrder p (n + 1) (xs ++ ys))
+    by_page (inl h) f k = inl (h.0, h.1, f h.2)
+    by_page (inr h) f k = inr (h.0, h.1, k h.2)
+
+pub order_skip : (p n : ℕ) (xs ys : List Step) → AllOff p xs → InOrder p n ys → InOrder p n (xs ++ ys)
+order_skip p n [] ys off o = o
+order_skip p n (step.Erase q ∷ xs) ys off o = ((λ same. absurd (off.0 same)), (λ apart. order_skip p n xs ys off.1 o))
+order_skip p n (step.Program q b zs ∷ xs) ys off o =
+    ((λ same. absurd (off.0 same)), (λ apart. order_skip p n xs ys off.1 o))
+
+module _ (s : Sizes) (g : IsGeometry s) (bs : List (List ℕ)) (a : Whole) where
+  -- a copy is written by steps on its eraseblock, and another is given up by steps on that
+  pub copy_on : (b : ℕ) (h : VidHeader) (new : List ℕ) → AllOn s b (mount s bs a b h ++ program_text s b new)
+  copy_on b h new =
+      on-append s b (mount s bs a b h) (program_text s b new)
+      (on-append s b (prepare s bs a b) (program_header s b (ready_bytes s bs a b) h ∷ []) (prepare_on s g bs a b)
+      (refl, tt))
+      (pages_on s b (s.data_offset / s.page) (first_chunks s.page (pages_of s new) new))
+
+  pub release_on : (p : ℕ) (now : Option EcHeader) → AllOn s p (release s bs a p now)
+  release_on p now = by_test (stays s bs p now)
+    where
+      by_test : (t : Bool) → AllOn s p (cond t [] (renew s p (next_ec a.scan now)))
+      by_test true = tt
+      by_test false = (refl, (refl, tt))
