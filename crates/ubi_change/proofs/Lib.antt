@@ -20,6 +20,7 @@ pub mod Mean
 pub mod Mounted
 pub mod NamedAccepted
 pub mod Newest
+pub mod OtherNames
 pub mod PageBytes
 pub mod PagePlaces
 pub mod PagesRise
@@ -33,8 +34,11 @@ pub mod Premises
 pub mod Prepared
 pub mod Pushed
 pub mod RenameAttached
+pub mod RenameCauses
 pub mod RenameFits
 pub mod RenameFrugal
+pub mod RenameKept
+pub mod RenameMade
 pub mod RenameRises
 pub mod RenameSurvives
 pub mod RenamedMeaning
@@ -42,6 +46,7 @@ pub mod Renewed
 pub mod Replaced
 pub mod Runs
 pub mod SameButName
+pub mod SameTables
 pub mod SecondCopy
 pub mod Seq
 pub mod Stepped

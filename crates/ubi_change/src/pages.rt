@@ -1,20 +1,23 @@
 //! The bytes of the pages that a plan programs.
 
-ghost use Rattle.std.specs.Prelude.{◌≡◌, ◌%◌, ◌≤◌, [], IfOk, OnOk, if◌then◌else◌, length, nat_lt};
+ghost use Rattle.std.specs.Prelude.{◌≡◌, ◌%◌, ◌^◌, ◌<◌, ◌≤◌, [], IfOk, OnOk, if◌then◌else◌, length, nat_lt};
 ghost use Rattle.ubi_change.specs.Plan.{vid_page};
+ghost use Rattle.ubi_change.specs.RenamePlan.{table_pages};
 ghost use Rattle.ubi_media.specs.Ec.{ec_bytes};
 ghost use Rattle.ubi_media.specs.Fields.{filled};
+ghost use Rattle.ubi_volume.specs.Meant.{pieces};
 
 use std::alloc::{AllocError, Global};
 use ubi_media::{EcHeader, Geometry, VidHeader, write_ec, write_vid};
+use ubi_table::Table;
 use ubi_volume::Bytes;
 
 /// Fills bytes up with 0xFF to a length.
-fn fill_up(bytes: &mut Vec<u8>, size: u32) -> Result<(), AllocError>
+fn fill_up(bytes: &mut Vec<u8>, size: usize) -> Result<(), AllocError>
     requires { length bytes.old.items ≤ size }
     ensures { OnOk result (bytes.new.items ≡ filled size bytes.old.items) }
 {
-    bytes.resize(size as usize, 0xFF)
+    bytes.resize(size, 0xFF)
 }
 
 /// The page that holds an erase-counter header: 0xFF behind it.
@@ -23,7 +26,7 @@ pub fn ec_page(alloc: Global, geometry: &Geometry, header: &EcHeader) -> Result<
 {
     let mut bytes = Vec::from_slice(alloc, &write_ec(geometry, header))?;
     prove!(geometry.page() >= 64);
-    fill_up(&mut bytes, geometry.page())?;
+    fill_up(&mut bytes, geometry.page() as usize)?;
     Ok(Bytes::new(bytes))
 }
 
@@ -52,8 +55,31 @@ pub fn vid_page(
     ensures { IfOk result (λ bytes. bytes ≡ vid_page geometry.now ec.now header.now) }
 {
     let mut bytes = Vec::from_slice(alloc, front_of(geometry, ec))?;
-    fill_up(&mut bytes, geometry.vid_offset() % geometry.page())?;
+    fill_up(
+        &mut bytes,
+        (geometry.vid_offset() % geometry.page()) as usize,
+    )?;
     bytes.extend_from_slice(&write_vid(header))?;
-    fill_up(&mut bytes, geometry.page())?;
+    fill_up(&mut bytes, geometry.page() as usize)?;
     Ok(Bytes::new(bytes))
+}
+
+/// In how many pages bytes lie, the last perhaps filled up.
+fn page_count(geometry: &Geometry, bytes: &[u8]) -> usize
+    ensures { result ≡ pieces geometry.now.page (length bytes.now) }
+{
+    bytes.len().div_ceil(geometry.page() as usize)
+}
+
+/// The pages of a volume table: its bytes, and 0xFF behind them.
+pub fn table_pages(alloc: Global, geometry: &Geometry, table: &Table) -> Result<Vec<u8>, AllocError>
+    requires { table.now.sizes ≡ geometry.now }
+    ensures pages { IfOk result (λ bytes. bytes.items ≡ table_pages geometry.now table.now) }
+    ensures paged { IfOk result (λ bytes. length bytes.items % geometry.now.page ≡ 0) }
+    ensures short { IfOk result (λ bytes. length bytes.items < 2 ^ 31) }
+{
+    let mut bytes = table.encode(alloc)?;
+    let count = page_count(geometry, bytes.as_slice());
+    fill_up(&mut bytes, count * geometry.page() as usize)?;
+    Ok(bytes)
 }

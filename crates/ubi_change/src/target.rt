@@ -2,8 +2,9 @@
 
 ghost use Rattle.std.specs.Prelude.{◌≡◌, ◌^◌, ◌<◌, length};
 ghost use Rattle.ubi_change.specs.Plan.{blank_header, copy_header};
+ghost use Rattle.ubi_change.specs.inner.Making.{table_target};
 
-use ubi_media::{VidHeader, VolKind, crc};
+use ubi_media::{LAYOUT_VOLUME, REJECT, VidHeader, VolKind, crc};
 
 /// A logical eraseblock of a dynamic volume, a user's or the layout volume.
 #[derive(Clone, Copy)]
@@ -19,6 +20,18 @@ pub struct Target {
 }
 
 impl Target {
+    /// The one that holds a copy of the volume table.
+    pub fn of_table(copy: u32) -> Target
+        ensures { result ≡ table_target copy }
+    {
+        Target {
+            id: LAYOUT_VOLUME,
+            lnum: copy,
+            compat: REJECT,
+            data_pad: 0,
+        }
+    }
+
     /// The header under which a user's logical eraseblock reads 0xFF.
     pub fn blank_header(&self, sqnum: u64) -> VidHeader
         ensures { result ≡ blank_header self.now.data_pad self.now.id self.now.lnum sqnum }

@@ -5,6 +5,7 @@ use Rattle.std.specs.FinMap.{empty, get}
 use Rattle.ubi_media.specs.Geometry.{Sizes}
 use Rattle.ubi_media.specs.Record.{usable}
 use Rattle.ubi_media.specs.declared.record.VolumeRecord.{VolumeRecord}
+use Rattle.ubi_scan.specs.Members.{layout}
 use Rattle.ubi_volume.specs.Attached.{Whole}
 use Rattle.ubi_volume.specs.Survey.{Seen}
 use Rattle.ubi_volume.specs.declared.attached.BlockState.{BlockState}
@@ -89,6 +90,10 @@ abbrev pub AreWithin : Sizes → List (List ℕ) → Whole → Places → Type 0
 AreWithin s bs a (places.Mapped copy old) = (copy < length bs) × (old < length bs) × (a.scan.top_sqnum + 1 < 2 ^ 64)
 AreWithin s bs a (places.Unmapped first copy) = (first < length bs) × (copy < length bs)
     × (a.scan.top_sqnum + 2 < 2 ^ 64)
+
+-- the LEB that holds a copy of the volume table
+abbrev pub table_target : ℕ → Target
+table_target c = record { id = layout; lnum = c; compat = 5; data_pad = 0 }
 
 -- the steps for a LEB with a winner
 abbrev pub mapped_steps : Sizes → List (List ℕ) → Whole → Target → List ℕ → ℕ → ℕ → List Step

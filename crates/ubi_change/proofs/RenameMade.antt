@@ -1,0 +1,158 @@
+-- What the functions on the way to a rename found makes its plan: nothing stands against it, and the steps are those.
+use Rattle.std.proofs.Common.{◌≡◌, ◌≢◌, ℕ, ◌<◌, inl, inr, Bool, true, false, cond, List, length, refl, ap, ap₂, sym, ◌∙◌, subst, arith}
+use Rattle.std.specs.Prelude.{None, Option, Some, option_map}
+use Rattle.std.specs.Cmp.{nat_cmp_total}
+use Rattle.std.specs.FinMap as finite
+use Rattle.std.specs.FinMap.{nat_cmp-IsAntisymmetric}
+use Rattle.std.specs.Ordering.{eq_by_cmp, nat_cmp}
+use Rattle.ubi_media.specs.Geometry.{Sizes}
+use Rattle.ubi_media.specs.declared.record.VolumeRecord.{VolumeRecord}
+use Rattle.ubi_scan.specs.Image.{Image, eraseblocks}
+use Rattle.ubi_scan.specs.Members.{layout}
+use Rattle.ubi_table.specs.Named.{records_named, with_name}
+use Rattle.ubi_table.specs.Records.{Records}
+use Rattle.ubi_table.specs.Table.{Decides, IsTable}
+use Rattle.ubi_table.specs.declared.copy.CopyRead.TheVariants as copy
+use Rattle.ubi_table.proofs.NamedTable.{next-is}
+use Rattle.ubi_table.proofs.One.{blank_none, decides_unique}
+use Rattle.ubi_volume.specs.Accepts.{AcceptsBlocks}
+use Rattle.ubi_volume.specs.Attached.{Whole}
+use Rattle.ubi_volume.specs.Meant.{Meant, records_of}
+use Rattle.ubi_volume.specs.Survey.{IsSurvey, Seen}
+use Rattle.ubi_volume.specs.declared.content.Volume.{Volume}
+use Rattle.ubi_volume.proofs.Recorded.{record_of, records_meant}
+use Rattle.ubi_change.specs.Plan.{taken}
+use Rattle.ubi_change.specs.RenamePlan.{rename_plan, renamed_pages, table_pages}
+use Rattle.ubi_change.specs.RenamePlanned.{IsRename}
+use Rattle.ubi_change.specs.RenameRefused.{BothGood, MayBeNamed}
+use Rattle.ubi_change.specs.Renamed.{renamed, volume_named}
+use Rattle.ubi_change.specs.Weak.{weak_place}
+use Rattle.ubi_change.specs.inner.Making.{shown}
+use Rattle.ubi_change.specs.inner.Renaming.{AreHolders, AreInside, AreSpares, IsNamable, two_copies}
+use Rattle.ubi_change.specs.declared.holders.Holders.{Holders}
+use Rattle.ubi_change.specs.declared.spares.Spares.{Spares}
+use Rattle.ubi_change.specs.declared.step.Step.{Step}
+use Rattle.ubi_change.proofs.Choosing.{may_be_taken}
+use Rattle.ubi_change.proofs.RenameCauses.{free, there}
+use Rattle.ubi_change.proofs.RenamedMeaning as naming
+use Rattle.ubi_change.proofs.Surveys.{whole}
+
+-- both copies are good with the table of an accepted image
+pub both_records : (s : Sizes) (bs : List (List ℕ)) (m : Meant) → AcceptsBlocks s bs m → (t : Records)
+    → BothGood s bs t → t ≡ records_of m
+both_records s bs m a t both =
+    by_table a.table ∙ sym (records_meant s bs a.records m a.table a.means)
+  where
+    first : Decides s bs 0 (copy.Good t)
+    first = record { is = both.0; can = refl; before = inl refl }
+
+    same : (u : Records) → copy.Good t ≡ copy.Good u → t ≡ u
+    same u e = cc
+
+    by_table : IsTable s bs a.records → t ≡ a.records
+    by_table (inl e) = absurd (blank_none s bs e.0 (layout, 0) both.0.0 both.0.1.member)
+    by_table (inr e) = same a.records (decides_unique s bs a.clean 0 e.0 (copy.Good t) (copy.Good a.records) first e.1)
+
+-- the record of a volume that is there or of another
+entry_inside : (b : Bool) (v : Volume) (o : Option Volume)
+    → option_map (λ (v : Volume). v.entry) (cond b (Some v) o)
+    ≡ cond b (Some v.entry) (option_map (λ (v : Volume). v.entry) o)
+entry_inside true v o = refl
+entry_inside false v o = refl
+
+module _ (image : Image) (seen : Seen) (is : IsSurvey image seen) (id : ℕ) (name : List ℕ)
+    (may : IsNamable seen.records id name) where
+  abbrev s : Sizes
+  s = image.sizes
+
+  abbrev bs : List (List ℕ)
+  bs = eraseblocks image
+
+  abbrev a : Whole
+  a = whole image seen is
+
+  abbrev m : Meant
+  m = is.meaning
+
+  -- the records of the renamed meaning are the renamed records
+  found : (v : Volume) × (finite.get m.volumes id ≡ Some v)
+  found = there image seen is id name may.there
+
+  abbrev volume : Volume
+  volume = found.0
+
+  free_volume : (slot : ℕ) (w : Volume) → slot ≢ id → finite.get m.volumes slot ≡ Some w → w.entry.name ≡ name → ⊥
+  free_volume slot w apart e same = free image seen is id name may slot (apart, w, e, same)
+
+  abbrev next : Meant
+  next = naming.next m is.attached.accepted.accepted.means.meaning id name volume found.1 may.named free_volume
+
+  named-is : renamed m id name ≡ next
+  named-is = naming.renamed-is m is.attached.accepted.accepted.means.meaning id name volume found.1 may.named
+      free_volume
+
+  abbrev entry : VolumeRecord
+  entry = with_name volume.entry name
+
+  held : finite.get (records_of m).of id ≡ Some volume.entry
+  held = record_of m id ∙ ap (option_map (λ (v : Volume). v.entry)) found.1
+
+  record_same : (q : ℕ) → finite.get (records_of next).of q ≡ finite.get (finite.insert (records_of m).of id entry) q
+  record_same q =
+      record_of next q
+      ∙ ap (option_map (λ (v : Volume). v.entry))
+      (finite.get-insert nat_cmp_total m.volumes id (volume_named volume name) q)
+      ∙ entry_inside (eq_by_cmp nat_cmp q id) (volume_named volume name) (finite.get m.volumes q)
+      ∙ ap (λ (o : Option VolumeRecord). cond (eq_by_cmp nat_cmp q id) (Some entry) o) (sym (record_of m q))
+      ∙ sym (finite.get-insert nat_cmp_total (records_of m).of id entry q)
+
+  records_same : records_of next ≡ record { sizes = m.sizes; of = finite.insert (records_of m).of id entry }
+  records_same =
+      let same = finite.same_map nat_cmp_total nat_cmp-IsAntisymmetric (records_of next).of
+      (finite.insert (records_of m).of id entry) record_same in
+      λ i. record { sizes = m.sizes; of = same i }
+
+  -- so the pages of these are what the rename writes
+  pub pages-are : table_pages s (records_named seen.records id name) ≡ renamed_pages s m id name
+  pages-are =
+      ap (table_pages s)
+      (ap (λ (t : Records). records_named t id name) is.records ∙ next-is id name (records_of m) volume.entry held
+      ∙ sym records_same ∙ ap records_of (sym named-is))
+
+  module _ (old : Holders) (holders : AreHolders s bs (shown seen) old) (two : Spares)
+      (spares : AreSpares s bs (shown seen) two) where
+    pub all_inside : AreInside (length bs) old two
+    all_inside = record {
+      first = holders.first_inside;
+      second = holders.second_inside;
+      first_spare = subst (λ (p : ℕ). p < length bs) (sym spares.first)
+          (may_be_taken s bs seen.states 0 (let e = spares.enough in omega arith)).0;
+      second_spare = subst (λ (p : ℕ). p < length bs) (sym spares.second)
+          (may_be_taken s bs seen.states 1 (let e = spares.enough in omega arith)).0;
+    }
+
+    pub may_be_named : weak_place s (renamed_pages s m id name) ≡ None → MayBeNamed s bs a id name
+    may_be_named strong = record {
+      volume = volume;
+      there = found.1;
+      named = may.named;
+      free = free image seen is id name may;
+      both = subst (BothGood s bs)
+          (both_records s bs m is.attached.accepted.accepted holders.good.0 holders.good.1) holders.good.1;
+      strong = strong;
+      few = spares.few;
+      enough = spares.enough;
+    }
+
+    pub copies-are : two_copies s bs (shown seen) old two (renamed_pages s m id name) ≡ rename_plan s bs a id name
+    copies-are =
+        ap₂ (λ (p q : ℕ). two_copies s bs (shown seen) old (record { first = p; second = q })
+        (renamed_pages s m id name)) spares.first spares.second
+        ∙ ap₂ (λ (p q : ℕ). two_copies s bs (shown seen) (record { first = p; second = q })
+        (record { first = taken s bs a 0; second = taken s bs a 1 }) (renamed_pages s m id name))
+        holders.first holders.second
+
+    unfoldable pub is_rename : weak_place s (renamed_pages s m id name) ≡ None → (steps : List Step)
+        → steps ≡ two_copies s bs (shown seen) old two (renamed_pages s m id name) → IsRename image id name steps
+    is_rename strong steps made =
+        record { from = a; attached = is.attached; allowed = may_be_named strong; plan = made ∙ copies-are }
