@@ -2,6 +2,7 @@ mod carriers;
 mod images;
 mod mapped;
 mod refusals;
+mod rename;
 mod states;
 mod steps;
 mod unmapped;

@@ -127,7 +127,7 @@ pub const BOOT: Slot = Slot {
 
 impl Slot {
     /// The bytes of the record.
-    fn bytes(&self, alloc: Global) -> Result<Vec<u8>, AllocError> {
+    pub fn bytes(&self, alloc: Global) -> Result<Vec<u8>, AllocError> {
         let mut bytes = Vec::new(alloc);
         bytes.extend_from_slice(&self.reserved.to_be_bytes())?;
         bytes.extend_from_slice(&self.alignment.to_be_bytes())?;
@@ -212,7 +212,7 @@ pub const COPY: VidHeader = VidHeader {
 pub const COPY_OF_1: VidHeader = VidHeader { lnum: 1, ..COPY };
 
 /// The header of the first copy of the table.
-const TABLE_0: VidHeader = VidHeader {
+pub const TABLE_0: VidHeader = VidHeader {
     compat: 5,
     vol_id: LAYOUT_VOLUME,
     ..PLAIN
