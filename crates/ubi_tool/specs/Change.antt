@@ -1,35 +1,20 @@
 -- What changing a logical eraseblock of an image answers.
-use Rattle.std.specs.Prelude.{◌≡◌, ℕ, List, [], ◌∷◌, ◌++◌, Option, Some, None, codes, decimal, if◌then◌else◌, length, min, nat_lt}
-use Rattle.std.specs.List.{concat, flat_map}
+use Rattle.std.specs.Prelude.{◌≡◌, ℕ, List, [], ◌∷◌, Option, Some, None, codes}
 use Rattle.ubi_change.specs.Cuts.{changed, turn}
 use Rattle.ubi_change.specs.Fitting.{AllFit}
 use Rattle.ubi_change.specs.Order.{RisesBetweenErases}
 use Rattle.ubi_change.specs.Planned.{IsFrugalOf, IsPlan, SurvivesCutsOf, IsChangeRefusal}
-use Rattle.ubi_change.specs.Steps.{after}
 use Rattle.ubi_change.specs.declared.refusal.ChangeRefusal.{ChangeRefusal}
 use Rattle.ubi_change.specs.declared.refusal.ChangeRefusal.TheVariants as refusal
 use Rattle.ubi_change.specs.declared.step.Step.{Step}
-use Rattle.ubi_change.specs.declared.step.Step.TheVariants as step
 use Rattle.ubi_scan.specs.Image.{Image, in_image}
 use Rattle.ubi_volume.specs.Accepts.{Accepts}
 use Rattle.ubi_volume.specs.Meant.{Meant}
-use Rattle.ubi_tool.specs.Answer.{Answer, Gives, says}
+use Rattle.ubi_tool.specs.Answer.{Gives, says}
 use Rattle.ubi_tool.specs.Lines.{file_line, refusal_line, refused}
+use Rattle.ubi_tool.specs.Plan.{CutAccepts, plan_answer, steps_done}
 use Rattle.ubi_tool.specs.declared.lines.Detail.TheVariants as detail
 use Rattle.ubi_tool.specs.declared.outcome.Outcome.{Outcome}
-
--- what a step does, and to which eraseblock and page
-abbrev pub step_words : Step → List ℕ
-step_words (step.Erase p) = codes "erase block=" ++ decimal p
-step_words (step.Program p page bytes) = codes "program block=" ++ decimal p ++ codes " page=" ++ decimal page
-
--- its line
-abbrev pub step_line : Step → List ℕ
-step_line next = step_words next ++ codes "\n"
-
--- the lines of a plan: how many steps it has, and each of them
-abbrev pub plan_lines : List Step → List ℕ
-plan_lines steps = codes "steps " ++ decimal (length steps) ++ codes "\n" ++ flat_map step_line steps
 
 -- the line of a change that isn't planned; memory that ran out has none
 abbrev pub cause_line : ChangeRefusal → Option (List ℕ)
@@ -44,23 +29,6 @@ cause_line refusal.Exhausted = Some (refused (codes "K8 Exhausted") [])
 cause_line refusal.NoFree = Some (refused (codes "K9 NoFree") [])
 cause_line refusal.Memory = None
 
--- how many steps are done: as many as are asked for, or all where there are no more, or where no number is given
-abbrev pub steps_done : List Step → Option ℕ → ℕ
-steps_done steps (Some stop) = min (length steps) stop
-steps_done steps None = length steps
-
--- the bytes of an image after the first k steps
-abbrev pub cut_bytes : Image → List Step → ℕ → List ℕ
-cut_bytes image steps k = concat (in_image after image steps k)
-
--- the lines of the whole plan, and the image after those of its steps that are done
-abbrev pub change_answer : Image → List Step → Option ℕ → Answer
-change_answer image steps stop = record {
-  text = plan_lines steps;
-  status = 0;
-  file = Some (cut_bytes image steps (steps_done steps stop));
-}
-
 -- the steps are the plan of the change: each fits what those before it leave, they touch just what they need and count
 -- each erase, and the image survives a cut between them
 pub record IsPlanned (image : Image) (id lnum : ℕ) (new : List ℕ) (steps : List Step) : Type 0 where
@@ -74,13 +42,12 @@ pub record IsPlanned (image : Image) (id lnum : ℕ) (new : List ℕ) (steps : L
 -- that with the new bytes
 abbrev pub CutMeans : Image → ℕ → ℕ → List ℕ → List Step → ℕ → Type 0
 CutMeans image id lnum new steps k =
-    (m : Meant) × Accepts image m
-    × Accepts (record image { bytes = cut_bytes image steps k }) (if nat_lt k (turn image.sizes steps new) then m else changed m id lnum new)
+    (m : Meant) × Accepts image m × CutAccepts image steps (turn image.sizes steps new) m (changed m id lnum new) k
 
 -- what the command answers of an image: that of the plan, and what its file means; or the line of the cause for which
 -- nothing is planned
 pub data Changes (image : Image) (id lnum : ℕ) (new : List ℕ) (stop : Option ℕ) : Outcome → Type 0 where
-  planned : {o : Outcome} (steps : List Step) → IsPlanned image id lnum new steps → Gives o (change_answer image steps stop)
+  planned : {o : Outcome} (steps : List Step) → IsPlanned image id lnum new steps → Gives o (plan_answer image steps stop)
       → CutMeans image id lnum new steps (steps_done steps stop) → Changes image id lnum new stop o
   unplanned : {o : Outcome} (c : ChangeRefusal) (line : List ℕ) → IsChangeRefusal image id lnum new c → cause_line c ≡ Some line
       → Gives o (says line 1) → Changes image id lnum new stop o

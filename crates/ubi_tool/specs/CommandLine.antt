@@ -6,6 +6,7 @@ use Rattle.clap.specs.Simple.{subcommand_rows_of}
 use Rattle.clap.specs.Walk.{Row, first_of, one_of}
 use Rattle.clap.specs.declared.parser.matches.ArgMatches.{ArgMatches}
 use Rattle.ubi_tool.specs.declared.command_line.Change.{Change}
+use Rattle.ubi_tool.specs.declared.command_line.Rename.{Rename}
 use Rattle.ubi_tool.specs.declared.command_line.Request.{Request}
 use Rattle.ubi_tool.specs.declared.command_line.Request.TheVariants as request
 use Rattle.ubi_tool.specs.declared.numbers.Numbers.{Numbers}
@@ -20,11 +21,12 @@ command_name (request.Compose _ _ _ _ _) = codes "compose"
 command_name (request.Normalise _ _ _) = codes "normalise"
 command_name (request.Same _ _ _) = codes "same"
 command_name (request.Change _ _ _) = codes "change"
+command_name (request.Rename _ _ _) = codes "rename"
 
 -- all of them, in the order of the help
 abbrev pub command_names : List (List ℕ)
 command_names = codes "list" ∷ codes "check" ∷ codes "show" ∷ codes "extract" ∷ codes "compose" ∷ codes "normalise"
-    ∷ codes "same" ∷ codes "change" ∷ []
+    ∷ codes "same" ∷ codes "change" ∷ codes "rename" ∷ []
 
 -- the words behind the command that was named, by the names of its arguments
 abbrev pub words_behind : ArgMatches → Option (List Row)
@@ -63,6 +65,12 @@ AsksChange words change = HasNumber words (codes "id") change.id
     × HasText words (codes "out") change.out
     × MayHaveNumber words (codes "stop") change.stop
 
+abbrev pub AsksRename : List Row → Rename → Type 0
+AsksRename words rename = HasNumber words (codes "id") rename.id
+    × HasText words (codes "name") rename.name
+    × HasText words (codes "out") rename.out
+    × MayHaveNumber words (codes "stop") rename.stop
+
 -- the words give what the request says
 abbrev pub Asks : List Row → Request → Type 0
 Asks words (request.List numbers image) = AsksNumbers words numbers × HasText words (codes "IMAGE") image
@@ -80,3 +88,5 @@ Asks words (request.Same numbers left right) = AsksNumbers words numbers × HasT
     × HasText words (codes "OTHER") right
 Asks words (request.Change numbers image change) = AsksNumbers words numbers × HasText words (codes "IMAGE") image
     × AsksChange words change
+Asks words (request.Rename numbers image rename) = AsksNumbers words numbers × HasText words (codes "IMAGE") image
+    × AsksRename words rename

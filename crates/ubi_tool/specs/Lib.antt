@@ -11,9 +11,11 @@ pub mod Lines
 pub mod List
 pub mod Normalise
 pub mod Numbers
+pub mod Plan
 pub mod Printed
 pub mod Program
 pub mod Read
+pub mod Rename
 pub mod Same
 pub mod Show
 pub mod Streams

@@ -14,9 +14,12 @@ use Rattle.ubi_tool.specs.Lines.{file_line, geometry_line}
 use Rattle.ubi_tool.specs.List.{Lists}
 use Rattle.ubi_tool.specs.Normalise.{NormalisesInto, NormalisesTo}
 use Rattle.ubi_tool.specs.Numbers.{sizes_of}
+use Rattle.ubi_tool.specs.Rename.{RenamesInto}
 use Rattle.ubi_tool.specs.Same.{Compares}
 use Rattle.ubi_tool.specs.Show.{Shows}
 use Rattle.ubi_tool.specs.Streams.{OfPlaces}
+use Rattle.ubi_tool.specs.declared.command_line.Request.{Request}
+use Rattle.ubi_tool.specs.declared.command_line.Request.TheVariants as request
 use Rattle.ubi_tool.specs.declared.image_file.Unread.{Unread}
 use Rattle.ubi_tool.specs.declared.image_file.Unread.TheVariants as unread
 use Rattle.ubi_tool.specs.declared.numbers.Numbers.{Numbers}
@@ -70,18 +73,24 @@ pub data WritesFile (path : List ℕ) (outcome : Outcome) : Outcome → Type 0 w
   written : WritesFile path outcome outcome
   unwritten : {o : Outcome} → IsSome outcome.file → Gives o (says (file_line (codes "cannot write ") path) 1) → WritesFile path outcome o
 
--- what the program can answer: nothing for wrong words, or what the command that they name can
+-- what a request can be answered: what its command answers, for its own numbers, paths and volume
+abbrev pub IsAnswerTo : Request → Outcome → Type 0
+IsAnswerTo (request.List numbers path) = OfImage numbers path.now Lists
+IsAnswerTo (request.Check numbers path) = OfImage numbers path.now Checks
+IsAnswerTo (request.Show numbers path p) = OfImage numbers path.now (λ i. Shows i p)
+IsAnswerTo (request.Extract numbers path id out) =
+    OfFile numbers path.now out.now (ExtractsInto id out.now) (λ s k. ExtractsFrom s k None None)
+IsAnswerTo (request.Compose numbers spec out spares seq) = OfText numbers spec.now (λ s t. ComposesInto out.now s t spares seq)
+IsAnswerTo (request.Normalise numbers path out) =
+    OfFile numbers path.now out.now (NormalisesInto out.now) (λ s k. NormalisesTo s k None None)
+IsAnswerTo (request.Same numbers left right) = OfImage numbers left.now (λ i. OfImage numbers right.now (Compares i))
+IsAnswerTo (request.Change numbers path change) =
+    OfImage numbers path.now
+    (λ i. OfImage numbers change.from.now (λ f. ChangesInto change.id change.lnum f.bytes change.stop change.out.now i))
+IsAnswerTo (request.Rename numbers path rename) =
+    OfImage numbers path.now (RenamesInto rename.id rename.name.now rename.stop rename.out.now)
+
+-- what the program can answer: nothing for wrong words, or what a request can be answered
 pub data IsAnswer : Outcome → Type 0 where
   wrong_words : {o : Outcome} → Gives o (says [] 2) → IsAnswer o
-  list : {o : Outcome} (numbers : Numbers) (path : List ℕ) → OfImage numbers path Lists o → IsAnswer o
-  check : {o : Outcome} (numbers : Numbers) (path : List ℕ) → OfImage numbers path Checks o → IsAnswer o
-  show : {o : Outcome} (numbers : Numbers) (path : List ℕ) (p : ℕ) → OfImage numbers path (λ i. Shows i p) o → IsAnswer o
-  extract : {o : Outcome} (numbers : Numbers) (path out : List ℕ) (id : ℕ)
-      → OfFile numbers path out (ExtractsInto id out) (λ s k. ExtractsFrom s k None None) o → IsAnswer o
-  compose : {o : Outcome} (numbers : Numbers) (path out : List ℕ) (spares seq : ℕ)
-      → OfText numbers path (λ s t. ComposesInto out s t spares seq) o → IsAnswer o
-  normalise : {o : Outcome} (numbers : Numbers) (path out : List ℕ)
-      → OfFile numbers path out (NormalisesInto out) (λ s k. NormalisesTo s k None None) o → IsAnswer o
-  same : {o : Outcome} (numbers : Numbers) (left right : List ℕ) → OfImage numbers left (λ i. OfImage numbers right (Compares i)) o → IsAnswer o
-  change : {o : Outcome} (numbers : Numbers) (path from out : List ℕ) (id lnum : ℕ) (stop : Option ℕ)
-      → OfImage numbers path (λ i. OfImage numbers from (λ f. ChangesInto id lnum f.bytes stop out i)) o → IsAnswer o
+  answered : {o : Outcome} (asked : Request) → IsAnswerTo asked o → IsAnswer o

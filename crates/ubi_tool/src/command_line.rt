@@ -4,7 +4,7 @@ ghost use Rattle.std.specs.Prelude.{◌≡◌, IfOk, IfSome, Some, codes};
 ghost use Rattle.clap.specs.Matches.{subcommand_name_of};
 ghost use Rattle.clap.specs.Built.{subcommand_names};
 ghost use Rattle.clap.specs.declared.builder.command.Command.TheViews.{out-Command};
-ghost use Rattle.ubi_tool.specs.CommandLine.{Asks, AsksChange, AsksNumbers, HasNumber, HasText, MayHaveNumber, command_name, command_names, words_behind};
+ghost use Rattle.ubi_tool.specs.CommandLine.{Asks, AsksChange, AsksNumbers, AsksRename, HasNumber, HasText, MayHaveNumber, command_name, command_names, words_behind};
 ghost use Rattle.ubi_tool.specs.inner.CommandLine.{HasOneMore, words_in};
 
 use crate::numbers::Numbers;
@@ -12,7 +12,7 @@ use clap::{Arg, ArgMatches, Command, value_parser};
 use std::alloc::{AllocError, Global};
 
 /// What the words ask for, with the paths as they were given.
-#[derive(Clone, Copy, Debug)]
+#[derive(Clone, Copy)]
 pub enum Request<'a> {
     /// The volumes of a file.
     List {
@@ -63,10 +63,16 @@ pub enum Request<'a> {
         image: &'a str,
         change: Change<'a>,
     },
+    /// A rename of a volume of one file, written into another.
+    Rename {
+        numbers: Numbers,
+        image: &'a str,
+        rename: Rename<'a>,
+    },
 }
 
 /// The change of a logical eraseblock.
-#[derive(Clone, Copy, Debug)]
+#[derive(Clone, Copy)]
 pub struct Change<'a> {
     /// The number of the volume.
     pub id: u32,
@@ -74,6 +80,19 @@ pub struct Change<'a> {
     pub lnum: u32,
     /// The path of the file that holds the new bytes.
     pub from: &'a str,
+    /// The path of the file that is written.
+    pub out: &'a str,
+    /// After how many steps the image is written; after all where it is left out.
+    pub stop: Option<u32>,
+}
+
+/// The rename of a volume.
+#[derive(Clone, Copy)]
+pub struct Rename<'a> {
+    /// The number of the volume.
+    pub id: u32,
+    /// The new name, in the form in which names are printed.
+    pub name: &'a str,
     /// The path of the file that is written.
     pub out: &'a str,
     /// After how many steps the image is written; after all where it is left out.
@@ -110,7 +129,8 @@ pub fn command_line<'a>(alloc: Global) -> Result<Command<'a>, AllocError>
     let tool = with_command(tool, compose_command(alloc))?;
     let tool = with_command(tool, normalise_command(alloc))?;
     let tool = with_command(tool, same_command(alloc))?;
-    with_command(tool, change_command(alloc))
+    let tool = with_command(tool, change_command(alloc))?;
+    with_command(tool, rename_command(alloc))
 }
 
 /// Adds a command, where memory didn't run out for it.
@@ -137,6 +157,7 @@ pub fn request_of<'a>(matches: &'a ArgMatches<'_>) -> Option<Request<'a>>
         ("normalise", inner) => normalise_of(inner),
         ("same", inner) => same_of(inner),
         ("change", inner) => change_of(inner),
+        ("rename", inner) => rename_of(inner),
         _ => None,
     }
 }
@@ -227,6 +248,17 @@ fn change_of<'a>(matches: &'a ArgMatches<'_>) -> Option<Request<'a>>
         numbers: numbers_of(matches)?,
         image: text_of(matches, "IMAGE")?,
         change: leb_change(matches)?,
+    })
+}
+
+fn rename_of<'a>(matches: &'a ArgMatches<'_>) -> Option<Request<'a>>
+    ensures command { IfSome result (λ r. command_name r ≡ codes "rename") }
+    ensures words { IfSome result (Asks (words_in matches.now)) }
+{
+    Some(Request::Rename {
+        numbers: numbers_of(matches)?,
+        image: text_of(matches, "IMAGE")?,
+        rename: volume_rename(matches)?,
     })
 }
 
@@ -332,6 +364,24 @@ fn new_bytes<'a>(alloc: Global) -> Arg<'a> {
         .required(true)
 }
 
+fn rename_command<'a>(alloc: Global) -> Result<Command<'a>, AllocError>
+    ensures { IfOk result (λ c. (out-Command c).name.now ≡ codes "rename") }
+{
+    let command = out_command(alloc, "rename", RENAME)?;
+    let command = command.arg(number(alloc, "id", ID).required(true))?;
+    let command = command.arg(new_name(alloc))?;
+    command.arg(number(alloc, "stop", STOP))
+}
+
+/// The option that gives the new name.
+fn new_name<'a>(alloc: Global) -> Arg<'a> {
+    Arg::new(alloc, "name")
+        .long("name")
+        .value_name("NAME")
+        .help("The new name, as `list` prints names")
+        .required(true)
+}
+
 /// A command over an image file that writes another file.
 fn out_command<'a>(alloc: Global, name: &'a str, about: &'a str) -> Result<Command<'a>, AllocError>
     ensures { IfOk result (λ c. (out-Command c).name.now ≡ name.now) }
@@ -394,6 +444,8 @@ const ID: &str = "The number of the volume";
 
 const CHANGE: &str = "Gives one logical eraseblock new bytes, by steps that may be cut short";
 
+const RENAME: &str = "Gives a volume another name, by steps that may be cut short";
+
 const LNUM: &str = "The number of the logical eraseblock (LEB)";
 
 const SPARES: &str = "How many spare eraseblocks follow [default: 0]";
@@ -428,6 +480,17 @@ fn leb_change<'a>(matches: &'a ArgMatches<'_>) -> Option<Change<'a>>
         id: number_of(matches, "id")?,
         lnum: number_of(matches, "lnum")?,
         from: text_of(matches, "from")?,
+        out: text_of(matches, "out")?,
+        stop: number_of(matches, "stop"),
+    })
+}
+
+fn volume_rename<'a>(matches: &'a ArgMatches<'_>) -> Option<Rename<'a>>
+    ensures { IfSome result (AsksRename (words_in matches.now)) }
+{
+    Some(Rename {
+        id: number_of(matches, "id")?,
+        name: text_of(matches, "name")?,
         out: text_of(matches, "out")?,
         stop: number_of(matches, "stop"),
     })

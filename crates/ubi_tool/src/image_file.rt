@@ -1,11 +1,13 @@
 //! The image file that the words of a command name.
 
-ghost use Rattle.std.specs.Prelude.{◌≡◌, ◌+◌, ◌*◌, ◌≤◌, IfErr, IfOk, IfSome, MatchResult, codes, vec_len};
+ghost use Rattle.std.specs.Io.KnownBytes.{Consumes};
+ghost use Rattle.std.specs.Prelude.{◌≡◌, ◌+◌, ◌*◌, ◌≤◌, IfErr, IfOk, IfSome, MatchResult, OnErr, codes, vec_len};
 ghost use Rattle.ubi_scan.specs.Image.{judged};
 ghost use Rattle.ubi_tool.specs.Answer.{Gives, says};
 ghost use Rattle.ubi_tool.specs.Lines.{file_line, geometry_line};
 ghost use Rattle.ubi_tool.specs.Numbers.{sizes_of};
 ghost use Rattle.ubi_tool.specs.Program.{IsRead, IsUnread, Tells};
+ghost use Rattle.ubi_tool.specs.Read.{TakesAtMost};
 ghost use Rattle.ubi_tool.specs.declared.image_file.Unread.TheVariants.{Memory, Told};
 
 use crate::lines::{file_line, geometry_line};
@@ -18,7 +20,7 @@ use std::io::Read;
 use ubi_media::{Geometry, GeometryError};
 
 /// An image, and the geometry that the words give it.
-#[derive(Debug, Drop)]
+#[derive(Drop)]
 pub struct ImageFile {
     /// The geometry of its device.
     pub geometry: Geometry,
@@ -27,7 +29,7 @@ pub struct ImageFile {
 }
 
 /// Why an image can't be had.
-#[derive(Debug, Drop)]
+#[derive(Drop)]
 pub enum Unread {
     /// What is answered instead: the line of a geometry or of a file.
     Told(Outcome),
@@ -71,6 +73,8 @@ fn read_judged<R: Read>(
 ) -> Result<Vec<u8>, ToolError>
     ensures bytes { IfOk result (λ v. IfSome (R.remaining reader.old) (λ xs. v.items ≡ judged geometry.now xs)) }
     ensures few { IfOk result (λ v. vec_len v ≤ geometry.now.pebs * geometry.now.peb_size + 1) }
+    ensures rest { IfOk result (λ v. Consumes (R.remaining reader.old) (R.remaining reader.new) v.items) }
+    ensures taken { OnErr result (TakesAtMost (geometry.now.pebs * geometry.now.peb_size + 1) (R.remaining reader.old) (R.remaining reader.new)) }
 {
     let device = u64::from(geometry.pebs()) * u64::from(geometry.peb_size());
     read_limited(alloc, reader, device + 1, expected)

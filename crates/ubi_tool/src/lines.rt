@@ -9,7 +9,7 @@ use std::alloc::{AllocError, Global};
 use ubi_media::{EcFault, GeometryError, RecFault, Refusal, VidFault};
 
 /// What a refusal's line says behind the cause.
-#[derive(Clone, Copy, Debug, PartialEq, Eq)]
+#[derive(Clone, Copy)]
 pub enum Detail {
     /// An eraseblock.
     Block(u32),

@@ -7,7 +7,7 @@ ghost use Rattle.ubi_tool.specs.Numbers.{sizes_of};
 use ubi_media::{Geometry, GeometryError, MOST_PEBS};
 
 /// The numbers that the words give. Those that may be left out are options.
-#[derive(Clone, Copy, Debug, PartialEq, Eq)]
+#[derive(Clone, Copy)]
 pub struct Numbers {
     /// The bytes of an eraseblock.
     pub peb_size: u32,

@@ -17,7 +17,7 @@ pub const FAILED: u8 = 1;
 pub const WRONG_WORDS: u8 = 2;
 
 /// What a command answers.
-#[derive(Debug, Drop)]
+#[derive(Drop)]
 pub struct Outcome {
     /// What is printed, in whole lines.
     pub text: Vec<u8>,

@@ -1,9 +1,11 @@
 //! The file of the text that the words of `compose` name.
 
-ghost use Rattle.std.specs.Prelude.{◌≡◌, ◌≢◌, ◌≤◌, IfErr, IfOk, IfSome, None, length, vec_len};
+ghost use Rattle.std.specs.Io.KnownBytes.{Consumes};
+ghost use Rattle.std.specs.Prelude.{◌≡◌, ◌≢◌, ◌+◌, ◌≤◌, IfErr, IfOk, IfSome, None, OnErr, length, vec_len};
 ghost use Rattle.ubi_media.specs.Limits.{first_broken};
 ghost use Rattle.ubi_tool.specs.Numbers.{sizes_of};
 ghost use Rattle.ubi_tool.specs.Program.{IsUnread, Tells, text_limit};
+ghost use Rattle.ubi_tool.specs.Read.{TakesAtMost};
 
 use crate::image_file::{Unread, limit_line, unread_file};
 use crate::numbers::{Numbers, geometry_of};
@@ -15,7 +17,7 @@ use std::io::Read;
 use ubi_media::Geometry;
 
 /// A text, and the geometry that the words give the image.
-#[derive(Debug, Drop)]
+#[derive(Drop)]
 pub struct SpecFile {
     /// The geometry of the device.
     pub geometry: Geometry,
@@ -44,6 +46,8 @@ fn read_text<R: Read>(
 ) -> Result<Vec<u8>, ToolError>
     ensures bytes { IfOk result (λ v. IfSome (R.remaining reader.old) (λ xs. v.items ≡ xs)) }
     ensures few { IfOk result (λ v. vec_len v ≤ text_limit geometry.now) }
+    ensures rest { IfOk result (λ v. Consumes (R.remaining reader.old) (R.remaining reader.new) v.items) }
+    ensures taken { OnErr result (TakesAtMost (text_limit geometry.now + 1) (R.remaining reader.old) (R.remaining reader.new)) }
     ensures err { IfErr result (λ e. e ≢ ToolError.Write) }
 {
     let limit = text_limit(geometry);

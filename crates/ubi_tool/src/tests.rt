@@ -21,6 +21,8 @@ mod normalise_files;
 mod pebs;
 mod printing;
 mod progress;
+mod rename;
+mod rename_files;
 mod same;
 mod show;
 mod streams;

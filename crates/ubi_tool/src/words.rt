@@ -6,19 +6,21 @@ ghost use Rattle.ubi_tool.specs.Change.{ChangesInto};
 ghost use Rattle.ubi_tool.specs.Check.{Checks};
 ghost use Rattle.ubi_tool.specs.Compose.{ComposesInto};
 ghost use Rattle.ubi_tool.specs.List.{Lists};
-ghost use Rattle.ubi_tool.specs.Program.{IsAnswer, OfImage, OfText};
+ghost use Rattle.ubi_tool.specs.Program.{IsAnswer, IsAnswerTo, OfImage, OfText};
+ghost use Rattle.ubi_tool.specs.Rename.{RenamesInto};
 ghost use Rattle.ubi_tool.specs.Same.{Compares};
 ghost use Rattle.ubi_tool.specs.Show.{Shows};
 
 use crate::change::run_change;
 use crate::check::run_check;
-use crate::command_line::{Change, Request, command_line, request_of};
+use crate::command_line::{Change, Rename, Request, command_line, request_of};
 use crate::compose::run_compose;
 use crate::image_file::load;
 use crate::list::run_list;
 use crate::numbers::Numbers;
 use crate::outcome::{Outcome, WRONG_WORDS};
 use crate::output_file::write_outcome;
+use crate::rename::run_rename;
 use crate::same::run_same;
 use crate::show::run_show;
 use crate::spec_file::load_spec;
@@ -67,7 +69,7 @@ fn run_request<R: Files + Eprint>(
 ) -> Result<Outcome, AllocError>
 where
     R::File: FileExt,
-    ensures { IfOk result IsAnswer }
+    ensures { IfOk result (IsAnswerTo request.entry) }
 {
     match request {
         Request::List { numbers, image } => list_file(rt, alloc, numbers, image),
@@ -105,6 +107,11 @@ where
             image,
             change,
         } => change_file(rt, alloc, numbers, image, &change),
+        Request::Rename {
+            numbers,
+            image,
+            rename,
+        } => rename_file(rt, alloc, numbers, image, &rename),
     }
 }
 
@@ -232,6 +239,31 @@ fn change_file<R: Files>(
         change.stop,
     )?;
     write_outcome(rt, alloc, outcome, change.out)
+}
+
+/// Renames a volume of one file, into another.
+fn rename_file<R: Files>(
+    rt: &R,
+    alloc: Global,
+    numbers: Numbers,
+    image: &str,
+    rename: &Rename<'_>,
+) -> Result<Outcome, AllocError>
+    ensures { IfOk result (OfImage numbers image.now (RenamesInto rename.now.id rename.now.name.now rename.now.stop rename.now.out.now)) }
+{
+    let file = match load(rt, alloc, numbers, image) {
+        Ok(file) => file,
+        Err(unread) => return unread.answer(),
+    };
+    let outcome = run_rename(
+        alloc,
+        &file.geometry,
+        file.bytes.as_slice(),
+        rename.id,
+        rename.name.as_bytes(),
+        rename.stop,
+    )?;
+    write_outcome(rt, alloc, outcome, rename.out)
 }
 
 /// Prints to standard error what is wrong with the words.

@@ -71,6 +71,8 @@ fn changes_a_file(rt: HostRuntime) -> Result<(), Fail> {
         spare_image(alloc, &small()?)?.as_slice(),
     )?;
     fs::write(&rt, "change_new.bin", [0x61; 64].as_slice())?;
+    // A longer file is cut.
+    fs::write(&rt, "changed.img", [0; 5120].as_slice())?;
     for (line, stop) in CUTS {
         assert_line(&rt, alloc, line, LINES, 0)?;
         let want = changed(alloc, &small()?, stop)?;

@@ -15,6 +15,8 @@ fn composes_a_file(rt: HostRuntime) -> Result<(), Fail> {
     let alloc = rt.alloc();
     let text = b"volume 0 dynamic 20 1 00 root\nleb 0 1 6162\n";
     fs::write(&rt, "compose_in.txt", text.as_slice())?;
+    // A longer file is cut.
+    fs::write(&rt, "composed.img", [0; 5120].as_slice())?;
     let line = "compose compose_in.txt --out composed.img --spares 1";
     assert_line(&rt, alloc, line, "blocks 4\n", 0)?;
     let lines = "geometry peb=512 page=64 vid=64 data=128 leb=384 slots=2 pebs=32\n\

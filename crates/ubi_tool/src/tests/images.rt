@@ -64,6 +64,26 @@ pub const MARKED_ROOT: Record = Record {
     check: [0x9B, 0x01, 0x91, 0x0D],
 };
 
+/// The record of `root` under the name `data`.
+pub const DATA: Record = Record {
+    start: *b"\0\0\0\x14\0\0\0\x01\0\0\0\0\x01\0\0\x04data",
+    flags: 0,
+    check: [0xE3, 0xD5, 0x62, 0xFE],
+};
+
+/// Those of dynamic volumes `data` and `name` with one reserved eraseblock.
+pub const SMALL_DATA: Record = Record {
+    start: *b"\0\0\0\x01\0\0\0\x01\0\0\0\0\x01\0\0\x04data",
+    flags: 0,
+    check: [0x7C, 0x57, 0x61, 0xB3],
+};
+
+pub const SMALL_NAME: Record = Record {
+    start: *b"\0\0\0\x01\0\0\0\x01\0\0\0\0\x01\0\0\x04name",
+    flags: 0,
+    check: [0x42, 0x90, 0xBE, 0xC3],
+};
+
 /// The record of a static volume `boot` with 3 reserved eraseblocks.
 pub const BOOT: Record = Record {
     start: *b"\0\0\0\x03\0\0\0\x01\0\0\0\0\x02\0\0\x04boot",
@@ -223,9 +243,14 @@ fn put_copy(
 
 /// The bytes of a table with a record in its first slot and none in its second.
 pub fn records(first: &Record) -> [u8; 344] {
+    two_records(first, &NONE)
+}
+
+/// The bytes of a table of two records.
+pub fn two_records(first: &Record, second: &Record) -> [u8; 344] {
     let mut records = [0; 344];
     overwrite(&mut records, 0, &first.bytes());
-    overwrite(&mut records, 172, &NONE.bytes());
+    overwrite(&mut records, 172, &second.bytes());
     records
 }
 

@@ -52,6 +52,32 @@ static CHIPS: [Chip; 2] = [
                 "extract chip_changed.img --id 0 --out chip_changed.bin",
                 "bytes 380928\n",
             ),
+            (
+                "compose chip.txt --out chip_spares.img --spares 2 --seq 305419896",
+                "blocks 5\n",
+            ),
+            (
+                "rename chip_spares.img --id 0 --name data --out chip_renamed.img",
+                "steps 28\n\
+                    program block=3 page=1\nprogram block=3 page=2\nprogram block=3 page=3\nprogram block=3 page=4\n\
+                    program block=3 page=5\nprogram block=3 page=6\nprogram block=3 page=7\nprogram block=3 page=8\n\
+                    program block=3 page=9\nprogram block=3 page=10\nprogram block=3 page=11\nprogram block=3 page=12\n\
+                    erase block=0\nprogram block=0 page=0\n\
+                    program block=4 page=1\nprogram block=4 page=2\nprogram block=4 page=3\nprogram block=4 page=4\n\
+                    program block=4 page=5\nprogram block=4 page=6\nprogram block=4 page=7\nprogram block=4 page=8\n\
+                    program block=4 page=9\nprogram block=4 page=10\nprogram block=4 page=11\nprogram block=4 page=12\n\
+                    erase block=1\nprogram block=1 page=0\n",
+            ),
+            (
+                "list chip_renamed.img",
+                "geometry peb=131072 page=2048 vid=2048 data=4096 leb=126976 slots=128 pebs=64\n\
+                    volume 0 dynamic reserved=3 alignment=1 usable=126976 flags=00 lebs=1 name=data\n\
+                    volumes 1\n",
+            ),
+            (
+                "extract chip_renamed.img --id 0 --out chip_renamed.bin",
+                "bytes 380928\n",
+            ),
         ],
     },
     Chip {
@@ -86,6 +112,32 @@ static CHIPS: [Chip; 2] = [
             ),
             (
                 "extract chip_changed.img --id 0 --out chip_changed.bin",
+                "bytes 387072\n",
+            ),
+            (
+                "compose chip.txt --out chip_spares.img --spares 2 --seq 305419896",
+                "blocks 5\n",
+            ),
+            (
+                "rename chip_spares.img --id 0 --name data --out chip_renamed.img",
+                "steps 28\n\
+                    program block=3 page=0\nprogram block=3 page=1\nprogram block=3 page=2\nprogram block=3 page=3\n\
+                    program block=3 page=4\nprogram block=3 page=5\nprogram block=3 page=6\nprogram block=3 page=7\n\
+                    program block=3 page=8\nprogram block=3 page=9\nprogram block=3 page=10\nprogram block=3 page=11\n\
+                    erase block=0\nprogram block=0 page=0\n\
+                    program block=4 page=0\nprogram block=4 page=1\nprogram block=4 page=2\nprogram block=4 page=3\n\
+                    program block=4 page=4\nprogram block=4 page=5\nprogram block=4 page=6\nprogram block=4 page=7\n\
+                    program block=4 page=8\nprogram block=4 page=9\nprogram block=4 page=10\nprogram block=4 page=11\n\
+                    erase block=1\nprogram block=1 page=0\n",
+            ),
+            (
+                "list chip_renamed.img",
+                "geometry peb=131072 page=2048 vid=512 data=2048 leb=129024 slots=128 pebs=64\n\
+                    volume 0 dynamic reserved=3 alignment=1 usable=129024 flags=00 lebs=1 name=data\n\
+                    volumes 1\n",
+            ),
+            (
+                "extract chip_renamed.img --id 0 --out chip_renamed.bin",
                 "bytes 387072\n",
             ),
         ],
@@ -130,6 +182,7 @@ where
     assert!(rt; holds(rt, "chip_normal.img", normal)?);
     let read = contents(alloc, chip.leb, b"ab")?;
     assert!(rt; holds(rt, "chip.bin", read.as_slice())?);
+    assert!(rt; holds(rt, "chip_renamed.bin", read.as_slice())?);
     let read = contents(alloc, chip.leb, &[0x61; 2048])?;
     assert!(rt; holds(rt, "chip_changed.bin", read.as_slice())?);
     Ok(())
@@ -153,6 +206,9 @@ fn answers_of_eraseblocks_of_128_kib(rt: HostRuntime) -> Result<(), Fail> {
             "chip_normal.img",
             "chip_changed.img",
             "chip_changed.bin",
+            "chip_spares.img",
+            "chip_renamed.img",
+            "chip_renamed.bin",
         ],
     )
 }

@@ -15,6 +15,7 @@ use crate::extract::run_extract;
 use crate::list::run_list;
 use crate::normalise::run_normalise;
 use crate::outcome::{Outcome, ToolError};
+use crate::rename::run_rename;
 use crate::same::run_same;
 use crate::show::run_show;
 use std::alloc::{AllocError, Global};
@@ -83,12 +84,28 @@ fn is_changed(rt: &impl Abort, alloc: Global, geometry: &Geometry) -> bool {
     is_told(rt, answer, "steps 4\n")
 }
 
+/// Whether `rename` answered its plan, and the file of its last step. Else memory ran out.
+fn is_renamed(rt: &impl Abort, alloc: Global, geometry: &Geometry) -> bool {
+    let image = spares_bytes();
+    let answer = run_rename(alloc, geometry, &image, 0, b"data", None);
+    is_told(rt, answer, "steps 18\n")
+}
+
 /// The image of `root`, and a clean free eraseblock behind it. It takes no memory.
 fn spare_bytes() -> [u8; 3072] {
     let root = root_bytes();
     let mut bytes = [0xFF; 3072];
     overwrite(&mut bytes, 0, &root);
     overwrite(&mut bytes, 2560, &EC);
+    bytes
+}
+
+/// The same with two of them.
+fn spares_bytes() -> [u8; 3584] {
+    let spare = spare_bytes();
+    let mut bytes = [0xFF; 3584];
+    overwrite(&mut bytes, 0, &spare);
+    overwrite(&mut bytes, 3072, &EC);
     bytes
 }
 
@@ -106,6 +123,7 @@ fn tells_all_or_runs_out_of_memory(rt: HostRuntime) -> Result<(), Fail> {
         is_told(&rt, run_same(alloc, &geometry, &image, &image), "same\n"),
         is_told(&rt, run_compose(alloc, &geometry, SPEC, 1, 0), "blocks 5\n"),
         is_changed(&rt, alloc, &geometry),
+        is_renamed(&rt, alloc, &geometry),
     ];
     if told.contains(&false) {
         println!(rt; "out of memory")?;
@@ -156,8 +174,10 @@ fn runs_words_or_out_of_memory(rt: HostRuntime) -> Result<(), Fail> {
     let normalise_whole = "normalise a --out a --peb 512 --page 64";
     let same = "same a b --peb 512 --page 64";
     let change = "change a --id 0 --lnum 1 --from new.bin --out b --peb 512 --page 64";
+    let rename = "rename a --id 0 --name data --out b --peb 512 --page 64";
     let compose = "compose a --spares 1 --out b --peb 512 --page 64";
     let spare: &[u8] = &spare_bytes();
+    let spares: &[u8] = &spares_bytes();
     let ran = [
         is_run(&rt, alloc, image, list, ("geometry peb=512 ", 0)),
         is_run(&rt, alloc, image, show, ("ec valid 5542", 0)),
@@ -166,6 +186,7 @@ fn runs_words_or_out_of_memory(rt: HostRuntime) -> Result<(), Fail> {
         is_run(&rt, alloc, image, normalise_whole, ("blocks 5\n", 2560)),
         is_run(&rt, alloc, image, same, ("same\n", 0)),
         is_run(&rt, alloc, spare, change, ("steps 4\n", 3072)),
+        is_run(&rt, alloc, spares, rename, ("steps 18\n", 3584)),
         is_run(&rt, alloc, SPEC, compose, ("blocks 5\n", 2560)),
     ];
     if ran.contains(&false) {

@@ -37,13 +37,13 @@ fn assert_wrong(rt: &impl Abort, alloc: Global, cases: &[(&str, &str)]) -> Resul
 }
 
 /// Lines that name no command or ask for help, with what is shown.
-static NO_COMMAND: [(&str, &str); 13] = [
+static NO_COMMAND: [(&str, &str); 14] = [
     ("", "requires a subcommand"),
     ("--help", "Usage: ubi_tool"),
     ("--help", "ubi_tool list dump.img --peb 131072 --page 2048"),
     ("help", "Usage: ubi_tool"),
     ("--version", "ubi_tool 0.1.0\n"),
-    ("rename a", "unrecognized subcommand"),
+    ("move a", "unrecognized subcommand"),
     ("list --help", "--vid <N>   The offset of the VID header"),
     ("show --help", "Usage: ubi_tool show"),
     ("same --help", "Usage: ubi_tool same"),
@@ -51,6 +51,7 @@ static NO_COMMAND: [(&str, &str); 13] = [
     ("compose --help", "Usage: ubi_tool compose"),
     ("normalise --help", "Usage: ubi_tool normalise"),
     ("change --help", "Usage: ubi_tool change"),
+    ("rename --help", "Usage: ubi_tool rename"),
 ];
 
 #[test]
@@ -59,7 +60,7 @@ fn shows_wrong_commands_and_help(rt: HostRuntime) -> Result<(), Fail> {
 }
 
 /// Lines of which words are missing.
-static MISSING: [(&str, &str); 15] = [
+static MISSING: [(&str, &str); 19] = [
     ("normalise a --out b --peb 512", "--page <N>"),
     ("normalise --out b --peb 512 --page 64", "<IMAGE>"),
     ("normalise a --peb 512 --page 64", "--out <FILE>"),
@@ -90,6 +91,19 @@ static MISSING: [(&str, &str); 15] = [
         "change a --peb 512 --page 64 --id 0 --lnum 0 --from b --out c --stop x",
         "invalid value",
     ),
+    ("rename a --peb 512 --page 64 --name b --out c", "--id <N>"),
+    (
+        "rename a --peb 512 --page 64 --id 0 --out c",
+        "--name <NAME>",
+    ),
+    (
+        "rename a --peb 512 --page 64 --id 0 --name b",
+        "--out <FILE>",
+    ),
+    (
+        "rename --peb 512 --page 64 --id 0 --name b --out c",
+        "<IMAGE>",
+    ),
 ];
 
 #[test]
@@ -98,7 +112,7 @@ fn shows_words_that_are_missing(rt: HostRuntime) -> Result<(), Fail> {
 }
 
 /// Lines with words that can't be read.
-static UNREAD: [(&str, &str); 10] = [
+static UNREAD: [(&str, &str); 13] = [
     (
         "normalise a --out b --peb 4294967296 --page 64",
         "invalid value",
@@ -130,6 +144,18 @@ static UNREAD: [(&str, &str); 10] = [
         "extract a --peb 512 --page 64 --id 0x1 --out b",
         "invalid value",
     ),
+    (
+        "rename a --peb 512 --page 64 --id 0 --name b --out c --stop x",
+        "invalid value",
+    ),
+    (
+        "rename a --peb 512 --page 64 --id 0 --name -b --out c",
+        "unexpected argument",
+    ),
+    (
+        "rename a --peb 512 --page 64 --id 0 --lnum 0 --name b --out c",
+        "unexpected argument",
+    ),
 ];
 
 #[test]
@@ -139,7 +165,7 @@ fn shows_words_that_cannot_be_read(rt: HostRuntime) -> Result<(), Fail> {
 
 /// Lines that are answered before any image is read, with the answers: of the numbers the first limit that they break, and
 /// of what is left out its default. A path that begins with a hyphen follows `--`.
-static ANSWERED: [(&str, &str, u8); 24] = [
+static ANSWERED: [(&str, &str, u8); 27] = [
     (
         "list a --peb 512 --page 96 --vid 100 --data 128 --pebs 1",
         "refused G1 Page\n",
@@ -205,6 +231,21 @@ static ANSWERED: [(&str, &str, u8); 24] = [
         "change a --peb 500 --page 64 --id 0 --lnum 0 --from b --out c --stop 0",
         "refused G2 PebSize\n",
         2,
+    ),
+    (
+        "rename a --peb 500 --page 64 --id 0 --name= --out c --stop 0",
+        "refused G2 PebSize\n",
+        2,
+    ),
+    (
+        "rename a --peb 512 --page 64 --id 0 --name= --out c",
+        "cannot read a\n",
+        1,
+    ),
+    (
+        "rename a --peb 512 --page 64 --id 0 --name=-b --out c",
+        "cannot read a\n",
+        1,
     ),
     (
         "normalise a --out b --peb 512 --page 64",

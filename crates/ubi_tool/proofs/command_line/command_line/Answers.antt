@@ -20,6 +20,7 @@ returns c =
     let five = behind _ _ _ (codes "compose") four (c.in_ok-tool-5.ensures (codes "compose") c.compose_command.ensures) in
     let six = behind _ _ _ (codes "normalise") five (c.in_ok-tool-6.ensures (codes "normalise") c.normalise_command.ensures) in
     let seven = behind _ _ _ (codes "same") six (c.in_ok-tool-7.ensures (codes "same") c.same_command.ensures) in
-    IfOk-weaker c.with_command-8.result (HasOneMore c.in_ok-tool-7.tool c.change_command.result) _
-    (λ r more. behind _ _ _ (codes "change") seven (more (codes "change") c.change_command.ensures))
-    c.with_command-8.ensures
+    let eight = behind _ _ _ (codes "change") seven (c.in_ok-tool-8.ensures (codes "change") c.change_command.ensures) in
+    IfOk-weaker c.with_command-9.result (HasOneMore c.in_ok-tool-8.tool c.rename_command.result) _
+    (λ r more. behind _ _ _ (codes "rename") eight (more (codes "rename") c.rename_command.ensures))
+    c.with_command-9.ensures

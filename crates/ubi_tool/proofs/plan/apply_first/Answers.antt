@@ -3,7 +3,7 @@ use Rattle.std.proofs.lemmas.List.{length-take-le}
 use Rattle.ubi_change.specs.Steps.{after}
 use Rattle.ubi_scan.specs.Image.{eraseblocks, image_of}
 use Rattle.ubi_tool.proofs.Cut.{cut-is}
-use Rattle.ubi_tool.proofs.change.apply_first.Goals as goal
+use Rattle.ubi_tool.proofs.plan.apply_first.Goals as goal
 
 pub returns-clause-cut : goal.returns-clause-cut
 returns-clause-cut c =

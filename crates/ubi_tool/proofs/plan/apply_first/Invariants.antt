@@ -1,7 +1,7 @@
 use Rattle.std.proofs.Common.{◌≡◌, length}
 use Rattle.ubi_change.specs.Steps.{after}
 use Rattle.ubi_scan.specs.Image.{eraseblocks, image_of}
-use Rattle.ubi_tool.proofs.change.apply_first.Given as goal
+use Rattle.ubi_tool.proofs.plan.apply_first.Given as goal
 
 -- so many steps are done
 abbrev pub invariant-loop-step : goal.invariant-loop-step
