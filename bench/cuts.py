@@ -1,19 +1,21 @@
 #!/usr/bin/env python3
-"""Cuts random changes of random small images after each of their steps, and looks at what each cut means.
+"""Cuts random changes and renames of random small images after each of their steps, and looks at what each cut means.
 
 usage: cuts.py [--seed N] [--count N] [--first N] [--dir FOLDER] [--tool PROGRAM]
 
-An image has the two copies of a table with a dynamic volume, some of its logical eraseblocks, of some an older member
-too, and eraseblocks that are free, erased, or hold no header that can be read, all of it in a random order. None, one, two or
-all of those with an erase-counter header carry the image's number. Of each image one logical eraseblock is changed by
-`change`, which is asked for the image after each number of steps from 0 on. Each cut must be accepted by `check`, with the
-number, and `list` and `extract` must give of it what they are to give of the old image up to the step that turns, and of the
-new one from then on. Which step that is, what is listed and extracted, and which eraseblocks are touched, is worked out here, by
-the format alone. Where too few eraseblocks can be taken, or the number isn't reserved, the refusal is looked at.
+An image has the two copies of a table with one or two dynamic volumes, some of their logical eraseblocks, of some an older
+member too, and eraseblocks that are free, erased, or hold no header that can be read, all of it in a random order. None, one,
+two or all of those with an erase-counter header carry the image's number. Of an image one logical eraseblock is changed by
+`change`, or one volume renamed by `rename`, which is asked for the image after each number of steps from 0 on. Each cut must be
+accepted by `check`, with the number, and `list` and `extract` must give of it what they are to give of the old image up to the
+step that turns, and of the new one from then on. Each cut of a rename is renamed again, which must be refused just where the
+copies of the table differ. Which step turns, what is listed and extracted, and which eraseblocks are touched, is worked out here,
+by the format alone. Where too few eraseblocks can be taken, the number isn't reserved, the volume isn't there, or another one has
+the name, the refusal is looked at.
 
-Without words there are 100 images (--count) of the seed 1 (--seed). They lie in a new folder below FOLDER (/tmp where it is left
-out), which is removed again. Without --tool the program is built first where it isn't yet. The last line is
-'N passed, M failed', and the exit status is 0 where none failed.
+Without words there are 100 images (--count) of the seed 1 (--seed) to change, and as many to rename. They lie in a new folder
+below FOLDER (/tmp where it is left out), which is removed again. Without --tool the program is built first where it isn't yet.
+The last line is 'N passed, M failed', and the exit status is 0 where none failed.
 """
 import os
 import struct
@@ -22,23 +24,31 @@ import subprocess
 from fuzz import Failure, built, finish, options, run_cases
 from image import check, counter_header, identifier_header, sealed
 
-LAYOUT, RESERVED, PEBS = 0x7FFFEFFF, 12, 32
+LAYOUT, PEBS = 0x7FFFEFFF, 32
+# Of each volume what it reserves.
+RESERVED = {0: 12, 1: 3}
+# New names as they are given, and their bytes; and how `list` prints the one whose bytes it doesn't print as they stand.
+NAMES = {"root": b"root", "data": b"data", "new": b"new", "\\x6Eew": b"new", "\\xFF\\x20\\x5c\\x41": b"\xFF \\A", "n" * 127: b"n" * 127}
+SHOWN = {b"\xFF \\A": "\\xff\\x20\\x5cA"}
 GEOMETRIES = ((512, 64, 64, 128), (1024, 256, 64, 256), (1024, 256, 320, 512), (576, 64, 64, 128))
 
 
 class Device:
-    """A random image, what its volume reads, and which of its eraseblocks is what."""
+    """A random image, what its volumes are called and read, and which of its eraseblocks is what."""
 
     def __init__(self, rng):
         self.rng = rng
         self.peb, self.page, self.vid, self.data = rng.choice(GEOMETRIES)
         self.leb = self.peb - self.data
         self.slots = min(128, self.leb // 172)
+        self.names = rng.choice(({0: b"root"}, {0: b"root", 1: b"data"}))
         self.lebs = {}
-        blocks = [("table", self.table(copy)) for copy in range(2)]
-        for number in rng.sample(range(RESERVED), rng.randrange(5)):
-            blocks += self.members(number)
-        for _ in range(rng.randrange(4)):
+        blocks = [(("table", copy), self.table(copy)) for copy in range(2)]
+        for number in rng.sample(range(RESERVED[0]), rng.randrange(5)):
+            blocks += self.members(0, number)
+        if 1 in self.names:
+            blocks += self.members(1, rng.randrange(RESERVED[1]))
+        for _ in range(rng.randrange(5)):
             blocks.append(rng.choice((("clean", self.free()), ("unused", self.erased()), ("unused", self.garbage()))))
         if rng.random() < 0.2:
             blocks.append(("corrupt", self.corrupt()))
@@ -65,9 +75,13 @@ class Device:
 
     def touched(self, lnum):
         """The eraseblocks that a change of a LEB erases or programs: what it takes, and the winner that it gives up."""
-        if lnum not in self.lebs:
+        if (0, lnum) not in self.lebs:
             return set(self.takeable()[:2])
-        return {self.takeable()[0], self.kinds.index(lnum)} - {self.sole}
+        return {self.takeable()[0], self.kinds.index((0, lnum))} - {self.sole}
+
+    def touched_by_rename(self):
+        """The eraseblocks that a rename erases or programs: the two that it takes, and the copies of the table that it gives up."""
+        return {*self.takeable()[:2], *(self.kinds.index(("table", copy)) for copy in range(2))} - {self.sole}
 
     def block(self, ec, vid, data=b""):
         front = ec.ljust(self.vid, b"\xFF") + vid
@@ -77,9 +91,14 @@ class Device:
         return counter_header(self.rng.randrange(100), self.vid, self.data)
 
     def table(self, copy):
-        record = sealed(struct.pack(">IIIBBH128sB23x", RESERVED, 1, 0, 1, 0, 4, b"root", 0))
-        slots = record + sealed(bytes(168)) * (self.slots - 1)
-        return self.block(self.counted(), identifier_header(LAYOUT, copy, 0, compat=5), slots)
+        return self.block(self.counted(), identifier_header(LAYOUT, copy, 0, compat=5), self.records(self.names))
+
+    def records(self, names):
+        """The table where volumes have these names."""
+        fronts = [bytes(168)] * self.slots
+        for volume, name in names.items():
+            fronts[volume] = struct.pack(">IIIBBH128sB23x", RESERVED[volume], 1, 0, 1, 0, len(name), name, 0)
+        return b"".join(map(sealed, fronts))
 
     def text(self):
         """Some whole pages: random ones, and maybe blank ones behind them."""
@@ -87,16 +106,16 @@ class Device:
         blank = self.rng.randrange(pages + 1) if self.rng.random() < 0.5 else 0
         return self.rng.randbytes((pages - blank) * self.page) + b"\xFF" * (blank * self.page)
 
-    def members(self, number):
-        """A logical eraseblock: its winner, whose kind is its number, and maybe a member that is beaten."""
+    def members(self, volume, number):
+        """A logical eraseblock: its winner, whose kind is the volume and the number, and maybe a member that is beaten."""
         text = self.text()
         copied = text if self.rng.random() < 0.5 else b""
-        self.lebs[number] = text.ljust(self.leb, b"\xFF")
-        winner = self.block(self.counted(), identifier_header(0, number, 2 * number + 2, copied), text)
+        self.lebs[volume, number] = text.ljust(self.leb, b"\xFF")
+        winner = self.block(self.counted(), identifier_header(volume, number, 2 * number + 2, copied), text)
         if self.rng.random() < 0.6:
-            return [(number, winner)]
-        beaten = self.block(self.counted(), identifier_header(0, number, 2 * number + 1), self.text())
-        return [(number, winner), ("unused", beaten)]
+            return [((volume, number), winner)]
+        beaten = self.block(self.counted(), identifier_header(volume, number, 2 * number + 1), self.text())
+        return [((volume, number), winner), ("unused", beaten)]
 
     def free(self):
         return self.block(self.counted(), b"\xFF" * 64)
@@ -120,19 +139,23 @@ def expect(is_right, what):
         raise Failure(what)
 
 
-def listed(device, lebs):
-    """What `list` prints of a volume with these logical eraseblocks."""
-    count = sum(text.strip(b"\xFF") != b"" for text in lebs.values())
-    return (
+def listed(device, names, lebs):
+    """What `list` prints where volumes have these names and these logical eraseblocks."""
+    lines = [
         f"geometry peb={device.peb} page={device.page} vid={device.vid} data={device.data} leb={device.leb} "
         f"slots={device.slots} pebs={PEBS}\n"
-        f"volume 0 dynamic reserved={RESERVED} alignment=1 usable={device.leb} flags=00 lebs={count} name=root\n"
-        "volumes 1\n"
-    )
+    ]
+    for volume, name in names.items():
+        count = sum(of == volume and text.strip(b"\xFF") != b"" for (of, _), text in lebs.items())
+        lines.append(
+            f"volume {volume} dynamic reserved={RESERVED[volume]} alignment=1 usable={device.leb} flags=00 lebs={count} "
+            f"name={SHOWN.get(name, name.decode(errors='replace'))}\n"
+        )
+    return "".join((*lines, f"volumes {len(names)}\n"))
 
 
-def extracted(device, lebs):
-    return b"".join(lebs.get(number, b"\xFF" * device.leb) for number in range(RESERVED))
+def extracted(device, lebs, volume):
+    return b"".join(lebs.get((volume, number), b"\xFF" * device.leb) for number in range(RESERVED[volume]))
 
 
 def steps_of(text):
@@ -152,13 +175,15 @@ def is_copy(device, block):
     return header[:4] == b"UBI!" and header[6] == 1 and struct.pack(">I", check(header[:60])) == header[60:]
 
 
-def turn(device, steps, cuts, new):
-    """The number of steps from which on the new is meant: up to the header of the copy, and then the pages that count."""
+def turns(device, steps, cuts, new, count):
+    """Of COUNT copies each one's eraseblock, and the steps from which on it wins: up to its header, and then the pages that count."""
+    found = []
     for k, (p, page) in enumerate(steps):
         before, after = (cut[p * device.peb : (p + 1) * device.peb] for cut in cuts[k : k + 2])
         if page == device.vid // device.page and is_copy(device, after) and not is_copy(device, before):
-            return k + 1 + -(-len(new.rstrip(b"\xFF")) // device.page)
-    raise Failure("no step programs the header of a copy")
+            found.append((p, k + 1 + -(-len(new.rstrip(b"\xFF")) // device.page)))
+    expect(len(found) == count, f"{len(found)} steps and not {count} program the header of a copy")
+    return found
 
 
 def is_one_step(device, before, after, step):
@@ -184,54 +209,92 @@ class Looker:
         done = subprocess.run([self.tool, *words], capture_output=True, text=True)
         return done.stdout, done.returncode
 
-    def look(self, device, lebs, what):
+    def look(self, device, names, lebs, what):
         """Looks at what a cut means."""
         text, status = self.run("check", self.cut, *device.words())
         expect(status == 0 and text.endswith("accepted\n"), f"{what} isn't accepted: {text}")
         expect(f"\nimage seq {device.number}\n" in text, f"{what} has another number: {text}")
         text, status = self.run("list", self.cut, *device.words())
-        expect((text, status) == (listed(device, lebs), 0), f"{what} lists {text}")
-        text, status = self.run("extract", self.cut, "--id", "0", "--out", self.out, *device.words())
-        expect(status == 0 and read(self.out) == extracted(device, lebs), f"{what} reads something else")
+        expect((text, status) == (listed(device, names, lebs), 0), f"{what} lists {text}")
+        for volume in names:
+            text, status = self.run("extract", self.cut, "--id", str(volume), "--out", self.out, *device.words())
+            expect(status == 0 and read(self.out) == extracted(device, lebs, volume), f"{what} reads something else")
 
     def try_change(self, device):
         """Changes one logical eraseblock of an image, and looks at each cut. Gives how many steps the plan has."""
-        lnum, new = device.rng.randrange(RESERVED + 1), device.text()
-        if device.lebs and device.rng.random() < 0.5:
-            lnum = device.rng.choice(list(device.lebs))
-        write(self.image, device.image)
+        lnum, new = device.rng.randrange(RESERVED[0] + 1), device.text()
+        mapped = [number for volume, number in device.lebs if volume == 0]
+        if mapped and device.rng.random() < 0.5:
+            lnum = device.rng.choice(mapped)
         write(self.new, new)
-        if os.path.exists(self.cut):
-            os.remove(self.cut)
         words = ["change", self.image, "--id", "0", "--lnum", str(lnum), "--from", self.new, "--out", self.cut, *device.words()]
-        plan, status = self.run(*words)
-        if lnum == RESERVED or len(device.takeable()) < (1 if lnum in device.lebs else 2):
-            line = "refused K5 OutOfRange\n" if lnum == RESERVED else "refused K9 NoFree\n"
-            expect((plan, status) == (line, 1) and not os.path.exists(self.cut), f"of {line!r} comes {plan!r}")
+        refusal = None
+        if lnum == RESERVED[0]:
+            refusal = "K5 OutOfRange"
+        elif len(device.takeable()) < (1 if lnum in mapped else 2):
+            refusal = "K9 NoFree"
+        steps, cuts = self.planned(device, words, refusal)
+        if refusal:
             return 0
-        expect(status == 0, f"the change is refused: {plan}")
-        steps = steps_of(plan)
-        touched = {p for p, _ in steps}
-        expect(touched == device.touched(lnum), f"the steps touch {touched} and not {device.touched(lnum)}")
-        self.look_cuts(device, self.cuts(words, plan, len(steps)), steps, lnum, new)
+        self.look_touched(steps, device.touched(lnum))
+        [(_, at)] = turns(device, steps, cuts, new, 1)
+        changed = device.lebs | {(0, lnum): new.ljust(device.leb, b"\xFF")}
+        for k, what in self.each_cut(device, steps, cuts):
+            self.look(device, device.names, device.lebs if k < at else changed, f"{what} of a change that turns at {at}")
         return len(steps)
 
-    def cuts(self, words, plan, count):
-        """What is written behind each number of steps, and behind one more than there are."""
-        cuts = []
-        for k in range(count + 2):
+    def try_rename(self, device):
+        """Renames a volume of an image, and looks at each cut. Gives how many steps the plan has."""
+        volume, word = device.rng.randrange(2), device.rng.choice(list(NAMES))
+        words = ["rename", self.image, "--id", str(volume), "--name", word, "--out", self.cut, *device.words()]
+        names = device.names | {volume: NAMES[word]}
+        refusal = None
+        if volume not in device.names:
+            refusal = "K2 NoVolume"
+        elif names.get(0) == names.get(1):
+            refusal = f"N2 SameName slot={1 - volume}"
+        elif len(device.takeable()) < 2:
+            refusal = "K9 NoFree"
+        steps, cuts = self.planned(device, words, refusal)
+        if refusal:
+            return 0
+        self.look_touched(steps, device.touched_by_rename())
+        (first, at), (second, end) = turns(device, steps, cuts, device.records(names), 2)
+        expect([first, second] == device.takeable()[:2], f"the copies are put to {first} and {second}")
+        for k, what in self.each_cut(device, steps, cuts):
+            self.look(device, device.names if k < at else names, device.lebs, f"{what} of a rename that turns at {at}")
+            again, _ = self.run("rename", self.cut, "--id", str(volume), "--name", "again", "--out", self.out, *device.words())
+            differ = at <= k < end and names != device.names
+            expect((again == "refused N3 NeedsRepair\n") == differ, f"{what} of a rename from {at} to {end} is renamed: {again}")
+        return len(steps)
+
+    def planned(self, device, words, refusal):
+        """The steps of a plan, and what is written behind each number of them, and behind one more than there are; or a refusal."""
+        write(self.image, device.image)
+        if os.path.exists(self.cut):
+            os.remove(self.cut)
+        plan, status = self.run(*words)
+        if refusal:
+            expect((plan, status) == (f"refused {refusal}\n", 1) and not os.path.exists(self.cut), f"of {refusal!r} comes {plan!r}")
+            return [], []
+        expect(status == 0, f"{words[0]} is refused: {plan}")
+        steps, cuts = steps_of(plan), []
+        for k in range(len(steps) + 2):
             expect(self.run(*words, "--stop", str(k)) == (plan, 0), f"--stop {k} prints something else")
             cuts.append(read(self.cut))
-        return cuts
+        return steps, cuts
 
-    def look_cuts(self, device, cuts, steps, lnum, new):
+    def look_touched(self, steps, expected):
+        touched = {p for p, _ in steps}
+        expect(touched == expected, f"the steps touch {touched} and not {expected}")
+
+    def each_cut(self, device, steps, cuts):
+        """Puts each cut in its file, once it is one step from the one before. Gives its number, and what it is called."""
         expect(cuts[0] == device.image and cuts[-1] == cuts[-2], "--stop 0 isn't the image, or too large a one isn't all")
-        changed = device.lebs | {lnum: new.ljust(device.leb, b"\xFF")}
-        at = turn(device, steps, cuts, new)
         for k, cut in enumerate(cuts[:-1]):
             expect(k == 0 or is_one_step(device, cuts[k - 1], cut, steps[k - 1]), f"step {k} does something else")
             write(self.cut, cut)
-            self.look(device, device.lebs if k < at else changed, f"cut {k} of {len(steps)}, which turns at {at},")
+            yield k, f"cut {k} of {len(steps)}"
 
 
 def read(path):
@@ -247,7 +310,10 @@ def write(path, data):
 def main():
     words = options(__doc__, 100)
     tool = built(words.tool)
-    answers, failed = run_cases(words, {"": (lambda rng, folder: Looker(tool, folder).try_change(Device(rng)), words.count)})
+    answers, failed = run_cases(words, {
+        "": (lambda rng, folder: Looker(tool, folder).try_change(Device(rng)), words.count),
+        "rename ": (lambda rng, folder: Looker(tool, folder).try_rename(Device(rng)), words.count),
+    })
     print(f"{sum(answers)} steps in all")
     finish(len(answers), failed)
 

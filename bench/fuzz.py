@@ -4,13 +4,16 @@
 usage: fuzz.py [--seed N] [--count N] [--large N] [--huge N] [--first N] [--dir FOLDER] [--tool PROGRAM]
 
 An image is made from volumes of all kinds and states, with stale copies, copies that were cut short, and eraseblocks that
-are free, erased, dropped, orphans or unreadable, in a random order. None, one, two, some or all of them carry the image's
+are free, erased, dropped, orphans or unreadable, in a random order. A copy of the table may be missing, or say something else
+than the other, or the same with other bytes where none are looked at. None, one, two, some or all eraseblocks carry the image's
 number. Most images are then changed up to three times: a byte anywhere, a field of a header or a record with its check made
 right again, eraseblocks doubled, erased, swapped or cut off.
 Of each image `check`, `list`, `show` and `normalise` have to answer what the rules say; and of one that is accepted
 `extract`, `same` with its normal image, with another and with its eraseblocks under another number, `compose` of a text that
-says what it means, and `change`, whose printed plan and whose bytes after each step are those of the rules: each cut means
-the old or the new, and the last the new. Numbers of volumes, LEBs, eraseblocks, spares and steps are also far out of range.
+says what it means, and `change` and `rename`, whose printed plans and whose bytes after each step are those of the rules: each
+cut means the old or the new, and the last the new. Now and then a cut is changed and renamed itself. Some new names are there
+already, some can't be read, and some are made so that the first pages of the table have the check of all, or that its last page
+is blank. Numbers of volumes, LEBs, eraseblocks, spares and steps are also far out of range.
 
 Without words there are 500 images (--count) of the seed 1 (--seed) with eraseblocks of up to 1 KiB. Then come 20 (--large)
 with eraseblocks of 128 KiB and pages of 2 KiB, with sub-pages and without, of whose plans some cuts are looked at; and one
@@ -19,6 +22,7 @@ is removed again. Without --tool the program is built first where it isn't yet. 
 exit status is 0 where none failed; an image that failed can be made again by its number, which --first names.
 """
 import argparse
+import dataclasses
 import os
 import random
 import struct
@@ -28,14 +32,18 @@ import tempfile
 
 import rules
 from rules import LAYOUT, TOP_COUNTER, TOP_SQNUM, Geometry, Image, Record, Refused, Vid
+from text_rules import Fault, name_of
 
 ROOT = os.path.dirname(os.path.dirname(os.path.abspath(__file__)))
 LAUNCHER = os.path.join(ROOT, "ubi_tool")
 TOOL = os.path.join(ROOT, "crates", "ubi_tool", "out", "launched", "ubi_tool")
-SIZES = ((512, 64, 64, 128), (1024, 64, 64, 128), (1024, 256, 64, 256), (1024, 256, 320, 512), (576, 64, 64, 128), (448, 64, 128, 192))
+SIZES = ((512, 64, 64, 128), (1024, 64, 64, 128), (1024, 256, 64, 256), (1024, 256, 320, 512), (576, 64, 64, 128), (448, 64, 128, 192),
+    (704, 64, 64, 128))
 REAL_SIZES = ((131072, 2048, 2048, 4096), (131072, 2048, 512, 2048))
 # By how much a number is out of range, so that a program which takes it modulo any of these would take it for one in range.
 FAR = (64, 100, 128, 256, 1000, 65536, 2**31)
+# Words that can't be read as a name; nor can most words with one of them inside.
+NO_NAMES = ("\\", "\\x", "\\x4", "\\X41", "\\x00", "\\x4g", "\\n", " ", "\t", "\n", "\x7F", "\x80", "\xE9", "a" * 128, "\\x61" * 128)
 
 
 class Failure(Exception):
@@ -57,6 +65,61 @@ def far(rng, number):
 def given(rng, name, number):
     """A number among the words, which may be left out where it is 0."""
     return [name, str(number)] if number or rng.random() < 0.5 else []
+
+
+def name_in(word):
+    """The name that a word shows; None where it can't be read."""
+    try:
+        return name_of(word.encode())
+    except Fault:
+        return None
+
+
+def spelled(rng, name):
+    """A word that shows a name: what may stand as it is does so or doesn't, and digits are of either case."""
+    def one(byte):
+        digits = "".join(rng.choice((digit, digit.upper())) for digit in f"{byte:02x}")
+        return rng.choice((rules.shown(bytes([byte])), f"\\x{digits}"))
+
+    return "".join(one(byte) for byte in name)
+
+
+def solved(rng, size, off):
+    """SIZE bytes, none zero, of which OFF is 0: a number, each bit of which adds up bits of theirs and 1. None where none are found."""
+    start, rows, flips = int.from_bytes(bytes(rng.randrange(128, 256) for _ in range(size)), "big"), {}, 0
+
+    def off_with(flips):
+        return off((start ^ flips).to_bytes(size, "big"))
+
+    def reduced(left, flips):
+        while left.bit_length() in rows:
+            row, others = rows[left.bit_length()]
+            left, flips = left ^ row, flips ^ others
+        return left, flips
+
+    # The highest bit of each byte stays, so that none is zero.
+    bits = [bit for bit in range(8 * size) if bit % 8 != 7]
+    left = base = off_with(0)
+    for bit in rng.sample(bits, len(bits)):
+        if not left:
+            break
+        row, others = reduced(off_with(1 << bit) ^ base, 1 << bit)
+        if row:
+            rows[row.bit_length()] = (row, others)
+        left, flips = reduced(left, flips)
+    return None if left else (start ^ flips).to_bytes(size, "big")
+
+
+def weakness(geometry, new, pages):
+    """A number that is 0 where the first pages of new bytes, for each of some numbers of them, have the check of all."""
+    fronts = [new[: n * geometry.page].ljust(len(new), b"\xFF") for n in pages]
+    return sum((rules.check(front) ^ rules.check(new)) << 32 * k for k, front in enumerate(fronts))
+
+
+def said(refusal, plan, meant, *what):
+    """What the rules say of a change or a rename: why it is refused or None, its steps, and what is meant in the end."""
+    cause = refusal(*what)
+    return (cause, [], None) if cause else (None, plan(*what).steps, meant(*what))
 
 
 def renumbered(block, image_seq):
@@ -127,12 +190,37 @@ class Maker:
         return self.rng.choice((next(self.sqnums), next(self.sqnums) + 2**40) * 20 + (TOP_SQNUM - self.rng.randrange(3),))
 
     def tables(self):
-        text = rules.put_table(self.geometry, self.records)
-        blocks = []
-        for copy in range(2):
-            for _ in range(self.rng.choice((1, 1, 1, 2, 0))):
-                blocks.append(self.block(Vid(1, 0, 5, LAYOUT, copy, 0, 0, 0, 0, self.sqnum()), text))
-        return blocks
+        """The members of the table's two copies."""
+        return [self.table(copy) for copy in range(2) for _ in range(self.rng.choice((1, 1, 1, 1, 2, 2, 0)))]
+
+    def table(self, copy):
+        """A member of a copy: mostly the records as they are written, now and then others; some were copied, and cut short."""
+        rng, leb = self.rng, self.geometry.leb
+        records = self.records if rng.random() < 0.94 else self.other_records()
+        text = self.with_unseen(records) if rng.random() < 0.25 else rules.put_table(self.geometry, records)
+        text = text.ljust(leb, rng.choice((b"\xFF", b"\0")))
+        size = rng.choice((0, 0, 0, rng.randrange(172, leb + 1)))
+        right = rules.check(text[:size]) ^ int(rng.random() < 0.3) if size else 0
+        return self.block(Vid(1, int(size > 0), 5, LAYOUT, copy, size, 0, 0, right, self.sqnum()), text)
+
+    def other_records(self):
+        """The records, of which one has gone or says something else."""
+        if not self.records:
+            return {}
+        slot, old = self.rng.choice(list(self.records.items()))
+        new = ({"name": self.name(slot)}, {"flags": old.flags ^ 1}, {"marker": 1 - old.marker}, {"reserved": old.reserved + 1})
+        others = {of: record for of, record in self.records.items() if of != slot}
+        return self.rng.choice((others, *(others | {slot: dataclasses.replace(old, **field)} for field in new)))
+
+    def with_unseen(self, records):
+        """A table with other bytes where none are looked at: behind a name and in the padding."""
+        text = rules.put_table(self.geometry, records)
+        for slot, record in records.items():
+            raw = bytearray(text[172 * slot : 172 * slot + 168])
+            for place in (*range(17 + len(record.name), 144), *range(145, 168)):
+                raw[place] = self.rng.choice((0, 0, 0xFF, self.rng.randrange(256)))
+            text = text[: 172 * slot] + rules.sealed(bytes(raw)) + text[172 * (slot + 1) :]
+        return text
 
     def text(self, size):
         """Some bytes: random ones, and maybe blank ones behind them or nothing else."""
@@ -335,21 +423,33 @@ class Runner:
             raise Failure(f"{words[0]} answers {came[:2]} where {(lines, status)} is right, and writes "
                 f"{'what is right' if came[2] == written else 'something else'}; {ran.stderr.decode()}")
 
-    def change_words(self, path, number, lnum, new):
-        return ["change", path, "--id", str(number), "--lnum", str(lnum), "--from", self.put("new", new), "--out", self.out]
+    def change(self, path, image, number, lnum, new):
+        """The words that ask for a change, and what the rules say of it."""
+        words = ["change", path, "--id", str(number), "--lnum", str(lnum), "--from", self.put("new", new), "--out", self.out]
+        return words, *said(rules.change_refusal, rules.Change, rules.changed, image, number, lnum, new)
 
-    def look_cuts(self, image, words, steps, changed, stops):
+    def rename(self, path, image, number, word):
+        """The words that ask for a rename, and what the rules say of it."""
+        named = [f"--name={word}"] if word.startswith("-") else ["--name", word]
+        words, name = ["rename", path, "--id", str(number), *(part.encode() for part in named), "--out", self.out], name_in(word)
+        if name is None:
+            return words, "N1 BadName", [], None
+        return words, *said(rules.rename_refusal, rules.Rename, rules.renamed, image, number, name)
+
+    def look_cuts(self, image, words, steps, meant, stops):
         """Compares the plan that is printed, and what is written behind each of some numbers of its steps. Gives the last."""
-        lines, whole, old, turned = "".join(rules.change_lines(steps)), b"".join(image.found.blocks), image.meaning(), []
+        lines, whole, old, turned = "".join(rules.plan_lines(steps)), b"".join(image.found.blocks), image.meaning(), []
         for k in stops:
             cut = rules.after(self.geometry, whole, steps[:k])
             self.expect([*words, "--stop", str(k)], lines, 0, cut)
-            meaning = Image(self.geometry, cut).meaning()
-            if meaning not in (old, changed):
+            last = Image(self.geometry, cut)
+            if last.meaning() not in (old, meant):
                 raise Failure(f"cut {k} of {len(steps)} means neither the old nor the new")
-            turned.append(meaning != old)
-        if turned != sorted(turned) or meaning != changed:
+            turned.append(last.meaning() != old)
+        if turned != sorted(turned) or last.meaning() != meant:
             raise Failure("a cut turns back, or the last one doesn't mean the new")
+        if rules.needs_repair(last) != rules.needs_repair(image):
+            raise Failure("the copies of the table are unlike in the end")
         return cut
 
     def look_read(self, path, meaning, number):
@@ -366,7 +466,8 @@ class Runner:
 class Case(Runner):
     """An image, and what the program is to answer of it.
 
-    TIMES are how often it may be changed, PLANS is how many changes are planned, and CUTS how many cuts of each are looked at.
+    TIMES are how often it may be changed, PLANS is how many changes and how many renames are planned, and CUTS how many cuts of
+    each are looked at.
     """
 
     def __init__(self, rng, tool, folder, maker, times=(0, 1, 1, 2, 3), plans=3, cuts=99):
@@ -386,14 +487,15 @@ class Case(Runner):
             return False, 0
         self.look_meant(image)
         self.look_far(image)
-        return True, sum(self.look_change(image, *self.target(image)) for _ in range(self.plans))
+        return True, sum(self.look_plans(image, self.path) for _ in range(self.plans))
 
     def look_refused(self, line):
         of_volume = ("--id", "0", "--out", self.out)
         new = self.put("new", bytes(self.geometry.page))
         for command, *words in (["check"], ["list"], ["normalise", "--out", self.out], ["extract", *of_volume],
-                ["change", *of_volume, "--lnum", "0", "--from", new]):
+                ["change", *of_volume, "--lnum", "0", "--from", new], ["rename", *of_volume, "--name", "data"]):
             self.expect([command, self.path, *words], line, 1)
+        self.expect(["rename", self.path, *of_volume, "--name", self.rng.choice(("", *NO_NAMES)).encode()], "refused N1 BadName\n", 1)
         self.expect(["same", self.path, self.put("other", self.mixed())], f"left {line}", 1)
 
     def look_meant(self, image):
@@ -415,7 +517,8 @@ class Case(Runner):
         self.look_show(image, far(self.rng, self.rng.randrange(len(image.states))))
         self.look_read(self.path, image, far(self.rng, number))
         self.look_composed(image, far(self.rng, 1))
-        self.look_change(image, *self.rng.choice(((far(self.rng, number), lnum), (number, far(self.rng, lnum)))))
+        self.look_change(image, self.path, *self.rng.choice(((far(self.rng, number), lnum), (number, far(self.rng, lnum)))))
+        self.look_rename(image, self.path, far(self.rng, number))
 
     def mixed(self):
         """Another image that is made from the same eraseblocks."""
@@ -477,20 +580,65 @@ class Case(Runner):
         blank = rng.choice((b"\xFF" * len(whole), whole[: page - 5] + b"\xFF" * 5, b"\xFF" * (page - 5) + bytes.fromhex("BEF98E24FE")))
         return rng.choice((whole, whole, whole, whole, whole + blank, blank, whole[: page // 2]))
 
-    def look_change(self, image, number, lnum):
-        """Compares the plan of a change, and what is written behind its steps. Gives how many cuts those are."""
-        new = self.new_bytes()
-        words = self.change_words(self.path, number, lnum, new)
-        refusal = rules.change_refusal(image, number, lnum, new)
+    def new_name(self, image, number):
+        """A word for a new name: of any bytes, or a name that is there, or one that is made; now and then none that can be read."""
+        rng, names = self.rng, [record.name for record in image.records.values()]
+        if rng.random() < 0.1:
+            word = spelled(rng, b"name")
+            at = rng.randrange(len(word) + 1)
+            return rng.choice(("", word[:at] + rng.choice(NO_NAMES) + word[at:]))
+        some = bytes(rng.randrange(1, 256) for _ in range(rng.choice((1, 2, 8, 126, 127))))
+        there = rng.choice((*names, some))
+        name = rng.choice((some, some, b"data", b"\xFF" * 127, there, there, None, None))
+        made = self.made_name(image, number) if name is None and number in image.records else some
+        return spelled(rng, name or made or some)
+
+    def made_name(self, image, number):
+        """A name with which some first pages of the table have the check of all, or the last is blank; None where none is found."""
+        rng, page, at, end = self.rng, self.geometry.page, 172 * number, 172 * self.geometry.slots
+        # The pages up to a border that lies in the record: up to others hardly any name makes them weak.
+        pages = range(at // page + 1, (at + 168) // page + 1)
+        pages = rng.sample(pages, min(rng.choice((1, 2)), len(pages)))
+
+        def weak(name):
+            return weakness(self.geometry, rules.named_table(image, number, name), pages)
+
+        def not_blank(name):
+            return int.from_bytes(rules.named_table(image, number, name)[end - 4 : end], "big") ^ 0xFFFFFFFF
+
+        may_be_blank = number + 1 == self.geometry.slots and 0 < end % page <= 4
+        return solved(rng, 127, rng.choice((weak, not_blank, not_blank)) if may_be_blank else weak)
+
+    def look_plans(self, image, path):
+        """Compares the plans of a change and of a rename. Gives how many cuts were looked at."""
+        number = self.rng.choice((*image.records, *image.records, *image.records, 3))
+        return self.look_change(image, path, *self.target(image)) + self.look_rename(image, path, number)
+
+    def look_change(self, image, path, number, lnum):
+        return self.look_plan(image, *self.change(path, image, number, lnum, self.new_bytes()))
+
+    def look_rename(self, image, path, number):
+        return self.look_plan(image, *self.rename(path, image, number, self.new_name(image, number)))
+
+    def look_plan(self, image, words, refusal, steps, meant):
+        """Compares a plan, and what is written behind its steps. Gives how many cuts those are."""
         if refusal is not None:
             self.expect(words, f"refused {refusal}\n", 1)
             return 0
-        steps = rules.Plan(image, number, lnum, new).steps
         stops = sorted(self.rng.sample(range(len(steps)), min(self.cuts, len(steps))))
-        last = self.look_cuts(image, words, steps, rules.changed(image, number, lnum, new), (*stops, len(steps)))
+        last = self.look_cuts(image, words, steps, meant, (*stops, len(steps)))
         beyond = self.rng.choice(([], ["--stop", str(far(self.rng, len(steps)))]))
-        self.expect(words + beyond, "".join(rules.change_lines(steps)), 0, last)
-        return len(stops) + 1
+        self.expect(words + beyond, "".join(rules.plan_lines(steps)), 0, last)
+        of_cut = self.look_cut(image, steps) if words[1] == self.path and self.rng.random() < 0.2 else 0
+        return len(stops) + 1 + of_cut
+
+    def look_cut(self, image, steps):
+        """Compares the plans of a cut of a plan. Gives how many cuts of those were looked at."""
+        cut = rules.after(self.geometry, b"".join(image.found.blocks), steps[: self.rng.randrange(len(steps) + 1)])
+        path, image = self.put("cut", cut), Image(self.geometry, cut)
+        self.expect(["check", path], "".join(rules.check_lines(image)), 0)
+        self.expect(["list", path], "".join(rules.list_lines(image)), 0)
+        return self.look_plans(image, path)
 
 
 def options(usage, count, **others):

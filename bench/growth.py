@@ -4,7 +4,7 @@
 usage: growth.py [--dir FOLDER] [--blocks N] [--runs N] [--instructions] [KIND ..]
 
 The images have 2^14, 2^16, 2^18 and 2^20 eraseblocks (--blocks is the most) of 512 bytes with pages of 64: the two copies
-of the table, one that is free, and else, in an order that looks random (all KINDs where none is named):
+of the table, two that are free, and else, in an order that looks random (all KINDs where none is named):
   lebs      a LEB of one dynamic volume each, written as copies
   pairs     the same, but two of each LEB, so that the check of all data is taken
   one       members of one LEB
@@ -44,6 +44,8 @@ SIZES = tuple(2**k for k in (14, 16, 18, 20))
 MOST = 1.3
 GEOMETRY = ("--peb", "512", "--page", "64")
 LEB = image.PEB - image.DATA
+# The eraseblocks of the table and the free ones.
+OTHERS = 4
 EC = image.counter_header(7, image_seq=image.IMAGE_SEQ)
 
 
@@ -80,8 +82,9 @@ def records(kind, count):
 
 def blocks(kind, count):
     for copy in range(2):
-        yield block(image.identifier_header(LAYOUT, copy, 0, compat=5), records(kind, count - 3))
-    yield from members(kind, count - 3)
+        yield block(image.identifier_header(LAYOUT, copy, 0, compat=5), records(kind, count - OTHERS))
+    yield from members(kind, count - OTHERS)
+    yield block()
     yield block()
 
 
@@ -89,13 +92,13 @@ def text(kind, count):
     """The lines of a text of `compose`."""
     if kind == "volumes":
         return (f"volume {k} dynamic 1 1 00 n{k}\n" for k in mixed(count))
-    heading = f"volume 0 {'static' if kind == 'static' else 'dynamic'} {count - 3} 1 00 root\n"
-    lebs = (f"leb 0 {k} 5a\n" for k in mixed(count - 3))
+    heading = f"volume 0 {'static' if kind == 'static' else 'dynamic'} {count - OTHERS} 1 00 root\n"
+    lebs = (f"leb 0 {k} 5a\n" for k in mixed(count - OTHERS))
     lines = {
         "lebs": lebs,
         "pairs": lebs,
         "one": ("# A remark.\n" for _ in range(count)),
-        "static": ("bytes 0 5a\n" for _ in range(count - 3)),
+        "static": ("bytes 0 5a\n" for _ in range(count - OTHERS)),
         "reserved": (),
     }
     return (line for part in ((heading,), lines[kind]) for line in part)
@@ -115,6 +118,7 @@ def commands(path, spec, new):
     yield "normalise", path, *out
     yield "same", path, path
     yield "change", path, "--id", "0", "--lnum", "0", "--from", new, *out
+    yield "rename", path, "--id", "0", "--name", "another", *out
 
 
 def make(folder, kind, count):

@@ -12,7 +12,14 @@ The image is crates/ubi_tool/data/root.img: the two copies of a table with one d
   faults    each rule of each header and record broken, with a right check, wherever it can be
   pairs     each two of these: the cause of the lower eraseblock comes first, and those of the table last
   carriers  the image, a free eraseblock and an erased one, where each subset of them carries the number: they mean the image
-            but for the number, which goes where none carries it; and changes of each LEB, whose plans leave a sole carrier be
+            but for the number, which goes where none carries it; and changes of each LEB and a rename, whose plans leave a sole
+            carrier be
+  repairs   renames of these, where a bit of a copy of the table or of its header is flipped, or copy 1 is at fault or says
+            something else: refused N3 NeedsRepair; and where bytes differ that aren't looked at: the plan
+  weak      renames after which the first pages of the table, for each number of them and each two, have the check of all,
+            where there are such names: refused K7 WeakCheck with the least number
+  names     renames of these to each byte, as it is and as two digits of either case, to names of each length to 129 bytes,
+            and to words that can't be read: refused N1 BadName, whether the volume is there or not
   texts     of `compose`: each form of line with each fault, each two faults in one text, each byte in each place that has
             a rule of its own, and right texts at the limits; the cause of the first line comes first (text_faults.py)
   devices   character devices without an end, for each file that a command reads: cannot read; and the image by way of
@@ -26,12 +33,13 @@ import argparse
 import itertools
 import os
 import pty
+import random
 import subprocess
 import tempfile
 
 import rules
 import text_faults
-from fuzz import ROOT, Failure, Runner, built, finish, renumbered
+from fuzz import NO_NAMES, ROOT, Failure, Runner, built, finish, renumbered, solved, weakness
 from text_rules import Described
 
 GEOMETRY = rules.Geometry(512, 64, 64, 128, 1048576)
@@ -177,16 +185,20 @@ def pairs():
 FREE, ERASED = len(BASE) // PEB, len(BASE) // PEB + 1
 NEW = b"new" * 40 + b"page" * 2
 NUMBER = MEANT.image_seq
+# The image, a free eraseblock and an erased one. The image's eraseblocks carry the number.
+BLOCKS = [BASE[at : at + PEB] for at in range(0, len(BASE), PEB)] + [rules.put_block(GEOMETRY, rules.put_ec(GEOMETRY)), b"\xFF" * PEB]
+MORE = b"".join(BLOCKS)
 
 
 def carriers():
-    """Each subset of the eraseblocks with an erase-counter header, a LEB to change, and the answer to that."""
-    blocks = [BASE[at : at + PEB] for at in range(0, len(BASE), PEB)] + [rules.put_block(GEOMETRY, rules.put_ec(GEOMETRY)), b"\xFF" * PEB]
+    """Each subset of the eraseblocks with an erase-counter header, a LEB to change or None for a rename, and the answer to that."""
     for count in range(FREE + 2):
         for carry in itertools.combinations(range(FREE + 1), count):
-            image = b"".join(renumbered(block, NUMBER if p in carry else 0) for p, block in enumerate(blocks))
+            image = b"".join(renumbered(block, NUMBER if p in carry else 0) for p, block in enumerate(BLOCKS))
+            number = NUMBER if carry else 0
             for lnum in range(len(LEBS) + 1):
-                yield image, NUMBER if carry else 0, lnum, planned(carry, lnum)
+                yield image, number, lnum, planned(carry, lnum)
+            yield image, number, None, planned_rename(carry)
 
 
 def planned(carry, lnum):
@@ -204,11 +216,83 @@ def planned(carry, lnum):
     lines += [f"program block={taken[0]} page={page}" for page in (1, 2, 3)]
     if carry != (old,):
         lines += erased(old)
-    return "".join(f"{line}\n" for line in (f"steps {len(lines)}", *lines))
+    return printed(lines)
+
+
+def planned_rename(carry):
+    """What is printed of a rename, whose table has six pages: copy 0 is put to the free eraseblock, and copy 1 to the erased one."""
+    if carry == (FREE,):
+        return "refused K9 NoFree\n"
+    lines = []
+    for old, place in ((0, FREE), (1, ERASED)):
+        if place == ERASED:
+            lines += erased(ERASED)
+        lines += [f"program block={place} page={page}" for page in range(1, 8)]
+        if carry != (old,):
+            lines += erased(old)
+    return printed(lines)
 
 
 def erased(p):
     return [f"erase block={p}", f"program block={p} page=0"]
+
+
+def printed(lines):
+    return "".join(f"{line}\n" for line in (f"steps {len(lines)}", *lines))
+
+
+PLAN, REPAIR, BAD_NAME = planned_rename(tuple(range(FREE))), "refused N3 NeedsRepair\n", "refused N1 BadName\n"
+
+
+def repairs():
+    """Images, the number of a volume, a word for its new name, and the answer."""
+    first, record = PEB + GEOMETRY.data, BASE[GEOMETRY.data : GEOMETRY.data + 172]
+    behind = GEOMETRY.data + 172 * GEOMETRY.slots
+    for copy, bit in itertools.product(range(2), range(8 * PEB)):
+        # A member whose erase-counter header is corrupt still counts, and nothing is read behind the records.
+        seen = GEOMETRY.vid <= bit // 8 < behind
+        yield flipped(MORE, 8 * copy * PEB + bit), 0, "data", REPAIR if seen else PLAN
+    others = ((0, "00000013"),), ((12, "02"),), ((13, "01"),), ((16, "52"),), ((14, "0003"), (19, "00")), ((144, "01"),)
+    for fields in (*(fields for _, fields in RECORD_FAULTS), *others):
+        yield broken(MORE, first, 172, fields), 0, "data", REPAIR
+    # Behind the name, and in the padding.
+    for start, at in itertools.product((GEOMETRY.data, first), (*range(21, 144), *range(145, 168))):
+        yield broken(MORE, start, 172, ((at, "FF"),)), 0, "data", PLAN
+    for records in (rules.EMPTY_RECORD * 2, record * 2, rules.EMPTY_RECORD + record):
+        yield MORE[:first] + records + MORE[first + 344 :], 0, "data", REPAIR
+    for blocks in (BLOCKS[:1] + BLOCKS[2:], BLOCKS[1:], BLOCKS[:1] + BLOCKS[2:-1]):
+        yield b"".join(blocks), 0, "data", REPAIR
+    for blocks in (BLOCKS[:-2], BLOCKS[:-1], BLOCKS[:-2] + BLOCKS[-1:]):
+        yield b"".join(blocks), 0, "data", "refused K9 NoFree\n"
+
+
+def weak():
+    """As for repairs. What is looked for are two names: the new one, and that of a second volume."""
+    def records(*names):
+        return rules.put_table(GEOMETRY, {k: rules.Record(20, 1, 1, 0, name, 0) for k, name in enumerate(names)})
+
+    for pages in (*itertools.combinations(range(6), 1), *itertools.combinations(range(6), 2)):
+        both = solved(random.Random(0), 254, lambda both: weakness(GEOMETRY, records(both[:127], both[127:]).ljust(384, b"\xFF"), pages))
+        if both is not None:
+            table = records(b"root", both[127:]).ljust(LEB, b"\xFF")
+            image = b"".join([block[: GEOMETRY.data] + table for block in BLOCKS[:2]] + BLOCKS[2:])
+            yield image, 0, rules.shown(both[:127]), f"refused K7 WeakCheck pages={pages[0]}\n"
+
+
+def names():
+    """As for repairs."""
+    for byte in range(1, 256):
+        yield MORE, 0, chr(byte), PLAN if 0x21 <= byte <= 0x7E and byte != 0x5C else BAD_NAME
+        for word in (f"\\x{byte:02x}", f"\\x{byte:02X}", f"a\\x{byte:02x}b"):
+            yield MORE, 0, word, PLAN
+    for part, length in itertools.product(("a", "\\x61"), range(130)):
+        yield MORE, 0, part * length, PLAN if 1 <= length <= 127 else BAD_NAME
+    for word in ("root", "\\x72\\x6f\\x6F\\x74", "-", "--", "-h", "--out", "=", "a=b"):
+        yield MORE, 0, word, PLAN
+        yield MORE, 1, word, "refused K2 NoVolume\n"
+    for number, word in itertools.product((0, 1), NO_NAMES):
+        for bad in (word, f"a{word}", f"{word} ", f"\\x41{word}", f"{word}\\x41"):
+            yield MORE, number, bad, BAD_NAME
 
 
 ENDLESS = ("/dev/zero", "/dev/full", "/dev/random")
@@ -227,6 +311,8 @@ def devices():
             ("normalise", path, "--out", path),
             ("same", path, path),
             ("change", path, "--id", "0", "--lnum", "0", "--from", path, "--out", "OUT"),
+            ("rename", path, "--id", "0", "--name", "data", "--out", "OUT"),
+            ("rename", path, "--id", "0", "--name", "\\", "--out", "OUT"),
             ("compose", path, "--out", "OUT"),
         ):
             yield words, b"", line
@@ -254,6 +340,9 @@ FAMILIES = {
     "faults": faults,
     "pairs": pairs,
     "carriers": carriers,
+    "repairs": repairs,
+    "weak": weak,
+    "names": names,
     "texts": text_faults.texts,
     "devices": devices,
 }
@@ -290,23 +379,36 @@ class Looker:
             return extracted == (f"bytes {len(expected)}\n", 0) and file.read() == expected
 
     def is_carried(self, image, number, lnum, expected):
-        """Whether an image means the base under a number, and a change of a LEB prints what is expected and keeps the number."""
+        """Whether an image means the base under a number, and a change of a LEB or a rename is answered and keeps the number."""
         runner, found, path = self.runner, rules.Image(GEOMETRY, image), self.runner.put("carried", image)
         normal = rules.normal_image(rules.Meaning(GEOMETRY, number, MEANT.records, MEANT.contents))
-        words = runner.change_words(path, 0, lnum, NEW)
         try:
             runner.expect(["check", path], "".join(rules.check_lines(found)), 0)
             runner.expect(["same", BASE_PATH, path], *(("same\n", 0) if number == NUMBER else ("different\n", 1)))
             runner.expect(["normalise", path, "--out", runner.out], f"blocks {len(normal) // PEB}\n", 0, normal)
-            if expected.startswith("refused"):
-                runner.expect(words, expected, 1)
-                return f"refused {rules.change_refusal(found, 0, lnum, NEW)}\n" == expected
-            steps = rules.Plan(found, 0, lnum, NEW).steps
-            runner.look_cuts(found, words, steps, rules.changed(found, 0, lnum, NEW), range(len(steps) + 1))
         except Failure as failure:
             print(failure)
             return False
-        return found.image_seq == number and "".join(rules.change_lines(steps)) == expected
+        plan = runner.rename(path, found, 0, "data") if lnum is None else runner.change(path, found, 0, lnum, NEW)
+        return found.image_seq == number and self.is_planned(found, plan, expected)
+
+    def is_renamed(self, image, number, word, expected):
+        """Whether a rename of a volume is answered so, and written."""
+        found = rules.Image(GEOMETRY, image)
+        return self.is_planned(found, self.runner.rename(self.runner.put("renamed", image), found, number, word), expected, cuts=1)
+
+    def is_planned(self, found, plan, expected, cuts=99):
+        """Whether what is expected is printed of a plan, and what the rules say; and so is what is written of its last cuts."""
+        words, refusal, steps, meant = plan
+        try:
+            if expected.startswith("refused"):
+                self.runner.expect(words, expected, 1)
+                return f"refused {refusal}\n" == expected
+            self.runner.look_cuts(found, words, steps, meant, range(len(steps) + 1)[-cuts:])
+        except Failure as failure:
+            print(failure)
+            return False
+        return "".join(rules.plan_lines(steps)) == expected
 
     def is_composed(self, text, spares, expected):
         """Whether a text is refused with a line, or composed into an image whose volumes are listed so."""
@@ -351,7 +453,8 @@ def main():
     passed = failed = 0
     with tempfile.TemporaryDirectory(dir=words.dir) as folder:
         looker = Looker(built(words.tool), folder)
-        judges = {"devices": (looker.is_printed, "runs"), "texts": (looker.is_composed, "texts"), "carriers": (looker.is_carried, "plans")}
+        judges = {"devices": (looker.is_printed, "runs"), "texts": (looker.is_composed, "texts"), "carriers": (looker.is_carried, "plans"),
+            **dict.fromkeys(("repairs", "weak", "names"), (looker.is_renamed, "renames"))}
         for name in words.families or FAMILIES:
             judge, what = judges.get(name, (looker.is_right, "images"))
             verdicts = [judge(*case) for case in FAMILIES[name]()]

@@ -1,4 +1,4 @@
-"""A second reading of docs/FORMAT.md: what an image means, or why it is refused, and the plan of a change.
+"""A second reading of docs/FORMAT.md: what an image means, or why it is refused, and the plans of a change and of a rename.
 
 It was written from that document and not from the program, so that the answers of the program can be compared with it.
 It is short and slow: each rule stands once, in the document's words. A refusal is the exception `Refused`, which holds the
@@ -264,8 +264,7 @@ def read_table(blocks, winners):
             raise Refused("T1 NoTable")
         return {}
     for copy in range(2):
-        p = winners.get((LAYOUT, copy))
-        records = None if p is None else read_copy(blocks, p)
+        records = read_copy(blocks, winners, copy)
         if records is not None:
             if 2 + sum(record.reserved for record in records.values()) > blocks.geometry.pebs:
                 raise Refused("T5 NoSpace")
@@ -273,9 +272,11 @@ def read_table(blocks, winners):
     raise Refused("T2 BothCorrupt")
 
 
-def read_copy(blocks, p):
-    """The records of a copy of the table, None where it is corrupt."""
-    records, geometry = {}, blocks.geometry
+def read_copy(blocks, winners, copy):
+    """The records of a copy of the table, None where it isn't there or is corrupt."""
+    if (LAYOUT, copy) not in winners:
+        return None
+    records, geometry, p = {}, blocks.geometry, winners[(LAYOUT, copy)]
     for slot in range(geometry.slots):
         record = read_record(geometry, blocks.leb(p)[RECORD * slot : RECORD * (slot + 1)])
         if record == "BadCrc":
@@ -462,7 +463,7 @@ def composed(meaning, spares):
     return normal + spares * put_block(geometry, put_ec(geometry, image_seq=meaning.image_seq))
 
 
-# The plan of a change. A step is ('erase', p) or ('program', p, page, bytes).
+# The plans of a change and of a rename. A step is ('erase', p) or ('program', p, page, bytes).
 
 
 def stays(image, p, front):
@@ -491,18 +492,10 @@ def weak_pages(geometry, new):
     return None
 
 
-def change_refusal(image, number, lnum, new):
-    """The first cause for which no change is planned, or None."""
-    if number not in image.records:
-        return "K2 NoVolume"
-    geometry, record = image.geometry, image.records[number]
-    weak = weak_pages(geometry, new)
-    needed = 1 if (number, lnum) in image.winners else 2
-    causes = (
-        ("K3 StaticVolume", record.kind == 2),
-        ("K4 Updating", record.marker),
-        ("K5 OutOfRange", lnum >= record.reserved),
-        ("K6 BadLength", not new or len(new) % geometry.page or len(new) > record.usable(geometry)),
+def first_cause(image, new, needed, *causes):
+    """The first that stands of some causes and, behind them, of those of each plan; or None."""
+    weak = weak_pages(image.geometry, new)
+    causes += (
         (f"K7 WeakCheck pages={weak}", weak is not None),
         ("K8 Exhausted", image.top_sqnum + needed > TOP_SQNUM),
         ("K9 NoFree", len(takeable(image)) < needed),
@@ -510,25 +503,62 @@ def change_refusal(image, number, lnum, new):
     return next((cause for cause, is_so in causes if is_so), None)
 
 
-class Plan:
-    """The steps of a change that isn't refused, and the bytes of the image as they stand by then."""
+def change_refusal(image, number, lnum, new):
+    """The first cause for which no change is planned, or None."""
+    if number not in image.records:
+        return "K2 NoVolume"
+    geometry, record = image.geometry, image.records[number]
+    return first_cause(image, new, 1 if (number, lnum) in image.winners else 2,
+        ("K3 StaticVolume", record.kind == 2),
+        ("K4 Updating", record.marker),
+        ("K5 OutOfRange", lnum >= record.reserved),
+        ("K6 BadLength", not new or len(new) % geometry.page or len(new) > record.usable(geometry)),
+    )
 
-    def __init__(self, image, number, lnum, new):
+
+def needs_repair(image):
+    """Whether a copy of the table isn't there, is corrupt, at fault or has a name twice; or the records of the copies differ."""
+    try:
+        copies = [read_copy(image.found, image.winners, copy) for copy in range(2)]
+    except Refused:
+        return True
+    return None in copies or copies[0] != copies[1]
+
+
+def with_name(image, number, name):
+    """The records, where a volume has another name."""
+    return image.records | {number: dataclasses.replace(image.records[number], name=name)}
+
+
+def named_table(image, number, name):
+    """The new bytes of a rename: the table with the new name, and 0xFF behind it to whole pages."""
+    table, page = put_table(image.geometry, with_name(image, number, name)), image.geometry.page
+    return table.ljust(-(-len(table) // page) * page, b"\xFF")
+
+
+def rename_refusal(image, number, name):
+    """The first cause for which no rename is planned, or None."""
+    if number not in image.records:
+        return "K2 NoVolume"
+    same = next((slot for slot, record in image.records.items() if slot != number and record.name == name), None)
+    return first_cause(image, named_table(image, number, name), 2,
+        ("N1 BadName", not 1 <= len(name) <= 127 or 0 in name),
+        (f"N2 SameName slot={same}", same is not None),
+        ("N3 NeedsRepair", needs_repair(image)),
+    )
+
+
+def copy_header(volume, lnum, new, sqnum, compat=0, pad=0):
+    """The header of a copy that holds the new bytes."""
+    return Vid(1, 1, compat, volume, lnum, len(new), 0, pad, check(new), sqnum)
+
+
+class Plan:
+    """The steps of a plan that isn't refused, and the bytes of the image as they stand by then."""
+
+    def __init__(self, image):
         self.image, self.geometry, self.steps = image, image.geometry, []
         self.now = bytearray(b"".join(image.found.blocks))
-        pad = image.records[number].pad(self.geometry)
-        copy = Vid(1, 1, 0, number, lnum, len(new), 0, pad, check(new), image.top_sqnum + 1)
-        if (number, lnum) in image.winners:
-            old, place = image.winners[(number, lnum)], takeable(image)[0]
-        else:
-            old, place = takeable(image)[:2]
-            self.prepare(old)
-            self.head(old, dataclasses.replace(copy, copy=0, size=0, data_check=0))
-            copy = dataclasses.replace(copy, sqnum=image.top_sqnum + 2)
-        self.prepare(place)
-        self.head(place, copy)
-        self.write(place, new)
-        self.give_up(old)
 
     def front(self, p):
         """Bytes 0 to 63 of an eraseblock as they stand by then."""
@@ -567,6 +597,39 @@ class Plan:
         if not stays(self.image, p, self.front(p)):
             self.renew(p)
 
+    def copy(self, old, place, header, new):
+        """Puts a copy with the new bytes in place of an eraseblock."""
+        self.prepare(place)
+        self.head(place, header)
+        self.write(place, new)
+        self.give_up(old)
+
+
+class Change(Plan):
+    """The plan of a change."""
+
+    def __init__(self, image, number, lnum, new):
+        super().__init__(image)
+        header = copy_header(number, lnum, new, image.top_sqnum + 1, pad=image.records[number].pad(image.geometry))
+        if (number, lnum) in image.winners:
+            old, place = image.winners[(number, lnum)], takeable(image)[0]
+        else:
+            old, place = takeable(image)[:2]
+            self.prepare(old)
+            self.head(old, dataclasses.replace(header, copy=0, size=0, data_check=0))
+            header = dataclasses.replace(header, sqnum=image.top_sqnum + 2)
+        self.copy(old, place, header, new)
+
+
+class Rename(Plan):
+    """The plan of a rename."""
+
+    def __init__(self, image, number, name):
+        super().__init__(image)
+        new = named_table(image, number, name)
+        for copy, place in enumerate(takeable(image)[:2]):
+            self.copy(image.winners[(LAYOUT, copy)], place, copy_header(LAYOUT, copy, new, image.top_sqnum + 1 + copy, compat=5), new)
+
 
 def do(geometry, image, step):
     """Does a step to the bytes of an image. A program must set no bit."""
@@ -586,7 +649,7 @@ def after(geometry, image, steps):
     return bytes(image)
 
 
-def change_lines(steps):
+def plan_lines(steps):
     yield f"steps {len(steps)}\n"
     for word, p, *program in steps:
         yield f"program block={p} page={program[0]}\n" if word == "program" else f"erase block={p}\n"
@@ -597,3 +660,8 @@ def changed(image, number, lnum, new):
     lebs = image.contents[number] | {lnum: new.ljust(image.records[number].usable(image.geometry), b"\xFF")}
     lebs = {lnum: text for lnum, text in lebs.items() if not is_blank(text)}
     return image.image_seq, image.records, image.contents | {number: lebs}
+
+
+def renamed(image, number, name):
+    """What an image means once a volume has another name."""
+    return image.image_seq, with_name(image, number, name), image.contents

@@ -43,6 +43,7 @@ class Starved(Case):
         yield ["normalise", self.path, "--out", self.out]
         yield self.compose_words(image, 1)
         yield ["change", self.path, "--id", number, "--lnum", "0", "--from", new, "--out", self.out]
+        yield ["rename", self.path, "--id", number, "--name", "another", "--out", self.out]
 
     def run(self, words, **environment):
         ran = subprocess.run([self.tool, *words, *self.geometry.words()], capture_output=True, env={**os.environ, **environment})
