@@ -1,10 +1,10 @@
 #!/usr/bin/env python3
-"""Runs the examples of README.md and compares what they print.
+"""Runs the examples of README.md and of the documents that go on from it, and compares what they print.
 
 usage: readme.py [--tool PROGRAM]
 
-An example is a line of README.md that begins with '$ ' in a block without a language, and the lines up to the next one or
-the end of the block are what it prints. They run in their order, by the shell, at the top of the repository. Without --tool the
+An example is a line that begins with '$ ' in a block without a language, and the lines up to the next one or the end of the
+block are what it prints. Those of a page run in their order, by the shell, at the top of the repository. Without --tool the
 program is built first where it isn't yet; with it, PROGRAM stands in the place of `./ubi_tool` in each example. Ends with
 'N passed, M failed', and with status 1 where some failed.
 """
@@ -15,6 +15,7 @@ import sys
 from pathlib import Path
 
 ROOT = Path(__file__).resolve().parent.parent
+PAGES = ('README.md', 'docs/CHANGE.md', 'docs/AUDIT.md')
 
 
 def blocks(text):
@@ -55,7 +56,7 @@ def main():
     words.add_argument('--tool', help='the program; ./ubi_tool where it is left out')
     words = words.parse_args()
     passed = failed = 0
-    for command, wanted in examples((ROOT / 'README.md').read_text()):
+    for command, wanted in (example for page in PAGES for example in examples((ROOT / page).read_text())):
         command = with_tool(command, words.tool)
         ran = subprocess.run(command, shell=True, cwd=ROOT, stdin=subprocess.DEVNULL, capture_output=True, text=True)
         if ran.stdout.splitlines() == wanted:
