@@ -42,7 +42,7 @@ fn text_if_memory(alloc: Global, image: &[u8]) -> Result<Option<Vec<u8>>, Fail> 
     }
 }
 
-/// The script bench/refuse.sh refuses each growth of memory in turn, and looks for the line that is printed here.
+/// The script bench/second/refuse.sh refuses each growth of memory in turn, and looks for the line that is printed here.
 #[test]
 fn reads_all_or_runs_out_of_memory(rt: HostRuntime) -> Result<(), Fail> {
     let bytes = bytes_of_base()?;

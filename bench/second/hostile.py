@@ -349,7 +349,7 @@ FAMILIES = {
 
 
 class Looker:
-    """Compares the program's answers with what is expected and with what bench/rules.py reads."""
+    """Compares the program's answers with what is expected and with what bench/second/rules.py reads."""
 
     def __init__(self, tool, folder):
         self.tool = tool

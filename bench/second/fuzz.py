@@ -1,5 +1,5 @@
 #!/usr/bin/env python3
-"""Compares what the program answers of random images with what docs/FORMAT.md says, as bench/rules.py reads it.
+"""Compares what the program answers of random images with what docs/FORMAT.md says, as bench/second/rules.py reads it.
 
 usage: fuzz.py [--seed N] [--count N] [--large N] [--huge N] [--first N] [--dir FOLDER] [--tool PROGRAM]
 
@@ -34,7 +34,7 @@ import rules
 from rules import LAYOUT, TOP_COUNTER, TOP_SQNUM, Geometry, Image, Record, Refused, Vid
 from text_rules import Fault, name_of
 
-ROOT = os.path.dirname(os.path.dirname(os.path.abspath(__file__)))
+ROOT = os.path.dirname(os.path.dirname(os.path.dirname(os.path.abspath(__file__))))
 LAUNCHER = os.path.join(ROOT, "ubi_tool")
 TOOL = os.path.join(ROOT, "crates", "ubi_tool", "out", "launched", "ubi_tool")
 SIZES = ((512, 64, 64, 128), (1024, 64, 64, 128), (1024, 256, 64, 256), (1024, 256, 320, 512), (576, 64, 64, 128), (448, 64, 128, 192),

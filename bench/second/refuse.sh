@@ -2,7 +2,7 @@
 # Refuses each growth of memory in turn: of the scan, of attaching and reading, of reading the composer's text, and of the
 # commands over bytes and by their words.
 #
-# usage: bench/refuse.sh [CRATE TEST]
+# usage: bench/second/refuse.sh [CRATE TEST]
 #
 # Runs a test again and again: of the first run the first growth is refused, of the second the second, and so on until a run
 # meets no refusal. Without words these are the tests of the list below, in the programs that `rt test` leaves in the
@@ -11,11 +11,11 @@
 #
 # It needs a C compiler (cc, or what CC names), for a few lines that stand before the C library's malloc and realloc.
 set -u
-root=$(CDPATH='' cd -- "$(dirname -- "$0")/.." && pwd) || exit 1
+root=$(CDPATH='' cd -- "$(dirname -- "$0")/../.." && pwd) || exit 1
 room=$(mktemp -d) || exit 1
 trap 'rm -rf "$room"' EXIT
 
-${CC:-cc} -O1 -shared -fPIC -o "$room/refuse.so" "$root/bench/refuse.c" -ldl || exit 1
+${CC:-cc} -O1 -shared -fPIC -o "$room/refuse.so" "$root/bench/second/refuse.c" -ldl || exit 1
 
 # Refuses each growth of a test in turn, and counts the runs that went wrong.
 refuse_each() {

@@ -36,8 +36,7 @@ import sys
 import tempfile
 
 import image
-from fuzz import built
-from normalise import LAYOUT, record, static_header
+from normalise import LAYOUT, ROOT, built_tool, record, static_header
 from scan import ENVIRONMENT, run
 
 SIZES = tuple(2**k for k in (14, 16, 18, 20))
@@ -203,7 +202,8 @@ def main():
     sizes = [size for size in SIZES if size <= words.blocks]
     if len(sizes) < 2:
         sys.exit(f"growth is seen over two sizes and more: --blocks {SIZES[1]}")
-    tool = built()
+    built_tool()
+    tool = os.path.join(ROOT, "crates", "ubi_tool", "out", "launched", "ubi_tool")
     cost, runs = (instructions, 1) if words.instructions else (seconds, words.runs)
     folder = tempfile.mkdtemp(dir=words.dir)
     grown = {}

@@ -12,7 +12,7 @@ import pathlib
 import re
 import sys
 
-ROOT = pathlib.Path(__file__).resolve().parent.parent
+ROOT = pathlib.Path(__file__).resolve().parents[2]
 ANSWERS = {"Answers.antt", "Invariants.antt", "Measures.antt"}
 ON_LITERALS = {"zeros_and_their_check"}
 WORD = re.compile(r"[^\s(){}\[\],;.:`\"]+")

@@ -22,7 +22,7 @@ import struct
 import subprocess
 
 from fuzz import Failure, built, finish, options, run_cases
-from image import check, counter_header, identifier_header, sealed
+from rules import check, sealed
 
 LAYOUT, PEBS = 0x7FFFEFFF, 32
 # Of each volume what it reserves.
@@ -31,6 +31,15 @@ RESERVED = {0: 12, 1: 3}
 NAMES = {"root": b"root", "data": b"data", "new": b"new", "\\x6Eew": b"new", "\\xFF\\x20\\x5c\\x41": b"\xFF \\A", "n" * 127: b"n" * 127}
 SHOWN = {b"\xFF \\A": "\\xff\\x20\\x5cA"}
 GEOMETRIES = ((512, 64, 64, 128), (1024, 256, 64, 256), (1024, 256, 320, 512), (576, 64, 64, 128))
+
+
+def counter_header(counter, vid, data, image_seq=0):
+    return sealed(struct.pack(">4sB3xQIII32x", b"UBI#", 1, counter, vid, data, image_seq))
+
+
+def identifier_header(volume, number, sqnum, copied=b"", compat=0):
+    size, data_check = (len(copied), check(copied)) if copied else (0, 0)
+    return sealed(struct.pack(">4sBBBBII4xIIII4xQ12x", b"UBI!", 1, 1, int(bool(copied)), compat, volume, number, size, 0, 0, data_check, sqnum))
 
 
 class Device:
