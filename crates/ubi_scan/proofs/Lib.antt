@@ -15,6 +15,7 @@ pub mod InMemory
 pub mod Keys
 pub mod Least
 pub mod Moved
+pub mod Narrowed
 pub mod Next
 pub mod OneFault
 pub mod Parts

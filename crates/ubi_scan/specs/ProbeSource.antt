@@ -1,9 +1,8 @@
 -- A source for tests: what it holds, where it fails, and what it has counted.
-use Rattle.std.specs.Prelude.{◌≡◌, ℕ, ◌+◌, ◌-◌, ◌/◌, ◌%◌, ◌^◌, ◌==◌, Bool, nat_le, nat_lt, List, Some, if◌then◌else◌, length, min, refl, slice_index, slice_set}
+use Rattle.std.specs.Prelude.{◌≡◌, ℕ, ◌+◌, ◌-◌, ◌/◌, ◌%◌, ◌^◌, ◌==◌, Bool, nat_le, nat_lt, List, if◌then◌else◌, length, min, refl, slice_index, slice_set}
 use Rattle.std.specs.Coded.{Coded, code_by, coded×, coded_ℕ, coded_list}
-use Rattle.std.proofs.Common.{ap, sym}
-use Rattle.std.specs.Prelude.{unwrap_or, []}
-use Rattle.ubi_scan.specs.Source.{IsSource, Source}
+use Rattle.std.proofs.Common.{ap}
+use Rattle.ubi_scan.specs.Source.{IsSource, Source, holds}
 
 -- its bytes, how an eraseblock is cut, the read that fails (0 for none), and how many reads were made, failed, began in
 -- each eraseblock, began in the data of each, and went beyond the eraseblock in which they began
@@ -52,10 +51,10 @@ next_if b n = if b then next n else n
 
 -- what is known of it
 abbrev pub probe_source : Probed → Source
-probe_source p = record { held = Some p.bytes; size = length p.bytes; failures = p.failures }
+probe_source p = record { size = length p.bytes; failures = p.failures }
 
-pub probe_sized : (p : Probed) → IsSource (probe_source p)
-probe_sized p = record { sized = λ held is. ap (λ o. length (unwrap_or o [])) (sym is) }
+pub probe_sized : (p : Probed) → IsSource (probe_source p) (holds p.bytes)
+probe_sized p = record { sized = λ held is. ap length is }
 
 -- what a read of n bytes from a place on counts
 pub record IsCounted (old new : Probed) (at n : ℕ) : Type 0 where

@@ -1,31 +1,38 @@
 -- What is known of bytes that are read at places.
-use Rattle.std.specs.Prelude.{◌≡◌, ℕ, ◌+◌, ◌-◌, ◌/◌, ◌^◌, List, [], length, Option, None, Some, Result, Ok, Err, min, unwrap_or}
-use Rattle.std.proofs.Common.{ap, sym}
+use Rattle.std.specs.Prelude.{◌≡◌, ℕ, ◌+◌, ◌-◌, ◌/◌, ◌^◌, List, [], ◌∷◌, length, slice_range, Result, Ok, Err, min}
+use Rattle.std.proofs.Common.{ap}
 use Rattle.ubi_media.specs.Geometry.{Sizes}
 use Rattle.ubi_scan.specs.Image.{eraseblocks, image_of}
 
--- what a source holds, where that is known, how many bytes it has, and how many of its reads have failed
+-- how many bytes a source has, and how many of its reads have failed
 pub record Source : Type 0 where
-  pub held : Option (List ℕ)
   pub size : ℕ
   pub failures : ℕ
 
--- of each source: the bytes that it holds are as many as its size says
-pub record IsSource (k : Source) : Type 0 where
-  pub sized : (bytes : List ℕ) → k.held ≡ Some bytes → length bytes ≡ k.size
+-- which bytes a source may hold, as far as its reads have told
+abbrev pub Agreed : Type 1
+Agreed = List ℕ → Type 0
+
+-- a fact about each list of bytes that a source may hold
+abbrev pub WhereHeld : Agreed → (List ℕ → Type 0) → Type 0
+WhereHeld agrees fact = (bytes : List ℕ) → agrees bytes → fact bytes
+
+-- what a source may hold now it could hold before
+abbrev pub Narrows : Agreed → Agreed → Type 0
+Narrows old new = WhereHeld new old
+
+-- of each source: the bytes that it may hold are as many as its size says
+pub record IsSource (k : Source) (agrees : Agreed) : Type 0 where
+  pub sized : WhereHeld agrees (λ bytes. length bytes ≡ k.size)
 
 -- one more read has failed; their number stays at the greatest of 64 bits
 abbrev pub failed : Source → Source
-failed k = record { held = k.held; size = k.size; failures = min (k.failures + 1) (2 ^ 64 - 1) }
+failed k = record { size = k.size; failures = min (k.failures + 1) (2 ^ 64 - 1) }
 
 -- what is known after a read: what was known before, with one failure more where it failed
 abbrev pub after_read : {E : Type 0} → Source → Result (Unit {0}) E → Source
 after_read k (Ok _) = k
 after_read k (Err _) = failed k
-
--- a fact about the bytes that a source holds, where they are known
-abbrev pub WhereHeld : Source → (List ℕ → Type 0) → Type 0
-WhereHeld k fact = (bytes : List ℕ) → k.held ≡ Some bytes → fact bytes
 
 -- how many whole eraseblocks a source has
 abbrev pub blocks_in : Sizes → Source → ℕ
@@ -35,16 +42,37 @@ blocks_in s k = k.size / s.peb_size
 abbrev pub blocks_of : Sizes → List ℕ → List (List ℕ)
 blocks_of s bytes = eraseblocks (image_of s bytes)
 
--- a source that holds bytes in memory, and whose reads never fail
-abbrev pub memory : List ℕ → Source
-memory bytes = record { held = Some bytes; size = length bytes; failures = 0 }
+-- a source of a size whose reads never failed
+abbrev pub sound : ℕ → Source
+sound size = record { size = size; failures = 0 }
 
-pub memory_sized : (bytes : List ℕ) → IsSource (memory bytes)
-memory_sized bytes = record { sized = λ held is. ap (λ o. length (unwrap_or o [])) (sym is) }
+-- a source over bytes in memory holds these
+abbrev pub holds : List ℕ → Agreed
+holds bytes = λ held. held ≡ bytes
 
--- a source of whose bytes nothing is known
-abbrev pub unheld : ℕ → ℕ → Source
-unheld size failures = record { held = None; size = size; failures = failures }
+pub memory_sized : (bytes : List ℕ) → IsSource (sound (length bytes)) (holds bytes)
+memory_sized bytes = record { sized = λ held is. ap length is }
 
-pub unheld_sized : (size failures : ℕ) → IsSource (unheld size failures)
-unheld_sized size failures = record { sized = λ bytes is. absurd cc }
+-- a source that may hold anything
+abbrev pub anything : Agreed
+anything = λ held. Unit {0}
+
+-- a source of whose bytes nothing is claimed
+abbrev pub unheld : Agreed
+unheld = λ held. ⊥
+
+pub unheld_sized : (k : Source) → IsSource k unheld
+unheld_sized k = record { sized = λ held is. absurd is }
+
+-- bytes agree with reads, each of which answered some bytes at a place
+abbrev pub AgreesWith : List (ℕ × List ℕ) → List ℕ → Type 0
+AgreesWith [] bytes = Unit {0}
+AgreesWith ((at, read) ∷ reads) bytes = (read ≡ slice_range bytes at (at + length read)) × AgreesWith reads bytes
+
+-- a source of some size that is known by its reads: it may hold any bytes with which they agree
+abbrev pub known_by : ℕ → List (ℕ × List ℕ) → Agreed
+known_by size reads = λ bytes. (length bytes ≡ size) × AgreesWith reads bytes
+
+pub file_sized : (size failures : ℕ) (reads : List (ℕ × List ℕ))
+    → IsSource (record { size = size; failures = failures }) (known_by size reads)
+file_sized size failures reads = record { sized = λ bytes agrees. agrees.0 }

@@ -8,7 +8,7 @@ use Rattle.ubi_scan.specs.Faults.{IsScanFault}
 use Rattle.ubi_scan.specs.Image.{IsLengthFault, IsWholeSize}
 use Rattle.ubi_scan.specs.Members.{Leb}
 use Rattle.ubi_scan.specs.Scan.{Found, IsScan}
-use Rattle.ubi_scan.specs.Source.{Source, WhereHeld, blocks_in, blocks_of, failed}
+use Rattle.ubi_scan.specs.Source.{Agreed, Source, WhereHeld, blocks_in, blocks_of, failed}
 use Rattle.ubi_scan.specs.declared.errors.StreamError.{StreamError}
 use Rattle.ubi_scan.specs.declared.errors.StreamError.TheVariants as stream
 
@@ -37,17 +37,17 @@ pub record LiesWithin (n : ℕ) (found : Found) : Type 0 where
   pub winners : (of : Leb) → IfSome (get found.winners of) (λ p. p < n)
   pub states : length found.states ≡ n
 
--- what a scan of a source finds: it lies in the source and, where the bytes are known, it is that of their eraseblocks
-pub record IsScanOf (s : Sizes) (k : Source) (found : Found) : Type 0 where
+-- what a scan of a source finds: it lies in the source, and it is that of the eraseblocks of whatever the source may hold
+pub record IsScanOf (s : Sizes) (k : Source) (agrees : Agreed) (found : Found) : Type 0 where
   pub whole : IsWholeSize s k.size
   pub within : LiesWithin (blocks_in s k) found
-  pub held : WhereHeld k (λ bytes. IsScan s (blocks_of s bytes) found)
+  pub held : WhereHeld agrees (λ bytes. IsScan s (blocks_of s bytes) found)
 
 -- why it fails: the source's size isn't that of an image; or its eraseblocks are refused for their fault; or a read
 -- failed, or memory ran out
-abbrev pub IsScanOfError : Sizes → Source → StreamError → Type 0
-IsScanOfError s k (stream.Refused c) =
-    IsLengthFault s k.size c ⊎ (IsWholeSize s k.size × WhereHeld k (λ bytes. IsScanFault s (blocks_of s bytes) c))
-IsScanOfError s k (stream.Read p written) = IsReadFault (blocks_in s k) (stream.Read p written)
-IsScanOfError s k (stream.Write _) = ⊥
-IsScanOfError s k stream.Memory = Unit {0}
+abbrev pub IsScanOfError : Sizes → Source → Agreed → StreamError → Type 0
+IsScanOfError s k agrees (stream.Refused c) =
+    IsLengthFault s k.size c ⊎ (IsWholeSize s k.size × WhereHeld agrees (λ bytes. IsScanFault s (blocks_of s bytes) c))
+IsScanOfError s k agrees (stream.Read p written) = IsReadFault (blocks_in s k) (stream.Read p written)
+IsScanOfError s k agrees (stream.Write _) = ⊥
+IsScanOfError s k agrees stream.Memory = Unit {0}

@@ -1,20 +1,22 @@
 //! Sources over files.
 
-ghost use Rattle.std.specs.Prelude.{◌≡◌, IfOk};
+ghost use Rattle.std.specs.Prelude.{◌≡◌, [], IfOk};
 
 use crate::source::{BlockSource, SourceFault};
+use crate::trace::Trace;
 use std::fs;
 use std::fs::{File, Files, OpenFile};
 use std::io::{Seek, SeekFrom};
 use std::os::unix::fs::FileExt;
 
-/// A source over a file, of the size that the file had when it was opened. Nothing is claimed of its bytes: another
-/// program may write to the file at any time.
+/// A source over a file, of the size that the file had when it was opened. Of its bytes no more is known than what the
+/// reads answered: another program may write to the file at any time.
 #[derive(Drop)]
 pub struct FileSource<F = File> {
     file: F,
     len: u64,
     failures: u64,
+    trace: Trace,
 }
 
 /// Fills `out` with the bytes of a file that begin at the place `at`, and tells whether it could. A read that failed
@@ -37,7 +39,8 @@ impl<F: FileExt + OpenFile + Seek + Drop> FileSource<F> {
     ///
     /// The file can't be opened, it is a folder, or its size can't be found out.
     pub fn open<R: Files<File = F>>(rt: &R, path: &str) -> Result<FileSource<F>, SourceFault>
-        ensures { IfOk result (λ s. s.failures ≡ 0) }
+        ensures failures { IfOk result (λ s. s.failures ≡ 0) }
+        ensures trace { IfOk result (λ s. s.trace.reads ≡ []) }
     {
         let Ok(mut file) = fs::open(rt, path) else {
             return Err(SourceFault);
@@ -51,6 +54,7 @@ impl<F: FileExt + OpenFile + Seek + Drop> FileSource<F> {
                 file,
                 len,
                 failures: 0,
+                trace: Trace::new(),
             }),
             Err(_) => Err(SourceFault),
         }
@@ -58,10 +62,11 @@ impl<F: FileExt + OpenFile + Seek + Drop> FileSource<F> {
 }
 
 impl<F: FileExt + Drop> BlockSource for FileSource<F> {
-    ghost use Rattle.std.specs.Prelude.{None};
-    ghost use Rattle.ubi_scan.specs.Source.{unheld, unheld_sized};
+    ghost use Rattle.ubi_scan.specs.Source.{file_sized, known_by};
 
-    ghost known = { λ s. unheld s.len s.failures };
+    ghost known = { λ s. record { size = s.len; failures = s.failures } };
+
+    ghost agrees = { λ s. known_by s.len s.trace.reads };
 
     fn len(&self) -> u64 {
         self.len
@@ -69,11 +74,12 @@ impl<F: FileExt + Drop> BlockSource for FileSource<F> {
 
     fn read(&mut self, at: u64, out: &mut [u8]) -> Result<(), SourceFault> {
         if fill(&self.file, at, out) {
+            self.trace.note(at, out);
             return Ok(());
         }
         self.failures = self.failures.saturating_add(1);
         Err(SourceFault)
     }
 
-    ghost sized = { λ s. unheld_sized s.len s.failures };
+    ghost sized = { λ s. file_sized s.len s.failures s.trace.reads };
 }

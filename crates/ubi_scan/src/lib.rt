@@ -22,6 +22,7 @@ mod probe;
 mod reading;
 mod scanning;
 mod source;
+mod trace;
 
 pub use blocks::Blocks;
 pub use errors::StreamError;

@@ -100,10 +100,12 @@ impl<'a> ProbeSource<'a> {
 
 impl BlockSource for ProbeSource<'_> {
     ghost use Rattle.std.specs.Prelude.{◌≤◌, slice_range, OnOk};
-    ghost use Rattle.ubi_scan.specs.Source.{WhereHeld, after_read};
+    ghost use Rattle.ubi_scan.specs.Source.{Narrows, WhereHeld, after_read, holds};
     ghost use Rattle.ubi_scan.specs.ProbeSource.{IsCounted, IsSameProbe, probe_sized, probe_source};
 
     ghost known = { λ s. probe_source s };
+
+    ghost agrees = { λ s. holds s.bytes };
 
     fn len(&self) -> u64 {
         self.bytes.len() as u64
@@ -112,7 +114,9 @@ impl BlockSource for ProbeSource<'_> {
     fn read(&mut self, at: u64, out: &mut [u8]) -> Result<(), SourceFault>
         requires { at + length out.old ≤ length self.old.bytes }
         ensures known { probe_source self.new ≡ after_read (probe_source self.old) result }
-        ensures bytes { OnOk result (WhereHeld (probe_source self.old) (λ bytes. out.new ≡ slice_range bytes at (at + length out.old))) }
+        ensures narrows { Narrows (holds self.old.bytes) (holds self.new.bytes) }
+        ensures bytes { OnOk result (WhereHeld (holds self.new.bytes) (λ bytes. out.new ≡ slice_range bytes at (at + length out.old))) }
+        ensures exact { WhereHeld (holds self.old.bytes) (λ bytes. OnOk result (out.new ≡ slice_range bytes at (at + length out.old)) → holds self.new.bytes bytes) }
         ensures counted { IsCounted self.old self.new at (length out.old) }
         ensures same { IsSameProbe self.old self.new }
     {

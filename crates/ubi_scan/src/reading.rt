@@ -4,7 +4,7 @@ ghost use Rattle.std.specs.Prelude.{◌≡◌, ◌+◌, ◌*◌, ◌<◌, ◌≤
 ghost use Rattle.ubi_media.specs.Geometry.{leb_size};
 ghost use Rattle.ubi_scan.specs.Image.{block, ec, leb, vid};
 ghost use Rattle.ubi_scan.specs.Members.{member};
-ghost use Rattle.ubi_scan.specs.Source.{WhereHeld, blocks_in, blocks_of};
+ghost use Rattle.ubi_scan.specs.Source.{Narrows, WhereHeld, blocks_in, blocks_of};
 ghost use Rattle.ubi_scan.specs.Stream.{IsReadFault, after};
 
 use crate::errors::StreamError;
@@ -27,7 +27,8 @@ fn read_part<S: BlockSource>(
     requires block { p < blocks_in geometry.now (S.known source.old) }
     requires part { start + length out.old ≤ geometry.now.peb_size }
     ensures known { S.known source.new ≡ after (S.known source.old) result }
-    ensures bytes { OnOk result (WhereHeld (S.known source.old) (λ bytes. out.new ≡ slice_range (block (blocks_of geometry.now bytes) p) start (start + length out.old))) }
+    ensures narrows { Narrows (S.agrees source.old) (S.agrees source.new) }
+    ensures bytes { OnOk result (WhereHeld (S.agrees source.new) (λ bytes. out.new ≡ slice_range (block (blocks_of geometry.now bytes) p) start (start + length out.old))) }
     ensures failed { IfErr result (IsReadFault (blocks_in geometry.now (S.known source.old))) }
 {
     let at = u64::from(p) * u64::from(geometry.peb_size()) + u64::from(start);
@@ -51,8 +52,9 @@ pub fn read_headers<S: BlockSource>(
     requires block { p < blocks_in geometry.now (S.known source.old) }
     requires room { length buffer.old ≡ geometry.now.peb_size }
     ensures known { S.known source.new ≡ after (S.known source.old) result }
-    ensures ec { IfOk result (λ h. WhereHeld (S.known source.old) (λ bytes. h.0 ≡ ec geometry.now (block (blocks_of geometry.now bytes) p))) }
-    ensures vid { IfOk result (λ h. WhereHeld (S.known source.old) (λ bytes. h.1 ≡ vid geometry.now (block (blocks_of geometry.now bytes) p))) }
+    ensures narrows { Narrows (S.agrees source.old) (S.agrees source.new) }
+    ensures ec { IfOk result (λ h. WhereHeld (S.agrees source.new) (λ bytes. h.0 ≡ ec geometry.now (block (blocks_of geometry.now bytes) p))) }
+    ensures vid { IfOk result (λ h. WhereHeld (S.agrees source.new) (λ bytes. h.1 ≡ vid geometry.now (block (blocks_of geometry.now bytes) p))) }
     ensures failed { IfErr result (IsReadFault (blocks_in geometry.now (S.known source.old))) }
 {
     let start = geometry.vid_offset() as usize;
@@ -79,7 +81,8 @@ pub fn read_member<S: BlockSource>(
     requires block { p < blocks_in geometry.now (S.known source.old) }
     requires room { length buffer.old ≡ geometry.now.peb_size }
     ensures known { S.known source.new ≡ after (S.known source.old) result }
-    ensures member { IfOk result (λ header. WhereHeld (S.known source.old) (λ bytes. header ≡ member geometry.now (block (blocks_of geometry.now bytes) p))) }
+    ensures narrows { Narrows (S.agrees source.old) (S.agrees source.new) }
+    ensures member { IfOk result (λ header. WhereHeld (S.agrees source.new) (λ bytes. header ≡ member geometry.now (block (blocks_of geometry.now bytes) p))) }
     ensures failed { IfErr result (IsReadFault (blocks_in geometry.now (S.known source.old))) }
 {
     let (ec, vid) = read_headers(source, geometry, p, buffer)?;
@@ -100,7 +103,8 @@ pub fn read_leb<S: BlockSource>(
     requires block { p < blocks_in geometry.now (S.known source.old) }
     requires part { length out.old ≤ leb_size geometry.now }
     ensures known { S.known source.new ≡ after (S.known source.old) result }
-    ensures bytes { OnOk result (WhereHeld (S.known source.old) (λ bytes. out.new ≡ slice_range (leb geometry.now (block (blocks_of geometry.now bytes) p)) 0 (length out.old))) }
+    ensures narrows { Narrows (S.agrees source.old) (S.agrees source.new) }
+    ensures bytes { OnOk result (WhereHeld (S.agrees source.new) (λ bytes. out.new ≡ slice_range (leb geometry.now (block (blocks_of geometry.now bytes) p)) 0 (length out.old))) }
     ensures failed { IfErr result (IsReadFault (blocks_in geometry.now (S.known source.old))) }
 {
     prove!(geometry.data_offset() <= geometry.peb_size());

@@ -7,7 +7,7 @@ ghost use Rattle.ubi_scan.specs.inner.Choice.{held_of};
 ghost use Rattle.ubi_scan.specs.inner.Pass.{IsMeeting};
 ghost use Rattle.ubi_scan.specs.Members.{good_at, is_good, is_right, member_if};
 ghost use Rattle.ubi_scan.specs.Scan.{IsScan};
-ghost use Rattle.ubi_scan.specs.Source.{WhereHeld, blocks_in, blocks_of};
+ghost use Rattle.ubi_scan.specs.Source.{Narrows, WhereHeld, blocks_in, blocks_of};
 ghost use Rattle.ubi_scan.specs.Stream.{IsScanError, IsReadFault, IsScanOf, IsScanOfError, after};
 
 use crate::blocks::Blocks;
@@ -51,7 +51,8 @@ fn is_right<S: BlockSource>(
     requires block { p < blocks_in geometry.now (S.known source.old) }
     requires room { length buffer.old ≡ geometry.now.peb_size }
     ensures known { S.known source.new ≡ after (S.known source.old) result }
-    ensures right { IfOk result (λ right. WhereHeld (S.known source.old) (λ bytes. right ≡ is_right geometry.now (block (blocks_of geometry.now bytes) p) header.now)) }
+    ensures narrows { Narrows (S.agrees source.old) (S.agrees source.new) }
+    ensures right { IfOk result (λ right. WhereHeld (S.agrees source.new) (λ bytes. right ≡ is_right geometry.now (block (blocks_of geometry.now bytes) p) header.now)) }
     ensures failed { IfErr result (IsReadFault (blocks_in geometry.now (S.known source.old))) }
 {
     let size = header.data_size.min(geometry.leb_size()) as usize;
@@ -73,7 +74,8 @@ fn is_good<S: BlockSource>(
     requires block { p < blocks_in geometry.now (S.known source.old) }
     requires room { length buffer.old ≡ geometry.now.peb_size }
     ensures known { S.known source.new ≡ after (S.known source.old) result }
-    ensures good { IfOk result (λ good. WhereHeld (S.known source.old) (λ bytes. good ≡ option_map_or (is_good geometry.now (block (blocks_of geometry.now bytes) p)) (member_if ec.now vid.now) false)) }
+    ensures narrows { Narrows (S.agrees source.old) (S.agrees source.new) }
+    ensures good { IfOk result (λ good. WhereHeld (S.agrees source.new) (λ bytes. good ≡ option_map_or (is_good geometry.now (block (blocks_of geometry.now bytes) p)) (member_if ec.now vid.now) false)) }
     ensures failed { IfErr result (IsReadFault (blocks_in geometry.now (S.known source.old))) }
 {
     match member_of(ec, vid) {
@@ -93,7 +95,8 @@ fn is_held_good<S: BlockSource>(
     requires block { held.now.peb < blocks_in geometry.now (S.known source.old) }
     requires room { length buffer.old ≡ geometry.now.peb_size }
     ensures known { S.known source.new ≡ after (S.known source.old) result }
-    ensures good { IfOk result (λ good. WhereHeld (S.known source.old) (λ bytes. good ≡ unwrap_or held.now.good (good_at geometry.now (blocks_of geometry.now bytes) held.now.peb))) }
+    ensures narrows { Narrows (S.agrees source.old) (S.agrees source.new) }
+    ensures good { IfOk result (λ good. WhereHeld (S.agrees source.new) (λ bytes. good ≡ unwrap_or held.now.good (good_at geometry.now (blocks_of geometry.now bytes) held.now.peb))) }
     ensures failed { IfErr result (IsReadFault (blocks_in geometry.now (S.known source.old))) }
 {
     match held.good {
@@ -121,8 +124,9 @@ fn meeting<S: BlockSource>(
     requires held { IfSome held (λ c. c.peb < blocks_in geometry.now (S.known source.old)) }
     requires room { length buffer.old ≡ geometry.now.peb_size }
     ensures known { S.known source.new ≡ after (S.known source.old) result }
+    ensures narrows { Narrows (S.agrees source.old) (S.agrees source.new) }
     ensures held { IfOk result (λ met. held_of met ≡ held) }
-    ensures good { IfOk result (λ met. WhereHeld (S.known source.old) (λ bytes. IfSome met (IsMeeting geometry.now (blocks_of geometry.now bytes) p ec.now vid.now))) }
+    ensures good { IfOk result (λ met. WhereHeld (S.agrees source.new) (λ bytes. IfSome met (IsMeeting geometry.now (blocks_of geometry.now bytes) p ec.now vid.now))) }
     ensures failed { IfErr result (IsReadFault (blocks_in geometry.now (S.known source.old))) }
 {
     let Some(held) = held else {
@@ -149,8 +153,9 @@ fn scan_blocks<S: BlockSource>(
     requires count { count ≡ blocks_in geometry.now (S.known source.old) }
     requires room { length buffer.old ≡ geometry.now.peb_size }
     ensures known { S.known source.new ≡ after (S.known source.old) result }
-    ensures found { IfOk result (IsScanOf geometry.now (S.known source.old)) }
-    ensures refused { IfErr result (IsScanOfError geometry.now (S.known source.old)) }
+    ensures narrows { Narrows (S.agrees source.old) (S.agrees source.new) }
+    ensures found { IfOk result (IsScanOf geometry.now (S.known source.old) (S.agrees source.new)) }
+    ensures refused { IfErr result (IsScanOfError geometry.now (S.known source.old) (S.agrees source.new)) }
 {
     let mut pass = Pass::new(alloc);
     for p in 0..count {
@@ -180,8 +185,9 @@ pub fn scan_from<S: BlockSource>(
     source: &mut S,
 ) -> Result<Scan, StreamError>
     ensures known { S.known source.new ≡ after (S.known source.old) result }
-    ensures found { IfOk result (IsScanOf geometry.now (S.known source.old)) }
-    ensures refused { IfErr result (IsScanOfError geometry.now (S.known source.old)) }
+    ensures narrows { Narrows (S.agrees source.old) (S.agrees source.new) }
+    ensures found { IfOk result (IsScanOf geometry.now (S.known source.old) (S.agrees source.new)) }
+    ensures refused { IfErr result (IsScanOfError geometry.now (S.known source.old) (S.agrees source.new)) }
 {
     let count = block_count(geometry, source.len())?;
     let mut buffer = Vec::from_elem(alloc, 0u8, geometry.peb_size() as usize)?;

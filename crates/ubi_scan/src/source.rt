@@ -1,7 +1,7 @@
 //! Sources: bytes that are read at places, and what is known of them.
 
-ghost use Rattle.std.specs.Prelude.{◌≡◌, ◌+◌, ◌≤◌, length, slice_range, OnOk};
-ghost use Rattle.ubi_scan.specs.Source.{IsSource, Source, WhereHeld, after_read};
+ghost use Rattle.std.specs.Prelude.{◌≡◌, ℕ, ◌+◌, ◌≤◌, List, length, slice_range, OnOk};
+ghost use Rattle.ubi_scan.specs.Source.{Agreed, IsSource, Narrows, Source, WhereHeld, after_read};
 
 use std::marker::Model;
 
@@ -11,14 +11,18 @@ pub struct SourceFault;
 
 /// Bytes that are read at places: those of an image in memory, or of one in a file.
 pub trait BlockSource {
-    // The bytes that it holds, where they are known, its size, and how many of its reads failed.
+    // Its size, and how many of its reads failed.
     ghost known: { Self → Source };
+
+    // Which bytes it may hold: those with which each read agrees that it has answered.
+    ghost agrees: { Self → Agreed };
 
     /// Its size in bytes. No read changes it.
     fn len(&self) -> u64
         ensures { result ≡ (known self.now).size };
 
-    /// Fills `out` with the bytes that begin at the place `at`.
+    /// Fills `out` with the bytes that begin at the place `at`. What the source may hold afterwards is what it could hold
+    /// before and agrees with what was read; a read that failed tells nothing.
     ///
     /// # Errors
     ///
@@ -26,10 +30,12 @@ pub trait BlockSource {
     fn read(&mut self, at: u64, out: &mut [u8]) -> Result<(), SourceFault>
         requires { at + length out.old ≤ (known self.old).size }
         ensures known { known self.new ≡ after_read (known self.old) result }
-        ensures bytes { OnOk result (WhereHeld (known self.old) (λ bytes. out.new ≡ slice_range bytes at (at + length out.old))) };
+        ensures narrows { Narrows (agrees self.old) (agrees self.new) }
+        ensures bytes { OnOk result (WhereHeld (agrees self.new) (λ bytes. out.new ≡ slice_range bytes at (at + length out.old))) }
+        ensures exact { WhereHeld (agrees self.old) (λ bytes. OnOk result (out.new ≡ slice_range bytes at (at + length out.old)) → agrees self.new bytes) };
 
-    // Where its bytes are known, its size is their number.
-    ghost sized: { (s : Self) → IsSource (known s) };
+    // The bytes that it may hold are as many as its size says.
+    ghost sized: { (s : Self) → IsSource (known s) (agrees s) };
 }
 
 /// A source over bytes in memory. Its reads never fail.
@@ -56,9 +62,11 @@ impl<'a> MemorySource<'a> {
 }
 
 impl BlockSource for MemorySource<'_> {
-    ghost use Rattle.ubi_scan.specs.Source.{memory, memory_sized};
+    ghost use Rattle.ubi_scan.specs.Source.{holds, memory_sized, sound};
 
-    ghost known = { λ s. memory s };
+    ghost known = { λ s. sound (length s) };
+
+    ghost agrees = { λ s. holds s };
 
     fn len(&self) -> u64 {
         self.bytes.len() as u64

@@ -196,9 +196,11 @@ struct Fickle<'a> {
 
 impl BlockSource for Fickle<'_> {
     ghost use Rattle.std.specs.Prelude.{length};
-    ghost use Rattle.ubi_scan.specs.Source.{unheld, unheld_sized};
+    ghost use Rattle.ubi_scan.specs.Source.{sound, unheld, unheld_sized};
 
-    ghost known = { λ s. unheld (length s.first.now) 0 };
+    ghost known = { λ s. sound (length s.first.now) };
+
+    ghost agrees = { λ s. unheld };
 
     fn len(&self) -> u64 {
         self.first.len() as u64
@@ -217,7 +219,7 @@ impl BlockSource for Fickle<'_> {
         Ok(())
     }
 
-    ghost sized = { λ s. unheld_sized (length s.first.now) 0 };
+    ghost sized = { λ s. unheld_sized (sound (length s.first.now)) };
 }
 
 /// What it finds lies in the source, whatever that answers.

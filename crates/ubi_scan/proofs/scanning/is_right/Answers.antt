@@ -12,8 +12,9 @@ returns-clause-right g c = λ bytes holds.
     let s = c.args.geometry.now in
     let h = c.args.header.now in
     let b = leb s (block (blocks_of s bytes) c.args.p) in
+    let before = c.in_ok-read_leb.ensures.narrows bytes holds in
     let sized : length bytes ≡ (g.S.BlockSource.known c.args.source.now).size =
-    (g.met.S.BlockSource.sized c.args.source.now).sized bytes holds in
+    (g.met.S.BlockSource.sized c.args.source.now).sized bytes before in
     let inside : c.args.p < length bytes / s.peb_size = rw sized c.requires.block in
     let least : c.min-size.result ≡ min h.data_size (leb_size s) = c.min-size.ensures
     ∙ ap (min h.data_size) c.leb_size.ensures.value in
