@@ -8,6 +8,7 @@ pub mod Moved
 pub mod NameRules
 pub mod NamedTable
 pub mod Names
+pub mod Narrowed
 pub mod NoRecords
 pub mod One
 pub mod ReadBack

@@ -4,7 +4,7 @@ use Rattle.std.specs.Prelude.{None, Option, Some, find}
 use Rattle.ubi_media.specs.Geometry.{Sizes}
 use Rattle.ubi_media.specs.declared.record.RecRead.{RecRead}
 use Rattle.ubi_media.specs.declared.record.RecRead.TheVariants as read
-use Rattle.ubi_scan.specs.Source.{Source, WhereHeld, blocks_of}
+use Rattle.ubi_scan.specs.Source.{Agreed, Source, WhereHeld, blocks_of}
 use Rattle.ubi_scan.specs.declared.errors.StreamError.{StreamError}
 use Rattle.ubi_scan.specs.declared.errors.StreamError.TheVariants as stream
 use Rattle.ubi_table.specs.inner.OneCopy.{HasSizes, IsCopyOfError}
@@ -31,10 +31,11 @@ module _ (s : Sizes) (bytes : List ℕ) where
   copy_sizes = sizes_by (find (λ e. is_faulty e.1) (readings s bytes))
 
 -- why a copy gives none is why there is none
-pub error_of_copy : (s : Sizes) (k : Source) (c : ℕ) (e : StreamError) → c < 2
-    → WhereHeld k (λ bytes. NoneDecides s (blocks_of s bytes) c) → IsCopyOfError s k c e → IsTableOfError s k e
-error_of_copy s k c (stream.Refused cause) l none h = λ bytes holds. fault_chosen s (blocks_of s bytes) c cause l
+pub error_of_copy : (s : Sizes) (k : Source) (agrees : Agreed) (c : ℕ) (e : StreamError) → c < 2
+    → WhereHeld agrees (λ bytes. NoneDecides s (blocks_of s bytes) c) → IsCopyOfError s k agrees c e
+    → IsTableOfError s k agrees e
+error_of_copy s k agrees c (stream.Refused cause) l none h = λ bytes holds. fault_chosen s (blocks_of s bytes) c cause l
     (none bytes holds) (h bytes holds)
-error_of_copy s k c (stream.Read p written) l none h = h
-error_of_copy s k c (stream.Write n) l none h = h
-error_of_copy s k c stream.Memory l none h = tt
+error_of_copy s k agrees c (stream.Read p written) l none h = h
+error_of_copy s k agrees c (stream.Write n) l none h = h
+error_of_copy s k agrees c stream.Memory l none h = tt

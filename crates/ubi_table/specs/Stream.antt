@@ -3,7 +3,7 @@ use Rattle.std.specs.Prelude.{ℕ, List, ◌≡◌}
 use Rattle.ubi_media.specs.Geometry.{Sizes}
 use Rattle.ubi_media.specs.declared.refusal.AttachError.{AttachError}
 use Rattle.ubi_media.specs.declared.refusal.AttachError.TheVariants as attach
-use Rattle.ubi_scan.specs.Source.{Source, WhereHeld, blocks_in, blocks_of}
+use Rattle.ubi_scan.specs.Source.{Agreed, Source, WhereHeld, blocks_in, blocks_of}
 use Rattle.ubi_scan.specs.Stream.{IsReadFault}
 use Rattle.ubi_scan.specs.declared.errors.StreamError.{StreamError}
 use Rattle.ubi_scan.specs.declared.errors.StreamError.TheVariants as stream
@@ -15,17 +15,17 @@ abbrev pub IsTableError : Sizes → List (List ℕ) → AttachError → Type 0
 IsTableError s bs attach.Memory = Unit {0}
 IsTableError s bs (attach.Refused c) = IsTableFault s bs c
 
--- the table of a source: it has these sizes, its volumes fit the device and, where the bytes are known, it is that of
--- their eraseblocks
-pub record IsTableOf (s : Sizes) (k : Source) (t : Records) : Type 0 where
+-- the table of a source: it has these sizes, its volumes fit the device, and it is that of the eraseblocks of whatever the
+-- source may hold
+pub record IsTableOf (s : Sizes) (agrees : Agreed) (t : Records) : Type 0 where
   pub sizes : t.sizes ≡ s
   pub space : HasSpace s t
-  pub held : WhereHeld k (λ bytes. IsTable s (blocks_of s bytes) t)
+  pub held : WhereHeld agrees (λ bytes. IsTable s (blocks_of s bytes) t)
 
--- why it has none: the eraseblocks have none for this cause, where the bytes are known; or a read failed, or memory ran
--- out
-abbrev pub IsTableOfError : Sizes → Source → StreamError → Type 0
-IsTableOfError s k (stream.Refused c) = WhereHeld k (λ bytes. IsTableFault s (blocks_of s bytes) c)
-IsTableOfError s k (stream.Read p written) = IsReadFault (blocks_in s k) (stream.Read p written)
-IsTableOfError s k (stream.Write _) = ⊥
-IsTableOfError s k stream.Memory = Unit {0}
+-- why it has none: the eraseblocks of whatever the source may hold have none for this cause; or a read failed, or memory
+-- ran out
+abbrev pub IsTableOfError : Sizes → Source → Agreed → StreamError → Type 0
+IsTableOfError s k agrees (stream.Refused c) = WhereHeld agrees (λ bytes. IsTableFault s (blocks_of s bytes) c)
+IsTableOfError s k agrees (stream.Read p written) = IsReadFault (blocks_in s k) (stream.Read p written)
+IsTableOfError s k agrees (stream.Write _) = ⊥
+IsTableOfError s k agrees stream.Memory = Unit {0}

@@ -6,7 +6,7 @@ ghost use Rattle.ubi_media.specs.Geometry.{Sizes, leb_size};
 ghost use Rattle.ubi_scan.specs.Image.{in_image};
 ghost use Rattle.ubi_scan.specs.Members.{layout};
 ghost use Rattle.ubi_scan.specs.Scan.{IsScan};
-ghost use Rattle.ubi_scan.specs.Source.{WhereHeld, blocks_of};
+ghost use Rattle.ubi_scan.specs.Source.{Narrows, WhereHeld, blocks_of};
 ghost use Rattle.ubi_scan.specs.Stream.{IsScanOf, after};
 ghost use Rattle.ubi_table.specs.inner.OneCopy.{IsCopyOfError, IsCopyTableOf};
 ghost use Rattle.ubi_table.specs.Records.{HasSpace};
@@ -47,13 +47,14 @@ fn decided<S: BlockSource>(
     c: u32,
     buffer: &mut [u8],
 ) -> Result<Option<Table>, StreamError>
-    requires scan { IsScanOf geometry.now (S.known source.old) scan.now }
+    requires scan { IsScanOf geometry.now (S.known source.old) (S.agrees source.old) scan.now }
     requires room { length buffer.old ≡ leb_size geometry.now }
     ensures known { S.known source.new ≡ after (S.known source.old) result }
-    ensures table { IfOk result (IsCopyTableOf geometry.now (S.known source.old) c) }
+    ensures narrows { Narrows (S.agrees source.old) (S.agrees source.new) }
+    ensures table { IfOk result (IsCopyTableOf geometry.now (S.agrees source.new) c) }
     ensures sizes { IfOk result (λ t. IfSome t (λ t. t.sizes ≡ geometry.now)) }
     ensures space { IfOk result (λ t. IfSome t (HasSpace geometry.now)) }
-    ensures refused { IfErr result (IsCopyOfError geometry.now (S.known source.old) c) }
+    ensures refused { IfErr result (IsCopyOfError geometry.now (S.known source.old) (S.agrees source.new) c) }
 {
     let Some(p) = scan.winner(LAYOUT_VOLUME, c) else {
         return Ok(None);
@@ -84,12 +85,13 @@ fn first_decided<S: BlockSource>(
     scan: &Scan,
     buffer: &mut [u8],
 ) -> Result<Table, StreamError>
-    requires scan { IsScanOf geometry.now (S.known source.old) scan.now }
+    requires scan { IsScanOf geometry.now (S.known source.old) (S.agrees source.old) scan.now }
     requires some { (e : ℕ × ℕ) × (finite.get scan.now.winners (layout, e.0) ≡ Some e.1) }
     requires room { length buffer.old ≡ leb_size geometry.now }
     ensures known { S.known source.new ≡ after (S.known source.old) result }
-    ensures table { IfOk result (IsTableOf geometry.now (S.known source.old)) }
-    ensures refused { IfErr result (IsTableOfError geometry.now (S.known source.old)) }
+    ensures narrows { Narrows (S.agrees source.old) (S.agrees source.new) }
+    ensures table { IfOk result (IsTableOf geometry.now (S.agrees source.new)) }
+    ensures refused { IfErr result (IsTableOfError geometry.now (S.known source.old) (S.agrees source.new)) }
 {
     for c in 0..COPIES {
         match decided(alloc, geometry, source, scan, c, buffer)? {
@@ -115,10 +117,11 @@ pub fn choose_from<S: BlockSource>(
     source: &mut S,
     scan: &Scan,
 ) -> Result<Table, StreamError>
-    requires { IsScanOf geometry.now (S.known source.old) scan.now }
+    requires { IsScanOf geometry.now (S.known source.old) (S.agrees source.old) scan.now }
     ensures known { S.known source.new ≡ after (S.known source.old) result }
-    ensures table { IfOk result (IsTableOf geometry.now (S.known source.old)) }
-    ensures refused { IfErr result (IsTableOfError geometry.now (S.known source.old)) }
+    ensures narrows { Narrows (S.agrees source.old) (S.agrees source.new) }
+    ensures table { IfOk result (IsTableOf geometry.now (S.agrees source.new)) }
+    ensures refused { IfErr result (IsTableOfError geometry.now (S.known source.old) (S.agrees source.new)) }
 {
     let count = (source.len() / u64::from(geometry.peb_size())) as u32;
     if is_erased(count, scan) {

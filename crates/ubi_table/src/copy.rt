@@ -4,7 +4,7 @@ ghost use Rattle.std.specs.Prelude.{◌≡◌, ◌<◌, IfErr, IfOk, length, opt
 ghost use Rattle.ubi_media.specs.Geometry.{leb_size};
 ghost use Rattle.ubi_scan.specs.Image.{in_image};
 ghost use Rattle.ubi_scan.specs.Scan.{IsScan};
-ghost use Rattle.ubi_scan.specs.Source.{WhereHeld, blocks_in, blocks_of};
+ghost use Rattle.ubi_scan.specs.Source.{Narrows, WhereHeld, blocks_in, blocks_of};
 ghost use Rattle.ubi_scan.specs.Stream.{IsScanOf, after};
 ghost use Rattle.ubi_table.specs.inner.OneCopy.{HasSizes, IsCopyReadError};
 ghost use Rattle.ubi_table.specs.Records.{first_named, twice};
@@ -92,10 +92,11 @@ pub fn read_copy_from<S: BlockSource>(
     c: u32,
     buffer: &mut [u8],
 ) -> Result<CopyRead, StreamError>
-    requires scan { IsScanOf geometry.now (S.known source.old) scan.now }
+    requires scan { IsScanOf geometry.now (S.known source.old) (S.agrees source.old) scan.now }
     requires room { length buffer.old ≡ leb_size geometry.now }
     ensures known { S.known source.new ≡ after (S.known source.old) result }
-    ensures copy { IfOk result (λ what. WhereHeld (S.known source.old) (λ bytes. CopyIs geometry.now (blocks_of geometry.now bytes) c what)) }
+    ensures narrows { Narrows (S.agrees source.old) (S.agrees source.new) }
+    ensures copy { IfOk result (λ what. WhereHeld (S.agrees source.new) (λ bytes. CopyIs geometry.now (blocks_of geometry.now bytes) c what)) }
     ensures sizes { IfOk result (HasSizes geometry.now) }
     ensures failed { IfErr result (IsCopyReadError (blocks_in geometry.now (S.known source.old))) }
 {

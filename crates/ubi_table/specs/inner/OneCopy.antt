@@ -4,7 +4,7 @@ use Rattle.ubi_media.specs.Geometry.{Sizes}
 use Rattle.ubi_media.specs.declared.refusal.Refusal.{Refusal}
 use Rattle.ubi_media.specs.declared.refusal.Refusal.TheVariants as refusal
 use Rattle.ubi_scan.specs.Members.{layout, Wins}
-use Rattle.ubi_scan.specs.Source.{Source, WhereHeld, blocks_in, blocks_of}
+use Rattle.ubi_scan.specs.Source.{Agreed, Source, WhereHeld, blocks_in, blocks_of}
 use Rattle.ubi_scan.specs.Stream.{IsReadFault}
 use Rattle.ubi_scan.specs.declared.errors.StreamError.{StreamError}
 use Rattle.ubi_scan.specs.declared.errors.StreamError.TheVariants as stream
@@ -26,15 +26,15 @@ IsCopyFault s bs c refusal.NoSpace = (t : Records) × CopyIs s bs c (copy.Good t
 IsCopyFault s bs c _ = ⊥
 
 -- the table of a copy of a source
-pub record IsCopyTableOf (s : Sizes) (k : Source) (c : ℕ) (t : Option Records) : Type 0 where
-  pub held : WhereHeld k (λ bytes. IsCopyTable s (blocks_of s bytes) c t)
+pub record IsCopyTableOf (s : Sizes) (agrees : Agreed) (c : ℕ) (t : Option Records) : Type 0 where
+  pub held : WhereHeld agrees (λ bytes. IsCopyTable s (blocks_of s bytes) c t)
 
 -- and why it gives none
-abbrev pub IsCopyOfError : Sizes → Source → ℕ → StreamError → Type 0
-IsCopyOfError s k c (stream.Refused cause) = WhereHeld k (λ bytes. IsCopyFault s (blocks_of s bytes) c cause)
-IsCopyOfError s k c (stream.Read p written) = IsReadFault (blocks_in s k) (stream.Read p written)
-IsCopyOfError s k c (stream.Write _) = ⊥
-IsCopyOfError s k c stream.Memory = Unit {0}
+abbrev pub IsCopyOfError : Sizes → Source → Agreed → ℕ → StreamError → Type 0
+IsCopyOfError s k agrees c (stream.Refused cause) = WhereHeld agrees (λ bytes. IsCopyFault s (blocks_of s bytes) c cause)
+IsCopyOfError s k agrees c (stream.Read p written) = IsReadFault (blocks_in s k) (stream.Read p written)
+IsCopyOfError s k agrees c (stream.Write _) = ⊥
+IsCopyOfError s k agrees c stream.Memory = Unit {0}
 
 -- the table of a copy, if it is one, has these sizes
 abbrev pub HasSizes : Sizes → CopyRead → Type 0

@@ -1,7 +1,7 @@
-use Rattle.std.proofs.Common.{refl}
-use Rattle.ubi_scan.specs.Source.{memory}
+use Rattle.std.proofs.Common.{length}
+use Rattle.ubi_scan.specs.Source.{Narrows, holds, sound}
 use Rattle.ubi_scan.specs.declared.errors.StreamError.TheVariants as stream
-use Rattle.ubi_scan.proofs.InMemory.{scan_of_memory}
+use Rattle.ubi_scan.proofs.InMemory.{scan_of_memory, still}
 use Rattle.ubi_table.specs.Stream.{IsTableOf, IsTableOfError}
 use Rattle.ubi_table.proofs.choosing.choose.Goals as goal
 
@@ -14,14 +14,17 @@ choose_from-requires c =
 pub returns-in-Ok-clause-table : goal.returns-in-Ok-clause-table
 returns-in-Ok-clause-table c =
     let image = c.args.blocks.now in
-    let h : IsTableOf image.sizes (memory image.bytes) c.in-Ok.table =
-    rw (c.geometry.ensures, c.new-source.ensures, c.bytes.ensures.value) at c.in-Ok.ensures.table in
-    h.held image.bytes refl
+    let h : IsTableOf image.sizes (holds c.choose_from.new.source) c.in-Ok.table =
+    rw c.geometry.ensures at c.in-Ok.ensures.table in
+    let narrows : Narrows (holds image.bytes) (holds c.choose_from.new.source) =
+    rw (c.new-source.ensures, c.bytes.ensures.value) at c.in-Ok.ensures.narrows in
+    h.held image.bytes (still image.bytes c.choose_from.new.source narrows)
 
 pub returns-in-Err-Refused-clause-refused : goal.returns-in-Err-Refused-clause-refused
 returns-in-Err-Refused-clause-refused c =
     let image = c.args.blocks.now in
-    let h : IsTableOfError image.sizes (memory image.bytes) (stream.Refused c.in-Err-Refused.cause) =
-    rw (c.in-Err-Refused.field-0-is, c.geometry.ensures, c.new-source.ensures, c.bytes.ensures.value) at
-    c.in-Err-Refused.ensures.refused in
-    h image.bytes refl
+    let h : IsTableOfError image.sizes (sound (length image.bytes)) (holds c.choose_from.new.source) (stream.Refused c.in-Err-Refused.cause) =
+    rw (c.in-Err-Refused.field-0-is, c.geometry.ensures) at c.in-Err-Refused.ensures.refused in
+    let narrows : Narrows (holds image.bytes) (holds c.choose_from.new.source) =
+    rw (c.new-source.ensures, c.bytes.ensures.value) at c.in-Err-Refused.ensures.narrows in
+    h image.bytes (still image.bytes c.choose_from.new.source narrows)

@@ -1,4 +1,4 @@
-use Rattle.std.proofs.Common.{◌≡◌, ◌∙◌, ap, subst, arith}
+use Rattle.std.proofs.Common.{◌≡◌, ◌∙◌, subst, arith}
 use Rattle.std.specs.Prelude.{IfSome}
 use Rattle.std.proofs.lemmas.Result.{err_from_is_err_and}
 use Rattle.ubi_scan.specs.Source.{Source, blocks_of}
@@ -14,9 +14,11 @@ returns-in_err-table-clause-refused g c =
     let known = g.S.BlockSource.known c.args.source.now in
     let e = c.in_err-table.field-0.0 in
     let p = err_from_is_err_and c.from_residual.result c.from_residual.ensures.1 in
-    let h = subst (λ (k : Source). IsCopyOfError s k c.loop-c.c e) c.loop-c.invariant.source
+    let agrees = g.S.BlockSource.agrees c.decided.new.source in
+    let h = subst (λ (k : Source). IsCopyOfError s k agrees c.loop-c.c e) c.loop-c.invariant.source
     c.in_err-table.ensures.refused in
-    rw (p.1, p.2) (error_of_copy s known c.loop-c.c e (omega arith) c.loop-c.invariant.none h)
+    rw (p.1, p.2) (error_of_copy s known agrees c.loop-c.c e (omega arith)
+    (λ bytes holds. c.loop-c.invariant.none bytes (c.in_err-table.ensures.narrows bytes holds)) h)
 
 pub returns-in-Some-clause-table : goal.returns-in-Some-clause-table
 returns-in-Some-clause-table g c =
@@ -26,9 +28,9 @@ returns-in-Some-clause-table g c =
       space = subst (λ o. IfSome o (HasSpace s)) c.in-Some.is c.in_ok-table.ensures.space;
       held = λ bytes holds.
           let bs = blocks_of s bytes in
-          let still = ap (λ (k : Source). k.held) c.loop-c.invariant.source ∙ holds in
-          table_chosen s bs c.loop-c.c c.in-Some.table (omega arith) (c.loop-c.invariant.none bytes holds)
-          (subst (IsCopyTable s bs c.loop-c.c) c.in-Some.is (c.in_ok-table.ensures.table.held bytes still));
+          let before = c.in_ok-table.ensures.narrows bytes holds in
+          table_chosen s bs c.loop-c.c c.in-Some.table (omega arith) (c.loop-c.invariant.none bytes before)
+          (subst (IsCopyTable s bs c.loop-c.c) c.in-Some.is (c.in_ok-table.ensures.table.held bytes holds));
     }
 
 pub loop-c-preserved : goal.loop-c-preserved
@@ -36,11 +38,12 @@ loop-c-preserved g c =
     let s = c.args.geometry.now in
     record {
       source = c.in_ok-table.ensures.known ∙ c.loop-c.invariant.source;
+      narrows = λ bytes holds. c.loop-c.invariant.narrows bytes (c.in_ok-table.ensures.narrows bytes holds);
       none = λ bytes holds.
           let bs = blocks_of s bytes in
-          let still = ap (λ (k : Source). k.held) c.loop-c.invariant.source ∙ holds in
-          none_more s bs c.loop-c.c (c.loop-c.invariant.none bytes holds)
-          (subst (IsCopyTable s bs c.loop-c.c) c.in-None.is (c.in_ok-table.ensures.table.held bytes still));
+          let before = c.in_ok-table.ensures.narrows bytes holds in
+          none_more s bs c.loop-c.c (c.loop-c.invariant.none bytes before)
+          (subst (IsCopyTable s bs c.loop-c.c) c.in-None.is (c.in_ok-table.ensures.table.held bytes holds));
     }
 
 pub returns-clause-refused : goal.returns-clause-refused
@@ -48,5 +51,5 @@ returns-clause-refused g c =
     let s = c.args.geometry.now in
     let both : c.loop-c.c ≡ 2 = omega arith in
     rw c.into.ensures (λ bytes holds. both_corrupt s (blocks_of s bytes) c.args.scan.now c.requires.some.0
-    (c.requires.scan.held bytes holds)
+    (c.requires.scan.held bytes (c.loop-c.invariant.narrows bytes holds))
     (subst (NoneDecides s (blocks_of s bytes)) both (c.loop-c.invariant.none bytes holds)) c.requires.some.1)

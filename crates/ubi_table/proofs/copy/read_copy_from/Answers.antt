@@ -17,7 +17,7 @@ returns-in_ok-copy_in-in-Some-clause-copy g c = λ bytes holds.
     let bs = blocks_of s bytes in
     let p = c.in-Some.p in
     let of : Leb = (layout, c.args.c) in
-    let scan : IsScan s bs c.args.scan.now = c.requires.scan.held bytes holds in
+    let scan : IsScan s bs c.args.scan.now = c.requires.scan.held bytes (c.in_ok-read_leb-in-Some.ensures.narrows bytes holds) in
     let w : Wins s bs of p = subst (λ o. MatchOption o (NoMember s bs of) (Wins s bs of)) (sym c.in-Some.ensures)
     (scan.winners of) in
     let read = leb_of_read s bytes c.read_leb.new.out p w.member.inside
