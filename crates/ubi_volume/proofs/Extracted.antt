@@ -17,7 +17,7 @@ use Rattle.ubi_media.specs.declared.vid.VolKind.TheVariants as kind
 use Rattle.ubi_media.proofs.Records.{usable_some}
 use Rattle.ubi_scan.specs.Image.{Image, block, image_of, leb}
 use Rattle.ubi_scan.specs.Members.{NoMember, Wins}
-use Rattle.ubi_scan.specs.Source.{Source, blocks_of}
+use Rattle.ubi_scan.specs.Source.{Agreed, Source, blocks_of}
 use Rattle.ubi_scan.specs.declared.errors.StreamError.{StreamError}
 use Rattle.ubi_scan.proofs.Decided.{Wins-unique}
 use Rattle.ubi_table.specs.Records.{Records}
@@ -100,19 +100,19 @@ module _ (s : Sizes) (p : Placed) (id size bytes : ℕ) where
           ∙ ap (λ (o : Option ℕ). leb_bytes s m o image) (sym is),
     )
 
-    module _ (k : Source) (a b c : Option (List ℕ)) (done : ℕ)
-        (front : Wrote k a b (lebs_at s p id size bytes n) All 0 done) where
-      pub lebs_wrote : (more : ℕ) → Wrote k b c (leb_at s m at) All done more
-          → Wrote k a c (lebs_at s p id size bytes (n + 1)) All 0 more
-      lebs_wrote more back = wrote_more k a b c (lebs_at s p id size bytes (n + 1)) (lebs_at s p id size bytes n)
+    module _ (k : Source) (agrees : Agreed) (a b c : Option (List ℕ)) (done : ℕ)
+        (front : Wrote agrees a b (lebs_at s p id size bytes n) All 0 done) where
+      pub lebs_wrote : (more : ℕ) → Wrote agrees b c (leb_at s m at) All done more
+          → Wrote agrees a c (lebs_at s p id size bytes (n + 1)) All 0 more
+      lebs_wrote more back = wrote_more k agrees a b c (lebs_at s p id size bytes (n + 1)) (lebs_at s p id size bytes n)
           (leb_at s m at) 0 done more lebs_step front back
 
-      pub lebs_failed : (l : ℕ) (e : StreamError) → n < l → IsWroteError s k b c (leb_at s m at) done e
-          → IsWroteError s k a c (lebs_at s p id size bytes l) 0 e
+      pub lebs_failed : (l : ℕ) (e : StreamError) → n < l → IsWroteError s k agrees b c (leb_at s m at) done e
+          → IsWroteError s k agrees a c (lebs_at s p id size bytes l) 0 e
       lebs_failed l e below back =
-          error_front k s a c (lebs_at s p id size bytes l) (lebs_at s p id size bytes (n + 1))
+          error_front k agrees s a c (lebs_at s p id size bytes l) (lebs_at s p id size bytes (n + 1))
           (λ image text. Unit {0}) 0 e (lebs_front (n + 1) l (omega arith))
-          (error_behind k s a b c (lebs_at s p id size bytes (n + 1)) (lebs_at s p id size bytes n) (leb_at s m at) 0
+          (error_behind k agrees s a b c (lebs_at s p id size bytes (n + 1)) (lebs_at s p id size bytes n) (leb_at s m at) 0
           done e lebs_step front back)
 
 module _ (s : Sizes) (p : Placed) (image : List ℕ) (places : ArePlaces (image_of s image) p) (id : ℕ) (r : VolumeRecord)

@@ -20,6 +20,7 @@ pub mod MemberStates
 pub mod Mismatches
 pub mod Moved
 pub mod Narrow
+pub mod Narrowed
 pub mod One
 pub mod OneCause
 pub mod Pieces

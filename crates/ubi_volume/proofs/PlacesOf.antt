@@ -13,7 +13,7 @@ use Rattle.ubi_media.specs.Geometry.{IsGeometry, Sizes}
 use Rattle.ubi_media.specs.declared.record.VolumeRecord.{VolumeRecord}
 use Rattle.ubi_scan.specs.Scan.{Found}
 use Rattle.ubi_scan.specs.Image.{IsWholeSize, image_of}
-use Rattle.ubi_scan.specs.Source.{IsSource, Source, WhereHeld, blocks_of}
+use Rattle.ubi_scan.specs.Source.{Agreed, IsSource, Source, WhereHeld, blocks_of}
 use Rattle.ubi_scan.specs.Stream.{IsScanOf}
 use Rattle.ubi_scan.specs.declared.errors.StreamError.{StreamError}
 use Rattle.ubi_scan.specs.declared.errors.StreamError.TheVariants as stream
@@ -109,9 +109,9 @@ module _ (t : Records) (cs : List (ℕ × PlaceContent)) (numbered : AreNumbered
       by_record None e some = absurd (cc)
       by_record (Some r) e some = let c = has_case id r e in by_found _ c.0 (first_entry cs id ∙ c.1)
 
-module _ (s : Sizes) (k : Source) (found : Found) (t : Records) (scan : IsScanOf s k found)
-    (table : IsTableOf s k t) where
-  pub winners_refused : (e : StreamError) → IsMismatchError s k t e → ArePlacesError s k e
+module _ (s : Sizes) (k : Source) (agrees : Agreed) (found : Found) (t : Records)
+    (scan : IsScanOf s k agrees found) (table : IsTableOf s agrees t) where
+  pub winners_refused : (e : StreamError) → IsMismatchError s k agrees t e → ArePlacesError s k agrees e
   winners_refused (stream.Refused c) h =
       inr (
         scan.whole,
@@ -121,16 +121,16 @@ module _ (s : Sizes) (k : Source) (found : Found) (t : Records) (scan : IsScanOf
   winners_refused (stream.Write n) h = h
   winners_refused stream.Memory h = absurd h
 
-  pub contents_refused : (e : StreamError) → IsContentsError s k t e → ArePlacesError s k e
+  pub contents_refused : (e : StreamError) → IsContentsError s k agrees t e → ArePlacesError s k agrees e
   contents_refused (stream.Refused c) h = winners_refused (stream.Refused c) h
   contents_refused (stream.Read p n) h = h
   contents_refused (stream.Write n) h = h
   contents_refused stream.Memory h = tt
 
-  module _ (sized : IsSource k) (g : IsGeometry s) (narrow : found.image_seq < 2 ^ 32) (cs : List (ℕ × PlaceContent))
+  module _ (sized : IsSource k agrees) (g : IsGeometry s) (narrow : found.image_seq < 2 ^ 32) (cs : List (ℕ × PlaceContent))
       (numbered : AreNumbered (finite.entries t.of) cs)
-      (alike : WhereHeld k (λ bytes. NoMismatch s (blocks_of s bytes) t))
-      (cases : WhereHeld k (λ bytes. AreCases s (blocks_of s bytes) (finite.entries t.of) cs)) where
+      (alike : WhereHeld agrees (λ bytes. NoMismatch s (blocks_of s bytes) t))
+      (cases : WhereHeld agrees (λ bytes. AreCases s (blocks_of s bytes) (finite.entries t.of) cs)) where
     abbrev placed : Placed
     placed = record {
       records = t;
@@ -139,7 +139,7 @@ module _ (s : Sizes) (k : Source) (found : Found) (t : Records) (scan : IsScanOf
       image_seq = found.image_seq;
     }
 
-    held : (bytes : List ℕ) → k.held ≡ Some bytes → ArePlaces (image_of s bytes) placed
+    held : (bytes : List ℕ) → agrees bytes → ArePlaces (image_of s bytes) placed
     held bytes holds =
         let bs = blocks_of s bytes in
         let is = table.held bytes holds in
@@ -169,7 +169,7 @@ module _ (s : Sizes) (k : Source) (found : Found) (t : Records) (scan : IsScanOf
               ∙ find_case s id h.volumes v (sym (finite.get-from_entries nat_cmp_total h.volumes id) ∙ e);
         }
 
-    pub are_places : ArePlacesOf s k placed
+    pub are_places : ArePlacesOf s k agrees placed
     are_places = record {
       sizes = table.sizes;
       whole = scan.whole;

@@ -1,12 +1,12 @@
 -- What a writer received piece by piece.
 use Rattle.std.proofs.Common.{◌≡◌, ℕ, ◌+◌, ◌<◌, ◌≤◌, List, [], ◌++◌, length, take, refl, ap, sym, ◌∙◌, subst, arith, length-append, length-take-le}
-use Rattle.std.specs.Prelude.{Option, Some}
+use Rattle.std.specs.Prelude.{Option}
 use Rattle.std.specs.Io.KnownBytes.{Appends}
 use Rattle.std.proofs.KnownBytes.{Appends-nil, Appends-trans}
 use Rattle.std.proofs.Math.Seq.{take-append-add}
 use Rattle.std.proofs.lemmas.List.{take-append-le, take_all}
 use Rattle.ubi_media.specs.Geometry.{Sizes}
-use Rattle.ubi_scan.specs.Source.{Source}
+use Rattle.ubi_scan.specs.Source.{Agreed, Source}
 use Rattle.ubi_scan.specs.declared.errors.StreamError.{StreamError}
 use Rattle.ubi_scan.specs.declared.errors.StreamError.TheVariants as stream
 use Rattle.ubi_volume.specs.Wrote.{All, First, IsWroteError, NotAll, Wanted, Wrote}
@@ -16,9 +16,9 @@ abbrev pub Splits : Wanted → Wanted → Wanted → Type 0
 Splits wanted front back = (image text : List ℕ) → wanted image text
     → (a b : List ℕ) × (text ≡ a ++ b) × front image a × back image b
 
-module _ (k : Source) where
+module _ (k : Source) (agrees : Agreed) where
   -- nothing was wanted
-  pub wrote_none : (a : Option (List ℕ)) (n : ℕ) → Wrote k a a (λ image text. text ≡ []) All n n
+  pub wrote_none : (a : Option (List ℕ)) (n : ℕ) → Wrote agrees a a (λ image text. text ≡ []) All n n
   wrote_none a n = record {
     bytes = [];
     got = Appends-nil a;
@@ -29,7 +29,7 @@ module _ (k : Source) where
   -- one text, or the first bytes of it, or none as yet
   pub wrote_text : (a b : Option (List ℕ)) (wanted : Wanted) (text : List ℕ) (size m n : ℕ) → Appends a b text
       → length text ≡ size → n ≡ m + size
-      → ((image t : List ℕ) → k.held ≡ Some image → wanted image t → t ≡ text) → Wrote k a b wanted All m n
+      → ((image t : List ℕ) → agrees image → wanted image t → t ≡ text) → Wrote agrees a b wanted All m n
   wrote_text a b wanted text size m n got long count same = record {
     bytes = text;
     got = got;
@@ -40,7 +40,7 @@ module _ (k : Source) where
 
   pub wrote_cut : (a b : Option (List ℕ)) (wanted : Wanted) (text : List ℕ) (size j m n : ℕ) → Appends a b (take j text)
       → length text ≡ size → j < size → n ≡ m + j
-      → ((image t : List ℕ) → k.held ≡ Some image → wanted image t → t ≡ text) → Wrote k a b wanted NotAll m n
+      → ((image t : List ℕ) → agrees image → wanted image t → t ≡ text) → Wrote agrees a b wanted NotAll m n
   wrote_cut a b wanted text size j m n got long short count same =
       let few : length (take j text) ≡ j = length-take-le j text (omega arith) in
       record {
@@ -53,7 +53,7 @@ module _ (k : Source) where
         ));
       }
 
-  pub wrote_first : (a : Option (List ℕ)) (wanted : Wanted) (n : ℕ) → Wrote k a a wanted First n n
+  pub wrote_first : (a : Option (List ℕ)) (wanted : Wanted) (n : ℕ) → Wrote agrees a a wanted First n n
   wrote_first a wanted n = record {
     bytes = [];
     got = Appends-nil a;
@@ -64,7 +64,7 @@ module _ (k : Source) where
   -- the same bytes are wanted
   pub wrote_as : (a b : Option (List ℕ)) (wanted other : Wanted) (many : ℕ → ℕ → Type 0) (m n : ℕ)
       → ((image text : List ℕ) → other image text → wanted image text)
-      → Wrote k a b wanted many m n → Wrote k a b other many m n
+      → Wrote agrees a b wanted many m n → Wrote agrees a b other many m n
   wrote_as a b wanted other many m n same h = record {
     bytes = h.bytes;
     got = h.got;
@@ -74,7 +74,7 @@ module _ (k : Source) where
 
   pub error_as : (s : Sizes) (a b : Option (List ℕ)) (wanted other : Wanted) (m : ℕ) (e : StreamError)
       → ((image text : List ℕ) → other image text → wanted image text)
-      → IsWroteError s k a b wanted m e → IsWroteError s k a b other m e
+      → IsWroteError s k agrees a b wanted m e → IsWroteError s k agrees a b other m e
   error_as s a b wanted other m (stream.Read p n) same h = (h.0, wrote_as a b wanted other First m n same h.1)
   error_as s a b wanted other m (stream.Write n) same h = wrote_as a b wanted other NotAll m n same h
   error_as s a b wanted other m (stream.Refused c) same h = h
@@ -83,7 +83,7 @@ module _ (k : Source) where
   -- a part after what was written
   wrote_both : (a b c : Option (List ℕ)) (wanted front back : Wanted) (many : ℕ → ℕ → Type 0) (l m n : ℕ)
       → Splits wanted front back → ((x i j : ℕ) → many i j → many (x + i) (x + j))
-      → Wrote k a b front All l m → Wrote k b c back many m n → Wrote k a c wanted many l n
+      → Wrote agrees a b front All l m → Wrote agrees b c back many m n → Wrote agrees a c wanted many l n
   wrote_both a b c wanted front back many l m n split shift g h =
       let both = length-append g.bytes h.bytes in
       record {
@@ -108,14 +108,14 @@ module _ (k : Source) where
       }
 
   pub wrote_more : (a b c : Option (List ℕ)) (wanted front back : Wanted) (l m n : ℕ) → Splits wanted front back
-      → Wrote k a b front All l m → Wrote k b c back All m n → Wrote k a c wanted All l n
+      → Wrote agrees a b front All l m → Wrote agrees b c back All m n → Wrote agrees a c wanted All l n
   wrote_more a b c wanted front back l m n split = wrote_both a b c wanted front back All l m n split
       (λ x i j e. ap (λ n. x + n) e)
 
   -- a part of the front
   wrote_front : (a b : Option (List ℕ)) (wanted front back : Wanted) (many : ℕ → ℕ → Type 0) (m n : ℕ)
       → Splits wanted front back → ((i j x : ℕ) → many i j → many i (j + x))
-      → ((i j : ℕ) → many i j → i ≤ j) → Wrote k a b front many m n → Wrote k a b wanted many m n
+      → ((i j : ℕ) → many i j → i ≤ j) → Wrote agrees a b front many m n → Wrote agrees a b wanted many m n
   wrote_front a b wanted front back many m n split grow few h = record {
     bytes = h.bytes;
     got = h.got;
@@ -135,7 +135,7 @@ module _ (k : Source) where
   -- an error in the first part, and one after it
   pub error_front : (s : Sizes) (a b : Option (List ℕ)) (wanted front back : Wanted) (m : ℕ) (e : StreamError)
       → Splits wanted front back
-      → IsWroteError s k a b front m e → IsWroteError s k a b wanted m e
+      → IsWroteError s k agrees a b front m e → IsWroteError s k agrees a b wanted m e
   error_front s a b wanted front back m (stream.Read p n) split h =
       (h.0, wrote_front a b wanted front back First m n split (λ i j x l. omega arith) (λ i j l. l) h.1)
   error_front s a b wanted front back m (stream.Write n) split h =
@@ -145,7 +145,7 @@ module _ (k : Source) where
 
   pub error_behind : (s : Sizes) (a b c : Option (List ℕ)) (wanted front back : Wanted) (l m : ℕ) (e : StreamError)
       → Splits wanted front back
-      → Wrote k a b front All l m → IsWroteError s k b c back m e → IsWroteError s k a c wanted l e
+      → Wrote agrees a b front All l m → IsWroteError s k agrees b c back m e → IsWroteError s k agrees a c wanted l e
   error_behind s a b c wanted front back l m (stream.Read p n) split g h =
       (h.0, wrote_both a b c wanted front back First l m n split (λ x i j l. omega arith) g h.1)
   error_behind s a b c wanted front back l m (stream.Write n) split g h =

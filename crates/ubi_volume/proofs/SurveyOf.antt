@@ -1,10 +1,9 @@
 -- What surveying a source gives, by what its parts answered.
-use Rattle.std.proofs.Common.{◌≡◌, ℕ, ◌^◌, ◌<◌, List, sym, subst}
-use Rattle.std.specs.Prelude.{Some}
+use Rattle.std.proofs.Common.{ℕ, ◌^◌, ◌<◌, List, sym, subst}
 use Rattle.ubi_media.specs.Geometry.{IsGeometry, Sizes}
 use Rattle.ubi_scan.specs.Scan.{Found}
 use Rattle.ubi_scan.specs.Image.{Image, IsWholeSize, image_of}
-use Rattle.ubi_scan.specs.Source.{IsSource, Source, WhereHeld, blocks_of}
+use Rattle.ubi_scan.specs.Source.{Agreed, IsSource, Source, WhereHeld, blocks_of}
 use Rattle.ubi_scan.specs.Stream.{IsScanOf}
 use Rattle.ubi_table.specs.Records.{Records}
 use Rattle.ubi_table.specs.Stream.{IsTableOf}
@@ -16,11 +15,11 @@ use Rattle.ubi_volume.proofs.AttachedOf.{attached}
 use Rattle.ubi_volume.proofs.Either.{are_lebs, some_meaning}
 use Rattle.ubi_volume.proofs.Recorded.{records_meant}
 
-module _ (s : Sizes) (k : Source) (found : Found) (t : Records) (states : List BlockState) (g : IsGeometry s)
-    (sized : IsSource k) (narrow : found.image_seq < 2 ^ 32)
-    (scan : IsScanOf s k found) (table : IsTableOf s k t)
-    (alike : WhereHeld k (λ bytes. NoMismatch s (blocks_of s bytes) t)) (are : AreStatesOf s k t states) where
-  held : (bytes : List ℕ) → k.held ≡ Some bytes
+module _ (s : Sizes) (k : Source) (agrees : Agreed) (found : Found) (t : Records) (states : List BlockState) (g : IsGeometry s)
+    (sized : IsSource k agrees) (narrow : found.image_seq < 2 ^ 32)
+    (scan : IsScanOf s k agrees found) (table : IsTableOf s agrees t)
+    (alike : WhereHeld agrees (λ bytes. NoMismatch s (blocks_of s bytes) t)) (are : AreStatesOf s k agrees t states) where
+  held : (bytes : List ℕ) → agrees bytes
       → IsSurvey (image_of s bytes) (record { records = t; scan = found; states = states })
   held bytes holds =
       let image : Image = record { sizes = s; bytes = bytes } in
@@ -36,5 +35,5 @@ module _ (s : Sizes) (k : Source) (found : Found) (t : Records) (states : List B
         records = sym (records_meant s bs t m.0 (table.held bytes holds) m.1);
       }
 
-  pub is_survey : IsSurveyOf s k (record { records = t; scan = found; states = states })
+  pub is_survey : IsSurveyOf s k agrees (record { records = t; scan = found; states = states })
   is_survey = record { whole = scan.whole; count = are.count; held = held }

@@ -10,7 +10,7 @@ use Rattle.ubi_media.specs.declared.vid.VolKind.TheVariants as kind
 use Rattle.ubi_scan.specs.Image.{Image, IsLengthFault, IsWholeSize, image_of, in_image}
 use Rattle.ubi_scan.specs.Members.{Leb}
 use Rattle.ubi_scan.specs.Scan.{AreWinners, leb_cmp}
-use Rattle.ubi_scan.specs.Source.{Source, WhereHeld, blocks_in, blocks_of}
+use Rattle.ubi_scan.specs.Source.{Agreed, Source, WhereHeld, blocks_in, blocks_of}
 use Rattle.ubi_scan.specs.Stream.{IsReadFault}
 use Rattle.ubi_scan.specs.declared.errors.StreamError.{StreamError}
 use Rattle.ubi_scan.specs.declared.errors.StreamError.TheVariants as stream
@@ -74,16 +74,16 @@ pub record ArePlaces (image : Image) (p : Placed) : Type 0 where
   pub contents : (id : ℕ) (v : Volume) → get meaning.volumes id ≡ Some v → get p.contents id ≡ Some (case_of image.sizes v.entry v.content)
 
 -- what attaching a source gives
-pub record ArePlacesOf (s : Sizes) (k : Source) (p : Placed) : Type 0 where
+pub record ArePlacesOf (s : Sizes) (k : Source) (agrees : Agreed) (p : Placed) : Type 0 where
   pub sizes : p.records.sizes ≡ s
   pub whole : IsWholeSize s k.size
   pub within : AreWithin (blocks_in s k) p
-  pub held : WhereHeld k (λ bytes. ArePlaces (image_of s bytes) p)
+  pub held : WhereHeld agrees (λ bytes. ArePlaces (image_of s bytes) p)
 
 -- why it fails
-abbrev pub ArePlacesError : Sizes → Source → StreamError → Type 0
-ArePlacesError s k (stream.Refused c) =
-    IsLengthFault s k.size c ⊎ (IsWholeSize s k.size × WhereHeld k (λ bytes. RefusesBlocks s (blocks_of s bytes) c))
-ArePlacesError s k (stream.Read p written) = IsReadFault (blocks_in s k) (stream.Read p written)
-ArePlacesError s k (stream.Write _) = ⊥
-ArePlacesError s k stream.Memory = Unit {0}
+abbrev pub ArePlacesError : Sizes → Source → Agreed → StreamError → Type 0
+ArePlacesError s k agrees (stream.Refused c) =
+    IsLengthFault s k.size c ⊎ (IsWholeSize s k.size × WhereHeld agrees (λ bytes. RefusesBlocks s (blocks_of s bytes) c))
+ArePlacesError s k agrees (stream.Read p written) = IsReadFault (blocks_in s k) (stream.Read p written)
+ArePlacesError s k agrees (stream.Write _) = ⊥
+ArePlacesError s k agrees stream.Memory = Unit {0}

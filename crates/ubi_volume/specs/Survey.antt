@@ -5,7 +5,7 @@ use Rattle.ubi_media.specs.Geometry.{Sizes}
 use Rattle.ubi_scan.specs.Coded.{found_code}
 use Rattle.ubi_scan.specs.Image.{Image, IsWholeSize, image_of}
 use Rattle.ubi_scan.specs.Scan.{Found}
-use Rattle.ubi_scan.specs.Source.{Source, WhereHeld, blocks_in}
+use Rattle.ubi_scan.specs.Source.{Agreed, Source, WhereHeld, blocks_in}
 use Rattle.ubi_table.specs.Coded.{records_code}
 use Rattle.ubi_table.specs.Records.{Records}
 use Rattle.ubi_volume.specs.Attached.{IsAttached}
@@ -32,7 +32,7 @@ pub record IsSurvey (image : Image) (v : Seen) : Type 0 where
   pub records : v.records ≡ records_of meaning
 
 -- what surveying a source gives
-pub record IsSurveyOf (s : Sizes) (k : Source) (v : Seen) : Type 0 where
+pub record IsSurveyOf (s : Sizes) (k : Source) (agrees : Agreed) (v : Seen) : Type 0 where
   pub whole : IsWholeSize s k.size
   pub count : length v.states ≡ blocks_in s k
-  pub held : WhereHeld k (λ bytes. IsSurvey (image_of s bytes) v)
+  pub held : WhereHeld agrees (λ bytes. IsSurvey (image_of s bytes) v)

@@ -2,7 +2,7 @@
 use Rattle.std.specs.Prelude.{◌≡◌, ℕ, ◌+◌, ◌<◌, ◌≤◌, List, length, take, Option}
 use Rattle.std.specs.Io.KnownBytes.{Appends}
 use Rattle.ubi_media.specs.Geometry.{Sizes}
-use Rattle.ubi_scan.specs.Source.{Source, WhereHeld, blocks_in}
+use Rattle.ubi_scan.specs.Source.{Agreed, Source, WhereHeld, blocks_in}
 use Rattle.ubi_scan.specs.declared.errors.StreamError.{StreamError}
 use Rattle.ubi_scan.specs.declared.errors.StreamError.TheVariants as stream
 
@@ -20,15 +20,16 @@ First n size = n ≤ size
 abbrev pub NotAll : ℕ → ℕ → Type 0
 NotAll n size = n < size
 
--- it received bytes, n with those before; where the image is known, they are the first of those wanted, and so many
-pub record Wrote (k : Source) (old new : Option (List ℕ)) (wanted : Wanted) (many : ℕ → ℕ → Type 0) (before n : ℕ) : Type 0 where
+-- it received bytes, n with those before; of whatever image the source may hold, they are the first of those wanted, and so
+-- many
+pub record Wrote (agrees : Agreed) (old new : Option (List ℕ)) (wanted : Wanted) (many : ℕ → ℕ → Type 0) (before n : ℕ) : Type 0 where
   pub bytes : List ℕ
   pub got : Appends old new bytes
   pub count : n ≡ before + length bytes
-  pub held : WhereHeld k (λ image. (text : List ℕ) → wanted image text → many (length bytes) (length text) × (bytes ≡ take (length bytes) text))
+  pub held : WhereHeld agrees (λ image. (text : List ℕ) → wanted image text → many (length bytes) (length text) × (bytes ≡ take (length bytes) text))
 
 -- why it didn't receive all: a read failed, after the first of them, or a write
-abbrev pub IsWroteError : Sizes → Source → Option (List ℕ) → Option (List ℕ) → Wanted → ℕ → StreamError → Type 0
-IsWroteError s k old new wanted before (stream.Read p n) = (p < blocks_in s k) × Wrote k old new wanted First before n
-IsWroteError s k old new wanted before (stream.Write n) = Wrote k old new wanted NotAll before n
-IsWroteError s k old new wanted before _ = ⊥
+abbrev pub IsWroteError : Sizes → Source → Agreed → Option (List ℕ) → Option (List ℕ) → Wanted → ℕ → StreamError → Type 0
+IsWroteError s k agrees old new wanted before (stream.Read p n) = (p < blocks_in s k) × Wrote agrees old new wanted First before n
+IsWroteError s k agrees old new wanted before (stream.Write n) = Wrote agrees old new wanted NotAll before n
+IsWroteError s k agrees old new wanted before _ = ⊥

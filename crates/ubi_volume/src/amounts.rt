@@ -4,7 +4,7 @@ ghost use Rattle.std.specs.FinMap as finite;
 ghost use Rattle.std.specs.Prelude.{◌≡◌, ◌<◌, IfErr, IfOk, IfSome, IsSome, None, OnOk, Some, length};
 ghost use Rattle.ubi_media.specs.Geometry.{leb_size};
 ghost use Rattle.ubi_media.specs.Record.{rec_fault};
-ghost use Rattle.ubi_scan.specs.Source.{WhereHeld, blocks_in, blocks_of};
+ghost use Rattle.ubi_scan.specs.Source.{Narrows, WhereHeld, blocks_in, blocks_of};
 ghost use Rattle.ubi_scan.specs.Stream.{IsReadFault, after};
 ghost use Rattle.ubi_volume.specs.Amounts.{AmountIs};
 ghost use Rattle.ubi_volume.specs.Extract.{leb_bytes};
@@ -39,11 +39,12 @@ fn is_kept<S: BlockSource>(
     lnum: u32,
     buffer: &mut [u8],
 ) -> Result<bool, StreamError>
-    requires places { ArePlacesOf geometry.now (S.known source.old) places.now }
+    requires places { ArePlacesOf geometry.now (S.known source.old) (S.agrees source.old) places.now }
     requires sound { rec_fault geometry.now entry.now ≡ None }
     requires room { length buffer.old ≡ geometry.now.peb_size }
     ensures known { S.known source.new ≡ after (S.known source.old) result }
-    ensures kept { IfOk result (λ kept. WhereHeld (S.known source.old) (λ bytes. IsKept geometry.now (blocks_of geometry.now bytes) id entry.now lnum kept)) }
+    ensures narrows { Narrows (S.agrees source.old) (S.agrees source.new) }
+    ensures kept { IfOk result (λ kept. WhereHeld (S.agrees source.new) (λ bytes. IsKept geometry.now (blocks_of geometry.now bytes) id entry.now lnum kept)) }
     ensures failed { IfErr result (IsReadFault (blocks_in geometry.now (S.known source.old))) }
 {
     let Some(p) = places.place(id, lnum) else {
@@ -63,11 +64,12 @@ fn count_kept<S: BlockSource>(
     entry: &VolumeRecord,
     buffer: &mut [u8],
 ) -> Result<u32, StreamError>
-    requires places { ArePlacesOf geometry.now (S.known source.old) places.now }
+    requires places { ArePlacesOf geometry.now (S.known source.old) (S.agrees source.old) places.now }
     requires sound { rec_fault geometry.now entry.now ≡ None }
     requires room { length buffer.old ≡ geometry.now.peb_size }
     ensures known { S.known source.new ≡ after (S.known source.old) result }
-    ensures count { IfOk result (λ count. WhereHeld (S.known source.old) (λ bytes. AreKept geometry.now (blocks_of geometry.now bytes) id entry.now entry.now.reserved count)) }
+    ensures narrows { Narrows (S.agrees source.old) (S.agrees source.new) }
+    ensures count { IfOk result (λ count. WhereHeld (S.agrees source.new) (λ bytes. AreKept geometry.now (blocks_of geometry.now bytes) id entry.now entry.now.reserved count)) }
     ensures failed { IfErr result (IsReadFault (blocks_in geometry.now (S.known source.old))) }
 {
     let mut count = 0;
@@ -93,12 +95,13 @@ pub fn amount_of<S: BlockSource>(
     entry: &VolumeRecord,
     buffer: &mut [u8],
 ) -> Result<Amount, StreamError>
-    requires places { ArePlacesOf geometry.now (S.known source.old) places.now }
+    requires places { ArePlacesOf geometry.now (S.known source.old) (S.agrees source.old) places.now }
     requires recorded { finite.get places.now.records.of id ≡ Some entry.now }
     requires sound { rec_fault geometry.now entry.now ≡ None }
     requires room { length buffer.old ≡ geometry.now.peb_size }
     ensures known { S.known source.new ≡ after (S.known source.old) result }
-    ensures amount { IfOk result (λ amount. WhereHeld (S.known source.old) (λ bytes. AmountIs geometry.now places.now id bytes amount)) }
+    ensures narrows { Narrows (S.agrees source.old) (S.agrees source.new) }
+    ensures amount { IfOk result (λ amount. WhereHeld (S.agrees source.new) (λ bytes. AmountIs geometry.now places.now id bytes amount)) }
     ensures failed { IfErr result (IsReadFault (blocks_in geometry.now (S.known source.old))) }
 {
     match places.content(id) {

@@ -4,7 +4,7 @@ ghost use Rattle.std.specs.FinMap as finite;
 ghost use Rattle.std.specs.Prelude.{◌≡◌, ◌<◌, ◌↔◌, IfErr, IfOk, IsTrue, Some, None, false, length};
 ghost use Rattle.ubi_media.specs.Record.{rec_fault};
 ghost use Rattle.ubi_media.specs.declared.vid.VolKind.TheVariants.{Static};
-ghost use Rattle.ubi_scan.specs.Source.{WhereHeld, blocks_in, blocks_of};
+ghost use Rattle.ubi_scan.specs.Source.{Narrows, WhereHeld, blocks_in, blocks_of};
 ghost use Rattle.ubi_scan.specs.Stream.{IsReadFault, IsScanOf, after};
 ghost use Rattle.ubi_table.specs.inner.OneCopy.{IsCopyReadError};
 ghost use Rattle.ubi_table.specs.Stream.{IsTableOf};
@@ -29,10 +29,11 @@ fn used_ebs<S: BlockSource>(
     id: u32,
     buffer: &mut [u8],
 ) -> Result<u32, StreamError>
-    requires scan { IsScanOf geometry.now (S.known source.old) scan.now }
+    requires scan { IsScanOf geometry.now (S.known source.old) (S.agrees source.old) scan.now }
     requires room { length buffer.old ≡ geometry.now.peb_size }
     ensures known { S.known source.new ≡ after (S.known source.old) result }
-    ensures used { IfOk result (λ used. WhereHeld (S.known source.old) (λ bytes. UsedIs geometry.now (blocks_of geometry.now bytes) id used)) }
+    ensures narrows { Narrows (S.agrees source.old) (S.agrees source.new) }
+    ensures used { IfOk result (λ used. WhereHeld (S.agrees source.new) (λ bytes. UsedIs geometry.now (blocks_of geometry.now bytes) id used)) }
     ensures failed { IfErr result (IsReadFault (blocks_in geometry.now (S.known source.old))) }
 {
     match scan.next_winner(id, 0) {
@@ -55,10 +56,11 @@ fn piece_size<S: BlockSource>(
     lnum: u32,
     buffer: &mut [u8],
 ) -> Result<Option<u32>, StreamError>
-    requires scan { IsScanOf geometry.now (S.known source.old) scan.now }
+    requires scan { IsScanOf geometry.now (S.known source.old) (S.agrees source.old) scan.now }
     requires room { length buffer.old ≡ geometry.now.peb_size }
     ensures known { S.known source.new ≡ after (S.known source.old) result }
-    ensures piece { IfOk result (λ size. WhereHeld (S.known source.old) (λ bytes. PieceSizeIs geometry.now (blocks_of geometry.now bytes) id used lnum size)) }
+    ensures narrows { Narrows (S.agrees source.old) (S.agrees source.new) }
+    ensures piece { IfOk result (λ size. WhereHeld (S.agrees source.new) (λ bytes. PieceSizeIs geometry.now (blocks_of geometry.now bytes) id used lnum size)) }
     ensures failed { IfErr result (IsReadFault (blocks_in geometry.now (S.known source.old))) }
 {
     let Some(p) = scan.winner(id, lnum) else {
@@ -89,15 +91,16 @@ fn static_case<S: BlockSource>(
     entry: &VolumeRecord,
     buffer: &mut [u8],
 ) -> Result<PlaceContent, StreamError>
-    requires scan { IsScanOf geometry.now (S.known source.old) scan.now }
-    requires alike { WhereHeld (S.known source.old) (λ bytes. NoMismatch geometry.now (blocks_of geometry.now bytes) table.now) }
+    requires scan { IsScanOf geometry.now (S.known source.old) (S.agrees source.old) scan.now }
+    requires alike { WhereHeld (S.agrees source.old) (λ bytes. NoMismatch geometry.now (blocks_of geometry.now bytes) table.now) }
     requires recorded { finite.get table.now.of id ≡ Some entry.now }
     requires sound { rec_fault geometry.now entry.now ≡ None }
     requires unmarked { entry.now.marker ≡ false }
     requires kind { entry.now.kind ≡ Static }
     requires room { length buffer.old ≡ geometry.now.peb_size }
     ensures known { S.known source.new ≡ after (S.known source.old) result }
-    ensures case { IfOk result (λ case. WhereHeld (S.known source.old) (λ bytes. CaseIs geometry.now (blocks_of geometry.now bytes) id entry.now case)) }
+    ensures narrows { Narrows (S.agrees source.old) (S.agrees source.new) }
+    ensures case { IfOk result (λ case. WhereHeld (S.agrees source.new) (λ bytes. CaseIs geometry.now (blocks_of geometry.now bytes) id entry.now case)) }
     ensures reserved { IfOk result (IsReserved entry.now) }
     ensures failed { IfErr result (IsReadFault (blocks_in geometry.now (S.known source.old))) }
 {
@@ -128,13 +131,14 @@ fn case_of<S: BlockSource>(
     entry: &VolumeRecord,
     buffer: &mut [u8],
 ) -> Result<PlaceContent, StreamError>
-    requires scan { IsScanOf geometry.now (S.known source.old) scan.now }
-    requires alike { WhereHeld (S.known source.old) (λ bytes. NoMismatch geometry.now (blocks_of geometry.now bytes) table.now) }
+    requires scan { IsScanOf geometry.now (S.known source.old) (S.agrees source.old) scan.now }
+    requires alike { WhereHeld (S.agrees source.old) (λ bytes. NoMismatch geometry.now (blocks_of geometry.now bytes) table.now) }
     requires recorded { finite.get table.now.of id ≡ Some entry.now }
     requires sound { rec_fault geometry.now entry.now ≡ None }
     requires room { length buffer.old ≡ geometry.now.peb_size }
     ensures known { S.known source.new ≡ after (S.known source.old) result }
-    ensures case { IfOk result (λ case. WhereHeld (S.known source.old) (λ bytes. CaseIs geometry.now (blocks_of geometry.now bytes) id entry.now case)) }
+    ensures narrows { Narrows (S.agrees source.old) (S.agrees source.new) }
+    ensures case { IfOk result (λ case. WhereHeld (S.agrees source.new) (λ bytes. CaseIs geometry.now (blocks_of geometry.now bytes) id entry.now case)) }
     ensures reserved { IfOk result (IsReserved entry.now) }
     ensures failed { IfErr result (IsReadFault (blocks_in geometry.now (S.known source.old))) }
 {
@@ -160,13 +164,14 @@ pub fn cases_from<S: BlockSource>(
     table: &Table,
     buffer: &mut [u8],
 ) -> Result<Vec<(u32, PlaceContent)>, StreamError>
-    requires scan { IsScanOf geometry.now (S.known source.old) scan.now }
-    requires table { IsTableOf geometry.now (S.known source.old) table.now }
-    requires alike { WhereHeld (S.known source.old) (λ bytes. NoMismatch geometry.now (blocks_of geometry.now bytes) table.now) }
+    requires scan { IsScanOf geometry.now (S.known source.old) (S.agrees source.old) scan.now }
+    requires table { IsTableOf geometry.now (S.agrees source.old) table.now }
+    requires alike { WhereHeld (S.agrees source.old) (λ bytes. NoMismatch geometry.now (blocks_of geometry.now bytes) table.now) }
     requires room { length buffer.old ≡ geometry.now.peb_size }
     ensures known { S.known source.new ≡ after (S.known source.old) result }
+    ensures narrows { Narrows (S.agrees source.old) (S.agrees source.new) }
     ensures numbered { IfOk result (λ cases. AreNumbered (finite.entries table.now.of) cases.items) }
-    ensures cases { IfOk result (λ cases. WhereHeld (S.known source.old) (λ bytes. AreCases geometry.now (blocks_of geometry.now bytes) (finite.entries table.now.of) cases.items)) }
+    ensures cases { IfOk result (λ cases. WhereHeld (S.agrees source.new) (λ bytes. AreCases geometry.now (blocks_of geometry.now bytes) (finite.entries table.now.of) cases.items)) }
     ensures failed { IfErr result (IsCopyReadError (blocks_in geometry.now (S.known source.old))) }
 {
     let mut cases = Vec::new(alloc);

@@ -3,7 +3,7 @@
 //! Each buffer has the size of an eraseblock.
 
 ghost use Rattle.std.specs.Prelude.{◌≡◌, ◌<◌, ◌↔◌, IfErr, IfOk, IsTrue, OnOk, length};
-ghost use Rattle.ubi_scan.specs.Source.{WhereHeld, blocks_in, blocks_of};
+ghost use Rattle.ubi_scan.specs.Source.{Narrows, WhereHeld, blocks_in, blocks_of};
 ghost use Rattle.ubi_scan.specs.Stream.{IsReadFault, IsScanOf, after};
 ghost use Rattle.ubi_table.specs.Stream.{IsTableOf};
 ghost use Rattle.ubi_volume.specs.Accepts.{IsMismatched, NoMismatch};
@@ -23,11 +23,12 @@ fn winner_header<S: BlockSource>(
     p: u32,
     buffer: &mut [u8],
 ) -> Result<Option<VidHeader>, StreamError>
-    requires scan { IsScanOf geometry.now (S.known source.old) scan.now }
+    requires scan { IsScanOf geometry.now (S.known source.old) (S.agrees source.old) scan.now }
     requires inside { p < blocks_in geometry.now (S.known source.old) }
     requires room { length buffer.old ≡ geometry.now.peb_size }
     ensures known { S.known source.new ≡ after (S.known source.old) result }
-    ensures header { IfOk result (λ header. WhereHeld (S.known source.old) (λ bytes. WinnerHeaderIs geometry.now (blocks_of geometry.now bytes) p header)) }
+    ensures narrows { Narrows (S.agrees source.old) (S.agrees source.new) }
+    ensures header { IfOk result (λ header. WhereHeld (S.agrees source.new) (λ bytes. WinnerHeaderIs geometry.now (blocks_of geometry.now bytes) p header)) }
     ensures failed { IfErr result (IsReadFault (blocks_in geometry.now (S.known source.old))) }
 {
     if scan.state(p) == ScanState::Winner {
@@ -46,12 +47,13 @@ fn is_mismatched<S: BlockSource>(
     p: u32,
     buffer: &mut [u8],
 ) -> Result<bool, StreamError>
-    requires scan { IsScanOf geometry.now (S.known source.old) scan.now }
-    requires table { IsTableOf geometry.now (S.known source.old) table.now }
+    requires scan { IsScanOf geometry.now (S.known source.old) (S.agrees source.old) scan.now }
+    requires table { IsTableOf geometry.now (S.agrees source.old) table.now }
     requires inside { p < blocks_in geometry.now (S.known source.old) }
     requires room { length buffer.old ≡ geometry.now.peb_size }
     ensures known { S.known source.new ≡ after (S.known source.old) result }
-    ensures mismatched { IfOk result (λ b. WhereHeld (S.known source.old) (λ bytes. IsTrue b ↔ IsMismatched geometry.now (blocks_of geometry.now bytes) table.now p)) }
+    ensures narrows { Narrows (S.agrees source.old) (S.agrees source.new) }
+    ensures mismatched { IfOk result (λ b. WhereHeld (S.agrees source.new) (λ bytes. IsTrue b ↔ IsMismatched geometry.now (blocks_of geometry.now bytes) table.now p)) }
     ensures failed { IfErr result (IsReadFault (blocks_in geometry.now (S.known source.old))) }
 {
     let Some(header) = winner_header(geometry, source, scan, p, buffer)? else {
@@ -75,12 +77,13 @@ pub fn check_winners_from<S: BlockSource>(
     table: &Table,
     buffer: &mut [u8],
 ) -> Result<(), StreamError>
-    requires scan { IsScanOf geometry.now (S.known source.old) scan.now }
-    requires table { IsTableOf geometry.now (S.known source.old) table.now }
+    requires scan { IsScanOf geometry.now (S.known source.old) (S.agrees source.old) scan.now }
+    requires table { IsTableOf geometry.now (S.agrees source.old) table.now }
     requires room { length buffer.old ≡ geometry.now.peb_size }
     ensures known { S.known source.new ≡ after (S.known source.old) result }
-    ensures alike { OnOk result (WhereHeld (S.known source.old) (λ bytes. NoMismatch geometry.now (blocks_of geometry.now bytes) table.now)) }
-    ensures refused { IfErr result (IsMismatchError geometry.now (S.known source.old) table.now) }
+    ensures narrows { Narrows (S.agrees source.old) (S.agrees source.new) }
+    ensures alike { OnOk result (WhereHeld (S.agrees source.new) (λ bytes. NoMismatch geometry.now (blocks_of geometry.now bytes) table.now)) }
+    ensures refused { IfErr result (IsMismatchError geometry.now (S.known source.old) (S.agrees source.new) table.now) }
 {
     let count = (source.len() / u64::from(geometry.peb_size())) as u32;
     for p in 0..count {

@@ -5,7 +5,7 @@ ghost use Rattle.std.specs.Prelude.{◌≡◌, ℕ, ◌+◌, ◌<◌, ◌≤◌,
 ghost use Rattle.ubi_media.specs.Geometry.{Sizes, leb_size};
 ghost use Rattle.ubi_media.specs.Record.{rec_fault};
 ghost use Rattle.ubi_scan.specs.Image.{Image};
-ghost use Rattle.ubi_scan.specs.Source.{Source, WhereHeld, blocks_in};
+ghost use Rattle.ubi_scan.specs.Source.{Narrows, Source, WhereHeld, anything, blocks_in};
 ghost use Rattle.ubi_scan.specs.Stream.{after};
 ghost use Rattle.ubi_volume.specs.Extract.{case_len, places_len, read_text};
 ghost use Rattle.ubi_volume.specs.inner.Pieces.{leb_at, lebs_at};
@@ -76,9 +76,10 @@ fn write_place<S: BlockSource, W: Write>(
     requires text { length buffer.old ≤ leb_size geometry.now }
     requires few { done + length buffer.old < 2 ^ 64 }
     ensures known { S.known source.new ≡ after (S.known source.old) result }
-    ensures written { IfOk result (Wrote (S.known source.old) (W.contents writer.old) (W.contents writer.new) (leb_at geometry.now (length buffer.old) (Some p)) All done) }
+    ensures narrows { Narrows (S.agrees source.old) (S.agrees source.new) }
+    ensures written { IfOk result (Wrote (S.agrees source.new) (W.contents writer.old) (W.contents writer.new) (leb_at geometry.now (length buffer.old) (Some p)) All done) }
     ensures count { IfOk result (λ n. n ≡ done + length buffer.old) }
-    ensures failed { IfErr result (IsWroteError geometry.now (S.known source.old) (W.contents writer.old) (W.contents writer.new) (leb_at geometry.now (length buffer.old) (Some p)) done) }
+    ensures failed { IfErr result (IsWroteError geometry.now (S.known source.old) (S.agrees source.new) (W.contents writer.old) (W.contents writer.new) (leb_at geometry.now (length buffer.old) (Some p)) done) }
 {
     match read_leb(source, geometry, p, buffer) {
         Ok(()) => {}
@@ -98,9 +99,9 @@ fn write_place<S: BlockSource, W: Write>(
 fn write_hole<W: Write>(writer: &mut W, len: usize, done: u64) -> Result<u64, StreamError>
     requires few { done + len < 2 ^ 64 }
     ensures known { (k : Source) → after k result ≡ k }
-    ensures written { IfOk result (λ n. (s : Sizes) (k : Source) → Wrote k (W.contents writer.old) (W.contents writer.new) (leb_at s len None) All done n) }
+    ensures written { IfOk result (λ n. (s : Sizes) → Wrote anything (W.contents writer.old) (W.contents writer.new) (leb_at s len None) All done n) }
     ensures count { IfOk result (λ n. n ≡ done + len) }
-    ensures failed { IfErr result (λ e. (s : Sizes) (k : Source) → IsWroteError s k (W.contents writer.old) (W.contents writer.new) (leb_at s len None) done e) }
+    ensures failed { IfErr result (λ e. (s : Sizes) (k : Source) → IsWroteError s k anything (W.contents writer.old) (W.contents writer.new) (leb_at s len None) done e) }
 {
     match write_blank(writer, len) {
         Ok(()) => Ok(done + len as u64),
@@ -126,9 +127,10 @@ fn write_leb<S: BlockSource, W: Write>(
     requires text { length buffer.old ≤ leb_size geometry.now }
     requires few { done + length buffer.old < 2 ^ 64 }
     ensures known { S.known source.new ≡ after (S.known source.old) result }
-    ensures written { IfOk result (Wrote (S.known source.old) (W.contents writer.old) (W.contents writer.new) (leb_at geometry.now (length buffer.old) place) All done) }
+    ensures narrows { Narrows (S.agrees source.old) (S.agrees source.new) }
+    ensures written { IfOk result (Wrote (S.agrees source.new) (W.contents writer.old) (W.contents writer.new) (leb_at geometry.now (length buffer.old) place) All done) }
     ensures count { IfOk result (λ n. n ≡ done + length buffer.old) }
-    ensures failed { IfErr result (IsWroteError geometry.now (S.known source.old) (W.contents writer.old) (W.contents writer.new) (leb_at geometry.now (length buffer.old) place) done) }
+    ensures failed { IfErr result (IsWroteError geometry.now (S.known source.old) (S.agrees source.new) (W.contents writer.old) (W.contents writer.new) (leb_at geometry.now (length buffer.old) place) done) }
 {
     match place {
         Some(p) => write_place(geometry, source, p, buffer, writer, done),
@@ -150,12 +152,13 @@ fn write_lebs<S: BlockSource, W: Write>(
     buffer: &mut [u8],
     writer: &mut W,
 ) -> Result<u64, StreamError>
-    requires places { ArePlacesOf geometry.now (S.known source.old) places.now }
+    requires places { ArePlacesOf geometry.now (S.known source.old) (S.agrees source.old) places.now }
     requires room { length buffer.old ≡ geometry.now.peb_size }
     requires size { extent.size ≤ leb_size geometry.now }
     ensures known { S.known source.new ≡ after (S.known source.old) result }
-    ensures written { IfOk result (Wrote (S.known source.old) (W.contents writer.old) (W.contents writer.new) (lebs_at geometry.now places.now id extent.size extent.bytes extent.lebs) All 0) }
-    ensures failed { IfErr result (IsWroteError geometry.now (S.known source.old) (W.contents writer.old) (W.contents writer.new) (lebs_at geometry.now places.now id extent.size extent.bytes extent.lebs) 0) }
+    ensures narrows { Narrows (S.agrees source.old) (S.agrees source.new) }
+    ensures written { IfOk result (Wrote (S.agrees source.new) (W.contents writer.old) (W.contents writer.new) (lebs_at geometry.now places.now id extent.size extent.bytes extent.lebs) All 0) }
+    ensures failed { IfErr result (IsWroteError geometry.now (S.known source.old) (S.agrees source.new) (W.contents writer.old) (W.contents writer.new) (lebs_at geometry.now places.now id extent.size extent.bytes extent.lebs) 0) }
 {
     let mut done = 0;
     for lnum in 0..extent.lebs {
@@ -182,12 +185,13 @@ pub fn write_places<S: BlockSource, W: Write>(
     buffer: &mut [u8],
     writer: &mut W,
 ) -> Result<u64, StreamError>
-    requires places { ArePlacesOf geometry.now (S.known source.old) places.now }
+    requires places { ArePlacesOf geometry.now (S.known source.old) (S.agrees source.old) places.now }
     requires room { length buffer.old ≡ geometry.now.peb_size }
     requires reads { IsOk (places_len places.now id) }
     ensures known { S.known source.new ≡ after (S.known source.old) result }
-    ensures written { IfOk result (Wrote (S.known source.old) (W.contents writer.old) (W.contents writer.new) (read_text geometry.now places.now id) All 0) }
-    ensures failed { IfErr result (IsWroteError geometry.now (S.known source.old) (W.contents writer.old) (W.contents writer.new) (read_text geometry.now places.now id) 0) }
+    ensures narrows { Narrows (S.agrees source.old) (S.agrees source.new) }
+    ensures written { IfOk result (Wrote (S.agrees source.new) (W.contents writer.old) (W.contents writer.new) (read_text geometry.now places.now id) All 0) }
+    ensures failed { IfErr result (IsWroteError geometry.now (S.known source.old) (S.agrees source.new) (W.contents writer.old) (W.contents writer.new) (read_text geometry.now places.now id) 0) }
 {
     let Some(entry) = places.table().get(id) else {
         unreachable!()

@@ -2,7 +2,7 @@
 
 ghost use Rattle.std.specs.Prelude.{◌≡◌, ◌<◌, ◌≤◌, IfErr, IfSome, OnOk, length};
 ghost use Rattle.ubi_media.specs.Geometry.{leb_size};
-ghost use Rattle.ubi_scan.specs.Source.{WhereHeld, blocks_in};
+ghost use Rattle.ubi_scan.specs.Source.{Narrows, WhereHeld, blocks_in};
 ghost use Rattle.ubi_scan.specs.Stream.{IsReadFault, after};
 ghost use Rattle.ubi_volume.specs.Extract.{leb_bytes};
 
@@ -24,7 +24,8 @@ pub fn read_place<S: BlockSource>(
     requires block { IfSome place (λ p. p < blocks_in geometry.now (S.known source.old)) }
     requires part { length out.old ≤ leb_size geometry.now }
     ensures known { S.known source.new ≡ after (S.known source.old) result }
-    ensures bytes { OnOk result (WhereHeld (S.known source.old) (λ bytes. out.new ≡ leb_bytes geometry.now (length out.old) place bytes)) }
+    ensures narrows { Narrows (S.agrees source.old) (S.agrees source.new) }
+    ensures bytes { OnOk result (WhereHeld (S.agrees source.new) (λ bytes. out.new ≡ leb_bytes geometry.now (length out.old) place bytes)) }
     ensures failed { IfErr result (IsReadFault (blocks_in geometry.now (S.known source.old))) }
 {
     match place {

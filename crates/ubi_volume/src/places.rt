@@ -2,7 +2,7 @@
 
 ghost use Rattle.std.specs.Prelude.{◌≡◌, ◌==◌, IfErr, IfOk, IsSome, None, Some, find, length, option_map};
 ghost use Rattle.std.specs.FinMap as finite;
-ghost use Rattle.ubi_scan.specs.Source.{WhereHeld, blocks_of};
+ghost use Rattle.ubi_scan.specs.Source.{Narrows, WhereHeld, blocks_of};
 ghost use Rattle.ubi_scan.specs.Stream.{IsScanOf, after};
 ghost use Rattle.ubi_table.specs.Stream.{IsTableOf};
 ghost use Rattle.ubi_volume.specs.Accepts.{NoMismatch};
@@ -130,14 +130,15 @@ fn contents_from<S: BlockSource>(
     table: &Table,
     buffer: &mut [u8],
 ) -> Result<Vec<(u32, PlaceContent)>, StreamError>
-    requires scan { IsScanOf geometry.now (S.known source.old) scan.now }
-    requires table { IsTableOf geometry.now (S.known source.old) table.now }
+    requires scan { IsScanOf geometry.now (S.known source.old) (S.agrees source.old) scan.now }
+    requires table { IsTableOf geometry.now (S.agrees source.old) table.now }
     requires room { length buffer.old ≡ geometry.now.peb_size }
     ensures known { S.known source.new ≡ after (S.known source.old) result }
+    ensures narrows { Narrows (S.agrees source.old) (S.agrees source.new) }
     ensures numbered { IfOk result (λ cases. AreNumbered (finite.entries table.now.of) cases.items) }
-    ensures alike { IfOk result (λ _. WhereHeld (S.known source.old) (λ bytes. NoMismatch geometry.now (blocks_of geometry.now bytes) table.now)) }
-    ensures cases { IfOk result (λ cases. WhereHeld (S.known source.old) (λ bytes. AreCases geometry.now (blocks_of geometry.now bytes) (finite.entries table.now.of) cases.items)) }
-    ensures refused { IfErr result (IsContentsError geometry.now (S.known source.old) table.now) }
+    ensures alike { IfOk result (λ _. WhereHeld (S.agrees source.new) (λ bytes. NoMismatch geometry.now (blocks_of geometry.now bytes) table.now)) }
+    ensures cases { IfOk result (λ cases. WhereHeld (S.agrees source.new) (λ bytes. AreCases geometry.now (blocks_of geometry.now bytes) (finite.entries table.now.of) cases.items)) }
+    ensures refused { IfErr result (IsContentsError geometry.now (S.known source.old) (S.agrees source.new) table.now) }
 {
     check_winners_from(geometry, source, scan, table, buffer)?;
     cases_from(alloc, geometry, source, scan, table, buffer)
@@ -157,8 +158,9 @@ pub fn attach_places<S: BlockSource>(
     source: &mut S,
 ) -> Result<Places, StreamError>
     ensures known { S.known source.new ≡ after (S.known source.old) result }
-    ensures places { IfOk result (ArePlacesOf geometry.now (S.known source.old)) }
-    ensures refused { IfErr result (ArePlacesError geometry.now (S.known source.old)) }
+    ensures narrows { Narrows (S.agrees source.old) (S.agrees source.new) }
+    ensures places { IfOk result (ArePlacesOf geometry.now (S.known source.old) (S.agrees source.new)) }
+    ensures refused { IfErr result (ArePlacesError geometry.now (S.known source.old) (S.agrees source.new)) }
 {
     let scan = scan_from(alloc, geometry, source)?;
     let table = choose_from(alloc, geometry, source, &scan)?;

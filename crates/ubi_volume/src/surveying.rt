@@ -5,7 +5,7 @@ ghost use Rattle.std.specs.FinMap as finite;
 ghost use Rattle.ubi_media.specs.declared.vid.VidHeader.{VidHeader};
 ghost use Rattle.ubi_scan.specs.Image.{block, image_of};
 ghost use Rattle.ubi_scan.specs.Members.{leb_of, member};
-ghost use Rattle.ubi_scan.specs.Source.{WhereHeld, blocks_in, blocks_of};
+ghost use Rattle.ubi_scan.specs.Source.{Narrows, WhereHeld, blocks_in, blocks_of};
 ghost use Rattle.ubi_scan.specs.Stream.{IsReadFault, IsScanOf, after};
 ghost use Rattle.ubi_table.specs.Stream.{IsTableOf};
 ghost use Rattle.ubi_volume.specs.Accepts.{IsAttachError};
@@ -121,7 +121,8 @@ fn member_state_from<S: BlockSource>(
     requires inside { p < blocks_in geometry.now (S.known source.old) }
     requires room { length buffer.old ≡ geometry.now.peb_size }
     ensures known { S.known source.new ≡ after (S.known source.old) result }
-    ensures state { IfOk result (λ state. WhereHeld (S.known source.old) (λ bytes. (h : VidHeader) → member geometry.now (block (blocks_of geometry.now bytes) p) ≡ Some h → MemberStateIs table.now (leb_of h) wins state)) }
+    ensures narrows { Narrows (S.agrees source.old) (S.agrees source.new) }
+    ensures state { IfOk result (λ state. WhereHeld (S.agrees source.new) (λ bytes. (h : VidHeader) → member geometry.now (block (blocks_of geometry.now bytes) p) ≡ Some h → MemberStateIs table.now (leb_of h) wins state)) }
     ensures failed { IfErr result (IsReadFault (blocks_in geometry.now (S.known source.old))) }
 {
     match read_member(source, geometry, p, buffer)? {
@@ -140,11 +141,12 @@ fn state_from<S: BlockSource>(
     p: u32,
     buffer: &mut [u8],
 ) -> Result<BlockState, StreamError>
-    requires scan { IsScanOf geometry.now (S.known source.old) scan.now }
+    requires scan { IsScanOf geometry.now (S.known source.old) (S.agrees source.old) scan.now }
     requires inside { p < blocks_in geometry.now (S.known source.old) }
     requires room { length buffer.old ≡ geometry.now.peb_size }
     ensures known { S.known source.new ≡ after (S.known source.old) result }
-    ensures state { IfOk result (λ state. WhereHeld (S.known source.old) (λ bytes. StateIs geometry.now (blocks_of geometry.now bytes) table.now p state)) }
+    ensures narrows { Narrows (S.agrees source.old) (S.agrees source.new) }
+    ensures state { IfOk result (λ state. WhereHeld (S.agrees source.new) (λ bytes. StateIs geometry.now (blocks_of geometry.now bytes) table.now p state)) }
     ensures failed { IfErr result (IsReadFault (blocks_in geometry.now (S.known source.old))) }
 {
     match scan.state(p) {
@@ -167,10 +169,11 @@ fn states_from<S: BlockSource>(
     table: &Table,
     buffer: &mut [u8],
 ) -> Result<Vec<BlockState>, StreamError>
-    requires scan { IsScanOf geometry.now (S.known source.old) scan.now }
+    requires scan { IsScanOf geometry.now (S.known source.old) (S.agrees source.old) scan.now }
     requires room { length buffer.old ≡ geometry.now.peb_size }
     ensures known { S.known source.new ≡ after (S.known source.old) result }
-    ensures states { IfOk result (λ states. AreStatesOf geometry.now (S.known source.old) table.now states.items) }
+    ensures narrows { Narrows (S.agrees source.old) (S.agrees source.new) }
+    ensures states { IfOk result (λ states. AreStatesOf geometry.now (S.known source.old) (S.agrees source.new) table.now states.items) }
     ensures failed { IfErr result (IsStatesError (blocks_in geometry.now (S.known source.old))) }
 {
     let count = (source.len() / u64::from(geometry.peb_size())) as u32;
@@ -194,8 +197,9 @@ pub fn survey_from<S: BlockSource>(
     source: &mut S,
 ) -> Result<Surveyed, StreamError>
     ensures known { S.known source.new ≡ after (S.known source.old) result }
-    ensures survey { IfOk result (IsSurveyOf geometry.now (S.known source.old)) }
-    ensures refused { IfErr result (ArePlacesError geometry.now (S.known source.old)) }
+    ensures narrows { Narrows (S.agrees source.old) (S.agrees source.new) }
+    ensures survey { IfOk result (IsSurveyOf geometry.now (S.known source.old) (S.agrees source.new)) }
+    ensures refused { IfErr result (ArePlacesError geometry.now (S.known source.old) (S.agrees source.new)) }
 {
     let scan = scan_from(alloc, geometry, source)?;
     let table = choose_from(alloc, geometry, source, &scan)?;

@@ -2,7 +2,7 @@
 use Rattle.std.specs.Prelude.{◌≡◌, ℕ, List, [], ◌∷◌, Option, length, map, option_map}
 use Rattle.ubi_media.specs.Geometry.{Sizes}
 use Rattle.ubi_media.specs.declared.record.VolumeRecord.{VolumeRecord}
-use Rattle.ubi_scan.specs.Source.{Source, WhereHeld, blocks_in, blocks_of}
+use Rattle.ubi_scan.specs.Source.{Agreed, Source, WhereHeld, blocks_in, blocks_of}
 use Rattle.ubi_scan.specs.Stream.{IsReadFault}
 use Rattle.ubi_scan.specs.declared.errors.StreamError.{StreamError}
 use Rattle.ubi_scan.specs.declared.errors.StreamError.TheVariants as stream
@@ -15,9 +15,9 @@ use Rattle.ubi_volume.specs.declared.content.Volume.{Volume}
 use Rattle.ubi_volume.specs.declared.places.PlaceContent.{PlaceContent}
 
 -- a winner of a source is unlike its record, or a read failed
-abbrev pub IsMismatchError : Sizes → Source → Records → StreamError → Type 0
-IsMismatchError s k t (stream.Refused c) = WhereHeld k (λ bytes. IsVolumeFault s (blocks_of s bytes) t c)
-IsMismatchError s k t e = IsReadFault (blocks_in s k) e
+abbrev pub IsMismatchError : Sizes → Source → Agreed → Records → StreamError → Type 0
+IsMismatchError s k agrees t (stream.Refused c) = WhereHeld agrees (λ bytes. IsVolumeFault s (blocks_of s bytes) t c)
+IsMismatchError s k agrees t e = IsReadFault (blocks_in s k) e
 
 -- the size of the piece of a text of so many LEBs that the winner of a LEB holds, if it holds one
 abbrev pub PieceSizeIs : Sizes → List (List ℕ) → ℕ → ℕ → ℕ → Option ℕ → Type 0
@@ -50,6 +50,6 @@ AreNumbered (e ∷ entries) (c ∷ cases) = (c.0 ≡ e.0) × IsReserved e.1 c.1 
 AreNumbered _ _ = ⊥
 
 -- why there are none: a winner is unlike its record, a read failed, or memory ran out
-abbrev pub IsContentsError : Sizes → Source → Records → StreamError → Type 0
-IsContentsError s k t stream.Memory = Unit {0}
-IsContentsError s k t e = IsMismatchError s k t e
+abbrev pub IsContentsError : Sizes → Source → Agreed → Records → StreamError → Type 0
+IsContentsError s k agrees t stream.Memory = Unit {0}
+IsContentsError s k agrees t e = IsMismatchError s k agrees t e

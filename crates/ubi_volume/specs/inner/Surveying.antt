@@ -3,7 +3,7 @@ use Rattle.std.specs.Prelude.{ℕ, List, ◌≡◌, ◌≢◌, Bool, true, false
 use Rattle.ubi_media.specs.Geometry.{Sizes}
 use Rattle.ubi_scan.specs.Members.{Leb, layout}
 use Rattle.ubi_scan.specs.Scan.{Found, IsScan}
-use Rattle.ubi_scan.specs.Source.{Source, WhereHeld, blocks_in, blocks_of}
+use Rattle.ubi_scan.specs.Source.{Agreed, Source, WhereHeld, blocks_in, blocks_of}
 use Rattle.ubi_scan.specs.Stream.{IsReadFault}
 use Rattle.ubi_scan.specs.declared.errors.StreamError.{StreamError}
 use Rattle.ubi_scan.specs.declared.errors.StreamError.TheVariants as stream
@@ -26,10 +26,10 @@ MemberStateIs t of wins state.Used = (wins ≡ true) × (of.0 ≢ layout) × (Is
 MemberStateIs t of wins state.Stale = (wins ≡ false) × (IsOutside t of → ⊥)
 MemberStateIs t of wins _ = ⊥
 
--- each eraseblock of a source has a state and, where its bytes are known, its own
-pub record AreStatesOf (s : Sizes) (k : Source) (t : Records) (states : List BlockState) : Type 0 where
+-- each eraseblock of a source has a state, which is its own in whatever the source may hold
+pub record AreStatesOf (s : Sizes) (k : Source) (agrees : Agreed) (t : Records) (states : List BlockState) : Type 0 where
   pub count : length states ≡ blocks_in s k
-  pub held : WhereHeld k (λ bytes. AreStates s (blocks_of s bytes) t states)
+  pub held : WhereHeld agrees (λ bytes. AreStates s (blocks_of s bytes) t states)
 
 -- why there are none: a read failed, or memory ran out
 abbrev pub IsStatesError : ℕ → StreamError → Type 0

@@ -1,13 +1,23 @@
-use Rattle.std.proofs.Common.{◌≡◌, ◌∙◌, ℕ, ap, arith, refl, subst}
+use Rattle.std.proofs.Common.{◌≡◌, ◌∙◌, ℕ, arith, refl, subst, sym}
 use Rattle.ubi_scan.specs.Source.{Source, blocks_of}
+use Rattle.ubi_volume.specs.Places.{ArePlacesOf}
 use Rattle.ubi_volume.specs.inner.Gathered.{AreKept}
 use Rattle.ubi_volume.proofs.AmountAt.{none_kept, none_more, one_kept}
+use Rattle.ubi_volume.proofs.Narrowed.{places_narrowed}
 use Rattle.ubi_volume.proofs.amounts.count_kept.Goals as goal
 use Rattle.ubi_volume.proofs.amounts.count_kept.Goals.{else-branch, then-branch}
+
+pub is_kept-requires-clause-places : goal.is_kept-requires-clause-places
+is_kept-requires-clause-places g c =
+    let s = c.args.geometry.now in
+    let agrees = g.S.BlockSource.agrees c.loop-lnum.source in
+    subst (λ (k : Source). ArePlacesOf s k agrees c.args.places.now) (sym c.loop-lnum.invariant.source)
+    (places_narrowed s _ _ agrees c.args.places.now c.loop-lnum.invariant.narrows c.requires.places)
 
 pub loop-lnum-init : goal.loop-lnum-init
 loop-lnum-init g c = record {
   source = refl;
+  narrows = λ bytes holds. holds;
   kept = λ bytes holds. none_kept c.args.geometry.now (blocks_of c.args.geometry.now bytes) c.args.id c.args.entry.now;
   few = omega arith;
 }
@@ -20,18 +30,22 @@ loop-lnum-preserved g c =
     elim c.if-branch.branch [
       | then-branch w ↦ record {
         source = c.in_ok-is_kept.ensures.known ∙ still;
+        narrows = λ bytes holds. c.loop-lnum.invariant.narrows bytes (c.in_ok-is_kept.ensures.narrows bytes holds);
         kept = λ bytes holds.
-            let kept = c.in_ok-is_kept.ensures.kept bytes (ap (λ (k : Source). k.held) still ∙ holds) in
+            let before = c.in_ok-is_kept.ensures.narrows bytes holds in
+            let kept = c.in_ok-is_kept.ensures.kept bytes holds in
             rw w.count-is (one_kept s (blocks_of s bytes) c.args.id c.args.entry.now n c.loop-lnum.count
-            (c.loop-lnum.invariant.kept bytes holds) (rw w.if-branch.true at kept));
+            (c.loop-lnum.invariant.kept bytes before) (rw w.if-branch.true at kept));
         few = (let few = c.loop-lnum.invariant.few in omega (arith, few, w.count-is));
       }
       | else-branch w ↦ record {
         source = c.in_ok-is_kept.ensures.known ∙ still;
+        narrows = λ bytes holds. c.loop-lnum.invariant.narrows bytes (c.in_ok-is_kept.ensures.narrows bytes holds);
         kept = λ bytes holds.
-            let kept = c.in_ok-is_kept.ensures.kept bytes (ap (λ (k : Source). k.held) still ∙ holds) in
+            let before = c.in_ok-is_kept.ensures.narrows bytes holds in
+            let kept = c.in_ok-is_kept.ensures.kept bytes holds in
             rw w.count-is (none_more s (blocks_of s bytes) c.args.id c.args.entry.now n c.loop-lnum.count
-            (c.loop-lnum.invariant.kept bytes holds) (rw w.if-branch.false at kept));
+            (c.loop-lnum.invariant.kept bytes before) (rw w.if-branch.false at kept));
         few = (let few = c.loop-lnum.invariant.few in omega (arith, few, w.count-is));
       }
     ]

@@ -14,6 +14,6 @@ returns-clause-kept g c = λ bytes holds.
     length-take-le c.usable.result c.args.buffer.now (let value = c.usable.ensures.value in
     omega (arith, value, c.requires.room)) ∙ c.usable.ensures.value in
     rw (c.is_blank.ensures)
-    (place_kept c.args.geometry.now c.args.places.now bytes (c.requires.places.held bytes holds) c.args.id
+    (place_kept c.args.geometry.now c.args.places.now bytes (c.requires.places.held bytes (c.in_ok-read_leb.ensures.narrows bytes holds)) c.args.id
     c.args.entry.now c.args.lnum c.in-Some.p (sym c.in-Some.ensures)
     _ size c.read_leb.new.out (c.in_ok-read_leb.ensures.bytes bytes holds))

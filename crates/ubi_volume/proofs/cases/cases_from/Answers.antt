@@ -5,14 +5,14 @@ use Rattle.std.specs.FinMap as finite
 use Rattle.ubi_media.specs.Geometry.{Sizes}
 use Rattle.ubi_media.specs.Record.{rec_fault}
 use Rattle.ubi_media.specs.declared.record.VolumeRecord.{VolumeRecord}
-use Rattle.ubi_scan.specs.Source.{Source, blocks_of}
+use Rattle.ubi_scan.specs.Source.{blocks_of}
 use Rattle.ubi_volume.proofs.Gathered.{listed_at}
 use Rattle.ubi_volume.proofs.PlacesOf.{cases_more, numbered_more}
 use Rattle.ubi_volume.proofs.cases.cases_from.Goals as goal
 
 pub case_of-requires-clause-alike : goal.case_of-requires-clause-alike
 case_of-requires-clause-alike g c = λ bytes holds. c.requires.alike bytes
-    (ap (λ (k : Source). k.held) (sym c.loop-listed.invariant.source) ∙ holds)
+    (c.loop-listed.invariant.narrows bytes holds)
 
 pub case_of-requires-clause-recorded : goal.case_of-requires-clause-recorded
 case_of-requires-clause-recorded g c =
@@ -39,13 +39,14 @@ loop-listed-preserved g c =
     ∙ ap (λ x. take i es ++ x ∷ []) (sym c.listed-item.is) in
     record {
       source = c.in_ok-case.ensures.known ∙ c.loop-listed.invariant.source;
+      narrows = λ bytes holds. c.loop-listed.invariant.narrows bytes (c.in_ok-case.ensures.narrows bytes holds);
       numbered = rw (next, c.in-Ok.ensures.items)
           (numbered_more (take i es) c.loop-listed.cases.items e c.in_ok-case.case c.loop-listed.invariant.numbered
           c.in_ok-case.ensures.reserved);
       cases = λ bytes holds.
           let s = c.args.geometry.now in
-          let still = ap (λ (k : Source). k.held) c.loop-listed.invariant.source ∙ holds in
+          let before = c.in_ok-case.ensures.narrows bytes holds in
           rw (next, c.in-Ok.ensures.items)
           (cases_more s (blocks_of s bytes) (take i es) c.loop-listed.cases.items e c.in_ok-case.case
-          (c.loop-listed.invariant.cases bytes holds) (c.in_ok-case.ensures.case bytes still));
+          (c.loop-listed.invariant.cases bytes before) (c.in_ok-case.ensures.case bytes holds));
     }

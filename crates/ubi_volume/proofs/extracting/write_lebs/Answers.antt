@@ -4,6 +4,7 @@ use Rattle.ubi_volume.specs.Extract.{share_len}
 use Rattle.ubi_volume.specs.inner.Pieces.{leb_at}
 use Rattle.ubi_volume.specs.Wrote.{All, IsWroteError, Wrote}
 use Rattle.ubi_volume.proofs.Extracted.{lebs_failed, lebs_wrote}
+use Rattle.ubi_volume.proofs.Narrowed.{wrote_narrowed}
 use Rattle.ubi_volume.proofs.extracting.write_lebs.Goals as goal
 
 pub returns-in_err-done-clause-failed : goal.returns-in_err-done-clause-failed
@@ -16,12 +17,14 @@ returns-in_err-done-clause-failed g c =
     let count : c.share_len-len.result ≡ share_len c.args.extent.size c.args.extent.bytes n = c.share_len-len.ensures in
     let long : length part ≡ share_len c.args.extent.size c.args.extent.bytes n =
     length-take-le c.share_len-len.result c.loop-lnum.buffer (omega (arith, count)) ∙ count in
-    let failed : IsWroteError s (g.S.BlockSource.known c.loop-lnum.source) (g.W.Write.contents c.loop-lnum.writer)
+    let agrees = g.S.BlockSource.agrees c.write_leb.new.source in
+    let failed : IsWroteError s (g.S.BlockSource.known c.loop-lnum.source) agrees (g.W.Write.contents c.loop-lnum.writer)
     (g.W.Write.contents c.write_leb.new.writer) (leb_at s (length part) c.place-place.result) c.loop-lnum.done e =
     c.in_err-done.ensures.failed in
     rw (from.1, from.2)
     (lebs_failed s c.args.places.now c.args.id c.args.extent.size c.args.extent.bytes n _ _ long c.place-place.ensures
-    (g.S.BlockSource.known c.args.source.now) _ _ _ c.loop-lnum.done c.loop-lnum.invariant.wrote
+    (g.S.BlockSource.known c.args.source.now) agrees _ _ _ c.loop-lnum.done
+    (wrote_narrowed _ agrees c.in_err-done.ensures.narrows _ _ _ All 0 c.loop-lnum.done c.loop-lnum.invariant.wrote)
     c.args.extent.lebs e c.loop-lnum-test.true (rw (← c.loop-lnum.invariant.source) failed))
 
 pub loop-lnum-preserved : goal.loop-lnum-preserved
@@ -32,15 +35,17 @@ loop-lnum-preserved g c =
     let count : c.share_len-len.result ≡ share_len c.args.extent.size c.args.extent.bytes n = c.share_len-len.ensures in
     let long : length part ≡ share_len c.args.extent.size c.args.extent.bytes n =
     length-take-le c.share_len-len.result c.loop-lnum.buffer (omega (arith, count)) ∙ count in
-    let written : Wrote (g.S.BlockSource.known c.loop-lnum.source) (g.W.Write.contents c.loop-lnum.writer)
+    let agrees = g.S.BlockSource.agrees c.write_leb.new.source in
+    let written : Wrote agrees (g.W.Write.contents c.loop-lnum.writer)
     (g.W.Write.contents c.write_leb.new.writer) (leb_at s (length part) c.place-place.result) All c.loop-lnum.done
     c.in_ok-done.done = c.in_ok-done.ensures.written in
     record {
       source = c.in_ok-done.ensures.known ∙ c.loop-lnum.invariant.source;
+      narrows = λ bytes holds. c.loop-lnum.invariant.narrows bytes (c.in_ok-done.ensures.narrows bytes holds);
       wrote = lebs_wrote s c.args.places.now c.args.id c.args.extent.size c.args.extent.bytes n _ _ long
-          c.place-place.ensures (g.S.BlockSource.known c.args.source.now) _ _ _ c.loop-lnum.done
-          c.loop-lnum.invariant.wrote
-          c.in_ok-done.done (rw (← c.loop-lnum.invariant.source) written);
+          c.place-place.ensures (g.S.BlockSource.known c.args.source.now) agrees _ _ _ c.loop-lnum.done
+          (wrote_narrowed _ agrees c.in_ok-done.ensures.narrows _ _ _ All 0 c.loop-lnum.done c.loop-lnum.invariant.wrote)
+          c.in_ok-done.done written;
       few = (let few = c.loop-lnum.invariant.few in let more : c.in_ok-done.done
           ≡ c.loop-lnum.done + length part = c.in_ok-done.ensures.count in
           let next : (n + 1) * c.args.extent.size ≡ n * c.args.extent.size + c.args.extent.size = omega arith in

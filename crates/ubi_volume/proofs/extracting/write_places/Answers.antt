@@ -17,7 +17,7 @@ returns-clause-written g c =
     let has = wanted s p c.args.id r recorded c.content.result c.in-Some-of.extent c.content.ensures
     c.in-Some-of.ensures.value in
     IfOk-weaker c.write_lebs.result _ _
-    (λ n h. wrote_as (g.S.BlockSource.known c.args.source.now) _ _ _ (read_text s p c.args.id) All 0 n has h)
+    (λ n h. wrote_as (g.S.BlockSource.known c.args.source.now) (g.S.BlockSource.agrees c.write_lebs.new.source) _ _ _ (read_text s p c.args.id) All 0 n has h)
     c.write_lebs.ensures.written
 
 pub returns-clause-failed : goal.returns-clause-failed
@@ -29,5 +29,5 @@ returns-clause-failed g c =
     let has = wanted s p c.args.id r recorded c.content.result c.in-Some-of.extent c.content.ensures
     c.in-Some-of.ensures.value in
     IfErr-weaker c.write_lebs.result _ _
-    (λ e h. error_as (g.S.BlockSource.known c.args.source.now) s _ _ _ (read_text s p c.args.id) 0 e has h)
+    (λ e h. error_as (g.S.BlockSource.known c.args.source.now) (g.S.BlockSource.agrees c.write_lebs.new.source) s _ _ _ (read_text s p c.args.id) 0 e has h)
     c.write_lebs.ensures.failed

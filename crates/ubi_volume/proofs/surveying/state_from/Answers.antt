@@ -14,13 +14,15 @@ pub returns-in-Winner-clause-state : goal.returns-in-Winner-clause-state
 returns-in-Winner-clause-state g c = IfOk-weaker c.member_state_from.result _ _ (λ b says bytes holds.
     let s = c.args.geometry.now in
     let bs = blocks_of s bytes in
-    let is = state_holds s bs _ (c.requires.scan.held bytes holds) c.args.p scan_state.Winner c.in-Winner.ensures in
+    let before = c.member_state_from.ensures.narrows bytes holds in
+    let is = state_holds s bs _ (c.requires.scan.held bytes before) c.args.p scan_state.Winner c.in-Winner.ensures in
     state_of_winner s bs c.args.table.now c.args.p is.0 is.1 b (says bytes holds)) c.member_state_from.ensures.state
 
 pub returns-in-Beaten-clause-state : goal.returns-in-Beaten-clause-state
 returns-in-Beaten-clause-state g c = IfOk-weaker c.member_state_from-in-Beaten.result _ _ (λ b says bytes holds.
     let s = c.args.geometry.now in
     let bs = blocks_of s bytes in
-    let is = state_holds s bs _ (c.requires.scan.held bytes holds) c.args.p scan_state.Beaten c.in-Beaten.ensures in
+    let before = c.member_state_from-in-Beaten.ensures.narrows bytes holds in
+    let is = state_holds s bs _ (c.requires.scan.held bytes before) c.args.p scan_state.Beaten c.in-Beaten.ensures in
     state_of_beaten s bs c.args.table.now c.args.p is.0 is.1 is.2 b (says bytes holds))
     c.member_state_from-in-Beaten.ensures.state

@@ -13,11 +13,12 @@ loop-p-preserved g c =
     let more = c.push_reserved.ensures.items ∙ ap (λ xs. xs ++ one ∷ []) c.in_ok-reserve.ensures.items in
     rw more (record {
       source = c.in_ok-state.ensures.known ∙ c.loop-p.invariant.source;
+      narrows = λ bytes holds. c.loop-p.invariant.narrows bytes (c.in_ok-state.ensures.narrows bytes holds);
       count = length-append old (one ∷ []) ∙ ap (λ n. n + 1) c.loop-p.invariant.count;
       states = λ bytes holds.
-          let still = ap (λ (k : Source). k.held) c.loop-p.invariant.source ∙ holds in
+          let before = c.in_ok-state.ensures.narrows bytes holds in
           states_more (StateIs s (blocks_of s bytes) c.args.table.now) old one c.loop-p.p c.loop-p.invariant.count
-          (c.loop-p.invariant.states bytes holds) (c.in_ok-state.ensures.state bytes still);
+          (c.loop-p.invariant.states bytes before) (c.in_ok-state.ensures.state bytes holds);
     })
 
 pub returns-clause-states : goal.returns-clause-states
@@ -32,7 +33,8 @@ returns-clause-states g c =
     record {
       count = all;
       held = λ bytes holds. (
-        all ∙ sym (count_blocks s known bytes (g.met.S.BlockSource.sized c.args.source.now) holds),
+        all ∙ sym (count_blocks s known (g.S.BlockSource.agrees c.args.source.now) bytes
+            (g.met.S.BlockSource.sized c.args.source.now) (c.loop-p.invariant.narrows bytes holds)),
         c.loop-p.invariant.states bytes holds,
       );
     }
