@@ -14,7 +14,7 @@ use Rattle.ubi_media.specs.declared.record.VolumeRecord.{VolumeRecord}
 use Rattle.ubi_media.specs.declared.vid.VolKind.TheVariants as kind
 use Rattle.ubi_scan.specs.Image.{block, leb}
 use Rattle.ubi_scan.specs.Members.{Wins}
-use Rattle.ubi_scan.specs.Source.{Source, blocks_of}
+use Rattle.ubi_scan.specs.Source.{Agreed, Source, blocks_of}
 use Rattle.ubi_scan.specs.declared.errors.StreamError.{StreamError}
 use Rattle.ubi_scan.proofs.Decided.{Wins-unique}
 use Rattle.ubi_table.proofs.ReadBack.{pieces_more}
@@ -257,19 +257,19 @@ module _ (s : Sizes) (p : Placed) (id : ℕ) (r : VolumeRecord) (recorded : fini
       )
 
   -- what is written when a place is, or isn't
-  module _ (k : Source) (a b c : Option (List ℕ)) (n l q : ℕ) (next : IsNextPlace p id n (Some (l, q)))
+  module _ (k : Source) (agrees : Agreed) (a b c : Option (List ℕ)) (n l q : ℕ) (next : IsNextPlace p id n (Some (l, q)))
       (below : l < r.reserved) where
-    pub dynamic_wrote : (done total more : ℕ) → Wrote k a b (first_lebs s p id r n) All done total
-        → Wrote k b c (dynamic_text s p.image_seq (data_pad s r) id l size q) All total more
-        → Wrote k a c (first_lebs s p id r (l + 1)) All done more
-    dynamic_wrote done total more front back = wrote_more k a b c (first_lebs s p id r (l + 1)) (first_lebs s p id r n)
+    pub dynamic_wrote : (done total more : ℕ) → Wrote agrees a b (first_lebs s p id r n) All done total
+        → Wrote agrees b c (dynamic_text s p.image_seq (data_pad s r) id l size q) All total more
+        → Wrote agrees a c (first_lebs s p id r (l + 1)) All done more
+    dynamic_wrote done total more front back = wrote_more k agrees a b c (first_lebs s p id r (l + 1)) (first_lebs s p id r n)
         (dynamic_text s p.image_seq (data_pad s r) id l size q) done total more (dynamic_step n l q next below) front back
 
-    pub dynamic_failed : (done total : ℕ) (e : StreamError) → Wrote k a b (first_lebs s p id r n) All done total
-        → IsWroteError s k b c (dynamic_text s p.image_seq (data_pad s r) id l size q) total e
-        → IsWroteError s k a c (volume_text s p id) done e
+    pub dynamic_failed : (done total : ℕ) (e : StreamError) → Wrote agrees a b (first_lebs s p id r n) All done total
+        → IsWroteError s k agrees b c (dynamic_text s p.image_seq (data_pad s r) id l size q) total e
+        → IsWroteError s k agrees a c (volume_text s p id) done e
     dynamic_failed done total e front back =
-        error_front k s a c (volume_text s p id) (first_lebs s p id r (l + 1)) (λ image text. Unit {0}) done e
+        error_front k agrees s a c (volume_text s p id) (first_lebs s p id r (l + 1)) (λ image text. Unit {0}) done e
         (dynamic_front (l + 1) (omega arith))
-        (error_behind k s a b c (first_lebs s p id r (l + 1)) (first_lebs s p id r n)
+        (error_behind k agrees s a b c (first_lebs s p id r (l + 1)) (first_lebs s p id r n)
         (dynamic_text s p.image_seq (data_pad s r) id l size q) done total e (dynamic_step n l q next below) front back)

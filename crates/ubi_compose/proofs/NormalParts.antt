@@ -9,7 +9,7 @@ use Rattle.ubi_media.specs.Vid.{plain}
 use Rattle.ubi_media.specs.declared.vid.VolKind.TheVariants as kind
 use Rattle.ubi_scan.specs.Image.{image_of}
 use Rattle.ubi_scan.specs.Members.{layout}
-use Rattle.ubi_scan.specs.Source.{Source}
+use Rattle.ubi_scan.specs.Source.{Agreed, Source}
 use Rattle.ubi_scan.specs.declared.errors.StreamError.{StreamError}
 use Rattle.ubi_scan.specs.declared.errors.StreamError.TheVariants as stream
 use Rattle.ubi_table.specs.Records.{table_bytes}
@@ -73,32 +73,32 @@ module _ (s : Sizes) (p : Placed) (table : List ℕ) (bytes : table ≡ table_by
         (h, refl),
       )
 
-  module _ (k : Source) (a b c d : Option (List ℕ)) where
-    pub first_failed : (e : StreamError) → IsWroteError s k a b (copy_text 0) 0 e
-        → IsWroteError s k a b (normal_text s p) 0 e
-    first_failed e h = error_front k s a b (normal_text s p) (copy_text 0) rest_text 0 e normal_splits h
+  module _ (k : Source) (agrees : Agreed) (a b c d : Option (List ℕ)) where
+    pub first_failed : (e : StreamError) → IsWroteError s k agrees a b (copy_text 0) 0 e
+        → IsWroteError s k agrees a b (normal_text s p) 0 e
+    first_failed e h = error_front k agrees s a b (normal_text s p) (copy_text 0) rest_text 0 e normal_splits h
 
-    pub second_failed : (n : ℕ) (e : StreamError) → Wrote k a b (copy_text 0) All 0 n
-        → IsWroteError s k b c (copy_text 1) n e → IsWroteError s k a c (normal_text s p) 0 e
+    pub second_failed : (n : ℕ) (e : StreamError) → Wrote agrees a b (copy_text 0) All 0 n
+        → IsWroteError s k agrees b c (copy_text 1) n e → IsWroteError s k agrees a c (normal_text s p) 0 e
     second_failed n e g h =
-        error_behind k s a b c (normal_text s p) (copy_text 0) rest_text 0 n e normal_splits g
-        (error_front k s b c rest_text (copy_text 1) (volumes_text s p) n e rest_splits h)
+        error_behind k agrees s a b c (normal_text s p) (copy_text 0) rest_text 0 n e normal_splits g
+        (error_front k agrees s b c rest_text (copy_text 1) (volumes_text s p) n e rest_splits h)
 
-    pub volumes_behind : (n m : ℕ) (e : StreamError) → Wrote k a b (copy_text 0) All 0 n
-        → Wrote k b c (copy_text 1) All n m → IsWroteError s k c d (volumes_text s p) m e
-        → IsWroteError s k a d (normal_text s p) 0 e
+    pub volumes_behind : (n m : ℕ) (e : StreamError) → Wrote agrees a b (copy_text 0) All 0 n
+        → Wrote agrees b c (copy_text 1) All n m → IsWroteError s k agrees c d (volumes_text s p) m e
+        → IsWroteError s k agrees a d (normal_text s p) 0 e
     volumes_behind n m e g h f =
-        error_behind k s a b d (normal_text s p) (copy_text 0) rest_text 0 n e normal_splits g
-        (error_behind k s b c d rest_text (copy_text 1) (volumes_text s p) n m e rest_splits h f)
+        error_behind k agrees s a b d (normal_text s p) (copy_text 0) rest_text 0 n e normal_splits g
+        (error_behind k agrees s b c d rest_text (copy_text 1) (volumes_text s p) n m e rest_splits h f)
 
-    pub all_parts : (n m l : ℕ) → Wrote k a b (copy_text 0) All 0 n → Wrote k b c (copy_text 1) All n m
-        → Wrote k c d (volumes_text s p) All m l → Wrote k a d (normal_text s p) All 0 l
+    pub all_parts : (n m l : ℕ) → Wrote agrees a b (copy_text 0) All 0 n → Wrote agrees b c (copy_text 1) All n m
+        → Wrote agrees c d (volumes_text s p) All m l → Wrote agrees a d (normal_text s p) All 0 l
     all_parts n m l g h f =
-        wrote_more k a b d (normal_text s p) (copy_text 0) rest_text 0 n l normal_splits g
-        (wrote_more k b c d rest_text (copy_text 1) (volumes_text s p) n m l rest_splits h f)
+        wrote_more k agrees a b d (normal_text s p) (copy_text 0) rest_text 0 n l normal_splits g
+        (wrote_more k agrees b c d rest_text (copy_text 1) (volumes_text s p) n m l rest_splits h f)
 
-module _ (s : Sizes) (k : Source) (p : Placed) (places : ArePlacesOf s k p) (a b : Option (List ℕ)) where
-  pub normalised : (n : ℕ) → Wrote k a b (normal_text s p) All 0 n → IsNormalisedTo s k a b n
+module _ (s : Sizes) (k : Source) (agrees : Agreed) (p : Placed) (places : ArePlacesOf s k agrees p) (a b : Option (List ℕ)) where
+  pub normalised : (n : ℕ) → Wrote agrees a b (normal_text s p) All 0 n → IsNormalisedTo s agrees a b n
   normalised n h = record {
     got = (h.bytes, (let c = h.count in omega (arith, c)), h.got);
     held = λ image is.
@@ -115,7 +115,7 @@ module _ (s : Sizes) (k : Source) (p : Placed) (places : ArePlacesOf s k p) (a b
         };
   }
 
-  pub not_normalised : (e : StreamError) → IsWroteError s k a b (normal_text s p) 0 e → IsNormaliseToError s k a b e
+  pub not_normalised : (e : StreamError) → IsWroteError s k agrees a b (normal_text s p) 0 e → IsNormaliseToError s k agrees a b e
   not_normalised (stream.Read q n) e =
       let h = e.1 in
       let long : length h.bytes ≡ n = (let c = h.count in omega (arith, c)) in (

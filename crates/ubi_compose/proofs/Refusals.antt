@@ -1,10 +1,9 @@
 -- Why a source isn't attached, and why two aren't compared.
-use Rattle.std.proofs.Common.{◌≡◌, ℕ, List, inl, inr, subst, sym}
-use Rattle.std.specs.Prelude.{Some}
+use Rattle.std.proofs.Common.{ℕ, List, inl, inr, subst, sym}
 use Rattle.ubi_media.specs.Geometry.{Sizes}
 use Rattle.ubi_media.specs.declared.refusal.Refusal.{Refusal}
 use Rattle.ubi_scan.specs.Image.{IsLengthFault, IsWholeSize, image_of}
-use Rattle.ubi_scan.specs.Source.{IsSource, Source, WhereHeld, blocks_in}
+use Rattle.ubi_scan.specs.Source.{Agreed, IsSource, Source, WhereHeld, blocks_in}
 use Rattle.ubi_scan.specs.Stream.{IsReadFault}
 use Rattle.ubi_scan.specs.declared.errors.StreamError.{StreamError}
 use Rattle.ubi_scan.specs.declared.errors.StreamError.TheVariants as stream
@@ -17,23 +16,24 @@ use Rattle.ubi_compose.specs.declared.errors.SameFault.{SameFault}
 use Rattle.ubi_compose.specs.declared.errors.SameFault.TheVariants as fault
 
 -- a cause for which a source isn't attached is one for which its bytes are refused
-pub refuses : (s : Sizes) (k : Source) (bytes : List ℕ) (c : Refusal) → IsSource k → k.held ≡ Some bytes
-    → ArePlacesError s k (stream.Refused c) → Refuses (image_of s bytes) c
-refuses s k bytes c is holds (inl fault) =
+pub refuses : (s : Sizes) (k : Source) (agrees : Agreed) (bytes : List ℕ) (c : Refusal) → IsSource k agrees → agrees bytes
+    → ArePlacesError s k agrees (stream.Refused c) → Refuses (image_of s bytes) c
+refuses s k agrees bytes c is holds (inl fault) =
     inl (subst (λ (n : ℕ). IsLengthFault s n c) (sym (is.sized bytes holds)) fault)
-refuses s k bytes c is holds (inr h) = inr (subst (IsWholeSize s) (sym (is.sized bytes holds)) h.0, h.1 bytes holds)
+refuses s k agrees bytes c is holds (inr h) = inr (subst (IsWholeSize s) (sym (is.sized bytes holds)) h.0, h.1 bytes holds)
 
 -- a read that fails is one that fails while attaching
-read_refused : (s : Sizes) (k : Source) (e : StreamError) → IsReadFault (blocks_in s k) e → ArePlacesError s k e
-read_refused s k (stream.Refused c) h = absurd h
-read_refused s k (stream.Read p n) h = h
-read_refused s k (stream.Write n) h = h
-read_refused s k stream.Memory h = tt
+read_refused : (s : Sizes) (k : Source) (agrees : Agreed) (e : StreamError) → IsReadFault (blocks_in s k) e
+    → ArePlacesError s k agrees e
+read_refused s k agrees (stream.Refused c) h = absurd h
+read_refused s k agrees (stream.Read p n) h = h
+read_refused s k agrees (stream.Write n) h = h
+read_refused s k agrees stream.Memory h = tt
 
 -- what keeps two sources from being compared once both are attached
-pub sides_refused : (s : Sizes) (k l : Source) (e : SameFault)
-    → WhereHeld k (λ bytes. (m : Meant) × Accepts (image_of s bytes) m)
-    → IsSidesError (blocks_in s k) (blocks_in s l) e → IsSameFault s k l e
-sides_refused s k l (fault.Left e) accepted h = read_refused s k e h
-sides_refused s k l (fault.Right e) accepted h = (accepted, read_refused s l e h)
-sides_refused s k l fault.Memory accepted h = tt
+pub sides_refused : (s : Sizes) (k : Source) (left : Agreed) (l : Source) (right : Agreed) (e : SameFault)
+    → WhereHeld left (λ bytes. (m : Meant) × Accepts (image_of s bytes) m)
+    → IsSidesError (blocks_in s k) (blocks_in s l) e → IsSameFault s k left l right e
+sides_refused s k left l right (fault.Left e) accepted h = read_refused s k left e h
+sides_refused s k left l right (fault.Right e) accepted h = (accepted, read_refused s l right e h)
+sides_refused s k left l right fault.Memory accepted h = tt

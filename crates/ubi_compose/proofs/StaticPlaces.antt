@@ -12,7 +12,7 @@ use Rattle.ubi_media.specs.declared.vid.VolKind.TheVariants as kind
 use Rattle.ubi_media.proofs.Records.{usable_some}
 use Rattle.ubi_scan.specs.Image.{block, image_of, leb}
 use Rattle.ubi_scan.specs.Members.{NoMember, Wins}
-use Rattle.ubi_scan.specs.Source.{Source, blocks_of}
+use Rattle.ubi_scan.specs.Source.{Agreed, Source, blocks_of}
 use Rattle.ubi_scan.specs.declared.errors.StreamError.{StreamError}
 use Rattle.ubi_table.proofs.ReadBack.{pieces_more}
 use Rattle.ubi_volume.specs.Means.{AreWhole, StaticReads, VolumeReads, piece}
@@ -166,21 +166,21 @@ module _ (s : Sizes) (p : Placed) (id : ℕ) (r : VolumeRecord) (recorded : fini
       )
 
   -- what is written when a piece is, or isn't
-  module _ (k : Source) (a b c : Option (List ℕ)) (n l q len : ℕ) (inside : n < lebs)
+  module _ (k : Source) (agrees : Agreed) (a b c : Option (List ℕ)) (n l q len : ℕ) (inside : n < lebs)
       (next : IsNextPlace p id n (Some (l, q))) (long : len ≡ min size (bytes - n * size)) where
-    pub static_wrote : (done total more : ℕ) → Wrote k a b (first_pieces s p id r n) All done total
-        → Wrote k b c (static_text s p.image_seq (data_pad s r) id lebs n len q) All total more
-        → Wrote k a c (first_pieces s p id r (n + 1)) All done more
-    static_wrote done total more front back = wrote_more k a b c (first_pieces s p id r (n + 1))
+    pub static_wrote : (done total more : ℕ) → Wrote agrees a b (first_pieces s p id r n) All done total
+        → Wrote agrees b c (static_text s p.image_seq (data_pad s r) id lebs n len q) All total more
+        → Wrote agrees a c (first_pieces s p id r (n + 1)) All done more
+    static_wrote done total more front back = wrote_more k agrees a b c (first_pieces s p id r (n + 1))
         (first_pieces s p id r n) (static_text s p.image_seq (data_pad s r) id lebs n len q) done total more
         (static_step n l q len inside next long) front back
 
-    pub static_failed : (done total : ℕ) (e : StreamError) → Wrote k a b (first_pieces s p id r n) All done total
-        → IsWroteError s k b c (static_text s p.image_seq (data_pad s r) id lebs n len q) total e
-        → IsWroteError s k a c (volume_text s p id) done e
+    pub static_failed : (done total : ℕ) (e : StreamError) → Wrote agrees a b (first_pieces s p id r n) All done total
+        → IsWroteError s k agrees b c (static_text s p.image_seq (data_pad s r) id lebs n len q) total e
+        → IsWroteError s k agrees a c (volume_text s p id) done e
     static_failed done total e front back =
-        error_front k s a c (volume_text s p id) (first_pieces s p id r (n + 1)) (λ image text. Unit {0}) done e
+        error_front k agrees s a c (volume_text s p id) (first_pieces s p id r (n + 1)) (λ image text. Unit {0}) done e
         (static_front (n + 1) (omega arith))
-        (error_behind k s a b c (first_pieces s p id r (n + 1)) (first_pieces s p id r n)
+        (error_behind k agrees s a b c (first_pieces s p id r (n + 1)) (first_pieces s p id r n)
         (static_text s p.image_seq (data_pad s r) id lebs n len q) done total e
         (static_step n l q len inside next long) front back)

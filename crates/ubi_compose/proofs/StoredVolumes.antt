@@ -10,7 +10,7 @@ use Rattle.std.proofs.lemmas.Nat.{mul-le}
 use Rattle.ubi_media.specs.Geometry.{Sizes, slots}
 use Rattle.ubi_media.specs.declared.record.VolumeRecord.{VolumeRecord}
 use Rattle.ubi_scan.specs.Image.{image_of}
-use Rattle.ubi_scan.specs.Source.{Source}
+use Rattle.ubi_scan.specs.Source.{Agreed, Source}
 use Rattle.ubi_scan.specs.declared.errors.StreamError.{StreamError}
 use Rattle.ubi_scan.proofs.Revalued.{entries_revalued}
 use Rattle.ubi_scan.proofs.Finite.{find_at}
@@ -138,17 +138,17 @@ module _ (s : Sizes) (p : Placed) where
       )
 
   -- what is written when a volume is, or isn't
-  module _ (k : Source) (a b c : Option (List ℕ)) (n : ℕ) (e : ℕ × VolumeRecord)
+  module _ (k : Source) (agrees : Agreed) (a b c : Option (List ℕ)) (n : ℕ) (e : ℕ × VolumeRecord)
       (inside : n < length (finite.entries p.records.of)) (is : e ≡ get_or (finite.entries p.records.of) n e) where
-    pub volumes_wrote : (done total more : ℕ) → Wrote k a b (first_volumes s p n) All done total
-        → Wrote k b c (volume_text s p e.0) All total more → Wrote k a c (first_volumes s p (n + 1)) All done more
-    volumes_wrote done total more front back = wrote_more k a b c (first_volumes s p (n + 1)) (first_volumes s p n)
+    pub volumes_wrote : (done total more : ℕ) → Wrote agrees a b (first_volumes s p n) All done total
+        → Wrote agrees b c (volume_text s p e.0) All total more → Wrote agrees a c (first_volumes s p (n + 1)) All done more
+    volumes_wrote done total more front back = wrote_more k agrees a b c (first_volumes s p (n + 1)) (first_volumes s p n)
         (volume_text s p e.0) done total more (volumes_step n e inside is) front back
 
-    pub volumes_failed : (done total : ℕ) (err : StreamError) → Wrote k a b (first_volumes s p n) All done total
-        → IsWroteError s k b c (volume_text s p e.0) total err → IsWroteError s k a c (volumes_text s p) done err
+    pub volumes_failed : (done total : ℕ) (err : StreamError) → Wrote agrees a b (first_volumes s p n) All done total
+        → IsWroteError s k agrees b c (volume_text s p e.0) total err → IsWroteError s k agrees a c (volumes_text s p) done err
     volumes_failed done total err front back =
-        error_front k s a c (volumes_text s p) (first_volumes s p (n + 1)) (λ image text. Unit {0}) done err
+        error_front k agrees s a c (volumes_text s p) (first_volumes s p (n + 1)) (λ image text. Unit {0}) done err
         (volumes_front (n + 1))
-        (error_behind k s a b c (first_volumes s p (n + 1)) (first_volumes s p n) (volume_text s p e.0) done total err
+        (error_behind k agrees s a b c (first_volumes s p (n + 1)) (first_volumes s p n) (volume_text s p e.0) done total err
         (volumes_step n e inside is) front back)

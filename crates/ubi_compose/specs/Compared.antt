@@ -2,7 +2,7 @@
 use Rattle.std.specs.Prelude.{ℕ, List, Result, Err}
 use Rattle.ubi_media.specs.Geometry.{Sizes}
 use Rattle.ubi_scan.specs.Image.{image_of}
-use Rattle.ubi_scan.specs.Source.{Source, WhereHeld}
+use Rattle.ubi_scan.specs.Source.{Agreed, Source, WhereHeld}
 use Rattle.ubi_scan.specs.Stream.{after_error}
 use Rattle.ubi_volume.specs.Accepts.{Accepts}
 use Rattle.ubi_volume.specs.Meant.{Meant}
@@ -10,8 +10,8 @@ use Rattle.ubi_volume.specs.Places.{ArePlacesError}
 use Rattle.ubi_compose.specs.declared.errors.SameFault.{SameFault}
 use Rattle.ubi_compose.specs.declared.errors.SameFault.TheVariants as fault
 
--- a fact about the bytes of two sources, where both are known
-abbrev pub WhereBothHeld : Source → Source → (List ℕ → List ℕ → Type 0) → Type 0
+-- a fact about whatever two sources may hold
+abbrev pub WhereBothHeld : Agreed → Agreed → (List ℕ → List ℕ → Type 0) → Type 0
 WhereBothHeld k l fact = WhereHeld k (λ left. WhereHeld l (λ right. fact left right))
 
 -- what is known of the left source and of the right one after a comparison: one read failed where the answer is a read
@@ -26,8 +26,8 @@ after_right k _ = k
 
 -- why two sources aren't compared: the left one isn't attached, or the right one alone; a read of a side failed later; or
 -- memory ran out
-abbrev pub IsSameFault : Sizes → Source → Source → SameFault → Type 0
-IsSameFault s k l (fault.Left e) = ArePlacesError s k e
-IsSameFault s k l (fault.Right e) =
-    WhereHeld k (λ bytes. (m : Meant) × Accepts (image_of s bytes) m) × ArePlacesError s l e
-IsSameFault s k l fault.Memory = Unit {0}
+abbrev pub IsSameFault : Sizes → Source → Agreed → Source → Agreed → SameFault → Type 0
+IsSameFault s k left l right (fault.Left e) = ArePlacesError s k left e
+IsSameFault s k left l right (fault.Right e) =
+    WhereHeld left (λ bytes. (m : Meant) × Accepts (image_of s bytes) m) × ArePlacesError s l right e
+IsSameFault s k left l right fault.Memory = Unit {0}

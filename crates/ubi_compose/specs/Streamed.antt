@@ -3,7 +3,7 @@ use Rattle.std.specs.Prelude.{◌≡◌, ℕ, ◌<◌, ◌≤◌, ◌⊎◌, Lis
 use Rattle.std.specs.Io.KnownBytes.{Appends, Keeps}
 use Rattle.ubi_media.specs.Geometry.{Sizes}
 use Rattle.ubi_scan.specs.Image.{Image, image_of}
-use Rattle.ubi_scan.specs.Source.{Source, WhereHeld, blocks_in}
+use Rattle.ubi_scan.specs.Source.{Agreed, Source, WhereHeld, blocks_in}
 use Rattle.ubi_scan.specs.declared.errors.StreamError.{StreamError}
 use Rattle.ubi_scan.specs.declared.errors.StreamError.TheVariants as stream
 use Rattle.ubi_volume.specs.Accepts.{Accepts}
@@ -37,17 +37,17 @@ abbrev pub HasGot : Option (List ℕ) → Option (List ℕ) → ℕ → Type 0
 HasGot old new n = (bytes : List ℕ) × (length bytes ≡ n) × Appends old new bytes
 
 -- what a normalising of a source answers
-pub record IsNormalisedTo (s : Sizes) (k : Source) (old new : Option (List ℕ)) (n : ℕ) : Type 0 where
+pub record IsNormalisedTo (s : Sizes) (agrees : Agreed) (old new : Option (List ℕ)) (n : ℕ) : Type 0 where
   pub got : HasGot old new n
-  pub held : WhereHeld k (λ bytes. IsStreamed (image_of s bytes) old new n)
+  pub held : WhereHeld agrees (λ bytes. IsStreamed (image_of s bytes) old new n)
 
 -- why it answers nothing: the image is refused, or memory ran out, and nothing was written; a read failed, while
 -- attaching, or after n bytes were written; or a write failed after so many
-abbrev pub IsNormaliseToError : Sizes → Source → Option (List ℕ) → Option (List ℕ) → StreamError → Type 0
-IsNormaliseToError s k old new (stream.Refused c) = Keeps old new × ArePlacesError s k (stream.Refused c)
-IsNormaliseToError s k old new stream.Memory = Keeps old new
-IsNormaliseToError s k old new (stream.Read p n) =
+abbrev pub IsNormaliseToError : Sizes → Source → Agreed → Option (List ℕ) → Option (List ℕ) → StreamError → Type 0
+IsNormaliseToError s k agrees old new (stream.Refused c) = Keeps old new × ArePlacesError s k agrees (stream.Refused c)
+IsNormaliseToError s k agrees old new stream.Memory = Keeps old new
+IsNormaliseToError s k agrees old new (stream.Read p n) =
     (p < blocks_in s k) × HasGot old new n
-    × (((n ≡ 0) × Keeps old new) ⊎ WhereHeld k (λ bytes. IsPart (image_of s bytes) old new n))
-IsNormaliseToError s k old new (stream.Write n) =
-    HasGot old new n × WhereHeld k (λ bytes. IsCut (image_of s bytes) old new n)
+    × (((n ≡ 0) × Keeps old new) ⊎ WhereHeld agrees (λ bytes. IsPart (image_of s bytes) old new n))
+IsNormaliseToError s k agrees old new (stream.Write n) =
+    HasGot old new n × WhereHeld agrees (λ bytes. IsCut (image_of s bytes) old new n)

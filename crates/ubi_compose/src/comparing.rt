@@ -3,7 +3,7 @@
 ghost use Rattle.std.specs.FinMap as finite;
 ghost use Rattle.std.specs.Prelude.{◌≡◌, ◌↔◌, IfErr, IfOk, IsTrue};
 ghost use Rattle.ubi_scan.specs.Image.{image_of};
-ghost use Rattle.ubi_scan.specs.Source.{blocks_in};
+ghost use Rattle.ubi_scan.specs.Source.{Narrows, blocks_in};
 ghost use Rattle.ubi_volume.specs.Places.{ArePlacesOf};
 ghost use Rattle.ubi_compose.specs.Compared.{IsSameFault, WhereBothHeld, after_left, after_right};
 ghost use Rattle.ubi_compose.specs.Composed.{IsComparison, IsSameError};
@@ -37,11 +37,13 @@ fn same_places<L: BlockSource, R: BlockSource>(
     here: &Places,
     there: &Places,
 ) -> Result<bool, SameFault>
-    requires here { ArePlacesOf geometry.now (L.known left.old) here.now }
-    requires there { ArePlacesOf geometry.now (R.known right.old) there.now }
+    requires here { ArePlacesOf geometry.now (L.known left.old) (L.agrees left.old) here.now }
+    requires there { ArePlacesOf geometry.now (R.known right.old) (R.agrees right.old) there.now }
     ensures left { L.known left.new ≡ after_left (L.known left.old) result }
     ensures right { R.known right.new ≡ after_right (R.known right.old) result }
-    ensures answer { IfOk result (λ answer. WhereBothHeld (L.known left.old) (R.known right.old) (λ x y. OfMeanings geometry.now here.now there.now x y (TellsMeaning answer))) }
+    ensures left_narrows { Narrows (L.agrees left.old) (L.agrees left.new) }
+    ensures right_narrows { Narrows (R.agrees right.old) (R.agrees right.new) }
+    ensures answer { IfOk result (λ answer. WhereBothHeld (L.agrees left.new) (R.agrees right.new) (λ x y. OfMeanings geometry.now here.now there.now x y (TellsMeaning answer))) }
     ensures failed { IfErr result (IsSidesError (blocks_in geometry.now (L.known left.old)) (blocks_in geometry.now (R.known right.old))) }
 {
     if here.image_seq() != there.image_seq() {
@@ -71,8 +73,10 @@ pub fn same_from<L: BlockSource, R: BlockSource>(
 ) -> Result<bool, SameFault>
     ensures left { L.known left.new ≡ after_left (L.known left.old) result }
     ensures right { R.known right.new ≡ after_right (R.known right.old) result }
-    ensures answer { IfOk result (λ answer. WhereBothHeld (L.known left.old) (R.known right.old) (λ x y. IsComparison (image_of geometry.now x) (image_of geometry.now y) answer)) }
-    ensures refused { IfErr result (IsSameFault geometry.now (L.known left.old) (R.known right.old)) }
+    ensures left_narrows { Narrows (L.agrees left.old) (L.agrees left.new) }
+    ensures right_narrows { Narrows (R.agrees right.old) (R.agrees right.new) }
+    ensures answer { IfOk result (λ answer. WhereBothHeld (L.agrees left.new) (R.agrees right.new) (λ x y. IsComparison (image_of geometry.now x) (image_of geometry.now y) answer)) }
+    ensures refused { IfErr result (IsSameFault geometry.now (L.known left.old) (L.agrees left.new) (R.known right.old) (R.agrees right.new)) }
 {
     let here = match attach_places(alloc, geometry, left) {
         Ok(places) => places,

@@ -6,7 +6,7 @@ ghost use Rattle.std.specs.FinMap as finite;
 ghost use Rattle.std.specs.Prelude.{◌≡◌, ◌↔◌, ◌<◌, ◌≤◌, IfErr, IfOk, IfSome, IsTrue, None, Some, length};
 ghost use Rattle.ubi_media.specs.Geometry.{leb_size};
 ghost use Rattle.ubi_media.specs.Record.{rec_fault};
-ghost use Rattle.ubi_scan.specs.Source.{blocks_in};
+ghost use Rattle.ubi_scan.specs.Source.{Narrows, blocks_in};
 ghost use Rattle.ubi_volume.specs.Extract.{leb_bytes};
 ghost use Rattle.ubi_volume.specs.Places.{ArePlacesOf};
 ghost use Rattle.ubi_compose.specs.Compared.{WhereBothHeld, after_left, after_right};
@@ -51,7 +51,9 @@ fn same_leb<L: BlockSource, R: BlockSource>(
     requires same { length other.old ≡ length one.old }
     ensures left { L.known left.new ≡ after_left (L.known left.old) result }
     ensures right { R.known right.new ≡ after_right (R.known right.old) result }
-    ensures answer { IfOk result (λ answer. WhereBothHeld (L.known left.old) (R.known right.old) (λ x y. IsTrue answer ↔ (leb_bytes geometry.now (length one.old) here x ≡ leb_bytes geometry.now (length one.old) there y))) }
+    ensures left_narrows { Narrows (L.agrees left.old) (L.agrees left.new) }
+    ensures right_narrows { Narrows (R.agrees right.old) (R.agrees right.new) }
+    ensures answer { IfOk result (λ answer. WhereBothHeld (L.agrees left.new) (R.agrees right.new) (λ x y. IsTrue answer ↔ (leb_bytes geometry.now (length one.old) here x ≡ leb_bytes geometry.now (length one.old) there y))) }
     ensures failed { IfErr result (IsSideRead (blocks_in geometry.now (L.known left.old)) (blocks_in geometry.now (R.known right.old))) }
 {
     if here.is_none() && there.is_none() {
@@ -84,14 +86,16 @@ fn same_lebs<L: BlockSource, R: BlockSource>(
     one: &mut [u8],
     other: &mut [u8],
 ) -> Result<bool, SameFault>
-    requires here { ArePlacesOf geometry.now (L.known left.old) here.now }
-    requires there { ArePlacesOf geometry.now (R.known right.old) there.now }
+    requires here { ArePlacesOf geometry.now (L.known left.old) (L.agrees left.old) here.now }
+    requires there { ArePlacesOf geometry.now (R.known right.old) (R.agrees right.old) there.now }
     requires one { length one.old ≡ geometry.now.peb_size }
     requires other { length other.old ≡ geometry.now.peb_size }
     requires size { extent.size ≤ leb_size geometry.now }
     ensures left { L.known left.new ≡ after_left (L.known left.old) result }
     ensures right { R.known right.new ≡ after_right (R.known right.old) result }
-    ensures answer { IfOk result (λ answer. WhereBothHeld (L.known left.old) (R.known right.old) (λ x y. IsTrue answer ↔ AreSameLebs geometry.now here.now there.now id extent.size extent.bytes x y extent.lebs)) }
+    ensures left_narrows { Narrows (L.agrees left.old) (L.agrees left.new) }
+    ensures right_narrows { Narrows (R.agrees right.old) (R.agrees right.new) }
+    ensures answer { IfOk result (λ answer. WhereBothHeld (L.agrees left.new) (R.agrees right.new) (λ x y. IsTrue answer ↔ AreSameLebs geometry.now here.now there.now id extent.size extent.bytes x y extent.lebs)) }
     ensures failed { IfErr result (IsSideRead (blocks_in geometry.now (L.known left.old)) (blocks_in geometry.now (R.known right.old))) }
 {
     for lnum in 0..extent.lebs {
@@ -128,8 +132,8 @@ fn same_volume<L: BlockSource, R: BlockSource>(
     one: &mut [u8],
     other: &mut [u8],
 ) -> Result<bool, SameFault>
-    requires here { ArePlacesOf geometry.now (L.known left.old) here.now }
-    requires there { ArePlacesOf geometry.now (R.known right.old) there.now }
+    requires here { ArePlacesOf geometry.now (L.known left.old) (L.agrees left.old) here.now }
+    requires there { ArePlacesOf geometry.now (R.known right.old) (R.agrees right.old) there.now }
     requires recorded { finite.get here.now.records.of id ≡ Some entry.now }
     requires same { here.now.records ≡ there.now.records }
     requires sound { rec_fault geometry.now entry.now ≡ None }
@@ -137,7 +141,9 @@ fn same_volume<L: BlockSource, R: BlockSource>(
     requires other { length other.old ≡ geometry.now.peb_size }
     ensures left { L.known left.new ≡ after_left (L.known left.old) result }
     ensures right { R.known right.new ≡ after_right (R.known right.old) result }
-    ensures answer { IfOk result (λ answer. WhereBothHeld (L.known left.old) (R.known right.old) (λ x y. OfMeanings geometry.now here.now there.now x y (TellsVolume id answer))) }
+    ensures left_narrows { Narrows (L.agrees left.old) (L.agrees left.new) }
+    ensures right_narrows { Narrows (R.agrees right.old) (R.agrees right.new) }
+    ensures answer { IfOk result (λ answer. WhereBothHeld (L.agrees left.new) (R.agrees right.new) (λ x y. OfMeanings geometry.now here.now there.now x y (TellsVolume id answer))) }
     ensures failed { IfErr result (IsSideRead (blocks_in geometry.now (L.known left.old)) (blocks_in geometry.now (R.known right.old))) }
 {
     let content = here.content(id);
@@ -164,15 +170,17 @@ pub fn same_volumes<L: BlockSource, R: BlockSource>(
     one: &mut [u8],
     other: &mut [u8],
 ) -> Result<bool, SameFault>
-    requires here { ArePlacesOf geometry.now (L.known left.old) here.now }
-    requires there { ArePlacesOf geometry.now (R.known right.old) there.now }
+    requires here { ArePlacesOf geometry.now (L.known left.old) (L.agrees left.old) here.now }
+    requires there { ArePlacesOf geometry.now (R.known right.old) (R.agrees right.old) there.now }
     requires named { here.now.image_seq ≡ there.now.image_seq }
     requires same { here.now.records ≡ there.now.records }
     requires one { length one.old ≡ geometry.now.peb_size }
     requires other { length other.old ≡ geometry.now.peb_size }
     ensures left { L.known left.new ≡ after_left (L.known left.old) result }
     ensures right { R.known right.new ≡ after_right (R.known right.old) result }
-    ensures answer { IfOk result (λ answer. WhereBothHeld (L.known left.old) (R.known right.old) (λ x y. OfMeanings geometry.now here.now there.now x y (TellsMeaning answer))) }
+    ensures left_narrows { Narrows (L.agrees left.old) (L.agrees left.new) }
+    ensures right_narrows { Narrows (R.agrees right.old) (R.agrees right.new) }
+    ensures answer { IfOk result (λ answer. WhereBothHeld (L.agrees left.new) (R.agrees right.new) (λ x y. OfMeanings geometry.now here.now there.now x y (TellsMeaning answer))) }
     ensures failed { IfErr result (IsSideRead (blocks_in geometry.now (L.known left.old)) (blocks_in geometry.now (R.known right.old))) }
 {
     for listed in here.table().entries() {

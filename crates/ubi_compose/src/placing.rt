@@ -8,7 +8,7 @@ ghost use Rattle.ubi_media.specs.Geometry.{leb_size};
 ghost use Rattle.ubi_media.specs.declared.vid.VidHeader.{VidHeader};
 ghost use Rattle.ubi_media.specs.declared.vid.VidRead.TheVariants as vid_read;
 ghost use Rattle.ubi_scan.specs.Image.{block, vid};
-ghost use Rattle.ubi_scan.specs.Source.{Source, WhereHeld, blocks_in, blocks_of};
+ghost use Rattle.ubi_scan.specs.Source.{Narrows, Source, WhereHeld, anything, blocks_in, blocks_of};
 ghost use Rattle.ubi_scan.specs.Stream.{IsReadFault, after};
 ghost use Rattle.ubi_compose.specs.inner.Streaming.{dynamic_text, laid_text, static_text};
 ghost use Rattle.ubi_compose.specs.Normal.{damaged_block, dynamic_block, laid_bytes, new_ec, static_block};
@@ -59,7 +59,8 @@ fn fetch<S: BlockSource>(
     requires block { p < blocks_in geometry.now (S.known source.old) }
     requires room { length buffer.old ≡ geometry.now.peb_size }
     ensures known { S.known source.new ≡ after (S.known source.old) result }
-    ensures bytes { OnOk result (WhereHeld (S.known source.old) (λ bytes. buffer.new ≡ block (blocks_of geometry.now bytes) p)) }
+    ensures narrows { Narrows (S.agrees source.old) (S.agrees source.new) }
+    ensures bytes { OnOk result (WhereHeld (S.agrees source.new) (λ bytes. buffer.new ≡ block (blocks_of geometry.now bytes) p)) }
     ensures failed { IfErr result (IsReadFault (blocks_in geometry.now (S.known source.old))) }
 {
     match source.read(u64::from(p) * u64::from(geometry.peb_size()), buffer) {
@@ -114,9 +115,9 @@ pub fn put_text<W: Write>(
     requires room { length buffer.old ≡ geometry.now.peb_size }
     requires text { length text.now ≤ leb_size geometry.now }
     requires few { done + geometry.now.peb_size < 2 ^ 64 }
-    ensures written { IfOk result (λ n. (k : Source) → Wrote k (W.contents writer.old) (W.contents writer.new) (laid_text geometry.now image_seq header.now text.now) All done n) }
+    ensures written { IfOk result (λ n. Wrote anything (W.contents writer.old) (W.contents writer.new) (laid_text geometry.now image_seq header.now text.now) All done n) }
     ensures least { IfOk result (λ n. n ≡ done + geometry.now.peb_size) }
-    ensures failed { IfErr result (λ n. (k : Source) → Wrote k (W.contents writer.old) (W.contents writer.new) (laid_text geometry.now image_seq header.now text.now) NotAll done n) }
+    ensures failed { IfErr result (λ n. Wrote anything (W.contents writer.old) (W.contents writer.new) (laid_text geometry.now image_seq header.now text.now) NotAll done n) }
 {
     let data = geometry.data_offset() as usize;
     prove!(geometry.data_offset() <= geometry.peb_size());
@@ -153,9 +154,10 @@ pub fn put_piece<S: BlockSource, W: Write>(
     requires text { len ≤ leb_size geometry.now }
     requires few { done + geometry.now.peb_size < 2 ^ 64 }
     ensures known { S.known source.new ≡ after (S.known source.old) result }
-    ensures written { IfOk result (Wrote (S.known source.old) (W.contents writer.old) (W.contents writer.new) (static_text geometry.now image_seq data_pad id used lnum len p) All done) }
+    ensures narrows { Narrows (S.agrees source.old) (S.agrees source.new) }
+    ensures written { IfOk result (Wrote (S.agrees source.new) (W.contents writer.old) (W.contents writer.new) (static_text geometry.now image_seq data_pad id used lnum len p) All done) }
     ensures least { IfOk result (λ n. n ≡ done + geometry.now.peb_size) }
-    ensures failed { IfErr result (IsWroteError geometry.now (S.known source.old) (W.contents writer.old) (W.contents writer.new) (static_text geometry.now image_seq data_pad id used lnum len p) done) }
+    ensures failed { IfErr result (IsWroteError geometry.now (S.known source.old) (S.agrees source.new) (W.contents writer.old) (W.contents writer.new) (static_text geometry.now image_seq data_pad id used lnum len p) done) }
 {
     match fetch(geometry, source, p, buffer) {
         Ok(()) => {}
@@ -194,9 +196,10 @@ pub fn put_unless_blank<S: BlockSource, W: Write>(
     requires text { size ≤ leb_size geometry.now }
     requires few { done + geometry.now.peb_size < 2 ^ 64 }
     ensures known { S.known source.new ≡ after (S.known source.old) result }
-    ensures written { IfOk result (Wrote (S.known source.old) (W.contents writer.old) (W.contents writer.new) (dynamic_text geometry.now image_seq data_pad id lnum size p) All done) }
+    ensures narrows { Narrows (S.agrees source.old) (S.agrees source.new) }
+    ensures written { IfOk result (Wrote (S.agrees source.new) (W.contents writer.old) (W.contents writer.new) (dynamic_text geometry.now image_seq data_pad id lnum size p) All done) }
     ensures most { IfOk result (λ n. n ≤ done + geometry.now.peb_size) }
-    ensures failed { IfErr result (IsWroteError geometry.now (S.known source.old) (W.contents writer.old) (W.contents writer.new) (dynamic_text geometry.now image_seq data_pad id lnum size p) done) }
+    ensures failed { IfErr result (IsWroteError geometry.now (S.known source.old) (S.agrees source.new) (W.contents writer.old) (W.contents writer.new) (dynamic_text geometry.now image_seq data_pad id lnum size p) done) }
 {
     match fetch(geometry, source, p, buffer) {
         Ok(()) => {}

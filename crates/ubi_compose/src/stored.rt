@@ -6,7 +6,7 @@ ghost use Rattle.std.specs.FinMap as finite;
 ghost use Rattle.std.specs.Prelude.{◌≡◌, ◌+◌, ◌*◌, ◌<◌, ◌≤◌, ◌^◌, IfErr, IfOk, None, Some, length};
 ghost use Rattle.ubi_media.specs.Record.{rec_fault};
 ghost use Rattle.ubi_media.specs.declared.vid.VolKind.TheVariants as kind;
-ghost use Rattle.ubi_scan.specs.Source.{Source};
+ghost use Rattle.ubi_scan.specs.Source.{Narrows, Source};
 ghost use Rattle.ubi_scan.specs.Stream.{after};
 ghost use Rattle.ubi_volume.specs.Places.{ArePlacesOf};
 ghost use Rattle.ubi_volume.specs.declared.places.PlaceContent.TheVariants as place;
@@ -38,16 +38,17 @@ fn put_static<S: BlockSource, W: Write>(
     writer: &mut W,
     done: u64,
 ) -> Result<u64, StreamError>
-    requires places { ArePlacesOf geometry.now (S.known source.old) places.now }
+    requires places { ArePlacesOf geometry.now (S.known source.old) (S.agrees source.old) places.now }
     requires recorded { finite.get places.now.records.of id ≡ Some entry.now }
     requires sound { rec_fault geometry.now entry.now ≡ None }
     requires listed { finite.get places.now.contents id ≡ Some (place.Static lebs bytes) }
     requires room { length buffer.old ≡ geometry.now.peb_size }
     requires few { done + lebs * geometry.now.peb_size < 2 ^ 64 }
     ensures known { S.known source.new ≡ after (S.known source.old) result }
-    ensures written { IfOk result (Wrote (S.known source.old) (W.contents writer.old) (W.contents writer.new) (volume_text geometry.now places.now id) All done) }
+    ensures narrows { Narrows (S.agrees source.old) (S.agrees source.new) }
+    ensures written { IfOk result (Wrote (S.agrees source.new) (W.contents writer.old) (W.contents writer.new) (volume_text geometry.now places.now id) All done) }
     ensures most { IfOk result (λ n. n ≤ done + lebs * geometry.now.peb_size) }
-    ensures failed { IfErr result (IsWroteError geometry.now (S.known source.old) (W.contents writer.old) (W.contents writer.new) (volume_text geometry.now places.now id) done) }
+    ensures failed { IfErr result (IsWroteError geometry.now (S.known source.old) (S.agrees source.new) (W.contents writer.old) (W.contents writer.new) (volume_text geometry.now places.now id) done) }
 {
     let image_seq = places.image_seq();
     let data_pad = entry.data_pad(geometry);
@@ -82,7 +83,7 @@ fn put_dynamic<S: BlockSource, W: Write>(
     writer: &mut W,
     done: u64,
 ) -> Result<u64, StreamError>
-    requires places { ArePlacesOf geometry.now (S.known source.old) places.now }
+    requires places { ArePlacesOf geometry.now (S.known source.old) (S.agrees source.old) places.now }
     requires recorded { finite.get places.now.records.of id ≡ Some entry.now }
     requires sound { rec_fault geometry.now entry.now ≡ None }
     requires listed { finite.get places.now.contents id ≡ Some place.Dynamic }
@@ -90,9 +91,10 @@ fn put_dynamic<S: BlockSource, W: Write>(
     requires room { length buffer.old ≡ geometry.now.peb_size }
     requires few { done + entry.now.reserved * geometry.now.peb_size < 2 ^ 64 }
     ensures known { S.known source.new ≡ after (S.known source.old) result }
-    ensures written { IfOk result (Wrote (S.known source.old) (W.contents writer.old) (W.contents writer.new) (volume_text geometry.now places.now id) All done) }
+    ensures narrows { Narrows (S.agrees source.old) (S.agrees source.new) }
+    ensures written { IfOk result (Wrote (S.agrees source.new) (W.contents writer.old) (W.contents writer.new) (volume_text geometry.now places.now id) All done) }
     ensures most { IfOk result (λ n. n ≤ done + entry.now.reserved * geometry.now.peb_size) }
-    ensures failed { IfErr result (IsWroteError geometry.now (S.known source.old) (W.contents writer.old) (W.contents writer.new) (volume_text geometry.now places.now id) done) }
+    ensures failed { IfErr result (IsWroteError geometry.now (S.known source.old) (S.agrees source.new) (W.contents writer.old) (W.contents writer.new) (volume_text geometry.now places.now id) done) }
 {
     let image_seq = places.image_seq();
     let data_pad = entry.data_pad(geometry);
@@ -123,15 +125,16 @@ pub fn put_volume<S: BlockSource, W: Write>(
     writer: &mut W,
     done: u64,
 ) -> Result<u64, StreamError>
-    requires places { ArePlacesOf geometry.now (S.known source.old) places.now }
+    requires places { ArePlacesOf geometry.now (S.known source.old) (S.agrees source.old) places.now }
     requires recorded { finite.get places.now.records.of id ≡ Some entry.now }
     requires sound { rec_fault geometry.now entry.now ≡ None }
     requires room { length buffer.old ≡ geometry.now.peb_size }
     requires few { done + entry.now.reserved * geometry.now.peb_size < 2 ^ 64 }
     ensures known { S.known source.new ≡ after (S.known source.old) result }
-    ensures written { IfOk result (Wrote (S.known source.old) (W.contents writer.old) (W.contents writer.new) (volume_text geometry.now places.now id) All done) }
+    ensures narrows { Narrows (S.agrees source.old) (S.agrees source.new) }
+    ensures written { IfOk result (Wrote (S.agrees source.new) (W.contents writer.old) (W.contents writer.new) (volume_text geometry.now places.now id) All done) }
     ensures most { IfOk result (λ n. n ≤ done + entry.now.reserved * geometry.now.peb_size) }
-    ensures failed { IfErr result (IsWroteError geometry.now (S.known source.old) (W.contents writer.old) (W.contents writer.new) (volume_text geometry.now places.now id) done) }
+    ensures failed { IfErr result (IsWroteError geometry.now (S.known source.old) (S.agrees source.new) (W.contents writer.old) (W.contents writer.new) (volume_text geometry.now places.now id) done) }
 {
     match places.content(id) {
         PlaceContent::Updating => Ok(done),

@@ -7,7 +7,7 @@ ghost use Rattle.ubi_media.specs.Geometry.{leb_size};
 ghost use Rattle.ubi_media.specs.Vid.{plain};
 ghost use Rattle.ubi_media.specs.declared.vid.VolKind.TheVariants as kind;
 ghost use Rattle.ubi_scan.specs.Members.{layout};
-ghost use Rattle.ubi_scan.specs.Source.{Source};
+ghost use Rattle.ubi_scan.specs.Source.{Narrows, Source, anything};
 ghost use Rattle.ubi_scan.specs.Stream.{after};
 ghost use Rattle.ubi_table.specs.Records.{table_bytes};
 ghost use Rattle.ubi_volume.specs.Places.{ArePlacesOf};
@@ -42,9 +42,9 @@ fn put_copy<W: Write>(
     requires text { length text.now ≤ leb_size geometry.now }
     requires few { done + geometry.now.peb_size < 2 ^ 64 }
     ensures known { (k : Source) → after k result ≡ k }
-    ensures written { IfOk result (λ n. (k : Source) → Wrote k (W.contents writer.old) (W.contents writer.new) (laid_text geometry.now image_seq (plain kind.Dynamic 5 0 layout copy) text.now) All done n) }
+    ensures written { IfOk result (λ n. Wrote anything (W.contents writer.old) (W.contents writer.new) (laid_text geometry.now image_seq (plain kind.Dynamic 5 0 layout copy) text.now) All done n) }
     ensures least { IfOk result (λ n. n ≡ done + geometry.now.peb_size) }
-    ensures failed { IfErr result (λ e. (k : Source) → IsWroteError geometry.now k (W.contents writer.old) (W.contents writer.new) (laid_text geometry.now image_seq (plain kind.Dynamic 5 0 layout copy) text.now) done e) }
+    ensures failed { IfErr result (λ e. (k : Source) → IsWroteError geometry.now k anything (W.contents writer.old) (W.contents writer.new) (laid_text geometry.now image_seq (plain kind.Dynamic 5 0 layout copy) text.now) done e) }
 {
     let header = VidHeader::plain(VolKind::Dynamic, REJECT, 0, LAYOUT_VOLUME, copy);
     match put_text(geometry, image_seq, &header, text, buffer, writer, done) {
@@ -66,12 +66,13 @@ fn put_volumes<S: BlockSource, W: Write>(
     writer: &mut W,
     done: u64,
 ) -> Result<u64, StreamError>
-    requires places { ArePlacesOf geometry.now (S.known source.old) places.now }
+    requires places { ArePlacesOf geometry.now (S.known source.old) (S.agrees source.old) places.now }
     requires room { length buffer.old ≡ geometry.now.peb_size }
     requires few { done ≤ 2 ^ 25 }
     ensures known { S.known source.new ≡ after (S.known source.old) result }
-    ensures written { IfOk result (Wrote (S.known source.old) (W.contents writer.old) (W.contents writer.new) (volumes_text geometry.now places.now) All done) }
-    ensures failed { IfErr result (IsWroteError geometry.now (S.known source.old) (W.contents writer.old) (W.contents writer.new) (volumes_text geometry.now places.now) done) }
+    ensures narrows { Narrows (S.agrees source.old) (S.agrees source.new) }
+    ensures written { IfOk result (Wrote (S.agrees source.new) (W.contents writer.old) (W.contents writer.new) (volumes_text geometry.now places.now) All done) }
+    ensures failed { IfErr result (IsWroteError geometry.now (S.known source.old) (S.agrees source.new) (W.contents writer.old) (W.contents writer.new) (volumes_text geometry.now places.now) done) }
 {
     prove!(geometry.peb_size() >= 64);
     let mut total = done;
@@ -96,13 +97,14 @@ fn put_image<S: BlockSource, W: Write>(
     buffer: &mut [u8],
     writer: &mut W,
 ) -> Result<u64, StreamError>
-    requires places { ArePlacesOf geometry.now (S.known source.old) places.now }
+    requires places { ArePlacesOf geometry.now (S.known source.old) (S.agrees source.old) places.now }
     requires text { text.now ≡ table_bytes places.now.records }
     requires fits { length text.now ≤ leb_size geometry.now }
     requires room { length buffer.old ≡ geometry.now.peb_size }
     ensures known { S.known source.new ≡ after (S.known source.old) result }
-    ensures written { IfOk result (Wrote (S.known source.old) (W.contents writer.old) (W.contents writer.new) (normal_text geometry.now places.now) All 0) }
-    ensures failed { IfErr result (IsWroteError geometry.now (S.known source.old) (W.contents writer.old) (W.contents writer.new) (normal_text geometry.now places.now) 0) }
+    ensures narrows { Narrows (S.agrees source.old) (S.agrees source.new) }
+    ensures written { IfOk result (Wrote (S.agrees source.new) (W.contents writer.old) (W.contents writer.new) (normal_text geometry.now places.now) All 0) }
+    ensures failed { IfErr result (IsWroteError geometry.now (S.known source.old) (S.agrees source.new) (W.contents writer.old) (W.contents writer.new) (normal_text geometry.now places.now) 0) }
 {
     prove!(geometry.peb_size() >= 64);
     let image_seq = places.image_seq();
@@ -125,8 +127,9 @@ pub fn normalise_to<S: BlockSource, W: Write>(
     writer: &mut W,
 ) -> Result<u64, StreamError>
     ensures known { S.known source.new ≡ after (S.known source.old) result }
-    ensures written { IfOk result (IsNormalisedTo geometry.now (S.known source.old) (W.contents writer.old) (W.contents writer.new)) }
-    ensures refused { IfErr result (IsNormaliseToError geometry.now (S.known source.old) (W.contents writer.old) (W.contents writer.new)) }
+    ensures narrows { Narrows (S.agrees source.old) (S.agrees source.new) }
+    ensures written { IfOk result (IsNormalisedTo geometry.now (S.agrees source.new) (W.contents writer.old) (W.contents writer.new)) }
+    ensures refused { IfErr result (IsNormaliseToError geometry.now (S.known source.old) (S.agrees source.new) (W.contents writer.old) (W.contents writer.new)) }
 {
     let places = attach_places(alloc, geometry, source)?;
     let text = records_text(alloc, geometry, places.table())?;

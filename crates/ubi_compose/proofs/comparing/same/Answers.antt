@@ -1,7 +1,8 @@
-use Rattle.std.proofs.Common.{ap, refl}
-use Rattle.std.specs.Prelude.{Some}
-use Rattle.ubi_scan.specs.Source.{memory, memory_sized}
+use Rattle.std.proofs.Common.{length}
+use Rattle.ubi_scan.specs.Source.{Narrows, holds, memory_sized, sound}
 use Rattle.ubi_scan.specs.declared.errors.StreamError.TheVariants as stream
+use Rattle.ubi_scan.proofs.InMemory.{still}
+use Rattle.ubi_scan.proofs.Narrowed.{source_narrowed}
 use Rattle.ubi_volume.specs.Places.{ArePlacesError}
 use Rattle.ubi_compose.specs.Compared.{IsSameFault}
 use Rattle.ubi_compose.specs.declared.errors.SameFault.TheVariants as fault
@@ -9,19 +10,25 @@ use Rattle.ubi_compose.proofs.Refusals.{refuses}
 use Rattle.ubi_compose.proofs.comparing.same.Goals as goal
 
 pub returns-in-Ok-clause-answer : goal.returns-in-Ok-clause-answer
-returns-in-Ok-clause-answer c = c.in-Ok.ensures.answer c.args.left.now (ap Some c.new-left.ensures) c.args.right.now
-    (ap Some c.new-right.ensures)
+returns-in-Ok-clause-answer c =
+    let left = c.args.left.now in
+    let right = c.args.right.now in
+    let l : Narrows (holds left) (holds c.same_from.new.left) = rw c.new-left.ensures at c.in-Ok.ensures.left_narrows in
+    let r : Narrows (holds right) (holds c.same_from.new.right) = rw c.new-right.ensures at c.in-Ok.ensures.right_narrows in
+    c.in-Ok.ensures.answer left (still left c.same_from.new.left l) right (still right c.same_from.new.right r)
 
 pub returns-in-Err-Left-Refused-clause-refused : goal.returns-in-Err-Left-Refused-clause-refused
 returns-in-Err-Left-Refused-clause-refused c =
     let s = c.args.geometry.now in
     let left = c.args.left.now in
-    let right = c.args.right.now in
     let cause = c.in-Err-Left-Refused.cause in
-    let h : ArePlacesError s (memory left) (stream.Refused cause) =
+    let after = holds c.same_from.new.left in
+    let l : Narrows (holds left) after = rw c.new-left.ensures at c.in-Err-Left-Refused.ensures.left_narrows in
+    let h : ArePlacesError s (sound (length left)) after (stream.Refused cause) =
     rw (c.in-Err-Left-Refused.field-0-is, c.in-Err-Left-Refused.field-0-0-is, c.new-left.ensures) at
     c.in-Err-Left-Refused.ensures.refused in
-    refuses s (memory left) left cause (memory_sized left) refl h
+    refuses s (sound (length left)) after left cause (source_narrowed (sound (length left)) (holds left) after l
+    (memory_sized left)) (still left c.same_from.new.left l) h
 
 pub returns-in-Err-Right-Refused-clause-refused : goal.returns-in-Err-Right-Refused-clause-refused
 returns-in-Err-Right-Refused-clause-refused c =
@@ -29,7 +36,15 @@ returns-in-Err-Right-Refused-clause-refused c =
     let left = c.args.left.now in
     let right = c.args.right.now in
     let cause = c.in-Err-Right-Refused.cause in
-    let h : IsSameFault s (memory left) (memory right) (fault.Right (stream.Refused cause)) =
-    rw (c.in-Err-Right-Refused.field-0-is, c.in-Err-Right-Refused.field-0-0-is, c.new-left.ensures, c.new-right.ensures)
-    at c.in-Err-Right-Refused.ensures.refused in
-    (h.0 left refl, refuses s (memory right) right cause (memory_sized right) refl h.1)
+    let after = holds c.same_from.new.right in
+    let l : Narrows (holds left) (holds c.same_from.new.left) =
+    rw c.new-left.ensures at c.in-Err-Right-Refused.ensures.left_narrows in
+    let r : Narrows (holds right) after = rw c.new-right.ensures at c.in-Err-Right-Refused.ensures.right_narrows in
+    let h : IsSameFault s (sound (length left)) (holds c.same_from.new.left) (sound (length right)) after
+    (fault.Right (stream.Refused cause)) =
+    rw (c.in-Err-Right-Refused.field-0-is, c.in-Err-Right-Refused.field-0-0-is, c.new-right.ensures)
+    at c.in-Err-Right-Refused.ensures.refused in (
+      h.0 left (still left c.same_from.new.left l),
+      refuses s (sound (length right)) after right cause (source_narrowed (sound (length right)) (holds right) after r
+          (memory_sized right)) (still right c.same_from.new.right r) h.1,
+    )

@@ -1,4 +1,4 @@
-use Rattle.std.proofs.Common.{◌∙◌, ap, subst, sym}
+use Rattle.std.proofs.Common.{◌∙◌, subst, sym}
 use Rattle.std.proofs.lemmas.Result.{IfErr-weaker, IfOk-weaker}
 use Rattle.ubi_media.specs.Geometry.{IsGeometry}
 use Rattle.ubi_scan.specs.Source.{Source, blocks_in}
@@ -17,12 +17,11 @@ pub returns-clause-answer : goal.returns-clause-answer
 returns-clause-answer g c =
     IfOk-weaker c.same_places.result _ _
     (λ answer tells x xs y ys.
-    let h = c.in-Ok.ensures.places.held x xs in
-    let k = c.in-Ok-attach_places.ensures.places.held y ys in
+    let h = c.in-Ok.ensures.places.held x (c.same_places.ensures.left_narrows x xs) in
+    let k = c.in-Ok-attach_places.ensures.places.held y (c.same_places.ensures.right_narrows y ys) in
     let left = h.accepted.accepted.means in
     let right = k.accepted.accepted.means in
-    let meanings = tells x (ap (λ (k : Source). k.held) c.in-Ok.ensures.known ∙ xs) y
-    (ap (λ (k : Source). k.held) c.in-Ok-attach_places.ensures.known ∙ ys) h k in
+    let meanings = tells x xs y ys h k in
     let form = normal_form h.meaning k.meaning (subst IsGeometry (sym left.sizes) c.peb_size.ensures.limits)
     (left.sizes ∙ sym right.sizes) left.meaning right.meaning in
     record {
@@ -39,8 +38,9 @@ pub returns-clause-refused : goal.returns-clause-refused
 returns-clause-refused g c =
     let s = c.args.geometry.now in
     IfErr-weaker c.same_places.result _ _
-    (λ e h. sides_refused s (g.L.BlockSource.known c.args.left.now) (g.R.BlockSource.known c.args.right.now) e
-    (λ bytes holds. (let p = c.in-Ok.ensures.places.held bytes holds in (p.meaning, p.accepted)))
+    (λ e h. sides_refused s (g.L.BlockSource.known c.args.left.now) _ (g.R.BlockSource.known c.args.right.now) _ e
+    (λ bytes holds. (let p = c.in-Ok.ensures.places.held bytes (c.same_places.ensures.left_narrows bytes holds) in
+    (p.meaning, p.accepted)))
     (subst (λ (k : Source). IsSidesError (blocks_in s k) (blocks_in s (g.R.BlockSource.known c.args.right.now)) e)
     c.in-Ok.ensures.known
     (subst (λ (k : Source). IsSidesError (blocks_in s (g.L.BlockSource.known c.attach_places.new.source))

@@ -1,6 +1,5 @@
-use Rattle.std.proofs.Common.{◌≡◌, length, length-take-le, take, ap, sym, ◌∙◌, arith}
+use Rattle.std.proofs.Common.{◌≡◌, length, length-take-le, take, sym, ◌∙◌, arith}
 use Rattle.std.proofs.lemmas.Bool.{false≢true}
-use Rattle.ubi_scan.specs.Source.{Source}
 use Rattle.ubi_volume.specs.Extract.{share_len}
 use Rattle.ubi_compose.proofs.SamePlaces.{leb_same}
 use Rattle.ubi_compose.proofs.matching.same_lebs.Goals as goal
@@ -13,9 +12,7 @@ returns-then-not-branch-clause-answer g c = λ x xs y ys.
     let count : c.share_len-len.result ≡ share_len e.size e.bytes n = c.share_len-len.ensures in
     let long : length part ≡ share_len e.size e.bytes n = length-take-le c.share_len-len.result c.loop-lnum.one
     (omega (arith, count)) ∙ count in
-    let left = ap (λ (k : Source). k.held) c.loop-lnum.invariant.left ∙ xs in
-    let right = ap (λ (k : Source). k.held) c.loop-lnum.invariant.right ∙ ys in
-    let tells = c.in_ok-same_leb.ensures.answer x left y right in (
+    let tells = c.in_ok-same_leb.ensures.answer x xs y ys in (
       λ t. absurd (false≢true t),
       λ same. sym c.if-not-branch.true
           ∙ tells.1 (leb_same c.args.geometry.now c.args.here.now c.args.there.now c.args.id e.size e.bytes

@@ -1,4 +1,5 @@
 use Rattle.std.proofs.Common.{◌≡◌}
+use Rattle.ubi_scan.specs.Source.{Narrows}
 use Rattle.ubi_compose.specs.Compared.{WhereBothHeld}
 use Rattle.ubi_compose.specs.inner.Comparing.{AreSameLebs}
 use Rattle.ubi_compose.proofs.matching.same_lebs.Given as goal
@@ -7,6 +8,8 @@ abbrev pub invariant-loop-lnum : goal.invariant-loop-lnum
 invariant-loop-lnum g l = record {
   left : g.L.BlockSource.known l.left ≡ g.L.BlockSource.known l.fn.left;
   right : g.R.BlockSource.known l.right ≡ g.R.BlockSource.known l.fn.right;
-  same : WhereBothHeld (g.L.BlockSource.known l.fn.left) (g.R.BlockSource.known l.fn.right)
+  left_narrows : Narrows (g.L.BlockSource.agrees l.fn.left) (g.L.BlockSource.agrees l.left);
+  right_narrows : Narrows (g.R.BlockSource.agrees l.fn.right) (g.R.BlockSource.agrees l.right);
+  same : WhereBothHeld (g.L.BlockSource.agrees l.left) (g.R.BlockSource.agrees l.right)
       (λ x y. AreSameLebs l.geometry l.here l.there l.id l.extent.size l.extent.bytes x y l.lnum);
 }

@@ -6,11 +6,27 @@ use Rattle.ubi_media.specs.Geometry.{Sizes}
 use Rattle.ubi_media.specs.Record.{rec_fault}
 use Rattle.ubi_media.specs.declared.record.VolumeRecord.{VolumeRecord}
 use Rattle.ubi_scan.specs.Source.{Source}
+use Rattle.ubi_volume.proofs.Narrowed.{places_narrowed}
+use Rattle.ubi_volume.specs.Places.{ArePlacesOf}
 use Rattle.ubi_table.specs.Records.{AreRecords, Records}
 use Rattle.ubi_volume.proofs.Gathered.{listed_at}
 use Rattle.ubi_compose.specs.inner.Comparing.{TellsVolume}
 use Rattle.ubi_compose.proofs.SamePlaces.{all_same, one_other, one_same}
 use Rattle.ubi_compose.proofs.matching.same_volumes.Goals as goal
+
+pub same_volume-requires-clause-here : goal.same_volume-requires-clause-here
+same_volume-requires-clause-here g c =
+    let s = c.args.geometry.now in
+    let agrees = g.L.BlockSource.agrees c.loop-listed.left in
+    subst (λ (k : Source). ArePlacesOf s k agrees c.args.here.now) (sym c.loop-listed.invariant.left)
+    (places_narrowed s _ _ agrees c.args.here.now c.loop-listed.invariant.left_narrows c.requires.here)
+
+pub same_volume-requires-clause-there : goal.same_volume-requires-clause-there
+same_volume-requires-clause-there g c =
+    let s = c.args.geometry.now in
+    let agrees = g.R.BlockSource.agrees c.loop-listed.right in
+    subst (λ (k : Source). ArePlacesOf s k agrees c.args.there.now) (sym c.loop-listed.invariant.right)
+    (places_narrowed s _ _ agrees c.args.there.now c.loop-listed.invariant.right_narrows c.requires.there)
 
 pub same_volume-requires-clause-recorded : goal.same_volume-requires-clause-recorded
 same_volume-requires-clause-recorded g c =
@@ -37,8 +53,7 @@ returns-then-not-branch-clause-answer g c = λ x xs y ys h k.
     let here : e ≡ get_or (finite.entries c.args.here.now.records.of) i e = c.listed-item.is
     ∙ ap (λ es. get_or es i e) entries in
     let inside : i < length (finite.entries c.args.here.now.records.of) = omega (arith, ap length entries) in
-    let tells = c.in_ok-same_volume.ensures.answer x (ap (λ (k : Source). k.held) c.loop-listed.invariant.left ∙ xs) y
-    (ap (λ (k : Source). k.held) c.loop-listed.invariant.right ∙ ys) h k in (
+    let tells = c.in_ok-same_volume.ensures.answer x xs y ys h k in (
       λ t. absurd (false≢true t),
       λ same. absurd (one_other c.args.geometry.now c.args.here.now c.args.there.now x y h k c.requires.same i e inside
           here
@@ -56,12 +71,14 @@ loop-listed-preserved g c =
     record {
       left = c.in_ok-same_volume.ensures.left ∙ c.loop-listed.invariant.left;
       right = c.in_ok-same_volume.ensures.right ∙ c.loop-listed.invariant.right;
+      left_narrows = λ x xs. c.loop-listed.invariant.left_narrows x (c.in_ok-same_volume.ensures.left_narrows x xs);
+      right_narrows = λ y ys. c.loop-listed.invariant.right_narrows y (c.in_ok-same_volume.ensures.right_narrows y ys);
       same = λ x xs y ys h k.
-          let tells = c.in_ok-same_volume.ensures.answer x (ap (λ (k : Source). k.held) c.loop-listed.invariant.left
-          ∙ xs) y (ap (λ (k : Source). k.held) c.loop-listed.invariant.right ∙ ys) h k in
+          let tells = c.in_ok-same_volume.ensures.answer x xs y ys h k in
           one_same c.args.geometry.now c.args.here.now c.args.there.now x y h k c.requires.same i e inside here
           (subst (λ (b : Bool). TellsVolume e.0 b h.meaning k.meaning) c.if-not-branch.false tells)
-          (c.loop-listed.invariant.same x xs y ys h k);
+          (c.loop-listed.invariant.same x (c.in_ok-same_volume.ensures.left_narrows x xs) y
+          (c.in_ok-same_volume.ensures.right_narrows y ys) h k);
     }
 
 pub returns-clause-answer : goal.returns-clause-answer

@@ -5,8 +5,9 @@ use Rattle.ubi_compose.proofs.placing.fetch.Goals as goal
 pub returns-in-Ok-clause-bytes : goal.returns-in-Ok-clause-bytes
 returns-in-Ok-clause-bytes g c = λ bytes holds.
     let s = c.args.geometry.now in
+    let before = c.in-Ok.ensures.narrows bytes holds in
     let size : length bytes ≡ (g.S.BlockSource.known c.args.source.now).size =
-    (g.met.S.BlockSource.sized c.args.source.now).sized bytes holds in
+    (g.met.S.BlockSource.sized c.args.source.now).sized bytes before in
     let inside : c.args.p < length bytes / s.peb_size = rw size c.requires.block in
     let at : c.from.result * c.from-2.result ≡ c.args.p * s.peb_size =
     rw (c.from.ensures, c.from-2.ensures, c.peb_size.ensures.value) refl in

@@ -6,7 +6,7 @@ use Rattle.ubi_volume.proofs.Received.{wrote_cut, wrote_first, wrote_text}
 use Rattle.ubi_compose.proofs.placing.put_piece.Goals as goal
 
 pub returns-in-Err-clause-failed : goal.returns-in-Err-clause-failed
-returns-in-Err-clause-failed g c = (c.requires.block, wrote_first _ _ _ c.args.done)
+returns-in-Err-clause-failed g c = (c.requires.block, wrote_first (g.S.BlockSource.known c.args.source.now) (g.S.BlockSource.agrees c.fetch.new.source) _ _ c.args.done)
 
 pub returns-in-Ok-put_laid-clause-written : goal.returns-in-Ok-put_laid-clause-written
 returns-in-Ok-put_laid-clause-written g c =
@@ -14,7 +14,7 @@ returns-in-Ok-put_laid-clause-written g c =
     let read = c.fetch.new.buffer in
     let long : c.args.len ≤ length (leb s read) =
     omega (arith, length-drop s.data_offset read, c.fetch.auto.buffer, c.requires.room, c.requires.text) in
-    wrote_text _ _ _ _ _ s.peb_size c.args.done _ c.in-Ok-put_laid.ensures.ok c.put_laid.ensures.long
+    wrote_text (g.S.BlockSource.known c.args.source.now) (g.S.BlockSource.agrees c.fetch.new.source) _ _ _ _ s.peb_size c.args.done _ c.in-Ok-put_laid.ensures.ok c.put_laid.ensures.long
     (ap (λ n. c.args.done + n) (c.from.ensures ∙ c.peb_size-in-Ok-put_laid.ensures.value))
     (λ image t holds w. piece_is s c.args.image_seq c.args.data_pad c.args.id c.args.used c.args.lnum c.args.len
     c.given_check-check.result
@@ -28,7 +28,7 @@ returns-in-Err-put_laid-clause-failed g c =
     let read = c.fetch.new.buffer in
     let long : c.args.len ≤ length (leb s read) =
     omega (arith, length-drop s.data_offset read, c.fetch.auto.buffer, c.requires.room, c.requires.text) in
-    wrote_cut _ _ _ _ _ s.peb_size c.in-Err-put_laid.more c.args.done _ c.in-Err-put_laid.ensures.err
+    wrote_cut (g.S.BlockSource.known c.args.source.now) (g.S.BlockSource.agrees c.fetch.new.source) _ _ _ _ s.peb_size c.in-Err-put_laid.more c.args.done _ c.in-Err-put_laid.ensures.err
     c.put_laid.ensures.long c.in-Err-put_laid.ensures.short refl
     (λ image t holds w. piece_is s c.args.image_seq c.args.data_pad c.args.id c.args.used c.args.lnum c.args.len
     c.given_check-check.result

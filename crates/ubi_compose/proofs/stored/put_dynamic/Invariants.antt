@@ -1,4 +1,5 @@
 use Rattle.std.proofs.Common.{◌≡◌, ◌+◌, ◌-◌, ◌*◌, ◌≤◌}
+use Rattle.ubi_scan.specs.Source.{Narrows}
 use Rattle.ubi_volume.specs.Wrote.{All, Wrote}
 use Rattle.ubi_compose.proofs.DynamicPlaces.{first_lebs}
 use Rattle.ubi_compose.proofs.stored.put_dynamic.Given as goal
@@ -6,7 +7,8 @@ use Rattle.ubi_compose.proofs.stored.put_dynamic.Given as goal
 abbrev pub invariant-loop-lnum : goal.invariant-loop-lnum
 invariant-loop-lnum g l = record {
   source : g.S.BlockSource.known l.source ≡ g.S.BlockSource.known l.fn.source;
-  wrote : Wrote (g.S.BlockSource.known l.fn.source) (g.W.Write.contents l.fn.writer) (g.W.Write.contents l.writer)
+  narrows : Narrows (g.S.BlockSource.agrees l.fn.source) (g.S.BlockSource.agrees l.source);
+  wrote : Wrote (g.S.BlockSource.agrees l.source) (g.W.Write.contents l.fn.writer) (g.W.Write.contents l.writer)
       (first_lebs l.geometry l.places l.id l.entry l.from) All l.done l.total;
   few : l.total ≤ l.done + l.from * l.geometry.peb_size;
   within : l.from ≤ l.entry.reserved;

@@ -5,6 +5,8 @@ use Rattle.ubi_compose.specs.inner.Streaming.{laid_text, volume_text}
 use Rattle.ubi_compose.specs.Normal.{damaged_block}
 use Rattle.ubi_volume.specs.Wrote.{All, NotAll}
 use Rattle.ubi_compose.proofs.StoredVolume.{damaged_text, more_blocks, reserved_of, updating_text}
+use Rattle.ubi_scan.specs.Source.{anything}
+use Rattle.ubi_volume.proofs.Narrowed.{wrote_narrowed}
 use Rattle.ubi_volume.proofs.Received.{wrote_as, wrote_none}
 use Rattle.ubi_compose.proofs.stored.put_volume.Goals as goal
 
@@ -17,20 +19,22 @@ put_text-requires-clause-few g c =
 pub returns-in-Updating-clause-written : goal.returns-in-Updating-clause-written
 returns-in-Updating-clause-written g c =
     let k = g.S.BlockSource.known c.args.source.now in
-    wrote_as k _ _ (λ image text. text ≡ []) (volume_text c.args.geometry.now c.args.places.now c.args.id) All
+    let agrees = g.S.BlockSource.agrees c.args.source.now in
+    wrote_as k agrees _ _ (λ image text. text ≡ []) (volume_text c.args.geometry.now c.args.places.now c.args.id) All
     c.args.done c.args.done
     (updating_text c.args.geometry.now c.args.places.now c.args.id c.args.entry.now c.requires.recorded
-    c.in-Updating.ensures) (wrote_none k _ c.args.done)
+    c.in-Updating.ensures) (wrote_none k agrees _ c.args.done)
 
 pub returns-in-Ok-clause-written : goal.returns-in-Ok-clause-written
 returns-in-Ok-clause-written g c =
     let k = g.S.BlockSource.known c.args.source.now in
+    let agrees = g.S.BlockSource.agrees c.args.source.now in
     let s = c.args.geometry.now in
     let h = c.damaged_header-header.result in
     let is = c.damaged_header-header.ensures ∙ ap (λ n. (damaged_block n c.args.id).header) c.data_pad.ensures in
-    wrote_as k _ _ (laid_text s c.args.places.now.image_seq h []) (volume_text s c.args.places.now c.args.id) All c.args.done c.in-Ok.total
+    wrote_as k agrees _ _ (laid_text s c.args.places.now.image_seq h []) (volume_text s c.args.places.now c.args.id) All c.args.done c.in-Ok.total
     (damaged_text s c.args.places.now c.args.id c.args.entry.now c.requires.recorded h is c.in-Damaged.ensures)
-    (rw c.image_seq.ensures at (c.in-Ok.ensures.written k))
+    (wrote_narrowed anything agrees (λ bytes holds. tt) _ _ _ All c.args.done c.in-Ok.total (rw c.image_seq.ensures at c.in-Ok.ensures.written))
 
 pub returns-in-Ok-clause-most : goal.returns-in-Ok-clause-most
 returns-in-Ok-clause-most g c =
@@ -42,12 +46,13 @@ returns-in-Ok-clause-most g c =
 pub returns-in-Err-clause-failed : goal.returns-in-Err-clause-failed
 returns-in-Err-clause-failed g c =
     let k = g.S.BlockSource.known c.args.source.now in
+    let agrees = g.S.BlockSource.agrees c.args.source.now in
     let s = c.args.geometry.now in
     let h = c.damaged_header-header.result in
     let is = c.damaged_header-header.ensures ∙ ap (λ n. (damaged_block n c.args.id).header) c.data_pad.ensures in
-    wrote_as k _ _ (laid_text s c.args.places.now.image_seq h []) (volume_text s c.args.places.now c.args.id) NotAll c.args.done c.in-Err.total
+    wrote_as k agrees _ _ (laid_text s c.args.places.now.image_seq h []) (volume_text s c.args.places.now c.args.id) NotAll c.args.done c.in-Err.total
     (damaged_text s c.args.places.now c.args.id c.args.entry.now c.requires.recorded h is c.in-Damaged.ensures)
-    (rw c.image_seq.ensures at (c.in-Err.ensures.failed k))
+    (wrote_narrowed anything agrees (λ bytes holds. tt) _ _ _ NotAll c.args.done c.in-Err.total (rw c.image_seq.ensures at c.in-Err.ensures.failed))
 
 pub returns-in-Static-clause-most : goal.returns-in-Static-clause-most
 returns-in-Static-clause-most g c =

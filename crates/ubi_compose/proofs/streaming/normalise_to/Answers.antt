@@ -1,8 +1,9 @@
 use Rattle.std.proofs.Common.{subst}
 use Rattle.std.proofs.lemmas.Result.{IfErr-weaker, IfOk-weaker}
 use Rattle.ubi_scan.specs.Source.{Source}
-use Rattle.ubi_volume.specs.Wrote.{All, IsWroteError, Wrote}
+use Rattle.ubi_volume.specs.Wrote.{IsWroteError}
 use Rattle.ubi_compose.specs.inner.Streaming.{normal_text}
+use Rattle.ubi_volume.proofs.Narrowed.{places_narrowed}
 use Rattle.ubi_compose.proofs.NormalParts.{normalised, not_normalised}
 use Rattle.ubi_compose.proofs.streaming.normalise_to.Goals as goal
 
@@ -11,11 +12,10 @@ returns-clause-written g c =
     let s = c.args.geometry.now in
     let k = g.S.BlockSource.known c.args.source.now in
     let p = c.in_ok-places.places in
-    let same = c.in_ok-places.ensures.known in
+    let agrees = g.S.BlockSource.agrees c.put_image.new.source in
+    let places = places_narrowed s k _ agrees p c.put_image.ensures.narrows c.in_ok-places.ensures.places in
     IfOk-weaker c.put_image.result _ _
-    (λ n h. normalised s k p c.in_ok-places.ensures.places _ _ n
-    (subst (λ (k : Source). Wrote k (g.W.Write.contents c.args.writer.now) (g.W.Write.contents c.put_image.new.writer)
-    (normal_text s p) All 0 n) same h))
+    (λ n h. normalised s k agrees p places _ _ n h)
     c.put_image.ensures.written
 
 pub returns-clause-refused : goal.returns-clause-refused
@@ -23,9 +23,11 @@ returns-clause-refused g c =
     let s = c.args.geometry.now in
     let k = g.S.BlockSource.known c.args.source.now in
     let p = c.in_ok-places.places in
+    let agrees = g.S.BlockSource.agrees c.put_image.new.source in
+    let places = places_narrowed s k _ agrees p c.put_image.ensures.narrows c.in_ok-places.ensures.places in
     let same = c.in_ok-places.ensures.known in
     IfErr-weaker c.put_image.result _ _
-    (λ e h. not_normalised s k p c.in_ok-places.ensures.places _ _ e
-    (subst (λ (k : Source). IsWroteError s k (g.W.Write.contents c.args.writer.now)
+    (λ e h. not_normalised s k agrees p places _ _ e
+    (subst (λ (k : Source). IsWroteError s k agrees (g.W.Write.contents c.args.writer.now)
     (g.W.Write.contents c.put_image.new.writer) (normal_text s p) 0 e) same h))
     c.put_image.ensures.failed

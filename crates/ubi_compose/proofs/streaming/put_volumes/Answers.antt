@@ -11,8 +11,18 @@ use Rattle.ubi_volume.proofs.Gathered.{listed_at}
 use Rattle.ubi_volume.specs.Wrote.{All, IsWroteError, Wrote}
 use Rattle.ubi_compose.specs.inner.Streaming.{volume_text, volumes_text}
 use Rattle.ubi_compose.proofs.StoredVolumes.{few_records, first_volumes, volume_few, volumes_all, volumes_failed, volumes_wrote}
+use Rattle.ubi_scan.specs.Source.{Source}
+use Rattle.ubi_volume.specs.Places.{ArePlacesOf}
+use Rattle.ubi_volume.proofs.Narrowed.{places_narrowed, wrote_narrowed}
 use Rattle.ubi_volume.proofs.Received.{wrote_as}
 use Rattle.ubi_compose.proofs.streaming.put_volumes.Goals as goal
+
+pub put_volume-requires-clause-places : goal.put_volume-requires-clause-places
+put_volume-requires-clause-places g c =
+    let s = c.args.geometry.now in
+    let agrees = g.S.BlockSource.agrees c.loop-listed.source in
+    subst (λ (k : Source). ArePlacesOf s k agrees c.args.places.now) (sym c.loop-listed.invariant.source)
+    (places_narrowed s _ _ agrees c.args.places.now c.loop-listed.invariant.narrows c.requires.places)
 
 pub put_volume-requires-clause-recorded : goal.put_volume-requires-clause-recorded
 put_volume-requires-clause-recorded g c =
@@ -57,12 +67,12 @@ returns-in_err-total-clause-failed g c =
     let here : e ≡ get_or (finite.entries p.records.of) i e = c.listed-item.is ∙ ap (λ es. get_or es i e) entries in
     let inside : i < length (finite.entries p.records.of) = omega (arith, ap length entries) in
     let from = err_from_is_err_and c.from_residual.result c.from_residual.ensures.1 in
-    let failed : IsWroteError s (g.S.BlockSource.known c.loop-listed.source) (g.W.Write.contents c.loop-listed.writer)
+    let failed : IsWroteError s (g.S.BlockSource.known c.loop-listed.source) (g.S.BlockSource.agrees c.put_volume.new.source) (g.W.Write.contents c.loop-listed.writer)
     (g.W.Write.contents c.put_volume.new.writer) (volume_text s p e.0) c.loop-listed.total err =
     c.in_err-total.ensures.failed in
     rw (from.1, from.2)
-    (volumes_failed s p (g.S.BlockSource.known c.args.source.now) _ _ _ i e inside here c.args.done c.loop-listed.total
-    err c.loop-listed.invariant.wrote (rw (← c.loop-listed.invariant.source) failed))
+    (volumes_failed s p (g.S.BlockSource.known c.args.source.now) (g.S.BlockSource.agrees c.put_volume.new.source) _ _ _ i e inside here c.args.done c.loop-listed.total
+    err (wrote_narrowed _ (g.S.BlockSource.agrees c.put_volume.new.source) c.in_err-total.ensures.narrows _ _ _ All c.args.done c.loop-listed.total c.loop-listed.invariant.wrote) (rw (← c.loop-listed.invariant.source) failed))
 
 pub loop-listed-preserved : goal.loop-listed-preserved
 loop-listed-preserved g c =
@@ -74,14 +84,15 @@ loop-listed-preserved g c =
     let entries = c.entries-listed-items.ensures.value ∙ ap (λ (x : Records). finite.entries x.of) c.table.ensures in
     let here : e ≡ get_or (finite.entries p.records.of) i e = c.listed-item.is ∙ ap (λ es. get_or es i e) entries in
     let inside : i < length (finite.entries p.records.of) = omega (arith, ap length entries) in
-    let written : Wrote (g.S.BlockSource.known c.loop-listed.source) (g.W.Write.contents c.loop-listed.writer)
+    let written : Wrote (g.S.BlockSource.agrees c.put_volume.new.source) (g.W.Write.contents c.loop-listed.writer)
     (g.W.Write.contents c.put_volume.new.writer) (volume_text s p e.0) All c.loop-listed.total c.in_ok-total.total =
     c.in_ok-total.ensures.written in
     record {
       source = c.in_ok-total.ensures.known ∙ c.loop-listed.invariant.source;
-      wrote = volumes_wrote s p (g.S.BlockSource.known c.args.source.now) _ _ _ i e inside here c.args.done
-          c.loop-listed.total c.in_ok-total.total c.loop-listed.invariant.wrote
-          (rw (← c.loop-listed.invariant.source) written);
+      narrows = λ bytes holds. c.loop-listed.invariant.narrows bytes (c.in_ok-total.ensures.narrows bytes holds);
+      wrote = volumes_wrote s p (g.S.BlockSource.known c.args.source.now) (g.S.BlockSource.agrees c.put_volume.new.source) _ _ _ i e inside here c.args.done
+          c.loop-listed.total c.in_ok-total.total (wrote_narrowed _ (g.S.BlockSource.agrees c.put_volume.new.source) c.in_ok-total.ensures.narrows _ _ _ All c.args.done c.loop-listed.total c.loop-listed.invariant.wrote)
+          written;
       few = (let are = subst AreRecords c.table.ensures c.entries-listed-items.ensures.table in
           let recorded : finite.get p.records.of e.0 ≡ Some r =
           subst (λ (x : ℕ × VolumeRecord). finite.get p.records.of x.0 ≡ Some x.1) (sym here)
@@ -100,6 +111,6 @@ returns-clause-written g c =
     let all : c.loop-listed.listed-index ≡ length (finite.entries p.records.of) =
     (let end = c.loop-listed.auto.listed-index-end in let test = c.loop-listed-test.false in
     omega (arith, end, test, ap length entries)) in
-    wrote_as (g.S.BlockSource.known c.args.source.now) _ _ (first_volumes s p c.loop-listed.listed-index)
+    wrote_as (g.S.BlockSource.known c.args.source.now) (g.S.BlockSource.agrees c.loop-listed.source) _ _ (first_volumes s p c.loop-listed.listed-index)
     (volumes_text s p) All c.args.done c.loop-listed.total
     (volumes_all s p c.loop-listed.listed-index all) c.loop-listed.invariant.wrote
