@@ -16,7 +16,7 @@ use Rattle.ubi_volume.specs.declared.errors.ReadError.{ReadError}
 use Rattle.ubi_volume.specs.declared.errors.ReadError.TheVariants as error
 use Rattle.std.proofs.lemmas.List.{take_all}
 use Rattle.std.specs.Io.KnownBytes.{Appends, Keeps}
-use Rattle.ubi_scan.specs.Source.{Source, WhereHeld}
+use Rattle.ubi_scan.specs.Source.{Agreed, Source, WhereHeld}
 use Rattle.ubi_volume.specs.Extract.{read_text}
 use Rattle.ubi_volume.specs.Places.{ArePlaces, Placed}
 use Rattle.ubi_volume.specs.Wrote.{All, First, NotAll, Wanted, Wrote}
@@ -105,31 +105,31 @@ has_text (Ok text) n h = (text, refl, cc)
 has_text (Err e) n h = absurd (cc)
 
 -- what a writer received, whatever the source holds
-pub received : (k : Source) (old new : Option (List ℕ)) (wanted : Wanted) (many : ℕ → ℕ → Type 0) (n : ℕ)
-    → Wrote k old new wanted many 0 n → HasGot old new n
-received k old new wanted many n w = (w.bytes, sym (w.count ∙ zero-add (length w.bytes)), w.got)
+pub received : (agrees : Agreed) (old new : Option (List ℕ)) (wanted : Wanted) (many : ℕ → ℕ → Type 0) (n : ℕ)
+    → Wrote agrees old new wanted many 0 n → HasGot old new n
+received agrees old new wanted many n w = (w.bytes, sym (w.count ∙ zero-add (length w.bytes)), w.got)
 
 -- of any source likewise
-from_unknown : (s : Sizes) (k : Source) (new : Option (List ℕ)) (o : Outcome) → ExtractsFrom s k None new o
-    → ExtractsFrom s k None None o
-from_unknown s k new o (wrote n whole got line) = wrote n whole (got.0, got.1, tt) line
-from_unknown s k new o (unread_from e whole line kept) = unread_from e whole line tt
-from_unknown s k new o (refused_from c h line kept) = refused_from c h line tt
+from_unknown : (s : Sizes) (k : Source) (agrees : Agreed) (new : Option (List ℕ)) (o : Outcome)
+    → ExtractsFrom s k agrees None new o → ExtractsFrom s k agrees None None o
+from_unknown s k agrees new o (wrote n whole got line) = wrote n whole (got.0, got.1, tt) line
+from_unknown s k agrees new o (unread_from e whole line kept) = unread_from e whole line tt
+from_unknown s k agrees new o (refused_from c h line kept) = refused_from c h line tt
 
 -- what is answered of a source into a file, once the work is over
-pub into_file : (s : Sizes) (k after : Source) (id : ℕ) (path out : List ℕ) (new : Option (List ℕ))
+pub into_file : (s : Sizes) (k after : Source) (agrees : Agreed) (id : ℕ) (path out : List ℕ) (new : Option (List ℕ))
     (answer : Result Outcome ToolError)
     (there : Bool) (no_source no_output : Outcome) (r : Result Outcome AllocError)
     → MatchResult r (IsEnded answer there no_source no_output) (λ _. answer ≡ Err tool.Memory)
-    → IfOk answer (ExtractsFrom s k None new)
-    → IfOk answer (λ o. WhereHeld k (λ bytes. Extracts (image_of s bytes) id None new o))
-    → IfErr answer (IsExtractFault s k id None new) → after ≡ after_run k answer
+    → IfOk answer (ExtractsFrom s k agrees None new)
+    → IfOk answer (λ o. WhereHeld agrees (λ bytes. Extracts (image_of s bytes) id None new o))
+    → IfErr answer (IsExtractFault s k agrees id None new) → after ≡ after_run k answer
     → Gives no_source (says (file_line (codes "cannot read ") path) 1) → Gives no_output (says (file_line (codes "cannot write ") out) 1)
-    → IfOk r (ExtractsSource s k after id path out)
-into_file s k after id path out new answer there no_source no_output r ended ok image err known source output =
+    → IfOk r (ExtractsSource s k after agrees id path out)
+into_file s k after agrees id path out new answer there no_source no_output r ended ok image err known source output =
     ends answer there k after path out _ _ no_source no_output r ended
     (λ o is. (
-      from_unknown s k new o (IfOk-at_ok _ is ok),
+      from_unknown s k agrees new o (IfOk-at_ok _ is ok),
       λ bytes holds. of_unknown _ id new o (IfOk-at_ok _ is image bytes holds),
     ))
     (λ o is zero bytes holds. done_text _ id None new o (IfOk-at_ok _ is image bytes holds) zero)
@@ -137,10 +137,10 @@ into_file s k after id path out new answer there no_source no_output r ended ok 
     known source output
 
 -- what a writer received of a volume of a source, by the places of its LEBs
-module _ (s : Sizes) (k : Source) (bytes : List ℕ) (holds : k.held ≡ Some bytes) (p : Placed)
+module _ (s : Sizes) (agrees : Agreed) (bytes : List ℕ) (holds : agrees bytes) (p : Placed)
     (h : ArePlaces (image_of s bytes) p)
     (id len : ℕ) (is : Ok len ≡ volume_len h.meaning id) (old new : Option (List ℕ)) (n : ℕ) where
-  pub places_read : (o : Outcome) → Wrote k old new (read_text s p id) All 0 n → Gives o (says (bytes_line n) 0)
+  pub places_read : (o : Outcome) → Wrote agrees old new (read_text s p id) All 0 n → Gives o (says (bytes_line n) 0)
       → Extracts (image_of s bytes) id old new o
   places_read o w gives =
       let t = has_text (read_volume h.meaning id) len is in
@@ -151,14 +151,14 @@ module _ (s : Sizes) (k : Source) (bytes : List ℕ) (holds : k.held ≡ Some by
       (read t.0 t.1 (subst (λ (l : ℕ). Gives o (says (bytes_line l) 0)) count gives)
       (subst (λ (x : List ℕ). Appends old new x) whole w.got))
 
-  pub places_cut : Wrote k old new (read_text s p id) NotAll 0 n
+  pub places_cut : Wrote agrees old new (read_text s p id) NotAll 0 n
       → IsExtractError (image_of s bytes) id old new tool.Write
   places_cut w =
       let t = has_text (read_volume h.meaning id) len is in
       let got = w.held bytes holds t.0 (h, t.1) in
       (h.meaning, h.accepted, (t.0, length w.bytes, t.1, got.0, subst (λ (x : List ℕ). Appends old new x) got.1 w.got))
 
-  pub places_first : Wrote k old new (read_text s p id) First 0 n → HasFirst (image_of s bytes) id old new
+  pub places_first : Wrote agrees old new (read_text s p id) First 0 n → HasFirst (image_of s bytes) id old new
   places_first w =
       let t = has_text (read_volume h.meaning id) len is in
       let got = w.held bytes holds t.0 (h, t.1) in

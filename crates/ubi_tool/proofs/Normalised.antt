@@ -5,7 +5,7 @@ use Rattle.std.specs.Prelude.{Bool, IfErr, IfOk, MatchResult, Option, Result, No
 use Rattle.std.specs.declared.alloc.AllocError.{AllocError}
 use Rattle.ubi_media.specs.Geometry.{IsGeometry, Sizes}
 use Rattle.ubi_scan.specs.Image.{Image, image_of}
-use Rattle.ubi_scan.specs.Source.{Source, WhereHeld}
+use Rattle.ubi_scan.specs.Source.{Agreed, Source, WhereHeld}
 use Rattle.ubi_volume.specs.Accepts.{Accepts}
 use Rattle.ubi_volume.specs.Meant.{Meant}
 use Rattle.ubi_compose.specs.Normal.{normal_blocks}
@@ -53,30 +53,30 @@ streamed_to_unknown : (image : Image) (new : Option (List ℕ)) (n : ℕ) → Is
     → IsStreamed image None None n
 streamed_to_unknown image new n h = record { meaning = h.meaning; accepted = h.accepted; count = h.count; written = tt }
 
-to_unknown : (s : Sizes) (k : Source) (new : Option (List ℕ)) (o : Outcome) → NormalisesTo s k None new o
-    → NormalisesTo s k None None o
-to_unknown s k new o (wrote n h line) =
+to_unknown : (s : Sizes) (k : Source) (agrees : Agreed) (new : Option (List ℕ)) (o : Outcome)
+    → NormalisesTo s k agrees None new o → NormalisesTo s k agrees None None o
+to_unknown s k agrees new o (wrote n h line) =
     wrote n
     (record {
       got = (h.got.0, h.got.1, tt);
       held = λ bytes is. streamed_to_unknown (image_of s bytes) new n (h.held bytes is);
     }) line
-to_unknown s k new o (wrote_nothing c h line kept) = wrote_nothing c h line tt
+to_unknown s k agrees new o (wrote_nothing c h line kept) = wrote_nothing c h line tt
 
 -- what is answered of a source into a file, once the work is over
-pub into_file : (s : Sizes) (k after : Source) (path out : List ℕ) (new : Option (List ℕ))
+pub into_file : (s : Sizes) (k after : Source) (agrees : Agreed) (path out : List ℕ) (new : Option (List ℕ))
     (answer : Result Outcome ToolError) (there : Bool)
     (unread unwritten : Outcome) (r : Result Outcome AllocError)
     → MatchResult r (IsEnded answer there unread unwritten) (λ _. answer ≡ Err tool.Memory)
-    → IfOk answer (NormalisesTo s k None new)
-    → IfOk answer (λ o. WhereHeld k (λ bytes. Normalises (image_of s bytes) None new o))
-    → IfErr answer (IsNormaliseError s k None new) → after ≡ after_run k answer
+    → IfOk answer (NormalisesTo s k agrees None new)
+    → IfOk answer (λ o. WhereHeld agrees (λ bytes. Normalises (image_of s bytes) None new o))
+    → IfErr answer (IsNormaliseError s k agrees None new) → after ≡ after_run k answer
     → Gives unread (says (file_line (codes "cannot read ") path) 1) → Gives unwritten (says (file_line (codes "cannot write ") out) 1)
-    → IfOk r (NormalisesSource s k after path out)
-into_file s k after path out new answer there unread unwritten r ended ok image err known no_source no_output =
+    → IfOk r (NormalisesSource s k after agrees path out)
+into_file s k after agrees path out new answer there unread unwritten r ended ok image err known no_source no_output =
     ends answer there k after path out _ _ unread unwritten r ended
     (λ o is. (
-      to_unknown s k new o (IfOk-at_ok _ is ok),
+      to_unknown s k agrees new o (IfOk-at_ok _ is ok),
       λ bytes holds. of_unknown (image_of s bytes) new o (IfOk-at_ok _ is image bytes holds),
     ))
     (λ o is zero bytes holds. done_image (image_of s bytes) None new o (IfOk-at_ok _ is image bytes holds) zero)

@@ -2,9 +2,13 @@
 use Rattle.std.specs.Prelude.{ℕ, Bool, true, false, List, [], ◌∷◌, ◌++◌, codes, count_by, decimal, length}
 use Rattle.std.specs.List.{flat_map}
 use Rattle.ubi_media.specs.declared.refusal.Refusal.{Refusal}
+use Rattle.ubi_media.specs.Geometry.{Sizes}
 use Rattle.ubi_scan.specs.Image.{Image}
+use Rattle.ubi_scan.specs.Source.{Agreed, Source}
+use Rattle.ubi_scan.specs.declared.errors.StreamError.TheVariants as stream
 use Rattle.ubi_volume.specs.Accepts.{Refuses}
-use Rattle.ubi_volume.specs.Survey.{IsSurvey, Seen}
+use Rattle.ubi_volume.specs.Places.{ArePlacesError}
+use Rattle.ubi_volume.specs.Survey.{IsSurvey, IsSurveyOf, Seen}
 use Rattle.ubi_volume.specs.declared.attached.BlockState.{BlockState}
 use Rattle.ubi_volume.specs.declared.attached.BlockState.TheVariants as state
 use Rattle.ubi_tool.specs.Answer.{Gives, says}
@@ -61,3 +65,9 @@ check_lines a =
 pub data Checks (image : Image) : Outcome → Type 0 where
   accepted : {o : Outcome} (a : Seen) → IsSurvey image a → Gives o (says (check_lines a) 0) → Checks image o
   refused : {o : Outcome} (c : Refusal) → Refuses image c → Gives o (says (refusal_line c) 1) → Checks image o
+
+-- what it answers of a source: the lines of what surveying it gives, or the line of its refusal
+pub data ChecksOf (s : Sizes) (k : Source) (agrees : Agreed) : Outcome → Type 0 where
+  surveyed : {o : Outcome} (a : Seen) → IsSurveyOf s k agrees a → Gives o (says (check_lines a) 0) → ChecksOf s k agrees o
+  unsurveyed : {o : Outcome} (c : Refusal) → ArePlacesError s k agrees (stream.Refused c) → Gives o (says (refusal_line c) 1)
+      → ChecksOf s k agrees o

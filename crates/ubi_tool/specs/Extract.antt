@@ -4,7 +4,7 @@ use Rattle.std.specs.Io.KnownBytes.{Appends, Keeps}
 use Rattle.ubi_media.specs.Geometry.{Sizes}
 use Rattle.ubi_media.specs.declared.refusal.Refusal.{Refusal}
 use Rattle.ubi_scan.specs.Image.{Image, IsWholeSize, image_of}
-use Rattle.ubi_scan.specs.Source.{Source, WhereHeld}
+use Rattle.ubi_scan.specs.Source.{Agreed, Source, WhereHeld}
 use Rattle.ubi_scan.specs.declared.errors.StreamError.TheVariants as stream
 use Rattle.ubi_volume.specs.Accepts.{Accepts, Refuses}
 use Rattle.ubi_volume.specs.Meant.{Meant}
@@ -66,20 +66,26 @@ HasFirst image id old new =
 
 -- why it answers nothing of a source: memory ran out, and the writer received nothing; or, where its bytes are known, a
 -- read failed, before anything was written or after the first of the text, or a write, as over the bytes
-abbrev pub IsExtractFault : Sizes → Source → ℕ → Option (List ℕ) → Option (List ℕ) → ToolError → Type 0
-IsExtractFault s k id old new tool.Memory = Keeps old new
-IsExtractFault s k id old new tool.Read = Keeps old new ⊎ WhereHeld k (λ bytes. HasFirst (image_of s bytes) id old new)
-IsExtractFault s k id old new tool.Write = WhereHeld k (λ bytes. IsExtractError (image_of s bytes) id old new tool.Write)
+abbrev pub IsExtractFault : Sizes → Source → Agreed → ℕ → Option (List ℕ) → Option (List ℕ) → ToolError → Type 0
+IsExtractFault s k agrees id old new tool.Memory = Keeps old new
+IsExtractFault s k agrees id old new tool.Read = Keeps old new ⊎ WhereHeld agrees (λ bytes. HasFirst (image_of s bytes) id old new)
+IsExtractFault s k agrees id old new tool.Write = WhereHeld agrees (λ bytes. IsExtractError (image_of s bytes) id old new tool.Write)
 
 -- what it answers of any source: of one that has the size of an image how many bytes the writer received, or the line of a
 -- refusal to read the volume; or the line of a refusal of the image; the writer received nothing where it is a refusal
-pub data ExtractsFrom (s : Sizes) (k : Source) (old new : Option (List ℕ)) : Outcome → Type 0 where
+pub data ExtractsFrom (s : Sizes) (k : Source) (agrees : Agreed) (old new : Option (List ℕ)) : Outcome → Type 0 where
   wrote : {o : Outcome} (n : ℕ) → IsWholeSize s k.size → HasGot old new n → Gives o (says (bytes_line n) 0)
-      → ExtractsFrom s k old new o
+      → ExtractsFrom s k agrees old new o
   unread_from : {o : Outcome} (e : ReadError) → IsWholeSize s k.size → RefusesToRead e o → Keeps old new
-      → ExtractsFrom s k old new o
-  refused_from : {o : Outcome} (c : Refusal) → ArePlacesError s k (stream.Refused c) → Gives o (says (refusal_line c) 1) → Keeps old new
-      → ExtractsFrom s k old new o
+      → ExtractsFrom s k agrees old new o
+  refused_from : {o : Outcome} (c : Refusal) → ArePlacesError s k agrees (stream.Refused c) → Gives o (says (refusal_line c) 1) → Keeps old new
+      → ExtractsFrom s k agrees old new o
+
+-- what it answers of a source into a file, of whose bytes nothing is known: whatever the source may hold, it is what it
+-- answers of that image
+abbrev pub ExtractsOf : ℕ → Sizes → Source → Agreed → Outcome → Type 0
+ExtractsOf id s k agrees o =
+    ExtractsFrom s k agrees None None o × WhereHeld agrees (λ bytes. Extracts (image_of s bytes) id None None o)
 
 -- what a volume of the image's meaning reads
 abbrev pub HasText : Image → ℕ → Type 0

@@ -3,8 +3,8 @@ use Rattle.std.specs.Prelude.{ℕ, ◌/◌, List, Option, None, codes, length}
 use Rattle.std.specs.Io.KnownBytes.{Appends, Keeps}
 use Rattle.ubi_media.specs.Geometry.{Sizes}
 use Rattle.ubi_media.specs.declared.refusal.Refusal.{Refusal}
-use Rattle.ubi_scan.specs.Image.{Image}
-use Rattle.ubi_scan.specs.Source.{Source}
+use Rattle.ubi_scan.specs.Image.{Image, image_of}
+use Rattle.ubi_scan.specs.Source.{Agreed, Source, WhereHeld}
 use Rattle.ubi_scan.specs.declared.errors.StreamError.TheVariants as stream
 use Rattle.ubi_volume.specs.Accepts.{Accepts, Refuses}
 use Rattle.ubi_volume.specs.Meant.{Meant}
@@ -27,18 +27,24 @@ pub data Normalises (image : Image) (old new : Option (List ℕ)) : Outcome → 
 
 -- what it answers of any source: how many eraseblocks the n bytes are that the writer received; or the line of a
 -- refusal, and the writer received nothing
-pub data NormalisesTo (s : Sizes) (k : Source) (old new : Option (List ℕ)) : Outcome → Type 0 where
-  wrote : {o : Outcome} (n : ℕ) → IsNormalisedTo s k old new n → Gives o (says (blocks_line (n / s.peb_size)) 0)
-      → NormalisesTo s k old new o
-  wrote_nothing : {o : Outcome} (c : Refusal) → ArePlacesError s k (stream.Refused c) → Gives o (says (refusal_line c) 1)
-      → Keeps old new → NormalisesTo s k old new o
+pub data NormalisesTo (s : Sizes) (k : Source) (agrees : Agreed) (old new : Option (List ℕ)) : Outcome → Type 0 where
+  wrote : {o : Outcome} (n : ℕ) → IsNormalisedTo s agrees old new n → Gives o (says (blocks_line (n / s.peb_size)) 0)
+      → NormalisesTo s k agrees old new o
+  wrote_nothing : {o : Outcome} (c : Refusal) → ArePlacesError s k agrees (stream.Refused c) → Gives o (says (refusal_line c) 1)
+      → Keeps old new → NormalisesTo s k agrees old new o
 
 -- why it answers nothing: memory ran out, and the writer received nothing; or a read or a write failed, and it
 -- received a first part
-abbrev pub IsNormaliseError : Sizes → Source → Option (List ℕ) → Option (List ℕ) → ToolError → Type 0
-IsNormaliseError s k old new tool.Memory = Keeps old new
-IsNormaliseError s k old new tool.Read = (p : ℕ) × (n : ℕ) × IsNormaliseToError s k old new (stream.Read p n)
-IsNormaliseError s k old new tool.Write = (n : ℕ) × IsNormaliseToError s k old new (stream.Write n)
+abbrev pub IsNormaliseError : Sizes → Source → Agreed → Option (List ℕ) → Option (List ℕ) → ToolError → Type 0
+IsNormaliseError s k agrees old new tool.Memory = Keeps old new
+IsNormaliseError s k agrees old new tool.Read = (p : ℕ) × (n : ℕ) × IsNormaliseToError s k agrees old new (stream.Read p n)
+IsNormaliseError s k agrees old new tool.Write = (n : ℕ) × IsNormaliseToError s k agrees old new (stream.Write n)
+
+-- what it answers of a source into a file, of whose bytes nothing is known: whatever the source may hold, it is what it
+-- answers of that image
+abbrev pub NormalisesOf : Sizes → Source → Agreed → Outcome → Type 0
+NormalisesOf s k agrees o =
+    NormalisesTo s k agrees None None o × WhereHeld agrees (λ bytes. Normalises (image_of s bytes) None None o)
 
 -- what it answers of an image into a file, of whose bytes nothing is known: the same, or the line of an output that
 -- can't be written

@@ -1,18 +1,18 @@
 -- What the program answers over files.
-use Rattle.std.specs.Prelude.{◌≡◌, ℕ, ◌*◌, ◌+◌, ◌≤◌, List, [], length, Option, Some, None, IsSome, codes}
+use Rattle.std.specs.Prelude.{◌≡◌, ℕ, ◌*◌, ◌+◌, ◌≤◌, List, [], length, Some, None, IsSome, codes}
 use Rattle.ubi_media.specs.Geometry.{Sizes}
 use Rattle.ubi_media.specs.Limits.{first_broken}
 use Rattle.ubi_media.specs.declared.geometry.GeometryError.{GeometryError}
 use Rattle.ubi_scan.specs.Image.{Image, image_of}
-use Rattle.ubi_scan.specs.Source.{Source}
+use Rattle.ubi_scan.specs.Source.{Agreed, Source}
 use Rattle.ubi_tool.specs.Answer.{Gives, says}
 use Rattle.ubi_tool.specs.Change.{ChangesInto}
-use Rattle.ubi_tool.specs.Check.{Checks}
+use Rattle.ubi_tool.specs.Check.{Checks, ChecksOf}
 use Rattle.ubi_tool.specs.Compose.{ComposesInto}
-use Rattle.ubi_tool.specs.Extract.{ExtractsFrom, ExtractsInto}
+use Rattle.ubi_tool.specs.Extract.{ExtractsInto, ExtractsOf}
 use Rattle.ubi_tool.specs.Lines.{file_line, geometry_line}
 use Rattle.ubi_tool.specs.List.{Lists}
-use Rattle.ubi_tool.specs.Normalise.{NormalisesInto, NormalisesTo}
+use Rattle.ubi_tool.specs.Normalise.{NormalisesInto, NormalisesOf}
 use Rattle.ubi_tool.specs.Numbers.{sizes_of}
 use Rattle.ubi_tool.specs.Rename.{RenamesInto}
 use Rattle.ubi_tool.specs.Same.{Compares}
@@ -60,13 +60,20 @@ pub data OfText (numbers : Numbers) (path : List ℕ) (answers : Sizes → List 
   text : {o : Outcome} (bytes : List ℕ) → first_broken (sizes_of numbers) ≡ None → length bytes ≤ text_limit (sizes_of numbers)
       → answers (sizes_of numbers) bytes o → OfText numbers path answers o
 
--- what a command can answer that reads an image file while it writes another: that of an image that was read whole, or that
--- of a file that is read at places
-pub data OfFile (numbers : Numbers) (path out : List ℕ) (answers : Image → Outcome → Type 0)
-    (streams : Sizes → Source → Outcome → Type 0) : Outcome → Type 0 where
-  whole : {o : Outcome} → OfImage numbers path answers o → OfFile numbers path out answers streams o
-  places : {o : Outcome} → first_broken (sizes_of numbers) ≡ None → OfPlaces path out (streams (sizes_of numbers)) o
-      → OfFile numbers path out answers streams o
+-- what a command can answer over one image file that it reads at places where it can: that of an image that was read whole,
+-- or that of a file that is read at places
+pub data OfFile (numbers : Numbers) (path : List ℕ) (answers : Image → Outcome → Type 0)
+    (streams : Sizes → Source → Agreed → Outcome → Type 0) : Outcome → Type 0 where
+  whole : {o : Outcome} → OfImage numbers path answers o → OfFile numbers path answers streams o
+  places : {o : Outcome} → first_broken (sizes_of numbers) ≡ None → OfPlaces path (streams (sizes_of numbers)) o
+      → OfFile numbers path answers streams o
+
+-- what it can answer where it writes another file meanwhile: that, or the line of the other file, which can't be written
+pub data OfFileInto (numbers : Numbers) (path out : List ℕ) (answers : Image → Outcome → Type 0)
+    (streams : Sizes → Source → Agreed → Outcome → Type 0) : Outcome → Type 0 where
+  of_file : {o : Outcome} → OfFile numbers path answers streams o → OfFileInto numbers path out answers streams o
+  cannot_write : {o : Outcome} → first_broken (sizes_of numbers) ≡ None
+      → Gives o (says (file_line (codes "cannot write ") out) 1) → OfFileInto numbers path out answers streams o
 
 -- once the file of an outcome is written, if it has one: the outcome, or the line of a file that can't be written
 pub data WritesFile (path : List ℕ) (outcome : Outcome) : Outcome → Type 0 where
@@ -76,13 +83,13 @@ pub data WritesFile (path : List ℕ) (outcome : Outcome) : Outcome → Type 0 w
 -- what a request can be answered: what its command answers, for its own numbers, paths and volume
 abbrev pub IsAnswerTo : Request → Outcome → Type 0
 IsAnswerTo (request.List numbers path) = OfImage numbers path.now Lists
-IsAnswerTo (request.Check numbers path) = OfImage numbers path.now Checks
+IsAnswerTo (request.Check numbers path) = OfFile numbers path.now Checks ChecksOf
 IsAnswerTo (request.Show numbers path p) = OfImage numbers path.now (λ i. Shows i p)
 IsAnswerTo (request.Extract numbers path id out) =
-    OfFile numbers path.now out.now (ExtractsInto id out.now) (λ s k. ExtractsFrom s k None None)
+    OfFileInto numbers path.now out.now (ExtractsInto id out.now) (ExtractsOf id)
 IsAnswerTo (request.Compose numbers spec out spares seq) = OfText numbers spec.now (λ s t. ComposesInto out.now s t spares seq)
 IsAnswerTo (request.Normalise numbers path out) =
-    OfFile numbers path.now out.now (NormalisesInto out.now) (λ s k. NormalisesTo s k None None)
+    OfFileInto numbers path.now out.now (NormalisesInto out.now) NormalisesOf
 IsAnswerTo (request.Same numbers left right) = OfImage numbers left.now (λ i. OfImage numbers right.now (Compares i))
 IsAnswerTo (request.Change numbers path change) =
     OfImage numbers path.now

@@ -1,15 +1,19 @@
 //! The command `check`: the states of the eraseblocks of an image.
 
-ghost use Rattle.std.specs.Prelude.{◌≡◌, ◌++◌, IfOk, OnOk, codes, count_by};
+ghost use Rattle.std.specs.Prelude.{◌≡◌, ◌++◌, IfErr, IfOk, OnOk, codes, count_by};
 ghost use Rattle.std.specs.List.{flat_map};
 ghost use Rattle.ubi_scan.specs.Image.{image_of};
-ghost use Rattle.ubi_tool.specs.Check.{Checks, check_lines, number_line, printed_states, same_state, state_line, state_word};
+ghost use Rattle.ubi_scan.specs.Source.{Narrows};
+ghost use Rattle.ubi_tool.specs.AfterRun.{after_run};
+ghost use Rattle.ubi_tool.specs.inner.Ended.{IsListFault};
+ghost use Rattle.ubi_tool.specs.Check.{Checks, ChecksOf, check_lines, number_line, printed_states, same_state, state_line, state_word};
 
 use crate::lines::{put_number, put_word, refusal_line};
-use crate::outcome::{DONE, FAILED, Outcome};
+use crate::outcome::{DONE, FAILED, Outcome, ToolError};
 use std::alloc::{AllocError, Global};
 use ubi_media::{AttachError, Geometry};
-use ubi_volume::{BlockState, Surveyed, survey};
+use ubi_scan::{BlockSource, StreamError};
+use ubi_volume::{BlockState, Surveyed, survey, survey_from};
 
 fn is_same(state: BlockState, of: BlockState) -> bool
     ensures { result ≡ same_state state of }
@@ -120,5 +124,32 @@ pub fn run_check(alloc: Global, geometry: &Geometry, image: &[u8]) -> Result<Out
             Ok(Outcome::saying(refusal_line(alloc, cause)?, FAILED))
         }
         Err(AttachError::Memory) => Err(AllocError),
+    }
+}
+
+/// Counts the states of the eraseblocks of a source, or answers the line of its refusal. One eraseblock is held at a time.
+///
+/// # Errors
+///
+/// Read where a read failed. Memory where memory ran out.
+pub fn run_check_from<S: BlockSource>(
+    alloc: Global,
+    geometry: &Geometry,
+    source: &mut S,
+) -> Result<Outcome, ToolError>
+    ensures known { S.known source.new ≡ after_run (S.known source.old) result }
+    ensures narrows { Narrows (S.agrees source.old) (S.agrees source.new) }
+    ensures checked { IfOk result (ChecksOf geometry.now (S.known source.old) (S.agrees source.new)) }
+    ensures failed { IfErr result IsListFault }
+{
+    match survey_from(alloc, geometry, source) {
+        Ok(surveyed) => Ok(Outcome::saying(check_lines(alloc, &surveyed)?, DONE)),
+        Err(StreamError::Refused(cause)) => {
+            Ok(Outcome::saying(refusal_line(alloc, cause)?, FAILED))
+        }
+        Err(StreamError::Read(_, _)) => Err(ToolError::Read),
+        Err(StreamError::Memory) => Err(ToolError::Memory),
+        // Nothing is written.
+        Err(StreamError::Write(_)) => unreachable!(),
     }
 }

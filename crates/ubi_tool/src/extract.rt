@@ -3,7 +3,7 @@
 ghost use Rattle.std.specs.Prelude.{◌≡◌, IfErr, IfOk};
 ghost use Rattle.std.specs.Result.{result_map_both};
 ghost use Rattle.ubi_scan.specs.Image.{image_of};
-ghost use Rattle.ubi_scan.specs.Source.{WhereHeld};
+ghost use Rattle.ubi_scan.specs.Source.{Narrows, WhereHeld};
 ghost use Rattle.ubi_tool.specs.AfterRun.{after_run};
 ghost use Rattle.ubi_tool.specs.Extract.{Extracts, ExtractsFrom, IsExtractError, IsExtractFault, RefusesToRead, read_refusal};
 ghost use Rattle.ubi_tool.specs.inner.Ended.{IsUntold};
@@ -61,9 +61,10 @@ pub fn run_extract_from<S: BlockSource, W: Write>(
     writer: &mut W,
 ) -> Result<Outcome, ToolError>
     ensures known { S.known source.new ≡ after_run (S.known source.old) result }
-    ensures ok { IfOk result (ExtractsFrom geometry.now (S.known source.old) (W.contents writer.old) (W.contents writer.new)) }
-    ensures image { IfOk result (λ o. WhereHeld (S.known source.old) (λ bytes. Extracts (image_of geometry.now bytes) id (W.contents writer.old) (W.contents writer.new) o)) }
-    ensures err { IfErr result (IsExtractFault geometry.now (S.known source.old) id (W.contents writer.old) (W.contents writer.new)) }
+    ensures narrows { Narrows (S.agrees source.old) (S.agrees source.new) }
+    ensures ok { IfOk result (ExtractsFrom geometry.now (S.known source.old) (S.agrees source.new) (W.contents writer.old) (W.contents writer.new)) }
+    ensures image { IfOk result (λ o. WhereHeld (S.agrees source.new) (λ bytes. Extracts (image_of geometry.now bytes) id (W.contents writer.old) (W.contents writer.new) o)) }
+    ensures err { IfErr result (IsExtractFault geometry.now (S.known source.old) (S.agrees source.new) id (W.contents writer.old) (W.contents writer.new)) }
 {
     let mut line = Vec::with_capacity(alloc, LONGEST_COUNT_LINE)?;
     let places = match attach_places(alloc, geometry, source) {

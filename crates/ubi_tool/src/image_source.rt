@@ -27,11 +27,39 @@ fn stays<R: Files>(rt: &R, image: &Metadata, out: &str) -> bool {
     }
 }
 
+/// Whether a file may be read at places: a device, or an ordinary file of which the system tells a size. A pipe or a terminal
+/// can't be, and of some of its own files the system tells none.
+fn may_have_places(image: &Metadata) -> bool {
+    let kind = image.file_type();
+    kind.is_block_device() || kind.is_char_device() || (kind.is_file() && image.len() > 0)
+}
+
+/// A source over a file that isn't empty, where it can be opened and its size found out.
+fn source_with_bytes<R: Files>(rt: &R, image: &str) -> Option<FileSource<R::File>>
+where
+    R::File: FileExt,
+{
+    match FileSource::open(rt, image) {
+        Ok(source) if source.len() > 0 => Some(source),
+        _ => None,
+    }
+}
+
+/// A source over an image file; or none where the image is to be read whole, since it can't be read at places.
+pub fn source_at<R: Files>(rt: &R, image: &str) -> Option<FileSource<R::File>>
+where
+    R::File: FileExt,
+{
+    match fs::metadata(rt, image) {
+        Ok(metadata) if may_have_places(&metadata) => source_with_bytes(rt, image),
+        _ => None,
+    }
+}
+
 /// A source over an image file, to be read while the output is written; or none where the image is to be read whole.
 ///
-/// That is so where it can't be read at places, as a pipe or a terminal can't; where the system tells no size, as of some
-/// of its own files; and where the output may be the same file, by the same path or by a link: what isn't read when that
-/// is opened would be lost.
+/// That is so where it can't be read at places; and where the output may be the same file, by the same path or by a link:
+/// what isn't read when that is opened would be lost.
 pub fn source_of<R: Files>(rt: &R, image: &str, out: &str) -> Option<FileSource<R::File>>
 where
     R::File: FileExt,
@@ -40,14 +68,8 @@ where
     let Ok(metadata) = fs::metadata(rt, image) else {
         return None;
     };
-    let kind = metadata.file_type();
-    let is_device = kind.is_block_device() || kind.is_char_device();
-    let may_have_places = is_device || (kind.is_file() && metadata.len() > 0);
-    if !may_have_places || image == out || !stays(rt, &metadata, out) {
+    if !may_have_places(&metadata) || image == out || !stays(rt, &metadata, out) {
         return None;
     }
-    match FileSource::open(rt, image) {
-        Ok(source) if source.len() > 0 => Some(source),
-        _ => None,
-    }
+    source_with_bytes(rt, image)
 }

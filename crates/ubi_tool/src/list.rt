@@ -6,7 +6,7 @@ ghost use Rattle.std.specs.List.{flat_map};
 ghost use Rattle.hex.specs.Hex.{encode_lower};
 ghost use Rattle.ubi_media.specs.Record.{rec_fault};
 ghost use Rattle.ubi_scan.specs.Image.{image_of};
-ghost use Rattle.ubi_scan.specs.Source.{WhereHeld};
+ghost use Rattle.ubi_scan.specs.Source.{Narrows, WhereHeld};
 ghost use Rattle.ubi_volume.specs.Places.{ArePlaces, ArePlacesOf};
 ghost use Rattle.ubi_tool.specs.AfterRun.{after_run};
 ghost use Rattle.ubi_tool.specs.inner.Ended.{IsListFault};
@@ -152,10 +152,11 @@ fn put_volumes<S: BlockSource>(
     places: &Places,
     buffer: &mut [u8],
 ) -> Result<(), ToolError>
-    requires places { ArePlacesOf geometry.now (S.known source.old) places.now }
+    requires places { ArePlacesOf geometry.now (S.known source.old) (S.agrees source.old) places.now }
     requires room { length buffer.old ≡ geometry.now.peb_size }
     ensures known { S.known source.new ≡ after_run (S.known source.old) result }
-    ensures text { OnOk result (WhereHeld (S.known source.old) (λ bytes. (h : ArePlaces (image_of geometry.now bytes) places.now) → text.new.items ≡ text.old.items ++ flat_map (volume_line geometry.now) (finite.entries h.meaning.volumes))) }
+    ensures narrows { Narrows (S.agrees source.old) (S.agrees source.new) }
+    ensures text { OnOk result (WhereHeld (S.agrees source.new) (λ bytes. (h : ArePlaces (image_of geometry.now bytes) places.now) → text.new.items ≡ text.old.items ++ flat_map (volume_line geometry.now) (finite.entries h.meaning.volumes))) }
     ensures failed { IfErr result IsListFault }
 {
     for listed in places.table().entries() {
@@ -183,9 +184,10 @@ fn list_lines<S: BlockSource>(
     source: &mut S,
     places: &Places,
 ) -> Result<Vec<u8>, ToolError>
-    requires { ArePlacesOf geometry.now (S.known source.old) places.now }
+    requires { ArePlacesOf geometry.now (S.known source.old) (S.agrees source.old) places.now }
     ensures known { S.known source.new ≡ after_run (S.known source.old) result }
-    ensures text { IfOk result (λ text. WhereHeld (S.known source.old) (λ bytes. (h : ArePlaces (image_of geometry.now bytes) places.now) → text.items ≡ list_lines h.meaning)) }
+    ensures narrows { Narrows (S.agrees source.old) (S.agrees source.new) }
+    ensures text { IfOk result (λ text. WhereHeld (S.agrees source.new) (λ bytes. (h : ArePlaces (image_of geometry.now bytes) places.now) → text.items ≡ list_lines h.meaning)) }
     ensures failed { IfErr result IsListFault }
 {
     let mut buffer = Vec::from_elem(alloc, 0u8, geometry.peb_size() as usize)?;
@@ -215,7 +217,8 @@ fn list<S: BlockSource>(
     source: &mut S,
 ) -> Result<Outcome, ToolError>
     ensures known { S.known source.new ≡ after_run (S.known source.old) result }
-    ensures ok { IfOk result (λ o. WhereHeld (S.known source.old) (λ bytes. Lists (image_of geometry.now bytes) o)) }
+    ensures narrows { Narrows (S.agrees source.old) (S.agrees source.new) }
+    ensures ok { IfOk result (λ o. WhereHeld (S.agrees source.new) (λ bytes. Lists (image_of geometry.now bytes) o)) }
     ensures err { IfErr result IsListFault }
 {
     match attach_places(alloc, geometry, source) {

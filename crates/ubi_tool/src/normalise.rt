@@ -2,7 +2,7 @@
 
 ghost use Rattle.std.specs.Prelude.{◌≡◌, IfErr, IfOk};
 ghost use Rattle.ubi_scan.specs.Image.{image_of};
-ghost use Rattle.ubi_scan.specs.Source.{WhereHeld};
+ghost use Rattle.ubi_scan.specs.Source.{Narrows, WhereHeld};
 ghost use Rattle.ubi_tool.specs.AfterRun.{after_run};
 ghost use Rattle.ubi_tool.specs.Normalise.{IsNormaliseError, Normalises, NormalisesTo};
 
@@ -30,9 +30,10 @@ pub fn run_normalise<S: BlockSource, W: Write>(
     writer: &mut W,
 ) -> Result<Outcome, ToolError>
     ensures known { S.known source.new ≡ after_run (S.known source.old) result }
-    ensures ok { IfOk result (NormalisesTo geometry.now (S.known source.old) (W.contents writer.old) (W.contents writer.new)) }
-    ensures image { IfOk result (λ o. WhereHeld (S.known source.old) (λ bytes. Normalises (image_of geometry.now bytes) (W.contents writer.old) (W.contents writer.new) o)) }
-    ensures err { IfErr result (IsNormaliseError geometry.now (S.known source.old) (W.contents writer.old) (W.contents writer.new)) }
+    ensures narrows { Narrows (S.agrees source.old) (S.agrees source.new) }
+    ensures ok { IfOk result (NormalisesTo geometry.now (S.known source.old) (S.agrees source.new) (W.contents writer.old) (W.contents writer.new)) }
+    ensures image { IfOk result (λ o. WhereHeld (S.agrees source.new) (λ bytes. Normalises (image_of geometry.now bytes) (W.contents writer.old) (W.contents writer.new) o)) }
+    ensures err { IfErr result (IsNormaliseError geometry.now (S.known source.old) (S.agrees source.new) (W.contents writer.old) (W.contents writer.new)) }
 {
     let mut line = Vec::with_capacity(alloc, LONGEST_COUNT_LINE)?;
     match normalise_to(alloc, geometry, source, writer) {

@@ -3,11 +3,11 @@
 //! The image is read at places; or whole, where that can't be or where it may be the output too.
 
 ghost use Rattle.std.specs.Prelude.{◌≡◌, Bool, Err, IfOk, MatchResult, Ok, is_some};
-ghost use Rattle.ubi_scan.specs.Source.{WhereHeld};
-ghost use Rattle.ubi_tool.specs.Extract.{ExtractsFrom, ExtractsInto, HasText};
+ghost use Rattle.ubi_scan.specs.Source.{Narrows, WhereHeld};
+ghost use Rattle.ubi_tool.specs.Extract.{ExtractsInto, ExtractsOf, HasText};
 ghost use Rattle.ubi_tool.specs.inner.Ended.{ExtractsSource, NormalisesSource, IsEnded, Streams};
-ghost use Rattle.ubi_tool.specs.Normalise.{NormalisesInto, NormalisesTo};
-ghost use Rattle.ubi_tool.specs.Program.{OfFile};
+ghost use Rattle.ubi_tool.specs.Normalise.{NormalisesInto, NormalisesOf};
+ghost use Rattle.ubi_tool.specs.Program.{OfFileInto};
 
 use crate::extract::run_extract_from;
 use crate::image_file::{limit_line, load, unread_line};
@@ -82,7 +82,8 @@ fn normalise<R: Files + Eprint, S: BlockSource>(
     out: &str,
     is_watched: bool,
 ) -> Result<Outcome, AllocError>
-    ensures { IfOk result (NormalisesSource geometry.now (S.known source.old) (S.known source.new) image.now out.now) }
+    ensures narrows { Narrows (S.agrees source.old) (S.agrees source.new) }
+    ensures answer { IfOk result (NormalisesSource geometry.now (S.known source.old) (S.known source.new) (S.agrees source.new) image.now out.now) }
 {
     // Made before the output is opened, so that no part of it is written where memory runs out.
     let unread = unread_line(alloc, image)?;
@@ -104,7 +105,7 @@ pub fn normalise_file<R: Files + Eprint>(
 ) -> Result<Outcome, AllocError>
 where
     R::File: FileExt,
-    ensures { IfOk result (OfFile numbers image.now out.now (NormalisesInto out.now) (λ s k. NormalisesTo s k None None)) }
+    ensures { IfOk result (OfFileInto numbers image.now out.now (NormalisesInto out.now) NormalisesOf) }
 {
     let geometry = match geometry_of(numbers) {
         Ok(geometry) => geometry,
@@ -139,7 +140,8 @@ fn extract<R: Files, S: BlockSource>(
     id: u32,
     out: &str,
 ) -> Result<Outcome, AllocError>
-    ensures { IfOk result (ExtractsSource geometry.now (S.known source.old) (S.known source.new) id image.now out.now) }
+    ensures narrows { Narrows (S.agrees source.old) (S.agrees source.new) }
+    ensures answer { IfOk result (ExtractsSource geometry.now (S.known source.old) (S.known source.new) (S.agrees source.new) id image.now out.now) }
 {
     // Made before the output is opened, so that no part of it is written where memory runs out.
     let unread = unread_line(alloc, image)?;
@@ -160,7 +162,7 @@ pub fn extract_file<R: Files>(
 ) -> Result<Outcome, AllocError>
 where
     R::File: FileExt,
-    ensures { IfOk result (OfFile numbers image.now out.now (ExtractsInto id out.now) (λ s k. ExtractsFrom s k None None)) }
+    ensures { IfOk result (OfFileInto numbers image.now out.now (ExtractsInto id out.now) (ExtractsOf id)) }
 {
     let geometry = match geometry_of(numbers) {
         Ok(geometry) => geometry,

@@ -3,22 +3,24 @@
 ghost use Rattle.clap.specs.Values.{kind_of};
 ghost use Rattle.std.specs.Prelude.{◌≡◌, ◌↔◌, IfOk, IsErr};
 ghost use Rattle.ubi_tool.specs.Change.{ChangesInto};
-ghost use Rattle.ubi_tool.specs.Check.{Checks};
+ghost use Rattle.ubi_tool.specs.Check.{Checks, ChecksOf};
 ghost use Rattle.ubi_tool.specs.Compose.{ComposesInto};
+ghost use Rattle.ubi_tool.specs.inner.Ended.{Works};
 ghost use Rattle.ubi_tool.specs.List.{Lists};
-ghost use Rattle.ubi_tool.specs.Program.{IsAnswer, IsAnswerTo, OfImage, OfText};
+ghost use Rattle.ubi_tool.specs.Program.{IsAnswer, IsAnswerTo, OfFile, OfImage, OfText};
 ghost use Rattle.ubi_tool.specs.Rename.{RenamesInto};
 ghost use Rattle.ubi_tool.specs.Same.{Compares};
 ghost use Rattle.ubi_tool.specs.Show.{Shows};
 
 use crate::change::run_change;
-use crate::check::run_check;
+use crate::check::{run_check, run_check_from};
 use crate::command_line::{Change, Rename, Request, command_line, request_of};
 use crate::compose::run_compose;
-use crate::image_file::load;
+use crate::image_file::{limit_line, load, unread_line};
+use crate::image_source::source_at;
 use crate::list::run_list;
-use crate::numbers::Numbers;
-use crate::outcome::{Outcome, WRONG_WORDS};
+use crate::numbers::{Numbers, geometry_of};
+use crate::outcome::{Outcome, ToolError, WRONG_WORDS};
 use crate::output_file::write_outcome;
 use crate::rename::run_rename;
 use crate::same::run_same;
@@ -30,6 +32,8 @@ use clap::error::ErrorKind;
 use std::alloc::{AllocError, Global};
 use std::fs::Files;
 use std::os::unix::fs::FileExt;
+use ubi_media::Geometry;
+use ubi_scan::BlockSource;
 
 /// Runs the command that the words name, over files. The first word is the program's name. Where somebody watches the
 /// standard error, it is told there how far long work is.
@@ -131,15 +135,42 @@ fn list_file<R: Files>(
     run_list(alloc, &file.geometry, file.bytes.as_slice())
 }
 
-/// Counts the states of the eraseblocks of a file.
+/// Counts the states of the eraseblocks of a source, or answers the line of the file that fails.
+fn check_source<S: BlockSource>(
+    alloc: Global,
+    geometry: &Geometry,
+    source: &mut S,
+    image: &str,
+) -> Result<Outcome, AllocError>
+    ensures { IfOk result (Works (S.known source.old) (S.known source.new) image.now (ChecksOf geometry.now (S.known source.old) (S.agrees source.new))) }
+{
+    match run_check_from(alloc, geometry, source) {
+        Ok(outcome) => Ok(outcome),
+        Err(ToolError::Read) => unread_line(alloc, image),
+        Err(ToolError::Memory) => Err(AllocError),
+        // Nothing is written.
+        Err(ToolError::Write) => unreachable!(),
+    }
+}
+
+/// Counts the states of the eraseblocks of a file, which is read at places where it can be.
 fn check_file<R: Files>(
     rt: &R,
     alloc: Global,
     numbers: Numbers,
     image: &str,
 ) -> Result<Outcome, AllocError>
-    ensures { IfOk result (OfImage numbers image.now Checks) }
+where
+    R::File: FileExt,
+    ensures { IfOk result (OfFile numbers image.now Checks ChecksOf) }
 {
+    let geometry = match geometry_of(numbers) {
+        Ok(geometry) => geometry,
+        Err(limit) => return limit_line(alloc, limit),
+    };
+    if let Some(mut source) = source_at(rt, image) {
+        return check_source(alloc, &geometry, &mut source, image);
+    }
     let file = match load(rt, alloc, numbers, image) {
         Ok(file) => file,
         Err(unread) => return unread.answer(),

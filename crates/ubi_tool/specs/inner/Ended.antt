@@ -1,21 +1,20 @@
 -- What a command answers once its work is over, and which of its faults are told.
-use Rattle.std.specs.Prelude.{◌≡◌, ℕ, Bool, true, false, List, Result, Ok, Err, codes, None}
+use Rattle.std.specs.Prelude.{◌≡◌, ℕ, Bool, true, false, List, Result, Ok, Err, codes}
 use Rattle.ubi_media.specs.Geometry.{Sizes}
 use Rattle.ubi_scan.specs.Image.{image_of}
-use Rattle.ubi_scan.specs.Source.{Source, failed, WhereHeld}
+use Rattle.ubi_scan.specs.Source.{Agreed, Source, failed, WhereHeld}
 use Rattle.ubi_volume.specs.Accepts.{Accepts}
 use Rattle.ubi_volume.specs.Meant.{Meant}
 use Rattle.ubi_volume.specs.declared.errors.ReadError.{ReadError}
 use Rattle.ubi_tool.specs.Answer.{Gives, says}
-use Rattle.ubi_tool.specs.Extract.{read_refusal, Extracts, ExtractsFrom, HasText}
+use Rattle.ubi_tool.specs.Extract.{read_refusal, ExtractsOf, HasText}
 use Rattle.ubi_tool.specs.Lines.{file_line}
-use Rattle.ubi_tool.specs.Normalise.{Normalises, NormalisesTo}
+use Rattle.ubi_tool.specs.Normalise.{NormalisesOf}
 use Rattle.ubi_tool.specs.declared.outcome.Outcome.{Outcome}
 use Rattle.ubi_tool.specs.declared.outcome.ToolError.{ToolError}
 use Rattle.ubi_tool.specs.declared.outcome.ToolError.TheVariants as tool
 
--- what is answered once the work is over: its outcome, and where all is done the file is open; or the line of a file
--- that
+-- what is answered once the work is over: its outcome, and where all is done the file is open; or the line of a file that
 -- can't be read or written, where a read or a write failed, or where all is done and the file can't be opened
 pub data IsEnded (answer : Result Outcome ToolError) (there : Bool) (unread unwritten : Outcome) : Outcome
     → Type 0 where
@@ -25,14 +24,17 @@ pub data IsEnded (answer : Result Outcome ToolError) (there : Bool) (unread unwr
   no_read : answer ≡ Err tool.Read → IsEnded answer there unread unwritten unread
   no_write : answer ≡ Err tool.Write → IsEnded answer there unread unwritten unwritten
 
--- what is answered of a source into a file: that of the work; the line of the source, where one more read failed; or
--- the
--- line of the file, where something was to be written
+-- what is answered of a source: that of the work, after which no more reads have failed; or the line of the source, where
+-- one more read failed
+pub data Works (k after : Source) (path : List ℕ) (answers : Outcome → Type 0) : Outcome → Type 0 where
+  answered : {o : Outcome} → after ≡ k → answers o → Works k after path answers o
+  no_source : {o : Outcome} → after ≡ failed k → Gives o (says (file_line (codes "cannot read ") path) 1)
+      → Works k after path answers o
+
+-- what is answered of a source into a file: that; or the line of the file, where something was to be written
 pub data Streams (k after : Source) (path out : List ℕ) (answers : Outcome → Type 0) (writes : Type 0)
     : Outcome → Type 0 where
-  answered : {o : Outcome} → answers o → Streams k after path out answers writes o
-  no_source : {o : Outcome} → after ≡ failed k → Gives o (says (file_line (codes "cannot read ") path) 1)
-      → Streams k after path out answers writes o
+  works : {o : Outcome} → Works k after path answers o → Streams k after path out answers writes o
   no_output : {o : Outcome} → writes → Gives o (says (file_line (codes "cannot write ") out) 1)
       → Streams k after path out answers writes o
 
@@ -42,18 +44,18 @@ IsUntold e tool.Memory = Unit {0}
 IsUntold e fault = read_refusal e ≡ Err fault
 
 -- what `extract` answers of a source into a file, of whose bytes nothing is known
-abbrev pub ExtractsSource : Sizes → Source → Source → ℕ → List ℕ → List ℕ → Outcome → Type 0
-ExtractsSource s k after id path out =
+abbrev pub ExtractsSource : Sizes → Source → Source → Agreed → ℕ → List ℕ → List ℕ → Outcome → Type 0
+ExtractsSource s k after agrees id path out =
     Streams k after path out
-    (λ o. ExtractsFrom s k None None o × WhereHeld k (λ bytes. Extracts (image_of s bytes) id None None o))
-    (WhereHeld k (λ bytes. HasText (image_of s bytes) id))
+    (ExtractsOf id s k agrees)
+    (WhereHeld agrees (λ bytes. HasText (image_of s bytes) id))
 
 -- and what `normalise` does
-abbrev pub NormalisesSource : Sizes → Source → Source → List ℕ → List ℕ → Outcome → Type 0
-NormalisesSource s k after path out =
+abbrev pub NormalisesSource : Sizes → Source → Source → Agreed → List ℕ → List ℕ → Outcome → Type 0
+NormalisesSource s k after agrees path out =
     Streams k after path out
-    (λ o. NormalisesTo s k None None o × WhereHeld k (λ bytes. Normalises (image_of s bytes) None None o))
-    (WhereHeld k (λ bytes. (m : Meant) × Accepts (image_of s bytes) m))
+    (NormalisesOf s k agrees)
+    (WhereHeld agrees (λ bytes. (m : Meant) × Accepts (image_of s bytes) m))
 
 -- why `list` answers nothing: a read failed, or memory ran out
 abbrev pub IsListFault : ToolError → Type 0

@@ -6,6 +6,8 @@ use super::pebs::{
     RIGHT, SECOND, SECOND_BOOT, SECOND_OF_6, SECOND_UPDATING, TEXT_0, TEXT_1, TORN, WRONG_6,
     WRONG_9, bytes_of,
 };
+use crate::check::{run_check, run_check_from};
+use crate::outcome::Outcome;
 use std::alloc::Global;
 use std::test::Fail;
 use ubi_compose::normalise_to;
@@ -22,9 +24,11 @@ struct Changing<'a> {
 
 impl BlockSource for Changing<'_> {
     ghost use Rattle.std.specs.Prelude.{length};
-    ghost use Rattle.ubi_scan.specs.Source.{unheld, unheld_sized};
+    ghost use Rattle.ubi_scan.specs.Source.{sound, unheld, unheld_sized};
 
-    ghost known = { λ s. unheld (length s.first.now) 0 };
+    ghost known = { λ s. sound (length s.first.now) };
+
+    ghost agrees = { λ s. unheld };
 
     fn len(&self) -> u64 {
         self.first.len() as u64
@@ -39,7 +43,7 @@ impl BlockSource for Changing<'_> {
         Ok(())
     }
 
-    ghost sized = { λ s. unheld_sized (length s.first.now) 0 };
+    ghost sized = { λ s. unheld_sized (sound (length s.first.now)) };
 }
 
 /// Whether each logical eraseblock of the first two volumes lies in one of so many eraseblocks.
@@ -115,6 +119,36 @@ fn normalises_a_source_that_changes(rt: HostRuntime) -> Result<(), Fail> {
         for left in 0..50 {
             let is_sound = is_sound(alloc, first.as_slice(), then.as_slice(), left)?;
             assert!(rt; is_sound, "case {index}, after {left} reads");
+        }
+    }
+    Ok(())
+}
+
+/// Whether the counts of eraseblocks were told, or the line of a refusal, and nothing is to be written.
+fn is_told(answer: &Outcome) -> bool {
+    let is_refused = answer.text.as_slice().starts_with(b"refused ");
+    answer.file.is_none() && is_refused == (answer.status == 1)
+}
+
+/// A source that changes has an answer too, and one that doesn't is answered as its bytes are.
+#[test]
+fn checks_a_source_that_changes(rt: HostRuntime) -> Result<(), Fail> {
+    let alloc = rt.alloc();
+    let geometry = small()?;
+    for (index, (first, then)) in CHANGES.iter().enumerate() {
+        let first = bytes_of(alloc, &geometry, first)?;
+        let then = bytes_of(alloc, &geometry, then)?;
+        let want = run_check(alloc, &geometry, first.as_slice())?;
+        for left in 0..50 {
+            let mut source = Changing {
+                first: first.as_slice(),
+                then: then.as_slice(),
+                left,
+            };
+            let answer = run_check_from(alloc, &geometry, &mut source)?;
+            let is_same = answer.text == want.text && answer.status == want.status;
+            assert!(rt; is_told(&answer), "case {index}, after {left} reads");
+            assert!(rt; left < 49 || is_same, "case {index}");
         }
     }
     Ok(())

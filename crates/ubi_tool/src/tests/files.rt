@@ -137,8 +137,37 @@ fn reads_no_more_than_one_byte_above_the_device(rt: HostRuntime) -> Result<(), F
         &rt,
         alloc,
         (long.as_slice(), broken),
-        "check a.img",
+        "list a.img",
         many,
         &[],
     )
+}
+
+/// What `check` answers of three blank eraseblocks.
+const BLANK: (&str, u8) = (
+    "blocks 3\nblank 3\nfree 0\ntable 0\nused 0\nstale 0\norphan 0\n\
+        dropped 0\ncorrupt 0\ngarbage 0\ntop sqnum 0\nimage seq 0\n\
+        mean counter 0\naccepted\n",
+    0,
+);
+
+/// What it answers of a file that can't be read.
+const UNREAD: (&str, u8) = ("cannot read a.img\n", 1);
+
+/// How a file fails while its eraseblocks are counted, and what is answered. It is read at places, or whole where it can't
+/// be; and one that was cut short since it was opened fails where its bytes are missing.
+static CHECKED: [(Broken, (&str, u8), usize); 8] = [
+    (Broken::Nothing, BLANK, 0),
+    (Broken::Whole, BLANK, 0),
+    (Broken::Places, BLANK, 0),
+    (Broken::OpenRead, UNREAD, 0),
+    (Broken::Read(ErrorKind::Other, 0), UNREAD, 0),
+    (Broken::Read(ErrorKind::Other, 640), UNREAD, 0),
+    (Broken::Read(ErrorKind::Interrupted, 1100), UNREAD, 0),
+    (Broken::Cut, UNREAD, 0),
+];
+
+#[test]
+fn checks_files_that_fail(rt: HostRuntime) -> Result<(), Fail> {
+    assert_each(&rt, rt.alloc(), &[0xFF; 1536], "check a.img", &CHECKED, &[])
 }

@@ -1,7 +1,7 @@
-use Rattle.std.proofs.Common.{ap, inl, inr, sym, ◌∙◌}
+use Rattle.std.proofs.Common.{inl, inr, sym, ◌∙◌}
 use Rattle.std.proofs.KnownBytes.{Keeps-refl}
 use Rattle.std.proofs.lemmas.Result.{IfOk-weaker}
-use Rattle.ubi_scan.specs.Source.{Source}
+use Rattle.ubi_scan.proofs.Narrowed.{source_narrowed}
 use Rattle.ubi_tool.specs.Extract.{accepted, refused, refused_from, unread, unread_from, wrote}
 use Rattle.ubi_compose.proofs.Refusals.{refuses}
 use Rattle.ubi_tool.proofs.Extracted.{error_is, places_cut, places_first, places_read, received}
@@ -14,9 +14,11 @@ returns-in-Err-Refused-clause-ok g c =
 
 pub returns-in-Err-Refused-clause-image : goal.returns-in-Err-Refused-clause-image
 returns-in-Err-Refused-clause-image g c = λ bytes holds.
+    let known = g.S.BlockSource.known c.args.source.now in
+    let agrees = g.S.BlockSource.agrees c.attach_places.new.source in
     refused c.in-Err-Refused.cause
-    (refuses c.args.geometry.now (g.S.BlockSource.known c.args.source.now) bytes c.in-Err-Refused.cause
-    (g.met.S.BlockSource.sized c.args.source.now) holds
+    (refuses c.args.geometry.now known agrees bytes c.in-Err-Refused.cause
+    (source_narrowed known _ agrees c.in-Err-Refused.ensures.narrows (g.met.S.BlockSource.sized c.args.source.now)) holds
     (rw c.in-Err-Refused.field-0-is at c.in-Err-Refused.ensures.refused))
     (rw c.in_ok-refusal_line-in-Err-Refused.ensures at c.saying.ensures) (Keeps-refl _)
 
@@ -42,18 +44,16 @@ returns-in-Ok-write_places-clause-ok g c =
 
 pub returns-in-Ok-write_places-clause-image : goal.returns-in-Ok-write_places-clause-image
 returns-in-Ok-write_places-clause-image g c = λ bytes holds.
-    let p = c.in-Ok.ensures.places.held bytes holds in
-    let still = ap (λ (k : Source). k.held) c.in-Ok.ensures.known ∙ holds in
+    let p = c.in-Ok.ensures.places.held bytes (c.in-Ok-write_places.ensures.narrows bytes holds) in
     let line = rw c.in_ok-line.ensures.items at c.in_ok-put_bytes_line-in-Ok-write_places.ensures.line in
-    places_read c.args.geometry.now _ bytes still c.in-Ok.places p c.args.id _
+    places_read c.args.geometry.now _ bytes holds c.in-Ok.places p c.args.id _
     (sym c.in-Ok-places_len.is ∙ c.places_len.ensures.meant _ p) _ _ _ _
     c.in-Ok-write_places.ensures.written (rw line at c.saying-in-Ok-write_places.ensures)
 
 pub returns-in-Err-Write-write_places-clause-err : goal.returns-in-Err-Write-write_places-clause-err
 returns-in-Err-Write-write_places-clause-err g c = λ bytes holds.
-    let p = c.in-Ok.ensures.places.held bytes holds in
-    let still = ap (λ (k : Source). k.held) c.in-Ok.ensures.known ∙ holds in
-    places_cut c.args.geometry.now _ bytes still c.in-Ok.places p c.args.id _
+    let p = c.in-Ok.ensures.places.held bytes (c.in-Err-Write-write_places.ensures.narrows bytes holds) in
+    places_cut c.args.geometry.now _ bytes holds c.in-Ok.places p c.args.id _
     (sym c.in-Ok-places_len.is ∙ c.places_len.ensures.meant _ p) _ _ _
     (rw c.in-Err-Write-write_places.field-0-is at c.in-Err-Write-write_places.ensures.failed)
 
@@ -62,8 +62,7 @@ returns-in-Err-Read-clause-err g c = inl (Keeps-refl _)
 
 pub returns-in-Err-Read-write_places-clause-err : goal.returns-in-Err-Read-write_places-clause-err
 returns-in-Err-Read-write_places-clause-err g c = inr (λ bytes holds.
-    let p = c.in-Ok.ensures.places.held bytes holds in
-    let still = ap (λ (k : Source). k.held) c.in-Ok.ensures.known ∙ holds in
+    let p = c.in-Ok.ensures.places.held bytes (c.in-Err-Read-write_places.ensures.narrows bytes holds) in
     let failed = rw c.in-Err-Read-write_places.field-0-is at c.in-Err-Read-write_places.ensures.failed in
-    places_first c.args.geometry.now _ bytes still c.in-Ok.places p c.args.id _
+    places_first c.args.geometry.now _ bytes holds c.in-Ok.places p c.args.id _
     (sym c.in-Ok-places_len.is ∙ c.places_len.ensures.meant _ p) _ _ _ failed.1)

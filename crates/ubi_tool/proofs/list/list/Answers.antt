@@ -1,19 +1,20 @@
-use Rattle.std.proofs.Common.{◌∙◌, ap}
-use Rattle.ubi_scan.specs.Source.{Source}
+use Rattle.ubi_scan.proofs.Narrowed.{source_narrowed}
 use Rattle.ubi_compose.proofs.Refusals.{refuses}
 use Rattle.ubi_tool.specs.List.{accepted, refused}
 use Rattle.ubi_tool.proofs.list.list.Goals as goal
 
 pub returns-in_ok-text-in-Ok-clause-ok : goal.returns-in_ok-text-in-Ok-clause-ok
 returns-in_ok-text-in-Ok-clause-ok g c = λ bytes holds.
-    let h = c.in-Ok.ensures.places.held bytes holds in
-    let text = c.in_ok-text-in-Ok.ensures.text bytes (ap (λ (k : Source). k.held) c.in-Ok.ensures.known ∙ holds) h in
+    let h = c.in-Ok.ensures.places.held bytes (c.in_ok-text-in-Ok.ensures.narrows bytes holds) in
+    let text = c.in_ok-text-in-Ok.ensures.text bytes holds h in
     accepted h.meaning h.accepted (rw text at c.saying.ensures)
 
 pub returns-in_ok-refusal_line-in-Err-Refused-clause-ok : goal.returns-in_ok-refusal_line-in-Err-Refused-clause-ok
 returns-in_ok-refusal_line-in-Err-Refused-clause-ok g c = λ bytes holds.
+    let known = g.S.BlockSource.known c.args.source.now in
+    let agrees = g.S.BlockSource.agrees c.attach_places.new.source in
     refused c.in-Err-Refused.cause
-    (refuses c.args.geometry.now (g.S.BlockSource.known c.args.source.now) bytes c.in-Err-Refused.cause
-    (g.met.S.BlockSource.sized c.args.source.now) holds
+    (refuses c.args.geometry.now known agrees bytes c.in-Err-Refused.cause
+    (source_narrowed known _ agrees c.in-Err-Refused.ensures.narrows (g.met.S.BlockSource.sized c.args.source.now)) holds
     (rw c.in-Err-Refused.field-0-is at c.in-Err-Refused.ensures.refused))
     (rw c.in_ok-refusal_line-in-Err-Refused.ensures at c.saying-in-Err-Refused.ensures)

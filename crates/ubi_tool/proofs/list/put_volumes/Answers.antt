@@ -9,9 +9,18 @@ use Rattle.ubi_scan.specs.Source.{Source}
 use Rattle.ubi_table.specs.Records.{AreRecords, Records}
 use Rattle.ubi_volume.specs.declared.content.Volume.{Volume}
 use Rattle.ubi_volume.proofs.Gathered.{listed_at}
+use Rattle.ubi_volume.proofs.Narrowed.{places_narrowed}
+use Rattle.ubi_volume.specs.Places.{ArePlacesOf}
 use Rattle.ubi_tool.specs.List.{volume_line}
 use Rattle.ubi_tool.proofs.Listing.{lines_all, lines_more}
 use Rattle.ubi_tool.proofs.list.put_volumes.Goals as goal
+
+pub amount_of-requires-clause-places : goal.amount_of-requires-clause-places
+amount_of-requires-clause-places g c =
+    let s = c.args.geometry.now in
+    let agrees = g.S.BlockSource.agrees c.loop-listed.source in
+    subst (λ (k : Source). ArePlacesOf s k agrees c.args.places.now) (sym c.loop-listed.invariant.source)
+    (places_narrowed s _ _ agrees c.args.places.now c.loop-listed.invariant.narrows c.requires.places)
 
 pub amount_of-requires-clause-recorded : goal.amount_of-requires-clause-recorded
 amount_of-requires-clause-recorded g c =
@@ -53,11 +62,12 @@ loop-listed-preserved g c =
     let inside : i < length (finite.entries c.args.places.now.records.of) = omega (arith, ap length entries) in
     record {
       source = c.in-Ok.ensures.known ∙ c.loop-listed.invariant.source;
+      narrows = λ bytes holds. c.loop-listed.invariant.narrows bytes (c.in-Ok.ensures.narrows bytes holds);
       text = λ bytes holds h.
           lines_more c.args.geometry.now c.args.places.now bytes h i e c.in-Ok.amount c.args.text.now.items
           c.loop-listed.text.items c.put_volume.new.text.items inside here
-          (c.in-Ok.ensures.amount bytes (ap (λ (k : Source). k.held) c.loop-listed.invariant.source ∙ holds))
-          (c.loop-listed.invariant.text bytes holds h) c.in_ok-put_volume-in-Ok.ensures;
+          (c.in-Ok.ensures.amount bytes holds)
+          (c.loop-listed.invariant.text bytes (c.in-Ok.ensures.narrows bytes holds) h) c.in_ok-put_volume-in-Ok.ensures;
     }
 
 pub returns-clause-text : goal.returns-clause-text

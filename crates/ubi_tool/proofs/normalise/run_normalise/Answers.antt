@@ -1,6 +1,7 @@
 use Rattle.std.proofs.Common.{◌≡◌, ◌/◌}
 use Rattle.ubi_tool.specs.Lines.{blocks_line}
 use Rattle.ubi_tool.specs.Normalise.{refused, wrote, wrote_nothing}
+use Rattle.ubi_scan.proofs.Narrowed.{source_narrowed}
 use Rattle.ubi_compose.proofs.Refusals.{refuses}
 use Rattle.ubi_tool.proofs.Normalised.{of_streamed}
 use Rattle.ubi_tool.proofs.normalise.run_normalise.Goals as goal
@@ -29,8 +30,11 @@ returns-in-Err-Refused-clause-ok g c =
 
 pub returns-in-Err-Refused-clause-image : goal.returns-in-Err-Refused-clause-image
 returns-in-Err-Refused-clause-image g c bytes holds =
+    let known = g.S.BlockSource.known c.args.source.now in
+    let agrees = g.S.BlockSource.agrees c.normalise_to.new.source in
     let fault = rw c.in-Err-Refused.field-0-is at c.in-Err-Refused.ensures.refused in
     refused c.in-Err-Refused.cause
-    (refuses c.args.geometry.now (g.S.BlockSource.known c.args.source.now) bytes c.in-Err-Refused.cause
-    (g.met.S.BlockSource.sized c.args.source.now) holds fault.1)
+    (refuses c.args.geometry.now known agrees bytes c.in-Err-Refused.cause
+    (source_narrowed known _ agrees c.in-Err-Refused.ensures.narrows (g.met.S.BlockSource.sized c.args.source.now)) holds
+    fault.1)
     (rw c.in_ok-refusal_line-in-Err-Refused.ensures at c.saying-in-Err-Refused.ensures) fault.0

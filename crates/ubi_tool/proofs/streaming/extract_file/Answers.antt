@@ -1,35 +1,36 @@
-use Rattle.std.proofs.Common.{refl}
+use Rattle.std.proofs.Common.{refl, sym, ◌∙◌}
 use Rattle.std.proofs.lemmas.Result.{IfOk-weaker}
 use Rattle.ubi_tool.specs.Extract.{ExtractsInto, unwritten, written}
-use Rattle.ubi_tool.specs.Program.{bad_limit, no_image, places, whole}
-use Rattle.ubi_tool.proofs.Ended.{at_places, in_memory}
+use Rattle.ubi_tool.specs.Program.{bad_limit, no_image, of_file, whole}
+use Rattle.ubi_tool.proofs.Ended.{in_memory, into_places}
 use Rattle.ubi_tool.proofs.Outcomes.{of_image, told}
 use Rattle.ubi_tool.proofs.streaming.extract_file.Goals as goal
 
 pub returns-in-Err : goal.returns-in-Err
 returns-in-Err g c =
-    IfOk-weaker c.limit_line.result _ _ (λ o h. whole (no_image (bad_limit c.in-Err.limit c.in-Err.ensures h)))
+    IfOk-weaker c.limit_line.result _ _ (λ o h. of_file (whole (no_image (bad_limit c.in-Err.limit c.in-Err.ensures h))))
     c.limit_line.ensures
 
 pub returns-in-Some : goal.returns-in-Some
 returns-in-Some g c =
     IfOk-weaker c.extract.result _ _
-    (λ o h. places c.in-Ok.ensures.0 (at_places _ _ _ _ _ _ _ _ o (λ d n. rw c.in-Ok.ensures.1 at n.0) h))
-    c.extract.ensures
+    (λ o h. into_places _ _ _ _ _ _ _ _ _ _ _ _ o c.in-Ok.ensures.0 (λ d n. rw c.in-Ok.ensures.1 at n) h)
+    c.extract.ensures.answer
 
 pub returns-in-Err-load : goal.returns-in-Err-load
 returns-in-Err-load g c =
-    IfOk-weaker c.answer.result _ _ (λ o h. whole (no_image h))
+    IfOk-weaker c.answer.result _ _ (λ o h. of_file (whole (no_image h)))
     (told _ c.in-Err-load.unread c.answer.result c.in-Err-load.ensures.unread c.answer.ensures)
 
 pub returns : goal.returns
 returns g c =
     let file = c.in-Ok-load.file in
+    let held = sym (c.extract-2.ensures.narrows c.extract-2.new.source refl ∙ c.new-source.ensures ∙ c.as_slice.ensures.value) in
     IfOk-weaker c.extract-2.result _ _
-    (λ o h. whole (of_image c.args.numbers _ (ExtractsInto c.args.id c.args.out.now) file.geometry file.bytes.items o
+    (λ o h. of_file (whole (of_image c.args.numbers _ (ExtractsInto c.args.id c.args.out.now) file.geometry file.bytes.items o
     c.in-Ok-load.ensures.geometry c.in-Ok-load.ensures.read
     (in_memory _ _ _ _ _ _ _ o
-    (λ d n. written (n.1 file.bytes.items (rw (c.new-source.ensures, c.as_slice.ensures.value) refl)))
-    (λ d means line. unwritten (means file.bytes.items (rw (c.new-source.ensures, c.as_slice.ensures.value) refl))
-    line) h)))
-    c.extract-2.ensures
+    (λ d n. written (n.1 file.bytes.items held))
+    (λ d means line. unwritten (means file.bytes.items held)
+    line) h))))
+    c.extract-2.ensures.answer
