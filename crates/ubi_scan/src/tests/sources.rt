@@ -4,6 +4,7 @@ ghost use Rattle.std.specs.Prelude.{◌≡◌, ◌+◌, ◌≤◌, OnOk, length,
 
 use super::choice::{OLD, RIGHT, WRONG_4, WRONG_6, WRONG_9};
 use super::images::{ERASED, FREE, PLAIN, Peb, Vid, geometry, image};
+use crate::trace::Trace;
 use crate::{
     BlockSource, FileSource, MemorySource, ProbeSource, Scan, SourceFault, StreamError, scan_from,
 };
@@ -186,21 +187,23 @@ fn scans_a_file_as_memory(rt: HostRuntime) -> Result<(), Fail> {
     Ok(())
 }
 
-/// A source that answers other bytes from its third read on.
+/// A source that answers other bytes from its third read on. As a file it is known by its reads, with which no bytes agree
+/// once two of them contradict each other.
 #[derive(Drop)]
 struct Fickle<'a> {
     first: &'a [u8],
     then: &'a [u8],
     reads: u64,
+    trace: Trace,
 }
 
 impl BlockSource for Fickle<'_> {
     ghost use Rattle.std.specs.Prelude.{length};
-    ghost use Rattle.ubi_scan.specs.Source.{sound, unheld, unheld_sized};
+    ghost use Rattle.ubi_scan.specs.Source.{file_sized, known_by, sound};
 
     ghost known = { λ s. sound (length s.first.now) };
 
-    ghost agrees = { λ s. unheld };
+    ghost agrees = { λ s. known_by (length s.first.now) s.trace.reads };
 
     fn len(&self) -> u64 {
         self.first.len() as u64
@@ -216,10 +219,11 @@ impl BlockSource for Fickle<'_> {
         for (index, byte) in out.iter_mut().enumerate() {
             *byte = bytes.get(at as usize + index).copied().unwrap_or(0xFF);
         }
+        self.trace.note(at, out);
         Ok(())
     }
 
-    ghost sized = { λ s. unheld_sized (sound (length s.first.now)) };
+    ghost sized = { λ s. file_sized (length s.first.now) 0 s.trace.reads };
 }
 
 /// What it finds lies in the source, whatever that answers.
@@ -232,6 +236,7 @@ fn scans_a_source_that_changes(rt: HostRuntime) -> Result<(), Fail> {
         first: first.as_slice(),
         then: then.as_slice(),
         reads: 0,
+        trace: Trace::new(),
     };
     // Eraseblock 1 was a member when its headers were read, and is none when it meets eraseblock 2.
     let found = winner(scan_from(alloc, &geometry()?, &mut source));
