@@ -64,7 +64,7 @@ abbrev pub HasFirst : Image → ℕ → Option (List ℕ) → Option (List ℕ) 
 HasFirst image id old new =
     (m : Meant) × Accepts image m × (text : List ℕ) × (n : ℕ) × (read_volume m id ≡ Ok text) × (n ≤ length text) × Appends old new (take n text)
 
--- why it answers nothing of a source: memory ran out, and the writer received nothing; or, where its bytes are known, a
+-- why it answers nothing of a source: memory ran out, and the writer received nothing; or, whatever the source may hold, a
 -- read failed, before anything was written or after the first of the text, or a write, as over the bytes
 abbrev pub IsExtractFault : Sizes → Source → Agreed → ℕ → Option (List ℕ) → Option (List ℕ) → ToolError → Type 0
 IsExtractFault s k agrees id old new tool.Memory = Keeps old new

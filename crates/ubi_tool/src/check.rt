@@ -145,7 +145,8 @@ pub fn run_check_from<S: BlockSource>(
     match survey_from(alloc, geometry, source) {
         Ok(surveyed) => Ok(Outcome::saying(check_lines(alloc, &surveyed)?, DONE)),
         Err(StreamError::Refused(cause)) => {
-            Ok(Outcome::saying(refusal_line(alloc, cause)?, FAILED))
+            let line = refusal_line(alloc, cause)?;
+            Ok(Outcome::saying(line, FAILED))
         }
         Err(StreamError::Read(_, _)) => Err(ToolError::Read),
         Err(StreamError::Memory) => Err(ToolError::Memory),
