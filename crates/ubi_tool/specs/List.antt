@@ -1,5 +1,5 @@
 -- What is listed of the volumes of an image.
-use Rattle.std.specs.Prelude.{ℕ, ◌==◌, ◌&&◌, not, nat_le, if◌then◌else◌, List, [], ◌∷◌, ◌++◌, codes, decimal, length}
+use Rattle.std.specs.Prelude.{◌≡◌, ℕ, ◌==◌, ◌&&◌, not, nat_le, if◌then◌else◌, List, [], ◌∷◌, ◌++◌, codes, decimal, length}
 use Rattle.std.specs.FinMap.{entries}
 use Rattle.std.specs.List.{flat_map}
 use Rattle.hex.specs.Hex.{encode_lower}
@@ -9,10 +9,13 @@ use Rattle.ubi_media.specs.declared.record.VolumeRecord.{VolumeRecord}
 use Rattle.ubi_media.specs.declared.refusal.Refusal.{Refusal}
 use Rattle.ubi_media.specs.declared.vid.VolKind.{VolKind}
 use Rattle.ubi_media.specs.declared.vid.VolKind.TheVariants as kind
-use Rattle.ubi_scan.specs.Image.{Image}
+use Rattle.ubi_scan.specs.Image.{Image, image_of}
+use Rattle.ubi_scan.specs.Source.{Agreed, Source, WhereHeld}
+use Rattle.ubi_scan.specs.declared.errors.StreamError.TheVariants as stream
 use Rattle.ubi_volume.specs.Accepts.{Accepts, Refuses}
 use Rattle.ubi_volume.specs.Amounts.{amount_of}
 use Rattle.ubi_volume.specs.Meant.{Meant}
+use Rattle.ubi_volume.specs.Places.{ArePlaces, ArePlacesError, ArePlacesOf, Placed}
 use Rattle.ubi_volume.specs.declared.amounts.Amount.{Amount}
 use Rattle.ubi_volume.specs.declared.amounts.Amount.TheVariants as amount
 use Rattle.ubi_volume.specs.declared.content.Volume.{Volume}
@@ -78,3 +81,12 @@ list_lines m =
 pub data Lists (image : Image) : Outcome → Type 0 where
   accepted : {o : Outcome} (m : Meant) → Accepts image m → Gives o (says (list_lines m) 0) → Lists image o
   refused : {o : Outcome} (c : Refusal) → Refuses image c → Gives o (says (refusal_line c) 1) → Lists image o
+
+-- what it answers of a source: of whatever it may hold the lines of the meaning, which its places show; or the line of its
+-- refusal
+pub data ListsOf (s : Sizes) (k : Source) (agrees : Agreed) : Outcome → Type 0 where
+  listed : {o : Outcome} (p : Placed) (text : List ℕ) → ArePlacesOf s k agrees p
+      → WhereHeld agrees (λ bytes. (h : ArePlaces (image_of s bytes) p) → text ≡ list_lines h.meaning)
+      → Gives o (says text 0) → ListsOf s k agrees o
+  unlisted : {o : Outcome} (c : Refusal) → ArePlacesError s k agrees (stream.Refused c) → Gives o (says (refusal_line c) 1)
+      → ListsOf s k agrees o

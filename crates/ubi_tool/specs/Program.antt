@@ -11,7 +11,7 @@ use Rattle.ubi_tool.specs.Check.{Checks, ChecksOf}
 use Rattle.ubi_tool.specs.Compose.{ComposesInto}
 use Rattle.ubi_tool.specs.Extract.{ExtractsInto, ExtractsOf}
 use Rattle.ubi_tool.specs.Lines.{file_line, geometry_line}
-use Rattle.ubi_tool.specs.List.{Lists}
+use Rattle.ubi_tool.specs.List.{Lists, ListsOf}
 use Rattle.ubi_tool.specs.Normalise.{NormalisesInto, NormalisesOf}
 use Rattle.ubi_tool.specs.Numbers.{sizes_of}
 use Rattle.ubi_tool.specs.Rename.{RenamesInto}
@@ -82,7 +82,7 @@ pub data WritesFile (path : List ℕ) (outcome : Outcome) : Outcome → Type 0 w
 
 -- what a request can be answered: what its command answers, for its own numbers, paths and volume
 abbrev pub IsAnswerTo : Request → Outcome → Type 0
-IsAnswerTo (request.List numbers path) = OfImage numbers path.now Lists
+IsAnswerTo (request.List numbers path) = OfFile numbers path.now Lists ListsOf
 IsAnswerTo (request.Check numbers path) = OfFile numbers path.now Checks ChecksOf
 IsAnswerTo (request.Show numbers path p) = OfImage numbers path.now (λ i. Shows i p)
 IsAnswerTo (request.Extract numbers path id out) =

@@ -10,7 +10,7 @@ ghost use Rattle.ubi_scan.specs.Source.{Narrows, WhereHeld};
 ghost use Rattle.ubi_volume.specs.Places.{ArePlaces, ArePlacesOf};
 ghost use Rattle.ubi_tool.specs.AfterRun.{after_run};
 ghost use Rattle.ubi_tool.specs.inner.Ended.{IsListFault};
-ghost use Rattle.ubi_tool.specs.List.{Lists, amount_word, kind_word, layout_words, list_lines, record_line, record_words, room_words, shown, shown_byte, sizes_line, volume_line};
+ghost use Rattle.ubi_tool.specs.List.{Lists, ListsOf, amount_word, kind_word, layout_words, list_lines, record_line, record_words, room_words, shown, shown_byte, sizes_line, volume_line};
 
 use crate::lines::{put_number, put_word, refusal_line};
 use crate::outcome::{DONE, FAILED, Outcome, ToolError};
@@ -211,15 +211,16 @@ fn list_lines<S: BlockSource>(
 /// # Errors
 ///
 /// Read where a read failed. Memory where memory ran out.
-fn list<S: BlockSource>(
+pub fn run_list_from<S: BlockSource>(
     alloc: Global,
     geometry: &Geometry,
     source: &mut S,
 ) -> Result<Outcome, ToolError>
     ensures known { S.known source.new ≡ after_run (S.known source.old) result }
     ensures narrows { Narrows (S.agrees source.old) (S.agrees source.new) }
-    ensures ok { IfOk result (λ o. WhereHeld (S.agrees source.new) (λ bytes. Lists (image_of geometry.now bytes) o)) }
-    ensures err { IfErr result IsListFault }
+    ensures listed { IfOk result (ListsOf geometry.now (S.known source.old) (S.agrees source.new)) }
+    ensures lists { IfOk result (λ o. WhereHeld (S.agrees source.new) (λ bytes. Lists (image_of geometry.now bytes) o)) }
+    ensures failed { IfErr result IsListFault }
 {
     match attach_places(alloc, geometry, source) {
         Ok(places) => {
@@ -244,7 +245,7 @@ fn list<S: BlockSource>(
 pub fn run_list(alloc: Global, geometry: &Geometry, image: &[u8]) -> Result<Outcome, AllocError>
     ensures { IfOk result (Lists (image_of geometry.now image.now)) }
 {
-    match list(alloc, geometry, &mut MemorySource::new(image)) {
+    match run_list_from(alloc, geometry, &mut MemorySource::new(image)) {
         Ok(outcome) => Ok(outcome),
         Err(ToolError::Memory) => Err(AllocError),
         // Reading memory doesn't fail.

@@ -6,7 +6,7 @@ ghost use Rattle.ubi_tool.specs.Change.{ChangesInto};
 ghost use Rattle.ubi_tool.specs.Check.{Checks, ChecksOf};
 ghost use Rattle.ubi_tool.specs.Compose.{ComposesInto};
 ghost use Rattle.ubi_tool.specs.inner.Ended.{Works};
-ghost use Rattle.ubi_tool.specs.List.{Lists};
+ghost use Rattle.ubi_tool.specs.List.{Lists, ListsOf};
 ghost use Rattle.ubi_tool.specs.Program.{IsAnswer, IsAnswerTo, OfFile, OfImage, OfText};
 ghost use Rattle.ubi_tool.specs.Rename.{RenamesInto};
 ghost use Rattle.ubi_tool.specs.Same.{Compares};
@@ -18,7 +18,7 @@ use crate::command_line::{Change, Rename, Request, command_line, request_of};
 use crate::compose::run_compose;
 use crate::image_file::{limit_line, load, unread_line};
 use crate::image_source::source_at;
-use crate::list::run_list;
+use crate::list::{run_list, run_list_from};
 use crate::numbers::{Numbers, geometry_of};
 use crate::outcome::{Outcome, ToolError, WRONG_WORDS};
 use crate::output_file::write_outcome;
@@ -119,15 +119,42 @@ where
     }
 }
 
-/// Lists the volumes of a file.
+/// Lists the volumes of a source, or answers the line of the file that fails.
+fn list_source<S: BlockSource>(
+    alloc: Global,
+    geometry: &Geometry,
+    source: &mut S,
+    image: &str,
+) -> Result<Outcome, AllocError>
+    ensures { IfOk result (Works (S.known source.old) (S.known source.new) image.now (ListsOf geometry.now (S.known source.old) (S.agrees source.new))) }
+{
+    match run_list_from(alloc, geometry, source) {
+        Ok(outcome) => Ok(outcome),
+        Err(ToolError::Read) => unread_line(alloc, image),
+        Err(ToolError::Memory) => Err(AllocError),
+        // Nothing is written.
+        Err(ToolError::Write) => unreachable!(),
+    }
+}
+
+/// Lists the volumes of a file, which is read at places where it can be.
 fn list_file<R: Files>(
     rt: &R,
     alloc: Global,
     numbers: Numbers,
     image: &str,
 ) -> Result<Outcome, AllocError>
-    ensures { IfOk result (OfImage numbers image.now Lists) }
+where
+    R::File: FileExt,
+    ensures { IfOk result (OfFile numbers image.now Lists ListsOf) }
 {
+    let geometry = match geometry_of(numbers) {
+        Ok(geometry) => geometry,
+        Err(limit) => return limit_line(alloc, limit),
+    };
+    if let Some(mut source) = source_at(rt, image) {
+        return list_source(alloc, &geometry, &mut source, image);
+    }
     let file = match load(rt, alloc, numbers, image) {
         Ok(file) => file,
         Err(unread) => return unread.answer(),
