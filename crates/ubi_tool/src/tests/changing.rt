@@ -7,6 +7,7 @@ use super::pebs::{
     WRONG_9, bytes_of,
 };
 use crate::check::{run_check, run_check_from};
+use crate::list::{run_list, run_list_from};
 use crate::outcome::Outcome;
 use std::alloc::Global;
 use std::test::Fail;
@@ -124,31 +125,36 @@ fn normalises_a_source_that_changes(rt: HostRuntime) -> Result<(), Fail> {
     Ok(())
 }
 
-/// Whether the counts of eraseblocks were told, or the line of a refusal, and nothing is to be written.
-fn is_told(answer: &Outcome) -> bool {
+/// Whether lines were told or a refusal, and nothing is to be written; and, where it has to be, what was wanted.
+fn is_told(answer: &Outcome, want: &Outcome, has_to: bool) -> bool {
     let is_refused = answer.text.as_slice().starts_with(b"refused ");
-    answer.file.is_none() && is_refused == (answer.status == 1)
+    let is_wanted = answer.text == want.text && answer.status == want.status;
+    answer.file.is_none() && is_refused == (answer.status == 1) && (!has_to || is_wanted)
 }
 
-/// A source that changes has an answer too, and one that doesn't is answered as its bytes are.
-#[test]
-fn checks_a_source_that_changes(rt: HostRuntime) -> Result<(), Fail> {
-    let alloc = rt.alloc();
+/// Whether `check` and `list` have an answer for a source that changes after so many reads, and the right one if it doesn't.
+fn is_answered(alloc: Global, first: &[u8], then: &[u8], left: u64) -> Result<bool, Fail> {
     let geometry = small()?;
+    let mut source = Changing { first, then, left };
+    let checked = run_check_from(alloc, &geometry, &mut source)?;
+    let mut source = Changing { first, then, left };
+    let listed = run_list_from(alloc, &geometry, &mut source)?;
+    let is_same = left == 49;
+    Ok(
+        is_told(&checked, &run_check(alloc, &geometry, first)?, is_same)
+            && is_told(&listed, &run_list(alloc, &geometry, first)?, is_same),
+    )
+}
+
+#[test]
+fn answers_of_a_source_that_changes(rt: HostRuntime) -> Result<(), Fail> {
+    let alloc = rt.alloc();
     for (index, (first, then)) in CHANGES.iter().enumerate() {
-        let first = bytes_of(alloc, &geometry, first)?;
-        let then = bytes_of(alloc, &geometry, then)?;
-        let want = run_check(alloc, &geometry, first.as_slice())?;
+        let first = bytes_of(alloc, &small()?, first)?;
+        let then = bytes_of(alloc, &small()?, then)?;
         for left in 0..50 {
-            let mut source = Changing {
-                first: first.as_slice(),
-                then: then.as_slice(),
-                left,
-            };
-            let answer = run_check_from(alloc, &geometry, &mut source)?;
-            let is_same = answer.text == want.text && answer.status == want.status;
-            assert!(rt; is_told(&answer), "case {index}, after {left} reads");
-            assert!(rt; left < 49 || is_same, "case {index}");
+            let is_right = is_answered(alloc, first.as_slice(), then.as_slice(), left)?;
+            assert!(rt; is_right, "case {index}, after {left} reads");
         }
     }
     Ok(())

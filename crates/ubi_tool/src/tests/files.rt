@@ -137,7 +137,7 @@ fn reads_no_more_than_one_byte_above_the_device(rt: HostRuntime) -> Result<(), F
         &rt,
         alloc,
         (long.as_slice(), broken),
-        "list a.img",
+        "show a.img --block 0",
         many,
         &[],
     )
@@ -151,8 +151,14 @@ const BLANK: (&str, u8) = (
     0,
 );
 
-/// What it answers of a file that can't be read.
+/// What both answer of a file that can't be read.
 const UNREAD: (&str, u8) = ("cannot read a.img\n", 1);
+
+/// What `list` answers of them: there is no volume.
+const EMPTY: (&str, u8) = (
+    "geometry peb=512 page=64 vid=64 data=128 leb=384 slots=2 pebs=32\nvolumes 0\n",
+    0,
+);
 
 /// How a file fails while its eraseblocks are counted, and what is answered. It is read at places, or whole where it can't
 /// be; and one that was cut short since it was opened fails where its bytes are missing.
@@ -170,4 +176,18 @@ static CHECKED: [(Broken, (&str, u8), usize); 8] = [
 #[test]
 fn checks_files_that_fail(rt: HostRuntime) -> Result<(), Fail> {
     assert_each(&rt, rt.alloc(), &[0xFF; 1536], "check a.img", &CHECKED, &[])
+}
+
+/// How a file fails while its volumes are listed, of which it has none.
+static LISTED: [(Broken, (&str, u8), usize); 5] = [
+    (Broken::Nothing, EMPTY, 0),
+    (Broken::Places, EMPTY, 0),
+    (Broken::OpenRead, UNREAD, 0),
+    (Broken::Read(ErrorKind::Other, 640), UNREAD, 0),
+    (Broken::Cut, UNREAD, 0),
+];
+
+#[test]
+fn lists_files_that_fail(rt: HostRuntime) -> Result<(), Fail> {
+    assert_each(&rt, rt.alloc(), &[0xFF; 1536], "list a.img", &LISTED, &[])
 }
