@@ -1,6 +1,9 @@
 mod carriers;
+mod cuts;
 mod images;
 mod mapped;
+mod memory;
+mod pages;
 mod refusals;
 mod rename;
 mod states;

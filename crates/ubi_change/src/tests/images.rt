@@ -48,6 +48,9 @@ pub const SHARED: Sizes = Sizes(1024, 256, 64, 256);
 /// The same with the volume-identifier header inside the second page.
 pub const INSIDE: Sizes = Sizes(1024, 256, 320, 512);
 
+/// Eraseblocks of 1,024 bytes in 2 pages, with both headers in the first: a table takes one page.
+pub const ONE_PAGE: Sizes = Sizes(1024, 512, 64, 512);
+
 /// Eraseblocks of 9 pages of 64 bytes.
 pub const ODD: Sizes = Sizes(576, 64, 64, 128);
 
@@ -156,6 +159,8 @@ pub enum Ec {
 pub enum Data {
     /// A table: a record in slot 0, and none in the others.
     Table(Slot),
+    /// A table of two slots: a record in each.
+    Two(Slot, Slot),
     /// A byte, so many times, and 0xFF behind.
     Filled(u8, usize),
 }
@@ -219,7 +224,7 @@ pub const TABLE_0: VidHeader = VidHeader {
 };
 
 /// The header of the second.
-const TABLE_1: VidHeader = VidHeader { lnum: 1, ..TABLE_0 };
+pub const TABLE_1: VidHeader = VidHeader { lnum: 1, ..TABLE_0 };
 
 /// The header of one of two logical eraseblocks of a static volume.
 const STATIC_0: VidHeader = VidHeader {
@@ -342,6 +347,12 @@ impl Data {
                 for _ in 1..geometry.slots() {
                     bytes.extend_from_slice(empty.as_slice())?;
                 }
+            }
+            Data::Two(first, second) => {
+                let first = first.bytes(alloc)?;
+                bytes.extend_from_slice(first.as_slice())?;
+                let second = second.bytes(alloc)?;
+                bytes.extend_from_slice(second.as_slice())?;
             }
             Data::Filled(byte, count) => bytes.resize(*count, *byte)?,
         }
@@ -588,7 +599,7 @@ pub fn assert_plan(
 }
 
 /// Asserts that a change is planned, whose cuts read what was read before and, from one on, the new bytes.
-fn assert_turns(
+pub fn assert_turns(
     rt: &impl Abort,
     alloc: Global,
     geometry: &Geometry,

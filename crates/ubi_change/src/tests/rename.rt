@@ -1,18 +1,19 @@
 //! Renames of a volume.
 
 use super::images::{
-    A, B, C, Data, ERASED, Ec, FIRST, FREE, LARGE, LARGE_SHARED, LEB_2, NEW, NEW_SECOND, ODD, Peb,
-    ROOT, SECOND, SHARED, SMALL, Sizes, Slot, TABLE_0, ZERO, attached, image_of,
+    A, B, C, Data, ERASED, Ec, FIRST, FREE, INSIDE, LARGE, LARGE_SHARED, LEB_2, NEW, NEW_FIRST,
+    NEW_SECOND, ODD, ONE_PAGE, Peb, ROOT, SECOND, SHARED, SMALL, Sizes, Slot, TABLE_0, TABLE_1,
+    ZERO, attached, image_of,
 };
 use crate::{RenameRefusal, Step, apply, plan_rename, step_fits};
 use std::alloc::{AllocError, Global};
 use std::process::Abort;
 use std::test::Fail;
-use ubi_media::{EcHeader, Geometry, VidHeader};
+use ubi_media::{EcHeader, Geometry, Refusal, VidHeader, VolumeRecord};
 use ubi_volume::Attached;
 
 /// What a rename is answered. It has no contract, so that a proof of a caller is spared that of `plan_rename`.
-fn planned(
+pub fn planned(
     alloc: Global,
     geometry: &Geometry,
     image: &[u8],
@@ -32,11 +33,14 @@ struct Copied {
     given_up: Option<u32>,
 }
 
-/// A rename of volume 0 from `root` to `data`: both copies, and how many steps come before the new name.
+/// A rename of a volume from a name to another: both copies, and how many steps come before the new name.
 #[derive(Clone, Copy)]
 struct Case {
     sizes: Sizes,
     pebs: &'static [Peb],
+    id: u32,
+    from: &'static [u8],
+    to: &'static [u8],
     copies: [Copied; 2],
     turn: usize,
 }
@@ -77,11 +81,14 @@ const SECOND_COPY: Copied = Copied {
 };
 
 /// Three logical eraseblocks, and two free eraseblocks.
-const PEBS: [Peb; 7] = [FIRST, SECOND, A, B, C, FREE, FREE];
+pub const PEBS: [Peb; 7] = [FIRST, SECOND, A, B, C, FREE, FREE];
 
 const BASE: Case = Case {
     sizes: SMALL,
     pebs: &PEBS,
+    id: 0,
+    from: b"root",
+    to: b"data",
     copies: [FIRST_COPY, SECOND_COPY],
     turn: 7,
 };
@@ -108,11 +115,71 @@ const CARRIER_FIRST: Peb = Peb(
     Data::Table(ROOT),
 );
 
+/// Copy 1 in such eraseblocks.
+const WORN_SECOND: Peb = Peb(
+    Ec::Is(EcHeader {
+        counter: 0x7FFF_FFFF,
+        ..ZERO
+    }),
+    Some(TABLE_1),
+    Data::Table(ROOT),
+);
+
+const CARRIER_SECOND: Peb = Peb(
+    Ec::Is(EcHeader {
+        image_seq: 8,
+        ..NEW
+    }),
+    Some(TABLE_1),
+    Data::Table(ROOT),
+);
+
+/// The record of another volume, of one reserved eraseblock.
+const DATA: Slot = Slot {
+    reserved: 1,
+    name: *b"data",
+    check: 0x7C57_61B3,
+    ..ROOT
+};
+
+/// The two copies of a table with both.
+const FIRST_TWO: Peb = Peb(Ec::Is(ZERO), Some(TABLE_0), Data::Two(ROOT, DATA));
+
+const SECOND_TWO: Peb = Peb(Ec::Is(ZERO), Some(TABLE_1), Data::Two(ROOT, DATA));
+
+/// Logical eraseblock 2 with the last sequence number but two.
+const NEXT_TO_LATE: Peb = Peb(
+    Ec::Is(ZERO),
+    Some(VidHeader {
+        sqnum: 0xFFFF_FFFF_FFFF_FFFD,
+        ..LEB_2
+    }),
+    Data::Filled(0x43, 384),
+);
+
 /// A free eraseblock that names no image.
 const NEW_FREE: Peb = Peb(Ec::Is(NEW), None, Data::Filled(0xFF, 0));
 
-static CASES: [Case; 7] = [
+static CASES: [Case; 14] = [
     BASE,
+    // The second of two volumes.
+    Case {
+        pebs: &[FIRST_TWO, SECOND_TWO, A, B, C, FREE, FREE],
+        id: 1,
+        from: b"data",
+        to: b"boot",
+        ..BASE
+    },
+    // The name that it has.
+    Case {
+        to: b"root",
+        ..BASE
+    },
+    // The last two sequence numbers.
+    Case {
+        pebs: &[FIRST, SECOND, A, B, NEXT_TO_LATE, FREE, FREE],
+        ..BASE
+    },
     // No power of two.
     Case { sizes: ODD, ..BASE },
     // Both headers in page 0, and a table of 688 bytes in pages of 256.
@@ -130,6 +197,39 @@ static CASES: [Case; 7] = [
             },
         ],
         turn: 4,
+        ..BASE
+    },
+    // A table of 344 bytes in one page of 512.
+    Case {
+        sizes: ONE_PAGE,
+        copies: [
+            Copied {
+                pages: (0, 1),
+                ..FIRST_COPY
+            },
+            Copied {
+                pages: (0, 1),
+                ..SECOND_COPY
+            },
+        ],
+        turn: 2,
+        ..BASE
+    },
+    // The volume-identifier header inside page 1, and the table in two pages of 256.
+    Case {
+        sizes: INSIDE,
+        copies: [
+            Copied {
+                pages: (1, 3),
+                ..FIRST_COPY
+            },
+            Copied {
+                pages: (1, 3),
+                ..SECOND_COPY
+            },
+        ],
+        turn: 3,
+        ..BASE
     },
     // A table of 22,016 bytes.
     Case {
@@ -164,6 +264,7 @@ static CASES: [Case; 7] = [
             },
         ],
         turn: 12,
+        ..BASE
     },
     // What holds copy 0 stays.
     Case {
@@ -174,6 +275,37 @@ static CASES: [Case; 7] = [
                 ..FIRST_COPY
             },
             SECOND_COPY,
+        ],
+        ..BASE
+    },
+    // What holds either copy stays.
+    Case {
+        pebs: &[WORN_FIRST, WORN_SECOND, A, B, C, FREE, FREE],
+        copies: [
+            Copied {
+                given_up: None,
+                ..FIRST_COPY
+            },
+            Copied {
+                given_up: None,
+                ..SECOND_COPY
+            },
+        ],
+        ..BASE
+    },
+    // The only eraseblock that names the image holds copy 1, and copy 0.
+    Case {
+        pebs: &[NEW_FIRST, CARRIER_SECOND, NEW_FREE, NEW_FREE],
+        copies: [
+            Copied {
+                target: 2,
+                ..FIRST_COPY
+            },
+            Copied {
+                target: 3,
+                given_up: None,
+                ..SECOND_COPY
+            },
         ],
         ..BASE
     },
@@ -194,13 +326,36 @@ static CASES: [Case; 7] = [
     },
 ];
 
-/// Asserts that volume 0 has a name, and that it and the image are else as before.
-fn assert_means(rt: &impl Abort, here: &Attached, old: &Attached, name: &[u8]) -> Result<(), Fail> {
+/// Asserts that a volume has a name, and that it and the image are else as before.
+fn assert_means(
+    rt: &impl Abort,
+    here: &Attached,
+    old: &Attached,
+    id: u32,
+    name: &[u8],
+) -> Result<(), Fail> {
     let (here, old) = (here.meaning(), old.meaning());
     assert_eq!(*rt; here.image_seq(), old.image_seq());
-    let volume = here.get(0).ok_or("no volume")?;
-    assert_eq!(*rt; volume.entry.name.as_bytes(), name);
-    assert!(*rt; volume.content == old.get(0).ok_or("no volume")?.content);
+    for slot in 0..2 {
+        match (here.get(slot), old.get(slot)) {
+            (None, None) => assert!(*rt; slot != id),
+            (Some(volume), Some(was)) => {
+                let named = if slot == id {
+                    name
+                } else {
+                    was.entry.name.as_bytes()
+                };
+                assert_eq!(*rt; volume.entry.name.as_bytes(), named);
+                let entry = VolumeRecord {
+                    name: was.entry.name,
+                    ..volume.entry
+                };
+                assert!(*rt; entry == was.entry);
+                assert!(*rt; volume.content == was.content);
+            }
+            _ => return Err("a volume more or less".into()),
+        }
+    }
     Ok(())
 }
 
@@ -217,7 +372,7 @@ fn assert_renames(rt: &impl Abort, alloc: Global, case: &Case) -> Result<(), Fai
     let geometry = case.sizes.geometry()?;
     let mut image = image_of(alloc, &geometry, case.pebs)?;
     let old = attached(alloc, &geometry, image.as_slice())?;
-    let steps = match planned(alloc, &geometry, image.as_slice(), 0, b"data") {
+    let steps = match planned(alloc, &geometry, image.as_slice(), case.id, case.to) {
         Ok(steps) => steps,
         Err(_) => return Err("no plan".into()),
     };
@@ -227,15 +382,15 @@ fn assert_renames(rt: &impl Abort, alloc: Global, case: &Case) -> Result<(), Fai
     }
     assert_eq!(*rt; steps.len(), places.len());
     for (done, (step, place)) in steps.as_slice().iter().zip(places.as_slice()).enumerate() {
-        let name: &[u8] = if done < case.turn { b"root" } else { b"data" };
+        let name = if done < case.turn { case.from } else { case.to };
         let here = attached(alloc, &geometry, image.as_slice())?;
-        assert_means(rt, &here, &old, name)?;
+        assert_means(rt, &here, &old, case.id, name)?;
         assert_eq!(*rt; place_of(step), *place);
         assert!(*rt; step_fits(&geometry, image.as_slice(), step));
         apply(&geometry, image.as_mut_slice(), step);
     }
     let end = attached(alloc, &geometry, image.as_slice())?;
-    assert_means(rt, &end, &old, b"data")
+    assert_means(rt, &end, &old, case.id, case.to)
 }
 
 #[test]
@@ -256,23 +411,131 @@ const LATE: Peb = Peb(
     Data::Filled(0x43, 384),
 );
 
-/// Why a rename of a volume to a name isn't planned.
-static REFUSED: [(&[Peb], u32, &[u8], RenameRefusal); 6] = [
+/// The same with the last one.
+const LAST: Peb = Peb(
+    Ec::Is(ZERO),
+    Some(VidHeader {
+        sqnum: 0xFFFF_FFFF_FFFF_FFFF,
+        ..LEB_2
+    }),
+    Data::Filled(0x43, 384),
+);
+
+/// A record whose check was chosen: 20 zero bytes, this check and 40 bytes 0xFF have the check of 64 bytes 0xFF, whatever
+/// comes before. So the last of the six pages of a table with it in slot 1 can't be told from a blank one.
+const WEAK: Slot = Slot {
+    reserved: 1,
+    name: [0xE0, 0xE0, 0x2F, 0xB4],
+    check: 0xC216_DDDC,
+    ..ROOT
+};
+
+/// The two copies of the table with it.
+const FIRST_WEAK: Peb = Peb(Ec::Is(ZERO), Some(TABLE_0), Data::Two(ROOT, WEAK));
+
+const SECOND_WEAK: Peb = Peb(Ec::Is(ZERO), Some(TABLE_1), Data::Two(ROOT, WEAK));
+
+/// Copy 1 with a record whose check is wrong, and with one at fault.
+const SECOND_CORRUPT: Peb = Peb(
+    Ec::Is(ZERO),
+    Some(TABLE_1),
+    Data::Table(Slot { check: 0, ..ROOT }),
+);
+
+const SECOND_TWICE: Peb = Peb(Ec::Is(ZERO), Some(TABLE_1), Data::Two(ROOT, ROOT));
+
+const FIRST_TWICE: Peb = Peb(Ec::Is(ZERO), Some(TABLE_0), Data::Two(ROOT, ROOT));
+
+/// Free eraseblocks that can't be taken: one that can't count another erase, and the only one that names the image.
+const WORN_FREE: Peb = Peb(
+    Ec::Is(EcHeader {
+        counter: 0x7FFF_FFFF,
+        ..ZERO
+    }),
+    None,
+    Data::Filled(0xFF, 0),
+);
+
+const CARRIER_FREE: Peb = Peb(
+    Ec::Is(EcHeader {
+        image_seq: 8,
+        ..NEW
+    }),
+    None,
+    Data::Filled(0xFF, 0),
+);
+
+/// Why a rename of a volume to a name isn't planned. Of each two causes in their order both stand in some image.
+static REFUSED: [(&[Peb], u32, &[u8], RenameRefusal); 20] = [
+    (
+        &[FIRST_TWICE, SECOND],
+        2,
+        b"",
+        RenameRefusal::Attach(Refusal::SameName(0, 0, 1)),
+    ),
     (&PEBS, 1, b"", RenameRefusal::NoVolume),
+    (&PEBS, u32::MAX, b"data", RenameRefusal::NoVolume),
     (&PEBS, 0, b"", RenameRefusal::BadName),
     (&PEBS, 0, &[0x61; 128], RenameRefusal::BadName),
     (&PEBS, 0, b"a\0", RenameRefusal::BadName),
+    (&[FIRST, SECOND_TWO], 0, b"", RenameRefusal::BadName),
+    (&[FIRST_TWO, SECOND], 0, b"data", RenameRefusal::SameName(1)),
+    (&[FIRST_TWO, SECOND], 1, b"root", RenameRefusal::SameName(0)),
+    (&[FIRST_TWO, SECOND], 1, b"boot", RenameRefusal::NeedsRepair),
     (
-        &[FIRST, SECOND, A, B, C, FREE],
+        &[FIRST_WEAK, SECOND, LAST],
+        0,
+        b"data",
+        RenameRefusal::NeedsRepair,
+    ),
+    (&[FIRST, FREE, FREE], 0, b"root", RenameRefusal::NeedsRepair),
+    (
+        &[SECOND, FREE, FREE],
+        0,
+        b"root",
+        RenameRefusal::NeedsRepair,
+    ),
+    (
+        &[FIRST, SECOND_CORRUPT, FREE, FREE],
+        0,
+        b"data",
+        RenameRefusal::NeedsRepair,
+    ),
+    (
+        &[FIRST, SECOND_TWICE, FREE, FREE],
+        0,
+        b"data",
+        RenameRefusal::NeedsRepair,
+    ),
+    (
+        &[FIRST_WEAK, SECOND_WEAK, LAST],
+        0,
+        b"data",
+        RenameRefusal::WeakCheck(5),
+    ),
+    (
+        &[FIRST, SECOND, A, B, LATE],
+        0,
+        b"data",
+        RenameRefusal::Exhausted,
+    ),
+    (
+        &[FIRST, SECOND, A, B, LAST, FREE, FREE],
+        0,
+        b"data",
+        RenameRefusal::Exhausted,
+    ),
+    (
+        &[FIRST, SECOND, A, B, C, WORN_FREE, FREE],
         0,
         b"data",
         RenameRefusal::NoFree,
     ),
     (
-        &[FIRST, SECOND, A, B, LATE, FREE, FREE],
+        &[NEW_FIRST, NEW_SECOND, CARRIER_FREE, NEW_FREE],
         0,
         b"data",
-        RenameRefusal::Exhausted,
+        RenameRefusal::NoFree,
     ),
 ];
 
@@ -280,28 +543,20 @@ static REFUSED: [(&[Peb], u32, &[u8], RenameRefusal); 6] = [
 fn refuses_renames(rt: HostRuntime) -> Result<(), Fail> {
     let alloc = rt.alloc();
     let geometry = SMALL.geometry()?;
-    for (pebs, id, name, cause) in &REFUSED {
+    for (index, (pebs, id, name, cause)) in REFUSED.iter().enumerate() {
         let image = image_of(alloc, &geometry, pebs)?;
         let answer = planned(alloc, &geometry, image.as_slice(), *id, name);
-        assert!(rt; answer.err() == Some(*cause));
+        assert!(rt; answer.err() == Some(*cause), "case {index}");
     }
     Ok(())
 }
 
 /// Writes bytes over those from a place on.
-fn overwrite(image: &mut [u8], at: usize, bytes: &[u8]) {
+pub fn overwrite(image: &mut [u8], at: usize, bytes: &[u8]) {
     for (old, new) in image.iter_mut().skip(at).zip(bytes) {
         *old = *new;
     }
 }
-
-/// The record of another volume, of one reserved eraseblock.
-const DATA: Slot = Slot {
-    reserved: 1,
-    name: *b"data",
-    check: 0x7C57_61B3,
-    ..ROOT
-};
 
 #[test]
 fn refuses_by_the_copies_of_the_table(rt: HostRuntime) -> Result<(), Fail> {
