@@ -33,11 +33,11 @@ const BOOT: Record = Record {
 };
 
 /// A volume, its new name, and the two records then.
-static RENAMED: [(u32, &[u8], [Record; 2]); 5] = [
+static RENAMED: [(u32, &[u8], &[Record]); 5] = [
     (
         0,
         b"data",
-        [
+        &[
             Record {
                 name: b"data",
                 check: 0xA2E7_CA03,
@@ -49,7 +49,7 @@ static RENAMED: [(u32, &[u8], [Record; 2]); 5] = [
     (
         1,
         b"data",
-        [
+        &[
             ROOT,
             Record {
                 name: b"data",
@@ -61,7 +61,7 @@ static RENAMED: [(u32, &[u8], [Record; 2]); 5] = [
     (
         1,
         b"x",
-        [
+        &[
             ROOT,
             Record {
                 front: [0, 0, 0, 3, 0, 0, 0, 1, 0, 0, 0, 0, 2, 1, 0, 1],
@@ -74,7 +74,7 @@ static RENAMED: [(u32, &[u8], [Record; 2]); 5] = [
     (
         1,
         &[0x6E; 127],
-        [
+        &[
             ROOT,
             Record {
                 front: [0, 0, 0, 3, 0, 0, 0, 1, 0, 0, 0, 0, 2, 1, 0, 127],
@@ -84,11 +84,11 @@ static RENAMED: [(u32, &[u8], [Record; 2]); 5] = [
             },
         ],
     ),
-    (1, b"boot", [ROOT, BOOT]),
+    (1, b"boot", &[ROOT, BOOT]),
 ];
 
 /// The bytes of two records.
-fn table_of(alloc: Global, records: &[Record; 2]) -> Result<Vec<u8>, AllocError> {
+fn table_of(alloc: Global, records: &[Record]) -> Result<Vec<u8>, AllocError> {
     let mut bytes = Vec::new(alloc);
     for record in records {
         let mut one = Vec::new(alloc);
