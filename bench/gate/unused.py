@@ -13,7 +13,7 @@ import re
 import sys
 
 ROOT = pathlib.Path(__file__).resolve().parents[2]
-ANSWERS = {"Answers.antt", "Invariants.antt", "Measures.antt"}
+ANSWERS = {"Answers.antt", "Invariants.antt", "Measures.antt", "Proof.antt"}
 ON_LITERALS = {"zeros_and_their_check"}
 WORD = re.compile(r"[^\s(){}\[\],;.:`\"]+")
 COMMENT = re.compile(r"(^|\s)--(\s.*)?$")

@@ -53,17 +53,6 @@ holds bytes = λ held. held ≡ bytes
 pub memory_sized : (bytes : List ℕ) → IsSource (sound (length bytes)) (holds bytes)
 memory_sized bytes = record { sized = λ held is. ap length is }
 
--- a source that may hold anything
-abbrev pub anything : Agreed
-anything = λ held. Unit {0}
-
--- a source of whose bytes nothing is claimed
-abbrev pub unheld : Agreed
-unheld = λ held. ⊥
-
-pub unheld_sized : (k : Source) → IsSource k unheld
-unheld_sized k = record { sized = λ held is. absurd is }
-
 -- bytes agree with reads, each of which answered some bytes at a place
 abbrev pub AgreesWith : List (ℕ × List ℕ) → List ℕ → Type 0
 AgreesWith [] bytes = Unit {0}

@@ -12,3 +12,8 @@ after_fault k _ = k
 abbrev pub after_run : {A : Type 0} → Source → Result A ToolError → Source
 after_run k (Ok _) = k
 after_run k (Err e) = after_fault k e
+
+-- why a command over a source that writes nothing has no answer: a read failed, or memory ran out
+abbrev pub IsListFault : ToolError → Type 0
+IsListFault tool.Write = ⊥
+IsListFault _ = Unit {0}

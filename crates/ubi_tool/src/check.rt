@@ -4,8 +4,7 @@ ghost use Rattle.std.specs.Prelude.{◌≡◌, ◌++◌, IfErr, IfOk, OnOk, code
 ghost use Rattle.std.specs.List.{flat_map};
 ghost use Rattle.ubi_scan.specs.Image.{image_of};
 ghost use Rattle.ubi_scan.specs.Source.{Narrows};
-ghost use Rattle.ubi_tool.specs.AfterRun.{after_run};
-ghost use Rattle.ubi_tool.specs.inner.Ended.{IsListFault};
+ghost use Rattle.ubi_tool.specs.AfterRun.{IsListFault, after_run};
 ghost use Rattle.ubi_tool.specs.Check.{Checks, ChecksOf, check_lines, number_line, printed_states, same_state, state_line, state_word};
 
 use crate::lines::{put_number, put_word, refusal_line};

@@ -8,8 +8,7 @@ ghost use Rattle.ubi_media.specs.Record.{rec_fault};
 ghost use Rattle.ubi_scan.specs.Image.{image_of};
 ghost use Rattle.ubi_scan.specs.Source.{Narrows, WhereHeld};
 ghost use Rattle.ubi_volume.specs.Places.{ArePlaces, ArePlacesOf};
-ghost use Rattle.ubi_tool.specs.AfterRun.{after_run};
-ghost use Rattle.ubi_tool.specs.inner.Ended.{IsListFault};
+ghost use Rattle.ubi_tool.specs.AfterRun.{IsListFault, after_run};
 ghost use Rattle.ubi_tool.specs.List.{Lists, ListsOf, amount_word, kind_word, layout_words, list_lines, record_line, record_words, room_words, shown, shown_byte, sizes_line, volume_line};
 
 use crate::lines::{put_number, put_word, refusal_line};

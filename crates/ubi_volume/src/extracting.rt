@@ -5,7 +5,8 @@ ghost use Rattle.std.specs.Prelude.{◌≡◌, ℕ, ◌+◌, ◌<◌, ◌≤◌,
 ghost use Rattle.ubi_media.specs.Geometry.{Sizes, leb_size};
 ghost use Rattle.ubi_media.specs.Record.{rec_fault};
 ghost use Rattle.ubi_scan.specs.Image.{Image};
-ghost use Rattle.ubi_scan.specs.Source.{Narrows, Source, WhereHeld, anything, blocks_in};
+ghost use Rattle.ubi_scan.specs.Source.{Narrows, Source, WhereHeld, blocks_in};
+ghost use Rattle.ubi_scan.specs.inner.Held.{anything};
 ghost use Rattle.ubi_scan.specs.Stream.{after};
 ghost use Rattle.ubi_volume.specs.Extract.{case_len, places_len, read_text};
 ghost use Rattle.ubi_volume.specs.inner.Pieces.{leb_at, lebs_at};

@@ -56,8 +56,3 @@ NormalisesSource s k after agrees path out =
     Streams k after path out
     (NormalisesOf s k agrees)
     (WhereHeld agrees (λ bytes. (m : Meant) × Accepts (image_of s bytes) m))
-
--- why `list` answers nothing: a read failed, or memory ran out
-abbrev pub IsListFault : ToolError → Type 0
-IsListFault tool.Write = ⊥
-IsListFault _ = Unit {0}

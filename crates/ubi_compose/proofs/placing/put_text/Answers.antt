@@ -1,5 +1,6 @@
 use Rattle.std.proofs.Common.{◌+◌, length, take, drop, ap, ◌∙◌, refl, sym}
-use Rattle.ubi_scan.specs.Source.{anything, sound}
+use Rattle.ubi_scan.specs.Source.{sound}
+use Rattle.ubi_scan.specs.inner.Held.{anything}
 use Rattle.ubi_compose.specs.Normal.{laid_bytes, new_ec}
 use Rattle.ubi_volume.proofs.Received.{wrote_cut, wrote_text}
 use Rattle.ubi_compose.proofs.placing.put_text.Goals as goal

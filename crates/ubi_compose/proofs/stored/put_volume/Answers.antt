@@ -5,7 +5,7 @@ use Rattle.ubi_compose.specs.inner.Streaming.{laid_text, volume_text}
 use Rattle.ubi_compose.specs.Normal.{damaged_block}
 use Rattle.ubi_volume.specs.Wrote.{All, NotAll}
 use Rattle.ubi_compose.proofs.StoredVolume.{damaged_text, more_blocks, reserved_of, updating_text}
-use Rattle.ubi_scan.specs.Source.{anything}
+use Rattle.ubi_scan.specs.inner.Held.{anything}
 use Rattle.ubi_volume.proofs.Narrowed.{wrote_narrowed}
 use Rattle.ubi_volume.proofs.Received.{wrote_as, wrote_none}
 use Rattle.ubi_compose.proofs.stored.put_volume.Goals as goal

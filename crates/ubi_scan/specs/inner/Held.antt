@@ -1,0 +1,13 @@
+-- What a source may hold of which nothing is known, and one of which nothing is claimed.
+use Rattle.ubi_scan.specs.Source.{Agreed, IsSource, Source}
+
+-- a source that may hold anything
+abbrev pub anything : Agreed
+anything = λ held. Unit {0}
+
+-- a source of whose bytes nothing is claimed
+abbrev pub unheld : Agreed
+unheld = λ held. ⊥
+
+pub unheld_sized : (k : Source) → IsSource k unheld
+unheld_sized k = record { sized = λ held is. absurd is }
