@@ -21,6 +21,7 @@ mod pass;
 mod probe;
 mod reading;
 mod scanning;
+mod size;
 mod source;
 mod trace;
 
@@ -29,8 +30,9 @@ pub use errors::StreamError;
 pub use file::FileSource;
 pub use found::{Scan, ScanState};
 pub use probe::ProbeSource;
-pub use reading::{read_headers, read_leb, read_member};
+pub use reading::{read_headers, read_leb, read_member, read_part};
 pub use scanning::{scan, scan_from};
+pub use size::block_count;
 pub use source::{BlockSource, MemorySource, SourceFault};
 
 #[cfg(test)]

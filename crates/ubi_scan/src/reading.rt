@@ -17,7 +17,7 @@ use ubi_media::{EcRead, Geometry, VidHeader, VidRead, read_ec, read_vid};
 /// # Errors
 ///
 /// The read failed.
-fn read_part<S: BlockSource>(
+pub fn read_part<S: BlockSource>(
     source: &mut S,
     geometry: &Geometry,
     p: u32,

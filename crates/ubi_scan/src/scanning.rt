@@ -1,8 +1,8 @@
 //! The scan of an image, over a source of its bytes.
 
-ghost use Rattle.std.specs.Prelude.{◌≡◌, ◌<◌, ◌/◌, length, IfErr, IfOk, IfSome, MatchResult, false, unwrap_or};
+ghost use Rattle.std.specs.Prelude.{◌≡◌, ◌<◌, length, IfErr, IfOk, IfSome, false, unwrap_or};
 ghost use Rattle.std.specs.Option.{option_map_or};
-ghost use Rattle.ubi_scan.specs.Image.{IsLengthFault, IsWholeSize, block, in_image};
+ghost use Rattle.ubi_scan.specs.Image.{IsWholeSize, block, in_image};
 ghost use Rattle.ubi_scan.specs.inner.Choice.{held_of};
 ghost use Rattle.ubi_scan.specs.inner.Pass.{IsMeeting};
 ghost use Rattle.ubi_scan.specs.Members.{good_at, is_good, is_right, member_if};
@@ -17,28 +17,10 @@ use crate::found::Scan;
 use crate::header::member_of;
 use crate::pass::Pass;
 use crate::reading::{read_headers, read_leb};
+use crate::size::block_count;
 use crate::source::{BlockSource, MemorySource};
 use std::alloc::Global;
-use ubi_media::{AttachError, EcRead, Geometry, Refusal, VidHeader, VidRead, crc};
-
-/// How many eraseblocks `len` bytes are.
-///
-/// # Errors
-///
-/// `TooMany` where they are more than the device has, and else `Length` where there are none or they aren't whole
-/// eraseblocks.
-fn block_count(geometry: &Geometry, len: u64) -> Result<u32, Refusal>
-    ensures { MatchResult result (λ n. (n ≡ len / geometry.now.peb_size) × IsWholeSize geometry.now len) (IsLengthFault geometry.now len) }
-{
-    let size = u64::from(geometry.peb_size());
-    if len > u64::from(geometry.pebs()) * size {
-        return Err(Refusal::TooMany);
-    }
-    if len == 0 || len % size != 0 {
-        return Err(Refusal::Length);
-    }
-    Ok((len / size) as u32)
-}
+use ubi_media::{AttachError, EcRead, Geometry, VidHeader, VidRead, crc};
 
 /// Whether the data that a header speaks of are in the logical eraseblock. They are read into the buffer.
 fn is_right<S: BlockSource>(
