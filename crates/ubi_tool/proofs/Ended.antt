@@ -1,20 +1,21 @@
 -- How work ends that reads a source, and maybe writes a file meanwhile.
 use Rattle.std.proofs.Common.{◌≡◌, ℕ, List, ap, arith, length, refl, subst, sym, ◌∙◌}
-use Rattle.std.specs.Prelude.{Bool, IfOk, IsSome, None, Option, Some, is_some, true, MatchResult, Result, Ok, Err, codes}
+use Rattle.std.proofs.lemmas.Result.{IfOk-at_ok}
+use Rattle.std.specs.Prelude.{Bool, IfErr, IfOk, IsSome, None, Option, Some, is_some, true, MatchResult, Result, Ok, Err, codes}
 use Rattle.std.specs.declared.alloc.AllocError.{AllocError}
 use Rattle.ubi_media.specs.Geometry.{Sizes}
 use Rattle.ubi_media.specs.Limits.{first_broken}
-use Rattle.ubi_scan.specs.Image.{Image}
-use Rattle.ubi_scan.specs.Source.{Agreed, Source, known_by, sound}
-use Rattle.ubi_tool.specs.AfterRun.{after_run}
+use Rattle.ubi_scan.specs.Source.{Agreed, Narrows, Source, holds, known_by, sound}
+use Rattle.ubi_tool.specs.AfterRun.{IsNoWrite, after_left, after_right, after_run}
 use Rattle.ubi_tool.specs.Answer.{Gives, says}
-use Rattle.ubi_tool.specs.inner.Ended.{IsEnded, Streams, Works, answered, done, no_output, no_read, no_source, no_write, unopened, works}
+use Rattle.ubi_tool.specs.inner.Ended.{IsEnded, IsTold, IsToldOfSides, Works, answered, comparison, done, left_failed, no_read, no_source, no_write, outcome, read_failed, right_failed, unopened}
 use Rattle.ubi_tool.specs.Lines.{file_line}
 use Rattle.ubi_tool.specs.Numbers.{sizes_of}
-use Rattle.ubi_tool.specs.Program.{OfFileInto, cannot_write, of_file, places}
-use Rattle.ubi_tool.specs.Streams.{OfPlaces, cannot_read, told}
+use Rattle.ubi_tool.specs.Program.{IsRead, OfFile, cannot_read, no_file, places, whole}
 use Rattle.ubi_tool.specs.declared.numbers.Numbers.{Numbers}
 use Rattle.ubi_tool.specs.declared.outcome.Outcome.{Outcome}
+use Rattle.ubi_tool.specs.declared.outcome.SidesError.{SidesError}
+use Rattle.ubi_tool.specs.declared.outcome.SidesError.TheVariants as side
 use Rattle.ubi_tool.specs.declared.outcome.ToolError.{ToolError}
 use Rattle.ubi_tool.specs.declared.outcome.ToolError.TheVariants as tool
 
@@ -38,61 +39,141 @@ after_error answer there e unread unwritten (Ok o) is h =
     subst (λ (a : Result Outcome ToolError). IsEnded a there unread unwritten o) (sym is) (h there)
 after_error answer there e unread unwritten (Err x) is h = is ∙ ap Err h
 
-module _ (answer : Result Outcome ToolError) (there : Bool) (k after : Source) (path out : List ℕ)
-    (answers : Outcome → Type 0) (writes : Type 0) (unread unwritten : Outcome) where
+module _ (answer : Result Outcome ToolError) (there : Bool) (k after : Source) (path : List ℕ) (answers : Outcome → Type 0)
+    (unread unwritten : Outcome) where
   ends_in : (o : Outcome) → IsEnded answer there unread unwritten o → ((d : Outcome) → answer ≡ Ok d → answers d)
-      → ((d : Outcome) → answer ≡ Ok d → d.status ≡ 0 → writes) → (answer ≡ Err tool.Write → writes)
+      → ((d : Outcome) → answer ≡ Ok d → d.status ≡ 0 → answers unwritten) → (answer ≡ Err tool.Write → answers unwritten)
       → after ≡ after_run k answer
-      → Gives unread (says (file_line (codes "cannot read ") path) 1) → Gives unwritten (says (file_line (codes "cannot write ") out) 1)
-      → Streams k after path out answers writes o
-  ends_in o (done is opened) ok late failed known source output = works (answered (known ∙ ap (after_run k) is) (ok o is))
-  ends_in o (unopened d is zero closed) ok late failed known source output = no_output (late d is zero) output
-  ends_in o (no_read is) ok late failed known source output = works (no_source (known ∙ ap (after_run k) is) source)
-  ends_in o (no_write is) ok late failed known source output = no_output (failed is) output
+      → Gives unread (says (file_line (codes "cannot read ") path) 1) → Works k after path answers o
+  ends_in o (done is opened) ok late failed known source = answered (known ∙ ap (after_run k) is) (ok o is)
+  ends_in o (unopened d is zero closed) ok late failed known source =
+      answered (known ∙ ap (after_run k) is) (late d is zero)
+  ends_in o (no_read is) ok late failed known source = no_source (known ∙ ap (after_run k) is) source
+  ends_in o (no_write is) ok late failed known source = answered (known ∙ ap (after_run k) is) (failed is)
 
   -- the work's answer, and what was to be written where the file failed
   pub ends : (r : Result Outcome AllocError)
       → MatchResult r (IsEnded answer there unread unwritten) (λ _. answer ≡ Err tool.Memory)
-      → ((d : Outcome) → answer ≡ Ok d → answers d) → ((d : Outcome) → answer ≡ Ok d → d.status ≡ 0 → writes)
-      → (answer ≡ Err tool.Write → writes)
+      → ((d : Outcome) → answer ≡ Ok d → answers d) → ((d : Outcome) → answer ≡ Ok d → d.status ≡ 0 → answers unwritten)
+      → (answer ≡ Err tool.Write → answers unwritten)
       → after ≡ after_run k answer → Gives unread (says (file_line (codes "cannot read ") path) 1)
-      → Gives unwritten (says (file_line (codes "cannot write ") out) 1) → IfOk r (Streams k after path out answers writes)
-  ends (Ok o) h ok late failed known source output = ends_in o h ok late failed known source output
-  ends (Err e) h ok late failed known source output = tt
+      → IfOk r (Works k after path answers)
+  ends (Ok o) h ok late failed known source = ends_in o h ok late failed known source
+  ends (Err e) h ok late failed known source = tt
 
--- over a file that is known by its reads
-pub at_places : (size failures later more : ℕ) (reads : List (ℕ × List ℕ)) (path : List ℕ)
-    (answers : Outcome → Type 0) (streams : Source → Agreed → Outcome → Type 0) (o : Outcome)
-    → ((d : Outcome) → answers d → streams (record { size = size; failures = failures }) (known_by later reads) d)
-    → Works (record { size = size; failures = failures }) (record { size = later; failures = more }) path answers o
-    → OfPlaces path streams o
-at_places size failures later more reads path answers streams o f (answered is h) =
-    told size failures reads (subst (λ (n : ℕ). streams (record { size = size; failures = failures }) (known_by n reads) o)
-    (ap (λ (k : Source). k.size) is) (f o h))
-at_places size failures later more reads path answers streams o f (no_source is line) = cannot_read line
+-- work that writes nothing, once it is told
+module _ (work : Result Outcome ToolError) (k after : Source) (path : List ℕ) (answers : Outcome → Type 0) where
+  works_in : (o : Outcome) → IsTold work path o → after ≡ after_run k work → IfOk work answers → Works k after path answers o
+  works_in o (outcome is) known ok = answered (known ∙ ap (after_run k) is) (IfOk-at_ok answers is ok)
+  works_in o (read_failed is line) known ok = no_source (known ∙ ap (after_run k) is) line
 
--- and into another file
-pub into_places : (numbers : Numbers) (size failures later more : ℕ) (reads : List (ℕ × List ℕ)) (path out : List ℕ)
-    (answers : Outcome → Type 0) (writes : Type 0) (images : Image → Outcome → Type 0)
-    (streams : Sizes → Source → Agreed → Outcome → Type 0) (o : Outcome)
-    → first_broken (sizes_of numbers) ≡ None
-    → ((d : Outcome) → answers d
-    → streams (sizes_of numbers) (record { size = size; failures = failures }) (known_by later reads) d)
-    → Streams (record { size = size; failures = failures }) (record { size = later; failures = more }) path out answers
-    writes o
-    → OfFileInto numbers path out images streams o
-into_places numbers size failures later more reads path out answers writes images streams o limits f (works h) =
-    of_file (places limits (at_places size failures later more reads path answers (streams (sizes_of numbers)) o f h))
-into_places numbers size failures later more reads path out answers writes images streams o limits f (no_output h line) =
-    cannot_write limits line
+-- it fails over memory only where that ran out
+pub only_memory : {A : Type 0} (work : Result A ToolError) (size later : ℕ) → sound later ≡ after_run (sound size) work
+    → IfErr work IsNoWrite → IfErr work (λ e. e ≡ tool.Memory)
+only_memory (Ok a) size later known h = tt
+only_memory (Err tool.Memory) size later known h = refl
+only_memory (Err tool.Write) size later known h = absurd h
+only_memory (Err tool.Read) size later known h =
+    let e = ap (λ (k : Source). k.failures) known in absurd (omega (arith, e))
 
--- over bytes in memory, whose reads don't fail
-pub in_memory : (bytes later path out : List ℕ) (answers : Outcome → Type 0) (writes : Type 0) (into : Outcome → Type 0)
-    (o : Outcome)
-    → ((d : Outcome) → answers d → into d)
-    → ((d : Outcome) → writes → Gives d (says (file_line (codes "cannot write ") out) 1) → into d)
-    → Streams (sound (length bytes)) (sound (length later)) path out answers writes o → into o
-in_memory bytes later path out answers writes into o f g (works (answered is h)) = f o h
-in_memory bytes later path out answers writes into o f g (works (no_source is line)) =
-    let e = ap (λ (k : Source). k.failures) is in absurd (omega (arith, e))
-in_memory bytes later path out answers writes into o f g (no_output h line) = g o h line
+module _ (numbers : Numbers) (path : List ℕ) (answers : Sizes → Source → Agreed → Outcome → Type 0) (s : Sizes)
+    (same : s ≡ sizes_of numbers) where
+  -- what is answered of a file that is known by its reads
+  pub at_places : (size failures later more : ℕ) (reads : List (ℕ × List ℕ)) (o : Outcome)
+      → first_broken (sizes_of numbers) ≡ None → failures ≡ 0
+      → Works (record { size = size; failures = failures }) (record { size = later; failures = more }) path
+      (answers s (record { size = size; failures = failures }) (known_by later reads)) o
+      → OfFile numbers path answers o
+  at_places size failures later more reads o limits zero (answered is h) =
+      let here = subst (λ (f : ℕ). answers s (record { size = size; failures = f }) (known_by later reads) o) zero h in
+      let sized = subst (λ (n : ℕ). answers s (sound size) (known_by n reads) o) (ap (λ (k : Source). k.size) is) here in
+      places size reads limits (subst (λ (t : Sizes). answers t (sound size) (known_by size reads) o) same sized)
+  at_places size failures later more reads o limits zero (no_source is line) = no_file (cannot_read limits line)
+
+  -- and of one that was read whole
+  pub by_bytes : (bytes start later : List ℕ) (o : Outcome) → IsRead (sizes_of numbers) bytes → start ≡ bytes
+      → Narrows (holds start) (holds later)
+      → Works (sound (length start)) (sound (length later)) path (answers s (sound (length start)) (holds later)) o
+      → OfFile numbers path answers o
+  by_bytes bytes start later o read is narrows (answered known h) =
+      let held = subst (λ (b : List ℕ). answers s (sound (length start)) (holds b) o) (narrows later refl) h in
+      let here = subst (λ (b : List ℕ). answers s (sound (length b)) (holds b) o) is held in
+      whole bytes read (subst (λ (t : Sizes). answers t (sound (length bytes)) (holds bytes) o) same here)
+  by_bytes bytes start later o read is narrows (no_source known line) =
+      let e = ap (λ (k : Source). k.failures) known in absurd (omega (arith, e))
+
+  -- of work that writes nothing
+  pub told_at_places : (work : Result Outcome ToolError) (size failures later more : ℕ) (reads : List (ℕ × List ℕ))
+      (r : Result Outcome AllocError)
+      → first_broken (sizes_of numbers) ≡ None → failures ≡ 0
+      → (record { size = later; failures = more }) ≡ after_run (record { size = size; failures = failures }) work
+      → IfOk work (answers s (record { size = size; failures = failures }) (known_by later reads))
+      → IfOk r (IsTold work path) → IfOk r (OfFile numbers path answers)
+  told_at_places work size failures later more reads (Ok o) limits zero known ok h =
+      at_places size failures later more reads o limits zero (works_in work _ _ path _ o h known ok)
+  told_at_places work size failures later more reads (Err e) limits zero known ok h = tt
+
+  pub told_by_bytes : (work : Result Outcome ToolError) (bytes start later : List ℕ) (r : Result Outcome AllocError)
+      → IsRead (sizes_of numbers) bytes → start ≡ bytes → Narrows (holds start) (holds later)
+      → sound (length later) ≡ after_run (sound (length start)) work
+      → IfOk work (answers s (sound (length start)) (holds later))
+      → IfOk r (IsTold work path) → IfOk r (OfFile numbers path answers)
+  told_by_bytes work bytes start later (Ok o) read is narrows known ok h =
+      by_bytes bytes start later o read is narrows (works_in work _ _ path _ o h known ok)
+  told_by_bytes work bytes start later (Err e) read is narrows known ok h = tt
+
+-- two facts of what was answered
+pub both : {E : Type 0} (work : Result Outcome E) (P Q : Outcome → Type 0) → IfOk work P → IfOk work Q
+    → IfOk work (λ o. P o × Q o)
+both (Ok o) P Q p q = (p, q)
+both (Err e) P Q p q = tt
+
+-- a comparison of two files, once it is told
+module _ (work : Result Outcome SidesError) (k after : Source) (left right : List ℕ) (numbers : Numbers)
+    (answers : Sizes → Source → Agreed → Outcome → Type 0) (s : Sizes) (same : s ≡ sizes_of numbers) where
+  sides_at_places : (size failures later more : ℕ) (reads : List (ℕ × List ℕ)) (o : Outcome)
+      → first_broken (sizes_of numbers) ≡ None → failures ≡ 0 → after ≡ after_left k work
+      → record { size = later; failures = more } ≡ after_right (record { size = size; failures = failures }) work
+      → IfOk work (answers s (record { size = size; failures = failures }) (known_by later reads))
+      → IsToldOfSides work left right o → Works k after left (OfFile numbers right answers) o
+  sides_at_places size failures later more reads o limits zero here there ok (comparison is) =
+      answered (here ∙ ap (after_left k) is)
+      (at_places numbers right answers s same size failures later more reads o limits zero
+      (answered (there ∙ ap (after_right _) is) (IfOk-at_ok _ is ok)))
+  sides_at_places size failures later more reads o limits zero here there ok (left_failed is line) =
+      no_source (here ∙ ap (after_left k) is) line
+  sides_at_places size failures later more reads o limits zero here there ok (right_failed is line) =
+      answered (here ∙ ap (after_left k) is) (no_file (cannot_read limits line))
+
+  pub beside_places : (size failures later more : ℕ) (reads : List (ℕ × List ℕ)) (r : Result Outcome AllocError)
+      → first_broken (sizes_of numbers) ≡ None → failures ≡ 0 → after ≡ after_left k work
+      → record { size = later; failures = more } ≡ after_right (record { size = size; failures = failures }) work
+      → IfOk work (answers s (record { size = size; failures = failures }) (known_by later reads))
+      → IfOk r (IsToldOfSides work left right) → IfOk r (Works k after left (OfFile numbers right answers))
+  beside_places size failures later more reads (Ok o) limits zero here there ok h =
+      sides_at_places size failures later more reads o limits zero here there ok h
+  beside_places size failures later more reads (Err e) limits zero here there ok h = tt
+
+  sides_by_bytes : (bytes start later : List ℕ) (o : Outcome) → IsRead (sizes_of numbers) bytes → start ≡ bytes
+      → Narrows (holds start) (holds later) → after ≡ after_left k work
+      → sound (length later) ≡ after_right (sound (length start)) work
+      → IfOk work (answers s (sound (length start)) (holds later))
+      → IsToldOfSides work left right o → Works k after left (OfFile numbers right answers) o
+  sides_by_bytes bytes start later o read is narrows here there ok (comparison came) =
+      answered (here ∙ ap (after_left k) came)
+      (by_bytes numbers right answers s same bytes start later o read is narrows
+      (answered (there ∙ ap (after_right _) came) (IfOk-at_ok _ came ok)))
+  sides_by_bytes bytes start later o read is narrows here there ok (left_failed came line) =
+      no_source (here ∙ ap (after_left k) came) line
+  sides_by_bytes bytes start later o read is narrows here there ok (right_failed came line) =
+      let e = ap (λ (k : Source). k.failures) (there ∙ ap (after_right _) came) in absurd (omega (arith, e))
+
+  pub beside_bytes : (bytes start later : List ℕ) (r : Result Outcome AllocError) → IsRead (sizes_of numbers) bytes
+      → start ≡ bytes
+      → Narrows (holds start) (holds later) → after ≡ after_left k work
+      → sound (length later) ≡ after_right (sound (length start)) work
+      → IfOk work (answers s (sound (length start)) (holds later))
+      → IfOk r (IsToldOfSides work left right) → IfOk r (Works k after left (OfFile numbers right answers))
+  beside_bytes bytes start later (Ok o) read is narrows here there ok h =
+      sides_by_bytes bytes start later o read is narrows here there ok h
+  beside_bytes bytes start later (Err e) read is narrows here there ok h = tt

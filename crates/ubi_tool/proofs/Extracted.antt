@@ -22,8 +22,8 @@ use Rattle.ubi_volume.specs.Places.{ArePlaces, Placed}
 use Rattle.ubi_volume.specs.Wrote.{All, First, NotAll, Wanted, Wrote}
 use Rattle.ubi_compose.specs.Streamed.{HasGot}
 use Rattle.ubi_tool.specs.Answer.{Gives, says}
-use Rattle.ubi_tool.specs.Extract.{Extracts, ExtractsFrom, HasFirst, HasText, IsExtractError, IsExtractFault, IsVolumeError, ReadsVolume, accepted, read, read_refusal, refused, refused_from, unread, unread_from, wrote}
-use Rattle.ubi_tool.specs.inner.Ended.{ExtractsSource, IsUntold, IsEnded}
+use Rattle.ubi_tool.specs.Extract.{Extracts, ExtractsFrom, ExtractsInto, HasFirst, HasText, IsExtractError, IsExtractFault, IsVolumeError, ReadsVolume, accepted, read, read_refusal, refused, refused_from, unread, unread_from, unwritten, written, wrote}
+use Rattle.ubi_tool.specs.inner.Ended.{IsUntold, IsEnded, Works}
 use Rattle.ubi_tool.specs.Lines.{bytes_line, file_line}
 use Rattle.ubi_tool.specs.AfterRun.{after_run}
 use Rattle.ubi_tool.proofs.Ended.{ends}
@@ -125,16 +125,16 @@ pub into_file : (s : Sizes) (k after : Source) (agrees : Agreed) (id : ℕ) (pat
     → IfOk answer (λ o. WhereHeld agrees (λ bytes. Extracts (image_of s bytes) id None new o))
     → IfErr answer (IsExtractFault s k agrees id None new) → after ≡ after_run k answer
     → Gives no_source (says (file_line (codes "cannot read ") path) 1) → Gives no_output (says (file_line (codes "cannot write ") out) 1)
-    → IfOk r (ExtractsSource s k after agrees id path out)
+    → IfOk r (Works k after path (ExtractsInto id out s k agrees))
 into_file s k after agrees id path out new answer there no_source no_output r ended ok image err known source output =
-    ends answer there k after path out _ _ no_source no_output r ended
-    (λ o is. (
+    ends answer there k after path _ no_source no_output r ended
+    (λ o is. written (
       from_unknown s k agrees new o (IfOk-at_ok _ is ok),
       λ bytes holds. of_unknown _ id new o (IfOk-at_ok _ is image bytes holds),
     ))
-    (λ o is zero bytes holds. done_text _ id None new o (IfOk-at_ok _ is image bytes holds) zero)
-    (λ is bytes holds. failed_text _ id None new (IfErr-at_err _ is err bytes holds))
-    known source output
+    (λ o is zero. unwritten (λ bytes holds. done_text _ id None new o (IfOk-at_ok _ is image bytes holds) zero) output)
+    (λ is. unwritten (λ bytes holds. failed_text _ id None new (IfErr-at_err _ is err bytes holds)) output)
+    known source
 
 -- what a writer received of a volume of a source, by the places of its LEBs
 module _ (s : Sizes) (agrees : Agreed) (bytes : List ℕ) (holds : agrees bytes) (p : Placed)

@@ -1,5 +1,6 @@
 pub mod CommandNames
 pub mod CommandWords
+pub mod Comparing
 pub mod Composed
 pub mod Cut
 pub mod Defaults
@@ -8,3 +9,4 @@ pub mod Extracted
 pub mod Listing
 pub mod Normalised
 pub mod Outcomes
+pub mod Showing

@@ -13,9 +13,9 @@ use Rattle.ubi_compose.specs.Streamed.{IsStreamed}
 use Rattle.ubi_compose.proofs.Form.{count-normal_bytes}
 use Rattle.ubi_tool.specs.AfterRun.{after_run}
 use Rattle.ubi_tool.specs.Answer.{Gives, says}
-use Rattle.ubi_tool.specs.inner.Ended.{NormalisesSource, IsEnded}
+use Rattle.ubi_tool.specs.inner.Ended.{IsEnded, Works}
 use Rattle.ubi_tool.specs.Lines.{blocks_line, file_line}
-use Rattle.ubi_tool.specs.Normalise.{IsNormaliseError, Normalises, NormalisesTo, accepted, refused, wrote, wrote_nothing}
+use Rattle.ubi_tool.specs.Normalise.{IsNormaliseError, Normalises, NormalisesInto, NormalisesTo, accepted, refused, unwritten, written, wrote, wrote_nothing}
 use Rattle.ubi_tool.specs.declared.outcome.Outcome.{Outcome}
 use Rattle.ubi_tool.specs.declared.outcome.ToolError.{ToolError}
 use Rattle.ubi_tool.specs.declared.outcome.ToolError.TheVariants as tool
@@ -39,13 +39,13 @@ of_streamed s bytes old new n o g h gives =
 -- work that was done is that of an accepted image
 pub done_image : (image : Image) (old new : Option (List ℕ)) (o : Outcome) → Normalises image old new o → o.status ≡ 0
     → (m : Meant) × Accepts image m
-done_image image old new o (accepted m a line written) done = (m, a)
+done_image image old new o (accepted m a line bytes) done = (m, a)
 done_image image old new o (refused c h line kept) done = absurd (not_both o done line.status)
 
 -- of a writer whose bytes weren't known before nothing is told behind
 pub of_unknown : (image : Image) (new : Option (List ℕ)) (o : Outcome) → Normalises image None new o
     → Normalises image None None o
-of_unknown image new o (accepted m a line written) = accepted m a line tt
+of_unknown image new o (accepted m a line bytes) = accepted m a line tt
 of_unknown image new o (refused c h line kept) = refused c h line tt
 
 -- of any source likewise
@@ -66,19 +66,21 @@ to_unknown s k agrees new o (wrote_nothing c h line kept) = wrote_nothing c h li
 -- what is answered of a source into a file, once the work is over
 pub into_file : (s : Sizes) (k after : Source) (agrees : Agreed) (path out : List ℕ) (new : Option (List ℕ))
     (answer : Result Outcome ToolError) (there : Bool)
-    (unread unwritten : Outcome) (r : Result Outcome AllocError)
-    → MatchResult r (IsEnded answer there unread unwritten) (λ _. answer ≡ Err tool.Memory)
+    (unread no_file : Outcome) (r : Result Outcome AllocError)
+    → MatchResult r (IsEnded answer there unread no_file) (λ _. answer ≡ Err tool.Memory)
     → IfOk answer (NormalisesTo s k agrees None new)
     → IfOk answer (λ o. WhereHeld agrees (λ bytes. Normalises (image_of s bytes) None new o))
     → IfErr answer (IsNormaliseError s k agrees None new) → after ≡ after_run k answer
-    → Gives unread (says (file_line (codes "cannot read ") path) 1) → Gives unwritten (says (file_line (codes "cannot write ") out) 1)
-    → IfOk r (NormalisesSource s k after agrees path out)
-into_file s k after agrees path out new answer there unread unwritten r ended ok image err known no_source no_output =
-    ends answer there k after path out _ _ unread unwritten r ended
-    (λ o is. (
+    → Gives unread (says (file_line (codes "cannot read ") path) 1) → Gives no_file (says (file_line (codes "cannot write ") out) 1)
+    → IfOk r (Works k after path (NormalisesInto out s k agrees))
+into_file s k after agrees path out new answer there unread no_file r ended ok image err known no_source no_output =
+    ends answer there k after path _ unread no_file r ended
+    (λ o is. written (
       to_unknown s k agrees new o (IfOk-at_ok _ is ok),
       λ bytes holds. of_unknown (image_of s bytes) new o (IfOk-at_ok _ is image bytes holds),
     ))
-    (λ o is zero bytes holds. done_image (image_of s bytes) None new o (IfOk-at_ok _ is image bytes holds) zero)
-    (λ is bytes holds. let cut = (IfErr-at_err _ is err).1.1 bytes holds in (cut.meaning, cut.accepted))
-    known no_source no_output
+    (λ o is zero. unwritten
+    (λ bytes holds. done_image (image_of s bytes) None new o (IfOk-at_ok _ is image bytes holds) zero) no_output)
+    (λ is. unwritten
+    (λ bytes holds. let cut = (IfErr-at_err _ is err).1.1 bytes holds in (cut.meaning, cut.accepted)) no_output)
+    known no_source

@@ -1,6 +1,8 @@
 -- What is known of a source after a command over it.
 use Rattle.std.specs.Prelude.{Result, Ok, Err}
 use Rattle.ubi_scan.specs.Source.{Source, failed}
+use Rattle.ubi_tool.specs.declared.outcome.SidesError.{SidesError}
+use Rattle.ubi_tool.specs.declared.outcome.SidesError.TheVariants as side
 use Rattle.ubi_tool.specs.declared.outcome.ToolError.{ToolError}
 use Rattle.ubi_tool.specs.declared.outcome.ToolError.TheVariants as tool
 
@@ -13,7 +15,16 @@ abbrev pub after_run : {A : Type 0} → Source → Result A ToolError → Source
 after_run k (Ok _) = k
 after_run k (Err e) = after_fault k e
 
--- why a command over a source that writes nothing has no answer: a read failed, or memory ran out
-abbrev pub IsListFault : ToolError → Type 0
-IsListFault tool.Write = ⊥
-IsListFault _ = Unit {0}
+-- the fault of a command that writes nothing: a read failed, or memory ran out
+abbrev pub IsNoWrite : ToolError → Type 0
+IsNoWrite tool.Write = ⊥
+IsNoWrite _ = Unit {0}
+
+-- what is known of the left source and of the right one after a comparison: one read of the side failed that is named
+abbrev pub after_left : {A : Type 0} → Source → Result A SidesError → Source
+after_left k (Err side.Left) = failed k
+after_left k _ = k
+
+abbrev pub after_right : {A : Type 0} → Source → Result A SidesError → Source
+after_right k (Err side.Right) = failed k
+after_right k _ = k

@@ -3,8 +3,8 @@ use Rattle.std.specs.Prelude.{ℕ, Bool, true, false, List, [], ◌∷◌, ◌++
 use Rattle.std.specs.List.{flat_map}
 use Rattle.ubi_media.specs.declared.refusal.Refusal.{Refusal}
 use Rattle.ubi_media.specs.Geometry.{Sizes}
-use Rattle.ubi_scan.specs.Image.{Image}
-use Rattle.ubi_scan.specs.Source.{Agreed, Source}
+use Rattle.ubi_scan.specs.Image.{Image, image_of}
+use Rattle.ubi_scan.specs.Source.{Agreed, Source, WhereHeld}
 use Rattle.ubi_scan.specs.declared.errors.StreamError.TheVariants as stream
 use Rattle.ubi_volume.specs.Accepts.{Refuses}
 use Rattle.ubi_volume.specs.Places.{ArePlacesError}
@@ -66,8 +66,12 @@ pub data Checks (image : Image) : Outcome → Type 0 where
   accepted : {o : Outcome} (a : Seen) → IsSurvey image a → Gives o (says (check_lines a) 0) → Checks image o
   refused : {o : Outcome} (c : Refusal) → Refuses image c → Gives o (says (refusal_line c) 1) → Checks image o
 
--- what it answers of a source: the lines of what surveying it gives, or the line of its refusal
-pub data ChecksOf (s : Sizes) (k : Source) (agrees : Agreed) : Outcome → Type 0 where
-  surveyed : {o : Outcome} (a : Seen) → IsSurveyOf s k agrees a → Gives o (says (check_lines a) 0) → ChecksOf s k agrees o
+-- what it answers of any source: the lines of what surveying it gives, or the line of its refusal
+pub data ChecksFrom (s : Sizes) (k : Source) (agrees : Agreed) : Outcome → Type 0 where
+  surveyed : {o : Outcome} (a : Seen) → IsSurveyOf s k agrees a → Gives o (says (check_lines a) 0) → ChecksFrom s k agrees o
   unsurveyed : {o : Outcome} (c : Refusal) → ArePlacesError s k agrees (stream.Refused c) → Gives o (says (refusal_line c) 1)
-      → ChecksOf s k agrees o
+      → ChecksFrom s k agrees o
+
+-- what it answers of a source: whatever that may hold, it is what it answers of that image
+abbrev pub ChecksOf : Sizes → Source → Agreed → Outcome → Type 0
+ChecksOf s k agrees o = ChecksFrom s k agrees o × WhereHeld agrees (λ bytes. Checks (image_of s bytes) o)

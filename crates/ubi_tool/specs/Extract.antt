@@ -91,8 +91,8 @@ ExtractsOf id s k agrees o =
 abbrev pub HasText : Image → ℕ → Type 0
 HasText image id = (m : Meant) × (text : List ℕ) × Accepts image m × (read_volume m id ≡ Ok text)
 
--- what it answers of an image into a file, of whose bytes nothing is known: the same, or the line of an output that can't be
--- written
-pub data ExtractsInto (id : ℕ) (out : List ℕ) (image : Image) : Outcome → Type 0 where
-  written : {o : Outcome} → Extracts image id None None o → ExtractsInto id out image o
-  unwritten : {o : Outcome} → HasText image id → Gives o (says (file_line (codes "cannot write ") out) 1) → ExtractsInto id out image o
+-- and of the output: that, or the line of an output that can't be written
+pub data ExtractsInto (id : ℕ) (out : List ℕ) (s : Sizes) (k : Source) (agrees : Agreed) : Outcome → Type 0 where
+  written : {o : Outcome} → ExtractsOf id s k agrees o → ExtractsInto id out s k agrees o
+  unwritten : {o : Outcome} → WhereHeld agrees (λ bytes. HasText (image_of s bytes) id)
+      → Gives o (says (file_line (codes "cannot write ") out) 1) → ExtractsInto id out s k agrees o

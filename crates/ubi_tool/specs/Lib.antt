@@ -18,5 +18,4 @@ pub mod Read
 pub mod Rename
 pub mod Same
 pub mod Show
-pub mod Streams
 pub mod inner

@@ -82,11 +82,12 @@ pub data Lists (image : Image) : Outcome → Type 0 where
   accepted : {o : Outcome} (m : Meant) → Accepts image m → Gives o (says (list_lines m) 0) → Lists image o
   refused : {o : Outcome} (c : Refusal) → Refuses image c → Gives o (says (refusal_line c) 1) → Lists image o
 
--- what it answers of a source: of whatever it may hold the lines of the meaning, which its places show; or the line of its
--- refusal
-pub data ListsOf (s : Sizes) (k : Source) (agrees : Agreed) : Outcome → Type 0 where
-  listed : {o : Outcome} (p : Placed) (text : List ℕ) → ArePlacesOf s k agrees p
-      → WhereHeld agrees (λ bytes. (h : ArePlaces (image_of s bytes) p) → text ≡ list_lines h.meaning)
-      → Gives o (says text 0) → ListsOf s k agrees o
+-- what it answers of any source: some lines, of one whose places were found; or the line of its refusal
+pub data ListsFrom (s : Sizes) (k : Source) (agrees : Agreed) : Outcome → Type 0 where
+  listed : {o : Outcome} (p : Placed) (text : List ℕ) → ArePlacesOf s k agrees p → Gives o (says text 0) → ListsFrom s k agrees o
   unlisted : {o : Outcome} (c : Refusal) → ArePlacesError s k agrees (stream.Refused c) → Gives o (says (refusal_line c) 1)
-      → ListsOf s k agrees o
+      → ListsFrom s k agrees o
+
+-- what it answers of a source: whatever that may hold, it is what it answers of that image
+abbrev pub ListsOf : Sizes → Source → Agreed → Outcome → Type 0
+ListsOf s k agrees o = ListsFrom s k agrees o × WhereHeld agrees (λ bytes. Lists (image_of s bytes) o)

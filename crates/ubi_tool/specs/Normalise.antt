@@ -46,9 +46,8 @@ abbrev pub NormalisesOf : Sizes → Source → Agreed → Outcome → Type 0
 NormalisesOf s k agrees o =
     NormalisesTo s k agrees None None o × WhereHeld agrees (λ bytes. Normalises (image_of s bytes) None None o)
 
--- what it answers of an image into a file, of whose bytes nothing is known: the same, or the line of an output that
--- can't be written
-pub data NormalisesInto (out : List ℕ) (image : Image) : Outcome → Type 0 where
-  written : {o : Outcome} → Normalises image None None o → NormalisesInto out image o
-  unwritten : {o : Outcome} (m : Meant) → Accepts image m → Gives o (says (file_line (codes "cannot write ") out) 1)
-      → NormalisesInto out image o
+-- and of the output: that, or the line of an output that can't be written
+pub data NormalisesInto (out : List ℕ) (s : Sizes) (k : Source) (agrees : Agreed) : Outcome → Type 0 where
+  written : {o : Outcome} → NormalisesOf s k agrees o → NormalisesInto out s k agrees o
+  unwritten : {o : Outcome} → WhereHeld agrees (λ bytes. (m : Meant) × Accepts (image_of s bytes) m)
+      → Gives o (says (file_line (codes "cannot write ") out) 1) → NormalisesInto out s k agrees o

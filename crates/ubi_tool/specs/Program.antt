@@ -4,20 +4,19 @@ use Rattle.ubi_media.specs.Geometry.{Sizes}
 use Rattle.ubi_media.specs.Limits.{first_broken}
 use Rattle.ubi_media.specs.declared.geometry.GeometryError.{GeometryError}
 use Rattle.ubi_scan.specs.Image.{Image, image_of}
-use Rattle.ubi_scan.specs.Source.{Agreed, Source}
+use Rattle.ubi_scan.specs.Source.{Agreed, Source, holds, known_by, sound}
 use Rattle.ubi_tool.specs.Answer.{Gives, says}
 use Rattle.ubi_tool.specs.Change.{ChangesInto}
-use Rattle.ubi_tool.specs.Check.{Checks, ChecksOf}
+use Rattle.ubi_tool.specs.Check.{ChecksOf}
 use Rattle.ubi_tool.specs.Compose.{ComposesInto}
-use Rattle.ubi_tool.specs.Extract.{ExtractsInto, ExtractsOf}
+use Rattle.ubi_tool.specs.Extract.{ExtractsInto}
 use Rattle.ubi_tool.specs.Lines.{file_line, geometry_line}
-use Rattle.ubi_tool.specs.List.{Lists, ListsOf}
-use Rattle.ubi_tool.specs.Normalise.{NormalisesInto, NormalisesOf}
+use Rattle.ubi_tool.specs.List.{ListsOf}
+use Rattle.ubi_tool.specs.Normalise.{NormalisesInto}
 use Rattle.ubi_tool.specs.Numbers.{sizes_of}
 use Rattle.ubi_tool.specs.Rename.{RenamesInto}
-use Rattle.ubi_tool.specs.Same.{Compares}
-use Rattle.ubi_tool.specs.Show.{Shows}
-use Rattle.ubi_tool.specs.Streams.{OfPlaces}
+use Rattle.ubi_tool.specs.Same.{ComparesOf}
+use Rattle.ubi_tool.specs.Show.{ShowsOf}
 use Rattle.ubi_tool.specs.declared.command_line.Request.{Request}
 use Rattle.ubi_tool.specs.declared.command_line.Request.TheVariants as request
 use Rattle.ubi_tool.specs.declared.image_file.Unread.{Unread}
@@ -60,20 +59,19 @@ pub data OfText (numbers : Numbers) (path : List ℕ) (answers : Sizes → List 
   text : {o : Outcome} (bytes : List ℕ) → first_broken (sizes_of numbers) ≡ None → length bytes ≤ text_limit (sizes_of numbers)
       → answers (sizes_of numbers) bytes o → OfText numbers path answers o
 
--- what a command can answer over one image file that it reads at places where it can: that of an image that was read whole,
--- or that of a file that is read at places
-pub data OfFile (numbers : Numbers) (path : List ℕ) (answers : Image → Outcome → Type 0)
-    (streams : Sizes → Source → Agreed → Outcome → Type 0) : Outcome → Type 0 where
-  whole : {o : Outcome} → OfImage numbers path answers o → OfFile numbers path answers streams o
-  places : {o : Outcome} → first_broken (sizes_of numbers) ≡ None → OfPlaces path (streams (sizes_of numbers)) o
-      → OfFile numbers path answers streams o
+-- what a command can answer over one image file: that of a file that can't be had; or what it answers of a source, which
+-- holds the bytes that were read whole, or is a file of some size that answered some reads
+pub data OfFile (numbers : Numbers) (path : List ℕ) (answers : Sizes → Source → Agreed → Outcome → Type 0) : Outcome → Type 0 where
+  no_file : {o : Outcome} → IsUnread numbers path o → OfFile numbers path answers o
+  whole : {o : Outcome} (bytes : List ℕ) → IsRead (sizes_of numbers) bytes
+      → answers (sizes_of numbers) (sound (length bytes)) (holds bytes) o → OfFile numbers path answers o
+  places : {o : Outcome} (size : ℕ) (reads : List (ℕ × List ℕ)) → first_broken (sizes_of numbers) ≡ None
+      → answers (sizes_of numbers) (sound size) (known_by size reads) o → OfFile numbers path answers o
 
--- what it can answer where it writes another file meanwhile: that, or the line of the other file, which can't be written
-pub data OfFileInto (numbers : Numbers) (path out : List ℕ) (answers : Image → Outcome → Type 0)
-    (streams : Sizes → Source → Agreed → Outcome → Type 0) : Outcome → Type 0 where
-  of_file : {o : Outcome} → OfFile numbers path answers streams o → OfFileInto numbers path out answers streams o
-  cannot_write : {o : Outcome} → first_broken (sizes_of numbers) ≡ None
-      → Gives o (says (file_line (codes "cannot write ") out) 1) → OfFileInto numbers path out answers streams o
+-- and over two
+abbrev pub BothOf : Numbers → List ℕ → List ℕ → (Sizes → Source → Agreed → Source → Agreed → Outcome → Type 0) → Outcome → Type 0
+BothOf numbers left right answers =
+    OfFile numbers left (λ s k here. OfFile numbers right (λ t l there. answers t k here l there))
 
 -- once the file of an outcome is written, if it has one: the outcome, or the line of a file that can't be written
 pub data WritesFile (path : List ℕ) (outcome : Outcome) : Outcome → Type 0 where
@@ -82,15 +80,13 @@ pub data WritesFile (path : List ℕ) (outcome : Outcome) : Outcome → Type 0 w
 
 -- what a request can be answered: what its command answers, for its own numbers, paths and volume
 abbrev pub IsAnswerTo : Request → Outcome → Type 0
-IsAnswerTo (request.List numbers path) = OfFile numbers path.now Lists ListsOf
-IsAnswerTo (request.Check numbers path) = OfFile numbers path.now Checks ChecksOf
-IsAnswerTo (request.Show numbers path p) = OfImage numbers path.now (λ i. Shows i p)
-IsAnswerTo (request.Extract numbers path id out) =
-    OfFileInto numbers path.now out.now (ExtractsInto id out.now) (ExtractsOf id)
+IsAnswerTo (request.List numbers path) = OfFile numbers path.now ListsOf
+IsAnswerTo (request.Check numbers path) = OfFile numbers path.now ChecksOf
+IsAnswerTo (request.Show numbers path p) = OfFile numbers path.now (ShowsOf p)
+IsAnswerTo (request.Extract numbers path id out) = OfFile numbers path.now (ExtractsInto id out.now)
 IsAnswerTo (request.Compose numbers spec out spares seq) = OfText numbers spec.now (λ s t. ComposesInto out.now s t spares seq)
-IsAnswerTo (request.Normalise numbers path out) =
-    OfFileInto numbers path.now out.now (NormalisesInto out.now) NormalisesOf
-IsAnswerTo (request.Same numbers left right) = OfImage numbers left.now (λ i. OfImage numbers right.now (Compares i))
+IsAnswerTo (request.Normalise numbers path out) = OfFile numbers path.now (NormalisesInto out.now)
+IsAnswerTo (request.Same numbers left right) = BothOf numbers left.now right.now ComparesOf
 IsAnswerTo (request.Change numbers path change) =
     OfImage numbers path.now
     (λ i. OfImage numbers change.from.now (λ f. ChangesInto change.id change.lnum f.bytes change.stop change.out.now i))

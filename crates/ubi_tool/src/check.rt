@@ -3,16 +3,16 @@
 ghost use Rattle.std.specs.Prelude.{◌≡◌, ◌++◌, IfErr, IfOk, OnOk, codes, count_by};
 ghost use Rattle.std.specs.List.{flat_map};
 ghost use Rattle.ubi_scan.specs.Image.{image_of};
-ghost use Rattle.ubi_scan.specs.Source.{Narrows};
-ghost use Rattle.ubi_tool.specs.AfterRun.{IsListFault, after_run};
-ghost use Rattle.ubi_tool.specs.Check.{Checks, ChecksOf, check_lines, number_line, printed_states, same_state, state_line, state_word};
+ghost use Rattle.ubi_scan.specs.Source.{Narrows, WhereHeld};
+ghost use Rattle.ubi_tool.specs.AfterRun.{IsNoWrite, after_run};
+ghost use Rattle.ubi_tool.specs.Check.{Checks, ChecksFrom, check_lines, number_line, printed_states, same_state, state_line, state_word};
 
 use crate::lines::{put_number, put_word, refusal_line};
-use crate::outcome::{DONE, FAILED, Outcome, ToolError};
+use crate::outcome::{DONE, FAILED, Outcome, ToolError, in_memory};
 use std::alloc::{AllocError, Global};
-use ubi_media::{AttachError, Geometry};
-use ubi_scan::{BlockSource, StreamError};
-use ubi_volume::{BlockState, Surveyed, survey, survey_from};
+use ubi_media::Geometry;
+use ubi_scan::{BlockSource, MemorySource, StreamError};
+use ubi_volume::{BlockState, Surveyed, survey_from};
 
 fn is_same(state: BlockState, of: BlockState) -> bool
     ensures { result ≡ same_state state of }
@@ -108,25 +108,8 @@ fn check_lines(alloc: Global, surveyed: &Surveyed) -> Result<Vec<u8>, AllocError
     Ok(text)
 }
 
-/// Counts the states of the eraseblocks of an image, or answers the line of its refusal. Of the contents of volumes none
-/// is held, and only the table and copied data are read.
-///
-/// # Errors
-///
-/// Memory ran out.
-pub fn run_check(alloc: Global, geometry: &Geometry, image: &[u8]) -> Result<Outcome, AllocError>
-    ensures { IfOk result (Checks (image_of geometry.now image.now)) }
-{
-    match survey(alloc, geometry, image) {
-        Ok(surveyed) => Ok(Outcome::saying(check_lines(alloc, &surveyed)?, DONE)),
-        Err(AttachError::Refused(cause)) => {
-            Ok(Outcome::saying(refusal_line(alloc, cause)?, FAILED))
-        }
-        Err(AttachError::Memory) => Err(AllocError),
-    }
-}
-
-/// Counts the states of the eraseblocks of a source, or answers the line of its refusal. One eraseblock is held at a time.
+/// Counts the states of the eraseblocks of a source, or answers the line of its refusal. One eraseblock is held at a time; of
+/// the contents of volumes only copied data are read, and the volume table.
 ///
 /// # Errors
 ///
@@ -138,8 +121,9 @@ pub fn run_check_from<S: BlockSource>(
 ) -> Result<Outcome, ToolError>
     ensures known { S.known source.new ≡ after_run (S.known source.old) result }
     ensures narrows { Narrows (S.agrees source.old) (S.agrees source.new) }
-    ensures checked { IfOk result (ChecksOf geometry.now (S.known source.old) (S.agrees source.new)) }
-    ensures failed { IfErr result IsListFault }
+    ensures checked { IfOk result (ChecksFrom geometry.now (S.known source.old) (S.agrees source.new)) }
+    ensures checks { IfOk result (λ o. WhereHeld (S.agrees source.new) (λ bytes. Checks (image_of geometry.now bytes) o)) }
+    ensures failed { IfErr result IsNoWrite }
 {
     match survey_from(alloc, geometry, source) {
         Ok(surveyed) => Ok(Outcome::saying(check_lines(alloc, &surveyed)?, DONE)),
@@ -152,4 +136,15 @@ pub fn run_check_from<S: BlockSource>(
         // Nothing is written.
         Err(StreamError::Write(_)) => unreachable!(),
     }
+}
+
+/// Counts the states of the eraseblocks of an image, as [`run_check_from`] does of a source.
+///
+/// # Errors
+///
+/// Memory ran out.
+pub fn run_check(alloc: Global, geometry: &Geometry, image: &[u8]) -> Result<Outcome, AllocError>
+    ensures { IfOk result (Checks (image_of geometry.now image.now)) }
+{
+    in_memory(run_check_from(alloc, geometry, &mut MemorySource::new(image)))
 }

@@ -1,10 +1,13 @@
 //! The image file that the words of a command name.
 
 ghost use Rattle.std.specs.Io.KnownBytes.{Consumes};
-ghost use Rattle.std.specs.Prelude.{◌≡◌, ◌+◌, ◌*◌, ◌≤◌, IfErr, IfOk, IfSome, MatchResult, OnErr, codes, vec_len};
+ghost use Rattle.std.specs.Prelude.{◌≡◌, ◌+◌, ◌*◌, ◌≤◌, IfErr, IfOk, IfSome, List, MatchResult, None, OnErr, codes, vec_len, ℕ};
+ghost use Rattle.ubi_media.specs.Limits.{first_broken};
 ghost use Rattle.ubi_scan.specs.Image.{judged};
+ghost use Rattle.ubi_tool.specs.AfterRun.{IsNoWrite};
 ghost use Rattle.ubi_tool.specs.Answer.{Gives, says};
 ghost use Rattle.ubi_tool.specs.Lines.{file_line, geometry_line};
+ghost use Rattle.ubi_tool.specs.inner.Ended.{IsTold};
 ghost use Rattle.ubi_tool.specs.Numbers.{sizes_of};
 ghost use Rattle.ubi_tool.specs.Program.{IsRead, IsUnread, Tells};
 ghost use Rattle.ubi_tool.specs.Read.{TakesAtMost};
@@ -122,6 +125,46 @@ pub fn unread_file(alloc: Global, path: &str, error: ToolError) -> Unread
     }
 }
 
+/// The geometry of the numbers.
+///
+/// # Errors
+///
+/// The line of the first limit that they break, or that memory ran out.
+pub fn allowed_geometry(alloc: Global, numbers: Numbers) -> Result<Geometry, Unread>
+    ensures limits { IfOk result (λ g. first_broken (sizes_of numbers) ≡ None) }
+    ensures sizes { IfOk result (λ g. g ≡ sizes_of numbers) }
+    ensures broken { (path : List ℕ) → IfErr result (Tells (IsUnread numbers path)) }
+{
+    match geometry_of(numbers) {
+        Ok(geometry) => Ok(geometry),
+        Err(limit) => Err(Unread::Told(limit_line(alloc, limit)?)),
+    }
+}
+
+/// What is told of work over a file once it is done: its outcome, or the line of the file, where a read of it failed.
+///
+/// # Errors
+///
+/// Memory ran out.
+pub fn told(
+    alloc: Global,
+    work: Result<Outcome, ToolError>,
+    path: &str,
+) -> Result<Outcome, AllocError>
+    requires { IfErr work IsNoWrite }
+    ensures { IfOk result (IsTold work path.now) }
+{
+    match work {
+        Ok(outcome) => Ok(outcome),
+        Err(error) => match error {
+            ToolError::Read => unread_line(alloc, path),
+            ToolError::Memory => Err(AllocError),
+            // Nothing is written.
+            ToolError::Write => unreachable!(),
+        },
+    }
+}
+
 /// Reads the image of a path, once its geometry is known to break no limit.
 ///
 /// # Errors
@@ -137,10 +180,7 @@ pub fn load<R: Files>(
     ensures read { IfOk result (λ f. IsRead (sizes_of numbers) f.bytes.items) }
     ensures unread { IfErr result (Tells (IsUnread numbers path.now)) }
 {
-    let geometry = match geometry_of(numbers) {
-        Ok(geometry) => geometry,
-        Err(limit) => return Err(Unread::Told(limit_line(alloc, limit)?)),
-    };
+    let geometry = allowed_geometry(alloc, numbers)?;
     match read_image(rt, alloc, &geometry, path) {
         Ok(bytes) => Ok(ImageFile { geometry, bytes }),
         Err(error) => Err(unread_file(alloc, path, error)),

@@ -1,6 +1,6 @@
 //! Image files that are read at places.
 
-ghost use Rattle.std.specs.Prelude.{◌≢◌, IfSome};
+ghost use Rattle.std.specs.Prelude.{◌≡◌, ◌≢◌, IfSome};
 
 use std::fs;
 use std::fs::{Files, Metadata};
@@ -38,6 +38,7 @@ fn may_have_places(image: &Metadata) -> bool {
 fn source_with_bytes<R: Files>(rt: &R, image: &str) -> Option<FileSource<R::File>>
 where
     R::File: FileExt,
+    ensures { IfSome result (λ s. s.failures ≡ 0) }
 {
     match FileSource::open(rt, image) {
         Ok(source) if source.len() > 0 => Some(source),
@@ -49,6 +50,7 @@ where
 pub fn source_at<R: Files>(rt: &R, image: &str) -> Option<FileSource<R::File>>
 where
     R::File: FileExt,
+    ensures { IfSome result (λ s. s.failures ≡ 0) }
 {
     match fs::metadata(rt, image) {
         Ok(metadata) if may_have_places(&metadata) => source_with_bytes(rt, image),
@@ -63,7 +65,8 @@ where
 pub fn source_of<R: Files>(rt: &R, image: &str, out: &str) -> Option<FileSource<R::File>>
 where
     R::File: FileExt,
-    ensures { IfSome result (λ _. image.now ≢ out.now) }
+    ensures apart { IfSome result (λ _. image.now ≢ out.now) }
+    ensures unread { IfSome result (λ s. s.failures ≡ 0) }
 {
     let Ok(metadata) = fs::metadata(rt, image) else {
         return None;

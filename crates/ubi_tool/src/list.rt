@@ -8,11 +8,11 @@ ghost use Rattle.ubi_media.specs.Record.{rec_fault};
 ghost use Rattle.ubi_scan.specs.Image.{image_of};
 ghost use Rattle.ubi_scan.specs.Source.{Narrows, WhereHeld};
 ghost use Rattle.ubi_volume.specs.Places.{ArePlaces, ArePlacesOf};
-ghost use Rattle.ubi_tool.specs.AfterRun.{IsListFault, after_run};
-ghost use Rattle.ubi_tool.specs.List.{Lists, ListsOf, amount_word, kind_word, layout_words, list_lines, record_line, record_words, room_words, shown, shown_byte, sizes_line, volume_line};
+ghost use Rattle.ubi_tool.specs.AfterRun.{IsNoWrite, after_run};
+ghost use Rattle.ubi_tool.specs.List.{Lists, ListsFrom, amount_word, kind_word, layout_words, list_lines, record_line, record_words, room_words, shown, shown_byte, sizes_line, volume_line};
 
 use crate::lines::{put_number, put_word, refusal_line};
-use crate::outcome::{DONE, FAILED, Outcome, ToolError};
+use crate::outcome::{DONE, FAILED, Outcome, ToolError, in_memory};
 use std::alloc::{AllocError, Global};
 use ubi_media::{Geometry, VolKind, VolumeRecord};
 use ubi_scan::{BlockSource, MemorySource, StreamError};
@@ -156,7 +156,7 @@ fn put_volumes<S: BlockSource>(
     ensures known { S.known source.new ≡ after_run (S.known source.old) result }
     ensures narrows { Narrows (S.agrees source.old) (S.agrees source.new) }
     ensures text { OnOk result (WhereHeld (S.agrees source.new) (λ bytes. (h : ArePlaces (image_of geometry.now bytes) places.now) → text.new.items ≡ text.old.items ++ flat_map (volume_line geometry.now) (finite.entries h.meaning.volumes))) }
-    ensures failed { IfErr result IsListFault }
+    ensures failed { IfErr result IsNoWrite }
 {
     for listed in places.table().entries() {
         let (id, entry) = *listed;
@@ -187,7 +187,7 @@ fn list_lines<S: BlockSource>(
     ensures known { S.known source.new ≡ after_run (S.known source.old) result }
     ensures narrows { Narrows (S.agrees source.old) (S.agrees source.new) }
     ensures text { IfOk result (λ text. WhereHeld (S.agrees source.new) (λ bytes. (h : ArePlaces (image_of geometry.now bytes) places.now) → text.items ≡ list_lines h.meaning)) }
-    ensures failed { IfErr result IsListFault }
+    ensures failed { IfErr result IsNoWrite }
 {
     let mut buffer = Vec::from_elem(alloc, 0u8, geometry.peb_size() as usize)?;
     let mut text = Vec::new(alloc);
@@ -217,9 +217,9 @@ pub fn run_list_from<S: BlockSource>(
 ) -> Result<Outcome, ToolError>
     ensures known { S.known source.new ≡ after_run (S.known source.old) result }
     ensures narrows { Narrows (S.agrees source.old) (S.agrees source.new) }
-    ensures listed { IfOk result (ListsOf geometry.now (S.known source.old) (S.agrees source.new)) }
+    ensures listed { IfOk result (ListsFrom geometry.now (S.known source.old) (S.agrees source.new)) }
     ensures lists { IfOk result (λ o. WhereHeld (S.agrees source.new) (λ bytes. Lists (image_of geometry.now bytes) o)) }
-    ensures failed { IfErr result IsListFault }
+    ensures failed { IfErr result IsNoWrite }
 {
     match attach_places(alloc, geometry, source) {
         Ok(places) => {
@@ -244,10 +244,5 @@ pub fn run_list_from<S: BlockSource>(
 pub fn run_list(alloc: Global, geometry: &Geometry, image: &[u8]) -> Result<Outcome, AllocError>
     ensures { IfOk result (Lists (image_of geometry.now image.now)) }
 {
-    match run_list_from(alloc, geometry, &mut MemorySource::new(image)) {
-        Ok(outcome) => Ok(outcome),
-        Err(ToolError::Memory) => Err(AllocError),
-        // Reading memory doesn't fail.
-        Err(ToolError::Read | ToolError::Write) => unreachable!(),
-    }
+    in_memory(run_list_from(alloc, geometry, &mut MemorySource::new(image)))
 }

@@ -1,6 +1,6 @@
 //! The command `ubi_tool`: it reads its words and files, runs one command and prints what that answers.
 //!
-//! `main` and the two functions below it only reach the terminal. The command itself is `words::run_words`, over files,
+//! `main` and the two functions below it only reach the terminal. The command itself is `commands::run_words`, over files,
 //! and each of its commands is a function over bytes.
 #![tactic(auto)]
 
@@ -10,6 +10,7 @@ ghost use Rattle.std.specs.Prelude.{◌≡◌, ◌≢◌};
 mod change;
 mod check;
 mod command_line;
+mod commands;
 mod compose;
 mod extract;
 mod image_file;
@@ -20,18 +21,19 @@ mod lines;
 mod list;
 mod normalise;
 mod numbers;
+mod open_image;
 mod outcome;
 mod output_file;
 mod plan;
 mod printing;
 mod progress;
 mod read;
+mod readers;
 mod rename;
 mod same;
 mod show;
 mod spec_file;
 mod streaming;
-mod words;
 
 use outcome::WRONG_WORDS;
 use std::alloc::AllocError;
@@ -47,7 +49,7 @@ fn main(rt: HostRuntime) -> ExitCode {
     let status = match words_of(&rt) {
         Ok(words) => {
             let is_watched = rt.stderr().is_terminal();
-            let answer = words::run_words(&rt, rt.alloc(), words.as_slice(), is_watched);
+            let answer = commands::run_words(&rt, rt.alloc(), words.as_slice(), is_watched);
             printing::report(&rt, &answer)
         }
         Err(error) => unread_words(&rt, &error),

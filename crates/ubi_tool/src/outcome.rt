@@ -1,6 +1,6 @@
 //! What a command answers, and what keeps it from answering.
 
-ghost use Rattle.std.specs.Prelude.{◌≡◌};
+ghost use Rattle.std.specs.Prelude.{◌≡◌, Err, IfErr, MatchResult, Ok};
 ghost use Rattle.ubi_tool.specs.Answer.{Gives, says};
 ghost use Rattle.ubi_tool.specs.declared.outcome.ToolError.TheVariants.{Memory};
 
@@ -67,5 +67,46 @@ impl<T: Drop> From<AllocFailed<T>> for ToolError {
 
     fn from(_: AllocFailed<T>) -> ToolError {
         ToolError::Memory
+    }
+}
+
+/// A fault of the machine, which keeps two images from being compared.
+#[derive(Clone, Copy, Debug, PartialEq, Eq, Error)]
+pub enum SidesError {
+    /// A read of the left image failed.
+    #[error("a read of the left image failed")]
+    Left,
+    /// A read of the right image failed.
+    #[error("a read of the right image failed")]
+    Right,
+    /// Memory ran out.
+    #[error("out of memory")]
+    Memory,
+}
+
+impl From<AllocError> for SidesError {
+    ghost use Rattle.std.specs.Prelude.{◌≡◌};
+    ghost use Rattle.ubi_tool.specs.declared.outcome.SidesError.TheVariants.{Memory};
+
+    ghost from_gives = { λ _ e. e ≡ Memory };
+
+    fn from(_: AllocError) -> SidesError {
+        SidesError::Memory
+    }
+}
+
+/// What is answered of work over bytes in memory, whose reads don't fail.
+///
+/// # Errors
+///
+/// Memory ran out.
+pub fn in_memory(work: Result<Outcome, ToolError>) -> Result<Outcome, AllocError>
+    requires { IfErr work (λ e. e ≡ Memory) }
+    ensures { MatchResult result (λ o. work ≡ Ok o) (λ _. work ≡ Err Memory) }
+{
+    match work {
+        Ok(outcome) => Ok(outcome),
+        Err(ToolError::Memory) => Err(AllocError),
+        Err(ToolError::Read | ToolError::Write) => unreachable!(),
     }
 }

@@ -1,15 +1,17 @@
 //! The command `show`: the headers of one eraseblock.
 
-ghost use Rattle.std.specs.Prelude.{◌≡◌, ◌<◌, ◌++◌, length, codes, IfOk, OnOk};
+ghost use Rattle.std.specs.Prelude.{◌≡◌, ◌<◌, ◌≤◌, ◌+◌, ◌++◌, codes, slice_range, IfErr, IfOk, OnOk};
 ghost use Rattle.hex.specs.Hex.{encode_lower};
-ghost use Rattle.ubi_scan.specs.Image.{block, eraseblocks, image_of};
-ghost use Rattle.ubi_tool.specs.Show.{Shows, block_lines, ec_state, vid_state};
+ghost use Rattle.ubi_scan.specs.Image.{block, image_of};
+ghost use Rattle.ubi_scan.specs.Source.{Narrows, WhereHeld, blocks_in, blocks_of};
+ghost use Rattle.ubi_tool.specs.AfterRun.{IsNoWrite, after_run};
+ghost use Rattle.ubi_tool.specs.Show.{AreHeaderLines, Shows, ShowsFrom, block_lines, ec_state, header_lines, vid_state};
 
 use crate::lines::{ec_fault_name, no_block_line, put_word, refusal_line, vid_fault_name};
-use crate::outcome::{DONE, FAILED, Outcome};
+use crate::outcome::{DONE, FAILED, Outcome, ToolError, in_memory};
 use std::alloc::{AllocError, Global};
-use ubi_media::{EcRead, Geometry, VidRead};
-use ubi_scan::Blocks;
+use ubi_media::{EcRead, Geometry, VidRead, read_ec, read_vid};
+use ubi_scan::{BlockSource, MemorySource, block_count, read_part};
 
 /// Adds the word for a header at fault.
 fn put_fault(text: &mut Vec<u8>, name: &str) -> Result<(), AllocError>
@@ -53,33 +55,108 @@ fn put_bytes(alloc: Global, text: &mut Vec<u8>, bytes: &[u8]) -> Result<(), Allo
     put_word(text, "\n")
 }
 
-/// The lines of an eraseblock's headers.
-fn block_lines(alloc: Global, blocks: &Blocks<'_>, p: u32) -> Result<Vec<u8>, AllocError>
-    requires { p < length (eraseblocks blocks.now) }
-    ensures { IfOk result (λ text. text.items ≡ block_lines blocks.now.sizes (block (eraseblocks blocks.now) p)) }
+/// The lines of the bytes of two headers.
+fn header_lines(
+    alloc: Global,
+    geometry: &Geometry,
+    ec: &[u8; 64],
+    vid: &[u8; 64],
+) -> Result<Vec<u8>, AllocError>
+    ensures { IfOk result (λ text. text.items ≡ header_lines geometry.now ec.now vid.now) }
 {
-    let geometry = blocks.geometry();
-    let block = blocks.block(p);
-    let vid_offset = geometry.vid_offset() as usize;
-    prove!(geometry.peb_size() >= 64);
-    let ec_area = block.first_chunk::<64>().unwrap();
-    prove!(geometry.data_offset() <= geometry.peb_size());
-    let vid_area = &block[vid_offset..vid_offset + 64];
     let mut text = Vec::new(alloc);
     put_word(&mut text, "ec ")?;
-    put_ec_state(&mut text, &blocks.ec(p))?;
-    put_bytes(alloc, &mut text, ec_area)?;
+    put_ec_state(&mut text, &read_ec(geometry, ec))?;
+    put_bytes(alloc, &mut text, ec)?;
     put_word(&mut text, "vid ")?;
-    put_vid_state(&mut text, &blocks.vid(p))?;
-    put_bytes(alloc, &mut text, vid_area)?;
+    put_vid_state(&mut text, &read_vid(geometry, vid))?;
+    put_bytes(alloc, &mut text, vid)?;
     Ok(text)
 }
 
-/// Shows the headers of the eraseblock `p` of an image: what each is, and its bytes. The image isn't attached, so that
+/// Reads the bytes of a header, which begins at a byte of an eraseblock.
+///
+/// # Errors
+///
+/// The read failed.
+fn read_area<S: BlockSource>(
+    source: &mut S,
+    geometry: &Geometry,
+    p: u32,
+    start: u32,
+    area: &mut [u8; 64],
+) -> Result<(), ToolError>
+    requires block { p < blocks_in geometry.now (S.known source.old) }
+    requires part { start + 64 ≤ geometry.now.peb_size }
+    ensures known { S.known source.new ≡ after_run (S.known source.old) result }
+    ensures narrows { Narrows (S.agrees source.old) (S.agrees source.new) }
+    ensures bytes { OnOk result (WhereHeld (S.agrees source.new) (λ bytes. area.new ≡ slice_range (block (blocks_of geometry.now bytes) p) start (start + 64))) }
+    ensures failed { IfErr result (λ e. e ≡ ToolError.Read) }
+{
+    match read_part(source, geometry, p, start, area) {
+        Ok(()) => Ok(()),
+        Err(_) => Err(ToolError::Read),
+    }
+}
+
+/// The lines of the headers of an eraseblock of a source. Nothing but these is read.
+///
+/// # Errors
+///
+/// Read where a read failed. Memory where memory ran out.
+fn block_lines<S: BlockSource>(
+    alloc: Global,
+    geometry: &Geometry,
+    source: &mut S,
+    p: u32,
+) -> Result<Vec<u8>, ToolError>
+    requires { p < blocks_in geometry.now (S.known source.old) }
+    ensures known { S.known source.new ≡ after_run (S.known source.old) result }
+    ensures narrows { Narrows (S.agrees source.old) (S.agrees source.new) }
+    ensures form { IfOk result (λ text. AreHeaderLines geometry.now text.items) }
+    ensures lines { IfOk result (λ text. WhereHeld (S.agrees source.new) (λ bytes. text.items ≡ block_lines geometry.now (block (blocks_of geometry.now bytes) p))) }
+    ensures failed { IfErr result IsNoWrite }
+{
+    let (mut ec, mut vid) = ([0u8; 64], [0u8; 64]);
+    prove!(geometry.peb_size() >= 64);
+    read_area(source, geometry, p, 0, &mut ec)?;
+    prove!(geometry.data_offset() <= geometry.peb_size());
+    read_area(source, geometry, p, geometry.vid_offset(), &mut vid)?;
+    Ok(header_lines(alloc, geometry, &ec, &vid)?)
+}
+
+/// Shows the headers of the eraseblock `p` of a source: what each is, and its bytes. The source isn't attached, so that
 /// those of a refused one can be shown.
 ///
-/// Bytes that are no image are answered with the line of their refusal, and an eraseblock that isn't there with
-/// `refused B1 Block`.
+/// One that hasn't the size of an image is answered with the line of its refusal, and an eraseblock that isn't there with
+/// `refused B1 Block`; nothing is read then.
+///
+/// # Errors
+///
+/// Read where a read failed. Memory where memory ran out.
+pub fn run_show_from<S: BlockSource>(
+    alloc: Global,
+    geometry: &Geometry,
+    source: &mut S,
+    p: u32,
+) -> Result<Outcome, ToolError>
+    ensures known { S.known source.new ≡ after_run (S.known source.old) result }
+    ensures narrows { Narrows (S.agrees source.old) (S.agrees source.new) }
+    ensures shown { IfOk result (ShowsFrom geometry.now (S.known source.old) p) }
+    ensures shows { IfOk result (λ o. WhereHeld (S.agrees source.new) (λ bytes. Shows (image_of geometry.now bytes) p o)) }
+    ensures failed { IfErr result IsNoWrite }
+{
+    let count = match block_count(geometry, source.len()) {
+        Ok(count) => count,
+        Err(cause) => return Ok(Outcome::saying(refusal_line(alloc, cause)?, FAILED)),
+    };
+    if p >= count {
+        return Ok(Outcome::saying(no_block_line(alloc)?, FAILED));
+    }
+    Ok(Outcome::saying(block_lines(alloc, geometry, source, p)?, DONE))
+}
+
+/// Shows the headers of the eraseblock `p` of an image, as [`run_show_from`] does of a source.
 ///
 /// # Errors
 ///
@@ -92,12 +169,5 @@ pub fn run_show(
 ) -> Result<Outcome, AllocError>
     ensures { IfOk result (Shows (image_of geometry.now image.now) p) }
 {
-    let blocks = match Blocks::new(geometry, image) {
-        Ok(blocks) => blocks,
-        Err(cause) => return Ok(Outcome::saying(refusal_line(alloc, cause)?, FAILED)),
-    };
-    if p >= blocks.count() {
-        return Ok(Outcome::saying(no_block_line(alloc)?, FAILED));
-    }
-    Ok(Outcome::saying(block_lines(alloc, &blocks, p)?, DONE))
+    in_memory(run_show_from(alloc, geometry, &mut MemorySource::new(image), p))
 }

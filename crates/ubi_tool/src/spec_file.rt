@@ -7,8 +7,8 @@ ghost use Rattle.ubi_tool.specs.Numbers.{sizes_of};
 ghost use Rattle.ubi_tool.specs.Program.{IsUnread, Tells, text_limit};
 ghost use Rattle.ubi_tool.specs.Read.{TakesAtMost};
 
-use crate::image_file::{Unread, limit_line, unread_file};
-use crate::numbers::{Numbers, geometry_of};
+use crate::image_file::{Unread, allowed_geometry, unread_file};
+use crate::numbers::Numbers;
 use crate::outcome::ToolError;
 use crate::read::{expected_len, open_whole, read_limited};
 use std::alloc::Global;
@@ -89,10 +89,7 @@ pub fn load_spec<R: Files>(
     ensures few { IfOk result (λ f. length f.text.items ≤ text_limit (sizes_of numbers)) }
     ensures unread { IfErr result (Tells (IsUnread numbers path.now)) }
 {
-    let geometry = match geometry_of(numbers) {
-        Ok(geometry) => geometry,
-        Err(limit) => return Err(Unread::Told(limit_line(alloc, limit)?)),
-    };
+    let geometry = allowed_geometry(alloc, numbers)?;
     match read_spec(rt, alloc, &geometry, path) {
         Ok(text) => Ok(SpecFile { geometry, text }),
         Err(error) => Err(unread_file(alloc, path, error)),

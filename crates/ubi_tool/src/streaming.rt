@@ -3,18 +3,18 @@
 //! The image is read at places; or whole, where that can't be or where it may be the output too.
 
 ghost use Rattle.std.specs.Prelude.{◌≡◌, Bool, Err, IfOk, MatchResult, Ok, is_some};
-ghost use Rattle.ubi_scan.specs.Source.{Narrows, WhereHeld};
-ghost use Rattle.ubi_tool.specs.Extract.{ExtractsInto, ExtractsOf, HasText};
-ghost use Rattle.ubi_tool.specs.inner.Ended.{ExtractsSource, NormalisesSource, IsEnded, Streams};
-ghost use Rattle.ubi_tool.specs.Normalise.{NormalisesInto, NormalisesOf};
-ghost use Rattle.ubi_tool.specs.Program.{OfFileInto};
+ghost use Rattle.ubi_scan.specs.Source.{Narrows};
+ghost use Rattle.ubi_tool.specs.Extract.{ExtractsInto};
+ghost use Rattle.ubi_tool.specs.inner.Ended.{IsEnded, Works};
+ghost use Rattle.ubi_tool.specs.Normalise.{NormalisesInto};
+ghost use Rattle.ubi_tool.specs.Program.{OfFile};
 
 use crate::extract::run_extract_from;
-use crate::image_file::{limit_line, load, unread_line};
-use crate::image_source::source_of;
+use crate::image_file::unread_line;
 use crate::late_file::LateFile;
 use crate::normalise::run_normalise;
-use crate::numbers::{Numbers, geometry_of};
+use crate::numbers::Numbers;
+use crate::open_image::{OpenImage, open_beside};
 use crate::outcome::{DONE, Outcome, ToolError};
 use crate::output_file::unwritten;
 use crate::progress::Told;
@@ -83,7 +83,7 @@ fn normalise<R: Files + Eprint, S: BlockSource>(
     is_watched: bool,
 ) -> Result<Outcome, AllocError>
     ensures narrows { Narrows (S.agrees source.old) (S.agrees source.new) }
-    ensures answer { IfOk result (NormalisesSource geometry.now (S.known source.old) (S.known source.new) (S.agrees source.new) image.now out.now) }
+    ensures answer { IfOk result (Works (S.known source.old) (S.known source.new) image.now (NormalisesInto out.now geometry.now (S.known source.old) (S.agrees source.new))) }
 {
     // Made before the output is opened, so that no part of it is written where memory runs out.
     let unread = unread_line(alloc, image)?;
@@ -105,29 +105,20 @@ pub fn normalise_file<R: Files + Eprint>(
 ) -> Result<Outcome, AllocError>
 where
     R::File: FileExt,
-    ensures { IfOk result (OfFileInto numbers image.now out.now (NormalisesInto out.now) NormalisesOf) }
+    ensures { IfOk result (OfFile numbers image.now (NormalisesInto out.now)) }
 {
-    let geometry = match geometry_of(numbers) {
-        Ok(geometry) => geometry,
-        Err(limit) => return limit_line(alloc, limit),
-    };
-    if let Some(mut source) = source_of(rt, image, out) {
-        return normalise(rt, alloc, &geometry, &mut source, image, out, is_watched);
+    match open_beside(rt, alloc, numbers, image, out) {
+        Ok(OpenImage::AtPlaces(mut file)) => {
+            let (geometry, source) = (&file.geometry, &mut file.source);
+            normalise(rt, alloc, geometry, source, image, out, is_watched)
+        }
+        Ok(OpenImage::Whole(file)) => {
+            let (geometry, bytes) = (&file.geometry, file.bytes.as_slice());
+            let mut source = MemorySource::new(bytes);
+            normalise(rt, alloc, geometry, &mut source, image, out, is_watched)
+        }
+        Err(unread) => unread.answer(),
     }
-    let file = match load(rt, alloc, numbers, image) {
-        Ok(file) => file,
-        Err(unread) => return unread.answer(),
-    };
-    let mut source = MemorySource::new(file.bytes.as_slice());
-    normalise(
-        rt,
-        alloc,
-        &file.geometry,
-        &mut source,
-        image,
-        out,
-        is_watched,
-    )
 }
 
 /// Extracts a volume of a source into a file, which is opened at the first write, or once the work is done.
@@ -141,7 +132,7 @@ fn extract<R: Files, S: BlockSource>(
     out: &str,
 ) -> Result<Outcome, AllocError>
     ensures narrows { Narrows (S.agrees source.old) (S.agrees source.new) }
-    ensures answer { IfOk result (ExtractsSource geometry.now (S.known source.old) (S.known source.new) (S.agrees source.new) id image.now out.now) }
+    ensures answer { IfOk result (Works (S.known source.old) (S.known source.new) image.now (ExtractsInto id out.now geometry.now (S.known source.old) (S.agrees source.new))) }
 {
     // Made before the output is opened, so that no part of it is written where memory runs out.
     let unread = unread_line(alloc, image)?;
@@ -162,19 +153,17 @@ pub fn extract_file<R: Files>(
 ) -> Result<Outcome, AllocError>
 where
     R::File: FileExt,
-    ensures { IfOk result (OfFileInto numbers image.now out.now (ExtractsInto id out.now) (ExtractsOf id)) }
+    ensures { IfOk result (OfFile numbers image.now (ExtractsInto id out.now)) }
 {
-    let geometry = match geometry_of(numbers) {
-        Ok(geometry) => geometry,
-        Err(limit) => return limit_line(alloc, limit),
-    };
-    if let Some(mut source) = source_of(rt, image, out) {
-        return extract(rt, alloc, &geometry, &mut source, image, id, out);
+    match open_beside(rt, alloc, numbers, image, out) {
+        Ok(OpenImage::AtPlaces(mut file)) => {
+            let (geometry, source) = (&file.geometry, &mut file.source);
+            extract(rt, alloc, geometry, source, image, id, out)
+        }
+        Ok(OpenImage::Whole(file)) => {
+            let mut source = MemorySource::new(file.bytes.as_slice());
+            extract(rt, alloc, &file.geometry, &mut source, image, id, out)
+        }
+        Err(unread) => unread.answer(),
     }
-    let file = match load(rt, alloc, numbers, image) {
-        Ok(file) => file,
-        Err(unread) => return unread.answer(),
-    };
-    let mut source = MemorySource::new(file.bytes.as_slice());
-    extract(rt, alloc, &file.geometry, &mut source, image, id, out)
 }

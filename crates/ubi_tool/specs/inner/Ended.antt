@@ -1,16 +1,13 @@
 -- What a command answers once its work is over, and which of its faults are told.
 use Rattle.std.specs.Prelude.{◌≡◌, ℕ, Bool, true, false, List, Result, Ok, Err, codes}
-use Rattle.ubi_media.specs.Geometry.{Sizes}
-use Rattle.ubi_scan.specs.Image.{image_of}
-use Rattle.ubi_scan.specs.Source.{Agreed, Source, failed, WhereHeld}
-use Rattle.ubi_volume.specs.Accepts.{Accepts}
-use Rattle.ubi_volume.specs.Meant.{Meant}
+use Rattle.ubi_scan.specs.Source.{Source, failed}
 use Rattle.ubi_volume.specs.declared.errors.ReadError.{ReadError}
 use Rattle.ubi_tool.specs.Answer.{Gives, says}
-use Rattle.ubi_tool.specs.Extract.{read_refusal, ExtractsOf, HasText}
+use Rattle.ubi_tool.specs.Extract.{read_refusal}
 use Rattle.ubi_tool.specs.Lines.{file_line}
-use Rattle.ubi_tool.specs.Normalise.{NormalisesOf}
 use Rattle.ubi_tool.specs.declared.outcome.Outcome.{Outcome}
+use Rattle.ubi_tool.specs.declared.outcome.SidesError.{SidesError}
+use Rattle.ubi_tool.specs.declared.outcome.SidesError.TheVariants as side
 use Rattle.ubi_tool.specs.declared.outcome.ToolError.{ToolError}
 use Rattle.ubi_tool.specs.declared.outcome.ToolError.TheVariants as tool
 
@@ -31,28 +28,21 @@ pub data Works (k after : Source) (path : List ℕ) (answers : Outcome → Type 
   no_source : {o : Outcome} → after ≡ failed k → Gives o (says (file_line (codes "cannot read ") path) 1)
       → Works k after path answers o
 
--- what is answered of a source into a file: that; or the line of the file, where something was to be written
-pub data Streams (k after : Source) (path out : List ℕ) (answers : Outcome → Type 0) (writes : Type 0)
-    : Outcome → Type 0 where
-  works : {o : Outcome} → Works k after path answers o → Streams k after path out answers writes o
-  no_output : {o : Outcome} → writes → Gives o (says (file_line (codes "cannot write ") out) 1)
-      → Streams k after path out answers writes o
+-- what is told of work over a file: its outcome, or the line of the file, where a read of it failed
+pub data IsTold (work : Result Outcome ToolError) (path : List ℕ) : Outcome → Type 0 where
+  outcome : {o : Outcome} → work ≡ Ok o → IsTold work path o
+  read_failed : {o : Outcome} → work ≡ Err tool.Read → Gives o (says (file_line (codes "cannot read ") path) 1)
+      → IsTold work path o
+
+-- and of work over two
+pub data IsToldOfSides (work : Result Outcome SidesError) (left right : List ℕ) : Outcome → Type 0 where
+  comparison : {o : Outcome} → work ≡ Ok o → IsToldOfSides work left right o
+  left_failed : {o : Outcome} → work ≡ Err side.Left → Gives o (says (file_line (codes "cannot read ") left) 1)
+      → IsToldOfSides work left right o
+  right_failed : {o : Outcome} → work ≡ Err side.Right → Gives o (says (file_line (codes "cannot read ") right) 1)
+      → IsToldOfSides work left right o
 
 -- why a refusal to read isn't told: memory ran out, or it is none
 abbrev pub IsUntold : ReadError → ToolError → Type 0
 IsUntold e tool.Memory = Unit {0}
 IsUntold e fault = read_refusal e ≡ Err fault
-
--- what `extract` answers of a source into a file, of whose bytes nothing is known
-abbrev pub ExtractsSource : Sizes → Source → Source → Agreed → ℕ → List ℕ → List ℕ → Outcome → Type 0
-ExtractsSource s k after agrees id path out =
-    Streams k after path out
-    (ExtractsOf id s k agrees)
-    (WhereHeld agrees (λ bytes. HasText (image_of s bytes) id))
-
--- and what `normalise` does
-abbrev pub NormalisesSource : Sizes → Source → Source → Agreed → List ℕ → List ℕ → Outcome → Type 0
-NormalisesSource s k after agrees path out =
-    Streams k after path out
-    (NormalisesOf s k agrees)
-    (WhereHeld agrees (λ bytes. (m : Meant) × Accepts (image_of s bytes) m))

@@ -1,9 +1,9 @@
 //! What commands answer, over bytes and over files, compared with what they are to answer.
 
 use super::fake::{Broken, FakeFiles};
+use crate::commands::run_words;
 use crate::normalise::run_normalise;
 use crate::outcome::Outcome;
-use crate::words::run_words;
 use std::alloc::{AllocError, Global};
 use std::cell::RefCell;
 use std::fs;

@@ -9,7 +9,7 @@ returns-in_ok-text-in-Ok-clause-listed g c =
     let known = g.S.BlockSource.known c.args.source.now in
     listed c.in-Ok.places c.in_ok-text-in-Ok.text.items
     (places_narrowed c.args.geometry.now known _ _ c.in-Ok.places c.in_ok-text-in-Ok.ensures.narrows c.in-Ok.ensures.places)
-    c.in_ok-text-in-Ok.ensures.text c.saying.ensures
+    c.saying.ensures
 
 pub returns-in_ok-text-in-Ok-clause-lists : goal.returns-in_ok-text-in-Ok-clause-lists
 returns-in_ok-text-in-Ok-clause-lists g c = λ bytes holds.

@@ -1,10 +1,13 @@
-use Rattle.ubi_tool.specs.Program.{bad_limit, cannot_read}
+use Rattle.std.proofs.lemmas.Result.{err_from_is_err_and}
+use Rattle.ubi_tool.specs.Program.{cannot_read}
 use Rattle.ubi_tool.proofs.Outcomes.{Tells-weaker}
 use Rattle.ubi_tool.proofs.spec_file.load_spec.Goals as goal
 
 pub returns-in-Err-clause-unread : goal.returns-in-Err-clause-unread
-returns-in-Err-clause-unread g c = bad_limit c.in-Err.limit c.in-Err.ensures c.in_ok-limit_line-in-Err.ensures
+returns-in-Err-clause-unread g c =
+    Tells-weaker _ _ (λ o h. cannot_read c.in_ok-geometry.ensures.limits h) c.unread_file.result c.unread_file.ensures.line
 
-pub returns-in-Err-read_spec-clause-unread : goal.returns-in-Err-read_spec-clause-unread
-returns-in-Err-read_spec-clause-unread g c =
-    Tells-weaker _ _ (λ o h. cannot_read c.in-Ok.ensures.0 h) c.unread_file.result c.unread_file.ensures.line
+pub returns-in_err-geometry-clause-unread : goal.returns-in_err-geometry-clause-unread
+returns-in_err-geometry-clause-unread g c =
+    let p = err_from_is_err_and c.from_residual.result c.from_residual.ensures.1 in
+    rw (p.1, p.2) (c.in_err-geometry.ensures.broken c.args.path.now)

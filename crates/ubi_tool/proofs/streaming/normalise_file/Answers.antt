@@ -1,36 +1,27 @@
-use Rattle.std.proofs.Common.{refl, sym, ◌∙◌}
+use Rattle.std.proofs.Common.{◌∙◌}
 use Rattle.std.proofs.lemmas.Result.{IfOk-weaker}
-use Rattle.ubi_tool.specs.Normalise.{NormalisesInto, unwritten, written}
-use Rattle.ubi_tool.specs.Program.{bad_limit, no_image, of_file, whole}
-use Rattle.ubi_tool.proofs.Ended.{in_memory, into_places}
-use Rattle.ubi_tool.proofs.Outcomes.{of_image, told}
+use Rattle.ubi_tool.specs.Program.{no_file}
+use Rattle.ubi_tool.specs.Normalise.{NormalisesInto}
+use Rattle.ubi_tool.proofs.Ended.{at_places, by_bytes}
+use Rattle.ubi_tool.proofs.Outcomes.{told}
 use Rattle.ubi_tool.proofs.streaming.normalise_file.Goals as goal
+
+pub returns-in-Ok-AtPlaces : goal.returns-in-Ok-AtPlaces
+returns-in-Ok-AtPlaces g c =
+    let h = rw c.in-Ok-AtPlaces.field-0-is at c.in-Ok-AtPlaces.ensures.opened in
+    IfOk-weaker c.normalise.result _ _
+    (λ o work. at_places c.args.numbers c.args.image.now (NormalisesInto c.args.out.now) c.in-Ok-AtPlaces.file.geometry h.0 _ _ _ _ _ o h.1 h.2 work)
+    c.normalise.ensures.answer
+
+pub returns-in-Ok-Whole : goal.returns-in-Ok-Whole
+returns-in-Ok-Whole g c =
+    let h = rw c.in-Ok-Whole.field-0-is at c.in-Ok-Whole.ensures.opened in
+    IfOk-weaker c.normalise-in-Ok-Whole.result _ _
+    (λ o work. by_bytes c.args.numbers c.args.image.now (NormalisesInto c.args.out.now) c.in-Ok-Whole.file.geometry h.0
+    c.in-Ok-Whole.file.bytes.items _ _ o h.1 (c.new-source.ensures ∙ c.as_slice-bytes.ensures.value) c.normalise-in-Ok-Whole.ensures.narrows work)
+    c.normalise-in-Ok-Whole.ensures.answer
 
 pub returns-in-Err : goal.returns-in-Err
 returns-in-Err g c =
-    IfOk-weaker c.limit_line.result _ _ (λ o h. of_file (whole (no_image (bad_limit c.in-Err.limit c.in-Err.ensures h))))
-    c.limit_line.ensures
-
-pub returns-in-Some : goal.returns-in-Some
-returns-in-Some g c =
-    IfOk-weaker c.normalise.result _ _
-    (λ o h. into_places _ _ _ _ _ _ _ _ _ _ _ _ o c.in-Ok.ensures.0 (λ d n. rw c.in-Ok.ensures.1 at n) h)
-    c.normalise.ensures.answer
-
-pub returns-in-Err-load : goal.returns-in-Err-load
-returns-in-Err-load g c =
-    IfOk-weaker c.answer.result _ _ (λ o h. of_file (whole (no_image h)))
-    (told _ c.in-Err-load.unread c.answer.result c.in-Err-load.ensures.unread c.answer.ensures)
-
-pub returns : goal.returns
-returns g c =
-    let file = c.in-Ok-load.file in
-    let held = sym (c.normalise-2.ensures.narrows c.normalise-2.new.source refl ∙ c.new-source.ensures ∙ c.as_slice.ensures.value) in
-    IfOk-weaker c.normalise-2.result _ _
-    (λ o h. of_file (whole (of_image c.args.numbers _ (NormalisesInto c.args.out.now) file.geometry file.bytes.items o
-    c.in-Ok-load.ensures.geometry c.in-Ok-load.ensures.read
-    (in_memory _ _ _ _ _ _ _ o
-    (λ d n. written (n.1 file.bytes.items held))
-    (λ d means line. let m = means file.bytes.items held in
-    unwritten m.0 m.1 line) h))))
-    c.normalise-2.ensures.answer
+    IfOk-weaker c.answer.result _ _ (λ o h. no_file h)
+    (told _ c.in-Err.unread c.answer.result c.in-Err.ensures.unread c.answer.ensures)
