@@ -9,10 +9,12 @@ use super::pebs::{
 use crate::check::{run_check, run_check_from};
 use crate::list::{run_list, run_list_from};
 use crate::outcome::Outcome;
+use crate::same::{run_same, run_same_from};
+use crate::show::{run_show, run_show_from};
 use std::alloc::Global;
 use std::test::Fail;
 use ubi_compose::normalise_to;
-use ubi_scan::{BlockSource, SourceFault, StreamError};
+use ubi_scan::{BlockSource, MemorySource, SourceFault, StreamError};
 use ubi_volume::{Failure, Places, ProbeWriter, attach_places};
 
 /// A source that answers the bytes of one image for so many reads, and then those of another.
@@ -133,17 +135,38 @@ fn is_told(answer: &Outcome, want: &Outcome, has_to: bool) -> bool {
     answer.file.is_none() && is_refused == (answer.status == 1) && (!has_to || is_wanted)
 }
 
-/// Whether `check` and `list` have an answer for a source that changes after so many reads, and the right one if it doesn't.
+/// Whether `same` tells of a source that changes after so many reads, beside one that doesn't, that both mean the same or
+/// not, or that it is refused; and the right one if it doesn't change.
+fn is_compared(alloc: Global, first: &[u8], then: &[u8], left: u64) -> Result<bool, Fail> {
+    let geometry = small()?;
+    let mut source = Changing { first, then, left };
+    let mut beside = MemorySource::new(first);
+    let answer = run_same_from(alloc, &geometry, &mut source, &mut beside)?;
+    let text = answer.text.as_slice();
+    let is_form = match answer.status {
+        0 => text == b"same\n".as_slice(),
+        _ => text == b"different\n".as_slice() || text.starts_with(b"left refused "),
+    };
+    let is_same = text == run_same(alloc, &geometry, first, first)?.text.as_slice();
+    Ok(is_form && (is_same || left < 49))
+}
+
+/// Whether the commands that read have an answer for a source that changes after so many reads, and the right one if it
+/// doesn't.
 fn is_answered(alloc: Global, first: &[u8], then: &[u8], left: u64) -> Result<bool, Fail> {
     let geometry = small()?;
     let mut source = Changing { first, then, left };
     let checked = run_check_from(alloc, &geometry, &mut source)?;
     let mut source = Changing { first, then, left };
     let listed = run_list_from(alloc, &geometry, &mut source)?;
+    let mut source = Changing { first, then, left };
+    let shown = run_show_from(alloc, &geometry, &mut source, 1)?;
     let is_same = left == 49;
     Ok(
         is_told(&checked, &run_check(alloc, &geometry, first)?, is_same)
-            && is_told(&listed, &run_list(alloc, &geometry, first)?, is_same),
+            && is_told(&listed, &run_list(alloc, &geometry, first)?, is_same)
+            && is_told(&shown, &run_show(alloc, &geometry, first, 1)?, left >= 2)
+            && is_compared(alloc, first, then, left)?,
     )
 }
 

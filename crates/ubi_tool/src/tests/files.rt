@@ -133,14 +133,8 @@ fn reads_no_more_than_one_byte_above_the_device(rt: HostRuntime) -> Result<(), F
     // A read behind 32 eraseblocks and one byte would fail.
     let broken = Broken::Read(ErrorKind::Other, 32 * 512 + 1);
     let many = ("refused S2 TooMany\n", 1);
-    assert_over(
-        &rt,
-        alloc,
-        (long.as_slice(), broken),
-        "show a.img --block 0",
-        many,
-        &[],
-    )
+    let line = "rename a.img --id 0 --name a --out b.img";
+    assert_over(&rt, alloc, (long.as_slice(), broken), line, many, &[])
 }
 
 /// What `check` answers of three blank eraseblocks.
@@ -190,4 +184,63 @@ static LISTED: [(Broken, (&str, u8), usize); 5] = [
 #[test]
 fn lists_files_that_fail(rt: HostRuntime) -> Result<(), Fail> {
     assert_each(&rt, rt.alloc(), &[0xFF; 1536], "list a.img", &LISTED, &[])
+}
+
+/// What `show` answers of a blank eraseblock.
+const SHOWN: (&str, u8) = (
+    "ec blank ffffffffffffffffffffffffffffffffffffffffffffffffffffffffffffffff\
+        ffffffffffffffffffffffffffffffffffffffffffffffffffffffffffffffff\n\
+        vid blank ffffffffffffffffffffffffffffffffffffffffffffffffffffffffffffffff\
+        ffffffffffffffffffffffffffffffffffffffffffffffffffffffffffffffff\n",
+    0,
+);
+
+/// How a file fails while the second of three eraseblocks is shown: where the bytes of its headers can't be read, which are
+/// those from 512 to 640, and those behind it may fail.
+static SECOND_SHOWN: [(Broken, (&str, u8), usize); 7] = [
+    (Broken::Nothing, SHOWN, 0),
+    (Broken::Whole, SHOWN, 0),
+    (Broken::Places, SHOWN, 0),
+    (Broken::OpenRead, UNREAD, 0),
+    (Broken::Read(ErrorKind::Other, 640), SHOWN, 0),
+    (Broken::Read(ErrorKind::Other, 639), UNREAD, 0),
+    (Broken::Read(ErrorKind::Interrupted, 512), UNREAD, 0),
+];
+
+/// And while one is shown that was cut off since the file was opened.
+static LAST_SHOWN: [(Broken, (&str, u8), usize); 2] = [
+    (Broken::Cut, UNREAD, 0),
+    (Broken::Nothing, ("refused B1 Block\n", 1), 0),
+];
+
+#[test]
+fn shows_files_that_fail(rt: HostRuntime) -> Result<(), Fail> {
+    let alloc = rt.alloc();
+    let image = [0xFF; 1536];
+    assert_each(
+        &rt,
+        alloc,
+        &image,
+        "show a.img --block 1",
+        &SECOND_SHOWN,
+        &[],
+    )?;
+    assert_each(&rt, alloc, &image, "show a.img --block 3", &LAST_SHOWN, &[])
+}
+
+/// How two files fail while they are compared, which hold the same. Both fail, and the left one is told.
+static COMPARED: [(Broken, (&str, u8), usize); 7] = [
+    (Broken::Nothing, ("same\n", 0), 0),
+    (Broken::Whole, ("same\n", 0), 0),
+    (Broken::Places, ("same\n", 0), 0),
+    (Broken::OpenRead, UNREAD, 0),
+    (Broken::Read(ErrorKind::Other, 640), UNREAD, 0),
+    (Broken::Read(ErrorKind::Interrupted, 1100), UNREAD, 0),
+    (Broken::Cut, UNREAD, 0),
+];
+
+#[test]
+fn compares_files_that_fail(rt: HostRuntime) -> Result<(), Fail> {
+    let line = "same a.img c.img";
+    assert_each(&rt, rt.alloc(), &[0xFF; 1536], line, &COMPARED, &[])
 }

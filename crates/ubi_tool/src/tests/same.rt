@@ -6,11 +6,13 @@ use super::images::{
     updating_image, whole_boot,
 };
 use super::normal::{normal_damaged, root_bytes};
-use crate::same::run_same;
+use crate::outcome::SidesError;
+use crate::same::{run_same, run_same_from};
 use std::alloc::Global;
 use std::fs;
 use std::process::Abort;
 use std::test::Fail;
+use ubi_scan::ProbeSource;
 
 /// Asserts the line and the exit status of two images.
 fn assert_compares(
@@ -140,4 +142,78 @@ fn compares_files(rt: HostRuntime) -> Result<(), Fail> {
     fs::write(&rt, odd, [0xFF; 511].as_slice())?;
     assert_lines(&rt, alloc, &LINES)?;
     remove_files(&rt, &[root, turned, odd])
+}
+
+/// What a comparison answers whose left side fails at one read and the right one at another: the line, or the side. 0 is no
+/// read.
+fn compare_failing(
+    alloc: Global,
+    image: &[u8],
+    left_at: u64,
+    right_at: u64,
+) -> Result<Result<bool, SidesError>, Fail> {
+    let geometry = small()?;
+    let mut left = ProbeSource::new(alloc, &geometry, image, left_at)?;
+    let mut right = ProbeSource::new(alloc, &geometry, image, right_at)?;
+    match run_same_from(alloc, &geometry, &mut left, &mut right) {
+        Ok(outcome) => Ok(Ok(
+            outcome.text.as_slice() == b"same\n".as_slice() && outcome.status == 0,
+        )),
+        Err(error) => Ok(Err(error)),
+    }
+}
+
+/// How many reads of one side a comparison makes of an image with itself: the first that isn't made doesn't fail.
+fn read_count(rt: &impl Abort, alloc: Global, image: &[u8]) -> Result<u64, Fail> {
+    for at in 1..60 {
+        if compare_failing(alloc, image, at, 0)? == Ok(true) {
+            return Ok(at - 1);
+        }
+    }
+    assert!(rt; false, "the reads don't end");
+    Ok(0)
+}
+
+#[test]
+fn names_the_side_whose_read_fails(rt: HostRuntime) -> Result<(), Fail> {
+    let alloc = rt.alloc();
+    let root = root_image(alloc, &small()?)?;
+    let image = root.as_slice();
+    let count = read_count(&rt, alloc, image)?;
+    assert!(rt; count >= 5 + 2 + 3, "{count}");
+    for at in 1..=count {
+        let answer = compare_failing(alloc, image, at, 0)?;
+        assert_eq!(rt; answer, Err(SidesError::Left), "at {at}");
+        let answer = compare_failing(alloc, image, 0, at)?;
+        assert_eq!(rt; answer, Err(SidesError::Right), "at {at}");
+    }
+    Ok(())
+}
+
+/// The left image is judged before the right one is read: where it is refused, a right one that fails isn't told.
+#[test]
+fn refuses_the_left_image_before_the_right_is_read(rt: HostRuntime) -> Result<(), Fail> {
+    let alloc = rt.alloc();
+    let geometry = small()?;
+    let root = root_image(alloc, &geometry)?;
+    let mut faulty = root_image(alloc, &geometry)?;
+    overwrite(faulty.as_mut_slice(), 3 * 512, &ec_of(&geometry, 8));
+    let mut left = ProbeSource::new(alloc, &geometry, faulty.as_slice(), 0)?;
+    let mut right = ProbeSource::new(alloc, &geometry, root.as_slice(), 1)?;
+    let line = "left refused S4 ImageSeq block=3\n";
+    assert_says(
+        &rt,
+        run_same_from(alloc, &geometry, &mut left, &mut right)?,
+        line,
+        1,
+    )?;
+    let mut left = ProbeSource::new(alloc, &geometry, root.as_slice(), 0)?;
+    let mut right = ProbeSource::new(alloc, &geometry, faulty.as_slice(), 0)?;
+    let line = "right refused S4 ImageSeq block=3\n";
+    assert_says(
+        &rt,
+        run_same_from(alloc, &geometry, &mut left, &mut right)?,
+        line,
+        1,
+    )
 }
