@@ -1,26 +1,140 @@
 //! The commands that read image files, and write none.
 
-ghost use Rattle.std.specs.Prelude.{◌≡◌, IfOk, List, Result, ℕ};
-ghost use Rattle.ubi_scan.specs.Source.{Narrows};
+ghost use Rattle.std.specs.Prelude.{◌≡◌, IfErr, IfOk, List, Result, ℕ};
+ghost use Rattle.ubi_media.specs.Geometry.{Sizes};
+ghost use Rattle.ubi_scan.specs.Source.{Agreed, Narrows, Source};
+ghost use Rattle.ubi_tool.specs.AfterRun.{IsNoWrite, after_run};
 ghost use Rattle.ubi_tool.specs.Check.{ChecksOf};
 ghost use Rattle.ubi_tool.specs.inner.Ended.{IsToldOfSides, Works};
 ghost use Rattle.ubi_tool.specs.List.{ListsOf};
 ghost use Rattle.ubi_tool.specs.Program.{BothOf, OfFile};
 ghost use Rattle.ubi_tool.specs.Same.{ComparesOf};
 ghost use Rattle.ubi_tool.specs.Show.{ShowsOf};
+ghost use Rattle.ubi_tool.specs.declared.outcome.Outcome.{Outcome};
 
 use crate::check::run_check_from;
 use crate::image_file::{told, unread_line};
 use crate::list::run_list_from;
 use crate::numbers::Numbers;
 use crate::open_image::{OpenImage, open_image};
-use crate::outcome::{Outcome, SidesError};
+use crate::outcome::{Outcome, SidesError, ToolError};
 use crate::same::run_same_from;
 use crate::show::run_show_from;
 use std::alloc::{AllocError, Global};
 use std::fs::Files;
 use std::os::unix::fs::FileExt;
+use ubi_media::Geometry;
 use ubi_scan::{BlockSource, MemorySource};
+
+/// A command that reads one image, and writes no file.
+trait Reading {
+    // What it answers of a source.
+    ghost answers: { Self → Sizes → Source → Agreed → Outcome → Type 0 };
+
+    /// Does its work over a source.
+    ///
+    /// # Errors
+    ///
+    /// Read where a read failed. Memory where memory ran out.
+    fn answer<S: BlockSource>(
+        &self,
+        alloc: Global,
+        geometry: &Geometry,
+        source: &mut S,
+    ) -> Result<Outcome, ToolError>
+        ensures known { S.known source.new ≡ after_run (S.known source.old) result }
+        ensures narrows { Narrows (S.agrees source.old) (S.agrees source.new) }
+        ensures answer { IfOk result (answers self.now geometry.now (S.known source.old) (S.agrees source.new)) }
+        ensures failed { IfErr result IsNoWrite };
+}
+
+/// `list`: the volumes.
+#[derive(Clone, Copy)]
+struct Listing;
+
+impl Reading for Listing {
+    ghost use Rattle.ubi_tool.specs.List.{ListsOf};
+
+    ghost answers = { λ _. ListsOf };
+
+    fn answer<S: BlockSource>(
+        &self,
+        alloc: Global,
+        geometry: &Geometry,
+        source: &mut S,
+    ) -> Result<Outcome, ToolError> {
+        run_list_from(alloc, geometry, source)
+    }
+}
+
+/// `check`: the states of the eraseblocks.
+#[derive(Clone, Copy)]
+struct Checking;
+
+impl Reading for Checking {
+    ghost use Rattle.ubi_tool.specs.Check.{ChecksOf};
+
+    ghost answers = { λ _. ChecksOf };
+
+    fn answer<S: BlockSource>(
+        &self,
+        alloc: Global,
+        geometry: &Geometry,
+        source: &mut S,
+    ) -> Result<Outcome, ToolError> {
+        run_check_from(alloc, geometry, source)
+    }
+}
+
+/// `show`: the headers of one eraseblock.
+#[derive(Clone, Copy)]
+struct Showing {
+    block: u32,
+}
+
+impl Reading for Showing {
+    ghost use Rattle.ubi_tool.specs.Show.{ShowsOf};
+
+    ghost answers = { λ showing. ShowsOf showing.block };
+
+    fn answer<S: BlockSource>(
+        &self,
+        alloc: Global,
+        geometry: &Geometry,
+        source: &mut S,
+    ) -> Result<Outcome, ToolError> {
+        run_show_from(alloc, geometry, source, self.block)
+    }
+}
+
+/// Does the work of a command over an image file.
+fn read_file<R: Files, C: Reading>(
+    rt: &R,
+    alloc: Global,
+    numbers: Numbers,
+    image: &str,
+    command: &C,
+) -> Result<Outcome, AllocError>
+where
+    R::File: FileExt,
+    ensures { IfOk result (OfFile numbers image.now (C.answers command.now)) }
+{
+    match open_image(rt, alloc, numbers, image) {
+        Ok(OpenImage::AtPlaces(mut file)) => {
+            let work = command.answer(alloc, &file.geometry, &mut file.source);
+            told(alloc, work, image)
+        }
+        Ok(OpenImage::Whole(file)) => {
+            let mut source = MemorySource::new(file.bytes.as_slice());
+            told(
+                alloc,
+                command.answer(alloc, &file.geometry, &mut source),
+                image,
+            )
+        }
+        Err(unread) => unread.answer(),
+    }
+}
 
 /// Lists the volumes of a file.
 pub fn list_file<R: Files>(
@@ -33,24 +147,7 @@ where
     R::File: FileExt,
     ensures { IfOk result (OfFile numbers image.now ListsOf) }
 {
-    match open_image(rt, alloc, numbers, image) {
-        Ok(OpenImage::AtPlaces(mut file)) => {
-            told(
-                alloc,
-                run_list_from(alloc, &file.geometry, &mut file.source),
-                image,
-            )
-        }
-        Ok(OpenImage::Whole(file)) => {
-            let mut source = MemorySource::new(file.bytes.as_slice());
-            told(
-                alloc,
-                run_list_from(alloc, &file.geometry, &mut source),
-                image,
-            )
-        }
-        Err(unread) => unread.answer(),
-    }
+    read_file(rt, alloc, numbers, image, &Listing)
 }
 
 /// Counts the states of the eraseblocks of a file.
@@ -64,24 +161,7 @@ where
     R::File: FileExt,
     ensures { IfOk result (OfFile numbers image.now ChecksOf) }
 {
-    match open_image(rt, alloc, numbers, image) {
-        Ok(OpenImage::AtPlaces(mut file)) => {
-            told(
-                alloc,
-                run_check_from(alloc, &file.geometry, &mut file.source),
-                image,
-            )
-        }
-        Ok(OpenImage::Whole(file)) => {
-            let mut source = MemorySource::new(file.bytes.as_slice());
-            told(
-                alloc,
-                run_check_from(alloc, &file.geometry, &mut source),
-                image,
-            )
-        }
-        Err(unread) => unread.answer(),
-    }
+    read_file(rt, alloc, numbers, image, &Checking)
 }
 
 /// Shows one eraseblock of a file.
@@ -90,30 +170,13 @@ pub fn show_file<R: Files>(
     alloc: Global,
     numbers: Numbers,
     image: &str,
-    p: u32,
+    block: u32,
 ) -> Result<Outcome, AllocError>
 where
     R::File: FileExt,
-    ensures { IfOk result (OfFile numbers image.now (ShowsOf p)) }
+    ensures { IfOk result (OfFile numbers image.now (ShowsOf block)) }
 {
-    match open_image(rt, alloc, numbers, image) {
-        Ok(OpenImage::AtPlaces(mut file)) => {
-            told(
-                alloc,
-                run_show_from(alloc, &file.geometry, &mut file.source, p),
-                image,
-            )
-        }
-        Ok(OpenImage::Whole(file)) => {
-            let mut source = MemorySource::new(file.bytes.as_slice());
-            told(
-                alloc,
-                run_show_from(alloc, &file.geometry, &mut source, p),
-                image,
-            )
-        }
-        Err(unread) => unread.answer(),
-    }
+    read_file(rt, alloc, numbers, image, &Showing { block })
 }
 
 /// What is told of a comparison of two files once it is done: its outcome, or the line of the file of which a read failed.
