@@ -1,14 +1,14 @@
 -- How work ends that reads a source, and maybe writes a file meanwhile.
 use Rattle.std.proofs.Common.{◌≡◌, ℕ, List, ap, arith, length, refl, subst, sym, ◌∙◌}
 use Rattle.std.proofs.lemmas.Result.{IfOk-at_ok}
-use Rattle.std.specs.Prelude.{Bool, IfErr, IfOk, IsSome, None, Option, Some, is_some, true, MatchResult, Result, Ok, Err, codes}
+use Rattle.std.specs.Prelude.{Bool, IfOk, IsSome, None, Option, Some, is_some, true, MatchResult, Result, Ok, Err, codes}
 use Rattle.std.specs.declared.alloc.AllocError.{AllocError}
 use Rattle.ubi_media.specs.Geometry.{Sizes}
 use Rattle.ubi_media.specs.Limits.{first_broken}
 use Rattle.ubi_scan.specs.Source.{Agreed, Narrows, Source, holds, known_by, sound}
-use Rattle.ubi_tool.specs.AfterRun.{IsNoWrite, after_left, after_right, after_run}
+use Rattle.ubi_tool.specs.AfterRun.{IsTold, after_left, after_right, after_run, outcome, read_failed}
 use Rattle.ubi_tool.specs.Answer.{Gives, says}
-use Rattle.ubi_tool.specs.inner.Ended.{IsEnded, IsTold, IsToldOfSides, Works, answered, comparison, done, left_failed, no_read, no_source, no_write, outcome, read_failed, right_failed, unopened}
+use Rattle.ubi_tool.specs.inner.Ended.{IsEnded, IsToldOfSides, Works, answered, comparison, done, left_failed, no_read, no_source, no_write, right_failed, unopened}
 use Rattle.ubi_tool.specs.Lines.{file_line}
 use Rattle.ubi_tool.specs.Numbers.{sizes_of}
 use Rattle.ubi_tool.specs.Program.{IsRead, OfFile, cannot_read, no_file, places, whole}
@@ -66,15 +66,6 @@ module _ (work : Result Outcome ToolError) (k after : Source) (path : List ℕ) 
   works_in : (o : Outcome) → IsTold work path o → after ≡ after_run k work → IfOk work answers → Works k after path answers o
   works_in o (outcome is) known ok = answered (known ∙ ap (after_run k) is) (IfOk-at_ok answers is ok)
   works_in o (read_failed is line) known ok = no_source (known ∙ ap (after_run k) is) line
-
--- it fails over memory only where that ran out
-pub only_memory : {A : Type 0} (work : Result A ToolError) (size later : ℕ) → sound later ≡ after_run (sound size) work
-    → IfErr work IsNoWrite → IfErr work (λ e. e ≡ tool.Memory)
-only_memory (Ok a) size later known h = tt
-only_memory (Err tool.Memory) size later known h = refl
-only_memory (Err tool.Write) size later known h = absurd h
-only_memory (Err tool.Read) size later known h =
-    let e = ap (λ (k : Source). k.failures) known in absurd (omega (arith, e))
 
 module _ (numbers : Numbers) (path : List ℕ) (answers : Sizes → Source → Agreed → Outcome → Type 0) (s : Sizes)
     (same : s ≡ sizes_of numbers) where

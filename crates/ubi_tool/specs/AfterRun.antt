@@ -1,6 +1,9 @@
 -- What is known of a source after a command over it.
-use Rattle.std.specs.Prelude.{Result, Ok, Err}
+use Rattle.std.specs.Prelude.{◌≡◌, ℕ, List, Result, Ok, Err, codes}
 use Rattle.ubi_scan.specs.Source.{Source, failed}
+use Rattle.ubi_tool.specs.Answer.{Gives, says}
+use Rattle.ubi_tool.specs.Lines.{file_line}
+use Rattle.ubi_tool.specs.declared.outcome.Outcome.{Outcome}
 use Rattle.ubi_tool.specs.declared.outcome.SidesError.{SidesError}
 use Rattle.ubi_tool.specs.declared.outcome.SidesError.TheVariants as side
 use Rattle.ubi_tool.specs.declared.outcome.ToolError.{ToolError}
@@ -19,6 +22,12 @@ after_run k (Err e) = after_fault k e
 abbrev pub IsNoWrite : ToolError → Type 0
 IsNoWrite tool.Write = ⊥
 IsNoWrite _ = Unit {0}
+
+-- what is told of work over a file: its outcome, or the line of the file, where a read of it failed
+pub data IsTold (work : Result Outcome ToolError) (path : List ℕ) : Outcome → Type 0 where
+  outcome : {o : Outcome} → work ≡ Ok o → IsTold work path o
+  read_failed : {o : Outcome} → work ≡ Err tool.Read → Gives o (says (file_line (codes "cannot read ") path) 1)
+      → IsTold work path o
 
 -- what is known of the left source and of the right one after a comparison: one read of the side failed that is named
 abbrev pub after_left : {A : Type 0} → Source → Result A SidesError → Source

@@ -11,6 +11,7 @@ pub mod Lines
 pub mod List
 pub mod Normalise
 pub mod Numbers
+pub mod Opened
 pub mod Plan
 pub mod Printed
 pub mod Program

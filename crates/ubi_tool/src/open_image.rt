@@ -2,7 +2,7 @@
 
 ghost use Rattle.std.specs.Prelude.{◌≢◌, IfErr, IfOk};
 ghost use Rattle.ubi_tool.specs.Program.{IsUnread, Tells};
-ghost use Rattle.ubi_tool.specs.inner.Opened.{IsOpened, WhereAtPlaces};
+ghost use Rattle.ubi_tool.specs.Opened.{IsOpened, WhereAtPlaces};
 
 use crate::image_file::{ImageFile, Unread, allowed_geometry, load};
 use crate::image_source::{source_at, source_of};

@@ -28,13 +28,7 @@ pub data Works (k after : Source) (path : List ℕ) (answers : Outcome → Type 
   no_source : {o : Outcome} → after ≡ failed k → Gives o (says (file_line (codes "cannot read ") path) 1)
       → Works k after path answers o
 
--- what is told of work over a file: its outcome, or the line of the file, where a read of it failed
-pub data IsTold (work : Result Outcome ToolError) (path : List ℕ) : Outcome → Type 0 where
-  outcome : {o : Outcome} → work ≡ Ok o → IsTold work path o
-  read_failed : {o : Outcome} → work ≡ Err tool.Read → Gives o (says (file_line (codes "cannot read ") path) 1)
-      → IsTold work path o
-
--- and of work over two
+-- what is told of work over two files: its outcome, or the line of the file of which a read failed
 pub data IsToldOfSides (work : Result Outcome SidesError) (left right : List ℕ) : Outcome → Type 0 where
   comparison : {o : Outcome} → work ≡ Ok o → IsToldOfSides work left right o
   left_failed : {o : Outcome} → work ≡ Err side.Left → Gives o (says (file_line (codes "cannot read ") left) 1)

@@ -1,6 +1,6 @@
 use Rattle.std.proofs.Common.{Err, ap, ◌∙◌}
 use Rattle.std.proofs.lemmas.Result.{IfOk-weaker}
-use Rattle.ubi_tool.specs.inner.Ended.{outcome, read_failed}
+use Rattle.ubi_tool.specs.AfterRun.{outcome, read_failed}
 use Rattle.ubi_tool.proofs.image_file.told.Goals as goal
 
 pub returns-in-Ok : goal.returns-in-Ok
