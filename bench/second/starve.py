@@ -24,7 +24,7 @@ from fuzz import ROOT, Case, Failure, Maker, built, finish, options
 
 def refusing(folder):
     """The path of a library that refuses one growth, which REFUSE_AT counts from 1."""
-    source, library = os.path.join(ROOT, "bench", "refuse.c"), os.path.join(folder, "refuse.so")
+    source, library = os.path.join(ROOT, "bench", "second", "refuse.c"), os.path.join(folder, "refuse.so")
     subprocess.run([os.environ.get("CC", "cc"), "-O1", "-shared", "-fPIC", "-o", library, source, "-ldl"], check=True)
     return library
 

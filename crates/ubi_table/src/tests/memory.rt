@@ -47,8 +47,9 @@ fn tables_if_memory(alloc: Global, bytes: &[u8]) -> Result<Option<(Table, Table)
         Ok(_) => return Err("not good".into()),
         Err(_) => return Ok(None),
     };
-    match renamed(alloc, &second, 1, b"z")? {
-        Ok(renamed) => Ok(Some((first, renamed))),
+    match renamed(alloc, &second, 1, b"z") {
+        Ok(Some(renamed)) => Ok(Some((first, renamed))),
+        Ok(None) => Err("no such name".into()),
         Err(_) => Ok(None),
     }
 }
@@ -58,7 +59,7 @@ const FIRST: Volumes = &[(0, ROOT), (1, BOOT)];
 
 const SECOND: Volumes = &[(0, ROOT), (1, Slot { name: b"z", ..BOOT })];
 
-/// The script bench/refuse.sh refuses each growth of memory in turn, and looks for the line that is printed here.
+/// The script bench/second/refuse.sh refuses each growth of memory in turn, and looks for the line that is printed here.
 #[test]
 fn reads_and_names_or_runs_out_of_memory(rt: HostRuntime) -> Result<(), Fail> {
     let bytes = copies()?;

@@ -20,22 +20,23 @@ fn other_named<'a>(
     entries.iter().find(|entry| entry.0 != id && entry.1.name.as_bytes() == name.as_bytes())
 }
 
-/// A table with another name for a volume that it has. No other volume has the name.
+/// A table with another name for a volume. None where it has no such volume, the bytes are no name, or another volume has
+/// the name.
 pub fn renamed(
     alloc: Global,
     table: &Table,
     id: u32,
     name: &[u8],
-) -> Result<Result<Table, AllocError>, Fail> {
+) -> Result<Option<Table>, AllocError> {
     if table.get(id).is_none() {
-        return Err("no volume".into());
+        return Ok(None);
     }
     let Some(name) = VolName::new(name) else {
-        return Err("no name".into());
+        return Ok(None);
     };
     match other_named(table.entries(), id, &name) {
-        Some(_) => Err("another volume".into()),
-        None => Ok(table.renamed(alloc, id, &name)),
+        Some(_) => Ok(None),
+        None => Ok(Some(table.renamed(alloc, id, &name)?)),
     }
 }
 
@@ -96,7 +97,8 @@ static LARGER: [Case; 2] = [
 /// Whether the table of some eraseblocks gets the records that it is to have, by its bytes.
 fn gets(alloc: Global, geometry: &Geometry, pebs: &[Peb], case: &Case) -> Result<bool, Fail> {
     let table = chosen(alloc, geometry, pebs)?;
-    let encoded = renamed(alloc, &table, case.1, case.2)??.encode(alloc)?;
+    let renamed = renamed(alloc, &table, case.1, case.2)?.ok_or("no such name")?;
+    let encoded = renamed.encode(alloc)?;
     let (records, rest) = encoded.as_slice().as_chunks::<172>();
     let mut gets = rest.is_empty() && records.len() == case.3.len();
     for (record, slot) in records.iter().zip(case.3) {
@@ -117,6 +119,32 @@ fn names_one_volume_anew(rt: HostRuntime) -> Result<(), Fail> {
         assert!(rt;
             gets(rt.alloc(), &larger()?, &[Peb::Copy(0, case.0)], case)?,
             "larger {index}"
+        );
+    }
+    Ok(())
+}
+
+/// The records of a table, a volume, and a name that it can't get.
+static REFUSED: [(&[Slot], u32, &[u8]); 9] = [
+    (&[ROOT, BOOT], 1, b""),
+    (&[ROOT, BOOT], 1, &[b'n'; 128]),
+    (&[ROOT, BOOT], 1, b"z\0"),
+    (&[ROOT, BOOT], 0, b"boot"),
+    (&[ROOT, BOOT], 1, b"root"),
+    (&[ROOT, BOOT], 2, b"z"),
+    (&[ROOT, EMPTY], 1, b"z"),
+    (&[EMPTY, ROOT], 0, b"root"),
+    (&[EMPTY, EMPTY], 0, b"z"),
+];
+
+#[test]
+fn names_no_volume_otherwise(rt: HostRuntime) -> Result<(), Fail> {
+    let alloc = rt.alloc();
+    for (index, (records, id, name)) in REFUSED.iter().enumerate() {
+        let table = chosen(alloc, &small()?, &[Peb::Copy(0, records)])?;
+        assert!(rt;
+            renamed(alloc, &table, *id, name)?.is_none(),
+            "case {index}"
         );
     }
     Ok(())
