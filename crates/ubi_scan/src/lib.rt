@@ -28,7 +28,7 @@ mod trace;
 pub use blocks::Blocks;
 pub use errors::StreamError;
 pub use file::FileSource;
-pub use found::{Scan, ScanState};
+pub use found::{Leb, MemberHeader, Scan, ScanState};
 pub use probe::ProbeSource;
 pub use reading::{read_headers, read_leb, read_member, read_part};
 pub use scanning::{scan, scan_from};
