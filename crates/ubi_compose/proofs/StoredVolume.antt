@@ -10,10 +10,9 @@ use Rattle.ubi_media.specs.declared.record.VolumeRecord.{VolumeRecord}
 use Rattle.ubi_media.specs.declared.vid.VidHeader.{VidHeader}
 use Rattle.ubi_media.specs.declared.vid.VolKind.TheVariants as kind
 use Rattle.ubi_volume.specs.Accepts.{IsWithin}
-use Rattle.ubi_volume.specs.Places.{AreWithin, IsCountedPlace, IsReserved, Placed, case_of}
+use Rattle.ubi_volume.specs.Places.{IsCountedPlace, Placed, case_of}
 use Rattle.ubi_volume.specs.declared.content.Content.{Content}
 use Rattle.ubi_volume.specs.declared.content.Content.TheVariants as content
-use Rattle.ubi_volume.specs.declared.places.PlaceContent.{PlaceContent}
 use Rattle.ubi_volume.specs.declared.places.PlaceContent.TheVariants as place
 use Rattle.ubi_volume.proofs.VolumeAt.{case_is, reads_of}
 use Rattle.ubi_compose.specs.inner.Streaming.{laid_text, volume_text}
@@ -37,13 +36,6 @@ next_few n l size low =
 -- so many eraseblocks are at least one, and no more than more of them
 pub more_blocks : (m n size : ℕ) → m ≤ n → m * size ≤ n * size
 more_blocks m n size low = mul-le m size n size low (omega arith)
-
--- what holds of a volume's content whatever the source holds
-pub reserved_of : (n id : ℕ) (p : Placed) (r : VolumeRecord) (c : PlaceContent) → AreWithin n p
-    → finite.get p.records.of id ≡ Some r → finite.get p.contents id ≡ Some c → IsReserved r c
-reserved_of n id p r c within recorded listed =
-    let h = within.contents id r recorded in
-    subst (IsReserved r) (same_Some h.0 c (sym h.1 ∙ listed)) h.2
 
 module _ (s : Sizes) (p : Placed) (id : ℕ) (r : VolumeRecord) (recorded : finite.get p.records.of id ≡ Some r) where
   -- a volume whose update didn't end has no eraseblock

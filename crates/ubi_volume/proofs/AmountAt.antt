@@ -1,93 +1,54 @@
 -- How much a volume reads, by the places of its LEBs.
-use Rattle.std.proofs.Common.{◌≡◌, ℕ, ◌+◌, ◌-◌, Bool, true, false, cond, List, [], length, take, refl, ap, sym, ◌∙◌, subst, arith}
-use Rattle.std.specs.Prelude.{IfSome, MatchOption, None, Option, Some, is_some, not, slice_range}
+use Rattle.std.proofs.Common.{◌≡◌, ◌≢◌, ℕ, ◌+◌, cond, List, [], length, refl, ap, sym, ◌∙◌, subst}
+use Rattle.std.specs.Prelude.{IfSome, None, Option, Some, is_some}
 use Rattle.std.specs.Cmp.{nat_cmp_total}
 use Rattle.std.specs.FinMap as finite
 use Rattle.std.specs.FinMap.Entries.{length-put}
 use Rattle.std.specs.Ordering.{nat_cmp}
-use Rattle.ubi_media.specs.Fields.{is_blank}
+use Rattle.ubi_media.specs.Fields.{blank}
 use Rattle.ubi_media.specs.Geometry.{Sizes}
 use Rattle.ubi_media.specs.Record.{usable}
 use Rattle.ubi_media.specs.declared.record.VolumeRecord.{VolumeRecord}
-use Rattle.ubi_scan.specs.Image.{block, image_of, leb}
-use Rattle.ubi_scan.specs.Members.{NoMember, Wins}
 use Rattle.ubi_scan.specs.Source.{blocks_of}
 use Rattle.ubi_scan.proofs.Entries.{sorted_entries}
 use Rattle.ubi_volume.specs.Amounts.{AmountIs, amount_of}
-use Rattle.ubi_volume.specs.inner.Gathered.{AreKept, IsKept, ContentIs}
-use Rattle.ubi_volume.specs.Means.{VolumeReads}
+use Rattle.ubi_volume.specs.inner.Gathered.{AreKept, ContentIs}
+use Rattle.ubi_volume.specs.Means.{LebReads, VolumeReads}
 use Rattle.ubi_volume.specs.Meant.{Fits, IsVolume, KeepsNoBlank}
-use Rattle.ubi_volume.specs.Places.{ArePlaces, Placed, case_of}
+use Rattle.ubi_volume.specs.Places.{Placed, case_of}
 use Rattle.ubi_volume.specs.declared.amounts.Amount.TheVariants as amount
 use Rattle.ubi_volume.specs.declared.content.Content.{Content}
 use Rattle.ubi_volume.specs.declared.content.Content.TheVariants as content
 use Rattle.ubi_volume.specs.declared.content.Volume.{Volume}
 use Rattle.ubi_volume.specs.declared.places.PlaceContent.TheVariants as place
-use Rattle.ubi_volume.proofs.Dynamic.{dynamic_is, gathered_blank, gathered_none, gathered_text, kept_none, winner_blank, winner_text}
-use Rattle.ubi_volume.proofs.Either.{are_lebs}
+use Rattle.ubi_volume.proofs.Dynamic.{dynamic_is, gathered_blank, gathered_none, gathered_text, none_behind}
 use Rattle.ubi_volume.proofs.One.{reads_unique}
-use Rattle.ubi_volume.proofs.VolumeAt.{case_is, found_wins, reads_of}
-
-module _ (s : Sizes) (p : Placed) (image : List ℕ) (places : ArePlaces (image_of s image) p) (id : ℕ) (r : VolumeRecord)
-    (lnum : ℕ) where
-  abbrev bs : List (List ℕ)
-  bs = blocks_of s image
-
-  pub place_none : finite.get p.winners (id, lnum) ≡ None → IsKept s bs id r lnum false
-  place_none e = (
-    None,
-    kept_none s bs id r lnum
-        (subst (λ (o : Option ℕ). MatchOption o (NoMember s bs (id, lnum)) (Wins s bs (id, lnum))) e
-        (places.winners (id, lnum))),
-    refl,
-  )
-
-  module _ (q : ℕ) (found : finite.get p.winners (id, lnum) ≡ Some q) (n : ℕ) (size : n ≡ usable s r) (text : List ℕ)
-      (is : text ≡ slice_range (leb s (block bs q)) 0 n) where
-    read_is : text ≡ take n (leb s (block bs q))
-    read_is = is ∙ ap (λ k. take k (leb s (block bs q))) (let e : n - 0 ≡ n = omega arith in e)
-
-    pub place_kept : IsKept s bs id r lnum (not (is_blank text))
-    place_kept = by_test (is_blank text) refl
-      where
-        by_test : (b : Bool) → is_blank text ≡ b → IsKept s bs id r lnum (not b)
-        by_test true e =
-            let w = found_wins s p image places (id, lnum) q found in
-            let whole = are_lebs (image_of s image) q w.member.inside in
-            let test = ap is_blank (sym read_is) ∙ e in
-            (None, winner_blank s bs id r lnum q n (leb s (block bs q)) w size refl whole test, refl)
-        by_test false e =
-            let w = found_wins s p image places (id, lnum) q found in
-            let whole = are_lebs (image_of s image) q w.member.inside in
-            let test = ap is_blank (sym read_is) ∙ e in (
-              Some (take n (leb s (block bs q))),
-              winner_text s bs id r lnum q n (leb s (block bs q)) w size refl whole test,
-              refl,
-            )
+use Rattle.ubi_volume.proofs.VolumeAt.{case_is, reads_of}
 
 module _ (s : Sizes) (bs : List (List ℕ)) (vol : ℕ) (r : VolumeRecord) where
   pub none_kept : AreKept s bs vol r 0 0
   none_kept = (finite.empty, gathered_none s bs vol r, sym (ap length (sorted_entries [] refl)))
 
   -- one LEB more
-  pub one_kept : (n count : ℕ) → AreKept s bs vol r n count → IsKept s bs vol r n true
-      → AreKept s bs vol r (n + 1) (count + 1)
-  one_kept n count h (None, k, e) = absurd (cc)
-  one_kept n count h (Some text, k, e) =
+  pub one_kept : (n count : ℕ) (text : List ℕ) → AreKept s bs vol r n count → LebReads s bs vol r n text
+      → length text ≡ usable s r → text ≢ blank (usable s r) → AreKept s bs vol r (n + 1) (count + 1)
+  one_kept n count text h reads size some =
       let lebs = h.0 in
       let free : finite.find nat_cmp n (finite.entries lebs) ≡ None = sym (finite.get-entries lebs n)
-      ∙ h.1.none n (omega arith) in
+      ∙ none_behind (usable s r) n lebs h.1.texts in
       let long : length (finite.entries (finite.insert lebs n text)) ≡ length (finite.entries lebs) + 1 =
       ap length (finite.entries-insert nat_cmp_total lebs n text)
       ∙ length-put nat_cmp nat_cmp_total n text (finite.entries lebs) (finite.entries_sorted lebs)
       ∙ ap (λ (o : Option (List ℕ)). cond (is_some o) (length (finite.entries lebs)) (length (finite.entries lebs) + 1))
-      free in
-      (finite.insert lebs n text, gathered_text s bs vol r n lebs text h.1 k, ap (λ k. k + 1) h.2 ∙ sym long)
+      free in (
+        finite.insert lebs n text,
+        gathered_text s bs vol r n lebs text h.1 reads size some,
+        ap (λ k. k + 1) h.2 ∙ sym long,
+      )
 
-  pub none_more : (n count : ℕ) → AreKept s bs vol r n count → IsKept s bs vol r n false
+  pub none_more : (n count : ℕ) → AreKept s bs vol r n count → LebReads s bs vol r n (blank (usable s r))
       → AreKept s bs vol r (n + 1) count
-  none_more n count h (None, k, e) = (h.0, gathered_blank s bs vol r n h.0 h.1 k, h.2)
-  none_more n count h (Some text, k, e) = absurd (cc)
+  none_more n count h reads = (h.0, gathered_blank s bs vol r n h.0 h.1 reads, h.2)
 
 module _ (s : Sizes) (p : Placed) (id : ℕ) (r : VolumeRecord) (recorded : finite.get p.records.of id ≡ Some r)
     (image : List ℕ) where

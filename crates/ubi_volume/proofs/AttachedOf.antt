@@ -1,28 +1,26 @@
 -- What attaching an image gives, by what its parts answered.
-use Rattle.std.proofs.Common.{List, sym, subst}
-use Rattle.ubi_scan.specs.Faults.{NoFault}
-use Rattle.ubi_scan.specs.Image.{Image, IsWhole, eraseblocks, in_image}
+use Rattle.std.proofs.Common.{List, sym, subst, ◌∙◌}
+use Rattle.ubi_scan.specs.Image.{Image, eraseblocks, in_image}
 use Rattle.ubi_scan.specs.Scan.{Found, IsScan}
 use Rattle.ubi_table.specs.Records.{Records}
 use Rattle.ubi_table.specs.Table.{IsTable}
-use Rattle.ubi_volume.specs.Accepts.{NoMismatch}
+use Rattle.ubi_table.proofs.One.{table_unique}
+use Rattle.ubi_volume.specs.Accepts.{Accepts}
 use Rattle.ubi_volume.specs.Attached.{IsAttached, AreStates}
-use Rattle.ubi_volume.specs.Means.{Means}
 use Rattle.ubi_volume.specs.Meant.{Meant}
 use Rattle.ubi_volume.specs.declared.attached.BlockState.{BlockState}
 use Rattle.ubi_volume.proofs.Recorded.{records_meant}
 
-module _ (image : Image) (whole : IsWhole image) (clean : in_image NoFault image) where
-  pub attached : (found : Found) (t : Records) (m : Meant) (states : List BlockState)
-      → in_image IsScan image found → in_image IsTable image t → in_image NoMismatch image t
-      → in_image Means image t m → in_image AreStates image t states
-      → IsAttached image (record { meaning = m; scan = found; states = states })
-  attached found t m states scan is alike means are = record {
-    accepted = record {
-      whole = whole;
-      accepted = record { clean = clean; records = t; table = is; alike = alike; means = means };
-    };
-    scan = scan;
-    states = subst (λ (r : Records). in_image AreStates image r states)
-        (sym (records_meant image.sizes (eraseblocks image) t m is means)) are;
-  }
+pub attached : (image : Image) (found : Found) (t : Records) (m : Meant) (states : List BlockState) → Accepts image m
+    → in_image IsScan image found → in_image IsTable image t → in_image AreStates image t states
+    → IsAttached image (record { meaning = m; scan = found; states = states })
+attached image found t m states accepts scan is are =
+    let bs = eraseblocks image in
+    let a = accepts.accepted in
+    let same = records_meant image.sizes bs a.records m a.table a.means
+    ∙ table_unique image.sizes bs a.clean a.records t a.table is in
+    record {
+      accepted = accepts;
+      scan = scan;
+      states = subst (λ (r : Records). in_image AreStates image r states) (sym same) are;
+    }

@@ -87,6 +87,18 @@ module _ (s : Sizes) (p : Placed) (id size bytes : ℕ) where
         tt,
       )
 
+  -- the text so far, and one LEB more
+  pub lebs_next : (n m : ℕ) (at : Option ℕ) (image text part : List ℕ) → m ≡ share_len size bytes n
+      → at ≡ finite.get p.winners (id, n) → text ≡ lebs_bytes s p id size bytes image n → part ≡ leb_bytes s m at image
+      → text ++ part ≡ lebs_bytes s p id size bytes image (n + 1)
+  unfolding leb_of
+  lebs_next n m at image text part long is front read =
+      ap (λ x. x ++ part) front
+      ∙ ap (λ x. lebs_bytes s p id size bytes image n ++ x)
+      (read ∙ ap (λ (k : ℕ). leb_bytes s k at image) long
+      ∙ ap (λ (o : Option ℕ). leb_bytes s (share_len size bytes n) o image) is)
+      ∙ sym (pieces_more (leb_of image) 0 n n (zero-add n))
+
   -- one LEB more
   module _ (n m : ℕ) (at : Option ℕ) (long : m ≡ share_len size bytes n) (is : at ≡ finite.get p.winners (id, n)) where
     lebs_step : Splits (lebs_at s p id size bytes (n + 1)) (lebs_at s p id size bytes n) (leb_at s m at)

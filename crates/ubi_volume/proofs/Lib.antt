@@ -5,6 +5,7 @@ pub mod AttachedOf
 pub mod Blanks
 pub mod CaseSizes
 pub mod Causes
+pub mod ContentAt
 pub mod Dynamic
 pub mod Either
 pub mod Equal
@@ -15,6 +16,7 @@ pub mod Judged
 pub mod LebsText
 pub mod Lengths
 pub mod Listed
+pub mod MeaningOf
 pub mod MeantRecords
 pub mod MemberStates
 pub mod Mismatches
@@ -31,9 +33,7 @@ pub mod Shares
 pub mod SomeContent
 pub mod SomeMismatch
 pub mod Static
-pub mod SurveyKnown
 pub mod SurveyOf
-pub mod Tables
 pub mod VolumeAt
 pub mod Winners
 pub mod Within

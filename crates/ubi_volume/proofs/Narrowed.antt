@@ -1,10 +1,19 @@
--- The places in all that a source may hold are those in what is left of it, and so is what a writer received of it.
+-- What is known of all that a source may hold is known of what is left of it: its places, what its volumes read, and what
+-- a writer received of it.
 use Rattle.std.proofs.Common.{ℕ, List}
 use Rattle.std.specs.Prelude.{Option}
 use Rattle.ubi_media.specs.Geometry.{Sizes}
+use Rattle.ubi_media.specs.declared.record.VolumeRecord.{VolumeRecord}
+use Rattle.ubi_scan.proofs.Narrowed.{scan_narrowed, source_narrowed}
+use Rattle.ubi_scan.specs.Scan.{Found}
 use Rattle.ubi_scan.specs.Source.{Agreed, Narrows, Source}
 use Rattle.ubi_scan.specs.declared.errors.StreamError.{StreamError}
 use Rattle.ubi_scan.specs.declared.errors.StreamError.TheVariants as stream
+use Rattle.ubi_table.proofs.Narrowed.{table_narrowed}
+use Rattle.ubi_table.specs.Records.{Records}
+use Rattle.ubi_volume.specs.declared.content.Volume.{Volume}
+use Rattle.ubi_volume.specs.inner.Gathered.{AreContents, IsContentOf}
+use Rattle.ubi_volume.specs.inner.Surveying.{AreChecked}
 use Rattle.ubi_volume.specs.Places.{ArePlacesOf, Placed}
 use Rattle.ubi_volume.specs.Wrote.{IsWroteError, Wanted, Wrote}
 
@@ -15,6 +24,26 @@ places_narrowed s k old new p narrows h = record {
   whole = h.whole;
   within = h.within;
   held = λ bytes agrees. h.held bytes (narrows bytes agrees);
+}
+
+pub checked_narrowed : (s : Sizes) (k : Source) (old new : Agreed) (found : Found) (t : Records) → Narrows old new
+    → AreChecked s k old found t → AreChecked s k new found t
+checked_narrowed s k old new found t narrows h = record {
+  sizes = h.sizes;
+  source = source_narrowed k old new narrows h.source;
+  scan = scan_narrowed s k old new found narrows h.scan;
+  narrow = h.narrow;
+  table = table_narrowed s old new t narrows h.table;
+  alike = λ bytes agrees. h.alike bytes (narrows bytes agrees);
+}
+
+pub contents_narrowed : (s : Sizes) (old new : Agreed) (es : List (ℕ × VolumeRecord)) (vs : List (ℕ × Volume))
+    → Narrows old new → AreContents (IsContentOf s old) es vs → AreContents (IsContentOf s new) es vs
+contents_narrowed s old new es vs narrows h = record {
+  alike = h.alike;
+  contents = λ i d below.
+      let of = h.contents i d below in
+      record { fits = of.fits; kept = of.kept; reads = λ bytes agrees. of.reads bytes (narrows bytes agrees) };
 }
 
 module _ (old new : Agreed) (narrows : Narrows old new) where

@@ -1,5 +1,5 @@
 -- What attaching a source gives, by what its parts answered.
-use Rattle.std.proofs.Common.{◌≡◌, ℕ, ◌^◌, ◌<◌, inl, inr, cond, List, [], ◌∷◌, ◌++◌, map, refl, ap, sym, ◌∙◌, subst}
+use Rattle.std.proofs.Common.{◌≡◌, ℕ, inl, inr, cond, List, [], ◌∷◌, ◌++◌, map, refl, ap, sym, ◌∙◌, subst}
 use Rattle.std.specs.Prelude.{IsSome, Option, Some, None, ◌==◌, option_map}
 use Rattle.std.specs.Prelude as prelude
 use Rattle.std.specs.Cmp.{nat_cmp_total}
@@ -9,11 +9,11 @@ use Rattle.std.specs.Ordering.{eq_by_cmp, nat_cmp}
 use Rattle.std.proofs.lemmas.List.{map-append}
 use Rattle.std.proofs.lemmas.Map.Lookups.{exact_unsigned}
 use Rattle.std.proofs.lemmas.Option.{same_Some}
-use Rattle.ubi_media.specs.Geometry.{IsGeometry, Sizes}
+use Rattle.ubi_media.specs.Geometry.{Sizes}
 use Rattle.ubi_media.specs.declared.record.VolumeRecord.{VolumeRecord}
 use Rattle.ubi_scan.specs.Scan.{Found}
 use Rattle.ubi_scan.specs.Image.{IsWholeSize, image_of}
-use Rattle.ubi_scan.specs.Source.{Agreed, IsSource, Source, WhereHeld, blocks_of}
+use Rattle.ubi_scan.specs.Source.{Agreed, Source, WhereHeld, blocks_in, blocks_of}
 use Rattle.ubi_scan.specs.Stream.{IsScanOf}
 use Rattle.ubi_scan.specs.declared.errors.StreamError.{StreamError}
 use Rattle.ubi_scan.specs.declared.errors.StreamError.TheVariants as stream
@@ -21,11 +21,12 @@ use Rattle.ubi_scan.proofs.Entries.{first_entry}
 use Rattle.ubi_scan.proofs.Keys.{told}
 use Rattle.ubi_table.specs.Records.{Records}
 use Rattle.ubi_table.specs.Stream.{IsTableOf}
-use Rattle.ubi_volume.specs.Accepts.{NoMismatch}
-use Rattle.ubi_volume.specs.inner.Cases.{AreCases, AreNumbered, CaseIs, IsContentsError, IsMismatchError, case_in}
+use Rattle.ubi_volume.specs.inner.Cases.{AreCases, AreNumbered, CaseIs, IsMismatchError, case_in}
+use Rattle.ubi_volume.specs.inner.Gathered.{ContentIs}
+use Rattle.ubi_volume.specs.inner.Surveying.{AreChecked}
 use Rattle.ubi_volume.specs.Means.{Means}
 use Rattle.ubi_volume.specs.Meant.{Meant}
-use Rattle.ubi_volume.specs.Places.{AreListed, ArePlaces, ArePlacesError, ArePlacesOf, IsReserved, Placed, case_of}
+use Rattle.ubi_volume.specs.Places.{AreListed, ArePlaces, ArePlacesError, ArePlacesOf, CaseFits, IsReadFailure, Placed, case_of}
 use Rattle.ubi_volume.specs.declared.content.Volume.{Volume}
 use Rattle.ubi_volume.specs.declared.places.PlaceContent.{PlaceContent}
 use Rattle.ubi_volume.proofs.Gathered.{contents_mean, contents_more}
@@ -34,7 +35,7 @@ use Rattle.ubi_volume.proofs.Winners.{no_some}
 
 -- one entry more
 pub numbered_more : (es : List (ℕ × VolumeRecord)) (cs : List (ℕ × PlaceContent)) (e : ℕ × VolumeRecord)
-    (c : PlaceContent) → AreNumbered es cs → IsReserved e.1 c
+    (c : PlaceContent) → AreNumbered es cs → CaseFits e.1 c
     → AreNumbered (es ++ e ∷ []) (cs ++ (e.0, c) ∷ [])
 numbered_more [] [] e c h few = (refl, few, tt)
 numbered_more [] (y ∷ cs) e c h few = absurd h
@@ -48,7 +49,7 @@ cases_more s bs es cs e c h is =
     let v : Volume = record { entry = e.1; content = is.0 } in
     record {
       volumes = h.volumes ++ (e.0, v) ∷ [];
-      contents = contents_more s bs es h.volumes e v h.contents refl is.1;
+      contents = contents_more (ContentIs s bs) es h.volumes e v h.contents refl is.1;
       cases = ap (λ (x : List (ℕ × PlaceContent)). x ++ (e.0, c) ∷ []) h.cases
           ∙ ap (λ (x : PlaceContent). map (case_in s) h.volumes ++ (e.0, x) ∷ []) is.2
           ∙ sym (map-append (case_in s) h.volumes ((e.0, v) ∷ []));
@@ -57,7 +58,7 @@ cases_more s bs es cs e c h is =
 -- what is found by its number
 found_too : (id : ℕ) (es : List (ℕ × VolumeRecord)) (cs : List (ℕ × PlaceContent)) (r : VolumeRecord)
     → AreNumbered es cs → find nat_cmp id es ≡ Some r
-    → (c : PlaceContent) × (find nat_cmp id cs ≡ Some c) × IsReserved r c
+    → (c : PlaceContent) × (find nat_cmp id cs ≡ Some c) × CaseFits r c
 found_too id [] cs r h e = absurd (no_some r e)
 found_too id (x ∷ es) [] r h e = absurd h
 found_too id (x ∷ es) (y ∷ cs) r h e =
@@ -68,7 +69,7 @@ found_too id (x ∷ es) (y ∷ cs) r h e =
           ∙ e) in (
             y.1,
             ap (λ b. cond b (Some y.1) (find nat_cmp id cs)) t.0,
-            subst (λ (z : VolumeRecord). IsReserved z y.1) same h.1,
+            subst (λ (z : VolumeRecord). CaseFits z y.1) same h.1,
           )
       | inr t ↦
           let next = found_too id es cs r h.2 (sym (ap (λ b. cond b (Some x.1) (find nat_cmp id es)) t.0) ∙ other
@@ -91,7 +92,7 @@ find_case s id (w ∷ vs) v e = elim (told nat_cmp nat_cmp_total exact_unsigned 
 module _ (t : Records) (cs : List (ℕ × PlaceContent)) (numbered : AreNumbered (finite.entries t.of) cs) where
   -- each record has a case
   has_case : (id : ℕ) (r : VolumeRecord) → finite.get t.of id ≡ Some r
-      → (c : PlaceContent) × (finite.get (from_entries {R = nat_cmp} cs) id ≡ Some c) × IsReserved r c
+      → (c : PlaceContent) × (finite.get (from_entries {R = nat_cmp} cs) id ≡ Some c) × CaseFits r c
   has_case id r e =
       let f = found_too id (finite.entries t.of) cs r numbered (sym (finite.get-entries t.of id) ∙ e) in
       (f.0, finite.get-from_entries nat_cmp_total cs id ∙ f.1, f.2)
@@ -109,27 +110,21 @@ module _ (t : Records) (cs : List (ℕ × PlaceContent)) (numbered : AreNumbered
       by_record None e some = absurd (cc)
       by_record (Some r) e some = let c = has_case id r e in by_found _ c.0 (first_entry cs id ∙ c.1)
 
-module _ (s : Sizes) (k : Source) (agrees : Agreed) (found : Found) (t : Records)
-    (scan : IsScanOf s k agrees found) (table : IsTableOf s agrees t) where
-  pub winners_refused : (e : StreamError) → IsMismatchError s k agrees t e → ArePlacesError s k agrees e
-  winners_refused (stream.Refused c) h =
+module _ (s : Sizes) (k : Source) (agrees : Agreed) (found : Found) (t : Records) where
+  -- a winner that is unlike its record is why there are no places
+  pub winners_refused : IsScanOf s k agrees found → IsTableOf s agrees t → (e : StreamError)
+      → IsMismatchError s k agrees t e → ArePlacesError s k agrees e
+  winners_refused scan table (stream.Refused c) h =
       inr (
         scan.whole,
         λ bytes holds. inr (inr ((scan.held bytes holds).clean, t, table.held bytes holds, h bytes holds)),
       )
-  winners_refused (stream.Read p n) h = h
-  winners_refused (stream.Write n) h = h
-  winners_refused stream.Memory h = absurd h
+  winners_refused scan table (stream.Read p n) h = h
+  winners_refused scan table (stream.Write n) h = h
+  winners_refused scan table stream.Memory h = absurd h
 
-  pub contents_refused : (e : StreamError) → IsContentsError s k agrees t e → ArePlacesError s k agrees e
-  contents_refused (stream.Refused c) h = winners_refused (stream.Refused c) h
-  contents_refused (stream.Read p n) h = h
-  contents_refused (stream.Write n) h = h
-  contents_refused stream.Memory h = tt
-
-  module _ (sized : IsSource k agrees) (g : IsGeometry s) (narrow : found.image_seq < 2 ^ 32) (cs : List (ℕ × PlaceContent))
+  module _ (is : AreChecked s k agrees found t) (cs : List (ℕ × PlaceContent))
       (numbered : AreNumbered (finite.entries t.of) cs)
-      (alike : WhereHeld agrees (λ bytes. NoMismatch s (blocks_of s bytes) t))
       (cases : WhereHeld agrees (λ bytes. AreCases s (blocks_of s bytes) (finite.entries t.of) cs)) where
     abbrev placed : Placed
     placed = record {
@@ -142,28 +137,29 @@ module _ (s : Sizes) (k : Source) (agrees : Agreed) (found : Found) (t : Records
     held : (bytes : List ℕ) → agrees bytes → ArePlaces (image_of s bytes) placed
     held bytes holds =
         let bs = blocks_of s bytes in
-        let is = table.held bytes holds in
+        let scan = is.scan.held bytes holds in
+        let table = is.table.held bytes holds in
         let h = cases bytes holds in
         let m : Meant = record { sizes = s; image_seq = found.image_seq; volumes = from_entries h.volumes } in
-        let means : Means s bs t m = contents_mean s bs t is g h.volumes h.contents found.image_seq
-        (scan.held bytes holds).image_seq narrow in
+        let means : Means s bs t m = contents_mean s bs t table is.sizes h.volumes h.contents found.image_seq
+        scan.image_seq is.narrow in
         let same : from_entries {R = nat_cmp} cs ≡ from_entries (map (case_in s) h.volumes) =
         ap (from_entries {R = nat_cmp}) h.cases in
         record {
           meaning = m;
           accepted = record {
-            whole = subst (IsWholeSize s) (sym (sized.sized bytes holds)) scan.whole;
+            whole = subst (IsWholeSize s) (sym (is.source.sized bytes holds)) is.scan.whole;
             accepted = record {
-              clean = (scan.held bytes holds).clean;
+              clean = scan.clean;
               records = t;
-              table = is;
-              alike = alike bytes holds;
+              table = table;
+              alike = is.alike bytes holds;
               means = means;
             };
           };
-          records = sym (records_meant s bs t m is means);
+          records = sym (records_meant s bs t m table means);
           image_seq = refl;
-          winners = (scan.held bytes holds).winners;
+          winners = scan.winners;
           contents = λ id v e. ap (λ c. finite.get c id) same
               ∙ finite.get-from_entries nat_cmp_total (map (case_in s) h.volumes) id
               ∙ find_case s id h.volumes v (sym (finite.get-from_entries nat_cmp_total h.volumes id) ∙ e);
@@ -171,12 +167,20 @@ module _ (s : Sizes) (k : Source) (agrees : Agreed) (found : Found) (t : Records
 
     pub are_places : ArePlacesOf s k agrees placed
     are_places = record {
-      sizes = table.sizes;
-      whole = scan.whole;
+      sizes = is.table.sizes;
+      whole = is.scan.whole;
       within = record {
-        winners = scan.within.winners;
-        space = rw table.sizes table.space;
+        winners = is.scan.within.winners;
+        space = rw is.table.sizes is.table.space;
         contents = has_case t cs numbered;
       };
       held = held;
     }
+
+-- a read that failed, or memory that ran out, is why there are none
+pub reading_refused : (s : Sizes) (k : Source) (agrees : Agreed) (e : StreamError) → IsReadFailure (blocks_in s k) e
+    → ArePlacesError s k agrees e
+reading_refused s k agrees (stream.Refused c) h = absurd h
+reading_refused s k agrees (stream.Read p n) h = h
+reading_refused s k agrees (stream.Write n) h = h
+reading_refused s k agrees stream.Memory h = tt

@@ -1,13 +1,14 @@
 -- Each volume of eraseblocks that aren't refused reads something.
-use Rattle.std.proofs.Common.{◌≡◌, ℕ, zero, suc, ◌+◌, ◌<◌, ◌≤◌, ◌⊎◌, inl, inr, false, List, [], ◌++◌, length, take, refl, ap, subst, arith}
+use Rattle.std.proofs.Common.{◌≡◌, ℕ, zero, suc, ◌+◌, ◌<◌, ◌≤◌, ◌⊎◌, inl, inr, false, List, [], ◌++◌, length, take, refl, ap, subst, arith, length-take}
 use Rattle.std.specs.Prelude.{IsSome, None, Option, Some}
 use Rattle.std.specs.FinMap as finite
 use Rattle.std.specs.FinMap.{FinMap}
 use Rattle.std.specs.Ordering.{nat_cmp}
 use Rattle.std.proofs.lemmas.Bool.{cases_eq}
+use Rattle.std.proofs.lemmas.List.{length-replicate}
 use Rattle.std.proofs.lemmas.Option.{same_Some}
 use Rattle.ubi_media.specs.Check.{check}
-use Rattle.ubi_media.specs.Fields.{is_blank}
+use Rattle.ubi_media.specs.Fields.{blank, is_blank}
 use Rattle.ubi_media.specs.Geometry.{Sizes, leb_size}
 use Rattle.ubi_media.specs.Record.{usable}
 use Rattle.ubi_media.specs.declared.record.VolumeRecord.{VolumeRecord}
@@ -23,12 +24,13 @@ use Rattle.ubi_scan.proofs.Decided.{winner_or_none}
 use Rattle.ubi_scan.proofs.Least.{least_or}
 use Rattle.ubi_table.specs.Records.{Records}
 use Rattle.ubi_volume.specs.Accepts.{NoMismatch}
-use Rattle.ubi_volume.specs.inner.Gathered.{AreGathered, AreRead, ContentIs, LebKept, PieceIs, UsedIs, used_in}
-use Rattle.ubi_volume.specs.Means.{piece}
+use Rattle.ubi_volume.specs.inner.Gathered.{AreGathered, AreRead, ContentIs, PieceIs, UsedIs, used_in}
+use Rattle.ubi_volume.specs.Means.{LebReads, piece}
 use Rattle.ubi_volume.specs.declared.content.Content.{Content}
 use Rattle.ubi_volume.specs.declared.content.Content.TheVariants as content
 use Rattle.ubi_volume.proofs.Alike.{short_piece}
-use Rattle.ubi_volume.proofs.Dynamic.{dynamic_is, gathered_blank, gathered_none, gathered_text, kept_none, winner_blank, winner_text}
+use Rattle.ubi_volume.proofs.Blanks.{blank_text, other_text}
+use Rattle.ubi_volume.proofs.Dynamic.{dynamic_is, gathered_blank, gathered_none, gathered_text}
 use Rattle.ubi_volume.proofs.Static.{damaged_behind, damaged_is, damaged_large, damaged_piece, piece_checked, piece_unchecked, read_more, read_none, static_is}
 use Rattle.ubi_volume.proofs.Winners.{has_header}
 
@@ -37,35 +39,41 @@ abbrev pub AreLebs : Sizes → List (List ℕ) → Type 0
 AreLebs s bs = (p : ℕ) → p < length bs → length (leb s (block bs p)) ≡ leb_size s
 
 module _ (s : Sizes) (bs : List (List ℕ)) (vol : ℕ) (r : VolumeRecord) where
-  -- what is kept of a LEB
-  some_leb : AreLebs s bs → (lnum : ℕ) → (text : Option (List ℕ)) × LebKept s bs vol r lnum text
+  -- one LEB reads something
+  some_leb : AreLebs s bs → (lnum : ℕ) → (text : List ℕ) × LebReads s bs vol r lnum text × (length text ≡ usable s r)
   some_leb whole lnum = elim (winner_or_none s bs (vol, lnum)) [
-    | inl none ↦ (None, kept_none s bs vol r lnum none)
+    | inl none ↦ (blank (usable s r), inr (none, refl), length-replicate (usable s r) 255)
     | inr w ↦
         let bytes = leb s (block bs w.0) in
-        let size = whole w.0 w.1.member.inside in
-        elim (false_or_true (is_blank (take (usable s r) bytes))) [
-          | inl e ↦ (None, winner_blank s bs vol r lnum w.0 (usable s r) bytes w.1 refl refl size e)
-          | inr e ↦ (
-            Some (take (usable s r) bytes),
-            winner_text s bs vol r lnum w.0 (usable s r) bytes w.1 refl refl size e,
-          )
-        ]
+        let size = whole w.0 w.1.member.inside in (
+          take (usable s r) bytes,
+          inl (w.0, w.1, refl),
+          omega (arith, length-take (usable s r) bytes, size),
+        )
   ]
 
-  -- and of the LEBs below n
-  one_leb : (n : ℕ) (lebs : FinMap nat_cmp (List ℕ)) → AreGathered s bs vol r n lebs → (text : Option (List ℕ))
-      → LebKept s bs vol r n text
+  -- and the LEBs below n
+  one_leb : (n : ℕ) (lebs : FinMap nat_cmp (List ℕ)) → AreGathered s bs vol r n lebs → (text : List ℕ)
+      → LebReads s bs vol r n text → length text ≡ usable s r
       → (more : FinMap nat_cmp (List ℕ)) × AreGathered s bs vol r (n + 1) more
-  one_leb n lebs h None k = (lebs, gathered_blank s bs vol r n lebs h k)
-  one_leb n lebs h (Some text) k = (finite.insert lebs n text, gathered_text s bs vol r n lebs text h k)
+  one_leb n lebs h text reads long = elim (false_or_true (is_blank text)) [
+    | inl e ↦ (
+      lebs,
+      gathered_blank s bs vol r n lebs h
+          (subst (LebReads s bs vol r n) (blank_text text (usable s r) e long) reads),
+    )
+    | inr e ↦ (
+      finite.insert lebs n text,
+      gathered_text s bs vol r n lebs text h reads long (other_text text (usable s r) e),
+    )
+  ]
 
   some_lebs : AreLebs s bs → (n : ℕ) → (lebs : FinMap nat_cmp (List ℕ)) × AreGathered s bs vol r n lebs
   some_lebs whole zero = (finite.empty, gathered_none s bs vol r)
   some_lebs whole (suc n) =
       let old = some_lebs whole n in
       let here = some_leb whole n in
-      let more = one_leb n old.0 old.1 here.0 here.1 in
+      let more = one_leb n old.0 old.1 here.0 here.1 here.2 in
       let next : n + 1 ≡ suc n = omega arith in
       (more.0, subst (λ (k : ℕ). AreGathered s bs vol r k more.0) next more.1)
 

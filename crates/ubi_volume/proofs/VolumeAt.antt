@@ -4,13 +4,15 @@ use Rattle.std.specs.Prelude.{None, Option, Some, MatchOption}
 use Rattle.std.specs.FinMap as finite
 use Rattle.std.proofs.lemmas.Option.{same_Some}
 use Rattle.ubi_media.specs.Geometry.{Sizes}
+use Rattle.ubi_media.specs.Record.{usable}
 use Rattle.ubi_media.specs.declared.record.VolumeRecord.{VolumeRecord}
 use Rattle.ubi_scan.specs.Image.{image_of}
 use Rattle.ubi_scan.specs.Members.{Leb, NoMember, Wins}
 use Rattle.ubi_scan.specs.Source.{blocks_of}
 use Rattle.ubi_table.specs.Records.{Records}
 use Rattle.ubi_volume.specs.Accepts.{IsWithin}
-use Rattle.ubi_volume.specs.Means.{SlotMeans, VolumeReads}
+use Rattle.ubi_volume.specs.Extract.{leb_bytes}
+use Rattle.ubi_volume.specs.Means.{LebReads, SlotMeans, VolumeReads}
 use Rattle.ubi_volume.specs.Places.{ArePlaces, IsNextPlace, Placed, case_of}
 use Rattle.ubi_volume.specs.declared.content.Volume.{Volume}
 use Rattle.ubi_volume.specs.declared.places.PlaceContent.{PlaceContent}
@@ -41,6 +43,22 @@ module _ (s : Sizes) (p : Placed) (image : List ℕ) (places : ArePlaces (image_
       subst (λ (o : Option ℕ). MatchOption o (NoMember s (blocks_of s image) of) (Wins s (blocks_of s image) of)) e
       (places.winners of)
 
+  -- a LEB of a dynamic volume reads the bytes at its place
+  pub leb_reads : (id : ℕ) (r : VolumeRecord) (lnum n : ℕ) (at : Option ℕ) (text : List ℕ) → n ≡ usable s r
+      → at ≡ finite.get p.winners (id, lnum) → leb_bytes s n at image ≡ text
+      → LebReads s (blocks_of s image) id r lnum text
+  leb_reads id r lnum n at text size is read =
+      subst (LebReads s (blocks_of s image) id r lnum)
+      (ap (λ (k : ℕ). leb_bytes s k (finite.get p.winners (id, lnum)) image) (sym size)
+      ∙ ap (λ (o : Option ℕ). leb_bytes s n o image) (sym is) ∙ read)
+      (by_place (finite.get p.winners (id, lnum)) (places.winners (id, lnum)))
+    where
+      by_place : (o : Option ℕ)
+          → MatchOption o (NoMember s (blocks_of s image) (id, lnum)) (Wins s (blocks_of s image) (id, lnum))
+          → LebReads s (blocks_of s image) id r lnum (leb_bytes s (usable s r) o image)
+      by_place None none = inr (none, refl)
+      by_place (Some q) wins = inl (q, wins, refl)
+
   module _ (id : ℕ) (r : VolumeRecord) (recorded : finite.get p.records.of id ≡ Some r) where
     pub in_table : finite.get table.of id ≡ Some r
     in_table = ap (λ (x : Records). finite.get x.of id) same_records ∙ recorded
@@ -51,6 +69,18 @@ module _ (s : Sizes) (p : Placed) (image : List ℕ) (places : ArePlaces (image_
     reads_of v at = subst (SlotMeans s (blocks_of s image) id (Some r)) at
         (subst (λ (o : Option VolumeRecord). SlotMeans s (blocks_of s image) id o
         (finite.get places.meaning.volumes id)) in_table (places.accepted.accepted.means.slots id))
+
+    -- the meaning has the volume
+    pub has_volume : (v : Volume) × (finite.get places.meaning.volumes id ≡ Some v)
+    has_volume = by_volume (finite.get places.meaning.volumes id) refl
+        (subst (λ (o : Option VolumeRecord). SlotMeans s (blocks_of s image) id o
+        (finite.get places.meaning.volumes id)) in_table (places.accepted.accepted.means.slots id))
+      where
+        by_volume : (o : Option Volume) → finite.get places.meaning.volumes id ≡ o
+            → SlotMeans s (blocks_of s image) id (Some r) o
+            → (v : Volume) × (finite.get places.meaning.volumes id ≡ Some v)
+        by_volume None e is = absurd is
+        by_volume (Some v) e is = (v, e)
 
     -- and its case
     pub case_is : (v : Volume) → finite.get places.meaning.volumes id ≡ Some v → (c : PlaceContent)

@@ -1,6 +1,6 @@
 -- What is known of an image without its contents: its table, where each LEB stands, what its volumes read, and the image
 -- sequence number.
-use Rattle.std.specs.Prelude.{◌≡◌, ℕ, ◌<◌, ◌≤◌, ◌⊎◌, List, length, Option, Some, IfSome, IsSome, MatchOption, ◌==◌, find}
+use Rattle.std.specs.Prelude.{◌≡◌, ℕ, ◌<◌, ◌≤◌, ◌⊎◌, List, length, Option, Some, IfSome, IsSome, MatchOption, ◌==◌, find, true, false}
 use Rattle.std.specs.FinMap.{FinMap, get}
 use Rattle.std.specs.Ordering.{nat_cmp}
 use Rattle.ubi_media.specs.Geometry.{Sizes}
@@ -51,18 +51,19 @@ IsNextPlace p vol from next = MatchOption next
 abbrev pub AreListed : Records → List (ℕ × PlaceContent) → Type 0
 AreListed t contents = (id : ℕ) → IsSome (get t.of id) → IsSome (find (λ e. e.0 == id) contents)
 
--- the LEBs of a text are no more than its volume reserves, and what reads as dynamic is a dynamic volume
-abbrev pub IsReserved : VolumeRecord → PlaceContent → Type 0
-IsReserved r (place.Static lebs bytes) = lebs ≤ r.reserved
-IsReserved r place.Dynamic = r.kind ≡ kind.Dynamic
-IsReserved r _ = Unit {0}
+-- a case is one that its record allows: the LEBs of a text are no more than its volume reserves
+abbrev pub CaseFits : VolumeRecord → PlaceContent → Type 0
+CaseFits r place.Updating = r.marker ≡ true
+CaseFits r place.Damaged = (r.marker ≡ false) × (r.kind ≡ kind.Static)
+CaseFits r (place.Static lebs bytes) = (r.marker ≡ false) × (r.kind ≡ kind.Static) × (lebs ≤ r.reserved)
+CaseFits r place.Dynamic = (r.marker ≡ false) × (r.kind ≡ kind.Dynamic)
 
 -- what holds of places in n eraseblocks, whatever these hold: each place is one of them, the volumes fit the device,
--- and each has a case, whose LEBs it reserves
+-- and each has a case that its record allows
 pub record AreWithin (n : ℕ) (p : Placed) : Type 0 where
   pub winners : (of : Leb) → IfSome (get p.winners of) (λ at. at < n)
   pub space : HasSpace p.records.sizes p.records
-  pub contents : (id : ℕ) (r : VolumeRecord) → get p.records.of id ≡ Some r → (c : PlaceContent) × (get p.contents id ≡ Some c) × IsReserved r c
+  pub contents : (id : ℕ) (r : VolumeRecord) → get p.records.of id ≡ Some r → (c : PlaceContent) × (get p.contents id ≡ Some c) × CaseFits r c
 
 -- the places are those of an image that is accepted
 pub record ArePlaces (image : Image) (p : Placed) : Type 0 where
@@ -87,3 +88,8 @@ ArePlacesError s k agrees (stream.Refused c) =
 ArePlacesError s k agrees (stream.Read p written) = IsReadFault (blocks_in s k) (stream.Read p written)
 ArePlacesError s k agrees (stream.Write _) = ⊥
 ArePlacesError s k agrees stream.Memory = Unit {0}
+
+-- why what places show can't be told: a read of one of n eraseblocks failed, or memory ran out
+abbrev pub IsReadFailure : ℕ → StreamError → Type 0
+IsReadFailure n stream.Memory = Unit {0}
+IsReadFailure n e = IsReadFault n e

@@ -8,12 +8,13 @@ ghost use Rattle.ubi_scan.specs.Source.{Narrows, WhereHeld, blocks_in, blocks_of
 ghost use Rattle.ubi_scan.specs.Stream.{IsReadFault, after};
 ghost use Rattle.ubi_volume.specs.Amounts.{AmountIs};
 ghost use Rattle.ubi_volume.specs.Extract.{leb_bytes};
-ghost use Rattle.ubi_volume.specs.inner.Gathered.{AreKept, IsKept};
+ghost use Rattle.ubi_volume.specs.inner.Gathered.{AreKept};
 ghost use Rattle.ubi_volume.specs.Places.{ArePlaces, ArePlacesOf};
 
+use crate::fetching::is_kept;
 use crate::places::{PlaceContent, Places};
-use ubi_media::{Geometry, VolumeRecord, is_blank};
-use ubi_scan::{BlockSource, StreamError, read_leb};
+use ubi_media::{Geometry, VolumeRecord};
+use ubi_scan::{BlockSource, StreamError};
 
 /// How much a volume reads, or why it can't be read.
 #[derive(Clone, Copy, Debug, PartialEq, Eq)]
@@ -28,34 +29,8 @@ pub enum Amount {
     Lebs(u32),
 }
 
-/// Whether a logical eraseblock of a dynamic volume has a place, and isn't 0xFF throughout there. The buffer has the size
-/// of an eraseblock, here and below.
-fn is_kept<S: BlockSource>(
-    geometry: &Geometry,
-    source: &mut S,
-    places: &Places,
-    id: u32,
-    entry: &VolumeRecord,
-    lnum: u32,
-    buffer: &mut [u8],
-) -> Result<bool, StreamError>
-    requires places { ArePlacesOf geometry.now (S.known source.old) (S.agrees source.old) places.now }
-    requires sound { rec_fault geometry.now entry.now ≡ None }
-    requires room { length buffer.old ≡ geometry.now.peb_size }
-    ensures known { S.known source.new ≡ after (S.known source.old) result }
-    ensures narrows { Narrows (S.agrees source.old) (S.agrees source.new) }
-    ensures kept { IfOk result (λ kept. WhereHeld (S.agrees source.new) (λ bytes. IsKept geometry.now (blocks_of geometry.now bytes) id entry.now lnum kept)) }
-    ensures failed { IfErr result (IsReadFault (blocks_in geometry.now (S.known source.old))) }
-{
-    let Some(p) = places.place(id, lnum) else {
-        return Ok(false);
-    };
-    let text = &mut buffer[..entry.usable(geometry) as usize];
-    read_leb(source, geometry, p, text)?;
-    Ok(!is_blank(text))
-}
-
-/// How many logical eraseblocks of a dynamic volume have a place and aren't 0xFF throughout there.
+/// How many logical eraseblocks of a dynamic volume have a place and aren't 0xFF throughout there. The buffer has
+/// the size of an eraseblock, here and below.
 fn count_kept<S: BlockSource>(
     geometry: &Geometry,
     source: &mut S,
@@ -72,9 +47,10 @@ fn count_kept<S: BlockSource>(
     ensures count { IfOk result (λ count. WhereHeld (S.agrees source.new) (λ bytes. AreKept geometry.now (blocks_of geometry.now bytes) id entry.now entry.now.reserved count)) }
     ensures failed { IfErr result (IsReadFault (blocks_in geometry.now (S.known source.old))) }
 {
+    let text = &mut buffer[..entry.usable(geometry) as usize];
     let mut count = 0;
     for lnum in 0..entry.reserved {
-        if is_kept(geometry, source, places, id, entry, lnum, buffer)? {
+        if is_kept(geometry, source, places.place(id, lnum), text)? {
             count += 1;
         }
     }

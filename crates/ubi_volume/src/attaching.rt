@@ -1,16 +1,72 @@
 //! What an image means, or why it is refused.
 
-ghost use Rattle.std.specs.Prelude.{IfErr, IfOk};
+ghost use Rattle.std.specs.Prelude.{◌≡◌, IfErr, IfOk};
 ghost use Rattle.ubi_scan.specs.Image.{image_of};
+ghost use Rattle.ubi_scan.specs.Source.{Narrows};
+ghost use Rattle.ubi_scan.specs.Stream.{after};
 ghost use Rattle.ubi_volume.specs.Accepts.{IsAttachError};
-ghost use Rattle.ubi_volume.specs.Attached.{IsAttached};
+ghost use Rattle.ubi_volume.specs.Attached.{IsAttached, IsAttachedOf};
+ghost use Rattle.ubi_volume.specs.Places.{ArePlacesError};
 
 use crate::attached::Attached;
-use crate::gathering::gather;
-use crate::surveying::survey;
+use crate::cases::cases_from;
+use crate::checking::{Checked, checked_from};
+use crate::places::Places;
+use crate::surveying::{Surveyed, states_from};
 use std::alloc::Global;
 use ubi_media::{AttachError, Geometry};
-use ubi_scan::Blocks;
+use ubi_scan::{BlockSource, MemorySource, StreamError};
+
+/// Attaches the image of a source: finds what it means, and the state of each of its eraseblocks. It is surveyed, its
+/// places are found, and then each logical eraseblock is read by its place.
+///
+/// # Errors
+///
+/// As [`crate::attach_places`].
+pub fn attach_from<S: BlockSource>(
+    alloc: Global,
+    geometry: &Geometry,
+    source: &mut S,
+) -> Result<Attached, StreamError>
+    ensures known { S.known source.new ≡ after (S.known source.old) result }
+    ensures narrows { Narrows (S.agrees source.old) (S.agrees source.new) }
+    ensures attached { IfOk result (IsAttachedOf geometry.now (S.agrees source.new)) }
+    ensures refused { IfErr result (ArePlacesError geometry.now (S.known source.old) (S.agrees source.new)) }
+{
+    let Checked {
+        scan,
+        table,
+        mut buffer,
+    } = checked_from(alloc, geometry, source)?;
+    let states = states_from(
+        alloc,
+        geometry,
+        source,
+        &scan,
+        &table,
+        buffer.as_mut_slice(),
+    )?;
+    let contents = cases_from(
+        alloc,
+        geometry,
+        source,
+        &scan,
+        &table,
+        buffer.as_mut_slice(),
+    )?;
+    let places = Places {
+        table,
+        scan,
+        contents,
+    };
+    let meaning = places.meaning_from(alloc, geometry, source, buffer.as_mut_slice())?;
+    let surveyed = Surveyed {
+        scan: places.scan,
+        table: places.table,
+        states,
+    };
+    Ok(Attached { meaning, surveyed })
+}
 
 /// Attaches an image: finds what it means, and the state of each of its eraseblocks.
 ///
@@ -22,8 +78,11 @@ pub fn attach(alloc: Global, geometry: &Geometry, image: &[u8]) -> Result<Attach
     ensures attached { IfOk result (IsAttached (image_of geometry.now image.now)) }
     ensures refused { IfErr result (IsAttachError (image_of geometry.now image.now)) }
 {
-    let blocks = Blocks::new(geometry, image)?;
-    let surveyed = survey(alloc, geometry, image)?;
-    let meaning = gather(alloc, &blocks, surveyed.scan(), surveyed.table())?;
-    Ok(Attached { meaning, surveyed })
+    match attach_from(alloc, geometry, &mut MemorySource::new(image)) {
+        Ok(attached) => Ok(attached),
+        Err(StreamError::Refused(cause)) => Err(AttachError::Refused(cause)),
+        Err(StreamError::Memory) => Err(AttachError::Memory),
+        // No read fails, and nothing is written.
+        Err(StreamError::Read(..) | StreamError::Write(_)) => unreachable!(),
+    }
 }

@@ -2,21 +2,19 @@
 
 ghost use Rattle.std.specs.FinMap as finite;
 ghost use Rattle.std.specs.Prelude.{◌≡◌, ◌<◌, ◌↔◌, IfErr, IfOk, IsTrue, Some, None, false, length};
+ghost use Rattle.ubi_media.specs.Check.{check};
 ghost use Rattle.ubi_media.specs.Record.{rec_fault};
 ghost use Rattle.ubi_media.specs.declared.vid.VolKind.TheVariants.{Static};
 ghost use Rattle.ubi_scan.specs.Source.{Narrows, WhereHeld, blocks_in, blocks_of};
 ghost use Rattle.ubi_scan.specs.Stream.{IsReadFault, IsScanOf, after};
-ghost use Rattle.ubi_table.specs.inner.OneCopy.{IsCopyReadError};
-ghost use Rattle.ubi_table.specs.Stream.{IsTableOf};
-ghost use Rattle.ubi_volume.specs.Accepts.{NoMismatch};
 ghost use Rattle.ubi_volume.specs.inner.Cases.{AreCases, AreNumbered, CaseIs, PieceSizeIs};
 ghost use Rattle.ubi_volume.specs.inner.Gathered.{UsedIs};
-ghost use Rattle.ubi_volume.specs.Places.{IsReserved};
+ghost use Rattle.ubi_volume.specs.inner.Surveying.{AreChecked};
+ghost use Rattle.ubi_volume.specs.Places.{CaseFits, IsReadFailure};
 
 use crate::places::PlaceContent;
-use crate::static_text::holds_piece;
 use std::alloc::{AllocError, Global};
-use ubi_media::{Geometry, VolKind, VolumeRecord};
+use ubi_media::{Geometry, VidHeader, VolKind, VolumeRecord, crc};
 use ubi_scan::{BlockSource, Scan, StreamError, read_leb, read_member};
 use ubi_table::Table;
 
@@ -43,6 +41,13 @@ fn used_ebs<S: BlockSource>(
         },
         None => Ok(0),
     }
+}
+
+/// Whether a header says that its volume uses so many logical eraseblocks, and that its data are these.
+fn holds_piece(header: &VidHeader, used: u32, text: &[u8]) -> bool
+    ensures { IsTrue result ↔ ((header.now.used_ebs ≡ used) × (check text.now ≡ header.now.data_crc)) }
+{
+    header.used_ebs == used && crc(text) == header.data_crc
 }
 
 /// The size in bytes of the piece that the winner of a logical eraseblock holds of a text of `used` of them. None where
@@ -91,8 +96,7 @@ fn static_case<S: BlockSource>(
     entry: &VolumeRecord,
     buffer: &mut [u8],
 ) -> Result<PlaceContent, StreamError>
-    requires scan { IsScanOf geometry.now (S.known source.old) (S.agrees source.old) scan.now }
-    requires alike { WhereHeld (S.agrees source.old) (λ bytes. NoMismatch geometry.now (blocks_of geometry.now bytes) table.now) }
+    requires checked { AreChecked geometry.now (S.known source.old) (S.agrees source.old) scan.now table.now }
     requires recorded { finite.get table.now.of id ≡ Some entry.now }
     requires sound { rec_fault geometry.now entry.now ≡ None }
     requires unmarked { entry.now.marker ≡ false }
@@ -101,7 +105,7 @@ fn static_case<S: BlockSource>(
     ensures known { S.known source.new ≡ after (S.known source.old) result }
     ensures narrows { Narrows (S.agrees source.old) (S.agrees source.new) }
     ensures case { IfOk result (λ case. WhereHeld (S.agrees source.new) (λ bytes. CaseIs geometry.now (blocks_of geometry.now bytes) id entry.now case)) }
-    ensures reserved { IfOk result (IsReserved entry.now) }
+    ensures fits { IfOk result (CaseFits entry.now) }
     ensures failed { IfErr result (IsReadFault (blocks_in geometry.now (S.known source.old))) }
 {
     let used = used_ebs(geometry, source, scan, id, buffer)?;
@@ -131,15 +135,14 @@ fn case_of<S: BlockSource>(
     entry: &VolumeRecord,
     buffer: &mut [u8],
 ) -> Result<PlaceContent, StreamError>
-    requires scan { IsScanOf geometry.now (S.known source.old) (S.agrees source.old) scan.now }
-    requires alike { WhereHeld (S.agrees source.old) (λ bytes. NoMismatch geometry.now (blocks_of geometry.now bytes) table.now) }
+    requires checked { AreChecked geometry.now (S.known source.old) (S.agrees source.old) scan.now table.now }
     requires recorded { finite.get table.now.of id ≡ Some entry.now }
     requires sound { rec_fault geometry.now entry.now ≡ None }
     requires room { length buffer.old ≡ geometry.now.peb_size }
     ensures known { S.known source.new ≡ after (S.known source.old) result }
     ensures narrows { Narrows (S.agrees source.old) (S.agrees source.new) }
     ensures case { IfOk result (λ case. WhereHeld (S.agrees source.new) (λ bytes. CaseIs geometry.now (blocks_of geometry.now bytes) id entry.now case)) }
-    ensures reserved { IfOk result (IsReserved entry.now) }
+    ensures fits { IfOk result (CaseFits entry.now) }
     ensures failed { IfErr result (IsReadFault (blocks_in geometry.now (S.known source.old))) }
 {
     if entry.marker {
@@ -164,15 +167,13 @@ pub fn cases_from<S: BlockSource>(
     table: &Table,
     buffer: &mut [u8],
 ) -> Result<Vec<(u32, PlaceContent)>, StreamError>
-    requires scan { IsScanOf geometry.now (S.known source.old) (S.agrees source.old) scan.now }
-    requires table { IsTableOf geometry.now (S.agrees source.old) table.now }
-    requires alike { WhereHeld (S.agrees source.old) (λ bytes. NoMismatch geometry.now (blocks_of geometry.now bytes) table.now) }
+    requires checked { AreChecked geometry.now (S.known source.old) (S.agrees source.old) scan.now table.now }
     requires room { length buffer.old ≡ geometry.now.peb_size }
     ensures known { S.known source.new ≡ after (S.known source.old) result }
     ensures narrows { Narrows (S.agrees source.old) (S.agrees source.new) }
     ensures numbered { IfOk result (λ cases. AreNumbered (finite.entries table.now.of) cases.items) }
     ensures cases { IfOk result (λ cases. WhereHeld (S.agrees source.new) (λ bytes. AreCases geometry.now (blocks_of geometry.now bytes) (finite.entries table.now.of) cases.items)) }
-    ensures failed { IfErr result (IsCopyReadError (blocks_in geometry.now (S.known source.old))) }
+    ensures failed { IfErr result (IsReadFailure (blocks_in geometry.now (S.known source.old))) }
 {
     let mut cases = Vec::new(alloc);
     for listed in table.entries() {

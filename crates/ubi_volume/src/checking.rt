@@ -1,4 +1,4 @@
-//! Winners of a source whose header isn't what the record of their volume says.
+//! The scan and the table of a source, and winners whose header isn't what the record of their volume says.
 //!
 //! Each buffer has the size of an eraseblock.
 
@@ -9,11 +9,14 @@ ghost use Rattle.ubi_table.specs.Stream.{IsTableOf};
 ghost use Rattle.ubi_volume.specs.Accepts.{IsMismatched, NoMismatch};
 ghost use Rattle.ubi_volume.specs.inner.Cases.{IsMismatchError};
 ghost use Rattle.ubi_volume.specs.inner.Headers.{WinnerHeaderIs};
+ghost use Rattle.ubi_volume.specs.inner.Surveying.{AreChecked};
+ghost use Rattle.ubi_volume.specs.Places.{ArePlacesError};
 
 use crate::mismatch::disagrees;
+use std::alloc::Global;
 use ubi_media::{Geometry, Refusal, VidHeader};
-use ubi_scan::{BlockSource, Scan, ScanState, StreamError, read_member};
-use ubi_table::Table;
+use ubi_scan::{BlockSource, Scan, ScanState, StreamError, read_member, scan_from};
+use ubi_table::{Table, choose_from};
 
 /// The header of an eraseblock that wins its logical eraseblock. None where it wins none.
 fn winner_header<S: BlockSource>(
@@ -70,7 +73,7 @@ fn is_mismatched<S: BlockSource>(
 /// # Errors
 ///
 /// Refused with `Mismatch` and the lowest one. Read where a read failed.
-pub fn check_winners_from<S: BlockSource>(
+fn check_winners_from<S: BlockSource>(
     geometry: &Geometry,
     source: &mut S,
     scan: &Scan,
@@ -92,4 +95,44 @@ pub fn check_winners_from<S: BlockSource>(
         }
     }
     Ok(())
+}
+
+/// What is known of a source before its volumes are looked at, and a buffer of the size of an eraseblock.
+#[derive(Drop)]
+pub struct Checked {
+    /// What the scan found.
+    pub scan: Scan,
+    /// The volume table.
+    pub table: Table,
+    /// The buffer.
+    pub buffer: Vec<u8>,
+}
+
+/// Scans a source, chooses its volume table, and looks for a winner that is unlike the record of its volume.
+///
+/// # Errors
+///
+/// As [`crate::attach_places`].
+pub fn checked_from<S: BlockSource>(
+    alloc: Global,
+    geometry: &Geometry,
+    source: &mut S,
+) -> Result<Checked, StreamError>
+    ensures known { S.known source.new ≡ after (S.known source.old) result }
+    ensures narrows { Narrows (S.agrees source.old) (S.agrees source.new) }
+    ensures checked { IfOk result (λ c. AreChecked geometry.now (S.known source.old) (S.agrees source.new) c.scan c.table) }
+    ensures room { IfOk result (λ c. length c.buffer.items ≡ geometry.now.peb_size) }
+    ensures refused { IfErr result (ArePlacesError geometry.now (S.known source.old) (S.agrees source.new)) }
+{
+    let scan = scan_from(alloc, geometry, source)?;
+    let table = choose_from(alloc, geometry, source, &scan)?;
+    // A meaning's number has the width that a header gives it.
+    prove!(scan.image_seq() <= u32::MAX);
+    let mut buffer = Vec::from_elem(alloc, 0u8, geometry.peb_size() as usize)?;
+    check_winners_from(geometry, source, &scan, &table, buffer.as_mut_slice())?;
+    Ok(Checked {
+        scan,
+        table,
+        buffer,
+    })
 }

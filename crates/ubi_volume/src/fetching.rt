@@ -1,12 +1,13 @@
 //! Logical eraseblocks of a source, by their places.
 
-ghost use Rattle.std.specs.Prelude.{◌≡◌, ◌<◌, ◌≤◌, IfErr, IfSome, OnOk, length};
+ghost use Rattle.std.specs.Prelude.{◌≡◌, ◌≢◌, ◌<◌, ◌≤◌, IfErr, IfOk, IfSome, IsTrue, OnOk, if◌then◌else◌, length};
+ghost use Rattle.ubi_media.specs.Fields.{blank};
 ghost use Rattle.ubi_media.specs.Geometry.{leb_size};
 ghost use Rattle.ubi_scan.specs.Source.{Narrows, WhereHeld, blocks_in};
 ghost use Rattle.ubi_scan.specs.Stream.{IsReadFault, after};
 ghost use Rattle.ubi_volume.specs.Extract.{leb_bytes};
 
-use ubi_media::Geometry;
+use ubi_media::{Geometry, is_blank};
 use ubi_scan::{BlockSource, StreamError, read_leb};
 
 /// Fills `out` with the first bytes of a logical eraseblock, by its place ([`crate::Places::place`]): with 0xFF where it
@@ -35,4 +36,31 @@ pub fn read_place<S: BlockSource>(
             Ok(())
         }
     }
+}
+
+/// Reads the first bytes of a logical eraseblock, by its place, as many as `text` has: whether it has a place, and they
+/// aren't 0xFF throughout. `text` holds them then.
+///
+/// # Errors
+///
+/// Read where the read failed, with the count 0.
+pub fn is_kept<S: BlockSource>(
+    geometry: &Geometry,
+    source: &mut S,
+    place: Option<u32>,
+    text: &mut [u8],
+) -> Result<bool, StreamError>
+    requires block { IfSome place (λ p. p < blocks_in geometry.now (S.known source.old)) }
+    requires part { length text.old ≤ leb_size geometry.now }
+    ensures known { S.known source.new ≡ after (S.known source.old) result }
+    ensures narrows { Narrows (S.agrees source.old) (S.agrees source.new) }
+    ensures reads { IfOk result (λ kept. WhereHeld (S.agrees source.new) (λ bytes. leb_bytes geometry.now (length text.old) place bytes ≡ (if kept then text.new else blank (length text.old)))) }
+    ensures some { IfOk result (λ kept. IsTrue kept → text.new ≢ blank (length text.old)) }
+    ensures failed { IfErr result (IsReadFault (blocks_in geometry.now (S.known source.old))) }
+{
+    if place.is_none() {
+        return Ok(false);
+    }
+    read_place(geometry, source, place, text)?;
+    Ok(!is_blank(text))
 }

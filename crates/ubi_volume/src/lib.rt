@@ -29,13 +29,12 @@ mod places;
 mod probe;
 mod reading;
 mod states;
-mod static_text;
 mod surveying;
 mod writing;
 
 pub use amounts::{Amount, amount_of};
 pub use attached::{Attached, BlockState};
-pub use attaching::attach;
+pub use attaching::{attach, attach_from};
 pub use content::{Bytes, Content, Lebs, Volume};
 pub use errors::{MeaningCause, MeaningError, ReadError};
 pub use extent::Extent;

@@ -1,22 +1,19 @@
 //! What is known of an image without the contents of its volumes.
 
-ghost use Rattle.std.specs.Prelude.{◌≡◌, ◌==◌, IfErr, IfOk, IsSome, None, Some, find, length, option_map};
+ghost use Rattle.std.specs.Prelude.{◌≡◌, ◌==◌, IfErr, IfOk, IsSome, Some, find, option_map};
 ghost use Rattle.std.specs.FinMap as finite;
-ghost use Rattle.ubi_scan.specs.Source.{Narrows, WhereHeld, blocks_of};
-ghost use Rattle.ubi_scan.specs.Stream.{IsScanOf, after};
-ghost use Rattle.ubi_table.specs.Stream.{IsTableOf};
-ghost use Rattle.ubi_volume.specs.Accepts.{NoMismatch};
-ghost use Rattle.ubi_volume.specs.inner.Cases.{AreCases, AreNumbered, IsContentsError};
+ghost use Rattle.ubi_scan.specs.Source.{Narrows};
+ghost use Rattle.ubi_scan.specs.Stream.{after};
 ghost use Rattle.ubi_volume.specs.Places.{ArePlacesError, ArePlacesOf, IsNextPlace};
 
 use crate::cases::cases_from;
-use crate::checking::check_winners_from;
+use crate::checking::{Checked, checked_from};
 use crate::mismatch::is_within;
 use std::alloc::Global;
 use std::marker::Model;
 use ubi_media::Geometry;
-use ubi_scan::{BlockSource, Scan, StreamError, scan_from};
-use ubi_table::{Table, choose_from};
+use ubi_scan::{BlockSource, Scan, StreamError};
+use ubi_table::Table;
 
 /// What a volume reads, without its bytes.
 #[derive(Clone, Copy, Debug, PartialEq, Eq)]
@@ -47,10 +44,10 @@ fn numbered(contents: &[(u32, PlaceContent)], id: u32) -> Option<PlaceContent>
 /// bytes.
 #[derive(Drop)]
 pub struct Places {
-    table: Table,
-    scan: Scan,
+    pub(crate) table: Table,
+    pub(crate) scan: Scan,
     /// What each volume reads, by rising number.
-    contents: Vec<(u32, PlaceContent)>,
+    pub(crate) contents: Vec<(u32, PlaceContent)>,
 }
 
 impl Model for Places {
@@ -116,34 +113,6 @@ impl Places {
     }
 }
 
-/// What each volume reads, where no winner is unlike the record of its volume. The buffer has the size of an
-/// eraseblock.
-///
-/// # Errors
-///
-/// Refused with `Mismatch`. Read where a read failed. Memory where it ran out.
-fn contents_from<S: BlockSource>(
-    alloc: Global,
-    geometry: &Geometry,
-    source: &mut S,
-    scan: &Scan,
-    table: &Table,
-    buffer: &mut [u8],
-) -> Result<Vec<(u32, PlaceContent)>, StreamError>
-    requires scan { IsScanOf geometry.now (S.known source.old) (S.agrees source.old) scan.now }
-    requires table { IsTableOf geometry.now (S.agrees source.old) table.now }
-    requires room { length buffer.old ≡ geometry.now.peb_size }
-    ensures known { S.known source.new ≡ after (S.known source.old) result }
-    ensures narrows { Narrows (S.agrees source.old) (S.agrees source.new) }
-    ensures numbered { IfOk result (λ cases. AreNumbered (finite.entries table.now.of) cases.items) }
-    ensures alike { IfOk result (λ _. WhereHeld (S.agrees source.new) (λ bytes. NoMismatch geometry.now (blocks_of geometry.now bytes) table.now)) }
-    ensures cases { IfOk result (λ cases. WhereHeld (S.agrees source.new) (λ bytes. AreCases geometry.now (blocks_of geometry.now bytes) (finite.entries table.now.of) cases.items)) }
-    ensures refused { IfErr result (IsContentsError geometry.now (S.known source.old) (S.agrees source.new) table.now) }
-{
-    check_winners_from(geometry, source, scan, table, buffer)?;
-    cases_from(alloc, geometry, source, scan, table, buffer)
-}
-
 /// Attaches the image of a source: finds its volume table, the eraseblock of each logical eraseblock, and what its
 /// volumes read. The texts of static volumes are checked here. At most one eraseblock of contents is held, and each
 /// eraseblock is read at most 7 times.
@@ -162,12 +131,12 @@ pub fn attach_places<S: BlockSource>(
     ensures places { IfOk result (ArePlacesOf geometry.now (S.known source.old) (S.agrees source.new)) }
     ensures refused { IfErr result (ArePlacesError geometry.now (S.known source.old) (S.agrees source.new)) }
 {
-    let scan = scan_from(alloc, geometry, source)?;
-    let table = choose_from(alloc, geometry, source, &scan)?;
-    // A meaning's number has the width that a header gives it.
-    prove!(scan.image_seq() <= u32::MAX);
-    let mut buffer = Vec::from_elem(alloc, 0u8, geometry.peb_size() as usize)?;
-    let contents = contents_from(
+    let Checked {
+        scan,
+        table,
+        mut buffer,
+    } = checked_from(alloc, geometry, source)?;
+    let contents = cases_from(
         alloc,
         geometry,
         source,

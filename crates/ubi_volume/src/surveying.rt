@@ -7,28 +7,27 @@ ghost use Rattle.ubi_scan.specs.Image.{block, image_of};
 ghost use Rattle.ubi_scan.specs.Members.{leb_of, member};
 ghost use Rattle.ubi_scan.specs.Source.{Narrows, WhereHeld, blocks_in, blocks_of};
 ghost use Rattle.ubi_scan.specs.Stream.{IsReadFault, IsScanOf, after};
-ghost use Rattle.ubi_table.specs.Stream.{IsTableOf};
 ghost use Rattle.ubi_volume.specs.Accepts.{IsAttachError};
 ghost use Rattle.ubi_volume.specs.Attached.{StateIs};
-ghost use Rattle.ubi_volume.specs.inner.Surveying.{MemberStateIs, AreStatesOf, IsStatesError};
-ghost use Rattle.ubi_volume.specs.Places.{ArePlacesError};
+ghost use Rattle.ubi_volume.specs.inner.Surveying.{AreStatesOf, MemberStateIs};
+ghost use Rattle.ubi_volume.specs.Places.{ArePlacesError, IsReadFailure};
 ghost use Rattle.ubi_volume.specs.Survey.{IsSurvey, IsSurveyOf};
 
 use crate::attached::BlockState;
-use crate::checking::check_winners_from;
+use crate::checking::{Checked, checked_from};
 use crate::states::member_state;
 use std::alloc::Global;
 use std::marker::Model;
 use ubi_media::{AttachError, Geometry};
-use ubi_scan::{BlockSource, MemorySource, Scan, ScanState, StreamError, read_member, scan_from};
-use ubi_table::{Table, choose_from};
+use ubi_scan::{BlockSource, MemorySource, Scan, ScanState, StreamError, read_member};
+use ubi_table::Table;
 
 /// What is known of an image without what its volumes read.
 #[derive(Drop)]
 pub struct Surveyed {
-    scan: Scan,
-    table: Table,
-    states: Vec<BlockState>,
+    pub(crate) scan: Scan,
+    pub(crate) table: Table,
+    pub(crate) states: Vec<BlockState>,
 }
 
 impl Model for Surveyed {
@@ -161,7 +160,7 @@ fn state_from<S: BlockSource>(
 }
 
 /// The state of each eraseblock. The buffer has the size of an eraseblock.
-fn states_from<S: BlockSource>(
+pub fn states_from<S: BlockSource>(
     alloc: Global,
     geometry: &Geometry,
     source: &mut S,
@@ -174,7 +173,7 @@ fn states_from<S: BlockSource>(
     ensures known { S.known source.new ≡ after (S.known source.old) result }
     ensures narrows { Narrows (S.agrees source.old) (S.agrees source.new) }
     ensures states { IfOk result (λ states. AreStatesOf geometry.now (S.known source.old) (S.agrees source.new) table.now states.items) }
-    ensures failed { IfErr result (IsStatesError (blocks_in geometry.now (S.known source.old))) }
+    ensures failed { IfErr result (IsReadFailure (blocks_in geometry.now (S.known source.old))) }
 {
     let count = (source.len() / u64::from(geometry.peb_size())) as u32;
     let mut states = Vec::new(alloc);
@@ -201,12 +200,11 @@ pub fn survey_from<S: BlockSource>(
     ensures survey { IfOk result (IsSurveyOf geometry.now (S.known source.old) (S.agrees source.new)) }
     ensures refused { IfErr result (ArePlacesError geometry.now (S.known source.old) (S.agrees source.new)) }
 {
-    let scan = scan_from(alloc, geometry, source)?;
-    let table = choose_from(alloc, geometry, source, &scan)?;
-    // A meaning's number has the width that a header gives it.
-    prove!(scan.image_seq() <= u32::MAX);
-    let mut buffer = Vec::from_elem(alloc, 0u8, geometry.peb_size() as usize)?;
-    check_winners_from(geometry, source, &scan, &table, buffer.as_mut_slice())?;
+    let Checked {
+        scan,
+        table,
+        mut buffer,
+    } = checked_from(alloc, geometry, source)?;
     let states = states_from(
         alloc,
         geometry,

@@ -9,7 +9,7 @@ use Rattle.ubi_scan.specs.declared.errors.StreamError.TheVariants as stream
 use Rattle.ubi_table.specs.Records.{Records}
 use Rattle.ubi_volume.specs.Accepts.{IsVolumeFault}
 use Rattle.ubi_volume.specs.inner.Gathered.{AreContents, AreRead, ContentIs, PieceIs}
-use Rattle.ubi_volume.specs.Places.{IsReserved, case_of}
+use Rattle.ubi_volume.specs.Places.{CaseFits, case_of}
 use Rattle.ubi_volume.specs.declared.content.Content.{Content}
 use Rattle.ubi_volume.specs.declared.content.Volume.{Volume}
 use Rattle.ubi_volume.specs.declared.places.PlaceContent.{PlaceContent}
@@ -40,16 +40,11 @@ case_in s v = (v.0, case_of s v.1.entry v.1.content)
 pub record AreCases (s : Sizes) (bs : List (List ℕ)) (entries : List (ℕ × VolumeRecord))
     (listed : List (ℕ × PlaceContent)) : Type 0 where
   pub volumes : List (ℕ × Volume)
-  pub contents : AreContents s bs entries volumes
+  pub contents : AreContents (ContentIs s bs) entries volumes
   pub cases : listed ≡ map (case_in s) volumes
 
--- each entry has a case behind its number, whose LEBs its volume reserves
+-- each entry has a case behind its number, which its record allows
 abbrev pub AreNumbered : List (ℕ × VolumeRecord) → List (ℕ × PlaceContent) → Type 0
 AreNumbered [] [] = Unit {0}
-AreNumbered (e ∷ entries) (c ∷ cases) = (c.0 ≡ e.0) × IsReserved e.1 c.1 × AreNumbered entries cases
+AreNumbered (e ∷ entries) (c ∷ cases) = (c.0 ≡ e.0) × CaseFits e.1 c.1 × AreNumbered entries cases
 AreNumbered _ _ = ⊥
-
--- why there are none: a winner is unlike its record, a read failed, or memory ran out
-abbrev pub IsContentsError : Sizes → Source → Agreed → Records → StreamError → Type 0
-IsContentsError s k agrees t stream.Memory = Unit {0}
-IsContentsError s k agrees t e = IsMismatchError s k agrees t e

@@ -1,5 +1,5 @@
 -- What is gathered of a volume, piece by piece.
-use Rattle.std.specs.Prelude.{◌≡◌, ◌≢◌, ℕ, ◌<◌, ◌≤◌, ◌⊎◌, List, Option, None, All, IfSome, MatchOption, length, map, unwrap_or, flat_map, slice_index, Bool, is_some}
+use Rattle.std.specs.Prelude.{◌≡◌, ◌≢◌, ℕ, ◌<◌, ◌⊎◌, List, Option, All, IfSome, MatchOption, length, map, flat_map, slice_index}
 use Rattle.std.specs.FinMap.{FinMap, get, entries}
 use Rattle.std.specs.Option.{option_map_or}
 use Rattle.std.specs.Ordering.{nat_cmp}
@@ -9,8 +9,10 @@ use Rattle.ubi_media.specs.Record.{usable}
 use Rattle.ubi_media.specs.declared.record.VolumeRecord.{VolumeRecord}
 use Rattle.ubi_scan.specs.Image.{block}
 use Rattle.ubi_scan.specs.Members.{NoMember, Wins, member}
+use Rattle.ubi_scan.specs.Source.{Agreed, WhereHeld, blocks_of}
 use Rattle.ubi_volume.specs.Means.{IsPiece, LebReads, VolumeReads, piece}
 use Rattle.ubi_volume.specs.Meant.{Fits, KeepsNoBlank}
+use Rattle.ubi_volume.specs.Reading.{leb_text}
 use Rattle.ubi_volume.specs.declared.content.Content.{Content}
 use Rattle.ubi_volume.specs.declared.content.Volume.{Volume}
 
@@ -20,18 +22,16 @@ pub record ContentIs (s : Sizes) (bs : List (List ℕ)) (vol : ℕ) (r : VolumeR
   pub fits : Fits s r c
   pub kept : KeepsNoBlank s r c
 
--- what is kept of a LEB: its text, but where that is 0xFF throughout
-pub record LebKept (s : Sizes) (bs : List (List ℕ)) (vol : ℕ) (r : VolumeRecord) (lnum : ℕ)
-    (text : Option (List ℕ)) : Type 0 where
-  pub reads : LebReads s bs vol r lnum (unwrap_or text (blank (usable s r)))
-  pub size : IfSome text (λ t. length t ≡ usable s r)
-  pub some : IfSome text (λ t. t ≢ blank (usable s r))
+-- LEBs below n, as they are kept: each has so many bytes, and isn't 0xFF throughout
+pub record AreTexts (size n : ℕ) (lebs : FinMap nat_cmp (List ℕ)) : Type 0 where
+  pub fits : (lnum : ℕ) → IfSome (get lebs lnum) (λ text. (lnum < n) × (length text ≡ size))
+  pub kept : (lnum : ℕ) → IfSome (get lebs lnum) (λ text. text ≢ blank size)
 
--- the LEBs below n are kept, and no others
+-- and each LEB below n reads what is kept of it
 pub record AreGathered (s : Sizes) (bs : List (List ℕ)) (vol : ℕ) (r : VolumeRecord) (n : ℕ)
     (lebs : FinMap nat_cmp (List ℕ)) : Type 0 where
-  pub below : (lnum : ℕ) → lnum < n → LebKept s bs vol r lnum (get lebs lnum)
-  pub none : (lnum : ℕ) → n ≤ lnum → get lebs lnum ≡ None
+  pub texts : AreTexts (usable s r) n lebs
+  pub reads : (lnum : ℕ) → lnum < n → LebReads s bs vol r lnum (leb_text (usable s r) (get lebs lnum))
 
 -- how many LEBs its first winner says that a static volume uses, 0 where it has none
 abbrev pub used_in : Sizes → List (List ℕ) → ℕ → ℕ
@@ -56,17 +56,19 @@ pub record AreRead (s : Sizes) (bs : List (List ℕ)) (vol used n : ℕ) (text :
   pub pieces : (lnum : ℕ) → lnum < n → IsPiece s bs used (slice_index ps lnum)
   pub joined : text ≡ flat_map (piece s bs) ps
 
--- the volume of an entry is its record and what it reads, for each of the entries
-pub record AreContents (s : Sizes) (bs : List (List ℕ)) (entries : List (ℕ × VolumeRecord))
+-- what a volume of a source reads, in whatever the source may hold; and it is as a meaning keeps it, whatever that is
+pub record IsContentOf (s : Sizes) (agrees : Agreed) (vol : ℕ) (r : VolumeRecord) (c : Content) : Type 0 where
+  pub fits : Fits s r c
+  pub kept : KeepsNoBlank s r c
+  pub reads : WhereHeld agrees (λ bytes. VolumeReads s (blocks_of s bytes) vol r c)
+
+-- the volume of an entry is its record and a content that it has, for each of the entries
+pub record AreContents (Has : ℕ → VolumeRecord → Content → Type 0) (entries : List (ℕ × VolumeRecord))
     (volumes : List (ℕ × Volume)) : Type 0 where
   pub alike : map (λ v. (v.0, v.1.entry)) volumes ≡ entries
-  pub contents : All (λ v. ContentIs s bs v.0 v.1.entry v.1.content) volumes
+  pub contents : All (λ v. Has v.0 v.1.entry v.1.content) volumes
 
--- whether a text is kept of a LEB
-abbrev pub IsKept : Sizes → List (List ℕ) → ℕ → VolumeRecord → ℕ → Bool → Type 0
-IsKept s bs vol r lnum kept = (text : Option (List ℕ)) × LebKept s bs vol r lnum text × (kept ≡ is_some text)
-
--- of how many of the first n LEBs
+-- of how many of the first n LEBs a text is kept
 abbrev pub AreKept : Sizes → List (List ℕ) → ℕ → VolumeRecord → ℕ → ℕ → Type 0
 AreKept s bs vol r n count =
     (lebs : FinMap nat_cmp (List ℕ)) × AreGathered s bs vol r n lebs × (count ≡ length (entries lebs))

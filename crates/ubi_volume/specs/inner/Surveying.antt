@@ -1,22 +1,26 @@
--- What is known of eraseblocks before their volumes are read, and the state of each.
-use Rattle.std.specs.Prelude.{ℕ, List, ◌≡◌, ◌≢◌, Bool, true, false, length}
-use Rattle.ubi_media.specs.Geometry.{Sizes}
+-- What is known of a source before its volumes are read, and the state of each eraseblock.
+use Rattle.std.specs.Prelude.{ℕ, List, ◌≡◌, ◌≢◌, ◌^◌, ◌<◌, Bool, true, false, length}
+use Rattle.ubi_media.specs.Geometry.{IsGeometry, Sizes}
 use Rattle.ubi_scan.specs.Members.{Leb, layout}
-use Rattle.ubi_scan.specs.Scan.{Found, IsScan}
-use Rattle.ubi_scan.specs.Source.{Agreed, Source, WhereHeld, blocks_in, blocks_of}
-use Rattle.ubi_scan.specs.Stream.{IsReadFault}
-use Rattle.ubi_scan.specs.declared.errors.StreamError.{StreamError}
-use Rattle.ubi_scan.specs.declared.errors.StreamError.TheVariants as stream
+use Rattle.ubi_scan.specs.Scan.{Found}
+use Rattle.ubi_scan.specs.Source.{Agreed, IsSource, Source, WhereHeld, blocks_in, blocks_of}
+use Rattle.ubi_scan.specs.Stream.{IsScanOf}
 use Rattle.ubi_table.specs.Records.{Records}
-use Rattle.ubi_table.specs.Table.{IsTable}
+use Rattle.ubi_table.specs.Stream.{IsTableOf}
+use Rattle.ubi_volume.specs.Accepts.{NoMismatch}
 use Rattle.ubi_volume.specs.Attached.{IsOutside, AreStates}
 use Rattle.ubi_volume.specs.declared.attached.BlockState.{BlockState}
 use Rattle.ubi_volume.specs.declared.attached.BlockState.TheVariants as state
 
--- what a scan of them found, and their table
-pub record AreKnown (s : Sizes) (bs : List (List ℕ)) (found : Found) (t : Records) : Type 0 where
-  pub scan : IsScan s bs found
-  pub table : IsTable s bs t
+-- what is known of a source before its volumes are looked at: a scan of it, its table, and that no winner is unlike its
+-- record
+pub record AreChecked (s : Sizes) (k : Source) (agrees : Agreed) (found : Found) (t : Records) : Type 0 where
+  pub sizes : IsGeometry s
+  pub source : IsSource k agrees
+  pub scan : IsScanOf s k agrees found
+  pub narrow : found.image_seq < 2 ^ 32
+  pub table : IsTableOf s agrees t
+  pub alike : WhereHeld agrees (λ bytes. NoMismatch s (blocks_of s bytes) t)
 
 -- the state of a member of a LEB, by whether it wins
 abbrev pub MemberStateIs : Records → Leb → Bool → BlockState → Type 0
@@ -30,8 +34,3 @@ MemberStateIs t of wins _ = ⊥
 pub record AreStatesOf (s : Sizes) (k : Source) (agrees : Agreed) (t : Records) (states : List BlockState) : Type 0 where
   pub count : length states ≡ blocks_in s k
   pub held : WhereHeld agrees (λ bytes. AreStates s (blocks_of s bytes) t states)
-
--- why there are none: a read failed, or memory ran out
-abbrev pub IsStatesError : ℕ → StreamError → Type 0
-IsStatesError n stream.Memory = Unit {0}
-IsStatesError n e = IsReadFault n e

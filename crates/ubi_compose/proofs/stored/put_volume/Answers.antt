@@ -4,7 +4,8 @@ use Rattle.ubi_media.proofs.Padding.{reserved_some}
 use Rattle.ubi_compose.specs.inner.Streaming.{laid_text, volume_text}
 use Rattle.ubi_compose.specs.Normal.{damaged_block}
 use Rattle.ubi_volume.specs.Wrote.{All, NotAll}
-use Rattle.ubi_compose.proofs.StoredVolume.{damaged_text, more_blocks, reserved_of, updating_text}
+use Rattle.ubi_volume.proofs.ContentAt.{case_fits}
+use Rattle.ubi_compose.proofs.StoredVolume.{damaged_text, more_blocks, updating_text}
 use Rattle.ubi_scan.specs.inner.Held.{anything}
 use Rattle.ubi_volume.proofs.Narrowed.{wrote_narrowed}
 use Rattle.ubi_volume.proofs.Received.{wrote_as, wrote_none}
@@ -56,7 +57,7 @@ returns-in-Err-clause-failed g c =
 
 pub returns-in-Static-clause-most : goal.returns-in-Static-clause-most
 returns-in-Static-clause-most g c =
-    let few = reserved_of _ c.args.id c.args.places.now c.args.entry.now _ c.requires.places.within c.requires.recorded
+    let few = case_fits _ c.args.id c.args.places.now c.args.entry.now _ c.requires.places.within c.requires.recorded
     c.in-Static.ensures in
-    let more = more_blocks c.in-Static.lebs c.args.entry.now.reserved c.args.geometry.now.peb_size few in
+    let more = more_blocks c.in-Static.lebs c.args.entry.now.reserved c.args.geometry.now.peb_size few.2 in
     IfOk-weaker c.put_static.result _ _ (λ n most. omega (arith, more, most)) c.put_static.ensures.most

@@ -1,18 +1,13 @@
-use Rattle.std.proofs.Common.{◌≡◌, ◌∙◌, ℕ, arith, refl, subst, sym}
-use Rattle.ubi_scan.specs.Source.{Source, blocks_of}
-use Rattle.ubi_volume.specs.Places.{ArePlacesOf}
+use Rattle.std.proofs.Common.{◌≡◌, ◌∙◌, ℕ, arith, length, refl, subst}
+use Rattle.ubi_media.specs.Fields.{blank}
+use Rattle.ubi_media.specs.Record.{usable}
+use Rattle.ubi_scan.specs.Source.{blocks_of}
 use Rattle.ubi_volume.specs.inner.Gathered.{AreKept}
 use Rattle.ubi_volume.proofs.AmountAt.{none_kept, none_more, one_kept}
-use Rattle.ubi_volume.proofs.Narrowed.{places_narrowed}
+use Rattle.ubi_volume.proofs.ContentAt.{front_usable}
+use Rattle.ubi_volume.proofs.VolumeAt.{leb_reads}
 use Rattle.ubi_volume.proofs.amounts.count_kept.Goals as goal
 use Rattle.ubi_volume.proofs.amounts.count_kept.Goals.{else-branch, then-branch}
-
-pub is_kept-requires-clause-places : goal.is_kept-requires-clause-places
-is_kept-requires-clause-places g c =
-    let s = c.args.geometry.now in
-    let agrees = g.S.BlockSource.agrees c.loop-lnum.source in
-    subst (λ (k : Source). ArePlacesOf s k agrees c.args.places.now) (sym c.loop-lnum.invariant.source)
-    (places_narrowed s _ _ agrees c.args.places.now c.loop-lnum.invariant.narrows c.requires.places)
 
 pub loop-lnum-init : goal.loop-lnum-init
 loop-lnum-init g c = record {
@@ -25,17 +20,23 @@ loop-lnum-init g c = record {
 pub loop-lnum-preserved : goal.loop-lnum-preserved
 loop-lnum-preserved g c =
     let s = c.args.geometry.now in
+    let r = c.args.entry.now in
     let n = c.loop-lnum.lnum in
     let still = c.loop-lnum.invariant.source in
+    let long : length c.loop-lnum.text ≡ usable s r = c.loop-lnum.auto.text
+    ∙ front_usable s r c.usable.result c.args.buffer.now c.usable.ensures.value c.requires.room in
     elim c.if-branch.branch [
       | then-branch w ↦ record {
         source = c.in_ok-is_kept.ensures.known ∙ still;
         narrows = λ bytes holds. c.loop-lnum.invariant.narrows bytes (c.in_ok-is_kept.ensures.narrows bytes holds);
         kept = λ bytes holds.
             let before = c.in_ok-is_kept.ensures.narrows bytes holds in
-            let kept = c.in_ok-is_kept.ensures.kept bytes holds in
-            rw w.count-is (one_kept s (blocks_of s bytes) c.args.id c.args.entry.now n c.loop-lnum.count
-            (c.loop-lnum.invariant.kept bytes before) (rw w.if-branch.true at kept));
+            let places = c.requires.places.held bytes (c.loop-lnum.invariant.narrows bytes before) in
+            let reads = leb_reads s c.args.places.now bytes places c.args.id r n _ c.place.result c.is_kept.new.text long
+            c.place.ensures (rw w.if-branch.true at (c.in_ok-is_kept.ensures.reads bytes holds)) in
+            rw w.count-is (one_kept s (blocks_of s bytes) c.args.id r n c.loop-lnum.count c.is_kept.new.text
+            (c.loop-lnum.invariant.kept bytes before) reads (c.is_kept.auto.text ∙ long)
+            (rw long at (c.in_ok-is_kept.ensures.some w.if-branch.true)));
         few = (let few = c.loop-lnum.invariant.few in omega (arith, few, w.count-is));
       }
       | else-branch w ↦ record {
@@ -43,9 +44,12 @@ loop-lnum-preserved g c =
         narrows = λ bytes holds. c.loop-lnum.invariant.narrows bytes (c.in_ok-is_kept.ensures.narrows bytes holds);
         kept = λ bytes holds.
             let before = c.in_ok-is_kept.ensures.narrows bytes holds in
-            let kept = c.in_ok-is_kept.ensures.kept bytes holds in
-            rw w.count-is (none_more s (blocks_of s bytes) c.args.id c.args.entry.now n c.loop-lnum.count
-            (c.loop-lnum.invariant.kept bytes before) (rw w.if-branch.false at kept));
+            let places = c.requires.places.held bytes (c.loop-lnum.invariant.narrows bytes before) in
+            let reads = leb_reads s c.args.places.now bytes places c.args.id r n _ c.place.result
+            (blank (length c.loop-lnum.text)) long
+            c.place.ensures (rw w.if-branch.false at (c.in_ok-is_kept.ensures.reads bytes holds)) in
+            rw w.count-is (none_more s (blocks_of s bytes) c.args.id r n c.loop-lnum.count
+            (c.loop-lnum.invariant.kept bytes before) (rw long at reads));
         few = (let few = c.loop-lnum.invariant.few in omega (arith, few, w.count-is));
       }
     ]

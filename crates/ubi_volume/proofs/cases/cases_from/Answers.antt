@@ -5,14 +5,19 @@ use Rattle.std.specs.FinMap as finite
 use Rattle.ubi_media.specs.Geometry.{Sizes}
 use Rattle.ubi_media.specs.Record.{rec_fault}
 use Rattle.ubi_media.specs.declared.record.VolumeRecord.{VolumeRecord}
-use Rattle.ubi_scan.specs.Source.{blocks_of}
+use Rattle.ubi_scan.specs.Source.{Source, blocks_of}
+use Rattle.ubi_volume.specs.inner.Surveying.{AreChecked}
 use Rattle.ubi_volume.proofs.Gathered.{listed_at}
+use Rattle.ubi_volume.proofs.Narrowed.{checked_narrowed}
 use Rattle.ubi_volume.proofs.PlacesOf.{cases_more, numbered_more}
 use Rattle.ubi_volume.proofs.cases.cases_from.Goals as goal
 
-pub case_of-requires-clause-alike : goal.case_of-requires-clause-alike
-case_of-requires-clause-alike g c = λ bytes holds. c.requires.alike bytes
-    (c.loop-listed.invariant.narrows bytes holds)
+pub case_of-requires-clause-checked : goal.case_of-requires-clause-checked
+case_of-requires-clause-checked g c =
+    let s = c.args.geometry.now in
+    let agrees = g.S.BlockSource.agrees c.loop-listed.source in
+    subst (λ (k : Source). AreChecked s k agrees c.args.scan.now c.args.table.now) (sym c.loop-listed.invariant.source)
+    (checked_narrowed s _ _ agrees c.args.scan.now c.args.table.now c.loop-listed.invariant.narrows c.requires.checked)
 
 pub case_of-requires-clause-recorded : goal.case_of-requires-clause-recorded
 case_of-requires-clause-recorded g c =
@@ -27,7 +32,7 @@ case_of-requires-clause-recorded g c =
 pub case_of-requires-clause-sound : goal.case_of-requires-clause-sound
 case_of-requires-clause-sound g c =
     let e = c.listed-item.result in
-    subst (λ (z : Sizes). rec_fault z e.1 ≡ None) c.requires.table.sizes
+    subst (λ (z : Sizes). rec_fault z e.1 ≡ None) c.requires.checked.table.sizes
     (c.entries-listed-items.ensures.table.sound e.0 e.1 (case_of-requires-clause-recorded g c))
 
 pub loop-listed-preserved : goal.loop-listed-preserved
@@ -42,7 +47,7 @@ loop-listed-preserved g c =
       narrows = λ bytes holds. c.loop-listed.invariant.narrows bytes (c.in_ok-case.ensures.narrows bytes holds);
       numbered = rw (next, c.in-Ok.ensures.items)
           (numbered_more (take i es) c.loop-listed.cases.items e c.in_ok-case.case c.loop-listed.invariant.numbered
-          c.in_ok-case.ensures.reserved);
+          c.in_ok-case.ensures.fits);
       cases = λ bytes holds.
           let s = c.args.geometry.now in
           let before = c.in_ok-case.ensures.narrows bytes holds in

@@ -1,48 +1,19 @@
-use Rattle.std.proofs.Common.{ℕ, ◌^◌, ◌<◌, ◌∙◌, subst}
-use Rattle.std.proofs.lemmas.Result.{err_from_is_err_and}
+use Rattle.std.proofs.Common.{subst}
 use Rattle.ubi_scan.specs.Source.{Source}
-use Rattle.ubi_scan.proofs.Narrowed.{narrows_more, scan_narrowed, source_narrowed}
-use Rattle.ubi_table.proofs.Narrowed.{table_narrowed}
-use Rattle.ubi_volume.specs.inner.Cases.{IsMismatchError}
 use Rattle.ubi_volume.specs.inner.Surveying.{AreStatesOf}
-use Rattle.ubi_volume.proofs.PlacesOf.{winners_refused}
+use Rattle.ubi_volume.proofs.Narrowed.{checked_narrowed}
 use Rattle.ubi_volume.proofs.SurveyOf.{is_survey}
 use Rattle.ubi_volume.proofs.surveying.survey_from.Goals as goal
-
-pub returns-in_err-check_winners_from-clause-refused : goal.returns-in_err-check_winners_from-clause-refused
-returns-in_err-check_winners_from-clause-refused g c =
-    let s = c.args.geometry.now in
-    let known = g.S.BlockSource.known c.args.source.now in
-    let t = c.in_ok-table.table in
-    let e = c.in_err-check_winners_from.field-0.0 in
-    let p = err_from_is_err_and c.from_residual-in_err-check_winners_from.result
-    c.from_residual-in_err-check_winners_from.ensures.1 in
-    let same = c.in_ok-table.ensures.known ∙ c.in_ok-scan.ensures.known in
-    let agrees = g.S.BlockSource.agrees c.check_winners_from.new.source in
-    let last = c.in_err-check_winners_from.ensures.narrows in
-    rw (p.1, p.2) (winners_refused s known agrees c.in_ok-scan.scan t
-    (scan_narrowed s known _ agrees c.in_ok-scan.scan (narrows_more _ _ agrees c.in_ok-table.ensures.narrows last)
-    c.in_ok-scan.ensures.found)
-    (table_narrowed s _ agrees t last c.in_ok-table.ensures.table) e
-    (subst (λ (k : Source). IsMismatchError s k agrees t e) same c.in_err-check_winners_from.ensures.refused))
 
 pub returns-clause-survey : goal.returns-clause-survey
 returns-clause-survey g c =
     let s = c.args.geometry.now in
     let known = g.S.BlockSource.known c.args.source.now in
-    let t = c.in_ok-table.table in
-    let states = c.in_ok-states.states.items in
-    let same = c.in_ok-table.ensures.known ∙ c.in_ok-scan.ensures.known in
     let agrees = g.S.BlockSource.agrees c.states_from.new.source in
-    let last = c.in_ok-states.ensures.narrows in
-    let checked = narrows_more _ _ agrees c.in_ok-check_winners_from.ensures.narrows last in
-    let chosen = narrows_more _ _ agrees c.in_ok-table.ensures.narrows checked in
-    let scanned = narrows_more _ _ agrees c.in_ok-scan.ensures.narrows chosen in
-    is_survey s known agrees c.in_ok-scan.scan t states c.peb_size.ensures.limits
-    (source_narrowed known _ agrees scanned (g.met.S.BlockSource.sized c.args.source.now))
-    (subst (λ (n : ℕ). n < 2 ^ 32) c.image_seq.ensures c.image_seq.type_inv)
-    (scan_narrowed s known _ agrees c.in_ok-scan.scan chosen c.in_ok-scan.ensures.found)
-    (table_narrowed s _ agrees t checked c.in_ok-table.ensures.table)
-    (λ bytes holds. c.in_ok-check_winners_from.ensures.alike bytes (last bytes holds))
-    (subst (λ (k : Source). AreStatesOf s k agrees t states) (c.in_ok-check_winners_from.ensures.known
-    ∙ same) c.in_ok-states.ensures.states)
+    let found = c.in_ok-scan.field-0 in
+    let states = c.in_ok-states.states.items in
+    is_survey s known agrees found.scan found.table states
+    (checked_narrowed s known _ agrees found.scan found.table c.in_ok-states.ensures.narrows
+    c.in_ok-scan.ensures.checked)
+    (subst (λ (k : Source). AreStatesOf s k agrees found.table states) c.in_ok-scan.ensures.known
+    c.in_ok-states.ensures.states)

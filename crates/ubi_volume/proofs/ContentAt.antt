@@ -1,0 +1,74 @@
+-- What a volume reads by the places of its LEBs.
+use Rattle.std.proofs.Common.{◌≡◌, ◌∙◌, ℕ, List, length, length-take-le, take, refl, sym, subst, arith}
+use Rattle.std.specs.Prelude.{Some}
+use Rattle.std.specs.FinMap as finite
+use Rattle.ubi_media.specs.Geometry.{Sizes}
+use Rattle.ubi_media.specs.Record.{usable}
+use Rattle.ubi_media.specs.declared.record.VolumeRecord.{VolumeRecord}
+use Rattle.ubi_scan.specs.Image.{image_of}
+use Rattle.ubi_scan.specs.Source.{blocks_of}
+use Rattle.ubi_volume.specs.inner.Pieces.{lebs_bytes}
+use Rattle.ubi_volume.specs.Means.{VolumeReads}
+use Rattle.ubi_volume.specs.Places.{AreWithin, ArePlaces, CaseFits, Placed, case_of}
+use Rattle.ubi_volume.specs.declared.content.Content.{Content}
+use Rattle.ubi_volume.specs.declared.content.Content.TheVariants as content
+use Rattle.ubi_volume.specs.declared.places.PlaceContent.{PlaceContent}
+use Rattle.ubi_volume.specs.declared.places.PlaceContent.TheVariants as place
+use Rattle.std.proofs.lemmas.Option.{same_Some}
+use Rattle.ubi_volume.proofs.Extracted.{static_is}
+use Rattle.ubi_volume.proofs.VolumeAt.{case_is, has_volume, reads_of}
+
+-- the front of a buffer has the size that a volume uses
+pub front_usable : (s : Sizes) (r : VolumeRecord) (n : ℕ) (buffer : List ℕ) → n ≡ usable s r
+    → length buffer ≡ s.peb_size → length (take n buffer) ≡ usable s r
+front_usable s r n buffer size room = length-take-le n buffer (omega (arith, size, room)) ∙ size
+
+-- what its record allows, whatever the source holds
+pub case_fits : (n id : ℕ) (p : Placed) (r : VolumeRecord) (c : PlaceContent) → AreWithin n p
+    → finite.get p.records.of id ≡ Some r → finite.get p.contents id ≡ Some c → CaseFits r c
+case_fits n id p r c within recorded listed =
+    let h = within.contents id r recorded in
+    subst (CaseFits r) (same_Some h.0 c (sym h.1 ∙ listed)) h.2
+
+module _ (s : Sizes) (p : Placed) (image : List ℕ) (places : ArePlaces (image_of s image) p) (id : ℕ) (r : VolumeRecord)
+    (recorded : finite.get p.records.of id ≡ Some r) where
+  abbrev bs : List (List ℕ)
+  bs = blocks_of s image
+
+  -- some content with this case
+  read_with : (c : PlaceContent) → finite.get p.contents id ≡ Some c
+      → (x : Content) × (case_of s r x ≡ c) × VolumeReads s bs id r x
+  read_with c listed =
+      let v = has_volume s p image places id r recorded in (
+        v.0.content,
+        case_is s p image places id r recorded v.0 v.1 c listed,
+        (reads_of s p image places id r recorded v.0 v.1).1,
+      )
+
+  pub damaged_reads : finite.get p.contents id ≡ Some place.Damaged → VolumeReads s bs id r content.Damaged
+  damaged_reads listed = let w = read_with place.Damaged listed in by_content w.0 w.1 w.2
+    where
+      by_content : (x : Content) → case_of s r x ≡ place.Damaged → VolumeReads s bs id r x
+          → VolumeReads s bs id r content.Damaged
+      by_content content.Updating e reads = absurd (cc)
+      by_content content.Damaged e reads = reads
+      by_content (content.Static t) e reads = absurd (cc)
+      by_content (content.Dynamic l) e reads = absurd (cc)
+
+  pub static_reads : (lebs bytes : ℕ) → finite.get p.contents id ≡ Some (place.Static lebs bytes)
+      → VolumeReads s bs id r (content.Static (lebs_bytes s p id (usable s r) bytes image lebs))
+  static_reads lebs bytes listed =
+      let v = has_volume s p image places id r recorded in
+      by_content v.0.content refl (case_is s p image places id r recorded v.0 v.1 (place.Static lebs bytes) listed)
+      (reads_of s p image places id r recorded v.0 v.1).1
+    where
+      by_content : (x : Content) → (has_volume s p image places id r recorded).0.content ≡ x
+          → case_of s r x ≡ place.Static lebs bytes → VolumeReads s bs id r x
+          → VolumeReads s bs id r (content.Static (lebs_bytes s p id (usable s r) bytes image lebs))
+      by_content content.Updating is e reads = absurd (cc)
+      by_content content.Damaged is e reads = absurd (cc)
+      by_content (content.Static t) is e reads =
+          let v = has_volume s p image places id r recorded in
+          subst (λ (x : List ℕ). VolumeReads s bs id r (content.Static x))
+          (sym (static_is s p image places id r recorded v.0 v.1 lebs bytes t is (cc) (cc))) reads
+      by_content (content.Dynamic l) is e reads = absurd (cc)
