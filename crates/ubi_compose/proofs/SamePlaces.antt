@@ -1,6 +1,6 @@
 -- Whether two images mean the same, by their places and the bytes of their LEBs.
 use Rattle.std.proofs.Common.{◌≡◌, ℕ, ◌+◌, ◌*◌, ◌<◌, inl, inr, ◌==◌, ◌&&◌, Bool, true, false, Decides, List, [], ◌∷◌, ◌++◌, length, take, get_or, refl, ap, sym, ◌∙◌, subst, arith}
-use Rattle.std.specs.Prelude.{◌↔◌, IfSome, IsTrue, None, Option, Some}
+use Rattle.std.specs.Prelude.{◌↔◌, Err, IfSome, IsTrue, Ok, Option, Some}
 use Rattle.std.specs.Cmp.{nat_cmp_total, unsigned_Decides}
 use Rattle.std.specs.Cmp.Lexicographic.{pointwise}
 use Rattle.std.specs.FinMap as finite
@@ -24,11 +24,12 @@ use Rattle.ubi_volume.specs.Reading.{leb_text}
 use Rattle.ubi_volume.specs.declared.content.Content.{Content}
 use Rattle.ubi_volume.specs.declared.content.Content.TheVariants as content
 use Rattle.ubi_volume.specs.declared.content.Volume.{Volume}
+use Rattle.ubi_volume.specs.declared.errors.ReadError.{ReadError}
 use Rattle.ubi_volume.specs.declared.extent.Extent.{Extent}
 use Rattle.ubi_volume.specs.declared.places.PlaceContent.{PlaceContent}
 use Rattle.ubi_volume.specs.declared.places.PlaceContent.TheVariants as place
 use Rattle.ubi_volume.proofs.Equal.{record_Decides}
-use Rattle.ubi_volume.proofs.Extracted.{leb_is, piece_is, same_range, static_is}
+use Rattle.ubi_volume.proofs.Extracted.{leb_is, piece_is, same_Ok, same_range, static_is}
 use Rattle.ubi_volume.proofs.One.{kept_alike, outside}
 use Rattle.ubi_volume.proofs.VolumeAt.{case_is, reads_of}
 use Rattle.ubi_compose.specs.inner.Comparing.{AreSameLebs, IsSameLeb, TellsVolume}
@@ -80,30 +81,30 @@ module _ (s : Sizes) (p q : Placed) (x y : List ℕ) (h : ArePlaces (image_of s 
       ∙ case_is s q y k id r there w bt b other
 
   -- those that can't be read are the same where their cases are
-  unread_is : (a : PlaceContent) (c d : Content) → extent_of s r a ≡ None → case_of s r c ≡ a → case_of s r d ≡ a
+  unread_is : (a : PlaceContent) (error : ReadError) (c d : Content) → extent_of s r a ≡ Err error → case_of s r c ≡ a → case_of s r d ≡ a
       → c ≡ d
-  unread_is place.Updating content.Updating content.Updating none e f = refl
-  unread_is place.Updating content.Updating content.Damaged none e f = absurd (cc)
-  unread_is place.Updating content.Updating (content.Static t) none e f = absurd (cc)
-  unread_is place.Updating content.Updating (content.Dynamic t) none e f = absurd (cc)
-  unread_is place.Updating content.Damaged d none e f = absurd (cc)
-  unread_is place.Updating (content.Static t) d none e f = absurd (cc)
-  unread_is place.Updating (content.Dynamic t) d none e f = absurd (cc)
-  unread_is place.Damaged content.Damaged content.Damaged none e f = refl
-  unread_is place.Damaged content.Damaged content.Updating none e f = absurd (cc)
-  unread_is place.Damaged content.Damaged (content.Static t) none e f = absurd (cc)
-  unread_is place.Damaged content.Damaged (content.Dynamic t) none e f = absurd (cc)
-  unread_is place.Damaged content.Updating d none e f = absurd (cc)
-  unread_is place.Damaged (content.Static t) d none e f = absurd (cc)
-  unread_is place.Damaged (content.Dynamic t) d none e f = absurd (cc)
-  unread_is (place.Static lebs bytes) c d none e f = absurd (cc)
-  unread_is place.Dynamic c d none e f = absurd (cc)
+  unread_is place.Updating error content.Updating content.Updating none e f = refl
+  unread_is place.Updating error content.Updating content.Damaged none e f = absurd (cc)
+  unread_is place.Updating error content.Updating (content.Static t) none e f = absurd (cc)
+  unread_is place.Updating error content.Updating (content.Dynamic t) none e f = absurd (cc)
+  unread_is place.Updating error content.Damaged d none e f = absurd (cc)
+  unread_is place.Updating error (content.Static t) d none e f = absurd (cc)
+  unread_is place.Updating error (content.Dynamic t) d none e f = absurd (cc)
+  unread_is place.Damaged error content.Damaged content.Damaged none e f = refl
+  unread_is place.Damaged error content.Damaged content.Updating none e f = absurd (cc)
+  unread_is place.Damaged error content.Damaged (content.Static t) none e f = absurd (cc)
+  unread_is place.Damaged error content.Damaged (content.Dynamic t) none e f = absurd (cc)
+  unread_is place.Damaged error content.Updating d none e f = absurd (cc)
+  unread_is place.Damaged error (content.Static t) d none e f = absurd (cc)
+  unread_is place.Damaged error (content.Dynamic t) d none e f = absurd (cc)
+  unread_is (place.Static lebs bytes) error c d none e f = absurd (cc)
+  unread_is place.Dynamic error c d none e f = absurd (cc)
 
-  pub unread_same : (a : PlaceContent) → finite.get p.contents id ≡ Some a → finite.get q.contents id ≡ Some a
-      → extent_of s r a ≡ None
+  pub unread_same : (a : PlaceContent) (error : ReadError) → finite.get p.contents id ≡ Some a → finite.get q.contents id ≡ Some a
+      → extent_of s r a ≡ Err error
       → v.content ≡ w.content
-  unread_same a one other none =
-      unread_is a v.content w.content none (case_is s p x h id r here v at a one)
+  unread_same a error one other none =
+      unread_is a error v.content w.content none (case_is s p x h id r here v at a one)
       (case_is s q y k id r there w bt a other)
 
   static_is_same : (lebs bytes : ℕ) (c d : Content) → v.content ≡ c → w.content ≡ d
@@ -173,22 +174,22 @@ module _ (s : Sizes) (p q : Placed) (x y : List ℕ) (h : ArePlaces (image_of s 
 
   -- those that can be read are the same where the bytes of their LEBs are
   extent_same : (a : PlaceContent) (e : Extent) → finite.get p.contents id ≡ Some a → finite.get q.contents id ≡ Some a
-      → extent_of s r a ≡ Some e
+      → extent_of s r a ≡ Ok e
       → AreSameLebs s p q id e.size e.bytes x y e.lebs ↔ (v.content ≡ w.content)
   extent_same place.Updating e one other is = absurd (cc)
   extent_same place.Damaged e one other is = absurd (cc)
   extent_same (place.Static lebs bytes) e one other is =
       subst (λ (z : Extent). AreSameLebs s p q id z.size z.bytes x y z.lebs ↔ (v.content ≡ w.content))
-      (same_Some _ e is) (static_same lebs bytes one other)
+      (same_Ok _ e is) (static_same lebs bytes one other)
   extent_same place.Dynamic e one other is =
       subst (λ (z : Extent). AreSameLebs s p q id z.size z.bytes x y z.lebs ↔ (v.content ≡ w.content))
-      (same_Some _ e is) (dynamic_same one other)
+      (same_Ok _ e is) (dynamic_same one other)
 
   pub read_same : (a : PlaceContent) (e : Extent) → finite.get p.contents id ≡ Some a
-      → finite.get q.contents id ≡ Some a → Some e ≡ extent_of s r a
+      → finite.get q.contents id ≡ Some a → extent_of s r a ≡ Ok e
       → (answer : Bool) → IsTrue answer ↔ AreSameLebs s p q id e.size e.bytes x y e.lebs → IsTrue answer
       ↔ (v.content ≡ w.content)
-  read_same a e one other is answer tells = both tells (extent_same a e one other (sym is))
+  read_same a e one other is answer tells = both tells (extent_same a e one other is)
 
 -- a LEB that reads the same does so by its places, and as much of it
 pub leb_same : (s : Sizes) (p q : Placed) (id size bytes : ℕ) (x y : List ℕ) (n m : ℕ) (at bt : Option ℕ)

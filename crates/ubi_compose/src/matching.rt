@@ -150,9 +150,10 @@ fn same_volume<L: BlockSource, R: BlockSource>(
     if !is_alike(content, there.content(id)) {
         return Ok(false);
     }
-    match Extent::of(geometry, entry, content) {
-        Some(extent) => same_lebs(geometry, left, right, here, there, id, extent, one, other),
-        None => Ok(true),
+    match here.extent(geometry, id) {
+        Ok(extent) => same_lebs(geometry, left, right, here, there, id, extent, one, other),
+        // It can't be read, on neither side.
+        Err(_) => Ok(true),
     }
 }
 

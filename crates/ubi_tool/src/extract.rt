@@ -14,7 +14,7 @@ use std::alloc::Global;
 use std::io::Write;
 use ubi_media::Geometry;
 use ubi_scan::{BlockSource, MemorySource, StreamError};
-use ubi_volume::{ReadError, attach_places, places_len, write_places};
+use ubi_volume::{ReadError, attach_places, write_places};
 
 /// The name of a refusal to read, with its number.
 ///
@@ -76,12 +76,20 @@ pub fn run_extract_from<S: BlockSource, W: Write>(
         Err(StreamError::Write(_)) => return Err(ToolError::Write),
         Err(StreamError::Memory) => return Err(ToolError::Memory),
     };
-    match places_len(geometry, &places, id) {
-        Ok(_) => {}
+    let extent = match places.extent(geometry, id) {
+        Ok(extent) => extent,
         Err(error) => return unread(alloc, error),
-    }
+    };
     let mut buffer = Vec::from_elem(alloc, 0u8, geometry.peb_size() as usize)?;
-    match write_places(geometry, source, &places, id, buffer.as_mut_slice(), writer) {
+    match write_places(
+        geometry,
+        source,
+        &places,
+        id,
+        extent,
+        buffer.as_mut_slice(),
+        writer,
+    ) {
         Ok(count) => {
             put_bytes_line(&mut line, count)?;
             Ok(Outcome::saying(line, DONE))

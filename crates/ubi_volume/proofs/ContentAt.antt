@@ -1,21 +1,24 @@
 -- What a volume reads by the places of its LEBs.
-use Rattle.std.proofs.Common.{◌≡◌, ◌∙◌, ℕ, List, length, length-take-le, take, refl, sym, subst, arith}
-use Rattle.std.specs.Prelude.{Some}
+use Rattle.std.proofs.Common.{◌≡◌, ◌∙◌, ℕ, List, length, length-take-le, take, refl, ap, sym, subst, arith}
+use Rattle.std.specs.Prelude.{Err, Ok, Option, Some}
+use Rattle.std.specs.Option.{option_map_or}
 use Rattle.std.specs.FinMap as finite
 use Rattle.ubi_media.specs.Geometry.{Sizes}
 use Rattle.ubi_media.specs.Record.{usable}
 use Rattle.ubi_media.specs.declared.record.VolumeRecord.{VolumeRecord}
 use Rattle.ubi_scan.specs.Image.{image_of}
 use Rattle.ubi_scan.specs.Source.{blocks_of}
-use Rattle.ubi_volume.specs.inner.Pieces.{lebs_bytes}
+use Rattle.ubi_volume.specs.Extract.{read_text}
+use Rattle.ubi_volume.specs.Reading.{volume_read}
 use Rattle.ubi_volume.specs.Means.{VolumeReads}
 use Rattle.ubi_volume.specs.Places.{AreWithin, ArePlaces, CaseFits, Placed, case_of}
 use Rattle.ubi_volume.specs.declared.content.Content.{Content}
 use Rattle.ubi_volume.specs.declared.content.Content.TheVariants as content
+use Rattle.ubi_volume.specs.declared.content.Volume.{Volume}
+use Rattle.ubi_volume.specs.declared.errors.ReadError.TheVariants as error
 use Rattle.ubi_volume.specs.declared.places.PlaceContent.{PlaceContent}
 use Rattle.ubi_volume.specs.declared.places.PlaceContent.TheVariants as place
 use Rattle.std.proofs.lemmas.Option.{same_Some}
-use Rattle.ubi_volume.proofs.Extracted.{static_is}
 use Rattle.ubi_volume.proofs.VolumeAt.{case_is, has_volume, reads_of}
 
 -- the front of a buffer has the size that a volume uses
@@ -55,20 +58,24 @@ module _ (s : Sizes) (p : Placed) (image : List ℕ) (places : ArePlaces (image_
       by_content (content.Static t) e reads = absurd (cc)
       by_content (content.Dynamic l) e reads = absurd (cc)
 
-  pub static_reads : (lebs bytes : ℕ) → finite.get p.contents id ≡ Some (place.Static lebs bytes)
-      → VolumeReads s bs id r (content.Static (lebs_bytes s p id (usable s r) bytes image lebs))
-  static_reads lebs bytes listed =
+  pub static_reads : (lebs bytes : ℕ) → finite.get p.contents id ≡ Some (place.Static lebs bytes) → (text : List ℕ)
+      → ((all : List ℕ) → read_text s p id image all → text ≡ all) → VolumeReads s bs id r (content.Static text)
+  static_reads lebs bytes listed text read =
       let v = has_volume s p image places id r recorded in
-      by_content v.0.content refl (case_is s p image places id r recorded v.0 v.1 (place.Static lebs bytes) listed)
+      by_content v.0.content (case_is s p image places id r recorded v.0 v.1 (place.Static lebs bytes) listed)
       (reads_of s p image places id r recorded v.0 v.1).1
+      (λ all e. read all (
+        places,
+        ap
+            (λ (o : Option Volume). option_map_or (λ v. volume_read places.meaning.sizes v.entry v.content) o
+            (Err error.NoVolume)) v.1 ∙ e,
+      ))
     where
-      by_content : (x : Content) → (has_volume s p image places id r recorded).0.content ≡ x
-          → case_of s r x ≡ place.Static lebs bytes → VolumeReads s bs id r x
-          → VolumeReads s bs id r (content.Static (lebs_bytes s p id (usable s r) bytes image lebs))
-      by_content content.Updating is e reads = absurd (cc)
-      by_content content.Damaged is e reads = absurd (cc)
-      by_content (content.Static t) is e reads =
-          let v = has_volume s p image places id r recorded in
-          subst (λ (x : List ℕ). VolumeReads s bs id r (content.Static x))
-          (sym (static_is s p image places id r recorded v.0 v.1 lebs bytes t is (cc) (cc))) reads
-      by_content (content.Dynamic l) is e reads = absurd (cc)
+      by_content : (x : Content) → case_of s r x ≡ place.Static lebs bytes → VolumeReads s bs id r x
+          → ((all : List ℕ) → volume_read places.meaning.sizes (has_volume s p image places id r recorded).0.entry x
+          ≡ Ok all → text ≡ all) → VolumeReads s bs id r (content.Static text)
+      by_content content.Updating e reads is = absurd (cc)
+      by_content content.Damaged e reads is = absurd (cc)
+      by_content (content.Static t) e reads is =
+          subst (λ (x : List ℕ). VolumeReads s bs id r (content.Static x)) (sym (is t refl)) reads
+      by_content (content.Dynamic l) e reads is = absurd (cc)

@@ -8,7 +8,7 @@ use Rattle.std.specs.Option.{option_map_or}
 use Rattle.std.specs.Ordering.{nat_cmp}
 use Rattle.std.specs.Result.{result_map_both}
 use Rattle.std.proofs.lemmas.Nat.{mul-le}
-use Rattle.std.proofs.lemmas.Option.{IfSome_then, same_Some}
+use Rattle.std.proofs.lemmas.Option.{IfSome_then}
 use Rattle.ubi_media.specs.Fields.{blank}
 use Rattle.ubi_media.specs.Geometry.{Sizes}
 use Rattle.ubi_media.specs.Record.{rec_fault, usable}
@@ -22,7 +22,7 @@ use Rattle.ubi_scan.specs.declared.errors.StreamError.{StreamError}
 use Rattle.ubi_scan.proofs.Decided.{Wins-unique}
 use Rattle.ubi_table.specs.Records.{Records}
 use Rattle.ubi_table.proofs.ReadBack.{pieces_more}
-use Rattle.ubi_volume.specs.Extract.{case_len, extent_of, leb_bytes, read_text, share_len}
+use Rattle.ubi_volume.specs.Extract.{extent_in, extent_len, extent_of, leb_bytes, read_text, share_len}
 use Rattle.ubi_volume.specs.inner.Pieces.{leb_at, lebs_at, lebs_bytes}
 use Rattle.ubi_volume.specs.Means.{SlotMeans, AreWhole, LebReads, StaticReads, VolumeReads, piece}
 use Rattle.ubi_volume.specs.Meant.{Fits, IsVolume, pieces, share}
@@ -86,18 +86,6 @@ module _ (s : Sizes) (p : Placed) (id size bytes : ℕ) where
         refl,
         tt,
       )
-
-  -- the text so far, and one LEB more
-  pub lebs_next : (n m : ℕ) (at : Option ℕ) (image text part : List ℕ) → m ≡ share_len size bytes n
-      → at ≡ finite.get p.winners (id, n) → text ≡ lebs_bytes s p id size bytes image n → part ≡ leb_bytes s m at image
-      → text ++ part ≡ lebs_bytes s p id size bytes image (n + 1)
-  unfolding leb_of
-  lebs_next n m at image text part long is front read =
-      ap (λ x. x ++ part) front
-      ∙ ap (λ x. lebs_bytes s p id size bytes image n ++ x)
-      (read ∙ ap (λ (k : ℕ). leb_bytes s k at image) long
-      ∙ ap (λ (o : Option ℕ). leb_bytes s (share_len size bytes n) o image) is)
-      ∙ sym (pieces_more (leb_of image) 0 n n (zero-add n))
 
   -- one LEB more
   module _ (n m : ℕ) (at : Option ℕ) (long : m ≡ share_len size bytes n) (is : at ≡ finite.get p.winners (id, n)) where
@@ -279,30 +267,56 @@ read_of : (s : Sizes) (id : ℕ) (text : List ℕ) (o : Option Volume)
 read_of s id text None h = absurd (cc)
 read_of s id text (Some v) h = (v, refl, h)
 
--- what the volume reads, by its extent
-module _ (s : Sizes) (p : Placed) (id : ℕ) (r : VolumeRecord) (recorded : finite.get p.records.of id ≡ Some r) where
-  reads_at : (c : PlaceContent) (e : Extent) → finite.get p.contents id ≡ Some c → extent_of s r c ≡ Some e
-      → (image text : List ℕ) (h : ArePlaces (image_of s image) p) (v : Volume)
-      → finite.get h.meaning.volumes id ≡ Some v
-      → volume_read h.meaning.sizes v.entry v.content ≡ Ok text → text ≡ lebs_bytes s p id e.size e.bytes image e.lebs
-  reads_at place.Updating e listed is image text h v at w = absurd (cc)
-  reads_at place.Damaged e listed is image text h v at w = absurd (cc)
-  reads_at (place.Static lebs bytes) e listed is image text h v at w =
-      static_at s p image h id r recorded v at text lebs bytes listed w
-      ∙ ap (λ (x : Extent). lebs_bytes s p id x.size x.bytes image x.lebs) (same_Some _ e is)
-  reads_at place.Dynamic e listed is image text h v at w =
-      dynamic_at s p image h id r recorded v at text listed w
-      ∙ ap (λ (x : Extent). lebs_bytes s p id x.size x.bytes image x.lebs) (same_Some _ e is)
+abbrev pub read_with : Extent → Result Extent ReadError
+read_with e = Ok e
 
-  pub wanted : (c : PlaceContent) (e : Extent) → finite.get p.contents id ≡ Some c → Some e ≡ extent_of s r c
-      → (image text : List ℕ) → read_text s p id image text → lebs_at s p id e.size e.bytes e.lebs image text
-  wanted c e listed is image text w =
-      let of = read_of w.0.meaning.sizes id text (finite.get w.0.meaning.volumes id) w.1 in
-      reads_at c e listed (sym is) image text w.0 of.0 of.1 of.2
+pub same_Ok : (a b : Extent) → read_with a ≡ read_with b → a ≡ b
+same_Ok a b e = cc
+
+-- the extent of a volume with a record and a case
+pub extent_at : (s : Sizes) (p : Placed) (id : ℕ) (r : VolumeRecord) (c : PlaceContent) → p.records.sizes ≡ s
+    → finite.get p.records.of id ≡ Some r → finite.get p.contents id ≡ Some c → extent_in p id ≡ extent_of s r c
+extent_at s p id r c sizes recorded listed = rw (recorded, listed) (ap (λ z. extent_of z r c) sizes)
+
+-- what the volume reads, by its extent
+module _ (s : Sizes) (p : Placed) (id : ℕ) (e : Extent) (image text : List ℕ) (w : read_text s p id image text) where
+  reads_at : (r : VolumeRecord) → finite.get p.records.of id ≡ Some r → (c : PlaceContent)
+      → finite.get p.contents id ≡ Some c → extent_of s r c ≡ Ok e
+      → (v : Volume) → finite.get w.0.meaning.volumes id ≡ Some v
+      → volume_read w.0.meaning.sizes v.entry v.content ≡ Ok text → lebs_at s p id e.size e.bytes e.lebs image text
+  reads_at r recorded place.Updating listed is v at reads = absurd (cc)
+  reads_at r recorded place.Damaged listed is v at reads = absurd (cc)
+  reads_at r recorded (place.Static lebs bytes) listed is v at reads =
+      static_at s p image w.0 id r recorded v at text lebs bytes listed reads
+      ∙ ap (λ (x : Extent). lebs_bytes s p id x.size x.bytes image x.lebs) (same_Ok _ e is)
+  reads_at r recorded place.Dynamic listed is v at reads =
+      dynamic_at s p image w.0 id r recorded v at text listed reads
+      ∙ ap (λ (x : Extent). lebs_bytes s p id x.size x.bytes image x.lebs) (same_Ok _ e is)
+
+  pub wanted : p.records.sizes ≡ s → extent_in p id ≡ Ok e → lebs_at s p id e.size e.bytes e.lebs image text
+  wanted sizes is = by_record (finite.get p.records.of id) refl is
+    where
+      by_case : (r : VolumeRecord) → finite.get p.records.of id ≡ Some r → (c : Option PlaceContent)
+          → finite.get p.contents id ≡ c → option_map_or (extent_of p.records.sizes r) c (Err error.NoVolume) ≡ Ok e
+          → lebs_at s p id e.size e.bytes e.lebs image text
+      by_case r recorded None listed is = absurd (cc)
+      by_case r recorded (Some c) listed is =
+          let of = read_of w.0.meaning.sizes id text (finite.get w.0.meaning.volumes id) w.1 in
+          reads_at r recorded c listed (subst (λ (z : Sizes). extent_of z r c ≡ Ok e) sizes is) of.0 of.1 of.2
+
+      by_record : (o : Option VolumeRecord) → finite.get p.records.of id ≡ o
+          → option_map_or (λ r. option_map_or (extent_of p.records.sizes r) (finite.get p.contents id)
+          (Err error.NoVolume)) o (Err error.NoVolume) ≡ Ok e → lebs_at s p id e.size e.bytes e.lebs image text
+      by_record None recorded is = absurd (cc)
+      by_record (Some r) recorded is = by_case r recorded (finite.get p.contents id) refl is
 
 -- how many bytes it reads, by the case
+case_len : Sizes → VolumeRecord → PlaceContent → Result ℕ ReadError
+case_len s r c = extent_len (extent_of s r c)
+
 case_len_is : (s : Sizes) (r : VolumeRecord) (c : Content) → Fits s r c
     → case_len s r (case_of s r c) ≡ result_map_both length (λ (e : ReadError). e) (volume_read s r c)
+unfolding case_len
 case_len_is s r content.Updating fits = refl
 case_len_is s r content.Damaged fits = refl
 case_len_is s r (content.Static t) fits = refl
@@ -330,8 +344,8 @@ module _ (image : Image) (p : Placed) (h : ArePlaces image p) (id : ℕ) where
 
   pub len_some : (s : Sizes) (r : VolumeRecord) (c : PlaceContent) → p.records.sizes ≡ s
       → finite.get p.records.of id ≡ Some r → finite.get p.contents id ≡ Some c
-      → case_len s r c ≡ volume_len h.meaning id
-  unfolding len_in
+      → extent_len (extent_of s r c) ≡ volume_len h.meaning id
+  unfolding case_len len_in
   len_some s r c sizes recorded listed = by_volume (finite.get h.meaning.volumes id) refl
       (subst (λ (o : Option VolumeRecord). SlotMeans image.sizes (blocks_of image.sizes image.bytes) id o
       (finite.get h.meaning.volumes id))

@@ -2,6 +2,7 @@
 use Rattle.std.specs.Prelude.{◌≡◌, ℕ, ◌-◌, ◌*◌, List, Option, Some, None, Result, Ok, Err, min, take}
 use Rattle.std.specs.FinMap.{get}
 use Rattle.std.specs.Option.{option_map_or}
+use Rattle.std.specs.Result.{result_map_both}
 use Rattle.ubi_media.specs.Fields.{blank}
 use Rattle.ubi_media.specs.Geometry.{Sizes}
 use Rattle.ubi_media.specs.Record.{usable}
@@ -16,16 +17,20 @@ use Rattle.ubi_volume.specs.declared.extent.Extent.{Extent}
 use Rattle.ubi_volume.specs.declared.places.PlaceContent.{PlaceContent}
 use Rattle.ubi_volume.specs.declared.places.PlaceContent.TheVariants as place
 
--- how many bytes a volume with this record reads, by the case of what it reads
-abbrev pub case_len : Sizes → VolumeRecord → PlaceContent → Result ℕ ReadError
-case_len s r place.Updating = Err error.Updating
-case_len s r place.Damaged = Err error.Damaged
-case_len s r (place.Static lebs bytes) = Ok bytes
-case_len s r place.Dynamic = Ok (r.reserved * usable s r)
+-- how the bytes that a volume with this record reads are shared among its LEBs, by the case of what it reads
+abbrev pub extent_of : Sizes → VolumeRecord → PlaceContent → Result Extent ReadError
+extent_of s r place.Updating = Err error.Updating
+extent_of s r place.Damaged = Err error.Damaged
+extent_of s r (place.Static lebs bytes) = Ok (record { lebs = lebs; size = usable s r; bytes = bytes })
+extent_of s r place.Dynamic = Ok (record { lebs = r.reserved; size = usable s r; bytes = r.reserved * usable s r })
 
 -- the same of places, by the number of the volume
-abbrev pub places_len : Placed → ℕ → Result ℕ ReadError
-places_len p id = option_map_or (λ r. option_map_or (case_len p.records.sizes r) (get p.contents id) (Err error.NoVolume)) (get p.records.of id) (Err error.NoVolume)
+abbrev pub extent_in : Placed → ℕ → Result Extent ReadError
+extent_in p id = option_map_or (λ r. option_map_or (extent_of p.records.sizes r) (get p.contents id) (Err error.NoVolume)) (get p.records.of id) (Err error.NoVolume)
+
+-- how many bytes these are
+abbrev pub extent_len : Result Extent ReadError → Result ℕ ReadError
+extent_len = result_map_both (λ e. e.bytes) (λ e. e)
 
 -- what the volume reads, of the meaning of an image whose places these are
 abbrev pub read_text : Sizes → Placed → ℕ → List ℕ → List ℕ → Type 0
@@ -35,13 +40,6 @@ read_text s p id image text = (h : ArePlaces (image_of s image) p) × (read_volu
 abbrev pub leb_bytes : Sizes → ℕ → Option ℕ → List ℕ → List ℕ
 leb_bytes s n None image = blank n
 leb_bytes s n (Some p) image = take n (leb s (block (blocks_of s image) p))
-
--- how the bytes that it reads are shared among its LEBs, by the case; not where it can't be read
-abbrev pub extent_of : Sizes → VolumeRecord → PlaceContent → Option Extent
-extent_of s r place.Updating = None
-extent_of s r place.Damaged = None
-extent_of s r (place.Static lebs bytes) = Some (record { lebs = lebs; size = usable s r; bytes = bytes })
-extent_of s r place.Dynamic = Some (record { lebs = r.reserved; size = usable s r; bytes = r.reserved * usable s r })
 
 -- how many of so many bytes stand in a LEB, which has room for `size` of them
 abbrev pub share_len : ℕ → ℕ → ℕ → ℕ

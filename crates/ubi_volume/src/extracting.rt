@@ -1,63 +1,21 @@
 //! What a volume of a source reads, from the places of its logical eraseblocks to a writer.
 
-ghost use Rattle.std.specs.FinMap as finite;
-ghost use Rattle.std.specs.Prelude.{◌≡◌, ℕ, ◌+◌, ◌<◌, ◌≤◌, ◌^◌, IfErr, IfOk, IfSome, IsOk, List, None, Some, length};
+ghost use Rattle.std.specs.Prelude.{◌≡◌, ◌+◌, ◌*◌, ◌<◌, ◌≤◌, ◌^◌, IfErr, IfOk, IfSome, None, Ok, Some, length};
 ghost use Rattle.ubi_media.specs.Geometry.{Sizes, leb_size};
-ghost use Rattle.ubi_media.specs.Record.{rec_fault};
-ghost use Rattle.ubi_scan.specs.Image.{Image};
-ghost use Rattle.ubi_scan.specs.Source.{Narrows, Source, WhereHeld, blocks_in};
+ghost use Rattle.ubi_scan.specs.Source.{Narrows, Source, blocks_in};
 ghost use Rattle.ubi_scan.specs.inner.Held.{anything};
 ghost use Rattle.ubi_scan.specs.Stream.{after};
-ghost use Rattle.ubi_volume.specs.Extract.{case_len, places_len, read_text};
-ghost use Rattle.ubi_volume.specs.inner.Pieces.{leb_at, lebs_at};
-ghost use Rattle.ubi_volume.specs.Places.{ArePlaces, ArePlacesOf};
-ghost use Rattle.ubi_volume.specs.Reading.{volume_len};
+ghost use Rattle.ubi_volume.specs.Extract.{extent_in, read_text};
+ghost use Rattle.ubi_volume.specs.inner.Pieces.{leb_at};
+ghost use Rattle.ubi_volume.specs.Places.{ArePlacesOf};
 ghost use Rattle.ubi_volume.specs.Wrote.{All, IsWroteError, Wrote};
 
-use crate::errors::ReadError;
 use crate::extent::Extent;
 use crate::output::{write_all, write_blank};
-use crate::places::{PlaceContent, Places};
+use crate::places::Places;
 use std::io::Write;
-use ubi_media::{Geometry, VolumeRecord};
+use ubi_media::Geometry;
 use ubi_scan::{BlockSource, StreamError, read_leb};
-
-/// How many bytes a volume with this record reads, by what it reads.
-///
-/// # Errors
-///
-/// `Updating` or `Damaged`: it can't be read.
-fn case_len(
-    geometry: &Geometry,
-    entry: &VolumeRecord,
-    content: PlaceContent,
-) -> Result<u64, ReadError>
-    requires { rec_fault geometry.now entry.now ≡ None }
-    ensures { result ≡ case_len geometry.now entry.now content }
-{
-    match content {
-        PlaceContent::Updating => Err(ReadError::Updating),
-        PlaceContent::Damaged => Err(ReadError::Damaged),
-        PlaceContent::Static { bytes, .. } => Ok(bytes),
-        PlaceContent::Dynamic => Ok(u64::from(entry.reserved) * u64::from(entry.usable(geometry))),
-    }
-}
-
-/// How many bytes a volume reads. The geometry is the one that the places were found with.
-///
-/// # Errors
-///
-/// The first of these that stands: `NoVolume`, `Updating`, `Damaged`.
-pub fn places_len(geometry: &Geometry, places: &Places, id: u32) -> Result<u64, ReadError>
-    requires { places.now.records.sizes ≡ geometry.now }
-    ensures value { result ≡ places_len places.now id }
-    ensures meant { (image : Image) (h : ArePlaces image places.now) → result ≡ volume_len h.meaning id }
-{
-    match places.table().get(id) {
-        Some(entry) => case_len(geometry, entry, places.content(id)),
-        None => Err(ReadError::NoVolume),
-    }
-}
 
 /// Writes the first bytes of the logical eraseblock in an eraseblock, as many as the buffer has, and gives how many bytes
 /// are written then. `done` of them were written before.
@@ -139,38 +97,7 @@ fn write_leb<S: BlockSource, W: Write>(
     }
 }
 
-/// Writes the bytes of a volume that stand in its logical eraseblocks so, and gives how many bytes those are.
-///
-/// # Errors
-///
-/// A read failed, or a write.
-fn write_lebs<S: BlockSource, W: Write>(
-    geometry: &Geometry,
-    source: &mut S,
-    places: &Places,
-    id: u32,
-    extent: Extent,
-    buffer: &mut [u8],
-    writer: &mut W,
-) -> Result<u64, StreamError>
-    requires places { ArePlacesOf geometry.now (S.known source.old) (S.agrees source.old) places.now }
-    requires room { length buffer.old ≡ geometry.now.peb_size }
-    requires size { extent.size ≤ leb_size geometry.now }
-    ensures known { S.known source.new ≡ after (S.known source.old) result }
-    ensures narrows { Narrows (S.agrees source.old) (S.agrees source.new) }
-    ensures written { IfOk result (Wrote (S.agrees source.new) (W.contents writer.old) (W.contents writer.new) (lebs_at geometry.now places.now id extent.size extent.bytes extent.lebs) All 0) }
-    ensures failed { IfErr result (IsWroteError geometry.now (S.known source.old) (S.agrees source.new) (W.contents writer.old) (W.contents writer.new) (lebs_at geometry.now places.now id extent.size extent.bytes extent.lebs) 0) }
-{
-    let mut done = 0;
-    for lnum in 0..extent.lebs {
-        let len = extent.share_len(lnum);
-        let place = places.place(id, lnum);
-        done = write_leb(geometry, source, place, &mut buffer[..len], writer, done)?;
-    }
-    Ok(done)
-}
-
-/// Writes what a volume reads, where it can be read ([`places_len`]), and gives how many bytes that are. The places are
+/// Writes what a volume reads, by its extent ([`Places::extent`]), and gives how many bytes that are. The places are
 /// those that were found in the source. One logical eraseblock is held at a time, in a buffer of the size of an
 /// eraseblock; no other memory is taken, and each eraseblock is read at most once.
 ///
@@ -183,22 +110,25 @@ pub fn write_places<S: BlockSource, W: Write>(
     source: &mut S,
     places: &Places,
     id: u32,
+    extent: Extent,
     buffer: &mut [u8],
     writer: &mut W,
 ) -> Result<u64, StreamError>
     requires places { ArePlacesOf geometry.now (S.known source.old) (S.agrees source.old) places.now }
     requires room { length buffer.old ≡ geometry.now.peb_size }
-    requires reads { IsOk (places_len places.now id) }
+    requires reads { extent_in places.now id ≡ Ok extent }
+    requires size { extent.size ≤ leb_size geometry.now }
     ensures known { S.known source.new ≡ after (S.known source.old) result }
     ensures narrows { Narrows (S.agrees source.old) (S.agrees source.new) }
     ensures written { IfOk result (Wrote (S.agrees source.new) (W.contents writer.old) (W.contents writer.new) (read_text geometry.now places.now id) All 0) }
+    ensures most { IfOk result (λ n. n ≤ extent.lebs * extent.size) }
     ensures failed { IfErr result (IsWroteError geometry.now (S.known source.old) (S.agrees source.new) (W.contents writer.old) (W.contents writer.new) (read_text geometry.now places.now id) 0) }
 {
-    let Some(entry) = places.table().get(id) else {
-        unreachable!()
-    };
-    let Some(extent) = Extent::of(geometry, entry, places.content(id)) else {
-        unreachable!()
-    };
-    write_lebs(geometry, source, places, id, extent, buffer, writer)
+    let mut done = 0;
+    for lnum in 0..extent.lebs {
+        let len = extent.share_len(lnum);
+        let place = places.place(id, lnum);
+        done = write_leb(geometry, source, place, &mut buffer[..len], writer, done)?;
+    }
+    Ok(done)
 }

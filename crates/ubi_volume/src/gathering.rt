@@ -2,7 +2,7 @@
 //!
 //! The places are those that were found in the source, and each buffer has the size of an eraseblock.
 
-ghost use Rattle.std.specs.Prelude.{◌≡◌, ◌*◌, ◌≤◌, IfErr, IfOk, Some, false, length};
+ghost use Rattle.std.specs.Prelude.{◌≡◌, ℕ, ◌*◌, ◌≤◌, IfErr, IfOk, List, Ok, Some, false, length};
 ghost use Rattle.std.specs.FinMap as finite;
 ghost use Rattle.ubi_media.specs.declared.vid.VolKind.TheVariants.{Dynamic};
 ghost use Rattle.ubi_media.specs.Geometry.{leb_size};
@@ -11,21 +11,22 @@ ghost use Rattle.ubi_scan.specs.Image.{image_of};
 ghost use Rattle.ubi_scan.specs.Source.{Narrows, WhereHeld, blocks_in};
 ghost use Rattle.ubi_scan.specs.Stream.{after};
 ghost use Rattle.ubi_volume.specs.Accepts.{Accepts};
+ghost use Rattle.ubi_volume.specs.Extract.{extent_in, read_text};
 ghost use Rattle.ubi_volume.specs.inner.Gathered.{IsContentOf};
-ghost use Rattle.ubi_volume.specs.inner.Pieces.{lebs_bytes};
 ghost use Rattle.ubi_volume.specs.Places.{ArePlacesOf, IsReadFailure};
 
 use crate::content::{Bytes, Content, Lebs, Volume};
 use crate::extent::Extent;
-use crate::fetching::{is_kept, read_place};
+use crate::extracting::write_places;
+use crate::fetching::is_kept;
 use crate::meaning::Meaning;
 use crate::places::{PlaceContent, Places};
 use std::alloc::{AllocError, Global};
 use ubi_media::{Geometry, VolumeRecord};
 use ubi_scan::{BlockSource, StreamError};
 
-/// The bytes of a volume that stand in its logical eraseblocks so.
-fn read_lebs<S: BlockSource>(
+/// What a static volume reads, by its extent.
+fn static_text<S: BlockSource>(
     alloc: Global,
     geometry: &Geometry,
     source: &mut S,
@@ -35,21 +36,23 @@ fn read_lebs<S: BlockSource>(
     buffer: &mut [u8],
 ) -> Result<Bytes, StreamError>
     requires places { ArePlacesOf geometry.now (S.known source.old) (S.agrees source.old) places.now }
+    requires reads { extent_in places.now id ≡ Ok extent }
     requires size { extent.size ≤ leb_size geometry.now }
     requires room { length buffer.old ≡ geometry.now.peb_size }
     ensures known { S.known source.new ≡ after (S.known source.old) result }
     ensures narrows { Narrows (S.agrees source.old) (S.agrees source.new) }
-    ensures bytes { IfOk result (λ text. WhereHeld (S.agrees source.new) (λ image. text ≡ lebs_bytes geometry.now places.now id extent.size extent.bytes image extent.lebs)) }
+    ensures read { IfOk result (λ text. WhereHeld (S.agrees source.new) (λ bytes. (all : List ℕ) → read_text geometry.now places.now id bytes all → text ≡ all)) }
     ensures most { IfOk result (λ text. length text ≤ extent.lebs * extent.size) }
     ensures failed { IfErr result (IsReadFailure (blocks_in geometry.now (S.known source.old))) }
 {
     let mut text = Vec::new(alloc);
-    for lnum in 0..extent.lebs {
-        let part = &mut buffer[..extent.share_len(lnum)];
-        read_place(geometry, source, places.place(id, lnum), part)?;
-        text.extend_from_slice(part)?;
+    match write_places(geometry, source, places, id, extent, buffer, &mut text) {
+        Ok(_) => Ok(Bytes::new(text)),
+        Err(StreamError::Read(p, _)) => Err(StreamError::Read(p, 0)),
+        // A vector takes all bytes, unless it can't grow.
+        Err(StreamError::Write(_)) => Err(StreamError::Memory),
+        Err(StreamError::Refused(_) | StreamError::Memory) => unreachable!(),
     }
-    Ok(Bytes::new(text))
 }
 
 /// What a dynamic volume without update marker reads.
@@ -107,7 +110,7 @@ fn content_from<S: BlockSource>(
         PlaceContent::Static { lebs, bytes } => {
             let size = entry.usable(geometry);
             let extent = Extent { lebs, size, bytes };
-            let text = read_lebs(alloc, geometry, source, places, id, extent, buffer)?;
+            let text = static_text(alloc, geometry, source, places, id, extent, buffer)?;
             Ok(Content::Static(text))
         }
         PlaceContent::Dynamic => {

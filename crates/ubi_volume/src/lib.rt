@@ -38,7 +38,7 @@ pub use attaching::{attach, attach_from};
 pub use content::{Bytes, Content, Lebs, Volume};
 pub use errors::{MeaningCause, MeaningError, ReadError};
 pub use extent::Extent;
-pub use extracting::{places_len, write_places};
+pub use extracting::write_places;
 pub use fetching::read_place;
 pub use length::volume_len;
 pub use meaning::Meaning;

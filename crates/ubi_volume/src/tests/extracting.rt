@@ -4,7 +4,7 @@ use super::images::{
     A, ALIGNMENT_256, COPY_0, COPY_1, Data, Ec, FIRST_BOOT, FIRST_MARKED, PADDED, PLAIN, Peb,
     SECOND_BOOT, SECOND_MARKED, SMALL, STATIC_0, TEXT_0, TEXT_1, Vid, geometry, image,
 };
-use crate::{Failure, ProbeWriter, ReadError, attach_places, places_len, write_places};
+use crate::{Failure, ProbeWriter, ReadError, attach_places, write_places};
 use std::alloc::Global;
 use std::io::Write;
 use std::test::Fail;
@@ -28,15 +28,17 @@ fn extract<S: BlockSource, W: Write>(
 ) -> Result<Answer, Fail> {
     let geometry = geometry()?;
     let places = attach_places(alloc, &geometry, source)?;
-    if let Err(error) = places_len(&geometry, &places, id) {
-        return Ok(Answer::Unread(error));
-    }
+    let extent = match places.extent(&geometry, id) {
+        Ok(extent) => extent,
+        Err(error) => return Ok(Answer::Unread(error)),
+    };
     let mut buffer = Vec::from_elem(alloc, 0u8, geometry.peb_size() as usize)?;
     match write_places(
         &geometry,
         source,
         &places,
         id,
+        extent,
         buffer.as_mut_slice(),
         writer,
     ) {

@@ -4,6 +4,7 @@ use Rattle.std.specs.FinMap as finite
 use Rattle.std.proofs.lemmas.Bool.{false≢true}
 use Rattle.std.proofs.lemmas.Result.{IfOk-weaker}
 use Rattle.ubi_table.specs.Records.{Records}
+use Rattle.ubi_volume.proofs.Extracted.{extent_at}
 use Rattle.ubi_compose.proofs.SamePlaces.{apart, read_same, unread_same}
 use Rattle.ubi_compose.proofs.matching.same_volume.Goals as goal
 
@@ -16,25 +17,29 @@ returns-then-not-is_alike-clause-answer g c = λ x xs y ys h k v w at bt.
           c.requires.recorded there v w at bt _ _ c.content-content.ensures c.content.ensures same))),
     )
 
-pub returns-in-Some-clause-answer : goal.returns-in-Some-clause-answer
-returns-in-Some-clause-answer g c =
+pub returns-in-Ok-clause-answer : goal.returns-in-Ok-clause-answer
+returns-in-Ok-clause-answer g c =
     let there = ap (λ (t : Records). finite.get t.of c.args.id) (sym c.requires.same) ∙ c.requires.recorded in
     let alike = c.is_alike.ensures.0 c.if-not-is_alike.false in
     IfOk-weaker c.same_lebs.result _ _
     (λ answer tells x xs y ys h k v w at bt.
     read_same c.args.geometry.now c.args.here.now c.args.there.now x y h k c.args.id c.args.entry.now
     c.requires.recorded there v w at bt
-    c.content-content.result c.in-Some.extent c.content-content.ensures
-    (c.content.ensures ∙ ap Some (sym alike)) c.in-Some.ensures.value answer (tells x xs y ys))
+    c.content-content.result c.in-Ok.extent c.content-content.ensures
+    (c.content.ensures ∙ ap Some (sym alike)) (sym (extent_at c.args.geometry.now c.args.here.now c.args.id c.args.entry.now
+    c.content-content.result c.requires.here.sizes c.requires.recorded c.content-content.ensures)
+    ∙ sym c.extent.ensures.value ∙ c.in-Ok.is) answer (tells x xs y ys))
     c.same_lebs.ensures.answer
 
-pub returns-in-None-clause-answer : goal.returns-in-None-clause-answer
-returns-in-None-clause-answer g c = λ x xs y ys h k v w at bt.
+pub returns-in-Err-clause-answer : goal.returns-in-Err-clause-answer
+returns-in-Err-clause-answer g c = λ x xs y ys h k v w at bt.
     let there = ap (λ (t : Records). finite.get t.of c.args.id) (sym c.requires.same) ∙ c.requires.recorded in
     let alike = c.is_alike.ensures.0 c.if-not-is_alike.false in (
       λ t. unread_same c.args.geometry.now c.args.here.now c.args.there.now x y h k c.args.id c.args.entry.now
           c.requires.recorded there v w at bt
-          c.content-content.result c.content-content.ensures (c.content.ensures ∙ ap Some (sym alike))
-          (sym c.in-None.ensures.value),
+          c.content-content.result _ c.content-content.ensures (c.content.ensures ∙ ap Some (sym alike))
+          (sym (extent_at c.args.geometry.now c.args.here.now c.args.id c.args.entry.now c.content-content.result
+          c.requires.here.sizes c.requires.recorded c.content-content.ensures) ∙ sym c.extent.ensures.value
+          ∙ c.in-Err.is),
       λ same. refl,
     )

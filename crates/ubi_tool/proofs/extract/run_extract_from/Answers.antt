@@ -1,4 +1,5 @@
-use Rattle.std.proofs.Common.{inl, inr, sym, ◌∙◌}
+use Rattle.std.proofs.Common.{ap, inl, inr, sym, ◌∙◌}
+use Rattle.ubi_volume.specs.Extract.{extent_len}
 use Rattle.std.proofs.KnownBytes.{Keeps-refl}
 use Rattle.std.proofs.lemmas.Result.{IfOk-weaker}
 use Rattle.ubi_scan.proofs.Narrowed.{source_narrowed}
@@ -32,7 +33,7 @@ returns-in-Err-clause-image g c =
     IfOk-weaker c.unread.result _ _
     (λ o h bytes holds.
     let p = c.in-Ok.ensures.places.held bytes holds in
-    let e = error_is p.meaning c.args.id c.in-Err.error (sym c.in-Err.is ∙ c.places_len.ensures.meant _ p) in
+    let e = error_is p.meaning c.args.id c.in-Err.error (ap extent_len (sym c.in-Err.is) ∙ c.extent.ensures.meant _ p) in
     accepted p.meaning p.accepted (unread c.in-Err.error e h (Keeps-refl _)))
     c.unread.ensures.ok
 
@@ -47,14 +48,14 @@ returns-in-Ok-write_places-clause-image g c = λ bytes holds.
     let p = c.in-Ok.ensures.places.held bytes (c.in-Ok-write_places.ensures.narrows bytes holds) in
     let line = rw c.in_ok-line.ensures.items at c.in_ok-put_bytes_line-in-Ok-write_places.ensures.line in
     places_read c.args.geometry.now _ bytes holds c.in-Ok.places p c.args.id _
-    (sym c.in-Ok-places_len.is ∙ c.places_len.ensures.meant _ p) _ _ _ _
+    (ap extent_len (sym c.in-Ok-extent.is) ∙ c.extent.ensures.meant _ p) _ _ _ _
     c.in-Ok-write_places.ensures.written (rw line at c.saying-in-Ok-write_places.ensures)
 
 pub returns-in-Err-Write-write_places-clause-err : goal.returns-in-Err-Write-write_places-clause-err
 returns-in-Err-Write-write_places-clause-err g c = λ bytes holds.
     let p = c.in-Ok.ensures.places.held bytes (c.in-Err-Write-write_places.ensures.narrows bytes holds) in
     places_cut c.args.geometry.now _ bytes holds c.in-Ok.places p c.args.id _
-    (sym c.in-Ok-places_len.is ∙ c.places_len.ensures.meant _ p) _ _ _
+    (ap extent_len (sym c.in-Ok-extent.is) ∙ c.extent.ensures.meant _ p) _ _ _
     (rw c.in-Err-Write-write_places.field-0-is at c.in-Err-Write-write_places.ensures.failed)
 
 pub returns-in-Err-Read-clause-err : goal.returns-in-Err-Read-clause-err
@@ -65,4 +66,4 @@ returns-in-Err-Read-write_places-clause-err g c = inr (λ bytes holds.
     let p = c.in-Ok.ensures.places.held bytes (c.in-Err-Read-write_places.ensures.narrows bytes holds) in
     let failed = rw c.in-Err-Read-write_places.field-0-is at c.in-Err-Read-write_places.ensures.failed in
     places_first c.args.geometry.now _ bytes holds c.in-Ok.places p c.args.id _
-    (sym c.in-Ok-places_len.is ∙ c.places_len.ensures.meant _ p) _ _ _ failed.1)
+    (ap extent_len (sym c.in-Ok-extent.is) ∙ c.extent.ensures.meant _ p) _ _ _ failed.1)

@@ -34,7 +34,6 @@ returns-in_ok-text-in-Static-clause-content g c =
       kept = tt;
       reads = λ bytes holds.
           let before = c.in_ok-text-in-Static.ensures.narrows bytes holds in
-          rw (c.in_ok-text-in-Static.ensures.bytes bytes holds, c.usable-size.ensures.value)
-          (static_reads s c.args.places.now bytes (c.requires.places.held bytes before) c.args.id r
-          c.requires.recorded lebs c.in-Static.bytes c.in-Static.ensures);
+          static_reads s c.args.places.now bytes (c.requires.places.held bytes before) c.args.id r c.requires.recorded
+          lebs c.in-Static.bytes c.in-Static.ensures text (c.in_ok-text-in-Static.ensures.read bytes holds);
     }

@@ -2,7 +2,7 @@ use Rattle.std.proofs.Common.{◌≡◌, ◌*◌, ◌≤◌}
 use Rattle.ubi_scan.specs.Source.{Narrows}
 use Rattle.ubi_volume.specs.inner.Pieces.{lebs_at}
 use Rattle.ubi_volume.specs.Wrote.{All, Wrote}
-use Rattle.ubi_volume.proofs.extracting.write_lebs.Given as goal
+use Rattle.ubi_volume.proofs.extracting.write_places.Given as goal
 
 abbrev pub invariant-loop-lnum : goal.invariant-loop-lnum
 invariant-loop-lnum g l = record {
