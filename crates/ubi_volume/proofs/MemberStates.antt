@@ -1,20 +1,17 @@
 -- The states of members, by what a scan says of them.
 use Rattle.std.proofs.Common.{◌≡◌, ℕ, inl, inr, Bool, true, false, List, [], ◌∷◌, ◌++◌, length, get_or, ap, refl, sym, ◌∙◌, subst, arith, length-append}
-use Rattle.std.specs.Prelude.{IfSome, IsSome, Option, None, Some, slice_get}
+use Rattle.std.specs.Prelude.{IfSome, Option, Some, slice_get}
 use Rattle.std.proofs.lemmas.List.{get_or_append_left}
 use Rattle.std.proofs.lemmas.Option.{slice_get-get_or, slice_get_past}
 use Rattle.std.proofs.Math.Seq.{get_or-append_seam}
 use Rattle.ubi_media.specs.Geometry.{Sizes}
-use Rattle.ubi_media.specs.declared.vid.VidHeader.{VidHeader}
 use Rattle.ubi_media.proofs.Cases.{below_same_or_above}
-use Rattle.ubi_scan.specs.Image.{block}
-use Rattle.ubi_scan.specs.Members.{IsMember, Leb, Wins, leb_of, member}
+use Rattle.ubi_scan.specs.Members.{IsMember, Leb, Wins}
 use Rattle.ubi_table.specs.Records.{Records}
 use Rattle.ubi_volume.specs.Attached.{StateIs}
 use Rattle.ubi_volume.specs.inner.Surveying.{MemberStateIs}
 use Rattle.ubi_volume.specs.declared.attached.BlockState.{BlockState}
 use Rattle.ubi_volume.specs.declared.attached.BlockState.TheVariants as state
-use Rattle.ubi_volume.proofs.Winners.{has_header, named_by}
 
 module _ (s : Sizes) (bs : List (List ℕ)) (t : Records) (p : ℕ) where
   by_leb : (of : Leb) → IsMember s bs of p → (wins : Bool) → (wins ≡ true → Wins s bs of p)
@@ -30,38 +27,12 @@ module _ (s : Sizes) (bs : List (List ℕ)) (t : Records) (p : ℕ) where
   by_leb of m wins w l state.Used h = (of, w h.0, h.1, h.2)
   by_leb of m wins w l state.Stale h = (of, m, l h.0, h.1)
 
-  module _ (h : VidHeader) (e : member s (block bs p) ≡ Some h) where
-    moved : (P : Leb → Type 0) (of : Leb) → IsMember s bs of p → P of → P (leb_of h)
-    moved P of m x = subst P (named_by s bs of p h m e) x
-
-    winner_state : (of : Leb) → Wins s bs of p → (b : BlockState) → MemberStateIs t (leb_of h) true b
-        → StateIs s bs t p b
-    winner_state of w b k =
-        by_leb (leb_of h) (moved (λ of. IsMember s bs of p) of w.member w.member) true
-        (λ e. moved (λ of. Wins s bs of p) of w.member w) (λ e. absurd (cc)) b k
-
-    beaten_state : (of : Leb) → IsMember s bs of p → (Wins s bs of p → ⊥) → (b : BlockState)
-        → MemberStateIs t (leb_of h) false b → StateIs s bs t p b
-    beaten_state of m l b k =
-        by_leb (leb_of h) (moved (λ of. IsMember s bs of p) of m m) false (λ e. absurd (cc))
-        (λ e. moved (λ of. Wins s bs of p → ⊥) of m l) b k
-
-  -- the same by the header that a member has
-  some_header : (of : Leb) → IsMember s bs of p → (h : VidHeader) × (member s (block bs p) ≡ Some h)
-  some_header of m = by_some (member s (block bs p)) (has_header s bs of p m)
-    where
-      by_some : (o : Option VidHeader) → IsSome o → (h : VidHeader) × (o ≡ Some h)
-      by_some None some = absurd (cc)
-      by_some (Some h) some = (h, refl)
-
-  pub state_of_winner : (of : Leb) → Wins s bs of p → (b : BlockState)
-      → ((h : VidHeader) → member s (block bs p) ≡ Some h → MemberStateIs t (leb_of h) true b)
-      → StateIs s bs t p b
-  state_of_winner of w b k = let h = some_header of w.member in winner_state h.0 h.1 of w b (k h.0 h.1)
+  pub state_of_winner : (of : Leb) → Wins s bs of p → (b : BlockState) → MemberStateIs t of true b → StateIs s bs t p b
+  state_of_winner of w b h = by_leb of w.member true (λ e. w) (λ e. absurd (cc)) b h
 
   pub state_of_beaten : (of : Leb) → IsMember s bs of p → (Wins s bs of p → ⊥) → (b : BlockState)
-      → ((h : VidHeader) → member s (block bs p) ≡ Some h → MemberStateIs t (leb_of h) false b) → StateIs s bs t p b
-  state_of_beaten of m l b k = let h = some_header of m in beaten_state h.0 h.1 of m l b (k h.0 h.1)
+      → MemberStateIs t of false b → StateIs s bs t p b
+  state_of_beaten of m l b h = by_leb of m false (λ e. absurd (cc)) (λ e. l) b h
 
 -- one more state behind the others
 pub states_more : (P : ℕ → BlockState → Type 0) (xs : List BlockState) (x : BlockState) (n : ℕ) → length xs ≡ n

@@ -9,6 +9,7 @@ use Rattle.ubi_media.specs.declared.vid.VidHeader.{VidHeader}
 use Rattle.ubi_media.proofs.Cases.{below_or_last}
 use Rattle.ubi_scan.specs.Image.{block}
 use Rattle.ubi_scan.specs.Members.{Leb, Wins, leb_of, member}
+use Rattle.ubi_scan.specs.Scan.{header_of}
 use Rattle.ubi_table.specs.Records.{Records}
 use Rattle.ubi_volume.specs.Accepts.{IsMismatched, IsUnlike, IsWithin}
 use Rattle.ubi_volume.specs.inner.Headers.{Disagrees}
@@ -38,7 +39,7 @@ module _ (s : Sizes) (bs : List (List ℕ)) (t : Records) where
     pub no_record_no_mismatch : finite.get t.of h.vol_id ≡ None → IsMismatched s bs t p → ⊥
     no_record_no_mismatch none m = no_some m.0 (sym none ∙ recorded_as m)
 
-    pub mismatch_by_header : (r : VolumeRecord) → finite.get t.of h.vol_id ≡ Some r → Disagrees s r h
+    pub mismatch_by_header : (r : VolumeRecord) → finite.get t.of h.vol_id ≡ Some r → Disagrees s r (header_of h)
         ↔ IsMismatched s bs t p
     mismatch_by_header r got = (
       λ d. (r, h, record { vol = h.vol_id; lnum = h.lnum; wins = w; recorded = got; within = d.1 }, d.0, e, d.2),
@@ -46,7 +47,7 @@ module _ (s : Sizes) (bs : List (List ℕ)) (t : Records) where
           let same : m.0 ≡ r = same_Some m.0 r (sym (recorded_as m) ∙ got) in
           let header : m.1 ≡ h = same_Some m.1 h (sym m.4 ∙ e) in
           let within : IsWithin m.0 h.lnum = subst (λ (of : Leb). IsWithin m.0 of.1) (named m) m.2.within in
-          subst (λ (r : VolumeRecord). Disagrees s r h) same
+          subst (λ (r : VolumeRecord). Disagrees s r (header_of h)) same
           (m.3, within, subst (λ (k : VidHeader). IsUnlike s m.0 k) header m.5),
     )
 

@@ -11,7 +11,8 @@ use Rattle.std.proofs.lemmas.Map.Lookups.{exact_unsigned}
 use Rattle.std.proofs.lemmas.Option.{same_Some}
 use Rattle.ubi_media.specs.Geometry.{Sizes}
 use Rattle.ubi_media.specs.declared.record.VolumeRecord.{VolumeRecord}
-use Rattle.ubi_scan.specs.Scan.{Found}
+use Rattle.ubi_media.specs.declared.refusal.Refusal.{Refusal}
+use Rattle.ubi_scan.specs.Scan.{Found, IsScan}
 use Rattle.ubi_scan.specs.Image.{IsWholeSize, image_of}
 use Rattle.ubi_scan.specs.Source.{Agreed, Source, WhereHeld, blocks_in, blocks_of}
 use Rattle.ubi_scan.specs.Stream.{IsScanOf}
@@ -21,7 +22,8 @@ use Rattle.ubi_scan.proofs.Entries.{first_entry}
 use Rattle.ubi_scan.proofs.Keys.{told}
 use Rattle.ubi_table.specs.Records.{Records}
 use Rattle.ubi_table.specs.Stream.{IsTableOf}
-use Rattle.ubi_volume.specs.inner.Cases.{AreCases, AreNumbered, CaseIs, IsMismatchError, case_in}
+use Rattle.ubi_volume.specs.Accepts.{IsVolumeFault}
+use Rattle.ubi_volume.specs.inner.Cases.{AreCases, AreNumbered, CaseIs, case_in}
 use Rattle.ubi_volume.specs.inner.Gathered.{ContentIs}
 use Rattle.ubi_volume.specs.inner.Surveying.{AreChecked}
 use Rattle.ubi_volume.specs.Means.{Means}
@@ -112,16 +114,15 @@ module _ (t : Records) (cs : List (ℕ × PlaceContent)) (numbered : AreNumbered
 
 module _ (s : Sizes) (k : Source) (agrees : Agreed) (found : Found) (t : Records) where
   -- a winner that is unlike its record is why there are no places
-  pub winners_refused : IsScanOf s k agrees found → IsTableOf s agrees t → (e : StreamError)
-      → IsMismatchError s k agrees t e → ArePlacesError s k agrees e
-  winners_refused scan table (stream.Refused c) h =
+  pub winners_refused : IsScanOf s k agrees found → IsTableOf s agrees t → (c : Refusal)
+      → ((bs : List (List ℕ)) → IsScan s bs found → IsVolumeFault s bs t c) → ArePlacesError s k agrees (stream.Refused c)
+  winners_refused scan table c h =
       inr (
         scan.whole,
-        λ bytes holds. inr (inr ((scan.held bytes holds).clean, t, table.held bytes holds, h bytes holds)),
+        λ bytes holds.
+            let is = scan.held bytes holds in
+            inr (inr (is.clean, t, table.held bytes holds, h (blocks_of s bytes) is)),
       )
-  winners_refused scan table (stream.Read p n) h = h
-  winners_refused scan table (stream.Write n) h = h
-  winners_refused scan table stream.Memory h = absurd h
 
   module _ (is : AreChecked s k agrees found t) (cs : List (ℕ × PlaceContent))
       (numbered : AreNumbered (finite.entries t.of) cs)

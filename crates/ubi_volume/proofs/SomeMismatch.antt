@@ -17,6 +17,7 @@ use Rattle.ubi_scan.specs.Members.{Leb, Wins, leb_of, member}
 use Rattle.ubi_scan.proofs.Choice.{false_or_true}
 use Rattle.ubi_scan.proofs.Decided.{Wins-unique, winner_or_none}
 use Rattle.ubi_scan.proofs.Least.{least_or}
+use Rattle.ubi_scan.specs.Scan.{header_of}
 use Rattle.ubi_table.specs.Records.{Records}
 use Rattle.ubi_volume.specs.Accepts.{IsMismatched, IsUnlike, IsVolumeFault, IsWithin, NoMismatch}
 use Rattle.ubi_volume.specs.inner.Headers.{Disagrees}
@@ -48,7 +49,7 @@ unlike_or_not s r h = elim (kind_or_other h.kind r.kind) [
   ]
 ]
 
-disagrees_or_not : (s : Sizes) (r : VolumeRecord) (h : VidHeader) → Disagrees s r h ⊎ (Disagrees s r h → ⊥)
+disagrees_or_not : (s : Sizes) (r : VolumeRecord) (h : VidHeader) → Disagrees s r (header_of h) ⊎ (Disagrees s r (header_of h) → ⊥)
 disagrees_or_not s r h = elim (false_or_true r.marker) [
   | inl marked ↦ inr (λ d. (let e = d.0 in cc))
   | inr unmarked ↦ elim (within_or_not r h.lnum) [

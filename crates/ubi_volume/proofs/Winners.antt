@@ -1,15 +1,22 @@
 -- What a scan's answers say of members and winners.
-use Rattle.std.proofs.Common.{◌≡◌, ℕ, ◌≤◌, true, false, List, refl, ap, sym, ◌∙◌, subst}
-use Rattle.std.specs.Prelude.{IfSome, IsSome, MatchOption, Option, Some, None, is_some, option_map, slice_get}
+use Rattle.std.proofs.Common.{◌≡◌, ℕ, ◌≤◌, Bool, true, false, not, inl, inr, List, refl, ap, sym, ◌∙◌, subst}
+use Rattle.std.specs.Prelude.{IfSome, IsSome, MatchOption, Option, Some, None, is_some, option_and_then, option_map, slice_get}
+use Rattle.std.specs.Bool.{then_some}
 use Rattle.std.specs.FinMap as finite
 use Rattle.std.proofs.lemmas.Option.{same_Some}
 use Rattle.ubi_media.specs.Geometry.{Sizes}
+use Rattle.ubi_media.specs.declared.ec.EcRead.{EcRead}
+use Rattle.ubi_media.specs.declared.ec.EcRead.TheVariants as ec_read
 use Rattle.ubi_media.specs.declared.vid.VidHeader.{VidHeader}
-use Rattle.ubi_scan.specs.Image.{block}
-use Rattle.ubi_scan.specs.Members.{IsMember, Leb, NoMember, Wins, leb_of, member}
+use Rattle.ubi_media.specs.declared.vid.VidRead.{VidRead}
+use Rattle.ubi_media.specs.declared.vid.VidRead.TheVariants as vid_read
+use Rattle.ubi_scan.specs.Image.{block, ec, vid}
+use Rattle.ubi_scan.specs.Members.{IsMember, Leb, NoMember, Wins, has_members, header, leb_of, member, member_if}
 use Rattle.ubi_scan.specs.Scan.{Found, IsNextWinner, IsScan}
 use Rattle.ubi_scan.specs.Scan as scan_states
 use Rattle.ubi_scan.specs.declared.found.ScanState.{ScanState}
+use Rattle.ubi_scan.specs.declared.found.ScanState.TheVariants as state
+use Rattle.ubi_volume.specs.inner.Headers.{WinnerHeaderIs, header_in}
 
 pub no_some : {A : Type 0} (a : A) → None ≡ Some a → ⊥
 no_some a e = cc
@@ -53,3 +60,49 @@ pub next_some : (found : Found) (vol from : ℕ) (next : Option (ℕ × ℕ)) �
     → (lnum p : ℕ) × (from ≤ lnum) × (finite.get found.winners (vol, lnum) ≡ Some p)
 next_some found vol from None e h = absurd (cc)
 next_some found vol from (Some x) e h = (x.0, x.1, h.0, h.1)
+
+-- an eraseblock with these headers is no member
+none_blank : (e : EcRead) → member_if e vid_read.Blank ≡ None
+none_blank ec_read.Blank = refl
+none_blank ec_read.Corrupt = refl
+none_blank (ec_read.Fault f) = refl
+none_blank (ec_read.Valid h) = refl
+
+none_corrupt : (e : EcRead) → member_if e vid_read.Corrupt ≡ None
+none_corrupt ec_read.Blank = refl
+none_corrupt ec_read.Corrupt = refl
+none_corrupt (ec_read.Fault f) = refl
+none_corrupt (ec_read.Valid h) = refl
+
+none_foreign : (o : Option VidHeader) (h : VidHeader)
+    → option_and_then (λ (x : VidHeader). then_some (not (has_members x.vol_id)) x) o ≡ Some h
+    → option_and_then (λ (x : VidHeader). then_some (has_members x.vol_id) x) o ≡ None
+none_foreign None h e = refl
+none_foreign (Some x) h e = by_members (has_members x.vol_id) refl
+  where
+    by_members : (b : Bool) → has_members x.vol_id ≡ b → then_some (has_members x.vol_id) x ≡ None
+    by_members true is = (let k : then_some (not true) x ≡ Some h = ap (λ c. then_some (not c) x) (sym is) ∙ e in absurd (cc))
+    by_members false is = ap (λ c. then_some c x) is
+
+module _ (s : Sizes) (bs : List (List ℕ)) (p : ℕ) where
+  no_member : member s (block bs p) ≡ None → (of : Leb) → Wins s bs of p → ⊥
+  no_member none of w = let k : option_map leb_of (member s (block bs p)) ≡ None = ap (option_map leb_of) none in
+      no_some of (sym k ∙ w.member.named)
+
+  by_vid : (v : VidRead) → vid s (block bs p) ≡ v → member s (block bs p) ≡ member_if (ec s (block bs p)) v
+  by_vid v is = ap (member_if (ec s (block bs p))) is
+
+  -- what is kept of the header of an eraseblock in a state, where it wins
+  pub header_by_state : (x : ScanState) → scan_states.StateIs s bs p x → WinnerHeaderIs s bs p (header_in x)
+  header_by_state state.Blank h = no_member (ap (λ e. member_if e (vid s (block bs p))) h)
+  header_by_state state.Free h = no_member (by_vid vid_read.Blank h.1 ∙ none_blank (ec s (block bs p)))
+  header_by_state state.Garbage h = no_member (by_vid vid_read.Corrupt h.1 ∙ none_corrupt (ec s (block bs p)))
+  header_by_state state.Corrupt h = elim h.1 [
+    | inl blank ↦ no_member (by_vid vid_read.Blank blank ∙ none_blank (ec s (block bs p)))
+    | inr corrupt ↦ no_member (by_vid vid_read.Corrupt corrupt ∙ none_corrupt (ec s (block bs p)))
+  ]
+  header_by_state state.Dropped h = no_member (none_foreign (header s (block bs p)) h.0 h.1)
+  header_by_state (state.Winner x) h = h
+  header_by_state (state.Beaten of) h = λ other w.
+      let same : other ≡ of = same_Some other of (sym w.member.named ∙ h.0.named) in
+      h.1 (subst (λ (l : Leb). Wins s bs l p) same w)

@@ -12,7 +12,8 @@ use crate::attached::Attached;
 use crate::cases::cases_from;
 use crate::checking::{Checked, checked_from};
 use crate::places::Places;
-use crate::surveying::{Surveyed, states_from};
+use crate::states::states_of;
+use crate::surveying::Surveyed;
 use std::alloc::Global;
 use ubi_media::{AttachError, Geometry};
 use ubi_scan::{BlockSource, MemorySource, StreamError};
@@ -33,19 +34,9 @@ pub fn attach_from<S: BlockSource>(
     ensures attached { IfOk result (IsAttachedOf geometry.now (S.agrees source.new)) }
     ensures refused { IfErr result (ArePlacesError geometry.now (S.known source.old) (S.agrees source.new)) }
 {
-    let Checked {
-        scan,
-        table,
-        mut buffer,
-    } = checked_from(alloc, geometry, source)?;
-    let states = states_from(
-        alloc,
-        geometry,
-        source,
-        &scan,
-        &table,
-        buffer.as_mut_slice(),
-    )?;
+    let Checked { scan, table, count } = checked_from(alloc, geometry, source)?;
+    let states = states_of(alloc, &scan, &table, count)?;
+    let mut buffer = Vec::from_elem(alloc, 0u8, geometry.peb_size() as usize)?;
     let contents = cases_from(
         alloc,
         geometry,

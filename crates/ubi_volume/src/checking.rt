@@ -1,111 +1,82 @@
 //! The scan and the table of a source, and winners whose header isn't what the record of their volume says.
-//!
-//! Each buffer has the size of an eraseblock.
 
-ghost use Rattle.std.specs.Prelude.{◌≡◌, ◌<◌, ◌↔◌, IfErr, IfOk, IsTrue, OnOk, length};
-ghost use Rattle.ubi_scan.specs.Source.{Narrows, WhereHeld, blocks_in, blocks_of};
-ghost use Rattle.ubi_scan.specs.Stream.{IsReadFault, IsScanOf, after};
-ghost use Rattle.ubi_table.specs.Stream.{IsTableOf};
-ghost use Rattle.ubi_volume.specs.Accepts.{IsMismatched, NoMismatch};
-ghost use Rattle.ubi_volume.specs.inner.Cases.{IsMismatchError};
-ghost use Rattle.ubi_volume.specs.inner.Headers.{WinnerHeaderIs};
+ghost use Rattle.std.specs.Prelude.{◌≡◌, ◌<◌, ◌↔◌, ℕ, IfErr, IfOk, IsTrue, List, OnOk, length};
+ghost use Rattle.ubi_media.specs.Geometry.{Sizes};
+ghost use Rattle.ubi_scan.specs.Scan.{IsScan};
+ghost use Rattle.ubi_scan.specs.Source.{Narrows};
+ghost use Rattle.ubi_scan.specs.Stream.{after};
+ghost use Rattle.ubi_volume.specs.Accepts.{IsMismatched, IsVolumeFault, NoMismatch};
+ghost use Rattle.ubi_volume.specs.inner.Headers.{WinnerHeaderIs, header_in};
 ghost use Rattle.ubi_volume.specs.inner.Surveying.{AreChecked};
 ghost use Rattle.ubi_volume.specs.Places.{ArePlacesError};
 
 use crate::mismatch::disagrees;
 use std::alloc::Global;
-use ubi_media::{Geometry, Refusal, VidHeader};
-use ubi_scan::{BlockSource, Scan, ScanState, StreamError, read_member, scan_from};
+use ubi_media::{Geometry, Refusal};
+use ubi_scan::{BlockSource, MemberHeader, Scan, ScanState, StreamError, scan_from};
 use ubi_table::{Table, choose_from};
 
-/// The header of an eraseblock that wins its logical eraseblock. None where it wins none.
-fn winner_header<S: BlockSource>(
-    geometry: &Geometry,
-    source: &mut S,
-    scan: &Scan,
-    p: u32,
-    buffer: &mut [u8],
-) -> Result<Option<VidHeader>, StreamError>
-    requires scan { IsScanOf geometry.now (S.known source.old) (S.agrees source.old) scan.now }
-    requires inside { p < blocks_in geometry.now (S.known source.old) }
-    requires room { length buffer.old ≡ geometry.now.peb_size }
-    ensures known { S.known source.new ≡ after (S.known source.old) result }
-    ensures narrows { Narrows (S.agrees source.old) (S.agrees source.new) }
-    ensures header { IfOk result (λ header. WhereHeld (S.agrees source.new) (λ bytes. WinnerHeaderIs geometry.now (blocks_of geometry.now bytes) p header)) }
-    ensures failed { IfErr result (IsReadFault (blocks_in geometry.now (S.known source.old))) }
+/// What is kept of the header of a winner.
+fn header_in(state: ScanState) -> Option<MemberHeader>
+    ensures { result ≡ header_in state }
 {
-    if scan.state(p) == ScanState::Winner {
-        read_member(source, geometry, p, buffer)
-    } else {
-        Ok(None)
+    match state {
+        ScanState::Winner(header) => Some(header),
+        _ => None,
     }
+}
+
+/// What is kept of the header of an eraseblock that wins its logical eraseblock. None where it wins none.
+fn winner_header(scan: &Scan, p: u32) -> Option<MemberHeader>
+    requires { p < length scan.now.states }
+    ensures { (s : Sizes) (bs : List (List ℕ)) → IsScan s bs scan.now → WinnerHeaderIs s bs p result }
+{
+    header_in(scan.state(p))
 }
 
 /// Whether an eraseblock is a winner that counts for a volume without update marker, and is unlike its record.
-fn is_mismatched<S: BlockSource>(
-    geometry: &Geometry,
-    source: &mut S,
-    scan: &Scan,
-    table: &Table,
-    p: u32,
-    buffer: &mut [u8],
-) -> Result<bool, StreamError>
-    requires scan { IsScanOf geometry.now (S.known source.old) (S.agrees source.old) scan.now }
-    requires table { IsTableOf geometry.now (S.agrees source.old) table.now }
-    requires inside { p < blocks_in geometry.now (S.known source.old) }
-    requires room { length buffer.old ≡ geometry.now.peb_size }
-    ensures known { S.known source.new ≡ after (S.known source.old) result }
-    ensures narrows { Narrows (S.agrees source.old) (S.agrees source.new) }
-    ensures mismatched { IfOk result (λ b. WhereHeld (S.agrees source.new) (λ bytes. IsTrue b ↔ IsMismatched geometry.now (blocks_of geometry.now bytes) table.now p)) }
-    ensures failed { IfErr result (IsReadFault (blocks_in geometry.now (S.known source.old))) }
+fn is_mismatched(geometry: &Geometry, scan: &Scan, table: &Table, p: u32) -> bool
+    requires sizes { table.now.sizes ≡ geometry.now }
+    requires inside { p < length scan.now.states }
+    ensures { (bs : List (List ℕ)) → IsScan geometry.now bs scan.now → IsTrue result ↔ IsMismatched geometry.now bs table.now p }
 {
-    let Some(header) = winner_header(geometry, source, scan, p, buffer)? else {
-        return Ok(false);
+    let Some(header) = winner_header(scan, p) else {
+        return false;
     };
-    match table.get(header.vol_id) {
-        Some(entry) => Ok(disagrees(geometry, entry, &header)),
-        None => Ok(false),
+    match table.get(header.leb.0) {
+        Some(entry) => disagrees(geometry, entry, &header),
+        None => false,
     }
 }
 
-/// Looks for a winner that is unlike the record of its volume.
+/// Looks for a winner that is unlike the record of its volume. The scan is of `count` eraseblocks.
 ///
 /// # Errors
 ///
-/// Refused with `Mismatch` and the lowest one. Read where a read failed.
-fn check_winners_from<S: BlockSource>(
-    geometry: &Geometry,
-    source: &mut S,
-    scan: &Scan,
-    table: &Table,
-    buffer: &mut [u8],
-) -> Result<(), StreamError>
-    requires scan { IsScanOf geometry.now (S.known source.old) (S.agrees source.old) scan.now }
-    requires table { IsTableOf geometry.now (S.agrees source.old) table.now }
-    requires room { length buffer.old ≡ geometry.now.peb_size }
-    ensures known { S.known source.new ≡ after (S.known source.old) result }
-    ensures narrows { Narrows (S.agrees source.old) (S.agrees source.new) }
-    ensures alike { OnOk result (WhereHeld (S.agrees source.new) (λ bytes. NoMismatch geometry.now (blocks_of geometry.now bytes) table.now)) }
-    ensures refused { IfErr result (IsMismatchError geometry.now (S.known source.old) (S.agrees source.new) table.now) }
+/// `Mismatch` with the lowest one.
+fn check_winners(geometry: &Geometry, scan: &Scan, table: &Table, count: u32) -> Result<(), Refusal>
+    requires sizes { table.now.sizes ≡ geometry.now }
+    requires count { count ≡ length scan.now.states }
+    ensures alike { OnOk result ((bs : List (List ℕ)) → IsScan geometry.now bs scan.now → NoMismatch geometry.now bs table.now) }
+    ensures refused { IfErr result (λ c. (bs : List (List ℕ)) → IsScan geometry.now bs scan.now → IsVolumeFault geometry.now bs table.now c) }
 {
-    let count = (source.len() / u64::from(geometry.peb_size())) as u32;
     for p in 0..count {
-        if is_mismatched(geometry, source, scan, table, p, buffer)? {
-            return Err(Refusal::Mismatch(p).into());
+        if is_mismatched(geometry, scan, table, p) {
+            return Err(Refusal::Mismatch(p));
         }
     }
     Ok(())
 }
 
-/// What is known of a source before its volumes are looked at, and a buffer of the size of an eraseblock.
+/// What is known of a source before its volumes are looked at.
 #[derive(Drop)]
 pub struct Checked {
     /// What the scan found.
     pub scan: Scan,
     /// The volume table.
     pub table: Table,
-    /// The buffer.
-    pub buffer: Vec<u8>,
+    /// The eraseblocks.
+    pub count: u32,
 }
 
 /// Scans a source, chooses its volume table, and looks for a winner that is unlike the record of its volume.
@@ -121,18 +92,14 @@ pub fn checked_from<S: BlockSource>(
     ensures known { S.known source.new ≡ after (S.known source.old) result }
     ensures narrows { Narrows (S.agrees source.old) (S.agrees source.new) }
     ensures checked { IfOk result (λ c. AreChecked geometry.now (S.known source.old) (S.agrees source.new) c.scan c.table) }
-    ensures room { IfOk result (λ c. length c.buffer.items ≡ geometry.now.peb_size) }
+    ensures count { IfOk result (λ c. c.count ≡ length c.scan.states) }
     ensures refused { IfErr result (ArePlacesError geometry.now (S.known source.old) (S.agrees source.new)) }
 {
     let scan = scan_from(alloc, geometry, source)?;
     let table = choose_from(alloc, geometry, source, &scan)?;
     // A meaning's number has the width that a header gives it.
     prove!(scan.image_seq() <= u32::MAX);
-    let mut buffer = Vec::from_elem(alloc, 0u8, geometry.peb_size() as usize)?;
-    check_winners_from(geometry, source, &scan, &table, buffer.as_mut_slice())?;
-    Ok(Checked {
-        scan,
-        table,
-        buffer,
-    })
+    let count = (source.len() / u64::from(geometry.peb_size())) as u32;
+    check_winners(geometry, &scan, &table, count)?;
+    Ok(Checked { scan, table, count })
 }

@@ -131,11 +131,8 @@ pub fn attach_places<S: BlockSource>(
     ensures places { IfOk result (ArePlacesOf geometry.now (S.known source.old) (S.agrees source.new)) }
     ensures refused { IfErr result (ArePlacesError geometry.now (S.known source.old) (S.agrees source.new)) }
 {
-    let Checked {
-        scan,
-        table,
-        mut buffer,
-    } = checked_from(alloc, geometry, source)?;
+    let Checked { scan, table, .. } = checked_from(alloc, geometry, source)?;
+    let mut buffer = Vec::from_elem(alloc, 0u8, geometry.peb_size() as usize)?;
     let contents = cases_from(
         alloc,
         geometry,

@@ -2,24 +2,20 @@
 
 ghost use Rattle.std.specs.Prelude.{◌≡◌, ◌<◌, IfErr, IfOk, Some, length, slice_get};
 ghost use Rattle.std.specs.FinMap as finite;
-ghost use Rattle.ubi_media.specs.declared.vid.VidHeader.{VidHeader};
-ghost use Rattle.ubi_scan.specs.Image.{block, image_of};
-ghost use Rattle.ubi_scan.specs.Members.{leb_of, member};
-ghost use Rattle.ubi_scan.specs.Source.{Narrows, WhereHeld, blocks_in, blocks_of};
-ghost use Rattle.ubi_scan.specs.Stream.{IsReadFault, IsScanOf, after};
+ghost use Rattle.ubi_scan.specs.Image.{image_of};
+ghost use Rattle.ubi_scan.specs.Source.{Narrows};
+ghost use Rattle.ubi_scan.specs.Stream.{after};
 ghost use Rattle.ubi_volume.specs.Accepts.{IsAttachError};
-ghost use Rattle.ubi_volume.specs.Attached.{StateIs};
-ghost use Rattle.ubi_volume.specs.inner.Surveying.{AreStatesOf, MemberStateIs};
-ghost use Rattle.ubi_volume.specs.Places.{ArePlacesError, IsReadFailure};
+ghost use Rattle.ubi_volume.specs.Places.{ArePlacesError};
 ghost use Rattle.ubi_volume.specs.Survey.{IsSurvey, IsSurveyOf};
 
 use crate::attached::BlockState;
 use crate::checking::{Checked, checked_from};
-use crate::states::member_state;
+use crate::states::states_of;
 use std::alloc::Global;
 use std::marker::Model;
 use ubi_media::{AttachError, Geometry};
-use ubi_scan::{BlockSource, MemorySource, Scan, ScanState, StreamError, read_member};
+use ubi_scan::{BlockSource, MemorySource, Scan, StreamError};
 use ubi_table::Table;
 
 /// What is known of an image without what its volumes read.
@@ -107,84 +103,6 @@ impl Surveyed {
     }
 }
 
-/// The state of an eraseblock that a scan found to be a member, by whether it wins. The buffer has the size of an
-/// eraseblock.
-fn member_state_from<S: BlockSource>(
-    geometry: &Geometry,
-    source: &mut S,
-    table: &Table,
-    p: u32,
-    wins: bool,
-    buffer: &mut [u8],
-) -> Result<BlockState, StreamError>
-    requires inside { p < blocks_in geometry.now (S.known source.old) }
-    requires room { length buffer.old ≡ geometry.now.peb_size }
-    ensures known { S.known source.new ≡ after (S.known source.old) result }
-    ensures narrows { Narrows (S.agrees source.old) (S.agrees source.new) }
-    ensures state { IfOk result (λ state. WhereHeld (S.agrees source.new) (λ bytes. (h : VidHeader) → member geometry.now (block (blocks_of geometry.now bytes) p) ≡ Some h → MemberStateIs table.now (leb_of h) wins state)) }
-    ensures failed { IfErr result (IsReadFault (blocks_in geometry.now (S.known source.old))) }
-{
-    match read_member(source, geometry, p, buffer)? {
-        Some(header) => Ok(member_state(table, &header, wins)),
-        // Only of a source that doesn't hold any more what it held when it was scanned.
-        None => Ok(BlockState::Garbage),
-    }
-}
-
-/// The state of an eraseblock. The buffer has the size of an eraseblock.
-fn state_from<S: BlockSource>(
-    geometry: &Geometry,
-    source: &mut S,
-    scan: &Scan,
-    table: &Table,
-    p: u32,
-    buffer: &mut [u8],
-) -> Result<BlockState, StreamError>
-    requires scan { IsScanOf geometry.now (S.known source.old) (S.agrees source.old) scan.now }
-    requires inside { p < blocks_in geometry.now (S.known source.old) }
-    requires room { length buffer.old ≡ geometry.now.peb_size }
-    ensures known { S.known source.new ≡ after (S.known source.old) result }
-    ensures narrows { Narrows (S.agrees source.old) (S.agrees source.new) }
-    ensures state { IfOk result (λ state. WhereHeld (S.agrees source.new) (λ bytes. StateIs geometry.now (blocks_of geometry.now bytes) table.now p state)) }
-    ensures failed { IfErr result (IsReadFault (blocks_in geometry.now (S.known source.old))) }
-{
-    match scan.state(p) {
-        ScanState::Blank => Ok(BlockState::Blank),
-        ScanState::Free => Ok(BlockState::Free),
-        ScanState::Garbage => Ok(BlockState::Garbage),
-        ScanState::Corrupt => Ok(BlockState::Corrupt),
-        ScanState::Dropped => Ok(BlockState::Dropped),
-        ScanState::Winner => member_state_from(geometry, source, table, p, true, buffer),
-        ScanState::Beaten => member_state_from(geometry, source, table, p, false, buffer),
-    }
-}
-
-/// The state of each eraseblock. The buffer has the size of an eraseblock.
-pub fn states_from<S: BlockSource>(
-    alloc: Global,
-    geometry: &Geometry,
-    source: &mut S,
-    scan: &Scan,
-    table: &Table,
-    buffer: &mut [u8],
-) -> Result<Vec<BlockState>, StreamError>
-    requires scan { IsScanOf geometry.now (S.known source.old) (S.agrees source.old) scan.now }
-    requires room { length buffer.old ≡ geometry.now.peb_size }
-    ensures known { S.known source.new ≡ after (S.known source.old) result }
-    ensures narrows { Narrows (S.agrees source.old) (S.agrees source.new) }
-    ensures states { IfOk result (λ states. AreStatesOf geometry.now (S.known source.old) (S.agrees source.new) table.now states.items) }
-    ensures failed { IfErr result (IsReadFailure (blocks_in geometry.now (S.known source.old))) }
-{
-    let count = (source.len() / u64::from(geometry.peb_size())) as u32;
-    let mut states = Vec::new(alloc);
-    for p in 0..count {
-        let state = state_from(geometry, source, scan, table, p, buffer)?;
-        states.reserve(1)?;
-        states.push_reserved(state);
-    }
-    Ok(states)
-}
-
 /// Surveys the image of a source: finds the state of each of its eraseblocks, without what its volumes read.
 ///
 /// # Errors
@@ -200,19 +118,8 @@ pub fn survey_from<S: BlockSource>(
     ensures survey { IfOk result (IsSurveyOf geometry.now (S.known source.old) (S.agrees source.new)) }
     ensures refused { IfErr result (ArePlacesError geometry.now (S.known source.old) (S.agrees source.new)) }
 {
-    let Checked {
-        scan,
-        table,
-        mut buffer,
-    } = checked_from(alloc, geometry, source)?;
-    let states = states_from(
-        alloc,
-        geometry,
-        source,
-        &scan,
-        &table,
-        buffer.as_mut_slice(),
-    )?;
+    let Checked { scan, table, count } = checked_from(alloc, geometry, source)?;
+    let states = states_of(alloc, &scan, &table, count)?;
     Ok(Surveyed {
         scan,
         table,
