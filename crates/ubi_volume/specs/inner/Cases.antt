@@ -14,11 +14,6 @@ use Rattle.ubi_volume.specs.declared.content.Content.{Content}
 use Rattle.ubi_volume.specs.declared.content.Volume.{Volume}
 use Rattle.ubi_volume.specs.declared.places.PlaceContent.{PlaceContent}
 
--- a winner of a source is unlike its record, or a read failed
-abbrev pub IsMismatchError : Sizes → Source → Agreed → Records → StreamError → Type 0
-IsMismatchError s k agrees t (stream.Refused c) = WhereHeld agrees (λ bytes. IsVolumeFault s (blocks_of s bytes) t c)
-IsMismatchError s k agrees t e = IsReadFault (blocks_in s k) e
-
 -- the size of the piece of a text of so many LEBs that the winner of a LEB holds, if it holds one
 abbrev pub PieceSizeIs : Sizes → List (List ℕ) → ℕ → ℕ → ℕ → Option ℕ → Type 0
 PieceSizeIs s bs vol used lnum size = (text : Option (List ℕ)) × PieceIs s bs vol used lnum text

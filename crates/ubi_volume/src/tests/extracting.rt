@@ -81,7 +81,7 @@ type Case = (
     &'static [(usize, u8)],
 );
 
-/// Of the text all reads before the fifteenth are those of attaching.
+/// Of the text all reads before the eleventh are those of attaching.
 static CASES: [Case; 14] = [
     (
         &DYNAMIC,
@@ -160,7 +160,7 @@ static CASES: [Case; 14] = [
     (
         &STATIC,
         0,
-        15,
+        11,
         400,
         Answer::Failed(StreamError::Read(2, 0)),
         0,
@@ -169,13 +169,13 @@ static CASES: [Case; 14] = [
     (
         &STATIC,
         0,
-        16,
+        12,
         400,
         Answer::Failed(StreamError::Read(3, 384)),
         384,
         &[(0, 0x61), (383, 0x61)],
     ),
-    (&STATIC, 0, 17, 400, Answer::Wrote(385), 385, &[]),
+    (&STATIC, 0, 13, 400, Answer::Wrote(385), 385, &[]),
     // Writes that fail.
     (
         &STATIC,
@@ -249,7 +249,7 @@ const NEWER_0: Peb = Peb(
     Data::Filled(0x61, 384),
 );
 
-/// Each eraseblock is read 8 times at most: once more than to attach it, if it is a winner.
+/// Each eraseblock is read 7 times at most: once more than to attach it, if it is a winner.
 #[test]
 fn reads_each_winner_once_more(rt: HostRuntime) -> Result<(), Fail> {
     let alloc = rt.alloc();
@@ -258,8 +258,8 @@ fn reads_each_winner_once_more(rt: HostRuntime) -> Result<(), Fail> {
     let mut source = ProbeSource::new(alloc, &geometry()?, bytes.as_slice(), 0)?;
     let mut writer = ProbeWriter::new(alloc, 400, 400, Failure::Nothing)?;
     assert!(rt; extract(alloc, &mut source, 0, &mut writer)? == Answer::Wrote(385));
-    assert!(rt; source.reads(2) == 8 && source.data_reads(2) == 3);
-    assert!(rt; source.reads(3) == 1 && source.reads(0) == 3);
+    assert!(rt; source.reads(2) == 7 && source.data_reads(2) == 3);
+    assert!(rt; source.reads(3) == 1 && source.reads(0) == 2);
     assert!(rt; source.crossing() == 0);
     Ok(())
 }

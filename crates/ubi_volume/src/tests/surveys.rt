@@ -69,17 +69,16 @@ fn reads_of(alloc: Global, bytes: &[u8], p: u32) -> Result<(u64, u64, u64), Fail
     Ok((source.reads(p), source.data_reads(p), source.crossing()))
 }
 
-/// The headers are read for the scan, to compare them with the record and for the state; of the data those of one copy
-/// of the table alone, and none of a static volume.
+/// The headers are read once, for the scan; of the data those of one copy of the table alone, and none of a static volume.
 #[test]
 fn reads_no_contents(rt: HostRuntime) -> Result<(), Fail> {
     let alloc = rt.alloc();
     let bytes = image(alloc, &[FIRST_BOOT, SECOND_BOOT, TEXT_0, TEXT_1])?;
     for (p, want) in [
-        (0, (4, 1, 0)),
-        (1, (3, 0, 0)),
-        (2, (3, 0, 0)),
-        (3, (3, 0, 0)),
+        (0, (2, 1, 0)),
+        (1, (1, 0, 0)),
+        (2, (1, 0, 0)),
+        (3, (1, 0, 0)),
     ] {
         assert!(rt; reads_of(alloc, bytes.as_slice(), p)? == want);
     }
@@ -92,16 +91,16 @@ fn failure_at(alloc: Global, bytes: &[u8], at: u64) -> Result<Option<StreamError
     Ok(survey_from(alloc, &geometry()?, &mut source).err())
 }
 
-/// Each read fails in turn: those of the scan, of the table, of the winners and of the states.
+/// Each read fails in turn: those of the scan and of the table.
 #[test]
 fn tells_which_read_failed(rt: HostRuntime) -> Result<(), Fail> {
     let alloc = rt.alloc();
     let bytes = image(alloc, &[FIRST_BOOT, SECOND_BOOT, TEXT_0])?;
-    let failing = [0, 1, 2, 0, 0, 1, 2, 0, 1, 2];
+    let failing = [0, 1, 2, 0];
     for (at, p) in (1..).zip(failing) {
         let failure = failure_at(alloc, bytes.as_slice(), at)?;
         assert!(rt; failure == Some(StreamError::Read(p, 0)));
     }
-    assert!(rt; failure_at(alloc, bytes.as_slice(), 11)? == None);
+    assert!(rt; failure_at(alloc, bytes.as_slice(), 5)? == None);
     Ok(())
 }
