@@ -20,7 +20,7 @@ use Rattle.ubi_scan.proofs.Decided.{Wins-unique}
 use Rattle.ubi_table.proofs.ReadBack.{pieces_more}
 use Rattle.ubi_volume.specs.Means.{LebReads, VolumeReads}
 use Rattle.ubi_volume.specs.Meant.{Fits, IsVolume, KeepsNoBlank}
-use Rattle.ubi_volume.specs.Places.{IsCountedPlace, IsNextPlace, Placed, case_of}
+use Rattle.ubi_volume.specs.Places.{IsCountedPlace, IsNextPlace, Placed}
 use Rattle.ubi_volume.specs.declared.content.Content.{Content}
 use Rattle.ubi_volume.specs.declared.content.Content.TheVariants as content
 use Rattle.ubi_volume.specs.declared.content.Volume.{Volume}
@@ -34,7 +34,7 @@ use Rattle.ubi_compose.proofs.ByNumber.{Rises, by_number, kept_at}
 use Rattle.ubi_compose.proofs.Lists.{all_from, held_entry}
 use Rattle.ubi_compose.proofs.Rising as rising
 use Rattle.ubi_volume.proofs.Extracted.{front_of}
-use Rattle.ubi_volume.proofs.VolumeAt.{case_is, found_or_none, found_wins, reads_of}
+use Rattle.ubi_volume.proofs.VolumeAt.{content_is, found_or_none, found_wins, reads_of}
 use Rattle.ubi_volume.proofs.Received.{Splits, error_behind, error_front, wrote_more}
 
 -- the eraseblock of what is kept of a LEB
@@ -83,19 +83,12 @@ module _ (s : Sizes) (p : Placed) (id : ℕ) (r : VolumeRecord) (recorded : fini
   abbrev size : ℕ
   size = usable s r
 
-  dynamic_content : (c : Content) → case_of s r c ≡ place.Dynamic
-      → (l : FinMap nat_cmp (List ℕ)) × (c ≡ content.Dynamic l)
-  dynamic_content content.Updating e = absurd (cc)
-  dynamic_content content.Damaged e = absurd (cc)
-  dynamic_content (content.Static t) e = absurd (cc)
-  dynamic_content (content.Dynamic l) e = (l, refl)
-
   module _ (image : List ℕ) (v : Volume) (of : IsVolumeOf s p id image v) where
     abbrev bs : List (List ℕ)
     bs = blocks_of s image
 
     lebs_of : (l : FinMap nat_cmp (List ℕ)) × (v.content ≡ content.Dynamic l)
-    lebs_of = dynamic_content v.content (case_is s p image of.places id r recorded v of.at place.Dynamic listed)
+    lebs_of = content_is s p image of.places id r recorded v of.at place.Dynamic listed
 
     module _ (l : FinMap nat_cmp (List ℕ)) (is : v.content ≡ content.Dynamic l) where
       reads : (r.marker ≡ false) × (r.kind ≡ kind.Dynamic)

@@ -1,6 +1,6 @@
 -- Whether two images mean the same, by their places and the bytes of their LEBs.
 use Rattle.std.proofs.Common.{◌≡◌, ℕ, ◌+◌, ◌*◌, ◌<◌, inl, inr, ◌==◌, ◌&&◌, Bool, true, false, Decides, List, [], ◌∷◌, ◌++◌, length, take, get_or, refl, ap, sym, ◌∙◌, subst, arith}
-use Rattle.std.specs.Prelude.{◌↔◌, Err, IfSome, IsTrue, Ok, Option, Some}
+use Rattle.std.specs.Prelude.{◌↔◌, Err, IsTrue, Ok, Option, Some}
 use Rattle.std.specs.Cmp.{nat_cmp_total, unsigned_Decides}
 use Rattle.std.specs.Cmp.Lexicographic.{pointwise}
 use Rattle.std.specs.FinMap as finite
@@ -18,7 +18,9 @@ use Rattle.ubi_media.specs.declared.record.VolumeRecord.{VolumeRecord}
 use Rattle.ubi_scan.specs.Image.{image_of}
 use Rattle.ubi_table.specs.Records.{Records}
 use Rattle.ubi_volume.specs.Extract.{extent_of, leb_bytes, share_len}
-use Rattle.ubi_volume.specs.Meant.{Fits, IsVolume, KeepsNoBlank, Meant, share}
+use Rattle.ubi_volume.specs.inner.Gathered.{ContentIs}
+use Rattle.ubi_volume.specs.Meant.{Meant, share}
+use Rattle.ubi_scan.specs.Source.{blocks_of}
 use Rattle.ubi_volume.specs.Places.{ArePlaces, Placed, case_of}
 use Rattle.ubi_volume.specs.Reading.{leb_text}
 use Rattle.ubi_volume.specs.declared.content.Content.{Content}
@@ -31,7 +33,7 @@ use Rattle.ubi_volume.specs.declared.places.PlaceContent.TheVariants as place
 use Rattle.ubi_volume.proofs.Equal.{record_Decides}
 use Rattle.ubi_volume.proofs.Extracted.{leb_is, piece_is, same_Ok, same_range, static_is}
 use Rattle.ubi_volume.proofs.One.{kept_alike, outside}
-use Rattle.ubi_volume.proofs.VolumeAt.{case_is, reads_of}
+use Rattle.ubi_volume.proofs.VolumeAt.{HasCase, case_is, content_has, content_is}
 use Rattle.ubi_compose.specs.inner.Comparing.{AreSameLebs, IsSameLeb, TellsVolume}
 use Rattle.ubi_compose.proofs.StoredVolumes.{count, volume_at}
 
@@ -50,22 +52,12 @@ pub records_Decides : (a b : FinMap nat_cmp VolumeRecord) (r : Bool)
 records_Decides a b r e = Decides-like r (same_entries_map a b) (ap finite.entries)
     (slice_eq-Decides entry_Decides (finite.entries a) (finite.entries b) r e)
 
--- what a volume of an image is
-module _ (s : Sizes) (p : Placed) (x : List ℕ) (h : ArePlaces (image_of s x) p) (id : ℕ) (r : VolumeRecord)
-    (recorded : finite.get p.records.of id ≡ Some r) (v : Volume) (at : finite.get h.meaning.volumes id ≡ Some v) where
-  entry : v.entry ≡ r
-  entry = (reads_of s p x h id r recorded v at).0
+-- contents are the same only where what they hold is
+same_text : (t u : List ℕ) → content.Static t ≡ content.Static u → t ≡ u
+same_text t u e = cc
 
-  volume : IsVolume s id v
-  volume = subst (λ (z : Sizes). IsVolume z id v) h.accepted.accepted.means.sizes
-      (subst (λ (o : Option Volume). IfSome o (IsVolume h.meaning.sizes id)) at
-      (h.accepted.accepted.means.meaning.each id))
-
-  fits_as : (c : Content) → v.content ≡ c → Fits s r c
-  fits_as c is = subst (λ (y : VolumeRecord). Fits s y c) entry (subst (Fits s v.entry) is volume.fits)
-
-  keeps_as : (c : Content) → v.content ≡ c → KeepsNoBlank s r c
-  keeps_as c is = subst (λ (y : VolumeRecord). KeepsNoBlank s y c) entry (subst (KeepsNoBlank s v.entry) is volume.kept)
+same_kept : (l m : FinMap nat_cmp (List ℕ)) → content.Dynamic l ≡ content.Dynamic m → l ≡ m
+same_kept l m e = cc
 
 module _ (s : Sizes) (p q : Placed) (x y : List ℕ) (h : ArePlaces (image_of s x) p) (k : ArePlaces (image_of s y) q)
     (id : ℕ) (r : VolumeRecord) (here : finite.get p.records.of id ≡ Some r)
@@ -81,72 +73,48 @@ module _ (s : Sizes) (p q : Placed) (x y : List ℕ) (h : ArePlaces (image_of s 
       ∙ case_is s q y k id r there w bt b other
 
   -- those that can't be read are the same where their cases are
-  unread_is : (a : PlaceContent) (error : ReadError) (c d : Content) → extent_of s r a ≡ Err error → case_of s r c ≡ a → case_of s r d ≡ a
-      → c ≡ d
-  unread_is place.Updating error content.Updating content.Updating none e f = refl
-  unread_is place.Updating error content.Updating content.Damaged none e f = absurd (cc)
-  unread_is place.Updating error content.Updating (content.Static t) none e f = absurd (cc)
-  unread_is place.Updating error content.Updating (content.Dynamic t) none e f = absurd (cc)
-  unread_is place.Updating error content.Damaged d none e f = absurd (cc)
-  unread_is place.Updating error (content.Static t) d none e f = absurd (cc)
-  unread_is place.Updating error (content.Dynamic t) d none e f = absurd (cc)
-  unread_is place.Damaged error content.Damaged content.Damaged none e f = refl
-  unread_is place.Damaged error content.Damaged content.Updating none e f = absurd (cc)
-  unread_is place.Damaged error content.Damaged (content.Static t) none e f = absurd (cc)
-  unread_is place.Damaged error content.Damaged (content.Dynamic t) none e f = absurd (cc)
-  unread_is place.Damaged error content.Updating d none e f = absurd (cc)
-  unread_is place.Damaged error (content.Static t) d none e f = absurd (cc)
-  unread_is place.Damaged error (content.Dynamic t) d none e f = absurd (cc)
+  unread_is : (a : PlaceContent) (error : ReadError) (c d : Content) → extent_of s r a ≡ Err error → HasCase s r a c
+      → HasCase s r a d → c ≡ d
+  unread_is place.Updating error c d none e f = e ∙ sym f
+  unread_is place.Damaged error c d none e f = e ∙ sym f
   unread_is (place.Static lebs bytes) error c d none e f = absurd (cc)
   unread_is place.Dynamic error c d none e f = absurd (cc)
 
-  pub unread_same : (a : PlaceContent) (error : ReadError) → finite.get p.contents id ≡ Some a → finite.get q.contents id ≡ Some a
-      → extent_of s r a ≡ Err error
-      → v.content ≡ w.content
+  pub unread_same : (a : PlaceContent) (error : ReadError) → finite.get p.contents id ≡ Some a
+      → finite.get q.contents id ≡ Some a → extent_of s r a ≡ Err error → v.content ≡ w.content
   unread_same a error one other none =
-      unread_is a error v.content w.content none (case_is s p x h id r here v at a one)
-      (case_is s q y k id r there w bt a other)
-
-  static_is_same : (lebs bytes : ℕ) (c d : Content) → v.content ≡ c → w.content ≡ d
-      → case_of s r c ≡ place.Static lebs bytes → case_of s r d ≡ place.Static lebs bytes
-      → AreSameLebs s p q id size bytes x y lebs ↔ (c ≡ d)
-  static_is_same lebs bytes content.Updating d is js e f = absurd (cc)
-  static_is_same lebs bytes content.Damaged d is js e f = absurd (cc)
-  static_is_same lebs bytes (content.Dynamic t) d is js e f = absurd (cc)
-  static_is_same lebs bytes (content.Static t) content.Updating is js e f = absurd (cc)
-  static_is_same lebs bytes (content.Static t) content.Damaged is js e f = absurd (cc)
-  static_is_same lebs bytes (content.Static t) (content.Dynamic u) is js e f = absurd (cc)
-  static_is_same lebs bytes (content.Static t) (content.Static u) is js e f = (
-    λ same. ap content.Static (sym (static_is s p x h id r here v at lebs bytes t is (cc) (cc))
-        ∙ same_range (λ n. leb_bytes s (share_len size bytes n) (finite.get p.winners (id, n)) x)
-        (λ n. leb_bytes s (share_len size bytes n) (finite.get q.winners (id, n)) y) 0 lebs
-        (λ n low high. same n (omega arith))
-        ∙ static_is s q y k id r there w bt lebs bytes u js (cc) (cc)),
-    λ same n inside. let text : t ≡ u = cc in
-        piece_is s p x h id r here v at lebs bytes t is (cc) (cc) n inside ∙ ap (λ z. share size z n) text
-        ∙ sym (piece_is s q y k id r there w bt lebs bytes u js (cc) (cc) n inside),
-  )
+      unread_is a error v.content w.content none (content_is s p x h id r here v at a one)
+      (content_is s q y k id r there w bt a other)
 
   static_same : (lebs bytes : ℕ) → finite.get p.contents id ≡ Some (place.Static lebs bytes)
       → finite.get q.contents id ≡ Some (place.Static lebs bytes)
       → AreSameLebs s p q id size bytes x y lebs ↔ (v.content ≡ w.content)
-  static_same lebs bytes one other = static_is_same lebs bytes v.content w.content refl refl
-      (case_is s p x h id r here v at (place.Static lebs bytes) one)
-      (case_is s q y k id r there w bt (place.Static lebs bytes) other)
+  static_same lebs bytes one other =
+      let t = content_is s p x h id r here v at (place.Static lebs bytes) one in
+      let u = content_is s q y k id r there w bt (place.Static lebs bytes) other in (
+        λ same. t.1 ∙ ap content.Static (sym (static_is s p x h id r here v at lebs bytes t.0 t.1 t.2 t.3)
+            ∙ same_range (λ n. leb_bytes s (share_len size bytes n) (finite.get p.winners (id, n)) x)
+            (λ n. leb_bytes s (share_len size bytes n) (finite.get q.winners (id, n)) y) 0 lebs
+            (λ n low high. same n (omega arith))
+            ∙ static_is s q y k id r there w bt lebs bytes u.0 u.1 u.2 u.3) ∙ sym u.1,
+        λ same n inside. let text : t.0 ≡ u.0 = same_text t.0 u.0 (sym t.1 ∙ same ∙ u.1) in
+            piece_is s p x h id r here v at lebs bytes t.0 t.1 t.2 t.3 n inside ∙ ap (λ z. share size z n) text
+            ∙ sym (piece_is s q y k id r there w bt lebs bytes u.0 u.1 u.2 u.3 n inside),
+      )
 
   module _ (l m : FinMap nat_cmp (List ℕ)) (is : v.content ≡ content.Dynamic l)
       (js : w.content ≡ content.Dynamic m) where
     lebs_same : AreSameLebs s p q id size (r.reserved * size) x y r.reserved → l ≡ m
     lebs_same same = finite.same_map nat_cmp_total nat_cmp-IsAntisymmetric l m (λ n. elim (cases_lt n r.reserved) [
       | inl inside ↦ kept_alike size (finite.get l n) (finite.get m n)
-          (keeps_as s p x h id r here v at (content.Dynamic l) is n)
-          (keeps_as s q y k id r there w bt (content.Dynamic m) js n)
+          ((subst (ContentIs s (blocks_of s x) id r) is (content_has s p x h id r here v at)).kept n)
+          ((subst (ContentIs s (blocks_of s y) id r) js (content_has s q y k id r there w bt)).kept n)
           (sym (leb_is s p x h id r here v at l is n inside) ∙ same n inside
           ∙ leb_is s q y k id r there w bt m js n inside)
       | inr beyond ↦ outside r.reserved n size (finite.get l n) beyond
-          ((fits_as s p x h id r here v at (content.Dynamic l) is).2 n)
+          ((subst (ContentIs s (blocks_of s x) id r) is (content_has s p x h id r here v at)).fits.2 n)
           ∙ sym (outside r.reserved n size (finite.get m n) beyond
-          ((fits_as s q y k id r there w bt (content.Dynamic m) js).2 n))
+          ((subst (ContentIs s (blocks_of s y) id r) js (content_has s q y k id r there w bt)).fits.2 n))
     ])
 
     same_lebs : l ≡ m → AreSameLebs s p q id size (r.reserved * size) x y r.reserved
@@ -155,22 +123,14 @@ module _ (s : Sizes) (p q : Placed) (x y : List ℕ) (h : ArePlaces (image_of s 
         ∙ ap (λ (z : FinMap nat_cmp (List ℕ)). leb_text size (finite.get z n)) same
         ∙ sym (leb_is s q y k id r there w bt m js n inside)
 
-  dynamic_is_same : (c d : Content) → v.content ≡ c → w.content ≡ d → case_of s r c ≡ place.Dynamic
-      → case_of s r d ≡ place.Dynamic
-      → AreSameLebs s p q id size (r.reserved * size) x y r.reserved ↔ (c ≡ d)
-  dynamic_is_same content.Updating d is js e f = absurd (cc)
-  dynamic_is_same content.Damaged d is js e f = absurd (cc)
-  dynamic_is_same (content.Static t) d is js e f = absurd (cc)
-  dynamic_is_same (content.Dynamic l) content.Updating is js e f = absurd (cc)
-  dynamic_is_same (content.Dynamic l) content.Damaged is js e f = absurd (cc)
-  dynamic_is_same (content.Dynamic l) (content.Static u) is js e f = absurd (cc)
-  dynamic_is_same (content.Dynamic l) (content.Dynamic m) is js e f =
-      (λ same. ap content.Dynamic (lebs_same l m is js same), λ same. same_lebs l m is js (cc))
-
   dynamic_same : finite.get p.contents id ≡ Some place.Dynamic → finite.get q.contents id ≡ Some place.Dynamic
       → AreSameLebs s p q id size (r.reserved * size) x y r.reserved ↔ (v.content ≡ w.content)
-  dynamic_same one other = dynamic_is_same v.content w.content refl refl
-      (case_is s p x h id r here v at place.Dynamic one) (case_is s q y k id r there w bt place.Dynamic other)
+  dynamic_same one other =
+      let l = content_is s p x h id r here v at place.Dynamic one in
+      let m = content_is s q y k id r there w bt place.Dynamic other in (
+        λ same. l.1 ∙ ap content.Dynamic (lebs_same l.0 m.0 l.1 m.1 same) ∙ sym m.1,
+        λ same. same_lebs l.0 m.0 l.1 m.1 (same_kept l.0 m.0 (sym l.1 ∙ same ∙ m.1)),
+      )
 
   -- those that can be read are the same where the bytes of their LEBs are
   extent_same : (a : PlaceContent) (e : Extent) → finite.get p.contents id ≡ Some a → finite.get q.contents id ≡ Some a

@@ -17,7 +17,7 @@ use Rattle.ubi_scan.specs.declared.errors.StreamError.{StreamError}
 use Rattle.ubi_table.proofs.ReadBack.{pieces_more}
 use Rattle.ubi_volume.specs.Means.{AreWhole, StaticReads, VolumeReads, piece}
 use Rattle.ubi_volume.specs.Meant.{pieces, share}
-use Rattle.ubi_volume.specs.Places.{IsNextPlace, Placed, case_of}
+use Rattle.ubi_volume.specs.Places.{IsNextPlace, Placed}
 use Rattle.ubi_volume.specs.declared.content.Content.{Content}
 use Rattle.ubi_volume.specs.declared.content.Content.TheVariants as content
 use Rattle.ubi_volume.specs.declared.content.Volume.{Volume}
@@ -30,7 +30,7 @@ use Rattle.ubi_compose.specs.Normal.{laid_bytes, new_ec, static_block, static_pa
 use Rattle.ubi_volume.specs.Wrote.{All, IsWroteError, Wanted, Wrote}
 use Rattle.ubi_volume.proofs.Pieces.{length-share}
 use Rattle.ubi_volume.proofs.Shares.{header_at, share_at}
-use Rattle.ubi_volume.proofs.VolumeAt.{case_is, in_table, is_next, is_some, reads_of, table}
+use Rattle.ubi_volume.proofs.VolumeAt.{content_is, in_table, is_next, is_some, reads_of, table}
 use Rattle.ubi_volume.proofs.Received.{Splits, error_behind, error_front, wrote_more}
 
 -- the eraseblocks of the first n pieces
@@ -45,21 +45,13 @@ module _ (s : Sizes) (p : Placed) (id : ℕ) (r : VolumeRecord) (recorded : fini
   abbrev size : ℕ
   size = usable s r
 
-  -- the text of the volume
-  static_content : (c : Content) → case_of s r c ≡ place.Static lebs bytes
-      → (t : List ℕ) × (c ≡ content.Static t) × (pieces size (length t) ≡ lebs) × (length t ≡ bytes)
-  static_content content.Updating e = absurd (cc)
-  static_content content.Damaged e = absurd (cc)
-  static_content (content.Static t) e = (t, refl, cc, cc)
-  static_content (content.Dynamic l) e = absurd (cc)
-
   module _ (image : List ℕ) (v : Volume) (of : IsVolumeOf s p id image v) where
     abbrev bs : List (List ℕ)
     bs = blocks_of s image
 
+    -- the text of the volume
     text_of : (t : List ℕ) × (v.content ≡ content.Static t) × (pieces size (length t) ≡ lebs) × (length t ≡ bytes)
-    text_of = static_content v.content
-        (case_is s p image of.places id r recorded v of.at (place.Static lebs bytes) listed)
+    text_of = content_is s p image of.places id r recorded v of.at (place.Static lebs bytes) listed
 
     reads : (r.marker ≡ false) × (r.kind ≡ kind.Static) × StaticReads s bs id r text_of.0
     reads = subst (VolumeReads s bs id r) text_of.1 (reads_of s p image of.places id r recorded v of.at).1

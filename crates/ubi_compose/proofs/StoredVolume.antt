@@ -10,11 +10,10 @@ use Rattle.ubi_media.specs.declared.record.VolumeRecord.{VolumeRecord}
 use Rattle.ubi_media.specs.declared.vid.VidHeader.{VidHeader}
 use Rattle.ubi_media.specs.declared.vid.VolKind.TheVariants as kind
 use Rattle.ubi_volume.specs.Accepts.{IsWithin}
-use Rattle.ubi_volume.specs.Places.{IsCountedPlace, Placed, case_of}
+use Rattle.ubi_volume.specs.Places.{IsCountedPlace, Placed}
 use Rattle.ubi_volume.specs.declared.content.Content.{Content}
-use Rattle.ubi_volume.specs.declared.content.Content.TheVariants as content
 use Rattle.ubi_volume.specs.declared.places.PlaceContent.TheVariants as place
-use Rattle.ubi_volume.proofs.VolumeAt.{case_is, reads_of}
+use Rattle.ubi_volume.proofs.VolumeAt.{content_is, reads_of}
 use Rattle.ubi_compose.specs.inner.Streaming.{laid_text, volume_text}
 use Rattle.ubi_compose.specs.Normal.{damaged_block, laid_bytes, new_ec, volume_blocks}
 use Rattle.ubi_compose.proofs.Puts.{damaged_is}
@@ -42,28 +41,15 @@ module _ (s : Sizes) (p : Placed) (id : ℕ) (r : VolumeRecord) (recorded : fini
   pub updating_text : finite.get p.contents id ≡ Some place.Updating → (image text : List ℕ)
       → volume_text s p id image text → text ≡ []
   updating_text listed image text w =
-      let case = case_is s p image w.1.places id r recorded w.0 w.1.at place.Updating listed in
       w.2 ∙ ap (λ (x : Content). flat_map (laid_bytes s (new_ec p.image_seq)) (volume_blocks s id w.0.entry x))
-      (is_updating w.0.content case)
-    where
-      is_updating : (c : Content) → case_of s r c ≡ place.Updating → c ≡ content.Updating
-      is_updating content.Updating e = refl
-      is_updating content.Damaged e = absurd (cc)
-      is_updating (content.Static t) e = absurd (cc)
-      is_updating (content.Dynamic l) e = absurd (cc)
+      (content_is s p image w.1.places id r recorded w.0 w.1.at place.Updating listed)
 
   -- a damaged one has one
   pub damaged_text : (h : VidHeader) → h ≡ (damaged_block (data_pad s r) id).header
       → finite.get p.contents id ≡ Some place.Damaged → (image text : List ℕ) → volume_text s p id image text
       → laid_text s p.image_seq h [] image text
   damaged_text h header listed image text w =
-      let case = case_is s p image w.1.places id r recorded w.0 w.1.at place.Damaged listed in
+      let damaged = content_is s p image w.1.places id r recorded w.0 w.1.at place.Damaged listed in
       let entry : w.0.entry ≡ r = (reads_of s p image w.1.places id r recorded w.0 w.1.at).0 in
       w.2 ∙ ap (λ (x : VolumeRecord). flat_map (laid_bytes s (new_ec p.image_seq)) (volume_blocks s id x w.0.content)) entry
-      ∙ sym (damaged_is s p.image_seq id r w.0.content (data_pad s r) h refl header (is_damaged w.0.content case))
-    where
-      is_damaged : (c : Content) → case_of s r c ≡ place.Damaged → c ≡ content.Damaged
-      is_damaged content.Updating e = absurd (cc)
-      is_damaged content.Damaged e = refl
-      is_damaged (content.Static t) e = absurd (cc)
-      is_damaged (content.Dynamic l) e = absurd (cc)
+      ∙ sym (damaged_is s p.image_seq id r w.0.content (data_pad s r) h refl header damaged)

@@ -3,9 +3,8 @@
 //! Each buffer has the size of an eraseblock, one for each side. The places are those that were found in the sources.
 
 ghost use Rattle.std.specs.FinMap as finite;
-ghost use Rattle.std.specs.Prelude.{◌≡◌, ◌↔◌, ◌<◌, ◌≤◌, IfErr, IfOk, IfSome, IsTrue, None, Some, length};
+ghost use Rattle.std.specs.Prelude.{◌≡◌, ◌↔◌, ◌<◌, ◌≤◌, IfErr, IfOk, IfSome, IsSome, IsTrue, length};
 ghost use Rattle.ubi_media.specs.Geometry.{leb_size};
-ghost use Rattle.ubi_media.specs.Record.{rec_fault};
 ghost use Rattle.ubi_scan.specs.Source.{Narrows, blocks_in};
 ghost use Rattle.ubi_volume.specs.Extract.{leb_bytes};
 ghost use Rattle.ubi_volume.specs.Places.{ArePlacesOf};
@@ -13,7 +12,7 @@ ghost use Rattle.ubi_compose.specs.Compared.{WhereBothHeld, after_left, after_ri
 ghost use Rattle.ubi_compose.specs.inner.Comparing.{AreSameLebs, IsSideRead, OfMeanings, TellsMeaning, TellsVolume};
 
 use crate::errors::SameFault;
-use ubi_media::{Geometry, VolumeRecord};
+use ubi_media::Geometry;
 use ubi_scan::BlockSource;
 use ubi_volume::{Extent, PlaceContent, Places, read_place};
 
@@ -128,15 +127,13 @@ fn same_volume<L: BlockSource, R: BlockSource>(
     here: &Places,
     there: &Places,
     id: u32,
-    entry: &VolumeRecord,
     one: &mut [u8],
     other: &mut [u8],
 ) -> Result<bool, SameFault>
     requires here { ArePlacesOf geometry.now (L.known left.old) (L.agrees left.old) here.now }
     requires there { ArePlacesOf geometry.now (R.known right.old) (R.agrees right.old) there.now }
-    requires recorded { finite.get here.now.records.of id ≡ Some entry.now }
+    requires recorded { IsSome (finite.get here.now.records.of id) }
     requires same { here.now.records ≡ there.now.records }
-    requires sound { rec_fault geometry.now entry.now ≡ None }
     requires one { length one.old ≡ geometry.now.peb_size }
     requires other { length other.old ≡ geometry.now.peb_size }
     ensures left { L.known left.new ≡ after_left (L.known left.old) result }
@@ -185,8 +182,8 @@ pub fn same_volumes<L: BlockSource, R: BlockSource>(
     ensures failed { IfErr result (IsSideRead (blocks_in geometry.now (L.known left.old)) (blocks_in geometry.now (R.known right.old))) }
 {
     for listed in here.table().entries() {
-        let (id, entry) = *listed;
-        if !same_volume(geometry, left, right, here, there, id, &entry, one, other)? {
+        let (id, _) = *listed;
+        if !same_volume(geometry, left, right, here, there, id, one, other)? {
             return Ok(false);
         }
     }

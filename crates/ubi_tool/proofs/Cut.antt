@@ -8,7 +8,7 @@ use Rattle.ubi_change.specs.Steps.{after}
 use Rattle.ubi_change.specs.declared.step.Step.{Step}
 use Rattle.ubi_scan.specs.Image.{Image, IsWhole, eraseblocks}
 use Rattle.ubi_scan.proofs.Chunks.{concat-first_chunks}
-use Rattle.ubi_volume.specs.Accepts.{Accepts, AcceptsBlocks}
+use Rattle.ubi_volume.specs.Accepts.{AcceptsBlocks}
 use Rattle.ubi_volume.specs.Meant.{Meant}
 use Rattle.ubi_tool.specs.Plan.{CutAccepts, IsCut, cut_bytes, steps_done}
 

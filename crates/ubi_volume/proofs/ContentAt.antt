@@ -1,6 +1,6 @@
 -- What a volume reads by the places of its LEBs.
-use Rattle.std.proofs.Common.{◌≡◌, ◌∙◌, ℕ, List, length, length-take-le, take, refl, ap, sym, subst, arith}
-use Rattle.std.specs.Prelude.{Err, Ok, Option, Some}
+use Rattle.std.proofs.Common.{◌≡◌, ◌∙◌, ℕ, List, length, length-take-le, take, ap, sym, subst, arith}
+use Rattle.std.specs.Prelude.{Err, Option, Some}
 use Rattle.std.specs.Option.{option_map_or}
 use Rattle.std.specs.FinMap as finite
 use Rattle.ubi_media.specs.Geometry.{Sizes}
@@ -11,15 +11,14 @@ use Rattle.ubi_scan.specs.Source.{blocks_of}
 use Rattle.ubi_volume.specs.Extract.{read_text}
 use Rattle.ubi_volume.specs.Reading.{volume_read}
 use Rattle.ubi_volume.specs.Means.{VolumeReads}
-use Rattle.ubi_volume.specs.Places.{AreWithin, ArePlaces, CaseFits, Placed, case_of}
-use Rattle.ubi_volume.specs.declared.content.Content.{Content}
+use Rattle.ubi_volume.specs.Places.{AreWithin, ArePlaces, CaseFits, Placed}
 use Rattle.ubi_volume.specs.declared.content.Content.TheVariants as content
 use Rattle.ubi_volume.specs.declared.content.Volume.{Volume}
 use Rattle.ubi_volume.specs.declared.errors.ReadError.TheVariants as error
 use Rattle.ubi_volume.specs.declared.places.PlaceContent.{PlaceContent}
 use Rattle.ubi_volume.specs.declared.places.PlaceContent.TheVariants as place
 use Rattle.std.proofs.lemmas.Option.{same_Some}
-use Rattle.ubi_volume.proofs.VolumeAt.{case_is, has_volume, reads_of}
+use Rattle.ubi_volume.proofs.VolumeAt.{content_is, has_volume, reads_of}
 
 -- the front of a buffer has the size that a volume uses
 pub front_usable : (s : Sizes) (r : VolumeRecord) (n : ℕ) (buffer : List ℕ) → n ≡ usable s r
@@ -38,44 +37,19 @@ module _ (s : Sizes) (p : Placed) (image : List ℕ) (places : ArePlaces (image_
   abbrev bs : List (List ℕ)
   bs = blocks_of s image
 
-  -- some content with this case
-  read_with : (c : PlaceContent) → finite.get p.contents id ≡ Some c
-      → (x : Content) × (case_of s r x ≡ c) × VolumeReads s bs id r x
-  read_with c listed =
-      let v = has_volume s p image places id r recorded in (
-        v.0.content,
-        case_is s p image places id r recorded v.0 v.1 c listed,
-        (reads_of s p image places id r recorded v.0 v.1).1,
-      )
-
   pub damaged_reads : finite.get p.contents id ≡ Some place.Damaged → VolumeReads s bs id r content.Damaged
-  damaged_reads listed = let w = read_with place.Damaged listed in by_content w.0 w.1 w.2
-    where
-      by_content : (x : Content) → case_of s r x ≡ place.Damaged → VolumeReads s bs id r x
-          → VolumeReads s bs id r content.Damaged
-      by_content content.Updating e reads = absurd (cc)
-      by_content content.Damaged e reads = reads
-      by_content (content.Static t) e reads = absurd (cc)
-      by_content (content.Dynamic l) e reads = absurd (cc)
+  damaged_reads listed =
+      let v = has_volume s p image places id r recorded in
+      subst (VolumeReads s bs id r) (content_is s p image places id r recorded v.0 v.1 place.Damaged listed)
+      (reads_of s p image places id r recorded v.0 v.1).1
 
   pub static_reads : (lebs bytes : ℕ) → finite.get p.contents id ≡ Some (place.Static lebs bytes) → (text : List ℕ)
       → ((all : List ℕ) → read_text s p id image all → text ≡ all) → VolumeReads s bs id r (content.Static text)
   static_reads lebs bytes listed text read =
       let v = has_volume s p image places id r recorded in
-      by_content v.0.content (case_is s p image places id r recorded v.0 v.1 (place.Static lebs bytes) listed)
-      (reads_of s p image places id r recorded v.0 v.1).1
-      (λ all e. read all (
-        places,
-        ap
-            (λ (o : Option Volume). option_map_or (λ v. volume_read places.meaning.sizes v.entry v.content) o
-            (Err error.NoVolume)) v.1 ∙ e,
-      ))
-    where
-      by_content : (x : Content) → case_of s r x ≡ place.Static lebs bytes → VolumeReads s bs id r x
-          → ((all : List ℕ) → volume_read places.meaning.sizes (has_volume s p image places id r recorded).0.entry x
-          ≡ Ok all → text ≡ all) → VolumeReads s bs id r (content.Static text)
-      by_content content.Updating e reads is = absurd (cc)
-      by_content content.Damaged e reads is = absurd (cc)
-      by_content (content.Static t) e reads is =
-          subst (λ (x : List ℕ). VolumeReads s bs id r (content.Static x)) (sym (is t refl)) reads
-      by_content (content.Dynamic l) e reads is = absurd (cc)
+      let m = places.meaning in
+      let t = content_is s p image places id r recorded v.0 v.1 (place.Static lebs bytes) listed in
+      let all = ap (λ (o : Option Volume). option_map_or (λ v. volume_read m.sizes v.entry v.content) o
+      (Err error.NoVolume)) v.1 ∙ ap (volume_read m.sizes v.0.entry) t.1 in
+      subst (λ (x : List ℕ). VolumeReads s bs id r (content.Static x)) (sym (read t.0 (places, all)))
+      (subst (VolumeReads s bs id r) t.1 (reads_of s p image places id r recorded v.0 v.1).1)

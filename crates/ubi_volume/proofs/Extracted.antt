@@ -1,12 +1,13 @@
 -- What is extracted of a volume by the places of its LEBs.
-use Rattle.std.proofs.Common.{◌≡◌, ℕ, zero, suc, ◌+◌, ◌-◌, ◌*◌, ◌<◌, ◌≤◌, inl, inr, false, List, ◌++◌, length, take, refl, ap, sym, ◌∙◌, subst, arith, append_assoc, zero-add}
-use Rattle.std.specs.Prelude.{Err, IfSome, None, Ok, Option, Result, Some, MatchOption, flat_map, slice_index, unwrap_or}
+use Rattle.std.proofs.Common.{◌≡◌, ℕ, zero, suc, ◌+◌, ◌-◌, ◌*◌, ◌<◌, ◌≤◌, inl, inr, false, List, ◌++◌, length, take, refl, ap, sym, ◌∙◌, subst, arith, zero-add}
+use Rattle.std.specs.Prelude.{Err, None, Ok, Option, Result, Some, MatchOption, flat_map, slice_index, unwrap_or}
 use Rattle.std.specs.FinMap as finite
 use Rattle.std.specs.FinMap.{FinMap}
 use Rattle.std.specs.List.{range_with_len}
 use Rattle.std.specs.Option.{option_map_or}
 use Rattle.std.specs.Ordering.{nat_cmp}
 use Rattle.std.specs.Result.{result_map_both}
+use Rattle.std.proofs.lemmas.Grind.{flat_map-append}
 use Rattle.std.proofs.lemmas.Nat.{mul-le}
 use Rattle.std.proofs.lemmas.Option.{IfSome_then}
 use Rattle.ubi_media.specs.Fields.{blank}
@@ -21,11 +22,12 @@ use Rattle.ubi_scan.specs.Source.{Agreed, Source, blocks_of}
 use Rattle.ubi_scan.specs.declared.errors.StreamError.{StreamError}
 use Rattle.ubi_scan.proofs.Decided.{Wins-unique}
 use Rattle.ubi_table.specs.Records.{Records}
+use Rattle.ubi_table.proofs.Held.{table_records}
 use Rattle.ubi_table.proofs.ReadBack.{pieces_more}
 use Rattle.ubi_volume.specs.Extract.{extent_in, extent_len, extent_of, leb_bytes, read_text, share_len}
 use Rattle.ubi_volume.specs.inner.Pieces.{leb_at, lebs_at, lebs_bytes}
 use Rattle.ubi_volume.specs.Means.{SlotMeans, AreWhole, LebReads, StaticReads, VolumeReads, piece}
-use Rattle.ubi_volume.specs.Meant.{Fits, IsVolume, pieces, share}
+use Rattle.ubi_volume.specs.Meant.{Fits, pieces, share}
 use Rattle.ubi_volume.specs.Places.{ArePlaces, Placed, case_of}
 use Rattle.ubi_volume.specs.Reading.{leb_text, lebs_text, volume_len, volume_read}
 use Rattle.ubi_volume.specs.Wrote.{All, IsWroteError, Wrote}
@@ -39,26 +41,17 @@ use Rattle.ubi_volume.specs.declared.places.PlaceContent.{PlaceContent}
 use Rattle.ubi_volume.specs.declared.places.PlaceContent.TheVariants as place
 use Rattle.ubi_volume.proofs.Alike.{short_piece}
 use Rattle.ubi_volume.proofs.Either.{are_lebs}
-use Rattle.ubi_volume.proofs.LebsText.{length-lebs}
+use Rattle.ubi_volume.proofs.LebsText.{length-lebs, range_append}
 use Rattle.ubi_volume.proofs.Pieces.{length-share, most_pieces, pieces_few, share_more, share_none, shares_all}
 use Rattle.ubi_volume.proofs.Received.{Splits, error_behind, error_front, wrote_more}
 use Rattle.ubi_volume.proofs.Shares.{share_at}
-use Rattle.ubi_volume.proofs.VolumeAt.{case_is, in_table, reads_of, same_records, table}
+use Rattle.ubi_volume.proofs.VolumeAt.{case_is, content_has, content_is, in_table, reads_of, same_records, table}
 
 -- the first n of n + k
 pub front_of : (f : ℕ → List ℕ) (a n k : ℕ) → flat_map f (range_with_len a (n + k)) ≡ flat_map f (range_with_len a n)
     ++ flat_map f (range_with_len (a + n) k)
-front_of f a zero k =
-    let none : 0 + k ≡ k = zero-add k in
-    let same : a ≡ a + 0 = omega arith in
-    ap (λ n. flat_map f (range_with_len a n)) none ∙ ap (λ b. flat_map f (range_with_len b k)) same
-front_of f a (suc n) k =
-    let more : suc n + k ≡ suc (n + k) = omega arith in
-    let next : a + 1 + n ≡ a + suc n = omega arith in
-    ap (λ m. flat_map f (range_with_len a m)) more
-    ∙ ap (λ x. f a ++ x) (front_of f (a + 1) n k
-    ∙ ap (λ (b : ℕ). flat_map f (range_with_len (a + 1) n) ++ flat_map f (range_with_len b k)) next)
-    ∙ sym (append_assoc (f a) (flat_map f (range_with_len (a + 1) n)) (flat_map f (range_with_len (a + suc n) k)))
+front_of f a n k = ap (flat_map f) (range_append a n k)
+    ∙ flat_map-append f (range_with_len a n) (range_with_len (a + n) k)
 
 -- what is the same at each number
 pub same_range : (f g : ℕ → List ℕ) (a n : ℕ) → ((i : ℕ) → a ≤ i → i < a + n → f i ≡ g i)
@@ -124,16 +117,15 @@ module _ (s : Sizes) (p : Placed) (image : List ℕ) (places : ArePlaces (image_
   abbrev size : ℕ
   size = usable s r
 
+  recorded_sound : rec_fault s r ≡ None
+  recorded_sound =
+      let table = places.accepted.accepted.table in
+      let records = table_records s bs _ table in
+      subst (λ (z : Sizes). rec_fault z r ≡ None) records.0
+      (records.1.sound id r (in_table s p image places id r recorded))
+
   entry : v.entry ≡ r
   entry = (reads_of s p image places id r recorded v at).0
-
-  volume : IsVolume s id v
-  volume = subst (λ (z : Sizes). IsVolume z id v) places.accepted.accepted.means.sizes
-      (subst (λ (o : Option Volume). IfSome o (IsVolume places.meaning.sizes id)) at
-      (places.accepted.accepted.means.meaning.each id))
-
-  sound : rec_fault s r ≡ None
-  sound = subst (λ (x : VolumeRecord). rec_fault s x ≡ None) entry volume.sound
 
   module _ (lebs bytes : ℕ) (t : List ℕ) (is : v.content ≡ content.Static t) (count : pieces size (length t) ≡ lebs)
       (long : length t ≡ bytes) where
@@ -144,13 +136,13 @@ module _ (s : Sizes) (p : Placed) (image : List ℕ) (places : ArePlaces (image_
       pub static_whole : (ps : List ℕ) × AreWhole s bs id r ps × (t ≡ flat_map (piece s bs) ps) × (n < length ps)
       static_whole = elim static_reads.2 [
         | inl none ↦
-            let few = pieces_few size (usable_some s r sound) (length t) 0 (omega (arith, ap length none.1)) in
+            let few = pieces_few size (usable_some s r recorded_sound) (length t) 0 (omega (arith, ap length none.1)) in
             absurd (omega (arith, few, count, inside))
         | inr w ↦
             let short = short_piece s bs (table s p image places) places.accepted.accepted.alike id r
             (in_table s p image places id r recorded) static_reads.0 static_reads.1 in
             let most = most_pieces (piece s bs) size w.0 (λ i b. short i (slice_index w.0 i) (w.1.win i b)) in
-            let few = pieces_few size (usable_some s r sound) (length t) (length w.0)
+            let few = pieces_few size (usable_some s r recorded_sound) (length t) (length w.0)
             (omega (arith, ap length w.2, most)) in
             (w.0, w.1, w.2, omega (arith, few, count, inside))
       ]
@@ -168,7 +160,7 @@ module _ (s : Sizes) (p : Placed) (image : List ℕ) (places : ArePlaces (image_
               subst (λ (x : List ℕ). share size x n ≡ take (length (share size x n)) (leb s (block bs q)))
               (sym static_whole.2) here in
               let some : length (share size t n) ≡ share_len size bytes n =
-              length-share size (usable_some s r sound) t n ∙ ap (λ k. share_len size k n) long in
+              length-share size (usable_some s r recorded_sound) t n ∙ ap (λ k. share_len size k n) long in
               there ∙ ap (λ k. take k (leb s (block bs q))) some
 
           by_place : (o : Option ℕ) → MatchOption o (NoMember s bs (id, n)) (Wins s bs (id, n))
@@ -188,7 +180,7 @@ module _ (s : Sizes) (p : Placed) (image : List ℕ) (places : ArePlaces (image_
 
     pub static_is : lebs_bytes s p id size bytes image lebs ≡ t
     static_is = static_so_far lebs (omega arith) ∙ ap (λ k. take (k * size) t) (sym count)
-        ∙ shares_all size (usable_some s r sound) t
+        ∙ shares_all size (usable_some s r recorded_sound) t
 
   module _ (l : FinMap nat_cmp (List ℕ)) (is : v.content ≡ content.Dynamic l) where
     dynamic_reads : (r.marker ≡ false) × (r.kind ≡ kind.Dynamic)
@@ -226,21 +218,6 @@ module _ (s : Sizes) (p : Placed) (image : List ℕ) (places : ArePlaces (image_
 
   -- what the volume reads, by its case
   module _ (text : List ℕ) where
-    by_static : (lebs bytes : ℕ) (c : Content) → v.content ≡ c → case_of s r c ≡ place.Static lebs bytes
-        → volume_read s r c ≡ Ok text → lebs_bytes s p id size bytes image lebs ≡ text
-    by_static lebs bytes content.Updating is case h = absurd (cc)
-    by_static lebs bytes content.Damaged is case h = absurd (cc)
-    by_static lebs bytes (content.Static t) is case h = static_is lebs bytes t is (cc) (cc)
-        ∙ (let e : t ≡ text = cc in e)
-    by_static lebs bytes (content.Dynamic l) is case h = absurd (cc)
-
-    by_dynamic : (c : Content) → v.content ≡ c → case_of s r c ≡ place.Dynamic → volume_read s r c ≡ Ok text
-        → lebs_bytes s p id size (r.reserved * size) image r.reserved ≡ text
-    by_dynamic content.Updating is case h = absurd (cc)
-    by_dynamic content.Damaged is case h = absurd (cc)
-    by_dynamic (content.Static t) is case h = absurd (cc)
-    by_dynamic (content.Dynamic l) is case h = dynamic_is l is ∙ (let e : lebs_text size l r.reserved ≡ text = cc in e)
-
     -- under its own record
     read_is : volume_read places.meaning.sizes v.entry v.content ≡ Ok text → volume_read s r v.content ≡ Ok text
     read_is h = ap (λ (x : VolumeRecord). volume_read s x v.content) (sym entry)
@@ -250,15 +227,17 @@ module _ (s : Sizes) (p : Placed) (image : List ℕ) (places : ArePlaces (image_
         → volume_read places.meaning.sizes v.entry v.content ≡ Ok text
         → text ≡ lebs_bytes s p id size bytes image lebs
     static_at lebs bytes listed h =
-        sym
-        (by_static lebs bytes v.content refl
-        (case_is s p image places id r recorded v at (place.Static lebs bytes) listed) (read_is h))
+        let t = content_is s p image places id r recorded v at (place.Static lebs bytes) listed in
+        let same : t.0 ≡ text = (let e = sym (ap (volume_read s r) t.1) ∙ read_is h in cc) in
+        sym (static_is lebs bytes t.0 t.1 t.2 t.3 ∙ same)
 
     pub dynamic_at : finite.get p.contents id ≡ Some place.Dynamic
         → volume_read places.meaning.sizes v.entry v.content ≡ Ok text
         → text ≡ lebs_bytes s p id size (r.reserved * size) image r.reserved
     dynamic_at listed h =
-        sym (by_dynamic v.content refl (case_is s p image places id r recorded v at place.Dynamic listed) (read_is h))
+        let l = content_is s p image places id r recorded v at place.Dynamic listed in
+        let same : lebs_text size l.0 r.reserved ≡ text = (let e = sym (ap (volume_read s r) l.1) ∙ read_is h in cc) in
+        sym (dynamic_is l.0 l.1 ∙ same)
 
 -- a volume that is read is one of the meaning
 read_of : (s : Sizes) (id : ℕ) (text : List ℕ) (o : Option Volume)
@@ -359,12 +338,8 @@ module _ (image : Image) (p : Placed) (h : ArePlaces image p) (id : ℕ) where
           let z : Sizes = image.sizes in
           let same : s ≡ z = sym sizes ∙ ap (λ (x : Records). x.sizes) h.records ∙ h.accepted.accepted.means.sizes in
           let case = case_is z p image.bytes h id r recorded v at c listed in
-          let whole : IsVolume h.meaning.sizes id v =
-          subst (λ (o : Option Volume). IfSome o (IsVolume h.meaning.sizes id)) at
-          (h.accepted.accepted.means.meaning.each id) in
-          let fits : Fits z r v.content = subst (λ (x : VolumeRecord). Fits z x v.content) is.0
-          (subst (λ (x : Sizes). Fits x v.entry v.content) h.accepted.accepted.means.sizes whole.fits) in
-          ap (λ (x : Sizes). case_len x r c) same ∙ ap (case_len z r) (sym case) ∙ case_len_is z r v.content fits
+          ap (λ (x : Sizes). case_len x r c) same ∙ ap (case_len z r) (sym case)
+          ∙ case_len_is z r v.content (content_has z p image.bytes h id r recorded v at).fits
           ∙ ap (λ (x : VolumeRecord). result_map_both length (λ (e : ReadError). e) (volume_read z x v.content))
           (sym is.0)
           ∙ ap (λ (x : Sizes). result_map_both length (λ (e : ReadError). e) (volume_read x v.entry v.content))

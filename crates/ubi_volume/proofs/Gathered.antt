@@ -187,3 +187,11 @@ pub listed_at : (t : Records) (i : ℕ) (d : ℕ × VolumeRecord) → i < length
     → finite.get t.of (get_or (finite.entries t.of) i d).0 ≡ Some (get_or (finite.entries t.of) i d).1
 listed_at t i d h = finite.get-entries t.of _
     ∙ find_at nat_cmp_total (finite.entries t.of) i d (finite.entries_sorted t.of) h
+
+-- and so is an item of the slice that a table gives
+pub listed_item : (t : Records) (es : List (ℕ × VolumeRecord)) (i : ℕ) (e : ℕ × VolumeRecord) → es ≡ finite.entries t.of
+    → i < length es → e ≡ get_or es i e → finite.get t.of e.0 ≡ Some e.1
+listed_item t es i e same inside is =
+    let here : e ≡ get_or (finite.entries t.of) i e = is ∙ ap (λ xs. get_or xs i e) same in
+    subst (λ (x : ℕ × VolumeRecord). finite.get t.of x.0 ≡ Some x.1) (sym here)
+    (listed_at t i e (omega (arith, ap length same, inside)))

@@ -12,7 +12,7 @@ use Rattle.std.specs.Prelude.{IfSome, Option, Some, None, flat_map}
 use Rattle.std.proofs.KnownBytes.{Appends-trans}
 use Rattle.ubi_volume.specs.Reading.{leb_text, lebs_text}
 
-range_append : (a n m : ℕ) → range_with_len a (n + m) ≡ range_with_len a n ++ range_with_len (a + n) m
+pub range_append : (a n m : ℕ) → range_with_len a (n + m) ≡ range_with_len a n ++ range_with_len (a + n) m
 range_append a zero m =
     let none : 0 + m ≡ m = omega arith in
     let start : a + 0 ≡ a = omega arith in

@@ -14,7 +14,7 @@ use Rattle.ubi_media.specs.declared.record.VolumeRecord.{VolumeRecord}
 use Rattle.ubi_media.specs.declared.refusal.Refusal.{Refusal}
 use Rattle.ubi_scan.specs.Scan.{Found, IsScan}
 use Rattle.ubi_scan.specs.Image.{IsWholeSize, image_of}
-use Rattle.ubi_scan.specs.Source.{Agreed, Source, WhereHeld, blocks_in, blocks_of}
+use Rattle.ubi_scan.specs.Source.{Agreed, Source, WhereHeld, blocks_of}
 use Rattle.ubi_scan.specs.Stream.{IsScanOf}
 use Rattle.ubi_scan.specs.declared.errors.StreamError.{StreamError}
 use Rattle.ubi_scan.specs.declared.errors.StreamError.TheVariants as stream
@@ -28,7 +28,7 @@ use Rattle.ubi_volume.specs.inner.Gathered.{ContentIs}
 use Rattle.ubi_volume.specs.inner.Surveying.{AreChecked}
 use Rattle.ubi_volume.specs.Means.{Means}
 use Rattle.ubi_volume.specs.Meant.{Meant}
-use Rattle.ubi_volume.specs.Places.{AreListed, ArePlaces, ArePlacesError, ArePlacesOf, CaseFits, IsReadFailure, Placed, case_of}
+use Rattle.ubi_volume.specs.Places.{AreListed, ArePlaces, ArePlacesError, ArePlacesOf, CaseFits, Placed, case_of}
 use Rattle.ubi_volume.specs.declared.content.Volume.{Volume}
 use Rattle.ubi_volume.specs.declared.places.PlaceContent.{PlaceContent}
 use Rattle.ubi_volume.proofs.Gathered.{contents_mean, contents_more}
@@ -177,11 +177,3 @@ module _ (s : Sizes) (k : Source) (agrees : Agreed) (found : Found) (t : Records
       };
       held = held;
     }
-
--- a read that failed, or memory that ran out, is why there are none
-pub reading_refused : (s : Sizes) (k : Source) (agrees : Agreed) (e : StreamError) → IsReadFailure (blocks_in s k) e
-    → ArePlacesError s k agrees e
-reading_refused s k agrees (stream.Refused c) h = absurd h
-reading_refused s k agrees (stream.Read p n) h = h
-reading_refused s k agrees (stream.Write n) h = h
-reading_refused s k agrees stream.Memory h = tt

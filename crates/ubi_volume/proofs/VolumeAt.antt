@@ -1,7 +1,9 @@
 -- A volume of an image whose places are known.
-use Rattle.std.proofs.Common.{◌≡◌, ℕ, ◌<◌, ◌≤◌, ◌⊎◌, inl, inr, List, refl, ap, sym, ◌∙◌, subst, arith}
-use Rattle.std.specs.Prelude.{None, Option, Some, MatchOption}
+use Rattle.std.proofs.Common.{◌≡◌, ℕ, ◌<◌, ◌≤◌, ◌⊎◌, inl, inr, List, length, refl, ap, sym, ◌∙◌, subst, arith}
+use Rattle.std.specs.Prelude.{IfSome, None, Option, Some, MatchOption}
 use Rattle.std.specs.FinMap as finite
+use Rattle.std.specs.FinMap.{FinMap}
+use Rattle.std.specs.Ordering.{nat_cmp}
 use Rattle.std.proofs.lemmas.Option.{same_Some}
 use Rattle.ubi_media.specs.Geometry.{Sizes}
 use Rattle.ubi_media.specs.Record.{usable}
@@ -12,11 +14,30 @@ use Rattle.ubi_scan.specs.Source.{blocks_of}
 use Rattle.ubi_table.specs.Records.{Records}
 use Rattle.ubi_volume.specs.Accepts.{IsWithin}
 use Rattle.ubi_volume.specs.Extract.{leb_bytes}
+use Rattle.ubi_volume.specs.inner.Gathered.{ContentIs}
 use Rattle.ubi_volume.specs.Means.{LebReads, SlotMeans, VolumeReads}
+use Rattle.ubi_volume.specs.Meant.{Fits, IsVolume, KeepsNoBlank, pieces}
 use Rattle.ubi_volume.specs.Places.{ArePlaces, IsNextPlace, Placed, case_of}
+use Rattle.ubi_volume.specs.declared.content.Content.{Content}
+use Rattle.ubi_volume.specs.declared.content.Content.TheVariants as content
 use Rattle.ubi_volume.specs.declared.content.Volume.{Volume}
 use Rattle.ubi_volume.specs.declared.places.PlaceContent.{PlaceContent}
+use Rattle.ubi_volume.specs.declared.places.PlaceContent.TheVariants as place
 use Rattle.ubi_volume.proofs.Recorded.{records_meant}
+
+-- a content has a case
+abbrev pub HasCase : Sizes → VolumeRecord → PlaceContent → Content → Type 0
+HasCase s r place.Updating c = c ≡ content.Updating
+HasCase s r place.Damaged c = c ≡ content.Damaged
+HasCase s r (place.Static lebs bytes) c =
+    (t : List ℕ) × (c ≡ content.Static t) × (pieces (usable s r) (length t) ≡ lebs) × (length t ≡ bytes)
+HasCase s r place.Dynamic c = (l : FinMap nat_cmp (List ℕ)) × (c ≡ content.Dynamic l)
+
+own_case : (s : Sizes) (r : VolumeRecord) (c : Content) → HasCase s r (case_of s r c) c
+own_case s r content.Updating = refl
+own_case s r content.Damaged = refl
+own_case s r (content.Static t) = (t, refl, refl, refl)
+own_case s r (content.Dynamic l) = (l, refl)
 
 module _ (s : Sizes) (p : Placed) (image : List ℕ) (places : ArePlaces (image_of s image) p) where
   abbrev pub table : Records
@@ -89,6 +110,25 @@ module _ (s : Sizes) (p : Placed) (image : List ℕ) (places : ArePlaces (image_
         same_Some (case_of s r v.content) c
         (ap (λ (x : VolumeRecord). Some (case_of s x v.content)) (sym (reads_of v at).0) ∙ sym (places.contents id v at)
         ∙ e)
+
+    pub content_is : (v : Volume) → finite.get places.meaning.volumes id ≡ Some v → (c : PlaceContent)
+        → finite.get p.contents id ≡ Some c → HasCase s r c v.content
+    content_is v at c e = subst (λ (x : PlaceContent). HasCase s r x v.content) (case_is v at c e)
+        (own_case s r v.content)
+
+    -- it is as a meaning keeps it
+    pub content_has : (v : Volume) → finite.get places.meaning.volumes id ≡ Some v
+        → ContentIs s (blocks_of s image) id r v.content
+    content_has v at =
+        let of = reads_of v at in
+        let m = places.accepted.accepted.means in
+        let volume : IsVolume s id v = subst (λ (z : Sizes). IsVolume z id v) m.sizes
+        (subst (λ (o : Option Volume). IfSome o (IsVolume places.meaning.sizes id)) at (m.meaning.each id)) in
+        record {
+          reads = of.1;
+          fits = subst (λ (x : VolumeRecord). Fits s x v.content) of.0 volume.fits;
+          kept = subst (λ (x : VolumeRecord). KeepsNoBlank s x v.content) of.0 volume.kept;
+        }
 
     -- the next place of a LEB that counts and has a member is its winner
     module _ (n : ℕ) (within : IsWithin r n) where

@@ -1,5 +1,5 @@
 -- What is known of a source before its volumes are read, and the state of each eraseblock.
-use Rattle.std.specs.Prelude.{ℕ, List, ◌≡◌, ◌≢◌, ◌^◌, ◌<◌, Bool, true, false, length}
+use Rattle.std.specs.Prelude.{List, ◌≡◌, ◌≢◌, ◌^◌, ◌<◌, Bool, true, false, length}
 use Rattle.ubi_media.specs.Geometry.{IsGeometry, Sizes}
 use Rattle.ubi_scan.specs.Members.{Leb, layout}
 use Rattle.ubi_scan.specs.Scan.{Found}

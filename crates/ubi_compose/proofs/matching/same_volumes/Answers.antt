@@ -1,15 +1,12 @@
-use Rattle.std.proofs.Common.{◌≡◌, ℕ, ◌<◌, ◌∙◌, get_or, length, ap, refl, sym, subst, arith}
-use Rattle.std.specs.Prelude.{Bool, None, Some}
+use Rattle.std.proofs.Common.{◌≡◌, ◌<◌, ◌∙◌, get_or, length, ap, refl, sym, subst, arith}
+use Rattle.std.specs.Prelude.{Bool}
 use Rattle.std.specs.FinMap as finite
 use Rattle.std.proofs.lemmas.Bool.{false≢true}
-use Rattle.ubi_media.specs.Geometry.{Sizes}
-use Rattle.ubi_media.specs.Record.{rec_fault}
-use Rattle.ubi_media.specs.declared.record.VolumeRecord.{VolumeRecord}
 use Rattle.ubi_scan.specs.Source.{Source}
 use Rattle.ubi_volume.proofs.Narrowed.{places_narrowed}
 use Rattle.ubi_volume.specs.Places.{ArePlacesOf}
-use Rattle.ubi_table.specs.Records.{AreRecords, Records}
-use Rattle.ubi_volume.proofs.Gathered.{listed_at}
+use Rattle.ubi_table.specs.Records.{Records}
+use Rattle.ubi_volume.proofs.Gathered.{listed_item}
 use Rattle.ubi_compose.specs.inner.Comparing.{TellsVolume}
 use Rattle.ubi_compose.proofs.SamePlaces.{all_same, one_other, one_same}
 use Rattle.ubi_compose.proofs.matching.same_volumes.Goals as goal
@@ -30,20 +27,9 @@ same_volume-requires-clause-there g c =
 
 pub same_volume-requires-clause-recorded : goal.same_volume-requires-clause-recorded
 same_volume-requires-clause-recorded g c =
-    let t = c.args.here.now.records in
-    let e = c.listed-item.result in
-    let i = c.loop-listed.listed-index in
-    let entries = c.entries-listed-items.ensures.value ∙ ap (λ (x : Records). finite.entries x.of) c.table.ensures in
-    let here : e ≡ get_or (finite.entries t.of) i e = c.listed-item.is ∙ ap (λ es. get_or es i e) entries in
-    let inside : i < length (finite.entries t.of) = omega (arith, ap length entries) in
-    subst (λ (x : ℕ × VolumeRecord). finite.get t.of x.0 ≡ Some x.1) (sym here) (listed_at t i e inside)
-
-pub same_volume-requires-clause-sound : goal.same_volume-requires-clause-sound
-same_volume-requires-clause-sound g c =
-    let e = c.listed-item.result in
-    let are = subst AreRecords c.table.ensures c.entries-listed-items.ensures.table in
-    subst (λ (z : Sizes). rec_fault z e.1 ≡ None) c.requires.here.sizes
-    (are.sound e.0 e.1 (same_volume-requires-clause-recorded g c))
+    let same = c.entries-listed-items.ensures.value ∙ ap (λ (x : Records). finite.entries x.of) c.table.ensures in
+    rw (listed_item c.args.here.now.records c.entries-listed-items.result.now c.loop-listed.listed-index
+    c.listed-item.result same c.loop-listed-test.true c.listed-item.is) refl
 
 pub returns-then-not-branch-clause-answer : goal.returns-then-not-branch-clause-answer
 returns-then-not-branch-clause-answer g c = λ x xs y ys h k.

@@ -7,7 +7,7 @@ use Rattle.ubi_media.specs.Record.{rec_fault}
 use Rattle.ubi_media.specs.declared.record.VolumeRecord.{VolumeRecord}
 use Rattle.ubi_media.proofs.Padding.{reserved_within}
 use Rattle.ubi_table.specs.Records.{AreRecords, Records}
-use Rattle.ubi_volume.proofs.Gathered.{listed_at}
+use Rattle.ubi_volume.proofs.Gathered.{listed_at, listed_item}
 use Rattle.ubi_volume.specs.Wrote.{All, IsWroteError, Wrote}
 use Rattle.ubi_compose.specs.inner.Streaming.{volume_text, volumes_text}
 use Rattle.ubi_compose.proofs.StoredVolumes.{few_records, first_volumes, volume_few, volumes_all, volumes_failed, volumes_wrote}
@@ -26,13 +26,9 @@ put_volume-requires-clause-places g c =
 
 pub put_volume-requires-clause-recorded : goal.put_volume-requires-clause-recorded
 put_volume-requires-clause-recorded g c =
-    let t = c.args.places.now.records in
-    let e = c.listed-item.result in
-    let i = c.loop-listed.listed-index in
-    let entries = c.entries-listed-items.ensures.value ∙ ap (λ (x : Records). finite.entries x.of) c.table.ensures in
-    let here : e ≡ get_or (finite.entries t.of) i e = c.listed-item.is ∙ ap (λ es. get_or es i e) entries in
-    let inside : i < length (finite.entries t.of) = omega (arith, ap length entries) in
-    subst (λ (x : ℕ × VolumeRecord). finite.get t.of x.0 ≡ Some x.1) (sym here) (listed_at t i e inside)
+    let same = c.entries-listed-items.ensures.value ∙ ap (λ (x : Records). finite.entries x.of) c.table.ensures in
+    listed_item c.args.places.now.records c.entries-listed-items.result.now c.loop-listed.listed-index c.listed-item.result same
+    c.loop-listed-test.true c.listed-item.is
 
 pub put_volume-requires-clause-sound : goal.put_volume-requires-clause-sound
 put_volume-requires-clause-sound g c =

@@ -8,7 +8,7 @@ use Rattle.ubi_media.specs.declared.record.VolumeRecord.{VolumeRecord}
 use Rattle.ubi_scan.specs.Source.{Source}
 use Rattle.ubi_table.specs.Records.{AreRecords, Records}
 use Rattle.ubi_volume.specs.declared.content.Volume.{Volume}
-use Rattle.ubi_volume.proofs.Gathered.{listed_at}
+use Rattle.ubi_volume.proofs.Gathered.{listed_at, listed_item}
 use Rattle.ubi_volume.proofs.Narrowed.{places_narrowed}
 use Rattle.ubi_volume.specs.Places.{ArePlacesOf}
 use Rattle.ubi_tool.specs.List.{volume_line}
@@ -24,13 +24,9 @@ amount_of-requires-clause-places g c =
 
 pub amount_of-requires-clause-recorded : goal.amount_of-requires-clause-recorded
 amount_of-requires-clause-recorded g c =
-    let t = c.args.places.now.records in
-    let e = c.listed-item.result in
-    let i = c.loop-listed.listed-index in
-    let entries = c.entries-listed-items.ensures.value ∙ ap (λ (x : Records). finite.entries x.of) c.table.ensures in
-    let here : e ≡ get_or (finite.entries t.of) i e = c.listed-item.is ∙ ap (λ es. get_or es i e) entries in
-    let inside : i < length (finite.entries t.of) = omega (arith, ap length entries) in
-    subst (λ (x : ℕ × VolumeRecord). finite.get t.of x.0 ≡ Some x.1) (sym here) (listed_at t i e inside)
+    let same = c.entries-listed-items.ensures.value ∙ ap (λ (x : Records). finite.entries x.of) c.table.ensures in
+    listed_item c.args.places.now.records c.entries-listed-items.result.now c.loop-listed.listed-index c.listed-item.result same
+    c.loop-listed-test.true c.listed-item.is
 
 pub amount_of-requires-clause-sound : goal.amount_of-requires-clause-sound
 amount_of-requires-clause-sound g c =

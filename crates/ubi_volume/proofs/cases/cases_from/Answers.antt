@@ -1,13 +1,11 @@
-use Rattle.std.proofs.Common.{◌≡◌, ℕ, ◌+◌, ◌<◌, ◌∙◌, [], ◌∷◌, ◌++◌, Some, get_or, length, sym, subst, ap, take, arith}
+use Rattle.std.proofs.Common.{◌≡◌, ◌+◌, ◌∙◌, [], ◌∷◌, ◌++◌, sym, subst, ap, take, arith}
 use Rattle.std.specs.Prelude.{None}
 use Rattle.std.proofs.lemmas.List.{take_more}
-use Rattle.std.specs.FinMap as finite
 use Rattle.ubi_media.specs.Geometry.{Sizes}
 use Rattle.ubi_media.specs.Record.{rec_fault}
-use Rattle.ubi_media.specs.declared.record.VolumeRecord.{VolumeRecord}
 use Rattle.ubi_scan.specs.Source.{Source, blocks_of}
 use Rattle.ubi_volume.specs.inner.Surveying.{AreChecked}
-use Rattle.ubi_volume.proofs.Gathered.{listed_at}
+use Rattle.ubi_volume.proofs.Gathered.{listed_item}
 use Rattle.ubi_volume.proofs.Narrowed.{checked_narrowed}
 use Rattle.ubi_volume.proofs.PlacesOf.{cases_more, numbered_more}
 use Rattle.ubi_volume.proofs.cases.cases_from.Goals as goal
@@ -20,14 +18,9 @@ case_of-requires-clause-checked g c =
     (checked_narrowed s _ _ agrees c.args.scan.now c.args.table.now c.loop-listed.invariant.narrows c.requires.checked)
 
 pub case_of-requires-clause-recorded : goal.case_of-requires-clause-recorded
-case_of-requires-clause-recorded g c =
-    let t = c.args.table.now in
-    let e = c.listed-item.result in
-    let i = c.loop-listed.listed-index in
-    let here : e ≡ get_or (finite.entries t.of) i e = c.listed-item.is
-    ∙ ap (λ es. get_or es i e) c.entries-listed-items.ensures.value in
-    let inside : i < length (finite.entries t.of) = omega (arith, ap length c.entries-listed-items.ensures.value) in
-    subst (λ (x : ℕ × VolumeRecord). finite.get t.of x.0 ≡ Some x.1) (sym here) (listed_at t i e inside)
+case_of-requires-clause-recorded g c = listed_item c.args.table.now c.entries-listed-items.result.now
+    c.loop-listed.listed-index c.listed-item.result c.entries-listed-items.ensures.value c.loop-listed-test.true
+    c.listed-item.is
 
 pub case_of-requires-clause-sound : goal.case_of-requires-clause-sound
 case_of-requires-clause-sound g c =

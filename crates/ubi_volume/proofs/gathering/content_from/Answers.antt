@@ -1,7 +1,6 @@
-use Rattle.std.proofs.Common.{◌≡◌, ◌*◌, ◌≤◌, arith, length, sym, subst}
+use Rattle.std.proofs.Common.{◌*◌, ◌≤◌, arith, length}
 use Rattle.std.proofs.lemmas.Nat.{mul-le}
 use Rattle.ubi_media.specs.Record.{usable}
-use Rattle.ubi_scan.specs.Source.{blocks_of}
 use Rattle.ubi_volume.proofs.ContentAt.{case_fits, damaged_reads, static_reads}
 use Rattle.ubi_volume.proofs.gathering.content_from.Goals as goal
 

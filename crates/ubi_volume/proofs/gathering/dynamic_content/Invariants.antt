@@ -1,5 +1,4 @@
-use Rattle.std.proofs.Common.{◌≡◌, ℕ, ◌<◌}
-use Rattle.std.specs.FinMap as finite
+use Rattle.std.proofs.Common.{◌≡◌}
 use Rattle.ubi_media.specs.Record.{usable}
 use Rattle.ubi_scan.specs.Source.{Narrows, WhereHeld, blocks_of}
 use Rattle.ubi_volume.specs.inner.Gathered.{AreGathered, AreTexts}

@@ -1,4 +1,4 @@
-use Rattle.std.proofs.Common.{◌++◌, ◌∙◌, ap, length, sym, arith}
+use Rattle.std.proofs.Common.{◌++◌, ◌∙◌, ap, length, arith}
 use Rattle.std.proofs.lemmas.List.{take_all}
 use Rattle.ubi_volume.proofs.gathering.static_text.Goals as goal
 

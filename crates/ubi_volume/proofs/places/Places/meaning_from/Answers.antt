@@ -1,15 +1,14 @@
-use Rattle.std.proofs.Common.{◌≡◌, ℕ, ◌+◌, ◌<◌, ◌∙◌, [], ◌∷◌, ◌++◌, Some, get_or, length, refl, sym, subst, ap, take, arith}
+use Rattle.std.proofs.Common.{◌≡◌, ◌+◌, ◌∙◌, [], ◌∷◌, ◌++◌, refl, sym, subst, ap, take, arith}
 use Rattle.std.specs.Prelude.{None}
 use Rattle.std.proofs.lemmas.List.{take_more}
 use Rattle.std.specs.FinMap as finite
 use Rattle.ubi_media.specs.Geometry.{Sizes}
 use Rattle.ubi_media.specs.Record.{rec_fault}
-use Rattle.ubi_media.specs.declared.record.VolumeRecord.{VolumeRecord}
 use Rattle.ubi_scan.specs.Source.{Source}
 use Rattle.ubi_table.specs.Records.{Records}
 use Rattle.ubi_volume.specs.inner.Gathered.{IsContentOf}
 use Rattle.ubi_volume.specs.Places.{ArePlacesOf}
-use Rattle.ubi_volume.proofs.Gathered.{contents_more, listed_at}
+use Rattle.ubi_volume.proofs.Gathered.{contents_more, listed_item}
 use Rattle.ubi_volume.proofs.MeaningOf.{meaning_is, volumes_are}
 use Rattle.ubi_volume.proofs.Narrowed.{contents_narrowed, places_narrowed}
 use Rattle.ubi_volume.proofs.places.Places.meaning_from.Goals as goal
@@ -23,13 +22,9 @@ content_from-requires-clause-places g c =
 
 pub content_from-requires-clause-recorded : goal.content_from-requires-clause-recorded
 content_from-requires-clause-recorded g c =
-    let t = c.args.self.now.records in
-    let e = c.listed-item.result in
-    let i = c.loop-listed.listed-index in
     let same = c.entries-listed-items.ensures.value ∙ ap (λ (x : Records). finite.entries x.of) c.table.ensures in
-    let here : e ≡ get_or (finite.entries t.of) i e = c.listed-item.is ∙ ap (λ es. get_or es i e) same in
-    let inside : i < length (finite.entries t.of) = omega (arith, ap length same) in
-    subst (λ (x : ℕ × VolumeRecord). finite.get t.of x.0 ≡ Some x.1) (sym here) (listed_at t i e inside)
+    listed_item c.args.self.now.records c.entries-listed-items.result.now c.loop-listed.listed-index c.listed-item.result same
+    c.loop-listed-test.true c.listed-item.is
 
 pub content_from-requires-clause-sound : goal.content_from-requires-clause-sound
 content_from-requires-clause-sound g c =
