@@ -11,7 +11,7 @@ ghost use Rattle.ubi_volume.specs.Extract.{leb_bytes};
 ghost use Rattle.ubi_volume.specs.inner.Gathered.{AreKept};
 ghost use Rattle.ubi_volume.specs.Places.{ArePlaces, ArePlacesOf};
 
-use crate::fetching::is_kept;
+use crate::fetching::holds_bytes;
 use crate::places::{PlaceContent, Places};
 use ubi_media::{Geometry, VolumeRecord};
 use ubi_scan::{BlockSource, StreamError};
@@ -50,7 +50,7 @@ fn count_kept<S: BlockSource>(
     let text = &mut buffer[..entry.usable(geometry) as usize];
     let mut count = 0;
     for lnum in 0..entry.reserved {
-        if is_kept(geometry, source, places.place(id, lnum), text)? {
+        if holds_bytes(geometry, source, places.place(id, lnum), text)? {
             count += 1;
         }
     }

@@ -1,14 +1,17 @@
 //! Logical eraseblocks of a source, by their places.
 
-ghost use Rattle.std.specs.Prelude.{◌≡◌, ◌≢◌, ◌<◌, ◌≤◌, IfErr, IfOk, IfSome, IsTrue, OnOk, if◌then◌else◌, length};
-ghost use Rattle.ubi_media.specs.Fields.{blank};
+ghost use Rattle.std.specs.Prelude.{◌≡◌, ◌≢◌, ◌<◌, ◌≤◌, IfErr, IfOk, IfSome, IsTrue, OnOk, if◌then◌else◌, length, not};
+ghost use Rattle.ubi_media.specs.Fields.{blank, is_blank};
 ghost use Rattle.ubi_media.specs.Geometry.{leb_size};
 ghost use Rattle.ubi_scan.specs.Source.{Narrows, WhereHeld, blocks_in};
 ghost use Rattle.ubi_scan.specs.Stream.{IsReadFault, after};
 ghost use Rattle.ubi_volume.specs.Extract.{leb_bytes};
 
 use ubi_media::{Geometry, is_blank};
-use ubi_scan::{BlockSource, StreamError, read_leb};
+use ubi_scan::{BlockSource, StreamError, read_leb, read_part};
+
+/// The bytes of a logical eraseblock that are looked at first: where it holds anything, most often so do they.
+const FRONT: usize = 4096;
 
 /// Fills `out` with the first bytes of a logical eraseblock, by its place ([`crate::Places::place`]): with 0xFF where it
 /// has none.
@@ -63,4 +66,47 @@ pub fn is_kept<S: BlockSource>(
     }
     read_place(geometry, source, place, text)?;
     Ok(!is_blank(text))
+}
+
+/// Whether a logical eraseblock has a place, and its first bytes, as many as the buffer has, aren't 0xFF throughout. It is
+/// read until that is known: the rest only where the first 4,096 bytes are 0xFF.
+///
+/// # Errors
+///
+/// Read where a read failed, with the count 0.
+pub fn holds_bytes<S: BlockSource>(
+    geometry: &Geometry,
+    source: &mut S,
+    place: Option<u32>,
+    buffer: &mut [u8],
+) -> Result<bool, StreamError>
+    requires block { IfSome place (λ p. p < blocks_in geometry.now (S.known source.old)) }
+    requires part { length buffer.old ≤ leb_size geometry.now }
+    ensures known { S.known source.new ≡ after (S.known source.old) result }
+    ensures narrows { Narrows (S.agrees source.old) (S.agrees source.new) }
+    ensures long { IfOk result (λ _. WhereHeld (S.agrees source.new) (λ bytes. length (leb_bytes geometry.now (length buffer.old) place bytes) ≡ length buffer.old)) }
+    ensures holds { IfOk result (λ holds. WhereHeld (S.agrees source.new) (λ bytes. holds ≡ not (is_blank (leb_bytes geometry.now (length buffer.old) place bytes)))) }
+    ensures failed { IfErr result (IsReadFault (blocks_in geometry.now (S.known source.old))) }
+{
+    let Some(p) = place else {
+        return Ok(false);
+    };
+    let front = buffer.len().min(FRONT);
+    let (first, rest) = buffer.split_at_mut(front);
+    read_leb(source, geometry, p, first)?;
+    if !is_blank(first) {
+        return Ok(true);
+    }
+    if rest.is_empty() {
+        return Ok(false);
+    }
+    prove!(geometry.data_offset() <= geometry.peb_size());
+    read_part(
+        source,
+        geometry,
+        p,
+        geometry.data_offset() + front as u32,
+        rest,
+    )?;
+    Ok(!is_blank(rest))
 }

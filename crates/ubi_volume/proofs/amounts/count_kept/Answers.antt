@@ -1,9 +1,11 @@
-use Rattle.std.proofs.Common.{◌≡◌, ◌∙◌, ℕ, arith, length, refl, subst}
-use Rattle.ubi_media.specs.Fields.{blank}
+use Rattle.std.proofs.Common.{◌≡◌, ◌∙◌, ℕ, arith, false, length, refl, subst, sym, true}
+use Rattle.ubi_media.specs.Fields.{blank, is_blank}
 use Rattle.ubi_media.specs.Record.{usable}
 use Rattle.ubi_scan.specs.Source.{blocks_of}
+use Rattle.ubi_volume.specs.Extract.{leb_bytes}
 use Rattle.ubi_volume.specs.inner.Gathered.{AreKept}
 use Rattle.ubi_volume.proofs.AmountAt.{none_kept, none_more, one_kept}
+use Rattle.ubi_volume.proofs.Blanks.{blank_text, not_false, not_true, other_text}
 use Rattle.ubi_volume.proofs.ContentAt.{front_usable}
 use Rattle.ubi_volume.proofs.VolumeAt.{leb_reads}
 use Rattle.ubi_volume.proofs.amounts.count_kept.Goals as goal
@@ -27,27 +29,33 @@ loop-lnum-preserved g c =
     ∙ front_usable s r c.usable.result c.args.buffer.now c.usable.ensures.value c.requires.room in
     elim c.if-branch.branch [
       | then-branch w ↦ record {
-        source = c.in_ok-is_kept.ensures.known ∙ still;
-        narrows = λ bytes holds. c.loop-lnum.invariant.narrows bytes (c.in_ok-is_kept.ensures.narrows bytes holds);
+        source = c.in_ok-holds_bytes.ensures.known ∙ still;
+        narrows = λ bytes holds. c.loop-lnum.invariant.narrows bytes (c.in_ok-holds_bytes.ensures.narrows bytes holds);
         kept = λ bytes holds.
-            let before = c.in_ok-is_kept.ensures.narrows bytes holds in
+            let before = c.in_ok-holds_bytes.ensures.narrows bytes holds in
             let places = c.requires.places.held bytes (c.loop-lnum.invariant.narrows bytes before) in
-            let reads = leb_reads s c.args.places.now bytes places c.args.id r n _ c.place.result c.is_kept.new.text long
-            c.place.ensures (rw w.if-branch.true at (c.in_ok-is_kept.ensures.reads bytes holds)) in
-            rw w.count-is (one_kept s (blocks_of s bytes) c.args.id r n c.loop-lnum.count c.is_kept.new.text
-            (c.loop-lnum.invariant.kept bytes before) reads (c.is_kept.auto.text ∙ long)
-            (rw long at (c.in_ok-is_kept.ensures.some w.if-branch.true)));
+            let text = leb_bytes s (length c.loop-lnum.text) c.place.result bytes in
+            let reads = leb_reads s c.args.places.now bytes places c.args.id r n _ c.place.result text long
+            c.place.ensures refl in
+            let some : is_blank text ≡ false = not_true (is_blank text)
+            (sym w.if-branch.true ∙ c.in_ok-holds_bytes.ensures.holds bytes holds) in
+            rw w.count-is (one_kept s (blocks_of s bytes) c.args.id r n c.loop-lnum.count text
+            (c.loop-lnum.invariant.kept bytes before) reads (c.in_ok-holds_bytes.ensures.long bytes holds ∙ long)
+            (other_text text (usable s r) some));
         few = (let few = c.loop-lnum.invariant.few in omega (arith, few, w.count-is));
       }
       | else-branch w ↦ record {
-        source = c.in_ok-is_kept.ensures.known ∙ still;
-        narrows = λ bytes holds. c.loop-lnum.invariant.narrows bytes (c.in_ok-is_kept.ensures.narrows bytes holds);
+        source = c.in_ok-holds_bytes.ensures.known ∙ still;
+        narrows = λ bytes holds. c.loop-lnum.invariant.narrows bytes (c.in_ok-holds_bytes.ensures.narrows bytes holds);
         kept = λ bytes holds.
-            let before = c.in_ok-is_kept.ensures.narrows bytes holds in
+            let before = c.in_ok-holds_bytes.ensures.narrows bytes holds in
             let places = c.requires.places.held bytes (c.loop-lnum.invariant.narrows bytes before) in
+            let text = leb_bytes s (length c.loop-lnum.text) c.place.result bytes in
+            let none : is_blank text ≡ true = not_false (is_blank text)
+            (sym w.if-branch.false ∙ c.in_ok-holds_bytes.ensures.holds bytes holds) in
             let reads = leb_reads s c.args.places.now bytes places c.args.id r n _ c.place.result
             (blank (length c.loop-lnum.text)) long
-            c.place.ensures (rw w.if-branch.false at (c.in_ok-is_kept.ensures.reads bytes holds)) in
+            c.place.ensures (blank_text text _ none (c.in_ok-holds_bytes.ensures.long bytes holds)) in
             rw w.count-is (none_more s (blocks_of s bytes) c.args.id r n c.loop-lnum.count
             (c.loop-lnum.invariant.kept bytes before) (rw long at reads));
         few = (let few = c.loop-lnum.invariant.few in omega (arith, few, w.count-is));
