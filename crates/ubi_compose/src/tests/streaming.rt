@@ -153,7 +153,7 @@ fn tells_which_read_of_a_text_failed(rt: HostRuntime) -> Result<(), Fail> {
     Ok(())
 }
 
-/// Each eraseblock is read 8 times at most: once more than to attach it, if it is a winner.
+/// Each eraseblock is read 7 times at most: once more than to attach it, if it is a winner.
 #[test]
 fn reads_each_piece_once_more(rt: HostRuntime) -> Result<(), Fail> {
     let alloc = rt.alloc();
@@ -163,7 +163,7 @@ fn reads_each_piece_once_more(rt: HostRuntime) -> Result<(), Fail> {
     let mut writer = ProbeWriter::new(alloc, 4096, 4096, Failure::Nothing)?;
     assert!(rt; normalise_to(alloc, &small()?, &mut source, &mut writer)? == 2048);
     assert!(rt; writer.taken() == want.as_slice());
-    assert!(rt; source.reads(2) == 8 && source.data_reads(2) == 2);
+    assert!(rt; source.reads(2) == 7 && source.data_reads(2) == 2);
     assert!(rt; source.reads(3) == 1 && source.crossing() == 0);
     Ok(())
 }

@@ -80,12 +80,12 @@ impl Case {
         Ok(self.is_answer(answer, want.len()) && writer.taken() == want)
     }
 
-    /// Whether it is so where reads are counted. Each begins and ends in one eraseblock, and there are 8 of each at most.
+    /// Whether it is so where reads are counted. Each begins and ends in one eraseblock, and there are 7 of each at most.
     fn is_read_little(&self, alloc: Global, image: &[u8], want: &[u8]) -> Result<bool, Fail> {
         let mut source = ProbeSource::new(alloc, &small()?, image, 0)?;
         let mut is_little = self.streams(alloc, &mut source, want)? && source.crossing() == 0;
         for p in 0..32 {
-            is_little = is_little && source.reads(p) <= 8;
+            is_little = is_little && source.reads(p) <= 7;
         }
         Ok(is_little)
     }

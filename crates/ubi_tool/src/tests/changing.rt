@@ -113,7 +113,7 @@ static CHANGES: [(&[Peb], &[Peb]); 8] = [
     ),
 ];
 
-/// No eraseblock is read more than 8 times, so that the last numbers of reads are those of sources that don't change.
+/// No eraseblock is read more than 7 times, so that the last numbers of reads are those of sources that don't change.
 #[test]
 fn normalises_a_source_that_changes(rt: HostRuntime) -> Result<(), Fail> {
     let alloc = rt.alloc();
