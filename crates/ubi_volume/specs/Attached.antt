@@ -6,11 +6,10 @@ use Rattle.ubi_media.specs.declared.ec.EcRead.TheVariants as ec_read
 use Rattle.ubi_media.specs.declared.record.VolumeRecord.{VolumeRecord}
 use Rattle.ubi_media.specs.declared.vid.VidRead.TheVariants as vid_read
 use Rattle.ubi_media.specs.declared.vid.VolKind.TheVariants as kind
-use Rattle.ubi_scan.specs.Image.{block, ec, vid, Image, image_of, in_image}
+use Rattle.ubi_scan.specs.Image.{block, ec, vid, Image, in_image}
 use Rattle.ubi_scan.specs.Members.{Leb, layout, IsMember, Wins}
 use Rattle.ubi_scan.specs.Numbers.{valid_ec}
 use Rattle.ubi_scan.specs.Scan.{IsDropped, Found, IsScan}
-use Rattle.ubi_scan.specs.Source.{Agreed, WhereHeld}
 use Rattle.ubi_table.specs.Records.{Records}
 use Rattle.ubi_volume.specs.Accepts.{Accepts}
 use Rattle.ubi_volume.specs.Meant.{Meant, records_of}
@@ -51,7 +50,3 @@ pub record IsAttached (image : Image) (a : Whole) : Type 0 where
   pub accepted : Accepts image a.meaning
   pub scan : in_image IsScan image a.scan
   pub states : in_image AreStates image (records_of a.meaning) a.states
-
--- it is that of the image of a source, whatever the source may hold
-abbrev pub IsAttachedOf : Sizes → Agreed → Whole → Type 0
-IsAttachedOf s agrees a = WhereHeld agrees (λ bytes. IsAttached (image_of s bytes) a)

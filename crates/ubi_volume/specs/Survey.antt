@@ -8,7 +8,7 @@ use Rattle.ubi_scan.specs.Scan.{Found}
 use Rattle.ubi_scan.specs.Source.{Agreed, Source, WhereHeld, blocks_in}
 use Rattle.ubi_table.specs.Coded.{records_code}
 use Rattle.ubi_table.specs.Records.{Records}
-use Rattle.ubi_volume.specs.Attached.{IsAttached}
+use Rattle.ubi_volume.specs.Attached.{IsAttached, Whole}
 use Rattle.ubi_volume.specs.Meant.{Meant, records_of}
 use Rattle.ubi_volume.specs.declared.attached.BlockState.{BlockState}
 use Rattle.ubi_volume.specs.contracts.attached.BlockState as state_type
@@ -36,3 +36,7 @@ pub record IsSurveyOf (s : Sizes) (k : Source) (agrees : Agreed) (v : Seen) : Ty
   pub whole : IsWholeSize s k.size
   pub count : length v.states ≡ blocks_in s k
   pub held : WhereHeld agrees (λ bytes. IsSurvey (image_of s bytes) v)
+
+-- what attaching a source gives is that of the image, whatever the source may hold
+abbrev pub IsAttachedOf : Sizes → Agreed → Whole → Type 0
+IsAttachedOf s agrees a = WhereHeld agrees (λ bytes. IsAttached (image_of s bytes) a)

@@ -5,8 +5,9 @@ ghost use Rattle.ubi_scan.specs.Image.{image_of};
 ghost use Rattle.ubi_scan.specs.Source.{Narrows};
 ghost use Rattle.ubi_scan.specs.Stream.{after};
 ghost use Rattle.ubi_volume.specs.Accepts.{IsAttachError};
-ghost use Rattle.ubi_volume.specs.Attached.{IsAttached, IsAttachedOf};
+ghost use Rattle.ubi_volume.specs.Attached.{IsAttached};
 ghost use Rattle.ubi_volume.specs.Places.{ArePlacesError};
+ghost use Rattle.ubi_volume.specs.Survey.{IsAttachedOf};
 
 use crate::attached::Attached;
 use crate::cases::cases_from;

@@ -2,7 +2,7 @@ use Rattle.std.proofs.Common.{inl, inr, length}
 use Rattle.ubi_scan.specs.Source.{Narrows, holds, sound}
 use Rattle.ubi_scan.specs.declared.errors.StreamError.TheVariants as stream
 use Rattle.ubi_scan.proofs.InMemory.{still}
-use Rattle.ubi_volume.specs.Attached.{IsAttachedOf}
+use Rattle.ubi_volume.specs.Survey.{IsAttachedOf}
 use Rattle.ubi_volume.specs.Places.{ArePlacesError}
 use Rattle.ubi_volume.proofs.attaching.attach.Goals as goal
 
