@@ -4,6 +4,7 @@ ghost use Rattle.std.specs.Prelude.{◌≡◌, [], IfOk};
 
 use crate::source::{BlockSource, SourceFault};
 use crate::trace::Trace;
+use crate::window::Window;
 use std::fs;
 use std::fs::{File, Files, OpenFile};
 use std::io::{Seek, SeekFrom};
@@ -11,12 +12,16 @@ use std::os::unix::fs::FileExt;
 
 /// A source over a file, of the size that the file had when it was opened. Of its bytes no more is known than what the
 /// reads answered: another program may write to the file at any time.
+///
+/// Where small reads follow each other closely, 16 KiB are read at once, and the next reads are answered from these. Where that
+/// fails, what was asked for is read alone.
 #[derive(Drop)]
 pub struct FileSource<F = File> {
     file: F,
     len: u64,
     failures: u64,
     trace: Trace,
+    window: Window,
 }
 
 /// Fills `out` with the bytes of a file that begin at the place `at`, and tells whether it could. A read that failed
@@ -55,6 +60,7 @@ impl<F: FileExt + OpenFile + Seek + Drop> FileSource<F> {
                 len,
                 failures: 0,
                 trace: Trace::new(),
+                window: Window::new(),
             }),
             Err(_) => Err(SourceFault),
         }
@@ -73,7 +79,9 @@ impl<F: FileExt + Drop> BlockSource for FileSource<F> {
     }
 
     fn read(&mut self, at: u64, out: &mut [u8]) -> Result<(), SourceFault> {
-        if fill(&self.file, at, out) {
+        let is_read = self.window.give(&self.file, at, out) || fill(&self.file, at, out);
+        self.window.passed(at.saturating_add(out.len() as u64));
+        if is_read {
             self.trace.note(at, out);
             return Ok(());
         }

@@ -24,6 +24,7 @@ mod scanning;
 mod size;
 mod source;
 mod trace;
+mod window;
 
 pub use blocks::Blocks;
 pub use errors::StreamError;

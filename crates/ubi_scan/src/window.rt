@@ -1,0 +1,87 @@
+//! Bytes of a file that were read ahead.
+
+ghost use Rattle.std.specs.Prelude.{◌≡◌, ◌+◌, ◌-◌, ◌≤◌, length, slice_range, true};
+
+use std::os::unix::fs::FileExt;
+
+/// The bytes that are read ahead at once.
+const SIZE: usize = 16_384;
+
+/// The greatest gap between two reads that are taken for one after the other.
+const GAP: u64 = 4096;
+
+/// Bytes of a file from some place on. Where small reads follow each other closely, as those of the headers of small
+/// eraseblocks do, the next ones are answered from it.
+#[derive(Drop)]
+pub struct Window {
+    bytes: [u8; SIZE],
+    /// The place of the first of them.
+    start: u64,
+    /// How many there are.
+    filled: usize,
+    /// Where the last read ended.
+    next: u64,
+}
+
+impl Window {
+    /// None yet.
+    pub fn new() -> Window {
+        Window {
+            bytes: [0; SIZE],
+            start: 0,
+            filled: 0,
+            next: u64::MAX,
+        }
+    }
+
+    /// Fills `out` with the bytes that begin at the place `at`, where all of them were read ahead, and tells whether it could.
+    fn answer(&self, at: u64, out: &mut [u8]) -> bool
+        ensures within { result ≡ true → self.now.start ≤ at }
+        ensures bytes { result ≡ true → out.new ≡ slice_range self.now.bytes (at - self.now.start) (at - self.now.start + length out.old) }
+    {
+        if at < self.start || at - self.start >= SIZE as u64 {
+            return false;
+        }
+        let from = (at - self.start) as usize;
+        if from + out.len().min(SIZE) > self.filled.min(SIZE) || out.len() > SIZE {
+            return false;
+        }
+        out.copy_from_slice(&self.bytes[from..from + out.len()]);
+        true
+    }
+
+    /// Reads ahead from the place `at` on, and tells whether it could. Where it can't, because the read failed or bytes are
+    /// missing, nothing is read ahead any more.
+    fn fill<F: FileExt>(&mut self, file: &F, at: u64) -> bool
+        ensures { result ≡ true → self.new.start ≡ at }
+    {
+        self.filled = 0;
+        match file.read_at(&mut self.bytes, at) {
+            Ok(count) => {
+                self.start = at;
+                self.filled = count;
+                true
+            }
+            Err(_) => false,
+        }
+    }
+
+    /// Whether a read is small, and begins closely after the one before.
+    fn follows(&self, at: u64, len: usize) -> bool {
+        len as u64 <= GAP && at >= self.next && at - self.next < GAP
+    }
+
+    /// Fills `out` with the bytes of a file that begin at the place `at`, where they were read ahead or are read ahead now, and
+    /// tells whether it could.
+    pub fn give<F: FileExt>(&mut self, file: &F, at: u64, out: &mut [u8]) -> bool {
+        if self.answer(at, out) {
+            return true;
+        }
+        self.follows(at, out.len()) && self.fill(file, at) && self.answer(at, out)
+    }
+
+    /// Takes note of where a read ended.
+    pub fn passed(&mut self, end: u64) {
+        self.next = end;
+    }
+}
