@@ -80,7 +80,7 @@ impl<F: FileExt + Drop> BlockSource for FileSource<F> {
 
     fn read(&mut self, at: u64, out: &mut [u8]) -> Result<(), SourceFault> {
         let is_read = self.window.give(&self.file, at, out) || fill(&self.file, at, out);
-        self.window.passed(at.saturating_add(out.len() as u64));
+        self.window.passed(at, at.saturating_add(out.len() as u64));
         if is_read {
             self.trace.note(at, out);
             return Ok(());

@@ -11,7 +11,8 @@ const SIZE: usize = 16_384;
 const GAP: u64 = 4096;
 
 /// Bytes of a file from some place on. Where small reads follow each other closely, as those of the headers of small
-/// eraseblocks do, the next ones are answered from it.
+/// eraseblocks do, the next ones are answered from it; a read that goes back is none of them, so that no place is answered twice
+/// from it.
 #[derive(Drop)]
 pub struct Window {
     bytes: [u8; SIZE],
@@ -19,7 +20,7 @@ pub struct Window {
     start: u64,
     /// How many there are.
     filled: usize,
-    /// Where the last read ended.
+    /// Where the last of the reads ended that didn't go back.
     next: u64,
 }
 
@@ -30,7 +31,7 @@ impl Window {
             bytes: [0; SIZE],
             start: 0,
             filled: 0,
-            next: u64::MAX,
+            next: 0,
         }
     }
 
@@ -50,8 +51,7 @@ impl Window {
         true
     }
 
-    /// Reads ahead from the place `at` on, and tells whether it could. Where it can't, because the read failed or bytes are
-    /// missing, nothing is read ahead any more.
+    /// Reads ahead from the place `at` on, and tells whether it could.
     fn fill<F: FileExt>(&mut self, file: &F, at: u64) -> bool
         ensures { result ≡ true → self.new.start ≡ at }
     {
@@ -66,22 +66,24 @@ impl Window {
         }
     }
 
-    /// Whether a read is small, and begins closely after the one before.
+    /// Whether a read is small, and begins closely after the last one.
     fn follows(&self, at: u64, len: usize) -> bool {
         len as u64 <= GAP && at >= self.next && at - self.next < GAP
     }
 
-    /// Fills `out` with the bytes of a file that begin at the place `at`, where they were read ahead or are read ahead now, and
-    /// tells whether it could.
+    /// Fills `out` with the bytes of a file that begin at the place `at`, where they follow the last read and were read ahead, or
+    /// are read ahead now, and tells whether it could.
     pub fn give<F: FileExt>(&mut self, file: &F, at: u64, out: &mut [u8]) -> bool {
-        if self.answer(at, out) {
-            return true;
+        if !self.follows(at, out.len()) {
+            return false;
         }
-        self.follows(at, out.len()) && self.fill(file, at) && self.answer(at, out)
+        self.answer(at, out) || self.fill(file, at) && self.answer(at, out)
     }
 
-    /// Takes note of where a read ended.
-    pub fn passed(&mut self, end: u64) {
-        self.next = end;
+    /// Takes note of where a read began and ended.
+    pub fn passed(&mut self, at: u64, end: u64) {
+        if at >= self.next {
+            self.next = end;
+        }
     }
 }
