@@ -1,5 +1,5 @@
 -- What attaching a source gives, by what its parts answered.
-use Rattle.std.proofs.Common.{◌≡◌, ℕ, inl, inr, cond, List, [], ◌∷◌, ◌++◌, map, refl, ap, sym, ◌∙◌, subst}
+use Rattle.std.proofs.Common.{◌≡◌, ℕ, inl, inr, cond, List, [], ◌∷◌, ◌++◌, length, map, refl, ap, sym, ◌∙◌, subst}
 use Rattle.std.specs.Prelude.{IsSome, Option, Some, None, ◌==◌, option_map}
 use Rattle.std.specs.Prelude as prelude
 use Rattle.std.specs.Cmp.{nat_cmp_total}
@@ -14,7 +14,8 @@ use Rattle.ubi_media.specs.declared.record.VolumeRecord.{VolumeRecord}
 use Rattle.ubi_media.specs.declared.refusal.Refusal.{Refusal}
 use Rattle.ubi_scan.specs.Scan.{Found, IsScan}
 use Rattle.ubi_scan.specs.Image.{IsWholeSize, image_of}
-use Rattle.ubi_scan.specs.Source.{Agreed, Source, WhereHeld, blocks_of}
+use Rattle.ubi_scan.specs.Source.{Agreed, Narrows, Source, WhereHeld, blocks_of, holds, sound}
+use Rattle.ubi_scan.proofs.InMemory.{still}
 use Rattle.ubi_scan.specs.Stream.{IsScanOf}
 use Rattle.ubi_scan.specs.declared.errors.StreamError.{StreamError}
 use Rattle.ubi_scan.specs.declared.errors.StreamError.TheVariants as stream
@@ -22,7 +23,7 @@ use Rattle.ubi_scan.proofs.Entries.{first_entry}
 use Rattle.ubi_scan.proofs.Keys.{told}
 use Rattle.ubi_table.specs.Records.{Records}
 use Rattle.ubi_table.specs.Stream.{IsTableOf}
-use Rattle.ubi_volume.specs.Accepts.{IsVolumeFault}
+use Rattle.ubi_volume.specs.Accepts.{IsVolumeFault, Refuses}
 use Rattle.ubi_volume.specs.inner.Cases.{AreCases, AreNumbered, CaseIs, case_in}
 use Rattle.ubi_volume.specs.inner.Gathered.{ContentIs}
 use Rattle.ubi_volume.specs.inner.Surveying.{AreChecked}
@@ -177,3 +178,9 @@ module _ (s : Sizes) (k : Source) (agrees : Agreed) (found : Found) (t : Records
       };
       held = held;
     }
+
+-- of bytes in memory it is why that image is refused
+pub refused_in_memory : (s : Sizes) (image left : List ℕ) (c : Refusal) → Narrows (holds image) (holds left)
+    → ArePlacesError s (sound (length image)) (holds left) (stream.Refused c) → Refuses (image_of s image) c
+refused_in_memory s image left c narrows (inl fault) = inl fault
+refused_in_memory s image left c narrows (inr h) = inr (h.0, h.1 image (still image left narrows))

@@ -1,9 +1,8 @@
-use Rattle.std.proofs.Common.{inl, inr, length}
-use Rattle.ubi_scan.specs.Source.{Narrows, holds, sound}
-use Rattle.ubi_scan.specs.declared.errors.StreamError.TheVariants as stream
+use Rattle.std.proofs.Common.{length}
+use Rattle.ubi_scan.specs.Source.{holds, sound}
 use Rattle.ubi_scan.proofs.InMemory.{still}
-use Rattle.ubi_volume.specs.Places.{ArePlacesError}
 use Rattle.ubi_volume.specs.Survey.{IsSurveyOf}
+use Rattle.ubi_volume.proofs.PlacesOf.{refused_in_memory}
 use Rattle.ubi_volume.proofs.surveying.survey.Goals as goal
 
 pub returns-in-Ok-clause-survey : goal.returns-in-Ok-clause-survey
@@ -12,18 +11,10 @@ returns-in-Ok-clause-survey c =
     let left = c.survey_from.new.source in
     let is : IsSurveyOf c.args.geometry.now (sound (length image)) (holds left) c.in-Ok.survey =
     rw c.new.ensures at c.in-Ok.ensures.survey in
-    let narrows : Narrows (holds image) (holds left) = rw c.new.ensures at c.in-Ok.ensures.narrows in
-    is.held image (still image left narrows)
+    is.held image (still image left (rw c.new.ensures at c.in-Ok.ensures.narrows))
 
 pub returns-in-Err-Refused-clause-refused : goal.returns-in-Err-Refused-clause-refused
 returns-in-Err-Refused-clause-refused c =
-    let image = c.args.image.now in
-    let left = c.survey_from.new.source in
-    let cause = c.in-Err-Refused.cause in
-    let h : ArePlacesError c.args.geometry.now (sound (length image)) (holds left) (stream.Refused cause) =
-    rw (c.in-Err-Refused.field-0-is, c.new.ensures) at c.in-Err-Refused.ensures.refused in
-    let narrows : Narrows (holds image) (holds left) = rw c.new.ensures at c.in-Err-Refused.ensures.narrows in
-    elim h [
-      | inl fault ↦ inl fault
-      | inr held ↦ inr (held.0, held.1 image (still image left narrows))
-    ]
+    refused_in_memory c.args.geometry.now c.args.image.now c.survey_from.new.source c.in-Err-Refused.cause
+    (rw c.new.ensures at c.in-Err-Refused.ensures.narrows)
+    (rw (c.in-Err-Refused.field-0-is, c.new.ensures) at c.in-Err-Refused.ensures.refused)
