@@ -38,20 +38,14 @@ pub fn attach_from<S: BlockSource>(
     let Checked { scan, table, count } = checked_from(alloc, geometry, source)?;
     let states = states_of(alloc, &scan, &table, count)?;
     let mut buffer = Vec::from_elem(alloc, 0u8, geometry.peb_size() as usize)?;
-    let contents = cases_from(
-        alloc,
-        geometry,
-        source,
-        &scan,
-        &table,
-        buffer.as_mut_slice(),
-    )?;
+    let buffer = buffer.as_mut_slice();
+    let contents = cases_from(alloc, geometry, source, &scan, &table, buffer)?;
     let places = Places {
         table,
         scan,
         contents,
     };
-    let meaning = places.meaning_from(alloc, geometry, source, buffer.as_mut_slice())?;
+    let meaning = places.meaning_from(alloc, geometry, source, buffer)?;
     let surveyed = Surveyed {
         scan: places.scan,
         table: places.table,

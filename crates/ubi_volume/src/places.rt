@@ -133,14 +133,8 @@ pub fn attach_places<S: BlockSource>(
 {
     let Checked { scan, table, .. } = checked_from(alloc, geometry, source)?;
     let mut buffer = Vec::from_elem(alloc, 0u8, geometry.peb_size() as usize)?;
-    let contents = cases_from(
-        alloc,
-        geometry,
-        source,
-        &scan,
-        &table,
-        buffer.as_mut_slice(),
-    )?;
+    let buffer = buffer.as_mut_slice();
+    let contents = cases_from(alloc, geometry, source, &scan, &table, buffer)?;
     Ok(Places {
         table,
         scan,
