@@ -8,15 +8,14 @@ They lie in a new folder below FOLDER (/tmp where it is left out), which is remo
 it isn't yet. `same` compares an image with itself, and reads it twice; so does the `cat` that it is measured against.
 
 It prints the seconds of each, as they pass and of the processor (user and system), the least of five runs, and the peak of
-memory, which needs GNU time. It ends with status 1 where `check` or `list` takes more than the file's size and 8 MiB of
-memory, or `same` more than twice the file's size and 8 MiB, or where `check` takes more than three times as long as `cat`
-as it passes.
+memory, which needs GNU time. It ends with status 1 where a command takes more than 8 MiB of memory, or where `check` takes
+longer than `cat` as it passes.
 """
 import sys
 
 from normalise import PAGE, PEB, ROOM, built_tool, options, over_images
 
-MOST = 3
+MOST = 1
 
 
 def main():
@@ -36,10 +35,8 @@ def main():
         }
 
     above = False
-    size = count * PEB / 2**20
     for _, ran in over_images(place, count, runs):
-        held = {"check": size + ROOM, "list": size + ROOM, "same": 2 * size + ROOM}
-        above |= any(ran[name][2] > most for name, most in held.items())
+        above |= any(ran[name][2] > ROOM for name in ("check", "list", "same", "extract"))
         above |= ran["check"][0] > MOST * ran["cat"][0]
     sys.exit(1 if above else 0)
 

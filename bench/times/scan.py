@@ -9,13 +9,13 @@ the words; the word IMAGE stands for the image's path. Images are made in a new 
 left out), up to 512 MiB each, and removed again. --quick leaves out the images of 1,048,576 eraseblocks.
 
 It prints a table, and ends with status 1 where a figure is above one of these limits:
-  memory   beyond the image's own bytes at most 128 bytes an eraseblock, at the peak
-  cksum    262,144 eraseblocks in at most ten times the time of `cksum` over the same file, in the same run; where all
-           data are copies that meet another, in at most fifteen times, since each check is taken then
+  memory   at most 128 bytes an eraseblock, at the peak
+  cksum    262,144 eraseblocks in at most six times the time of `cksum` over the same file, in the same run; where all
+           data are copies that meet another, in at most twenty times, since each is read apart then
   growth   from a quarter of the eraseblocks on, time grows as n log n does, and by half as much again at most: memory is
            slower where a processor's caches don't hold it
 Times are processor times (user and system), the least of three runs, so that other work on the machine counts little.
-Memory is the peak less the image's bytes and less that of a run over one eraseblock. It needs GNU time.
+Memory is the peak less that of a run over one eraseblock. It needs GNU time.
 """
 import math
 import os
@@ -31,7 +31,7 @@ ROOT = os.path.dirname(os.path.dirname(HERE))
 TIME = "/usr/bin/time"
 # As ./ubi_tool runs the program.
 ENVIRONMENT = {"GLIBC_TUNABLES": "glibc.malloc.hugetlb=1", **os.environ}
-MOST_MEMORY, MOST_CKSUMS, MOST_OF_PAIRS, MOST_GROWTH = 128, 10, 15, 1.5
+MOST_MEMORY, MOST_CKSUMS, MOST_OF_PAIRS, MOST_GROWTH = 128, 6, 20, 1.5
 MIDDLE = 2 ** 18
 SIZES = (2 ** 16, 2 ** 18, 2 ** 20)
 
@@ -92,7 +92,7 @@ def measure(folder, program, sizes):
         for count in sizes:
             path = make(folder, kind, count)
             seconds, peak = run(words_of(program, folder, path), folder)
-            memory = (peak - base - count * image.PEB) / count
+            memory = (peak - base) / count
             step = seconds / (count * math.log2(count))
             growth = step / before if before else 1.0
             before = step
