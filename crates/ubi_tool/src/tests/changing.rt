@@ -137,7 +137,12 @@ fn is_told(answer: &Outcome, want: &Outcome, has_to: bool) -> bool {
 
 /// Whether `same` tells of a source that changes after so many reads, beside one that doesn't, that both mean the same or
 /// not, or that it is refused; and the right one if it doesn't change.
-fn is_compared(alloc: Global, first: &[u8], then: &[u8], left: u64) -> Result<bool, Fail> {
+fn is_compared<'a>(
+    alloc: Global,
+    first: &'a [u8],
+    then: &'a [u8],
+    left: u64,
+) -> Result<bool, Fail> {
     let geometry = small()?;
     let mut source = Changing { first, then, left };
     let mut beside = MemorySource::new(first);
