@@ -148,9 +148,10 @@ fn is_compared<'a>(
     let mut beside = MemorySource::new(first);
     let answer = run_same_from(alloc, &geometry, &mut source, &mut beside)?;
     let text = answer.text.as_slice();
-    let is_form = match answer.status {
-        0 => text == b"same\n".as_slice(),
-        _ => text == b"different\n".as_slice() || text.starts_with(b"left refused "),
+    let is_form = if answer.status == 0 {
+        text == b"same\n".as_slice()
+    } else {
+        text == b"different\n".as_slice() || text.starts_with(b"left refused ")
     };
     let is_same = text == run_same(alloc, &geometry, first, first)?.text.as_slice();
     Ok(is_form && (is_same || left < 49))
