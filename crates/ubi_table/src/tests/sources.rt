@@ -122,9 +122,9 @@ fn reads_a_file_that_is_cut_short(rt: HostRuntime) -> Result<(), Fail> {
     let bytes = image(alloc, &geometry, &FIRST_CORRUPT)?;
     fs::write(&rt, "table.img", bytes.as_slice())?;
     let mut file = FileSource::open(&rt, "table.img")?;
+    assert!(rt; table_of(alloc, &geometry, &mut file).is_ok());
+    let mut file = FileSource::open(&rt, "table.img")?;
     let found = scan_from(alloc, &geometry, &mut file)?;
-    let error = choose_from(alloc, &geometry, &mut file, &found).err();
-    assert!(rt; error.is_none());
     fs::write(&rt, "table.img", bytes.as_slice().get(..600).unwrap_or(&[]))?;
     let error = choose_from(alloc, &geometry, &mut file, &found).err();
     assert!(rt; error == Some(StreamError::Read(1, 0)));
