@@ -1,9 +1,9 @@
 //! Each command over files of eraseblocks of 128 KiB in pages of 2 KiB, the size that chips have.
 
-use super::answers::{remove_files, run_line};
+use super::answers::{assert_says, remove_files, run_line};
 use std::alloc::{AllocError, Global};
 use std::fs;
-use std::fs::Files;
+use std::fs::{File, Files, OpenFile};
 use std::os::unix::fs::FileExt;
 use std::process::Abort;
 use std::test::Fail;
@@ -211,4 +211,38 @@ fn answers_of_eraseblocks_of_128_kib(rt: HostRuntime) -> Result<(), Fail> {
             "chip_renamed.bin",
         ],
     )
+}
+
+/// What is shown of an eraseblock that begins beyond 4 GiB, and why its image is refused, once it is read to its end: what isn't
+/// written in it reads zero, which is no header.
+static FAR: [(&str, &str, u8); 2] = [
+    (
+        "show far.img --block 2400 --peb 2097152 --page 2048",
+        "ec valid 55424923010000000000000000000000000008000000100012345678\
+            0000000000000000000000000000000000000000000000000000000000000000f0ef3182\n\
+            vid corrupt 0000000000000000000000000000000000000000000000000000000000000000\
+            0000000000000000000000000000000000000000000000000000000000000000\n",
+        0,
+    ),
+    (
+        "check far.img --peb 2097152 --page 2048",
+        "refused T1 NoTable\n",
+        1,
+    ),
+];
+
+/// The header that is shown.
+const FAR_HEADER: [u8; 64] = *b"UBI#\x01\0\0\0\0\0\0\0\0\0\0\0\0\0\x08\0\0\0\x10\0\x12\x34\x56\x78\
+    \0\0\0\0\0\0\0\0\0\0\0\0\0\0\0\0\0\0\0\0\0\0\0\0\0\0\0\0\0\0\0\0\xf0\xef\x31\x82";
+
+#[test]
+fn reads_beyond_4_gib(rt: HostRuntime) -> Result<(), Fail> {
+    let alloc = rt.alloc();
+    let file = File::create(&rt, "far.img")?;
+    file.set_len(2401 * 2_097_152)?;
+    file.write_all_at(&FAR_HEADER, 2400 * 2_097_152)?;
+    for (line, text, status) in &FAR {
+        assert_says(&rt, run_line(&rt, alloc, line)?, text, *status)?;
+    }
+    remove_files(&rt, &["far.img"])
 }
