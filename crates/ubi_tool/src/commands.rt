@@ -14,7 +14,7 @@ use crate::image_file::load;
 use crate::numbers::Numbers;
 use crate::outcome::{Outcome, WRONG_WORDS};
 use crate::output_file::write_outcome;
-use crate::readers::{check_file, list_file, same_files, show_file};
+use crate::readers::{Checking, Listing, Showing, read_file, same_files};
 use crate::rename::run_rename;
 use crate::spec_file::load_spec;
 use crate::streaming::{extract_file, normalise_file};
@@ -65,13 +65,13 @@ where
     ensures { IfOk result (IsAnswerTo request.entry) }
 {
     match request {
-        Request::List { numbers, image } => list_file(rt, alloc, numbers, image),
-        Request::Check { numbers, image } => check_file(rt, alloc, numbers, image),
+        Request::List { numbers, image } => read_file(rt, alloc, numbers, image, &Listing),
+        Request::Check { numbers, image } => read_file(rt, alloc, numbers, image, &Checking),
         Request::Show {
             numbers,
             image,
             block,
-        } => show_file(rt, alloc, numbers, image, block),
+        } => read_file(rt, alloc, numbers, image, &Showing { block }),
         Request::Extract {
             numbers,
             image,

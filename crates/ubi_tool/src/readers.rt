@@ -4,12 +4,9 @@ ghost use Rattle.std.specs.Prelude.{◌≡◌, IfErr, IfOk, List, Result, ℕ};
 ghost use Rattle.ubi_media.specs.Geometry.{Sizes};
 ghost use Rattle.ubi_scan.specs.Source.{Agreed, Narrows, Source};
 ghost use Rattle.ubi_tool.specs.AfterRun.{IsNoWrite, after_run};
-ghost use Rattle.ubi_tool.specs.Check.{ChecksOf};
 ghost use Rattle.ubi_tool.specs.inner.Ended.{IsToldOfSides, Works};
-ghost use Rattle.ubi_tool.specs.List.{ListsOf};
 ghost use Rattle.ubi_tool.specs.Program.{BothOf, OfFile};
 ghost use Rattle.ubi_tool.specs.Same.{ComparesOf};
-ghost use Rattle.ubi_tool.specs.Show.{ShowsOf};
 ghost use Rattle.ubi_tool.specs.declared.outcome.Outcome.{Outcome};
 
 use crate::check::run_check_from;
@@ -27,7 +24,7 @@ use ubi_media::Geometry;
 use ubi_scan::{BlockSource, MemorySource};
 
 /// A command that reads one image, and writes no file.
-trait Reading {
+pub trait Reading {
     // What it answers of a source.
     ghost answers: { Self → Sizes → Source → Agreed → Outcome → Type 0 };
 
@@ -50,7 +47,7 @@ trait Reading {
 
 /// `list`: the volumes.
 #[derive(Clone, Copy)]
-struct Listing;
+pub struct Listing;
 
 impl Reading for Listing {
     ghost use Rattle.ubi_tool.specs.List.{ListsOf};
@@ -69,7 +66,7 @@ impl Reading for Listing {
 
 /// `check`: the states of the eraseblocks.
 #[derive(Clone, Copy)]
-struct Checking;
+pub struct Checking;
 
 impl Reading for Checking {
     ghost use Rattle.ubi_tool.specs.Check.{ChecksOf};
@@ -88,8 +85,9 @@ impl Reading for Checking {
 
 /// `show`: the headers of one eraseblock.
 #[derive(Clone, Copy)]
-struct Showing {
-    block: u32,
+pub struct Showing {
+    /// Which one.
+    pub block: u32,
 }
 
 impl Reading for Showing {
@@ -108,7 +106,7 @@ impl Reading for Showing {
 }
 
 /// Does the work of a command over an image file.
-fn read_file<R: Files, C: Reading>(
+pub fn read_file<R: Files, C: Reading>(
     rt: &R,
     alloc: Global,
     numbers: Numbers,
@@ -134,49 +132,6 @@ where
         }
         Err(unread) => unread.answer(),
     }
-}
-
-/// Lists the volumes of a file.
-pub fn list_file<R: Files>(
-    rt: &R,
-    alloc: Global,
-    numbers: Numbers,
-    image: &str,
-) -> Result<Outcome, AllocError>
-where
-    R::File: FileExt,
-    ensures { IfOk result (OfFile numbers image.now ListsOf) }
-{
-    read_file(rt, alloc, numbers, image, &Listing)
-}
-
-/// Counts the states of the eraseblocks of a file.
-pub fn check_file<R: Files>(
-    rt: &R,
-    alloc: Global,
-    numbers: Numbers,
-    image: &str,
-) -> Result<Outcome, AllocError>
-where
-    R::File: FileExt,
-    ensures { IfOk result (OfFile numbers image.now ChecksOf) }
-{
-    read_file(rt, alloc, numbers, image, &Checking)
-}
-
-/// Shows one eraseblock of a file.
-pub fn show_file<R: Files>(
-    rt: &R,
-    alloc: Global,
-    numbers: Numbers,
-    image: &str,
-    block: u32,
-) -> Result<Outcome, AllocError>
-where
-    R::File: FileExt,
-    ensures { IfOk result (OfFile numbers image.now (ShowsOf block)) }
-{
-    read_file(rt, alloc, numbers, image, &Showing { block })
 }
 
 /// What is told of a comparison of two files once it is done: its outcome, or the line of the file of which a read failed.

@@ -1,7 +1,7 @@
 use Rattle.ubi_tool.proofs.commands.run_request.Goals as goal
 
 pub returns-in-Show : goal.returns-in-Show
-returns-in-Show g c = rw c.in-Show.is c.show_file.ensures
+returns-in-Show g c = rw c.in-Show.is c.read_file-in-Show.ensures
 
 pub returns-in-Compose : goal.returns-in-Compose
 returns-in-Compose g c = rw c.in-Compose.is c.compose_file.ensures
