@@ -9,7 +9,7 @@ use Rattle.ubi_media.specs.contracts.record.VolumeRecordPartialEq.TheImpl as rec
 use Rattle.ubi_scan.specs.Image.{block, leb}
 use Rattle.ubi_table.specs.Records.{Records}
 use Rattle.ubi_table.specs.Table.{CopyIs}
-use Rattle.ubi_table.specs.inner.OneCopy.{HasSizes}
+use Rattle.ubi_table.specs.Stream.{HasSizes}
 use Rattle.ubi_table.specs.declared.copy.CopyRead.TheVariants as copy
 use Rattle.ubi_table.proofs.Names.{Entry}
 use Rattle.ubi_table.proofs.Streamed.{copy_sizes}

@@ -10,12 +10,16 @@ use Rattle.std.proofs.lemmas.List.Folds.{flat_map-map}
 use Rattle.ubi_media.specs.Fields.{blank, is_blank}
 use Rattle.ubi_media.specs.Geometry.{Sizes}
 use Rattle.ubi_media.specs.Record.{data_pad, usable}
+use Rattle.ubi_media.specs.Vid.{plain}
 use Rattle.ubi_media.specs.declared.record.VolumeRecord.{VolumeRecord}
+use Rattle.ubi_media.specs.declared.vid.VidHeader.{VidHeader}
 use Rattle.ubi_media.specs.declared.vid.VolKind.TheVariants as kind
 use Rattle.ubi_scan.specs.Image.{block, leb}
 use Rattle.ubi_scan.specs.Members.{Wins}
-use Rattle.ubi_scan.specs.Source.{Agreed, Source, blocks_of}
+use Rattle.ubi_scan.specs.Source.{Agreed, Source, WhereHeld, blocks_in, blocks_of}
+use Rattle.ubi_scan.specs.inner.Held.{anything}
 use Rattle.ubi_scan.specs.declared.errors.StreamError.{StreamError}
+use Rattle.ubi_scan.specs.declared.errors.StreamError.TheVariants as stream
 use Rattle.ubi_scan.proofs.Decided.{Wins-unique}
 use Rattle.ubi_table.proofs.ReadBack.{pieces_more}
 use Rattle.ubi_volume.specs.Means.{LebReads, VolumeReads}
@@ -27,7 +31,7 @@ use Rattle.ubi_volume.specs.declared.content.Volume.{Volume}
 use Rattle.ubi_volume.specs.declared.places.PlaceContent.TheVariants as place
 use Rattle.ubi_volume.proofs.Blanks.{blank_text, other_text}
 use Rattle.ubi_volume.proofs.MeantRecords.{volume_is}
-use Rattle.ubi_compose.specs.inner.Streaming.{IsVolumeOf, dynamic_text, kept_bytes, volume_text}
+use Rattle.ubi_compose.specs.inner.Streaming.{IsVolumeOf, kept_bytes, kept_text, volume_text}
 use Rattle.ubi_compose.specs.Normal.{dynamic_block, laid_bytes, new_ec, volume_blocks}
 use Rattle.ubi_volume.specs.Wrote.{All, IsWroteError, Wanted, Wrote}
 use Rattle.ubi_compose.proofs.ByNumber.{Rises, by_number, kept_at}
@@ -35,11 +39,17 @@ use Rattle.ubi_compose.proofs.Lists.{all_from, held_entry}
 use Rattle.ubi_compose.proofs.Rising as rising
 use Rattle.ubi_volume.proofs.Extracted.{front_of}
 use Rattle.ubi_volume.proofs.VolumeAt.{content_is, found_or_none, found_wins, reads_of}
-use Rattle.ubi_volume.proofs.Received.{Splits, error_behind, error_front, wrote_more}
+use Rattle.ubi_volume.proofs.Narrowed.{error_where, wrote_where}
+use Rattle.ubi_volume.proofs.Received.{Splits, error_behind, error_front, error_read, wrote_more}
 
 -- the eraseblock of what is kept of a LEB
 abbrev pub leb_bytes : Sizes → ℕ → ℕ → VolumeRecord → ℕ × List ℕ → List ℕ
 leb_bytes s seq id r e = laid_bytes s (new_ec seq) (dynamic_block (data_pad s r) id e)
+
+-- the same, where that is the first `size` bytes at a place of an image, unless they are 0xFF throughout
+abbrev pub dynamic_text : Sizes → ℕ → ℕ → ℕ → ℕ → ℕ → ℕ → Wanted
+dynamic_text s seq pad vol lnum size p image text = kept_text s seq (plain kind.Dynamic 0 pad vol lnum)
+    (take size (leb s (block (blocks_of s image) p))) image text
 
 -- those of the LEBs below n
 abbrev pub first_lebs : Sizes → Placed → ℕ → VolumeRecord → ℕ → Wanted
@@ -136,7 +146,7 @@ module _ (s : Sizes) (p : Placed) (id : ℕ) (r : VolumeRecord) (recorded : fini
 
       -- and at a place that counts, what isn't blank there
       kept_there : (lnum q : ℕ) → lnum < r.reserved → Wins s bs (id, lnum) q
-          → kept_at (leb_bytes s p.image_seq id r) es lnum ≡ kept_bytes s p.image_seq (data_pad s r) id lnum (take size (leb s (block bs q)))
+          → kept_at (leb_bytes s p.image_seq id r) es lnum ≡ kept_bytes s p.image_seq (plain kind.Dynamic 0 (data_pad s r) id lnum) (take size (leb s (block bs q)))
       kept_there lnum q below w = by_kept (finite.get l lnum) refl
         where
           text : List ℕ
@@ -150,20 +160,20 @@ module _ (s : Sizes) (p : Placed) (id : ℕ) (r : VolumeRecord) (recorded : fini
           ]
 
           by_test : (x : List ℕ) (b : Bool) → is_blank x ≡ b → x ≢ blank size → length x ≡ size
-              → leb_bytes s p.image_seq id r (lnum, x) ≡ kept_bytes s p.image_seq (data_pad s r) id lnum x
+              → leb_bytes s p.image_seq id r (lnum, x) ≡ kept_bytes s p.image_seq (plain kind.Dynamic 0 (data_pad s r) id lnum) x
           by_test x true e other long = absurd (other (blank_text x size e long))
           by_test x false e other long = ap (λ b. cond b [] (leb_bytes s p.image_seq id r (lnum, x))) (sym e)
 
-          by_blank : (b : Bool) → is_blank (blank size) ≡ b → [] ≡ kept_bytes s p.image_seq (data_pad s r) id lnum (blank size)
+          by_blank : (b : Bool) → is_blank (blank size) ≡ b → [] ≡ kept_bytes s p.image_seq (plain kind.Dynamic 0 (data_pad s r) id lnum) (blank size)
           by_blank true e = ap (λ b. cond b [] (leb_bytes s p.image_seq id r (lnum, blank size))) (sym e)
           by_blank false e = absurd (other_text (blank size) size e refl)
 
           by_kept : (o : Option (List ℕ)) → finite.get l lnum ≡ o
-              → kept_at (leb_bytes s p.image_seq id r) es lnum ≡ kept_bytes s p.image_seq (data_pad s r) id lnum text
+              → kept_at (leb_bytes s p.image_seq id r) es lnum ≡ kept_bytes s p.image_seq (plain kind.Dynamic 0 (data_pad s r) id lnum) text
           by_kept None e =
               ap (λ o. option_map_or (λ x. leb_bytes s p.image_seq id r (lnum, x)) o []) (sym (finite.get-entries l lnum) ∙ e)
               ∙ by_blank (is_blank (blank size)) refl
-              ∙ ap (kept_bytes s p.image_seq (data_pad s r) id lnum)
+              ∙ ap (kept_bytes s p.image_seq (plain kind.Dynamic 0 (data_pad s r) id lnum))
               (read_is (blank size)
               (subst (λ (o : Option (List ℕ)). LebReads s bs id r lnum (unwrap_or o (blank size))) e
               (reads.2 lnum below)))
@@ -173,7 +183,7 @@ module _ (s : Sizes) (p : Placed) (id : ℕ) (r : VolumeRecord) (recorded : fini
               (subst (λ (o : Option (List ℕ)). IfSome o (λ text. text ≢ blank size)) e (no_blank lnum))
               (subst (λ (o : Option (List ℕ)). IfSome o (λ text. (lnum < r.reserved) × (length text ≡ size))) e
               (fits.2 lnum)).1
-              ∙ ap (kept_bytes s p.image_seq (data_pad s r) id lnum)
+              ∙ ap (kept_bytes s p.image_seq (plain kind.Dynamic 0 (data_pad s r) id lnum))
               (read_is x (subst (λ (o : Option (List ℕ)). LebReads s bs id r lnum (unwrap_or o (blank size))) e
               (reads.2 lnum below)))
 
@@ -249,20 +259,38 @@ module _ (s : Sizes) (p : Placed) (id : ℕ) (r : VolumeRecord) (recorded : fini
         tt,
       )
 
-  -- what is written when a place is, or isn't
+  pub dynamic_unread : (k : Source) (agrees : Agreed) (a b : Option (List ℕ)) (n q done total : ℕ) → n ≤ r.reserved
+      → q < blocks_in s k → Wrote agrees a b (first_lebs s p id r n) All done total
+      → IsWroteError s k agrees a b (volume_text s p id) done (stream.Read q total)
+  dynamic_unread k agrees a b n q done total few inside = error_read k agrees s a b (volume_text s p id)
+      (first_lebs s p id r n) (λ image text. Unit {0}) done total q inside (dynamic_front n few)
+
+  -- what is written when a LEB is, or isn't, whose place was read
   module _ (k : Source) (agrees : Agreed) (a b c : Option (List ℕ)) (n l q : ℕ) (next : IsNextPlace p id n (Some (l, q)))
-      (below : l < r.reserved) where
+      (below : l < r.reserved) (read : List ℕ) (fetched : WhereHeld agrees (λ image. read ≡ block (blocks_of s image) q))
+      (h : VidHeader) (header : h ≡ plain kind.Dynamic 0 (data_pad s r) id l) where
+    abbrev leb_text : Wanted
+    leb_text = dynamic_text s p.image_seq (data_pad s r) id l size q
+
+    abbrev put_text : Wanted
+    put_text = kept_text s p.image_seq h (take size (leb s read))
+
+    as_put : (image text : List ℕ) → agrees image → leb_text image text → put_text image text
+    as_put image text holds w =
+        w ∙ ap (λ x. kept_bytes s p.image_seq x (take size (leb s (block (blocks_of s image) q)))) (sym header)
+        ∙ ap (λ b. kept_bytes s p.image_seq h (take size (leb s b))) (sym (fetched image holds))
+
     pub dynamic_wrote : (done total more : ℕ) → Wrote agrees a b (first_lebs s p id r n) All done total
-        → Wrote agrees b c (dynamic_text s p.image_seq (data_pad s r) id l size q) All total more
-        → Wrote agrees a c (first_lebs s p id r (l + 1)) All done more
+        → Wrote anything b c put_text All total more → Wrote agrees a c (first_lebs s p id r (l + 1)) All done more
     dynamic_wrote done total more front back = wrote_more k agrees a b c (first_lebs s p id r (l + 1)) (first_lebs s p id r n)
-        (dynamic_text s p.image_seq (data_pad s r) id l size q) done total more (dynamic_step n l q next below) front back
+        leb_text done total more (dynamic_step n l q next below) front
+        (wrote_where anything agrees (λ image holds. tt) b c put_text leb_text All total more as_put back)
 
     pub dynamic_failed : (done total : ℕ) (e : StreamError) → Wrote agrees a b (first_lebs s p id r n) All done total
-        → IsWroteError s k agrees b c (dynamic_text s p.image_seq (data_pad s r) id l size q) total e
-        → IsWroteError s k agrees a c (volume_text s p id) done e
+        → IsWroteError s k anything b c put_text total e → IsWroteError s k agrees a c (volume_text s p id) done e
     dynamic_failed done total e front back =
         error_front k agrees s a c (volume_text s p id) (first_lebs s p id r (l + 1)) (λ image text. Unit {0}) done e
         (dynamic_front (l + 1) (omega arith))
-        (error_behind k agrees s a b c (first_lebs s p id r (l + 1)) (first_lebs s p id r n)
-        (dynamic_text s p.image_seq (data_pad s r) id l size q) done total e (dynamic_step n l q next below) front back)
+        (error_behind k agrees s a b c (first_lebs s p id r (l + 1)) (first_lebs s p id r n) leb_text done total e
+        (dynamic_step n l q next below) front
+        (error_where anything agrees (λ image holds. tt) s k b c put_text leb_text total e as_put back))

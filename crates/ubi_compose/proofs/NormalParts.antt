@@ -119,6 +119,7 @@ module _ (s : Sizes) (k : Source) (agrees : Agreed) (p : Placed) (places : ArePl
   not_normalised (stream.Read q n) e =
       let h = e.1 in
       let long : length h.bytes ≡ n = (let c = h.count in omega (arith, c)) in (
+        places.whole,
         e.0,
         (h.bytes, long, h.got),
         inr (λ image is.

@@ -1,19 +1,17 @@
 -- An eraseblock whose text was read from a place.
-use Rattle.std.proofs.Common.{◌≡◌, ℕ, ◌+◌, ◌-◌, ◌*◌, ◌/◌, ◌<◌, ◌≤◌, true, false, cond, List, [], ◌++◌, length, take, drop, slice_range, ap, sym, ◌∙◌, arith, length-take-le}
+use Rattle.std.proofs.Common.{◌≡◌, ℕ, ◌+◌, ◌-◌, ◌*◌, ◌/◌, ◌<◌, ◌≤◌, Bool, true, false, cond, List, [], ◌++◌, length, take, drop, slice_range, ap, sym, ◌∙◌, arith, length-take-le}
 use Rattle.std.proofs.Math.Seq.{drop-append_seam, take-append_seam}
 use Rattle.std.proofs.lemmas.List.{take-take}
 use Rattle.ubi_media.specs.Check.{check}
 use Rattle.ubi_media.specs.Fields.{is_blank}
 use Rattle.ubi_media.specs.Geometry.{Sizes}
-use Rattle.ubi_media.specs.Vid.{plain}
 use Rattle.ubi_media.specs.declared.vid.VidHeader.{VidHeader}
 use Rattle.ubi_media.specs.declared.vid.VidRead.TheVariants as vid_read
-use Rattle.ubi_media.specs.declared.vid.VolKind.TheVariants as kind
 use Rattle.ubi_scan.specs.Image.{block, leb, vid, vid_area}
 use Rattle.ubi_scan.specs.Source.{blocks_of}
 use Rattle.ubi_scan.proofs.Chunks.{get_or-first_chunks}
-use Rattle.ubi_compose.specs.inner.Streaming.{GivesCheck, kept_bytes}
-use Rattle.ubi_compose.specs.Normal.{dynamic_block, laid_bytes, new_ec, piece_header, static_block}
+use Rattle.ubi_compose.specs.inner.Streaming.{kept_bytes}
+use Rattle.ubi_compose.specs.Normal.{laid_bytes, new_ec, piece_header, static_block}
 
 -- what was put behind the headers' bytes
 pub text_is : (xs text rest : List ℕ) (n : ℕ) → length xs ≡ n
@@ -39,6 +37,10 @@ vid_area_of s b start begin room =
     take-take 64 (length b - start) (drop start b) (omega arith) ∙ ap (λ n. take n (drop start b)) count
     ∙ ap (λ n. slice_range b n (n + 64)) begin
 
+-- the header of an eraseblock gives the check of the first `len` bytes of its LEB
+abbrev pub GivesCheck : Sizes → List ℕ → ℕ → Type 0
+GivesCheck s b len = (h : VidHeader) × (vid s b ≡ vid_read.Valid h) × (h.data_crc ≡ check (take len (leb s b)))
+
 -- a piece whose check is the one that its header gave
 module _ (s : Sizes) (seq pad vol used lnum len crc : ℕ) (bytes b : List ℕ) (read : bytes ≡ b) (h : VidHeader)
     (header : h ≡ piece_header pad vol used lnum len crc) (given : (k : VidHeader) → vid s bytes ≡ vid_read.Valid k
@@ -57,20 +59,16 @@ module _ (s : Sizes) (seq pad vol used lnum len crc : ℕ) (bytes b : List ℕ) 
       ∙ ap (λ n. f n (check text)) (length-take-le len (leb s bytes) long) ∙ ap (f len) crcs
       ∙ ap (λ x. laid_bytes s (new_ec seq) (record { header = x; text = text })) (sym header)
 
-module _ (s : Sizes) (seq pad vol lnum len : ℕ) (behind leb part : List ℕ) (is : part ≡ take len behind)
-    (read : behind ≡ leb) (h : VidHeader) (t : List ℕ) where
-  same_part : part ≡ take len leb
-  same_part = is ∙ ap (take len) read
+-- a text that is 0xFF throughout isn't written, and another is
+module _ (s : Sizes) (seq : ℕ) (h : VidHeader) (part text : List ℕ) (is : part ≡ text) where
+  by_test : (b : Bool) → is_blank part ≡ b
+      → kept_bytes s seq h text ≡ cond b [] (laid_bytes s (new_ec seq) (record { header = h; text = text }))
+  by_test b e = ap (λ x. cond x [] (laid_bytes s (new_ec seq) (record { header = h; text = text })))
+      (ap is_blank (sym is) ∙ e)
 
-  pub nothing_is : is_blank part ≡ true → t ≡ kept_bytes s seq pad vol lnum (take len leb) → t ≡ []
-  nothing_is blank e = e ∙ ap (kept_bytes s seq pad vol lnum) (sym same_part)
-      ∙ ap (λ b. cond b [] (laid_bytes s (new_ec seq) (dynamic_block pad vol (lnum, part)))) blank
+  pub none_kept : is_blank part ≡ true → kept_bytes s seq h text ≡ []
+  none_kept = by_test true
 
-  pub kept_is : is_blank part ≡ false → h ≡ plain kind.Dynamic 0 pad vol lnum
-      → t ≡ kept_bytes s seq pad vol lnum (take len leb)
-      → t ≡ laid_bytes s (new_ec seq) (record { header = h; text = take len behind })
-  kept_is other header e =
-      e ∙ ap (kept_bytes s seq pad vol lnum) (sym same_part)
-      ∙ ap (λ b. cond b [] (laid_bytes s (new_ec seq) (dynamic_block pad vol (lnum, part)))) other
-      ∙ ap (λ x. laid_bytes s (new_ec seq) (record { header = x; text = part })) (sym header)
-      ∙ ap (λ x. laid_bytes s (new_ec seq) (record { header = h; text = x })) is
+  pub all_kept : is_blank part ≡ false
+      → kept_bytes s seq h text ≡ laid_bytes s (new_ec seq) (record { header = h; text = text })
+  all_kept = by_test false

@@ -22,18 +22,18 @@ refuses s k agrees bytes c is holds (inl fault) =
     inl (subst (λ (n : ℕ). IsLengthFault s n c) (sym (is.sized bytes holds)) fault)
 refuses s k agrees bytes c is holds (inr h) = inr (subst (IsWholeSize s) (sym (is.sized bytes holds)) h.0, h.1 bytes holds)
 
--- a read that fails is one that fails while attaching
-read_refused : (s : Sizes) (k : Source) (agrees : Agreed) (e : StreamError) → IsReadFault (blocks_in s k) e
-    → ArePlacesError s k agrees e
-read_refused s k agrees (stream.Refused c) h = absurd h
-read_refused s k agrees (stream.Read p n) h = h
-read_refused s k agrees (stream.Write n) h = h
-read_refused s k agrees stream.Memory h = tt
+-- a read of a source of whole eraseblocks that fails is one that fails while attaching
+read_refused : (s : Sizes) (k : Source) (agrees : Agreed) (e : StreamError) → IsWholeSize s k.size
+    → IsReadFault (blocks_in s k) e → ArePlacesError s k agrees e
+read_refused s k agrees (stream.Refused c) whole h = absurd h
+read_refused s k agrees (stream.Read p n) whole h = (whole, h)
+read_refused s k agrees (stream.Write n) whole h = h
+read_refused s k agrees stream.Memory whole h = tt
 
 -- what keeps two sources from being compared once both are attached
 pub sides_refused : (s : Sizes) (k : Source) (left : Agreed) (l : Source) (right : Agreed) (e : SameFault)
-    → WhereHeld left (λ bytes. (m : Meant) × Accepts (image_of s bytes) m)
+    → IsWholeSize s k.size → IsWholeSize s l.size → WhereHeld left (λ bytes. (m : Meant) × Accepts (image_of s bytes) m)
     → IsSidesError (blocks_in s k) (blocks_in s l) e → IsSameFault s k left l right e
-sides_refused s k left l right (fault.Left e) accepted h = read_refused s k left e h
-sides_refused s k left l right (fault.Right e) accepted h = (accepted, read_refused s l right e h)
-sides_refused s k left l right fault.Memory accepted h = tt
+sides_refused s k left l right (fault.Left e) here there accepted h = read_refused s k left e here h
+sides_refused s k left l right (fault.Right e) here there accepted h = (accepted, read_refused s l right e there h)
+sides_refused s k left l right fault.Memory here there accepted h = tt

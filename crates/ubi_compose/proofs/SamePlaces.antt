@@ -1,6 +1,6 @@
 -- Whether two images mean the same, by their places and the bytes of their LEBs.
 use Rattle.std.proofs.Common.{◌≡◌, ℕ, ◌+◌, ◌*◌, ◌<◌, inl, inr, ◌==◌, ◌&&◌, Bool, true, false, Decides, List, [], ◌∷◌, ◌++◌, length, take, get_or, refl, ap, sym, ◌∙◌, subst, arith}
-use Rattle.std.specs.Prelude.{◌↔◌, Err, IsTrue, Ok, Option, Some}
+use Rattle.std.specs.Prelude.{◌↔◌, Err, IsSome, IsTrue, None, Ok, Option, Some}
 use Rattle.std.specs.Cmp.{nat_cmp_total, unsigned_Decides}
 use Rattle.std.specs.Cmp.Lexicographic.{pointwise}
 use Rattle.std.specs.FinMap as finite
@@ -17,7 +17,7 @@ use Rattle.ubi_media.specs.contracts.record.VolumeRecordPartialEq.TheImpl as rec
 use Rattle.ubi_media.specs.declared.record.VolumeRecord.{VolumeRecord}
 use Rattle.ubi_scan.specs.Image.{image_of}
 use Rattle.ubi_table.specs.Records.{Records}
-use Rattle.ubi_volume.specs.Extract.{extent_of, leb_bytes, share_len}
+use Rattle.ubi_volume.specs.Extract.{extent_in, extent_of, leb_bytes, share_len}
 use Rattle.ubi_volume.specs.inner.Gathered.{ContentIs}
 use Rattle.ubi_volume.specs.Meant.{Meant, share}
 use Rattle.ubi_scan.specs.Source.{blocks_of}
@@ -31,7 +31,7 @@ use Rattle.ubi_volume.specs.declared.extent.Extent.{Extent}
 use Rattle.ubi_volume.specs.declared.places.PlaceContent.{PlaceContent}
 use Rattle.ubi_volume.specs.declared.places.PlaceContent.TheVariants as place
 use Rattle.ubi_volume.proofs.Equal.{record_Decides}
-use Rattle.ubi_volume.proofs.Extracted.{leb_is, piece_is, same_Ok, same_range, static_is}
+use Rattle.ubi_volume.proofs.Extracted.{extent_at, leb_is, piece_is, same_Ok, same_range, static_is}
 use Rattle.ubi_volume.proofs.One.{kept_alike, outside}
 use Rattle.ubi_volume.proofs.VolumeAt.{HasCase, case_is, content_has, content_is}
 use Rattle.ubi_compose.specs.inner.Comparing.{AreSameLebs, IsSameLeb, TellsVolume}
@@ -59,10 +59,22 @@ same_text t u e = cc
 same_kept : (l m : FinMap nat_cmp (List ℕ)) → content.Dynamic l ≡ content.Dynamic m → l ≡ m
 same_kept l m e = cc
 
+some_record : (o : Option VolumeRecord) → IsSome o → (r : VolumeRecord) × (o ≡ Some r)
+some_record None some = absurd (cc)
+some_record (Some r) some = (r, refl)
+
 module _ (s : Sizes) (p q : Placed) (x y : List ℕ) (h : ArePlaces (image_of s x) p) (k : ArePlaces (image_of s y) q)
-    (id : ℕ) (r : VolumeRecord) (here : finite.get p.records.of id ≡ Some r)
-    (there : finite.get q.records.of id ≡ Some r)
+    (id : ℕ) (some : IsSome (finite.get p.records.of id)) (same_records : p.records ≡ q.records)
     (v w : Volume) (at : finite.get h.meaning.volumes id ≡ Some v) (bt : finite.get k.meaning.volumes id ≡ Some w) where
+  abbrev r : VolumeRecord
+  r = (some_record (finite.get p.records.of id) some).0
+
+  here : finite.get p.records.of id ≡ Some r
+  here = (some_record (finite.get p.records.of id) some).1
+
+  there : finite.get q.records.of id ≡ Some r
+  there = ap (λ (t : Records). finite.get t.of id) (sym same_records) ∙ here
+
   abbrev size : ℕ
   size = usable s r
 
@@ -80,11 +92,12 @@ module _ (s : Sizes) (p q : Placed) (x y : List ℕ) (h : ArePlaces (image_of s 
   unread_is (place.Static lebs bytes) error c d none e f = absurd (cc)
   unread_is place.Dynamic error c d none e f = absurd (cc)
 
-  pub unread_same : (a : PlaceContent) (error : ReadError) → finite.get p.contents id ≡ Some a
-      → finite.get q.contents id ≡ Some a → extent_of s r a ≡ Err error → v.content ≡ w.content
-  unread_same a error one other none =
-      unread_is a error v.content w.content none (content_is s p x h id r here v at a one)
-      (content_is s q y k id r there w bt a other)
+  pub unread_same : (a b : PlaceContent) (error : ReadError) → finite.get p.contents id ≡ Some a
+      → finite.get q.contents id ≡ Some b → a ≡ b → p.records.sizes ≡ s → extent_in p id ≡ Err error
+      → v.content ≡ w.content
+  unread_same a b error one other alike sizes none =
+      unread_is a error v.content w.content (sym (extent_at s p id r a sizes here one) ∙ none)
+      (content_is s p x h id r here v at a one) (content_is s q y k id r there w bt a (other ∙ ap Some (sym alike)))
 
   static_same : (lebs bytes : ℕ) → finite.get p.contents id ≡ Some (place.Static lebs bytes)
       → finite.get q.contents id ≡ Some (place.Static lebs bytes)
@@ -145,20 +158,22 @@ module _ (s : Sizes) (p q : Placed) (x y : List ℕ) (h : ArePlaces (image_of s 
       subst (λ (z : Extent). AreSameLebs s p q id z.size z.bytes x y z.lebs ↔ (v.content ≡ w.content))
       (same_Ok _ e is) (dynamic_same one other)
 
-  pub read_same : (a : PlaceContent) (e : Extent) → finite.get p.contents id ≡ Some a
-      → finite.get q.contents id ≡ Some a → extent_of s r a ≡ Ok e
+  pub read_same : (a b : PlaceContent) (e : Extent) → finite.get p.contents id ≡ Some a
+      → finite.get q.contents id ≡ Some b → a ≡ b → p.records.sizes ≡ s → extent_in p id ≡ Ok e
       → (answer : Bool) → IsTrue answer ↔ AreSameLebs s p q id e.size e.bytes x y e.lebs → IsTrue answer
       ↔ (v.content ≡ w.content)
-  read_same a e one other is answer tells = both tells (extent_same a e one other is)
+  read_same a b e one other alike sizes reads answer tells = both tells (extent_same a e one (other ∙ ap Some (sym alike))
+      (sym (extent_at s p id r a sizes here one) ∙ reads))
 
 -- a LEB that reads the same does so by its places, and as much of it
 pub leb_same : (s : Sizes) (p q : Placed) (id size bytes : ℕ) (x y : List ℕ) (n m : ℕ) (at bt : Option ℕ)
     → m ≡ share_len size bytes n
-    → at ≡ finite.get p.winners (id, n) → bt ≡ finite.get q.winners (id, n) → IsSameLeb s p q id size bytes x y n
-    → leb_bytes s m at x ≡ leb_bytes s m bt y
-leb_same s p q id size bytes x y n m at bt long one other same =
-    ap (λ k. leb_bytes s k at x) long ∙ ap (λ (o : Option ℕ). leb_bytes s (share_len size bytes n) o x) one ∙ same
-    ∙ sym (ap (λ k. leb_bytes s k bt y) long ∙ ap (λ (o : Option ℕ). leb_bytes s (share_len size bytes n) o y) other)
+    → at ≡ finite.get p.winners (id, n) → bt ≡ finite.get q.winners (id, n)
+    → IsSameLeb s p q id size bytes x y n ↔ (leb_bytes s m at x ≡ leb_bytes s m bt y)
+leb_same s p q id size bytes x y n m at bt long one other =
+    let left = ap (λ k. leb_bytes s k at x) long ∙ ap (λ (o : Option ℕ). leb_bytes s (share_len size bytes n) o x) one in
+    let right = ap (λ k. leb_bytes s k bt y) long ∙ ap (λ (o : Option ℕ). leb_bytes s (share_len size bytes n) o y) other in
+    (λ same. left ∙ same ∙ sym right, λ same. sym left ∙ same ∙ right)
 
 module _ (s : Sizes) (p q : Placed) (x y : List ℕ) (h : ArePlaces (image_of s x) p)
     (k : ArePlaces (image_of s y) q) where
@@ -168,8 +183,8 @@ module _ (s : Sizes) (p q : Placed) (x y : List ℕ) (h : ArePlaces (image_of s 
     abbrev d : ℕ × Volume
     d = (e.0, record { entry = e.1; content = content.Updating })
 
-    there : n < length (finite.entries q.records.of)
-    there = subst (λ (t : Records). n < length (finite.entries t.of)) same inside
+    inside_too : n < length (finite.entries q.records.of)
+    inside_too = subst (λ (t : Records). n < length (finite.entries t.of)) same inside
 
     is_there : e ≡ get_or (finite.entries q.records.of) n e
     is_there = is ∙ ap (λ (t : Records). get_or (finite.entries t.of) n e) same
@@ -177,7 +192,7 @@ module _ (s : Sizes) (p q : Placed) (x y : List ℕ) (h : ArePlaces (image_of s 
     pub one_other : TellsVolume e.0 false h.meaning k.meaning → h.meaning ≡ k.meaning → ⊥
     one_other tells equal =
         let v = volume_at s p x h n e d inside is in
-        let w = volume_at s q y k n e d there is_there in
+        let w = volume_at s q y k n e d inside_too is_there in
         let one : v.0 ≡ w.0 = same_Some v.0 w.0 (sym v.4 ∙ ap (λ (m : Meant). finite.get m.volumes e.0) equal ∙ w.4) in
         false≢true ((tells v.0 w.0 v.4 w.4).1 (ap (λ (z : Volume). z.content) one))
 
@@ -189,7 +204,7 @@ module _ (s : Sizes) (p q : Placed) (x y : List ℕ) (h : ArePlaces (image_of s 
         let xs = finite.entries h.meaning.volumes in
         let ys = finite.entries k.meaning.volumes in
         let v = volume_at s p x h n e d inside is in
-        let w = volume_at s q y k n e d there is_there in
+        let w = volume_at s q y k n e d inside_too is_there in
         let record_is : v.0.entry ≡ w.0.entry = v.3 ∙ sym w.3 in
         let text_is : v.0.content ≡ w.0.content = (tells v.0 w.0 v.4 w.4).0 refl in
         let one : v.0 ≡ w.0 = λ i. record { entry = record_is i; content = text_is i } in

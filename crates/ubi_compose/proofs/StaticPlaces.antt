@@ -8,16 +8,20 @@ use Rattle.ubi_media.specs.Check.{check}
 use Rattle.ubi_media.specs.Geometry.{Sizes}
 use Rattle.ubi_media.specs.Record.{data_pad, rec_fault, usable}
 use Rattle.ubi_media.specs.declared.record.VolumeRecord.{VolumeRecord}
+use Rattle.ubi_media.specs.declared.vid.VidHeader.{VidHeader}
+use Rattle.ubi_media.specs.declared.vid.VidRead.TheVariants as vid_read
 use Rattle.ubi_media.specs.declared.vid.VolKind.TheVariants as kind
 use Rattle.ubi_media.proofs.Records.{usable_some}
-use Rattle.ubi_scan.specs.Image.{block, image_of, leb}
-use Rattle.ubi_scan.specs.Members.{NoMember, Wins}
-use Rattle.ubi_scan.specs.Source.{Agreed, Source, blocks_of}
+use Rattle.ubi_scan.specs.Image.{block, image_of, leb, vid}
+use Rattle.ubi_scan.specs.Members.{Wins}
+use Rattle.ubi_scan.specs.Source.{Agreed, Source, WhereHeld, blocks_in, blocks_of}
+use Rattle.ubi_scan.specs.inner.Held.{anything}
 use Rattle.ubi_scan.specs.declared.errors.StreamError.{StreamError}
+use Rattle.ubi_scan.specs.declared.errors.StreamError.TheVariants as stream
 use Rattle.ubi_table.proofs.ReadBack.{pieces_more}
 use Rattle.ubi_volume.specs.Means.{AreWhole, StaticReads, VolumeReads, piece}
 use Rattle.ubi_volume.specs.Meant.{pieces, share}
-use Rattle.ubi_volume.specs.Places.{IsNextPlace, Placed}
+use Rattle.ubi_volume.specs.Places.{Placed}
 use Rattle.ubi_volume.specs.declared.content.Content.{Content}
 use Rattle.ubi_volume.specs.declared.content.Content.TheVariants as content
 use Rattle.ubi_volume.specs.declared.content.Volume.{Volume}
@@ -25,19 +29,27 @@ use Rattle.ubi_volume.specs.declared.places.PlaceContent.TheVariants as place
 use Rattle.ubi_volume.proofs.Alike.{member_valid}
 use Rattle.ubi_volume.proofs.Either.{are_lebs}
 use Rattle.ubi_volume.proofs.Extracted.{front_of, static_whole}
-use Rattle.ubi_compose.specs.inner.Streaming.{GivesCheck, IsVolumeOf, static_text, volume_text}
-use Rattle.ubi_compose.specs.Normal.{laid_bytes, new_ec, static_block, static_part, volume_blocks}
+use Rattle.ubi_compose.specs.inner.Streaming.{IsVolumeOf, laid_text, volume_text}
+use Rattle.ubi_compose.proofs.Placed.{GivesCheck, piece_is}
+use Rattle.ubi_compose.specs.Normal.{laid_bytes, new_ec, piece_header, static_block, static_part, volume_blocks}
 use Rattle.ubi_volume.specs.Wrote.{All, IsWroteError, Wanted, Wrote}
 use Rattle.ubi_volume.proofs.Pieces.{length-share}
 use Rattle.ubi_volume.proofs.Shares.{header_at, share_at}
-use Rattle.ubi_volume.proofs.VolumeAt.{content_is, in_table, is_next, is_some, reads_of, table}
-use Rattle.ubi_volume.proofs.Received.{Splits, error_behind, error_front, wrote_more}
+use Rattle.ubi_volume.proofs.VolumeAt.{content_is, found_wins, in_table, reads_of, table}
+use Rattle.ubi_volume.proofs.Narrowed.{error_where, wrote_where}
+use Rattle.ubi_volume.proofs.Received.{Splits, error_behind, error_front, error_read, wrote_more}
 
 -- the eraseblocks of the first n pieces
 abbrev pub first_pieces : Sizes → Placed → ℕ → VolumeRecord → ℕ → Wanted
 first_pieces s p id r n image text =
     (v : Volume) × IsVolumeOf s p id image v × (t : List ℕ) × (v.content ≡ content.Static t)
     × (text ≡ flat_map (λ l. laid_bytes s (new_ec p.image_seq) (static_part (data_pad s r) (usable s r) id t l)) (range_with_len 0 n))
+
+-- the eraseblock of a piece of the text, which is the first `len` bytes at a place, where the header there gives their check
+abbrev pub static_text : Sizes → ℕ → ℕ → ℕ → ℕ → ℕ → ℕ → ℕ → Wanted
+static_text s seq pad vol used lnum len p image text =
+    GivesCheck s (block (blocks_of s image) p) len
+    × (text ≡ laid_bytes s (new_ec seq) (static_block pad vol used lnum (take len (leb s (block (blocks_of s image) p)))))
 
 module _ (s : Sizes) (p : Placed) (id : ℕ) (r : VolumeRecord) (recorded : finite.get p.records.of id ≡ Some r)
     (sound : rec_fault s r ≡ None) (lebs bytes : ℕ)
@@ -56,23 +68,14 @@ module _ (s : Sizes) (p : Placed) (id : ℕ) (r : VolumeRecord) (recorded : fini
     reads : (r.marker ≡ false) × (r.kind ≡ kind.Static) × StaticReads s bs id r text_of.0
     reads = subst (VolumeReads s bs id r) text_of.1 (reads_of s p image of.places id r recorded v of.at).1
 
-    not_dynamic : r.kind ≡ kind.Dynamic → ⊥
-    not_dynamic e = let f = reads.1 in cc
-
     module _ (n : ℕ) (inside : n < lebs) where
       whole : (ps : List ℕ) × AreWhole s bs id r ps × (text_of.0 ≡ flat_map (piece s bs) ps) × (n < length ps)
       whole = static_whole s p image of.places id r recorded v of.at lebs bytes text_of.0 text_of.1 text_of.2 text_of.3
           n inside
 
-      no_gap : NoMember s bs (id, n) → ⊥
-      no_gap none = none _ (whole.1.win n whole.3).member
-
-      pub static_found : IsNextPlace p id n None → ⊥
-      static_found next = is_some s p image of.places id r recorded n (λ e. absurd (not_dynamic e)) next no_gap
-
-      module _ (l q len : ℕ) (next : IsNextPlace p id n (Some (l, q))) (long : len ≡ min size (bytes - n * size)) where
+      module _ (q len : ℕ) (found : finite.get p.winners (id, n) ≡ Some q) (long : len ≡ min size (bytes - n * size)) where
         won : Wins s bs (id, n) q
-        won = is_next s p image of.places id r recorded n (λ e. absurd (not_dynamic e)) l q next no_gap
+        won = found_wins s p image of.places (id, n) q found
 
         share_is : share size text_of.0 n ≡ take len (leb s (block bs q))
         share_is =
@@ -111,17 +114,17 @@ module _ (s : Sizes) (p : Placed) (id : ℕ) (r : VolumeRecord) (recorded : fini
             ∙ ap (λ x. laid_bytes s (new_ec p.image_seq) (static_block (data_pad s r) id lebs n x)) share_is
 
   -- one piece more
-  pub static_step : (n l q len : ℕ) → n < lebs → IsNextPlace p id n (Some (l, q)) → len ≡ min size (bytes - n * size)
+  pub static_step : (n q len : ℕ) → n < lebs → finite.get p.winners (id, n) ≡ Some q → len ≡ min size (bytes - n * size)
       → Splits (first_pieces s p id r (n + 1)) (first_pieces s p id r n) (static_text s p.image_seq (data_pad s r) id lebs n len q)
-  static_step n l q len inside next long image text w =
+  static_step n q len inside found long image text w =
       let f = λ (l : ℕ). laid_bytes s (new_ec p.image_seq) (static_part (data_pad s r) size id w.2 l) in (
         flat_map f (range_with_len 0 n),
         f n,
         w.4 ∙ pieces_more f 0 n n (zero-add n),
         (w.0, w.1, w.2, w.3, refl),
         (
-          gives_check image w.0 w.1 n inside l q len next long,
-          block_is image w.0 w.1 n inside l q len next long w.2 w.3,
+          gives_check image w.0 w.1 n inside q len found long,
+          block_is image w.0 w.1 n inside q len found long w.2 w.3,
         ),
       )
 
@@ -157,22 +160,39 @@ module _ (s : Sizes) (p : Placed) (id : ℕ) (r : VolumeRecord) (recorded : fini
         tt,
       )
 
-  -- what is written when a piece is, or isn't
-  module _ (k : Source) (agrees : Agreed) (a b c : Option (List ℕ)) (n l q len : ℕ) (inside : n < lebs)
-      (next : IsNextPlace p id n (Some (l, q))) (long : len ≡ min size (bytes - n * size)) where
+  pub static_unread : (k : Source) (agrees : Agreed) (a b : Option (List ℕ)) (n q done total : ℕ) → n ≤ lebs
+      → q < blocks_in s k → Wrote agrees a b (first_pieces s p id r n) All done total
+      → IsWroteError s k agrees a b (volume_text s p id) done (stream.Read q total)
+  static_unread k agrees a b n q done total few inside = error_read k agrees s a b (volume_text s p id)
+      (first_pieces s p id r n) (λ image text. Unit {0}) done total q inside (static_front n few)
+
+  -- what is written when a piece is, or isn't, whose place was read
+  module _ (k : Source) (agrees : Agreed) (a b c : Option (List ℕ)) (n q len crc : ℕ) (inside : n < lebs)
+      (found : finite.get p.winners (id, n) ≡ Some q) (long : len ≡ min size (bytes - n * size)) (read : List ℕ)
+      (fetched : WhereHeld agrees (λ image. read ≡ block (blocks_of s image) q)) (room : len ≤ length (leb s read))
+      (h : VidHeader) (header : h ≡ piece_header (data_pad s r) id lebs n len crc)
+      (given : (k : VidHeader) → vid s read ≡ vid_read.Valid k → crc ≡ k.data_crc) where
+    abbrev piece_text : Wanted
+    piece_text = static_text s p.image_seq (data_pad s r) id lebs n len q
+
+    abbrev put_text : Wanted
+    put_text = laid_text s p.image_seq h (take len (leb s read))
+
+    as_put : (image text : List ℕ) → agrees image → piece_text image text → put_text image text
+    as_put image text holds w = piece_is s p.image_seq (data_pad s r) id lebs n len crc read (block (blocks_of s image) q)
+        (fetched image holds) h header given text room w.0 w.1
+
     pub static_wrote : (done total more : ℕ) → Wrote agrees a b (first_pieces s p id r n) All done total
-        → Wrote agrees b c (static_text s p.image_seq (data_pad s r) id lebs n len q) All total more
-        → Wrote agrees a c (first_pieces s p id r (n + 1)) All done more
+        → Wrote anything b c put_text All total more → Wrote agrees a c (first_pieces s p id r (n + 1)) All done more
     static_wrote done total more front back = wrote_more k agrees a b c (first_pieces s p id r (n + 1))
-        (first_pieces s p id r n) (static_text s p.image_seq (data_pad s r) id lebs n len q) done total more
-        (static_step n l q len inside next long) front back
+        (first_pieces s p id r n) piece_text done total more (static_step n q len inside found long) front
+        (wrote_where anything agrees (λ image holds. tt) b c put_text piece_text All total more as_put back)
 
     pub static_failed : (done total : ℕ) (e : StreamError) → Wrote agrees a b (first_pieces s p id r n) All done total
-        → IsWroteError s k agrees b c (static_text s p.image_seq (data_pad s r) id lebs n len q) total e
-        → IsWroteError s k agrees a c (volume_text s p id) done e
+        → IsWroteError s k anything b c put_text total e → IsWroteError s k agrees a c (volume_text s p id) done e
     static_failed done total e front back =
         error_front k agrees s a c (volume_text s p id) (first_pieces s p id r (n + 1)) (λ image text. Unit {0}) done e
         (static_front (n + 1) (omega arith))
-        (error_behind k agrees s a b c (first_pieces s p id r (n + 1)) (first_pieces s p id r n)
-        (static_text s p.image_seq (data_pad s r) id lebs n len q) done total e
-        (static_step n l q len inside next long) front back)
+        (error_behind k agrees s a b c (first_pieces s p id r (n + 1)) (first_pieces s p id r n) piece_text done total e
+        (static_step n q len inside found long) front
+        (error_where anything agrees (λ image holds. tt) s k b c put_text piece_text total e as_put back))

@@ -2,7 +2,7 @@
 use Rattle.std.specs.Prelude.{◌≡◌, ℕ, ◌<◌, ◌≤◌, ◌⊎◌, List, length, take, Option}
 use Rattle.std.specs.Io.KnownBytes.{Appends, Keeps}
 use Rattle.ubi_media.specs.Geometry.{Sizes}
-use Rattle.ubi_scan.specs.Image.{Image, image_of}
+use Rattle.ubi_scan.specs.Image.{Image, IsWholeSize, image_of}
 use Rattle.ubi_scan.specs.Source.{Agreed, Source, WhereHeld, blocks_in}
 use Rattle.ubi_scan.specs.declared.errors.StreamError.{StreamError}
 use Rattle.ubi_scan.specs.declared.errors.StreamError.TheVariants as stream
@@ -41,13 +41,13 @@ pub record IsNormalisedTo (s : Sizes) (agrees : Agreed) (old new : Option (List 
   pub got : HasGot old new n
   pub held : WhereHeld agrees (λ bytes. IsStreamed (image_of s bytes) old new n)
 
--- why it answers nothing: the image is refused, or memory ran out, and nothing was written; a read failed, while
--- attaching, or after n bytes were written; or a write failed after so many
+-- why it answers nothing: the image is refused, or memory ran out, and nothing was written; a read of a source of the
+-- size of an image failed, while attaching, or after n bytes were written; or a write failed after so many
 abbrev pub IsNormaliseToError : Sizes → Source → Agreed → Option (List ℕ) → Option (List ℕ) → StreamError → Type 0
 IsNormaliseToError s k agrees old new (stream.Refused c) = Keeps old new × ArePlacesError s k agrees (stream.Refused c)
 IsNormaliseToError s k agrees old new stream.Memory = Keeps old new
 IsNormaliseToError s k agrees old new (stream.Read p n) =
-    (p < blocks_in s k) × HasGot old new n
+    IsWholeSize s k.size × (p < blocks_in s k) × HasGot old new n
     × (((n ≡ 0) × Keeps old new) ⊎ WhereHeld agrees (λ bytes. IsPart (image_of s bytes) old new n))
 IsNormaliseToError s k agrees old new (stream.Write n) =
     HasGot old new n × WhereHeld agrees (λ bytes. IsCut (image_of s bytes) old new n)

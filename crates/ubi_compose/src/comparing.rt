@@ -52,10 +52,9 @@ fn same_places<L: BlockSource, R: BlockSource>(
     if !same_records(here.table(), there.table()) {
         return Ok(false);
     }
-    let mut one = Vec::from_elem(alloc, 0u8, geometry.peb_size() as usize)?;
-    let mut other = Vec::from_elem(alloc, 0u8, geometry.peb_size() as usize)?;
-    let (one, other) = (one.as_mut_slice(), other.as_mut_slice());
-    same_volumes(geometry, left, right, here, there, one, other)
+    let mut buffers = Vec::from_elem(alloc, 0u8, 2 * geometry.peb_size() as usize)?;
+    let buffers = buffers.as_mut_slice();
+    same_volumes(geometry, left, right, here, there, buffers)
 }
 
 /// Whether two sources of one geometry mean the same, as [`same`] says of images. It holds one eraseblock of contents of

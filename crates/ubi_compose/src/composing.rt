@@ -9,11 +9,12 @@ ghost use Rattle.ubi_compose.specs.Composed.{HasRoom, IsComposeError, composed, 
 ghost use Rattle.ubi_compose.specs.Normal.{IsNormalised, blocks_of, laid_bytes, layout_block, new_ec, normal_blocks};
 
 use crate::errors::ComposeError;
+use crate::header::copy_header;
 use crate::laying::{HEADER_SIZE, new_ec, put_blank, put_block};
 use crate::records::table_text;
 use crate::volume::{put_volume, volume_count};
 use std::alloc::{AllocError, Global};
-use ubi_media::{AttachError, Geometry, LAYOUT_VOLUME, REJECT, VidHeader, VolKind, write_ec};
+use ubi_media::{AttachError, Geometry, write_ec};
 use ubi_volume::{Meaning, attach};
 
 /// How many eraseblocks the normal image of a meaning has.
@@ -35,10 +36,9 @@ fn put_table(alloc: Global, image: &mut Vec<u8>, meaning: &Meaning) -> Result<()
     let geometry = meaning.geometry();
     let image_seq = meaning.image_seq();
     let text = table_text(alloc, meaning)?;
-    let first = VidHeader::plain(VolKind::Dynamic, REJECT, 0, LAYOUT_VOLUME, 0);
-    let second = VidHeader::plain(VolKind::Dynamic, REJECT, 0, LAYOUT_VOLUME, 1);
-    put_block(image, &geometry, image_seq, &first, text.as_slice())?;
-    put_block(image, &geometry, image_seq, &second, text.as_slice())
+    let (zero, one) = (copy_header(0), copy_header(1));
+    put_block(image, &geometry, image_seq, &zero, text.as_slice())?;
+    put_block(image, &geometry, image_seq, &one, text.as_slice())
 }
 
 /// Adds the eraseblocks of the volumes.

@@ -2,9 +2,19 @@
 
 ghost use Rattle.std.specs.Prelude.{◌≡◌, ◌<◌, ◌^◌, length};
 ghost use Rattle.ubi_media.specs.Check.{check};
+ghost use Rattle.ubi_media.specs.Vid.{plain};
+ghost use Rattle.ubi_media.specs.declared.vid.VolKind.TheVariants as kind;
+ghost use Rattle.ubi_scan.specs.Members.{layout};
 ghost use Rattle.ubi_compose.specs.Normal.{damaged_block, piece_header, static_block};
 
-use ubi_media::{VidHeader, VolKind, crc};
+use ubi_media::{LAYOUT_VOLUME, REJECT, VidHeader, VolKind, crc};
+
+/// The header of a copy of the volume table, 0 or 1.
+pub fn copy_header(copy: u32) -> VidHeader
+    ensures { result ≡ plain kind.Dynamic 5 0 layout copy }
+{
+    VidHeader::plain(VolKind::Dynamic, REJECT, 0, LAYOUT_VOLUME, copy)
+}
 
 /// The header of a logical eraseblock of a static volume of `used_ebs` of them, by the size of its data and their check.
 pub fn piece_header(

@@ -1,20 +1,20 @@
 //! Whether volumes of two sources read the same, one logical eraseblock of each at a time.
 //!
-//! Each buffer has the size of an eraseblock, one for each side. The places are those that were found in the sources.
+//! The buffers are as large as two eraseblocks, one for each side. The places are those that were found in the sources.
 
 ghost use Rattle.std.specs.FinMap as finite;
-ghost use Rattle.std.specs.Prelude.{◌≡◌, ◌↔◌, ◌<◌, ◌≤◌, IfErr, IfOk, IfSome, IsSome, IsTrue, length};
+ghost use Rattle.std.specs.Prelude.{◌≡◌, ◌↔◌, ◌*◌, ◌<◌, ◌≤◌, IfErr, IfOk, IfSome, IsSome, IsTrue, length};
 ghost use Rattle.ubi_media.specs.Geometry.{leb_size};
 ghost use Rattle.ubi_scan.specs.Source.{Narrows, blocks_in};
 ghost use Rattle.ubi_volume.specs.Extract.{leb_bytes};
 ghost use Rattle.ubi_volume.specs.Places.{ArePlacesOf};
 ghost use Rattle.ubi_compose.specs.Compared.{WhereBothHeld, after_left, after_right};
-ghost use Rattle.ubi_compose.specs.inner.Comparing.{AreSameLebs, IsSideRead, OfMeanings, TellsMeaning, TellsVolume};
+ghost use Rattle.ubi_compose.specs.inner.Comparing.{IsSideRead, OfMeanings, TellsMeaning, TellsVolume};
 
 use crate::errors::SameFault;
 use ubi_media::Geometry;
 use ubi_scan::BlockSource;
-use ubi_volume::{Extent, PlaceContent, Places, read_place};
+use ubi_volume::{PlaceContent, Places, read_place};
 
 fn are_equal(one: &[u8], other: &[u8]) -> bool
     ensures { IsTrue result ↔ (one.now ≡ other.now) }
@@ -69,52 +69,6 @@ fn same_leb<L: BlockSource, R: BlockSource>(
     Ok(are_equal(one, other))
 }
 
-/// Whether the bytes of a volume are the same that stand in its logical eraseblocks so.
-///
-/// # Errors
-///
-/// A read of a side failed.
-fn same_lebs<L: BlockSource, R: BlockSource>(
-    geometry: &Geometry,
-    left: &mut L,
-    right: &mut R,
-    here: &Places,
-    there: &Places,
-    id: u32,
-    extent: Extent,
-    one: &mut [u8],
-    other: &mut [u8],
-) -> Result<bool, SameFault>
-    requires here { ArePlacesOf geometry.now (L.known left.old) (L.agrees left.old) here.now }
-    requires there { ArePlacesOf geometry.now (R.known right.old) (R.agrees right.old) there.now }
-    requires one { length one.old ≡ geometry.now.peb_size }
-    requires other { length other.old ≡ geometry.now.peb_size }
-    requires size { extent.size ≤ leb_size geometry.now }
-    ensures left { L.known left.new ≡ after_left (L.known left.old) result }
-    ensures right { R.known right.new ≡ after_right (R.known right.old) result }
-    ensures left_narrows { Narrows (L.agrees left.old) (L.agrees left.new) }
-    ensures right_narrows { Narrows (R.agrees right.old) (R.agrees right.new) }
-    ensures answer { IfOk result (λ answer. WhereBothHeld (L.agrees left.new) (R.agrees right.new) (λ x y. IsTrue answer ↔ AreSameLebs geometry.now here.now there.now id extent.size extent.bytes x y extent.lebs)) }
-    ensures failed { IfErr result (IsSideRead (blocks_in geometry.now (L.known left.old)) (blocks_in geometry.now (R.known right.old))) }
-{
-    for lnum in 0..extent.lebs {
-        let len = extent.share_len(lnum);
-        let (p, q) = (here.place(id, lnum), there.place(id, lnum));
-        if !same_leb(
-            geometry,
-            left,
-            right,
-            p,
-            q,
-            &mut one[..len],
-            &mut other[..len],
-        )? {
-            return Ok(false);
-        }
-    }
-    Ok(true)
-}
-
 /// Whether the volumes with a number, which have one record, read the same.
 ///
 /// # Errors
@@ -127,15 +81,13 @@ fn same_volume<L: BlockSource, R: BlockSource>(
     here: &Places,
     there: &Places,
     id: u32,
-    one: &mut [u8],
-    other: &mut [u8],
+    buffers: &mut [u8],
 ) -> Result<bool, SameFault>
     requires here { ArePlacesOf geometry.now (L.known left.old) (L.agrees left.old) here.now }
     requires there { ArePlacesOf geometry.now (R.known right.old) (R.agrees right.old) there.now }
     requires recorded { IsSome (finite.get here.now.records.of id) }
     requires same { here.now.records ≡ there.now.records }
-    requires one { length one.old ≡ geometry.now.peb_size }
-    requires other { length other.old ≡ geometry.now.peb_size }
+    requires room { length buffers.old ≡ 2 * geometry.now.peb_size }
     ensures left { L.known left.new ≡ after_left (L.known left.old) result }
     ensures right { R.known right.new ≡ after_right (R.known right.old) result }
     ensures left_narrows { Narrows (L.agrees left.old) (L.agrees left.new) }
@@ -147,11 +99,21 @@ fn same_volume<L: BlockSource, R: BlockSource>(
     if !is_alike(content, there.content(id)) {
         return Ok(false);
     }
-    match here.extent(geometry, id) {
-        Ok(extent) => same_lebs(geometry, left, right, here, there, id, extent, one, other),
+    let extent = match here.extent(geometry, id) {
+        Ok(extent) => extent,
         // It can't be read, on neither side.
-        Err(_) => Ok(true),
+        Err(_) => return Ok(true),
+    };
+    let (one, other) = buffers.split_at_mut(geometry.peb_size() as usize);
+    for lnum in 0..extent.lebs {
+        let len = extent.share_len(lnum);
+        let (p, q) = (here.place(id, lnum), there.place(id, lnum));
+        let (one, other) = (&mut one[..len], &mut other[..len]);
+        if !same_leb(geometry, left, right, p, q, one, other)? {
+            return Ok(false);
+        }
     }
+    Ok(true)
 }
 
 /// Whether two sources with one image sequence number and one table mean the same: whether their volumes read the same.
@@ -165,15 +127,13 @@ pub fn same_volumes<L: BlockSource, R: BlockSource>(
     right: &mut R,
     here: &Places,
     there: &Places,
-    one: &mut [u8],
-    other: &mut [u8],
+    buffers: &mut [u8],
 ) -> Result<bool, SameFault>
     requires here { ArePlacesOf geometry.now (L.known left.old) (L.agrees left.old) here.now }
     requires there { ArePlacesOf geometry.now (R.known right.old) (R.agrees right.old) there.now }
     requires named { here.now.image_seq ≡ there.now.image_seq }
     requires same { here.now.records ≡ there.now.records }
-    requires one { length one.old ≡ geometry.now.peb_size }
-    requires other { length other.old ≡ geometry.now.peb_size }
+    requires room { length buffers.old ≡ 2 * geometry.now.peb_size }
     ensures left { L.known left.new ≡ after_left (L.known left.old) result }
     ensures right { R.known right.new ≡ after_right (R.known right.old) result }
     ensures left_narrows { Narrows (L.agrees left.old) (L.agrees left.new) }
@@ -183,7 +143,7 @@ pub fn same_volumes<L: BlockSource, R: BlockSource>(
 {
     for listed in here.table().entries() {
         let (id, _) = *listed;
-        if !same_volume(geometry, left, right, here, there, id, one, other)? {
+        if !same_volume(geometry, left, right, here, there, id, buffers)? {
             return Ok(false);
         }
     }

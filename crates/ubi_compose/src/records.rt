@@ -1,16 +1,14 @@
-//! The bytes of the volume table of a meaning, and of a table that was read.
+//! The bytes of the volume table of a meaning.
 
 ghost use Rattle.std.specs.FinMap as finite;
 ghost use Rattle.std.specs.Option.{ForSome, option_copied};
-ghost use Rattle.std.specs.Prelude.{◌≡◌, ◌≤◌, IfOk, None, length};
-ghost use Rattle.ubi_media.specs.Geometry.{leb_size};
+ghost use Rattle.std.specs.Prelude.{◌≡◌, IfOk, None};
 ghost use Rattle.ubi_media.specs.Record.{rec_fault};
 ghost use Rattle.ubi_table.specs.Records.{table_bytes};
 ghost use Rattle.ubi_volume.specs.Meant.{records_of};
 
 use std::alloc::{AllocError, Global};
-use ubi_media::{Geometry, RECORD_SIZE, VolumeRecord, write_rec};
-use ubi_table::Table;
+use ubi_media::{RECORD_SIZE, VolumeRecord, write_rec};
 use ubi_volume::Meaning;
 
 /// The record of a volume, None where there is none.
@@ -29,23 +27,6 @@ pub fn table_text(alloc: Global, meaning: &Meaning) -> Result<Vec<u8>, AllocErro
     let mut text = Vec::with_capacity(alloc, geometry.slots() as usize * RECORD_SIZE)?;
     for slot in 0..geometry.slots() {
         text.extend_from_slice(&write_rec(&geometry, entry_of(meaning, slot)))?;
-    }
-    Ok(text)
-}
-
-/// The bytes of a volume table. They fit a logical eraseblock.
-pub fn records_text(
-    alloc: Global,
-    geometry: &Geometry,
-    table: &Table,
-) -> Result<Vec<u8>, AllocError>
-    requires { table.now.sizes ≡ geometry.now }
-    ensures bytes { IfOk result (λ text. text.items ≡ table_bytes table.now) }
-    ensures fits { IfOk result (λ text. length text.items ≤ leb_size geometry.now) }
-{
-    let mut text = Vec::with_capacity(alloc, geometry.slots() as usize * RECORD_SIZE)?;
-    for slot in 0..geometry.slots() {
-        text.extend_from_slice(&write_rec(geometry, table.get(slot)))?;
     }
     Ok(text)
 }

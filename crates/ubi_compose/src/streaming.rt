@@ -1,60 +1,29 @@
 //! The normal image of a source, into a writer.
 //!
-//! Each buffer has the size of an eraseblock. `done` is how many bytes were written before.
+//! Each buffer has the size of an eraseblock. `done` is how many bytes were written before, and what is given how many are
+//! written then.
 
 ghost use Rattle.std.specs.Prelude.{◌≡◌, ◌+◌, ◌<◌, ◌≤◌, ◌^◌, IfErr, IfOk, length};
 ghost use Rattle.ubi_media.specs.Geometry.{leb_size};
-ghost use Rattle.ubi_media.specs.Vid.{plain};
-ghost use Rattle.ubi_media.specs.declared.vid.VolKind.TheVariants as kind;
-ghost use Rattle.ubi_scan.specs.Members.{layout};
-ghost use Rattle.ubi_scan.specs.Source.{Narrows, Source};
-ghost use Rattle.ubi_scan.specs.inner.Held.{anything};
+ghost use Rattle.ubi_scan.specs.Image.{IsWholeSize};
+ghost use Rattle.ubi_scan.specs.Source.{Narrows};
 ghost use Rattle.ubi_scan.specs.Stream.{after};
 ghost use Rattle.ubi_table.specs.Records.{table_bytes};
 ghost use Rattle.ubi_volume.specs.Places.{ArePlacesOf};
-ghost use Rattle.ubi_compose.specs.inner.Streaming.{laid_text, normal_text, volumes_text};
+ghost use Rattle.ubi_compose.specs.inner.Streaming.{normal_text, volumes_text};
 ghost use Rattle.ubi_compose.specs.Streamed.{IsNormaliseToError, IsNormalisedTo};
 ghost use Rattle.ubi_volume.specs.Wrote.{All, IsWroteError, Wrote};
 
+use crate::header::copy_header;
 use crate::placing::put_text;
-use crate::records::records_text;
 use crate::stored::put_volume;
 use std::alloc::Global;
 use std::io::Write;
-use ubi_media::{Geometry, LAYOUT_VOLUME, REJECT, VidHeader, VolKind};
+use ubi_media::Geometry;
 use ubi_scan::{BlockSource, StreamError};
 use ubi_volume::{Places, attach_places};
 
-/// Writes a copy of the volume table, 0 or 1, and gives how many bytes are written then.
-///
-/// # Errors
-///
-/// A write failed.
-fn put_copy<W: Write>(
-    geometry: &Geometry,
-    image_seq: u32,
-    copy: u32,
-    text: &[u8],
-    buffer: &mut [u8],
-    writer: &mut W,
-    done: u64,
-) -> Result<u64, StreamError>
-    requires room { length buffer.old ≡ geometry.now.peb_size }
-    requires text { length text.now ≤ leb_size geometry.now }
-    requires few { done + geometry.now.peb_size < 2 ^ 64 }
-    ensures known { (k : Source) → after k result ≡ k }
-    ensures written { IfOk result (λ n. Wrote anything (W.contents writer.old) (W.contents writer.new) (laid_text geometry.now image_seq (plain kind.Dynamic 5 0 layout copy) text.now) All done n) }
-    ensures least { IfOk result (λ n. n ≡ done + geometry.now.peb_size) }
-    ensures failed { IfErr result (λ e. (k : Source) → IsWroteError geometry.now k anything (W.contents writer.old) (W.contents writer.new) (laid_text geometry.now image_seq (plain kind.Dynamic 5 0 layout copy) text.now) done e) }
-{
-    let header = VidHeader::plain(VolKind::Dynamic, REJECT, 0, LAYOUT_VOLUME, copy);
-    match put_text(geometry, image_seq, &header, text, buffer, writer, done) {
-        Ok(total) => Ok(total),
-        Err(total) => Err(StreamError::Write(total)),
-    }
-}
-
-/// Writes the eraseblocks of the volumes, and gives how many bytes are written then.
+/// Writes the eraseblocks of the volumes.
 ///
 /// # Errors
 ///
@@ -78,8 +47,7 @@ fn put_volumes<S: BlockSource, W: Write>(
     prove!(geometry.peb_size() >= 64);
     let mut total = done;
     for listed in places.table().entries() {
-        let (id, entry) = *listed;
-        total = put_volume(geometry, source, places, id, &entry, buffer, writer, total)?;
+        total = put_volume(geometry, source, places, listed, buffer, writer, total)?;
     }
     Ok(total)
 }
@@ -109,8 +77,9 @@ fn put_image<S: BlockSource, W: Write>(
 {
     prove!(geometry.peb_size() >= 64);
     let image_seq = places.image_seq();
-    let first = put_copy(geometry, image_seq, 0, text, buffer, writer, 0)?;
-    let second = put_copy(geometry, image_seq, 1, text, buffer, writer, first)?;
+    let (zero, one) = (copy_header(0), copy_header(1));
+    let first = put_text(geometry, image_seq, &zero, text, buffer, writer, 0)?;
+    let second = put_text(geometry, image_seq, &one, text, buffer, writer, first)?;
     put_volumes(geometry, source, places, buffer, writer, second)
 }
 
@@ -130,10 +99,11 @@ pub fn normalise_to<S: BlockSource, W: Write>(
     ensures known { S.known source.new ≡ after (S.known source.old) result }
     ensures narrows { Narrows (S.agrees source.old) (S.agrees source.new) }
     ensures written { IfOk result (IsNormalisedTo geometry.now (S.agrees source.new) (W.contents writer.old) (W.contents writer.new)) }
+    ensures whole { IfOk result (λ _. IsWholeSize geometry.now (S.known source.old).size) }
     ensures refused { IfErr result (IsNormaliseToError geometry.now (S.known source.old) (S.agrees source.new) (W.contents writer.old) (W.contents writer.new)) }
 {
     let places = attach_places(alloc, geometry, source)?;
-    let text = records_text(alloc, geometry, places.table())?;
+    let text = places.table().encode(alloc)?;
     let mut buffer = Vec::from_elem(alloc, 0u8, geometry.peb_size() as usize)?;
     put_image(
         geometry,

@@ -5,6 +5,7 @@ pub mod Chunks
 pub mod Clean
 pub mod Compatible
 pub mod Counted
+pub mod Counters
 pub mod Decided
 pub mod Either
 pub mod Entries
@@ -18,6 +19,7 @@ pub mod Moved
 pub mod Narrowed
 pub mod Next
 pub mod OneFault
+pub mod OneScan
 pub mod Parts
 pub mod Places
 pub mod ReadParts

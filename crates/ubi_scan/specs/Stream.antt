@@ -43,11 +43,11 @@ pub record IsScanOf (s : Sizes) (k : Source) (agrees : Agreed) (found : Found) :
   pub within : LiesWithin (blocks_in s k) found
   pub held : WhereHeld agrees (λ bytes. IsScan s (blocks_of s bytes) found)
 
--- why it fails: the source's size isn't that of an image; or its eraseblocks are refused for their fault; or a read
--- failed, or memory ran out
+-- why it fails: the source's size isn't that of an image; or it is, and its eraseblocks are refused for their fault, or a
+-- read failed; or memory ran out
 abbrev pub IsScanOfError : Sizes → Source → Agreed → StreamError → Type 0
 IsScanOfError s k agrees (stream.Refused c) =
     IsLengthFault s k.size c ⊎ (IsWholeSize s k.size × WhereHeld agrees (λ bytes. IsScanFault s (blocks_of s bytes) c))
-IsScanOfError s k agrees (stream.Read p written) = IsReadFault (blocks_in s k) (stream.Read p written)
+IsScanOfError s k agrees (stream.Read p written) = IsWholeSize s k.size × IsReadFault (blocks_in s k) (stream.Read p written)
 IsScanOfError s k agrees (stream.Write _) = ⊥
 IsScanOfError s k agrees stream.Memory = Unit {0}

@@ -1,5 +1,7 @@
 -- Definitions that only private functions' contracts and proofs cite.
+pub mod Ahead
 pub mod Choice
 pub mod Counts
 pub mod Held
+pub mod Named
 pub mod Pass

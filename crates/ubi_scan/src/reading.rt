@@ -4,6 +4,7 @@ ghost use Rattle.std.specs.Prelude.{◌≡◌, ◌+◌, ◌*◌, ◌<◌, ◌≤
 ghost use Rattle.ubi_media.specs.Geometry.{leb_size};
 ghost use Rattle.ubi_scan.specs.Image.{block, ec, leb, vid};
 ghost use Rattle.ubi_scan.specs.Members.{member};
+ghost use Rattle.ubi_scan.specs.Numbers.{CounterFits};
 ghost use Rattle.ubi_scan.specs.Source.{Narrows, WhereHeld, blocks_in, blocks_of};
 ghost use Rattle.ubi_scan.specs.Stream.{IsReadFault, after};
 
@@ -30,6 +31,7 @@ pub fn read_part<S: BlockSource>(
     ensures narrows { Narrows (S.agrees source.old) (S.agrees source.new) }
     ensures bytes { OnOk result (WhereHeld (S.agrees source.new) (λ bytes. out.new ≡ slice_range (block (blocks_of geometry.now bytes) p) start (start + length out.old))) }
     ensures failed { IfErr result (IsReadFault (blocks_in geometry.now (S.known source.old))) }
+    ensures names { IfErr result (λ e. e ≡ StreamError.Read p 0) }
 {
     let at = u64::from(p) * u64::from(geometry.peb_size()) + u64::from(start);
     match source.read(at, out) {
@@ -55,7 +57,9 @@ pub fn read_headers<S: BlockSource>(
     ensures narrows { Narrows (S.agrees source.old) (S.agrees source.new) }
     ensures ec { IfOk result (λ h. WhereHeld (S.agrees source.new) (λ bytes. h.0 ≡ ec geometry.now (block (blocks_of geometry.now bytes) p))) }
     ensures vid { IfOk result (λ h. WhereHeld (S.agrees source.new) (λ bytes. h.1 ≡ vid geometry.now (block (blocks_of geometry.now bytes) p))) }
+    ensures counter { IfOk result (λ h. CounterFits h.0) }
     ensures failed { IfErr result (IsReadFault (blocks_in geometry.now (S.known source.old))) }
+    ensures names { IfErr result (λ e. e ≡ StreamError.Read p 0) }
 {
     let start = geometry.vid_offset() as usize;
     prove!(geometry.data_offset() <= geometry.peb_size());
@@ -84,6 +88,7 @@ pub fn read_member<S: BlockSource>(
     ensures narrows { Narrows (S.agrees source.old) (S.agrees source.new) }
     ensures member { IfOk result (λ header. WhereHeld (S.agrees source.new) (λ bytes. header ≡ member geometry.now (block (blocks_of geometry.now bytes) p))) }
     ensures failed { IfErr result (IsReadFault (blocks_in geometry.now (S.known source.old))) }
+    ensures names { IfErr result (λ e. e ≡ StreamError.Read p 0) }
 {
     let (ec, vid) = read_headers(source, geometry, p, buffer)?;
     Ok(member_of(&ec, &vid))
@@ -106,6 +111,7 @@ pub fn read_leb<S: BlockSource>(
     ensures narrows { Narrows (S.agrees source.old) (S.agrees source.new) }
     ensures bytes { OnOk result (WhereHeld (S.agrees source.new) (λ bytes. out.new ≡ slice_range (leb geometry.now (block (blocks_of geometry.now bytes) p)) 0 (length out.old))) }
     ensures failed { IfErr result (IsReadFault (blocks_in geometry.now (S.known source.old))) }
+    ensures names { IfErr result (λ e. e ≡ StreamError.Read p 0) }
 {
     prove!(geometry.data_offset() <= geometry.peb_size());
     read_part(source, geometry, p, geometry.data_offset(), out)

@@ -1,6 +1,6 @@
 //! The scan of an image, over a source of its bytes.
 
-ghost use Rattle.std.specs.Prelude.{◌≡◌, ◌<◌, length, IfErr, IfOk, IfSome, false, unwrap_or};
+ghost use Rattle.std.specs.Prelude.{◌≡◌, ◌<◌, ◌≤◌, ◌⊎◌, length, IfErr, IfOk, IfSome, false, unwrap_or};
 ghost use Rattle.std.specs.Option.{option_map_or};
 ghost use Rattle.ubi_scan.specs.Image.{IsWholeSize, block, in_image};
 ghost use Rattle.ubi_scan.specs.inner.Choice.{held_of};
@@ -36,6 +36,7 @@ fn is_right<S: BlockSource>(
     ensures narrows { Narrows (S.agrees source.old) (S.agrees source.new) }
     ensures right { IfOk result (λ right. WhereHeld (S.agrees source.new) (λ bytes. right ≡ is_right geometry.now (block (blocks_of geometry.now bytes) p) header.now)) }
     ensures failed { IfErr result (IsReadFault (blocks_in geometry.now (S.known source.old))) }
+    ensures names { IfErr result (λ e. e ≡ StreamError.Read p 0) }
 {
     let size = header.data_size.min(geometry.leb_size()) as usize;
     prove!(geometry.data_offset() <= geometry.peb_size());
@@ -59,6 +60,7 @@ fn is_good<S: BlockSource>(
     ensures narrows { Narrows (S.agrees source.old) (S.agrees source.new) }
     ensures good { IfOk result (λ good. WhereHeld (S.agrees source.new) (λ bytes. good ≡ option_map_or (is_good geometry.now (block (blocks_of geometry.now bytes) p)) (member_if ec.now vid.now) false)) }
     ensures failed { IfErr result (IsReadFault (blocks_in geometry.now (S.known source.old))) }
+    ensures names { IfErr result (λ e. e ≡ StreamError.Read p 0) }
 {
     match member_of(ec, vid) {
         Some(header) if header.copy_flag => is_right(source, geometry, p, &header, buffer),
@@ -80,6 +82,7 @@ fn is_held_good<S: BlockSource>(
     ensures narrows { Narrows (S.agrees source.old) (S.agrees source.new) }
     ensures good { IfOk result (λ good. WhereHeld (S.agrees source.new) (λ bytes. good ≡ unwrap_or held.now.good (good_at geometry.now (blocks_of geometry.now bytes) held.now.peb))) }
     ensures failed { IfErr result (IsReadFault (blocks_in geometry.now (S.known source.old))) }
+    ensures names { IfErr result (λ e. e ≡ StreamError.Read held.now.peb 0) }
 {
     match held.good {
         Some(good) => Ok(good),
@@ -110,6 +113,7 @@ fn meeting<S: BlockSource>(
     ensures held { IfOk result (λ met. held_of met ≡ held) }
     ensures good { IfOk result (λ met. WhereHeld (S.agrees source.new) (λ bytes. IfSome met (IsMeeting geometry.now (blocks_of geometry.now bytes) p ec.now vid.now))) }
     ensures failed { IfErr result (IsReadFault (blocks_in geometry.now (S.known source.old))) }
+    ensures names { IfErr result (λ e. (e ≡ StreamError.Read p 0) ⊎ IfSome held (λ c. e ≡ StreamError.Read c.peb 0)) }
 {
     let Some(held) = held else {
         return Ok(None);
@@ -137,6 +141,7 @@ fn scan_blocks<S: BlockSource>(
     ensures known { S.known source.new ≡ after (S.known source.old) result }
     ensures narrows { Narrows (S.agrees source.old) (S.agrees source.new) }
     ensures found { IfOk result (IsScanOf geometry.now (S.known source.old) (S.agrees source.new)) }
+    ensures mean { IfOk result (λ found. found.mean_ec ≤ 0x7FFFFFFF) }
     ensures refused { IfErr result (IsScanOfError geometry.now (S.known source.old) (S.agrees source.new)) }
 {
     let mut pass = Pass::new(alloc);
@@ -169,6 +174,7 @@ pub fn scan_from<S: BlockSource>(
     ensures known { S.known source.new ≡ after (S.known source.old) result }
     ensures narrows { Narrows (S.agrees source.old) (S.agrees source.new) }
     ensures found { IfOk result (IsScanOf geometry.now (S.known source.old) (S.agrees source.new)) }
+    ensures mean { IfOk result (λ found. found.mean_ec ≤ 0x7FFFFFFF) }
     ensures refused { IfErr result (IsScanOfError geometry.now (S.known source.old) (S.agrees source.new)) }
 {
     let count = block_count(geometry, source.len())?;

@@ -1,6 +1,7 @@
 //! Bytes of a file that were read ahead.
 
-ghost use Rattle.std.specs.Prelude.{◌≡◌, ◌+◌, ◌-◌, ◌≤◌, length, slice_range, true};
+ghost use Rattle.std.specs.Prelude.{◌≡◌, ◌≤◌, true};
+ghost use Rattle.ubi_scan.specs.inner.Ahead.{HoldsAt};
 
 use std::os::unix::fs::FileExt;
 
@@ -26,7 +27,9 @@ pub struct Window {
 
 impl Window {
     /// None yet.
-    pub fn new() -> Window {
+    pub fn new() -> Window
+        ensures { result.filled ≡ 0 }
+    {
         Window {
             bytes: [0; SIZE],
             start: 0,
@@ -37,8 +40,7 @@ impl Window {
 
     /// Fills `out` with the bytes that begin at the place `at`, where all of them were read ahead, and tells whether it could.
     fn answer(&self, at: u64, out: &mut [u8]) -> bool
-        ensures within { result ≡ true → self.now.start ≤ at }
-        ensures bytes { result ≡ true → out.new ≡ slice_range self.now.bytes (at - self.now.start) (at - self.now.start + length out.old) }
+        ensures { result ≡ true → HoldsAt self.now at out.new }
     {
         if at < self.start || at - self.start >= SIZE as u64 {
             return false;
@@ -73,7 +75,9 @@ impl Window {
 
     /// Fills `out` with the bytes of a file that begin at the place `at`, where they follow the last read and were read ahead, or
     /// are read ahead now, and tells whether it could.
-    pub fn give<F: FileExt>(&mut self, file: &F, at: u64, out: &mut [u8]) -> bool {
+    pub fn give<F: FileExt>(&mut self, file: &F, at: u64, out: &mut [u8]) -> bool
+        ensures { result ≡ true → HoldsAt self.new at out.new }
+    {
         if !self.follows(at, out.len()) {
             return false;
         }
@@ -81,7 +85,12 @@ impl Window {
     }
 
     /// Takes note of where a read began and ended.
-    pub fn passed(&mut self, at: u64, end: u64) {
+    pub fn passed(&mut self, at: u64, end: u64)
+        ensures bytes { self.new.bytes ≡ self.old.bytes }
+        ensures start { self.new.start ≡ self.old.start }
+        ensures filled { self.new.filled ≡ self.old.filled }
+        ensures next { self.old.next ≤ at → self.new.next ≡ end }
+    {
         if at >= self.next {
             self.next = end;
         }

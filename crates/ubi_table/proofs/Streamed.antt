@@ -7,7 +7,8 @@ use Rattle.ubi_media.specs.declared.record.RecRead.TheVariants as read
 use Rattle.ubi_scan.specs.Source.{Agreed, Source, WhereHeld, blocks_of}
 use Rattle.ubi_scan.specs.declared.errors.StreamError.{StreamError}
 use Rattle.ubi_scan.specs.declared.errors.StreamError.TheVariants as stream
-use Rattle.ubi_table.specs.inner.OneCopy.{HasSizes, IsCopyOfError}
+use Rattle.ubi_table.specs.Stream.{HasSizes}
+use Rattle.ubi_table.specs.inner.OneCopy.{IsCopyOfError}
 use Rattle.ubi_table.proofs.Deciding.{NoneDecides, fault_chosen}
 use Rattle.ubi_table.specs.Records.{is_faulty, readings, records_in, twice}
 use Rattle.ubi_table.specs.Stream.{IsTableOfError}

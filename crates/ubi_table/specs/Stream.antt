@@ -9,6 +9,8 @@ use Rattle.ubi_scan.specs.declared.errors.StreamError.{StreamError}
 use Rattle.ubi_scan.specs.declared.errors.StreamError.TheVariants as stream
 use Rattle.ubi_table.specs.Records.{HasSpace, Records}
 use Rattle.ubi_table.specs.Table.{IsTableFault, IsTable}
+use Rattle.ubi_table.specs.declared.copy.CopyRead.{CopyRead}
+use Rattle.ubi_table.specs.declared.copy.CopyRead.TheVariants as copy
 
 -- an error: memory ran out, or why there is no table
 abbrev pub IsTableError : Sizes → List (List ℕ) → AttachError → Type 0
@@ -29,3 +31,13 @@ IsTableOfError s k agrees (stream.Refused c) = WhereHeld agrees (λ bytes. IsTab
 IsTableOfError s k agrees (stream.Read p written) = IsReadFault (blocks_in s k) (stream.Read p written)
 IsTableOfError s k agrees (stream.Write _) = ⊥
 IsTableOfError s k agrees stream.Memory = Unit {0}
+
+-- the table of a copy, if it is one, has these sizes
+abbrev pub HasSizes : Sizes → CopyRead → Type 0
+HasSizes s (copy.Good t) = t.sizes ≡ s
+HasSizes s _ = Unit {0}
+
+-- why a copy can't be read: a read failed, or memory ran out
+abbrev pub IsCopyReadError : ℕ → StreamError → Type 0
+IsCopyReadError n stream.Memory = Unit {0}
+IsCopyReadError n e = IsReadFault n e

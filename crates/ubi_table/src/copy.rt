@@ -6,8 +6,8 @@ ghost use Rattle.ubi_scan.specs.Image.{in_image};
 ghost use Rattle.ubi_scan.specs.Scan.{IsScan};
 ghost use Rattle.ubi_scan.specs.Source.{Narrows, WhereHeld, blocks_in, blocks_of};
 ghost use Rattle.ubi_scan.specs.Stream.{IsScanOf, after};
-ghost use Rattle.ubi_table.specs.inner.OneCopy.{HasSizes, IsCopyReadError};
 ghost use Rattle.ubi_table.specs.Records.{first_named, twice};
+ghost use Rattle.ubi_table.specs.Stream.{HasSizes, IsCopyReadError};
 ghost use Rattle.ubi_table.specs.Table.{CopyIs, copy_of};
 
 use crate::table::Table;

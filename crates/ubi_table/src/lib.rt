@@ -14,7 +14,7 @@ mod naming;
 mod table;
 
 pub use choosing::{choose, choose_from};
-pub use copy::{CopyRead, read_copy};
+pub use copy::{CopyRead, read_copy, read_copy_from};
 pub use table::Table;
 
 #[cfg(test)]

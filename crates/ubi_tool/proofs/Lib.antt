@@ -9,4 +9,5 @@ pub mod Extracted
 pub mod Listing
 pub mod Normalised
 pub mod Outcomes
+pub mod Requests
 pub mod Showing

@@ -55,8 +55,8 @@ streamed_to_unknown image new n h = record { meaning = h.meaning; accepted = h.a
 
 to_unknown : (s : Sizes) (k : Source) (agrees : Agreed) (new : Option (List ℕ)) (o : Outcome)
     → NormalisesTo s k agrees None new o → NormalisesTo s k agrees None None o
-to_unknown s k agrees new o (wrote n h line) =
-    wrote n
+to_unknown s k agrees new o (wrote n whole h line) =
+    wrote n whole
     (record {
       got = (h.got.0, h.got.1, tt);
       held = λ bytes is. streamed_to_unknown (image_of s bytes) new n (h.held bytes is);

@@ -1,5 +1,7 @@
 -- What outcomes tell.
 use Rattle.std.proofs.Common.{◌≡◌, ℕ, ◌≤◌, ◌∙◌, List, Some, None, length, subst, sym}
+use Rattle.std.specs.Io.KnownBytes.{Appends}
+use Rattle.std.specs.Option.{option_and_then}
 use Rattle.std.specs.Prelude.{IsSome, MatchResult, Ok, Err, Option, Result, IfOk, option_map}
 use Rattle.std.specs.declared.alloc.AllocError.{AllocError}
 use Rattle.std.specs.declared.alloc.Global.{Global}
@@ -21,6 +23,7 @@ use Rattle.ubi_tool.specs.Program.{IsRead, WritesFile, OfImage, OfText, Tells, t
 use Rattle.ubi_tool.specs.Program as program
 use Rattle.ubi_tool.specs.Rename.{IsPlannedRename, Renames, RenamesInto}
 use Rattle.ubi_tool.specs.Rename as rename
+use Rattle.ubi_tool.specs.inner.Received.{Received}
 use Rattle.ubi_tool.specs.declared.image_file.Unread.{Unread}
 use Rattle.ubi_tool.specs.declared.image_file.Unread.TheVariants.{Memory, Told}
 use Rattle.ubi_tool.specs.declared.numbers.Numbers.{Numbers}
@@ -113,3 +116,9 @@ pub told : (is : Outcome → Type 0) (u : Unread) (r : Result Outcome AllocError
     → MatchResult r (λ o. u ≡ Told o) (λ _. u ≡ Memory) → IfOk r is
 told is u (Ok o) h e = subst (Tells is) e h
 told is u (Err x) h e = tt
+
+-- what an open file took is what it received
+pub received : {F : Type 0} (contents : F → Option (List ℕ)) (file : Option F) (now : Option (List ℕ)) (bytes : List ℕ)
+    → IsSome file → Appends (option_and_then contents file) now bytes → Received contents now bytes
+received contents None now bytes some h = absurd (cc)
+received contents (Some f) now bytes some h = (f, h)

@@ -1,12 +1,14 @@
 -- What the program's users may rely on, as one fact over the definitions.
 use Rattle.ubi_volume.specs.Laws.{NeverBoth, OneCause, OneOrOther}
+use Rattle.ubi_volume.specs.MeaningLaws.{OneMeaning}
 use Rattle.ubi_compose.specs.Laws.{Normalising}
 use Rattle.ubi_change.specs.Laws.{PlanSurvives}
 
 -- of accepted images of one geometry, two mean the same exactly if their normalised images are equal byte for byte;
--- normalising keeps the meaning and twice is once; an image is refused exactly where a stated fault stands, which is one
--- cause; and an atomic change cut after any whole step means the old or the new
+-- normalising keeps the meaning and twice is once; an image has one meaning at most; it is refused exactly where a stated
+-- fault stands, which is one cause; and an atomic change cut after any whole step means the old or the new
 pub record Headline : Type 0 where
+  pub one_meaning : OneMeaning
   pub normalising : Normalising
   pub accepted_or_refused : OneOrOther
   pub never_both : NeverBoth

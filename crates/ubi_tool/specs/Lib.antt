@@ -6,6 +6,7 @@ pub mod CommandLine
 pub mod Compose
 pub mod Extract
 pub mod Headline
+pub mod Late
 pub mod Laws
 pub mod Lines
 pub mod List
@@ -19,4 +20,5 @@ pub mod Read
 pub mod Rename
 pub mod Same
 pub mod Show
+pub mod Tool
 pub mod inner

@@ -3,7 +3,7 @@ use Rattle.std.specs.Prelude.{ℕ, ◌/◌, List, Option, None, codes, length}
 use Rattle.std.specs.Io.KnownBytes.{Appends, Keeps}
 use Rattle.ubi_media.specs.Geometry.{Sizes}
 use Rattle.ubi_media.specs.declared.refusal.Refusal.{Refusal}
-use Rattle.ubi_scan.specs.Image.{Image, image_of}
+use Rattle.ubi_scan.specs.Image.{Image, IsWholeSize, image_of}
 use Rattle.ubi_scan.specs.Source.{Agreed, Source, WhereHeld}
 use Rattle.ubi_scan.specs.declared.errors.StreamError.TheVariants as stream
 use Rattle.ubi_volume.specs.Accepts.{Accepts, Refuses}
@@ -25,10 +25,10 @@ pub data Normalises (image : Image) (old new : Option (List ℕ)) : Outcome → 
   refused : {o : Outcome} (c : Refusal) → Refuses image c → Gives o (says (refusal_line c) 1) → Keeps old new
       → Normalises image old new o
 
--- what it answers of any source: how many eraseblocks the n bytes are that the writer received; or the line of a
--- refusal, and the writer received nothing
+-- what it answers of any source: of one that has the size of an image how many eraseblocks the n bytes are that the
+-- writer received; or the line of a refusal, and the writer received nothing
 pub data NormalisesTo (s : Sizes) (k : Source) (agrees : Agreed) (old new : Option (List ℕ)) : Outcome → Type 0 where
-  wrote : {o : Outcome} (n : ℕ) → IsNormalisedTo s agrees old new n → Gives o (says (blocks_line (n / s.peb_size)) 0)
+  wrote : {o : Outcome} (n : ℕ) → IsWholeSize s k.size → IsNormalisedTo s agrees old new n → Gives o (says (blocks_line (n / s.peb_size)) 0)
       → NormalisesTo s k agrees old new o
   wrote_nothing : {o : Outcome} (c : Refusal) → ArePlacesError s k agrees (stream.Refused c) → Gives o (says (refusal_line c) 1)
       → Keeps old new → NormalisesTo s k agrees old new o

@@ -1,11 +1,14 @@
 //! The command line: which words there are, and what they ask for.
 
-ghost use Rattle.std.specs.Prelude.{◌≡◌, IfOk, IfSome, Some, codes};
+ghost use Rattle.std.specs.Prelude.{◌≡◌, ◌∷◌, [], IfOk, IfSome, Some, codes, false};
 ghost use Rattle.clap.specs.Matches.{subcommand_name_of};
 ghost use Rattle.clap.specs.Built.{subcommand_names};
-ghost use Rattle.clap.specs.declared.builder.command.Command.TheViews.{out-Command};
+ghost use Rattle.clap.specs.Simple.{app_of, new_rule, new_shape};
+ghost use Rattle.clap.specs.Walk.{Text, rule_of};
 ghost use Rattle.ubi_tool.specs.CommandLine.{Asks, AsksChange, AsksNumbers, AsksRename, HasNumber, HasText, MayHaveNumber, command_name, command_names, words_behind};
-ghost use Rattle.ubi_tool.specs.inner.CommandLine.{HasOneMore, words_in};
+ghost use Rattle.ubi_tool.specs.Tool as tool;
+ghost use Rattle.ubi_tool.specs.Tool.{tool as whole};
+ghost use Rattle.ubi_tool.specs.inner.CommandLine.{HasOneMore, alone, words_in};
 
 use crate::numbers::Numbers;
 use clap::{Arg, ArgMatches, Command, value_parser};
@@ -115,7 +118,8 @@ Exit status: 0 done; 1 refused, different, a file that fails, or out of memory;
 
 /// The whole command line. A command line is used up by reading words, so that each call makes a new one.
 pub fn command_line<'a>(alloc: Global) -> Result<Command<'a>, AllocError>
-    ensures { IfOk result (λ c. subcommand_names c ≡ command_names) }
+    ensures names { IfOk result (λ c. subcommand_names c ≡ command_names) }
+    ensures app { IfOk result (λ c. app_of c ≡ whole) }
 {
     let tool = Command::new(alloc, "ubi_tool")
         .about(ABOUT)
@@ -263,13 +267,13 @@ fn rename_of<'a>(matches: &'a ArgMatches<'_>) -> Option<Request<'a>>
 }
 
 fn list_command<'a>(alloc: Global) -> Result<Command<'a>, AllocError>
-    ensures { IfOk result (λ c. (out-Command c).name.now ≡ codes "list") }
+    ensures { IfOk result (λ c. app_of c ≡ alone tool.list) }
 {
     image_command(alloc, "list", "Prints a line for each volume of an image")
 }
 
 fn check_command<'a>(alloc: Global) -> Result<Command<'a>, AllocError>
-    ensures { IfOk result (λ c. (out-Command c).name.now ≡ codes "check") }
+    ensures { IfOk result (λ c. app_of c ≡ alone tool.check) }
 {
     image_command(
         alloc,
@@ -279,14 +283,17 @@ fn check_command<'a>(alloc: Global) -> Result<Command<'a>, AllocError>
 }
 
 fn show_command<'a>(alloc: Global) -> Result<Command<'a>, AllocError>
-    ensures { IfOk result (λ c. (out-Command c).name.now ≡ codes "show") }
+    ensures { IfOk result (λ c. app_of c ≡ alone tool.show) }
 {
     let command = image_command(alloc, "show", "Prints the headers of one eraseblock")?;
     command.arg(block(alloc))
 }
 
 /// The option that names an eraseblock.
-fn block<'a>(alloc: Global) -> Arg<'a> {
+fn block<'a>(alloc: Global) -> Arg<'a>
+    ensures rule { rule_of result ≡ tool.needed (tool.number (codes "block")) }
+    ensures global { result.global ≡ false }
+{
     Arg::new(alloc, "block")
         .long("block")
         .value_name("P")
@@ -296,14 +303,14 @@ fn block<'a>(alloc: Global) -> Arg<'a> {
 }
 
 fn extract_command<'a>(alloc: Global) -> Result<Command<'a>, AllocError>
-    ensures { IfOk result (λ c. (out-Command c).name.now ≡ codes "extract") }
+    ensures { IfOk result (λ c. app_of c ≡ alone tool.extract) }
 {
     let command = out_command(alloc, "extract", "Writes what a volume reads")?;
     command.arg(number(alloc, "id", ID).required(true))
 }
 
 fn compose_command<'a>(alloc: Global) -> Result<Command<'a>, AllocError>
-    ensures { IfOk result (λ c. (out-Command c).name.now ≡ codes "compose") }
+    ensures { IfOk result (λ c. app_of c ≡ alone tool.compose) }
 {
     let about = "Writes the image that a text describes";
     let command = device_command(alloc, "compose", about)?;
@@ -314,14 +321,17 @@ fn compose_command<'a>(alloc: Global) -> Result<Command<'a>, AllocError>
 }
 
 /// The word that names the text file.
-fn spec_file<'a>(alloc: Global) -> Arg<'a> {
+fn spec_file<'a>(alloc: Global) -> Arg<'a>
+    ensures rule { rule_of result ≡ tool.needed (new_rule (codes "SPEC")) }
+    ensures global { result.global ≡ false }
+{
     Arg::new(alloc, "SPEC")
         .help("The text that describes the volumes")
         .required(true)
 }
 
 fn normalise_command<'a>(alloc: Global) -> Result<Command<'a>, AllocError>
-    ensures { IfOk result (λ c. (out-Command c).name.now ≡ codes "normalise") }
+    ensures { IfOk result (λ c. app_of c ≡ alone tool.normalise) }
 {
     out_command(
         alloc,
@@ -331,14 +341,17 @@ fn normalise_command<'a>(alloc: Global) -> Result<Command<'a>, AllocError>
 }
 
 fn same_command<'a>(alloc: Global) -> Result<Command<'a>, AllocError>
-    ensures { IfOk result (λ c. (out-Command c).name.now ≡ codes "same") }
+    ensures { IfOk result (λ c. app_of c ≡ alone tool.same) }
 {
     let command = image_command(alloc, "same", "Says whether two images mean the same")?;
     command.arg(other_image(alloc))
 }
 
 /// The word that names the second image file.
-fn other_image<'a>(alloc: Global) -> Arg<'a> {
+fn other_image<'a>(alloc: Global) -> Arg<'a>
+    ensures rule { rule_of result ≡ tool.needed (record (new_rule (codes "OTHER")) { value_names = 1 }) }
+    ensures global { result.global ≡ false }
+{
     Arg::new(alloc, "OTHER")
         .value_name("IMAGE")
         .help("The image to compare it with")
@@ -346,7 +359,7 @@ fn other_image<'a>(alloc: Global) -> Arg<'a> {
 }
 
 fn change_command<'a>(alloc: Global) -> Result<Command<'a>, AllocError>
-    ensures { IfOk result (λ c. (out-Command c).name.now ≡ codes "change") }
+    ensures { IfOk result (λ c. app_of c ≡ alone tool.change) }
 {
     let command = out_command(alloc, "change", CHANGE)?;
     let command = command.arg(number(alloc, "id", ID).required(true))?;
@@ -356,7 +369,10 @@ fn change_command<'a>(alloc: Global) -> Result<Command<'a>, AllocError>
 }
 
 /// The option that names the file of the new bytes.
-fn new_bytes<'a>(alloc: Global) -> Arg<'a> {
+fn new_bytes<'a>(alloc: Global) -> Arg<'a>
+    ensures rule { rule_of result ≡ tool.needed (tool.option (codes "from")) }
+    ensures global { result.global ≡ false }
+{
     Arg::new(alloc, "from")
         .long("from")
         .value_name("FILE")
@@ -365,7 +381,7 @@ fn new_bytes<'a>(alloc: Global) -> Arg<'a> {
 }
 
 fn rename_command<'a>(alloc: Global) -> Result<Command<'a>, AllocError>
-    ensures { IfOk result (λ c. (out-Command c).name.now ≡ codes "rename") }
+    ensures { IfOk result (λ c. app_of c ≡ alone tool.rename) }
 {
     let command = out_command(alloc, "rename", RENAME)?;
     let command = command.arg(number(alloc, "id", ID).required(true))?;
@@ -374,7 +390,10 @@ fn rename_command<'a>(alloc: Global) -> Result<Command<'a>, AllocError>
 }
 
 /// The option that gives the new name.
-fn new_name<'a>(alloc: Global) -> Arg<'a> {
+fn new_name<'a>(alloc: Global) -> Arg<'a>
+    ensures rule { rule_of result ≡ tool.needed (tool.option (codes "name")) }
+    ensures global { result.global ≡ false }
+{
     Arg::new(alloc, "name")
         .long("name")
         .value_name("NAME")
@@ -384,14 +403,17 @@ fn new_name<'a>(alloc: Global) -> Arg<'a> {
 
 /// A command over an image file that writes another file.
 fn out_command<'a>(alloc: Global, name: &'a str, about: &'a str) -> Result<Command<'a>, AllocError>
-    ensures { IfOk result (λ c. (out-Command c).name.now ≡ name.now) }
+    ensures { IfOk result (λ c. app_of c ≡ alone (tool.on_image name.now (tool.output ∷ []))) }
 {
     let command = image_command(alloc, name, about)?;
     command.arg(out_file(alloc))
 }
 
 /// The option that names the output file.
-fn out_file<'a>(alloc: Global) -> Arg<'a> {
+fn out_file<'a>(alloc: Global) -> Arg<'a>
+    ensures rule { rule_of result ≡ tool.output }
+    ensures global { result.global ≡ false }
+{
     Arg::new(alloc, "out")
         .long("out")
         .value_name("FILE")
@@ -405,14 +427,17 @@ fn image_command<'a>(
     name: &'a str,
     about: &'a str,
 ) -> Result<Command<'a>, AllocError>
-    ensures { IfOk result (λ c. (out-Command c).name.now ≡ name.now) }
+    ensures { IfOk result (λ c. app_of c ≡ alone (tool.on_image name.now [])) }
 {
     let command = device_command(alloc, name, about)?;
     command.arg(image_file(alloc))
 }
 
 /// The word that names the image file.
-fn image_file<'a>(alloc: Global) -> Arg<'a> {
+fn image_file<'a>(alloc: Global) -> Arg<'a>
+    ensures rule { rule_of result ≡ tool.needed (new_rule (codes "IMAGE")) }
+    ensures global { result.global ≡ false }
+{
     Arg::new(alloc, "IMAGE")
         .help("The raw dump, without out-of-band bytes")
         .required(true)
@@ -424,14 +449,14 @@ fn device_command<'a>(
     name: &'a str,
     about: &'a str,
 ) -> Result<Command<'a>, AllocError>
-    ensures { IfOk result (λ c. (out-Command c).name.now ≡ name.now) }
+    ensures { IfOk result (λ c. app_of c ≡ alone (tool.command name.now [])) }
 {
     with_numbers(alloc, Command::new(alloc, name).about(about))
 }
 
 /// Adds the numbers of a geometry to a command.
 fn with_numbers<'a>(alloc: Global, command: Command<'a>) -> Result<Command<'a>, AllocError>
-    ensures { IfOk result (λ c. (out-Command c).name.now ≡ (out-Command command.entry).name.now) }
+    ensures { IfOk result (λ c. (name : Text) → app_of command.entry ≡ alone (new_shape name) → app_of c ≡ alone (tool.command name [])) }
 {
     let command = command.arg(number(alloc, "peb", PEB).required(true))?;
     let command = command.arg(number(alloc, "page", PAGE).required(true))?;
@@ -465,7 +490,10 @@ const DATA: &str = "The offset of the data in an eraseblock [default: two pages]
 const PEBS: &str = "The eraseblocks of the device [default: 1048576]";
 
 /// An option that takes a number of 32 bits.
-fn number<'a>(alloc: Global, name: &'a str, help: &'a str) -> Arg<'a> {
+fn number<'a>(alloc: Global, name: &'a str, help: &'a str) -> Arg<'a>
+    ensures rule { rule_of result ≡ tool.number name.now }
+    ensures global { result.global ≡ false }
+{
     Arg::new(alloc, name)
         .long(name)
         .value_name("N")

@@ -1,7 +1,8 @@
 //! The commands over files: what the words ask for is read, done and written.
 
 ghost use Rattle.clap.specs.Values.{kind_of};
-ghost use Rattle.std.specs.Prelude.{◌≡◌, ◌↔◌, IfOk, IsErr};
+ghost use Rattle.std.specs.Prelude.{◌≡◌, ◌↔◌, [], IfOk, IfSome, IsErr, None, map, string_bytes};
+ghost use Rattle.ubi_tool.specs.Answer.{Gives, says};
 ghost use Rattle.ubi_tool.specs.Change.{ChangesInto};
 ghost use Rattle.ubi_tool.specs.Compose.{ComposesInto};
 ghost use Rattle.ubi_tool.specs.Program.{IsAnswer, IsAnswerTo, OfImage, OfText};
@@ -41,19 +42,34 @@ pub fn run_words<R: Files + Eprint>(
 ) -> Result<Outcome, AllocError>
 where
     R::File: FileExt,
-    ensures { IfOk result IsAnswer }
+    ensures { IfOk result (IsAnswer (map (λ word. string_bytes word) words.now)) }
 {
     let matches = match command_line(alloc)?.try_get_matches_from(words) {
         Ok(matches) => matches,
         Err(error) => return wrong_words(rt, alloc, &error),
     };
-    match request_of(&matches) {
+    run_asked(rt, alloc, request_of(&matches), is_watched)
+}
+
+/// Runs what the words ask for, where they ask for anything.
+fn run_asked<R: Files + Eprint>(
+    rt: &R,
+    alloc: Global,
+    request: Option<Request<'_>>,
+    is_watched: bool,
+) -> Result<Outcome, AllocError>
+where
+    R::File: FileExt,
+    ensures none { request.entry ≡ None → IfOk result (λ o. Gives o (says [] 2)) }
+    ensures some { IfSome request.entry (λ r. IfOk result (IsAnswerTo r)) }
+{
+    match request {
         Some(request) => run_request(rt, alloc, request, is_watched),
         None => Ok(nothing(alloc)),
     }
 }
 
-/// Runs what the words ask for.
+/// Runs a request.
 fn run_request<R: Files + Eprint>(
     rt: &R,
     alloc: Global,
@@ -190,7 +206,7 @@ fn rename_file<R: Files>(
 ///
 /// Memory ran out while they were read, and not otherwise.
 fn wrong_words<R: Eprint>(rt: &R, alloc: Global, error: &Error) -> Result<Outcome, AllocError>
-    ensures answer { IfOk result IsAnswer }
+    ensures answer { IfOk result (λ o. Gives o (says [] 2)) }
     ensures memory { kind_of error.now ≡ ErrorKind.OutOfMemory ↔ IsErr result }
 {
     if error.kind() == ErrorKind::OutOfMemory {
@@ -202,7 +218,7 @@ fn wrong_words<R: Eprint>(rt: &R, alloc: Global, error: &Error) -> Result<Outcom
 
 /// Nothing to print, for wrong words.
 fn nothing(alloc: Global) -> Outcome
-    ensures { IsAnswer result }
+    ensures { Gives result (says [] 2) }
 {
     Outcome::saying(Vec::new(alloc), WRONG_WORDS)
 }

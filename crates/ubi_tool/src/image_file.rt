@@ -17,7 +17,7 @@ use crate::numbers::{Numbers, geometry_of};
 use crate::outcome::{FAILED, Outcome, ToolError, WRONG_WORDS};
 use crate::read::{expected_len, open_whole, read_limited};
 use std::alloc::{AllocError, Global};
-use std::fs::Files;
+use std::fs::{Files, OpenFile};
 use std::io::Read;
 use ubi_media::{Geometry, GeometryError};
 
@@ -67,19 +67,19 @@ impl From<AllocError> for Unread {
 }
 
 /// Those bytes of an image that are judged: all, or the first ones up to one more than a device of the geometry has.
-fn read_judged<R: Read>(
+fn read_judged<F: OpenFile + Read>(
     alloc: Global,
-    reader: &mut R,
+    file: &mut F,
     geometry: &Geometry,
-    expected: u64,
 ) -> Result<Vec<u8>, ToolError>
-    ensures bytes { IfOk result (λ v. IfSome (R.remaining reader.old) (λ xs. v.items ≡ judged geometry.now xs)) }
+    ensures bytes { IfOk result (λ v. IfSome (F.remaining file.old) (λ xs. v.items ≡ judged geometry.now xs)) }
     ensures few { IfOk result (λ v. vec_len v ≤ geometry.now.pebs * geometry.now.peb_size + 1) }
-    ensures rest { IfOk result (λ v. Consumes (R.remaining reader.old) (R.remaining reader.new) v.items) }
-    ensures taken { OnErr result (TakesAtMost (geometry.now.pebs * geometry.now.peb_size + 1) (R.remaining reader.old) (R.remaining reader.new)) }
+    ensures rest { IfOk result (λ v. Consumes (F.remaining file.old) (F.remaining file.new) v.items) }
+    ensures taken { OnErr result (TakesAtMost (geometry.now.pebs * geometry.now.peb_size + 1) (F.remaining file.old) (F.remaining file.new)) }
 {
+    let expected = expected_len(file);
     let device = u64::from(geometry.pebs()) * u64::from(geometry.peb_size());
-    read_limited(alloc, reader, device + 1, expected)
+    read_limited(alloc, file, device + 1, expected)
 }
 
 /// Those bytes of an image file that are judged.
@@ -91,9 +91,7 @@ fn read_image<R: Files>(
 ) -> Result<Vec<u8>, ToolError>
     ensures { IfOk result (λ v. vec_len v ≤ geometry.now.pebs * geometry.now.peb_size + 1) }
 {
-    let mut file = open_whole(rt, path)?;
-    let expected = expected_len(&file);
-    read_judged(alloc, &mut file, geometry, expected)
+    read_judged(alloc, &mut open_whole(rt, path)?, geometry)
 }
 
 /// The line of a geometry that breaks a limit.

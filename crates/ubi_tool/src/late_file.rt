@@ -1,7 +1,10 @@
 //! A file that is opened late.
 
-ghost use Rattle.std.specs.Prelude.{◌≡◌, IsSome, None, OnOk, OnErr};
+ghost use Rattle.std.specs.Io.KnownBytes.{WriteAppends};
+ghost use Rattle.std.specs.Io.{WritesAtMost};
 ghost use Rattle.std.specs.Option.{option_and_then};
+ghost use Rattle.std.specs.Prelude.{◌≡◌, IsSome, None, OnErr, OnOk};
+ghost use Rattle.ubi_tool.specs.Late.{IsFirstWrite};
 
 use std::fs::{File, Files};
 use std::io;
@@ -31,6 +34,13 @@ impl<'a, R: Files> LateFile<'a, R> {
         }
     }
 
+    /// The path of the file.
+    pub fn path(&self) -> &'a str
+        ensures { result.now ≡ self.now.path.now }
+    {
+        self.path
+    }
+
     /// Opens the file where no write did, so that it is there though nothing was to be written.
     ///
     /// # Errors
@@ -52,7 +62,12 @@ impl<'a, R: Files> LateFile<'a, R> {
 impl<R: Files> Write for LateFile<'_, R> {
     ghost contents = { λ late. option_and_then (λ file. R.File.contents file) late.file };
 
-    fn write(&mut self, buf: &[u8]) -> io::Result<usize> {
+    fn write(&mut self, buf: &[u8]) -> io::Result<usize>
+        ensures bound { WritesAtMost result buf.now }
+        ensures bytes { WriteAppends (option_and_then (λ file. R.File.contents file) self.old.file) (option_and_then (λ file. R.File.contents file) self.new.file) result buf.now }
+        ensures path { self.new.path.now ≡ self.old.path.now }
+        ensures first { self.old.file ≡ None → IsFirstWrite (λ file. R.File.contents file) self.new.file result buf.now }
+    {
         self.finish()?;
         match &mut self.file {
             Some(file) => file.write(buf),

@@ -4,8 +4,8 @@ ghost use Rattle.ubi_tool.specs.Headline.{Headline};
 ghost use Rattle.ubi_tool.specs.Laws.{ListsComposed, OneComposed};
 
 /// Of accepted images of one geometry, two mean the same exactly if their normalised images are equal byte for byte;
-/// normalising keeps the meaning and twice is once; an image is refused exactly where a stated fault stands; and an atomic
-/// change cut after any whole step means the old or the new.
+/// normalising keeps the meaning and twice is once; an image has one meaning at most; it is refused exactly where a stated
+/// fault stands; and an atomic change cut after any whole step means the old or the new.
 pub fn headline()
     ensures { Headline }
 {}

@@ -5,7 +5,8 @@
 #![tactic(auto)]
 
 ghost use Rattle.std.specs.IoError.{error_kind};
-ghost use Rattle.std.specs.Prelude.{◌≡◌, ◌≢◌};
+ghost use Rattle.std.specs.Prelude.{◌≡◌, ◌≢◌, Err, alloc_error};
+ghost use Rattle.ubi_tool.specs.Printed.{IsReported};
 
 mod change;
 mod check;
@@ -37,7 +38,7 @@ mod streaming;
 
 use outcome::WRONG_WORDS;
 use std::alloc::AllocError;
-use std::io::{ErrorKind, IsTerminal};
+use std::io::{ErrorKind, IsTerminal, Write};
 use std::process::ExitCode;
 use std::rt::Env;
 use std::{env, io};
@@ -46,13 +47,14 @@ use std::{env, io};
 mod tests;
 
 fn main(rt: HostRuntime) -> ExitCode {
+    let mut output = io::writer(&rt);
     let status = match words_of(&rt) {
         Ok(words) => {
             let is_watched = rt.stderr().is_terminal();
             let answer = commands::run_words(&rt, rt.alloc(), words.as_slice(), is_watched);
-            printing::report(&rt, &answer)
+            printing::report(&rt, &mut output, &answer)
         }
-        Err(error) => unread_words(&rt, &error),
+        Err(error) => unread_words(&rt, &mut output, &error),
     };
     ExitCode::from(status)
 }
@@ -66,13 +68,14 @@ fn words_of<R: Env + AllocGlobal>(rt: &R) -> io::Result<Vec<String>> {
     Ok(words)
 }
 
-/// The status to end with where the words can't be had: memory ran out, or they aren't text.
-fn unread_words<R: Print + Eprint>(rt: &R, error: &io::Error) -> u8
+/// The status to end with where the words can't be had: memory ran out, which is printed, or they aren't text.
+fn unread_words<R: Eprint, W: Write>(rt: &R, writer: &mut W, error: &io::Error) -> u8
     ensures memory { error_kind error.now ≡ ErrorKind.OutOfMemory → result ≡ 1 }
+    ensures told { error_kind error.now ≡ ErrorKind.OutOfMemory → IsReported (W.contents writer.old) (W.contents writer.new) (Err alloc_error) result }
     ensures words { error_kind error.now ≢ ErrorKind.OutOfMemory → result ≡ 2 }
 {
     if error.kind() == ErrorKind::OutOfMemory {
-        return printing::report(rt, &Err(AllocError));
+        return printing::report(rt, writer, &Err(AllocError));
     }
     let _ = rt.eprintln("error: the words aren't text");
     WRONG_WORDS

@@ -1,14 +1,17 @@
 //! The output file that the words of a command name.
 
-ghost use Rattle.std.specs.Prelude.{IfOk, codes};
+ghost use Rattle.std.specs.Option.{option_and_then};
+ghost use Rattle.std.specs.Prelude.{◌≡◌, IfOk, IfSome, None, OnOk, codes};
 ghost use Rattle.ubi_tool.specs.Answer.{Gives, says};
+ghost use Rattle.ubi_tool.specs.inner.Received.{Received};
 ghost use Rattle.ubi_tool.specs.Lines.{file_line};
 ghost use Rattle.ubi_tool.specs.Program.{WritesFile};
 
+use crate::late_file::LateFile;
 use crate::lines::file_line;
 use crate::outcome::{FAILED, Outcome, ToolError};
 use std::alloc::{AllocError, Global};
-use std::fs::{File, Files};
+use std::fs::Files;
 use ubi_volume::write_all;
 
 /// Writes the file of an outcome, if it has one, and answers the outcome, or the line of a file that can't be written.
@@ -20,12 +23,25 @@ pub fn write_outcome<R: Files>(
 ) -> Result<Outcome, AllocError>
     ensures { IfOk result (WritesFile path.now outcome) }
 {
+    write_late(alloc, outcome, &mut LateFile::new(rt, path))
+}
+
+/// Writes the file of an outcome, if it has one, into a file that is opened now. An outcome without one opens none.
+fn write_late<R: Files>(
+    alloc: Global,
+    outcome: Outcome,
+    late: &mut LateFile<'_, R>,
+) -> Result<Outcome, AllocError>
+    ensures answer { IfOk result (WritesFile late.old.path.now outcome) }
+    ensures bytes { IfOk result (λ o. IfSome o.file (λ v. Received (λ file. R.File.contents file) (option_and_then (λ file. R.File.contents file) late.new.file) v.items)) }
+    ensures unopened { outcome.file ≡ None → late.new.file ≡ late.old.file }
+{
     let Some(bytes) = &outcome.file else {
         return Ok(outcome);
     };
     // Made before the file is opened, so that no part of it is written where memory runs out.
-    let unwritten = unwritten(alloc, path)?;
-    match write_file(rt, path, bytes.as_slice()) {
+    let unwritten = unwritten(alloc, late.path())?;
+    match write_file(late, bytes.as_slice()) {
         Ok(()) => Ok(outcome),
         Err(_) => Ok(unwritten),
     }
@@ -38,10 +54,15 @@ pub fn unwritten(alloc: Global, path: &str) -> Result<Outcome, AllocError>
     Ok(Outcome::saying(file_line(alloc, "cannot write ", path)?, FAILED))
 }
 
-/// Writes a file anew.
-fn write_file<R: Files>(rt: &R, path: &str, bytes: &[u8]) -> Result<(), ToolError> {
-    let Ok(mut file) = File::create(rt, path) else {
+/// Opens a file anew, and writes all of the bytes into it.
+fn write_file<R: Files>(late: &mut LateFile<'_, R>, bytes: &[u8]) -> Result<(), ToolError>
+    ensures { OnOk result (Received (λ file. R.File.contents file) (option_and_then (λ file. R.File.contents file) late.new.file) bytes.now) }
+{
+    let Ok(()) = late.finish() else {
         return Err(ToolError::Write);
     };
-    write_all(&mut file, bytes).map_err(|_| ToolError::Write)
+    match write_all(late, bytes) {
+        Ok(()) => Ok(()),
+        Err(_) => Err(ToolError::Write),
+    }
 }

@@ -1,14 +1,12 @@
 //! Printing what a command answered.
 
 ghost use Rattle.std.specs.Io.KnownBytes.{Appends};
-ghost use Rattle.std.specs.Prelude.{◌≡◌, ℕ, ◌<◌, ◌⊎◌, IfOk, OnErr, OnOk, length, take};
+ghost use Rattle.std.specs.Prelude.{◌≡◌, ℕ, ◌<◌, IfOk, OnErr, OnOk, length, take};
 ghost use Rattle.std.specs.Result.{result_unwrap_or};
-ghost use Rattle.ubi_tool.specs.inner.Printed.{printed_text};
-ghost use Rattle.ubi_tool.specs.Printed.{status_of};
+ghost use Rattle.ubi_tool.specs.Printed.{IsReported, printed_text, status_of};
 
 use crate::outcome::{FAILED, Outcome};
 use std::alloc::AllocError;
-use std::io;
 use std::io::Write;
 use ubi_volume::write_all;
 
@@ -53,10 +51,14 @@ fn ended<R: Eprint>(rt: &R, printed: Result<u8, Unprinted>) -> u8
     }
 }
 
-/// Prints on standard output what a command answered, and gives the status to end with: that of the answer, or 1 where it
-/// couldn't be printed whole.
-pub fn report<R: Print + Eprint>(rt: &R, answer: &Result<Outcome, AllocError>) -> u8
-    ensures { (result ≡ status_of answer.now) ⊎ (result ≡ 1) }
+/// Prints what a command answered, and gives the status to end with: that of the answer, or 1 where it couldn't be printed
+/// whole.
+pub fn report<R: Eprint, W: Write>(
+    rt: &R,
+    writer: &mut W,
+    answer: &Result<Outcome, AllocError>,
+) -> u8
+    ensures { IsReported (W.contents writer.old) (W.contents writer.new) answer.now result }
 {
-    ended(rt, print(&mut io::writer(rt), answer))
+    ended(rt, print(writer, answer))
 }

@@ -12,7 +12,7 @@ use crate::numbers::Numbers;
 use crate::outcome::ToolError;
 use crate::read::{expected_len, open_whole, read_limited};
 use std::alloc::Global;
-use std::fs::Files;
+use std::fs::{Files, OpenFile};
 use std::io::Read;
 use ubi_media::Geometry;
 
@@ -33,25 +33,25 @@ fn text_limit(geometry: &Geometry) -> u64
     4 * (u64::from(geometry.pebs()) * u64::from(geometry.peb_size())) + 65_536
 }
 
-/// All bytes of a reader.
+/// All bytes of a file.
 ///
 /// # Errors
 ///
 /// Read where a read fails, and where there are more bytes than a text may have. Memory where memory ran out.
-fn read_text<R: Read>(
+fn read_text<F: OpenFile + Read>(
     alloc: Global,
-    reader: &mut R,
+    file: &mut F,
     geometry: &Geometry,
-    expected: u64,
 ) -> Result<Vec<u8>, ToolError>
-    ensures bytes { IfOk result (λ v. IfSome (R.remaining reader.old) (λ xs. v.items ≡ xs)) }
+    ensures bytes { IfOk result (λ v. IfSome (F.remaining file.old) (λ xs. v.items ≡ xs)) }
     ensures few { IfOk result (λ v. vec_len v ≤ text_limit geometry.now) }
-    ensures rest { IfOk result (λ v. Consumes (R.remaining reader.old) (R.remaining reader.new) v.items) }
-    ensures taken { OnErr result (TakesAtMost (text_limit geometry.now + 1) (R.remaining reader.old) (R.remaining reader.new)) }
+    ensures rest { IfOk result (λ v. Consumes (F.remaining file.old) (F.remaining file.new) v.items) }
+    ensures taken { OnErr result (TakesAtMost (text_limit geometry.now + 1) (F.remaining file.old) (F.remaining file.new)) }
     ensures err { IfErr result (λ e. e ≢ ToolError.Write) }
 {
+    let expected = expected_len(file);
     let limit = text_limit(geometry);
-    let text = read_limited(alloc, reader, limit + 1, expected)?;
+    let text = read_limited(alloc, file, limit + 1, expected)?;
     if text.len() as u64 > limit {
         return Err(ToolError::Read);
     }
@@ -67,9 +67,7 @@ fn read_spec<R: Files>(
 ) -> Result<Vec<u8>, ToolError>
     ensures { IfOk result (λ v. vec_len v ≤ text_limit geometry.now) }
 {
-    let mut file = open_whole(rt, path)?;
-    let expected = expected_len(&file);
-    read_text(alloc, &mut file, geometry, expected)
+    read_text(alloc, &mut open_whole(rt, path)?, geometry)
 }
 
 /// Reads the text of a path, once its geometry is known to break no limit.

@@ -87,8 +87,9 @@ fn normalise<R: Files + Eprint, S: BlockSource>(
 {
     // Made before the output is opened, so that no part of it is written where memory runs out.
     let unread = unread_line(alloc, image)?;
-    let unwritten = unwritten(alloc, out)?;
-    let mut told = Told::new(rt, LateFile::new(rt, out), source.len(), is_watched);
+    let late = LateFile::new(rt, out);
+    let unwritten = unwritten(alloc, late.path())?;
+    let mut told = Told::new(rt, late, source.len(), is_watched);
     let answer = run_normalise(alloc, geometry, source, &mut told);
     told.clear();
     ended(answer, &mut told.writer, unread, unwritten)
@@ -136,8 +137,8 @@ fn extract<R: Files, S: BlockSource>(
 {
     // Made before the output is opened, so that no part of it is written where memory runs out.
     let unread = unread_line(alloc, image)?;
-    let unwritten = unwritten(alloc, out)?;
     let mut late = LateFile::new(rt, out);
+    let unwritten = unwritten(alloc, late.path())?;
     let answer = run_extract_from(alloc, geometry, source, id, &mut late);
     ended(answer, &mut late, unread, unwritten)
 }

@@ -41,6 +41,14 @@ pub kept_some : (b : Bool) (text : List ℕ) (n : ℕ) → b ≡ is_blank text �
 kept_some true text n e h = absurd (cc)
 kept_some false text n e h = other_text text n (sym e)
 
+-- n bytes of an eraseblock from a place on, and the first of them
+pub part_is : (b : List ℕ) (start n : ℕ) → slice_range b start (start + n) ≡ take n (drop start b)
+part_is b start n = ap (λ k. take k (drop start b)) (omega arith)
+
+pub part_first : (b first : List ℕ) (start a : ℕ) → first ≡ slice_range b start (start + a)
+    → first ≡ slice_range (drop start b) 0 a
+part_first b first start a is = is ∙ part_is b start a ∙ ap (λ k. take k (drop start b)) (omega arith)
+
 -- bytes of which the front isn't blank
 module _ (leb first : List ℕ) (n a : ℕ) (short : a ≤ n) (read : first ≡ slice_range leb 0 a) where
   front : take a (take n leb) ≡ first
@@ -73,7 +81,7 @@ blank_holds n = by_cases (is_blank (blank n)) refl
     by_cases true e = refl
     by_cases false e = absurd (other_text (blank n) n e refl)
 
--- what was read of an eraseblock behind the first a bytes of its LEB
+-- what was read of an eraseblock behind the first a of n bytes from a place on
 pub rest_of_leb : (b rest : List ℕ) (d a m n k : ℕ) → k ≡ d + a → m ≡ n - a → rest ≡ slice_range b k (k + m)
     → rest ≡ take (n - a) (drop a (drop d b))
 rest_of_leb b rest d a m n k at long is =

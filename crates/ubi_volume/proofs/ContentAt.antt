@@ -27,10 +27,10 @@ front_usable s r n buffer size room = length-take-le n buffer (omega (arith, siz
 
 -- what its record allows, whatever the source holds
 pub case_fits : (n id : ℕ) (p : Placed) (r : VolumeRecord) (c : PlaceContent) → AreWithin n p
-    → finite.get p.records.of id ≡ Some r → finite.get p.contents id ≡ Some c → CaseFits r c
+    → finite.get p.records.of id ≡ Some r → finite.get p.contents id ≡ Some c → CaseFits p.winners id r c
 case_fits n id p r c within recorded listed =
     let h = within.contents id r recorded in
-    subst (CaseFits r) (same_Some h.0 c (sym h.1 ∙ listed)) h.2
+    subst (CaseFits p.winners id r) (same_Some h.0 c (sym h.1 ∙ listed)) h.2
 
 module _ (s : Sizes) (p : Placed) (image : List ℕ) (places : ArePlaces (image_of s image) p) (id : ℕ) (r : VolumeRecord)
     (recorded : finite.get p.records.of id ≡ Some r) where

@@ -24,6 +24,7 @@ pub mod Moved
 pub mod Narrow
 pub mod Narrowed
 pub mod One
+pub mod OneAttached
 pub mod OneCause
 pub mod Pieces
 pub mod PlacesOf

@@ -19,9 +19,6 @@ use Rattle.ubi_volume.proofs.Winners.{named_by, no_some}
 pub never : {A : Type 0} → (A → ⊥) → IsTrue false ↔ A
 never h = (λ e. absurd (cc), λ a. absurd (h a))
 
-pub by_both : {b : Bool} {A B : Type 0} → IsTrue b ↔ A → A ↔ B → IsTrue b ↔ B
-by_both h k = (λ t. k.0 (h.0 t), λ x. h.1 (k.1 x))
-
 pub not_true : (b : Bool) → b ≡ false → IsTrue b → ⊥
 not_true b e t = cc
 

@@ -33,6 +33,7 @@ checked_narrowed s k old new found t narrows h = record {
   source = source_narrowed k old new narrows h.source;
   scan = scan_narrowed s k old new found narrows h.scan;
   narrow = h.narrow;
+  mean = h.mean;
   table = table_narrowed s old new t narrows h.table;
   alike = λ bytes agrees. h.alike bytes (narrows bytes agrees);
 }
@@ -47,18 +48,29 @@ contents_narrowed s old new es vs narrows h = record {
 }
 
 module _ (old new : Agreed) (narrows : Narrows old new) where
-  pub wrote_narrowed : (a b : Option (List ℕ)) (wanted : Wanted) (many : ℕ → ℕ → Type 0) (m n : ℕ)
-      → Wrote old a b wanted many m n → Wrote new a b wanted many m n
-  wrote_narrowed a b wanted many m n h = record {
+  -- and other bytes are wanted, which are the same of each image that is left
+  pub wrote_where : (a b : Option (List ℕ)) (wanted other : Wanted) (many : ℕ → ℕ → Type 0) (m n : ℕ)
+      → ((image text : List ℕ) → new image → other image text → wanted image text)
+      → Wrote old a b wanted many m n → Wrote new a b other many m n
+  wrote_where a b wanted other many m n same h = record {
     bytes = h.bytes;
     got = h.got;
     count = h.count;
-    held = λ image agrees. h.held image (narrows image agrees);
+    held = λ image agrees text w. h.held image (narrows image agrees) text (same image text agrees w);
   }
+
+  pub wrote_narrowed : (a b : Option (List ℕ)) (wanted : Wanted) (many : ℕ → ℕ → Type 0) (m n : ℕ)
+      → Wrote old a b wanted many m n → Wrote new a b wanted many m n
+  wrote_narrowed a b wanted many m n = wrote_where a b wanted wanted many m n (λ image text agrees w. w)
+
+  pub error_where : (s : Sizes) (k : Source) (a b : Option (List ℕ)) (wanted other : Wanted) (m : ℕ) (e : StreamError)
+      → ((image text : List ℕ) → new image → other image text → wanted image text)
+      → IsWroteError s k old a b wanted m e → IsWroteError s k new a b other m e
+  error_where s k a b wanted other m (stream.Read p n) same h = (h.0, wrote_where a b wanted other _ m n same h.1)
+  error_where s k a b wanted other m (stream.Write n) same h = wrote_where a b wanted other _ m n same h
+  error_where s k a b wanted other m (stream.Refused c) same h = h
+  error_where s k a b wanted other m stream.Memory same h = h
 
   pub error_narrowed : (s : Sizes) (k : Source) (a b : Option (List ℕ)) (wanted : Wanted) (m : ℕ) (e : StreamError)
       → IsWroteError s k old a b wanted m e → IsWroteError s k new a b wanted m e
-  error_narrowed s k a b wanted m (stream.Read p n) h = (h.0, wrote_narrowed a b wanted _ m n h.1)
-  error_narrowed s k a b wanted m (stream.Write n) h = wrote_narrowed a b wanted _ m n h
-  error_narrowed s k a b wanted m (stream.Refused c) h = h
-  error_narrowed s k a b wanted m stream.Memory h = h
+  error_narrowed s k a b wanted m e = error_where s k a b wanted wanted m e (λ image text agrees w. w)

@@ -4,7 +4,7 @@ use Rattle.std.specs.Prelude.{IsSome, Option, Some, None, ◌==◌, option_map}
 use Rattle.std.specs.Prelude as prelude
 use Rattle.std.specs.Cmp.{nat_cmp_total}
 use Rattle.std.specs.FinMap as finite
-use Rattle.std.specs.FinMap.{find, from_entries}
+use Rattle.std.specs.FinMap.{FinMap, find, from_entries}
 use Rattle.std.specs.Ordering.{eq_by_cmp, nat_cmp}
 use Rattle.std.proofs.lemmas.List.{map-append}
 use Rattle.std.proofs.lemmas.Map.Lookups.{exact_unsigned}
@@ -12,12 +12,11 @@ use Rattle.std.proofs.lemmas.Option.{same_Some}
 use Rattle.ubi_media.specs.Geometry.{Sizes}
 use Rattle.ubi_media.specs.declared.record.VolumeRecord.{VolumeRecord}
 use Rattle.ubi_media.specs.declared.refusal.Refusal.{Refusal}
-use Rattle.ubi_scan.specs.Scan.{Found, IsScan}
+use Rattle.ubi_scan.specs.Scan.{Found, IsScan, leb_cmp}
 use Rattle.ubi_scan.specs.Image.{IsWholeSize, image_of}
 use Rattle.ubi_scan.specs.Source.{Agreed, Narrows, Source, WhereHeld, blocks_of, holds, sound}
 use Rattle.ubi_scan.proofs.InMemory.{still}
 use Rattle.ubi_scan.specs.Stream.{IsScanOf}
-use Rattle.ubi_scan.specs.declared.errors.StreamError.{StreamError}
 use Rattle.ubi_scan.specs.declared.errors.StreamError.TheVariants as stream
 use Rattle.ubi_scan.proofs.Entries.{first_entry}
 use Rattle.ubi_scan.proofs.Keys.{told}
@@ -37,13 +36,13 @@ use Rattle.ubi_volume.proofs.Recorded.{records_meant}
 use Rattle.ubi_volume.proofs.Winners.{no_some}
 
 -- one entry more
-pub numbered_more : (es : List (ℕ × VolumeRecord)) (cs : List (ℕ × PlaceContent)) (e : ℕ × VolumeRecord)
-    (c : PlaceContent) → AreNumbered es cs → CaseFits e.1 c
-    → AreNumbered (es ++ e ∷ []) (cs ++ (e.0, c) ∷ [])
-numbered_more [] [] e c h few = (refl, few, tt)
-numbered_more [] (y ∷ cs) e c h few = absurd h
-numbered_more (x ∷ es) [] e c h few = absurd h
-numbered_more (x ∷ es) (y ∷ cs) e c h few = (h.0, h.1, numbered_more es cs e c h.2 few)
+pub numbered_more : (w : FinMap leb_cmp ℕ) (es : List (ℕ × VolumeRecord)) (cs : List (ℕ × PlaceContent)) (e : ℕ × VolumeRecord)
+    (c : PlaceContent) → AreNumbered w es cs → CaseFits w e.0 e.1 c
+    → AreNumbered w (es ++ e ∷ []) (cs ++ (e.0, c) ∷ [])
+numbered_more w [] [] e c h few = (refl, few, tt)
+numbered_more w [] (y ∷ cs) e c h few = absurd h
+numbered_more w (x ∷ es) [] e c h few = absurd h
+numbered_more w (x ∷ es) (y ∷ cs) e c h few = (h.0, h.1, numbered_more w es cs e c h.2 few)
 
 pub cases_more : (s : Sizes) (bs : List (List ℕ)) (es : List (ℕ × VolumeRecord)) (cs : List (ℕ × PlaceContent))
     (e : ℕ × VolumeRecord) (c : PlaceContent) → AreCases s bs es cs → CaseIs s bs e.0 e.1 c
@@ -59,12 +58,12 @@ cases_more s bs es cs e c h is =
     }
 
 -- what is found by its number
-found_too : (id : ℕ) (es : List (ℕ × VolumeRecord)) (cs : List (ℕ × PlaceContent)) (r : VolumeRecord)
-    → AreNumbered es cs → find nat_cmp id es ≡ Some r
-    → (c : PlaceContent) × (find nat_cmp id cs ≡ Some c) × CaseFits r c
-found_too id [] cs r h e = absurd (no_some r e)
-found_too id (x ∷ es) [] r h e = absurd h
-found_too id (x ∷ es) (y ∷ cs) r h e =
+found_too : (w : FinMap leb_cmp ℕ) (id : ℕ) (es : List (ℕ × VolumeRecord)) (cs : List (ℕ × PlaceContent)) (r : VolumeRecord)
+    → AreNumbered w es cs → find nat_cmp id es ≡ Some r
+    → (c : PlaceContent) × (find nat_cmp id cs ≡ Some c) × CaseFits w id r c
+found_too w id [] cs r h e = absurd (no_some r e)
+found_too w id (x ∷ es) [] r h e = absurd h
+found_too w id (x ∷ es) (y ∷ cs) r h e =
     let other = ap (λ n. cond (eq_by_cmp nat_cmp id n) (Some x.1) (find nat_cmp id es)) h.0 in
     elim (told nat_cmp nat_cmp_total exact_unsigned id y.0) [
       | inl t ↦
@@ -72,10 +71,10 @@ found_too id (x ∷ es) (y ∷ cs) r h e =
           ∙ e) in (
             y.1,
             ap (λ b. cond b (Some y.1) (find nat_cmp id cs)) t.0,
-            subst (λ (z : VolumeRecord). CaseFits z y.1) same h.1,
+            subst (λ (z : ℕ × VolumeRecord). CaseFits w z.0 z.1 y.1) (λ i. (sym (t.1 ∙ h.0) i, same i)) h.1,
           )
       | inr t ↦
-          let next = found_too id es cs r h.2 (sym (ap (λ b. cond b (Some x.1) (find nat_cmp id es)) t.0) ∙ other
+          let next = found_too w id es cs r h.2 (sym (ap (λ b. cond b (Some x.1) (find nat_cmp id es)) t.0) ∙ other
           ∙ e) in
           (next.0, ap (λ b. cond b (Some y.1) (find nat_cmp id cs)) t.0 ∙ next.1, next.2)
     ]
@@ -92,12 +91,12 @@ find_case s id (w ∷ vs) v e = elim (told nat_cmp nat_cmp_total exact_unsigned 
       ∙ find_case s id vs v (sym (ap (λ b. cond b (Some w.1) (find nat_cmp id vs)) t.0) ∙ e)
 ]
 
-module _ (t : Records) (cs : List (ℕ × PlaceContent)) (numbered : AreNumbered (finite.entries t.of) cs) where
+module _ (w : FinMap leb_cmp ℕ) (t : Records) (cs : List (ℕ × PlaceContent)) (numbered : AreNumbered w (finite.entries t.of) cs) where
   -- each record has a case
   has_case : (id : ℕ) (r : VolumeRecord) → finite.get t.of id ≡ Some r
-      → (c : PlaceContent) × (finite.get (from_entries {R = nat_cmp} cs) id ≡ Some c) × CaseFits r c
+      → (c : PlaceContent) × (finite.get (from_entries {R = nat_cmp} cs) id ≡ Some c) × CaseFits w id r c
   has_case id r e =
-      let f = found_too id (finite.entries t.of) cs r numbered (sym (finite.get-entries t.of id) ∙ e) in
+      let f = found_too w id (finite.entries t.of) cs r numbered (sym (finite.get-entries t.of id) ∙ e) in
       (f.0, finite.get-from_entries nat_cmp_total cs id ∙ f.1, f.2)
 
   pub are_listed : AreListed t cs
@@ -126,7 +125,7 @@ module _ (s : Sizes) (k : Source) (agrees : Agreed) (found : Found) (t : Records
       )
 
   module _ (is : AreChecked s k agrees found t) (cs : List (ℕ × PlaceContent))
-      (numbered : AreNumbered (finite.entries t.of) cs)
+      (numbered : AreNumbered found.winners (finite.entries t.of) cs)
       (cases : WhereHeld agrees (λ bytes. AreCases s (blocks_of s bytes) (finite.entries t.of) cs)) where
     abbrev placed : Placed
     placed = record {
@@ -174,7 +173,7 @@ module _ (s : Sizes) (k : Source) (agrees : Agreed) (found : Found) (t : Records
       within = record {
         winners = is.scan.within.winners;
         space = rw is.table.sizes is.table.space;
-        contents = has_case t cs numbered;
+        contents = has_case found.winners t cs numbered;
       };
       held = held;
     }

@@ -1,12 +1,12 @@
 -- What a writer received piece by piece.
-use Rattle.std.proofs.Common.{◌≡◌, ℕ, ◌+◌, ◌<◌, ◌≤◌, List, [], ◌++◌, length, take, refl, ap, sym, ◌∙◌, subst, arith, length-append, length-take-le}
+use Rattle.std.proofs.Common.{◌≡◌, ℕ, ◌+◌, ◌<◌, ◌≤◌, List, [], ◌++◌, length, take, ap, sym, ◌∙◌, subst, arith, length-append, length-take-le}
 use Rattle.std.specs.Prelude.{Option}
 use Rattle.std.specs.Io.KnownBytes.{Appends}
 use Rattle.std.proofs.KnownBytes.{Appends-nil, Appends-trans}
 use Rattle.std.proofs.Math.Seq.{take-append-add}
 use Rattle.std.proofs.lemmas.List.{take-append-le, take_all}
 use Rattle.ubi_media.specs.Geometry.{Sizes}
-use Rattle.ubi_scan.specs.Source.{Agreed, Source}
+use Rattle.ubi_scan.specs.Source.{Agreed, Source, blocks_in}
 use Rattle.ubi_scan.specs.declared.errors.StreamError.{StreamError}
 use Rattle.ubi_scan.specs.declared.errors.StreamError.TheVariants as stream
 use Rattle.ubi_volume.specs.Wrote.{All, First, IsWroteError, NotAll, Wanted, Wrote}
@@ -26,7 +26,7 @@ module _ (k : Source) (agrees : Agreed) where
     held = λ image h text is. (sym (ap length is), sym (ap (take 0) is));
   }
 
-  -- one text, or the first bytes of it, or none as yet
+  -- one text, or the first bytes of it
   pub wrote_text : (a b : Option (List ℕ)) (wanted : Wanted) (text : List ℕ) (size m n : ℕ) → Appends a b text
       → length text ≡ size → n ≡ m + size
       → ((image t : List ℕ) → agrees image → wanted image t → t ≡ text) → Wrote agrees a b wanted All m n
@@ -52,14 +52,6 @@ module _ (k : Source) (agrees : Agreed) where
           ap (λ n. take n text) (sym few) ∙ ap (take (length (take j text))) (sym e),
         ));
       }
-
-  pub wrote_first : (a : Option (List ℕ)) (wanted : Wanted) (n : ℕ) → Wrote agrees a a wanted First n n
-  wrote_first a wanted n = record {
-    bytes = [];
-    got = Appends-nil a;
-    count = omega arith;
-    held = λ image is t w. (omega arith, refl);
-  }
 
   -- the same bytes are wanted
   pub wrote_as : (a b : Option (List ℕ)) (wanted other : Wanted) (many : ℕ → ℕ → Type 0) (m n : ℕ)
@@ -142,6 +134,20 @@ module _ (k : Source) (agrees : Agreed) where
       wrote_front a b wanted front back NotAll m n split (λ i j x l. omega arith) (λ i j l. omega arith) h
   error_front s a b wanted front back m (stream.Refused c) split h = h
   error_front s a b wanted front back m stream.Memory split h = h
+
+  -- a read that failed after the front was written
+  pub error_read : (s : Sizes) (a b : Option (List ℕ)) (wanted front back : Wanted) (m n p : ℕ) → p < blocks_in s k
+      → Splits wanted front back
+      → Wrote agrees a b front All m n → IsWroteError s k agrees a b wanted m (stream.Read p n)
+  error_read s a b wanted front back m n p inside split h = error_front s a b wanted front back m (stream.Read p n) split (
+    inside,
+    record {
+      bytes = h.bytes;
+      got = h.got;
+      count = h.count;
+      held = λ image is text w. let all = h.held image is text w in (let l = all.0 in omega arith, all.1);
+    },
+  )
 
   pub error_behind : (s : Sizes) (a b c : Option (List ℕ)) (wanted front back : Wanted) (l m : ℕ) (e : StreamError)
       → Splits wanted front back

@@ -41,4 +41,4 @@ module _ (s : Sizes) (k : Source) (agrees : Agreed) (found : Found) (t : Records
       }
 
   pub is_survey : IsSurveyOf s k agrees (record { records = t; scan = found; states = states })
-  is_survey = record { whole = is.scan.whole; count = are.count; held = held }
+  is_survey = record { scan = is.scan; sizes = is.table.sizes; mean = is.mean; count = are.count; held = held }

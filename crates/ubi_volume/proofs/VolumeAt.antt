@@ -1,5 +1,5 @@
 -- A volume of an image whose places are known.
-use Rattle.std.proofs.Common.{◌≡◌, ℕ, ◌<◌, ◌≤◌, ◌⊎◌, inl, inr, List, length, refl, ap, sym, ◌∙◌, subst, arith}
+use Rattle.std.proofs.Common.{◌≡◌, ℕ, ◌⊎◌, inl, inr, List, length, refl, ap, sym, ◌∙◌, subst}
 use Rattle.std.specs.Prelude.{IfSome, None, Option, Some, MatchOption}
 use Rattle.std.specs.FinMap as finite
 use Rattle.std.specs.FinMap.{FinMap}
@@ -12,12 +12,11 @@ use Rattle.ubi_scan.specs.Image.{image_of}
 use Rattle.ubi_scan.specs.Members.{Leb, NoMember, Wins}
 use Rattle.ubi_scan.specs.Source.{blocks_of}
 use Rattle.ubi_table.specs.Records.{Records}
-use Rattle.ubi_volume.specs.Accepts.{IsWithin}
 use Rattle.ubi_volume.specs.Extract.{leb_bytes}
 use Rattle.ubi_volume.specs.inner.Gathered.{ContentIs}
 use Rattle.ubi_volume.specs.Means.{LebReads, SlotMeans, VolumeReads}
 use Rattle.ubi_volume.specs.Meant.{Fits, IsVolume, KeepsNoBlank, pieces}
-use Rattle.ubi_volume.specs.Places.{ArePlaces, IsNextPlace, Placed, case_of}
+use Rattle.ubi_volume.specs.Places.{ArePlaces, Placed, case_of}
 use Rattle.ubi_volume.specs.declared.content.Content.{Content}
 use Rattle.ubi_volume.specs.declared.content.Content.TheVariants as content
 use Rattle.ubi_volume.specs.declared.content.Volume.{Volume}
@@ -129,24 +128,3 @@ module _ (s : Sizes) (p : Placed) (image : List ℕ) (places : ArePlaces (image_
           fits = subst (λ (x : VolumeRecord). Fits s x v.content) of.0 volume.fits;
           kept = subst (λ (x : VolumeRecord). KeepsNoBlank s x v.content) of.0 volume.kept;
         }
-
-    -- the next place of a LEB that counts and has a member is its winner
-    module _ (n : ℕ) (within : IsWithin r n) where
-      pub is_next : (l q : ℕ) → IsNextPlace p id n (Some (l, q)) → (NoMember s (blocks_of s image) (id, n) → ⊥)
-          → Wins s (blocks_of s image) (id, n) q
-      is_next l q next some = elim (found_or_none (id, n)) [
-        | inr none ↦ absurd (some none)
-        | inl w ↦
-            let same : l ≡ n = at_most l (next.0)
-            (λ less. next.2 n w.0 (omega arith) less (r, recorded, within, w.1)) in
-            subst (λ (k : ℕ). Wins s (blocks_of s image) (id, k) q) same (found_wins (id, l) q next.1.3)
-      ]
-        where
-          at_most : (l : ℕ) → n ≤ l → (n < l → ⊥) → l ≡ n
-          at_most l low none = grind arith
-
-      pub is_some : IsNextPlace p id n None → (NoMember s (blocks_of s image) (id, n) → ⊥) → ⊥
-      is_some next some = elim (found_or_none (id, n)) [
-        | inr none ↦ some none
-        | inl w ↦ next n w.0 (omega arith) (r, recorded, within, w.1)
-      ]

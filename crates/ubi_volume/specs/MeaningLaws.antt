@@ -4,6 +4,7 @@ use Rattle.ubi_media.specs.Geometry.{Sizes}
 use Rattle.ubi_media.specs.declared.refusal.Refusal.{Refusal}
 use Rattle.ubi_scan.specs.Image.{Image, IsWhole, eraseblocks, image_of, judged}
 use Rattle.ubi_volume.specs.Accepts.{Accepts, Refuses}
+use Rattle.ubi_volume.specs.Attached.{IsAttached, Whole}
 use Rattle.ubi_volume.specs.Made.{IsFirst, Items}
 use Rattle.ubi_volume.specs.Meant.{Meant}
 use Rattle.ubi_volume.specs.declared.errors.MeaningCause.{MeaningCause}
@@ -11,6 +12,10 @@ use Rattle.ubi_volume.specs.declared.errors.MeaningCause.{MeaningCause}
 -- an image has at most one meaning
 abbrev pub OneMeaning : Type 0
 OneMeaning = (image : Image) (m n : Meant) → Accepts image m → Accepts image n → m ≡ n
+
+-- what attaching an image gives is one value
+abbrev pub OneAttached : Type 0
+OneAttached = (image : Image) (a b : Whole) → IsAttached image a → IsAttached image b → a ≡ b
 
 -- volumes that have no meaning together have one first cause
 abbrev pub OneFirst : Type 0

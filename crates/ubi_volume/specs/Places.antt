@@ -51,19 +51,21 @@ IsNextPlace p vol from next = MatchOption next
 abbrev pub AreListed : Records → List (ℕ × PlaceContent) → Type 0
 AreListed t contents = (id : ℕ) → IsSome (get t.of id) → IsSome (find (λ e. e.0 == id) contents)
 
--- a case is one that its record allows: the LEBs of a text are no more than its volume reserves
-abbrev pub CaseFits : VolumeRecord → PlaceContent → Type 0
-CaseFits r place.Updating = r.marker ≡ true
-CaseFits r place.Damaged = (r.marker ≡ false) × (r.kind ≡ kind.Static)
-CaseFits r (place.Static lebs bytes) = (r.marker ≡ false) × (r.kind ≡ kind.Static) × (lebs ≤ r.reserved)
-CaseFits r place.Dynamic = (r.marker ≡ false) × (r.kind ≡ kind.Dynamic)
+-- a case is one that the volume's record allows: the LEBs of a text are no more than the volume reserves, and each has
+-- a winner
+abbrev pub CaseFits : FinMap leb_cmp ℕ → ℕ → VolumeRecord → PlaceContent → Type 0
+CaseFits winners vol r place.Updating = r.marker ≡ true
+CaseFits winners vol r place.Damaged = (r.marker ≡ false) × (r.kind ≡ kind.Static)
+CaseFits winners vol r (place.Static lebs bytes) = (r.marker ≡ false) × (r.kind ≡ kind.Static) × (lebs ≤ r.reserved)
+    × ((lnum : ℕ) → lnum < lebs → IsSome (get winners (vol, lnum)))
+CaseFits winners vol r place.Dynamic = (r.marker ≡ false) × (r.kind ≡ kind.Dynamic)
 
 -- what holds of places in n eraseblocks, whatever these hold: each place is one of them, the volumes fit the device,
 -- and each has a case that its record allows
 pub record AreWithin (n : ℕ) (p : Placed) : Type 0 where
   pub winners : (of : Leb) → IfSome (get p.winners of) (λ at. at < n)
   pub space : HasSpace p.records.sizes p.records
-  pub contents : (id : ℕ) (r : VolumeRecord) → get p.records.of id ≡ Some r → (c : PlaceContent) × (get p.contents id ≡ Some c) × CaseFits r c
+  pub contents : (id : ℕ) (r : VolumeRecord) → get p.records.of id ≡ Some r → (c : PlaceContent) × (get p.contents id ≡ Some c) × CaseFits p.winners id r c
 
 -- the places are those of an image that is accepted
 pub record ArePlaces (image : Image) (p : Placed) : Type 0 where
@@ -85,7 +87,7 @@ pub record ArePlacesOf (s : Sizes) (k : Source) (agrees : Agreed) (p : Placed) :
 abbrev pub ArePlacesError : Sizes → Source → Agreed → StreamError → Type 0
 ArePlacesError s k agrees (stream.Refused c) =
     IsLengthFault s k.size c ⊎ (IsWholeSize s k.size × WhereHeld agrees (λ bytes. RefusesBlocks s (blocks_of s bytes) c))
-ArePlacesError s k agrees (stream.Read p written) = IsReadFault (blocks_in s k) (stream.Read p written)
+ArePlacesError s k agrees (stream.Read p written) = IsWholeSize s k.size × IsReadFault (blocks_in s k) (stream.Read p written)
 ArePlacesError s k agrees (stream.Write _) = ⊥
 ArePlacesError s k agrees stream.Memory = Unit {0}
 

@@ -1,11 +1,12 @@
 -- What is known of an image without what its volumes read.
-use Rattle.std.specs.Prelude.{◌≡◌, List, length, refl}
+use Rattle.std.specs.Prelude.{◌≡◌, ◌≤◌, List, length, refl}
 use Rattle.std.specs.Coded.{Coded, code_by, coded×, coded_list}
 use Rattle.ubi_media.specs.Geometry.{Sizes}
 use Rattle.ubi_scan.specs.Coded.{found_code}
-use Rattle.ubi_scan.specs.Image.{Image, IsWholeSize, image_of}
+use Rattle.ubi_scan.specs.Image.{Image, image_of}
 use Rattle.ubi_scan.specs.Scan.{Found}
 use Rattle.ubi_scan.specs.Source.{Agreed, Source, WhereHeld, blocks_in}
+use Rattle.ubi_scan.specs.Stream.{IsScanOf}
 use Rattle.ubi_table.specs.Coded.{records_code}
 use Rattle.ubi_table.specs.Records.{Records}
 use Rattle.ubi_volume.specs.Attached.{IsAttached, Whole}
@@ -31,9 +32,12 @@ pub record IsSurvey (image : Image) (v : Seen) : Type 0 where
   pub attached : IsAttached image (record { meaning = meaning; scan = v.scan; states = v.states })
   pub records : v.records ≡ records_of meaning
 
--- what surveying a source gives
+-- what surveying a source gives: a scan of it, records by its geometry, a mean that is a counter, and a state for each
+-- eraseblock; and it is that of the image, whatever the source may hold
 pub record IsSurveyOf (s : Sizes) (k : Source) (agrees : Agreed) (v : Seen) : Type 0 where
-  pub whole : IsWholeSize s k.size
+  pub scan : IsScanOf s k agrees v.scan
+  pub sizes : v.records.sizes ≡ s
+  pub mean : v.scan.mean_ec ≤ 0x7FFFFFFF
   pub count : length v.states ≡ blocks_in s k
   pub held : WhereHeld agrees (λ bytes. IsSurvey (image_of s bytes) v)
 

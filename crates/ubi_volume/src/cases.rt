@@ -1,7 +1,7 @@
 //! What the volumes of a source read, without their bytes.
 
 ghost use Rattle.std.specs.FinMap as finite;
-ghost use Rattle.std.specs.Prelude.{◌≡◌, ◌<◌, ◌↔◌, IfErr, IfOk, IsTrue, Some, None, false, length};
+ghost use Rattle.std.specs.Prelude.{◌≡◌, ◌<◌, ◌↔◌, IfErr, IfOk, IsSome, IsTrue, Some, None, false, length};
 ghost use Rattle.ubi_media.specs.Check.{check};
 ghost use Rattle.ubi_media.specs.Record.{rec_fault};
 ghost use Rattle.ubi_media.specs.declared.vid.VolKind.TheVariants.{Static};
@@ -65,6 +65,7 @@ fn piece_size<S: BlockSource>(
     requires room { length buffer.old ≡ geometry.now.peb_size }
     ensures known { S.known source.new ≡ after (S.known source.old) result }
     ensures narrows { Narrows (S.agrees source.old) (S.agrees source.new) }
+    ensures won { IfOk result (λ size. IsSome size → IsSome (finite.get scan.now.winners (id, lnum))) }
     ensures piece { IfOk result (λ size. WhereHeld (S.agrees source.new) (λ bytes. PieceSizeIs geometry.now (blocks_of geometry.now bytes) id used lnum size)) }
     ensures failed { IfErr result (IsReadFault (blocks_in geometry.now (S.known source.old))) }
 {
@@ -105,7 +106,7 @@ fn static_case<S: BlockSource>(
     ensures known { S.known source.new ≡ after (S.known source.old) result }
     ensures narrows { Narrows (S.agrees source.old) (S.agrees source.new) }
     ensures case { IfOk result (λ case. WhereHeld (S.agrees source.new) (λ bytes. CaseIs geometry.now (blocks_of geometry.now bytes) id entry.now case)) }
-    ensures fits { IfOk result (CaseFits entry.now) }
+    ensures fits { IfOk result (CaseFits scan.now.winners id entry.now) }
     ensures failed { IfErr result (IsReadFault (blocks_in geometry.now (S.known source.old))) }
 {
     let used = used_ebs(geometry, source, scan, id, buffer)?;
@@ -142,7 +143,7 @@ fn case_of<S: BlockSource>(
     ensures known { S.known source.new ≡ after (S.known source.old) result }
     ensures narrows { Narrows (S.agrees source.old) (S.agrees source.new) }
     ensures case { IfOk result (λ case. WhereHeld (S.agrees source.new) (λ bytes. CaseIs geometry.now (blocks_of geometry.now bytes) id entry.now case)) }
-    ensures fits { IfOk result (CaseFits entry.now) }
+    ensures fits { IfOk result (CaseFits scan.now.winners id entry.now) }
     ensures failed { IfErr result (IsReadFault (blocks_in geometry.now (S.known source.old))) }
 {
     if entry.marker {
@@ -171,7 +172,7 @@ pub fn cases_from<S: BlockSource>(
     requires room { length buffer.old ≡ geometry.now.peb_size }
     ensures known { S.known source.new ≡ after (S.known source.old) result }
     ensures narrows { Narrows (S.agrees source.old) (S.agrees source.new) }
-    ensures numbered { IfOk result (λ cases. AreNumbered (finite.entries table.now.of) cases.items) }
+    ensures numbered { IfOk result (λ cases. AreNumbered scan.now.winners (finite.entries table.now.of) cases.items) }
     ensures cases { IfOk result (λ cases. WhereHeld (S.agrees source.new) (λ bytes. AreCases geometry.now (blocks_of geometry.now bytes) (finite.entries table.now.of) cases.items)) }
     ensures failed { IfErr result (IsReadFailure (blocks_in geometry.now (S.known source.old))) }
 {

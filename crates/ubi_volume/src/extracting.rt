@@ -1,9 +1,9 @@
 //! What a volume of a source reads, from the places of its logical eraseblocks to a writer.
 
-ghost use Rattle.std.specs.Prelude.{◌≡◌, ◌+◌, ◌*◌, ◌<◌, ◌≤◌, ◌^◌, IfErr, IfOk, IfSome, None, Ok, Some, length};
-ghost use Rattle.ubi_media.specs.Geometry.{Sizes, leb_size};
-ghost use Rattle.ubi_scan.specs.Source.{Narrows, Source, blocks_in};
-ghost use Rattle.ubi_scan.specs.inner.Held.{anything};
+ghost use Rattle.std.specs.Prelude.{◌≡◌, ◌+◌, ◌*◌, ◌<◌, ◌≤◌, ◌^◌, IfErr, IfOk, IfSome, Ok, length};
+ghost use Rattle.ubi_media.specs.Geometry.{leb_size};
+ghost use Rattle.ubi_scan.specs.Source.{Narrows, blocks_in};
+ghost use Rattle.ubi_scan.specs.inner.Named.{NamesRead};
 ghost use Rattle.ubi_scan.specs.Stream.{after};
 ghost use Rattle.ubi_volume.specs.Extract.{extent_in, read_text};
 ghost use Rattle.ubi_volume.specs.inner.Pieces.{leb_at};
@@ -11,65 +11,15 @@ ghost use Rattle.ubi_volume.specs.Places.{ArePlacesOf};
 ghost use Rattle.ubi_volume.specs.Wrote.{All, IsWroteError, Wrote};
 
 use crate::extent::Extent;
-use crate::output::{write_all, write_blank};
+use crate::fetching::read_place;
+use crate::output::write_all;
 use crate::places::Places;
 use std::io::Write;
 use ubi_media::Geometry;
-use ubi_scan::{BlockSource, StreamError, read_leb};
+use ubi_scan::{BlockSource, StreamError};
 
-/// Writes the first bytes of the logical eraseblock in an eraseblock, as many as the buffer has, and gives how many bytes
-/// are written then. `done` of them were written before.
-///
-/// # Errors
-///
-/// The read failed, or a write.
-fn write_place<S: BlockSource, W: Write>(
-    geometry: &Geometry,
-    source: &mut S,
-    p: u32,
-    buffer: &mut [u8],
-    writer: &mut W,
-    done: u64,
-) -> Result<u64, StreamError>
-    requires block { p < blocks_in geometry.now (S.known source.old) }
-    requires text { length buffer.old ≤ leb_size geometry.now }
-    requires few { done + length buffer.old < 2 ^ 64 }
-    ensures known { S.known source.new ≡ after (S.known source.old) result }
-    ensures narrows { Narrows (S.agrees source.old) (S.agrees source.new) }
-    ensures written { IfOk result (Wrote (S.agrees source.new) (W.contents writer.old) (W.contents writer.new) (leb_at geometry.now (length buffer.old) (Some p)) All done) }
-    ensures count { IfOk result (λ n. n ≡ done + length buffer.old) }
-    ensures failed { IfErr result (IsWroteError geometry.now (S.known source.old) (S.agrees source.new) (W.contents writer.old) (W.contents writer.new) (leb_at geometry.now (length buffer.old) (Some p)) done) }
-{
-    match read_leb(source, geometry, p, buffer) {
-        Ok(()) => {}
-        Err(_) => return Err(StreamError::Read(p, done)),
-    }
-    match write_all(writer, buffer) {
-        Ok(()) => Ok(done + buffer.len() as u64),
-        Err(more) => Err(StreamError::Write(done + more as u64)),
-    }
-}
-
-/// Writes so many bytes 0xFF, and gives how many bytes are written then. `done` of them were written before.
-///
-/// # Errors
-///
-/// How many bytes were written before a write failed.
-fn write_hole<W: Write>(writer: &mut W, len: usize, done: u64) -> Result<u64, StreamError>
-    requires few { done + len < 2 ^ 64 }
-    ensures known { (k : Source) → after k result ≡ k }
-    ensures written { IfOk result (λ n. (s : Sizes) → Wrote anything (W.contents writer.old) (W.contents writer.new) (leb_at s len None) All done n) }
-    ensures count { IfOk result (λ n. n ≡ done + len) }
-    ensures failed { IfErr result (λ e. (s : Sizes) (k : Source) → IsWroteError s k anything (W.contents writer.old) (W.contents writer.new) (leb_at s len None) done e) }
-{
-    match write_blank(writer, len) {
-        Ok(()) => Ok(done + len as u64),
-        Err(more) => Err(StreamError::Write(done + more as u64)),
-    }
-}
-
-/// Writes the first bytes of a logical eraseblock, as many as the buffer has, and gives how many bytes are written then.
-/// They are 0xFF where it has no place.
+/// Writes the first bytes of a logical eraseblock, by its place, as many as the buffer has: 0xFF where it has none. Gives
+/// how many bytes are written then; `done` of them were written before.
 ///
 /// # Errors
 ///
@@ -90,10 +40,16 @@ fn write_leb<S: BlockSource, W: Write>(
     ensures written { IfOk result (Wrote (S.agrees source.new) (W.contents writer.old) (W.contents writer.new) (leb_at geometry.now (length buffer.old) place) All done) }
     ensures count { IfOk result (λ n. n ≡ done + length buffer.old) }
     ensures failed { IfErr result (IsWroteError geometry.now (S.known source.old) (S.agrees source.new) (W.contents writer.old) (W.contents writer.new) (leb_at geometry.now (length buffer.old) place) done) }
+    ensures names { IfSome place (λ p. IfErr result (NamesRead p done)) }
 {
-    match place {
-        Some(p) => write_place(geometry, source, p, buffer, writer, done),
-        None => write_hole(writer, buffer.len(), done),
+    match read_place(geometry, source, place, buffer) {
+        Ok(()) => {}
+        Err(StreamError::Read(p, _)) => return Err(StreamError::Read(p, done)),
+        Err(_) => unreachable!(),
+    }
+    match write_all(writer, buffer) {
+        Ok(()) => Ok(done + buffer.len() as u64),
+        Err(more) => Err(StreamError::Write(done + more as u64)),
     }
 }
 

@@ -1,16 +1,17 @@
 //! Logical eraseblocks of a source, by their places.
 
-ghost use Rattle.std.specs.Prelude.{◌≡◌, ◌≢◌, ◌<◌, ◌≤◌, IfErr, IfOk, IfSome, IsTrue, OnOk, if◌then◌else◌, length, not};
+ghost use Rattle.std.specs.Prelude.{◌≡◌, ◌≢◌, ◌+◌, ◌<◌, ◌≤◌, IfErr, IfOk, IfSome, IsTrue, OnOk, Some, if◌then◌else◌, length, not, slice_range, ℕ};
 ghost use Rattle.ubi_media.specs.Fields.{blank, is_blank};
 ghost use Rattle.ubi_media.specs.Geometry.{leb_size};
-ghost use Rattle.ubi_scan.specs.Source.{Narrows, WhereHeld, blocks_in};
+ghost use Rattle.ubi_scan.specs.Image.{block};
+ghost use Rattle.ubi_scan.specs.Source.{Narrows, WhereHeld, blocks_in, blocks_of};
 ghost use Rattle.ubi_scan.specs.Stream.{IsReadFault, after};
 ghost use Rattle.ubi_volume.specs.Extract.{leb_bytes};
 
 use ubi_media::{Geometry, is_blank};
 use ubi_scan::{BlockSource, StreamError, read_leb, read_part};
 
-/// The bytes of a logical eraseblock that are looked at first: where it holds anything, most often so do they.
+/// The bytes that are looked at first: where there is anything but 0xFF, most often there is some among them.
 const FRONT: usize = 4096;
 
 /// Fills `out` with the first bytes of a logical eraseblock, by its place ([`crate::Places::place`]): with 0xFF where it
@@ -31,6 +32,7 @@ pub fn read_place<S: BlockSource>(
     ensures narrows { Narrows (S.agrees source.old) (S.agrees source.new) }
     ensures bytes { OnOk result (WhereHeld (S.agrees source.new) (λ bytes. out.new ≡ leb_bytes geometry.now (length out.old) place bytes)) }
     ensures failed { IfErr result (IsReadFault (blocks_in geometry.now (S.known source.old))) }
+    ensures names { IfErr result (λ e. (p : ℕ) × (place ≡ Some p) × (e ≡ StreamError.Read p 0)) }
 {
     match place {
         Some(p) => read_leb(source, geometry, p, out),
@@ -60,6 +62,7 @@ pub fn is_kept<S: BlockSource>(
     ensures reads { IfOk result (λ kept. WhereHeld (S.agrees source.new) (λ bytes. leb_bytes geometry.now (length text.old) place bytes ≡ (if kept then text.new else blank (length text.old)))) }
     ensures some { IfOk result (λ kept. IsTrue kept → text.new ≢ blank (length text.old)) }
     ensures failed { IfErr result (IsReadFault (blocks_in geometry.now (S.known source.old))) }
+    ensures names { IfErr result (λ e. (p : ℕ) × (place ≡ Some p) × (e ≡ StreamError.Read p 0)) }
 {
     if place.is_none() {
         return Ok(false);
@@ -68,8 +71,42 @@ pub fn is_kept<S: BlockSource>(
     Ok(!is_blank(text))
 }
 
-/// Whether a logical eraseblock has a place, and its first bytes, as many as the buffer has, aren't 0xFF throughout. It is
-/// read until that is known: the rest only where the first 4,096 bytes are 0xFF.
+/// Whether the bytes of an eraseblock that begin at its byte `start`, as many as the buffer has, are 0xFF throughout. They are
+/// read until that is known: the rest only where the first 4,096 are.
+///
+/// # Errors
+///
+/// Read where a read failed, with the count 0.
+pub fn is_blank_part<S: BlockSource>(
+    source: &mut S,
+    geometry: &Geometry,
+    p: u32,
+    start: u32,
+    buffer: &mut [u8],
+) -> Result<bool, StreamError>
+    requires block { p < blocks_in geometry.now (S.known source.old) }
+    requires part { start + length buffer.old ≤ geometry.now.peb_size }
+    ensures known { S.known source.new ≡ after (S.known source.old) result }
+    ensures narrows { Narrows (S.agrees source.old) (S.agrees source.new) }
+    ensures blank { IfOk result (λ b. WhereHeld (S.agrees source.new) (λ bytes. b ≡ is_blank (slice_range (block (blocks_of geometry.now bytes) p) start (start + length buffer.old)))) }
+    ensures failed { IfErr result (IsReadFault (blocks_in geometry.now (S.known source.old))) }
+    ensures names { IfErr result (λ e. e ≡ StreamError.Read p 0) }
+{
+    let front = buffer.len().min(FRONT);
+    let (first, rest) = buffer.split_at_mut(front);
+    read_part(source, geometry, p, start, first)?;
+    if !is_blank(first) {
+        return Ok(false);
+    }
+    if rest.is_empty() {
+        return Ok(true);
+    }
+    prove!(start as usize + front <= geometry.peb_size() as usize);
+    read_part(source, geometry, p, start + front as u32, rest)?;
+    Ok(is_blank(rest))
+}
+
+/// Whether a logical eraseblock has a place, and its first bytes, as many as the buffer has, aren't 0xFF throughout.
 ///
 /// # Errors
 ///
@@ -87,26 +124,12 @@ pub fn holds_bytes<S: BlockSource>(
     ensures long { IfOk result (λ _. WhereHeld (S.agrees source.new) (λ bytes. length (leb_bytes geometry.now (length buffer.old) place bytes) ≡ length buffer.old)) }
     ensures holds { IfOk result (λ holds. WhereHeld (S.agrees source.new) (λ bytes. holds ≡ not (is_blank (leb_bytes geometry.now (length buffer.old) place bytes)))) }
     ensures failed { IfErr result (IsReadFault (blocks_in geometry.now (S.known source.old))) }
+    ensures names { IfErr result (λ e. (p : ℕ) × (place ≡ Some p) × (e ≡ StreamError.Read p 0)) }
 {
     let Some(p) = place else {
         return Ok(false);
     };
-    let front = buffer.len().min(FRONT);
-    let (first, rest) = buffer.split_at_mut(front);
-    read_leb(source, geometry, p, first)?;
-    if !is_blank(first) {
-        return Ok(true);
-    }
-    if rest.is_empty() {
-        return Ok(false);
-    }
     prove!(geometry.data_offset() <= geometry.peb_size());
-    read_part(
-        source,
-        geometry,
-        p,
-        geometry.data_offset() + front as u32,
-        rest,
-    )?;
-    Ok(!is_blank(rest))
+    let blank = is_blank_part(source, geometry, p, geometry.data_offset(), buffer)?;
+    Ok(!blank)
 }

@@ -1,11 +1,16 @@
 //! Laws of the definitions that the contracts cite, each as the contract of a function that does nothing.
 
 ghost use Rattle.ubi_volume.specs.Laws.{NeverBoth, OneCause, OneOrOther};
-ghost use Rattle.ubi_volume.specs.MeaningLaws.{JudgedAlone, OneFirst, OneMeaning, Reorder};
+ghost use Rattle.ubi_volume.specs.MeaningLaws.{JudgedAlone, OneAttached, OneFirst, OneMeaning, Reorder};
 
 /// An image has one meaning at most.
 pub fn one_meaning()
     ensures { OneMeaning }
+{}
+
+/// What attaching an image gives is one value.
+pub fn one_attached()
+    ensures { OneAttached }
 {}
 
 /// An image that is accepted isn't refused.

@@ -39,7 +39,7 @@ pub use content::{Bytes, Content, Lebs, Volume};
 pub use errors::{MeaningCause, MeaningError, ReadError};
 pub use extent::Extent;
 pub use extracting::write_places;
-pub use fetching::read_place;
+pub use fetching::{is_blank_part, read_place};
 pub use length::volume_len;
 pub use meaning::Meaning;
 pub use output::write_all;

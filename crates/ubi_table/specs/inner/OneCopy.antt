@@ -35,13 +35,3 @@ IsCopyOfError s k agrees c (stream.Refused cause) = WhereHeld agrees (λ bytes. 
 IsCopyOfError s k agrees c (stream.Read p written) = IsReadFault (blocks_in s k) (stream.Read p written)
 IsCopyOfError s k agrees c (stream.Write _) = ⊥
 IsCopyOfError s k agrees c stream.Memory = Unit {0}
-
--- the table of a copy, if it is one, has these sizes
-abbrev pub HasSizes : Sizes → CopyRead → Type 0
-HasSizes s (copy.Good t) = t.sizes ≡ s
-HasSizes s _ = Unit {0}
-
--- why a copy can't be read: a read failed, or memory ran out
-abbrev pub IsCopyReadError : ℕ → StreamError → Type 0
-IsCopyReadError n stream.Memory = Unit {0}
-IsCopyReadError n e = IsReadFault n e

@@ -115,7 +115,7 @@ fn reads_a_text_of_limited_length(rt: HostRuntime) -> Result<(), Fail> {
 }
 
 /// How files fail while nothing is composed, what is answered, and how many bytes are written.
-static WAYS: [(Broken, (&str, u8), usize); 5] = [
+static WAYS: [(Broken, (&str, u8), usize); 7] = [
     (Broken::OpenRead, ("cannot read a.txt\n", 1), 0),
     (
         Broken::Read(ErrorKind::Other, 4),
@@ -124,6 +124,9 @@ static WAYS: [(Broken, (&str, u8), usize); 5] = [
     ),
     (Broken::OpenWrite, ("cannot write b.img\n", 1), 0),
     (Broken::Write(700), ("cannot write b.img\n", 1), 700),
+    // What fails isn't tried again.
+    (Broken::ReadOnce(4), ("cannot read a.txt\n", 1), 0),
+    (Broken::WriteOnce(700), ("cannot write b.img\n", 1), 700),
     (Broken::Short(9), ("blocks 2\n", 0), 1024),
 ];
 

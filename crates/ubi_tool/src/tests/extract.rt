@@ -166,11 +166,12 @@ fn opens_no_file_of_what_is_refused(rt: HostRuntime) -> Result<(), Fail> {
 }
 
 /// How files fail while `root` is extracted, what is answered, and how many bytes are written.
-static WAYS: [(Broken, (&str, u8), usize); 4] = [
+static WAYS: [(Broken, (&str, u8), usize); 5] = [
     (Broken::Nothing, ("bytes 7680\n", 0), 7680),
     (Broken::Short(100), ("bytes 7680\n", 0), 7680),
     (Broken::OpenWrite, ("cannot write b.bin\n", 1), 0),
     (Broken::Write(500), ("cannot write b.bin\n", 1), 500),
+    (Broken::WriteOnce(500), ("cannot write b.bin\n", 1), 500),
 ];
 
 /// The same of a volume that reads nothing.

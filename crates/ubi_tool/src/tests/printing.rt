@@ -5,6 +5,7 @@ use crate::outcome::Outcome;
 use crate::printing::report;
 use std::alloc::{AllocError, Global};
 use std::cell::RefCell;
+use std::io;
 use std::process::Abort;
 use std::test::Fail;
 
@@ -19,7 +20,10 @@ fn assert_reports(
     let printed = RefCell::new(Vec::new(alloc));
     let shown = RefCell::new(String::new(alloc));
     let terminal = FakeTerminal::new(room, &printed, &shown);
-    assert_eq!(rt; report(&terminal, answer), status);
+    assert_eq!(rt;
+        report(&terminal, &mut io::writer(&terminal), answer),
+        status
+    );
     assert_eq!(rt; printed.into_inner().as_slice(), text.as_bytes());
     assert_eq!(rt; shown.into_inner().as_str(), error);
 }

@@ -1,13 +1,9 @@
 -- What is known of each volume of a source without its contents, piece by piece.
 use Rattle.std.specs.Prelude.{◌≡◌, ℕ, List, [], ◌∷◌, Option, length, map, option_map}
+use Rattle.std.specs.FinMap.{FinMap}
 use Rattle.ubi_media.specs.Geometry.{Sizes}
 use Rattle.ubi_media.specs.declared.record.VolumeRecord.{VolumeRecord}
-use Rattle.ubi_scan.specs.Source.{Agreed, Source, WhereHeld, blocks_in, blocks_of}
-use Rattle.ubi_scan.specs.Stream.{IsReadFault}
-use Rattle.ubi_scan.specs.declared.errors.StreamError.{StreamError}
-use Rattle.ubi_scan.specs.declared.errors.StreamError.TheVariants as stream
-use Rattle.ubi_table.specs.Records.{Records}
-use Rattle.ubi_volume.specs.Accepts.{IsVolumeFault}
+use Rattle.ubi_scan.specs.Scan.{leb_cmp}
 use Rattle.ubi_volume.specs.inner.Gathered.{AreContents, AreRead, ContentIs, PieceIs}
 use Rattle.ubi_volume.specs.Places.{CaseFits, case_of}
 use Rattle.ubi_volume.specs.declared.content.Content.{Content}
@@ -39,7 +35,7 @@ pub record AreCases (s : Sizes) (bs : List (List ℕ)) (entries : List (ℕ × V
   pub cases : listed ≡ map (case_in s) volumes
 
 -- each entry has a case behind its number, which its record allows
-abbrev pub AreNumbered : List (ℕ × VolumeRecord) → List (ℕ × PlaceContent) → Type 0
-AreNumbered [] [] = Unit {0}
-AreNumbered (e ∷ entries) (c ∷ cases) = (c.0 ≡ e.0) × CaseFits e.1 c.1 × AreNumbered entries cases
-AreNumbered _ _ = ⊥
+abbrev pub AreNumbered : FinMap leb_cmp ℕ → List (ℕ × VolumeRecord) → List (ℕ × PlaceContent) → Type 0
+AreNumbered winners [] [] = Unit {0}
+AreNumbered winners (e ∷ entries) (c ∷ cases) = (c.0 ≡ e.0) × CaseFits winners e.0 e.1 c.1 × AreNumbered winners entries cases
+AreNumbered winners _ _ = ⊥

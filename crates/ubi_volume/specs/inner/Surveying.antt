@@ -1,5 +1,5 @@
 -- What is known of a source before its volumes are read, and the state of each eraseblock.
-use Rattle.std.specs.Prelude.{List, ◌≡◌, ◌≢◌, ◌^◌, ◌<◌, Bool, true, false, length}
+use Rattle.std.specs.Prelude.{List, ◌≡◌, ◌≢◌, ◌^◌, ◌<◌, ◌≤◌, Bool, true, false, length}
 use Rattle.ubi_media.specs.Geometry.{IsGeometry, Sizes}
 use Rattle.ubi_scan.specs.Members.{Leb, layout}
 use Rattle.ubi_scan.specs.Scan.{Found}
@@ -19,6 +19,7 @@ pub record AreChecked (s : Sizes) (k : Source) (agrees : Agreed) (found : Found)
   pub source : IsSource k agrees
   pub scan : IsScanOf s k agrees found
   pub narrow : found.image_seq < 2 ^ 32
+  pub mean : found.mean_ec ≤ 0x7FFFFFFF
   pub table : IsTableOf s agrees t
   pub alike : WhereHeld agrees (λ bytes. NoMismatch s (blocks_of s bytes) t)
 

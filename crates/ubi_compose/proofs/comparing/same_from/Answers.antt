@@ -39,6 +39,7 @@ returns-clause-refused g c =
     let s = c.args.geometry.now in
     IfErr-weaker c.same_places.result _ _
     (λ e h. sides_refused s (g.L.BlockSource.known c.args.left.now) _ (g.R.BlockSource.known c.args.right.now) _ e
+    c.in-Ok.ensures.places.whole c.in-Ok-attach_places.ensures.places.whole
     (λ bytes holds. (let p = c.in-Ok.ensures.places.held bytes (c.same_places.ensures.left_narrows bytes holds) in
     (p.meaning, p.accepted)))
     (subst (λ (k : Source). IsSidesError (blocks_in s k) (blocks_in s (g.R.BlockSource.known c.args.right.now)) e)

@@ -23,8 +23,8 @@ returns c =
       c.as_slice-2.ensures.value,
       c.as_slice.ensures.value,
       c.in_ok-text.ensures,
-      c.plain-first.ensures,
-      c.plain-second.ensures,
+      c.copy_header-zero.ensures,
+      c.copy_header-one.ensures,
       c.geometry-geometry.ensures.value,
       c.image_seq-image_seq.ensures.value,
     ) refl)

@@ -9,6 +9,6 @@ invariant-loop-lnum g l = record {
   source : g.S.BlockSource.known l.source ≡ g.S.BlockSource.known l.fn.source;
   narrows : Narrows (g.S.BlockSource.agrees l.fn.source) (g.S.BlockSource.agrees l.source);
   wrote : Wrote (g.S.BlockSource.agrees l.source) (g.W.Write.contents l.fn.writer) (g.W.Write.contents l.writer)
-      (first_pieces l.geometry l.places l.id l.entry l.lnum) All l.done l.total;
+      (first_pieces l.geometry l.places l.numbered.0 l.numbered.1 l.lnum) All l.done l.total;
   few : l.total ≤ l.done + l.lnum * l.geometry.peb_size;
 }

@@ -13,7 +13,7 @@ returns-in_err-first-clause-failed g c =
     rw (from.1, from.2) (first_failed c.args.geometry.now c.args.places.now c.args.text.now c.requires.text k agrees _ _
     (g.W.Write.contents c.args.writer.now) (g.W.Write.contents c.args.writer.now) c.in_err-first.field-0.0
     (error_narrowed anything agrees (λ bytes holds. tt) c.args.geometry.now k _ _ _ 0 c.in_err-first.field-0.0
-    (rw c.image_seq-image_seq.ensures at (c.in_err-first.ensures.failed k))))
+    (rw (c.image_seq-image_seq.ensures, c.copy_header-zero.ensures) at (c.in_err-first.ensures.failed k))))
 
 pub returns-in_err-second-clause-failed : goal.returns-in_err-second-clause-failed
 returns-in_err-second-clause-failed g c =
@@ -22,9 +22,9 @@ returns-in_err-second-clause-failed g c =
     let agrees = g.S.BlockSource.agrees c.args.source.now in
     rw (from.1, from.2) (second_failed c.args.geometry.now c.args.places.now c.args.text.now c.requires.text k agrees _ _ _
     (g.W.Write.contents c.args.writer.now) c.in_ok-first.first c.in_err-second.field-0.0
-    (wrote_narrowed anything agrees (λ bytes holds. tt) _ _ _ All 0 c.in_ok-first.first (rw c.image_seq-image_seq.ensures at c.in_ok-first.ensures.written))
+    (wrote_narrowed anything agrees (λ bytes holds. tt) _ _ _ All 0 c.in_ok-first.first (rw (c.image_seq-image_seq.ensures, c.copy_header-zero.ensures) at c.in_ok-first.ensures.written))
     (error_narrowed anything agrees (λ bytes holds. tt) c.args.geometry.now k _ _ _ c.in_ok-first.first
-    c.in_err-second.field-0.0 (rw c.image_seq-image_seq.ensures at (c.in_err-second.ensures.failed k))))
+    c.in_err-second.field-0.0 (rw (c.image_seq-image_seq.ensures, c.copy_header-one.ensures) at (c.in_err-second.ensures.failed k))))
 
 pub returns-clause-written : goal.returns-clause-written
 returns-clause-written g c =
@@ -33,9 +33,9 @@ returns-clause-written g c =
     IfOk-weaker c.put_volumes.result _ _
     (λ n h. all_parts c.args.geometry.now c.args.places.now c.args.text.now c.requires.text k agrees _ _ _ _
     c.in_ok-first.first c.in_ok-second.second n
-    (wrote_narrowed anything agrees (λ bytes holds. tt) _ _ _ All 0 c.in_ok-first.first (rw c.image_seq-image_seq.ensures at c.in_ok-first.ensures.written))
+    (wrote_narrowed anything agrees (λ bytes holds. tt) _ _ _ All 0 c.in_ok-first.first (rw (c.image_seq-image_seq.ensures, c.copy_header-zero.ensures) at c.in_ok-first.ensures.written))
     (wrote_narrowed anything agrees (λ bytes holds. tt) _ _ _ All c.in_ok-first.first c.in_ok-second.second
-    (rw c.image_seq-image_seq.ensures at c.in_ok-second.ensures.written)) h)
+    (rw (c.image_seq-image_seq.ensures, c.copy_header-one.ensures) at c.in_ok-second.ensures.written)) h)
     c.put_volumes.ensures.written
 
 pub returns-clause-failed : goal.returns-clause-failed
@@ -45,7 +45,7 @@ returns-clause-failed g c =
     IfErr-weaker c.put_volumes.result _ _
     (λ e h. volumes_behind c.args.geometry.now c.args.places.now c.args.text.now c.requires.text k agrees _ _ _ _
     c.in_ok-first.first c.in_ok-second.second e
-    (wrote_narrowed anything agrees (λ bytes holds. tt) _ _ _ All 0 c.in_ok-first.first (rw c.image_seq-image_seq.ensures at c.in_ok-first.ensures.written))
+    (wrote_narrowed anything agrees (λ bytes holds. tt) _ _ _ All 0 c.in_ok-first.first (rw (c.image_seq-image_seq.ensures, c.copy_header-zero.ensures) at c.in_ok-first.ensures.written))
     (wrote_narrowed anything agrees (λ bytes holds. tt) _ _ _ All c.in_ok-first.first c.in_ok-second.second
-    (rw c.image_seq-image_seq.ensures at c.in_ok-second.ensures.written)) h)
+    (rw (c.image_seq-image_seq.ensures, c.copy_header-one.ensures) at c.in_ok-second.ensures.written)) h)
     c.put_volumes.ensures.failed

@@ -1,8 +1,9 @@
-use Rattle.std.proofs.Common.{◌≡◌, ◌+◌, ◌≤◌, length, slice_range, length-take-le, ap, ◌∙◌, arith}
+use Rattle.std.proofs.Common.{◌≡◌, ◌+◌, ◌≤◌, length, slice_range, length-take-le, ap, sym, ◌∙◌, arith}
 use Rattle.ubi_media.specs.Ec.{ec_reading}
 use Rattle.ubi_media.specs.Vid.{vid_reading}
 use Rattle.ubi_scan.specs.Image.{block}
 use Rattle.ubi_scan.specs.Source.{blocks_of}
+use Rattle.ubi_scan.proofs.Counters.{counter_fits}
 use Rattle.ubi_scan.proofs.ReadParts.{front_of_read, part_of_read}
 use Rattle.ubi_scan.proofs.reading.read_headers.Goals as goal
 
@@ -41,3 +42,6 @@ returns-clause-vid g c = λ bytes holds.
     let first = rw c.unwrap-2.ensures at c.first_chunk-2.ensures.cases in
     c.read_vid-vid.ensures.value ∙ ap (vid_reading s) (first.same ∙ part_of_read b area start size read
     ∙ ap (λ n. slice_range b n (n + 64)) c.vid_offset-start.ensures.value)
+
+pub returns-clause-counter : goal.returns-clause-counter
+returns-clause-counter g c = counter_fits c.args.geometry.now _ c.read_ec-ec.result (sym c.read_ec-ec.ensures.value)

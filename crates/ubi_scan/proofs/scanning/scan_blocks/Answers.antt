@@ -1,5 +1,6 @@
 use Rattle.std.proofs.Common.{◌≡◌, ◌<◌, inr, length, sym, ◌∙◌, arith}
 use Rattle.ubi_scan.specs.Source.{Source, blocks_in, blocks_of}
+use Rattle.ubi_scan.proofs.Counters.{mean_fits}
 use Rattle.ubi_scan.proofs.ReadParts.{count_blocks}
 use Rattle.ubi_scan.proofs.SoFar.{SoFar-all, SoFar-fault, SoFar-more}
 use Rattle.ubi_scan.proofs.Within.{Within-all, Within-more}
@@ -70,3 +71,8 @@ returns-clause-found g c =
           rw c.of.ensures (SoFar-all s bs c.loop-p.p c.loop-p.pass (c.loop-p.invariant.so_far bytes holds)
           (omega arith));
     }
+
+pub returns-clause-mean : goal.returns-clause-mean
+returns-clause-mean g c =
+    let counts = c.loop-p.pass.counts in
+    rw c.of.ensures (mean_fits counts.counted counts.sum counts.small)

@@ -5,7 +5,7 @@ use Rattle.ubi_scan.specs.Members.{Leb, NoMember, Wins, layout}
 use Rattle.ubi_scan.specs.Scan.{IsScan}
 use Rattle.ubi_scan.specs.Source.{blocks_of}
 use Rattle.ubi_scan.proofs.ReadParts.{leb_of_read}
-use Rattle.ubi_table.specs.inner.OneCopy.{HasSizes}
+use Rattle.ubi_table.specs.Stream.{HasSizes}
 use Rattle.ubi_table.proofs.One.{copy_held}
 use Rattle.ubi_table.proofs.Streamed.{copy_sizes}
 use Rattle.ubi_table.proofs.copy.read_copy_from.Goals as goal

@@ -1,26 +1,39 @@
-use Rattle.std.proofs.Common.{◌≡◌, [], ap, ◌∙◌}
+use Rattle.std.proofs.Common.{◌≡◌, ap, refl, true, ◌∙◌}
 use Rattle.std.specs.Prelude.{codes}
 use Rattle.std.proofs.lemmas.Result.{IfOk-weaker}
-use Rattle.clap.specs.Built.{names_in, subcommand_names}
+use Rattle.clap.specs.Simple.{App, app_of, app_of_fields, new_app, on_top}
+use Rattle.ubi_tool.specs.Tool.{change, check, compose, extract, list, normalise, rename, same, show, tool}
 use Rattle.ubi_tool.specs.inner.CommandLine.{HasOneMore}
-use Rattle.ubi_tool.proofs.CommandNames.{behind}
+use Rattle.ubi_tool.proofs.CommandNames.{joined, names_are}
 use Rattle.ubi_tool.proofs.command_line.command_line.Goals as goal
 
-pub returns : goal.returns
-returns c =
-    let none : subcommand_names c.subcommand_required-tool.result ≡ [] =
-    ap (λ f. names_in f.subcommands.items) c.subcommand_required-tool.ensures
-    ∙ ap (λ f. names_in f.subcommands.items) c.after_help.ensures
-    ∙ ap (λ f. names_in f.subcommands.items) c.version.ensures ∙ ap (λ f. names_in f.subcommands.items) c.about.ensures
-    ∙ ap names_in c.new.ensures.empty.2 in
-    let one = behind _ _ _ (codes "list") none (c.in_ok-tool.ensures (codes "list") c.list_command.ensures) in
-    let two = behind _ _ _ (codes "check") one (c.in_ok-tool-2.ensures (codes "check") c.check_command.ensures) in
-    let three = behind _ _ _ (codes "show") two (c.in_ok-tool-3.ensures (codes "show") c.show_command.ensures) in
-    let four = behind _ _ _ (codes "extract") three (c.in_ok-tool-4.ensures (codes "extract") c.extract_command.ensures) in
-    let five = behind _ _ _ (codes "compose") four (c.in_ok-tool-5.ensures (codes "compose") c.compose_command.ensures) in
-    let six = behind _ _ _ (codes "normalise") five (c.in_ok-tool-6.ensures (codes "normalise") c.normalise_command.ensures) in
-    let seven = behind _ _ _ (codes "same") six (c.in_ok-tool-7.ensures (codes "same") c.same_command.ensures) in
-    let eight = behind _ _ _ (codes "change") seven (c.in_ok-tool-8.ensures (codes "change") c.change_command.ensures) in
+abbrev versioned : App → App
+versioned = on_top (λ s. record s { has_version = true })
+
+abbrev requiring : App → App
+requiring = on_top (λ s. record s { subcommand_required = true })
+
+pub returns-clause-app : goal.returns-clause-app
+unfolding tool
+returns-clause-app c =
+    let named : app_of c.about.result ≡ new_app (codes "ubi_tool") =
+    ap app_of_fields c.about.ensures ∙ c.new.ensures.app in
+    let start : app_of c.subcommand_required-tool.result ≡ requiring (versioned (new_app (codes "ubi_tool"))) =
+    ap app_of_fields c.subcommand_required-tool.ensures
+    ∙ ap requiring (ap app_of_fields c.after_help.ensures ∙ ap app_of_fields c.version.ensures ∙ ap versioned named) in
+    let one = joined _ _ _ _ list c.in_ok-tool.ensures refl c.list_command.ensures start in
+    let two = joined _ _ _ _ check c.in_ok-tool-2.ensures refl c.check_command.ensures one in
+    let three = joined _ _ _ _ show c.in_ok-tool-3.ensures refl c.show_command.ensures two in
+    let four = joined _ _ _ _ extract c.in_ok-tool-4.ensures refl c.extract_command.ensures three in
+    let five = joined _ _ _ _ compose c.in_ok-tool-5.ensures refl c.compose_command.ensures four in
+    let six = joined _ _ _ _ normalise c.in_ok-tool-6.ensures refl c.normalise_command.ensures five in
+    let seven = joined _ _ _ _ same c.in_ok-tool-7.ensures refl c.same_command.ensures six in
+    let eight = joined _ _ _ _ change c.in_ok-tool-8.ensures refl c.change_command.ensures seven in
     IfOk-weaker c.with_command-9.result (HasOneMore c.in_ok-tool-8.tool c.rename_command.result) _
-    (λ r more. behind _ _ _ (codes "rename") eight (more (codes "rename") c.rename_command.ensures))
+    (λ r more. joined _ _ _ _ rename more refl c.rename_command.ensures eight)
     c.with_command-9.ensures
+
+pub returns-clause-names : goal.returns-clause-names
+unfolding tool
+returns-clause-names c =
+    IfOk-weaker c.with_command-9.result _ _ (λ r is. names_are r tool is) (returns-clause-app c)

@@ -6,5 +6,5 @@ use Rattle.ubi_tool.proofs.command_line.with_command.Goals as goal
 pub returns : goal.returns
 returns c =
     IfOk-weaker c.subcommand.result (λ r. AddsSubcommand c.args.tool c.in_ok-command.field-0 r) _
-    (λ r adds name called. one_more _ _ _ name adds (rw c.in_ok-command.was at called))
+    (λ r adds s plain made. one_more _ _ _ s adds plain (rw c.in_ok-command.was at made))
     c.subcommand.ensures

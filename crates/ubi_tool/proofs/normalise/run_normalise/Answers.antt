@@ -11,7 +11,7 @@ returns-in-Ok-clause-ok g c =
     let line : c.put_blocks_line.new.text.items ≡ blocks_line (c.in-Ok.count / c.args.geometry.now.peb_size) =
     rw (c.in_ok-line.ensures.items, c.from.ensures, c.peb_size.ensures.value) at
     c.in_ok-put_blocks_line-in-Ok.ensures.line in
-    wrote c.in-Ok.count c.in-Ok.ensures.written (rw line at c.saying.ensures)
+    wrote c.in-Ok.count c.in-Ok.ensures.whole c.in-Ok.ensures.written (rw line at c.saying.ensures)
 
 pub returns-in-Ok-clause-image : goal.returns-in-Ok-clause-image
 returns-in-Ok-clause-image g c bytes holds =

@@ -8,4 +8,4 @@ returns-clause-answer g c =
     let err = rw c.new-late.ensures.unopened at c.run_extract_from-answer.ensures.err in
     into_file c.args.geometry.now _ _ _ c.args.id c.args.image.now c.args.out.now _ _ _ _ _ _ c.ended.ensures ok image err
     c.run_extract_from-answer.ensures.known
-    c.in_ok-unread.ensures c.in_ok-unwritten.ensures
+    c.in_ok-unread.ensures (rw (c.path.ensures, c.new-late.ensures.path) at c.in_ok-unwritten.ensures)

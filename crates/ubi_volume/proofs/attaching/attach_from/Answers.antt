@@ -16,7 +16,7 @@ cases_from-requires-clause-checked g c =
     c.in_ok-scan.ensures.checked
 
 pub invariant_of-places : goal.invariant_of-places
-invariant_of-places g c = are_listed c.in_ok-scan.field-0.table c.in_ok-contents.contents.items
+invariant_of-places g c = are_listed c.in_ok-scan.field-0.scan.winners c.in_ok-scan.field-0.table c.in_ok-contents.contents.items
     c.in_ok-contents.ensures.numbered
 
 pub meaning_from-requires-clause-places : goal.meaning_from-requires-clause-places

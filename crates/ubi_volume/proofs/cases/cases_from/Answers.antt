@@ -39,7 +39,7 @@ loop-listed-preserved g c =
       source = c.in_ok-case.ensures.known ∙ c.loop-listed.invariant.source;
       narrows = λ bytes holds. c.loop-listed.invariant.narrows bytes (c.in_ok-case.ensures.narrows bytes holds);
       numbered = rw (next, c.in-Ok.ensures.items)
-          (numbered_more (take i es) c.loop-listed.cases.items e c.in_ok-case.case c.loop-listed.invariant.numbered
+          (numbered_more c.args.scan.now.winners (take i es) c.loop-listed.cases.items e c.in_ok-case.case c.loop-listed.invariant.numbered
           c.in_ok-case.ensures.fits);
       cases = λ bytes holds.
           let s = c.args.geometry.now in

@@ -1,4 +1,5 @@
-use Rattle.std.proofs.Common.{◌≡◌, ◌∙◌, sym, subst, arith}
+use Rattle.std.proofs.Common.{◌≡◌, ◌∙◌, ℕ, refl, sym, subst, arith, below_more}
+use Rattle.std.specs.Prelude.{IsSome, Option}
 use Rattle.ubi_media.proofs.Records.{usable_some}
 use Rattle.ubi_scan.specs.Image.{image_of}
 use Rattle.ubi_scan.specs.Source.{blocks_of}
@@ -35,6 +36,7 @@ loop-lnum-init g c = record {
   narrows = c.in_ok-used.ensures.narrows;
   used = c.in_ok-used.ensures.used;
   small = omega arith;
+  won = λ k below. absurd (omega arith);
   read = λ bytes holds. size_none c.args.geometry.now (blocks_of c.args.geometry.now bytes) c.args.id c.in_ok-used.used;
 }
 
@@ -56,6 +58,8 @@ loop-lnum-preserved g c = record {
   narrows = λ bytes holds. c.loop-lnum.invariant.narrows bytes (c.in_ok-size.ensures.narrows bytes holds);
   used = λ bytes holds. c.loop-lnum.invariant.used bytes (c.in_ok-size.ensures.narrows bytes holds);
   small = (let small = c.loop-lnum.invariant.small in let wide = c.from-bytes.ensures in omega (arith, small, wide));
+  won = below_more _ _ c.loop-lnum.invariant.won
+      (c.in_ok-size.ensures.won (subst (λ (o : Option ℕ). IsSome o) (sym c.in-Some.is) refl));
   read = λ bytes holds.
       let s = c.args.geometry.now in
       let bs = blocks_of s bytes in

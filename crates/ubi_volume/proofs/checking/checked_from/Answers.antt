@@ -1,4 +1,4 @@
-use Rattle.std.proofs.Common.{ℕ, ◌^◌, ◌<◌, ◌∙◌, subst}
+use Rattle.std.proofs.Common.{ℕ, ◌^◌, ◌<◌, subst}
 use Rattle.std.proofs.lemmas.Result.{err_from_is_err_and}
 use Rattle.ubi_scan.specs.Source.{blocks_of}
 use Rattle.ubi_scan.proofs.Narrowed.{narrows_more, scan_narrowed, source_narrowed}
@@ -29,6 +29,7 @@ returns-clause-checked g c =
           (g.met.S.BlockSource.sized c.args.source.now);
       scan = scan;
       narrow = subst (λ (n : ℕ). n < 2 ^ 32) c.image_seq.ensures c.image_seq.type_inv;
+      mean = c.in_ok-scan.ensures.mean;
       table = c.in_ok-table.ensures.table;
       alike = λ bytes holds. c.in_ok-check_winners.ensures.alike (blocks_of s bytes) (scan.held bytes holds);
     }

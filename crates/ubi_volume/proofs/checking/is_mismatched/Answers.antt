@@ -1,9 +1,6 @@
-use Rattle.std.proofs.Common.{◌∙◌, ap, sym, subst}
-use Rattle.std.specs.FinMap as finite
-use Rattle.ubi_scan.specs.Scan.{header_of}
-use Rattle.ubi_scan.specs.declared.found.MemberHeader.{MemberHeader}
-use Rattle.ubi_volume.specs.inner.Headers.{Disagrees, WinnerHeaderIs}
-use Rattle.ubi_volume.proofs.Mismatches.{by_both, mismatch_by_header, never, no_record_no_mismatch, no_winner_no_mismatch}
+use Rattle.std.proofs.Common.{subst}
+use Rattle.ubi_volume.specs.inner.Headers.{WinnerHeaderIs}
+use Rattle.ubi_volume.proofs.Mismatches.{never, no_winner_no_mismatch}
 use Rattle.ubi_volume.proofs.checking.is_mismatched.Goals as goal
 
 pub returns-in_default : goal.returns-in_default

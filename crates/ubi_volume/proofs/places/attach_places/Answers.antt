@@ -3,7 +3,7 @@ use Rattle.ubi_volume.proofs.PlacesOf.{are_listed, are_places}
 use Rattle.ubi_volume.proofs.places.attach_places.Goals as goal
 
 pub invariant_of-result : goal.invariant_of-result
-invariant_of-result g c = are_listed c.in_ok-scan.field-0.table c.in_ok-contents.contents.items
+invariant_of-result g c = are_listed c.in_ok-scan.field-0.scan.winners c.in_ok-scan.field-0.table c.in_ok-contents.contents.items
     c.in_ok-contents.ensures.numbered
 
 pub returns-clause-places : goal.returns-clause-places

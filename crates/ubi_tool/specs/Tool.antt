@@ -1,0 +1,80 @@
+-- The command line: which commands there are, and which words each takes.
+use Rattle.std.specs.Prelude.{◌≡◌, ◌∷◌, ◌++◌, [], List, Some, codes, pos, true, false}
+use Rattle.clap.specs.Simple.{App, Shape, new_rule, new_shape, subcommand_of}
+use Rattle.clap.specs.Walk.{Row, Rule, Text}
+use Rattle.clap.specs.declared.builder.value_parser.ValueParser.TheVariants as parser
+use Rattle.ubi_tool.specs.CommandLine.{Asks, command_name}
+use Rattle.ubi_tool.specs.declared.command_line.Request.{Request}
+
+-- an argument that has to be given
+abbrev pub needed : Rule → Rule
+needed r = record r { required = true }
+
+-- an option that takes a text
+abbrev pub option : Text → Rule
+option name = record (new_rule name) { long = Some name; value_names = 1 }
+
+-- one that takes a number of 32 bits
+abbrev pub number : Text → Rule
+number name = record (option name) { parser = Some (parser.Signed (pos 0) (pos 4294967295)) }
+
+-- the numbers of a geometry
+abbrev pub numbers : List Rule
+numbers = needed (number (codes "peb")) ∷ needed (number (codes "page")) ∷ number (codes "vid") ∷ number (codes "data")
+    ∷ number (codes "pebs") ∷ []
+
+abbrev pub output : Rule
+output = needed (option (codes "out"))
+
+abbrev pub volume : Rule
+volume = needed (number (codes "id"))
+
+-- a command, with what it takes beside the numbers
+abbrev pub command : Text → List Rule → Shape
+command name rules = record (new_shape name) { rules = numbers ++ rules }
+
+-- one over an image file
+abbrev pub on_image : Text → List Rule → Shape
+on_image name rules = command name (needed (new_rule (codes "IMAGE")) ∷ rules)
+
+abbrev pub list : Shape
+list = on_image (codes "list") []
+
+abbrev pub check : Shape
+check = on_image (codes "check") []
+
+abbrev pub show : Shape
+show = on_image (codes "show") (needed (number (codes "block")) ∷ [])
+
+abbrev pub extract : Shape
+extract = on_image (codes "extract") (output ∷ volume ∷ [])
+
+abbrev pub compose : Shape
+compose =
+    command (codes "compose")
+    (needed (new_rule (codes "SPEC")) ∷ output ∷ number (codes "spares") ∷ number (codes "seq") ∷ [])
+
+abbrev pub normalise : Shape
+normalise = on_image (codes "normalise") (output ∷ [])
+
+abbrev pub same : Shape
+same = on_image (codes "same") (needed (record (new_rule (codes "OTHER")) { value_names = 1 }) ∷ [])
+
+abbrev pub change : Shape
+change =
+    on_image (codes "change")
+    (output ∷ volume ∷ needed (number (codes "lnum")) ∷ needed (option (codes "from")) ∷ number (codes "stop") ∷ [])
+
+abbrev pub rename : Shape
+rename = on_image (codes "rename") (output ∷ volume ∷ needed (option (codes "name")) ∷ number (codes "stop") ∷ [])
+
+-- the program: it has a version, and a command has to be named
+unfoldable pub tool : App
+tool = record {
+  top = record (new_shape (codes "ubi_tool")) { is_leaf = false; has_version = true; subcommand_required = true };
+  subs = list ∷ check ∷ show ∷ extract ∷ compose ∷ normalise ∷ same ∷ change ∷ rename ∷ [];
+}
+
+-- the words, the program's name first, are this request
+abbrev pub Requests : List Text → Request → Type 0
+Requests words r = (rows : List Row) × (subcommand_of tool words ≡ Some (command_name r, rows)) × Asks rows r
