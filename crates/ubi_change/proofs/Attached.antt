@@ -36,6 +36,7 @@ use Rattle.ubi_change.specs.Weak.{weak_place, whole_place}
 use Rattle.ubi_change.specs.declared.refusal.ChangeRefusal.{ChangeRefusal}
 use Rattle.ubi_change.specs.declared.refusal.ChangeRefusal.TheVariants as refusal
 use Rattle.ubi_change.specs.declared.step.Step.{Step}
+use Rattle.ubi_change.specs.inner.Making.{own_causes}
 use Rattle.ubi_change.proofs.CopyReplaced.{IsPrepared, IsRelease}
 use Rattle.ubi_change.proofs.AttachedImage as on
 use Rattle.ubi_change.proofs.Choosing.{MayBeTaken, may_be_taken, two_apart}
@@ -94,6 +95,36 @@ pub record IsAllowed (s : Sizes) (bs : List (List ℕ)) (a : Whole) (r : VolumeR
   pub few : a.scan.top_sqnum + needs s bs a id lnum ≤ 0xFFFFFFFFFFFFFFFF
   pub enough : needs s bs a id lnum ≤ length (takeable s bs a.states)
 
+is_new_of : (s : Sizes) (r : VolumeRecord) (lnum : ℕ) (new : List ℕ)
+    → then_some (not (nat_lt lnum r.reserved)) refusal.OutOfRange ≡ None
+    → then_some (is_bad_length s (usable s r) (length new)) refusal.BadLength ≡ None
+    → option_map refusal.WeakCheck (weak_place s new) ≡ None → IsNew s r lnum new
+is_new_of s r lnum new range long weak =
+    let length_fits = neither _ _ (not_some (is_bad_length s (usable s r) (length new)) refusal.BadLength long) in
+    let first = neither (length new == 0) (not (length new % s.page == 0)) length_fits.0 in
+    record {
+      inside = less_of lnum r.reserved
+          (not_not (nat_lt lnum r.reserved) (not_some (not (nat_lt lnum r.reserved)) refusal.OutOfRange range));
+      some = some_of (length new) first.0;
+      short = most_of (usable s r) (length new) length_fits.1;
+      paged = zero_of (length new % s.page) (not_not (length new % s.page == 0) first.1);
+      strong = not_weak (weak_place s new) weak;
+    }
+
+-- no cause stands that the image has no part in
+pub own_allowed : (s : Sizes) (r : VolumeRecord) (lnum : ℕ) (new : List ℕ) → first_of (own_causes s r lnum new) ≡ None
+    → (r.kind ≡ kind.Dynamic) × (r.marker ≡ false) × IsNew s r lnum new
+own_allowed s r lnum new e =
+    let c1 = first_none _ _ e in
+    let c2 = first_none _ _ c1.1 in
+    let c3 = first_none _ _ c2.1 in
+    let c4 = first_none _ _ c3.1 in
+    let c5 = first_none _ _ c4.1 in (
+      is_dynamic r.kind (not_some (is_static r.kind) refusal.StaticVolume c1.0),
+      not_some r.marker refusal.Updating c2.0,
+      is_new_of s r lnum new c3.0 c4.0 c5.0,
+    )
+
 pub is_allowed : (s : Sizes) (bs : List (List ℕ)) (a : Whole) (r : VolumeRecord) (id lnum : ℕ) (new : List ℕ)
     → first_of (causes s bs a r id lnum new) ≡ None → IsAllowed s bs a r id lnum new
 is_allowed s bs a r id lnum new e =
@@ -104,19 +135,10 @@ is_allowed s bs a r id lnum new e =
     let c5 = first_none _ _ c4.1 in
     let c6 = first_none _ _ c5.1 in
     let c7 = first_none _ _ c6.1 in
-    let length_fits = neither _ _ (not_some (is_bad_length s (usable s r) (length new)) refusal.BadLength c4.0) in
-    let first = neither (length new == 0) (not (length new % s.page == 0)) length_fits.0 in
     record {
       dynamic = is_dynamic r.kind (not_some (is_static r.kind) refusal.StaticVolume c1.0);
       unmarked = not_some r.marker refusal.Updating c2.0;
-      is_new = record {
-        inside = less_of lnum r.reserved
-            (not_not (nat_lt lnum r.reserved) (not_some (not (nat_lt lnum r.reserved)) refusal.OutOfRange c3.0));
-        some = some_of (length new) first.0;
-        short = most_of (usable s r) (length new) length_fits.1;
-        paged = zero_of (length new % s.page) (not_not (length new % s.page == 0) first.1);
-        strong = not_weak (weak_place s new) c5.0;
-      };
+      is_new = is_new_of s r lnum new c3.0 c4.0 c5.0;
       few = most_of 0xFFFFFFFFFFFFFFFF (a.scan.top_sqnum + needs s bs a id lnum)
           (not_some (nat_lt 0xFFFFFFFFFFFFFFFF (a.scan.top_sqnum + needs s bs a id lnum)) refusal.Exhausted c6.0);
       enough = most_of (length (takeable s bs a.states)) (needs s bs a id lnum)

@@ -224,7 +224,7 @@ module _ (s : Sizes) (g : IsGeometry s) where
           (filled s.page (filled r (cond t ec []) ++ vid_bytes h))) (not_less_test _ _ l) ∙ clears_apart l
     ]
 
-    length-vid_page : length (vid_page s ec h) ≡ s.page
+    pub length-vid_page : length (vid_page s ec h) ≡ s.page
     length-vid_page = elim (cases_lt s.vid_offset s.page) [
       | inl l ↦
           ap (λ t. length (filled s.page (filled r (cond t ec []) ++ vid_bytes h))) (less_test _ _ l)

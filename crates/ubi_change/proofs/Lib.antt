@@ -1,6 +1,9 @@
 pub mod Attached
 pub mod AttachedImage
+pub mod BlockSteps
 pub mod Changed
+pub mod ChangeCauses
+pub mod ChangeSteps
 pub mod Choosing
 pub mod Clears
 pub mod Copied
@@ -11,6 +14,7 @@ pub mod Emptied
 pub mod FirstCopy
 pub mod Fits
 pub mod GivenUp
+pub mod Grounded
 pub mod HeadersKept
 pub mod Kept
 pub mod Laid
@@ -26,6 +30,7 @@ pub mod PagePlaces
 pub mod PagesRise
 pub mod PlanFits
 pub mod PlanFrugal
+pub mod PlanKept
 pub mod PlanMade
 pub mod PlanRises
 pub mod PlanSurvives
@@ -49,7 +54,9 @@ pub mod SameButName
 pub mod SameTables
 pub mod SecondCopy
 pub mod Seq
+pub mod Sited
 pub mod Stepped
+pub mod StepPages
 pub mod StepsApart
 pub mod Surveys
 pub mod Survives
@@ -61,7 +68,11 @@ pub mod Torn
 pub mod Touched
 pub mod Turned
 pub mod Unmapped
+pub mod Unplanned
+pub mod Unrenamed
 pub mod Unused
 pub mod Vacated
 pub mod WeakPlaces
+pub mod WholeReads
 pub mod Written
+pub mod WrittenAfter

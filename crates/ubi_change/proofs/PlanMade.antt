@@ -1,170 +1,133 @@
--- What is found out on the way to a plan: which cause stands, and on which eraseblocks the steps work.
-use Rattle.std.proofs.Common.{◌≡◌, ◌≢◌, ℕ, ◌<◌, Bool, true, false, List, [], ◌∷◌, ◌++◌, length, refl, ap, ap₂, sym, ◌∙◌, subst, arith}
-use Rattle.std.specs.Prelude.{None, Option, Some, option_map}
+-- What was read for a change makes its plan: which cause stands, and that the steps are those of the plan.
+use Rattle.std.proofs.Common.{◌≡◌, ℕ, ◌+◌, ◌<◌, ◌≤◌, inl, inr, Bool, true, false, List, [], ◌∷◌, ◌++◌, length, refl, ap, ap₂, sym, ◌∙◌, subst, arith}
+use Rattle.std.specs.Prelude.{None, Option, Some, nat_lt, option_map}
 use Rattle.std.specs.Bool.{then_some}
 use Rattle.std.specs.FinMap as finite
 use Rattle.std.specs.Option.{option_map_or}
+use Rattle.std.proofs.lemmas.Bool.Decides.{nat_tests}
 use Rattle.ubi_media.specs.Geometry.{Sizes}
 use Rattle.ubi_media.specs.Record.{data_pad}
 use Rattle.ubi_media.specs.declared.record.VolumeRecord.{VolumeRecord}
-use Rattle.ubi_media.specs.declared.refusal.Refusal.{Refusal}
-use Rattle.ubi_scan.specs.Image.{Image, eraseblocks}
-use Rattle.ubi_volume.specs.Attached.{IsAttached, Whole}
-use Rattle.ubi_volume.specs.declared.content.Volume.{Volume}
-use Rattle.ubi_volume.proofs.Winners.{found_wins}
-use Rattle.ubi_change.specs.inner.Making.{ArePlaces, AreWithin, image_causes, own_causes, steps_on}
-use Rattle.ubi_change.specs.Plan.{mapped_plan, needs, plan_of, taken, unmapped_plan}
-use Rattle.ubi_change.specs.Planned.{IsChangeRefusal}
-use Rattle.ubi_change.specs.Refused.{causes, first_cause, first_of}
-use Rattle.ubi_change.specs.declared.places.Places.{Places}
-use Rattle.ubi_change.specs.declared.places.Places.TheVariants as places
-use Rattle.ubi_change.specs.declared.target.Target.{Target}
+use Rattle.ubi_scan.specs.Numbers.{carriers}
+use Rattle.ubi_volume.specs.Attached.{Whole}
+use Rattle.ubi_change.specs.inner.Making.{AreSites, IsSitesRefusal, IsTooFew, image_causes, needed, steps_on}
+use Rattle.ubi_change.specs.inner.Sites.{site_at}
+use Rattle.ubi_change.specs.inner.Taking.{first_taken}
+use Rattle.ubi_change.specs.Plan.{blank_header, copy_header, mapped_plan, mount, needs, plan_of, ready_ec, taken, unmapped_plan}
+use Rattle.ubi_change.specs.Refused.{first_of}
+use Rattle.ubi_change.specs.Takeable.{ec_at, takeable}
 use Rattle.ubi_change.specs.declared.refusal.ChangeRefusal.{ChangeRefusal}
 use Rattle.ubi_change.specs.declared.refusal.ChangeRefusal.TheVariants as refusal
-use Rattle.ubi_change.proofs.Attached.{IsAllowed, is_allowed}
-use Rattle.ubi_change.proofs.Choosing.{may_be_taken}
+use Rattle.ubi_change.specs.declared.site.Site.{Site}
+use Rattle.ubi_change.specs.declared.sites.Sites.{Sites as OnSites}
+use Rattle.ubi_change.specs.declared.sites.Sites.TheVariants as on
+use Rattle.ubi_change.specs.declared.taking.FirstTwo.{FirstTwo}
+use Rattle.ubi_change.specs.declared.target.Target.{Target}
+use Rattle.ubi_change.proofs.Sited.{copy-is, first_missing, first_some, second_missing, second_some, site_none, site_there}
 
--- the first of causes and of others behind them
-front_stands : (xs ys : List (Option ChangeRefusal)) (c : ChangeRefusal) → first_of xs ≡ Some c
-    → first_of (xs ++ ys) ≡ Some c
-front_stands [] ys c e = absurd (cc)
-front_stands (Some d ∷ xs) ys c e = e
-front_stands (None ∷ xs) ys c e = front_stands xs ys c e
+more_test : (a b : ℕ) → a < b → nat_lt a b ≡ true
+more_test a b l = grind (arith, nat_tests)
 
-rest_stands : (xs ys : List (Option ChangeRefusal)) → first_of xs ≡ None → first_of (xs ++ ys) ≡ first_of ys
-rest_stands [] ys e = refl
-rest_stands (Some d ∷ xs) ys e = absurd (cc)
-rest_stands (None ∷ xs) ys e = rest_stands xs ys e
+least_test : (a b : ℕ) → b ≤ a → nat_lt a b ≡ false
+least_test a b l = grind (arith, nat_tests)
 
--- none of the causes is that of an attach
-abbrev IsOwn : Option ChangeRefusal → Type 0
-IsOwn o = (c : Refusal) → o ≢ Some (refusal.Attach c)
+module _ (s : Sizes) (bs : List (List ℕ)) (a : Whole) (same : a.scan.carriers ≡ carriers s bs) (id lnum : ℕ)
+    (winner : Option Site) (two : FirstTwo)
+    (won : winner ≡ option_map (site_at s bs a.states) (finite.get a.scan.winners (id, lnum)))
+    (taking : two ≡ first_taken s bs a.states) where
+  abbrev site : ℕ → Site
+  site p = site_at s bs a.states p
 
-abbrev AreOwn : List (Option ChangeRefusal) → Type 0
-AreOwn [] = Unit {0}
-AreOwn (o ∷ os) = IsOwn o × AreOwn os
+  abbrev top : ℕ
+  top = a.scan.top_sqnum
 
-first_own : (os : List (Option ChangeRefusal)) → AreOwn os → IsOwn (first_of os)
-first_own [] own c e = absurd (cc)
-first_own (Some d ∷ os) own c e = own.0 c e
-first_own (None ∷ os) own c e = first_own os own.1 c e
+  -- how many eraseblocks are needed
+  needs_by : (o : Option ℕ) → needed (option_map site o) ≡ option_map_or (λ _. 1) o 2
+  needs_by None = refl
+  needs_by (Some p) = refl
 
-some_own : (b : Bool) (d : ChangeRefusal) → IsOwn (Some d) → IsOwn (then_some b d)
-some_own true d own = own
-some_own false d own = λ c e. absurd (cc)
+  needs-is : needed winner ≡ needs s bs a id lnum
+  needs-is = ap needed won ∙ needs_by (finite.get a.scan.winners (id, lnum))
 
-weak_own : (o : Option ℕ) → IsOwn (option_map refusal.WeakCheck o)
-weak_own None c e = absurd (cc)
-weak_own (Some k) c e = absurd (cc)
+  first_taken_is : (t : Site) → two.first ≡ Some t → (1 ≤ length (takeable s bs a.states)) × (t ≡ site (taken s bs a 0))
+  first_taken_is t e = first_some site (takeable s bs a.states) t (ap (λ (x : FirstTwo). x.first) (sym taking) ∙ e)
 
-module _ (s : Sizes) (bs : List (List ℕ)) (a : Whole) (r : VolumeRecord) (id lnum : ℕ) (new : List ℕ) where
-  are_own : AreOwn (causes s bs a r id lnum new)
-  are_own = (
-    some_own _ refusal.StaticVolume (λ c e. absurd (cc)),
-    (
-      some_own _ refusal.Updating (λ c e. absurd (cc)),
-      (
-        some_own _ refusal.OutOfRange (λ c e. absurd (cc)),
-        (
-          some_own _ refusal.BadLength (λ c e. absurd (cc)),
-          (
-            weak_own _,
-            (
-              some_own _ refusal.Exhausted (λ c e. absurd (cc)),
-              (some_own _ refusal.NoFree (λ c e. absurd (cc)), tt),
-            ),
-          ),
-        ),
-      ),
-    ),
-  )
+  second_taken_is : (t : Site) → two.second ≡ Some t → (2 ≤ length (takeable s bs a.states)) × (t ≡ site (taken s bs a 1))
+  second_taken_is t e = second_some site (takeable s bs a.states) t (ap (λ (x : FirstTwo). x.second) (sym taking) ∙ e)
 
-module _ (image : Image) (a : Whole) (att : IsAttached image a) (id lnum : ℕ) (new : List ℕ) where
-  abbrev s : Sizes
-  s = image.sizes
+  -- the two causes
+  abbrev exhausted : Bool → Bool → Option ChangeRefusal
+  exhausted x y = first_of (then_some x refusal.Exhausted ∷ then_some y refusal.NoFree ∷ [])
 
-  abbrev bs : List (List ℕ)
-  bs = eraseblocks image
+  free : top + needs s bs a id lnum ≤ 0xFFFFFFFFFFFFFFFF → needs s bs a id lnum ≤ length (takeable s bs a.states)
+      → first_of (image_causes s bs a id lnum) ≡ None
+  free few enough = ap₂ exhausted (least_test _ _ few) (least_test _ _ enough)
 
-  -- no volume has the number
-  pub no_volume : finite.get a.meaning.volumes id ≡ None → IsChangeRefusal image id lnum new refusal.NoVolume
-  no_volume none = (
-    a,
-    att,
-    ap (λ (o : Option Volume). option_map_or (λ v. first_of (causes s bs a v.entry id lnum new)) o
-        (Some refusal.NoVolume)) none,
-  )
+  too_few : IsTooFew winner two → length (takeable s bs a.states) < needs s bs a id lnum
+  too_few (inl none) =
+      let l = first_missing site (takeable s bs a.states) (ap (λ (x : FirstTwo). x.first) (sym taking) ∙ none) in
+      let n : 1 ≤ needs s bs a id lnum = subst (λ n. 1 ≤ n) needs-is (some_needed winner) in
+      omega arith
+    where
+      some_needed : (o : Option Site) → 1 ≤ needed o
+      some_needed None = omega arith
+      some_needed (Some t) = omega arith
+  too_few (inr none) =
+      let l = second_missing site (takeable s bs a.states) (ap (λ (x : FirstTwo). x.second) (sym taking) ∙ none.1) in
+      let n : needs s bs a id lnum ≡ 2 = sym needs-is ∙ ap needed none.0 in
+      omega arith
 
-  module _ (v : Volume) (there : finite.get a.meaning.volumes id ≡ Some v) where
-    cause_is : first_cause s bs a id lnum new ≡ first_of (causes s bs a v.entry id lnum new)
-    cause_is = ap (λ (o : Option Volume). option_map_or (λ v. first_of (causes s bs a v.entry id lnum new)) o
-        (Some refusal.NoVolume)) there
+  pub sites_stand : (c : ChangeRefusal) → IsSitesRefusal a.scan winner two c → first_of (image_causes s bs a id lnum) ≡ Some c
+  sites_stand refusal.Exhausted h =
+      ap (λ x. exhausted x (nat_lt (length (takeable s bs a.states)) (needs s bs a id lnum)))
+      (more_test _ _ (subst (λ n. 0xFFFFFFFFFFFFFFFF < top + n) needs-is h))
+  sites_stand refusal.NoFree h =
+      ap₂ exhausted (least_test _ _ (subst (λ n. top + n ≤ 0xFFFFFFFFFFFFFFFF) needs-is h.0)) (more_test _ _ (too_few h.1))
+  sites_stand refusal.Memory h = absurd h
+  sites_stand (refusal.Attach c) h = absurd h
+  sites_stand refusal.NoVolume h = absurd h
+  sites_stand refusal.StaticVolume h = absurd h
+  sites_stand refusal.Updating h = absurd h
+  sites_stand refusal.OutOfRange h = absurd h
+  sites_stand refusal.BadLength h = absurd h
+  sites_stand (refusal.WeakCheck k) h = absurd h
 
-    stands : (c : ChangeRefusal) → first_of (causes s bs a v.entry id lnum new) ≡ Some c
-        → IsChangeRefusal image id lnum new c
-    stands refusal.Memory e = tt
-    stands (refusal.Attach c) e =
-        absurd (first_own (causes s bs a v.entry id lnum new) (are_own s bs a v.entry id lnum new) c e)
-    stands refusal.NoVolume e = (a, att, cause_is ∙ e)
-    stands refusal.StaticVolume e = (a, att, cause_is ∙ e)
-    stands refusal.Updating e = (a, att, cause_is ∙ e)
-    stands refusal.OutOfRange e = (a, att, cause_is ∙ e)
-    stands refusal.BadLength e = (a, att, cause_is ∙ e)
-    stands (refusal.WeakCheck k) e = (a, att, cause_is ∙ e)
-    stands refusal.Exhausted e = (a, att, cause_is ∙ e)
-    stands refusal.NoFree e = (a, att, cause_is ∙ e)
+  pub sites_free : (sites : OnSites) → AreSites a.scan winner two sites → first_of (image_causes s bs a id lnum) ≡ None
+  sites_free (on.Mapped copy old) are =
+      let n : needs s bs a id lnum ≡ 1 = sym needs-is ∙ ap needed are.0 in
+      let t = (first_taken_is copy are.1).0 in
+      let few = are.2 in
+      free (omega arith) (omega arith)
+  sites_free (on.Unmapped first copy) are =
+      let n : needs s bs a id lnum ≡ 2 = sym needs-is ∙ ap needed are.0 in
+      let t = (second_taken_is copy are.2).0 in
+      let few = are.3 in
+      free (omega arith) (omega arith)
 
-    pub own_stands : (c : ChangeRefusal) → first_of (own_causes s v.entry lnum new) ≡ Some c
-        → IsChangeRefusal image id lnum new c
-    own_stands c e = stands c (front_stands (own_causes s v.entry lnum new) (image_causes s bs a id lnum) c e)
+  -- the steps are those of the plan
+  module _ (r : VolumeRecord) (new : List ℕ) where
+    abbrev asked : Target
+    asked = record { id = id; lnum = lnum; compat = 0; data_pad = data_pad s r }
 
-    module _ (own : first_of (own_causes s v.entry lnum new) ≡ None) where
-      pub image_stands : (c : ChangeRefusal) → first_of (image_causes s bs a id lnum) ≡ Some c
-          → IsChangeRefusal image id lnum new c
-      image_stands c e = stands c (rest_stands (own_causes s v.entry lnum new) (image_causes s bs a id lnum) own ∙ e)
-
-      -- no cause stands
-      module _ (on : Places) (are : ArePlaces s bs a id lnum on) where
-        none_stands : first_of (causes s bs a v.entry id lnum new) ≡ None
-        none_stands = rest_stands (own_causes s v.entry lnum new) (image_causes s bs a id lnum) own ∙ are.1
-
-        pub allowed : first_cause s bs a id lnum new ≡ None
-        allowed = cause_is ∙ none_stands
-
-        no_cause : IsAllowed s bs a v.entry id lnum new
-        no_cause = is_allowed s bs a v.entry id lnum new none_stands
-
-      -- the steps are those of the plan
-      pub steps_are : (on : Places) → ArePlaces s bs a id lnum on → (t : Target)
-          → t ≡ record { id = id; lnum = lnum; compat = 0; data_pad = data_pad s v.entry }
-          → steps_on s bs a t new on ≡ plan_of s bs a v.entry id lnum new
-      steps_are (places.Mapped copy old) are t e =
-          ap (λ (t : Target). steps_on s bs a t new (places.Mapped copy old)) e
-          ∙ ap (λ b. mapped_plan s bs a v.entry id lnum new b old) are.0.1
-          ∙ sym
-          (ap (λ (o : Option ℕ). option_map_or (mapped_plan s bs a v.entry id lnum new (taken s bs a 0)) o
-          (unmapped_plan s bs a v.entry id lnum new (taken s bs a 0) (taken s bs a 1))) are.0.0)
-      steps_are (places.Unmapped first copy) are t e =
-          ap (λ (t : Target). steps_on s bs a t new (places.Unmapped first copy)) e
-          ∙ ap₂ (λ e b. unmapped_plan s bs a v.entry id lnum new e b) are.0.1 are.0.2
-          ∙ sym
-          (ap (λ (o : Option ℕ). option_map_or (mapped_plan s bs a v.entry id lnum new (taken s bs a 0)) o
-          (unmapped_plan s bs a v.entry id lnum new (taken s bs a 0) (taken s bs a 1))) are.0.0)
-
-      -- they work within the image, and with numbers of 64 bits
-      pub are_within : (on : Places) → ArePlaces s bs a id lnum on → AreWithin s bs a on
-      are_within (places.Mapped copy old) are =
-          let k = no_cause (places.Mapped copy old) are in
-          let n : needs s bs a id lnum ≡ 1 = ap (λ (o : Option ℕ). option_map_or (λ _. 1) o 2) are.0.0 in
-          let may = may_be_taken s bs a.states 0 (let e = k.enough in omega arith) in
-          let w = found_wins s bs a.scan att.scan (id, lnum) old are.0.0 in
-          (subst (λ (p : ℕ). p < length bs) (sym are.0.1) may.0, w.member.inside, (let f = k.few in omega arith))
-      are_within (places.Unmapped first copy) are =
-          let k = no_cause (places.Unmapped first copy) are in
-          let n : needs s bs a id lnum ≡ 2 = ap (λ (o : Option ℕ). option_map_or (λ _. 1) o 2) are.0.0 in
-          let one = may_be_taken s bs a.states 0 (let e = k.enough in omega arith) in
-          let two = may_be_taken s bs a.states 1 (let e = k.enough in omega arith) in (
-            subst (λ (p : ℕ). p < length bs) (sym are.0.1) one.0,
-            subst (λ (p : ℕ). p < length bs) (sym are.0.2) two.0,
-            (let f = k.few in omega arith),
-          )
+    pub steps_are : (sites : OnSites) → AreSites a.scan winner two sites → (t : Target) → t ≡ asked
+        → steps_on s a.scan t new sites ≡ plan_of s bs a r id lnum new
+    steps_are (on.Mapped copy old) are t e =
+        let b = taken s bs a 0 in
+        let won_by = site_there site (finite.get a.scan.winners (id, lnum)) old (sym are.0 ∙ won) in
+        let p = won_by.0 in
+        ap (λ (t : Target). steps_on s a.scan t new (on.Mapped copy old)) e
+        ∙ ap₂ (λ (x y : Site). steps_on s a.scan asked new (on.Mapped x y)) (first_taken_is copy are.1).1 won_by.2
+        ∙ copy-is s bs a same b (copy_header 0 (data_pad s r) id lnum (top + 1) new) new p (ec_at s bs p)
+        ∙ sym
+        (ap (λ (o : Option ℕ). option_map_or (mapped_plan s bs a r id lnum new b) o
+        (unmapped_plan s bs a r id lnum new b (taken s bs a 1))) won_by.1)
+    steps_are (on.Unmapped first copy) are t e =
+        let x = taken s bs a 0 in
+        let b = taken s bs a 1 in
+        ap (λ (t : Target). steps_on s a.scan t new (on.Unmapped first copy)) e
+        ∙ ap₂ (λ (x y : Site). steps_on s a.scan asked new (on.Unmapped x y)) (first_taken_is first are.1).1 (second_taken_is copy are.2).1
+        ∙ ap (λ steps. mount s bs a x (blank_header (data_pad s r) id lnum (top + 1)) ++ steps)
+        (copy-is s bs a same b (copy_header 0 (data_pad s r) id lnum (top + 2) new) new x (ready_ec s bs a x))
+        ∙ sym
+        (ap (λ (o : Option ℕ). option_map_or (mapped_plan s bs a r id lnum new x) o
+        (unmapped_plan s bs a r id lnum new x b)) (site_none site (finite.get a.scan.winners (id, lnum)) (sym are.0 ∙ won)))

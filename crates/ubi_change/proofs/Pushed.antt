@@ -8,10 +8,10 @@ use Rattle.ubi_media.specs.Ec.{ec_bytes}
 use Rattle.ubi_media.specs.Geometry.{Sizes}
 use Rattle.ubi_media.specs.declared.ec.EcHeader.{EcHeader}
 use Rattle.ubi_media.specs.declared.vid.VidHeader.{VidHeader}
-use Rattle.ubi_scan.specs.Image.{block, ec_area}
-use Rattle.ubi_volume.specs.Attached.{Whole}
-use Rattle.ubi_change.specs.Plan.{next_ec, mount, program_header, release, renew}
-use Rattle.ubi_change.specs.Takeable.{ec_at, is_clean, stays}
+use Rattle.ubi_scan.specs.Scan.{Found}
+use Rattle.ubi_change.specs.Plan.{next_ec, program_header, renew}
+use Rattle.ubi_change.specs.inner.Sites.{mount_on, release_on, stays_on}
+use Rattle.ubi_change.specs.declared.site.Site.{Site}
 use Rattle.ubi_change.specs.declared.step.Step.{Step}
 use Rattle.ubi_change.specs.declared.step.Step.TheVariants as step
 
@@ -46,24 +46,21 @@ page_pushed old front now p first size i page new text e f number is =
     ∙ ap₂ (λ k ys. old ++ (pages_from p first size i new ++ step.Program p k ys ∷ [])) number is
     ∙ ap (λ x. old ++ x) (sym (pages-more p first size i new))
 
-module _ (s : Sizes) (bs : List (List ℕ)) (a : Whole) where
+module _ (s : Sizes) (scan : Found) (t : Site) where
   -- an eraseblock that isn't clean is made ready, and gets a header
-  pub mount_pushed : (old mid now : List Step) (g : Sizes) (p : ℕ) (e : EcHeader) (bytes : List ℕ) (h : VidHeader)
-      → g ≡ s → is_clean s bs a.states p ≡ false
-      → e ≡ next_ec a.scan (ec_at s bs p) → mid ≡ old ++ renew g p e → bytes ≡ ec_bytes g e
-      → now ≡ mid ++ program_header g p bytes h ∷ [] → now ≡ old ++ mount s bs a p h
-  mount_pushed old mid now g p e bytes h same unclean header renewed is put =
-      put ∙ ap₂ (λ x y. x ++ program_header g p y h ∷ []) renewed is
-      ∙ append_assoc old (renew g p e) (program_header g p (ec_bytes g e) h ∷ [])
-      ∙ ap (λ z. old ++ (renew z p e ++ program_header z p (ec_bytes z e) h ∷ [])) same
-      ∙ ap (λ x. old ++ (renew s p x ++ program_header s p (ec_bytes s x) h ∷ [])) header
-      ∙ ap (λ b. old ++ (cond b [] (renew s p (next_ec a.scan (ec_at s bs p)))
-      ++ program_header s p (cond b (ec_area (block bs p)) (ec_bytes s (next_ec a.scan (ec_at s bs p)))) h ∷ []))
+  pub mount_pushed : (old mid now : List Step) (e : EcHeader) (bytes : List ℕ) (h : VidHeader) → t.is_clean ≡ false
+      → e ≡ next_ec scan t.ec → mid ≡ old ++ renew s t.pnum e → bytes ≡ ec_bytes s e
+      → now ≡ mid ++ program_header s t.pnum bytes h ∷ [] → now ≡ old ++ mount_on s scan t h
+  mount_pushed old mid now e bytes h unclean header renewed is put =
+      put ∙ ap₂ (λ x y. x ++ program_header s t.pnum y h ∷ []) renewed is
+      ∙ append_assoc old (renew s t.pnum e) (program_header s t.pnum (ec_bytes s e) h ∷ [])
+      ∙ ap (λ x. old ++ (renew s t.pnum x ++ program_header s t.pnum (ec_bytes s x) h ∷ [])) header
+      ∙ ap (λ b. old ++ (cond b [] (renew s t.pnum (next_ec scan t.ec))
+      ++ program_header s t.pnum (cond b t.ec_area (ec_bytes s (next_ec scan t.ec))) h ∷ []))
       (sym unclean)
 
-  pub release_pushed : (old now : List Step) (g : Sizes) (p : ℕ) (e : EcHeader) (ec : Option EcHeader) → g ≡ s
-      → stays s bs p ec ≡ false → e ≡ next_ec a.scan ec
-      → now ≡ old ++ renew g p e → now ≡ old ++ release s bs a p ec
-  release_pushed old now g p e ec same fresh header put =
-      put ∙ ap₂ (λ z x. old ++ renew z p x) same header
-      ∙ ap (λ b. old ++ cond b [] (renew s p (next_ec a.scan ec))) (sym fresh)
+  pub release_pushed : (old now : List Step) (e : EcHeader) (ec : Option EcHeader) → stays_on scan t ec ≡ false
+      → e ≡ next_ec scan ec → now ≡ old ++ renew s t.pnum e → now ≡ old ++ release_on s scan t ec
+  release_pushed old now e ec fresh header put =
+      put ∙ ap (λ x. old ++ renew s t.pnum x) header
+      ∙ ap (λ b. old ++ cond b [] (renew s t.pnum (next_ec scan ec))) (sym fresh)

@@ -17,8 +17,7 @@ use Rattle.ubi_change.specs.RenamePlanned.{IsRenameRefusal}
 use Rattle.ubi_change.specs.RenameRefused.{BothGood, HasName, IsFirstCause, Stands, rank}
 use Rattle.ubi_change.specs.Takeable.{takeable}
 use Rattle.ubi_change.specs.Weak.{weak_place}
-use Rattle.ubi_change.specs.inner.Making.{shown}
-use Rattle.ubi_change.specs.inner.Renaming.{IsHoldersRefusal, IsNamable, IsNamingRefusal, IsSparesRefusal}
+use Rattle.ubi_change.specs.inner.Renaming.{IsNamable, IsNamingRefusal}
 use Rattle.ubi_change.specs.declared.rename_refusal.RenameRefusal.{RenameRefusal}
 use Rattle.ubi_change.specs.declared.rename_refusal.RenameRefusal.TheVariants as refusal
 use Rattle.ubi_change.proofs.Surveys.{has_none, has_volume, whole}
@@ -115,17 +114,8 @@ module _ (image : Image) (seen : Seen) (is : IsSurvey image seen) (id : ℕ) (na
     four : AllOut s bs a id name 4
     four = more_out s bs a id name 3 (more_out s bs a id name 2 (two may.there) may.named) free
 
-    pub refused_holders : (c : RenameRefusal) → IsHoldersRefusal s bs c → IsRenameRefusal image id name c
-    refused_holders refusal.NeedsRepair h =
-        (a, is.attached, first_stands s bs a id name refusal.NeedsRepair four h)
-    refused_holders refusal.Memory h = tt
-    refused_holders refusal.NoVolume h = absurd h
-    refused_holders refusal.BadName h = absurd h
-    refused_holders (refusal.SameName slot) h = absurd h
-    refused_holders (refusal.WeakCheck k) h = absurd h
-    refused_holders refusal.Exhausted h = absurd h
-    refused_holders refusal.NoFree h = absurd h
-    refused_holders (refusal.Attach c) h = absurd h
+    pub refused_repair : ((t : Records) → BothGood s bs t → ⊥) → IsRenameRefusal image id name refusal.NeedsRepair
+    refused_repair h = (a, is.attached, first_stands s bs a id name refusal.NeedsRepair four h)
 
     module _ (good : (t : Records) × BothGood s bs t) where
       five : AllOut s bs a id name 5
@@ -139,15 +129,9 @@ module _ (image : Image) (seen : Seen) (is : IsSurvey image seen) (id : ℕ) (na
         six : AllOut s bs a id name 6
         six = more_out s bs a id name 5 five strong
 
-        pub refused_spares : (c : RenameRefusal) → IsSparesRefusal s bs (shown seen) c → IsRenameRefusal image id name c
-        refused_spares refusal.Exhausted h =
-            (a, is.attached, first_stands s bs a id name refusal.Exhausted six h)
-        refused_spares refusal.NoFree h =
-            (a, is.attached, first_stands s bs a id name refusal.NoFree (more_out s bs a id name 6 six h.0) h.1)
-        refused_spares refusal.NoVolume h = absurd h
-        refused_spares refusal.BadName h = absurd h
-        refused_spares (refusal.SameName slot) h = absurd h
-        refused_spares refusal.NeedsRepair h = absurd h
-        refused_spares (refusal.WeakCheck k) h = absurd h
-        refused_spares (refusal.Attach c) h = absurd h
-        refused_spares refusal.Memory h = absurd h
+        pub refused_exhausted : 0xFFFFFFFFFFFFFFFF < a.scan.top_sqnum + 2 → IsRenameRefusal image id name refusal.Exhausted
+        refused_exhausted h = (a, is.attached, first_stands s bs a id name refusal.Exhausted six h)
+
+        pub refused_free : a.scan.top_sqnum + 2 ≤ 0xFFFFFFFFFFFFFFFF → length (takeable s bs a.states) < 2
+            → IsRenameRefusal image id name refusal.NoFree
+        refused_free few h = (a, is.attached, first_stands s bs a id name refusal.NoFree (more_out s bs a id name 6 six few) h)

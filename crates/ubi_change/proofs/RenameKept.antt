@@ -6,7 +6,7 @@ use Rattle.ubi_scan.specs.Image.{Image, in_image}
 use Rattle.ubi_change.specs.Fitting.{AllFit}
 use Rattle.ubi_change.specs.Order.{RisesBetweenErases}
 use Rattle.ubi_change.specs.RenamePlan.{renamed_pages}
-use Rattle.ubi_change.specs.RenamePlanned.{LeavesBothGood, LeavesBothGoodOf, IsFrugalRename, IsFrugalRenameOf, IsRename, KeepsReading, SurvivesRename, SurvivesRenameOf}
+use Rattle.ubi_change.specs.RenamePlanned.{LeavesBothGood, LeavesBothGoodOf, IsFrugalRename, IsFrugalRenameOf, IsRename, IsRenameOf, KeepsReading, SurvivesRename, SurvivesRenameOf}
 use Rattle.ubi_change.specs.declared.step.Step.{Step}
 use Rattle.ubi_change.proofs.RenameAttached.{Renaming, leaves_both_good, keeps_reading, survives_rename}
 use Rattle.ubi_change.proofs.RenameFits.{rename_fits}
@@ -26,32 +26,43 @@ module _ (image : Image) (g : IsGeometry image.sizes) (id : ℕ) (name : List �
     allowed = is.allowed;
   }
 
-  pub kept_survives : SurvivesRenameOf image id name steps
+  kept_survives : SurvivesRenameOf image id name steps
   kept_survives = (
     is.from.meaning,
     is.attached.accepted,
     subst (in_image SurvivesRename image is.from.meaning id name) (sym is.plan) (survives_rename r),
   )
 
-  pub kept_reads : KeepsReading image steps
+  kept_reads : KeepsReading image steps
   kept_reads = subst (KeepsReading image) (sym is.plan) (keeps_reading r)
 
-  pub kept_copies : LeavesBothGoodOf image id name steps
+  kept_copies : LeavesBothGoodOf image id name steps
   kept_copies = (
     is.from.meaning,
     is.attached.accepted,
     subst (in_image LeavesBothGood image is.from.meaning id name) (sym is.plan) (leaves_both_good r),
   )
 
-  pub kept_fits : AreBytes (renamed_pages image.sizes is.from.meaning id name) → in_image AllFit image steps
+  kept_fits : AreBytes (renamed_pages image.sizes is.from.meaning id name) → in_image AllFit image steps
   kept_fits bytes = subst (in_image AllFit image) (sym is.plan) (rename_fits r bytes)
 
-  pub kept_rises : in_image RisesBetweenErases image steps
+  kept_rises : in_image RisesBetweenErases image steps
   kept_rises = subst (in_image RisesBetweenErases image) (sym is.plan) (rename_rises r)
 
-  pub kept_frugal : IsFrugalRenameOf image id name steps
+  kept_frugal : IsFrugalRenameOf image id name steps
   kept_frugal = (
     is.from,
     is.attached,
     subst (in_image IsFrugalRename image is.from id name) (sym is.plan) (rename_frugal r),
   )
+
+  pub rename_kept : AreBytes (renamed_pages image.sizes is.from.meaning id name) → IsRenameOf image id name steps
+  rename_kept bytes = record {
+    survives = kept_survives;
+    reads = kept_reads;
+    copies = kept_copies;
+    fits = kept_fits bytes;
+    rises = kept_rises;
+    frugal = kept_frugal;
+    plan = is;
+  }

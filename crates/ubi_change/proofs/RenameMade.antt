@@ -1,6 +1,7 @@
 -- What the functions on the way to a rename found makes its plan: nothing stands against it, and the steps are those.
-use Rattle.std.proofs.Common.{◌≡◌, ◌≢◌, ℕ, ◌<◌, inl, inr, Bool, true, false, cond, List, length, refl, ap, ap₂, sym, ◌∙◌, subst, arith}
+use Rattle.std.proofs.Common.{◌≡◌, ◌≢◌, ℕ, ◌+◌, ◌≤◌, inl, inr, Bool, true, false, cond, List, ◌++◌, length, refl, ap, ap₂, sym, ◌∙◌, subst}
 use Rattle.std.specs.Prelude.{None, Option, Some, option_map}
+use Rattle.std.specs.Option.{option_map_or}
 use Rattle.std.specs.Cmp.{nat_cmp_total}
 use Rattle.std.specs.FinMap as finite
 use Rattle.std.specs.FinMap.{nat_cmp-IsAntisymmetric}
@@ -21,20 +22,24 @@ use Rattle.ubi_volume.specs.Meant.{Meant, records_of}
 use Rattle.ubi_volume.specs.Survey.{IsSurvey, Seen}
 use Rattle.ubi_volume.specs.declared.content.Volume.{Volume}
 use Rattle.ubi_volume.proofs.Recorded.{record_of, records_meant}
-use Rattle.ubi_change.specs.Plan.{taken}
-use Rattle.ubi_change.specs.RenamePlan.{rename_plan, renamed_pages, table_pages}
+use Rattle.ubi_change.specs.Plan.{atomic_copy, taken}
+use Rattle.ubi_change.specs.RenamePlan.{copy_plan, holder, layout_header, renamed_pages, table_pages}
 use Rattle.ubi_change.specs.RenamePlanned.{IsRename}
 use Rattle.ubi_change.specs.RenameRefused.{BothGood, MayBeNamed}
 use Rattle.ubi_change.specs.Renamed.{renamed, volume_named}
 use Rattle.ubi_change.specs.Weak.{weak_place}
-use Rattle.ubi_change.specs.inner.Making.{shown}
-use Rattle.ubi_change.specs.inner.Renaming.{AreHolders, AreInside, AreSpares, IsNamable, two_copies}
+use Rattle.ubi_change.specs.inner.Renaming.{AreHolders, AreSpares, IsNamable, two_copies}
+use Rattle.ubi_change.specs.inner.Sites.{copy_on, site_at}
+use Rattle.ubi_change.specs.inner.Taking.{first_taken}
 use Rattle.ubi_change.specs.declared.holders.Holders.{Holders}
+use Rattle.ubi_change.specs.Takeable.{ec_at, takeable}
+use Rattle.ubi_change.specs.declared.site.Site.{Site}
 use Rattle.ubi_change.specs.declared.spares.Spares.{Spares}
 use Rattle.ubi_change.specs.declared.step.Step.{Step}
-use Rattle.ubi_change.proofs.Choosing.{may_be_taken}
+use Rattle.ubi_change.specs.declared.taking.FirstTwo.{FirstTwo}
 use Rattle.ubi_change.proofs.RenameCauses.{free, there}
 use Rattle.ubi_change.proofs.RenamedMeaning as naming
+use Rattle.ubi_change.proofs.Sited.{copy-is, first_some, second_some}
 use Rattle.ubi_change.proofs.Surveys.{whole}
 
 -- both copies are good with the table of an accepted image
@@ -119,17 +124,15 @@ module _ (image : Image) (seen : Seen) (is : IsSurvey image seen) (id : ℕ) (na
       (ap (λ (t : Records). records_named t id name) is.records ∙ next-is id name (records_of m) volume.entry held
       ∙ sym records_same ∙ ap records_of (sym named-is))
 
-  module _ (old : Holders) (holders : AreHolders s bs (shown seen) old) (two : Spares)
-      (spares : AreSpares s bs (shown seen) two) where
-    pub all_inside : AreInside (length bs) old two
-    all_inside = record {
-      first = holders.first_inside;
-      second = holders.second_inside;
-      first_spare = subst (λ (p : ℕ). p < length bs) (sym spares.first)
-          (may_be_taken s bs seen.states 0 (let e = spares.enough in omega arith)).0;
-      second_spare = subst (λ (p : ℕ). p < length bs) (sym spares.second)
-          (may_be_taken s bs seen.states 1 (let e = spares.enough in omega arith)).0;
-    }
+  module _ (old : Holders) (held : AreHolders s bs seen (Some old)) (two : FirstTwo) (taking : two ≡ first_taken s bs seen.states)
+      (on : Spares) (spares : AreSpares seen.scan two on) where
+    first_spare : (1 ≤ length (takeable s bs seen.states)) × (on.first ≡ site_at s bs seen.states (taken s bs a 0))
+    first_spare = first_some (site_at s bs seen.states) (takeable s bs seen.states) on.first
+        (ap (λ (x : FirstTwo). x.first) (sym taking) ∙ spares.first)
+
+    second_spare : (2 ≤ length (takeable s bs seen.states)) × (on.second ≡ site_at s bs seen.states (taken s bs a 1))
+    second_spare = second_some (site_at s bs seen.states) (takeable s bs seen.states) on.second
+        (ap (λ (x : FirstTwo). x.second) (sym taking) ∙ spares.second)
 
     pub may_be_named : weak_place s (renamed_pages s m id name) ≡ None → MayBeNamed s bs a id name
     may_be_named strong = record {
@@ -138,21 +141,37 @@ module _ (image : Image) (seen : Seen) (is : IsSurvey image seen) (id : ℕ) (na
       named = may.named;
       free = free image seen is id name may;
       both = subst (BothGood s bs)
-          (both_records s bs m is.attached.accepted.accepted holders.good.0 holders.good.1) holders.good.1;
+          (both_records s bs m is.attached.accepted.accepted held.0.0 held.0.1) held.0.1;
       strong = strong;
       few = spares.few;
-      enough = spares.enough;
+      enough = second_spare.0;
     }
 
-    pub copies-are : two_copies s bs (shown seen) old two (renamed_pages s m id name) ≡ rename_plan s bs a id name
-    copies-are =
-        ap₂ (λ (p q : ℕ). two_copies s bs (shown seen) old (record { first = p; second = q })
-        (renamed_pages s m id name)) spares.first spares.second
-        ∙ ap₂ (λ (p q : ℕ). two_copies s bs (shown seen) (record { first = p; second = q })
-        (record { first = taken s bs a 0; second = taken s bs a 1 }) (renamed_pages s m id name))
-        holders.first holders.second
+    -- the eraseblock that holds a copy
+    holder_is : (c p : ℕ) → finite.get a.scan.winners (layout, c) ≡ Some p → holder s bs a c ≡ p
+    holder_is c p e = ap (λ (o : Option ℕ). option_map_or (λ p. p) o 0) e
+
+    pub copies-are : (new : List ℕ) → two_copies s seen.scan old on new
+        ≡ copy_plan s bs a new 0 (seen.scan.top_sqnum + 1) ++ copy_plan s bs a new 1 (seen.scan.top_sqnum + 2)
+    copies-are new =
+        let first = held.1 in
+        let second = held.2 in
+        let h = layout_header 0 (seen.scan.top_sqnum + 1) new in
+        let i = layout_header 1 (seen.scan.top_sqnum + 2) new in
+        let same = is.attached.scan.carriers in
+        ap₂ (λ (x y : List Step). x ++ y)
+        (ap₂ (λ (x y : Site). copy_on s seen.scan x h new y y.ec) first_spare.1 first.2
+        ∙ copy-is s bs a same (taken s bs a 0) h new first.0 (ec_at s bs first.0)
+        ∙ ap (λ p. atomic_copy s bs a (taken s bs a 0) h new p (ec_at s bs p)) (sym (holder_is 0 first.0 first.1)))
+        (ap₂ (λ (x y : Site). copy_on s seen.scan x i new y y.ec) second_spare.1 second.2
+        ∙ copy-is s bs a same (taken s bs a 1) i new second.0 (ec_at s bs second.0)
+        ∙ ap (λ p. atomic_copy s bs a (taken s bs a 1) i new p (ec_at s bs p)) (sym (holder_is 1 second.0 second.1)))
 
     unfoldable pub is_rename : weak_place s (renamed_pages s m id name) ≡ None → (steps : List Step)
-        → steps ≡ two_copies s bs (shown seen) old two (renamed_pages s m id name) → IsRename image id name steps
-    is_rename strong steps made =
-        record { from = a; attached = is.attached; allowed = may_be_named strong; plan = made ∙ copies-are }
+        → steps ≡ two_copies s seen.scan old on (renamed_pages s m id name) → IsRename image id name steps
+    is_rename strong steps made = record {
+      from = a;
+      attached = is.attached;
+      allowed = may_be_named strong;
+      plan = made ∙ copies-are (renamed_pages s m id name);
+    }

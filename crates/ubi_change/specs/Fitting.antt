@@ -1,9 +1,9 @@
 -- When steps fit an image.
-use Rattle.std.specs.Prelude.{◌≡◌, ℕ, ◌+◌, ◌*◌, ◌/◌, ◌==◌, ◌&&◌, Bool, true, nat_lt, bit_and, List, length, Some, slice_get, slice_range}
+use Rattle.std.specs.Prelude.{◌≡◌, ℕ, ◌+◌, ◌*◌, ◌/◌, ◌<◌, ◌==◌, ◌&&◌, Bool, true, nat_lt, bit_and, List, length, Some, slice_get, slice_range}
 use Rattle.std.specs.Cmp.Lexicographic.{pointwise}
 use Rattle.ubi_media.specs.Geometry.{Sizes}
 use Rattle.ubi_scan.specs.Image.{block}
-use Rattle.ubi_change.specs.Steps.{after}
+use Rattle.ubi_change.specs.Steps.{after, target}
 use Rattle.ubi_change.specs.declared.step.Step.{Step}
 use Rattle.ubi_change.specs.declared.step.Step.TheVariants as step
 
@@ -25,3 +25,12 @@ fits s bs (step.Program p page bytes) =
 -- each step fits what those before it leave
 abbrev pub AllFit : Sizes → List (List ℕ) → List Step → Type 0
 AllFit s bs steps = (k : ℕ) (next : Step) → slice_get steps k ≡ Some next → fits s (after s bs steps k) next ≡ true
+
+-- a program's page lies in its eraseblock, and its bytes are one page
+abbrev pub FitsBlock : Sizes → Step → Type 0
+FitsBlock s (step.Erase p) = Unit {0}
+FitsBlock s (step.Program p page bytes) = (page < s.peb_size / s.page) × (length bytes ≡ s.page)
+
+-- each step works within one of n eraseblocks
+abbrev pub AllWithin : Sizes → ℕ → List Step → Type 0
+AllWithin s n steps = (k : ℕ) (next : Step) → slice_get steps k ≡ Some next → (target next < n) × FitsBlock s next

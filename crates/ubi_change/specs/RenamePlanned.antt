@@ -1,22 +1,26 @@
 -- What the plan of a rename is, what holds of it at every cut and at its end, and why there is none.
 use Rattle.std.specs.Prelude.{◌≡◌, ℕ, ◌<◌, ◌≤◌, false, nat_lt, if◌then◌else◌, List, ◌∷◌, length, take, count_by}
 use Rattle.ubi_media.specs.Geometry.{Sizes}
-use Rattle.ubi_media.specs.declared.refusal.AttachError.{AttachError}
-use Rattle.ubi_media.specs.declared.refusal.AttachError.TheVariants as attach
-use Rattle.ubi_scan.specs.Image.{Image, eraseblocks, in_image}
+use Rattle.ubi_scan.specs.Image.{Image, IsWholeSize, eraseblocks, image_of, in_image}
+use Rattle.ubi_scan.specs.Source.{Agreed, Source, WhereHeld, blocks_in}
+use Rattle.ubi_scan.specs.declared.errors.StreamError.TheVariants as stream
 use Rattle.ubi_table.specs.Table.{CopyIs}
 use Rattle.ubi_table.specs.declared.copy.CopyRead.TheVariants as copy
 use Rattle.ubi_volume.specs.Accepts.{Accepts, AcceptsBlocks, Refuses}
 use Rattle.ubi_volume.specs.Attached.{IsAttached, Whole}
 use Rattle.ubi_volume.specs.Meant.{Meant, records_of}
+use Rattle.ubi_volume.specs.Places.{ArePlacesError}
 use Rattle.ubi_change.specs.Cuts.{programs_copy, turn}
+use Rattle.ubi_change.specs.Fitting.{AllFit, AllWithin}
 use Rattle.ubi_change.specs.Frugal.{CountsErases, TouchesOnly}
-use Rattle.ubi_change.specs.Order.{Erases}
+use Rattle.ubi_change.specs.Order.{Erases, RisesBetweenErases}
 use Rattle.ubi_change.specs.Renamed.{ReadSame, renamed}
 use Rattle.ubi_change.specs.RenamePlan.{holder, rename_plan, renamed_pages}
 use Rattle.ubi_change.specs.RenameRefused.{BothGood, IsFirstCause, MayBeNamed}
 use Rattle.ubi_change.specs.Steps.{after}
 use Rattle.ubi_change.specs.Takeable.{ec_at, stays, takeable}
+use Rattle.ubi_change.specs.declared.plan_error.PlanError.{PlanError}
+use Rattle.ubi_change.specs.declared.plan_error.PlanError.TheVariants as error
 use Rattle.ubi_change.specs.declared.rename_refusal.RenameRefusal.{RenameRefusal}
 use Rattle.ubi_change.specs.declared.rename_refusal.RenameRefusal.TheVariants as refusal
 use Rattle.ubi_change.specs.declared.step.Step.{Step}
@@ -66,13 +70,33 @@ LeavesBothGoodOf image id name steps = (m : Meant) × Accepts image m × in_imag
 abbrev pub IsFrugalRenameOf : Image → ℕ → List ℕ → List Step → Type 0
 IsFrugalRenameOf image id name steps = (a : Whole) × IsAttached image a × in_image IsFrugalRename image a id name steps
 
--- the cause that an attach gives
-abbrev pub from_attach : AttachError → RenameRefusal
-from_attach (attach.Refused c) = refusal.Attach c
-from_attach attach.Memory = refusal.Memory
-
 -- why a rename isn't planned
 abbrev pub IsRenameRefusal : Image → ℕ → List ℕ → RenameRefusal → Type 0
 IsRenameRefusal image id name refusal.Memory = Unit {0}
 IsRenameRefusal image id name (refusal.Attach c) = Refuses image c
 IsRenameRefusal image id name c = (a : Whole) × IsAttached image a × in_image IsFirstCause image a id name c
+
+-- what is shown of the steps for an image
+pub record IsRenameOf (image : Image) (id : ℕ) (name : List ℕ) (steps : List Step) : Type 0 where
+  pub survives : SurvivesRenameOf image id name steps
+  pub reads : KeepsReading image steps
+  pub copies : LeavesBothGoodOf image id name steps
+  pub fits : in_image AllFit image steps
+  pub rises : in_image RisesBetweenErases image steps
+  pub frugal : IsFrugalRenameOf image id name steps
+  pub plan : IsRename image id name steps
+
+-- the steps for the image of a source: each works within one of its eraseblocks, and they are those of whatever the source
+-- may hold
+pub record IsPlannedRename (s : Sizes) (k : Source) (agrees : Agreed) (id : ℕ) (name : List ℕ) (steps : List Step) : Type 0 where
+  pub whole : IsWholeSize s k.size
+  pub within : AllWithin s (blocks_in s k) steps
+  pub held : WhereHeld agrees (λ bytes. IsRenameOf (image_of s bytes) id name steps)
+
+-- why the rename of a source isn't planned
+abbrev pub IsRenameError : Sizes → Source → Agreed → ℕ → List ℕ → PlanError RenameRefusal → Type 0
+IsRenameError s k agrees id name (error.Read p) = IsWholeSize s k.size × (p < blocks_in s k)
+IsRenameError s k agrees id name (error.Refused refusal.Memory) = Unit {0}
+IsRenameError s k agrees id name (error.Refused (refusal.Attach c)) = ArePlacesError s k agrees (stream.Refused c)
+IsRenameError s k agrees id name (error.Refused c) =
+    IsWholeSize s k.size × WhereHeld agrees (λ bytes. IsRenameRefusal (image_of s bytes) id name c)

@@ -1,28 +1,30 @@
 //! The two copies of the volume table, and the eraseblocks that hold them.
 
-ghost use Rattle.std.specs.Prelude.{◌≡◌, true, false, IfErr, IfOk};
-ghost use Rattle.ubi_change.specs.inner.Making.{shown};
-ghost use Rattle.ubi_change.specs.inner.Renaming.{AreHolders, IsHoldersRefusal};
+ghost use Rattle.std.specs.Prelude.{◌≡◌, true, false, IfErr, IfOk, length};
+ghost use Rattle.ubi_change.specs.inner.Renaming.{AreHoldersOf};
 ghost use Rattle.ubi_change.specs.RenameRefused.{BothGood};
-ghost use Rattle.ubi_scan.specs.Image.{in_image};
-ghost use Rattle.ubi_scan.specs.Scan.{IsScan};
+ghost use Rattle.ubi_scan.specs.Source.{Narrows, WhereHeld, blocks_in, blocks_of};
+ghost use Rattle.ubi_scan.specs.Stream.{IsScanOf, after};
 ghost use Rattle.ubi_table.specs.Records.{Records};
+ghost use Rattle.ubi_table.specs.Stream.{IsCopyReadError};
 ghost use Rattle.ubi_table.specs.declared.copy.CopyRead.TheVariants as copy;
+ghost use Rattle.ubi_volume.specs.Survey.{IsSurveyOf};
 
-use crate::rename_refusal::RenameRefusal;
-use std::alloc::{AllocError, Global};
-use ubi_media::LAYOUT_VOLUME;
-use ubi_scan::{Blocks, Scan};
-use ubi_table::{CopyRead, read_copy};
+use crate::ground::winner_site;
+use crate::site::Site;
+use std::alloc::Global;
+use ubi_media::{Geometry, LAYOUT_VOLUME};
+use ubi_scan::{BlockSource, Scan, StreamError};
+use ubi_table::{CopyRead, read_copy_from};
 use ubi_volume::Surveyed;
 
 /// The eraseblocks that hold the copies of the volume table.
 #[derive(Clone, Copy)]
 pub struct Holders {
     /// The eraseblock that holds copy 0.
-    pub first: u32,
+    pub first: Site,
     /// The eraseblock that holds copy 1.
-    pub second: u32,
+    pub second: Site,
 }
 
 /// Whether two copies are good, with equal tables.
@@ -36,44 +38,62 @@ fn are_same(first: &CopyRead, second: &CopyRead) -> bool
     }
 }
 
-/// Whether both copies of the table of an image are good, with equal tables.
+/// Whether both copies of the table of an image are good, with equal tables. The buffer has the size of an eraseblock, here
+/// and below.
 ///
 /// # Errors
 ///
-/// Memory ran out.
-fn are_both_good(alloc: Global, blocks: &Blocks<'_>, scan: &Scan) -> Result<bool, AllocError>
-    requires { in_image IsScan blocks.now scan.now }
-    ensures good { IfOk result (λ b. b ≡ true → (t : Records) × in_image BothGood blocks.now t) }
-    ensures bad { IfOk result (λ b. b ≡ false → (t : Records) → in_image BothGood blocks.now t → ⊥) }
+/// Read where the read failed, with the count 0. Memory where it ran out.
+fn are_both_good<S: BlockSource>(
+    alloc: Global,
+    geometry: &Geometry,
+    source: &mut S,
+    scan: &Scan,
+    buffer: &mut [u8],
+) -> Result<bool, StreamError>
+    requires scan { IsScanOf geometry.now (S.known source.old) (S.agrees source.old) scan.now }
+    requires room { length buffer.old ≡ geometry.now.peb_size }
+    ensures known { S.known source.new ≡ after (S.known source.old) result }
+    ensures narrows { Narrows (S.agrees source.old) (S.agrees source.new) }
+    ensures good { IfOk result (λ b. b ≡ true → WhereHeld (S.agrees source.new) (λ bytes. (t : Records) × BothGood geometry.now (blocks_of geometry.now bytes) t)) }
+    ensures bad { IfOk result (λ b. b ≡ false → WhereHeld (S.agrees source.new) (λ bytes. (t : Records) → BothGood geometry.now (blocks_of geometry.now bytes) t → ⊥)) }
+    ensures failed { IfErr result (IsCopyReadError (blocks_in geometry.now (S.known source.old))) }
 {
-    let first = read_copy(alloc, blocks, scan, 0)?;
-    let second = read_copy(alloc, blocks, scan, 1)?;
+    prove!(geometry.data_offset() <= geometry.peb_size());
+    let leb = &mut buffer[..geometry.leb_size() as usize];
+    let first = read_copy_from(alloc, geometry, source, scan, 0, leb)?;
+    let second = read_copy_from(alloc, geometry, source, scan, 1, leb)?;
     Ok(are_same(&first, &second))
 }
 
-/// The eraseblocks that hold the copies of the volume table, where both are good with equal tables.
+/// The eraseblocks that hold the copies of the volume table. None where the copies aren't both good with equal tables.
 ///
 /// # Errors
 ///
-/// `NeedsRepair`, or `Memory`.
-pub fn holders_of(
+/// Read where a read failed, with the count 0. Memory where it ran out.
+pub fn holders_of<S: BlockSource>(
     alloc: Global,
-    blocks: &Blocks<'_>,
+    geometry: &Geometry,
+    source: &mut S,
     surveyed: &Surveyed,
-) -> Result<Holders, RenameRefusal>
-    requires { in_image IsScan blocks.now surveyed.now.scan }
-    ensures holders { IfOk result (in_image AreHolders blocks.now (shown surveyed.now)) }
-    ensures refused { IfErr result (in_image IsHoldersRefusal blocks.now) }
+    buffer: &mut [u8],
+) -> Result<Option<Holders>, StreamError>
+    requires survey { IsSurveyOf geometry.now (S.known source.old) (S.agrees source.old) surveyed.now }
+    requires room { length buffer.old ≡ geometry.now.peb_size }
+    ensures known { S.known source.new ≡ after (S.known source.old) result }
+    ensures narrows { Narrows (S.agrees source.old) (S.agrees source.new) }
+    ensures holders { IfOk result (AreHoldersOf geometry.now (S.known source.old) (S.agrees source.new) surveyed.now) }
+    ensures failed { IfErr result (IsCopyReadError (blocks_in geometry.now (S.known source.old))) }
 {
-    if !are_both_good(alloc, blocks, surveyed.scan())? {
-        return Err(RenameRefusal::NeedsRepair);
+    if !are_both_good(alloc, geometry, source, surveyed.scan(), buffer)? {
+        return Ok(None);
     }
-    match (
-        surveyed.winner(LAYOUT_VOLUME, 0),
-        surveyed.winner(LAYOUT_VOLUME, 1),
-    ) {
-        (Some(first), Some(second)) => Ok(Holders { first, second }),
-        // A copy that no eraseblock holds isn't good either.
-        _ => Err(RenameRefusal::NeedsRepair),
-    }
+    // A copy that no eraseblock holds isn't good.
+    let Some(first) = winner_site(geometry, source, surveyed, LAYOUT_VOLUME, 0, buffer)? else {
+        return Ok(None);
+    };
+    let Some(second) = winner_site(geometry, source, surveyed, LAYOUT_VOLUME, 1, buffer)? else {
+        return Ok(None);
+    };
+    Ok(Some(Holders { first, second }))
 }

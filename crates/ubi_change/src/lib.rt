@@ -2,33 +2,40 @@
 //! bytes ([`plan_change`]), or a volume another name ([`plan_rename`]).
 //!
 //! A plan is a list of erases of eraseblocks and of programs of single pages. After any number of them the image is
-//! accepted, and means the old or the new.
+//! accepted, and means the old or the new. It is made of the bytes of an image, or of a source that is read at places
+//! ([`plan_change_from`], [`plan_rename_from`]); [`write_after`] writes what it leaves.
 #![tactic(auto)]
 
 mod causes;
+mod ground;
 mod holders;
 pub mod laws;
 mod naming;
 mod pages;
-mod places;
+mod plan_error;
 mod planning;
 mod pushing;
 mod refusal;
 mod rename_refusal;
 mod renaming;
+mod site;
+mod sites;
 mod spares;
 mod step;
 mod stepping;
 mod taking;
 mod target;
 mod weakness;
+mod writing;
 
-pub use planning::plan_change;
+pub use plan_error::PlanError;
+pub use planning::{plan_change, plan_change_from};
 pub use refusal::ChangeRefusal;
 pub use rename_refusal::RenameRefusal;
-pub use renaming::plan_rename;
+pub use renaming::{plan_rename, plan_rename_from};
 pub use step::Step;
 pub use stepping::{apply, step_fits};
+pub use writing::write_after;
 
 #[cfg(test)]
 mod tests;

@@ -1,8 +1,9 @@
 //! The name that a volume may get, and the volume table with it.
 
-ghost use Rattle.std.specs.Prelude.{◌≡◌, ◌%◌, ◌^◌, ◌<◌, IfErr, IfOk, length, option_copied};
+ghost use Rattle.std.specs.Prelude.{◌≡◌, ◌%◌, ◌^◌, ◌<◌, ◌≤◌, IfErr, IfOk, length, option_copied};
 ghost use Rattle.ubi_change.specs.inner.Renaming.{IsNamable, IsNamingRefusal, other_named};
 ghost use Rattle.ubi_change.specs.RenamePlan.{table_pages};
+ghost use Rattle.ubi_media.specs.Geometry.{leb_size};
 ghost use Rattle.ubi_table.specs.Named.{records_named};
 
 use crate::pages::table_pages;
@@ -60,6 +61,7 @@ pub fn renamed_pages(
     ensures pages { IfOk result (λ bytes. bytes.items ≡ table_pages geometry.now (records_named table.now id name.now)) }
     ensures paged { IfOk result (λ bytes. length bytes.items % geometry.now.page ≡ 0) }
     ensures short { IfOk result (λ bytes. length bytes.items < 2 ^ 31) }
+    ensures fits { IfOk result (λ bytes. length bytes.items ≤ leb_size geometry.now) }
     ensures may { IfOk result (λ _. IsNamable table.now id name.now) }
     ensures refused { IfErr result (IsNamingRefusal table.now id name.now) }
 {

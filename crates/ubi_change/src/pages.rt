@@ -5,6 +5,7 @@ ghost use Rattle.ubi_change.specs.Plan.{vid_page};
 ghost use Rattle.ubi_change.specs.RenamePlan.{table_pages};
 ghost use Rattle.ubi_media.specs.Ec.{ec_bytes};
 ghost use Rattle.ubi_media.specs.Fields.{filled};
+ghost use Rattle.ubi_media.specs.Geometry.{leb_size};
 ghost use Rattle.ubi_volume.specs.Meant.{pieces};
 
 use std::alloc::{AllocError, Global};
@@ -77,6 +78,7 @@ pub fn table_pages(alloc: Global, geometry: &Geometry, table: &Table) -> Result<
     ensures pages { IfOk result (λ bytes. bytes.items ≡ table_pages geometry.now table.now) }
     ensures paged { IfOk result (λ bytes. length bytes.items % geometry.now.page ≡ 0) }
     ensures short { IfOk result (λ bytes. length bytes.items < 2 ^ 31) }
+    ensures fits { IfOk result (λ bytes. length bytes.items ≤ leb_size geometry.now) }
 {
     let mut bytes = table.encode(alloc)?;
     let count = page_count(geometry, bytes.as_slice());

@@ -1,108 +1,247 @@
 //! The plan of an atomic change.
 
-ghost use Rattle.std.specs.Prelude.{◌≡◌, ◌%◌, ◌^◌, ◌<◌, IfErr, IfOk, length};
-ghost use Rattle.ubi_change.specs.Fitting.{AllFit};
-ghost use Rattle.ubi_change.specs.inner.Making.{AreWithin, mapped_steps, shown, steps_on, unmapped_steps};
+ghost use Rattle.std.specs.Prelude.{◌≡◌, ◌+◌, ◌%◌, ◌^◌, ◌<◌, ◌≤◌, IfErr, IfOk, length};
+ghost use Rattle.ubi_change.specs.Fitting.{AllFit, AllWithin};
+ghost use Rattle.ubi_change.specs.inner.Making.{AreStepsOf, FitsPrepared, HasRoom, IsNoWrite, IsPrepared, IsTarget, IsTargetRefusal, IsUnplanned, from_stream, mapped_steps, steps_on, unmapped_steps};
+ghost use Rattle.ubi_change.specs.inner.Sites.{HasCounter};
 ghost use Rattle.ubi_change.specs.Order.{RisesBetweenErases};
-ghost use Rattle.ubi_change.specs.Planned.{IsFrugalOf, IsPlan, SurvivesCutsOf, IsChangeRefusal};
-ghost use Rattle.ubi_scan.specs.Image.{eraseblocks, image_of, in_image};
-ghost use Rattle.ubi_scan.specs.Numbers.{carriers};
+ghost use Rattle.ubi_change.specs.Planned.{IsChangeError, IsChangeRefusal, IsFrugalOf, IsPlan, IsPlanned, SurvivesCutsOf, after_plan};
+ghost use Rattle.ubi_scan.specs.Image.{image_of, in_image};
+ghost use Rattle.ubi_scan.specs.Source.{Narrows};
+ghost use Rattle.ubi_scan.specs.Stream.{after};
+ghost use Rattle.ubi_volume.specs.Places.{ArePlacesError};
 
 use crate::causes::own_cause;
-use crate::places::{Places, places_of};
+use crate::ground::{Ground, ground_of, winner_site};
+use crate::plan_error::PlanError;
 use crate::pushing::{Replacement, push_copy, push_mount, ready_ec};
 use crate::refusal::ChangeRefusal;
+use crate::site::Site;
+use crate::sites::{Sites, sites_of};
 use crate::step::Step;
-use crate::taking::ec_at;
 use crate::target::Target;
 use std::alloc::{AllocError, Global};
 use ubi_media::Geometry;
-use ubi_scan::Blocks;
-use ubi_volume::{Surveyed, survey};
+use ubi_scan::{BlockSource, MemorySource, Scan, StreamError};
+use ubi_table::Table;
+
+/// What the plan of a change reads of a source.
+#[derive(Drop)]
+struct Prepared {
+    /// The image, and the eraseblocks that may be taken.
+    ground: Ground,
+    /// The winner of the logical eraseblock, if it has one.
+    winner: Option<Site>,
+}
+
+/// Reads what the plan of a change needs.
+///
+/// # Errors
+///
+/// As [`ubi_volume::survey_from`].
+fn prepare<S: BlockSource>(
+    alloc: Global,
+    geometry: &Geometry,
+    source: &mut S,
+    id: u32,
+    lnum: u32,
+) -> Result<Prepared, StreamError>
+    ensures known { S.known source.new ≡ after (S.known source.old) result }
+    ensures narrows { Narrows (S.agrees source.old) (S.agrees source.new) }
+    ensures prepared { IfOk result (IsPrepared geometry.now (S.known source.old) (S.agrees source.new) id lnum) }
+    ensures refused { IfErr result (ArePlacesError geometry.now (S.known source.old) (S.agrees source.new)) }
+{
+    let mut buffer = Vec::from_elem(alloc, 0u8, geometry.peb_size() as usize)?;
+    let buffer = buffer.as_mut_slice();
+    let ground = ground_of(alloc, geometry, source, buffer)?;
+    let winner = winner_site(geometry, source, &ground.surveyed, id, lnum, buffer)?;
+    Ok(Prepared { ground, winner })
+}
+
+/// The logical eraseblock that is to be changed.
+///
+/// # Errors
+///
+/// The first cause that stands of those that the volume's record and the new bytes give.
+fn target_of(
+    geometry: &Geometry,
+    table: &Table,
+    id: u32,
+    lnum: u32,
+    new: &[u8],
+) -> Result<Target, ChangeRefusal>
+    requires { table.now.sizes ≡ geometry.now }
+    ensures target { IfOk result (IsTarget geometry.now table.now id lnum new.now) }
+    ensures refused { IfErr result (IsTargetRefusal geometry.now table.now id lnum new.now) }
+{
+    let Some(entry) = table.get(id) else {
+        return Err(ChangeRefusal::NoVolume);
+    };
+    match own_cause(geometry, entry, lnum, new) {
+        Some(cause) => Err(cause),
+        None => Ok(Target {
+            id,
+            lnum,
+            compat: 0,
+            data_pad: entry.data_pad(geometry),
+        }),
+    }
+}
 
 /// The steps for a logical eraseblock with a winner: a copy, and then the winner is erased.
 fn mapped_steps(
     alloc: Global,
-    blocks: &Blocks<'_>,
-    surveyed: &Surveyed,
+    geometry: &Geometry,
+    scan: &Scan,
     target: &Target,
     new: &[u8],
-    copy: u32,
-    old: u32,
+    copy: &Site,
+    old: &Site,
 ) -> Result<Vec<Step>, AllocError>
-    requires states { length surveyed.now.states ≡ length (eraseblocks blocks.now) }
-    requires carriers { surveyed.now.scan.carriers ≡ in_image carriers blocks.now }
-    requires paged { length new.now % blocks.now.sizes.page ≡ 0 }
+    requires paged { length new.now % geometry.now.page ≡ 0 }
     requires short { length new.now < 2 ^ 31 }
-    requires within { in_image AreWithin blocks.now (shown surveyed.now) (Places.Mapped copy old) }
-    ensures { IfOk result (λ steps. steps.items ≡ in_image mapped_steps blocks.now (shown surveyed.now) target.now new.now copy old) }
+    requires few { scan.now.top_sqnum + 1 ≤ 0xFFFFFFFFFFFFFFFF }
+    requires copy { HasCounter copy.now }
+    requires old { HasCounter old.now }
+    ensures { IfOk result (λ steps. steps.items ≡ mapped_steps geometry.now scan.now target.now new.now copy.now old.now) }
 {
     let copy = Replacement {
-        target: copy,
-        header: target.copy_header(surveyed.top_sqnum() + 1, new),
-        old,
-        old_ec: ec_at(blocks, old),
+        target: *copy,
+        header: target.copy_header(scan.top_sqnum() + 1, new),
+        old: *old,
+        old_ec: old.ec,
     };
     let mut steps = Vec::new(alloc);
-    push_copy(alloc, &mut steps, blocks, surveyed, &copy, new)?;
+    push_copy(alloc, &mut steps, geometry, scan, &copy, new)?;
     Ok(steps)
 }
 
 /// The steps for a logical eraseblock without a winner: a blank one, a copy, and then the blank one is erased.
 fn unmapped_steps(
     alloc: Global,
-    blocks: &Blocks<'_>,
-    surveyed: &Surveyed,
+    geometry: &Geometry,
+    scan: &Scan,
     target: &Target,
     new: &[u8],
-    first: u32,
-    copy: u32,
+    first: &Site,
+    copy: &Site,
 ) -> Result<Vec<Step>, AllocError>
-    requires states { length surveyed.now.states ≡ length (eraseblocks blocks.now) }
-    requires carriers { surveyed.now.scan.carriers ≡ in_image carriers blocks.now }
-    requires mean { surveyed.now.scan.mean_ec < 2 ^ 31 }
-    requires paged { length new.now % blocks.now.sizes.page ≡ 0 }
+    requires paged { length new.now % geometry.now.page ≡ 0 }
     requires short { length new.now < 2 ^ 31 }
-    requires within { in_image AreWithin blocks.now (shown surveyed.now) (Places.Unmapped first copy) }
-    ensures { IfOk result (λ steps. steps.items ≡ in_image unmapped_steps blocks.now (shown surveyed.now) target.now new.now first copy) }
+    requires few { scan.now.top_sqnum + 2 ≤ 0xFFFFFFFFFFFFFFFF }
+    requires mean { scan.now.mean_ec ≤ 0x7FFFFFFF }
+    requires first { HasCounter first.now }
+    requires copy { HasCounter copy.now }
+    ensures { IfOk result (λ steps. steps.items ≡ unmapped_steps geometry.now scan.now target.now new.now first.now copy.now) }
 {
-    let header = target.blank_header(surveyed.top_sqnum() + 1);
+    let header = target.blank_header(scan.top_sqnum() + 1);
     let copy = Replacement {
-        target: copy,
-        header: target.copy_header(surveyed.top_sqnum() + 2, new),
-        old: first,
-        old_ec: ready_ec(blocks, surveyed, first),
+        target: *copy,
+        header: target.copy_header(scan.top_sqnum() + 2, new),
+        old: *first,
+        old_ec: ready_ec(scan, first),
     };
     let mut steps = Vec::new(alloc);
-    push_mount(alloc, &mut steps, blocks, surveyed, first, &header)?;
-    push_copy(alloc, &mut steps, blocks, surveyed, &copy, new)?;
+    push_mount(alloc, &mut steps, geometry, scan, first, &header)?;
+    push_copy(alloc, &mut steps, geometry, scan, &copy, new)?;
     Ok(steps)
 }
 
 /// The steps that work on these eraseblocks.
 fn steps_on(
     alloc: Global,
-    blocks: &Blocks<'_>,
-    surveyed: &Surveyed,
+    geometry: &Geometry,
+    scan: &Scan,
     target: &Target,
     new: &[u8],
-    places: Places,
+    sites: &Sites,
 ) -> Result<Vec<Step>, AllocError>
-    requires states { length surveyed.now.states ≡ length (eraseblocks blocks.now) }
-    requires carriers { surveyed.now.scan.carriers ≡ in_image carriers blocks.now }
-    requires mean { surveyed.now.scan.mean_ec < 2 ^ 31 }
-    requires paged { length new.now % blocks.now.sizes.page ≡ 0 }
+    requires paged { length new.now % geometry.now.page ≡ 0 }
     requires short { length new.now < 2 ^ 31 }
-    requires within { in_image AreWithin blocks.now (shown surveyed.now) places }
-    ensures { IfOk result (λ steps. steps.items ≡ in_image steps_on blocks.now (shown surveyed.now) target.now new.now places) }
+    requires mean { scan.now.mean_ec ≤ 0x7FFFFFFF }
+    requires sites { HasRoom scan.now sites.now }
+    ensures { IfOk result (λ steps. steps.items ≡ steps_on geometry.now scan.now target.now new.now sites.now) }
 {
-    match places {
-        Places::Mapped { copy, old } => {
-            mapped_steps(alloc, blocks, surveyed, target, new, copy, old)
+    match sites {
+        Sites::Mapped { copy, old } => {
+            mapped_steps(alloc, geometry, scan, target, new, copy, old)
         }
-        Places::Unmapped { first, copy } => {
-            unmapped_steps(alloc, blocks, surveyed, target, new, first, copy)
+        Sites::Unmapped { first, copy } => {
+            unmapped_steps(alloc, geometry, scan, target, new, first, copy)
         }
+    }
+}
+
+/// The steps of the plan, by what was read for it.
+///
+/// # Errors
+///
+/// The first cause that stands but for `Attach`, or `Memory`.
+fn change_steps(
+    alloc: Global,
+    geometry: &Geometry,
+    prepared: &Prepared,
+    id: u32,
+    lnum: u32,
+    new: &[u8],
+) -> Result<Vec<Step>, ChangeRefusal>
+    requires { FitsPrepared geometry.now prepared.now }
+    ensures steps { IfOk result (λ steps. AreStepsOf geometry.now prepared.now id lnum new.now steps.items) }
+    ensures within { IfOk result (λ steps. AllWithin geometry.now (length prepared.now.ground.surveyed.states) steps.items) }
+    ensures refused { IfErr result (IsUnplanned geometry.now prepared.now id lnum new.now) }
+{
+    let Ground { surveyed, taken } = &prepared.ground;
+    let scan = surveyed.scan();
+    // By the limits of the geometry the new bytes lie in an eraseblock.
+    prove!(geometry.page() >= 64);
+    let target = target_of(geometry, surveyed.table(), id, lnum, new)?;
+    let sites = sites_of(scan, prepared.winner, taken)?;
+    Ok(steps_on(alloc, geometry, scan, &target, new, &sites)?)
+}
+
+/// Why what a plan needs couldn't be read.
+fn unread(error: StreamError) -> PlanError<ChangeRefusal>
+    requires { IsNoWrite error }
+    ensures { result ≡ from_stream error }
+{
+    match error {
+        StreamError::Refused(cause) => PlanError::Refused(ChangeRefusal::Attach(cause)),
+        StreamError::Read(p, _) => PlanError::Read(p),
+        StreamError::Memory => PlanError::Refused(ChangeRefusal::Memory),
+        // Nothing is written.
+        StreamError::Write(_) => unreachable!(),
+    }
+}
+
+/// The steps of [`plan_change`] for the image of a source, of which one eraseblock is held at a time.
+///
+/// Each eraseblock that a step changes lies in the source, and a page that is programmed lies in its eraseblock. Whatever
+/// the source may hold after the reads that it answered, the steps are those for that image.
+///
+/// # Errors
+///
+/// The first cause in the order of [`ChangeRefusal`] that stands, or `Memory`; or Read where a read failed.
+pub fn plan_change_from<S: BlockSource>(
+    alloc: Global,
+    geometry: &Geometry,
+    source: &mut S,
+    id: u32,
+    lnum: u32,
+    new: &[u8],
+) -> Result<Vec<Step>, PlanError<ChangeRefusal>>
+    ensures known { S.known source.new ≡ after_plan (S.known source.old) result }
+    ensures narrows { Narrows (S.agrees source.old) (S.agrees source.new) }
+    ensures plan { IfOk result (λ steps. IsPlanned geometry.now (S.known source.old) (S.agrees source.new) id lnum new.now steps.items) }
+    ensures refused { IfErr result (IsChangeError geometry.now (S.known source.old) (S.agrees source.new) id lnum new.now) }
+{
+    // The law that plans survive asks for it.
+    prove!(geometry.page() >= 64);
+    match prepare(alloc, geometry, source, id, lnum) {
+        Ok(prepared) => match change_steps(alloc, geometry, &prepared, id, lnum, new) {
+            Ok(steps) => Ok(steps),
+            Err(cause) => Err(PlanError::Refused(cause)),
+        },
+        Err(error) => Err(unread(error)),
     }
 }
 
@@ -138,22 +277,17 @@ pub fn plan_change(
     ensures plan { IfOk result (λ steps. IsPlan (image_of geometry.now image.now) id lnum new.now steps.items) }
     ensures refused { IfErr result (IsChangeRefusal (image_of geometry.now image.now) id lnum new.now) }
 {
-    let blocks = Blocks::new(geometry, image)?;
-    let surveyed = survey(alloc, geometry, image)?;
-    // The law that plans survive asks for it.
-    prove!(geometry.page() >= 64);
-    let Some(entry) = surveyed.table().get(id) else {
-        return Err(ChangeRefusal::NoVolume);
-    };
-    if let Some(cause) = own_cause(geometry, entry, lnum, new) {
-        return Err(cause);
-    }
-    let places = places_of(&blocks, &surveyed, id, lnum)?;
-    let target = Target {
+    match plan_change_from(
+        alloc,
+        geometry,
+        &mut MemorySource::new(image),
         id,
         lnum,
-        compat: 0,
-        data_pad: entry.data_pad(geometry),
-    };
-    Ok(steps_on(alloc, &blocks, &surveyed, &target, new, places)?)
+        new,
+    ) {
+        Ok(steps) => Ok(steps),
+        Err(PlanError::Refused(cause)) => Err(cause),
+        // No read fails.
+        Err(PlanError::Read(_)) => unreachable!(),
+    }
 }

@@ -1,60 +1,57 @@
 //! The parts of a plan, each added to the steps before it.
 
-ghost use Rattle.std.specs.Prelude.{◌≡◌, ◌++◌, ◌∷◌, [], ◌%◌, ◌^◌, ◌≤◌, ◌<◌, IfOk, IfSome, OnOk, length};
-ghost use Rattle.ubi_change.specs.inner.Making.{shown};
-ghost use Rattle.ubi_change.specs.Plan.{next_ec, atomic_copy, mount, prepare, program_header, program_text, ready_bytes, ready_ec, release, renew};
-ghost use Rattle.ubi_scan.specs.Image.{eraseblocks, in_image};
-ghost use Rattle.ubi_scan.specs.Numbers.{carriers};
+ghost use Rattle.std.specs.Prelude.{◌≡◌, ◌++◌, ◌∷◌, [], ◌%◌, ◌^◌, ◌≤◌, ◌<◌, IfSome, OnOk, length};
+ghost use Rattle.ubi_change.specs.Plan.{next_ec, program_header, program_text, renew};
+ghost use Rattle.ubi_change.specs.inner.Sites.{copy_on, mount_on, ready_on, release_on};
 
 use crate::pages::{ec_page, vid_page};
+use crate::site::Site;
 use crate::step::Step;
-use crate::taking::{ec_area, ec_at, is_clean, stays};
+use crate::taking::stays;
 use std::alloc::{AllocError, Global};
 use ubi_media::{EcHeader, Geometry, VidHeader, write_ec};
-use ubi_scan::Blocks;
-use ubi_volume::{Bytes, Surveyed};
+use ubi_scan::Scan;
+use ubi_volume::Bytes;
 
 /// A copy that takes the place of the winner of a logical eraseblock.
 #[derive(Clone, Copy)]
 pub struct Replacement {
     /// The eraseblock that gets the copy.
-    pub target: u32,
+    pub target: Site,
     /// The volume-identifier header of the copy.
     pub header: VidHeader,
     /// The eraseblock that wins the logical eraseblock so far.
-    pub old: u32,
+    pub old: Site,
     /// The erase-counter header that the old eraseblock has by then.
     pub old_ec: Option<EcHeader>,
 }
 
 /// The erase-counter header that an erase puts in the place of another: its counter is one above that, or the mean where
 /// there is none.
-fn next_ec(surveyed: &Surveyed, old: Option<EcHeader>) -> EcHeader
+fn next_ec(scan: &Scan, old: Option<EcHeader>) -> EcHeader
     requires { IfSome old (λ header. header.counter ≤ 2 ^ 31) }
-    ensures { result ≡ next_ec surveyed.now.scan old }
+    ensures { result ≡ next_ec scan.now old }
 {
     EcHeader {
         counter: match old {
             Some(header) => header.counter + 1,
-            None => surveyed.mean_ec(),
+            None => scan.mean_ec(),
         },
-        image_seq: surveyed.image_seq(),
+        image_seq: scan.image_seq(),
     }
 }
 
 /// The erase-counter header of an eraseblock that was made ready.
-pub fn ready_ec(blocks: &Blocks<'_>, surveyed: &Surveyed, p: u32) -> Option<EcHeader>
-    requires states { length surveyed.now.states ≡ length (eraseblocks blocks.now) }
-    requires mean { surveyed.now.scan.mean_ec < 2 ^ 31 }
-    requires inside { p < length (eraseblocks blocks.now) }
-    ensures value { result ≡ in_image ready_ec blocks.now (shown surveyed.now) p }
+pub fn ready_ec(scan: &Scan, site: &Site) -> Option<EcHeader>
+    requires mean { scan.now.mean_ec ≤ 0x7FFFFFFF }
+    requires counter { IfSome site.now.ec (λ header. header.counter ≤ 0x7FFFFFFF) }
+    ensures value { result ≡ ready_on scan.now site.now }
     ensures small { IfSome result (λ header. header.counter ≤ 2 ^ 31) }
 {
-    let old = ec_at(blocks, p);
-    if is_clean(blocks, surveyed, p) {
-        old
+    if site.is_clean {
+        site.ec
     } else {
-        Some(next_ec(surveyed, old))
+        Some(next_ec(scan, site.ec))
     }
 }
 
@@ -129,27 +126,25 @@ fn push_text(
 pub fn push_mount(
     alloc: Global,
     steps: &mut Vec<Step>,
-    blocks: &Blocks<'_>,
-    surveyed: &Surveyed,
-    p: u32,
+    geometry: &Geometry,
+    scan: &Scan,
+    site: &Site,
     header: &VidHeader,
 ) -> Result<(), AllocError>
-    requires states { length surveyed.now.states ≡ length (eraseblocks blocks.now) }
-    requires inside { p < length (eraseblocks blocks.now) }
-    ensures { OnOk result (steps.new.items ≡ steps.old.items ++ in_image mount blocks.now (shown surveyed.now) p header.now) }
+    requires { IfSome site.now.ec (λ header. header.counter ≤ 0x7FFFFFFF) }
+    ensures { OnOk result (steps.new.items ≡ steps.old.items ++ mount_on geometry.now scan.now site.now header.now) }
 {
-    let geometry = blocks.geometry();
-    if is_clean(blocks, surveyed, p) {
-        return push_header(alloc, steps, &geometry, p, ec_area(blocks, p), header);
+    if site.is_clean {
+        return push_header(alloc, steps, geometry, site.pnum, &site.ec_area, header);
     }
-    let ec = next_ec(surveyed, ec_at(blocks, p));
-    push_renew(alloc, steps, &geometry, p, &ec)?;
+    let ec = next_ec(scan, site.ec);
+    push_renew(alloc, steps, geometry, site.pnum, &ec)?;
     push_header(
         alloc,
         steps,
-        &geometry,
-        p,
-        &write_ec(&geometry, &ec),
+        geometry,
+        site.pnum,
+        &write_ec(geometry, &ec),
         header,
     )
 }
@@ -159,42 +154,37 @@ pub fn push_mount(
 fn push_release(
     alloc: Global,
     steps: &mut Vec<Step>,
-    blocks: &Blocks<'_>,
-    surveyed: &Surveyed,
-    p: u32,
+    geometry: &Geometry,
+    scan: &Scan,
+    site: &Site,
     ec: Option<EcHeader>,
 ) -> Result<(), AllocError>
-    requires carriers { surveyed.now.scan.carriers ≡ in_image carriers blocks.now }
-    requires inside { p < length (eraseblocks blocks.now) }
-    requires counter { IfSome ec (λ header. header.counter ≤ 2 ^ 31) }
-    ensures { OnOk result (steps.new.items ≡ steps.old.items ++ in_image release blocks.now (shown surveyed.now) p ec) }
+    requires { IfSome ec (λ header. header.counter ≤ 2 ^ 31) }
+    ensures { OnOk result (steps.new.items ≡ steps.old.items ++ release_on geometry.now scan.now site.now ec) }
 {
-    if stays(blocks, surveyed, p, ec) {
+    if stays(scan, site, ec) {
         return Ok(());
     }
-    push_renew(alloc, steps, &blocks.geometry(), p, &next_ec(surveyed, ec))
+    push_renew(alloc, steps, geometry, site.pnum, &next_ec(scan, ec))
 }
 
 /// Adds a copy with this text, and the erase of the old winner behind it.
 pub fn push_copy(
     alloc: Global,
     steps: &mut Vec<Step>,
-    blocks: &Blocks<'_>,
-    surveyed: &Surveyed,
+    geometry: &Geometry,
+    scan: &Scan,
     copy: &Replacement,
     new: &[u8],
 ) -> Result<(), AllocError>
-    requires states { length surveyed.now.states ≡ length (eraseblocks blocks.now) }
-    requires carriers { surveyed.now.scan.carriers ≡ in_image carriers blocks.now }
-    requires inside { copy.now.target < length (eraseblocks blocks.now) }
-    requires old { copy.now.old < length (eraseblocks blocks.now) }
+    requires target { IfSome copy.now.target.ec (λ header. header.counter ≤ 0x7FFFFFFF) }
     requires counter { IfSome copy.now.old_ec (λ header. header.counter ≤ 2 ^ 31) }
-    requires paged { length new.now % blocks.now.sizes.page ≡ 0 }
+    requires paged { length new.now % geometry.now.page ≡ 0 }
     requires short { length new.now < 2 ^ 31 }
     ensures { OnOk result (steps.new.items ≡ steps.old.items
-        ++ in_image atomic_copy blocks.now (shown surveyed.now) copy.now.target copy.now.header new.now copy.now.old copy.now.old_ec) }
+        ++ copy_on geometry.now scan.now copy.now.target copy.now.header new.now copy.now.old copy.now.old_ec) }
 {
-    push_mount(alloc, steps, blocks, surveyed, copy.target, &copy.header)?;
-    push_text(alloc, steps, &blocks.geometry(), copy.target, new)?;
-    push_release(alloc, steps, blocks, surveyed, copy.old, copy.old_ec)
+    push_mount(alloc, steps, geometry, scan, &copy.target, &copy.header)?;
+    push_text(alloc, steps, geometry, copy.target.pnum, new)?;
+    push_release(alloc, steps, geometry, scan, &copy.old, copy.old_ec)
 }

@@ -1,7 +1,7 @@
 //! Why a change isn't planned.
 
 use std::alloc::AllocError;
-use ubi_media::{AttachError, Refusal};
+use ubi_media::Refusal;
 
 /// Why a change isn't planned: the first cause that stands, in this order. `Memory` may come at any growth, whatever else
 /// stands.
@@ -38,30 +38,5 @@ impl From<AllocError> for ChangeRefusal {
 
     fn from(_: AllocError) -> ChangeRefusal {
         ChangeRefusal::Memory
-    }
-}
-
-impl From<Refusal> for ChangeRefusal {
-    ghost use Rattle.std.specs.Prelude.{◌≡◌};
-    ghost use Rattle.ubi_change.specs.declared.refusal.ChangeRefusal.TheVariants.{Attach};
-
-    ghost from_gives = { λ r e. e ≡ Attach r };
-
-    fn from(refusal: Refusal) -> ChangeRefusal {
-        ChangeRefusal::Attach(refusal)
-    }
-}
-
-impl From<AttachError> for ChangeRefusal {
-    ghost use Rattle.std.specs.Prelude.{◌≡◌};
-    ghost use Rattle.ubi_change.specs.Planned.{from_attach};
-
-    ghost from_gives = { λ r e. e ≡ from_attach r };
-
-    fn from(error: AttachError) -> ChangeRefusal {
-        match error {
-            AttachError::Refused(refusal) => ChangeRefusal::Attach(refusal),
-            AttachError::Memory => ChangeRefusal::Memory,
-        }
     }
 }

@@ -1,7 +1,7 @@
 //! Why a rename isn't planned.
 
 use std::alloc::AllocError;
-use ubi_media::{AttachError, Refusal};
+use ubi_media::Refusal;
 
 /// Why a rename isn't planned: the first cause that stands, in this order. `Memory` may come at any growth, whatever else
 /// stands.
@@ -36,30 +36,5 @@ impl From<AllocError> for RenameRefusal {
 
     fn from(_: AllocError) -> RenameRefusal {
         RenameRefusal::Memory
-    }
-}
-
-impl From<Refusal> for RenameRefusal {
-    ghost use Rattle.std.specs.Prelude.{◌≡◌};
-    ghost use Rattle.ubi_change.specs.declared.rename_refusal.RenameRefusal.TheVariants.{Attach};
-
-    ghost from_gives = { λ r e. e ≡ Attach r };
-
-    fn from(refusal: Refusal) -> RenameRefusal {
-        RenameRefusal::Attach(refusal)
-    }
-}
-
-impl From<AttachError> for RenameRefusal {
-    ghost use Rattle.std.specs.Prelude.{◌≡◌};
-    ghost use Rattle.ubi_change.specs.RenamePlanned.{from_attach};
-
-    ghost from_gives = { λ r e. e ≡ from_attach r };
-
-    fn from(error: AttachError) -> RenameRefusal {
-        match error {
-            AttachError::Refused(refusal) => RenameRefusal::Attach(refusal),
-            AttachError::Memory => RenameRefusal::Memory,
-        }
     }
 }

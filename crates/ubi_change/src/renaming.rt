@@ -1,63 +1,171 @@
 //! The plan of a rename.
 
-ghost use Rattle.std.specs.Prelude.{◌≡◌, ◌%◌, ◌^◌, ◌<◌, ◌+◌, IfErr, IfOk, length};
-ghost use Rattle.ubi_change.specs.Fitting.{AllFit};
-ghost use Rattle.ubi_change.specs.inner.Making.{shown};
-ghost use Rattle.ubi_change.specs.inner.Renaming.{AreInside, two_copies};
+ghost use Rattle.std.specs.Prelude.{◌≡◌, ◌%◌, ◌^◌, ◌<◌, ◌≤◌, ◌+◌, IfErr, IfOk, length};
+ghost use Rattle.ubi_change.specs.Fitting.{AllFit, AllWithin};
+ghost use Rattle.ubi_change.specs.inner.Making.{IsNoWrite};
+ghost use Rattle.ubi_change.specs.inner.Renaming.{AreCopiesOf, CopiesHaveRoom, FitsRenamable, IsRenamable, IsUnrenamed, from_stream, two_copies};
 ghost use Rattle.ubi_change.specs.Order.{RisesBetweenErases};
-ghost use Rattle.ubi_change.specs.RenamePlanned.{IsFrugalRenameOf, IsRename, IsRenameRefusal, KeepsReading, LeavesBothGoodOf, SurvivesRenameOf};
+ghost use Rattle.ubi_change.specs.Planned.{after_plan};
+ghost use Rattle.ubi_change.specs.RenamePlanned.{IsFrugalRenameOf, IsPlannedRename, IsRename, IsRenameError, IsRenameRefusal, KeepsReading, LeavesBothGoodOf, SurvivesRenameOf};
 ghost use Rattle.ubi_media.specs.Fields.{AreBytes};
-ghost use Rattle.ubi_scan.specs.Image.{eraseblocks, image_of, in_image};
-ghost use Rattle.ubi_scan.specs.Numbers.{carriers};
+ghost use Rattle.ubi_scan.specs.Image.{image_of, in_image};
+ghost use Rattle.ubi_scan.specs.Source.{Narrows};
+ghost use Rattle.ubi_scan.specs.Stream.{after};
+ghost use Rattle.ubi_volume.specs.Places.{ArePlacesError};
 
+use crate::ground::{Ground, ground_of};
 use crate::holders::{Holders, holders_of};
 use crate::naming::renamed_pages;
+use crate::plan_error::PlanError;
 use crate::pushing::{Replacement, push_copy};
 use crate::rename_refusal::RenameRefusal;
 use crate::spares::{Spares, spares_of};
 use crate::step::Step;
-use crate::taking::ec_at;
 use crate::target::Target;
 use crate::weakness::weak_place;
 use std::alloc::{AllocError, Global};
 use ubi_media::Geometry;
-use ubi_scan::Blocks;
-use ubi_volume::{Surveyed, survey};
+use ubi_scan::{BlockSource, MemorySource, Scan, StreamError};
+
+/// What the plan of a rename reads of a source.
+#[derive(Drop)]
+struct Renamable {
+    /// The image, and the eraseblocks that may be taken.
+    ground: Ground,
+    /// The eraseblocks that hold the copies of the volume table, if both are good.
+    holders: Option<Holders>,
+}
+
+/// Reads what the plan of a rename needs.
+///
+/// # Errors
+///
+/// As [`ubi_volume::survey_from`].
+fn prepare<S: BlockSource>(
+    alloc: Global,
+    geometry: &Geometry,
+    source: &mut S,
+) -> Result<Renamable, StreamError>
+    ensures known { S.known source.new ≡ after (S.known source.old) result }
+    ensures narrows { Narrows (S.agrees source.old) (S.agrees source.new) }
+    ensures prepared { IfOk result (IsRenamable geometry.now (S.known source.old) (S.agrees source.new)) }
+    ensures refused { IfErr result (ArePlacesError geometry.now (S.known source.old) (S.agrees source.new)) }
+{
+    let mut buffer = Vec::from_elem(alloc, 0u8, geometry.peb_size() as usize)?;
+    let buffer = buffer.as_mut_slice();
+    let ground = ground_of(alloc, geometry, source, buffer)?;
+    let holders = holders_of(alloc, geometry, source, &ground.surveyed, buffer)?;
+    Ok(Renamable { ground, holders })
+}
 
 /// The steps that write both copies anew, each followed by the erase of the eraseblock that held it.
-fn rename_steps(
+fn two_copies(
     alloc: Global,
-    blocks: &Blocks<'_>,
-    surveyed: &Surveyed,
-    holders: Holders,
-    spares: Spares,
+    geometry: &Geometry,
+    scan: &Scan,
+    holders: &Holders,
+    spares: &Spares,
     new: &[u8],
 ) -> Result<Vec<Step>, AllocError>
-    requires states { length surveyed.now.states ≡ length (eraseblocks blocks.now) }
-    requires carriers { surveyed.now.scan.carriers ≡ in_image carriers blocks.now }
-    requires paged { length new.now % blocks.now.sizes.page ≡ 0 }
+    requires paged { length new.now % geometry.now.page ≡ 0 }
     requires short { length new.now < 2 ^ 31 }
-    requires within { AreInside (length (eraseblocks blocks.now)) holders spares }
-    requires few { surveyed.now.scan.top_sqnum + 2 < 2 ^ 64 }
+    requires room { CopiesHaveRoom scan.now holders.now spares.now }
     ensures bytes { AreBytes new.now }
-    ensures steps { IfOk result (λ steps. steps.items ≡ in_image two_copies blocks.now (shown surveyed.now) holders spares new.now) }
+    ensures steps { IfOk result (λ steps. steps.items ≡ two_copies geometry.now scan.now holders.now spares.now new.now) }
 {
     let first = Replacement {
         target: spares.first,
-        header: Target::of_table(0).copy_header(surveyed.top_sqnum() + 1, new),
+        header: Target::of_table(0).copy_header(scan.top_sqnum() + 1, new),
         old: holders.first,
-        old_ec: ec_at(blocks, holders.first),
+        old_ec: holders.first.ec,
     };
     let second = Replacement {
         target: spares.second,
-        header: Target::of_table(1).copy_header(surveyed.top_sqnum() + 2, new),
+        header: Target::of_table(1).copy_header(scan.top_sqnum() + 2, new),
         old: holders.second,
-        old_ec: ec_at(blocks, holders.second),
+        old_ec: holders.second.ec,
     };
     let mut steps = Vec::new(alloc);
-    push_copy(alloc, &mut steps, blocks, surveyed, &first, new)?;
-    push_copy(alloc, &mut steps, blocks, surveyed, &second, new)?;
+    push_copy(alloc, &mut steps, geometry, scan, &first, new)?;
+    push_copy(alloc, &mut steps, geometry, scan, &second, new)?;
     Ok(steps)
+}
+
+/// The steps of the plan, by what was read for it.
+///
+/// # Errors
+///
+/// The first cause that stands but for `Attach`, or `Memory`.
+fn rename_steps(
+    alloc: Global,
+    geometry: &Geometry,
+    renamable: &Renamable,
+    id: u32,
+    name: &[u8],
+) -> Result<Vec<Step>, RenameRefusal>
+    requires { FitsRenamable geometry.now renamable.now }
+    ensures steps { IfOk result (λ steps. AreCopiesOf geometry.now renamable.now id name.now steps.items) }
+    ensures within { IfOk result (λ steps. AllWithin geometry.now (length renamable.now.ground.surveyed.states) steps.items) }
+    ensures refused { IfErr result (IsUnrenamed geometry.now renamable.now id name.now) }
+{
+    let Ground { surveyed, taken } = &renamable.ground;
+    // By the limits of the geometry the pages lie in an eraseblock.
+    prove!(geometry.page() >= 64);
+    let new = renamed_pages(alloc, geometry, surveyed.table(), id, name)?;
+    let Some(holders) = renamable.holders else {
+        return Err(RenameRefusal::NeedsRepair);
+    };
+    if let Some(pages) = weak_place(geometry, new.as_slice()) {
+        return Err(RenameRefusal::WeakCheck(pages));
+    }
+    let scan = surveyed.scan();
+    let spares = spares_of(scan, taken)?;
+    Ok(two_copies(alloc, geometry, scan, &holders, &spares, new.as_slice())?)
+}
+
+/// Why what a plan needs couldn't be read.
+fn unread(error: StreamError) -> PlanError<RenameRefusal>
+    requires { IsNoWrite error }
+    ensures { result ≡ from_stream error }
+{
+    match error {
+        StreamError::Refused(cause) => PlanError::Refused(RenameRefusal::Attach(cause)),
+        StreamError::Read(p, _) => PlanError::Read(p),
+        StreamError::Memory => PlanError::Refused(RenameRefusal::Memory),
+        // Nothing is written.
+        StreamError::Write(_) => unreachable!(),
+    }
+}
+
+/// The steps of [`plan_rename`] for the image of a source, of which one eraseblock is held at a time.
+///
+/// Each eraseblock that a step changes lies in the source, and a page that is programmed lies in its eraseblock. Whatever
+/// the source may hold after the reads that it answered, the steps are those for that image.
+///
+/// # Errors
+///
+/// The first cause in the order of [`RenameRefusal`] that stands, or `Memory`; or Read where a read failed.
+pub fn plan_rename_from<S: BlockSource>(
+    alloc: Global,
+    geometry: &Geometry,
+    source: &mut S,
+    id: u32,
+    name: &[u8],
+) -> Result<Vec<Step>, PlanError<RenameRefusal>>
+    ensures known { S.known source.new ≡ after_plan (S.known source.old) result }
+    ensures narrows { Narrows (S.agrees source.old) (S.agrees source.new) }
+    ensures plan { IfOk result (λ steps. IsPlannedRename geometry.now (S.known source.old) (S.agrees source.new) id name.now steps.items) }
+    ensures refused { IfErr result (IsRenameError geometry.now (S.known source.old) (S.agrees source.new) id name.now) }
+{
+    // The law that plans survive asks for it.
+    prove!(geometry.page() >= 64);
+    match prepare(alloc, geometry, source) {
+        Ok(renamable) => match rename_steps(alloc, geometry, &renamable, id, name) {
+            Ok(steps) => Ok(steps),
+            Err(cause) => Err(PlanError::Refused(cause)),
+        },
+        Err(error) => Err(unread(error)),
+    }
 }
 
 /// The steps that give a volume another name: both copies of the volume table are written anew, copy 0 first, each on an
@@ -93,15 +201,10 @@ pub fn plan_rename(
     ensures plan { IfOk result (λ steps. IsRename (image_of geometry.now image.now) id name.now steps.items) }
     ensures refused { IfErr result (IsRenameRefusal (image_of geometry.now image.now) id name.now) }
 {
-    let blocks = Blocks::new(geometry, image)?;
-    let surveyed = survey(alloc, geometry, image)?;
-    // The law that renames survive asks for it.
-    prove!(geometry.page() >= 64);
-    let new = renamed_pages(alloc, geometry, surveyed.table(), id, name)?;
-    let holders = holders_of(alloc, &blocks, &surveyed)?;
-    if let Some(pages) = weak_place(geometry, new.as_slice()) {
-        return Err(RenameRefusal::WeakCheck(pages));
+    match plan_rename_from(alloc, geometry, &mut MemorySource::new(image), id, name) {
+        Ok(steps) => Ok(steps),
+        Err(PlanError::Refused(cause)) => Err(cause),
+        // No read fails.
+        Err(PlanError::Read(_)) => unreachable!(),
     }
-    let spares = spares_of(&blocks, &surveyed)?;
-    Ok(rename_steps(alloc, &blocks, &surveyed, holders, spares, new.as_slice())?)
 }

@@ -1,40 +1,34 @@
 //! The eraseblocks that a rename takes.
 
-ghost use Rattle.std.specs.Prelude.{◌≡◌, IfErr, IfOk, length};
-ghost use Rattle.ubi_change.specs.inner.Making.{shown};
+ghost use Rattle.std.specs.Prelude.{IfErr, IfOk};
 ghost use Rattle.ubi_change.specs.inner.Renaming.{AreSpares, IsSparesRefusal};
-ghost use Rattle.ubi_scan.specs.Image.{eraseblocks, in_image};
-ghost use Rattle.ubi_scan.specs.Numbers.{carriers};
 
 use crate::rename_refusal::RenameRefusal;
-use crate::taking::first_takeable;
-use ubi_scan::Blocks;
-use ubi_volume::Surveyed;
+use crate::site::Site;
+use crate::taking::FirstTwo;
+use ubi_scan::Scan;
 
 /// The eraseblocks that a rename takes.
 #[derive(Clone, Copy)]
 pub struct Spares {
     /// The eraseblock that gets copy 0.
-    pub first: u32,
+    pub first: Site,
     /// The eraseblock that gets copy 1.
-    pub second: u32,
+    pub second: Site,
 }
 
-/// The eraseblocks that a rename takes, where two sequence numbers are left.
+/// The eraseblocks that a rename takes, where two sequence numbers are left: the first two that may be taken.
 ///
 /// # Errors
 ///
 /// `Exhausted`, and else `NoFree`.
-pub fn spares_of(blocks: &Blocks<'_>, surveyed: &Surveyed) -> Result<Spares, RenameRefusal>
-    requires states { length surveyed.now.states ≡ length (eraseblocks blocks.now) }
-    requires carriers { surveyed.now.scan.carriers ≡ in_image carriers blocks.now }
-    ensures spares { IfOk result (in_image AreSpares blocks.now (shown surveyed.now)) }
-    ensures refused { IfErr result (in_image IsSparesRefusal blocks.now (shown surveyed.now)) }
+pub fn spares_of(scan: &Scan, taken: &FirstTwo) -> Result<Spares, RenameRefusal>
+    ensures spares { IfOk result (AreSpares scan.now taken.now) }
+    ensures refused { IfErr result (IsSparesRefusal scan.now taken.now) }
 {
-    if surveyed.top_sqnum() > u64::MAX - 2 {
+    if scan.top_sqnum() > u64::MAX - 2 {
         return Err(RenameRefusal::Exhausted);
     }
-    let taken = first_takeable(blocks, surveyed);
     match (taken.first, taken.second) {
         (Some(first), Some(second)) => Ok(Spares { first, second }),
         _ => Err(RenameRefusal::NoFree),

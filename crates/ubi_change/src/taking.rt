@@ -1,43 +1,49 @@
 //! Which eraseblocks a plan takes.
 
-ghost use Rattle.std.specs.Prelude.{◌≡◌, ◌≤◌, ◌<◌, ◌&&◌, IfSome, filter, length};
-ghost use Rattle.ubi_change.specs.inner.Making.{first_two, is_wanted, joined, with_next};
-ghost use Rattle.ubi_change.specs.Takeable.{able, ec_at, is_clean, is_free, is_sole_carrier, is_takeable, is_unused, is_worn, stays, takeable};
-ghost use Rattle.ubi_scan.specs.Image.{block, ec_area, eraseblocks, in_image};
-ghost use Rattle.ubi_scan.specs.Numbers.{carriers};
+ghost use Rattle.std.specs.Prelude.{◌≡◌, ◌<◌, IfErr, IfOk, IfSome, length};
+ghost use Rattle.ubi_change.specs.inner.Sites.{FitsIn, is_sole_on, stays_on};
+ghost use Rattle.ubi_change.specs.inner.Taking.{AreTaken, TakeableIs, all_of, joined, parted_with, with_next};
+ghost use Rattle.ubi_change.specs.Takeable.{is_unused, is_worn};
+ghost use Rattle.ubi_scan.specs.Source.{Narrows, WhereHeld, blocks_in, blocks_of};
+ghost use Rattle.ubi_scan.specs.Stream.{IsReadFault, after};
+ghost use Rattle.ubi_volume.specs.Survey.{IsSurveyOf};
 
-use ubi_media::{EcHeader, EcRead, is_blank};
-use ubi_scan::Blocks;
+use crate::site::{Site, read_site};
+use ubi_media::{EcHeader, Geometry};
+use ubi_scan::{BlockSource, Scan, StreamError};
 use ubi_volume::{BlockState, Surveyed};
 
 /// The greatest erase counter.
 const LARGEST_COUNTER: u32 = 0x7FFF_FFFF;
 
-/// The bytes of an erase-counter header.
-const HEADER_SIZE: usize = 64;
-
 /// The first two of some eraseblocks, as far as there are so many.
 #[derive(Clone, Copy)]
 pub struct FirstTwo {
     /// The first.
-    pub first: Option<u32>,
+    pub first: Option<Site>,
     /// The second.
-    pub second: Option<u32>,
+    pub second: Option<Site>,
 }
 
 impl FirstTwo {
+    /// Those of no eraseblock.
+    const NONE: FirstTwo = FirstTwo {
+        first: None,
+        second: None,
+    };
+
     /// Those of one eraseblock more.
-    fn with(self, p: u32) -> FirstTwo
-        ensures { result ≡ with_next self p }
+    fn with(self, site: Site) -> FirstTwo
+        ensures { result ≡ with_next self site }
     {
         match (self.first, self.second) {
             (None, second) => FirstTwo {
-                first: Some(p),
+                first: Some(site),
                 second,
             },
             (first, None) => FirstTwo {
                 first,
-                second: Some(p),
+                second: Some(site),
             },
             (first, second) => FirstTwo { first, second },
         }
@@ -58,6 +64,44 @@ impl FirstTwo {
     }
 }
 
+/// The first two eraseblocks of both kinds that may be taken.
+#[derive(Clone, Copy)]
+struct Parted {
+    /// Of those that are clean.
+    clean: FirstTwo,
+    /// Of those that aren't.
+    other: FirstTwo,
+}
+
+impl Parted {
+    /// Those of one eraseblock more, if it may be taken.
+    fn with(self, site: Option<Site>) -> Parted
+        ensures { result ≡ parted_with self site }
+    {
+        let Some(site) = site else {
+            return self;
+        };
+        if site.is_clean {
+            Parted {
+                clean: self.clean.with(site),
+                other: self.other,
+            }
+        } else {
+            Parted {
+                clean: self.clean,
+                other: self.other.with(site),
+            }
+        }
+    }
+
+    /// The first two of all: the clean ones first.
+    fn all(self) -> FirstTwo
+        ensures { result ≡ all_of self }
+    {
+        self.clean.followed_by(self.other)
+    }
+}
+
 /// Whether nothing is lost with an eraseblock in this state.
 fn is_unused(state: BlockState) -> bool
     ensures { result ≡ is_unused state }
@@ -73,13 +117,6 @@ fn is_unused(state: BlockState) -> bool
     }
 }
 
-/// Whether an eraseblock in this state is free.
-fn is_free(state: BlockState) -> bool
-    ensures { result ≡ is_free state }
-{
-    matches!(state, BlockState::Free)
-}
-
 /// Whether an erase-counter header can't count another erase.
 fn is_worn(header: Option<EcHeader>) -> bool
     ensures { result ≡ is_worn header }
@@ -90,103 +127,84 @@ fn is_worn(header: Option<EcHeader>) -> bool
     }
 }
 
-/// The erase-counter header of an eraseblock, None where it is blank or corrupt.
-pub fn ec_at(blocks: &Blocks<'_>, p: u32) -> Option<EcHeader>
-    requires { p < length (eraseblocks blocks.now) }
-    ensures value { result ≡ in_image ec_at blocks.now p }
-    ensures small { IfSome result (λ header. header.counter ≤ 0x7FFFFFFF) }
-{
-    match blocks.ec(p) {
-        EcRead::Valid(header) => Some(header),
-        EcRead::Blank | EcRead::Corrupt | EcRead::Fault(_) => None,
-    }
-}
-
-/// The bytes of the erase-counter header of an eraseblock, as they stand.
-pub fn ec_area<'a>(blocks: &Blocks<'a>, p: u32) -> &'a [u8]
-    requires { p < length (eraseblocks blocks.now) }
-    ensures value { result.now ≡ ec_area (block (eraseblocks blocks.now) p) }
-    ensures size { length result.now ≡ 64 }
-{
-    prove!(blocks.geometry().peb_size() >= 64);
-    &blocks.block(p)[..HEADER_SIZE]
-}
-
 /// Whether an eraseblock is the only one that names the image.
-fn is_sole_carrier(blocks: &Blocks<'_>, surveyed: &Surveyed, p: u32) -> bool
-    requires carriers { surveyed.now.scan.carriers ≡ in_image carriers blocks.now }
-    requires inside { p < length (eraseblocks blocks.now) }
-    ensures { result ≡ in_image is_sole_carrier blocks.now p }
+fn is_sole_carrier(scan: &Scan, site: &Site) -> bool
+    ensures { result ≡ is_sole_on scan.now site.now }
 {
-    match ec_at(blocks, p) {
-        Some(header) => header.image_seq != 0 && surveyed.carriers() == 1,
+    match site.ec {
+        Some(header) => header.image_seq != 0 && scan.carriers() == 1,
         None => false,
     }
 }
 
 /// Whether an eraseblock, whose erase-counter header is this by then, is never erased: it can't count another erase, or it
 /// is the only one that names the image.
-pub fn stays(blocks: &Blocks<'_>, surveyed: &Surveyed, p: u32, ec: Option<EcHeader>) -> bool
-    requires carriers { surveyed.now.scan.carriers ≡ in_image carriers blocks.now }
-    requires inside { p < length (eraseblocks blocks.now) }
-    ensures { result ≡ in_image stays blocks.now p ec }
+pub fn stays(scan: &Scan, site: &Site, ec: Option<EcHeader>) -> bool
+    ensures { result ≡ stays_on scan.now site.now ec }
 {
-    is_worn(ec) || is_sole_carrier(blocks, surveyed, p)
+    is_worn(ec) || is_sole_carrier(scan, site)
 }
 
-/// Whether an eraseblock may be taken: nothing is lost with it, and it can be erased.
-fn is_takeable(blocks: &Blocks<'_>, surveyed: &Surveyed, p: u32) -> bool
-    requires states { length surveyed.now.states ≡ length (eraseblocks blocks.now) }
-    requires carriers { surveyed.now.scan.carriers ≡ in_image carriers blocks.now }
-    requires inside { p < length (eraseblocks blocks.now) }
-    ensures { result ≡ in_image is_takeable blocks.now surveyed.now.states p }
+/// An eraseblock that may be taken: nothing is lost with it, and it can be erased. None where it may not. The buffer has the
+/// size of an eraseblock, here and below.
+fn takeable_site<S: BlockSource>(
+    geometry: &Geometry,
+    source: &mut S,
+    surveyed: &Surveyed,
+    p: u32,
+    buffer: &mut [u8],
+) -> Result<Option<Site>, StreamError>
+    requires survey { IsSurveyOf geometry.now (S.known source.old) (S.agrees source.old) surveyed.now }
+    requires inside { p < blocks_in geometry.now (S.known source.old) }
+    requires room { length buffer.old ≡ geometry.now.peb_size }
+    ensures known { S.known source.new ≡ after (S.known source.old) result }
+    ensures narrows { Narrows (S.agrees source.old) (S.agrees source.new) }
+    ensures fits { IfOk result (λ site. IfSome site (FitsIn (blocks_in geometry.now (S.known source.old)))) }
+    ensures takeable { IfOk result (λ site. WhereHeld (S.agrees source.new) (λ bytes. TakeableIs geometry.now (blocks_of geometry.now bytes) surveyed.now.states p site)) }
+    ensures failed { IfErr result (IsReadFault (blocks_in geometry.now (S.known source.old))) }
 {
-    is_unused(surveyed.state(p)) && !stays(blocks, surveyed, p, ec_at(blocks, p))
+    let state = surveyed.state(p);
+    if !is_unused(state) {
+        return Ok(None);
+    }
+    let site = read_site(geometry, source, p, state, buffer)?;
+    if stays(surveyed.scan(), &site, site.ec) {
+        Ok(None)
+    } else {
+        Ok(Some(site))
+    }
 }
 
-/// Whether an eraseblock needs no erase before it is written: it is free, and blank but for its erase-counter header.
-pub fn is_clean(blocks: &Blocks<'_>, surveyed: &Surveyed, p: u32) -> bool
-    requires states { length surveyed.now.states ≡ length (eraseblocks blocks.now) }
-    requires inside { p < length (eraseblocks blocks.now) }
-    ensures { result ≡ in_image is_clean blocks.now surveyed.now.states p }
+/// The first two of the eraseblocks that may be taken: the clean ones first, and each of both kinds by rising number. They
+/// are read until two clean ones are found.
+///
+/// # Errors
+///
+/// Read where a read failed, with the count 0.
+pub fn first_takeable<S: BlockSource>(
+    geometry: &Geometry,
+    source: &mut S,
+    surveyed: &Surveyed,
+    buffer: &mut [u8],
+) -> Result<FirstTwo, StreamError>
+    requires survey { IsSurveyOf geometry.now (S.known source.old) (S.agrees source.old) surveyed.now }
+    requires room { length buffer.old ≡ geometry.now.peb_size }
+    ensures known { S.known source.new ≡ after (S.known source.old) result }
+    ensures narrows { Narrows (S.agrees source.old) (S.agrees source.new) }
+    ensures taken { IfOk result (AreTaken geometry.now (S.known source.old) (S.agrees source.new) surveyed.now.states) }
+    ensures failed { IfErr result (IsReadFault (blocks_in geometry.now (S.known source.old))) }
 {
-    prove!(blocks.geometry().peb_size() >= 64);
-    is_free(surveyed.state(p)) && is_blank(&blocks.block(p)[HEADER_SIZE..])
-}
-
-/// Whether an eraseblock may be taken, and is clean or isn't.
-fn is_wanted(blocks: &Blocks<'_>, surveyed: &Surveyed, clean: bool, p: u32) -> bool
-    requires states { length surveyed.now.states ≡ length (eraseblocks blocks.now) }
-    requires carriers { surveyed.now.scan.carriers ≡ in_image carriers blocks.now }
-    requires inside { p < length (eraseblocks blocks.now) }
-    ensures { result ≡ (in_image is_takeable blocks.now surveyed.now.states p && in_image is_wanted blocks.now surveyed.now.states clean p) }
-{
-    is_takeable(blocks, surveyed, p) && is_clean(blocks, surveyed, p) == clean
-}
-
-/// The first two of the eraseblocks that may be taken and are clean, or of those that aren't.
-fn first_wanted(blocks: &Blocks<'_>, surveyed: &Surveyed, clean: bool) -> FirstTwo
-    requires states { length surveyed.now.states ≡ length (eraseblocks blocks.now) }
-    requires carriers { surveyed.now.scan.carriers ≡ in_image carriers blocks.now }
-    ensures { result ≡ first_two (filter (in_image is_wanted blocks.now surveyed.now.states clean) (in_image able blocks.now surveyed.now.states)) }
-{
-    let mut found = FirstTwo {
-        first: None,
-        second: None,
+    let mut parted = Parted {
+        clean: FirstTwo::NONE,
+        other: FirstTwo::NONE,
     };
-    for p in 0..blocks.count() {
-        if is_wanted(blocks, surveyed, clean, p) {
-            found = found.with(p);
+    let count = surveyed.states().len();
+    prove!(count <= geometry.pebs() as usize);
+    for p in 0..count as u32 {
+        parted = parted.with(takeable_site(geometry, source, surveyed, p, buffer)?);
+        if parted.clean.second.is_some() {
+            return Ok(parted.all());
         }
     }
-    found
-}
-
-/// The first two of the eraseblocks that may be taken: the clean ones first, and each of both kinds by rising number.
-pub fn first_takeable(blocks: &Blocks<'_>, surveyed: &Surveyed) -> FirstTwo
-    requires states { length surveyed.now.states ≡ length (eraseblocks blocks.now) }
-    requires carriers { surveyed.now.scan.carriers ≡ in_image carriers blocks.now }
-    ensures { result ≡ first_two (in_image takeable blocks.now surveyed.now.states) }
-{
-    first_wanted(blocks, surveyed, true).followed_by(first_wanted(blocks, surveyed, false))
+    Ok(parted.all())
 }

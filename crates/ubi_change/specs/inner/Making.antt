@@ -1,61 +1,39 @@
--- What private functions give on the way to a plan.
-use Rattle.std.specs.Prelude.{◌≡◌, ◌/◌, ◌<◌, length, ℕ, ◌+◌, ◌^◌, Bool, not, if◌then◌else◌, List, [], ◌∷◌, ◌++◌, nat_lt, Option, Some, None, option_map, slice_get}
+-- What private functions give on the way to the plan of a change.
+use Rattle.std.specs.Prelude.{◌≡◌, ℕ, ◌+◌, ◌<◌, ◌≤◌, ◌⊎◌, not, List, [], ◌∷◌, ◌++◌, length, nat_lt, Option, Some, None, IfSome, option_map}
 use Rattle.std.specs.Bool.{then_some}
 use Rattle.std.specs.FinMap.{empty, get}
 use Rattle.ubi_media.specs.Geometry.{Sizes}
-use Rattle.ubi_media.specs.Record.{usable}
+use Rattle.ubi_media.specs.Record.{data_pad, rec_fault, usable}
 use Rattle.ubi_media.specs.declared.record.VolumeRecord.{VolumeRecord}
 use Rattle.ubi_scan.specs.Members.{layout}
+use Rattle.ubi_scan.specs.Scan.{Found}
+use Rattle.ubi_scan.specs.Source.{Agreed, Source}
+use Rattle.ubi_scan.specs.declared.errors.StreamError.{StreamError}
+use Rattle.ubi_scan.specs.declared.errors.StreamError.TheVariants as stream
+use Rattle.ubi_table.specs.Records.{Records}
 use Rattle.ubi_volume.specs.Attached.{Whole}
 use Rattle.ubi_volume.specs.Survey.{Seen}
-use Rattle.ubi_volume.specs.declared.attached.BlockState.{BlockState}
-use Rattle.ubi_change.specs.Plan.{blank_header, copy_header, atomic_copy, mount, needs, ready_ec, taken}
+use Rattle.ubi_change.specs.Plan.{blank_header, copy_header, needs}
 use Rattle.ubi_change.specs.Refused.{first_of, is_bad_length, is_static}
-use Rattle.ubi_change.specs.Takeable.{ec_at, is_clean, takeable}
+use Rattle.ubi_change.specs.Takeable.{takeable}
 use Rattle.ubi_change.specs.Weak.{weak_place}
-use Rattle.ubi_change.specs.declared.places.Places.{Places}
-use Rattle.ubi_change.specs.declared.places.Places.TheVariants as places
+use Rattle.ubi_change.specs.inner.Sites.{FitsIn, HasCounter, IsSiteAt, copy_on, mount_on, ready_on}
+use Rattle.ubi_change.specs.inner.Taking.{IsGroundOf}
+use Rattle.ubi_change.specs.declared.plan_error.PlanError.{PlanError}
+use Rattle.ubi_change.specs.declared.plan_error.PlanError.TheVariants as plan
+use Rattle.ubi_change.specs.declared.planning.Prepared.{Prepared}
+use Rattle.ubi_change.specs.declared.site.Site.{Site}
+use Rattle.ubi_change.specs.declared.sites.Sites.{Sites as OnSites}
+use Rattle.ubi_change.specs.declared.sites.Sites.TheVariants as on
 use Rattle.ubi_change.specs.declared.target.Target.{Target}
 use Rattle.ubi_change.specs.declared.refusal.ChangeRefusal.{ChangeRefusal}
 use Rattle.ubi_change.specs.declared.refusal.ChangeRefusal.TheVariants as refusal
 use Rattle.ubi_change.specs.declared.step.Step.{Step}
-use Rattle.ubi_change.specs.declared.step.Step.TheVariants as step
 use Rattle.ubi_change.specs.declared.taking.FirstTwo.{FirstTwo}
-
--- what a step needs of its eraseblock: a program's page lies there, and its bytes are one page
-abbrev pub FitsBlock : Sizes → Step → Type 0
-FitsBlock s (step.Erase p) = Unit {0}
-FitsBlock s (step.Program p page bytes) = (page < s.peb_size / s.page) × (length bytes ≡ s.page)
 
 -- what an attach shows of an image that is surveyed, but for the volumes that it means: the steps don't depend on them
 abbrev pub shown : Seen → Whole
 shown v = record { meaning = record { sizes = v.records.sizes; image_seq = v.scan.image_seq; volumes = empty }; scan = v.scan; states = v.states }
-
--- the first two of some eraseblocks
-abbrev pub first_two : List ℕ → FirstTwo
-first_two xs = record { first = slice_get xs 0; second = slice_get xs 1 }
-
--- those of one eraseblock more
-abbrev pub two_with : Option ℕ → Option ℕ → ℕ → FirstTwo
-two_with None second p = record { first = Some p; second = second }
-two_with (Some a) None p = record { first = Some a; second = Some p }
-two_with (Some a) (Some b) p = record { first = Some a; second = Some b }
-
-abbrev pub with_next : FirstTwo → ℕ → FirstTwo
-with_next two p = two_with two.first two.second p
-
--- those of some eraseblocks and then others
-abbrev pub two_joined : Option ℕ → Option ℕ → FirstTwo → FirstTwo
-two_joined None second others = others
-two_joined (Some a) None others = record { first = Some a; second = others.first }
-two_joined (Some a) (Some b) others = record { first = Some a; second = Some b }
-
-abbrev pub joined : FirstTwo → FirstTwo → FirstTwo
-joined two others = two_joined two.first two.second others
-
--- whether p is clean, or isn't
-abbrev pub is_wanted : Sizes → List (List ℕ) → List BlockState → Bool → ℕ → Bool
-is_wanted s bs states clean p = if clean then is_clean s bs states p else not (is_clean s bs states p)
 
 -- the causes that an image has no part in, each where it stands
 abbrev pub own_causes : Sizes → VolumeRecord → ℕ → List ℕ → List (Option ChangeRefusal)
@@ -74,39 +52,105 @@ image_causes s bs a id lnum =
     ∷ then_some (nat_lt (length (takeable s bs a.states)) (needs s bs a id lnum)) refusal.NoFree
     ∷ []
 
+-- what was read for a change: the ground, and the winner of the LEB
+pub record IsPrepared (s : Sizes) (k : Source) (agrees : Agreed) (id lnum : ℕ) (p : Prepared) : Type 0 where
+  pub ground : IsGroundOf s k agrees p.ground
+  pub winner : IsSiteAt s k agrees p.ground.surveyed.states (get p.ground.surveyed.scan.winners (id, lnum)) p.winner
+
+-- and what holds of it whatever is held
+pub record FitsPrepared (s : Sizes) (p : Prepared) : Type 0 where
+  pub sizes : p.ground.surveyed.records.sizes ≡ s
+  pub mean : p.ground.surveyed.scan.mean_ec ≤ 0x7FFFFFFF
+  pub winner : IfSome p.winner (FitsIn (length p.ground.surveyed.states))
+  pub first : IfSome p.ground.taken.first (FitsIn (length p.ground.surveyed.states))
+  pub second : IfSome p.ground.taken.second (FitsIn (length p.ground.surveyed.states))
+
+-- the LEB that is to be changed: its volume has a record, and no cause stands that the image has no part in
+pub record IsTarget (s : Sizes) (t : Records) (id lnum : ℕ) (new : List ℕ) (target : Target) : Type 0 where
+  pub entry : VolumeRecord
+  pub there : get t.of id ≡ Some entry
+  pub sound : rec_fault s entry ≡ None
+  pub free : first_of (own_causes s entry lnum new) ≡ None
+  pub is : target ≡ record { id = id; lnum = lnum; compat = 0; data_pad = data_pad s entry }
+
+-- why there is none: its volume has no record, or the first of these causes that stands
+abbrev pub IsTargetRefusal : Sizes → Records → ℕ → ℕ → List ℕ → ChangeRefusal → Type 0
+IsTargetRefusal s t id lnum new c =
+    ((get t.of id ≡ None) × (c ≡ refusal.NoVolume))
+    ⊎ ((r : VolumeRecord) × (get t.of id ≡ Some r) × (first_of (own_causes s r lnum new) ≡ Some c))
+
+-- how many eraseblocks and sequence numbers a change needs
+abbrev pub needed : Option Site → ℕ
+needed (Some old) = 1
+needed None = 2
+
 -- the eraseblocks that a plan works on: the winner if the LEB has one, and those that are taken
-abbrev pub ArePlacesOf : Sizes → List (List ℕ) → Whole → ℕ → ℕ → Places → Type 0
-ArePlacesOf s bs a id lnum (places.Mapped copy old) = (get a.scan.winners (id, lnum) ≡ Some old)
-    × (copy ≡ taken s bs a 0)
-ArePlacesOf s bs a id lnum (places.Unmapped first copy) =
-    (get a.scan.winners (id, lnum) ≡ None) × (first ≡ taken s bs a 0) × (copy ≡ taken s bs a 1)
+abbrev pub AreSites : Found → Option Site → FirstTwo → OnSites → Type 0
+AreSites scan winner taken (on.Mapped copy old) =
+    (winner ≡ Some old) × (taken.first ≡ Some copy) × (scan.top_sqnum + 1 ≤ 0xFFFFFFFFFFFFFFFF)
+AreSites scan winner taken (on.Unmapped first copy) =
+    (winner ≡ None) × (taken.first ≡ Some first) × (taken.second ≡ Some copy) × (scan.top_sqnum + 2 ≤ 0xFFFFFFFFFFFFFFFF)
 
--- and no cause stands that depends on them
-abbrev pub ArePlaces : Sizes → List (List ℕ) → Whole → ℕ → ℕ → Places → Type 0
-ArePlaces s bs a id lnum on = ArePlacesOf s bs a id lnum on × (first_of (image_causes s bs a id lnum) ≡ None)
+-- too few eraseblocks can be taken
+abbrev pub IsTooFew : Option Site → FirstTwo → Type 0
+IsTooFew winner taken = (taken.first ≡ None) ⊎ ((winner ≡ None) × (taken.second ≡ None))
 
--- what is needed to write the steps: the eraseblocks lie in the image, and the sequence numbers have 64 bits
-abbrev pub AreWithin : Sizes → List (List ℕ) → Whole → Places → Type 0
-AreWithin s bs a (places.Mapped copy old) = (copy < length bs) × (old < length bs) × (a.scan.top_sqnum + 1 < 2 ^ 64)
-AreWithin s bs a (places.Unmapped first copy) = (first < length bs) × (copy < length bs)
-    × (a.scan.top_sqnum + 2 < 2 ^ 64)
+-- why there are none
+abbrev pub IsSitesRefusal : Found → Option Site → FirstTwo → ChangeRefusal → Type 0
+IsSitesRefusal scan winner taken refusal.Exhausted = 0xFFFFFFFFFFFFFFFF < scan.top_sqnum + needed winner
+IsSitesRefusal scan winner taken refusal.NoFree =
+    (scan.top_sqnum + needed winner ≤ 0xFFFFFFFFFFFFFFFF) × IsTooFew winner taken
+IsSitesRefusal scan winner taken _ = ⊥
+
+-- what is needed to write the steps: counters of 31 bits, and sequence numbers of 64
+abbrev pub HasRoom : Found → OnSites → Type 0
+HasRoom scan (on.Mapped copy old) = HasCounter copy × HasCounter old × (scan.top_sqnum + 1 ≤ 0xFFFFFFFFFFFFFFFF)
+HasRoom scan (on.Unmapped first copy) = HasCounter first × HasCounter copy × (scan.top_sqnum + 2 ≤ 0xFFFFFFFFFFFFFFFF)
 
 -- the LEB that holds a copy of the volume table
 abbrev pub table_target : ℕ → Target
 table_target c = record { id = layout; lnum = c; compat = 5; data_pad = 0 }
 
--- the steps for a LEB with a winner
-abbrev pub mapped_steps : Sizes → List (List ℕ) → Whole → Target → List ℕ → ℕ → ℕ → List Step
-mapped_steps s bs a t new copy old =
-    atomic_copy s bs a copy (copy_header t.compat t.data_pad t.id t.lnum (a.scan.top_sqnum + 1) new) new old (ec_at s bs old)
+module _ (s : Sizes) (scan : Found) (t : Target) (new : List ℕ) where
+  -- the steps for a LEB with a winner
+  abbrev pub mapped_steps : Site → Site → List Step
+  mapped_steps copy old =
+      copy_on s scan copy (copy_header t.compat t.data_pad t.id t.lnum (scan.top_sqnum + 1) new) new old old.ec
 
--- and for one without
-abbrev pub unmapped_steps : Sizes → List (List ℕ) → Whole → Target → List ℕ → ℕ → ℕ → List Step
-unmapped_steps s bs a t new first copy =
-    mount s bs a first (blank_header t.data_pad t.id t.lnum (a.scan.top_sqnum + 1))
-    ++ atomic_copy s bs a copy (copy_header t.compat t.data_pad t.id t.lnum (a.scan.top_sqnum + 2) new) new first
-    (ready_ec s bs a first)
+  -- and for one without
+  abbrev pub unmapped_steps : Site → Site → List Step
+  unmapped_steps first copy =
+      mount_on s scan first (blank_header t.data_pad t.id t.lnum (scan.top_sqnum + 1))
+      ++ copy_on s scan copy (copy_header t.compat t.data_pad t.id t.lnum (scan.top_sqnum + 2) new) new first
+      (ready_on scan first)
 
-abbrev pub steps_on : Sizes → List (List ℕ) → Whole → Target → List ℕ → Places → List Step
-steps_on s bs a t new (places.Mapped copy old) = mapped_steps s bs a t new copy old
-steps_on s bs a t new (places.Unmapped first copy) = unmapped_steps s bs a t new first copy
+  abbrev pub steps_on : OnSites → List Step
+  steps_on (on.Mapped copy old) = mapped_steps copy old
+  steps_on (on.Unmapped first copy) = unmapped_steps first copy
+
+-- the steps by what was read for them
+pub record AreStepsOf (s : Sizes) (p : Prepared) (id lnum : ℕ) (new : List ℕ) (steps : List Step) : Type 0 where
+  pub target : Target
+  pub asked : IsTarget s p.ground.surveyed.records id lnum new target
+  pub sites : OnSites
+  pub are : AreSites p.ground.surveyed.scan p.winner p.ground.taken sites
+  pub is : steps ≡ steps_on s p.ground.surveyed.scan target new sites
+
+-- why there are none: memory ran out, or the first cause that stands
+abbrev pub IsUnplanned : Sizes → Prepared → ℕ → ℕ → List ℕ → ChangeRefusal → Type 0
+IsUnplanned s p id lnum new c =
+    (c ≡ refusal.Memory)
+    ⊎ IsTargetRefusal s p.ground.surveyed.records id lnum new c
+    ⊎ ((target : Target) × IsTarget s p.ground.surveyed.records id lnum new target
+    × IsSitesRefusal p.ground.surveyed.scan p.winner p.ground.taken c)
+
+-- an error of a call that writes nothing
+abbrev pub IsNoWrite : StreamError → Type 0
+IsNoWrite (stream.Write _) = ⊥
+IsNoWrite _ = Unit {0}
+
+-- what such an error says of a plan
+abbrev pub from_stream : StreamError → PlanError ChangeRefusal
+from_stream (stream.Refused c) = plan.Refused (refusal.Attach c)
+from_stream (stream.Read p written) = plan.Read p
+from_stream _ = plan.Refused refusal.Memory

@@ -1,22 +1,32 @@
 -- What private functions give on the way to the plan of a rename.
-use Rattle.std.specs.Prelude.{◌≡◌, ◌≢◌, ℕ, ◌+◌, ◌<◌, ◌≤◌, ◌==◌, ◌&&◌, not, true, false, List, ◌++◌, Option, Some, None, IsSome, find, length}
+use Rattle.std.specs.Prelude.{◌≡◌, ◌≢◌, ℕ, ◌+◌, ◌<◌, ◌≤◌, ◌⊎◌, ◌==◌, ◌&&◌, not, true, false, List, ◌++◌, Option, Some, None, IfSome, IsSome, find, length}
 use Rattle.std.specs.FinMap.{get}
-use Rattle.ubi_media.specs.Fields.{same_bytes}
+use Rattle.ubi_media.specs.Fields.{AreBytes, same_bytes}
 use Rattle.ubi_media.specs.Geometry.{Sizes}
 use Rattle.ubi_media.specs.Name.{is_name}
 use Rattle.ubi_media.specs.declared.record.VolumeRecord.{VolumeRecord}
-use Rattle.ubi_table.specs.Named.{IsFreeName}
+use Rattle.ubi_scan.specs.Members.{layout}
+use Rattle.ubi_scan.specs.Scan.{Found}
+use Rattle.ubi_scan.specs.Source.{Agreed, Source, WhereHeld, blocks_in, blocks_of}
+use Rattle.ubi_scan.specs.declared.errors.StreamError.{StreamError}
+use Rattle.ubi_scan.specs.declared.errors.StreamError.TheVariants as stream
+use Rattle.ubi_table.specs.Named.{IsFreeName, records_named}
 use Rattle.ubi_table.specs.Records.{Records}
-use Rattle.ubi_volume.specs.Attached.{Whole}
-use Rattle.ubi_change.specs.Plan.{atomic_copy, taken}
-use Rattle.ubi_change.specs.RenamePlan.{holder, layout_header}
+use Rattle.ubi_volume.specs.Survey.{Seen}
+use Rattle.ubi_change.specs.RenamePlan.{layout_header, table_pages}
 use Rattle.ubi_change.specs.RenameRefused.{BothGood}
-use Rattle.ubi_change.specs.Takeable.{ec_at, takeable}
+use Rattle.ubi_change.specs.Weak.{weak_place}
+use Rattle.ubi_change.specs.inner.Sites.{FitsIn, HasCounter, copy_on, site_at}
+use Rattle.ubi_change.specs.inner.Taking.{IsGroundOf}
 use Rattle.ubi_change.specs.declared.holders.Holders.{Holders}
+use Rattle.ubi_change.specs.declared.plan_error.PlanError.{PlanError}
+use Rattle.ubi_change.specs.declared.plan_error.PlanError.TheVariants as plan
+use Rattle.ubi_change.specs.declared.renaming.Renamable.{Renamable}
 use Rattle.ubi_change.specs.declared.rename_refusal.RenameRefusal.{RenameRefusal}
 use Rattle.ubi_change.specs.declared.rename_refusal.RenameRefusal.TheVariants as refusal
 use Rattle.ubi_change.specs.declared.spares.Spares.{Spares}
 use Rattle.ubi_change.specs.declared.step.Step.{Step}
+use Rattle.ubi_change.specs.declared.taking.FirstTwo.{FirstTwo}
 
 -- the first entry of another volume that has a name
 abbrev pub other_named : ℕ → List ℕ → List (ℕ × VolumeRecord) → Option (ℕ × VolumeRecord)
@@ -38,43 +48,90 @@ IsNamingRefusal t id name (refusal.SameName slot) =
     × (r : VolumeRecord) × (get t.of slot ≡ Some r) × (r.name ≡ name)
 IsNamingRefusal t id name _ = ⊥
 
--- the eraseblocks that hold the copies, both of which are good, with equal tables
-pub record AreHolders (s : Sizes) (bs : List (List ℕ)) (a : Whole) (two : Holders) : Type 0 where
-  pub first : two.first ≡ holder s bs a 0
-  pub second : two.second ≡ holder s bs a 1
-  pub first_inside : two.first < length bs
-  pub second_inside : two.second < length bs
-  pub good : (t : Records) × BothGood s bs t
+-- both eraseblocks that hold a copy
+pub record BothFit (n : ℕ) (two : Holders) : Type 0 where
+  pub first : FitsIn n two.first
+  pub second : FitsIn n two.second
 
--- why there are none: they aren't so, or memory ran out
-abbrev pub IsHoldersRefusal : Sizes → List (List ℕ) → RenameRefusal → Type 0
-IsHoldersRefusal s bs refusal.Memory = Unit {0}
-IsHoldersRefusal s bs refusal.NeedsRepair = (t : Records) → BothGood s bs t → ⊥
-IsHoldersRefusal s bs _ = ⊥
+-- the eraseblocks that hold the copies of these eraseblocks, both of which are good; without them, they aren't
+abbrev pub AreHolders : Sizes → List (List ℕ) → Seen → Option Holders → Type 0
+AreHolders s bs seen None = (t : Records) → BothGood s bs t → ⊥
+AreHolders s bs seen (Some two) =
+    ((t : Records) × BothGood s bs t)
+    × ((p : ℕ) × (get seen.scan.winners (layout, 0) ≡ Some p) × (two.first ≡ site_at s bs seen.states p))
+    × ((p : ℕ) × (get seen.scan.winners (layout, 1) ≡ Some p) × (two.second ≡ site_at s bs seen.states p))
 
--- the two eraseblocks that are taken, where they and two sequence numbers are left
-pub record AreSpares (s : Sizes) (bs : List (List ℕ)) (a : Whole) (two : Spares) : Type 0 where
-  pub first : two.first ≡ taken s bs a 0
-  pub second : two.second ≡ taken s bs a 1
-  pub few : a.scan.top_sqnum + 2 ≤ 0xFFFFFFFFFFFFFFFF
-  pub enough : 2 ≤ length (takeable s bs a.states)
+pub record AreHoldersOf (s : Sizes) (k : Source) (agrees : Agreed) (seen : Seen) (o : Option Holders) : Type 0 where
+  pub fits : IfSome o (BothFit (blocks_in s k))
+  pub held : WhereHeld agrees (λ bytes. AreHolders s (blocks_of s bytes) seen o)
+
+-- what was read for a rename: the ground, and the eraseblocks that hold the copies
+pub record IsRenamable (s : Sizes) (k : Source) (agrees : Agreed) (r : Renamable) : Type 0 where
+  pub ground : IsGroundOf s k agrees r.ground
+  pub holders : AreHoldersOf s k agrees r.ground.surveyed r.holders
+
+-- and what holds of it whatever is held
+pub record FitsRenamable (s : Sizes) (r : Renamable) : Type 0 where
+  pub sizes : r.ground.surveyed.records.sizes ≡ s
+  pub holders : IfSome r.holders (BothFit (length r.ground.surveyed.states))
+  pub first : IfSome r.ground.taken.first (FitsIn (length r.ground.surveyed.states))
+  pub second : IfSome r.ground.taken.second (FitsIn (length r.ground.surveyed.states))
+
+-- the two eraseblocks that are taken, where two sequence numbers are left
+pub record AreSpares (scan : Found) (taken : FirstTwo) (two : Spares) : Type 0 where
+  pub first : taken.first ≡ Some two.first
+  pub second : taken.second ≡ Some two.second
+  pub few : scan.top_sqnum + 2 ≤ 0xFFFFFFFFFFFFFFFF
 
 -- what isn't left of these
-abbrev pub IsSparesRefusal : Sizes → List (List ℕ) → Whole → RenameRefusal → Type 0
-IsSparesRefusal s bs a refusal.Exhausted = 0xFFFFFFFFFFFFFFFF < a.scan.top_sqnum + 2
-IsSparesRefusal s bs a refusal.NoFree =
-    (a.scan.top_sqnum + 2 ≤ 0xFFFFFFFFFFFFFFFF) × (length (takeable s bs a.states) < 2)
-IsSparesRefusal s bs a _ = ⊥
+abbrev pub IsSparesRefusal : Found → FirstTwo → RenameRefusal → Type 0
+IsSparesRefusal scan taken refusal.Exhausted = 0xFFFFFFFFFFFFFFFF < scan.top_sqnum + 2
+IsSparesRefusal scan taken refusal.NoFree =
+    (scan.top_sqnum + 2 ≤ 0xFFFFFFFFFFFFFFFF) × ((taken.first ≡ None) ⊎ (taken.second ≡ None))
+IsSparesRefusal scan taken _ = ⊥
 
--- all of them lie among so many eraseblocks
-pub record AreInside (count : ℕ) (old : Holders) (two : Spares) : Type 0 where
-  pub first : old.first < count
-  pub second : old.second < count
-  pub first_spare : two.first < count
-  pub second_spare : two.second < count
+-- what is needed to write the steps: counters of 31 bits, and sequence numbers of 64
+pub record CopiesHaveRoom (scan : Found) (old : Holders) (two : Spares) : Type 0 where
+  pub first : HasCounter old.first
+  pub second : HasCounter old.second
+  pub first_spare : HasCounter two.first
+  pub second_spare : HasCounter two.second
+  pub few : scan.top_sqnum + 2 ≤ 0xFFFFFFFFFFFFFFFF
 
 -- the steps that write these pages on the spares, each time followed by the erase of a holder
-abbrev pub two_copies : Sizes → List (List ℕ) → Whole → Holders → Spares → List ℕ → List Step
-two_copies s bs a old two new =
-    atomic_copy s bs a two.first (layout_header 0 (a.scan.top_sqnum + 1) new) new old.first (ec_at s bs old.first)
-    ++ atomic_copy s bs a two.second (layout_header 1 (a.scan.top_sqnum + 2) new) new old.second (ec_at s bs old.second)
+abbrev pub two_copies : Sizes → Found → Holders → Spares → List ℕ → List Step
+two_copies s scan old two new =
+    copy_on s scan two.first (layout_header 0 (scan.top_sqnum + 1) new) new old.first old.first.ec
+    ++ copy_on s scan two.second (layout_header 1 (scan.top_sqnum + 2) new) new old.second old.second.ec
+
+-- the pages that are written
+abbrev pub pages_for : Sizes → Renamable → ℕ → List ℕ → List ℕ
+pages_for s r id name = table_pages s (records_named r.ground.surveyed.records id name)
+
+-- the steps by what was read for them
+pub record AreCopiesOf (s : Sizes) (r : Renamable) (id : ℕ) (name : List ℕ) (steps : List Step) : Type 0 where
+  pub may : IsNamable r.ground.surveyed.records id name
+  pub old : Holders
+  pub holders : r.holders ≡ Some old
+  pub strong : weak_place s (pages_for s r id name) ≡ None
+  pub two : Spares
+  pub spares : AreSpares r.ground.surveyed.scan r.ground.taken two
+  pub bytes : AreBytes (pages_for s r id name)
+  pub is : steps ≡ two_copies s r.ground.surveyed.scan old two (pages_for s r id name)
+
+-- why there are none: memory ran out, or the first cause that stands
+abbrev pub IsUnrenamed : Sizes → Renamable → ℕ → List ℕ → RenameRefusal → Type 0
+IsUnrenamed s r id name c =
+    IsNamingRefusal r.ground.surveyed.records id name c
+    ⊎ (IsNamable r.ground.surveyed.records id name
+    × (((r.holders ≡ None) × (c ≡ refusal.NeedsRepair))
+    ⊎ ((old : Holders) × (r.holders ≡ Some old)
+    × (((k : ℕ) × (weak_place s (pages_for s r id name) ≡ Some k) × (c ≡ refusal.WeakCheck k))
+    ⊎ ((weak_place s (pages_for s r id name) ≡ None)
+    × (IsSparesRefusal r.ground.surveyed.scan r.ground.taken c ⊎ (c ≡ refusal.Memory)))))))
+
+-- what an error of a call that writes nothing says of a plan
+abbrev pub from_stream : StreamError → PlanError RenameRefusal
+from_stream (stream.Refused c) = plan.Refused (refusal.Attach c)
+from_stream (stream.Read p written) = plan.Read p
+from_stream _ = plan.Refused refusal.Memory

@@ -1,10 +1,10 @@
 use Rattle.std.proofs.Common.{◌≡◌, ℕ, ◌%◌, ◌*◌, ◌^◌, ◌<◌, ◌≤◌, List, length, ap, ap₂, sym, ◌∙◌, subst, arith}
 use Rattle.ubi_media.specs.Fields.{filled}
-use Rattle.ubi_media.specs.Geometry.{Sizes, slots}
+use Rattle.ubi_media.specs.Geometry.{Sizes, leb_size, slots}
 use Rattle.ubi_table.specs.Records.{table_bytes}
 use Rattle.ubi_volume.specs.Meant.{pieces}
 use Rattle.ubi_volume.proofs.Pieces.{pieces_suffice}
-use Rattle.ubi_change.proofs.TablePages.{pages_few, pages_paged}
+use Rattle.ubi_change.proofs.TablePages.{pages_few, pages_paged, pages_short}
 use Rattle.ubi_change.proofs.pages.table_pages.Goals as goal
 
 pub fill_up-requires : goal.fill_up-requires
@@ -42,3 +42,12 @@ returns-clause-short c =
     ∙ c.in_ok-bytes.ensures.size ∙ ap (λ (z : Sizes). slots z * 172) c.requires in
     subst (λ (xs : List ℕ). length xs < 2 ^ 31) (sym (returns-clause-pages c))
     (pages_few s c.page.ensures.limits c.args.table.now size)
+
+pub returns-clause-fits : goal.returns-clause-fits
+unfolding returns-clause-pages
+returns-clause-fits c =
+    let s = c.args.geometry.now in
+    let size : length (table_bytes c.args.table.now) ≡ slots s * 172 = ap length (sym c.in_ok-bytes.ensures.bytes)
+    ∙ c.in_ok-bytes.ensures.size ∙ ap (λ (z : Sizes). slots z * 172) c.requires in
+    subst (λ (xs : List ℕ). length xs ≤ leb_size s) (sym (returns-clause-pages c))
+    (pages_short s c.page.ensures.limits c.args.table.now size)

@@ -6,6 +6,5 @@ returns c = rw (
   c.in_ok-push_copy.ensures,
   c.new-steps.ensures.items,
   c.copy_header.ensures,
-  c.ec_at.ensures.value,
   c.top_sqnum.ensures,
 ) refl

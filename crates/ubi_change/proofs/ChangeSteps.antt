@@ -1,0 +1,37 @@
+-- What holds of the new bytes and the eraseblocks of a change against which no cause stands, whatever is held.
+use Rattle.std.proofs.Common.{◌≡◌, ℕ, ◌%◌, ◌^◌, ◌<◌, ◌≤◌, List, length, sym, subst, arith}
+use Rattle.std.specs.Prelude.{IfSome, Option, Some}
+use Rattle.ubi_media.specs.Geometry.{IsGeometry, Sizes, leb_size}
+use Rattle.ubi_table.specs.Records.{Records}
+use Rattle.ubi_change.specs.inner.Making.{AreSites, FitsPrepared, IsTarget}
+use Rattle.ubi_change.specs.inner.Sites.{FitsIn}
+use Rattle.ubi_change.specs.declared.planning.Prepared.{Prepared}
+use Rattle.ubi_change.specs.declared.site.Site.{Site}
+use Rattle.ubi_change.specs.declared.sites.Sites.{Sites as OnSites}
+use Rattle.ubi_change.specs.declared.sites.Sites.TheVariants as on
+use Rattle.ubi_change.specs.declared.target.Target.{Target}
+use Rattle.ubi_change.proofs.Attached.{own_allowed}
+use Rattle.ubi_change.proofs.StepPages.{SitesFit}
+
+module _ (s : Sizes) (t : Records) (id lnum : ℕ) (new : List ℕ) (target : Target) (is : IsTarget s t id lnum new target) where
+  pub bytes_paged : length new % s.page ≡ 0
+  bytes_paged = (own_allowed s is.entry lnum new is.free).2.paged
+
+  pub bytes_fit : length new ≤ leb_size s
+  bytes_fit = let k = (own_allowed s is.entry lnum new is.free).2.short in omega arith
+
+  pub bytes_short : IsGeometry s → length new < 2 ^ 31
+  bytes_short g = let k = bytes_fit in omega (arith, g.peb_to)
+
+  pub compat_small : target.compat < 256
+  compat_small = subst (λ (t : Target). t.compat < 256) (sym is.is) (omega arith)
+
+-- an eraseblock that is there fits
+pub some_fits : (n : ℕ) (o : Option Site) (t : Site) → o ≡ Some t → IfSome o (FitsIn n) → FitsIn n t
+some_fits n o t e h = subst (λ (o : Option Site). IfSome o (FitsIn n)) e h
+
+module _ (s : Sizes) (p : Prepared) (fits : FitsPrepared s p) where
+  pub sites_fit : (g : IsGeometry s) (sites : OnSites) → AreSites p.ground.surveyed.scan p.winner p.ground.taken sites
+      → SitesFit s (length p.ground.surveyed.states) g p.ground.surveyed.scan sites
+  sites_fit g (on.Mapped copy old) are = (some_fits _ _ copy are.1 fits.first, some_fits _ _ old are.0 fits.winner)
+  sites_fit g (on.Unmapped first copy) are = (some_fits _ _ first are.1 fits.first, some_fits _ _ copy are.2 fits.second)

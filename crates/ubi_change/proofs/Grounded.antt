@@ -1,0 +1,34 @@
+-- What was read for a plan, once more is read.
+use Rattle.std.proofs.Common.{◌≡◌, ℕ, subst, List}
+use Rattle.std.specs.Prelude.{Option}
+use Rattle.ubi_media.specs.Geometry.{Sizes}
+use Rattle.ubi_scan.specs.Source.{Agreed, Narrows, Source}
+use Rattle.ubi_volume.specs.Survey.{Seen}
+use Rattle.ubi_volume.specs.declared.attached.BlockState.{BlockState}
+use Rattle.ubi_change.specs.inner.Renaming.{AreHoldersOf}
+use Rattle.ubi_change.specs.inner.Sites.{IsSiteAt}
+use Rattle.ubi_change.specs.inner.Taking.{IsGroundOf}
+use Rattle.ubi_change.specs.declared.ground.Ground.{Ground}
+use Rattle.ubi_change.specs.declared.holders.Holders.{Holders}
+use Rattle.ubi_change.specs.declared.site.Site.{Site}
+use Rattle.ubi_change.proofs.WholeReads.{survey_narrowed}
+
+module _ (s : Sizes) (k : Source) (old new : Agreed) where
+  pub ground_narrowed : (ground : Ground) → Narrows old new → IsGroundOf s k old ground → IsGroundOf s k new ground
+  ground_narrowed ground narrows h = record {
+    survey = survey_narrowed s k old new ground.surveyed narrows h.survey;
+    taken = record {
+      first = h.taken.first;
+      second = h.taken.second;
+      held = λ bytes agrees. h.taken.held bytes (narrows bytes agrees);
+    };
+  }
+
+-- reads that succeeded before changed nothing of a source
+module _ (s : Sizes) (k j : Source) (agrees : Agreed) where
+  pub site_known : (states : List BlockState) (o : Option ℕ) (t : Option Site) → j ≡ k → IsSiteAt s j agrees states o t
+      → IsSiteAt s k agrees states o t
+  site_known states o t same h = subst (λ (k : Source). IsSiteAt s k agrees states o t) same h
+
+  pub holders_known : (seen : Seen) (o : Option Holders) → j ≡ k → AreHoldersOf s j agrees seen o → AreHoldersOf s k agrees seen o
+  holders_known seen o same h = subst (λ (k : Source). AreHoldersOf s k agrees seen o) same h

@@ -1,0 +1,35 @@
+use Rattle.std.proofs.Common.{subst}
+use Rattle.ubi_media.proofs.ByteLists.{bytes_each}
+use Rattle.ubi_change.specs.Fitting.{AllWithin}
+use Rattle.ubi_change.proofs.PlanKept.{plan_kept}
+use Rattle.ubi_change.proofs.Unplanned.{error_is, error_read, plan_is}
+use Rattle.ubi_change.proofs.planning.plan_change_from.Goals as goal
+
+pub returns-in-Ok-change_steps-clause-plan : goal.returns-in-Ok-change_steps-clause-plan
+returns-in-Ok-change_steps-clause-plan g c =
+    let s = c.args.geometry.now in
+    let known = g.S.BlockSource.known c.args.source.now in
+    let agrees = g.S.BlockSource.agrees c.prepare.new.source in
+    let new = c.args.new.now in
+    let p = c.in-Ok.prepared in
+    let is = c.in-Ok.ensures.prepared in
+    let steps = c.in-Ok-change_steps.steps.items in
+    record {
+      whole = is.ground.survey.scan.whole;
+      within = subst (λ n. AllWithin s n steps) is.ground.survey.count c.in-Ok-change_steps.ensures.within;
+      held = λ bytes holds. plan_kept _ c.page.ensures.limits c.args.id c.args.lnum new (bytes_each new (λ i. (c.type_inv.new i).fits))
+          steps (plan_is s known agrees c.args.id c.args.lnum new p is bytes holds steps c.in-Ok-change_steps.ensures.steps);
+    }
+
+pub returns-in-Ok-clause-refused : goal.returns-in-Ok-clause-refused
+returns-in-Ok-clause-refused g c =
+    let s = c.args.geometry.now in
+    let known = g.S.BlockSource.known c.args.source.now in
+    let agrees = g.S.BlockSource.agrees c.prepare.new.source in
+    error_is s known agrees c.args.id c.args.lnum c.args.new.now c.in-Ok.prepared c.in-Ok.ensures.prepared c.in-Err-change_steps.cause
+    c.in-Err-change_steps.ensures.refused
+
+pub returns-clause-refused : goal.returns-clause-refused
+returns-clause-refused g c = rw c.unread.ensures
+    (error_read c.args.geometry.now (g.S.BlockSource.known c.args.source.now) (g.S.BlockSource.agrees c.prepare.new.source)
+    c.args.id c.args.lnum c.args.new.now c.in-Err.error c.in-Err.ensures.refused)

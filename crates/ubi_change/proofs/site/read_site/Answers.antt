@@ -1,0 +1,24 @@
+use Rattle.std.proofs.Common.{◌≡◌, ap, refl, ◌∙◌}
+use Rattle.ubi_scan.specs.Image.{block, ec_area}
+use Rattle.ubi_scan.specs.Numbers.{valid_ec}
+use Rattle.ubi_scan.specs.Source.{blocks_of}
+use Rattle.ubi_change.proofs.Sited.{counter_fits}
+use Rattle.ubi_change.proofs.site.read_site.Goals as goal
+
+pub returns-clause-site : goal.returns-clause-site
+returns-clause-site g c =
+    let s = c.args.geometry.now in
+    let read = c.valid_ec-ec.ensures ∙ ap valid_ec c.read_ec.ensures.value in
+    record {
+      number = refl;
+      fits = record {
+        inside = c.requires.inside;
+        area = c.read_part.auto.out;
+        counter = counter_fits s c.read_part.new.out c.valid_ec-ec.result read;
+      };
+      held = λ bytes holds.
+          let area : c.read_part.new.out ≡ ec_area (block (blocks_of s bytes) c.args.p) =
+          c.in_ok-read_part.ensures.bytes bytes (c.in_ok-is_clean.ensures.narrows bytes holds) in
+          let clean = c.in_ok-is_clean.ensures.clean bytes holds in
+          rw (read, area, clean) refl;
+    }

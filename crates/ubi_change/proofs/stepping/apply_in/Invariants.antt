@@ -1,0 +1,6 @@
+use Rattle.std.proofs.Common.{◌≡◌, take}
+use Rattle.ubi_change.specs.inner.Writing.{block_cut}
+use Rattle.ubi_change.proofs.stepping.apply_in.Given as goal
+
+abbrev pub invariant-loop-step : goal.invariant-loop-step
+invariant-loop-step l = l.block ≡ block_cut l.geometry l.p (take l.step-index l.steps) l.initial.block

@@ -1,0 +1,13 @@
+use Rattle.std.proofs.Common.{◌≡◌}
+use Rattle.ubi_scan.specs.Source.{Narrows, WhereHeld, blocks_in, blocks_of}
+use Rattle.ubi_change.proofs.Taken.{AreParted, PartedFit}
+use Rattle.ubi_change.proofs.taking.first_takeable.Given as goal
+
+abbrev pub invariant-loop-p : goal.invariant-loop-p
+invariant-loop-p g l = record {
+  source : g.S.BlockSource.known l.source ≡ g.S.BlockSource.known l.fn.source;
+  narrows : Narrows (g.S.BlockSource.agrees l.fn.source) (g.S.BlockSource.agrees l.source);
+  fits : PartedFit (blocks_in l.geometry (g.S.BlockSource.known l.fn.source)) l.parted;
+  parted : WhereHeld (g.S.BlockSource.agrees l.source)
+      (λ bytes. AreParted l.geometry (blocks_of l.geometry bytes) l.surveyed.states l.p l.parted);
+}

@@ -1,0 +1,14 @@
+use Rattle.std.proofs.Common.{◌≡◌, ◌*◌}
+use Rattle.ubi_scan.specs.Source.{Narrows, blocks_in}
+use Rattle.ubi_volume.specs.Wrote.{All, Wrote}
+use Rattle.ubi_change.specs.inner.Writing.{front_text}
+use Rattle.ubi_change.proofs.writing.write_after.Given as goal
+
+abbrev pub invariant-loop-p : goal.invariant-loop-p
+invariant-loop-p g l = record {
+  source : g.S.BlockSource.known l.source ≡ g.S.BlockSource.known l.fn.source;
+  narrows : Narrows (g.S.BlockSource.agrees l.fn.source) (g.S.BlockSource.agrees l.source);
+  wrote : Wrote (g.S.BlockSource.agrees l.source) (g.W.Write.contents l.fn.writer) (g.W.Write.contents l.writer)
+      (front_text l.geometry (blocks_in l.geometry (g.S.BlockSource.known l.fn.source)) l.p l.steps) All 0 l.done;
+  done : l.done ≡ l.p * l.geometry.peb_size;
+}

@@ -1,0 +1,64 @@
+-- The eraseblocks that a plan takes, read one by one.
+use Rattle.std.specs.Prelude.{◌≡◌, ℕ, if◌then◌else◌, List, map, Option, Some, None, IfSome, slice_get}
+use Rattle.ubi_media.specs.Geometry.{Sizes}
+use Rattle.ubi_scan.specs.Source.{Agreed, Source, WhereHeld, blocks_in, blocks_of}
+use Rattle.ubi_volume.specs.Survey.{IsSurveyOf}
+use Rattle.ubi_volume.specs.declared.attached.BlockState.{BlockState}
+use Rattle.ubi_change.specs.Takeable.{is_takeable, takeable}
+use Rattle.ubi_change.specs.inner.Sites.{FitsIn, site_at}
+use Rattle.ubi_change.specs.declared.ground.Ground.{Ground}
+use Rattle.ubi_change.specs.declared.site.Site.{Site}
+use Rattle.ubi_change.specs.declared.taking.FirstTwo.{FirstTwo}
+use Rattle.ubi_change.specs.declared.taking.Parted.{Parted}
+
+-- the first two of some eraseblocks
+abbrev pub first_two : List Site → FirstTwo
+first_two ts = record { first = slice_get ts 0; second = slice_get ts 1 }
+
+-- those of one eraseblock more
+abbrev pub two_with : Option Site → Option Site → Site → FirstTwo
+two_with None second t = record { first = Some t; second = second }
+two_with (Some a) None t = record { first = Some a; second = Some t }
+two_with (Some a) (Some b) t = record { first = Some a; second = Some b }
+
+abbrev pub with_next : FirstTwo → Site → FirstTwo
+with_next two t = two_with two.first two.second t
+
+-- those of some eraseblocks and then others
+abbrev pub two_joined : Option Site → Option Site → FirstTwo → FirstTwo
+two_joined None second others = others
+two_joined (Some a) None others = record { first = Some a; second = others.first }
+two_joined (Some a) (Some b) others = record { first = Some a; second = Some b }
+
+abbrev pub joined : FirstTwo → FirstTwo → FirstTwo
+joined two others = two_joined two.first two.second others
+
+-- the first two of both kinds, with one eraseblock more, if it may be taken
+abbrev pub parted_with : Parted → Option Site → Parted
+parted_with both None = both
+parted_with both (Some t) =
+    if t.is_clean then record { clean = with_next both.clean t; other = both.other }
+    else record { clean = both.clean; other = with_next both.other t }
+
+-- the first two of all
+abbrev pub all_of : Parted → FirstTwo
+all_of both = joined both.clean both.other
+
+-- p, if it may be taken
+abbrev pub TakeableIs : Sizes → List (List ℕ) → List BlockState → ℕ → Option Site → Type 0
+TakeableIs s bs states p t = t ≡ (if is_takeable s bs states p then Some (site_at s bs states p) else None)
+
+-- the first two that are taken
+abbrev pub first_taken : Sizes → List (List ℕ) → List BlockState → FirstTwo
+first_taken s bs states = first_two (map (site_at s bs states) (takeable s bs states))
+
+-- both lie in the source, and they are these of whatever it may hold
+pub record AreTaken (s : Sizes) (k : Source) (agrees : Agreed) (states : List BlockState) (two : FirstTwo) : Type 0 where
+  pub first : IfSome two.first (FitsIn (blocks_in s k))
+  pub second : IfSome two.second (FitsIn (blocks_in s k))
+  pub held : WhereHeld agrees (λ bytes. two ≡ first_taken s (blocks_of s bytes) states)
+
+-- a source that is surveyed, with the eraseblocks that may be taken
+pub record IsGroundOf (s : Sizes) (k : Source) (agrees : Agreed) (ground : Ground) : Type 0 where
+  pub survey : IsSurveyOf s k agrees ground.surveyed
+  pub taken : AreTaken s k agrees ground.surveyed.states ground.taken

@@ -1,0 +1,75 @@
+//! What plans read of a source.
+
+ghost use Rattle.std.specs.Prelude.{◌≡◌, IfErr, IfOk, length};
+ghost use Rattle.std.specs.FinMap as finite;
+ghost use Rattle.ubi_change.specs.inner.Sites.{IsSiteAt};
+ghost use Rattle.ubi_change.specs.inner.Taking.{IsGroundOf};
+ghost use Rattle.ubi_scan.specs.Source.{Narrows, blocks_in};
+ghost use Rattle.ubi_scan.specs.Stream.{IsReadFault, after};
+ghost use Rattle.ubi_volume.specs.Places.{ArePlacesError};
+ghost use Rattle.ubi_volume.specs.Survey.{IsSurveyOf};
+
+use crate::site::{Site, read_site};
+use crate::taking::{FirstTwo, first_takeable};
+use std::alloc::Global;
+use ubi_media::Geometry;
+use ubi_scan::{BlockSource, StreamError};
+use ubi_volume::{Surveyed, survey_from};
+
+/// An image that is surveyed, and the eraseblocks that a plan may take.
+#[derive(Drop)]
+pub struct Ground {
+    /// What is known of the image.
+    pub surveyed: Surveyed,
+    /// The first two eraseblocks that may be taken.
+    pub taken: FirstTwo,
+}
+
+/// Surveys the image of a source, and finds the eraseblocks that a plan may take. The buffer has the size of an eraseblock,
+/// here and below.
+///
+/// # Errors
+///
+/// As [`survey_from`].
+pub fn ground_of<S: BlockSource>(
+    alloc: Global,
+    geometry: &Geometry,
+    source: &mut S,
+    buffer: &mut [u8],
+) -> Result<Ground, StreamError>
+    requires { length buffer.old ≡ geometry.now.peb_size }
+    ensures known { S.known source.new ≡ after (S.known source.old) result }
+    ensures narrows { Narrows (S.agrees source.old) (S.agrees source.new) }
+    ensures ground { IfOk result (IsGroundOf geometry.now (S.known source.old) (S.agrees source.new)) }
+    ensures refused { IfErr result (ArePlacesError geometry.now (S.known source.old) (S.agrees source.new)) }
+{
+    let surveyed = survey_from(alloc, geometry, source)?;
+    let taken = first_takeable(geometry, source, &surveyed, buffer)?;
+    Ok(Ground { surveyed, taken })
+}
+
+/// The eraseblock that wins a logical eraseblock, if it has a winner.
+///
+/// # Errors
+///
+/// Read where a read failed, with the count 0.
+pub fn winner_site<S: BlockSource>(
+    geometry: &Geometry,
+    source: &mut S,
+    surveyed: &Surveyed,
+    id: u32,
+    lnum: u32,
+    buffer: &mut [u8],
+) -> Result<Option<Site>, StreamError>
+    requires survey { IsSurveyOf geometry.now (S.known source.old) (S.agrees source.old) surveyed.now }
+    requires room { length buffer.old ≡ geometry.now.peb_size }
+    ensures known { S.known source.new ≡ after (S.known source.old) result }
+    ensures narrows { Narrows (S.agrees source.old) (S.agrees source.new) }
+    ensures site { IfOk result (IsSiteAt geometry.now (S.known source.old) (S.agrees source.new) surveyed.now.states (finite.get surveyed.now.scan.winners (id, lnum))) }
+    ensures failed { IfErr result (IsReadFault (blocks_in geometry.now (S.known source.old))) }
+{
+    match surveyed.winner(id, lnum) {
+        Some(p) => Ok(Some(read_site(geometry, source, p, surveyed.state(p), buffer)?)),
+        None => Ok(None),
+    }
+}
