@@ -10,6 +10,7 @@ pub mod Copied
 pub mod CopyFits
 pub mod CopyReplaced
 pub mod CountsErases
+pub mod CutSizes
 pub mod Emptied
 pub mod FirstCopy
 pub mod Fits

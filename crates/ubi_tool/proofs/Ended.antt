@@ -1,21 +1,23 @@
 -- How work ends that reads a source, and maybe writes a file meanwhile.
-use Rattle.std.proofs.Common.{◌≡◌, ℕ, List, ap, arith, length, refl, subst, sym, ◌∙◌}
+use Rattle.std.proofs.Common.{◌≡◌, ℕ, List, [], ap, arith, length, refl, subst, sym, ◌∙◌}
 use Rattle.std.proofs.lemmas.Result.{IfOk-at_ok}
 use Rattle.std.specs.Prelude.{Bool, IfOk, IsSome, None, Option, Some, is_some, true, MatchResult, Result, Ok, Err, codes}
 use Rattle.std.specs.declared.alloc.AllocError.{AllocError}
 use Rattle.ubi_media.specs.Geometry.{Sizes}
 use Rattle.ubi_media.specs.Limits.{first_broken}
 use Rattle.ubi_scan.specs.Source.{Agreed, Narrows, Source, holds, known_by, sound}
-use Rattle.ubi_tool.specs.AfterRun.{IsTold, after_left, after_right, after_run, outcome, read_failed}
+use Rattle.ubi_tool.specs.AfterRun.{IsTold, after_left, after_right, after_run, outcome, read_failed, IsEnded, done, no_read, no_write, unopened}
 use Rattle.ubi_tool.specs.Answer.{Gives, says}
-use Rattle.ubi_tool.specs.inner.Ended.{IsEnded, IsToldOfSides, Works, answered, comparison, done, left_failed, no_read, no_source, no_write, right_failed, unopened}
+use Rattle.ubi_tool.specs.inner.Ended.{IsToldOfSides, Works, answered, comparison, left_failed, no_source, right_failed}
 use Rattle.ubi_tool.specs.Lines.{file_line}
 use Rattle.ubi_tool.specs.Numbers.{sizes_of}
+use Rattle.ubi_tool.specs.Opened.{IsOpened}
 use Rattle.ubi_tool.specs.Program.{IsRead, OfFile, cannot_read, no_file, places, whole}
 use Rattle.ubi_tool.specs.declared.numbers.Numbers.{Numbers}
+use Rattle.ubi_tool.specs.declared.open_image.OpenImage.{OpenImage}
+use Rattle.ubi_tool.specs.declared.open_image.OpenImage.TheVariants as image
 use Rattle.ubi_tool.specs.declared.outcome.Outcome.{Outcome}
 use Rattle.ubi_tool.specs.declared.outcome.SidesError.{SidesError}
-use Rattle.ubi_tool.specs.declared.outcome.SidesError.TheVariants as side
 use Rattle.ubi_tool.specs.declared.outcome.ToolError.{ToolError}
 use Rattle.ubi_tool.specs.declared.outcome.ToolError.TheVariants as tool
 
@@ -66,6 +68,21 @@ module _ (work : Result Outcome ToolError) (k after : Source) (path : List ℕ) 
   works_in : (o : Outcome) → IsTold work path o → after ≡ after_run k work → IfOk work answers → Works k after path answers o
   works_in o (outcome is) known ok = answered (known ∙ ap (after_run k) is) (IfOk-at_ok answers is ok)
   works_in o (read_failed is line) known ok = no_source (known ∙ ap (after_run k) is) line
+
+-- what is answered of a source is what another call says of it
+pub works_weaker : (k after : Source) (path : List ℕ) (P Q : Outcome → Type 0) → ((o : Outcome) → P o → Q o) → (o : Outcome)
+    → Works k after path P o → Works k after path Q o
+works_weaker k after path P Q f o (answered same h) = answered same (f o h)
+works_weaker k after path P Q f o (no_source same line) = no_source same line
+
+-- what is answered of a file that was opened, and of which nothing was read
+pub of_opened : {F : Type 0} (numbers : Numbers) (path : List ℕ) (answers : Sizes → Source → Agreed → Outcome → Type 0)
+    (opened : OpenImage F) (o : Outcome)
+    → IsOpened numbers opened → ((k : Source) (agrees : Agreed) → answers (sizes_of numbers) k agrees o)
+    → OfFile numbers path answers o
+of_opened numbers path answers (image.AtPlaces file) o is h = places 0 [] is.1 (h (sound 0) (known_by 0 []))
+of_opened numbers path answers (image.Whole file) o is h =
+    whole file.bytes.items is.1 (h (sound (length file.bytes.items)) (holds file.bytes.items))
 
 module _ (numbers : Numbers) (path : List ℕ) (answers : Sizes → Source → Agreed → Outcome → Type 0) (s : Sizes)
     (same : s ≡ sizes_of numbers) where

@@ -23,9 +23,9 @@ use Rattle.ubi_volume.specs.Wrote.{All, First, NotAll, Wanted, Wrote}
 use Rattle.ubi_compose.specs.Streamed.{HasGot}
 use Rattle.ubi_tool.specs.Answer.{Gives, says}
 use Rattle.ubi_tool.specs.Extract.{Extracts, ExtractsFrom, ExtractsInto, HasFirst, HasText, IsExtractError, IsExtractFault, IsVolumeError, ReadsVolume, accepted, read, read_refusal, refused, refused_from, unread, unread_from, unwritten, written, wrote}
-use Rattle.ubi_tool.specs.inner.Ended.{IsUntold, IsEnded, Works}
+use Rattle.ubi_tool.specs.inner.Ended.{IsUntold, Works}
 use Rattle.ubi_tool.specs.Lines.{bytes_line, file_line}
-use Rattle.ubi_tool.specs.AfterRun.{after_run}
+use Rattle.ubi_tool.specs.AfterRun.{after_run, IsEnded}
 use Rattle.ubi_tool.proofs.Ended.{ends}
 use Rattle.ubi_tool.specs.declared.outcome.Outcome.{Outcome}
 use Rattle.ubi_tool.specs.declared.outcome.ToolError.{ToolError}

@@ -4,6 +4,7 @@ pub mod Comparing
 pub mod Composed
 pub mod Cut
 pub mod Defaults
+pub mod Edited
 pub mod Ended
 pub mod Extracted
 pub mod Listing

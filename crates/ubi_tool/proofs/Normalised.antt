@@ -11,9 +11,9 @@ use Rattle.ubi_volume.specs.Meant.{Meant}
 use Rattle.ubi_compose.specs.Normal.{normal_blocks}
 use Rattle.ubi_compose.specs.Streamed.{IsStreamed}
 use Rattle.ubi_compose.proofs.Form.{count-normal_bytes}
-use Rattle.ubi_tool.specs.AfterRun.{after_run}
+use Rattle.ubi_tool.specs.AfterRun.{after_run, IsEnded}
 use Rattle.ubi_tool.specs.Answer.{Gives, says}
-use Rattle.ubi_tool.specs.inner.Ended.{IsEnded, Works}
+use Rattle.ubi_tool.specs.inner.Ended.{Works}
 use Rattle.ubi_tool.specs.Lines.{blocks_line, file_line}
 use Rattle.ubi_tool.specs.Normalise.{IsNormaliseError, Normalises, NormalisesInto, NormalisesTo, accepted, refused, unwritten, written, wrote, wrote_nothing}
 use Rattle.ubi_tool.specs.declared.outcome.Outcome.{Outcome}

@@ -10,19 +10,13 @@ use Rattle.ubi_media.specs.Geometry.{Sizes}
 use Rattle.ubi_media.specs.Limits.{first_broken}
 use Rattle.ubi_scan.specs.Image.{Image, image_of}
 use Rattle.ubi_volume.specs.Meant.{Meant}
-use Rattle.ubi_change.specs.declared.step.Step.{Step}
 use Rattle.ubi_compose.specs.Composed.{HasRoom}
 use Rattle.ubi_compose.specs.TextLaws.{ComesTo}
-use Rattle.ubi_compose.specs.Words.{shown_name}
 use Rattle.ubi_tool.specs.Compose.{Composes, ComposesInto, ComposesOf, crowded, described, fits, unmade, unread}
 use Rattle.ubi_tool.specs.Compose as compose
-use Rattle.ubi_tool.specs.Change.{Changes, ChangesInto, IsPlanned, planned, unplanned}
-use Rattle.ubi_tool.specs.Change as change
 use Rattle.ubi_tool.specs.Numbers.{sizes_of}
 use Rattle.ubi_tool.specs.Program.{IsRead, WritesFile, OfImage, OfText, Tells, text_limit}
 use Rattle.ubi_tool.specs.Program as program
-use Rattle.ubi_tool.specs.Rename.{IsPlannedRename, Renames, RenamesInto}
-use Rattle.ubi_tool.specs.Rename as rename
 use Rattle.ubi_tool.specs.inner.Received.{Received}
 use Rattle.ubi_tool.specs.declared.image_file.Unread.{Unread}
 use Rattle.ubi_tool.specs.declared.image_file.Unread.TheVariants.{Memory, Told}
@@ -57,37 +51,6 @@ composes_into s text spares seq out work o n program.written = compose.written n
 composes_into s text spares seq out work o n (program.unwritten some gives) =
     let h = described_with_file s text spares seq work n some in
     compose.unwritten h.0 h.1 h.2 gives
-
--- a file is there only where a change is planned
-planned_with_file : (image : Image) (id lnum : ℕ) (new : List ℕ) (stop : Option ℕ) (o : Outcome)
-    → Changes image id lnum new stop o → IsSome o.file
-    → (steps : List Step) × IsPlanned image id lnum new steps
-planned_with_file image id lnum new stop o (planned steps is gives means) some = (steps, is)
-planned_with_file image id lnum new stop o (unplanned c line is e gives) some = absurd (no_file o.file gives.file some)
-
--- changing, and then writing the file
-pub changes_into : (image : Image) (id lnum : ℕ) (new : List ℕ) (stop : Option ℕ) (out : List ℕ) (work o : Outcome)
-    → Changes image id lnum new stop work → WritesFile out work o → ChangesInto id lnum new stop out image o
-changes_into image id lnum new stop out work o n program.written = change.written n
-changes_into image id lnum new stop out work o n (program.unwritten some gives) =
-    let h = planned_with_file image id lnum new stop work n some in
-    change.unwritten h.0 h.1 gives
-
--- a file is there only where a rename is planned
-named_with_file : (image : Image) (id : ℕ) (word : List ℕ) (stop : Option ℕ) (o : Outcome)
-    → Renames image id word stop o → IsSome o.file
-    → (name : List ℕ) × (steps : List Step) × (shown_name word ≡ Some name) × IsPlannedRename image id name steps
-named_with_file image id word stop o (rename.planned name steps e is gives means) some = (name, steps, e, is)
-named_with_file image id word stop o (rename.nameless e gives) some = absurd (no_file o.file gives.file some)
-named_with_file image id word stop o (rename.unplanned name c line e is l gives) some = absurd (no_file o.file gives.file some)
-
--- renaming, and then writing the file
-pub renames_into : (image : Image) (id : ℕ) (word : List ℕ) (stop : Option ℕ) (out : List ℕ) (work o : Outcome)
-    → Renames image id word stop work → WritesFile out work o → RenamesInto id word stop out image o
-renames_into image id word stop out work o n program.written = rename.written n
-renames_into image id word stop out work o n (program.unwritten some gives) =
-    let h = named_with_file image id word stop work n some in
-    rename.unwritten h.0 h.1 h.2 h.3 gives
 
 -- what is answered of an image that was read
 pub of_image : (numbers : Numbers) (path : List ℕ) (answers : Image → Outcome → Type 0) (s : Sizes) (bytes : List ℕ)

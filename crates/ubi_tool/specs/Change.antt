@@ -1,20 +1,25 @@
 -- What changing a logical eraseblock of an image answers.
-use Rattle.std.specs.Prelude.{◌≡◌, ℕ, List, [], ◌∷◌, Option, Some, None, codes}
+use Rattle.std.specs.Prelude.{◌≡◌, ◌⊎◌, ℕ, List, [], ◌∷◌, Option, Some, None, codes}
+use Rattle.std.specs.Io.KnownBytes.{Keeps}
+use Rattle.ubi_media.specs.Geometry.{Sizes}
 use Rattle.ubi_change.specs.Cuts.{changed, turn}
-use Rattle.ubi_change.specs.Fitting.{AllFit}
-use Rattle.ubi_change.specs.Order.{RisesBetweenErases}
-use Rattle.ubi_change.specs.Planned.{IsFrugalOf, IsPlan, SurvivesCutsOf, IsChangeRefusal}
+use Rattle.ubi_change.specs.Planned.{IsChangeError, IsChangeRefusal, IsPlanOf, IsPlanned}
+use Rattle.ubi_change.specs.declared.plan_error.PlanError.TheVariants as error
 use Rattle.ubi_change.specs.declared.refusal.ChangeRefusal.{ChangeRefusal}
 use Rattle.ubi_change.specs.declared.refusal.ChangeRefusal.TheVariants as refusal
 use Rattle.ubi_change.specs.declared.step.Step.{Step}
-use Rattle.ubi_scan.specs.Image.{Image, in_image}
+use Rattle.ubi_scan.specs.Image.{Image, image_of}
+use Rattle.ubi_scan.specs.Source.{Agreed, Source, WhereHeld}
 use Rattle.ubi_volume.specs.Accepts.{Accepts}
 use Rattle.ubi_volume.specs.Meant.{Meant}
+use Rattle.ubi_volume.specs.Wrote.{All, Wrote}
 use Rattle.ubi_tool.specs.Answer.{Gives, says}
 use Rattle.ubi_tool.specs.Lines.{file_line, refusal_line, refused}
-use Rattle.ubi_tool.specs.Plan.{CutAccepts, plan_answer, steps_done}
+use Rattle.ubi_tool.specs.Plan.{CutAccepts, IsCarryFault, cut_text, plan_answer, plan_lines, steps_done}
 use Rattle.ubi_tool.specs.declared.lines.Detail.TheVariants as detail
 use Rattle.ubi_tool.specs.declared.outcome.Outcome.{Outcome}
+use Rattle.ubi_tool.specs.declared.outcome.ToolError.{ToolError}
+use Rattle.ubi_tool.specs.declared.outcome.ToolError.TheVariants as tool
 
 -- the line of a change that isn't planned; memory that ran out has none
 abbrev pub cause_line : ChangeRefusal → Option (List ℕ)
@@ -29,15 +34,6 @@ cause_line refusal.Exhausted = Some (refused (codes "K8 Exhausted") [])
 cause_line refusal.NoFree = Some (refused (codes "K9 NoFree") [])
 cause_line refusal.Memory = None
 
--- the steps are the plan of the change: each fits what those before it leave, they touch just what they need and count
--- each erase, and the image survives a cut between them
-pub record IsPlanned (image : Image) (id lnum : ℕ) (new : List ℕ) (steps : List Step) : Type 0 where
-  pub plan : IsPlan image id lnum new steps
-  pub fit : in_image AllFit image steps
-  pub rises : in_image RisesBetweenErases image steps
-  pub frugal : IsFrugalOf image id lnum new steps
-  pub survives : SurvivesCutsOf image id lnum new steps
-
 -- the image after the first k steps is accepted: before the turn it means what it meant before them, and from the turn on
 -- that with the new bytes
 abbrev pub CutMeans : Image → ℕ → ℕ → List ℕ → List Step → ℕ → Type 0
@@ -47,13 +43,34 @@ CutMeans image id lnum new steps k =
 -- what the command answers of an image: that of the plan, and what its file means; or the line of the cause for which
 -- nothing is planned
 pub data Changes (image : Image) (id lnum : ℕ) (new : List ℕ) (stop : Option ℕ) : Outcome → Type 0 where
-  planned : {o : Outcome} (steps : List Step) → IsPlanned image id lnum new steps → Gives o (plan_answer image steps stop)
+  planned : {o : Outcome} (steps : List Step) → IsPlanOf image id lnum new steps → Gives o (plan_answer image steps stop)
       → CutMeans image id lnum new steps (steps_done steps stop) → Changes image id lnum new stop o
   unplanned : {o : Outcome} (c : ChangeRefusal) (line : List ℕ) → IsChangeRefusal image id lnum new c → cause_line c ≡ Some line
       → Gives o (says line 1) → Changes image id lnum new stop o
 
--- what it answers over files: the same, or the line of an output that can't be written
-pub data ChangesInto (id lnum : ℕ) (new : List ℕ) (stop : Option ℕ) (out : List ℕ) (image : Image) : Outcome → Type 0 where
-  written : {o : Outcome} → Changes image id lnum new stop o → ChangesInto id lnum new stop out image o
-  unwritten : {o : Outcome} (steps : List Step) → IsPlanned image id lnum new steps
-      → Gives o (says (file_line (codes "cannot write ") out) 1) → ChangesInto id lnum new stop out image o
+module _ (id lnum : ℕ) (new : List ℕ) (stop : Option ℕ) (s : Sizes) (k : Source) (agrees : Agreed) where
+  -- what it answers of a source: the lines of the plan, and, whatever the source may hold, the writer received what the
+  -- file holds; or the line of the cause for which nothing is planned, and the writer received nothing
+  pub data ChangesFrom (old now : Option (List ℕ)) : Outcome → Type 0 where
+    planned_from : {o : Outcome} (steps : List Step) → IsPlanned s k agrees id lnum new steps
+        → Gives o (says (plan_lines steps) 0) → Wrote agrees old now (cut_text s steps (steps_done steps stop)) All 0 k.size
+        → WhereHeld agrees (λ bytes. CutMeans (image_of s bytes) id lnum new steps (steps_done steps stop)) → ChangesFrom old now o
+    unplanned_from : {o : Outcome} (c : ChangeRefusal) (line : List ℕ) → IsChangeError s k agrees id lnum new (error.Refused c)
+        → cause_line c ≡ Some line → Gives o (says line 1) → Keeps old now → ChangesFrom old now o
+
+  -- why it answers nothing: memory ran out, and the writer received nothing; or a read or a write failed, and it received
+  -- the first of what the plan leaves
+  abbrev pub IsChangeFault : Option (List ℕ) → Option (List ℕ) → ToolError → Type 0
+  IsChangeFault old now tool.Memory = Keeps old now
+  IsChangeFault old now tool.Read =
+      Keeps old now
+      ⊎ ((steps : List Step) × IsPlanned s k agrees id lnum new steps × IsCarryFault s agrees steps (steps_done steps stop) old now tool.Read)
+  IsChangeFault old now tool.Write =
+      (steps : List Step) × IsPlanned s k agrees id lnum new steps × IsCarryFault s agrees steps (steps_done steps stop) old now tool.Write
+
+-- what it answers over files, of whose bytes nothing is known: that, or the line of an output that can't be written
+pub data ChangesInto (id lnum : ℕ) (new : List ℕ) (stop : Option ℕ) (out : List ℕ) (s : Sizes) (k : Source) (agrees : Agreed) : Outcome
+    → Type 0 where
+  written : {o : Outcome} → ChangesFrom id lnum new stop s k agrees None None o → ChangesInto id lnum new stop out s k agrees o
+  unwritten : {o : Outcome} (steps : List Step) → IsPlanned s k agrees id lnum new steps
+      → Gives o (says (file_line (codes "cannot write ") out) 1) → ChangesInto id lnum new stop out s k agrees o

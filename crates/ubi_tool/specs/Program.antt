@@ -89,10 +89,11 @@ IsAnswerTo (request.Compose numbers spec out spares seq) = OfText numbers spec.n
 IsAnswerTo (request.Normalise numbers path out) = OfFile numbers path.now (NormalisesInto out.now)
 IsAnswerTo (request.Same numbers left right) = BothOf numbers left.now right.now ComparesOf
 IsAnswerTo (request.Change numbers path change) =
-    OfImage numbers path.now
-    (λ i. OfImage numbers change.from.now (λ f. ChangesInto change.id change.lnum f.bytes change.stop change.out.now i))
+    OfFile numbers path.now
+    (λ s k agrees. OfImage numbers change.from.now
+    (λ f. ChangesInto change.id change.lnum f.bytes change.stop change.out.now s k agrees))
 IsAnswerTo (request.Rename numbers path rename) =
-    OfImage numbers path.now (RenamesInto rename.id rename.name.now rename.stop rename.out.now)
+    OfFile numbers path.now (RenamesInto rename.id rename.name.now rename.stop rename.out.now)
 
 -- what the program can answer: nothing for wrong words, or what the request that the words are can be answered
 pub data IsAnswer (words : List (List ℕ)) : Outcome → Type 0 where

@@ -1,23 +1,28 @@
 -- What renaming a volume of an image answers.
-use Rattle.std.specs.Prelude.{◌≡◌, ℕ, List, [], ◌∷◌, Option, Some, None, codes}
+use Rattle.std.specs.Prelude.{◌≡◌, ◌⊎◌, ℕ, List, [], ◌∷◌, Option, Some, None, codes}
+use Rattle.std.specs.Io.KnownBytes.{Keeps}
+use Rattle.ubi_media.specs.Geometry.{Sizes}
 use Rattle.ubi_change.specs.Cuts.{turn}
-use Rattle.ubi_change.specs.Fitting.{AllFit}
-use Rattle.ubi_change.specs.Order.{RisesBetweenErases}
 use Rattle.ubi_change.specs.RenamePlan.{renamed_pages}
-use Rattle.ubi_change.specs.RenamePlanned.{IsFrugalRenameOf, IsRename, IsRenameRefusal, KeepsReading, LeavesBothGoodOf, SurvivesRenameOf}
+use Rattle.ubi_change.specs.RenamePlanned.{IsPlannedRename, IsRenameError, IsRenameOf, IsRenameRefusal}
 use Rattle.ubi_change.specs.Renamed.{renamed}
+use Rattle.ubi_change.specs.declared.plan_error.PlanError.TheVariants as error
 use Rattle.ubi_change.specs.declared.rename_refusal.RenameRefusal.{RenameRefusal}
 use Rattle.ubi_change.specs.declared.rename_refusal.RenameRefusal.TheVariants as refusal
 use Rattle.ubi_change.specs.declared.step.Step.{Step}
 use Rattle.ubi_compose.specs.Words.{shown_name}
-use Rattle.ubi_scan.specs.Image.{Image, in_image}
+use Rattle.ubi_scan.specs.Image.{Image, image_of}
+use Rattle.ubi_scan.specs.Source.{Agreed, Source, WhereHeld}
 use Rattle.ubi_volume.specs.Accepts.{Accepts}
 use Rattle.ubi_volume.specs.Meant.{Meant}
+use Rattle.ubi_volume.specs.Wrote.{All, Wrote}
 use Rattle.ubi_tool.specs.Answer.{Gives, says}
 use Rattle.ubi_tool.specs.Lines.{file_line, refusal_line, refused}
-use Rattle.ubi_tool.specs.Plan.{CutAccepts, plan_answer, steps_done}
+use Rattle.ubi_tool.specs.Plan.{CutAccepts, IsCarryFault, cut_text, plan_answer, plan_lines, steps_done}
 use Rattle.ubi_tool.specs.declared.lines.Detail.TheVariants as detail
 use Rattle.ubi_tool.specs.declared.outcome.Outcome.{Outcome}
+use Rattle.ubi_tool.specs.declared.outcome.ToolError.{ToolError}
+use Rattle.ubi_tool.specs.declared.outcome.ToolError.TheVariants as tool
 
 -- the line of a rename that isn't planned; memory that ran out has none
 abbrev pub rename_line : RenameRefusal → Option (List ℕ)
@@ -31,17 +36,6 @@ rename_line refusal.Exhausted = Some (refused (codes "K8 Exhausted") [])
 rename_line refusal.NoFree = Some (refused (codes "K9 NoFree") [])
 rename_line refusal.Memory = None
 
--- the steps are the plan of the rename: each fits what those before it leave, they touch just what they need and count
--- each erase, the image survives a cut between them, each volume reads as before, and both copies are good at the end
-pub record IsPlannedRename (image : Image) (id : ℕ) (name : List ℕ) (steps : List Step) : Type 0 where
-  pub plan : IsRename image id name steps
-  pub fit : in_image AllFit image steps
-  pub rises : in_image RisesBetweenErases image steps
-  pub frugal : IsFrugalRenameOf image id name steps
-  pub survives : SurvivesRenameOf image id name steps
-  pub reads : KeepsReading image steps
-  pub copies : LeavesBothGoodOf image id name steps
-
 -- the image after the first k steps is accepted: before the turn it means what it meant before them, and from the turn on
 -- that with the new name
 abbrev pub CutIsNamed : Image → ℕ → List ℕ → List Step → ℕ → Type 0
@@ -53,7 +47,7 @@ CutIsNamed image id name steps k =
 -- or the line of the cause for which nothing is planned; or that the word shows none
 pub data Renames (image : Image) (id : ℕ) (word : List ℕ) (stop : Option ℕ) : Outcome → Type 0 where
   planned : {o : Outcome} (name : List ℕ) (steps : List Step) → shown_name word ≡ Some name
-      → IsPlannedRename image id name steps → Gives o (plan_answer image steps stop)
+      → IsRenameOf image id name steps → Gives o (plan_answer image steps stop)
       → CutIsNamed image id name steps (steps_done steps stop) → Renames image id word stop o
   nameless : {o : Outcome} → shown_name word ≡ None → Gives o (says (refused (codes "N1 BadName") []) 1)
       → Renames image id word stop o
@@ -61,9 +55,37 @@ pub data Renames (image : Image) (id : ℕ) (word : List ℕ) (stop : Option ℕ
       → IsRenameRefusal image id name c → rename_line c ≡ Some line → Gives o (says line 1)
       → Renames image id word stop o
 
--- what it answers over files: the same, or the line of an output that can't be written
-pub data RenamesInto (id : ℕ) (word : List ℕ) (stop : Option ℕ) (out : List ℕ) (image : Image) : Outcome → Type 0 where
-  written : {o : Outcome} → Renames image id word stop o → RenamesInto id word stop out image o
+module _ (id : ℕ) (word : List ℕ) (stop : Option ℕ) (s : Sizes) (k : Source) (agrees : Agreed) where
+  -- what it answers of a source: where the word shows a name, the lines of the plan, and, whatever the source may hold, the
+  -- writer received what the file holds; or the line of the cause for which nothing is planned, or that the word shows no
+  -- name, and the writer received nothing
+  pub data RenamesFrom (old now : Option (List ℕ)) : Outcome → Type 0 where
+    planned_from : {o : Outcome} (name : List ℕ) (steps : List Step) → shown_name word ≡ Some name
+        → IsPlannedRename s k agrees id name steps → Gives o (says (plan_lines steps) 0)
+        → Wrote agrees old now (cut_text s steps (steps_done steps stop)) All 0 k.size
+        → WhereHeld agrees (λ bytes. CutIsNamed (image_of s bytes) id name steps (steps_done steps stop)) → RenamesFrom old now o
+    nameless_from : {o : Outcome} → shown_name word ≡ None → Gives o (says (refused (codes "N1 BadName") []) 1) → Keeps old now
+        → RenamesFrom old now o
+    unplanned_from : {o : Outcome} (name : List ℕ) (c : RenameRefusal) (line : List ℕ) → shown_name word ≡ Some name
+        → IsRenameError s k agrees id name (error.Refused c) → rename_line c ≡ Some line → Gives o (says line 1) → Keeps old now
+        → RenamesFrom old now o
+
+  -- why it answers nothing: memory ran out, and the writer received nothing; or a read or a write failed, and it received
+  -- the first of what the plan leaves
+  abbrev pub IsRenameFault : Option (List ℕ) → Option (List ℕ) → ToolError → Type 0
+  IsRenameFault old now tool.Memory = Keeps old now
+  IsRenameFault old now tool.Read =
+      Keeps old now
+      ⊎ ((name : List ℕ) × (steps : List Step) × (shown_name word ≡ Some name) × IsPlannedRename s k agrees id name steps
+      × IsCarryFault s agrees steps (steps_done steps stop) old now tool.Read)
+  IsRenameFault old now tool.Write =
+      (name : List ℕ) × (steps : List Step) × (shown_name word ≡ Some name) × IsPlannedRename s k agrees id name steps
+      × IsCarryFault s agrees steps (steps_done steps stop) old now tool.Write
+
+-- what it answers over files, of whose bytes nothing is known: that, or the line of an output that can't be written
+pub data RenamesInto (id : ℕ) (word : List ℕ) (stop : Option ℕ) (out : List ℕ) (s : Sizes) (k : Source) (agrees : Agreed) : Outcome
+    → Type 0 where
+  written : {o : Outcome} → RenamesFrom id word stop s k agrees None None o → RenamesInto id word stop out s k agrees o
   unwritten : {o : Outcome} (name : List ℕ) (steps : List Step) → shown_name word ≡ Some name
-      → IsPlannedRename image id name steps → Gives o (says (file_line (codes "cannot write ") out) 1)
-      → RenamesInto id word stop out image o
+      → IsPlannedRename s k agrees id name steps → Gives o (says (file_line (codes "cannot write ") out) 1)
+      → RenamesInto id word stop out s k agrees o

@@ -3,20 +3,16 @@
 ghost use Rattle.clap.specs.Values.{kind_of};
 ghost use Rattle.std.specs.Prelude.{◌≡◌, ◌↔◌, [], IfOk, IfSome, IsErr, None, map, string_bytes};
 ghost use Rattle.ubi_tool.specs.Answer.{Gives, says};
-ghost use Rattle.ubi_tool.specs.Change.{ChangesInto};
 ghost use Rattle.ubi_tool.specs.Compose.{ComposesInto};
-ghost use Rattle.ubi_tool.specs.Program.{IsAnswer, IsAnswerTo, OfImage, OfText};
-ghost use Rattle.ubi_tool.specs.Rename.{RenamesInto};
+ghost use Rattle.ubi_tool.specs.Program.{IsAnswer, IsAnswerTo, OfText};
 
-use crate::change::run_change;
-use crate::command_line::{Change, Rename, Request, command_line, request_of};
+use crate::command_line::{Request, command_line, request_of};
 use crate::compose::run_compose;
-use crate::image_file::load;
+use crate::edits::{change_file, rename_file};
 use crate::numbers::Numbers;
 use crate::outcome::{Outcome, WRONG_WORDS};
 use crate::output_file::write_outcome;
 use crate::readers::{Checking, Listing, Showing, read_file, same_files};
-use crate::rename::run_rename;
 use crate::spec_file::load_spec;
 use crate::streaming::{extract_file, normalise_file};
 use clap::Error;
@@ -143,61 +139,6 @@ fn compose_file<R: Files>(
     let text = file.text.as_slice();
     let outcome = run_compose(alloc, &file.geometry, text, spares, image_seq)?;
     write_outcome(rt, alloc, outcome, out)
-}
-
-/// Changes one file into another, by the bytes of a third.
-fn change_file<R: Files>(
-    rt: &R,
-    alloc: Global,
-    numbers: Numbers,
-    image: &str,
-    change: &Change<'_>,
-) -> Result<Outcome, AllocError>
-    ensures { IfOk result (OfImage numbers image.now (λ i. OfImage numbers change.now.from.now (λ f. ChangesInto change.now.id change.now.lnum f.bytes change.now.stop change.now.out.now i))) }
-{
-    let old = match load(rt, alloc, numbers, image) {
-        Ok(file) => file,
-        Err(unread) => return unread.answer(),
-    };
-    let new = match load(rt, alloc, numbers, change.from) {
-        Ok(file) => file,
-        Err(unread) => return unread.answer(),
-    };
-    let outcome = run_change(
-        alloc,
-        &old.geometry,
-        old.bytes.as_slice(),
-        change.id,
-        change.lnum,
-        new.bytes.as_slice(),
-        change.stop,
-    )?;
-    write_outcome(rt, alloc, outcome, change.out)
-}
-
-/// Renames a volume of one file, into another.
-fn rename_file<R: Files>(
-    rt: &R,
-    alloc: Global,
-    numbers: Numbers,
-    image: &str,
-    rename: &Rename<'_>,
-) -> Result<Outcome, AllocError>
-    ensures { IfOk result (OfImage numbers image.now (RenamesInto rename.now.id rename.now.name.now rename.now.stop rename.now.out.now)) }
-{
-    let file = match load(rt, alloc, numbers, image) {
-        Ok(file) => file,
-        Err(unread) => return unread.answer(),
-    };
-    let outcome = run_rename(
-        alloc,
-        &file.geometry,
-        file.bytes.as_slice(),
-        rename.id,
-        rename.name.as_bytes(),
-        rename.stop,
-    )?;
-    write_outcome(rt, alloc, outcome, rename.out)
 }
 
 /// Prints to standard error what is wrong with the words.

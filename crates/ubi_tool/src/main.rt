@@ -13,6 +13,7 @@ mod check;
 mod command_line;
 mod commands;
 mod compose;
+mod edits;
 mod extract;
 mod image_file;
 mod image_source;

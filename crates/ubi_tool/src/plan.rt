@@ -1,18 +1,22 @@
-//! What a command answers that plans steps: their lines, and the image after the first of them.
+//! What a command answers that plans steps: their lines, and the image after the first of them, into a writer.
 
-ghost use Rattle.std.specs.Prelude.{◌≡◌, ◌++◌, ◌≤◌, IfOk, OnOk, length};
+ghost use Rattle.std.specs.Prelude.{◌≡◌, ◌≢◌, ◌++◌, IfErr, IfOk, Ok, OnOk};
 ghost use Rattle.std.specs.List.{flat_map};
-ghost use Rattle.ubi_change.specs.Fitting.{AllFit};
-ghost use Rattle.ubi_change.specs.Steps.{after};
-ghost use Rattle.ubi_scan.specs.Image.{IsWhole, eraseblocks, image_of, in_image};
-ghost use Rattle.ubi_tool.specs.Answer.{Gives};
-ghost use Rattle.ubi_tool.specs.Plan.{IsCut, cut_bytes, plan_answer, plan_lines, step_line, step_words, steps_done};
+ghost use Rattle.ubi_change.specs.Fitting.{AllWithin};
+ghost use Rattle.ubi_scan.specs.Image.{IsWholeSize};
+ghost use Rattle.ubi_scan.specs.Source.{Narrows, blocks_in};
+ghost use Rattle.ubi_tool.specs.AfterRun.{after_run};
+ghost use Rattle.ubi_tool.specs.Answer.{Gives, says};
+ghost use Rattle.ubi_tool.specs.Plan.{AreCut, HasFile, IsCarryFault, cut_text, plan_lines, step_line, step_words, steps_done};
+ghost use Rattle.ubi_volume.specs.Wrote.{All, Wrote};
 
 use crate::lines::{put_number, put_word};
-use crate::outcome::{DONE, Outcome};
+use crate::outcome::{DONE, Outcome, ToolError};
 use std::alloc::{AllocError, Global};
-use ubi_change::{Step, apply};
+use std::io::Write;
+use ubi_change::{Step, write_after};
 use ubi_media::Geometry;
+use ubi_scan::{BlockSource, StreamError};
 
 /// Adds what a step does, and to which eraseblock and page.
 fn put_step(text: &mut Vec<u8>, step: &Step) -> Result<(), AllocError>
@@ -59,64 +63,68 @@ fn steps_done(steps: &[Step], stop: Option<u32>) -> usize
     }
 }
 
-/// Does the first steps of a plan to an image.
-fn apply_first(geometry: &Geometry, image: &mut [u8], steps: &[Step], count: usize)
-    requires whole { IsWhole (image_of geometry.now image.old) }
-    requires fit { in_image AllFit (image_of geometry.now image.old) steps.now }
-    requires count { count ≤ length steps.now }
-    ensures cut { image.new ≡ cut_bytes (image_of geometry.now image.old) steps.now count }
-    ensures done { eraseblocks (image_of geometry.now image.new) ≡ in_image after (image_of geometry.now image.old) steps.now count }
-    ensures length { length image.new ≡ length image.old }
-{
-    for step in &steps[..count] {
-        apply(geometry, image, step);
-    }
-}
-
-/// The image after the first steps of a plan.
-fn image_after(
-    alloc: Global,
-    geometry: &Geometry,
-    image: &[u8],
-    steps: &[Step],
-    count: usize,
-) -> Result<Vec<u8>, AllocError>
-    requires whole { IsWhole (image_of geometry.now image.now) }
-    requires fit { in_image AllFit (image_of geometry.now image.now) steps.now }
-    requires count { count ≤ length steps.now }
-    ensures cut { IfOk result (λ bytes. bytes.items ≡ cut_bytes (image_of geometry.now image.now) steps.now count) }
-    ensures done { IfOk result (λ bytes. eraseblocks (image_of geometry.now bytes.items) ≡ in_image after (image_of geometry.now image.now) steps.now count) }
-    ensures length { IfOk result (λ bytes. length bytes.items ≡ length image.now) }
-{
-    let mut bytes = Vec::from_slice(alloc, image)?;
-    apply_first(geometry, bytes.as_mut_slice(), steps, count);
-    Ok(bytes)
-}
-
-/// The lines of all steps of a plan, and as the file the image after the first `stop` of them, or after all where there are
-/// no more or `stop` is left out.
+/// Writes the image of a source after the first `stop` steps of a plan, or after all where there are no more or `stop` is
+/// left out, and answers the lines of all of them. At most an eraseblock of contents is held.
+///
+/// The room for the answer is taken before the first byte is written.
 ///
 /// # Errors
 ///
-/// Memory ran out.
-pub fn plan_outcome(
+/// Read where a read failed, and Write where a write failed: the writer received the first of the bytes then. Memory
+/// where memory ran out, and nothing is written then.
+pub fn carry_out<S: BlockSource, W: Write>(
     alloc: Global,
     geometry: &Geometry,
-    image: &[u8],
+    source: &mut S,
     steps: &[Step],
     stop: Option<u32>,
-) -> Result<Outcome, AllocError>
-    requires whole { IsWhole (image_of geometry.now image.now) }
-    requires fit { in_image AllFit (image_of geometry.now image.now) steps.now }
-    ensures answer { IfOk result (λ o. Gives o (plan_answer (image_of geometry.now image.now) steps.now stop)) }
-    ensures cut { IfOk result (λ _. IsCut (image_of geometry.now image.now) steps.now (steps_done steps.now stop)) }
+    writer: &mut W,
+) -> Result<Outcome, ToolError>
+    requires whole { IsWholeSize geometry.now (S.known source.old).size }
+    requires within { AllWithin geometry.now (blocks_in geometry.now (S.known source.old)) steps.now }
+    ensures known { S.known source.new ≡ after_run (S.known source.old) result }
+    ensures narrows { Narrows (S.agrees source.old) (S.agrees source.new) }
+    ensures answer { IfOk result (λ o. Gives o (says (plan_lines steps.now) 0)) }
+    ensures written { IfOk result (λ _. Wrote (S.agrees source.new) (W.contents writer.old) (W.contents writer.new) (cut_text geometry.now steps.now (steps_done steps.now stop)) All 0 (S.known source.old).size) }
+    ensures cut { IfOk result (λ _. AreCut geometry.now (S.agrees source.new) steps.now (steps_done steps.now stop)) }
+    ensures err { IfErr result (IsCarryFault geometry.now (S.agrees source.new) steps.now (steps_done steps.now stop) (W.contents writer.old) (W.contents writer.new)) }
 {
     let count = steps_done(steps, stop);
     let text = plan_lines(alloc, steps)?;
-    let file = image_after(alloc, geometry, image, steps, count)?;
-    Ok(Outcome {
-        text,
-        status: DONE,
-        file: Some(file),
-    })
+    let mut buffer = Vec::from_elem(alloc, 0u8, geometry.peb_size() as usize)?;
+    match write_after(
+        geometry,
+        source,
+        &steps[..count],
+        buffer.as_mut_slice(),
+        writer,
+    ) {
+        Ok(_) => Ok(Outcome::saying(text, DONE)),
+        Err(StreamError::Read(_, _)) => Err(ToolError::Read),
+        Err(StreamError::Write(_)) => Err(ToolError::Write),
+        // Nothing is refused any more, and all memory was taken.
+        Err(StreamError::Refused(_) | StreamError::Memory) => unreachable!(),
+    }
+}
+
+/// An outcome with what was written for it as its file, where the work was done.
+///
+/// # Errors
+///
+/// Memory ran out: while the work was done, or for the file.
+pub fn with_file(work: Result<Outcome, ToolError>, file: Vec<u8>) -> Result<Outcome, AllocError>
+    requires { IfErr work (λ e. e ≢ ToolError.Read) }
+    ensures { IfOk result (λ o. (done : Outcome) × (work ≡ Ok done) × HasFile done file.items o) }
+{
+    match work {
+        Ok(done) if done.status == DONE => Ok(Outcome {
+            file: Some(file),
+            ..done
+        }),
+        Ok(refused) => Ok(refused),
+        // A vector takes all bytes, unless it can't grow.
+        Err(ToolError::Write | ToolError::Memory) => Err(AllocError),
+        // Reading memory doesn't fail.
+        Err(ToolError::Read) => unreachable!(),
+    }
 }

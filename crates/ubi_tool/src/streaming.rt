@@ -4,8 +4,9 @@
 
 ghost use Rattle.std.specs.Prelude.{◌≡◌, Bool, Err, IfOk, MatchResult, Ok, is_some};
 ghost use Rattle.ubi_scan.specs.Source.{Narrows};
+ghost use Rattle.ubi_tool.specs.AfterRun.{IsEnded};
 ghost use Rattle.ubi_tool.specs.Extract.{ExtractsInto};
-ghost use Rattle.ubi_tool.specs.inner.Ended.{IsEnded, Works};
+ghost use Rattle.ubi_tool.specs.inner.Ended.{Works};
 ghost use Rattle.ubi_tool.specs.Normalise.{NormalisesInto};
 ghost use Rattle.ubi_tool.specs.Program.{OfFile};
 
@@ -58,7 +59,7 @@ fn finished<R: Files>(outcome: Outcome, late: &mut LateFile<'_, R>, unwritten: O
 /// # Errors
 ///
 /// Memory ran out while the work was done.
-fn ended<R: Files>(
+pub fn ended<R: Files>(
     answer: Result<Outcome, ToolError>,
     late: &mut LateFile<'_, R>,
     unread: Outcome,

@@ -11,16 +11,6 @@ use Rattle.ubi_tool.specs.declared.outcome.SidesError.TheVariants as side
 use Rattle.ubi_tool.specs.declared.outcome.ToolError.{ToolError}
 use Rattle.ubi_tool.specs.declared.outcome.ToolError.TheVariants as tool
 
--- what is answered once the work is over: its outcome, and where all is done the file is open; or the line of a file that
--- can't be read or written, where a read or a write failed, or where all is done and the file can't be opened
-pub data IsEnded (answer : Result Outcome ToolError) (there : Bool) (unread unwritten : Outcome) : Outcome
-    → Type 0 where
-  done : {o : Outcome} → answer ≡ Ok o → (o.status ≡ 0 → there ≡ true) → IsEnded answer there unread unwritten o
-  unopened : (o : Outcome) → answer ≡ Ok o → o.status ≡ 0 → there ≡ false
-      → IsEnded answer there unread unwritten unwritten
-  no_read : answer ≡ Err tool.Read → IsEnded answer there unread unwritten unread
-  no_write : answer ≡ Err tool.Write → IsEnded answer there unread unwritten unwritten
-
 -- what is answered of a source: that of the work, after which no more reads have failed; or the line of the source, where
 -- one more read failed
 pub data Works (k after : Source) (path : List ℕ) (answers : Outcome → Type 0) : Outcome → Type 0 where

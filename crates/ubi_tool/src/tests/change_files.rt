@@ -81,7 +81,7 @@ fn changes_a_file(rt: HostRuntime) -> Result<(), Fail> {
     remove_files(&rt, &["change_in.img", "change_new.bin", "changed.img"])
 }
 
-/// Changes that are refused. Both files are read before the work, and the image first.
+/// Changes that are refused. The image is opened first, and the new bytes are read before it is.
 static REFUSED: [(&str, &str, u8); 5] = [
     (
         "change kept_faulty.img --id 0 --lnum 1 --from kept_new.bin --out unchanged.img",
@@ -123,17 +123,28 @@ fn opens_no_file_of_a_change_that_is_refused(rt: HostRuntime) -> Result<(), Fail
     remove_files(&rt, &["kept_in.img", "kept_faulty.img", "kept_new.bin"])
 }
 
-/// How files fail while an image is changed, what is answered, and how many bytes are written. A read that fails does so once
-/// 64 bytes were read, so that of the image does.
-static WAYS: [(Broken, (&str, u8), usize); 6] = [
+/// How files fail while an image is changed, what is answered, and how many bytes are written. The new bytes are 64, and read
+/// before the image is.
+static WAYS: [(Broken, (&str, u8), usize); 9] = [
     (Broken::Nothing, (LINES, 0), 3072),
     (Broken::Short(100), (LINES, 0), 3072),
     (Broken::OpenRead, ("cannot read a.img\n", 1), 0),
     (
         Broken::Read(ErrorKind::Other, 64),
+        ("cannot read new.bin\n", 1),
+        0,
+    ),
+    (
+        Broken::Read(ErrorKind::Other, 65),
         ("cannot read a.img\n", 1),
         0,
     ),
+    (
+        Broken::Read(ErrorKind::Other, 3071),
+        ("cannot read a.img\n", 1),
+        0,
+    ),
+    (Broken::Places, (LINES, 0), 3072),
     (Broken::OpenWrite, ("cannot write b.img\n", 1), 0),
     (Broken::Write(700), ("cannot write b.img\n", 1), 700),
 ];
