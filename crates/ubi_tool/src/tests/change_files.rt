@@ -3,7 +3,7 @@
 use super::answers::{assert_each, assert_line, assert_lines, remove_files, small};
 use super::change::spare_image;
 use super::fake::Broken;
-use super::images::{CHECK_OF_61, ec_of, overwrite, plain};
+use super::images::{CHECK_OF_61, ec_of, overwrite, plain, put_orphan};
 use std::alloc::{AllocError, Global};
 use std::fs;
 use std::io::ErrorKind;
@@ -123,11 +123,13 @@ fn opens_no_file_of_a_change_that_is_refused(rt: HostRuntime) -> Result<(), Fail
     remove_files(&rt, &["kept_in.img", "kept_faulty.img", "kept_new.bin"])
 }
 
-/// How files fail while an image is changed, what is answered, and how many bytes are written. The new bytes are 64, and read
-/// before the image is.
-static WAYS: [(Broken, (&str, u8), usize); 9] = [
-    (Broken::Nothing, (LINES, 0), 3072),
-    (Broken::Short(100), (LINES, 0), 3072),
+/// How files fail while an image of seven eraseblocks is changed, what is answered, and how many bytes are written. The new
+/// bytes are 64, and read before the image is. What stands behind the headers of the last eraseblock is read as it is
+/// written.
+static WAYS: [(Broken, (&str, u8), usize); 11] = [
+    (Broken::Nothing, (LINES, 0), 3584),
+    (Broken::Short(100), (LINES, 0), 3584),
+    (Broken::Places, (LINES, 0), 3584),
     (Broken::OpenRead, ("cannot read a.img\n", 1), 0),
     (
         Broken::Read(ErrorKind::Other, 64),
@@ -140,11 +142,16 @@ static WAYS: [(Broken, (&str, u8), usize); 9] = [
         0,
     ),
     (
-        Broken::Read(ErrorKind::Other, 3071),
+        Broken::Read(ErrorKind::Other, 3199),
         ("cannot read a.img\n", 1),
         0,
     ),
-    (Broken::Places, (LINES, 0), 3072),
+    (
+        Broken::Read(ErrorKind::Other, 3200),
+        ("cannot read a.img\n", 1),
+        3072,
+    ),
+    (Broken::Cut, ("cannot read a.img\n", 1), 0),
     (Broken::OpenWrite, ("cannot write b.img\n", 1), 0),
     (Broken::Write(700), ("cannot write b.img\n", 1), 700),
 ];
@@ -152,7 +159,9 @@ static WAYS: [(Broken, (&str, u8), usize); 9] = [
 #[test]
 fn tells_of_files_of_a_change_that_fail(rt: HostRuntime) -> Result<(), Fail> {
     let alloc = rt.alloc();
-    let image = spare_image(alloc, &small()?)?;
-    let want = changed(alloc, &small()?, 1)?;
+    let mut image = spare_image(alloc, &small()?)?;
+    put_orphan(&mut image, &small()?)?;
+    let mut want = changed(alloc, &small()?, 1)?;
+    put_orphan(&mut want, &small()?)?;
     assert_each(&rt, alloc, image.as_slice(), LINE, &WAYS, want.as_slice())
 }

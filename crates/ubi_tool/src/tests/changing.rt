@@ -6,9 +6,11 @@ use super::pebs::{
     RIGHT, SECOND, SECOND_BOOT, SECOND_OF_6, SECOND_UPDATING, TEXT_0, TEXT_1, TORN, WRONG_6,
     WRONG_9, bytes_of,
 };
+use crate::change::{NewBytes, run_change, run_change_from};
 use crate::check::{run_check, run_check_from};
 use crate::list::{run_list, run_list_from};
 use crate::outcome::Outcome;
+use crate::rename::{run_rename, run_rename_from};
 use crate::same::{run_same, run_same_from};
 use crate::show::{run_show, run_show_from};
 use std::alloc::Global;
@@ -174,6 +176,87 @@ fn is_answered(alloc: Global, first: &[u8], then: &[u8], left: u64) -> Result<bo
             && is_told(&shown, &run_show(alloc, &geometry, first, 1)?, left >= 2)
             && is_compared(alloc, first, then, left)?,
     )
+}
+
+/// Whether the lines of a plan were told, and as many bytes written as the image has; or a refusal, and nothing; and, where it
+/// has to be, what was wanted.
+fn is_written(answer: &Outcome, written: &[u8], want: &Outcome, size: usize, has_to: bool) -> bool {
+    let text = answer.text.as_slice();
+    let is_form = if answer.status == 0 {
+        text.starts_with(b"steps ") && written.len() == size
+    } else {
+        text.starts_with(b"refused ") && written.is_empty()
+    };
+    let is_file = match &want.file {
+        Some(file) => file.as_slice() == written,
+        None => written.is_empty(),
+    };
+    let is_wanted = answer.text == want.text && answer.status == want.status && is_file;
+    is_form && answer.file.is_none() && (!has_to || is_wanted)
+}
+
+/// Whether `change` and `rename` have an answer for a source that changes after so many reads, and the right one if it
+/// doesn't.
+fn is_edited(alloc: Global, first: &[u8], then: &[u8], left: u64) -> Result<bool, Fail> {
+    let geometry = small()?;
+    let new = NewBytes {
+        id: 0,
+        lnum: 0,
+        bytes: &[0x61; 64],
+    };
+    let mut source = Changing { first, then, left };
+    let mut writer = ProbeWriter::new(alloc, 8192, 1000, Failure::Nothing)?;
+    let changed = run_change_from(alloc, &geometry, &mut source, &new, Some(2), &mut writer)?;
+    let want = run_change(alloc, &geometry, first, 0, 0, &[0x61; 64], Some(2))?;
+    let is_changed = is_written(&changed, writer.taken(), &want, first.len(), left == 99);
+    let mut source = Changing { first, then, left };
+    let mut writer = ProbeWriter::new(alloc, 8192, 1000, Failure::Nothing)?;
+    let renamed = run_rename_from(alloc, &geometry, &mut source, 0, b"data", None, &mut writer)?;
+    let want = run_rename(alloc, &geometry, first, 0, b"data", None)?;
+    Ok(is_changed && is_written(&renamed, writer.taken(), &want, first.len(), left == 99))
+}
+
+/// Images of which the first has two eraseblocks that may be taken, and what each changes into.
+static EDITED: [(&[Peb], &[Peb]); 4] = [
+    (
+        &[FIRST, SECOND, A, B, C, ERASED, ERASED],
+        &[FIRST, SECOND, A, B, C, OLD, ERASED],
+    ),
+    (
+        &[FIRST, SECOND, A, B, C, ERASED, ERASED],
+        &[
+            FIRST_BOOT,
+            SECOND_BOOT,
+            TEXT_0,
+            TEXT_1,
+            ERASED,
+            ERASED,
+            TORN,
+        ],
+    ),
+    (
+        &[FIRST_BOOT, SECOND_BOOT, TEXT_0, TEXT_1, ERASED, ERASED],
+        &[FIRST, SECOND, A, B, C, ERASED],
+    ),
+    (
+        &[FIRST, ERASED, A, B, C, ERASED, ERASED],
+        &[ERASED, SECOND, A, B, C, ERASED, ERASED],
+    ),
+];
+
+/// No eraseblock is read more than 12 times, so that the last number of reads is that of sources that don't change.
+#[test]
+fn edits_a_source_that_changes(rt: HostRuntime) -> Result<(), Fail> {
+    let alloc = rt.alloc();
+    for (index, (first, then)) in EDITED.iter().enumerate() {
+        let first = bytes_of(alloc, &small()?, first)?;
+        let then = bytes_of(alloc, &small()?, then)?;
+        for left in 0..100 {
+            let is_right = is_edited(alloc, first.as_slice(), then.as_slice(), left)?;
+            assert!(rt; is_right, "case {index}, after {left} reads");
+        }
+    }
+    Ok(())
 }
 
 #[test]

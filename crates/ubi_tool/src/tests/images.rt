@@ -277,6 +277,12 @@ pub fn put_bytes(
     image.extend_from_slice(&[0xFF; 384][data.len().min(384)..])
 }
 
+/// Adds an eraseblock that no plan touches and no header but those at its begin tells of: a logical eraseblock of no volume.
+pub fn put_orphan(image: &mut Vec<u8>, geometry: &Geometry) -> Result<(), AllocError> {
+    let ec = ec_of(geometry, 0x1234_5678);
+    put_bytes(image, &ec, &write_vid(&plain(5, 0, 0)), &[0x62; 384])
+}
+
 /// The header of a logical eraseblock of a dynamic volume, not copied.
 pub fn plain(vol_id: u32, lnum: u32, sqnum: u64) -> VidHeader {
     VidHeader {

@@ -3,7 +3,7 @@
 use super::answers::{assert_each, assert_line, assert_lines, remove_files, small};
 use super::extract::root_text;
 use super::fake::Broken;
-use super::images::{ROOT, SMALL_DATA, SMALL_NAME, ec_of, overwrite, two_records};
+use super::images::{ROOT, SMALL_DATA, SMALL_NAME, ec_of, overwrite, put_orphan, two_records};
 use super::rename::{LINES, put_tables, spares_image};
 use std::alloc::Global;
 use std::fs;
@@ -192,23 +192,32 @@ fn opens_no_file_of_a_rename_that_is_refused(rt: HostRuntime) -> Result<(), Fail
     )
 }
 
-/// How files fail while a volume is renamed, what is answered, and how many bytes are written.
-static WAYS: [(Broken, (&str, u8), usize); 6] = [
-    (Broken::Nothing, (LINES, 0), 3584),
-    (Broken::Short(100), (LINES, 0), 3584),
+/// How files fail while a volume of an image of eight eraseblocks is renamed, what is answered, and how many bytes are
+/// written. What stands behind the headers of the last eraseblock is read as it is written.
+static WAYS: [(Broken, (&str, u8), usize); 9] = [
+    (Broken::Nothing, (LINES, 0), 4096),
+    (Broken::Short(100), (LINES, 0), 4096),
+    (Broken::Places, (LINES, 0), 4096),
     (Broken::OpenRead, ("cannot read a.img\n", 1), 0),
     (
-        Broken::Read(ErrorKind::Other, 64),
+        Broken::Read(ErrorKind::Other, 3711),
         ("cannot read a.img\n", 1),
         0,
     ),
+    (
+        Broken::Read(ErrorKind::Other, 3712),
+        ("cannot read a.img\n", 1),
+        3584,
+    ),
+    (Broken::Cut, ("cannot read a.img\n", 1), 0),
     (Broken::OpenWrite, ("cannot write b.img\n", 1), 0),
     (Broken::Write(700), ("cannot write b.img\n", 1), 700),
 ];
 
 #[test]
 fn tells_of_files_of_a_rename_that_fail(rt: HostRuntime) -> Result<(), Fail> {
-    let image = spares_image(rt.alloc(), &small()?)?;
+    let mut image = spares_image(rt.alloc(), &small()?)?;
+    put_orphan(&mut image, &small()?)?;
     let line = "rename a.img --id 0 --name data --out b.img --stop 0";
     assert_each(
         &rt,
