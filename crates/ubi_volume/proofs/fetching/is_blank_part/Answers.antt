@@ -1,4 +1,4 @@
-use Rattle.std.proofs.Common.{◌≡◌, ◌+◌, ◌-◌, ◌≤◌, ap, arith, length, sym, ◌∙◌, true, false, drop, take}
+use Rattle.std.proofs.Common.{◌≡◌, ◌≤◌, ap, arith, length, sym, ◌∙◌, drop}
 use Rattle.std.proofs.lemmas.Bool.Decides.{nat_tests}
 use Rattle.ubi_media.specs.Fields.{is_blank}
 use Rattle.ubi_scan.specs.Image.{block}
