@@ -1,6 +1,5 @@
 -- What comparing two sources answers, of whatever they may hold.
-use Rattle.std.proofs.Common.{◌≡◌, ℕ, Bool, true, false, List, refl, subst, sym}
-use Rattle.std.specs.Prelude.{codes}
+use Rattle.std.proofs.Common.{Bool, true, false, refl, subst, sym}
 use Rattle.ubi_scan.specs.Image.{Image}
 use Rattle.ubi_volume.specs.Accepts.{Accepts}
 use Rattle.ubi_compose.specs.Composed.{IsComparison}

@@ -15,7 +15,6 @@ use Rattle.ubi_tool.specs.Program.{IsRead, OfFile, cannot_read, no_file, places,
 use Rattle.ubi_tool.specs.declared.numbers.Numbers.{Numbers}
 use Rattle.ubi_tool.specs.declared.outcome.Outcome.{Outcome}
 use Rattle.ubi_tool.specs.declared.outcome.SidesError.{SidesError}
-use Rattle.ubi_tool.specs.declared.outcome.SidesError.TheVariants as side
 use Rattle.ubi_tool.specs.declared.outcome.ToolError.{ToolError}
 use Rattle.ubi_tool.specs.declared.outcome.ToolError.TheVariants as tool
 

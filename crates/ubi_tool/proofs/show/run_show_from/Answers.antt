@@ -1,6 +1,4 @@
-use Rattle.std.proofs.Common.{◌≡◌, ◌<◌, ◌≤◌, ◌/◌, ap, arith, subst, sym, ◌∙◌}
-use Rattle.ubi_scan.specs.Image.{IsLengthFault, IsWholeSize}
-use Rattle.ubi_scan.specs.Source.{blocks_in}
+use Rattle.std.proofs.Common.{arith}
 use Rattle.ubi_scan.proofs.Narrowed.{source_narrowed}
 use Rattle.ubi_tool.specs.Show.{no_block_from, no_size, shown_from}
 use Rattle.ubi_tool.proofs.Showing.{of_block, of_no_block, of_size}
