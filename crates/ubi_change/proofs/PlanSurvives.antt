@@ -1,17 +1,36 @@
 -- The law: the plan of an attached image, against which no cause stands, survives every cut.
-use Rattle.std.proofs.Common.{◌≡◌, ℕ, subst}
-use Rattle.std.specs.Prelude.{IfSome, None, Option, Some}
+use Rattle.std.proofs.Common.{◌≡◌, ◌≢◌, ◌*◌, ◌/◌, ◌<◌, ◌⊎◌, ◌==◌, ◌&&◌, ◌∷◌, [], List, ap, arith, get_or, get_or-set_other, get_or-set_same, inl, inr, length, length-set, nat_lt, refl, subst, suc, sym, take, true, zero, ◌∙◌, ℕ}
+use Rattle.std.specs.Prelude.{IfSome, None, Option, Some, if◌then◌else◌}
+use Rattle.std.specs.List.{concat}
+use Rattle.std.specs.Simd.{first_chunks}
+use Rattle.std.proofs.Math.Nat as nat
+use Rattle.std.proofs.lemmas.Nat.{div-mul-add}
+use Rattle.std.proofs.lemmas.Bool.{eqb-true, ltb-true}
 use Rattle.std.specs.FinMap.{get}
-use Rattle.ubi_media.specs.Geometry.{Sizes}
+use Rattle.ubi_media.specs.Geometry.{IsGeometry, Sizes}
 use Rattle.ubi_media.specs.Record.{rec_fault}
 use Rattle.ubi_media.proofs.Padding.{half_pad, reserved_within}
-use Rattle.ubi_scan.specs.Image.{Image}
+use Rattle.ubi_media.proofs.Cases.{below_same_or_above}
+use Rattle.ubi_scan.specs.Image.{Image, IsWhole, block, eraseblocks, in_image}
+use Rattle.ubi_scan.proofs.Chunks.{first_chunks-concat, length-concat, length-first_chunks}
+use Rattle.ubi_scan.proofs.Filled.{length-blank}
+use Rattle.ubi_volume.specs.Accepts.{AcceptsBlocks}
 use Rattle.ubi_volume.specs.Attached.{IsAttached, Whole}
 use Rattle.ubi_volume.specs.Meant.{IsVolume}
 use Rattle.ubi_volume.specs.declared.content.Volume.{Volume}
-use Rattle.ubi_change.specs.Laws.{PlanSurvives}
+use Rattle.ubi_change.specs.Cuts.{SurvivesCuts, changed, turn}
+use Rattle.ubi_change.specs.Fitting.{AllFit, fits, only_clears, page_of}
+use Rattle.ubi_change.specs.Laws.{PlanSurvives, left}
+use Rattle.ubi_change.specs.Plan.{plan_of}
+use Rattle.ubi_change.specs.Refused.{first_cause}
+use Rattle.ubi_change.specs.Steps.{after, block_after, step_done, target}
+use Rattle.ubi_change.specs.declared.step.Step.{Step}
+use Rattle.ubi_change.specs.declared.step.Step.TheVariants as step
 use Rattle.ubi_change.proofs.Attached.{survives_all}
-use Rattle.ubi_change.proofs.AttachedImage.{mean_few, seq_narrow}
+use Rattle.ubi_change.proofs.AttachedImage.{mean_few, seq_narrow, whole}
+use Rattle.ubi_change.proofs.PlanFits.{length-done, plan_fits}
+use Rattle.ubi_change.proofs.Premises.{left_of, right_of}
+use Rattle.ubi_change.proofs.Stepped.{length-written}
 
 module _ (image : Image) (a : Whole) (att : IsAttached image a) where
   -- the record of a volume that is meant breaks no rule
@@ -22,9 +41,120 @@ module _ (image : Image) (a : Whole) (att : IsAttached image a) where
       there (means.meaning.each id) in
       subst (λ (z : Sizes). rec_fault z v.entry ≡ None) means.sizes is.sound
 
-pub plan_survives : PlanSurvives
+-- the eraseblocks that the plan of an attached image leaves, cut after any step
+pub plan_survives : (image : Image) (a : Whole) (id lnum : ℕ) (new : List ℕ) (v : Volume) → IsGeometry image.sizes
+    → IsAttached image a → get a.meaning.volumes id ≡ Some v → in_image first_cause image a id lnum new ≡ None
+    → in_image SurvivesCuts image a.meaning id lnum new (in_image plan_of image a v.entry id lnum new)
 plan_survives image a id lnum new v g att there allowed =
     let narrow = seq_narrow image a att in
     let r = sound image a att id v there in
     survives_all image g a att (mean_few image a att) narrow id lnum new v there allowed
     (half_pad image.sizes v.entry r g) (reserved_within image.sizes v.entry r)
+
+-- ---- the same, of bytes
+
+module _ (s : Sizes) (g : IsGeometry s) where
+  -- each eraseblock has its size
+  abbrev AreSized : List (List ℕ) → Type 0
+  AreSized bs = (i : ℕ) → i < length bs → length (get_or bs i []) ≡ s.peb_size
+
+  program_within : (bs : List (List ℕ)) (p page : ℕ) (bytes : List ℕ) → fits s bs (step.Program p page bytes) ≡ true
+      → (p < length bs) × (page < s.peb_size / s.page) × (length bytes ≡ s.page)
+  program_within bs p page bytes fit =
+      let first = nat_lt p (length bs) && nat_lt page (s.peb_size / s.page) in
+      let all = left_of (first && (length bytes == s.page)) (only_clears (page_of s (block bs p) page) bytes) fit in
+      let two = left_of first (length bytes == s.page) all in (
+        ltb-true _ _ (left_of (nat_lt p (length bs)) (nat_lt page (s.peb_size / s.page)) two),
+        ltb-true _ _ (right_of (nat_lt p (length bs)) (nat_lt page (s.peb_size / s.page)) two),
+        eqb-true _ _ (right_of first (length bytes == s.page) all),
+      )
+
+  sized_after : (bs : List (List ℕ)) (next : Step) → AreSized bs → fits s bs next ≡ true
+      → length (block_after s (block bs (target next)) next) ≡ s.peb_size
+  sized_after bs (step.Erase p) sized fit = length-blank s.peb_size
+  sized_after bs (step.Program p page bytes) sized fit =
+      let is = program_within bs p page bytes fit in
+      let whole : length (block bs p) ≡ s.peb_size = sized p is.0 in
+      let inside : page < length (block bs p) / s.page = rw whole is.1 in
+      length-written s.page page bytes (block bs p) (omega (arith, g.page_from)) is.2 inside ∙ whole
+
+  sized_next : (bs : List (List ℕ)) (next : Step) → AreSized bs → fits s bs next ≡ true → AreSized (step_done s bs next)
+  sized_next bs next sized fit i l = by_case (below_same_or_above i (target next))
+    where
+      x : List ℕ
+      x = block_after s (block bs (target next)) next
+
+      inside : i < length bs
+      inside = let n = length-set bs (target next) x in omega arith
+
+      other : i ≢ target next → length (get_or (step_done s bs next) i []) ≡ s.peb_size
+      other apart = ap length (get_or-set_other bs (target next) i x [] apart) ∙ sized i inside
+
+      by_case : (i < target next) ⊎ (i ≡ target next) ⊎ (target next < i)
+          → length (get_or (step_done s bs next) i []) ≡ s.peb_size
+      by_case (inl low) = other (omega arith)
+      by_case (inr (inl same)) =
+          ap (λ (k : ℕ). length (get_or (step_done s bs next) k [])) same
+          ∙ ap length (get_or-set_same bs (target next) x [] (subst (λ (k : ℕ). k < length bs) same inside))
+          ∙ sized_after bs next sized fit
+      by_case (inr (inr high)) = other (omega arith)
+
+  sized_cut : (bs : List (List ℕ)) (steps : List Step) (k : ℕ) → AreSized bs → AllFit s bs steps
+      → AreSized (after s bs steps k)
+  sized_cut bs [] zero sized fit = sized
+  sized_cut bs [] (suc k) sized fit = sized
+  sized_cut bs (x ∷ xs) zero sized fit = sized
+  sized_cut bs (x ∷ xs) (suc k) sized fit =
+      sized_cut (step_done s bs x) xs k (sized_next bs x sized (fit 0 x refl)) (λ i next at. fit (suc i) next at)
+
+-- the image that is left is whole, and cut into the eraseblocks that are left
+module _ (image : Image) (g : IsGeometry image.sizes) (a : Whole) (att : IsAttached image a) (steps : List Step)
+    (fit : in_image AllFit image steps) (k : ℕ) where
+  abbrev size : ℕ
+  size = image.sizes.peb_size
+
+  abbrev cs : List (List ℕ)
+  cs = in_image after image steps k
+
+  some : 0 < size
+  some = omega (arith, g.page_from, g.peb_from)
+
+  sized : (i : ℕ) → i < length cs → length (get_or cs i []) ≡ size
+  sized = sized_cut image.sizes g (eraseblocks image) steps k (whole image g a att) fit
+
+  many : length (concat cs) ≡ length image.bytes
+  many =
+      let count = length-concat size cs sized in
+      let kept : length cs ≡ length (eraseblocks image) = length-done image.sizes (eraseblocks image) (take k steps) in
+      let blocks = length-first_chunks size (length image.bytes / size) image.bytes in
+      let parts = nat.div-add-mod (length image.bytes) size in
+      let none = att.accepted.whole.cut in
+      count ∙ ap (λ n. n * size) (kept ∙ blocks) ∙ omega arith
+
+  pub left_whole : IsWhole (left image steps k)
+  left_whole =
+      let whole = att.accepted.whole in
+      record { some = rw many whole.some; cut = rw many whole.cut; fits = rw many whole.fits }
+
+  pub left_cut : eraseblocks (left image steps k) ≡ in_image after image steps k
+  left_cut =
+      let count : length (concat cs) / size ≡ length cs =
+      ap (λ n. n / size) (length-concat size cs sized ∙ omega arith) ∙ div-mul-add (length cs) size 0 some in
+      ap (λ n. first_chunks size n (concat cs)) count ∙ first_chunks-concat size cs sized
+
+pub plan_survives_law : PlanSurvives
+plan_survives_law image a id lnum new v g att there allowed =
+    let steps = in_image plan_of image a v.entry id lnum new in
+    let cuts = plan_survives image a id lnum new v g att there allowed in
+    let r = sound image a att id v there in (
+      cuts,
+      λ bytes.
+          let fit : in_image AllFit image steps =
+          plan_fits image g a att (mean_few image a att) (seq_narrow image a att) id lnum new v there allowed
+          (half_pad image.sizes v.entry r g) (reserved_within image.sizes v.entry r) bytes in
+          λ k few. record {
+            whole = left_whole image g a att steps fit k;
+            accepted = subst (λ bs. AcceptsBlocks image.sizes bs (if nat_lt k (turn image.sizes steps new) then a.meaning
+                else changed a.meaning id lnum new)) (sym (left_cut image g a att steps fit k)) (cuts.each k few);
+          },
+    )

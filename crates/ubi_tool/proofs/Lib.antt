@@ -7,8 +7,15 @@ pub mod Defaults
 pub mod Edited
 pub mod Ended
 pub mod Extracted
+pub mod GivenWords
+pub mod Lacking
+pub mod Levels
 pub mod Listing
 pub mod Normalised
 pub mod Outcomes
 pub mod Requests
 pub mod Showing
+pub mod Taken
+pub mod ToolVectors
+pub mod Uses
+pub mod Walks

@@ -1,10 +1,8 @@
 -- The names of the commands, and what the words behind one ask for.
 use Rattle.std.specs.Borrow.{Bor}
-use Rattle.std.specs.Prelude.{◌≡◌, ◌↔◌, ◌∷◌, ◌<◌, ◌^◌, [], List, Option, Some, codes, option_map, unwrap_or, ℕ}
+use Rattle.std.specs.Prelude.{◌≡◌, ◌↔◌, ◌∷◌, ◌<◌, ◌^◌, [], List, None, Option, Some, codes, option_map, unwrap_or, ℕ}
 use Rattle.std.specs.Str.Parse.{IsNumeral, digits_value, without_leading_plus}
-use Rattle.clap.specs.Simple.{subcommand_rows_of}
-use Rattle.clap.specs.Walk.{Row, first_of, one_of}
-use Rattle.clap.specs.declared.parser.matches.ArgMatches.{ArgMatches}
+use Rattle.clap.specs.Walk.{Row, Text, first_of, one_of}
 use Rattle.ubi_tool.specs.declared.command_line.Change.{Change}
 use Rattle.ubi_tool.specs.declared.command_line.Rename.{Rename}
 use Rattle.ubi_tool.specs.declared.command_line.Request.{Request}
@@ -28,23 +26,19 @@ abbrev pub command_names : List (List ℕ)
 command_names = codes "list" ∷ codes "check" ∷ codes "show" ∷ codes "extract" ∷ codes "compose" ∷ codes "normalise"
     ∷ codes "same" ∷ codes "change" ∷ codes "rename" ∷ []
 
--- the words behind the command that was named, by the names of its arguments
-abbrev pub words_behind : ArgMatches → Option (List Row)
-words_behind m = option_map (λ p. p.1) (subcommand_rows_of m)
-
 -- the words give this text under the name
 abbrev pub HasText : List Row → List ℕ → Bor (List ℕ) → Type 0
 HasText words name text = first_of name words ≡ Some text.now
 
--- they give this number in decimal, where a plus may stand first
+-- they give this number of 32 bits in decimal, where a plus may stand first
 abbrev pub HasNumber : List Row → List ℕ → ℕ → Type 0
 HasNumber words name n = (digits : List ℕ)
     × (option_map without_leading_plus (one_of name words) ≡ Some digits)
-    × IsNumeral 10 digits × (n ≡ digits_value 10 digits)
+    × IsNumeral 10 digits × (n ≡ digits_value 10 digits) × (n < 2 ^ 32)
 
--- this is the number that they give, where they give one of 32 bits
+-- this is the number that they give, where they give one
 abbrev pub MayHaveNumber : List Row → List ℕ → Option ℕ → Type 0
-MayHaveNumber words name number = (n : ℕ) → (number ≡ Some n) ↔ (HasNumber words name n × (n < 2 ^ 32))
+MayHaveNumber words name number = (n : ℕ) → (number ≡ Some n) ↔ HasNumber words name n
 
 -- they give this number, or none, and then it is the default
 abbrev pub HasNumberOr : ℕ → List Row → List ℕ → ℕ → Type 0
@@ -90,3 +84,12 @@ Asks words (request.Change numbers image change) = AsksNumbers words numbers × 
     × AsksChange words change
 Asks words (request.Rename numbers image rename) = AsksNumbers words numbers × HasText words (codes "IMAGE") image
     × AsksRename words rename
+
+-- the command that was named, with its words, is the request
+abbrev pub IsRequest : Option (Text × List Row) → Request → Type 0
+IsRequest named r = (words : List Row) × (named ≡ Some (command_name r, words)) × Asks words r
+
+-- the answer is one of these, or none where there is none
+abbrev pub IsOneOf : {X : Type 0} → (X → Type 0) → Option X → Type 0
+IsOneOf {X = X} P None = (x : X) → P x → ⊥
+IsOneOf {X = X} P (Some x) = P x

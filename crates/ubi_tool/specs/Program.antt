@@ -17,7 +17,7 @@ use Rattle.ubi_tool.specs.Numbers.{sizes_of}
 use Rattle.ubi_tool.specs.Rename.{RenamesInto}
 use Rattle.ubi_tool.specs.Same.{ComparesOf}
 use Rattle.ubi_tool.specs.Show.{ShowsOf}
-use Rattle.ubi_tool.specs.Tool.{Requests}
+use Rattle.ubi_tool.specs.Tool.{Requests, Takes}
 use Rattle.ubi_tool.specs.declared.command_line.Request.{Request}
 use Rattle.ubi_tool.specs.declared.command_line.Request.TheVariants as request
 use Rattle.ubi_tool.specs.declared.image_file.Unread.{Unread}
@@ -95,7 +95,8 @@ IsAnswerTo (request.Change numbers path change) =
 IsAnswerTo (request.Rename numbers path rename) =
     OfFile numbers path.now (RenamesInto rename.id rename.name.now rename.stop rename.out.now)
 
--- what the program can answer: nothing for wrong words, or what the request that the words are can be answered
+-- what the program can answer: nothing where the command line doesn't take the words, and else what the request that
+-- they are can be answered
 pub data IsAnswer (words : List (List ℕ)) : Outcome → Type 0 where
-  wrong_words : {o : Outcome} → Gives o (says [] 2) → IsAnswer words o
+  wrong_words : {o : Outcome} → (Takes words → ⊥) → Gives o (says [] 2) → IsAnswer words o
   answered : {o : Outcome} (asked : Request) → Requests words asked → IsAnswerTo asked o → IsAnswer words o

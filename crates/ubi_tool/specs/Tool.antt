@@ -1,9 +1,10 @@
 -- The command line: which commands there are, and which words each takes.
 use Rattle.std.specs.Prelude.{◌≡◌, ◌∷◌, ◌++◌, [], List, Some, codes, pos, true, false}
+use Rattle.clap.specs.Faults.{fault_of}
 use Rattle.clap.specs.Simple.{App, Shape, new_rule, new_shape, subcommand_of}
-use Rattle.clap.specs.Walk.{Row, Rule, Text}
+use Rattle.clap.specs.Walk.{Rule, Text}
 use Rattle.clap.specs.declared.builder.value_parser.ValueParser.TheVariants as parser
-use Rattle.ubi_tool.specs.CommandLine.{Asks, command_name}
+use Rattle.ubi_tool.specs.CommandLine.{IsRequest}
 use Rattle.ubi_tool.specs.declared.command_line.Request.{Request}
 
 -- an argument that has to be given
@@ -75,6 +76,10 @@ tool = record {
   subs = list ∷ check ∷ show ∷ extract ∷ compose ∷ normalise ∷ same ∷ change ∷ rename ∷ [];
 }
 
--- the words, the program's name first, are this request
+-- the command line takes the words, the program's name first: nothing is wrong with them, and they ask for no help
+abbrev pub Takes : List Text → Type 0
+Takes words = fault_of tool words ≡ []
+
+-- the words are taken, and are this request
 abbrev pub Requests : List Text → Request → Type 0
-Requests words r = (rows : List Row) × (subcommand_of tool words ≡ Some (command_name r, rows)) × Asks rows r
+Requests words r = Takes words × IsRequest (subcommand_of tool words) r

@@ -1,14 +1,13 @@
 //! The command line: which words there are, and what they ask for.
 
-ghost use Rattle.std.specs.Prelude.{◌≡◌, ◌∷◌, [], IfOk, IfSome, Some, codes, false};
-ghost use Rattle.clap.specs.Matches.{subcommand_name_of};
+ghost use Rattle.std.specs.Prelude.{◌≡◌, ◌∷◌, [], IfOk, codes, false};
 ghost use Rattle.clap.specs.Built.{subcommand_names};
-ghost use Rattle.clap.specs.Simple.{app_of, new_rule, new_shape};
+ghost use Rattle.clap.specs.Simple.{app_of, new_rule, new_shape, subcommand_rows_of};
 ghost use Rattle.clap.specs.Walk.{Text, rule_of};
-ghost use Rattle.ubi_tool.specs.CommandLine.{Asks, AsksChange, AsksNumbers, AsksRename, HasNumber, HasText, MayHaveNumber, command_name, command_names, words_behind};
+ghost use Rattle.ubi_tool.specs.CommandLine.{AsksChange, AsksNumbers, AsksRename, HasNumber, HasText, IsOneOf, IsRequest, MayHaveNumber, command_names};
 ghost use Rattle.ubi_tool.specs.Tool as tool;
 ghost use Rattle.ubi_tool.specs.Tool.{tool as whole};
-ghost use Rattle.ubi_tool.specs.inner.CommandLine.{HasOneMore, alone, words_in};
+ghost use Rattle.ubi_tool.specs.inner.CommandLine.{HasOneMore, IsAskedBy, alone, words_in};
 
 use crate::numbers::Numbers;
 use clap::{Arg, ArgMatches, Command, value_parser};
@@ -147,28 +146,35 @@ fn with_command<'a>(
     tool.subcommand(command?)
 }
 
-/// What is asked for, where the words name a command and have all that it needs.
+/// What is asked for, where the words name a command and have all that it needs. Of words that the command line takes
+/// that is always so.
 pub fn request_of<'a>(matches: &'a ArgMatches<'_>) -> Option<Request<'a>>
-    ensures command { IfSome result (λ r. subcommand_name_of matches.now ≡ Some (command_name r)) }
-    ensures words { IfSome result (λ r. IfSome (words_behind matches.now) (λ words. Asks words r)) }
+    ensures { IsOneOf (IsRequest (subcommand_rows_of matches.now)) result }
 {
-    match matches.subcommand()? {
-        ("list", inner) => list_of(inner),
-        ("check", inner) => check_of(inner),
-        ("show", inner) => show_of(inner),
-        ("extract", inner) => extract_of(inner),
-        ("compose", inner) => compose_of(inner),
-        ("normalise", inner) => normalise_of(inner),
-        ("same", inner) => same_of(inner),
-        ("change", inner) => change_of(inner),
-        ("rename", inner) => rename_of(inner),
+    let (name, inner) = matches.subcommand()?;
+    request_under(name, inner)
+}
+
+/// What the words of the command of this name ask for.
+fn request_under<'a>(name: &str, matches: &'a ArgMatches<'_>) -> Option<Request<'a>>
+    ensures { IsOneOf (IsAskedBy name.now (words_in matches.now)) result }
+{
+    match name {
+        "list" => list_of(matches),
+        "check" => check_of(matches),
+        "show" => show_of(matches),
+        "extract" => extract_of(matches),
+        "compose" => compose_of(matches),
+        "normalise" => normalise_of(matches),
+        "same" => same_of(matches),
+        "change" => change_of(matches),
+        "rename" => rename_of(matches),
         _ => None,
     }
 }
 
 fn list_of<'a>(matches: &'a ArgMatches<'_>) -> Option<Request<'a>>
-    ensures command { IfSome result (λ r. command_name r ≡ codes "list") }
-    ensures words { IfSome result (Asks (words_in matches.now)) }
+    ensures { IsOneOf (IsAskedBy (codes "list") (words_in matches.now)) result }
 {
     Some(Request::List {
         numbers: numbers_of(matches)?,
@@ -177,8 +183,7 @@ fn list_of<'a>(matches: &'a ArgMatches<'_>) -> Option<Request<'a>>
 }
 
 fn check_of<'a>(matches: &'a ArgMatches<'_>) -> Option<Request<'a>>
-    ensures command { IfSome result (λ r. command_name r ≡ codes "check") }
-    ensures words { IfSome result (Asks (words_in matches.now)) }
+    ensures { IsOneOf (IsAskedBy (codes "check") (words_in matches.now)) result }
 {
     Some(Request::Check {
         numbers: numbers_of(matches)?,
@@ -187,8 +192,7 @@ fn check_of<'a>(matches: &'a ArgMatches<'_>) -> Option<Request<'a>>
 }
 
 fn show_of<'a>(matches: &'a ArgMatches<'_>) -> Option<Request<'a>>
-    ensures command { IfSome result (λ r. command_name r ≡ codes "show") }
-    ensures words { IfSome result (Asks (words_in matches.now)) }
+    ensures { IsOneOf (IsAskedBy (codes "show") (words_in matches.now)) result }
 {
     Some(Request::Show {
         numbers: numbers_of(matches)?,
@@ -198,8 +202,7 @@ fn show_of<'a>(matches: &'a ArgMatches<'_>) -> Option<Request<'a>>
 }
 
 fn extract_of<'a>(matches: &'a ArgMatches<'_>) -> Option<Request<'a>>
-    ensures command { IfSome result (λ r. command_name r ≡ codes "extract") }
-    ensures words { IfSome result (Asks (words_in matches.now)) }
+    ensures { IsOneOf (IsAskedBy (codes "extract") (words_in matches.now)) result }
 {
     Some(Request::Extract {
         numbers: numbers_of(matches)?,
@@ -210,8 +213,7 @@ fn extract_of<'a>(matches: &'a ArgMatches<'_>) -> Option<Request<'a>>
 }
 
 fn compose_of<'a>(matches: &'a ArgMatches<'_>) -> Option<Request<'a>>
-    ensures command { IfSome result (λ r. command_name r ≡ codes "compose") }
-    ensures words { IfSome result (Asks (words_in matches.now)) }
+    ensures { IsOneOf (IsAskedBy (codes "compose") (words_in matches.now)) result }
 {
     Some(Request::Compose {
         numbers: numbers_of(matches)?,
@@ -223,8 +225,7 @@ fn compose_of<'a>(matches: &'a ArgMatches<'_>) -> Option<Request<'a>>
 }
 
 fn normalise_of<'a>(matches: &'a ArgMatches<'_>) -> Option<Request<'a>>
-    ensures command { IfSome result (λ r. command_name r ≡ codes "normalise") }
-    ensures words { IfSome result (Asks (words_in matches.now)) }
+    ensures { IsOneOf (IsAskedBy (codes "normalise") (words_in matches.now)) result }
 {
     Some(Request::Normalise {
         numbers: numbers_of(matches)?,
@@ -234,8 +235,7 @@ fn normalise_of<'a>(matches: &'a ArgMatches<'_>) -> Option<Request<'a>>
 }
 
 fn same_of<'a>(matches: &'a ArgMatches<'_>) -> Option<Request<'a>>
-    ensures command { IfSome result (λ r. command_name r ≡ codes "same") }
-    ensures words { IfSome result (Asks (words_in matches.now)) }
+    ensures { IsOneOf (IsAskedBy (codes "same") (words_in matches.now)) result }
 {
     Some(Request::Same {
         numbers: numbers_of(matches)?,
@@ -245,8 +245,7 @@ fn same_of<'a>(matches: &'a ArgMatches<'_>) -> Option<Request<'a>>
 }
 
 fn change_of<'a>(matches: &'a ArgMatches<'_>) -> Option<Request<'a>>
-    ensures command { IfSome result (λ r. command_name r ≡ codes "change") }
-    ensures words { IfSome result (Asks (words_in matches.now)) }
+    ensures { IsOneOf (IsAskedBy (codes "change") (words_in matches.now)) result }
 {
     Some(Request::Change {
         numbers: numbers_of(matches)?,
@@ -256,8 +255,7 @@ fn change_of<'a>(matches: &'a ArgMatches<'_>) -> Option<Request<'a>>
 }
 
 fn rename_of<'a>(matches: &'a ArgMatches<'_>) -> Option<Request<'a>>
-    ensures command { IfSome result (λ r. command_name r ≡ codes "rename") }
-    ensures words { IfSome result (Asks (words_in matches.now)) }
+    ensures { IsOneOf (IsAskedBy (codes "rename") (words_in matches.now)) result }
 {
     Some(Request::Rename {
         numbers: numbers_of(matches)?,
@@ -502,7 +500,7 @@ fn number<'a>(alloc: Global, name: &'a str, help: &'a str) -> Arg<'a>
 }
 
 fn leb_change<'a>(matches: &'a ArgMatches<'_>) -> Option<Change<'a>>
-    ensures { IfSome result (AsksChange (words_in matches.now)) }
+    ensures { IsOneOf (AsksChange (words_in matches.now)) result }
 {
     Some(Change {
         id: number_of(matches, "id")?,
@@ -514,7 +512,7 @@ fn leb_change<'a>(matches: &'a ArgMatches<'_>) -> Option<Change<'a>>
 }
 
 fn volume_rename<'a>(matches: &'a ArgMatches<'_>) -> Option<Rename<'a>>
-    ensures { IfSome result (AsksRename (words_in matches.now)) }
+    ensures { IsOneOf (AsksRename (words_in matches.now)) result }
 {
     Some(Rename {
         id: number_of(matches, "id")?,
@@ -525,7 +523,7 @@ fn volume_rename<'a>(matches: &'a ArgMatches<'_>) -> Option<Rename<'a>>
 }
 
 fn numbers_of(matches: &ArgMatches<'_>) -> Option<Numbers>
-    ensures { IfSome result (AsksNumbers (words_in matches.now)) }
+    ensures { IsOneOf (AsksNumbers (words_in matches.now)) result }
 {
     Some(Numbers {
         peb_size: number_of(matches, "peb")?,
@@ -538,14 +536,14 @@ fn numbers_of(matches: &ArgMatches<'_>) -> Option<Numbers>
 
 /// The text that a word gives.
 fn text_of<'a>(matches: &'a ArgMatches<'_>, name: &str) -> Option<&'a str>
-    ensures { IfSome result (HasText (words_in matches.now) name.now) }
+    ensures { IsOneOf (HasText (words_in matches.now) name.now) result }
 {
     matches.get_str(name)
 }
 
 /// The number that an option gives.
 fn number_of(matches: &ArgMatches<'_>, name: &str) -> Option<u32>
-    ensures number { IfSome result (HasNumber (words_in matches.now) name.now) }
+    ensures one { IsOneOf (HasNumber (words_in matches.now) name.now) result }
     ensures whole { MayHaveNumber (words_in matches.now) name.now result }
 {
     matches.get_one::<u32>(name)

@@ -18,6 +18,7 @@ mod memory;
 mod normal;
 mod normalise;
 mod normalise_files;
+mod once;
 mod pebs;
 mod printing;
 mod progress;

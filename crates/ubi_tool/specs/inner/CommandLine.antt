@@ -3,9 +3,11 @@ use Rattle.std.specs.Prelude.{◌≡◌, [], IfOk, List, Result, true}
 use Rattle.std.specs.declared.alloc.AllocError.{AllocError}
 use Rattle.clap.specs.Simple.{App, Shape, app_of, with_subcommand}
 use Rattle.clap.specs.Matches.{found_of}
-use Rattle.clap.specs.Walk.{Row, rows_of}
+use Rattle.clap.specs.Walk.{Row, Text, rows_of}
 use Rattle.clap.specs.declared.builder.command.Command.{Command}
 use Rattle.clap.specs.declared.parser.matches.ArgMatches.{ArgMatches}
+use Rattle.ubi_tool.specs.CommandLine.{Asks, command_name}
+use Rattle.ubi_tool.specs.declared.command_line.Request.{Request}
 
 -- a command that has none below it
 abbrev pub alone : Shape → App
@@ -19,3 +21,7 @@ HasOneMore old made new = (s : Shape) → s.is_plain ≡ true → IfOk made (λ 
 -- the words of a command, by the names of its arguments
 abbrev pub words_in : ArgMatches → List Row
 words_in m = rows_of (found_of m)
+
+-- the words of the command of this name are the request
+abbrev pub IsAskedBy : Text → List Row → Request → Type 0
+IsAskedBy name words r = (command_name r ≡ name) × Asks words r

@@ -1,6 +1,7 @@
 //! What is told of long work.
 
 use super::fake::{Broken, FakeFiles};
+use crate::commands::run_words;
 use crate::progress::Told;
 use std::alloc::Global;
 use std::cell::RefCell;
@@ -42,5 +43,34 @@ fn tells_nothing_of_short_work_or_to_nobody(rt: HostRuntime) -> Result<(), Fail>
     let alloc = rt.alloc();
     assert!(rt; told(alloc, (1 << 28) - 1, true)?.as_str() == "");
     assert!(rt; told(alloc, 1 << 30, false)?.as_str() == "");
+    Ok(())
+}
+
+/// The words that normalise an image of eraseblocks of 2 MiB.
+static LONG: [&str; 7] = [
+    "ubi_tool",
+    "normalise",
+    "a",
+    "--out",
+    "b",
+    "--peb=2097152",
+    "--page=64",
+];
+
+/// The two eraseblocks of the normal image are 4 of 256 MiB, and are written by 1 MiB at a time.
+#[test]
+fn tells_of_a_long_image(rt: HostRuntime) -> Result<(), Fail> {
+    let alloc = rt.alloc();
+    let shown = RefCell::new(String::new(alloc));
+    let written = RefCell::new(Vec::new(alloc));
+    let files = FakeFiles::new(&[0xFF], Broken::Blank(1 << 28), &written, &shown);
+    let mut words = Vec::new(alloc);
+    for word in LONG {
+        words.push(String::from_str(alloc, word)?)?;
+    }
+    let outcome = run_words(&files, alloc, words.as_slice(), true)?;
+    assert_eq!(rt; outcome.text.as_slice(), b"blocks 2\n".as_slice());
+    let shown = shown.into_inner();
+    assert!(rt; shown.as_str() == "\r1 % of the image\r\x1b[K", "{shown}");
     Ok(())
 }

@@ -37,7 +37,7 @@ fn assert_wrong(rt: &impl Abort, alloc: Global, cases: &[(&str, &str)]) -> Resul
 }
 
 /// Lines that name no command or ask for help, with what is shown.
-static NO_COMMAND: [(&str, &str); 14] = [
+static NO_COMMAND: [(&str, &str); 20] = [
     ("", "requires a subcommand"),
     ("--help", "Usage: ubi_tool"),
     ("--help", "ubi_tool list dump.img --peb 131072 --page 2048"),
@@ -52,6 +52,12 @@ static NO_COMMAND: [(&str, &str); 14] = [
     ("normalise --help", "Usage: ubi_tool normalise"),
     ("change --help", "Usage: ubi_tool change"),
     ("rename --help", "Usage: ubi_tool rename"),
+    ("list --help", "[default: one page]"),
+    ("list --help", "[default: two pages]"),
+    ("list --help", "[default: 1048576]"),
+    ("compose --help", "follow [default: 0]"),
+    ("compose --help", "number [default: 0]"),
+    ("change --help", "[default: all]"),
 ];
 
 #[test]

@@ -9,6 +9,6 @@ returns-clause-whole c =
     (found_of c.args.matches.now) c.args.name.now c.get_one.result (λ t r gives. gives.0)
     c.get_one.ensures.none c.get_one.ensures.value
 
-pub returns-clause-number : goal.returns-clause-number
-returns-clause-number c =
+pub returns-clause-one : goal.returns-clause-one
+returns-clause-one c =
     one_given (found_of c.args.matches.now) c.args.name.now c.get_one.result (returns-clause-whole c)

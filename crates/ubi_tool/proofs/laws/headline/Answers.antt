@@ -2,7 +2,7 @@ use Rattle.ubi_volume.proofs.Either.{accepted_or_refused}
 use Rattle.ubi_volume.proofs.One.{Accepts-unique, never_accepted_and_refused}
 use Rattle.ubi_volume.proofs.OneCause.{one_cause}
 use Rattle.ubi_compose.proofs.Form.{normalising}
-use Rattle.ubi_change.proofs.PlanSurvives.{plan_survives}
+use Rattle.ubi_change.proofs.PlanSurvives.{plan_survives_law}
 use Rattle.ubi_tool.proofs.laws.headline.Goals as goal
 
 pub returns : goal.returns
@@ -12,5 +12,5 @@ returns c = record {
   accepted_or_refused = accepted_or_refused;
   never_both = never_accepted_and_refused;
   one_cause = one_cause;
-  atomic = plan_survives;
+  atomic = plan_survives_law;
 }

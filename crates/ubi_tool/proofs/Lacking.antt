@@ -1,0 +1,47 @@
+-- Words that lack what a command needs are no request of it.
+use Rattle.std.proofs.Common.{◌≡◌, ◌∙◌, List, codes, false, refl, sym, true≢false, ℕ}
+use Rattle.std.specs.Str.{bytes_eq}
+use Rattle.std.proofs.lemmas.Slice.Eq.{bytes_eq-Decides}
+use Rattle.clap.specs.Walk.{Row, Text}
+use Rattle.ubi_tool.specs.CommandLine.{AsksChange, AsksNumbers, AsksRename, HasNumber}
+use Rattle.ubi_tool.specs.inner.CommandLine.{IsAskedBy}
+use Rattle.ubi_tool.specs.declared.command_line.Change.{Change}
+use Rattle.ubi_tool.specs.declared.command_line.Rename.{Rename}
+use Rattle.ubi_tool.specs.declared.command_line.Request.{Request}
+use Rattle.ubi_tool.specs.declared.command_line.Request.TheVariants as request
+use Rattle.ubi_tool.specs.declared.numbers.Numbers.{Numbers}
+
+apart : (a b : Text) → bytes_eq a b ≡ false → a ≡ b → ⊥
+apart a b differ same = true≢false (sym ((bytes_eq-Decides a b).1 same) ∙ differ)
+
+pub no_numbers : (name : Text) (rows : List Row) → ((n : Numbers) → AsksNumbers rows n → ⊥) → (r : Request)
+    → IsAskedBy name rows r → ⊥
+no_numbers name rows none (request.List n image) asked = none n asked.1.0
+no_numbers name rows none (request.Check n image) asked = none n asked.1.0
+no_numbers name rows none (request.Show n image block) asked = none n asked.1.0
+no_numbers name rows none (request.Extract n image id out) asked = none n asked.1.0
+no_numbers name rows none (request.Compose n spec out spares seq) asked = none n asked.1.0
+no_numbers name rows none (request.Normalise n image out) asked = none n asked.1.0
+no_numbers name rows none (request.Same n left right) asked = none n asked.1.0
+no_numbers name rows none (request.Change n image change) asked = none n asked.1.0
+no_numbers name rows none (request.Rename n image rename) asked = none n asked.1.0
+
+pub no_block : (rows : List Row) → ((n : ℕ) → HasNumber rows (codes "block") n → ⊥) → (r : Request)
+    → IsAskedBy (codes "show") rows r → ⊥
+no_block rows none (request.Show n image block) asked = none block asked.1.2
+no_block rows none _ asked = apart _ _ refl asked.0
+
+pub no_id : (rows : List Row) → ((n : ℕ) → HasNumber rows (codes "id") n → ⊥) → (r : Request)
+    → IsAskedBy (codes "extract") rows r → ⊥
+no_id rows none (request.Extract n image id out) asked = none id asked.1.2
+no_id rows none _ asked = apart _ _ refl asked.0
+
+pub no_change : (rows : List Row) → ((c : Change) → AsksChange rows c → ⊥) → (r : Request)
+    → IsAskedBy (codes "change") rows r → ⊥
+no_change rows none (request.Change n image change) asked = none change asked.1.2
+no_change rows none _ asked = apart _ _ refl asked.0
+
+pub no_rename : (rows : List Row) → ((c : Rename) → AsksRename rows c → ⊥) → (r : Request)
+    → IsAskedBy (codes "rename") rows r → ⊥
+no_rename rows none (request.Rename n image rename) asked = none rename asked.1.2
+no_rename rows none _ asked = apart _ _ refl asked.0

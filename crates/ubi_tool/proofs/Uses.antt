@@ -1,0 +1,202 @@
+-- What a use of an argument leaves among the words of a command, where the words pass.
+use Rattle.std.proofs.Common.{◌≡◌, ◌∙◌, ◌&&◌, ◌||◌, ◌++◌, ◌==◌, ◌≤◌, ◌∷◌, [], Bool, List, None, Option, Some, ap, append-nil, arith, cond, false, length, not, refl, subst, sym, true, true≢false, ℕ}
+use Rattle.std.specs.Prelude.{IfSome, codes, find, pos}
+use Rattle.std.specs.List.{list_all, list_any}
+use Rattle.std.specs.Option.{option_map_or}
+use Rattle.std.specs.Str.{bytes_eq}
+use Rattle.std.proofs.lemmas.Bool.{eqb-true, ne_eqb}
+use Rattle.clap.specs.Facts.{unwrap_or_range}
+use Rattle.clap.specs.Faults.{action_fault, set_fault, use_fault, values_fault}
+use Rattle.clap.specs.Kinds.{Kinds, or_else, range_kinds}
+use Rattle.clap.specs.Takes.{value_passes}
+use Rattle.clap.specs.Values.{is_request}
+use Rattle.clap.specs.Walk.{Row, Rule, Text, action_of, at_row, has_row, is_empty, more_values, most_values, reading_by, used, used_by_id, values_or_missing, with_values, without}
+use Rattle.clap.specs.declared.builder.action.ArgAction.{ArgAction}
+use Rattle.clap.specs.declared.builder.action.ArgAction.TheVariants as action
+use Rattle.clap.specs.declared.builder.value_parser.ValueParser.{ValueParser}
+use Rattle.clap.specs.declared.builder.value_parser.ValueParser.TheVariants as parser
+use Rattle.clap.specs.declared.parser.matches.ValueSource.TheVariants.{CommandLine}
+use Rattle.clap.proofs.WalkLemmas.{both}
+
+-- ---- arguments
+
+abbrev pub is_set : ArgAction → Bool
+is_set action.Set = true
+is_set _ = false
+
+-- the names of the arguments that are numbers
+abbrev pub is_number : Text → Bool
+is_number id = list_any (λ name. bytes_eq name id)
+    (codes "peb" ∷ codes "page" ∷ codes "vid" ∷ codes "data" ∷ codes "pebs" ∷ codes "block" ∷ codes "id" ∷ codes "spares"
+    ∷ codes "seq" ∷ codes "lnum" ∷ codes "stop" ∷ [])
+
+abbrev pub is_word : Option ValueParser → Bool
+is_word (Some (parser.Signed (pos low) (pos high))) = low == 0 && high == 4294967295
+is_word _ = false
+
+-- the argument asks for help, or takes one value, which is a number where its name is that of one
+abbrev pub takes_one : Rule → Bool
+takes_one a = (is_request (action_of a) || (is_set (action_of a)
+    && ((unwrap_or_range a.range).start_inclusive == 1 && most_values a == 1)))
+    && (is_empty a.defaults && (not (is_number a.id) || is_word a.parser))
+
+-- the row has the one value of such an argument, which its parser takes
+pub record IsGiven (r : Row) : Type 0 where
+  pub rule : Rule
+  pub takes : takes_one rule ≡ true
+  pub id : rule.id ≡ r.id
+  pub reading : r.reading ≡ reading_by rule
+  pub text : Text
+  pub values : r.values ≡ text ∷ []
+  pub passes : value_passes rule text ≡ true
+
+abbrev pub EachRow : List Row → Type 0
+EachRow [] = Unit {0}
+EachRow (r ∷ rs) = IsGiven r × EachRow rs
+
+pub either : (a b : Bool) → (a || b) ≡ true → (a ≡ false → b ≡ true)
+either true b e f = absurd (true≢false f)
+either false b e f = e
+
+-- an argument that is found is one of those that the test takes
+pub found_takes : (p : Rule → Bool) (c : List Rule) → list_all takes_one c ≡ true
+    → IfSome (find p c) (λ a. takes_one a ≡ true)
+found_takes p [] ok = tt
+found_takes p (a ∷ rest) ok = go (p a) (found_takes p rest (both (takes_one a) _ ok).1)
+  where
+    go : (b : Bool) → IfSome (find p rest) (λ x. takes_one x ≡ true)
+        → IfSome (cond b (Some a) (find p rest)) (λ x. takes_one x ≡ true)
+    go true behind = (both _ _ ok).0
+    go false behind = behind
+
+-- ---- kinds
+
+pub or_none : (a b : Kinds) → or_else a b ≡ [] → (a ≡ []) × (b ≡ [])
+or_none [] b e = (refl, e)
+or_none (k ∷ ks) b e = absurd (cc)
+
+no_request : (x : ArgAction) (again : Bool) (a : Rule) (values : List Text) (rows : List Row) → is_request x ≡ true
+    → action_fault x again a values rows ≡ [] → ⊥
+no_request action.Set again a values rows e f = true≢false (sym e)
+no_request action.Append again a values rows e f = true≢false (sym e)
+no_request action.SetTrue again a values rows e f = true≢false (sym e)
+no_request action.SetFalse again a values rows e f = true≢false (sym e)
+no_request action.Count again a values rows e f = true≢false (sym e)
+no_request action.Help again a values rows e f = cc
+no_request action.HelpShort again a values rows e f = cc
+no_request action.HelpLong again a values rows e f = cc
+no_request action.Version again a values rows e f = cc
+
+set_is : (x : ArgAction) → is_set x ≡ true → x ≡ action.Set
+set_is action.Set e = refl
+set_is action.Append e = absurd (true≢false (sym e))
+set_is action.SetTrue e = absurd (true≢false (sym e))
+set_is action.SetFalse e = absurd (true≢false (sym e))
+set_is action.Count e = absurd (true≢false (sym e))
+set_is action.Help e = absurd (true≢false (sym e))
+set_is action.HelpShort e = absurd (true≢false (sym e))
+set_is action.HelpLong e = absurd (true≢false (sym e))
+set_is action.Version e = absurd (true≢false (sym e))
+
+many : (n : ℕ) → 2 ≤ n → range_kinds 1 1 n ≡ [] → ⊥
+many n h e =
+    let none : (n == 0) ≡ false = ne_eqb _ _ (λ x. omega arith) in
+    let more : (1 == n) ≡ false = ne_eqb _ _ (λ x. omega arith) in
+    let bad = rw (none, more) at e in
+    cc
+
+-- a use with one value
+one_value : (least most : ℕ) (values : List Text) → least ≡ 1 → most ≡ 1 → range_kinds least most (length values) ≡ []
+    → (v : Text) × (values ≡ v ∷ [])
+one_value least most [] l m e = let bad = rw l at e in absurd (cc)
+one_value least most (v ∷ []) l m e = (v, refl)
+one_value least most (v ∷ w ∷ rest) l m e =
+    absurd (many (length (v ∷ w ∷ rest)) (omega arith) (rw (l, m) at e))
+
+passed : (b : Bool) (k : Kinds) → cond b [] k ≡ [] → (k ≡ [] → ⊥) → b ≡ true
+passed true k none bad = refl
+passed false k none bad = absurd (bad none)
+
+value_passed : (a : Rule) (v : Text) → values_fault a (v ∷ []) ≡ [] → value_passes a v ≡ true
+value_passed a v e = passed (value_passes a v) _ (or_none _ _ e).0 (λ h. absurd (cc))
+
+-- ---- rows
+
+at_end : (id : Text) (change : Row → List Row) (missing rows : List Row) → has_row id rows ≡ false
+    → at_row id change missing rows ≡ rows ++ missing
+at_end id change missing [] none = refl
+at_end id change missing (r ∷ rs) none = go (bytes_eq r.id id) none (λ h. at_end id change missing rs h)
+  where
+    go : (b : Bool) → (b || has_row id rs) ≡ false
+        → (has_row id rs ≡ false → at_row id change missing rs ≡ rs ++ missing)
+        → cond b (change r ++ rs) (r ∷ at_row id change missing rs) ≡ (r ∷ rs) ++ missing
+    go true h behind = absurd (true≢false h)
+    go false h behind = ap (λ xs. r ∷ xs) (behind h)
+
+more_row : (rows : List Row) (r : Row) → EachRow rows → IsGiven r → EachRow (rows ++ r ∷ [])
+more_row [] r each is = (is, tt)
+more_row (x ∷ xs) r each is = (each.0, more_row xs r each.1 is)
+
+unused : (again : Bool) (id : Text) (rows : List Row) (k : Kinds) → again ≡ false
+    → cond (has_row id rows && not again) k [] ≡ [] → (k ≡ [] → ⊥) → has_row id rows ≡ false
+unused again id rows k once e bad = go (has_row id rows) refl
+  where
+    go : (b : Bool) → has_row id rows ≡ b → has_row id rows ≡ false
+    go true is = absurd (bad (rw (is, once) at e))
+    go false is = is
+
+-- a value that passes makes such a row
+set_given : (again : Bool) (a : Rule) (v : Text) (rows : List Row) → again ≡ false → takes_one a ≡ true
+    → set_fault again a (v ∷ []) rows ≡ [] → EachRow rows
+    → EachRow (with_values a.id (reading_by a) CommandLine (v ∷ []) (without a.id rows))
+set_given again a v rows once takes e each =
+    let two = or_none _ _ e in
+    let none : has_row a.id rows ≡ false = unused again a.id rows _ once two.0 (λ h. absurd (cc)) in
+    let row : Row = record {
+      id = a.id;
+      values = v ∷ [];
+      count = None;
+      source = Some CommandLine;
+      reading = reading_by a;
+    } in
+    let same : without a.id rows ≡ rows = at_end a.id (λ _. []) [] rows none ∙ append-nil rows in
+    let is : with_values a.id (reading_by a) CommandLine (v ∷ []) (without a.id rows) ≡ rows ++ row ∷ [] =
+    ap (with_values a.id (reading_by a) CommandLine (v ∷ [])) same
+    ∙ at_end a.id (more_values CommandLine (v ∷ [])) (row ∷ []) rows none in
+    let given : IsGiven row = record {
+      rule = a;
+      takes = takes;
+      id = refl;
+      reading = refl;
+      text = v;
+      values = refl;
+      passes = value_passed a v two.1;
+    } in
+    subst EachRow (sym is) (more_row rows row each given)
+
+-- and so does a use that passes
+pub use_given : (again : Bool) (a : Rule) (values : List Text) (rows : List Row) → again ≡ false → takes_one a ≡ true
+    → use_fault again a values rows ≡ [] → EachRow rows → EachRow (used a values rows)
+use_given again a values rows once takes e each = go (is_request (action_of a)) refl
+  where
+    parts : (range_kinds (unwrap_or_range a.range).start_inclusive (most_values a) (length values) ≡ [])
+        × (action_fault (action_of a) again a (values_or_missing a values) rows ≡ [])
+    parts =
+        or_none (range_kinds (unwrap_or_range a.range).start_inclusive (most_values a) (length values))
+        (action_fault (action_of a) again a (values_or_missing a values) rows) e
+
+    go : (b : Bool) → is_request (action_of a) ≡ b → EachRow (used a values rows)
+    go true is = absurd (no_request (action_of a) again a _ rows is parts.1)
+    go false is =
+        let set = both (is_set (action_of a)) _ (either (is_request (action_of a)) _ (both _ _ takes).0 is) in
+        let range = both ((unwrap_or_range a.range).start_inclusive == 1) (most_values a == 1) set.1 in
+        let one = one_value _ _ values (eqb-true _ _ range.0) (eqb-true _ _ range.1) parts.0 in
+        let acts : action_of a ≡ action.Set = set_is (action_of a) set.0 in
+        let fault : set_fault again a (one.0 ∷ []) rows ≡ [] = rw (acts, one.1) at parts.1 in
+        rw (acts, one.1) (set_given again a one.0 rows once takes fault each)
+
+pub use_found : (again : Bool) (o : Option Rule) (values : List Text) (rows : List Row) → again ≡ false
+    → IfSome o (λ a. takes_one a ≡ true) → option_map_or (λ a. use_fault again a values rows) o [] ≡ []
+    → EachRow rows → EachRow (used_by_id o values rows)
+use_found again None values rows once takes e each = each
+use_found again (Some a) values rows once takes e each = use_given again a values rows once takes e each
