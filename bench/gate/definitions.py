@@ -12,7 +12,7 @@ status is 1 where a name can't be followed.
 
 With --check the files that the headline rests on are listed, and those that all public contracts rest on. What only private
 functions' contracts and proofs cite lies in specs/inner/. The exit status is 1 where a public contract or a file above that
-folder reaches into it, and where no public contract reaches a definition above it.
+folder reaches into it, where no public contract reaches a definition above it, and where a definition has no sentence before it.
 """
 import os
 import re
@@ -235,6 +235,15 @@ def misplaced(public):
                     yield f"{crate}.{name}.{item} is reached by no public contract"
 
 
+def unsaid():
+    """The definitions that no sentence stands before."""
+    for crate in CRATES:
+        for name in all_files(crate):
+            for item, lines in file_of(crate, name).items.items():
+                if not lines[0].lstrip().startswith("--"):
+                    yield f"{crate}.{name}.{item} has no sentence before it"
+
+
 def check():
     """Prints what the headline and all public contracts rest on. Gives what is wrong with that."""
     headline, missing = rests_on([HEADLINE])
@@ -248,7 +257,7 @@ def check():
     print_files(headline)
     print("\nAll public contracts rest on")
     print_files(public)
-    return [f"{name} can't be followed" for name in missing + more] + list(misplaced(public))
+    return [f"{name} can't be followed" for name in missing + more] + list(misplaced(public)) + list(unsaid())
 
 
 def main():

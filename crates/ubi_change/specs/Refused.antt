@@ -15,6 +15,7 @@ use Rattle.ubi_change.specs.Weak.{weak_place}
 use Rattle.ubi_change.specs.declared.refusal.ChangeRefusal.{ChangeRefusal}
 use Rattle.ubi_change.specs.declared.refusal.ChangeRefusal.TheVariants as refusal
 
+-- whether a volume is static
 abbrev pub is_static : VolKind → Bool
 is_static kind.Static = true
 is_static kind.Dynamic = false

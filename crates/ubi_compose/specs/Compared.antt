@@ -14,12 +14,12 @@ use Rattle.ubi_compose.specs.declared.errors.SameFault.TheVariants as fault
 abbrev pub WhereBothHeld : Agreed → Agreed → (List ℕ → List ℕ → Type 0) → Type 0
 WhereBothHeld k l fact = WhereHeld k (λ left. WhereHeld l (λ right. fact left right))
 
--- what is known of the left source and of the right one after a comparison: one read failed where the answer is a read
--- of that side
+-- what is known of the left source after a comparison: one read failed where the answer is a read of that side
 abbrev pub after_left : {A : Type 0} → Source → Result A SameFault → Source
 after_left k (Err (fault.Left e)) = after_error k e
 after_left k _ = k
 
+-- what is known of the right source after it, likewise
 abbrev pub after_right : {A : Type 0} → Source → Result A SameFault → Source
 after_right k (Err (fault.Right e)) = after_error k e
 after_right k _ = k

@@ -50,10 +50,11 @@ static_block pad vol used lnum text = record {
 abbrev pub damaged_block : ℕ → ℕ → Laid
 damaged_block pad vol = record { header = record (plain kind.Static 0 pad vol 0) { data_size = 1; used_ebs = 1 }; text = [] }
 
--- a LEB of a static text, which is cut into pieces of a size, and all of them
+-- a LEB of a static text, which is cut into pieces of a size
 abbrev pub static_part : ℕ → ℕ → ℕ → List ℕ → ℕ → Laid
 static_part pad size vol text lnum = static_block pad vol (pieces size (length text)) lnum (share size text lnum)
 
+-- the eraseblocks of a static text, by rising LEB
 abbrev pub static_blocks : ℕ → ℕ → ℕ → List ℕ → List Laid
 static_blocks pad size vol text = map (static_part pad size vol text) (range_with_len 0 (pieces size (length text)))
 

@@ -9,6 +9,7 @@ use Rattle.ubi_media.specs.Name.{is_name}
 use Rattle.ubi_media.specs.declared.vid.VolKind.{VolKind}
 use Rattle.ubi_media.specs.declared.vid.VolKind.TheVariants as kind
 
+-- whether a byte lies between two, or is one of them
 abbrev pub is_between : ℕ → ℕ → ℕ → Bool
 is_between low high b = nat_le low b && nat_le b high
 
@@ -16,10 +17,11 @@ is_between low high b = nat_le low b && nat_le b high
 abbrev pub is_digit : ℕ → Bool
 is_digit b = is_between 48 57 b
 
--- the number that decimal digits write, the highest first
+-- one more decimal digit behind a number
 abbrev pub with_digit : ℕ → ℕ → ℕ
 with_digit n b = n * 10 + (b - 48)
 
+-- the number that decimal digits write, the highest first
 abbrev pub decimal_value : List ℕ → ℕ
 decimal_value digits = fold with_digit 0 digits
 
@@ -29,6 +31,7 @@ is_number word =
     nat_le 1 (length word) && list_all is_digit word && ((length word == 1) || not (slice_index word 0 == 48))
     && nat_le (decimal_value word) 0xFFFFFFFF
 
+-- the number that a word writes
 unfoldable pub number_of : List ℕ → Option ℕ
 number_of word = then_some (is_number word) (decimal_value word)
 
@@ -40,9 +43,11 @@ hex_of word = if length word == 0 then None else result_ok (decode_of word)
 abbrev pub only_byte : List ℕ → Option ℕ
 only_byte bytes = then_some (length bytes == 1) (slice_index bytes 0)
 
+-- the flags of a volume: one byte
 unfoldable pub flags_of : List ℕ → Option ℕ
 flags_of word = option_and_then only_byte (hex_of word)
 
+-- the kind of a volume: `dynamic` or `static`
 unfoldable pub kind_of : List ℕ → Option VolKind
 kind_of word =
     if same_bytes word (codes "dynamic") then Some kind.Dynamic
@@ -56,10 +61,11 @@ is_plain b = is_between 0x21 0x7E b && not (b == 92)
 abbrev pub shown_byte : ℕ → ℕ → Option ℕ
 shown_byte high low = option_and_then (λ h. option_map (λ l. h * 16 + l) (hex_digit_value low)) (hex_digit_value high)
 
--- what follows a backslash up to the next: an x, two digits, and bytes as they are
+-- the byte of what follows a backslash
 abbrev pub escape_byte : List ℕ → Option ℕ
 escape_byte part = shown_byte (slice_index part 1) (slice_index part 2)
 
+-- what follows a backslash up to the next: an x, two digits, and bytes as they are
 abbrev pub is_escape : List ℕ → Bool
 is_escape part =
     nat_le 3 (length part) && (slice_index part 0 == 120) && list_all is_plain (drop 3 part)
@@ -69,18 +75,20 @@ is_escape part =
 abbrev pub escaped : List ℕ → List ℕ
 escaped part = unwrap_or (escape_byte part) 0 ∷ drop 3 part
 
--- the bytes that a word shows, cut at its backslashes
+-- the bytes that the parts of a word show, which is cut at its backslashes
 abbrev pub joined_parts : List (List ℕ) → Option (List ℕ)
 joined_parts [] = None
 joined_parts (first ∷ parts) =
     then_some (list_all is_plain first && list_all is_escape parts) (first ++ flat_map escaped parts)
 
+-- the bytes that a word shows
 unfoldable pub shown_bytes : List ℕ → Option (List ℕ)
 shown_bytes word = joined_parts (slice_split (λ b. b == 92) word)
 
--- the name that a word shows
+-- bytes that may be a name
 abbrev pub some_name : List ℕ → Option (List ℕ)
 some_name bytes = then_some (is_name bytes) bytes
 
+-- the name that a word shows
 unfoldable pub shown_name : List ℕ → Option (List ℕ)
 shown_name word = option_and_then some_name (shown_bytes word)

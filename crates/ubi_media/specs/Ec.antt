@@ -58,6 +58,7 @@ EcIs s bytes (read.Valid h) =
 unfoldable pub judged : Sizes → EcFields → EcRead
 judged s f = option_map_or read.Fault (first_fault s f) (read.Valid (header_of f))
 
+-- what a header of this form and with these fields is
 abbrev pub reading_by : Sizes → EcFields → Form → EcRead
 reading_by s f form.Blank = read.Blank
 reading_by s f form.Corrupt = read.Corrupt

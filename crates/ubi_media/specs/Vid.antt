@@ -45,6 +45,7 @@ vid_fields bytes = record {
   sqnum = field 8 40 bytes;
 }
 
+-- whether the fields say that the volume is static
 abbrev pub is_static : VidFields → Bool
 is_static f = f.kind == 2
 
@@ -112,6 +113,7 @@ VidIs s bytes (read.Valid h) =
 unfoldable pub judged : Sizes → VidFields → VidRead
 judged s f = option_map_or read.Fault (first_fault s f) (read.Valid (header_of f))
 
+-- what a header of this form and with these fields is
 abbrev pub reading_by : Sizes → VidFields → Form → VidRead
 reading_by s f form.Blank = read.Blank
 reading_by s f form.Corrupt = read.Corrupt

@@ -15,6 +15,7 @@ pub record Image : Type 0 where
   pub sizes : Sizes
   pub bytes : List ℕ
 
+-- the image of these bytes under these sizes
 abbrev pub image_of : Sizes → List ℕ → Image
 image_of s bytes = record { sizes = s; bytes = bytes }
 
@@ -54,17 +55,19 @@ in_image f image = f image.sizes (eraseblocks image)
 abbrev pub block : List (List ℕ) → ℕ → List ℕ
 block bs p = slice_index_or bs p []
 
--- the bytes of an eraseblock's erase-counter header (EC), and what it is
+-- the bytes of an eraseblock's erase-counter header (EC)
 abbrev pub ec_area : List ℕ → List ℕ
 ec_area b = take 64 b
 
+-- what that header is
 abbrev pub ec : Sizes → List ℕ → EcRead
 ec s b = ec_reading s (ec_area b)
 
--- the bytes of its volume-identifier header (VID), and what it is
+-- the bytes of its volume-identifier header (VID)
 abbrev pub vid_area : Sizes → List ℕ → List ℕ
 vid_area s b = slice_range b s.vid_offset (s.vid_offset + 64)
 
+-- what that header is
 abbrev pub vid : Sizes → List ℕ → VidRead
 vid s b = vid_reading s (vid_area s b)
 

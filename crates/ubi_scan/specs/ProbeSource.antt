@@ -17,6 +17,7 @@ pub record Probed : Type 0 where
   pub data_reads : List ℕ
   pub crossing : ℕ
 
+-- how that is stored
 abbrev pub probed_code : Coded Probed
 probed_code =
     code_by (List ℕ × (ℕ × (ℕ × (ℕ × (ℕ × (ℕ × (List ℕ × (List ℕ × ℕ))))))))
@@ -43,9 +44,11 @@ next n = min (n + 1) (2 ^ 64 - 1)
 abbrev pub bumped : List ℕ → ℕ → List ℕ
 bumped counts i = slice_set counts i (next (slice_index counts i))
 
+-- one more at a place, if something holds
 abbrev pub bumped_if : Bool → List ℕ → ℕ → List ℕ
 bumped_if b counts i = if b then bumped counts i else counts
 
+-- one more, if something holds
 abbrev pub next_if : Bool → ℕ → ℕ
 next_if b n = if b then next n else n
 
@@ -53,6 +56,7 @@ next_if b n = if b then next n else n
 abbrev pub probe_source : Probed → Source
 probe_source p = record { size = length p.bytes; failures = p.failures }
 
+-- what it holds is as long as its size
 pub probe_sized : (p : Probed) → IsSource (probe_source p) (holds p.bytes)
 probe_sized p = record { sized = λ held is. ap length is }
 

@@ -50,6 +50,7 @@ sound size = record { size = size; failures = 0 }
 abbrev pub holds : List ℕ → Agreed
 holds bytes = λ held. held ≡ bytes
 
+-- what memory holds is as long as its size
 pub memory_sized : (bytes : List ℕ) → IsSource (sound (length bytes)) (holds bytes)
 memory_sized bytes = record { sized = λ held is. ap length is }
 
@@ -62,6 +63,7 @@ AgreesWith ((at, read) ∷ reads) bytes = (read ≡ slice_range bytes at (at + l
 abbrev pub known_by : ℕ → List (ℕ × List ℕ) → Agreed
 known_by size reads = λ bytes. (length bytes ≡ size) × AgreesWith reads bytes
 
+-- what agrees with reads of a file is as long as its size
 pub file_sized : (size failures : ℕ) (reads : List (ℕ × List ℕ))
     → IsSource (record { size = size; failures = failures }) (known_by size reads)
 file_sized size failures reads = record { sized = λ bytes agrees. agrees.0 }

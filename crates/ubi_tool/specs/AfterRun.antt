@@ -9,11 +9,12 @@ use Rattle.ubi_tool.specs.declared.outcome.SidesError.TheVariants as side
 use Rattle.ubi_tool.specs.declared.outcome.ToolError.{ToolError}
 use Rattle.ubi_tool.specs.declared.outcome.ToolError.TheVariants as tool
 
--- one read failed where the answer is Read, none where it isn't
+-- what is known after a fault: one read failed where it is Read
 abbrev pub after_fault : Source → ToolError → Source
 after_fault k tool.Read = failed k
 after_fault k _ = k
 
+-- what is known after an answer: one read failed where it is Read
 abbrev pub after_run : {A : Type 0} → Source → Result A ToolError → Source
 after_run k (Ok _) = k
 after_run k (Err e) = after_fault k e
@@ -39,11 +40,12 @@ pub data IsEnded (answer : Result Outcome ToolError) (there : Bool) (unread unwr
   no_read : answer ≡ Err tool.Read → IsEnded answer there unread unwritten unread
   no_write : answer ≡ Err tool.Write → IsEnded answer there unread unwritten unwritten
 
--- what is known of the left source and of the right one after a comparison: one read of the side failed that is named
+-- what is known of the left source after a comparison: one read failed where that side is named
 abbrev pub after_left : {A : Type 0} → Source → Result A SidesError → Source
 after_left k (Err side.Left) = failed k
 after_left k _ = k
 
+-- what is known of the right source after it, likewise
 abbrev pub after_right : {A : Type 0} → Source → Result A SidesError → Source
 after_right k (Err side.Right) = failed k
 after_right k _ = k

@@ -2,6 +2,7 @@
 use Rattle.std.specs.Prelude.{◌≡◌, ℕ, List, Option, None, option_map}
 use Rattle.ubi_tool.specs.declared.outcome.Outcome.{Outcome}
 
+-- a text to print, an exit status, and the bytes of an output file, if there is one
 pub record Answer : Type 0 where
   pub text : List ℕ
   pub status : ℕ

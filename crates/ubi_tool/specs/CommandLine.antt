@@ -45,6 +45,7 @@ abbrev pub HasNumberOr : ℕ → List Row → List ℕ → ℕ → Type 0
 HasNumberOr default words name n = (number : Option ℕ) × MayHaveNumber words name number
     × (n ≡ unwrap_or number default)
 
+-- the words give these numbers of a geometry
 abbrev pub AsksNumbers : List Row → Numbers → Type 0
 AsksNumbers words numbers = HasNumber words (codes "peb") numbers.peb_size
     × HasNumber words (codes "page") numbers.page
@@ -52,6 +53,7 @@ AsksNumbers words numbers = HasNumber words (codes "peb") numbers.peb_size
     × MayHaveNumber words (codes "data") numbers.data_offset
     × MayHaveNumber words (codes "pebs") numbers.pebs
 
+-- the words give this change
 abbrev pub AsksChange : List Row → Change → Type 0
 AsksChange words change = HasNumber words (codes "id") change.id
     × HasNumber words (codes "lnum") change.lnum
@@ -59,6 +61,7 @@ AsksChange words change = HasNumber words (codes "id") change.id
     × HasText words (codes "out") change.out
     × MayHaveNumber words (codes "stop") change.stop
 
+-- the words give this rename
 abbrev pub AsksRename : List Row → Rename → Type 0
 AsksRename words rename = HasNumber words (codes "id") rename.id
     × HasText words (codes "name") rename.name

@@ -14,11 +14,13 @@ use Rattle.ubi_media.specs.declared.vid.VidFault.TheVariants as vid
 use Rattle.ubi_tool.specs.declared.lines.Detail.{Detail}
 use Rattle.ubi_tool.specs.declared.lines.Detail.TheVariants as detail
 
+-- the name of a fault of an EC header
 abbrev pub ec_fault_name : EcFault → List ℕ
 ec_fault_name ec.Version = codes "Version"
 ec_fault_name ec.Offsets = codes "Offsets"
 ec_fault_name ec.Counter = codes "Counter"
 
+-- the name of a fault of a VID header
 abbrev pub vid_fault_name : VidFault → List ℕ
 vid_fault_name vid.CopyFlag = codes "CopyFlag"
 vid_fault_name vid.Negative = codes "Negative"
@@ -31,6 +33,7 @@ vid_fault_name vid.UsedEbs = codes "UsedEbs"
 vid_fault_name vid.Lnum = codes "Lnum"
 vid_fault_name vid.CopyFields = codes "CopyFields"
 
+-- the name of a fault of a volume's record
 abbrev pub rec_fault_name : RecFault → List ℕ
 rec_fault_name rec.NotEmpty = codes "NotEmpty"
 rec_fault_name rec.Negative = codes "Negative"

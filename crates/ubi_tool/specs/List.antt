@@ -23,13 +23,15 @@ use Rattle.ubi_tool.specs.Answer.{Gives, says}
 use Rattle.ubi_tool.specs.Lines.{refusal_line}
 use Rattle.ubi_tool.specs.declared.outcome.Outcome.{Outcome}
 
--- a name as it is shown: the printable bytes but the backslash as they are, and any other by its two digits
+-- a byte of a name as it is shown: a printable one but the backslash as it is, and any other by its two digits
 abbrev pub shown_byte : ℕ → List ℕ
 shown_byte b = if nat_le 0x21 b && nat_le b 0x7E && not (b == 0x5C) then b ∷ [] else codes "\\x" ++ encode_lower (b ∷ [])
 
+-- a name as it is shown
 abbrev pub shown : List ℕ → List ℕ
 shown name = flat_map shown_byte name
 
+-- the word for the kind of a volume
 abbrev pub kind_word : VolKind → List ℕ
 kind_word kind.Dynamic = codes "dynamic"
 kind_word kind.Static = codes "static"

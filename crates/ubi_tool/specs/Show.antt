@@ -15,13 +15,14 @@ use Rattle.ubi_tool.specs.Answer.{Gives, says}
 use Rattle.ubi_tool.specs.Lines.{ec_fault_name, no_block_line, refusal_line, vid_fault_name}
 use Rattle.ubi_tool.specs.declared.outcome.Outcome.{Outcome}
 
--- the word for what a header is
+-- the word for what an EC header is
 abbrev pub ec_state : EcRead → List ℕ
 ec_state ec_read.Blank = codes "blank"
 ec_state ec_read.Corrupt = codes "corrupt"
 ec_state (ec_read.Fault f) = codes "fault:" ++ ec_fault_name f
 ec_state (ec_read.Valid _) = codes "valid"
 
+-- the word for what a VID header is
 abbrev pub vid_state : VidRead → List ℕ
 vid_state vid_read.Blank = codes "blank"
 vid_state vid_read.Corrupt = codes "corrupt"

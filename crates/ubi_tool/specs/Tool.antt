@@ -24,9 +24,11 @@ abbrev pub numbers : List Rule
 numbers = needed (number (codes "peb")) ∷ needed (number (codes "page")) ∷ number (codes "vid") ∷ number (codes "data")
     ∷ number (codes "pebs") ∷ []
 
+-- the option with the file to write
 abbrev pub output : Rule
 output = needed (option (codes "out"))
 
+-- the option with the number of a volume
 abbrev pub volume : Rule
 volume = needed (number (codes "id"))
 
@@ -38,34 +40,44 @@ command name rules = record (new_shape name) { rules = numbers ++ rules }
 abbrev pub on_image : Text → List Rule → Shape
 on_image name rules = command name (needed (new_rule (codes "IMAGE")) ∷ rules)
 
+-- `list`, over an image
 abbrev pub list : Shape
 list = on_image (codes "list") []
 
+-- `check`, over an image
 abbrev pub check : Shape
 check = on_image (codes "check") []
 
+-- `show`, over an image, with the eraseblock to show
 abbrev pub show : Shape
 show = on_image (codes "show") (needed (number (codes "block")) ∷ [])
 
+-- `extract`, over an image, with the file to write and the volume
 abbrev pub extract : Shape
 extract = on_image (codes "extract") (output ∷ volume ∷ [])
 
+-- `compose`, over a text, with the file to write, and the spare eraseblocks and the image sequence number if given
 abbrev pub compose : Shape
 compose =
     command (codes "compose")
     (needed (new_rule (codes "SPEC")) ∷ output ∷ number (codes "spares") ∷ number (codes "seq") ∷ [])
 
+-- `normalise`, over an image, with the file to write
 abbrev pub normalise : Shape
 normalise = on_image (codes "normalise") (output ∷ [])
 
+-- `same`, over an image and another
 abbrev pub same : Shape
 same = on_image (codes "same") (needed (record (new_rule (codes "OTHER")) { value_names = 1 }) ∷ [])
 
+-- `change`, over an image, with the file to write, the volume, the LEB and the file of its bytes, and the steps to do
+-- if given
 abbrev pub change : Shape
 change =
     on_image (codes "change")
     (output ∷ volume ∷ needed (number (codes "lnum")) ∷ needed (option (codes "from")) ∷ number (codes "stop") ∷ [])
 
+-- `rename`, over an image, with the file to write, the volume and its name, and the steps to do if given
 abbrev pub rename : Shape
 rename = on_image (codes "rename") (output ∷ volume ∷ needed (option (codes "name")) ∷ number (codes "stop") ∷ [])
 

@@ -9,6 +9,7 @@ use Rattle.std.specs.Ordering.{nat_cmp}
 abbrev pub same_lebs : FinMap nat_cmp (List ℕ) → FinMap nat_cmp (List ℕ) → Bool
 same_lebs a b = pointwise (λ p q. (p.0 == q.0) && pointwise ◌==◌ p.1 q.1) (entries a) (entries b)
 
+-- that is symmetric and transitive
 pub same_lebs_per : IsPartialEquivalence same_lebs
 same_lebs_per =
     on_per entries (lists_per (and_per (on_per (λ p. p.0) (partial_equiv_from_equiv nat_eq_equiv))

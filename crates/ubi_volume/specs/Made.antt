@@ -33,7 +33,7 @@ Stands s items cause.NoSpace = s.pebs < 2 + sum_by (λ e. e.1.entry.reserved) it
 Stands s items (cause.ContentRange i) =
     (e : ℕ × Volume) × IsItem items i e × (Fits s e.1.entry e.1.content → ⊥)
 
--- the place of a cause among the causes, and its item
+-- the place of a cause among the causes
 abbrev pub rank : MeaningCause → ℕ
 rank (cause.IdRange _) = 1
 rank (cause.SameId _) = 2
@@ -42,6 +42,7 @@ rank (cause.SameName _ _) = 4
 rank cause.NoSpace = 5
 rank (cause.ContentRange _) = 6
 
+-- the item of a cause
 abbrev pub item : MeaningCause → ℕ
 item (cause.IdRange i) = i
 item (cause.SameId i) = i

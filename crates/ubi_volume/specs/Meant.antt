@@ -13,6 +13,7 @@ use Rattle.ubi_volume.specs.declared.content.Content.{Content}
 use Rattle.ubi_volume.specs.declared.content.Content.TheVariants as content
 use Rattle.ubi_volume.specs.declared.content.Volume.{Volume}
 
+-- volumes by their numbers
 abbrev pub VolumeMap : Type 0
 VolumeMap = FinMap nat_cmp Volume
 

@@ -38,10 +38,11 @@ case_of s r content.Damaged = place.Damaged
 case_of s r (content.Static text) = place.Static (pieces (usable s r) (length text)) (length text)
 case_of s r (content.Dynamic lebs) = place.Dynamic
 
--- the first LEB of a volume from a number on that counts and has a winner, with the winner; or none
+-- a LEB of a volume counts, and this is its winner
 abbrev pub IsCountedPlace : Placed → ℕ → ℕ → ℕ → Type 0
 IsCountedPlace p vol lnum at = (r : VolumeRecord) × (get p.records.of vol ≡ Some r) × IsWithin r lnum × (get p.winners (vol, lnum) ≡ Some at)
 
+-- the first LEB of a volume from a number on that counts and has a winner, with the winner; or none
 abbrev pub IsNextPlace : Placed → ℕ → ℕ → Option (ℕ × ℕ) → Type 0
 IsNextPlace p vol from next = MatchOption next
     ((lnum at : ℕ) → from ≤ lnum → IsCountedPlace p vol lnum at → ⊥)

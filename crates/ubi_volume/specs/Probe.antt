@@ -12,6 +12,7 @@ pub record Probe : Type 0 where
   pub most : ℕ
   pub failure : Failure
 
+-- the same as nested pairs
 abbrev pub probe_code : Coded Probe
 probe_code =
     code_by (List ℕ × (ℕ × (ℕ × Failure))) (coded× (coded_list coded_ℕ) (coded× coded_ℕ (coded× coded_ℕ failure_type.the_row.coded)))

@@ -39,10 +39,11 @@ volume_read s r content.Damaged = Err error.Damaged
 volume_read s r (content.Static text) = Ok text
 volume_read s r (content.Dynamic lebs) = Ok (lebs_text (usable s r) lebs r.reserved)
 
--- the same of a meaning, by the number of the volume
+-- what a LEB reads, by the number of its volume
 abbrev pub read_leb : Meant → ℕ → ℕ → Result (List ℕ) ReadError
 read_leb m id lnum = option_map_or (λ v. leb_read m.sizes v.entry lnum v.content) (get m.volumes id) (Err error.NoVolume)
 
+-- what a volume reads, by its number
 abbrev pub read_volume : Meant → ℕ → Result (List ℕ) ReadError
 read_volume m id = option_map_or (λ v. volume_read m.sizes v.entry v.content) (get m.volumes id) (Err error.NoVolume)
 

@@ -20,6 +20,7 @@ pub record Seen : Type 0 where
   pub scan : Found
   pub states : List BlockState
 
+-- the same as nested pairs
 abbrev pub seen_code : Coded Seen
 seen_code =
     code_by (Records × (Found × List BlockState)) (coded× records_code (coded× found_code (coded_list state_type.the_row.coded)))

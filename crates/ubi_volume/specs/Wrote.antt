@@ -10,13 +10,15 @@ use Rattle.ubi_scan.specs.declared.errors.StreamError.TheVariants as stream
 abbrev pub Wanted : Type 1
 Wanted = List ℕ → List ℕ → Type 0
 
--- how many of so many bytes: all, the first, or not all
+-- all bytes of so many
 abbrev pub All : ℕ → ℕ → Type 0
 All n size = n ≡ size
 
+-- the first bytes of so many, or all
 abbrev pub First : ℕ → ℕ → Type 0
 First n size = n ≤ size
 
+-- the first bytes of so many, but not all
 abbrev pub NotAll : ℕ → ℕ → Type 0
 NotAll n size = n < size
 

@@ -124,6 +124,7 @@ module _ (s : Sizes) (scan : Found) (t : Target) (new : List ℕ) where
       ++ copy_on s scan copy (copy_header t.compat t.data_pad t.id t.lnum (scan.top_sqnum + 2) new) new first
       (ready_on scan first)
 
+  -- the steps of either
   abbrev pub steps_on : OnSites → List Step
   steps_on (on.Mapped copy old) = mapped_steps copy old
   steps_on (on.Unmapped first copy) = unmapped_steps first copy

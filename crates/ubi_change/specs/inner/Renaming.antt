@@ -61,6 +61,7 @@ AreHolders s bs seen (Some two) =
     × ((p : ℕ) × (get seen.scan.winners (layout, 0) ≡ Some p) × (two.first ≡ site_at s bs seen.states p))
     × ((p : ℕ) × (get seen.scan.winners (layout, 1) ≡ Some p) × (two.second ≡ site_at s bs seen.states p))
 
+-- and of a source: they lie in it, and hold the copies of whatever it may hold
 pub record AreHoldersOf (s : Sizes) (k : Source) (agrees : Agreed) (seen : Seen) (o : Option Holders) : Type 0 where
   pub fits : IfSome o (BothFit (blocks_in s k))
   pub held : WhereHeld agrees (λ bytes. AreHolders s (blocks_of s bytes) seen o)

@@ -21,6 +21,7 @@ two_with None second t = record { first = Some t; second = second }
 two_with (Some a) None t = record { first = Some a; second = Some t }
 two_with (Some a) (Some b) t = record { first = Some a; second = Some b }
 
+-- the same of the first two
 abbrev pub with_next : FirstTwo → Site → FirstTwo
 with_next two t = two_with two.first two.second t
 
@@ -30,6 +31,7 @@ two_joined None second others = others
 two_joined (Some a) None others = record { first = Some a; second = others.first }
 two_joined (Some a) (Some b) others = record { first = Some a; second = Some b }
 
+-- the same of the first two of both
 abbrev pub joined : FirstTwo → FirstTwo → FirstTwo
 joined two others = two_joined two.first two.second others
 

@@ -40,26 +40,31 @@ is_empty content.Damaged = false
 is_empty (content.Static text) = length text == 0
 is_empty (content.Dynamic lebs) = length (entries lebs) == 0
 
+-- LEBs with one more, whose number is new and whose bytes aren't too many
 abbrev pub leb_added : ℕ → ℕ → List ℕ → FinMap nat_cmp (List ℕ) → Result (FinMap nat_cmp (List ℕ)) SpecCause
 leb_added size lnum bytes lebs =
     if is_some (get lebs lnum) then Err cause.Twice
     else (if nat_lt size (length bytes) then Err cause.Long else Ok (insert lebs lnum (filled size bytes)))
 
+-- what a `leb` line makes of a volume
 abbrev pub with_leb : ℕ → VolumeRecord → ℕ → List ℕ → Content → Result Volume SpecCause
 with_leb size r lnum bytes (content.Dynamic lebs) =
     result_map_both (λ added. record { entry = r; content = content.Dynamic added }) (λ c. c)
     (leb_added size lnum bytes lebs)
 with_leb size r lnum bytes _ = Err cause.Order
 
+-- what a `bytes` line makes of a volume
 abbrev pub with_text : VolumeRecord → List ℕ → Content → Result Volume SpecCause
 with_text r bytes (content.Static text) = Ok (record { entry = r; content = content.Static (text ++ bytes) })
 with_text r bytes _ = Err cause.Order
 
+-- what a `damaged` line makes of a volume
 abbrev pub made_damaged : VolumeRecord → Content → Result Volume SpecCause
 made_damaged r (content.Static text) =
     if length text == 0 then Ok (record { entry = r; content = content.Damaged }) else Err cause.Order
 made_damaged r _ = Err cause.Order
 
+-- what an `updating` line makes of a volume
 abbrev pub made_updating : VolumeRecord → Content → Result Volume SpecCause
 made_updating r c =
     if is_empty c then Ok (record { entry = record r { marker = true }; content = content.Updating })
@@ -99,6 +104,7 @@ changed_at s items l place =
     option_map_or (λ e. result_map_both (λ v. slice_set items place (e.0, v)) (λ c. c) (with_line s e.1 l))
     (slice_get items place) (Err cause.Order)
 
+-- a content line is taken into its volume
 abbrev pub changed : Sizes → Items → Line → Result Items SpecCause
 changed s items l = option_map_or (changed_at s items l) (place_of (volume_of l) items) (Err cause.Order)
 
@@ -110,6 +116,7 @@ taken s items (line.Text id bytes) = changed s items (line.Text id bytes)
 taken s items (line.Damaged id) = changed s items (line.Damaged id)
 taken s items (line.Updating id) = changed s items (line.Updating id)
 
+-- what a line of the text makes of the volumes, where blank ones and comments make nothing
 abbrev pub read : Sizes → Items → List ℕ → Result Items SpecCause
 read s items text = if is_skipped text then Ok items else line_of text >>= taken s items
 

@@ -15,10 +15,11 @@ use Rattle.ubi_compose.specs.Normal as normal
 abbrev pub laid_text : Sizes → ℕ → VidHeader → List ℕ → List ℕ → List ℕ → Type 0
 laid_text s seq h part image text = text ≡ laid_bytes s (new_ec seq) (record { header = h; text = part })
 
--- none where the text is 0xFF throughout
+-- the bytes of that eraseblock, or none where its text is 0xFF throughout
 abbrev pub kept_bytes : Sizes → ℕ → VidHeader → List ℕ → List ℕ
 kept_bytes s seq h part = if is_blank part then [] else laid_bytes s (new_ec seq) (record { header = h; text = part })
 
+-- that eraseblock whatever the image, or none where its text is 0xFF throughout
 abbrev pub kept_text : Sizes → ℕ → VidHeader → List ℕ → List ℕ → List ℕ → Type 0
 kept_text s seq h part image text = text ≡ kept_bytes s seq h part
 

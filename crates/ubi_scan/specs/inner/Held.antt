@@ -9,5 +9,6 @@ anything = λ held. Unit {0}
 abbrev pub unheld : Agreed
 unheld = λ held. ⊥
 
+-- nothing is as long as any size
 pub unheld_sized : (k : Source) → IsSource k unheld
 unheld_sized k = record { sized = λ held is. absurd is }

@@ -33,10 +33,11 @@ pub record AreGathered (s : Sizes) (bs : List (List ℕ)) (vol : ℕ) (r : Volum
   pub texts : AreTexts (usable s r) n lebs
   pub reads : (lnum : ℕ) → lnum < n → LebReads s bs vol r lnum (leb_text (usable s r) (get lebs lnum))
 
--- how many LEBs its first winner says that a static volume uses, 0 where it has none
+-- how many LEBs the header of the eraseblock p says that its volume uses, 0 where it has none
 abbrev pub used_in : Sizes → List (List ℕ) → ℕ → ℕ
 used_in s bs p = option_map_or (λ h. h.used_ebs) (member s (block bs p)) 0
 
+-- a static volume uses so many LEBs, by one of its winners, and 0 where it has none
 abbrev pub UsedIs : Sizes → List (List ℕ) → ℕ → ℕ → Type 0
 UsedIs s bs vol used =
     (((lnum : ℕ) → NoMember s bs (vol, lnum)) × (used ≡ 0))

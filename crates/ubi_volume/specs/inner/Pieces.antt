@@ -15,5 +15,6 @@ abbrev pub lebs_bytes : Sizes → Placed → ℕ → ℕ → ℕ → List ℕ �
 lebs_bytes s p id size bytes image n =
     flat_map (λ lnum. leb_bytes s (share_len size bytes lnum) (get p.winners (id, lnum)) image) (range_with_len 0 n)
 
+-- a text is those bytes
 abbrev pub lebs_at : Sizes → Placed → ℕ → ℕ → ℕ → ℕ → List ℕ → List ℕ → Type 0
 lebs_at s p id size bytes n image text = text ≡ lebs_bytes s p id size bytes image n
