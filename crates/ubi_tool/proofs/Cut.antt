@@ -14,8 +14,8 @@ use Rattle.ubi_scan.specs.declared.errors.StreamError.{StreamError}
 use Rattle.ubi_scan.specs.declared.errors.StreamError.TheVariants as stream
 use Rattle.ubi_volume.specs.Accepts.{AcceptsBlocks}
 use Rattle.ubi_volume.specs.Meant.{Meant}
-use Rattle.ubi_volume.specs.Wrote.{All, First, IsWroteError, Wanted, Wrote}
-use Rattle.ubi_volume.proofs.Received.{error_as, wrote_as}
+use Rattle.ubi_volume.specs.Wrote.{First, IsWroteError, Wanted, Wrote}
+use Rattle.ubi_volume.proofs.Received.{error_as}
 use Rattle.ubi_tool.specs.Plan.{CutAccepts, IsCut, cut_text, steps_done}
 
 -- where the eraseblocks that the steps leave are accepted, so are the bytes

@@ -1,5 +1,5 @@
 -- What a command answers once its work is over, and which of its faults are told.
-use Rattle.std.specs.Prelude.{◌≡◌, ℕ, Bool, true, false, List, Result, Ok, Err, codes}
+use Rattle.std.specs.Prelude.{◌≡◌, ℕ, List, Result, Ok, Err, codes}
 use Rattle.ubi_scan.specs.Source.{Source, failed}
 use Rattle.ubi_volume.specs.declared.errors.ReadError.{ReadError}
 use Rattle.ubi_tool.specs.Answer.{Gives, says}
