@@ -1,9 +1,9 @@
 mod amounts;
 mod extracting;
 mod images;
-mod length;
 mod making;
 mod memory;
+mod pebs;
 mod reading;
 mod refusals;
 mod sources;

@@ -1,72 +1,106 @@
 //! Eraseblocks of the size that chips have: 128 KiB in pages of 2 KiB.
 
-use super::images::{COPIES, LEBS, put_records};
+use super::images::{LEB_1, TABLE_0, TABLE_1, bytes_of};
 use crate::{compose, normalise_to, parse_spec, same};
 use std::alloc::Global;
-use std::process::Abort;
 use std::test::Fail;
 use ubi_media::Geometry;
 use ubi_scan::MemorySource;
 use ubi_volume::{Failure, Meaning, ProbeWriter};
 
-/// Where the headers of an eraseblock and its data stand, and the end of an erase-counter header with counter 0: the two
-/// offsets, the image sequence number 0x12345678, and the check.
+/// Where the headers of an eraseblock and its data stand, and the normal image of the volume `root` whose logical
+/// eraseblock 1 holds two bytes, with a spare eraseblock behind it: bytes that each stand so many times.
 #[derive(Clone, Copy)]
-struct Offsets {
+struct Chip {
     vid: u32,
     data: u32,
-    fields: [u8; 12],
-    check: [u8; 4],
+    image: &'static [(&'static [u8], usize)],
 }
 
 /// A page for each header, and both of them in one, in sub-pages of 512 bytes.
-static OFFSETS: [Offsets; 2] = [
-    Offsets {
+static CHIPS: [Chip; 2] = [
+    Chip {
         vid: 2048,
         data: 4096,
-        fields: *b"\0\0\x08\0\0\0\x10\0\x12\x34\x56\x78",
-        check: [0xF0, 0xEF, 0x31, 0x82],
+        image: &[
+            (&PAGE_EC, 1),
+            (b"\xFF", 1_984),
+            (&TABLE_0, 1),
+            (b"\xFF", 1_984),
+            (b"\0\0\0\x14\0\0\0\x01\0\0\0\0\x01\0\0\x04root", 1),
+            (b"\0", 148),
+            (b"\x71\xDF\xB1\x1D", 1),
+            (&NO_RECORD, 127),
+            (b"\xFF", 104_960),
+            (&PAGE_EC, 1),
+            (b"\xFF", 1_984),
+            (&TABLE_1, 1),
+            (b"\xFF", 1_984),
+            (b"\0\0\0\x14\0\0\0\x01\0\0\0\0\x01\0\0\x04root", 1),
+            (b"\0", 148),
+            (b"\x71\xDF\xB1\x1D", 1),
+            (&NO_RECORD, 127),
+            (b"\xFF", 104_960),
+            (&PAGE_EC, 1),
+            (b"\xFF", 1_984),
+            (&LEB_1, 1),
+            (b"\xFF", 1_984),
+            (b"ab", 1),
+            (b"\xFF", 126_974),
+            (&PAGE_EC, 1),
+            (b"\xFF", 131_008),
+        ],
     },
-    Offsets {
+    Chip {
         vid: 512,
         data: 2048,
-        fields: *b"\0\0\x02\0\0\0\x08\0\x12\x34\x56\x78",
-        check: [0x62, 0xA5, 0x03, 0x53],
+        image: &[
+            (&SUBPAGE_EC, 1),
+            (b"\xFF", 448),
+            (&TABLE_0, 1),
+            (b"\xFF", 1_472),
+            (b"\0\0\0\x14\0\0\0\x01\0\0\0\0\x01\0\0\x04root", 1),
+            (b"\0", 148),
+            (b"\x71\xDF\xB1\x1D", 1),
+            (&NO_RECORD, 127),
+            (b"\xFF", 107_008),
+            (&SUBPAGE_EC, 1),
+            (b"\xFF", 448),
+            (&TABLE_1, 1),
+            (b"\xFF", 1_472),
+            (b"\0\0\0\x14\0\0\0\x01\0\0\0\0\x01\0\0\x04root", 1),
+            (b"\0", 148),
+            (b"\x71\xDF\xB1\x1D", 1),
+            (&NO_RECORD, 127),
+            (b"\xFF", 107_008),
+            (&SUBPAGE_EC, 1),
+            (b"\xFF", 448),
+            (&LEB_1, 1),
+            (b"\xFF", 1_472),
+            (b"ab", 1),
+            (b"\xFF", 129_022),
+            (&SUBPAGE_EC, 1),
+            (b"\xFF", 131_008),
+        ],
     },
 ];
 
-impl Offsets {
-    /// The geometry of a device of 1,024 such eraseblocks.
-    fn geometry(&self) -> Result<Geometry, Fail> {
-        Ok(Geometry::new(131_072, 2048, self.vid, self.data, 1024)?)
-    }
+/// The erase-counter headers with counter 0 in the image 0x12345678, and a record of no volume. Another program worked
+/// out their checks.
+const PAGE_EC: [u8; 64] = *b"UBI#\x01\0\0\0\0\0\0\0\0\0\0\0\0\0\x08\0\0\0\x10\0\x12\x34\x56\x78\
+    \0\0\0\0\0\0\0\0\0\0\0\0\0\0\0\0\0\0\0\0\0\0\0\0\0\0\0\0\0\0\0\0\xF0\xEF\x31\x82";
 
-    /// Adds an eraseblock to an image, and 0xFF up to its end.
-    fn put(&self, image: &mut Vec<u8>, vid: &[u8], data: &[u8]) -> Result<(), Fail> {
-        let start = image.len();
-        image.extend_from_slice(b"UBI#\x01\0\0\0\0\0\0\0\0\0\0\0")?;
-        image.extend_from_slice(&self.fields)?;
-        image.extend_from_slice(&[0; 32])?;
-        image.extend_from_slice(&self.check)?;
-        image.resize(start.saturating_add(self.vid as usize), 0xFF)?;
-        image.extend_from_slice(vid)?;
-        image.resize(start.saturating_add(self.data as usize), 0xFF)?;
-        image.extend_from_slice(data)?;
-        image.resize(start.saturating_add(131_072), 0xFF)?;
-        Ok(())
-    }
+const SUBPAGE_EC: [u8; 64] = *b"UBI#\x01\0\0\0\0\0\0\0\0\0\0\0\0\0\x02\0\0\0\x08\0\x12\x34\x56\x78\
+    \0\0\0\0\0\0\0\0\0\0\0\0\0\0\0\0\0\0\0\0\0\0\0\0\0\0\0\0\0\0\0\0\x62\xA5\x03\x53";
 
-    /// The normal image of the volume `root` whose logical eraseblock 1 holds two bytes.
-    fn normal(&self, alloc: Global) -> Result<Vec<u8>, Fail> {
-        let mut table = Vec::new(alloc);
-        put_records(&mut table, 128)?;
-        let mut image = Vec::new(alloc);
-        self.put(&mut image, &COPIES[0], table.as_slice())?;
-        self.put(&mut image, &COPIES[1], table.as_slice())?;
-        self.put(&mut image, &LEBS[1], b"ab")?;
-        Ok(image)
-    }
-}
+const NO_RECORD: [u8; 172] = *b"\
+    \0\0\0\0\0\0\0\0\0\0\0\0\0\0\0\0\0\0\0\0\0\0\0\0\0\0\0\0\
+    \0\0\0\0\0\0\0\0\0\0\0\0\0\0\0\0\0\0\0\0\0\0\0\0\0\0\0\0\
+    \0\0\0\0\0\0\0\0\0\0\0\0\0\0\0\0\0\0\0\0\0\0\0\0\0\0\0\0\
+    \0\0\0\0\0\0\0\0\0\0\0\0\0\0\0\0\0\0\0\0\0\0\0\0\0\0\0\0\
+    \0\0\0\0\0\0\0\0\0\0\0\0\0\0\0\0\0\0\0\0\0\0\0\0\0\0\0\0\
+    \0\0\0\0\0\0\0\0\0\0\0\0\0\0\0\0\0\0\0\0\0\0\0\0\0\0\0\0\
+    \xF1\x16\xC3\x6B";
 
 /// What a text composes to, with an image sequence number and a spare eraseblock.
 fn composed(alloc: Global, geometry: &Geometry, image_seq: u32) -> Result<Vec<u8>, Fail> {
@@ -76,35 +110,20 @@ fn composed(alloc: Global, geometry: &Geometry, image_seq: u32) -> Result<Vec<u8
     Ok(compose(alloc, &meaning, 1).map_err(|_| "not composed")?)
 }
 
-/// Asserts to which bytes an image is normalised.
-fn assert_streams(
-    rt: &impl Abort,
-    alloc: Global,
-    geometry: &Geometry,
-    image: &[u8],
-    want: &[u8],
-) -> Result<(), Fail> {
-    let mut source = MemorySource::new(image);
-    let mut writer = ProbeWriter::new(alloc, 1 << 20, 1 << 20, Failure::Nothing)?;
-    let count = normalise_to(alloc, geometry, &mut source, &mut writer)?;
-    assert!(*rt; count == want.len() as u64);
-    assert!(*rt; writer.taken() == want);
-    Ok(())
-}
-
 #[test]
 fn composes_normalises_and_compares(rt: HostRuntime) -> Result<(), Fail> {
     let alloc = rt.alloc();
-    for offsets in &OFFSETS {
-        let geometry = offsets.geometry()?;
-        let normal = offsets.normal(alloc)?;
+    for chip in &CHIPS {
+        let geometry = Geometry::new(131_072, 2048, chip.vid, chip.data, 1024)?;
+        let want = bytes_of(alloc, chip.image)?;
+        let normal = want.as_slice().get(..393_216).ok_or("short")?;
         let image = composed(alloc, &geometry, 0x1234_5678)?;
-        let mut want = offsets.normal(alloc)?;
-        offsets.put(&mut want, &[], &[])?;
-        assert!(rt; image.as_slice() == want.as_slice());
-        assert_streams(&rt, alloc, &geometry, image.as_slice(), normal.as_slice())?;
-        let answer = same(alloc, &geometry, image.as_slice(), normal.as_slice());
-        assert!(rt; answer == Ok(true));
+        assert!(rt; image == want);
+        let mut source = MemorySource::new(image.as_slice());
+        let mut writer = ProbeWriter::new(alloc, 1 << 20, 1 << 20, Failure::Nothing)?;
+        let count = normalise_to(alloc, &geometry, &mut source, &mut writer)?;
+        assert!(rt; count == 393_216 && writer.taken() == normal);
+        assert!(rt; same(alloc, &geometry, image.as_slice(), normal) == Ok(true));
         let unnamed = composed(alloc, &geometry, 0)?;
         let answer = same(alloc, &geometry, image.as_slice(), unnamed.as_slice());
         assert!(rt; answer == Ok(false));

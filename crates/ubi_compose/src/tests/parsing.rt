@@ -1,8 +1,8 @@
 //! Reading the composer's text.
 
-use super::images::{normal_damaged, normal_root, small};
+use super::images::{Image, bytes_of, small};
 use crate::{SpecCause, SpecError, compose, parse_spec};
-use std::alloc::{AllocError, Global};
+use std::alloc::Global;
 use std::test::Fail;
 use ubi_media::{RecFault, VolKind, VolName, VolumeRecord};
 use ubi_volume::{Bytes, Content, Lebs, Meaning, Volume};
@@ -16,21 +16,11 @@ fn cause(alloc: Global, text: &[u8]) -> Result<Option<(u32, SpecCause)>, Fail> {
     }
 }
 
-/// Adds a line that gives the logical eraseblock `lnum` of volume 0: so many pairs of the digits of a byte.
-fn put_leb(text: &mut Vec<u8>, lnum: &[u8], pair: &[u8], count: usize) -> Result<(), AllocError> {
-    text.extend_from_slice(b"\nleb 0 ")?;
-    text.extend_from_slice(lnum)?;
-    text.push(b' ')?;
-    for _ in 0..count {
-        text.extend_from_slice(pair)?;
-    }
-    Ok(())
-}
-
 /// The image that a text composes to, with an image sequence number.
-fn composed(alloc: Global, image_seq: u32, text: &[u8]) -> Result<Vec<u8>, Fail> {
+fn composed(alloc: Global, image_seq: u32, text: &[(&[u8], usize)]) -> Result<Vec<u8>, Fail> {
     let geometry = small()?;
-    let volumes = parse_spec(alloc, &geometry, text).map_err(|_| "not read")?;
+    let text = bytes_of(alloc, text)?;
+    let volumes = parse_spec(alloc, &geometry, text.as_slice()).map_err(|_| "not read")?;
     let meaning = Meaning::new(&geometry, image_seq, volumes).map_err(|_| "no meaning")?;
     Ok(compose(alloc, &meaning, 0).map_err(|_| "not composed")?)
 }
@@ -48,7 +38,7 @@ fn record(kind: VolKind, name: &[u8]) -> Result<VolumeRecord, Fail> {
 }
 
 /// A text, and the number and the cause of its first line at fault, if one is.
-const CAUSES: [(&[u8], Option<(u32, SpecCause)>); 20] = [
+static CAUSES: [(&[u8], Option<(u32, SpecCause)>); 20] = [
     (b"", None),
     (b"\n", None),
     (
@@ -117,23 +107,36 @@ const CAUSES: [(&[u8], Option<(u32, SpecCause)>); 20] = [
     ),
 ];
 
-#[test]
-fn tells_the_first_line_at_fault(rt: HostRuntime) -> Result<(), Fail> {
-    for (index, (text, want)) in CAUSES.iter().enumerate() {
-        assert!(rt; cause(rt.alloc(), text)? == *want, "case {index}");
-    }
-    Ok(())
-}
+/// The same of texts that are bytes, each so many times.
+static LONG: [(&[(&[u8], usize)], Option<(u32, SpecCause)>); 2] = [
+    (
+        &[
+            (b"volume 0 dynamic 20 1 00 root\nleb 0 0 ", 1),
+            (b"61", 384),
+        ],
+        None,
+    ),
+    (
+        &[
+            (b"volume 0 dynamic 20 1 00 root\nleb 0 0 ", 1),
+            (b"61", 384),
+            (b"\nleb 0 1 ", 1),
+            (b"61", 385),
+        ],
+        Some((3, SpecCause::Long)),
+    ),
+];
 
 #[test]
-fn tells_a_logical_eraseblock_that_is_too_long(rt: HostRuntime) -> Result<(), Fail> {
+fn tells_the_first_line_at_fault(rt: HostRuntime) -> Result<(), Fail> {
     let alloc = rt.alloc();
-    let mut text = Vec::new(alloc);
-    text.extend_from_slice(b"volume 0 dynamic 20 1 00 root")?;
-    put_leb(&mut text, b"0", b"61", 384)?;
-    assert!(rt; cause(alloc, text.as_slice())?.is_none());
-    put_leb(&mut text, b"1", b"61", 385)?;
-    assert!(rt; cause(alloc, text.as_slice())? == Some((3, SpecCause::Long)));
+    for (index, (text, want)) in CAUSES.iter().enumerate() {
+        assert!(rt; cause(alloc, text)? == *want, "case {index}");
+    }
+    for (text, want) in &LONG {
+        let text = bytes_of(alloc, text)?;
+        assert!(rt; cause(alloc, text.as_slice())? == *want);
+    }
     Ok(())
 }
 
@@ -183,17 +186,32 @@ fn gives_the_volumes_of_a_text(rt: HostRuntime) -> Result<(), Fail> {
     Ok(())
 }
 
+/// A text, as bytes that each stand so many times, an image sequence number, and the image that it composes to.
+static COMPOSED: [(&[(&[u8], usize)], u32, Image); 2] = [
+    (
+        &[
+            (b"volume 0 dynamic 20 1 00 root\nleb 0 2 ", 1),
+            (b"43", 384),
+            (b"\nleb 0 0 ", 1),
+            (b"41", 384),
+            (b"\nleb 0 1 ", 1),
+            (b"42", 384),
+        ],
+        0x1234_5678,
+        Image::NormalRoot,
+    ),
+    (
+        &[(b"volume 0 static 3 1 00 boot\ndamaged 0", 1)],
+        0,
+        Image::NormalDamaged,
+    ),
+];
+
 #[test]
-fn composes_a_text(rt: HostRuntime) -> Result<(), Fail> {
-    let alloc = rt.alloc();
-    let mut text = Vec::new(alloc);
-    text.extend_from_slice(b"volume 0 dynamic 20 1 00 root")?;
-    put_leb(&mut text, b"2", b"43", 384)?;
-    put_leb(&mut text, b"0", b"41", 384)?;
-    put_leb(&mut text, b"1", b"42", 384)?;
-    let image = composed(alloc, 0x1234_5678, text.as_slice())?;
-    assert!(rt; image.as_slice() == normal_root(alloc)?.as_slice());
-    let image = composed(alloc, 0, b"volume 0 static 3 1 00 boot\ndamaged 0")?;
-    assert!(rt; image.as_slice() == normal_damaged(alloc)?.as_slice());
+fn composes_texts(rt: HostRuntime) -> Result<(), Fail> {
+    for (text, image_seq, want) in &COMPOSED {
+        let image = composed(rt.alloc(), *image_seq, text)?;
+        assert!(rt; image == want.bytes(rt.alloc())?);
+    }
     Ok(())
 }

@@ -1,101 +1,20 @@
 //! Which member wins a logical eraseblock.
 
-use super::images::{
-    COPY, Case, ERASED, Ec, FREE, INTERNAL, LAYOUT, NUMBERED, PLAIN, Peb, Said, Vid,
-    WRONG_CHECK_OF_39, assert_found, found,
+use super::images::Said::{Beaten, Winner};
+use super::images::{Case, Said, assert_found, found, holds, image};
+use super::pebs::{
+    DROPPED_0, ERASED, ERASED_1, FIFTH_OF_1, FIRST_OF_2, LEB_0, LEB_1, LEB_2, NINTH_OF_0, OLD, Peb,
+    RIGHT, SECOND_OF_1, TABLE_0, TABLE_1, TORN_1, WRONG_4, WRONG_6, WRONG_9,
 };
 use crate::Scan;
+use std::alloc::Global;
 use std::test::Fail;
-use ubi_media::{LAYOUT_VOLUME, VidHeader};
-
-/// A member that is no copy.
-pub const OLD: Peb = Peb {
-    vid: Vid::Of(VidHeader { sqnum: 5, ..PLAIN }),
-    byte: 0x35,
-    count: 384,
-    ..FREE
-};
-
-/// A newer copy with the check of its data.
-pub const RIGHT: Peb = Peb {
-    vid: Vid::Of(COPY),
-    byte: 0x37,
-    count: 64,
-    ..FREE
-};
-
-/// The header of a copy with another check.
-const WRONG: VidHeader = VidHeader {
-    data_crc: WRONG_CHECK_OF_39,
-    ..COPY
-};
-
-/// Such copies, by their sequence number.
-pub const WRONG_4: Peb = Peb {
-    vid: Vid::Of(VidHeader { sqnum: 4, ..WRONG }),
-    byte: 0x39,
-    count: 64,
-    ..FREE
-};
-
-pub const WRONG_6: Peb = Peb {
-    vid: Vid::Of(VidHeader { sqnum: 6, ..WRONG }),
-    ..WRONG_4
-};
-
-pub const WRONG_9: Peb = Peb {
-    vid: Vid::Of(VidHeader { sqnum: 9, ..WRONG }),
-    ..WRONG_4
-};
-
-/// The two copies of a volume table.
-const TABLE_0: Peb = Peb {
-    vid: Vid::Of(LAYOUT),
-    ..NUMBERED
-};
-
-const TABLE_1: Peb = Peb {
-    vid: Vid::Of(VidHeader { lnum: 1, ..LAYOUT }),
-    ..NUMBERED
-};
-
-/// Logical eraseblocks 0 to 2 of volume 0.
-const LEB_0: Peb = Peb {
-    vid: Vid::Of(PLAIN),
-    ..NUMBERED
-};
-
-const LEB_1: Peb = Peb {
-    vid: Vid::Of(VidHeader { lnum: 1, ..PLAIN }),
-    ..NUMBERED
-};
-
-const LEB_2: Peb = Peb {
-    vid: Vid::Of(VidHeader { lnum: 2, ..PLAIN }),
-    ..NUMBERED
-};
-
-/// One of an internal volume.
-const DROPPED: Peb = Peb {
-    vid: Vid::Of(INTERNAL),
-    ..NUMBERED
-};
-
-/// Logical eraseblock 1 of volume 0 without its counter, and once it is erased.
-const TORN_1: Peb = Peb {
-    ec: Ec::Corrupt,
-    ..LEB_1
-};
-
-const ERASED_1: Peb = Peb {
-    ec: Ec::Blank,
-    ..LEB_1
-};
+use ubi_media::LAYOUT_VOLUME;
 
 static SMALL: [Case; 5] = [
     Case {
         what: "a small image, and logical eraseblocks that it hasn't",
-        pebs: &[TABLE_0, TABLE_1, LEB_0, LEB_1, LEB_2, DROPPED],
+        pebs: &[TABLE_0, TABLE_1, LEB_0, LEB_1, LEB_2, DROPPED_0],
         states: &[
             Said::Winner,
             Said::Winner,
@@ -164,180 +83,59 @@ fn finds_the_winners_of_a_small_image(rt: HostRuntime) -> Result<(), Fail> {
     assert_found(&rt, rt.alloc(), &SMALL)
 }
 
-/// An old member, a newer copy and a bad one that is newer still, in any order.
-static IN_ANY_ORDER: [Case; 6] = [
-    Case {
-        what: "an old member, a good copy, a bad copy 9",
-        pebs: &[OLD, RIGHT, WRONG_9],
-        states: &[Said::Beaten, Said::Winner, Said::Beaten],
-        winners: &[(0, 0, Some(1)), (0, 1, None)],
-        numbers: (9, 0, 0),
-    },
-    Case {
-        what: "an old member, a bad copy 9, a good copy",
-        pebs: &[OLD, WRONG_9, RIGHT],
-        states: &[Said::Beaten, Said::Beaten, Said::Winner],
-        winners: &[(0, 0, Some(2)), (0, 1, None)],
-        numbers: (9, 0, 0),
-    },
-    Case {
-        what: "a good copy, an old member, a bad copy 9",
-        pebs: &[RIGHT, OLD, WRONG_9],
-        states: &[Said::Winner, Said::Beaten, Said::Beaten],
-        winners: &[(0, 0, Some(0)), (0, 1, None)],
-        numbers: (9, 0, 0),
-    },
-    Case {
-        what: "a good copy, a bad copy 9, an old member",
-        pebs: &[RIGHT, WRONG_9, OLD],
-        states: &[Said::Winner, Said::Beaten, Said::Beaten],
-        winners: &[(0, 0, Some(0)), (0, 1, None)],
-        numbers: (9, 0, 0),
-    },
-    Case {
-        what: "a bad copy 9, an old member, a good copy",
-        pebs: &[WRONG_9, OLD, RIGHT],
-        states: &[Said::Beaten, Said::Beaten, Said::Winner],
-        winners: &[(0, 0, Some(2)), (0, 1, None)],
-        numbers: (9, 0, 0),
-    },
-    Case {
-        what: "a bad copy 9, a good copy, an old member",
-        pebs: &[WRONG_9, RIGHT, OLD],
-        states: &[Said::Beaten, Said::Winner, Said::Beaten],
-        winners: &[(0, 0, Some(1)), (0, 1, None)],
-        numbers: (9, 0, 0),
-    },
+/// Members of logical eraseblock 0, the state of each, which of them wins, and the greatest sequence number.
+type Members = (&'static [Peb], &'static [Said], u32, u64);
+
+static MEMBERS: [Members; 17] = [
+    // An old member, a newer copy and a bad one that is newer still, in any order.
+    (&[OLD, RIGHT, WRONG_9], &[Beaten, Winner, Beaten], 1, 9),
+    (&[OLD, WRONG_9, RIGHT], &[Beaten, Beaten, Winner], 2, 9),
+    (&[RIGHT, OLD, WRONG_9], &[Winner, Beaten, Beaten], 0, 9),
+    (&[RIGHT, WRONG_9, OLD], &[Winner, Beaten, Beaten], 0, 9),
+    (&[WRONG_9, OLD, RIGHT], &[Beaten, Beaten, Winner], 2, 9),
+    (&[WRONG_9, RIGHT, OLD], &[Beaten, Winner, Beaten], 1, 9),
+    // Bad members alone: the oldest wins.
+    (&[WRONG_4, WRONG_6], &[Winner, Beaten], 0, 6),
+    (&[WRONG_6, WRONG_4], &[Beaten, Winner], 1, 6),
+    (
+        &[WRONG_6, WRONG_4, WRONG_9],
+        &[Beaten, Winner, Beaten],
+        1,
+        9,
+    ),
+    (&[WRONG_9], &[Winner], 0, 9),
+    // Copies that meet another member.
+    (&[WRONG_9, OLD], &[Beaten, Winner], 1, 9),
+    (&[OLD, WRONG_9], &[Winner, Beaten], 0, 9),
+    (&[RIGHT, OLD], &[Winner, Beaten], 0, 7),
+    (&[RIGHT, WRONG_4], &[Winner, Beaten], 0, 7),
+    (&[WRONG_4, RIGHT], &[Beaten, Winner], 1, 7),
+    (&[WRONG_6, WRONG_9, OLD], &[Beaten, Beaten, Winner], 2, 9),
+    (&[WRONG_9, RIGHT, WRONG_6], &[Beaten, Winner, Beaten], 1, 9),
 ];
 
-#[test]
-fn the_newest_good_member_wins_in_any_order(rt: HostRuntime) -> Result<(), Fail> {
-    assert_found(&rt, rt.alloc(), &IN_ANY_ORDER)
+/// Whether of some members the right one wins.
+fn is_won(alloc: Global, (pebs, states, p, top): &Members) -> Result<bool, Fail> {
+    let won = found(alloc, pebs)?;
+    let case = Case {
+        what: "",
+        pebs,
+        states,
+        winners: &[],
+        numbers: (*top, 0, 0),
+    };
+    Ok(won.winner(0, 0) == Some(*p) && won.winner(0, 1).is_none() && holds(alloc, &case)?)
 }
 
-/// Bad members alone: the oldest wins.
-static BAD: [Case; 4] = [
-    Case {
-        what: "a bad copy 4, a bad copy 6",
-        pebs: &[WRONG_4, WRONG_6],
-        states: &[Said::Winner, Said::Beaten],
-        winners: &[(0, 0, Some(0)), (0, 1, None)],
-        numbers: (6, 0, 0),
-    },
-    Case {
-        what: "a bad copy 6, a bad copy 4",
-        pebs: &[WRONG_6, WRONG_4],
-        states: &[Said::Beaten, Said::Winner],
-        winners: &[(0, 0, Some(1)), (0, 1, None)],
-        numbers: (6, 0, 0),
-    },
-    Case {
-        what: "a bad copy 6, a bad copy 4, a bad copy 9",
-        pebs: &[WRONG_6, WRONG_4, WRONG_9],
-        states: &[Said::Beaten, Said::Winner, Said::Beaten],
-        winners: &[(0, 0, Some(1)), (0, 1, None)],
-        numbers: (9, 0, 0),
-    },
-    Case {
-        what: "a bad copy 9",
-        pebs: &[WRONG_9],
-        states: &[Said::Winner],
-        winners: &[(0, 0, Some(0)), (0, 1, None)],
-        numbers: (9, 0, 0),
-    },
-];
-
+/// The newest good member wins, in any order, and else the oldest of bad ones. A copy is checked once it meets another
+/// member.
 #[test]
-fn the_oldest_of_bad_members_wins(rt: HostRuntime) -> Result<(), Fail> {
-    assert_found(&rt, rt.alloc(), &BAD)
+fn the_newest_good_member_wins(rt: HostRuntime) -> Result<(), Fail> {
+    for (index, members) in MEMBERS.iter().enumerate() {
+        assert!(rt; is_won(rt.alloc(), members)?, "case {index}");
+    }
+    Ok(())
 }
-
-/// Copies that meet another member.
-static MEETING: [Case; 7] = [
-    Case {
-        what: "a bad copy 9, an old member",
-        pebs: &[WRONG_9, OLD],
-        states: &[Said::Beaten, Said::Winner],
-        winners: &[(0, 0, Some(1)), (0, 1, None)],
-        numbers: (9, 0, 0),
-    },
-    Case {
-        what: "an old member, a bad copy 9",
-        pebs: &[OLD, WRONG_9],
-        states: &[Said::Winner, Said::Beaten],
-        winners: &[(0, 0, Some(0)), (0, 1, None)],
-        numbers: (9, 0, 0),
-    },
-    Case {
-        what: "a good copy, an old member",
-        pebs: &[RIGHT, OLD],
-        states: &[Said::Winner, Said::Beaten],
-        winners: &[(0, 0, Some(0)), (0, 1, None)],
-        numbers: (7, 0, 0),
-    },
-    Case {
-        what: "a good copy, a bad copy 4",
-        pebs: &[RIGHT, WRONG_4],
-        states: &[Said::Winner, Said::Beaten],
-        winners: &[(0, 0, Some(0)), (0, 1, None)],
-        numbers: (7, 0, 0),
-    },
-    Case {
-        what: "a bad copy 4, a good copy",
-        pebs: &[WRONG_4, RIGHT],
-        states: &[Said::Beaten, Said::Winner],
-        winners: &[(0, 0, Some(1)), (0, 1, None)],
-        numbers: (7, 0, 0),
-    },
-    Case {
-        what: "a bad copy 6, a bad copy 9, an old member",
-        pebs: &[WRONG_6, WRONG_9, OLD],
-        states: &[Said::Beaten, Said::Beaten, Said::Winner],
-        winners: &[(0, 0, Some(2)), (0, 1, None)],
-        numbers: (9, 0, 0),
-    },
-    Case {
-        what: "a bad copy 9, a good copy, a bad copy 6",
-        pebs: &[WRONG_9, RIGHT, WRONG_6],
-        states: &[Said::Beaten, Said::Winner, Said::Beaten],
-        winners: &[(0, 0, Some(1)), (0, 1, None)],
-        numbers: (9, 0, 0),
-    },
-];
-
-#[test]
-fn a_copy_is_checked_once_it_meets_another_member(rt: HostRuntime) -> Result<(), Fail> {
-    assert_found(&rt, rt.alloc(), &MEETING)
-}
-
-/// Members of volumes 0, 1 and 2.
-const NINTH_OF_0: Peb = Peb {
-    vid: Vid::Of(VidHeader { lnum: 9, ..PLAIN }),
-    ..FREE
-};
-
-const FIFTH_OF_1: Peb = Peb {
-    vid: Vid::Of(VidHeader {
-        vol_id: 1,
-        lnum: 5,
-        ..PLAIN
-    }),
-    ..FREE
-};
-
-const SECOND_OF_1: Peb = Peb {
-    vid: Vid::Of(VidHeader {
-        vol_id: 1,
-        lnum: 2,
-        ..PLAIN
-    }),
-    ..FREE
-};
-
-const FIRST_OF_2: Peb = Peb {
-    vid: Vid::Of(VidHeader { vol_id: 2, ..PLAIN }),
-    ..FREE
-};
 
 /// A volume and a number, and the next logical eraseblock of it from that number on, with its winner.
 type Next = (u32, u32, Option<(u32, u32)>);

@@ -2,8 +2,8 @@
 
 ghost use Rattle.std.specs.Prelude.{◌≡◌, ◌+◌, ◌≤◌, OnOk, length, slice_range};
 
-use super::choice::{OLD, RIGHT, WRONG_4, WRONG_6, WRONG_9};
-use super::images::{ERASED, FREE, PLAIN, Peb, Vid, geometry, image};
+use super::images::{found, geometry, image};
+use super::pebs::{ERASED, OLD, OLDER, Peb, RIGHT, WRONG_4, WRONG_6, WRONG_9};
 use crate::trace::Trace;
 use crate::{
     BlockSource, FileSource, MemorySource, ProbeSource, Scan, SourceFault, StreamError, scan_from,
@@ -11,15 +11,7 @@ use crate::{
 use std::alloc::Global;
 use std::fs;
 use std::test::Fail;
-use ubi_media::{Refusal, VidHeader};
-
-/// A member that is no copy, and older than the copies.
-const OLDER: Peb = Peb {
-    vid: Vid::Of(VidHeader { sqnum: 6, ..PLAIN }),
-    byte: 0x36,
-    count: 384,
-    ..FREE
-};
+use ubi_media::Refusal;
 
 /// An eraseblock, how many reads begin in it, and how many of them in its data.
 type Reads = (u32, u64, u64);
@@ -42,8 +34,8 @@ fn winner(answer: Result<Scan, StreamError>) -> Option<u32> {
 type Case = (&'static [Peb], u32, &'static [Reads]);
 
 /// Of members that meet one another the copies' data are read once each, and those of the others never. The candidate's
-/// headers are read again when the second member comes. A copy is checked where it meets another one, and a copy that is
-/// alone never.
+/// headers are read again when the second member comes. A copy is checked where it meets another one, and a copy that
+/// is alone never.
 static CHECKED: [Case; 9] = [
     (
         &[OLD, RIGHT, WRONG_9, OLDER],
@@ -187,8 +179,8 @@ fn scans_a_file_as_memory(rt: HostRuntime) -> Result<(), Fail> {
     Ok(())
 }
 
-/// A source that answers other bytes from its third read on. As a file it is known by its reads, with which no bytes agree
-/// once two of them contradict each other.
+/// A source that answers other bytes from its third read on. As a file it is known by its reads, with which no bytes
+/// agree once two of them contradict each other.
 #[derive(Drop)]
 struct Fickle<'a> {
     first: &'a [u8],

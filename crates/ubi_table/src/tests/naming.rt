@@ -20,8 +20,8 @@ fn other_named<'a>(
     entries.iter().find(|entry| entry.0 != id && entry.1.name.as_bytes() == name.as_bytes())
 }
 
-/// A table with another name for a volume. None where it has no such volume, the bytes are no name, or another volume has
-/// the name.
+/// A table with another name for a volume. None where it has no such volume, the bytes are no name, or another volume
+/// has the name.
 pub fn renamed(
     alloc: Global,
     table: &Table,
@@ -107,23 +107,6 @@ fn gets(alloc: Global, geometry: &Geometry, pebs: &[Peb], case: &Case) -> Result
     Ok(gets)
 }
 
-#[test]
-fn names_one_volume_anew(rt: HostRuntime) -> Result<(), Fail> {
-    for (index, case) in SMALL.iter().enumerate() {
-        assert!(rt;
-            gets(rt.alloc(), &small()?, &[Peb::Copy(0, case.0)], case)?,
-            "case {index}"
-        );
-    }
-    for (index, case) in LARGER.iter().enumerate() {
-        assert!(rt;
-            gets(rt.alloc(), &larger()?, &[Peb::Copy(0, case.0)], case)?,
-            "larger {index}"
-        );
-    }
-    Ok(())
-}
-
 /// The records of a table, a volume, and a name that it can't get.
 static REFUSED: [(&[Slot], u32, &[u8]); 9] = [
     (&[ROOT, BOOT], 1, b""),
@@ -138,14 +121,20 @@ static REFUSED: [(&[Slot], u32, &[u8]); 9] = [
 ];
 
 #[test]
-fn names_no_volume_otherwise(rt: HostRuntime) -> Result<(), Fail> {
+fn names_one_volume_anew_or_none(rt: HostRuntime) -> Result<(), Fail> {
     let alloc = rt.alloc();
+    for (index, case) in SMALL.iter().enumerate() {
+        let gets = gets(alloc, &small()?, &[Peb::Copy(0, case.0)], case)?;
+        assert!(rt; gets, "case {index}");
+    }
+    for (index, case) in LARGER.iter().enumerate() {
+        let gets = gets(alloc, &larger()?, &[Peb::Copy(0, case.0)], case)?;
+        assert!(rt; gets, "larger {index}");
+    }
     for (index, (records, id, name)) in REFUSED.iter().enumerate() {
         let table = chosen(alloc, &small()?, &[Peb::Copy(0, records)])?;
-        assert!(rt;
-            renamed(alloc, &table, *id, name)?.is_none(),
-            "case {index}"
-        );
+        let renamed = renamed(alloc, &table, *id, name)?;
+        assert!(rt; renamed.is_none(), "refused {index}");
     }
     Ok(())
 }

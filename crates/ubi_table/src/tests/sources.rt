@@ -58,58 +58,63 @@ fn has_reads(source: &ProbeSource<'_>, want: &[Reads]) -> bool {
     has
 }
 
-/// Some eraseblocks, the volumes of their table, and what is read for it.
-const READ: [([Peb; 3], Volumes, [Reads; 3]); 2] = [
-    (SOUND, &[(0, ROOT)], [(0, 2, 1), (1, 1, 0), (2, 1, 0)]),
+/// Some eraseblocks, which read of them fails, if any does, the volumes of their table or why they have none then, and
+/// what is read.
+type Case = (
+    &'static [Peb],
+    u64,
+    Result<Volumes, StreamError>,
+    &'static [Reads],
+);
+
+/// Copy 1 is read only where copy 0 is corrupt. The scan makes three reads, and then the copies are read.
+static CASES: [Case; 8] = [
     (
-        FIRST_CORRUPT,
-        &[(0, BOOT), (1, ROOT)],
-        [(0, 2, 1), (1, 2, 1), (2, 1, 0)],
+        &SOUND,
+        0,
+        Ok(&[(0, ROOT)]),
+        &[(0, 2, 1), (1, 1, 0), (2, 1, 0)],
+    ),
+    (
+        &FIRST_CORRUPT,
+        0,
+        Ok(&[(0, BOOT), (1, ROOT)]),
+        &[(0, 2, 1), (1, 2, 1), (2, 1, 0)],
+    ),
+    (&FIRST_CORRUPT, 3, Err(StreamError::Read(2, 0)), &[]),
+    (&FIRST_CORRUPT, 4, Err(StreamError::Read(0, 0)), &[]),
+    (&FIRST_CORRUPT, 5, Err(StreamError::Read(1, 0)), &[]),
+    (&FIRST_CORRUPT, 6, Ok(&[(0, BOOT), (1, ROOT)]), &[]),
+    (
+        &BOTH_CORRUPT,
+        0,
+        Err(StreamError::Refused(Refusal::BothCorrupt)),
+        &[],
+    ),
+    (
+        &TOO_LARGE,
+        0,
+        Err(StreamError::Refused(Refusal::NoSpace)),
+        &[],
     ),
 ];
 
-/// Whether some eraseblocks have a table, and so much is read for it.
-fn is_read(alloc: Global, pebs: &[Peb], volumes: Volumes, reads: &[Reads]) -> Result<bool, Fail> {
+/// Whether some eraseblocks have their table, or none, and so much is read for it.
+fn is_told(alloc: Global, (pebs, at, want, reads): &Case) -> Result<bool, Fail> {
     let bytes = image(alloc, &small()?, pebs)?;
-    let mut source = ProbeSource::new(alloc, &small()?, bytes.as_slice(), 0)?;
-    let table = table_of(alloc, &small()?, &mut source)?;
-    Ok(has_volumes(&table, volumes)? && has_reads(&source, reads))
+    let mut source = ProbeSource::new(alloc, &small()?, bytes.as_slice(), *at)?;
+    let is = match (table_of(alloc, &small()?, &mut source), want) {
+        (Ok(table), Ok(volumes)) => has_volumes(&table, volumes)?,
+        (Err(error), Err(cause)) => error == *cause,
+        _ => false,
+    };
+    Ok(is && has_reads(&source, reads))
 }
 
 #[test]
 fn reads_copy_1_only_where_copy_0_is_corrupt(rt: HostRuntime) -> Result<(), Fail> {
-    for (index, (pebs, volumes, reads)) in READ.iter().enumerate() {
-        assert!(rt; is_read(rt.alloc(), pebs, volumes, reads)?, "case {index}");
-    }
-    Ok(())
-}
-
-/// Some eraseblocks, which read of them fails, if any does, and why they have no table then. The scan makes three reads,
-/// and then the copies are read.
-const FAILING: [([Peb; 3], u64, Option<StreamError>); 6] = [
-    (FIRST_CORRUPT, 3, Some(StreamError::Read(2, 0))),
-    (FIRST_CORRUPT, 4, Some(StreamError::Read(0, 0))),
-    (FIRST_CORRUPT, 5, Some(StreamError::Read(1, 0))),
-    (FIRST_CORRUPT, 6, None),
-    (
-        BOTH_CORRUPT,
-        0,
-        Some(StreamError::Refused(Refusal::BothCorrupt)),
-    ),
-    (TOO_LARGE, 0, Some(StreamError::Refused(Refusal::NoSpace))),
-];
-
-/// Why some eraseblocks have no table, where a read of them fails.
-fn error_of(alloc: Global, pebs: &[Peb], at: u64) -> Result<Option<StreamError>, Fail> {
-    let bytes = image(alloc, &small()?, pebs)?;
-    let mut source = ProbeSource::new(alloc, &small()?, bytes.as_slice(), at)?;
-    Ok(table_of(alloc, &small()?, &mut source).err())
-}
-
-#[test]
-fn tells_which_read_failed(rt: HostRuntime) -> Result<(), Fail> {
-    for (index, (pebs, at, want)) in FAILING.iter().enumerate() {
-        assert!(rt; error_of(rt.alloc(), pebs, *at)? == *want, "case {index}");
+    for (index, case) in CASES.iter().enumerate() {
+        assert!(rt; is_told(rt.alloc(), case)?, "case {index}");
     }
     Ok(())
 }

@@ -1,12 +1,12 @@
 //! What commands answer, over bytes and over files, compared with what they are to answer.
 
+use super::contents::Contents;
 use super::fake::{Broken, FakeFiles};
 use crate::commands::run_words;
 use crate::normalise::run_normalise;
 use crate::outcome::Outcome;
 use std::alloc::{AllocError, Global};
 use std::cell::RefCell;
-use std::fs;
 use std::fs::Files;
 use std::os::unix::fs::FileExt;
 use std::process::Abort;
@@ -20,28 +20,18 @@ pub fn small() -> Result<Geometry, GeometryError> {
     Geometry::new(512, 64, 64, 128, 32)
 }
 
-/// Asserts what a command answers that writes no file.
-pub fn assert_says(rt: &impl Abort, outcome: Outcome, text: &str, status: u8) -> Result<(), Fail> {
-    assert_eq!(rt; outcome.text.as_slice(), text.as_bytes());
-    assert_eq!(rt; outcome.status, status);
-    assert!(rt; outcome.file.is_none());
-    Ok(())
+/// Whether a command answered a text and an exit status.
+pub fn is_answer(outcome: &Outcome, (text, status): (&str, u8)) -> bool {
+    outcome.text.as_slice() == text.as_bytes() && outcome.status == status
 }
 
-/// Asserts what is answered of the bytes of an image that is normalised, and what a writer with ample room receives.
-pub fn assert_normal(
-    rt: &impl Abort,
-    alloc: Global,
-    image: &[u8],
-    (line, status): (&str, u8),
-    want: &[u8],
-) -> Result<(), Fail> {
+/// Whether so is answered of the bytes of an image that is normalised, and a writer with ample room receives what it
+/// should.
+pub fn is_normal(alloc: Global, image: &[u8], line: (&str, u8), want: &[u8]) -> Result<bool, Fail> {
     let mut source = MemorySource::new(image);
     let mut writer = ProbeWriter::new(alloc, 4096, 100, Failure::Nothing)?;
     let answer = run_normalise(alloc, &small()?, &mut source, &mut writer)?;
-    assert_says(rt, answer, line, status)?;
-    assert_eq!(rt; writer.taken(), want);
-    Ok(())
+    Ok(is_answer(&answer, line) && answer.file.is_none() && writer.taken() == want)
 }
 
 /// Runs the words of a line over files, with the program's name before them.
@@ -61,79 +51,94 @@ where
     run_words(files, alloc, words.as_slice(), false)
 }
 
-/// Runs the words of a line, and those of the geometry of small eraseblocks, over files; asserts what is answered.
+/// Asserts what the words of a line answer over files. Where they name no geometry, it is that of small eraseblocks.
 pub fn assert_line<R: Files + Eprint + Abort>(
     rt: &R,
     alloc: Global,
     line: &str,
-    text: &str,
-    status: u8,
+    answer: (&str, u8),
 ) -> Result<(), Fail>
 where
     R::File: FileExt,
 {
-    let line = format!(in alloc; "{line} --peb 512 --page 64 --pebs 32")?;
-    let outcome = run_line(rt, alloc, line.as_str())?;
-    assert_eq!(rt; outcome.text.as_slice(), text.as_bytes());
-    assert_eq!(rt; outcome.status, status);
+    let outcome = run_line(rt, alloc, with_sizes(alloc, line)?.as_str())?;
+    assert!(*rt; is_answer(&outcome, answer), "of {line}");
     Ok(())
 }
 
-/// The same of each of some lines, with what is answered.
-pub fn assert_lines<R: Files + Eprint + Abort>(
-    rt: &R,
-    alloc: Global,
-    lines: &[(&str, &str, u8)],
-) -> Result<(), Fail>
-where
-    R::File: FileExt,
-{
-    for (line, text, status) in lines {
-        assert_line(rt, alloc, line, text, *status)?;
+/// The words of a line, and those of the geometry of small eraseblocks, where they name none.
+fn with_sizes(alloc: Global, line: &str) -> Result<String, AllocError> {
+    if line.contains("--peb ") {
+        return String::from_str(alloc, line);
     }
-    Ok(())
+    format!(in alloc; "{line} --peb 512 --page 64 --pebs 32")
 }
 
-/// The same over files that each hold an image and fail as they are told to; asserts also which bytes were written.
+/// What a line answers, as [`assert_line`] runs it, over files that fail as they are told to, and of which each but
+/// `new.bin` holds an image; and the bytes that are written.
+pub fn run_over(
+    alloc: Global,
+    (image, new): (&[u8], &[u8]),
+    broken: Broken,
+    line: &str,
+) -> Result<(Outcome, Vec<u8>), Fail> {
+    let shown = RefCell::new(String::new(alloc));
+    let written = RefCell::new(Vec::new(alloc));
+    let files = FakeFiles {
+        image,
+        new,
+        broken,
+        written: &written,
+        shown: &shown,
+    };
+    let outcome = run_line(&files, alloc, with_sizes(alloc, line)?.as_str())?;
+    Ok((outcome, written.into_inner()))
+}
+
+/// Asserts what is answered and written so.
 pub fn assert_over(
     rt: &impl Abort,
     alloc: Global,
-    (image, broken): (&[u8], Broken),
+    files: (&[u8], &[u8]),
+    broken: Broken,
     line: &str,
-    (text, status): (&str, u8),
+    answer: (&str, u8),
     output: &[u8],
 ) -> Result<(), Fail> {
-    let shown = RefCell::new(String::new(alloc));
-    let written = RefCell::new(Vec::new(alloc));
-    let files = FakeFiles::new(image, broken, &written, &shown);
-    let line = format!(in alloc; "{line} --peb 512 --page 64 --pebs 32")?;
-    let outcome = run_line(&files, alloc, line.as_str())?;
-    assert_eq!(rt; outcome.text.as_slice(), text.as_bytes());
-    assert_eq!(rt; outcome.status, status);
-    assert_eq!(rt; written.into_inner().as_slice(), output);
+    let (outcome, written) = run_over(alloc, files, broken, line)?;
+    let is = is_answer(&outcome, answer) && written.as_slice() == output;
+    assert!(*rt; is, "of {line}, {broken:?}");
     Ok(())
 }
 
-/// The same of files that fail in each of some ways, with what is answered and how many bytes of the output are written.
-pub fn assert_each(
-    rt: &impl Abort,
-    alloc: Global,
-    image: &[u8],
-    line: &str,
-    ways: &[(Broken, (&str, u8), usize)],
-    output: &[u8],
-) -> Result<(), Fail> {
-    for (broken, answer, count) in ways {
-        let written = output.get(..*count).ok_or("short")?;
-        assert_over(rt, alloc, (image, *broken), line, *answer, written)?;
-    }
-    Ok(())
+/// A line over files that each hold an image, but `new.bin`, which holds other bytes.
+#[derive(Clone, Copy)]
+pub struct Run {
+    pub image: Contents,
+    pub new: Contents,
+    pub line: &'static str,
+    /// What is printed, and the exit status.
+    pub answer: (&'static str, u8),
+    /// What is written.
+    pub output: Contents,
 }
 
-/// Removes files.
-pub fn remove_files(rt: &impl Files, paths: &[&str]) -> Result<(), Fail> {
-    for path in paths {
-        fs::remove_file(rt, path)?;
+/// Asserts what each run answers and writes, over files that are read at places and over those that can't be.
+pub fn assert_runs(rt: &impl Abort, alloc: Global, runs: &[Run]) -> Result<(), Fail> {
+    for run in runs {
+        let (image, new) = (run.image.bytes(alloc)?, run.new.bytes(alloc)?);
+        let output = run.output.bytes(alloc)?;
+        for broken in [Broken::Nothing, Broken::Places] {
+            assert_over(
+                rt,
+                alloc,
+                (image.as_slice(), new.as_slice()),
+                broken,
+                run.line,
+                run.answer,
+                output.as_slice(),
+            )?;
+        }
     }
     Ok(())
 }

@@ -1,9 +1,9 @@
 //! Images with what they are normalised to, over every sort of source.
 
-use super::answers::{assert_normal, assert_over, small};
+use super::answers::{is_answer, is_normal, run_over, small};
+use super::contents::{Contents, EMPTY};
 use super::fake::Broken;
-use super::images::overwrite;
-use super::pebs::{Peb, bytes_of};
+use super::pebs::Peb;
 use std::alloc::Global;
 use std::fs;
 use std::fs::Files;
@@ -15,7 +15,8 @@ use ubi_media::Refusal;
 use ubi_scan::{BlockSource, FileSource, ProbeSource, StreamError};
 use ubi_volume::{Failure, ProbeWriter, attach_places};
 
-/// What is answered of an image: its line, and the eraseblocks of its normal image, or the cause for which it is refused.
+/// What is answered of an image: its line, and the eraseblocks of its normal image, or the cause for which it is
+/// refused.
 #[derive(Clone, Copy)]
 pub enum Answer {
     Normal(&'static str, &'static [Peb]),
@@ -35,13 +36,9 @@ pub struct Case {
 }
 
 impl Case {
-    /// The bytes of its image.
-    fn image(&self, alloc: Global) -> Result<Vec<u8>, Fail> {
-        let mut image = bytes_of(alloc, &small()?, self.pebs)?;
-        for (at, bytes) in self.over {
-            overwrite(image.as_mut_slice(), *at, bytes);
-        }
-        Ok(image)
+    /// Its image.
+    fn image(&self) -> Contents {
+        Contents::Pebs(self.pebs, self.over)
     }
 
     /// Its line and the exit status.
@@ -52,11 +49,11 @@ impl Case {
         }
     }
 
-    /// The bytes that are written.
-    fn normal(&self, alloc: Global) -> Result<Vec<u8>, Fail> {
+    /// What is written.
+    fn normal(&self) -> Contents {
         match self.answer {
-            Answer::Normal(_, pebs) => Ok(bytes_of(alloc, &small()?, pebs)?),
-            Answer::Refused(..) => Ok(Vec::new(alloc)),
+            Answer::Normal(_, pebs) => Contents::Pebs(pebs, &[]),
+            Answer::Refused(..) => EMPTY,
         }
     }
 
@@ -80,7 +77,8 @@ impl Case {
         Ok(self.is_answer(answer, want.len()) && writer.taken() == want)
     }
 
-    /// Whether it is so where reads are counted. Each begins and ends in one eraseblock, and there are 7 of each at most.
+    /// Whether it is so where reads are counted. Each begins and ends in one eraseblock, and there are 7 of each at
+    /// most.
     fn is_read_little(&self, alloc: Global, image: &[u8], want: &[u8]) -> Result<bool, Fail> {
         let mut source = ProbeSource::new(alloc, &small()?, image, 0)?;
         let mut is_little = self.streams(alloc, &mut source, want)? && source.crossing() == 0;
@@ -122,47 +120,37 @@ impl Case {
 }
 
 /// The words that normalise an image.
-pub const WORDS: &str = "normalise a.img --out b.img";
+const WORDS: &str = "normalise a.img --out b.img";
 
-/// Asserts what is answered of some bytes and which are written: from memory; by words, as a file that is read at places,
-/// and as one that is read whole, since it has none.
-pub fn assert_gives(
-    rt: &impl Abort,
-    alloc: Global,
-    image: &[u8],
-    line: (&str, u8),
-    want: &[u8],
-) -> Result<(), Fail> {
-    assert_normal(rt, alloc, image, line, want)?;
-    assert_over(rt, alloc, (image, Broken::Whole), WORDS, line, want)?;
-    assert_over(rt, alloc, (image, Broken::Places), WORDS, line, want)
+/// Whether so is answered of some bytes and written: from memory; by words, as a file that is read at places, and as
+/// one that is read whole, since it has none.
+pub fn is_given(alloc: Global, image: &[u8], line: (&str, u8), want: &[u8]) -> Result<bool, Fail> {
+    let mut is = is_normal(alloc, image, line, want)?;
+    for broken in [Broken::Whole, Broken::Places] {
+        let (outcome, written) = run_over(alloc, (image, &[]), broken, WORDS)?;
+        is = is && is_answer(&outcome, line) && written.as_slice() == want;
+    }
+    Ok(is)
 }
 
-/// Asserts what is answered of an image and what is written, from each sort of source, and that what was written is
-/// normalised to itself. The file is that of a path.
-fn assert_case<R: Files + Abort>(rt: &R, alloc: Global, path: &str, case: &Case) -> Result<(), Fail>
+/// Whether an image is answered and written as it should, from each sort of source, and what was written is normalised
+/// to itself. The file is that of a path.
+fn is_case<R: Files>(rt: &R, alloc: Global, path: &str, case: &Case) -> Result<bool, Fail>
 where
     R::File: FileExt,
 {
-    let what = case.what;
-    let image = case.image(alloc)?;
-    let image = image.as_slice();
-    let want = case.normal(alloc)?;
-    let want = want.as_slice();
-    assert!(*rt; case.is_read_little(alloc, image, want)?, "{what}");
-    assert!(*rt; case.is_checked(alloc, image)?, "{what}, attached");
-    assert!(*rt;
-        case.is_file(rt, alloc, path, image, want)?,
-        "{what}, from a file"
-    );
-    assert_gives(rt, alloc, image, case.line(), want)?;
-    if !want.is_empty() {
-        assert_normal(rt, alloc, want, case.line(), want)?;
-    }
-    Ok(())
+    let (image, want) = (case.image().bytes(alloc)?, case.normal().bytes(alloc)?);
+    let (image, want) = (image.as_slice(), want.as_slice());
+    Ok(
+        case.is_read_little(alloc, image, want)?
+            && case.is_checked(alloc, image)?
+            && case.is_file(rt, alloc, path, image, want)?
+            && is_given(alloc, image, case.line(), want)?
+            && (want.is_empty() || is_normal(alloc, want, case.line(), want)?),
+    )
 }
 
-/// The same of some images.
+/// Asserts it of some images.
 pub fn assert_cases<R: Files + Abort>(
     rt: &R,
     alloc: Global,
@@ -173,7 +161,7 @@ where
     R::File: FileExt,
 {
     for case in cases {
-        assert_case(rt, alloc, path, case)?;
+        assert!(*rt; is_case(rt, alloc, path, case)?, "{}", case.what);
     }
     Ok(())
 }

@@ -1,18 +1,17 @@
 //! Sources that change while they are read.
 
 use super::answers::small;
+use super::contents::Contents;
 use super::pebs::{
     A, B, C, ERASED, FIRST, FIRST_BOOT, FIRST_OF_5, FIRST_UPDATING, NEWER_0, NEWER_1, OLD, Peb,
     RIGHT, SECOND, SECOND_BOOT, SECOND_OF_6, SECOND_UPDATING, TEXT_0, TEXT_1, TORN, WRONG_6,
-    WRONG_9, bytes_of,
+    WRONG_9,
 };
 use crate::change::{NewBytes, run_change, run_change_from};
-use crate::check::{run_check, run_check_from};
-use crate::list::{run_list, run_list_from};
 use crate::outcome::Outcome;
+use crate::readers::{Checking, Listing, Reading, Showing};
 use crate::rename::{run_rename, run_rename_from};
 use crate::same::{run_same, run_same_from};
-use crate::show::{run_show, run_show_from};
 use std::alloc::Global;
 use std::test::Fail;
 use ubi_compose::normalise_to;
@@ -115,21 +114,6 @@ static CHANGES: [(&[Peb], &[Peb]); 8] = [
     ),
 ];
 
-/// No eraseblock is read more than 7 times, so that the last numbers of reads are those of sources that don't change.
-#[test]
-fn normalises_a_source_that_changes(rt: HostRuntime) -> Result<(), Fail> {
-    let alloc = rt.alloc();
-    for (index, (first, then)) in CHANGES.iter().enumerate() {
-        let first = bytes_of(alloc, &small()?, first)?;
-        let then = bytes_of(alloc, &small()?, then)?;
-        for left in 0..50 {
-            let is_sound = is_sound(alloc, first.as_slice(), then.as_slice(), left)?;
-            assert!(rt; is_sound, "case {index}, after {left} reads");
-        }
-    }
-    Ok(())
-}
-
 /// Whether lines were told or a refusal, and nothing is to be written; and, where it has to be, what was wanted.
 fn is_told(answer: &Outcome, want: &Outcome, has_to: bool) -> bool {
     let is_refused = answer.text.as_slice().starts_with(b"refused ");
@@ -137,8 +121,24 @@ fn is_told(answer: &Outcome, want: &Outcome, has_to: bool) -> bool {
     answer.file.is_none() && is_refused == (answer.status == 1) && (!has_to || is_wanted)
 }
 
-/// Whether `same` tells of a source that changes after so many reads, beside one that doesn't, that both mean the same or
-/// not, or that it is refused; and the right one if it doesn't change.
+/// Whether a command that reads has an answer for a source that changes after so many reads, and, where it has to be,
+/// that of one that doesn't.
+fn is_answered<C: Reading>(
+    alloc: Global,
+    command: &C,
+    (first, then): (&[u8], &[u8]),
+    left: u64,
+    has_to: bool,
+) -> Result<bool, Fail> {
+    let geometry = small()?;
+    let mut source = Changing { first, then, left };
+    let answer = command.answer(alloc, &geometry, &mut source)?;
+    let want = command.answer(alloc, &geometry, &mut MemorySource::new(first))?;
+    Ok(is_told(&answer, &want, has_to))
+}
+
+/// Whether `same` tells of a source that changes after so many reads, beside one that doesn't, that both mean the same
+/// or not, or that it is refused; and the right one if it doesn't change.
 fn is_compared<'a>(
     alloc: Global,
     first: &'a [u8],
@@ -149,32 +149,25 @@ fn is_compared<'a>(
     let mut source = Changing { first, then, left };
     let mut beside = MemorySource::new(first);
     let answer = run_same_from(alloc, &geometry, &mut source, &mut beside)?;
+    let want = run_same(alloc, &geometry, first, first)?;
     let text = answer.text.as_slice();
     let is_form = if answer.status == 0 {
         text == b"same\n".as_slice()
     } else {
         text == b"different\n".as_slice() || text.starts_with(b"left refused ")
     };
-    let is_same = text == run_same(alloc, &geometry, first, first)?.text.as_slice();
-    Ok(is_form && (is_same || left < 49))
+    Ok(is_form && (answer.text == want.text || left < 49))
 }
 
-/// Whether the commands that read have an answer for a source that changes after so many reads, and the right one if it
-/// doesn't.
-fn is_answered(alloc: Global, first: &[u8], then: &[u8], left: u64) -> Result<bool, Fail> {
-    let geometry = small()?;
-    let mut source = Changing { first, then, left };
-    let checked = run_check_from(alloc, &geometry, &mut source)?;
-    let mut source = Changing { first, then, left };
-    let listed = run_list_from(alloc, &geometry, &mut source)?;
-    let mut source = Changing { first, then, left };
-    let shown = run_show_from(alloc, &geometry, &mut source, 1)?;
-    let is_same = left == 49;
+/// Whether each command has an answer for a source that changes after so many reads.
+fn are_answered(alloc: Global, first: &[u8], then: &[u8], left: u64) -> Result<bool, Fail> {
+    let (bytes, is_same) = ((first, then), left == 49);
     Ok(
-        is_told(&checked, &run_check(alloc, &geometry, first)?, is_same)
-            && is_told(&listed, &run_list(alloc, &geometry, first)?, is_same)
-            && is_told(&shown, &run_show(alloc, &geometry, first, 1)?, left >= 2)
-            && is_compared(alloc, first, then, left)?,
+        is_answered(alloc, &Checking, bytes, left, is_same)?
+            && is_answered(alloc, &Listing, bytes, left, is_same)?
+            && is_answered(alloc, &Showing { block: 1 }, bytes, left, left >= 2)?
+            && is_compared(alloc, first, then, left)?
+            && is_sound(alloc, first, then, left)?,
     )
 }
 
@@ -249,8 +242,8 @@ static EDITED: [(&[Peb], &[Peb]); 4] = [
 fn edits_a_source_that_changes(rt: HostRuntime) -> Result<(), Fail> {
     let alloc = rt.alloc();
     for (index, (first, then)) in EDITED.iter().enumerate() {
-        let first = bytes_of(alloc, &small()?, first)?;
-        let then = bytes_of(alloc, &small()?, then)?;
+        let first = Contents::Pebs(first, &[]).bytes(alloc)?;
+        let then = Contents::Pebs(then, &[]).bytes(alloc)?;
         for left in 0..100 {
             let is_right = is_edited(alloc, first.as_slice(), then.as_slice(), left)?;
             assert!(rt; is_right, "case {index}, after {left} reads");
@@ -259,15 +252,17 @@ fn edits_a_source_that_changes(rt: HostRuntime) -> Result<(), Fail> {
     Ok(())
 }
 
+/// No eraseblock is read more than 7 times, so that the last numbers of reads are those of sources that don't change.
 #[test]
 fn answers_of_a_source_that_changes(rt: HostRuntime) -> Result<(), Fail> {
     let alloc = rt.alloc();
-    for (index, (first, then)) in CHANGES.iter().enumerate() {
-        let first = bytes_of(alloc, &small()?, first)?;
-        let then = bytes_of(alloc, &small()?, then)?;
+    for (first, then) in &CHANGES {
+        let first = Contents::Pebs(first, &[]).bytes(alloc)?;
+        let then = Contents::Pebs(then, &[]).bytes(alloc)?;
+        let (first, then) = (first.as_slice(), then.as_slice());
         for left in 0..50 {
-            let is_right = is_answered(alloc, first.as_slice(), then.as_slice(), left)?;
-            assert!(rt; is_right, "case {index}, after {left} reads");
+            let is = are_answered(alloc, first, then, left)?;
+            assert!(rt; is, "after {left} reads");
         }
     }
     Ok(())

@@ -1,12 +1,13 @@
 //! Images that are refused for a fault of an eraseblock, of the table or of a volume.
 
 use super::cases::{Answer, Case, assert_cases};
-use super::images::{COPY_FLAG_2, VERSION_2};
+use super::headers::{COPY_FLAG_2, VERSION_2};
 use super::pebs::{
-    A, B, C, Data, Ec, FIRST, FREE, INTERNAL, LAYOUT, OLD, PLAIN, Peb, SECOND, STATIC, Slot, Vid,
+    A, ALIGNMENT_0, B, C, COMPAT_0, COMPAT_2, COMPAT_4, COMPAT_5, Ec, FIRST, FREE, OLD, OTHER_B,
+    OVERFULL, SECOND, SEVEN, STATIC_A, THIRD, Vid,
 };
 use std::test::Fail;
-use ubi_media::{EcFault, RecFault, Refusal, VidFault, VidHeader};
+use ubi_media::{EcFault, RecFault, Refusal, VidFault};
 
 /// The image of the volume `root` with an erase-counter header of version 2.
 const VERSION: Case = Case {
@@ -20,66 +21,6 @@ const VERSION: Case = Case {
     checked: &[],
 };
 
-/// An eraseblock of another image.
-const OTHER_B: Peb = Peb {
-    ec: Ec::Is(0, 8),
-    ..B
-};
-
-/// Copy 1 of the table with compatibility 0, and a copy 2.
-const COMPAT_0: Peb = Peb {
-    vid: Vid::Is(VidHeader {
-        lnum: 1,
-        compat: 0,
-        ..LAYOUT
-    }),
-    ..SECOND
-};
-
-const THIRD: Peb = Peb {
-    vid: Vid::Is(VidHeader { lnum: 2, ..LAYOUT }),
-    ..SECOND
-};
-
-/// Logical eraseblock 0 with sequence number 7, and that of a static volume.
-const SEVEN: Peb = Peb {
-    vid: Vid::Is(VidHeader { sqnum: 7, ..PLAIN }),
-    ..A
-};
-
-const STATIC_A: Peb = Peb {
-    vid: Vid::Is(VidHeader {
-        used_ebs: 1,
-        ..STATIC
-    }),
-    ..A
-};
-
-/// Eraseblocks of another internal volume, by their compatibility.
-const COMPAT_2: Peb = Peb {
-    vid: Vid::Is(VidHeader {
-        compat: 2,
-        ..INTERNAL
-    }),
-    ..FREE
-};
-
-const COMPAT_4: Peb = Peb {
-    vid: Vid::Is(VidHeader {
-        compat: 4,
-        ..INTERNAL
-    }),
-    ..FREE
-};
-
-const COMPAT_5: Peb = Peb {
-    vid: Vid::Is(VidHeader {
-        compat: 5,
-        ..INTERNAL
-    }),
-    ..FREE
-};
-
 /// The image with an eraseblock of one of them.
 const INCOMPATIBLE: Case = Case {
     what: "an internal volume of compatibility 4",
@@ -89,18 +30,7 @@ const INCOMPATIBLE: Case = Case {
         "refused S6 Incompatible block=5 volume=2147479552\n",
         Refusal::Incompatible(5, 0x7FFF_F000),
     ),
-    ..VERSION
-};
-
-/// The first copy of a table with the volume `root` of alignment 0, or of more eraseblocks than there are.
-const ALIGNMENT_0: Peb = Peb {
-    data: Data::Table(Slot::Alignment0),
-    ..FIRST
-};
-
-const OVERFULL: Peb = Peb {
-    data: Data::Table(Slot::Overfull),
-    ..FIRST
+    checked: &[],
 };
 
 /// The bytes of the record of `root` that aren't zeros, in the second slot of a table.
@@ -118,12 +48,18 @@ static CASES: [Case; 17] = [
             "refused S3 Ec block=1 Version\n",
             Refusal::Ec(1, EcFault::Version),
         ),
-        ..VERSION
+        pebs: &[FIRST, SECOND, A, B, C],
+        checked: &[],
     },
     Case {
         what: "one, and a copy flag 2 in its eraseblock",
         over: &[(1600, &COPY_FLAG_2), (1536, &VERSION_2)],
-        ..VERSION
+        pebs: &[FIRST, SECOND, A, B, C],
+        answer: Answer::Refused(
+            "refused S3 Ec block=3 Version\n",
+            Refusal::Ec(3, EcFault::Version),
+        ),
+        checked: &[],
     },
     Case {
         what: "a copy flag 2",
@@ -132,14 +68,15 @@ static CASES: [Case; 17] = [
             "refused S5 Vid block=3 CopyFlag\n",
             Refusal::Vid(3, VidFault::CopyFlag),
         ),
-        ..VERSION
+        pebs: &[FIRST, SECOND, A, B, C],
+        checked: &[],
     },
     Case {
         what: "an eraseblock of another image",
         pebs: &[FIRST, SECOND, A, OTHER_B, C],
         over: &[],
         answer: Answer::Refused("refused S4 ImageSeq block=3\n", Refusal::ImageSeq(3)),
-        ..VERSION
+        checked: &[],
     },
     Case {
         what: "a copy of the table of compatibility 0",
@@ -149,25 +86,35 @@ static CASES: [Case; 17] = [
             "refused S5 Vid block=1 Compat\n",
             Refusal::Vid(1, VidFault::Compat),
         ),
-        ..VERSION
+        checked: &[],
     },
     INCOMPATIBLE,
     Case {
         what: "one of compatibility 2",
         pebs: &[FIRST, SECOND, A, B, C, COMPAT_2],
-        ..INCOMPATIBLE
+        over: &[],
+        answer: Answer::Refused(
+            "refused S6 Incompatible block=5 volume=2147479552\n",
+            Refusal::Incompatible(5, 0x7FFF_F000),
+        ),
+        checked: &[],
     },
     Case {
         what: "one of compatibility 5",
         pebs: &[FIRST, SECOND, A, B, C, COMPAT_5],
-        ..INCOMPATIBLE
+        over: &[],
+        answer: Answer::Refused(
+            "refused S6 Incompatible block=5 volume=2147479552\n",
+            Refusal::Incompatible(5, 0x7FFF_F000),
+        ),
+        checked: &[],
     },
     Case {
         what: "a third copy of the table",
         pebs: &[FIRST, SECOND, THIRD, B, C],
         over: &[],
         answer: Answer::Refused("refused S7 Layout block=2\n", Refusal::Layout(2)),
-        ..VERSION
+        checked: &[],
     },
     Case {
         what: "a sequence number that comes again",
@@ -177,20 +124,21 @@ static CASES: [Case; 17] = [
             "refused S8 SameSqnum block=4 earlier=2\n",
             Refusal::SameSqnum(4, 2),
         ),
-        ..VERSION
+        checked: &[],
     },
     Case {
         what: "no table",
         pebs: &[FREE],
         over: &[],
         answer: Answer::Refused("refused T1 NoTable\n", Refusal::NoTable),
-        ..VERSION
+        checked: &[],
     },
     Case {
         what: "a bit of a name in both copies",
         over: &[(144, b"s"), (656, b"s")],
         answer: Answer::Refused("refused T2 BothCorrupt\n", Refusal::BothCorrupt),
-        ..VERSION
+        pebs: &[FIRST, SECOND, A, B, C],
+        checked: &[],
     },
     Case {
         what: "an alignment 0",
@@ -200,7 +148,7 @@ static CASES: [Case; 17] = [
             "refused T3 Record block=0 slot=0 Alignment\n",
             Refusal::Record(0, 0, RecFault::Alignment),
         ),
-        ..VERSION
+        checked: &[],
     },
     Case {
         what: "two equal names",
@@ -209,21 +157,22 @@ static CASES: [Case; 17] = [
             "refused T4 SameName block=0 slot=0 slot=1\n",
             Refusal::SameName(0, 0, 1),
         ),
-        ..VERSION
+        pebs: &[FIRST, SECOND, A, B, C],
+        checked: &[],
     },
     Case {
         what: "a volume of more eraseblocks than there are",
         pebs: &[OVERFULL, SECOND, A, B, C],
         over: &[],
         answer: Answer::Refused("refused T5 NoSpace\n", Refusal::NoSpace),
-        ..VERSION
+        checked: &[],
     },
     Case {
         what: "a static eraseblock of a dynamic volume",
         pebs: &[FIRST, SECOND, STATIC_A, B, C],
         over: &[],
         answer: Answer::Refused("refused V1 Mismatch block=2\n", Refusal::Mismatch(2)),
-        ..VERSION
+        checked: &[],
     },
 ];
 

@@ -1,246 +1,546 @@
-//! The commands over files: real ones, and some that fail.
+//! The commands over real files: what these hold then, and that no output is opened where the work is refused.
 
-use super::answers::{assert_each, assert_line, assert_lines, assert_over, remove_files, small};
-use super::fake::Broken;
-use super::images::{ec_of, overwrite, root_image};
-use super::normal::normal_nothing;
-use std::fs;
-use std::io::ErrorKind;
+use super::contents::{Contents, EMPTY};
+use super::headers::{COPY_OF_64, ERASED_EC, OTHER_EC};
+use super::pebs::{
+    A, B, C, FIRST, FIRST_DATA, FREE, SECOND, SECOND_DATA, UNNAMED_FIRST, UNNAMED_SECOND,
+};
+use super::rename::LINES;
+use super::sessions::{Session, assert_session};
 use std::test::Fail;
 
-#[test]
-fn normalises_a_file_twice(rt: HostRuntime) -> Result<(), Fail> {
-    let alloc = rt.alloc();
-    let want = normal_nothing(alloc)?;
-    fs::write(&rt, "blank_in.img", [0xFF; 1536].as_slice())?;
-    let line = "normalise blank_in.img --out blank_out.img";
-    assert_line(&rt, alloc, line, "blocks 2\n", 0)?;
-    assert_eq!(rt; fs::read(&rt, "blank_out.img")?.as_slice(), want.as_slice());
-    let line = "normalise blank_out.img --out blank_again.img";
-    assert_line(&rt, alloc, line, "blocks 2\n", 0)?;
-    assert_eq!(rt;
-        fs::read(&rt, "blank_again.img")?.as_slice(),
-        want.as_slice()
-    );
-    remove_files(&rt, &["blank_in.img", "blank_out.img", "blank_again.img"])
-}
-
-/// Lines for which no file is opened.
-static REFUSED: [(&str, &str, u8); 4] = [
-    (
-        "normalise faulty_in.img --out refused_out.img",
-        "refused S4 ImageSeq block=3\n",
-        1,
-    ),
-    (
-        "normalise odd_in.img --out refused_out.img",
-        "refused S1 Length\n",
-        1,
-    ),
-    (
-        "normalise missing_in.img --out refused_out.img",
-        "cannot read missing_in.img\n",
-        1,
-    ),
-    ("normalise . --out refused_out.img", "cannot read .\n", 1),
-];
-
-#[test]
-fn opens_no_file_where_the_work_is_refused(rt: HostRuntime) -> Result<(), Fail> {
-    let alloc = rt.alloc();
-    let geometry = small()?;
-    let mut faulty = root_image(alloc, &geometry)?;
-    overwrite(faulty.as_mut_slice(), 3 * 512, &ec_of(&geometry, 8));
-    fs::write(&rt, "faulty_in.img", faulty.as_slice())?;
-    fs::write(&rt, "odd_in.img", [0xFF; 511].as_slice())?;
-    assert_lines(&rt, alloc, &REFUSED)?;
-    assert!(rt; !fs::exists(&rt, "refused_out.img")?);
-    remove_files(&rt, &["faulty_in.img", "odd_in.img"])
-}
-
-/// Lines that read a file, and the same of one that isn't there.
-static NAMED: [(&str, &str, u8); 6] = [
-    (
-        "list named_in.img",
-        "geometry peb=512 page=64 vid=64 data=128 leb=384 slots=2 pebs=32\n\
-            volume 0 dynamic reserved=20 alignment=1 usable=384 flags=00 lebs=3 name=root\n\
-            volumes 1\n",
-        0,
-    ),
-    (
-        "check named_in.img",
-        "blocks 5\nblank 0\nfree 0\ntable 2\nused 3\nstale 0\norphan 0\n\
-            dropped 0\ncorrupt 0\ngarbage 0\ntop sqnum 0\nimage seq 305419896\n\
-            mean counter 0\naccepted\n",
-        0,
-    ),
-    ("show named_in.img --block 5", "refused B1 Block\n", 1),
-    ("list unnamed.img", "cannot read unnamed.img\n", 1),
-    ("check unnamed.img", "cannot read unnamed.img\n", 1),
-    ("show unnamed.img --block 0", "cannot read unnamed.img\n", 1),
+/// Commands that write nothing. A file that can't be read comes before the work, and the first of two first.
+static READERS: [Session; 2] = [
+    Session {
+        before: &[("named_in.img", Contents::Root)],
+        lines: &[
+            (
+                "list named_in.img",
+                "geometry peb=512 page=64 vid=64 data=128 leb=384 slots=2 pebs=32\n\
+                    volume 0 dynamic reserved=20 alignment=1 usable=384 flags=00 lebs=3 name=root\n\
+                    volumes 1\n",
+                0,
+            ),
+            (
+                "check named_in.img",
+                "blocks 5\nblank 0\nfree 0\ntable 2\nused 3\nstale 0\norphan 0\n\
+                    dropped 0\ncorrupt 0\ngarbage 0\ntop sqnum 0\nimage seq 305419896\n\
+                    mean counter 0\naccepted\n",
+                0,
+            ),
+            ("show named_in.img --block 5", "refused B1 Block\n", 1),
+            ("list unnamed.img", "cannot read unnamed.img\n", 1),
+            ("check unnamed.img", "cannot read unnamed.img\n", 1),
+            ("show unnamed.img --block 0", "cannot read unnamed.img\n", 1),
+        ],
+        after: &[("named_in.img", Contents::Root)],
+        absent: "unnamed.img",
+    },
+    Session {
+        before: &[
+            ("same_root.img", Contents::Root),
+            ("same_turned.img", Contents::Reversed),
+            ("same_odd.img", Contents::Odd),
+        ],
+        lines: &[
+            ("same same_root.img same_turned.img", "same\n", 0),
+            (
+                "same same_root.img same_odd.img",
+                "right refused S1 Length\n",
+                1,
+            ),
+            (
+                "same same_odd.img same_root.img",
+                "left refused S1 Length\n",
+                1,
+            ),
+            (
+                "same same_odd.img same_gone.img",
+                "cannot read same_gone.img\n",
+                1,
+            ),
+            (
+                "same same_lost.img same_gone.img",
+                "cannot read same_lost.img\n",
+                1,
+            ),
+        ],
+        after: &[("same_root.img", Contents::Root)],
+        absent: "same_gone.img",
+    },
 ];
 
 #[test]
 fn reads_the_files_that_are_named(rt: HostRuntime) -> Result<(), Fail> {
-    let image = root_image(rt.alloc(), &small()?)?;
-    fs::write(&rt, "named_in.img", image.as_slice())?;
-    assert_lines(&rt, rt.alloc(), &NAMED)?;
-    fs::remove_file(&rt, "named_in.img")?;
+    for session in &READERS {
+        assert_session(&rt, rt.alloc(), session)?;
+    }
     Ok(())
 }
 
+/// Bytes of a file that is longer than what is written to it.
+const LONGER: Contents = Contents::Runs(&[(b"\0", 8192)]);
+
+/// What an output holds that isn't opened.
+const AS_IT_WAS: Contents = Contents::Runs(&[(b"as it was", 1)]);
+
+static NORMALISED: Session = Session {
+    before: &[
+        ("blank_in.img", Contents::Blank),
+        ("faulty_in.img", Contents::Faulty),
+        ("odd_in.img", Contents::Odd),
+        ("kept.img", AS_IT_WAS),
+        ("blank_again.img", LONGER),
+    ],
+    lines: &[
+        (
+            "normalise blank_in.img --out blank_out.img",
+            "blocks 2\n",
+            0,
+        ),
+        (
+            "normalise blank_out.img --out blank_again.img",
+            "blocks 2\n",
+            0,
+        ),
+        (
+            "normalise blank_in.img --out no/such/folder.img",
+            "cannot write no/such/folder.img\n",
+            1,
+        ),
+        (
+            "normalise faulty_in.img --out kept.img",
+            "refused S4 ImageSeq block=3\n",
+            1,
+        ),
+        (
+            "normalise faulty_in.img --out refused_out.img",
+            "refused S4 ImageSeq block=3\n",
+            1,
+        ),
+        (
+            "normalise odd_in.img --out refused_out.img",
+            "refused S1 Length\n",
+            1,
+        ),
+        (
+            "normalise missing_in.img --out refused_out.img",
+            "cannot read missing_in.img\n",
+            1,
+        ),
+        ("normalise . --out refused_out.img", "cannot read .\n", 1),
+    ],
+    after: &[
+        ("blank_out.img", Contents::NormalNothing),
+        ("blank_again.img", Contents::NormalNothing),
+        ("kept.img", AS_IT_WAS),
+    ],
+    absent: "refused_out.img",
+};
+
+static EXTRACTED: Session = Session {
+    before: &[
+        ("extract_in.img", Contents::Root),
+        ("extract_none.img", Contents::EmptyBoot),
+        ("extract_onto.img", Contents::Root),
+        ("extract_marked.img", Contents::Updating),
+        ("extract_odd.img", Contents::Odd),
+        ("extracted.bin", LONGER),
+        ("extracted_none.bin", LONGER),
+    ],
+    lines: &[
+        (
+            "extract extract_in.img --id 0 --out extracted.bin",
+            "bytes 7680\n",
+            0,
+        ),
+        (
+            "extract extract_none.img --id 0 --out extracted_none.bin",
+            "bytes 0\n",
+            0,
+        ),
+        // The output is the image.
+        (
+            "extract extract_onto.img --id 0 --out ./extract_onto.img",
+            "bytes 7680\n",
+            0,
+        ),
+        (
+            "extract extract_marked.img --id 0 --out unextracted.bin",
+            "refused L2 Updating\n",
+            1,
+        ),
+        (
+            "extract extract_marked.img --id 1 --out unextracted.bin",
+            "refused L1 NoVolume\n",
+            1,
+        ),
+        (
+            "extract extract_odd.img --id 0 --out unextracted.bin",
+            "refused S1 Length\n",
+            1,
+        ),
+        (
+            "extract extract_gone.img --id 0 --out unextracted.bin",
+            "cannot read extract_gone.img\n",
+            1,
+        ),
+    ],
+    after: &[
+        ("extracted.bin", Contents::RootText),
+        ("extracted_none.bin", EMPTY),
+        ("extract_onto.img", Contents::RootText),
+    ],
+    absent: "unextracted.bin",
+};
+
+static COMPOSED: Session = Session {
+    before: &[
+        (
+            "compose_in.txt",
+            Contents::Runs(&[(b"volume 0 dynamic 20 1 00 root\nleb 0 1 6162\n", 1)]),
+        ),
+        (
+            "compose_two.txt",
+            Contents::Runs(&[(
+                b"volume 1 static 2 1 01 boot\nvolume 0 dynamic 20 1 00 a\\x5Cb\n\
+                        updating 0\nbytes 1 00",
+                1,
+            )]),
+        ),
+        (
+            "compose_marked.txt",
+            Contents::Runs(&[(b"volume 0 dynamic 20 1 00 root\nupdating 0", 1)]),
+        ),
+        ("numbered.txt", EMPTY),
+        ("faulty.txt", Contents::Runs(&[(b"volume 0", 1)])),
+        (
+            "crowded.txt",
+            Contents::Runs(&[(b"volume 0 dynamic 31 1 00 a", 1)]),
+        ),
+        ("composed.img", LONGER),
+        ("composed_two.img", LONGER),
+        ("most.img", LONGER),
+    ],
+    lines: &[
+        (
+            "compose compose_in.txt --out composed.img --spares 1",
+            "blocks 4\n",
+            0,
+        ),
+        (
+            "list composed.img",
+            "geometry peb=512 page=64 vid=64 data=128 leb=384 slots=2 pebs=32\n\
+                volume 0 dynamic reserved=20 alignment=1 usable=384 flags=00 lebs=1 name=root\n\
+                volumes 1\n",
+            0,
+        ),
+        (
+            "extract composed.img --id 0 --out composed.bin",
+            "bytes 7680\n",
+            0,
+        ),
+        (
+            "compose compose_two.txt --out composed_two.img",
+            "blocks 3\n",
+            0,
+        ),
+        (
+            "list composed_two.img",
+            "geometry peb=512 page=64 vid=64 data=128 leb=384 slots=2 pebs=32\n\
+                volume 0 dynamic reserved=20 alignment=1 usable=384 flags=00 updating name=a\\x5cb\n\
+                volume 1 static reserved=2 alignment=1 usable=384 flags=01 bytes=1 name=boot\n\
+                volumes 2\n",
+            0,
+        ),
+        (
+            "compose compose_marked.txt --out composed_two.img",
+            "blocks 2\n",
+            0,
+        ),
+        (
+            "list composed_two.img",
+            "geometry peb=512 page=64 vid=64 data=128 leb=384 slots=2 pebs=32\n\
+                volume 0 dynamic reserved=20 alignment=1 usable=384 flags=00 updating name=root\n\
+                volumes 1\n",
+            0,
+        ),
+        ("compose numbered.txt --out zero.img", "blocks 2\n", 0),
+        (
+            "compose numbered.txt --out most.img --seq 4294967295 --spares 30",
+            "blocks 32\n",
+            0,
+        ),
+        (
+            "compose numbered.txt --out eight.img --seq 8",
+            "blocks 2\n",
+            0,
+        ),
+        ("same zero.img eight.img", "different\n", 1),
+        ("same eight.img most.img", "different\n", 1),
+        (
+            "check most.img",
+            "blocks 32\nblank 0\nfree 30\ntable 2\nused 0\nstale 0\norphan 0\ndropped 0\n\
+                corrupt 0\ngarbage 0\ntop sqnum 0\nimage seq 4294967295\nmean counter 0\naccepted\n",
+            0,
+        ),
+        (
+            "compose faulty.txt --out uncomposed.img",
+            "refused P1 Word line=1\n",
+            1,
+        ),
+        (
+            "compose crowded.txt --out uncomposed.img",
+            "refused M5 NoSpace\n",
+            1,
+        ),
+        (
+            "compose crowded.txt --out uncomposed.img --data 64",
+            "refused G4 DataOffset\n",
+            2,
+        ),
+        (
+            "compose missing.txt --out uncomposed.img",
+            "cannot read missing.txt\n",
+            1,
+        ),
+    ],
+    after: &[
+        (
+            "composed.bin",
+            Contents::Runs(&[(b"\xFF", 384), (b"ab", 1), (b"\xFF", 7294)]),
+        ),
+        ("zero.img", Contents::NormalNothing),
+        (
+            "eight.img",
+            Contents::Pebs(
+                &[UNNAMED_FIRST, UNNAMED_SECOND],
+                &[(0, &OTHER_EC), (512, &OTHER_EC)],
+            ),
+        ),
+    ],
+    absent: "uncomposed.img",
+};
+
+/// The lines of the plan of the changes.
+const CHANGED: &str = "steps 4\nprogram block=5 page=1\nprogram block=5 page=2\n\
+    erase block=3\nprogram block=3 page=0\n";
+
+/// The image is opened first, and the new bytes are read before it is.
+static CHANGES: Session = Session {
+    before: &[
+        ("change_in.img", Contents::Spare),
+        (
+            "change_faulty.img",
+            Contents::Pebs(&[FIRST, SECOND, A, B, C, FREE], &[(3 * 512, &OTHER_EC)]),
+        ),
+        ("change_new.bin", Contents::Runs(&[(b"a", 64)])),
+        ("changed_0.img", LONGER),
+        ("changed_2.img", LONGER),
+        ("changed.img", LONGER),
+    ],
+    lines: &[
+        (
+            "change change_in.img --id 0 --lnum 1 --from change_new.bin --out changed_0.img --stop 0",
+            CHANGED,
+            0,
+        ),
+        (
+            "change change_in.img --id 0 --lnum 1 --from change_new.bin --out changed_2.img --stop 2",
+            CHANGED,
+            0,
+        ),
+        (
+            "change change_in.img --id 0 --lnum 1 --from change_new.bin --out changed.img",
+            CHANGED,
+            0,
+        ),
+        (
+            "change change_faulty.img --id 0 --lnum 1 --from change_new.bin --out unchanged.img",
+            "refused S4 ImageSeq block=3\n",
+            1,
+        ),
+        (
+            "change change_in.img --id 1 --lnum 1 --from change_new.bin --out unchanged.img",
+            "refused K2 NoVolume\n",
+            1,
+        ),
+        (
+            "change change_in.img --id 0 --lnum 1 --from change_in.img --out unchanged.img",
+            "refused K6 BadLength\n",
+            1,
+        ),
+        (
+            "change change_faulty.img --id 0 --lnum 1 --from gone.bin --out unchanged.img",
+            "cannot read gone.bin\n",
+            1,
+        ),
+        (
+            "change gone.img --id 0 --lnum 1 --from gone.bin --out unchanged.img",
+            "cannot read gone.img\n",
+            1,
+        ),
+    ],
+    after: &[
+        ("changed_0.img", Contents::Spare),
+        (
+            "changed_2.img",
+            Contents::Pebs(
+                &[FIRST, SECOND, A, B, C, FREE],
+                &[(5 * 512 + 64, &COPY_OF_64), (5 * 512 + 128, &[0x61; 64])],
+            ),
+        ),
+        (
+            "changed.img",
+            Contents::Pebs(
+                &[FIRST, SECOND, A, B, C, FREE],
+                &[
+                    (5 * 512 + 64, &COPY_OF_64),
+                    (5 * 512 + 128, &[0x61; 64]),
+                    (3 * 512, &[0xFF; 512]),
+                    (3 * 512, &ERASED_EC),
+                ],
+            ),
+        ),
+    ],
+    absent: "unchanged.img",
+};
+
+/// An image of two volumes, with one free eraseblock.
+const FULL: Contents = Contents::Pebs(&[FIRST_DATA, SECOND_DATA, A, B, C, FREE], &[]);
+
+/// The image is opened first, and the name is looked at before it is read.
+static RENAMED: Session = Session {
+    before: &[
+        ("to_name.img", Contents::Spares),
+        ("two_names.img", Contents::WithName),
+        ("kept_names.img", Contents::WithData),
+        ("full_names.img", FULL),
+        (
+            "unlike_names.img",
+            Contents::Pebs(
+                &[FIRST_DATA, SECOND_DATA, A, B, C, FREE, FREE],
+                &[(512 + 128 + 16, b"s")],
+            ),
+        ),
+        (
+            "faulty_names.img",
+            Contents::Pebs(
+                &[FIRST_DATA, SECOND_DATA, A, B, C, FREE, FREE],
+                &[(512 + 128 + 16, b"s"), (3 * 512, &OTHER_EC)],
+            ),
+        ),
+        ("renamed.img", LONGER),
+        ("renamed_second.img", LONGER),
+    ],
+    lines: &[
+        (
+            "rename to_name.img --id 0 --name data --out renamed.img",
+            LINES,
+            0,
+        ),
+        (
+            "list renamed.img",
+            "geometry peb=512 page=64 vid=64 data=128 leb=384 slots=2 pebs=32\n\
+                volume 0 dynamic reserved=20 alignment=1 usable=384 flags=00 lebs=3 name=data\n\
+                volumes 1\n",
+            0,
+        ),
+        (
+            "extract renamed.img --id 0 --out renamed.bin",
+            "bytes 7680\n",
+            0,
+        ),
+        (
+            "rename two_names.img --id 1 --name data --out renamed_second.img --stop 6",
+            LINES,
+            0,
+        ),
+        (
+            "list renamed_second.img",
+            "geometry peb=512 page=64 vid=64 data=128 leb=384 slots=2 pebs=32\n\
+                volume 0 dynamic reserved=20 alignment=1 usable=384 flags=00 lebs=3 name=root\n\
+                volume 1 dynamic reserved=1 alignment=1 usable=384 flags=00 lebs=0 name=name\n\
+                volumes 2\n",
+            0,
+        ),
+        (
+            "rename two_names.img --id 1 --name data --out renamed_second.img --stop 7",
+            LINES,
+            0,
+        ),
+        (
+            "list renamed_second.img",
+            "geometry peb=512 page=64 vid=64 data=128 leb=384 slots=2 pebs=32\n\
+                volume 0 dynamic reserved=20 alignment=1 usable=384 flags=00 lebs=3 name=root\n\
+                volume 1 dynamic reserved=1 alignment=1 usable=384 flags=00 lebs=0 name=data\n\
+                volumes 2\n",
+            0,
+        ),
+        (
+            "rename gone.img --id 0 --name a\\ --out unnamed.img",
+            "cannot read gone.img\n",
+            1,
+        ),
+        (
+            "rename faulty_names.img --id 0 --name a\\ --out unnamed.img",
+            "refused N1 BadName\n",
+            1,
+        ),
+        (
+            "rename faulty_names.img --id 7 --name data --out unnamed.img",
+            "refused S4 ImageSeq block=3\n",
+            1,
+        ),
+        (
+            "rename kept_names.img --id 2 --name= --out unnamed.img",
+            "refused N1 BadName\n",
+            1,
+        ),
+        (
+            "rename kept_names.img --id 2 --name data --out unnamed.img",
+            "refused K2 NoVolume\n",
+            1,
+        ),
+        (
+            "rename kept_names.img --id 0 --name data --out unnamed.img",
+            "refused N2 SameName slot=1\n",
+            1,
+        ),
+        (
+            "rename kept_names.img --id 1 --name root --out unnamed.img --stop 0",
+            "refused N2 SameName slot=0\n",
+            1,
+        ),
+        (
+            "rename unlike_names.img --id 0 --name name --out unnamed.img",
+            "refused N3 NeedsRepair\n",
+            1,
+        ),
+        (
+            "rename full_names.img --id 0 --name name --out unnamed.img",
+            "refused K9 NoFree\n",
+            1,
+        ),
+    ],
+    after: &[("renamed.bin", Contents::RootText)],
+    absent: "unnamed.img",
+};
+
+/// A longer file is cut, and where the work is refused no file is opened.
 #[test]
-fn tells_of_an_output_that_cannot_be_opened(rt: HostRuntime) -> Result<(), Fail> {
-    let alloc = rt.alloc();
-    fs::write(&rt, "unwritten_in.img", [0xFF; 512].as_slice())?;
-    let line = "normalise unwritten_in.img --out no/such/folder.img";
-    assert_line(&rt, alloc, line, "cannot write no/such/folder.img\n", 1)?;
-    fs::remove_file(&rt, "unwritten_in.img")?;
-    Ok(())
+fn writes_what_is_normalised_and_extracted(rt: HostRuntime) -> Result<(), Fail> {
+    assert_session(&rt, rt.alloc(), &NORMALISED)?;
+    assert_session(&rt, rt.alloc(), &EXTRACTED)
 }
 
-/// How files fail while blank eraseblocks are normalised, what is answered, and how many bytes are written.
-static WAYS: [(Broken, (&str, u8), usize); 7] = [
-    (Broken::Nothing, ("blocks 2\n", 0), 1024),
-    (Broken::Short(100), ("blocks 2\n", 0), 1024),
-    (Broken::OpenRead, ("cannot read a.img\n", 1), 0),
-    (
-        Broken::Read(ErrorKind::Other, 0),
-        ("cannot read a.img\n", 1),
-        0,
-    ),
-    (
-        Broken::Read(ErrorKind::Interrupted, 512),
-        ("cannot read a.img\n", 1),
-        0,
-    ),
-    (Broken::OpenWrite, ("cannot write b.img\n", 1), 0),
-    (Broken::Write(700), ("cannot write b.img\n", 1), 700),
-];
-
 #[test]
-fn tells_of_files_that_fail(rt: HostRuntime) -> Result<(), Fail> {
-    let alloc = rt.alloc();
-    let want = normal_nothing(alloc)?;
-    let line = "normalise a.img --out b.img";
-    assert_each(&rt, alloc, &[0xFF; 1536], line, &WAYS, want.as_slice())
+fn writes_what_is_composed(rt: HostRuntime) -> Result<(), Fail> {
+    assert_session(&rt, rt.alloc(), &COMPOSED)
 }
 
 #[test]
-fn reads_no_more_than_one_byte_above_the_device(rt: HostRuntime) -> Result<(), Fail> {
-    let alloc = rt.alloc();
-    let long = vec![in alloc; 0xFFu8; 40_000]?;
-    // A read behind 32 eraseblocks and one byte would fail.
-    let broken = Broken::Read(ErrorKind::Other, 32 * 512 + 1);
-    let many = ("refused S2 TooMany\n", 1);
-    let line = "rename a.img --id 0 --name a --out b.img";
-    assert_over(&rt, alloc, (long.as_slice(), broken), line, many, &[])
-}
-
-/// What `check` answers of three blank eraseblocks.
-const BLANK: (&str, u8) = (
-    "blocks 3\nblank 3\nfree 0\ntable 0\nused 0\nstale 0\norphan 0\n\
-        dropped 0\ncorrupt 0\ngarbage 0\ntop sqnum 0\nimage seq 0\n\
-        mean counter 0\naccepted\n",
-    0,
-);
-
-/// What both answer of a file that can't be read.
-const UNREAD: (&str, u8) = ("cannot read a.img\n", 1);
-
-/// What `list` answers of them: there is no volume.
-const EMPTY: (&str, u8) = (
-    "geometry peb=512 page=64 vid=64 data=128 leb=384 slots=2 pebs=32\nvolumes 0\n",
-    0,
-);
-
-/// How a file fails while its eraseblocks are counted, and what is answered. It is read at places, or whole where it can't
-/// be; and one that was cut short since it was opened fails where its bytes are missing.
-static CHECKED: [(Broken, (&str, u8), usize); 8] = [
-    (Broken::Nothing, BLANK, 0),
-    (Broken::Whole, BLANK, 0),
-    (Broken::Places, BLANK, 0),
-    (Broken::OpenRead, UNREAD, 0),
-    (Broken::Read(ErrorKind::Other, 0), UNREAD, 0),
-    (Broken::Read(ErrorKind::Other, 640), UNREAD, 0),
-    (Broken::Read(ErrorKind::Interrupted, 1100), UNREAD, 0),
-    (Broken::Cut, UNREAD, 0),
-];
-
-#[test]
-fn checks_files_that_fail(rt: HostRuntime) -> Result<(), Fail> {
-    assert_each(&rt, rt.alloc(), &[0xFF; 1536], "check a.img", &CHECKED, &[])
-}
-
-/// How a file fails while its volumes are listed, of which it has none.
-static LISTED: [(Broken, (&str, u8), usize); 5] = [
-    (Broken::Nothing, EMPTY, 0),
-    (Broken::Places, EMPTY, 0),
-    (Broken::OpenRead, UNREAD, 0),
-    (Broken::Read(ErrorKind::Other, 640), UNREAD, 0),
-    (Broken::Cut, UNREAD, 0),
-];
-
-#[test]
-fn lists_files_that_fail(rt: HostRuntime) -> Result<(), Fail> {
-    assert_each(&rt, rt.alloc(), &[0xFF; 1536], "list a.img", &LISTED, &[])
-}
-
-/// What `show` answers of a blank eraseblock.
-const SHOWN: (&str, u8) = (
-    "ec blank ffffffffffffffffffffffffffffffffffffffffffffffffffffffffffffffff\
-        ffffffffffffffffffffffffffffffffffffffffffffffffffffffffffffffff\n\
-        vid blank ffffffffffffffffffffffffffffffffffffffffffffffffffffffffffffffff\
-        ffffffffffffffffffffffffffffffffffffffffffffffffffffffffffffffff\n",
-    0,
-);
-
-/// How a file fails while the second of three eraseblocks is shown: where the bytes of its headers can't be read, which are
-/// those from 512 to 640, and those behind it may fail.
-static SECOND_SHOWN: [(Broken, (&str, u8), usize); 7] = [
-    (Broken::Nothing, SHOWN, 0),
-    (Broken::Whole, SHOWN, 0),
-    (Broken::Places, SHOWN, 0),
-    (Broken::OpenRead, UNREAD, 0),
-    (Broken::Read(ErrorKind::Other, 640), SHOWN, 0),
-    (Broken::Read(ErrorKind::Other, 639), UNREAD, 0),
-    (Broken::Read(ErrorKind::Interrupted, 512), UNREAD, 0),
-];
-
-/// And while one is shown that was cut off since the file was opened.
-static LAST_SHOWN: [(Broken, (&str, u8), usize); 2] = [
-    (Broken::Cut, UNREAD, 0),
-    (Broken::Nothing, ("refused B1 Block\n", 1), 0),
-];
-
-#[test]
-fn shows_files_that_fail(rt: HostRuntime) -> Result<(), Fail> {
-    let alloc = rt.alloc();
-    let image = [0xFF; 1536];
-    assert_each(
-        &rt,
-        alloc,
-        &image,
-        "show a.img --block 1",
-        &SECOND_SHOWN,
-        &[],
-    )?;
-    assert_each(&rt, alloc, &image, "show a.img --block 3", &LAST_SHOWN, &[])
-}
-
-/// How two files fail while they are compared, which hold the same. Both fail, and the left one is told.
-static COMPARED: [(Broken, (&str, u8), usize); 7] = [
-    (Broken::Nothing, ("same\n", 0), 0),
-    (Broken::Whole, ("same\n", 0), 0),
-    (Broken::Places, ("same\n", 0), 0),
-    (Broken::OpenRead, UNREAD, 0),
-    (Broken::Read(ErrorKind::Other, 640), UNREAD, 0),
-    (Broken::Read(ErrorKind::Interrupted, 1100), UNREAD, 0),
-    (Broken::Cut, UNREAD, 0),
-];
-
-#[test]
-fn compares_files_that_fail(rt: HostRuntime) -> Result<(), Fail> {
-    let line = "same a.img c.img";
-    assert_each(&rt, rt.alloc(), &[0xFF; 1536], line, &COMPARED, &[])
+fn writes_what_is_changed_and_renamed(rt: HostRuntime) -> Result<(), Fail> {
+    assert_session(&rt, rt.alloc(), &CHANGES)?;
+    assert_session(&rt, rt.alloc(), &RENAMED)
 }

@@ -1,7 +1,8 @@
 //! Printed lines.
 
 use crate::lines::{blocks_line, geometry_line, refusal_line};
-use std::test::Fail;
+use std::alloc::AllocError;
+use std::process::Abort;
 use ubi_media::{EcFault, GeometryError, RecFault, Refusal, VidFault};
 
 /// The causes for which images are refused, with their lines.
@@ -43,17 +44,6 @@ static REFUSALS: [(Refusal, &str); 14] = [
     ),
 ];
 
-#[test]
-fn prints_refusals(rt: HostRuntime) -> Result<(), Fail> {
-    for (cause, line) in REFUSALS {
-        assert_eq!(rt;
-            refusal_line(rt.alloc(), cause)?.as_slice(),
-            line.as_bytes()
-        );
-    }
-    Ok(())
-}
-
 /// The limits that a geometry breaks, with their lines.
 static LIMITS: [(GeometryError, &str); 6] = [
     (GeometryError::Page, "refused G1 Page\n"),
@@ -64,15 +54,23 @@ static LIMITS: [(GeometryError, &str); 6] = [
     (GeometryError::Pebs, "refused G6 Pebs\n"),
 ];
 
+/// Asserts that a line was made, and is another.
+fn assert_made(rt: &impl Abort, made: Result<Vec<u8>, AllocError>, line: &str) {
+    let is = match made {
+        Ok(text) => text.as_slice() == line.as_bytes(),
+        Err(AllocError) => false,
+    };
+    assert!(*rt; is, "{line}");
+}
+
 #[test]
-fn prints_limits_and_counts(rt: HostRuntime) -> Result<(), Fail> {
-    for (limit, line) in LIMITS {
-        assert_eq!(rt;
-            geometry_line(rt.alloc(), limit)?.as_slice(),
-            line.as_bytes()
-        );
+fn prints_refusals_limits_and_counts(rt: HostRuntime) {
+    let alloc = rt.alloc();
+    for (cause, line) in REFUSALS {
+        assert_made(&rt, refusal_line(alloc, cause), line);
     }
-    let blocks = blocks_line(rt.alloc(), 1_048_576)?;
-    assert_eq!(rt; blocks.as_slice(), b"blocks 1048576\n".as_slice());
-    Ok(())
+    for (limit, line) in LIMITS {
+        assert_made(&rt, geometry_line(alloc, limit), line);
+    }
+    assert_made(&rt, blocks_line(alloc, 1_048_576), "blocks 1048576\n");
 }

@@ -1,19 +1,19 @@
-//! The command `normalise` over sources and files that fail, that have no places, or that are the output too.
+//! The command `normalise` over sources and writers that fail, and over files that are linked, piped or endless.
 
-use super::answers::{assert_line, assert_over, remove_files, small};
-use super::fake::Broken;
-use super::images::{ec_of, overwrite, root_image};
-use super::normal::{normal_nothing, normal_root, root_bytes};
+use super::answers::{assert_line, small};
+use super::contents::Contents;
 use crate::normalise::run_normalise;
 use crate::outcome::ToolError;
 use std::alloc::Global;
+use std::fs::Files;
 use std::io::{ErrorKind, Write};
-use std::os::unix::fs::symlink;
+use std::os::unix::fs::{FileExt, symlink};
 use std::os::unix::io::AsRawFd;
+use std::process::Abort;
 use std::test::Fail;
 use std::{fs, io};
 use ubi_compose::normalise_to;
-use ubi_scan::{FileSource, MemorySource, ProbeSource, StreamError};
+use ubi_scan::{BlockSource, FileSource, MemorySource, ProbeSource, StreamError};
 use ubi_volume::{Failure, ProbeWriter};
 
 /// The reads of the image of `root`, counted from 1, each with its eraseblock and the number of bytes that are written
@@ -33,166 +33,188 @@ static READS: [(u64, u32, usize); 9] = [
     (9, 4, 2048),
 ];
 
+/// Whether work over a source is answered and written so.
+fn is_run<S: BlockSource>(
+    alloc: Global,
+    source: &mut S,
+    want: Result<&[u8], ToolError>,
+    written: &[u8],
+) -> Result<bool, Fail> {
+    let mut writer = ProbeWriter::new(alloc, 4096, 4096, Failure::Nothing)?;
+    let is_answer = match (run_normalise(alloc, &small()?, source, &mut writer), want) {
+        (Ok(outcome), Ok(line)) => outcome.text.as_slice() == line,
+        (Err(error), Err(other)) => error == other,
+        _ => false,
+    };
+    Ok(is_answer && writer.taken() == written)
+}
+
 /// Whether a read that fails is told with its eraseblock and the bytes that were written, and these are the first ones.
-fn is_told(alloc: Global, image: &[u8], at: u64, p: u32, count: usize) -> Result<bool, Fail> {
-    let want = root_bytes();
+fn is_told(
+    alloc: Global,
+    (image, want): (&[u8], &[u8]),
+    at: u64,
+    p: u32,
+    count: usize,
+) -> Result<bool, Fail> {
+    let written = want.get(..count).ok_or("short")?;
     let mut source = ProbeSource::new(alloc, &small()?, image, at)?;
     let mut writer = ProbeWriter::new(alloc, 4096, 4096, Failure::Nothing)?;
     let answer = normalise_to(alloc, &small()?, &mut source, &mut writer);
-    let is_right = answer == Err(StreamError::Read(p, count as u64));
+    let is_read = answer == Err(StreamError::Read(p, count as u64)) && writer.taken() == written;
     let mut source = ProbeSource::new(alloc, &small()?, image, at)?;
-    let mut other = ProbeWriter::new(alloc, 4096, 4096, Failure::Nothing)?;
-    let answer = run_normalise(alloc, &small()?, &mut source, &mut other).err();
-    Ok(
-        is_right
-            && answer == Some(ToolError::Read)
-            && want.get(..count) == Some(writer.taken())
-            && writer.taken() == other.taken(),
-    )
+    Ok(is_read && is_run(alloc, &mut source, Err(ToolError::Read), written)?)
 }
 
 #[test]
 fn tells_of_a_read_that_fails(rt: HostRuntime) -> Result<(), Fail> {
     let alloc = rt.alloc();
-    let image = root_image(alloc, &small()?)?;
-    let image = image.as_slice();
+    let (image, want) = (
+        Contents::Root.bytes(alloc)?,
+        Contents::NormalRoot.bytes(alloc)?,
+    );
+    let (image, want) = (image.as_slice(), want.as_slice());
     for (at, p, count) in READS {
-        assert!(rt; is_told(alloc, image, at, p, count)?, "read {at}");
+        assert!(rt; is_told(alloc, (image, want), at, p, count)?, "read {at}");
     }
     let mut source = ProbeSource::new(alloc, &small()?, image, 10)?;
-    let mut writer = ProbeWriter::new(alloc, 4096, 4096, Failure::Nothing)?;
-    let outcome = run_normalise(alloc, &small()?, &mut source, &mut writer)?;
-    assert_eq!(rt; outcome.text.as_slice(), b"blocks 5\n".as_slice());
-    assert_eq!(rt; writer.taken(), root_bytes().as_slice());
+    assert!(rt; is_run(alloc, &mut source, Ok(b"blocks 5\n"), want)?);
     Ok(())
 }
 
-/// Whether a writer that fails once it has so many bytes is told with their number, and has the first ones.
+/// Whether a writer that takes so many bytes at once and fails once it has so many is told with their number, and has
+/// the first ones; or all, where it has room for them.
 fn is_cut(
     alloc: Global,
     (image, want): (&[u8], &[u8]),
     room: usize,
-    failure: Failure,
+    (failure, most): (Failure, usize),
 ) -> Result<bool, Fail> {
-    let mut source = MemorySource::new(image);
-    let mut writer = ProbeWriter::new(alloc, room, 100, failure)?;
+    let (mut source, mut again) = (MemorySource::new(image), MemorySource::new(image));
+    let mut writer = ProbeWriter::new(alloc, room, most, failure)?;
+    let mut other = ProbeWriter::new(alloc, room, most, failure)?;
     let answer = normalise_to(alloc, &small()?, &mut source, &mut writer);
-    let mut other = ProbeWriter::new(alloc, room, 100, failure)?;
-    let run = run_normalise(alloc, &small()?, &mut source, &mut other).err();
-    Ok(
-        answer == Err(StreamError::Write(room as u64))
-            && run == Some(ToolError::Write)
-            && want.get(..room) == Some(writer.taken())
-            && writer.taken() == other.taken(),
-    )
+    let run = run_normalise(alloc, &small()?, &mut again, &mut other);
+    let is_told = if room < want.len() {
+        answer == Err(StreamError::Write(room as u64)) && run.err() == Some(ToolError::Write)
+    } else {
+        answer == Ok(room as u64) && run.is_ok()
+    };
+    let is_same = writer.taken() == other.taken();
+    Ok(is_told && is_same && want.get(..room) == Some(writer.taken()))
 }
 
-/// How many bytes of the normal image of `root` a writer takes, and how it fails then.
-static CUTS: [(usize, Failure); 5] = [
-    (0, Failure::Nothing),
-    (1, Failure::Error(ErrorKind::Interrupted)),
-    (512, Failure::Nothing),
-    (1600, Failure::Error(ErrorKind::Interrupted)),
-    (2559, Failure::Error(ErrorKind::Other)),
+/// An image, its normal image, how many bytes of that a writer takes, at least and at most, and how it fails then.
+static CUTS: [(Contents, Contents, (usize, usize), (Failure, usize)); 7] = [
+    (
+        Contents::Root,
+        Contents::NormalRoot,
+        (0, 0),
+        (Failure::Nothing, 100),
+    ),
+    (
+        Contents::Root,
+        Contents::NormalRoot,
+        (1, 1),
+        (Failure::Error(ErrorKind::Interrupted), 100),
+    ),
+    (
+        Contents::Root,
+        Contents::NormalRoot,
+        (512, 512),
+        (Failure::Nothing, 100),
+    ),
+    (
+        Contents::Root,
+        Contents::NormalRoot,
+        (1600, 1600),
+        (Failure::Error(ErrorKind::Interrupted), 100),
+    ),
+    (
+        Contents::Root,
+        Contents::NormalRoot,
+        (2559, 2559),
+        (Failure::Error(ErrorKind::Other), 100),
+    ),
+    (
+        Contents::Blank,
+        Contents::NormalNothing,
+        (0, 1023),
+        (Failure::Nothing, 100),
+    ),
+    (
+        Contents::Blank,
+        Contents::NormalNothing,
+        (1024, 1024),
+        (Failure::Nothing, 1),
+    ),
 ];
 
 #[test]
 fn tells_of_a_write_that_fails(rt: HostRuntime) -> Result<(), Fail> {
     let alloc = rt.alloc();
-    let image = root_image(alloc, &small()?)?;
-    let want = root_bytes();
-    for (room, failure) in CUTS {
-        let is_cut = is_cut(alloc, (image.as_slice(), &want), room, failure)?;
-        assert!(rt; is_cut, "after {room} bytes");
+    for (image, want, (least, most), way) in &CUTS {
+        let (image, want) = (image.bytes(alloc)?, want.bytes(alloc)?);
+        let over = (image.as_slice(), want.as_slice());
+        for room in *least..most.saturating_add(1) {
+            assert!(rt; is_cut(alloc, over, room, *way)?, "after {room} bytes");
+        }
     }
-    let blank = [0xFF; 1536];
-    let want = normal_nothing(alloc)?;
-    let want = want.as_slice();
-    for room in 0..1024 {
-        let is_cut = is_cut(alloc, (&blank, want), room, Failure::Nothing)?;
-        assert!(rt; is_cut, "after {room} bytes of blank eraseblocks");
-    }
-    let mut source = MemorySource::new(&blank);
-    let mut writer = ProbeWriter::new(alloc, 1024, 1, Failure::Nothing)?;
-    let answer = normalise_to(alloc, &small()?, &mut source, &mut writer);
-    assert!(rt; answer == Ok(1024) && writer.taken() == want);
     Ok(())
 }
 
 #[test]
 fn tells_of_a_file_that_is_cut_short(rt: HostRuntime) -> Result<(), Fail> {
     let alloc = rt.alloc();
-    let image = root_image(alloc, &small()?)?;
-    fs::write(&rt, "cut.img", image.as_slice())?;
+    let want = Contents::NormalRoot.bytes(alloc)?;
+    fs::write(&rt, "cut.img", Contents::Root.bytes(alloc)?.as_slice())?;
     let mut source = FileSource::open(&rt, "cut.img")?;
-    let mut writer = ProbeWriter::new(alloc, 4096, 4096, Failure::Nothing)?;
-    let outcome = run_normalise(alloc, &small()?, &mut source, &mut writer)?;
-    assert_eq!(rt; outcome.text.as_slice(), b"blocks 5\n".as_slice());
-    assert_eq!(rt; writer.taken(), root_bytes().as_slice());
+    assert!(rt; is_run(alloc, &mut source, Ok(b"blocks 5\n"), want.as_slice())?);
     fs::write(&rt, "cut.img", [0xFF; 1024].as_slice())?;
-    let mut writer = ProbeWriter::new(alloc, 4096, 4096, Failure::Nothing)?;
-    let answer = run_normalise(alloc, &small()?, &mut source, &mut writer).err();
-    assert_eq!(rt; answer, Some(ToolError::Read));
-    assert_eq!(rt; writer.taken().len(), 0);
+    assert!(rt; is_run(alloc, &mut source, Err(ToolError::Read), &[])?);
     fs::remove_file(&rt, "cut.img")?;
-    let unread = ("cannot read a.img\n", 1);
-    let cut = (image.as_slice(), Broken::Cut);
-    assert_over(&rt, alloc, cut, "normalise a.img --out b.img", unread, &[])
-}
-
-#[test]
-fn tells_of_a_file_that_fails_while_it_is_written(rt: HostRuntime) -> Result<(), Fail> {
-    let alloc = rt.alloc();
-    let image = root_image(alloc, &small()?)?;
-    let want = root_bytes();
-    let line = "normalise a.img --out b.img";
-    let unread = ("cannot read a.img\n", 1);
-    // Of the last eraseblock the headers can be read.
-    let broken = Broken::Read(ErrorKind::Other, 2048 + 128);
-    let start = want.get(..2048).ok_or("short")?;
-    assert_over(&rt, alloc, (image.as_slice(), broken), line, unread, start)?;
-    let broken = Broken::Read(ErrorKind::Other, 2048 + 127);
-    assert_over(&rt, alloc, (image.as_slice(), broken), line, unread, &[])
-}
-
-/// Where the output may be the image, that is read whole before. A whole read fails here.
-#[test]
-fn reads_whole_what_may_be_the_output(rt: HostRuntime) -> Result<(), Fail> {
-    let alloc = rt.alloc();
-    let over: (&[u8], Broken) = (&[0xFF; 1536], Broken::Whole);
-    let unread = ("cannot read a.img\n", 1);
-    let lines = [
-        "normalise a.img --out a.img",
-        "normalise a.img --out other.img",
-        "normalise a.img --out untold.img",
-    ];
-    for line in lines {
-        assert_over(&rt, alloc, over, line, unread, &[])?;
-    }
     Ok(())
+}
+
+/// Outputs that are the image itself, by its path, by another one and by links.
+static ONTO: [&str; 4] = [
+    "normalise onto_itself.img --out onto_itself.img",
+    "normalise onto_itself.img --out ./onto_itself.img",
+    "normalise onto_itself.img --out linked.img",
+    "normalise onto_itself.img --out pointing.img",
+];
+
+/// What a file holds once a line over it has answered.
+fn after_line<R: Files + Alloc + Eprint + Abort>(
+    rt: &R,
+    alloc: Global,
+    image: &[u8],
+    line: &str,
+) -> Result<Vec<u8, R::A>, Fail>
+where
+    R::File: FileExt,
+{
+    fs::write(rt, "onto_itself.img", image)?;
+    assert_line(rt, alloc, line, ("blocks 5\n", 0))?;
+    Ok(fs::read(rt, "onto_itself.img")?)
 }
 
 #[test]
 fn normalises_a_file_onto_itself(rt: HostRuntime) -> Result<(), Fail> {
     let alloc = rt.alloc();
-    let image = root_image(alloc, &small()?)?;
-    let want = normal_root(alloc)?;
-    let lines = [
-        "normalise onto_itself.img --out onto_itself.img",
-        "normalise onto_itself.img --out ./onto_itself.img",
-        "normalise onto_itself.img --out linked.img",
-        "normalise onto_itself.img --out pointing.img",
-    ];
-    for line in lines {
-        fs::write(&rt, "onto_itself.img", image.as_slice())?;
-        fs::hard_link(&rt, "onto_itself.img", "linked.img")?;
-        symlink(&rt, "onto_itself.img", "pointing.img")?;
-        assert_line(&rt, alloc, line, "blocks 5\n", 0)?;
-        assert_eq!(rt;
-            fs::read(&rt, "onto_itself.img")?.as_slice(),
-            want.as_slice()
-        );
-        remove_files(&rt, &["onto_itself.img", "linked.img", "pointing.img"])?;
+    let (image, want) = (
+        Contents::Root.bytes(alloc)?,
+        Contents::NormalRoot.bytes(alloc)?,
+    );
+    fs::write(&rt, "onto_itself.img", image.as_slice())?;
+    fs::hard_link(&rt, "onto_itself.img", "linked.img")?;
+    symlink(&rt, "onto_itself.img", "pointing.img")?;
+    for line in ONTO {
+        let after = after_line(&rt, alloc, image.as_slice(), line)?;
+        assert!(rt; after.as_slice() == want.as_slice(), "of {line}");
+    }
+    for path in ["onto_itself.img", "linked.img", "pointing.img"] {
+        fs::remove_file(&rt, path)?;
     }
     Ok(())
 }
@@ -200,14 +222,14 @@ fn normalises_a_file_onto_itself(rt: HostRuntime) -> Result<(), Fail> {
 #[test]
 fn normalises_what_a_pipe_gives(rt: HostRuntime) -> Result<(), Fail> {
     let alloc = rt.alloc();
-    let want = normal_nothing(alloc)?;
+    let want = Contents::NormalNothing.bytes(alloc)?;
     let (reader, mut writer) = io::pipe(&rt)?;
     writer.write_all(&[0xFF; 1536])?;
     drop(writer);
     let end = reader.as_raw_fd();
     let line = format!(in alloc; "normalise /proc/self/fd/{end} --out piped.img")?;
-    assert_line(&rt, alloc, line.as_str(), "blocks 2\n", 0)?;
-    assert_eq!(rt; fs::read(&rt, "piped.img")?.as_slice(), want.as_slice());
+    assert_line(&rt, alloc, line.as_str(), ("blocks 2\n", 0))?;
+    assert!(rt; fs::read(&rt, "piped.img")?.as_slice() == want.as_slice());
     fs::remove_file(&rt, "piped.img")?;
     Ok(())
 }
@@ -228,24 +250,8 @@ static ENDLESS: [&str; 9] = [
 #[test]
 fn reads_no_file_without_an_end(rt: HostRuntime) -> Result<(), Fail> {
     for line in ENDLESS {
-        assert_line(&rt, rt.alloc(), line, "cannot read /dev/zero\n", 1)?;
+        assert_line(&rt, rt.alloc(), line, ("cannot read /dev/zero\n", 1))?;
     }
     assert!(rt; !fs::exists(&rt, "endless.bin")?);
     Ok(())
-}
-
-#[test]
-fn leaves_a_file_as_it_is_where_the_image_is_refused(rt: HostRuntime) -> Result<(), Fail> {
-    let alloc = rt.alloc();
-    let mut image = root_image(alloc, &small()?)?;
-    overwrite(image.as_mut_slice(), 3 * 512, &ec_of(&small()?, 8));
-    fs::write(&rt, "refused.img", image.as_slice())?;
-    fs::write(&rt, "kept.img", b"as it was".as_slice())?;
-    let line = "normalise refused.img --out kept.img";
-    assert_line(&rt, alloc, line, "refused S4 ImageSeq block=3\n", 1)?;
-    assert_eq!(rt;
-        fs::read(&rt, "kept.img")?.as_slice(),
-        b"as it was".as_slice()
-    );
-    remove_files(&rt, &["refused.img", "kept.img"])
 }

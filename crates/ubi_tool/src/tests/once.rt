@@ -1,11 +1,8 @@
 //! Reads at places that fail once.
 
-use super::answers::run_line;
-use super::fake::{Broken, FakeFiles};
-use std::alloc::Global;
-use std::cell::RefCell;
+use super::answers::assert_over;
+use super::fake::Broken;
 use std::io::ErrorKind;
-use std::process::Abort;
 use std::test::Fail;
 
 /// What `check` answers of eight blank eraseblocks.
@@ -24,30 +21,15 @@ static ONCE: [(usize, ErrorKind, usize, (&str, u8)); 5] = [
     (8192, ErrorKind::Interrupted, 20_000, ("cannot read a\n", 1)),
 ];
 
-/// What is answered of a file of eight blank eraseblocks of which one read fails.
-fn assert_once(
-    rt: &impl Abort,
-    alloc: Global,
-    size: usize,
-    broken: Broken,
-    (text, status): (&str, u8),
-) -> Result<(), Fail> {
-    let image = vec![in alloc; 0xFFu8; size.saturating_mul(8)]?;
-    let shown = RefCell::new(String::new(alloc));
-    let written = RefCell::new(Vec::new(alloc));
-    let files = FakeFiles::new(image.as_slice(), broken, &written, &shown);
-    let line = format!(in alloc; "check a --peb {size} --page 64")?;
-    let outcome = run_line(&files, alloc, line.as_str())?;
-    assert_eq!(rt; outcome.text.as_slice(), text.as_bytes());
-    assert_eq!(rt; outcome.status, status);
-    Ok(())
-}
-
 #[test]
 fn reads_alone_what_cannot_be_read_ahead(rt: HostRuntime) -> Result<(), Fail> {
+    let alloc = rt.alloc();
     for (size, kind, after, answer) in ONCE {
+        let image = vec![in alloc; 0xFFu8; size.saturating_mul(8)]?;
+        let line = format!(in alloc; "check a --peb {size} --page 64")?;
+        let files: (&[u8], &[u8]) = (image.as_slice(), &[]);
         let broken = Broken::PlacesOnce(kind, after);
-        assert_once(&rt, rt.alloc(), size, broken, answer)?;
+        assert_over(&rt, alloc, files, broken, line.as_str(), answer, &[])?;
     }
     Ok(())
 }

@@ -2,16 +2,22 @@
 //!
 //! They are constants: a proof takes those as they stand, and pays for each loop and each call of a test.
 
-use super::images::{
-    BOOT, BOOT_UPDATING, CHECK_OF_37, CHECK_OF_39, CHECK_OF_41, NONE, ROOT, Record, overwrite,
-    put_bytes, records,
+use super::headers::{
+    ALIGNED, COPY_0, COPY_1, DAMAGED, EC, LEB_0, LEB_1, LEB_2, NAMED_EC, WHOLE_0, WHOLE_1,
 };
-use super::normal::{ALIGNED, ALIGNED_ROOT, COPIES, DAMAGED, EC, LEBS, NAMED_EC, WHOLE};
-use std::alloc::{AllocError, Global};
+use super::tables::Table;
+use std::alloc::AllocError;
 use ubi_media::{EcHeader, Geometry, LAYOUT_VOLUME, VidHeader, VolKind, write_ec, write_vid};
 
 /// The number of the image whose eraseblocks they are.
 pub const IMAGE: u32 = 0x1234_5678;
+
+/// The check of 384 bytes 0x41, of 64 bytes 0x37 and of 64 bytes 0x39. Another program worked them out.
+const CHECK_OF_41: u32 = 0xD6FB_3026;
+
+const CHECK_OF_37: u32 = 0x6BFF_21BA;
+
+const CHECK_OF_39: u32 = 0xF1EC_52E7;
 
 /// What stands in the place of an erase-counter header.
 #[derive(Clone, Copy)]
@@ -50,28 +56,12 @@ pub enum Vid {
     Corrupt,
 }
 
-/// The data of an eraseblock.
+/// The data of an eraseblock, with 0xFF behind them.
 #[derive(Clone, Copy)]
 pub enum Data {
-    /// A table, by the record in its first slot. Its second slot has none.
-    Table(Slot),
-    /// A byte, so many times, and 0xFF behind.
-    Filled(u8, usize),
-    /// A byte, so many times, and zeros behind.
-    Zeroed(u8, usize),
-}
-
-/// A record of a table.
-#[derive(Clone, Copy)]
-pub enum Slot {
-    None,
-    Root,
-    /// The same with an alignment that leaves bytes, with alignment 0, and with more eraseblocks than there are.
-    Aligned,
-    Alignment0,
-    Overfull,
-    Boot,
-    Updating,
+    Table(Table),
+    /// Bytes that each stand so many times.
+    Runs(&'static [(&'static [u8], usize)]),
 }
 
 /// An eraseblock.
@@ -80,34 +70,6 @@ pub struct Peb {
     pub ec: Ec,
     pub vid: Vid,
     pub data: Data,
-}
-
-/// The records of `root` with alignment 0, and with 31 reserved eraseblocks. Another program worked out the checks.
-const ALIGNMENT_0: Record = Record {
-    start: *b"\0\0\0\x14\0\0\0\0\0\0\0\0\x01\0\0\x04root",
-    check: [0xD1, 0x36, 0x07, 0x5E],
-    ..ROOT
-};
-
-const OVERFULL: Record = Record {
-    start: *b"\0\0\0\x1f\0\0\0\x01\0\0\0\0\x01\0\0\x04root",
-    check: [0xCA, 0x32, 0xE2, 0xB9],
-    ..ROOT
-};
-
-impl Slot {
-    /// The record.
-    fn record(&self) -> &'static Record {
-        match self {
-            Slot::None => &NONE,
-            Slot::Root => &ROOT,
-            Slot::Aligned => &ALIGNED_ROOT,
-            Slot::Alignment0 => &ALIGNMENT_0,
-            Slot::Overfull => &OVERFULL,
-            Slot::Boot => &BOOT,
-            Slot::Updating => &BOOT_UPDATING,
-        }
-    }
 }
 
 impl Ec {
@@ -128,14 +90,14 @@ impl Vid {
     fn bytes(&self) -> [u8; 64] {
         match self {
             Vid::Is(header) => write_vid(header),
-            Vid::Copy0 => COPIES[0],
-            Vid::Copy1 => COPIES[1],
-            Vid::Leb0 => LEBS[0],
-            Vid::Leb1 => LEBS[1],
-            Vid::Leb2 => LEBS[2],
+            Vid::Copy0 => COPY_0,
+            Vid::Copy1 => COPY_1,
+            Vid::Leb0 => LEB_0,
+            Vid::Leb1 => LEB_1,
+            Vid::Leb2 => LEB_2,
             Vid::Aligned => ALIGNED,
-            Vid::Text0 => WHOLE[0],
-            Vid::Text1 => WHOLE[1],
+            Vid::Text0 => WHOLE_0,
+            Vid::Text1 => WHOLE_1,
             Vid::Damaged => DAMAGED,
             Vid::Blank => [0xFF; 64],
             Vid::Corrupt => [0; 64],
@@ -143,37 +105,29 @@ impl Vid {
     }
 }
 
-/// Writes a byte over the first `count` ones.
-fn fill(bytes: &mut [u8; 384], byte: u8, count: usize) {
-    for old in bytes.iter_mut().take(count) {
-        *old = byte;
-    }
-}
-
-impl Data {
-    /// Its bytes.
-    fn bytes(&self) -> [u8; 384] {
-        let mut bytes = [0xFF; 384];
-        match self {
-            Data::Table(slot) => overwrite(&mut bytes, 0, &records(slot.record())),
-            Data::Filled(byte, count) => fill(&mut bytes, *byte, *count),
-            Data::Zeroed(byte, count) => {
-                fill(&mut bytes, 0, 384);
-                fill(&mut bytes, *byte, *count);
-            }
+/// Adds bytes that each stand so many times.
+pub fn put_runs(bytes: &mut Vec<u8>, runs: &[(&[u8], usize)]) -> Result<(), AllocError> {
+    for (run, count) in runs {
+        for _ in 0..*count {
+            bytes.extend_from_slice(run)?;
         }
-        bytes
     }
+    Ok(())
 }
 
-/// The bytes of some eraseblocks.
-pub fn bytes_of(alloc: Global, geometry: &Geometry, pebs: &[Peb]) -> Result<Vec<u8>, AllocError> {
-    let mut bytes = Vec::new(alloc);
+/// Adds the bytes of some eraseblocks.
+pub fn put_pebs(bytes: &mut Vec<u8>, geometry: &Geometry, pebs: &[Peb]) -> Result<(), AllocError> {
     for peb in pebs {
-        let (ec, vid) = (peb.ec.bytes(geometry), peb.vid.bytes());
-        put_bytes(&mut bytes, &ec, &vid, &peb.data.bytes())?;
+        let end = bytes.len().saturating_add(512);
+        bytes.extend_from_slice(&peb.ec.bytes(geometry))?;
+        bytes.extend_from_slice(&peb.vid.bytes())?;
+        match peb.data {
+            Data::Table(table) => put_runs(bytes, table.runs())?,
+            Data::Runs(runs) => put_runs(bytes, runs)?,
+        }
+        bytes.resize(end, 0xFF)?;
     }
-    Ok(bytes)
+    Ok(())
 }
 
 /// The header of logical eraseblock 0 of the dynamic volume 0, not copied.
@@ -241,7 +195,7 @@ const MISCOPIED: VidHeader = VidHeader {
 pub const ERASED: Peb = Peb {
     ec: Ec::Blank,
     vid: Vid::Blank,
-    data: Data::Filled(0xFF, 384),
+    data: Data::Runs(&[]),
 };
 
 /// A free one: it has an erase-counter header and nothing else.
@@ -254,32 +208,39 @@ pub const FREE: Peb = Peb {
 pub const A: Peb = Peb {
     ec: Ec::Is(0, IMAGE),
     vid: Vid::Is(PLAIN),
-    data: Data::Filled(0x41, 384),
+    data: Data::Runs(&[(b"A", 384)]),
 };
 
 pub const B: Peb = Peb {
     vid: Vid::Is(VidHeader { lnum: 1, ..PLAIN }),
-    data: Data::Filled(0x42, 384),
+    data: Data::Runs(&[(b"B", 384)]),
     ..A
 };
 
 pub const C: Peb = Peb {
     vid: Vid::Is(VidHeader { lnum: 2, ..PLAIN }),
-    data: Data::Filled(0x43, 384),
+    data: Data::Runs(&[(b"C", 384)]),
     ..A
 };
 
-/// Its logical eraseblock 3, with nothing but 0xFF in it.
+/// A logical eraseblock of a volume 5 that no table has.
+pub const ORPHAN: Peb = Peb {
+    vid: Vid::Is(VidHeader { vol_id: 5, ..PLAIN }),
+    data: Data::Runs(&[(b"b", 384)]),
+    ..A
+};
+
+/// Logical eraseblock 3 of the volume `root`, with nothing but 0xFF in it.
 pub const EMPTY_D: Peb = Peb {
     vid: Vid::Is(VidHeader { lnum: 3, ..PLAIN }),
-    data: Data::Filled(0xFF, 384),
+    data: Data::Runs(&[]),
     ..A
 };
 
 /// The two copies of a table with the volume `root`.
 pub const FIRST: Peb = Peb {
     vid: Vid::Is(LAYOUT),
-    data: Data::Table(Slot::Root),
+    data: Data::Table(Table::Root),
     ..A
 };
 
@@ -291,12 +252,12 @@ pub const SECOND: Peb = Peb {
 /// The same where its alignment is 256, so that 128 bytes of each logical eraseblock are left, and its first one with
 /// other bytes in what is left.
 pub const FIRST_ALIGNED: Peb = Peb {
-    data: Data::Table(Slot::Aligned),
+    data: Data::Table(Table::Aligned),
     ..FIRST
 };
 
 pub const SECOND_ALIGNED: Peb = Peb {
-    data: Data::Table(Slot::Aligned),
+    data: Data::Table(Table::Aligned),
     ..SECOND
 };
 
@@ -305,12 +266,12 @@ pub const ALIGNED_A: Peb = Peb {
         data_pad: 128,
         ..PLAIN
     }),
-    data: Data::Filled(0x41, 256),
+    data: Data::Runs(&[(b"A", 256)]),
     ..A
 };
 
 pub const ALIGNED_ZEROED: Peb = Peb {
-    data: Data::Zeroed(0x41, 256),
+    data: Data::Runs(&[(b"A", 256), (b"\0", 128)]),
     ..ALIGNED_A
 };
 
@@ -318,19 +279,19 @@ pub const ALIGNED_ZEROED: Peb = Peb {
 /// whose check is wrong.
 pub const OLD: Peb = Peb {
     vid: Vid::Is(VidHeader { sqnum: 5, ..PLAIN }),
-    data: Data::Filled(0x35, 384),
+    data: Data::Runs(&[(b"5", 384)]),
     ..A
 };
 
 pub const OLDER: Peb = Peb {
     vid: Vid::Is(VidHeader { sqnum: 6, ..PLAIN }),
-    data: Data::Filled(0x36, 384),
+    data: Data::Runs(&[(b"6", 384)]),
     ..A
 };
 
 pub const RIGHT: Peb = Peb {
     vid: Vid::Is(COPIED),
-    data: Data::Filled(0x37, 64),
+    data: Data::Runs(&[(b"7", 64)]),
     ..A
 };
 
@@ -339,7 +300,7 @@ pub const WRONG_4: Peb = Peb {
         sqnum: 4,
         ..MISCOPIED
     }),
-    data: Data::Filled(0x34, 64),
+    data: Data::Runs(&[(b"4", 64)]),
     ..A
 };
 
@@ -348,7 +309,7 @@ pub const WRONG_6: Peb = Peb {
         sqnum: 6,
         ..MISCOPIED
     }),
-    data: Data::Filled(0x39, 64),
+    data: Data::Runs(&[(b"9", 64)]),
     ..A
 };
 
@@ -359,12 +320,12 @@ pub const WRONG_9: Peb = Peb {
 
 /// The two copies of a table with the static volume `boot`, and its two logical eraseblocks.
 pub const FIRST_BOOT: Peb = Peb {
-    data: Data::Table(Slot::Boot),
+    data: Data::Table(Table::Boot),
     ..FIRST
 };
 
 pub const SECOND_BOOT: Peb = Peb {
-    data: Data::Table(Slot::Boot),
+    data: Data::Table(Table::Boot),
     ..SECOND
 };
 
@@ -375,7 +336,7 @@ pub const TEXT_0: Peb = Peb {
 
 pub const TEXT_1: Peb = Peb {
     vid: Vid::Is(STATIC_1),
-    data: Data::Filled(0xFF, 384),
+    data: Data::Runs(&[]),
     ..A
 };
 
@@ -400,12 +361,12 @@ pub const NEWER_1: Peb = Peb {
 
 /// The two copies of the table while that volume is updated.
 pub const FIRST_UPDATING: Peb = Peb {
-    data: Data::Table(Slot::Updating),
+    data: Data::Table(Table::Updating),
     ..FIRST
 };
 
 pub const SECOND_UPDATING: Peb = Peb {
-    data: Data::Table(Slot::Updating),
+    data: Data::Table(Table::Updating),
     ..SECOND
 };
 
@@ -413,7 +374,7 @@ pub const SECOND_UPDATING: Peb = Peb {
 pub const NORMAL_FIRST: Peb = Peb {
     ec: Ec::Normal,
     vid: Vid::Copy0,
-    data: Data::Table(Slot::None),
+    data: Data::Table(Table::None),
 };
 
 pub const NORMAL_SECOND: Peb = Peb {
@@ -434,74 +395,75 @@ pub const UNNAMED_SECOND: Peb = Peb {
 
 /// Those of a table with the volume `root`, and its logical eraseblocks 0, 1 and 2.
 pub const ROOT_FIRST: Peb = Peb {
-    data: Data::Table(Slot::Root),
+    data: Data::Table(Table::Root),
     ..NORMAL_FIRST
 };
 
 pub const ROOT_SECOND: Peb = Peb {
-    data: Data::Table(Slot::Root),
+    data: Data::Table(Table::Root),
     ..NORMAL_SECOND
 };
 
 pub const NORMAL_A: Peb = Peb {
     vid: Vid::Leb0,
-    data: Data::Filled(0x41, 384),
+    data: Data::Runs(&[(b"A", 384)]),
     ..NORMAL_FIRST
 };
 
 pub const NORMAL_B: Peb = Peb {
     vid: Vid::Leb1,
-    data: Data::Filled(0x42, 384),
+    data: Data::Runs(&[(b"B", 384)]),
     ..NORMAL_FIRST
 };
 
 pub const NORMAL_C: Peb = Peb {
     vid: Vid::Leb2,
-    data: Data::Filled(0x43, 384),
+    data: Data::Runs(&[(b"C", 384)]),
     ..NORMAL_FIRST
 };
 
 /// Those where its alignment is 256.
 pub const ALIGNED_FIRST: Peb = Peb {
-    data: Data::Table(Slot::Aligned),
+    data: Data::Table(Table::Aligned),
     ..NORMAL_FIRST
 };
 
 pub const ALIGNED_SECOND: Peb = Peb {
-    data: Data::Table(Slot::Aligned),
+    data: Data::Table(Table::Aligned),
     ..NORMAL_SECOND
 };
 
 pub const NORMAL_ALIGNED: Peb = Peb {
     vid: Vid::Aligned,
-    data: Data::Filled(0x41, 256),
+    data: Data::Runs(&[(b"A", 256)]),
     ..NORMAL_FIRST
 };
 
 /// Logical eraseblock 0 with what wins it: 64 bytes 0x37, 384 bytes 0x35, or 64 bytes of a copy that is wrong.
 pub const NORMAL_37: Peb = Peb {
-    data: Data::Filled(0x37, 64),
+    data: Data::Runs(&[(b"7", 64)]),
     ..NORMAL_A
 };
 
 pub const NORMAL_35: Peb = Peb {
-    data: Data::Filled(0x35, 384),
+    data: Data::Runs(&[(b"5", 384)]),
     ..NORMAL_A
 };
 
 pub const NORMAL_34: Peb = Peb {
-    data: Data::Filled(0x34, 64),
+    data: Data::Runs(&[(b"4", 64)]),
     ..NORMAL_A
 };
 
-/// Those of a table with the static volume `boot`, its two logical eraseblocks, and the one that says that it is damaged.
+/// Those of a table with the static volume `boot`, its two logical eraseblocks, and the one that says that it is
+/// damaged.
 pub const BOOT_FIRST: Peb = Peb {
-    data: Data::Table(Slot::Boot),
+    data: Data::Table(Table::Boot),
     ..NORMAL_FIRST
 };
 
 pub const BOOT_SECOND: Peb = Peb {
-    data: Data::Table(Slot::Boot),
+    data: Data::Table(Table::Boot),
     ..NORMAL_SECOND
 };
 
@@ -512,7 +474,7 @@ pub const NORMAL_TEXT_0: Peb = Peb {
 
 pub const NORMAL_TEXT_1: Peb = Peb {
     vid: Vid::Text1,
-    data: Data::Filled(0xFF, 384),
+    data: Data::Runs(&[]),
     ..NORMAL_A
 };
 
@@ -523,12 +485,12 @@ pub const NORMAL_DAMAGED: Peb = Peb {
 
 /// Those of a table while that volume is updated.
 pub const UPDATING_FIRST: Peb = Peb {
-    data: Data::Table(Slot::Updating),
+    data: Data::Table(Table::Updating),
     ..NORMAL_FIRST
 };
 
 pub const UPDATING_SECOND: Peb = Peb {
-    data: Data::Table(Slot::Updating),
+    data: Data::Table(Table::Updating),
     ..NORMAL_SECOND
 };
 
@@ -644,4 +606,275 @@ pub const FIFTH_OF_5: Peb = Peb {
         ..STATIC
     }),
     ..A
+};
+
+/// A copy without its check, and a logical eraseblock 1 without data.
+pub const UNCHECKED: Peb = Peb {
+    vid: Vid::Is(VidHeader {
+        data_crc: 0,
+        ..MISCOPIED
+    }),
+    ..WRONG_9
+};
+
+pub const EMPTY_B: Peb = Peb {
+    data: Data::Runs(&[]),
+    ..B
+};
+
+/// The two copies of a table with the volume `root` while it is updated, with names that are shown otherwise than they
+/// stand, and with a second volume `data` or `name`.
+pub const FIRST_MARKED: Peb = Peb {
+    data: Data::Table(Table::MarkedRoot),
+    ..FIRST
+};
+
+pub const SECOND_MARKED: Peb = Peb {
+    data: Data::Table(Table::MarkedRoot),
+    ..SECOND
+};
+
+pub const FIRST_PLAIN: Peb = Peb {
+    data: Data::Table(Table::PlainName),
+    ..FIRST
+};
+
+pub const SECOND_PLAIN: Peb = Peb {
+    data: Data::Table(Table::PlainName),
+    ..SECOND
+};
+
+pub const FIRST_STRANGE: Peb = Peb {
+    data: Data::Table(Table::StrangeName),
+    ..FIRST
+};
+
+pub const SECOND_STRANGE: Peb = Peb {
+    data: Data::Table(Table::StrangeName),
+    ..SECOND
+};
+
+pub const FIRST_DATA: Peb = Peb {
+    data: Data::Table(Table::RootAndData),
+    ..FIRST
+};
+
+pub const SECOND_DATA: Peb = Peb {
+    data: Data::Table(Table::RootAndData),
+    ..SECOND
+};
+
+pub const FIRST_NAME: Peb = Peb {
+    data: Data::Table(Table::RootAndName),
+    ..FIRST
+};
+
+pub const SECOND_NAME: Peb = Peb {
+    data: Data::Table(Table::RootAndName),
+    ..SECOND
+};
+
+/// Logical eraseblock 2 of `root` with the greatest sequence numbers.
+pub const C_LAST: Peb = Peb {
+    vid: Vid::Is(VidHeader {
+        lnum: 2,
+        sqnum: u64::MAX,
+        ..PLAIN
+    }),
+    ..C
+};
+
+pub const C_LAST_BUT_1: Peb = Peb {
+    vid: Vid::Is(VidHeader {
+        lnum: 2,
+        sqnum: u64::MAX - 1,
+        ..PLAIN
+    }),
+    ..C
+};
+
+pub const C_LAST_BUT_2: Peb = Peb {
+    vid: Vid::Is(VidHeader {
+        lnum: 2,
+        sqnum: u64::MAX - 2,
+        ..PLAIN
+    }),
+    ..C
+};
+
+/// Eraseblocks without a number, or with the header of normal images.
+pub const UNNAMED_EMPTY_D: Peb = Peb {
+    ec: Ec::Unnamed,
+    ..EMPTY_D
+};
+
+pub const UNNAMED_FREE: Peb = Peb {
+    ec: Ec::Unnamed,
+    ..ERASED
+};
+
+pub const NORMAL_FREE: Peb = Peb {
+    ec: Ec::Normal,
+    ..ERASED
+};
+
+/// Eraseblocks with erase counters, of which the second can't be erased any more.
+pub const COUNTED_OLD: Peb = Peb {
+    ec: Ec::Is(4, 0),
+    ..OLD
+};
+
+pub const WORN_OUT_B: Peb = Peb {
+    ec: Ec::Is(0x7FFF_FFFF, IMAGE),
+    ..B
+};
+
+/// Logical eraseblocks of normal images with few bytes.
+pub const NORMAL_7: Peb = Peb {
+    data: Data::Runs(&[(b"7", 1)]),
+    ..NORMAL_A
+};
+
+pub const NORMAL_AB: Peb = Peb {
+    data: Data::Runs(&[(b"ab", 1)]),
+    ..NORMAL_B
+};
+
+/// A logical eraseblock without an erase-counter header, with sequence number 13.
+pub const UNREAD_13: Peb = Peb {
+    ec: Ec::Blank,
+    vid: Vid::Is(VidHeader {
+        lnum: 1,
+        sqnum: 13,
+        ..PLAIN
+    }),
+    data: Data::Runs(&[]),
+};
+
+/// Logical eraseblocks of a static volume without their check, by how many they say that there are.
+pub const UNCHECKED_0: Peb = Peb {
+    vid: Vid::Is(VidHeader {
+        used_ebs: 5,
+        data_crc: 0,
+        ..STATIC
+    }),
+    ..A
+};
+
+pub const UNCHECKED_1: Peb = Peb {
+    vid: Vid::Is(VidHeader {
+        lnum: 1,
+        used_ebs: 6,
+        data_crc: 0,
+        ..STATIC
+    }),
+    ..A
+};
+
+pub const UNCHECKED_2: Peb = Peb {
+    vid: Vid::Is(VidHeader {
+        lnum: 2,
+        used_ebs: 5,
+        data_crc: 0,
+        ..STATIC
+    }),
+    ..A
+};
+
+pub const UNCHECKED_3: Peb = Peb {
+    vid: Vid::Is(VidHeader {
+        lnum: 3,
+        used_ebs: 7,
+        data_crc: 0,
+        ..STATIC
+    }),
+    ..A
+};
+
+pub const UNCHECKED_4: Peb = Peb {
+    vid: Vid::Is(VidHeader {
+        lnum: 4,
+        used_ebs: 5,
+        data_crc: 0,
+        ..STATIC
+    }),
+    ..A
+};
+
+/// Logical eraseblock 20, which `root` doesn't reserve, with data; and one of a static volume in the place of a dynamic
+/// one.
+pub const A_BEYOND: Peb = Peb {
+    vid: Vid::Is(VidHeader { lnum: 20, ..PLAIN }),
+    ..A
+};
+
+pub const STATIC_A: Peb = Peb {
+    vid: Vid::Is(VidHeader {
+        used_ebs: 1,
+        ..STATIC
+    }),
+    ..A
+};
+
+/// An eraseblock of another image.
+pub const OTHER_B: Peb = Peb {
+    ec: Ec::Is(0, 8),
+    ..B
+};
+
+/// Copy 1 of the table with compatibility 0, and a copy 2.
+pub const COMPAT_0: Peb = Peb {
+    vid: Vid::Is(VidHeader {
+        lnum: 1,
+        compat: 0,
+        ..LAYOUT
+    }),
+    ..SECOND
+};
+
+pub const THIRD: Peb = Peb {
+    vid: Vid::Is(VidHeader { lnum: 2, ..LAYOUT }),
+    ..SECOND
+};
+
+/// Logical eraseblock 0 with sequence number 7, and that of a static volume.
+pub const SEVEN: Peb = Peb {
+    vid: Vid::Is(VidHeader { sqnum: 7, ..PLAIN }),
+    ..A
+};
+
+/// Eraseblocks of another internal volume, by their compatibility.
+pub const COMPAT_2: Peb = Peb {
+    vid: Vid::Is(VidHeader {
+        compat: 2,
+        ..INTERNAL
+    }),
+    ..FREE
+};
+
+pub const COMPAT_4: Peb = Peb {
+    vid: Vid::Is(VidHeader {
+        compat: 4,
+        ..INTERNAL
+    }),
+    ..FREE
+};
+
+pub const COMPAT_5: Peb = Peb {
+    vid: Vid::Is(VidHeader {
+        compat: 5,
+        ..INTERNAL
+    }),
+    ..FREE
+};
+
+/// The first copy of a table with the volume `root` of alignment 0, or of more eraseblocks than there are.
+pub const ALIGNMENT_0: Peb = Peb {
+    data: Data::Table(Table::Alignment0),
+    ..FIRST
+};
+
+pub const OVERFULL: Peb = Peb {
+    data: Data::Table(Table::Overfull),
+    ..FIRST
 };

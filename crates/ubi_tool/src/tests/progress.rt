@@ -26,23 +26,36 @@ fn work(terminal: &impl Eprint, alloc: Global, most: u64, is_watched: bool) -> R
 fn told(alloc: Global, most: u64, is_watched: bool) -> Result<String, Fail> {
     let shown = RefCell::new(String::new(alloc));
     let written = RefCell::new(Vec::new(alloc));
-    let files = FakeFiles::new(&[], Broken::Nothing, &written, &shown);
+    let files = FakeFiles {
+        image: &[],
+        new: &[],
+        broken: Broken::Nothing,
+        written: &written,
+        shown: &shown,
+    };
     work(&files, alloc, most, is_watched)?;
     Ok(shown.into_inner())
 }
 
-#[test]
-fn tells_each_hundredth_and_takes_it_away(rt: HostRuntime) -> Result<(), Fail> {
-    let text = told(rt.alloc(), 1 << 28, true)?;
-    assert!(rt; text.as_str() == "\r1 % of the image\r2 % of the image\r\x1b[K");
-    Ok(())
-}
+/// How long the work may be, whether somebody watches, and what is told of it.
+static TOLD: [(u64, bool, &str); 3] = [
+    (
+        1 << 28,
+        true,
+        "\r1 % of the image\r2 % of the image\r\x1b[K",
+    ),
+    ((1 << 28) - 1, true, ""),
+    (1 << 30, false, ""),
+];
 
 #[test]
-fn tells_nothing_of_short_work_or_to_nobody(rt: HostRuntime) -> Result<(), Fail> {
-    let alloc = rt.alloc();
-    assert!(rt; told(alloc, (1 << 28) - 1, true)?.as_str() == "");
-    assert!(rt; told(alloc, 1 << 30, false)?.as_str() == "");
+fn tells_each_hundredth_of_long_work_and_takes_it_away(rt: HostRuntime) -> Result<(), Fail> {
+    for (most, is_watched, text) in TOLD {
+        assert!(rt;
+            told(rt.alloc(), most, is_watched)?.as_str() == text,
+            "of {most}"
+        );
+    }
     Ok(())
 }
 
@@ -63,7 +76,13 @@ fn tells_of_a_long_image(rt: HostRuntime) -> Result<(), Fail> {
     let alloc = rt.alloc();
     let shown = RefCell::new(String::new(alloc));
     let written = RefCell::new(Vec::new(alloc));
-    let files = FakeFiles::new(&[0xFF], Broken::Blank(1 << 28), &written, &shown);
+    let files = FakeFiles {
+        image: &[0xFF],
+        new: &[],
+        broken: Broken::Blank(1 << 28),
+        written: &written,
+        shown: &shown,
+    };
     let mut words = Vec::new(alloc);
     for word in LONG {
         words.push(String::from_str(alloc, word)?)?;

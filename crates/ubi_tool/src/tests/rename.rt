@@ -1,18 +1,16 @@
-//! The command `rename` over bytes: the bytes of each cut, and what is refused.
+//! The command `rename`: the bytes of each cut, the names that these have, and what is refused.
 
-use super::answers::{assert_says, small};
-use super::change::spare_image;
-use super::images::{
-    DATA, ROOT, SMALL_DATA, SMALL_NAME, ec_of, overwrite, plain, put_bytes, records, root_image,
-    two_records,
+use super::answers::{is_answer, small};
+use super::contents::{Contents, EMPTY};
+use super::headers::ERASED_EC;
+use super::pebs::{
+    A, B, C, C_LAST, C_LAST_BUT_1, C_LAST_BUT_2, FIRST, FIRST_NAME, FREE, SECOND, SECOND_NAME,
 };
+use super::plans::{Plan, Reading, assert_plans};
 use crate::rename::run_rename;
-use std::alloc::{AllocError, Global};
-use std::process::Abort;
 use std::test::Fail;
-use ubi_media::{EcHeader, Geometry, VidHeader, write_ec, write_vid};
 
-/// The lines of the plan that renames a volume of the image with two spare eraseblocks.
+/// The lines of the plan that renames a volume of an image with two spare eraseblocks.
 pub const LINES: &str = "steps 18\n\
     program block=5 page=1\nprogram block=5 page=2\nprogram block=5 page=3\n\
     program block=5 page=4\nprogram block=5 page=5\nprogram block=5 page=6\n\
@@ -23,203 +21,319 @@ pub const LINES: &str = "steps 18\n\
     program block=6 page=7\nerase block=1\n\
     program block=1 page=0\n";
 
-/// The image of `root`, and two clean free eraseblocks behind it.
-pub fn spares_image(alloc: Global, geometry: &Geometry) -> Result<Vec<u8>, AllocError> {
-    let mut image = spare_image(alloc, geometry)?;
-    put_bytes(&mut image, &ec_of(geometry, 0x1234_5678), &[0xFF; 64], &[])?;
-    Ok(image)
-}
+/// What is listed of the image, and what its volume reads.
+const OLD: (&str, Contents) = (
+    "geometry peb=512 page=64 vid=64 data=128 leb=384 slots=2 pebs=32\n\
+        volume 0 dynamic reserved=20 alignment=1 usable=384 flags=00 lebs=3 name=root\n\
+        volumes 1\n",
+    EMPTY,
+);
 
-/// Writes a table of two records over both copies.
-pub fn put_tables(image: &mut [u8], table: &[u8; 344]) {
-    overwrite(image, 128, table);
-    overwrite(image, 512 + 128, table);
-}
+const TEXT: Reading = Reading {
+    line: "extract a.img --id 0 --out b.img",
+    old: ("bytes 7680\n", Contents::RootText),
+    new: ("bytes 7680\n", Contents::RootText),
+};
 
-/// A rename of the volume from `root` to `data`: the image, and what it is after so many of the steps.
-#[derive(Drop)]
-struct Cuts {
-    image: Vec<u8>,
-    want: Vec<u8>,
-    done: u32,
-}
+/// The volume is named `data`.
+const TO_DATA: Plan = Plan {
+    image: Contents::Spares,
+    new: EMPTY,
+    line: "rename a.img --id 0 --name data --out b.img",
+    sizes: "--peb 512 --page 64 --pebs 32",
+    lines: LINES,
+    turn: 7,
+    count: 18,
+    steps: &[
+        (5 * 512 + 64, NEW_COPY_0),
+        (5 * 512 + 128, FIRST_PAGE),
+        (5 * 512 + 192, &[0; 64]),
+        (5 * 512 + 256, THIRD_PAGE),
+        (5 * 512 + 320, &[0; 64]),
+        (5 * 512 + 384, &[0; 64]),
+        (5 * 512 + 448, LAST_PAGE),
+        (0, &[0xFF; 512]),
+        (0, &ERASED_EC),
+        (6 * 512 + 64, NEW_COPY_1),
+        (6 * 512 + 128, FIRST_PAGE),
+        (6 * 512 + 192, &[0; 64]),
+        (6 * 512 + 256, THIRD_PAGE),
+        (6 * 512 + 320, &[0; 64]),
+        (6 * 512 + 384, &[0; 64]),
+        (6 * 512 + 448, LAST_PAGE),
+        (512, &[0xFF; 512]),
+        (512, &ERASED_EC),
+    ],
+    readings: &[
+        Reading {
+            line: "list a.img",
+            old: OLD,
+            new: (
+                "geometry peb=512 page=64 vid=64 data=128 leb=384 slots=2 pebs=32\n\
+                    volume 0 dynamic reserved=20 alignment=1 usable=384 flags=00 lebs=3 name=data\n\
+                    volumes 1\n",
+                EMPTY,
+            ),
+        },
+        TEXT,
+    ],
+    last: &[],
+};
 
-impl Cuts {
-    /// Asserts what is printed and written of a rename that is cut.
-    fn assert_cut(&self, rt: &impl Abort, alloc: Global, stop: Option<u32>) -> Result<(), Fail> {
-        let image = self.image.as_slice();
-        let outcome = run_rename(alloc, &small()?, image, 0, b"data", stop)?;
-        assert_eq!(*rt; outcome.text.as_slice(), LINES.as_bytes());
-        assert_eq!(*rt; outcome.status, 0);
-        let cut = outcome.file.ok_or("no file")?;
-        assert!(*rt;
-            cut.as_slice() == self.want.as_slice(),
-            "after {stop:?} steps"
-        );
-        Ok(())
-    }
+/// The headers of the two copies of the new table, by the format. Another program worked out their checks, and that of
+/// the record.
+const NEW_COPY_0: &[u8] = b"UBI!\x01\x01\x01\x05\
+    \x7F\xFF\xEF\xFF\0\0\0\0\0\0\0\0\0\0\x01\x80\0\0\0\0\0\0\0\0\xF8\x4E\xB9\x30\
+    \0\0\0\0\0\0\0\0\0\0\0\x01\0\0\0\0\0\0\0\0\0\0\0\0\x28\x67\xB2\x44";
 
-    /// The same after one step more, which writes bytes at a place.
-    fn assert_step(
-        &mut self,
-        rt: &impl Abort,
-        alloc: Global,
-        at: usize,
-        bytes: &[u8],
-    ) -> Result<(), Fail> {
-        overwrite(self.want.as_mut_slice(), at, bytes);
-        self.done = self.done.saturating_add(1);
-        self.assert_cut(rt, alloc, Some(self.done))
-    }
+const NEW_COPY_1: &[u8] = b"UBI!\x01\x01\x01\x05\
+    \x7F\xFF\xEF\xFF\0\0\0\x01\0\0\0\0\0\0\x01\x80\0\0\0\0\0\0\0\0\xF8\x4E\xB9\x30\
+    \0\0\0\0\0\0\0\0\0\0\0\x02\0\0\0\0\0\0\0\0\0\0\0\0\x36\x3B\xF6\xC6";
 
-    /// The same after each step that writes a copy of the table to an eraseblock and gives up another, by where they begin.
-    fn assert_copy(
-        &mut self,
-        rt: &impl Abort,
-        alloc: Global,
-        header: &VidHeader,
-        (target, old): (u16, u16),
-    ) -> Result<(), Fail> {
-        let (target, old) = (usize::from(target), usize::from(old));
-        self.assert_step(rt, alloc, target + 64, &write_vid(header))?;
-        let mut table = [0xFF; 384];
-        overwrite(&mut table, 0, &records(&DATA));
-        let mut at = target + 128;
-        for page in table.chunks(64) {
-            self.assert_step(rt, alloc, at, page)?;
-            at = at.saturating_add(64);
-        }
-        self.assert_step(rt, alloc, old, &[0xFF; 512])?;
-        let erased = EcHeader {
-            counter: 1,
-            image_seq: 0x1234_5678,
-        };
-        self.assert_step(rt, alloc, old, &write_ec(&small()?, &erased))
-    }
-}
+/// The pages of the table that aren't zeros: the first and the third of the record of `data`, and the last, of none.
+const FIRST_PAGE: &[u8] = b"\0\0\0\x14\0\0\0\x01\0\0\0\0\x01\0\0\x04data\0\0\0\0\0\0\0\0\0\0\0\0\
+    \0\0\0\0\0\0\0\0\0\0\0\0\0\0\0\0\0\0\0\0\0\0\0\0\0\0\0\0\0\0\0\0";
 
-#[test]
-fn writes_each_cut_of_a_rename(rt: HostRuntime) -> Result<(), Fail> {
-    let alloc = rt.alloc();
-    let image = spares_image(alloc, &small()?)?;
-    let first = VidHeader {
-        copy_flag: true,
-        compat: 5,
-        data_size: 384,
-        data_crc: 0xF84E_B930,
-        ..plain(0x7FFF_EFFF, 0, 1)
-    };
-    let second = VidHeader {
-        lnum: 1,
-        sqnum: 2,
-        ..first
-    };
-    let want = image.clone()?;
-    let mut cuts = Cuts {
-        image,
-        want,
-        done: 0,
-    };
-    cuts.assert_cut(&rt, alloc, Some(0))?;
-    cuts.assert_copy(&rt, alloc, &first, (5 * 512, 0))?;
-    cuts.assert_copy(&rt, alloc, &second, (6 * 512, 512))?;
-    cuts.assert_cut(&rt, alloc, Some(u32::MAX))?;
-    cuts.assert_cut(&rt, alloc, None)
-}
+const THIRD_PAGE: &[u8] = b"\0\0\0\0\0\0\0\0\0\0\0\0\0\0\0\0\0\0\0\0\0\0\0\0\0\0\0\0\0\0\0\0\
+    \0\0\0\0\0\0\0\0\xE3\xD5\x62\xFE\0\0\0\0\0\0\0\0\0\0\0\0\0\0\0\0\0\0\0\0";
 
-/// Asserts the line for which a rename isn't planned, and that there is no file.
-fn assert_refuses(
-    rt: &impl Abort,
-    alloc: Global,
-    image: &[u8],
-    (id, word): (u32, &[u8]),
-    line: &str,
-) -> Result<(), Fail> {
-    let answer = run_rename(alloc, &small()?, image, id, word, None)?;
-    assert_says(rt, answer, line, 1)?;
-    let answer = run_rename(alloc, &small()?, image, id, word, Some(0))?;
-    assert_says(rt, answer, line, 1)
-}
+const LAST_PAGE: &[u8] = b"\0\0\0\0\0\0\0\0\0\0\0\0\0\0\0\0\0\0\0\0\xF1\x16\xC3\x6B\
+    \xFF\xFF\xFF\xFF\xFF\xFF\xFF\xFF\xFF\xFF\xFF\xFF\xFF\xFF\xFF\xFF\xFF\xFF\xFF\xFF\
+    \xFF\xFF\xFF\xFF\xFF\xFF\xFF\xFF\xFF\xFF\xFF\xFF\xFF\xFF\xFF\xFF\xFF\xFF\xFF\xFF";
 
-/// Renames that are refused by what is asked for: of the image or of 511 bytes, in this order of the causes. A word that
-/// shows no name comes before all.
-static ASKED: [(bool, u32, &[u8], &str); 13] = [
-    (false, 0, b"data", "refused S1 Length\n"),
-    (false, 0, b"", "refused N1 BadName\n"),
-    (false, 1, b"a\\x4", "refused N1 BadName\n"),
-    (true, 1, b"data", "refused K2 NoVolume\n"),
-    (true, 0x7FFF_EFFF, b"data", "refused K2 NoVolume\n"),
-    (true, 0, b"", "refused N1 BadName\n"),
-    (true, 0, &[0x61; 128], "refused N1 BadName\n"),
-    (true, 0, b"a b", "refused N1 BadName\n"),
-    (true, 0, b"a\\", "refused N1 BadName\n"),
-    (true, 0, b"a\\x00", "refused N1 BadName\n"),
-    (true, 0, b"\xC3\xA4", "refused N1 BadName\n"),
-    // The first page of the new table, and then 0xFF, has the check of the whole.
-    (true, 0, b"scboykncuhuc", "refused K7 WeakCheck pages=1\n"),
-    (
-        true,
-        0,
-        b"\\x73cboykncuhu\\x63",
-        "refused K7 WeakCheck pages=1\n",
-    ),
+static PLANS: [Plan; 5] = [
+    TO_DATA,
+    // The name that it has.
+    Plan {
+        line: "rename a.img --id 0 --name root --out b.img",
+        steps: &[],
+        readings: &[
+            Reading {
+                line: "list a.img",
+                old: OLD,
+                new: OLD,
+            },
+            TEXT,
+        ],
+        ..TO_DATA
+    },
+    // Digits of both cases, and a byte that is shown as it is.
+    Plan {
+        line: "rename a.img --id 0 --name=-\\x5C\\xfF\\x7a --out b.img",
+        steps: &[],
+        readings: &[
+            Reading {
+                line: "list a.img",
+                old: OLD,
+                new: (
+                    "geometry peb=512 page=64 vid=64 data=128 leb=384 slots=2 pebs=32\n\
+                        volume 0 dynamic reserved=20 alignment=1 usable=384 flags=00 lebs=3 name=-\\x5c\\xffz\n\
+                        volumes 1\n",
+                    EMPTY,
+                ),
+            },
+            TEXT,
+        ],
+        ..TO_DATA
+    },
+    // The second of two volumes.
+    Plan {
+        image: Contents::WithName,
+        line: "rename a.img --id 1 --name data --out b.img",
+        steps: &[],
+        readings: &[
+            Reading {
+                line: "list a.img",
+                old: (
+                    "geometry peb=512 page=64 vid=64 data=128 leb=384 slots=2 pebs=32\n\
+                        volume 0 dynamic reserved=20 alignment=1 usable=384 flags=00 lebs=3 name=root\n\
+                        volume 1 dynamic reserved=1 alignment=1 usable=384 flags=00 lebs=0 name=name\n\
+                        volumes 2\n",
+                    EMPTY,
+                ),
+                new: (
+                    "geometry peb=512 page=64 vid=64 data=128 leb=384 slots=2 pebs=32\n\
+                        volume 0 dynamic reserved=20 alignment=1 usable=384 flags=00 lebs=3 name=root\n\
+                        volume 1 dynamic reserved=1 alignment=1 usable=384 flags=00 lebs=0 name=data\n\
+                        volumes 2\n",
+                    EMPTY,
+                ),
+            },
+            TEXT,
+        ],
+        ..TO_DATA
+    },
+    // Two numbers are left.
+    Plan {
+        image: Contents::Pebs(&[FIRST, SECOND, A, B, C_LAST_BUT_2, FREE, FREE], &[]),
+        steps: &[],
+        ..TO_DATA
+    },
 ];
 
 #[test]
-fn refuses_renames_by_what_is_asked(rt: HostRuntime) -> Result<(), Fail> {
-    let image = spares_image(rt.alloc(), &small()?)?;
-    for (whole, id, word, line) in ASKED {
-        let image = if whole {
-            image.as_slice()
-        } else {
-            &[0xFF; 511]
-        };
-        assert_refuses(&rt, rt.alloc(), image, (id, word), line)?;
-    }
-    Ok(())
+fn turns_where_the_first_copy_is_whole(rt: HostRuntime) -> Result<(), Fail> {
+    assert_plans(&rt, rt.alloc(), &PLANS)
 }
 
-#[test]
-fn refuses_renames_by_the_table(rt: HostRuntime) -> Result<(), Fail> {
-    let alloc = rt.alloc();
-    let mut image = spares_image(alloc, &small()?)?;
-    put_tables(image.as_mut_slice(), &two_records(&ROOT, &SMALL_DATA));
-    let line = "refused N2 SameName slot=1\n";
-    assert_refuses(&rt, alloc, image.as_slice(), (0, b"data"), line)?;
-    assert_refuses(&rt, alloc, image.as_slice(), (0, b"d\\x61ta"), line)?;
-    let line = "refused N2 SameName slot=0\n";
-    assert_refuses(&rt, alloc, image.as_slice(), (1, b"root"), line)?;
-    put_tables(image.as_mut_slice(), &two_records(&ROOT, &SMALL_NAME));
-    let line = "refused K7 WeakCheck pages=3\n";
-    assert_refuses(&rt, alloc, image.as_slice(), (1, b"wmqoxwqxqymtkabh"), line)?;
-    // One bit of the name in copy 1.
-    overwrite(image.as_mut_slice(), 512 + 128 + 16, b"s");
-    let line = "refused N3 NeedsRepair\n";
-    assert_refuses(&rt, alloc, image.as_slice(), (0, b"data"), line)?;
-    let line = "refused N2 SameName slot=1\n";
-    assert_refuses(&rt, alloc, image.as_slice(), (0, b"name"), line)
+/// A rename that isn't planned.
+#[derive(Clone, Copy)]
+struct Refused {
+    image: Contents,
+    id: u32,
+    word: &'static [u8],
+    line: &'static str,
 }
 
+const NO_NAME: Refused = Refused {
+    image: Contents::Spares,
+    id: 0,
+    word: b"",
+    line: "refused N1 BadName\n",
+};
+
+const NO_FREE: Refused = Refused {
+    image: Contents::Root,
+    id: 0,
+    word: b"data",
+    line: "refused K9 NoFree\n",
+};
+
+/// Of a table of two volumes whose copies differ by a bit of the second name.
+const UNLIKE: Contents = Contents::Pebs(
+    &[FIRST_NAME, SECOND_NAME, A, B, C, FREE, FREE],
+    &[(512 + 128 + 16, b"s")],
+);
+
+/// By what is asked for in this order of the causes, by the table, and by what is left. A word that shows no name comes
+/// before all.
+static REFUSED: [Refused; 23] = [
+    Refused {
+        image: Contents::Odd,
+        line: "refused S1 Length\n",
+        ..NO_FREE
+    },
+    Refused {
+        image: Contents::Odd,
+        ..NO_NAME
+    },
+    Refused {
+        image: Contents::Odd,
+        id: 1,
+        word: b"a\\x4",
+        ..NO_NAME
+    },
+    Refused {
+        image: Contents::Spares,
+        id: 1,
+        line: "refused K2 NoVolume\n",
+        ..NO_FREE
+    },
+    Refused {
+        image: Contents::Spares,
+        id: 0x7FFF_EFFF,
+        line: "refused K2 NoVolume\n",
+        ..NO_FREE
+    },
+    NO_NAME,
+    Refused {
+        word: &[0x61; 128],
+        ..NO_NAME
+    },
+    Refused {
+        word: b"a b",
+        ..NO_NAME
+    },
+    Refused {
+        word: b"a\\",
+        ..NO_NAME
+    },
+    Refused {
+        word: b"a\\x00",
+        ..NO_NAME
+    },
+    Refused {
+        word: b"\xC3\xA4",
+        ..NO_NAME
+    },
+    // The first page of the new table, and then 0xFF, has the check of the whole.
+    Refused {
+        word: b"scboykncuhuc",
+        line: "refused K7 WeakCheck pages=1\n",
+        ..NO_NAME
+    },
+    Refused {
+        word: b"\\x73cboykncuhu\\x63",
+        line: "refused K7 WeakCheck pages=1\n",
+        ..NO_NAME
+    },
+    Refused {
+        image: Contents::WithData,
+        line: "refused N2 SameName slot=1\n",
+        ..NO_FREE
+    },
+    Refused {
+        image: Contents::WithData,
+        word: b"d\\x61ta",
+        line: "refused N2 SameName slot=1\n",
+        ..NO_FREE
+    },
+    Refused {
+        image: Contents::WithData,
+        id: 1,
+        word: b"root",
+        line: "refused N2 SameName slot=0\n",
+    },
+    Refused {
+        image: Contents::WithName,
+        id: 1,
+        word: b"wmqoxwqxqymtkabh",
+        line: "refused K7 WeakCheck pages=3\n",
+    },
+    Refused {
+        image: UNLIKE,
+        line: "refused N3 NeedsRepair\n",
+        ..NO_FREE
+    },
+    Refused {
+        image: UNLIKE,
+        word: b"name",
+        line: "refused N2 SameName slot=1\n",
+        ..NO_FREE
+    },
+    NO_FREE,
+    Refused {
+        image: Contents::Spare,
+        ..NO_FREE
+    },
+    Refused {
+        image: NO_NUMBER,
+        line: "refused K8 Exhausted\n",
+        ..NO_FREE
+    },
+    Refused {
+        image: LAST_NUMBER,
+        line: "refused K8 Exhausted\n",
+        ..NO_FREE
+    },
+];
+
+/// The image with two free eraseblocks in which no sequence number is left, and that in which one is.
+const NO_NUMBER: Contents = Contents::Pebs(&[FIRST, SECOND, A, B, C_LAST, FREE, FREE], &[]);
+
+const LAST_NUMBER: Contents = Contents::Pebs(&[FIRST, SECOND, A, B, C_LAST_BUT_1, FREE, FREE], &[]);
+
 #[test]
-fn refuses_renames_by_what_is_left(rt: HostRuntime) -> Result<(), Fail> {
+fn refuses_renames(rt: HostRuntime) -> Result<(), Fail> {
     let alloc = rt.alloc();
-    let geometry = small()?;
-    let no_free = "refused K9 NoFree\n";
-    let root = root_image(alloc, &geometry)?;
-    assert_refuses(&rt, alloc, root.as_slice(), (0, b"data"), no_free)?;
-    let spare = spare_image(alloc, &geometry)?;
-    assert_refuses(&rt, alloc, spare.as_slice(), (0, b"data"), no_free)?;
-    let mut image = spares_image(alloc, &geometry)?;
-    for sqnum in [u64::MAX, u64::MAX - 1] {
-        let top = write_vid(&plain(0, 2, sqnum));
-        overwrite(image.as_mut_slice(), 4 * 512 + 64, &top);
-        let line = "refused K8 Exhausted\n";
-        assert_refuses(&rt, alloc, image.as_slice(), (0, b"data"), line)?;
+    for case in &REFUSED {
+        let image = case.image.bytes(alloc)?;
+        for stop in [None, Some(0)] {
+            let image = image.as_slice();
+            let answer = run_rename(alloc, &small()?, image, case.id, case.word, stop)?;
+            let is = is_answer(&answer, (case.line, 1)) && answer.file.is_none();
+            assert!(rt; is, "of {}", case.line);
+        }
     }
-    // Two numbers are left.
-    let top = write_vid(&plain(0, 2, u64::MAX - 2));
-    overwrite(image.as_mut_slice(), 4 * 512 + 64, &top);
-    let planned = run_rename(alloc, &geometry, image.as_slice(), 0, b"data", None)?;
-    assert_eq!(rt; planned.text.as_slice(), LINES.as_bytes());
     Ok(())
 }

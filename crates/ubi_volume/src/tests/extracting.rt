@@ -1,14 +1,14 @@
 //! Writing volumes from their places in a source: what is written, what is read for it, and what fails.
 
-use super::images::{
-    A, ALIGNMENT_256, COPY_0, COPY_1, Data, Ec, FIRST_BOOT, FIRST_MARKED, PADDED, PLAIN, Peb,
-    SECOND_BOOT, SECOND_MARKED, SMALL, STATIC_0, TEXT_0, TEXT_1, Vid, geometry, image,
+use super::images::{geometry, image};
+use super::pebs::{
+    A, ALIGNED_VOLUME, FIRST_BOOT, FIRST_MARKED, HOLED, NEWER_0, Peb, SECOND_BOOT, SECOND_MARKED,
+    TEXT_0, TEXT_1,
 };
 use crate::{Failure, ProbeWriter, ReadError, attach_places, write_places};
 use std::alloc::Global;
 use std::io::Write;
 use std::test::Fail;
-use ubi_media::VidHeader;
 use ubi_scan::{BlockSource, ProbeSource, StreamError};
 
 /// What is answered: how many bytes were written, why the volume isn't read, or why not all was written.
@@ -47,30 +47,11 @@ fn extract<S: BlockSource, W: Write>(
     }
 }
 
-/// A dynamic volume of three logical eraseblocks, the second of which has no place.
-const DYNAMIC: [Peb; 4] = [
-    Peb(Ec::Zero, Vid::Is(COPY_0), Data::Table(SMALL)),
-    Peb(Ec::Zero, Vid::Is(COPY_1), Data::Table(SMALL)),
-    A,
-    Peb(
-        Ec::Zero,
-        Vid::Is(VidHeader { lnum: 2, ..PLAIN }),
-        Data::Filled(0x43, 64),
-    ),
-];
-
-/// A dynamic volume of 20 logical eraseblocks, each with 128 bytes that it leaves free.
-const ALIGNED: [Peb; 3] = [
-    Peb(Ec::Zero, Vid::Is(COPY_0), Data::Table(ALIGNMENT_256)),
-    Peb(Ec::Zero, Vid::Is(COPY_1), Data::Table(ALIGNMENT_256)),
-    Peb(Ec::Zero, Vid::Is(PADDED), Data::Zeroed(0x41, 256)),
-];
-
 /// A static volume of a text in two logical eraseblocks.
 const STATIC: [Peb; 4] = [FIRST_BOOT, SECOND_BOOT, TEXT_0, TEXT_1];
 
-/// Some eraseblocks, a volume, which read fails, for how many bytes the writer has room, what is answered, how many bytes
-/// are taken then, and some of them.
+/// Some eraseblocks, a volume, which read fails, for how many bytes the writer has room, what is answered, how many
+/// bytes are taken then, and some of them.
 type Case = (
     &'static [Peb],
     u32,
@@ -84,7 +65,7 @@ type Case = (
 /// Of the text all reads before the eleventh are those of attaching.
 static CASES: [Case; 14] = [
     (
-        &DYNAMIC,
+        &HOLED,
         0,
         0,
         1152,
@@ -102,7 +83,7 @@ static CASES: [Case; 14] = [
         ],
     ),
     (
-        &ALIGNED,
+        &ALIGNED_VOLUME,
         0,
         0,
         6000,
@@ -196,7 +177,7 @@ static CASES: [Case; 14] = [
         &[(383, 0x61)],
     ),
     (
-        &DYNAMIC,
+        &HOLED,
         0,
         0,
         500,
@@ -205,7 +186,7 @@ static CASES: [Case; 14] = [
         &[(383, 0x41), (384, 0xFF), (499, 0xFF)],
     ),
     (
-        &DYNAMIC,
+        &HOLED,
         0,
         0,
         1151,
@@ -238,28 +219,25 @@ fn writes_what_a_volume_reads(rt: HostRuntime) -> Result<(), Fail> {
     Ok(())
 }
 
-/// A newer copy of the first logical eraseblock of the text.
-const NEWER_0: Peb = Peb(
-    Ec::Zero,
-    Vid::Is(VidHeader {
-        copy_flag: true,
-        sqnum: 1,
-        ..STATIC_0
-    }),
-    Data::Filled(0x61, 384),
-);
+/// Whether the text of some eraseblocks is written, and so much is read for it.
+fn is_read(alloc: Global, bytes: &[u8]) -> Result<bool, Fail> {
+    let mut source = ProbeSource::new(alloc, &geometry()?, bytes, 0)?;
+    let mut writer = ProbeWriter::new(alloc, 400, 400, Failure::Nothing)?;
+    let answer = extract(alloc, &mut source, 0, &mut writer)?;
+    let reads = (
+        source.reads(0),
+        source.reads(2),
+        source.data_reads(2),
+        source.reads(3),
+    );
+    Ok(answer == Answer::Wrote(385) && reads == (2, 7, 3, 1) && source.crossing() == 0)
+}
 
 /// Each eraseblock is read 7 times at most: once more than to attach it, if it is a winner.
 #[test]
 fn reads_each_winner_once_more(rt: HostRuntime) -> Result<(), Fail> {
-    let alloc = rt.alloc();
     let pebs = [FIRST_BOOT, SECOND_BOOT, NEWER_0, TEXT_0, TEXT_1];
-    let bytes = image(alloc, &pebs)?;
-    let mut source = ProbeSource::new(alloc, &geometry()?, bytes.as_slice(), 0)?;
-    let mut writer = ProbeWriter::new(alloc, 400, 400, Failure::Nothing)?;
-    assert!(rt; extract(alloc, &mut source, 0, &mut writer)? == Answer::Wrote(385));
-    assert!(rt; source.reads(2) == 7 && source.data_reads(2) == 3);
-    assert!(rt; source.reads(3) == 1 && source.reads(0) == 2);
-    assert!(rt; source.crossing() == 0);
+    let bytes = image(rt.alloc(), &pebs)?;
+    assert!(rt; is_read(rt.alloc(), bytes.as_slice())?);
     Ok(())
 }

@@ -1,297 +1,326 @@
 //! Meanings that are made of volumes.
 
-use super::images::geometry;
+use super::images::{geometry, put_runs};
 use crate::{Bytes, Content, Lebs, Meaning, MeaningCause, MeaningError, Volume};
 use std::alloc::{AllocError, Global};
 use std::test::Fail;
 use ubi_media::{RecFault, VolKind, VolName, VolumeRecord};
 
-/// A volume that is handed in. It is dynamic, has the name `root` and 20 eraseblocks and is empty, but for what is said.
+/// What a volume that is handed in holds.
 #[derive(Clone, Copy)]
-enum Given {
-    /// It has so many eraseblocks.
-    Root(u32),
-    /// It has the name `boot`, and so many eraseblocks.
-    Boot(u32),
-    /// Its alignment is neither 1 nor a multiple of the page.
-    Odd,
-    /// It has one logical eraseblock, and so many bytes 0x41 in it.
-    Leb(u32, usize),
-    /// It has logical eraseblock 3, of 0xFF throughout, and 5, of bytes 0x42.
-    Blank,
-    /// It is static, has the name `boot` and 2 eraseblocks, and so many bytes 0x41.
+enum Held {
+    /// Logical eraseblocks: of each its number, a byte, and how often it stands there.
+    Lebs(&'static [(u32, u8, usize)]),
+    /// So many bytes 0x41.
     Text(usize),
-    /// It has the update marker.
-    Marked,
-    /// It has no update marker, and is said to be updated.
-    Unmarked,
-    /// It is said to be damaged.
+    /// It is said to be updated, or damaged.
+    Updating,
     Damaged,
 }
 
-/// So many bytes.
+/// A volume that is handed in.
+#[derive(Clone, Copy)]
+struct Given {
+    id: u32,
+    name: &'static [u8],
+    reserved: u32,
+    alignment: u32,
+    kind: VolKind,
+    marker: bool,
+    held: Held,
+}
+
+/// A dynamic volume of 20 eraseblocks, in which nothing is written, and a static one of two.
+const ROOT: Given = Given {
+    id: 0,
+    name: b"root",
+    reserved: 20,
+    alignment: 1,
+    kind: VolKind::Dynamic,
+    marker: false,
+    held: Held::Lebs(&[]),
+};
+
+const BOOT: Given = Given {
+    id: 1,
+    name: b"boot",
+    reserved: 2,
+    kind: VolKind::Static,
+    held: Held::Text(768),
+    ..ROOT
+};
+
+/// The first with a logical eraseblock of one byte too few, and with one of as many as it has.
+const SHORT: Given = Given {
+    held: Held::Lebs(&[(0, 0x41, 383)]),
+    ..ROOT
+};
+
+const WHOLE: Given = Given {
+    held: Held::Lebs(&[(3, 0x41, 384)]),
+    ..ROOT
+};
+
+/// A byte, so many times.
 fn bytes(alloc: Global, byte: u8, count: usize) -> Result<Bytes, AllocError> {
-    Ok(Bytes::new(vec![in alloc; byte; count]?))
+    let mut bytes = Vec::new(alloc);
+    put_runs(&mut bytes, &[(byte, count)])?;
+    Ok(Bytes::new(bytes))
 }
 
-/// The record of a dynamic volume of so many eraseblocks.
-fn record(name: &[u8], reserved: u32) -> Result<VolumeRecord, Fail> {
-    let name = VolName::new(name).ok_or("a name")?;
-    Ok(VolumeRecord {
-        reserved,
-        alignment: 1,
-        kind: VolKind::Dynamic,
-        marker: false,
-        name,
-        flags: 0,
-    })
-}
-
-/// A dynamic volume of 20 eraseblocks.
-fn root(content: Content) -> Result<Volume, Fail> {
-    let entry = record(b"root", 20)?;
-    Ok(Volume { entry, content })
-}
-
-/// A dynamic volume of so many eraseblocks, in which nothing is written.
-fn empty(alloc: Global, name: &[u8], reserved: u32) -> Result<Volume, Fail> {
-    let entry = record(name, reserved)?;
-    Ok(Volume {
-        entry,
-        content: Content::Dynamic(Lebs::new(alloc)),
-    })
-}
-
-/// One whose alignment is neither 1 nor a multiple of the page.
-fn odd(alloc: Global) -> Result<Volume, Fail> {
-    let mut entry = record(b"root", 20)?;
-    entry.alignment = 65;
-    Ok(Volume {
-        entry,
-        content: Content::Dynamic(Lebs::new(alloc)),
-    })
-}
-
-/// One with the update marker.
-fn marked(alloc: Global) -> Result<Volume, Fail> {
-    let mut entry = record(b"root", 20)?;
-    entry.marker = true;
-    Ok(Volume {
-        entry,
-        content: Content::Dynamic(Lebs::new(alloc)),
-    })
-}
-
-/// A dynamic volume with one logical eraseblock, of bytes 0x41.
-fn written(alloc: Global, lnum: u32, size: usize) -> Result<Volume, Fail> {
+/// Some logical eraseblocks.
+fn lebs(alloc: Global, held: &[(u32, u8, usize)]) -> Result<Lebs, AllocError> {
     let mut lebs = Lebs::new(alloc);
-    lebs.insert(lnum, bytes(alloc, 0x41, size)?)?;
-    root(Content::Dynamic(lebs))
-}
-
-/// A dynamic volume with one logical eraseblock of 0xFF throughout, and another one.
-fn half_blank(alloc: Global) -> Result<Volume, Fail> {
-    let mut lebs = Lebs::new(alloc);
-    lebs.insert(3, bytes(alloc, 0xFF, 384)?)?;
-    lebs.insert(5, bytes(alloc, 0x42, 384)?)?;
-    root(Content::Dynamic(lebs))
-}
-
-/// A static volume of 2 eraseblocks with so many bytes.
-fn text(alloc: Global, size: usize) -> Result<Volume, Fail> {
-    let mut entry = record(b"boot", 2)?;
-    entry.kind = VolKind::Static;
-    Ok(Volume {
-        entry,
-        content: Content::Static(bytes(alloc, 0x41, size)?),
-    })
-}
-
-impl Given {
-    /// The volume.
-    fn volume(self, alloc: Global) -> Result<Volume, Fail> {
-        match self {
-            Given::Root(reserved) => empty(alloc, b"root", reserved),
-            Given::Boot(reserved) => empty(alloc, b"boot", reserved),
-            Given::Odd => odd(alloc),
-            Given::Leb(lnum, size) => written(alloc, lnum, size),
-            Given::Blank => half_blank(alloc),
-            Given::Text(size) => text(alloc, size),
-            Given::Marked => marked(alloc),
-            Given::Unmarked => root(Content::Updating),
-            Given::Damaged => root(Content::Damaged),
-        }
+    for (lnum, byte, count) in held {
+        lebs.insert(*lnum, bytes(alloc, *byte, *count)?)?;
     }
+    Ok(lebs)
+}
+
+/// What a volume holds.
+fn content(alloc: Global, held: &Held) -> Result<Content, AllocError> {
+    Ok(match held {
+        Held::Lebs(held) => Content::Dynamic(lebs(alloc, held)?),
+        Held::Text(count) => Content::Static(bytes(alloc, 0x41, *count)?),
+        Held::Updating => Content::Updating,
+        Held::Damaged => Content::Damaged,
+    })
 }
 
 /// Some volumes, each with its number.
-fn volumes(alloc: Global, given: &[(u32, Given)]) -> Result<Vec<(u32, Volume)>, Fail> {
+fn volumes(alloc: Global, given: &[Given]) -> Result<Vec<(u32, Volume)>, Fail> {
     let mut volumes = Vec::new(alloc);
-    for (id, volume) in given {
-        volumes.push((*id, volume.volume(alloc)?))?;
+    for volume in given {
+        let entry = VolumeRecord {
+            reserved: volume.reserved,
+            alignment: volume.alignment,
+            kind: volume.kind,
+            marker: volume.marker,
+            name: VolName::new(volume.name).ok_or("a name")?,
+            flags: 0,
+        };
+        let content = content(alloc, &volume.held)?;
+        volumes.push((volume.id, Volume { entry, content }))?;
     }
     Ok(volumes)
 }
 
-/// The error of volumes that have no meaning together.
-fn refused(alloc: Global, given: &[(u32, Given)]) -> Result<MeaningError, Fail> {
-    match Meaning::new(&geometry()?, 0x1234_5678, volumes(alloc, given)?) {
-        Ok(_) => Err("has a meaning".into()),
-        Err(error) => Ok(error),
-    }
+/// The meaning of some volumes, or why they have none together.
+fn made(alloc: Global, given: &[Given]) -> Result<Result<Meaning, MeaningError>, Fail> {
+    let volumes = volumes(alloc, given)?;
+    Ok(Meaning::new(&geometry()?, 0x1234_5678, volumes))
 }
 
-/// The meaning of volumes that have one.
-fn made(alloc: Global, given: &[(u32, Given)]) -> Result<Meaning, Fail> {
-    match Meaning::new(&geometry()?, 0x1234_5678, volumes(alloc, given)?) {
-        Ok(meaning) => Ok(meaning),
-        Err(_) => Err("has no meaning".into()),
-    }
-}
-
-/// Some volumes, and why they have no meaning together.
-static REFUSED: [(&[(u32, Given)], MeaningCause); 16] = [
+/// Some volumes, and why they have no meaning together. They are handed back unchanged.
+static REFUSED: [(&[Given], MeaningCause); 17] = [
     // Numbers and records.
-    (&[(2, Given::Root(20))], MeaningCause::IdRange(0)),
+    (&[Given { id: 2, ..ROOT }], MeaningCause::IdRange(0)),
+    (&[ROOT, EMPTY_BOOT], MeaningCause::SameId(1)),
     (
-        &[(0, Given::Root(20)), (0, Given::Boot(2))],
-        MeaningCause::SameId(1),
-    ),
-    (
-        &[(0, Given::Root(0))],
+        &[Given {
+            reserved: 0,
+            ..ROOT
+        }],
         MeaningCause::Record(0, RecFault::NotEmpty),
     ),
     (
-        &[(0, Given::Odd)],
+        &[Given {
+            alignment: 65,
+            ..ROOT
+        }],
         MeaningCause::Record(0, RecFault::AlignmentPage),
     ),
     // Volumes that don't go together.
     (
-        &[(0, Given::Root(20)), (1, Given::Root(2))],
+        &[
+            ROOT,
+            Given {
+                id: 1,
+                reserved: 2,
+                ..ROOT
+            },
+        ],
         MeaningCause::SameName(1, 0),
     ),
-    (&[(0, Given::Root(31))], MeaningCause::NoSpace),
     (
-        &[(0, Given::Root(20)), (1, Given::Boot(11))],
+        &[Given {
+            reserved: 31,
+            ..ROOT
+        }],
+        MeaningCause::NoSpace,
+    ),
+    (
+        &[
+            ROOT,
+            Given {
+                id: 1,
+                reserved: 11,
+                ..EMPTY_BOOT
+            },
+        ],
         MeaningCause::NoSpace,
     ),
     // Contents.
-    (&[(0, Given::Leb(0, 383))], MeaningCause::ContentRange(0)),
-    (&[(0, Given::Leb(20, 384))], MeaningCause::ContentRange(0)),
-    (&[(0, Given::Text(769))], MeaningCause::ContentRange(0)),
-    (&[(0, Given::Marked)], MeaningCause::ContentRange(0)),
-    (&[(0, Given::Unmarked)], MeaningCause::ContentRange(0)),
-    (&[(0, Given::Damaged)], MeaningCause::ContentRange(0)),
+    (&[SHORT], MeaningCause::ContentRange(0)),
+    (
+        &[Given {
+            held: Held::Lebs(&[(20, 0x41, 384)]),
+            ..ROOT
+        }],
+        MeaningCause::ContentRange(0),
+    ),
+    (
+        &[Given {
+            id: 0,
+            held: Held::Text(769),
+            ..BOOT
+        }],
+        MeaningCause::ContentRange(0),
+    ),
+    (
+        &[Given {
+            marker: true,
+            ..ROOT
+        }],
+        MeaningCause::ContentRange(0),
+    ),
+    (
+        &[Given {
+            held: Held::Updating,
+            ..ROOT
+        }],
+        MeaningCause::ContentRange(0),
+    ),
+    (
+        &[Given {
+            held: Held::Damaged,
+            ..ROOT
+        }],
+        MeaningCause::ContentRange(0),
+    ),
     // A cause of a later item that is tried first.
     (
-        &[
-            (0, Given::Root(20)),
-            (0, Given::Boot(2)),
-            (2, Given::Root(20)),
-        ],
+        &[ROOT, EMPTY_BOOT, Given { id: 2, ..ROOT }],
         MeaningCause::IdRange(2),
     ),
     (
-        &[(0, Given::Leb(0, 383)), (1, Given::Root(20))],
+        &[SHORT, Given { id: 1, ..ROOT }],
         MeaningCause::SameName(1, 0),
     ),
     (
-        &[(0, Given::Leb(0, 383)), (1, Given::Boot(20))],
+        &[
+            SHORT,
+            Given {
+                id: 1,
+                reserved: 20,
+                ..EMPTY_BOOT
+            },
+        ],
         MeaningCause::NoSpace,
+    ),
+    // Items whose numbers don't rise.
+    (
+        &[Given { id: 1, ..SHORT }, Given { id: 0, ..BOOT }],
+        MeaningCause::ContentRange(0),
     ),
 ];
 
+/// A dynamic volume `boot` with the number of the first.
+const EMPTY_BOOT: Given = Given {
+    name: b"boot",
+    reserved: 2,
+    ..ROOT
+};
+
 #[test]
-fn names_the_first_cause(rt: HostRuntime) -> Result<(), Fail> {
+fn names_the_first_cause_and_hands_the_volumes_back(rt: HostRuntime) -> Result<(), Fail> {
     for (index, (given, cause)) in REFUSED.iter().enumerate() {
-        assert!(rt; refused(rt.alloc(), given)?.cause == *cause, "case {index}");
-    }
-    Ok(())
-}
-
-/// The number of an item.
-fn id_of(item: Option<&(u32, Volume)>) -> Option<u32> {
-    item.map(|item| item.0)
-}
-
-/// How many bytes a logical eraseblock of a dynamic volume has, where it is kept, and how many are kept.
-fn leb_of(volume: &Volume, lnum: u32) -> Result<(Option<usize>, usize), Fail> {
-    match &volume.content {
-        Content::Dynamic(lebs) => {
-            let size = lebs.get(lnum).map(|leb| leb.as_slice().len());
-            Ok((size, lebs.len()))
+        let want = volumes(rt.alloc(), given)?;
+        match made(rt.alloc(), given)? {
+            Ok(_) => assert!(rt; false, "case {index} has a meaning"),
+            Err(error) => {
+                assert!(rt; error.cause == *cause, "case {index}");
+                assert!(rt; error.volumes == want, "case {index}");
+            }
         }
-        _ => Err("another content".into()),
     }
-}
-
-#[test]
-fn hands_the_volumes_back(rt: HostRuntime) -> Result<(), Fail> {
-    let alloc = rt.alloc();
-    let given = &[(1, Given::Leb(0, 383)), (0, Given::Text(768))];
-    let error = refused(alloc, given)?;
-    assert!(rt; error.cause == MeaningCause::ContentRange(0));
-    assert!(rt; error.volumes.len() == 2);
-    assert!(rt; id_of(error.volumes.first()) == Some(1));
-    assert!(rt; id_of(error.volumes.last()) == Some(0));
-    let (_, volume) = error.volumes.first().ok_or("an item")?;
-    assert!(rt; leb_of(volume, 0)? == (Some(383), 1));
-    assert!(rt; error.volumes == volumes(alloc, given)?);
     Ok(())
 }
 
-#[test]
-fn sorts_and_drops_what_is_blank(rt: HostRuntime) -> Result<(), Fail> {
-    let meaning = made(rt.alloc(), &[(1, Given::Blank), (0, Given::Text(768))])?;
-    let volumes = meaning.volumes();
-    assert!(rt; volumes.len() == 2);
-    assert!(rt; id_of(volumes.first()) == Some(0));
-    assert!(rt; id_of(volumes.last()) == Some(1));
-    let (_, volume) = volumes.last().ok_or("an item")?;
-    assert!(rt; leb_of(volume, 5)? == (Some(384), 1));
-    Ok(())
-}
+/// Some volumes, and those of their meaning: they are sorted, and what is blank is dropped.
+static UNSORTED: [Given; 2] = [
+    Given {
+        id: 1,
+        held: Held::Lebs(&[(3, 0xFF, 384), (5, 0x42, 384)]),
+        ..ROOT
+    },
+    Given { id: 0, ..BOOT },
+];
+
+static SORTED: [Given; 2] = [
+    Given { id: 0, ..BOOT },
+    Given {
+        id: 1,
+        held: Held::Lebs(&[(5, 0x42, 384)]),
+        ..ROOT
+    },
+];
 
 /// Volumes, and whether their meaning is that of a dynamic volume with logical eraseblock 3 and a full static one.
-static COMPARED: [(&[(u32, Given)], bool); 4] = [
-    (&[(1, Given::Text(768)), (0, Given::Leb(3, 384))], true),
-    (&[(0, Given::Leb(3, 384)), (1, Given::Text(767))], false),
-    (&[(0, Given::Leb(4, 384)), (1, Given::Text(768))], false),
-    (&[(0, Given::Root(20)), (1, Given::Text(768))], false),
+static COMPARED: [(&[Given], bool); 5] = [
+    (&[WHOLE, BOOT], true),
+    (&[BOOT, WHOLE], true),
+    (
+        &[
+            WHOLE,
+            Given {
+                held: Held::Text(767),
+                ..BOOT
+            },
+        ],
+        false,
+    ),
+    (
+        &[
+            Given {
+                held: Held::Lebs(&[(4, 0x41, 384)]),
+                ..ROOT
+            },
+            BOOT,
+        ],
+        false,
+    ),
+    (&[ROOT, BOOT], false),
 ];
 
 #[test]
-fn compares_meanings(rt: HostRuntime) -> Result<(), Fail> {
-    let one = made(
-        rt.alloc(),
-        &[(0, Given::Leb(3, 384)), (1, Given::Text(768))],
-    )?;
+fn sorts_drops_what_is_blank_and_compares(rt: HostRuntime) -> Result<(), Fail> {
+    let alloc = rt.alloc();
+    let meaning = made(alloc, &UNSORTED)?;
+    let want = volumes(alloc, &SORTED)?;
+    assert!(rt; matches!(&meaning, Ok(meaning) if meaning.volumes() == want.as_slice()));
+    let one = made(alloc, &[WHOLE, BOOT])?;
     for (index, (given, is_equal)) in COMPARED.iter().enumerate() {
-        let other = made(rt.alloc(), given)?;
-        assert!(rt; (one == other) == *is_equal, "case {index}");
+        let other = made(alloc, given)?;
+        let is = matches!((&one, &other), (Ok(one), Ok(other)) if (one == other) == *is_equal);
+        assert!(rt; is, "case {index}");
     }
     Ok(())
 }
 
-/// The number of a logical eraseblock, and how many bytes it has.
-fn size_of(entry: Option<(&u32, &Bytes)>) -> Option<(u32, usize)> {
-    match entry {
-        Some((lnum, bytes)) => Some((*lnum, bytes.as_slice().len())),
-        None => None,
-    }
-}
+/// Logical eraseblocks in no order, and their numbers by rising number. Each has as many bytes.
+static LEBS: [(u32, u8, usize); 3] = [(7, 0x41, 7), (2, 0x41, 2), (5, 0x41, 5)];
+
+static NUMBERS: [u32; 3] = [2, 5, 7];
 
 #[test]
 fn goes_over_logical_eraseblocks(rt: HostRuntime) -> Result<(), Fail> {
-    let alloc = rt.alloc();
-    let mut lebs = Lebs::new(alloc);
-    lebs.insert(7, bytes(alloc, 0x41, 7)?)?;
-    lebs.insert(2, bytes(alloc, 0x41, 2)?)?;
-    lebs.insert(5, bytes(alloc, 0x41, 5)?)?;
-    let mut entries = lebs.iter();
-    assert!(rt; size_of(entries.next()) == Some((2, 2)));
-    assert!(rt; size_of(entries.next()) == Some((5, 5)));
-    assert!(rt; size_of(entries.next()) == Some((7, 7)));
-    assert!(rt; size_of(entries.next()) == None);
+    let lebs = lebs(rt.alloc(), &LEBS)?;
+    let mut want = NUMBERS.iter();
+    for (lnum, bytes) in lebs.iter() {
+        assert!(rt; want.next() == Some(lnum));
+        assert!(rt; bytes.as_slice().len() == *lnum as usize);
+    }
+    assert!(rt; want.next().is_none());
     Ok(())
 }

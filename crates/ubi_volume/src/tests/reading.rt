@@ -1,45 +1,60 @@
 //! What dynamic volumes read.
 
-use super::images::{
-    A, ALIGNMENT_256, B, BASE, C, COPIED, COPY_0, COPY_1, Case, Data, ERASED, Ec, FIRST,
-    FIRST_FLIPPED, FIRST_MARKED, LEB_1, Leb, MISCOPIED, PADDED, PLAIN, Peb, SECOND, SECOND_MARKED,
-    Text, Vid, assert_meanings, attached,
+use super::images::{Case, Kept, Leb, Text, assert_meanings, attached, geometry, image};
+use super::pebs::{
+    A, ALIGNED, ALIGNED_ZEROS, B, BAD, BASE, BLANK_B, C, CORRUPT_B, ERASED, FIRST, FIRST_ALIGNED,
+    FIRST_FLIPPED, FIRST_MARKED, FORGOTTEN_B, GOOD, NEWER_B, NEWER_BAD, OLD, OLDER_BAD, PAD,
+    SECOND, SECOND_ALIGNED, SECOND_MARKED, STATIC_BEYOND, UNRECORDED,
 };
-use crate::{Content, ReadError};
-use std::alloc::Global;
+use crate::{Attached, Meaning, ReadError};
 use std::test::Fail;
-use ubi_media::{LAYOUT_VOLUME, VidHeader, VolKind};
+use ubi_media::{LAYOUT_VOLUME, VolKind};
 
-#[test]
-fn attaches_an_image(rt: HostRuntime) -> Result<(), Fail> {
-    let attached = attached(rt.alloc(), &BASE)?;
-    assert!(rt; attached.image_seq() == 305_419_896);
-    assert!(rt; attached.meaning().image_seq() == 305_419_896);
-    assert!(rt; attached.carriers() == 5);
-    assert!(rt; attached.mean_ec() == 0);
-    assert!(rt; attached.winner(LAYOUT_VOLUME, 1) == Some(1));
-    assert!(rt; attached.winner(0, 2) == Some(4));
-    assert!(rt; attached.winner(0, 3).is_none());
-    Ok(())
+/// Whether what is attached has the numbers of the image.
+fn has_numbers(attached: &Attached) -> bool {
+    let numbers = (
+        attached.image_seq(),
+        attached.carriers(),
+        attached.mean_ec(),
+    );
+    let winners = (
+        attached.winner(LAYOUT_VOLUME, 1),
+        attached.winner(0, 2),
+        attached.winner(0, 3),
+    );
+    numbers == (305_419_896, 5, 0) && winners == (Some(1), Some(4), None)
+}
+
+/// Whether its meaning has the image's number, its geometry, and volume 0 alone.
+fn has_volume(meaning: &Meaning) -> bool {
+    let entry = meaning
+        .get(0)
+        .map(|volume| (volume.entry.reserved, volume.entry.kind));
+    meaning.image_seq() == 305_419_896
+        && meaning.geometry().leb_size() == 384
+        && entry == Some((20, VolKind::Dynamic))
+        && meaning.get(1).is_none()
 }
 
 #[test]
-fn attaches_a_volume(rt: HostRuntime) -> Result<(), Fail> {
+fn attaches_an_image_of_a_volume(rt: HostRuntime) -> Result<(), Fail> {
     let attached = attached(rt.alloc(), &BASE)?;
-    let meaning = attached.meaning();
-    assert!(rt; meaning.geometry().leb_size() == 384);
-    let volume = meaning.get(0).ok_or("a volume")?;
-    assert!(rt; volume.entry.reserved == 20);
-    assert!(rt; volume.entry.kind == VolKind::Dynamic);
-    assert!(rt; meaning.get(1).is_none());
+    assert!(rt; has_numbers(&attached) && has_volume(attached.meaning()));
     Ok(())
 }
 
 /// A logical eraseblock that is blank.
 const BLANK: Leb = Leb::Reads(0xFF, 384, 384);
 
-/// A volume that reads three logical eraseblocks and 17 blank ones, and volumes that are not there.
-static READ: [Case; 4] = [
+/// What `A` and `B` read, and a logical eraseblock that isn't written.
+const A_AND_B: [(u32, u32, Leb); 3] = [
+    (0, 0, Leb::Reads(0x41, 384, 384)),
+    (0, 1, Leb::Reads(0x42, 384, 384)),
+    (0, 19, Leb::Reads(0xFF, 384, 384)),
+];
+
+/// A volume that reads three logical eraseblocks and 17 blank ones, and volumes that are not there; and others.
+static CASES: [Case; 22] = [
     Case {
         what: "a volume",
         pebs: &BASE,
@@ -83,6 +98,7 @@ static READ: [Case; 4] = [
             (200, Text::Not(ReadError::NoVolume)),
             (LAYOUT_VOLUME, Text::Not(ReadError::NoVolume)),
         ],
+        kept: Kept::Any,
     },
     Case {
         what: "a copy of the table that is corrupt",
@@ -91,6 +107,7 @@ static READ: [Case; 4] = [
         name: Some(b"root"),
         lebs: &[(0, 1, Leb::Reads(0x42, 384, 384))],
         texts: &[],
+        kept: Kept::Any,
     },
     Case {
         what: "a volume that is updated",
@@ -102,6 +119,7 @@ static READ: [Case; 4] = [
             (0, 20, Leb::Not(ReadError::Updating)),
         ],
         texts: &[(0, Text::Not(ReadError::Updating))],
+        kept: Kept::Any,
     },
     Case {
         what: "an erased image",
@@ -110,29 +128,9 @@ static READ: [Case; 4] = [
         name: None,
         lebs: &[(0, 0, Leb::Not(ReadError::NoVolume))],
         texts: &[],
+        kept: Kept::Any,
     },
-];
-
-#[test]
-fn reads_volumes(rt: HostRuntime) -> Result<(), Fail> {
-    assert_meanings(&rt, rt.alloc(), &READ)
-}
-
-/// What `A` holds, older than its copies.
-const OLD: Peb = Peb(
-    Ec::Zero,
-    Vid::Is(VidHeader { sqnum: 5, ..PLAIN }),
-    Data::Filled(0x35, 384),
-);
-
-/// A copy that is whole.
-const GOOD: Peb = Peb(Ec::Zero, Vid::Is(COPIED), Data::Filled(0x37, 64));
-
-/// A newer copy that isn't.
-const BAD: Peb = Peb(Ec::Zero, Vid::Is(MISCOPIED), Data::Filled(0x39, 64));
-
-/// A member, a newer copy that is whole and one that is newer still and isn't, in any order.
-static COPIES: [Case; 6] = [
+    // A member, a newer copy that is whole and one that is newer still and isn't, in any order.
     Case {
         what: "old, good, bad",
         pebs: &[FIRST, SECOND, OLD, GOOD, BAD],
@@ -140,6 +138,7 @@ static COPIES: [Case; 6] = [
         name: Some(b"root"),
         lebs: &[(0, 0, Leb::Reads(0x37, 64, 384))],
         texts: &[],
+        kept: Kept::Any,
     },
     Case {
         what: "old, bad, good",
@@ -148,6 +147,7 @@ static COPIES: [Case; 6] = [
         name: Some(b"root"),
         lebs: &[(0, 0, Leb::Reads(0x37, 64, 384))],
         texts: &[],
+        kept: Kept::Any,
     },
     Case {
         what: "good, old, bad",
@@ -156,6 +156,7 @@ static COPIES: [Case; 6] = [
         name: Some(b"root"),
         lebs: &[(0, 0, Leb::Reads(0x37, 64, 384))],
         texts: &[],
+        kept: Kept::Any,
     },
     Case {
         what: "good, bad, old",
@@ -164,6 +165,7 @@ static COPIES: [Case; 6] = [
         name: Some(b"root"),
         lebs: &[(0, 0, Leb::Reads(0x37, 64, 384))],
         texts: &[],
+        kept: Kept::Any,
     },
     Case {
         what: "bad, old, good",
@@ -172,6 +174,7 @@ static COPIES: [Case; 6] = [
         name: Some(b"root"),
         lebs: &[(0, 0, Leb::Reads(0x37, 64, 384))],
         texts: &[],
+        kept: Kept::Any,
     },
     Case {
         what: "bad, good, old",
@@ -180,36 +183,9 @@ static COPIES: [Case; 6] = [
         name: Some(b"root"),
         lebs: &[(0, 0, Leb::Reads(0x37, 64, 384))],
         texts: &[],
+        kept: Kept::Any,
     },
-];
-
-#[test]
-fn reads_the_newest_good_copy_in_any_order(rt: HostRuntime) -> Result<(), Fail> {
-    assert_meanings(&rt, rt.alloc(), &COPIES)
-}
-
-/// A copy that isn't whole.
-const OLDER_BAD: Peb = Peb(
-    Ec::Zero,
-    Vid::Is(VidHeader {
-        sqnum: 4,
-        ..MISCOPIED
-    }),
-    Data::Filled(0x39, 64),
-);
-
-/// A newer one, of another byte.
-const NEWER_BAD: Peb = Peb(
-    Ec::Zero,
-    Vid::Is(VidHeader {
-        sqnum: 6,
-        ..MISCOPIED
-    }),
-    Data::Filled(0x38, 64),
-);
-
-/// Copies that are not whole, alone.
-static BAD_COPIES: [Case; 3] = [
+    // Copies that are not whole, alone.
     Case {
         what: "older, newer",
         pebs: &[FIRST, SECOND, OLDER_BAD, NEWER_BAD],
@@ -217,6 +193,7 @@ static BAD_COPIES: [Case; 3] = [
         name: Some(b"root"),
         lebs: &[(0, 0, Leb::Reads(0x39, 64, 384))],
         texts: &[],
+        kept: Kept::Any,
     },
     Case {
         what: "newer, older",
@@ -225,6 +202,7 @@ static BAD_COPIES: [Case; 3] = [
         name: Some(b"root"),
         lebs: &[(0, 0, Leb::Reads(0x39, 64, 384))],
         texts: &[],
+        kept: Kept::Any,
     },
     Case {
         what: "one alone",
@@ -233,34 +211,9 @@ static BAD_COPIES: [Case; 3] = [
         name: Some(b"root"),
         lebs: &[(0, 0, Leb::Reads(0x38, 64, 384))],
         texts: &[],
+        kept: Kept::Any,
     },
-];
-
-#[test]
-fn reads_bad_copies_where_nothing_is_older(rt: HostRuntime) -> Result<(), Fail> {
-    assert_meanings(&rt, rt.alloc(), &BAD_COPIES)
-}
-
-/// The first copy of a table whose volume leaves 128 bytes of each logical eraseblock free.
-const FIRST_ALIGNED: Peb = Peb(Ec::Zero, Vid::Is(COPY_0), Data::Table(ALIGNMENT_256));
-
-/// The second copy.
-const SECOND_ALIGNED: Peb = Peb(Ec::Zero, Vid::Is(COPY_1), Data::Table(ALIGNMENT_256));
-
-/// A logical eraseblock of such a volume, with bytes 0xFF behind what it reads.
-const ALIGNED: Peb = Peb(Ec::Zero, Vid::Is(PADDED), Data::Filled(0x41, 256));
-
-/// The same, with zeros there.
-const ALIGNED_ZEROS: Peb = Peb(Ec::Zero, Vid::Is(PADDED), Data::Zeroed(0x41, 256));
-
-/// What `B` holds, behind an erase-counter header that is corrupt.
-const CORRUPT_B: Peb = Peb(Ec::Corrupt, Vid::Is(LEB_1), Data::Filled(0x42, 384));
-
-/// The same behind a blank one.
-const FORGOTTEN_B: Peb = Peb(Ec::Blank, Vid::Is(LEB_1), Data::Filled(0x42, 384));
-
-/// An alignment that leaves bytes free, and erase-counter headers that can't be read.
-static HALF: [Case; 4] = [
+    // An alignment that leaves bytes free, and erase-counter headers that can't be read.
     Case {
         what: "zeros behind what is read",
         pebs: &[FIRST_ALIGNED, SECOND_ALIGNED, ALIGNED_ZEROS],
@@ -271,6 +224,7 @@ static HALF: [Case; 4] = [
             (0, 19, Leb::Reads(0xFF, 256, 256)),
         ],
         texts: &[(0, Text::Reads(&[(0x41, 256), (0xFF, 4864)]))],
+        kept: Kept::Any,
     },
     Case {
         what: "0xFF behind what is read",
@@ -282,6 +236,7 @@ static HALF: [Case; 4] = [
             (0, 19, Leb::Reads(0xFF, 256, 256)),
         ],
         texts: &[(0, Text::Reads(&[(0x41, 256), (0xFF, 4864)]))],
+        kept: Kept::Any,
     },
     Case {
         what: "a corrupt erase-counter header",
@@ -290,6 +245,7 @@ static HALF: [Case; 4] = [
         name: Some(b"root"),
         lebs: &[(0, 1, Leb::Reads(0x42, 384, 384))],
         texts: &[],
+        kept: Kept::Any,
     },
     Case {
         what: "a blank erase-counter header",
@@ -298,47 +254,59 @@ static HALF: [Case; 4] = [
         name: Some(b"root"),
         lebs: &[(0, 1, BLANK)],
         texts: &[],
+        kept: Kept::Any,
+    },
+    // A logical eraseblock of 0xFF isn't kept.
+    Case {
+        what: "a logical eraseblock of 0xFF",
+        pebs: &[FIRST, SECOND, A, BLANK_B, C],
+        top: 0,
+        name: Some(b"root"),
+        lebs: &[(0, 1, BLANK)],
+        texts: &[],
+        kept: Kept::Lebs([true, false, true, false]),
+    },
+    // Eraseblocks that don't count.
+    Case {
+        what: "an eraseblock beyond what is reserved",
+        pebs: &[FIRST, SECOND, A, B, C, STATIC_BEYOND],
+        top: 0,
+        name: Some(b"root"),
+        lebs: &A_AND_B,
+        texts: &[],
+        kept: Kept::Any,
+    },
+    Case {
+        what: "one of a volume without a record",
+        pebs: &[FIRST, SECOND, A, B, C, UNRECORDED],
+        top: 0,
+        name: Some(b"root"),
+        lebs: &A_AND_B,
+        texts: &[],
+        kept: Kept::Any,
+    },
+    Case {
+        what: "one that is beaten",
+        pebs: &[FIRST, SECOND, A, PAD, C, NEWER_B],
+        top: 1,
+        name: Some(b"root"),
+        lebs: &A_AND_B,
+        texts: &[],
+        kept: Kept::Any,
+    },
+    // A volume of a table alone.
+    Case {
+        what: "a volume that is updated, without eraseblocks",
+        pebs: &[FIRST_MARKED, SECOND_MARKED],
+        top: 0,
+        name: Some(b"root"),
+        lebs: &[],
+        texts: &[(0, Text::Not(ReadError::Updating))],
+        kept: Kept::Any,
     },
 ];
 
 #[test]
-fn reads_by_alignment_and_behind_erase_counters(rt: HostRuntime) -> Result<(), Fail> {
-    assert_meanings(&rt, rt.alloc(), &HALF)
-}
-
-/// A logical eraseblock of bytes 0xFF in the place of `B`.
-const BLANK_B: Peb = Peb(Ec::Zero, Vid::Is(LEB_1), Data::Filled(0xFF, 384));
-
-static WITH_BLANK: [Case; 1] = [Case {
-    what: "a logical eraseblock of 0xFF",
-    pebs: &[FIRST, SECOND, A, BLANK_B, C],
-    top: 0,
-    name: Some(b"root"),
-    lebs: &[(0, 1, BLANK)],
-    texts: &[],
-}];
-
-#[test]
-fn keeps_no_logical_eraseblock_of_0xff(rt: HostRuntime) -> Result<(), Fail> {
-    assert_meanings(&rt, rt.alloc(), &WITH_BLANK)?;
-    let kept = kept_lebs(rt.alloc(), &[FIRST, SECOND, A, BLANK_B, C])?;
-    assert!(rt; kept == Some([true, false, true, false]));
-    Ok(())
-}
-
-/// Which of the first four logical eraseblocks of volume 0 are kept, where it is dynamic.
-fn kept_lebs(alloc: Global, pebs: &[Peb]) -> Result<Option<[bool; 4]>, Fail> {
-    let attached = attached(alloc, pebs)?;
-    Ok(match attached.meaning().get(0) {
-        Some(volume) => match &volume.content {
-            Content::Dynamic(lebs) => Some([
-                lebs.get(0).is_some(),
-                lebs.get(1).is_some(),
-                lebs.get(2).is_some(),
-                lebs.get(3).is_some(),
-            ]),
-            _ => None,
-        },
-        None => None,
-    })
+fn reads_dynamic_volumes(rt: HostRuntime) -> Result<(), Fail> {
+    assert_meanings(&rt, rt.alloc(), &CASES)
 }

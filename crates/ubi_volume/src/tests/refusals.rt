@@ -1,13 +1,14 @@
 //! Which images are refused, and for what.
 
-use super::images::{
-    A, ALIGNMENT_0, B, C, CHECK_OF_61, COPY_0, COPY_1, Case, Data, ERASED, Ec, FIRST, FIRST_BOOT,
-    FIRST_FLIPPED, FIRST_MARKED, FLIPPED, FULL, LEB_1, Leb, OTHERS, OVERFULL, PLAIN, Peb, SECOND,
-    SECOND_BOOT, SECOND_MARKED, STATIC, Vid, assert_meanings, attach_bytes, image,
+use super::images::{attach_bytes, image};
+use super::pebs::{
+    A, B, C, DYNAMIC_7, ERASED, FIRST, FIRST_ALIGNMENT_0, FIRST_BOOT, FIRST_FLIPPED, FIRST_MARKED,
+    FULL_TABLE, KIND, OF_OTHERS_0, OVERFULL_TABLE, PAD, Peb, SECOND, SECOND_BOOT, SECOND_FLIPPED,
+    SECOND_MARKED, UNKNOWN,
 };
 use std::alloc::Global;
 use std::test::Fail;
-use ubi_media::{AttachError, RecFault, Refusal, VidHeader};
+use ubi_media::{AttachError, RecFault, Refusal};
 
 /// Whether some bytes are refused for a cause, or taken where there is none.
 fn is_refused(alloc: Global, bytes: &[u8], cause: Option<Refusal>) -> Result<bool, Fail> {
@@ -26,67 +27,6 @@ static LENGTHS: [(usize, Option<Refusal>); 4] = [
     (16_384, None),
 ];
 
-#[test]
-fn refuses_what_is_no_image(rt: HostRuntime) -> Result<(), Fail> {
-    let bytes = [0xFF; 16_896];
-    for (len, cause) in &LENGTHS {
-        let bytes = bytes.get(..*len).ok_or("too short")?;
-        assert!(rt; is_refused(rt.alloc(), bytes, *cause)?, "{len} bytes");
-    }
-    Ok(())
-}
-
-/// A logical eraseblock of a static volume in the place of a dynamic one.
-const KIND: Peb = Peb(Ec::Zero, Vid::Is(STATIC), Data::Filled(0x41, 384));
-
-/// A logical eraseblock that leaves 128 bytes free.
-const PAD: Peb = Peb(
-    Ec::Zero,
-    Vid::Is(VidHeader {
-        data_pad: 128,
-        ..LEB_1
-    }),
-    Data::Filled(0x42, 256),
-);
-
-/// The second copy of a table with one bit of the record flipped.
-const SECOND_FLIPPED: Peb = Peb(Ec::Zero, Vid::Is(COPY_1), Data::Table(FLIPPED));
-
-/// The first copy of a table with alignment 0.
-const FIRST_ALIGNMENT_0: Peb = Peb(Ec::Zero, Vid::Is(COPY_0), Data::Table(ALIGNMENT_0));
-
-/// Two copies of a table whose volume takes all that a device has left.
-const FULL_TABLE: [Peb; 2] = [
-    Peb(Ec::Zero, Vid::Is(COPY_0), Data::Table(FULL)),
-    Peb(Ec::Zero, Vid::Is(COPY_1), Data::Table(FULL)),
-];
-
-/// Two copies of a table whose volume takes one eraseblock more.
-const OVERFULL_TABLE: [Peb; 2] = [
-    Peb(Ec::Zero, Vid::Is(COPY_0), Data::Table(OVERFULL)),
-    Peb(Ec::Zero, Vid::Is(COPY_1), Data::Table(OVERFULL)),
-];
-
-/// A logical eraseblock of others that may be dropped.
-const DROPPED: Peb = Peb(Ec::Zero, Vid::Is(OTHERS), Data::Filled(0x44, 384));
-
-/// One that may be read alone.
-const UNKNOWN: Peb = Peb(
-    Ec::Zero,
-    Vid::Is(VidHeader {
-        compat: 4,
-        ..OTHERS
-    }),
-    Data::Filled(0x44, 384),
-);
-
-/// A logical eraseblock of a dynamic volume behind those of the static one.
-const DYNAMIC: Peb = Peb(
-    Ec::Zero,
-    Vid::Is(VidHeader { lnum: 7, ..PLAIN }),
-    Data::Filled(0x41, 384),
-);
-
 /// Some eraseblocks, and for what cause they are refused, if they are.
 static CASES: [(&[Peb], Option<Refusal>); 16] = [
     // Tables that can't be read.
@@ -104,7 +44,7 @@ static CASES: [(&[Peb], Option<Refusal>); 16] = [
     (&FULL_TABLE, None),
     (&OVERFULL_TABLE, Some(Refusal::NoSpace)),
     // Volumes of others.
-    (&[FIRST, SECOND, A, B, C, DROPPED], None),
+    (&[FIRST, SECOND, A, B, C, OF_OTHERS_0], None),
     (
         &[FIRST, SECOND, A, B, C, UNKNOWN],
         Some(Refusal::Incompatible(5, 2_147_479_552)),
@@ -120,87 +60,25 @@ static CASES: [(&[Peb], Option<Refusal>); 16] = [
     (&[FIRST_MARKED, SECOND_MARKED, KIND], None),
     // A static volume's winners beyond what is reserved.
     (
-        &[FIRST_BOOT, SECOND_BOOT, DYNAMIC],
+        &[FIRST_BOOT, SECOND_BOOT, DYNAMIC_7],
         Some(Refusal::Mismatch(2)),
     ),
 ];
 
 #[test]
 fn names_the_first_cause(rt: HostRuntime) -> Result<(), Fail> {
+    let alloc = rt.alloc();
+    let blank = [0xFF; 16_896];
+    for (len, cause) in &LENGTHS {
+        let bytes = blank.get(..*len).ok_or("too short")?;
+        assert!(rt; is_refused(alloc, bytes, *cause)?, "{len} bytes");
+    }
     for (index, (pebs, cause)) in CASES.iter().enumerate() {
-        let bytes = image(rt.alloc(), pebs)?;
+        let bytes = image(alloc, pebs)?;
         assert!(rt;
-            is_refused(rt.alloc(), bytes.as_slice(), *cause)?,
+            is_refused(alloc, bytes.as_slice(), *cause)?,
             "case {index}"
         );
     }
     Ok(())
-}
-
-/// A logical eraseblock of a static volume beyond what a dynamic one reserves.
-const BEYOND: Peb = Peb(
-    Ec::Zero,
-    Vid::Is(VidHeader {
-        lnum: 20,
-        used_ebs: 21,
-        ..STATIC
-    }),
-    Data::Filled(0x41, 384),
-);
-
-/// A logical eraseblock of a volume that has no record.
-const UNRECORDED: Peb = Peb(
-    Ec::Zero,
-    Vid::Is(VidHeader {
-        vol_id: 1,
-        data_crc: CHECK_OF_61,
-        ..STATIC
-    }),
-    Data::Filled(0x61, 384),
-);
-
-/// A newer eraseblock of what `B` holds.
-const NEWER_B: Peb = Peb(
-    Ec::Zero,
-    Vid::Is(VidHeader { sqnum: 1, ..LEB_1 }),
-    Data::Filled(0x42, 384),
-);
-
-/// What `A` and `B` read, and a logical eraseblock that isn't written.
-const A_AND_B: [(u32, u32, Leb); 3] = [
-    (0, 0, Leb::Reads(0x41, 384, 384)),
-    (0, 1, Leb::Reads(0x42, 384, 384)),
-    (0, 19, Leb::Reads(0xFF, 384, 384)),
-];
-
-static TAKEN: [Case; 3] = [
-    Case {
-        what: "an eraseblock beyond what is reserved",
-        pebs: &[FIRST, SECOND, A, B, C, BEYOND],
-        top: 0,
-        name: Some(b"root"),
-        lebs: &A_AND_B,
-        texts: &[],
-    },
-    Case {
-        what: "one of a volume without a record",
-        pebs: &[FIRST, SECOND, A, B, C, UNRECORDED],
-        top: 0,
-        name: Some(b"root"),
-        lebs: &A_AND_B,
-        texts: &[],
-    },
-    Case {
-        what: "one that is beaten",
-        pebs: &[FIRST, SECOND, A, PAD, C, NEWER_B],
-        top: 1,
-        name: Some(b"root"),
-        lebs: &A_AND_B,
-        texts: &[],
-    },
-];
-
-#[test]
-fn takes_eraseblocks_that_do_not_count(rt: HostRuntime) -> Result<(), Fail> {
-    assert_meanings(&rt, rt.alloc(), &TAKEN)
 }

@@ -1,15 +1,18 @@
 //! Attaching sources: what is found without the contents, what is read for it, and what fails.
 
-use super::images::{
-    A, B, BASE, Data, Ec, FIRST, FIRST_BOOT, FIRST_MARKED, PLAIN, Peb, SECOND, SECOND_BOOT,
-    SECOND_MARKED, STATIC, STATIC_0, STATIC_1, TEXT_0, TEXT_1, Vid, geometry, image,
+use super::images::{attached, geometry, image};
+use super::pebs::{
+    A, B, BASE, BEYOND_44, FIRST, FIRST_BOOT, FIRST_MARKED, KIND, NEWER_0, NEWER_1, Peb, SECOND,
+    SECOND_BOOT, SECOND_MARKED, TEXT_0, TEXT_1,
 };
 use crate::{PlaceContent, Places, attach_places};
 use std::alloc::Global;
 use std::fs;
+use std::fs::Files;
+use std::os::unix::fs::FileExt;
 use std::test::Fail;
-use ubi_media::{Refusal, VidHeader};
-use ubi_scan::{BlockSource, FileSource, MemorySource, ProbeSource, StreamError, scan_from};
+use ubi_media::Refusal;
+use ubi_scan::{FileSource, MemorySource, ProbeSource, StreamError, scan_from};
 use ubi_table::choose_from;
 
 /// What a volume reads. None where the table has no such volume.
@@ -26,43 +29,6 @@ const TEXT: PlaceContent = PlaceContent::Static {
     bytes: 385,
 };
 
-/// What is known of an image without its contents.
-fn places_of(alloc: Global, pebs: &[Peb]) -> Result<Places, Fail> {
-    let bytes = image(alloc, pebs)?;
-    let mut source = MemorySource::new(bytes.as_slice());
-    Ok(attach_places(alloc, &geometry()?, &mut source)?)
-}
-
-/// Some eraseblocks, and what volume 0 of them reads.
-static CONTENTS: [(&[Peb], PlaceContent); 6] = [
-    (&BASE, PlaceContent::Dynamic),
-    (&[FIRST_MARKED, SECOND_MARKED], PlaceContent::Updating),
-    (
-        &[FIRST_BOOT, SECOND_BOOT],
-        PlaceContent::Static { lebs: 0, bytes: 0 },
-    ),
-    (&[FIRST_BOOT, SECOND_BOOT, TEXT_0, TEXT_1], TEXT),
-    (&[FIRST_BOOT, SECOND_BOOT, TEXT_0], PlaceContent::Damaged),
-    (&[FIRST_BOOT, SECOND_BOOT, TEXT_1], PlaceContent::Damaged),
-];
-
-#[test]
-fn finds_what_volumes_read(rt: HostRuntime) -> Result<(), Fail> {
-    for (index, (pebs, want)) in CONTENTS.iter().enumerate() {
-        let places = places_of(rt.alloc(), pebs)?;
-        assert!(rt; content(&places, 0) == Some(*want), "case {index}");
-        assert!(rt; content(&places, 1).is_none(), "case {index}");
-    }
-    Ok(())
-}
-
-/// A logical eraseblock beyond those that its volume reserves. It doesn't count.
-const BEYOND: Peb = Peb(
-    Ec::Zero,
-    Vid::Is(VidHeader { lnum: 20, ..PLAIN }),
-    Data::Filled(0x44, 384),
-);
-
 /// A volume, a number, and the first logical eraseblock of it from that number on, with where it is.
 type Next = (u32, u32, Option<(u32, u32)>);
 
@@ -74,41 +40,6 @@ fn has_next(places: &Places, want: &[Next]) -> bool {
     }
     has
 }
-
-static NEXT: [Next; 4] = [
-    (0, 0, Some((0, 2))),
-    (0, 1, Some((1, 3))),
-    (0, 2, None),
-    (1, 0, None),
-];
-
-#[test]
-fn finds_the_eraseblock_of_each_logical_one(rt: HostRuntime) -> Result<(), Fail> {
-    let places = places_of(rt.alloc(), &[FIRST, SECOND, A, B, BEYOND])?;
-    assert!(rt; has_next(&places, &NEXT));
-    Ok(())
-}
-
-/// Newer copies of the two logical eraseblocks of the text.
-const NEWER_0: Peb = Peb(
-    Ec::Zero,
-    Vid::Is(VidHeader {
-        copy_flag: true,
-        sqnum: 1,
-        ..STATIC_0
-    }),
-    Data::Filled(0x61, 384),
-);
-
-const NEWER_1: Peb = Peb(
-    Ec::Zero,
-    Vid::Is(VidHeader {
-        copy_flag: true,
-        sqnum: 2,
-        ..STATIC_1
-    }),
-    Data::Filled(0x62, 384),
-);
 
 /// An eraseblock, how many reads begin in it, and how many of them in its data.
 type Reads = (u32, u64, u64);
@@ -130,9 +61,9 @@ type Case = (
     &'static [Reads],
 );
 
-/// Of a dynamic volume the headers are read once, for the scan, and the data of one copy of the table alone. The most reads come where a candidate of a static volume is checked as a copy and then as a piece of the
-/// text.
-static READ: [Case; 2] = [
+/// Of a dynamic volume the headers are read once, for the scan, and the data of one copy of the table alone. The most
+/// reads come where a candidate of a static volume is checked as a copy and then as a piece of the text.
+static ATTACHED: [Case; 8] = [
     (
         &BASE,
         PlaceContent::Dynamic,
@@ -152,40 +83,80 @@ static READ: [Case; 2] = [
             (5, 4, 2),
         ],
     ),
+    (
+        &[FIRST, SECOND, A, B, BEYOND_44],
+        PlaceContent::Dynamic,
+        &[
+            (0, 0, Some((0, 2))),
+            (0, 1, Some((1, 3))),
+            (0, 2, None),
+            (1, 0, None),
+        ],
+        &[],
+    ),
+    (
+        &[FIRST_MARKED, SECOND_MARKED],
+        PlaceContent::Updating,
+        &[],
+        &[],
+    ),
+    (
+        &[FIRST_BOOT, SECOND_BOOT],
+        PlaceContent::Static { lebs: 0, bytes: 0 },
+        &[],
+        &[],
+    ),
+    (&[FIRST_BOOT, SECOND_BOOT, TEXT_0, TEXT_1], TEXT, &[], &[]),
+    (
+        &[FIRST_BOOT, SECOND_BOOT, TEXT_0],
+        PlaceContent::Damaged,
+        &[],
+        &[],
+    ),
+    (
+        &[FIRST_BOOT, SECOND_BOOT, TEXT_1],
+        PlaceContent::Damaged,
+        &[],
+        &[],
+    ),
 ];
 
-/// Whether an image has what is wanted, and so much is read to find it.
-fn is_read(alloc: Global, (pebs, reads_as, next, reads): &Case) -> Result<bool, Fail> {
+/// Whether volume 0 of an image is as it should be, there is no volume 1, and so much is read to find it.
+fn is_attached(alloc: Global, (pebs, reads_as, next, reads): &Case) -> Result<bool, Fail> {
     let bytes = image(alloc, pebs)?;
     let mut source = ProbeSource::new(alloc, &geometry()?, bytes.as_slice(), 0)?;
     let places = attach_places(alloc, &geometry()?, &mut source)?;
     Ok(
         content(&places, 0) == Some(*reads_as)
+            && content(&places, 1).is_none()
             && has_next(&places, next)
             && has_reads(&source, reads),
     )
 }
 
 #[test]
-fn reads_each_eraseblock_a_few_times(rt: HostRuntime) -> Result<(), Fail> {
-    for (index, case) in READ.iter().enumerate() {
-        assert!(rt; is_read(rt.alloc(), case)?, "case {index}");
+fn finds_what_volumes_read_and_where(rt: HostRuntime) -> Result<(), Fail> {
+    for (index, case) in ATTACHED.iter().enumerate() {
+        assert!(rt; is_attached(rt.alloc(), case)?, "case {index}");
     }
     Ok(())
 }
 
+/// Whether a source is scanned, its table chosen, and it is attached.
+fn is_found(alloc: Global, bytes: &[u8]) -> Result<bool, Fail> {
+    let geometry = geometry()?;
+    let mut source = MemorySource::new(bytes);
+    let found = scan_from(alloc, &geometry, &mut source)?;
+    let table = choose_from(alloc, &geometry, &mut source, &found)?;
+    let reserved = table.get(0).map(|volume| volume.reserved);
+    let is_attached = attach_places(alloc, &geometry, &mut source).is_ok();
+    Ok(found.winner(0, 2) == Some(4) && reserved == Some(20) && is_attached)
+}
+
 #[test]
 fn scans_chooses_and_attaches(rt: HostRuntime) -> Result<(), Fail> {
-    let alloc = rt.alloc();
-    let geometry = geometry()?;
-    let bytes = image(alloc, &BASE)?;
-    let mut source = MemorySource::new(bytes.as_slice());
-    let found = scan_from(alloc, &geometry, &mut source)?;
-    assert!(rt; found.winner(0, 2) == Some(4));
-    let table = choose_from(alloc, &geometry, &mut source, &found)?;
-    let volume = table.get(0).ok_or("a volume")?;
-    assert!(rt; volume.reserved == 20);
-    assert!(rt; attach_places(alloc, &geometry, &mut source).is_ok());
+    let bytes = image(rt.alloc(), &BASE)?;
+    assert!(rt; is_found(rt.alloc(), bytes.as_slice())?);
     Ok(())
 }
 
@@ -199,11 +170,7 @@ fn error_of(alloc: Global, bytes: &[u8], at: u64) -> Result<Option<StreamError>,
 const HALF: [Peb; 3] = [FIRST_BOOT, SECOND_BOOT, TEXT_0];
 
 /// A logical eraseblock of a static volume in a dynamic one.
-const UNLIKE: [Peb; 3] = [
-    FIRST,
-    SECOND,
-    Peb(Ec::Zero, Vid::Is(STATIC), Data::Filled(0x41, 384)),
-];
+const UNLIKE: [Peb; 3] = [FIRST, SECOND, KIND];
 
 /// Some eraseblocks, which read of them fails, and why they aren't attached then. Each read of the first image fails in
 /// turn, up to one more than there are.
@@ -238,26 +205,23 @@ fn tells_why_a_source_is_not_attached(rt: HostRuntime) -> Result<(), Fail> {
     Ok(())
 }
 
-/// What of volume 0 a source holds.
-fn attached_content<S: BlockSource>(
-    alloc: Global,
-    source: &mut S,
-) -> Result<Option<PlaceContent>, Fail> {
-    let places = attach_places(alloc, &geometry()?, source)?;
-    Ok(content(&places, 0))
+/// Whether a file is attached as its bytes are, and fails once its bytes are missing.
+fn is_attached_as<R: Files>(rt: &R, alloc: Global, bytes: &[u8]) -> Result<bool, Fail>
+where
+    R::File: FileExt,
+{
+    fs::write(rt, "attached.img", bytes)?;
+    let mut file = FileSource::open(rt, "attached.img")?;
+    let places = attach_places(alloc, &geometry()?, &mut file)?;
+    fs::write(rt, "attached.img", bytes.get(..1024).unwrap_or(&[]))?;
+    let error = attach_places(alloc, &geometry()?, &mut file).err();
+    Ok(content(&places, 0) == Some(TEXT) && error == Some(StreamError::Read(2, 0)))
 }
 
-/// A file is attached as its bytes are, and fails once its bytes are missing.
 #[test]
 fn attaches_a_file(rt: HostRuntime) -> Result<(), Fail> {
     let bytes = image(rt.alloc(), &[FIRST_BOOT, SECOND_BOOT, TEXT_0, TEXT_1])?;
-    fs::write(&rt, "attached.img", bytes.as_slice())?;
-    let mut file = FileSource::open(&rt, "attached.img")?;
-    assert!(rt; attached_content(rt.alloc(), &mut file)? == Some(TEXT));
-    let short = bytes.as_slice().get(..1024).unwrap_or(&[]);
-    fs::write(&rt, "attached.img", short)?;
-    let error = attach_places(rt.alloc(), &geometry()?, &mut file).err();
-    assert!(rt; error == Some(StreamError::Read(2, 0)));
+    assert!(rt; is_attached_as(&rt, rt.alloc(), bytes.as_slice())?);
     fs::remove_file(&rt, "attached.img")?;
     Ok(())
 }

@@ -1,32 +1,15 @@
 //! What static volumes read.
 
-use super::images::{
-    BOOT_OF_2, CHECK_OF_62, CHECK_OF_FF, COPY_0, COPY_1, Case, Data, Ec, FIRST_BOOT, Leb,
-    MARKED_BOOT, Peb, SECOND_BOOT, STATIC_0, STATIC_1, TEXT_0, TEXT_1, Text, Vid, assert_meanings,
-    attached,
+use super::images::{Case, Kept, Leb, Text, assert_meanings};
+use super::pebs::{
+    FIRST_BOOT, FULL_TEXT, SECOND_BOOT, TEXT_0, TEXT_1, TEXT_BEYOND, TEXT_OF_3, TEXT_OF_4,
+    TEXT_UNLIKE, UPDATING,
 };
-use crate::{Content, ReadError};
+use crate::ReadError;
 use std::test::Fail;
-use ubi_media::VidHeader;
 
-/// A static volume of two logical eraseblocks, both of them full.
-const FULL_TEXT: [Peb; 4] = [
-    Peb(Ec::Zero, Vid::Is(COPY_0), Data::Table(BOOT_OF_2)),
-    Peb(Ec::Zero, Vid::Is(COPY_1), Data::Table(BOOT_OF_2)),
-    TEXT_0,
-    Peb(
-        Ec::Zero,
-        Vid::Is(VidHeader {
-            data_size: 384,
-            data_crc: CHECK_OF_62,
-            ..STATIC_1
-        }),
-        Data::Filled(0x62, 384),
-    ),
-];
-
-/// Texts that are read.
-static TEXTS: [Case; 4] = [
+/// Texts that are read, volumes that are damaged, and one that is updated, which isn't.
+static CASES: [Case; 12] = [
     Case {
         what: "a text whose last piece is short",
         pebs: &[FIRST_BOOT, SECOND_BOOT, TEXT_0, TEXT_1],
@@ -40,6 +23,7 @@ static TEXTS: [Case; 4] = [
             (0, u32::MAX, Leb::Not(ReadError::OutOfRange)),
         ],
         texts: &[(0, Text::Reads(&[(0x61, 384), (0x62, 1)]))],
+        kept: Kept::Any,
     },
     Case {
         what: "the same in the other order",
@@ -54,6 +38,7 @@ static TEXTS: [Case; 4] = [
             (0, u32::MAX, Leb::Not(ReadError::OutOfRange)),
         ],
         texts: &[(0, Text::Reads(&[(0x61, 384), (0x62, 1)]))],
+        kept: Kept::Any,
     },
     Case {
         what: "a text that fills its volume",
@@ -66,6 +51,7 @@ static TEXTS: [Case; 4] = [
             (0, 2, Leb::Not(ReadError::OutOfRange)),
         ],
         texts: &[(0, Text::Reads(&[(0x61, 384), (0x62, 384)]))],
+        kept: Kept::Any,
     },
     Case {
         what: "an empty text",
@@ -77,94 +63,9 @@ static TEXTS: [Case; 4] = [
             (0, 1, Leb::Not(ReadError::OutOfRange)),
         ],
         texts: &[(0, Text::Reads(&[]))],
+        kept: Kept::Any,
     },
-];
-
-#[test]
-fn reads_texts(rt: HostRuntime) -> Result<(), Fail> {
-    assert_meanings(&rt, rt.alloc(), &TEXTS)
-}
-
-/// The second logical eraseblock of three, full.
-const OTHER: Peb = Peb(
-    Ec::Zero,
-    Vid::Is(VidHeader {
-        used_ebs: 3,
-        data_size: 384,
-        data_crc: CHECK_OF_62,
-        ..STATIC_1
-    }),
-    Data::Filled(0x62, 384),
-);
-
-/// The second of two, with another byte than the one that its check is of.
-const UNLIKE: Peb = Peb(Ec::Zero, Vid::Is(STATIC_1), Data::Filled(0x63, 384));
-
-/// The last of four.
-const BEYOND: Peb = Peb(
-    Ec::Zero,
-    Vid::Is(VidHeader {
-        lnum: 3,
-        used_ebs: 4,
-        ..STATIC_1
-    }),
-    Data::Filled(0x62, 384),
-);
-
-/// The first of four.
-const MANY: Peb = Peb(
-    Ec::Zero,
-    Vid::Is(VidHeader {
-        used_ebs: 4,
-        ..STATIC_0
-    }),
-    Data::Filled(0x61, 384),
-);
-
-/// The header of the first of five logical eraseblocks of a volume of 8, of bytes 0xFF.
-const UPDATED: VidHeader = VidHeader {
-    used_ebs: 5,
-    data_crc: CHECK_OF_FF,
-    ..STATIC_0
-};
-
-/// A static volume while it is updated, whose logical eraseblocks don't agree on how many they are.
-const UPDATING: [Peb; 7] = [
-    Peb(Ec::Zero, Vid::Is(COPY_0), Data::Table(MARKED_BOOT)),
-    Peb(Ec::Zero, Vid::Is(COPY_1), Data::Table(MARKED_BOOT)),
-    Peb(Ec::Zero, Vid::Is(UPDATED), Data::Filled(0xFF, 384)),
-    Peb(
-        Ec::Zero,
-        Vid::Is(VidHeader {
-            lnum: 1,
-            used_ebs: 6,
-            ..UPDATED
-        }),
-        Data::Filled(0xFF, 384),
-    ),
-    Peb(
-        Ec::Zero,
-        Vid::Is(VidHeader { lnum: 2, ..UPDATED }),
-        Data::Filled(0xFF, 384),
-    ),
-    Peb(
-        Ec::Zero,
-        Vid::Is(VidHeader {
-            lnum: 3,
-            used_ebs: 7,
-            ..UPDATED
-        }),
-        Data::Filled(0xFF, 384),
-    ),
-    Peb(
-        Ec::Zero,
-        Vid::Is(VidHeader { lnum: 4, ..UPDATED }),
-        Data::Filled(0xFF, 384),
-    ),
-];
-
-/// Volumes that are damaged, and one that is updated, which isn't.
-static DAMAGED: [Case; 8] = [
+    // Volumes that are damaged.
     Case {
         what: "no last piece",
         pebs: &[FIRST_BOOT, SECOND_BOOT, TEXT_0],
@@ -176,6 +77,7 @@ static DAMAGED: [Case; 8] = [
             (0, 3, Leb::Not(ReadError::Damaged)),
         ],
         texts: &[(0, Text::Not(ReadError::Damaged))],
+        kept: Kept::Damaged,
     },
     Case {
         what: "no first piece",
@@ -184,46 +86,52 @@ static DAMAGED: [Case; 8] = [
         name: Some(b"boot"),
         lebs: &[],
         texts: &[(0, Text::Not(ReadError::Damaged))],
+        kept: Kept::Damaged,
     },
     Case {
         what: "pieces of two and of three",
-        pebs: &[FIRST_BOOT, SECOND_BOOT, TEXT_0, OTHER],
+        pebs: &[FIRST_BOOT, SECOND_BOOT, TEXT_0, TEXT_OF_3],
         top: 0,
         name: Some(b"boot"),
         lebs: &[],
         texts: &[(0, Text::Not(ReadError::Damaged))],
+        kept: Kept::Damaged,
     },
     Case {
         what: "a piece with a wrong check",
-        pebs: &[FIRST_BOOT, SECOND_BOOT, TEXT_0, UNLIKE],
+        pebs: &[FIRST_BOOT, SECOND_BOOT, TEXT_0, TEXT_UNLIKE],
         top: 0,
         name: Some(b"boot"),
         lebs: &[],
         texts: &[(0, Text::Not(ReadError::Damaged))],
+        kept: Kept::Damaged,
     },
     Case {
         what: "a piece behind the last",
-        pebs: &[FIRST_BOOT, SECOND_BOOT, TEXT_0, TEXT_1, BEYOND],
+        pebs: &[FIRST_BOOT, SECOND_BOOT, TEXT_0, TEXT_1, TEXT_BEYOND],
         top: 0,
         name: Some(b"boot"),
         lebs: &[],
         texts: &[(0, Text::Not(ReadError::Damaged))],
+        kept: Kept::Damaged,
     },
     Case {
         what: "a piece beyond the volume",
-        pebs: &[FIRST_BOOT, SECOND_BOOT, BEYOND],
+        pebs: &[FIRST_BOOT, SECOND_BOOT, TEXT_BEYOND],
         top: 0,
         name: Some(b"boot"),
         lebs: &[],
         texts: &[(0, Text::Not(ReadError::Damaged))],
+        kept: Kept::Damaged,
     },
     Case {
         what: "more pieces than the volume",
-        pebs: &[FIRST_BOOT, SECOND_BOOT, MANY],
+        pebs: &[FIRST_BOOT, SECOND_BOOT, TEXT_OF_4],
         top: 0,
         name: Some(b"boot"),
         lebs: &[],
         texts: &[(0, Text::Not(ReadError::Damaged))],
+        kept: Kept::Damaged,
     },
     Case {
         what: "pieces of five, six and seven while they are updated",
@@ -232,18 +140,11 @@ static DAMAGED: [Case; 8] = [
         name: Some(b"boot"),
         lebs: &[(0, 0, Leb::Not(ReadError::Updating))],
         texts: &[(0, Text::Not(ReadError::Updating))],
+        kept: Kept::Any,
     },
 ];
 
 #[test]
-fn finds_volumes_that_are_damaged(rt: HostRuntime) -> Result<(), Fail> {
-    assert_meanings(&rt, rt.alloc(), &DAMAGED)
-}
-
-#[test]
-fn keeps_nothing_of_a_damaged_volume(rt: HostRuntime) -> Result<(), Fail> {
-    let attached = attached(rt.alloc(), &[FIRST_BOOT, SECOND_BOOT, TEXT_0])?;
-    let volume = attached.meaning().get(0).ok_or("a volume")?;
-    assert!(rt; matches!(&volume.content, Content::Damaged));
-    Ok(())
+fn reads_static_volumes(rt: HostRuntime) -> Result<(), Fail> {
+    assert_meanings(&rt, rt.alloc(), &CASES)
 }

@@ -1,15 +1,14 @@
 //! Writing volumes through writers that fail.
 
-use super::images::{
-    A, B, BASE, COPY_0, COPY_1, Data, Ec, FIRST_BOOT, FIRST_MARKED, PLAIN, Peb, SECOND_BOOT,
-    SECOND_MARKED, SMALL, TEXT_0, TEXT_1, Vid, attached, base_text,
+use super::images::{BASE_TEXT, attached, put_runs};
+use super::pebs::{
+    A, B, BASE, FIRST_BOOT, FIRST_MARKED, HOLED, Peb, SECOND_BOOT, SECOND_MARKED, TEXT_0, TEXT_1,
 };
 use crate::{Failure, Meaning, ProbeWriter, ReadError, write_all, write_volume};
 use std::alloc::Global;
 use std::io::ErrorKind;
 use std::process::Abort;
 use std::test::Fail;
-use ubi_media::VidHeader;
 
 /// The ways in which a write fails, with how many bytes are taken at once.
 static WAYS: [(Failure, usize); 6] = [
@@ -21,196 +20,114 @@ static WAYS: [(Failure, usize); 6] = [
     (Failure::Error(ErrorKind::Other), usize::MAX),
 ];
 
-/// A dynamic volume of three logical eraseblocks, the second of which isn't kept.
-static DYNAMIC: [Peb; 4] = [
-    Peb(Ec::Zero, Vid::Is(COPY_0), Data::Table(SMALL)),
-    Peb(Ec::Zero, Vid::Is(COPY_1), Data::Table(SMALL)),
-    A,
-    Peb(
-        Ec::Zero,
-        Vid::Is(VidHeader { lnum: 2, ..PLAIN }),
-        Data::Filled(0x43, 64),
+/// Some eraseblocks, what their volume 0 reads, as bytes that each stand so many times, and for how many bytes writers
+/// have room.
+type Case = (&'static [Peb], &'static [(u8, usize)], (usize, usize));
+
+static WRITTEN: [Case; 5] = [
+    (
+        &HOLED,
+        &[(0x41, 384), (0xFF, 384), (0x43, 64), (0xFF, 320)],
+        (0, 1154),
     ),
+    (
+        &[FIRST_BOOT, SECOND_BOOT, TEXT_0, TEXT_1],
+        &[(0x61, 384), (0x62, 1)],
+        (0, 387),
+    ),
+    (&BASE, BASE_TEXT, (500, 501)),
+    (&BASE, BASE_TEXT, (7679, 7681)),
+    // A volume that reads nothing.
+    (&[FIRST_BOOT, SECOND_BOOT], &[], (0, 1)),
 ];
 
-/// What it reads: 384 bytes 0x41, 384 bytes 0xFF, 64 bytes 0x43 and 320 bytes 0xFF.
-fn dynamic_text() -> [u8; 1152] {
-    let mut text = [0xFF; 1152];
-    text[..384].fill(0x41);
-    text[768..832].fill(0x43);
-    text
+/// Whether a writer with so much room takes all that volume 0 reads, and else as much as fits.
+fn is_written(
+    alloc: Global,
+    meaning: &Meaning,
+    text: &[u8],
+    room: usize,
+    (failure, most): (Failure, usize),
+) -> Result<bool, Fail> {
+    let mut writer = ProbeWriter::new(alloc, room, most, failure)?;
+    let answer = write_volume(meaning, 0, &mut writer);
+    Ok(match text.get(..room) {
+        Some(front) if room < text.len() => {
+            answer == Err(ReadError::Write(room as u64)) && writer.taken() == front
+        }
+        _ => answer == Ok(text.len() as u64) && writer.taken() == text,
+    })
 }
 
-/// Asserts what a write of volume 0 answers, and what a writer with so much room has taken then.
+/// Asserts it of writers with so much room, in each way.
 fn assert_written(
     rt: &impl Abort,
-    meaning: &Meaning,
-    mut writer: ProbeWriter,
-    want: Result<u64, ReadError>,
-    taken: &[u8],
-) {
-    assert!(*rt; write_volume(meaning, 0, &mut writer) == want);
-    assert!(*rt; writer.taken() == taken);
-}
-
-/// Asserts that a writer with so much room takes all of a text that fits, and else as much as does.
-fn assert_taken(
-    rt: &impl Abort,
     alloc: Global,
     meaning: &Meaning,
     text: &[u8],
-    room: usize,
-    (failure, most): (Failure, usize),
+    (from, to): (usize, usize),
 ) -> Result<(), Fail> {
-    let writer = ProbeWriter::new(alloc, room, most, failure)?;
-    match text.get(..room) {
-        Some(front) if room < text.len() => {
-            assert_written(
-                rt,
-                meaning,
-                writer,
-                Err(ReadError::Write(room as u64)),
-                front,
-            );
+    for room in from..to {
+        for way in WAYS {
+            let is = is_written(alloc, meaning, text, room, way)?;
+            assert!(*rt; is, "{way:?} after {room} bytes");
         }
-        _ => assert_written(rt, meaning, writer, Ok(text.len() as u64), text),
-    }
-    Ok(())
-}
-
-/// Writes volume 0 to writers with so much room, in each of their ways.
-fn write_in_each_way(
-    rt: &impl Abort,
-    alloc: Global,
-    meaning: &Meaning,
-    text: &[u8],
-    room: usize,
-) -> Result<(), Fail> {
-    for way in WAYS {
-        assert_taken(rt, alloc, meaning, text, room, way)?;
-    }
-    Ok(())
-}
-
-/// Writes volume 0 to writers with each room, in each of their ways.
-fn write_with_each_room(
-    rt: &impl Abort,
-    alloc: Global,
-    meaning: &Meaning,
-    text: &[u8],
-) -> Result<(), Fail> {
-    for room in 0..text.len() + 2 {
-        write_in_each_way(rt, alloc, meaning, text, room)?;
     }
     Ok(())
 }
 
 #[test]
-fn writes_a_dynamic_volume_until_it_fails(rt: HostRuntime) -> Result<(), Fail> {
-    let attached = attached(rt.alloc(), &DYNAMIC)?;
-    write_with_each_room(&rt, rt.alloc(), attached.meaning(), &dynamic_text())
-}
-
-/// What a static volume reads: 384 bytes 0x61 and one byte 0x62.
-fn static_text() -> [u8; 385] {
-    let mut text = [0x61; 385];
-    text[384..].fill(0x62);
-    text
-}
-
-#[test]
-fn writes_a_static_volume_until_it_fails(rt: HostRuntime) -> Result<(), Fail> {
-    let attached = attached(rt.alloc(), &[FIRST_BOOT, SECOND_BOOT, TEXT_0, TEXT_1])?;
-    write_with_each_room(&rt, rt.alloc(), attached.meaning(), &static_text())
-}
-
-#[test]
-fn writes_20_logical_eraseblocks(rt: HostRuntime) -> Result<(), Fail> {
+fn writes_volumes_until_it_fails(rt: HostRuntime) -> Result<(), Fail> {
     let alloc = rt.alloc();
-    let attached = attached(alloc, &BASE)?;
-    let meaning = attached.meaning();
-    let (text, all) = (base_text(), (Failure::Nothing, usize::MAX));
-    assert_taken(&rt, alloc, meaning, &text, 500, all)?;
-    assert_taken(&rt, alloc, meaning, &text, 7680, (Failure::Nothing, 1))?;
-    assert_taken(&rt, alloc, meaning, &text, 7679, (Failure::Nothing, 1))?;
-    assert_taken(&rt, alloc, meaning, &text, 7680, all)?;
-    assert_taken(&rt, alloc, meaning, &text, 7679, all)
-}
-
-#[test]
-fn writes_no_byte_of_an_empty_text(rt: HostRuntime) -> Result<(), Fail> {
-    let alloc = rt.alloc();
-    let attached = attached(alloc, &[FIRST_BOOT, SECOND_BOOT])?;
-    write_in_each_way(&rt, alloc, attached.meaning(), &[], 0)
-}
-
-/// Asserts that nothing is written of a volume, and why.
-fn assert_not_written(
-    rt: &impl Abort,
-    alloc: Global,
-    meaning: &Meaning,
-    id: u32,
-    cause: ReadError,
-) -> Result<(), Fail> {
-    let mut writer = ProbeWriter::new(alloc, 1024, 1, Failure::Nothing)?;
-    assert!(*rt; write_volume(meaning, id, &mut writer) == Err(cause));
-    assert!(*rt; writer.taken().is_empty());
+    for (pebs, runs, rooms) in &WRITTEN {
+        let attached = attached(alloc, pebs)?;
+        let mut text = Vec::new(alloc);
+        put_runs(&mut text, runs)?;
+        assert_written(&rt, alloc, attached.meaning(), text.as_slice(), *rooms)?;
+    }
     Ok(())
 }
 
-#[test]
-fn writes_nothing_of_what_is_updated(rt: HostRuntime) -> Result<(), Fail> {
-    let alloc = rt.alloc();
-    let attached = attached(alloc, &[FIRST_MARKED, SECOND_MARKED, A, B])?;
-    let meaning = attached.meaning();
-    assert_not_written(&rt, alloc, meaning, 0, ReadError::Updating)?;
-    assert_not_written(&rt, alloc, meaning, 1, ReadError::NoVolume)
-}
+/// Some eraseblocks, and a volume of which nothing is written, with the cause.
+static UNWRITTEN: [(&[Peb], u32, ReadError); 4] = [
+    (&[FIRST_MARKED, SECOND_MARKED, A, B], 0, ReadError::Updating),
+    (&[FIRST_MARKED, SECOND_MARKED, A, B], 1, ReadError::NoVolume),
+    (&[FIRST_BOOT, SECOND_BOOT, TEXT_0], 0, ReadError::Damaged),
+    (&[FIRST_BOOT, SECOND_BOOT, TEXT_0], 200, ReadError::NoVolume),
+];
 
 #[test]
-fn writes_nothing_of_what_is_damaged(rt: HostRuntime) -> Result<(), Fail> {
-    let alloc = rt.alloc();
-    let attached = attached(alloc, &[FIRST_BOOT, SECOND_BOOT, TEXT_0])?;
-    let meaning = attached.meaning();
-    assert_not_written(&rt, alloc, meaning, 0, ReadError::Damaged)?;
-    assert_not_written(&rt, alloc, meaning, 200, ReadError::NoVolume)
+fn writes_nothing_of_what_is_not_read(rt: HostRuntime) -> Result<(), Fail> {
+    for (pebs, id, cause) in &UNWRITTEN {
+        let attached = attached(rt.alloc(), pebs)?;
+        let mut writer = ProbeWriter::new(rt.alloc(), 1024, 1, Failure::Nothing)?;
+        assert!(rt; write_volume(attached.meaning(), *id, &mut writer) == Err(*cause));
+        assert!(rt; writer.taken().is_empty());
+    }
+    Ok(())
 }
 
-/// Asserts what a write of all of some bytes answers, and what a writer has taken then.
-fn assert_all_written(
-    rt: &impl Abort,
-    mut writer: ProbeWriter,
-    bytes: &[u8],
-    want: Result<(), usize>,
-    taken: &[u8],
-) {
-    assert!(*rt; write_all(&mut writer, bytes) == want);
-    assert!(*rt; writer.taken() == taken);
-}
-
-/// Asserts that a writer with so much room takes all of some bytes if they fit, and else as many as do.
-fn assert_all_taken(
-    rt: &impl Abort,
+/// Whether a writer with so much room takes all of some bytes, and else as many as fit.
+fn is_all_written(
     alloc: Global,
     bytes: &[u8],
     room: usize,
     (failure, most): (Failure, usize),
-) -> Result<(), Fail> {
-    let writer = ProbeWriter::new(alloc, room, most, failure)?;
-    match bytes.get(..room) {
-        Some(front) if room < bytes.len() => {
-            assert_all_written(rt, writer, bytes, Err(room), front);
-        }
-        _ => assert_all_written(rt, writer, bytes, Ok(()), bytes),
-    }
-    Ok(())
+) -> Result<bool, Fail> {
+    let mut writer = ProbeWriter::new(alloc, room, most, failure)?;
+    let answer = write_all(&mut writer, bytes);
+    Ok(match bytes.get(..room) {
+        Some(front) if room < bytes.len() => answer == Err(room) && writer.taken() == front,
+        _ => answer == Ok(()) && writer.taken() == bytes,
+    })
 }
 
 #[test]
 fn writes_all_of_some_bytes_until_it_fails(rt: HostRuntime) -> Result<(), Fail> {
     for way in WAYS {
-        for room in 0..14usize {
-            assert_all_taken(&rt, rt.alloc(), b"twelve bytes", room, way)?;
+        for room in 0..14 {
+            let is = is_all_written(rt.alloc(), b"twelve bytes", room, way)?;
+            assert!(rt; is, "{way:?} after {room} bytes");
         }
     }
     Ok(())

@@ -1,0 +1,341 @@
+//! What files hold: images, texts and others.
+
+use super::answers::small;
+use super::headers::{EC, OTHER_EC};
+use super::pebs::{
+    A, ALIGNED_FIRST, ALIGNED_SECOND, ALIGNED_ZEROED, B, BEYOND, BOOT_FIRST, BOOT_SECOND, C,
+    DROPPED, EMPTY_B, FIRST, FIRST_ALIGNED, FIRST_BOOT, FIRST_DATA, FIRST_MARKED, FIRST_NAME,
+    FIRST_PLAIN, FIRST_STRANGE, FIRST_UPDATING, FREE, NORMAL_7, NORMAL_A, NORMAL_AB,
+    NORMAL_ALIGNED, NORMAL_B, NORMAL_C, NORMAL_DAMAGED, NORMAL_FREE, NORMAL_TEXT_0, NORMAL_TEXT_1,
+    OLD, Peb, RIGHT, ROOT_FIRST, ROOT_SECOND, SECOND, SECOND_ALIGNED, SECOND_BOOT, SECOND_DATA,
+    SECOND_MARKED, SECOND_NAME, SECOND_PLAIN, SECOND_STRANGE, SECOND_UPDATING, TEXT_0, TEXT_1,
+    UNCHECKED, UNCHECKED_0, UNCHECKED_1, UNCHECKED_2, UNCHECKED_3, UNCHECKED_4, UNLIKE,
+    UNNAMED_EMPTY_D, UNNAMED_FIRST, UNNAMED_FREE, UNNAMED_SECOND, UNREAD_13, UPDATING_FIRST,
+    UPDATING_SECOND, WORN_A, WORN_B, WORN_C, WORN_FIRST, WORN_SECOND, WRONG_9, put_pebs, put_runs,
+};
+use std::alloc::Global;
+use std::test::Fail;
+
+/// What a file holds.
+#[derive(Clone, Copy)]
+pub enum Contents {
+    /// Bytes that each stand so many times.
+    Runs(&'static [(&'static [u8], usize)]),
+    /// The first ones of these.
+    First(&'static [(&'static [u8], usize)], usize),
+    /// Eraseblocks, and bytes that stand over theirs, each with their place.
+    Pebs(&'static [Peb], &'static [(usize, &'static [u8])]),
+    /// Three blank eraseblocks, and bytes that are one too few for one.
+    Blank,
+    Odd,
+    /// The volume `root` with 20 reserved eraseblocks, of which the first three hold bytes 0x41, 0x42 and 0x43, as
+    /// `ubinize` writes it; with one free eraseblock behind it; and with two.
+    Root,
+    Spare,
+    Spares,
+    /// The first with an eraseblock of another image, so that it is refused.
+    Faulty,
+    /// What that volume reads.
+    RootText,
+    /// That image without a number.
+    Unnamed,
+    /// That image in another order: reversed, with erase counters from 10 on, and behind it a logical eraseblock that
+    /// is blank throughout.
+    Reversed,
+    /// The table of `root`, and three members of its logical eraseblock 0: of sequence number 5, of 7, a right copy of
+    /// 64 bytes, and of 9, a copy whose check is wrong by its lowest bit.
+    Rivals,
+    /// An image with an eraseblock of each state but a blank and a free one. It means the volume `root`, whose logical
+    /// eraseblock 0 holds bytes 0x35.
+    Mixed,
+    /// The same with these two behind it.
+    MixedMore,
+    /// The table of `root` while it is updated, of names that are shown otherwise than they stand, and with alignment
+    /// 256.
+    Marked,
+    PlainName,
+    StrangeName,
+    AlignedTable,
+    /// The image with two free eraseblocks whose table has a second volume, `data` or `name`.
+    WithData,
+    WithName,
+    /// A static volume while it is updated, whose eraseblocks don't agree on how many they are, and have no check.
+    Updating,
+    /// A static volume that has a record and no eraseblock: it reads nothing.
+    EmptyBoot,
+    /// The same with the first of its two eraseblocks, so that it is damaged.
+    DamagedBoot,
+    /// The same with both: it reads 384 bytes 0x41 and a byte 0xFF.
+    WholeBoot,
+    /// The volume `root` with alignment 256, whose logical eraseblock 0 has zeros in what is left.
+    AlignedRoot,
+    /// The normal image of no volume.
+    NormalNothing,
+    /// That of the volume `root`, whose first three logical eraseblocks hold bytes 0x41, 0x42 and 0x43.
+    NormalRoot,
+    /// That of the volume `root` whose logical eraseblock 0 holds a byte 0x37, without a number.
+    NormalFirst,
+    /// That whose logical eraseblock 1 holds bytes 0x61 and 0x62, with a spare eraseblock.
+    NormalSpare,
+    /// That of the volume `root` of alignment 256 whose logical eraseblock 0 holds bytes 0x41, without a number.
+    NormalAlignedRoot,
+    /// That of the static volume `boot`, which reads 384 bytes 0x41 and a byte 0xFF; where it is damaged; and while it
+    /// is updated.
+    NormalBoot,
+    NormalDamagedBoot,
+    NormalUpdating,
+}
+
+/// Nothing.
+pub const EMPTY: Contents = Contents::Runs(&[]);
+
+impl Contents {
+    /// What it is by its eraseblocks, or by its bytes.
+    fn parts(&self) -> Contents {
+        match *self {
+            Contents::Runs(runs) => Contents::Runs(runs),
+            Contents::First(runs, len) => Contents::First(runs, len),
+            Contents::Pebs(pebs, over) => Contents::Pebs(pebs, over),
+            Contents::Blank => BLANK,
+            Contents::Odd => ODD,
+            Contents::Root => ROOT,
+            Contents::Spare => SPARE,
+            Contents::Spares => SPARES,
+            Contents::Faulty => FAULTY,
+            Contents::RootText => ROOT_TEXT,
+            Contents::Unnamed => UNNAMED,
+            Contents::Reversed => REVERSED,
+            Contents::Rivals => RIVALS,
+            Contents::Mixed => MIXED,
+            Contents::MixedMore => MIXED_MORE,
+            Contents::Marked => MARKED,
+            Contents::PlainName => PLAIN_NAME,
+            Contents::StrangeName => STRANGE_NAME,
+            Contents::AlignedTable => ALIGNED_TABLE,
+            Contents::WithData => WITH_DATA,
+            Contents::WithName => WITH_NAME,
+            Contents::Updating => UPDATING,
+            Contents::EmptyBoot => EMPTY_BOOT,
+            Contents::DamagedBoot => DAMAGED_BOOT,
+            Contents::WholeBoot => WHOLE_BOOT,
+            Contents::AlignedRoot => ALIGNED_ROOT,
+            Contents::NormalNothing => NORMAL_NOTHING,
+            Contents::NormalRoot => NORMAL_ROOT,
+            Contents::NormalFirst => NORMAL_FIRST,
+            Contents::NormalSpare => NORMAL_SPARE,
+            Contents::NormalAlignedRoot => NORMAL_ALIGNED_ROOT,
+            Contents::NormalBoot => NORMAL_BOOT,
+            Contents::NormalDamagedBoot => NORMAL_DAMAGED_BOOT,
+            Contents::NormalUpdating => NORMAL_UPDATING,
+        }
+    }
+
+    /// The bytes.
+    pub fn bytes(&self, alloc: Global) -> Result<Vec<u8>, Fail> {
+        let mut bytes = Vec::new(alloc);
+        match self.parts() {
+            Contents::Pebs(pebs, over) => {
+                put_pebs(&mut bytes, &small()?, pebs)?;
+                for (at, over) in over {
+                    overwrite(bytes.as_mut_slice(), *at, over);
+                }
+            }
+            Contents::Runs(runs) => put_runs(&mut bytes, runs)?,
+            Contents::First(runs, len) => {
+                put_runs(&mut bytes, runs)?;
+                bytes.truncate(len);
+            }
+            _ => return Err("a name of a name".into()),
+        }
+        Ok(bytes)
+    }
+}
+
+/// Writes bytes over others from a place on.
+pub fn overwrite(bytes: &mut [u8], at: usize, over: &[u8]) {
+    for (old, new) in bytes.iter_mut().skip(at).zip(over) {
+        *old = *new;
+    }
+}
+
+static BLANK: Contents = Contents::Runs(&[(b"\xFF", 1536)]);
+
+static ODD: Contents = Contents::Runs(&[(b"\xFF", 511)]);
+
+static ROOT: Contents = Contents::Pebs(&[FIRST, SECOND, A, B, C], &[]);
+
+static SPARE: Contents = Contents::Pebs(&[FIRST, SECOND, A, B, C, FREE], &[]);
+
+static SPARES: Contents = Contents::Pebs(&[FIRST, SECOND, A, B, C, FREE, FREE], &[]);
+
+static FAULTY: Contents = Contents::Pebs(&[FIRST, SECOND, A, B, C], &[(3 * 512, &OTHER_EC)]);
+
+static ROOT_TEXT: Contents = Contents::Runs(&[
+    (b"A", 384),
+    (b"B", 384),
+    (b"C", 384),
+    (b"\xFF", 6528),
+]);
+
+static UNNAMED: Contents = Contents::Pebs(
+    &[FIRST, SECOND, A, B, C],
+    &[(0, &EC), (512, &EC), (1024, &EC), (1536, &EC), (2048, &EC)],
+);
+
+static REVERSED: Contents = Contents::Pebs(
+    &[
+        WORN_C,
+        WORN_B,
+        WORN_A,
+        WORN_SECOND,
+        WORN_FIRST,
+        UNNAMED_EMPTY_D,
+    ],
+    &[],
+);
+
+static RIVALS: Contents = Contents::Pebs(
+    &[FIRST, SECOND, OLD, RIGHT, WRONG_9],
+    &[(0, &EC), (512, &EC), (1024, &EC), (1536, &EC), (2048, &EC)],
+);
+
+static MIXED: Contents = Contents::Pebs(
+    &[
+        FIRST, SECOND, OLD, UNCHECKED, BEYOND, UNLIKE, EMPTY_B, DROPPED, FREE,
+    ],
+    &[
+        (0, &EC),
+        (512, &EC),
+        (1024, &EC),
+        (1536, &EC),
+        (2048, &EC),
+        (2560, &EC),
+        (3072, &EC),
+        (3136, b"u"),
+        (3584, &EC),
+        (4096, &EC),
+        (4096, b"u"),
+    ],
+);
+
+static MIXED_MORE: Contents = Contents::Pebs(
+    &[
+        FIRST,
+        SECOND,
+        OLD,
+        UNCHECKED,
+        BEYOND,
+        UNLIKE,
+        EMPTY_B,
+        DROPPED,
+        FREE,
+        UNREAD_13,
+        UNNAMED_FREE,
+    ],
+    &[
+        (0, &EC),
+        (512, &EC),
+        (1024, &EC),
+        (1536, &EC),
+        (2048, &EC),
+        (2560, &EC),
+        (3072, &EC),
+        (3136, b"u"),
+        (3584, &EC),
+        (4096, &EC),
+        (4096, b"u"),
+    ],
+);
+
+static MARKED: Contents = Contents::Pebs(&[FIRST_MARKED, SECOND_MARKED], &[(0, &EC), (512, &EC)]);
+
+static PLAIN_NAME: Contents = Contents::Pebs(&[FIRST_PLAIN, SECOND_PLAIN], &[(0, &EC), (512, &EC)]);
+
+static STRANGE_NAME: Contents = Contents::Pebs(
+    &[FIRST_STRANGE, SECOND_STRANGE],
+    &[(0, &EC), (512, &EC)],
+);
+
+static ALIGNED_TABLE: Contents = Contents::Pebs(
+    &[FIRST_ALIGNED, SECOND_ALIGNED],
+    &[(0, &EC), (512, &EC)],
+);
+
+static WITH_DATA: Contents = Contents::Pebs(&[FIRST_DATA, SECOND_DATA, A, B, C, FREE, FREE], &[]);
+
+static WITH_NAME: Contents = Contents::Pebs(&[FIRST_NAME, SECOND_NAME, A, B, C, FREE, FREE], &[]);
+
+static UPDATING: Contents = Contents::Pebs(
+    &[
+        FIRST_UPDATING,
+        SECOND_UPDATING,
+        UNCHECKED_0,
+        UNCHECKED_1,
+        UNCHECKED_2,
+        UNCHECKED_3,
+        UNCHECKED_4,
+    ],
+    &[
+        (0, &EC),
+        (512, &EC),
+        (1024, &EC),
+        (1536, &EC),
+        (2048, &EC),
+        (2560, &EC),
+        (3072, &EC),
+    ],
+);
+
+static EMPTY_BOOT: Contents = Contents::Pebs(&[FIRST_BOOT, SECOND_BOOT], &[(0, &EC), (512, &EC)]);
+
+static DAMAGED_BOOT: Contents = Contents::Pebs(
+    &[FIRST_BOOT, SECOND_BOOT, TEXT_0],
+    &[(0, &EC), (512, &EC), (1024, &EC)],
+);
+
+static WHOLE_BOOT: Contents = Contents::Pebs(
+    &[FIRST_BOOT, SECOND_BOOT, TEXT_0, TEXT_1],
+    &[(0, &EC), (512, &EC), (1024, &EC), (1536, &EC)],
+);
+
+static ALIGNED_ROOT: Contents = Contents::Pebs(
+    &[FIRST_ALIGNED, SECOND_ALIGNED, ALIGNED_ZEROED],
+    &[(0, &EC), (512, &EC), (1024, &EC)],
+);
+
+static NORMAL_NOTHING: Contents = Contents::Pebs(&[UNNAMED_FIRST, UNNAMED_SECOND], &[]);
+
+static NORMAL_ROOT: Contents = Contents::Pebs(
+    &[ROOT_FIRST, ROOT_SECOND, NORMAL_A, NORMAL_B, NORMAL_C],
+    &[],
+);
+
+static NORMAL_FIRST: Contents = Contents::Pebs(
+    &[ROOT_FIRST, ROOT_SECOND, NORMAL_7],
+    &[(0, &EC), (512, &EC), (1024, &EC)],
+);
+
+static NORMAL_SPARE: Contents = Contents::Pebs(
+    &[ROOT_FIRST, ROOT_SECOND, NORMAL_AB, NORMAL_FREE],
+    &[],
+);
+
+static NORMAL_ALIGNED_ROOT: Contents = Contents::Pebs(
+    &[ALIGNED_FIRST, ALIGNED_SECOND, NORMAL_ALIGNED],
+    &[(0, &EC), (512, &EC), (1024, &EC)],
+);
+
+static NORMAL_BOOT: Contents = Contents::Pebs(
+    &[BOOT_FIRST, BOOT_SECOND, NORMAL_TEXT_0, NORMAL_TEXT_1],
+    &[(0, &EC), (512, &EC), (1024, &EC), (1536, &EC)],
+);
+
+static NORMAL_DAMAGED_BOOT: Contents = Contents::Pebs(
+    &[BOOT_FIRST, BOOT_SECOND, NORMAL_DAMAGED],
+    &[(0, &EC), (512, &EC), (1024, &EC)],
+);
+
+static NORMAL_UPDATING: Contents = Contents::Pebs(
+    &[UPDATING_FIRST, UPDATING_SECOND],
+    &[(0, &EC), (512, &EC)],
+);

@@ -1,0 +1,65 @@
+//! Lines over real files.
+
+use super::answers::assert_line;
+use super::contents::Contents;
+use std::alloc::Global;
+use std::fs;
+use std::fs::Files;
+use std::os::unix::fs::FileExt;
+use std::process::Abort;
+use std::test::Fail;
+
+/// Files that are there before, lines with what they print and with which status, and files that are there then.
+#[derive(Clone, Copy)]
+pub struct Session {
+    pub before: &'static [(&'static str, Contents)],
+    pub lines: &'static [(&'static str, &'static str, u8)],
+    pub after: &'static [(&'static str, Contents)],
+    /// A path at which there is no file then.
+    pub absent: &'static str,
+}
+
+/// Writes files.
+fn write_files(rt: &impl Files, alloc: Global, files: &[(&str, Contents)]) -> Result<(), Fail> {
+    for (path, contents) in files {
+        fs::write(rt, path, contents.bytes(alloc)?.as_slice())?;
+    }
+    Ok(())
+}
+
+/// Removes files, where they are there.
+fn remove_files(rt: &impl Files, files: &[(&str, Contents)]) {
+    for (path, _) in files {
+        let _ = fs::remove_file(rt, path);
+    }
+}
+
+/// Whether files hold what they should.
+fn hold<R: Files + Alloc>(rt: &R, alloc: Global, files: &[(&str, Contents)]) -> Result<bool, Fail> {
+    let mut hold = true;
+    for (path, contents) in files {
+        let want = contents.bytes(alloc)?;
+        hold = hold && fs::read(rt, path)?.as_slice() == want.as_slice();
+    }
+    Ok(hold)
+}
+
+/// Asserts what each line of a session prints, and which files are there then.
+pub fn assert_session<R: Files + Alloc + Eprint + Abort>(
+    rt: &R,
+    alloc: Global,
+    session: &Session,
+) -> Result<(), Fail>
+where
+    R::File: FileExt,
+{
+    write_files(rt, alloc, session.before)?;
+    for (line, text, status) in session.lines {
+        assert_line(rt, alloc, line, (text, *status))?;
+    }
+    let hold = hold(rt, alloc, session.after)? && !fs::exists(rt, session.absent)?;
+    assert!(*rt; hold, "where {} isn't there", session.absent);
+    remove_files(rt, session.before);
+    remove_files(rt, session.after);
+    Ok(())
+}
