@@ -1,0 +1,59 @@
+#!/usr/bin/env python3
+"""Measures `./ubi_tool change` and `rename`, file to file, against `cp` of the same file.
+
+usage: editing.py [--dir FOLDER] [--blocks N]
+
+The image is the dynamic one of normalise.py with N eraseblocks (1,024, which is 128 MiB) of 128 KiB, of which the last two are
+free. One page of a logical eraseblock is changed, and the volume renamed; each writes the whole image with its steps done. The
+files lie in a new folder below FOLDER (/tmp where it is left out), which is removed again. The program is built first where it
+isn't yet.
+
+It prints the seconds of each, as they pass and of the processor (user and system), the least of five runs, each into a new
+file, and the peak of memory, which needs GNU time. It ends with status 1 where one takes more than twice as long as `cp` as
+it passes, or more than 8 MiB.
+"""
+import os
+import shutil
+import sys
+import tempfile
+
+from image import IMAGE_SEQ, counter_header
+from normalise import PAGE, PEB, ROOM, built_tool, eraseblocks, measure, options
+
+MOST = 2
+
+
+def put_files(image, new, count):
+    """Writes the image with its two free eraseblocks, and the file with a page of new bytes."""
+    with open(image, "wb") as it:
+        it.writelines(eraseblocks("dynamic", count - 2))
+        it.write(counter_header(7, PAGE, 2 * PAGE, IMAGE_SEQ).ljust(PEB, b"\xFF") * 2)
+    with open(new, "wb") as it:
+        it.write(b"n" * PAGE)
+
+
+def main():
+    place, count = options(__doc__, "--blocks", 1024)
+    tool = built_tool()
+    sizes = ["--peb", str(PEB), "--page", str(PAGE)]
+    folder = tempfile.mkdtemp(dir=place)
+    print(f"{count} eraseblocks of {PEB} bytes      passed   of the processor   MiB at the peak")
+    try:
+        image, new, out = (os.path.join(folder, name) for name in ("in.img", "new.bin", "out.img"))
+        put_files(image, new, count)
+        runs = {
+            "cp": ["cp", image, out],
+            "change": [tool, "change", image, "--id", "0", "--lnum", "0", "--from", new, "--out", out, *sizes],
+            "rename": [tool, "rename", image, "--id", "0", "--name", "other", "--out", out, *sizes],
+        }
+        ran = {name: measure(words, out) for name, words in runs.items()}
+    finally:
+        shutil.rmtree(folder)
+    for name, (passed, used, most) in ran.items():
+        print(f"{name:<38} {passed:>7.2f}   {used:>16.2f}   {most:>15.1f}")
+    above = any(ran[name][0] > MOST * ran["cp"][0] or ran[name][2] > ROOM for name in ("change", "rename"))
+    sys.exit(1 if above else 0)
+
+
+if __name__ == "__main__":
+    main()
