@@ -11,6 +11,7 @@ use crate::outcome::Outcome;
 use crate::readers::{Checking, Listing, Reading, Showing};
 use crate::same::{run_same, run_same_from};
 use std::alloc::Global;
+use std::process::Abort;
 use std::test::Fail;
 use ubi_compose::normalise_to;
 use ubi_scan::{BlockSource, MemorySource, SourceFault, StreamError};
@@ -169,18 +170,27 @@ fn are_answered(alloc: Global, first: &[u8], then: &[u8], left: u64) -> Result<b
     )
 }
 
-/// No eraseblock is read more than 7 times, so that the last numbers of reads are those of sources that don't change.
+/// Asserts it after each number of reads. No eraseblock is read more than 7 times, so that the last numbers are those of
+/// sources that don't change.
+fn assert_answered(
+    rt: &impl Abort,
+    alloc: Global,
+    (first, then): (&[u8], &[u8]),
+) -> Result<(), Fail> {
+    for left in 0..50 {
+        let is = are_answered(alloc, first, then, left)?;
+        assert!(*rt; is, "after {left} reads");
+    }
+    Ok(())
+}
+
 #[test]
 fn answers_of_a_source_that_changes(rt: HostRuntime) -> Result<(), Fail> {
     let alloc = rt.alloc();
     for (first, then) in &CHANGES {
         let first = Contents::Pebs(first, &[]).bytes(alloc)?;
         let then = Contents::Pebs(then, &[]).bytes(alloc)?;
-        let (first, then) = (first.as_slice(), then.as_slice());
-        for left in 0..50 {
-            let is = are_answered(alloc, first, then, left)?;
-            assert!(rt; is, "after {left} reads");
-        }
+        assert_answered(&rt, alloc, (first.as_slice(), then.as_slice()))?;
     }
     Ok(())
 }
