@@ -110,23 +110,34 @@ fn composed(alloc: Global, geometry: &Geometry, image_seq: u32) -> Result<Vec<u8
     Ok(compose(alloc, &meaning, 1).map_err(|_| "not composed")?)
 }
 
+/// Whether an image is normalised to some bytes, which mean the same as it, and others don't.
+fn is_normalised(
+    alloc: Global,
+    geometry: &Geometry,
+    (image, normal, other): (&[u8], &[u8], &[u8]),
+) -> Result<bool, Fail> {
+    let mut source = MemorySource::new(image);
+    let mut writer = ProbeWriter::new(alloc, 1 << 20, 1 << 20, Failure::Nothing)?;
+    let answer = normalise_to(alloc, geometry, &mut source, &mut writer);
+    Ok(
+        answer == Ok(normal.len() as u64)
+            && writer.taken() == normal
+            && same(alloc, geometry, image, normal) == Ok(true)
+            && same(alloc, geometry, image, other) == Ok(false),
+    )
+}
+
 #[test]
 fn composes_normalises_and_compares(rt: HostRuntime) -> Result<(), Fail> {
     let alloc = rt.alloc();
     for chip in &CHIPS {
         let geometry = Geometry::new(131_072, 2048, chip.vid, chip.data, 1024)?;
-        let want = bytes_of(alloc, chip.image)?;
-        let normal = want.as_slice().get(..393_216).ok_or("short")?;
         let image = composed(alloc, &geometry, 0x1234_5678)?;
+        let (want, unnamed) = (bytes_of(alloc, chip.image)?, composed(alloc, &geometry, 0)?);
         assert!(rt; image == want);
-        let mut source = MemorySource::new(image.as_slice());
-        let mut writer = ProbeWriter::new(alloc, 1 << 20, 1 << 20, Failure::Nothing)?;
-        let count = normalise_to(alloc, &geometry, &mut source, &mut writer)?;
-        assert!(rt; count == 393_216 && writer.taken() == normal);
-        assert!(rt; same(alloc, &geometry, image.as_slice(), normal) == Ok(true));
-        let unnamed = composed(alloc, &geometry, 0)?;
-        let answer = same(alloc, &geometry, image.as_slice(), unnamed.as_slice());
-        assert!(rt; answer == Ok(false));
+        let normal = want.as_slice().get(..393_216).unwrap_or(&[]);
+        let images = (image.as_slice(), normal, unnamed.as_slice());
+        assert!(rt; is_normalised(alloc, &geometry, images)?);
     }
     Ok(())
 }

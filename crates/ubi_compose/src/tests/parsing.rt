@@ -155,34 +155,56 @@ fn one_leb(alloc: Global) -> Result<Content, Fail> {
     Ok(Content::Dynamic(lebs))
 }
 
-/// Whether a volume of a text has a number, a record and a content.
-fn is_given(
-    volume: Option<&(u32, Volume)>,
-    id: u32,
-    entry: VolumeRecord,
-    content: Content,
-) -> bool {
-    volume == Some(&(id, Volume { entry, content }))
+/// The volumes of the text.
+fn four(alloc: Global) -> Result<[(u32, Volume); 4], Fail> {
+    let text = Content::Static(Bytes::new(Vec::from_slice(alloc, b"abc")?));
+    let map = one_leb(alloc)?;
+    let half = VolumeRecord {
+        marker: true,
+        ..record(VolKind::Dynamic, b"half")?
+    };
+    let (first, second) = (
+        record(VolKind::Static, b"text")?,
+        record(VolKind::Dynamic, b"map")?,
+    );
+    let fourth = record(VolKind::Static, b"torn")?;
+    Ok([
+        (
+            7,
+            Volume {
+                entry: first,
+                content: text,
+            },
+        ),
+        (
+            2,
+            Volume {
+                entry: second,
+                content: map,
+            },
+        ),
+        (
+            3,
+            Volume {
+                entry: half,
+                content: Content::Updating,
+            },
+        ),
+        (
+            0,
+            Volume {
+                entry: fourth,
+                content: Content::Damaged,
+            },
+        ),
+    ])
 }
 
 #[test]
 fn gives_the_volumes_of_a_text(rt: HostRuntime) -> Result<(), Fail> {
-    let alloc = rt.alloc();
-    let volumes = parse_spec(alloc, &small()?, FOUR).map_err(|_| "not read")?;
-    let volumes = volumes.as_slice();
-    let text = Content::Static(Bytes::new(Vec::from_slice(alloc, b"abc")?));
-    let first = record(VolKind::Static, b"text")?;
-    assert!(rt; is_given(volumes.first(), 7, first, text));
-    let second = record(VolKind::Dynamic, b"map")?;
-    assert!(rt; is_given(volumes.get(1), 2, second, one_leb(alloc)?));
-    let third = VolumeRecord {
-        marker: true,
-        ..record(VolKind::Dynamic, b"half")?
-    };
-    assert!(rt; is_given(volumes.get(2), 3, third, Content::Updating));
-    let fourth = record(VolKind::Static, b"torn")?;
-    assert!(rt; is_given(volumes.get(3), 0, fourth, Content::Damaged));
-    assert!(rt; volumes.len() == 4);
+    let want = four(rt.alloc())?;
+    let volumes = parse_spec(rt.alloc(), &small()?, FOUR).map_err(|_| "not read")?;
+    assert!(rt; volumes.as_slice() == want.as_slice());
     Ok(())
 }
 

@@ -112,17 +112,25 @@ fn tells_which_read_failed(rt: HostRuntime) -> Result<(), Fail> {
     Ok(())
 }
 
+/// Whether an image is normalised to some bytes, and so much is read for it.
+fn is_read(alloc: Global, image: &[u8], want: &[u8]) -> Result<bool, Fail> {
+    let mut source = ProbeSource::new(alloc, &small()?, image, 0)?;
+    let mut writer = ProbeWriter::new(alloc, 4096, 4096, Failure::Nothing)?;
+    let answer = normalise_to(alloc, &small()?, &mut source, &mut writer);
+    let reads = (
+        source.reads(2),
+        source.data_reads(2),
+        source.reads(3),
+        source.crossing(),
+    );
+    Ok(answer == Ok(2048) && writer.taken() == want && reads == (7, 2, 1, 0))
+}
+
 /// Each eraseblock is read 7 times at most: once more than to attach it, if it is a winner.
 #[test]
 fn reads_each_piece_once_more(rt: HostRuntime) -> Result<(), Fail> {
-    let alloc = rt.alloc();
-    let image = Image::CopiedPieces.bytes(alloc)?;
-    let want = Image::NormalPieces.bytes(alloc)?;
-    let mut source = ProbeSource::new(alloc, &small()?, image.as_slice(), 0)?;
-    let mut writer = ProbeWriter::new(alloc, 4096, 4096, Failure::Nothing)?;
-    assert!(rt; normalise_to(alloc, &small()?, &mut source, &mut writer)? == 2048);
-    assert!(rt; writer.taken() == want.as_slice());
-    assert!(rt; source.reads(2) == 7 && source.data_reads(2) == 2);
-    assert!(rt; source.reads(3) == 1 && source.crossing() == 0);
+    let image = Image::CopiedPieces.bytes(rt.alloc())?;
+    let want = Image::NormalPieces.bytes(rt.alloc())?;
+    assert!(rt; is_read(rt.alloc(), image.as_slice(), want.as_slice())?);
     Ok(())
 }

@@ -111,6 +111,19 @@ pub fn assert_over(
     Ok(())
 }
 
+/// Asserts it over files that are read at places, and over those that can't be.
+pub fn assert_both(
+    rt: &impl Abort,
+    alloc: Global,
+    files: (&[u8], &[u8]),
+    line: &str,
+    answer: (&str, u8),
+    output: &[u8],
+) -> Result<(), Fail> {
+    assert_over(rt, alloc, files, Broken::Nothing, line, answer, output)?;
+    assert_over(rt, alloc, files, Broken::Places, line, answer, output)
+}
+
 /// A line over files that each hold an image, but `new.bin`, which holds other bytes.
 #[derive(Clone, Copy)]
 pub struct Run {
@@ -123,22 +136,13 @@ pub struct Run {
     pub output: Contents,
 }
 
-/// Asserts what each run answers and writes, over files that are read at places and over those that can't be.
+/// Asserts what each run answers and writes.
 pub fn assert_runs(rt: &impl Abort, alloc: Global, runs: &[Run]) -> Result<(), Fail> {
     for run in runs {
         let (image, new) = (run.image.bytes(alloc)?, run.new.bytes(alloc)?);
         let output = run.output.bytes(alloc)?;
-        for broken in [Broken::Nothing, Broken::Places] {
-            assert_over(
-                rt,
-                alloc,
-                (image.as_slice(), new.as_slice()),
-                broken,
-                run.line,
-                run.answer,
-                output.as_slice(),
-            )?;
-        }
+        let (files, output) = ((image.as_slice(), new.as_slice()), output.as_slice());
+        assert_both(rt, alloc, files, run.line, run.answer, output)?;
     }
     Ok(())
 }

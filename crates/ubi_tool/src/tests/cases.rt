@@ -135,12 +135,16 @@ pub fn is_given(alloc: Global, image: &[u8], line: (&str, u8), want: &[u8]) -> R
 
 /// Whether an image is answered and written as it should, from each sort of source, and what was written is normalised
 /// to itself. The file is that of a path.
-fn is_case<R: Files>(rt: &R, alloc: Global, path: &str, case: &Case) -> Result<bool, Fail>
+fn is_everywhere<R: Files>(
+    rt: &R,
+    alloc: Global,
+    path: &str,
+    case: &Case,
+    (image, want): (&[u8], &[u8]),
+) -> Result<bool, Fail>
 where
     R::File: FileExt,
 {
-    let (image, want) = (case.image().bytes(alloc)?, case.normal().bytes(alloc)?);
-    let (image, want) = (image.as_slice(), want.as_slice());
     Ok(
         case.is_read_little(alloc, image, want)?
             && case.is_checked(alloc, image)?
@@ -161,7 +165,9 @@ where
     R::File: FileExt,
 {
     for case in cases {
-        assert!(*rt; is_case(rt, alloc, path, case)?, "{}", case.what);
+        let (image, want) = (case.image().bytes(alloc)?, case.normal().bytes(alloc)?);
+        let is = is_everywhere(rt, alloc, path, case, (image.as_slice(), want.as_slice()))?;
+        assert!(*rt; is, "{}", case.what);
     }
     Ok(())
 }

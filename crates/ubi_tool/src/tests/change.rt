@@ -9,6 +9,8 @@ use super::pebs::{
     WRONG_9,
 };
 use super::plans::{Plan, Reading, assert_plans};
+use std::alloc::Global;
+use std::process::Abort;
 use std::test::Fail;
 
 /// Logical eraseblock 1 of `root` is changed by two pages.
@@ -457,28 +459,33 @@ static REFUSED: [Refused; 16] = [
     },
 ];
 
+/// Asserts that a change isn't planned, whether or not it is to be cut.
+fn assert_refused(
+    rt: &impl Abort,
+    alloc: Global,
+    files: (&[u8], &[u8]),
+    case: &Refused,
+) -> Result<(), Fail> {
+    let words = format!(in alloc; "change a.img {} --from new.bin --out b.img", case.place)?;
+    let cut = format!(in alloc; "{words} --stop 0")?;
+    let answer = (case.line, 1);
+    assert_over(
+        rt,
+        alloc,
+        files,
+        Broken::Nothing,
+        words.as_str(),
+        answer,
+        &[],
+    )?;
+    assert_over(rt, alloc, files, Broken::Nothing, cut.as_str(), answer, &[])
+}
+
 #[test]
 fn refuses_changes(rt: HostRuntime) -> Result<(), Fail> {
-    let alloc = rt.alloc();
     for case in &REFUSED {
-        let (image, new) = (case.image.bytes(alloc)?, case.new.bytes(alloc)?);
-        for stop in ["", " --stop 0"] {
-            let line = format!(in alloc;
-                "change a.img {} --from new.bin --out b.img{stop}",
-                case.place
-            )?;
-            let files = (image.as_slice(), new.as_slice());
-            let answer = (case.line, 1);
-            assert_over(
-                &rt,
-                alloc,
-                files,
-                Broken::Nothing,
-                line.as_str(),
-                answer,
-                &[],
-            )?;
-        }
+        let (image, new) = (case.image.bytes(rt.alloc())?, case.new.bytes(rt.alloc())?);
+        assert_refused(&rt, rt.alloc(), (image.as_slice(), new.as_slice()), case)?;
     }
     Ok(())
 }

@@ -13,6 +13,7 @@ use crate::readers::{Checking, Listing, Reading, Showing};
 use crate::rename::{run_rename, run_rename_from};
 use crate::same::{run_same, run_same_from};
 use std::alloc::Global;
+use std::process::Abort;
 use std::test::Fail;
 use ubi_compose::normalise_to;
 use ubi_scan::{BlockSource, MemorySource, SourceFault, StreamError};
@@ -237,33 +238,52 @@ static EDITED: [(&[Peb], &[Peb]); 4] = [
     ),
 ];
 
-/// No eraseblock is read more than 12 times, so that the last number of reads is that of sources that don't change.
-#[test]
-fn edits_a_source_that_changes(rt: HostRuntime) -> Result<(), Fail> {
-    let alloc = rt.alloc();
-    for (index, (first, then)) in EDITED.iter().enumerate() {
-        let first = Contents::Pebs(first, &[]).bytes(alloc)?;
-        let then = Contents::Pebs(then, &[]).bytes(alloc)?;
-        for left in 0..100 {
-            let is_right = is_edited(alloc, first.as_slice(), then.as_slice(), left)?;
-            assert!(rt; is_right, "case {index}, after {left} reads");
-        }
+/// Asserts it after each number of reads. No eraseblock is read more than 12 times, so that the last number is that of
+/// sources that don't change.
+fn assert_edited(
+    rt: &impl Abort,
+    alloc: Global,
+    (first, then): (&[u8], &[u8]),
+) -> Result<(), Fail> {
+    for left in 0..100 {
+        let is = is_edited(alloc, first, then, left)?;
+        assert!(*rt; is, "after {left} reads");
     }
     Ok(())
 }
 
-/// No eraseblock is read more than 7 times, so that the last numbers of reads are those of sources that don't change.
+#[test]
+fn edits_a_source_that_changes(rt: HostRuntime) -> Result<(), Fail> {
+    let alloc = rt.alloc();
+    for (first, then) in &EDITED {
+        let first = Contents::Pebs(first, &[]).bytes(alloc)?;
+        let then = Contents::Pebs(then, &[]).bytes(alloc)?;
+        assert_edited(&rt, alloc, (first.as_slice(), then.as_slice()))?;
+    }
+    Ok(())
+}
+
+/// Asserts it after each number of reads. No eraseblock is read more than 7 times, so that the last numbers are those of
+/// sources that don't change.
+fn assert_answered(
+    rt: &impl Abort,
+    alloc: Global,
+    (first, then): (&[u8], &[u8]),
+) -> Result<(), Fail> {
+    for left in 0..50 {
+        let is = are_answered(alloc, first, then, left)?;
+        assert!(*rt; is, "after {left} reads");
+    }
+    Ok(())
+}
+
 #[test]
 fn answers_of_a_source_that_changes(rt: HostRuntime) -> Result<(), Fail> {
     let alloc = rt.alloc();
     for (first, then) in &CHANGES {
         let first = Contents::Pebs(first, &[]).bytes(alloc)?;
         let then = Contents::Pebs(then, &[]).bytes(alloc)?;
-        let (first, then) = (first.as_slice(), then.as_slice());
-        for left in 0..50 {
-            let is = are_answered(alloc, first, then, left)?;
-            assert!(rt; is, "after {left} reads");
-        }
+        assert_answered(&rt, alloc, (first.as_slice(), then.as_slice()))?;
     }
     Ok(())
 }

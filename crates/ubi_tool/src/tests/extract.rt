@@ -1,8 +1,7 @@
 //! The command `extract`.
 
-use super::answers::{assert_over, small};
+use super::answers::{assert_both, small};
 use super::contents::{Contents, EMPTY};
-use super::fake::Broken;
 use crate::extract::run_extract;
 use crate::outcome::ToolError;
 use std::alloc::Global;
@@ -38,7 +37,6 @@ static EXTRACTED: [(Contents, u32, (&str, u8), Contents); 9] = [
     ),
 ];
 
-/// Files are read at places, and whole where they have none.
 #[test]
 fn extracts_volumes(rt: HostRuntime) -> Result<(), Fail> {
     let alloc = rt.alloc();
@@ -46,9 +44,7 @@ fn extracts_volumes(rt: HostRuntime) -> Result<(), Fail> {
         let (image, output) = (image.bytes(alloc)?, output.bytes(alloc)?);
         let line = format!(in alloc; "extract a.img --id {id} --out b.img")?;
         let (files, line) = ((image.as_slice(), image.as_slice()), line.as_str());
-        for broken in [Broken::Nothing, Broken::Places] {
-            assert_over(&rt, alloc, files, broken, line, *answer, output.as_slice())?;
-        }
+        assert_both(&rt, alloc, files, line, *answer, output.as_slice())?;
     }
     Ok(())
 }

@@ -292,15 +292,27 @@ static ONTO: [Failing; 4] = [
     },
 ];
 
-/// Asserts what is answered and written in each way. `new.bin` holds 64 bytes 0x61.
+/// Asserts what is answered and written in each way.
+fn assert_ways(
+    rt: &impl Abort,
+    alloc: Global,
+    files: (&[u8], &[u8]),
+    case: &Failing,
+    output: &[u8],
+) -> Result<(), Fail> {
+    for (broken, answer, count) in case.ways {
+        let written = output.get(..*count).ok_or("short")?;
+        assert_over(rt, alloc, files, *broken, case.line, *answer, written)?;
+    }
+    Ok(())
+}
+
+/// The same of some lines. `new.bin` holds 64 bytes 0x61.
 fn assert_failing(rt: &impl Abort, alloc: Global, failing: &[Failing]) -> Result<(), Fail> {
     for case in failing {
         let (image, output) = (case.image.bytes(alloc)?, case.output.bytes(alloc)?);
         let files: (&[u8], &[u8]) = (image.as_slice(), &[0x61; 64]);
-        for (broken, answer, count) in case.ways {
-            let written = output.as_slice().get(..*count).ok_or("short")?;
-            assert_over(rt, alloc, files, *broken, case.line, *answer, written)?;
-        }
+        assert_ways(rt, alloc, files, case, output.as_slice())?;
     }
     Ok(())
 }

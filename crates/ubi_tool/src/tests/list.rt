@@ -1,8 +1,7 @@
 //! The command `list`.
 
-use super::answers::assert_over;
+use super::answers::assert_both;
 use super::contents::Contents;
-use super::fake::Broken;
 use super::headers::EC;
 use super::pebs::{
     A, A_BEYOND, B, C, EMPTY_D, FIRST, FIRST_UPDATING, Peb, SECOND, SECOND_UPDATING, STATIC_A,
@@ -111,30 +110,20 @@ static OTHERS: [(Contents, &str, (&str, u8)); 3] = [
     (UNLIKE, "list a.img", ("refused V1 Mismatch block=2\n", 1)),
 ];
 
-/// Files are read at places, and whole where they have none.
 #[test]
 fn lists_volumes(rt: HostRuntime) -> Result<(), Fail> {
     let alloc = rt.alloc();
-    for broken in [Broken::Nothing, Broken::Places] {
-        for (image, volume) in &VOLUMES {
-            let image = image.bytes(alloc)?;
-            let sizes = "geometry peb=512 page=64 vid=64 data=128 leb=384 slots=2 pebs=32";
-            let text = format!(in alloc; "{sizes}\nvolume 0 {volume}\nvolumes 1\n")?;
-            let (image, answer) = (image.as_slice(), (text.as_str(), 0));
-            assert_over(&rt, alloc, (image, &[]), broken, "list a.img", answer, &[])?;
-        }
-        for (image, line, answer) in &OTHERS {
-            let image = image.bytes(alloc)?;
-            assert_over(
-                &rt,
-                alloc,
-                (image.as_slice(), &[]),
-                broken,
-                line,
-                *answer,
-                &[],
-            )?;
-        }
+    for (image, volume) in &VOLUMES {
+        let image = image.bytes(alloc)?;
+        let sizes = "geometry peb=512 page=64 vid=64 data=128 leb=384 slots=2 pebs=32";
+        let text = format!(in alloc; "{sizes}\nvolume 0 {volume}\nvolumes 1\n")?;
+        let (files, answer) = ((image.as_slice(), image.as_slice()), (text.as_str(), 0));
+        assert_both(&rt, alloc, files, "list a.img", answer, &[])?;
+    }
+    for (image, line, answer) in &OTHERS {
+        let image = image.bytes(alloc)?;
+        let files = (image.as_slice(), image.as_slice());
+        assert_both(&rt, alloc, files, line, *answer, &[])?;
     }
     Ok(())
 }

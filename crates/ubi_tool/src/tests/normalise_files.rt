@@ -50,36 +50,33 @@ fn is_run<S: BlockSource>(
 }
 
 /// Whether a read that fails is told with its eraseblock and the bytes that were written, and these are the first ones.
-fn is_told(
-    alloc: Global,
-    (image, want): (&[u8], &[u8]),
-    at: u64,
-    p: u32,
-    count: usize,
-) -> Result<bool, Fail> {
-    let written = want.get(..count).ok_or("short")?;
-    let mut source = ProbeSource::new(alloc, &small()?, image, at)?;
+fn is_told(alloc: Global, image: &[u8], at: u64, p: u32, written: &[u8]) -> Result<bool, Fail> {
+    let geometry = small()?;
+    let mut source = ProbeSource::new(alloc, &geometry, image, at)?;
     let mut writer = ProbeWriter::new(alloc, 4096, 4096, Failure::Nothing)?;
-    let answer = normalise_to(alloc, &small()?, &mut source, &mut writer);
-    let is_read = answer == Err(StreamError::Read(p, count as u64)) && writer.taken() == written;
-    let mut source = ProbeSource::new(alloc, &small()?, image, at)?;
-    Ok(is_read && is_run(alloc, &mut source, Err(ToolError::Read), written)?)
+    let answer = normalise_to(alloc, &geometry, &mut source, &mut writer);
+    let count = written.len() as u64;
+    Ok(answer == Err(StreamError::Read(p, count)) && writer.taken() == written)
+}
+
+/// Asserts what is answered and written of an image whose reads fail in turn, up to one more than there are.
+fn assert_reads(rt: &impl Abort, alloc: Global, (image, want): (&[u8], &[u8])) -> Result<(), Fail> {
+    for (at, p, count) in READS {
+        let written = want.get(..count).ok_or("short")?;
+        let mut source = ProbeSource::new(alloc, &small()?, image, at)?;
+        let is = is_run(alloc, &mut source, Err(ToolError::Read), written)?;
+        assert!(*rt; is && is_told(alloc, image, at, p, written)?, "read {at}");
+    }
+    let mut source = ProbeSource::new(alloc, &small()?, image, 10)?;
+    assert!(*rt; is_run(alloc, &mut source, Ok(b"blocks 5\n"), want)?);
+    Ok(())
 }
 
 #[test]
 fn tells_of_a_read_that_fails(rt: HostRuntime) -> Result<(), Fail> {
-    let alloc = rt.alloc();
-    let (image, want) = (
-        Contents::Root.bytes(alloc)?,
-        Contents::NormalRoot.bytes(alloc)?,
-    );
-    let (image, want) = (image.as_slice(), want.as_slice());
-    for (at, p, count) in READS {
-        assert!(rt; is_told(alloc, (image, want), at, p, count)?, "read {at}");
-    }
-    let mut source = ProbeSource::new(alloc, &small()?, image, 10)?;
-    assert!(rt; is_run(alloc, &mut source, Ok(b"blocks 5\n"), want)?);
-    Ok(())
+    let image = Contents::Root.bytes(rt.alloc())?;
+    let want = Contents::NormalRoot.bytes(rt.alloc())?;
+    assert_reads(&rt, rt.alloc(), (image.as_slice(), want.as_slice()))
 }
 
 /// Whether a writer that takes so many bytes at once and fails once it has so many is told with their number, and has
@@ -163,15 +160,29 @@ fn tells_of_a_write_that_fails(rt: HostRuntime) -> Result<(), Fail> {
     Ok(())
 }
 
+/// Asserts what is answered and written of a file, and once it was cut short while it is open.
+fn assert_cut<R: Files + Abort>(
+    rt: &R,
+    alloc: Global,
+    image: &[u8],
+    want: &[u8],
+) -> Result<(), Fail>
+where
+    R::File: FileExt,
+{
+    fs::write(rt, "cut.img", image)?;
+    let mut source = FileSource::open(rt, "cut.img")?;
+    assert!(*rt; is_run(alloc, &mut source, Ok(b"blocks 5\n"), want)?);
+    fs::write(rt, "cut.img", [0xFF; 1024].as_slice())?;
+    assert!(*rt; is_run(alloc, &mut source, Err(ToolError::Read), &[])?);
+    Ok(())
+}
+
 #[test]
 fn tells_of_a_file_that_is_cut_short(rt: HostRuntime) -> Result<(), Fail> {
-    let alloc = rt.alloc();
-    let want = Contents::NormalRoot.bytes(alloc)?;
-    fs::write(&rt, "cut.img", Contents::Root.bytes(alloc)?.as_slice())?;
-    let mut source = FileSource::open(&rt, "cut.img")?;
-    assert!(rt; is_run(alloc, &mut source, Ok(b"blocks 5\n"), want.as_slice())?);
-    fs::write(&rt, "cut.img", [0xFF; 1024].as_slice())?;
-    assert!(rt; is_run(alloc, &mut source, Err(ToolError::Read), &[])?);
+    let image = Contents::Root.bytes(rt.alloc())?;
+    let want = Contents::NormalRoot.bytes(rt.alloc())?;
+    assert_cut(&rt, rt.alloc(), image.as_slice(), want.as_slice())?;
     fs::remove_file(&rt, "cut.img")?;
     Ok(())
 }
@@ -184,35 +195,35 @@ static ONTO: [&str; 4] = [
     "normalise onto_itself.img --out pointing.img",
 ];
 
-/// What a file holds once a line over it has answered.
-fn after_line<R: Files + Alloc + Eprint + Abort>(
+/// Asserts that each line answers, and what the image holds then.
+fn assert_onto<R: Files + Alloc + Eprint + Abort>(
     rt: &R,
     alloc: Global,
     image: &[u8],
-    line: &str,
-) -> Result<Vec<u8, R::A>, Fail>
+    want: &[u8],
+) -> Result<(), Fail>
 where
     R::File: FileExt,
 {
-    fs::write(rt, "onto_itself.img", image)?;
-    assert_line(rt, alloc, line, ("blocks 5\n", 0))?;
-    Ok(fs::read(rt, "onto_itself.img")?)
+    for line in ONTO {
+        fs::write(rt, "onto_itself.img", image)?;
+        assert_line(rt, alloc, line, ("blocks 5\n", 0))?;
+        assert!(*rt;
+            fs::read(rt, "onto_itself.img")?.as_slice() == want,
+            "of {line}"
+        );
+    }
+    Ok(())
 }
 
 #[test]
 fn normalises_a_file_onto_itself(rt: HostRuntime) -> Result<(), Fail> {
-    let alloc = rt.alloc();
-    let (image, want) = (
-        Contents::Root.bytes(alloc)?,
-        Contents::NormalRoot.bytes(alloc)?,
-    );
-    fs::write(&rt, "onto_itself.img", image.as_slice())?;
+    fs::write(&rt, "onto_itself.img", b"".as_slice())?;
     fs::hard_link(&rt, "onto_itself.img", "linked.img")?;
     symlink(&rt, "onto_itself.img", "pointing.img")?;
-    for line in ONTO {
-        let after = after_line(&rt, alloc, image.as_slice(), line)?;
-        assert!(rt; after.as_slice() == want.as_slice(), "of {line}");
-    }
+    let image = Contents::Root.bytes(rt.alloc())?;
+    let want = Contents::NormalRoot.bytes(rt.alloc())?;
+    assert_onto(&rt, rt.alloc(), image.as_slice(), want.as_slice())?;
     for path in ["onto_itself.img", "linked.img", "pointing.img"] {
         fs::remove_file(&rt, path)?;
     }
@@ -221,15 +232,18 @@ fn normalises_a_file_onto_itself(rt: HostRuntime) -> Result<(), Fail> {
 
 #[test]
 fn normalises_what_a_pipe_gives(rt: HostRuntime) -> Result<(), Fail> {
-    let alloc = rt.alloc();
-    let want = Contents::NormalNothing.bytes(alloc)?;
     let (reader, mut writer) = io::pipe(&rt)?;
     writer.write_all(&[0xFF; 1536])?;
     drop(writer);
     let end = reader.as_raw_fd();
-    let line = format!(in alloc; "normalise /proc/self/fd/{end} --out piped.img")?;
-    assert_line(&rt, alloc, line.as_str(), ("blocks 2\n", 0))?;
-    assert!(rt; fs::read(&rt, "piped.img")?.as_slice() == want.as_slice());
+    let line = format!(in rt.alloc(); "normalise /proc/self/fd/{end} --out piped.img")?;
+    assert_line(&rt, rt.alloc(), line.as_str(), ("blocks 2\n", 0))?;
+    drop(reader);
+    let (piped, want) = (
+        fs::read(&rt, "piped.img")?,
+        Contents::NormalNothing.bytes(rt.alloc())?,
+    );
+    assert!(rt; piped.as_slice() == want.as_slice());
     fs::remove_file(&rt, "piped.img")?;
     Ok(())
 }

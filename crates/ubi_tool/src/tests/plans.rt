@@ -126,14 +126,16 @@ impl Plan {
         Ok(is_told)
     }
 
-    /// Asserts all of it.
-    fn assert_done(&self, rt: &impl Abort, alloc: Global) -> Result<(), Fail> {
-        let (image, new) = (self.image.bytes(alloc)?, self.new.bytes(alloc)?);
-        let files = (image.as_slice(), new.as_slice());
-        let all = self.cut(alloc, files, None)?;
-        let all = all.as_slice();
-        let is = self.ends(alloc, files, all)? && self.is_told(alloc, all)?;
-        assert!(*rt; is && self.has_steps(alloc, files)?, "of {}", self.line);
+    /// Asserts what each cut means, and where the steps end. The files are those of the plan, and all is what it ends with.
+    fn assert_cuts(
+        &self,
+        rt: &impl Abort,
+        alloc: Global,
+        files: (&[u8], &[u8]),
+        all: &[u8],
+    ) -> Result<(), Fail> {
+        let ends = self.ends(alloc, files, all)? && self.is_told(alloc, all)?;
+        assert!(*rt; ends && self.has_steps(alloc, files)?, "of {}", self.line);
         for stop in 0..self.count.saturating_add(1) {
             let turns = self.turns(alloc, files, all, stop)?;
             assert!(*rt; turns, "of {}, after {stop} steps", self.line);
@@ -145,7 +147,10 @@ impl Plan {
 /// Asserts all of some plans.
 pub fn assert_plans(rt: &impl Abort, alloc: Global, plans: &[Plan]) -> Result<(), Fail> {
     for plan in plans {
-        plan.assert_done(rt, alloc)?;
+        let (image, new) = (plan.image.bytes(alloc)?, plan.new.bytes(alloc)?);
+        let files = (image.as_slice(), new.as_slice());
+        let all = plan.cut(alloc, files, None)?;
+        plan.assert_cuts(rt, alloc, files, all.as_slice())?;
     }
     Ok(())
 }

@@ -1,8 +1,7 @@
 //! The command `same`.
 
-use super::answers::{assert_over, small};
+use super::answers::{assert_both, small};
 use super::contents::Contents;
-use super::fake::Broken;
 use crate::outcome::SidesError;
 use crate::same::run_same_from;
 use std::alloc::Global;
@@ -49,7 +48,7 @@ static REFUSED: [(Contents, Contents, &str); 6] = [
     ),
 ];
 
-/// Asserts what is answered of two files, which are read at places, or whole where they have none.
+/// Asserts what is answered of two files.
 fn assert_compares(
     rt: &impl Abort,
     alloc: Global,
@@ -58,10 +57,7 @@ fn assert_compares(
 ) -> Result<(), Fail> {
     let (left, right) = (left.bytes(alloc)?, right.bytes(alloc)?);
     let files = (left.as_slice(), right.as_slice());
-    for broken in [Broken::Nothing, Broken::Places] {
-        assert_over(rt, alloc, files, broken, "same a.img new.bin", answer, &[])?;
-    }
-    Ok(())
+    assert_both(rt, alloc, files, "same a.img new.bin", answer, &[])
 }
 
 #[test]
