@@ -91,12 +91,12 @@ def public_parts(lines, module, exported):
         at = last + 1
 
 
-def public_contracts(root, crate):
-    """The texts of the public contracts of a crate, each with the `ghost use` lines that it stands under."""
+def public_contracts(root, crate, module=None):
+    """The texts of the public contracts of a crate, or of one module, each with the `ghost use` lines that it stands under."""
     folder = os.path.join(root, "crates", crate, "src")
     exported = exports(folder)
     for name in sorted(os.listdir(folder)):
-        if name.endswith(".rt") and name != "tests.rt":
+        if name.endswith(".rt") and name != "tests.rt" and module in (None, name[:-3]):
             with open(os.path.join(folder, name), encoding="utf-8") as file:
                 lines = file.read().splitlines()
             yield from public_parts(lines, name[:-3], exported)

@@ -1,16 +1,20 @@
 #!/usr/bin/env python3
-"""Prints the definitions that the headline rests on, each once, those below before those above.
+"""Prints the definitions that the promise rests on, each once, those below before those above, and the contracts of its calls.
 
-usage: definitions.py [--files] [LAW ..]
+usage: definitions.py [--files] [--down] [LAW ..]
+       definitions.py --calls
        definitions.py --check
 
-A law is named by crate, file and name, such as ubi_change.Planned.SurvivesCutsOf; without one it is the headline itself
-(ubi_tool.Headline.Headline). What a definition names is followed through the `use` lines of its file, as far as it lies
-in a folder specs/ of this repository; what the standard library defines isn't printed. Then, and with --files only, the
-files are listed, each behind those that it uses, with the number of lines of these definitions of all its lines. The exit
-status is 1 where a name can't be followed.
+A law is named by crate, file and name, such as ubi_change.Planned.SurvivesCutsOf; without one it is the headline
+(ubi_tool.Headline.Headline) with the contracts of the calls that compute what it speaks of, which are printed last. What a
+definition names is followed through the `use` lines of its file, as far as it lies in a folder specs/ of this repository; what
+the standard library defines isn't printed. Then, and with --files only, the files are listed, each behind those that it uses,
+with the number of lines of these definitions of all its lines; then the files of src/ with the structs and enums that they
+name. With --down each file stands before those that it uses. The exit status is 1 where a name can't be followed.
 
-With --check the files that the headline rests on are listed, and those that all public contracts rest on. What only private
+With --calls the contracts alone are printed.
+
+With --check the files that the promise rests on are listed, and those that all public contracts rest on. What only private
 functions' contracts and proofs cite lies in specs/inner/. The exit status is 1 where a public contract or a file above that
 folder reaches into it, where no public contract reaches a definition above it, and where a definition has no sentence before it.
 """
@@ -23,6 +27,15 @@ import contracts
 ROOT = os.path.dirname(os.path.dirname(os.path.dirname(os.path.abspath(__file__))))
 CRATES = ("ubi_media", "ubi_scan", "ubi_table", "ubi_volume", "ubi_compose", "ubi_change", "ubi_tool")
 HEADLINE = ("ubi_tool", "Headline", "Headline")
+# The calls that compute what the headline speaks of, by their files.
+CALLS = (
+    ("ubi_volume", "attaching", "attach"),
+    ("ubi_compose", "composing", "compose"),
+    ("ubi_compose", "composing", "normalise"),
+    ("ubi_compose", "comparing", "same"),
+    ("ubi_change", "planning", "plan_change"),
+    ("ubi_change", "renaming", "plan_rename"),
+)
 NAME = r"[^\s(){}.,;:λ→←∷≡×⊎]+"
 # The first line of a definition: its modifiers, and then its name with a colon, or a record or a family with its own. A
 # level may stand before the colon.
@@ -187,19 +200,69 @@ def in_order(files):
     return done
 
 
+def ordered(seen, down):
+    """The files of definitions, each behind those of them that it uses, or before them."""
+    files = in_order({name[:2] for name in seen})
+    return files[::-1] if down else files
+
+
 def texts_of(key, seen):
     """The texts of a file's definitions that were seen."""
     file = FILES[key]
     return [text for item, text in file.items.items() if (*key, item) in seen]
 
 
-def print_definitions(seen):
-    for key in in_order({name[:2] for name in seen}):
+def contract_of(crate, module, name):
+    """The `use` lines that the contract of a public function stands under, and its lines."""
+    for uses, lines in contracts.public_contracts(ROOT, crate, module):
+        if re.match(rf"pub fn {name}\b", lines[0]):
+            return uses, lines
+    raise SystemExit(f"{crate} exports no {name} of {module}.rt")
+
+
+def named_by(uses, lines):
+    """The definitions that a contract names."""
+    return set(Uses(uses).named_in("\n".join(line for line in lines if not line.strip().startswith("//"))))
+
+
+def promise():
+    """The headline, and what the contracts of the calls name."""
+    return [HEADLINE, *sorted(set().union(*(named_by(*contract_of(*call)) for call in CALLS)))]
+
+
+def types_of(seen):
+    """The structs and enums that definitions name, by their files."""
+    types = {}
+    for crate, name, item in seen:
+        for where, declared, _ in FILES[crate, name].names_in(item):
+            if where in CRATES and declared.startswith("declared."):
+                _, module, kind, *_ = declared.split(".")
+                types.setdefault((CRATES.index(where), module), set()).add(kind)
+    return types
+
+
+def print_types(seen):
+    for (crate, module), kinds in sorted(types_of(seen).items()):
+        print(f"crates/{CRATES[crate]}/src/{module}.rt: {', '.join(sorted(kinds))}")
+
+
+def print_contracts():
+    parts, place = [], None
+    for crate, module, name in CALLS:
+        if (crate, module) != place:
+            place = crate, module
+            parts.append(f"crates/{crate}/src/{module}.rt")
+        parts.append("\n".join(line for line in contract_of(crate, module, name)[1] if line != "{"))
+    print("\n\n".join(parts))
+
+
+def print_definitions(seen, down):
+    for key in ordered(seen, down):
         print(path_of(*key) + "\n\n" + "\n\n".join("\n".join(text) for text in texts_of(key, seen)) + "\n")
 
 
-def print_files(seen):
-    files = in_order({name[:2] for name in seen})
+def print_files(seen, down=False):
+    files = ordered(seen, down)
     counts = [sum(map(len, texts_of(key, seen))) for key in files]
     for key, count in zip(files, counts):
         print(f"{path_of(*key)} {count} of {FILES[key].count}")
@@ -245,32 +308,42 @@ def unsaid():
 
 
 def check():
-    """Prints what the headline and all public contracts rest on. Gives what is wrong with that."""
-    headline, missing = rests_on([HEADLINE])
+    """Prints what the promise and all public contracts rest on. Gives what is wrong with that."""
+    promised, missing = rests_on(promise())
     cited = set()
     for crate in CRATES:
         for uses, lines in contracts.public_contracts(ROOT, crate):
-            text = "\n".join(line for line in lines if not line.strip().startswith("//"))
-            cited.update(Uses(uses).named_in(text))
+            cited |= named_by(uses, lines)
     public, more = rests_on(sorted(cited))
-    print("The headline rests on")
-    print_files(headline)
+    print("The promise rests on")
+    print_files(promised)
     print("\nAll public contracts rest on")
     print_files(public)
     return [f"{name} can't be followed" for name in missing + more] + list(misplaced(public)) + list(unsaid())
 
 
+def tell(words):
+    """Prints what laws rest on, or the promise. Gives what is wrong with that."""
+    laws = [tuple(re.match(r"(\w+)\.(.*)\.(\S+)$", word).groups()) for word in words if not word.startswith("--")]
+    seen, missing = rests_on(laws or promise())
+    if "--files" not in words:
+        print_definitions(seen, "--down" in words)
+        if not laws:
+            print_contracts()
+            print()
+    print_files(seen, "--down" in words)
+    print_types(seen)
+    return [f"{name} can't be followed" for name in missing]
+
+
 def main():
-    words = sys.argv[1:]
+    words, wrong = sys.argv[1:], []
     if words == ["--check"]:
         wrong = check()
+    elif words == ["--calls"]:
+        print_contracts()
     else:
-        laws = [tuple(re.match(r"(\w+)\.(.*)\.(\S+)$", word).groups()) for word in words if word != "--files"] or [HEADLINE]
-        seen, missing = rests_on(laws)
-        if "--files" not in words:
-            print_definitions(seen)
-        print_files(seen)
-        wrong = [f"{name} can't be followed" for name in missing]
+        wrong = tell(words)
     for line in wrong:
         print(line, file=sys.stderr)
     sys.exit(1 if wrong else 0)
