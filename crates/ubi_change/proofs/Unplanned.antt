@@ -3,7 +3,7 @@ use Rattle.std.proofs.Common.{◌≡◌, ℕ, inl, inr, List, [], length, sym, �
 use Rattle.ubi_media.specs.Geometry.{Sizes}
 use Rattle.ubi_media.specs.declared.refusal.Refusal.{Refusal}
 use Rattle.ubi_scan.specs.Image.{Image, IsWholeSize, image_of}
-use Rattle.ubi_scan.specs.Source.{Agreed, Narrows, Source, WhereHeld, blocks_of, holds, sound}
+use Rattle.ubi_scan.specs.Source.{Agreed, Narrows, Source, WhereHeld, blocks_of, holds, memory}
 use Rattle.ubi_scan.specs.declared.errors.StreamError.{StreamError}
 use Rattle.ubi_scan.specs.declared.errors.StreamError.TheVariants as stream
 use Rattle.ubi_scan.proofs.InMemory.{still}
@@ -111,7 +111,7 @@ module _ (s : Sizes) (image left : List ℕ) (narrows : Narrows (holds image) (h
       → IsChangeRefusal (image_of s image) id lnum new c
   stands c h = h.1 image (still image left narrows)
 
-  by_cause : (c : ChangeRefusal) → IsChangeError s (sound (length image)) (holds left) id lnum new (error.Refused c)
+  by_cause : (c : ChangeRefusal) → IsChangeError s (memory image) (holds left) id lnum new (error.Refused c)
       → IsChangeRefusal (image_of s image) id lnum new c
   by_cause refusal.Memory h = tt
   by_cause (refusal.Attach x) h = refused_in_memory s image left x narrows h
@@ -126,7 +126,7 @@ module _ (s : Sizes) (image left : List ℕ) (narrows : Narrows (holds image) (h
 
 pub error_in_memory : (s : Sizes) (bytes old left : List ℕ) → old ≡ bytes → Narrows (holds old) (holds left)
     → (id lnum : ℕ) (new : List ℕ) (e : PlanError ChangeRefusal) (c : ChangeRefusal) → e ≡ error.Refused c
-    → IsChangeError s (sound (length old)) (holds left) id lnum new e → IsChangeRefusal (image_of s bytes) id lnum new c
+    → IsChangeError s (memory old) (holds left) id lnum new e → IsChangeRefusal (image_of s bytes) id lnum new c
 error_in_memory s bytes old left same narrows id lnum new e c is h =
     subst (λ (b : List ℕ). IsChangeRefusal (image_of s b) id lnum new c) same
-    (by_cause s old left narrows id lnum new c (subst (IsChangeError s (sound (length old)) (holds left) id lnum new) is h))
+    (by_cause s old left narrows id lnum new c (subst (IsChangeError s (memory old) (holds left) id lnum new) is h))

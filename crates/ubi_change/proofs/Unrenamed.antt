@@ -5,7 +5,7 @@ use Rattle.ubi_media.specs.Fields.{AreBytes}
 use Rattle.ubi_media.specs.Geometry.{IsGeometry, Sizes}
 use Rattle.ubi_media.specs.declared.refusal.Refusal.{Refusal}
 use Rattle.ubi_scan.specs.Image.{Image, IsWholeSize, image_of}
-use Rattle.ubi_scan.specs.Source.{Agreed, Narrows, Source, WhereHeld, blocks_of, holds, sound}
+use Rattle.ubi_scan.specs.Source.{Agreed, Narrows, Source, WhereHeld, blocks_of, holds, memory}
 use Rattle.ubi_scan.specs.declared.errors.StreamError.{StreamError}
 use Rattle.ubi_scan.specs.declared.errors.StreamError.TheVariants as stream
 use Rattle.ubi_scan.proofs.InMemory.{still}
@@ -133,7 +133,7 @@ module _ (s : Sizes) (image left : List ℕ) (narrows : Narrows (holds image) (h
       → IsRenameRefusal (image_of s image) id name c
   stands c h = h.1 image (still image left narrows)
 
-  by_cause : (c : RenameRefusal) → IsRenameError s (sound (length image)) (holds left) id name (error.Refused c)
+  by_cause : (c : RenameRefusal) → IsRenameError s (memory image) (holds left) id name (error.Refused c)
       → IsRenameRefusal (image_of s image) id name c
   by_cause refusal.Memory h = tt
   by_cause (refusal.Attach x) h = refused_in_memory s image left x narrows h
@@ -147,7 +147,7 @@ module _ (s : Sizes) (image left : List ℕ) (narrows : Narrows (holds image) (h
 
 pub error_in_memory : (s : Sizes) (bytes old left : List ℕ) → old ≡ bytes → Narrows (holds old) (holds left) → (id : ℕ) (name : List ℕ)
     → (e : PlanError RenameRefusal) (c : RenameRefusal) → e ≡ error.Refused c
-    → IsRenameError s (sound (length old)) (holds left) id name e → IsRenameRefusal (image_of s bytes) id name c
+    → IsRenameError s (memory old) (holds left) id name e → IsRenameRefusal (image_of s bytes) id name c
 error_in_memory s bytes old left same narrows id name e c is h =
     subst (λ (b : List ℕ). IsRenameRefusal (image_of s b) id name c) same
-    (by_cause s old left narrows id name c (subst (IsRenameError s (sound (length old)) (holds left) id name) is h))
+    (by_cause s old left narrows id name c (subst (IsRenameError s (memory old) (holds left) id name) is h))

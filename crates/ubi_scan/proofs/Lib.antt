@@ -28,6 +28,7 @@ pub mod Seen
 pub mod Seq
 pub mod Shown
 pub mod SoFar
+pub mod Stands
 pub mod Told
 pub mod Truths
 pub mod Within

@@ -1,5 +1,5 @@
 -- A source for tests: what it holds, where it fails, and what it has counted.
-use Rattle.std.specs.Prelude.{◌≡◌, ℕ, ◌+◌, ◌-◌, ◌/◌, ◌%◌, ◌^◌, ◌==◌, Bool, nat_le, nat_lt, List, if◌then◌else◌, length, min, refl, slice_index, slice_set}
+use Rattle.std.specs.Prelude.{◌≡◌, ℕ, ◌+◌, ◌-◌, ◌/◌, ◌%◌, ◌^◌, ◌==◌, Bool, nat_le, nat_lt, List, if◌then◌else◌, Some, length, min, refl, slice_index, slice_set}
 use Rattle.std.specs.Coded.{Coded, code_by, coded×, coded_ℕ, coded_list}
 use Rattle.std.proofs.Common.{ap}
 use Rattle.ubi_scan.specs.Source.{IsSource, Source, holds}
@@ -54,7 +54,7 @@ next_if b n = if b then next n else n
 
 -- what is known of it
 abbrev pub probe_source : Probed → Source
-probe_source p = record { size = length p.bytes; failures = p.failures }
+probe_source p = record { size = length p.bytes; failures = p.failures; held = Some p.bytes }
 
 -- what it holds is as long as its size
 pub probe_sized : (p : Probed) → IsSource (probe_source p) (holds p.bytes)

@@ -1,13 +1,14 @@
 -- What is known of bytes that are read at places.
-use Rattle.std.specs.Prelude.{◌≡◌, ℕ, ◌+◌, ◌-◌, ◌/◌, ◌^◌, List, [], ◌∷◌, length, slice_range, Result, Ok, Err, min}
+use Rattle.std.specs.Prelude.{◌≡◌, ℕ, ◌+◌, ◌-◌, ◌/◌, ◌^◌, List, [], ◌∷◌, length, slice_range, Option, Some, None, IfSome, Result, Ok, Err, min}
 use Rattle.std.proofs.Common.{ap}
 use Rattle.ubi_media.specs.Geometry.{Sizes}
 use Rattle.ubi_scan.specs.Image.{eraseblocks, image_of}
 
--- how many bytes a source has, and how many of its reads have failed
+-- how many bytes a source has, how many of its reads have failed, and which bytes it is promised to hold, if any are
 pub record Source : Type 0 where
   pub size : ℕ
   pub failures : ℕ
+  pub held : Option (List ℕ)
 
 -- which bytes a source may hold, as far as its reads have told
 abbrev pub Agreed : Type 1
@@ -25,9 +26,13 @@ Narrows old new = WhereHeld new old
 pub record IsSource (k : Source) (agrees : Agreed) : Type 0 where
   pub sized : WhereHeld agrees (λ bytes. length bytes ≡ k.size)
 
+-- of each source: the bytes that it is promised to hold are among those that it may hold
+abbrev pub MayHold : Source → Agreed → Type 0
+MayHold k agrees = IfSome k.held agrees
+
 -- one more read has failed; their number stays at the greatest of 64 bits
 abbrev pub failed : Source → Source
-failed k = record { size = k.size; failures = min (k.failures + 1) (2 ^ 64 - 1) }
+failed k = record k { failures = min (k.failures + 1) (2 ^ 64 - 1) }
 
 -- what is known after a read: what was known before, with one failure more where it failed
 abbrev pub after_read : {E : Type 0} → Source → Result (Unit {0}) E → Source
@@ -42,16 +47,20 @@ blocks_in s k = k.size / s.peb_size
 abbrev pub blocks_of : Sizes → List ℕ → List (List ℕ)
 blocks_of s bytes = eraseblocks (image_of s bytes)
 
--- a source of a size whose reads never failed
+-- a source of a size whose reads never failed, and that is promised to hold nothing
 abbrev pub sound : ℕ → Source
-sound size = record { size = size; failures = 0 }
+sound size = record { size = size; failures = 0; held = None }
+
+-- a source over bytes in memory: no read fails, and it holds these
+abbrev pub memory : List ℕ → Source
+memory bytes = record { size = length bytes; failures = 0; held = Some bytes }
 
 -- a source over bytes in memory holds these
 abbrev pub holds : List ℕ → Agreed
 holds bytes = λ held. held ≡ bytes
 
 -- what memory holds is as long as its size
-pub memory_sized : (bytes : List ℕ) → IsSource (sound (length bytes)) (holds bytes)
+pub memory_sized : (bytes : List ℕ) → IsSource (memory bytes) (holds bytes)
 memory_sized bytes = record { sized = λ held is. ap length is }
 
 -- bytes agree with reads, each of which answered some bytes at a place
@@ -64,6 +73,5 @@ abbrev pub known_by : ℕ → List (ℕ × List ℕ) → Agreed
 known_by size reads = λ bytes. (length bytes ≡ size) × AgreesWith reads bytes
 
 -- what agrees with reads of a file is as long as its size
-pub file_sized : (size failures : ℕ) (reads : List (ℕ × List ℕ))
-    → IsSource (record { size = size; failures = failures }) (known_by size reads)
-file_sized size failures reads = record { sized = λ bytes agrees. agrees.0 }
+pub file_sized : (k : Source) (reads : List (ℕ × List ℕ)) → IsSource k (known_by k.size reads)
+file_sized k reads = record { sized = λ bytes agrees. agrees.0 }

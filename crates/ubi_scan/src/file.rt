@@ -1,7 +1,9 @@
 //! Sources over files.
 
-ghost use Rattle.std.specs.Prelude.{◌≡◌, [], IfOk};
+ghost use Rattle.std.specs.Prelude.{◌≡◌, ◌+◌, ◌<◌, ◌^◌, [], IfOk, length, true, take};
+ghost use Rattle.ubi_scan.specs.Placed.{IsSourceOf, StandsAt, WhereTold};
 
+use crate::placed::PlacedFile;
 use crate::source::{BlockSource, SourceFault};
 use crate::trace::Trace;
 use crate::window::Window;
@@ -10,31 +12,68 @@ use std::fs::{File, Files, OpenFile};
 use std::io::{Seek, SeekFrom};
 use std::os::unix::fs::FileExt;
 
-/// A source over a file, of the size that the file had when it was opened. Of its bytes no more is known than what the
-/// reads answered: another program may write to the file at any time.
+/// A source over a file, of the size that the file had when it was opened. Of the bytes of a file of the system no more is
+/// known than what the reads answered: another program may write to it at any time.
 ///
 /// Where small reads follow each other closely, 16 KiB are read at once, and the next reads are answered from these. Where that
 /// fails, what was asked for is read alone.
 #[derive(Drop)]
-pub struct FileSource<F = File> {
+pub struct FileSource<F: PlacedFile = File> {
     file: F,
     len: u64,
     failures: u64,
     trace: Trace,
     window: Window,
+    // Of a file whose bytes are known, the reads answered those.
+    pub ghost told: { WhereTold (F.bytes file) (λ all. IsSourceOf all len trace.reads window.start (take window.filled window.bytes)) },
 }
 
 /// Fills `out` with the bytes of a file that begin at the place `at`, and tells whether it could. A read that failed
 /// isn't tried again.
-fn fill<F: FileExt>(file: &F, at: u64, out: &mut [u8]) -> bool {
+fn fill<F: PlacedFile>(file: &F, at: u64, out: &mut [u8]) -> bool
+    requires { at + length out.old < 2 ^ 64 }
+    ensures { result ≡ true → WhereTold (F.bytes file.now) (λ all. StandsAt all at out.new) }
+{
     let mut done = 0;
     while done < out.len() {
-        match file.read_at(&mut out[done..], at.saturating_add(done as u64)) {
+        match file.read_from(at + done as u64, &mut out[done..]) {
             Ok(0) | Err(_) => return false,
             Ok(count) => done += count,
         }
     }
     true
+}
+
+/// Fills `out` with the bytes of a file that begin at the place `at`, from what was read ahead where that has them, and tells
+/// whether it could.
+fn read_by<F: PlacedFile>(window: &mut Window, file: &F, at: u64, out: &mut [u8]) -> bool
+    requires place { at + length out.old < 2 ^ 64 }
+    requires told { WhereTold (F.bytes file.now) (λ all. StandsAt all window.old.start (take window.old.filled window.old.bytes)) }
+    ensures told { WhereTold (F.bytes file.now) (λ all. StandsAt all window.new.start (take window.new.filled window.new.bytes)) }
+    ensures read { result ≡ true → WhereTold (F.bytes file.now) (λ all. StandsAt all at out.new) }
+{
+    let is_read = window.give(file, at, out) || fill(file, at, out);
+    window.passed(at, at + out.len() as u64);
+    is_read
+}
+
+impl<F: PlacedFile> FileSource<F> {
+    /// A source over a file of `len` bytes.
+    pub fn of(file: F, len: u64) -> FileSource<F>
+        requires { WhereTold (F.bytes file) (λ all. length all ≡ len) }
+        ensures file { result.file ≡ file }
+        ensures len { result.len ≡ len }
+        ensures failures { result.failures ≡ 0 }
+        ensures trace { result.trace.reads ≡ [] }
+    {
+        FileSource {
+            file,
+            len,
+            failures: 0,
+            trace: Trace::new(),
+            window: Window::new(),
+        }
+    }
 }
 
 impl<F: FileExt + OpenFile + Seek + Drop> FileSource<F> {
@@ -55,22 +94,17 @@ impl<F: FileExt + OpenFile + Seek + Drop> FileSource<F> {
             _ => return Err(SourceFault),
         }
         match file.seek(SeekFrom::End(0)) {
-            Ok(len) => Ok(FileSource {
-                file,
-                len,
-                failures: 0,
-                trace: Trace::new(),
-                window: Window::new(),
-            }),
+            Ok(len) => Ok(FileSource::of(file, len)),
             Err(_) => Err(SourceFault),
         }
     }
 }
 
-impl<F: FileExt + Drop> BlockSource for FileSource<F> {
+impl<F: PlacedFile + Drop> BlockSource for FileSource<F> {
     ghost use Rattle.ubi_scan.specs.Source.{file_sized, known_by};
+    ghost use Rattle.ubi_scan.specs.Promised.{keeps_promise};
 
-    ghost known = { λ s. record { size = s.len; failures = s.failures } };
+    ghost known = { λ s. record { size = s.len; failures = s.failures; held = F.bytes s.file } };
 
     ghost agrees = { λ s. known_by s.len s.trace.reads };
 
@@ -79,9 +113,8 @@ impl<F: FileExt + Drop> BlockSource for FileSource<F> {
     }
 
     fn read(&mut self, at: u64, out: &mut [u8]) -> Result<(), SourceFault> {
-        let is_read = self.window.give(&self.file, at, out) || fill(&self.file, at, out);
-        self.window.passed(at, at.saturating_add(out.len() as u64));
-        if is_read {
+        prove!(at <= self.len());
+        if read_by(&mut self.window, &self.file, at, out) {
             self.trace.note(at, out);
             return Ok(());
         }
@@ -89,5 +122,7 @@ impl<F: FileExt + Drop> BlockSource for FileSource<F> {
         Err(SourceFault)
     }
 
-    ghost sized = { λ s. file_sized s.len s.failures s.trace.reads };
+    ghost sized = { λ s. file_sized (record { size = s.len; failures = s.failures; held = F.bytes s.file }) s.trace.reads };
+
+    ghost promised = { λ s. keeps_promise (F.bytes s.file) s.len s.trace.reads s.window.start (take s.window.filled s.window.bytes) s.told };
 }

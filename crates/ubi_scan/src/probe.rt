@@ -99,7 +99,7 @@ impl<'a> ProbeSource<'a> {
 }
 
 impl BlockSource for ProbeSource<'_> {
-    ghost use Rattle.std.specs.Prelude.{◌≤◌, slice_range, OnOk};
+    ghost use Rattle.std.specs.Prelude.{◌≤◌, slice_range, OnOk, refl};
     ghost use Rattle.ubi_scan.specs.Source.{Narrows, WhereHeld, after_read, holds};
     ghost use Rattle.ubi_scan.specs.ProbeSource.{IsCounted, IsSameProbe, probe_sized, probe_source};
 
@@ -141,4 +141,6 @@ impl BlockSource for ProbeSource<'_> {
     }
 
     ghost sized = { λ s. probe_sized s };
+
+    ghost promised = { λ s. refl };
 }

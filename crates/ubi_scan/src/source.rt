@@ -1,7 +1,7 @@
 //! Sources: bytes that are read at places, and what is known of them.
 
 ghost use Rattle.std.specs.Prelude.{◌≡◌, ℕ, ◌+◌, ◌≤◌, List, length, slice_range, OnOk};
-ghost use Rattle.ubi_scan.specs.Source.{Agreed, IsSource, Narrows, Source, WhereHeld, after_read};
+ghost use Rattle.ubi_scan.specs.Source.{Agreed, IsSource, MayHold, Narrows, Source, WhereHeld, after_read};
 
 use std::marker::Model;
 
@@ -11,7 +11,7 @@ pub struct SourceFault;
 
 /// Bytes that are read at places: those of an image in memory, or of one in a file.
 pub trait BlockSource {
-    // Its size, and how many of its reads failed.
+    // Its size, how many of its reads failed, and what it is promised to hold.
     ghost known: { Self → Source };
 
     // Which bytes it may hold: those with which each read agrees that it has answered.
@@ -36,6 +36,9 @@ pub trait BlockSource {
 
     // The bytes that it may hold are as many as its size says.
     ghost sized: { (s : Self) → IsSource (known s) (agrees s) };
+
+    // The bytes that it is promised to hold are among those that it may hold.
+    ghost promised: { (s : Self) → MayHold (known s) (agrees s) };
 }
 
 /// A source over bytes in memory. Its reads never fail.
@@ -62,9 +65,10 @@ impl<'a> MemorySource<'a> {
 }
 
 impl BlockSource for MemorySource<'_> {
-    ghost use Rattle.ubi_scan.specs.Source.{holds, memory_sized, sound};
+    ghost use Rattle.std.specs.Prelude.{refl};
+    ghost use Rattle.ubi_scan.specs.Source.{holds, memory, memory_sized};
 
-    ghost known = { λ s. sound (length s) };
+    ghost known = { λ s. memory s };
 
     ghost agrees = { λ s. holds s };
 
@@ -79,4 +83,6 @@ impl BlockSource for MemorySource<'_> {
     }
 
     ghost sized = { λ s. memory_sized s };
+
+    ghost promised = { λ s. refl };
 }

@@ -1,9 +1,10 @@
 //! Bytes of a file that were read ahead.
 
-ghost use Rattle.std.specs.Prelude.{◌≡◌, ◌≤◌, true};
+ghost use Rattle.std.specs.Prelude.{◌≡◌, ◌≤◌, take, true};
 ghost use Rattle.ubi_scan.specs.inner.Ahead.{HoldsAt};
+ghost use Rattle.ubi_scan.specs.Placed.{StandsAt, WhereTold};
 
-use std::os::unix::fs::FileExt;
+use crate::placed::PlacedFile;
 
 /// The bytes that are read ahead at once.
 const SIZE: usize = 16_384;
@@ -54,11 +55,12 @@ impl Window {
     }
 
     /// Reads ahead from the place `at` on, and tells whether it could.
-    fn fill<F: FileExt>(&mut self, file: &F, at: u64) -> bool
-        ensures { result ≡ true → self.new.start ≡ at }
+    fn fill<F: PlacedFile>(&mut self, file: &F, at: u64) -> bool
+        ensures start { result ≡ true → self.new.start ≡ at }
+        ensures told { WhereTold (F.bytes file.now) (λ all. StandsAt all self.new.start (take self.new.filled self.new.bytes)) }
     {
         self.filled = 0;
-        match file.read_at(&mut self.bytes, at) {
+        match file.read_from(at, &mut self.bytes) {
             Ok(count) => {
                 self.start = at;
                 self.filled = count;
@@ -75,8 +77,10 @@ impl Window {
 
     /// Fills `out` with the bytes of a file that begin at the place `at`, where they follow the last read and were read ahead, or
     /// are read ahead now, and tells whether it could.
-    pub fn give<F: FileExt>(&mut self, file: &F, at: u64, out: &mut [u8]) -> bool
-        ensures { result ≡ true → HoldsAt self.new at out.new }
+    pub fn give<F: PlacedFile>(&mut self, file: &F, at: u64, out: &mut [u8]) -> bool
+        requires { WhereTold (F.bytes file.now) (λ all. StandsAt all self.old.start (take self.old.filled self.old.bytes)) }
+        ensures held { result ≡ true → HoldsAt self.new at out.new }
+        ensures told { WhereTold (F.bytes file.now) (λ all. StandsAt all self.new.start (take self.new.filled self.new.bytes)) }
     {
         if !self.follows(at, out.len()) {
             return false;

@@ -6,7 +6,7 @@ use Rattle.std.proofs.lemmas.List.{take_all}
 use Rattle.std.proofs.lemmas.Result.{IfErr-at_err, IfOk-at_ok}
 use Rattle.ubi_media.specs.Geometry.{Sizes}
 use Rattle.ubi_scan.specs.Image.{image_of}
-use Rattle.ubi_scan.specs.Source.{Agreed, Narrows, Source, WhereHeld, holds, sound}
+use Rattle.ubi_scan.specs.Source.{Agreed, Narrows, Source, WhereHeld, holds, memory}
 use Rattle.ubi_scan.proofs.InMemory.{still}
 use Rattle.ubi_volume.specs.Wrote.{All, Wanted, Wrote}
 use Rattle.ubi_change.specs.Cuts.{changed, turn}
@@ -94,7 +94,7 @@ module _ (id lnum : ℕ) (new : List ℕ) (stop : Option ℕ) (s : Sizes) where
 
   module _ (image left : List ℕ) (narrows : Narrows (holds image) (holds left)) (empty file : List ℕ) (none : empty ≡ []) where
     of_memory : (o finished : Outcome)
-        → ChangesFrom id lnum new stop s (sound (length image)) (holds left) (Some empty) (Some file) finished
+        → ChangesFrom id lnum new stop s (memory image) (holds left) (Some empty) (Some file) finished
         → HasFile finished file o → Changes (image_of s image) id lnum new stop o
     of_memory o finished (change.planned_from steps plan said wrote meant) (done zero gives) =
         let agreed = still image left narrows in
@@ -111,7 +111,7 @@ module _ (id lnum : ℕ) (new : List ℕ) (stop : Option ℕ) (s : Sizes) where
   -- what is answered of bytes in memory
   pub change_in_memory : (image start left empty file : List ℕ) → start ≡ image → Narrows (holds start) (holds left) → empty ≡ []
       → (work : Result Outcome ToolError) (r : Result Outcome AllocError)
-      → IfOk work (ChangesFrom id lnum new stop s (sound (length start)) (holds left) (Some empty) (Some file))
+      → IfOk work (ChangesFrom id lnum new stop s (memory start) (holds left) (Some empty) (Some file))
       → IfOk r (λ o. (finished : Outcome) × (work ≡ Ok finished) × HasFile finished file o)
       → IfOk r (Changes (image_of s image) id lnum new stop)
   change_in_memory image start left empty file same narrows none work (Err e) ok h = tt
@@ -185,7 +185,7 @@ module _ (id : ℕ) (word : List ℕ) (stop : Option ℕ) (s : Sizes) where
 
   module _ (image left : List ℕ) (narrows : Narrows (holds image) (holds left)) (empty file : List ℕ) (none : empty ≡ []) where
     named_memory : (o finished : Outcome)
-        → RenamesFrom id word stop s (sound (length image)) (holds left) (Some empty) (Some file) finished
+        → RenamesFrom id word stop s (memory image) (holds left) (Some empty) (Some file) finished
         → HasFile finished file o → Renames (image_of s image) id word stop o
     named_memory o finished (rename.planned_from name steps shown plan said wrote of_name) (done zero gives) =
         let agreed = still image left narrows in
@@ -206,7 +206,7 @@ module _ (id : ℕ) (word : List ℕ) (stop : Option ℕ) (s : Sizes) where
   -- what is answered of bytes in memory
   pub rename_in_memory : (image start left empty file : List ℕ) → start ≡ image → Narrows (holds start) (holds left) → empty ≡ []
       → (work : Result Outcome ToolError) (r : Result Outcome AllocError)
-      → IfOk work (RenamesFrom id word stop s (sound (length start)) (holds left) (Some empty) (Some file))
+      → IfOk work (RenamesFrom id word stop s (memory start) (holds left) (Some empty) (Some file))
       → IfOk r (λ o. (finished : Outcome) × (work ≡ Ok finished) × HasFile finished file o)
       → IfOk r (Renames (image_of s image) id word stop)
   rename_in_memory image start left empty file same narrows none work (Err e) ok h = tt

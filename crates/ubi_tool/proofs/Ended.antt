@@ -5,7 +5,7 @@ use Rattle.std.specs.Prelude.{Bool, IfOk, IsSome, None, Option, Some, is_some, t
 use Rattle.std.specs.declared.alloc.AllocError.{AllocError}
 use Rattle.ubi_media.specs.Geometry.{Sizes}
 use Rattle.ubi_media.specs.Limits.{first_broken}
-use Rattle.ubi_scan.specs.Source.{Agreed, Narrows, Source, holds, known_by, sound}
+use Rattle.ubi_scan.specs.Source.{Agreed, Narrows, Source, holds, known_by, memory}
 use Rattle.ubi_tool.specs.AfterRun.{IsTold, after_left, after_right, after_run, outcome, read_failed, IsEnded, done, no_read, no_write, unopened}
 use Rattle.ubi_tool.specs.Answer.{Gives, says}
 use Rattle.ubi_tool.specs.inner.Ended.{IsToldOfSides, Works, answered, comparison, left_failed, no_source, right_failed}
@@ -82,7 +82,7 @@ pub of_opened : {F : Type 0} (numbers : Numbers) (path : List ℕ) (answers : Si
     → OfFile numbers path answers o
 of_opened numbers path answers (image.AtPlaces file) o is h = places 0 [] is.1 (h (sound 0) (known_by 0 []))
 of_opened numbers path answers (image.Whole file) o is h =
-    whole file.bytes.items is.1 (h (sound (length file.bytes.items)) (holds file.bytes.items))
+    whole file.bytes.items is.1 (h (memory file.bytes.items) (holds file.bytes.items))
 
 module _ (numbers : Numbers) (path : List ℕ) (answers : Sizes → Source → Agreed → Outcome → Type 0) (s : Sizes)
     (same : s ≡ sizes_of numbers) where
@@ -101,12 +101,12 @@ module _ (numbers : Numbers) (path : List ℕ) (answers : Sizes → Source → A
   -- and of one that was read whole
   pub by_bytes : (bytes start later : List ℕ) (o : Outcome) → IsRead (sizes_of numbers) bytes → start ≡ bytes
       → Narrows (holds start) (holds later)
-      → Works (sound (length start)) (sound (length later)) path (answers s (sound (length start)) (holds later)) o
+      → Works (memory start) (memory later) path (answers s (memory start) (holds later)) o
       → OfFile numbers path answers o
   by_bytes bytes start later o read is narrows (answered known h) =
-      let held = subst (λ (b : List ℕ). answers s (sound (length start)) (holds b) o) (narrows later refl) h in
-      let here = subst (λ (b : List ℕ). answers s (sound (length b)) (holds b) o) is held in
-      whole bytes read (subst (λ (t : Sizes). answers t (sound (length bytes)) (holds bytes) o) same here)
+      let held = subst (λ (b : List ℕ). answers s (memory start) (holds b) o) (narrows later refl) h in
+      let here = subst (λ (b : List ℕ). answers s (memory b) (holds b) o) is held in
+      whole bytes read (subst (λ (t : Sizes). answers t (memory bytes) (holds bytes) o) same here)
   by_bytes bytes start later o read is narrows (no_source known line) =
       let e = ap (λ (k : Source). k.failures) known in absurd (omega (arith, e))
 
@@ -123,8 +123,8 @@ module _ (numbers : Numbers) (path : List ℕ) (answers : Sizes → Source → A
 
   pub told_by_bytes : (work : Result Outcome ToolError) (bytes start later : List ℕ) (r : Result Outcome AllocError)
       → IsRead (sizes_of numbers) bytes → start ≡ bytes → Narrows (holds start) (holds later)
-      → sound (length later) ≡ after_run (sound (length start)) work
-      → IfOk work (answers s (sound (length start)) (holds later))
+      → memory later ≡ after_run (memory start) work
+      → IfOk work (answers s (memory start) (holds later))
       → IfOk r (IsTold work path) → IfOk r (OfFile numbers path answers)
   told_by_bytes work bytes start later (Ok o) read is narrows known ok h =
       by_bytes bytes start later o read is narrows (works_in work _ _ path _ o h known ok)
@@ -164,8 +164,8 @@ module _ (work : Result Outcome SidesError) (k after : Source) (left right : Lis
 
   sides_by_bytes : (bytes start later : List ℕ) (o : Outcome) → IsRead (sizes_of numbers) bytes → start ≡ bytes
       → Narrows (holds start) (holds later) → after ≡ after_left k work
-      → sound (length later) ≡ after_right (sound (length start)) work
-      → IfOk work (answers s (sound (length start)) (holds later))
+      → memory later ≡ after_right (memory start) work
+      → IfOk work (answers s (memory start) (holds later))
       → IsToldOfSides work left right o → Works k after left (OfFile numbers right answers) o
   sides_by_bytes bytes start later o read is narrows here there ok (comparison came) =
       answered (here ∙ ap (after_left k) came)
@@ -179,8 +179,8 @@ module _ (work : Result Outcome SidesError) (k after : Source) (left right : Lis
   pub beside_bytes : (bytes start later : List ℕ) (r : Result Outcome AllocError) → IsRead (sizes_of numbers) bytes
       → start ≡ bytes
       → Narrows (holds start) (holds later) → after ≡ after_left k work
-      → sound (length later) ≡ after_right (sound (length start)) work
-      → IfOk work (answers s (sound (length start)) (holds later))
+      → memory later ≡ after_right (memory start) work
+      → IfOk work (answers s (memory start) (holds later))
       → IfOk r (IsToldOfSides work left right) → IfOk r (Works k after left (OfFile numbers right answers))
   beside_bytes bytes start later (Ok o) read is narrows here there ok h =
       sides_by_bytes bytes start later o read is narrows here there ok h

@@ -4,7 +4,7 @@ use Rattle.ubi_media.specs.Geometry.{Sizes}
 use Rattle.ubi_media.specs.Limits.{first_broken}
 use Rattle.ubi_media.specs.declared.geometry.GeometryError.{GeometryError}
 use Rattle.ubi_scan.specs.Image.{Image, image_of}
-use Rattle.ubi_scan.specs.Source.{Agreed, Source, holds, known_by, sound}
+use Rattle.ubi_scan.specs.Source.{Agreed, Source, holds, known_by, memory}
 use Rattle.ubi_tool.specs.Answer.{Gives, says}
 use Rattle.ubi_tool.specs.Change.{ChangesInto}
 use Rattle.ubi_tool.specs.Check.{ChecksOf}
@@ -65,7 +65,7 @@ pub data OfText (numbers : Numbers) (path : List ℕ) (answers : Sizes → List 
 pub data OfFile (numbers : Numbers) (path : List ℕ) (answers : Sizes → Source → Agreed → Outcome → Type 0) : Outcome → Type 0 where
   no_file : {o : Outcome} → IsUnread numbers path o → OfFile numbers path answers o
   whole : {o : Outcome} (bytes : List ℕ) → IsRead (sizes_of numbers) bytes
-      → answers (sizes_of numbers) (sound (length bytes)) (holds bytes) o → OfFile numbers path answers o
+      → answers (sizes_of numbers) (memory bytes) (holds bytes) o → OfFile numbers path answers o
   places : {o : Outcome} (size : ℕ) (reads : List (ℕ × List ℕ)) → first_broken (sizes_of numbers) ≡ None
       → answers (sizes_of numbers) (sound size) (known_by size reads) o → OfFile numbers path answers o
 

@@ -14,7 +14,7 @@ use Rattle.ubi_media.specs.declared.record.VolumeRecord.{VolumeRecord}
 use Rattle.ubi_media.specs.declared.refusal.Refusal.{Refusal}
 use Rattle.ubi_scan.specs.Scan.{Found, IsScan, leb_cmp}
 use Rattle.ubi_scan.specs.Image.{IsWholeSize, image_of}
-use Rattle.ubi_scan.specs.Source.{Agreed, Narrows, Source, WhereHeld, blocks_of, holds, sound}
+use Rattle.ubi_scan.specs.Source.{Agreed, Narrows, Source, WhereHeld, blocks_of, holds, memory}
 use Rattle.ubi_scan.proofs.InMemory.{still}
 use Rattle.ubi_scan.specs.Stream.{IsScanOf}
 use Rattle.ubi_scan.specs.declared.errors.StreamError.TheVariants as stream
@@ -180,6 +180,6 @@ module _ (s : Sizes) (k : Source) (agrees : Agreed) (found : Found) (t : Records
 
 -- of bytes in memory it is why that image is refused
 pub refused_in_memory : (s : Sizes) (image left : List ℕ) (c : Refusal) → Narrows (holds image) (holds left)
-    → ArePlacesError s (sound (length image)) (holds left) (stream.Refused c) → Refuses (image_of s image) c
+    → ArePlacesError s (memory image) (holds left) (stream.Refused c) → Refuses (image_of s image) c
 refused_in_memory s image left c narrows (inl fault) = inl fault
 refused_in_memory s image left c narrows (inr h) = inr (h.0, h.1 image (still image left narrows))

@@ -215,7 +215,9 @@ impl BlockSource for Fickle<'_> {
         Ok(())
     }
 
-    ghost sized = { λ s. file_sized (length s.first.now) 0 s.trace.reads };
+    ghost sized = { λ s. file_sized (sound (length s.first.now)) s.trace.reads };
+
+    ghost promised = { λ s. tt };
 }
 
 /// What it finds lies in the source, whatever that answers.

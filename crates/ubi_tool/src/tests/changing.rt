@@ -50,6 +50,8 @@ impl BlockSource for Changing<'_> {
     }
 
     ghost sized = { λ s. unheld_sized (sound (length s.first.now)) };
+
+    ghost promised = { λ s. tt };
 }
 
 /// Whether each logical eraseblock of the first two volumes lies in one of so many eraseblocks.

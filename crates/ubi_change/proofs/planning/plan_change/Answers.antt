@@ -1,5 +1,5 @@
 use Rattle.std.proofs.Common.{length}
-use Rattle.ubi_scan.specs.Source.{holds, sound}
+use Rattle.ubi_scan.specs.Source.{holds, memory}
 use Rattle.ubi_scan.proofs.InMemory.{still}
 use Rattle.ubi_scan.specs.Image.{image_of}
 use Rattle.ubi_change.specs.Planned.{IsPlanned, IsPlanOf}
@@ -11,7 +11,7 @@ planned : (c : goal.In-Ok) → IsPlanOf (image_of c.args.geometry.now c.args.ima
 planned c =
     let image = c.args.image.now in
     let left = c.plan_change_from.new.source in
-    let is : IsPlanned c.args.geometry.now (sound (length image)) (holds left) c.args.id c.args.lnum c.args.new.now c.in-Ok.steps.items =
+    let is : IsPlanned c.args.geometry.now (memory image) (holds left) c.args.id c.args.lnum c.args.new.now c.in-Ok.steps.items =
     rw c.new.ensures at c.in-Ok.ensures.plan in
     is.held image (still image left (rw c.new.ensures at c.in-Ok.ensures.narrows))
 

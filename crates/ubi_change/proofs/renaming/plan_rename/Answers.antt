@@ -1,6 +1,6 @@
 use Rattle.std.proofs.Common.{length}
 use Rattle.ubi_scan.specs.Image.{image_of}
-use Rattle.ubi_scan.specs.Source.{holds, sound}
+use Rattle.ubi_scan.specs.Source.{holds, memory}
 use Rattle.ubi_scan.proofs.InMemory.{still}
 use Rattle.ubi_change.specs.RenamePlanned.{IsPlannedRename, IsRenameOf}
 use Rattle.ubi_change.proofs.Unrenamed.{error_in_memory}
@@ -11,7 +11,7 @@ planned : (c : goal.In-Ok) → IsRenameOf (image_of c.args.geometry.now c.args.i
 planned c =
     let image = c.args.image.now in
     let left = c.plan_rename_from.new.source in
-    let is : IsPlannedRename c.args.geometry.now (sound (length image)) (holds left) c.args.id c.args.name.now c.in-Ok.steps.items =
+    let is : IsPlannedRename c.args.geometry.now (memory image) (holds left) c.args.id c.args.name.now c.in-Ok.steps.items =
     rw c.new.ensures at c.in-Ok.ensures.plan in
     is.held image (still image left (rw c.new.ensures at c.in-Ok.ensures.narrows))
 

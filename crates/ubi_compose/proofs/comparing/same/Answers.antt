@@ -1,5 +1,5 @@
 use Rattle.std.proofs.Common.{length}
-use Rattle.ubi_scan.specs.Source.{Narrows, holds, memory_sized, sound}
+use Rattle.ubi_scan.specs.Source.{Narrows, holds, memory, memory_sized}
 use Rattle.ubi_scan.specs.declared.errors.StreamError.TheVariants as stream
 use Rattle.ubi_scan.proofs.InMemory.{still}
 use Rattle.ubi_scan.proofs.Narrowed.{source_narrowed}
@@ -24,10 +24,10 @@ returns-in-Err-Left-Refused-clause-refused c =
     let cause = c.in-Err-Left-Refused.cause in
     let after = holds c.same_from.new.left in
     let l : Narrows (holds left) after = rw c.new-left.ensures at c.in-Err-Left-Refused.ensures.left_narrows in
-    let h : ArePlacesError s (sound (length left)) after (stream.Refused cause) =
+    let h : ArePlacesError s (memory left) after (stream.Refused cause) =
     rw (c.in-Err-Left-Refused.field-0-is, c.in-Err-Left-Refused.field-0-0-is, c.new-left.ensures) at
     c.in-Err-Left-Refused.ensures.refused in
-    refuses s (sound (length left)) after left cause (source_narrowed (sound (length left)) (holds left) after l
+    refuses s (memory left) after left cause (source_narrowed (memory left) (holds left) after l
     (memory_sized left)) (still left c.same_from.new.left l) h
 
 pub returns-in-Err-Right-Refused-clause-refused : goal.returns-in-Err-Right-Refused-clause-refused
@@ -40,11 +40,11 @@ returns-in-Err-Right-Refused-clause-refused c =
     let l : Narrows (holds left) (holds c.same_from.new.left) =
     rw c.new-left.ensures at c.in-Err-Right-Refused.ensures.left_narrows in
     let r : Narrows (holds right) after = rw c.new-right.ensures at c.in-Err-Right-Refused.ensures.right_narrows in
-    let h : IsSameFault s (sound (length left)) (holds c.same_from.new.left) (sound (length right)) after
+    let h : IsSameFault s (memory left) (holds c.same_from.new.left) (memory right) after
     (fault.Right (stream.Refused cause)) =
     rw (c.in-Err-Right-Refused.field-0-is, c.in-Err-Right-Refused.field-0-0-is, c.new-right.ensures)
     at c.in-Err-Right-Refused.ensures.refused in (
       h.0 left (still left c.same_from.new.left l),
-      refuses s (sound (length right)) after right cause (source_narrowed (sound (length right)) (holds right) after r
+      refuses s (memory right) after right cause (source_narrowed (memory right) (holds right) after r
           (memory_sized right)) (still right c.same_from.new.right r) h.1,
     )

@@ -1,5 +1,5 @@
 use Rattle.std.proofs.Common.{length}
-use Rattle.ubi_scan.specs.Source.{Narrows, holds, sound}
+use Rattle.ubi_scan.specs.Source.{Narrows, holds, memory}
 use Rattle.ubi_scan.specs.declared.errors.StreamError.TheVariants as stream
 use Rattle.ubi_scan.proofs.InMemory.{scan_of_memory, still}
 use Rattle.ubi_table.specs.Stream.{IsTableOf, IsTableOfError}
@@ -23,7 +23,7 @@ returns-in-Ok-clause-table c =
 pub returns-in-Err-Refused-clause-refused : goal.returns-in-Err-Refused-clause-refused
 returns-in-Err-Refused-clause-refused c =
     let image = c.args.blocks.now in
-    let h : IsTableOfError image.sizes (sound (length image.bytes)) (holds c.choose_from.new.source) (stream.Refused c.in-Err-Refused.cause) =
+    let h : IsTableOfError image.sizes (memory image.bytes) (holds c.choose_from.new.source) (stream.Refused c.in-Err-Refused.cause) =
     rw (c.in-Err-Refused.field-0-is, c.geometry.ensures) at c.in-Err-Refused.ensures.refused in
     let narrows : Narrows (holds image.bytes) (holds c.choose_from.new.source) =
     rw (c.new-source.ensures, c.bytes.ensures.value) at c.in-Err-Refused.ensures.narrows in

@@ -1,5 +1,5 @@
 use Rattle.std.proofs.Common.{length}
-use Rattle.ubi_scan.specs.Source.{holds, sound}
+use Rattle.ubi_scan.specs.Source.{holds, memory}
 use Rattle.ubi_scan.proofs.InMemory.{still}
 use Rattle.ubi_volume.specs.Survey.{IsSurveyOf}
 use Rattle.ubi_volume.proofs.PlacesOf.{refused_in_memory}
@@ -9,7 +9,7 @@ pub returns-in-Ok-clause-survey : goal.returns-in-Ok-clause-survey
 returns-in-Ok-clause-survey c =
     let image = c.args.image.now in
     let left = c.survey_from.new.source in
-    let is : IsSurveyOf c.args.geometry.now (sound (length image)) (holds left) c.in-Ok.survey =
+    let is : IsSurveyOf c.args.geometry.now (memory image) (holds left) c.in-Ok.survey =
     rw c.new.ensures at c.in-Ok.ensures.survey in
     is.held image (still image left (rw c.new.ensures at c.in-Ok.ensures.narrows))
 
