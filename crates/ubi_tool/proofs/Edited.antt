@@ -1,14 +1,14 @@
 -- What a change or a rename of a source answers: what its file means, of an image in memory, and into a file.
 use Rattle.std.proofs.Common.{◌≡◌, ℕ, inr, List, [], ◌++◌, length, ap, arith, sym, ◌∙◌, subst, refl}
-use Rattle.std.specs.Prelude.{Bool, IfErr, IfOk, MatchResult, Option, Result, None, Some, Ok, Err, codes}
+use Rattle.std.specs.Prelude.{IfErr, IfOk, Option, Result, Some, Ok, Err, codes}
 use Rattle.std.specs.declared.alloc.AllocError.{AllocError}
 use Rattle.std.proofs.lemmas.List.{take_all}
-use Rattle.std.proofs.lemmas.Result.{IfErr-at_err, IfOk-at_ok}
+use Rattle.std.proofs.lemmas.Result.{IfOk-at_ok}
 use Rattle.ubi_media.specs.Geometry.{Sizes}
 use Rattle.ubi_scan.specs.Image.{image_of}
 use Rattle.ubi_scan.specs.Source.{Agreed, Narrows, Source, WhereHeld, holds, memory}
 use Rattle.ubi_scan.proofs.InMemory.{still}
-use Rattle.ubi_volume.specs.Wrote.{All, Wanted, Wrote}
+use Rattle.ubi_volume.specs.Wrote.{All, Wrote}
 use Rattle.ubi_change.specs.Cuts.{changed, turn}
 use Rattle.ubi_change.specs.Planned.{IsPlanned}
 use Rattle.ubi_change.specs.RenamePlan.{renamed_pages}
@@ -18,26 +18,18 @@ use Rattle.ubi_change.specs.declared.step.Step.{Step}
 use Rattle.ubi_change.proofs.Unplanned as planning
 use Rattle.ubi_change.proofs.Unrenamed as renaming
 use Rattle.ubi_compose.specs.Words.{shown_name}
-use Rattle.ubi_tool.specs.AfterRun.{after_run, IsEnded}
 use Rattle.ubi_tool.specs.Answer.{Gives, says}
 use Rattle.ubi_tool.specs.Change as change
-use Rattle.ubi_tool.specs.Change.{Changes, ChangesFrom, ChangesInto, CutMeans, IsChangeFault}
-use Rattle.ubi_tool.specs.Lines.{file_line, refused}
+use Rattle.ubi_tool.specs.Change.{Changes, ChangesFrom, CutMeans, HasPlan, IsChangeFault}
+use Rattle.ubi_tool.specs.Lines.{refused}
 use Rattle.ubi_tool.specs.Plan.{AreCut, HasFile, IsCarryFault, cut_bytes, cut_text, done, plan_answer, plan_lines, refused_file, steps_done}
 use Rattle.ubi_tool.specs.Rename as rename
-use Rattle.ubi_tool.specs.Rename.{CutIsNamed, IsRenameFault, Renames, RenamesFrom, RenamesInto}
-use Rattle.ubi_tool.specs.inner.Ended.{Works}
+use Rattle.ubi_tool.specs.Rename.{CutIsNamed, HasRename, IsRenameFault, Renames, RenamesFrom}
 use Rattle.ubi_tool.specs.declared.outcome.Outcome.{Outcome}
 use Rattle.ubi_tool.specs.declared.outcome.ToolError.{ToolError}
 use Rattle.ubi_tool.specs.declared.outcome.ToolError.TheVariants as tool
 use Rattle.ubi_tool.proofs.Cut.{cut_accepts, few_done}
-use Rattle.ubi_tool.proofs.Ended.{ends}
 use Rattle.ubi_tool.proofs.Outcomes.{not_both}
-
--- of a writer whose bytes weren't known before nothing is told behind
-unknown : (agrees : Agreed) (now : Option (List ℕ)) (wanted : Wanted) (n : ℕ) → Wrote agrees None now wanted All 0 n
-    → Wrote agrees None None wanted All 0 n
-unknown agrees now wanted n w = record { bytes = w.bytes; got = tt; count = w.count; held = w.held }
 
 -- bytes that were written from none on are those that were wanted
 module _ (s : Sizes) (steps : List Step) (k : ℕ) (agrees : Agreed) (bytes : List ℕ) (agreed : agrees bytes) (n : ℕ)
@@ -119,33 +111,14 @@ module _ (id lnum : ℕ) (new : List ℕ) (stop : Option ℕ) (s : Sizes) where
       subst (λ (b : List ℕ). Changes (image_of s b) id lnum new stop o) same
       (of_memory start left narrows empty file none o h.0 (IfOk-at_ok _ h.1 ok) h.2)
 
-  module _ (k : Source) (agrees : Agreed) where
-    change_unknown : (now : Option (List ℕ)) (o : Outcome) → ChangesFrom id lnum new stop s k agrees None now o
-        → ChangesFrom id lnum new stop s k agrees None None o
-    change_unknown now o (change.planned_from steps plan said wrote meant) =
-        change.planned_from steps plan said (unknown agrees now _ k.size wrote) meant
-    change_unknown now o (change.unplanned_from c line cause is said kept) = change.unplanned_from c line cause is said tt
-
-    planned_done : (now : Option (List ℕ)) (o : Outcome) → ChangesFrom id lnum new stop s k agrees None now o → o.status ≡ 0
-        → (steps : List Step) × IsPlanned s k agrees id lnum new steps
-    planned_done now o (change.planned_from steps plan said wrote meant) zero = (steps, plan)
-    planned_done now o (change.unplanned_from c line cause is said kept) zero = absurd (not_both o zero said.status)
-
-    -- what is answered of a source into a file, once the work is over
-    pub change_into : (after : Source) (path out : List ℕ) (now : Option (List ℕ)) (answer : Result Outcome ToolError) (there : Bool)
-        (unread no_file : Outcome) (r : Result Outcome AllocError)
-        → MatchResult r (IsEnded answer there unread no_file) (λ _. answer ≡ Err tool.Memory)
-        → IfOk answer (ChangesFrom id lnum new stop s k agrees None now)
-        → IfErr answer (IsChangeFault id lnum new stop s k agrees None now) → after ≡ after_run k answer
-        → Gives unread (says (file_line (codes "cannot read ") path) 1)
-        → Gives no_file (says (file_line (codes "cannot write ") out) 1)
-        → IfOk r (Works k after path (ChangesInto id lnum new stop out s k agrees))
-    change_into after path out now answer there unread no_file r ended ok err known no_source no_output =
-        ends answer there k after path _ unread no_file r ended
-        (λ o is. change.written (change_unknown now o (IfOk-at_ok _ is ok)))
-        (λ o is zero. let h = planned_done now o (IfOk-at_ok _ is ok) zero in change.unwritten h.0 h.1 no_output)
-        (λ is. let h = IfErr-at_err _ is err in change.unwritten h.0 h.1 no_output)
-        known no_source
+  -- work that was done had a plan
+  pub plan_done : (k : Source) (agrees : Agreed) (old now : Option (List ℕ)) (answer : Result Outcome ToolError)
+      → IfOk answer (ChangesFrom id lnum new stop s k agrees old now)
+      → IfOk answer (λ o. o.status ≡ 0 → HasPlan id lnum new s k agrees)
+  plan_done k agrees old now (Ok o) (change.planned_from steps plan said wrote meant) = λ zero. (steps, plan)
+  plan_done k agrees old now (Ok o) (change.unplanned_from c line cause is said kept) =
+      λ zero. absurd (not_both o zero said.status)
+  plan_done k agrees old now (Err e) h = tt
 
 module _ (id : ℕ) (word : List ℕ) (stop : Option ℕ) (s : Sizes) where
   pub rename_narrowed : (name : List ℕ) (k : Source) (old later : Agreed) (steps : List Step) → Narrows old later
@@ -214,33 +187,13 @@ module _ (id : ℕ) (word : List ℕ) (stop : Option ℕ) (s : Sizes) where
       subst (λ (b : List ℕ). Renames (image_of s b) id word stop o) same
       (named_memory start left narrows empty file none o h.0 (IfOk-at_ok _ h.1 ok) h.2)
 
-  module _ (k : Source) (agrees : Agreed) where
-    rename_unknown : (now : Option (List ℕ)) (o : Outcome) → RenamesFrom id word stop s k agrees None now o
-        → RenamesFrom id word stop s k agrees None None o
-    rename_unknown now o (rename.planned_from name steps shown plan said wrote of_name) =
-        rename.planned_from name steps shown plan said (unknown agrees now _ k.size wrote) of_name
-    rename_unknown now o (rename.nameless_from shows said kept) = rename.nameless_from shows said tt
-    rename_unknown now o (rename.unplanned_from name c line shown cause is said kept) =
-        rename.unplanned_from name c line shown cause is said tt
-
-    named_done : (now : Option (List ℕ)) (o : Outcome) → RenamesFrom id word stop s k agrees None now o → o.status ≡ 0
-        → (name : List ℕ) × (steps : List Step) × (shown_name word ≡ Some name) × IsPlannedRename s k agrees id name steps
-    named_done now o (rename.planned_from name steps shown plan said wrote of_name) zero = (name, steps, shown, plan)
-    named_done now o (rename.nameless_from shows said kept) zero = absurd (not_both o zero said.status)
-    named_done now o (rename.unplanned_from name c line shown cause is said kept) zero = absurd (not_both o zero said.status)
-
-    -- what is answered of a source into a file, once the work is over
-    pub rename_into : (after : Source) (path out : List ℕ) (now : Option (List ℕ)) (answer : Result Outcome ToolError) (there : Bool)
-        (unread no_file : Outcome) (r : Result Outcome AllocError)
-        → MatchResult r (IsEnded answer there unread no_file) (λ _. answer ≡ Err tool.Memory)
-        → IfOk answer (RenamesFrom id word stop s k agrees None now)
-        → IfErr answer (IsRenameFault id word stop s k agrees None now) → after ≡ after_run k answer
-        → Gives unread (says (file_line (codes "cannot read ") path) 1)
-        → Gives no_file (says (file_line (codes "cannot write ") out) 1)
-        → IfOk r (Works k after path (RenamesInto id word stop out s k agrees))
-    rename_into after path out now answer there unread no_file r ended ok err known no_source no_output =
-        ends answer there k after path _ unread no_file r ended
-        (λ o is. rename.written (rename_unknown now o (IfOk-at_ok _ is ok)))
-        (λ o is zero. let h = named_done now o (IfOk-at_ok _ is ok) zero in rename.unwritten h.0 h.1 h.2 h.3 no_output)
-        (λ is. let h = IfErr-at_err _ is err in rename.unwritten h.0 h.1 h.2 h.3 no_output)
-        known no_source
+  -- work that was done had a plan
+  pub named_done : (k : Source) (agrees : Agreed) (old now : Option (List ℕ)) (answer : Result Outcome ToolError)
+      → IfOk answer (RenamesFrom id word stop s k agrees old now)
+      → IfOk answer (λ o. o.status ≡ 0 → HasRename id word s k agrees)
+  named_done k agrees old now (Ok o) (rename.planned_from name steps shown plan said wrote of_name) =
+      λ zero. (name, steps, shown, plan)
+  named_done k agrees old now (Ok o) (rename.nameless_from shows said kept) = λ zero. absurd (not_both o zero said.status)
+  named_done k agrees old now (Ok o) (rename.unplanned_from name c line shown cause is said kept) =
+      λ zero. absurd (not_both o zero said.status)
+  named_done k agrees old now (Err e) h = tt

@@ -1,10 +1,9 @@
 -- What was extracted where the command did its work, or where a write failed.
 use Rattle.std.proofs.Common.{◌≡◌, ℕ, List, ap, refl, length, sym, zero-add, ◌∙◌, subst, arith}
-use Rattle.std.proofs.lemmas.Result.{IfErr-at_err, IfOk-at_ok}
+use Rattle.std.proofs.lemmas.Result.{IfErr-at_err}
 use Rattle.std.specs.FinMap.{get}
 use Rattle.std.specs.Option.{option_map_or}
-use Rattle.std.specs.Prelude.{Bool, IfErr, IfOk, MatchResult, Option, Some, None, Result, Ok, Err, codes}
-use Rattle.std.specs.declared.alloc.AllocError.{AllocError}
+use Rattle.std.specs.Prelude.{IfErr, IfOk, Option, Some, None, Result, Ok, Err}
 use Rattle.std.specs.Result.{result_map_both}
 use Rattle.ubi_media.specs.Geometry.{Sizes}
 use Rattle.ubi_scan.specs.Image.{Image, image_of}
@@ -22,11 +21,9 @@ use Rattle.ubi_volume.specs.Places.{ArePlaces, Placed}
 use Rattle.ubi_volume.specs.Wrote.{All, First, NotAll, Wanted, Wrote}
 use Rattle.ubi_compose.specs.Streamed.{HasGot}
 use Rattle.ubi_tool.specs.Answer.{Gives, says}
-use Rattle.ubi_tool.specs.Extract.{Extracts, ExtractsFrom, ExtractsInto, HasFirst, HasText, IsExtractError, IsExtractFault, IsVolumeError, ReadsVolume, accepted, read, read_refusal, refused, refused_from, unread, unread_from, unwritten, written, wrote}
-use Rattle.ubi_tool.specs.inner.Ended.{IsUntold, Works}
-use Rattle.ubi_tool.specs.Lines.{bytes_line, file_line}
-use Rattle.ubi_tool.specs.AfterRun.{after_run, IsEnded}
-use Rattle.ubi_tool.proofs.Ended.{ends}
+use Rattle.ubi_tool.specs.Extract.{Extracts, HasFirst, HasText, HasTextIn, IsExtractError, IsExtractFault, IsVolumeError, ReadsVolume, accepted, read, read_refusal, refused, unread}
+use Rattle.ubi_tool.specs.inner.Ended.{IsUntold}
+use Rattle.ubi_tool.specs.Lines.{bytes_line}
 use Rattle.ubi_tool.specs.declared.outcome.Outcome.{Outcome}
 use Rattle.ubi_tool.specs.declared.outcome.ToolError.{ToolError}
 use Rattle.ubi_tool.specs.declared.outcome.ToolError.TheVariants as tool
@@ -87,17 +84,6 @@ pub failed_text : (image : Image) (id : ℕ) (old new : Option (List ℕ)) → I
     → HasText image id
 failed_text image id old new h = (h.0, h.2.0, h.1, h.2.2)
 
--- of a writer whose bytes weren't known before nothing is told behind
-volume_of_unknown : (m : Meant) (id : ℕ) (new : Option (List ℕ)) (o : Outcome) → ReadsVolume m id None new o
-    → ReadsVolume m id None None o
-volume_of_unknown m id new o (unread e h line kept) = unread e h line tt
-volume_of_unknown m id new o (read text h line got) = read text h line tt
-
-pub of_unknown : (image : Image) (id : ℕ) (new : Option (List ℕ)) (o : Outcome) → Extracts image id None new o
-    → Extracts image id None None o
-of_unknown image id new o (accepted m a r) = accepted m a (volume_of_unknown m id new o r)
-of_unknown image id new o (refused c h line kept) = refused c h line tt
-
 -- a volume with a length has a text
 has_text : (r : Result (List ℕ) ReadError) (n : ℕ) → Ok n ≡ result_map_both length (λ (x : ReadError). x) r
     → (text : List ℕ) × (r ≡ Ok text) × (n ≡ length text)
@@ -109,32 +95,17 @@ pub received : (agrees : Agreed) (old new : Option (List ℕ)) (wanted : Wanted)
     → Wrote agrees old new wanted many 0 n → HasGot old new n
 received agrees old new wanted many n w = (w.bytes, sym (w.count ∙ zero-add (length w.bytes)), w.got)
 
--- of any source likewise
-from_unknown : (s : Sizes) (k : Source) (agrees : Agreed) (new : Option (List ℕ)) (o : Outcome)
-    → ExtractsFrom s k agrees None new o → ExtractsFrom s k agrees None None o
-from_unknown s k agrees new o (wrote n whole got line) = wrote n whole (got.0, got.1, tt) line
-from_unknown s k agrees new o (unread_from e whole line kept) = unread_from e whole line tt
-from_unknown s k agrees new o (refused_from c h line kept) = refused_from c h line tt
+-- work that was done, and work of which a write failed, had a text to write
+module _ (s : Sizes) (k : Source) (agrees : Agreed) (id : ℕ) (old new : Option (List ℕ)) where
+  pub text_done : (answer : Result Outcome ToolError)
+      → IfOk answer (λ o. WhereHeld agrees (λ bytes. Extracts (image_of s bytes) id old new o))
+      → IfOk answer (λ o. o.status ≡ 0 → HasTextIn id s agrees)
+  text_done (Ok o) h = λ zero bytes holds. done_text (image_of s bytes) id old new o (h bytes holds) zero
+  text_done (Err e) h = tt
 
--- what is answered of a source into a file, once the work is over
-pub into_file : (s : Sizes) (k after : Source) (agrees : Agreed) (id : ℕ) (path out : List ℕ) (new : Option (List ℕ))
-    (answer : Result Outcome ToolError)
-    (there : Bool) (no_source no_output : Outcome) (r : Result Outcome AllocError)
-    → MatchResult r (IsEnded answer there no_source no_output) (λ _. answer ≡ Err tool.Memory)
-    → IfOk answer (ExtractsFrom s k agrees None new)
-    → IfOk answer (λ o. WhereHeld agrees (λ bytes. Extracts (image_of s bytes) id None new o))
-    → IfErr answer (IsExtractFault s k agrees id None new) → after ≡ after_run k answer
-    → Gives no_source (says (file_line (codes "cannot read ") path) 1) → Gives no_output (says (file_line (codes "cannot write ") out) 1)
-    → IfOk r (Works k after path (ExtractsInto id out s k agrees))
-into_file s k after agrees id path out new answer there no_source no_output r ended ok image err known source output =
-    ends answer there k after path _ no_source no_output r ended
-    (λ o is. written (
-      from_unknown s k agrees new o (IfOk-at_ok _ is ok),
-      λ bytes holds. of_unknown _ id new o (IfOk-at_ok _ is image bytes holds),
-    ))
-    (λ o is zero. unwritten (λ bytes holds. done_text _ id None new o (IfOk-at_ok _ is image bytes holds) zero) output)
-    (λ is. unwritten (λ bytes holds. failed_text _ id None new (IfErr-at_err _ is err bytes holds)) output)
-    known source
+  pub text_failed : (answer : Result Outcome ToolError) → IfErr answer (IsExtractFault s k agrees id old new) → answer ≡ Err tool.Write
+      → HasTextIn id s agrees
+  text_failed answer err is bytes holds = failed_text (image_of s bytes) id old new (IfErr-at_err _ is err bytes holds)
 
 -- what a writer received of a volume of a source, by the places of its LEBs
 module _ (s : Sizes) (agrees : Agreed) (bytes : List ℕ) (holds : agrees bytes) (p : Placed)

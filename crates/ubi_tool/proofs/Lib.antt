@@ -8,6 +8,7 @@ pub mod Edited
 pub mod Ended
 pub mod Extracted
 pub mod GivenWords
+pub mod Into
 pub mod Lacking
 pub mod Levels
 pub mod Listing

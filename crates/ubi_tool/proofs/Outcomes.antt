@@ -1,7 +1,7 @@
 -- What outcomes tell.
-use Rattle.std.proofs.Common.{◌≡◌, ℕ, ◌≤◌, ◌∙◌, List, Some, None, length, subst, sym}
+use Rattle.std.proofs.Common.{◌≡◌, ℕ, ◌≤◌, ◌∙◌, List, Some, None, ap, length, refl, subst, sym}
 use Rattle.std.specs.Io.KnownBytes.{Appends}
-use Rattle.std.specs.Option.{option_and_then}
+use Rattle.std.specs.Option.{ForSome}
 use Rattle.std.specs.Prelude.{IsSome, MatchResult, Ok, Err, Option, Result, IfOk, option_map}
 use Rattle.std.specs.declared.alloc.AllocError.{AllocError}
 use Rattle.std.specs.declared.alloc.Global.{Global}
@@ -17,7 +17,8 @@ use Rattle.ubi_tool.specs.Compose as compose
 use Rattle.ubi_tool.specs.Numbers.{sizes_of}
 use Rattle.ubi_tool.specs.Program.{IsRead, WritesFile, OfImage, OfText, Tells, text_limit}
 use Rattle.ubi_tool.specs.Program as program
-use Rattle.ubi_tool.specs.inner.Received.{Received}
+use Rattle.ubi_tool.specs.Disk.{Files, IsJudgedOf, IsKept, IsTextOf, OthersStay, Receives, fresh}
+use Rattle.ubi_tool.specs.Late.{contents_of}
 use Rattle.ubi_tool.specs.declared.image_file.Unread.{Unread}
 use Rattle.ubi_tool.specs.declared.image_file.Unread.TheVariants.{Memory, Told}
 use Rattle.ubi_tool.specs.declared.numbers.Numbers.{Numbers}
@@ -44,29 +45,29 @@ described_with_file s text spares seq o (unread line c e gives) some = absurd (n
 described_with_file s text spares seq o (unmade c is gives) some = absurd (no_file o.file gives.file some)
 
 -- composing, and then writing the file
-pub composes_into : (s : Sizes) (text : List ℕ) (spares seq : ℕ) (out : List ℕ) (work o : Outcome)
-    → Composes s text spares seq work → WritesFile out work o
-    → ComposesInto out s text spares seq o
-composes_into s text spares seq out work o n program.written = compose.written n
-composes_into s text spares seq out work o n (program.unwritten some gives) =
+pub composes_into : (s : Sizes) (text : List ℕ) (spares seq : ℕ) (out : List ℕ) (d e : Files) (work o : Outcome)
+    → Composes s text spares seq work → WritesFile out d e work o
+    → ComposesInto out d e s text spares seq o
+composes_into s text spares seq out d e work o n (program.kept received) = compose.written n received
+composes_into s text spares seq out d e work o n (program.lost some gives) =
     let h = described_with_file s text spares seq work n some in
     compose.unwritten h.0 h.1 h.2 gives
 
 -- what is answered of an image that was read
-pub of_image : (numbers : Numbers) (path : List ℕ) (answers : Image → Outcome → Type 0) (s : Sizes) (bytes : List ℕ)
+pub of_image : (d : Files) (numbers : Numbers) (path : List ℕ) (answers : Image → Outcome → Type 0) (s : Sizes) (bytes : List ℕ)
     (o : Outcome)
-    → s ≡ sizes_of numbers → IsRead (sizes_of numbers) bytes → answers (image_of s bytes) o
-    → OfImage numbers path answers o
-of_image numbers path answers s bytes o e read a =
-    program.image bytes read (subst (λ (t : Sizes). answers (image_of t bytes) o) e a)
+    → s ≡ sizes_of numbers → IsRead (sizes_of numbers) bytes → IsJudgedOf d path (sizes_of numbers) bytes → answers (image_of s bytes) o
+    → OfImage d numbers path answers o
+of_image d numbers path answers s bytes o e read named a =
+    program.image bytes read named (subst (λ (t : Sizes). answers (image_of t bytes) o) e a)
 
 -- what is answered of a text that was read
-pub of_text : (numbers : Numbers) (path : List ℕ) (answers : Sizes → List ℕ → Outcome → Type 0) (s : Sizes)
+pub of_text : (d : Files) (numbers : Numbers) (path : List ℕ) (answers : Sizes → List ℕ → Outcome → Type 0) (s : Sizes)
     (bytes : List ℕ) (o : Outcome)
     → s ≡ sizes_of numbers → first_broken (sizes_of numbers) ≡ None → length bytes ≤ text_limit (sizes_of numbers)
-    → answers s bytes o
-    → OfText numbers path answers o
-of_text numbers path answers s bytes o e limits few a = program.text bytes limits few
+    → IsTextOf d path bytes → answers s bytes o
+    → OfText d numbers path answers o
+of_text d numbers path answers s bytes o e limits few named a = program.text bytes limits few named
     (subst (λ (t : Sizes). answers t bytes o) e a)
 
 -- what is told is no less than more
@@ -80,8 +81,30 @@ pub told : (is : Outcome → Type 0) (u : Unread) (r : Result Outcome AllocError
 told is u (Ok o) h e = subst (Tells is) e h
 told is u (Err x) h e = tt
 
--- what an open file took is what it received
-pub received : {F : Type 0} (contents : F → Option (List ℕ)) (file : Option F) (now : Option (List ℕ)) (bytes : List ℕ)
-    → IsSome file → Appends (option_and_then contents file) now bytes → Received contents now bytes
-received contents None now bytes some h = absurd (cc)
-received contents (Some f) now bytes some h = (f, h)
+-- the file at a path holds what a late file received that was opened and closed
+pub holds_received : {F : Type 0} (contents : F → Option (List ℕ)) (at : F → List ℕ) (d e : Files) (path key : List ℕ)
+    (empty : Option (List ℕ)) (file : Option F) → path ≡ key → IsSome file → ForSome file (λ f. at f ≡ key)
+    → ForSome file (λ f. IsKept d e (at f) (contents f)) → e.holds path ≡ contents_of empty contents file
+holds_received contents at d e path key empty None named some is kept = absurd cc
+holds_received contents at d e path key empty (Some f) named some is kept =
+    ap e.holds (named ∙ sym (is f refl)) ∙ (kept f refl).named
+
+-- and other paths hold what they held
+pub others_stay : {F : Type 0} (contents : F → Option (List ℕ)) (at : F → List ℕ) (d e : Files) (path key : List ℕ)
+    (file : Option F) → path ≡ key → ForSome file (λ f. at f ≡ key) → ForSome file (λ f. IsKept d e (at f) (contents f))
+    → (file ≡ None → e ≡ d) → OthersStay d e path
+others_stay contents at d e path key None named is kept none other apart = ap (λ (x : Files). x.holds other) (none refl)
+others_stay contents at d e path key (Some f) named is kept none other apart =
+    (kept f refl).others other (λ same. apart (same ∙ is f refl ∙ sym named))
+
+-- the file received bytes that were written into it
+pub receives : (d e : Files) (path : List ℕ) (file : Option (Vec ℕ Global)) (v : Vec ℕ Global) (empty received : Option (List ℕ))
+    → file ≡ Some v → fresh d ≡ empty → e.holds path ≡ received → Appends empty received v.items
+    → Receives d e path (option_map (λ v. v.items) file)
+receives d e path file v empty received is same holds h =
+    rw (is, same, holds) h
+
+-- an outcome without a file leaves the file as it was
+pub no_bytes : (d : Files) (path : List ℕ) (file : Option (Vec ℕ Global)) → file ≡ None
+    → Receives d d path (option_map (λ v. v.items) file)
+no_bytes d path file is = rw is refl

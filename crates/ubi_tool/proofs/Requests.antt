@@ -13,7 +13,8 @@ use Rattle.clap.specs.declared.error.kind.ErrorKind.TheVariants as kind
 use Rattle.clap.specs.declared.parser.matches.ArgMatches.{ArgMatches}
 use Rattle.ubi_tool.specs.Answer.{Gives, says}
 use Rattle.ubi_tool.specs.CommandLine.{IsOneOf, IsRequest}
-use Rattle.ubi_tool.specs.Program.{IsAnswer, IsAnswerTo, answered, wrong_words}
+use Rattle.ubi_tool.specs.Disk.{Files}
+use Rattle.ubi_tool.specs.Program.{IsAllElse, IsAnswer, IsAnswerTo, answered, wrong_words}
 use Rattle.ubi_tool.specs.Tool.{Takes, tool}
 use Rattle.ubi_tool.specs.declared.command_line.Request.{Request}
 use Rattle.ubi_tool.specs.declared.outcome.Outcome.{Outcome}
@@ -32,23 +33,23 @@ module _ (c : Command) (words : List Text) (is : app_of c ≡ tool) where
   free : is_simple_and_free (app_of c) ≡ true
   free = ap is_simple_and_free is ∙ tool_is_free
 
-  pub refused : (e : Error) (r : Result Outcome AllocError)
+  pub refused : (d : Files) (e : Error) (r : Result Outcome AllocError)
       → (is_simple_and_free (app_of c) ≡ true → HasKind (fault_of (app_of c) words) e)
-      → IfOk r (λ o. Gives o (says [] 2)) → (kind_of e ≡ kind.OutOfMemory) ↔ IsErr r → IfOk r (IsAnswer words)
-  refused e (Err x) fails gives memory = tt
-  refused e (Ok o) fails gives memory =
-      wrong_words (λ takes. not_taken (subst (λ (a : App). HasKind (fault_of a words) e) is (fails free)) takes) gives
+      → IfOk r (λ o. Gives o (says [] 2)) → (kind_of e ≡ kind.OutOfMemory) ↔ IsErr r → IfOk r (IsAnswer words d d)
+  refused d e (Err x) fails gives memory = tt
+  refused d e (Ok o) fails gives memory =
+      wrong_words (λ takes. not_taken (subst (λ (a : App). HasKind (fault_of a words) e) is (fails free)) takes) gives (λ path. refl)
     where
       not_taken : HasKind (fault_of tool words) e → Takes words → ⊥
       not_taken (inl out) takes = true≢false (sym (memory.0 out))
       not_taken (inr among) takes = subst (λ kinds. IsAmong (kind_of e) kinds) takes among
 
   -- matches that were read of them are a request, whose answer is given
-  pub asked : (m : ArgMatches) (request : Option Request) (r : Result Outcome AllocError)
+  pub asked : (d e : Files) (m : ArgMatches) (request : Option Request) (r : Result Outcome AllocError)
       → HasMatchesOf (app_of c) words m → (is_simple_and_free (app_of c) ≡ true → fault_of (app_of c) words ≡ [])
-      → IsOneOf (IsRequest (subcommand_rows_of m)) request → IfSome request (λ q. IfOk r (IsAnswerTo q))
-      → IfOk r (IsAnswer words)
-  asked m request r matches passes = by_case request r
+      → IsOneOf (IsRequest (subcommand_rows_of m)) request → IfSome request (λ q. IfOk r (λ o. IsAnswerTo d e q o × IsAllElse q d e))
+      → IfOk r (IsAnswer words d e)
+  asked d e m request r matches passes = by_case request r
     where
       taken : Takes words
       taken = sym (ap (λ (a : App). fault_of a words) is) ∙ passes free
@@ -57,10 +58,10 @@ module _ (c : Command) (words : List Text) (is : app_of c ≡ tool) where
       read = (matches (ap is_simple is ∙ tool_is_simple)).1 ∙ ap (λ (a : App). subcommand_of a words) is
 
       by_case : (request : Option Request) (r : Result Outcome AllocError)
-          → IsOneOf (IsRequest (subcommand_rows_of m)) request → IfSome request (λ q. IfOk r (IsAnswerTo q))
-          → IfOk r (IsAnswer words)
+          → IsOneOf (IsRequest (subcommand_rows_of m)) request → IfSome request (λ q. IfOk r (λ o. IsAnswerTo d e q o × IsAllElse q d e))
+          → IfOk r (IsAnswer words d e)
       by_case None r none some =
           let asks = taken_asked words taken in
           absurd (none asks.0 (subst (λ named. IsRequest named asks.0) (sym read) asks.1))
-      by_case (Some q) (Err e) one some = tt
-      by_case (Some q) (Ok o) one some = answered q (taken, subst (λ named. IsRequest named q) read one) some
+      by_case (Some q) (Err x) one some = tt
+      by_case (Some q) (Ok o) one some = answered q (taken, subst (λ named. IsRequest named q) read one) some.0 some.1

@@ -14,7 +14,7 @@ use Rattle.ubi_volume.specs.Accepts.{Accepts}
 use Rattle.ubi_volume.specs.Meant.{Meant}
 use Rattle.ubi_volume.specs.Wrote.{All, Wrote}
 use Rattle.ubi_tool.specs.Answer.{Gives, says}
-use Rattle.ubi_tool.specs.Lines.{file_line, refusal_line, refused}
+use Rattle.ubi_tool.specs.Lines.{refusal_line, refused}
 use Rattle.ubi_tool.specs.Plan.{CutAccepts, IsCarryFault, cut_text, plan_answer, plan_lines, steps_done}
 use Rattle.ubi_tool.specs.declared.lines.Detail.TheVariants as detail
 use Rattle.ubi_tool.specs.declared.outcome.Outcome.{Outcome}
@@ -68,9 +68,6 @@ module _ (id lnum : ℕ) (new : List ℕ) (stop : Option ℕ) (s : Sizes) (k : S
   IsChangeFault old now tool.Write =
       (steps : List Step) × IsPlanned s k agrees id lnum new steps × IsCarryFault s agrees steps (steps_done steps stop) old now tool.Write
 
--- what it answers over files, of whose bytes nothing is known: that, or the line of an output that can't be written
-pub data ChangesInto (id lnum : ℕ) (new : List ℕ) (stop : Option ℕ) (out : List ℕ) (s : Sizes) (k : Source) (agrees : Agreed) : Outcome
-    → Type 0 where
-  written : {o : Outcome} → ChangesFrom id lnum new stop s k agrees None None o → ChangesInto id lnum new stop out s k agrees o
-  unwritten : {o : Outcome} (steps : List Step) → IsPlanned s k agrees id lnum new steps
-      → Gives o (says (file_line (codes "cannot write ") out) 1) → ChangesInto id lnum new stop out s k agrees o
+-- a change of a source is planned
+abbrev pub HasPlan : ℕ → ℕ → List ℕ → Sizes → Source → Agreed → Type 0
+HasPlan id lnum new s k agrees = (steps : List Step) × IsPlanned s k agrees id lnum new steps

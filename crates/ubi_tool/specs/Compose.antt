@@ -1,5 +1,5 @@
 -- What composing an image from a text answers.
-use Rattle.std.specs.Prelude.{◌≡◌, ℕ, ◌+◌, ◌<◌, List, [], ◌∷◌, Some, Ok, Err, codes, length}
+use Rattle.std.specs.Prelude.{◌≡◌, ℕ, ◌+◌, ◌<◌, List, [], ◌∷◌, Some, Ok, Err, codes, length, option_map}
 use Rattle.ubi_media.specs.Geometry.{Sizes}
 use Rattle.ubi_scan.specs.Image.{image_of}
 use Rattle.ubi_volume.specs.Accepts.{Accepts}
@@ -13,6 +13,7 @@ use Rattle.ubi_compose.specs.Spec.{first_cause}
 use Rattle.ubi_compose.specs.declared.errors.SpecCause.{SpecCause}
 use Rattle.ubi_compose.specs.declared.errors.SpecCause.TheVariants as spec
 use Rattle.ubi_tool.specs.Answer.{Answer, Gives, says}
+use Rattle.ubi_tool.specs.Disk.{Files, Receives}
 use Rattle.ubi_tool.specs.Lines.{blocks_line, file_line, refused}
 use Rattle.ubi_tool.specs.declared.lines.Detail.TheVariants as detail
 use Rattle.ubi_tool.specs.declared.outcome.Outcome.{Outcome}
@@ -63,8 +64,10 @@ pub data Composes (s : Sizes) (text : List ℕ) (spares seq : ℕ) : Outcome →
       → Gives o (says (spec_line line cause) 1) → Composes s text spares seq o
   unmade : {o : Outcome} (cause : MeaningCause) → ComesTo s seq text (Err cause) → Gives o (says (meaning_line cause) 1) → Composes s text spares seq o
 
--- what it answers over files: the same, or the line of an output that can't be written
-pub data ComposesInto (out : List ℕ) (s : Sizes) (text : List ℕ) (spares seq : ℕ) : Outcome → Type 0 where
-  written : {o : Outcome} → Composes s text spares seq o → ComposesInto out s text spares seq o
+-- what it answers over files: the same, and the file at a path received the image, if there is one; or the line of an output
+-- that can't be written
+pub data ComposesInto (out : List ℕ) (old new : Files) (s : Sizes) (text : List ℕ) (spares seq : ℕ) : Outcome → Type 0 where
+  written : {o : Outcome} → Composes s text spares seq o → Receives old new out (option_map (λ v. v.items) o.file)
+      → ComposesInto out old new s text spares seq o
   unwritten : {o : Outcome} (m : Meant) → ComesTo s seq text (Ok m) → HasRoom m spares
-      → Gives o (says (file_line (codes "cannot write ") out) 1) → ComposesInto out s text spares seq o
+      → Gives o (says (file_line (codes "cannot write ") out) 1) → ComposesInto out old new s text spares seq o

@@ -1,5 +1,5 @@
 -- What is extracted of an image: what one of its volumes reads.
-use Rattle.std.specs.Prelude.{◌≡◌, ℕ, ◌<◌, ◌≤◌, ◌⊎◌, List, Option, None, Result, Ok, Err, codes, length, take}
+use Rattle.std.specs.Prelude.{◌≡◌, ℕ, ◌<◌, ◌≤◌, ◌⊎◌, List, Option, Result, Ok, Err, codes, length, take}
 use Rattle.std.specs.Io.KnownBytes.{Appends, Keeps}
 use Rattle.ubi_media.specs.Geometry.{Sizes}
 use Rattle.ubi_media.specs.declared.refusal.Refusal.{Refusal}
@@ -14,7 +14,7 @@ use Rattle.ubi_volume.specs.declared.errors.ReadError.{ReadError}
 use Rattle.ubi_volume.specs.declared.errors.ReadError.TheVariants as error
 use Rattle.ubi_compose.specs.Streamed.{HasGot}
 use Rattle.ubi_tool.specs.Answer.{Gives, says}
-use Rattle.ubi_tool.specs.Lines.{bytes_line, file_line, read_line, refusal_line}
+use Rattle.ubi_tool.specs.Lines.{bytes_line, read_line, refusal_line}
 use Rattle.ubi_tool.specs.declared.outcome.Outcome.{Outcome}
 use Rattle.ubi_tool.specs.declared.outcome.ToolError.{ToolError}
 use Rattle.ubi_tool.specs.declared.outcome.ToolError.TheVariants as tool
@@ -81,18 +81,15 @@ pub data ExtractsFrom (s : Sizes) (k : Source) (agrees : Agreed) (old new : Opti
   refused_from : {o : Outcome} (c : Refusal) → ArePlacesError s k agrees (stream.Refused c) → Gives o (says (refusal_line c) 1) → Keeps old new
       → ExtractsFrom s k agrees old new o
 
--- what it answers of a source into a file, of whose bytes nothing is known: whatever the source may hold, it is what it
--- answers of that image
-abbrev pub ExtractsOf : ℕ → Sizes → Source → Agreed → Outcome → Type 0
-ExtractsOf id s k agrees o =
-    ExtractsFrom s k agrees None None o × WhereHeld agrees (λ bytes. Extracts (image_of s bytes) id None None o)
+-- what it answers of a source: whatever that may hold, it is what it answers of that image
+abbrev pub ExtractsOf : ℕ → Sizes → Source → Agreed → Option (List ℕ) → Option (List ℕ) → Outcome → Type 0
+ExtractsOf id s k agrees old new o =
+    ExtractsFrom s k agrees old new o × WhereHeld agrees (λ bytes. Extracts (image_of s bytes) id old new o)
 
 -- what a volume of the image's meaning reads
 abbrev pub HasText : Image → ℕ → Type 0
 HasText image id = (m : Meant) × (text : List ℕ) × Accepts image m × (read_volume m id ≡ Ok text)
 
--- and of the output: that, or the line of an output that can't be written
-pub data ExtractsInto (id : ℕ) (out : List ℕ) (s : Sizes) (k : Source) (agrees : Agreed) : Outcome → Type 0 where
-  written : {o : Outcome} → ExtractsOf id s k agrees o → ExtractsInto id out s k agrees o
-  unwritten : {o : Outcome} → WhereHeld agrees (λ bytes. HasText (image_of s bytes) id)
-      → Gives o (says (file_line (codes "cannot write ") out) 1) → ExtractsInto id out s k agrees o
+-- whatever a source may hold, the volume can be read
+abbrev pub HasTextIn : ℕ → Sizes → Agreed → Type 0
+HasTextIn id s agrees = WhereHeld agrees (λ bytes. HasText (image_of s bytes) id)

@@ -1,10 +1,7 @@
--- What a file that is opened late received first.
-use Rattle.std.specs.Prelude.{ℕ, List, Option, None, Some, Result, IsErr}
-use Rattle.std.specs.Io.KnownBytes.{WriteAppends}
+-- What a file received that is opened late.
+use Rattle.std.specs.Prelude.{ℕ, List, None, Option, Some}
 
-module _ {F : Type 0} (contents : F → Option (List ℕ)) where
-  -- a write that finds no file open: it opened none, and failed; or to what the file held as it was opened it appended
-  -- what it took
-  abbrev pub IsFirstWrite : {E : Type 0} → Option F → Result ℕ E → List ℕ → Type 0
-  IsFirstWrite None r bytes = IsErr r
-  IsFirstWrite (Some file) r bytes = (opened : F) × WriteAppends (contents opened) (contents file) r bytes
+-- what was received so far: what a file holds that was just opened anew, until it is open
+abbrev pub contents_of : {F : Type 0} → Option (List ℕ) → (F → Option (List ℕ)) → Option F → Option (List ℕ)
+contents_of empty contents None = empty
+contents_of empty contents (Some file) = contents file

@@ -4,6 +4,7 @@ pub mod Change
 pub mod Check
 pub mod CommandLine
 pub mod Compose
+pub mod Disk
 pub mod Extract
 pub mod Headline
 pub mod Late

@@ -1,5 +1,5 @@
 -- What normalising a source into a writer answers.
-use Rattle.std.specs.Prelude.{ℕ, ◌/◌, List, Option, None, codes, length}
+use Rattle.std.specs.Prelude.{ℕ, ◌/◌, List, Option, length}
 use Rattle.std.specs.Io.KnownBytes.{Appends, Keeps}
 use Rattle.ubi_media.specs.Geometry.{Sizes}
 use Rattle.ubi_media.specs.declared.refusal.Refusal.{Refusal}
@@ -12,7 +12,7 @@ use Rattle.ubi_volume.specs.Places.{ArePlacesError}
 use Rattle.ubi_compose.specs.Normal.{normal_blocks, normal_bytes}
 use Rattle.ubi_compose.specs.Streamed.{IsNormaliseToError, IsNormalisedTo}
 use Rattle.ubi_tool.specs.Answer.{Gives, says}
-use Rattle.ubi_tool.specs.Lines.{blocks_line, file_line, refusal_line}
+use Rattle.ubi_tool.specs.Lines.{blocks_line, refusal_line}
 use Rattle.ubi_tool.specs.declared.outcome.Outcome.{Outcome}
 use Rattle.ubi_tool.specs.declared.outcome.ToolError.{ToolError}
 use Rattle.ubi_tool.specs.declared.outcome.ToolError.TheVariants as tool
@@ -40,14 +40,11 @@ IsNormaliseError s k agrees old new tool.Memory = Keeps old new
 IsNormaliseError s k agrees old new tool.Read = (p : ℕ) × (n : ℕ) × IsNormaliseToError s k agrees old new (stream.Read p n)
 IsNormaliseError s k agrees old new tool.Write = (n : ℕ) × IsNormaliseToError s k agrees old new (stream.Write n)
 
--- what it answers of a source into a file, of whose bytes nothing is known: whatever the source may hold, it is what it
--- answers of that image
-abbrev pub NormalisesOf : Sizes → Source → Agreed → Outcome → Type 0
-NormalisesOf s k agrees o =
-    NormalisesTo s k agrees None None o × WhereHeld agrees (λ bytes. Normalises (image_of s bytes) None None o)
+-- what it answers of a source: whatever that may hold, it is what it answers of that image
+abbrev pub NormalisesOf : Sizes → Source → Agreed → Option (List ℕ) → Option (List ℕ) → Outcome → Type 0
+NormalisesOf s k agrees old new o =
+    NormalisesTo s k agrees old new o × WhereHeld agrees (λ bytes. Normalises (image_of s bytes) old new o)
 
--- and of the output: that, or the line of an output that can't be written
-pub data NormalisesInto (out : List ℕ) (s : Sizes) (k : Source) (agrees : Agreed) : Outcome → Type 0 where
-  written : {o : Outcome} → NormalisesOf s k agrees o → NormalisesInto out s k agrees o
-  unwritten : {o : Outcome} → WhereHeld agrees (λ bytes. (m : Meant) × Accepts (image_of s bytes) m)
-      → Gives o (says (file_line (codes "cannot write ") out) 1) → NormalisesInto out s k agrees o
+-- whatever a source may hold is accepted
+abbrev pub HasMeaning : Sizes → Agreed → Type 0
+HasMeaning s agrees = WhereHeld agrees (λ bytes. (m : Meant) × Accepts (image_of s bytes) m)

@@ -1,20 +1,21 @@
 -- What the program answers over files.
-use Rattle.std.specs.Prelude.{◌≡◌, ℕ, ◌*◌, ◌+◌, ◌≤◌, List, [], length, Some, None, IsSome, codes}
+use Rattle.std.specs.Prelude.{◌≡◌, ℕ, ◌*◌, ◌+◌, ◌≤◌, List, [], length, Some, None, Option, IfSome, IsSome, codes, option_map}
 use Rattle.ubi_media.specs.Geometry.{Sizes}
 use Rattle.ubi_media.specs.Limits.{first_broken}
 use Rattle.ubi_media.specs.declared.geometry.GeometryError.{GeometryError}
 use Rattle.ubi_scan.specs.Image.{Image, image_of}
 use Rattle.ubi_scan.specs.Source.{Agreed, Source, holds, known_by, memory}
 use Rattle.ubi_tool.specs.Answer.{Gives, says}
-use Rattle.ubi_tool.specs.Change.{ChangesInto}
+use Rattle.ubi_tool.specs.Change.{ChangesFrom, HasPlan}
 use Rattle.ubi_tool.specs.Check.{ChecksOf}
 use Rattle.ubi_tool.specs.Compose.{ComposesInto}
-use Rattle.ubi_tool.specs.Extract.{ExtractsInto}
+use Rattle.ubi_tool.specs.Disk.{AllStay, Files, IsJudgedOf, IsLeft, IsTextOf, OthersStay, Receives, fresh}
+use Rattle.ubi_tool.specs.Extract.{ExtractsOf, HasTextIn}
 use Rattle.ubi_tool.specs.Lines.{file_line, geometry_line}
 use Rattle.ubi_tool.specs.List.{ListsOf}
-use Rattle.ubi_tool.specs.Normalise.{NormalisesInto}
+use Rattle.ubi_tool.specs.Normalise.{HasMeaning, NormalisesOf}
 use Rattle.ubi_tool.specs.Numbers.{sizes_of}
-use Rattle.ubi_tool.specs.Rename.{RenamesInto}
+use Rattle.ubi_tool.specs.Rename.{HasRename, RenamesFrom}
 use Rattle.ubi_tool.specs.Same.{ComparesOf}
 use Rattle.ubi_tool.specs.Show.{ShowsOf}
 use Rattle.ubi_tool.specs.Tool.{Requests, Takes}
@@ -43,60 +44,93 @@ abbrev pub Tells : (Outcome → Type 0) → Unread → Type 0
 Tells is unread.Memory = Unit {0}
 Tells is (unread.Told o) = is o
 
--- what a command over one image file can answer: that, or what it answers of an image
-pub data OfImage (numbers : Numbers) (path : List ℕ) (answers : Image → Outcome → Type 0) : Outcome → Type 0 where
-  no_image : {o : Outcome} → IsUnread numbers path o → OfImage numbers path answers o
-  image : {o : Outcome} (bytes : List ℕ) → IsRead (sizes_of numbers) bytes
-      → answers (image_of (sizes_of numbers) bytes) o → OfImage numbers path answers o
+-- what a command over one image file can answer: that, or what it answers of the image that the file holds
+pub data OfImage (d : Files) (numbers : Numbers) (path : List ℕ) (answers : Image → Outcome → Type 0) : Outcome → Type 0 where
+  no_image : {o : Outcome} → IsUnread numbers path o → OfImage d numbers path answers o
+  image : {o : Outcome} (bytes : List ℕ) → IsRead (sizes_of numbers) bytes → IsJudgedOf d path (sizes_of numbers) bytes
+      → answers (image_of (sizes_of numbers) bytes) o → OfImage d numbers path answers o
 
 -- how many bytes a text may have: four for each byte of the device, and 65,536 more
 abbrev pub text_limit : Sizes → ℕ
 text_limit s = 4 * (s.pebs * s.peb_size) + 65536
 
--- what a command over a text file can answer: that of a file that can't be had, or what it answers of a text that isn't
--- too long
-pub data OfText (numbers : Numbers) (path : List ℕ) (answers : Sizes → List ℕ → Outcome → Type 0) : Outcome → Type 0 where
-  no_text : {o : Outcome} → IsUnread numbers path o → OfText numbers path answers o
+-- what a command over a text file can answer: that of a file that can't be had, or what it answers of the text that the
+-- file holds, and that isn't too long
+pub data OfText (d : Files) (numbers : Numbers) (path : List ℕ) (answers : Sizes → List ℕ → Outcome → Type 0) : Outcome → Type 0 where
+  no_text : {o : Outcome} → IsUnread numbers path o → OfText d numbers path answers o
   text : {o : Outcome} (bytes : List ℕ) → first_broken (sizes_of numbers) ≡ None → length bytes ≤ text_limit (sizes_of numbers)
-      → answers (sizes_of numbers) bytes o → OfText numbers path answers o
+      → IsTextOf d path bytes → answers (sizes_of numbers) bytes o → OfText d numbers path answers o
 
 -- what a command can answer over one image file: that of a file that can't be had; or what it answers of a source, which
--- holds the bytes that were read whole, or is a file of some size that answered some reads
-pub data OfFile (numbers : Numbers) (path : List ℕ) (answers : Sizes → Source → Agreed → Outcome → Type 0) : Outcome → Type 0 where
-  no_file : {o : Outcome} → IsUnread numbers path o → OfFile numbers path answers o
-  whole : {o : Outcome} (bytes : List ℕ) → IsRead (sizes_of numbers) bytes
-      → answers (sizes_of numbers) (memory bytes) (holds bytes) o → OfFile numbers path answers o
-  places : {o : Outcome} (size : ℕ) (reads : List (ℕ × List ℕ)) → first_broken (sizes_of numbers) ≡ None
-      → answers (sizes_of numbers) (sound size) (known_by size reads) o → OfFile numbers path answers o
+-- holds the bytes of the file, read whole, or is known by reads of it, with which the bytes of the file agree
+pub data OfFile (d : Files) (numbers : Numbers) (path : List ℕ) (answers : Sizes → Source → Agreed → Outcome → Type 0) : Outcome
+    → Type 0 where
+  no_file : {o : Outcome} → IsUnread numbers path o → OfFile d numbers path answers o
+  whole : {o : Outcome} (bytes : List ℕ) → IsRead (sizes_of numbers) bytes → IsJudgedOf d path (sizes_of numbers) bytes
+      → answers (sizes_of numbers) (memory bytes) (holds bytes) o → OfFile d numbers path answers o
+  places : {o : Outcome} (k : Source) (reads : List (ℕ × List ℕ)) → first_broken (sizes_of numbers) ≡ None → k.failures ≡ 0
+      → IfSome (d.holds path) (known_by k.size reads) → answers (sizes_of numbers) k (known_by k.size reads) o
+      → OfFile d numbers path answers o
 
 -- and over two
-abbrev pub BothOf : Numbers → List ℕ → List ℕ → (Sizes → Source → Agreed → Source → Agreed → Outcome → Type 0) → Outcome → Type 0
-BothOf numbers left right answers =
-    OfFile numbers left (λ s k here. OfFile numbers right (λ t l there. answers t k here l there))
+abbrev pub BothOf : Files → Numbers → List ℕ → List ℕ → (Sizes → Source → Agreed → Source → Agreed → Outcome → Type 0) → Outcome
+    → Type 0
+BothOf d numbers left right answers =
+    OfFile d numbers left (λ s k here. OfFile d numbers right (λ t l there. answers t k here l there))
 
--- once the file of an outcome is written, if it has one: the outcome, or the line of a file that can't be written
-pub data WritesFile (path : List ℕ) (outcome : Outcome) : Outcome → Type 0 where
-  written : WritesFile path outcome outcome
-  unwritten : {o : Outcome} → IsSome outcome.file → Gives o (says (file_line (codes "cannot write ") path) 1) → WritesFile path outcome o
+-- what can be answered of a source by a command that writes the file at a path: what it answers, and the file received what
+-- it wrote; or the line of a file that can't be written, where there is something to write
+pub data WritesInto (out : List ℕ) (old new : Files) (answers : Option (List ℕ) → Option (List ℕ) → Outcome → Type 0) (writes : Type 0)
+    : Outcome → Type 0 where
+  written : {o : Outcome} (received : Option (List ℕ)) → answers (fresh old) received o → IsLeft old new out received o
+      → WritesInto out old new answers writes o
+  unwritten : {o : Outcome} → writes → Gives o (says (file_line (codes "cannot write ") out) 1) → WritesInto out old new answers writes o
 
--- what a request can be answered: what its command answers, for its own numbers, paths and volume
-abbrev pub IsAnswerTo : Request → Outcome → Type 0
-IsAnswerTo (request.List numbers path) = OfFile numbers path.now ListsOf
-IsAnswerTo (request.Check numbers path) = OfFile numbers path.now ChecksOf
-IsAnswerTo (request.Show numbers path p) = OfFile numbers path.now (ShowsOf p)
-IsAnswerTo (request.Extract numbers path id out) = OfFile numbers path.now (ExtractsInto id out.now)
-IsAnswerTo (request.Compose numbers spec out spares seq) = OfText numbers spec.now (λ s t. ComposesInto out.now s t spares seq)
-IsAnswerTo (request.Normalise numbers path out) = OfFile numbers path.now (NormalisesInto out.now)
-IsAnswerTo (request.Same numbers left right) = BothOf numbers left.now right.now ComparesOf
-IsAnswerTo (request.Change numbers path change) =
-    OfFile numbers path.now
-    (λ s k agrees. OfImage numbers change.from.now
-    (λ f. ChangesInto change.id change.lnum f.bytes change.stop change.out.now s k agrees))
-IsAnswerTo (request.Rename numbers path rename) =
-    OfFile numbers path.now (RenamesInto rename.id rename.name.now rename.stop rename.out.now)
+-- once the file of an outcome is written, if it has one: the outcome, and the file received that; or the line of a file that
+-- can't be written
+pub data WritesFile (path : List ℕ) (old new : Files) (outcome : Outcome) : Outcome → Type 0 where
+  kept : Receives old new path (option_map (λ v. v.items) outcome.file) → WritesFile path old new outcome outcome
+  lost : {o : Outcome} → IsSome outcome.file → Gives o (says (file_line (codes "cannot write ") path) 1)
+      → WritesFile path old new outcome o
+
+-- what a request can be answered: what its command answers, for its own numbers, paths and volume, of the files that are
+-- named, and with what becomes of the file that is written
+abbrev pub IsAnswerTo : Files → Files → Request → Outcome → Type 0
+IsAnswerTo d e (request.List numbers path) = OfFile d numbers path.now ListsOf
+IsAnswerTo d e (request.Check numbers path) = OfFile d numbers path.now ChecksOf
+IsAnswerTo d e (request.Show numbers path p) = OfFile d numbers path.now (ShowsOf p)
+IsAnswerTo d e (request.Extract numbers path id out) =
+    OfFile d numbers path.now (λ s k agrees. WritesInto out.now d e (ExtractsOf id s k agrees) (HasTextIn id s agrees))
+IsAnswerTo d e (request.Compose numbers spec out spares seq) =
+    OfText d numbers spec.now (λ s t. ComposesInto out.now d e s t spares seq)
+IsAnswerTo d e (request.Normalise numbers path out) =
+    OfFile d numbers path.now (λ s k agrees. WritesInto out.now d e (NormalisesOf s k agrees) (HasMeaning s agrees))
+IsAnswerTo d e (request.Same numbers left right) = BothOf d numbers left.now right.now ComparesOf
+IsAnswerTo d e (request.Change numbers path change) =
+    OfFile d numbers path.now
+    (λ s k agrees. OfImage d numbers change.from.now
+    (λ f. WritesInto change.out.now d e (ChangesFrom change.id change.lnum f.bytes change.stop s k agrees)
+    (HasPlan change.id change.lnum f.bytes s k agrees)))
+IsAnswerTo d e (request.Rename numbers path rename) =
+    OfFile d numbers path.now
+    (λ s k agrees. WritesInto rename.out.now d e (RenamesFrom rename.id rename.name.now rename.stop s k agrees)
+    (HasRename rename.id rename.name.now s k agrees))
+
+-- each file holds what it held, but for the one that a request writes
+abbrev pub IsAllElse : Request → Files → Files → Type 0
+IsAllElse (request.List _ _) d e = AllStay d e
+IsAllElse (request.Check _ _) d e = AllStay d e
+IsAllElse (request.Show _ _ _) d e = AllStay d e
+IsAllElse (request.Extract _ _ _ out) d e = OthersStay d e out.now
+IsAllElse (request.Compose _ _ out _ _) d e = OthersStay d e out.now
+IsAllElse (request.Normalise _ _ out) d e = OthersStay d e out.now
+IsAllElse (request.Same _ _ _) d e = AllStay d e
+IsAllElse (request.Change _ _ change) d e = OthersStay d e change.out.now
+IsAllElse (request.Rename _ _ rename) d e = OthersStay d e rename.out.now
 
 -- what the program can answer: nothing where the command line doesn't take the words, and else what the request that
--- they are can be answered
-pub data IsAnswer (words : List (List ℕ)) : Outcome → Type 0 where
-  wrong_words : {o : Outcome} → (Takes words → ⊥) → Gives o (says [] 2) → IsAnswer words o
-  answered : {o : Outcome} (asked : Request) → Requests words asked → IsAnswerTo asked o → IsAnswer words o
+-- they are can be answered; and no other file is changed than the one that it names
+pub data IsAnswer (words : List (List ℕ)) (d e : Files) : Outcome → Type 0 where
+  wrong_words : {o : Outcome} → (Takes words → ⊥) → Gives o (says [] 2) → AllStay d e → IsAnswer words d e o
+  answered : {o : Outcome} (asked : Request) → Requests words asked → IsAnswerTo d e asked o → IsAllElse asked d e
+      → IsAnswer words d e o

@@ -17,7 +17,7 @@ use Rattle.ubi_volume.specs.Accepts.{Accepts}
 use Rattle.ubi_volume.specs.Meant.{Meant}
 use Rattle.ubi_volume.specs.Wrote.{All, Wrote}
 use Rattle.ubi_tool.specs.Answer.{Gives, says}
-use Rattle.ubi_tool.specs.Lines.{file_line, refusal_line, refused}
+use Rattle.ubi_tool.specs.Lines.{refusal_line, refused}
 use Rattle.ubi_tool.specs.Plan.{CutAccepts, IsCarryFault, cut_text, plan_answer, plan_lines, steps_done}
 use Rattle.ubi_tool.specs.declared.lines.Detail.TheVariants as detail
 use Rattle.ubi_tool.specs.declared.outcome.Outcome.{Outcome}
@@ -82,10 +82,7 @@ module _ (id : ℕ) (word : List ℕ) (stop : Option ℕ) (s : Sizes) (k : Sourc
       (name : List ℕ) × (steps : List Step) × (shown_name word ≡ Some name) × IsPlannedRename s k agrees id name steps
       × IsCarryFault s agrees steps (steps_done steps stop) old now tool.Write
 
--- what it answers over files, of whose bytes nothing is known: that, or the line of an output that can't be written
-pub data RenamesInto (id : ℕ) (word : List ℕ) (stop : Option ℕ) (out : List ℕ) (s : Sizes) (k : Source) (agrees : Agreed) : Outcome
-    → Type 0 where
-  written : {o : Outcome} → RenamesFrom id word stop s k agrees None None o → RenamesInto id word stop out s k agrees o
-  unwritten : {o : Outcome} (name : List ℕ) (steps : List Step) → shown_name word ≡ Some name
-      → IsPlannedRename s k agrees id name steps → Gives o (says (file_line (codes "cannot write ") out) 1)
-      → RenamesInto id word stop out s k agrees o
+-- a rename of a source to the name that a word shows is planned
+abbrev pub HasRename : ℕ → List ℕ → Sizes → Source → Agreed → Type 0
+HasRename id word s k agrees =
+    (name : List ℕ) × (steps : List Step) × (shown_name word ≡ Some name) × IsPlannedRename s k agrees id name steps

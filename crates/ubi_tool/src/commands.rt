@@ -4,22 +4,21 @@ ghost use Rattle.clap.specs.Values.{kind_of};
 ghost use Rattle.std.specs.Prelude.{◌≡◌, ◌↔◌, [], IfOk, IfSome, IsErr, None, map, string_bytes};
 ghost use Rattle.ubi_tool.specs.Answer.{Gives, says};
 ghost use Rattle.ubi_tool.specs.Compose.{ComposesInto};
-ghost use Rattle.ubi_tool.specs.Program.{IsAnswer, IsAnswerTo, OfText};
+ghost use Rattle.ubi_tool.specs.Disk.{AllStay, OthersStay};
+ghost use Rattle.ubi_tool.specs.Program.{IsAllElse, IsAnswer, IsAnswerTo, OfText};
 
 use crate::command_line::{Request, command_line, request_of};
 use crate::compose::run_compose;
-use crate::edits::{change_file, rename_file};
+use crate::disk::Disk;
 use crate::numbers::Numbers;
 use crate::outcome::{Outcome, WRONG_WORDS};
 use crate::output_file::write_outcome;
 use crate::readers::{Checking, Listing, Showing, read_file, same_files};
 use crate::spec_file::load_spec;
-use crate::streaming::{extract_file, normalise_file};
+use crate::writers::{Extracting, Normalising, Paths, change_file, rename_file, write_file};
 use clap::Error;
 use clap::error::ErrorKind;
 use std::alloc::{AllocError, Global};
-use std::fs::Files;
-use std::os::unix::fs::FileExt;
 
 /// Runs the command that the words name, over files. The first word is the program's name. Where somebody watches the
 /// standard error, it is told there how far long work is.
@@ -30,99 +29,100 @@ use std::os::unix::fs::FileExt;
 /// # Errors
 ///
 /// Memory ran out. No output file was opened then.
-pub fn run_words<R: Files + Eprint>(
-    rt: &R,
+pub fn run_words<D: Disk + Eprint>(
+    disk: &mut D,
     alloc: Global,
     words: &[String],
     is_watched: bool,
 ) -> Result<Outcome, AllocError>
-where
-    R::File: FileExt,
-    ensures { IfOk result (IsAnswer (map (λ word. string_bytes word) words.now)) }
+    ensures { IfOk result (IsAnswer (map (λ word. string_bytes word) words.now) (D.files disk.old) (D.files disk.new)) }
 {
     let matches = match command_line(alloc)?.try_get_matches_from(words) {
         Ok(matches) => matches,
-        Err(error) => return wrong_words(rt, alloc, &error),
+        Err(error) => return wrong_words(disk, alloc, &error),
     };
-    run_asked(rt, alloc, request_of(&matches), is_watched)
+    run_asked(disk, alloc, request_of(&matches), is_watched)
 }
 
 /// Runs what the words ask for, where they ask for anything.
-fn run_asked<R: Files + Eprint>(
-    rt: &R,
+fn run_asked<D: Disk + Eprint>(
+    disk: &mut D,
     alloc: Global,
     request: Option<Request<'_>>,
     is_watched: bool,
 ) -> Result<Outcome, AllocError>
-where
-    R::File: FileExt,
-    ensures none { request.entry ≡ None → IfOk result (λ o. Gives o (says [] 2)) }
-    ensures some { IfSome request.entry (λ r. IfOk result (IsAnswerTo r)) }
+    ensures none { request.entry ≡ None → IfOk result (λ o. Gives o (says [] 2) × AllStay (D.files disk.old) (D.files disk.new)) }
+    ensures some { IfSome request.entry (λ r. IfOk result (λ o. IsAnswerTo (D.files disk.old) (D.files disk.new) r o × IsAllElse r (D.files disk.old) (D.files disk.new))) }
 {
     match request {
-        Some(request) => run_request(rt, alloc, request, is_watched),
+        Some(request) => run_request(disk, alloc, request, is_watched),
         None => Ok(nothing(alloc)),
     }
 }
 
 /// Runs a request.
-fn run_request<R: Files + Eprint>(
-    rt: &R,
+fn run_request<D: Disk + Eprint>(
+    disk: &mut D,
     alloc: Global,
     request: Request<'_>,
     is_watched: bool,
 ) -> Result<Outcome, AllocError>
-where
-    R::File: FileExt,
-    ensures { IfOk result (IsAnswerTo request.entry) }
+    ensures answer { IfOk result (IsAnswerTo (D.files disk.old) (D.files disk.new) request.entry) }
+    ensures others { IsAllElse request.entry (D.files disk.old) (D.files disk.new) }
 {
     match request {
-        Request::List { numbers, image } => read_file(rt, alloc, numbers, image, &Listing),
-        Request::Check { numbers, image } => read_file(rt, alloc, numbers, image, &Checking),
+        Request::List { numbers, image } => read_file(disk, alloc, numbers, image, &Listing),
+        Request::Check { numbers, image } => read_file(disk, alloc, numbers, image, &Checking),
         Request::Show {
             numbers,
             image,
             block,
-        } => read_file(rt, alloc, numbers, image, &Showing { block }),
+        } => read_file(disk, alloc, numbers, image, &Showing { block }),
         Request::Extract {
             numbers,
             image,
             id,
             out,
-        } => extract_file(rt, alloc, numbers, image, id, out),
+        } => {
+            let paths = Paths { image, out };
+            write_file(disk, alloc, numbers, &paths, &Extracting { id }, false)
+        }
         Request::Compose {
             numbers,
             spec,
             out,
             spares,
             image_seq,
-        } => compose_file(rt, alloc, numbers, spec, out, spares, image_seq),
+        } => compose_file(disk, alloc, numbers, spec, out, spares, image_seq),
         Request::Normalise {
             numbers,
             image,
             out,
-        } => normalise_file(rt, alloc, numbers, image, out, is_watched),
+        } => {
+            let paths = Paths { image, out };
+            write_file(disk, alloc, numbers, &paths, &Normalising, is_watched)
+        }
         Request::Same {
             numbers,
             left,
             right,
-        } => same_files(rt, alloc, numbers, left, right),
+        } => same_files(disk, alloc, numbers, left, right),
         Request::Change {
             numbers,
             image,
             change,
-        } => change_file(rt, alloc, numbers, image, &change),
+        } => change_file(disk, alloc, numbers, image, &change),
         Request::Rename {
             numbers,
             image,
             rename,
-        } => rename_file(rt, alloc, numbers, image, &rename),
+        } => rename_file(disk, alloc, numbers, image, &rename),
     }
 }
 
 /// Composes the image that a text file describes, into another file.
-fn compose_file<R: Files>(
-    rt: &R,
+fn compose_file<D: Disk>(
+    disk: &mut D,
     alloc: Global,
     numbers: Numbers,
     spec: &str,
@@ -130,15 +130,16 @@ fn compose_file<R: Files>(
     spares: u32,
     image_seq: u32,
 ) -> Result<Outcome, AllocError>
-    ensures { IfOk result (OfText numbers spec.now (λ s t. ComposesInto out.now s t spares image_seq)) }
+    ensures answer { IfOk result (OfText (D.files disk.old) numbers spec.now (λ s t. ComposesInto out.now (D.files disk.old) (D.files disk.new) s t spares image_seq)) }
+    ensures others { OthersStay (D.files disk.old) (D.files disk.new) out.now }
 {
-    let file = match load_spec(rt, alloc, numbers, spec) {
+    let file = match load_spec(disk, alloc, numbers, spec) {
         Ok(file) => file,
         Err(unread) => return unread.answer(),
     };
     let text = file.text.as_slice();
     let outcome = run_compose(alloc, &file.geometry, text, spares, image_seq)?;
-    write_outcome(rt, alloc, outcome, out)
+    write_outcome(disk, alloc, outcome, out)
 }
 
 /// Prints to standard error what is wrong with the words.

@@ -6,18 +6,19 @@ ghost use Rattle.ubi_media.specs.Limits.{first_broken};
 ghost use Rattle.ubi_scan.specs.Image.{judged};
 ghost use Rattle.ubi_tool.specs.AfterRun.{IsNoWrite, IsTold};
 ghost use Rattle.ubi_tool.specs.Answer.{Gives, says};
+ghost use Rattle.ubi_tool.specs.Disk.{IsJudgedOf};
 ghost use Rattle.ubi_tool.specs.Lines.{file_line, geometry_line};
 ghost use Rattle.ubi_tool.specs.Numbers.{sizes_of};
 ghost use Rattle.ubi_tool.specs.Program.{IsRead, IsUnread, Tells};
 ghost use Rattle.ubi_tool.specs.Read.{TakesAtMost};
 ghost use Rattle.ubi_tool.specs.declared.image_file.Unread.TheVariants.{Memory, Told};
 
+use crate::disk::{Disk, WholeFile};
 use crate::lines::{file_line, geometry_line};
 use crate::numbers::{Numbers, geometry_of};
 use crate::outcome::{FAILED, Outcome, ToolError, WRONG_WORDS};
-use crate::read::{expected_len, open_whole, read_limited};
+use crate::read::read_limited;
 use std::alloc::{AllocError, Global};
-use std::fs::{Files, OpenFile};
 use std::io::Read;
 use ubi_media::{Geometry, GeometryError};
 
@@ -67,31 +68,32 @@ impl From<AllocError> for Unread {
 }
 
 /// Those bytes of an image that are judged: all, or the first ones up to one more than a device of the geometry has.
-fn read_judged<F: OpenFile + Read>(
+fn read_judged<F: Read>(
     alloc: Global,
-    file: &mut F,
+    file: &mut WholeFile<F>,
     geometry: &Geometry,
 ) -> Result<Vec<u8>, ToolError>
-    ensures bytes { IfOk result (λ v. IfSome (F.remaining file.old) (λ xs. v.items ≡ judged geometry.now xs)) }
+    ensures bytes { IfOk result (λ v. IfSome (F.remaining file.old.reader) (λ xs. v.items ≡ judged geometry.now xs)) }
     ensures few { IfOk result (λ v. vec_len v ≤ geometry.now.pebs * geometry.now.peb_size + 1) }
-    ensures rest { IfOk result (λ v. Consumes (F.remaining file.old) (F.remaining file.new) v.items) }
-    ensures taken { OnErr result (TakesAtMost (geometry.now.pebs * geometry.now.peb_size + 1) (F.remaining file.old) (F.remaining file.new)) }
+    ensures rest { IfOk result (λ v. Consumes (F.remaining file.old.reader) (F.remaining file.new.reader) v.items) }
+    ensures taken { OnErr result (TakesAtMost (geometry.now.pebs * geometry.now.peb_size + 1) (F.remaining file.old.reader) (F.remaining file.new.reader)) }
 {
-    let expected = expected_len(file);
+    let expected = file.expected;
     let device = u64::from(geometry.pebs()) * u64::from(geometry.peb_size());
-    read_limited(alloc, file, device + 1, expected)
+    read_limited(alloc, &mut file.reader, device + 1, expected)
 }
 
 /// Those bytes of an image file that are judged.
-fn read_image<R: Files>(
-    rt: &R,
+fn read_image<D: Disk>(
+    disk: &D,
     alloc: Global,
     geometry: &Geometry,
     path: &str,
 ) -> Result<Vec<u8>, ToolError>
-    ensures { IfOk result (λ v. vec_len v ≤ geometry.now.pebs * geometry.now.peb_size + 1) }
+    ensures few { IfOk result (λ v. vec_len v ≤ geometry.now.pebs * geometry.now.peb_size + 1) }
+    ensures named { IfOk result (λ v. IsJudgedOf (D.files disk.now) path.now geometry.now v.items) }
 {
-    read_judged(alloc, &mut open_whole(rt, path)?, geometry)
+    read_judged(alloc, &mut disk.whole(path)?, geometry)
 }
 
 /// The line of a geometry that breaks a limit.
@@ -167,18 +169,19 @@ pub fn told(
 /// # Errors
 ///
 /// The line of the first limit that the numbers break, that of a file that can't be read, or that memory ran out.
-pub fn load<R: Files>(
-    rt: &R,
+pub fn load<D: Disk>(
+    disk: &D,
     alloc: Global,
     numbers: Numbers,
     path: &str,
 ) -> Result<ImageFile, Unread>
     ensures geometry { IfOk result (λ f. f.geometry ≡ sizes_of numbers) }
     ensures read { IfOk result (λ f. IsRead (sizes_of numbers) f.bytes.items) }
+    ensures named { IfOk result (λ f. IsJudgedOf (D.files disk.now) path.now (sizes_of numbers) f.bytes.items) }
     ensures unread { IfErr result (Tells (IsUnread numbers path.now)) }
 {
     let geometry = allowed_geometry(alloc, numbers)?;
-    match read_image(rt, alloc, &geometry, path) {
+    match read_image(disk, alloc, &geometry, path) {
         Ok(bytes) => Ok(ImageFile { geometry, bytes }),
         Err(error) => Err(unread_file(alloc, path, error)),
     }

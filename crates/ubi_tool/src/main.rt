@@ -13,8 +13,9 @@ mod check;
 mod command_line;
 mod commands;
 mod compose;
-mod edits;
+mod disk;
 mod extract;
+mod host;
 mod image_file;
 mod image_source;
 mod late_file;
@@ -35,8 +36,9 @@ mod rename;
 mod same;
 mod show;
 mod spec_file;
-mod streaming;
+mod writers;
 
+use host::Host;
 use outcome::WRONG_WORDS;
 use std::alloc::AllocError;
 use std::io::{ErrorKind, IsTerminal, Write};
@@ -52,7 +54,8 @@ fn main(rt: HostRuntime) -> ExitCode {
     let status = match words_of(&rt) {
         Ok(words) => {
             let is_watched = rt.stderr().is_terminal();
-            let answer = commands::run_words(&rt, rt.alloc(), words.as_slice(), is_watched);
+            let mut disk = Host::new(&rt);
+            let answer = commands::run_words(&mut disk, rt.alloc(), words.as_slice(), is_watched);
             printing::report(&rt, &mut output, &answer)
         }
         Err(error) => unread_words(&rt, &mut output, &error),

@@ -2,31 +2,29 @@
 
 ghost use Rattle.std.specs.Prelude.{◌≢◌, IfErr, IfOk};
 ghost use Rattle.ubi_tool.specs.Program.{IsUnread, Tells};
-ghost use Rattle.ubi_tool.specs.Opened.{IsOpened, WhereAtPlaces};
+ghost use Rattle.ubi_tool.specs.Opened.{IsOpened, IsUnreadOf, WhereAtPlaces};
 
+use crate::disk::Disk;
 use crate::image_file::{ImageFile, Unread, allowed_geometry, load};
-use crate::image_source::{source_at, source_of};
 use crate::numbers::Numbers;
 use std::alloc::Global;
-use std::fs::Files;
-use std::os::unix::fs::FileExt;
 use ubi_media::Geometry;
 use ubi_scan::FileSource;
 
-/// An image file that is read at places, and the geometry that the words give it.
+/// An image that is read at places, and the geometry that the words give it.
 #[derive(Drop)]
-pub struct PlacedFile<F> {
+pub struct PlacedImage<S> {
     /// The geometry of its device.
     pub geometry: Geometry,
-    /// The source over it.
-    pub source: FileSource<F>,
+    /// The source over its file.
+    pub source: S,
 }
 
 /// An image file that was opened.
 #[derive(Drop)]
-pub enum OpenImage<F> {
+pub enum OpenImage<S> {
     /// One that is read at places.
-    AtPlaces(PlacedFile<F>),
+    AtPlaces(PlacedImage<S>),
     /// One that was read whole, since it can't be read at places.
     Whole(ImageFile),
 }
@@ -36,21 +34,19 @@ pub enum OpenImage<F> {
 /// # Errors
 ///
 /// The line of the first limit that the numbers break, that of a file that can't be read, or that memory ran out.
-pub fn open_image<R: Files>(
-    rt: &R,
+pub fn open_image<D: Disk>(
+    disk: &D,
     alloc: Global,
     numbers: Numbers,
     path: &str,
-) -> Result<OpenImage<R::File>, Unread>
-where
-    R::File: FileExt,
-    ensures opened { IfOk result (IsOpened numbers) }
+) -> Result<OpenImage<FileSource<D::Placed>>, Unread>
+    ensures opened { IfOk result (IsOpened (λ s. IsUnreadOf (D.files disk.now) path.now (D.Placed.bytes s.file) s.failures) (D.files disk.now) path.now numbers) }
     ensures unread { IfErr result (Tells (IsUnread numbers path.now)) }
 {
     let geometry = allowed_geometry(alloc, numbers)?;
-    match source_at(rt, path) {
-        Some(source) => Ok(OpenImage::AtPlaces(PlacedFile { geometry, source })),
-        None => Ok(OpenImage::Whole(load(rt, alloc, numbers, path)?)),
+    match disk.source_at(path) {
+        Some(source) => Ok(OpenImage::AtPlaces(PlacedImage { geometry, source })),
+        None => Ok(OpenImage::Whole(load(disk, alloc, numbers, path)?)),
     }
 }
 
@@ -60,22 +56,20 @@ where
 /// # Errors
 ///
 /// Those of [`open_image`].
-pub fn open_beside<R: Files>(
-    rt: &R,
+pub fn open_beside<D: Disk>(
+    disk: &D,
     alloc: Global,
     numbers: Numbers,
     path: &str,
     out: &str,
-) -> Result<OpenImage<R::File>, Unread>
-where
-    R::File: FileExt,
-    ensures opened { IfOk result (IsOpened numbers) }
+) -> Result<OpenImage<FileSource<D::Placed>>, Unread>
+    ensures opened { IfOk result (IsOpened (λ s. IsUnreadOf (D.files disk.now) path.now (D.Placed.bytes s.file) s.failures) (D.files disk.now) path.now numbers) }
     ensures apart { IfOk result (WhereAtPlaces (path.now ≢ out.now)) }
     ensures unread { IfErr result (Tells (IsUnread numbers path.now)) }
 {
     let geometry = allowed_geometry(alloc, numbers)?;
-    match source_of(rt, path, out) {
-        Some(source) => Ok(OpenImage::AtPlaces(PlacedFile { geometry, source })),
-        None => Ok(OpenImage::Whole(load(rt, alloc, numbers, path)?)),
+    match disk.source_beside(path, out) {
+        Some(source) => Ok(OpenImage::AtPlaces(PlacedImage { geometry, source })),
+        None => Ok(OpenImage::Whole(load(disk, alloc, numbers, path)?)),
     }
 }

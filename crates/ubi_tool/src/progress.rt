@@ -14,8 +14,7 @@ const LONG: u64 = 1 << 28;
 #[derive(Drop)]
 pub struct Told<'a, R, W> {
     rt: &'a R,
-    /// The other writer.
-    pub writer: W,
+    writer: W,
     /// How many bytes it may receive, where that is told of.
     most: Option<u64>,
     /// How many it has received.
@@ -54,6 +53,13 @@ impl<'a, R: Eprint, W: Write> Told<'a, R, W> {
             self.last = now;
             let _ = self.rt.eprint(format_args!("\r{now} % of the image"));
         }
+    }
+
+    /// The other writer.
+    pub fn into_writer(self) -> W
+        ensures { result ≡ self.entry.writer }
+    {
+        self.writer
     }
 
     /// Takes the line away again.

@@ -10,6 +10,7 @@ ghost use Rattle.ubi_tool.specs.Same.{ComparesOf};
 ghost use Rattle.ubi_tool.specs.declared.outcome.Outcome.{Outcome};
 
 use crate::check::run_check_from;
+use crate::disk::Disk;
 use crate::image_file::{told, unread_line};
 use crate::list::run_list_from;
 use crate::numbers::Numbers;
@@ -18,8 +19,6 @@ use crate::outcome::{Outcome, SidesError, ToolError};
 use crate::same::run_same_from;
 use crate::show::run_show_from;
 use std::alloc::{AllocError, Global};
-use std::fs::Files;
-use std::os::unix::fs::FileExt;
 use ubi_media::Geometry;
 use ubi_scan::{BlockSource, MemorySource};
 
@@ -106,18 +105,16 @@ impl Reading for Showing {
 }
 
 /// Does the work of a command over an image file.
-pub fn read_file<R: Files, C: Reading>(
-    rt: &R,
+pub fn read_file<D: Disk, C: Reading>(
+    disk: &D,
     alloc: Global,
     numbers: Numbers,
     image: &str,
     command: &C,
 ) -> Result<Outcome, AllocError>
-where
-    R::File: FileExt,
-    ensures { IfOk result (OfFile numbers image.now (C.answers command.now)) }
+    ensures { IfOk result (OfFile (D.files disk.now) numbers image.now (C.answers command.now)) }
 {
-    match open_image(rt, alloc, numbers, image) {
+    match open_image(disk, alloc, numbers, image) {
         Ok(OpenImage::AtPlaces(mut file)) => {
             let work = command.answer(alloc, &file.geometry, &mut file.source);
             told(alloc, work, image)
@@ -154,20 +151,18 @@ fn told_of_sides(
 }
 
 /// Compares what the source over the left file means with what the right file does.
-fn same_beside<R: Files, S: BlockSource>(
-    rt: &R,
+fn same_beside<D: Disk, S: BlockSource>(
+    disk: &D,
     alloc: Global,
     numbers: Numbers,
     source: &mut S,
     left: &str,
     right: &str,
 ) -> Result<Outcome, AllocError>
-where
-    R::File: FileExt,
     ensures narrows { Narrows (S.agrees source.old) (S.agrees source.new) }
-    ensures answer { IfOk result (Works (S.known source.old) (S.known source.new) left.now (OfFile numbers right.now (λ s l there. ComparesOf s (S.known source.old) (S.agrees source.new) l there))) }
+    ensures answer { IfOk result (Works (S.known source.old) (S.known source.new) left.now (OfFile (D.files disk.now) numbers right.now (λ s l there. ComparesOf s (S.known source.old) (S.agrees source.new) l there))) }
 {
-    match open_image(rt, alloc, numbers, right) {
+    match open_image(disk, alloc, numbers, right) {
         Ok(OpenImage::AtPlaces(mut file)) => {
             let work = run_same_from(alloc, &file.geometry, source, &mut file.source);
             told_of_sides(alloc, work, left, right)
@@ -182,24 +177,22 @@ where
 }
 
 /// Compares what two files mean. Both are opened before the first is judged.
-pub fn same_files<R: Files>(
-    rt: &R,
+pub fn same_files<D: Disk>(
+    disk: &D,
     alloc: Global,
     numbers: Numbers,
     left: &str,
     right: &str,
 ) -> Result<Outcome, AllocError>
-where
-    R::File: FileExt,
-    ensures { IfOk result (BothOf numbers left.now right.now ComparesOf) }
+    ensures { IfOk result (BothOf (D.files disk.now) numbers left.now right.now ComparesOf) }
 {
-    match open_image(rt, alloc, numbers, left) {
+    match open_image(disk, alloc, numbers, left) {
         Ok(OpenImage::AtPlaces(mut file)) => {
-            same_beside(rt, alloc, numbers, &mut file.source, left, right)
+            same_beside(disk, alloc, numbers, &mut file.source, left, right)
         }
         Ok(OpenImage::Whole(file)) => {
             let mut source = MemorySource::new(file.bytes.as_slice());
-            same_beside(rt, alloc, numbers, &mut source, left, right)
+            same_beside(disk, alloc, numbers, &mut source, left, right)
         }
         Err(unread) => unread.answer(),
     }

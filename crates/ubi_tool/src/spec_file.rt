@@ -3,16 +3,17 @@
 ghost use Rattle.std.specs.Io.KnownBytes.{Consumes};
 ghost use Rattle.std.specs.Prelude.{◌≡◌, ◌≢◌, ◌+◌, ◌≤◌, IfErr, IfOk, IfSome, None, OnErr, length, vec_len};
 ghost use Rattle.ubi_media.specs.Limits.{first_broken};
+ghost use Rattle.ubi_tool.specs.Disk.{IsTextOf};
 ghost use Rattle.ubi_tool.specs.Numbers.{sizes_of};
 ghost use Rattle.ubi_tool.specs.Program.{IsUnread, Tells, text_limit};
 ghost use Rattle.ubi_tool.specs.Read.{TakesAtMost};
 
+use crate::disk::{Disk, WholeFile};
 use crate::image_file::{Unread, allowed_geometry, unread_file};
 use crate::numbers::Numbers;
 use crate::outcome::ToolError;
-use crate::read::{expected_len, open_whole, read_limited};
+use crate::read::read_limited;
 use std::alloc::Global;
-use std::fs::{Files, OpenFile};
 use std::io::Read;
 use ubi_media::Geometry;
 
@@ -38,20 +39,20 @@ fn text_limit(geometry: &Geometry) -> u64
 /// # Errors
 ///
 /// Read where a read fails, and where there are more bytes than a text may have. Memory where memory ran out.
-fn read_text<F: OpenFile + Read>(
+fn read_text<F: Read>(
     alloc: Global,
-    file: &mut F,
+    file: &mut WholeFile<F>,
     geometry: &Geometry,
 ) -> Result<Vec<u8>, ToolError>
-    ensures bytes { IfOk result (λ v. IfSome (F.remaining file.old) (λ xs. v.items ≡ xs)) }
+    ensures bytes { IfOk result (λ v. IfSome (F.remaining file.old.reader) (λ xs. v.items ≡ xs)) }
     ensures few { IfOk result (λ v. vec_len v ≤ text_limit geometry.now) }
-    ensures rest { IfOk result (λ v. Consumes (F.remaining file.old) (F.remaining file.new) v.items) }
-    ensures taken { OnErr result (TakesAtMost (text_limit geometry.now + 1) (F.remaining file.old) (F.remaining file.new)) }
+    ensures rest { IfOk result (λ v. Consumes (F.remaining file.old.reader) (F.remaining file.new.reader) v.items) }
+    ensures taken { OnErr result (TakesAtMost (text_limit geometry.now + 1) (F.remaining file.old.reader) (F.remaining file.new.reader)) }
     ensures err { IfErr result (λ e. e ≢ ToolError.Write) }
 {
-    let expected = expected_len(file);
+    let expected = file.expected;
     let limit = text_limit(geometry);
-    let text = read_limited(alloc, file, limit + 1, expected)?;
+    let text = read_limited(alloc, &mut file.reader, limit + 1, expected)?;
     if text.len() as u64 > limit {
         return Err(ToolError::Read);
     }
@@ -59,15 +60,16 @@ fn read_text<F: OpenFile + Read>(
 }
 
 /// The bytes of the text at a path.
-fn read_spec<R: Files>(
-    rt: &R,
+fn read_spec<D: Disk>(
+    disk: &D,
     alloc: Global,
     geometry: &Geometry,
     path: &str,
 ) -> Result<Vec<u8>, ToolError>
-    ensures { IfOk result (λ v. vec_len v ≤ text_limit geometry.now) }
+    ensures few { IfOk result (λ v. vec_len v ≤ text_limit geometry.now) }
+    ensures named { IfOk result (λ v. IsTextOf (D.files disk.now) path.now v.items) }
 {
-    read_text(alloc, &mut open_whole(rt, path)?, geometry)
+    read_text(alloc, &mut disk.whole(path)?, geometry)
 }
 
 /// Reads the text of a path, once its geometry is known to break no limit.
@@ -76,8 +78,8 @@ fn read_spec<R: Files>(
 ///
 /// The line of the first limit that the numbers break, that of a file that can't be read, one that is too long among
 /// them, or that memory ran out.
-pub fn load_spec<R: Files>(
-    rt: &R,
+pub fn load_spec<D: Disk>(
+    disk: &D,
     alloc: Global,
     numbers: Numbers,
     path: &str,
@@ -85,10 +87,11 @@ pub fn load_spec<R: Files>(
     ensures geometry { IfOk result (λ f. f.geometry ≡ sizes_of numbers) }
     ensures limits { IfOk result (λ _. first_broken (sizes_of numbers) ≡ None) }
     ensures few { IfOk result (λ f. length f.text.items ≤ text_limit (sizes_of numbers)) }
+    ensures named { IfOk result (λ f. IsTextOf (D.files disk.now) path.now f.text.items) }
     ensures unread { IfErr result (Tells (IsUnread numbers path.now)) }
 {
     let geometry = allowed_geometry(alloc, numbers)?;
-    match read_spec(rt, alloc, &geometry, path) {
+    match read_spec(disk, alloc, &geometry, path) {
         Ok(text) => Ok(SpecFile { geometry, text }),
         Err(error) => Err(unread_file(alloc, path, error)),
     }

@@ -1,5 +1,5 @@
 -- What attaching a source gives, by what its parts answered.
-use Rattle.std.proofs.Common.{◌≡◌, ℕ, inl, inr, cond, List, [], ◌∷◌, ◌++◌, length, map, refl, ap, sym, ◌∙◌, subst}
+use Rattle.std.proofs.Common.{◌≡◌, ℕ, inl, inr, cond, List, [], ◌∷◌, ◌++◌, map, refl, ap, sym, ◌∙◌, subst}
 use Rattle.std.specs.Prelude.{IsSome, Option, Some, None, ◌==◌, option_map}
 use Rattle.std.specs.Prelude as prelude
 use Rattle.std.specs.Cmp.{nat_cmp_total}

@@ -48,7 +48,7 @@ where
     for word in line.split_whitespace() {
         words.push(String::from_str(alloc, word)?)?;
     }
-    run_words(files, alloc, words.as_slice(), false)
+    run_words(&mut Host::new(files), alloc, words.as_slice(), false)
 }
 
 /// Asserts what the words of a line answer over files. Where they name no geometry, it is that of small eraseblocks.

@@ -87,7 +87,7 @@ fn tells_of_a_long_image(rt: HostRuntime) -> Result<(), Fail> {
     for word in LONG {
         words.push(String::from_str(alloc, word)?)?;
     }
-    let outcome = run_words(&files, alloc, words.as_slice(), true)?;
+    let outcome = run_words(&mut Host::new(&files), alloc, words.as_slice(), true)?;
     assert_eq!(rt; outcome.text.as_slice(), b"blocks 2\n".as_slice());
     let shown = shown.into_inner();
     assert!(rt; shown.as_str() == "\r1 % of the image\r\x1b[K", "{shown}");

@@ -1,4 +1,3 @@
-use Rattle.std.proofs.Common.{length}
 use Rattle.ubi_scan.specs.Source.{Narrows, holds, memory, memory_sized}
 use Rattle.ubi_scan.specs.declared.errors.StreamError.TheVariants as stream
 use Rattle.ubi_scan.proofs.InMemory.{still}

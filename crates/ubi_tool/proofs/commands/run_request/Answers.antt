@@ -1,13 +1,16 @@
 use Rattle.ubi_tool.proofs.commands.run_request.Goals as goal
 
-pub returns-in-Show : goal.returns-in-Show
-returns-in-Show g c = rw c.in-Show.is c.read_file-in-Show.ensures
+pub returns-in-Extract-clause-answer : goal.returns-in-Extract-clause-answer
+returns-in-Extract-clause-answer g c = rw c.in-Extract.is c.write_file.ensures.answer
 
-pub returns-in-Compose : goal.returns-in-Compose
-returns-in-Compose g c = rw c.in-Compose.is c.compose_file.ensures
+pub returns-in-Compose-clause-answer : goal.returns-in-Compose-clause-answer
+returns-in-Compose-clause-answer g c = rw c.in-Compose.is c.compose_file.ensures.answer
 
-pub returns-in-Same : goal.returns-in-Same
-returns-in-Same g c = rw c.in-Same.is c.same_files.ensures
+pub returns-in-Normalise-clause-answer : goal.returns-in-Normalise-clause-answer
+returns-in-Normalise-clause-answer g c = rw c.in-Normalise.is c.write_file-in-Normalise.ensures.answer
 
-pub returns-in-Change : goal.returns-in-Change
-returns-in-Change g c = rw c.in-Change.is c.change_file.ensures
+pub returns-in-Change-clause-answer : goal.returns-in-Change-clause-answer
+returns-in-Change-clause-answer g c = rw c.in-Change.is c.change_file.ensures.answer
+
+pub returns-in-Rename-clause-answer : goal.returns-in-Rename-clause-answer
+returns-in-Rename-clause-answer g c = rw c.in-Rename.is c.rename_file.ensures.answer

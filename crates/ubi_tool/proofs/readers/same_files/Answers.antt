@@ -1,5 +1,6 @@
 use Rattle.std.proofs.Common.{◌∙◌, refl}
 use Rattle.std.proofs.lemmas.Result.{IfOk-weaker}
+use Rattle.ubi_scan.specs.Promised.{keeps_promise}
 use Rattle.ubi_tool.specs.Numbers.{sizes_of}
 use Rattle.ubi_tool.specs.Program.{OfFile, no_file}
 use Rattle.ubi_tool.specs.Same.{ComparesOf}
@@ -14,19 +15,22 @@ returns-in-Err g c =
 
 pub returns-in-Ok-AtPlaces : goal.returns-in-Ok-AtPlaces
 returns-in-Ok-AtPlaces g c =
+    let d = g.D.Disk.files c.args.disk.now in
     let h = rw c.in-Ok-AtPlaces.field-0-is at c.in-Ok-AtPlaces.ensures.opened in
     IfOk-weaker c.same_beside.result _ _
-    (λ o work. at_places c.args.numbers c.args.left.now (λ s k here. OfFile c.args.numbers c.args.right.now (λ t l there. ComparesOf t k here l there))
-    (sizes_of c.args.numbers) refl _ _ _ _ _
-    o h.1 h.2 work)
+    (λ o work. at_places d c.args.numbers c.args.left.now
+    (λ s k here. OfFile d c.args.numbers c.args.right.now (λ t l there. ComparesOf t k here l there))
+    (sizes_of c.args.numbers) refl _ _ _ o h.1 h.2 (keeps_promise _ _ _ _ _ c.same_beside.new.source.told) work)
     c.same_beside.ensures.answer
 
 pub returns-in-Ok-Whole : goal.returns-in-Ok-Whole
 returns-in-Ok-Whole g c =
+    let d = g.D.Disk.files c.args.disk.now in
     let h = rw c.in-Ok-Whole.field-0-is at c.in-Ok-Whole.ensures.opened in
     IfOk-weaker c.same_beside-in-Ok-Whole.result _ _
-    (λ o work. by_bytes c.args.numbers c.args.left.now (λ s k here. OfFile c.args.numbers c.args.right.now (λ t l there. ComparesOf t k here l there))
+    (λ o work. by_bytes d c.args.numbers c.args.left.now
+    (λ s k here. OfFile d c.args.numbers c.args.right.now (λ t l there. ComparesOf t k here l there))
     (sizes_of c.args.numbers) refl
-    c.in-Ok-Whole.file.bytes.items _ _ o h.1 (c.new-source.ensures ∙ c.as_slice.ensures.value)
+    c.in-Ok-Whole.file.bytes.items _ _ o h.1 h.2 (c.new-source.ensures ∙ c.as_slice.ensures.value)
     c.same_beside-in-Ok-Whole.ensures.narrows work)
     c.same_beside-in-Ok-Whole.ensures.answer

@@ -1,0 +1,50 @@
+-- What is known of files by their paths.
+use Rattle.std.specs.Prelude.{◌≡◌, ◌≢◌, ◌⊎◌, ℕ, Bool, IfSome, List, [], None, Option, Some, false, if◌then◌else◌}
+use Rattle.std.specs.Io.KnownBytes.{Appends}
+use Rattle.ubi_media.specs.Geometry.{Sizes}
+use Rattle.ubi_scan.specs.Image.{judged}
+use Rattle.ubi_tool.specs.declared.outcome.Outcome.{Outcome}
+
+-- whether it is known what files receive that are written, and what the file at a path holds, where that is known
+pub record Files : Type 0 where
+  pub tells : Bool
+  pub holds : List ℕ → Option (List ℕ)
+
+-- a disk of which nothing is known: other programs may write to it
+abbrev pub untold : Files
+untold = record { tells = false; holds = λ path. None }
+
+-- what a file holds that was just opened anew: nothing, where it is known what it receives
+abbrev pub fresh : Files → Option (List ℕ)
+fresh d = if d.tells then Some [] else None
+
+-- once a file that was written is closed, its path holds what it received, and each other path what it held
+pub record IsKept (old new : Files) (path : List ℕ) (received : Option (List ℕ)) : Type 0 where
+  pub named : new.holds path ≡ received
+  pub others : (other : List ℕ) → other ≢ path → new.holds other ≡ old.holds other
+
+-- the bytes are those of the named file that are judged
+abbrev pub IsJudgedOf : Files → List ℕ → Sizes → List ℕ → Type 0
+IsJudgedOf d path s bytes = IfSome (d.holds path) (λ all. bytes ≡ judged s all)
+
+-- the bytes are those of the named file
+abbrev pub IsTextOf : Files → List ℕ → List ℕ → Type 0
+IsTextOf d path bytes = IfSome (d.holds path) (λ all. bytes ≡ all)
+
+-- where work ended with an outcome, the file at a path holds what it received; or it holds what it held, since there was
+-- nothing to write
+abbrev pub IsLeft : Files → Files → List ℕ → Option (List ℕ) → Outcome → Type 0
+IsLeft old new path received o = (new.holds path ≡ received) ⊎ ((o.status ≢ 0) × (new.holds path ≡ old.holds path))
+
+-- each path but one holds what it held
+abbrev pub OthersStay : Files → Files → List ℕ → Type 0
+OthersStay old new path = (other : List ℕ) → other ≢ path → new.holds other ≡ old.holds other
+
+-- each path holds what it held
+abbrev pub AllStay : Files → Files → Type 0
+AllStay old new = (path : List ℕ) → new.holds path ≡ old.holds path
+
+-- the file at a path received some bytes, if there are any, and else holds what it held
+abbrev pub Receives : Files → Files → List ℕ → Option (List ℕ) → Type 0
+Receives old new path None = new.holds path ≡ old.holds path
+Receives old new path (Some bytes) = Appends (fresh old) (new.holds path) bytes
