@@ -1,8 +1,9 @@
 -- What a file holds that is known is among what a source over it may hold.
 use Rattle.std.proofs.Common.{◌≡◌, ◌∙◌, ℕ, ◌+◌, ◌-◌, List, [], ◌∷◌, ap, arith, length, refl}
 use Rattle.std.proofs.lemmas.List.Elements.{All-head, All-tail}
+use Rattle.std.specs.Option.{ForSome}
 use Rattle.std.specs.Prelude.{IfSome, None, Option, Some, drop, take}
-use Rattle.ubi_scan.specs.Placed.{AllStand, IsSourceOf, StandsAt, WhereTold}
+use Rattle.ubi_scan.specs.Placed.{AllStand, IsSourceOf, StandsAt}
 use Rattle.ubi_scan.specs.Source.{AgreesWith, known_by}
 
 -- bytes agree with reads that answered what stands in them
@@ -15,8 +16,8 @@ agree all (read ∷ reads) h = (
 )
 
 -- the bytes of a file agree with each read that answered what stands in them
-pub keeps_promise : (told : Option (List ℕ)) (len : ℕ) (reads : List (ℕ × List ℕ)) (start : ℕ) (ahead : List ℕ)
-    → WhereTold told (λ all. IsSourceOf all len reads start ahead) → IfSome told (known_by len reads)
-keeps_promise None len reads start ahead h = tt
-keeps_promise (Some all) len reads start ahead h =
+pub keeps_promise : (told : Option (List ℕ)) (len : ℕ) (reads : List (ℕ × List ℕ)) → ForSome told (λ all. IsSourceOf all len reads)
+    → IfSome told (known_by len reads)
+keeps_promise None len reads h = tt
+keeps_promise (Some all) len reads h =
     let is = h all refl in (is.sized, agree all reads is.answered)

@@ -1,5 +1,5 @@
 -- What is known of bytes that are read at places.
-use Rattle.std.specs.Prelude.{◌≡◌, ℕ, ◌+◌, ◌-◌, ◌/◌, ◌^◌, List, [], ◌∷◌, length, slice_range, Option, Some, None, IfSome, Result, Ok, Err, min}
+use Rattle.std.specs.Prelude.{◌≡◌, ℕ, ◌+◌, ◌-◌, ◌/◌, ◌^◌, List, [], ◌∷◌, length, slice_range, Option, Some, IfSome, Result, Ok, Err, min}
 use Rattle.std.proofs.Common.{ap}
 use Rattle.ubi_media.specs.Geometry.{Sizes}
 use Rattle.ubi_scan.specs.Image.{eraseblocks, image_of}
@@ -46,10 +46,6 @@ blocks_in s k = k.size / s.peb_size
 -- the eraseblocks of bytes
 abbrev pub blocks_of : Sizes → List ℕ → List (List ℕ)
 blocks_of s bytes = eraseblocks (image_of s bytes)
-
--- a source of a size whose reads never failed, and that is promised to hold nothing
-abbrev pub sound : ℕ → Source
-sound size = record { size = size; failures = 0; held = None }
 
 -- a source over bytes in memory: no read fails, and it holds these
 abbrev pub memory : List ℕ → Source

@@ -1,14 +1,15 @@
 //! Sources over files.
 
+ghost use Rattle.std.specs.Option.{ForSome};
 ghost use Rattle.std.specs.Prelude.{◌≡◌, ◌+◌, ◌<◌, ◌^◌, [], IfOk, length, true, take};
-ghost use Rattle.ubi_scan.specs.Placed.{IsSourceOf, StandsAt, WhereTold};
+ghost use Rattle.ubi_scan.specs.Placed.{IsSourceOf, StandsAt};
 
-use crate::placed::PlacedFile;
+use crate::placed::{PlacedFile, SystemFile};
 use crate::source::{BlockSource, SourceFault};
 use crate::trace::Trace;
 use crate::window::Window;
 use std::fs;
-use std::fs::{File, Files, OpenFile};
+use std::fs::{Files, OpenFile};
 use std::io::{Seek, SeekFrom};
 use std::os::unix::fs::FileExt;
 
@@ -18,21 +19,23 @@ use std::os::unix::fs::FileExt;
 /// Where small reads follow each other closely, 16 KiB are read at once, and the next reads are answered from these. Where that
 /// fails, what was asked for is read alone.
 #[derive(Drop)]
-pub struct FileSource<F: PlacedFile = File> {
+pub struct FileSource<F: PlacedFile = SystemFile> {
     file: F,
     len: u64,
     failures: u64,
     trace: Trace,
     window: Window,
     // Of a file whose bytes are known, the reads answered those.
-    pub ghost told: { WhereTold (F.bytes file) (λ all. IsSourceOf all len trace.reads window.start (take window.filled window.bytes)) },
+    pub ghost told: { ForSome (F.bytes file) (λ all. IsSourceOf all len trace.reads) },
+    // So does what was read ahead.
+    ghost ahead: { ForSome (F.bytes file) (λ all. StandsAt all window.start (take window.filled window.bytes)) },
 }
 
 /// Fills `out` with the bytes of a file that begin at the place `at`, and tells whether it could. A read that failed
 /// isn't tried again.
 fn fill<F: PlacedFile>(file: &F, at: u64, out: &mut [u8]) -> bool
     requires { at + length out.old < 2 ^ 64 }
-    ensures { result ≡ true → WhereTold (F.bytes file.now) (λ all. StandsAt all at out.new) }
+    ensures { result ≡ true → ForSome (F.bytes file.now) (λ all. StandsAt all at out.new) }
 {
     let mut done = 0;
     while done < out.len() {
@@ -48,9 +51,9 @@ fn fill<F: PlacedFile>(file: &F, at: u64, out: &mut [u8]) -> bool
 /// whether it could.
 fn read_by<F: PlacedFile>(window: &mut Window, file: &F, at: u64, out: &mut [u8]) -> bool
     requires place { at + length out.old < 2 ^ 64 }
-    requires told { WhereTold (F.bytes file.now) (λ all. StandsAt all window.old.start (take window.old.filled window.old.bytes)) }
-    ensures told { WhereTold (F.bytes file.now) (λ all. StandsAt all window.new.start (take window.new.filled window.new.bytes)) }
-    ensures read { result ≡ true → WhereTold (F.bytes file.now) (λ all. StandsAt all at out.new) }
+    requires told { ForSome (F.bytes file.now) (λ all. StandsAt all window.old.start (take window.old.filled window.old.bytes)) }
+    ensures told { ForSome (F.bytes file.now) (λ all. StandsAt all window.new.start (take window.new.filled window.new.bytes)) }
+    ensures read { result ≡ true → ForSome (F.bytes file.now) (λ all. StandsAt all at out.new) }
 {
     let is_read = window.give(file, at, out) || fill(file, at, out);
     window.passed(at, at + out.len() as u64);
@@ -60,7 +63,7 @@ fn read_by<F: PlacedFile>(window: &mut Window, file: &F, at: u64, out: &mut [u8]
 impl<F: PlacedFile> FileSource<F> {
     /// A source over a file of `len` bytes.
     pub fn of(file: F, len: u64) -> FileSource<F>
-        requires { WhereTold (F.bytes file) (λ all. length all ≡ len) }
+        requires { ForSome (F.bytes file) (λ all. length all ≡ len) }
         ensures file { result.file ≡ file }
         ensures len { result.len ≡ len }
         ensures failures { result.failures ≡ 0 }
@@ -76,13 +79,16 @@ impl<F: PlacedFile> FileSource<F> {
     }
 }
 
-impl<F: FileExt + OpenFile + Seek + Drop> FileSource<F> {
+impl<F: FileExt + OpenFile + Seek + Drop> FileSource<SystemFile<F>> {
     /// A source over the file at a path.
     ///
     /// # Errors
     ///
     /// The file can't be opened, it is a folder, or its size can't be found out.
-    pub fn open<R: Files<File = F>>(rt: &R, path: &str) -> Result<FileSource<F>, SourceFault>
+    pub fn open<R: Files<File = F>>(
+        rt: &R,
+        path: &str,
+    ) -> Result<FileSource<SystemFile<F>>, SourceFault>
         ensures failures { IfOk result (λ s. s.failures ≡ 0) }
         ensures trace { IfOk result (λ s. s.trace.reads ≡ []) }
     {
@@ -94,7 +100,7 @@ impl<F: FileExt + OpenFile + Seek + Drop> FileSource<F> {
             _ => return Err(SourceFault),
         }
         match file.seek(SeekFrom::End(0)) {
-            Ok(len) => Ok(FileSource::of(file, len)),
+            Ok(len) => Ok(FileSource::of(SystemFile::new(file), len)),
             Err(_) => Err(SourceFault),
         }
     }
@@ -124,5 +130,5 @@ impl<F: PlacedFile + Drop> BlockSource for FileSource<F> {
 
     ghost sized = { λ s. file_sized (record { size = s.len; failures = s.failures; held = F.bytes s.file }) s.trace.reads };
 
-    ghost promised = { λ s. keeps_promise (F.bytes s.file) s.len s.trace.reads s.window.start (take s.window.filled s.window.bytes) s.told };
+    ghost promised = { λ s. keeps_promise (F.bytes s.file) s.len s.trace.reads s.told };
 }

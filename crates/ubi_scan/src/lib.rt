@@ -31,7 +31,7 @@ pub use blocks::Blocks;
 pub use errors::StreamError;
 pub use file::FileSource;
 pub use found::{Leb, MemberHeader, Scan, ScanState};
-pub use placed::PlacedFile;
+pub use placed::{PlacedFile, SystemFile};
 pub use probe::ProbeSource;
 pub use reading::{read_headers, read_leb, read_member, read_part};
 pub use scanning::{scan, scan_from};

@@ -1,9 +1,11 @@
 //! Files that are read at places.
 
 ghost use Rattle.std.specs.Io.{ReadsAtMost};
-ghost use Rattle.std.specs.Prelude.{List, ℕ, Option, IfOk, take};
-ghost use Rattle.ubi_scan.specs.Placed.{StandsAt, WhereTold};
+ghost use Rattle.std.specs.Option.{ForSome};
+ghost use Rattle.std.specs.Prelude.{◌≡◌, List, ℕ, Option, IfOk, take};
+ghost use Rattle.ubi_scan.specs.Placed.{StandsAt};
 
+use std::fs::File;
 use std::io;
 use std::os::unix::fs::FileExt;
 
@@ -19,16 +21,30 @@ pub trait PlacedFile {
     /// The read failed.
     fn read_from(&self, at: u64, out: &mut [u8]) -> io::Result<usize>
         ensures bound { ReadsAtMost result out.new }
-        ensures read { IfOk result (λ n. WhereTold (bytes self.now) (λ all. StandsAt all at (take n out.new))) };
+        ensures read { IfOk result (λ n. ForSome (bytes self.now) (λ all. StandsAt all at (take n out.new))) };
 }
 
 /// A file of the system: other programs may write to it, so that nobody knows what it holds.
-impl<F: FileExt> PlacedFile for F {
+#[derive(Drop)]
+pub struct SystemFile<F = File> {
+    file: F,
+}
+
+impl<F> SystemFile<F> {
+    /// A file that is open.
+    pub fn new(file: F) -> SystemFile<F>
+        ensures { result.file ≡ file }
+    {
+        SystemFile { file }
+    }
+}
+
+impl<F: FileExt> PlacedFile for SystemFile<F> {
     ghost use Rattle.std.specs.Prelude.{None};
 
     ghost bytes = { λ _. None };
 
     fn read_from(&self, at: u64, out: &mut [u8]) -> io::Result<usize> {
-        self.read_at(out, at)
+        self.file.read_at(out, at)
     }
 }

@@ -1,8 +1,9 @@
 //! Bytes of a file that were read ahead.
 
+ghost use Rattle.std.specs.Option.{ForSome};
 ghost use Rattle.std.specs.Prelude.{◌≡◌, ◌≤◌, take, true};
 ghost use Rattle.ubi_scan.specs.inner.Ahead.{HoldsAt};
-ghost use Rattle.ubi_scan.specs.Placed.{StandsAt, WhereTold};
+ghost use Rattle.ubi_scan.specs.Placed.{StandsAt};
 
 use crate::placed::PlacedFile;
 
@@ -57,7 +58,7 @@ impl Window {
     /// Reads ahead from the place `at` on, and tells whether it could.
     fn fill<F: PlacedFile>(&mut self, file: &F, at: u64) -> bool
         ensures start { result ≡ true → self.new.start ≡ at }
-        ensures told { WhereTold (F.bytes file.now) (λ all. StandsAt all self.new.start (take self.new.filled self.new.bytes)) }
+        ensures told { ForSome (F.bytes file.now) (λ all. StandsAt all self.new.start (take self.new.filled self.new.bytes)) }
     {
         self.filled = 0;
         match file.read_from(at, &mut self.bytes) {
@@ -78,9 +79,9 @@ impl Window {
     /// Fills `out` with the bytes of a file that begin at the place `at`, where they follow the last read and were read ahead, or
     /// are read ahead now, and tells whether it could.
     pub fn give<F: PlacedFile>(&mut self, file: &F, at: u64, out: &mut [u8]) -> bool
-        requires { WhereTold (F.bytes file.now) (λ all. StandsAt all self.old.start (take self.old.filled self.old.bytes)) }
+        requires { ForSome (F.bytes file.now) (λ all. StandsAt all self.old.start (take self.old.filled self.old.bytes)) }
         ensures held { result ≡ true → HoldsAt self.new at out.new }
-        ensures told { WhereTold (F.bytes file.now) (λ all. StandsAt all self.new.start (take self.new.filled self.new.bytes)) }
+        ensures told { ForSome (F.bytes file.now) (λ all. StandsAt all self.new.start (take self.new.filled self.new.bytes)) }
     {
         if !self.follows(at, out.len()) {
             return false;

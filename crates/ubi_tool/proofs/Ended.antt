@@ -6,9 +6,9 @@ use Rattle.std.specs.declared.alloc.AllocError.{AllocError}
 use Rattle.ubi_media.specs.Geometry.{Sizes}
 use Rattle.ubi_media.specs.Limits.{first_broken}
 use Rattle.ubi_scan.specs.Source.{Agreed, Narrows, Source, holds, known_by, memory}
-use Rattle.ubi_tool.specs.AfterRun.{IsTold, after_left, after_right, after_run, outcome, read_failed, IsEnded, done, no_read, no_write, unopened}
+use Rattle.ubi_tool.specs.AfterRun.{IsTold, after_left, after_right, after_run, outcome, read_failed}
 use Rattle.ubi_tool.specs.Answer.{Gives, says}
-use Rattle.ubi_tool.specs.inner.Ended.{IsToldOfSides, Works, answered, comparison, left_failed, no_source, right_failed}
+use Rattle.ubi_tool.specs.inner.Ended.{IsEnded, IsToldOfSides, Works, answered, comparison, done, left_failed, no_read, no_source, no_write, right_failed, unopened}
 use Rattle.ubi_tool.specs.Disk.{Files, IsJudgedOf}
 use Rattle.ubi_tool.specs.Lines.{file_line}
 use Rattle.ubi_tool.specs.Numbers.{sizes_of}
@@ -70,12 +70,6 @@ module _ (work : Result Outcome ToolError) (k after : Source) (path : List ℕ) 
   works_in : (o : Outcome) → IsTold work path o → after ≡ after_run k work → IfOk work answers → Works k after path answers o
   works_in o (outcome is) known ok = answered (known ∙ ap (after_run k) is) (IfOk-at_ok answers is ok)
   works_in o (read_failed is line) known ok = no_source (known ∙ ap (after_run k) is) line
-
--- what is answered of a source is what another call says of it
-pub works_weaker : (k after : Source) (path : List ℕ) (P Q : Outcome → Type 0) → ((o : Outcome) → P o → Q o) → (o : Outcome)
-    → Works k after path P o → Works k after path Q o
-works_weaker k after path P Q f o (answered same h) = answered same (f o h)
-works_weaker k after path P Q f o (no_source same line) = no_source same line
 
 module _ (d : Files) (numbers : Numbers) (path : List ℕ) (answers : Sizes → Source → Agreed → Outcome → Type 0) (s : Sizes)
     (same : s ≡ sizes_of numbers) where

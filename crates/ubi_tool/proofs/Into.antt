@@ -5,10 +5,10 @@ use Rattle.std.specs.Option.{ForSome}
 use Rattle.std.specs.Prelude.{IfOk, IsSome, MatchResult, None, Option, Some, Result, Err, codes, is_some, true}
 use Rattle.std.specs.declared.alloc.AllocError.{AllocError}
 use Rattle.ubi_scan.specs.Source.{Source}
-use Rattle.ubi_tool.specs.AfterRun.{IsEnded, after_run}
+use Rattle.ubi_tool.specs.AfterRun.{after_run}
 use Rattle.ubi_tool.specs.Answer.{Gives, says}
-use Rattle.ubi_tool.specs.Disk.{Files, IsKept, IsLeft, fresh}
-use Rattle.ubi_tool.specs.inner.Ended.{Works}
+use Rattle.ubi_tool.specs.Disk.{Files, Holds, IsKept, IsLeft, fresh}
+use Rattle.ubi_tool.specs.inner.Ended.{IsEnded, Works}
 use Rattle.ubi_tool.specs.Late.{contents_of}
 use Rattle.ubi_tool.specs.Lines.{file_line}
 use Rattle.ubi_tool.specs.Program as program
@@ -21,7 +21,7 @@ use Rattle.ubi_tool.proofs.Outcomes.{holds_received}
 
 -- where work ended, its file was closed, or was never open
 is_left : {F : Type 0} (file : Option F) (d e : Files) (out : List ℕ) (received : Option (List ℕ)) (o : Outcome)
-    → (o.status ≡ 0 → is_some file ≡ true) → (IsSome file → e.holds out ≡ received) → (file ≡ None → e.holds out ≡ d.holds out)
+    → (o.status ≡ 0 → is_some file ≡ true) → (IsSome file → Holds e out received) → (file ≡ None → e.holds out ≡ d.holds out)
     → IsLeft d e out received o
 is_left None d e out received o opened closed stays = inr (λ zero. let h = opened zero in absurd cc, stays refl)
 is_left (Some f) d e out received o opened closed stays = inl (closed refl)
@@ -47,4 +47,3 @@ module _ (answer : Result Outcome ToolError) (k after : Source) (path out : List
       (λ o came zero. program.unwritten (IfOk-at_ok _ came finished zero) output)
       (λ came. program.unwritten (failed came) output)
       known source
-

@@ -17,6 +17,7 @@ pub mod Outcomes
 pub mod Requests
 pub mod Showing
 pub mod Taken
+pub mod Telling
 pub mod ToolVectors
 pub mod Uses
 pub mod Walks

@@ -17,7 +17,7 @@ use Rattle.ubi_tool.specs.Compose as compose
 use Rattle.ubi_tool.specs.Numbers.{sizes_of}
 use Rattle.ubi_tool.specs.Program.{IsRead, WritesFile, OfImage, OfText, Tells, text_limit}
 use Rattle.ubi_tool.specs.Program as program
-use Rattle.ubi_tool.specs.Disk.{Files, IsJudgedOf, IsKept, IsTextOf, OthersStay, Receives, fresh}
+use Rattle.ubi_tool.specs.Disk.{Files, Holds, IsJudgedOf, IsKept, IsTextOf, OthersStay, Receives, fresh}
 use Rattle.ubi_tool.specs.Late.{contents_of}
 use Rattle.ubi_tool.specs.declared.image_file.Unread.{Unread}
 use Rattle.ubi_tool.specs.declared.image_file.Unread.TheVariants.{Memory, Told}
@@ -84,10 +84,10 @@ told is u (Err x) h e = tt
 -- the file at a path holds what a late file received that was opened and closed
 pub holds_received : {F : Type 0} (contents : F → Option (List ℕ)) (at : F → List ℕ) (d e : Files) (path key : List ℕ)
     (empty : Option (List ℕ)) (file : Option F) → path ≡ key → IsSome file → ForSome file (λ f. at f ≡ key)
-    → ForSome file (λ f. IsKept d e (at f) (contents f)) → e.holds path ≡ contents_of empty contents file
+    → ForSome file (λ f. IsKept d e (at f) (contents f)) → Holds e path (contents_of empty contents file)
 holds_received contents at d e path key empty None named some is kept = absurd cc
 holds_received contents at d e path key empty (Some f) named some is kept =
-    ap e.holds (named ∙ sym (is f refl)) ∙ (kept f refl).named
+    subst (λ (p : List ℕ). Holds e p (contents f)) (is f refl ∙ sym named) (kept f refl).named
 
 -- and other paths hold what they held
 pub others_stay : {F : Type 0} (contents : F → Option (List ℕ)) (at : F → List ℕ) (d e : Files) (path key : List ℕ)
@@ -99,10 +99,10 @@ others_stay contents at d e path key (Some f) named is kept none other apart =
 
 -- the file received bytes that were written into it
 pub receives : (d e : Files) (path : List ℕ) (file : Option (Vec ℕ Global)) (v : Vec ℕ Global) (empty received : Option (List ℕ))
-    → file ≡ Some v → fresh d ≡ empty → e.holds path ≡ received → Appends empty received v.items
+    → file ≡ Some v → fresh d ≡ empty → Holds e path received → Appends empty received v.items
     → Receives d e path (option_map (λ v. v.items) file)
 receives d e path file v empty received is same holds h =
-    rw (is, same, holds) h
+    rw is (received, subst (λ (x : Option (List ℕ)). Appends x received v.items) (sym same) h, holds)
 
 -- an outcome without a file leaves the file as it was
 pub no_bytes : (d : Files) (path : List ℕ) (file : Option (Vec ℕ Global)) → file ≡ None

@@ -1,5 +1,5 @@
 -- What is known of a source after a command over it.
-use Rattle.std.specs.Prelude.{◌≡◌, ℕ, Bool, true, false, List, Result, Ok, Err, codes}
+use Rattle.std.specs.Prelude.{◌≡◌, ℕ, List, Result, Ok, Err, codes}
 use Rattle.ubi_scan.specs.Source.{Source, failed}
 use Rattle.ubi_tool.specs.Answer.{Gives, says}
 use Rattle.ubi_tool.specs.Lines.{file_line}
@@ -29,16 +29,6 @@ pub data IsTold (work : Result Outcome ToolError) (path : List ℕ) : Outcome �
   outcome : {o : Outcome} → work ≡ Ok o → IsTold work path o
   read_failed : {o : Outcome} → work ≡ Err tool.Read → Gives o (says (file_line (codes "cannot read ") path) 1)
       → IsTold work path o
-
--- what is answered once the work is over: its outcome, and where all is done the file is open; or the line of a file that
--- can't be read or written, where a read or a write failed, or where all is done and the file can't be opened
-pub data IsEnded (answer : Result Outcome ToolError) (there : Bool) (unread unwritten : Outcome) : Outcome
-    → Type 0 where
-  done : {o : Outcome} → answer ≡ Ok o → (o.status ≡ 0 → there ≡ true) → IsEnded answer there unread unwritten o
-  unopened : (o : Outcome) → answer ≡ Ok o → o.status ≡ 0 → there ≡ false
-      → IsEnded answer there unread unwritten unwritten
-  no_read : answer ≡ Err tool.Read → IsEnded answer there unread unwritten unread
-  no_write : answer ≡ Err tool.Write → IsEnded answer there unread unwritten unwritten
 
 -- what is known of the left source after a comparison: one read failed where that side is named
 abbrev pub after_left : {A : Type 0} → Source → Result A SidesError → Source

@@ -18,9 +18,13 @@ untold = record { tells = false; holds = λ path. None }
 abbrev pub fresh : Files → Option (List ℕ)
 fresh d = if d.tells then Some [] else None
 
+-- where it is known what the file at a path holds, it is what it received
+abbrev pub Holds : Files → List ℕ → Option (List ℕ) → Type 0
+Holds d path received = IfSome (d.holds path) (λ bytes. received ≡ Some bytes)
+
 -- once a file that was written is closed, its path holds what it received, and each other path what it held
 pub record IsKept (old new : Files) (path : List ℕ) (received : Option (List ℕ)) : Type 0 where
-  pub named : new.holds path ≡ received
+  pub named : Holds new path received
   pub others : (other : List ℕ) → other ≢ path → new.holds other ≡ old.holds other
 
 -- the bytes are those of the named file that are judged
@@ -34,7 +38,7 @@ IsTextOf d path bytes = IfSome (d.holds path) (λ all. bytes ≡ all)
 -- where work ended with an outcome, the file at a path holds what it received; or it holds what it held, since there was
 -- nothing to write
 abbrev pub IsLeft : Files → Files → List ℕ → Option (List ℕ) → Outcome → Type 0
-IsLeft old new path received o = (new.holds path ≡ received) ⊎ ((o.status ≢ 0) × (new.holds path ≡ old.holds path))
+IsLeft old new path received o = Holds new path received ⊎ ((o.status ≢ 0) × (new.holds path ≡ old.holds path))
 
 -- each path but one holds what it held
 abbrev pub OthersStay : Files → Files → List ℕ → Type 0
@@ -47,4 +51,4 @@ AllStay old new = (path : List ℕ) → new.holds path ≡ old.holds path
 -- the file at a path received some bytes, if there are any, and else holds what it held
 abbrev pub Receives : Files → Files → List ℕ → Option (List ℕ) → Type 0
 Receives old new path None = new.holds path ≡ old.holds path
-Receives old new path (Some bytes) = Appends (fresh old) (new.holds path) bytes
+Receives old new path (Some bytes) = (received : Option (List ℕ)) × Appends (fresh old) received bytes × Holds new path received

@@ -1,3 +1,4 @@
 -- Definitions that only private functions' contracts and proofs cite.
 pub mod CommandLine
 pub mod Ended
+pub mod Telling

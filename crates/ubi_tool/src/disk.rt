@@ -33,6 +33,13 @@ impl<'a, F> OutputFile<'a, F> {
     {
         OutputFile { path, writer }
     }
+
+    /// Its path.
+    pub fn path(&self) -> &'a str
+        ensures { result.now ≡ self.now.path.now }
+    {
+        self.path
+    }
 }
 
 /// Files by their paths. The system's own are [`Host`](crate::host::Host), and of these nothing is known.

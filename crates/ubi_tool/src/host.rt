@@ -9,7 +9,7 @@ use std::fs::{File, Files};
 use std::io;
 use std::io::Write;
 use std::os::unix::fs::FileExt;
-use ubi_scan::FileSource;
+use ubi_scan::{FileSource, SystemFile};
 
 /// The files of the system. Other programs may write to them, so that nothing is known of what they hold.
 #[derive(Clone, Copy)]
@@ -51,7 +51,7 @@ where
     ghost use Rattle.std.specs.Prelude.{None};
     ghost use Rattle.ubi_tool.specs.Disk.{IsKept, untold};
 
-    type Placed = R::File;
+    type Placed = SystemFile<R::File>;
 
     type Reader = R::File;
 
@@ -59,11 +59,11 @@ where
 
     ghost files = { λ _. untold };
 
-    fn source_at(&self, path: &str) -> Option<FileSource<R::File>> {
+    fn source_at(&self, path: &str) -> Option<FileSource<SystemFile<R::File>>> {
         source_at(self.rt, path)
     }
 
-    fn source_beside(&self, path: &str, out: &str) -> Option<FileSource<R::File>> {
+    fn source_beside(&self, path: &str, out: &str) -> Option<FileSource<SystemFile<R::File>>> {
         source_of(self.rt, path, out)
     }
 

@@ -6,7 +6,7 @@ use std::fs;
 use std::fs::{Files, Metadata};
 use std::io::ErrorKind;
 use std::os::unix::fs::{FileExt, FileTypeExt, MetadataExt};
-use ubi_scan::{BlockSource, FileSource};
+use ubi_scan::{BlockSource, FileSource, SystemFile};
 
 /// Whether an image and an output may be one file, by what the system tells of them: its device and its number there, or
 /// which device it is itself. A flash memory has several devices, so that any other device may be the same.
@@ -35,7 +35,7 @@ fn may_have_places(image: &Metadata) -> bool {
 }
 
 /// A source over a file that isn't empty, where it can be opened and its size found out.
-fn source_with_bytes<R: Files>(rt: &R, image: &str) -> Option<FileSource<R::File>>
+fn source_with_bytes<R: Files>(rt: &R, image: &str) -> Option<FileSource<SystemFile<R::File>>>
 where
     R::File: FileExt,
     ensures { IfSome result (λ s. s.failures ≡ 0) }
@@ -47,7 +47,7 @@ where
 }
 
 /// A source over an image file; or none where the image is to be read whole, since it can't be read at places.
-pub fn source_at<R: Files>(rt: &R, image: &str) -> Option<FileSource<R::File>>
+pub fn source_at<R: Files>(rt: &R, image: &str) -> Option<FileSource<SystemFile<R::File>>>
 where
     R::File: FileExt,
     ensures { IfSome result (λ s. s.failures ≡ 0) }
@@ -62,7 +62,11 @@ where
 ///
 /// That is so where it can't be read at places; and where the output may be the same file, by the same path or by a link:
 /// what isn't read when that is opened would be lost.
-pub fn source_of<R: Files>(rt: &R, image: &str, out: &str) -> Option<FileSource<R::File>>
+pub fn source_of<R: Files>(
+    rt: &R,
+    image: &str,
+    out: &str,
+) -> Option<FileSource<SystemFile<R::File>>>
 where
     R::File: FileExt,
     ensures apart { IfSome result (λ _. image.now ≢ out.now) }

@@ -28,4 +28,5 @@ mod sessions;
 mod show;
 mod streams;
 mod tables;
+mod telling;
 mod words;

@@ -5,13 +5,13 @@
 ghost use Rattle.std.specs.Prelude.{◌≡◌, ℕ, Bool, Err, IfOk, List, MatchResult, Ok, Option, Result, is_some};
 ghost use Rattle.ubi_media.specs.Geometry.{Sizes};
 ghost use Rattle.ubi_scan.specs.Source.{Agreed, Narrows, Source};
-ghost use Rattle.ubi_tool.specs.AfterRun.{IsEnded, after_run};
+ghost use Rattle.ubi_tool.specs.AfterRun.{after_run};
 ghost use Rattle.ubi_tool.specs.Change.{ChangesFrom, HasPlan};
 ghost use Rattle.ubi_tool.specs.Disk.{OthersStay, fresh};
 ghost use Rattle.ubi_tool.specs.Late.{contents_of};
 ghost use Rattle.ubi_tool.specs.Rename.{HasRename, RenamesFrom};
 ghost use Rattle.ubi_tool.specs.Opened.{IsOpened, IsUnreadOf};
-ghost use Rattle.ubi_tool.specs.inner.Ended.{Works};
+ghost use Rattle.ubi_tool.specs.inner.Ended.{IsEnded, Works};
 ghost use Rattle.ubi_tool.specs.Program.{OfFile, OfImage, WritesInto};
 ghost use Rattle.ubi_tool.specs.declared.numbers.Numbers.{Numbers};
 ghost use Rattle.ubi_tool.specs.declared.outcome.Outcome.{Outcome};

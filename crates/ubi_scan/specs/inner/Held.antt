@@ -1,5 +1,10 @@
 -- What a source may hold of which nothing is known, and one of which nothing is claimed.
+use Rattle.std.specs.Prelude.{None, ℕ}
 use Rattle.ubi_scan.specs.Source.{Agreed, IsSource, Source}
+
+-- a source of a size whose reads never failed, and that is promised to hold nothing
+abbrev pub sound : ℕ → Source
+sound size = record { size = size; failures = 0; held = None }
 
 -- a source that may hold anything
 abbrev pub anything : Agreed

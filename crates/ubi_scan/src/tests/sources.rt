@@ -191,7 +191,8 @@ struct Fickle<'a> {
 
 impl BlockSource for Fickle<'_> {
     ghost use Rattle.std.specs.Prelude.{length};
-    ghost use Rattle.ubi_scan.specs.Source.{file_sized, known_by, sound};
+    ghost use Rattle.ubi_scan.specs.inner.Held.{sound};
+    ghost use Rattle.ubi_scan.specs.Source.{file_sized, known_by};
 
     ghost known = { λ s. sound (length s.first.now) };
 

@@ -3,6 +3,8 @@
 use super::contents::Contents;
 use super::fake::{Broken, FakeFiles};
 use crate::commands::run_words;
+use crate::disk::Disk;
+use crate::host::Host;
 use crate::normalise::run_normalise;
 use crate::outcome::Outcome;
 use std::alloc::{AllocError, Global};
@@ -34,6 +36,20 @@ pub fn is_normal(alloc: Global, image: &[u8], line: (&str, u8), want: &[u8]) -> 
     Ok(is_answer(&answer, line) && answer.file.is_none() && writer.taken() == want)
 }
 
+/// Runs the words of a line over a disk, with the program's name before them.
+pub fn run_on<D: Disk + Eprint>(
+    disk: &mut D,
+    alloc: Global,
+    line: &str,
+) -> Result<Outcome, AllocError> {
+    let mut words = Vec::new(alloc);
+    words.push(String::from_str(alloc, "ubi_tool")?)?;
+    for word in line.split_whitespace() {
+        words.push(String::from_str(alloc, word)?)?;
+    }
+    run_words(disk, alloc, words.as_slice(), false)
+}
+
 /// Runs the words of a line over files, with the program's name before them.
 pub fn run_line<R: Files + Eprint>(
     files: &R,
@@ -43,12 +59,7 @@ pub fn run_line<R: Files + Eprint>(
 where
     R::File: FileExt,
 {
-    let mut words = Vec::new(alloc);
-    words.push(String::from_str(alloc, "ubi_tool")?)?;
-    for word in line.split_whitespace() {
-        words.push(String::from_str(alloc, word)?)?;
-    }
-    run_words(&mut Host::new(files), alloc, words.as_slice(), false)
+    run_on(&mut Host::new(files), alloc, line)
 }
 
 /// Asserts what the words of a line answer over files. Where they name no geometry, it is that of small eraseblocks.

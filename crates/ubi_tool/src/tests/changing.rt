@@ -29,8 +29,7 @@ struct Changing<'a> {
 
 impl BlockSource for Changing<'_> {
     ghost use Rattle.std.specs.Prelude.{length};
-    ghost use Rattle.ubi_scan.specs.Source.{sound};
-    ghost use Rattle.ubi_scan.specs.inner.Held.{unheld, unheld_sized};
+    ghost use Rattle.ubi_scan.specs.inner.Held.{sound, unheld, unheld_sized};
 
     ghost known = { λ s. sound (length s.first.now) };
 

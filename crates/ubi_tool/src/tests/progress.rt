@@ -2,6 +2,7 @@
 
 use super::fake::{Broken, FakeFiles};
 use crate::commands::run_words;
+use crate::host::Host;
 use crate::progress::Told;
 use std::alloc::Global;
 use std::cell::RefCell;

@@ -1,7 +1,7 @@
 use Rattle.std.proofs.Common.{◌≡◌, ◌+◌, ◌-◌, [], drop, take, ap, ◌∙◌, refl, sym, arith}
 use Rattle.std.proofs.KnownBytes.{Appends-nil}
 use Rattle.std.proofs.lemmas.Result.{IfErr-weaker, IfOk-weaker}
-use Rattle.ubi_scan.specs.Source.{sound}
+use Rattle.ubi_scan.specs.inner.Held.{sound}
 use Rattle.ubi_scan.specs.inner.Held.{anything}
 use Rattle.ubi_compose.proofs.Placed.{all_kept, none_kept}
 use Rattle.ubi_volume.proofs.Received.{error_as, wrote_as, wrote_text}

@@ -1,5 +1,5 @@
 use Rattle.std.proofs.Common.{◌+◌, ap, ◌∙◌, refl, sym, arith}
-use Rattle.ubi_scan.specs.Source.{sound}
+use Rattle.ubi_scan.specs.inner.Held.{sound}
 use Rattle.ubi_scan.specs.inner.Held.{anything}
 use Rattle.ubi_volume.proofs.Received.{wrote_cut, wrote_text}
 use Rattle.ubi_compose.proofs.placing.put_laid.Goals as goal

@@ -12,7 +12,7 @@ returns-in-Ok-AtPlaces g c =
     let h = rw c.in-Ok-AtPlaces.field-0-is at c.in-Ok-AtPlaces.ensures.opened in
     let work = c.answer-work.ensures in
     told_at_places d c.args.numbers c.args.image.now (g.C.Reading.answers c.args.command.now) c.in-Ok-AtPlaces.file.geometry h.0
-    c.answer-work.result _ _ _ c.told.result h.1 h.2 (keeps_promise _ _ _ _ _ c.answer-work.new.source.told) work.known work.answer
+    c.answer-work.result _ _ _ c.told.result h.1 h.2 (keeps_promise _ _ _ c.answer-work.new.source.told) work.known work.answer
     c.told.ensures
 
 pub returns-in-Ok-Whole : goal.returns-in-Ok-Whole

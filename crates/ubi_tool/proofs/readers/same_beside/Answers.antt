@@ -14,7 +14,7 @@ returns-in-Ok-AtPlaces-clause-answer g c =
     let work = c.run_same_from-work.ensures in
     beside_places c.run_same_from-work.result _ _ c.args.left.now c.args.right.now d c.args.numbers _
     c.in-Ok-AtPlaces.file.geometry h.0 _ _ _ c.told_of_sides.result h.1 h.2
-    (keeps_promise _ _ _ _ _ c.run_same_from-work.new.right.told) work.left work.right
+    (keeps_promise _ _ _ c.run_same_from-work.new.right.told) work.left work.right
     (both c.run_same_from-work.result _ _ work.compared work.compares) c.told_of_sides.ensures
 
 pub returns-in-Ok-Whole-clause-answer : goal.returns-in-Ok-Whole-clause-answer

@@ -20,7 +20,7 @@ returns-in-Ok-AtPlaces g c =
     IfOk-weaker c.same_beside.result _ _
     (λ o work. at_places d c.args.numbers c.args.left.now
     (λ s k here. OfFile d c.args.numbers c.args.right.now (λ t l there. ComparesOf t k here l there))
-    (sizes_of c.args.numbers) refl _ _ _ o h.1 h.2 (keeps_promise _ _ _ _ _ c.same_beside.new.source.told) work)
+    (sizes_of c.args.numbers) refl _ _ _ o h.1 h.2 (keeps_promise _ _ _ c.same_beside.new.source.told) work)
     c.same_beside.ensures.answer
 
 pub returns-in-Ok-Whole : goal.returns-in-Ok-Whole

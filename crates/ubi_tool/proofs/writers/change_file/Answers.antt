@@ -14,7 +14,7 @@ pub returns-in-Err-load-clause-answer : goal.returns-in-Err-load-clause-answer
 returns-in-Err-load-clause-answer g c =
     IfOk-weaker c.answer-in-Err-load.result _ _
     (λ o h. of_any (λ s. record { size = s.len; failures = s.failures; held = g.D.Placed.PlacedFile.bytes s.file }) (λ s. s.trace.reads) _
-    (g.D.Disk.files c.args.disk.now) c.args.numbers c.args.image.now _ o (λ s. keeps_promise _ _ _ _ _ s.told) (λ s is. is)
+    (g.D.Disk.files c.args.disk.now) c.args.numbers c.args.image.now _ o (λ s. keeps_promise _ _ _ s.told) (λ s is. is)
     (λ k agrees. no_image h) c.in-Ok.opened c.in-Ok.ensures.opened)
     (told _ c.in-Err-load.unread c.answer-in-Err-load.result c.in-Err-load.ensures.unread c.answer-in-Err-load.ensures)
 

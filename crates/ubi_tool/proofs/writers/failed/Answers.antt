@@ -1,5 +1,5 @@
 use Rattle.std.proofs.Common.{Err, ap}
-use Rattle.ubi_tool.specs.AfterRun.{no_read, no_write}
+use Rattle.ubi_tool.specs.inner.Ended.{no_read, no_write}
 use Rattle.ubi_tool.proofs.writers.failed.Goals as goal
 
 pub returns-in-Read : goal.returns-in-Read

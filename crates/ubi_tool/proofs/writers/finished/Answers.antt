@@ -1,6 +1,6 @@
 use Rattle.std.proofs.Common.{ap, refl}
 use Rattle.std.specs.Prelude.{is_some}
-use Rattle.ubi_tool.specs.AfterRun.{done, unopened}
+use Rattle.ubi_tool.specs.inner.Ended.{done, unopened}
 use Rattle.ubi_tool.proofs.Ended.{is_open}
 use Rattle.ubi_tool.proofs.writers.finished.Goals as goal
 

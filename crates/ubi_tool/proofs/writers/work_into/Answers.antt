@@ -2,6 +2,7 @@ use Rattle.std.proofs.Common.{List, ap, subst, sym, ◌∙◌, ℕ}
 use Rattle.std.specs.Prelude.{IfOk, Option}
 use Rattle.ubi_tool.specs.Late.{contents_of}
 use Rattle.ubi_tool.proofs.Into.{into_file}
+use Rattle.ubi_tool.proofs.Outcomes.{others_stay}
 use Rattle.ubi_tool.proofs.writers.work_into.Goals as goal
 
 pub returns-clause-answer : goal.returns-clause-answer
@@ -12,7 +13,7 @@ returns-clause-answer g c =
     let writes = g.C.Writing.writes c.args.command.now c.args.geometry.now k agrees in
     let file = c.ended-outcome.new.late.file in
     let received = c.ended-outcome.ensures.contents
-        ∙ ap (λ l. contents_of g.K.Target.empty (λ f. g.D.Output.Write.contents f.writer) l.file) c.into_writer-late.ensures in
+    ∙ ap (λ l. contents_of g.K.Target.empty (λ f. g.D.Output.Write.contents f.writer) l.file) c.into_writer-late.ensures in
     let began = rw (c.new-told.ensures, c.new-late.ensures) at c.answer-answer.ensures.answer in
     let ok = subst (λ (x : Option (List ℕ)). IfOk c.answer-answer.result (answers g.K.Target.empty x)) (sym received) began in
     into_file c.answer-answer.result k (g.S.BlockSource.known c.answer-answer.new.source) c.args.paths.now.image.now c.args.paths.now.out.now
@@ -23,3 +24,9 @@ returns-clause-answer g c =
     (λ none. ap g.D.Disk.files (c.keep_file.ensures.none (c.into_file-file.ensures.file ∙ none))) c.ended-outcome.ensures.answer ok
     c.answer-answer.ensures.done c.answer-answer.ensures.failed c.answer-answer.ensures.known c.in_ok-unread.ensures
     c.in_ok-unwritten.ensures
+
+pub returns-clause-others : goal.returns-clause-others
+returns-clause-others g c =
+    others_stay (λ f. g.D.Output.Write.contents f.writer) (λ f. f.path.now) (g.D.Disk.files c.args.disk.now)
+    (g.D.Disk.files c.keep_file.new.disk) c.args.paths.now.out.now g.K.Target.path c.into_file-file.result c.requires.named
+    c.into_file-file.ensures.named c.keep_file.ensures.kept (λ none. ap g.D.Disk.files (c.keep_file.ensures.none none))

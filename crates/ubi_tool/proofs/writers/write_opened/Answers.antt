@@ -14,7 +14,7 @@ returns-in-AtPlaces-clause-answer g c numbers is =
     IfOk-weaker c.work_into.result _ _
     (λ o work. at_places d numbers paths.image.now
     (λ s k agrees. WritesInto paths.out.now d e (g.C.Writing.answers c.args.command.now s k agrees) (g.C.Writing.writes c.args.command.now s k agrees))
-    c.in-AtPlaces.file.geometry h.0 _ _ _ o h.1 h.2 (keeps_promise _ _ _ _ _ c.work_into.new.source.told) work)
+    c.in-AtPlaces.file.geometry h.0 _ _ _ o h.1 h.2 (keeps_promise _ _ _ c.work_into.new.source.told) work)
     c.work_into.ensures.answer
 
 pub returns-in-Whole-clause-answer : goal.returns-in-Whole-clause-answer

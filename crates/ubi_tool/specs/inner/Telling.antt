@@ -1,0 +1,19 @@
+-- What is known of a disk for tests.
+use Rattle.std.specs.Prelude.{List, None, Option, codes, if◌then◌else◌, true, ℕ}
+use Rattle.std.specs.Str.{bytes_eq}
+use Rattle.ubi_tool.specs.Disk.{Files}
+
+-- the path of its image
+abbrev pub image_path : List ℕ
+image_path = codes "told.img"
+
+-- the path of its output
+abbrev pub out_path : List ℕ
+out_path = codes "kept.img"
+
+-- it tells what its image and its output hold, if they are there, and nothing of other paths
+abbrev pub telling : Option (List ℕ) → Option (List ℕ) → Files
+telling image out = record {
+  tells = true;
+  holds = λ path. if bytes_eq path out_path then out else (if bytes_eq path image_path then image else None);
+}

@@ -1,0 +1,167 @@
+//! A disk of which it is known what its files hold: what the commands answer of the files that are named, and what they
+//! write, is proved of it.
+
+ghost use Rattle.std.specs.Prelude.{Some, option_map};
+
+use super::answers::{is_answer, run_on};
+use super::contents::Contents;
+use crate::disk::{Disk, OutputFile, WholeFile};
+use crate::outcome::ToolError;
+use std::alloc::Global;
+use std::fmt::Display;
+use std::io;
+use std::io::ErrorKind;
+use std::test::Fail;
+use ubi_scan::{FileSource, PlacedFile};
+
+/// The path of its image.
+const IMAGE: &str = "told.img";
+
+/// The path of its output.
+const OUT: &str = "kept.img";
+
+/// A disk with one image, and room for one output.
+#[derive(Drop)]
+struct Telling<'a> {
+    alloc: Global,
+    image: Option<&'a [u8]>,
+    out: Option<Vec<u8>>,
+}
+
+/// Bytes that are read at places.
+#[derive(Drop)]
+struct Told<'a> {
+    bytes: &'a [u8],
+}
+
+impl PlacedFile for Told<'_> {
+    ghost bytes = { λ told. Some told.bytes.now };
+
+    fn read_from(&self, at: u64, out: &mut [u8]) -> io::Result<usize> {
+        let start = (at as usize).min(self.bytes.len());
+        let count = out.len().min(self.bytes.len() - start);
+        out[..count].copy_from_slice(&self.bytes[start..start + count]);
+        Ok(count)
+    }
+}
+
+impl<'a> Disk for Telling<'a> {
+    ghost use Rattle.ubi_tool.specs.Disk.{IsKept};
+    ghost use Rattle.ubi_tool.specs.inner.Telling.{telling};
+
+    type Placed = Told<'a>;
+
+    type Reader = &'a [u8];
+
+    type Output = Vec<u8>;
+
+    ghost files = { λ disk. telling (option_map (λ bytes. bytes.now) disk.image) (option_map (λ bytes. bytes.items) disk.out) };
+
+    fn source_at(&self, path: &str) -> Option<FileSource<Told<'a>>> {
+        match self.image {
+            Some(bytes) if path == IMAGE => {
+                Some(FileSource::of(Told { bytes }, bytes.len() as u64))
+            }
+            _ => None,
+        }
+    }
+
+    fn source_beside(&self, path: &str, out: &str) -> Option<FileSource<Told<'a>>> {
+        if path == out {
+            return None;
+        }
+        self.source_at(path)
+    }
+
+    fn whole(&self, path: &str) -> Result<WholeFile<&'a [u8]>, ToolError> {
+        match self.image {
+            Some(reader) if path == IMAGE => Ok(WholeFile {
+                reader,
+                expected: reader.len() as u64,
+            }),
+            _ => Err(ToolError::Read),
+        }
+    }
+
+    fn create<'p>(&self, path: &'p str) -> io::Result<OutputFile<'p, Vec<u8>>> {
+        if path == OUT {
+            Ok(OutputFile::new(path, Vec::new(self.alloc)))
+        } else {
+            Err(io::Error::from(ErrorKind::PermissionDenied))
+        }
+    }
+
+    fn keep(&mut self, file: OutputFile<'_, Vec<u8>>)
+        ensures { IsKept (telling (option_map (λ bytes. bytes.now) self.old.image) (option_map (λ bytes. bytes.items) self.old.out)) (telling (option_map (λ bytes. bytes.now) self.new.image) (option_map (λ bytes. bytes.items) self.new.out)) file.entry.path.now (Some file.entry.writer.items) }
+    {
+        if file.path() == OUT {
+            self.out = Some(file.writer);
+        } else if file.path() == IMAGE {
+            self.image = None;
+        }
+    }
+}
+
+impl Eprint for Telling<'_> {
+    fn eprint<D: Display + Drop>(&self, _value: D) -> io::Result<()> {
+        Ok(())
+    }
+
+    fn eprintln<D: Display + Drop>(&self, _value: D) -> io::Result<()> {
+        Ok(())
+    }
+}
+
+/// A line, what it answers of the image of `root`, and what its output holds then, if it is there.
+static LINES: [(&str, (&str, u8), Option<Contents>); 7] = [
+    ("check kept.img", ("cannot read kept.img\n", 1), None),
+    (
+        "normalise told.img --out kept.img",
+        ("blocks 5\n", 0),
+        Some(Contents::Root),
+    ),
+    (
+        "normalise told.img --out told.img",
+        ("cannot write told.img\n", 1),
+        None,
+    ),
+    (
+        "extract told.img --id 0 --out kept.img",
+        ("bytes 7680\n", 0),
+        Some(Contents::RootText),
+    ),
+    (
+        "extract told.img --id 1 --out kept.img",
+        ("refused L1 NoVolume\n", 1),
+        None,
+    ),
+    ("same told.img told.img", ("same\n", 0), None),
+    (
+        "same told.img other.img",
+        ("cannot read other.img\n", 1),
+        None,
+    ),
+];
+
+#[test]
+fn answers_of_the_named_files(rt: HostRuntime) -> Result<(), Fail> {
+    let alloc = rt.alloc();
+    let image = Contents::Root.bytes(alloc)?;
+    for (line, answer, output) in &LINES {
+        let mut disk = Telling {
+            alloc,
+            image: Some(image.as_slice()),
+            out: None,
+        };
+        let sized = format!(in alloc; "{line} --peb 512 --page 64 --pebs 32")?;
+        let outcome = run_on(&mut disk, alloc, sized.as_str())?;
+        assert!(rt; is_answer(&outcome, *answer), "of {line}");
+        let want = match output {
+            Some(contents) => Some(contents.bytes(alloc)?),
+            None => None,
+        };
+        assert!(rt; disk.out == want, "of {line}");
+        assert!(rt; disk.image.is_some(), "of {line}");
+    }
+    Ok(())
+}
