@@ -17,7 +17,6 @@ pub mod Outcomes
 pub mod Requests
 pub mod Showing
 pub mod Taken
-pub mod Telling
 pub mod ToolVectors
 pub mod Uses
 pub mod Walks
