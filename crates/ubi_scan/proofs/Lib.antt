@@ -1,3 +1,4 @@
+pub mod BlockStarts
 pub mod BlockVectors
 pub mod Causes
 pub mod Choice
@@ -22,6 +23,7 @@ pub mod OneFault
 pub mod OneScan
 pub mod Parts
 pub mod Places
+pub mod Plain
 pub mod ReadParts
 pub mod Revalued
 pub mod Seen
@@ -29,5 +31,7 @@ pub mod Seq
 pub mod Shown
 pub mod SoFar
 pub mod Told
+pub mod TooLarge
 pub mod Truths
+pub mod UnitStarts
 pub mod Within

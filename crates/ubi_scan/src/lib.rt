@@ -11,22 +11,28 @@
 mod blocks;
 mod candidate;
 mod counts;
+mod detect;
 mod errors;
 mod faults;
 mod file;
+mod fit;
 mod found;
 mod header;
 pub mod laws;
+mod layout;
+mod named;
 mod pass;
 mod probe;
 mod reading;
 mod scanning;
 mod size;
 mod source;
+mod starts;
 mod trace;
 mod window;
 
 pub use blocks::Blocks;
+pub use detect::{DetectError, OutOfBand, Undetected, detect_from};
 pub use errors::StreamError;
 pub use file::FileSource;
 pub use found::{Leb, MemberHeader, Scan, ScanState};
