@@ -40,14 +40,19 @@ pub record IsBest (starts : List EcStart) (q : ℕ) : Type 0 where
   pub to : q ≤ length starts
   pub best : (r : ℕ) → 1 ≤ r → r ≤ length starts → r ≢ q → IsTrue (fits_better starts q r)
 
+-- no unit behind the unit m and before the unit n starts with a header
+abbrev pub NoneBetween : List EcStart → ℕ → ℕ → Type 0
+NoneBetween starts m n = (u : ℕ) → m < u → u < n → IsTrue (is_header (start_of starts u)) → ⊥
+
 -- a file of n bytes plainly has eraseblocks of q units: two or more whole ones, each of which starts with a header, and the
--- first has no other header
+-- first two have no other header
 pub record IsPlain (starts : List EcStart) (n q : ℕ) : Type 0 where
   pub from : 1 ≤ q
   pub to : q < length starts
   pub whole : n % (q * unit) ≡ 0
   pub each : (i : ℕ) → i < blocks starts q → IsTrue (is_header (block_start starts q i))
-  pub first : (u : ℕ) → 1 ≤ u → u < q → IsTrue (is_header (start_of starts u)) → ⊥
+  pub first : NoneBetween starts 0 q
+  pub second : NoneBetween starts q (2 * q)
 
 -- the eraseblocks have q units: plainly, or where that is said of no size, since this one fits best
 abbrev pub IsSize : List EcStart → ℕ → ℕ → Type 0

@@ -2,8 +2,8 @@
 
 ghost use Rattle.std.specs.Prelude.{◌≡◌, ◌+◌, ◌*◌, ◌<◌, ◌≤◌, ◌^◌, ◌↔◌, IsTrue, MatchOption, ℕ, length};
 ghost use Rattle.ubi_scan.specs.Detected.{HasHeader};
-ghost use Rattle.ubi_scan.specs.Fit.{IsBest, IsPlain, IsSize, headers, others};
-ghost use Rattle.ubi_scan.specs.inner.Fit.{AllStart, IsFirstBehind, NoneBetween};
+ghost use Rattle.ubi_scan.specs.Fit.{IsBest, IsPlain, NoneBetween, IsSize, headers, others};
+ghost use Rattle.ubi_scan.specs.inner.Fit.{AllStart, IsFirstBehind};
 ghost use Rattle.ubi_scan.specs.Starts.{is_header, start_of, unit, units};
 
 use crate::starts::UNIT;
@@ -78,11 +78,13 @@ fn best_size(starts: &[EcStart]) -> usize
     best
 }
 
-/// The first unit behind the beginning that starts with a header, if one does.
-fn first_behind(starts: &[EcStart]) -> Option<usize>
-    ensures { MatchOption result (NoneBetween starts.now (length starts.now)) (IsFirstBehind starts.now) }
+/// The first unit behind another one that starts with a header, if one does.
+fn first_behind(starts: &[EcStart], after: usize) -> Option<usize>
+    requires few { length starts.now < 2 ^ 62 }
+    requires inside { after < length starts.now }
+    ensures { MatchOption result (NoneBetween starts.now after (length starts.now)) (IsFirstBehind starts.now after) }
 {
-    for u in 1..starts.len() {
+    for u in after + 1..starts.len() {
         if is_header(&starts[u]) {
             return Some(u);
         }
@@ -103,16 +105,29 @@ fn all_start(starts: &[EcStart], size: usize) -> bool
     true
 }
 
+/// Whether the next header behind a unit is twice as far from the beginning, or farther.
+fn is_alone(starts: &[EcStart], size: usize) -> bool
+    requires few { length starts.now < 2 ^ 62 }
+    requires inside { size < length starts.now }
+    ensures { IsTrue result ↔ NoneBetween starts.now size (2 * size) }
+{
+    match first_behind(starts, size) {
+        Some(next) => 2 * size <= next,
+        None => true,
+    }
+}
+
 /// The size that the eraseblocks of a file of `len` bytes plainly have, in units, if they have one.
 fn plain_size(starts: &[EcStart], len: u64) -> Option<usize>
+    requires some { 1 ≤ length starts.now }
     requires len { len < 2 ^ 63 }
     requires units { length starts.now ≡ units len }
     ensures { MatchOption result ((q : ℕ) → IsPlain starts.now len q → ⊥) (IsPlain starts.now len) }
 {
-    let Some(size) = first_behind(starts) else {
+    let Some(size) = first_behind(starts, 0) else {
         return None;
     };
-    if len % (size as u64 * UNIT) == 0 && all_start(starts, size) {
+    if len % (size as u64 * UNIT) == 0 && is_alone(starts, size) && all_start(starts, size) {
         Some(size)
     } else {
         None

@@ -1,21 +1,17 @@
 -- What is looked for on the way to the size of eraseblocks.
-use Rattle.std.specs.Prelude.{◌≡◌, ◌≢◌, ℕ, ◌<◌, ◌≤◌, IsTrue, List, length}
+use Rattle.std.specs.Prelude.{◌≡◌, ◌≢◌, ℕ, ◌<◌, IsTrue, List, length}
 use Rattle.ubi_media.specs.declared.ec.EcOffsets.{EcOffsets}
 use Rattle.ubi_media.specs.declared.ec.EcStart.{EcStart}
 use Rattle.ubi_media.specs.declared.ec.EcStart.TheVariants as start
-use Rattle.ubi_scan.specs.Fit.{block_start, blocks}
+use Rattle.ubi_scan.specs.Fit.{NoneBetween, block_start, blocks}
 use Rattle.ubi_scan.specs.Starts.{is_header, start_of}
 
--- no unit behind the beginning and before the unit n starts with a header
-abbrev pub NoneBetween : List EcStart → ℕ → Type 0
-NoneBetween starts n = (u : ℕ) → 1 ≤ u → u < n → IsTrue (is_header (start_of starts u)) → ⊥
-
--- the unit u is the first one behind the beginning that starts with a header
-pub record IsFirstBehind (starts : List EcStart) (u : ℕ) : Type 0 where
-  pub from : 1 ≤ u
+-- the unit u is the first one behind the unit m that starts with a header
+pub record IsFirstBehind (starts : List EcStart) (m u : ℕ) : Type 0 where
+  pub from : m < u
   pub to : u < length starts
   pub header : IsTrue (is_header (start_of starts u))
-  pub first : NoneBetween starts u
+  pub first : NoneBetween starts m u
 
 -- each eraseblock of q units starts with a header
 abbrev pub AllStart : List EcStart → ℕ → Type 0
