@@ -1,3 +1,4 @@
+pub mod BestFit
 pub mod BlockStarts
 pub mod BlockVectors
 pub mod Causes
@@ -8,11 +9,13 @@ pub mod Compatible
 pub mod Counted
 pub mod Counters
 pub mod Decided
+pub mod Detections
 pub mod Either
 pub mod Entries
 pub mod Filled
 pub mod Finite
 pub mod Held
+pub mod ImageStarts
 pub mod InMemory
 pub mod Keys
 pub mod Least
@@ -21,6 +24,7 @@ pub mod Narrowed
 pub mod Next
 pub mod OneFault
 pub mod OneScan
+pub mod OneSize
 pub mod Parts
 pub mod Places
 pub mod Plain
@@ -31,6 +35,7 @@ pub mod Seq
 pub mod Shown
 pub mod SoFar
 pub mod Told
+pub mod Spread
 pub mod TooLarge
 pub mod Truths
 pub mod UnitStarts

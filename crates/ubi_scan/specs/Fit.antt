@@ -71,7 +71,7 @@ pub record IsFirstNaming (starts : List EcStart) (q i : ℕ) (o : EcOffsets) : T
 
 -- the headers with which eraseblocks start all name these offsets, and there is one
 pub record AreOffsets (starts : List EcStart) (q : ℕ) (o : EcOffsets) : Type 0 where
-  pub some : (i : ℕ) × IsFirstNaming starts q i o
+  pub some : (i : ℕ) × (block_start starts q i ≡ start.Header o)
   pub all : (i : ℕ) (p : EcOffsets) → block_start starts q i ≡ start.Header p → p ≡ o
 
 -- the eraseblock i is the first one that starts with a header, and j the first one whose header names other offsets
