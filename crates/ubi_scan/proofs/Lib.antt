@@ -10,6 +10,7 @@ pub mod Counted
 pub mod Counters
 pub mod Decided
 pub mod Detections
+pub mod DetectVectors
 pub mod Either
 pub mod Entries
 pub mod Filled
