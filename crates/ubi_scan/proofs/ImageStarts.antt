@@ -27,7 +27,7 @@ use Rattle.ubi_scan.specs.Starts.{is_header, is_other, start_at, start_of, start
 use Rattle.ubi_scan.proofs.BestFit.{best_fit, some_headers, whole_blocks}
 use Rattle.ubi_scan.proofs.BlockStarts.{count_more}
 use Rattle.ubi_scan.proofs.Chunks.{length-first_chunks}
-use Rattle.ubi_scan.proofs.Plain.{plain_header}
+use Rattle.ubi_scan.proofs.PlainSize.{plain_header}
 use Rattle.ubi_scan.proofs.ReadParts.{part_of_block}
 
 all_and : (p : ℕ → Bool) (n : ℕ) (b : Bool) → p n ≡ b → ((i : ℕ) → i < n → IsTrue (p i))
@@ -60,10 +60,10 @@ valid_of ec_read.Corrupt is = cc
 valid_of (ec_read.Fault f) is = cc
 
 module _ (bytes : List ℕ) where
-  length_starts : length (starts_of bytes) ≡ units (length bytes)
+  pub length_starts : length (starts_of bytes) ≡ units (length bytes)
   length_starts = length-map-range_with_len (start_at bytes) 0 (units (length bytes))
 
-  start_is : (u : ℕ) → u < units (length bytes) → start_of (starts_of bytes) u ≡ start_at bytes u
+  pub start_is : (u : ℕ) → u < units (length bytes) → start_of (starts_of bytes) u ≡ start_at bytes u
   start_is u inside = get_or-map-range_with_len (start_at bytes) 0 (units (length bytes)) u u start.Other inside (omega arith)
 
   start_none : (u : ℕ) → units (length bytes) ≤ u → start_of (starts_of bytes) u ≡ start.Other

@@ -28,7 +28,9 @@ pub mod OneScan
 pub mod OneSize
 pub mod Parts
 pub mod Places
-pub mod Plain
+pub mod PlainHeads
+pub mod PlainRead
+pub mod PlainSize
 pub mod ReadParts
 pub mod Revalued
 pub mod Seen

@@ -6,7 +6,7 @@ use Rattle.ubi_media.proofs.Cases.{below_same_or_above}
 use Rattle.ubi_media.specs.declared.ec.EcStart.{EcStart}
 use Rattle.ubi_scan.specs.DetectLaws.{OneSize}
 use Rattle.ubi_scan.specs.Fit.{IsBest, IsPlain, headers, others}
-use Rattle.ubi_scan.proofs.Plain.{plain_header}
+use Rattle.ubi_scan.proofs.PlainSize.{plain_header}
 
 not_both : (a b c d q r : ℕ) → IsTrue (nat_lt (a + b) (c + d) || ((a + b == c + d) && nat_lt r q))
     → IsTrue (nat_lt (c + d) (a + b) || ((c + d == a + b) && nat_lt q r)) → ⊥

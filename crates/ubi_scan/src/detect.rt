@@ -1,17 +1,19 @@
 //! The geometry of a file of which nothing else is known.
 
-ghost use Rattle.std.specs.Prelude.{◌≡◌, ◌≢◌, ◌<◌, ◌≤◌, ◌^◌, [], IfErr, IfOk, MatchResult, length};
+ghost use Rattle.std.specs.Prelude.{◌≡◌, ◌≢◌, ◌<◌, ◌≤◌, ◌^◌, [], List, IfErr, IfOk, MatchResult, length};
+ghost use Rattle.ubi_media.specs.declared.ec.EcStart.{EcStart};
 ghost use Rattle.ubi_scan.specs.Detected.{AreGeometries, AreGeometriesOf, HasHeader, IsDetectError, IsKnown, IsUndetected, after_detecting};
-ghost use Rattle.ubi_scan.specs.Fit.{IsSize};
+ghost use Rattle.ubi_scan.specs.Fit.{IsPlain, IsSize, block_starts};
 ghost use Rattle.ubi_scan.specs.Source.{Narrows};
 ghost use Rattle.ubi_scan.specs.Starts.{units};
-ghost use Rattle.ubi_scan.specs.inner.Detecting.{IsFailure, IsPaged, IsUnpaged};
+ghost use Rattle.ubi_scan.specs.inner.Detecting.{IsFailure, IsNoRead, IsPaged, IsUnpaged};
 
 use crate::fit::{count_starts, has_header, size_of_blocks};
 use crate::layout::{geometries, out_of_band};
 use crate::named::offsets_named;
+use crate::plain::read_plain;
 use crate::source::BlockSource;
-use crate::starts::{UNIT, read_starts};
+use crate::starts::{UNIT, read_more};
 use std::alloc::{AllocError, AllocFailed, Global};
 use ubi_media::{EcOffsets, EcStart, Geometry};
 
@@ -147,14 +149,45 @@ fn judge(alloc: Global, starts: &[EcStart], len: u64) -> Result<Vec<Geometry>, D
     }
 }
 
+/// The geometries of a file of `len` bytes that plainly has eraseblocks of `size` units, which start so.
+///
+/// # Errors
+///
+/// The first cause that stands, in the order of [`Undetected`], or Memory where it ran out.
+fn judge_plain(
+    alloc: Global,
+    heads: &[EcStart],
+    size: u64,
+    len: u64,
+) -> Result<Vec<Geometry>, DetectError>
+    requires { size < 2 ^ 54 }
+    ensures plain { (starts : List EcStart) → IsPlain starts len size → heads.now ≡ block_starts starts size → MatchResult result (λ found. AreGeometries starts len found.items) (IsFailure starts len) }
+    ensures some { IfOk result (λ found. found.items ≢ []) }
+    ensures no_read { IfErr result IsNoRead }
+{
+    match offsets_named(heads, 1) {
+        Ok(offsets) => known_geometries(alloc, size * UNIT, offsets),
+        Err(Some((first, other))) => Err(DetectError::Undetected(Undetected::Offsets(
+            first as u64,
+            other as u64,
+        ))),
+        // All of them start with a header.
+        Err(None) => Err(DetectError::Undetected(Undetected::NoSize)),
+    }
+}
+
+/// The most bytes that a file has.
+const LONGEST: u64 = 0x7FFF_FFFF_FFFF_FFFF;
+
 /// Detects the geometries of a source of which nothing else is known: the sizes for which the headers and the erased
 /// eraseblocks speak best, with each page that Linux lays out so, the least first. As many eraseblocks as a device may have are
-/// given to each. Each unit of 512 bytes is read once, by rising place.
+/// given to each. Where the eraseblocks plainly have one size, their first 64 bytes are read and the first two of them; else 64
+/// bytes of each 512.
 ///
 /// # Errors
 ///
 /// Undetected with the first cause that stands, in the order of [`Undetected`]. Read where a read failed. Memory where it ran
-/// out: it needs 12 bytes for each unit.
+/// out: it needs 12 bytes for each 512 where all of these are read.
 pub fn detect_from<S: BlockSource>(
     alloc: Global,
     source: &mut S,
@@ -165,6 +198,16 @@ pub fn detect_from<S: BlockSource>(
     ensures some { IfOk result (λ found. found.items ≢ []) }
     ensures refused { IfErr result (IsDetectError (S.known source.old) (S.agrees source.new)) }
 {
-    let starts = read_starts(alloc, source)?;
-    judge(alloc, starts.as_slice(), source.len())
+    let len = source.len();
+    if len > LONGEST {
+        return Err(DetectError::Memory);
+    }
+    let mut starts = Vec::new(alloc);
+    match read_plain(alloc, source, &mut starts)? {
+        Some((size, heads)) => judge_plain(alloc, heads.as_slice(), size, len),
+        None => {
+            read_more(source, &mut starts, len.div_ceil(UNIT))?;
+            judge(alloc, starts.as_slice(), len)
+        }
+    }
 }

@@ -6,7 +6,7 @@ ghost use Rattle.ubi_scan.specs.Fit.{IsBest, IsPlain, NoneBetween, IsSize, heade
 ghost use Rattle.ubi_scan.specs.inner.Fit.{AllStart, IsFirstBehind};
 ghost use Rattle.ubi_scan.specs.Starts.{is_header, start_of, unit, units};
 
-use crate::starts::UNIT;
+use crate::starts::{UNIT, is_header};
 use ubi_media::EcStart;
 
 /// How many eraseblocks start with a header, and how many with anything but a header or 0xFF.
@@ -14,13 +14,6 @@ use ubi_media::EcStart;
 pub struct Score {
     pub headers: usize,
     pub others: usize,
-}
-
-/// Whether a unit starts with a header.
-fn is_header(start: &EcStart) -> bool
-    ensures { result ≡ is_header start.now }
-{
-    matches!(start, EcStart::Header(_))
 }
 
 /// Whether some unit starts with a header.
@@ -79,7 +72,7 @@ fn best_size(starts: &[EcStart]) -> usize
 }
 
 /// The first unit behind another one that starts with a header, if one does.
-fn first_behind(starts: &[EcStart], after: usize) -> Option<usize>
+pub fn first_behind(starts: &[EcStart], after: usize) -> Option<usize>
     requires few { length starts.now < 2 ^ 62 }
     requires inside { after < length starts.now }
     ensures { MatchOption result (NoneBetween starts.now after (length starts.now)) (IsFirstBehind starts.now after) }
@@ -106,7 +99,7 @@ fn all_start(starts: &[EcStart], size: usize) -> bool
 }
 
 /// Whether the next header behind a unit is twice as far from the beginning, or farther.
-fn is_alone(starts: &[EcStart], size: usize) -> bool
+pub fn is_alone(starts: &[EcStart], size: usize) -> bool
     requires few { length starts.now < 2 ^ 62 }
     requires inside { size < length starts.now }
     ensures { IsTrue result ↔ NoneBetween starts.now size (2 * size) }

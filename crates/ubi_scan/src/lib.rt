@@ -22,6 +22,7 @@ pub mod laws;
 mod layout;
 mod named;
 mod pass;
+mod plain;
 mod probe;
 mod reading;
 mod scanning;

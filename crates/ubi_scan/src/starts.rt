@@ -1,10 +1,12 @@
 //! What the units of a source start with, where no geometry is known.
 
-ghost use Rattle.std.specs.Prelude.{◌≡◌, ◌<◌, ◌^◌, IfErr, IfOk, vec_len};
+ghost use Rattle.std.specs.Prelude.{◌≡◌, ◌<◌, ◌≤◌, ◌^◌, true, IfErr, IfOk, IfSome, OnOk, max, vec_len};
+ghost use Rattle.std.specs.Int.{div_ceil};
+ghost use Rattle.std.specs.List.{list_all};
 ghost use Rattle.ubi_scan.specs.Detected.{after_detecting};
-ghost use Rattle.ubi_scan.specs.inner.Detecting.{IsReadAt, IsReadError};
+ghost use Rattle.ubi_scan.specs.inner.Detecting.{AreAt, AreFirst, IsReadAt, IsReadError};
 ghost use Rattle.ubi_scan.specs.Source.{Narrows, WhereHeld};
-ghost use Rattle.ubi_scan.specs.Starts.{start_at, starts_of, units};
+ghost use Rattle.ubi_scan.specs.Starts.{is_header, start_at, units};
 
 use crate::detect::DetectError;
 use crate::source::BlockSource;
@@ -14,8 +16,12 @@ use ubi_media::{EcStart, read_start};
 /// The bytes of a unit: an eraseblock is a number of them.
 pub const UNIT: u64 = 512;
 
-/// The most bytes that a file has.
-const LONGEST: u64 = 0x7FFF_FFFF_FFFF_FFFF;
+/// Whether a unit starts with a header.
+pub fn is_header(start: &EcStart) -> bool
+    ensures { result ≡ is_header start.now }
+{
+    matches!(start, EcStart::Header(_))
+}
 
 /// What a unit of a source starts with.
 ///
@@ -41,31 +47,85 @@ fn read_unit<S: BlockSource>(source: &mut S, u: u64) -> Result<EcStart, DetectEr
     }
 }
 
-/// What the units of a source start with. Each is read once, by rising place.
+/// Reads what the units of a source start with, behind those of which it is known, as far as the unit `end`.
 ///
 /// # Errors
 ///
 /// Read where a read failed, Memory where it ran out.
-pub fn read_starts<S: BlockSource>(
-    alloc: Global,
+pub fn read_more<S: BlockSource>(
     source: &mut S,
-) -> Result<Vec<EcStart>, DetectError>
+    starts: &mut Vec<EcStart>,
+    end: u64,
+) -> Result<(), DetectError>
+    requires size { (S.known source.old).size < 2 ^ 63 }
+    requires end { end ≤ units (S.known source.old).size }
+    requires first { AreFirst (S.agrees source.old) starts.old.items (vec_len starts.old) }
     ensures known { S.known source.new ≡ after_detecting (S.known source.old) result }
     ensures narrows { Narrows (S.agrees source.old) (S.agrees source.new) }
-    ensures size { IfOk result (λ starts. (S.known source.old).size < 2 ^ 63) }
-    ensures starts { IfOk result (λ starts. WhereHeld (S.agrees source.new) (λ bytes. starts.items ≡ starts_of bytes)) }
-    ensures count { IfOk result (λ starts. vec_len starts ≡ units (S.known source.old).size) }
+    ensures first { OnOk result (AreFirst (S.agrees source.new) starts.new.items (vec_len starts.new)) }
+    ensures count { OnOk result (vec_len starts.new ≡ max (vec_len starts.old) end) }
     ensures failed { IfErr result (IsReadError (S.known source.old).size) }
 {
-    let len = source.len();
-    if len > LONGEST {
-        return Err(DetectError::Memory);
-    }
-    let count = len.div_ceil(UNIT);
-    let mut starts = Vec::with_capacity(alloc, count as usize)?;
-    for u in 0..count {
+    for u in starts.len() as u64..end {
         let start = read_unit(source, u)?;
         starts.push(start)?;
     }
-    Ok(starts)
+    Ok(())
+}
+
+/// Reads what the units of a source start with, from the first one on, until one behind the first one starts with a header.
+///
+/// # Errors
+///
+/// Read where a read failed, Memory where it ran out.
+pub fn read_to_header<S: BlockSource>(
+    source: &mut S,
+    starts: &mut Vec<EcStart>,
+) -> Result<(), DetectError>
+    requires size { (S.known source.old).size < 2 ^ 63 }
+    requires none { vec_len starts.old ≡ 0 }
+    requires first { AreFirst (S.agrees source.old) starts.old.items (vec_len starts.old) }
+    ensures known { S.known source.new ≡ after_detecting (S.known source.old) result }
+    ensures narrows { Narrows (S.agrees source.old) (S.agrees source.new) }
+    ensures first { OnOk result (AreFirst (S.agrees source.new) starts.new.items (vec_len starts.new)) }
+    ensures count { OnOk result (vec_len starts.new ≤ units (S.known source.old).size) }
+    ensures failed { IfErr result (IsReadError (S.known source.old).size) }
+{
+    for u in 0..source.len().div_ceil(UNIT) {
+        let start = read_unit(source, u)?;
+        starts.push(start)?;
+        if u > 0 && is_header(&start) {
+            break;
+        }
+    }
+    Ok(())
+}
+
+/// Reads what the eraseblocks of `size` units of a source start with. None where one of them starts with anything but a header.
+///
+/// # Errors
+///
+/// Read where a read failed, Memory where it ran out.
+pub fn read_headers_at<S: BlockSource>(
+    alloc: Global,
+    source: &mut S,
+    size: u64,
+) -> Result<Option<Vec<EcStart>>, DetectError>
+    requires size { (S.known source.old).size < 2 ^ 63 }
+    requires some { 1 ≤ size }
+    ensures known { S.known source.new ≡ after_detecting (S.known source.old) result }
+    ensures narrows { Narrows (S.agrees source.old) (S.agrees source.new) }
+    ensures starts { IfOk result (λ o. IfSome o (λ starts. AreAt (S.agrees source.new) size starts.items (div_ceil (units (S.known source.old).size) size))) }
+    ensures headers { IfOk result (λ o. IfSome o (λ starts. list_all is_header starts.items ≡ true)) }
+    ensures failed { IfErr result (IsReadError (S.known source.old).size) }
+{
+    let mut starts = Vec::new(alloc);
+    for i in 0..source.len().div_ceil(UNIT).div_ceil(size) {
+        let start = read_unit(source, i * size)?;
+        if !is_header(&start) {
+            return Ok(None);
+        }
+        starts.push(start)?;
+    }
+    Ok(Some(starts))
 }

@@ -1,4 +1,4 @@
-use Rattle.ubi_scan.proofs.Plain.{other_plain}
+use Rattle.ubi_scan.proofs.PlainSize.{other_plain}
 use Rattle.ubi_scan.proofs.fit.plain_size.Goals as goal
 use Rattle.ubi_scan.proofs.fit.plain_size.Goals.{else-len-size-eq0-via-then-len-size-eq0+then-is_alone+else-all_start, else-len-size-eq0-via-then-len-size-eq0+else-is_alone, else-len-size-eq0-via-else-len-size-eq0}
 
