@@ -23,9 +23,6 @@ module _ (starts : List EcStart) (n q : ℕ) (plain : IsPlain starts n q) where
   pub plain_header : IsTrue (is_header (start_of starts q))
   plain_header = let P : ℕ → Type 0 = λ u. IsTrue (is_header (start_of starts u)) in subst P (one-mul q) (plain.each 1 two)
 
-  pub none_plain : NoneBetween starts 0 (length starts) → ⊥
-  none_plain none = none q plain.from plain.to plain_header
-
   pub plain_first : (u : ℕ) → IsFirstBehind starts 0 u → q ≡ u
   plain_first u is = elim (below_same_or_above q u) [
     | inl h ↦ absurd (is.first q plain.from h plain_header)

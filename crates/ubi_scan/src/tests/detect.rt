@@ -1,7 +1,7 @@
 //! Geometries that are detected, and why none is.
 
-use super::dumps::{Dump, What, bytes_of};
-use crate::{DetectError, MemorySource, OutOfBand, Undetected, detect_from};
+use super::dumps::{Dump, What, bytes_of, header, put};
+use crate::{DetectError, MemorySource, OutOfBand, ProbeSource, Undetected, detect_from};
 use std::alloc::Global;
 use std::test::Fail;
 use ubi_media::{EcOffsets, Geometry};
@@ -318,6 +318,71 @@ fn tells_why_none_is_detected(rt: HostRuntime) -> Result<(), Fail> {
             cause == Some(DetectError::Undetected(*want)),
             "case {index}"
         );
+    }
+    Ok(())
+}
+
+/// Why of four eraseblocks of 1,024 bytes none is detected whose read `at` fails, if none is. `first` is where the first header
+/// stands.
+fn error_of(alloc: Global, first: usize, at: u64) -> Result<Option<DetectError>, Fail> {
+    let dump = Dump {
+        len: 4096,
+        fill: 0xFF,
+        rows: &[(first, 1024, 4, What::Header(64, 128))],
+    };
+    let bytes = bytes_of(alloc, &dump)?;
+    let geometry = Geometry::new(1024, 64, 64, 128, 32)?;
+    let mut source = ProbeSource::new(alloc, &geometry, bytes.as_slice(), at)?;
+    Ok(detect_from(alloc, &mut source).err())
+}
+
+/// Where the reads begin, up to the last one: the first two eraseblocks, and then where each begins; or where the first one is
+/// blank, the first two, the first one again, and the others.
+static READS: [(usize, &[u64]); 2] = [
+    (0, &[0, 512, 1024, 1536, 0, 1024, 2048, 3072]),
+    (1024, &[0, 512, 1024, 1536, 0, 2048, 2560, 3072, 3584]),
+];
+
+#[test]
+fn tells_the_place_of_the_read_that_failed(rt: HostRuntime) -> Result<(), Fail> {
+    for (first, places) in &READS {
+        for (index, place) in places.iter().enumerate() {
+            let error = error_of(rt.alloc(), *first, index as u64 + 1)?;
+            assert!(rt;
+                error == Some(DetectError::Read(*place)),
+                "read {index}, {first}"
+            );
+        }
+        let error = error_of(rt.alloc(), *first, places.len() as u64 + 1)?;
+        assert!(rt; error == None, "no read, {first}");
+    }
+    Ok(())
+}
+
+/// The size that is detected of a file, in bytes, or that memory ran out.
+fn size_of(alloc: Global, bytes: &[u8]) -> Result<u32, DetectError> {
+    let found = detect_from(alloc, &mut MemorySource::new(bytes))?;
+    Ok(found.get(0).map_or(0, |geometry| geometry.peb_size()))
+}
+
+/// The script bench/second/refuse.sh refuses each growth of memory in turn, and looks for the line that is printed here.
+#[test]
+fn detects_or_runs_out_of_memory(rt: HostRuntime) -> Result<(), Fail> {
+    let mut bytes = [0xFF; 16_384];
+    for block in 1..8 {
+        put(&mut bytes, 2048 * block, &header(64, 128)?);
+    }
+    let blank = size_of(rt.alloc(), &bytes);
+    put(&mut bytes, 0, &header(64, 128)?);
+    let plain = size_of(rt.alloc(), &bytes);
+    for size in [blank, plain] {
+        match size {
+            Ok(size) => assert!(rt; size == 2048),
+            Err(error) => {
+                assert!(rt; error == DetectError::Memory);
+                println!(rt; "out of memory")?;
+            }
+        }
     }
     Ok(())
 }

@@ -25,7 +25,7 @@ pub struct Dump<'a> {
 }
 
 /// The bytes of a header that names offsets.
-fn header(vid_offset: u32, data_offset: u32) -> Result<[u8; 64], GeometryError> {
+pub fn header(vid_offset: u32, data_offset: u32) -> Result<[u8; 64], GeometryError> {
     let geometry = Geometry::new(0x0100_0000, 64, vid_offset, data_offset, 2)?;
     let header = EcHeader {
         counter: 7,
@@ -35,7 +35,7 @@ fn header(vid_offset: u32, data_offset: u32) -> Result<[u8; 64], GeometryError> 
 }
 
 /// Puts bytes at a place, as far as there is room.
-fn put(bytes: &mut [u8], at: usize, new: &[u8]) {
+pub fn put(bytes: &mut [u8], at: usize, new: &[u8]) {
     for (index, byte) in new.iter().enumerate() {
         if let Some(old) = bytes.get_mut(at.saturating_add(index)) {
             *old = *byte;
