@@ -1,4 +1,5 @@
 pub mod BestFit
+pub mod BestSoFar
 pub mod BlockStarts
 pub mod BlockVectors
 pub mod Causes

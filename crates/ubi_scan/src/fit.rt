@@ -62,6 +62,10 @@ fn best_size(starts: &[EcStart]) -> usize
     let mut best = 1;
     let mut best_score = count_starts(starts, best);
     for size in 2..starts.len() + 1 {
+        // So few eraseblocks can't be as good, whatever they start with.
+        if starts.len().div_ceil(size) + best_score.others < best_score.headers {
+            continue;
+        }
         let new = count_starts(starts, size);
         if is_as_good(&new, &best_score) {
             best = size;
