@@ -28,7 +28,7 @@ module _ (starts : List EcStart) (n : ℕ) where
   same_offsets : (q : ℕ) (o p : EcOffsets) → AreOffsets starts q o → AreOffsets starts q p → o ≡ p
   same_offsets q o p one other = other.all one.some.0 o one.some.1
 
-  same_known : (q r : ℕ) (o p : EcOffsets) → IsKnown starts n q o → IsKnown starts n r p → (q ≡ r) × (o ≡ p)
+  pub same_known : (q r : ℕ) (o p : EcOffsets) → IsKnown starts n q o → IsKnown starts n r p → (q ≡ r) × (o ≡ p)
   same_known q r o p one other =
       let e = one_size starts n q r one.fitting.size other.fitting.size in
       let P : ℕ → Type 0 = λ (k : ℕ). AreOffsets starts k o in (e, same_offsets r o p (subst P e one.offsets) other.offsets)

@@ -27,6 +27,7 @@ pub mod Next
 pub mod OneFault
 pub mod OneScan
 pub mod OneSize
+pub mod OneUndetected
 pub mod Parts
 pub mod Places
 pub mod PlainHeads

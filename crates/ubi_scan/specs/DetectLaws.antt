@@ -59,3 +59,7 @@ OneDetection = (starts : List EcStart) (n : ℕ) (found other : List Sizes) → 
 abbrev pub DetectedOrNot : Type 0
 DetectedOrNot = (starts : List EcStart) (n : ℕ) (found : List Sizes) (c : Undetected) → AreGeometries starts n found
     → IsUndetected starts n c → ⊥
+
+-- a file is refused for one cause at most
+abbrev pub OneUndetected : Type 0
+OneUndetected = (starts : List EcStart) (n : ℕ) (c d : Undetected) → IsUndetected starts n c → IsUndetected starts n d → c ≡ d
