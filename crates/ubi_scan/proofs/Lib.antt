@@ -28,6 +28,7 @@ pub mod OneFault
 pub mod OneScan
 pub mod OneSize
 pub mod OneUndetected
+pub mod PagesThatFit
 pub mod Parts
 pub mod Places
 pub mod PlainHeads
@@ -41,7 +42,6 @@ pub mod Shown
 pub mod SoFar
 pub mod Told
 pub mod Spread
-pub mod TooLarge
 pub mod Truths
 pub mod UnitStarts
 pub mod Within

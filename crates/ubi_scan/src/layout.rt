@@ -48,11 +48,13 @@ pub fn geometries(
     let Ok(size) = u32::try_from(size) else {
         return Ok(Vec::new(alloc));
     };
-    PAGE_SIZES
-        .iter()
-        .copied()
-        .filter_map(|page| geometry_of(size, offsets, page))
-        .collect(alloc)
+    let mut found = Vec::new(alloc);
+    for page in &PAGE_SIZES {
+        if let Some(geometry) = geometry_of(size, offsets, *page) {
+            found.push(geometry)?;
+        }
+    }
+    Ok(found)
 }
 
 /// The power of two that has `size` bytes with an out-of-band byte for each `share` bytes, if one has.
