@@ -1,6 +1,7 @@
 #!/bin/sh
-# Refuses each growth of memory in turn: of the scan, of reading a table and renaming a volume of it, of attaching and reading,
-# of planning a rename and a change, of reading the composer's text, and of the commands over bytes and by their words.
+# Refuses each growth of memory in turn: of the scan, of detecting a geometry, of reading a table and renaming a volume of it,
+# of attaching and reading, of planning a rename and a change, of reading the composer's text, and of the commands over bytes and
+# by their words.
 #
 # usage: bench/second/refuse.sh [CRATE TEST]
 #
@@ -50,6 +51,7 @@ if [ $# = 2 ]; then
 fi
 wrong=0
 refuse_each ubi_scan tests::memory::finds_all_or_runs_out_of_memory || wrong=1
+refuse_each ubi_scan tests::detect::detects_or_runs_out_of_memory || wrong=1
 refuse_each ubi_table tests::memory::reads_and_names_or_runs_out_of_memory || wrong=1
 refuse_each ubi_volume tests::memory::reads_all_or_runs_out_of_memory || wrong=1
 refuse_each ubi_change tests::memory::plans_all_or_runs_out_of_memory || wrong=1

@@ -1,11 +1,12 @@
 -- Readings and bytes of erase-counter headers on literals.
 use Rattle.std.proofs.Common.{◌≡◌, List, ℕ, [], ◌∷◌, replicate, refl}
 use Rattle.ubi_media.specs.Check.{check_from, remainder}
-use Rattle.ubi_media.specs.Ec.{ec_bytes, ec_fields, ec_reading, judged, first_fault, breaks}
+use Rattle.ubi_media.specs.Ec.{ec_bytes, ec_fields, ec_reading, ec_start, judged, first_fault, breaks}
 use Rattle.ubi_media.specs.Fields.{form_of}
 use Rattle.ubi_media.specs.declared.ec.EcFault.TheVariants.{Version, Offsets, Counter}
 use Rattle.ubi_media.specs.declared.ec.EcHeader.{EcHeader}
 use Rattle.ubi_media.specs.declared.ec.EcRead.TheVariants.{Blank, Corrupt, Fault, Valid}
+use Rattle.ubi_media.specs.declared.ec.EcStart.TheVariants as start
 use Rattle.ubi_media.proofs.Words.{small, words}
 
 -- the image sequence number 0x12345678
@@ -61,3 +62,36 @@ erased = refl
 zeros : ec_reading small (replicate 64 0) ≡ Corrupt
 unfolding ec_reading form_of
 zeros = refl
+
+-- the same where no geometry is known
+starts : ec_start (words base_words) ≡ start.Header (record { vid_offset = 64; data_offset = 128 })
+unfolding base_words ec_start ec_reading form_of judged first_fault breaks ec_fields check_from remainder
+starts = refl
+
+starts_data_offset : ec_start
+    (words (0x55424923 ∷ 0x01000000 ∷ 0 ∷ 5 ∷ 0x40 ∷ 0xc0 ∷ 0 ∷ 0 ∷ 0 ∷ 0 ∷ 0 ∷ 0 ∷ 0 ∷ 0 ∷ 0 ∷ 0x648f44ce ∷ []))
+    ≡ start.Header (record { vid_offset = 64; data_offset = 192 })
+unfolding ec_start ec_reading form_of judged first_fault breaks ec_fields check_from remainder
+starts_data_offset = refl
+
+starts_version_2 : ec_start
+    (words (0x55424923 ∷ 0x02000000 ∷ 0 ∷ 0 ∷ 0x40 ∷ 0x80 ∷ 0 ∷ 0 ∷ 0 ∷ 0 ∷ 0 ∷ 0 ∷ 0 ∷ 0 ∷ 0 ∷ 0x51ed87bd ∷ []))
+    ≡ start.Other
+unfolding ec_start ec_reading form_of judged first_fault breaks ec_fields check_from remainder
+starts_version_2 = refl
+
+starts_counter : ec_start
+    (words (0x55424923 ∷ 0x01000000 ∷ 0 ∷ 0x80000000 ∷ 0x40 ∷ 0x80 ∷ 0 ∷ 0 ∷ 0 ∷ 0 ∷ 0 ∷ 0 ∷ 0 ∷ 0 ∷ 0 ∷ 0xae56b556
+    ∷ [])) ≡ start.Other
+unfolding ec_start ec_reading form_of judged first_fault breaks ec_fields check_from remainder
+starts_counter = refl
+
+starts_wrong_check : ec_start
+    (words (0x55424923 ∷ 0x01000000 ∷ 0 ∷ 0x7fffffff ∷ 0x40 ∷ 0x80 ∷ 0 ∷ 0 ∷ 0 ∷ 0 ∷ 0 ∷ 0 ∷ 0 ∷ 0 ∷ 0 ∷ 0xa321f93d
+    ∷ [])) ≡ start.Other
+unfolding ec_start ec_reading form_of judged first_fault breaks ec_fields check_from remainder
+starts_wrong_check = refl
+
+starts_erased : ec_start (replicate 64 255) ≡ start.Blank
+unfolding ec_start ec_reading form_of ec_fields
+starts_erased = refl

@@ -21,6 +21,7 @@ pub mod Records
 pub mod Register
 pub mod Sizes
 pub mod Sound
+pub mod Starts
 pub mod Table
 pub mod VidVectors
 pub mod Words

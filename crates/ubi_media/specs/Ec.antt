@@ -9,8 +9,11 @@ use Rattle.ubi_media.specs.declared.ec.EcFault.{EcFault}
 use Rattle.ubi_media.specs.declared.ec.EcFault.TheVariants as fault
 use Rattle.ubi_media.specs.declared.ec.EcFields.{EcFields}
 use Rattle.ubi_media.specs.declared.ec.EcHeader.{EcHeader}
+use Rattle.ubi_media.specs.declared.ec.EcOffsets.{EcOffsets}
 use Rattle.ubi_media.specs.declared.ec.EcRead.{EcRead}
 use Rattle.ubi_media.specs.declared.ec.EcRead.TheVariants as read
+use Rattle.ubi_media.specs.declared.ec.EcStart.{EcStart}
+use Rattle.ubi_media.specs.declared.ec.EcStart.TheVariants as start
 use Rattle.ubi_media.specs.declared.header.Form.{Form}
 use Rattle.ubi_media.specs.declared.header.Form.TheVariants as form
 
@@ -67,6 +70,28 @@ reading_by s f form.Sealed = judged s f
 -- the one reading of the bytes
 unfoldable pub ec_reading : Sizes → List ℕ → EcRead
 ec_reading s bytes = reading_by s (ec_fields bytes) (form_of ec_magic bytes)
+
+-- the offsets that fields name
+abbrev pub offsets_of : EcFields → EcOffsets
+offsets_of f = record { vid_offset = f.vid_offset; data_offset = f.data_offset }
+
+-- those of a geometry
+abbrev pub offsets_in : Sizes → EcOffsets
+offsets_in s = record { vid_offset = s.vid_offset; data_offset = s.data_offset }
+
+-- sizes of which no more is known than these offsets
+abbrev pub sizes_naming : EcOffsets → Sizes
+sizes_naming o = record { peb_size = 0; page = 0; vid_offset = o.vid_offset; data_offset = o.data_offset; pebs = 0 }
+
+-- what bytes are that name some offsets, by what they are under these
+abbrev pub start_by : EcOffsets → EcRead → EcStart
+start_by o read.Blank = start.Blank
+start_by o (read.Valid _) = start.Header o
+start_by o _ = start.Other
+
+-- what bytes are under the offsets that they name themselves
+unfoldable pub ec_start : List ℕ → EcStart
+ec_start bytes = let o = offsets_of (ec_fields bytes) in start_by o (ec_reading (sizes_naming o) bytes)
 
 -- the bytes before the check
 abbrev pub ec_front : Sizes → EcHeader → List ℕ

@@ -1,7 +1,7 @@
 //! The erase-counter header, which stands at the start of each eraseblock (`ubi-media.h`, `struct ubi_ec_hdr`).
 
 ghost use Rattle.std.specs.Prelude.{◌≡◌, ◌^◌, ◌<◌, ◌++◌, replicate};
-ghost use Rattle.ubi_media.specs.Ec.{EcIs, breaks, ec_bytes, ec_fields, ec_front, ec_reading, first_fault, judged};
+ghost use Rattle.ubi_media.specs.Ec.{EcIs, breaks, ec_bytes, ec_fields, ec_front, ec_reading, ec_start, first_fault, judged, offsets_of, sizes_naming, start_by};
 ghost use Rattle.ubi_media.specs.Geometry.{IsGeometry};
 
 use crate::bytes::{put_u32, put_u64};
@@ -50,6 +50,26 @@ pub enum EcRead {
     Fault(EcFault),
     /// With the magic and the right check, and no rule broken.
     Valid(EcHeader),
+}
+
+/// The places of the volume-identifier header and of the data in an eraseblock.
+#[derive(Clone, Copy, Debug, PartialEq, Eq)]
+pub struct EcOffsets {
+    /// The byte of an eraseblock at which its volume-identifier header begins.
+    pub vid_offset: u32,
+    /// The byte of an eraseblock at which its data begin.
+    pub data_offset: u32,
+}
+
+/// What 64 bytes are as an erase-counter header where no geometry is known.
+#[derive(Clone, Copy, Debug, PartialEq, Eq)]
+pub enum EcStart {
+    /// 0xFF throughout.
+    Blank,
+    /// A header that is Valid for the geometries with the offsets that it names.
+    Header(EcOffsets),
+    /// Anything else.
+    Other,
 }
 
 /// The fields behind the magic, as they stand.
@@ -127,6 +147,33 @@ pub fn read_ec(geometry: &Geometry, bytes: &[u8; 64]) -> EcRead
         Form::Blank => EcRead::Blank,
         Form::Corrupt => EcRead::Corrupt,
         Form::Sealed => judged(geometry, &fields_of(bytes)),
+    }
+}
+
+/// What a sealed header is where no geometry is known.
+#[tactic(auto, using(crate::proofs::Starts::own_fault), unfolding(crate::specs::Ec::judged))]
+fn start_of(fields: &EcFields) -> EcStart
+    ensures { result ≡ start_by (offsets_of fields.now) (judged (sizes_naming (offsets_of fields.now)) fields.now) }
+{
+    if fields.version != VERSION || fields.counter > LARGEST_COUNTER {
+        return EcStart::Other;
+    }
+    EcStart::Header(EcOffsets {
+        vid_offset: fields.vid_offset,
+        data_offset: fields.data_offset,
+    })
+}
+
+/// What 64 bytes are as the erase-counter header of an eraseblock whose geometry isn't known: what they are under the
+/// offsets that they name.
+#[tactic(auto, unfolding(crate::specs::Ec::ec_reading, crate::specs::Ec::ec_start))]
+pub fn read_start(bytes: &[u8; 64]) -> EcStart
+    ensures { result ≡ ec_start bytes.now }
+{
+    match form_of(MAGIC, bytes) {
+        Form::Blank => EcStart::Blank,
+        Form::Corrupt => EcStart::Other,
+        Form::Sealed => start_of(&fields_of(bytes)),
     }
 }
 

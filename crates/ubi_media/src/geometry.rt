@@ -8,7 +8,7 @@ use crate::record;
 use std::marker::Model;
 
 /// The sizes that a page may have, in bytes.
-const PAGE_SIZES: [u32; 11] = [
+pub const PAGE_SIZES: [u32; 11] = [
     64, 128, 256, 512, 1024, 2048, 4096, 8192, 16384, 32768, 65536,
 ];
 

@@ -4,7 +4,7 @@ ghost use Rattle.std.specs.Prelude.{◌≡◌, ℕ, ◌+◌, ◌++◌, ◌^◌, 
 ghost use Rattle.std.specs.Option.{ForSome};
 ghost use Rattle.ubi_media.specs.Check.{check_from, remainder};
 ghost use Rattle.ubi_media.specs.Ec as ec;
-ghost use Rattle.ubi_media.specs.Ec.{EcIs, ec_bytes, ec_reading};
+ghost use Rattle.ubi_media.specs.Ec.{EcIs, ec_bytes, ec_reading, ec_start, offsets_in};
 ghost use Rattle.ubi_media.specs.First.{IsFirst};
 ghost use Rattle.ubi_media.specs.Geometry.{Sizes};
 ghost use Rattle.ubi_media.specs.Record as rec;
@@ -16,6 +16,8 @@ ghost use Rattle.ubi_media.specs.Widths.{EcFits, RecFits, VidFits};
 ghost use Rattle.ubi_media.specs.declared.ec.EcFields.{EcFields};
 ghost use Rattle.ubi_media.specs.declared.ec.EcHeader.{EcHeader};
 ghost use Rattle.ubi_media.specs.declared.ec.EcRead.{EcRead};
+ghost use Rattle.ubi_media.specs.declared.ec.EcRead.TheVariants as EcRead;
+ghost use Rattle.ubi_media.specs.declared.ec.EcStart.TheVariants as EcStart;
 ghost use Rattle.ubi_media.specs.declared.record.RecFields.{RecFields};
 ghost use Rattle.ubi_media.specs.declared.record.RecRead.{RecRead};
 ghost use Rattle.ubi_media.specs.declared.record.VolumeRecord.{VolumeRecord};
@@ -51,6 +53,13 @@ pub fn first_rec_fault()
 /// Bytes have one reading as an erase-counter header, and no other.
 pub fn one_ec_reading()
     ensures { (s : Sizes) (bytes : List ℕ) (read : EcRead) → EcIs s bytes read ↔ (read ≡ ec_reading s bytes) }
+{}
+
+/// What is Valid for some geometry starts with a header that names the offsets of this geometry, and what is blank is blank
+/// where no geometry is known, too.
+pub fn start_of_any_geometry()
+    ensures named { (s : Sizes) (bytes : List ℕ) (h : EcHeader) → ec_reading s bytes ≡ EcRead.Valid h → ec_start bytes ≡ EcStart.Header (offsets_in s) }
+    ensures blank { (s : Sizes) (bytes : List ℕ) → ec_reading s bytes ≡ EcRead.Blank → ec_start bytes ≡ EcStart.Blank }
 {}
 
 /// Bytes have one reading as a volume-identifier header, and no other.

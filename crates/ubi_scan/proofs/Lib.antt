@@ -1,3 +1,6 @@
+pub mod BestFit
+pub mod BestSoFar
+pub mod BlockStarts
 pub mod BlockVectors
 pub mod Causes
 pub mod Choice
@@ -7,11 +10,14 @@ pub mod Compatible
 pub mod Counted
 pub mod Counters
 pub mod Decided
+pub mod Detections
+pub mod DetectVectors
 pub mod Either
 pub mod Entries
 pub mod Filled
 pub mod Finite
 pub mod Held
+pub mod ImageStarts
 pub mod InMemory
 pub mod Keys
 pub mod Least
@@ -20,8 +26,14 @@ pub mod Narrowed
 pub mod Next
 pub mod OneFault
 pub mod OneScan
+pub mod OneSize
+pub mod OneUndetected
+pub mod PagesThatFit
 pub mod Parts
 pub mod Places
+pub mod PlainHeads
+pub mod PlainRead
+pub mod PlainSize
 pub mod ReadParts
 pub mod Revalued
 pub mod Seen
@@ -30,5 +42,7 @@ pub mod Shown
 pub mod SoFar
 pub mod Stands
 pub mod Told
+pub mod Spread
 pub mod Truths
+pub mod UnitStarts
 pub mod Within

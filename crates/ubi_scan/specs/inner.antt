@@ -2,6 +2,8 @@
 pub mod Ahead
 pub mod Choice
 pub mod Counts
+pub mod Detecting
+pub mod Fit
 pub mod Held
 pub mod Named
 pub mod Pass

@@ -1,6 +1,8 @@
 //! Bytes and readings of erase-counter headers.
 
-use crate::{EcFault, EcHeader, EcRead, Geometry, read_ec, write_ec};
+use crate::{
+    EcFault, EcHeader, EcOffsets, EcRead, EcStart, Geometry, read_ec, read_start, write_ec,
+};
 use std::test::Fail;
 
 /// A header with an image sequence number, its check worked out by another program.
@@ -19,6 +21,12 @@ fn writes_and_reads_a_header(rt: HostRuntime) -> Result<(), Fail> {
     assert!(rt; read_ec(&geometry, &BASE) == EcRead::Valid(header));
     let other = Geometry::new(512, 64, 64, 192, 32)?;
     assert!(rt; read_ec(&other, &BASE) == EcRead::Fault(EcFault::Offsets));
+    let offsets = EcOffsets {
+        vid_offset: 64,
+        data_offset: 128,
+    };
+    assert!(rt; read_start(&BASE) == EcStart::Header(offsets));
+    assert!(rt; read_start(&[0xFF; 64]) == EcStart::Blank);
     Ok(())
 }
 
