@@ -6,6 +6,30 @@
 //! An image behind a source is attached without its contents ([`attach_places`]): what is found then is its table, the
 //! eraseblock of each logical eraseblock, and what kind of content each volume has. A volume is then written from the
 //! source ([`write_places`]).
+//!
+//! A caller, proved from the contracts alone (`crates/ubi_uses`):
+//!
+//! ```
+//! use std::alloc::Global;
+//! use ubi_media::{AttachError, Geometry};
+//! use ubi_volume::{ReadError, attach, read_leb};
+//!
+//! /// Reads a logical eraseblock of a volume of an image into `out`: how many bytes it has, or why it isn't read.
+//! pub fn read(
+//!     alloc: Global,
+//!     geometry: &Geometry,
+//!     image: &[u8],
+//!     id: u32,
+//!     lnum: u32,
+//!     out: &mut [u8],
+//! ) -> Result<Result<usize, ReadError>, AttachError>
+//!     requires { leb_size geometry.now ≤ length out.old }
+//!     ensures { IfOk result (λ read. (m : Meant) × Accepts (image_of geometry.now image.now) m × IfOk read (IsLebRead m id lnum out.old out.new)) }
+//! {
+//!     let attached = attach(alloc, geometry, image)?;
+//!     Ok(read_leb(attached.meaning(), id, lnum, out))
+//! }
+//! ```
 #![tactic(auto)]
 
 mod amounts;
