@@ -32,46 +32,30 @@
 //! ```
 #![tactic(auto)]
 
-mod amounts;
 mod attached;
-mod attaching;
-mod cases;
-mod checking;
+mod block;
 mod content;
 mod errors;
-mod extent;
-mod extracting;
-mod fetching;
-mod gathering;
+mod extract;
 pub mod laws;
-mod length;
-mod making;
 mod meaning;
-mod mismatch;
-mod output;
 mod places;
 mod probe;
-mod reading;
-mod states;
-mod surveying;
-mod writing;
+mod read;
+mod surveyed;
+mod write;
 
-pub use amounts::{Amount, amount_of};
-pub use attached::{Attached, BlockState};
-pub use attaching::{attach, attach_from};
+pub use attached::{Attached, BlockState, attach, attach_from};
+pub use block::{Amount, amount_of, is_blank_part, read_place};
 pub use content::{Bytes, Content, Lebs, Volume};
 pub use errors::{MeaningCause, MeaningError, ReadError};
-pub use extent::Extent;
-pub use extracting::write_places;
-pub use fetching::{is_blank_part, read_place};
-pub use length::volume_len;
+pub use extract::write_places;
 pub use meaning::Meaning;
-pub use output::write_all;
-pub use places::{PlaceContent, Places, attach_places};
+pub use places::{Extent, PlaceContent, Places, attach_places};
 pub use probe::{Failure, ProbeWriter};
-pub use reading::read_leb;
-pub use surveying::{Surveyed, survey, survey_from};
-pub use writing::{read_volume, write_volume};
+pub use read::{read_leb, volume_len};
+pub use surveyed::{Surveyed, survey, survey_from};
+pub use write::{read_volume, write_all, write_volume};
 
 #[cfg(test)]
 mod tests;
