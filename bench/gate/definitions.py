@@ -29,7 +29,7 @@ CRATES = ("ubi_media", "ubi_scan", "ubi_table", "ubi_volume", "ubi_compose", "ub
 HEADLINE = ("ubi_tool", "Headline", "Headline")
 # The calls that compute what the headline speaks of, by their files.
 CALLS = (
-    ("ubi_volume", "attaching", "attach"),
+    ("ubi_volume", "attached", "attach"),
     ("ubi_compose", "composing", "compose"),
     ("ubi_compose", "composing", "normalise"),
     ("ubi_compose", "comparing", "same"),

@@ -1,12 +1,14 @@
 #!/usr/bin/env python3
-"""Runs the examples of README.md and of the documents that go on from it, and compares what they print.
+"""Runs the examples of README.md and of the documents that go on from it, and compares what they print. And compares the callers
+on the crates' front pages with those that are proved.
 
 usage: readme.py [--tool PROGRAM]
 
 An example is a line that begins with '$ ' in a block without a language, and the lines up to the next one or the end of the
 block are what it prints. Those of a page run in their order, by the shell, at the top of the repository. Without --tool the
-program is built first where it isn't yet; with it, PROGRAM stands in the place of `./ubi_tool` in each example. Ends with
-'N passed, M failed', and with status 1 where some failed.
+program is built first where it isn't yet; with it, PROGRAM stands in the place of `./ubi_tool` in each example. A front page is
+the comment at the head of a library's src/lib.rt, and the block in it has to be what stands in crates/ubi_uses/src below the
+lines `ghost use`. Ends with 'N passed, M failed', and with status 1 where some failed.
 """
 import argparse
 import shlex
@@ -51,6 +53,17 @@ def with_tool(command, tool):
     return command if tool is None else command.replace('./ubi_tool ', f'{shlex.quote(str(Path(tool).resolve()))} ')
 
 
+def front_pages():
+    """Each library but that of the callers, the block on its front page, and the caller that is proved."""
+    for page in sorted((ROOT / 'crates').glob('*/src/lib.rt')):
+        name = page.parents[1].name
+        if name != 'ubi_uses':
+            lines = [line[3:].removeprefix(' ') for line in page.read_text().splitlines() if line.startswith('//!')]
+            caller = (ROOT / 'crates/ubi_uses/src' / f"{name.removeprefix('ubi_')}.rt").read_text()
+            below = caller.rpartition('\nghost use ')[2].partition('\n')[2]
+            yield name, next(blocks('\n'.join(lines)), None), below.strip('\n').splitlines()
+
+
 def main():
     words = argparse.ArgumentParser(description=__doc__, formatter_class=argparse.RawDescriptionHelpFormatter)
     words.add_argument('--tool', help='the program; ./ubi_tool where it is left out')
@@ -64,6 +77,12 @@ def main():
         else:
             failed += 1
             print(f'failed: {command}\nprinted:\n{ran.stdout}{ran.stderr}and not:', *wanted, '', sep='\n')
+    for name, shown, proved in front_pages():
+        if shown == proved:
+            passed += 1
+        else:
+            failed += 1
+            print(f'failed: the front page of {name} isn\'t the caller in crates/ubi_uses')
     print(f'{passed} passed, {failed} failed')
     return 1 if failed or not passed else 0
 

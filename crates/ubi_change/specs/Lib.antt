@@ -13,4 +13,5 @@ pub mod RenamePlan
 pub mod RenameRefused
 pub mod RenamePlanned
 pub mod Laws
+pub mod ErrorTexts
 pub mod inner

@@ -4,6 +4,28 @@
 //! A plan is a list of erases of eraseblocks and of programs of single pages. After any number of them the image is
 //! accepted, and means the old or the new. It is made of the bytes of an image, or of a source that is read at places
 //! ([`plan_change_from`], [`plan_rename_from`]); [`write_after`] writes what it leaves.
+//!
+//! A caller, proved from the contracts alone (`crates/ubi_uses`):
+//!
+//! ```
+//! use std::alloc::Global;
+//! use ubi_change::{ChangeRefusal, Step, plan_change};
+//! use ubi_media::Geometry;
+//!
+//! /// The steps by which the first logical eraseblock of a volume gets new bytes. The power may fail after any of them.
+//! pub fn update(
+//!     alloc: Global,
+//!     geometry: &Geometry,
+//!     image: &[u8],
+//!     id: u32,
+//!     new: &[u8],
+//! ) -> Result<Vec<Step>, ChangeRefusal>
+//!     ensures survives { IfOk result (λ steps. SurvivesCutsOf (image_of geometry.now image.now) id 0 new.now steps.items) }
+//!     ensures rises { IfOk result (λ steps. in_image RisesBetweenErases (image_of geometry.now image.now) steps.items) }
+//! {
+//!     plan_change(alloc, geometry, image, id, 0, new)
+//! }
+//! ```
 #![tactic(auto)]
 
 mod causes;

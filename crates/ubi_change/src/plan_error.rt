@@ -1,5 +1,8 @@
 //! Why the image of a source has no plan.
 
+use std::error::Error;
+use std::fmt;
+
 /// Why the image of a source has no plan.
 #[derive(Clone, Copy, Debug, PartialEq, Eq)]
 pub enum PlanError<C> {
@@ -8,3 +11,18 @@ pub enum PlanError<C> {
     /// A read failed: the eraseblock.
     Read(u32),
 }
+
+impl<C: fmt::Display> fmt::Display for PlanError<C> {
+    ghost use Rattle.ubi_change.specs.ErrorTexts.{plan_error_text};
+
+    ghost output = { plan_error_text C.output };
+
+    fn fmt<W: fmt::Write>(&self, f: &mut fmt::Formatter<W>) -> fmt::Result {
+        match self {
+            PlanError::Refused(cause) => write!(f, "{cause}"),
+            PlanError::Read(p) => write!(f, "a read failed block={p}"),
+        }
+    }
+}
+
+impl<C: fmt::Debug + fmt::Display + Drop> Error for PlanError<C> {}

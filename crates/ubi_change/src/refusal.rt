@@ -1,6 +1,8 @@
 //! Why a change isn't planned.
 
 use std::alloc::AllocError;
+use std::error::Error;
+use std::fmt;
 use ubi_media::Refusal;
 
 /// Why a change isn't planned: the first cause that stands, in this order. `Memory` may come at any growth, whatever else
@@ -29,6 +31,30 @@ pub enum ChangeRefusal {
     /// Memory ran out.
     Memory,
 }
+
+impl fmt::Display for ChangeRefusal {
+    ghost use Rattle.std.specs.Prelude.{Some};
+    ghost use Rattle.ubi_change.specs.ErrorTexts.{change_refusal_text};
+
+    ghost output = { λ cause. Some (change_refusal_text cause) };
+
+    fn fmt<W: fmt::Write>(&self, f: &mut fmt::Formatter<W>) -> fmt::Result {
+        match self {
+            ChangeRefusal::Attach(cause) => write!(f, "{cause}"),
+            ChangeRefusal::NoVolume => write!(f, "K2 NoVolume"),
+            ChangeRefusal::StaticVolume => write!(f, "K3 StaticVolume"),
+            ChangeRefusal::Updating => write!(f, "K4 Updating"),
+            ChangeRefusal::OutOfRange => write!(f, "K5 OutOfRange"),
+            ChangeRefusal::BadLength => write!(f, "K6 BadLength"),
+            ChangeRefusal::WeakCheck(pages) => write!(f, "K7 WeakCheck pages={pages}"),
+            ChangeRefusal::Exhausted => write!(f, "K8 Exhausted"),
+            ChangeRefusal::NoFree => write!(f, "K9 NoFree"),
+            ChangeRefusal::Memory => write!(f, "out of memory"),
+        }
+    }
+}
+
+impl Error for ChangeRefusal {}
 
 impl From<AllocError> for ChangeRefusal {
     ghost use Rattle.std.specs.Prelude.{◌≡◌};

@@ -1,6 +1,8 @@
 //! Why a rename isn't planned.
 
 use std::alloc::AllocError;
+use std::error::Error;
+use std::fmt;
 use ubi_media::Refusal;
 
 /// Why a rename isn't planned: the first cause that stands, in this order. `Memory` may come at any growth, whatever else
@@ -27,6 +29,29 @@ pub enum RenameRefusal {
     /// Memory ran out.
     Memory,
 }
+
+impl fmt::Display for RenameRefusal {
+    ghost use Rattle.std.specs.Prelude.{Some};
+    ghost use Rattle.ubi_change.specs.ErrorTexts.{rename_refusal_text};
+
+    ghost output = { λ cause. Some (rename_refusal_text cause) };
+
+    fn fmt<W: fmt::Write>(&self, f: &mut fmt::Formatter<W>) -> fmt::Result {
+        match self {
+            RenameRefusal::Attach(cause) => write!(f, "{cause}"),
+            RenameRefusal::NoVolume => write!(f, "K2 NoVolume"),
+            RenameRefusal::BadName => write!(f, "N1 BadName"),
+            RenameRefusal::SameName(slot) => write!(f, "N2 SameName slot={slot}"),
+            RenameRefusal::NeedsRepair => write!(f, "N3 NeedsRepair"),
+            RenameRefusal::WeakCheck(pages) => write!(f, "K7 WeakCheck pages={pages}"),
+            RenameRefusal::Exhausted => write!(f, "K8 Exhausted"),
+            RenameRefusal::NoFree => write!(f, "K9 NoFree"),
+            RenameRefusal::Memory => write!(f, "out of memory"),
+        }
+    }
+}
+
+impl Error for RenameRefusal {}
 
 impl From<AllocError> for RenameRefusal {
     ghost use Rattle.std.specs.Prelude.{◌≡◌};

@@ -27,7 +27,7 @@ use Rattle.ubi_volume.specs.declared.content.Content.{Content}
 use Rattle.ubi_volume.specs.declared.content.Content.TheVariants as content
 use Rattle.ubi_volume.specs.declared.content.Volume.{Volume}
 use Rattle.ubi_volume.specs.declared.errors.ReadError.{ReadError}
-use Rattle.ubi_volume.specs.declared.extent.Extent.{Extent}
+use Rattle.ubi_volume.specs.declared.places.Extent.{Extent}
 use Rattle.ubi_volume.specs.declared.places.PlaceContent.{PlaceContent}
 use Rattle.ubi_volume.specs.declared.places.PlaceContent.TheVariants as place
 use Rattle.ubi_volume.proofs.Equal.{record_Decides}

@@ -2,6 +2,7 @@
 use Rattle.std.proofs.Common.{◌≡◌, false, true, [], ◌∷◌, ◌++◌, replicate, refl}
 use Rattle.std.specs.Prelude.{⊤, Some, None, codes}
 use Rattle.std.specs.FinMap.{from_entries}
+use Rattle.std.specs.Fmt.{digits}
 use Rattle.hex.specs.Hex.{decode_pairs}
 use Rattle.ubi_media.specs.Fields.{filled}
 use Rattle.ubi_media.specs.Record.{breaks, fields_from, first_fault}
@@ -10,10 +11,12 @@ use Rattle.ubi_media.specs.declared.record.VolumeRecord.{VolumeRecord}
 use Rattle.ubi_media.specs.declared.vid.VolKind.TheVariants as kind
 use Rattle.ubi_media.proofs.Words.{small}
 use Rattle.ubi_volume.specs.declared.content.Content.TheVariants as content
+use Rattle.ubi_compose.specs.ErrorTexts.{spec_error_text}
 use Rattle.ubi_compose.specs.Lines.{damaged_line, form_of, leb_line, line_of, text_line, updating_line, volume_line}
 use Rattle.ubi_compose.specs.Spec.{cause_of, content_cause, first_cause, later_cause, record_of, saying, sayings, volume_from, volumes_in, volumes_of}
 use Rattle.ubi_compose.specs.Words.{flags_of, hex_of, is_number, kind_of, number_of, shown_bytes, shown_name}
 use Rattle.ubi_compose.specs.declared.errors.SpecCause.TheVariants as cause
+use Rattle.ubi_compose.specs.declared.errors.SpecError.TheVariants as error
 
 -- what is unfolded to compute a text on a literal
 unfoldable spec_on_literals : ⊤
@@ -235,3 +238,11 @@ longest_name = refl
 name_too_long : shown_name (replicate 128 97) ≡ None
 unfolding spec_on_literals
 name_too_long = refl
+
+wrong_digits : spec_error_text (error.Refused 2 cause.Hex) ≡ codes "P3 Hex line=2"
+unfolding digits
+wrong_digits = refl
+
+wrong_record : spec_error_text (error.Refused 1 (cause.Record fault.NotEmpty)) ≡ codes "P6 Record line=1 NotEmpty"
+unfolding digits
+wrong_record = refl

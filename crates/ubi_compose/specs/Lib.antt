@@ -8,4 +8,5 @@ pub mod TextLaws
 pub mod NormalLaws
 pub mod Streamed
 pub mod Compared
+pub mod ErrorTexts
 pub mod inner

@@ -4,6 +4,7 @@ pub mod CheckVectors
 pub mod Checks
 pub mod EcVectors
 pub mod EmptyRecord
+pub mod ErrorTextVectors
 pub mod First
 pub mod GeometryVectors
 pub mod Headers

@@ -1,6 +1,7 @@
 pub mod Check
 pub mod Remainder
 pub mod Ec
+pub mod ErrorTexts
 pub mod Widths
 pub mod Fields
 pub mod First

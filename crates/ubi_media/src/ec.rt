@@ -1,6 +1,7 @@
 //! The erase-counter header, which stands at the start of each eraseblock (`ubi-media.h`, `struct ubi_ec_hdr`).
 
 ghost use Rattle.std.specs.Prelude.{◌≡◌, ◌^◌, ◌<◌, ◌++◌, replicate};
+ghost use Rattle.ubi_media.specs.ErrorTexts.{ec_fault_name};
 ghost use Rattle.ubi_media.specs.Ec.{EcIs, breaks, ec_bytes, ec_fields, ec_front, ec_reading, ec_start, first_fault, judged, offsets_of, sizes_naming, start_by};
 ghost use Rattle.ubi_media.specs.Geometry.{IsGeometry};
 
@@ -9,6 +10,8 @@ use crate::check::seal;
 use crate::geometry::Geometry;
 use crate::header::{CHECK, Form, form_of};
 use byteorder::{BigEndian, ByteOrder};
+use std::error::Error;
+use std::fmt;
 
 /// The text `UBI#`.
 const MAGIC: u32 = 0x5542_4923;
@@ -29,6 +32,32 @@ pub enum EcFault {
     /// The erase counter is above 0x7FFFFFFF.
     Counter,
 }
+
+impl EcFault {
+    /// The name of the fault.
+    pub fn name(self) -> &'static str
+        ensures { result.now ≡ ec_fault_name self }
+    {
+        match self {
+            EcFault::Version => "Version",
+            EcFault::Offsets => "Offsets",
+            EcFault::Counter => "Counter",
+        }
+    }
+}
+
+impl fmt::Display for EcFault {
+    ghost use Rattle.std.specs.Prelude.{Some};
+    ghost use Rattle.ubi_media.specs.ErrorTexts.{ec_fault_name};
+
+    ghost output = { λ fault. Some (ec_fault_name fault) };
+
+    fn fmt<W: fmt::Write>(&self, f: &mut fmt::Formatter<W>) -> fmt::Result {
+        f.write_str(self.name())
+    }
+}
+
+impl Error for EcFault {}
 
 /// What an erase-counter header says of its eraseblock.
 #[derive(Clone, Copy, Debug, PartialEq, Eq)]

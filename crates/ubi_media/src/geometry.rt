@@ -5,6 +5,8 @@ ghost use Rattle.ubi_media.specs.Geometry.{Sizes, IsGeometry, leb_size, slots};
 ghost use Rattle.ubi_media.specs.Limits.{first_broken};
 
 use crate::record;
+use std::error::Error;
+use std::fmt;
 use std::marker::Model;
 
 /// The sizes that a page may have, in bytes.
@@ -47,6 +49,26 @@ pub enum GeometryError {
     /// The device hasn't 2 to 1,048,576 eraseblocks.
     Pebs,
 }
+
+impl fmt::Display for GeometryError {
+    ghost use Rattle.std.specs.Prelude.{Some};
+    ghost use Rattle.ubi_media.specs.ErrorTexts.{geometry_error_text};
+
+    ghost output = { λ limit. Some (geometry_error_text limit) };
+
+    fn fmt<W: fmt::Write>(&self, f: &mut fmt::Formatter<W>) -> fmt::Result {
+        f.write_str(match self {
+            GeometryError::Page => "G1 Page",
+            GeometryError::PebSize => "G2 PebSize",
+            GeometryError::VidOffset => "G3 VidOffset",
+            GeometryError::DataOffset => "G4 DataOffset",
+            GeometryError::LebTooSmall => "G5 LebTooSmall",
+            GeometryError::Pebs => "G6 Pebs",
+        })
+    }
+}
+
+impl Error for GeometryError {}
 
 /// The geometry of a device. Each value keeps every limit that [`GeometryError`] names.
 ///

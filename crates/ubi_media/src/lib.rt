@@ -3,6 +3,21 @@
 //!
 //! A reader answers exactly what bytes are, a writer gives exactly the bytes of the format, and what is written reads
 //! back as what it was. Nothing here takes memory, and nothing here can fail but by the answer that says so.
+//!
+//! A caller, proved from the contracts alone (`crates/ubi_uses`):
+//!
+//! ```
+//! use ubi_media::{EcHeader, Geometry, write_ec};
+//!
+//! /// The erase-counter header of an eraseblock that was erased once more.
+//! pub fn erased(geometry: &Geometry, header: &EcHeader) -> [u8; 64]
+//!     requires { header.now.counter + 1 < 2 ^ 31 }
+//!     ensures { EcIs geometry.now result (Valid (record header.now { counter = header.now.counter + 1 })) }
+//! {
+//!     let counter = header.counter + 1;
+//!     write_ec(geometry, &EcHeader { counter, ..*header })
+//! }
+//! ```
 #![tactic(auto)]
 
 mod bytes;

@@ -3,6 +3,7 @@
 ghost use Rattle.std.specs.Prelude.{◌≡◌, ◌==◌, ◌≤◌, ◌++◌, Some, None, true, IfSome, option_copied, position, replicate, take};
 ghost use Rattle.std.specs.Option.{ForSome};
 ghost use Rattle.ubi_media.specs.Name.{is_name};
+ghost use Rattle.ubi_media.specs.ErrorTexts.{rec_fault_name};
 ghost use Rattle.ubi_media.specs.Record.{RecIs, breaks, data_pad, empty_record, ends_at, fields_from, first_fault, judged, rec_bytes, rec_fault, rec_fields, rec_front, rec_reading, record_of, slot_reading, usable};
 ghost use Rattle.ubi_media.specs.Widths.{IsNumberFault};
 
@@ -12,6 +13,8 @@ use crate::geometry::Geometry;
 use crate::name::{LONGEST_NAME, VolName, padded};
 use crate::vid::{DYNAMIC, NEGATIVE, STATIC, VolKind};
 use byteorder::{BigEndian, ByteOrder};
+use std::error::Error;
+use std::fmt;
 
 /// The bytes of a record (`UBI_VTBL_RECORD_SIZE`).
 pub const RECORD_SIZE: usize = 172;
@@ -46,6 +49,39 @@ pub enum RecFault {
     /// The length of the name isn't the place of its first zero byte.
     NameLength,
 }
+
+impl RecFault {
+    /// The name of the fault.
+    pub fn name(self) -> &'static str
+        ensures { result.now ≡ rec_fault_name self }
+    {
+        match self {
+            RecFault::NotEmpty => "NotEmpty",
+            RecFault::Negative => "Negative",
+            RecFault::Alignment => "Alignment",
+            RecFault::AlignmentPage => "AlignmentPage",
+            RecFault::DataPad => "DataPad",
+            RecFault::Kind => "Kind",
+            RecFault::Marker => "Marker",
+            RecFault::NameTooLong => "NameTooLong",
+            RecFault::NameBlank => "NameBlank",
+            RecFault::NameLength => "NameLength",
+        }
+    }
+}
+
+impl fmt::Display for RecFault {
+    ghost use Rattle.std.specs.Prelude.{Some};
+    ghost use Rattle.ubi_media.specs.ErrorTexts.{rec_fault_name};
+
+    ghost output = { λ fault. Some (rec_fault_name fault) };
+
+    fn fmt<W: fmt::Write>(&self, f: &mut fmt::Formatter<W>) -> fmt::Result {
+        f.write_str(self.name())
+    }
+}
+
+impl Error for RecFault {}
 
 /// What a record of the volume table says of its volume.
 #[derive(Clone, Copy, Debug, PartialEq, Eq)]

@@ -4,6 +4,8 @@ use crate::ec::EcFault;
 use crate::record::RecFault;
 use crate::vid::VidFault;
 use std::alloc::AllocError;
+use std::error::Error;
+use std::fmt;
 
 /// The cause for which an image is refused, with the eraseblocks, slots and volumes that it names.
 ///
@@ -42,6 +44,42 @@ pub enum Refusal {
     Mismatch(u32),
 }
 
+impl fmt::Display for Refusal {
+    ghost use Rattle.std.specs.Prelude.{Some};
+    ghost use Rattle.ubi_media.specs.ErrorTexts.{refusal_text};
+
+    ghost output = { λ cause. Some (refusal_text cause) };
+
+    fn fmt<W: fmt::Write>(&self, f: &mut fmt::Formatter<W>) -> fmt::Result {
+        match self {
+            Refusal::Length => write!(f, "S1 Length"),
+            Refusal::TooMany => write!(f, "S2 TooMany"),
+            Refusal::Ec(p, fault) => write!(f, "S3 Ec block={p} {fault}"),
+            Refusal::ImageSeq(p) => write!(f, "S4 ImageSeq block={p}"),
+            Refusal::Vid(p, fault) => write!(f, "S5 Vid block={p} {fault}"),
+            Refusal::Incompatible(p, volume) => {
+                write!(f, "S6 Incompatible block={p} volume={volume}")
+            }
+            Refusal::Layout(p) => write!(f, "S7 Layout block={p}"),
+            Refusal::SameSqnum(p, earlier) => {
+                write!(f, "S8 SameSqnum block={p} earlier={earlier}")
+            }
+            Refusal::NoTable => write!(f, "T1 NoTable"),
+            Refusal::BothCorrupt => write!(f, "T2 BothCorrupt"),
+            Refusal::Record(p, slot, fault) => {
+                write!(f, "T3 Record block={p} slot={slot} {fault}")
+            }
+            Refusal::SameName(p, slot, next) => {
+                write!(f, "T4 SameName block={p} slot={slot} slot={next}")
+            }
+            Refusal::NoSpace => write!(f, "T5 NoSpace"),
+            Refusal::Mismatch(p) => write!(f, "V1 Mismatch block={p}"),
+        }
+    }
+}
+
+impl Error for Refusal {}
+
 /// Why an image couldn't be attached.
 #[derive(Clone, Copy, Debug, PartialEq, Eq)]
 pub enum AttachError {
@@ -50,6 +88,22 @@ pub enum AttachError {
     /// Memory ran out.
     Memory,
 }
+
+impl fmt::Display for AttachError {
+    ghost use Rattle.std.specs.Prelude.{Some};
+    ghost use Rattle.ubi_media.specs.ErrorTexts.{attach_error_text};
+
+    ghost output = { λ error. Some (attach_error_text error) };
+
+    fn fmt<W: fmt::Write>(&self, f: &mut fmt::Formatter<W>) -> fmt::Result {
+        match self {
+            AttachError::Refused(cause) => write!(f, "{cause}"),
+            AttachError::Memory => write!(f, "out of memory"),
+        }
+    }
+}
+
+impl Error for AttachError {}
 
 impl From<AllocError> for AttachError {
     ghost use Rattle.std.specs.Prelude.{◌≡◌};

@@ -3,6 +3,7 @@
 
 ghost use Rattle.std.specs.Prelude.{◌≡◌, ◌++◌, None, replicate};
 ghost use Rattle.ubi_media.specs.Geometry.{Sizes};
+ghost use Rattle.ubi_media.specs.ErrorTexts.{vid_fault_name};
 ghost use Rattle.ubi_media.specs.Vid.{VidIs, breaks, fields_from, first_fault, header_of, judged, kind_number, kind_of, plain, vid_bytes, vid_fault, vid_fields, vid_front, vid_reading};
 
 use crate::bytes::{put_u32, put_u64};
@@ -10,6 +11,8 @@ use crate::check::seal;
 use crate::geometry::Geometry;
 use crate::header::{CHECK, Form, form_of};
 use byteorder::{BigEndian, ByteOrder};
+use std::error::Error;
+use std::fmt;
 
 /// The text `UBI!`.
 const MAGIC: u32 = 0x5542_4921;
@@ -63,6 +66,39 @@ pub enum VidFault {
     /// with it.
     CopyFields,
 }
+
+impl VidFault {
+    /// The name of the fault.
+    pub fn name(self) -> &'static str
+        ensures { result.now ≡ vid_fault_name self }
+    {
+        match self {
+            VidFault::CopyFlag => "CopyFlag",
+            VidFault::Negative => "Negative",
+            VidFault::VolumeId => "VolumeId",
+            VidFault::Compat => "Compat",
+            VidFault::Kind => "Kind",
+            VidFault::Pad => "Pad",
+            VidFault::Size => "Size",
+            VidFault::UsedEbs => "UsedEbs",
+            VidFault::Lnum => "Lnum",
+            VidFault::CopyFields => "CopyFields",
+        }
+    }
+}
+
+impl fmt::Display for VidFault {
+    ghost use Rattle.std.specs.Prelude.{Some};
+    ghost use Rattle.ubi_media.specs.ErrorTexts.{vid_fault_name};
+
+    ghost output = { λ fault. Some (vid_fault_name fault) };
+
+    fn fmt<W: fmt::Write>(&self, f: &mut fmt::Formatter<W>) -> fmt::Result {
+        f.write_str(self.name())
+    }
+}
+
+impl Error for VidFault {}
 
 /// How a volume keeps its contents.
 #[derive(Clone, Copy, Debug, PartialEq, Eq)]

@@ -1,6 +1,8 @@
 //! Why a call over a source fails.
 
 use std::alloc::AllocError;
+use std::error::Error;
+use std::fmt;
 use ubi_media::Refusal;
 
 /// Why a call over a source fails. A count of bytes is what the call wrote before, 0 where it has no writer.
@@ -15,6 +17,24 @@ pub enum StreamError {
     /// Memory ran out.
     Memory,
 }
+
+impl fmt::Display for StreamError {
+    ghost use Rattle.std.specs.Prelude.{Some};
+    ghost use Rattle.ubi_scan.specs.ErrorTexts.{stream_error_text};
+
+    ghost output = { λ error. Some (stream_error_text error) };
+
+    fn fmt<W: fmt::Write>(&self, f: &mut fmt::Formatter<W>) -> fmt::Result {
+        match self {
+            StreamError::Refused(cause) => write!(f, "{cause}"),
+            StreamError::Read(p, written) => write!(f, "a read failed block={p} written={written}"),
+            StreamError::Write(written) => write!(f, "a write failed written={written}"),
+            StreamError::Memory => write!(f, "out of memory"),
+        }
+    }
+}
+
+impl Error for StreamError {}
 
 impl From<AllocError> for StreamError {
     ghost use Rattle.std.specs.Prelude.{◌≡◌};

@@ -6,6 +6,29 @@
 //!
 //! An image may lie in memory ([`Blocks`], [`scan`]) or behind any [`BlockSource`], which is read at places
 //! ([`scan_from`]): a scan of a file holds the bytes of one eraseblock at a time.
+//!
+//! A caller, proved from the contracts alone (`crates/ubi_uses`):
+//!
+//! ```
+//! use std::alloc::Global;
+//! use ubi_media::{AttachError, Geometry};
+//! use ubi_scan::{Blocks, scan};
+//!
+//! /// The eraseblock of an image that holds a logical eraseblock of a volume, None where none does.
+//! pub fn holder(
+//!     alloc: Global,
+//!     geometry: &Geometry,
+//!     image: &[u8],
+//!     vol: u32,
+//!     lnum: u32,
+//! ) -> Result<Option<u32>, AttachError>
+//!     ensures { IfOk result (λ holder. (found : Found) × in_image IsScan (image_of geometry.now image.now) found × (holder ≡ get found.winners (vol, lnum))) }
+//! {
+//!     let blocks = Blocks::new(geometry, image)?;
+//!     let found = scan(alloc, &blocks)?;
+//!     Ok(found.winner(vol, lnum))
+//! }
+//! ```
 #![tactic(auto)]
 
 mod blocks;

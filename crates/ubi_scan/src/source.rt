@@ -3,11 +3,25 @@
 ghost use Rattle.std.specs.Prelude.{◌≡◌, ℕ, ◌+◌, ◌≤◌, List, length, slice_range, OnOk};
 ghost use Rattle.ubi_scan.specs.Source.{Agreed, IsSource, MayHold, Narrows, Source, WhereHeld, after_read};
 
+use std::error::Error;
+use std::fmt;
 use std::marker::Model;
 
 /// A read that failed.
 #[derive(Clone, Copy, Debug, PartialEq, Eq)]
 pub struct SourceFault;
+
+impl fmt::Display for SourceFault {
+    ghost use Rattle.std.specs.Prelude.{Some, codes};
+
+    ghost output = { λ _. Some (codes "a read failed") };
+
+    fn fmt<W: fmt::Write>(&self, f: &mut fmt::Formatter<W>) -> fmt::Result {
+        f.write_str("a read failed")
+    }
+}
+
+impl Error for SourceFault {}
 
 /// Bytes that are read at places: those of an image in memory, or of one in a file.
 pub trait BlockSource {

@@ -4,6 +4,30 @@
 //! ([`choose`]), or from any source that was scanned ([`choose_from`]). What one copy is, whether or not it decides, is
 //! asked too ([`read_copy`]). What a table says of volumes is asked without taking memory; its bytes read back as it, and a
 //! volume of it may get another name ([`Table::renamed`]).
+//!
+//! A caller, proved from the contracts alone (`crates/ubi_uses`):
+//!
+//! ```
+//! use std::alloc::Global;
+//! use ubi_media::{AttachError, Geometry, VolumeRecord};
+//! use ubi_scan::{Blocks, scan};
+//! use ubi_table::choose;
+//!
+//! /// What the volume table of an image says of a volume, None where there is no such volume.
+//! pub fn record_of(
+//!     alloc: Global,
+//!     geometry: &Geometry,
+//!     image: &[u8],
+//!     id: u32,
+//! ) -> Result<Option<VolumeRecord>, AttachError>
+//!     ensures { IfOk result (λ said. (table : Records) × in_image IsTable (image_of geometry.now image.now) table × (said ≡ get table.of id)) }
+//! {
+//!     let blocks = Blocks::new(geometry, image)?;
+//!     let found = scan(alloc, &blocks)?;
+//!     let table = choose(alloc, &blocks, &found)?;
+//!     Ok(table.get(id).copied())
+//! }
+//! ```
 #![tactic(auto)]
 
 mod choosing;

@@ -21,7 +21,7 @@ use Rattle.ubi_compose.specs.Words.{shown_name}
 use Rattle.ubi_tool.specs.Answer.{Gives, says}
 use Rattle.ubi_tool.specs.Change as change
 use Rattle.ubi_tool.specs.Change.{Changes, ChangesFrom, CutMeans, HasPlan, IsChangeFault}
-use Rattle.ubi_tool.specs.Lines.{refused}
+use Rattle.ubi_tool.specs.Lines.{refused_line}
 use Rattle.ubi_tool.specs.Plan.{AreCut, HasFile, IsCarryFault, cut_bytes, cut_text, done, plan_answer, plan_lines, refused_file, steps_done}
 use Rattle.ubi_tool.specs.Rename as rename
 use Rattle.ubi_tool.specs.Rename.{CutIsNamed, HasRename, IsRenameFault, Renames, RenamesFrom}
@@ -168,7 +168,7 @@ module _ (id : ℕ) (word : List ℕ) (stop : Option ℕ) (s : Sizes) where
     named_memory o finished (rename.planned_from name steps shown plan said wrote of_name) (refused_file some same) = absurd (some said.status)
     named_memory o finished (rename.nameless_from shows said kept) (done zero gives) = absurd (not_both finished zero said.status)
     named_memory o finished (rename.nameless_from shows said kept) (refused_file some same) =
-        rename.nameless shows (subst (λ (o : Outcome). Gives o (says (refused (codes "N1 BadName") []) 1)) (sym same) said)
+        rename.nameless shows (subst (λ (o : Outcome). Gives o (says (refused_line (codes "N1 BadName")) 1)) (sym same) said)
     named_memory o finished (rename.unplanned_from name c line shown cause is said kept) (done zero gives) =
         absurd (not_both finished zero said.status)
     named_memory o finished (rename.unplanned_from name c line shown cause is said kept) (refused_file some same) =

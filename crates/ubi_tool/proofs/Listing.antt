@@ -10,7 +10,7 @@ use Rattle.ubi_media.specs.declared.record.VolumeRecord.{VolumeRecord}
 use Rattle.ubi_scan.specs.Image.{image_of}
 use Rattle.ubi_volume.specs.Amounts.{AmountIs}
 use Rattle.ubi_volume.specs.Places.{ArePlaces, Placed}
-use Rattle.ubi_volume.specs.declared.amounts.Amount.{Amount}
+use Rattle.ubi_volume.specs.declared.block.Amount.{Amount}
 use Rattle.ubi_volume.specs.declared.content.Content.TheVariants as content
 use Rattle.ubi_volume.specs.declared.content.Volume.{Volume}
 use Rattle.ubi_compose.proofs.StoredVolumes.{count, volume_at}

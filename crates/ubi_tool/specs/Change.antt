@@ -1,8 +1,9 @@
 -- What changing a logical eraseblock of an image answers.
-use Rattle.std.specs.Prelude.{◌≡◌, ◌⊎◌, ℕ, List, [], ◌∷◌, Option, Some, None, codes}
+use Rattle.std.specs.Prelude.{◌≡◌, ◌⊎◌, ℕ, List, Option, Some, None, codes}
 use Rattle.std.specs.Io.KnownBytes.{Keeps}
 use Rattle.ubi_media.specs.Geometry.{Sizes}
 use Rattle.ubi_change.specs.Cuts.{changed, turn}
+use Rattle.ubi_change.specs.ErrorTexts.{change_refusal_text}
 use Rattle.ubi_change.specs.Planned.{IsChangeError, IsChangeRefusal, IsPlanOf, IsPlanned}
 use Rattle.ubi_change.specs.declared.plan_error.PlanError.TheVariants as error
 use Rattle.ubi_change.specs.declared.refusal.ChangeRefusal.{ChangeRefusal}
@@ -14,25 +15,16 @@ use Rattle.ubi_volume.specs.Accepts.{Accepts}
 use Rattle.ubi_volume.specs.Meant.{Meant}
 use Rattle.ubi_volume.specs.Wrote.{All, Wrote}
 use Rattle.ubi_tool.specs.Answer.{Gives, says}
-use Rattle.ubi_tool.specs.Lines.{refusal_line, refused}
+use Rattle.ubi_tool.specs.Lines.{refused_line}
 use Rattle.ubi_tool.specs.Plan.{CutAccepts, IsCarryFault, cut_text, plan_answer, plan_lines, steps_done}
-use Rattle.ubi_tool.specs.declared.lines.Detail.TheVariants as detail
 use Rattle.ubi_tool.specs.declared.outcome.Outcome.{Outcome}
 use Rattle.ubi_tool.specs.declared.outcome.ToolError.{ToolError}
 use Rattle.ubi_tool.specs.declared.outcome.ToolError.TheVariants as tool
 
 -- the line of a change that isn't planned; memory that ran out has none
 abbrev pub cause_line : ChangeRefusal → Option (List ℕ)
-cause_line (refusal.Attach c) = Some (refusal_line c)
-cause_line refusal.NoVolume = Some (refused (codes "K2 NoVolume") [])
-cause_line refusal.StaticVolume = Some (refused (codes "K3 StaticVolume") [])
-cause_line refusal.Updating = Some (refused (codes "K4 Updating") [])
-cause_line refusal.OutOfRange = Some (refused (codes "K5 OutOfRange") [])
-cause_line refusal.BadLength = Some (refused (codes "K6 BadLength") [])
-cause_line (refusal.WeakCheck k) = Some (refused (codes "K7 WeakCheck") (detail.Pages k ∷ []))
-cause_line refusal.Exhausted = Some (refused (codes "K8 Exhausted") [])
-cause_line refusal.NoFree = Some (refused (codes "K9 NoFree") [])
 cause_line refusal.Memory = None
+cause_line c = Some (refused_line (change_refusal_text c))
 
 -- the image after the first k steps is accepted: before the turn it means what it meant before them, and from the turn on
 -- that with the new bytes

@@ -1,46 +1,35 @@
 -- What composing an image from a text answers.
-use Rattle.std.specs.Prelude.{◌≡◌, ℕ, ◌+◌, ◌<◌, List, [], ◌∷◌, Some, Ok, Err, codes, length, option_map}
+use Rattle.std.specs.Prelude.{◌≡◌, ℕ, ◌+◌, ◌<◌, List, Some, Ok, Err, codes, length, option_map}
 use Rattle.ubi_media.specs.Geometry.{Sizes}
 use Rattle.ubi_scan.specs.Image.{image_of}
 use Rattle.ubi_volume.specs.Accepts.{Accepts}
+use Rattle.ubi_volume.specs.ErrorTexts.{meaning_cause_text}
 use Rattle.ubi_volume.specs.Meant.{Meant}
 use Rattle.ubi_volume.specs.declared.errors.MeaningCause.{MeaningCause}
-use Rattle.ubi_volume.specs.declared.errors.MeaningCause.TheVariants as meaning
 use Rattle.ubi_compose.specs.Composed.{HasRoom, composed}
+use Rattle.ubi_compose.specs.ErrorTexts.{compose_error_text, spec_error_text}
 use Rattle.ubi_compose.specs.Normal.{normal_blocks}
 use Rattle.ubi_compose.specs.TextLaws.{ComesTo}
 use Rattle.ubi_compose.specs.Spec.{first_cause}
+use Rattle.ubi_compose.specs.declared.errors.ComposeError.TheVariants as error
 use Rattle.ubi_compose.specs.declared.errors.SpecCause.{SpecCause}
-use Rattle.ubi_compose.specs.declared.errors.SpecCause.TheVariants as spec
+use Rattle.ubi_compose.specs.declared.errors.SpecError.TheVariants as spec
 use Rattle.ubi_tool.specs.Answer.{Answer, Gives, says}
 use Rattle.ubi_tool.specs.Disk.{Files, Receives}
-use Rattle.ubi_tool.specs.Lines.{blocks_line, file_line, refused}
-use Rattle.ubi_tool.specs.declared.lines.Detail.TheVariants as detail
+use Rattle.ubi_tool.specs.Lines.{blocks_line, file_line, refused_line}
 use Rattle.ubi_tool.specs.declared.outcome.Outcome.{Outcome}
 
--- the line of a text's line that something is wrong with: what it is, and its number
+-- the line of a text's line that something is wrong with
 abbrev pub spec_line : ℕ → SpecCause → List ℕ
-spec_line n spec.Word = refused (codes "P1 Word") (detail.Line n ∷ [])
-spec_line n spec.Number = refused (codes "P2 Number") (detail.Line n ∷ [])
-spec_line n spec.Hex = refused (codes "P3 Hex") (detail.Line n ∷ [])
-spec_line n spec.Name = refused (codes "P4 Name") (detail.Line n ∷ [])
-spec_line n spec.Order = refused (codes "P5 Order") (detail.Line n ∷ [])
-spec_line n (spec.Record fault) = refused (codes "P6 Record") (detail.Line n ∷ detail.Rec fault ∷ [])
-spec_line n spec.Twice = refused (codes "P7 Twice") (detail.Line n ∷ [])
-spec_line n spec.Long = refused (codes "P8 Long") (detail.Line n ∷ [])
+spec_line n cause = refused_line (spec_error_text (spec.Refused n cause))
 
 -- the line of volumes that have no meaning together
 abbrev pub meaning_line : MeaningCause → List ℕ
-meaning_line (meaning.IdRange i) = refused (codes "M1 IdRange") (detail.Item i ∷ [])
-meaning_line (meaning.SameId i) = refused (codes "M2 SameId") (detail.Item i ∷ [])
-meaning_line (meaning.Record i fault) = refused (codes "M3 Record") (detail.Item i ∷ detail.Rec fault ∷ [])
-meaning_line (meaning.SameName i j) = refused (codes "M4 SameName") (detail.Item i ∷ detail.EarlierItem j ∷ [])
-meaning_line meaning.NoSpace = refused (codes "M5 NoSpace") []
-meaning_line (meaning.ContentRange i) = refused (codes "M6 ContentRange") (detail.Item i ∷ [])
+meaning_line cause = refused_line (meaning_cause_text cause)
 
 -- the line of an image that the device has no room for
 abbrev pub room_line : List ℕ
-room_line = refused (codes "C1 TooMany") []
+room_line = refused_line (compose_error_text error.TooMany)
 
 -- the number of eraseblocks of a composed image, and its bytes
 abbrev pub composed_answer : Meant → ℕ → Answer

@@ -7,6 +7,7 @@ use Rattle.ubi_scan.specs.Image.{Image, IsWholeSize, image_of}
 use Rattle.ubi_scan.specs.Source.{Agreed, Source, WhereHeld}
 use Rattle.ubi_scan.specs.declared.errors.StreamError.TheVariants as stream
 use Rattle.ubi_volume.specs.Accepts.{Accepts, Refuses}
+use Rattle.ubi_volume.specs.ErrorTexts.{read_error_text}
 use Rattle.ubi_volume.specs.Meant.{Meant}
 use Rattle.ubi_volume.specs.Places.{ArePlacesError}
 use Rattle.ubi_volume.specs.Reading.{read_volume}
@@ -14,23 +15,20 @@ use Rattle.ubi_volume.specs.declared.errors.ReadError.{ReadError}
 use Rattle.ubi_volume.specs.declared.errors.ReadError.TheVariants as error
 use Rattle.ubi_compose.specs.Streamed.{HasGot}
 use Rattle.ubi_tool.specs.Answer.{Gives, says}
-use Rattle.ubi_tool.specs.Lines.{bytes_line, read_line, refusal_line}
+use Rattle.ubi_tool.specs.Lines.{bytes_line, refusal_line, refused_line}
 use Rattle.ubi_tool.specs.declared.outcome.Outcome.{Outcome}
 use Rattle.ubi_tool.specs.declared.outcome.ToolError.{ToolError}
 use Rattle.ubi_tool.specs.declared.outcome.ToolError.TheVariants as tool
 
--- the name of a refusal to read, with its number; a fault of the machine has none
+-- the text of a refusal to read; a fault of the machine has none
 abbrev pub read_refusal : ReadError → Result (List ℕ) ToolError
-read_refusal error.NoVolume = Ok (codes "L1 NoVolume")
-read_refusal error.Updating = Ok (codes "L2 Updating")
-read_refusal error.Damaged = Ok (codes "L3 Damaged")
-read_refusal error.OutOfRange = Ok (codes "L4 OutOfRange")
 read_refusal (error.Write _) = Err tool.Write
 read_refusal error.Memory = Err tool.Memory
+read_refusal e = Ok (read_error_text e)
 
 -- the line of a refusal to read
 abbrev pub RefusesToRead : ReadError → Outcome → Type 0
-RefusesToRead e o = (name : List ℕ) × (read_refusal e ≡ Ok name) × Gives o (says (read_line name) 1)
+RefusesToRead e o = (text : List ℕ) × (read_refusal e ≡ Ok text) × Gives o (says (refused_line text) 1)
 
 -- what is answered of a volume of a meaning: the line of the refusal to read it, and the writer received nothing; or how
 -- many bytes it reads, and the writer received them

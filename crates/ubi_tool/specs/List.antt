@@ -16,8 +16,8 @@ use Rattle.ubi_volume.specs.Accepts.{Accepts, Refuses}
 use Rattle.ubi_volume.specs.Amounts.{amount_of}
 use Rattle.ubi_volume.specs.Meant.{Meant}
 use Rattle.ubi_volume.specs.Places.{ArePlacesError, ArePlacesOf, Placed}
-use Rattle.ubi_volume.specs.declared.amounts.Amount.{Amount}
-use Rattle.ubi_volume.specs.declared.amounts.Amount.TheVariants as amount
+use Rattle.ubi_volume.specs.declared.block.Amount.{Amount}
+use Rattle.ubi_volume.specs.declared.block.Amount.TheVariants as amount
 use Rattle.ubi_volume.specs.declared.content.Volume.{Volume}
 use Rattle.ubi_tool.specs.Answer.{Gives, says}
 use Rattle.ubi_tool.specs.Lines.{refusal_line}

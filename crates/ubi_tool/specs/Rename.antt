@@ -1,8 +1,9 @@
 -- What renaming a volume of an image answers.
-use Rattle.std.specs.Prelude.{◌≡◌, ◌⊎◌, ℕ, List, [], ◌∷◌, Option, Some, None, codes}
+use Rattle.std.specs.Prelude.{◌≡◌, ◌⊎◌, ℕ, List, Option, Some, None, codes}
 use Rattle.std.specs.Io.KnownBytes.{Keeps}
 use Rattle.ubi_media.specs.Geometry.{Sizes}
 use Rattle.ubi_change.specs.Cuts.{turn}
+use Rattle.ubi_change.specs.ErrorTexts.{rename_refusal_text}
 use Rattle.ubi_change.specs.RenamePlan.{renamed_pages}
 use Rattle.ubi_change.specs.RenamePlanned.{IsPlannedRename, IsRenameError, IsRenameOf, IsRenameRefusal}
 use Rattle.ubi_change.specs.Renamed.{renamed}
@@ -17,24 +18,16 @@ use Rattle.ubi_volume.specs.Accepts.{Accepts}
 use Rattle.ubi_volume.specs.Meant.{Meant}
 use Rattle.ubi_volume.specs.Wrote.{All, Wrote}
 use Rattle.ubi_tool.specs.Answer.{Gives, says}
-use Rattle.ubi_tool.specs.Lines.{refusal_line, refused}
+use Rattle.ubi_tool.specs.Lines.{refused_line}
 use Rattle.ubi_tool.specs.Plan.{CutAccepts, IsCarryFault, cut_text, plan_answer, plan_lines, steps_done}
-use Rattle.ubi_tool.specs.declared.lines.Detail.TheVariants as detail
 use Rattle.ubi_tool.specs.declared.outcome.Outcome.{Outcome}
 use Rattle.ubi_tool.specs.declared.outcome.ToolError.{ToolError}
 use Rattle.ubi_tool.specs.declared.outcome.ToolError.TheVariants as tool
 
 -- the line of a rename that isn't planned; memory that ran out has none
 abbrev pub rename_line : RenameRefusal → Option (List ℕ)
-rename_line (refusal.Attach c) = Some (refusal_line c)
-rename_line refusal.NoVolume = Some (refused (codes "K2 NoVolume") [])
-rename_line refusal.BadName = Some (refused (codes "N1 BadName") [])
-rename_line (refusal.SameName slot) = Some (refused (codes "N2 SameName") (detail.Slot slot ∷ []))
-rename_line refusal.NeedsRepair = Some (refused (codes "N3 NeedsRepair") [])
-rename_line (refusal.WeakCheck k) = Some (refused (codes "K7 WeakCheck") (detail.Pages k ∷ []))
-rename_line refusal.Exhausted = Some (refused (codes "K8 Exhausted") [])
-rename_line refusal.NoFree = Some (refused (codes "K9 NoFree") [])
 rename_line refusal.Memory = None
+rename_line c = Some (refused_line (rename_refusal_text c))
 
 -- the image after the first k steps is accepted: before the turn it means what it meant before them, and from the turn on
 -- that with the new name
@@ -49,7 +42,7 @@ pub data Renames (image : Image) (id : ℕ) (word : List ℕ) (stop : Option ℕ
   planned : {o : Outcome} (name : List ℕ) (steps : List Step) → shown_name word ≡ Some name
       → IsRenameOf image id name steps → Gives o (plan_answer image steps stop)
       → CutIsNamed image id name steps (steps_done steps stop) → Renames image id word stop o
-  nameless : {o : Outcome} → shown_name word ≡ None → Gives o (says (refused (codes "N1 BadName") []) 1)
+  nameless : {o : Outcome} → shown_name word ≡ None → Gives o (says (refused_line (rename_refusal_text refusal.BadName)) 1)
       → Renames image id word stop o
   unplanned : {o : Outcome} (name : List ℕ) (c : RenameRefusal) (line : List ℕ) → shown_name word ≡ Some name
       → IsRenameRefusal image id name c → rename_line c ≡ Some line → Gives o (says line 1)
@@ -64,7 +57,7 @@ module _ (id : ℕ) (word : List ℕ) (stop : Option ℕ) (s : Sizes) (k : Sourc
         → IsPlannedRename s k agrees id name steps → Gives o (says (plan_lines steps) 0)
         → Wrote agrees old now (cut_text s steps (steps_done steps stop)) All 0 k.size
         → WhereHeld agrees (λ bytes. CutIsNamed (image_of s bytes) id name steps (steps_done steps stop)) → RenamesFrom old now o
-    nameless_from : {o : Outcome} → shown_name word ≡ None → Gives o (says (refused (codes "N1 BadName") []) 1) → Keeps old now
+    nameless_from : {o : Outcome} → shown_name word ≡ None → Gives o (says (refused_line (rename_refusal_text refusal.BadName)) 1) → Keeps old now
         → RenamesFrom old now o
     unplanned_from : {o : Outcome} (name : List ℕ) (c : RenameRefusal) (line : List ℕ) → shown_name word ≡ Some name
         → IsRenameError s k agrees id name (error.Refused c) → rename_line c ≡ Some line → Gives o (says line 1) → Keeps old now

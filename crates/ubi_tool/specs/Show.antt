@@ -2,6 +2,7 @@
 use Rattle.std.specs.Prelude.{◌≡◌, ℕ, ◌<◌, ◌≤◌, List, ◌++◌, length, codes}
 use Rattle.hex.specs.Hex.{encode_lower}
 use Rattle.ubi_media.specs.Ec.{ec_reading}
+use Rattle.ubi_media.specs.ErrorTexts.{ec_fault_name, vid_fault_name}
 use Rattle.ubi_media.specs.Geometry.{Sizes}
 use Rattle.ubi_media.specs.Vid.{vid_reading}
 use Rattle.ubi_media.specs.declared.ec.EcRead.{EcRead}
@@ -12,7 +13,7 @@ use Rattle.ubi_media.specs.declared.vid.VidRead.TheVariants as vid_read
 use Rattle.ubi_scan.specs.Image.{Image, IsLengthFault, IsSizeFault, IsWhole, IsWholeSize, block, ec_area, eraseblocks, image_of, vid_area}
 use Rattle.ubi_scan.specs.Source.{Agreed, Source, WhereHeld, blocks_in}
 use Rattle.ubi_tool.specs.Answer.{Gives, says}
-use Rattle.ubi_tool.specs.Lines.{ec_fault_name, no_block_line, refusal_line, vid_fault_name}
+use Rattle.ubi_tool.specs.Lines.{no_block_line, refusal_line}
 use Rattle.ubi_tool.specs.declared.outcome.Outcome.{Outcome}
 
 -- the word for what an EC header is

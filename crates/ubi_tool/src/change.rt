@@ -6,7 +6,7 @@ ghost use Rattle.ubi_scan.specs.Source.{Narrows};
 ghost use Rattle.ubi_tool.specs.AfterRun.{after_run};
 ghost use Rattle.ubi_tool.specs.Change.{Changes, ChangesFrom, IsChangeFault, cause_line};
 
-use crate::lines::{Detail, refusal_line, refused};
+use crate::lines::refused;
 use crate::outcome::{FAILED, Outcome, ToolError};
 use crate::plan::{carry_out, with_file};
 use std::alloc::{AllocError, Global};
@@ -24,18 +24,8 @@ fn cause_line(alloc: Global, cause: ChangeRefusal) -> Result<Vec<u8>, AllocError
     ensures { IfOk result (λ text. cause_line cause ≡ Some text.items) }
 {
     match cause {
-        ChangeRefusal::Attach(refusal) => refusal_line(alloc, refusal),
-        ChangeRefusal::NoVolume => refused(alloc, "K2 NoVolume", &[]),
-        ChangeRefusal::StaticVolume => refused(alloc, "K3 StaticVolume", &[]),
-        ChangeRefusal::Updating => refused(alloc, "K4 Updating", &[]),
-        ChangeRefusal::OutOfRange => refused(alloc, "K5 OutOfRange", &[]),
-        ChangeRefusal::BadLength => refused(alloc, "K6 BadLength", &[]),
-        ChangeRefusal::WeakCheck(pages) => {
-            refused(alloc, "K7 WeakCheck", &[Detail::Pages(pages)])
-        }
-        ChangeRefusal::Exhausted => refused(alloc, "K8 Exhausted", &[]),
-        ChangeRefusal::NoFree => refused(alloc, "K9 NoFree", &[]),
         ChangeRefusal::Memory => Err(AllocError),
+        _ => refused(alloc, &cause),
     }
 }
 

@@ -3,7 +3,7 @@
 ghost use Rattle.std.specs.Prelude.{◌≡◌, IfOk};
 ghost use Rattle.ubi_tool.specs.Compose.{Composes, ComposesOf, meaning_line, room_line, spec_line};
 
-use crate::lines::{Detail, blocks_line, refused};
+use crate::lines::{blocks_line, refused};
 use crate::outcome::{DONE, FAILED, Outcome};
 use std::alloc::{AllocError, Global};
 use ubi_compose::{ComposeError, SpecCause, SpecError, compose, parse_spec};
@@ -14,45 +14,21 @@ use ubi_volume::{Meaning, MeaningCause};
 fn spec_line(alloc: Global, line: u32, cause: SpecCause) -> Result<Vec<u8>, AllocError>
     ensures { IfOk result (λ text. text.items ≡ spec_line line cause) }
 {
-    use Detail::{Line, Rec};
-    match cause {
-        SpecCause::Word => refused(alloc, "P1 Word", &[Line(line)]),
-        SpecCause::Number => refused(alloc, "P2 Number", &[Line(line)]),
-        SpecCause::Hex => refused(alloc, "P3 Hex", &[Line(line)]),
-        SpecCause::Name => refused(alloc, "P4 Name", &[Line(line)]),
-        SpecCause::Order => refused(alloc, "P5 Order", &[Line(line)]),
-        SpecCause::Record(fault) => refused(alloc, "P6 Record", &[Line(line), Rec(fault)]),
-        SpecCause::Twice => refused(alloc, "P7 Twice", &[Line(line)]),
-        SpecCause::Long => refused(alloc, "P8 Long", &[Line(line)]),
-    }
+    refused(alloc, &SpecError::Refused { line, cause })
 }
 
 /// The line of volumes that have no meaning together.
 fn meaning_line(alloc: Global, cause: MeaningCause) -> Result<Vec<u8>, AllocError>
     ensures { IfOk result (λ text. text.items ≡ meaning_line cause) }
 {
-    use Detail::{EarlierItem, Item, Rec};
-    match cause {
-        MeaningCause::IdRange(item) => refused(alloc, "M1 IdRange", &[Item(item)]),
-        MeaningCause::SameId(item) => refused(alloc, "M2 SameId", &[Item(item)]),
-        MeaningCause::Record(item, fault) => {
-            refused(alloc, "M3 Record", &[Item(item), Rec(fault)])
-        }
-        MeaningCause::SameName(item, earlier) => refused(
-            alloc,
-            "M4 SameName",
-            &[Item(item), EarlierItem(earlier)],
-        ),
-        MeaningCause::NoSpace => refused(alloc, "M5 NoSpace", &[]),
-        MeaningCause::ContentRange(item) => refused(alloc, "M6 ContentRange", &[Item(item)]),
-    }
+    refused(alloc, &cause)
 }
 
 /// The line of an image that the device has no room for.
 fn room_line(alloc: Global) -> Result<Vec<u8>, AllocError>
     ensures { IfOk result (λ text. text.items ≡ room_line) }
 {
-    refused(alloc, "C1 TooMany", &[])
+    refused(alloc, &ComposeError::TooMany)
 }
 
 /// What is answered of a meaning: the number of eraseblocks of its image, and their bytes, or that the device has no room

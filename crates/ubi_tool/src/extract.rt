@@ -8,7 +8,7 @@ ghost use Rattle.ubi_tool.specs.AfterRun.{after_run};
 ghost use Rattle.ubi_tool.specs.Extract.{Extracts, ExtractsFrom, IsExtractError, IsExtractFault, RefusesToRead, read_refusal};
 ghost use Rattle.ubi_tool.specs.inner.Ended.{IsUntold};
 
-use crate::lines::{LONGEST_COUNT_LINE, put_bytes_line, read_line, refusal_line};
+use crate::lines::{LONGEST_COUNT_LINE, put_bytes_line, refusal_line, refused};
 use crate::outcome::{DONE, FAILED, Outcome, ToolError};
 use std::alloc::Global;
 use std::io::Write;
@@ -16,31 +16,20 @@ use ubi_media::Geometry;
 use ubi_scan::{BlockSource, MemorySource, StreamError};
 use ubi_volume::{ReadError, attach_places, write_places};
 
-/// The name of a refusal to read, with its number.
+/// What is answered of a volume that isn't read.
 ///
 /// # Errors
 ///
-/// A fault of the machine, which has none.
-fn read_refusal(error: ReadError) -> Result<&'static str, ToolError>
-    ensures { result_map_both (λ name. name.now) (λ e. e) result ≡ read_refusal error }
-{
-    match error {
-        ReadError::NoVolume => Ok("L1 NoVolume"),
-        ReadError::Updating => Ok("L2 Updating"),
-        ReadError::Damaged => Ok("L3 Damaged"),
-        ReadError::OutOfRange => Ok("L4 OutOfRange"),
-        ReadError::Write(_) => Err(ToolError::Write),
-        ReadError::Memory => Err(ToolError::Memory),
-    }
-}
-
-/// What is answered of a volume that isn't read.
+/// A fault of the machine, which has no line.
 fn unread(alloc: Global, error: ReadError) -> Result<Outcome, ToolError>
     ensures ok { IfOk result (RefusesToRead error) }
     ensures err { IfErr result (IsUntold error) }
 {
-    let name = read_refusal(error)?;
-    Ok(Outcome::saying(read_line(alloc, name)?, FAILED))
+    match error {
+        ReadError::Write(_) => Err(ToolError::Write),
+        ReadError::Memory => Err(ToolError::Memory),
+        _ => Ok(Outcome::saying(refused(alloc, &error)?, FAILED)),
+    }
 }
 
 /// Writes what the volume `id` of a source reads, and answers how many bytes that are. At most an eraseblock of contents is

@@ -6,7 +6,7 @@ ghost use Rattle.ubi_scan.specs.Source.{Narrows};
 ghost use Rattle.ubi_tool.specs.AfterRun.{after_run};
 ghost use Rattle.ubi_tool.specs.Rename.{IsRenameFault, Renames, RenamesFrom, rename_line};
 
-use crate::lines::{Detail, refusal_line, refused};
+use crate::lines::refused;
 use crate::outcome::{FAILED, Outcome, ToolError};
 use crate::plan::{carry_out, with_file};
 use std::alloc::{AllocError, Global};
@@ -25,17 +25,8 @@ fn rename_line(alloc: Global, cause: RenameRefusal) -> Result<Vec<u8>, AllocErro
     ensures { IfOk result (λ text. rename_line cause ≡ Some text.items) }
 {
     match cause {
-        RenameRefusal::Attach(refusal) => refusal_line(alloc, refusal),
-        RenameRefusal::NoVolume => refused(alloc, "K2 NoVolume", &[]),
-        RenameRefusal::BadName => refused(alloc, "N1 BadName", &[]),
-        RenameRefusal::SameName(slot) => refused(alloc, "N2 SameName", &[Detail::Slot(slot)]),
-        RenameRefusal::NeedsRepair => refused(alloc, "N3 NeedsRepair", &[]),
-        RenameRefusal::WeakCheck(pages) => {
-            refused(alloc, "K7 WeakCheck", &[Detail::Pages(pages)])
-        }
-        RenameRefusal::Exhausted => refused(alloc, "K8 Exhausted", &[]),
-        RenameRefusal::NoFree => refused(alloc, "K9 NoFree", &[]),
         RenameRefusal::Memory => Err(AllocError),
+        _ => refused(alloc, &cause),
     }
 }
 

@@ -7,7 +7,7 @@ ghost use Rattle.ubi_scan.specs.Source.{Narrows, WhereHeld, blocks_in, blocks_of
 ghost use Rattle.ubi_tool.specs.AfterRun.{IsNoWrite, after_run};
 ghost use Rattle.ubi_tool.specs.Show.{AreHeaderLines, Shows, ShowsFrom, block_lines, ec_state, header_lines, vid_state};
 
-use crate::lines::{ec_fault_name, no_block_line, put_word, refusal_line, vid_fault_name};
+use crate::lines::{no_block_line, put_word, refusal_line};
 use crate::outcome::{DONE, FAILED, Outcome, ToolError, in_memory};
 use std::alloc::{AllocError, Global};
 use ubi_media::{EcRead, Geometry, VidRead, read_ec, read_vid};
@@ -28,7 +28,7 @@ fn put_ec_state(text: &mut Vec<u8>, ec: &EcRead) -> Result<(), AllocError>
     match ec {
         EcRead::Blank => put_word(text, "blank"),
         EcRead::Corrupt => put_word(text, "corrupt"),
-        EcRead::Fault(fault) => put_fault(text, ec_fault_name(*fault)),
+        EcRead::Fault(fault) => put_fault(text, fault.name()),
         EcRead::Valid(_) => put_word(text, "valid"),
     }
 }
@@ -40,7 +40,7 @@ fn put_vid_state(text: &mut Vec<u8>, vid: &VidRead) -> Result<(), AllocError>
     match vid {
         VidRead::Blank => put_word(text, "blank"),
         VidRead::Corrupt => put_word(text, "corrupt"),
-        VidRead::Fault(fault) => put_fault(text, vid_fault_name(*fault)),
+        VidRead::Fault(fault) => put_fault(text, fault.name()),
         VidRead::Valid(_) => put_word(text, "valid"),
     }
 }

@@ -15,7 +15,7 @@ use Rattle.ubi_volume.specs.Amounts.{AmountIs, amount_of}
 use Rattle.ubi_volume.specs.inner.Gathered.{AreKept, ContentIs}
 use Rattle.ubi_volume.specs.Means.{LebReads}
 use Rattle.ubi_volume.specs.Places.{Placed}
-use Rattle.ubi_volume.specs.declared.amounts.Amount.TheVariants as amount
+use Rattle.ubi_volume.specs.declared.block.Amount.TheVariants as amount
 use Rattle.ubi_volume.specs.declared.content.Content.TheVariants as content
 use Rattle.ubi_volume.specs.declared.places.PlaceContent.TheVariants as place
 use Rattle.ubi_volume.proofs.Dynamic.{dynamic_is, gathered_blank, gathered_none, gathered_text, none_behind}

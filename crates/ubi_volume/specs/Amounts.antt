@@ -4,8 +4,8 @@ use Rattle.std.specs.FinMap.{entries, get}
 use Rattle.ubi_media.specs.Geometry.{Sizes}
 use Rattle.ubi_scan.specs.Image.{image_of}
 use Rattle.ubi_volume.specs.Places.{ArePlaces, Placed}
-use Rattle.ubi_volume.specs.declared.amounts.Amount.{Amount}
-use Rattle.ubi_volume.specs.declared.amounts.Amount.TheVariants as amount
+use Rattle.ubi_volume.specs.declared.block.Amount.{Amount}
+use Rattle.ubi_volume.specs.declared.block.Amount.TheVariants as amount
 use Rattle.ubi_volume.specs.declared.content.Content.{Content}
 use Rattle.ubi_volume.specs.declared.content.Content.TheVariants as content
 use Rattle.ubi_volume.specs.declared.content.Volume.{Volume}

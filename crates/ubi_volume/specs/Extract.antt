@@ -13,7 +13,7 @@ use Rattle.ubi_volume.specs.Places.{ArePlaces, Placed}
 use Rattle.ubi_volume.specs.Reading.{read_volume}
 use Rattle.ubi_volume.specs.declared.errors.ReadError.{ReadError}
 use Rattle.ubi_volume.specs.declared.errors.ReadError.TheVariants as error
-use Rattle.ubi_volume.specs.declared.extent.Extent.{Extent}
+use Rattle.ubi_volume.specs.declared.places.Extent.{Extent}
 use Rattle.ubi_volume.specs.declared.places.PlaceContent.{PlaceContent}
 use Rattle.ubi_volume.specs.declared.places.PlaceContent.TheVariants as place
 

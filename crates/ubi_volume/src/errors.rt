@@ -2,6 +2,8 @@
 
 use crate::content::Volume;
 use std::alloc::AllocError;
+use std::error::Error;
+use std::fmt;
 use ubi_media::RecFault;
 
 /// Why a volume, or one of its logical eraseblocks, isn't read.
@@ -20,6 +22,26 @@ pub enum ReadError {
     /// Memory ran out.
     Memory,
 }
+
+impl fmt::Display for ReadError {
+    ghost use Rattle.std.specs.Prelude.{Some};
+    ghost use Rattle.ubi_volume.specs.ErrorTexts.{read_error_text};
+
+    ghost output = { λ error. Some (read_error_text error) };
+
+    fn fmt<W: fmt::Write>(&self, f: &mut fmt::Formatter<W>) -> fmt::Result {
+        match self {
+            ReadError::NoVolume => write!(f, "L1 NoVolume"),
+            ReadError::Updating => write!(f, "L2 Updating"),
+            ReadError::Damaged => write!(f, "L3 Damaged"),
+            ReadError::OutOfRange => write!(f, "L4 OutOfRange"),
+            ReadError::Write(written) => write!(f, "a write failed written={written}"),
+            ReadError::Memory => write!(f, "out of memory"),
+        }
+    }
+}
+
+impl Error for ReadError {}
 
 impl From<AllocError> for ReadError {
     ghost use Rattle.std.specs.Prelude.{◌≡◌};
@@ -51,6 +73,29 @@ pub enum MeaningCause {
     /// volume uses; or the text of a static volume has more bytes than its eraseblocks hold.
     ContentRange(usize),
 }
+
+impl fmt::Display for MeaningCause {
+    ghost use Rattle.std.specs.Prelude.{Some};
+    ghost use Rattle.ubi_volume.specs.ErrorTexts.{meaning_cause_text};
+
+    ghost output = { λ cause. Some (meaning_cause_text cause) };
+
+    fn fmt<W: fmt::Write>(&self, f: &mut fmt::Formatter<W>) -> fmt::Result {
+        match self {
+            MeaningCause::IdRange(item) => write!(f, "M1 IdRange item={item}"),
+            MeaningCause::SameId(item) => write!(f, "M2 SameId item={item}"),
+            MeaningCause::Record(item, fault) => write!(f, "M3 Record item={item} {fault}"),
+            MeaningCause::SameName(item, earlier) => write!(
+                f,
+                "M4 SameName item={item} earlier={earlier}"
+            ),
+            MeaningCause::NoSpace => write!(f, "M5 NoSpace"),
+            MeaningCause::ContentRange(item) => write!(f, "M6 ContentRange item={item}"),
+        }
+    }
+}
+
+impl Error for MeaningCause {}
 
 /// Volumes that have no meaning together, and why.
 #[derive(Drop)]

@@ -6,48 +6,56 @@
 //! An image behind a source is attached without its contents ([`attach_places`]): what is found then is its table, the
 //! eraseblock of each logical eraseblock, and what kind of content each volume has. A volume is then written from the
 //! source ([`write_places`]).
+//!
+//! A caller, proved from the contracts alone (`crates/ubi_uses`):
+//!
+//! ```
+//! use std::alloc::Global;
+//! use ubi_media::{AttachError, Geometry};
+//! use ubi_volume::{ReadError, attach, read_leb};
+//!
+//! /// Reads a logical eraseblock of a volume of an image into `out`: how many bytes it has, or why it isn't read.
+//! pub fn read(
+//!     alloc: Global,
+//!     geometry: &Geometry,
+//!     image: &[u8],
+//!     id: u32,
+//!     lnum: u32,
+//!     out: &mut [u8],
+//! ) -> Result<Result<usize, ReadError>, AttachError>
+//!     requires { leb_size geometry.now ≤ length out.old }
+//!     ensures { IfOk result (λ read. (m : Meant) × Accepts (image_of geometry.now image.now) m × IfOk read (IsLebRead m id lnum out.old out.new)) }
+//! {
+//!     let attached = attach(alloc, geometry, image)?;
+//!     Ok(read_leb(attached.meaning(), id, lnum, out))
+//! }
+//! ```
 #![tactic(auto)]
 
-mod amounts;
 mod attached;
-mod attaching;
-mod cases;
-mod checking;
+mod block;
 mod content;
 mod errors;
-mod extent;
-mod extracting;
-mod fetching;
-mod gathering;
+mod extract;
 pub mod laws;
-mod length;
-mod making;
 mod meaning;
-mod mismatch;
-mod output;
 mod places;
 mod probe;
-mod reading;
-mod states;
-mod surveying;
-mod writing;
+mod read;
+mod surveyed;
+mod write;
 
-pub use amounts::{Amount, amount_of};
-pub use attached::{Attached, BlockState};
-pub use attaching::{attach, attach_from};
+pub use attached::{Attached, BlockState, attach, attach_from};
+pub use block::{Amount, amount_of, is_blank_part, read_place};
 pub use content::{Bytes, Content, Lebs, Volume};
 pub use errors::{MeaningCause, MeaningError, ReadError};
-pub use extent::Extent;
-pub use extracting::write_places;
-pub use fetching::{is_blank_part, read_place};
-pub use length::volume_len;
+pub use extract::write_places;
 pub use meaning::Meaning;
-pub use output::write_all;
-pub use places::{PlaceContent, Places, attach_places};
+pub use places::{Extent, PlaceContent, Places, attach_places};
 pub use probe::{Failure, ProbeWriter};
-pub use reading::read_leb;
-pub use surveying::{Surveyed, survey, survey_from};
-pub use writing::{read_volume, write_volume};
+pub use read::{read_leb, volume_len};
+pub use surveyed::{Surveyed, survey, survey_from};
+pub use write::{read_volume, write_all, write_volume};
 
 #[cfg(test)]
 mod tests;

@@ -9,7 +9,7 @@ use Rattle.ubi_change.specs.Fitting.{AllWithin}
 use Rattle.ubi_change.specs.RenamePlanned.{IsPlannedRename, IsRenameError}
 use Rattle.ubi_change.specs.declared.step.Step.{Step}
 use Rattle.ubi_tool.specs.Answer.{Gives, says}
-use Rattle.ubi_tool.specs.Lines.{refused}
+use Rattle.ubi_tool.specs.Lines.{refused_line}
 use Rattle.ubi_tool.specs.Plan.{cut_text, steps_done}
 use Rattle.ubi_tool.specs.Rename.{nameless_from, unplanned_from}
 use Rattle.ubi_tool.proofs.Edited.{rename_cut, rename_done, rename_narrowed}
@@ -17,8 +17,8 @@ use Rattle.ubi_tool.proofs.rename.run_rename_from.Goals as goal
 
 pub returns-in_default-clause-ok : goal.returns-in_default-clause-ok
 returns-in_default-clause-ok g c =
-    let line : refused (codes "N1 BadName") [] ≡ c.in_ok-line.line.items =
-    same_Some (refused (codes "N1 BadName") []) c.in_ok-line.line.items c.in_ok-line.ensures in
+    let line : refused_line (codes "N1 BadName") ≡ c.in_ok-line.line.items =
+    same_Some (refused_line (codes "N1 BadName")) c.in_ok-line.line.items c.in_ok-line.ensures in
     let gives : Gives c.saying.result (says c.in_ok-line.line.items 1) = c.saying.ensures in
     nameless_from (sym c.in_default.ensures)
     (subst (λ (text : List ℕ). Gives c.saying.result (says text 1)) (sym line) gives) (Keeps-refl _)

@@ -1,0 +1,53 @@
+-- What is printed of an image that isn't composed, images that aren't compared, and a text that isn't read.
+use Rattle.std.specs.Prelude.{ℕ, List, ◌++◌, codes, decimal}
+use Rattle.ubi_media.specs.ErrorTexts.{rec_fault_name, refusal_text}
+use Rattle.ubi_scan.specs.ErrorTexts.{stream_error_text}
+use Rattle.ubi_compose.specs.declared.errors.ComposeError.{ComposeError}
+use Rattle.ubi_compose.specs.declared.errors.ComposeError.TheVariants as compose
+use Rattle.ubi_compose.specs.declared.errors.SameError.{SameError}
+use Rattle.ubi_compose.specs.declared.errors.SameError.TheVariants as same
+use Rattle.ubi_compose.specs.declared.errors.SameFault.{SameFault}
+use Rattle.ubi_compose.specs.declared.errors.SameFault.TheVariants as fault
+use Rattle.ubi_compose.specs.declared.errors.SpecCause.{SpecCause}
+use Rattle.ubi_compose.specs.declared.errors.SpecCause.TheVariants as cause
+use Rattle.ubi_compose.specs.declared.errors.SpecError.{SpecError}
+use Rattle.ubi_compose.specs.declared.errors.SpecError.TheVariants as spec
+
+-- the text of why an image isn't composed
+abbrev pub compose_error_text : ComposeError → List ℕ
+compose_error_text compose.TooMany = codes "C1 TooMany"
+compose_error_text compose.Memory = codes "out of memory"
+
+-- the text of why two images aren't compared: which of them is at fault, and how
+abbrev pub same_error_text : SameError → List ℕ
+same_error_text (same.Left c) = codes "left " ++ refusal_text c
+same_error_text (same.Right c) = codes "right " ++ refusal_text c
+same_error_text same.Memory = codes "out of memory"
+
+-- the text of why two sources aren't compared
+abbrev pub same_fault_text : SameFault → List ℕ
+same_fault_text (fault.Left e) = codes "left " ++ stream_error_text e
+same_fault_text (fault.Right e) = codes "right " ++ stream_error_text e
+same_fault_text fault.Memory = codes "out of memory"
+
+-- the name of what is wrong with a line of a text
+abbrev pub spec_cause_name : SpecCause → List ℕ
+spec_cause_name cause.Word = codes "P1 Word"
+spec_cause_name cause.Number = codes "P2 Number"
+spec_cause_name cause.Hex = codes "P3 Hex"
+spec_cause_name cause.Name = codes "P4 Name"
+spec_cause_name cause.Order = codes "P5 Order"
+spec_cause_name (cause.Record _) = codes "P6 Record"
+spec_cause_name cause.Twice = codes "P7 Twice"
+spec_cause_name cause.Long = codes "P8 Long"
+
+-- the text of it, with the fault of a record
+abbrev pub spec_cause_text : SpecCause → List ℕ
+spec_cause_text (cause.Record f) = codes "P6 Record " ++ rec_fault_name f
+spec_cause_text c = spec_cause_name c
+
+-- the text of why a text isn't read: what is wrong, on which line, and the fault of a record
+abbrev pub spec_error_text : SpecError → List ℕ
+spec_error_text (spec.Refused line (cause.Record f)) = codes "P6 Record line=" ++ decimal line ++ codes " " ++ rec_fault_name f
+spec_error_text (spec.Refused line c) = spec_cause_name c ++ codes " line=" ++ decimal line
+spec_error_text spec.Memory = codes "out of memory"

@@ -1,0 +1,16 @@
+//! Callers of the other crates, proved from the contracts alone: the examples of their front pages.
+#![tactic(auto)]
+
+mod change;
+mod compose;
+mod media;
+mod scan;
+mod table;
+mod volume;
+
+pub use change::update;
+pub use compose::is_same_build;
+pub use media::erased;
+pub use scan::holder;
+pub use table::record_of;
+pub use volume::read;

@@ -1,5 +1,0 @@
-use Rattle.ubi_volume.specs.inner.Making.{NoneBelow}
-use Rattle.ubi_volume.proofs.making.id_range.Given as goal
-
-abbrev pub invariant-loop-i : goal.invariant-loop-i
-invariant-loop-i l = NoneBelow l.geometry l.volumes 1 l.i

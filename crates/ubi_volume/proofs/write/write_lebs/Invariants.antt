@@ -1,0 +1,8 @@
+use Rattle.std.specs.Io.KnownBytes.{Appends}
+use Rattle.ubi_volume.specs.Reading.{lebs_text}
+use Rattle.ubi_volume.proofs.write.write_lebs.Given as goal
+
+-- the writer received the logical eraseblocks so far
+abbrev pub invariant-loop-lnum : goal.invariant-loop-lnum
+invariant-loop-lnum g l = Appends (g.W.Write.contents l.initial.writer) (g.W.Write.contents l.writer)
+    (lebs_text l.size l.lebs l.lnum)
