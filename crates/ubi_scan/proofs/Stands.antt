@@ -7,10 +7,6 @@ use Rattle.ubi_scan.specs.Placed.{StandsAt}
 use Rattle.ubi_scan.specs.declared.window.Window.{Window}
 use Rattle.ubi_scan.specs.inner.Ahead.{HoldsAt}
 
--- no bytes stand at each place
-pub none_stand : (all : List ℕ) (at : ℕ) → StandsAt all at []
-none_stand all at = refl
-
 -- bytes that stand behind others stand with them
 pub stand_behind : (all : List ℕ) (at : ℕ) (xs ys : List ℕ) → StandsAt all at xs → StandsAt all (at + length xs) ys
     → StandsAt all at (xs ++ ys)
@@ -35,12 +31,6 @@ stand_within all at xs from n few h =
     let part : take n (drop from xs) ≡ take n (drop (at + from) all) =
     ap (take n) rest ∙ take-take n m (drop (at + from) all) (omega (arith, few)) in
     part ∙ ap (λ (k : ℕ). take k (drop (at + from) all)) (sym long)
-
--- the first of bytes that stand stand too
-pub stand_first : (all : List ℕ) (at : ℕ) (xs : List ℕ) (n : ℕ) → n ≤ length xs → StandsAt all at xs → StandsAt all at (take n xs)
-stand_first all at xs n few h =
-    subst (λ (k : ℕ). StandsAt all k (take n xs)) (let e : at + 0 ≡ at = omega arith in e)
-    (stand_within all at xs 0 n (omega (arith, few)) h)
 
 -- what was written behind the first n bytes stands with them
 pub stand_on : (all : List ℕ) (at n m : ℕ) (old new rest : List ℕ) → n ≤ length old → m ≤ length new
