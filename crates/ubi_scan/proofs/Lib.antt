@@ -10,10 +10,11 @@ pub mod Compatible
 pub mod Counted
 pub mod Counters
 pub mod Decided
-pub mod Detections
 pub mod DetectVectors
+pub mod Detections
 pub mod Either
 pub mod Entries
+pub mod ErrorTextVectors
 pub mod Filled
 pub mod Finite
 pub mod Held
@@ -40,9 +41,9 @@ pub mod Seen
 pub mod Seq
 pub mod Shown
 pub mod SoFar
+pub mod Spread
 pub mod Stands
 pub mod Told
-pub mod Spread
 pub mod Truths
 pub mod UnitStarts
 pub mod Within

@@ -15,6 +15,8 @@ use crate::plain::read_plain;
 use crate::source::BlockSource;
 use crate::starts::{UNIT, read_more};
 use std::alloc::{AllocError, AllocFailed, Global};
+use std::error::Error;
+use std::fmt;
 use ubi_media::{EcOffsets, EcStart, Geometry};
 
 /// An eraseblock that was dumped with its out-of-band bytes.
@@ -43,6 +45,37 @@ pub enum Undetected {
     Page(u64, EcOffsets),
 }
 
+impl fmt::Display for Undetected {
+    ghost use Rattle.std.specs.Prelude.{Some};
+    ghost use Rattle.ubi_scan.specs.ErrorTexts.{undetected_text};
+
+    ghost output = { λ cause. Some (undetected_text cause) };
+
+    fn fmt<W: fmt::Write>(&self, f: &mut fmt::Formatter<W>) -> fmt::Result {
+        match self {
+            Undetected::NoHeader => write!(f, "D1 NoHeader"),
+            Undetected::NoSize => write!(f, "D2 NoSize"),
+            Undetected::Length(size, rest) => write!(f, "D3 Length peb={size} rest={rest}"),
+            Undetected::Offsets(first, other) => {
+                write!(f, "D4 Offsets block={other} earlier={first}")
+            }
+            Undetected::OutOfBand(found) => {
+                let (size, share) = (found.peb_size, found.share);
+                write!(f, "D5 OutOfBand peb={size} share={share}")
+            }
+            Undetected::Page(
+                size,
+                EcOffsets {
+                    vid_offset,
+                    data_offset,
+                },
+            ) => write!(f, "D6 Page peb={size} vid={vid_offset} data={data_offset}"),
+        }
+    }
+}
+
+impl Error for Undetected {}
+
 /// Why the geometry of a source isn't detected.
 #[derive(Clone, Copy, Debug, PartialEq, Eq)]
 pub enum DetectError {
@@ -53,6 +86,23 @@ pub enum DetectError {
     /// Memory ran out.
     Memory,
 }
+
+impl fmt::Display for DetectError {
+    ghost use Rattle.std.specs.Prelude.{Some};
+    ghost use Rattle.ubi_scan.specs.ErrorTexts.{detect_error_text};
+
+    ghost output = { λ error. Some (detect_error_text error) };
+
+    fn fmt<W: fmt::Write>(&self, f: &mut fmt::Formatter<W>) -> fmt::Result {
+        match self {
+            DetectError::Undetected(cause) => write!(f, "{cause}"),
+            DetectError::Read(at) => write!(f, "a read failed at={at}"),
+            DetectError::Memory => write!(f, "out of memory"),
+        }
+    }
+}
+
+impl Error for DetectError {}
 
 impl From<AllocError> for DetectError {
     ghost use Rattle.std.specs.Prelude.{◌≡◌};
