@@ -51,3 +51,9 @@ IsNormaliseToError s k agrees old new (stream.Read p n) =
     × (((n ≡ 0) × Keeps old new) ⊎ WhereHeld agrees (λ bytes. IsPart (image_of s bytes) old new n))
 IsNormaliseToError s k agrees old new (stream.Write n) =
     HasGot old new n × WhereHeld agrees (λ bytes. IsCut (image_of s bytes) old new n)
+
+-- a fact that holds where nothing was written: where the image is refused, or memory ran out
+abbrev pub WhereUnwritten : Type 0 → StreamError → Type 0
+WhereUnwritten fact (stream.Refused c) = fact
+WhereUnwritten fact stream.Memory = fact
+WhereUnwritten fact _ = Unit {0}

@@ -11,7 +11,7 @@ ghost use Rattle.ubi_scan.specs.Stream.{after};
 ghost use Rattle.ubi_table.specs.Records.{table_bytes};
 ghost use Rattle.ubi_volume.specs.Places.{ArePlacesOf};
 ghost use Rattle.ubi_compose.specs.inner.Streaming.{normal_text, volumes_text};
-ghost use Rattle.ubi_compose.specs.Streamed.{IsNormaliseToError, IsNormalisedTo};
+ghost use Rattle.ubi_compose.specs.Streamed.{IsNormaliseToError, IsNormalisedTo, WhereUnwritten};
 ghost use Rattle.ubi_volume.specs.Wrote.{All, IsWroteError, Wrote};
 
 use crate::header::copy_header;
@@ -100,6 +100,7 @@ pub fn normalise_to<S: BlockSource, W: Write>(
     ensures narrows { Narrows (S.agrees source.old) (S.agrees source.new) }
     ensures written { IfOk result (IsNormalisedTo geometry.now (S.agrees source.new) (W.contents writer.old) (W.contents writer.new)) }
     ensures whole { IfOk result (λ _. IsWholeSize geometry.now (S.known source.old).size) }
+    ensures untouched { IfErr result (WhereUnwritten (writer.new ≡ writer.old)) }
     ensures refused { IfErr result (IsNormaliseToError geometry.now (S.known source.old) (S.agrees source.new) (W.contents writer.old) (W.contents writer.new)) }
 {
     let places = attach_places(alloc, geometry, source)?;

@@ -1,19 +1,19 @@
 //! What a copy of the volume table is.
 
-ghost use Rattle.std.specs.Prelude.{◌≡◌, ◌<◌, IfErr, IfOk, length, option_copied};
+ghost use Rattle.std.specs.Prelude.{◌≡◌, ◌<◌, IfErr, IfOk, length};
 ghost use Rattle.ubi_media.specs.Geometry.{leb_size};
 ghost use Rattle.ubi_scan.specs.Image.{in_image};
 ghost use Rattle.ubi_scan.specs.Scan.{IsScan};
 ghost use Rattle.ubi_scan.specs.Source.{Narrows, WhereHeld, blocks_in, blocks_of};
 ghost use Rattle.ubi_scan.specs.Stream.{IsScanOf, after};
-ghost use Rattle.ubi_table.specs.Records.{first_named, twice};
+ghost use Rattle.ubi_table.specs.Records.{twice};
 ghost use Rattle.ubi_table.specs.Stream.{HasSizes, IsCopyReadError};
 ghost use Rattle.ubi_table.specs.Table.{CopyIs, copy_of};
 
-use crate::table::Table;
+use crate::table::{Table, first_named};
 use std::alloc::{AllocError, Global};
 use ubi_media::{
-    Geometry, LAYOUT_VOLUME, RECORD_SIZE, RecFault, RecRead, VolName, VolumeRecord, read_rec,
+    Geometry, LAYOUT_VOLUME, RECORD_SIZE, RecFault, RecRead, VolumeRecord, read_rec,
 };
 use ubi_scan::{BlockSource, Blocks, Scan, StreamError, read_leb};
 
@@ -30,18 +30,6 @@ pub enum CopyRead {
     Twice(u32, u32),
     /// Its table, where none of this stands.
     Good(Table),
-}
-
-/// The first record with a name, behind its slot.
-fn first_named<'a>(
-    records: &'a [(u32, VolumeRecord)],
-    name: &VolName,
-) -> Option<&'a (u32, VolumeRecord)>
-    ensures { option_copied result ≡ first_named name.now records.now }
-{
-    records
-        .iter()
-        .find(|entry| entry.1.name.as_bytes() == name.as_bytes())
 }
 
 /// The slots of the first record whose name comes again and of the next that has it.

@@ -64,15 +64,28 @@ digits_read t passed = go (starts_with_minus t) refl
 
 -- ---- rows
 
+-- the row of an argument that was given
+abbrev pub RowOf : List Row → Text → Type 0
+RowOf rows id = (r : Row) × (find (λ x. bytes_eq x.id id) rows ≡ Some r) × IsGiven r × (bytes_eq r.id id ≡ true)
+
+pub found_row : (id : Text) (rows : List Row) → EachRow rows → (r : Row) → find (λ x. bytes_eq x.id id) rows ≡ Some r → RowOf rows id
+found_row id [] each r e = absurd (cc)
+found_row id (first ∷ rest) each r e = go (bytes_eq first.id id) refl e (λ h. found_row id rest each.1 r h)
+  where
+    go : (b : Bool) → bytes_eq first.id id ≡ b → cond b (Some first) (find (λ x. bytes_eq x.id id) rest) ≡ Some r
+        → (find (λ x. bytes_eq x.id id) rest ≡ Some r → RowOf rest id)
+        → (x : Row) × (cond b (Some first) (find (λ y. bytes_eq y.id id) rest) ≡ Some x) × IsGiven x × (bytes_eq x.id id ≡ true)
+    go true is h behind = (first, refl, each.0, is)
+    go false is h behind = behind h
+
 given_row : (id : Text) (rows : List Row) → EachRow rows → is_given id rows ≡ true
-    → (r : Row) × (find (λ x. bytes_eq x.id id) rows ≡ Some r) × IsGiven r × (bytes_eq r.id id ≡ true)
+    → RowOf rows id
 given_row id [] each e = absurd (true≢false (sym e))
 given_row id (r ∷ rest) each e = go (bytes_eq r.id id) refl e (λ h. given_row id rest each.1 h)
   where
     go : (b : Bool) → bytes_eq r.id id ≡ b
         → option_map_or (λ x. explicit_source x.source) (cond b (Some r) (find (λ x. bytes_eq x.id id) rest)) false ≡ true
-        → (is_given id rest ≡ true
-        → (x : Row) × (find (λ y. bytes_eq y.id id) rest ≡ Some x) × IsGiven x × (bytes_eq x.id id ≡ true))
+        → (is_given id rest ≡ true → RowOf rest id)
         → (x : Row) × (cond b (Some r) (find (λ y. bytes_eq y.id id) rest) ≡ Some x) × IsGiven x × (bytes_eq x.id id ≡ true)
     go true is h behind = (r, refl, each.0, is)
     go false is h behind = behind h
@@ -103,19 +116,21 @@ needed_given (a ∷ rest) rows id wants e =
 
 pub row_of_needed : (c : List Rule) (rows : List Row) (id : Text) → EachRow rows → needs c id ≡ true
     → list_any (λ a. a.required && not (is_given a.id rows)) c ≡ false
-    → (r : Row) × (find (λ x. bytes_eq x.id id) rows ≡ Some r) × IsGiven r × (bytes_eq r.id id ≡ true)
+    → RowOf rows id
 row_of_needed c rows id each wants e = given_row id rows each (needed_given c rows id wants e)
 
-pub text_asked : (c : List Rule) (rows : List Row) (id : Text) → EachRow rows
-    → list_any (λ a. a.required && not (is_given a.id rows)) c ≡ false → needs c id ≡ true
-    → (text : Bor Text) × HasText rows id text
-text_asked c rows id each e wants =
-    let row = row_of_needed c rows id each wants e in
+pub text_in_row : (rows : List Row) (id : Text) → RowOf rows id → (text : Bor Text) × HasText rows id text
+text_in_row rows id row =
     let is : first_of id rows ≡ slice_get row.0.values 0 =
     ap (λ (o : Option Row). option_and_then (λ r. slice_get r.values 0) o) row.1 in (
       record { ref_ptr = (0, 0); now = row.2.text },
       is ∙ ap (λ (vs : List Text). slice_get vs 0) row.2.values,
     )
+
+pub text_asked : (c : List Rule) (rows : List Row) (id : Text) → EachRow rows
+    → list_any (λ a. a.required && not (is_given a.id rows)) c ≡ false → needs c id ≡ true
+    → (text : Bor Text) × HasText rows id text
+text_asked c rows id each e wants = text_in_row rows id (row_of_needed c rows id each wants e)
 
 -- the parser of a number
 abbrev word : ValueParser
@@ -135,11 +150,8 @@ number_parser a id takes same number =
     takes).1 in
     word_parser a.parser (either (not (is_number a.id)) (is_word a.parser) last.1 (ap not named))
 
-pub number_asked : (c : List Rule) (rows : List Row) (id : Text) → EachRow rows
-    → list_any (λ a. a.required && not (is_given a.id rows)) c ≡ false → needs c id ≡ true → is_number id ≡ true
-    → (n : ℕ) × HasNumber rows id n
-number_asked c rows id each e wants number =
-    let row = row_of_needed c rows id each wants e in
+pub number_in_row : (rows : List Row) (id : Text) → is_number id ≡ true → RowOf rows id → (n : ℕ) × HasNumber rows id n
+number_in_row rows id number row =
     let given : IsGiven row.0 = row.2 in
     let same : given.rule.id ≡ id = given.id ∙ (bytes_eq-Decides row.0.id id).0 row.3 in
     let by : given.rule.parser ≡ Some word = number_parser given.rule id given.takes same number in
@@ -158,6 +170,11 @@ number_asked c rows id each e wants number =
       digits.3,
     ) in
     (digits_value 10 digits.0, has)
+
+pub number_asked : (c : List Rule) (rows : List Row) (id : Text) → EachRow rows
+    → list_any (λ a. a.required && not (is_given a.id rows)) c ≡ false → needs c id ≡ true → is_number id ≡ true
+    → (n : ℕ) × HasNumber rows id n
+number_asked c rows id each e wants number = number_in_row rows id number (row_of_needed c rows id each wants e)
 
 -- ---- a number that may be left out
 

@@ -3,15 +3,16 @@ use Rattle.std.proofs.Common.{◌≡◌, ◌∙◌, List, codes, false, refl, sy
 use Rattle.std.specs.Str.{bytes_eq}
 use Rattle.std.proofs.lemmas.Slice.Eq.{bytes_eq-Decides}
 use Rattle.clap.specs.Walk.{Row, Text}
-use Rattle.ubi_tool.specs.CommandLine.{AsksChange, AsksNumbers, AsksRename, HasNumber}
+use Rattle.ubi_tool.specs.CommandLine.{AsksChange, AsksKey, AsksNumbers, AsksRename, HasNumber}
 use Rattle.ubi_tool.specs.inner.CommandLine.{IsAskedBy}
 use Rattle.ubi_tool.specs.declared.command_line.Change.{Change}
 use Rattle.ubi_tool.specs.declared.command_line.Rename.{Rename}
 use Rattle.ubi_tool.specs.declared.command_line.Request.{Request}
 use Rattle.ubi_tool.specs.declared.command_line.Request.TheVariants as request
 use Rattle.ubi_tool.specs.declared.numbers.Numbers.{Numbers}
+use Rattle.ubi_tool.specs.declared.volume_key.VolumeKey.{VolumeKey}
 
-apart : (a b : Text) → bytes_eq a b ≡ false → a ≡ b → ⊥
+pub apart : (a b : Text) → bytes_eq a b ≡ false → a ≡ b → ⊥
 apart a b differ same = true≢false (sym ((bytes_eq-Decides a b).1 same) ∙ differ)
 
 pub no_numbers : (name : Text) (rows : List Row) → ((n : Numbers) → AsksNumbers rows n → ⊥) → (r : Request)
@@ -31,10 +32,10 @@ pub no_block : (rows : List Row) → ((n : ℕ) → HasNumber rows (codes "block
 no_block rows none (request.Show n image block) asked = none block asked.1.2
 no_block rows none _ asked = apart _ _ refl asked.0
 
-pub no_id : (rows : List Row) → ((n : ℕ) → HasNumber rows (codes "id") n → ⊥) → (r : Request)
+pub no_key : (rows : List Row) → ((k : VolumeKey) → AsksKey rows k → ⊥) → (r : Request)
     → IsAskedBy (codes "extract") rows r → ⊥
-no_id rows none (request.Extract n image id out) asked = none id asked.1.2
-no_id rows none _ asked = apart _ _ refl asked.0
+no_key rows none (request.Extract n image key out) asked = none key asked.1.2.0
+no_key rows none _ asked = apart _ _ refl asked.0
 
 pub no_change : (rows : List Row) → ((c : Change) → AsksChange rows c → ⊥) → (r : Request)
     → IsAskedBy (codes "change") rows r → ⊥

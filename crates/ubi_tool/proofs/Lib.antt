@@ -7,6 +7,7 @@ pub mod Defaults
 pub mod Edited
 pub mod Ended
 pub mod Extracted
+pub mod GivenKey
 pub mod GivenWords
 pub mod Into
 pub mod Lacking

@@ -13,11 +13,12 @@ use Rattle.clap.specs.declared.error.kind.ErrorKind.TheVariants as kind
 use Rattle.clap.specs.declared.parser.matches.ArgMatches.{ArgMatches}
 use Rattle.ubi_tool.specs.Answer.{Gives, says}
 use Rattle.ubi_tool.specs.CommandLine.{IsOneOf, IsRequest}
-use Rattle.ubi_tool.specs.Disk.{Files}
+use Rattle.ubi_tool.specs.Disk.{AllStay, Files}
 use Rattle.ubi_tool.specs.Program.{IsAllElse, IsAnswer, IsAnswerTo, answered, wrong_words}
 use Rattle.ubi_tool.specs.Tool.{Takes, tool}
 use Rattle.ubi_tool.specs.declared.command_line.Request.{Request}
 use Rattle.ubi_tool.specs.declared.outcome.Outcome.{Outcome}
+use Rattle.ubi_tool.proofs.GivenKey.{request_names_one}
 use Rattle.ubi_tool.proofs.Taken.{taken_asked}
 
 tool_is_simple : is_simple tool ≡ true
@@ -42,26 +43,35 @@ module _ (c : Command) (words : List Text) (is : app_of c ≡ tool) where
     where
       not_taken : HasKind (fault_of tool words) e → Takes words → ⊥
       not_taken (inl out) takes = true≢false (sym (memory.0 out))
-      not_taken (inr among) takes = subst (λ kinds. IsAmong (kind_of e) kinds) takes among
+      not_taken (inr among) takes = subst (λ kinds. IsAmong (kind_of e) kinds) takes.0 among
 
   -- matches that were read of them are a request, whose answer is given
   pub asked : (d e : Files) (m : ArgMatches) (request : Option Request) (r : Result Outcome AllocError)
       → HasMatchesOf (app_of c) words m → (is_simple_and_free (app_of c) ≡ true → fault_of (app_of c) words ≡ [])
-      → IsOneOf (IsRequest (subcommand_rows_of m)) request → IfSome request (λ q. IfOk r (λ o. IsAnswerTo d e q o × IsAllElse q d e))
+      → IsOneOf (IsRequest (subcommand_rows_of m)) request
+      → (request ≡ None → IfOk r (λ o. Gives o (says [] 2) × AllStay d e))
+      → IfSome request (λ q. IfOk r (λ o. IsAnswerTo d e q o × IsAllElse q d e))
       → IfOk r (IsAnswer words d e)
   asked d e m request r matches passes = by_case request r
     where
-      taken : Takes words
-      taken = sym (ap (λ (a : App). fault_of a words) is) ∙ passes free
+      passed : fault_of tool words ≡ []
+      passed = sym (ap (λ (a : App). fault_of a words) is) ∙ passes free
 
       read : subcommand_rows_of m ≡ subcommand_of tool words
       read = (matches (ap is_simple is ∙ tool_is_simple)).1 ∙ ap (λ (a : App). subcommand_of a words) is
 
       by_case : (request : Option Request) (r : Result Outcome AllocError)
-          → IsOneOf (IsRequest (subcommand_rows_of m)) request → IfSome request (λ q. IfOk r (λ o. IsAnswerTo d e q o × IsAllElse q d e))
+          → IsOneOf (IsRequest (subcommand_rows_of m)) request
+          → (request ≡ None → IfOk r (λ o. Gives o (says [] 2) × AllStay d e))
+          → IfSome request (λ q. IfOk r (λ o. IsAnswerTo d e q o × IsAllElse q d e))
           → IfOk r (IsAnswer words d e)
-      by_case None r none some =
-          let asks = taken_asked words taken in
-          absurd (none asks.0 (subst (λ named. IsRequest named asks.0) (sym read) asks.1))
-      by_case (Some q) (Err x) one some = tt
-      by_case (Some q) (Ok o) one some = answered q (taken, subst (λ named. IsRequest named q) read one) some.0 some.1
+      by_case None (Err x) none nothing some = tt
+      by_case None (Ok o) none nothing some =
+          wrong_words (λ takes.
+          let asks = taken_asked words takes in
+          none asks.0 (subst (λ named. IsRequest named asks.0) (sym read) asks.1))
+          (nothing refl).0 (nothing refl).1
+      by_case (Some q) (Err x) one nothing some = tt
+      by_case (Some q) (Ok o) one nothing some =
+          let here = subst (λ named. IsRequest named q) read one in
+          answered q ((passed, request_names_one _ q here), here) some.0 some.1

@@ -6,16 +6,17 @@ use Rattle.std.specs.List.{find, list_all}
 use Rattle.std.specs.Str.{bytes_eq}
 use Rattle.std.proofs.lemmas.Option.{same_Some}
 use Rattle.std.proofs.lemmas.Slice.Eq.{bytes_eq-Decides}
-use Rattle.clap.specs.Faults.{level_fault}
+use Rattle.clap.specs.Faults.{fault_of, level_fault}
 use Rattle.clap.specs.Simple.{Shape, argument_words, built, label_of, subcommand_of}
 use Rattle.clap.specs.Walk.{Row, Text, answers_to, nothing_held, rows_after}
 use Rattle.ubi_tool.specs.CommandLine.{Asks, AsksNumbers, IsRequest, HasNumber, HasText, command_name}
-use Rattle.ubi_tool.specs.Tool.{Takes, tool}
+use Rattle.ubi_tool.specs.Tool.{HasOneVolume, Takes, tool}
 use Rattle.ubi_tool.specs.declared.command_line.Change.{Change}
 use Rattle.ubi_tool.specs.declared.command_line.Rename.{Rename}
 use Rattle.ubi_tool.specs.declared.command_line.Request.{Request}
 use Rattle.ubi_tool.specs.declared.command_line.Request.TheVariants as request
 use Rattle.ubi_tool.specs.declared.numbers.Numbers.{Numbers}
+use Rattle.ubi_tool.proofs.GivenKey.{key_asked}
 use Rattle.ubi_tool.proofs.GivenWords.{needs, number_asked, number_in, text_asked}
 use Rattle.ubi_tool.proofs.Uses.{is_number, takes_one}
 use Rattle.ubi_tool.proofs.Levels.{AreGiven, IsMet, leaf_given, met}
@@ -72,14 +73,14 @@ module _ (s : Shape) (rows : List Row) (given : AreGiven s rows) where
       let b = number (codes "block") refl block in
       (request.Show n.0 i.0 b.0, refl, (n.1, i.1, b.1))
 
-  extract_asked : Needs s (codes "peb") → Needs s (codes "page") → Needs s (codes "IMAGE") → Needs s (codes "id")
-      → Needs s (codes "out") → IsAsked (codes "extract") rows
-  extract_asked peb page image id out =
+  extract_asked : Needs s (codes "peb") → Needs s (codes "page") → Needs s (codes "IMAGE") → Needs s (codes "out")
+      → HasOneVolume (Some (codes "extract", rows)) → IsAsked (codes "extract") rows
+  extract_asked peb page image out one =
       let n = numbers peb page in
       let i = text (codes "IMAGE") image in
-      let v = number (codes "id") refl id in
+      let k = key_asked rows given.each (one rows refl) in
       let o = text (codes "out") out in
-      (request.Extract n.0 i.0 v.0 o.0, refl, (n.1, i.1, v.1, o.1))
+      (request.Extract n.0 i.0 k.0 o.0, refl, (n.1, i.1, k.1, o.1))
 
   compose_asked : Needs s (codes "peb") → Needs s (codes "page") → Needs s (codes "SPEC") → Needs s (codes "out")
       → IsAsked (codes "compose") rows
@@ -156,7 +157,7 @@ or_false false e = e
 abbrev AsksIt : Shape → Type 0
 AsksIt s = (name : Text) (words : List Text) → answers_to name (label_of s) ≡ true
     → bytes_eq name (codes "help") ≡ false → level_fault s [] nothing_held words false [] ≡ []
-    → IsAsked s.name (rows_after s.rules [] words)
+    → HasOneVolume (Some (s.name, rows_after s.rules [] words)) → IsAsked s.name (rows_after s.rules [] words)
 
 data EachAsks : List Shape → Type 0 where
   none : EachAsks []
@@ -176,13 +177,14 @@ found_asks p s (also {s = x} {rest = rest} here behind) e = go (p x) refl e (λ 
 
 -- of a command of which each argument takes one value
 asks_it : (s : Shape) → s.args_override_self ≡ false → s.subcommand_negates_reqs ≡ false
-    → list_all takes_one s.rules ≡ true → ((rows : List Row) → AreGiven s rows → IsAsked s.name rows) → AsksIt s
-asks_it s once negates ok asked name words named no_help fault =
-    asked (rows_after s.rules [] words) (leaf_given s words once negates ok fault)
+    → list_all takes_one s.rules ≡ true
+    → ((rows : List Row) → AreGiven s rows → HasOneVolume (Some (s.name, rows)) → IsAsked s.name rows) → AsksIt s
+asks_it s once negates ok asked name words named no_help fault one =
+    asked (rows_after s.rules [] words) (leaf_given s words once negates ok fault) one
 
 -- `help` isn't met
 help_asks : (s : Shape) → s.name ≡ codes "help" → s.aliases ≡ [] → AsksIt s
-help_asks s is alone name words named no_help fault =
+help_asks s is alone name words named no_help fault one =
     let same : (bytes_eq (codes "help") name || false) ≡ true = rw (is, alone) at named in
     let help : codes "help" ≡ name = (bytes_eq-Decides (codes "help") name).0 (or_false _ same) in
     absurd (true≢false (sym ((bytes_eq-Decides name (codes "help")).1 (sym help)) ∙ no_help))
@@ -190,26 +192,27 @@ help_asks s is alone name words named no_help fault =
 each_asks : EachAsks (built tool).subs
 unfolding tool
 each_asks =
-    also (asks_it _ refl refl refl (λ rows given. list_asked _ rows given refl refl refl))
-    (also (asks_it _ refl refl refl (λ rows given. check_asked _ rows given refl refl refl))
-    (also (asks_it _ refl refl refl (λ rows given. show_asked _ rows given refl refl refl refl))
-    (also (asks_it _ refl refl refl (λ rows given. extract_asked _ rows given refl refl refl refl refl))
-    (also (asks_it _ refl refl refl (λ rows given. compose_asked _ rows given refl refl refl refl))
-    (also (asks_it _ refl refl refl (λ rows given. normalise_asked _ rows given refl refl refl refl))
-    (also (asks_it _ refl refl refl (λ rows given. same_asked _ rows given refl refl refl refl))
-    (also (asks_it _ refl refl refl (λ rows given. change_asked _ rows given refl refl refl refl refl refl refl))
-    (also (asks_it _ refl refl refl (λ rows given. rename_asked _ rows given refl refl refl refl refl refl))
+    also (asks_it _ refl refl refl (λ rows given one. list_asked _ rows given refl refl refl))
+    (also (asks_it _ refl refl refl (λ rows given one. check_asked _ rows given refl refl refl))
+    (also (asks_it _ refl refl refl (λ rows given one. show_asked _ rows given refl refl refl refl))
+    (also (asks_it _ refl refl refl (λ rows given one. extract_asked _ rows given refl refl refl refl one))
+    (also (asks_it _ refl refl refl (λ rows given one. compose_asked _ rows given refl refl refl refl))
+    (also (asks_it _ refl refl refl (λ rows given one. normalise_asked _ rows given refl refl refl refl))
+    (also (asks_it _ refl refl refl (λ rows given one. same_asked _ rows given refl refl refl refl))
+    (also (asks_it _ refl refl refl (λ rows given one. change_asked _ rows given refl refl refl refl refl refl refl))
+    (also (asks_it _ refl refl refl (λ rows given one. rename_asked _ rows given refl refl refl refl refl refl))
     (also (help_asks _ refl refl) none)))))))))
 
-tool_met : (words : List Text) → Takes words → IsMet (built tool) (argument_words tool words)
+tool_met : (words : List Text) → fault_of tool words ≡ [] → IsMet (built tool) (argument_words tool words)
 unfolding tool
 tool_met words takes = met (built tool) (argument_words tool words) refl refl takes
 
 -- words that are taken are a request
 pub taken_asked : (words : List Text) → Takes words → (r : Request) × IsRequest (subcommand_of tool words) r
 taken_asked words takes =
-    let m = tool_met words takes in
+    let m = tool_met words takes.0 in
     let asks = found_asks (λ s. answers_to m.name (label_of s)) m.shape each_asks m.found in
-    let asked = asks.0 m.name m.behind asks.1 m.no_help m.fault in
     let rows = rows_after m.shape.rules [] m.behind in
+    let one : HasOneVolume (Some (m.shape.name, rows)) = subst HasOneVolume m.is takes.1 in
+    let asked = asks.0 m.name m.behind asks.1 m.no_help m.fault one in
     (asked.0, (rows, m.is ∙ ap (λ (name : Text). Some (name, rows)) (sym asked.1), asked.2))

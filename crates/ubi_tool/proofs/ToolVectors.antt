@@ -1,5 +1,5 @@
 -- Which words the command line takes.
-use Rattle.std.proofs.Common.{◌≡◌, ◌∷◌, [], List, codes, refl}
+use Rattle.std.proofs.Common.{◌≡◌, ◌∷◌, [], List, codes, false, refl, sym, true, true≢false}
 use Rattle.clap.specs.Faults.{fault_of}
 use Rattle.clap.specs.Walk.{Text}
 use Rattle.clap.specs.declared.error.kind.ErrorKind.TheVariants as kind
@@ -12,7 +12,23 @@ words behind = codes "ubi_tool" ∷ codes "list" ∷ codes "a.img" ∷ codes "--
 
 taken : Takes (words (codes "--page=64" ∷ []))
 unfolding clap_on_literals tool
-taken = refl
+taken = (refl, λ behind named. absurd (cc))
+
+-- a line of `extract`, with the options that name the volume
+abbrev extract_words : List Text → List Text
+extract_words volume = codes "ubi_tool" ∷ codes "extract" ∷ codes "a.img" ∷ codes "--peb=512" ∷ codes "--page=64" ∷ codes "--out=b" ∷ volume
+
+by_name : fault_of tool (extract_words (codes "--name=root" ∷ [])) ≡ []
+unfolding clap_on_literals tool
+by_name = refl
+
+two_volumes : Takes (extract_words (codes "--name=root" ∷ codes "--id=0" ∷ [])) → ⊥
+unfolding clap_on_literals tool
+two_volumes takes = let both : true ≡ false = takes.1 _ refl in true≢false both
+
+no_volume : Takes (extract_words []) → ⊥
+unfolding clap_on_literals tool
+no_volume takes = let neither : false ≡ true = takes.1 _ refl in true≢false (sym neither)
 
 no_page : fault_of tool (words []) ≡ kind.MissingRequiredArgument ∷ []
 unfolding clap_on_literals tool

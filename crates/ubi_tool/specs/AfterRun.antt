@@ -1,5 +1,5 @@
 -- What is known of a source after a command over it.
-use Rattle.std.specs.Prelude.{◌≡◌, ℕ, List, Result, Ok, Err, codes}
+use Rattle.std.specs.Prelude.{◌≡◌, ◌≢◌, ℕ, List, Result, Ok, Err, codes}
 use Rattle.ubi_scan.specs.Source.{Source, failed}
 use Rattle.ubi_tool.specs.Answer.{Gives, says}
 use Rattle.ubi_tool.specs.Lines.{file_line}
@@ -23,6 +23,12 @@ after_run k (Err e) = after_fault k e
 abbrev pub IsNoWrite : ToolError → Type 0
 IsNoWrite tool.Write = ⊥
 IsNoWrite _ = Unit {0}
+
+-- a fact that holds where a command writes nothing: where its answer isn't that all is done, or memory ran out
+abbrev pub WhereUnwritten : Type 0 → Result Outcome ToolError → Type 0
+WhereUnwritten fact (Ok o) = o.status ≢ 0 → fact
+WhereUnwritten fact (Err tool.Memory) = fact
+WhereUnwritten fact (Err e) = Unit {0}
 
 -- what is told of work over a file: its outcome, or the line of the file, where a read of it failed
 pub data IsTold (work : Result Outcome ToolError) (path : List ℕ) : Outcome → Type 0 where

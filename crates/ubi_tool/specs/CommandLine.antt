@@ -8,6 +8,8 @@ use Rattle.ubi_tool.specs.declared.command_line.Rename.{Rename}
 use Rattle.ubi_tool.specs.declared.command_line.Request.{Request}
 use Rattle.ubi_tool.specs.declared.command_line.Request.TheVariants as request
 use Rattle.ubi_tool.specs.declared.numbers.Numbers.{Numbers}
+use Rattle.ubi_tool.specs.declared.volume_key.VolumeKey.{VolumeKey}
+use Rattle.ubi_tool.specs.declared.volume_key.VolumeKey.TheVariants as key
 
 -- the command by which a request is made
 abbrev pub command_name : Request → List ℕ
@@ -53,6 +55,11 @@ AsksNumbers words numbers = HasNumber words (codes "peb") numbers.peb_size
     × MayHaveNumber words (codes "data") numbers.data_offset
     × MayHaveNumber words (codes "pebs") numbers.pebs
 
+-- the words name this volume: by its number or by its name, and not by both
+abbrev pub AsksKey : List Row → VolumeKey → Type 0
+AsksKey words (key.Id id) = HasNumber words (codes "id") id × (first_of (codes "name") words ≡ None)
+AsksKey words (key.Name name) = HasText words (codes "name") name × (first_of (codes "id") words ≡ None)
+
 -- the words give this change
 abbrev pub AsksChange : List Row → Change → Type 0
 AsksChange words change = HasNumber words (codes "id") change.id
@@ -74,8 +81,8 @@ Asks words (request.List numbers image) = AsksNumbers words numbers × HasText w
 Asks words (request.Check numbers image) = AsksNumbers words numbers × HasText words (codes "IMAGE") image
 Asks words (request.Show numbers image block) = AsksNumbers words numbers × HasText words (codes "IMAGE") image
     × HasNumber words (codes "block") block
-Asks words (request.Extract numbers image id out) = AsksNumbers words numbers × HasText words (codes "IMAGE") image
-    × HasNumber words (codes "id") id × HasText words (codes "out") out
+Asks words (request.Extract numbers image key out) = AsksNumbers words numbers × HasText words (codes "IMAGE") image
+    × AsksKey words key × HasText words (codes "out") out
 Asks words (request.Compose numbers spec out spares seq) = AsksNumbers words numbers × HasText words (codes "SPEC") spec
     × HasText words (codes "out") out × HasNumberOr 0 words (codes "spares") spares
     × HasNumberOr 0 words (codes "seq") seq

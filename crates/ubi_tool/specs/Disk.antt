@@ -1,5 +1,5 @@
 -- What is known of files by their paths.
-use Rattle.std.specs.Prelude.{◌≡◌, ◌≢◌, ◌⊎◌, ℕ, Bool, IfSome, List, [], None, Option, Some, false, if◌then◌else◌}
+use Rattle.std.specs.Prelude.{◌≡◌, ◌≢◌, ℕ, Bool, IfSome, List, [], None, Option, Some, false, if◌then◌else◌}
 use Rattle.std.specs.Io.KnownBytes.{Appends}
 use Rattle.ubi_media.specs.Geometry.{Sizes}
 use Rattle.ubi_scan.specs.Image.{judged}
@@ -35,10 +35,10 @@ IsJudgedOf d path s bytes = IfSome (d.holds path) (λ all. bytes ≡ judged s al
 abbrev pub IsTextOf : Files → List ℕ → List ℕ → Type 0
 IsTextOf d path bytes = IfSome (d.holds path) (λ all. bytes ≡ all)
 
--- where work ended with an outcome, the file at a path holds what it received; or it holds what it held, since there was
--- nothing to write
-abbrev pub IsLeft : Files → Files → List ℕ → Option (List ℕ) → Outcome → Type 0
-IsLeft old new path received o = Holds new path received ⊎ ((o.status ≢ 0) × (new.holds path ≡ old.holds path))
+-- where work ended with an outcome, the file at a path holds what it received, if all is done; and else what it held
+pub record IsLeft (old new : Files) (path : List ℕ) (received : Option (List ℕ)) (o : Outcome) : Type 0 where
+  pub done : o.status ≡ 0 → Holds new path received
+  pub refused : o.status ≢ 0 → new.holds path ≡ old.holds path
 
 -- each path but one holds what it held
 abbrev pub OthersStay : Files → Files → List ℕ → Type 0

@@ -7,6 +7,7 @@ pub mod Compose
 pub mod Disk
 pub mod Extract
 pub mod Headline
+pub mod Key
 pub mod Late
 pub mod Laws
 pub mod Lines

@@ -99,8 +99,8 @@ abbrev pub IsAnswerTo : Files → Files → Request → Outcome → Type 0
 IsAnswerTo d e (request.List numbers path) = OfFile d numbers path.now ListsOf
 IsAnswerTo d e (request.Check numbers path) = OfFile d numbers path.now ChecksOf
 IsAnswerTo d e (request.Show numbers path p) = OfFile d numbers path.now (ShowsOf p)
-IsAnswerTo d e (request.Extract numbers path id out) =
-    OfFile d numbers path.now (λ s k agrees. WritesInto out.now d e (ExtractsOf id s k agrees) (HasTextIn id s agrees))
+IsAnswerTo d e (request.Extract numbers path key out) =
+    OfFile d numbers path.now (λ s k agrees. WritesInto out.now d e (ExtractsOf key s k agrees) (HasTextIn key s agrees))
 IsAnswerTo d e (request.Compose numbers spec out spares seq) =
     OfText d numbers spec.now (λ s t. ComposesInto out.now d e s t spares seq)
 IsAnswerTo d e (request.Normalise numbers path out) =

@@ -1,8 +1,8 @@
 -- The command line: which commands there are, and which words each takes.
-use Rattle.std.specs.Prelude.{◌≡◌, ◌∷◌, ◌++◌, [], List, Some, codes, pos, true, false}
+use Rattle.std.specs.Prelude.{◌≡◌, ◌∷◌, ◌++◌, [], List, Option, Some, codes, is_some, not, pos, true, false}
 use Rattle.clap.specs.Faults.{fault_of}
 use Rattle.clap.specs.Simple.{App, Shape, new_rule, new_shape, subcommand_of}
-use Rattle.clap.specs.Walk.{Rule, Text}
+use Rattle.clap.specs.Walk.{Row, Rule, Text, first_of}
 use Rattle.clap.specs.declared.builder.value_parser.ValueParser.TheVariants as parser
 use Rattle.ubi_tool.specs.CommandLine.{IsRequest}
 use Rattle.ubi_tool.specs.declared.command_line.Request.{Request}
@@ -52,9 +52,9 @@ check = on_image (codes "check") []
 abbrev pub show : Shape
 show = on_image (codes "show") (needed (number (codes "block")) ∷ [])
 
--- `extract`, over an image, with the file to write and the volume
+-- `extract`, over an image, with the file to write, and the number or the name of the volume
 abbrev pub extract : Shape
-extract = on_image (codes "extract") (output ∷ volume ∷ [])
+extract = on_image (codes "extract") (output ∷ number (codes "id") ∷ option (codes "name") ∷ [])
 
 -- `compose`, over a text, with the file to write, and the spare eraseblocks and the image sequence number if given
 abbrev pub compose : Shape
@@ -88,9 +88,14 @@ tool = record {
   subs = list ∷ check ∷ show ∷ extract ∷ compose ∷ normalise ∷ same ∷ change ∷ rename ∷ [];
 }
 
+-- of the words of `extract`, just one names the volume
+abbrev pub HasOneVolume : Option (Text × List Row) → Type 0
+HasOneVolume named = (words : List Row) → named ≡ Some (codes "extract", words)
+    → is_some (first_of (codes "name") words) ≡ not (is_some (first_of (codes "id") words))
+
 -- the command line takes the words, the program's name first: nothing is wrong with them, and they ask for no help
 abbrev pub Takes : List Text → Type 0
-Takes words = fault_of tool words ≡ []
+Takes words = (fault_of tool words ≡ []) × HasOneVolume (subcommand_of tool words)
 
 -- the words are taken, and are this request
 abbrev pub Requests : List Text → Request → Type 0

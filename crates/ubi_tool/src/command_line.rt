@@ -4,12 +4,13 @@ ghost use Rattle.std.specs.Prelude.{◌≡◌, ◌∷◌, [], IfOk, codes, false
 ghost use Rattle.clap.specs.Built.{subcommand_names};
 ghost use Rattle.clap.specs.Simple.{app_of, new_rule, new_shape, subcommand_rows_of};
 ghost use Rattle.clap.specs.Walk.{Text, rule_of};
-ghost use Rattle.ubi_tool.specs.CommandLine.{AsksChange, AsksNumbers, AsksRename, HasNumber, HasText, IsOneOf, IsRequest, MayHaveNumber, command_names};
+ghost use Rattle.ubi_tool.specs.CommandLine.{AsksChange, AsksKey, AsksNumbers, AsksRename, HasNumber, HasText, IsOneOf, IsRequest, MayHaveNumber, command_names};
 ghost use Rattle.ubi_tool.specs.Tool as tool;
 ghost use Rattle.ubi_tool.specs.Tool.{tool as whole};
 ghost use Rattle.ubi_tool.specs.inner.CommandLine.{HasOneMore, IsAskedBy, alone, words_in};
 
 use crate::numbers::Numbers;
+use crate::volume_key::VolumeKey;
 use clap::{Arg, ArgMatches, Command, value_parser};
 use std::alloc::{AllocError, Global};
 
@@ -36,7 +37,7 @@ pub enum Request<'a> {
     Extract {
         numbers: Numbers,
         image: &'a str,
-        id: u32,
+        key: VolumeKey<'a>,
         out: &'a str,
     },
     /// The image that a text file describes, into another file.
@@ -207,7 +208,7 @@ fn extract_of<'a>(matches: &'a ArgMatches<'_>) -> Option<Request<'a>>
     Some(Request::Extract {
         numbers: numbers_of(matches)?,
         image: text_of(matches, "IMAGE")?,
-        id: number_of(matches, "id")?,
+        key: key_of(matches)?,
         out: text_of(matches, "out")?,
     })
 }
@@ -304,7 +305,19 @@ fn extract_command<'a>(alloc: Global) -> Result<Command<'a>, AllocError>
     ensures { IfOk result (λ c. app_of c ≡ alone tool.extract) }
 {
     let command = out_command(alloc, "extract", "Writes what a volume reads")?;
-    command.arg(number(alloc, "id", ID).required(true))
+    let command = command.arg(number(alloc, "id", ID))?;
+    command.arg(volume_name(alloc))
+}
+
+/// The option that names a volume.
+fn volume_name<'a>(alloc: Global) -> Arg<'a>
+    ensures rule { rule_of result ≡ tool.option (codes "name") }
+    ensures global { result.global ≡ false }
+{
+    Arg::new(alloc, "name")
+        .long("name")
+        .value_name("NAME")
+        .help("The name of the volume, as `list` prints names, in place of --id")
 }
 
 fn compose_command<'a>(alloc: Global) -> Result<Command<'a>, AllocError>
@@ -497,6 +510,17 @@ fn number<'a>(alloc: Global, name: &'a str, help: &'a str) -> Arg<'a>
         .value_name("N")
         .help(help)
         .value_parser(value_parser!(u32))
+}
+
+/// The volume that the words name, by its number or by its name. None where they do neither, or both.
+fn key_of<'a>(matches: &'a ArgMatches<'_>) -> Option<VolumeKey<'a>>
+    ensures { IsOneOf (AsksKey (words_in matches.now)) result }
+{
+    match (text_of(matches, "id"), text_of(matches, "name")) {
+        (Some(_), None) => Some(VolumeKey::Id(number_of(matches, "id")?)),
+        (None, Some(name)) => Some(VolumeKey::Name(name)),
+        _ => None,
+    }
 }
 
 fn leb_change<'a>(matches: &'a ArgMatches<'_>) -> Option<Change<'a>>

@@ -1,7 +1,7 @@
 //! The commands over files: what the words ask for is read, done and written.
 
 ghost use Rattle.clap.specs.Values.{kind_of};
-ghost use Rattle.std.specs.Prelude.{◌≡◌, ◌↔◌, [], IfOk, IfSome, IsErr, None, map, string_bytes};
+ghost use Rattle.std.specs.Prelude.{◌≡◌, ◌↔◌, [], IfOk, IfSome, IsErr, None, OnErr, map, string_bytes};
 ghost use Rattle.ubi_tool.specs.Answer.{Gives, says};
 ghost use Rattle.ubi_tool.specs.Compose.{ComposesInto};
 ghost use Rattle.ubi_tool.specs.Disk.{AllStay, OthersStay};
@@ -35,7 +35,8 @@ pub fn run_words<D: Disk + Eprint>(
     words: &[String],
     is_watched: bool,
 ) -> Result<Outcome, AllocError>
-    ensures { IfOk result (IsAnswer (map (λ word. string_bytes word) words.now) (D.files disk.old) (D.files disk.new)) }
+    ensures answer { IfOk result (IsAnswer (map (λ word. string_bytes word) words.now) (D.files disk.old) (D.files disk.new)) }
+    ensures memory { OnErr result (AllStay (D.files disk.old) (D.files disk.new)) }
 {
     let matches = match command_line(alloc)?.try_get_matches_from(words) {
         Ok(matches) => matches,
@@ -44,7 +45,13 @@ pub fn run_words<D: Disk + Eprint>(
     run_asked(disk, alloc, request_of(&matches), is_watched)
 }
 
-/// Runs what the words ask for, where they ask for anything.
+/// What is wrong with words that the command line reads, and that ask for nothing.
+const ONE_VOLUME: &str = "error: either '--id <N>' or '--name <NAME>' names the volume, and not both
+
+For more information, try '--help'.
+";
+
+/// Runs what the words ask for. Where they name no volume to extract, or two, that is printed to standard error.
 fn run_asked<D: Disk + Eprint>(
     disk: &mut D,
     alloc: Global,
@@ -53,10 +60,14 @@ fn run_asked<D: Disk + Eprint>(
 ) -> Result<Outcome, AllocError>
     ensures none { request.entry ≡ None → IfOk result (λ o. Gives o (says [] 2) × AllStay (D.files disk.old) (D.files disk.new)) }
     ensures some { IfSome request.entry (λ r. IfOk result (λ o. IsAnswerTo (D.files disk.old) (D.files disk.new) r o × IsAllElse r (D.files disk.old) (D.files disk.new))) }
+    ensures memory { OnErr result (AllStay (D.files disk.old) (D.files disk.new)) }
 {
     match request {
         Some(request) => run_request(disk, alloc, request, is_watched),
-        None => Ok(nothing(alloc)),
+        None => {
+            let _ = disk.eprint(ONE_VOLUME);
+            Ok(nothing(alloc))
+        }
     }
 }
 
@@ -69,6 +80,7 @@ fn run_request<D: Disk + Eprint>(
 ) -> Result<Outcome, AllocError>
     ensures answer { IfOk result (IsAnswerTo (D.files disk.old) (D.files disk.new) request.entry) }
     ensures others { IsAllElse request.entry (D.files disk.old) (D.files disk.new) }
+    ensures memory { OnErr result (AllStay (D.files disk.old) (D.files disk.new)) }
 {
     match request {
         Request::List { numbers, image } => read_file(disk, alloc, numbers, image, &Listing),
@@ -81,11 +93,11 @@ fn run_request<D: Disk + Eprint>(
         Request::Extract {
             numbers,
             image,
-            id,
+            key,
             out,
         } => {
             let paths = Paths { image, out };
-            write_file(disk, alloc, numbers, &paths, &Extracting { id }, false)
+            write_file(disk, alloc, numbers, &paths, &Extracting { key }, false)
         }
         Request::Compose {
             numbers,
@@ -132,6 +144,7 @@ fn compose_file<D: Disk>(
 ) -> Result<Outcome, AllocError>
     ensures answer { IfOk result (OfText (D.files disk.old) numbers spec.now (λ s t. ComposesInto out.now (D.files disk.old) (D.files disk.new) s t spares image_seq)) }
     ensures others { OthersStay (D.files disk.old) (D.files disk.new) out.now }
+    ensures memory { OnErr result (AllStay (D.files disk.old) (D.files disk.new)) }
 {
     let file = match load_spec(disk, alloc, numbers, spec) {
         Ok(file) => file,

@@ -1,5 +1,7 @@
 //! The files of the system.
 
+ghost use Rattle.std.specs.Prelude.{◌≡◌};
+
 use crate::disk::{Disk, OutputFile, WholeFile};
 use crate::image_source::{source_at, source_of};
 use crate::outcome::ToolError;
@@ -19,7 +21,9 @@ pub struct Host<'a, R> {
 
 impl<'a, R> Host<'a, R> {
     /// The files that `rt` reaches.
-    pub fn new(rt: &'a R) -> Host<'a, R> {
+    pub fn new(rt: &'a R) -> Host<'a, R>
+        ensures { result.rt.now ≡ rt.now }
+    {
         Host { rt }
     }
 }

@@ -36,6 +36,7 @@ mod rename;
 mod same;
 mod show;
 mod spec_file;
+mod volume_key;
 mod writers;
 
 use host::Host;

@@ -2,9 +2,9 @@
 
 ghost use Rattle.std.specs.Io.KnownBytes.{Appends};
 ghost use Rattle.std.specs.Option.{ForSome};
-ghost use Rattle.std.specs.Prelude.{◌≡◌, IfOk, IsSome, None, OnOk, codes};
+ghost use Rattle.std.specs.Prelude.{◌≡◌, IfOk, IsSome, None, OnErr, OnOk, codes};
 ghost use Rattle.ubi_tool.specs.Answer.{Gives, says};
-ghost use Rattle.ubi_tool.specs.Disk.{IsKept, OthersStay, Receives, fresh};
+ghost use Rattle.ubi_tool.specs.Disk.{AllStay, IsKept, OthersStay, Receives, fresh};
 ghost use Rattle.ubi_tool.specs.Late.{contents_of};
 ghost use Rattle.ubi_tool.specs.Lines.{file_line};
 ghost use Rattle.ubi_tool.specs.Program.{WritesFile};
@@ -70,6 +70,7 @@ fn write_to<D: Disk, K: Target>(
     requires empty { fresh (D.files disk.old) ≡ K.empty }
     ensures answer { IfOk result (WritesFile output.entry.path.now (D.files disk.old) (D.files disk.new) outcome) }
     ensures others { OthersStay (D.files disk.old) (D.files disk.new) output.entry.path.now }
+    ensures memory { OnErr result (AllStay (D.files disk.old) (D.files disk.new)) }
 {
     let Some(bytes) = &outcome.file else {
         return Ok(outcome);
@@ -96,6 +97,7 @@ pub fn write_outcome<D: Disk>(
 ) -> Result<Outcome, AllocError>
     ensures answer { IfOk result (WritesFile path.now (D.files disk.old) (D.files disk.new) outcome) }
     ensures others { OthersStay (D.files disk.old) (D.files disk.new) path.now }
+    ensures memory { OnErr result (AllStay (D.files disk.old) (D.files disk.new)) }
 {
     write_to::<D, Brand>(disk, alloc, outcome, Output { path })
 }

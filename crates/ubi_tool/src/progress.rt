@@ -26,7 +26,7 @@ pub struct Told<'a, R, W> {
 impl<'a, R: Eprint, W: Write> Told<'a, R, W> {
     /// A writer of work on `most` bytes, which is told of where these are many and somebody watches.
     pub fn new(rt: &'a R, writer: W, most: u64, is_watched: bool) -> Told<'a, R, W>
-        ensures { W.contents result.writer ≡ W.contents writer }
+        ensures { result.writer ≡ writer }
     {
         Told {
             rt,

@@ -2,12 +2,12 @@
 //!
 //! The image is read at places; or whole, where that can't be or where it may be the output too.
 
-ghost use Rattle.std.specs.Prelude.{◌≡◌, ℕ, Bool, Err, IfOk, List, MatchResult, Ok, Option, Result, is_some};
+ghost use Rattle.std.specs.Prelude.{◌≡◌, ◌≢◌, ℕ, Bool, Err, IfOk, List, MatchResult, Ok, OnErr, Option, Result, is_some};
 ghost use Rattle.ubi_media.specs.Geometry.{Sizes};
 ghost use Rattle.ubi_scan.specs.Source.{Agreed, Narrows, Source};
-ghost use Rattle.ubi_tool.specs.AfterRun.{after_run};
+ghost use Rattle.ubi_tool.specs.AfterRun.{WhereUnwritten, after_run};
 ghost use Rattle.ubi_tool.specs.Change.{ChangesFrom, HasPlan};
-ghost use Rattle.ubi_tool.specs.Disk.{OthersStay, fresh};
+ghost use Rattle.ubi_tool.specs.Disk.{AllStay, OthersStay, fresh};
 ghost use Rattle.ubi_tool.specs.Late.{contents_of};
 ghost use Rattle.ubi_tool.specs.Rename.{HasRename, RenamesFrom};
 ghost use Rattle.ubi_tool.specs.Opened.{IsOpened, IsUnreadOf};
@@ -29,6 +29,7 @@ use crate::outcome::{DONE, Outcome, ToolError};
 use crate::output_file::{keep_file, unwritten_line};
 use crate::progress::Told;
 use crate::rename::run_rename_from;
+use crate::volume_key::VolumeKey;
 use std::alloc::{AllocError, Global};
 use std::io::Write;
 use std::marker::Brand;
@@ -58,6 +59,7 @@ pub trait Writing {
         ensures known { S.known source.new ≡ after_run (S.known source.old) result }
         ensures narrows { Narrows (S.agrees source.old) (S.agrees source.new) }
         ensures answer { IfOk result (answers self.now geometry.now (S.known source.old) (S.agrees source.new) (W.contents writer.old) (W.contents writer.new)) }
+        ensures untouched { WhereUnwritten (writer.new ≡ writer.old) result }
         ensures done { IfOk result (λ o. o.status ≡ 0 → writes self.now geometry.now (S.known source.old) (S.agrees source.new)) }
         ensures failed { result ≡ Err ToolError.Write → writes self.now geometry.now (S.known source.old) (S.agrees source.new) };
 }
@@ -86,17 +88,17 @@ impl Writing for Normalising {
 
 /// `extract`: what a volume reads.
 #[derive(Clone, Copy)]
-pub struct Extracting {
-    /// The number of the volume.
-    pub id: u32,
+pub struct Extracting<'a> {
+    /// The volume.
+    pub key: VolumeKey<'a>,
 }
 
-impl Writing for Extracting {
+impl Writing for Extracting<'_> {
     ghost use Rattle.ubi_tool.specs.Extract.{ExtractsOf, HasTextIn};
 
-    ghost answers = { λ extracting. ExtractsOf extracting.id };
+    ghost answers = { λ extracting. ExtractsOf extracting.key };
 
-    ghost writes = { λ extracting s k agrees. HasTextIn extracting.id s agrees };
+    ghost writes = { λ extracting s k agrees. HasTextIn extracting.key s agrees };
 
     fn answer<S: BlockSource, W: Write>(
         &self,
@@ -105,7 +107,7 @@ impl Writing for Extracting {
         source: &mut S,
         writer: &mut W,
     ) -> Result<Outcome, ToolError> {
-        run_extract_from(alloc, geometry, source, self.id, writer)
+        run_extract_from(alloc, geometry, source, self.key, writer)
     }
 }
 
@@ -191,6 +193,7 @@ fn finished<D: Disk, K: Target>(
 ) -> Outcome
     ensures answer { (unread : Outcome) → IsEnded (Ok outcome) (is_some late.new.file) unread unwritten result }
     ensures contents { contents_of K.empty (λ f. D.Output.contents f.writer) late.new.file ≡ contents_of K.empty (λ f. D.Output.contents f.writer) late.old.file }
+    ensures refused { outcome.status ≢ 0 → late.new.file ≡ late.old.file }
 {
     if outcome.status != DONE {
         return outcome;
@@ -214,6 +217,7 @@ fn ended<D: Disk, K: Target>(
 ) -> Result<Outcome, AllocError>
     ensures answer { MatchResult result (IsEnded answer (is_some late.new.file) unread unwritten) (λ _. answer ≡ Err ToolError.Memory) }
     ensures contents { contents_of K.empty (λ f. D.Output.contents f.writer) late.new.file ≡ contents_of K.empty (λ f. D.Output.contents f.writer) late.old.file }
+    ensures untouched { WhereUnwritten (late.new.file ≡ late.old.file) answer }
 {
     match answer {
         Ok(outcome) => Ok(finished(outcome, late, unwritten)),
@@ -245,6 +249,7 @@ fn work_into<D: Disk + Eprint, S: BlockSource, C: Writing, K: Target>(
     ensures narrows { Narrows (S.agrees source.old) (S.agrees source.new) }
     ensures answer { IfOk result (Works (S.known source.old) (S.known source.new) paths.now.image.now (WritesInto paths.now.out.now (D.files disk.old) (D.files disk.new) (C.answers command.now geometry.now (S.known source.old) (S.agrees source.new)) (C.writes command.now geometry.now (S.known source.old) (S.agrees source.new)))) }
     ensures others { OthersStay (D.files disk.old) (D.files disk.new) paths.now.out.now }
+    ensures memory { OnErr result (AllStay (D.files disk.old) (D.files disk.new)) }
 {
     // Made before the output is opened, so that no part of it is written where memory runs out.
     let unread = unread_line(alloc, paths.image)?;
@@ -271,6 +276,7 @@ fn write_opened<D: Disk + Eprint, C: Writing>(
 ) -> Result<Outcome, AllocError>
     ensures answer { (numbers : Numbers) → IsOpened (λ s. IsUnreadOf (D.files disk.old) paths.now.image.now (D.Placed.bytes s.file) s.failures) (D.files disk.old) paths.now.image.now numbers opened → IfOk result (OfFile (D.files disk.old) numbers paths.now.image.now (λ s k agrees. WritesInto paths.now.out.now (D.files disk.old) (D.files disk.new) (C.answers command.now s k agrees) (C.writes command.now s k agrees))) }
     ensures others { OthersStay (D.files disk.old) (D.files disk.new) paths.now.out.now }
+    ensures memory { OnErr result (AllStay (D.files disk.old) (D.files disk.new)) }
 {
     match opened {
         OpenImage::AtPlaces(mut file) => {
@@ -305,6 +311,7 @@ pub fn write_file<D: Disk + Eprint, C: Writing>(
 ) -> Result<Outcome, AllocError>
     ensures answer { IfOk result (OfFile (D.files disk.old) numbers paths.now.image.now (λ s k agrees. WritesInto paths.now.out.now (D.files disk.old) (D.files disk.new) (C.answers command.now s k agrees) (C.writes command.now s k agrees))) }
     ensures others { OthersStay (D.files disk.old) (D.files disk.new) paths.now.out.now }
+    ensures memory { OnErr result (AllStay (D.files disk.old) (D.files disk.new)) }
 {
     match open_beside(disk, alloc, numbers, paths.image, paths.out) {
         Ok(opened) => write_opened(disk, alloc, opened, paths, command, is_watched),
@@ -322,6 +329,7 @@ pub fn change_file<D: Disk + Eprint>(
 ) -> Result<Outcome, AllocError>
     ensures answer { IfOk result (OfFile (D.files disk.old) numbers image.now (λ s k agrees. OfImage (D.files disk.old) numbers asked.now.from.now (λ f. WritesInto asked.now.out.now (D.files disk.old) (D.files disk.new) (ChangesFrom asked.now.id asked.now.lnum f.bytes asked.now.stop s k agrees) (HasPlan asked.now.id asked.now.lnum f.bytes s k agrees)))) }
     ensures others { OthersStay (D.files disk.old) (D.files disk.new) asked.now.out.now }
+    ensures memory { OnErr result (AllStay (D.files disk.old) (D.files disk.new)) }
 {
     let opened = match open_beside(disk, alloc, numbers, image, asked.out) {
         Ok(opened) => opened,
@@ -357,6 +365,7 @@ pub fn rename_file<D: Disk + Eprint>(
 ) -> Result<Outcome, AllocError>
     ensures answer { IfOk result (OfFile (D.files disk.old) numbers image.now (λ s k agrees. WritesInto asked.now.out.now (D.files disk.old) (D.files disk.new) (RenamesFrom asked.now.id asked.now.name.now asked.now.stop s k agrees) (HasRename asked.now.id asked.now.name.now s k agrees))) }
     ensures others { OthersStay (D.files disk.old) (D.files disk.new) asked.now.out.now }
+    ensures memory { OnErr result (AllStay (D.files disk.old) (D.files disk.new)) }
 {
     let paths = Paths {
         image,

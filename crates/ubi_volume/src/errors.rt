@@ -105,3 +105,14 @@ pub struct MeaningError {
     /// The volumes, as they were handed in.
     pub volumes: Vec<(u32, Volume)>,
 }
+
+impl fmt::Display for MeaningError {
+    ghost use Rattle.std.specs.Prelude.{Some};
+    ghost use Rattle.ubi_volume.specs.ErrorTexts.{meaning_cause_text};
+
+    ghost output = { λ error. Some (meaning_cause_text error.cause) };
+
+    fn fmt<W: fmt::Write>(&self, f: &mut fmt::Formatter<W>) -> fmt::Result {
+        write!(f, "{}", self.cause)
+    }
+}

@@ -4,34 +4,52 @@ use super::answers::{assert_both, small};
 use super::contents::{Contents, EMPTY};
 use crate::extract::run_extract;
 use crate::outcome::ToolError;
+use crate::volume_key::VolumeKey;
 use std::alloc::Global;
 use std::io::ErrorKind;
 use std::test::Fail;
 use ubi_volume::{Failure, ProbeWriter};
 
-/// An image, a volume, what is answered, and what is written.
-static EXTRACTED: [(Contents, u32, (&str, u8), Contents); 9] = [
-    (Contents::Root, 0, ("bytes 7680\n", 0), Contents::RootText),
-    (Contents::EmptyBoot, 0, ("bytes 0\n", 0), EMPTY),
+/// An image, the words that name a volume, what is answered, and what is written.
+static EXTRACTED: [(Contents, &str, (&str, u8), Contents); 16] = [
+    (Contents::Root, "--id 0", ("bytes 7680\n", 0), Contents::RootText),
+    (Contents::Root, "--name root", ("bytes 7680\n", 0), Contents::RootText),
+    (Contents::Root, "--name r\\x6fo\\x74", ("bytes 7680\n", 0), Contents::RootText),
+    (Contents::Root, "--name roo", ("refused L1 NoVolume\n", 1), EMPTY),
+    (Contents::Root, "--name Root", ("refused L1 NoVolume\n", 1), EMPTY),
+    (Contents::Root, "--name roo\\x7", ("refused L1 NoVolume\n", 1), EMPTY),
+    (Contents::EmptyBoot, "--id 0", ("bytes 0\n", 0), EMPTY),
     (
         Contents::WholeBoot,
-        0,
+        "--id 0",
         ("bytes 385\n", 0),
         Contents::Runs(&[(b"A", 384), (b"\xFF", 1)]),
     ),
-    (Contents::Updating, 0, ("refused L2 Updating\n", 1), EMPTY),
-    (Contents::Updating, 1, ("refused L1 NoVolume\n", 1), EMPTY),
-    (Contents::Updating, 200, ("refused L1 NoVolume\n", 1), EMPTY),
-    (Contents::DamagedBoot, 0, ("refused L3 Damaged\n", 1), EMPTY),
+    (
+        Contents::WholeBoot,
+        "--name boot",
+        ("bytes 385\n", 0),
+        Contents::Runs(&[(b"A", 384), (b"\xFF", 1)]),
+    ),
+    (Contents::Updating, "--id 0", ("refused L2 Updating\n", 1), EMPTY),
+    (Contents::Updating, "--id 1", ("refused L1 NoVolume\n", 1), EMPTY),
+    (Contents::Updating, "--id 200", ("refused L1 NoVolume\n", 1), EMPTY),
+    (Contents::DamagedBoot, "--name boot", ("refused L3 Damaged\n", 1), EMPTY),
     (
         Contents::DamagedBoot,
-        u32::MAX,
+        "--id 4294967295",
         ("refused L1 NoVolume\n", 1),
         EMPTY,
     ),
     (
         Contents::Faulty,
-        0,
+        "--id 0",
+        ("refused S4 ImageSeq block=3\n", 1),
+        EMPTY,
+    ),
+    (
+        Contents::Faulty,
+        "--name none",
         ("refused S4 ImageSeq block=3\n", 1),
         EMPTY,
     ),
@@ -40,9 +58,9 @@ static EXTRACTED: [(Contents, u32, (&str, u8), Contents); 9] = [
 #[test]
 fn extracts_volumes(rt: HostRuntime) -> Result<(), Fail> {
     let alloc = rt.alloc();
-    for (image, id, answer, output) in &EXTRACTED {
+    for (image, volume, answer, output) in &EXTRACTED {
         let (image, output) = (image.bytes(alloc)?, output.bytes(alloc)?);
-        let line = format!(in alloc; "extract a.img --id {id} --out b.img")?;
+        let line = format!(in alloc; "extract a.img {volume} --out b.img")?;
         let (files, line) = ((image.as_slice(), image.as_slice()), line.as_str());
         assert_both(&rt, alloc, files, line, *answer, output.as_slice())?;
     }
@@ -57,7 +75,7 @@ fn is_cut(
     failure: Failure,
 ) -> Result<bool, Fail> {
     let mut writer = ProbeWriter::new(alloc, room, 100, failure)?;
-    let answer = run_extract(alloc, &small()?, image, 0, &mut writer);
+    let answer = run_extract(alloc, &small()?, image, VolumeKey::Id(0), &mut writer);
     Ok(answer.err() == Some(ToolError::Write) && text.get(..room) == Some(writer.taken()))
 }
 

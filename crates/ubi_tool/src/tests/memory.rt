@@ -19,6 +19,7 @@ use crate::outcome::{Outcome, ToolError};
 use crate::rename::run_rename;
 use crate::same::run_same;
 use crate::show::run_show;
+use crate::volume_key::VolumeKey;
 use std::alloc::{AllocError, Global};
 use std::cell::RefCell;
 use std::process::Abort;
@@ -102,7 +103,7 @@ fn is_extracted(
     text: &[u8],
 ) -> bool {
     let mut written = [0; 7680];
-    let answer = run_extract(alloc, geometry, image, 0, &mut written.as_mut_slice());
+    let answer = run_extract(alloc, geometry, image, VolumeKey::Id(0), &mut written.as_mut_slice());
     is_written(rt, answer, "bytes 7680\n", &written, text)
 }
 

@@ -73,7 +73,7 @@ fn shows_wrong_commands_and_help(rt: HostRuntime) -> Result<(), Fail> {
 }
 
 /// Lines of which words are missing.
-static MISSING: [(&str, &str); 19] = [
+static MISSING: [(&str, &str); 22] = [
     ("normalise a --out b --peb 512", "--page <N>"),
     ("normalise --out b --peb 512 --page 64", "<IMAGE>"),
     ("normalise a --peb 512 --page 64", "--out <FILE>"),
@@ -83,6 +83,9 @@ static MISSING: [(&str, &str); 19] = [
     ("compose a --peb 512 --page 64", "--out <FILE>"),
     ("compose --out b --peb 512 --page 64", "<SPEC>"),
     ("extract a --peb 512 --page 64 --out b", "--id <N>"),
+    ("extract a --peb 512 --page 64 --out b", "--name <NAME>"),
+    ("extract a --peb 512 --page 64 --id 0 --name a --out b", "and not both"),
+    ("extract a --peb 512 --page 64 --name a", "--out <FILE>"),
     ("extract a --peb 512 --page 64 --id 0", "--out <FILE>"),
     (
         "change a --peb 512 --page 64 --lnum 0 --from b --out c",
