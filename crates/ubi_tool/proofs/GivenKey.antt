@@ -6,7 +6,7 @@ use Rattle.std.specs.Prelude.{is_some, option_and_then, option_map, slice_get}
 use Rattle.std.specs.Str.{bytes_eq}
 use Rattle.std.specs.Str.Parse.{without_leading_plus}
 use Rattle.clap.specs.Walk.{Row, Text, first_of, one_of}
-use Rattle.ubi_tool.specs.CommandLine.{AsksKey, HasNumber, HasText, IsOneOf, IsRequest, command_name}
+use Rattle.ubi_tool.specs.CommandLine.{Asks, AsksKey, HasNumber, HasText, IsRequest, command_name}
 use Rattle.ubi_tool.specs.Tool.{HasOneVolume}
 use Rattle.ubi_tool.specs.declared.command_line.Request.{Request}
 use Rattle.ubi_tool.specs.declared.command_line.Request.TheVariants as request
@@ -45,20 +45,19 @@ text_given (Some t) some = refl
 pub number_is_text : (rows : List Row) (id : Text) (n : ℕ) → HasNumber rows id n → is_some (first_of id rows) ≡ true
 number_is_text rows id n has = text_given (first_of id rows) (λ none. no_text_no_number rows id none n has)
 
--- where no text is found, none is given
-pub no_text : (rows : List Row) (id : Text) (o : Option (Bor Text)) → o ≡ None → IsOneOf (HasText rows id) o → first_of id rows ≡ None
-no_text rows id None is h = go (first_of id rows) refl
+-- where no text is given, none is found
+pub not_given : (rows : List Row) (id : Text) → ((t : Bor Text) → HasText rows id t → ⊥) → first_of id rows ≡ None
+not_given rows id none = go (first_of id rows) refl
   where
     go : (t : Option Text) → first_of id rows ≡ t → first_of id rows ≡ None
     go None e = e
-    go (Some t) e = absurd (h (record { ref_ptr = (0, 0); now = t }) e)
-no_text rows id (Some t) is h = absurd (cc)
+    go (Some t) e = absurd (none (record { ref_ptr = (0, 0); now = t }) e)
 
--- one that is found is given
-pub some_text : (rows : List Row) (id : Text) (o : Option (Bor Text)) (t : Bor Text) → o ≡ Some t → IsOneOf (HasText rows id) o
-    → is_some (first_of id rows) ≡ true
-some_text rows id None t is h = absurd (cc)
-some_text rows id (Some s) t is h = ap is_some h
+-- words that give neither a number nor a name name no volume
+pub neither : (rows : List Row) → ((n : ℕ) → HasNumber rows (codes "id") n → ⊥)
+    → ((t : Bor Text) → HasText rows (codes "name") t → ⊥) → (k : VolumeKey) → AsksKey rows k → ⊥
+neither rows no_number no_name (key.Id id) asked = no_number id asked.0
+neither rows no_number no_name (key.Name name) asked = no_name name asked.0
 
 -- a request of `extract` names just one volume
 one_volume : (rows : List Row) (k : VolumeKey) → AsksKey rows k
@@ -67,7 +66,7 @@ one_volume rows (key.Id id) asks = ap is_some asks.1 ∙ ap not (sym (number_is_
 one_volume rows (key.Name name) asks = ap is_some asks.0 ∙ ap not (sym (ap is_some asks.1))
 
 pub request_names_one : (named : Option (Text × List Row)) (r : Request) → IsRequest named r → HasOneVolume named
-request_names_one named r asked words is = go r (asked.1 ) asked.2
+request_names_one named r asked words is = go r asked.1 asked.2
   where
     same : (q : Request) → named ≡ Some (command_name q, asked.0) → (command_name q ≡ codes "extract") × (asked.0 ≡ words)
     same q at =
@@ -76,7 +75,8 @@ request_names_one named r asked words is = go r (asked.1 ) asked.2
 
     go : (q : Request) → named ≡ Some (command_name q, asked.0) → Asks asked.0 q
         → is_some (first_of (codes "name") words) ≡ not (is_some (first_of (codes "id") words))
-    go (request.Extract n image k out) at asks = rw (← (same _ at).1) (one_volume asked.0 k asks.2.0)
+    go (request.Extract n image k out) at asks =
+        rw (← (same (request.Extract n image k out) at).1) (one_volume asked.0 k asks.2)
     go q at asks = absurd (apart _ _ refl (same q at).0)
 
 -- words that name just one volume name it by a number or by a text

@@ -34,7 +34,7 @@ no_block rows none _ asked = apart _ _ refl asked.0
 
 pub no_key : (rows : List Row) → ((k : VolumeKey) → AsksKey rows k → ⊥) → (r : Request)
     → IsAskedBy (codes "extract") rows r → ⊥
-no_key rows none (request.Extract n image key out) asked = none key asked.1.2.0
+no_key rows none (request.Extract n image key out) asked = none key asked.1.2
 no_key rows none _ asked = apart _ _ refl asked.0
 
 pub no_change : (rows : List Row) → ((c : Change) → AsksChange rows c → ⊥) → (r : Request)

@@ -516,10 +516,10 @@ fn number<'a>(alloc: Global, name: &'a str, help: &'a str) -> Arg<'a>
 fn key_of<'a>(matches: &'a ArgMatches<'_>) -> Option<VolumeKey<'a>>
     ensures { IsOneOf (AsksKey (words_in matches.now)) result }
 {
-    match (text_of(matches, "id"), text_of(matches, "name")) {
-        (Some(_), None) => Some(VolumeKey::Id(number_of(matches, "id")?)),
-        (None, Some(name)) => Some(VolumeKey::Name(name)),
-        _ => None,
+    match (text_of(matches, "name"), text_of(matches, "id")) {
+        (None, _) => Some(VolumeKey::Id(number_of(matches, "id")?)),
+        (Some(name), None) => Some(VolumeKey::Name(name)),
+        (Some(_), Some(_)) => None,
     }
 }
 

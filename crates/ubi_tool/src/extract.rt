@@ -53,9 +53,9 @@ fn extract_from_places<S: BlockSource, W: Write>(
     ensures known { S.known source.new ≡ after_run (S.known source.old) result }
     ensures narrows { Narrows (S.agrees source.old) (S.agrees source.new) }
     ensures ok { IfOk result (ExtractsFrom geometry.now (S.known source.old) (S.agrees source.new) (W.contents writer.old) (W.contents writer.new)) }
-    ensures image { IfOk result (λ o. WhereHeld (S.agrees source.new) (λ bytes. Extracts (image_of geometry.now bytes) key (W.contents writer.old) (W.contents writer.new) o)) }
+    ensures image { IfOk result (λ o. WhereHeld (S.agrees source.new) (λ bytes. Extracts (image_of geometry.now bytes) key.entry (W.contents writer.old) (W.contents writer.new) o)) }
     ensures untouched { WhereUnwritten (writer.new ≡ writer.old) result }
-    ensures err { IfErr result (IsExtractFault geometry.now (S.known source.old) (S.agrees source.new) key (W.contents writer.old) (W.contents writer.new)) }
+    ensures err { IfErr result (IsExtractFault geometry.now (S.known source.old) (S.agrees source.new) key.entry (W.contents writer.old) (W.contents writer.new)) }
 {
     // Taken before the first byte is written.
     let mut line = Vec::with_capacity(alloc, LONGEST_COUNT_LINE)?;
@@ -99,9 +99,9 @@ pub fn run_extract_from<S: BlockSource, W: Write>(
     ensures known { S.known source.new ≡ after_run (S.known source.old) result }
     ensures narrows { Narrows (S.agrees source.old) (S.agrees source.new) }
     ensures ok { IfOk result (ExtractsFrom geometry.now (S.known source.old) (S.agrees source.new) (W.contents writer.old) (W.contents writer.new)) }
-    ensures image { IfOk result (λ o. WhereHeld (S.agrees source.new) (λ bytes. Extracts (image_of geometry.now bytes) key (W.contents writer.old) (W.contents writer.new) o)) }
+    ensures image { IfOk result (λ o. WhereHeld (S.agrees source.new) (λ bytes. Extracts (image_of geometry.now bytes) key.entry (W.contents writer.old) (W.contents writer.new) o)) }
     ensures untouched { WhereUnwritten (writer.new ≡ writer.old) result }
-    ensures err { IfErr result (IsExtractFault geometry.now (S.known source.old) (S.agrees source.new) key (W.contents writer.old) (W.contents writer.new)) }
+    ensures err { IfErr result (IsExtractFault geometry.now (S.known source.old) (S.agrees source.new) key.entry (W.contents writer.old) (W.contents writer.new)) }
 {
     match attach_places(alloc, geometry, source) {
         Ok(places) => extract_from_places(alloc, geometry, source, &places, key, writer),
@@ -130,8 +130,8 @@ pub fn run_extract<W: Write>(
     key: VolumeKey<'_>,
     writer: &mut W,
 ) -> Result<Outcome, ToolError>
-    ensures ok { IfOk result (Extracts (image_of geometry.now image.now) key (W.contents writer.old) (W.contents writer.new)) }
-    ensures err { IfErr result (IsExtractError (image_of geometry.now image.now) key (W.contents writer.old) (W.contents writer.new)) }
+    ensures ok { IfOk result (Extracts (image_of geometry.now image.now) key.entry (W.contents writer.old) (W.contents writer.new)) }
+    ensures err { IfErr result (IsExtractError (image_of geometry.now image.now) key.entry (W.contents writer.old) (W.contents writer.new)) }
 {
     let mut source = MemorySource::new(image);
     match run_extract_from(alloc, geometry, &mut source, key, writer) {

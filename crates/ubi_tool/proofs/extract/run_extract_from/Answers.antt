@@ -5,13 +5,13 @@ use Rattle.ubi_tool.specs.Extract.{refused, refused_from}
 use Rattle.ubi_compose.proofs.Refusals.{refuses}
 use Rattle.ubi_tool.proofs.extract.run_extract_from.Goals as goal
 
-pub returns-in-Err-Refused-clause-ok : goal.returns-in-Err-Refused-clause-ok
-returns-in-Err-Refused-clause-ok g c =
+pub returns-in_ok-refusal_line-in-Err-Refused-clause-ok : goal.returns-in_ok-refusal_line-in-Err-Refused-clause-ok
+returns-in_ok-refusal_line-in-Err-Refused-clause-ok g c =
     refused_from c.in-Err-Refused.cause (rw c.in-Err-Refused.field-0-is at c.in-Err-Refused.ensures.refused)
     (rw c.in_ok-refusal_line-in-Err-Refused.ensures at c.saying.ensures) (Keeps-refl _)
 
-pub returns-in-Err-Refused-clause-image : goal.returns-in-Err-Refused-clause-image
-returns-in-Err-Refused-clause-image g c = λ bytes holds.
+pub returns-in_ok-refusal_line-in-Err-Refused-clause-image : goal.returns-in_ok-refusal_line-in-Err-Refused-clause-image
+returns-in_ok-refusal_line-in-Err-Refused-clause-image g c = λ bytes holds.
     let known = g.S.BlockSource.known c.args.source.now in
     let agrees = g.S.BlockSource.agrees c.attach_places.new.source in
     refused c.in-Err-Refused.cause
