@@ -12,9 +12,7 @@ ghost use Rattle.ubi_table.specs.Table.{CopyIs, copy_of};
 
 use crate::table::{Table, first_named};
 use std::alloc::{AllocError, Global};
-use ubi_media::{
-    Geometry, LAYOUT_VOLUME, RECORD_SIZE, RecFault, RecRead, VolumeRecord, read_rec,
-};
+use ubi_media::{Geometry, LAYOUT_VOLUME, RECORD_SIZE, RecFault, RecRead, VolumeRecord, read_rec};
 use ubi_scan::{BlockSource, Blocks, Scan, StreamError, read_leb};
 
 /// What a copy of the volume table is.

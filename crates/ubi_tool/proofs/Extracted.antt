@@ -1,7 +1,6 @@
 -- What was extracted where the command did its work, or where a write failed.
 use Rattle.std.proofs.Common.{◌≡◌, ℕ, List, ap, refl, length, sym, zero-add, ◌∙◌, subst, arith}
 use Rattle.std.proofs.lemmas.Result.{IfErr-at_err}
-use Rattle.std.specs.FinMap.{get}
 use Rattle.std.specs.Option.{option_map_or}
 use Rattle.std.specs.Prelude.{IfErr, IfOk, Option, Some, None, Result, Ok, Err}
 use Rattle.std.specs.Result.{result_map_both}
@@ -9,13 +8,11 @@ use Rattle.ubi_media.specs.Geometry.{Sizes}
 use Rattle.ubi_scan.specs.Image.{Image, image_of}
 use Rattle.ubi_table.specs.Records.{Records}
 use Rattle.ubi_volume.specs.Meant.{Meant, records_of}
-use Rattle.ubi_volume.specs.Reading.{read_volume, volume_len, volume_read}
-use Rattle.ubi_volume.specs.declared.content.Content.TheVariants as content
-use Rattle.ubi_volume.specs.declared.content.Volume.{Volume}
+use Rattle.ubi_volume.specs.Reading.{read_volume, volume_len}
 use Rattle.ubi_volume.specs.declared.errors.ReadError.{ReadError}
 use Rattle.ubi_volume.specs.declared.errors.ReadError.TheVariants as error
 use Rattle.std.proofs.lemmas.List.{take_all}
-use Rattle.std.specs.Io.KnownBytes.{Appends, Keeps}
+use Rattle.std.specs.Io.KnownBytes.{Appends}
 use Rattle.ubi_scan.specs.Source.{Agreed, Source, WhereHeld}
 use Rattle.ubi_volume.specs.Extract.{read_text}
 use Rattle.ubi_volume.specs.Places.{ArePlaces, Placed}

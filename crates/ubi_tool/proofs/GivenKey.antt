@@ -1,5 +1,5 @@
 -- The volume that words name.
-use Rattle.std.proofs.Common.{◌≡◌, ◌∙◌, Bool, List, None, Option, Some, ap, codes, false, not, refl, sym, true, true≢false, ℕ}
+use Rattle.std.proofs.Common.{◌≡◌, ◌∙◌, List, None, Option, Some, ap, codes, false, not, refl, sym, true, true≢false, ℕ}
 use Rattle.std.specs.Borrow.{Bor}
 use Rattle.std.specs.List.{find}
 use Rattle.std.specs.Prelude.{is_some, option_and_then, option_map, slice_get}
@@ -12,7 +12,7 @@ use Rattle.ubi_tool.specs.declared.command_line.Request.{Request}
 use Rattle.ubi_tool.specs.declared.command_line.Request.TheVariants as request
 use Rattle.ubi_tool.specs.declared.volume_key.VolumeKey.{VolumeKey}
 use Rattle.ubi_tool.specs.declared.volume_key.VolumeKey.TheVariants as key
-use Rattle.ubi_tool.proofs.GivenWords.{RowOf, found_row, number_in_row, text_in_row}
+use Rattle.ubi_tool.proofs.GivenWords.{found_row, number_in_row, text_in_row}
 use Rattle.ubi_tool.proofs.Lacking.{apart}
 use Rattle.ubi_tool.proofs.Uses.{EachRow}
 

@@ -1,7 +1,10 @@
 -- Which words the command line takes.
-use Rattle.std.proofs.Common.{◌≡◌, ◌∷◌, [], List, codes, false, refl, sym, true, true≢false}
+use Rattle.std.proofs.Common.{◌≡◌, ◌∷◌, [], List, Some, ap, codes, false, refl, sym, true, true≢false}
+use Rattle.std.proofs.lemmas.Option.{same_Some}
+use Rattle.std.specs.Prelude.{option_map}
+use Rattle.std.specs.Str.{bytes_eq}
 use Rattle.clap.specs.Faults.{fault_of}
-use Rattle.clap.specs.Walk.{Text}
+use Rattle.clap.specs.Walk.{Row, Text}
 use Rattle.clap.specs.declared.error.kind.ErrorKind.TheVariants as kind
 use Rattle.clap.proofs.OnLiterals.{clap_on_literals}
 use Rattle.ubi_tool.specs.Tool.{Takes, tool}
@@ -12,7 +15,12 @@ words behind = codes "ubi_tool" ∷ codes "list" ∷ codes "a.img" ∷ codes "--
 
 taken : Takes (words (codes "--page=64" ∷ []))
 unfolding clap_on_literals tool
-taken = (refl, λ behind named. absurd (cc))
+taken = (
+  refl,
+  λ behind named.
+      let other : Some true ≡ Some false = ap (option_map (λ (e : Text × List Row). bytes_eq e.0 (codes "list"))) named in
+      absurd (true≢false (same_Some _ _ other)),
+)
 
 -- a line of `extract`, with the options that name the volume
 abbrev extract_words : List Text → List Text

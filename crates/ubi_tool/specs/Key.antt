@@ -1,5 +1,5 @@
 -- The volume that words name, by its number or by its name.
-use Rattle.std.specs.Prelude.{ℕ, List, Option, Some, None, option_and_then}
+use Rattle.std.specs.Prelude.{ℕ, Option, Some, option_and_then}
 use Rattle.ubi_compose.specs.Words.{shown_name}
 use Rattle.ubi_table.specs.Records.{Records, number_named}
 use Rattle.ubi_tool.specs.declared.volume_key.VolumeKey.{VolumeKey}

@@ -314,10 +314,9 @@ fn volume_name<'a>(alloc: Global) -> Arg<'a>
     ensures rule { rule_of result ≡ tool.option (codes "name") }
     ensures global { result.global ≡ false }
 {
-    Arg::new(alloc, "name")
-        .long("name")
-        .value_name("NAME")
-        .help("The name of the volume, as `list` prints names, in place of --id")
+    Arg::new(alloc, "name").long("name").value_name("NAME").help(
+        "The name of the volume, as `list` prints names, in place of --id",
+    )
 }
 
 fn compose_command<'a>(alloc: Global) -> Result<Command<'a>, AllocError>

@@ -12,12 +12,42 @@ use ubi_volume::{Failure, ProbeWriter};
 
 /// An image, the words that name a volume, what is answered, and what is written.
 static EXTRACTED: [(Contents, &str, (&str, u8), Contents); 16] = [
-    (Contents::Root, "--id 0", ("bytes 7680\n", 0), Contents::RootText),
-    (Contents::Root, "--name root", ("bytes 7680\n", 0), Contents::RootText),
-    (Contents::Root, "--name r\\x6fo\\x74", ("bytes 7680\n", 0), Contents::RootText),
-    (Contents::Root, "--name roo", ("refused L1 NoVolume\n", 1), EMPTY),
-    (Contents::Root, "--name Root", ("refused L1 NoVolume\n", 1), EMPTY),
-    (Contents::Root, "--name roo\\x7", ("refused L1 NoVolume\n", 1), EMPTY),
+    (
+        Contents::Root,
+        "--id 0",
+        ("bytes 7680\n", 0),
+        Contents::RootText,
+    ),
+    (
+        Contents::Root,
+        "--name root",
+        ("bytes 7680\n", 0),
+        Contents::RootText,
+    ),
+    (
+        Contents::Root,
+        "--name r\\x6fo\\x74",
+        ("bytes 7680\n", 0),
+        Contents::RootText,
+    ),
+    (
+        Contents::Root,
+        "--name roo",
+        ("refused L1 NoVolume\n", 1),
+        EMPTY,
+    ),
+    (
+        Contents::Root,
+        "--name Root",
+        ("refused L1 NoVolume\n", 1),
+        EMPTY,
+    ),
+    (
+        Contents::Root,
+        "--name roo\\x7",
+        ("refused L1 NoVolume\n", 1),
+        EMPTY,
+    ),
     (Contents::EmptyBoot, "--id 0", ("bytes 0\n", 0), EMPTY),
     (
         Contents::WholeBoot,
@@ -31,10 +61,30 @@ static EXTRACTED: [(Contents, &str, (&str, u8), Contents); 16] = [
         ("bytes 385\n", 0),
         Contents::Runs(&[(b"A", 384), (b"\xFF", 1)]),
     ),
-    (Contents::Updating, "--id 0", ("refused L2 Updating\n", 1), EMPTY),
-    (Contents::Updating, "--id 1", ("refused L1 NoVolume\n", 1), EMPTY),
-    (Contents::Updating, "--id 200", ("refused L1 NoVolume\n", 1), EMPTY),
-    (Contents::DamagedBoot, "--name boot", ("refused L3 Damaged\n", 1), EMPTY),
+    (
+        Contents::Updating,
+        "--id 0",
+        ("refused L2 Updating\n", 1),
+        EMPTY,
+    ),
+    (
+        Contents::Updating,
+        "--id 1",
+        ("refused L1 NoVolume\n", 1),
+        EMPTY,
+    ),
+    (
+        Contents::Updating,
+        "--id 200",
+        ("refused L1 NoVolume\n", 1),
+        EMPTY,
+    ),
+    (
+        Contents::DamagedBoot,
+        "--name boot",
+        ("refused L3 Damaged\n", 1),
+        EMPTY,
+    ),
     (
         Contents::DamagedBoot,
         "--id 4294967295",

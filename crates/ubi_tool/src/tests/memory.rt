@@ -103,7 +103,13 @@ fn is_extracted(
     text: &[u8],
 ) -> bool {
     let mut written = [0; 7680];
-    let answer = run_extract(alloc, geometry, image, VolumeKey::Id(0), &mut written.as_mut_slice());
+    let answer = run_extract(
+        alloc,
+        geometry,
+        image,
+        VolumeKey::Id(0),
+        &mut written.as_mut_slice(),
+    );
     is_written(rt, answer, "bytes 7680\n", &written, text)
 }
 

@@ -84,7 +84,10 @@ static MISSING: [(&str, &str); 22] = [
     ("compose --out b --peb 512 --page 64", "<SPEC>"),
     ("extract a --peb 512 --page 64 --out b", "--id <N>"),
     ("extract a --peb 512 --page 64 --out b", "--name <NAME>"),
-    ("extract a --peb 512 --page 64 --id 0 --name a --out b", "and not both"),
+    (
+        "extract a --peb 512 --page 64 --id 0 --name a --out b",
+        "and not both",
+    ),
     ("extract a --peb 512 --page 64 --name a", "--out <FILE>"),
     ("extract a --peb 512 --page 64 --id 0", "--out <FILE>"),
     (
