@@ -138,3 +138,24 @@ fn names_one_volume_anew_or_none(rt: HostRuntime) -> Result<(), Fail> {
     }
     Ok(())
 }
+
+/// The records of a table, a name, and the number of the volume that has it.
+static NAMED: [(&[Slot], &[u8], Option<u32>); 7] = [
+    (&[ROOT, BOOT], b"root", Some(0)),
+    (&[ROOT, BOOT], b"boot", Some(1)),
+    (&[EMPTY, ROOT], b"root", Some(1)),
+    (&[ROOT, LONG_BOOT], LONG, Some(1)),
+    (&[ROOT, BOOT], b"boo", None),
+    (&[ROOT, BOOT], b"boots", None),
+    (&[EMPTY, EMPTY], b"root", None),
+];
+
+#[test]
+fn finds_the_volume_of_a_name(rt: HostRuntime) -> Result<(), Fail> {
+    for (index, (records, name, id)) in NAMED.iter().enumerate() {
+        let table = chosen(rt.alloc(), &small()?, &[Peb::Copy(0, records)])?;
+        let name = VolName::new(name).ok_or("no name")?;
+        assert!(rt; table.number_named(&name) == *id, "case {index}");
+    }
+    Ok(())
+}
