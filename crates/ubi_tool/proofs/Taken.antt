@@ -52,6 +52,11 @@ module _ (s : Shape) (rows : List Row) (given : AreGiven s rows) where
         (size.1, page_size.1, vid.1, data_at.1, pebs.1),
       )
 
+  geometry_asked : Needs s (codes "IMAGE") → IsAsked (codes "geometry") rows
+  geometry_asked image =
+      let i = text (codes "IMAGE") image in
+      (request.Geometry i.0, refl, i.1)
+
   list_asked : Needs s (codes "peb") → Needs s (codes "page") → Needs s (codes "IMAGE") → IsAsked (codes "list") rows
   list_asked peb page image =
       let n = numbers peb page in
@@ -190,7 +195,8 @@ help_asks s is alone name words named no_help fault =
 each_asks : EachAsks (built tool).subs
 unfolding tool
 each_asks =
-    also (asks_it _ refl refl refl (λ rows given. list_asked _ rows given refl refl refl))
+    also (asks_it _ refl refl refl (λ rows given. geometry_asked _ rows given refl))
+    (also (asks_it _ refl refl refl (λ rows given. list_asked _ rows given refl refl refl))
     (also (asks_it _ refl refl refl (λ rows given. check_asked _ rows given refl refl refl))
     (also (asks_it _ refl refl refl (λ rows given. show_asked _ rows given refl refl refl refl))
     (also (asks_it _ refl refl refl (λ rows given. extract_asked _ rows given refl refl refl refl refl))
@@ -199,7 +205,7 @@ each_asks =
     (also (asks_it _ refl refl refl (λ rows given. same_asked _ rows given refl refl refl refl))
     (also (asks_it _ refl refl refl (λ rows given. change_asked _ rows given refl refl refl refl refl refl refl))
     (also (asks_it _ refl refl refl (λ rows given. rename_asked _ rows given refl refl refl refl refl refl))
-    (also (help_asks _ refl refl) none)))))))))
+    (also (help_asks _ refl refl) none))))))))))
 
 tool_met : (words : List Text) → Takes words → IsMet (built tool) (argument_words tool words)
 unfolding tool
