@@ -39,7 +39,7 @@ import tempfile
 
 import rules
 import text_faults
-from fuzz import NO_NAMES, ROOT, Failure, Runner, built, finish, renumbered, solved, weakness
+from fuzz import NO_NAMES, ROOT, Failure, Runner, built, finish, renumbered, sized, solved, weakness
 from text_rules import Described
 
 GEOMETRY = rules.Geometry(512, 64, 64, 128, 1048576)
@@ -303,6 +303,7 @@ def devices():
     for path in ENDLESS:
         line = f"cannot read {path}\n"
         for words in (
+            ("geometry", path),
             ("list", path),
             ("check", path),
             ("show", path, "--block", "0"),
@@ -320,7 +321,12 @@ def devices():
     checked = "".join(rules.check_lines(MEANT))
     yield ("check", "/dev/stdin"), BASE, checked
     yield ("check", "/dev/stdin"), BASE_PATH, checked
+    told = "".join(rules.geometry_lines(rules.geometries(BASE)))
+    yield ("geometry", "/dev/stdin"), BASE, told
+    yield ("geometry", "/dev/stdin"), BASE_PATH, told
+    yield ("geometry", "/dev/stdin"), b"", "refused F1 NoHeader\n"
     blank = b"\xFF" * PEB
+    yield ("geometry", "/dev/stdin"), Typed(blank), "refused F1 NoHeader\n"
     yield ("check", "/dev/stdin"), Typed(blank), "".join(rules.check_lines(rules.Image(GEOMETRY, blank)))
 
 
@@ -433,8 +439,8 @@ class Looker:
     def is_printed(self, words, given, expected):
         """Whether words print a text, and write no file, over standard input: bytes in a pipe, a path or a terminal."""
         out = self.out + ".none"
-        words = [self.tool, *(out if word == "OUT" else word for word in words), *GEOMETRY.words()]
-        status = 1 if expected.startswith("cannot read ") else 0
+        words = [self.tool, *sized([out if word == "OUT" else word for word in words], GEOMETRY)]
+        status = 1 if expected.startswith(("cannot read ", "refused ")) else 0
         if isinstance(given, bytes):
             ran = subprocess.run(words, input=given, capture_output=True, timeout=60)
         else:

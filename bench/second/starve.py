@@ -19,7 +19,7 @@ import subprocess
 import tempfile
 
 import rules
-from fuzz import ROOT, Case, Failure, Maker, built, finish, options
+from fuzz import ROOT, Case, Failure, Maker, built, finish, options, sized
 
 
 def refusing(folder):
@@ -36,7 +36,7 @@ class Starved(Case):
         other = self.put("other", rules.normal_image(image))
         number = str(next(iter(image.records), 0))
         new = self.put("new", self.rng.randbytes(self.geometry.page))
-        yield from ([name, self.path] for name in ("check", "list"))
+        yield from ([name, self.path] for name in ("geometry", "check", "list"))
         yield ["show", self.path, "--block", "0"]
         yield ["same", self.path, other]
         yield ["extract", self.path, "--id", number, "--out", self.out]
@@ -46,7 +46,7 @@ class Starved(Case):
         yield ["rename", self.path, "--id", number, "--name", "another", "--out", self.out]
 
     def run(self, words, **environment):
-        ran = subprocess.run([self.tool, *words, *self.geometry.words()], capture_output=True, env={**os.environ, **environment})
+        ran = subprocess.run([self.tool, *sized(words, self.geometry)], capture_output=True, env={**os.environ, **environment})
         return ran.stdout, ran.returncode, self.written(), b"refused a growth" in ran.stderr
 
     def starve(self, words, library):

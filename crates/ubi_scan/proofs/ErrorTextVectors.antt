@@ -4,21 +4,21 @@ use Rattle.std.specs.Fmt.{digits}
 use Rattle.ubi_scan.specs.ErrorTexts.{undetected_text}
 use Rattle.ubi_scan.specs.declared.detect.Undetected.TheVariants as cause
 
-no_header : undetected_text cause.NoHeader ≡ codes "D1 NoHeader"
+no_header : undetected_text cause.NoHeader ≡ codes "F1 NoHeader"
 no_header = refl
 
-cut_off : undetected_text (cause.Length 131072 4096) ≡ codes "D3 Length peb=131072 rest=4096"
+cut_off : undetected_text (cause.Length 131072 4096) ≡ codes "F3 Length peb=131072 rest=4096"
 unfolding digits
 cut_off = refl
 
-unlike : undetected_text (cause.Offsets 0 7) ≡ codes "D4 Offsets block=7 earlier=0"
+unlike : undetected_text (cause.Offsets 0 7) ≡ codes "F4 Offsets block=7 earlier=0"
 unfolding digits
 unlike = refl
 
-with_out_of_band : undetected_text (cause.OutOfBand (record { peb_size = 131072; share = 32 })) ≡ codes "D5 OutOfBand peb=131072 share=32"
+with_out_of_band : undetected_text (cause.OutOfBand (record { peb_size = 131072; share = 32 })) ≡ codes "F5 OutOfBand peb=131072 share=32"
 unfolding digits
 with_out_of_band = refl
 
-no_page : undetected_text (cause.Page 1536 (record { vid_offset = 64; data_offset = 96 })) ≡ codes "D6 Page peb=1536 vid=64 data=96"
+no_page : undetected_text (cause.Page 1536 (record { vid_offset = 64; data_offset = 96 })) ≡ codes "F6 Page peb=1536 vid=64 data=96"
 unfolding digits
 no_page = refl

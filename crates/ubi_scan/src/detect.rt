@@ -53,15 +53,15 @@ impl fmt::Display for Undetected {
 
     fn fmt<W: fmt::Write>(&self, f: &mut fmt::Formatter<W>) -> fmt::Result {
         match self {
-            Undetected::NoHeader => write!(f, "D1 NoHeader"),
-            Undetected::NoSize => write!(f, "D2 NoSize"),
-            Undetected::Length(size, rest) => write!(f, "D3 Length peb={size} rest={rest}"),
+            Undetected::NoHeader => write!(f, "F1 NoHeader"),
+            Undetected::NoSize => write!(f, "F2 NoSize"),
+            Undetected::Length(size, rest) => write!(f, "F3 Length peb={size} rest={rest}"),
             Undetected::Offsets(first, other) => {
-                write!(f, "D4 Offsets block={other} earlier={first}")
+                write!(f, "F4 Offsets block={other} earlier={first}")
             }
             Undetected::OutOfBand(found) => {
                 let (size, share) = (found.peb_size, found.share);
-                write!(f, "D5 OutOfBand peb={size} share={share}")
+                write!(f, "F5 OutOfBand peb={size} share={share}")
             }
             Undetected::Page(
                 size,
@@ -69,7 +69,7 @@ impl fmt::Display for Undetected {
                     vid_offset,
                     data_offset,
                 },
-            ) => write!(f, "D6 Page peb={size} vid={vid_offset} data={data_offset}"),
+            ) => write!(f, "F6 Page peb={size} vid={vid_offset} data={data_offset}"),
         }
     }
 }

@@ -15,17 +15,19 @@ use Rattle.ubi_tool.specs.declared.volume_key.VolumeKey.{VolumeKey}
 pub apart : (a b : Text) → bytes_eq a b ≡ false → a ≡ b → ⊥
 apart a b differ same = true≢false (sym ((bytes_eq-Decides a b).1 same) ∙ differ)
 
-pub no_numbers : (name : Text) (rows : List Row) → ((n : Numbers) → AsksNumbers rows n → ⊥) → (r : Request)
-    → IsAskedBy name rows r → ⊥
-no_numbers name rows none (request.List n image) asked = none n asked.1.0
-no_numbers name rows none (request.Check n image) asked = none n asked.1.0
-no_numbers name rows none (request.Show n image block) asked = none n asked.1.0
-no_numbers name rows none (request.Extract n image id out) asked = none n asked.1.0
-no_numbers name rows none (request.Compose n spec out spares seq) asked = none n asked.1.0
-no_numbers name rows none (request.Normalise n image out) asked = none n asked.1.0
-no_numbers name rows none (request.Same n left right) asked = none n asked.1.0
-no_numbers name rows none (request.Change n image change) asked = none n asked.1.0
-no_numbers name rows none (request.Rename n image rename) asked = none n asked.1.0
+-- of a command that is asked with the numbers of a geometry
+pub no_numbers : (name : Text) → bytes_eq (codes "geometry") name ≡ false → (rows : List Row)
+    → ((n : Numbers) → AsksNumbers rows n → ⊥) → (r : Request) → IsAskedBy name rows r → ⊥
+no_numbers name other rows none (request.Geometry image) asked = apart _ _ other asked.0
+no_numbers name other rows none (request.List n image) asked = none n asked.1.0
+no_numbers name other rows none (request.Check n image) asked = none n asked.1.0
+no_numbers name other rows none (request.Show n image block) asked = none n asked.1.0
+no_numbers name other rows none (request.Extract n image id out) asked = none n asked.1.0
+no_numbers name other rows none (request.Compose n spec out spares seq) asked = none n asked.1.0
+no_numbers name other rows none (request.Normalise n image out) asked = none n asked.1.0
+no_numbers name other rows none (request.Same n left right) asked = none n asked.1.0
+no_numbers name other rows none (request.Change n image change) asked = none n asked.1.0
+no_numbers name other rows none (request.Rename n image rename) asked = none n asked.1.0
 
 pub no_block : (rows : List Row) → ((n : ℕ) → HasNumber rows (codes "block") n → ⊥) → (r : Request)
     → IsAskedBy (codes "show") rows r → ⊥

@@ -4,9 +4,11 @@ pub mod Comparing
 pub mod Composed
 pub mod Cut
 pub mod Defaults
+pub mod Detecting
 pub mod Edited
 pub mod Ended
 pub mod Extracted
+pub mod GeometryVectors
 pub mod GivenKey
 pub mod GivenWords
 pub mod Into

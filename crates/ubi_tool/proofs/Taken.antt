@@ -53,6 +53,11 @@ module _ (s : Shape) (rows : List Row) (given : AreGiven s rows) where
         (size.1, page_size.1, vid.1, data_at.1, pebs.1),
       )
 
+  geometry_asked : Needs s (codes "IMAGE") → IsAsked (codes "geometry") rows
+  geometry_asked image =
+      let i = text (codes "IMAGE") image in
+      (request.Geometry i.0, refl, i.1)
+
   list_asked : Needs s (codes "peb") → Needs s (codes "page") → Needs s (codes "IMAGE") → IsAsked (codes "list") rows
   list_asked peb page image =
       let n = numbers peb page in
@@ -192,7 +197,8 @@ help_asks s is alone name words named no_help fault one =
 each_asks : EachAsks (built tool).subs
 unfolding tool
 each_asks =
-    also (asks_it _ refl refl refl (λ rows given one. list_asked _ rows given refl refl refl))
+    also (asks_it _ refl refl refl (λ rows given one. geometry_asked _ rows given refl))
+    (also (asks_it _ refl refl refl (λ rows given one. list_asked _ rows given refl refl refl))
     (also (asks_it _ refl refl refl (λ rows given one. check_asked _ rows given refl refl refl))
     (also (asks_it _ refl refl refl (λ rows given one. show_asked _ rows given refl refl refl refl))
     (also (asks_it _ refl refl refl (λ rows given one. extract_asked _ rows given refl refl refl refl one))
@@ -201,7 +207,7 @@ each_asks =
     (also (asks_it _ refl refl refl (λ rows given one. same_asked _ rows given refl refl refl refl))
     (also (asks_it _ refl refl refl (λ rows given one. change_asked _ rows given refl refl refl refl refl refl refl))
     (also (asks_it _ refl refl refl (λ rows given one. rename_asked _ rows given refl refl refl refl refl refl))
-    (also (help_asks _ refl refl) none)))))))))
+    (also (help_asks _ refl refl) none))))))))))
 
 tool_met : (words : List Text) → fault_of tool words ≡ [] → IsMet (built tool) (argument_words tool words)
 unfolding tool

@@ -53,3 +53,25 @@ twice = refl
 help : fault_of tool (words (codes "--help" ∷ [])) ≡ kind.DisplayHelp ∷ []
 unfolding clap_on_literals tool
 help = refl
+
+-- the words of a line that `geometry` prints
+options_taken : Takes (codes "ubi_tool" ∷ codes "list" ∷ codes "a.img" ∷ codes "--peb" ∷ codes "131072" ∷ codes "--page" ∷ codes "2048"
+    ∷ codes "--vid" ∷ codes "2048" ∷ codes "--data" ∷ codes "4096" ∷ [])
+unfolding clap_on_literals tool
+options_taken = refl
+
+-- `geometry` takes the name of a file and nothing else
+abbrev of_geometry : List Text → List Text
+of_geometry behind = codes "ubi_tool" ∷ codes "geometry" ∷ behind
+
+file_taken : Takes (of_geometry (codes "a.img" ∷ []))
+unfolding clap_on_literals tool
+file_taken = refl
+
+no_file : fault_of tool (of_geometry []) ≡ kind.MissingRequiredArgument ∷ []
+unfolding clap_on_literals tool
+no_file = refl
+
+no_number_taken : fault_of tool (of_geometry (codes "a.img" ∷ codes "--peb" ∷ codes "512" ∷ [])) ≡ kind.UnknownArgument ∷ []
+unfolding clap_on_literals tool
+no_number_taken = refl

@@ -13,6 +13,7 @@ use Rattle.ubi_tool.specs.declared.volume_key.VolumeKey.TheVariants as key
 
 -- the command by which a request is made
 abbrev pub command_name : Request → List ℕ
+command_name (request.Geometry _) = codes "geometry"
 command_name (request.List _ _) = codes "list"
 command_name (request.Check _ _) = codes "check"
 command_name (request.Show _ _ _) = codes "show"
@@ -25,8 +26,8 @@ command_name (request.Rename _ _ _) = codes "rename"
 
 -- all of them, in the order of the help
 abbrev pub command_names : List (List ℕ)
-command_names = codes "list" ∷ codes "check" ∷ codes "show" ∷ codes "extract" ∷ codes "compose" ∷ codes "normalise"
-    ∷ codes "same" ∷ codes "change" ∷ codes "rename" ∷ []
+command_names = codes "geometry" ∷ codes "list" ∷ codes "check" ∷ codes "show" ∷ codes "extract" ∷ codes "compose"
+    ∷ codes "normalise" ∷ codes "same" ∷ codes "change" ∷ codes "rename" ∷ []
 
 -- the words give this text under the name
 abbrev pub HasText : List Row → List ℕ → Bor (List ℕ) → Type 0
@@ -77,6 +78,7 @@ AsksRename words rename = HasNumber words (codes "id") rename.id
 
 -- the words give what the request says
 abbrev pub Asks : List Row → Request → Type 0
+Asks words (request.Geometry image) = HasText words (codes "IMAGE") image
 Asks words (request.List numbers image) = AsksNumbers words numbers × HasText words (codes "IMAGE") image
 Asks words (request.Check numbers image) = AsksNumbers words numbers × HasText words (codes "IMAGE") image
 Asks words (request.Show numbers image block) = AsksNumbers words numbers × HasText words (codes "IMAGE") image

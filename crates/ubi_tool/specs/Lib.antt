@@ -6,6 +6,7 @@ pub mod CommandLine
 pub mod Compose
 pub mod Disk
 pub mod Extract
+pub mod Geometry
 pub mod Headline
 pub mod Key
 pub mod Late

@@ -3,6 +3,8 @@ use Rattle.std.specs.Prelude.{ℕ, Bool, true, false, List, ◌++◌, codes, dec
 use Rattle.ubi_media.specs.ErrorTexts.{geometry_error_text, refusal_text}
 use Rattle.ubi_media.specs.declared.geometry.GeometryError.{GeometryError}
 use Rattle.ubi_media.specs.declared.refusal.Refusal.{Refusal}
+use Rattle.ubi_scan.specs.ErrorTexts.{undetected_text}
+use Rattle.ubi_scan.specs.declared.detect.Undetected.{Undetected}
 
 -- the line of a refusal, by the text of its cause
 abbrev pub refused_line : List ℕ → List ℕ
@@ -15,6 +17,10 @@ geometry_line limit = refused_line (geometry_error_text limit)
 -- the line of an image that is refused
 abbrev pub refusal_line : Refusal → List ℕ
 refusal_line c = refused_line (refusal_text c)
+
+-- the line of a file of which no geometry is told
+abbrev pub undetected_line : Undetected → List ℕ
+undetected_line c = refused_line (undetected_text c)
 
 -- the line of one of two images that is refused, behind the side on which it stands
 abbrev pub side_line : List ℕ → Refusal → List ℕ

@@ -1,5 +1,5 @@
 -- The numbers of a geometry, as the words of a command give them.
-use Rattle.std.specs.Prelude.{◌*◌, unwrap_or}
+use Rattle.std.specs.Prelude.{◌*◌, None, unwrap_or}
 use Rattle.ubi_media.specs.Geometry.{Sizes}
 use Rattle.ubi_tool.specs.declared.numbers.Numbers.{Numbers}
 
@@ -12,4 +12,14 @@ sizes_of n = record {
   vid_offset = unwrap_or n.vid_offset n.page;
   data_offset = unwrap_or n.data_offset (2 * n.page);
   pebs = unwrap_or n.pebs 1048576;
+}
+
+-- the numbers of the greatest device that there is: of a file of which no geometry is known, no more is read
+abbrev pub greatest : Numbers
+greatest = record {
+  peb_size = 16777216;
+  page = 65536;
+  vid_offset = None;
+  data_offset = None;
+  pebs = None;
 }

@@ -11,10 +11,11 @@ use Rattle.ubi_tool.specs.Check.{ChecksOf}
 use Rattle.ubi_tool.specs.Compose.{ComposesInto}
 use Rattle.ubi_tool.specs.Disk.{AllStay, Files, IsJudgedOf, IsLeft, IsTextOf, OthersStay, Receives, fresh}
 use Rattle.ubi_tool.specs.Extract.{ExtractsOf, HasTextIn}
+use Rattle.ubi_tool.specs.Geometry.{DetectsOf}
 use Rattle.ubi_tool.specs.Lines.{file_line, geometry_line}
 use Rattle.ubi_tool.specs.List.{ListsOf}
 use Rattle.ubi_tool.specs.Normalise.{HasMeaning, NormalisesOf}
-use Rattle.ubi_tool.specs.Numbers.{sizes_of}
+use Rattle.ubi_tool.specs.Numbers.{greatest, sizes_of}
 use Rattle.ubi_tool.specs.Rename.{HasRename, RenamesFrom}
 use Rattle.ubi_tool.specs.Same.{ComparesOf}
 use Rattle.ubi_tool.specs.Show.{ShowsOf}
@@ -96,6 +97,7 @@ pub data WritesFile (path : List ℕ) (old new : Files) (outcome : Outcome) : Ou
 -- what a request can be answered: what its command answers, for its own numbers, paths and volume, of the files that are
 -- named, and with what becomes of the file that is written
 abbrev pub IsAnswerTo : Files → Files → Request → Outcome → Type 0
+IsAnswerTo d e (request.Geometry path) = OfFile d greatest path.now (λ _. DetectsOf)
 IsAnswerTo d e (request.List numbers path) = OfFile d numbers path.now ListsOf
 IsAnswerTo d e (request.Check numbers path) = OfFile d numbers path.now ChecksOf
 IsAnswerTo d e (request.Show numbers path p) = OfFile d numbers path.now (ShowsOf p)
@@ -118,6 +120,7 @@ IsAnswerTo d e (request.Rename numbers path rename) =
 
 -- each file holds what it held, but for the one that a request writes
 abbrev pub IsAllElse : Request → Files → Files → Type 0
+IsAllElse (request.Geometry _) d e = AllStay d e
 IsAllElse (request.List _ _) d e = AllStay d e
 IsAllElse (request.Check _ _) d e = AllStay d e
 IsAllElse (request.Show _ _ _) d e = AllStay d e

@@ -36,9 +36,17 @@ volume = needed (number (codes "id"))
 abbrev pub command : Text → List Rule → Shape
 command name rules = record (new_shape name) { rules = numbers ++ rules }
 
+-- the word that names an image file
+abbrev pub image_file : Rule
+image_file = needed (new_rule (codes "IMAGE"))
+
 -- one over an image file
 abbrev pub on_image : Text → List Rule → Shape
-on_image name rules = command name (needed (new_rule (codes "IMAGE")) ∷ rules)
+on_image name rules = command name (image_file ∷ rules)
+
+-- `geometry`, over an image alone
+abbrev pub geometry : Shape
+geometry = record (new_shape (codes "geometry")) { rules = image_file ∷ [] }
 
 -- `list`, over an image
 abbrev pub list : Shape
@@ -85,7 +93,7 @@ rename = on_image (codes "rename") (output ∷ volume ∷ needed (option (codes 
 unfoldable pub tool : App
 tool = record {
   top = record (new_shape (codes "ubi_tool")) { is_leaf = false; has_version = true; subcommand_required = true };
-  subs = list ∷ check ∷ show ∷ extract ∷ compose ∷ normalise ∷ same ∷ change ∷ rename ∷ [];
+  subs = geometry ∷ list ∷ check ∷ show ∷ extract ∷ compose ∷ normalise ∷ same ∷ change ∷ rename ∷ [];
 }
 
 -- of the words of `extract`, just one names the volume

@@ -17,6 +17,10 @@ use std::alloc::{AllocError, Global};
 /// What the words ask for, with the paths as they were given.
 #[derive(Clone, Copy)]
 pub enum Request<'a> {
+    /// The geometries that a file's own headers give.
+    Geometry {
+        image: &'a str,
+    },
     /// The volumes of a file.
     List {
         numbers: Numbers,
@@ -126,6 +130,7 @@ pub fn command_line<'a>(alloc: Global) -> Result<Command<'a>, AllocError>
         .version(VERSION)
         .after_help(EXAMPLES)
         .subcommand_required(true);
+    let tool = with_command(tool, geometry_command(alloc))?;
     let tool = with_command(tool, list_command(alloc))?;
     let tool = with_command(tool, check_command(alloc))?;
     let tool = with_command(tool, show_command(alloc))?;
@@ -161,6 +166,7 @@ fn request_under<'a>(name: &str, matches: &'a ArgMatches<'_>) -> Option<Request<
     ensures { IsOneOf (IsAskedBy name.now (words_in matches.now)) result }
 {
     match name {
+        "geometry" => geometry_of(matches),
         "list" => list_of(matches),
         "check" => check_of(matches),
         "show" => show_of(matches),
@@ -172,6 +178,14 @@ fn request_under<'a>(name: &str, matches: &'a ArgMatches<'_>) -> Option<Request<
         "rename" => rename_of(matches),
         _ => None,
     }
+}
+
+fn geometry_of<'a>(matches: &'a ArgMatches<'_>) -> Option<Request<'a>>
+    ensures { IsOneOf (IsAskedBy (codes "geometry") (words_in matches.now)) result }
+{
+    Some(Request::Geometry {
+        image: text_of(matches, "IMAGE")?,
+    })
 }
 
 fn list_of<'a>(matches: &'a ArgMatches<'_>) -> Option<Request<'a>>
@@ -263,6 +277,14 @@ fn rename_of<'a>(matches: &'a ArgMatches<'_>) -> Option<Request<'a>>
         image: text_of(matches, "IMAGE")?,
         rename: volume_rename(matches)?,
     })
+}
+
+fn geometry_command<'a>(alloc: Global) -> Result<Command<'a>, AllocError>
+    ensures { IfOk result (λ c. app_of c ≡ alone tool.geometry) }
+{
+    let about = "Says the geometry that a dump's own headers give";
+    let command = Command::new(alloc, "geometry").about(about);
+    command.arg(image_file(alloc))
 }
 
 fn list_command<'a>(alloc: Global) -> Result<Command<'a>, AllocError>

@@ -10,10 +10,10 @@ ghost use Rattle.ubi_tool.specs.Program.{IsAllElse, IsAnswer, IsAnswerTo, OfText
 use crate::command_line::{Request, command_line, request_of};
 use crate::compose::run_compose;
 use crate::disk::Disk;
-use crate::numbers::Numbers;
+use crate::numbers::{GREATEST, Numbers};
 use crate::outcome::{Outcome, WRONG_WORDS};
 use crate::output_file::write_outcome;
-use crate::readers::{Checking, Listing, Showing, read_file, same_files};
+use crate::readers::{Checking, Detecting, Listing, Showing, read_file, same_files};
 use crate::spec_file::load_spec;
 use crate::writers::{Extracting, Normalising, Paths, change_file, rename_file, write_file};
 use clap::Error;
@@ -83,6 +83,7 @@ fn run_request<D: Disk + Eprint>(
     ensures memory { OnErr result (AllStay (D.files disk.old) (D.files disk.new)) }
 {
     match request {
+        Request::Geometry { image } => read_file(disk, alloc, GREATEST, image, &Detecting),
         Request::List { numbers, image } => read_file(disk, alloc, numbers, image, &Listing),
         Request::Check { numbers, image } => read_file(disk, alloc, numbers, image, &Checking),
         Request::Show {

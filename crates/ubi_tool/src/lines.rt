@@ -1,12 +1,13 @@
 //! Printed lines.
 
 ghost use Rattle.std.specs.Prelude.{◌≡◌, ◌+◌, ◌++◌, ◌≤◌, IfOk, IfSome, IsOk, OnOk, codes, decimal, length, vec_capacity, vec_len};
-ghost use Rattle.ubi_tool.specs.Lines.{blocks_line, bytes_line, comparison_line, file_line, geometry_line, no_block_line, refusal_line, refused_line, side_line};
+ghost use Rattle.ubi_tool.specs.Lines.{blocks_line, bytes_line, comparison_line, file_line, geometry_line, no_block_line, refusal_line, refused_line, side_line, undetected_line};
 
 use itoa::Buffer;
 use std::alloc::{AllocError, Global};
 use std::fmt;
 use ubi_media::{GeometryError, Refusal};
+use ubi_scan::Undetected;
 
 /// Adds a word.
 pub fn put_word(text: &mut Vec<u8>, word: &str) -> Result<(), AllocError>
@@ -43,6 +44,13 @@ pub fn refusal_line(alloc: Global, cause: Refusal) -> Result<Vec<u8>, AllocError
     ensures { IfOk result (λ text. text.items ≡ refusal_line cause) }
 {
     refused(alloc, &cause)
+}
+
+/// The line of a file of which no geometry is told.
+pub fn undetected_line(alloc: Global, why: Undetected) -> Result<Vec<u8>, AllocError>
+    ensures { IfOk result (λ text. text.items ≡ undetected_line why) }
+{
+    refused(alloc, &why)
 }
 
 /// The line of one of two images that is refused, behind the side on which it stands.

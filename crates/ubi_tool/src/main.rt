@@ -15,6 +15,7 @@ mod commands;
 mod compose;
 mod disk;
 mod extract;
+mod geometry;
 mod host;
 mod image_file;
 mod image_source;

@@ -24,6 +24,16 @@ pub struct Numbers {
 /// The bytes of the largest page.
 const LARGEST_PAGE: u32 = 65_536;
 
+/// The numbers of the greatest device that there is, for a file of which no geometry is known: no more is read of it than such a
+/// device has, and one byte.
+pub const GREATEST: Numbers = Numbers {
+    peb_size: 16_777_216,
+    page: LARGEST_PAGE,
+    vid_offset: None,
+    data_offset: None,
+    pebs: None,
+};
+
 /// The geometry of the numbers.
 ///
 /// # Errors

@@ -11,6 +11,7 @@ ghost use Rattle.ubi_tool.specs.declared.outcome.Outcome.{Outcome};
 
 use crate::check::run_check_from;
 use crate::disk::Disk;
+use crate::geometry::run_geometry_from;
 use crate::image_file::{told, unread_line};
 use crate::list::run_list_from;
 use crate::numbers::Numbers;
@@ -42,6 +43,25 @@ pub trait Reading {
         ensures narrows { Narrows (S.agrees source.old) (S.agrees source.new) }
         ensures answer { IfOk result (answers self.now geometry.now (S.known source.old) (S.agrees source.new)) }
         ensures failed { IfErr result IsNoWrite };
+}
+
+/// `geometry`: the geometries that the headers give, whatever the words give.
+#[derive(Clone, Copy)]
+pub struct Detecting;
+
+impl Reading for Detecting {
+    ghost use Rattle.ubi_tool.specs.Geometry.{DetectsOf};
+
+    ghost answers = { λ _ _. DetectsOf };
+
+    fn answer<S: BlockSource>(
+        &self,
+        alloc: Global,
+        _geometry: &Geometry,
+        source: &mut S,
+    ) -> Result<Outcome, ToolError> {
+        run_geometry_from(alloc, source)
+    }
 }
 
 /// `list`: the volumes.

@@ -10,6 +10,7 @@ mod failing;
 mod fake;
 mod faults;
 mod files;
+mod geometry;
 mod headers;
 mod large;
 mod lines;

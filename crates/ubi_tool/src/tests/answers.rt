@@ -77,9 +77,9 @@ where
     Ok(())
 }
 
-/// The words of a line, and those of the geometry of small eraseblocks, where they name none.
-fn with_sizes(alloc: Global, line: &str) -> Result<String, AllocError> {
-    if line.contains("--peb ") {
+/// The words of a line, and those of the geometry of small eraseblocks, where they name none and the command takes one.
+pub fn with_sizes(alloc: Global, line: &str) -> Result<String, AllocError> {
+    if line.contains("--peb ") || line.starts_with("geometry ") {
         return String::from_str(alloc, line);
     }
     format!(in alloc; "{line} --peb 512 --page 64 --pebs 32")

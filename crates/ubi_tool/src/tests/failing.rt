@@ -3,6 +3,7 @@
 use super::answers::assert_over;
 use super::contents::{Contents, EMPTY};
 use super::fake::Broken;
+use super::geometry::SMALL;
 use super::headers::COPY_OF_64;
 use super::pebs::{A, B, C, FIRST, FREE, ORPHAN, SECOND};
 use super::rename::LINES;
@@ -62,7 +63,34 @@ const RENAMED: (&str, u8) = (LINES, 0);
 
 /// Commands that write nothing. A file is read at places, or whole where it can't be; one that was cut short since it
 /// was opened fails where its bytes are missing.
-static READERS: [Failing; 5] = [
+static READERS: [Failing; 7] = [
+    // The last header that is read ends at byte 2112.
+    Failing {
+        image: Contents::Root,
+        line: "geometry a.img",
+        ways: &[
+            (Broken::Nothing, (SMALL, 0), 0),
+            (Broken::Whole, (SMALL, 0), 0),
+            (Broken::Places, (SMALL, 0), 0),
+            (Broken::OpenRead, UNREAD, 0),
+            (Broken::Read(ErrorKind::Other, 0), UNREAD, 0),
+            (Broken::Read(ErrorKind::Other, 2111), UNREAD, 0),
+            (Broken::Read(ErrorKind::Other, 2112), (SMALL, 0), 0),
+            (Broken::Read(ErrorKind::Interrupted, 1100), UNREAD, 0),
+            (Broken::Cut, UNREAD, 0),
+        ],
+        output: EMPTY,
+    },
+    // A file of which no size is told, and one that can't be read.
+    Failing {
+        image: EMPTY,
+        line: "geometry a.img",
+        ways: &[
+            (Broken::Places, ("refused F1 NoHeader\n", 1), 0),
+            (Broken::OpenRead, UNREAD, 0),
+        ],
+        output: EMPTY,
+    },
     Failing {
         image: Contents::Blank,
         line: "check a.img",

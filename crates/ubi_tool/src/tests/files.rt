@@ -1,6 +1,7 @@
 //! The commands over real files: what these hold then, and that no output is opened where the work is refused.
 
 use super::contents::{Contents, EMPTY};
+use super::geometry::SMALL;
 use super::headers::{COPY_OF_64, ERASED_EC, OTHER_EC};
 use super::pebs::{
     A, B, C, FIRST, FIRST_DATA, FREE, SECOND, SECOND_DATA, UNNAMED_FIRST, UNNAMED_SECOND,
@@ -14,6 +15,9 @@ static READERS: [Session; 2] = [
     Session {
         before: &[("named_in.img", Contents::Root)],
         lines: &[
+            ("geometry named_in.img", SMALL, 0),
+            ("geometry unnamed.img", "cannot read unnamed.img\n", 1),
+            ("geometry .", "cannot read .\n", 1),
             (
                 "list named_in.img",
                 "geometry peb=512 page=64 vid=64 data=128 leb=384 slots=2 pebs=32\n\

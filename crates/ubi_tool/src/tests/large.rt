@@ -22,6 +22,11 @@ static CHIPS: [Session; 2] = [
                 0,
             ),
             (
+                "geometry chip.img",
+                "--peb 131072 --page 2048 --vid 2048 --data 4096\n--peb 131072 --page 4096 --vid 2048 --data 4096\n",
+                0,
+            ),
+            (
                 "list chip.img --peb 131072 --page 2048 --pebs 64",
                 "geometry peb=131072 page=2048 vid=2048 data=4096 leb=126976 slots=128 pebs=64\n\
                     volume 0 dynamic reserved=3 alignment=1 usable=126976 flags=00 lebs=1 name=root\n\
@@ -116,6 +121,11 @@ static CHIPS: [Session; 2] = [
             (
                 "compose chip.txt --out chip.img --spares 1 --seq 305419896 --peb 131072 --page 2048 --vid 512 --data 2048 --pebs 64",
                 "blocks 4\n",
+                0,
+            ),
+            (
+                "geometry chip.img",
+                "--peb 131072 --page 2048 --vid 512 --data 2048\n",
                 0,
             ),
             (

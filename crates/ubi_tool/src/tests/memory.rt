@@ -5,6 +5,7 @@
 
 use super::answers::{run_line, small};
 use super::fake::{Broken, FakeFiles};
+use super::geometry::SMALL;
 use super::pebs::{
     NORMAL_A, NORMAL_B, NORMAL_C, Peb, ROOT_FIRST, ROOT_SECOND, UNNAMED_FREE, put_pebs, put_runs,
 };
@@ -13,6 +14,7 @@ use crate::change::run_change;
 use crate::check::run_check;
 use crate::compose::run_compose;
 use crate::extract::run_extract;
+use crate::geometry::run_geometry;
 use crate::list::run_list;
 use crate::normalise::run_normalise;
 use crate::outcome::{Outcome, ToolError};
@@ -138,6 +140,7 @@ fn tells_all(rt: &impl Abort, alloc: Global, geometry: &Geometry) -> Result<bool
     let changed = run_change(alloc, geometry, spare, 0, 1, &[0x61; 64], None);
     let renamed = run_rename(alloc, geometry, spares.as_slice(), 0, b"data", None);
     let told = [
+        is_told(rt, run_geometry(alloc, image), SMALL),
         is_told(rt, run_list(alloc, geometry, image), LISTED),
         is_told(rt, run_check(alloc, geometry, image), CHECKED),
         is_told(rt, run_show(alloc, geometry, image, 4), SHOWN),
@@ -160,7 +163,8 @@ fn tells_all_or_runs_out_of_memory(rt: HostRuntime) -> Result<(), Fail> {
 }
 
 /// The words of a command, how many bytes of the image they are over, what is answered, and how many bytes are written.
-static WORDS: [(&str, usize, &str, usize); 8] = [
+static WORDS: [(&str, usize, &str, usize); 9] = [
+    ("geometry a", 2560, SMALL, 0),
     ("list a --peb 512 --page 64 --pebs 32", 2560, LISTED, 0),
     ("show a --block 4 --peb 512 --page 64", 2560, SHOWN, 0),
     (

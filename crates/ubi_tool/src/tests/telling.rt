@@ -3,8 +3,9 @@
 
 ghost use Rattle.std.specs.Prelude.{Some, option_map};
 
-use super::answers::{is_answer, run_on};
+use super::answers::{is_answer, run_on, with_sizes};
 use super::contents::Contents;
+use super::geometry::SMALL;
 use crate::disk::{Disk, OutputFile, WholeFile};
 use crate::outcome::ToolError;
 use std::alloc::Global;
@@ -113,7 +114,9 @@ impl Eprint for Telling<'_> {
 }
 
 /// A line, what it answers of the image of `root`, and what its output holds then, if it is there.
-static LINES: [(&str, (&str, u8), Option<Contents>); 7] = [
+static LINES: [(&str, (&str, u8), Option<Contents>); 9] = [
+    ("geometry told.img", (SMALL, 0), None),
+    ("geometry kept.img", ("cannot read kept.img\n", 1), None),
     ("check kept.img", ("cannot read kept.img\n", 1), None),
     (
         "normalise told.img --out kept.img",
@@ -153,8 +156,7 @@ fn answers_of_the_named_files(rt: HostRuntime) -> Result<(), Fail> {
             image: Some(image.as_slice()),
             out: None,
         };
-        let sized = format!(in alloc; "{line} --peb 512 --page 64 --pebs 32")?;
-        let outcome = run_on(&mut disk, alloc, sized.as_str())?;
+        let outcome = run_on(&mut disk, alloc, with_sizes(alloc, line)?.as_str())?;
         assert!(rt; is_answer(&outcome, *answer), "of {line}");
         let want = match output {
             Some(contents) => Some(contents.bytes(alloc)?),

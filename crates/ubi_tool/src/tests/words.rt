@@ -44,14 +44,19 @@ fn assert_wrong(rt: &impl Abort, alloc: Global, cases: &[(&str, &str)]) -> Resul
 }
 
 /// Lines that name no command or ask for help, with what is shown.
-static NO_COMMAND: [(&str, &str); 20] = [
+static NO_COMMAND: [(&str, &str); 22] = [
     ("", "requires a subcommand"),
     ("--help", "Usage: ubi_tool"),
     ("--help", "ubi_tool list dump.img --peb 131072 --page 2048"),
+    (
+        "--help",
+        "  geometry   Says the geometry that a dump's own headers give\n",
+    ),
     ("help", "Usage: ubi_tool"),
     ("--version", "ubi_tool 0.1.0\n"),
     ("move a", "unrecognized subcommand"),
     ("list --help", "--vid <N>   The offset of the VID header"),
+    ("geometry --help", "Usage: ubi_tool geometry <IMAGE>\n"),
     ("show --help", "Usage: ubi_tool show"),
     ("same --help", "Usage: ubi_tool same"),
     ("extract --help", "Usage: ubi_tool extract"),
@@ -73,7 +78,8 @@ fn shows_wrong_commands_and_help(rt: HostRuntime) -> Result<(), Fail> {
 }
 
 /// Lines of which words are missing.
-static MISSING: [(&str, &str); 22] = [
+static MISSING: [(&str, &str); 23] = [
+    ("geometry", "<IMAGE>"),
     ("normalise a --out b --peb 512", "--page <N>"),
     ("normalise --out b --peb 512 --page 64", "<IMAGE>"),
     ("normalise a --peb 512 --page 64", "--out <FILE>"),
@@ -131,7 +137,10 @@ fn shows_words_that_are_missing(rt: HostRuntime) -> Result<(), Fail> {
 }
 
 /// Lines with words that can't be read.
-static UNREAD: [(&str, &str); 13] = [
+static UNREAD: [(&str, &str); 16] = [
+    ("geometry a --peb 512", "unexpected argument '--peb'"),
+    ("geometry a --page 64", "unexpected argument '--page'"),
+    ("geometry a b", "unexpected argument 'b'"),
     (
         "normalise a --out b --peb 4294967296 --page 64",
         "invalid value",
@@ -184,7 +193,9 @@ fn shows_words_that_cannot_be_read(rt: HostRuntime) -> Result<(), Fail> {
 
 /// Lines that are answered before any image is read, with the answers: of the numbers the first limit that they break,
 /// and of what is left out its default. A path that begins with a hyphen follows `--`.
-static ANSWERED: [(&str, &str, u8); 27] = [
+static ANSWERED: [(&str, &str, u8); 29] = [
+    ("geometry a", "cannot read a\n", 1),
+    ("geometry -- -a", "cannot read -a\n", 1),
     (
         "list a --peb 512 --page 96 --vid 100 --data 128 --pebs 1",
         "refused G1 Page\n",
