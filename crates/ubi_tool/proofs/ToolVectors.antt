@@ -1,13 +1,20 @@
 -- Which words the command line takes.
-use Rattle.std.proofs.Common.{◌≡◌, ◌∷◌, [], List, Some, ap, codes, false, refl, sym, true, true≢false}
+use Rattle.std.proofs.Common.{◌≡◌, ◌∷◌, ◌∙◌, [], List, Option, Some, ap, codes, false, refl, sym, true, true≢false}
 use Rattle.std.proofs.lemmas.Option.{same_Some}
-use Rattle.std.specs.Prelude.{option_map}
 use Rattle.std.specs.Str.{bytes_eq}
 use Rattle.clap.specs.Faults.{fault_of}
 use Rattle.clap.specs.Walk.{Row, Text}
 use Rattle.clap.specs.declared.error.kind.ErrorKind.TheVariants as kind
 use Rattle.clap.proofs.OnLiterals.{clap_on_literals}
-use Rattle.ubi_tool.specs.Tool.{Takes, tool}
+use Rattle.ubi_tool.specs.Tool.{HasOneVolume, Takes, tool}
+use Rattle.ubi_tool.proofs.Lacking.{apart}
+
+-- another command than `extract` needs no volume
+of_another : (named : Option (Text × List Row)) (name : Text) (rows : List Row) → named ≡ Some (name, rows)
+    → bytes_eq name (codes "extract") ≡ false → HasOneVolume named
+of_another named name rows is other behind same =
+    let both : Some (name, rows) ≡ Some (codes "extract", behind) = sym is ∙ same in
+    absurd (apart name (codes "extract") other (ap (λ (e : Text × List Row). e.0) (same_Some _ _ both)))
 
 -- a line, of which the program's name stands first
 abbrev words : List Text → List Text
@@ -15,12 +22,7 @@ words behind = codes "ubi_tool" ∷ codes "list" ∷ codes "a.img" ∷ codes "--
 
 taken : Takes (words (codes "--page=64" ∷ []))
 unfolding clap_on_literals tool
-taken = (
-  refl,
-  λ behind named.
-      let other : Some true ≡ Some false = ap (option_map (λ (e : Text × List Row). bytes_eq e.0 (codes "list"))) named in
-      absurd (true≢false (same_Some _ _ other)),
-)
+taken = (refl, of_another _ (codes "list") _ refl refl)
 
 -- a line of `extract`, with the options that name the volume
 abbrev extract_words : List Text → List Text
@@ -58,7 +60,7 @@ help = refl
 options_taken : Takes (codes "ubi_tool" ∷ codes "list" ∷ codes "a.img" ∷ codes "--peb" ∷ codes "131072" ∷ codes "--page" ∷ codes "2048"
     ∷ codes "--vid" ∷ codes "2048" ∷ codes "--data" ∷ codes "4096" ∷ [])
 unfolding clap_on_literals tool
-options_taken = refl
+options_taken = (refl, of_another _ (codes "list") _ refl refl)
 
 -- `geometry` takes the name of a file and nothing else
 abbrev of_geometry : List Text → List Text
@@ -66,7 +68,7 @@ of_geometry behind = codes "ubi_tool" ∷ codes "geometry" ∷ behind
 
 file_taken : Takes (of_geometry (codes "a.img" ∷ []))
 unfolding clap_on_literals tool
-file_taken = refl
+file_taken = (refl, of_another _ (codes "geometry") _ refl refl)
 
 no_file : fault_of tool (of_geometry []) ≡ kind.MissingRequiredArgument ∷ []
 unfolding clap_on_literals tool
