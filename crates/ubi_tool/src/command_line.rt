@@ -113,12 +113,13 @@ const ABOUT: &str = "Reads raw NAND dumps that hold UBI volumes";
 
 /// What stands below the help of the program.
 const EXAMPLES: &str = "Examples, for eraseblocks of 128 KiB with pages of 2 KiB:
+  ubi_tool geometry dump.img
   ubi_tool list dump.img --peb 131072 --page 2048
-  ubi_tool extract dump.img --id 0 --out volume.bin --peb 131072 --page 2048
+  ubi_tool extract dump.img --name rootfs --out rootfs.bin --peb 131072 --page 2048
   ubi_tool same old.img new.img --peb 131072 --page 2048 --vid 512 --data 2048
 
 Exit status: 0 done; 1 refused, different, a file that fails, or out of memory;
-2 wrong words, help, or a geometry that breaks a limit.";
+2 bad arguments, help, or an invalid geometry.";
 
 /// The whole command line. A command line is used up by reading words, so that each call makes a new one.
 pub fn command_line<'a>(alloc: Global) -> Result<Command<'a>, AllocError>
@@ -282,7 +283,8 @@ fn rename_of<'a>(matches: &'a ArgMatches<'_>) -> Option<Request<'a>>
 fn geometry_command<'a>(alloc: Global) -> Result<Command<'a>, AllocError>
     ensures { IfOk result (λ c. app_of c ≡ alone tool.geometry) }
 {
-    let about = "Says the geometry that a dump's own headers give";
+    let about =
+        "Prints the geometry that the headers of a dump give, as options of the other commands";
     let command = Command::new(alloc, "geometry").about(about);
     command.arg(image_file(alloc))
 }
@@ -290,7 +292,11 @@ fn geometry_command<'a>(alloc: Global) -> Result<Command<'a>, AllocError>
 fn list_command<'a>(alloc: Global) -> Result<Command<'a>, AllocError>
     ensures { IfOk result (λ c. app_of c ≡ alone tool.list) }
 {
-    image_command(alloc, "list", "Prints a line for each volume of an image")
+    image_command(
+        alloc,
+        "list",
+        "Prints the volumes of an image: kind, size, flags, name",
+    )
 }
 
 fn check_command<'a>(alloc: Global) -> Result<Command<'a>, AllocError>
@@ -299,14 +305,14 @@ fn check_command<'a>(alloc: Global) -> Result<Command<'a>, AllocError>
     image_command(
         alloc,
         "check",
-        "Counts the states of an image's eraseblocks, or says why the image is refused",
+        "Says why an image is refused, or counts what its eraseblocks are",
     )
 }
 
 fn show_command<'a>(alloc: Global) -> Result<Command<'a>, AllocError>
     ensures { IfOk result (λ c. app_of c ≡ alone tool.show) }
 {
-    let command = image_command(alloc, "show", "Prints the headers of one eraseblock")?;
+    let command = image_command(alloc, "show", "Prints the two headers of an eraseblock")?;
     command.arg(block(alloc))
 }
 
@@ -318,7 +324,7 @@ fn block<'a>(alloc: Global) -> Arg<'a>
     Arg::new(alloc, "block")
         .long("block")
         .value_name("P")
-        .help("The eraseblock to show, counted from 0")
+        .help("Number of the eraseblock, from 0")
         .value_parser(value_parser!(u32))
         .required(true)
 }
@@ -326,7 +332,11 @@ fn block<'a>(alloc: Global) -> Arg<'a>
 fn extract_command<'a>(alloc: Global) -> Result<Command<'a>, AllocError>
     ensures { IfOk result (λ c. app_of c ≡ alone tool.extract) }
 {
-    let command = out_command(alloc, "extract", "Writes what a volume reads")?;
+    let command = out_command(
+        alloc,
+        "extract",
+        "Writes the contents of a volume to a file",
+    )?;
     let command = command.arg(number(alloc, "id", ID))?;
     command.arg(volume_name(alloc))
 }
@@ -336,9 +346,10 @@ fn volume_name<'a>(alloc: Global) -> Arg<'a>
     ensures rule { rule_of result ≡ tool.option (codes "name") }
     ensures global { result.global ≡ false }
 {
-    Arg::new(alloc, "name").long("name").value_name("NAME").help(
-        "The name of the volume, as `list` prints names, in place of --id",
-    )
+    Arg::new(alloc, "name")
+        .long("name")
+        .value_name("NAME")
+        .help("Name of the volume as `list` prints it, instead of --id")
 }
 
 fn compose_command<'a>(alloc: Global) -> Result<Command<'a>, AllocError>
@@ -358,7 +369,7 @@ fn spec_file<'a>(alloc: Global) -> Arg<'a>
     ensures global { result.global ≡ false }
 {
     Arg::new(alloc, "SPEC")
-        .help("The text that describes the volumes")
+        .help("Text that describes the volumes")
         .required(true)
 }
 
@@ -368,14 +379,18 @@ fn normalise_command<'a>(alloc: Global) -> Result<Command<'a>, AllocError>
     out_command(
         alloc,
         "normalise",
-        "Writes the normal image: one byte string for all images that mean the same",
+        "Writes the normal image: the same bytes for all images with the same contents",
     )
 }
 
 fn same_command<'a>(alloc: Global) -> Result<Command<'a>, AllocError>
     ensures { IfOk result (λ c. app_of c ≡ alone tool.same) }
 {
-    let command = image_command(alloc, "same", "Says whether two images mean the same")?;
+    let command = image_command(
+        alloc,
+        "same",
+        "Says whether two images have the same contents",
+    )?;
     command.arg(other_image(alloc))
 }
 
@@ -386,7 +401,7 @@ fn other_image<'a>(alloc: Global) -> Arg<'a>
 {
     Arg::new(alloc, "OTHER")
         .value_name("IMAGE")
-        .help("The image to compare it with")
+        .help("Raw dump to compare it with")
         .required(true)
 }
 
@@ -408,7 +423,7 @@ fn new_bytes<'a>(alloc: Global) -> Arg<'a>
     Arg::new(alloc, "from")
         .long("from")
         .value_name("FILE")
-        .help("The file that holds the new bytes")
+        .help("File with the new bytes, which are whole pages")
         .required(true)
 }
 
@@ -429,7 +444,7 @@ fn new_name<'a>(alloc: Global) -> Arg<'a>
     Arg::new(alloc, "name")
         .long("name")
         .value_name("NAME")
-        .help("The new name, as `list` prints names")
+        .help("New name of the volume, in the form in which `list` prints names")
         .required(true)
 }
 
@@ -449,7 +464,7 @@ fn out_file<'a>(alloc: Global) -> Arg<'a>
     Arg::new(alloc, "out")
         .long("out")
         .value_name("FILE")
-        .help("The file to write")
+        .help("File to write")
         .required(true)
 }
 
@@ -471,7 +486,7 @@ fn image_file<'a>(alloc: Global) -> Arg<'a>
     ensures global { result.global ≡ false }
 {
     Arg::new(alloc, "IMAGE")
-        .help("The raw dump, without out-of-band bytes")
+        .help("Raw dump, without out-of-band bytes")
         .required(true)
 }
 
@@ -490,36 +505,46 @@ fn device_command<'a>(
 fn with_numbers<'a>(alloc: Global, command: Command<'a>) -> Result<Command<'a>, AllocError>
     ensures { IfOk result (λ c. (name : Text) → app_of command.entry ≡ alone (new_shape name) → app_of c ≡ alone (tool.command name [])) }
 {
-    let command = command.arg(number(alloc, "peb", PEB).required(true))?;
-    let command = command.arg(number(alloc, "page", PAGE).required(true))?;
-    let command = command.arg(number(alloc, "vid", VID))?;
-    let command = command.arg(number(alloc, "data", DATA))?;
-    command.arg(number(alloc, "pebs", PEBS))
+    let command = command.arg(measure(alloc, "peb", PEB).required(true))?;
+    let command = command.arg(measure(alloc, "page", PAGE).required(true))?;
+    let command = command.arg(measure(alloc, "vid", VID))?;
+    let command = command.arg(measure(alloc, "data", DATA))?;
+    command.arg(measure(alloc, "pebs", PEBS))
 }
 
-const ID: &str = "The number of the volume";
+/// An option that takes a number of the geometry. The help lists these below the other options.
+fn measure<'a>(alloc: Global, name: &'a str, help: &'a str) -> Arg<'a>
+    ensures rule { rule_of result ≡ tool.number name.now }
+    ensures global { result.global ≡ false }
+{
+    number(alloc, name, help).help_heading("Geometry")
+}
 
-const CHANGE: &str = "Gives one logical eraseblock new bytes, by steps that may be cut short";
+const ID: &str = "Number of the volume";
 
-const RENAME: &str = "Gives a volume another name, by steps that may be cut short";
+const CHANGE: &str =
+    "Plans an update of a logical eraseblock that survives a power cut, and writes the resulting image";
 
-const LNUM: &str = "The number of the logical eraseblock (LEB)";
+const RENAME: &str =
+    "Plans a rename of a volume that survives a power cut, and writes the resulting image";
 
-const SPARES: &str = "How many spare eraseblocks follow [default: 0]";
+const LNUM: &str = "Number of the logical eraseblock (LEB) in the volume";
 
-const SEQ: &str = "The image sequence number [default: 0]";
+const SPARES: &str = "Spare eraseblocks to append [default: 0]";
 
-const STOP: &str = "Writes the image after N steps only [default: all]";
+const SEQ: &str = "Image sequence number [default: 0]";
 
-const PEB: &str = "The bytes of an eraseblock";
+const STOP: &str = "Stop after N steps of the plan [default: all]";
 
-const PAGE: &str = "The bytes of a page";
+const PEB: &str = "Eraseblock size in bytes";
 
-const VID: &str = "The offset of the VID header in an eraseblock [default: one page]";
+const PAGE: &str = "Page size in bytes";
 
-const DATA: &str = "The offset of the data in an eraseblock [default: two pages]";
+const VID: &str = "Offset of the VID header in an eraseblock [default: one page]";
 
-const PEBS: &str = "The eraseblocks of the device [default: 1048576]";
+const DATA: &str = "Offset of the data in an eraseblock [default: two pages]";
+
+const PEBS: &str = "Number of eraseblocks of the device [default: 1048576]";
 
 /// An option that takes a number of 32 bits.
 fn number<'a>(alloc: Global, name: &'a str, help: &'a str) -> Arg<'a>

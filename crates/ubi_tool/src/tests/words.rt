@@ -50,12 +50,12 @@ static NO_COMMAND: [(&str, &str); 22] = [
     ("--help", "ubi_tool list dump.img --peb 131072 --page 2048"),
     (
         "--help",
-        "  geometry   Says the geometry that a dump's own headers give\n",
+        "  geometry   Prints the geometry that the headers of a dump give, as options of the other commands\n",
     ),
     ("help", "Usage: ubi_tool"),
     ("--version", "ubi_tool 0.1.0\n"),
     ("move a", "unrecognized subcommand"),
-    ("list --help", "--vid <N>   The offset of the VID header"),
+    ("list --help", "--vid <N>   Offset of the VID header"),
     ("geometry --help", "Usage: ubi_tool geometry <IMAGE>\n"),
     ("show --help", "Usage: ubi_tool show"),
     ("same --help", "Usage: ubi_tool same"),
@@ -67,7 +67,7 @@ static NO_COMMAND: [(&str, &str); 22] = [
     ("list --help", "[default: one page]"),
     ("list --help", "[default: two pages]"),
     ("list --help", "[default: 1048576]"),
-    ("compose --help", "follow [default: 0]"),
+    ("compose --help", "append [default: 0]"),
     ("compose --help", "number [default: 0]"),
     ("change --help", "[default: all]"),
 ];

@@ -1,0 +1,176 @@
+#!/usr/bin/env python3
+"""Makes the completions for bash and zsh and the manual page of what the program's own help says, or compares them.
+
+usage: words.py [--tool PROGRAM] [--check]
+
+The commands, their arguments and options, and the texts beside them are read from `ubi_tool --help` and `ubi_tool COMMAND
+--help`. Of these are made completions/ubi_tool.bash, completions/_ubi_tool and docs/ubi_tool.1. With --check nothing is
+written: a file that differs is named. Ends with 'N passed, M failed', and with status 1 where some failed.
+"""
+import argparse
+import re
+import subprocess
+import sys
+from pathlib import Path
+
+ROOT = Path(__file__).resolve().parents[2]
+# Options whose value is a path.
+PATHS = ('out', 'from')
+
+
+class Entry:
+    """A command, an argument or an option: its name, the name of its value where it has one, and its text."""
+
+    def __init__(self, name, value, text):
+        self.name, self.value, self.text = name, value, text
+
+
+class Help:
+    """What a help says: the text at its head, the usage, its sections of entries, and what stands below them."""
+
+    def __init__(self, text):
+        self.sections, self.below, section = {}, [], None
+        head, _, rest = text.partition('\n\nUsage: ')
+        self.about = head.strip()
+        self.usage, _, rest = rest.partition('\n')
+        for line in rest.splitlines():
+            titled = re.fullmatch(r'(\w+):', line)
+            entry = re.fullmatch(r' +(?:-\w, +)?(?:--)?<?([\w-]+)>?(?: <(\w+)>)?  +(.*)', line)
+            if titled:
+                section = self.sections.setdefault(titled[1], [])
+            elif entry and section is not None and not self.below:
+                section.append(Entry(*entry.groups()))
+            elif line or self.below:
+                section = None
+                self.below.append(line)
+
+    def options(self):
+        """All options, without the help's own."""
+        entries = [entry for title in self.sections if title not in ('Commands', 'Arguments') for entry in self.sections[title]]
+        return [entry for entry in entries if entry.name not in ('help', 'version')]
+
+
+def help_of(tool, *command):
+    """The help of the program, or of one of its commands."""
+    ran = subprocess.run([tool, *command, '--help'], stdin=subprocess.DEVNULL, capture_output=True, text=True)
+    return Help(ran.stderr.replace(f'Usage: {Path(tool).name} ', 'Usage: ubi_tool ', 1))
+
+
+def bash(commands):
+    """The completion for bash: commands, then options, then files."""
+    cases = ''.join(
+        f"        {name}) words='{' '.join('--' + option.name for option in help.options())} --help' ;;\n"
+        for name, help in commands.items())
+    return f"""# Completion of ubi_tool for bash. Made by bench/gate/words.py.
+_ubi_tool() {{
+    local word=${{COMP_WORDS[COMP_CWORD]}} words=
+    COMPREPLY=()
+    if [ "$COMP_CWORD" -eq 1 ]; then
+        mapfile -t COMPREPLY < <(compgen -W '{' '.join(commands)} --help --version' -- "$word")
+        return
+    fi
+    case ${{COMP_WORDS[1]}} in
+{cases}    esac
+    case $word in
+        -*) mapfile -t COMPREPLY < <(compgen -W "$words" -- "$word") ;;
+        *) mapfile -t COMPREPLY < <(compgen -f -- "$word") ;;
+    esac
+}}
+complete -o filenames -F _ubi_tool ubi_tool ./ubi_tool
+"""
+
+
+def quoted(text):
+    """A text within single quotes of the shell, with what _arguments reads as its own escaped."""
+    return re.sub(r'([\[\]:\\])', r'\\\1', text).replace("'", "'\\''")
+
+
+def zsh(commands):
+    """The completion for zsh, with the texts of the help."""
+    names = ''.join(f"        '{quoted(name)}:{quoted(help.about)}'\n" for name, help in commands.items())
+    cases = ''
+    for name, help in commands.items():
+        lines = [f"'--{option.name}[{quoted(option.text)}]:{option.value}:{'_files' if option.name in PATHS else ''}'"
+                 for option in help.options()]
+        lines += [f"'{place}:{quoted(argument.text)}:_files'"
+                  for place, argument in enumerate(help.sections.get('Arguments', []), 1)]
+        cases += f"        {name})\n            _arguments -s '--help[Print help]' \\\n                "
+        cases += ' \\\n                '.join(lines) + ' ;;\n'
+    return f"""#compdef ubi_tool
+# Completion of ubi_tool for zsh. Made by bench/gate/words.py.
+_ubi_tool() {{
+    local -a commands=(
+{names}    )
+    if (( CURRENT == 2 )); then
+        _describe command commands
+        return
+    fi
+    local command=$words[2]
+    shift words
+    (( CURRENT-- ))
+    case $command in
+{cases}    esac
+}}
+_ubi_tool "$@"
+"""
+
+
+def roff(text):
+    """A text for the manual page: what roff reads as its own is escaped."""
+    text = text.replace('\\', '\\e').replace('-', '\\-')
+    return re.sub(r"^([.'])", r'\\&\1', text, flags=re.MULTILINE)
+
+
+def entries(title, section):
+    """The entries of a section of a help, for the manual page."""
+    page = f'.P\n{roff(title)}:\n' if title != 'Options' else ''
+    for entry in section:
+        dashes = '' if title == 'Arguments' else '--'
+        value = f' \\fI{roff(entry.value)}\\fR' if entry.value else ''
+        page += f'.TP\n\\fB{roff(dashes + entry.name)}\\fR{value}\n{roff(entry.text)}\n'
+    return page
+
+
+def manual(whole, commands):
+    """The manual page."""
+    page = f""".\\" The manual page of ubi_tool. Made by bench/gate/words.py.
+.TH UBI_TOOL 1
+.SH NAME
+ubi_tool \\- {roff(whole.about[0].lower() + whole.about[1:])}
+.SH SYNOPSIS
+"""
+    page += ''.join(f'.P\n{roff(help.usage)}\n' for help in commands.values())
+    page += '.SH COMMANDS\n'
+    for name, help in commands.items():
+        page += f'.SS {roff(name)}\n{roff(help.about)}.\n'
+        for title, section in help.sections.items():
+            page += entries(title, [entry for entry in section if entry.name not in ('help', 'version')])
+    page += '.SH EXAMPLES AND EXIT STATUS\n.nf\n' + roff('\n'.join(whole.below).strip('\n')) + '\n.fi\n'
+    return page
+
+
+def main():
+    words = argparse.ArgumentParser(description=__doc__, formatter_class=argparse.RawDescriptionHelpFormatter)
+    words.add_argument('--tool', default=str(ROOT / 'ubi_tool'), help='the program; ./ubi_tool where it is left out')
+    words.add_argument('--check', action='store_true', help='compare, and write nothing')
+    words = words.parse_args()
+    whole = help_of(words.tool)
+    names = [entry.name for entry in whole.sections.get('Commands', []) if entry.name != 'help']
+    commands = {name: help_of(words.tool, name) for name in names}
+    made = {'completions/ubi_tool.bash': bash(commands), 'completions/_ubi_tool': zsh(commands),
+            'docs/ubi_tool.1': manual(whole, commands)}
+    failed = 0 if names else 1
+    for name, text in made.items():
+        path = ROOT / name
+        if not words.check:
+            path.parent.mkdir(exist_ok=True)
+            path.write_text(text)
+        elif not path.is_file() or path.read_text() != text:
+            failed += 1
+            print(f'failed: {name} is not what the help says: run bench/gate/words.py')
+    print(f'{len(made) - min(failed, len(made))} passed, {failed} failed')
+    return 1 if failed else 0
+
+
+if __name__ == '__main__':
+    sys.exit(main())
