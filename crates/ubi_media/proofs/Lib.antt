@@ -13,6 +13,7 @@ pub mod Mirror
 pub mod Names
 pub mod Padding
 pub mod Pages
+pub mod Pieces
 pub mod Polynomials
 pub mod Quotient
 pub mod Readings
