@@ -4,13 +4,13 @@ use Rattle.std.proofs.Math.Nat.{add_comm}
 use Rattle.std.proofs.lemmas.List.{get_or_past, take_all}
 use Rattle.std.proofs.lemmas.List.Concat.{concat_is}
 use Rattle.std.proofs.lemmas.Nat.{from_le_bytes-to_le_bytes_8, xor_lt}
-use Rattle.std.specs.Int.{w64, from_le_bytes, to_le_bytes}
+use Rattle.std.specs.Int.{w64, from_le_bytes}
 use Rattle.std.specs.List.{AllByRecursion, concat, flat_map}
 use Rattle.std.specs.Simd.{first_chunks}
 use lib.Bits.{xor_assoc, xor_self, xor_zero_l, xor_zero_r}
 use Rattle.ubi_media.specs.Check.{check_from}
 use Rattle.ubi_media.specs.Fields.{AreBytes}
-use Rattle.ubi_media.specs.inner.Division.{word_at, powers, sum_behind, left_of, IsPadded, IsQuotient}
+use Rattle.ubi_media.specs.inner.Division.{word_at, powers, sum_behind, left_of, IsPadded, IsPieceRemainder, IsQuotient}
 use Rattle.ubi_media.proofs.ByteLists.{bytes_each}
 use Rattle.ubi_media.proofs.Divisor.{shifts, divisor, divisor-of}
 use Rattle.ubi_media.proofs.Fed.{fed, fed-same, fed-sum, fed-parts, fed-nothing, fed-earlier, fed-lt, fed-state}
@@ -88,10 +88,9 @@ sum_behind-lt (d ∷ ds) xs k h = xor_lt 64 (get_or xs (k + d) 0) (sum_behind ds
 pub check_from-divided : (state : ℕ) (piece : List ℕ) (words : List (List ℕ)) (quotient : List ℕ)
     (remainder : List (List ℕ)) (bytes : List ℕ) (r : ℕ) → state < 2 ^ 32
     → length piece ≡ 12288 → ((i : ℕ) → get_or piece i 0 < 256) → words ≡ first_chunks 8 (length piece / 8) piece
-    → IsQuotient words state quotient → length remainder ≡ 252
-    → ((k : ℕ) → k < 252 → get_or remainder k [] ≡ to_le_bytes w64 (left_of words quotient (1284 + k)))
+    → IsQuotient words state quotient → IsPieceRemainder words quotient remainder
     → bytes ≡ flat_map (λ x. x) remainder → r ≡ check_from 0 bytes → r ≡ check_from state piece
-check_from-divided state piece words quotient remainder bytes r h size below cut is long left flat now =
+check_from-divided state piece words quotient remainder bytes r h size below cut is left flat now =
     let are : AreBytes piece = bytes_each piece below in
     let cut_at : words ≡ first_chunks 8 1536 piece =
     cut ∙ ap (λ l. first_chunks 8 (l / 8) piece) size in
@@ -101,12 +100,12 @@ check_from-divided state piece words quotient remainder bytes r h size below cut
     (chunks-words 1536 piece (1284 + k) (omega (arith, size)) are (omega arith))))
     (sum_behind-lt powers quotient (1284 + k) is.narrow) in
     let whole : bytes ≡ concat (take 252 remainder) =
-    flat ∙ sym (concat_is remainder) ∙ ap concat (sym (take_all 252 remainder (omega (arith, long)))) in
+    flat ∙ sym (concat_is remainder) ∙ ap concat (sym (take_all 252 remainder (omega (arith, left.long)))) in
     now ∙ ap (check_from 0) whole
     ∙ check_from-words 0 remainder 252 (omega arith)
-    (λ k below. rw (left k below) (number-word (left_of words quotient (1284 + k)))) (omega (arith, long))
+    (λ k below. rw (left.words k below) (number-word (left_of words quotient (1284 + k)))) (omega (arith, left.long))
     ∙ fed-same 0 (word_at remainder) (λ k. left_of words quotient (1284 + k)) 252
-    (λ k below. ap (from_le_bytes w64) (left k below)
+    (λ k below. ap (from_le_bytes w64) (left.words k below)
     ∙ from_le_bytes-to_le_bytes_8 (left_of words quotient (1284 + k)) (narrow k below))
     ∙ sym (divided words state quotient is)
     ∙ ap (λ ws. fed state (word_at ws) 1536) cut_at

@@ -1,13 +1,12 @@
-//! The check of long messages, a piece at a time. As a polynomial, a piece is divided by a multiple of the generator that
-//! has six terms, x^(64 * 252) + x^(64 * 236) + x^(64 * 202) + x^(64 * 59) + x^(64 * 28) + 1. What remains has the same
-//! check and a sixth of the length. The division takes no table: of each word of eight bytes it makes a sum with five
-//! words of the quotient, and the processor does two at once.
+//! The check of long messages, a piece at a time. As a polynomial, a piece is first divided by a multiple of the generator
+//! that has six terms, x^(64 * 252) + x^(64 * 236) + x^(64 * 202) + x^(64 * 59) + x^(64 * 28) + 1. What remains has the same
+//! check and a sixth of the length. The division looks nothing up: a word of eight bytes is added to five words of the
+//! quotient so far, the nearest of which is sixteen places back, so that several can be under way at once.
 
-ghost use Rattle.std.specs.Prelude.{◌≡◌, ℕ, ◌+◌, ◌<◌, [], length, slice_index_or};
-ghost use Rattle.std.specs.Int.{w64, to_le_bytes};
+ghost use Rattle.std.specs.Prelude.{◌≡◌, ◌<◌, length};
 ghost use Rattle.std.specs.List.{concat};
 ghost use Rattle.ubi_media.specs.Check.{check_from};
-ghost use Rattle.ubi_media.specs.inner.Division.{left_of, IsPadded, IsQuotient};
+ghost use Rattle.ubi_media.specs.inner.Division.{left_of, IsPadded, IsPieceRemainder, IsQuotient};
 
 use crate::check::with_short;
 
@@ -23,7 +22,7 @@ const REMAINDER: usize = 252;
 /// The words of a quotient.
 const QUOTIENT: usize = WORDS - REMAINDER;
 
-/// The words of a quotient with as many zeros before it and behind it as a remainder has words.
+/// The words of a quotient, and as many zeros before it and behind it as a remainder has words.
 const PADDED: usize = WORDS + REMAINDER;
 
 /// The state after more bytes, a piece at a time.
@@ -38,7 +37,7 @@ pub fn with_pieces(state: u32, pieces: &[[u8; PIECE]]) -> u32
     register
 }
 
-/// The state after a piece. The quotient of the piece takes the place of an earlier one, so that its zeros stand already.
+/// The state after a piece. Its quotient takes the place of the one before, between the same zeros.
 fn with_piece(state: u32, piece: &[u8; PIECE], quotient: &mut [u64; PADDED]) -> u32
     requires { IsPadded quotient.old }
     ensures check { result ≡ check_from state piece.now }
@@ -65,8 +64,7 @@ fn divide(state: u32, words: &[[u8; 8]], quotient: &mut [u64; PADDED])
 /// What remains of a piece: what is left of its last words.
 fn remainder_of(words: &[[u8; 8]], quotient: &[u64; PADDED]) -> [[u8; 8]; REMAINDER]
     requires { length words.now ≡ 1536 }
-    ensures long { length result ≡ 252 }
-    ensures words { (k : ℕ) → k < 252 → slice_index_or result k [] ≡ to_le_bytes w64 (left_of words.now quotient.now (1284 + k)) }
+    ensures { IsPieceRemainder words.now quotient.now result }
 {
     let mut remainder = [[0; 8]; REMAINDER];
     for k in 0..REMAINDER {
@@ -75,7 +73,8 @@ fn remainder_of(words: &[[u8; 8]], quotient: &[u64; PADDED]) -> [[u8; 8]; REMAIN
     remainder
 }
 
-/// What is left of a word once the divisor was taken off as often as the quotient says up to that place.
+/// What is left of a word, once the divisor was taken off as often as the quotient says up to that place. Its terms but
+/// the highest say where.
 fn left_of(words: &[[u8; 8]], quotient: &[u64; PADDED], k: usize) -> u64
     requires words { length words.now ≡ 1536 }
     requires place { k < 1536 }

@@ -1,7 +1,7 @@
 -- The division of a piece of a message by a multiple of the generator that has few terms:
 -- x^(64 * 252) + x^(64 * 236) + x^(64 * 202) + x^(64 * 59) + x^(64 * 28) + 1.
-use Rattle.std.specs.Prelude.{◌≡◌, ℕ, ◌+◌, ◌^◌, ◌<◌, ◌≤◌, bit_xor, List, [], ◌∷◌, slice_index, slice_index_or}
-use Rattle.std.specs.Int.{w64, from_le_bytes}
+use Rattle.std.specs.Prelude.{◌≡◌, ℕ, ◌+◌, ◌^◌, ◌<◌, ◌≤◌, bit_xor, List, [], ◌∷◌, length, slice_index, slice_index_or}
+use Rattle.std.specs.Int.{w64, from_le_bytes, to_le_bytes}
 
 -- the word at a place of a piece: the number of its eight bytes, the lowest first
 abbrev pub word_at : List (List ℕ) → ℕ → ℕ
@@ -32,3 +32,9 @@ pub record IsQuotient (piece : List (List ℕ)) (state : ℕ) (quotient : List �
   pub narrow : (k : ℕ) → slice_index quotient k < 2 ^ 64
   pub words : (k : ℕ) → k < 1284
       → slice_index quotient (252 + k) ≡ bit_xor (slice_index (state ∷ []) k) (left_of piece quotient k)
+
+-- the bytes of what remains of a piece: what is left of its last 252 words
+pub record IsPieceRemainder (piece : List (List ℕ)) (quotient : List ℕ) (remainder : List (List ℕ)) : Type 0 where
+  pub long : length remainder ≡ 252
+  pub words : (k : ℕ) → k < 252
+      → slice_index_or remainder k [] ≡ to_le_bytes w64 (left_of piece quotient (1284 + k))
