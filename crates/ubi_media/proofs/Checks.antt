@@ -87,7 +87,7 @@ check_from-piece s i pieces r t h below before now =
     ∙ ap (check_from s) (sym joined)
 
 -- the first pieces of a message, and what is left
-first_chunks-rest : (size n : ℕ) (m : List ℕ) → concat (first_chunks size n m) ++ drop (n * size) m ≡ m
+pub first_chunks-rest : (size n : ℕ) (m : List ℕ) → concat (first_chunks size n m) ++ drop (n * size) m ≡ m
 first_chunks-rest size zero m = let e : zero * size ≡ 0 = omega arith in ap (λ (k : ℕ). drop k m) e
 first_chunks-rest size (suc n) m =
     let rest : List ℕ = drop size m in

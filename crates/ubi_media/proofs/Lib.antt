@@ -2,9 +2,13 @@ pub mod ByteLists
 pub mod Cases
 pub mod CheckVectors
 pub mod Checks
+pub mod DivisionVectors
+pub mod Divisor
 pub mod EcVectors
 pub mod EmptyRecord
 pub mod ErrorTextVectors
+pub mod Fed
+pub mod FedWords
 pub mod First
 pub mod GeometryVectors
 pub mod Headers
@@ -13,6 +17,7 @@ pub mod Mirror
 pub mod Names
 pub mod Padding
 pub mod Pages
+pub mod Pieces
 pub mod Polynomials
 pub mod Quotient
 pub mod Readings

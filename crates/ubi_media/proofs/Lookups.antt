@@ -14,7 +14,7 @@ use Rattle.ubi_media.proofs.Table.{found, found-steps, steps-sum, steps-high}
 use Rattle.ubi_media.proofs.Xor.{xor-four, xor-scale}
 
 -- bytes as one polynomial, the first byte lowest
-word : List ℕ → ℕ
+unfoldable pub word : List ℕ → ℕ
 word [] = 0
 word (b ∷ bs) = bit_xor b (word bs * 2 ^ 8)
 
@@ -38,7 +38,7 @@ run-bytes (b ∷ bs) s h =
     ∙ sym (steps-byte (length bs) (bit_xor s b) (word bs))
     ∙ ap (steps (8 * suc (length bs))) (xor_assoc s b (word bs * 2 ^ 8))
 
-check_from-word : (s : ℕ) (m : List ℕ) → s < 2 ^ 32 → AreBytes m
+pub check_from-word : (s : ℕ) (m : List ℕ) → s < 2 ^ 32 → AreBytes m
     → check_from s m ≡ steps (8 * length m) (bit_xor s (word m))
 check_from-word s m h bytes = check_from-run s m h ∙ run-bytes m s bytes
 
@@ -101,12 +101,12 @@ abbrev pub elements : ℕ → ℕ → List ℕ → List ℕ
 elements i zero m = []
 elements i (suc n) m = get_or m i 0 ∷ elements (suc i) n m
 
-elements-all : (i n : ℕ) (m : List ℕ) → i + n ≡ length m → elements i n m ≡ drop i m
+pub elements-all : (i n : ℕ) (m : List ℕ) → i + n ≡ length m → elements i n m ≡ drop i m
 elements-all i zero m e = sym (drop_all i m (omega arith))
 elements-all i (suc n) m e =
     ap (λ rest. get_or m i 0 ∷ rest) (elements-all (suc i) n m (omega arith)) ∙ sym (drop-cons m i 0 (omega arith))
 
-bytes-elements : (i n : ℕ) (m : List ℕ) → ((k : ℕ) → get_or m k 0 < 256) → AreBytes (elements i n m)
+pub bytes-elements : (i n : ℕ) (m : List ℕ) → ((k : ℕ) → get_or m k 0 < 256) → AreBytes (elements i n m)
 bytes-elements i zero m h = tt
 bytes-elements i (suc n) m h = (h i, bytes-elements (suc i) n m h)
 

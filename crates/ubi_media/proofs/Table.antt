@@ -20,7 +20,7 @@ bit_product (suc zero) (suc (suc y)) hx hy = absurd (omega arith)
 bit_product (suc (suc x)) y hx hy = absurd (omega arith)
 
 -- a step of a sum is the sum of the steps
-step-sum : (a b : ℕ) → step (bit_xor a b) ≡ bit_xor (step a) (step b)
+pub step-sum : (a b : ℕ) → step (bit_xor a b) ≡ bit_xor (step a) (step b)
 step-sum a b =
     let la : a % 2 < 2 = mod_below a 2 (omega arith) in
     let lb : b % 2 < 2 = mod_below b 2 (omega arith) in

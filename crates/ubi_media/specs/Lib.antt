@@ -11,3 +11,4 @@ pub mod Header
 pub mod Name
 pub mod Record
 pub mod Vid
+pub mod inner

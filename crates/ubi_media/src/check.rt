@@ -8,6 +8,7 @@ ghost use Rattle.ubi_media.specs.Check.{check, check_from};
 ghost use Rattle.ubi_media.specs.Fields.{is_sealed, overwrite};
 
 use crate::bytes::put_u32;
+use crate::division::{PIECE, with_pieces};
 use crate::tables::TABLES;
 use byteorder::{BigEndian, ByteOrder};
 
@@ -25,7 +26,18 @@ pub fn crc(message: &[u8]) -> u32
 pub fn crc_more(state: u32, message: &[u8]) -> u32
     ensures { result ≡ check_from state message.now }
 {
-    let (sixteens, rest) = message.as_chunks::<16>();
+    if message.len() < PIECE {
+        return with_short(state, message);
+    }
+    let (pieces, rest) = message.as_chunks::<PIECE>();
+    with_short(with_pieces(state, pieces), rest)
+}
+
+/// The state after more bytes, by tables alone: sixteen at a time, and then what is left.
+pub fn with_short(state: u32, bytes: &[u8]) -> u32
+    ensures { result ≡ check_from state bytes.now }
+{
+    let (sixteens, rest) = bytes.as_chunks::<16>();
     with_rest(with_sixteens(state, sixteens), rest)
 }
 

@@ -22,6 +22,7 @@
 
 mod bytes;
 mod check;
+mod division;
 mod ec;
 mod geometry;
 mod header;
