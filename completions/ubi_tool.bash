@@ -10,13 +10,13 @@ _ubi_tool() {
         geometry) words=' --help' ;;
         list) words='--peb --page --vid --data --pebs --help' ;;
         check) words='--peb --page --vid --data --pebs --help' ;;
-        show) words='--peb --page --vid --data --pebs --block --help' ;;
-        extract) words='--peb --page --vid --data --pebs --out --id --name --help' ;;
-        compose) words='--peb --page --vid --data --pebs --out --spares --seq --help' ;;
-        normalise) words='--peb --page --vid --data --pebs --out --help' ;;
+        show) words='--block --peb --page --vid --data --pebs --help' ;;
+        extract) words='--out --id --name --peb --page --vid --data --pebs --help' ;;
+        compose) words='--out --spares --seq --peb --page --vid --data --pebs --help' ;;
+        normalise) words='--out --peb --page --vid --data --pebs --help' ;;
         same) words='--peb --page --vid --data --pebs --help' ;;
-        change) words='--peb --page --vid --data --pebs --out --id --lnum --from --stop --help' ;;
-        rename) words='--peb --page --vid --data --pebs --out --id --name --stop --help' ;;
+        change) words='--out --id --lnum --from --stop --peb --page --vid --data --pebs --help' ;;
+        rename) words='--out --id --name --stop --peb --page --vid --data --pebs --help' ;;
     esac
     case $word in
         -*) mapfile -t COMPREPLY < <(compgen -W "$words" -- "$word") ;;
