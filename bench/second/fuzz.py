@@ -478,9 +478,9 @@ class Runner:
             raise Failure("the copies of the table are unlike in the end")
         return cut
 
-    def look_read(self, path, meaning, number):
-        """Compares what is extracted of a volume with what an image means."""
-        words = ["extract", path, "--id", str(number), "--out", self.out]
+    def look_read(self, path, meaning, number, name=None):
+        """Compares what is extracted of a volume, by its number or by its name, with what an image means."""
+        words = ["extract", path, *(["--id", str(number)] if name is None else [f"--name={name}"]), "--out", self.out]
         try:
             text = meaning.read_volume(number)
         except Refused as refused:
@@ -561,8 +561,14 @@ class Case(Runner):
         self.expect(["check", self.path], "".join(rules.check_lines(image)), 0)
         self.expect(["list", self.path], "".join(rules.list_lines(image)), 0)
         self.look_show(image, p)
-        for number in (*image.records, 127):
+        for number, record in image.records.items():
             self.look_read(self.path, image, number)
+            self.look_read(self.path, image, number, rules.shown(record.name))
+        names = {record.name for record in image.records.values()}
+        for name in {b"root", b"\x80", b"none"} - names:
+            self.look_read(self.path, image, 127, rules.shown(name))
+        self.look_read(self.path, image, 127)
+        self.look_read(self.path, image, 127, self.rng.choice(NO_NAMES[:8]))
         self.expect(["normalise", self.path, "--out", self.out], f"blocks {len(normal) // self.geometry.peb}\n", 0, normal)
         self.look_composed(image, self.rng.choice((0, 0, 1, 2, 3)))
         for other in (normal, self.mixed(), self.with_number(image)):
