@@ -40,6 +40,8 @@ class Starved(Case):
         yield ["show", self.path, "--block", "0"]
         yield ["same", self.path, other]
         yield ["extract", self.path, "--id", number, "--out", self.out]
+        for record in list(image.records.values())[:1]:
+            yield ["extract", self.path, f"--name={rules.shown(record.name)}", "--out", self.out]
         yield ["normalise", self.path, "--out", self.out]
         yield self.compose_words(image, 1)
         yield ["change", self.path, "--id", number, "--lnum", "0", "--from", new, "--out", self.out]
