@@ -1,34 +1,34 @@
-//! A line on the terminal that tells how far long work is.
+//! A line on the terminal that shows how far long work is.
 
 ghost use Rattle.std.specs.Prelude.{◌≡◌};
 
 use std::io;
 use std::io::Write;
 
-/// From how many bytes on the work on an image is told of.
+/// From how many bytes on the progress of work on an image is shown.
 const LONG: u64 = 1 << 28;
 
-/// A writer that hands all on to another, and tells on the standard error how far that is.
+/// A writer that hands all on to another, and shows on the standard error how far that is.
 ///
 /// Its contents are those of the other.
 #[derive(Drop)]
-pub struct Told<'a, R, W> {
+pub struct ProgressWriter<'a, R, W> {
     rt: &'a R,
     writer: W,
-    /// How many bytes it may receive, where that is told of.
+    /// How many bytes it may receive, where that is shown.
     most: Option<u64>,
     /// How many it has received.
     received: u64,
-    /// The hundredth that was told last.
+    /// The hundredth that was shown last.
     last: u64,
 }
 
-impl<'a, R: Eprint, W: Write> Told<'a, R, W> {
-    /// A writer of work on `most` bytes, which is told of where these are many and somebody watches.
-    pub fn new(rt: &'a R, writer: W, most: u64, is_watched: bool) -> Told<'a, R, W>
+impl<'a, R: Eprint, W: Write> ProgressWriter<'a, R, W> {
+    /// A writer of work on `most` bytes, which is shown where these are many and somebody watches.
+    pub fn new(rt: &'a R, writer: W, most: u64, is_watched: bool) -> ProgressWriter<'a, R, W>
         ensures { result.writer ≡ writer }
     {
-        Told {
+        ProgressWriter {
             rt,
             writer,
             most: if is_watched && most >= LONG {
@@ -41,8 +41,8 @@ impl<'a, R: Eprint, W: Write> Told<'a, R, W> {
         }
     }
 
-    /// Tells how far it is, where that is another hundredth than before.
-    fn tell(&mut self)
+    /// Shows how far it is, where that is another hundredth than before.
+    fn show(&mut self)
         ensures { W.contents self.new.writer ≡ W.contents self.old.writer }
     {
         let Some(most) = self.most else {
@@ -70,13 +70,13 @@ impl<'a, R: Eprint, W: Write> Told<'a, R, W> {
     }
 }
 
-impl<R: Eprint, W: Write> Write for Told<'_, R, W> {
-    ghost contents = { λ told. W.contents told.writer };
+impl<R: Eprint, W: Write> Write for ProgressWriter<'_, R, W> {
+    ghost contents = { λ progress. W.contents progress.writer };
 
     fn write(&mut self, buf: &[u8]) -> io::Result<usize> {
         let count = self.writer.write(buf)?;
         self.received = self.received.saturating_add(count as u64);
-        self.tell();
+        self.show();
         Ok(count)
     }
 

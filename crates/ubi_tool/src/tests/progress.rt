@@ -3,7 +3,7 @@
 use super::fake::{Broken, FakeFiles};
 use crate::commands::run_words;
 use crate::host::Host;
-use crate::progress::Told;
+use crate::progress::ProgressWriter;
 use std::alloc::Global;
 use std::cell::RefCell;
 use std::io::Write;
@@ -15,7 +15,7 @@ const HUNDREDTH: usize = 2_684_355;
 /// Does work on so many bytes, of which the output receives two hundredths of 256 MiB.
 fn work(terminal: &impl Eprint, alloc: Global, most: u64, is_watched: bool) -> Result<(), Fail> {
     let part = vec![in alloc; 0xFFu8; HUNDREDTH]?;
-    let mut writer = Told::new(terminal, Vec::new(alloc), most, is_watched);
+    let mut writer = ProgressWriter::new(terminal, Vec::new(alloc), most, is_watched);
     writer.write_all(&[0xFF; 100])?;
     writer.write_all(part.as_slice())?;
     writer.write_all(part.as_slice())?;

@@ -31,11 +31,11 @@ struct Telling<'a> {
 
 /// Bytes that are read at places.
 #[derive(Drop)]
-struct Told<'a> {
+struct KnownFile<'a> {
     bytes: &'a [u8],
 }
 
-impl PlacedFile for Told<'_> {
+impl PlacedFile for KnownFile<'_> {
     ghost bytes = { λ told. Some told.bytes.now };
 
     fn read_from(&self, at: u64, out: &mut [u8]) -> io::Result<usize> {
@@ -50,7 +50,7 @@ impl<'a> Disk for Telling<'a> {
     ghost use Rattle.ubi_tool.specs.Disk.{IsKept};
     ghost use Rattle.ubi_tool.specs.inner.Telling.{telling};
 
-    type Placed = Told<'a>;
+    type Placed = KnownFile<'a>;
 
     type Reader = &'a [u8];
 
@@ -58,16 +58,16 @@ impl<'a> Disk for Telling<'a> {
 
     ghost files = { λ disk. telling (option_map (λ bytes. bytes.now) disk.image) (option_map (λ bytes. bytes.items) disk.out) };
 
-    fn source_at(&self, path: &str) -> Option<FileSource<Told<'a>>> {
+    fn source_at(&self, path: &str) -> Option<FileSource<KnownFile<'a>>> {
         match self.image {
             Some(bytes) if path == IMAGE => {
-                Some(FileSource::of(Told { bytes }, bytes.len() as u64))
+                Some(FileSource::of(KnownFile { bytes }, bytes.len() as u64))
             }
             _ => None,
         }
     }
 
-    fn source_beside(&self, path: &str, out: &str) -> Option<FileSource<Told<'a>>> {
+    fn source_beside(&self, path: &str, out: &str) -> Option<FileSource<KnownFile<'a>>> {
         if path == out {
             return None;
         }

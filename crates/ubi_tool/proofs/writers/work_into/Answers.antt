@@ -14,10 +14,10 @@ returns-clause-answer g c =
     let file = c.ended-outcome.new.late.file in
     let received = c.ended-outcome.ensures.contents
     ∙ ap (λ l. contents_of g.K.Target.empty (λ f. g.D.Output.Write.contents f.writer) l.file) c.into_writer-late.ensures in
-    let began = rw (c.new-told.ensures, c.new-late.ensures) at c.answer-answer.ensures.answer in
+    let began = rw (c.new-progress.ensures, c.new-late.ensures) at c.answer-answer.ensures.answer in
     let ok = subst (λ (x : Option (List ℕ)). IfOk c.answer-answer.result (answers g.K.Target.empty x)) (sym received) began in
-    let untouched = still_unopened (λ t. t.writer) (λ l. l.file) c.answer-answer.result c.new-told.result c.answer-answer.new.writer
-    c.new-late.result c.into_writer-late.result c.ended-outcome.new.late c.new-told.ensures c.new-late.ensures
+    let untouched = still_unopened (λ t. t.writer) (λ l. l.file) c.answer-answer.result c.new-progress.result c.answer-answer.new.writer
+    c.new-late.result c.into_writer-late.result c.ended-outcome.new.late c.new-progress.ensures c.new-late.ensures
     c.answer-answer.ensures.untouched c.into_writer-late.ensures c.ended-outcome.ensures.untouched in
     into_file c.answer-answer.result k (g.S.BlockSource.known c.answer-answer.new.source) c.args.paths.now.image.now c.args.paths.now.out.now
     (g.D.Disk.files c.args.disk.now) (g.D.Disk.files c.keep_file.new.disk) answers writes (λ f. g.D.Output.Write.contents f.writer)
@@ -36,8 +36,8 @@ returns-clause-others g c =
 
 pub returns-clause-memory : goal.returns-clause-memory
 returns-clause-memory g c =
-    let untouched = still_unopened (λ t. t.writer) (λ l. l.file) c.answer-answer.result c.new-told.result c.answer-answer.new.writer
-    c.new-late.result c.into_writer-late.result c.ended-outcome.new.late c.new-told.ensures c.new-late.ensures
+    let untouched = still_unopened (λ t. t.writer) (λ l. l.file) c.answer-answer.result c.new-progress.result c.answer-answer.new.writer
+    c.new-late.result c.into_writer-late.result c.ended-outcome.new.late c.new-progress.ensures c.new-late.ensures
     c.answer-answer.ensures.untouched c.into_writer-late.ensures c.ended-outcome.ensures.untouched in
     memory_ended c.answer-answer.result c.ended-outcome.result _ (g.D.Disk.files c.args.disk.now) (g.D.Disk.files c.keep_file.new.disk)
     c.ended-outcome.new.late.file c.ended-outcome.ensures.answer untouched
