@@ -1,11 +1,11 @@
 #!/usr/bin/env python3
 """Measures `./ubi_tool compose`, file to file, against `cat` of the same text into a file.
 
-usage: compose.py [--dir FOLDER] [--mib N]
+usage: compose.py [--dir FOLDER] [--mib N] [--tool PROGRAM]
 
 The text has N MiB (64) of `leb` lines, once with whole LEBs of 126,976 bytes and once with LEBs of 384 bytes, each full of
 random bytes, in an order that looks random, after the line of their one dynamic volume. It lies in a new folder below FOLDER
-(/tmp where it is left out), which is removed again. The program is built first where it isn't yet.
+(/tmp where it is left out), which is removed again. Without --tool the program is built first where it isn't yet.
 
 It prints the seconds of each, as they pass and of the processor (user and system), the least of five runs, each into a new
 file, and ends with status 1 where `compose` takes more than six times as long as `cat` by either.
@@ -16,7 +16,7 @@ import shutil
 import sys
 import tempfile
 
-from normalise import built_tool, measure, options
+from normalise import measure, options
 
 MOST = 6
 SHAPES = ((131072, 2048), (512, 64))
@@ -34,8 +34,7 @@ def text(peb, page, size):
 
 
 def main():
-    place, mib = options(__doc__, "--mib", 64)
-    tool = built_tool()
+    place, mib, tool = options(__doc__, "--mib", 64)
     folder = tempfile.mkdtemp(dir=place)
     worst = 0
     print(f"{'text':<38}  passed   of the processor")

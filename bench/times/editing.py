@@ -1,12 +1,12 @@
 #!/usr/bin/env python3
 """Measures `./ubi_tool change` and `rename`, file to file, against `cp` of the same file.
 
-usage: editing.py [--dir FOLDER] [--blocks N]
+usage: editing.py [--dir FOLDER] [--blocks N] [--tool PROGRAM]
 
 The image is the dynamic one of normalise.py with N eraseblocks (1,024, which is 128 MiB) of 128 KiB, of which the last two are
 free. One page of a logical eraseblock is changed, and the volume renamed; each writes the whole image with its steps done. The
-files lie in a new folder below FOLDER (/tmp where it is left out), which is removed again. The program is built first where it
-isn't yet.
+files lie in a new folder below FOLDER (/tmp where it is left out), which is removed again. Without --tool the program is built
+first where it isn't yet.
 
 It prints the seconds of each, as they pass and of the processor (user and system), the least of five runs, each into a new
 file, and the peak of memory, which needs GNU time. It ends with status 1 where one takes more than twice as long as `cp` as
@@ -18,7 +18,7 @@ import sys
 import tempfile
 
 from image import IMAGE_SEQ, counter_header
-from normalise import PAGE, PEB, ROOM, built_tool, eraseblocks, measure, options
+from normalise import PAGE, PEB, ROOM, eraseblocks, measure, options
 
 MOST = 2
 
@@ -33,8 +33,7 @@ def put_files(image, new, count):
 
 
 def main():
-    place, count = options(__doc__, "--blocks", 1024)
-    tool = built_tool()
+    place, count, tool = options(__doc__, "--blocks", 1024)
     sizes = ["--peb", str(PEB), "--page", str(PAGE)]
     folder = tempfile.mkdtemp(dir=place)
     print(f"{count} eraseblocks of {PEB} bytes      passed   of the processor   MiB at the peak")

@@ -1,12 +1,12 @@
 #!/usr/bin/env python3
 """Measures `./ubi_tool normalise`, file to file, against `cp` of the same file.
 
-usage: normalise.py [--dir FOLDER] [--blocks N]
+usage: normalise.py [--dir FOLDER] [--blocks N] [--tool PROGRAM]
 
 Each image has N eraseblocks (1,024, which is 128 MiB) of 128 KiB with pages of 2 KiB: the two copies of the table of
 volumes, and logical eraseblocks of one volume, full of random bytes, in an order that looks random. The volume of one
 image is dynamic, that of the other static. They lie in a new folder below FOLDER (/tmp where it is left out), which is
-removed again. The program is built first where it isn't yet.
+removed again. Without --tool the program is built first where it isn't yet.
 
 It prints the seconds of each, as they pass and of the processor (user and system), the least of five runs, each into a
 new file, and the peak of memory, which needs GNU time. It ends with status 1 where `normalise` takes more than twice as
@@ -86,17 +86,20 @@ def peak(words):
 
 
 def options(usage, name, number):
-    """The folder that --dir names and the number that an option names, or /tmp and the given one."""
-    words, place = sys.argv[1:], "/tmp"
+    """The folder that --dir names and the number that an option names, or /tmp and the given one; and the program that --tool
+    names, or the repository's own."""
+    words, place, tool = sys.argv[1:], "/tmp", None
     while words:
         word = words.pop(0)
         if word == "--dir" and words:
             place = words.pop(0)
+        elif word == "--tool" and words:
+            tool = os.path.abspath(words.pop(0))
         elif word == name and words:
             number = int(words.pop(0))
         else:
             sys.exit(usage)
-    return place, number
+    return place, number, tool or built_tool()
 
 
 def built_tool():
@@ -132,8 +135,7 @@ def over_images(place, count, runs):
 
 
 def main():
-    place, count = options(__doc__, "--blocks", 1024)
-    tool = built_tool()
+    place, count, tool = options(__doc__, "--blocks", 1024)
     sizes = ["--peb", str(PEB), "--page", str(PAGE)]
 
     def runs(path, out):

@@ -1,11 +1,12 @@
 #!/usr/bin/env python3
-"""Measures `./ubi_tool check`, `list` and `same` against `cat` of the same file, and `extract` against `cp`.
+"""Measures `./ubi_tool geometry`, `check`, `list` and `same` against `cat` of the same file, and `extract` against `cp`.
 
-usage: reading.py [--dir FOLDER] [--blocks N]
+usage: reading.py [--dir FOLDER] [--blocks N] [--tool PROGRAM]
 
 The images are those of normalise.py: N eraseblocks (1,024, which is 128 MiB) of 128 KiB, of one dynamic or static volume.
-They lie in a new folder below FOLDER (/tmp where it is left out), which is removed again. The program is built first where
-it isn't yet. `same` compares an image with itself, and reads it twice; so does the `cat` that it is measured against.
+They lie in a new folder below FOLDER (/tmp where it is left out), which is removed again. Without --tool the program is
+built first where it isn't yet. `same` compares an image with itself, and reads it twice; so does the `cat` that it is
+measured against.
 
 It prints the seconds of each, as they pass and of the processor (user and system), the least of five runs, and the peak of
 memory, which needs GNU time. It ends with status 1 where a command takes more than 8 MiB of memory, or where `check` takes
@@ -13,19 +14,19 @@ longer than `cat` as it passes.
 """
 import sys
 
-from normalise import PAGE, PEB, ROOM, built_tool, options, over_images
+from normalise import PAGE, PEB, ROOM, options, over_images
 
 MOST = 1
 
 
 def main():
-    place, count = options(__doc__, "--blocks", 1024)
-    tool = built_tool()
+    place, count, tool = options(__doc__, "--blocks", 1024)
     sizes = ["--peb", str(PEB), "--page", str(PAGE)]
 
     def runs(path, out):
         return {
             "cat": ["cat", path],
+            "geometry": [tool, "geometry", path],
             "check": [tool, "check", path, *sizes],
             "list": [tool, "list", path, *sizes],
             "cat of two": ["cat", path, path],
@@ -36,7 +37,7 @@ def main():
 
     above = False
     for _, ran in over_images(place, count, runs):
-        above |= any(ran[name][2] > ROOM for name in ("check", "list", "same", "extract"))
+        above |= any(ran[name][2] > ROOM for name in ("geometry", "check", "list", "same", "extract"))
         above |= ran["check"][0] > MOST * ran["cat"][0]
     sys.exit(1 if above else 0)
 
