@@ -1,6 +1,7 @@
--- The definitions of the division of a piece on literals.
-use Rattle.std.proofs.Common.{◌≡◌, ℕ, List, [], ◌∷◌, ◌++◌, replicate, refl}
-use Rattle.ubi_media.specs.inner.Division.{word_at, sum_behind, left_of}
+-- The definitions of the division of pieces on literals.
+use Rattle.std.proofs.Common.{◌≡◌, ℕ, List, [], ◌∷◌, ◌++◌, ◌+◌, replicate, refl, arith}
+use Rattle.ubi_media.specs.Check.{check_from}
+use Rattle.ubi_media.specs.inner.Division.{word_at, sum_behind, left_of, bytes_of, Carries}
 
 words : List (List ℕ)
 words = (1 ∷ 2 ∷ 3 ∷ 4 ∷ 5 ∷ 6 ∷ 7 ∷ 8 ∷ []) ∷ (0xFF ∷ 0 ∷ 0 ∷ 0 ∷ 0 ∷ 0 ∷ 0 ∷ 0x80 ∷ []) ∷ []
@@ -33,3 +34,13 @@ five_terms_taken_off = refl
 one_place_on : left_of words terms 1 ≡ 0x80000000000000DF
 unfolding words terms
 one_place_on = refl
+
+two_words : bytes_of (λ k. k + 0x0201) 2
+    ≡ 0x01 ∷ 0x02 ∷ 0 ∷ 0 ∷ 0 ∷ 0 ∷ 0 ∷ 0 ∷ 0x02 ∷ 0x02 ∷ 0 ∷ 0 ∷ 0 ∷ 0 ∷ 0 ∷ 0 ∷ []
+unfolding bytes_of
+two_words = refl
+
+-- a state that stands first is carried
+state_alone : Carries (0x12345678 ∷ []) 0x12345678
+unfolding bytes_of check_from
+state_alone = record { fits = omega arith; after = refl }

@@ -1,16 +1,16 @@
 -- A message that is cut into words of eight bytes: its check is the register that is fed them.
 use Rattle.std.proofs.Common.{◌≡◌, ℕ, zero, suc, ◌+◌, ◌*◌, ◌/◌, ◌^◌, ◌<◌, ◌≤◌, List, [], ◌∷◌, ◌++◌, length, take, drop, get_or, bit_xor, refl, sym, ap, ◌∙◌, arith}
 use Rattle.std.proofs.lemmas.List.{append-nil, drop_all, length-drop, length-take-le, take_all}
-use Rattle.std.proofs.lemmas.Nat.{mod_below, xor_comm}
+use Rattle.std.proofs.lemmas.Nat.{from_le_bytes-to_le_bytes_8, mod_below, xor_comm}
 use Rattle.std.specs.Int.{w64, byte_at, bytes_low_first, from_le_bytes, to_le_bytes}
 use Rattle.std.specs.List.{concat}
 use Rattle.std.specs.Simd.{first_chunks}
 use lib.Bits.{xor_shifted}
 use Rattle.ubi_media.specs.Check.{check_from}
 use Rattle.ubi_media.specs.Fields.{AreBytes}
-use Rattle.ubi_media.specs.inner.Division.{word_at}
+use Rattle.ubi_media.specs.inner.Division.{word_at, bytes_of}
 use Rattle.ubi_media.proofs.ByteLists.{byte_in, bytes-drop, bytes-take}
-use Rattle.ubi_media.proofs.Checks.{check_from-empty, check_from-lt, check_from-piece, first_chunks-rest}
+use Rattle.ubi_media.proofs.Checks.{check_from-append, check_from-empty, check_from-lt, check_from-piece, first_chunks-rest}
 use Rattle.ubi_media.proofs.Fed.{fed, fed-none, fed-more}
 use Rattle.ubi_media.proofs.Lookups.{word, check_from-word, elements, elements-all}
 use Rattle.ubi_media.proofs.Register.{steps}
@@ -72,6 +72,22 @@ check_from-words s words (suc n) h are most =
     (check_from-words s words n h (λ k below. are k (omega arith)) (omega arith))
     ∙ sym (fed-more s (word_at words) n)
 
+-- words that are given by their places
+pub check_from-bytes_of : (s : ℕ) (f : ℕ → ℕ) (n : ℕ) → s < 2 ^ 32 → ((k : ℕ) → k < n → f k < 2 ^ 64)
+    → check_from s (bytes_of f n) ≡ fed s f n
+unfolding bytes_of
+check_from-bytes_of s f zero h narrow = check_from-empty s h ∙ sym (fed-none s f)
+check_from-bytes_of s f (suc n) h narrow =
+    let last : List ℕ = to_le_bytes w64 (f n) in
+    let before : ℕ = check_from s (bytes_of f n) in
+    let is : IsWord last = number-word (f n) in
+    check_from-append s (bytes_of f n) last h
+    ∙ check_from-word before last (check_from-lt s (bytes_of f n) h) is.1
+    ∙ ap (λ w. steps 64 (bit_xor before w))
+    (word-number last is ∙ from_le_bytes-to_le_bytes_8 (f n) (narrow n (omega arith)))
+    ∙ ap (λ q. steps 64 (bit_xor q (f n))) (check_from-bytes_of s f n h (λ k below. narrow k (omega (arith, below))))
+    ∙ sym (fed-more s f n)
+
 -- bytes that are cut into words
 pub chunks-words : (n : ℕ) (m : List ℕ) (k : ℕ) → n * 8 ≤ length m → AreBytes m → k < n
     → IsWord (get_or (first_chunks 8 n m) k [])
@@ -80,7 +96,7 @@ chunks-words (suc n) m zero size are below = (length-take-le 8 m (omega arith), 
 chunks-words (suc n) m (suc k) size are below =
     chunks-words n (drop 8 m) k (omega (arith, length-drop 8 m)) (bytes-drop 8 m are) (omega arith)
 
-chunks-length : (n : ℕ) (m : List ℕ) → length (first_chunks 8 n m) ≡ n
+pub chunks-length : (n : ℕ) (m : List ℕ) → length (first_chunks 8 n m) ≡ n
 chunks-length zero m = refl
 chunks-length (suc n) m = ap suc (chunks-length n (drop 8 m))
 

@@ -1,12 +1,14 @@
-//! The check of long messages, a piece at a time. As a polynomial, a piece is first divided by a multiple of the generator
-//! that has six terms, x^(64 * 252) + x^(64 * 236) + x^(64 * 202) + x^(64 * 59) + x^(64 * 28) + 1. What remains has the same
-//! check and a sixth of the length. The division looks nothing up: a word of eight bytes is added to five words of the
-//! quotient so far, the nearest of which is sixteen places back, so that several can be under way at once.
+//! The check of long messages, a piece at a time. As a polynomial, a message is first divided by a multiple of the
+//! generator that has six terms, x^(64 * 252) + x^(64 * 236) + x^(64 * 202) + x^(64 * 59) + x^(64 * 28) + 1. What
+//! remains has the same check and is 252 words of eight bytes, however long the message is. The division looks nothing
+//! up: a word is added to five words of the quotient so far, the nearest of which is sixteen places back, so that
+//! several can be under way at once. No word looks further back than 252 places, so the last 252 words of the quotient
+//! are all that a piece hands on to the next.
 
-ghost use Rattle.std.specs.Prelude.{◌≡◌, ◌<◌, length};
-ghost use Rattle.std.specs.List.{concat};
+ghost use Rattle.std.specs.Prelude.{◌≡◌, ◌<◌, ◌≤◌, ℕ, length, slice_index};
+ghost use Rattle.std.specs.List.{concat, SameBelow};
 ghost use Rattle.ubi_media.specs.Check.{check_from};
-ghost use Rattle.ubi_media.specs.inner.Division.{left_of, IsPadded, IsPieceRemainder, IsQuotient};
+ghost use Rattle.ubi_media.specs.inner.Division.{left_of, Carries, IsPieceRemainder, IsQuotient};
 
 use crate::check::with_short;
 
@@ -19,50 +21,70 @@ const WORDS: usize = 1536;
 /// The words of a remainder: the divisor has the degree 64 * 252.
 const REMAINDER: usize = 252;
 
-/// The words of a quotient.
+/// The words of the last piece that become words of the quotient.
 const QUOTIENT: usize = WORDS - REMAINDER;
 
-/// The words of a quotient, and as many zeros before it and behind it as a remainder has words.
-const PADDED: usize = WORDS + REMAINDER;
+/// The words of the quotient that are held at a time: the 252 before a piece, and one for each word of the piece.
+const HELD: usize = REMAINDER + WORDS;
 
-/// The state after more bytes, a piece at a time.
+/// The state after more bytes, a piece at a time. The state stands where only the first word looks for it.
 pub fn with_pieces(state: u32, pieces: &[[u8; PIECE]]) -> u32
     ensures { result ≡ check_from state (concat pieces.now) }
 {
-    let mut register = state;
-    let mut quotient = [0; PADDED];
-    for piece in pieces {
-        register = with_piece(register, piece, &mut quotient);
+    let Some((last, before)) = pieces.split_last() else {
+        return state;
+    };
+    let mut quotient = [0; HELD];
+    quotient[0] = u64::from(state);
+    for piece in before {
+        carry(piece, &mut quotient);
     }
-    register
+    with_last(last, &mut quotient)
 }
 
-/// The state after a piece. Its quotient takes the place of the one before, between the same zeros.
-fn with_piece(state: u32, piece: &[u8; PIECE], quotient: &mut [u64; PADDED]) -> u32
-    requires { IsPadded quotient.old }
-    ensures check { result ≡ check_from state piece.now }
-    ensures padded { IsPadded quotient.new }
+/// Divides a piece, and carries the last words of the quotient to where the next piece looks for them.
+fn carry(piece: &[u8; PIECE], quotient: &mut [u64; HELD])
+    ensures { (state : ℕ) → Carries quotient.old state → Carries quotient.new (check_from state piece.now) }
 {
     let (words, _) = piece.as_chunks::<8>();
-    divide(state, words, quotient);
+    divide(words, WORDS, quotient);
+    quotient.copy_within(WORDS.., 0);
+}
+
+/// The state after the last piece, of which there is a remainder.
+fn with_last(piece: &[u8; PIECE], quotient: &mut [u64; HELD]) -> u32
+    ensures { (state : ℕ) → Carries quotient.old state → result ≡ check_from state piece.now }
+{
+    let (words, _) = piece.as_chunks::<8>();
+    clear_end(quotient);
+    divide(words, QUOTIENT, quotient);
     let remainder = remainder_of(words, quotient);
     with_short(0, remainder.as_flattened())
 }
 
-/// Divides a piece, to whose first word the state is added.
-fn divide(state: u32, words: &[[u8; 8]], quotient: &mut [u64; PADDED])
-    requires words { length words.now ≡ 1536 }
-    requires padded { IsPadded quotient.old }
-    ensures { IsQuotient words.now state quotient.new }
+/// Clears the words of the quotient behind those that the last piece has.
+fn clear_end(quotient: &mut [u64; HELD])
+    ensures same { SameBelow quotient.old quotient.new 1536 }
+    ensures clear { (k : ℕ) → 1536 ≤ k → slice_index quotient.new k ≡ 0 }
 {
-    quotient[REMAINDER] = u64::from(state) ^ left_of(words, quotient, 0);
-    for k in 1..QUOTIENT {
+    for k in WORDS..HELD {
+        quotient[k] = 0;
+    }
+}
+
+/// Divides the first words of a piece: the quotient goes on by as many words.
+fn divide(words: &[[u8; 8]], count: usize, quotient: &mut [u64; HELD])
+    requires words { length words.now ≡ 1536 }
+    requires count { count ≤ 1536 }
+    ensures { IsQuotient words.now count quotient.old quotient.new }
+{
+    for k in 0..count {
         quotient[REMAINDER + k] = left_of(words, quotient, k);
     }
 }
 
-/// What remains of a piece: what is left of its last words.
-fn remainder_of(words: &[[u8; 8]], quotient: &[u64; PADDED]) -> [[u8; 8]; REMAINDER]
+/// What remains of the last piece: what is left of its last words.
+fn remainder_of(words: &[[u8; 8]], quotient: &[u64; HELD]) -> [[u8; 8]; REMAINDER]
     requires { length words.now ≡ 1536 }
     ensures { IsPieceRemainder words.now quotient.now result }
 {
@@ -75,7 +97,7 @@ fn remainder_of(words: &[[u8; 8]], quotient: &[u64; PADDED]) -> [[u8; 8]; REMAIN
 
 /// What is left of a word, once the divisor was taken off as often as the quotient says up to that place. Its terms but
 /// the highest say where.
-fn left_of(words: &[[u8; 8]], quotient: &[u64; PADDED], k: usize) -> u64
+fn left_of(words: &[[u8; 8]], quotient: &[u64; HELD], k: usize) -> u64
     requires words { length words.now ≡ 1536 }
     requires place { k < 1536 }
     ensures { result ≡ left_of words.now quotient.now k }

@@ -1,7 +1,8 @@
--- The division of a piece of a message by a multiple of the generator that has few terms:
+-- The division of the pieces of a message by a multiple of the generator that has few terms:
 -- x^(64 * 252) + x^(64 * 236) + x^(64 * 202) + x^(64 * 59) + x^(64 * 28) + 1.
-use Rattle.std.specs.Prelude.{◌≡◌, ℕ, ◌+◌, ◌^◌, ◌<◌, ◌≤◌, bit_xor, List, [], ◌∷◌, length, slice_index, slice_index_or}
+use Rattle.std.specs.Prelude.{◌≡◌, ℕ, zero, suc, ◌+◌, ◌^◌, ◌<◌, ◌≤◌, bit_xor, List, [], ◌∷◌, ◌++◌, length, take, slice_index, slice_index_or}
 use Rattle.std.specs.Int.{w64, from_le_bytes, to_le_bytes}
+use Rattle.ubi_media.specs.Check.{check_from}
 
 -- the word at a place of a piece: the number of its eight bytes, the lowest first
 abbrev pub word_at : List (List ℕ) → ℕ → ℕ
@@ -17,23 +18,30 @@ sum_behind [] xs k = 0
 sum_behind (d ∷ ds) xs k = bit_xor (slice_index xs (k + d)) (sum_behind ds xs k)
 
 -- what is left of the word at a place, once the divisor was taken off as often as the quotient says up to that
--- place: before the quotient's words stand 252 zeros
+-- place: before the quotient's words stand the 252 that were carried
 abbrev pub left_of : List (List ℕ) → List ℕ → ℕ → ℕ
 left_of words quotient k = bit_xor (word_at words k) (sum_behind powers quotient k)
 
--- zeros stand before and behind the 1,284 words of a quotient
-pub record IsPadded (quotient : List ℕ) : Type 0 where
-  pub before : (k : ℕ) → k < 252 → slice_index quotient k ≡ 0
-  pub behind : (k : ℕ) → 1536 ≤ k → slice_index quotient k ≡ 0
+-- the bytes of n words, each of which is given by its place
+unfoldable pub bytes_of : (ℕ → ℕ) → ℕ → List ℕ
+bytes_of word zero = []
+bytes_of word (suc n) = bytes_of word n ++ to_le_bytes w64 (word n)
 
--- the quotient of a piece of 1,536 words, to whose first a state is added: what is left of each but the last 252
-pub record IsQuotient (piece : List (List ℕ)) (state : ℕ) (quotient : List ℕ) : Type 0 where
-  pub padded : IsPadded quotient
+-- the first 252 words of a quotient stand for a state: to go on from the state over 252 words 0 is to go on from 0 over
+-- what the words of the quotient take off from these
+pub record Carries (quotient : List ℕ) (state : ℕ) : Type 0 where
+  pub fits : state < 2 ^ 32
+  pub after : check_from state (bytes_of (λ k. 0) 252)
+      ≡ check_from 0 (bytes_of (sum_behind powers (take 252 quotient)) 252)
+
+-- the quotient goes on by what is left of each of the first words of a piece, and stays the same before and behind
+pub record IsQuotient (piece : List (List ℕ)) (count : ℕ) (before quotient : List ℕ) : Type 0 where
   pub narrow : (k : ℕ) → slice_index quotient k < 2 ^ 64
-  pub words : (k : ℕ) → k < 1284
-      → slice_index quotient (252 + k) ≡ bit_xor (slice_index (state ∷ []) k) (left_of piece quotient k)
+  pub carried : (k : ℕ) → k < 252 → slice_index quotient k ≡ slice_index before k
+  pub words : (k : ℕ) → k < count → slice_index quotient (252 + k) ≡ left_of piece quotient k
+  pub behind : (k : ℕ) → 252 + count ≤ k → slice_index quotient k ≡ slice_index before k
 
--- the bytes of what remains of a piece: what is left of its last 252 words
+-- the bytes of what remains of the last piece: what is left of its last 252 words
 pub record IsPieceRemainder (piece : List (List ℕ)) (quotient : List ℕ) (remainder : List (List ℕ)) : Type 0 where
   pub long : length remainder ≡ 252
   pub words : (k : ℕ) → k < 252

@@ -25,8 +25,9 @@ fn goes_on_from_a_state(rt: HostRuntime) {
     assert!(rt; crc_more(0x1234_5678, b"") == 0x1234_5678);
 }
 
-/// A place of the message and a length: around one piece and two, and what the tables take by sixteen, eight and one.
-static PARTS: [(usize, usize); 16] = [
+/// A place of the message and a length: around one piece, two, three and four, and what the tables take by sixteen,
+/// eight and one.
+static PARTS: [(usize, usize); 24] = [
     (0, 0),
     (3, 1),
     (0, 12_287),
@@ -43,6 +44,14 @@ static PARTS: [(usize, usize); 16] = [
     (0, 24_591),
     (0, 24_592),
     (2, 24_601),
+    (0, 36_863),
+    (0, 36_864),
+    (9, 36_864),
+    (0, 36_865),
+    (0, 36_880),
+    (6, 36_889),
+    (0, 49_151),
+    (3, 49_152),
 ];
 
 /// Bytes in no order.
@@ -80,7 +89,7 @@ fn is_bitwise(bytes: &[u8], at: usize, len: usize, state: u32) -> bool {
 
 #[test]
 fn checks_pieces_as_bits(rt: HostRuntime) {
-    let mut bytes = [0; 24_640];
+    let mut bytes = [0; 49_200];
     fill(&mut bytes);
     for (at, len) in PARTS {
         assert!(rt;

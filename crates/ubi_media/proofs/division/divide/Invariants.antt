@@ -1,12 +1,6 @@
-use Rattle.std.proofs.Common.{◌≡◌, ℕ, ◌+◌, ◌^◌, ◌<◌, [], ◌∷◌, get_or, bit_xor}
-use Rattle.ubi_media.specs.inner.Division.{left_of, IsPadded}
+use Rattle.ubi_media.specs.inner.Division.{IsQuotient}
 use Rattle.ubi_media.proofs.division.divide.Given as goal
 
--- the words of the quotient so far
+-- the quotient goes on so far
 abbrev pub invariant-loop-k : goal.invariant-loop-k
-invariant-loop-k l = record {
-  padded : IsPadded l.quotient;
-  narrow : (i : ℕ) → get_or l.quotient i 0 < 2 ^ 64;
-  words : (i : ℕ) → i < l.k
-      → get_or l.quotient (252 + i) 0 ≡ bit_xor (get_or (l.state ∷ []) i 0) (left_of l.words l.quotient i);
-}
+invariant-loop-k l = IsQuotient l.words l.k l.initial.quotient l.quotient

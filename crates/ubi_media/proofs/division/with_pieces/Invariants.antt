@@ -1,12 +1,9 @@
-use Rattle.std.proofs.Common.{◌≡◌, take}
+use Rattle.std.proofs.Common.{take}
 use Rattle.std.specs.List.{concat}
 use Rattle.ubi_media.specs.Check.{check_from}
-use Rattle.ubi_media.specs.inner.Division.{IsPadded}
+use Rattle.ubi_media.specs.inner.Division.{Carries}
 use Rattle.ubi_media.proofs.division.with_pieces.Given as goal
 
--- the register is the check of the bytes so far, and the quotient stands between zeros
+-- what is carried stands for the check of the bytes so far
 abbrev pub invariant-loop-piece : goal.invariant-loop-piece
-invariant-loop-piece l = record {
-  check : l.register ≡ check_from l.state (concat (take l.piece-index l.pieces));
-  padded : IsPadded l.quotient;
-}
+invariant-loop-piece l = Carries l.quotient (check_from l.state (concat (take l.piece-index l.before)))
