@@ -513,7 +513,7 @@ class Case(Runner):
     def look_geometries(self):
         """Compares what is told of the geometry of the image and of other files."""
         rng = self.rng
-        blocks, share = self.blocks[: rng.randrange(1, len(self.blocks) + 1)], rng.choice((16, 32))
+        blocks, share = self.blocks[: rng.randrange(len(self.blocks) + 1)], rng.choice((16, 32))
         with_more = b"".join(block + rng.randbytes(len(block) // share) for block in blocks)
         for file in (self.image, self.image[: rng.randrange(len(self.image) + 1)], with_more, units(rng), units(rng)):
             self.look_geometry(file)
