@@ -47,7 +47,7 @@ def main():
             sizes = ["--peb", str(peb), "--page", str(page)]
             composed = measure([tool, "compose", path, "--out", out, *sizes], out)
             for name, (passed, used, _) in (("cat", cat), ("compose", composed)):
-                print(f"{f'{name}, LEBs of {peb - 2 * page} bytes':<38} {passed:>7.2f}   {used:>16.2f}")
+                print(f"{f'{name}, LEBs of {peb - 2 * page} bytes':<38} {passed:>7.3f}   {used:>16.3f}")
             worst = max(worst, composed[0] / cat[0], composed[1] / cat[1])
     finally:
         shutil.rmtree(folder)

@@ -49,7 +49,7 @@ def main():
     finally:
         shutil.rmtree(folder)
     for name, (passed, used, most) in ran.items():
-        print(f"{name:<38} {passed:>7.2f}   {used:>16.2f}   {most:>15.1f}")
+        print(f"{name:<38} {passed:>7.3f}   {used:>16.3f}   {most:>15.1f}")
     above = any(ran[name][0] > MOST * ran["cp"][0] or ran[name][2] > ROOM for name in ("change", "rename"))
     sys.exit(1 if above else 0)
 

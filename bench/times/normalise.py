@@ -128,7 +128,7 @@ def over_images(place, count, runs):
             put_image(path, kind, count)
             ran = {name: measure(words, out) for name, words in runs(path, out).items()}
             for name, (passed, used, most) in ran.items():
-                print(f"{f'{name}, {kind}':<38} {passed:>7.2f}   {used:>16.2f}   {most:>15.1f}")
+                print(f"{f'{name}, {kind}':<38} {passed:>7.3f}   {used:>16.3f}   {most:>15.1f}")
             yield kind, ran
     finally:
         shutil.rmtree(folder)
