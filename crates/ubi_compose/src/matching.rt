@@ -101,8 +101,7 @@ fn same_volume<L: BlockSource, R: BlockSource>(
     }
     let extent = match here.extent(geometry, id) {
         Ok(extent) => extent,
-        // It can't be read, on neither side.
-        Err(_) => return Ok(true),
+        Err(_) => return Ok(true), // It can't be read, on neither side.
     };
     let (one, other) = buffers.split_at_mut(geometry.peb_size() as usize);
     for lnum in 0..extent.lebs {

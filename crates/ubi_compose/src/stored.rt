@@ -53,16 +53,14 @@ fn put_static<S: BlockSource, W: Write>(
     };
     let size = entry.usable(geometry);
     let extent = Extent { lebs, size, bytes };
-    let data_pad = entry.data_pad(geometry);
-    let image_seq = places.image_seq();
+    let (data_pad, image_seq) = (entry.data_pad(geometry), places.image_seq());
     let mut total = done;
     for lnum in 0..lebs {
         let Some(p) = places.place(*id, lnum) else {
             unreachable!()
         };
         fetch(geometry, source, p, buffer, total)?;
-        let len = extent.share_len(lnum);
-        let check = given_check(geometry, buffer);
+        let (len, check) = (extent.share_len(lnum), given_check(geometry, buffer));
         let header = piece_header(data_pad, *id, lebs, lnum, len as u32, check);
         total = put_laid(geometry, image_seq, &header, len, buffer, writer, total)?;
     }

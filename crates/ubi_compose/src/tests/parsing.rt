@@ -155,6 +155,10 @@ fn one_leb(alloc: Global) -> Result<Content, Fail> {
     Ok(Content::Dynamic(lebs))
 }
 
+fn volume(entry: VolumeRecord, content: Content) -> Volume {
+    Volume { entry, content }
+}
+
 /// The volumes of the text.
 fn four(alloc: Global) -> Result<[(u32, Volume); 4], Fail> {
     let text = Content::Static(Bytes::new(Vec::from_slice(alloc, b"abc")?));
@@ -169,34 +173,10 @@ fn four(alloc: Global) -> Result<[(u32, Volume); 4], Fail> {
     );
     let fourth = record(VolKind::Static, b"torn")?;
     Ok([
-        (
-            7,
-            Volume {
-                entry: first,
-                content: text,
-            },
-        ),
-        (
-            2,
-            Volume {
-                entry: second,
-                content: map,
-            },
-        ),
-        (
-            3,
-            Volume {
-                entry: half,
-                content: Content::Updating,
-            },
-        ),
-        (
-            0,
-            Volume {
-                entry: fourth,
-                content: Content::Damaged,
-            },
-        ),
+        (7, volume(first, text)),
+        (2, volume(second, map)),
+        (3, volume(half, Content::Updating)),
+        (0, volume(fourth, Content::Damaged)),
     ])
 }
 
