@@ -101,7 +101,8 @@ abbrev pub HasOneVolume : Option (Text × List Row) → Type 0
 HasOneVolume named = (words : List Row) → named ≡ Some (codes "extract", words)
     → is_some (first_of (codes "name") words) ≡ not (is_some (first_of (codes "id") words))
 
--- the command line takes the words, the program's name first: nothing is wrong with them, and they ask for no help
+-- the command line takes the words, the program's name first: nothing is wrong with them, they ask for no help, and those of
+-- `extract` name one volume
 abbrev pub Takes : List Text → Type 0
 Takes words = (fault_of tool words ≡ []) × HasOneVolume (subcommand_of tool words)
 
