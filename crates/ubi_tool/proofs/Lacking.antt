@@ -23,6 +23,7 @@ no_numbers name other rows none (request.List n image) asked = none n asked.1.0
 no_numbers name other rows none (request.Check n image) asked = none n asked.1.0
 no_numbers name other rows none (request.Show n image block) asked = none n asked.1.0
 no_numbers name other rows none (request.Extract n image id out) asked = none n asked.1.0
+no_numbers name other rows none (request.Unpack n image dir) asked = none n asked.1.0
 no_numbers name other rows none (request.Compose n spec out spares seq) asked = none n asked.1.0
 no_numbers name other rows none (request.Normalise n image out) asked = none n asked.1.0
 no_numbers name other rows none (request.Same n left right) asked = none n asked.1.0

@@ -21,5 +21,6 @@ pub mod Requests
 pub mod Showing
 pub mod Taken
 pub mod ToolVectors
+pub mod Unpacked
 pub mod Uses
 pub mod Walks

@@ -87,6 +87,14 @@ module _ (s : Shape) (rows : List Row) (given : AreGiven s rows) where
       let o = text (codes "out") out in
       (request.Extract n.0 i.0 k.0 o.0, refl, (n.1, i.1, k.1, o.1))
 
+  unpack_asked : Needs s (codes "peb") → Needs s (codes "page") → Needs s (codes "IMAGE") → Needs s (codes "out")
+      → IsAsked (codes "unpack") rows
+  unpack_asked peb page image out =
+      let n = numbers peb page in
+      let i = text (codes "IMAGE") image in
+      let o = text (codes "out") out in
+      (request.Unpack n.0 i.0 o.0, refl, (n.1, i.1, o.1))
+
   compose_asked : Needs s (codes "peb") → Needs s (codes "page") → Needs s (codes "SPEC") → Needs s (codes "out")
       → IsAsked (codes "compose") rows
   compose_asked peb page spec out =
@@ -202,12 +210,13 @@ each_asks =
     (also (asks_it _ refl refl refl (λ rows given one. check_asked _ rows given refl refl refl))
     (also (asks_it _ refl refl refl (λ rows given one. show_asked _ rows given refl refl refl refl))
     (also (asks_it _ refl refl refl (λ rows given one. extract_asked _ rows given refl refl refl refl one))
+    (also (asks_it _ refl refl refl (λ rows given one. unpack_asked _ rows given refl refl refl refl))
     (also (asks_it _ refl refl refl (λ rows given one. compose_asked _ rows given refl refl refl refl))
     (also (asks_it _ refl refl refl (λ rows given one. normalise_asked _ rows given refl refl refl refl))
     (also (asks_it _ refl refl refl (λ rows given one. same_asked _ rows given refl refl refl refl))
     (also (asks_it _ refl refl refl (λ rows given one. change_asked _ rows given refl refl refl refl refl refl refl))
     (also (asks_it _ refl refl refl (λ rows given one. rename_asked _ rows given refl refl refl refl refl refl))
-    (also (help_asks _ refl refl) none))))))))))
+    (also (help_asks _ refl refl) none)))))))))))
 
 tool_met : (words : List Text) → fault_of tool words ≡ [] → IsMet (built tool) (argument_words tool words)
 unfolding tool

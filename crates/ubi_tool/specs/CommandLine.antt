@@ -18,6 +18,7 @@ command_name (request.List _ _) = codes "list"
 command_name (request.Check _ _) = codes "check"
 command_name (request.Show _ _ _) = codes "show"
 command_name (request.Extract _ _ _ _) = codes "extract"
+command_name (request.Unpack _ _ _) = codes "unpack"
 command_name (request.Compose _ _ _ _ _) = codes "compose"
 command_name (request.Normalise _ _ _) = codes "normalise"
 command_name (request.Same _ _ _) = codes "same"
@@ -26,8 +27,8 @@ command_name (request.Rename _ _ _) = codes "rename"
 
 -- all of them, in the order of the help
 abbrev pub command_names : List (List ℕ)
-command_names = codes "geometry" ∷ codes "list" ∷ codes "check" ∷ codes "show" ∷ codes "extract" ∷ codes "compose"
-    ∷ codes "normalise" ∷ codes "same" ∷ codes "change" ∷ codes "rename" ∷ []
+command_names = codes "geometry" ∷ codes "list" ∷ codes "check" ∷ codes "show" ∷ codes "extract" ∷ codes "unpack"
+    ∷ codes "compose" ∷ codes "normalise" ∷ codes "same" ∷ codes "change" ∷ codes "rename" ∷ []
 
 -- the words give this text under the name
 abbrev pub HasText : List Row → List ℕ → Bor (List ℕ) → Type 0
@@ -85,6 +86,8 @@ Asks words (request.Show numbers image block) = AsksNumbers words numbers × Has
     × HasNumber words (codes "block") block
 Asks words (request.Extract numbers image key out) = AsksNumbers words numbers × HasText words (codes "IMAGE") image
     × AsksKey words key × HasText words (codes "out") out
+Asks words (request.Unpack numbers image dir) = AsksNumbers words numbers × HasText words (codes "IMAGE") image
+    × HasText words (codes "out") dir
 Asks words (request.Compose numbers spec out spares seq) = AsksNumbers words numbers × HasText words (codes "SPEC") spec
     × HasText words (codes "out") out × HasNumberOr 0 words (codes "spares") spares
     × HasNumberOr 0 words (codes "seq") seq

@@ -1,5 +1,5 @@
 -- What is known of files by their paths.
-use Rattle.std.specs.Prelude.{◌≡◌, ◌≢◌, ℕ, Bool, IfSome, List, [], None, Option, Some, false, if◌then◌else◌}
+use Rattle.std.specs.Prelude.{◌≡◌, ◌≢◌, ℕ, Bool, IfSome, List, [], ◌++◌, None, Option, Some, codes, false, if◌then◌else◌}
 use Rattle.std.specs.Io.KnownBytes.{Appends}
 use Rattle.ubi_media.specs.Geometry.{Sizes}
 use Rattle.ubi_scan.specs.Image.{judged}
@@ -43,6 +43,10 @@ pub record IsLeft (old new : Files) (path : List ℕ) (received : Option (List �
 -- each path but one holds what it held
 abbrev pub OthersStay : Files → Files → List ℕ → Type 0
 OthersStay old new path = (other : List ℕ) → other ≢ path → new.holds other ≡ old.holds other
+
+-- each path that isn't below a folder holds what it held
+abbrev pub OutsideStay : Files → Files → List ℕ → Type 0
+OutsideStay old new dir = (path : List ℕ) → ((name : List ℕ) → path ≢ dir ++ codes "/" ++ name) → new.holds path ≡ old.holds path
 
 -- each path holds what it held
 abbrev pub AllStay : Files → Files → Type 0

@@ -24,4 +24,5 @@ pub mod Rename
 pub mod Same
 pub mod Show
 pub mod Tool
+pub mod Unpack
 pub mod inner

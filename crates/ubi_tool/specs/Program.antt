@@ -9,7 +9,7 @@ use Rattle.ubi_tool.specs.Answer.{Gives, says}
 use Rattle.ubi_tool.specs.Change.{ChangesFrom, HasPlan}
 use Rattle.ubi_tool.specs.Check.{ChecksOf}
 use Rattle.ubi_tool.specs.Compose.{ComposesInto}
-use Rattle.ubi_tool.specs.Disk.{AllStay, Files, IsJudgedOf, IsLeft, IsTextOf, OthersStay, Receives, fresh}
+use Rattle.ubi_tool.specs.Disk.{AllStay, Files, IsJudgedOf, IsLeft, IsTextOf, OthersStay, OutsideStay, Receives, fresh}
 use Rattle.ubi_tool.specs.Extract.{ExtractsOf, HasTextIn}
 use Rattle.ubi_tool.specs.Geometry.{DetectsOf}
 use Rattle.ubi_tool.specs.Lines.{file_line, geometry_line}
@@ -20,6 +20,7 @@ use Rattle.ubi_tool.specs.Rename.{HasRename, RenamesFrom}
 use Rattle.ubi_tool.specs.Same.{ComparesOf}
 use Rattle.ubi_tool.specs.Show.{ShowsOf}
 use Rattle.ubi_tool.specs.Tool.{Requests, Takes}
+use Rattle.ubi_tool.specs.Unpack.{UnpacksOf}
 use Rattle.ubi_tool.specs.declared.command_line.Request.{Request}
 use Rattle.ubi_tool.specs.declared.command_line.Request.TheVariants as request
 use Rattle.ubi_tool.specs.declared.image_file.Unread.{Unread}
@@ -103,6 +104,7 @@ IsAnswerTo d e (request.Check numbers path) = OfFile d numbers path.now ChecksOf
 IsAnswerTo d e (request.Show numbers path p) = OfFile d numbers path.now (ShowsOf p)
 IsAnswerTo d e (request.Extract numbers path key out) =
     OfFile d numbers path.now (λ s k agrees. WritesInto out.now d e (ExtractsOf key s k agrees) (HasTextIn key s agrees))
+IsAnswerTo d e (request.Unpack numbers path dir) = OfFile d numbers path.now (UnpacksOf dir.now d e)
 IsAnswerTo d e (request.Compose numbers spec out spares seq) =
     OfText d numbers spec.now (λ s t. ComposesInto out.now d e s t spares seq)
 IsAnswerTo d e (request.Normalise numbers path out) =
@@ -118,13 +120,14 @@ IsAnswerTo d e (request.Rename numbers path rename) =
     (λ s k agrees. WritesInto rename.out.now d e (RenamesFrom rename.id rename.name.now rename.stop s k agrees)
     (HasRename rename.id rename.name.now s k agrees))
 
--- each file holds what it held, but for the one that a request writes
+-- each file holds what it held, but for the one that a request writes, or those in the folder that it writes
 abbrev pub IsAllElse : Request → Files → Files → Type 0
 IsAllElse (request.Geometry _) d e = AllStay d e
 IsAllElse (request.List _ _) d e = AllStay d e
 IsAllElse (request.Check _ _) d e = AllStay d e
 IsAllElse (request.Show _ _ _) d e = AllStay d e
 IsAllElse (request.Extract _ _ _ out) d e = OthersStay d e out.now
+IsAllElse (request.Unpack _ _ dir) d e = OutsideStay d e dir.now
 IsAllElse (request.Compose _ _ out _ _) d e = OthersStay d e out.now
 IsAllElse (request.Normalise _ _ out) d e = OthersStay d e out.now
 IsAllElse (request.Same _ _ _) d e = AllStay d e

@@ -24,7 +24,7 @@ abbrev pub numbers : List Rule
 numbers = needed (number (codes "peb")) ∷ needed (number (codes "page")) ∷ number (codes "vid") ∷ number (codes "data")
     ∷ number (codes "pebs") ∷ []
 
--- the option with the file to write
+-- the option with the file or the folder to write
 abbrev pub output : Rule
 output = needed (option (codes "out"))
 
@@ -64,6 +64,10 @@ show = on_image (codes "show") (needed (number (codes "block")) ∷ [])
 abbrev pub extract : Shape
 extract = on_image (codes "extract") (output ∷ number (codes "id") ∷ option (codes "name") ∷ [])
 
+-- `unpack`, over an image, with the folder to write
+abbrev pub unpack : Shape
+unpack = on_image (codes "unpack") (output ∷ [])
+
 -- `compose`, over a text, with the file to write, and the spare eraseblocks and the image sequence number if given
 abbrev pub compose : Shape
 compose =
@@ -93,7 +97,7 @@ rename = on_image (codes "rename") (output ∷ volume ∷ needed (option (codes 
 unfoldable pub tool : App
 tool = record {
   top = record (new_shape (codes "ubi_tool")) { is_leaf = false; has_version = true; subcommand_required = true };
-  subs = geometry ∷ list ∷ check ∷ show ∷ extract ∷ compose ∷ normalise ∷ same ∷ change ∷ rename ∷ [];
+  subs = geometry ∷ list ∷ check ∷ show ∷ extract ∷ unpack ∷ compose ∷ normalise ∷ same ∷ change ∷ rename ∷ [];
 }
 
 -- of the words of `extract`, just one names the volume

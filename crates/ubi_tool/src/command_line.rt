@@ -44,6 +44,12 @@ pub enum Request<'a> {
         key: VolumeKey<'a>,
         out: &'a str,
     },
+    /// What each volume of a file reads, into files of a folder.
+    Unpack {
+        numbers: Numbers,
+        image: &'a str,
+        dir: &'a str,
+    },
     /// The image that a text file describes, into another file.
     Compose {
         numbers: Numbers,
@@ -136,6 +142,7 @@ pub fn command_line<'a>(alloc: Global) -> Result<Command<'a>, AllocError>
     let tool = with_command(tool, check_command(alloc))?;
     let tool = with_command(tool, show_command(alloc))?;
     let tool = with_command(tool, extract_command(alloc))?;
+    let tool = with_command(tool, unpack_command(alloc))?;
     let tool = with_command(tool, compose_command(alloc))?;
     let tool = with_command(tool, normalise_command(alloc))?;
     let tool = with_command(tool, same_command(alloc))?;
@@ -172,6 +179,7 @@ fn request_under<'a>(name: &str, matches: &'a ArgMatches<'_>) -> Option<Request<
         "check" => check_of(matches),
         "show" => show_of(matches),
         "extract" => extract_of(matches),
+        "unpack" => unpack_of(matches),
         "compose" => compose_of(matches),
         "normalise" => normalise_of(matches),
         "same" => same_of(matches),
@@ -225,6 +233,16 @@ fn extract_of<'a>(matches: &'a ArgMatches<'_>) -> Option<Request<'a>>
         image: text_of(matches, "IMAGE")?,
         key: key_of(matches)?,
         out: text_of(matches, "out")?,
+    })
+}
+
+fn unpack_of<'a>(matches: &'a ArgMatches<'_>) -> Option<Request<'a>>
+    ensures { IsOneOf (IsAskedBy (codes "unpack") (words_in matches.now)) result }
+{
+    Some(Request::Unpack {
+        numbers: numbers_of(matches)?,
+        image: text_of(matches, "IMAGE")?,
+        dir: text_of(matches, "out")?,
     })
 }
 
@@ -350,6 +368,29 @@ fn volume_name<'a>(alloc: Global) -> Arg<'a>
         .long("name")
         .value_name("NAME")
         .help("Name of the volume as `list` prints it, instead of --id")
+}
+
+fn unpack_command<'a>(alloc: Global) -> Result<Command<'a>, AllocError>
+    ensures { IfOk result (λ c. app_of c ≡ alone tool.unpack) }
+{
+    let command = image_command(
+        alloc,
+        "unpack",
+        "Writes the contents of each volume to a file in a directory",
+    )?;
+    command.arg(out_folder(alloc))
+}
+
+/// The option that names the folder to write.
+fn out_folder<'a>(alloc: Global) -> Arg<'a>
+    ensures rule { rule_of result ≡ tool.output }
+    ensures global { result.global ≡ false }
+{
+    Arg::new(alloc, "out")
+        .long("out")
+        .value_name("DIR")
+        .help("Directory to make, or one that is empty")
+        .required(true)
 }
 
 fn compose_command<'a>(alloc: Global) -> Result<Command<'a>, AllocError>

@@ -15,6 +15,7 @@ use crate::outcome::{Outcome, WRONG_WORDS};
 use crate::output_file::write_outcome;
 use crate::readers::{Checking, Detecting, Listing, Showing, read_file, same_files};
 use crate::spec_file::load_spec;
+use crate::unpack::unpack_file;
 use crate::writers::{Extracting, Normalising, Paths, change_file, rename_file, write_file};
 use clap::Error;
 use clap::error::ErrorKind;
@@ -100,6 +101,11 @@ fn run_request<D: Disk + Eprint>(
             let paths = Paths { image, out };
             write_file(disk, alloc, numbers, &paths, &Extracting { key }, false)
         }
+        Request::Unpack {
+            numbers,
+            image,
+            dir,
+        } => unpack_file(disk, alloc, numbers, image, dir),
         Request::Compose {
             numbers,
             spec,

@@ -86,6 +86,22 @@ pub trait Disk {
         ensures path { IfOk result (λ f. f.path.now ≡ path.now) }
         ensures fresh { IfOk result (λ f. Self.Output.contents f.writer ≡ fresh (files self.now)) };
 
+    /// Makes the file at a path, where there is none yet.
+    ///
+    /// # Errors
+    ///
+    /// There is something at the path, or it can't be made.
+    fn create_new<'p>(&self, path: &'p str) -> io::Result<OutputFile<'p, Self::Output>>
+        ensures path { IfOk result (λ f. f.path.now ≡ path.now) }
+        ensures fresh { IfOk result (λ f. Self.Output.contents f.writer ≡ fresh (files self.now)) };
+
+    /// Makes the folder at a path, or finds that there is one without files.
+    ///
+    /// # Errors
+    ///
+    /// There is something else at the path, or it can't be made.
+    fn make_folder(&self, path: &str) -> io::Result<()>;
+
     /// Closes a file that was opened anew.
     fn keep(&mut self, file: OutputFile<'_, Self::Output>)
         ensures { IsKept (files self.old) (files self.new) file.entry.path.now (Self.Output.contents file.entry.writer) };

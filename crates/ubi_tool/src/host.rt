@@ -3,6 +3,7 @@
 ghost use Rattle.std.specs.Prelude.{◌≡◌};
 
 use crate::disk::{Disk, OutputFile, WholeFile};
+use crate::folder::make_folder;
 use crate::image_source::{source_at, source_of};
 use crate::outcome::ToolError;
 use crate::read::{expected_len, open_whole};
@@ -80,6 +81,15 @@ where
     fn create<'p>(&self, path: &'p str) -> io::Result<OutputFile<'p, HostFile<R::File>>> {
         let file = File::create(self.rt, path)?;
         Ok(OutputFile::new(path, HostFile { file }))
+    }
+
+    fn create_new<'p>(&self, path: &'p str) -> io::Result<OutputFile<'p, HostFile<R::File>>> {
+        let file = File::create_new(self.rt, path)?;
+        Ok(OutputFile::new(path, HostFile { file }))
+    }
+
+    fn make_folder(&self, path: &str) -> io::Result<()> {
+        make_folder(self.rt, path)
     }
 
     fn keep(&mut self, _file: OutputFile<'_, HostFile<R::File>>)

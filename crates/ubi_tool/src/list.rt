@@ -39,7 +39,7 @@ fn put_shown_byte(alloc: Global, text: &mut Vec<u8>, byte: u8) -> Result<(), All
 }
 
 /// Adds a name as it is shown.
-fn put_shown(alloc: Global, text: &mut Vec<u8>, name: &[u8]) -> Result<(), AllocError>
+pub fn put_shown(alloc: Global, text: &mut Vec<u8>, name: &[u8]) -> Result<(), AllocError>
     ensures { OnOk result (text.new.items ≡ text.old.items ++ shown name.now) }
 {
     for byte in name {
@@ -58,7 +58,7 @@ fn kind_word(kind: VolKind) -> &'static str
 }
 
 /// Adds how much a volume reads, or why it can't be read.
-fn put_amount(text: &mut Vec<u8>, amount: Amount) -> Result<(), AllocError>
+pub fn put_amount(text: &mut Vec<u8>, amount: Amount) -> Result<(), AllocError>
     ensures { OnOk result (text.new.items ≡ text.old.items ++ amount_word amount) }
 {
     match amount {

@@ -15,6 +15,7 @@ mod commands;
 mod compose;
 mod disk;
 mod extract;
+mod folder;
 mod geometry;
 mod host;
 mod image_file;
@@ -37,6 +38,7 @@ mod rename;
 mod same;
 mod show;
 mod spec_file;
+mod unpack;
 mod volume_key;
 mod writers;
 

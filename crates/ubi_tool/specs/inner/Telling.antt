@@ -11,9 +11,14 @@ image_path = codes "told.img"
 abbrev pub out_path : List ℕ
 out_path = codes "kept.img"
 
--- it tells what its image and its output hold, if they are there, and nothing of other paths
-abbrev pub telling : Option (List ℕ) → Option (List ℕ) → Files
-telling image out = record {
+-- the path of the one file that its folder has room for
+abbrev pub unpacked_path : List ℕ
+unpacked_path = codes "made/0-root"
+
+-- it tells what its image, its output and the file in its folder hold, if they are there, and nothing of other paths
+abbrev pub telling : Option (List ℕ) → Option (List ℕ) → Option (List ℕ) → Files
+telling image out unpacked = record {
   tells = true;
-  holds = λ path. if bytes_eq path out_path then out else (if bytes_eq path image_path then image else None);
+  holds = λ path. if bytes_eq path out_path then out
+      else (if bytes_eq path unpacked_path then unpacked else (if bytes_eq path image_path then image else None));
 }

@@ -31,6 +31,11 @@ const UNREAD_NEW: (&str, u8) = ("cannot read new.bin\n", 1);
 
 const UNWRITTEN: (&str, u8) = ("cannot write b.img\n", 1);
 
+/// What `unpack` answers of the image of `root`, and where its file can't be written.
+const UNPACKED: (&str, u8) = ("volume 0 bytes=7680 name=root\n", 0);
+
+const UNPACKED_NOT: (&str, u8) = ("cannot write made/0-root\n", 1);
+
 /// What `check`, `list` and `show` answer of blank eraseblocks.
 const CHECKED: (&str, u8) = (
     "blocks 3\nblank 3\nfree 0\ntable 0\nused 0\nstale 0\norphan 0\n\
@@ -161,7 +166,7 @@ static READERS: [Failing; 7] = [
 ];
 
 /// Commands that write a file. What fails isn't tried again.
-static WRITERS: [Failing; 10] = [
+static WRITERS: [Failing; 12] = [
     Failing {
         image: Contents::Blank,
         line: "normalise a.img --out b.img",
@@ -216,6 +221,30 @@ static WRITERS: [Failing; 10] = [
             (Broken::Write(0), ("bytes 0\n", 0), 0),
             (Broken::OpenWrite, ("cannot write b.bin\n", 1), 0),
         ],
+        output: EMPTY,
+    },
+    // Into a folder that is made, and one that can't be.
+    Failing {
+        image: Contents::Root,
+        line: "unpack a.img --out made",
+        ways: &[
+            (Broken::Nothing, UNPACKED, 7680),
+            (Broken::Short(100), UNPACKED, 7680),
+            (Broken::Places, UNPACKED, 7680),
+            (Broken::OpenRead, UNREAD, 0),
+            (Broken::Read(ErrorKind::Other, 2048 + 128), UNREAD, 768),
+            (Broken::Read(ErrorKind::Other, 2048 + 127), UNREAD, 0),
+            (Broken::Cut, UNREAD, 0),
+            (Broken::OpenWrite, UNPACKED_NOT, 0),
+            (Broken::Write(500), UNPACKED_NOT, 500),
+            (Broken::WriteOnce(500), UNPACKED_NOT, 500),
+        ],
+        output: Contents::RootText,
+    },
+    Failing {
+        image: Contents::Root,
+        line: "unpack a.img --out unmade",
+        ways: &[(Broken::Nothing, ("cannot write unmade\n", 1), 0)],
         output: EMPTY,
     },
     Failing {

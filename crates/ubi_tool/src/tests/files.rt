@@ -142,6 +142,97 @@ static NORMALISED: Session = Session {
     absent: "refused_out.img",
 };
 
+/// Volumes whose names would lead elsewhere.
+const PATH_NAMES: Contents = Contents::Runs(&[(
+    b"volume 0 static 1 1 00 ../../x\nbytes 0 6162\nvolume 1 dynamic 1 1 00 a\\x20\\x5cb\n",
+    1,
+)]);
+
+/// Folders that are made, that are there, and that can't be made.
+static UNPACKED: Session = Session {
+    before: &[
+        ("unpack_in.img", Contents::Root),
+        ("unpack_marked.img", Contents::Updating),
+        ("unpack_none.img", Contents::EmptyBoot),
+        ("unpack_paths.txt", PATH_NAMES),
+        ("unpack_boot.img", Contents::DamagedBoot),
+        ("unpack_odd.img", Contents::Odd),
+    ],
+    lines: &[
+        (
+            "unpack unpack_in.img --out unpack_made",
+            "volume 0 bytes=7680 name=root\n",
+            0,
+        ),
+        // There is a file in it now.
+        (
+            "unpack unpack_none.img --out unpack_made",
+            "cannot write unpack_made\n",
+            1,
+        ),
+        (
+            "unpack unpack_none.img --out unpack_none/",
+            "volume 0 bytes=0 name=boot\n",
+            0,
+        ),
+        (
+            "unpack unpack_marked.img --out unpack_marked",
+            "volume 0 updating name=boot\n",
+            1,
+        ),
+        // The folder is there, and empty.
+        (
+            "unpack unpack_boot.img --out unpack_marked",
+            "volume 0 damaged name=boot\n",
+            1,
+        ),
+        (
+            "compose unpack_paths.txt --out unpack_paths.img",
+            "blocks 3\n",
+            0,
+        ),
+        (
+            "unpack unpack_paths.img --out unpack_paths",
+            "volume 0 bytes=2 name=../../x\nvolume 1 bytes=384 name=a\\x20\\x5cb\n",
+            0,
+        ),
+        (
+            "unpack unpack_in.img --out unpack_in.img",
+            "cannot write unpack_in.img\n",
+            1,
+        ),
+        (
+            "unpack unpack_in.img --out no/such/folder",
+            "cannot write no/such/folder\n",
+            1,
+        ),
+        (
+            "unpack unpack_odd.img --out unpack_refused",
+            "refused S1 Length\n",
+            1,
+        ),
+        (
+            "unpack unpack_gone.img --out unpack_refused",
+            "cannot read unpack_gone.img\n",
+            1,
+        ),
+    ],
+    after: &[
+        ("unpack_made/0-root", Contents::RootText),
+        ("unpack_none/0-boot", EMPTY),
+        (
+            "unpack_paths/0-..\\x2f..\\x2fx",
+            Contents::Runs(&[(b"ab", 1)]),
+        ),
+        (
+            "unpack_paths/1-a\\x20\\x5cb",
+            Contents::Runs(&[(b"\xFF", 384)]),
+        ),
+        ("unpack_in.img", Contents::Root),
+    ],
+    absent: "unpack_refused",
+};
+
 static EXTRACTED: Session = Session {
     before: &[
         ("extract_in.img", Contents::Root),
@@ -535,7 +626,8 @@ static RENAMED: Session = Session {
 #[test]
 fn writes_what_is_normalised_and_extracted(rt: HostRuntime) -> Result<(), Fail> {
     assert_session(&rt, rt.alloc(), &NORMALISED)?;
-    assert_session(&rt, rt.alloc(), &EXTRACTED)
+    assert_session(&rt, rt.alloc(), &EXTRACTED)?;
+    assert_session(&rt, rt.alloc(), &UNPACKED)
 }
 
 #[test]

@@ -52,6 +52,11 @@ static CHIPS: [Session; 2] = [
                 0,
             ),
             (
+                "unpack chip.img --out chip_volumes --peb 131072 --page 2048 --pebs 64",
+                "volume 0 bytes=380928 name=root\n",
+                0,
+            ),
+            (
                 "normalise chip.img --out chip_normal.img --peb 131072 --page 2048 --pebs 64",
                 "blocks 3\n",
                 0,
@@ -107,6 +112,7 @@ static CHIPS: [Session; 2] = [
             ("chip.img", Contents::Runs(PAGE_IMAGE)),
             ("chip_normal.img", Contents::First(PAGE_IMAGE, 393_216)),
             ("chip.bin", PAGE_READ),
+            ("chip_volumes/0-root", PAGE_READ),
             ("chip_renamed.bin", PAGE_READ),
             (
                 "chip_changed.bin",

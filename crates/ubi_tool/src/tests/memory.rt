@@ -163,7 +163,7 @@ fn tells_all_or_runs_out_of_memory(rt: HostRuntime) -> Result<(), Fail> {
 }
 
 /// The words of a command, how many bytes of the image they are over, what is answered, and how many bytes are written.
-static WORDS: [(&str, usize, &str, usize); 9] = [
+static WORDS: [(&str, usize, &str, usize); 10] = [
     ("geometry a", 2560, SMALL, 0),
     ("list a --peb 512 --page 64 --pebs 32", 2560, LISTED, 0),
     ("show a --block 4 --peb 512 --page 64", 2560, SHOWN, 0),
@@ -171,6 +171,12 @@ static WORDS: [(&str, usize, &str, usize); 9] = [
         "extract a --id 0 --out b --peb 512 --page 64",
         2560,
         "bytes 7680\n",
+        7680,
+    ),
+    (
+        "unpack a --out made --peb 512 --page 64",
+        2560,
+        "volume 0 bytes=7680 name=root\n",
         7680,
     ),
     (

@@ -21,12 +21,19 @@ const IMAGE: &str = "told.img";
 /// The path of its output.
 const OUT: &str = "kept.img";
 
-/// A disk with one image, and room for one output.
+/// The path of its folder.
+const FOLDER: &str = "made";
+
+/// The path of the file that its folder has room for.
+const UNPACKED: &str = "made/0-root";
+
+/// A disk with one image, and room for one output and for a folder with one file.
 #[derive(Drop)]
 struct Telling<'a> {
     alloc: Global,
     image: Option<&'a [u8]>,
     out: Option<Vec<u8>>,
+    unpacked: Option<Vec<u8>>,
 }
 
 /// Bytes that are read at places.
@@ -56,7 +63,7 @@ impl<'a> Disk for Telling<'a> {
 
     type Output = Vec<u8>;
 
-    ghost files = { λ disk. telling (option_map (λ bytes. bytes.now) disk.image) (option_map (λ bytes. bytes.items) disk.out) };
+    ghost files = { λ disk. telling (option_map (λ bytes. bytes.now) disk.image) (option_map (λ bytes. bytes.items) disk.out) (option_map (λ bytes. bytes.items) disk.unpacked) };
 
     fn source_at(&self, path: &str) -> Option<FileSource<KnownFile<'a>>> {
         match self.image {
@@ -92,11 +99,29 @@ impl<'a> Disk for Telling<'a> {
         }
     }
 
+    fn create_new<'p>(&self, path: &'p str) -> io::Result<OutputFile<'p, Vec<u8>>> {
+        if path == UNPACKED && self.unpacked.is_none() {
+            Ok(OutputFile::new(path, Vec::new(self.alloc)))
+        } else {
+            Err(io::Error::from(ErrorKind::PermissionDenied))
+        }
+    }
+
+    fn make_folder(&self, path: &str) -> io::Result<()> {
+        if path == FOLDER {
+            Ok(())
+        } else {
+            Err(io::Error::from(ErrorKind::PermissionDenied))
+        }
+    }
+
     fn keep(&mut self, file: OutputFile<'_, Vec<u8>>)
-        ensures { IsKept (telling (option_map (λ bytes. bytes.now) self.old.image) (option_map (λ bytes. bytes.items) self.old.out)) (telling (option_map (λ bytes. bytes.now) self.new.image) (option_map (λ bytes. bytes.items) self.new.out)) file.entry.path.now (Some file.entry.writer.items) }
+        ensures { IsKept (telling (option_map (λ bytes. bytes.now) self.old.image) (option_map (λ bytes. bytes.items) self.old.out) (option_map (λ bytes. bytes.items) self.old.unpacked)) (telling (option_map (λ bytes. bytes.now) self.new.image) (option_map (λ bytes. bytes.items) self.new.out) (option_map (λ bytes. bytes.items) self.new.unpacked)) file.entry.path.now (Some file.entry.writer.items) }
     {
         if file.path() == OUT {
             self.out = Some(file.writer);
+        } else if file.path() == UNPACKED {
+            self.unpacked = Some(file.writer);
         } else if file.path() == IMAGE {
             self.image = None;
         }
@@ -113,56 +138,91 @@ impl Eprint for Telling<'_> {
     }
 }
 
-/// A line, what it answers of the image of `root`, and what its output holds then, if it is there.
-static LINES: [(&str, (&str, u8), Option<Contents>); 9] = [
-    ("geometry told.img", (SMALL, 0), None),
-    ("geometry kept.img", ("cannot read kept.img\n", 1), None),
-    ("check kept.img", ("cannot read kept.img\n", 1), None),
+/// A line, what it answers of the image of `root`, and what its output and the file in its folder hold then, if they are
+/// there.
+static LINES: [(&str, (&str, u8), Option<Contents>, Option<Contents>); 12] = [
+    ("geometry told.img", (SMALL, 0), None, None),
+    (
+        "geometry kept.img",
+        ("cannot read kept.img\n", 1),
+        None,
+        None,
+    ),
+    ("check kept.img", ("cannot read kept.img\n", 1), None, None),
     (
         "normalise told.img --out kept.img",
         ("blocks 5\n", 0),
         Some(Contents::Root),
+        None,
     ),
     (
         "normalise told.img --out told.img",
         ("cannot write told.img\n", 1),
+        None,
         None,
     ),
     (
         "extract told.img --id 0 --out kept.img",
         ("bytes 7680\n", 0),
         Some(Contents::RootText),
+        None,
     ),
     (
         "extract told.img --id 1 --out kept.img",
         ("refused L1 NoVolume\n", 1),
         None,
+        None,
     ),
-    ("same told.img told.img", ("same\n", 0), None),
+    (
+        "unpack told.img --out made",
+        ("volume 0 bytes=7680 name=root\n", 0),
+        None,
+        Some(Contents::RootText),
+    ),
+    (
+        "unpack told.img --out other",
+        ("cannot write other\n", 1),
+        None,
+        None,
+    ),
+    (
+        "unpack kept.img --out made",
+        ("cannot read kept.img\n", 1),
+        None,
+        None,
+    ),
+    ("same told.img told.img", ("same\n", 0), None, None),
     (
         "same told.img other.img",
         ("cannot read other.img\n", 1),
         None,
+        None,
     ),
 ];
+
+/// What a file holds, if it is there.
+fn bytes_of(alloc: Global, contents: Option<Contents>) -> Result<Option<Vec<u8>>, Fail> {
+    match contents {
+        Some(contents) => Ok(Some(contents.bytes(alloc)?)),
+        None => Ok(None),
+    }
+}
 
 #[test]
 fn answers_of_the_named_files(rt: HostRuntime) -> Result<(), Fail> {
     let alloc = rt.alloc();
     let image = Contents::Root.bytes(alloc)?;
-    for (line, answer, output) in &LINES {
+    for (line, answer, output, unpacked) in &LINES {
         let mut disk = Telling {
             alloc,
             image: Some(image.as_slice()),
             out: None,
+            unpacked: None,
         };
         let outcome = run_on(&mut disk, alloc, with_sizes(alloc, line)?.as_str())?;
         assert!(rt; is_answer(&outcome, *answer), "of {line}");
-        let want = match output {
-            Some(contents) => Some(contents.bytes(alloc)?),
-            None => None,
-        };
-        assert!(rt; disk.out == want, "of {line}");
+        assert!(rt; disk.out == bytes_of(alloc, *output)?, "of {line}");
+        assert!(rt; disk.unpacked == bytes_of(alloc, *unpacked)?, "of {line}");
         assert!(rt; disk.image.is_some(), "of {line}");
     }
     Ok(())

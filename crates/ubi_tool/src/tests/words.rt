@@ -44,7 +44,7 @@ fn assert_wrong(rt: &impl Abort, alloc: Global, cases: &[(&str, &str)]) -> Resul
 }
 
 /// Lines that name no command or ask for help, with what is shown.
-static NO_COMMAND: [(&str, &str); 22] = [
+static NO_COMMAND: [(&str, &str); 24] = [
     ("", "requires a subcommand"),
     ("--help", "Usage: ubi_tool"),
     ("--help", "ubi_tool list dump.img --peb 131072 --page 2048"),
@@ -60,6 +60,8 @@ static NO_COMMAND: [(&str, &str); 22] = [
     ("show --help", "Usage: ubi_tool show"),
     ("same --help", "Usage: ubi_tool same"),
     ("extract --help", "Usage: ubi_tool extract"),
+    ("unpack --help", "Usage: ubi_tool unpack"),
+    ("unpack --help", "--out <DIR>"),
     ("compose --help", "Usage: ubi_tool compose"),
     ("normalise --help", "Usage: ubi_tool normalise"),
     ("change --help", "Usage: ubi_tool change"),
@@ -78,7 +80,7 @@ fn shows_wrong_commands_and_help(rt: HostRuntime) -> Result<(), Fail> {
 }
 
 /// Lines of which words are missing.
-static MISSING: [(&str, &str); 23] = [
+static MISSING: [(&str, &str); 25] = [
     ("geometry", "<IMAGE>"),
     ("normalise a --out b --peb 512", "--page <N>"),
     ("normalise --out b --peb 512 --page 64", "<IMAGE>"),
@@ -96,6 +98,8 @@ static MISSING: [(&str, &str); 23] = [
     ),
     ("extract a --peb 512 --page 64 --name a", "--out <FILE>"),
     ("extract a --peb 512 --page 64 --id 0", "--out <FILE>"),
+    ("unpack a --peb 512 --page 64", "--out <DIR>"),
+    ("unpack --out b --peb 512 --page 64", "<IMAGE>"),
     (
         "change a --peb 512 --page 64 --lnum 0 --from b --out c",
         "--id <N>",
@@ -137,7 +141,7 @@ fn shows_words_that_are_missing(rt: HostRuntime) -> Result<(), Fail> {
 }
 
 /// Lines with words that can't be read.
-static UNREAD: [(&str, &str); 16] = [
+static UNREAD: [(&str, &str); 17] = [
     ("geometry a --peb 512", "unexpected argument '--peb'"),
     ("geometry a --page 64", "unexpected argument '--page'"),
     ("geometry a b", "unexpected argument 'b'"),
@@ -173,6 +177,10 @@ static UNREAD: [(&str, &str); 16] = [
         "invalid value",
     ),
     (
+        "unpack a --peb 512 --page 64 --id 0 --out b",
+        "unexpected argument '--id'",
+    ),
+    (
         "rename a --peb 512 --page 64 --id 0 --name b --out c --stop x",
         "invalid value",
     ),
@@ -193,7 +201,7 @@ fn shows_words_that_cannot_be_read(rt: HostRuntime) -> Result<(), Fail> {
 
 /// Lines that are answered before any image is read, with the answers: of the numbers the first limit that they break,
 /// and of what is left out its default. A path that begins with a hyphen follows `--`.
-static ANSWERED: [(&str, &str, u8); 29] = [
+static ANSWERED: [(&str, &str, u8); 31] = [
     ("geometry a", "cannot read a\n", 1),
     ("geometry -- -a", "cannot read -a\n", 1),
     (
@@ -251,6 +259,12 @@ static ANSWERED: [(&str, &str, u8); 29] = [
         "refused G2 PebSize\n",
         2,
     ),
+    (
+        "unpack a --out b --peb 500 --page 64",
+        "refused G2 PebSize\n",
+        2,
+    ),
+    ("unpack a --out b --peb 512 --page 64", "cannot read a\n", 1),
     (
         "normalise a --out b --peb 500 --page 64",
         "refused G2 PebSize\n",

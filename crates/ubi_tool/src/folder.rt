@@ -1,0 +1,48 @@
+//! Folders of the system.
+
+use std::fs::Files;
+use std::io::Read;
+use std::{fs, io};
+
+/// The bytes that are read at once of the names in a folder.
+const CHUNK: usize = 1024;
+
+/// Whether no name is read but those of the folder itself and of the one above it. Each is followed by a zero byte.
+fn has_no_name(names: &[u8]) -> bool {
+    names.split(|byte| *byte == 0).all(|name| name.is_empty()
+        || name == b".".as_slice()
+        || name == b"..".as_slice())
+}
+
+/// Whether there is a folder at a path, itself and not by a link, and nothing in it. It is denied where it can't be told.
+fn is_empty_folder<R: Files>(rt: &R, path: &str) -> bool {
+    match fs::symlink_metadata(rt, path) {
+        Ok(metadata) if metadata.is_dir() => {}
+        _ => return false,
+    }
+    let Ok(mut names) = rt.open_dir(path) else {
+        return false;
+    };
+    let mut chunk = [0u8; CHUNK];
+    for _ in 0..u64::MAX {
+        match names.read(&mut chunk) {
+            Ok(0) => return true,
+            Ok(count) if has_no_name(&chunk[..count]) => {}
+            _ => return false,
+        }
+    }
+    false
+}
+
+/// Makes the folder at a path, or finds that there is one without files.
+///
+/// # Errors
+///
+/// There is something else at the path, or it can't be made.
+pub fn make_folder<R: Files>(rt: &R, path: &str) -> io::Result<()> {
+    match fs::create_dir(rt, path) {
+        Ok(()) => Ok(()),
+        Err(_) if is_empty_folder(rt, path) => Ok(()),
+        Err(error) => Err(error),
+    }
+}
