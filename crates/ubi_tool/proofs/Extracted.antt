@@ -39,7 +39,7 @@ pub done_text : (image : Image) (key : VolumeKey) (old new : Option (List ℕ)) 
 done_text image key old new o (accepted m a r) done = let t = volume_text m key old new o r done in (m, t.0, a, t.1)
 done_text image key old new o (refused c h line kept) done = absurd (not_both o done line.status)
 
-error_in : (r : Result (List ℕ) ReadError) (e : ReadError) → Err e ≡ result_map_both length (λ x. x) r → r ≡ Err e
+pub error_in : (r : Result (List ℕ) ReadError) (e : ReadError) → Err e ≡ result_map_both length (λ x. x) r → r ≡ Err e
 error_in (Ok text) e h = absurd (cc)
 error_in (Err d) e h = let same : d ≡ e = cc in ap Err same
 
@@ -65,7 +65,7 @@ pub failed_text : (image : Image) (key : VolumeKey) (old new : Option (List ℕ)
 failed_text image key old new h = (h.0, h.2.0, h.1, h.2.2)
 
 -- a volume with a length has a text
-has_text : (r : Result (List ℕ) ReadError) (n : ℕ) → Ok n ≡ result_map_both length (λ (x : ReadError). x) r
+pub has_text : (r : Result (List ℕ) ReadError) (n : ℕ) → Ok n ≡ result_map_both length (λ (x : ReadError). x) r
     → (text : List ℕ) × (r ≡ Ok text) × (n ≡ length text)
 has_text (Ok text) n h = (text, refl, cc)
 has_text (Err e) n h = absurd (cc)

@@ -2,7 +2,7 @@
 
 ghost use Rattle.std.specs.FinMap as finite;
 ghost use Rattle.std.specs.List.{flat_map};
-ghost use Rattle.std.specs.Prelude.{◌≡◌, ◌≢◌, ◌++◌, ◌<◌, ℕ, Err, IfErr, IfOk, IfSome, List, OnErr, OnOk, codes, length, string_bytes};
+ghost use Rattle.std.specs.Prelude.{◌≡◌, ◌≢◌, ◌++◌, ◌<◌, ℕ, Err, IfErr, IfOk, IfSome, List, OnErr, OnOk, codes, if◌then◌else◌, is_ok, length, string_bytes};
 ghost use Rattle.ubi_scan.specs.Image.{image_of};
 ghost use Rattle.ubi_scan.specs.Source.{Narrows, WhereHeld};
 ghost use Rattle.ubi_volume.specs.Extract.{extent_in, extent_len};
@@ -143,6 +143,16 @@ fn put_unpacked(
     put_word(text, "\n")
 }
 
+/// The status once one volume more was looked at: a volume that can't be read has that of a failure.
+fn status_with(status: u8, extent: &Result<Extent, ReadError>) -> u8
+    ensures { result ≡ (if is_ok (extent_len extent.now) then status else 1) }
+{
+    match extent {
+        Ok(_) => status,
+        Err(_) => FAILED,
+    }
+}
+
 /// What is answered once the volumes are unpacked: a line for each, and whether all of them can be read.
 fn unpacked(alloc: Global, geometry: &Geometry, places: &Places) -> Result<Outcome, AllocError>
     requires { places.now.records.sizes ≡ geometry.now }
@@ -152,9 +162,7 @@ fn unpacked(alloc: Global, geometry: &Geometry, places: &Places) -> Result<Outco
     let mut status = DONE;
     for listed in places.table().entries() {
         let extent = places.extent(geometry, listed.0);
-        if extent.is_err() {
-            status = FAILED;
-        }
+        status = status_with(status, &extent);
         put_unpacked(alloc, &mut text, listed, &extent)?;
     }
     Ok(Outcome::saying(text, status))
@@ -236,8 +244,9 @@ fn unpack_volumes<D: Disk, S: BlockSource>(
         match unpack_volume(disk, geometry, source, places, listed.0, path, buffer) {
             Ok(()) => {}
             Err(ToolError::Read) => return Err(ToolError::Read),
+            Err(ToolError::Write) => return Ok(Some(i)),
             // No memory is taken.
-            Err(ToolError::Write | ToolError::Memory) => return Ok(Some(i)),
+            Err(ToolError::Memory) => unreachable!(),
         }
     }
     Ok(None)
@@ -327,10 +336,12 @@ fn told_or(work: Result<Outcome, ToolError>, unread: Outcome) -> Result<Outcome,
 {
     match work {
         Ok(outcome) => Ok(outcome),
-        Err(ToolError::Read) => Ok(unread),
-        Err(ToolError::Memory) => Err(AllocError),
-        // The files that are written are told by the outcome.
-        Err(ToolError::Write) => unreachable!(),
+        Err(error) => match error {
+            ToolError::Read => Ok(unread),
+            ToolError::Memory => Err(AllocError),
+            // A file that can't be written is told by the outcome.
+            ToolError::Write => unreachable!(),
+        },
     }
 }
 

@@ -1,5 +1,5 @@
 -- The files into which volumes are unpacked.
-use Rattle.std.specs.Prelude.{◌≡◌, ℕ, List, None, Option, Result, Some, codes, length, slice_get, string_bytes}
+use Rattle.std.specs.Prelude.{◌≡◌, ℕ, List, [], ◌∷◌, None, Option, Result, Some, codes, string_bytes}
 use Rattle.ubi_tool.specs.Answer.{Gives, says}
 use Rattle.ubi_tool.specs.Lines.{file_line}
 use Rattle.ubi_volume.specs.declared.errors.ReadError.{ReadError}
@@ -13,9 +13,10 @@ pub record IsFileOf (dir : List ℕ) (e : Listed) (f : VolumeFile) : Type 0 wher
   pub unwritten : Gives f.unwritten (says (file_line (codes "cannot write ") (file_path dir e)) 1)
 
 -- the files of volumes, in their order
-pub record AreFilesOf (dir : List ℕ) (es : List Listed) (fs : List VolumeFile) : Type 0 where
-  pub count : length fs ≡ length es
-  pub each : (i : ℕ) (e : Listed) (f : VolumeFile) → slice_get es i ≡ Some e → slice_get fs i ≡ Some f → IsFileOf dir e f
+abbrev pub AreFilesOf : List ℕ → List Listed → List VolumeFile → Type 0
+AreFilesOf dir [] [] = Unit {0}
+AreFilesOf dir (e ∷ es) (f ∷ fs) = IsFileOf dir e f × AreFilesOf dir es fs
+AreFilesOf dir _ _ = ⊥
 
 -- how unpacking volumes ends: each is unpacked, or those before the one at a place, whose file can't be written
 abbrev pub Ends : (ℕ → Result (List ℕ) ReadError) → List ℕ → List Listed → Files → Files → Option ℕ → Type 0
