@@ -3,45 +3,39 @@ use Rattle.std.proofs.Common.{◌≡◌, ℕ, Bool, List, length, refl, ap, sym,
 use Rattle.std.specs.Prelude.{Option, Some, None, ◌==◌}
 use Rattle.std.specs.Bool.{then_some}
 use Rattle.std.specs.Option.{option_or}
-use Rattle.ubi_config.specs.Config.{IsConfigError, first_fault, groups, groups_of, line_fault, lines, no_section_fault, sayings, section_fault, sections_in, sections_of}
-use Rattle.ubi_config.specs.inner.Reading.{IsFault}
+use Rattle.ubi_config.specs.Config.{Fault, IsFault, first_fault, groups, groups_of, line_fault, lines, no_section_fault, sayings, section_fault, sections_in, sections_of}
 use Rattle.ubi_config.specs.declared.line.Line.{Line}
 use Rattle.ubi_config.specs.declared.section.Section.{Section}
-use Rattle.ubi_config.specs.declared.errors.ConfigCause.{ConfigCause}
 use Rattle.ubi_config.specs.declared.errors.ConfigCause.TheVariants as cause
 use Rattle.ubi_config.specs.declared.errors.ConfigError.{ConfigError}
 use Rattle.ubi_config.specs.declared.errors.ConfigError.TheVariants as error
 
--- a fault is a number of a line and a cause
-abbrev pub Fault : Type 0
-Fault = Option (ℕ × ConfigCause)
-
-by_parts : (text : List ℕ) (lines sections : Fault) → line_fault text ≡ lines → section_fault (groups_of text) ≡ sections
+by_parts : (text : List ℕ) (lines sections : Option Fault) → line_fault text ≡ lines → section_fault (groups_of text) ≡ sections
     → first_fault text ≡ option_or lines (option_or sections (option_or (no_section_fault (sections_of text)) None))
 unfolding first_fault
 by_parts text lines sections l s =
-    ap (λ (o : Fault). option_or o (option_or (section_fault (groups_of text))
+    ap (λ (o : Option Fault). option_or o (option_or (section_fault (groups_of text))
     (option_or (no_section_fault (sections_of text)) None))) l
-    ∙ ap (λ (o : Fault). option_or lines (option_or o (option_or (no_section_fault (sections_of text)) None))) s
+    ∙ ap (λ (o : Option Fault). option_or lines (option_or o (option_or (no_section_fault (sections_of text)) None))) s
 
 -- a line has a fault
-pub line_refused : (text : List ℕ) (e : ConfigError) → IsFault (line_fault text) e → IsConfigError text e
+pub line_refused : (text : List ℕ) (e : ConfigError) → IsFault (line_fault text) e → IsFault (first_fault text) e
 line_refused text (error.Refused n c) h = by_parts text (Some (n, c)) (section_fault (groups_of text)) h refl
 line_refused text error.Memory h = tt
 
 -- no line has a fault, and a section has
 pub section_refused : (text : List ℕ) (said : List Line) (e : ConfigError) → said ≡ sayings (lines text)
-    → line_fault text ≡ None → IsFault (section_fault (groups said)) e → IsConfigError text e
+    → line_fault text ≡ None → IsFault (section_fault (groups said)) e → IsFault (first_fault text) e
 section_refused text said (error.Refused n c) is l h =
     by_parts text None (Some (n, c)) l (ap (λ ls. section_fault (groups ls)) (sym is) ∙ h)
 section_refused text said error.Memory is l h = tt
 
-none_left : (o : Fault) → option_or o None ≡ o
+none_left : (o : Option Fault) → option_or o None ≡ o
 none_left (Some fault) = refl
 none_left None = refl
 
 -- the fault of a text that gives no section
-abbrev pub fault_if : Bool → Fault
+abbrev pub fault_if : Bool → Option Fault
 fault_if b = then_some b (1, cause.NoSection)
 
 module _ (text : List ℕ) (said : List Line) (made : List Section) (is : said ≡ sayings (lines text))

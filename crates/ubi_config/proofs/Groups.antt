@@ -7,8 +7,9 @@ use Rattle.std.specs.List.{cons_option}
 use Rattle.std.specs.Option.{option_or}
 use Rattle.std.specs.Result.{result_err, result_ok}
 use Rattle.std.proofs.lemmas.List.Elements.{filter_map-append}
-use Rattle.ubi_config.specs.Config.{Group, first_some, group_of, groups, lack_of, section_fault, section_of, sections_in}
-use Rattle.ubi_config.specs.inner.Reading.{IsFault, IsRefused, error_at}
+use Rattle.ubi_config.specs.Above.{first_some}
+use Rattle.ubi_config.specs.Config.{Fault, Group, IsFault, group_of, groups, lack_of, section_fault, section_of, sections_in}
+use Rattle.ubi_config.specs.inner.Reading.{IsRefused, error_at}
 use Rattle.ubi_config.specs.declared.errors.ConfigCause.{ConfigCause}
 use Rattle.ubi_config.specs.declared.errors.ConfigError.{ConfigError}
 use Rattle.ubi_config.specs.declared.errors.ConfigError.TheVariants as error
@@ -79,13 +80,13 @@ none_made = (refl, refl)
 pub fault_kept : (all gs hs : List Group) → section_fault all ≡ section_fault (gs ++ hs) → section_fault gs ≡ None
     → section_fault all ≡ section_fault hs
 fault_kept all gs hs is none =
-    is ∙ fault-append gs hs ∙ ap (λ (o : Option (ℕ × ConfigCause)). option_or o (section_fault hs)) none
+    is ∙ fault-append gs hs ∙ ap (λ (o : Option Fault). option_or o (section_fault hs)) none
 
 -- the first fault is that of this section
 pub fault_found : (all gs hs : List Group) (e : ConfigError) → section_fault all ≡ section_fault (gs ++ hs)
     → IsFault (section_fault gs) e → IsFault (section_fault all) e
 fault_found all gs hs (error.Refused n c) is some =
-    is ∙ fault-append gs hs ∙ ap (λ (o : Option (ℕ × ConfigCause)). option_or o (section_fault hs)) some
+    is ∙ fault-append gs hs ∙ ap (λ (o : Option Fault). option_or o (section_fault hs)) some
 fault_found all gs hs error.Memory is some = tt
 
 -- a line that begins no section
@@ -105,9 +106,6 @@ no_group (line.Alignment alignment) below h = refl
 pub record IsMadeSoFar (said : List Line) (n : ℕ) (made : List Section) : Type 0 where
   pub fault : section_fault (groups said) ≡ section_fault (groups (drop n said))
   pub sections : made ++ sections_in (groups (drop n said)) ≡ sections_in (groups said)
-
-pub made_none : (said : List Line) → IsMadeSoFar said 0 []
-made_none said = record { fault = refl; sections = refl }
 
 module _ (said : List Line) (n : ℕ) (made : List Section) (l : Line) (k : IsMadeSoFar said n made)
     (within : n < length said) (is : l ≡ get_or said n l) where

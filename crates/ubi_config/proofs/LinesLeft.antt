@@ -4,16 +4,16 @@ use Rattle.std.specs.Prelude.{Option, None, map, option_map}
 use Rattle.std.specs.List.{enumerate_from}
 use Rattle.std.specs.Option.{option_or}
 use Rattle.std.proofs.lemmas.List.{length_push, take_at}
-use Rattle.ubi_config.specs.Config.{cause_after, cause_at, first_some, line_at, line_fault, line_number, lines, sayings}
-use Rattle.ubi_config.specs.declared.errors.ConfigCause.{ConfigCause}
+use Rattle.ubi_config.specs.Above.{first_some}
+use Rattle.ubi_config.specs.Config.{Fault, cause_after, cause_at, line_at, line_fault, line_number, lines, sayings}
 
 -- the number and the cause of a line after those before it
-abbrev pub next_cause : List (List ℕ) → List ℕ → Option (ℕ × ConfigCause)
+abbrev pub next_cause : List (List ℕ) → List ℕ → Option Fault
 next_cause before text =
     option_map (λ c. (line_number (length before), c)) (cause_after (sayings before) (line_at (length before, text)))
 
 -- the first of the lines that are left that has a cause, after those before
-abbrev pub first_left : List (List ℕ) → List (List ℕ) → Option (ℕ × ConfigCause)
+abbrev pub first_left : List (List ℕ) → List (List ℕ) → Option Fault
 first_left before [] = None
 first_left before (text ∷ rest) = option_or (next_cause before text) (first_left (before ++ text ∷ []) rest)
 

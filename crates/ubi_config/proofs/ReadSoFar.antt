@@ -6,9 +6,9 @@ use Rattle.std.specs.Option.{option_or}
 use Rattle.std.specs.Result.{result_unwrap_or}
 use Rattle.std.proofs.lemmas.List.{drop_all, drop_more, length_push}
 use Rattle.std.proofs.lemmas.List.Elements.{filter_map-append}
-use Rattle.ubi_config.specs.Config.{cause_after, line_at, line_fault, line_number, lines, saying, sayings}
+use Rattle.ubi_config.specs.Config.{IsFault, cause_after, line_at, line_fault, line_number, lines, saying, sayings}
 use Rattle.ubi_config.specs.Lines.{line_of}
-use Rattle.ubi_config.specs.inner.Reading.{IsCause, IsFault, error_at}
+use Rattle.ubi_config.specs.inner.Reading.{IsCause, error_at}
 use Rattle.ubi_config.specs.declared.errors.ConfigCause.{ConfigCause}
 use Rattle.ubi_config.specs.declared.errors.LineError.{LineError}
 use Rattle.ubi_config.specs.declared.errors.LineError.TheVariants as line_error

@@ -1,6 +1,8 @@
 pub mod Words
 pub mod Values
 pub mod Lines
+pub mod Above
+pub mod Sections
 pub mod Config
 pub mod Records
 pub mod ErrorTexts

@@ -58,9 +58,14 @@ setting_line text = option_map_or (setting_at text) (position (λ b. b == 61) te
 abbrev pub is_special : ℕ → Bool
 is_special b = (b == 93) || (b == 58)
 
--- a section's name: some bytes, none of them special
+-- the bytes of the longest name of a section
+abbrev pub longest_title : ℕ
+longest_title = 128
+
+-- a section's name: some bytes and not too many, none of them special
 abbrev pub is_title : List ℕ → Bool
-is_title name = nat_le 1 (length name) && not (list_any is_special name)
+is_title name =
+    nat_le 1 (length name) && nat_le (length name) longest_title && not (list_any is_special name)
 
 -- the name of the section that begins with the line, in its case
 unfoldable pub title_of : List ℕ → Option (List ℕ)

@@ -15,7 +15,7 @@ use ubi_media::RecFault;
 pub enum ConfigCause {
     /// The line is longer than 1,022 bytes, has a zero byte, or ends with a backslash.
     Line,
-    /// The line is neither `[NAME]`, where NAME has neither `]` nor `:`, nor `KEY = VALUE`.
+    /// The line is neither `[NAME]`, where NAME has 1 to 128 bytes and neither `]` nor `:`, nor `KEY = VALUE`.
     Form,
     /// There is no such key.
     Key,

@@ -2,7 +2,7 @@
 
 ghost use Rattle.std.specs.Prelude.{◌≡◌};
 ghost use Rattle.std.specs.Str.{str_eq_ignore_ascii_case};
-ghost use Rattle.ubi_config.specs.Config.{key_number};
+ghost use Rattle.ubi_config.specs.Above.{key_number};
 ghost use Rattle.ubi_config.specs.Values.{key_name, key_of};
 
 /// A key of a section.

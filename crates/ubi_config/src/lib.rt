@@ -4,11 +4,12 @@
 //! [`parse_config`] gives the sections of a text, and [`Section::record`] the record of a section's volume.
 #![tactic(auto)]
 
+mod above;
+mod drafts;
 mod errors;
 mod key;
 mod line;
 mod parsing;
-mod said;
 mod section;
 mod text;
 mod value;
@@ -19,3 +20,6 @@ pub use key::Key;
 pub use parsing::parse_config;
 pub use section::Section;
 pub use text::Text;
+
+#[cfg(test)]
+mod tests;

@@ -40,6 +40,9 @@ pub(crate) enum Line {
 /// The bytes of the longest line that ubinize doesn't cut in two.
 const LONGEST_LINE: usize = 1022;
 
+/// The bytes of the longest name of a section.
+const LONGEST_TITLE: usize = 128;
+
 /// The number that a value writes, up to 4294967295.
 fn number(value: &[u8]) -> Option<u32>
     ensures { result ≡ number_of 0xFFFF_FFFF value.now }
@@ -125,11 +128,11 @@ fn has_special(name: &[u8]) -> bool
     name.iter().any(|byte| is_special(*byte))
 }
 
-/// Whether bytes may be a section's name: there are some, and none of them is special.
+/// Whether bytes may be a section's name: there are some and not too many, and none of them is special.
 fn is_title(name: &[u8]) -> bool
     ensures { result ≡ is_title name.now }
 {
-    !name.is_empty() && !has_special(name)
+    !name.is_empty() && name.len() <= LONGEST_TITLE && !has_special(name)
 }
 
 /// The name of the section that begins with the line. None where it isn't `[NAME]`.

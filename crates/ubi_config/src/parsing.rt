@@ -2,14 +2,15 @@
 
 ghost use Rattle.std.specs.Prelude.{◌≡◌, ◌++◌, None, IfErr, IfOk, MatchResult, option_to_list};
 ghost use Rattle.std.specs.Result.{result_unwrap_or};
-ghost use Rattle.ubi_config.specs.Config.{IsConfigError, cause_after, first_fault, group_of, groups, line_fault, lines, no_section_fault, sayings, section_fault, sections_in, sections_of};
-ghost use Rattle.ubi_config.specs.inner.Reading.{IsCause, IsFault};
+ghost use Rattle.ubi_config.specs.Config.{IsFault, cause_after, first_fault, group_of, groups, line_fault, lines, no_section_fault, sayings, section_fault, sections_in, sections_of};
+ghost use Rattle.ubi_config.specs.inner.Reading.{IsCause};
 ghost use Rattle.ubi_config.specs.Lines.{line_of};
 
+use crate::above::later_cause;
+use crate::drafts::section_of;
 use crate::errors::{ConfigCause, ConfigError, LineError};
 use crate::line::{Line, line_of};
-use crate::said::later_cause;
-use crate::section::{Section, section_of};
+use crate::section::Section;
 use std::alloc::Global;
 
 /// Takes what the line of a number says, if it isn't skipped.
@@ -78,7 +79,7 @@ fn sections_of(alloc: Global, said: &[Line]) -> Result<Vec<Section>, ConfigError
 /// that begins it; or else that there is no section, by line 1. Memory where memory ran out.
 pub fn parse_config(alloc: Global, text: &[u8]) -> Result<Vec<Section>, ConfigError>
     ensures sections { IfOk result (λ out. (first_fault text.now ≡ None) × (out.items ≡ sections_of text.now)) }
-    ensures refused { IfErr result (IsConfigError text.now) }
+    ensures refused { IfErr result (IsFault (first_fault text.now)) }
 {
     let said = read_lines(alloc, text)?;
     let sections = sections_of(alloc, said.as_slice())?;

@@ -20,8 +20,3 @@ IsCause o line_error.Memory = Unit {0}
 abbrev pub error_at : ℕ → LineError → ConfigError
 error_at n (line_error.Cause c) = error.Refused n c
 error_at n line_error.Memory = error.Memory
-
--- why the first fault of sections gives the error
-abbrev pub IsFault : Option (ℕ × ConfigCause) → ConfigError → Type 0
-IsFault o (error.Refused number what) = o ≡ Some (number, what)
-IsFault o error.Memory = Unit {0}

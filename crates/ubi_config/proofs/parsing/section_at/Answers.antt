@@ -1,5 +1,5 @@
 use Rattle.std.specs.List.{before_first}
-use Rattle.ubi_config.specs.Config.{is_heading}
+use Rattle.ubi_config.specs.Above.{is_heading}
 use Rattle.ubi_config.proofs.Groups.{no_group, none_made, one_made, one_refused}
 use Rattle.ubi_config.proofs.parsing.section_at.Goals as goal
 

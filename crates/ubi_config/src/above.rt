@@ -3,7 +3,7 @@
 ghost use Rattle.std.specs.Bool.{then_some};
 ghost use Rattle.std.specs.List.{list_any};
 ghost use Rattle.std.specs.Prelude.{◌≡◌, count_by};
-ghost use Rattle.ubi_config.specs.Config.{gives_id, gives_name, heading_cause, is_autoresize, is_heading, is_setting, is_titled, key_in, later_cause, own, sets, setting_cause, shared_cause};
+ghost use Rattle.ubi_config.specs.Above.{gives_id, gives_name, heading_cause, is_autoresize, is_heading, is_setting, is_titled, key_in, later_cause, own, sets, setting_cause, shared_cause};
 
 use crate::errors::ConfigCause;
 use crate::key::{Key, is_same_word};
@@ -156,7 +156,7 @@ fn cause_if(holds: bool, cause: ConfigCause) -> Option<ConfigCause>
 }
 
 /// What is wrong with a line that begins a section, by the lines above it.
-#[tactic(auto, unfolding(crate::specs::Config::heading_cause))]
+#[tactic(auto, unfolding(crate::specs::Above::heading_cause))]
 fn heading_cause(above: &[Line], name: &[u8]) -> Option<ConfigCause>
     ensures { result ≡ heading_cause above.now name.now }
 {
@@ -182,7 +182,7 @@ fn shared_cause(above: &[Line], line: &Line) -> Option<ConfigCause>
 }
 
 /// What is wrong with a line that sets a key, by the lines above it: in its section, or else in all.
-#[tactic(auto, unfolding(crate::specs::Config::setting_cause))]
+#[tactic(auto, unfolding(crate::specs::Above::setting_cause))]
 fn setting_cause(above: &[Line], key: Key, line: &Line) -> Option<ConfigCause>
     ensures { result ≡ setting_cause above.now key line.now }
 {
@@ -196,7 +196,7 @@ fn setting_cause(above: &[Line], key: Key, line: &Line) -> Option<ConfigCause>
 }
 
 /// What is wrong with a line by those above it.
-#[tactic(auto, unfolding(crate::specs::Config::later_cause))]
+#[tactic(auto, unfolding(crate::specs::Above::later_cause))]
 pub(crate) fn later_cause(above: &[Line], line: &Line) -> Option<ConfigCause>
     ensures { result ≡ later_cause above.now line.now }
 {
