@@ -1,3 +1,4 @@
+pub mod ConfigVectors
 pub mod Decimals
 pub mod Faults
 pub mod Groups
