@@ -1,0 +1,254 @@
+-- A config on literals: its first fault, and its sections.
+use Rattle.std.proofs.Common.{◌≡◌, false, List, ℕ, [], ◌∷◌, ◌++◌, refl}
+use Rattle.std.specs.Prelude.{⊤, Some, None, Ok, Err, codes, replicate}
+use Rattle.std.specs.Fmt.{digits}
+use Rattle.std.specs.List.{join_with_byte}
+use Rattle.ubi_media.specs.Record.{breaks, fields_from, first_fault}
+use Rattle.ubi_media.specs.declared.record.RecFault.TheVariants as fault
+use Rattle.ubi_media.specs.declared.vid.VolKind.TheVariants as kind
+use Rattle.ubi_media.proofs.Words.{small}
+use Rattle.ubi_config.specs.Above.{heading_cause, later_cause, setting_cause}
+use Rattle.ubi_config.specs.Config.{cause_at, first_fault as config_fault, line_fault, saying, sayings, section_fault, sections_in, sections_of}
+use Rattle.ubi_config.specs.ErrorTexts.{config_error_text}
+use Rattle.ubi_config.specs.Lines.{heading_line, is_one_line, kind_of, line_of, line_said, setting, setting_at, setting_line, title_of}
+use Rattle.ubi_config.specs.Records.{record_in}
+use Rattle.ubi_config.specs.Sections.{draft_of, finished}
+use Rattle.ubi_config.specs.Values.{key_of, plain_value, quoted_value, value_of}
+use Rattle.ubi_config.specs.Words.{is_number, number_of, size_of, trimmed, unit_named, unit_of}
+use Rattle.ubi_config.specs.declared.errors.ConfigCause.TheVariants as cause
+use Rattle.ubi_config.specs.declared.errors.ConfigError.TheVariants as error
+use Rattle.ubi_config.specs.declared.key.Key.TheVariants as key
+use Rattle.ubi_config.specs.declared.section.Section.{Section}
+
+-- what is unfolded to compute a config on a literal
+unfoldable config_on_literals : ⊤
+unfolding config_fault line_fault cause_at section_fault sections_in sayings saying line_of is_one_line line_said
+    heading_line title_of setting_line setting_at setting kind_of key_of value_of plain_value quoted_value trimmed
+    number_of is_number size_of unit_of unit_named later_cause heading_cause setting_cause draft_of finished
+config_on_literals = tt
+
+-- the bytes of lines
+abbrev text : List (List ℕ) → List ℕ
+text lines = join_with_byte 10 lines
+
+no_byte : config_fault (text (codes "" ∷ [])) ≡ Some (1, cause.NoSection)
+unfolding config_on_literals
+no_byte = refl
+
+a_volume : config_fault (text (codes "[v]" ∷ codes "mode=ubi" ∷ codes "vol_id=1" ∷ codes "vol_name=a"
+    ∷ codes "vol_size=9" ∷ [])) ≡ None
+unfolding config_on_literals
+a_volume = refl
+
+blanks_and_cases : config_fault (text (codes "  [ v ] " ∷ codes "" ∷ codes "# a" ∷ codes " Mode = ubi ; a"
+    ∷ codes "VOL_ID=1" ∷ codes "vol_name=a" ∷ codes "vol_size=9 KiB" ∷ [])) ≡ None
+unfolding config_on_literals
+blanks_and_cases = refl
+
+colon_in_a_name : config_fault (text (codes "[v:w]" ∷ [])) ≡ Some (1, cause.Form)
+unfolding config_on_literals
+colon_in_a_name = refl
+
+remark_behind_a_name : config_fault (text (codes "[v] # a" ∷ [])) ≡ Some (1, cause.Form)
+unfolding config_on_literals
+remark_behind_a_name = refl
+
+no_equals_sign : config_fault (text (codes "[v]" ∷ codes "mode ubi" ∷ [])) ≡ Some (2, cause.Form)
+unfolding config_on_literals
+no_equals_sign = refl
+
+backslash : config_fault (text (codes "[v]" ∷ codes "# a\\ " ∷ [])) ≡ Some (2, cause.Line)
+unfolding config_on_literals
+backslash = refl
+
+zero_byte : config_fault (text (codes "[v]" ∷ (codes "#" ++ 0 ∷ []) ∷ [])) ≡ Some (2, cause.Line)
+unfolding config_on_literals
+zero_byte = refl
+
+longest_line : config_fault (text (codes "[v]" ∷ replicate 1022 35 ∷ [])) ≡ Some (1, cause.Missing key.Mode)
+unfolding config_on_literals
+longest_line = refl
+
+longer_line : config_fault (text (codes "[v]" ∷ replicate 1023 35 ∷ [])) ≡ Some (2, cause.Line)
+unfolding config_on_literals
+longer_line = refl
+
+no_key : config_fault (text (codes "[v]" ∷ codes "vol_flag=autoresize" ∷ [])) ≡ Some (2, cause.Key)
+unfolding config_on_literals
+no_key = refl
+
+empty_value : config_fault (text (codes "[v]" ∷ codes "image= # a" ∷ [])) ≡ Some (2, cause.Value)
+unfolding config_on_literals
+empty_value = refl
+
+open_quote : config_fault (text (codes "[v]" ∷ codes "image=\"a'" ∷ [])) ≡ Some (2, cause.Value)
+unfolding config_on_literals
+open_quote = refl
+
+behind_a_quote : config_fault (text (codes "[v]" ∷ codes "image='a' b" ∷ [])) ≡ Some (2, cause.Value)
+unfolding config_on_literals
+behind_a_quote = refl
+
+blank_before_a_quote : config_fault (text (codes "[v]" ∷ codes "image='a '" ∷ [])) ≡ Some (2, cause.Value)
+unfolding config_on_literals
+blank_before_a_quote = refl
+
+remark_behind_a_quote : config_fault (text (codes "[v]" ∷ codes "image='#;\"' # b" ∷ []))
+    ≡ Some (1, cause.Missing key.Mode)
+unfolding config_on_literals
+remark_behind_a_quote = refl
+
+leading_zero : config_fault (text (codes "[v]" ∷ codes "vol_id=010" ∷ [])) ≡ Some (2, cause.Unfit)
+unfolding config_on_literals
+leading_zero = refl
+
+largest_id : config_fault (text (codes "[v]" ∷ codes "vol_id=4294967295" ∷ [])) ≡ Some (1, cause.Missing key.Mode)
+unfolding config_on_literals
+largest_id = refl
+
+larger_id : config_fault (text (codes "[v]" ∷ codes "vol_id=4294967296" ∷ [])) ≡ Some (2, cause.Unfit)
+unfolding config_on_literals
+larger_id = refl
+
+largest_size : config_fault (text (codes "[v]" ∷ codes "vol_size=9223372036854775807" ∷ []))
+    ≡ Some (1, cause.Missing key.Mode)
+unfolding config_on_literals
+largest_size = refl
+
+larger_size : config_fault (text (codes "[v]" ∷ codes "vol_size=8589934592GiB" ∷ [])) ≡ Some (2, cause.Unfit)
+unfolding config_on_literals
+larger_size = refl
+
+size_of_nothing : config_fault (text (codes "[v]" ∷ codes "vol_size=0KiB" ∷ [])) ≡ Some (2, cause.Unfit)
+unfolding config_on_literals
+size_of_nothing = refl
+
+unit_in_another_case : config_fault (text (codes "[v]" ∷ codes "vol_size=1kib" ∷ [])) ≡ Some (2, cause.Unfit)
+unfolding config_on_literals
+unit_in_another_case = refl
+
+before_a_section : config_fault (text (codes "mode=ubi" ∷ codes "[v]" ∷ [])) ≡ Some (1, cause.NoSection)
+unfolding config_on_literals
+before_a_section = refl
+
+name_again : config_fault (text (codes "[v]" ∷ codes "[V]" ∷ [])) ≡ Some (2, cause.Again)
+unfolding config_on_literals
+name_again = refl
+
+key_again : config_fault (text (codes "[v]" ∷ codes "mode=ubi" ∷ codes "mode=ubi" ∷ [])) ≡ Some (3, cause.Again)
+unfolding config_on_literals
+key_again = refl
+
+key_in_two_sections : config_fault (text (codes "[v]" ∷ codes "mode=ubi" ∷ codes "[w]" ∷ codes "mode=ubi"
+    ∷ [])) ≡ Some (1, cause.Missing key.Id)
+unfolding config_on_literals
+key_in_two_sections = refl
+
+same_id : config_fault (text (codes "[v]" ∷ codes "vol_id=1" ∷ codes "[w]" ∷ codes "vol_id=1" ∷ []))
+    ≡ Some (4, cause.SameId)
+unfolding config_on_literals
+same_id = refl
+
+same_name : config_fault (text (codes "[v]" ∷ codes "vol_name=a" ∷ codes "[w]" ∷ codes "vol_name=a" ∷ []))
+    ≡ Some (4, cause.SameName)
+unfolding config_on_literals
+same_name = refl
+
+autoresize_again : config_fault (text (codes "[v]" ∷ codes "vol_flags=autoresize" ∷ codes "[w]"
+    ∷ codes "vol_flags=autoresize" ∷ [])) ≡ Some (4, cause.Autoresize)
+unfolding config_on_literals
+autoresize_again = refl
+
+no_name : config_fault (text (codes "[v]" ∷ codes "mode=ubi" ∷ codes "vol_id=1" ∷ codes "vol_size=9" ∷ []))
+    ≡ Some (1, cause.Missing key.Name)
+unfolding config_on_literals
+no_name = refl
+
+neither_image_nor_size : config_fault (text (codes "[v]" ∷ codes "mode=ubi" ∷ codes "vol_id=1"
+    ∷ codes "vol_name=a" ∷ [])) ≡ Some (1, cause.Missing key.Image)
+unfolding config_on_literals
+neither_image_nor_size = refl
+
+static_without_image : config_fault (text (codes "# a" ∷ codes "[v]" ∷ codes "mode=ubi" ∷ codes "vol_id=1"
+    ∷ codes "vol_name=a" ∷ codes "vol_size=9" ∷ codes "vol_type=static" ∷ [])) ≡ Some (2, cause.Missing key.Image)
+unfolding config_on_literals
+static_without_image = refl
+
+-- the example of ubinize's manual
+abbrev manual : List ℕ
+manual =
+    text (codes "[jffs2-volume]" ∷ codes "mode=ubi" ∷ codes "image=../jffs2.img" ∷ codes "vol_id=1"
+    ∷ codes "vol_size=30MiB" ∷ codes "vol_type=dynamic" ∷ codes "vol_name=jffs2_volume"
+    ∷ codes "vol_flags=autoresize"
+    ∷ codes "vol_alignment=1" ∷ [])
+
+-- its section
+abbrev jffs2 : Section
+jffs2 = record {
+  line = 1;
+  id = 1;
+  name = codes "jffs2_volume";
+  kind = kind.Dynamic;
+  alignment = 1;
+  flags = 1;
+  size = Some 31457280;
+  image = Some (codes "../jffs2.img");
+}
+
+no_fault_of_the_manual : config_fault manual ≡ None
+unfolding config_on_literals
+no_fault_of_the_manual = refl
+
+section_of_the_manual : sections_of manual ≡ jffs2 ∷ []
+unfolding config_on_literals
+section_of_the_manual = refl
+
+-- what is unfolded to compute the record of a section on a literal
+unfoldable records_on_literals : ⊤
+unfolding record_in first_fault breaks fields_from
+records_on_literals = tt
+
+record_of_the_manual : record_in small jffs2 (Some 1)
+    ≡ Ok (record {
+      reserved = 81920;
+      alignment = 1;
+      kind = kind.Dynamic;
+      marker = false;
+      name = codes "jffs2_volume";
+      flags = 1;
+    })
+unfolding records_on_literals
+record_of_the_manual = refl
+
+longer_image : record_in small jffs2 (Some 31457281) ≡ Err cause.LongImage
+unfolding records_on_literals
+longer_image = refl
+
+empty_image : record_in small jffs2 (Some 0) ≡ Err cause.Empty
+unfolding records_on_literals
+empty_image = refl
+
+alignment_of_256 : record_in small (record jffs2 { alignment = 256; size = None }) (Some 769)
+    ≡ Ok (record {
+      reserved = 4;
+      alignment = 256;
+      kind = kind.Dynamic;
+      marker = false;
+      name = codes "jffs2_volume";
+      flags = 1;
+    })
+unfolding records_on_literals
+alignment_of_256 = refl
+
+alignment_of_65 : record_in small (record jffs2 { alignment = 65 }) None ≡ Err (cause.Record fault.AlignmentPage)
+unfolding records_on_literals
+alignment_of_65 = refl
+
+too_large : record_in small (record jffs2 { size = Some 824633720449 }) None ≡ Err cause.TooLarge
+unfolding records_on_literals
+too_large = refl
+
+shown_with_a_key : config_error_text (error.Refused 12 (cause.Missing key.Alignment))
+    ≡ codes "I12 Missing line=12 vol_alignment"
+unfolding digits
+shown_with_a_key = refl

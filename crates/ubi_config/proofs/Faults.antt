@@ -1,0 +1,52 @@
+-- The first fault of a text: of a line, or else of a section, or else that there is none.
+use Rattle.std.proofs.Common.{◌≡◌, ℕ, Bool, List, length, refl, ap, sym, ◌∙◌}
+use Rattle.std.specs.Prelude.{Option, Some, None, ◌==◌}
+use Rattle.std.specs.Bool.{then_some}
+use Rattle.std.specs.Option.{option_or}
+use Rattle.ubi_config.specs.Config.{Fault, IsFault, first_fault, groups, groups_of, line_fault, lines, no_section_fault, sayings, section_fault, sections_in, sections_of}
+use Rattle.ubi_config.specs.declared.line.Line.{Line}
+use Rattle.ubi_config.specs.declared.section.Section.{Section}
+use Rattle.ubi_config.specs.declared.errors.ConfigCause.TheVariants as cause
+use Rattle.ubi_config.specs.declared.errors.ConfigError.{ConfigError}
+use Rattle.ubi_config.specs.declared.errors.ConfigError.TheVariants as error
+
+by_parts : (text : List ℕ) (lines sections : Option Fault) → line_fault text ≡ lines → section_fault (groups_of text) ≡ sections
+    → first_fault text ≡ option_or lines (option_or sections (option_or (no_section_fault (sections_of text)) None))
+unfolding first_fault
+by_parts text lines sections l s =
+    ap (λ (o : Option Fault). option_or o (option_or (section_fault (groups_of text))
+    (option_or (no_section_fault (sections_of text)) None))) l
+    ∙ ap (λ (o : Option Fault). option_or lines (option_or o (option_or (no_section_fault (sections_of text)) None))) s
+
+-- a line has a fault
+pub line_refused : (text : List ℕ) (e : ConfigError) → IsFault (line_fault text) e → IsFault (first_fault text) e
+line_refused text (error.Refused n c) h = by_parts text (Some (n, c)) (section_fault (groups_of text)) h refl
+line_refused text error.Memory h = tt
+
+-- no line has a fault, and a section has
+pub section_refused : (text : List ℕ) (said : List Line) (e : ConfigError) → said ≡ sayings (lines text)
+    → line_fault text ≡ None → IsFault (section_fault (groups said)) e → IsFault (first_fault text) e
+section_refused text said (error.Refused n c) is l h =
+    by_parts text None (Some (n, c)) l (ap (λ ls. section_fault (groups ls)) (sym is) ∙ h)
+section_refused text said error.Memory is l h = tt
+
+none_left : (o : Option Fault) → option_or o None ≡ o
+none_left (Some fault) = refl
+none_left None = refl
+
+-- the fault of a text that gives no section
+abbrev pub fault_if : Bool → Option Fault
+fault_if b = then_some b (1, cause.NoSection)
+
+module _ (text : List ℕ) (said : List Line) (made : List Section) (is : said ≡ sayings (lines text))
+    (l : line_fault text ≡ None) (h : (section_fault (groups said) ≡ None) × (made ≡ sections_in (groups said))) where
+  pub made_is : made ≡ sections_of text
+  made_is = h.1 ∙ ap (λ ls. sections_in (groups ls)) is
+
+  -- neither a line nor a section has a fault
+  pub fault_last : (b : Bool) → b ≡ (length made == 0) → first_fault text ≡ fault_if b
+  fault_last b e =
+      by_parts text None None l (ap (λ ls. section_fault (groups ls)) (sym is) ∙ h.0)
+      ∙ none_left (no_section_fault (sections_of text))
+      ∙ ap no_section_fault (sym made_is)
+      ∙ ap fault_if (sym e)

@@ -1,0 +1,7 @@
+use Rattle.std.proofs.Common.{◌≡◌, take}
+use Rattle.std.specs.Prelude.{fold}
+use Rattle.ubi_config.specs.Sections.{no_draft, with_line}
+use Rattle.ubi_config.proofs.drafts.draft_of.Given as goal
+
+abbrev pub invariant-loop-line : goal.invariant-loop-line
+invariant-loop-line l = l.draft ≡ fold with_line no_draft (take l.line-index l.lines)

@@ -1,0 +1,14 @@
+use Rattle.std.proofs.Common.{◌≡◌, ◌-◌, ◌≤◌, length, take}
+use Rattle.std.specs.List.{suffix_len}
+use Rattle.ubi_config.specs.Words.{is_blank}
+use Rattle.ubi_config.proofs.words.trimmed_end.Given as goal
+
+abbrev pub invariant-loop-end : goal.invariant-loop-end
+invariant-loop-end l = record {
+  within : l.end ≤ length l.bytes;
+  value : take (l.end - suffix_len is_blank (take l.end l.bytes)) l.bytes
+      ≡ take (length l.bytes - suffix_len is_blank l.bytes) l.bytes;
+}
+
+abbrev pub decreases-loop-end : goal.decreases-loop-end
+decreases-loop-end l = l.end

@@ -1,0 +1,9 @@
+pub mod Words
+pub mod Values
+pub mod Lines
+pub mod Above
+pub mod Sections
+pub mod Config
+pub mod Records
+pub mod ErrorTexts
+pub mod inner

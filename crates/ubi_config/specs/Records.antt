@@ -1,0 +1,50 @@
+-- The record of a section's volume.
+use Rattle.std.specs.Prelude.{ℕ, ◌^◌, ◌==◌, ◌||◌, false, nat_lt, if◌then◌else◌, Option, Result, Ok, Err, unwrap_or}
+use Rattle.std.specs.Int.{div_ceil}
+use Rattle.std.specs.Option.{option_map_or}
+use Rattle.ubi_media.specs.Geometry.{Sizes}
+use Rattle.ubi_media.specs.Record.{rec_fault, usable}
+use Rattle.ubi_media.specs.declared.record.VolumeRecord.{VolumeRecord}
+use Rattle.ubi_config.specs.declared.errors.ConfigCause.{ConfigCause}
+use Rattle.ubi_config.specs.declared.errors.ConfigCause.TheVariants as cause
+use Rattle.ubi_config.specs.declared.section.Section.{Section}
+
+-- the bytes of a volume: its size, or else those of its image file
+abbrev pub bytes_of : Section → Option ℕ → ℕ
+bytes_of section image_len = unwrap_or section.size (unwrap_or image_len 0)
+
+-- the record of a volume that reserves so many eraseblocks
+abbrev pub reserving : Section → ℕ → VolumeRecord
+reserving section n = record {
+  reserved = n;
+  alignment = section.alignment;
+  kind = section.kind;
+  marker = false;
+  name = section.name;
+  flags = section.flags;
+}
+
+-- how many parts of a size have so many bytes together: the last may be short
+abbrev pub parts_of : ℕ → ℕ → ℕ
+parts_of bytes part = div_ceil bytes part
+
+-- how many eraseblocks have so many bytes, each without what its alignment leaves free
+abbrev pub blocks_of : Sizes → Section → ℕ → ℕ
+blocks_of s section bytes = parts_of bytes (usable s (reserving section 1))
+
+-- the record that reserves so many eraseblocks, where a record can
+abbrev pub fitting : Section → ℕ → Result VolumeRecord ConfigCause
+fitting section n = if nat_lt n (2 ^ 31) then Ok (reserving section n) else Err cause.TooLarge
+
+-- the record of a volume of some bytes: its alignment is judged first
+abbrev pub sized : Sizes → Section → ℕ → Result VolumeRecord ConfigCause
+sized s section bytes =
+    option_map_or (λ fault. Err (cause.Record fault)) (rec_fault s (reserving section 1))
+    (fitting section (blocks_of s section bytes))
+
+-- the record of a section's volume, where its image file has so many bytes
+unfoldable pub record_in : Sizes → Section → Option ℕ → Result VolumeRecord ConfigCause
+record_in s section image_len =
+    if (bytes_of section image_len == 0) || (unwrap_or image_len 1 == 0) then Err cause.Empty
+    else (if nat_lt (bytes_of section image_len) (unwrap_or image_len 0) then Err cause.LongImage
+    else sized s section (bytes_of section image_len))

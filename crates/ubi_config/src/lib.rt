@@ -1,0 +1,25 @@
+//! The config of ubinize, an ini file: for each volume a section that says what the volume is and which file holds its
+//! contents. What is read here means to ubinize what it means here; the rest is refused, with its line.
+//!
+//! [`parse_config`] gives the sections of a text, and [`Section::record`] the record of a section's volume.
+#![tactic(auto)]
+
+mod above;
+mod drafts;
+mod errors;
+mod key;
+mod line;
+mod parsing;
+mod section;
+mod text;
+mod value;
+mod words;
+
+pub use errors::{ConfigCause, ConfigError};
+pub use key::Key;
+pub use parsing::parse_config;
+pub use section::Section;
+pub use text::Text;
+
+#[cfg(test)]
+mod tests;

@@ -1,0 +1,4 @@
+mod faults;
+mod records;
+mod sections;
+mod shown;

@@ -1,0 +1,180 @@
+//! The words of a config: blanks, numbers, and sizes with a unit.
+
+ghost use Rattle.std.specs.Bool.{then_some};
+ghost use Rattle.std.specs.Char.{is_ascii_digit};
+ghost use Rattle.std.specs.List.{list_all, position_or_len, suffix_len};
+ghost use Rattle.std.specs.Prelude.{◌≡◌, ◌&&◌, ◌≤◌, IfSome, length, nat_le, position};
+ghost use Rattle.ubi_config.specs.Words.{decimal_value, ends_with_byte, is_blank, is_no_digit, is_no_gap, is_visible, number_of, size_in, size_of, trimmed, trimmed_end, trimmed_start, unit_named, unit_of};
+
+/// The most bytes that a volume may have.
+const MOST_BYTES: u64 = 0x7FFF_FFFF_FFFF_FFFF;
+
+/// Whether a byte is a blank: a space, or a byte from 0x09 to 0x0D.
+pub(crate) fn is_blank(byte: u8) -> bool
+    ensures { result ≡ is_blank byte }
+{
+    byte == b' ' || (byte >= 0x09 && byte <= 0x0D)
+}
+
+/// Where the first byte stands that isn't a blank.
+fn visible_place(bytes: &[u8]) -> Option<usize>
+    ensures { result ≡ position is_visible bytes.now }
+{
+    bytes.iter().position(|byte| !is_blank(*byte))
+}
+
+/// How many blanks stand before the first byte that isn't one.
+#[tactic(auto, using(crate::proofs::Places::first_or_end))]
+fn blanks_before(bytes: &[u8]) -> usize
+    ensures value { result ≡ position_or_len is_visible bytes.now }
+    ensures within { result ≤ length bytes.now }
+{
+    visible_place(bytes).unwrap_or(bytes.len())
+}
+
+/// Bytes without the blanks before them.
+fn trimmed_start(bytes: &[u8]) -> &[u8]
+    ensures { result.now ≡ trimmed_start bytes.now }
+{
+    &bytes[blanks_before(bytes)..]
+}
+
+/// Bytes without the blanks behind them.
+fn trimmed_end(bytes: &[u8]) -> &[u8]
+    ensures { result.now ≡ trimmed_end bytes.now }
+{
+    let mut end = bytes.len();
+    while end > 0 && is_blank(bytes[end - 1]) {
+        end -= 1;
+    }
+    &bytes[..end]
+}
+
+/// Bytes without the blanks at both ends.
+#[tactic(auto, unfolding(crate::specs::Words::trimmed))]
+pub(crate) fn trimmed(bytes: &[u8]) -> &[u8]
+    ensures { result.now ≡ trimmed bytes.now }
+{
+    trimmed_end(trimmed_start(bytes))
+}
+
+/// Whether bytes end with a byte.
+pub(crate) fn ends_with_byte(byte: u8, bytes: &[u8]) -> bool
+    ensures { result ≡ ends_with_byte byte bytes.now }
+{
+    !bytes.is_empty() && bytes[bytes.len() - 1] == byte
+}
+
+/// The number that decimal digits write. None where another byte stands among them, or where it is above the largest.
+fn decimal_of(largest: u64, digits: &[u8]) -> Option<u64>
+    ensures value { result ≡ then_some (list_all is_ascii_digit digits.now && nat_le (decimal_value digits.now) largest) (decimal_value digits.now) }
+    ensures within { IfSome result (λ n. n ≤ largest) }
+{
+    let mut value: u64 = 0;
+    for byte in digits {
+        if !byte.is_ascii_digit() {
+            return None;
+        }
+        let more = u128::from(value) * 10 + u128::from(*byte - b'0');
+        if more > u128::from(largest) {
+            return None;
+        }
+        value = more as u64;
+    }
+    Some(value)
+}
+
+/// The number that a word writes in decimal digits, without leading zeros. None where it isn't one, or is above the
+/// largest.
+#[tactic(auto, unfolding(crate::specs::Words::number_of, crate::specs::Words::is_number))]
+pub(crate) fn number_of(largest: u64, word: &[u8]) -> Option<u64>
+    ensures value { result ≡ number_of largest word.now }
+    ensures within { IfSome result (λ n. n ≤ largest) }
+{
+    if word.is_empty() || (word.len() > 1 && word[0] == b'0') {
+        return None;
+    }
+    decimal_of(largest, word)
+}
+
+/// Where the first byte stands that is neither a space nor a tab.
+fn unit_place(rest: &[u8]) -> Option<usize>
+    ensures { result ≡ position is_no_gap rest.now }
+{
+    rest.iter().position(|byte| *byte != b' ' && *byte != b'\t')
+}
+
+/// How many spaces and tabs stand before a unit.
+#[tactic(auto, using(crate::proofs::Places::first_or_end))]
+fn gap_before(rest: &[u8]) -> usize
+    ensures value { result ≡ position_or_len is_no_gap rest.now }
+    ensures within { result ≤ length rest.now }
+{
+    unit_place(rest).unwrap_or(rest.len())
+}
+
+/// The bytes of a unit.
+#[tactic(auto, unfolding(crate::specs::Words::unit_named))]
+fn unit_named(name: &[u8]) -> Option<u64>
+    ensures { result ≡ unit_named name.now }
+{
+    if name == b"KiB".as_slice() {
+        return Some(1024);
+    }
+    if name == b"MiB".as_slice() {
+        return Some(1_048_576);
+    }
+    if name == b"GiB".as_slice() {
+        return Some(1_073_741_824);
+    }
+    None
+}
+
+/// The bytes that are counted by what follows a number: one by one where nothing does.
+#[tactic(auto, unfolding(crate::specs::Words::unit_of))]
+fn unit_of(rest: &[u8]) -> Option<u64>
+    ensures { result ≡ unit_of rest.now }
+{
+    if rest.is_empty() {
+        return Some(1);
+    }
+    unit_named(&rest[gap_before(rest)..])
+}
+
+/// A number of units in bytes. None where that is 0, or more than a volume may have.
+fn size_in(unit: u64, number: u64) -> Option<u64>
+    ensures { result ≡ size_in unit number }
+{
+    let bytes = u128::from(number) * u128::from(unit);
+    if bytes == 0 || bytes > u128::from(MOST_BYTES) {
+        return None;
+    }
+    Some(bytes as u64)
+}
+
+/// Where the first byte stands that isn't a decimal digit.
+fn digits_place(word: &[u8]) -> Option<usize>
+    ensures { result ≡ position is_no_digit word.now }
+{
+    word.iter().position(|byte| !byte.is_ascii_digit())
+}
+
+/// How many decimal digits stand before the first byte that isn't one.
+#[tactic(auto, using(crate::proofs::Places::first_or_end))]
+fn digits_before(word: &[u8]) -> usize
+    ensures value { result ≡ position_or_len is_no_digit word.now }
+    ensures within { result ≤ length word.now }
+{
+    digits_place(word).unwrap_or(word.len())
+}
+
+/// The bytes that a number and its unit write.
+#[tactic(auto, unfolding(crate::specs::Words::size_of))]
+pub(crate) fn size_of(word: &[u8]) -> Option<u64>
+    ensures { result ≡ size_of word.now }
+{
+    let digits = digits_before(word);
+    let number = number_of(MOST_BYTES, &word[..digits])?;
+    let unit = unit_of(&word[digits..])?;
+    size_in(unit, number)
+}
