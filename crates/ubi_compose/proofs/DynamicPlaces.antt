@@ -59,7 +59,7 @@ first_lebs s p id r n image text =
 
 module _ {X : Type 0} (f : ℕ × X → List ℕ) where
   -- numbers that rise do so from any bound below them
-  rises_from : (a b : ℕ) (es : List (ℕ × X)) → rising.Rises (λ e. e.0) es → AllByRecursion (λ e. a ≤ e.0) es
+  pub rises_from : (a b : ℕ) (es : List (ℕ × X)) → rising.Rises (λ e. e.0) es → AllByRecursion (λ e. a ≤ e.0) es
       → AllByRecursion (λ e. e.0 < b) es → Rises f a b es
   rises_from a b [] h low high = tt
   rises_from a b (e ∷ es) h low high = (low.0, high.0, rises_from (e.0 + 1) b es h.1 (above es h.0) high.1)

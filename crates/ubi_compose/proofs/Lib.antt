@@ -1,12 +1,19 @@
 pub mod Accepted
 pub mod Apart
 pub mod Blocks
+pub mod BuiltContents
+pub mod BuiltMeaning
+pub mod BuiltReads
+pub mod BuiltRoom
+pub mod BuiltVectors
+pub mod BuiltVolumes
 pub mod ByNumber
 pub mod Changes
 pub mod Contents
 pub mod Cuts
 pub mod Decimals
 pub mod DynamicPlaces
+pub mod EntriesByNumber
 pub mod Escapes
 pub mod Fitting
 pub mod Form
@@ -18,6 +25,7 @@ pub mod LaidPieces
 pub mod LineForms
 pub mod LinesLeft
 pub mod LinesRead
+pub mod ListedParts
 pub mod Lists
 pub mod Normal
 pub mod NormalParts
@@ -25,6 +33,7 @@ pub mod NormalVectors
 pub mod Placed
 pub mod Places
 pub mod Puts
+pub mod ReadPieces
 pub mod ReadSoFar
 pub mod Refusals
 pub mod Rising
@@ -33,6 +42,7 @@ pub mod SamePlaces
 pub mod Sound
 pub mod Spares
 pub mod SpecVectors
+pub mod StandIns
 pub mod StaticPlaces
 pub mod StoredVolume
 pub mod StoredVolumes
@@ -41,3 +51,4 @@ pub mod Taken
 pub mod TextAnswers
 pub mod VolumeLines
 pub mod Volumes
+pub mod WantedBytes

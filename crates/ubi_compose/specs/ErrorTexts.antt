@@ -1,9 +1,14 @@
--- What is printed of an image that isn't composed, images that aren't compared, and a text that isn't read.
+-- What is printed of an image that isn't composed or built, images that aren't compared, and a text that isn't read.
 use Rattle.std.specs.Prelude.{ℕ, List, ◌++◌, codes, decimal}
 use Rattle.ubi_media.specs.ErrorTexts.{rec_fault_name, refusal_text}
 use Rattle.ubi_scan.specs.ErrorTexts.{stream_error_text}
+use Rattle.ubi_volume.specs.ErrorTexts.{meaning_cause_text}
+use Rattle.ubi_compose.specs.declared.errors.BuildError.{BuildError}
+use Rattle.ubi_compose.specs.declared.errors.BuildError.TheVariants as build
 use Rattle.ubi_compose.specs.declared.errors.ComposeError.{ComposeError}
 use Rattle.ubi_compose.specs.declared.errors.ComposeError.TheVariants as compose
+use Rattle.ubi_compose.specs.declared.errors.RecipeError.{RecipeError}
+use Rattle.ubi_compose.specs.declared.errors.RecipeError.TheVariants as recipe
 use Rattle.ubi_compose.specs.declared.errors.SameError.{SameError}
 use Rattle.ubi_compose.specs.declared.errors.SameError.TheVariants as same
 use Rattle.ubi_compose.specs.declared.errors.SameFault.{SameFault}
@@ -17,6 +22,19 @@ use Rattle.ubi_compose.specs.declared.errors.SpecError.TheVariants as spec
 abbrev pub compose_error_text : ComposeError → List ℕ
 compose_error_text compose.TooMany = codes "C1 TooMany"
 compose_error_text compose.Memory = codes "out of memory"
+
+-- the text of why volumes to build are refused
+abbrev pub recipe_error_text : RecipeError → List ℕ
+recipe_error_text (recipe.Refused c) = meaning_cause_text c
+recipe_error_text recipe.Memory = codes "out of memory"
+
+-- the text of why an image isn't built: the number of the volume, and how many bytes were written
+abbrev pub build_error_text : BuildError → List ℕ
+build_error_text build.TooMany = codes "C1 TooMany"
+build_error_text (build.Beyond id) = codes "C2 Beyond volume=" ++ decimal id
+build_error_text build.Memory = codes "out of memory"
+build_error_text (build.Read id n) = codes "a read failed volume=" ++ decimal id ++ codes " written=" ++ decimal n
+build_error_text (build.Write n) = codes "a write failed written=" ++ decimal n
 
 -- the text of why two images aren't compared: which of them is at fault, and how
 abbrev pub same_error_text : SameError → List ℕ

@@ -1,11 +1,14 @@
 pub mod Normal
 pub mod Composed
+pub mod Built
+pub mod Building
 pub mod Words
 pub mod Lines
 pub mod Spec
 pub mod Laws
 pub mod TextLaws
 pub mod NormalLaws
+pub mod BuiltLaws
 pub mod Streamed
 pub mod Compared
 pub mod ErrorTexts

@@ -3,13 +3,14 @@
 ghost use Rattle.std.specs.Prelude.{◌≡◌, ◌++◌, ◌-◌, ◌≤◌, drop, length, take};
 ghost use Rattle.ubi_media.specs.Fields.{blank};
 ghost use Rattle.ubi_media.specs.Geometry.{leb_size};
+ghost use Rattle.ubi_compose.specs.Composed.{spare};
 ghost use Rattle.ubi_compose.specs.Normal.{laid_bytes, new_ec};
 
-use crate::laying::new_ec;
+use crate::laying::{HEADER_SIZE, new_ec};
 use ubi_media::{Geometry, VidHeader, write_ec, write_vid};
 
 /// Makes all bytes 0xFF but the first `len`.
-fn blank_behind(part: &mut [u8], len: usize)
+pub fn blank_behind(part: &mut [u8], len: usize)
     requires { len ≤ length part.old }
     ensures { part.new ≡ take len part.old ++ blank (length part.old - len) }
 {
@@ -41,4 +42,13 @@ pub fn lay(buffer: &mut [u8], geometry: &Geometry, image_seq: u32, header: &VidH
     put_front(first, &write_ec(geometry, &new_ec(image_seq)));
     put_front(second, &write_vid(header));
     blank_behind(leb, len);
+}
+
+/// Lays out a spare eraseblock with an image sequence number in a buffer of its size.
+pub fn lay_spare(buffer: &mut [u8], geometry: &Geometry, image_seq: u32)
+    requires { length buffer.old ≡ geometry.now.peb_size }
+    ensures { buffer.new ≡ spare geometry.now image_seq }
+{
+    prove!(geometry.peb_size() >= HEADER_SIZE);
+    put_front(buffer, &write_ec(geometry, &new_ec(image_seq)));
 }

@@ -1,5 +1,6 @@
 //! Laws of the definitions that the contracts cite, each as the contract of a function that does nothing.
 
+ghost use Rattle.ubi_compose.specs.BuiltLaws.{BuiltAccepted, BuiltReads};
 ghost use Rattle.ubi_compose.specs.Laws.{Normalising, TwiceIsOnce};
 ghost use Rattle.ubi_compose.specs.NormalLaws.{NormalAccepted, NormalFits, NormalForm};
 ghost use Rattle.ubi_compose.specs.TextLaws.{OneAnswer};
@@ -34,4 +35,16 @@ pub fn normalising()
 /// A text without a line at fault comes to one meaning, or to one cause for which its volumes have none together.
 pub fn one_answer()
     ensures { OneAnswer }
+{}
+
+/// Each volume that is built reads the bytes of its part; a dynamic one reads 0xFF behind them, up to the end of what it
+/// reserves.
+pub fn built_reads()
+    ensures { BuiltReads }
+{}
+
+/// What is built is a meaning: its normal image is accepted with it, and so it is with any number of spare eraseblocks
+/// behind it, as far as the device has room for them and for all pieces.
+pub fn built_accepted()
+    ensures { BuiltAccepted }
 {}

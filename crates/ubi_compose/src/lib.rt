@@ -23,6 +23,7 @@
 #![tactic(auto)]
 
 mod buffer;
+mod building;
 mod comparing;
 mod composing;
 mod cutting;
@@ -34,7 +35,9 @@ mod laying;
 mod line;
 mod matching;
 mod parsing;
+mod pieces;
 mod placing;
+mod recipe;
 mod records;
 mod shown;
 mod stored;
@@ -43,10 +46,14 @@ mod taking;
 mod volume;
 mod words;
 
+pub use building::build_to;
 pub use comparing::{same, same_from};
 pub use composing::{compose, normalise};
-pub use errors::{ComposeError, SameError, SameFault, SpecCause, SpecError};
+pub use errors::{
+    BuildError, ComposeError, RecipeError, SameError, SameFault, SpecCause, SpecError,
+};
 pub use parsing::parse_spec;
+pub use recipe::{Part, Recipe};
 pub use shown::shown_name;
 pub use streaming::normalise_to;
 

@@ -1,3 +1,4 @@
+mod building;
 mod comparing;
 mod composing;
 mod images;

@@ -1,0 +1,175 @@
+-- The normal image of what is built of parts, by their pieces.
+use Rattle.std.proofs.Common.{◌≡◌, ◌==◌, ℕ, zero, suc, ◌+◌, ◌<◌, ◌≤◌, Bool, true, false, cond, not, List, [], ◌∷◌, ◌++◌, length, refl, ap, sym, ◌∙◌, subst, arith}
+use Rattle.std.specs.Prelude.{None, Option, Some, flat_map, option_map, replicate, unwrap_or}
+use Rattle.std.specs.FinMap as finite
+use Rattle.std.specs.FinMap.{FinMap}
+use Rattle.std.specs.List.{range_with_len}
+use Rattle.std.specs.Option.{option_map_or}
+use Rattle.std.specs.Ordering.{nat_cmp}
+use Rattle.std.proofs.lemmas.List.Folds.{flat_map-map}
+use Rattle.ubi_media.specs.Fields.{is_blank}
+use Rattle.ubi_media.specs.Geometry.{Sizes, slots}
+use Rattle.ubi_media.specs.Record.{data_pad, rec_bytes, usable}
+use Rattle.ubi_media.specs.Vid.{plain}
+use Rattle.ubi_media.specs.declared.record.VolumeRecord.{VolumeRecord}
+use Rattle.ubi_media.specs.declared.vid.VolKind.{VolKind}
+use Rattle.ubi_media.specs.declared.vid.VolKind.TheVariants as kind
+use Rattle.ubi_scan.specs.Members.{layout}
+use Rattle.ubi_table.specs.Records.{table_bytes}
+use Rattle.ubi_volume.specs.Made.{item_without_blank, lebs_without_blank, without_blank}
+use Rattle.ubi_volume.specs.Meant.{Meant, pieces, records_of}
+use Rattle.ubi_volume.specs.declared.content.Volume.{Volume}
+use Rattle.ubi_volume.proofs.Extracted.{same_range}
+use Rattle.ubi_volume.proofs.Recorded.{record_of}
+use Rattle.ubi_volume.proofs.WithoutBlank.{get_without_blank, is_kept}
+use Rattle.ubi_compose.specs.Built.{HaveMeaning, Parts, Reaches, built, content_of, item_of, items_of, lebs_of, pieces_of, text_of}
+use Rattle.ubi_compose.specs.Composed.{composed, spare}
+use Rattle.ubi_compose.specs.Normal.{blocks_of, dynamic_block, laid_bytes, layout_block, new_ec, static_part, volume_blocks}
+use Rattle.ubi_compose.specs.inner.Building.{dynamic_piece, first_volumes, numbered_bytes, part_at, part_bytes, piece_of_kind, spares_bytes, static_piece, table_of, whole_bytes}
+use Rattle.ubi_compose.specs.declared.recipe.Part.{Part}
+use Rattle.ubi_compose.proofs.BuiltContents.{leb_of, leb_there, leb_within, text_size}
+use Rattle.ubi_compose.proofs.EntriesByNumber.{entries_by_number, find-map, flat_map-flat_map, get_made}
+use Rattle.ubi_compose.proofs.ListedParts.{found_part, listed_at, part_slot, reached}
+use Rattle.ubi_compose.proofs.Puts.{composed_pieces}
+
+-- what is kept was there before
+kept_some : (b : Bool) (o : Option (List ℕ)) (x : List ℕ) → cond b o None ≡ Some x → o ≡ Some x
+kept_some true o x e = e
+kept_some false o x e = absurd (cc)
+
+-- the eraseblocks of the volume of a part
+module _ (ps : Parts) (bytes : List ℕ) (p : Part) (reaches : p.start + p.len ≤ length bytes) where
+  abbrev size : ℕ
+  size = usable ps.sizes p.entry
+
+  abbrev text : List ℕ
+  text = text_of bytes p
+
+  abbrev n : ℕ
+  n = pieces size (length text)
+
+  abbrev pub kept : FinMap nat_cmp (List ℕ)
+  kept = lebs_without_blank (lebs_of size text)
+
+  abbrev laid_leb : ℕ × List ℕ → List ℕ
+  laid_leb e = laid_bytes ps.sizes (new_ec ps.image_seq) (dynamic_block (data_pad ps.sizes p.entry) p.id e)
+
+  pub within : (lnum : ℕ) (x : List ℕ) → finite.get kept lnum ≡ Some x → lnum < n
+  within lnum x e = leb_within size text lnum x
+      (kept_some (is_kept (lebs_of size text) lnum) (finite.get (lebs_of size text) lnum) x
+      (sym (get_without_blank (lebs_of size text) lnum) ∙ e))
+
+  by_test : (lnum : ℕ) (x : List ℕ) (b : Bool)
+      → option_map_or (λ (y : List ℕ). laid_leb (lnum, y)) (cond (not b) (Some x) None) [] ≡ cond b [] (laid_leb (lnum, x))
+  by_test lnum x true = refl
+  by_test lnum x false = refl
+
+  leb_bytes : (lnum : ℕ) → lnum < n
+      → option_map_or (λ (y : List ℕ). laid_leb (lnum, y)) (finite.get kept lnum) [] ≡ dynamic_piece ps p lnum bytes
+  leb_bytes lnum below =
+      ap (λ o. option_map_or (λ (y : List ℕ). laid_leb (lnum, y)) o []) (get_without_blank (lebs_of size text) lnum)
+      ∙ ap (λ o. option_map_or (λ (y : List ℕ). laid_leb (lnum, y)) (cond (not (is_blank (unwrap_or o []))) o None) [])
+      (leb_there size text lnum below)
+      ∙ by_test lnum (leb_of size text lnum) (is_blank (leb_of size text lnum))
+
+  of_kind : (k : VolKind)
+      → flat_map (laid_bytes ps.sizes (new_ec ps.image_seq)) (volume_blocks ps.sizes p.id p.entry (without_blank (content_of k size text)))
+      ≡ flat_map (λ lnum. piece_of_kind k ps p lnum bytes) (range_with_len 0 n)
+  of_kind kind.Static = flat_map-map (laid_bytes ps.sizes (new_ec ps.image_seq))
+      (static_part (data_pad ps.sizes p.entry) size p.id text) (range_with_len 0 n)
+  of_kind kind.Dynamic =
+      flat_map-map (laid_bytes ps.sizes (new_ec ps.image_seq)) (dynamic_block (data_pad ps.sizes p.entry) p.id) (finite.entries kept)
+      ∙ entries_by_number laid_leb kept n within
+      ∙ same_range _ _ 0 n (λ lnum low high. leb_bytes lnum (omega arith))
+
+  pub part_is : flat_map (laid_bytes ps.sizes (new_ec ps.image_seq))
+      (volume_blocks ps.sizes p.id p.entry (without_blank (content_of p.entry.kind size text))) ≡ part_bytes ps p bytes
+  part_is = of_kind p.entry.kind
+      ∙ ap (λ len. flat_map (λ lnum. piece_of_kind p.entry.kind ps p lnum bytes) (range_with_len 0 (pieces size len)))
+      (text_size bytes p reaches)
+
+-- what is built, by number
+module _ (ps : Parts) (bytes : List ℕ) where
+  abbrev pub volume_in : Part → Volume
+  volume_in p = (item_without_blank (item_of ps.sizes bytes p)).1
+
+  as_volume : (o : Option Part)
+      → option_map (λ (e : ℕ × Volume). e.1) (option_map item_without_blank (option_map (item_of ps.sizes bytes) o))
+      ≡ option_map volume_in o
+  as_volume None = refl
+  as_volume (Some p) = refl
+
+  pub built_at : (id : ℕ) → finite.get (built ps bytes).volumes id ≡ option_map volume_in (part_at ps id)
+  built_at id =
+      get_made item_without_blank (items_of ps.sizes bytes ps.of) id
+      ∙ ap (λ o. option_map (λ (e : ℕ × Volume). e.1) (option_map item_without_blank o))
+      (find-map (item_of ps.sizes bytes) (λ e. e.0 == id) ps.of)
+      ∙ as_volume (part_at ps id)
+
+  as_entry : (o : Option Part) → option_map (λ (v : Volume). v.entry) (option_map volume_in o)
+      ≡ option_map (λ (p : Part). p.entry) o
+  as_entry None = refl
+  as_entry (Some p) = refl
+
+  -- the table
+  pub table_is : table_of ps ≡ table_bytes (records_of (built ps bytes))
+  table_is = sym (same_range _ _ 0 (slots ps.sizes) (λ slot low high. ap (rec_bytes ps.sizes)
+      (record_of (built ps bytes) slot ∙ ap (option_map (λ (v : Volume). v.entry)) (built_at slot) ∙ as_entry (part_at ps slot))))
+
+  -- what is built at a number is the volume of a part
+  pub built_part : (id : ℕ) (v : Volume) → finite.get (built ps bytes).volumes id ≡ Some v
+      → (p : Part) × (part_at ps id ≡ Some p) × (volume_in p ≡ v)
+  built_part id v e = by (part_at ps id) refl
+    where
+      from : option_map volume_in (part_at ps id) ≡ Some v
+      from = sym (built_at id) ∙ e
+
+      by : (o : Option Part) → part_at ps id ≡ o → (p : Part) × (part_at ps id ≡ Some p) × (volume_in p ≡ v)
+      by None f = absurd (let g = sym from ∙ ap (option_map volume_in) f in cc)
+      by (Some p) f = (p, f, (let g = sym (ap (option_map volume_in) f) ∙ from in cc))
+
+  module _ (h : HaveMeaning ps) (reaches : Reaches (length bytes) ps.of) where
+    abbrev blocks_in : ℕ × Volume → List ℕ
+    blocks_in e = flat_map (laid_bytes ps.sizes (new_ec ps.image_seq)) (volume_blocks ps.sizes e.0 e.1.entry e.1.content)
+
+    below : (id : ℕ) (v : Volume) → finite.get (built ps bytes).volumes id ≡ Some v → id < slots ps.sizes
+    below id v e =
+        let of = built_part id v e in
+        let found = found_part ps.of id of.0 of.1 in
+        let at = listed_at ps.of of.0 found.0 in
+        subst (λ n. n < slots ps.sizes) found.1 (part_slot ps h at.0 of.0 at.1)
+
+    numbered_is : (id : ℕ) (o : Option Part) → part_at ps id ≡ o
+        → option_map_or (λ v. blocks_in (id, v)) (option_map volume_in o) [] ≡ option_map_or (λ p. part_bytes ps p bytes) o []
+    numbered_is id None e = refl
+    numbered_is id (Some p) e =
+        let found = found_part ps.of id p e in
+        let at = listed_at ps.of p found.0 in
+        ap (λ n. blocks_in (n, volume_in p)) (sym found.1)
+        ∙ part_is ps bytes p (reached (length bytes) ps.of at.0 p reaches at.1)
+
+    volumes_are : flat_map (laid_bytes ps.sizes (new_ec ps.image_seq)) (blocks_of ps.sizes (finite.entries (built ps bytes).volumes))
+        ≡ first_volumes ps (slots ps.sizes) bytes
+    volumes_are =
+        flat_map-flat_map (laid_bytes ps.sizes (new_ec ps.image_seq)) (λ (v : ℕ × Volume). volume_blocks ps.sizes v.0 v.1.entry v.1.content)
+        (finite.entries (built ps bytes).volumes)
+        ∙ entries_by_number blocks_in (built ps bytes).volumes (slots ps.sizes) below
+        ∙ same_range _ _ 0 (slots ps.sizes) (λ id low high.
+        ap (λ o. option_map_or (λ v. blocks_in (id, v)) o []) (built_at id) ∙ numbered_is id (part_at ps id) refl)
+
+    spares_are : (x : List ℕ) (a n : ℕ) → flat_map (λ _. x) (range_with_len a n) ≡ flat_map (λ b. b) (replicate n x)
+    spares_are x a zero = refl
+    spares_are x a (suc n) = ap (λ r. x ++ r) (spares_are x (a + 1) n)
+
+    -- all of it
+    pub image_is : (spares : ℕ) → whole_bytes ps spares bytes ≡ composed (built ps bytes) spares
+    image_is spares =
+        let table = λ (text : List ℕ) (copy : ℕ). laid_bytes ps.sizes (new_ec ps.image_seq)
+        (record { header = plain kind.Dynamic 5 0 layout copy; text = text }) in
+        let text = table_bytes (records_of (built ps bytes)) in
+        let volumes = flat_map (laid_bytes ps.sizes (new_ec ps.image_seq))
+        (blocks_of ps.sizes (finite.entries (built ps bytes).volumes)) in
+        ap (λ t. ((table t 0 ++ table t 1) ++ first_volumes ps (slots ps.sizes) bytes) ++ spares_bytes ps spares bytes) table_is
+        ∙ ap (λ vs. ((table text 0 ++ table text 1) ++ vs) ++ spares_bytes ps spares bytes) (sym volumes_are)
+        ∙ ap (λ r. ((table text 0 ++ table text 1) ++ volumes) ++ r) (spares_are (spare ps.sizes ps.image_seq) 0 spares)
+        ∙ composed_pieces (built ps bytes) spares

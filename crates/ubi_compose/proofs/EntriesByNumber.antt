@@ -1,0 +1,83 @@
+-- The entries of a map by rising number, and those of a map that is made of a list.
+use Rattle.std.proofs.Common.{◌≡◌, ℕ, zero, suc, ◌+◌, ◌<◌, ◌≤◌, ◌==◌, Bool, true, false, cond, List, [], ◌∷◌, ◌++◌, map, refl, ap, sym, ◌∙◌, arith, zero-add, subst}
+use Rattle.std.specs.Prelude.{None, Option, Some, find, flat_map, option_map}
+use Rattle.std.specs.Cmp.{nat_cmp_total}
+use Rattle.std.specs.FinMap as finite
+use Rattle.std.specs.FinMap.{FinMap}
+use Rattle.std.specs.List.{AllByRecursion, range_with_len}
+use Rattle.std.specs.Option.{option_map_or}
+use Rattle.std.specs.Ordering.{nat_cmp}
+use Rattle.std.proofs.lemmas.Bool.Decides.{nat_tests}
+use Rattle.std.proofs.lemmas.Grind.{flat_map-append}
+use Rattle.ubi_scan.proofs.Entries.{first_entry}
+use Rattle.ubi_scan.proofs.Keys.{at_itself, at_other}
+use Rattle.ubi_volume.proofs.Extracted.{same_range}
+use Rattle.ubi_compose.proofs.ByNumber.{Rises, by_number}
+use Rattle.ubi_compose.proofs.DynamicPlaces.{rises_from}
+use Rattle.ubi_compose.proofs.Lists.{all_from, held_entry}
+use Rattle.ubi_compose.proofs.Rising.{entries_rise}
+
+-- what is made of each entry of a map, by rising number below n
+pub entries_by_number : {X : Type 0} (f : ℕ × X → List ℕ) (m : FinMap nat_cmp X) (n : ℕ)
+    → ((id : ℕ) (x : X) → finite.get m id ≡ Some x → id < n)
+    → flat_map f (finite.entries m) ≡ flat_map (λ id. option_map_or (λ x. f (id, x)) (finite.get m id) []) (range_with_len 0 n)
+entries_by_number {X} f m n below =
+    let es = finite.entries m in
+    let within : AllByRecursion (λ (e : ℕ × X). e.0 < n) es =
+    all_from (λ (e : ℕ × X). e.0 < n) es (λ e at. below e.0 e.1 (held_entry m e at)) in
+    let from : AllByRecursion (λ (e : ℕ × X). 0 ≤ e.0) es = all_from (λ (e : ℕ × X). 0 ≤ e.0) es (λ e at. omega arith) in
+    sym (by_number f n 0 es (subst (λ b. Rises f 0 b es) (sym (zero-add n))
+    (rises_from f 0 n es (entries_rise es (finite.entries_sorted m)) from within)))
+    ∙ same_range _ _ 0 n (λ id low high. ap (λ o. option_map_or (λ x. f (id, x)) o []) (sym (finite.get-entries m id)))
+
+-- the first element that passes, of those that a function gives
+pub find-map : {X Y : Type 0} (f : X → Y) (test : Y → Bool) (xs : List X)
+    → find test (map f xs) ≡ option_map f (find (λ x. test (f x)) xs)
+find-map f test [] = refl
+find-map f test (x ∷ xs) =
+    elim (test (f x)) as (λ b. cond b (Some (f x)) (find test (map f xs))
+    ≡ option_map f (cond b (Some x) (find (λ y. test (f y)) xs))) [ true ↦ refl | false ↦ find-map f test xs ]
+
+-- what the map of such elements has at a number
+pub get_made : {X Y : Type 0} (f : X → ℕ × Y) (xs : List X) (id : ℕ)
+    → finite.get (finite.from_entries {R = nat_cmp} (map f xs)) id
+    ≡ option_map (λ (e : ℕ × Y). e.1) (option_map f (find (λ x. (f x).0 == id) xs))
+get_made {X} {Y} f xs id =
+    sym (first_entry (map f xs) id)
+    ∙ ap (option_map (λ (e : ℕ × Y). e.1)) (find-map f (λ e. e.0 == id) xs)
+
+-- a number of a range is found in it
+pub find_in_range : (a n l : ℕ) → a ≤ l → l < a + n → find (λ i. i == l) (range_with_len a n) ≡ Some l
+find_in_range a zero l low high = absurd (omega arith)
+find_in_range a (suc n) l low high =
+    elim (a == l) as (λ b. (a == l) ≡ b
+    → cond b (Some a) (find (λ i. i == l) (range_with_len (a + 1) n)) ≡ Some l) [
+      | true ↦ λ t. ap Some (same t)
+      | false ↦ λ t. find_in_range (a + 1) n l (above t) (omega arith)
+    ] refl
+  where
+    same : (a == l) ≡ true → a ≡ l
+    same t = grind (arith, nat_tests)
+
+    above : (a == l) ≡ false → a + 1 ≤ l
+    above t = grind (arith, nat_tests)
+
+-- and one that isn't, isn't
+pub found_in_range : (a n l i : ℕ) → find (λ j. j == l) (range_with_len a n) ≡ Some i → l < a + n
+found_in_range a zero l i e = absurd (cc)
+found_in_range a (suc n) l i e =
+    elim (a == l) as (λ b. (a == l) ≡ b
+    → cond b (Some a) (find (λ j. j == l) (range_with_len (a + 1) n)) ≡ Some i → l < a + suc n) [
+      | true ↦ λ t f. (let s = same t in omega arith)
+      | false ↦ λ t f. (let r = found_in_range (a + 1) n l i f in omega arith)
+    ] refl e
+  where
+    same : (a == l) ≡ true → a ≡ l
+    same t = grind (arith, nat_tests)
+
+-- the elements of each element, in order
+pub flat_map-flat_map : {X Y : Type 0} (f : Y → List ℕ) (g : X → List Y) (xs : List X)
+    → flat_map f (flat_map g xs) ≡ flat_map (λ x. flat_map f (g x)) xs
+flat_map-flat_map f g [] = refl
+flat_map-flat_map f g (x ∷ xs) =
+    flat_map-append f (g x) (flat_map g xs) ∙ ap (λ r. flat_map f (g x) ++ r) (flat_map-flat_map f g xs)

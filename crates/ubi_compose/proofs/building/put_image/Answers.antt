@@ -1,0 +1,67 @@
+use Rattle.std.proofs.Common.{refl, List, ℕ, ◌++◌}
+use Rattle.std.proofs.lemmas.Result.{err_from_is_err_and, IfErr-weaker, IfOk-weaker}
+use Rattle.ubi_media.specs.Geometry.{slots}
+use Rattle.ubi_scan.specs.inner.Held.{anything}
+use Rattle.ubi_volume.specs.Wrote.{All}
+use Rattle.ubi_volume.proofs.Narrowed.{wrote_narrowed}
+use Rattle.ubi_compose.specs.Built.{Parts}
+use Rattle.ubi_compose.specs.inner.Building.{first_volumes, spares_bytes, tables_bytes, whole_bytes}
+use Rattle.ubi_compose.proofs.WantedBytes.{back_unbuilt, both_wrote, front_unbuilt, unbuilt_narrowed}
+use Rattle.ubi_compose.proofs.building.put_image.Goals as goal
+
+-- the tables and the volumes
+abbrev normal : Parts → List ℕ → List ℕ
+normal ps bytes = tables_bytes ps bytes ++ first_volumes ps (slots ps.sizes) bytes
+
+pub returns-in_err-front-clause-failed : goal.returns-in_err-front-clause-failed
+returns-in_err-front-clause-failed g c =
+    let ps : Parts = c.args.recipe.now in
+    let agrees = g.S.BlockSource.agrees c.args.source.now in
+    let from = err_from_is_err_and c.from_residual.result c.from_residual.ensures.1 in
+    rw (from.1, from.2)
+    (front_unbuilt agrees (whole_bytes ps c.args.spares) (normal ps) (spares_bytes ps c.args.spares) (λ bytes. refl) ps _ _ 0
+    c.in_err-front.field-0.0
+    (front_unbuilt agrees (normal ps) (tables_bytes ps) (first_volumes ps (slots ps.sizes)) (λ bytes. refl) ps _ _ 0
+    c.in_err-front.field-0.0
+    (unbuilt_narrowed anything agrees (λ bytes holds. tt) ps _ _ _ 0 c.in_err-front.field-0.0 c.in_err-front.ensures.failed)))
+
+pub returns-in_err-normal-clause-failed : goal.returns-in_err-normal-clause-failed
+returns-in_err-normal-clause-failed g c =
+    let ps : Parts = c.args.recipe.now in
+    let agrees = g.S.BlockSource.agrees c.put_volumes.new.source in
+    let from = err_from_is_err_and c.from_residual-in_err-normal.result c.from_residual-in_err-normal.ensures.1 in
+    rw (from.1, from.2)
+    (front_unbuilt agrees (whole_bytes ps c.args.spares) (normal ps) (spares_bytes ps c.args.spares) (λ bytes. refl) ps _ _ 0
+    c.in_err-normal.field-0.0
+    (back_unbuilt agrees (normal ps) (tables_bytes ps) (first_volumes ps (slots ps.sizes)) (λ bytes. refl) ps _ _ _ 0
+    c.in_ok-front.front c.in_err-normal.field-0.0
+    (wrote_narrowed anything agrees (λ bytes holds. tt) _ _ _ All 0 c.in_ok-front.front c.in_ok-front.ensures.written)
+    c.in_err-normal.ensures.failed))
+
+pub returns-clause-written : goal.returns-clause-written
+returns-clause-written g c =
+    let ps : Parts = c.args.recipe.now in
+    let agrees = g.S.BlockSource.agrees c.put_volumes.new.source in
+    IfOk-weaker c.put_spares.result _ _
+    (λ n h. both_wrote agrees (whole_bytes ps c.args.spares) (normal ps) (spares_bytes ps c.args.spares) (λ bytes. refl) _ _ _ 0
+    c.in_ok-normal.normal n
+    (both_wrote agrees (normal ps) (tables_bytes ps) (first_volumes ps (slots ps.sizes)) (λ bytes. refl) _ _ _ 0
+    c.in_ok-front.front c.in_ok-normal.normal
+    (wrote_narrowed anything agrees (λ bytes holds. tt) _ _ _ All 0 c.in_ok-front.front c.in_ok-front.ensures.written)
+    c.in_ok-normal.ensures.written)
+    (wrote_narrowed anything agrees (λ bytes holds. tt) _ _ _ All c.in_ok-normal.normal n h))
+    c.put_spares.ensures.written
+
+pub returns-clause-failed : goal.returns-clause-failed
+returns-clause-failed g c =
+    let ps : Parts = c.args.recipe.now in
+    let agrees = g.S.BlockSource.agrees c.put_volumes.new.source in
+    IfErr-weaker c.put_spares.result _ _
+    (λ e h. back_unbuilt agrees (whole_bytes ps c.args.spares) (normal ps) (spares_bytes ps c.args.spares) (λ bytes. refl) ps _ _ _ 0
+    c.in_ok-normal.normal e
+    (both_wrote agrees (normal ps) (tables_bytes ps) (first_volumes ps (slots ps.sizes)) (λ bytes. refl) _ _ _ 0
+    c.in_ok-front.front c.in_ok-normal.normal
+    (wrote_narrowed anything agrees (λ bytes holds. tt) _ _ _ All 0 c.in_ok-front.front c.in_ok-front.ensures.written)
+    c.in_ok-normal.ensures.written)
+    (unbuilt_narrowed anything agrees (λ bytes holds. tt) ps _ _ _ c.in_ok-normal.normal e h))
+    c.put_spares.ensures.failed

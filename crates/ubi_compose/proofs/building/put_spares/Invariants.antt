@@ -1,0 +1,13 @@
+use Rattle.std.proofs.Common.{◌≡◌, ◌+◌, ◌*◌, ◌≤◌, List, ℕ}
+use Rattle.ubi_scan.specs.inner.Held.{anything}
+use Rattle.ubi_volume.specs.Wrote.{All, Wrote}
+use Rattle.ubi_compose.specs.Building.{those}
+use Rattle.ubi_compose.specs.inner.Building.{spares_bytes}
+use Rattle.ubi_compose.proofs.building.put_spares.Given as goal
+
+abbrev pub invariant-loop : goal.invariant-loop
+invariant-loop g l = record {
+  wrote : Wrote anything (g.W.Write.contents l.fn.writer) (g.W.Write.contents l.writer)
+      (those (spares_bytes l.recipe l.counter)) All l.done l.total;
+  few : l.total ≤ l.done + l.counter * l.recipe.sizes.peb_size;
+}

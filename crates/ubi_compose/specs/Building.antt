@@ -1,0 +1,48 @@
+-- What building answers, and what the writer received then.
+use Rattle.std.specs.Prelude.{◌≡◌, ℕ, ◌+◌, ◌<◌, List, Contains, Option, Result, Ok, Err}
+use Rattle.std.specs.Io.KnownBytes.{Keeps}
+use Rattle.ubi_scan.specs.Source.{Agreed, Source, failed}
+use Rattle.ubi_volume.specs.Wrote.{First, NotAll, Wanted, Wrote}
+use Rattle.ubi_compose.specs.Composed.{composed}
+use Rattle.ubi_compose.specs.Built.{Parts, built, most_blocks}
+use Rattle.ubi_compose.specs.declared.recipe.Part.{Part}
+use Rattle.ubi_compose.specs.declared.errors.BuildError.{BuildError}
+use Rattle.ubi_compose.specs.declared.errors.BuildError.TheVariants as build
+
+-- the bytes wanted are those that a function gives of the source's
+abbrev pub those : (List ℕ → List ℕ) → Wanted
+those f bytes text = text ≡ f bytes
+
+-- the normal image of what is built, and behind it a number of spare eraseblocks
+abbrev pub image_built : Parts → ℕ → Wanted
+image_built ps spares = those (λ bytes. composed (built ps bytes) spares)
+
+-- a part whose volume has a number
+abbrev pub IsPartOf : Parts → ℕ → Part → Type 0
+IsPartOf ps id p = Contains ps.of p × (p.id ≡ id)
+
+-- why nothing is built, or only the first bytes
+abbrev pub IsBuildError : Parts → ℕ → Source → Agreed → Option (List ℕ) → Option (List ℕ) → BuildError → Type 0
+IsBuildError ps spares k agrees old new build.TooMany = ps.sizes.pebs < most_blocks ps + spares
+IsBuildError ps spares k agrees old new (build.Beyond id) =
+    (p : Part) × IsPartOf ps id p × (k.size < p.start + p.len)
+IsBuildError ps spares k agrees old new build.Memory = Unit {0}
+IsBuildError ps spares k agrees old new (build.Read id n) =
+    (p : Part) × IsPartOf ps id p × Wrote agrees old new (image_built ps spares) First 0 n
+IsBuildError ps spares k agrees old new (build.Write n) = Wrote agrees old new (image_built ps spares) NotAll 0 n
+
+-- a fact that holds where nothing was written
+abbrev pub WhereNotBegun : Type 0 → BuildError → Type 0
+WhereNotBegun fact (build.Read _ _) = Unit {0}
+WhereNotBegun fact (build.Write _) = Unit {0}
+WhereNotBegun fact _ = fact
+
+-- what is known of a source after a call that failed: one read failed where the answer is Read
+abbrev pub known_then : Source → BuildError → Source
+known_then k (build.Read _ _) = failed k
+known_then k _ = k
+
+-- and after any call
+abbrev pub known_after : {A : Type 0} → Source → Result A BuildError → Source
+known_after k (Ok _) = k
+known_after k (Err e) = known_then k e
