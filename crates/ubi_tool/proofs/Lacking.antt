@@ -3,8 +3,9 @@ use Rattle.std.proofs.Common.{◌≡◌, ◌∙◌, List, codes, false, refl, sy
 use Rattle.std.specs.Str.{bytes_eq}
 use Rattle.std.proofs.lemmas.Slice.Eq.{bytes_eq-Decides}
 use Rattle.clap.specs.Walk.{Row, Text}
-use Rattle.ubi_tool.specs.CommandLine.{AsksChange, AsksKey, AsksNumbers, AsksRename, HasNumber}
+use Rattle.ubi_tool.specs.CommandLine.{AsksBuild, AsksChange, AsksKey, AsksNumbers, AsksRename, HasNumber}
 use Rattle.ubi_tool.specs.inner.CommandLine.{IsAskedBy}
+use Rattle.ubi_tool.specs.declared.command_line.Build.{Build}
 use Rattle.ubi_tool.specs.declared.command_line.Change.{Change}
 use Rattle.ubi_tool.specs.declared.command_line.Rename.{Rename}
 use Rattle.ubi_tool.specs.declared.command_line.Request.{Request}
@@ -25,6 +26,7 @@ no_numbers name other rows none (request.Show n image block) asked = none n aske
 no_numbers name other rows none (request.Extract n image id out) asked = none n asked.1.0
 no_numbers name other rows none (request.Unpack n image dir) asked = none n asked.1.0
 no_numbers name other rows none (request.Compose n spec out spares seq) asked = none n asked.1.0
+no_numbers name other rows none (request.Build n build) asked = none n asked.1.0
 no_numbers name other rows none (request.Normalise n image out) asked = none n asked.1.0
 no_numbers name other rows none (request.Same n left right) asked = none n asked.1.0
 no_numbers name other rows none (request.Change n image change) asked = none n asked.1.0
@@ -39,6 +41,11 @@ pub no_key : (rows : List Row) → ((k : VolumeKey) → AsksKey rows k → ⊥) 
     → IsAskedBy (codes "extract") rows r → ⊥
 no_key rows none (request.Extract n image key out) asked = none key asked.1.2
 no_key rows none _ asked = apart _ _ refl asked.0
+
+pub no_build : (rows : List Row) → ((b : Build) → AsksBuild rows b → ⊥) → (r : Request)
+    → IsAskedBy (codes "build") rows r → ⊥
+no_build rows none (request.Build n build) asked = none build asked.1.1
+no_build rows none _ asked = apart _ _ refl asked.0
 
 pub no_change : (rows : List Row) → ((c : Change) → AsksChange rows c → ⊥) → (r : Request)
     → IsAskedBy (codes "change") rows r → ⊥

@@ -11,6 +11,7 @@ use Rattle.clap.specs.Simple.{Shape, argument_words, built, label_of, subcommand
 use Rattle.clap.specs.Walk.{Row, Text, answers_to, nothing_held, rows_after}
 use Rattle.ubi_tool.specs.CommandLine.{Asks, AsksNumbers, IsRequest, HasNumber, HasText, command_name}
 use Rattle.ubi_tool.specs.Tool.{HasOneVolume, Takes, tool}
+use Rattle.ubi_tool.specs.declared.command_line.Build.{Build}
 use Rattle.ubi_tool.specs.declared.command_line.Change.{Change}
 use Rattle.ubi_tool.specs.declared.command_line.Rename.{Rename}
 use Rattle.ubi_tool.specs.declared.command_line.Request.{Request}
@@ -107,6 +108,22 @@ module _ (s : Shape) (rows : List Row) (given : AreGiven s rows) where
         refl,
         (n.1, t.1, o.1, (spares.0, spares.1, refl), (seq.0, seq.1, refl)),
       )
+
+  build_asked : Needs s (codes "peb") → Needs s (codes "page") → Needs s (codes "CONFIG") → Needs s (codes "out")
+      → IsAsked (codes "build") rows
+  build_asked peb page config out =
+      let n = numbers peb page in
+      let t = text (codes "CONFIG") config in
+      let o = text (codes "out") out in
+      let spares = number_in rows (codes "spares") in
+      let seq = number_in rows (codes "seq") in
+      let build : Build = record {
+        config = t.0;
+        out = o.0;
+        spares = unwrap_or spares.0 0;
+        image_seq = unwrap_or seq.0 0;
+      } in
+      (request.Build n.0 build, refl, (n.1, (t.1, o.1, (spares.0, spares.1, refl), (seq.0, seq.1, refl))))
 
   normalise_asked : Needs s (codes "peb") → Needs s (codes "page") → Needs s (codes "IMAGE") → Needs s (codes "out")
       → IsAsked (codes "normalise") rows
@@ -212,11 +229,12 @@ each_asks =
     (also (asks_it _ refl refl refl (λ rows given one. extract_asked _ rows given refl refl refl refl one))
     (also (asks_it _ refl refl refl (λ rows given one. unpack_asked _ rows given refl refl refl refl))
     (also (asks_it _ refl refl refl (λ rows given one. compose_asked _ rows given refl refl refl refl))
+    (also (asks_it _ refl refl refl (λ rows given one. build_asked _ rows given refl refl refl refl))
     (also (asks_it _ refl refl refl (λ rows given one. normalise_asked _ rows given refl refl refl refl))
     (also (asks_it _ refl refl refl (λ rows given one. same_asked _ rows given refl refl refl refl))
     (also (asks_it _ refl refl refl (λ rows given one. change_asked _ rows given refl refl refl refl refl refl refl))
     (also (asks_it _ refl refl refl (λ rows given one. rename_asked _ rows given refl refl refl refl refl refl))
-    (also (help_asks _ refl refl) none)))))))))))
+    (also (help_asks _ refl refl) none))))))))))))
 
 tool_met : (words : List Text) → fault_of tool words ≡ [] → IsMet (built tool) (argument_words tool words)
 unfolding tool

@@ -3,6 +3,7 @@ use Rattle.std.specs.Borrow.{Bor}
 use Rattle.std.specs.Prelude.{◌≡◌, ◌↔◌, ◌∷◌, ◌<◌, ◌^◌, [], List, None, Option, Some, codes, option_map, unwrap_or, ℕ}
 use Rattle.std.specs.Str.Parse.{IsNumeral, digits_value, without_leading_plus}
 use Rattle.clap.specs.Walk.{Row, Text, first_of, one_of}
+use Rattle.ubi_tool.specs.declared.command_line.Build.{Build}
 use Rattle.ubi_tool.specs.declared.command_line.Change.{Change}
 use Rattle.ubi_tool.specs.declared.command_line.Rename.{Rename}
 use Rattle.ubi_tool.specs.declared.command_line.Request.{Request}
@@ -20,6 +21,7 @@ command_name (request.Show _ _ _) = codes "show"
 command_name (request.Extract _ _ _ _) = codes "extract"
 command_name (request.Unpack _ _ _) = codes "unpack"
 command_name (request.Compose _ _ _ _ _) = codes "compose"
+command_name (request.Build _ _) = codes "build"
 command_name (request.Normalise _ _ _) = codes "normalise"
 command_name (request.Same _ _ _) = codes "same"
 command_name (request.Change _ _ _) = codes "change"
@@ -28,7 +30,7 @@ command_name (request.Rename _ _ _) = codes "rename"
 -- all of them, in the order of the help
 abbrev pub command_names : List (List ℕ)
 command_names = codes "geometry" ∷ codes "list" ∷ codes "check" ∷ codes "show" ∷ codes "extract" ∷ codes "unpack"
-    ∷ codes "compose" ∷ codes "normalise" ∷ codes "same" ∷ codes "change" ∷ codes "rename" ∷ []
+    ∷ codes "compose" ∷ codes "build" ∷ codes "normalise" ∷ codes "same" ∷ codes "change" ∷ codes "rename" ∷ []
 
 -- the words give this text under the name
 abbrev pub HasText : List Row → List ℕ → Bor (List ℕ) → Type 0
@@ -62,6 +64,11 @@ abbrev pub AsksKey : List Row → VolumeKey → Type 0
 AsksKey words (key.Id id) = HasNumber words (codes "id") id × (first_of (codes "name") words ≡ None)
 AsksKey words (key.Name name) = HasText words (codes "name") name × (first_of (codes "id") words ≡ None)
 
+-- the words give this config and what to build of it
+abbrev pub AsksBuild : List Row → Build → Type 0
+AsksBuild words build = HasText words (codes "CONFIG") build.config × HasText words (codes "out") build.out
+    × HasNumberOr 0 words (codes "spares") build.spares × HasNumberOr 0 words (codes "seq") build.image_seq
+
 -- the words give this change
 abbrev pub AsksChange : List Row → Change → Type 0
 AsksChange words change = HasNumber words (codes "id") change.id
@@ -91,6 +98,7 @@ Asks words (request.Unpack numbers image dir) = AsksNumbers words numbers × Has
 Asks words (request.Compose numbers spec out spares seq) = AsksNumbers words numbers × HasText words (codes "SPEC") spec
     × HasText words (codes "out") out × HasNumberOr 0 words (codes "spares") spares
     × HasNumberOr 0 words (codes "seq") seq
+Asks words (request.Build numbers build) = AsksNumbers words numbers × AsksBuild words build
 Asks words (request.Normalise numbers image out) = AsksNumbers words numbers × HasText words (codes "IMAGE") image
     × HasText words (codes "out") out
 Asks words (request.Same numbers left right) = AsksNumbers words numbers × HasText words (codes "IMAGE") left

@@ -1,5 +1,6 @@
 pub mod AfterRun
 pub mod Answer
+pub mod Build
 pub mod Change
 pub mod Check
 pub mod CommandLine
@@ -21,6 +22,7 @@ pub mod Printed
 pub mod Program
 pub mod Read
 pub mod Rename
+pub mod Row
 pub mod Same
 pub mod Show
 pub mod Tool

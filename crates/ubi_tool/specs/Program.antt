@@ -6,6 +6,7 @@ use Rattle.ubi_media.specs.declared.geometry.GeometryError.{GeometryError}
 use Rattle.ubi_scan.specs.Image.{Image, image_of}
 use Rattle.ubi_scan.specs.Source.{Agreed, Source, holds, known_by, memory}
 use Rattle.ubi_tool.specs.Answer.{Gives, says}
+use Rattle.ubi_tool.specs.Build.{Builds}
 use Rattle.ubi_tool.specs.Change.{ChangesFrom, HasPlan}
 use Rattle.ubi_tool.specs.Check.{ChecksOf}
 use Rattle.ubi_tool.specs.Compose.{ComposesInto}
@@ -107,6 +108,8 @@ IsAnswerTo d e (request.Extract numbers path key out) =
 IsAnswerTo d e (request.Unpack numbers path dir) = OfFile d numbers path.now (UnpacksOf dir.now d e)
 IsAnswerTo d e (request.Compose numbers spec out spares seq) =
     OfText d numbers spec.now (λ s t. ComposesInto out.now d e s t spares seq)
+IsAnswerTo d e (request.Build numbers build) =
+    OfText d numbers build.config.now (λ s t. Builds d e build.config.now build.out.now s t build.spares build.image_seq)
 IsAnswerTo d e (request.Normalise numbers path out) =
     OfFile d numbers path.now (λ s k agrees. WritesInto out.now d e (NormalisesOf s k agrees) (HasMeaning s agrees))
 IsAnswerTo d e (request.Same numbers left right) = BothOf d numbers left.now right.now ComparesOf
@@ -129,6 +132,7 @@ IsAllElse (request.Show _ _ _) d e = AllStay d e
 IsAllElse (request.Extract _ _ _ out) d e = OthersStay d e out.now
 IsAllElse (request.Unpack _ _ dir) d e = OutsideStay d e dir.now
 IsAllElse (request.Compose _ _ out _ _) d e = OthersStay d e out.now
+IsAllElse (request.Build _ build) d e = OthersStay d e build.out.now
 IsAllElse (request.Normalise _ _ out) d e = OthersStay d e out.now
 IsAllElse (request.Same _ _ _) d e = AllStay d e
 IsAllElse (request.Change _ _ change) d e = OthersStay d e change.out.now

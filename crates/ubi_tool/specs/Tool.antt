@@ -74,6 +74,12 @@ compose =
     command (codes "compose")
     (needed (new_rule (codes "SPEC")) ∷ output ∷ number (codes "spares") ∷ number (codes "seq") ∷ [])
 
+-- `build`, over a config, with the file to write, and the spare eraseblocks and the image sequence number if given
+abbrev pub build : Shape
+build =
+    command (codes "build")
+    (needed (new_rule (codes "CONFIG")) ∷ output ∷ number (codes "spares") ∷ number (codes "seq") ∷ [])
+
 -- `normalise`, over an image, with the file to write
 abbrev pub normalise : Shape
 normalise = on_image (codes "normalise") (output ∷ [])
@@ -97,7 +103,7 @@ rename = on_image (codes "rename") (output ∷ volume ∷ needed (option (codes 
 unfoldable pub tool : App
 tool = record {
   top = record (new_shape (codes "ubi_tool")) { is_leaf = false; has_version = true; subcommand_required = true };
-  subs = geometry ∷ list ∷ check ∷ show ∷ extract ∷ unpack ∷ compose ∷ normalise ∷ same ∷ change ∷ rename ∷ [];
+  subs = geometry ∷ list ∷ check ∷ show ∷ extract ∷ unpack ∷ compose ∷ build ∷ normalise ∷ same ∷ change ∷ rename ∷ [];
 }
 
 -- of the words of `extract`, just one names the volume

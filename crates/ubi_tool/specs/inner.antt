@@ -1,5 +1,7 @@
 -- Definitions that only private functions' contracts and proofs cite.
+pub mod Built
 pub mod CommandLine
 pub mod Ended
 pub mod Folder
+pub mod Gathering
 pub mod Telling

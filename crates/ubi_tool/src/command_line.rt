@@ -4,7 +4,7 @@ ghost use Rattle.std.specs.Prelude.{◌≡◌, ◌∷◌, [], IfOk, codes, false
 ghost use Rattle.clap.specs.Built.{subcommand_names};
 ghost use Rattle.clap.specs.Simple.{app_of, new_rule, new_shape, subcommand_rows_of};
 ghost use Rattle.clap.specs.Walk.{Text, rule_of};
-ghost use Rattle.ubi_tool.specs.CommandLine.{AsksChange, AsksKey, AsksNumbers, AsksRename, HasNumber, HasText, IsOneOf, IsRequest, MayHaveNumber, command_names};
+ghost use Rattle.ubi_tool.specs.CommandLine.{AsksBuild, AsksChange, AsksKey, AsksNumbers, AsksRename, HasNumber, HasText, IsOneOf, IsRequest, MayHaveNumber, command_names};
 ghost use Rattle.ubi_tool.specs.Tool as tool;
 ghost use Rattle.ubi_tool.specs.Tool.{tool as whole};
 ghost use Rattle.ubi_tool.specs.inner.CommandLine.{HasOneMore, IsAskedBy, alone, words_in};
@@ -58,6 +58,11 @@ pub enum Request<'a> {
         spares: u32,
         image_seq: u32,
     },
+    /// The image that a config and the files that it names give, into another file.
+    Build {
+        numbers: Numbers,
+        build: Build<'a>,
+    },
     /// The normal image of one file, into another.
     Normalise {
         numbers: Numbers,
@@ -82,6 +87,19 @@ pub enum Request<'a> {
         image: &'a str,
         rename: Rename<'a>,
     },
+}
+
+/// The image of a config and of the files that it names.
+#[derive(Clone, Copy)]
+pub struct Build<'a> {
+    /// The path of the config.
+    pub config: &'a str,
+    /// The path of the file that is written.
+    pub out: &'a str,
+    /// How many spare eraseblocks follow.
+    pub spares: u32,
+    /// The image sequence number.
+    pub image_seq: u32,
 }
 
 /// The change of a logical eraseblock.
@@ -144,6 +162,7 @@ pub fn command_line<'a>(alloc: Global) -> Result<Command<'a>, AllocError>
     let tool = with_command(tool, extract_command(alloc))?;
     let tool = with_command(tool, unpack_command(alloc))?;
     let tool = with_command(tool, compose_command(alloc))?;
+    let tool = with_command(tool, build_command(alloc))?;
     let tool = with_command(tool, normalise_command(alloc))?;
     let tool = with_command(tool, same_command(alloc))?;
     let tool = with_command(tool, change_command(alloc))?;
@@ -181,6 +200,7 @@ fn request_under<'a>(name: &str, matches: &'a ArgMatches<'_>) -> Option<Request<
         "extract" => extract_of(matches),
         "unpack" => unpack_of(matches),
         "compose" => compose_of(matches),
+        "build" => build_of(matches),
         "normalise" => normalise_of(matches),
         "same" => same_of(matches),
         "change" => change_of(matches),
@@ -255,6 +275,15 @@ fn compose_of<'a>(matches: &'a ArgMatches<'_>) -> Option<Request<'a>>
         out: text_of(matches, "out")?,
         spares: number_of(matches, "spares").unwrap_or(0),
         image_seq: number_of(matches, "seq").unwrap_or(0),
+    })
+}
+
+fn build_of<'a>(matches: &'a ArgMatches<'_>) -> Option<Request<'a>>
+    ensures { IsOneOf (IsAskedBy (codes "build") (words_in matches.now)) result }
+{
+    Some(Request::Build {
+        numbers: numbers_of(matches)?,
+        build: config_build(matches)?,
     })
 }
 
@@ -411,6 +440,27 @@ fn spec_file<'a>(alloc: Global) -> Arg<'a>
 {
     Arg::new(alloc, "SPEC")
         .help("Text that describes the volumes")
+        .required(true)
+}
+
+fn build_command<'a>(alloc: Global) -> Result<Command<'a>, AllocError>
+    ensures { IfOk result (λ c. app_of c ≡ alone tool.build) }
+{
+    let about = "Writes the image that a config of ubinize and the files in it give";
+    let command = device_command(alloc, "build", about)?;
+    let command = command.arg(config_file(alloc))?;
+    let command = command.arg(out_file(alloc))?;
+    let command = command.arg(number(alloc, "spares", SPARES))?;
+    command.arg(number(alloc, "seq", SEQ))
+}
+
+/// The word that names the config.
+fn config_file<'a>(alloc: Global) -> Arg<'a>
+    ensures rule { rule_of result ≡ tool.needed (new_rule (codes "CONFIG")) }
+    ensures global { result.global ≡ false }
+{
+    Arg::new(alloc, "CONFIG")
+        .help("Config of ubinize: an ini file")
         .required(true)
 }
 
@@ -608,6 +658,17 @@ fn key_of<'a>(matches: &'a ArgMatches<'_>) -> Option<VolumeKey<'a>>
         (Some(name), None) => Some(VolumeKey::Name(name)),
         (Some(_), Some(_)) => None,
     }
+}
+
+fn config_build<'a>(matches: &'a ArgMatches<'_>) -> Option<Build<'a>>
+    ensures { IsOneOf (AsksBuild (words_in matches.now)) result }
+{
+    Some(Build {
+        config: text_of(matches, "CONFIG")?,
+        out: text_of(matches, "out")?,
+        spares: number_of(matches, "spares").unwrap_or(0),
+        image_seq: number_of(matches, "seq").unwrap_or(0),
+    })
 }
 
 fn leb_change<'a>(matches: &'a ArgMatches<'_>) -> Option<Change<'a>>

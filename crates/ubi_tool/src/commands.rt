@@ -7,6 +7,7 @@ ghost use Rattle.ubi_tool.specs.Compose.{ComposesInto};
 ghost use Rattle.ubi_tool.specs.Disk.{AllStay, OthersStay};
 ghost use Rattle.ubi_tool.specs.Program.{IsAllElse, IsAnswer, IsAnswerTo, OfText};
 
+use crate::build::build_file;
 use crate::command_line::{Request, command_line, request_of};
 use crate::compose::run_compose;
 use crate::disk::Disk;
@@ -113,6 +114,7 @@ fn run_request<D: Disk + Eprint>(
             spares,
             image_seq,
         } => compose_file(disk, alloc, numbers, spec, out, spares, image_seq),
+        Request::Build { numbers, build } => build_file(disk, alloc, numbers, &build),
         Request::Normalise {
             numbers,
             image,

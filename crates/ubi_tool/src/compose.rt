@@ -18,14 +18,14 @@ fn spec_line(alloc: Global, line: u32, cause: SpecCause) -> Result<Vec<u8>, Allo
 }
 
 /// The line of volumes that have no meaning together.
-fn meaning_line(alloc: Global, cause: MeaningCause) -> Result<Vec<u8>, AllocError>
+pub fn meaning_line(alloc: Global, cause: MeaningCause) -> Result<Vec<u8>, AllocError>
     ensures { IfOk result (λ text. text.items ≡ meaning_line cause) }
 {
     refused(alloc, &cause)
 }
 
 /// The line of an image that the device has no room for.
-fn room_line(alloc: Global) -> Result<Vec<u8>, AllocError>
+pub fn room_line(alloc: Global) -> Result<Vec<u8>, AllocError>
     ensures { IfOk result (λ text. text.items ≡ room_line) }
 {
     refused(alloc, &ComposeError::TooMany)

@@ -3,6 +3,7 @@
 ghost use Rattle.std.specs.Prelude.{◌≡◌, ◌≢◌, IfErr, IfOk, IfSome};
 ghost use Rattle.ubi_tool.specs.Disk.{Files, IsKept, fresh};
 
+use crate::file_row::SizedFile;
 use crate::outcome::ToolError;
 use std::io;
 use std::io::{Read, Write};
@@ -66,6 +67,12 @@ pub trait Disk {
     fn source_beside(&self, path: &str, out: &str) -> Option<FileSource<Self::Placed>>
         ensures unread { IfSome result (λ s. s.failures ≡ 0) }
         ensures named { IfSome result (λ s. Self.Placed.bytes s.file ≡ (files self.now).holds path.now) }
+        ensures apart { IfSome result (λ _. path.now ≢ out.now) };
+
+    /// The file at a path, to be read at places while the file at `out` is written; or none where it can't be read so, or both
+    /// may be one file.
+    fn sized_beside(&self, path: &str, out: &str) -> Option<SizedFile<Self::Placed>>
+        ensures named { IfSome result (λ f. Self.Placed.bytes f.file ≡ (files self.now).holds path.now) }
         ensures apart { IfSome result (λ _. path.now ≢ out.now) };
 
     /// Opens the file at a path, to be read from its beginning to its end.

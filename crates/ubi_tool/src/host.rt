@@ -3,8 +3,9 @@
 ghost use Rattle.std.specs.Prelude.{◌≡◌};
 
 use crate::disk::{Disk, OutputFile, WholeFile};
+use crate::file_row::SizedFile;
 use crate::folder::make_folder;
-use crate::image_source::{source_at, source_of};
+use crate::image_source::{sized_beside, source_at, source_of};
 use crate::outcome::ToolError;
 use crate::read::{expected_len, open_whole};
 use std::fmt::Display;
@@ -70,6 +71,10 @@ where
 
     fn source_beside(&self, path: &str, out: &str) -> Option<FileSource<SystemFile<R::File>>> {
         source_of(self.rt, path, out)
+    }
+
+    fn sized_beside(&self, path: &str, out: &str) -> Option<SizedFile<SystemFile<R::File>>> {
+        sized_beside(self.rt, path, out)
     }
 
     fn whole(&self, path: &str) -> Result<WholeFile<R::File>, ToolError> {

@@ -2,9 +2,10 @@
 
 ghost use Rattle.std.specs.Prelude.{◌≡◌, ◌≢◌, IfSome};
 
+use crate::file_row::SizedFile;
 use std::fs;
 use std::fs::{Files, Metadata};
-use std::io::ErrorKind;
+use std::io::{ErrorKind, Seek, SeekFrom};
 use std::os::unix::fs::{FileExt, FileTypeExt, MetadataExt};
 use ubi_scan::{BlockSource, FileSource, SystemFile};
 
@@ -79,4 +80,34 @@ where
         return None;
     }
     source_with_bytes(rt, image)
+}
+
+/// Opens a file that is read at places, and finds its size.
+fn open_sized<R: Files>(rt: &R, path: &str) -> Option<SizedFile<SystemFile<R::File>>>
+where
+    R::File: FileExt,
+{
+    let mut file = fs::open(rt, path).ok()?;
+    let len = file.seek(SeekFrom::End(0)).ok()?;
+    Some(SizedFile::new(SystemFile::new(file), len))
+}
+
+/// A file with the contents of a volume, to be read at places while the output is written; or none where it can't be read so, or
+/// may be the output: by the same path, or by a link.
+pub fn sized_beside<R: Files>(
+    rt: &R,
+    path: &str,
+    out: &str,
+) -> Option<SizedFile<SystemFile<R::File>>>
+where
+    R::File: FileExt,
+    ensures { IfSome result (λ _. path.now ≢ out.now) }
+{
+    let metadata = fs::metadata(rt, path).ok()?;
+    let kind = metadata.file_type();
+    let has_places = kind.is_file() || kind.is_block_device() || kind.is_char_device();
+    if !has_places || path == out || !stays(rt, &metadata, out) {
+        return None;
+    }
+    open_sized(rt, path)
 }

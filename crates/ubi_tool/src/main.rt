@@ -8,6 +8,7 @@ ghost use Rattle.std.specs.IoError.{error_kind};
 ghost use Rattle.std.specs.Prelude.{◌≡◌, ◌≢◌, Err, alloc_error};
 ghost use Rattle.ubi_tool.specs.Printed.{IsReported};
 
+mod build;
 mod change;
 mod check;
 mod command_line;
@@ -15,7 +16,9 @@ mod commands;
 mod compose;
 mod disk;
 mod extract;
+mod file_row;
 mod folder;
+mod gathering;
 mod geometry;
 mod host;
 mod image_file;

@@ -2,7 +2,7 @@ use Rattle.std.proofs.Common.{◌≡◌, ap, refl, true, ◌∙◌}
 use Rattle.std.specs.Prelude.{codes}
 use Rattle.std.proofs.lemmas.Result.{IfOk-weaker}
 use Rattle.clap.specs.Simple.{App, app_of, app_of_fields, new_app, on_top}
-use Rattle.ubi_tool.specs.Tool.{change, check, compose, extract, geometry, list, normalise, rename, same, show, tool, unpack}
+use Rattle.ubi_tool.specs.Tool.{build, change, check, compose, extract, geometry, list, normalise, rename, same, show, tool, unpack}
 use Rattle.ubi_tool.specs.inner.CommandLine.{HasOneMore}
 use Rattle.ubi_tool.proofs.CommandNames.{joined, names_are}
 use Rattle.ubi_tool.proofs.command_line.command_line.Goals as goal
@@ -28,14 +28,15 @@ returns-clause-app c =
     let five = joined _ _ _ _ extract c.in_ok-tool-5.ensures refl c.extract_command.ensures four in
     let six = joined _ _ _ _ unpack c.in_ok-tool-6.ensures refl c.unpack_command.ensures five in
     let seven = joined _ _ _ _ compose c.in_ok-tool-7.ensures refl c.compose_command.ensures six in
-    let eight = joined _ _ _ _ normalise c.in_ok-tool-8.ensures refl c.normalise_command.ensures seven in
-    let nine = joined _ _ _ _ same c.in_ok-tool-9.ensures refl c.same_command.ensures eight in
-    let ten = joined _ _ _ _ change c.in_ok-tool-10.ensures refl c.change_command.ensures nine in
-    IfOk-weaker c.with_command-11.result (HasOneMore c.in_ok-tool-10.tool c.rename_command.result) _
-    (λ r more. joined _ _ _ _ rename more refl c.rename_command.ensures ten)
-    c.with_command-11.ensures
+    let eight = joined _ _ _ _ build c.in_ok-tool-8.ensures refl c.build_command.ensures seven in
+    let nine = joined _ _ _ _ normalise c.in_ok-tool-9.ensures refl c.normalise_command.ensures eight in
+    let ten = joined _ _ _ _ same c.in_ok-tool-10.ensures refl c.same_command.ensures nine in
+    let eleven = joined _ _ _ _ change c.in_ok-tool-11.ensures refl c.change_command.ensures ten in
+    IfOk-weaker c.with_command-12.result (HasOneMore c.in_ok-tool-11.tool c.rename_command.result) _
+    (λ r more. joined _ _ _ _ rename more refl c.rename_command.ensures eleven)
+    c.with_command-12.ensures
 
 pub returns-clause-names : goal.returns-clause-names
 unfolding tool
 returns-clause-names c =
-    IfOk-weaker c.with_command-11.result _ _ (λ r is. names_are r tool is) (returns-clause-app c)
+    IfOk-weaker c.with_command-12.result _ _ (λ r is. names_are r tool is) (returns-clause-app c)

@@ -1,0 +1,38 @@
+-- How the sections of a config are gathered, one after the other.
+use Rattle.std.specs.Prelude.{◌≡◌, ℕ, List, [], ◌∷◌, Contains, IfSome, MatchOption, None, Ok, Option, Some, codes, length}
+use Rattle.std.specs.List.{AllByRecursion}
+use Rattle.ubi_media.specs.Geometry.{Sizes}
+use Rattle.ubi_media.specs.declared.record.VolumeRecord.{VolumeRecord}
+use Rattle.ubi_config.specs.Records.{record_in}
+use Rattle.ubi_config.specs.declared.section.Section.{Section}
+use Rattle.ubi_compose.specs.declared.recipe.Part.{Part}
+use Rattle.ubi_tool.specs.Answer.{Gives, says}
+use Rattle.ubi_tool.specs.Build.{Sized, image_path, image_paths, part_at}
+use Rattle.ubi_tool.specs.Disk.{Files}
+use Rattle.ubi_tool.specs.Lines.{file_line}
+use Rattle.ubi_tool.specs.declared.outcome.Outcome.{Outcome}
+
+-- the line of a file that can't be read
+abbrev pub IsUnreadLine : List ℕ → Outcome → Type 0
+IsUnreadLine path o = Gives o (says (file_line (codes "cannot read ") path) 1)
+
+-- the image file of a section was found, if it names one: what that holds, where it is known, and how many bytes it has; and the
+-- line that is answered where it can't be read, or else that of the config
+abbrev pub IsFound : Files → List ℕ → Section → Outcome → Option (Option (List ℕ) × ℕ) → Type 0
+IsFound d config x unread file = MatchOption x.image ((file ≡ None) × IsUnreadLine config unread)
+    (λ image. (held : Option (List ℕ)) × (n : ℕ) × (file ≡ Some (held, n)) × (held ≡ d.holds (image_path config image))
+    × IfSome held (λ all. length all ≡ n) × IsUnreadLine (image_path config image) unread)
+
+-- the part is the volume of a section, whose bytes begin at a place
+abbrev pub IsPartOf : Sizes → ℕ → Sized → Part → Type 0
+IsPartOf s start e p = (r : VolumeRecord) × (record_in s e.0 e.1 ≡ Ok r) × (p ≡ part_at start e r)
+
+-- an element, if there is one, as a list
+abbrev pub listed : {X : Type 0} → Option X → List X
+listed None = []
+listed (Some x) = x ∷ []
+
+-- each is the line of a file that can't be read: of an image file that the sections name, or of the config
+abbrev pub AreUnread : List ℕ → List Section → List Outcome → Type 0
+AreUnread config sections lines =
+    AllByRecursion (λ o. (path : List ℕ) × Contains (config ∷ image_paths config sections) path × IsUnreadLine path o) lines
