@@ -8,6 +8,8 @@ pub mod Detecting
 pub mod Edited
 pub mod Ended
 pub mod Extracted
+pub mod FileRows
+pub mod Gathered
 pub mod GeometryVectors
 pub mod GivenKey
 pub mod GivenWords

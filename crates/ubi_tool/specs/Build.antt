@@ -65,13 +65,13 @@ ArePartsOf s start (e ∷ es) (p ∷ ps) =
 ArePartsOf s start _ _ = ⊥
 
 -- what sections come to: their volumes, and what the files hold that have their bytes, in their order
-pub record AreGathered (d : Files) (s : Sizes) (config : List ℕ) (sections : List Section) (parts : List Part)
-    (held : List (Option (List ℕ))) : Type 0 where
+pub record AreGathered (d : Files) (s : Sizes) (config : List ℕ) (xs : List Section) (ps : List Part)
+    (bytes : List (Option (List ℕ))) : Type 0 where
   pub sized : List Sized
-  pub sections : map (λ e. e.0) sized ≡ sections
+  pub sections : map (λ e. e.0) sized ≡ xs
   pub sizes : AllByRecursion (IsSized d config) sized
-  pub parts : ArePartsOf s 0 sized parts
-  pub held : held ≡ map d.holds (image_paths config sections)
+  pub parts : ArePartsOf s 0 sized ps
+  pub held : bytes ≡ map d.holds (image_paths config xs)
 
 -- the volumes, with the geometry of the device and an image sequence number
 abbrev pub numbered : Sizes → ℕ → List Part → Parts

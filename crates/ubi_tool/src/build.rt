@@ -1,7 +1,6 @@
 //! The command `build`: the image of a config, and of the files that it names.
 
-ghost use Rattle.std.specs.List.{AllByRecursion};
-ghost use Rattle.std.specs.Prelude.{◌≡◌, ◌+◌, ◌≤◌, ◌⊎◌, [], ℕ, Err, IfErr, IfOk, IsOk, IsSome, List, None, Ok, OnErr, map, sum_by, vec_capacity, vec_len};
+ghost use Rattle.std.specs.Prelude.{◌≡◌, ◌+◌, ◌≤◌, ◌⊎◌, ◌∷◌, [], ℕ, Contains, Err, IfErr, IfOk, IsOk, IsSome, List, None, Ok, OnErr, map, sum_by, vec_capacity, vec_len};
 ghost use Rattle.ubi_compose.specs.Building.{WhereNotBegun};
 ghost use Rattle.ubi_config.specs.Config.{first_fault, sections_of};
 ghost use Rattle.ubi_config.specs.declared.section.Section.{Section};
@@ -47,7 +46,7 @@ struct Answers {
 
 /// The line at a place, or another where there is none.
 fn line_at(mut lines: Vec<Outcome>, place: Option<usize>, other: Outcome) -> Outcome
-    ensures { (is : Outcome → Type 0) → AllByRecursion is lines.items → is other → is result }
+    ensures { Contains (other ∷ lines.items) result }
 {
     match place {
         Some(place) if place < lines.len() => lines.swap_remove(place),

@@ -1,6 +1,6 @@
 //! What the sections of a config come to: volumes to build, and the files that hold their bytes.
 
-ghost use Rattle.std.specs.Prelude.{◌≡◌, ◌++◌, ◌∷◌, [], ℕ, Contains, Err, IfErr, IfOk, List, OnOk, map, option_map, sum_by};
+ghost use Rattle.std.specs.Prelude.{◌≡◌, ◌++◌, ◌<◌, ◌^◌, ◌∷◌, [], ℕ, Contains, Err, IfErr, IfOk, List, OnOk, map, option_map, sum_by};
 ghost use Rattle.ubi_media.specs.Geometry.{Sizes};
 ghost use Rattle.ubi_config.specs.Records.{record_in};
 ghost use Rattle.ubi_config.specs.declared.section.Section.{Section};
@@ -69,8 +69,8 @@ fn find_image<D: Disk>(
     section: &Section,
     paths: ConfigPaths<'_>,
 ) -> Result<Found<D::Placed>, Unread>
-    ensures found { IfOk result (λ f. IsFound (D.files disk.now) paths.config.now section.now f.unread (option_map (λ x. (D.Placed.bytes x.file, x.len)) f.file)) }
-    ensures unread { (s : Sizes) (sections : List Section) → Contains sections section.now → IfErr result (Tells (IsUngathered s paths.config.now sections)) }
+    ensures found { IfOk result (λ f. IsFound (D.files disk.now) paths.entry.config.now section.now f.unread (option_map (λ x. (D.Placed.bytes x.file, x.len)) f.file)) }
+    ensures unread { (s : Sizes) (sections : List Section) → Contains sections section.now → IfErr result (Tells (IsUngathered s paths.entry.config.now sections)) }
 {
     let Some(image) = &section.image else {
         let unread = unread_line(alloc, paths.config)?;
@@ -105,6 +105,7 @@ impl<F: PlacedFile + Drop> Found<F> {
     /// Why the section gives no record.
     fn part(&self, geometry: &Geometry, section: &Section, start: u64) -> Result<Part, ConfigCause>
         ensures part { IfOk result (IsPartOf geometry.now start (section.now, option_map (λ x. x.len) self.now.file)) }
+        ensures place { start < 2 ^ 64 }
         ensures refused { IfErr result (λ c. record_in geometry.now section.now (option_map (λ x. x.len) self.now.file) ≡ Err c) }
     {
         let len = self.len();
@@ -137,9 +138,9 @@ impl<F: PlacedFile + Drop> Gathered<F> {
     /// Adds a volume, and its file, if there is one.
     fn add(&mut self, part: Part, found: Found<F>, total: u64) -> Result<(), AllocError>
         ensures parts { OnOk result (self.new.parts.items ≡ self.old.parts.items ++ (part ∷ [])) }
-        ensures files { OnOk result (self.new.files.items ≡ self.old.files.items ++ listed found.entry.file) }
+        ensures files { OnOk result (self.new.files.items ≡ self.old.files.items ++ listed found.file) }
         ensures total { OnOk result (self.new.total ≡ total) }
-        ensures unread { OnOk result (self.new.unread.items ≡ self.old.unread.items ++ (found.entry.unread ∷ [])) }
+        ensures unread { OnOk result (self.new.unread.items ≡ self.old.unread.items ++ (found.unread ∷ [])) }
     {
         let Found { file, unread } = found;
         self.parts.push(part)?;
@@ -165,10 +166,10 @@ pub fn gather<D: Disk>(
     sections: &[Section],
     paths: ConfigPaths<'_>,
 ) -> Result<Gathered<D::Placed>, Unread>
-    ensures gathered { IfOk result (λ g. AreGathered (D.files disk.now) geometry.now paths.config.now sections.now g.parts.items (map (λ x. D.Placed.bytes x.file) g.files.items)) }
+    ensures gathered { IfOk result (λ g. AreGathered (D.files disk.now) geometry.now paths.entry.config.now sections.now g.parts.items (map (λ x. D.Placed.bytes x.file) g.files.items)) }
     ensures total { IfOk result (λ g. g.total ≡ sum_by (λ x. x.len) g.files.items) }
-    ensures lines { IfOk result (λ g. AreUnread paths.config.now sections.now g.unread.items) }
-    ensures unread { IfErr result (Tells (IsUngathered geometry.now paths.config.now sections.now)) }
+    ensures lines { IfOk result (λ g. AreUnread paths.entry.config.now sections.now g.unread.items) }
+    ensures unread { IfErr result (Tells (IsUngathered geometry.now paths.entry.config.now sections.now)) }
 {
     let mut gathered = Gathered::new(alloc);
     for section in sections {

@@ -1,5 +1,5 @@
 -- How the sections of a config are gathered, one after the other.
-use Rattle.std.specs.Prelude.{◌≡◌, ℕ, List, [], ◌∷◌, Contains, IfSome, MatchOption, None, Ok, Option, Some, codes, length}
+use Rattle.std.specs.Prelude.{◌≡◌, ℕ, List, [], ◌∷◌, Contains, IfSome, MatchOption, None, Ok, Option, Some, codes, length, sum_by}
 use Rattle.std.specs.List.{AllByRecursion}
 use Rattle.ubi_media.specs.Geometry.{Sizes}
 use Rattle.ubi_media.specs.declared.record.VolumeRecord.{VolumeRecord}
@@ -7,7 +7,7 @@ use Rattle.ubi_config.specs.Records.{record_in}
 use Rattle.ubi_config.specs.declared.section.Section.{Section}
 use Rattle.ubi_compose.specs.declared.recipe.Part.{Part}
 use Rattle.ubi_tool.specs.Answer.{Gives, says}
-use Rattle.ubi_tool.specs.Build.{Sized, image_path, image_paths, part_at}
+use Rattle.ubi_tool.specs.Build.{AreGathered, Sized, image_path, image_paths, len_of, part_at}
 use Rattle.ubi_tool.specs.Disk.{Files}
 use Rattle.ubi_tool.specs.Lines.{file_line}
 use Rattle.ubi_tool.specs.declared.outcome.Outcome.{Outcome}
@@ -36,3 +36,9 @@ listed (Some x) = x ∷ []
 abbrev pub AreUnread : List ℕ → List Section → List Outcome → Type 0
 AreUnread config sections lines =
     AllByRecursion (λ o. (path : List ℕ) × Contains (config ∷ image_paths config sections) path × IsUnreadLine path o) lines
+
+-- what sections come to so far, whose files have so many bytes together
+pub record AreSoFar (d : Files) (s : Sizes) (config : List ℕ) (sections : List Section) (parts : List Part)
+    (held : List (Option (List ℕ))) (n : ℕ) : Type 0 where
+  pub gathered : AreGathered d s config sections parts held
+  pub total : n ≡ sum_by len_of gathered.sized

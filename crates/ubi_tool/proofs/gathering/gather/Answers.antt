@@ -1,0 +1,69 @@
+use Rattle.std.proofs.Common.{◌≡◌, ℕ, ◌+◌, ◌<◌, ◌≤◌, ◌∷◌, ◌++◌, ◌∙◌, [], List, ap, arith, get_or, length, map, refl, subst, sym, take, vec_items}
+use Rattle.std.specs.Prelude.{Contains, Option, option_map, sum_by, unwrap_or}
+use Rattle.std.proofs.lemmas.Result.{err_from_is_err_and}
+use Rattle.std.proofs.lemmas.List.{map-append, take_all, take_more}
+use Rattle.std.proofs.lemmas.List.Sums.{sum_by-append}
+use Rattle.ubi_config.specs.declared.section.Section.{Section}
+use Rattle.ubi_compose.proofs.Lists.{all_append}
+use Rattle.ubi_compose.specs.declared.recipe.Part.{Part}
+use Rattle.ubi_tool.specs.Build.{no_image, no_record}
+use Rattle.ubi_tool.specs.inner.Gathering.{AreSoFar}
+use Rattle.ubi_tool.proofs.Gathered.{has_second, next_gathered, next_total, none_gathered, some_found, unread_file, unread_named}
+use Rattle.ubi_tool.proofs.gathering.gather.Goals as goal
+
+pub loop-section-init : goal.loop-section-init
+loop-section-init g c =
+    rw (c.new-gathered.ensures.parts, c.new-gathered.ensures.files, c.new-gathered.ensures.total, c.new-gathered.ensures.unread)
+    (record { gathered = none_gathered _ _ _; total = refl; lines = tt })
+
+pub returns-in_err-found-clause-unread : goal.returns-in_err-found-clause-unread
+returns-in_err-found-clause-unread g c =
+    let among : Contains c.args.sections.now c.section-item.result = (c.loop-section.section-index, c.loop-section-test.true, sym c.section-item.is) in
+    let p = err_from_is_err_and c.from_residual.result c.from_residual.ensures.1 in
+    rw (p.1, p.2) (c.in_err-found.ensures.unread _ _ among)
+
+pub returns-in-Err-clause-unread : goal.returns-in-Err-clause-unread
+returns-in-Err-clause-unread g c =
+    let among : Contains c.args.sections.now c.section-item.result = (c.loop-section.section-index, c.loop-section-test.true, sym c.section-item.is) in
+    no_record c.section-item.result _ c.in-Err.cause among c.in-Err.ensures.refused c.in_ok-config_line-in-Err.ensures
+
+pub returns-in_default-clause-unread : goal.returns-in_default-clause-unread
+returns-in_default-clause-unread g c =
+    let len : c.in-Ok.part.len ≡ _ = ap (λ (p : Part). p.len) c.in-Ok.ensures.part.2 in
+    let second = has_second c.loop-section.gathered.total c.in-Ok.part.len c.in_default.ensures c.in-Ok.ensures.place in
+    let some = unread_file (g.D.Disk.files c.args.disk.now) c.args.paths.config.now c.args.sections.now c.loop-section.section-index
+    c.section-item.result c.in_ok-found.found.unread _ c.loop-section-test.true (sym c.section-item.is) c.in_ok-found.ensures.found
+    (some_found (λ f. g.D.Placed.PlacedFile.bytes f.file) (λ f. f.len) c.in-Ok.part.len c.in_ok-found.found.file len second) in
+    no_image some.0 some.1 some.2
+
+pub loop-section-preserved : goal.loop-section-preserved
+loop-section-preserved g c =
+    let x = c.section-item.result in
+    let i = c.loop-section.section-index in
+    let xs = c.args.sections.now in
+    let d = g.D.Disk.files c.args.disk.now in
+    let config = c.args.paths.config.now in
+    let found = c.in_ok-found.found in
+    let before = c.loop-section.gathered in
+    let here : get_or xs i x ≡ x = sym c.section-item.is in
+    let len : c.in-Ok.part.len ≡ _ = ap (λ (p : Part). p.len) c.in-Ok.ensures.part.2 in
+    let unread = unread_named d config xs i x found.unread _ c.loop-section-test.true here c.in_ok-found.ensures.found in
+    rw (c.in_ok-add.ensures.parts, c.in_ok-add.ensures.files, c.in_ok-add.ensures.total, c.in_ok-add.ensures.unread, c.in-Some.ensures.1)
+    (record {
+      gathered =
+          next_gathered (λ f. g.D.Placed.PlacedFile.bytes f.file) (λ f. f.len) d c.args.geometry.now config xs i x (vec_items before.parts)
+          (vec_items before.files) before.total c.in-Ok.part found.unread found.file c.loop-section-test.true here
+          c.loop-section.invariant.gathered c.in_ok-found.ensures.found c.in-Ok.ensures.part;
+      total = next_total (λ f. g.D.Placed.PlacedFile.bytes f.file) (λ f. f.len) (vec_items before.files) before.total c.in-Ok.part.len found.file
+          c.loop-section.invariant.total len;
+      lines = all_append _ (vec_items before.unread) (found.unread ∷ []) c.loop-section.invariant.lines (unread, tt);
+    })
+
+pub returns-clause-gathered : goal.returns-clause-gathered
+returns-clause-gathered g c =
+    let xs = c.args.sections.now in
+    let i = c.loop-section.section-index in
+    let all : length xs ≤ i = (let end = c.loop-section.auto.section-index-end in let test = c.loop-section-test.false in omega (arith, end, test)) in
+    (subst (λ (ys : List Section). AreSoFar (g.D.Disk.files c.args.disk.now) c.args.geometry.now c.args.paths.config.now ys
+    (vec_items c.loop-section.gathered.parts) (map (λ f. g.D.Placed.PlacedFile.bytes f.file) (vec_items c.loop-section.gathered.files))
+    c.loop-section.gathered.total) (take_all i xs all) c.loop-section.invariant.gathered).gathered
