@@ -1,11 +1,13 @@
 -- Files that are read as one.
-use Rattle.std.proofs.Common.{◌≡◌, ℕ, ◌+◌, ◌<◌, ◌≤◌, List, [], ◌∷◌, ◌++◌, drop, get_or, length, map, take, zero, suc, ap, arith, refl, subst, sym, ◌∙◌}
+use Rattle.std.proofs.Common.{◌≡◌, ℕ, ◌+◌, ◌-◌, ◌<◌, ◌≤◌, min, List, [], ◌∷◌, ◌++◌, drop, get_or, length, map, take, zero, suc, ap, arith, refl, subst, sym, ◌∙◌}
+use Rattle.std.proofs.Math.Nat.{min-le_left, min-le_right}
 use Rattle.std.proofs.Math.Seq.{drop-append-add}
-use Rattle.std.proofs.lemmas.List.{drop-append-le, length-append, length-drop, take-append-le, take_more}
+use Rattle.std.proofs.lemmas.List.{drop-append-le, length-append, length-drop, length-take, length-take-le, take-append-le, take-take, take_more}
 use Rattle.std.proofs.lemmas.List.Sums.{sum_by-append}
 use Rattle.std.specs.Option.{ForSome}
 use Rattle.std.specs.Prelude.{None, Option, Some, option_and_then, option_map, sum_by}
 use Rattle.ubi_scan.specs.Placed.{StandsAt}
+use Rattle.ubi_scan.proofs.Stands.{stand_within}
 use Rattle.ubi_tool.specs.Row.{row_bytes}
 
 -- both are known where bytes and more are
@@ -76,3 +78,22 @@ sum_more len fs i f inside here =
     ap (sum_by len) (take_more fs i f inside) ∙ sum_by-append len (take i fs) (get_or fs i f ∷ [])
     ∙ ap (λ x. sum_by len (take i fs) + sum_by len (x ∷ [])) here
     ∙ (let one : sum_by len (f ∷ []) ≡ len f = omega arith in ap (λ (n : ℕ). sum_by len (take i fs) + n) one)
+
+-- what is read of a file is read of the row, as far as the file reaches
+module _ {F : Type 0} (bytes : F → Option (List ℕ)) (len : F → ℕ) (sized : (f : F) → ForSome (bytes f) (λ all. length all ≡ len f)) where
+  pub row_read : (fs : List F) (i : ℕ) (f : F) (at place : ℕ) (out : List ℕ) (count : ℕ) → i < length fs → get_or fs i f ≡ f
+      → at ≡ sum_by len (take i fs) + place → place < len f → count ≤ length out
+      → ForSome (bytes f) (λ all. StandsAt all place (take count out))
+      → ForSome (row_bytes (map bytes fs)) (λ all. StandsAt all at (take (min count (len f - place)) out))
+  row_read fs i f at place out count inside here is within few stands =
+      let m = min count (len f - place) in
+      let most = min-le_left count (len f - place) in
+      let left = min-le_right count (len f - place) in
+      let long : length (take m out) ≤ m = (let size = length-take m out in let first = min-le_left m (length out) in omega (arith, size, first)) in
+      row_stands bytes len sized fs i f at place (take m out) inside here is (omega (arith, left, long, within))
+      (λ all known.
+      let front = stand_within all place (take count out) 0 m
+      (let size : length (take count out) ≡ count = length-take-le count out few in omega (arith, size, most)) (stands all known) in
+      let begins : place + 0 ≡ place = omega arith in
+      subst (λ (k : ℕ). StandsAt all k (take m out)) begins
+      (subst (λ (b : List ℕ). StandsAt all (place + 0) b) (take-take m count out most) front))

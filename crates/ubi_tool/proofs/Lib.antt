@@ -1,3 +1,4 @@
+pub mod BuiltInto
 pub mod CommandNames
 pub mod CommandWords
 pub mod Comparing

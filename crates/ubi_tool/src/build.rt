@@ -54,6 +54,14 @@ fn line_at(mut lines: Vec<Outcome>, place: Option<usize>, other: Outcome) -> Out
     }
 }
 
+/// The line of the volume with a number, of those of all volumes; or another where there is none.
+fn unread_of(recipe: &Recipe, id: u32, lines: Vec<Outcome>, other: Outcome) -> Outcome
+    ensures { Contains (other ∷ lines.items) result }
+{
+    let place = recipe.parts().iter().position(|part| part.id == id);
+    line_at(lines, place, other)
+}
+
 /// Opens the output of a build that was done, where no write did.
 ///
 /// # Errors
@@ -103,13 +111,14 @@ fn told(
             put_blocks_line(&mut line, count / u64::from(recipe.geometry().peb_size()))?;
             Ok(Outcome::saying(line, DONE))
         }
-        Err(BuildError::TooMany) => Ok(Outcome::saying(room_line(alloc)?, FAILED)),
-        Err(BuildError::Memory) => Err(AllocError),
-        Err(BuildError::Write(_)) => Ok(unwritten),
-        Err(BuildError::Read(id, _) | BuildError::Beyond(id)) => {
-            let place = recipe.parts().iter().position(|part| part.id == id);
-            Ok(line_at(unread, place, unread_else))
-        }
+        Err(error) => match error {
+            BuildError::TooMany => Ok(Outcome::saying(room_line(alloc)?, FAILED)),
+            BuildError::Memory => Err(AllocError),
+            BuildError::Write(_) => Ok(unwritten),
+            BuildError::Read(id, _) => Ok(unread_of(recipe, id, unread, unread_else)),
+            // The source is as long as all of its files.
+            BuildError::Beyond(_) => Ok(unread_else),
+        },
     }
 }
 

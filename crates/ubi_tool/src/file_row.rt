@@ -57,8 +57,8 @@ impl<F: PlacedFile> PlacedFile for FileRow<F> {
         let mut place = at;
         for part in self.files.iter() {
             if place < part.len {
-                let room = (part.len - place).min(out.len() as u64) as usize;
-                return part.file.read_from(place, &mut out[..room]);
+                let count = part.file.read_from(place, out)?;
+                return Ok(count.min((part.len - place) as usize));
             }
             place -= part.len;
         }
