@@ -11,7 +11,7 @@ right again, eraseblocks doubled, erased, swapped or cut off.
 Of each image, of a part of it, of one with out-of-band bytes and of a file of random units, `geometry` has to answer what the rules
 say, and `list` by the words of a line that it prints. Of each image `check`, `list`, `show` and `normalise` have to answer what the
 rules say; and of one that is accepted
-`extract`, `same` with its normal image, with another and with its eraseblocks under another number, `compose` of a text that
+`extract`, `unpack`, `same` with its normal image, with another and with its eraseblocks under another number, `compose` of a text that
 says what it means, and `change` and `rename`, whose printed plans and whose bytes after each step are those of the rules: each
 cut means the old or the new, and the last the new. Now and then a cut is changed and renamed itself. Some new names are there
 already, some can't be read, and some are made so that the first pages of the table have the check of all, or that its last page
@@ -27,6 +27,7 @@ import argparse
 import dataclasses
 import os
 import random
+import shutil
 import struct
 import subprocess
 import sys
@@ -489,6 +490,35 @@ class Runner:
         self.expect(words, f"bytes {len(text)}\n", 0, text)
 
 
+    def look_unpacked(self, path, meaning):
+        """Compares what is unpacked of an image into a new folder: the files before the first whose name is too long, or all."""
+        folder, lines, files, lost = os.path.join(self.folder, "volumes"), [], {}, None
+        for number, record in sorted(meaning.records.items()):
+            name = rules.shown(record.name)
+            file = f"{number}-{name.replace('/', '\\x2f')}"
+            try:
+                text = meaning.read_volume(number)
+            except Refused as refused:
+                lines.append(f"volume {number} {str(refused).split()[1].lower()} name={name}\n")
+                continue
+            lines.append(f"volume {number} bytes={len(text)} name={name}\n")
+            if len(file) > 255:
+                lost = lost or file
+            if not lost:
+                files[file] = text
+        status = int(bool(lost) or any("bytes=" not in line.split(" name=")[0] for line in lines))
+        self.expect(["unpack", path, "--out", folder], f"cannot write {folder}/{lost}\n" if lost else "".join(lines), status)
+        came = {}
+        for file in os.listdir(folder):
+            with open(os.path.join(folder, file), "rb") as opened:
+                came[file] = opened.read()
+        if files:
+            self.expect(["unpack", path, "--out", folder], f"cannot write {folder}\n", 1)
+        shutil.rmtree(folder)
+        if came != files:
+            raise Failure(f"unpack writes {sorted(came)} where {sorted(files)} with their contents is right")
+
+
 class Case(Runner):
     """An image, and what the program is to answer of it.
 
@@ -553,6 +583,10 @@ class Case(Runner):
                 ["change", *of_volume, "--lnum", "0", "--from", new], ["rename", *of_volume, "--name", "data"]):
             self.expect([command, self.path, *words], line, 1)
         self.expect(["rename", self.path, *of_volume, "--name", self.rng.choice(("", *NO_NAMES)).encode()], "refused N1 BadName\n", 1)
+        folder = os.path.join(self.folder, "volumes")
+        self.expect(["unpack", self.path, "--out", folder], line, 1)
+        if os.path.exists(folder):
+            raise Failure("a folder is made for an image that is refused")
         self.expect(["same", self.path, self.put("other", self.mixed())], f"left {line}", 1)
 
     def look_meant(self, image):
@@ -569,6 +603,7 @@ class Case(Runner):
             self.look_read(self.path, image, 127, rules.shown(name))
         self.look_read(self.path, image, 127)
         self.look_read(self.path, image, 127, self.rng.choice(NO_NAMES[:8]))
+        self.look_unpacked(self.path, image)
         self.expect(["normalise", self.path, "--out", self.out], f"blocks {len(normal) // self.geometry.peb}\n", 0, normal)
         self.look_composed(image, self.rng.choice((0, 0, 1, 2, 3)))
         for other in (normal, self.mixed(), self.with_number(image)):

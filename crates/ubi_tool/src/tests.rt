@@ -1,4 +1,5 @@
 mod answers;
+mod build;
 mod cases;
 mod change;
 mod changing;

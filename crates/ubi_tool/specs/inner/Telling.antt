@@ -15,10 +15,15 @@ out_path = codes "kept.img"
 abbrev pub unpacked_path : List ℕ
 unpacked_path = codes "made/0-root"
 
--- it tells what its image, its output and the file in its folder hold, if they are there, and nothing of other paths
-abbrev pub telling : Option (List ℕ) → Option (List ℕ) → Option (List ℕ) → Files
-telling image out unpacked = record {
+-- the path of its config
+abbrev pub config_path : List ℕ
+config_path = codes "told.ini"
+
+-- it tells what its image, its config, its output and the file in its folder hold, if they are there, and nothing of other paths
+abbrev pub telling : Option (List ℕ) → Option (List ℕ) → Option (List ℕ) → Option (List ℕ) → Files
+telling image config out unpacked = record {
   tells = true;
   holds = λ path. if bytes_eq path out_path then out
-      else (if bytes_eq path unpacked_path then unpacked else (if bytes_eq path image_path then image else None));
+      else (if bytes_eq path unpacked_path then unpacked
+      else (if bytes_eq path image_path then image else (if bytes_eq path config_path then config else None)));
 }

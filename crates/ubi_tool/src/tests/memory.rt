@@ -4,6 +4,7 @@
 //! is printed here.
 
 use super::answers::{run_line, small};
+use super::build::CONFIG;
 use super::fake::{Broken, FakeFiles};
 use super::geometry::SMALL;
 use super::pebs::{
@@ -206,8 +207,10 @@ static WORDS: [(&str, usize, &str, usize); 10] = [
     ),
 ];
 
-/// Those that are over the text.
+/// Those that are over the text, and over a config.
 const COMPOSE: &str = "compose a --spares 1 --out b --peb 512 --page 64";
+
+const BUILD: &str = "build a --out b --peb 512 --page 64";
 
 /// Whether the words of a line answered a text, over files that each hold an image, and wrote so many bytes. Else
 /// memory ran out, and no part of the output was written.
@@ -250,6 +253,7 @@ fn is_run(
 /// Whether each line ran. Else memory ran out.
 fn runs_all(rt: &impl Abort, alloc: Global, geometry: &Geometry) -> Result<bool, AllocError> {
     let mut ran = is_run(rt, alloc, SPEC, COMPOSE, ("blocks 5\n", 2560));
+    ran = is_run(rt, alloc, CONFIG, BUILD, ("blocks 3\n", 1536)) && ran;
     for (words, len, text, count) in &WORDS {
         let image = image(alloc, geometry, *len)?;
         ran = is_run(rt, alloc, image.as_slice(), words, (text, *count)) && ran;

@@ -4,9 +4,11 @@
 ghost use Rattle.std.specs.Prelude.{Some, option_map};
 
 use super::answers::{is_answer, run_on, with_sizes};
+use super::build::CONTENT;
 use super::contents::Contents;
 use super::geometry::SMALL;
 use crate::disk::{Disk, OutputFile, WholeFile};
+use crate::file_row::SizedFile;
 use crate::outcome::ToolError;
 use std::alloc::Global;
 use std::fmt::Display;
@@ -17,6 +19,9 @@ use ubi_scan::{FileSource, PlacedFile};
 
 /// The path of its image.
 const IMAGE: &str = "told.img";
+
+/// The path of its config.
+const CONFIG: &str = "told.ini";
 
 /// The path of its output.
 const OUT: &str = "kept.img";
@@ -32,6 +37,7 @@ const UNPACKED: &str = "made/0-root";
 struct Telling<'a> {
     alloc: Global,
     image: Option<&'a [u8]>,
+    config: Option<&'a [u8]>,
     out: Option<Vec<u8>>,
     unpacked: Option<Vec<u8>>,
 }
@@ -63,7 +69,7 @@ impl<'a> Disk for Telling<'a> {
 
     type Output = Vec<u8>;
 
-    ghost files = { λ disk. telling (option_map (λ bytes. bytes.now) disk.image) (option_map (λ bytes. bytes.items) disk.out) (option_map (λ bytes. bytes.items) disk.unpacked) };
+    ghost files = { λ disk. telling (option_map (λ bytes. bytes.now) disk.image) (option_map (λ bytes. bytes.now) disk.config) (option_map (λ bytes. bytes.items) disk.out) (option_map (λ bytes. bytes.items) disk.unpacked) };
 
     fn source_at(&self, path: &str) -> Option<FileSource<KnownFile<'a>>> {
         match self.image {
@@ -82,12 +88,28 @@ impl<'a> Disk for Telling<'a> {
     }
 
     fn whole(&self, path: &str) -> Result<WholeFile<&'a [u8]>, ToolError> {
-        match self.image {
-            Some(reader) if path == IMAGE => Ok(WholeFile {
+        let held = if path == IMAGE {
+            self.image
+        } else if path == CONFIG {
+            self.config
+        } else {
+            None
+        };
+        match held {
+            Some(reader) => Ok(WholeFile {
                 reader,
                 expected: reader.len() as u64,
             }),
-            _ => Err(ToolError::Read),
+            None => Err(ToolError::Read),
+        }
+    }
+
+    fn sized_beside(&self, path: &str, out: &str) -> Option<SizedFile<KnownFile<'a>>> {
+        match self.image {
+            Some(bytes) if path == IMAGE && path != out => {
+                Some(SizedFile::new(KnownFile { bytes }, bytes.len() as u64))
+            }
+            _ => None,
         }
     }
 
@@ -116,7 +138,7 @@ impl<'a> Disk for Telling<'a> {
     }
 
     fn keep(&mut self, file: OutputFile<'_, Vec<u8>>)
-        ensures { IsKept (telling (option_map (λ bytes. bytes.now) self.old.image) (option_map (λ bytes. bytes.items) self.old.out) (option_map (λ bytes. bytes.items) self.old.unpacked)) (telling (option_map (λ bytes. bytes.now) self.new.image) (option_map (λ bytes. bytes.items) self.new.out) (option_map (λ bytes. bytes.items) self.new.unpacked)) file.entry.path.now (Some file.entry.writer.items) }
+        ensures { IsKept (telling (option_map (λ bytes. bytes.now) self.old.image) (option_map (λ bytes. bytes.now) self.old.config) (option_map (λ bytes. bytes.items) self.old.out) (option_map (λ bytes. bytes.items) self.old.unpacked)) (telling (option_map (λ bytes. bytes.now) self.new.image) (option_map (λ bytes. bytes.now) self.new.config) (option_map (λ bytes. bytes.items) self.new.out) (option_map (λ bytes. bytes.items) self.new.unpacked)) file.entry.path.now (Some file.entry.writer.items) }
     {
         if file.path() == OUT {
             self.out = Some(file.writer);
@@ -124,6 +146,8 @@ impl<'a> Disk for Telling<'a> {
             self.unpacked = Some(file.writer);
         } else if file.path() == IMAGE {
             self.image = None;
+        } else if file.path() == CONFIG {
+            self.config = None;
         }
     }
 }
@@ -216,6 +240,7 @@ fn answers_of_the_named_files(rt: HostRuntime) -> Result<(), Fail> {
         let mut disk = Telling {
             alloc,
             image: Some(image.as_slice()),
+            config: None,
             out: None,
             unpacked: None,
         };
@@ -224,6 +249,54 @@ fn answers_of_the_named_files(rt: HostRuntime) -> Result<(), Fail> {
         assert!(rt; disk.out == bytes_of(alloc, *output)?, "of {line}");
         assert!(rt; disk.unpacked == bytes_of(alloc, *unpacked)?, "of {line}");
         assert!(rt; disk.image.is_some(), "of {line}");
+    }
+    Ok(())
+}
+
+/// The config of `root`, whose contents are those of the image file.
+const ROOT_CONFIG: &[u8] =
+    b"[root]\nmode=ubi\nvol_id=0\nvol_name=root\nvol_size=7680\nimage=told.img\n";
+
+/// A line, what it answers of that config, and what its output holds then, if it is there.
+static BUILDS: [(&str, (&str, u8), Option<Contents>); 4] = [
+    (
+        "build told.ini --out kept.img --seq 305419896",
+        ("blocks 5\n", 0),
+        Some(Contents::NormalRoot),
+    ),
+    (
+        "build told.ini --out told.img",
+        ("cannot read told.img\n", 1),
+        None,
+    ),
+    (
+        "build told.ini --out other.img",
+        ("cannot write other.img\n", 1),
+        None,
+    ),
+    (
+        "build kept.img --out kept.img",
+        ("cannot read kept.img\n", 1),
+        None,
+    ),
+];
+
+#[test]
+fn builds_of_the_named_files(rt: HostRuntime) -> Result<(), Fail> {
+    let alloc = rt.alloc();
+    let content = CONTENT.bytes(alloc)?;
+    for (line, answer, output) in &BUILDS {
+        let mut disk = Telling {
+            alloc,
+            image: Some(content.as_slice()),
+            config: Some(ROOT_CONFIG),
+            out: None,
+            unpacked: None,
+        };
+        let outcome = run_on(&mut disk, alloc, with_sizes(alloc, line)?.as_str())?;
+        assert!(rt; is_answer(&outcome, *answer), "of {line}");
+        assert!(rt; disk.out == bytes_of(alloc, *output)?, "of {line}");
+        assert!(rt; disk.image.is_some() && disk.config.is_some(), "of {line}");
     }
     Ok(())
 }

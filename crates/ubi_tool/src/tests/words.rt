@@ -44,7 +44,7 @@ fn assert_wrong(rt: &impl Abort, alloc: Global, cases: &[(&str, &str)]) -> Resul
 }
 
 /// Lines that name no command or ask for help, with what is shown.
-static NO_COMMAND: [(&str, &str); 24] = [
+static NO_COMMAND: [(&str, &str); 25] = [
     ("", "requires a subcommand"),
     ("--help", "Usage: ubi_tool"),
     ("--help", "ubi_tool list dump.img --peb 131072 --page 2048"),
@@ -63,6 +63,7 @@ static NO_COMMAND: [(&str, &str); 24] = [
     ("unpack --help", "Usage: ubi_tool unpack"),
     ("unpack --help", "--out <DIR>"),
     ("compose --help", "Usage: ubi_tool compose"),
+    ("build --help", "Usage: ubi_tool build"),
     ("normalise --help", "Usage: ubi_tool normalise"),
     ("change --help", "Usage: ubi_tool change"),
     ("rename --help", "Usage: ubi_tool rename"),
@@ -80,7 +81,7 @@ fn shows_wrong_commands_and_help(rt: HostRuntime) -> Result<(), Fail> {
 }
 
 /// Lines of which words are missing.
-static MISSING: [(&str, &str); 25] = [
+static MISSING: [(&str, &str); 27] = [
     ("geometry", "<IMAGE>"),
     ("normalise a --out b --peb 512", "--page <N>"),
     ("normalise --out b --peb 512 --page 64", "<IMAGE>"),
@@ -88,6 +89,8 @@ static MISSING: [(&str, &str); 25] = [
     ("check --peb 512 --page 64", "<IMAGE>"),
     ("show a --peb 512 --page 64", "--block <P>"),
     ("same a --peb 512 --page 64", "<IMAGE>"),
+    ("build a --peb 512 --page 64", "--out <FILE>"),
+    ("build --out b --peb 512 --page 64", "<CONFIG>"),
     ("compose a --peb 512 --page 64", "--out <FILE>"),
     ("compose --out b --peb 512 --page 64", "<SPEC>"),
     ("extract a --peb 512 --page 64 --out b", "--id <N>"),
@@ -201,7 +204,7 @@ fn shows_words_that_cannot_be_read(rt: HostRuntime) -> Result<(), Fail> {
 
 /// Lines that are answered before any image is read, with the answers: of the numbers the first limit that they break,
 /// and of what is left out its default. A path that begins with a hyphen follows `--`.
-static ANSWERED: [(&str, &str, u8); 31] = [
+static ANSWERED: [(&str, &str, u8); 33] = [
     ("geometry a", "cannot read a\n", 1),
     ("geometry -- -a", "cannot read -a\n", 1),
     (
@@ -259,6 +262,12 @@ static ANSWERED: [(&str, &str, u8); 31] = [
         "refused G2 PebSize\n",
         2,
     ),
+    (
+        "build a --out b --peb 500 --page 64",
+        "refused G2 PebSize\n",
+        2,
+    ),
+    ("build a --out b --peb 512 --page 64", "cannot read a\n", 1),
     (
         "unpack a --out b --peb 500 --page 64",
         "refused G2 PebSize\n",

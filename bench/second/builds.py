@@ -1,0 +1,213 @@
+#!/usr/bin/env python3
+"""Compares what `build` answers of random configs with what docs/CONFIG-FORMAT.md says, as bench/second/config.py reads it.
+
+usage: builds.py [--seed N] [--count N] [--first N] [--dir FOLDER] [--tool PROGRAM]
+
+A config describes random volumes: static, dynamic, aligned ones, one that grows, and empty ones, over files of all lengths, some of
+which are 0xFF at their end or throughout. Its keys stand in a random order and case, its values with and without quotes and
+remarks. Two of three configs are then changed up to three times: a line, a byte, a value or a name. Of each config `build`, also with spares
+and an image sequence number, has to print the line of the first cause and write nothing; or to write what the rules give, byte for
+byte. Then `unpack` of that gives what the files hold, and 0xFF behind it.
+
+Without words there are 500 configs (--count) of the seed 1 (--seed). They lie in a new folder below FOLDER (/tmp where it is left out),
+which is removed again. Without --tool the program is built first where it isn't yet. Each cause is counted. The last line is
+'N passed, M failed', and the exit status is 0 where none failed; a config that failed can be made again by its number.
+"""
+import collections
+import os
+import re
+
+import config
+import rules
+import text_rules
+from fuzz import SIZES, Failure, Runner, built, far, finish, given, options, run_cases
+from rules import Geometry, Meaning, Refused
+
+SEQS = (0, 1, 0x12345678, 0xFFFFFFFF)
+VALUES = ("", "0", "00", "1", "01", "-1", "+1", "0x10", "4294967295", "4294967296", "9223372036854775807", "9223372036854775808", "1KiB", "1 KiB",
+    "1kib", "1 MB", "3  MiB", "8796093022207MiB", "ubi", "UBI", "static", "dynamic", "autoresize", "skip-check", "\"a\"", "\'a", "\"a \"", "a;b", "a#b", ";", "\\",
+    "a" * 127, "a" * 128, "b" * 1100, "\t", "v0", "v9", ".", "..", "no/such", "\xff", "\x00")
+LINES = ("", "#", "; x", "[", "]", "[]", "[ ]", "[a]", "[A]", "[a:b]", "[a] # x", "mode", "mode=", "= ubi", "mode = ubi", "image=v0", "vol_id=0", "vol_name=a",
+    "vol_size=1", "vol_type=static", "vol_flags=autoresize", "vol_alignment=1", "vol_ids=1", "MODE=ubi", "a=b=c", "x\\")
+
+
+def cased(rng, word):
+    return "".join(rng.choice((c, c, c.upper())) for c in word)
+
+
+class Writer:
+    """Describes random volumes as a config, and puts their files."""
+
+    def __init__(self, rng, geometry, put):
+        self.rng, self.geometry, self.put = rng, geometry, put
+        slots = geometry.slots
+        ids = rng.sample(range(slots), rng.randrange(1, min(slots, 4) + 1))
+        self.grows = rng.choice((*ids, None))
+        self.lines = [line for place, number in enumerate(ids) for line in self.section(place, number)]
+
+    def bytes(self):
+        rng, leb = self.rng, self.geometry.leb
+        size = rng.choice((1, leb - 1, leb, leb + 1, 2 * leb, rng.randrange(1, 3 * leb)))
+        blank = rng.choice((0, 0, size // 2, size))
+        return rng.randbytes(size - blank) + b"\xFF" * blank
+
+    def value(self, value):
+        rng = self.rng
+        quote = rng.choice(("", "", "\"", "\'"))
+        return f"{quote}{value}{quote}{rng.choice(('', '', ' # x', ';x'))}"
+
+    def section(self, place, number):
+        rng, geometry = self.rng, self.geometry
+        kind = rng.choice(("static", "dynamic", None))
+        alignment = rng.choice((None, None, 1, geometry.page, 3 * geometry.page))
+        data = self.bytes() if kind == "static" or rng.random() < 0.8 else None
+        if data is not None:
+            self.put(f"v{place}", data)
+        size = rng.choice((None, 0, 1, geometry.leb, 2 * geometry.leb)) if data is not None else rng.randrange(1, 3 * geometry.leb)
+        size = size if size is None or data is None else len(data) + size
+        keys = {"mode": "ubi", "vol_id": number, "vol_name": f"name{place}", "vol_type": kind, "vol_alignment": alignment, "vol_size": size,
+            "image": None if data is None else f"v{place}", "vol_flags": "autoresize" if number == self.grows else None}
+        said = [(key, value) for key, value in keys.items() if value is not None]
+        rng.shuffle(said)
+        yield f"[{rng.choice(('volume', ' Volume'))}{place}]"
+        for key, value in said:
+            yield from rng.choice(((), (), (), ("",), ("# a remark",)))
+            blank = rng.choice(("", " ", "\t"))
+            yield f"{blank}{cased(rng, key)}{blank}={blank}{self.value(value)}{rng.choice(('', chr(13)))}"
+
+
+class Mutator:
+    """Changes the lines of a config some times."""
+
+    def __init__(self, rng):
+        self.rng = rng
+
+    def mutate(self, lines):
+        rng, lines = self.rng, [line.encode("latin-1") for line in lines]
+        ways = (self.dropped, self.doubled, self.swapped, self.other_line, self.other_value, self.other_value, self.byte)
+        for _ in range(rng.choice((0, 1, 1, 2, 3))):
+            if lines:
+                rng.choice(ways)(lines)
+        return b"\n".join(lines) + rng.choice((b"", b"\n"))
+
+    def place(self, lines):
+        return self.rng.randrange(len(lines))
+
+    def dropped(self, lines):
+        del lines[self.place(lines)]
+
+    def doubled(self, lines):
+        lines.insert(self.place(lines), lines[self.place(lines)])
+
+    def swapped(self, lines):
+        p, q = self.place(lines), self.place(lines)
+        lines[p], lines[q] = lines[q], lines[p]
+
+    def other_line(self, lines):
+        lines.insert(self.place(lines), self.rng.choice(LINES).encode("latin-1"))
+
+    def other_value(self, lines):
+        p = self.place(lines)
+        lines[p] = lines[p].partition(b"=")[0] + b"=" + self.rng.choice(VALUES).encode("latin-1")
+
+    def byte(self, lines):
+        p = self.place(lines)
+        at = self.rng.randrange(len(lines[p]) + 1)
+        lines[p] = lines[p][:at] + self.rng.randbytes(1) + lines[p][at + self.rng.randrange(2) :]
+
+
+def faulty(line, cause):
+    """A cause with its line, as it is printed."""
+    number, name, *rest = cause.split(" ")
+    return " ".join((number, name, f"line={line}", *rest))
+
+
+class Case(Runner):
+    """A config, and what the program is to answer of it."""
+
+    def __init__(self, rng, tool, folder):
+        super().__init__(tool, folder, Geometry(*rng.choice(SIZES), rng.choice((8, 12, 20, 40))))
+        self.rng = rng
+        for k in range(5):
+            if os.path.exists(os.path.join(folder, f"v{k}")):
+                os.remove(os.path.join(folder, f"v{k}"))
+        writer = Writer(rng, self.geometry, self.put)
+        self.text = Mutator(rng).mutate(writer.lines)
+        self.path = self.put("config", self.text)
+        self.seq, self.spares = rng.choice(SEQS), rng.choice((0, 0, 0, 1, 2, self.geometry.pebs - 2, far(rng, 1)))
+
+    def image(self, section):
+        """The bytes of a section's file, None where it names none."""
+        if section.image is None:
+            return None
+        try:
+            image = section.image.decode()
+        except UnicodeDecodeError:
+            raise Refused(faulty(section.line, "I5 Unfit")) from None
+        path = image if image.startswith("/") else f"{self.folder}/{image}"
+        if not os.path.isfile(path) or os.path.realpath(path) == os.path.realpath(self.out):
+            raise FileNotFoundError(path)
+        with open(path, "rb") as file:
+            return file.read()
+
+    def volume(self, section):
+        """The number, the record and the content of a section's volume, and how many eraseblocks it has at most."""
+        data = self.image(section)
+        try:
+            record = config.record(section, self.geometry, None if data is None else len(data))
+        except Refused as refused:
+            raise Refused(faulty(section.line, str(refused))) from None
+        data, usable = data or b"", record.usable(self.geometry)
+        most = -(-len(data) // usable)
+        if record.kind == 2:
+            return section.id, record, data, most
+        return section.id, record, {k: data[k * usable : (k + 1) * usable].ljust(usable, b"\xFF") for k in range(most)}, most
+
+    def meant(self):
+        """What the config and its files mean."""
+        sections = config.read_config(self.text)
+        if isinstance(sections, tuple):
+            raise Refused(faulty(*sections))
+        volumes = [self.volume(section) for section in sections]
+        text_rules.judge_together(self.geometry, [volume[:3] for volume in volumes])
+        if 2 + sum(volume[3] for volume in volumes) + self.spares > self.geometry.pebs:
+            raise Refused("C1 TooMany")
+        records = {number: record for number, record, *_ in volumes}
+        contents = {number: self.kept(content) for number, _, content, _ in volumes}
+        return Meaning(self.geometry, self.seq, records, contents)
+
+    def kept(self, content):
+        if isinstance(content, bytes):
+            return content
+        return {lnum: text for lnum, text in content.items() if not rules.is_blank(text)}
+
+    def look(self):
+        """Compares each answer. Gives the cause of a refusal, or 'built'."""
+        words = ["build", self.path, "--out", self.out, *given(self.rng, "--seq", self.seq), *given(self.rng, "--spares", self.spares)]
+        try:
+            meant = self.meant()
+        except FileNotFoundError as missing:
+            self.expect(words, f"cannot read {missing}\n", 1)
+            return "cannot read"
+        except Refused as refused:
+            self.expect(words, f"refused {refused}\n", 1)
+            return str(refused)
+        image = rules.composed(meant, self.spares)
+        self.expect(words, f"blocks {len(image) // self.geometry.peb}\n", 0, image)
+        if rules.Image(self.geometry, image).meaning() != meant.meaning():
+            raise Failure("the image that the rules give means something else")
+        self.look_unpacked(self.put("built", image), meant)
+        return "built"
+
+
+def main():
+    words = options(__doc__, 500)
+    tool = built(words.tool)
+    answers, failed = run_cases(words, {"": (lambda rng, folder: Case(rng, tool, folder).look(), words.count)})
+    for cause, count in sorted(collections.Counter(re.sub(r"=\d+", "", answer) for answer in answers).items()):
+        print(f"{count:>6} {cause}")
+    finish(len(answers), failed)
+
+
+if __name__ == "__main__":
+    main()

@@ -1,0 +1,139 @@
+//! The command `build` over files that hold a config and the contents of a volume, and over files that fail.
+
+use super::answers::{assert_over, run_over, is_answer};
+use super::contents::{Contents, EMPTY};
+use super::fake::Broken;
+use std::alloc::Global;
+use std::io::ErrorKind;
+use std::process::Abort;
+use std::test::Fail;
+
+/// The config of the volume `root`, whose contents are those of `new.bin`.
+pub const CONFIG: &[u8] =
+    b"# root\n[root]\nmode=ubi\nvol_id=0\nvol_name=root\nvol_size = 7680\nimage=new.bin\n";
+
+/// What `new.bin` holds.
+pub const CONTENT: Contents = Contents::Runs(&[(b"A", 384), (b"B", 384), (b"C", 384)]);
+
+/// The line that builds the image of that volume.
+const LINE: &str = "build a.ini --seq 305419896 --out b.img";
+
+/// What is answered of files that can't be read or written.
+const UNREAD: (&str, u8) = ("cannot read a.ini\n", 1);
+
+const UNREAD_CONTENT: (&str, u8) = ("cannot read new.bin\n", 1);
+
+const UNWRITTEN: (&str, u8) = ("cannot write b.img\n", 1);
+
+const BUILT: (&str, u8) = ("blocks 5\n", 0);
+
+/// Ways in which files fail, with the answer, and how many bytes of the image are written. Each eraseblock is written once its
+/// content was read.
+static WAYS: [(Broken, (&str, u8), usize); 14] = [
+    (Broken::Nothing, BUILT, 2560),
+    (Broken::Short(100), BUILT, 2560),
+    (Broken::OpenRead, UNREAD, 0),
+    (Broken::Whole, UNREAD, 0),
+    (Broken::Read(ErrorKind::Other, 30), UNREAD, 0),
+    (Broken::Places, UNREAD_CONTENT, 0),
+    (Broken::Read(ErrorKind::Other, 100), UNREAD_CONTENT, 1024),
+    (Broken::Read(ErrorKind::Other, 400), UNREAD_CONTENT, 1536),
+    (Broken::PlacesOnce(ErrorKind::Interrupted, 400), UNREAD_CONTENT, 1536),
+    // The file was 512 bytes longer.
+    (Broken::Cut, UNREAD_CONTENT, 2560),
+    (Broken::OpenWrite, UNWRITTEN, 0),
+    (Broken::Write(0), UNWRITTEN, 0),
+    (Broken::Write(700), UNWRITTEN, 700),
+    (Broken::WriteOnce(1600), UNWRITTEN, 1600),
+];
+
+#[test]
+fn builds_of_files_or_tells_which_fails(rt: HostRuntime) -> Result<(), Fail> {
+    let alloc = rt.alloc();
+    let (content, image) = (CONTENT.bytes(alloc)?, Contents::NormalRoot.bytes(alloc)?);
+    for (broken, answer, count) in &WAYS {
+        let written = image.as_slice().get(..*count).ok_or("short")?;
+        let files = (CONFIG, content.as_slice());
+        assert_over(&rt, alloc, files, *broken, LINE, *answer, written)?;
+    }
+    Ok(())
+}
+
+/// Configs, what `new.bin` holds, and what is answered. Nothing is written.
+static REFUSED: [(&[u8], Contents, (&str, u8)); 13] = [
+    (b"", EMPTY, ("refused I6 NoSection line=1\n", 1)),
+    (b"\n[a]\nmode=ubi\nvol_name=root\nvol_size=1\n", EMPTY, ("refused I12 Missing line=2 vol_id\n", 1)),
+    (b"[a]\nmode=ubi\nvol_id=00\n", EMPTY, ("refused I5 Unfit line=3\n", 1)),
+    (CONFIG, EMPTY, ("refused I13 Empty line=2\n", 1)),
+    (
+        b"[a]\nmode=ubi\nvol_id=0\nvol_name=root\nvol_size=1151\nimage=new.bin\n",
+        CONTENT,
+        ("refused I14 LongImage line=1\n", 1),
+    ),
+    (
+        b"[a]\nmode=ubi\nvol_id=0\nvol_name=root\nvol_alignment=65\nimage=new.bin\n",
+        CONTENT,
+        ("refused I15 Record line=1 AlignmentPage\n", 1),
+    ),
+    (
+        b"[a]\nmode=ubi\nvol_id=0\nvol_name=root\nvol_size=768GiB\n",
+        EMPTY,
+        ("refused I16 TooLarge line=1\n", 1),
+    ),
+    // The second section's file is missing, or may be the output.
+    (
+        b"[a]\nmode=ubi\nvol_id=0\nvol_name=root\nimage=new.bin\n[b]\nmode=ubi\nvol_id=1\nvol_name=b\nimage=/b\n",
+        CONTENT,
+        ("cannot read /b\n", 1),
+    ),
+    (
+        b"[a]\nmode=ubi\nvol_id=0\nvol_name=root\nimage=b.img\n",
+        CONTENT,
+        ("cannot read b.img\n", 1),
+    ),
+    // The path isn't text.
+    (
+        b"[a]\nmode=ubi\nvol_id=0\nvol_name=root\nimage=\xFF\n",
+        CONTENT,
+        ("refused I5 Unfit line=1\n", 1),
+    ),
+    // The device has 32 eraseblocks and two slots.
+    (
+        b"[a]\nmode=ubi\nvol_id=2\nvol_name=root\nimage=new.bin\n",
+        CONTENT,
+        ("refused M1 IdRange item=0\n", 1),
+    ),
+    (
+        b"[a]\nmode=ubi\nvol_id=0\nvol_name=root\nvol_size=11521\n",
+        EMPTY,
+        ("refused M5 NoSpace\n", 1),
+    ),
+    (
+        b"[a]\nmode=ubi\nvol_id=0\nvol_name=root\nvol_type=static\nimage=new.bin\n[b]\nmode=ubi\nvol_id=1\nvol_name=root\n",
+        CONTENT,
+        ("refused I10 SameName line=9\n", 1),
+    ),
+];
+
+/// Asserts that a config is refused so, and nothing written.
+fn assert_refused(
+    rt: &impl Abort,
+    alloc: Global,
+    config: &[u8],
+    content: Contents,
+    answer: (&str, u8),
+) -> Result<(), Fail> {
+    let content = content.bytes(alloc)?;
+    let files = (config, content.as_slice());
+    let (outcome, written) = run_over(alloc, files, Broken::Nothing, LINE)?;
+    assert!(*rt; is_answer(&outcome, answer) && written.is_empty(), "{}", answer.0);
+    Ok(())
+}
+
+#[test]
+fn tells_why_a_config_is_refused(rt: HostRuntime) -> Result<(), Fail> {
+    for (config, content, answer) in &REFUSED {
+        assert_refused(&rt, rt.alloc(), config, *content, *answer)?;
+    }
+    Ok(())
+}
