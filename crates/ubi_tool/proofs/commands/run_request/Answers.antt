@@ -14,3 +14,6 @@ returns-in-Change-clause-answer g c = rw c.in-Change.is c.change_file.ensures.an
 
 pub returns-in-Rename-clause-answer : goal.returns-in-Rename-clause-answer
 returns-in-Rename-clause-answer g c = rw c.in-Rename.is c.rename_file.ensures.answer
+
+pub returns-in-Build-clause-answer : goal.returns-in-Build-clause-answer
+returns-in-Build-clause-answer g c = rw c.in-Build.is c.build_file.ensures.answer
