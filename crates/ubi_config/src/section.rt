@@ -9,7 +9,7 @@ use crate::text::Text;
 use ubi_media::{Geometry, VolKind, VolName, VolumeRecord, rec_fault};
 
 /// A section of a config: a volume.
-#[derive(Debug, Drop)]
+#[derive(Debug, Drop, PartialEq)]
 pub struct Section {
     /// The number of the line that begins it, counted from 1.
     pub line: u32,
