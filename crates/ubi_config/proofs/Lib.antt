@@ -1,8 +1,13 @@
+pub mod Apart
 pub mod ConfigVectors
 pub mod Decimals
+pub mod Distinct
 pub mod Faults
+pub mod Fields
 pub mod Groups
+pub mod Kept
 pub mod LinesLeft
 pub mod Places
 pub mod ReadSoFar
 pub mod Reserved
+pub mod SectionsDiffer

@@ -24,6 +24,7 @@ mod above;
 mod drafts;
 mod errors;
 mod key;
+pub mod laws;
 mod line;
 mod parsing;
 mod section;
