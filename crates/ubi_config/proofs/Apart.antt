@@ -19,6 +19,13 @@ use Rattle.ubi_config.proofs.Distinct.{apart, both_false, distinct-push, distinc
 abbrev pub from_heading : List Line → List Line
 from_heading ls = drop (position_or_len is_heading ls) ls
 
+-- a line that begins no section stands before the first that does
+pub from_next : (l : Line) (below : List Line)
+    → from_heading below ≡ drop (1 + position_or_len is_heading below) (l ∷ below)
+from_next l below =
+    let next : suc (position_or_len is_heading below) ≡ 1 + position_or_len is_heading below = omega arith in
+    ap (λ n. drop n (l ∷ below)) next
+
 -- the sections of groups, the first by what it is
 pub sections_cons : (g : Group) (gs : List Group)
     → sections_in (g ∷ gs) ≡ cons_option (result_ok (section_of g)) (sections_in gs)
@@ -71,9 +78,7 @@ module _ {X : Type 0} (e : X → X → Bool) (pick : Line → Option X) (key : S
   less : (l : Line) (below : List Line) (q : X → Bool)
       → list_any q (given_in (drop (1 + position_or_len is_heading below) (l ∷ below))) ≡ false
       → list_any q (given_in (from_heading below)) ≡ false
-  less l below q h =
-      let next : suc (position_or_len is_heading below) ≡ 1 + position_or_len is_heading below = omega arith in
-      ap (λ n. list_any q (given_in (drop n (l ∷ below)))) next ∙ h
+  less l below q h = ap (λ ls. list_any q (given_in ls)) (from_next l below) ∙ h
 
   -- a test that passes none of the keys that lines give, passes none of their sections'
   none_pass : (q : X → Bool) (ls : List Line) → list_any q (given_in (from_heading ls)) ≡ false
@@ -111,7 +116,8 @@ module _ {X : Type 0} (e : X → X → Bool) (pick : Line → Option X) (key : S
       (given (n, before_first is_heading below) s is (λ x. list_any (e x) (given_in (from_heading below))) apart_from))
       (distinct_keys below all)
   distinct_keys (line.Mode ∷ below) d = distinct_keys below (distinct_tail e (pick line.Mode) (given_in below) d)
-  distinct_keys (line.Image p ∷ below) d = distinct_keys below (distinct_tail e (pick (line.Image p)) (given_in below) d)
+  distinct_keys (line.Image p ∷ below) d =
+      distinct_keys below (distinct_tail e (pick (line.Image p)) (given_in below) d)
   distinct_keys (line.Id n ∷ below) d = distinct_keys below (distinct_tail e (pick (line.Id n)) (given_in below) d)
   distinct_keys (line.Size b ∷ below) d = distinct_keys below (distinct_tail e (pick (line.Size b)) (given_in below) d)
   distinct_keys (line.Kind k ∷ below) d = distinct_keys below (distinct_tail e (pick (line.Kind k)) (given_in below) d)
@@ -147,7 +153,8 @@ module _ {X : Type 0} (e : X → X → Bool) (pick : Line → Option X) (key : S
 
   -- a line more that gives none of the keys above, or no key
   pub distinct_more : (above : List Line) (l : Line) (n : X) → pick l ≡ Some n → IsDistinct e (given_in above)
-      → list_any (λ l. option_map_or (λ x. e x n) (pick l) false) above ≡ false → IsDistinct e (given_in (above ++ l ∷ []))
+      → list_any (λ l. option_map_or (λ x. e x n) (pick l) false) above ≡ false
+      → IsDistinct e (given_in (above ++ l ∷ []))
   distinct_more above l n is d h =
       subst (IsDistinct e) (sym (given_more above l (Some n) is))
       (distinct-push e (given_in above) n d (any_given n above h))

@@ -1,10 +1,11 @@
 -- What a section has of its lines: the number and the name of its volume.
-use Rattle.std.proofs.Common.{◌≡◌, ℕ, Bool, true, false, List, [], ◌∷◌, ap, sym, ◌∙◌}
+use Rattle.std.proofs.Common.{◌≡◌, ℕ, Bool, true, false, List, [], ◌∷◌, ap, sym, ◌∙◌, refl}
 use Rattle.std.specs.Prelude.{Option, Some, None, Result, Ok, Err, filter_map, fold}
 use Rattle.std.specs.Bool.{then_some}
 use Rattle.std.specs.List.{list_any}
 use Rattle.std.specs.Option.{ok_or}
 use Rattle.ubi_media.specs.declared.vid.VolKind.{VolKind}
+use Rattle.ubi_config.specs.Above.{is_autoresize}
 use Rattle.ubi_config.specs.Lines.{◌>>=◌}
 use Rattle.ubi_config.specs.Sections.{draft_of, finished, no_draft, with_line}
 use Rattle.ubi_config.specs.declared.drafts.Draft.{Draft}
@@ -79,7 +80,7 @@ read_fields : (number : ℕ) (m : Bool) (i : Option ℕ) (t : Option (List ℕ))
       size = z;
       image = image;
     } in made)))))) ≡ Ok s
-    → (i ≡ Some s.id) × (t ≡ Some s.name)
+    → (i ≡ Some s.id) × (t ≡ Some s.name) × (f ≡ s.flags)
 read_fields number false i t p c d e k a f z s h = absurd (cc)
 read_fields number true None t p c d e k a f z s h = absurd (cc)
 read_fields number true (Some id) None p c d e k a f z s h = absurd (cc)
@@ -96,10 +97,10 @@ read_fields number true (Some id) (Some name) (Ok image) c d e k a f z s h =
       image = image;
     } in
     let e : r ≡ s = cc in
-    (ap (λ (s : Section). Some s.id) e, ap (λ (s : Section). Some s.name) e)
+    (ap (λ (s : Section). Some s.id) e, ap (λ (s : Section). Some s.name) e, ap (λ (s : Section). s.flags) e)
 
 fields_of : (number : ℕ) (d : Draft) (s : Section) → finished number d ≡ Ok s
-    → (d.id ≡ Some s.id) × (d.name ≡ Some s.name)
+    → (d.id ≡ Some s.id) × (d.name ≡ Some s.name) × (d.flags ≡ s.flags)
 unfolding finished
 fields_of number d s h = read_fields number d.mode d.id d.name _ _ _ _ d.kind d.alignment d.flags d.size s h
 
@@ -116,3 +117,22 @@ pub name_given : (number : ℕ) (es : List Line) (s : Section) → finished numb
 unfolding draft_of
 name_given number es s made q none =
     name_fold q es no_draft s.name none (no_such q s.name) (fields_of number (draft_of es) s made).1
+
+flags_fold : (es : List Line) (d : Draft) → list_any is_autoresize es ≡ false → (fold with_line d es).flags ≡ d.flags
+flags_fold [] d h = refl
+flags_fold (line.Heading m t ∷ es) d h = flags_fold es (with_line d (line.Heading m t)) h
+flags_fold (line.Mode ∷ es) d h = flags_fold es (with_line d line.Mode) h
+flags_fold (line.Image p ∷ es) d h = flags_fold es (with_line d (line.Image p)) h
+flags_fold (line.Id m ∷ es) d h = flags_fold es (with_line d (line.Id m)) h
+flags_fold (line.Size b ∷ es) d h = flags_fold es (with_line d (line.Size b)) h
+flags_fold (line.Kind v ∷ es) d h = flags_fold es (with_line d (line.Kind v)) h
+flags_fold (line.Name t ∷ es) d h = flags_fold es (with_line d (line.Name t)) h
+flags_fold (line.Autoresize ∷ es) d h = absurd (cc)
+flags_fold (line.Alignment a ∷ es) d h = flags_fold es (with_line d (line.Alignment a)) h
+
+-- a section of which no line lets the volume grow has no flag
+pub no_flags : (number : ℕ) (es : List Line) (s : Section) → finished number (draft_of es) ≡ Ok s
+    → list_any is_autoresize es ≡ false → s.flags ≡ 0
+unfolding draft_of
+no_flags number es s made none =
+    sym (fields_of number (draft_of es) s made).2 ∙ flags_fold es no_draft none

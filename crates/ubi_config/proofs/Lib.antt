@@ -1,10 +1,12 @@
 pub mod Apart
 pub mod ConfigVectors
+pub mod Counts
 pub mod Decimals
 pub mod Distinct
 pub mod Faults
 pub mod Fields
 pub mod Groups
+pub mod Grows
 pub mod Kept
 pub mod LinesLeft
 pub mod Places

@@ -52,7 +52,8 @@ sayings-push before line =
     ∙ filter_map-append saying (enumerate_from 0 before) ((length before, line) ∷ [])
     ∙ ap (λ ls. filter_map saying (enumerate_from 0 before) ++ ls) (option_one (saying (length before, line)))
 
-pub saying_is : (place : ℕ) (line : List ℕ) → saying (place, line) ≡ result_unwrap_or (line_of (line_number place) line) None
+pub saying_is : (place : ℕ) (line : List ℕ)
+    → saying (place, line) ≡ result_unwrap_or (line_of (line_number place) line) None
 unfolding saying
 saying_is place line = refl
 

@@ -1,14 +1,13 @@
 -- The sections of a config that is read are not too many, and differ.
 use Rattle.std.proofs.Common.{◌≡◌, ◌≤◌, ◌<◌, ◌+◌, ◌∙◌, ℕ, Bool, true, false, List, [], ◌∷◌, ◌++◌, ap, arith, length, refl, sym}
-use Rattle.std.specs.Prelude.{Option, Some, None, ◌==◌, ◌||◌, cond, count_by, filter_map, nat_le, not}
+use Rattle.std.specs.Prelude.{Option, Some, None, ◌==◌, ◌||◌, count_by, filter_map, nat_le, not}
 use Rattle.std.specs.Bool.{then_some}
 use Rattle.std.specs.List.{IsDistinct, before_first, cons_option, list_any}
 use Rattle.std.specs.Option.{option_map_or, option_or}
 use Rattle.std.specs.Result.{result_ok}
 use Rattle.std.proofs.lemmas.Bool.Decides.{nat_tests}
-use Rattle.std.proofs.lemmas.List.Sums.{sum_by-append}
 use Rattle.ubi_media.specs.Fields.{same_bytes}
-use Rattle.ubi_config.specs.Above.{gives_id, gives_name, heading_cause, is_heading, is_titled, later_cause, own, sets, setting_cause, shared_cause}
+use Rattle.ubi_config.specs.Above.{gives_id, gives_name, heading_cause, is_autoresize, is_heading, is_titled, later_cause, own, sets, setting_cause, shared_cause}
 use Rattle.ubi_config.specs.Config.{Group, first_fault, groups, line_fault, lines, section_of, sayings, sections_in}
 use Rattle.ubi_config.specs.Laws.{SectionsDiffer}
 use Rattle.ubi_config.specs.declared.errors.ConfigCause.{ConfigCause}
@@ -17,8 +16,10 @@ use Rattle.ubi_config.specs.declared.line.Line.{Line}
 use Rattle.ubi_config.specs.declared.line.Line.TheVariants as line
 use Rattle.ubi_config.specs.declared.section.Section.{Section}
 use Rattle.ubi_config.proofs.Apart.{distinct_keys, distinct_more, distinct_same, no_sections, sections_cons}
+use Rattle.ubi_config.proofs.Counts.{count_cons, count_more, none_counted}
 use Rattle.ubi_config.proofs.Distinct.{distinct_none}
 use Rattle.ubi_config.proofs.Fields.{id_given, id_in, name_given, name_in}
+use Rattle.ubi_config.proofs.Grows.{sections_grow}
 use Rattle.ubi_config.proofs.Kept.{kept, or_none}
 use Rattle.ubi_config.specs.declared.key.Key.{Key}
 
@@ -105,11 +106,6 @@ name_step above (line.Id i) d h = same_names above (line.Id i) refl d
 name_step above line.Autoresize d h = same_names above line.Autoresize refl d
 name_step above (line.Alignment a) d h = same_names above (line.Alignment a) refl d
 
--- how many sections lines begin
-count_more : (above : List Line) (l : Line)
-    → count_by is_heading (above ++ l ∷ []) ≡ count_by is_heading above + count_by is_heading (l ∷ [])
-count_more above l = sum_by-append (λ l. cond (is_heading l) 1 0) above (l ∷ [])
-
 few_none : (a b : Bool) (c d : ConfigCause)
     → option_or (then_some a c) (option_or (then_some b d) None) ≡ None → b ≡ false
 few_none true b c d h = absurd (cc)
@@ -128,23 +124,19 @@ unfolding later_cause
 few_step above (line.Heading n t) d h =
     let small = heading_none above t h in
     let less : count_by is_heading above < 128 = grind (arith, nat_tests) in
-    omega (arith, count_more above (line.Heading n t))
-few_step above line.Mode d h = omega (arith, count_more above line.Mode)
-few_step above (line.Image p) d h = omega (arith, count_more above (line.Image p))
-few_step above (line.Id n) d h = omega (arith, count_more above (line.Id n))
-few_step above (line.Size b) d h = omega (arith, count_more above (line.Size b))
-few_step above (line.Kind k) d h = omega (arith, count_more above (line.Kind k))
-few_step above (line.Name t) d h = omega (arith, count_more above (line.Name t))
-few_step above line.Autoresize d h = omega (arith, count_more above line.Autoresize)
-few_step above (line.Alignment a) d h = omega (arith, count_more above (line.Alignment a))
+    omega (arith, count_more is_heading above (line.Heading n t))
+few_step above line.Mode d h = omega (arith, count_more is_heading above line.Mode)
+few_step above (line.Image p) d h = omega (arith, count_more is_heading above (line.Image p))
+few_step above (line.Id n) d h = omega (arith, count_more is_heading above (line.Id n))
+few_step above (line.Size b) d h = omega (arith, count_more is_heading above (line.Size b))
+few_step above (line.Kind k) d h = omega (arith, count_more is_heading above (line.Kind k))
+few_step above (line.Name t) d h = omega (arith, count_more is_heading above (line.Name t))
+few_step above line.Autoresize d h = omega (arith, count_more is_heading above line.Autoresize)
+few_step above (line.Alignment a) d h = omega (arith, count_more is_heading above (line.Alignment a))
 
 one_more : (o : Option Section) (ss : List Section) → length (cons_option o ss) ≤ length ss + 1
 one_more None ss = omega arith
 one_more (Some s) ss = omega arith
-
-count_cons : (l : Line) (below : List Line)
-    → count_by is_heading (l ∷ below) ≡ cond (is_heading l) 1 0 + count_by is_heading below
-count_cons l below = omega (arith, sum_by-append (λ l. cond (is_heading l) 1 0) (l ∷ []) below)
 
 -- lines have no more sections than they begin
 sections_few : (ls : List Line) → length (sections_in (groups ls)) ≤ count_by is_heading ls
@@ -156,16 +148,35 @@ sections_few (line.Heading n t ∷ below) =
       ap length (sections_cons g (groups below)),
       one_more (result_ok (section_of g)) (sections_in (groups below)),
       sections_few below,
-      count_cons (line.Heading n t) below,
+      count_cons is_heading (line.Heading n t) below,
     )
-sections_few (line.Mode ∷ below) = omega (arith, sections_few below, count_cons line.Mode below)
-sections_few (line.Image p ∷ below) = omega (arith, sections_few below, count_cons (line.Image p) below)
-sections_few (line.Id n ∷ below) = omega (arith, sections_few below, count_cons (line.Id n) below)
-sections_few (line.Size b ∷ below) = omega (arith, sections_few below, count_cons (line.Size b) below)
-sections_few (line.Kind k ∷ below) = omega (arith, sections_few below, count_cons (line.Kind k) below)
-sections_few (line.Name t ∷ below) = omega (arith, sections_few below, count_cons (line.Name t) below)
-sections_few (line.Autoresize ∷ below) = omega (arith, sections_few below, count_cons line.Autoresize below)
-sections_few (line.Alignment a ∷ below) = omega (arith, sections_few below, count_cons (line.Alignment a) below)
+sections_few (line.Mode ∷ below) = omega (arith, sections_few below, count_cons is_heading line.Mode below)
+sections_few (line.Image p ∷ below) = omega (arith, sections_few below, count_cons is_heading (line.Image p) below)
+sections_few (line.Id n ∷ below) = omega (arith, sections_few below, count_cons is_heading (line.Id n) below)
+sections_few (line.Size b ∷ below) = omega (arith, sections_few below, count_cons is_heading (line.Size b) below)
+sections_few (line.Kind k ∷ below) = omega (arith, sections_few below, count_cons is_heading (line.Kind k) below)
+sections_few (line.Name t ∷ below) = omega (arith, sections_few below, count_cons is_heading (line.Name t) below)
+sections_few (line.Autoresize ∷ below) = omega (arith, sections_few below, count_cons is_heading line.Autoresize below)
+sections_few (line.Alignment a ∷ below) =
+    omega (arith, sections_few below, count_cons is_heading (line.Alignment a) below)
+
+grow_step : (above : List Line) (l : Line) → count_by is_autoresize above ≤ 1 → later_cause above l ≡ None
+    → count_by is_autoresize (above ++ l ∷ []) ≤ 1
+unfolding later_cause
+grow_step above line.Autoresize d h =
+    omega (
+      arith,
+      count_more is_autoresize above line.Autoresize,
+      none_counted is_autoresize above (none_then _ _ (shared_none above _ line.Autoresize h)),
+    )
+grow_step above (line.Heading n t) d h = omega (arith, count_more is_autoresize above (line.Heading n t))
+grow_step above line.Mode d h = omega (arith, count_more is_autoresize above line.Mode)
+grow_step above (line.Image p) d h = omega (arith, count_more is_autoresize above (line.Image p))
+grow_step above (line.Id n) d h = omega (arith, count_more is_autoresize above (line.Id n))
+grow_step above (line.Size b) d h = omega (arith, count_more is_autoresize above (line.Size b))
+grow_step above (line.Kind k) d h = omega (arith, count_more is_autoresize above (line.Kind k))
+grow_step above (line.Name t) d h = omega (arith, count_more is_autoresize above (line.Name t))
+grow_step above (line.Alignment a) d h = omega (arith, count_more is_autoresize above (line.Alignment a))
 
 lines_none : (text : List ℕ) → first_fault text ≡ None → line_fault text ≡ None
 unfolding first_fault
@@ -175,11 +186,15 @@ pub sections_differ : SectionsDiffer
 sections_differ text h =
     let none = lines_none text h in
     let said = sayings (lines text) in
-    let ids = kept (λ ls. IsDistinct (λ a b. a == b) (filter_map id_in ls)) id_step (distinct_none (λ a b. a == b)) text none in
-    let names = kept (λ ls. IsDistinct same_bytes (filter_map name_in ls)) name_step (distinct_none same_bytes) text none in
+    let ids = kept (λ ls. IsDistinct (λ a b. a == b) (filter_map id_in ls)) id_step
+    (distinct_none (λ a b. a == b)) text none in
+    let names = kept (λ ls. IsDistinct same_bytes (filter_map name_in ls)) name_step
+    (distinct_none same_bytes) text none in
+    let grow = kept (λ ls. count_by is_autoresize ls ≤ 1) grow_step (omega arith) text none in
     let few = kept (λ ls. count_by is_heading ls ≤ 128) few_step (omega arith) text none in
     record {
       few = omega (arith, few, sections_few (sayings (lines text)));
+      grows = omega (arith, grow, sections_grow (sayings (lines text)));
       ids =
           distinct_keys (λ a b. a == b) id_in (λ s. s.id) (λ n t. refl) (λ g s. id_given g.0 g.1 s)
           (sayings (lines text)) ids;

@@ -2,7 +2,8 @@
 
 ghost use Rattle.ubi_config.specs.Laws.{SectionsDiffer};
 
-/// The sections of a config that is read are at most 128, and no two of them have one number of a volume, or one name.
+/// The sections of a config that is read are at most 128, no two of them have one number of a volume, or one name, and one
+/// volume at most grows to the size of the device.
 pub fn sections_differ()
     ensures { SectionsDiffer }
 {}
