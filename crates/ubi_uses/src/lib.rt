@@ -3,6 +3,7 @@
 
 mod change;
 mod compose;
+mod config;
 mod media;
 mod scan;
 mod table;
@@ -10,6 +11,7 @@ mod volume;
 
 pub use change::update;
 pub use compose::is_same_build;
+pub use config::volume_count;
 pub use media::erased;
 pub use scan::holder;
 pub use table::record_of;

@@ -42,6 +42,7 @@ static SHOWN: [(ConfigCause, &str, &str); 16] = [
         "I15 Record line=3 AlignmentPage",
     ),
     (ConfigCause::TooLarge, "I16 TooLarge", "I16 TooLarge line=3"),
+    (ConfigCause::IdRange, "I17 IdRange", "I17 IdRange line=3"),
 ];
 
 #[test]

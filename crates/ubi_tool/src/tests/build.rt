@@ -101,7 +101,7 @@ static REFUSED: [(&[u8], Contents, (&str, u8)); 13] = [
     (
         b"[a]\nmode=ubi\nvol_id=2\nvol_name=root\nimage=new.bin\n",
         CONTENT,
-        ("refused M1 IdRange item=0\n", 1),
+        ("refused I17 IdRange line=1\n", 1),
     ),
     (
         b"[a]\nmode=ubi\nvol_id=0\nvol_name=root\nvol_size=11521\n",
