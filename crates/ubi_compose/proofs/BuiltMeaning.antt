@@ -59,7 +59,8 @@ module _ (ps : Parts) (h : HaveMeaning ps) (bytes : List ℕ) (reaches : Reaches
   none : NoCause ps.sizes (items_of ps.sizes bytes ps.of)
   none = h.none bytes reaches
 
-  here : (i : ℕ) (p : Part) → slice_get ps.of i ≡ Some p → IsItem (items_of ps.sizes bytes ps.of) i (item_of ps.sizes bytes p)
+  here : (i : ℕ) (p : Part) → slice_get ps.of i ≡ Some p
+      → IsItem (items_of ps.sizes bytes ps.of) i (item_of ps.sizes bytes p)
   here i p at = item_at (item_of ps.sizes bytes) ps.of i p at
 
   -- no record has the update marker
@@ -113,8 +114,14 @@ module _ (ps : Parts) (h : HaveMeaning ps) (bytes : List ℕ) (reaches : Reaches
         | inr other ↦ elim other [
           | inl l ↦ absurd (none (cause.SameName b.0 a.0)
               (item_of ps.sizes bytes q.0, item_of ps.sizes bytes p.0, here b.0 q.0 b.1, here a.0 p.0 a.1, l, alike))
-          | inr l ↦ absurd (none (cause.SameName a.0 b.0)
-              (item_of ps.sizes bytes p.0, item_of ps.sizes bytes q.0, here a.0 p.0 a.1, here b.0 q.0 b.1, l, sym alike))
+          | inr l ↦ absurd (none (cause.SameName a.0 b.0) (
+            item_of ps.sizes bytes p.0,
+            item_of ps.sizes bytes q.0,
+            here a.0 p.0 a.1,
+            here b.0 q.0 b.1,
+            l,
+            sym alike,
+          ))
         ]
       ] in
       sym of_p.1 ∙ ap (λ (z : Part). z.id) one ∙ of_q.1
@@ -122,16 +129,19 @@ module _ (ps : Parts) (h : HaveMeaning ps) (bytes : List ℕ) (reaches : Reaches
   abbrev reserved : ℕ × Volume → ℕ
   reserved e = e.1.entry.reserved
 
-  sum_values : (es : List (ℕ × Volume)) → sum_by (λ (v : Volume). v.entry.reserved) (map (λ (e : ℕ × Volume). e.1) es) ≡ sum_by reserved es
+  sum_values : (es : List (ℕ × Volume)) → sum_by (λ (v : Volume). v.entry.reserved) (map (λ (e : ℕ × Volume). e.1) es)
+      ≡ sum_by reserved es
   sum_values [] = refl
   sum_values (e ∷ es) = sum_by-cons (λ (v : Volume). v.entry.reserved) e.1 (map (λ (e : ℕ × Volume). e.1) es)
       ∙ ap (λ n. e.1.entry.reserved + n) (sum_values es) ∙ sym (sum_by-cons reserved e es)
 
   sum_parts : (parts : List Part)
-      → sum_by reserved (map item_without_blank (items_of ps.sizes bytes parts)) ≡ sum_by (λ (p : Part). p.entry.reserved) parts
+      → sum_by reserved (map item_without_blank (items_of ps.sizes bytes parts))
+      ≡ sum_by (λ (p : Part). p.entry.reserved) parts
   sum_parts [] = refl
   sum_parts (p ∷ parts) =
-      sum_by-cons reserved (item_without_blank (item_of ps.sizes bytes p)) (map item_without_blank (items_of ps.sizes bytes parts))
+      sum_by-cons reserved (item_without_blank (item_of ps.sizes bytes p))
+      (map item_without_blank (items_of ps.sizes bytes parts))
       ∙ ap (λ n. p.entry.reserved + n) (sum_parts parts) ∙ sym (sum_by-cons (λ (p : Part). p.entry.reserved) p parts)
 
   pub built_meaning : IsMeaning (built ps bytes)

@@ -39,7 +39,8 @@ unfolding boot
 text = refl
 
 -- five bytes in LEBs of four
-pieces_kept : finite.entries (lebs_of 4 (1 ∷ 2 ∷ 3 ∷ 4 ∷ 5 ∷ [])) ≡ (0, 1 ∷ 2 ∷ 3 ∷ 4 ∷ []) ∷ (1, 5 ∷ 255 ∷ 255 ∷ 255 ∷ []) ∷ []
+pieces_kept : finite.entries (lebs_of 4 (1 ∷ 2 ∷ 3 ∷ 4 ∷ 5 ∷ []))
+    ≡ (0, 1 ∷ 2 ∷ 3 ∷ 4 ∷ []) ∷ (1, 5 ∷ 255 ∷ 255 ∷ 255 ∷ []) ∷ []
 unfolding filled
 pieces_kept = sorted_entries ((0, 1 ∷ 2 ∷ 3 ∷ 4 ∷ []) ∷ (1, 5 ∷ 255 ∷ 255 ∷ 255 ∷ []) ∷ []) refl
 

@@ -60,7 +60,8 @@ module _ (ps : Parts) (bytes : List ℕ) (p : Part) (reaches : p.start + p.len �
       (sym (get_without_blank (lebs_of size text) lnum) ∙ e))
 
   by_test : (lnum : ℕ) (x : List ℕ) (b : Bool)
-      → option_map_or (λ (y : List ℕ). laid_leb (lnum, y)) (cond (not b) (Some x) None) [] ≡ cond b [] (laid_leb (lnum, x))
+      → option_map_or (λ (y : List ℕ). laid_leb (lnum, y)) (cond (not b) (Some x) None) []
+      ≡ cond b [] (laid_leb (lnum, x))
   by_test lnum x true = refl
   by_test lnum x false = refl
 
@@ -73,12 +74,14 @@ module _ (ps : Parts) (bytes : List ℕ) (p : Part) (reaches : p.start + p.len �
       ∙ by_test lnum (leb_of size text lnum) (is_blank (leb_of size text lnum))
 
   of_kind : (k : VolKind)
-      → flat_map (laid_bytes ps.sizes (new_ec ps.image_seq)) (volume_blocks ps.sizes p.id p.entry (without_blank (content_of k size text)))
+      → flat_map (laid_bytes ps.sizes (new_ec ps.image_seq))
+      (volume_blocks ps.sizes p.id p.entry (without_blank (content_of k size text)))
       ≡ flat_map (λ lnum. piece_of_kind k ps p lnum bytes) (range_with_len 0 n)
   of_kind kind.Static = flat_map-map (laid_bytes ps.sizes (new_ec ps.image_seq))
       (static_part (data_pad ps.sizes p.entry) size p.id text) (range_with_len 0 n)
   of_kind kind.Dynamic =
-      flat_map-map (laid_bytes ps.sizes (new_ec ps.image_seq)) (dynamic_block (data_pad ps.sizes p.entry) p.id) (finite.entries kept)
+      flat_map-map (laid_bytes ps.sizes (new_ec ps.image_seq)) (dynamic_block (data_pad ps.sizes p.entry) p.id)
+      (finite.entries kept)
       ∙ entries_by_number laid_leb kept n within
       ∙ same_range _ _ 0 n (λ lnum low high. leb_bytes lnum (omega arith))
 
@@ -114,7 +117,8 @@ module _ (ps : Parts) (bytes : List ℕ) where
   -- the table
   pub table_is : table_of ps ≡ table_bytes (records_of (built ps bytes))
   table_is = sym (same_range _ _ 0 (slots ps.sizes) (λ slot low high. ap (rec_bytes ps.sizes)
-      (record_of (built ps bytes) slot ∙ ap (option_map (λ (v : Volume). v.entry)) (built_at slot) ∙ as_entry (part_at ps slot))))
+      (record_of (built ps bytes) slot ∙ ap (option_map (λ (v : Volume). v.entry)) (built_at slot)
+      ∙ as_entry (part_at ps slot))))
 
   -- what is built at a number is the volume of a part
   pub built_part : (id : ℕ) (v : Volume) → finite.get (built ps bytes).volumes id ≡ Some v
@@ -130,7 +134,8 @@ module _ (ps : Parts) (bytes : List ℕ) where
 
   module _ (h : HaveMeaning ps) (reaches : Reaches (length bytes) ps.of) where
     abbrev blocks_in : ℕ × Volume → List ℕ
-    blocks_in e = flat_map (laid_bytes ps.sizes (new_ec ps.image_seq)) (volume_blocks ps.sizes e.0 e.1.entry e.1.content)
+    blocks_in e = flat_map (laid_bytes ps.sizes (new_ec ps.image_seq))
+        (volume_blocks ps.sizes e.0 e.1.entry e.1.content)
 
     below : (id : ℕ) (v : Volume) → finite.get (built ps bytes).volumes id ≡ Some v → id < slots ps.sizes
     below id v e =
@@ -140,7 +145,8 @@ module _ (ps : Parts) (bytes : List ℕ) where
         subst (λ n. n < slots ps.sizes) found.1 (part_slot ps h at.0 of.0 at.1)
 
     numbered_is : (id : ℕ) (o : Option Part) → part_at ps id ≡ o
-        → option_map_or (λ v. blocks_in (id, v)) (option_map volume_in o) [] ≡ option_map_or (λ p. part_bytes ps p bytes) o []
+        → option_map_or (λ v. blocks_in (id, v)) (option_map volume_in o) []
+        ≡ option_map_or (λ p. part_bytes ps p bytes) o []
     numbered_is id None e = refl
     numbered_is id (Some p) e =
         let found = found_part ps.of id p e in
@@ -148,10 +154,12 @@ module _ (ps : Parts) (bytes : List ℕ) where
         ap (λ n. blocks_in (n, volume_in p)) (sym found.1)
         ∙ part_is ps bytes p (reached (length bytes) ps.of at.0 p reaches at.1)
 
-    volumes_are : flat_map (laid_bytes ps.sizes (new_ec ps.image_seq)) (blocks_of ps.sizes (finite.entries (built ps bytes).volumes))
+    volumes_are : flat_map (laid_bytes ps.sizes (new_ec ps.image_seq))
+        (blocks_of ps.sizes (finite.entries (built ps bytes).volumes))
         ≡ first_volumes ps (slots ps.sizes) bytes
     volumes_are =
-        flat_map-flat_map (laid_bytes ps.sizes (new_ec ps.image_seq)) (λ (v : ℕ × Volume). volume_blocks ps.sizes v.0 v.1.entry v.1.content)
+        flat_map-flat_map (laid_bytes ps.sizes (new_ec ps.image_seq))
+        (λ (v : ℕ × Volume). volume_blocks ps.sizes v.0 v.1.entry v.1.content)
         (finite.entries (built ps bytes).volumes)
         ∙ entries_by_number blocks_in (built ps bytes).volumes (slots ps.sizes) below
         ∙ same_range _ _ 0 (slots ps.sizes) (λ id low high.
@@ -169,7 +177,8 @@ module _ (ps : Parts) (bytes : List ℕ) where
         let text = table_bytes (records_of (built ps bytes)) in
         let volumes = flat_map (laid_bytes ps.sizes (new_ec ps.image_seq))
         (blocks_of ps.sizes (finite.entries (built ps bytes).volumes)) in
-        ap (λ t. ((table t 0 ++ table t 1) ++ first_volumes ps (slots ps.sizes) bytes) ++ spares_bytes ps spares bytes) table_is
+        ap (λ t. ((table t 0 ++ table t 1) ++ first_volumes ps (slots ps.sizes) bytes) ++ spares_bytes ps spares bytes)
+        table_is
         ∙ ap (λ vs. ((table text 0 ++ table text 1) ++ vs) ++ spares_bytes ps spares bytes) (sym volumes_are)
         ∙ ap (λ r. ((table text 0 ++ table text 1) ++ volumes) ++ r) (spares_are (spare ps.sizes ps.image_seq) 0 spares)
         ∙ composed_pieces (built ps bytes) spares

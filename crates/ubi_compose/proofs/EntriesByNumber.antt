@@ -20,12 +20,14 @@ use Rattle.ubi_compose.proofs.Rising.{entries_rise}
 -- what is made of each entry of a map, by rising number below n
 pub entries_by_number : {X : Type 0} (f : ℕ × X → List ℕ) (m : FinMap nat_cmp X) (n : ℕ)
     → ((id : ℕ) (x : X) → finite.get m id ≡ Some x → id < n)
-    → flat_map f (finite.entries m) ≡ flat_map (λ id. option_map_or (λ x. f (id, x)) (finite.get m id) []) (range_with_len 0 n)
+    → flat_map f (finite.entries m) ≡ flat_map (λ id. option_map_or (λ x. f (id, x)) (finite.get m id) [])
+    (range_with_len 0 n)
 entries_by_number {X} f m n below =
     let es = finite.entries m in
     let within : AllByRecursion (λ (e : ℕ × X). e.0 < n) es =
     all_from (λ (e : ℕ × X). e.0 < n) es (λ e at. below e.0 e.1 (held_entry m e at)) in
-    let from : AllByRecursion (λ (e : ℕ × X). 0 ≤ e.0) es = all_from (λ (e : ℕ × X). 0 ≤ e.0) es (λ e at. omega arith) in
+    let from : AllByRecursion (λ (e : ℕ × X). 0 ≤ e.0) es = all_from (λ (e : ℕ × X). 0 ≤ e.0) es
+    (λ e at. omega arith) in
     sym (by_number f n 0 es (subst (λ b. Rises f 0 b es) (sym (zero-add n))
     (rises_from f 0 n es (entries_rise es (finite.entries_sorted m)) from within)))
     ∙ same_range _ _ 0 n (λ id low high. ap (λ o. option_map_or (λ x. f (id, x)) o []) (sym (finite.get-entries m id)))

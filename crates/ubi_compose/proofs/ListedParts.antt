@@ -115,7 +115,8 @@ module _ (ps : Parts) (h : HaveMeaning ps) where
 
     -- no more pieces than what is reserved
     pub part_few : pieces_of ps.sizes p ≤ p.entry.reserved
-    part_few = pieces_few (usable ps.sizes p.entry) (usable_some ps.sizes p.entry part_sound) p.len p.entry.reserved part_fits
+    part_few = pieces_few (usable ps.sizes p.entry)
+        (usable_some ps.sizes p.entry part_sound) p.len p.entry.reserved part_fits
 
   -- a part whose bytes a source has can be read
   pub part_readable : (k : Source) → HasParts k ps.of → (id : ℕ) (p : Part) → part_at ps id ≡ Some p → IsReadable ps k p
@@ -131,7 +132,8 @@ module _ (ps : Parts) (h : HaveMeaning ps) where
       }
 
   -- the reserved eraseblocks have room on the device
-  reserved_sum : (parts : List Part) (n : ℕ) → fold (λ k (e : ℕ × Volume). k + e.1.entry.reserved) n (items_of ps.sizes bytes parts)
+  reserved_sum : (parts : List Part) (n : ℕ)
+      → fold (λ k (e : ℕ × Volume). k + e.1.entry.reserved) n (items_of ps.sizes bytes parts)
       ≡ fold (λ k (p : Part). k + p.entry.reserved) n parts
   reserved_sum [] n = refl
   reserved_sum (p ∷ parts) n = reserved_sum parts (n + p.entry.reserved)
@@ -144,7 +146,8 @@ module _ (ps : Parts) (h : HaveMeaning ps) where
   ]
 
   -- and so have the pieces of all
-  few_pieces : (parts : List Part) → ((i : ℕ) (p : Part) → slice_get parts i ≡ Some p → pieces_of ps.sizes p ≤ p.entry.reserved)
+  few_pieces : (parts : List Part) → ((i : ℕ) (p : Part) → slice_get parts i ≡ Some p
+      → pieces_of ps.sizes p ≤ p.entry.reserved)
       → sum_by (pieces_of ps.sizes) parts ≤ sum_by (λ (p : Part). p.entry.reserved) parts
   few_pieces [] each = omega arith
   few_pieces (p ∷ parts) each =

@@ -64,7 +64,8 @@ filled_behind size len xs few room =
     ∙ ap (λ n. take len xs ++ blank (size - n)) (sym long) ∙ sym (filled-is size (take len xs))
 
 -- a call that reads nothing fails by a write alone
-pub only_writes : (s : Sizes) (agrees : Agreed) (a b : Option (List ℕ)) (wanted : Wanted) (m : ℕ) (e : StreamError) → 1 ≤ s.peb_size
+pub only_writes : (s : Sizes) (agrees : Agreed) (a b : Option (List ℕ)) (wanted : Wanted) (m : ℕ) (e : StreamError)
+    → 1 ≤ s.peb_size
     → ((k : Source) → IsWroteError s k agrees a b wanted m e) → IsWriteFault e
 only_writes s agrees a b wanted m (stream.Write n) some h = tt
 only_writes s agrees a b wanted m (stream.Read p n) some h = absurd (let inside = (h (sound 0)).0 in none inside)
@@ -74,15 +75,18 @@ only_writes s agrees a b wanted m (stream.Read p n) some h = absurd (let inside 
 only_writes s agrees a b wanted m (stream.Refused c) some h = absurd (h (sound 0))
 only_writes s agrees a b wanted m stream.Memory some h = absurd (h (sound 0))
 
-pub unbuilt_write : (ps : Parts) (s : Sizes) (k : Source) (agrees : Agreed) (a b : Option (List ℕ)) (wanted : Wanted) (m : ℕ)
-    (e : StreamError) → IsWriteFault e → IsWroteError s k agrees a b wanted m e → IsUnbuilt ps agrees a b wanted m (of_write e)
+pub unbuilt_write : (ps : Parts) (s : Sizes) (k : Source) (agrees : Agreed) (a b : Option (List ℕ)) (wanted : Wanted)
+    (m : ℕ)
+    (e : StreamError) → IsWriteFault e → IsWroteError s k agrees a b wanted m e
+    → IsUnbuilt ps agrees a b wanted m (of_write e)
 unbuilt_write ps s k agrees a b wanted m (stream.Write n) is h = h
 unbuilt_write ps s k agrees a b wanted m (stream.Read p n) is h = absurd is
 unbuilt_write ps s k agrees a b wanted m (stream.Refused c) is h = absurd is
 unbuilt_write ps s k agrees a b wanted m stream.Memory is h = absurd is
 
 -- a read failed, and nothing was written since
-pub unread : (ps : Parts) (agrees : Agreed) (a : Option (List ℕ)) (wanted : Wanted) (m : ℕ) (p : Part) → IsPartOf ps p.id p
+pub unread : (ps : Parts) (agrees : Agreed) (a : Option (List ℕ)) (wanted : Wanted) (m : ℕ) (p : Part)
+    → IsPartOf ps p.id p
     → IsUnbuilt ps agrees a a wanted m (build.Read p.id m)
 unread ps agrees a wanted m p listed = (
   p,
@@ -107,7 +111,8 @@ module _ (ps : Parts) (p : Part) (lnum : ℕ) (bytes : List ℕ) (h : VidHeader)
       w ∙ ap (λ n. laid_bytes ps.sizes (new_ec ps.image_seq)
       (static_block (data_pad ps.sizes p.entry) p.id (pieces size n) lnum (share size (text_of bytes p) lnum)))
       (text_size bytes p reaches)
-      ∙ sym (static_is ps.sizes ps.image_seq (data_pad ps.sizes p.entry) size p.id (pieces_of ps.sizes p) lnum h (text_of bytes p)
+      ∙ sym (static_is ps.sizes ps.image_seq (data_pad ps.sizes p.entry) size p.id (pieces_of ps.sizes p) lnum h
+      (text_of bytes p)
       part header is)
 
   pub dynamic_laid : part ≡ filled size (share size (text_of bytes p) lnum)

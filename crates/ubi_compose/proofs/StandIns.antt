@@ -183,7 +183,8 @@ module _ (s : Sizes) (parts : List Part) (bytes : List ℕ) (reaches : Reaches (
   misfit_bytes : (c : MeaningCause) → NoFaultAt c → IsMisfit s parts (stand_in s) text_in c
   misfit_bytes (cause.ContentRange i) free p m = λ fits.
       let sound = sound_at i p m.0 free in
-      m.1 (stand_in_fits s p sound (text_of bytes p) (text_size bytes p (reached (length bytes) parts i p reaches m.0)) fits)
+      m.1 (stand_in_fits s p sound (text_of bytes p)
+      (text_size bytes p (reached (length bytes) parts i p reaches m.0)) fits)
   misfit_bytes (cause.IdRange i) free p m = absurd m
   misfit_bytes (cause.SameId i) free p m = absurd m
   misfit_bytes (cause.Record i f) free p m = absurd m
@@ -193,7 +194,8 @@ module _ (s : Sizes) (parts : List Part) (bytes : List ℕ) (reaches : Reaches (
   misfit_stand : (c : MeaningCause) → NoFaultAt c → IsMisfit s parts text_in (stand_in s) c
   misfit_stand (cause.ContentRange i) free p m = λ fits.
       let sound = sound_at i p m.0 free in
-      m.1 (bytes_fit s p sound (text_of bytes p) (text_size bytes p (reached (length bytes) parts i p reaches m.0)) fits)
+      m.1 (bytes_fit s p sound (text_of bytes p)
+      (text_size bytes p (reached (length bytes) parts i p reaches m.0)) fits)
   misfit_stand (cause.IdRange i) free p m = absurd m
   misfit_stand (cause.SameId i) free p m = absurd m
   misfit_stand (cause.Record i f) free p m = absurd m

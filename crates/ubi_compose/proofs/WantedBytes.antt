@@ -61,7 +61,8 @@ module _ (agrees : Agreed) where
     back_unbuilt ps a b c l m (build.Read id n) g h =
         (h.0, h.1, first_behind a b c (those whole) (those front) (those back) l m n split g h.2)
     back_unbuilt ps a b c l m (build.Write n) g h =
-        error_behind (sound 0) agrees one_byte a b c (those whole) (those front) (those back) l m (stream.Write n) split g h
+        error_behind (sound 0) agrees one_byte a b c (those whole) (those front) (those back) l m
+        (stream.Write n) split g h
     back_unbuilt ps a b c l m build.TooMany g h = h
     back_unbuilt ps a b c l m (build.Beyond id) g h = h
     back_unbuilt ps a b c l m build.Memory g h = h
@@ -98,7 +99,8 @@ module _ (old new : Agreed) (narrows : Narrows old new) where
       → IsUnbuilt ps old a b wanted m e → IsUnbuilt ps new a b other m e
   unbuilt_where ps a b wanted other m (build.Read id n) same h =
       (h.0, h.1, wrote_where old new narrows a b wanted other First m n same h.2)
-  unbuilt_where ps a b wanted other m (build.Write n) same h = wrote_where old new narrows a b wanted other NotAll m n same h
+  unbuilt_where ps a b wanted other m (build.Write n) same h = wrote_where old new narrows a b wanted other NotAll m n
+      same h
   unbuilt_where ps a b wanted other m build.TooMany same h = h
   unbuilt_where ps a b wanted other m (build.Beyond id) same h = h
   unbuilt_where ps a b wanted other m build.Memory same h = h
@@ -108,7 +110,8 @@ module _ (old new : Agreed) (narrows : Narrows old new) where
   unbuilt_narrowed ps a b wanted m e = unbuilt_where ps a b wanted wanted m e (λ bytes text agrees w. w)
 
 -- why not all was built
-pub unbuilt_refused : (ps : Parts) (spares : ℕ) (k : Source) (agrees : Agreed) (old new : Option (List ℕ)) (e : BuildError)
+pub unbuilt_refused : (ps : Parts) (spares : ℕ) (k : Source) (agrees : Agreed) (old new : Option (List ℕ))
+    (e : BuildError)
     → IsUnbuilt ps agrees old new (image_built ps spares) 0 e → IsBuildError ps spares k agrees old new e
 unbuilt_refused ps spares k agrees old new (build.Read id n) h = h
 unbuilt_refused ps spares k agrees old new (build.Write n) h = h

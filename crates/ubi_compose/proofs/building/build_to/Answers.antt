@@ -62,6 +62,7 @@ returns-clause-accepted g c =
     (λ n h bytes holds.
     let size : length bytes ≡ c.len.result = (g.met.S.BlockSource.sized c.args.source.now).sized bytes
     (c.put_image.ensures.narrows bytes holds) ∙ sym c.len.ensures in
-    built_accepted ps c.geometry-geometry.ensures.meaning bytes (subst (λ n. Reaches n ps.of) (sym size) c.in_default.ensures)
+    built_accepted ps c.geometry-geometry.ensures.meaning bytes
+    (subst (λ n. Reaches n ps.of) (sym size) c.in_default.ensures)
     c.args.spares room)
     c.put_image.ensures.written

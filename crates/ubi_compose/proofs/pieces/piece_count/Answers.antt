@@ -19,7 +19,8 @@ pub returns-clause-most : goal.returns-clause-most
 returns-clause-most c =
     let s = c.args.geometry.now in
     let r = c.args.part.now.entry in
-    let few = pieces_few (usable s r) (usable_some s r c.requires.sound) c.args.part.now.len r.reserved c.requires.fits in
+    let few = pieces_few (usable s r) (usable_some s r c.requires.sound) c.args.part.now.len r.reserved c.requires.fits
+    in
     let is = returns-clause-value c in
     omega (arith, few, is)
 
