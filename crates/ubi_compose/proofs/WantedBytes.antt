@@ -11,7 +11,7 @@ use Rattle.ubi_volume.specs.Wrote.{All, First, NotAll, Wanted, Wrote}
 use Rattle.ubi_volume.proofs.Extracted.{front_of}
 use Rattle.ubi_volume.proofs.Narrowed.{wrote_where}
 use Rattle.ubi_volume.proofs.Received.{Splits, error_behind, error_front, wrote_more}
-use Rattle.ubi_compose.specs.Building.{IsBuildError, image_built, those}
+use Rattle.ubi_compose.specs.Building.{CanBuild, IsBuildError, image_built, those}
 use Rattle.ubi_compose.specs.Built.{Parts}
 use Rattle.ubi_compose.specs.inner.Building.{IsUnbuilt}
 use Rattle.ubi_compose.specs.declared.errors.BuildError.{BuildError}
@@ -110,11 +110,11 @@ module _ (old new : Agreed) (narrows : Narrows old new) where
   unbuilt_narrowed ps a b wanted m e = unbuilt_where ps a b wanted wanted m e (λ bytes text agrees w. w)
 
 -- why not all was built
-pub unbuilt_refused : (ps : Parts) (spares : ℕ) (k : Source) (agrees : Agreed) (old new : Option (List ℕ))
-    (e : BuildError)
-    → IsUnbuilt ps agrees old new (image_built ps spares) 0 e → IsBuildError ps spares k agrees old new e
-unbuilt_refused ps spares k agrees old new (build.Read id n) h = h
-unbuilt_refused ps spares k agrees old new (build.Write n) h = h
-unbuilt_refused ps spares k agrees old new build.TooMany h = absurd h
-unbuilt_refused ps spares k agrees old new (build.Beyond id) h = absurd h
-unbuilt_refused ps spares k agrees old new build.Memory h = absurd h
+pub unbuilt_refused : (ps : Parts) (spares : ℕ) (k : Source) (agrees : Agreed) (old new : Option (List ℕ)) (e : BuildError)
+    → CanBuild ps spares k.size → IsUnbuilt ps agrees old new (image_built ps spares) 0 e
+    → IsBuildError ps spares k agrees old new e
+unbuilt_refused ps spares k agrees old new (build.Read id n) can h = (can, h)
+unbuilt_refused ps spares k agrees old new (build.Write n) can h = (can, h)
+unbuilt_refused ps spares k agrees old new build.TooMany can h = absurd h
+unbuilt_refused ps spares k agrees old new (build.Beyond id) can h = absurd h
+unbuilt_refused ps spares k agrees old new build.Memory can h = absurd h

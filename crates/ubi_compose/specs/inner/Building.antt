@@ -80,11 +80,12 @@ dynamic_piece ps p lnum bytes = kept_bytes ps.sizes ps.image_seq
     (plain kind.Dynamic 0 (data_pad ps.sizes p.entry) p.id lnum)
     (filled (usable ps.sizes p.entry) (share (usable ps.sizes p.entry) (text_of bytes p) lnum))
 
--- that of either kind
+-- that of a volume of a kind
 abbrev pub piece_of_kind : VolKind → Parts → Part → ℕ → List ℕ → List ℕ
 piece_of_kind kind.Static = static_piece
 piece_of_kind kind.Dynamic = dynamic_piece
 
+-- that of a piece of a part
 abbrev pub piece_bytes : Parts → Part → ℕ → List ℕ → List ℕ
 piece_bytes ps p = piece_of_kind p.entry.kind ps p
 
