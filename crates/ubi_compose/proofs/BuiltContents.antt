@@ -1,5 +1,5 @@
 -- What a volume holds that a text was written to: its LEBs, and whether its record allows it.
-use Rattle.std.proofs.Common.{◌≡◌, ◌==◌, ℕ, ◌+◌, ◌-◌, ◌*◌, ◌<◌, ◌≤◌, true, false, List, length, length-drop, length-take-le, take, drop, refl, ap, sym, ◌∙◌, subst, arith, inl, inr, zero-add}
+use Rattle.std.proofs.Common.{◌≡◌, ◌==◌, ℕ, ◌+◌, ◌*◌, ◌<◌, ◌≤◌, false, List, length, length-drop, length-take-le, drop, refl, ap, sym, ◌∙◌, subst, arith, inl, inr, zero-add}
 use Rattle.std.specs.Prelude.{IfSome, None, Option, Some, find, option_map}
 use Rattle.std.specs.FinMap as finite
 use Rattle.std.specs.List.{range_with_len}

@@ -1,5 +1,5 @@
 -- What is built is a meaning, and its normal image has room where all pieces have.
-use Rattle.std.proofs.Common.{◌≡◌, ℕ, ◌+◌, ◌*◌, ◌<◌, ◌≤◌, true, false, Bool, inl, inr, List, [], ◌∷◌, length, map, refl, ap, sym, ◌∙◌, subst, arith}
+use Rattle.std.proofs.Common.{◌≡◌, ℕ, ◌+◌, ◌≤◌, true, false, Bool, inl, inr, List, [], ◌∷◌, length, map, refl, ap, sym, ◌∙◌, subst, arith}
 use Rattle.std.specs.Prelude.{IfSome, None, Option, Some, slice_get, sum_by}
 use Rattle.std.specs.Cmp.{nat_cmp_total}
 use Rattle.std.specs.FinMap as finite
@@ -11,11 +11,8 @@ use Rattle.std.proofs.lemmas.Bool.{cases_order}
 use Rattle.std.proofs.lemmas.List.Sums.{sum_by-cons}
 use Rattle.std.proofs.lemmas.Option.{same_Some}
 use Rattle.ubi_media.specs.Fields.{blank}
-use Rattle.ubi_media.specs.Geometry.{Sizes, leb_size}
-use Rattle.ubi_media.specs.Record.{rec_fault, usable}
-use Rattle.ubi_media.specs.declared.record.VolumeRecord.{VolumeRecord}
-use Rattle.ubi_media.specs.declared.vid.VolKind.{VolKind}
-use Rattle.ubi_media.specs.declared.vid.VolKind.TheVariants as kind
+use Rattle.ubi_media.specs.Geometry.{leb_size}
+use Rattle.ubi_media.specs.Record.{usable}
 use Rattle.ubi_media.proofs.Records.{usable_some}
 use Rattle.ubi_scan.proofs.Filled.{length-blank}
 use Rattle.ubi_table.proofs.NoRecords.{no_entries}
@@ -25,7 +22,7 @@ use Rattle.ubi_volume.specs.declared.content.Volume.{Volume}
 use Rattle.ubi_volume.specs.declared.errors.MeaningCause.TheVariants as cause
 use Rattle.ubi_volume.proofs.Arranged.{fits_without_blank, keeps_no_blank}
 use Rattle.ubi_compose.specs.Built.{HaveMeaning, Parts, Reaches, built, content_of, item_of, items_of, text_of}
-use Rattle.ubi_compose.specs.inner.Building.{part_at, table_of}
+use Rattle.ubi_compose.specs.inner.Building.{table_of}
 use Rattle.ubi_compose.specs.declared.recipe.Part.{Part}
 use Rattle.ubi_compose.proofs.BuiltContents.{content_fits, text_size}
 use Rattle.ubi_compose.proofs.BuiltVolumes.{built_part, table_is, volume_in}

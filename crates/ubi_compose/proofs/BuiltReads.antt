@@ -1,5 +1,5 @@
 -- What volumes read that are built.
-use Rattle.std.proofs.Common.{◌≡◌, ◌==◌, ℕ, zero, suc, ◌+◌, ◌-◌, ◌*◌, ◌<◌, ◌≤◌, inl, inr, Bool, true, false, cond, not, List, [], ◌∷◌, ◌++◌, append-nil, length, length-append, length-drop, length-take-le, take, drop, refl, ap, sym, ◌∙◌, subst, arith, zero-add}
+use Rattle.std.proofs.Common.{◌≡◌, ◌==◌, ℕ, zero, suc, ◌+◌, ◌-◌, ◌*◌, ◌<◌, ◌≤◌, inl, inr, Bool, true, false, cond, not, List, [], ◌∷◌, ◌++◌, append-nil, length, length-drop, length-take-le, take, drop, refl, ap, sym, ◌∙◌, arith, zero-add}
 use Rattle.std.specs.Prelude.{Contains, Err, None, Ok, Option, Some, find, flat_map, option_map, slice_get, unwrap_or}
 use Rattle.std.specs.FinMap as finite
 use Rattle.std.specs.FinMap.{FinMap}

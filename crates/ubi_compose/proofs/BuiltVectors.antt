@@ -1,13 +1,11 @@
 -- What is built of parts on literals.
-use Rattle.std.proofs.Common.{◌≡◌, ℕ, false, List, [], ◌∷◌, ◌++◌, map, replicate, refl, ap, ◌∙◌}
-use Rattle.std.specs.Prelude.{None, Some}
+use Rattle.std.proofs.Common.{◌≡◌, false, [], ◌∷◌, refl}
 use Rattle.std.specs.FinMap as finite
 use Rattle.ubi_media.specs.Fields.{filled}
-use Rattle.ubi_media.specs.declared.record.VolumeRecord.{VolumeRecord}
 use Rattle.ubi_media.specs.declared.vid.VolKind.TheVariants as kind
 use Rattle.ubi_media.proofs.Words.{small}
 use Rattle.ubi_scan.proofs.Entries.{sorted_entries}
-use Rattle.ubi_compose.specs.Built.{Parts, item_of, lebs_of, most_blocks, text_of}
+use Rattle.ubi_compose.specs.Built.{lebs_of, most_blocks, text_of}
 use Rattle.ubi_compose.specs.BuiltLaws.{text_read}
 use Rattle.ubi_compose.specs.declared.recipe.Part.{Part}
 

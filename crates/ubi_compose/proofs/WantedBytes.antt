@@ -1,5 +1,5 @@
 -- What a writer received of bytes that a function gives of the source's.
-use Rattle.std.proofs.Common.{◌≡◌, ℕ, zero, suc, ◌+◌, ◌-◌, ◌<◌, ◌≤◌, List, ◌++◌, refl, ap, sym, ◌∙◌, subst, arith, zero-add}
+use Rattle.std.proofs.Common.{◌≡◌, ℕ, ◌+◌, ◌-◌, ◌<◌, List, ◌++◌, refl, ap, sym, ◌∙◌, arith, zero-add}
 use Rattle.std.specs.Prelude.{Option, flat_map}
 use Rattle.std.specs.List.{range_with_len}
 use Rattle.ubi_media.specs.Geometry.{Sizes}

@@ -1,6 +1,5 @@
 -- What building answers, and what the writer received then.
 use Rattle.std.specs.Prelude.{◌≡◌, ℕ, ◌+◌, ◌<◌, ◌≤◌, List, Contains, Option, Result, Ok, Err}
-use Rattle.std.specs.Io.KnownBytes.{Keeps}
 use Rattle.ubi_scan.specs.Source.{Agreed, Source, failed}
 use Rattle.ubi_volume.specs.Wrote.{First, NotAll, Wanted, Wrote}
 use Rattle.ubi_compose.specs.Composed.{composed}

@@ -12,7 +12,6 @@ use Rattle.ubi_media.specs.declared.vid.VolKind.{VolKind}
 use Rattle.ubi_media.specs.declared.vid.VolKind.TheVariants as kind
 use Rattle.ubi_scan.specs.Members.{layout}
 use Rattle.ubi_scan.specs.Source.{Agreed, Source}
-use Rattle.ubi_volume.specs.Made.{Items}
 use Rattle.ubi_volume.specs.Meant.{share}
 use Rattle.ubi_volume.specs.Wrote.{First, NotAll, Wanted, Wrote}
 use Rattle.ubi_volume.specs.declared.content.Content.{Content}

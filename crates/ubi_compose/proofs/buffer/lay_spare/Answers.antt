@@ -1,4 +1,4 @@
-use Rattle.std.proofs.Common.{◌≡◌, ◌-◌, ◌++◌, ◌∙◌, ap, length, sym}
+use Rattle.std.proofs.Common.{◌-◌, ◌++◌, ◌∙◌, ap, length, sym}
 use Rattle.ubi_media.specs.Ec.{ec_bytes}
 use Rattle.ubi_media.specs.Fields.{blank}
 use Rattle.ubi_scan.proofs.Filled.{filled-is}

@@ -1,7 +1,6 @@
-use Rattle.std.proofs.Common.{◌≡◌, ℕ, ◌+◌, ◌*◌, ◌<◌, ◌≤◌, ◌∙◌, List, length, refl, ap, sym, subst, arith}
+use Rattle.std.proofs.Common.{◌≡◌, ℕ, ◌+◌, ◌*◌, ◌∙◌, List, length, refl, ap, sym, arith}
 use Rattle.ubi_media.specs.Geometry.{Sizes}
 use Rattle.ubi_scan.specs.inner.Held.{anything, sound}
-use Rattle.ubi_volume.specs.Wrote.{All}
 use Rattle.ubi_volume.proofs.Received.{wrote_cut, wrote_text}
 use Rattle.ubi_compose.specs.Building.{those}
 use Rattle.ubi_compose.specs.Built.{Parts}

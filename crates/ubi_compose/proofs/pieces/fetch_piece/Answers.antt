@@ -1,4 +1,4 @@
-use Rattle.std.proofs.Common.{◌≡◌, ℕ, ◌+◌, ◌-◌, ◌*◌, ◌<◌, ◌≤◌, ◌∙◌, ap, List, ◌++◌, length, length-drop, length-take-le, take, drop, slice_range, refl, sym, arith}
+use Rattle.std.proofs.Common.{◌≡◌, ℕ, ◌+◌, ◌-◌, ◌*◌, ◌≤◌, ◌∙◌, ap, List, ◌++◌, length, length-drop, length-take-le, take, drop, slice_range, sym, arith}
 use Rattle.std.specs.Prelude.{min}
 use Rattle.ubi_media.proofs.Records.{usable_some}
 use Rattle.ubi_media.specs.Geometry.{Sizes}

@@ -1,8 +1,7 @@
-use Rattle.std.proofs.Common.{◌≡◌, ℕ, ◌+◌, ◌-◌, ◌≤◌, List, ◌∙◌, ap, length, take, drop, subst, sym, arith}
+use Rattle.std.proofs.Common.{◌≡◌, ℕ, List, ◌∙◌, ap, take, drop, sym, arith}
 use Rattle.std.proofs.lemmas.Result.{err_from_is_err_and}
 use Rattle.ubi_media.specs.Geometry.{Sizes}
 use Rattle.ubi_scan.specs.inner.Held.{anything, sound}
-use Rattle.ubi_scan.specs.Source.{Source}
 use Rattle.ubi_volume.specs.Wrote.{All}
 use Rattle.ubi_volume.proofs.Narrowed.{wrote_where}
 use Rattle.ubi_compose.specs.Building.{those}
