@@ -9,7 +9,7 @@ mod table;
 mod volume;
 
 pub use change::update;
-pub use compose::is_same_build;
+pub use compose::{image_of_volumes, is_same_build};
 pub use media::erased;
 pub use scan::holder;
 pub use table::record_of;
