@@ -10,7 +10,7 @@ mod table;
 mod volume;
 
 pub use change::update;
-pub use compose::is_same_build;
+pub use compose::{image_of_volumes, is_same_build};
 pub use config::volume_count;
 pub use media::erased;
 pub use scan::holder;
