@@ -495,7 +495,7 @@ class Runner:
         folder, lines, files, lost = os.path.join(self.folder, "volumes"), [], {}, None
         for number, record in sorted(meaning.records.items()):
             name = rules.shown(record.name)
-            file = f"{number}-{name.replace('/', '\\x2f')}"
+            file = f"{number}-" + name.replace("/", "\\x2f")
             try:
                 text = meaning.read_volume(number)
             except Refused as refused:
