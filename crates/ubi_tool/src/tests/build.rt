@@ -120,7 +120,7 @@ static REFUSED: [(&[u8], Contents, (&str, u8)); 13] = [
     (
         b"[a]\nmode=ubi\nvol_id=0\nvol_name=root\nvol_type=static\nimage=new.bin\n[b]\nmode=ubi\nvol_id=1\nvol_name=root\n",
         CONTENT,
-        ("refused I10 SameName line=9\n", 1),
+        ("refused I10 SameName line=10\n", 1),
     ),
 ];
 
