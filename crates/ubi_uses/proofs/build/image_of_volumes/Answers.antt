@@ -4,7 +4,7 @@ use Rattle.ubi_scan.specs.Image.{image_of}
 use Rattle.ubi_volume.specs.Accepts.{Accepts}
 use Rattle.ubi_compose.specs.Built.{Parts, built}
 use Rattle.ubi_compose.specs.Composed.{composed}
-use Rattle.ubi_uses.proofs.compose.image_of_volumes.Goals as goal
+use Rattle.ubi_uses.proofs.build.image_of_volumes.Goals as goal
 
 pub returns : goal.returns
 returns c =
