@@ -3,7 +3,7 @@ _ubi_tool() {
     local word=${COMP_WORDS[COMP_CWORD]} words=
     COMPREPLY=()
     if [ "$COMP_CWORD" -eq 1 ]; then
-        mapfile -t COMPREPLY < <(compgen -W 'geometry list check show extract compose normalise same change rename --help --version' -- "$word")
+        mapfile -t COMPREPLY < <(compgen -W 'geometry list check show extract unpack compose build normalise same change rename --help --version' -- "$word")
         return
     fi
     case ${COMP_WORDS[1]} in
@@ -12,7 +12,9 @@ _ubi_tool() {
         check) words='--peb --page --vid --data --pebs --help' ;;
         show) words='--block --peb --page --vid --data --pebs --help' ;;
         extract) words='--out --id --name --peb --page --vid --data --pebs --help' ;;
+        unpack) words='--out --peb --page --vid --data --pebs --help' ;;
         compose) words='--out --spares --seq --peb --page --vid --data --pebs --help' ;;
+        build) words='--out --spares --seq --peb --page --vid --data --pebs --help' ;;
         normalise) words='--out --peb --page --vid --data --pebs --help' ;;
         same) words='--peb --page --vid --data --pebs --help' ;;
         change) words='--out --id --lnum --from --stop --peb --page --vid --data --pebs --help' ;;

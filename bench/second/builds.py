@@ -8,6 +8,8 @@ which are 0xFF at their end or throughout. Its keys stand in a random order and 
 remarks. Two of three configs are then changed up to three times: a line, a byte, a value or a name. Of each config `build`, also with spares
 and an image sequence number, has to print the line of the first cause and write nothing; or to write what the rules give, byte for
 byte. Then `unpack` of that gives what the files hold, and 0xFF behind it.
+Before these come hostile files: configs of a million lines, image files that are the output, by another path and by links too, or a folder or a
+pipe; and for `unpack` folders that are links, that hold a link, or are files, and names that would lead out of the folder.
 
 Without words there are 500 configs (--count) of the seed 1 (--seed). They lie in a new folder below FOLDER (/tmp where it is left out),
 which is removed again. Without --tool the program is built first where it isn't yet. Each cause is counted. The last line is
@@ -20,7 +22,7 @@ import re
 import config
 import rules
 import text_rules
-from fuzz import SIZES, Failure, Runner, built, far, finish, given, options, run_cases
+from fuzz import ROOT, SIZES, Failure, Runner, built, far, finish, given, options, run_cases
 from rules import Geometry, Meaning, Refused
 
 SEQS = (0, 1, 0x12345678, 0xFFFFFFFF)
@@ -200,10 +202,85 @@ class Case(Runner):
         return "built"
 
 
+class Hostile(Runner):
+    """Files that are hostile, and what is to be answered of them."""
+
+    def __init__(self, tool, folder):
+        super().__init__(tool, folder, Geometry(*SIZES[0], 1048576))
+        self.config = b"[a]\nmode=ubi\nvol_id=0\nvol_name=a\nimage=%s\n"
+
+    def path(self, name):
+        return os.path.join(self.folder, name)
+
+    def look(self):
+        self.put("content", b"content")
+        for look in (self.long_configs, self.outputs, self.images, self.folders, self.names):
+            look()
+
+    def build(self, config, line, status, written=None, out=None):
+        self.expect(["build", self.put("config", config), "--out", out or self.out], line, status, written)
+
+    def long_configs(self):
+        records = {0: rules.Record(1, 1, 1, 0, b"a", 0)}
+        image = rules.normal_image(Meaning(self.geometry, 0, records, {0: {0: b"content".ljust(384, b"\xFF")}}))
+        self.build(b"# remark\n" * 1_000_000 + self.config % b"content", "blocks 3\n", 0, image)
+        self.build(b"\n" * 1_000_000 + b"x\n", "refused I2 Form line=1000001\n", 1)
+        self.build(b"[a]\n" * 1_000_000, "refused I7 Again line=2\n", 1)
+        self.build(b"".join(b"[%d]\n" % k for k in range(1_000_000)), "refused I8 TooMany line=129\n", 1)
+        self.build(b"x" * 1_000_000, "refused I1 Line line=1\n", 1)
+
+    def outputs(self):
+        """The output is the image file: by its path, by another, by links."""
+        content = self.path("content")
+        os.symlink(content, self.path("soft"))
+        os.link(content, self.path("hard"))
+        for name in ("content", "./content", "soft", "hard"):
+            self.build(self.config % b"content", f"cannot read {content}\n", 1, out=self.path(name))
+            self.build(self.config % name.encode(), f"cannot read {self.path(name)}\n", 1, out=content)
+        with open(content, "rb") as file:
+            if file.read() != b"content":
+                raise Failure("an image file is lost that is the output, too")
+
+    def images(self):
+        os.mkfifo(self.path("pipe"))
+        for name in ("pipe", ".", "..", "no/such", "missing", "/dev/zero", "/dev/null", "/"):
+            path = name if name.startswith("/") else f"{self.folder}/{name}"
+            self.build(self.config % name.encode(), f"cannot read {path}\n", 1)
+
+    def unpack(self, image, folder, lines, status):
+        self.expect(["unpack", image, "--out", folder], lines, status)
+
+    def folders(self):
+        image = os.path.join(ROOT, "crates", "ubi_tool", "data", "root.img")
+        empty, link, full = self.path("empty"), self.path("link"), self.path("full")
+        os.mkdir(empty)
+        os.symlink(empty, link)
+        os.mkdir(full)
+        os.symlink(self.path("nowhere"), os.path.join(full, "0-root"))
+        for folder in (link, full, self.path("content"), self.path("pipe"), self.path("no/such"), "", "/dev/null"):
+            self.unpack(image, folder, f"cannot write {folder}\n", 1)
+        if os.listdir(empty) or os.path.exists(self.path("nowhere")):
+            raise Failure("a link is followed")
+        self.unpack(image, link + "/", "volume 0 bytes=7680 name=root\n", 0)
+        self.unpack(image, empty, f"cannot write {empty}\n", 1)
+        os.remove(os.path.join(empty, "0-root"))
+        self.unpack(image, empty, "volume 0 bytes=7680 name=root\n", 0)
+
+    def names(self):
+        """Each byte in a name, and names that would lead elsewhere."""
+        for name in (*(bytes([byte]) for byte in range(1, 256)), b"..", b"../../x", b"/etc/x", b"a/b", b"-", b"./a", b"a" * 127, b"\xFF" * 63):
+            records = {0: rules.Record(1, 1, 1, 0, name, 0)}
+            meant = Meaning(self.geometry, 0, records, {0: {}})
+            self.look_unpacked(self.put("named", rules.normal_image(meant)), meant)
+
+
 def main():
     words = options(__doc__, 500)
     tool = built(words.tool)
-    answers, failed = run_cases(words, {"": (lambda rng, folder: Case(rng, tool, folder).look(), words.count)})
+    answers, failed = run_cases(words, {
+        "": (lambda rng, folder: Case(rng, tool, folder).look(), words.count),
+        "hostile": (lambda rng, folder: Hostile(tool, folder).look() or "hostile", 1),
+    })
     for cause, count in sorted(collections.Counter(re.sub(r"=\d+", "", answer) for answer in answers).items()):
         print(f"{count:>6} {cause}")
     finish(len(answers), failed)

@@ -60,6 +60,18 @@ def built(tool=None):
     return tool or TOOL
 
 
+def taken(folder):
+    """What the files of a folder hold, which is removed; None where there is none."""
+    if not os.path.exists(folder):
+        return None
+    files = {}
+    for name in os.listdir(folder):
+        with open(os.path.join(folder, name), "rb") as file:
+            files[name] = file.read()
+    shutil.rmtree(folder)
+    return files
+
+
 def far(rng, number):
     """A number that is far above another one, or the largest."""
     return rng.choice((*(number + step for step in FAR), 2**32 - 1))
@@ -495,7 +507,7 @@ class Runner:
         folder, lines, files, lost = os.path.join(self.folder, "volumes"), [], {}, None
         for number, record in sorted(meaning.records.items()):
             name = rules.shown(record.name)
-            file = f"{number}-{name.replace('/', '\\x2f')}"
+            file = f"{number}-" + name.replace("/", "\\x2f")
             try:
                 text = meaning.read_volume(number)
             except Refused as refused:
@@ -508,13 +520,9 @@ class Runner:
                 files[file] = text
         status = int(bool(lost) or any("bytes=" not in line.split(" name=")[0] for line in lines))
         self.expect(["unpack", path, "--out", folder], f"cannot write {folder}/{lost}\n" if lost else "".join(lines), status)
-        came = {}
-        for file in os.listdir(folder):
-            with open(os.path.join(folder, file), "rb") as opened:
-                came[file] = opened.read()
         if files:
             self.expect(["unpack", path, "--out", folder], f"cannot write {folder}\n", 1)
-        shutil.rmtree(folder)
+        came = taken(folder)
         if came != files:
             raise Failure(f"unpack writes {sorted(came)} where {sorted(files)} with their contents is right")
 

@@ -1,7 +1,7 @@
 #!/bin/sh
 # Refuses each growth of memory in turn: of the scan, of detecting a geometry, of reading a table and renaming a volume of it,
-# of attaching and reading, of planning a rename and a change, of reading a config and the composer's text, and of the commands over bytes and
-# by their words.
+# of attaching and reading, of planning a rename and a change, of reading a config and the composer's text, of building an image, and of the
+# commands over bytes and by their words.
 #
 # usage: bench/second/refuse.sh [CRATE TEST]
 #
@@ -57,6 +57,7 @@ refuse_each ubi_volume tests::memory::reads_all_or_runs_out_of_memory || wrong=1
 refuse_each ubi_change tests::memory::plans_all_or_runs_out_of_memory || wrong=1
 refuse_each ubi_config tests::sections::gives_the_sections_or_runs_out_of_memory || wrong=1
 refuse_each ubi_compose tests::memory::reads_all_or_runs_out_of_memory || wrong=1
+refuse_each ubi_compose tests::memory::builds_all_or_runs_out_of_memory || wrong=1
 refuse_each ubi_tool tests::memory::tells_all_or_runs_out_of_memory || wrong=1
 refuse_each ubi_tool tests::memory::runs_words_or_out_of_memory || wrong=1
 exit $wrong

@@ -5,7 +5,7 @@ usage: starve.py [--seed N] [--count N] [--first N] [--dir FOLDER] [--tool PROGR
 
 The images are those of fuzz.py that are accepted. Each command is run over an image again and again: of the first run the
 first growth is refused, of the second the second, and so on until a run meets no refusal. Each run that meets one has to
-print `out of memory` with the status 1, and to leave the output file as it was: not there. The last one has to answer as
+print `out of memory` with the status 1, and to leave the output as it was: no file, and no folder. The last one has to answer as
 with ample memory. bench/second/refuse.sh does the same with the program's tests.
 
 Without words there are 20 images (--count) of the seed 1 (--seed). They lie in a new folder below FOLDER (/tmp where it is
@@ -19,7 +19,7 @@ import subprocess
 import tempfile
 
 import rules
-from fuzz import ROOT, Case, Failure, Maker, built, finish, options, sized
+from fuzz import ROOT, Case, Failure, Maker, built, finish, options, sized, taken
 
 
 def refusing(folder):
@@ -29,8 +29,27 @@ def refusing(folder):
     return library
 
 
+CONFIG = """[a]
+mode=ubi
+vol_id=0
+vol_name=a
+vol_type=static
+image=new
+[b]
+mode=ubi
+vol_id=1
+vol_name=b
+vol_size=1KiB
+image=new
+"""
+
+
 class Starved(Case):
     """An accepted image, and the commands over it."""
+
+    def __init__(self, rng, tool, folder, maker):
+        super().__init__(rng, tool, folder, maker)
+        self.volumes = os.path.join(folder, "volumes")
 
     def commands(self, image):
         other = self.put("other", rules.normal_image(image))
@@ -42,6 +61,8 @@ class Starved(Case):
         yield ["extract", self.path, "--id", number, "--out", self.out]
         for record in list(image.records.values())[:1]:
             yield ["extract", self.path, f"--name={rules.shown(record.name)}", "--out", self.out]
+        yield ["unpack", self.path, "--out", self.volumes]
+        yield ["build", self.put("config", CONFIG.encode()), "--out", self.out]
         yield ["normalise", self.path, "--out", self.out]
         yield self.compose_words(image, 1)
         yield ["change", self.path, "--id", number, "--lnum", "0", "--from", new, "--out", self.out]
@@ -49,7 +70,8 @@ class Starved(Case):
 
     def run(self, words, **environment):
         ran = subprocess.run([self.tool, *sized(words, self.geometry)], capture_output=True, env={**os.environ, **environment})
-        return ran.stdout, ran.returncode, self.written(), b"refused a growth" in ran.stderr
+        left = taken(self.volumes) if words[0] == "unpack" else self.written()
+        return ran.stdout, ran.returncode, left, b"refused a growth" in ran.stderr
 
     def starve(self, words, library):
         """Refuses each growth of a run. Gives how many there are."""

@@ -1,5 +1,6 @@
 #!/usr/bin/env python3
-"""Measures `./ubi_tool geometry`, `check`, `list` and `same` against `cat` of the same file, and `extract` against `cp`.
+"""Measures `./ubi_tool geometry`, `check`, `list` and `same` against `cat` of the same file, `extract` and `unpack` against `cp` of it, and
+`build` against `cp` of what `extract` writes.
 
 usage: reading.py [--dir FOLDER] [--blocks N] [--tool PROGRAM]
 
@@ -8,15 +9,33 @@ They lie in a new folder below FOLDER (/tmp where it is left out), which is remo
 built first where it isn't yet. `same` compares an image with itself, and reads it twice; so does the `cat` that it is
 measured against.
 
-It prints the seconds of each, as they pass and of the processor (user and system), the least of five runs, and the peak of
+`build` makes an image of a config with the one volume, whose contents are those. It prints the seconds of each, as they pass and of the processor (user and system), the least of five runs, and the peak of
 memory, which needs GNU time. It ends with status 1 where a command takes more than 8 MiB of memory, or where `check` takes
 longer than `cat` as it passes.
 """
+import subprocess
 import sys
 
 from normalise import PAGE, PEB, ROOM, options, over_images
 
 MOST = 1
+CONFIG = """[volume]
+mode=ubi
+vol_id=0
+vol_name=volume
+vol_type={}
+image={}
+"""
+
+
+def built(tool, path, sizes):
+    """Writes what the volume of an image reads, and a config of it, beside the image. Gives both paths."""
+    content, config = f"{path}.content", f"{path}.ini"
+    subprocess.run([tool, "extract", path, "--id", "0", "--out", content, *sizes], check=True, stdout=subprocess.DEVNULL)
+    listed = subprocess.run([tool, "list", path, *sizes], check=True, capture_output=True, text=True).stdout
+    with open(config, "w", encoding="ascii") as file:
+        file.write(CONFIG.format("static" if " static " in listed else "dynamic", content))
+    return content, config
 
 
 def main():
@@ -24,6 +43,8 @@ def main():
     sizes = ["--peb", str(PEB), "--page", str(PAGE)]
 
     def runs(path, out):
+        content, config = built(tool, path, sizes)
+        volumes = f"{path}.volumes"
         return {
             "cat": ["cat", path],
             "geometry": [tool, "geometry", path],
@@ -33,11 +54,14 @@ def main():
             "same": [tool, "same", path, path, *sizes],
             "cp": ["cp", path, out],
             "extract": [tool, "extract", path, "--id", "0", "--out", out, *sizes],
+            "unpack": ["sh", "-c", f"rm -rf {volumes} && exec {tool} unpack {path} --out {volumes} {' '.join(sizes)}"],
+            "cp of contents": ["cp", content, out],
+            "build": [tool, "build", config, "--out", out, *sizes],
         }
 
     above = False
     for _, ran in over_images(place, count, runs):
-        above |= any(ran[name][2] > ROOM for name in ("geometry", "check", "list", "same", "extract"))
+        above |= any(ran[name][2] > ROOM for name in ("geometry", "check", "list", "same", "extract", "unpack", "build"))
         above |= ran["check"][0] > MOST * ran["cat"][0]
     sys.exit(1 if above else 0)
 

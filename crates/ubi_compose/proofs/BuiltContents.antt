@@ -1,5 +1,5 @@
 -- What a volume holds that a text was written to: its LEBs, and whether its record allows it.
-use Rattle.std.proofs.Common.{◌≡◌, ◌==◌, ℕ, ◌+◌, ◌-◌, ◌*◌, ◌<◌, ◌≤◌, true, false, List, length, length-drop, length-take-le, take, drop, refl, ap, sym, ◌∙◌, subst, arith, inl, inr, zero-add}
+use Rattle.std.proofs.Common.{◌≡◌, ◌==◌, ℕ, ◌+◌, ◌*◌, ◌<◌, ◌≤◌, false, List, length, length-drop, length-take-le, drop, refl, ap, sym, ◌∙◌, subst, arith, inl, inr, zero-add}
 use Rattle.std.specs.Prelude.{IfSome, None, Option, Some, find, option_map}
 use Rattle.std.specs.FinMap as finite
 use Rattle.std.specs.List.{range_with_len}
@@ -32,12 +32,14 @@ module _ (size : ℕ) (text : List ℕ) where
   count = pieces size (length text)
 
   made : (lnum : ℕ) → finite.get (lebs_of size text) lnum
-      ≡ option_map (λ (e : ℕ × List ℕ). e.1) (option_map (λ (l : ℕ). (l, leb_of l)) (find (λ l. l == lnum) (range_with_len 0 count)))
+      ≡ option_map (λ (e : ℕ × List ℕ). e.1) (option_map (λ (l : ℕ). (l, leb_of l))
+      (find (λ l. l == lnum) (range_with_len 0 count)))
   made lnum = get_made (λ (l : ℕ). (l, leb_of l)) (range_with_len 0 count) lnum
 
   -- a LEB holds its piece
   pub leb_there : (lnum : ℕ) → lnum < count → finite.get (lebs_of size text) lnum ≡ Some (leb_of lnum)
-  leb_there lnum below = made lnum ∙ ap (λ o. option_map (λ (e : ℕ × List ℕ). e.1) (option_map (λ (l : ℕ). (l, leb_of l)) o))
+  leb_there lnum below = made lnum ∙ ap (λ o. option_map (λ (e : ℕ × List ℕ). e.1)
+      (option_map (λ (l : ℕ). (l, leb_of l)) o))
       (find_in_range 0 count lnum (omega arith) (let e = zero-add count in omega (arith, e, below)))
 
   -- and there are no others
@@ -73,7 +75,8 @@ module _ (s : Sizes) (r : VolumeRecord) (some : 1 ≤ usable s r) (text : List �
       )
 
   -- and none for which they don't
-  pub long_misfits : (k : VolKind) → r.reserved * usable s r < length text → Fits s r (content_of k (usable s r) text) → ⊥
+  pub long_misfits : (k : VolKind) → r.reserved * usable s r < length text → Fits s r (content_of k (usable s r) text)
+      → ⊥
   long_misfits kind.Static long fits = let few = fits.2 in omega arith
   long_misfits kind.Dynamic long fits =
       let more : r.reserved < pieces size (length text) = elim (within_or_past (pieces size (length text)) r.reserved) [

@@ -1,5 +1,5 @@
 -- What is built is a meaning, and its normal image has room where all pieces have.
-use Rattle.std.proofs.Common.{◌≡◌, ℕ, ◌+◌, ◌*◌, ◌<◌, ◌≤◌, true, false, Bool, inl, inr, List, [], ◌∷◌, length, map, refl, ap, sym, ◌∙◌, subst, arith}
+use Rattle.std.proofs.Common.{◌≡◌, ℕ, ◌+◌, ◌≤◌, true, false, Bool, inl, inr, List, [], ◌∷◌, length, map, refl, ap, sym, ◌∙◌, subst, arith}
 use Rattle.std.specs.Prelude.{IfSome, None, Option, Some, slice_get, sum_by}
 use Rattle.std.specs.Cmp.{nat_cmp_total}
 use Rattle.std.specs.FinMap as finite
@@ -11,11 +11,8 @@ use Rattle.std.proofs.lemmas.Bool.{cases_order}
 use Rattle.std.proofs.lemmas.List.Sums.{sum_by-cons}
 use Rattle.std.proofs.lemmas.Option.{same_Some}
 use Rattle.ubi_media.specs.Fields.{blank}
-use Rattle.ubi_media.specs.Geometry.{Sizes, leb_size}
-use Rattle.ubi_media.specs.Record.{rec_fault, usable}
-use Rattle.ubi_media.specs.declared.record.VolumeRecord.{VolumeRecord}
-use Rattle.ubi_media.specs.declared.vid.VolKind.{VolKind}
-use Rattle.ubi_media.specs.declared.vid.VolKind.TheVariants as kind
+use Rattle.ubi_media.specs.Geometry.{leb_size}
+use Rattle.ubi_media.specs.Record.{usable}
 use Rattle.ubi_media.proofs.Records.{usable_some}
 use Rattle.ubi_scan.proofs.Filled.{length-blank}
 use Rattle.ubi_table.proofs.NoRecords.{no_entries}
@@ -25,7 +22,7 @@ use Rattle.ubi_volume.specs.declared.content.Volume.{Volume}
 use Rattle.ubi_volume.specs.declared.errors.MeaningCause.TheVariants as cause
 use Rattle.ubi_volume.proofs.Arranged.{fits_without_blank, keeps_no_blank}
 use Rattle.ubi_compose.specs.Built.{HaveMeaning, Parts, Reaches, built, content_of, item_of, items_of, text_of}
-use Rattle.ubi_compose.specs.inner.Building.{part_at, table_of}
+use Rattle.ubi_compose.specs.inner.Building.{table_of}
 use Rattle.ubi_compose.specs.declared.recipe.Part.{Part}
 use Rattle.ubi_compose.proofs.BuiltContents.{content_fits, text_size}
 use Rattle.ubi_compose.proofs.BuiltVolumes.{built_part, table_is, volume_in}
@@ -59,7 +56,8 @@ module _ (ps : Parts) (h : HaveMeaning ps) (bytes : List ℕ) (reaches : Reaches
   none : NoCause ps.sizes (items_of ps.sizes bytes ps.of)
   none = h.none bytes reaches
 
-  here : (i : ℕ) (p : Part) → slice_get ps.of i ≡ Some p → IsItem (items_of ps.sizes bytes ps.of) i (item_of ps.sizes bytes p)
+  here : (i : ℕ) (p : Part) → slice_get ps.of i ≡ Some p
+      → IsItem (items_of ps.sizes bytes ps.of) i (item_of ps.sizes bytes p)
   here i p at = item_at (item_of ps.sizes bytes) ps.of i p at
 
   -- no record has the update marker
@@ -113,8 +111,14 @@ module _ (ps : Parts) (h : HaveMeaning ps) (bytes : List ℕ) (reaches : Reaches
         | inr other ↦ elim other [
           | inl l ↦ absurd (none (cause.SameName b.0 a.0)
               (item_of ps.sizes bytes q.0, item_of ps.sizes bytes p.0, here b.0 q.0 b.1, here a.0 p.0 a.1, l, alike))
-          | inr l ↦ absurd (none (cause.SameName a.0 b.0)
-              (item_of ps.sizes bytes p.0, item_of ps.sizes bytes q.0, here a.0 p.0 a.1, here b.0 q.0 b.1, l, sym alike))
+          | inr l ↦ absurd (none (cause.SameName a.0 b.0) (
+            item_of ps.sizes bytes p.0,
+            item_of ps.sizes bytes q.0,
+            here a.0 p.0 a.1,
+            here b.0 q.0 b.1,
+            l,
+            sym alike,
+          ))
         ]
       ] in
       sym of_p.1 ∙ ap (λ (z : Part). z.id) one ∙ of_q.1
@@ -122,16 +126,19 @@ module _ (ps : Parts) (h : HaveMeaning ps) (bytes : List ℕ) (reaches : Reaches
   abbrev reserved : ℕ × Volume → ℕ
   reserved e = e.1.entry.reserved
 
-  sum_values : (es : List (ℕ × Volume)) → sum_by (λ (v : Volume). v.entry.reserved) (map (λ (e : ℕ × Volume). e.1) es) ≡ sum_by reserved es
+  sum_values : (es : List (ℕ × Volume)) → sum_by (λ (v : Volume). v.entry.reserved) (map (λ (e : ℕ × Volume). e.1) es)
+      ≡ sum_by reserved es
   sum_values [] = refl
   sum_values (e ∷ es) = sum_by-cons (λ (v : Volume). v.entry.reserved) e.1 (map (λ (e : ℕ × Volume). e.1) es)
       ∙ ap (λ n. e.1.entry.reserved + n) (sum_values es) ∙ sym (sum_by-cons reserved e es)
 
   sum_parts : (parts : List Part)
-      → sum_by reserved (map item_without_blank (items_of ps.sizes bytes parts)) ≡ sum_by (λ (p : Part). p.entry.reserved) parts
+      → sum_by reserved (map item_without_blank (items_of ps.sizes bytes parts))
+      ≡ sum_by (λ (p : Part). p.entry.reserved) parts
   sum_parts [] = refl
   sum_parts (p ∷ parts) =
-      sum_by-cons reserved (item_without_blank (item_of ps.sizes bytes p)) (map item_without_blank (items_of ps.sizes bytes parts))
+      sum_by-cons reserved (item_without_blank (item_of ps.sizes bytes p))
+      (map item_without_blank (items_of ps.sizes bytes parts))
       ∙ ap (λ n. p.entry.reserved + n) (sum_parts parts) ∙ sym (sum_by-cons (λ (p : Part). p.entry.reserved) p parts)
 
   pub built_meaning : IsMeaning (built ps bytes)

@@ -1,5 +1,5 @@
 -- What volumes read that are built.
-use Rattle.std.proofs.Common.{◌≡◌, ◌==◌, ℕ, zero, suc, ◌+◌, ◌-◌, ◌*◌, ◌<◌, ◌≤◌, inl, inr, Bool, true, false, cond, not, List, [], ◌∷◌, ◌++◌, append-nil, length, length-append, length-drop, length-take-le, take, drop, refl, ap, sym, ◌∙◌, subst, arith, zero-add}
+use Rattle.std.proofs.Common.{◌≡◌, ◌==◌, ℕ, zero, suc, ◌+◌, ◌-◌, ◌*◌, ◌<◌, ◌≤◌, inl, inr, Bool, true, false, cond, not, List, [], ◌∷◌, ◌++◌, append-nil, length, length-drop, length-take-le, take, drop, refl, ap, sym, ◌∙◌, arith, zero-add}
 use Rattle.std.specs.Prelude.{Contains, Err, None, Ok, Option, Some, find, flat_map, option_map, slice_get, unwrap_or}
 use Rattle.std.specs.FinMap as finite
 use Rattle.std.specs.FinMap.{FinMap}
@@ -78,10 +78,12 @@ module _ (size reserved : ℕ) (some : 1 ≤ size) (text : List ℕ) (fits : len
   leb_is lnum below =
       let m : ℕ = reserved * size - length text in
       let k : ℕ = lnum * size in
-      let within : (lnum + 1) * size ≤ reserved * size = mul-le (lnum + 1) size reserved size (omega arith) (omega arith) in
+      let within : (lnum + 1) * size ≤ reserved * size = mul-le (lnum + 1) size reserved size (omega arith)
+      (omega arith) in
       let next : (lnum + 1) * size ≡ k + size = omega arith in
       ap (λ xs. take size (drop k xs)) (filled-is (reserved * size) text)
-      ∙ elim (within_or_past k (length text)) as (λ _. take size (drop k (text ++ blank m)) ≡ filled size (take size (drop k text))) [
+      ∙ elim (within_or_past k (length text)) as
+      (λ _. take size (drop k (text ++ blank m)) ≡ filled size (take size (drop k text))) [
         | inl few ↦ ap (take size) (drop-append-le k text (blank m) few)
             ∙ take_filled size m (drop k text) (let n = length-drop k text in omega (arith, n, within, next, few))
         | inr past ↦ behind m k refl past within next
@@ -113,15 +115,18 @@ module _ (size reserved : ℕ) (some : 1 ≤ size) (text : List ℕ) (fits : len
       by None e = refl
       by (Some x) e = absurd (let l = leb_within size text lnum x e in omega (arith, l, past))
 
-  reads_leb : (lnum : ℕ) → lnum < reserved → leb_text size (finite.get (lebs_without_blank made) lnum) ≡ share size all lnum
+  reads_leb : (lnum : ℕ) → lnum < reserved → leb_text size (finite.get (lebs_without_blank made) lnum)
+      ≡ share size all lnum
   reads_leb lnum below =
       ap (leb_text size) (get_without_blank made lnum)
-      ∙ elim (within_or_past (pieces size (length text)) lnum) as (λ _. leb_text size (cond (is_kept made lnum) (finite.get made lnum) None)
+      ∙ elim (within_or_past (pieces size (length text)) lnum) as
+      (λ _. leb_text size (cond (is_kept made lnum) (finite.get made lnum) None)
       ≡ filled size (share size text lnum)) [
         | inl past ↦
             let none : share size text lnum ≡ [] =
             ap (take size) (drop_all (lnum * size) text (let suffice = pieces_suffice size some (length text) in
-            let more = mul-le (pieces size (length text)) size lnum size past (omega arith) in omega (arith, suffice, more)))
+            let more = mul-le (pieces size (length text)) size lnum size past (omega arith) in
+            omega (arith, suffice, more)))
             ∙ take_none size in
             ap (λ o. leb_text size (cond (not (is_blank (unwrap_or o []))) o None)) (none_there lnum past)
             ∙ sym (filled-none size) ∙ ap (filled size) (sym none)
@@ -194,7 +199,8 @@ module _ (ps : Parts) (bytes : List ℕ) (p : Part) (h : HaveMeaning ps) (reache
   size_of : length (text_of bytes p) ≡ p.len
   size_of = text_size bytes p (reached (length bytes) ps.of here.0 p reaches here.1)
 
-  reads : (k : VolKind) → volume_read ps.sizes p.entry (without_blank (content_of k (usable ps.sizes p.entry) (text_of bytes p)))
+  reads : (k : VolKind) → volume_read ps.sizes p.entry
+      (without_blank (content_of k (usable ps.sizes p.entry) (text_of bytes p)))
       ≡ Ok (text_read k (p.entry.reserved * usable ps.sizes p.entry) (text_of bytes p))
   reads kind.Static = refl
   reads kind.Dynamic = ap Ok (reads_all (usable ps.sizes p.entry) p.entry.reserved

@@ -1,8 +1,8 @@
 -- The normal image of what is built has room where the table, all pieces and the spares have, and is accepted then.
-use Rattle.std.proofs.Common.{◌≡◌, ℕ, zero, suc, ◌+◌, ◌<◌, ◌≤◌, List, [], ◌∷◌, length, map, refl, ap, sym, ◌∙◌, subst, arith}
-use Rattle.std.specs.Prelude.{Option, Some, flat_map, slice_get, sum_by}
+use Rattle.std.proofs.Common.{◌≡◌, ℕ, suc, ◌+◌, ◌<◌, ◌≤◌, List, [], ◌∷◌, length, map, refl, ap, sym, ◌∙◌, arith}
+use Rattle.std.specs.Prelude.{Some, slice_get, sum_by}
 use Rattle.std.specs.FinMap as finite
-use Rattle.std.specs.List.{AllByRecursion, range_with_len}
+use Rattle.std.specs.List.{AllByRecursion}
 use Rattle.std.proofs.lemmas.List.{length-map}
 use Rattle.std.proofs.lemmas.List.Concat.{length-flat_map}
 use Rattle.std.proofs.lemmas.List.FromFn.{length-map-range_with_len}
@@ -39,14 +39,16 @@ count_same s k l r content.Updating = refl
 count_same s k l r content.Damaged = refl
 count_same s k l r (content.Static text) =
     length-map-range_with_len (static_part (data_pad s r) (usable s r) k text) 0 (pieces (usable s r) (length text))
-    ∙ sym (length-map-range_with_len (static_part (data_pad s r) (usable s r) l text) 0 (pieces (usable s r) (length text)))
+    ∙ sym (length-map-range_with_len (static_part (data_pad s r) (usable s r) l text) 0
+    (pieces (usable s r) (length text)))
 count_same s k l r (content.Dynamic lebs) =
     length-map (finite.entries lebs) (dynamic_block (data_pad s r) k)
     ∙ sym (length-map (finite.entries lebs) (dynamic_block (data_pad s r) l))
 
 -- the volume of a part has no more eraseblocks than pieces
 module _ (ps : Parts) (bytes : List ℕ) (p : Part) (reaches : p.start + p.len ≤ length bytes) where
-  few_kept : length (finite.entries (kept ps bytes p reaches)) ≤ pieces (usable ps.sizes p.entry) (length (text_of bytes p))
+  few_kept : length (finite.entries (kept ps bytes p reaches)) ≤ pieces (usable ps.sizes p.entry)
+      (length (text_of bytes p))
   few_kept =
       let lebs = kept ps bytes p reaches in
       let es = finite.entries lebs in
@@ -55,7 +57,8 @@ module _ (ps : Parts) (bytes : List ℕ) (p : Part) (reaches : p.start + p.len �
       within ps bytes p reaches e.0 e.1 (held_entry lebs e at)) in
       let from : AllByRecursion (λ (e : ℕ × List ℕ). 0 ≤ e.0) es =
       all_from (λ (e : ℕ × List ℕ). 0 ≤ e.0) es (λ e at. omega arith) in
-      let few = few_rising (λ (e : ℕ × List ℕ). e.0) es 0 n (omega arith) (entries_rise es (finite.entries_sorted lebs)) from below in
+      let few = few_rising (λ (e : ℕ × List ℕ). e.0) es 0 n (omega arith)
+      (entries_rise es (finite.entries_sorted lebs)) from below in
       omega arith
 
   few_of : (k : VolKind) → length (volume_blocks ps.sizes p.id p.entry
@@ -84,7 +87,8 @@ module _ (ps : Parts) (h : HaveMeaning ps) (bytes : List ℕ) (reaches : Reaches
   few_listed (p ∷ parts) each =
       let one = few_of ps bytes p (each 0 p refl) p.entry.kind in
       let rest = few_listed parts (λ i q at. each (suc i) q at) in
-      let counts = sum_by-cons count (item_without_blank (item_of ps.sizes bytes p)) (map item_without_blank (items_of ps.sizes bytes parts)) in
+      let counts = sum_by-cons count (item_without_blank (item_of ps.sizes bytes p))
+      (map item_without_blank (items_of ps.sizes bytes parts)) in
       let pieces = sum_by-cons (pieces_of ps.sizes) p parts in
       omega (arith, one, rest, counts, pieces)
 

@@ -1,13 +1,11 @@
 -- What is built of parts on literals.
-use Rattle.std.proofs.Common.{◌≡◌, ℕ, false, List, [], ◌∷◌, ◌++◌, map, replicate, refl, ap, ◌∙◌}
-use Rattle.std.specs.Prelude.{None, Some}
+use Rattle.std.proofs.Common.{◌≡◌, false, [], ◌∷◌, refl}
 use Rattle.std.specs.FinMap as finite
 use Rattle.ubi_media.specs.Fields.{filled}
-use Rattle.ubi_media.specs.declared.record.VolumeRecord.{VolumeRecord}
 use Rattle.ubi_media.specs.declared.vid.VolKind.TheVariants as kind
 use Rattle.ubi_media.proofs.Words.{small}
 use Rattle.ubi_scan.proofs.Entries.{sorted_entries}
-use Rattle.ubi_compose.specs.Built.{Parts, item_of, lebs_of, most_blocks, text_of}
+use Rattle.ubi_compose.specs.Built.{lebs_of, most_blocks, text_of}
 use Rattle.ubi_compose.specs.BuiltLaws.{text_read}
 use Rattle.ubi_compose.specs.declared.recipe.Part.{Part}
 
@@ -39,7 +37,8 @@ unfolding boot
 text = refl
 
 -- five bytes in LEBs of four
-pieces_kept : finite.entries (lebs_of 4 (1 ∷ 2 ∷ 3 ∷ 4 ∷ 5 ∷ [])) ≡ (0, 1 ∷ 2 ∷ 3 ∷ 4 ∷ []) ∷ (1, 5 ∷ 255 ∷ 255 ∷ 255 ∷ []) ∷ []
+pieces_kept : finite.entries (lebs_of 4 (1 ∷ 2 ∷ 3 ∷ 4 ∷ 5 ∷ []))
+    ≡ (0, 1 ∷ 2 ∷ 3 ∷ 4 ∷ []) ∷ (1, 5 ∷ 255 ∷ 255 ∷ 255 ∷ []) ∷ []
 unfolding filled
 pieces_kept = sorted_entries ((0, 1 ∷ 2 ∷ 3 ∷ 4 ∷ []) ∷ (1, 5 ∷ 255 ∷ 255 ∷ 255 ∷ []) ∷ []) refl
 

@@ -1,5 +1,5 @@
 -- The normal image of what is built of parts, by their pieces.
-use Rattle.std.proofs.Common.{◌≡◌, ◌==◌, ℕ, zero, suc, ◌+◌, ◌<◌, ◌≤◌, Bool, true, false, cond, not, List, [], ◌∷◌, ◌++◌, length, refl, ap, sym, ◌∙◌, subst, arith}
+use Rattle.std.proofs.Common.{◌≡◌, ◌==◌, ℕ, zero, suc, ◌+◌, ◌<◌, ◌≤◌, Bool, true, false, cond, not, List, [], ◌++◌, length, refl, ap, sym, ◌∙◌, subst, arith}
 use Rattle.std.specs.Prelude.{None, Option, Some, flat_map, option_map, replicate, unwrap_or}
 use Rattle.std.specs.FinMap as finite
 use Rattle.std.specs.FinMap.{FinMap}
@@ -8,24 +8,23 @@ use Rattle.std.specs.Option.{option_map_or}
 use Rattle.std.specs.Ordering.{nat_cmp}
 use Rattle.std.proofs.lemmas.List.Folds.{flat_map-map}
 use Rattle.ubi_media.specs.Fields.{is_blank}
-use Rattle.ubi_media.specs.Geometry.{Sizes, slots}
+use Rattle.ubi_media.specs.Geometry.{slots}
 use Rattle.ubi_media.specs.Record.{data_pad, rec_bytes, usable}
 use Rattle.ubi_media.specs.Vid.{plain}
-use Rattle.ubi_media.specs.declared.record.VolumeRecord.{VolumeRecord}
 use Rattle.ubi_media.specs.declared.vid.VolKind.{VolKind}
 use Rattle.ubi_media.specs.declared.vid.VolKind.TheVariants as kind
 use Rattle.ubi_scan.specs.Members.{layout}
 use Rattle.ubi_table.specs.Records.{table_bytes}
 use Rattle.ubi_volume.specs.Made.{item_without_blank, lebs_without_blank, without_blank}
-use Rattle.ubi_volume.specs.Meant.{Meant, pieces, records_of}
+use Rattle.ubi_volume.specs.Meant.{pieces, records_of}
 use Rattle.ubi_volume.specs.declared.content.Volume.{Volume}
 use Rattle.ubi_volume.proofs.Extracted.{same_range}
 use Rattle.ubi_volume.proofs.Recorded.{record_of}
 use Rattle.ubi_volume.proofs.WithoutBlank.{get_without_blank, is_kept}
-use Rattle.ubi_compose.specs.Built.{HaveMeaning, Parts, Reaches, built, content_of, item_of, items_of, lebs_of, pieces_of, text_of}
+use Rattle.ubi_compose.specs.Built.{HaveMeaning, Parts, Reaches, built, content_of, item_of, items_of, lebs_of, text_of}
 use Rattle.ubi_compose.specs.Composed.{composed, spare}
-use Rattle.ubi_compose.specs.Normal.{blocks_of, dynamic_block, laid_bytes, layout_block, new_ec, static_part, volume_blocks}
-use Rattle.ubi_compose.specs.inner.Building.{dynamic_piece, first_volumes, numbered_bytes, part_at, part_bytes, piece_of_kind, spares_bytes, static_piece, table_of, whole_bytes}
+use Rattle.ubi_compose.specs.Normal.{blocks_of, dynamic_block, laid_bytes, new_ec, static_part, volume_blocks}
+use Rattle.ubi_compose.specs.inner.Building.{dynamic_piece, first_volumes, part_at, part_bytes, piece_of_kind, spares_bytes, table_of, whole_bytes}
 use Rattle.ubi_compose.specs.declared.recipe.Part.{Part}
 use Rattle.ubi_compose.proofs.BuiltContents.{leb_of, leb_there, leb_within, text_size}
 use Rattle.ubi_compose.proofs.EntriesByNumber.{entries_by_number, find-map, flat_map-flat_map, get_made}
@@ -60,7 +59,8 @@ module _ (ps : Parts) (bytes : List ℕ) (p : Part) (reaches : p.start + p.len �
       (sym (get_without_blank (lebs_of size text) lnum) ∙ e))
 
   by_test : (lnum : ℕ) (x : List ℕ) (b : Bool)
-      → option_map_or (λ (y : List ℕ). laid_leb (lnum, y)) (cond (not b) (Some x) None) [] ≡ cond b [] (laid_leb (lnum, x))
+      → option_map_or (λ (y : List ℕ). laid_leb (lnum, y)) (cond (not b) (Some x) None) []
+      ≡ cond b [] (laid_leb (lnum, x))
   by_test lnum x true = refl
   by_test lnum x false = refl
 
@@ -73,12 +73,14 @@ module _ (ps : Parts) (bytes : List ℕ) (p : Part) (reaches : p.start + p.len �
       ∙ by_test lnum (leb_of size text lnum) (is_blank (leb_of size text lnum))
 
   of_kind : (k : VolKind)
-      → flat_map (laid_bytes ps.sizes (new_ec ps.image_seq)) (volume_blocks ps.sizes p.id p.entry (without_blank (content_of k size text)))
+      → flat_map (laid_bytes ps.sizes (new_ec ps.image_seq))
+      (volume_blocks ps.sizes p.id p.entry (without_blank (content_of k size text)))
       ≡ flat_map (λ lnum. piece_of_kind k ps p lnum bytes) (range_with_len 0 n)
   of_kind kind.Static = flat_map-map (laid_bytes ps.sizes (new_ec ps.image_seq))
       (static_part (data_pad ps.sizes p.entry) size p.id text) (range_with_len 0 n)
   of_kind kind.Dynamic =
-      flat_map-map (laid_bytes ps.sizes (new_ec ps.image_seq)) (dynamic_block (data_pad ps.sizes p.entry) p.id) (finite.entries kept)
+      flat_map-map (laid_bytes ps.sizes (new_ec ps.image_seq)) (dynamic_block (data_pad ps.sizes p.entry) p.id)
+      (finite.entries kept)
       ∙ entries_by_number laid_leb kept n within
       ∙ same_range _ _ 0 n (λ lnum low high. leb_bytes lnum (omega arith))
 
@@ -114,7 +116,8 @@ module _ (ps : Parts) (bytes : List ℕ) where
   -- the table
   pub table_is : table_of ps ≡ table_bytes (records_of (built ps bytes))
   table_is = sym (same_range _ _ 0 (slots ps.sizes) (λ slot low high. ap (rec_bytes ps.sizes)
-      (record_of (built ps bytes) slot ∙ ap (option_map (λ (v : Volume). v.entry)) (built_at slot) ∙ as_entry (part_at ps slot))))
+      (record_of (built ps bytes) slot ∙ ap (option_map (λ (v : Volume). v.entry)) (built_at slot)
+      ∙ as_entry (part_at ps slot))))
 
   -- what is built at a number is the volume of a part
   pub built_part : (id : ℕ) (v : Volume) → finite.get (built ps bytes).volumes id ≡ Some v
@@ -130,7 +133,8 @@ module _ (ps : Parts) (bytes : List ℕ) where
 
   module _ (h : HaveMeaning ps) (reaches : Reaches (length bytes) ps.of) where
     abbrev blocks_in : ℕ × Volume → List ℕ
-    blocks_in e = flat_map (laid_bytes ps.sizes (new_ec ps.image_seq)) (volume_blocks ps.sizes e.0 e.1.entry e.1.content)
+    blocks_in e = flat_map (laid_bytes ps.sizes (new_ec ps.image_seq))
+        (volume_blocks ps.sizes e.0 e.1.entry e.1.content)
 
     below : (id : ℕ) (v : Volume) → finite.get (built ps bytes).volumes id ≡ Some v → id < slots ps.sizes
     below id v e =
@@ -140,7 +144,8 @@ module _ (ps : Parts) (bytes : List ℕ) where
         subst (λ n. n < slots ps.sizes) found.1 (part_slot ps h at.0 of.0 at.1)
 
     numbered_is : (id : ℕ) (o : Option Part) → part_at ps id ≡ o
-        → option_map_or (λ v. blocks_in (id, v)) (option_map volume_in o) [] ≡ option_map_or (λ p. part_bytes ps p bytes) o []
+        → option_map_or (λ v. blocks_in (id, v)) (option_map volume_in o) []
+        ≡ option_map_or (λ p. part_bytes ps p bytes) o []
     numbered_is id None e = refl
     numbered_is id (Some p) e =
         let found = found_part ps.of id p e in
@@ -148,10 +153,12 @@ module _ (ps : Parts) (bytes : List ℕ) where
         ap (λ n. blocks_in (n, volume_in p)) (sym found.1)
         ∙ part_is ps bytes p (reached (length bytes) ps.of at.0 p reaches at.1)
 
-    volumes_are : flat_map (laid_bytes ps.sizes (new_ec ps.image_seq)) (blocks_of ps.sizes (finite.entries (built ps bytes).volumes))
+    volumes_are : flat_map (laid_bytes ps.sizes (new_ec ps.image_seq))
+        (blocks_of ps.sizes (finite.entries (built ps bytes).volumes))
         ≡ first_volumes ps (slots ps.sizes) bytes
     volumes_are =
-        flat_map-flat_map (laid_bytes ps.sizes (new_ec ps.image_seq)) (λ (v : ℕ × Volume). volume_blocks ps.sizes v.0 v.1.entry v.1.content)
+        flat_map-flat_map (laid_bytes ps.sizes (new_ec ps.image_seq))
+        (λ (v : ℕ × Volume). volume_blocks ps.sizes v.0 v.1.entry v.1.content)
         (finite.entries (built ps bytes).volumes)
         ∙ entries_by_number blocks_in (built ps bytes).volumes (slots ps.sizes) below
         ∙ same_range _ _ 0 (slots ps.sizes) (λ id low high.
@@ -169,7 +176,8 @@ module _ (ps : Parts) (bytes : List ℕ) where
         let text = table_bytes (records_of (built ps bytes)) in
         let volumes = flat_map (laid_bytes ps.sizes (new_ec ps.image_seq))
         (blocks_of ps.sizes (finite.entries (built ps bytes).volumes)) in
-        ap (λ t. ((table t 0 ++ table t 1) ++ first_volumes ps (slots ps.sizes) bytes) ++ spares_bytes ps spares bytes) table_is
+        ap (λ t. ((table t 0 ++ table t 1) ++ first_volumes ps (slots ps.sizes) bytes) ++ spares_bytes ps spares bytes)
+        table_is
         ∙ ap (λ vs. ((table text 0 ++ table text 1) ++ vs) ++ spares_bytes ps spares bytes) (sym volumes_are)
         ∙ ap (λ r. ((table text 0 ++ table text 1) ++ volumes) ++ r) (spares_are (spare ps.sizes ps.image_seq) 0 spares)
         ∙ composed_pieces (built ps bytes) spares

@@ -1,7 +1,6 @@
 -- The entries of a map by rising number, and those of a map that is made of a list.
 use Rattle.std.proofs.Common.{◌≡◌, ℕ, zero, suc, ◌+◌, ◌<◌, ◌≤◌, ◌==◌, Bool, true, false, cond, List, [], ◌∷◌, ◌++◌, map, refl, ap, sym, ◌∙◌, arith, zero-add, subst}
-use Rattle.std.specs.Prelude.{None, Option, Some, find, flat_map, option_map}
-use Rattle.std.specs.Cmp.{nat_cmp_total}
+use Rattle.std.specs.Prelude.{Some, find, flat_map, option_map}
 use Rattle.std.specs.FinMap as finite
 use Rattle.std.specs.FinMap.{FinMap}
 use Rattle.std.specs.List.{AllByRecursion, range_with_len}
@@ -10,7 +9,6 @@ use Rattle.std.specs.Ordering.{nat_cmp}
 use Rattle.std.proofs.lemmas.Bool.Decides.{nat_tests}
 use Rattle.std.proofs.lemmas.Grind.{flat_map-append}
 use Rattle.ubi_scan.proofs.Entries.{first_entry}
-use Rattle.ubi_scan.proofs.Keys.{at_itself, at_other}
 use Rattle.ubi_volume.proofs.Extracted.{same_range}
 use Rattle.ubi_compose.proofs.ByNumber.{Rises, by_number}
 use Rattle.ubi_compose.proofs.DynamicPlaces.{rises_from}
@@ -20,12 +18,14 @@ use Rattle.ubi_compose.proofs.Rising.{entries_rise}
 -- what is made of each entry of a map, by rising number below n
 pub entries_by_number : {X : Type 0} (f : ℕ × X → List ℕ) (m : FinMap nat_cmp X) (n : ℕ)
     → ((id : ℕ) (x : X) → finite.get m id ≡ Some x → id < n)
-    → flat_map f (finite.entries m) ≡ flat_map (λ id. option_map_or (λ x. f (id, x)) (finite.get m id) []) (range_with_len 0 n)
+    → flat_map f (finite.entries m) ≡ flat_map (λ id. option_map_or (λ x. f (id, x)) (finite.get m id) [])
+    (range_with_len 0 n)
 entries_by_number {X} f m n below =
     let es = finite.entries m in
     let within : AllByRecursion (λ (e : ℕ × X). e.0 < n) es =
     all_from (λ (e : ℕ × X). e.0 < n) es (λ e at. below e.0 e.1 (held_entry m e at)) in
-    let from : AllByRecursion (λ (e : ℕ × X). 0 ≤ e.0) es = all_from (λ (e : ℕ × X). 0 ≤ e.0) es (λ e at. omega arith) in
+    let from : AllByRecursion (λ (e : ℕ × X). 0 ≤ e.0) es = all_from (λ (e : ℕ × X). 0 ≤ e.0) es
+    (λ e at. omega arith) in
     sym (by_number f n 0 es (subst (λ b. Rises f 0 b es) (sym (zero-add n))
     (rises_from f 0 n es (entries_rise es (finite.entries_sorted m)) from within)))
     ∙ same_range _ _ 0 n (λ id low high. ap (λ o. option_map_or (λ x. f (id, x)) o []) (sym (finite.get-entries m id)))

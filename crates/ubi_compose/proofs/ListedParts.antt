@@ -1,19 +1,19 @@
 -- The parts of volumes that have a meaning together.
-use Rattle.std.proofs.Common.{◌≡◌, ◌==◌, ℕ, zero, suc, ◌+◌, ◌*◌, ◌<◌, ◌≤◌, true, false, cond, List, [], ◌∷◌, get_or, length, map, refl, ap, sym, ◌∙◌, subst, arith, inl, inr}
-use Rattle.std.specs.Prelude.{All, Contains, None, Option, Some, find, fold, slice_get, sum_by}
+use Rattle.std.proofs.Common.{◌≡◌, ◌==◌, ℕ, zero, suc, ◌+◌, ◌*◌, ◌<◌, ◌≤◌, true, false, cond, List, [], ◌∷◌, length, map, refl, ap, sym, ◌∙◌, subst, arith, inl, inr}
+use Rattle.std.specs.Prelude.{Contains, None, Option, Some, find, fold, slice_get, sum_by}
 use Rattle.std.proofs.lemmas.Bool.Decides.{nat_tests}
 use Rattle.std.proofs.lemmas.List.Sums.{sum_by-cons}
 use Rattle.std.proofs.lemmas.Option.{get_or_from_slice_get, slice_get-get_or, slice_get-map, slice_get_within, same_Some}
 use Rattle.std.specs.Option.{option_map}
 use Rattle.ubi_media.specs.Fields.{blank}
-use Rattle.ubi_media.specs.Geometry.{Sizes, slots}
+use Rattle.ubi_media.specs.Geometry.{slots}
 use Rattle.ubi_media.specs.Record.{rec_fault, usable}
 use Rattle.ubi_media.specs.declared.record.RecFault.{RecFault}
 use Rattle.ubi_media.proofs.Cases.{within_or_past}
 use Rattle.ubi_media.proofs.Records.{usable_some}
 use Rattle.ubi_scan.specs.Source.{Source}
 use Rattle.ubi_scan.proofs.Filled.{length-blank}
-use Rattle.ubi_volume.specs.Made.{IsItem, Items, NoCause}
+use Rattle.ubi_volume.specs.Made.{IsItem, NoCause}
 use Rattle.ubi_volume.specs.declared.content.Volume.{Volume}
 use Rattle.ubi_volume.specs.declared.errors.MeaningCause.TheVariants as cause
 use Rattle.ubi_volume.proofs.Pieces.{pieces_few}
@@ -115,7 +115,8 @@ module _ (ps : Parts) (h : HaveMeaning ps) where
 
     -- no more pieces than what is reserved
     pub part_few : pieces_of ps.sizes p ≤ p.entry.reserved
-    part_few = pieces_few (usable ps.sizes p.entry) (usable_some ps.sizes p.entry part_sound) p.len p.entry.reserved part_fits
+    part_few = pieces_few (usable ps.sizes p.entry)
+        (usable_some ps.sizes p.entry part_sound) p.len p.entry.reserved part_fits
 
   -- a part whose bytes a source has can be read
   pub part_readable : (k : Source) → HasParts k ps.of → (id : ℕ) (p : Part) → part_at ps id ≡ Some p → IsReadable ps k p
@@ -131,7 +132,8 @@ module _ (ps : Parts) (h : HaveMeaning ps) where
       }
 
   -- the reserved eraseblocks have room on the device
-  reserved_sum : (parts : List Part) (n : ℕ) → fold (λ k (e : ℕ × Volume). k + e.1.entry.reserved) n (items_of ps.sizes bytes parts)
+  reserved_sum : (parts : List Part) (n : ℕ)
+      → fold (λ k (e : ℕ × Volume). k + e.1.entry.reserved) n (items_of ps.sizes bytes parts)
       ≡ fold (λ k (p : Part). k + p.entry.reserved) n parts
   reserved_sum [] n = refl
   reserved_sum (p ∷ parts) n = reserved_sum parts (n + p.entry.reserved)
@@ -144,7 +146,8 @@ module _ (ps : Parts) (h : HaveMeaning ps) where
   ]
 
   -- and so have the pieces of all
-  few_pieces : (parts : List Part) → ((i : ℕ) (p : Part) → slice_get parts i ≡ Some p → pieces_of ps.sizes p ≤ p.entry.reserved)
+  few_pieces : (parts : List Part) → ((i : ℕ) (p : Part) → slice_get parts i ≡ Some p
+      → pieces_of ps.sizes p ≤ p.entry.reserved)
       → sum_by (pieces_of ps.sizes) parts ≤ sum_by (λ (p : Part). p.entry.reserved) parts
   few_pieces [] each = omega arith
   few_pieces (p ∷ parts) each =

@@ -1,5 +1,5 @@
 -- Pieces of the bytes of a part: how they are read, and what a writer receives of each.
-use Rattle.std.proofs.Common.{◌≡◌, ℕ, ◌+◌, ◌-◌, ◌*◌, ◌/◌, ◌<◌, ◌≤◌, List, [], ◌++◌, length, length-take-le, slice_range, take, drop, refl, ap, sym, ◌∙◌, subst, arith, inl, inr}
+use Rattle.std.proofs.Common.{◌≡◌, ℕ, ◌+◌, ◌-◌, ◌*◌, ◌/◌, ◌<◌, ◌≤◌, List, [], ◌++◌, length, length-take-le, slice_range, take, drop, refl, ap, sym, ◌∙◌, arith, inl, inr}
 use Rattle.std.specs.Prelude.{Option, min}
 use Rattle.std.specs.Int.{div_ceil}
 use Rattle.std.proofs.KnownBytes.{Appends-nil}
@@ -14,15 +14,14 @@ use Rattle.ubi_media.specs.declared.vid.VidHeader.{VidHeader}
 use Rattle.ubi_media.specs.declared.vid.VolKind.TheVariants as kind
 use Rattle.ubi_media.proofs.Cases.{within_or_past}
 use Rattle.ubi_scan.specs.Source.{Agreed, Source}
-use Rattle.ubi_scan.specs.inner.Held.{anything, sound}
+use Rattle.ubi_scan.specs.inner.Held.{sound}
 use Rattle.ubi_scan.specs.declared.errors.StreamError.{StreamError}
 use Rattle.ubi_scan.specs.declared.errors.StreamError.TheVariants as stream
 use Rattle.ubi_scan.proofs.Filled.{filled-is}
 use Rattle.ubi_volume.specs.Meant.{pieces, share}
 use Rattle.ubi_volume.proofs.Pieces.{pieces_few, pieces_suffice}
-use Rattle.ubi_volume.specs.Wrote.{All, IsWroteError, Wanted, Wrote}
-use Rattle.ubi_volume.proofs.Narrowed.{wrote_where}
-use Rattle.ubi_compose.specs.Building.{IsPartOf, those}
+use Rattle.ubi_volume.specs.Wrote.{IsWroteError, Wanted}
+use Rattle.ubi_compose.specs.Building.{IsPartOf}
 use Rattle.ubi_compose.specs.Built.{Parts, pieces_of, text_of}
 use Rattle.ubi_compose.specs.Normal.{laid_bytes, new_ec, static_block}
 use Rattle.ubi_compose.specs.inner.Building.{IsUnbuilt, IsWriteFault, dynamic_piece, of_write, static_piece}
@@ -30,7 +29,6 @@ use Rattle.ubi_compose.specs.inner.Streaming.{kept_bytes, kept_text, laid_text}
 use Rattle.ubi_compose.specs.declared.errors.BuildError.TheVariants as build
 use Rattle.ubi_compose.specs.declared.recipe.Part.{Part}
 use Rattle.ubi_compose.proofs.BuiltContents.{text_size}
-use Rattle.ubi_compose.proofs.Placed.{text_is}
 use Rattle.ubi_compose.proofs.Puts.{static_is}
 
 -- the first of the first
@@ -64,7 +62,8 @@ filled_behind size len xs few room =
     ∙ ap (λ n. take len xs ++ blank (size - n)) (sym long) ∙ sym (filled-is size (take len xs))
 
 -- a call that reads nothing fails by a write alone
-pub only_writes : (s : Sizes) (agrees : Agreed) (a b : Option (List ℕ)) (wanted : Wanted) (m : ℕ) (e : StreamError) → 1 ≤ s.peb_size
+pub only_writes : (s : Sizes) (agrees : Agreed) (a b : Option (List ℕ)) (wanted : Wanted) (m : ℕ) (e : StreamError)
+    → 1 ≤ s.peb_size
     → ((k : Source) → IsWroteError s k agrees a b wanted m e) → IsWriteFault e
 only_writes s agrees a b wanted m (stream.Write n) some h = tt
 only_writes s agrees a b wanted m (stream.Read p n) some h = absurd (let inside = (h (sound 0)).0 in none inside)
@@ -74,15 +73,18 @@ only_writes s agrees a b wanted m (stream.Read p n) some h = absurd (let inside 
 only_writes s agrees a b wanted m (stream.Refused c) some h = absurd (h (sound 0))
 only_writes s agrees a b wanted m stream.Memory some h = absurd (h (sound 0))
 
-pub unbuilt_write : (ps : Parts) (s : Sizes) (k : Source) (agrees : Agreed) (a b : Option (List ℕ)) (wanted : Wanted) (m : ℕ)
-    (e : StreamError) → IsWriteFault e → IsWroteError s k agrees a b wanted m e → IsUnbuilt ps agrees a b wanted m (of_write e)
+pub unbuilt_write : (ps : Parts) (s : Sizes) (k : Source) (agrees : Agreed) (a b : Option (List ℕ)) (wanted : Wanted)
+    (m : ℕ)
+    (e : StreamError) → IsWriteFault e → IsWroteError s k agrees a b wanted m e
+    → IsUnbuilt ps agrees a b wanted m (of_write e)
 unbuilt_write ps s k agrees a b wanted m (stream.Write n) is h = h
 unbuilt_write ps s k agrees a b wanted m (stream.Read p n) is h = absurd is
 unbuilt_write ps s k agrees a b wanted m (stream.Refused c) is h = absurd is
 unbuilt_write ps s k agrees a b wanted m stream.Memory is h = absurd is
 
 -- a read failed, and nothing was written since
-pub unread : (ps : Parts) (agrees : Agreed) (a : Option (List ℕ)) (wanted : Wanted) (m : ℕ) (p : Part) → IsPartOf ps p.id p
+pub unread : (ps : Parts) (agrees : Agreed) (a : Option (List ℕ)) (wanted : Wanted) (m : ℕ) (p : Part)
+    → IsPartOf ps p.id p
     → IsUnbuilt ps agrees a a wanted m (build.Read p.id m)
 unread ps agrees a wanted m p listed = (
   p,
@@ -107,7 +109,8 @@ module _ (ps : Parts) (p : Part) (lnum : ℕ) (bytes : List ℕ) (h : VidHeader)
       w ∙ ap (λ n. laid_bytes ps.sizes (new_ec ps.image_seq)
       (static_block (data_pad ps.sizes p.entry) p.id (pieces size n) lnum (share size (text_of bytes p) lnum)))
       (text_size bytes p reaches)
-      ∙ sym (static_is ps.sizes ps.image_seq (data_pad ps.sizes p.entry) size p.id (pieces_of ps.sizes p) lnum h (text_of bytes p)
+      ∙ sym (static_is ps.sizes ps.image_seq (data_pad ps.sizes p.entry) size p.id (pieces_of ps.sizes p) lnum h
+      (text_of bytes p)
       part header is)
 
   pub dynamic_laid : part ≡ filled size (share size (text_of bytes p) lnum)

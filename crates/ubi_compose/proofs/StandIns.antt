@@ -1,26 +1,24 @@
 -- Volumes are judged by what stands in for their bytes as they are by the bytes.
 use Rattle.std.proofs.Common.{◌≡◌, ℕ, ◌+◌, ◌*◌, ◌<◌, ◌≤◌, ◌&&◌, Bool, true, false, cond, not, List, [], ◌∷◌, length, map, refl, ap, sym, ◌∙◌, subst, arith, inl, inr}
-use Rattle.std.specs.Prelude.{◌⊎◌, None, Option, Some, fold, is_none, nat_lt, slice_get, IfSome}
+use Rattle.std.specs.Prelude.{None, Option, Some, fold, is_none, nat_lt, slice_get, IfSome}
 use Rattle.std.specs.FinMap as finite
 use Rattle.std.specs.Ordering.{nat_cmp}
 use Rattle.std.proofs.lemmas.Bool.Decides.{nat_tests}
-use Rattle.std.proofs.lemmas.Option.{same_Some}
 use Rattle.ubi_media.specs.Geometry.{Sizes}
 use Rattle.ubi_media.specs.Record.{rec_fault, usable}
 use Rattle.ubi_media.specs.declared.record.RecFault.{RecFault}
 use Rattle.ubi_media.specs.declared.record.VolumeRecord.{VolumeRecord}
 use Rattle.ubi_media.specs.declared.vid.VolKind.{VolKind}
 use Rattle.ubi_media.specs.declared.vid.VolKind.TheVariants as kind
-use Rattle.ubi_media.proofs.Cases.{within_or_past}
 use Rattle.ubi_media.proofs.Records.{usable_some}
-use Rattle.ubi_volume.specs.Made.{IsBefore, IsFirst, IsItem, NoCause, Stands, item, rank}
+use Rattle.ubi_volume.specs.Made.{IsBefore, IsFirst, IsItem, NoCause, Stands, rank}
 use Rattle.ubi_volume.specs.Meant.{Fits}
 use Rattle.ubi_volume.specs.declared.content.Content.{Content}
 use Rattle.ubi_volume.specs.declared.content.Content.TheVariants as content
 use Rattle.ubi_volume.specs.declared.content.Volume.{Volume}
 use Rattle.ubi_volume.specs.declared.errors.MeaningCause.{MeaningCause}
 use Rattle.ubi_volume.specs.declared.errors.MeaningCause.TheVariants as cause
-use Rattle.ubi_compose.specs.Built.{Reaches, content_of, item_of, items_of, text_of}
+use Rattle.ubi_compose.specs.Built.{Reaches, content_of, items_of, text_of}
 use Rattle.ubi_compose.specs.inner.Building.{empty_of, is_long, stand_in, stand_in_item}
 use Rattle.ubi_compose.specs.declared.recipe.Part.{Part}
 use Rattle.ubi_compose.proofs.BuiltContents.{content_fits, long_misfits, text_size}
@@ -183,7 +181,8 @@ module _ (s : Sizes) (parts : List Part) (bytes : List ℕ) (reaches : Reaches (
   misfit_bytes : (c : MeaningCause) → NoFaultAt c → IsMisfit s parts (stand_in s) text_in c
   misfit_bytes (cause.ContentRange i) free p m = λ fits.
       let sound = sound_at i p m.0 free in
-      m.1 (stand_in_fits s p sound (text_of bytes p) (text_size bytes p (reached (length bytes) parts i p reaches m.0)) fits)
+      m.1 (stand_in_fits s p sound (text_of bytes p)
+      (text_size bytes p (reached (length bytes) parts i p reaches m.0)) fits)
   misfit_bytes (cause.IdRange i) free p m = absurd m
   misfit_bytes (cause.SameId i) free p m = absurd m
   misfit_bytes (cause.Record i f) free p m = absurd m
@@ -193,7 +192,8 @@ module _ (s : Sizes) (parts : List Part) (bytes : List ℕ) (reaches : Reaches (
   misfit_stand : (c : MeaningCause) → NoFaultAt c → IsMisfit s parts text_in (stand_in s) c
   misfit_stand (cause.ContentRange i) free p m = λ fits.
       let sound = sound_at i p m.0 free in
-      m.1 (bytes_fit s p sound (text_of bytes p) (text_size bytes p (reached (length bytes) parts i p reaches m.0)) fits)
+      m.1 (bytes_fit s p sound (text_of bytes p)
+      (text_size bytes p (reached (length bytes) parts i p reaches m.0)) fits)
   misfit_stand (cause.IdRange i) free p m = absurd m
   misfit_stand (cause.SameId i) free p m = absurd m
   misfit_stand (cause.Record i f) free p m = absurd m

@@ -1,5 +1,5 @@
 -- What a writer received of bytes that a function gives of the source's.
-use Rattle.std.proofs.Common.{◌≡◌, ℕ, zero, suc, ◌+◌, ◌-◌, ◌<◌, ◌≤◌, List, ◌++◌, refl, ap, sym, ◌∙◌, subst, arith, zero-add}
+use Rattle.std.proofs.Common.{◌≡◌, ℕ, ◌+◌, ◌-◌, ◌<◌, List, ◌++◌, refl, ap, sym, ◌∙◌, arith, zero-add}
 use Rattle.std.specs.Prelude.{Option, flat_map}
 use Rattle.std.specs.List.{range_with_len}
 use Rattle.ubi_media.specs.Geometry.{Sizes}
@@ -11,7 +11,7 @@ use Rattle.ubi_volume.specs.Wrote.{All, First, NotAll, Wanted, Wrote}
 use Rattle.ubi_volume.proofs.Extracted.{front_of}
 use Rattle.ubi_volume.proofs.Narrowed.{wrote_where}
 use Rattle.ubi_volume.proofs.Received.{Splits, error_behind, error_front, wrote_more}
-use Rattle.ubi_compose.specs.Building.{IsBuildError, image_built, those}
+use Rattle.ubi_compose.specs.Building.{CanBuild, IsBuildError, image_built, those}
 use Rattle.ubi_compose.specs.Built.{Parts}
 use Rattle.ubi_compose.specs.inner.Building.{IsUnbuilt}
 use Rattle.ubi_compose.specs.declared.errors.BuildError.{BuildError}
@@ -61,7 +61,8 @@ module _ (agrees : Agreed) where
     back_unbuilt ps a b c l m (build.Read id n) g h =
         (h.0, h.1, first_behind a b c (those whole) (those front) (those back) l m n split g h.2)
     back_unbuilt ps a b c l m (build.Write n) g h =
-        error_behind (sound 0) agrees one_byte a b c (those whole) (those front) (those back) l m (stream.Write n) split g h
+        error_behind (sound 0) agrees one_byte a b c (those whole) (those front) (those back) l m
+        (stream.Write n) split g h
     back_unbuilt ps a b c l m build.TooMany g h = h
     back_unbuilt ps a b c l m (build.Beyond id) g h = h
     back_unbuilt ps a b c l m build.Memory g h = h
@@ -98,7 +99,8 @@ module _ (old new : Agreed) (narrows : Narrows old new) where
       → IsUnbuilt ps old a b wanted m e → IsUnbuilt ps new a b other m e
   unbuilt_where ps a b wanted other m (build.Read id n) same h =
       (h.0, h.1, wrote_where old new narrows a b wanted other First m n same h.2)
-  unbuilt_where ps a b wanted other m (build.Write n) same h = wrote_where old new narrows a b wanted other NotAll m n same h
+  unbuilt_where ps a b wanted other m (build.Write n) same h = wrote_where old new narrows a b wanted other NotAll m n
+      same h
   unbuilt_where ps a b wanted other m build.TooMany same h = h
   unbuilt_where ps a b wanted other m (build.Beyond id) same h = h
   unbuilt_where ps a b wanted other m build.Memory same h = h
@@ -109,9 +111,10 @@ module _ (old new : Agreed) (narrows : Narrows old new) where
 
 -- why not all was built
 pub unbuilt_refused : (ps : Parts) (spares : ℕ) (k : Source) (agrees : Agreed) (old new : Option (List ℕ)) (e : BuildError)
-    → IsUnbuilt ps agrees old new (image_built ps spares) 0 e → IsBuildError ps spares k agrees old new e
-unbuilt_refused ps spares k agrees old new (build.Read id n) h = h
-unbuilt_refused ps spares k agrees old new (build.Write n) h = h
-unbuilt_refused ps spares k agrees old new build.TooMany h = absurd h
-unbuilt_refused ps spares k agrees old new (build.Beyond id) h = absurd h
-unbuilt_refused ps spares k agrees old new build.Memory h = absurd h
+    → CanBuild ps spares k.size → IsUnbuilt ps agrees old new (image_built ps spares) 0 e
+    → IsBuildError ps spares k agrees old new e
+unbuilt_refused ps spares k agrees old new (build.Read id n) can h = (can, h)
+unbuilt_refused ps spares k agrees old new (build.Write n) can h = (can, h)
+unbuilt_refused ps spares k agrees old new build.TooMany can h = absurd h
+unbuilt_refused ps spares k agrees old new (build.Beyond id) can h = absurd h
+unbuilt_refused ps spares k agrees old new build.Memory can h = absurd h

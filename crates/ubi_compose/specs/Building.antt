@@ -1,10 +1,9 @@
 -- What building answers, and what the writer received then.
-use Rattle.std.specs.Prelude.{◌≡◌, ℕ, ◌+◌, ◌<◌, List, Contains, Option, Result, Ok, Err}
-use Rattle.std.specs.Io.KnownBytes.{Keeps}
+use Rattle.std.specs.Prelude.{◌≡◌, ℕ, ◌+◌, ◌<◌, ◌≤◌, List, Contains, Option, Result, Ok, Err}
 use Rattle.ubi_scan.specs.Source.{Agreed, Source, failed}
 use Rattle.ubi_volume.specs.Wrote.{First, NotAll, Wanted, Wrote}
 use Rattle.ubi_compose.specs.Composed.{composed}
-use Rattle.ubi_compose.specs.Built.{Parts, built, most_blocks}
+use Rattle.ubi_compose.specs.Built.{Parts, Reaches, built, most_blocks}
 use Rattle.ubi_compose.specs.declared.recipe.Part.{Part}
 use Rattle.ubi_compose.specs.declared.errors.BuildError.{BuildError}
 use Rattle.ubi_compose.specs.declared.errors.BuildError.TheVariants as build
@@ -21,15 +20,27 @@ image_built ps spares = those (λ bytes. composed (built ps bytes) spares)
 abbrev pub IsPartOf : Parts → ℕ → Part → Type 0
 IsPartOf ps id p = Contains ps.of p × (p.id ≡ id)
 
--- why nothing is built, or only the first bytes
+-- the device has room for all pieces and the spares, and a source of a size has the bytes of each part
+pub record CanBuild (ps : Parts) (spares size : ℕ) : Type 0 where
+  pub room : most_blocks ps + spares ≤ ps.sizes.pebs
+  pub reaches : Reaches size ps.of
+
+-- why it can't be: the device has no room for them, or it has and the bytes of a part lie beyond the source's end
+abbrev pub IsRefused : Parts → ℕ → ℕ → BuildError → Type 0
+IsRefused ps spares size build.TooMany = ps.sizes.pebs < most_blocks ps + spares
+IsRefused ps spares size (build.Beyond id) =
+    (most_blocks ps + spares ≤ ps.sizes.pebs) × ((p : Part) × IsPartOf ps id p × (size < p.start + p.len))
+IsRefused ps spares size _ = ⊥
+
+-- why nothing is built, or only the first bytes are: it can't be; or it can, and memory ran out, or a read for a volume
+-- failed, or a write
 abbrev pub IsBuildError : Parts → ℕ → Source → Agreed → Option (List ℕ) → Option (List ℕ) → BuildError → Type 0
-IsBuildError ps spares k agrees old new build.TooMany = ps.sizes.pebs < most_blocks ps + spares
-IsBuildError ps spares k agrees old new (build.Beyond id) =
-    (p : Part) × IsPartOf ps id p × (k.size < p.start + p.len)
-IsBuildError ps spares k agrees old new build.Memory = Unit {0}
+IsBuildError ps spares k agrees old new build.Memory = CanBuild ps spares k.size
 IsBuildError ps spares k agrees old new (build.Read id n) =
-    (p : Part) × IsPartOf ps id p × Wrote agrees old new (image_built ps spares) First 0 n
-IsBuildError ps spares k agrees old new (build.Write n) = Wrote agrees old new (image_built ps spares) NotAll 0 n
+    CanBuild ps spares k.size × ((p : Part) × IsPartOf ps id p × Wrote agrees old new (image_built ps spares) First 0 n)
+IsBuildError ps spares k agrees old new (build.Write n) =
+    CanBuild ps spares k.size × Wrote agrees old new (image_built ps spares) NotAll 0 n
+IsBuildError ps spares k agrees old new e = IsRefused ps spares k.size e
 
 -- a fact that holds where nothing was written
 abbrev pub WhereNotBegun : Type 0 → BuildError → Type 0

@@ -1,5 +1,5 @@
 -- The meaning of volumes whose bytes lie in a source, and how many eraseblocks its normal image has at most.
-use Rattle.std.specs.Prelude.{◌≡◌, ℕ, ◌+◌, ◌^◌, ◌<◌, ◌≤◌, List, All, drop, length, map, sum_by, take}
+use Rattle.std.specs.Prelude.{ℕ, ◌+◌, ◌^◌, ◌<◌, ◌≤◌, List, All, drop, length, map, sum_by, take}
 use Rattle.std.specs.FinMap.{FinMap, from_entries}
 use Rattle.std.specs.List.{range_with_len}
 use Rattle.std.specs.Ordering.{nat_cmp}
@@ -30,7 +30,8 @@ text_of bytes p = take p.len (drop p.start bytes)
 -- the LEBs of a text that is cut into pieces of a size: each holds its piece, and 0xFF behind it
 abbrev pub lebs_of : ℕ → List ℕ → FinMap nat_cmp (List ℕ)
 lebs_of size text =
-    from_entries (map (λ lnum. (lnum, filled size (share size text lnum))) (range_with_len 0 (pieces size (length text))))
+    from_entries (map (λ lnum. (lnum, filled size (share size text lnum)))
+    (range_with_len 0 (pieces size (length text))))
 
 -- what a volume holds that a text was written to: a static one the text, a dynamic one its LEBs
 abbrev pub content_of : VolKind → ℕ → List ℕ → Content

@@ -3,14 +3,14 @@
 //! Each buffer has the size of an eraseblock. `done` is how many bytes were written before, and what is given how many are
 //! written then.
 
-ghost use Rattle.std.specs.Prelude.{◌≡◌, ◌≢◌, ◌+◌, ◌*◌, ◌<◌, ◌≤◌, ◌^◌, Err, IfErr, IfOk, MatchOption, length};
+ghost use Rattle.std.specs.Prelude.{◌≡◌, ◌≢◌, ◌+◌, ◌*◌, ◌<◌, ◌≤◌, ◌^◌, Err, IfErr, IfOk, MatchOption, OnOk, length};
 ghost use Rattle.ubi_media.specs.Geometry.{leb_size, slots};
 ghost use Rattle.ubi_scan.specs.Image.{image_of};
 ghost use Rattle.ubi_scan.specs.Source.{Narrows, Source, WhereHeld};
 ghost use Rattle.ubi_scan.specs.inner.Held.{anything};
 ghost use Rattle.ubi_volume.specs.Accepts.{Accepts};
 ghost use Rattle.ubi_volume.specs.Wrote.{All, Wrote};
-ghost use Rattle.ubi_compose.specs.Building.{IsBuildError, IsPartOf, WhereNotBegun, image_built, known_after, those};
+ghost use Rattle.ubi_compose.specs.Building.{CanBuild, IsBuildError, IsPartOf, IsRefused, WhereNotBegun, image_built, known_after, those};
 ghost use Rattle.ubi_compose.specs.Built.{Reaches, built, most_blocks};
 ghost use Rattle.ubi_compose.specs.Composed.{composed};
 ghost use Rattle.ubi_compose.specs.inner.Building.{HasParts, IsUnbuilt, first_volumes, numbered_bytes, spares_bytes, table_block, table_of, tables_bytes, whole_bytes};
@@ -216,9 +216,29 @@ fn put_image<S: BlockSource, W: Write>(
     put_spares(recipe, spares, buffer, writer, normal)
 }
 
+/// Judges whether an image can be built of a source of a size, with so many spare eraseblocks.
+///
+/// # Errors
+///
+/// TooMany, or else Beyond.
+fn judge(recipe: &Recipe, spares: u32, size: u64) -> Result<(), BuildError>
+    ensures ok { OnOk result (CanBuild recipe.now spares size) }
+    ensures refused { IfErr result (IsRefused recipe.now spares size) }
+    ensures fits { spares ≡ 0 → result ≢ Err BuildError.TooMany }
+{
+    let geometry = recipe.geometry();
+    if most_blocks(recipe) + u64::from(spares) > u64::from(geometry.pebs()) {
+        return Err(BuildError::TooMany);
+    }
+    match part_beyond(recipe, size) {
+        Some(part) => Err(BuildError::Beyond(part.id)),
+        None => Ok(()),
+    }
+}
+
 /// Writes the normal image of the meaning that the parts of a recipe have over the bytes of a source, and behind it so many
 /// spare eraseblocks; answers how many bytes that are. It holds one eraseblock at a time, and takes all memory before it
-/// writes. Each byte of a part is read once.
+/// writes. Each byte of a part is read at most once.
 ///
 /// # Errors
 ///
@@ -236,19 +256,14 @@ pub fn build_to<S: BlockSource, W: Write>(
     ensures known { S.known source.new ≡ known_after (S.known source.old) result }
     ensures narrows { Narrows (S.agrees source.old) (S.agrees source.new) }
     ensures written { IfOk result (Wrote (S.agrees source.new) (W.contents writer.old) (W.contents writer.new) (image_built recipe.now spares) All 0) }
-    ensures room { IfOk result (λ _. most_blocks recipe.now + spares ≤ recipe.now.sizes.pebs) }
+    ensures whole { IfOk result (λ _. CanBuild recipe.now spares (S.known source.old).size) }
     ensures accepted { IfOk result (λ _. WhereHeld (S.agrees source.new) (λ bytes. Accepts (image_of recipe.now.sizes (composed (built recipe.now bytes) spares)) (built recipe.now bytes))) }
     ensures untouched { IfErr result (WhereNotBegun (writer.new ≡ writer.old)) }
     ensures refused { IfErr result (IsBuildError recipe.now spares (S.known source.old) (S.agrees source.new) (W.contents writer.old) (W.contents writer.new)) }
     ensures fits { spares ≡ 0 → result ≢ Err BuildError.TooMany }
 {
+    judge(recipe, spares, source.len())?;
     let geometry = recipe.geometry();
-    if most_blocks(recipe) + u64::from(spares) > u64::from(geometry.pebs()) {
-        return Err(BuildError::TooMany);
-    }
-    if let Some(part) = part_beyond(recipe, source.len()) {
-        return Err(BuildError::Beyond(part.id));
-    }
     let text = recipe_text(alloc, recipe)?;
     let mut buffer = Vec::from_elem(alloc, 0u8, geometry.peb_size() as usize)?;
     put_image(

@@ -248,6 +248,10 @@ too_large : record_in small (record jffs2 { size = Some 824633720449 }) None ≡
 unfolding records_on_literals
 too_large = refl
 
+no_slot : record_in small (record jffs2 { id = 2 }) None ≡ Err cause.IdRange
+unfolding records_on_literals
+no_slot = refl
+
 shown_with_a_key : config_error_text (error.Refused 12 (cause.Missing key.Alignment))
     ≡ codes "I12 Missing line=12 vol_alignment"
 unfolding digits

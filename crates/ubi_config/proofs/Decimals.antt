@@ -10,7 +10,8 @@ pub fold_grows : (n : ℕ) (digits : List ℕ) → n ≤ fold with_digit n digit
 fold_grows n [] = omega arith
 fold_grows n (b ∷ digits) = omega (arith, fold_grows (n * 10 + (b - 48)) digits)
 
-pub fold_beyond : (largest n i d : ℕ) (digits : List ℕ) → i < length digits → largest < n * 10 + (get_or digits i d - 48)
+pub fold_beyond : (largest n i d : ℕ) (digits : List ℕ) → i < length digits
+    → largest < n * 10 + (get_or digits i d - 48)
     → largest < fold with_digit n (drop i digits)
 fold_beyond largest n i d digits h more =
     let e = at_drop_more (fold with_digit n) digits i d h in

@@ -10,7 +10,8 @@ use Rattle.ubi_config.specs.declared.errors.ConfigCause.TheVariants as cause
 use Rattle.ubi_config.specs.declared.errors.ConfigError.{ConfigError}
 use Rattle.ubi_config.specs.declared.errors.ConfigError.TheVariants as error
 
-by_parts : (text : List ℕ) (lines sections : Option Fault) → line_fault text ≡ lines → section_fault (groups_of text) ≡ sections
+by_parts : (text : List ℕ) (lines sections : Option Fault) → line_fault text ≡ lines
+    → section_fault (groups_of text) ≡ sections
     → first_fault text ≡ option_or lines (option_or sections (option_or (no_section_fault (sections_of text)) None))
 unfolding first_fault
 by_parts text lines sections l s =

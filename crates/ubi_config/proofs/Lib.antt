@@ -1,8 +1,15 @@
+pub mod Apart
 pub mod ConfigVectors
+pub mod Counts
 pub mod Decimals
+pub mod Distinct
 pub mod Faults
+pub mod Fields
 pub mod Groups
+pub mod Grows
+pub mod Kept
 pub mod LinesLeft
 pub mod Places
 pub mod ReadSoFar
 pub mod Reserved
+pub mod SectionsDiffer

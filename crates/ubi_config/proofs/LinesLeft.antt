@@ -31,7 +31,8 @@ left_is before (text ∷ rest) all n e h =
     let cut : take n all ≡ before = ap (take n) (sym e) ∙ take_at before (text ∷ rest) n (sym h) in
     let more = left_is (before ++ text ∷ []) rest all (n + 1) (append_assoc before (text ∷ []) rest ∙ e)
     (omega (arith, length_push before text)) in
-    ap (λ o. option_or o (first_some (map (cause_at all) (enumerate_from (n + 1) rest)))) (cause_is before all text n cut h)
+    ap (λ o. option_or o (first_some (map (cause_at all) (enumerate_from (n + 1) rest))))
+    (cause_is before all text n cut h)
     ∙ ap (option_or (next_cause before text)) more
 
 pub first_from_start : (text : List ℕ) → line_fault text ≡ first_left [] (lines text)

@@ -20,7 +20,7 @@ pub record IsReadSoFar (text : List ℕ) (before : List (List ℕ)) (said : List
   pub said_is : said ≡ sayings before
   pub number_is : number ≡ min (length before) 0xFFFFFFFF
 
-nothing_yet : [] ≡ sayings []
+pub nothing_yet : [] ≡ sayings []
 unfolding sayings
 nothing_yet = refl
 
@@ -43,7 +43,7 @@ option_one : (o : Option Line) → cons_option o [] ≡ option_to_list o
 option_one None = refl
 option_one (Some s) = refl
 
-sayings-push : (before : List (List ℕ)) (line : List ℕ)
+pub sayings-push : (before : List (List ℕ)) (line : List ℕ)
     → sayings (before ++ line ∷ []) ≡ sayings before ++ option_to_list (saying (length before, line))
 unfolding sayings
 sayings-push before line =
@@ -52,7 +52,8 @@ sayings-push before line =
     ∙ filter_map-append saying (enumerate_from 0 before) ((length before, line) ∷ [])
     ∙ ap (λ ls. filter_map saying (enumerate_from 0 before) ++ ls) (option_one (saying (length before, line)))
 
-saying_is : (place : ℕ) (line : List ℕ) → saying (place, line) ≡ result_unwrap_or (line_of (line_number place) line) None
+pub saying_is : (place : ℕ) (line : List ℕ)
+    → saying (place, line) ≡ result_unwrap_or (line_of (line_number place) line) None
 unfolding saying
 saying_is place line = refl
 

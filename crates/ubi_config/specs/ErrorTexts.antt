@@ -25,6 +25,7 @@ config_cause_name cause.Empty = codes "I13 Empty"
 config_cause_name cause.LongImage = codes "I14 LongImage"
 config_cause_name (cause.Record _) = codes "I15 Record"
 config_cause_name cause.TooLarge = codes "I16 TooLarge"
+config_cause_name cause.IdRange = codes "I17 IdRange"
 
 -- the text of it
 abbrev pub config_cause_text : ConfigCause → List ℕ

@@ -5,5 +5,6 @@ pub mod Above
 pub mod Sections
 pub mod Config
 pub mod Records
+pub mod Laws
 pub mod ErrorTexts
 pub mod inner

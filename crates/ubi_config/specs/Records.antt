@@ -2,7 +2,7 @@
 use Rattle.std.specs.Prelude.{ℕ, ◌^◌, ◌==◌, ◌||◌, false, nat_lt, if◌then◌else◌, Option, Result, Ok, Err, unwrap_or}
 use Rattle.std.specs.Int.{div_ceil}
 use Rattle.std.specs.Option.{option_map_or}
-use Rattle.ubi_media.specs.Geometry.{Sizes}
+use Rattle.ubi_media.specs.Geometry.{Sizes, slots}
 use Rattle.ubi_media.specs.Record.{rec_fault, usable}
 use Rattle.ubi_media.specs.declared.record.VolumeRecord.{VolumeRecord}
 use Rattle.ubi_config.specs.declared.errors.ConfigCause.{ConfigCause}
@@ -32,15 +32,17 @@ parts_of bytes part = div_ceil bytes part
 abbrev pub blocks_of : Sizes → Section → ℕ → ℕ
 blocks_of s section bytes = parts_of bytes (usable s (reserving section 1))
 
--- the record that reserves so many eraseblocks, where a record can
-abbrev pub fitting : Section → ℕ → Result VolumeRecord ConfigCause
-fitting section n = if nat_lt n (2 ^ 31) then Ok (reserving section n) else Err cause.TooLarge
+-- the record that reserves so many eraseblocks, where a record can, and there is a slot for it
+abbrev pub fitting : Sizes → Section → ℕ → Result VolumeRecord ConfigCause
+fitting s section n =
+    if nat_lt n (2 ^ 31) then (if nat_lt section.id (slots s) then Ok (reserving section n) else Err cause.IdRange)
+    else Err cause.TooLarge
 
 -- the record of a volume of some bytes: its alignment is judged first
 abbrev pub sized : Sizes → Section → ℕ → Result VolumeRecord ConfigCause
 sized s section bytes =
     option_map_or (λ fault. Err (cause.Record fault)) (rec_fault s (reserving section 1))
-    (fitting section (blocks_of s section bytes))
+    (fitting s section (blocks_of s section bytes))
 
 -- the record of a section's volume, where its image file has so many bytes
 unfoldable pub record_in : Sizes → Section → Option ℕ → Result VolumeRecord ConfigCause

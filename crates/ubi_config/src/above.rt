@@ -3,97 +3,14 @@
 ghost use Rattle.std.specs.Bool.{then_some};
 ghost use Rattle.std.specs.List.{list_any};
 ghost use Rattle.std.specs.Prelude.{◌≡◌, count_by};
-ghost use Rattle.ubi_config.specs.Above.{gives_id, gives_name, heading_cause, is_autoresize, is_heading, is_setting, is_titled, key_in, later_cause, own, sets, setting_cause, shared_cause};
+ghost use Rattle.ubi_config.specs.Above.{gives_id, gives_name, heading_cause, is_autoresize, is_heading, is_titled, later_cause, own, sets, setting_cause, shared_cause};
 
 use crate::errors::ConfigCause;
-use crate::key::{Key, is_same_word};
+use crate::key::Key;
 use crate::line::Line;
 
 /// The most sections.
 const MOST_SECTIONS: usize = 128;
-
-impl Line {
-    /// The key that the line sets. None where it begins a section.
-    pub(crate) fn key(&self) -> Option<Key>
-        ensures { result ≡ key_in self.now }
-    {
-        match self {
-            Line::Heading(_, _) => None,
-            Line::Mode => Some(Key::Mode),
-            Line::Image(_) => Some(Key::Image),
-            Line::Id(_) => Some(Key::Id),
-            Line::Size(_) => Some(Key::Size),
-            Line::Kind(_) => Some(Key::Kind),
-            Line::Name(_) => Some(Key::Name),
-            Line::Autoresize => Some(Key::Flags),
-            Line::Alignment(_) => Some(Key::Alignment),
-        }
-    }
-
-    /// Whether the line sets a key.
-    pub(crate) fn is_setting(&self) -> bool
-        ensures { result ≡ is_setting self.now }
-    {
-        self.key().is_some()
-    }
-
-    /// Whether the line begins a section.
-    pub(crate) fn is_heading(&self) -> bool
-        ensures { result ≡ is_heading self.now }
-    {
-        !self.is_setting()
-    }
-
-    /// Whether the line sets this key.
-    fn sets(&self, key: Key) -> bool
-        ensures { result ≡ sets key self.now }
-    {
-        match self.key() {
-            Some(other) => other.number() == key.number(),
-            None => false,
-        }
-    }
-
-    /// Whether the line begins the section of a name.
-    fn is_titled(&self, name: &[u8]) -> bool
-        ensures { result ≡ is_titled name.now self.now }
-    {
-        match self {
-            Line::Heading(_, other) => is_same_word(other.as_bytes(), name),
-            _ => false,
-        }
-    }
-
-    /// Whether the line gives this number of a volume.
-    fn gives_id(&self, id: u32) -> bool
-        ensures { result ≡ gives_id id self.now }
-    {
-        match self {
-            Line::Id(other) => *other == id,
-            _ => false,
-        }
-    }
-
-    /// Whether the line gives this name of a volume.
-    fn gives_name(&self, name: &[u8]) -> bool
-        ensures { result ≡ gives_name name.now self.now }
-    {
-        match self {
-            Line::Name(other) => other.as_bytes() == name,
-            _ => false,
-        }
-    }
-
-    /// Whether the line lets its volume grow.
-    fn is_autoresize(&self) -> bool
-        ensures { result ≡ is_autoresize self.now }
-    {
-        match self {
-            Line::Autoresize => true,
-            _ => false,
-        }
-    }
-}
 
 /// Whether a line above in the same section sets the key.
 fn is_set(above: &[Line], key: Key) -> bool

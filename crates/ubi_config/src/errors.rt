@@ -46,6 +46,8 @@ pub enum ConfigCause {
     Record(RecFault),
     /// The volume would reserve 2^31 eraseblocks or more.
     TooLarge,
+    /// The number of the volume isn't below the number of slots.
+    IdRange,
 }
 
 impl ConfigCause {
@@ -70,6 +72,7 @@ impl ConfigCause {
             ConfigCause::LongImage => "I14 LongImage",
             ConfigCause::Record(_) => "I15 Record",
             ConfigCause::TooLarge => "I16 TooLarge",
+            ConfigCause::IdRange => "I17 IdRange",
         }
     }
 }

@@ -2,12 +2,29 @@
 //! contents. What is read here means to ubinize what it means here; the rest is refused, with its line.
 //!
 //! [`parse_config`] gives the sections of a text, and [`Section::record`] the record of a section's volume.
+//!
+//! A caller, proved from the contracts alone (`crates/ubi_uses`):
+//!
+//! ```
+//! use std::alloc::Global;
+//! use ubi_config::{ConfigError, parse_config};
+//!
+//! /// How many volumes a config describes, or its first fault.
+//! pub fn volume_count(alloc: Global, text: &[u8]) -> Result<usize, ConfigError>
+//!     ensures count { IfOk result (λ count. count ≡ length (sections_of text.now)) }
+//!     ensures refused { IfErr result (IsFault (first_fault text.now)) }
+//! {
+//!     let sections = parse_config(alloc, text)?;
+//!     Ok(sections.as_slice().len())
+//! }
+//! ```
 #![tactic(auto)]
 
 mod above;
 mod drafts;
 mod errors;
 mod key;
+pub mod laws;
 mod line;
 mod parsing;
 mod section;

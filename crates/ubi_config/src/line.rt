@@ -2,12 +2,13 @@
 
 ghost use Rattle.std.specs.List.{list_any};
 ghost use Rattle.std.specs.Prelude.{◌≡◌, ◌==◌, ◌<◌, IfOk, MatchResult, Ok, length, option_map, position};
+ghost use Rattle.ubi_config.specs.Above.{gives_id, gives_name, is_autoresize, is_heading, is_setting, is_titled, key_in, sets};
 ghost use Rattle.ubi_config.specs.inner.Reading.{IsRefused};
 ghost use Rattle.ubi_config.specs.Lines.{heading_line, is_one_line, is_special, is_title, kind_of, line_of, line_said, setting, setting_at, setting_line, title_of};
 ghost use Rattle.ubi_config.specs.Words.{number_of};
 
 use crate::errors::{ConfigCause, LineError};
-use crate::key::{Key, key_of};
+use crate::key::{Key, is_same_word, key_of};
 use crate::text::Text;
 use crate::value::{is_remark, value_of};
 use crate::words::{ends_with_byte, number_of, size_of, trimmed};
@@ -35,6 +36,89 @@ pub(crate) enum Line {
     Autoresize,
     /// Its alignment.
     Alignment(u32),
+}
+
+impl Line {
+    /// The key that the line sets. None where it begins a section.
+    pub(crate) fn key(&self) -> Option<Key>
+        ensures { result ≡ key_in self.now }
+    {
+        match self {
+            Line::Heading(_, _) => None,
+            Line::Mode => Some(Key::Mode),
+            Line::Image(_) => Some(Key::Image),
+            Line::Id(_) => Some(Key::Id),
+            Line::Size(_) => Some(Key::Size),
+            Line::Kind(_) => Some(Key::Kind),
+            Line::Name(_) => Some(Key::Name),
+            Line::Autoresize => Some(Key::Flags),
+            Line::Alignment(_) => Some(Key::Alignment),
+        }
+    }
+
+    /// Whether the line sets a key.
+    pub(crate) fn is_setting(&self) -> bool
+        ensures { result ≡ is_setting self.now }
+    {
+        self.key().is_some()
+    }
+
+    /// Whether the line begins a section.
+    pub(crate) fn is_heading(&self) -> bool
+        ensures { result ≡ is_heading self.now }
+    {
+        !self.is_setting()
+    }
+
+    /// Whether the line sets this key.
+    pub(crate) fn sets(&self, key: Key) -> bool
+        ensures { result ≡ sets key self.now }
+    {
+        match self.key() {
+            Some(other) => other.number() == key.number(),
+            None => false,
+        }
+    }
+
+    /// Whether the line begins the section of a name.
+    pub(crate) fn is_titled(&self, name: &[u8]) -> bool
+        ensures { result ≡ is_titled name.now self.now }
+    {
+        match self {
+            Line::Heading(_, other) => is_same_word(other.as_bytes(), name),
+            _ => false,
+        }
+    }
+
+    /// Whether the line gives this number of a volume.
+    pub(crate) fn gives_id(&self, id: u32) -> bool
+        ensures { result ≡ gives_id id self.now }
+    {
+        match self {
+            Line::Id(other) => *other == id,
+            _ => false,
+        }
+    }
+
+    /// Whether the line gives this name of a volume.
+    pub(crate) fn gives_name(&self, name: &[u8]) -> bool
+        ensures { result ≡ gives_name name.now self.now }
+    {
+        match self {
+            Line::Name(other) => other.as_bytes() == name,
+            _ => false,
+        }
+    }
+
+    /// Whether the line lets its volume grow.
+    pub(crate) fn is_autoresize(&self) -> bool
+        ensures { result ≡ is_autoresize self.now }
+    {
+        match self {
+            Line::Autoresize => true,
+            _ => false,
+        }
+    }
 }
 
 /// The bytes of the longest line that ubinize doesn't cut in two.

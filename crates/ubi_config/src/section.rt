@@ -9,7 +9,7 @@ use crate::text::Text;
 use ubi_media::{Geometry, VolKind, VolName, VolumeRecord, rec_fault};
 
 /// A section of a config: a volume.
-#[derive(Debug, Drop)]
+#[derive(Debug, Drop, PartialEq)]
 pub struct Section {
     /// The number of the line that begins it, counted from 1.
     pub line: u32,
@@ -77,6 +77,9 @@ impl Section {
         if reserved >= 0x8000_0000 {
             return Err(ConfigCause::TooLarge);
         }
+        if self.id >= geometry.slots() {
+            return Err(ConfigCause::IdRange);
+        }
         Ok(self.reserving(reserved as u32))
     }
 
@@ -88,7 +91,8 @@ impl Section {
     /// Of these the first: [`Empty`](ConfigCause::Empty) where the image file has no byte, or the volume none;
     /// [`LongImage`](ConfigCause::LongImage) where the image file has more bytes than `vol_size`;
     /// [`Record`](ConfigCause::Record) where the alignment isn't right for the geometry;
-    /// [`TooLarge`](ConfigCause::TooLarge) where 2^31 eraseblocks and more would be reserved.
+    /// [`TooLarge`](ConfigCause::TooLarge) where 2^31 eraseblocks and more would be reserved;
+    /// [`IdRange`](ConfigCause::IdRange) where the geometry has no slot for the volume.
     #[tactic(auto, unfolding(crate::specs::Records::record_in))]
     pub fn record(
         &self,

@@ -14,12 +14,11 @@ use Rattle.ubi_compose.specs.Built.{Parts}
 use Rattle.ubi_compose.specs.declared.errors.BuildError.{BuildError}
 use Rattle.ubi_compose.specs.declared.errors.BuildError.TheVariants as build
 use Rattle.ubi_compose.specs.declared.recipe.Part.{Part}
-use Rattle.ubi_tool.specs.Build.{AreGathered, Builds, BuildsParts, built, crowded, gathered, image_paths, numbered, unread, unwritten}
+use Rattle.ubi_tool.specs.Build.{AreGathered, Builds, BuildsParts, IsUnreadLine, built, crowded, gathered, image_paths, numbered, unread, unwritten}
 use Rattle.ubi_tool.specs.Row.{row_bytes}
 use Rattle.ubi_tool.specs.Disk.{AllStay, Files, IsKept, fresh}
 use Rattle.ubi_tool.specs.Late.{contents_of}
 use Rattle.ubi_tool.specs.inner.Built.{AreAnswers, IsNotBegun, IsToldOf}
-use Rattle.ubi_tool.specs.inner.Gathering.{IsUnreadLine}
 use Rattle.ubi_tool.specs.declared.build.Answers.{Answers}
 use Rattle.ubi_tool.specs.declared.outcome.Outcome.{Outcome}
 use Rattle.ubi_tool.proofs.Outcomes.{holds_received}

@@ -71,14 +71,6 @@ module _ {F : Type 0} (bytes : F → Option (List ℕ)) (len : F → ℕ) (sized
       ∙ ap (take (length read)) (sym (drop-append-add front behind far))
       ∙ ap (λ (k : ℕ). take (length read) (drop k (front ++ behind))) (sym begins))
 
--- the bytes of one file more
-pub sum_more : {F : Type 0} (len : F → ℕ) (fs : List F) (i : ℕ) (f : F) → i < length fs → get_or fs i f ≡ f
-    → sum_by len (take (i + 1) fs) ≡ sum_by len (take i fs) + len f
-sum_more len fs i f inside here =
-    ap (sum_by len) (take_more fs i f inside) ∙ sum_by-append len (take i fs) (get_or fs i f ∷ [])
-    ∙ ap (λ x. sum_by len (take i fs) + sum_by len (x ∷ [])) here
-    ∙ (let one : sum_by len (f ∷ []) ≡ len f = omega arith in ap (λ (n : ℕ). sum_by len (take i fs) + n) one)
-
 -- what is read of a file is read of the row, as far as the file reaches
 module _ {F : Type 0} (bytes : F → Option (List ℕ)) (len : F → ℕ) (sized : (f : F) → ForSome (bytes f) (λ all. length all ≡ len f)) where
   pub row_read : (fs : List F) (i : ℕ) (f : F) (at place : ℕ) (out : List ℕ) (count : ℕ) → i < length fs → get_or fs i f ≡ f

@@ -11,10 +11,10 @@ use Rattle.ubi_config.specs.Records.{record_in}
 use Rattle.ubi_config.specs.declared.section.Section.{Section}
 use Rattle.ubi_compose.proofs.Lists.{all_append}
 use Rattle.ubi_compose.specs.declared.recipe.Part.{Part}
-use Rattle.ubi_tool.specs.Build.{AreGathered, ArePartsOf, IsSized, Sized, image_path, image_paths, len_of, part_at}
+use Rattle.ubi_tool.specs.Build.{AreGathered, ArePartsOf, AreUnread, IsSized, IsUnreadLine, Sized, image_path, image_paths, len_of, part_at}
 use Rattle.ubi_tool.specs.Disk.{Files}
 use Rattle.ubi_tool.proofs.FileRows.{sum_cons}
-use Rattle.ubi_tool.specs.inner.Gathering.{AreSoFar, AreUnread, IsFound, IsPartOf, IsUnreadLine, listed}
+use Rattle.ubi_tool.specs.inner.Gathering.{AreSoFar, IsFound, IsPartOf, listed}
 use Rattle.ubi_tool.specs.declared.outcome.Outcome.{Outcome}
 
 -- an element stays in a longer list
@@ -145,11 +145,7 @@ unread_file d config xs k x o file inside here = by_image x.image refl
         absurd (omega (arith, some, nothing))
     by_image (Some image) is h some = (image_path config image, path_named config xs k x image inside here is, h.5)
 
--- the file of one section more, in a list of files
-pub listed_map : {X Y : Type 0} (f : X → Y) (o : Option X) → map f (listed o) ≡ listed (option_map f o)
-listed_map f None = refl
-listed_map f (Some x) = refl
-
+-- the sum over an element, if there is one
 pub listed_sum : {X : Type 0} (f : X → ℕ) (o : Option X) → sum_by f (listed o) ≡ unwrap_or (option_map f o) 0
 listed_sum f None = refl
 listed_sum f (Some x) = omega arith

@@ -40,6 +40,15 @@ image_path config image = path_with_file_name config image
 abbrev pub image_paths : List ℕ → List Section → List (List ℕ)
 image_paths config sections = filter_map (λ (x : Section). option_map (image_path config) x.image) sections
 
+-- the line of a file that can't be read
+abbrev pub IsUnreadLine : List ℕ → Outcome → Type 0
+IsUnreadLine path o = Gives o (says (file_line (codes "cannot read ") path) 1)
+
+-- each is the line of a file that can't be read: of an image file that the sections name, or of the config
+abbrev pub AreUnread : List ℕ → List Section → List Outcome → Type 0
+AreUnread config sections lines =
+    AllByRecursion (λ o. (path : List ℕ) × Contains (config ∷ image_paths config sections) path × IsUnreadLine path o) lines
+
 -- a section, and how many bytes its image file has, where it names one
 abbrev pub Sized : Type 0
 Sized = Section × Option ℕ
@@ -81,7 +90,7 @@ numbered s seq parts = record { sizes = s; image_seq = seq; of = parts }
 -- whose path isn't text; or that of a section that gives no record
 pub data IsUngathered (s : Sizes) (config : List ℕ) (sections : List Section) : Outcome → Type 0 where
   no_image : {o : Outcome} (path : List ℕ) → Contains (image_paths config sections) path
-      → Gives o (says (file_line (codes "cannot read ") path) 1) → IsUngathered s config sections o
+      → IsUnreadLine path o → IsUngathered s config sections o
   no_path : {o : Outcome} (x : Section) (image : List ℕ) → Contains sections x → x.image ≡ Some image → (IsUtf8 image → ⊥)
       → Gives o (says (config_line x.line cause.Unfit) 1) → IsUngathered s config sections o
   no_record : {o : Outcome} (x : Section) (len : Option ℕ) (c : ConfigCause) → Contains sections x → record_in s x len ≡ Err c
@@ -101,7 +110,7 @@ pub data BuildsParts (d e : Files) (config out : List ℕ) (sections : List Sect
       → Wrote (known_by size reads) (fresh d) received (image_built ps spares) All 0 n → Holds e out received
       → Gives o (says (blocks_line (n / ps.sizes.peb_size)) 0) → BuildsParts d e config out sections ps held spares o
   unread : {o : Outcome} (path : List ℕ) → Contains (config ∷ image_paths config sections) path
-      → Gives o (says (file_line (codes "cannot read ") path) 1) → BuildsParts d e config out sections ps held spares o
+      → IsUnreadLine path o → BuildsParts d e config out sections ps held spares o
   unwritten : {o : Outcome} → Gives o (says (file_line (codes "cannot write ") out) 1) → BuildsParts d e config out sections ps held spares o
 
 -- what the command answers of a config, and what becomes of the files

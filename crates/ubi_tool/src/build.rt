@@ -4,14 +4,13 @@ ghost use Rattle.std.specs.Prelude.{◌≡◌, ◌+◌, ◌≤◌, ◌⊎◌, �
 ghost use Rattle.ubi_compose.specs.Building.{WhereNotBegun};
 ghost use Rattle.ubi_config.specs.Config.{first_fault, sections_of};
 ghost use Rattle.ubi_config.specs.declared.section.Section.{Section};
-ghost use Rattle.ubi_tool.specs.Build.{Builds, BuildsParts, numbered};
+ghost use Rattle.ubi_tool.specs.Build.{AreUnread, Builds, BuildsParts, numbered};
 ghost use Rattle.ubi_tool.specs.Disk.{AllStay, OthersStay, fresh};
 ghost use Rattle.ubi_tool.specs.Late.{contents_of};
 ghost use Rattle.ubi_tool.specs.Program.{OfText};
 ghost use Rattle.ubi_tool.specs.Row.{row_bytes};
 ghost use Rattle.ubi_tool.specs.declared.outcome.Outcome.{Outcome};
 ghost use Rattle.ubi_tool.specs.inner.Built.{AreAnswers, IsNotBegun, IsToldOf};
-ghost use Rattle.ubi_tool.specs.inner.Gathering.{AreUnread};
 
 use crate::command_line::Build;
 use crate::compose::{meaning_line, room_line};

@@ -5,9 +5,9 @@ ghost use Rattle.ubi_media.specs.Geometry.{Sizes};
 ghost use Rattle.ubi_config.specs.Records.{record_in};
 ghost use Rattle.ubi_config.specs.declared.section.Section.{Section};
 ghost use Rattle.ubi_tool.specs.Answer.{Gives, says};
-ghost use Rattle.ubi_tool.specs.Build.{AreGathered, IsUngathered, config_line};
+ghost use Rattle.ubi_tool.specs.Build.{AreGathered, AreUnread, IsUngathered, config_line};
 ghost use Rattle.ubi_tool.specs.Program.{Tells};
-ghost use Rattle.ubi_tool.specs.inner.Gathering.{AreUnread, IsFound, IsPartOf, listed};
+ghost use Rattle.ubi_tool.specs.inner.Gathering.{IsFound, IsPartOf, listed};
 
 use crate::disk::Disk;
 use crate::file_row::SizedFile;

@@ -109,5 +109,7 @@ where
     if !has_places || path == out || !stays(rt, &metadata, out) {
         return None;
     }
-    open_sized(rt, path)
+    let file = open_sized(rt, path)?;
+    // A device that tells no size, as `/dev/zero`, has no end.
+    (kind.is_file() || file.len() > 0).then_some(file)
 }

@@ -1,15 +1,19 @@
 //! Callers of the other crates, proved from the contracts alone: the examples of their front pages.
 #![tactic(auto)]
 
+mod build;
 mod change;
 mod compose;
+mod config;
 mod media;
 mod scan;
 mod table;
 mod volume;
 
+pub use build::image_of_volumes;
 pub use change::update;
 pub use compose::is_same_build;
+pub use config::volume_count;
 pub use media::erased;
 pub use scan::holder;
 pub use table::record_of;

@@ -1,4 +1,5 @@
--- The eraseblocks that are built of parts, by the bytes of the source; and what stands for the bytes where volumes are judged.
+-- The eraseblocks that are built of parts, by the bytes of the source; and what stands for the bytes where volumes are
+-- judged.
 use Rattle.std.specs.Prelude.{◌≡◌, ℕ, ◌+◌, ◌*◌, ◌^◌, ◌<◌, ◌≤◌, ◌&&◌, Bool, List, [], ◌++◌, if◌then◌else◌, find, flat_map, is_none, nat_lt, not, option_map, None, Option, ◌==◌}
 use Rattle.std.specs.FinMap as finite
 use Rattle.std.specs.List.{range_with_len}
@@ -11,7 +12,6 @@ use Rattle.ubi_media.specs.declared.vid.VolKind.{VolKind}
 use Rattle.ubi_media.specs.declared.vid.VolKind.TheVariants as kind
 use Rattle.ubi_scan.specs.Members.{layout}
 use Rattle.ubi_scan.specs.Source.{Agreed, Source}
-use Rattle.ubi_volume.specs.Made.{Items}
 use Rattle.ubi_volume.specs.Meant.{share}
 use Rattle.ubi_volume.specs.Wrote.{First, NotAll, Wanted, Wrote}
 use Rattle.ubi_volume.specs.declared.content.Content.{Content}
@@ -65,7 +65,8 @@ part_at ps id = find (λ p. p.id == id) ps.of
 -- the bytes of the volume table
 abbrev pub table_of : Parts → List ℕ
 table_of ps =
-    flat_map (λ slot. rec_bytes ps.sizes (option_map (λ p. p.entry) (part_at ps slot))) (range_with_len 0 (slots ps.sizes))
+    flat_map (λ slot. rec_bytes ps.sizes (option_map (λ p. p.entry) (part_at ps slot)))
+    (range_with_len 0 (slots ps.sizes))
 
 -- the eraseblock of a piece of a static volume
 abbrev pub static_piece : Parts → Part → ℕ → List ℕ → List ℕ
@@ -74,14 +75,16 @@ static_piece ps p lnum bytes = laid_bytes ps.sizes (new_ec ps.image_seq)
 
 -- that of a dynamic one: none where the piece is 0xFF throughout
 abbrev pub dynamic_piece : Parts → Part → ℕ → List ℕ → List ℕ
-dynamic_piece ps p lnum bytes = kept_bytes ps.sizes ps.image_seq (plain kind.Dynamic 0 (data_pad ps.sizes p.entry) p.id lnum)
+dynamic_piece ps p lnum bytes = kept_bytes ps.sizes ps.image_seq
+    (plain kind.Dynamic 0 (data_pad ps.sizes p.entry) p.id lnum)
     (filled (usable ps.sizes p.entry) (share (usable ps.sizes p.entry) (text_of bytes p) lnum))
 
--- that of either kind
+-- that of a volume of a kind
 abbrev pub piece_of_kind : VolKind → Parts → Part → ℕ → List ℕ → List ℕ
 piece_of_kind kind.Static = static_piece
 piece_of_kind kind.Dynamic = dynamic_piece
 
+-- that of a piece of a part
 abbrev pub piece_bytes : Parts → Part → ℕ → List ℕ → List ℕ
 piece_bytes ps p = piece_of_kind p.entry.kind ps p
 
@@ -104,7 +107,8 @@ first_volumes ps n bytes = flat_map (λ id. numbered_bytes ps id bytes) (range_w
 -- a copy of the volume table
 abbrev pub table_block : Parts → ℕ → List ℕ → List ℕ
 table_block ps copy bytes =
-    laid_bytes ps.sizes (new_ec ps.image_seq) (record { header = plain kind.Dynamic 5 0 layout copy; text = table_of ps })
+    laid_bytes ps.sizes (new_ec ps.image_seq)
+    (record { header = plain kind.Dynamic 5 0 layout copy; text = table_of ps })
 
 -- both
 abbrev pub tables_bytes : Parts → List ℕ → List ℕ
@@ -128,7 +132,8 @@ abbrev pub of_write : StreamError → BuildError
 of_write (stream.Write n) = build.Write n
 of_write _ = build.Memory
 
--- why the writer didn't receive all of the bytes wanted: a read for a volume failed, after the first of them, or a write
+-- why the writer didn't receive all of the bytes wanted: a read for a volume failed, after the first of them, or a
+-- write
 abbrev pub IsUnbuilt : Parts → Agreed → Option (List ℕ) → Option (List ℕ) → Wanted → ℕ → BuildError → Type 0
 IsUnbuilt ps agrees old new wanted before (build.Read id n) =
     (p : Part) × IsPartOf ps id p × Wrote agrees old new wanted First before n

@@ -1,10 +1,10 @@
 //! Eraseblocks of the size that chips have: 128 KiB in pages of 2 KiB.
 
 use super::images::{LEB_1, TABLE_0, TABLE_1, bytes_of};
-use crate::{compose, normalise_to, parse_spec, same};
+use crate::{Part, Recipe, build_to, compose, normalise_to, parse_spec, same};
 use std::alloc::Global;
 use std::test::Fail;
-use ubi_media::Geometry;
+use ubi_media::{Geometry, VolKind, VolName, VolumeRecord};
 use ubi_scan::MemorySource;
 use ubi_volume::{Failure, Meaning, ProbeWriter};
 
@@ -127,14 +127,41 @@ fn is_normalised(
     )
 }
 
+/// Whether an image is built, with a spare eraseblock, of a source with one logical eraseblock that is 0xFF throughout and
+/// two bytes more.
+fn is_built(alloc: Global, geometry: &Geometry, want: &[u8]) -> Result<bool, Fail> {
+    let mut bytes = Vec::from_elem(alloc, 0xFF, geometry.leb_size() as usize)?;
+    bytes.extend_from_slice(b"ab")?;
+    let entry = VolumeRecord {
+        reserved: 20,
+        alignment: 1,
+        kind: VolKind::Dynamic,
+        marker: false,
+        name: VolName::new(b"root").ok_or("no name")?,
+        flags: 0,
+    };
+    let part = Part {
+        id: 0,
+        entry,
+        start: 0,
+        len: bytes.len() as u64,
+    };
+    let parts = Vec::from_array(alloc, [part])?;
+    let recipe = Recipe::new(alloc, geometry, 0x1234_5678, parts).map_err(|_| "no recipe")?;
+    let mut source = MemorySource::new(bytes.as_slice());
+    let mut writer = ProbeWriter::new(alloc, 1 << 20, 1 << 20, Failure::Nothing)?;
+    let answer = build_to(alloc, &recipe, 1, &mut source, &mut writer);
+    Ok(answer == Ok(want.len() as u64) && writer.taken() == want)
+}
+
 #[test]
-fn composes_normalises_and_compares(rt: HostRuntime) -> Result<(), Fail> {
+fn composes_builds_normalises_and_compares(rt: HostRuntime) -> Result<(), Fail> {
     let alloc = rt.alloc();
     for chip in &CHIPS {
         let geometry = Geometry::new(131_072, 2048, chip.vid, chip.data, 1024)?;
         let image = composed(alloc, &geometry, 0x1234_5678)?;
         let (want, unnamed) = (bytes_of(alloc, chip.image)?, composed(alloc, &geometry, 0)?);
-        assert!(rt; image == want);
+        assert!(rt; image == want && is_built(alloc, &geometry, want.as_slice())?);
         let normal = want.as_slice().get(..393_216).unwrap_or(&[]);
         let images = (image.as_slice(), normal, unnamed.as_slice());
         assert!(rt; is_normalised(alloc, &geometry, images)?);

@@ -5,7 +5,7 @@ use std::test::Fail;
 use ubi_media::RecFault;
 
 /// A cause, and its text on line 3.
-static SHOWN: [(ConfigCause, &str, &str); 16] = [
+static SHOWN: [(ConfigCause, &str, &str); 17] = [
     (ConfigCause::Line, "I1 Line", "I1 Line line=3"),
     (ConfigCause::Form, "I2 Form", "I2 Form line=3"),
     (ConfigCause::Key, "I3 Key", "I3 Key line=3"),
@@ -42,6 +42,7 @@ static SHOWN: [(ConfigCause, &str, &str); 16] = [
         "I15 Record line=3 AlignmentPage",
     ),
     (ConfigCause::TooLarge, "I16 TooLarge", "I16 TooLarge line=3"),
+    (ConfigCause::IdRange, "I17 IdRange", "I17 IdRange line=3"),
 ];
 
 #[test]

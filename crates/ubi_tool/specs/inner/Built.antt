@@ -5,10 +5,9 @@ use Rattle.ubi_config.specs.declared.section.Section.{Section}
 use Rattle.ubi_compose.specs.declared.errors.BuildError.{BuildError}
 use Rattle.ubi_compose.specs.declared.errors.BuildError.TheVariants as build
 use Rattle.ubi_tool.specs.Answer.{Gives, says}
-use Rattle.ubi_tool.specs.Build.{image_paths}
+use Rattle.ubi_tool.specs.Build.{AreUnread, IsUnreadLine, image_paths}
 use Rattle.ubi_tool.specs.Compose.{room_line}
 use Rattle.ubi_tool.specs.Lines.{blocks_line, file_line}
-use Rattle.ubi_tool.specs.inner.Gathering.{AreUnread, IsUnreadLine}
 use Rattle.ubi_tool.specs.declared.build.Answers.{Answers}
 use Rattle.ubi_tool.specs.declared.outcome.Outcome.{Outcome}
 

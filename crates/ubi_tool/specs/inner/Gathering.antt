@@ -7,14 +7,10 @@ use Rattle.ubi_config.specs.Records.{record_in}
 use Rattle.ubi_config.specs.declared.section.Section.{Section}
 use Rattle.ubi_compose.specs.declared.recipe.Part.{Part}
 use Rattle.ubi_tool.specs.Answer.{Gives, says}
-use Rattle.ubi_tool.specs.Build.{AreGathered, Sized, image_path, image_paths, len_of, part_at}
+use Rattle.ubi_tool.specs.Build.{AreGathered, IsUnreadLine, Sized, image_path, len_of, part_at}
 use Rattle.ubi_tool.specs.Disk.{Files}
 use Rattle.ubi_tool.specs.Lines.{file_line}
 use Rattle.ubi_tool.specs.declared.outcome.Outcome.{Outcome}
-
--- the line of a file that can't be read
-abbrev pub IsUnreadLine : List ℕ → Outcome → Type 0
-IsUnreadLine path o = Gives o (says (file_line (codes "cannot read ") path) 1)
 
 -- the image file of a section was found, if it names one: what that holds, where it is known, and how many bytes it has; and the
 -- line that is answered where it can't be read, or else that of the config
@@ -31,11 +27,6 @@ IsPartOf s start e p = (r : VolumeRecord) × (record_in s e.0 e.1 ≡ Ok r) × (
 abbrev pub listed : {X : Type 0} → Option X → List X
 listed None = []
 listed (Some x) = x ∷ []
-
--- each is the line of a file that can't be read: of an image file that the sections name, or of the config
-abbrev pub AreUnread : List ℕ → List Section → List Outcome → Type 0
-AreUnread config sections lines =
-    AllByRecursion (λ o. (path : List ℕ) × Contains (config ∷ image_paths config sections) path × IsUnreadLine path o) lines
 
 -- what sections come to so far, whose files have so many bytes together
 pub record AreSoFar (d : Files) (s : Sizes) (config : List ℕ) (sections : List Section) (parts : List Part)

@@ -1,6 +1,6 @@
 //! The command `build` over files that hold a config and the contents of a volume, and over files that fail.
 
-use super::answers::{assert_over, run_over, is_answer};
+use super::answers::{assert_over, is_answer, run_over};
 use super::contents::{Contents, EMPTY};
 use super::fake::Broken;
 use std::alloc::Global;
@@ -38,7 +38,8 @@ static WAYS: [(Broken, (&str, u8), usize); 14] = [
     (Broken::Places, UNREAD_CONTENT, 0),
     (Broken::Read(ErrorKind::Other, 100), UNREAD_CONTENT, 1024),
     (Broken::Read(ErrorKind::Other, 400), UNREAD_CONTENT, 1536),
-    (Broken::PlacesOnce(ErrorKind::Interrupted, 400), UNREAD_CONTENT, 1536),
+    // Where reading ahead fails, what was asked for is read alone.
+    (Broken::PlacesOnce(ErrorKind::Other, 400), BUILT, 2560),
     // The file was 512 bytes longer.
     (Broken::Cut, UNREAD_CONTENT, 2560),
     (Broken::OpenWrite, UNWRITTEN, 0),
@@ -62,8 +63,16 @@ fn builds_of_files_or_tells_which_fails(rt: HostRuntime) -> Result<(), Fail> {
 /// Configs, what `new.bin` holds, and what is answered. Nothing is written.
 static REFUSED: [(&[u8], Contents, (&str, u8)); 13] = [
     (b"", EMPTY, ("refused I6 NoSection line=1\n", 1)),
-    (b"\n[a]\nmode=ubi\nvol_name=root\nvol_size=1\n", EMPTY, ("refused I12 Missing line=2 vol_id\n", 1)),
-    (b"[a]\nmode=ubi\nvol_id=00\n", EMPTY, ("refused I5 Unfit line=3\n", 1)),
+    (
+        b"\n[a]\nmode=ubi\nvol_name=root\nvol_size=1\n",
+        EMPTY,
+        ("refused I12 Missing line=2 vol_id\n", 1),
+    ),
+    (
+        b"[a]\nmode=ubi\nvol_id=00\n",
+        EMPTY,
+        ("refused I5 Unfit line=3\n", 1),
+    ),
     (CONFIG, EMPTY, ("refused I13 Empty line=2\n", 1)),
     (
         b"[a]\nmode=ubi\nvol_id=0\nvol_name=root\nvol_size=1151\nimage=new.bin\n",
@@ -82,9 +91,9 @@ static REFUSED: [(&[u8], Contents, (&str, u8)); 13] = [
     ),
     // The second section's file is missing, or may be the output.
     (
-        b"[a]\nmode=ubi\nvol_id=0\nvol_name=root\nimage=new.bin\n[b]\nmode=ubi\nvol_id=1\nvol_name=b\nimage=/b\n",
+        b"[a]\nmode=ubi\nvol_id=0\nvol_name=root\nimage=new.bin\n[b]\nmode=ubi\nvol_id=1\nvol_name=b\nimage=b\n",
         CONTENT,
-        ("cannot read /b\n", 1),
+        ("cannot read b\n", 1),
     ),
     (
         b"[a]\nmode=ubi\nvol_id=0\nvol_name=root\nimage=b.img\n",
@@ -101,7 +110,7 @@ static REFUSED: [(&[u8], Contents, (&str, u8)); 13] = [
     (
         b"[a]\nmode=ubi\nvol_id=2\nvol_name=root\nimage=new.bin\n",
         CONTENT,
-        ("refused M1 IdRange item=0\n", 1),
+        ("refused I17 IdRange line=1\n", 1),
     ),
     (
         b"[a]\nmode=ubi\nvol_id=0\nvol_name=root\nvol_size=11521\n",
@@ -111,7 +120,7 @@ static REFUSED: [(&[u8], Contents, (&str, u8)); 13] = [
     (
         b"[a]\nmode=ubi\nvol_id=0\nvol_name=root\nvol_type=static\nimage=new.bin\n[b]\nmode=ubi\nvol_id=1\nvol_name=root\n",
         CONTENT,
-        ("refused I10 SameName line=9\n", 1),
+        ("refused I10 SameName line=10\n", 1),
     ),
 ];
 
@@ -126,7 +135,11 @@ fn assert_refused(
     let content = content.bytes(alloc)?;
     let files = (config, content.as_slice());
     let (outcome, written) = run_over(alloc, files, Broken::Nothing, LINE)?;
-    assert!(*rt; is_answer(&outcome, answer) && written.is_empty(), "{}", answer.0);
+    assert!(*rt;
+        is_answer(&outcome, answer) && written.is_empty(),
+        "{}",
+        answer.0
+    );
     Ok(())
 }
 

@@ -1,4 +1,4 @@
-use Rattle.std.proofs.Common.{◌≡◌, ◌-◌, ◌++◌, ◌∙◌, ap, length, sym}
+use Rattle.std.proofs.Common.{◌-◌, ◌++◌, ◌∙◌, ap, length, sym}
 use Rattle.ubi_media.specs.Ec.{ec_bytes}
 use Rattle.ubi_media.specs.Fields.{blank}
 use Rattle.ubi_scan.proofs.Filled.{filled-is}
@@ -10,5 +10,6 @@ returns c =
     let s = c.args.geometry.now in
     let ec = ec_bytes s (new_ec c.args.image_seq) in
     c.put_front.ensures
-    ∙ ap (λ xs. xs ++ blank (length c.args.buffer.now - length xs)) (c.write_ec.ensures.bytes ∙ ap (ec_bytes s) c.new_ec.ensures)
+    ∙ ap (λ xs. xs ++ blank (length c.args.buffer.now - length xs))
+    (c.write_ec.ensures.bytes ∙ ap (ec_bytes s) c.new_ec.ensures)
     ∙ ap (λ n. ec ++ blank (n - length ec)) c.requires ∙ sym (filled-is s.peb_size ec)

@@ -1,10 +1,9 @@
-use Rattle.std.proofs.Common.{◌≡◌, ℕ, ◌+◌, ◌≤◌, ◌∙◌, List, ap, length, sym, subst, arith}
+use Rattle.std.proofs.Common.{◌≡◌, ◌∙◌, ap, length, sym, subst, arith}
 use Rattle.std.proofs.lemmas.Result.{IfErr-weaker, IfOk-weaker}
-use Rattle.ubi_media.specs.Geometry.{Sizes}
 use Rattle.ubi_volume.specs.Wrote.{All}
 use Rattle.ubi_volume.proofs.Narrowed.{wrote_where}
-use Rattle.ubi_compose.specs.Building.{image_built, those}
-use Rattle.ubi_compose.specs.Built.{Parts, Reaches, most_blocks}
+use Rattle.ubi_compose.specs.Building.{CanBuild, image_built, those}
+use Rattle.ubi_compose.specs.Built.{Parts, Reaches}
 use Rattle.ubi_compose.specs.inner.Building.{whole_bytes}
 use Rattle.ubi_compose.proofs.BuiltMeaning.{table_room}
 use Rattle.ubi_compose.proofs.BuiltRoom.{built_accepted}
@@ -30,7 +29,7 @@ returns-clause-written g c =
     let size : length bytes ≡ c.len.result = (g.met.S.BlockSource.sized c.args.source.now).sized bytes
     (c.put_image.ensures.narrows bytes holds) ∙ sym c.len.ensures in
     w ∙ sym (image_is ps bytes c.geometry-geometry.ensures.meaning
-    (subst (λ n. Reaches n ps.of) (sym size) c.in_default.ensures) c.args.spares)) h)
+    (subst (λ n. Reaches n ps.of) (sym size) c.in_ok-judge.ensures.ok.reaches) c.args.spares)) h)
     c.put_image.ensures.written
 
 pub returns-clause-refused : goal.returns-clause-refused
@@ -39,29 +38,24 @@ returns-clause-refused g c =
     let agrees = g.S.BlockSource.agrees c.put_image.new.source in
     IfErr-weaker c.put_image.result _ _
     (λ e h. unbuilt_refused ps c.args.spares (g.S.BlockSource.known c.args.source.now) agrees _ _ e
+    (subst (CanBuild ps c.args.spares) c.len.ensures c.in_ok-judge.ensures.ok)
     (unbuilt_where agrees agrees (λ bytes holds. holds) ps _ _ (those (whole_bytes ps c.args.spares))
     (image_built ps c.args.spares) 0 e
     (λ bytes text holds w.
     let size : length bytes ≡ c.len.result = (g.met.S.BlockSource.sized c.args.source.now).sized bytes
     (c.put_image.ensures.narrows bytes holds) ∙ sym c.len.ensures in
     w ∙ sym (image_is ps bytes c.geometry-geometry.ensures.meaning
-    (subst (λ n. Reaches n ps.of) (sym size) c.in_default.ensures) c.args.spares)) h))
+    (subst (λ n. Reaches n ps.of) (sym size) c.in_ok-judge.ensures.ok.reaches) c.args.spares)) h))
     c.put_image.ensures.failed
 
 pub returns-clause-accepted : goal.returns-clause-accepted
 returns-clause-accepted g c =
     let ps : Parts = c.args.recipe.now in
-    let agrees = g.S.BlockSource.agrees c.put_image.new.source in
-    let few = c.if-most_blocks-from.false in
-    let most = c.most_blocks.ensures.value in
-    let spares = c.from.ensures in
-    let pebs = c.from-2.ensures in
-    let device = c.pebs.ensures.value ∙ ap (λ (s : Sizes). s.pebs) c.geometry-geometry.ensures.value in
-    let room : most_blocks ps + c.args.spares ≤ ps.sizes.pebs = omega (arith, few, most, spares, pebs, device) in
     IfOk-weaker c.put_image.result _ _
     (λ n h bytes holds.
     let size : length bytes ≡ c.len.result = (g.met.S.BlockSource.sized c.args.source.now).sized bytes
     (c.put_image.ensures.narrows bytes holds) ∙ sym c.len.ensures in
-    built_accepted ps c.geometry-geometry.ensures.meaning bytes (subst (λ n. Reaches n ps.of) (sym size) c.in_default.ensures)
-    c.args.spares room)
+    built_accepted ps c.geometry-geometry.ensures.meaning bytes
+    (subst (λ n. Reaches n ps.of) (sym size) c.in_ok-judge.ensures.ok.reaches) c.args.spares
+    c.in_ok-judge.ensures.ok.room)
     c.put_image.ensures.written

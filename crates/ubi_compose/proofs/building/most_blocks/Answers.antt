@@ -1,5 +1,5 @@
-use Rattle.std.proofs.Common.{◌≡◌, ℕ, ◌+◌, ◌*◌, ◌<◌, ◌≤◌, ◌∙◌, ap, get_or, length, take, refl, sym, subst, arith, Some}
-use Rattle.std.specs.Prelude.{None, slice_get, sum_by}
+use Rattle.std.proofs.Common.{◌≡◌, ◌+◌, ◌*◌, ◌<◌, ◌≤◌, ◌∙◌, ap, get_or, length, sym, subst, arith, Some}
+use Rattle.std.specs.Prelude.{None, slice_get}
 use Rattle.std.proofs.lemmas.List.Sums.{sum_by-take-le, sum_by_more}
 use Rattle.std.proofs.lemmas.Option.{slice_get-get_or}
 use Rattle.ubi_media.specs.Geometry.{Sizes}
@@ -15,7 +15,8 @@ piece_count-requires-clause-sound c =
     let p : Part = c.part-item.result in
     let i = c.loop-part.part-index in
     let here : p ≡ get_or ps.of i p = c.part-item.is ∙ ap (λ xs. get_or xs i p) c.parts-part-items.ensures.value in
-    let inside : i < length ps.of = subst (λ xs. i < length xs) c.parts-part-items.ensures.value c.loop-part-test.true in
+    let inside : i < length ps.of = subst (λ xs. i < length xs) c.parts-part-items.ensures.value c.loop-part-test.true
+    in
     let at : slice_get ps.of i ≡ Some p = slice_get-get_or ps.of i p inside ∙ ap Some (sym here) in
     subst (λ (s : Sizes). rec_fault s p.entry ≡ None) (sym c.geometry-geometry.ensures.value)
     (part_sound ps c.geometry-geometry.ensures.meaning i p at)
@@ -26,7 +27,8 @@ piece_count-requires-clause-fits c =
     let p : Part = c.part-item.result in
     let i = c.loop-part.part-index in
     let here : p ≡ get_or ps.of i p = c.part-item.is ∙ ap (λ xs. get_or xs i p) c.parts-part-items.ensures.value in
-    let inside : i < length ps.of = subst (λ xs. i < length xs) c.parts-part-items.ensures.value c.loop-part-test.true in
+    let inside : i < length ps.of = subst (λ xs. i < length xs) c.parts-part-items.ensures.value c.loop-part-test.true
+    in
     let at : slice_get ps.of i ≡ Some p = slice_get-get_or ps.of i p inside ∙ ap Some (sym here) in
     subst (λ (s : Sizes). p.len ≤ p.entry.reserved * usable s p.entry) (sym c.geometry-geometry.ensures.value)
     (part_fits ps c.geometry-geometry.ensures.meaning i p at)
@@ -37,11 +39,13 @@ overflow_add-count c =
     let p : Part = c.part-item.result in
     let i = c.loop-part.part-index in
     let here : p ≡ get_or ps.of i p = c.part-item.is ∙ ap (λ xs. get_or xs i p) c.parts-part-items.ensures.value in
-    let inside : i < length ps.of = subst (λ xs. i < length xs) c.parts-part-items.ensures.value c.loop-part-test.true in
+    let inside : i < length ps.of = subst (λ xs. i < length xs) c.parts-part-items.ensures.value c.loop-part-test.true
+    in
     let more = sum_by_more (pieces_of ps.sizes) ps.of i p inside in
     let most = sum_by-take-le (pieces_of ps.sizes) ps.of (i + 1) in
     let few = few_blocks ps c.geometry-geometry.ensures.meaning in
-    let count : c.from-count.result ≡ pieces_of ps.sizes (get_or ps.of i p) = c.from-count.ensures ∙ c.piece_count.ensures.value
+    let count : c.from-count.result ≡ pieces_of ps.sizes (get_or ps.of i p) = c.from-count.ensures
+    ∙ c.piece_count.ensures.value
     ∙ ap (λ (s : Sizes). pieces_of s p) c.geometry-geometry.ensures.value ∙ ap (pieces_of ps.sizes) here in
     let pebs = c.geometry-geometry.ensures.limits.pebs_to in
     let so_far = c.loop-part.invariant in

@@ -1,4 +1,4 @@
-use Rattle.std.proofs.Common.{◌≡◌, ℕ, ◌+◌, ◌≤◌, ◌∙◌, List, ap, sym, subst, arith}
+use Rattle.std.proofs.Common.{◌≡◌, ℕ, ◌∙◌, List, ap, sym, arith}
 use Rattle.ubi_media.specs.Geometry.{Sizes}
 use Rattle.ubi_media.specs.Vid.{plain}
 use Rattle.ubi_media.specs.declared.vid.VidHeader.{VidHeader}
@@ -21,7 +21,8 @@ copy_is : (ps : Parts) (copy : ℕ) (h : VidHeader) (table : List ℕ) → h ≡
     → table ≡ table_of ps → (bytes text : List ℕ) → text ≡ table_block ps copy bytes
     → laid_text ps.sizes ps.image_seq h table bytes text
 copy_is ps copy h table header is bytes text w =
-    w ∙ ap (λ t. laid_bytes ps.sizes (new_ec ps.image_seq) (record { header = plain kind.Dynamic 5 0 layout copy; text = t })) (sym is)
+    w ∙ ap (λ t. laid_bytes ps.sizes (new_ec ps.image_seq)
+    (record { header = plain kind.Dynamic 5 0 layout copy; text = t })) (sym is)
     ∙ ap (λ x. laid_bytes ps.sizes (new_ec ps.image_seq) (record { header = x; text = table })) (sym header)
 
 pub of_write-requires : goal.of_write-requires
@@ -39,7 +40,8 @@ returns-in-Ok-clause-written g c =
     wrote_where anything anything (λ bytes holds. tt) _ _
     (laid_text ps.sizes ps.image_seq c.copy_header-header.result c.args.text.now) (those (table_block ps c.args.copy))
     All c.args.done c.in-Ok.total
-    (λ bytes text holds w. copy_is ps c.args.copy c.copy_header-header.result c.args.text.now c.copy_header-header.ensures
+    (λ bytes text holds w. copy_is ps c.args.copy c.copy_header-header.result c.args.text.now
+    c.copy_header-header.ensures
     c.requires.text bytes text w)
     (rw (c.geometry-geometry.ensures.value, c.image_seq-image_seq.ensures) at c.in-Ok.ensures.written)
 
@@ -55,7 +57,8 @@ returns-in-Err-clause-failed g c =
     (unbuilt_where anything anything (λ bytes holds. tt) ps _ _
     (laid_text ps.sizes ps.image_seq c.copy_header-header.result c.args.text.now) (those (table_block ps c.args.copy))
     c.args.done (of_write c.in-Err.error)
-    (λ bytes text holds w. copy_is ps c.args.copy c.copy_header-header.result c.args.text.now c.copy_header-header.ensures
+    (λ bytes text holds w. copy_is ps c.args.copy c.copy_header-header.result c.args.text.now
+    c.copy_header-header.ensures
     c.requires.text bytes text w)
     (unbuilt_write ps ps.sizes (sound 0) anything _ _ _ c.args.done c.in-Err.error fault
     (rw (c.geometry-geometry.ensures.value, c.image_seq-image_seq.ensures) at (c.in-Err.ensures.failed (sound 0)))))

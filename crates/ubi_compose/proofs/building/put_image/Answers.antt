@@ -19,11 +19,13 @@ returns-in_err-front-clause-failed g c =
     let agrees = g.S.BlockSource.agrees c.args.source.now in
     let from = err_from_is_err_and c.from_residual.result c.from_residual.ensures.1 in
     rw (from.1, from.2)
-    (front_unbuilt agrees (whole_bytes ps c.args.spares) (normal ps) (spares_bytes ps c.args.spares) (λ bytes. refl) ps _ _ 0
+    (front_unbuilt agrees (whole_bytes ps c.args.spares) (normal ps) (spares_bytes ps c.args.spares)
+    (λ bytes. refl) ps _ _ 0
     c.in_err-front.field-0.0
     (front_unbuilt agrees (normal ps) (tables_bytes ps) (first_volumes ps (slots ps.sizes)) (λ bytes. refl) ps _ _ 0
     c.in_err-front.field-0.0
-    (unbuilt_narrowed anything agrees (λ bytes holds. tt) ps _ _ _ 0 c.in_err-front.field-0.0 c.in_err-front.ensures.failed)))
+    (unbuilt_narrowed anything agrees (λ bytes holds. tt) ps _ _ _ 0 c.in_err-front.field-0.0
+    c.in_err-front.ensures.failed)))
 
 pub returns-in_err-normal-clause-failed : goal.returns-in_err-normal-clause-failed
 returns-in_err-normal-clause-failed g c =
@@ -31,7 +33,8 @@ returns-in_err-normal-clause-failed g c =
     let agrees = g.S.BlockSource.agrees c.put_volumes.new.source in
     let from = err_from_is_err_and c.from_residual-in_err-normal.result c.from_residual-in_err-normal.ensures.1 in
     rw (from.1, from.2)
-    (front_unbuilt agrees (whole_bytes ps c.args.spares) (normal ps) (spares_bytes ps c.args.spares) (λ bytes. refl) ps _ _ 0
+    (front_unbuilt agrees (whole_bytes ps c.args.spares) (normal ps) (spares_bytes ps c.args.spares)
+    (λ bytes. refl) ps _ _ 0
     c.in_err-normal.field-0.0
     (back_unbuilt agrees (normal ps) (tables_bytes ps) (first_volumes ps (slots ps.sizes)) (λ bytes. refl) ps _ _ _ 0
     c.in_ok-front.front c.in_err-normal.field-0.0
@@ -43,7 +46,8 @@ returns-clause-written g c =
     let ps : Parts = c.args.recipe.now in
     let agrees = g.S.BlockSource.agrees c.put_volumes.new.source in
     IfOk-weaker c.put_spares.result _ _
-    (λ n h. both_wrote agrees (whole_bytes ps c.args.spares) (normal ps) (spares_bytes ps c.args.spares) (λ bytes. refl) _ _ _ 0
+    (λ n h. both_wrote agrees (whole_bytes ps c.args.spares) (normal ps) (spares_bytes ps c.args.spares)
+    (λ bytes. refl) _ _ _ 0
     c.in_ok-normal.normal n
     (both_wrote agrees (normal ps) (tables_bytes ps) (first_volumes ps (slots ps.sizes)) (λ bytes. refl) _ _ _ 0
     c.in_ok-front.front c.in_ok-normal.normal
@@ -57,7 +61,8 @@ returns-clause-failed g c =
     let ps : Parts = c.args.recipe.now in
     let agrees = g.S.BlockSource.agrees c.put_volumes.new.source in
     IfErr-weaker c.put_spares.result _ _
-    (λ e h. back_unbuilt agrees (whole_bytes ps c.args.spares) (normal ps) (spares_bytes ps c.args.spares) (λ bytes. refl) ps _ _ _ 0
+    (λ e h. back_unbuilt agrees (whole_bytes ps c.args.spares) (normal ps) (spares_bytes ps c.args.spares)
+    (λ bytes. refl) ps _ _ _ 0
     c.in_ok-normal.normal e
     (both_wrote agrees (normal ps) (tables_bytes ps) (first_volumes ps (slots ps.sizes)) (λ bytes. refl) _ _ _ 0
     c.in_ok-front.front c.in_ok-normal.normal

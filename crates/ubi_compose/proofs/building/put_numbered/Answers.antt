@@ -1,4 +1,4 @@
-use Rattle.std.proofs.Common.{◌≡◌, ℕ, ◌+◌, ◌*◌, ◌<◌, ◌≤◌, ◌^◌, sym, arith}
+use Rattle.std.proofs.Common.{sym, arith}
 use Rattle.std.proofs.lemmas.Result.{IfOk-weaker}
 use Rattle.ubi_media.proofs.Padding.{reserved_within}
 use Rattle.ubi_compose.specs.Built.{Parts}
@@ -9,7 +9,8 @@ use Rattle.ubi_compose.proofs.building.put_numbered.Goals as goal
 
 pub put_part-requires-clause-part : goal.put_part-requires-clause-part
 put_part-requires-clause-part g c =
-    part_readable c.args.recipe.now c.in-Some.ensures.meaning (g.S.BlockSource.known c.args.source.now) c.requires.source
+    part_readable c.args.recipe.now c.in-Some.ensures.meaning
+    (g.S.BlockSource.known c.args.source.now) c.requires.source
     c.args.id c.in-Some.part.now (sym c.in-Some.ensures.value)
 
 pub put_part-requires-clause-few : goal.put_part-requires-clause-few
@@ -24,7 +25,8 @@ pub returns-in-Some-clause-most : goal.returns-in-Some-clause-most
 returns-in-Some-clause-most g c =
     let ps : Parts = c.args.recipe.now in
     let p : Part = c.in-Some.part.now in
-    let readable = part_readable ps c.in-Some.ensures.meaning (g.S.BlockSource.known c.args.source.now) c.requires.source
+    let readable = part_readable ps c.in-Some.ensures.meaning
+    (g.S.BlockSource.known c.args.source.now) c.requires.source
     c.args.id p (sym c.in-Some.ensures.value) in
     let wide = reserved_within ps.sizes p.entry readable.sound in
     let most = volume_few p.entry.reserved ps.sizes.peb_size wide c.in-Some.ensures.meaning.sizes.peb_to in

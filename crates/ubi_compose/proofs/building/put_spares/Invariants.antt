@@ -1,4 +1,4 @@
-use Rattle.std.proofs.Common.{◌≡◌, ◌+◌, ◌*◌, ◌≤◌, List, ℕ}
+use Rattle.std.proofs.Common.{◌+◌, ◌*◌, ◌≤◌}
 use Rattle.ubi_scan.specs.inner.Held.{anything}
 use Rattle.ubi_volume.specs.Wrote.{All, Wrote}
 use Rattle.ubi_compose.specs.Building.{those}

@@ -1,4 +1,4 @@
-use Rattle.std.proofs.Common.{◌≡◌, ℕ, ◌+◌, ◌*◌, ◌<◌, ◌≤◌, ◌∙◌, ◌^◌, ap, sym, subst, arith}
+use Rattle.std.proofs.Common.{◌<◌, ◌∙◌, ap, subst, arith}
 use Rattle.std.proofs.lemmas.Result.{err_from_is_err_and}
 use Rattle.ubi_media.specs.Geometry.{slots}
 use Rattle.ubi_volume.specs.Wrote.{All}
@@ -14,9 +14,12 @@ returns-in_err-total-clause-failed g c =
     let agrees = g.S.BlockSource.agrees c.put_numbered.new.source in
     let from = err_from_is_err_and c.from_residual.result c.from_residual.ensures.1 in
     rw (from.1, from.2)
-    (next_unbuilt agrees (numbered_bytes ps) ps _ _ _ c.loop-id.id _ c.args.done c.loop-id.total c.in_err-total.field-0.0
-    (subst (λ n. c.loop-id.id < n) (c.slots-id-end.ensures.value ∙ ap slots c.geometry.ensures.value) c.loop-id-test.true)
-    (wrote_narrowed _ agrees c.in_err-total.ensures.narrows _ _ _ All c.args.done c.loop-id.total c.loop-id.invariant.wrote)
+    (next_unbuilt agrees (numbered_bytes ps) ps _ _ _ c.loop-id.id _ c.args.done c.loop-id.total
+    c.in_err-total.field-0.0
+    (subst (λ n. c.loop-id.id < n) (c.slots-id-end.ensures.value ∙ ap slots c.geometry.ensures.value)
+    c.loop-id-test.true)
+    (wrote_narrowed _ agrees c.in_err-total.ensures.narrows _ _ _ All c.args.done c.loop-id.total
+    c.loop-id.invariant.wrote)
     c.in_err-total.ensures.failed)
 
 pub loop-id-preserved : goal.loop-id-preserved

@@ -1,4 +1,4 @@
-use Rattle.std.proofs.Common.{◌≡◌, ℕ, ◌+◌, ◌-◌, ◌*◌, ◌<◌, ◌≤◌, ◌∙◌, ap, List, ◌++◌, length, length-drop, length-take-le, take, drop, slice_range, refl, sym, arith}
+use Rattle.std.proofs.Common.{◌≡◌, ℕ, ◌+◌, ◌-◌, ◌*◌, ◌≤◌, ◌∙◌, ap, List, ◌++◌, length, length-drop, length-take-le, take, drop, slice_range, sym, arith}
 use Rattle.std.specs.Prelude.{min}
 use Rattle.ubi_media.proofs.Records.{usable_some}
 use Rattle.ubi_media.specs.Geometry.{Sizes}
@@ -21,7 +21,8 @@ overflow_add-part g c =
     ∙ ap (λ (s : Sizes). usable s p.entry) c.geometry-geometry.ensures.value in
     let begin : c.from.result * c.from-size.result ≡ c.args.lnum * size =
     ap (λ n. n * c.from-size.result) c.from.ensures ∙ ap (λ n. c.args.lnum * n) is in
-    let inside = piece_begins size (usable_some ps.sizes p.entry c.requires.part.sound) p.len c.args.lnum c.requires.inside in
+    let inside = piece_begins size (usable_some ps.sizes p.entry c.requires.part.sound) p.len c.args.lnum
+    c.requires.inside in
     let reaches = c.requires.part.reaches in
     let narrow = c.requires.part.narrow in
     omega (arith, begin, inside, reaches, narrow)
@@ -38,7 +39,8 @@ returns-in-Ok-clause-bytes g c = λ bytes holds.
     ∙ ap (λ (s : Sizes). usable s p.entry) c.geometry-geometry.ensures.value in
     let begin : c.from.result * c.from-size.result ≡ c.args.lnum * size =
     ap (λ n. n * c.from-size.result) c.from.ensures ∙ ap (λ n. c.args.lnum * n) is in
-    let inside = piece_begins size (usable_some ps.sizes p.entry c.requires.part.sound) p.len c.args.lnum c.requires.inside in
+    let inside = piece_begins size (usable_some ps.sizes p.entry c.requires.part.sound) p.len c.args.lnum
+    c.requires.inside in
     let at : begins ≡ ps.sizes.data_offset = c.data_offset-data.ensures.value
     ∙ ap (λ (s : Sizes). s.data_offset) c.geometry-geometry.ensures.value in
     let most : len ≤ size = (let e = c.min-len.ensures in omega (arith, e, is)) in
@@ -60,9 +62,11 @@ returns-in-Ok-clause-bytes g c = λ bytes holds.
     (c.args.part.now.start + c.from.result * c.from-size.result + n)) long
     ∙ share_read bytes p size c.args.lnum _ len (omega (arith, inside)) start count in
     let whole : length out ≡ len = c.read.auto.out ∙ long in
-    ap (λ n. take n (drop ps.sizes.data_offset (take begins old ++ (out ++ post_of begins (begins + len - begins) old))))
+    ap (λ n. take n (drop ps.sizes.data_offset
+    (take begins old ++ (out ++ post_of begins (begins + len - begins) old))))
     (let e : len ≡ length out = omega (arith, whole) in e)
-    ∙ ap (λ n. take (length out) (drop n (take begins old ++ (out ++ post_of begins (begins + len - begins) old)))) (sym at)
+    ∙ ap (λ n. take (length out) (drop n (take begins old ++ (out ++ post_of begins (begins + len - begins) old))))
+    (sym at)
     ∙ text_is (take begins old) out (post_of begins (begins + len - begins) old) begins
     (length-take-le begins old (omega (arith, wide, at)))
     ∙ same

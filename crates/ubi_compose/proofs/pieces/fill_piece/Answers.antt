@@ -20,7 +20,8 @@ returns c =
     ∙ filled_behind size c.args.len (drop begin old) c.requires.piece (omega (arith, long, c.requires.room)) in
     let whole : length c.blank_behind.new.part ≡ size =
     c.blank_behind.auto.part ∙ ap (λ n. length (take n (drop begin old))) room ∙ behind in
-    ap (λ n. take n (drop begin (take begin old ++ (c.blank_behind.new.part ++ post_of begin (begin + size - begin) old))))
+    ap (λ n. take n (drop begin (take begin old ++
+    (c.blank_behind.new.part ++ post_of begin (begin + size - begin) old))))
     (let e : size ≡ length c.blank_behind.new.part = omega (arith, whole) in e)
     ∙ text_is (take begin old) c.blank_behind.new.part (post_of begin (begin + size - begin) old) begin
     (length-take-le begin old (omega (arith, c.requires.room)))

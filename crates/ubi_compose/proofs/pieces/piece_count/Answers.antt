@@ -1,9 +1,8 @@
-use Rattle.std.proofs.Common.{◌≡◌, ℕ, ◌+◌, ◌-◌, ◌/◌, ◌<◌, ◌≤◌, ◌∙◌, ap, arith}
+use Rattle.std.proofs.Common.{◌∙◌, ap, arith}
 use Rattle.std.specs.Int.{div_ceil}
 use Rattle.ubi_media.proofs.Padding.{reserved_within}
 use Rattle.ubi_media.proofs.Records.{usable_some}
 use Rattle.ubi_media.specs.Record.{usable}
-use Rattle.ubi_volume.specs.Meant.{pieces}
 use Rattle.ubi_volume.proofs.Pieces.{pieces_few}
 use Rattle.ubi_compose.proofs.ReadPieces.{div_ceil-pieces}
 use Rattle.ubi_compose.proofs.pieces.piece_count.Goals as goal
@@ -19,7 +18,8 @@ pub returns-clause-most : goal.returns-clause-most
 returns-clause-most c =
     let s = c.args.geometry.now in
     let r = c.args.part.now.entry in
-    let few = pieces_few (usable s r) (usable_some s r c.requires.sound) c.args.part.now.len r.reserved c.requires.fits in
+    let few = pieces_few (usable s r) (usable_some s r c.requires.sound) c.args.part.now.len r.reserved c.requires.fits
+    in
     let is = returns-clause-value c in
     omega (arith, few, is)
 

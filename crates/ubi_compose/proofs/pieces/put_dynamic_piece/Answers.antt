@@ -1,8 +1,7 @@
-use Rattle.std.proofs.Common.{◌≡◌, ℕ, ◌+◌, ◌-◌, ◌≤◌, List, ◌∙◌, ap, length, take, drop, subst, sym, arith}
+use Rattle.std.proofs.Common.{◌≡◌, ℕ, List, ◌∙◌, ap, take, drop, sym, arith}
 use Rattle.std.proofs.lemmas.Result.{err_from_is_err_and}
 use Rattle.ubi_media.specs.Geometry.{Sizes}
 use Rattle.ubi_scan.specs.inner.Held.{anything, sound}
-use Rattle.ubi_scan.specs.Source.{Source}
 use Rattle.ubi_volume.specs.Wrote.{All}
 use Rattle.ubi_volume.proofs.Narrowed.{wrote_where}
 use Rattle.ubi_compose.specs.Building.{those}
@@ -45,7 +44,8 @@ returns-in-Ok-clause-written g c =
     let read : List ℕ = c.fetch_piece.new.buffer in
     let made : List ℕ = c.fill_piece.new.buffer in
     let used : c.usable-size.result ≡ size = c.usable-size.ensures.value ∙ ap (λ (s : Sizes). usable s p.entry) is in
-    let first : c.data_offset.result ≡ ps.sizes.data_offset = c.data_offset.ensures.value ∙ ap (λ (s : Sizes). s.data_offset) is in
+    let first : c.data_offset.result ≡ ps.sizes.data_offset = c.data_offset.ensures.value
+    ∙ ap (λ (s : Sizes). s.data_offset) is in
     let header = c.plain-header.ensures ∙ ap (λ d. plain kind.Dynamic 0 d p.id c.args.lnum)
     (c.data_pad-data_pad.ensures ∙ ap (λ (s : Sizes). data_pad s p.entry) is) in
     let piece = λ (bytes : List ℕ) (holds : agrees bytes).
@@ -57,7 +57,8 @@ returns-in-Ok-clause-written g c =
     wrote_where anything agrees (λ bytes holds. tt) _ _
     (kept_text ps.sizes ps.image_seq c.plain-header.result (take size (drop ps.sizes.data_offset made)))
     (those (dynamic_piece ps p c.args.lnum)) All c.args.done c.in-Ok.total
-    (λ bytes text holds w. dynamic_laid ps p c.args.lnum bytes c.plain-header.result _ (piece bytes holds) header text w)
+    (λ bytes text holds w. dynamic_laid ps p c.args.lnum bytes c.plain-header.result _
+    (piece bytes holds) header text w)
     (rw (is, c.image_seq-image_seq.ensures, used) at c.in-Ok.ensures.written)
 
 pub returns-in-Err-clause-failed : goal.returns-in-Err-clause-failed
@@ -71,7 +72,8 @@ returns-in-Err-clause-failed g c =
     let read : List ℕ = c.fetch_piece.new.buffer in
     let made : List ℕ = c.fill_piece.new.buffer in
     let used : c.usable-size.result ≡ size = c.usable-size.ensures.value ∙ ap (λ (s : Sizes). usable s p.entry) is in
-    let first : c.data_offset.result ≡ ps.sizes.data_offset = c.data_offset.ensures.value ∙ ap (λ (s : Sizes). s.data_offset) is in
+    let first : c.data_offset.result ≡ ps.sizes.data_offset = c.data_offset.ensures.value
+    ∙ ap (λ (s : Sizes). s.data_offset) is in
     let header = c.plain-header.ensures ∙ ap (λ d. plain kind.Dynamic 0 d p.id c.args.lnum)
     (c.data_pad-data_pad.ensures ∙ ap (λ (s : Sizes). data_pad s p.entry) is) in
     let piece = λ (bytes : List ℕ) (holds : agrees bytes).
@@ -89,6 +91,7 @@ returns-in-Err-clause-failed g c =
     (unbuilt_where anything agrees (λ bytes holds. tt) ps _ _
     (kept_text ps.sizes ps.image_seq c.plain-header.result (take size (drop ps.sizes.data_offset made)))
     (those (dynamic_piece ps p c.args.lnum)) c.args.done (of_write c.in-Err.error)
-    (λ bytes text holds w. dynamic_laid ps p c.args.lnum bytes c.plain-header.result _ (piece bytes holds) header text w)
+    (λ bytes text holds w. dynamic_laid ps p c.args.lnum bytes c.plain-header.result _
+    (piece bytes holds) header text w)
     (unbuilt_write ps ps.sizes (sound 0) anything _ _ _ c.args.done c.in-Err.error fault
     (rw (is, c.image_seq-image_seq.ensures, used) at (c.in-Err.ensures.failed (sound 0)))))

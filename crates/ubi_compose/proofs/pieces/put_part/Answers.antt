@@ -1,4 +1,4 @@
-use Rattle.std.proofs.Common.{◌≡◌, ℕ, ◌+◌, ◌*◌, ◌<◌, ◌≤◌, ◌∙◌, ap, sym, subst, arith}
+use Rattle.std.proofs.Common.{◌≡◌, ℕ, ◌+◌, ◌*◌, ◌<◌, ◌∙◌, ap, subst, arith}
 use Rattle.std.proofs.lemmas.Result.{err_from_is_err_and}
 use Rattle.ubi_media.specs.Geometry.{Sizes}
 use Rattle.ubi_volume.specs.Wrote.{All}
@@ -16,10 +16,13 @@ returns-in_err-total-clause-failed g c =
     let agrees = g.S.BlockSource.agrees c.put_piece.new.source in
     let from = err_from_is_err_and c.from_residual.result c.from_residual.ensures.1 in
     rw (from.1, from.2)
-    (next_unbuilt agrees (piece_bytes ps p) ps _ _ _ c.loop-lnum.lnum _ c.args.done c.loop-lnum.total c.in_err-total.field-0.0
+    (next_unbuilt agrees (piece_bytes ps p) ps _ _ _ c.loop-lnum.lnum _ c.args.done c.loop-lnum.total
+    c.in_err-total.field-0.0
     (subst (λ n. c.loop-lnum.lnum < n)
-    (c.piece_count-lnum-end.ensures.value ∙ ap (λ (s : Sizes). pieces_of s p) c.geometry.ensures.value) c.loop-lnum-test.true)
-    (wrote_narrowed _ agrees c.in_err-total.ensures.narrows _ _ _ All c.args.done c.loop-lnum.total c.loop-lnum.invariant.wrote)
+    (c.piece_count-lnum-end.ensures.value ∙ ap (λ (s : Sizes). pieces_of s p) c.geometry.ensures.value)
+    c.loop-lnum-test.true)
+    (wrote_narrowed _ agrees c.in_err-total.ensures.narrows _ _ _ All c.args.done c.loop-lnum.total
+    c.loop-lnum.invariant.wrote)
     c.in_err-total.ensures.failed)
 
 pub loop-lnum-preserved : goal.loop-lnum-preserved
@@ -30,7 +33,8 @@ loop-lnum-preserved g c =
     record {
       source = c.in_ok-total.ensures.known ∙ c.loop-lnum.invariant.source;
       narrows = λ bytes holds. c.loop-lnum.invariant.narrows bytes (c.in_ok-total.ensures.narrows bytes holds);
-      wrote = next_wrote agrees (piece_bytes ps p) _ _ _ c.loop-lnum.lnum c.args.done c.loop-lnum.total c.in_ok-total.total
+      wrote = next_wrote agrees (piece_bytes ps p) _ _ _ c.loop-lnum.lnum c.args.done c.loop-lnum.total
+          c.in_ok-total.total
           (wrote_narrowed _ agrees c.in_ok-total.ensures.narrows _ _ _ All c.args.done c.loop-lnum.total
           c.loop-lnum.invariant.wrote)
           c.in_ok-total.ensures.written;

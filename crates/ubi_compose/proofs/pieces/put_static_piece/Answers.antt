@@ -1,4 +1,4 @@
-use Rattle.std.proofs.Common.{◌≡◌, ℕ, ◌+◌, ◌-◌, ◌≤◌, List, ◌∙◌, ap, length, take, drop, subst, sym, arith}
+use Rattle.std.proofs.Common.{◌≡◌, ℕ, ◌+◌, ◌-◌, ◌≤◌, List, ◌∙◌, ap, length, take, drop, arith}
 use Rattle.std.proofs.lemmas.Result.{err_from_is_err_and}
 use Rattle.ubi_media.specs.Geometry.{Sizes}
 use Rattle.ubi_scan.specs.inner.Held.{anything, sound}
@@ -44,7 +44,8 @@ returns-in-Ok-clause-written g c =
     let room : first + len - first ≡ len = omega arith in
     let whole : List ℕ = take (first + len - first) (drop first c.fetch_piece.new.buffer) in
     let text = ap (λ n. take n (drop first c.fetch_piece.new.buffer)) room
-    ∙ ap (λ d. take len (drop d c.fetch_piece.new.buffer)) (c.data_offset-data.ensures.value ∙ ap (λ (s : Sizes). s.data_offset) is) in
+    ∙ ap (λ d. take len (drop d c.fetch_piece.new.buffer))
+    (c.data_offset-data.ensures.value ∙ ap (λ (s : Sizes). s.data_offset) is) in
     let header = c.static_header-header.ensures
     ∙ ap (λ d. (static_block d p.id c.piece_count-count.result c.args.lnum whole).header)
     (c.data_pad-data_pad.ensures ∙ ap (λ (s : Sizes). data_pad s p.entry) is)
@@ -75,7 +76,8 @@ returns-in-Err-clause-failed g c =
     let room : first + len - first ≡ len = omega arith in
     let whole : List ℕ = take (first + len - first) (drop first c.fetch_piece.new.buffer) in
     let text = ap (λ n. take n (drop first c.fetch_piece.new.buffer)) room
-    ∙ ap (λ d. take len (drop d c.fetch_piece.new.buffer)) (c.data_offset-data.ensures.value ∙ ap (λ (s : Sizes). s.data_offset) is) in
+    ∙ ap (λ d. take len (drop d c.fetch_piece.new.buffer))
+    (c.data_offset-data.ensures.value ∙ ap (λ (s : Sizes). s.data_offset) is) in
     let header = c.static_header-header.ensures
     ∙ ap (λ d. (static_block d p.id c.piece_count-count.result c.args.lnum whole).header)
     (c.data_pad-data_pad.ensures ∙ ap (λ (s : Sizes). data_pad s p.entry) is)

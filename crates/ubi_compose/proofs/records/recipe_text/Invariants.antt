@@ -9,5 +9,6 @@ use Rattle.ubi_compose.proofs.records.recipe_text.Given as goal
 -- the slots so far are there
 abbrev pub invariant-loop-slot : goal.invariant-loop-slot
 invariant-loop-slot l =
-    vec_items l.text ≡ flat_map (λ slot. rec_bytes l.recipe.sizes (option_map (λ (p : Part). p.entry) (part_at l.recipe slot)))
+    vec_items l.text ≡ flat_map (λ slot. rec_bytes l.recipe.sizes
+    (option_map (λ (p : Part). p.entry) (part_at l.recipe slot)))
     (range_with_len 0 l.slot)

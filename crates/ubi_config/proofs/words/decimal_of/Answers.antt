@@ -9,5 +9,6 @@ pub returns-then-more-from-clause-value : goal.returns-then-more-from-clause-val
 returns-then-more-from-clause-value c =
     let beyond : c.args.largest < decimal_value c.args.digits.now =
     rw (← c.loop-byte.invariant.value)
-    (fold_beyond c.args.largest c.loop-byte.value c.loop-byte.byte-index 0 c.args.digits.now (omega arith) (omega arith)) in
+    (fold_beyond c.args.largest c.loop-byte.value c.loop-byte.byte-index 0 c.args.digits.now
+    (omega arith) (omega arith)) in
     none_beyond (list_all is_ascii_digit c.args.digits.now) c.args.largest (decimal_value c.args.digits.now) beyond

@@ -1,8 +1,7 @@
 use Rattle.std.proofs.Common.{◌≡◌, List, Some, ap, subst, sym, ◌∙◌, ℕ}
 use Rattle.std.specs.Path.{path_with_file_name}
 use Rattle.ubi_tool.specs.Answer.{Gives, says}
-use Rattle.ubi_tool.specs.Build.{image_path, no_image, no_path}
-use Rattle.ubi_tool.specs.inner.Gathering.{IsUnreadLine}
+use Rattle.ubi_tool.specs.Build.{IsUnreadLine, image_path, no_image, no_path}
 use Rattle.ubi_tool.proofs.Gathered.{path_named}
 use Rattle.ubi_tool.proofs.gathering.find_image.Goals as goal
 

@@ -1,6 +1,7 @@
 use Rattle.std.proofs.Common.{◌≡◌, map, take, vec_items}
 use Rattle.std.specs.Prelude.{sum_by}
-use Rattle.ubi_tool.specs.inner.Gathering.{AreSoFar, AreUnread}
+use Rattle.ubi_tool.specs.Build.{AreUnread}
+use Rattle.ubi_tool.specs.inner.Gathering.{AreSoFar}
 use Rattle.ubi_tool.proofs.gathering.gather.Given as goal
 
 abbrev pub invariant-loop-section : goal.invariant-loop-section

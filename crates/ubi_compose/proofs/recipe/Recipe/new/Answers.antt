@@ -1,7 +1,5 @@
-use Rattle.std.proofs.Common.{◌≡◌, ◌∙◌, ap, map, subst, List}
-use Rattle.std.specs.Prelude.{length}
+use Rattle.std.proofs.Common.{◌∙◌, ap, map, subst}
 use Rattle.ubi_volume.specs.Made.{IsFirst, Items, NoCause}
-use Rattle.ubi_compose.specs.Built.{HaveMeaning}
 use Rattle.ubi_compose.specs.inner.Building.{stand_in_item}
 use Rattle.ubi_compose.proofs.StandIns.{first_of_bytes, none_of_bytes}
 use Rattle.ubi_compose.proofs.recipe.Recipe.new.Goals as goal

@@ -10,7 +10,11 @@ use Rattle.ubi_compose.proofs.recipe.Recipe.part.Goals as goal
 
 pub returns-clause-sound : goal.returns-clause-sound
 returns-clause-sound c = λ p e.
-    let ps : Parts = record { sizes = c.self.inside.geometry; image_seq = c.self.inside.image_seq; of = c.self.inside.parts.items } in
+    let ps : Parts = record {
+      sizes = c.self.inside.geometry;
+      image_seq = c.self.inside.image_seq;
+      of = c.self.inside.parts.items;
+    } in
     let found : part_at ps c.args.id ≡ Some p =
     sym (c.numbered.ensures ∙ ap (find (λ (q : Part). q.id == c.args.id)) c.as_slice.ensures.value) ∙ e in
     let listed = found_part ps.of c.args.id p found in
