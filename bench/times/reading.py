@@ -9,7 +9,9 @@ They lie in a new folder below FOLDER (/tmp where it is left out), which is remo
 built first where it isn't yet. `same` compares an image with itself, and reads it twice; so does the `cat` that it is
 measured against.
 
-`build` makes an image of a config with the one volume, whose contents are those. It prints the seconds of each, as they pass and of the processor (user and system), the least of five runs, and the peak of
+`build` makes an image of a config with the one volume, whose contents are those.
+
+It prints the seconds of each, as they pass and of the processor (user and system), the least of five runs, and the peak of
 memory, which needs GNU time. It ends with status 1 where a command takes more than 8 MiB of memory, or where `check` takes
 longer than `cat` as it passes.
 """

@@ -196,15 +196,8 @@ fn unpack_volume<D: Disk, S: BlockSource>(
     let Ok(mut file) = disk.create_new(path) else {
         return Err(ToolError::Write);
     };
-    let work = write_places(
-        geometry,
-        source,
-        places,
-        id,
-        extent,
-        buffer,
-        &mut file.writer,
-    );
+    let out = &mut file.writer;
+    let work = write_places(geometry, source, places, id, extent, buffer, out);
     disk.keep(file);
     match work {
         Ok(_) => Ok(()),
