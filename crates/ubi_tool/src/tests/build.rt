@@ -60,6 +60,36 @@ fn builds_of_files_or_tells_which_fails(rt: HostRuntime) -> Result<(), Fail> {
     Ok(())
 }
 
+/// Configs of two volumes, of which one's file is `new.bin`, and how many bytes are written until a read of that fails. The other
+/// file holds what the config does.
+static TWO: [(&[u8], usize); 3] = [
+    (
+        b"[a]\nmode=ubi\nvol_id=0\nvol_name=a\nimage=a\n[b]\nmode=ubi\nvol_id=1\nvol_name=b\nimage=new.bin\n",
+        1536,
+    ),
+    (
+        b"[a]\nmode=ubi\nvol_id=0\nvol_name=a\nimage=new.bin\n[b]\nmode=ubi\nvol_id=1\nvol_name=b\nimage=a\n",
+        1024,
+    ),
+    (
+        b"[a]\nmode=ubi\nvol_id=1\nvol_name=a\nimage=new.bin\n[b]\nmode=ubi\nvol_id=0\nvol_name=b\nimage=a\n",
+        1536,
+    ),
+];
+
+#[test]
+fn tells_which_of_two_files_fails(rt: HostRuntime) -> Result<(), Fail> {
+    let alloc = rt.alloc();
+    let content = CONTENT.bytes(alloc)?;
+    for (config, count) in &TWO {
+        let files = (*config, content.as_slice());
+        let broken = Broken::Read(ErrorKind::Other, 120);
+        let (outcome, written) = run_over(alloc, files, broken, LINE)?;
+        assert!(rt; is_answer(&outcome, UNREAD_CONTENT) && written.len() == *count);
+    }
+    Ok(())
+}
+
 /// Configs, what `new.bin` holds, and what is answered. Nothing is written.
 static REFUSED: [(&[u8], Contents, (&str, u8)); 13] = [
     (b"", EMPTY, ("refused I6 NoSection line=1\n", 1)),
