@@ -14,7 +14,7 @@ use Rattle.ubi_compose.specs.Built.{Parts}
 use Rattle.ubi_compose.specs.declared.errors.BuildError.{BuildError}
 use Rattle.ubi_compose.specs.declared.errors.BuildError.TheVariants as build
 use Rattle.ubi_compose.specs.declared.recipe.Part.{Part}
-use Rattle.ubi_tool.specs.Build.{AreGathered, Builds, BuildsParts, IsUnreadLine, built, crowded, gathered, image_paths, numbered, unread, unwritten}
+use Rattle.ubi_tool.specs.Build.{AreBesideOut, AreGathered, Builds, BuildsParts, IsUnreadLine, built, crowded, gathered, image_paths, numbered, unread, unwritten}
 use Rattle.ubi_tool.specs.Row.{row_bytes}
 use Rattle.ubi_tool.specs.Disk.{AllStay, Files, IsKept, fresh}
 use Rattle.ubi_tool.specs.Late.{contents_of}
@@ -115,7 +115,9 @@ module _ {F : Type 0} (contents : F → Option (List ℕ)) (at : F → List ℕ)
 -- what is answered of the sections of a text that were gathered
 pub of_gathered : (d e : Files) (config out : List ℕ) (s : Sizes) (text : List ℕ) (spares seq : ℕ) (xs : List Section) (parts : List Part)
     (held : List (Option (List ℕ))) (o : Outcome) → first_fault text ≡ None → xs ≡ sections_of text → AreGathered d s config xs parts held
-    → BuildsParts d e config out xs (numbered s seq parts) (row_bytes held) spares o → Builds d e config out s text spares seq o
-of_gathered d e config out s text spares seq xs parts held o none same are h =
+    → AreBesideOut config out xs → BuildsParts d e config out xs (numbered s seq parts) (row_bytes held) spares o
+    → Builds d e config out s text spares seq o
+of_gathered d e config out s text spares seq xs parts held o none same are apart h =
     gathered parts held none (subst (λ (ys : List Section). AreGathered d s config ys parts held) same are)
+    (subst (AreBesideOut config out) same apart)
     (subst (λ (ys : List Section). BuildsParts d e config out ys (numbered s seq parts) (row_bytes held) spares o) same h)

@@ -4,14 +4,14 @@ use Rattle.std.proofs.lemmas.List.{map-append, take_more}
 use Rattle.std.proofs.lemmas.List.Elements.{filter_map-append}
 use Rattle.std.proofs.lemmas.List.Sums.{sum_by-append}
 use Rattle.std.specs.List.{AllByRecursion, cons_option, filter_map}
-use Rattle.std.specs.Prelude.{Contains, IfSome, MatchOption, None, Ok, Option, Some, Result, option_map, sum_by, unwrap_or}
+use Rattle.std.specs.Prelude.{◌≢◌, Contains, IfSome, MatchOption, None, Ok, Option, Some, Result, option_map, sum_by, unwrap_or}
 use Rattle.ubi_media.specs.Geometry.{Sizes}
 use Rattle.ubi_media.specs.declared.record.VolumeRecord.{VolumeRecord}
 use Rattle.ubi_config.specs.Records.{record_in}
 use Rattle.ubi_config.specs.declared.section.Section.{Section}
 use Rattle.ubi_compose.proofs.Lists.{all_append}
 use Rattle.ubi_compose.specs.declared.recipe.Part.{Part}
-use Rattle.ubi_tool.specs.Build.{AreGathered, ArePartsOf, AreUnread, IsSized, IsUnreadLine, Sized, image_path, image_paths, len_of, part_at}
+use Rattle.ubi_tool.specs.Build.{AreBesideOut, AreGathered, ArePartsOf, AreUnread, IsSized, IsUnreadLine, Sized, image_path, image_paths, len_of, part_at}
 use Rattle.ubi_tool.specs.Disk.{Files}
 use Rattle.ubi_tool.proofs.FileRows.{sum_cons}
 use Rattle.ubi_tool.specs.inner.Gathering.{AreSoFar, IsFound, IsPartOf, listed}
@@ -111,6 +111,22 @@ module _ (d : Files) (s : Sizes) (config : List ℕ) where
         total = ap (λ (k : ℕ). k + p.len) before.total ∙ ap (λ (k : ℕ). sum_by len_of g.sized + k) (len ∙ (let one : len_of e ≡ sum_by len_of (e ∷ []) = omega arith in one))
             ∙ sym (sum_by-append len_of g.sized (e ∷ []));
       }
+
+-- no file of one section more is the output
+pub one_apart : (config out : List ℕ) (x : Section) (image : List ℕ) → x.image ≡ Some image → image_path config image ≢ out
+    → AreBesideOut config out (x ∷ [])
+one_apart config out x image is apart =
+    subst (λ (o : Option (List ℕ)). AllByRecursion (λ path. path ≢ out) (cons_option (option_map (image_path config) o) [])) (sym is) (apart, tt)
+
+pub next_apart : (config out : List ℕ) (xs : List Section) (i : ℕ) (x : Section) → i < length xs → get_or xs i x ≡ x
+    → AreBesideOut config out (take i xs) → AreBesideOut config out (x ∷ []) → AreBesideOut config out (take (i + 1) xs)
+next_apart config out xs i x inside here before one =
+    let more : take (i + 1) xs ≡ take i xs ++ x ∷ [] =
+    take_more xs i x inside ∙ ap (λ (y : Section). take i xs ++ y ∷ []) here in
+    subst (AreBesideOut config out) (sym more)
+    (subst (AllByRecursion (λ path. path ≢ out))
+    (sym (filter_map-append (λ (y : Section). option_map (image_path config) y.image) (take i xs) (x ∷ [])))
+    (all_append (λ path. path ≢ out) (image_paths config (take i xs)) (image_paths config (x ∷ [])) before one))
 
 -- the line of a file that was found names it, or the config
 pub unread_named : (d : Files) (config : List ℕ) (xs : List Section) (k : ℕ) (x : Section) (o : Outcome) (file : Option (Option (List ℕ) × ℕ))

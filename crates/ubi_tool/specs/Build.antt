@@ -1,5 +1,5 @@
 -- What building an image of a config and of the files that it names answers.
-use Rattle.std.specs.Prelude.{◌≡◌, ℕ, ◌+◌, ◌/◌, ◌<◌, List, [], ◌∷◌, Contains, IfSome, MatchOption, None, Option, Some, Result, Ok, Err, codes, length, map, option_map, sum_by, unwrap_or}
+use Rattle.std.specs.Prelude.{◌≡◌, ◌≢◌, ℕ, ◌+◌, ◌/◌, ◌<◌, List, [], ◌∷◌, Contains, IfSome, MatchOption, None, Option, Some, Result, Ok, Err, codes, length, map, option_map, sum_by, unwrap_or}
 use Rattle.std.specs.Io.KnownBytes.{Appends}
 use Rattle.std.specs.List.{AllByRecursion, filter_map}
 use Rattle.std.specs.Path.{path_with_file_name}
@@ -39,6 +39,10 @@ image_path config image = path_with_file_name config image
 -- the paths of the image files that sections name, in their order
 abbrev pub image_paths : List ℕ → List Section → List (List ℕ)
 image_paths config sections = filter_map (λ (x : Section). option_map (image_path config) x.image) sections
+
+-- no image file that sections name lies at the path of the output
+abbrev pub AreBesideOut : List ℕ → List ℕ → List Section → Type 0
+AreBesideOut config out sections = AllByRecursion (λ path. path ≢ out) (image_paths config sections)
 
 -- the line of a file that can't be read
 abbrev pub IsUnreadLine : List ℕ → Outcome → Type 0
@@ -119,6 +123,6 @@ pub data Builds (d e : Files) (config out : List ℕ) (s : Sizes) (text : List �
       → AllStay d e → Builds d e config out s text spares seq o
   ungathered : {o : Outcome} → IsUngathered s config (sections_of text) o → AllStay d e → Builds d e config out s text spares seq o
   gathered : {o : Outcome} (parts : List Part) (held : List (Option (List ℕ))) → first_fault text ≡ None
-      → AreGathered d s config (sections_of text) parts held
+      → AreGathered d s config (sections_of text) parts held → AreBesideOut config out (sections_of text)
       → BuildsParts d e config out (sections_of text) (numbered s seq parts) (row_bytes held) spares o
       → Builds d e config out s text spares seq o

@@ -5,7 +5,7 @@ ghost use Rattle.ubi_media.specs.Geometry.{Sizes};
 ghost use Rattle.ubi_config.specs.Records.{record_in};
 ghost use Rattle.ubi_config.specs.declared.section.Section.{Section};
 ghost use Rattle.ubi_tool.specs.Answer.{Gives, says};
-ghost use Rattle.ubi_tool.specs.Build.{AreGathered, AreUnread, IsUngathered, config_line};
+ghost use Rattle.ubi_tool.specs.Build.{AreBesideOut, AreGathered, AreUnread, IsUngathered, config_line};
 ghost use Rattle.ubi_tool.specs.Program.{Tells};
 ghost use Rattle.ubi_tool.specs.inner.Gathering.{IsFound, IsPartOf, listed};
 
@@ -70,6 +70,7 @@ fn find_image<D: Disk>(
     paths: ConfigPaths<'_>,
 ) -> Result<Found<D::Placed>, Unread>
     ensures found { IfOk result (λ f. IsFound (D.files disk.now) paths.entry.config.now section.now f.unread (option_map (λ x. (D.Placed.bytes x.file, x.len)) f.file)) }
+    ensures apart { IfOk result (λ _. AreBesideOut paths.entry.config.now paths.entry.out.now (section.now ∷ [])) }
     ensures unread { (s : Sizes) (sections : List Section) → Contains sections section.now → IfErr result (Tells (IsUngathered s paths.entry.config.now sections)) }
 {
     let Some(image) = &section.image else {
@@ -167,6 +168,7 @@ pub fn gather<D: Disk>(
     paths: ConfigPaths<'_>,
 ) -> Result<Gathered<D::Placed>, Unread>
     ensures gathered { IfOk result (λ g. AreGathered (D.files disk.now) geometry.now paths.entry.config.now sections.now g.parts.items (map (λ x. D.Placed.bytes x.file) g.files.items)) }
+    ensures apart { IfOk result (λ _. AreBesideOut paths.entry.config.now paths.entry.out.now sections.now) }
     ensures total { IfOk result (λ g. g.total ≡ sum_by (λ x. x.len) g.files.items) }
     ensures lines { IfOk result (λ g. AreUnread paths.entry.config.now sections.now g.unread.items) }
     ensures unread { IfErr result (Tells (IsUngathered geometry.now paths.entry.config.now sections.now)) }

@@ -18,5 +18,5 @@ returns-in-Ok-clause-answer g c = λ text none same.
     IfOk-weaker c.build_gathered.result _ _
     (λ o h. of_gathered (g.D.Disk.files c.args.disk.now) (g.D.Disk.files c.build_gathered.new.disk) asked.config.now asked.out.now c.args.geometry.now
     text asked.spares asked.image_seq c.args.sections.now c.in-Ok.gathered.parts.items
-    (map (λ f. g.D.Placed.PlacedFile.bytes f.file) c.in-Ok.gathered.files.items) o none same c.in-Ok.ensures.gathered h)
+    (map (λ f. g.D.Placed.PlacedFile.bytes f.file) c.in-Ok.gathered.files.items) o none same c.in-Ok.ensures.gathered c.in-Ok.ensures.apart h)
     (c.build_gathered.ensures.answer c.args.sections.now c.in-Ok.ensures.lines)

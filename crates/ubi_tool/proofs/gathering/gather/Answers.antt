@@ -6,15 +6,15 @@ use Rattle.std.proofs.lemmas.List.Sums.{sum_by-append}
 use Rattle.ubi_config.specs.declared.section.Section.{Section}
 use Rattle.ubi_compose.proofs.Lists.{all_append}
 use Rattle.ubi_compose.specs.declared.recipe.Part.{Part}
-use Rattle.ubi_tool.specs.Build.{no_image, no_record}
+use Rattle.ubi_tool.specs.Build.{AreBesideOut, no_image, no_record}
 use Rattle.ubi_tool.specs.inner.Gathering.{AreSoFar}
-use Rattle.ubi_tool.proofs.Gathered.{has_second, next_gathered, next_total, none_gathered, some_found, unread_file, unread_named}
+use Rattle.ubi_tool.proofs.Gathered.{has_second, next_apart, next_gathered, next_total, none_gathered, some_found, unread_file, unread_named}
 use Rattle.ubi_tool.proofs.gathering.gather.Goals as goal
 
 pub loop-section-init : goal.loop-section-init
 loop-section-init g c =
     rw (c.new-gathered.ensures.parts, c.new-gathered.ensures.files, c.new-gathered.ensures.total, c.new-gathered.ensures.unread)
-    (record { gathered = none_gathered _ _ _; total = refl; lines = tt })
+    (record { gathered = none_gathered _ _ _; total = refl; apart = tt; lines = tt })
 
 pub returns-in_err-found-clause-unread : goal.returns-in_err-found-clause-unread
 returns-in_err-found-clause-unread g c =
@@ -56,6 +56,8 @@ loop-section-preserved g c =
           c.loop-section.invariant.gathered c.in_ok-found.ensures.found c.in-Ok.ensures.part;
       total = next_total (λ f. g.D.Placed.PlacedFile.bytes f.file) (λ f. f.len) (vec_items before.files) before.total c.in-Ok.part.len found.file
           c.loop-section.invariant.total len;
+      apart = next_apart config c.args.paths.out.now xs i x c.loop-section-test.true here c.loop-section.invariant.apart
+          c.in_ok-found.ensures.apart;
       lines = all_append _ (vec_items before.unread) (found.unread ∷ []) c.loop-section.invariant.lines (unread, tt);
     })
 
@@ -67,3 +69,10 @@ returns-clause-gathered g c =
     (subst (λ (ys : List Section). AreSoFar (g.D.Disk.files c.args.disk.now) c.args.geometry.now c.args.paths.config.now ys
     (vec_items c.loop-section.gathered.parts) (map (λ f. g.D.Placed.PlacedFile.bytes f.file) (vec_items c.loop-section.gathered.files))
     c.loop-section.gathered.total) (take_all i xs all) c.loop-section.invariant.gathered).gathered
+
+pub returns-clause-apart : goal.returns-clause-apart
+returns-clause-apart g c =
+    let xs = c.args.sections.now in
+    let i = c.loop-section.section-index in
+    let all : length xs ≤ i = (let end = c.loop-section.auto.section-index-end in let test = c.loop-section-test.false in omega (arith, end, test)) in
+    subst (AreBesideOut c.args.paths.config.now c.args.paths.out.now) (take_all i xs all) c.loop-section.invariant.apart
