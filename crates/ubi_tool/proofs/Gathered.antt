@@ -11,7 +11,7 @@ use Rattle.ubi_config.specs.Records.{record_in}
 use Rattle.ubi_config.specs.declared.section.Section.{Section}
 use Rattle.ubi_compose.proofs.Lists.{all_append}
 use Rattle.ubi_compose.specs.declared.recipe.Part.{Part}
-use Rattle.ubi_tool.specs.Build.{AreBesideOut, AreGathered, ArePartsOf, AreUnread, IsSized, IsUnreadLine, Sized, image_path, image_paths, len_of, part_at}
+use Rattle.ubi_tool.specs.Build.{AreBesideOut, AreGathered, ArePartsOf, AreUnread, IsNoVolume, IsSized, IsUngathered, IsUnreadLine, Sized, image_path, image_paths, len_of, part_at}
 use Rattle.ubi_tool.specs.Disk.{Files}
 use Rattle.ubi_tool.proofs.FileRows.{sum_cons}
 use Rattle.ubi_tool.specs.inner.Gathering.{AreSoFar, IsFound, IsPartOf, listed}
@@ -26,7 +26,7 @@ in_front : {X : Type 0} (o : Option X) (xs : List X) (x : X) → o ≡ Some x �
 in_front o xs x is = subst (λ (p : Option _). Contains (cons_option p xs) x) (sym is) (0, omega arith, refl)
 
 -- the path of an image file that a section names is among those of all
-pub path_named : (config : List ℕ) (xs : List Section) (k : ℕ) (x : Section) (image : List ℕ) → k < length xs → get_or xs k x ≡ x
+path_named : (config : List ℕ) (xs : List Section) (k : ℕ) (x : Section) (image : List ℕ) → k < length xs → get_or xs k x ≡ x
     → x.image ≡ Some image → Contains (image_paths config xs) (image_path config image)
 path_named config [] k x image inside here is = absurd (omega (arith, inside))
 path_named config (y ∷ ys) zero x image inside here is =
@@ -145,21 +145,28 @@ unread_named d config xs k x o file inside here = by_image x.image refl
         (image_path config image, (suc at.0, omega (arith, place), at.2), h.5)
 
 -- a file that has bytes is one that the section names
-pub unread_file : (d : Files) (config : List ℕ) (xs : List Section) (k : ℕ) (x : Section) (o : Outcome) (file : Option (Option (List ℕ) × ℕ))
-    → k < length xs → get_or xs k x ≡ x → IsFound d config x o file → 0 < unwrap_or (option_map (λ (f : Option (List ℕ) × ℕ). f.1) file) 0
-    → (path : List ℕ) × Contains (image_paths config xs) path × IsUnreadLine path o
-unread_file d config xs k x o file inside here = by_image x.image refl
+pub unread_file : (d : Files) (config : List ℕ) (x : Section) (o : Outcome) (file : Option (Option (List ℕ) × ℕ)) → IsFound d config x o file
+    → 0 < unwrap_or (option_map (λ (f : Option (List ℕ) × ℕ). f.1) file) 0
+    → (image : List ℕ) × (x.image ≡ Some image) × IsUnreadLine (image_path config image) o
+unread_file d config x o file = by_image x.image refl
   where
     by_image : (image : Option (List ℕ)) → x.image ≡ image
         → MatchOption image ((file ≡ None) × IsUnreadLine config o) (λ image. (held : Option (List ℕ)) × (n : ℕ) × (file ≡ Some (held, n))
         × (held ≡ d.holds (image_path config image)) × IfSome held (λ all. length all ≡ n) × IsUnreadLine (image_path config image) o)
         → 0 < unwrap_or (option_map (λ (f : Option (List ℕ) × ℕ). f.1) file) 0
-        → (path : List ℕ) × Contains (image_paths config xs) path × IsUnreadLine path o
+        → (image : List ℕ) × (x.image ≡ Some image) × IsUnreadLine (image_path config image) o
     by_image None is h some =
         let nothing : unwrap_or (option_map (λ (f : Option (List ℕ) × ℕ). f.1) file) 0 ≡ 0 =
         ap (λ (f : Option (Option (List ℕ) × ℕ)). unwrap_or (option_map (λ (g : Option (List ℕ) × ℕ). g.1) f) 0) h.0 in
         absurd (omega (arith, some, nothing))
-    by_image (Some image) is h some = (image_path config image, path_named config xs k x image inside here is, h.5)
+    by_image (Some image) is h some = (image, is, h.5)
+
+-- sections stop at the first that comes to no volume
+pub stops_at : (d : Files) (s : Sizes) (config : List ℕ) (xs : List Section) (i : ℕ) (x : Section) (ps : List Part)
+    (held : List (Option (List ℕ))) (total : ℕ) (o : Outcome) → i < length xs → get_or xs i x ≡ x
+    → AreSoFar d s config (take i xs) ps held total → IsNoVolume d s config x o → IsUngathered d s config xs o
+stops_at d s config xs i x ps held total o inside here before none =
+    record { at = i; inside = inside; parts = ps; held = held; before = before.gathered; first = (x, here, none) }
 
 -- the sum over an element, if there is one
 pub listed_sum : {X : Type 0} (f : X → ℕ) (o : Option X) → sum_by f (listed o) ≡ unwrap_or (option_map f o) 0
@@ -183,6 +190,11 @@ module _ {F : Type 0} (bytes : F → Option (List ℕ)) (len : F → ℕ) where
   held_found : (o : Option F) → listed (option_map (λ (f : Option (List ℕ) × ℕ). f.0) (found_in o)) ≡ map bytes (listed o)
   held_found None = refl
   held_found (Some f) = refl
+
+  pub sized_found : (d : Files) (config : List ℕ) (x : Section) (o : Outcome) (file : Option F) → IsFound d config x o (found_in file)
+      → IsSized d config (x, option_map len file)
+  sized_found d config x o file found =
+      subst (λ (n : Option ℕ). IsSized d config (x, n)) (sym (len_found file)) (sized_by d config x o (found_in file) found)
 
   pub next_gathered : (d : Files) (s : Sizes) (config : List ℕ) (xs : List Section) (i : ℕ) (x : Section) (ps : List Part) (fs : List F)
       (total : ℕ) (p : Part) (o : Outcome) (file : Option F) → i < length xs → get_or xs i x ≡ x

@@ -1,5 +1,5 @@
 -- What building an image of a config and of the files that it names answers.
-use Rattle.std.specs.Prelude.{◌≡◌, ◌≢◌, ℕ, ◌+◌, ◌/◌, ◌<◌, List, [], ◌∷◌, Contains, IfSome, MatchOption, None, Option, Some, Result, Ok, Err, codes, length, map, option_map, sum_by, unwrap_or}
+use Rattle.std.specs.Prelude.{◌≡◌, ◌≢◌, ℕ, ◌+◌, ◌/◌, ◌<◌, List, [], ◌∷◌, Contains, IfSome, MatchOption, None, Option, Some, Result, Ok, Err, codes, get_or, length, map, option_map, sum_by, take, unwrap_or}
 use Rattle.std.specs.Io.KnownBytes.{Appends}
 use Rattle.std.specs.List.{AllByRecursion, filter_map}
 use Rattle.std.specs.Path.{path_with_file_name}
@@ -90,15 +90,24 @@ pub record AreGathered (d : Files) (s : Sizes) (config : List ℕ) (xs : List Se
 abbrev pub numbered : Sizes → ℕ → List Part → Parts
 numbered s seq parts = record { sizes = s; image_seq = seq; of = parts }
 
--- why sections come to no volumes: the line of an image file that can't be read, which the output may not be either, or
--- whose path isn't text; or that of a section that gives no record
-pub data IsUngathered (s : Sizes) (config : List ℕ) (sections : List Section) : Outcome → Type 0 where
-  no_image : {o : Outcome} (path : List ℕ) → Contains (image_paths config sections) path
-      → IsUnreadLine path o → IsUngathered s config sections o
-  no_path : {o : Outcome} (x : Section) (image : List ℕ) → Contains sections x → x.image ≡ Some image → (IsUtf8 image → ⊥)
-      → Gives o (says (config_line x.line cause.Unfit) 1) → IsUngathered s config sections o
-  no_record : {o : Outcome} (x : Section) (len : Option ℕ) (c : ConfigCause) → Contains sections x → record_in s x len ≡ Err c
-      → Gives o (says (config_line x.line c) 1) → IsUngathered s config sections o
+-- why a section comes to no volume: the line of its image file, which can't be read, which the output may not be either, or whose
+-- path isn't text; or that of the section, which gives no record to a file of that size
+pub data IsNoVolume (d : Files) (s : Sizes) (config : List ℕ) (x : Section) : Outcome → Type 0 where
+  no_image : {o : Outcome} (image : List ℕ) → x.image ≡ Some image → IsUnreadLine (image_path config image) o
+      → IsNoVolume d s config x o
+  no_path : {o : Outcome} (image : List ℕ) → x.image ≡ Some image → (IsUtf8 image → ⊥)
+      → Gives o (says (config_line x.line cause.Unfit) 1) → IsNoVolume d s config x o
+  no_record : {o : Outcome} (len : Option ℕ) (c : ConfigCause) → IsSized d config (x, len) → record_in s x len ≡ Err c
+      → Gives o (says (config_line x.line c) 1) → IsNoVolume d s config x o
+
+-- why sections come to no volumes: why one of them doesn't, where all before it do
+pub record IsUngathered (d : Files) (s : Sizes) (config : List ℕ) (xs : List Section) (o : Outcome) : Type 0 where
+  pub at : ℕ
+  pub inside : at < length xs
+  pub parts : List Part
+  pub held : List (Option (List ℕ))
+  pub before : AreGathered d s config (take at xs) parts held
+  pub first : (x : Section) × (get_or xs at x ≡ x) × IsNoVolume d s config x o
 
 -- what the volumes are answered, and what becomes of the files: how many eraseblocks the image has, which the output received,
 -- whatever the files hold that agrees with what was read of them; the line of volumes that have no meaning together, of a device
@@ -121,7 +130,7 @@ pub data BuildsParts (d e : Files) (config out : List ℕ) (sections : List Sect
 pub data Builds (d e : Files) (config out : List ℕ) (s : Sizes) (text : List ℕ) (spares seq : ℕ) : Outcome → Type 0 where
   faulty : {o : Outcome} (n : ℕ) (c : ConfigCause) → first_fault text ≡ Some (n, c) → Gives o (says (config_line n c) 1)
       → AllStay d e → Builds d e config out s text spares seq o
-  ungathered : {o : Outcome} → IsUngathered s config (sections_of text) o → AllStay d e → Builds d e config out s text spares seq o
+  ungathered : {o : Outcome} → first_fault text ≡ None → IsUngathered d s config (sections_of text) o → AllStay d e → Builds d e config out s text spares seq o
   gathered : {o : Outcome} (parts : List Part) (held : List (Option (List ℕ))) → first_fault text ≡ None
       → AreGathered d s config (sections_of text) parts held → AreBesideOut config out (sections_of text)
       → BuildsParts d e config out (sections_of text) (numbered s seq parts) (row_bytes held) spares o

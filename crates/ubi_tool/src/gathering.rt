@@ -5,7 +5,7 @@ ghost use Rattle.ubi_media.specs.Geometry.{Sizes};
 ghost use Rattle.ubi_config.specs.Records.{record_in};
 ghost use Rattle.ubi_config.specs.declared.section.Section.{Section};
 ghost use Rattle.ubi_tool.specs.Answer.{Gives, says};
-ghost use Rattle.ubi_tool.specs.Build.{AreBesideOut, AreGathered, AreUnread, IsUngathered, config_line};
+ghost use Rattle.ubi_tool.specs.Build.{AreBesideOut, AreGathered, AreUnread, IsNoVolume, IsUngathered, config_line};
 ghost use Rattle.ubi_tool.specs.Program.{Tells};
 ghost use Rattle.ubi_tool.specs.inner.Gathering.{IsFound, IsPartOf, listed};
 
@@ -71,7 +71,7 @@ fn find_image<D: Disk>(
 ) -> Result<Found<D::Placed>, Unread>
     ensures found { IfOk result (λ f. IsFound (D.files disk.now) paths.entry.config.now section.now f.unread (option_map (λ x. (D.Placed.bytes x.file, x.len)) f.file)) }
     ensures apart { IfOk result (λ _. AreBesideOut paths.entry.config.now paths.entry.out.now (section.now ∷ [])) }
-    ensures unread { (s : Sizes) (sections : List Section) → Contains sections section.now → IfErr result (Tells (IsUngathered s paths.entry.config.now sections)) }
+    ensures unread { (s : Sizes) → IfErr result (Tells (IsNoVolume (D.files disk.now) s paths.entry.config.now section.now)) }
 {
     let Some(image) = &section.image else {
         let unread = unread_line(alloc, paths.config)?;
@@ -171,7 +171,7 @@ pub fn gather<D: Disk>(
     ensures apart { IfOk result (λ _. AreBesideOut paths.entry.config.now paths.entry.out.now sections.now) }
     ensures total { IfOk result (λ g. g.total ≡ sum_by (λ x. x.len) g.files.items) }
     ensures lines { IfOk result (λ g. AreUnread paths.entry.config.now sections.now g.unread.items) }
-    ensures unread { IfErr result (Tells (IsUngathered geometry.now paths.entry.config.now sections.now)) }
+    ensures unread { IfErr result (Tells (IsUngathered (D.files disk.now) geometry.now paths.entry.config.now sections.now)) }
 {
     let mut gathered = Gathered::new(alloc);
     for section in sections {

@@ -9,7 +9,8 @@ use Rattle.ubi_tool.proofs.build.build_sections.Goals as goal
 pub returns-in-Err-clause-answer : goal.returns-in-Err-clause-answer
 returns-in-Err-clause-answer g c = λ text none same.
     IfOk-weaker c.answer.result _ _
-    (λ o h. ungathered (subst (λ (xs : List Section). IsUngathered c.args.geometry.now c.args.asked.now.config.now xs o) same h) (λ path. refl))
+    (λ o h. ungathered none (subst (λ (xs : List Section). IsUngathered (g.D.Disk.files c.args.disk.now) c.args.geometry.now c.args.asked.now.config.now xs o) same h)
+    (λ path. refl))
     (told _ c.in-Err.unread c.answer.result c.in-Err.ensures.unread c.answer.ensures)
 
 pub returns-in-Ok-clause-answer : goal.returns-in-Ok-clause-answer

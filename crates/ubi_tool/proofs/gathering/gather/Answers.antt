@@ -8,7 +8,8 @@ use Rattle.ubi_compose.proofs.Lists.{all_append}
 use Rattle.ubi_compose.specs.declared.recipe.Part.{Part}
 use Rattle.ubi_tool.specs.Build.{AreBesideOut, no_image, no_record}
 use Rattle.ubi_tool.specs.inner.Gathering.{AreSoFar}
-use Rattle.ubi_tool.proofs.Gathered.{has_second, next_apart, next_gathered, next_total, none_gathered, some_found, unread_file, unread_named}
+use Rattle.ubi_tool.proofs.Gathered.{has_second, next_apart, next_gathered, next_total, none_gathered, sized_found, some_found, stops_at, unread_file, unread_named}
+use Rattle.ubi_tool.proofs.Outcomes.{Tells-weaker}
 use Rattle.ubi_tool.proofs.gathering.gather.Goals as goal
 
 pub loop-section-init : goal.loop-section-init
@@ -18,23 +19,37 @@ loop-section-init g c =
 
 pub returns-in_err-found-clause-unread : goal.returns-in_err-found-clause-unread
 returns-in_err-found-clause-unread g c =
-    let among : Contains c.args.sections.now c.section-item.result = (c.loop-section.section-index, c.loop-section-test.true, sym c.section-item.is) in
     let p = err_from_is_err_and c.from_residual.result c.from_residual.ensures.1 in
-    rw (p.1, p.2) (c.in_err-found.ensures.unread _ _ among)
+    rw (p.1, p.2) (Tells-weaker _ _
+    (λ o none. stops_at (g.D.Disk.files c.args.disk.now) c.args.geometry.now c.args.paths.config.now c.args.sections.now c.loop-section.section-index
+    c.section-item.result (vec_items c.loop-section.gathered.parts) (map (λ f. g.D.Placed.PlacedFile.bytes f.file) (vec_items c.loop-section.gathered.files))
+    c.loop-section.gathered.total o c.loop-section-test.true (sym c.section-item.is) c.loop-section.invariant.gathered none)
+    _ (c.in_err-found.ensures.unread c.args.geometry.now))
 
 pub returns-in-Err-clause-unread : goal.returns-in-Err-clause-unread
 returns-in-Err-clause-unread g c =
-    let among : Contains c.args.sections.now c.section-item.result = (c.loop-section.section-index, c.loop-section-test.true, sym c.section-item.is) in
-    no_record c.section-item.result _ c.in-Err.cause among c.in-Err.ensures.refused c.in_ok-config_line-in-Err.ensures
+    let d = g.D.Disk.files c.args.disk.now in
+    let config = c.args.paths.config.now in
+    let found = c.in_ok-found.found in
+    stops_at d c.args.geometry.now config c.args.sections.now c.loop-section.section-index c.section-item.result
+    (vec_items c.loop-section.gathered.parts) (map (λ f. g.D.Placed.PlacedFile.bytes f.file) (vec_items c.loop-section.gathered.files))
+    c.loop-section.gathered.total _ c.loop-section-test.true (sym c.section-item.is) c.loop-section.invariant.gathered
+    (no_record _ c.in-Err.cause
+    (sized_found (λ f. g.D.Placed.PlacedFile.bytes f.file) (λ f. f.len) d config c.section-item.result found.unread found.file c.in_ok-found.ensures.found)
+    c.in-Err.ensures.refused c.in_ok-config_line-in-Err.ensures)
 
 pub returns-in_default-clause-unread : goal.returns-in_default-clause-unread
 returns-in_default-clause-unread g c =
+    let d = g.D.Disk.files c.args.disk.now in
+    let config = c.args.paths.config.now in
     let len : c.in-Ok.part.len ≡ _ = ap (λ (p : Part). p.len) c.in-Ok.ensures.part.2 in
     let second = has_second c.loop-section.gathered.total c.in-Ok.part.len c.in_default.ensures c.in-Ok.ensures.place in
-    let some = unread_file (g.D.Disk.files c.args.disk.now) c.args.paths.config.now c.args.sections.now c.loop-section.section-index
-    c.section-item.result c.in_ok-found.found.unread _ c.loop-section-test.true (sym c.section-item.is) c.in_ok-found.ensures.found
+    let some = unread_file d config c.section-item.result c.in_ok-found.found.unread _ c.in_ok-found.ensures.found
     (some_found (λ f. g.D.Placed.PlacedFile.bytes f.file) (λ f. f.len) c.in-Ok.part.len c.in_ok-found.found.file len second) in
-    no_image some.0 some.1 some.2
+    stops_at d c.args.geometry.now config c.args.sections.now c.loop-section.section-index c.section-item.result
+    (vec_items c.loop-section.gathered.parts) (map (λ f. g.D.Placed.PlacedFile.bytes f.file) (vec_items c.loop-section.gathered.files))
+    c.loop-section.gathered.total _ c.loop-section-test.true (sym c.section-item.is) c.loop-section.invariant.gathered
+    (no_image some.0 some.1 some.2)
 
 pub loop-section-preserved : goal.loop-section-preserved
 loop-section-preserved g c =
