@@ -2,7 +2,7 @@
 use Rattle.std.proofs.Common.{◌≡◌, ◌<◌, ◌⊎◌, ◌∷◌, ◌∙◌, ℕ, List, [], ap, arith, get_or, inl, inr, length, refl, subst, suc, sym, zero}
 use Rattle.std.specs.List.{AllByRecursion}
 use Rattle.std.specs.Option.{ForSome}
-use Rattle.std.specs.Prelude.{Contains, Err, IfErr, IfOk, IfSome, IsOk, IsSome, None, Ok, OnErr, Option, Result, Some}
+use Rattle.std.specs.Prelude.{Contains, Err, IfErr, IfOk, IfSome, IsOk, IsSome, None, Ok, OnErr, Option, Result}
 use Rattle.std.specs.declared.alloc.AllocError.{AllocError}
 use Rattle.ubi_media.specs.Geometry.{Sizes}
 use Rattle.ubi_scan.specs.Source.{Agreed, Source, known_by}

@@ -2,7 +2,7 @@
 use Rattle.std.proofs.Common.{◌≡◌, ℕ, ◌+◌, ◌-◌, ◌<◌, ◌≤◌, min, List, [], ◌∷◌, ◌++◌, drop, get_or, length, map, take, zero, suc, ap, arith, refl, subst, sym, ◌∙◌}
 use Rattle.std.proofs.Math.Nat.{min-le_left, min-le_right}
 use Rattle.std.proofs.Math.Seq.{drop-append-add}
-use Rattle.std.proofs.lemmas.List.{drop-append-le, length-append, length-drop, length-take, length-take-le, take-append-le, take-take, take_more}
+use Rattle.std.proofs.lemmas.List.{drop-append-le, length-append, length-drop, length-take, length-take-le, take-append-le, take-take}
 use Rattle.std.proofs.lemmas.List.Sums.{sum_by-append}
 use Rattle.std.specs.Option.{ForSome}
 use Rattle.std.specs.Prelude.{None, Option, Some, option_and_then, option_map, sum_by}

@@ -1,17 +1,15 @@
 -- What the sections of a config come to.
-use Rattle.std.proofs.Common.{◌≡◌, ℕ, ◌+◌, ◌<◌, ◌^◌, List, [], ◌∷◌, ◌++◌, append-nil, get_or, length, map, take, zero, suc, ap, arith, refl, subst, sym, ◌∙◌}
+use Rattle.std.proofs.Common.{◌≡◌, ℕ, ◌+◌, ◌<◌, ◌^◌, List, [], ◌∷◌, ◌++◌, get_or, length, map, take, zero, suc, ap, arith, refl, subst, sym, ◌∙◌}
 use Rattle.std.proofs.lemmas.List.{map-append, take_more}
 use Rattle.std.proofs.lemmas.List.Elements.{filter_map-append}
 use Rattle.std.proofs.lemmas.List.Sums.{sum_by-append}
-use Rattle.std.specs.List.{AllByRecursion, cons_option, filter_map}
-use Rattle.std.specs.Prelude.{◌≢◌, Contains, IfSome, MatchOption, None, Ok, Option, Some, Result, option_map, sum_by, unwrap_or}
+use Rattle.std.specs.List.{AllByRecursion, cons_option}
+use Rattle.std.specs.Prelude.{◌≢◌, Contains, IfSome, MatchOption, None, Option, Some, option_map, sum_by, unwrap_or}
 use Rattle.ubi_media.specs.Geometry.{Sizes}
-use Rattle.ubi_media.specs.declared.record.VolumeRecord.{VolumeRecord}
-use Rattle.ubi_config.specs.Records.{record_in}
 use Rattle.ubi_config.specs.declared.section.Section.{Section}
 use Rattle.ubi_compose.proofs.Lists.{all_append}
 use Rattle.ubi_compose.specs.declared.recipe.Part.{Part}
-use Rattle.ubi_tool.specs.Build.{AreBesideOut, AreGathered, ArePartsOf, AreUnread, IsNoVolume, IsSized, IsUngathered, IsUnreadLine, Sized, image_path, image_paths, len_of, part_at}
+use Rattle.ubi_tool.specs.Build.{AreBesideOut, ArePartsOf, IsNoVolume, IsSized, IsUngathered, IsUnreadLine, Sized, image_path, image_paths, len_of, part_at}
 use Rattle.ubi_tool.specs.Disk.{Files}
 use Rattle.ubi_tool.proofs.FileRows.{sum_cons}
 use Rattle.ubi_tool.specs.inner.Gathering.{AreSoFar, IsFound, IsPartOf, listed}

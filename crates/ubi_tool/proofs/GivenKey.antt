@@ -75,8 +75,8 @@ request_names_one named r asked words is = go r asked.1 asked.2
 
     go : (q : Request) → named ≡ Some (command_name q, asked.0) → Asks asked.0 q
         → is_some (first_of (codes "name") words) ≡ not (is_some (first_of (codes "id") words))
-    go (request.Extract n image k out) at asks =
-        rw (← (same (request.Extract n image k out) at).1) (one_volume asked.0 k asks.2)
+    go (request.Extract n x) at asks =
+        rw (← (same (request.Extract n x) at).1) (one_volume asked.0 x.key asks.1.1)
     go q at asks = absurd (apart _ _ refl (same q at).0)
 
 -- words that name just one volume name it by a number or by a text

@@ -9,10 +9,12 @@ use Rattle.std.proofs.lemmas.Slice.Eq.{bytes_eq-Decides}
 use Rattle.clap.specs.Faults.{fault_of, level_fault}
 use Rattle.clap.specs.Simple.{Shape, argument_words, built, label_of, subcommand_of}
 use Rattle.clap.specs.Walk.{Row, Text, answers_to, nothing_held, rows_after}
-use Rattle.ubi_tool.specs.CommandLine.{Asks, AsksNumbers, IsRequest, HasNumber, HasText, command_name}
+use Rattle.ubi_tool.specs.CommandLine.{Asks, AsksNewImage, AsksNumbers, AsksPaths, IsRequest, HasNumber, HasText, command_name}
 use Rattle.ubi_tool.specs.Tool.{HasOneVolume, Takes, tool}
-use Rattle.ubi_tool.specs.declared.command_line.Build.{Build}
 use Rattle.ubi_tool.specs.declared.command_line.Change.{Change}
+use Rattle.ubi_tool.specs.declared.command_line.Extract.{Extract}
+use Rattle.ubi_tool.specs.declared.command_line.NewImage.{NewImage}
+use Rattle.ubi_tool.specs.declared.command_line.Paths.{Paths}
 use Rattle.ubi_tool.specs.declared.command_line.Rename.{Rename}
 use Rattle.ubi_tool.specs.declared.command_line.Request.{Request}
 use Rattle.ubi_tool.specs.declared.command_line.Request.TheVariants as request
@@ -54,6 +56,27 @@ module _ (s : Shape) (rows : List Row) (given : AreGiven s rows) where
         (size.1, page_size.1, vid.1, data_at.1, pebs.1),
       )
 
+  paths : Needs s (codes "IMAGE") → Needs s (codes "out") → (p : Paths) × AsksPaths rows p
+  paths image out =
+      let i = text (codes "IMAGE") image in
+      let o = text (codes "out") out in
+      (record { image = i.0; out = o.0 }, (i.1, o.1))
+
+  new_image : (name : Text) → Needs s name → Needs s (codes "out") → (new : NewImage) × AsksNewImage rows name new
+  new_image name from out =
+      let t = text name from in
+      let o = text (codes "out") out in
+      let spares = number_in rows (codes "spares") in
+      let seq = number_in rows (codes "seq") in (
+        record {
+          from = t.0;
+          out = o.0;
+          spares = unwrap_or spares.0 0;
+          image_seq = unwrap_or seq.0 0;
+        },
+        (t.1, o.1, (spares.0, spares.1, refl), (seq.0, seq.1, refl)),
+      )
+
   geometry_asked : Needs s (codes "IMAGE") → IsAsked (codes "geometry") rows
   geometry_asked image =
       let i = text (codes "IMAGE") image in
@@ -83,55 +106,38 @@ module _ (s : Shape) (rows : List Row) (given : AreGiven s rows) where
       → HasOneVolume (Some (codes "extract", rows)) → IsAsked (codes "extract") rows
   extract_asked peb page image out one =
       let n = numbers peb page in
-      let i = text (codes "IMAGE") image in
+      let p = paths image out in
       let k = key_asked rows given.each (one rows refl) in
-      let o = text (codes "out") out in
-      (request.Extract n.0 i.0 k.0 o.0, refl, (n.1, i.1, k.1, o.1))
+      let extract : Extract = record { paths = p.0; key = k.0 } in
+      (request.Extract n.0 extract, refl, (n.1, (p.1, k.1)))
 
   unpack_asked : Needs s (codes "peb") → Needs s (codes "page") → Needs s (codes "IMAGE") → Needs s (codes "out")
       → IsAsked (codes "unpack") rows
   unpack_asked peb page image out =
       let n = numbers peb page in
-      let i = text (codes "IMAGE") image in
-      let o = text (codes "out") out in
-      (request.Unpack n.0 i.0 o.0, refl, (n.1, i.1, o.1))
+      let p = paths image out in
+      (request.Unpack n.0 p.0, refl, (n.1, p.1))
 
   compose_asked : Needs s (codes "peb") → Needs s (codes "page") → Needs s (codes "SPEC") → Needs s (codes "out")
       → IsAsked (codes "compose") rows
   compose_asked peb page spec out =
       let n = numbers peb page in
-      let t = text (codes "SPEC") spec in
-      let o = text (codes "out") out in
-      let spares = number_in rows (codes "spares") in
-      let seq = number_in rows (codes "seq") in (
-        request.Compose n.0 t.0 o.0 (unwrap_or spares.0 0) (unwrap_or seq.0 0),
-        refl,
-        (n.1, t.1, o.1, (spares.0, spares.1, refl), (seq.0, seq.1, refl)),
-      )
+      let new = new_image (codes "SPEC") spec out in
+      (request.Compose n.0 new.0, refl, (n.1, new.1))
 
   build_asked : Needs s (codes "peb") → Needs s (codes "page") → Needs s (codes "CONFIG") → Needs s (codes "out")
       → IsAsked (codes "build") rows
   build_asked peb page config out =
       let n = numbers peb page in
-      let t = text (codes "CONFIG") config in
-      let o = text (codes "out") out in
-      let spares = number_in rows (codes "spares") in
-      let seq = number_in rows (codes "seq") in
-      let build : Build = record {
-        config = t.0;
-        out = o.0;
-        spares = unwrap_or spares.0 0;
-        image_seq = unwrap_or seq.0 0;
-      } in
-      (request.Build n.0 build, refl, (n.1, (t.1, o.1, (spares.0, spares.1, refl), (seq.0, seq.1, refl))))
+      let new = new_image (codes "CONFIG") config out in
+      (request.Build n.0 new.0, refl, (n.1, new.1))
 
   normalise_asked : Needs s (codes "peb") → Needs s (codes "page") → Needs s (codes "IMAGE") → Needs s (codes "out")
       → IsAsked (codes "normalise") rows
   normalise_asked peb page image out =
       let n = numbers peb page in
-      let i = text (codes "IMAGE") image in
-      let o = text (codes "out") out in
-      (request.Normalise n.0 i.0 o.0, refl, (n.1, i.1, o.1))
+      let p = paths image out in
+      (request.Normalise n.0 p.0, refl, (n.1, p.1))
 
   same_asked : Needs s (codes "peb") → Needs s (codes "page") → Needs s (codes "IMAGE") → Needs s (codes "OTHER")
       → IsAsked (codes "same") rows
@@ -145,37 +151,35 @@ module _ (s : Shape) (rows : List Row) (given : AreGiven s rows) where
       → Needs s (codes "lnum") → Needs s (codes "from") → Needs s (codes "out") → IsAsked (codes "change") rows
   change_asked peb page image id lnum from out =
       let n = numbers peb page in
-      let i = text (codes "IMAGE") image in
+      let p = paths image out in
       let v = number (codes "id") refl id in
       let l = number (codes "lnum") refl lnum in
       let f = text (codes "from") from in
-      let o = text (codes "out") out in
       let stop = number_in rows (codes "stop") in
       let change : Change = record {
+        paths = p.0;
         id = v.0;
         lnum = l.0;
         from = f.0;
-        out = o.0;
         stop = stop.0;
       } in
-      (request.Change n.0 i.0 change, refl, (n.1, i.1, (v.1, l.1, f.1, o.1, stop.1)))
+      (request.Change n.0 change, refl, (n.1, (p.1, v.1, l.1, f.1, stop.1)))
 
   rename_asked : Needs s (codes "peb") → Needs s (codes "page") → Needs s (codes "IMAGE") → Needs s (codes "id")
       → Needs s (codes "name") → Needs s (codes "out") → IsAsked (codes "rename") rows
   rename_asked peb page image id name out =
       let n = numbers peb page in
-      let i = text (codes "IMAGE") image in
+      let p = paths image out in
       let v = number (codes "id") refl id in
       let new = text (codes "name") name in
-      let o = text (codes "out") out in
       let stop = number_in rows (codes "stop") in
       let rename : Rename = record {
+        paths = p.0;
         id = v.0;
         name = new.0;
-        out = o.0;
         stop = stop.0;
       } in
-      (request.Rename n.0 i.0 rename, refl, (n.1, i.1, (v.1, new.1, o.1, stop.1)))
+      (request.Rename n.0 rename, refl, (n.1, (p.1, v.1, new.1, stop.1)))
 
 -- ---- whichever command was met
 

@@ -15,9 +15,7 @@ use Rattle.ubi_media.specs.Geometry.{Sizes}
 use Rattle.ubi_scan.specs.Image.{Image, image_of}
 use Rattle.ubi_scan.specs.Source.{Agreed}
 use Rattle.ubi_table.specs.Records.{Records}
-use Rattle.ubi_volume.specs.Accepts.{Accepts}
 use Rattle.ubi_volume.specs.Extract.{extent_in, extent_len, extent_of, read_text}
-use Rattle.ubi_volume.specs.Meant.{Meant, records_of}
 use Rattle.ubi_volume.specs.Places.{ArePlaces, AreWithin, Placed}
 use Rattle.ubi_volume.specs.Reading.{read_volume, volume_len}
 use Rattle.ubi_volume.specs.declared.errors.ReadError.{ReadError}

@@ -1,9 +1,7 @@
 -- What building an image of a config and of the files that it names answers.
-use Rattle.std.specs.Prelude.{◌≡◌, ◌≢◌, ℕ, ◌+◌, ◌/◌, ◌<◌, List, [], ◌∷◌, Contains, IfSome, MatchOption, None, Option, Some, Result, Ok, Err, codes, get_or, length, map, option_map, sum_by, take, unwrap_or}
-use Rattle.std.specs.Io.KnownBytes.{Appends}
+use Rattle.std.specs.Prelude.{◌≡◌, ◌≢◌, ℕ, ◌+◌, ◌/◌, ◌<◌, List, [], ◌∷◌, Contains, IfSome, MatchOption, None, Option, Some, Ok, Err, codes, get_or, length, map, option_map, take, unwrap_or}
 use Rattle.std.specs.List.{AllByRecursion, filter_map}
 use Rattle.std.specs.Path.{path_with_file_name}
-use Rattle.std.specs.Result.{result_map_both}
 use Rattle.std.specs.Str.{IsUtf8}
 use Rattle.ubi_media.specs.Geometry.{Sizes}
 use Rattle.ubi_media.specs.declared.record.VolumeRecord.{VolumeRecord}

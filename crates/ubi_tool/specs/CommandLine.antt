@@ -3,8 +3,10 @@ use Rattle.std.specs.Borrow.{Bor}
 use Rattle.std.specs.Prelude.{◌≡◌, ◌↔◌, ◌∷◌, ◌<◌, ◌^◌, [], List, None, Option, Some, codes, option_map, unwrap_or, ℕ}
 use Rattle.std.specs.Str.Parse.{IsNumeral, digits_value, without_leading_plus}
 use Rattle.clap.specs.Walk.{Row, Text, first_of, one_of}
-use Rattle.ubi_tool.specs.declared.command_line.Build.{Build}
 use Rattle.ubi_tool.specs.declared.command_line.Change.{Change}
+use Rattle.ubi_tool.specs.declared.command_line.Extract.{Extract}
+use Rattle.ubi_tool.specs.declared.command_line.NewImage.{NewImage}
+use Rattle.ubi_tool.specs.declared.command_line.Paths.{Paths}
 use Rattle.ubi_tool.specs.declared.command_line.Rename.{Rename}
 use Rattle.ubi_tool.specs.declared.command_line.Request.{Request}
 use Rattle.ubi_tool.specs.declared.command_line.Request.TheVariants as request
@@ -18,14 +20,14 @@ command_name (request.Geometry _) = codes "geometry"
 command_name (request.List _ _) = codes "list"
 command_name (request.Check _ _) = codes "check"
 command_name (request.Show _ _ _) = codes "show"
-command_name (request.Extract _ _ _ _) = codes "extract"
-command_name (request.Unpack _ _ _) = codes "unpack"
-command_name (request.Compose _ _ _ _ _) = codes "compose"
+command_name (request.Extract _ _) = codes "extract"
+command_name (request.Unpack _ _) = codes "unpack"
+command_name (request.Compose _ _) = codes "compose"
 command_name (request.Build _ _) = codes "build"
-command_name (request.Normalise _ _ _) = codes "normalise"
+command_name (request.Normalise _ _) = codes "normalise"
 command_name (request.Same _ _ _) = codes "same"
-command_name (request.Change _ _ _) = codes "change"
-command_name (request.Rename _ _ _) = codes "rename"
+command_name (request.Change _ _) = codes "change"
+command_name (request.Rename _ _) = codes "rename"
 
 -- all of them, in the order of the help
 abbrev pub command_names : List (List ℕ)
@@ -64,24 +66,32 @@ abbrev pub AsksKey : List Row → VolumeKey → Type 0
 AsksKey words (key.Id id) = HasNumber words (codes "id") id × (first_of (codes "name") words ≡ None)
 AsksKey words (key.Name name) = HasText words (codes "name") name × (first_of (codes "id") words ≡ None)
 
--- the words give this config and what to build of it
-abbrev pub AsksBuild : List Row → Build → Type 0
-AsksBuild words build = HasText words (codes "CONFIG") build.config × HasText words (codes "out") build.out
-    × HasNumberOr 0 words (codes "spares") build.spares × HasNumberOr 0 words (codes "seq") build.image_seq
+-- the words give these paths
+abbrev pub AsksPaths : List Row → Paths → Type 0
+AsksPaths words paths = HasText words (codes "IMAGE") paths.image × HasText words (codes "out") paths.out
+
+-- the words give this volume and these paths
+abbrev pub AsksExtract : List Row → Extract → Type 0
+AsksExtract words extract = AsksPaths words extract.paths × AsksKey words extract.key
+
+-- the words give this image to make, of the file under the name
+abbrev pub AsksNewImage : List Row → List ℕ → NewImage → Type 0
+AsksNewImage words name new = HasText words name new.from × HasText words (codes "out") new.out
+    × HasNumberOr 0 words (codes "spares") new.spares × HasNumberOr 0 words (codes "seq") new.image_seq
 
 -- the words give this change
 abbrev pub AsksChange : List Row → Change → Type 0
-AsksChange words change = HasNumber words (codes "id") change.id
+AsksChange words change = AsksPaths words change.paths
+    × HasNumber words (codes "id") change.id
     × HasNumber words (codes "lnum") change.lnum
     × HasText words (codes "from") change.from
-    × HasText words (codes "out") change.out
     × MayHaveNumber words (codes "stop") change.stop
 
 -- the words give this rename
 abbrev pub AsksRename : List Row → Rename → Type 0
-AsksRename words rename = HasNumber words (codes "id") rename.id
+AsksRename words rename = AsksPaths words rename.paths
+    × HasNumber words (codes "id") rename.id
     × HasText words (codes "name") rename.name
-    × HasText words (codes "out") rename.out
     × MayHaveNumber words (codes "stop") rename.stop
 
 -- the words give what the request says
@@ -91,22 +101,15 @@ Asks words (request.List numbers image) = AsksNumbers words numbers × HasText w
 Asks words (request.Check numbers image) = AsksNumbers words numbers × HasText words (codes "IMAGE") image
 Asks words (request.Show numbers image block) = AsksNumbers words numbers × HasText words (codes "IMAGE") image
     × HasNumber words (codes "block") block
-Asks words (request.Extract numbers image key out) = AsksNumbers words numbers × HasText words (codes "IMAGE") image
-    × AsksKey words key × HasText words (codes "out") out
-Asks words (request.Unpack numbers image dir) = AsksNumbers words numbers × HasText words (codes "IMAGE") image
-    × HasText words (codes "out") dir
-Asks words (request.Compose numbers spec out spares seq) = AsksNumbers words numbers × HasText words (codes "SPEC") spec
-    × HasText words (codes "out") out × HasNumberOr 0 words (codes "spares") spares
-    × HasNumberOr 0 words (codes "seq") seq
-Asks words (request.Build numbers build) = AsksNumbers words numbers × AsksBuild words build
-Asks words (request.Normalise numbers image out) = AsksNumbers words numbers × HasText words (codes "IMAGE") image
-    × HasText words (codes "out") out
+Asks words (request.Extract numbers extract) = AsksNumbers words numbers × AsksExtract words extract
+Asks words (request.Unpack numbers paths) = AsksNumbers words numbers × AsksPaths words paths
+Asks words (request.Compose numbers new) = AsksNumbers words numbers × AsksNewImage words (codes "SPEC") new
+Asks words (request.Build numbers new) = AsksNumbers words numbers × AsksNewImage words (codes "CONFIG") new
+Asks words (request.Normalise numbers paths) = AsksNumbers words numbers × AsksPaths words paths
 Asks words (request.Same numbers left right) = AsksNumbers words numbers × HasText words (codes "IMAGE") left
     × HasText words (codes "OTHER") right
-Asks words (request.Change numbers image change) = AsksNumbers words numbers × HasText words (codes "IMAGE") image
-    × AsksChange words change
-Asks words (request.Rename numbers image rename) = AsksNumbers words numbers × HasText words (codes "IMAGE") image
-    × AsksRename words rename
+Asks words (request.Change numbers change) = AsksNumbers words numbers × AsksChange words change
+Asks words (request.Rename numbers rename) = AsksNumbers words numbers × AsksRename words rename
 
 -- the command that was named, with its words, is the request
 abbrev pub IsRequest : Option (Text × List Row) → Request → Type 0

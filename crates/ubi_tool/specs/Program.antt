@@ -103,24 +103,25 @@ IsAnswerTo d e (request.Geometry path) = OfFile d greatest path.now (λ _. Detec
 IsAnswerTo d e (request.List numbers path) = OfFile d numbers path.now ListsOf
 IsAnswerTo d e (request.Check numbers path) = OfFile d numbers path.now ChecksOf
 IsAnswerTo d e (request.Show numbers path p) = OfFile d numbers path.now (ShowsOf p)
-IsAnswerTo d e (request.Extract numbers path key out) =
-    OfFile d numbers path.now (λ s k agrees. WritesInto out.now d e (ExtractsOf key s k agrees) (HasTextIn key s agrees))
-IsAnswerTo d e (request.Unpack numbers path dir) = OfFile d numbers path.now (UnpacksOf dir.now d e)
-IsAnswerTo d e (request.Compose numbers spec out spares seq) =
-    OfText d numbers spec.now (λ s t. ComposesInto out.now d e s t spares seq)
-IsAnswerTo d e (request.Build numbers build) =
-    OfText d numbers build.config.now (λ s t. Builds d e build.config.now build.out.now s t build.spares build.image_seq)
-IsAnswerTo d e (request.Normalise numbers path out) =
-    OfFile d numbers path.now (λ s k agrees. WritesInto out.now d e (NormalisesOf s k agrees) (HasMeaning s agrees))
+IsAnswerTo d e (request.Extract numbers extract) =
+    OfFile d numbers extract.paths.image.now
+    (λ s k agrees. WritesInto extract.paths.out.now d e (ExtractsOf extract.key s k agrees) (HasTextIn extract.key s agrees))
+IsAnswerTo d e (request.Unpack numbers paths) = OfFile d numbers paths.image.now (UnpacksOf paths.out.now d e)
+IsAnswerTo d e (request.Compose numbers new) =
+    OfText d numbers new.from.now (λ s t. ComposesInto new.out.now d e s t new.spares new.image_seq)
+IsAnswerTo d e (request.Build numbers new) =
+    OfText d numbers new.from.now (λ s t. Builds d e new.from.now new.out.now s t new.spares new.image_seq)
+IsAnswerTo d e (request.Normalise numbers paths) =
+    OfFile d numbers paths.image.now (λ s k agrees. WritesInto paths.out.now d e (NormalisesOf s k agrees) (HasMeaning s agrees))
 IsAnswerTo d e (request.Same numbers left right) = BothOf d numbers left.now right.now ComparesOf
-IsAnswerTo d e (request.Change numbers path change) =
-    OfFile d numbers path.now
+IsAnswerTo d e (request.Change numbers change) =
+    OfFile d numbers change.paths.image.now
     (λ s k agrees. OfImage d numbers change.from.now
-    (λ f. WritesInto change.out.now d e (ChangesFrom change.id change.lnum f.bytes change.stop s k agrees)
+    (λ f. WritesInto change.paths.out.now d e (ChangesFrom change.id change.lnum f.bytes change.stop s k agrees)
     (HasPlan change.id change.lnum f.bytes s k agrees)))
-IsAnswerTo d e (request.Rename numbers path rename) =
-    OfFile d numbers path.now
-    (λ s k agrees. WritesInto rename.out.now d e (RenamesFrom rename.id rename.name.now rename.stop s k agrees)
+IsAnswerTo d e (request.Rename numbers rename) =
+    OfFile d numbers rename.paths.image.now
+    (λ s k agrees. WritesInto rename.paths.out.now d e (RenamesFrom rename.id rename.name.now rename.stop s k agrees)
     (HasRename rename.id rename.name.now s k agrees))
 
 -- each file holds what it held, but for the one that a request writes, or those in the folder that it writes
@@ -129,14 +130,14 @@ IsAllElse (request.Geometry _) d e = AllStay d e
 IsAllElse (request.List _ _) d e = AllStay d e
 IsAllElse (request.Check _ _) d e = AllStay d e
 IsAllElse (request.Show _ _ _) d e = AllStay d e
-IsAllElse (request.Extract _ _ _ out) d e = OthersStay d e out.now
-IsAllElse (request.Unpack _ _ dir) d e = OutsideStay d e dir.now
-IsAllElse (request.Compose _ _ out _ _) d e = OthersStay d e out.now
-IsAllElse (request.Build _ build) d e = OthersStay d e build.out.now
-IsAllElse (request.Normalise _ _ out) d e = OthersStay d e out.now
+IsAllElse (request.Extract _ extract) d e = OthersStay d e extract.paths.out.now
+IsAllElse (request.Unpack _ paths) d e = OutsideStay d e paths.out.now
+IsAllElse (request.Compose _ new) d e = OthersStay d e new.out.now
+IsAllElse (request.Build _ new) d e = OthersStay d e new.out.now
+IsAllElse (request.Normalise _ paths) d e = OthersStay d e paths.out.now
 IsAllElse (request.Same _ _ _) d e = AllStay d e
-IsAllElse (request.Change _ _ change) d e = OthersStay d e change.out.now
-IsAllElse (request.Rename _ _ rename) d e = OthersStay d e rename.out.now
+IsAllElse (request.Change _ change) d e = OthersStay d e change.paths.out.now
+IsAllElse (request.Rename _ rename) d e = OthersStay d e rename.paths.out.now
 
 -- what the program can answer: nothing where the command line doesn't take the words, and else what the request that
 -- they are can be answered; and no other file is changed than the one that it names

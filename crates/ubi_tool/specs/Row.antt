@@ -1,5 +1,5 @@
 -- What files hold that are read as one.
-use Rattle.std.specs.Prelude.{ℕ, List, [], ◌∷◌, ◌++◌, None, Option, Some, option_and_then, option_map}
+use Rattle.std.specs.Prelude.{ℕ, List, [], ◌∷◌, ◌++◌, Option, Some, option_and_then, option_map}
 
 -- the bytes of files in a row, one after the other, where those of each are known
 abbrev pub row_bytes : List (Option (List ℕ)) → Option (List ℕ)

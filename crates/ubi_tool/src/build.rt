@@ -12,7 +12,7 @@ ghost use Rattle.ubi_tool.specs.Row.{row_bytes};
 ghost use Rattle.ubi_tool.specs.declared.outcome.Outcome.{Outcome};
 ghost use Rattle.ubi_tool.specs.inner.Built.{AreAnswers, IsNotBegun, IsToldOf};
 
-use crate::command_line::Build;
+use crate::command_line::NewImage;
 use crate::compose::{meaning_line, room_line};
 use crate::disk::Disk;
 use crate::file_row::FileRow;
@@ -128,18 +128,18 @@ fn build_into<D: Disk, K: Target>(
     recipe: &Recipe,
     source: &mut FileSource<FileRow<D::Placed>>,
     unread: Vec<Outcome>,
-    asked: &Build<'_>,
+    asked: &NewImage<'_>,
 ) -> Result<Outcome, AllocError>
     requires named { asked.now.out.now ≡ K.path }
     requires empty { fresh (D.files disk.old) ≡ K.empty }
-    ensures answer { (sections : List Section) → AreUnread asked.now.config.now sections unread.items → IfOk result (BuildsParts (D.files disk.old) (D.files disk.new) asked.now.config.now asked.now.out.now sections recipe.now (row_bytes (map (λ f. D.Placed.bytes f.file) source.old.file.files.items)) asked.now.spares) }
+    ensures answer { (sections : List Section) → AreUnread asked.now.from.now sections unread.items → IfOk result (BuildsParts (D.files disk.old) (D.files disk.new) asked.now.from.now asked.now.out.now sections recipe.now (row_bytes (map (λ f. D.Placed.bytes f.file) source.old.file.files.items)) asked.now.spares) }
     ensures others { OthersStay (D.files disk.old) (D.files disk.new) asked.now.out.now }
     ensures memory { OnErr result (AllStay (D.files disk.old) (D.files disk.new)) }
 {
     let answers = Answers {
         line: Vec::with_capacity(alloc, LONGEST_COUNT_LINE)?,
         unread,
-        unread_else: unread_line(alloc, asked.config)?,
+        unread_else: unread_line(alloc, asked.from)?,
         unwritten: unwritten_line(alloc, asked.out)?,
     };
     let mut late: LateFile<'_, '_, D, K> = LateFile::new(disk, asked.out);
@@ -156,10 +156,10 @@ fn build_gathered<D: Disk>(
     alloc: Global,
     geometry: &Geometry,
     gathered: Gathered<D::Placed>,
-    asked: &Build<'_>,
+    asked: &NewImage<'_>,
 ) -> Result<Outcome, AllocError>
     requires total { gathered.total ≡ sum_by (λ x. x.len) gathered.files.items }
-    ensures answer { (sections : List Section) → AreUnread asked.now.config.now sections gathered.unread.items → IfOk result (BuildsParts (D.files disk.old) (D.files disk.new) asked.now.config.now asked.now.out.now sections (numbered geometry.now asked.now.image_seq gathered.parts.items) (row_bytes (map (λ f. D.Placed.bytes f.file) gathered.files.items)) asked.now.spares) }
+    ensures answer { (sections : List Section) → AreUnread asked.now.from.now sections gathered.unread.items → IfOk result (BuildsParts (D.files disk.old) (D.files disk.new) asked.now.from.now asked.now.out.now sections (numbered geometry.now asked.now.image_seq gathered.parts.items) (row_bytes (map (λ f. D.Placed.bytes f.file) gathered.files.items)) asked.now.spares) }
     ensures others { OthersStay (D.files disk.old) (D.files disk.new) asked.now.out.now }
     ensures memory { OnErr result (AllStay (D.files disk.old) (D.files disk.new)) }
 {
@@ -186,14 +186,14 @@ fn build_sections<D: Disk>(
     alloc: Global,
     geometry: &Geometry,
     sections: &[Section],
-    asked: &Build<'_>,
+    asked: &NewImage<'_>,
 ) -> Result<Outcome, AllocError>
-    ensures answer { (text : List ℕ) → first_fault text ≡ None → sections.now ≡ sections_of text → IfOk result (Builds (D.files disk.old) (D.files disk.new) asked.now.config.now asked.now.out.now geometry.now text asked.now.spares asked.now.image_seq) }
+    ensures answer { (text : List ℕ) → first_fault text ≡ None → sections.now ≡ sections_of text → IfOk result (Builds (D.files disk.old) (D.files disk.new) asked.now.from.now asked.now.out.now geometry.now text asked.now.spares asked.now.image_seq) }
     ensures others { OthersStay (D.files disk.old) (D.files disk.new) asked.now.out.now }
     ensures memory { OnErr result (AllStay (D.files disk.old) (D.files disk.new)) }
 {
     let paths = ConfigPaths {
-        config: asked.config,
+        config: asked.from,
         out: asked.out,
     };
     match gather(disk, alloc, geometry, sections, paths) {
@@ -208,13 +208,13 @@ pub fn build_file<D: Disk>(
     disk: &mut D,
     alloc: Global,
     numbers: Numbers,
-    asked: &Build<'_>,
+    asked: &NewImage<'_>,
 ) -> Result<Outcome, AllocError>
-    ensures answer { IfOk result (OfText (D.files disk.old) numbers asked.now.config.now (λ s t. Builds (D.files disk.old) (D.files disk.new) asked.now.config.now asked.now.out.now s t asked.now.spares asked.now.image_seq)) }
+    ensures answer { IfOk result (OfText (D.files disk.old) numbers asked.now.from.now (λ s t. Builds (D.files disk.old) (D.files disk.new) asked.now.from.now asked.now.out.now s t asked.now.spares asked.now.image_seq)) }
     ensures others { OthersStay (D.files disk.old) (D.files disk.new) asked.now.out.now }
     ensures memory { OnErr result (AllStay (D.files disk.old) (D.files disk.new)) }
 {
-    let file = match load_spec(disk, alloc, numbers, asked.config) {
+    let file = match load_spec(disk, alloc, numbers, asked.from) {
         Ok(file) => file,
         Err(unread) => return unread.answer(),
     };

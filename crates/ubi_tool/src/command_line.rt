@@ -4,7 +4,7 @@ ghost use Rattle.std.specs.Prelude.{◌≡◌, ◌∷◌, [], IfOk, codes, false
 ghost use Rattle.clap.specs.Built.{subcommand_names};
 ghost use Rattle.clap.specs.Simple.{app_of, new_rule, new_shape, subcommand_rows_of};
 ghost use Rattle.clap.specs.Walk.{Text, rule_of};
-ghost use Rattle.ubi_tool.specs.CommandLine.{AsksBuild, AsksChange, AsksKey, AsksNumbers, AsksRename, HasNumber, HasText, IsOneOf, IsRequest, MayHaveNumber, command_names};
+ghost use Rattle.ubi_tool.specs.CommandLine.{AsksChange, AsksExtract, AsksKey, AsksNewImage, AsksNumbers, AsksPaths, AsksRename, HasNumber, HasText, IsOneOf, IsRequest, MayHaveNumber, command_names};
 ghost use Rattle.ubi_tool.specs.Tool as tool;
 ghost use Rattle.ubi_tool.specs.Tool.{tool as whole};
 ghost use Rattle.ubi_tool.specs.inner.CommandLine.{HasOneMore, IsAskedBy, alone, words_in};
@@ -40,34 +40,27 @@ pub enum Request<'a> {
     /// What a volume of one file reads, into another.
     Extract {
         numbers: Numbers,
-        image: &'a str,
-        key: VolumeKey<'a>,
-        out: &'a str,
+        extract: Extract<'a>,
     },
     /// What each volume of a file reads, into files of a folder.
     Unpack {
         numbers: Numbers,
-        image: &'a str,
-        dir: &'a str,
+        paths: Paths<'a>,
     },
     /// The image that a text file describes, into another file.
     Compose {
         numbers: Numbers,
-        spec: &'a str,
-        out: &'a str,
-        spares: u32,
-        image_seq: u32,
+        new: NewImage<'a>,
     },
     /// The image that a config and the files that it names give, into another file.
     Build {
         numbers: Numbers,
-        build: Build<'a>,
+        new: NewImage<'a>,
     },
     /// The normal image of one file, into another.
     Normalise {
         numbers: Numbers,
-        image: &'a str,
-        out: &'a str,
+        paths: Paths<'a>,
     },
     /// Whether two files mean the same.
     Same {
@@ -78,22 +71,38 @@ pub enum Request<'a> {
     /// A change of one file, written into another.
     Change {
         numbers: Numbers,
-        image: &'a str,
         change: Change<'a>,
     },
     /// A rename of a volume of one file, written into another.
     Rename {
         numbers: Numbers,
-        image: &'a str,
         rename: Rename<'a>,
     },
 }
 
-/// The image of a config and of the files that it names.
+/// The paths of a command that reads one image and writes a file, or the files of a folder.
 #[derive(Clone, Copy)]
-pub struct Build<'a> {
-    /// The path of the config.
-    pub config: &'a str,
+pub struct Paths<'a> {
+    /// That of the image.
+    pub image: &'a str,
+    /// That of the file or the folder that is written.
+    pub out: &'a str,
+}
+
+/// A volume to take out of an image.
+#[derive(Clone, Copy)]
+pub struct Extract<'a> {
+    /// The paths of the image and of the file that is written.
+    pub paths: Paths<'a>,
+    /// The volume.
+    pub key: VolumeKey<'a>,
+}
+
+/// An image to make of a text, or of a config and the files that it names.
+#[derive(Clone, Copy)]
+pub struct NewImage<'a> {
+    /// The path of the text or the config.
+    pub from: &'a str,
     /// The path of the file that is written.
     pub out: &'a str,
     /// How many spare eraseblocks follow.
@@ -105,14 +114,14 @@ pub struct Build<'a> {
 /// The change of a logical eraseblock.
 #[derive(Clone, Copy)]
 pub struct Change<'a> {
+    /// The paths of the image and of the file that is written.
+    pub paths: Paths<'a>,
     /// The number of the volume.
     pub id: u32,
     /// The number of the logical eraseblock.
     pub lnum: u32,
     /// The path of the file that holds the new bytes.
     pub from: &'a str,
-    /// The path of the file that is written.
-    pub out: &'a str,
     /// After how many steps the image is written; after all where it is left out.
     pub stop: Option<u32>,
 }
@@ -120,12 +129,12 @@ pub struct Change<'a> {
 /// The rename of a volume.
 #[derive(Clone, Copy)]
 pub struct Rename<'a> {
+    /// The paths of the image and of the file that is written.
+    pub paths: Paths<'a>,
     /// The number of the volume.
     pub id: u32,
     /// The new name, in the form in which names are printed.
     pub name: &'a str,
-    /// The path of the file that is written.
-    pub out: &'a str,
     /// After how many steps the image is written; after all where it is left out.
     pub stop: Option<u32>,
 }
@@ -250,9 +259,7 @@ fn extract_of<'a>(matches: &'a ArgMatches<'_>) -> Option<Request<'a>>
 {
     Some(Request::Extract {
         numbers: numbers_of(matches)?,
-        image: text_of(matches, "IMAGE")?,
-        key: key_of(matches)?,
-        out: text_of(matches, "out")?,
+        extract: volume_extract(matches)?,
     })
 }
 
@@ -261,8 +268,7 @@ fn unpack_of<'a>(matches: &'a ArgMatches<'_>) -> Option<Request<'a>>
 {
     Some(Request::Unpack {
         numbers: numbers_of(matches)?,
-        image: text_of(matches, "IMAGE")?,
-        dir: text_of(matches, "out")?,
+        paths: paths_of(matches)?,
     })
 }
 
@@ -271,10 +277,7 @@ fn compose_of<'a>(matches: &'a ArgMatches<'_>) -> Option<Request<'a>>
 {
     Some(Request::Compose {
         numbers: numbers_of(matches)?,
-        spec: text_of(matches, "SPEC")?,
-        out: text_of(matches, "out")?,
-        spares: number_of(matches, "spares").unwrap_or(0),
-        image_seq: number_of(matches, "seq").unwrap_or(0),
+        new: new_image(matches, "SPEC")?,
     })
 }
 
@@ -283,7 +286,7 @@ fn build_of<'a>(matches: &'a ArgMatches<'_>) -> Option<Request<'a>>
 {
     Some(Request::Build {
         numbers: numbers_of(matches)?,
-        build: config_build(matches)?,
+        new: new_image(matches, "CONFIG")?,
     })
 }
 
@@ -292,8 +295,7 @@ fn normalise_of<'a>(matches: &'a ArgMatches<'_>) -> Option<Request<'a>>
 {
     Some(Request::Normalise {
         numbers: numbers_of(matches)?,
-        image: text_of(matches, "IMAGE")?,
-        out: text_of(matches, "out")?,
+        paths: paths_of(matches)?,
     })
 }
 
@@ -312,7 +314,6 @@ fn change_of<'a>(matches: &'a ArgMatches<'_>) -> Option<Request<'a>>
 {
     Some(Request::Change {
         numbers: numbers_of(matches)?,
-        image: text_of(matches, "IMAGE")?,
         change: leb_change(matches)?,
     })
 }
@@ -322,7 +323,6 @@ fn rename_of<'a>(matches: &'a ArgMatches<'_>) -> Option<Request<'a>>
 {
     Some(Request::Rename {
         numbers: numbers_of(matches)?,
-        image: text_of(matches, "IMAGE")?,
         rename: volume_rename(matches)?,
     })
 }
@@ -660,11 +660,29 @@ fn key_of<'a>(matches: &'a ArgMatches<'_>) -> Option<VolumeKey<'a>>
     }
 }
 
-fn config_build<'a>(matches: &'a ArgMatches<'_>) -> Option<Build<'a>>
-    ensures { IsOneOf (AsksBuild (words_in matches.now)) result }
+fn paths_of<'a>(matches: &'a ArgMatches<'_>) -> Option<Paths<'a>>
+    ensures { IsOneOf (AsksPaths (words_in matches.now)) result }
 {
-    Some(Build {
-        config: text_of(matches, "CONFIG")?,
+    let image = text_of(matches, "IMAGE")?;
+    let out = text_of(matches, "out")?;
+    Some(Paths { image, out })
+}
+
+fn volume_extract<'a>(matches: &'a ArgMatches<'_>) -> Option<Extract<'a>>
+    ensures { IsOneOf (AsksExtract (words_in matches.now)) result }
+{
+    Some(Extract {
+        paths: paths_of(matches)?,
+        key: key_of(matches)?,
+    })
+}
+
+/// The image that the words ask for, of the file under a name.
+fn new_image<'a>(matches: &'a ArgMatches<'_>, name: &str) -> Option<NewImage<'a>>
+    ensures { IsOneOf (AsksNewImage (words_in matches.now) name.now) result }
+{
+    Some(NewImage {
+        from: text_of(matches, name)?,
         out: text_of(matches, "out")?,
         spares: number_of(matches, "spares").unwrap_or(0),
         image_seq: number_of(matches, "seq").unwrap_or(0),
@@ -675,10 +693,10 @@ fn leb_change<'a>(matches: &'a ArgMatches<'_>) -> Option<Change<'a>>
     ensures { IsOneOf (AsksChange (words_in matches.now)) result }
 {
     Some(Change {
+        paths: paths_of(matches)?,
         id: number_of(matches, "id")?,
         lnum: number_of(matches, "lnum")?,
         from: text_of(matches, "from")?,
-        out: text_of(matches, "out")?,
         stop: number_of(matches, "stop"),
     })
 }
@@ -687,9 +705,9 @@ fn volume_rename<'a>(matches: &'a ArgMatches<'_>) -> Option<Rename<'a>>
     ensures { IsOneOf (AsksRename (words_in matches.now)) result }
 {
     Some(Rename {
+        paths: paths_of(matches)?,
         id: number_of(matches, "id")?,
         name: text_of(matches, "name")?,
-        out: text_of(matches, "out")?,
         stop: number_of(matches, "stop"),
     })
 }

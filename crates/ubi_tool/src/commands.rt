@@ -8,7 +8,7 @@ ghost use Rattle.ubi_tool.specs.Disk.{AllStay, OthersStay};
 ghost use Rattle.ubi_tool.specs.Program.{IsAllElse, IsAnswer, IsAnswerTo, OfText};
 
 use crate::build::build_file;
-use crate::command_line::{Request, command_line, request_of};
+use crate::command_line::{NewImage, Request, command_line, request_of};
 use crate::compose::run_compose;
 use crate::disk::Disk;
 use crate::numbers::{GREATEST, Numbers};
@@ -17,7 +17,7 @@ use crate::output_file::write_outcome;
 use crate::readers::{Checking, Detecting, Listing, Showing, read_file, same_files};
 use crate::spec_file::load_spec;
 use crate::unpack::unpack_file;
-use crate::writers::{Extracting, Normalising, Paths, change_file, rename_file, write_file};
+use crate::writers::{Extracting, Normalising, change_file, rename_file, write_file};
 use clap::Error;
 use clap::error::ErrorKind;
 use std::alloc::{AllocError, Global};
@@ -93,34 +93,14 @@ fn run_request<D: Disk + Eprint>(
             image,
             block,
         } => read_file(disk, alloc, numbers, image, &Showing { block }),
-        Request::Extract {
-            numbers,
-            image,
-            key,
-            out,
-        } => {
-            let paths = Paths { image, out };
-            write_file(disk, alloc, numbers, &paths, &Extracting { key }, false)
+        Request::Extract { numbers, extract } => {
+            let command = Extracting { key: extract.key };
+            write_file(disk, alloc, numbers, &extract.paths, &command, false)
         }
-        Request::Unpack {
-            numbers,
-            image,
-            dir,
-        } => unpack_file(disk, alloc, numbers, image, dir),
-        Request::Compose {
-            numbers,
-            spec,
-            out,
-            spares,
-            image_seq,
-        } => compose_file(disk, alloc, numbers, spec, out, spares, image_seq),
-        Request::Build { numbers, build } => build_file(disk, alloc, numbers, &build),
-        Request::Normalise {
-            numbers,
-            image,
-            out,
-        } => {
-            let paths = Paths { image, out };
+        Request::Unpack { numbers, paths } => unpack_file(disk, alloc, numbers, &paths),
+        Request::Compose { numbers, new } => compose_file(disk, alloc, numbers, &new),
+        Request::Build { numbers, new } => build_file(disk, alloc, numbers, &new),
+        Request::Normalise { numbers, paths } => {
             write_file(disk, alloc, numbers, &paths, &Normalising, is_watched)
         }
         Request::Same {
@@ -128,16 +108,8 @@ fn run_request<D: Disk + Eprint>(
             left,
             right,
         } => same_files(disk, alloc, numbers, left, right),
-        Request::Change {
-            numbers,
-            image,
-            change,
-        } => change_file(disk, alloc, numbers, image, &change),
-        Request::Rename {
-            numbers,
-            image,
-            rename,
-        } => rename_file(disk, alloc, numbers, image, &rename),
+        Request::Change { numbers, change } => change_file(disk, alloc, numbers, &change),
+        Request::Rename { numbers, rename } => rename_file(disk, alloc, numbers, &rename),
     }
 }
 
@@ -146,22 +118,19 @@ fn compose_file<D: Disk>(
     disk: &mut D,
     alloc: Global,
     numbers: Numbers,
-    spec: &str,
-    out: &str,
-    spares: u32,
-    image_seq: u32,
+    asked: &NewImage<'_>,
 ) -> Result<Outcome, AllocError>
-    ensures answer { IfOk result (OfText (D.files disk.old) numbers spec.now (λ s t. ComposesInto out.now (D.files disk.old) (D.files disk.new) s t spares image_seq)) }
-    ensures others { OthersStay (D.files disk.old) (D.files disk.new) out.now }
+    ensures answer { IfOk result (OfText (D.files disk.old) numbers asked.now.from.now (λ s t. ComposesInto asked.now.out.now (D.files disk.old) (D.files disk.new) s t asked.now.spares asked.now.image_seq)) }
+    ensures others { OthersStay (D.files disk.old) (D.files disk.new) asked.now.out.now }
     ensures memory { OnErr result (AllStay (D.files disk.old) (D.files disk.new)) }
 {
-    let file = match load_spec(disk, alloc, numbers, spec) {
+    let file = match load_spec(disk, alloc, numbers, asked.from) {
         Ok(file) => file,
         Err(unread) => return unread.answer(),
     };
     let text = file.text.as_slice();
-    let outcome = run_compose(alloc, &file.geometry, text, spares, image_seq)?;
-    write_outcome(disk, alloc, outcome, out)
+    let outcome = run_compose(alloc, &file.geometry, text, asked.spares, asked.image_seq)?;
+    write_outcome(disk, alloc, outcome, asked.out)
 }
 
 /// Prints to standard error what is wrong with the words.

@@ -16,6 +16,7 @@ ghost use Rattle.ubi_tool.specs.Program.{OfFile};
 ghost use Rattle.ubi_tool.specs.Unpack.{AreUnpacked, IsUnpacked, Unpacks, UnpacksFrom, UnpacksOf, file_byte, file_path, unpacked_amount, unpacked_line, unpacked_lines, unpacked_status};
 ghost use Rattle.ubi_tool.specs.inner.Folder.{AreFilesOf, Ends, IsFileOf};
 
+use crate::command_line::Paths;
 use crate::disk::Disk;
 use crate::image_file::unread_line;
 use crate::lines::{put_number, put_word, refusal_line};
@@ -343,22 +344,22 @@ pub fn unpack_file<D: Disk>(
     disk: &mut D,
     alloc: Global,
     numbers: Numbers,
-    image: &str,
-    dir: &str,
+    paths: &Paths<'_>,
 ) -> Result<Outcome, AllocError>
-    ensures answer { IfOk result (OfFile (D.files disk.old) numbers image.now (UnpacksOf dir.now (D.files disk.old) (D.files disk.new))) }
-    ensures outside { OutsideStay (D.files disk.old) (D.files disk.new) dir.now }
+    ensures answer { IfOk result (OfFile (D.files disk.old) numbers paths.now.image.now (UnpacksOf paths.now.out.now (D.files disk.old) (D.files disk.new))) }
+    ensures outside { OutsideStay (D.files disk.old) (D.files disk.new) paths.now.out.now }
     ensures memory { OnErr result (AllStay (D.files disk.old) (D.files disk.new)) }
 {
-    let unread = unread_line(alloc, image)?;
-    match open_image(disk, alloc, numbers, image) {
+    let unread = unread_line(alloc, paths.image)?;
+    match open_image(disk, alloc, numbers, paths.image) {
         Ok(OpenImage::AtPlaces(mut file)) => {
-            let work = run_unpack_from(disk, alloc, &file.geometry, &mut file.source, dir);
+            let (geometry, source) = (&file.geometry, &mut file.source);
+            let work = run_unpack_from(disk, alloc, geometry, source, paths.out);
             told_or(work, unread)
         }
         Ok(OpenImage::Whole(file)) => {
             let mut source = MemorySource::new(file.bytes.as_slice());
-            let work = run_unpack_from(disk, alloc, &file.geometry, &mut source, dir);
+            let work = run_unpack_from(disk, alloc, &file.geometry, &mut source, paths.out);
             told_or(work, unread)
         }
         Err(error) => error.answer(),

@@ -17,7 +17,7 @@ ghost use Rattle.ubi_tool.specs.declared.numbers.Numbers.{Numbers};
 ghost use Rattle.ubi_tool.specs.declared.outcome.Outcome.{Outcome};
 
 use crate::change::{NewBytes, run_change_from};
-use crate::command_line::{Change, Rename};
+use crate::command_line::{Change, Paths, Rename};
 use crate::disk::Disk;
 use crate::extract::run_extract_from;
 use crate::image_file::{load, unread_line};
@@ -225,15 +225,6 @@ fn ended<D: Disk, K: Target>(
     }
 }
 
-/// The paths of a command that reads one image and writes a file.
-#[derive(Clone, Copy)]
-pub struct Paths<'a> {
-    /// That of the image.
-    pub image: &'a str,
-    /// That of the file which is written.
-    pub out: &'a str,
-}
-
 /// Does the work of a command over a source, into a file, which is opened at the first write, or once the work is done.
 fn work_into<D: Disk + Eprint, S: BlockSource, C: Writing, K: Target>(
     disk: &mut D,
@@ -324,14 +315,14 @@ pub fn change_file<D: Disk + Eprint>(
     disk: &mut D,
     alloc: Global,
     numbers: Numbers,
-    image: &str,
     asked: &Change<'_>,
 ) -> Result<Outcome, AllocError>
-    ensures answer { IfOk result (OfFile (D.files disk.old) numbers image.now (λ s k agrees. OfImage (D.files disk.old) numbers asked.now.from.now (λ f. WritesInto asked.now.out.now (D.files disk.old) (D.files disk.new) (ChangesFrom asked.now.id asked.now.lnum f.bytes asked.now.stop s k agrees) (HasPlan asked.now.id asked.now.lnum f.bytes s k agrees)))) }
-    ensures others { OthersStay (D.files disk.old) (D.files disk.new) asked.now.out.now }
+    ensures answer { IfOk result (OfFile (D.files disk.old) numbers asked.now.paths.image.now (λ s k agrees. OfImage (D.files disk.old) numbers asked.now.from.now (λ f. WritesInto asked.now.paths.out.now (D.files disk.old) (D.files disk.new) (ChangesFrom asked.now.id asked.now.lnum f.bytes asked.now.stop s k agrees) (HasPlan asked.now.id asked.now.lnum f.bytes s k agrees)))) }
+    ensures others { OthersStay (D.files disk.old) (D.files disk.new) asked.now.paths.out.now }
     ensures memory { OnErr result (AllStay (D.files disk.old) (D.files disk.new)) }
 {
-    let opened = match open_beside(disk, alloc, numbers, image, asked.out) {
+    let Paths { image, out } = asked.paths;
+    let opened = match open_beside(disk, alloc, numbers, image, out) {
         Ok(opened) => opened,
         Err(unread) => return unread.answer(),
     };
@@ -344,15 +335,11 @@ pub fn change_file<D: Disk + Eprint>(
         lnum: asked.lnum,
         bytes: file.bytes.as_slice(),
     };
-    let paths = Paths {
-        image,
-        out: asked.out,
-    };
     let command = Changing {
         new,
         stop: asked.stop,
     };
-    write_opened(disk, alloc, opened, &paths, &command, false)
+    write_opened(disk, alloc, opened, &asked.paths, &command, false)
 }
 
 /// Renames a volume of one file, into another.
@@ -360,21 +347,16 @@ pub fn rename_file<D: Disk + Eprint>(
     disk: &mut D,
     alloc: Global,
     numbers: Numbers,
-    image: &str,
     asked: &Rename<'_>,
 ) -> Result<Outcome, AllocError>
-    ensures answer { IfOk result (OfFile (D.files disk.old) numbers image.now (λ s k agrees. WritesInto asked.now.out.now (D.files disk.old) (D.files disk.new) (RenamesFrom asked.now.id asked.now.name.now asked.now.stop s k agrees) (HasRename asked.now.id asked.now.name.now s k agrees))) }
-    ensures others { OthersStay (D.files disk.old) (D.files disk.new) asked.now.out.now }
+    ensures answer { IfOk result (OfFile (D.files disk.old) numbers asked.now.paths.image.now (λ s k agrees. WritesInto asked.now.paths.out.now (D.files disk.old) (D.files disk.new) (RenamesFrom asked.now.id asked.now.name.now asked.now.stop s k agrees) (HasRename asked.now.id asked.now.name.now s k agrees))) }
+    ensures others { OthersStay (D.files disk.old) (D.files disk.new) asked.now.paths.out.now }
     ensures memory { OnErr result (AllStay (D.files disk.old) (D.files disk.new)) }
 {
-    let paths = Paths {
-        image,
-        out: asked.out,
-    };
     let command = Renaming {
         id: asked.id,
         word: asked.name.as_bytes(),
         stop: asked.stop,
     };
-    write_file(disk, alloc, numbers, &paths, &command, false)
+    write_file(disk, alloc, numbers, &asked.paths, &command, false)
 }

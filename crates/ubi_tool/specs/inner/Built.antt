@@ -1,5 +1,5 @@
 -- What is answered of a build that ended.
-use Rattle.std.specs.Prelude.{◌≡◌, ℕ, ◌/◌, ◌∷◌, List, Contains, Result, Ok, Err, codes}
+use Rattle.std.specs.Prelude.{ℕ, ◌/◌, ◌∷◌, List, Contains, Result, Ok, Err, codes}
 use Rattle.ubi_media.specs.Geometry.{Sizes}
 use Rattle.ubi_config.specs.declared.section.Section.{Section}
 use Rattle.ubi_compose.specs.declared.errors.BuildError.{BuildError}

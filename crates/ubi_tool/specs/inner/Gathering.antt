@@ -1,15 +1,12 @@
 -- How the sections of a config are gathered, one after the other.
-use Rattle.std.specs.Prelude.{◌≡◌, ℕ, List, [], ◌∷◌, Contains, IfSome, MatchOption, None, Ok, Option, Some, codes, length, sum_by}
-use Rattle.std.specs.List.{AllByRecursion}
+use Rattle.std.specs.Prelude.{◌≡◌, ℕ, List, [], ◌∷◌, IfSome, MatchOption, None, Ok, Option, Some, length, sum_by}
 use Rattle.ubi_media.specs.Geometry.{Sizes}
 use Rattle.ubi_media.specs.declared.record.VolumeRecord.{VolumeRecord}
 use Rattle.ubi_config.specs.Records.{record_in}
 use Rattle.ubi_config.specs.declared.section.Section.{Section}
 use Rattle.ubi_compose.specs.declared.recipe.Part.{Part}
-use Rattle.ubi_tool.specs.Answer.{Gives, says}
 use Rattle.ubi_tool.specs.Build.{AreGathered, IsUnreadLine, Sized, image_path, len_of, part_at}
 use Rattle.ubi_tool.specs.Disk.{Files}
-use Rattle.ubi_tool.specs.Lines.{file_line}
 use Rattle.ubi_tool.specs.declared.outcome.Outcome.{Outcome}
 
 -- the image file of a section was found, if it names one: what that holds, where it is known, and how many bytes it has; and the

@@ -1,4 +1,4 @@
-use Rattle.std.proofs.Common.{◌≡◌, ◌∙◌, List, length, refl, sym, ℕ}
+use Rattle.std.proofs.Common.{◌∙◌, refl, sym}
 use Rattle.ubi_tool.specs.Build.{unmade}
 use Rattle.ubi_tool.proofs.FileRows.{row_sized}
 use Rattle.ubi_tool.proofs.build.build_gathered.Goals as goal

@@ -19,7 +19,7 @@ returns-clause-answer g c = λ sections lines.
       failures = c.args.source.now.failures;
       held = row_bytes (map (λ f. g.D.Placed.PlacedFile.bytes f.file) c.args.source.now.file.files.items);
     } in
-    build_ends (λ f. g.D.Output.Write.contents f.writer) (λ f. f.path.now) d e c.args.asked.now.config.now c.args.asked.now.out.now sections
+    build_ends (λ f. g.D.Output.Write.contents f.writer) (λ f. f.path.now) d e c.args.asked.now.from.now c.args.asked.now.out.now sections
     c.args.recipe.now _ c.args.asked.now.spares g.K.Target.path g.K.Target.empty late.file c.build_to-work.new.source.len
     c.build_to-work.new.source.trace.reads c.requires.named c.requires.empty
     (rw c.into_file-file.ensures.file at c.into_file-file.ensures.named)
@@ -33,7 +33,7 @@ returns-clause-answer g c = λ sections lines.
     (sym c.finished-end.ensures.contents) (rw c.new-late.ensures at c.build_to-work.ensures.written)) c.build_to-work.ensures.refused c.finished-end.ensures.done c.finished-end.ensures.failed
     (still_unopened (λ l. l.file) c.build_to-work.result c.finished-end.result c.new-late.result c.build_to-work.new.writer late c.new-late.ensures
     c.build_to-work.ensures.untouched c.finished-end.ensures.failed c.finished-end.ensures.untouched)
-    (c.told.ensures.told c.args.asked.now.config.now c.args.asked.now.out.now sections
+    (c.told.ensures.told c.args.asked.now.from.now c.args.asked.now.out.now sections
     (record { unread = lines; unread_else = c.in_ok-unread_line.ensures; unwritten = c.in_ok-unwritten_line.ensures }))
 
 pub returns-clause-others : goal.returns-clause-others

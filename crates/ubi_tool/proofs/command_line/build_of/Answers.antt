@@ -7,6 +7,6 @@ pub returns-in_err-numbers_of : goal.returns-in_err-numbers_of
 returns-in_err-numbers_of c =
     rw c.from_residual.ensures (no_numbers _ refl (words_in c.args.matches.now) c.in_err-numbers_of.ensures)
 
-pub returns-in_err-config_build : goal.returns-in_err-config_build
-returns-in_err-config_build c =
-    rw c.from_residual-in_err-config_build.ensures (no_build (words_in c.args.matches.now) c.in_err-config_build.ensures)
+pub returns-in_err-new_image : goal.returns-in_err-new_image
+returns-in_err-new_image c =
+    rw c.from_residual-in_err-new_image.ensures (no_build (words_in c.args.matches.now) c.in_err-new_image.ensures)

@@ -12,15 +12,15 @@ returns-in-Err-clause-answer g c =
 pub returns-clause-answer : goal.returns-clause-answer
 returns-clause-answer g c =
     let file = c.in-Ok.file in
-    let spares = c.args.spares in
-    let seq = c.args.image_seq in
+    let spares = c.args.asked.now.spares in
+    let seq = c.args.asked.now.image_seq in
     let d = g.D.Disk.files c.args.disk.now in
     let e = g.D.Disk.files c.write_outcome.new.disk in
-    let out = c.args.out.now in
+    let out = c.args.asked.now.out.now in
     let work : Composes file.geometry file.text.items spares seq c.in_ok-outcome.outcome =
     rw c.as_slice-text.ensures.value at c.in_ok-outcome.ensures in
     IfOk-weaker c.write_outcome.result _ _
-    (λ o h. of_text d c.args.numbers c.args.spec.now (λ s t. ComposesInto out d e s t spares seq) file.geometry file.text.items o
+    (λ o h. of_text d c.args.numbers c.args.asked.now.from.now (λ s t. ComposesInto out d e s t spares seq) file.geometry file.text.items o
     c.in-Ok.ensures.geometry c.in-Ok.ensures.limits c.in-Ok.ensures.few c.in-Ok.ensures.named
     (composes_into file.geometry file.text.items spares seq out d e c.in_ok-outcome.outcome o work h))
     c.write_outcome.ensures.answer

@@ -1,6 +1,5 @@
 use Rattle.std.proofs.Common.{◌≡◌, List, Some, ap, subst, sym, ◌∙◌, ℕ}
 use Rattle.std.specs.Path.{path_with_file_name}
-use Rattle.ubi_tool.specs.Answer.{Gives, says}
 use Rattle.ubi_tool.specs.Build.{IsUnreadLine, image_path, no_image, no_path}
 use Rattle.ubi_tool.proofs.Gathered.{one_apart}
 use Rattle.ubi_tool.proofs.gathering.find_image.Goals as goal

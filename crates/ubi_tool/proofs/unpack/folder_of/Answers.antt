@@ -1,4 +1,4 @@
-use Rattle.std.proofs.Common.{◌≡◌, ◌+◌, ◌++◌, ◌∷◌, [], ◌∙◌, List, ap, get_or, subst, sym, take, vec_items}
+use Rattle.std.proofs.Common.{◌≡◌, ◌+◌, ◌++◌, ◌∷◌, [], ◌∙◌, List, ap, subst, sym, take, vec_items}
 use Rattle.std.proofs.lemmas.List.{take_more}
 use Rattle.ubi_tool.specs.Unpack.{Listed}
 use Rattle.ubi_tool.specs.inner.Folder.{AreFilesOf}

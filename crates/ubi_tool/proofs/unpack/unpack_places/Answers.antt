@@ -1,9 +1,7 @@
-use Rattle.std.proofs.Common.{◌≡◌, ℕ, ◌<◌, ◌∙◌, List, Some, ap, arith, get_or, length, refl, subst, sym}
+use Rattle.std.proofs.Common.{ℕ, ◌<◌, ◌∙◌, List, ap, arith, length, refl, subst, sym}
 use Rattle.std.specs.Prelude.{IfSome, Option}
 use Rattle.std.specs.FinMap as finite
-use Rattle.ubi_scan.specs.Source.{Source}
 use Rattle.ubi_table.specs.Records.{Records}
-use Rattle.ubi_volume.specs.Places.{ArePlacesOf}
 use Rattle.ubi_volume.proofs.Narrowed.{places_narrowed}
 use Rattle.ubi_tool.specs.Disk.{OutsideStay}
 use Rattle.ubi_tool.specs.Unpack.{Listed, no_folder, told}

@@ -1,4 +1,4 @@
-use Rattle.std.proofs.Common.{ap, refl, sym, ◌∙◌}
+use Rattle.std.proofs.Common.{ap, sym, ◌∙◌}
 use Rattle.ubi_volume.specs.Extract.{extent_len}
 use Rattle.ubi_tool.proofs.Unpacked.{all_unpacked, none_unpacked}
 use Rattle.ubi_tool.proofs.unpack.unpack_volume.Goals as goal

@@ -1,4 +1,4 @@
-use Rattle.std.proofs.Common.{◌≡◌, ℕ, ◌<◌, ◌++◌, ◌∙◌, List, Result, ap, cond, get_or, length, sym, take}
+use Rattle.std.proofs.Common.{◌≡◌, ℕ, ◌++◌, ◌∙◌, List, Result, ap, cond, get_or, sym, take}
 use Rattle.std.specs.Prelude.{is_ok}
 use Rattle.ubi_volume.specs.Extract.{extent_in, extent_len}
 use Rattle.ubi_volume.specs.declared.errors.ReadError.{ReadError}
