@@ -50,14 +50,14 @@ if [ $# = 2 ]; then
     exit
 fi
 wrong=0
-refuse_each ubi_scan tests::memory::finds_all_or_runs_out_of_memory || wrong=1
-refuse_each ubi_scan tests::detect::detects_or_runs_out_of_memory || wrong=1
-refuse_each ubi_table tests::memory::reads_and_names_or_runs_out_of_memory || wrong=1
-refuse_each ubi_volume tests::memory::reads_all_or_runs_out_of_memory || wrong=1
-refuse_each ubi_change tests::memory::plans_all_or_runs_out_of_memory || wrong=1
-refuse_each ubi_config tests::sections::gives_the_sections_or_runs_out_of_memory || wrong=1
-refuse_each ubi_compose tests::memory::reads_all_or_runs_out_of_memory || wrong=1
-refuse_each ubi_compose tests::memory::builds_all_or_runs_out_of_memory || wrong=1
+refuse_each ubi_tests tests::scan::memory::finds_all_or_runs_out_of_memory || wrong=1
+refuse_each ubi_tests tests::scan::detect::detects_or_runs_out_of_memory || wrong=1
+refuse_each ubi_tests tests::table::memory::reads_and_names_or_runs_out_of_memory || wrong=1
+refuse_each ubi_tests tests::volume::memory::reads_all_or_runs_out_of_memory || wrong=1
+refuse_each ubi_tests tests::change::memory::plans_all_or_runs_out_of_memory || wrong=1
+refuse_each ubi_tests tests::config::sections::gives_the_sections_or_runs_out_of_memory || wrong=1
+refuse_each ubi_tests tests::compose::memory::reads_all_or_runs_out_of_memory || wrong=1
+refuse_each ubi_tests tests::compose::memory::builds_all_or_runs_out_of_memory || wrong=1
 refuse_each ubi_tool tests::memory::tells_all_or_runs_out_of_memory || wrong=1
 refuse_each ubi_tool tests::memory::runs_words_or_out_of_memory || wrong=1
 exit $wrong

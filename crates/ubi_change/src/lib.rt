@@ -58,6 +58,3 @@ pub use renaming::{plan_rename, plan_rename_from};
 pub use step::Step;
 pub use stepping::{apply, step_fits};
 pub use writing::write_after;
-
-#[cfg(test)]
-mod tests;

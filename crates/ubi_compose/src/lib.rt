@@ -56,6 +56,3 @@ pub use parsing::parse_spec;
 pub use recipe::{Part, Recipe};
 pub use shown::shown_name;
 pub use streaming::normalise_to;
-
-#[cfg(test)]
-mod tests;

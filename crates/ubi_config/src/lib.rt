@@ -37,6 +37,3 @@ pub use key::Key;
 pub use parsing::parse_config;
 pub use section::Section;
 pub use text::Text;
-
-#[cfg(test)]
-mod tests;

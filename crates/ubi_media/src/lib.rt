@@ -43,6 +43,3 @@ pub use refusal::{AttachError, Refusal};
 pub use vid::{
     LAYOUT_VOLUME, MOST_VOLUMES, REJECT, VidFault, VidHeader, VidRead, VolKind, read_vid, write_vid,
 };
-
-#[cfg(test)]
-mod tests;

@@ -67,6 +67,3 @@ pub use reading::{read_headers, read_leb, read_member, read_part};
 pub use scanning::{scan, scan_from};
 pub use size::block_count;
 pub use source::{BlockSource, MemorySource, SourceFault};
-
-#[cfg(test)]
-mod tests;

@@ -40,6 +40,3 @@ mod table;
 pub use choosing::{choose, choose_from};
 pub use copy::{CopyRead, read_copy, read_copy_from};
 pub use table::Table;
-
-#[cfg(test)]
-mod tests;

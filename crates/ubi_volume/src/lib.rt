@@ -56,6 +56,3 @@ pub use probe::{Failure, ProbeWriter};
 pub use read::{read_leb, volume_len};
 pub use surveyed::{Surveyed, survey, survey_from};
 pub use write::{read_volume, write_all, write_volume};
-
-#[cfg(test)]
-mod tests;

@@ -1,0 +1,9 @@
+mod change;
+mod compose;
+mod config;
+mod headers;
+mod media;
+mod records;
+mod scan;
+mod table;
+mod volume;

@@ -1,0 +1,505 @@
+//! Images that tests change, and the plans that they expect.
+//!
+//! The eraseblocks are constants: a proof takes those as they stand, and pays for each loop and each call of a test.
+
+use crate::tests::headers::{
+    COPY as COPY_OF_37, LEB_1, LEB_2, PLAIN, STATIC_0, STATIC_1, TABLE_0, TABLE_1, WRONG_COPY,
+};
+use crate::tests::records::{ALIGNMENT_256, BOOT, EMPTY, MARKED, ROOT, Slot};
+use std::alloc::{AllocError, Global};
+use std::process::Abort;
+use std::test::Fail;
+use ubi_change::{ChangeRefusal, Step, apply, plan_change, step_fits};
+use ubi_media::{AttachError, EcHeader, Geometry, VidHeader, crc, write_ec, write_vid};
+use ubi_volume::{Attached, Bytes, attach, read_leb};
+
+/// The checks of bytes 0x61, as many as the name says. These and those below were worked out by another program.
+pub const CHECK_OF_64: u32 = 0x764B_9AAA;
+
+pub const CHECK_OF_128: u32 = 0x0ED4_C973;
+
+pub const CHECK_OF_256: u32 = 0x4F82_C9A6;
+
+pub const CHECK_OF_2048: u32 = 0xBBC2_8D13;
+
+/// The check of 64 bytes 0x61 and then 64 bytes 0xFF.
+pub const CHECK_OF_HALF: u32 = 0x8801_2B9C;
+
+/// The check of 64 bytes 0xFF.
+pub const CHECK_OF_FF: u32 = 0xF09E_7845;
+
+/// The check of 64 bytes 0x62.
+pub const CHECK_OF_62: u32 = 0xF48B_8001;
+
+/// The sizes of a geometry, as they are handed to `Geometry::new`.
+#[derive(Clone, Copy)]
+pub struct Sizes(pub u32, pub u32, pub u32, pub u32);
+
+/// Eraseblocks of 512 bytes: 8 pages, the headers in the first two.
+pub const SMALL: Sizes = Sizes(512, 64, 64, 128);
+
+/// Eraseblocks of 1,024 bytes in 4 pages, with both headers in the first.
+pub const SHARED: Sizes = Sizes(1024, 256, 64, 256);
+
+/// The same with the volume-identifier header inside the second page.
+pub const INSIDE: Sizes = Sizes(1024, 256, 320, 512);
+
+/// Eraseblocks of 1,024 bytes in 2 pages, with both headers in the first: a table takes one page.
+pub const ONE_PAGE: Sizes = Sizes(1024, 512, 64, 512);
+
+/// Eraseblocks of 9 pages of 64 bytes.
+pub const ODD: Sizes = Sizes(576, 64, 64, 128);
+
+/// Eraseblocks of 128 KiB in 64 pages, as chips have them, with a page for each header.
+pub const LARGE: Sizes = Sizes(131_072, 2048, 2048, 4096);
+
+/// The same with both headers in the first page, in sub-pages of 512 bytes.
+pub const LARGE_SHARED: Sizes = Sizes(131_072, 2048, 512, 2048);
+
+impl Sizes {
+    /// The geometry of a device of 32 eraseblocks.
+    pub fn geometry(&self) -> Result<Geometry, Fail> {
+        Ok(Geometry::new(self.0, self.1, self.2, self.3, 32)?)
+    }
+}
+
+/// What stands in the place of an erase-counter header.
+#[derive(Clone, Copy)]
+pub enum Ec {
+    /// 0xFF throughout.
+    Blank,
+    /// A header.
+    Is(EcHeader),
+    /// A header whose padding isn't zero, with the right check.
+    Padded(EcHeader),
+}
+
+/// The data of an eraseblock.
+#[derive(Clone, Copy)]
+pub enum Data {
+    /// A table: a record in slot 0, and none in the others.
+    Table(Slot),
+    /// A table of two slots: a record in each.
+    Two(Slot, Slot),
+    /// A byte, so many times, and 0xFF behind.
+    Filled(u8, usize),
+}
+
+/// An eraseblock: its two headers and its data.
+#[derive(Clone, Copy)]
+pub struct Peb(pub Ec, pub Option<VidHeader>, pub Data);
+
+/// Counter 0, in the image 0x12345678.
+pub const ZERO: EcHeader = EcHeader {
+    counter: 0,
+    image_seq: 0x1234_5678,
+};
+
+/// Counter 1, in the same image.
+pub const ONE: EcHeader = EcHeader { counter: 1, ..ZERO };
+
+/// Counter 0, in no image.
+pub const NEW: EcHeader = EcHeader {
+    counter: 0,
+    image_seq: 0,
+};
+
+/// The header of a copy of 64 bytes 0x61 for logical eraseblock 0, the first in its image.
+pub const COPY: VidHeader = VidHeader {
+    copy_flag: true,
+    data_size: 64,
+    data_crc: CHECK_OF_64,
+    sqnum: 1,
+    ..PLAIN
+};
+
+/// The same for logical eraseblock 1.
+pub const COPY_OF_1: VidHeader = VidHeader { lnum: 1, ..COPY };
+
+/// The two copies of a table with the volume `root`.
+pub const FIRST: Peb = Peb(Ec::Is(ZERO), Some(TABLE_0), Data::Table(ROOT));
+
+pub const SECOND: Peb = Peb(Ec::Is(ZERO), Some(TABLE_1), Data::Table(ROOT));
+
+/// The same in no image.
+pub const NEW_FIRST: Peb = Peb(Ec::Is(NEW), Some(TABLE_0), Data::Table(ROOT));
+
+pub const NEW_SECOND: Peb = Peb(Ec::Is(NEW), Some(TABLE_1), Data::Table(ROOT));
+
+/// The two copies of a table with an aligned volume.
+pub const ALIGNED_FIRST: Peb = Peb(Ec::Is(ZERO), Some(TABLE_0), Data::Table(ALIGNMENT_256));
+
+pub const ALIGNED_SECOND: Peb = Peb(Ec::Is(ZERO), Some(TABLE_1), Data::Table(ALIGNMENT_256));
+
+/// The two copies of a table with a volume that is updated.
+pub const MARKED_FIRST: Peb = Peb(Ec::Is(ZERO), Some(TABLE_0), Data::Table(MARKED));
+
+pub const MARKED_SECOND: Peb = Peb(Ec::Is(ZERO), Some(TABLE_1), Data::Table(MARKED));
+
+/// The two copies of a table with a static volume, and its two logical eraseblocks.
+pub const BOOT_FIRST: Peb = Peb(Ec::Is(ZERO), Some(TABLE_0), Data::Table(BOOT));
+
+pub const BOOT_SECOND: Peb = Peb(Ec::Is(ZERO), Some(TABLE_1), Data::Table(BOOT));
+
+pub const TEXT_0: Peb = Peb(Ec::Is(ZERO), Some(STATIC_0), Data::Filled(0x61, 384));
+
+pub const TEXT_1: Peb = Peb(Ec::Is(ZERO), Some(STATIC_1), Data::Filled(0x62, 384));
+
+/// Logical eraseblocks 0, 1 and 2, of 384 bytes 0x41, 0x42 and 0x43.
+pub const A: Peb = Peb(Ec::Is(ZERO), Some(PLAIN), Data::Filled(0x41, 384));
+
+pub const B: Peb = Peb(Ec::Is(ZERO), Some(LEB_1), Data::Filled(0x42, 384));
+
+pub const C: Peb = Peb(Ec::Is(ZERO), Some(LEB_2), Data::Filled(0x43, 384));
+
+/// A free eraseblock that is clean.
+pub const FREE: Peb = Peb(Ec::Is(ZERO), None, Data::Filled(0xFF, 0));
+
+/// An erased one.
+pub const ERASED: Peb = Peb(Ec::Blank, None, Data::Filled(0xFF, 0));
+
+/// Logical eraseblock 0 three times: original, as a good copy, and as a newer one that is bad.
+pub const ORIGINAL: Peb = Peb(
+    Ec::Is(EcHeader { counter: 4, ..NEW }),
+    Some(VidHeader { sqnum: 5, ..PLAIN }),
+    Data::Filled(0x35, 384),
+);
+
+pub const GOOD: Peb = Peb(Ec::Is(NEW), Some(COPY_OF_37), Data::Filled(0x37, 64));
+
+pub const BAD: Peb = Peb(Ec::Is(NEW), Some(WRONG_COPY), Data::Filled(0x39, 64));
+
+/// The bytes of an erase-counter header whose padding isn't zero.
+fn padded(geometry: &Geometry, header: &EcHeader) -> [u8; 64] {
+    let mut bytes = write_ec(geometry, header);
+    bytes[40] = 0xA5;
+    let check = crc(&bytes[..60]).to_be_bytes();
+    bytes[60] = check[0];
+    bytes[61] = check[1];
+    bytes[62] = check[2];
+    bytes[63] = check[3];
+    bytes
+}
+
+impl Ec {
+    /// The bytes of the header.
+    pub fn bytes(&self, geometry: &Geometry) -> [u8; 64] {
+        match self {
+            Ec::Blank => [0xFF; 64],
+            Ec::Is(header) => write_ec(geometry, header),
+            Ec::Padded(header) => padded(geometry, header),
+        }
+    }
+}
+
+impl Data {
+    /// The bytes at the front of the data.
+    fn bytes(&self, alloc: Global, geometry: &Geometry) -> Result<Vec<u8>, AllocError> {
+        let mut bytes = Vec::new(alloc);
+        match self {
+            Data::Table(slot) => {
+                bytes.extend_from_slice(&slot.bytes())?;
+                for _ in 1..geometry.slots() {
+                    bytes.extend_from_slice(&EMPTY.bytes())?;
+                }
+            }
+            Data::Two(first, second) => {
+                bytes.extend_from_slice(&first.bytes())?;
+                bytes.extend_from_slice(&second.bytes())?;
+            }
+            Data::Filled(byte, count) => bytes.resize(*count, *byte)?,
+        }
+        Ok(bytes)
+    }
+}
+
+impl Peb {
+    /// Adds the bytes of the eraseblock to an image.
+    fn put(
+        &self,
+        alloc: Global,
+        geometry: &Geometry,
+        image: &mut Vec<u8>,
+    ) -> Result<(), AllocError> {
+        let mut bytes = Vec::new(alloc);
+        bytes.extend_from_slice(&self.0.bytes(geometry))?;
+        bytes.resize(geometry.vid_offset() as usize, 0xFF)?;
+        if let Some(header) = &self.1 {
+            bytes.extend_from_slice(&write_vid(header))?;
+        }
+        bytes.resize(geometry.data_offset() as usize, 0xFF)?;
+        let data = self.2.bytes(alloc, geometry)?;
+        bytes.extend_from_slice(data.as_slice())?;
+        bytes.resize(geometry.peb_size() as usize, 0xFF)?;
+        image.extend_from_slice(bytes.as_slice())
+    }
+}
+
+/// The bytes of some eraseblocks.
+pub fn image_of(alloc: Global, geometry: &Geometry, pebs: &[Peb]) -> Result<Vec<u8>, Fail> {
+    let mut image = Vec::new(alloc);
+    for peb in pebs {
+        peb.put(alloc, geometry, &mut image)?;
+    }
+    Ok(image)
+}
+
+/// A step, as tests write it down.
+#[derive(Clone, Copy)]
+pub enum Want {
+    /// An eraseblock is erased.
+    Erase(u32),
+    /// Page 0 of an eraseblock gets an erase-counter header.
+    Count(u32, EcHeader),
+    /// A page of an eraseblock gets a volume-identifier header.
+    Header(u32, u32, VidHeader),
+    /// Page 0 of an eraseblock gets one, behind an erase-counter header.
+    Headers(u32, Ec, VidHeader),
+    /// A page of an eraseblock is filled with a byte.
+    Text(u32, u32, u8),
+}
+
+/// A page: the bytes of a header, where the other one stands before it, and 0xFF elsewhere.
+fn page_of(
+    alloc: Global,
+    geometry: &Geometry,
+    front: &[u8],
+    header: &[u8],
+) -> Result<Bytes, AllocError> {
+    let mut bytes = Vec::new(alloc);
+    bytes.extend_from_slice(front)?;
+    if !header.is_empty() {
+        let place = geometry.vid_offset() % geometry.page();
+        bytes.resize(place as usize, 0xFF)?;
+        bytes.extend_from_slice(header)?;
+    }
+    bytes.resize(geometry.page() as usize, 0xFF)?;
+    Ok(Bytes::new(bytes))
+}
+
+impl Want {
+    /// The step.
+    fn step(&self, alloc: Global, geometry: &Geometry) -> Result<Step, AllocError> {
+        let (pnum, page, bytes) = match self {
+            Want::Erase(pnum) => return Ok(Step::Erase { pnum: *pnum }),
+            Want::Count(pnum, ec) => (
+                *pnum,
+                0,
+                page_of(alloc, geometry, &write_ec(geometry, ec), &[])?,
+            ),
+            Want::Header(pnum, page, vid) => {
+                (
+                    *pnum,
+                    *page,
+                    page_of(alloc, geometry, &[], &write_vid(vid))?,
+                )
+            }
+            Want::Headers(pnum, ec, vid) => (
+                *pnum,
+                0,
+                page_of(alloc, geometry, &ec.bytes(geometry), &write_vid(vid))?,
+            ),
+            Want::Text(pnum, page, byte) => {
+                let mut bytes = Vec::new(alloc);
+                bytes.resize(geometry.page() as usize, *byte)?;
+                (*pnum, *page, Bytes::new(bytes))
+            }
+        };
+        Ok(Step::Program { pnum, page, bytes })
+    }
+}
+
+/// A byte, so many times.
+pub fn text(alloc: Global, byte: u8, count: usize) -> Result<Vec<u8>, AllocError> {
+    let mut bytes = Vec::new(alloc);
+    bytes.resize(count, byte)?;
+    Ok(bytes)
+}
+
+/// What a change of volume 0 is answered. It has no contract, so that a proof of a caller is spared that of
+/// `plan_change`.
+pub fn planned(
+    alloc: Global,
+    geometry: &Geometry,
+    image: &[u8],
+    lnum: u32,
+    new: &[u8],
+) -> Result<Vec<Step>, ChangeRefusal> {
+    plan_change(alloc, geometry, image, 0, lnum, new)
+}
+
+/// An image, attached. It has no contract, as `planned`.
+pub fn attached(alloc: Global, geometry: &Geometry, image: &[u8]) -> Result<Attached, AttachError> {
+    attach(alloc, geometry, image)
+}
+
+/// What a logical eraseblock of volume 0 reads.
+fn leb_of(alloc: Global, geometry: &Geometry, image: &[u8], lnum: u32) -> Result<Vec<u8>, Fail> {
+    let attached = attached(alloc, geometry, image)?;
+    let mut out = Vec::new(alloc);
+    out.resize(attached.meaning().geometry().leb_size() as usize, 0xAA)?;
+    let size = match read_leb(attached.meaning(), 0, lnum, out.as_mut_slice()) {
+        Ok(size) => size,
+        Err(_) => return Err("not read".into()),
+    };
+    out.truncate(size);
+    Ok(out)
+}
+
+/// The image sequence number that an image means.
+fn seq_of(alloc: Global, geometry: &Geometry, image: &[u8]) -> Result<u32, Fail> {
+    Ok(attached(alloc, geometry, image)?.meaning().image_seq())
+}
+
+/// Asserts that a logical eraseblock reads a text and then 0xFF.
+fn assert_reads(
+    rt: &impl Abort,
+    alloc: Global,
+    geometry: &Geometry,
+    image: &[u8],
+    lnum: u32,
+    text: &[u8],
+) -> Result<(), Fail> {
+    let is = leb_of(alloc, geometry, image, lnum)?;
+    let mut want = Vec::from_slice(alloc, text)?;
+    want.resize(is.len(), 0xFF)?;
+    assert_eq!(*rt; is.as_slice(), want.as_slice());
+    Ok(())
+}
+
+/// Asserts that steps are those that were written down.
+fn assert_steps(
+    rt: &impl Abort,
+    alloc: Global,
+    geometry: &Geometry,
+    steps: &[Step],
+    want: &[Want],
+) -> Result<(), Fail> {
+    let mut expected = Vec::new(alloc);
+    for step in want {
+        expected.push(step.step(alloc, geometry)?)?;
+    }
+    assert!(*rt; steps == expected.as_slice());
+    Ok(())
+}
+
+/// What a change is to do.
+#[derive(Clone, Copy)]
+pub struct Case<'a> {
+    /// The sizes of the eraseblocks.
+    pub sizes: Sizes,
+    /// The eraseblocks.
+    pub pebs: &'a [Peb],
+    /// The logical eraseblock.
+    pub lnum: u32,
+    /// What it reads before, with 0xFF behind.
+    pub old: (u8, usize),
+    /// The steps.
+    pub steps: &'a [Want],
+    /// The number of steps from which on it reads the new bytes.
+    pub turn: usize,
+}
+
+/// Asserts what a change to new bytes is planned as, what each cut of the plan reads, and that it keeps the image sequence
+/// number. Gives the image at the end.
+pub fn assert_change(
+    rt: &impl Abort,
+    alloc: Global,
+    case: &Case<'_>,
+    new: &[u8],
+) -> Result<Vec<u8>, Fail> {
+    let geometry = case.sizes.geometry()?;
+    let image = image_of(alloc, &geometry, case.pebs)?;
+    assert_plan(rt, alloc, case, image, new, usize::MAX)
+}
+
+/// The same of an image, for so many steps. Gives what these leave.
+pub fn assert_plan(
+    rt: &impl Abort,
+    alloc: Global,
+    case: &Case<'_>,
+    image: Vec<u8>,
+    new: &[u8],
+    stop: usize,
+) -> Result<Vec<u8>, Fail> {
+    let geometry = case.sizes.geometry()?;
+    let mut image = image;
+    let old = text(alloc, case.old.0, case.old.1)?;
+    let steps = match planned(alloc, &geometry, image.as_slice(), case.lnum, new) {
+        Ok(steps) => steps,
+        Err(_) => return Err("no plan".into()),
+    };
+    assert_steps(rt, alloc, &geometry, steps.as_slice(), case.steps)?;
+    let named = seq_of(alloc, &geometry, image.as_slice())?;
+    let mut done = 0usize;
+    for step in steps.as_slice() {
+        let reads = if done < case.turn {
+            old.as_slice()
+        } else {
+            new
+        };
+        assert_reads(rt, alloc, &geometry, image.as_slice(), case.lnum, reads)?;
+        if done >= stop {
+            return Ok(image);
+        }
+        assert!(*rt; step_fits(&geometry, image.as_slice(), step));
+        apply(&geometry, image.as_mut_slice(), step);
+        assert_eq!(*rt; seq_of(alloc, &geometry, image.as_slice())?, named);
+        done = done.saturating_add(1);
+    }
+    assert_reads(rt, alloc, &geometry, image.as_slice(), case.lnum, new)?;
+    Ok(image)
+}
+
+/// Asserts that a change is planned, whose cuts read what was read before and, from one on, the new bytes.
+pub fn assert_turns(
+    rt: &impl Abort,
+    alloc: Global,
+    geometry: &Geometry,
+    image: &[u8],
+    lnum: u32,
+    new: &[u8],
+) -> Result<(), Fail> {
+    let mut image = Vec::from_slice(alloc, image)?;
+    let old = leb_of(alloc, geometry, image.as_slice(), lnum)?;
+    let mut want = Vec::from_slice(alloc, new)?;
+    want.resize(old.len(), 0xFF)?;
+    let steps = match planned(alloc, geometry, image.as_slice(), lnum, new) {
+        Ok(steps) => steps,
+        Err(_) => return Err("no plan".into()),
+    };
+    let mut turned = false;
+    for step in steps.as_slice() {
+        assert!(*rt; step_fits(geometry, image.as_slice(), step));
+        apply(geometry, image.as_mut_slice(), step);
+        let is = leb_of(alloc, geometry, image.as_slice(), lnum)?;
+        turned = turned || is.as_slice() == want.as_slice();
+        let read = if turned { &want } else { &old };
+        assert_eq!(*rt; is.as_slice(), read.as_slice());
+    }
+    assert!(*rt; turned);
+    Ok(())
+}
+
+/// Asserts that a second change can be made of each cut of a first one.
+pub fn assert_changes_again(
+    rt: &impl Abort,
+    alloc: Global,
+    case: &Case<'_>,
+    image: Vec<u8>,
+    new: &[u8],
+    again: &[u8],
+) -> Result<(), Fail> {
+    let geometry = case.sizes.geometry()?;
+    let mut image = image;
+    let steps = match planned(alloc, &geometry, image.as_slice(), case.lnum, new) {
+        Ok(steps) => steps,
+        Err(_) => return Err("no plan".into()),
+    };
+    for step in steps.as_slice() {
+        assert_turns(rt, alloc, &geometry, image.as_slice(), case.lnum, again)?;
+        assert!(*rt; step_fits(&geometry, image.as_slice(), step));
+        apply(&geometry, image.as_mut_slice(), step);
+    }
+    assert_turns(rt, alloc, &geometry, image.as_slice(), case.lnum, again)
+}

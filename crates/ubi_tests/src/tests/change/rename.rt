@@ -1,0 +1,579 @@
+//! Renames of a volume.
+
+use super::images::{
+    A, B, C, Data, ERASED, Ec, FIRST, FREE, INSIDE, LARGE, LARGE_SHARED, NEW, NEW_FIRST,
+    NEW_SECOND, ODD, ONE_PAGE, Peb, SECOND, SHARED, SMALL, Sizes, ZERO, attached, image_of,
+};
+use crate::tests::headers::{LEB_2, TABLE_0, TABLE_1};
+use crate::tests::records::{ROOT, Slot};
+use std::alloc::{AllocError, Global};
+use std::process::Abort;
+use std::test::Fail;
+use ubi_change::{RenameRefusal, Step, apply, plan_rename, step_fits};
+use ubi_media::{EcHeader, Geometry, Refusal, VidHeader, VolumeRecord};
+use ubi_volume::Attached;
+
+/// What a rename is answered. It has no contract, so that a proof of a caller is spared that of `plan_rename`.
+pub fn planned(
+    alloc: Global,
+    geometry: &Geometry,
+    image: &[u8],
+    id: u32,
+    name: &[u8],
+) -> Result<Vec<Step>, RenameRefusal> {
+    plan_rename(alloc, geometry, image, id, name)
+}
+
+/// How one copy of the table is written anew: on which eraseblock, whether that is prepared, its pages from the header's to
+/// the last of the table, and the eraseblock that is erased behind it.
+#[derive(Clone, Copy)]
+struct Copied {
+    target: u32,
+    is_prepared: bool,
+    pages: (u32, u32),
+    given_up: Option<u32>,
+}
+
+/// A rename of a volume from a name to another: both copies, and how many steps come before the new name.
+#[derive(Clone, Copy)]
+struct Case {
+    sizes: Sizes,
+    pebs: &'static [Peb],
+    id: u32,
+    from: &'static [u8],
+    to: &'static [u8],
+    copies: [Copied; 2],
+    turn: usize,
+}
+
+/// The place of an erase among those of pages.
+const ERASE: u32 = u32::MAX;
+
+impl Copied {
+    /// Adds the eraseblock and the page of each step.
+    fn put_places(&self, places: &mut Vec<(u32, u32)>) -> Result<(), AllocError> {
+        if self.is_prepared {
+            places.extend_from_slice(&[(self.target, ERASE), (self.target, 0)])?;
+        }
+        let (first, last) = self.pages;
+        for page in first..last.saturating_add(1) {
+            places.push((self.target, page))?;
+        }
+        match self.given_up {
+            Some(old) => places.extend_from_slice(&[(old, ERASE), (old, 0)]),
+            None => Ok(()),
+        }
+    }
+}
+
+/// Copy 0 of a table of 344 bytes, on a clean eraseblock.
+const FIRST_COPY: Copied = Copied {
+    target: 5,
+    is_prepared: false,
+    pages: (1, 7),
+    given_up: Some(0),
+};
+
+/// Copy 1 of it.
+const SECOND_COPY: Copied = Copied {
+    target: 6,
+    given_up: Some(1),
+    ..FIRST_COPY
+};
+
+/// Three logical eraseblocks, and two free eraseblocks.
+pub const PEBS: [Peb; 7] = [FIRST, SECOND, A, B, C, FREE, FREE];
+
+const BASE: Case = Case {
+    sizes: SMALL,
+    pebs: &PEBS,
+    id: 0,
+    from: b"root",
+    to: b"data",
+    copies: [FIRST_COPY, SECOND_COPY],
+    turn: 7,
+};
+
+/// A free eraseblock whose erase-counter header has padding that isn't zero.
+const PADDED: Peb = Peb(Ec::Padded(ZERO), None, Data::Filled(0xFF, 0));
+
+/// Copy 0 in an eraseblock that can't count another erase, and in the only one that names the image.
+const WORN_FIRST: Peb = Peb(
+    Ec::Is(EcHeader {
+        counter: 0x7FFF_FFFF,
+        ..ZERO
+    }),
+    Some(TABLE_0),
+    Data::Table(ROOT),
+);
+
+const CARRIER_FIRST: Peb = Peb(
+    Ec::Is(EcHeader {
+        image_seq: 8,
+        ..NEW
+    }),
+    Some(TABLE_0),
+    Data::Table(ROOT),
+);
+
+/// Copy 1 in such eraseblocks.
+const WORN_SECOND: Peb = Peb(
+    Ec::Is(EcHeader {
+        counter: 0x7FFF_FFFF,
+        ..ZERO
+    }),
+    Some(TABLE_1),
+    Data::Table(ROOT),
+);
+
+const CARRIER_SECOND: Peb = Peb(
+    Ec::Is(EcHeader {
+        image_seq: 8,
+        ..NEW
+    }),
+    Some(TABLE_1),
+    Data::Table(ROOT),
+);
+
+/// The record of another volume, of one reserved eraseblock.
+const DATA: Slot = Slot {
+    reserved: 1,
+    name: b"data",
+    check: 0x7C57_61B3,
+    ..ROOT
+};
+
+/// The two copies of a table with both.
+const FIRST_TWO: Peb = Peb(Ec::Is(ZERO), Some(TABLE_0), Data::Two(ROOT, DATA));
+
+const SECOND_TWO: Peb = Peb(Ec::Is(ZERO), Some(TABLE_1), Data::Two(ROOT, DATA));
+
+/// Logical eraseblock 2 with the last sequence number but two.
+const NEXT_TO_LATE: Peb = Peb(
+    Ec::Is(ZERO),
+    Some(VidHeader {
+        sqnum: 0xFFFF_FFFF_FFFF_FFFD,
+        ..LEB_2
+    }),
+    Data::Filled(0x43, 384),
+);
+
+/// A free eraseblock that names no image.
+const NEW_FREE: Peb = Peb(Ec::Is(NEW), None, Data::Filled(0xFF, 0));
+
+static CASES: [Case; 14] = [
+    BASE,
+    // The second of two volumes.
+    Case {
+        pebs: &[FIRST_TWO, SECOND_TWO, A, B, C, FREE, FREE],
+        id: 1,
+        from: b"data",
+        to: b"boot",
+        ..BASE
+    },
+    // The name that it has.
+    Case {
+        to: b"root",
+        ..BASE
+    },
+    // The last two sequence numbers.
+    Case {
+        pebs: &[FIRST, SECOND, A, B, NEXT_TO_LATE, FREE, FREE],
+        ..BASE
+    },
+    // No power of two.
+    Case { sizes: ODD, ..BASE },
+    // Both headers in page 0, and a table of 688 bytes in pages of 256.
+    Case {
+        sizes: SHARED,
+        pebs: &[FIRST, SECOND, A, B, C, PADDED, FREE],
+        copies: [
+            Copied {
+                pages: (0, 3),
+                ..FIRST_COPY
+            },
+            Copied {
+                pages: (0, 3),
+                ..SECOND_COPY
+            },
+        ],
+        turn: 4,
+        ..BASE
+    },
+    // A table of 344 bytes in one page of 512.
+    Case {
+        sizes: ONE_PAGE,
+        copies: [
+            Copied {
+                pages: (0, 1),
+                ..FIRST_COPY
+            },
+            Copied {
+                pages: (0, 1),
+                ..SECOND_COPY
+            },
+        ],
+        turn: 2,
+        ..BASE
+    },
+    // The volume-identifier header inside page 1, and the table in two pages of 256.
+    Case {
+        sizes: INSIDE,
+        copies: [
+            Copied {
+                pages: (1, 3),
+                ..FIRST_COPY
+            },
+            Copied {
+                pages: (1, 3),
+                ..SECOND_COPY
+            },
+        ],
+        turn: 3,
+        ..BASE
+    },
+    // A table of 22,016 bytes.
+    Case {
+        sizes: LARGE,
+        copies: [
+            Copied {
+                pages: (1, 12),
+                ..FIRST_COPY
+            },
+            Copied {
+                pages: (1, 12),
+                ..SECOND_COPY
+            },
+        ],
+        turn: 12,
+        ..BASE
+    },
+    Case {
+        sizes: LARGE_SHARED,
+        pebs: &[FIRST, SECOND, A, B, C, ERASED, FREE],
+        copies: [
+            Copied {
+                target: 6,
+                pages: (0, 11),
+                ..FIRST_COPY
+            },
+            Copied {
+                target: 5,
+                is_prepared: true,
+                pages: (0, 11),
+                ..SECOND_COPY
+            },
+        ],
+        turn: 12,
+        ..BASE
+    },
+    // What holds copy 0 stays.
+    Case {
+        pebs: &[WORN_FIRST, SECOND, A, B, C, FREE, FREE],
+        copies: [
+            Copied {
+                given_up: None,
+                ..FIRST_COPY
+            },
+            SECOND_COPY,
+        ],
+        ..BASE
+    },
+    // What holds either copy stays.
+    Case {
+        pebs: &[WORN_FIRST, WORN_SECOND, A, B, C, FREE, FREE],
+        copies: [
+            Copied {
+                given_up: None,
+                ..FIRST_COPY
+            },
+            Copied {
+                given_up: None,
+                ..SECOND_COPY
+            },
+        ],
+        ..BASE
+    },
+    // The only eraseblock that names the image holds copy 1, and copy 0.
+    Case {
+        pebs: &[NEW_FIRST, CARRIER_SECOND, NEW_FREE, NEW_FREE],
+        copies: [
+            Copied {
+                target: 2,
+                ..FIRST_COPY
+            },
+            Copied {
+                target: 3,
+                given_up: None,
+                ..SECOND_COPY
+            },
+        ],
+        ..BASE
+    },
+    Case {
+        pebs: &[CARRIER_FIRST, NEW_SECOND, NEW_FREE, NEW_FREE],
+        copies: [
+            Copied {
+                target: 2,
+                given_up: None,
+                ..FIRST_COPY
+            },
+            Copied {
+                target: 3,
+                ..SECOND_COPY
+            },
+        ],
+        ..BASE
+    },
+];
+
+/// Asserts that a volume has a name, and that it and the image are else as before.
+fn assert_means(
+    rt: &impl Abort,
+    here: &Attached,
+    old: &Attached,
+    id: u32,
+    name: &[u8],
+) -> Result<(), Fail> {
+    let (here, old) = (here.meaning(), old.meaning());
+    assert_eq!(*rt; here.image_seq(), old.image_seq());
+    for slot in 0..2 {
+        match (here.get(slot), old.get(slot)) {
+            (None, None) => assert!(*rt; slot != id),
+            (Some(volume), Some(was)) => {
+                let named = if slot == id {
+                    name
+                } else {
+                    was.entry.name.as_bytes()
+                };
+                assert_eq!(*rt; volume.entry.name.as_bytes(), named);
+                let entry = VolumeRecord {
+                    name: was.entry.name,
+                    ..volume.entry
+                };
+                assert!(*rt; entry == was.entry);
+                assert!(*rt; volume.content == was.content);
+            }
+            _ => return Err("a volume more or less".into()),
+        }
+    }
+    Ok(())
+}
+
+/// The eraseblock of a step, and its page.
+fn place_of(step: &Step) -> (u32, u32) {
+    match step {
+        Step::Erase { pnum } => (*pnum, ERASE),
+        Step::Program { pnum, page, .. } => (*pnum, *page),
+    }
+}
+
+/// Asserts where the steps of a rename are, and what each cut means.
+fn assert_renames(rt: &impl Abort, alloc: Global, case: &Case) -> Result<(), Fail> {
+    let geometry = case.sizes.geometry()?;
+    let mut image = image_of(alloc, &geometry, case.pebs)?;
+    let old = attached(alloc, &geometry, image.as_slice())?;
+    let steps = match planned(alloc, &geometry, image.as_slice(), case.id, case.to) {
+        Ok(steps) => steps,
+        Err(_) => return Err("no plan".into()),
+    };
+    let mut places = Vec::new(alloc);
+    for copied in &case.copies {
+        copied.put_places(&mut places)?;
+    }
+    assert_eq!(*rt; steps.len(), places.len());
+    for (done, (step, place)) in steps.as_slice().iter().zip(places.as_slice()).enumerate() {
+        let name = if done < case.turn { case.from } else { case.to };
+        let here = attached(alloc, &geometry, image.as_slice())?;
+        assert_means(rt, &here, &old, case.id, name)?;
+        assert_eq!(*rt; place_of(step), *place);
+        assert!(*rt; step_fits(&geometry, image.as_slice(), step));
+        apply(&geometry, image.as_mut_slice(), step);
+    }
+    let end = attached(alloc, &geometry, image.as_slice())?;
+    assert_means(rt, &end, &old, case.id, case.to)
+}
+
+#[test]
+fn renames_at_the_turn(rt: HostRuntime) -> Result<(), Fail> {
+    for case in &CASES {
+        assert_renames(&rt, rt.alloc(), case)?;
+    }
+    Ok(())
+}
+
+/// A logical eraseblock with the last sequence number but one.
+const LATE: Peb = Peb(
+    Ec::Is(ZERO),
+    Some(VidHeader {
+        sqnum: 0xFFFF_FFFF_FFFF_FFFE,
+        ..LEB_2
+    }),
+    Data::Filled(0x43, 384),
+);
+
+/// The same with the last one.
+const LAST: Peb = Peb(
+    Ec::Is(ZERO),
+    Some(VidHeader {
+        sqnum: 0xFFFF_FFFF_FFFF_FFFF,
+        ..LEB_2
+    }),
+    Data::Filled(0x43, 384),
+);
+
+/// A record whose check was chosen: 20 zero bytes, this check and 40 bytes 0xFF have the check of 64 bytes 0xFF, whatever
+/// comes before. So the last of the six pages of a table with it in slot 1 can't be told from a blank one.
+const WEAK: Slot = Slot {
+    reserved: 1,
+    name: &[0xE0, 0xE0, 0x2F, 0xB4],
+    check: 0xC216_DDDC,
+    ..ROOT
+};
+
+/// The two copies of the table with it.
+const FIRST_WEAK: Peb = Peb(Ec::Is(ZERO), Some(TABLE_0), Data::Two(ROOT, WEAK));
+
+const SECOND_WEAK: Peb = Peb(Ec::Is(ZERO), Some(TABLE_1), Data::Two(ROOT, WEAK));
+
+/// Copy 1 with a record whose check is wrong, and with one at fault.
+const SECOND_CORRUPT: Peb = Peb(
+    Ec::Is(ZERO),
+    Some(TABLE_1),
+    Data::Table(Slot { check: 0, ..ROOT }),
+);
+
+const SECOND_TWICE: Peb = Peb(Ec::Is(ZERO), Some(TABLE_1), Data::Two(ROOT, ROOT));
+
+const FIRST_TWICE: Peb = Peb(Ec::Is(ZERO), Some(TABLE_0), Data::Two(ROOT, ROOT));
+
+/// Free eraseblocks that can't be taken: one that can't count another erase, and the only one that names the image.
+const WORN_FREE: Peb = Peb(
+    Ec::Is(EcHeader {
+        counter: 0x7FFF_FFFF,
+        ..ZERO
+    }),
+    None,
+    Data::Filled(0xFF, 0),
+);
+
+const CARRIER_FREE: Peb = Peb(
+    Ec::Is(EcHeader {
+        image_seq: 8,
+        ..NEW
+    }),
+    None,
+    Data::Filled(0xFF, 0),
+);
+
+/// Why a rename of a volume to a name isn't planned. Of each two causes in their order both stand in some image.
+static REFUSED: [(&[Peb], u32, &[u8], RenameRefusal); 20] = [
+    (
+        &[FIRST_TWICE, SECOND],
+        2,
+        b"",
+        RenameRefusal::Attach(Refusal::SameName(0, 0, 1)),
+    ),
+    (&PEBS, 1, b"", RenameRefusal::NoVolume),
+    (&PEBS, u32::MAX, b"data", RenameRefusal::NoVolume),
+    (&PEBS, 0, b"", RenameRefusal::BadName),
+    (&PEBS, 0, &[0x61; 128], RenameRefusal::BadName),
+    (&PEBS, 0, b"a\0", RenameRefusal::BadName),
+    (&[FIRST, SECOND_TWO], 0, b"", RenameRefusal::BadName),
+    (&[FIRST_TWO, SECOND], 0, b"data", RenameRefusal::SameName(1)),
+    (&[FIRST_TWO, SECOND], 1, b"root", RenameRefusal::SameName(0)),
+    (&[FIRST_TWO, SECOND], 1, b"boot", RenameRefusal::NeedsRepair),
+    (
+        &[FIRST_WEAK, SECOND, LAST],
+        0,
+        b"data",
+        RenameRefusal::NeedsRepair,
+    ),
+    (&[FIRST, FREE, FREE], 0, b"root", RenameRefusal::NeedsRepair),
+    (
+        &[SECOND, FREE, FREE],
+        0,
+        b"root",
+        RenameRefusal::NeedsRepair,
+    ),
+    (
+        &[FIRST, SECOND_CORRUPT, FREE, FREE],
+        0,
+        b"data",
+        RenameRefusal::NeedsRepair,
+    ),
+    (
+        &[FIRST, SECOND_TWICE, FREE, FREE],
+        0,
+        b"data",
+        RenameRefusal::NeedsRepair,
+    ),
+    (
+        &[FIRST_WEAK, SECOND_WEAK, LAST],
+        0,
+        b"data",
+        RenameRefusal::WeakCheck(5),
+    ),
+    (
+        &[FIRST, SECOND, A, B, LATE],
+        0,
+        b"data",
+        RenameRefusal::Exhausted,
+    ),
+    (
+        &[FIRST, SECOND, A, B, LAST, FREE, FREE],
+        0,
+        b"data",
+        RenameRefusal::Exhausted,
+    ),
+    (
+        &[FIRST, SECOND, A, B, C, WORN_FREE, FREE],
+        0,
+        b"data",
+        RenameRefusal::NoFree,
+    ),
+    (
+        &[NEW_FIRST, NEW_SECOND, CARRIER_FREE, NEW_FREE],
+        0,
+        b"data",
+        RenameRefusal::NoFree,
+    ),
+];
+
+#[test]
+fn refuses_renames(rt: HostRuntime) -> Result<(), Fail> {
+    let alloc = rt.alloc();
+    let geometry = SMALL.geometry()?;
+    for (index, (pebs, id, name, cause)) in REFUSED.iter().enumerate() {
+        let image = image_of(alloc, &geometry, pebs)?;
+        let answer = planned(alloc, &geometry, image.as_slice(), *id, name);
+        assert!(rt; answer.err() == Some(*cause), "case {index}");
+    }
+    Ok(())
+}
+
+/// Writes bytes over those from a place on.
+pub fn overwrite(image: &mut [u8], at: usize, bytes: &[u8]) {
+    for (old, new) in image.iter_mut().skip(at).zip(bytes) {
+        *old = *new;
+    }
+}
+
+#[test]
+fn refuses_by_the_copies_of_the_table(rt: HostRuntime) -> Result<(), Fail> {
+    let alloc = rt.alloc();
+    let geometry = SMALL.geometry()?;
+    let mut image = image_of(alloc, &geometry, &PEBS)?;
+    let record = &DATA.bytes();
+    overwrite(image.as_mut_slice(), 640 + 172, record);
+    let answer = planned(alloc, &geometry, image.as_slice(), 0, b"name");
+    assert!(rt; answer.err() == Some(RenameRefusal::NeedsRepair));
+    overwrite(image.as_mut_slice(), 128 + 172, record);
+    let answer = planned(alloc, &geometry, image.as_slice(), 0, b"data");
+    assert!(rt; answer.err() == Some(RenameRefusal::SameName(1)));
+    assert!(rt; planned(alloc, &geometry, image.as_slice(), 1, b"data").is_ok());
+    overwrite(image.as_mut_slice(), 640 + 16, b"s");
+    let answer = planned(alloc, &geometry, image.as_slice(), 0, b"name");
+    assert!(rt; answer.err() == Some(RenameRefusal::NeedsRepair));
+    Ok(())
+}

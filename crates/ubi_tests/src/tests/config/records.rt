@@ -1,0 +1,56 @@
+//! The record of a section's volume.
+
+use std::test::Fail;
+use ubi_config::{ConfigCause, parse_config};
+use ubi_media::{Geometry, RecFault};
+
+/// The lines of a section, the bytes of its image file, and how many eraseblocks of 384 bytes the volume reserves, or
+/// why it has no record.
+static RECORDS: [(&[u8], Option<u64>, Result<u32, ConfigCause>); 12] = [
+    (b"vol_size=384", None, Ok(1)),
+    (b"vol_size=385", Some(1), Ok(2)),
+    (b"image=a", Some(1), Ok(1)),
+    // The alignment leaves 256 bytes of each eraseblock.
+    (b"image=a\nvol_alignment=256", Some(768), Ok(3)),
+    (b"image=a", Some(0), Err(ConfigCause::Empty)),
+    (
+        b"image=a\nvol_size=1\nvol_alignment=65",
+        Some(0),
+        Err(ConfigCause::Empty),
+    ),
+    (b"image=a\nvol_size=768", Some(768), Ok(2)),
+    (
+        b"image=a\nvol_size=768\nvol_alignment=0",
+        Some(769),
+        Err(ConfigCause::LongImage),
+    ),
+    (
+        b"image=a\nvol_alignment=0",
+        Some(1),
+        Err(ConfigCause::Record(RecFault::Alignment)),
+    ),
+    (
+        b"vol_size=8192GiB\nvol_alignment=65",
+        None,
+        Err(ConfigCause::Record(RecFault::AlignmentPage)),
+    ),
+    // 2^31 - 1 eraseblocks, and one byte more.
+    (b"vol_size=824633720448", None, Ok(2_147_483_647)),
+    (b"vol_size=824633720449", None, Err(ConfigCause::TooLarge)),
+];
+
+#[test]
+fn gives_records(rt: HostRuntime) -> Result<(), Fail> {
+    let geometry = Geometry::new(512, 64, 64, 128, 32)?;
+    for (index, (lines, image_len, want)) in RECORDS.iter().enumerate() {
+        let mut text = Vec::from_slice(rt.alloc(), b"[v]\nmode=ubi\nvol_id=1\nvol_name=v\n")?;
+        text.extend_from_slice(lines)?;
+        let sections = parse_config(rt.alloc(), text.as_slice()).map_err(|_| "not read")?;
+        assert_eq!(rt; sections.len(), 1);
+        let reserved = sections[0]
+            .record(&geometry, *image_len)
+            .map(|record| record.reserved);
+        assert!(rt; reserved == *want, "case {index}");
+    }
+    Ok(())
+}

@@ -1,0 +1,64 @@
+//! Bytes and readings of erase-counter headers.
+
+use std::test::Fail;
+use ubi_media::{
+    EcFault, EcHeader, EcOffsets, EcRead, EcStart, Geometry, read_ec, read_start, write_ec,
+};
+
+/// A header with an image sequence number, its check worked out by another program.
+const BASE: [u8; 64] = *b"UBI#\x01\0\0\0\
+    \0\0\0\0\0\0\0\0\0\0\0\x40\0\0\0\x80\x12\x34\x56\x78\
+    \0\0\0\0\0\0\0\0\0\0\0\0\0\0\0\0\0\0\0\0\0\0\0\0\0\0\0\0\0\0\0\0\x5b\x73\xf9\x13";
+
+#[test]
+fn writes_and_reads_a_header(rt: HostRuntime) -> Result<(), Fail> {
+    let geometry = Geometry::new(512, 64, 64, 128, 32)?;
+    let header = EcHeader {
+        counter: 0,
+        image_seq: 0x1234_5678,
+    };
+    assert!(rt; write_ec(&geometry, &header) == BASE);
+    assert!(rt; read_ec(&geometry, &BASE) == EcRead::Valid(header));
+    let other = Geometry::new(512, 64, 64, 192, 32)?;
+    assert!(rt; read_ec(&other, &BASE) == EcRead::Fault(EcFault::Offsets));
+    let offsets = EcOffsets {
+        vid_offset: 64,
+        data_offset: 128,
+    };
+    assert!(rt; read_start(&BASE) == EcStart::Header(offsets));
+    assert!(rt; read_start(&[0xFF; 64]) == EcStart::Blank);
+    Ok(())
+}
+
+#[test]
+fn reads_what_is_no_header(rt: HostRuntime) -> Result<(), Fail> {
+    let geometry = Geometry::new(512, 64, 64, 128, 32)?;
+    assert!(rt; read_ec(&geometry, &[0xFF; 64]) == EcRead::Blank);
+    assert!(rt; read_ec(&geometry, &[0; 64]) == EcRead::Corrupt);
+    for at in 0..64 {
+        let mut torn = BASE;
+        torn[at] ^= 0x10;
+        assert!(rt; read_ec(&geometry, &torn) == EcRead::Corrupt, "at {at}");
+        let mut nearly_blank = [0xFF; 64];
+        nearly_blank[at] = 0xFE;
+        assert!(rt;
+            read_ec(&geometry, &nearly_blank) == EcRead::Corrupt,
+            "at {at}"
+        );
+    }
+    Ok(())
+}
+
+#[test]
+fn reads_back_the_largest_counter(rt: HostRuntime) -> Result<(), Fail> {
+    let geometry = Geometry::new(512, 64, 64, 128, 32)?;
+    for (counter, fault) in [(0x7FFF_FFFF, None), (0x8000_0000, Some(EcFault::Counter))] {
+        let header = EcHeader {
+            counter,
+            image_seq: 0,
+        };
+        let read = fault.map_or(EcRead::Valid(header), EcRead::Fault);
+        assert!(rt; read_ec(&geometry, &write_ec(&geometry, &header)) == read);
+    }
+    Ok(())
+}

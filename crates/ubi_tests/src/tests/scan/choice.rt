@@ -1,0 +1,176 @@
+//! Which member wins a logical eraseblock.
+
+use super::images::Said::{Beaten, Winner};
+use super::images::{Case, Said, assert_found, found, holds, image};
+use super::pebs::{
+    DROPPED_0, ERASED, ERASED_1, FIFTH_OF_1, FIRST_OF_2, LEB_0, LEB_1, LEB_2, NINTH_OF_0, OLD, Peb,
+    RIGHT, SECOND_OF_1, TABLE_0, TABLE_1, TORN_1, WRONG_4, WRONG_6, WRONG_9,
+};
+use std::alloc::Global;
+use std::test::Fail;
+use ubi_media::LAYOUT_VOLUME;
+use ubi_scan::Scan;
+
+static SMALL: [Case; 5] = [
+    Case {
+        what: "a small image, and logical eraseblocks that it hasn't",
+        pebs: &[TABLE_0, TABLE_1, LEB_0, LEB_1, LEB_2, DROPPED_0],
+        states: &[
+            Said::Winner,
+            Said::Winner,
+            Said::Winner,
+            Said::Winner,
+            Said::Winner,
+            Said::Dropped,
+        ],
+        winners: &[
+            (LAYOUT_VOLUME, 0, Some(0)),
+            (LAYOUT_VOLUME, 1, Some(1)),
+            (LAYOUT_VOLUME, 2, None),
+            (0, 0, Some(2)),
+            (0, 1, Some(3)),
+            (0, 2, Some(4)),
+            (0, 3, None),
+            (1, 0, None),
+            (0x7FFF_F000, 0, None),
+        ],
+        numbers: (0, 0x1234_5678, 0),
+    },
+    Case {
+        what: "a member without its counter",
+        pebs: &[TABLE_0, TABLE_1, LEB_0, TORN_1, LEB_2],
+        states: &[
+            Said::Winner,
+            Said::Winner,
+            Said::Winner,
+            Said::Winner,
+            Said::Winner,
+        ],
+        winners: &[(0, 0, Some(2)), (0, 1, Some(3)), (0, 2, Some(4))],
+        numbers: (0, 0x1234_5678, 0),
+    },
+    Case {
+        what: "a member that is erased",
+        pebs: &[TABLE_0, TABLE_1, LEB_0, ERASED_1, LEB_2],
+        states: &[
+            Said::Winner,
+            Said::Winner,
+            Said::Winner,
+            Said::Blank,
+            Said::Winner,
+        ],
+        winners: &[(0, 0, Some(2)), (0, 1, None), (0, 2, Some(4))],
+        numbers: (0, 0x1234_5678, 0),
+    },
+    Case {
+        what: "a member without its counter, alone",
+        pebs: &[TORN_1],
+        states: &[Said::Winner],
+        winners: &[(0, 1, Some(0))],
+        numbers: (0, 0, 0),
+    },
+    Case {
+        what: "a member that is erased, alone",
+        pebs: &[ERASED_1],
+        states: &[Said::Blank],
+        winners: &[(0, 1, None)],
+        numbers: (0, 0, 0),
+    },
+];
+
+#[test]
+fn finds_the_winners_of_a_small_image(rt: HostRuntime) -> Result<(), Fail> {
+    assert_found(&rt, rt.alloc(), &SMALL)
+}
+
+/// Members of logical eraseblock 0, the state of each, which of them wins, and the greatest sequence number.
+type Members = (&'static [Peb], &'static [Said], u32, u64);
+
+static MEMBERS: [Members; 17] = [
+    // An old member, a newer copy and a bad one that is newer still, in any order.
+    (&[OLD, RIGHT, WRONG_9], &[Beaten, Winner, Beaten], 1, 9),
+    (&[OLD, WRONG_9, RIGHT], &[Beaten, Beaten, Winner], 2, 9),
+    (&[RIGHT, OLD, WRONG_9], &[Winner, Beaten, Beaten], 0, 9),
+    (&[RIGHT, WRONG_9, OLD], &[Winner, Beaten, Beaten], 0, 9),
+    (&[WRONG_9, OLD, RIGHT], &[Beaten, Beaten, Winner], 2, 9),
+    (&[WRONG_9, RIGHT, OLD], &[Beaten, Winner, Beaten], 1, 9),
+    // Bad members alone: the oldest wins.
+    (&[WRONG_4, WRONG_6], &[Winner, Beaten], 0, 6),
+    (&[WRONG_6, WRONG_4], &[Beaten, Winner], 1, 6),
+    (
+        &[WRONG_6, WRONG_4, WRONG_9],
+        &[Beaten, Winner, Beaten],
+        1,
+        9,
+    ),
+    (&[WRONG_9], &[Winner], 0, 9),
+    // Copies that meet another member.
+    (&[WRONG_9, OLD], &[Beaten, Winner], 1, 9),
+    (&[OLD, WRONG_9], &[Winner, Beaten], 0, 9),
+    (&[RIGHT, OLD], &[Winner, Beaten], 0, 7),
+    (&[RIGHT, WRONG_4], &[Winner, Beaten], 0, 7),
+    (&[WRONG_4, RIGHT], &[Beaten, Winner], 1, 7),
+    (&[WRONG_6, WRONG_9, OLD], &[Beaten, Beaten, Winner], 2, 9),
+    (&[WRONG_9, RIGHT, WRONG_6], &[Beaten, Winner, Beaten], 1, 9),
+];
+
+/// Whether of some members the right one wins.
+fn is_won(alloc: Global, (pebs, states, p, top): &Members) -> Result<bool, Fail> {
+    let won = found(alloc, pebs)?;
+    let case = Case {
+        what: "",
+        pebs,
+        states,
+        winners: &[],
+        numbers: (*top, 0, 0),
+    };
+    Ok(won.winner(0, 0) == Some(*p) && won.winner(0, 1).is_none() && holds(alloc, &case)?)
+}
+
+/// The newest good member wins, in any order, and else the oldest of bad ones. A copy is checked once it meets another
+/// member.
+#[test]
+fn the_newest_good_member_wins(rt: HostRuntime) -> Result<(), Fail> {
+    for (index, members) in MEMBERS.iter().enumerate() {
+        assert!(rt; is_won(rt.alloc(), members)?, "case {index}");
+    }
+    Ok(())
+}
+
+/// A volume and a number, and the next logical eraseblock of it from that number on, with its winner.
+type Next = (u32, u32, Option<(u32, u32)>);
+
+/// Whether the logical eraseblocks that are wanted are next.
+fn has_next(found: &Scan, want: &[Next]) -> bool {
+    let mut has = true;
+    for next in want {
+        has = has && found.next_winner(next.0, next.1) == next.2;
+    }
+    has
+}
+
+static NEXT: [Next; 8] = [
+    (1, 0, Some((2, 1))),
+    (1, 2, Some((2, 1))),
+    (1, 3, Some((5, 0))),
+    (1, 6, None),
+    (1, u32::MAX, None),
+    (0, 0, Some((9, 2))),
+    (2, 1, None),
+    (3, 0, None),
+];
+
+#[test]
+fn finds_the_next_winner_of_a_volume(rt: HostRuntime) -> Result<(), Fail> {
+    let alloc = rt.alloc();
+    let volumes = found(
+        alloc,
+        &[FIFTH_OF_1, SECOND_OF_1, NINTH_OF_0, FIRST_OF_2, ERASED],
+    )?;
+    assert!(rt; has_next(&volumes, &NEXT));
+    let torn = found(alloc, &[TABLE_0, TABLE_1, LEB_0, TORN_1, LEB_2])?;
+    assert!(rt; has_next(&torn, &[(0, 1, Some((1, 3)))]));
+    let erased = found(alloc, &[TABLE_0, TABLE_1, LEB_0, ERASED_1, LEB_2])?;
+    assert!(rt; has_next(&erased, &[(0, 1, Some((2, 4)))]));
+    Ok(())
+}

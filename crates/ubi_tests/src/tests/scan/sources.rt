@@ -1,0 +1,234 @@
+//! Scans over sources: what they read, what they find, and what fails.
+
+ghost use Rattle.std.specs.Prelude.{◌≡◌, ◌+◌, ◌≤◌, OnOk, length, slice_range};
+
+use super::images::{found, geometry, image};
+use super::pebs::{ERASED, OLD, OLDER, Peb, RIGHT, WRONG_4, WRONG_6, WRONG_9};
+use std::alloc::Global;
+use std::fs;
+use std::test::Fail;
+use ubi_media::Refusal;
+use ubi_scan::{
+    BlockSource, FileSource, MemorySource, ProbeSource, Scan, SourceFault, StreamError, scan_from,
+};
+
+/// An eraseblock, how many reads begin in it, and how many of them in its data.
+type Reads = (u32, u64, u64);
+
+/// Whether so many reads began in the eraseblocks, and none went beyond one.
+fn has_reads(source: &ProbeSource<'_>, want: &[Reads]) -> bool {
+    let mut has = source.crossing() == 0;
+    for reads in want {
+        has = has && source.reads(reads.0) == reads.1 && source.data_reads(reads.0) == reads.2;
+    }
+    has
+}
+
+/// The winner of logical eraseblock 0 of volume 0.
+fn winner(answer: Result<Scan, StreamError>) -> Option<u32> {
+    answer.ok().and_then(|found| found.winner(0, 0))
+}
+
+/// Members of a logical eraseblock, which of them wins, and what is read to find it.
+type Case = (&'static [Peb], u32, &'static [Reads]);
+
+/// Of members that meet one another the copies' data are read once each, and those of the others never. The candidate's
+/// headers are read again when the second member comes. A copy is checked where it meets another one, and a copy that
+/// is alone never.
+static CHECKED: [Case; 9] = [
+    (
+        &[OLD, RIGHT, WRONG_9, OLDER],
+        1,
+        &[(0, 2, 0), (1, 2, 1), (2, 2, 1), (3, 1, 0)],
+    ),
+    (
+        &[OLD, RIGHT, WRONG_9],
+        1,
+        &[(0, 2, 0), (1, 2, 1), (2, 2, 1)],
+    ),
+    (
+        &[OLD, WRONG_9, RIGHT],
+        2,
+        &[(0, 2, 0), (1, 2, 1), (2, 2, 1)],
+    ),
+    (
+        &[RIGHT, OLD, WRONG_9],
+        0,
+        &[(0, 3, 1), (1, 1, 0), (2, 2, 1)],
+    ),
+    (
+        &[RIGHT, WRONG_9, OLD],
+        0,
+        &[(0, 3, 1), (1, 2, 1), (2, 1, 0)],
+    ),
+    (
+        &[WRONG_9, OLD, RIGHT],
+        2,
+        &[(0, 3, 1), (1, 1, 0), (2, 2, 1)],
+    ),
+    (
+        &[WRONG_9, RIGHT, OLD],
+        1,
+        &[(0, 3, 1), (1, 2, 1), (2, 1, 0)],
+    ),
+    (
+        &[WRONG_6, WRONG_4, ERASED],
+        1,
+        &[(0, 3, 1), (1, 2, 1), (2, 1, 0)],
+    ),
+    (
+        &[ERASED, WRONG_6, ERASED],
+        1,
+        &[(0, 1, 0), (1, 1, 0), (2, 1, 0)],
+    ),
+];
+
+/// Whether a member wins, and so much is read to find it.
+fn is_checked(alloc: Global, (pebs, winning, reads): &Case) -> Result<bool, Fail> {
+    let bytes = image(alloc, pebs)?;
+    let mut source = ProbeSource::new(alloc, &geometry()?, bytes.as_slice(), 0)?;
+    let won = winner(scan_from(alloc, &geometry()?, &mut source));
+    Ok(won == Some(*winning) && has_reads(&source, reads))
+}
+
+#[test]
+fn checks_copied_data_once_in_any_order(rt: HostRuntime) -> Result<(), Fail> {
+    for (index, case) in CHECKED.iter().enumerate() {
+        assert!(rt; is_checked(rt.alloc(), case)?, "case {index}");
+    }
+    Ok(())
+}
+
+/// Why a scan fails whose read `at` fails, if it does.
+fn error_of(alloc: Global, bytes: &[u8], at: u64) -> Result<Option<StreamError>, Fail> {
+    let mut source = ProbeSource::new(alloc, &geometry()?, bytes, at)?;
+    Ok(scan_from(alloc, &geometry()?, &mut source).err())
+}
+
+/// The read that fails, and the error that is told: each in turn, up to one more than there are.
+static FAILING: [(u64, Option<StreamError>); 8] = [
+    (1, Some(StreamError::Read(0, 0))),
+    (2, Some(StreamError::Read(1, 0))),
+    (3, Some(StreamError::Read(0, 0))),
+    (4, Some(StreamError::Read(1, 0))),
+    (5, Some(StreamError::Read(2, 0))),
+    (6, Some(StreamError::Read(2, 0))),
+    (7, Some(StreamError::Read(3, 0))),
+    (8, None),
+];
+
+#[test]
+fn tells_which_read_failed(rt: HostRuntime) -> Result<(), Fail> {
+    let bytes = image(rt.alloc(), &[OLD, RIGHT, WRONG_9, OLDER])?;
+    for (at, want) in &FAILING {
+        assert!(rt;
+            error_of(rt.alloc(), bytes.as_slice(), *at)? == *want,
+            "read {at}"
+        );
+    }
+    Ok(())
+}
+
+/// How many bytes there are, and for what cause they are refused before the first read, which would fail.
+static SIZES: [(usize, Refusal); 3] = [
+    (0, Refusal::Length),
+    (511, Refusal::Length),
+    (33 * 512, Refusal::TooMany),
+];
+
+#[test]
+fn refuses_a_size_before_any_read(rt: HostRuntime) -> Result<(), Fail> {
+    let bytes = [0xFF; 33 * 512];
+    for (len, cause) in &SIZES {
+        let bytes = bytes.get(..*len).ok_or("too short")?;
+        let error = error_of(rt.alloc(), bytes, 1)?;
+        assert!(rt; error == Some(StreamError::Refused(*cause)), "{len} bytes");
+    }
+    Ok(())
+}
+
+/// Which eraseblock of a file wins, or why it isn't scanned.
+fn file_winner(
+    alloc: Global,
+    file: &mut impl BlockSource,
+) -> Result<Result<Option<u32>, StreamError>, Fail> {
+    Ok(match scan_from(alloc, &geometry()?, file) {
+        Ok(found) => Ok(found.winner(0, 0)),
+        Err(error) => Err(error),
+    })
+}
+
+/// A file is scanned as its bytes are. One that is cut short while it is open fails where its bytes are missing.
+#[test]
+fn scans_a_file_as_memory(rt: HostRuntime) -> Result<(), Fail> {
+    let alloc = rt.alloc();
+    let bytes = image(alloc, &[OLD, RIGHT, WRONG_9])?;
+    fs::write(&rt, "scanned.img", bytes.as_slice())?;
+    let mut memory = MemorySource::new(bytes.as_slice());
+    assert!(rt; file_winner(alloc, &mut memory)? == Ok(Some(1)));
+    let mut file = FileSource::open(&rt, "scanned.img")?;
+    assert!(rt; file.len() == 1536);
+    assert!(rt; file_winner(alloc, &mut file)? == Ok(Some(1)));
+    let short = bytes.as_slice().get(..1024).ok_or("too short")?;
+    fs::write(&rt, "scanned.img", short)?;
+    assert!(rt; file_winner(alloc, &mut file)? == Err(StreamError::Read(2, 0)));
+    fs::remove_file(&rt, "scanned.img")?;
+    assert!(rt; FileSource::open(&rt, "scanned.img").is_err());
+    assert!(rt; FileSource::open(&rt, ".").is_err());
+    Ok(())
+}
+
+/// A source that answers other bytes from its third read on, so that no bytes agree with all of its reads.
+#[derive(Drop)]
+struct Fickle<'a> {
+    first: &'a [u8],
+    then: &'a [u8],
+    reads: u64,
+}
+
+impl BlockSource for Fickle<'_> {
+    ghost use Rattle.std.specs.Prelude.{length};
+    ghost use Rattle.ubi_scan.specs.inner.Held.{sound, unheld, unheld_sized};
+
+    ghost known = { λ s. sound (length s.first.now) };
+
+    ghost agrees = { λ s. unheld };
+
+    fn len(&self) -> u64 {
+        self.first.len() as u64
+    }
+
+    fn read(&mut self, at: u64, out: &mut [u8]) -> Result<(), SourceFault> {
+        self.reads = self.reads.saturating_add(1);
+        let bytes = if self.reads < 3 {
+            self.first
+        } else {
+            self.then
+        };
+        for (index, byte) in out.iter_mut().enumerate() {
+            *byte = bytes.get(at as usize + index).copied().unwrap_or(0xFF);
+        }
+        Ok(())
+    }
+
+    ghost sized = { λ s. unheld_sized (sound (length s.first.now)) };
+
+    ghost promised = { λ s. tt };
+}
+
+/// What it finds lies in the source, whatever that answers.
+#[test]
+fn scans_a_source_that_changes(rt: HostRuntime) -> Result<(), Fail> {
+    let alloc = rt.alloc();
+    let first = image(alloc, &[ERASED, OLD, ERASED])?;
+    let then = image(alloc, &[RIGHT, ERASED, WRONG_9])?;
+    let mut source = Fickle {
+        first: first.as_slice(),
+        then: then.as_slice(),
+        reads: 0,
+    };
+    // Eraseblock 1 was a member when its headers were read, and is none when it meets eraseblock 2.
+    let found = winner(scan_from(alloc, &geometry()?, &mut source));
+    assert!(rt; found.is_some_and(|p| p < 3));
+    Ok(())
+}
