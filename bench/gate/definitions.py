@@ -6,7 +6,7 @@ usage: definitions.py [--files] [--down] [LAW ..]
        definitions.py --check
 
 A law is named by crate, file and name, such as ubi_change.Planned.SurvivesCutsOf; without one it is the headline
-(ubi_tool.Headline.Headline) with the contracts of the calls that compute what it speaks of, which are printed last. What a
+(ubi_commands.Headline.Headline) with the contracts of the calls that compute what it speaks of, which are printed last. What a
 definition names is followed through the `use` lines of its file, as far as it lies in a folder specs/ of this repository; what
 the standard library defines isn't printed. Then, and with --files only, the files are listed, each behind those that it uses,
 with the number of lines of these definitions of all its lines; then the files of src/ with the structs and enums that they
@@ -25,8 +25,8 @@ import sys
 import contracts
 
 ROOT = os.path.dirname(os.path.dirname(os.path.dirname(os.path.abspath(__file__))))
-CRATES = ("ubi_media", "ubi_config", "ubi_scan", "ubi_table", "ubi_volume", "ubi_compose", "ubi_change", "ubi_tool")
-HEADLINE = ("ubi_tool", "Headline", "Headline")
+CRATES = ("ubi_media", "ubi_config", "ubi_scan", "ubi_table", "ubi_volume", "ubi_compose", "ubi_change", "ubi_commands", "ubi_tool")
+HEADLINE = ("ubi_commands", "Headline", "Headline")
 # The calls that compute what the headline speaks of, by their files.
 CALLS = (
     ("ubi_volume", "attached", "attach"),

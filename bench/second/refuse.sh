@@ -58,6 +58,6 @@ refuse_each ubi_tests tests::change::memory::plans_all_or_runs_out_of_memory || 
 refuse_each ubi_tests tests::config::sections::gives_the_sections_or_runs_out_of_memory || wrong=1
 refuse_each ubi_tests tests::compose::memory::reads_all_or_runs_out_of_memory || wrong=1
 refuse_each ubi_tests tests::compose::memory::builds_all_or_runs_out_of_memory || wrong=1
-refuse_each ubi_tool tests::memory::tells_all_or_runs_out_of_memory || wrong=1
-refuse_each ubi_tool tests::memory::runs_words_or_out_of_memory || wrong=1
+refuse_each ubi_command_tests tests::memory::tells_all_or_runs_out_of_memory || wrong=1
+refuse_each ubi_command_tests tests::memory::runs_words_or_out_of_memory || wrong=1
 exit $wrong

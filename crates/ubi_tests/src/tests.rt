@@ -3,6 +3,7 @@ mod compose;
 mod config;
 mod headers;
 mod media;
+mod probes;
 mod records;
 mod scan;
 mod table;

@@ -1,60 +1,18 @@
 //! The command `ubi_tool`: it reads its words and files, runs one command and prints what that answers.
 //!
-//! `main` and the two functions below it only reach the terminal. The command itself is `commands::run_words`, over files,
-//! and each of its commands is a function over bytes.
+//! It only reaches the terminal. The command itself is `ubi_commands::run_words`, over files.
 #![tactic(auto)]
 
 ghost use Rattle.std.specs.IoError.{error_kind};
 ghost use Rattle.std.specs.Prelude.{◌≡◌, ◌≢◌, Err, alloc_error};
-ghost use Rattle.ubi_tool.specs.Printed.{IsReported};
+ghost use Rattle.ubi_commands.specs.Printed.{IsReported};
 
-mod build;
-mod change;
-mod check;
-mod command_line;
-mod commands;
-mod compose;
-mod disk;
-mod extract;
-mod file_row;
-mod folder;
-mod gathering;
-mod geometry;
-mod host;
-mod image_file;
-mod image_source;
-mod late_file;
-mod laws;
-mod lines;
-mod list;
-mod normalise;
-mod numbers;
-mod open_image;
-mod outcome;
-mod output_file;
-mod plan;
-mod printing;
-mod progress;
-mod read;
-mod readers;
-mod rename;
-mod same;
-mod show;
-mod spec_file;
-mod unpack;
-mod volume_key;
-mod writers;
-
-use host::Host;
-use outcome::WRONG_WORDS;
 use std::alloc::AllocError;
 use std::io::{ErrorKind, IsTerminal, Write};
 use std::process::ExitCode;
 use std::rt::Env;
 use std::{env, io};
-
-#[cfg(test)]
-mod tests;
+use ubi_commands::{Host, WRONG_WORDS, report, run_words};
 
 fn main(rt: HostRuntime) -> ExitCode {
     let mut output = io::writer(&rt);
@@ -62,8 +20,8 @@ fn main(rt: HostRuntime) -> ExitCode {
         Ok(words) => {
             let is_watched = rt.stderr().is_terminal();
             let mut disk = Host::new(&rt);
-            let answer = commands::run_words(&mut disk, rt.alloc(), words.as_slice(), is_watched);
-            printing::report(&rt, &mut output, &answer)
+            let answer = run_words(&mut disk, rt.alloc(), words.as_slice(), is_watched);
+            report(&rt, &mut output, &answer)
         }
         Err(error) => unread_words(&rt, &mut output, &error),
     };
@@ -86,7 +44,7 @@ fn unread_words<R: Eprint, W: Write>(rt: &R, writer: &mut W, error: &io::Error) 
     ensures words { error_kind error.now ≢ ErrorKind.OutOfMemory → result ≡ 2 }
 {
     if error.kind() == ErrorKind::OutOfMemory {
-        return printing::report(rt, writer, &Err(AllocError));
+        return report(rt, writer, &Err(AllocError));
     }
     let _ = rt.eprintln("error: the words aren't text");
     WRONG_WORDS

@@ -169,6 +169,26 @@ pub const GOOD: Peb = Peb(Ec::Is(NEW), Some(COPY_OF_37), Data::Filled(0x37, 64))
 
 pub const BAD: Peb = Peb(Ec::Is(NEW), Some(WRONG_COPY), Data::Filled(0x39, 64));
 
+/// Logical eraseblock 2 with the last sequence number.
+pub const LAST: Peb = Peb(
+    Ec::Is(ZERO),
+    Some(VidHeader {
+        sqnum: 0xFFFF_FFFF_FFFF_FFFF,
+        ..LEB_2
+    }),
+    Data::Filled(0x43, 384),
+);
+
+/// The same with the one before.
+pub const NEXT_TO_LAST: Peb = Peb(
+    Ec::Is(ZERO),
+    Some(VidHeader {
+        sqnum: 0xFFFF_FFFF_FFFF_FFFE,
+        ..LEB_2
+    }),
+    Data::Filled(0x43, 384),
+);
+
 /// The bytes of an erase-counter header whose padding isn't zero.
 fn padded(geometry: &Geometry, header: &EcHeader) -> [u8; 64] {
     let mut bytes = write_ec(geometry, header);
@@ -400,20 +420,48 @@ pub struct Case<'a> {
     pub turn: usize,
 }
 
-/// Asserts what a change to new bytes is planned as, what each cut of the plan reads, and that it keeps the image sequence
-/// number. Gives the image at the end.
-pub fn assert_change(
-    rt: &impl Abort,
-    alloc: Global,
-    case: &Case<'_>,
-    new: &[u8],
-) -> Result<Vec<u8>, Fail> {
-    let geometry = case.sizes.geometry()?;
-    let image = image_of(alloc, &geometry, case.pebs)?;
-    assert_plan(rt, alloc, case, image, new, usize::MAX)
+/// A change, and the new bytes, each so many times.
+pub struct Change {
+    pub case: Case<'static>,
+    pub new: &'static [(u8, usize)],
 }
 
-/// The same of an image, for so many steps. Gives what these leave.
+/// Asserts of each change what it is planned as, what each cut of the plan reads, and that it keeps the image sequence number.
+pub fn assert_changes(rt: &impl Abort, alloc: Global, changes: &[Change]) -> Result<(), Fail> {
+    for change in changes {
+        let geometry = change.case.sizes.geometry()?;
+        let image = image_of(alloc, &geometry, change.case.pebs)?;
+        let mut new = Vec::new(alloc);
+        for (byte, count) in change.new {
+            new.resize(new.len().saturating_add(*count), *byte)?;
+        }
+        assert_plan(rt, alloc, &change.case, image, new.as_slice(), usize::MAX)?;
+    }
+    Ok(())
+}
+
+/// What all steps of a change of an image leave.
+pub fn changed(
+    alloc: Global,
+    geometry: &Geometry,
+    image: Vec<u8>,
+    lnum: u32,
+    new: &[u8],
+) -> Result<Vec<u8>, Fail> {
+    let mut image = image;
+    let Ok(steps) = planned(alloc, geometry, image.as_slice(), lnum, new) else {
+        return Err("no plan".into());
+    };
+    for step in steps.as_slice() {
+        if step_fits(geometry, image.as_slice(), step) {
+            apply(geometry, image.as_mut_slice(), step);
+        }
+    }
+    Ok(image)
+}
+
+/// Asserts what a change of an image to new bytes is planned as, what each cut of the plan reads, and that it keeps the image
+/// sequence number, for so many steps. Gives what these leave.
 pub fn assert_plan(
     rt: &impl Abort,
     alloc: Global,

@@ -2,9 +2,10 @@
 
 use super::images::{
     A, ALIGNED_FIRST, ALIGNED_SECOND, B, BAD, C, CHECK_OF_62, CHECK_OF_128, CHECK_OF_256,
-    CHECK_OF_2048, CHECK_OF_FF, CHECK_OF_HALF, COPY, COPY_OF_1, Case, Data, ERASED, Ec, FIRST,
-    FREE, GOOD, INSIDE, LARGE, LARGE_SHARED, NEW, NEW_FIRST, NEW_SECOND, ODD, ONE, ORIGINAL, Peb,
-    SECOND, SHARED, SMALL, Want, ZERO, assert_change, assert_plan, attached, image_of, text,
+    CHECK_OF_2048, CHECK_OF_FF, CHECK_OF_HALF, COPY, COPY_OF_1, Case, Change, Data, ERASED, Ec,
+    FIRST, FREE, GOOD, INSIDE, LARGE, LARGE_SHARED, NEW, NEW_FIRST, NEW_SECOND, ODD, ONE, ORIGINAL,
+    Peb, SECOND, SHARED, SMALL, Want, ZERO, assert_changes, assert_plan, attached, changed,
+    image_of,
 };
 use crate::tests::headers::{LEB_1, PLAIN};
 use std::test::Fail;
@@ -21,27 +22,6 @@ const TWO_PAGES: VidHeader = VidHeader {
     ..COPY_OF_1
 };
 
-#[test]
-fn changes_two_pages(rt: HostRuntime) -> Result<(), Fail> {
-    let alloc = rt.alloc();
-    let case = Case {
-        sizes: SMALL,
-        pebs: &BASE,
-        lnum: 1,
-        old: (0x42, 384),
-        steps: &[
-            Want::Header(5, 1, TWO_PAGES),
-            Want::Text(5, 2, 0x61),
-            Want::Text(5, 3, 0x61),
-            Want::Erase(3),
-            Want::Count(3, ONE),
-        ],
-        turn: 3,
-    };
-    assert_change(&rt, alloc, &case, &[0x61; 128])?;
-    Ok(())
-}
-
 /// The header of a copy of a page of 2,048 bytes.
 const LARGE_PAGE: VidHeader = VidHeader {
     data_size: 2048,
@@ -49,100 +29,17 @@ const LARGE_PAGE: VidHeader = VidHeader {
     ..COPY_OF_1
 };
 
-/// Changes of eraseblocks of the size that chips have.
-static LARGE_CASES: [Case<'static>; 2] = [
-    Case {
-        sizes: LARGE,
-        pebs: &BASE,
-        lnum: 1,
-        old: (0x42, 384),
-        steps: &[
-            Want::Header(5, 1, LARGE_PAGE),
-            Want::Text(5, 2, 0x61),
-            Want::Erase(3),
-            Want::Count(3, ONE),
-        ],
-        turn: 2,
-    },
-    Case {
-        sizes: LARGE_SHARED,
-        pebs: &BASE,
-        lnum: 1,
-        old: (0x42, 384),
-        steps: &[
-            Want::Headers(5, Ec::Is(ZERO), LARGE_PAGE),
-            Want::Text(5, 1, 0x61),
-            Want::Erase(3),
-            Want::Count(3, ONE),
-        ],
-        turn: 2,
-    },
-];
-
-#[test]
-fn changes_eraseblocks_of_128_kib(rt: HostRuntime) -> Result<(), Fail> {
-    let alloc = rt.alloc();
-    let new = text(alloc, 0x61, 2048)?;
-    for case in &LARGE_CASES {
-        assert_change(&rt, alloc, case, new.as_slice())?;
-    }
-    Ok(())
-}
-
 /// The header of a copy whose second page is blank.
 const HALF: VidHeader = VidHeader {
     data_crc: CHECK_OF_HALF,
     ..TWO_PAGES
 };
 
-#[test]
-fn turns_with_the_last_page_that_is_not_blank(rt: HostRuntime) -> Result<(), Fail> {
-    let alloc = rt.alloc();
-    let case = Case {
-        sizes: SMALL,
-        pebs: &BASE,
-        lnum: 1,
-        old: (0x42, 384),
-        steps: &[
-            Want::Header(5, 1, HALF),
-            Want::Text(5, 2, 0x61),
-            Want::Text(5, 3, 0xFF),
-            Want::Erase(3),
-            Want::Count(3, ONE),
-        ],
-        turn: 2,
-    };
-    let mut new = text(alloc, 0x61, 64)?;
-    new.resize(128, 0xFF)?;
-    assert_change(&rt, alloc, &case, new.as_slice())?;
-    Ok(())
-}
-
 /// The header of a copy of one blank page.
 const BLANK: VidHeader = VidHeader {
     data_crc: CHECK_OF_FF,
     ..COPY_OF_1
 };
-
-#[test]
-fn turns_with_the_header_of_a_blank_text(rt: HostRuntime) -> Result<(), Fail> {
-    let alloc = rt.alloc();
-    let case = Case {
-        sizes: SMALL,
-        pebs: &BASE,
-        lnum: 1,
-        old: (0x42, 384),
-        steps: &[
-            Want::Header(5, 1, BLANK),
-            Want::Text(5, 2, 0xFF),
-            Want::Erase(3),
-            Want::Count(3, ONE),
-        ],
-        turn: 1,
-    };
-    assert_change(&rt, alloc, &case, &[0xFF; 64])?;
-    Ok(())
-}
 
 /// An eraseblock whose counter can't grow, with logical eraseblock 1.
 const WORN: Peb = Peb(
@@ -154,74 +51,8 @@ const WORN: Peb = Peb(
     Data::Filled(0x42, 384),
 );
 
-#[test]
-fn leaves_a_worn_winner(rt: HostRuntime) -> Result<(), Fail> {
-    let alloc = rt.alloc();
-    let case = Case {
-        sizes: SMALL,
-        pebs: &[FIRST, SECOND, A, WORN, C, FREE],
-        lnum: 1,
-        old: (0x42, 384),
-        steps: &[
-            Want::Header(5, 1, TWO_PAGES),
-            Want::Text(5, 2, 0x61),
-            Want::Text(5, 3, 0x61),
-        ],
-        turn: 3,
-    };
-    let image = assert_change(&rt, alloc, &case, &[0x61; 128])?;
-    let left = attached(alloc, &SMALL.geometry()?, image.as_slice())?;
-    assert!(rt; left.states().len() == 6);
-    assert_eq!(rt; left.state(3), BlockState::Stale);
-    Ok(())
-}
-
-#[test]
-fn makes_a_blank_eraseblock_ready(rt: HostRuntime) -> Result<(), Fail> {
-    let alloc = rt.alloc();
-    let case = Case {
-        sizes: SMALL,
-        pebs: &[FIRST, SECOND, A, B, C, ERASED],
-        lnum: 1,
-        old: (0x42, 384),
-        steps: &[
-            Want::Erase(5),
-            Want::Count(5, ZERO),
-            Want::Header(5, 1, COPY_OF_1),
-            Want::Text(5, 2, 0x61),
-            Want::Erase(3),
-            Want::Count(3, ONE),
-        ],
-        turn: 4,
-    };
-    assert_change(&rt, alloc, &case, &[0x61; 64])?;
-    Ok(())
-}
-
 /// The header of a copy that is newer than a bad one.
 const TENTH: VidHeader = VidHeader { sqnum: 10, ..COPY };
-
-#[test]
-fn takes_a_stale_member(rt: HostRuntime) -> Result<(), Fail> {
-    let alloc = rt.alloc();
-    let case = Case {
-        sizes: SMALL,
-        pebs: &[NEW_FIRST, NEW_SECOND, ORIGINAL, GOOD, BAD],
-        lnum: 0,
-        old: (0x37, 64),
-        steps: &[
-            Want::Erase(2),
-            Want::Count(2, EcHeader { counter: 5, ..NEW }),
-            Want::Header(2, 1, TENTH),
-            Want::Text(2, 2, 0x61),
-            Want::Erase(3),
-            Want::Count(3, EcHeader { counter: 1, ..NEW }),
-        ],
-        turn: 4,
-    };
-    assert_change(&rt, alloc, &case, &[0x61; 64])?;
-    Ok(())
-}
 
 /// The header of a copy of one page of 256 bytes.
 const LONG_PAGE: VidHeader = VidHeader {
@@ -233,90 +64,8 @@ const LONG_PAGE: VidHeader = VidHeader {
 /// Logical eraseblock 0, and a free eraseblock, in no image.
 const LONG: Peb = Peb(Ec::Is(NEW), Some(PLAIN), Data::Filled(0x41, 300));
 
-const NEW_FREE: Peb = Peb(Ec::Is(NEW), None, Data::Filled(0xFF, 0));
-
-#[test]
-fn writes_both_headers_in_one_page(rt: HostRuntime) -> Result<(), Fail> {
-    let alloc = rt.alloc();
-    let case = Case {
-        sizes: SHARED,
-        pebs: &[NEW_FIRST, NEW_SECOND, LONG, NEW_FREE],
-        lnum: 0,
-        old: (0x41, 300),
-        steps: &[
-            Want::Headers(3, Ec::Is(NEW), LONG_PAGE),
-            Want::Text(3, 1, 0x61),
-            Want::Erase(2),
-            Want::Count(2, EcHeader { counter: 1, ..NEW }),
-        ],
-        turn: 2,
-    };
-    assert_change(&rt, alloc, &case, &[0x61; 256])?;
-    Ok(())
-}
-
 /// A clean eraseblock whose erase-counter header has padding that isn't zero.
 const PADDED_FREE: Peb = Peb(Ec::Padded(NEW), None, Data::Filled(0xFF, 0));
-
-#[test]
-fn keeps_the_padding_of_a_header(rt: HostRuntime) -> Result<(), Fail> {
-    let alloc = rt.alloc();
-    let case = Case {
-        sizes: SHARED,
-        pebs: &[NEW_FIRST, NEW_SECOND, LONG, PADDED_FREE],
-        lnum: 0,
-        old: (0x41, 300),
-        steps: &[
-            Want::Headers(3, Ec::Padded(NEW), LONG_PAGE),
-            Want::Text(3, 1, 0x61),
-            Want::Erase(2),
-            Want::Count(2, EcHeader { counter: 1, ..NEW }),
-        ],
-        turn: 2,
-    };
-    assert_change(&rt, alloc, &case, &[0x61; 256])?;
-    Ok(())
-}
-
-#[test]
-fn writes_a_header_inside_the_second_page(rt: HostRuntime) -> Result<(), Fail> {
-    let alloc = rt.alloc();
-    let case = Case {
-        sizes: INSIDE,
-        pebs: &[NEW_FIRST, NEW_SECOND, LONG, NEW_FREE],
-        lnum: 0,
-        old: (0x41, 300),
-        steps: &[
-            Want::Header(3, 1, LONG_PAGE),
-            Want::Text(3, 2, 0x61),
-            Want::Erase(2),
-            Want::Count(2, EcHeader { counter: 1, ..NEW }),
-        ],
-        turn: 2,
-    };
-    assert_change(&rt, alloc, &case, &[0x61; 256])?;
-    Ok(())
-}
-
-#[test]
-fn changes_an_eraseblock_of_nine_pages(rt: HostRuntime) -> Result<(), Fail> {
-    let alloc = rt.alloc();
-    let case = Case {
-        sizes: ODD,
-        pebs: &BASE,
-        lnum: 1,
-        old: (0x42, 384),
-        steps: &[
-            Want::Header(5, 1, COPY_OF_1),
-            Want::Text(5, 2, 0x61),
-            Want::Erase(3),
-            Want::Count(3, ONE),
-        ],
-        turn: 2,
-    };
-    assert_change(&rt, alloc, &case, &[0x61; 64])?;
-    Ok(())
-}
 
 /// Logical eraseblock 0 of an aligned volume, and the header of its copy.
 const ALIGNED_A: Peb = Peb(
@@ -328,37 +77,267 @@ const ALIGNED_A: Peb = Peb(
     Data::Filled(0x41, 256),
 );
 
-const ALIGNED_COPY: VidHeader = VidHeader {
-    data_pad: 128,
-    ..COPY
-};
-
-#[test]
-fn keeps_the_padding_of_a_volume(rt: HostRuntime) -> Result<(), Fail> {
-    let alloc = rt.alloc();
-    let case = Case {
-        sizes: SMALL,
-        pebs: &[ALIGNED_FIRST, ALIGNED_SECOND, ALIGNED_A, FREE],
-        lnum: 0,
-        old: (0x41, 256),
-        steps: &[
-            Want::Header(3, 1, ALIGNED_COPY),
-            Want::Text(3, 2, 0x61),
-            Want::Erase(2),
-            Want::Count(2, ONE),
-        ],
-        turn: 2,
-    };
-    assert_change(&rt, alloc, &case, &[0x61; 64])?;
-    Ok(())
-}
-
 /// The header of a copy of another text, after a copy was torn.
 const SECOND_COPY: VidHeader = VidHeader {
     data_crc: CHECK_OF_62,
     sqnum: 2,
     ..COPY_OF_1
 };
+
+/// Changes of logical eraseblocks that have a winner.
+static CHANGES: [Change; 13] = [
+    // Two pages.
+    Change {
+        case: Case {
+            sizes: SMALL,
+            pebs: &BASE,
+            lnum: 1,
+            old: (0x42, 384),
+            steps: &[
+                Want::Header(5, 1, TWO_PAGES),
+                Want::Text(5, 2, 0x61),
+                Want::Text(5, 3, 0x61),
+                Want::Erase(3),
+                Want::Count(3, ONE),
+            ],
+            turn: 3,
+        },
+        new: &[(0x61, 128)],
+    },
+    // A second page that is blank: the turn comes with the page before.
+    Change {
+        case: Case {
+            sizes: SMALL,
+            pebs: &BASE,
+            lnum: 1,
+            old: (0x42, 384),
+            steps: &[
+                Want::Header(5, 1, HALF),
+                Want::Text(5, 2, 0x61),
+                Want::Text(5, 3, 0xFF),
+                Want::Erase(3),
+                Want::Count(3, ONE),
+            ],
+            turn: 2,
+        },
+        new: &[(0x61, 64), (0xFF, 64)],
+    },
+    // A blank text: the turn comes with the header.
+    Change {
+        case: Case {
+            sizes: SMALL,
+            pebs: &BASE,
+            lnum: 1,
+            old: (0x42, 384),
+            steps: &[
+                Want::Header(5, 1, BLANK),
+                Want::Text(5, 2, 0xFF),
+                Want::Erase(3),
+                Want::Count(3, ONE),
+            ],
+            turn: 1,
+        },
+        new: &[(0xFF, 64)],
+    },
+    // A winner whose counter can't grow: it stays.
+    Change {
+        case: Case {
+            sizes: SMALL,
+            pebs: &[FIRST, SECOND, A, WORN, C, FREE],
+            lnum: 1,
+            old: (0x42, 384),
+            steps: &[
+                Want::Header(5, 1, TWO_PAGES),
+                Want::Text(5, 2, 0x61),
+                Want::Text(5, 3, 0x61),
+            ],
+            turn: 3,
+        },
+        new: &[(0x61, 128)],
+    },
+    // A blank eraseblock that is made ready.
+    Change {
+        case: Case {
+            sizes: SMALL,
+            pebs: &[FIRST, SECOND, A, B, C, ERASED],
+            lnum: 1,
+            old: (0x42, 384),
+            steps: &[
+                Want::Erase(5),
+                Want::Count(5, ZERO),
+                Want::Header(5, 1, COPY_OF_1),
+                Want::Text(5, 2, 0x61),
+                Want::Erase(3),
+                Want::Count(3, ONE),
+            ],
+            turn: 4,
+        },
+        new: &[(0x61, 64)],
+    },
+    // A stale member that is taken.
+    Change {
+        case: Case {
+            sizes: SMALL,
+            pebs: &[NEW_FIRST, NEW_SECOND, ORIGINAL, GOOD, BAD],
+            lnum: 0,
+            old: (0x37, 64),
+            steps: &[
+                Want::Erase(2),
+                Want::Count(2, EcHeader { counter: 5, ..NEW }),
+                Want::Header(2, 1, TENTH),
+                Want::Text(2, 2, 0x61),
+                Want::Erase(3),
+                Want::Count(3, EcHeader { counter: 1, ..NEW }),
+            ],
+            turn: 4,
+        },
+        new: &[(0x61, 64)],
+    },
+    // Both headers in one page.
+    Change {
+        case: Case {
+            sizes: SHARED,
+            pebs: &[NEW_FIRST, NEW_SECOND, LONG, NEW_FREE],
+            lnum: 0,
+            old: (0x41, 300),
+            steps: &[
+                Want::Headers(3, Ec::Is(NEW), LONG_PAGE),
+                Want::Text(3, 1, 0x61),
+                Want::Erase(2),
+                Want::Count(2, EcHeader { counter: 1, ..NEW }),
+            ],
+            turn: 2,
+        },
+        new: &[(0x61, 256)],
+    },
+    // The padding of a header that is kept.
+    Change {
+        case: Case {
+            sizes: SHARED,
+            pebs: &[NEW_FIRST, NEW_SECOND, LONG, PADDED_FREE],
+            lnum: 0,
+            old: (0x41, 300),
+            steps: &[
+                Want::Headers(3, Ec::Padded(NEW), LONG_PAGE),
+                Want::Text(3, 1, 0x61),
+                Want::Erase(2),
+                Want::Count(2, EcHeader { counter: 1, ..NEW }),
+            ],
+            turn: 2,
+        },
+        new: &[(0x61, 256)],
+    },
+    // A header inside the second page.
+    Change {
+        case: Case {
+            sizes: INSIDE,
+            pebs: &[NEW_FIRST, NEW_SECOND, LONG, NEW_FREE],
+            lnum: 0,
+            old: (0x41, 300),
+            steps: &[
+                Want::Header(3, 1, LONG_PAGE),
+                Want::Text(3, 2, 0x61),
+                Want::Erase(2),
+                Want::Count(2, EcHeader { counter: 1, ..NEW }),
+            ],
+            turn: 2,
+        },
+        new: &[(0x61, 256)],
+    },
+    // An eraseblock of nine pages.
+    Change {
+        case: Case {
+            sizes: ODD,
+            pebs: &BASE,
+            lnum: 1,
+            old: (0x42, 384),
+            steps: &[
+                Want::Header(5, 1, COPY_OF_1),
+                Want::Text(5, 2, 0x61),
+                Want::Erase(3),
+                Want::Count(3, ONE),
+            ],
+            turn: 2,
+        },
+        new: &[(0x61, 64)],
+    },
+    // The padding of a volume.
+    Change {
+        case: Case {
+            sizes: SMALL,
+            pebs: &[ALIGNED_FIRST, ALIGNED_SECOND, ALIGNED_A, FREE],
+            lnum: 0,
+            old: (0x41, 256),
+            steps: &[
+                Want::Header(3, 1, ALIGNED_COPY),
+                Want::Text(3, 2, 0x61),
+                Want::Erase(2),
+                Want::Count(2, ONE),
+            ],
+            turn: 2,
+        },
+        new: &[(0x61, 64)],
+    },
+    // A page of 2,048 bytes.
+    Change {
+        case: Case {
+            sizes: LARGE,
+            pebs: &BASE,
+            lnum: 1,
+            old: (0x42, 384),
+            steps: &[
+                Want::Header(5, 1, LARGE_PAGE),
+                Want::Text(5, 2, 0x61),
+                Want::Erase(3),
+                Want::Count(3, ONE),
+            ],
+            turn: 2,
+        },
+        new: &[(0x61, 2048)],
+    },
+    // The same where both headers are in the first page.
+    Change {
+        case: Case {
+            sizes: LARGE_SHARED,
+            pebs: &BASE,
+            lnum: 1,
+            old: (0x42, 384),
+            steps: &[
+                Want::Headers(5, Ec::Is(ZERO), LARGE_PAGE),
+                Want::Text(5, 1, 0x61),
+                Want::Erase(3),
+                Want::Count(3, ONE),
+            ],
+            turn: 2,
+        },
+        new: &[(0x61, 2048)],
+    },
+];
+
+/// Each change is planned as it is written down, its cuts read the old or the new, and no step changes the image
+/// sequence number.
+#[test]
+fn changes_what_has_a_winner(rt: HostRuntime) -> Result<(), Fail> {
+    assert_changes(&rt, rt.alloc(), &CHANGES)
+}
+
+/// A winner whose counter can't grow is stale once its logical eraseblock was changed.
+#[test]
+fn leaves_a_worn_winner(rt: HostRuntime) -> Result<(), Fail> {
+    let alloc = rt.alloc();
+    let pebs = [FIRST, SECOND, A, WORN, C, FREE];
+    let geometry = SMALL.geometry()?;
+    let image = changed(
+        alloc,
+        &geometry,
+        image_of(alloc, &geometry, &pebs)?,
+        1,
+        &[0x61; 128],
+    )?;
+    let left = attached(alloc, &geometry, image.as_slice())?;
+    assert!(rt; left.states().get(3) == Some(&BlockState::Stale));
+    Ok(())
+}
 
 #[test]
 fn changes_what_a_cut_left(rt: HostRuntime) -> Result<(), Fail> {

@@ -1,8 +1,9 @@
 //! Renames of a volume.
 
 use super::images::{
-    A, B, C, Data, ERASED, Ec, FIRST, FREE, INSIDE, LARGE, LARGE_SHARED, NEW, NEW_FIRST,
-    NEW_SECOND, ODD, ONE_PAGE, Peb, SECOND, SHARED, SMALL, Sizes, ZERO, attached, image_of,
+    A, B, C, Data, ERASED, Ec, FIRST, FREE, INSIDE, LARGE, LARGE_SHARED, LAST, NEW, NEW_FIRST,
+    NEW_SECOND, NEXT_TO_LAST, ODD, ONE_PAGE, Peb, SECOND, SHARED, SMALL, Sizes, ZERO, attached,
+    image_of,
 };
 use crate::tests::headers::{LEB_2, TABLE_0, TABLE_1};
 use crate::tests::records::{ROOT, Slot};
@@ -402,26 +403,6 @@ fn renames_at_the_turn(rt: HostRuntime) -> Result<(), Fail> {
     Ok(())
 }
 
-/// A logical eraseblock with the last sequence number but one.
-const LATE: Peb = Peb(
-    Ec::Is(ZERO),
-    Some(VidHeader {
-        sqnum: 0xFFFF_FFFF_FFFF_FFFE,
-        ..LEB_2
-    }),
-    Data::Filled(0x43, 384),
-);
-
-/// The same with the last one.
-const LAST: Peb = Peb(
-    Ec::Is(ZERO),
-    Some(VidHeader {
-        sqnum: 0xFFFF_FFFF_FFFF_FFFF,
-        ..LEB_2
-    }),
-    Data::Filled(0x43, 384),
-);
-
 /// A record whose check was chosen: 20 zero bytes, this check and 40 bytes 0xFF have the check of 64 bytes 0xFF, whatever
 /// comes before. So the last of the six pages of a table with it in slot 1 can't be told from a blank one.
 const WEAK: Slot = Slot {
@@ -515,7 +496,7 @@ static REFUSED: [(&[Peb], u32, &[u8], RenameRefusal); 20] = [
         RenameRefusal::WeakCheck(5),
     ),
     (
-        &[FIRST, SECOND, A, B, LATE],
+        &[FIRST, SECOND, A, B, NEXT_TO_LAST],
         0,
         b"data",
         RenameRefusal::Exhausted,

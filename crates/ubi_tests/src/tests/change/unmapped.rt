@@ -1,7 +1,8 @@
 //! Changes of logical eraseblocks that have no winner.
 
 use super::images::{
-    A, B, C, COPY, Case, Data, Ec, FIRST, FREE, ONE, Peb, SECOND, SMALL, Want, ZERO, assert_change,
+    A, B, C, COPY, Case, Change, Data, Ec, FIRST, FREE, ONE, Peb, SECOND, SMALL, Want, ZERO,
+    assert_changes,
 };
 use crate::tests::headers::PLAIN;
 use std::test::Fail;
@@ -24,27 +25,6 @@ const COPY_7: VidHeader = VidHeader {
 /// Three logical eraseblocks, and two free eraseblocks.
 const BASE: [Peb; 7] = [FIRST, SECOND, A, B, C, FREE, FREE];
 
-#[test]
-fn mounts_a_blank_one_first(rt: HostRuntime) -> Result<(), Fail> {
-    let alloc = rt.alloc();
-    let case = Case {
-        sizes: SMALL,
-        pebs: &BASE,
-        lnum: 7,
-        old: (0xFF, 384),
-        steps: &[
-            Want::Header(5, 1, BLANK_7),
-            Want::Header(6, 1, COPY_7),
-            Want::Text(6, 2, 0x61),
-            Want::Erase(5),
-            Want::Count(5, ONE),
-        ],
-        turn: 3,
-    };
-    assert_change(&rt, alloc, &case, &[0x61; 64])?;
-    Ok(())
-}
-
 /// Members of logical eraseblocks that the volume doesn't reserve: one whose counter has one erase left, and another.
 const WORN_ORPHAN: Peb = Peb(
     Ec::Is(EcHeader {
@@ -61,29 +41,55 @@ const ORPHAN: Peb = Peb(
     Data::Filled(0x44, 384),
 );
 
+/// The last counter.
+const WORN: EcHeader = EcHeader {
+    counter: 0x7FFF_FFFF,
+    ..ZERO
+};
+
+/// Changes of logical eraseblocks that have no winner.
+static CHANGES: [Change; 2] = [
+    // A blank one is mapped first.
+    Change {
+        case: Case {
+            sizes: SMALL,
+            pebs: &BASE,
+            lnum: 7,
+            old: (0xFF, 384),
+            steps: &[
+                Want::Header(5, 1, BLANK_7),
+                Want::Header(6, 1, COPY_7),
+                Want::Text(6, 2, 0x61),
+                Want::Erase(5),
+                Want::Count(5, ONE),
+            ],
+            turn: 3,
+        },
+        new: &[(0x61, 64)],
+    },
+    // A blank one whose counter can't grow any more: it stays.
+    Change {
+        case: Case {
+            sizes: SMALL,
+            pebs: &[FIRST, SECOND, A, B, C, WORN_ORPHAN, ORPHAN],
+            lnum: 7,
+            old: (0xFF, 384),
+            steps: &[
+                Want::Erase(5),
+                Want::Count(5, WORN),
+                Want::Header(5, 1, BLANK_7),
+                Want::Erase(6),
+                Want::Count(6, ONE),
+                Want::Header(6, 1, COPY_7),
+                Want::Text(6, 2, 0x61),
+            ],
+            turn: 7,
+        },
+        new: &[(0x61, 64)],
+    },
+];
+
 #[test]
-fn leaves_a_worn_blank_one(rt: HostRuntime) -> Result<(), Fail> {
-    let alloc = rt.alloc();
-    let worn = EcHeader {
-        counter: 0x7FFF_FFFF,
-        ..ZERO
-    };
-    let case = Case {
-        sizes: SMALL,
-        pebs: &[FIRST, SECOND, A, B, C, WORN_ORPHAN, ORPHAN],
-        lnum: 7,
-        old: (0xFF, 384),
-        steps: &[
-            Want::Erase(5),
-            Want::Count(5, worn),
-            Want::Header(5, 1, BLANK_7),
-            Want::Erase(6),
-            Want::Count(6, ONE),
-            Want::Header(6, 1, COPY_7),
-            Want::Text(6, 2, 0x61),
-        ],
-        turn: 7,
-    };
-    assert_change(&rt, alloc, &case, &[0x61; 64])?;
-    Ok(())
+fn changes_what_has_no_winner(rt: HostRuntime) -> Result<(), Fail> {
+    assert_changes(&rt, rt.alloc(), &CHANGES)
 }

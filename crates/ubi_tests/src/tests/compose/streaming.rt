@@ -1,22 +1,12 @@
 //! Normalising sources.
 
 use super::images::{Image, small};
+use crate::tests::probes::WAYS;
 use std::alloc::Global;
-use std::io::ErrorKind;
 use std::test::Fail;
 use ubi_compose::normalise_to;
 use ubi_scan::{MemorySource, ProbeSource, StreamError};
 use ubi_volume::{Failure, ProbeWriter};
-
-/// The ways in which a write fails, with how many bytes are taken at once.
-static WAYS: [(Failure, usize); 6] = [
-    (Failure::Nothing, 1),
-    (Failure::Error(ErrorKind::Interrupted), 1),
-    (Failure::Error(ErrorKind::Other), 1),
-    (Failure::Nothing, usize::MAX),
-    (Failure::Error(ErrorKind::Interrupted), usize::MAX),
-    (Failure::Error(ErrorKind::Other), usize::MAX),
-];
 
 /// Whether a writer that fails once it has so many bytes of a normal image received these, and their number is told.
 fn is_cut(

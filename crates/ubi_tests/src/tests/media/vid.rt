@@ -1,5 +1,6 @@
 //! Bytes and readings of volume-identifier headers.
 
+use crate::tests::headers::PLAIN;
 use std::test::Fail;
 use ubi_media::{Geometry, VidFault, VidHeader, VidRead, VolKind, read_vid, write_vid};
 
@@ -41,20 +42,6 @@ const LAST: Fields = Fields {
     ..BASE
 };
 
-/// What the first says.
-const HEADER: VidHeader = VidHeader {
-    kind: VolKind::Dynamic,
-    copy_flag: false,
-    compat: 0,
-    vol_id: 0,
-    lnum: 0,
-    data_size: 0,
-    used_ebs: 0,
-    data_pad: 0,
-    data_crc: 0,
-    sqnum: 0,
-};
-
 impl Fields {
     /// The bytes of the fields, with a check.
     fn bytes(self, check: u32) -> [u8; 64] {
@@ -83,7 +70,7 @@ static WRITTEN: [(&str, VidHeader, [u8; 64]); 3] = [
             compat: 5,
             vol_id: 0x7FFF_EFFF,
             lnum: 1,
-            ..HEADER
+            ..PLAIN
         },
         *b"UBI!\x01\x01\0\x05\
         \x7f\xff\xef\xff\0\0\0\x01\0\0\0\0\0\0\0\0\0\0\0\0\0\0\0\0\0\0\0\0\0\0\0\0\
@@ -97,7 +84,7 @@ static WRITTEN: [(&str, VidHeader, [u8; 64]); 3] = [
             data_size: 128,
             data_crc: 0x1122_3344,
             sqnum: 0x0102_0304_0506_0708,
-            ..HEADER
+            ..PLAIN
         },
         *b"UBI!\x01\x01\x01\0\
         \0\0\0\0\0\0\0\x02\0\0\0\0\0\0\0\x80\0\0\0\0\0\0\0\0\x11\x22\x33\x44\0\0\0\0\
@@ -114,7 +101,7 @@ static WRITTEN: [(&str, VidHeader, [u8; 64]); 3] = [
             data_pad: 128,
             data_crc: 0x00FF_FFFF,
             sqnum: 7,
-            ..HEADER
+            ..PLAIN
         },
         *b"UBI!\x01\x02\0\0\
         \0\0\0\x03\0\0\0\x01\0\0\0\0\0\0\0\x01\0\0\0\x02\0\0\0\x80\0\xff\xff\xff\0\0\0\0\
@@ -131,12 +118,12 @@ fn writes_headers(rt: HostRuntime) {
 
 /// Fields, a check, and what they are read as. The checks were worked out by another program.
 static READ: [(&str, Fields, u32, VidRead); 19] = [
-    ("a sound header", BASE, 0x73B1_AB57, VidRead::Valid(HEADER)),
+    ("a sound header", BASE, 0x73B1_AB57, VidRead::Valid(PLAIN)),
     (
         "another version",
         Fields { version: 9, ..BASE },
         0x9F19_35EF,
-        VidRead::Valid(HEADER),
+        VidRead::Valid(PLAIN),
     ),
     (
         "a padding below half",
@@ -147,7 +134,7 @@ static READ: [(&str, Fields, u32, VidRead); 19] = [
         0x9241_8BA8,
         VidRead::Valid(VidHeader {
             data_pad: 191,
-            ..HEADER
+            ..PLAIN
         }),
     ),
     (
@@ -242,7 +229,7 @@ static READ: [(&str, Fields, u32, VidRead); 19] = [
             used_ebs: 2,
             data_size: 383,
             lnum: 1,
-            ..HEADER
+            ..PLAIN
         }),
     ),
     (

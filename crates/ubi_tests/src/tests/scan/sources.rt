@@ -4,6 +4,7 @@ ghost use Rattle.std.specs.Prelude.{◌≡◌, ◌+◌, ◌≤◌, OnOk, length,
 
 use super::images::{found, geometry, image};
 use super::pebs::{ERASED, OLD, OLDER, Peb, RIGHT, WRONG_4, WRONG_6, WRONG_9};
+use crate::tests::probes::{Reads, has_reads};
 use std::alloc::Global;
 use std::fs;
 use std::test::Fail;
@@ -11,18 +12,6 @@ use ubi_media::Refusal;
 use ubi_scan::{
     BlockSource, FileSource, MemorySource, ProbeSource, Scan, SourceFault, StreamError, scan_from,
 };
-
-/// An eraseblock, how many reads begin in it, and how many of them in its data.
-type Reads = (u32, u64, u64);
-
-/// Whether so many reads began in the eraseblocks, and none went beyond one.
-fn has_reads(source: &ProbeSource<'_>, want: &[Reads]) -> bool {
-    let mut has = source.crossing() == 0;
-    for reads in want {
-        has = has && source.reads(reads.0) == reads.1 && source.data_reads(reads.0) == reads.2;
-    }
-    has
-}
 
 /// The winner of logical eraseblock 0 of volume 0.
 fn winner(answer: Result<Scan, StreamError>) -> Option<u32> {

@@ -1,6 +1,7 @@
 //! Tables of sources: what is read for them, and what fails.
 
 use super::images::{BOOT, Peb, Volumes, has_volumes, image, small};
+use crate::tests::probes::{Reads, has_reads};
 use crate::tests::records::{EMPTY, FLIPPED, OVERFULL, ROOT};
 use std::alloc::Global;
 use std::fs;
@@ -44,18 +45,6 @@ const TOO_LARGE: [Peb; 3] = [
     Peb::Copy(1, &[ROOT, EMPTY]),
     Peb::Member(0),
 ];
-
-/// An eraseblock, how many reads begin in it, and how many of them in its data.
-type Reads = (u32, u64, u64);
-
-/// Whether so many reads began in the eraseblocks, and none went beyond one.
-fn has_reads(source: &ProbeSource<'_>, want: &[Reads]) -> bool {
-    let mut has = source.crossing() == 0;
-    for reads in want {
-        has = has && source.reads(reads.0) == reads.1 && source.data_reads(reads.0) == reads.2;
-    }
-    has
-}
 
 /// Some eraseblocks, which read of them fails, if any does, the volumes of their table or why they have none then, and
 /// what is read.

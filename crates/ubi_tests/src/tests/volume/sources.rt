@@ -5,6 +5,7 @@ use super::pebs::{
     A, B, BASE, BEYOND_44, FIRST, FIRST_BOOT, FIRST_MARKED, KIND, NEWER_0, NEWER_1, Peb, SECOND,
     SECOND_BOOT, SECOND_MARKED, TEXT_0, TEXT_1,
 };
+use crate::tests::probes::{Reads, has_reads};
 use std::alloc::Global;
 use std::fs;
 use std::fs::Files;
@@ -37,18 +38,6 @@ fn has_next(places: &Places, want: &[Next]) -> bool {
     let mut has = true;
     for next in want {
         has = has && places.next_place(next.0, next.1) == next.2;
-    }
-    has
-}
-
-/// An eraseblock, how many reads begin in it, and how many of them in its data.
-type Reads = (u32, u64, u64);
-
-/// Whether so many reads began in the eraseblocks, and none went beyond one.
-fn has_reads(source: &ProbeSource<'_>, want: &[Reads]) -> bool {
-    let mut has = source.crossing() == 0;
-    for reads in want {
-        has = has && source.reads(reads.0) == reads.1 && source.data_reads(reads.0) == reads.2;
     }
     has
 }

@@ -4,21 +4,11 @@ use super::images::{BASE_TEXT, attached, put_runs};
 use super::pebs::{
     A, B, BASE, FIRST_BOOT, FIRST_MARKED, HOLED, Peb, SECOND_BOOT, SECOND_MARKED, TEXT_0, TEXT_1,
 };
+use crate::tests::probes::WAYS;
 use std::alloc::Global;
-use std::io::ErrorKind;
 use std::process::Abort;
 use std::test::Fail;
 use ubi_volume::{Failure, Meaning, ProbeWriter, ReadError, write_all, write_volume};
-
-/// The ways in which a write fails, with how many bytes are taken at once.
-static WAYS: [(Failure, usize); 6] = [
-    (Failure::Nothing, 1),
-    (Failure::Error(ErrorKind::Interrupted), 1),
-    (Failure::Error(ErrorKind::Other), 1),
-    (Failure::Nothing, usize::MAX),
-    (Failure::Error(ErrorKind::Interrupted), usize::MAX),
-    (Failure::Error(ErrorKind::Other), usize::MAX),
-];
 
 /// Some eraseblocks, what their volume 0 reads, as bytes that each stand so many times, and for how many bytes writers
 /// have room.

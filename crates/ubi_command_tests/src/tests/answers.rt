@@ -1,0 +1,155 @@
+//! What commands answer, over bytes and over files, compared with what they are to answer.
+
+use super::contents::Contents;
+use super::fake::{Broken, FakeFiles};
+use std::alloc::{AllocError, Global};
+use std::cell::RefCell;
+use std::fs::Files;
+use std::os::unix::fs::FileExt;
+use std::process::Abort;
+use std::test::Fail;
+use ubi_commands::{Disk, Host, Outcome, run_normalise, run_words};
+use ubi_media::{Geometry, GeometryError};
+use ubi_scan::MemorySource;
+use ubi_volume::{Failure, ProbeWriter};
+
+/// The geometry of small eraseblocks.
+pub fn small() -> Result<Geometry, GeometryError> {
+    Geometry::new(512, 64, 64, 128, 32)
+}
+
+/// Whether a command answered a text and an exit status.
+pub fn is_answer(outcome: &Outcome, (text, status): (&str, u8)) -> bool {
+    outcome.text.as_slice() == text.as_bytes() && outcome.status == status
+}
+
+/// Whether so is answered of the bytes of an image that is normalised, and a writer with ample room receives what it
+/// should.
+pub fn is_normal(alloc: Global, image: &[u8], line: (&str, u8), want: &[u8]) -> Result<bool, Fail> {
+    let mut source = MemorySource::new(image);
+    let mut writer = ProbeWriter::new(alloc, 4096, 100, Failure::Nothing)?;
+    let answer = run_normalise(alloc, &small()?, &mut source, &mut writer)?;
+    Ok(is_answer(&answer, line) && answer.file.is_none() && writer.taken() == want)
+}
+
+/// Runs the words of a line over a disk, with the program's name before them.
+pub fn run_on<D: Disk + Eprint>(
+    disk: &mut D,
+    alloc: Global,
+    line: &str,
+) -> Result<Outcome, AllocError> {
+    let mut words = Vec::new(alloc);
+    words.push(String::from_str(alloc, "ubi_tool")?)?;
+    for word in line.split_whitespace() {
+        words.push(String::from_str(alloc, word)?)?;
+    }
+    run_words(disk, alloc, words.as_slice(), false)
+}
+
+/// Runs the words of a line over files, with the program's name before them.
+pub fn run_line<R: Files + Eprint>(
+    files: &R,
+    alloc: Global,
+    line: &str,
+) -> Result<Outcome, AllocError>
+where
+    R::File: FileExt,
+{
+    run_on(&mut Host::new(files), alloc, line)
+}
+
+/// Asserts what the words of a line answer over files. Where they name no geometry, it is that of small eraseblocks.
+pub fn assert_line<R: Files + Eprint + Abort>(
+    rt: &R,
+    alloc: Global,
+    line: &str,
+    answer: (&str, u8),
+) -> Result<(), Fail>
+where
+    R::File: FileExt,
+{
+    let outcome = run_line(rt, alloc, with_sizes(alloc, line)?.as_str())?;
+    assert!(*rt; is_answer(&outcome, answer), "of {line}");
+    Ok(())
+}
+
+/// The words of a line, and those of the geometry of small eraseblocks, where they name none and the command takes one.
+pub fn with_sizes(alloc: Global, line: &str) -> Result<String, AllocError> {
+    if line.contains("--peb ") || line.starts_with("geometry ") {
+        return String::from_str(alloc, line);
+    }
+    format!(in alloc; "{line} --peb 512 --page 64 --pebs 32")
+}
+
+/// What a line answers, as [`assert_line`] runs it, over files that fail as they are told to, and of which each but
+/// `new.bin` holds an image; and the bytes that are written.
+pub fn run_over(
+    alloc: Global,
+    (image, new): (&[u8], &[u8]),
+    broken: Broken,
+    line: &str,
+) -> Result<(Outcome, Vec<u8>), Fail> {
+    let shown = RefCell::new(String::new(alloc));
+    let written = RefCell::new(Vec::new(alloc));
+    let files = FakeFiles {
+        image,
+        new,
+        broken,
+        written: &written,
+        shown: &shown,
+    };
+    let outcome = run_line(&files, alloc, with_sizes(alloc, line)?.as_str())?;
+    Ok((outcome, written.into_inner()))
+}
+
+/// Asserts what is answered and written so.
+pub fn assert_over(
+    rt: &impl Abort,
+    alloc: Global,
+    files: (&[u8], &[u8]),
+    broken: Broken,
+    line: &str,
+    answer: (&str, u8),
+    output: &[u8],
+) -> Result<(), Fail> {
+    let (outcome, written) = run_over(alloc, files, broken, line)?;
+    let is = is_answer(&outcome, answer) && written.as_slice() == output;
+    assert!(*rt; is, "of {line}, {broken:?}");
+    Ok(())
+}
+
+/// Asserts it over files that are read at places, and over those that can't be.
+pub fn assert_both(
+    rt: &impl Abort,
+    alloc: Global,
+    files: (&[u8], &[u8]),
+    line: &str,
+    answer: (&str, u8),
+    output: &[u8],
+) -> Result<(), Fail> {
+    assert_over(rt, alloc, files, Broken::Nothing, line, answer, output)?;
+    assert_over(rt, alloc, files, Broken::Places, line, answer, output)
+}
+
+/// A line over files that each hold an image, but `new.bin`, which holds other bytes.
+#[derive(Clone, Copy)]
+pub struct Run {
+    pub image: Contents,
+    pub new: Contents,
+    pub line: &'static str,
+    /// What is printed, and the exit status.
+    pub answer: (&'static str, u8),
+    /// What is written.
+    pub output: Contents,
+}
+
+/// Asserts what each run answers and writes.
+pub fn assert_runs(rt: &impl Abort, alloc: Global, runs: &[Run]) -> Result<(), Fail> {
+    for run in runs {
+        let (image, new) = (run.image.bytes(alloc)?, run.new.bytes(alloc)?);
+        let output = run.output.bytes(alloc)?;
+        let (files, output) = ((image.as_slice(), new.as_slice()), output.as_slice());
+        assert_both(rt, alloc, files, run.line, run.answer, output)?;
+    }
+    Ok(())
+}

@@ -1,0 +1,262 @@
+//! The commands where memory is refused: over bytes, and by their words over files.
+//!
+//! The script bench/second/refuse.sh refuses each growth of memory of these tests in turn, and looks for the line that
+//! is printed here.
+
+use super::answers::{run_line, small};
+use super::build::CONFIG;
+use super::fake::{Broken, FakeFiles};
+use super::geometry::SMALL;
+use super::pebs::{
+    NORMAL_A, NORMAL_B, NORMAL_C, Peb, ROOT_FIRST, ROOT_SECOND, UNNAMED_FREE, put_pebs, put_runs,
+};
+use super::rename::LINES;
+use std::alloc::{AllocError, Global};
+use std::cell::RefCell;
+use std::process::Abort;
+use std::test::Fail;
+use ubi_commands::{
+    Outcome, ToolError, VolumeKey, run_change, run_check, run_compose, run_extract, run_geometry,
+    run_list, run_normalise, run_rename, run_same, run_show,
+};
+use ubi_media::Geometry;
+use ubi_scan::MemorySource;
+
+/// A text of a dynamic and a static volume, with an eraseblock each.
+const SPEC: &[u8] = b"volume 0 dynamic 20 1 00 root\nleb 0 1 6162\n\
+    volume 1 static 2 1 00 boot\nbytes 1 61\nbytes 1 62\n";
+
+/// The normal image of `root`, and two clean free eraseblocks behind it.
+const SPARES: &[Peb] = &[
+    ROOT_FIRST,
+    ROOT_SECOND,
+    NORMAL_A,
+    NORMAL_B,
+    NORMAL_C,
+    UNNAMED_FREE,
+    UNNAMED_FREE,
+];
+
+/// What its volume reads.
+const TEXT: &[(&[u8], usize)] = &[(b"A", 384), (b"B", 384), (b"C", 384), (b"\xFF", 6528)];
+
+/// What is told of these images.
+const LISTED: &str = "geometry peb=512 page=64 vid=64 data=128 leb=384 slots=2 pebs=32\n\
+    volume 0 dynamic reserved=20 alignment=1 usable=384 flags=00 lebs=3 name=root\nvolumes 1\n";
+
+const CHECKED: &str = "blocks 5\nblank 0\nfree 0\ntable 2\nused 3\nstale 0\norphan 0\ndropped 0\n\
+    corrupt 0\ngarbage 0\ntop sqnum 0\nimage seq 305419896\nmean counter 0\naccepted\n";
+
+const SHOWN: &str = "ec valid 5542492301000000000000000000000000000040000000801234567800000000\
+    000000000000000000000000000000000000000000000000000000005b73f913\n\
+    vid valid 5542492101010000000000000000000200000000000000000000000000000000\
+    00000000000000000000000000000000000000000000000000000000efecfd8e\n";
+
+const CHANGED: &str = "steps 4\nprogram block=5 page=1\nprogram block=5 page=2\n\
+    erase block=3\nprogram block=3 page=0\n";
+
+/// Whether a command answered a text. Else memory ran out.
+fn is_told(rt: &impl Abort, answer: Result<Outcome, AllocError>, text: &str) -> bool {
+    match answer {
+        Ok(outcome) => {
+            assert!(rt; outcome.text.as_slice() == text.as_bytes());
+            true
+        }
+        Err(AllocError) => false,
+    }
+}
+
+/// Whether a command answered a text and wrote all bytes into zeros. Else memory ran out, no read and no write failed,
+/// and nothing was written.
+fn is_written(
+    rt: &impl Abort,
+    answer: Result<Outcome, ToolError>,
+    text: &str,
+    written: &[u8],
+    want: &[u8],
+) -> bool {
+    match answer {
+        Ok(outcome) => {
+            assert!(rt; outcome.text.as_slice() == text.as_bytes());
+            assert!(rt; written == want);
+            true
+        }
+        Err(error) => {
+            assert_eq!(rt; error, ToolError::Memory);
+            assert!(rt; !written.iter().any(|byte| *byte != 0));
+            false
+        }
+    }
+}
+
+/// Whether `extract` wrote the whole volume.
+fn is_extracted(
+    rt: &impl Abort,
+    alloc: Global,
+    geometry: &Geometry,
+    image: &[u8],
+    text: &[u8],
+) -> bool {
+    let mut written = [0; 7680];
+    let answer = run_extract(
+        alloc,
+        geometry,
+        image,
+        VolumeKey::Id(0),
+        &mut written.as_mut_slice(),
+    );
+    is_written(rt, answer, "bytes 7680\n", &written, text)
+}
+
+/// Whether `normalise` wrote the whole normal image.
+fn is_normalised(rt: &impl Abort, alloc: Global, geometry: &Geometry, image: &[u8]) -> bool {
+    let mut written = [0; 2560];
+    let mut source = MemorySource::new(image);
+    let answer = run_normalise(alloc, geometry, &mut source, &mut written.as_mut_slice());
+    is_written(rt, answer, "blocks 5\n", &written, image)
+}
+
+/// The first bytes of the image.
+fn image(alloc: Global, geometry: &Geometry, len: usize) -> Result<Vec<u8>, AllocError> {
+    let mut bytes = Vec::new(alloc);
+    put_pebs(&mut bytes, geometry, SPARES)?;
+    bytes.truncate(len);
+    Ok(bytes)
+}
+
+/// Whether each command answered. Else memory ran out.
+fn tells_all(rt: &impl Abort, alloc: Global, geometry: &Geometry) -> Result<bool, AllocError> {
+    let (root, spare) = (image(alloc, geometry, 2560)?, image(alloc, geometry, 3072)?);
+    let (spares, mut text) = (image(alloc, geometry, 3584)?, Vec::new(alloc));
+    put_runs(&mut text, TEXT)?;
+    let (image, spare) = (root.as_slice(), spare.as_slice());
+    let changed = run_change(alloc, geometry, spare, 0, 1, &[0x61; 64], None);
+    let renamed = run_rename(alloc, geometry, spares.as_slice(), 0, b"data", None);
+    let told = [
+        is_told(rt, run_geometry(alloc, image), SMALL),
+        is_told(rt, run_list(alloc, geometry, image), LISTED),
+        is_told(rt, run_check(alloc, geometry, image), CHECKED),
+        is_told(rt, run_show(alloc, geometry, image, 4), SHOWN),
+        is_extracted(rt, alloc, geometry, image, text.as_slice()),
+        is_normalised(rt, alloc, geometry, image),
+        is_told(rt, run_same(alloc, geometry, image, image), "same\n"),
+        is_told(rt, run_compose(alloc, geometry, SPEC, 1, 0), "blocks 5\n"),
+        is_told(rt, changed, CHANGED),
+        is_told(rt, renamed, LINES),
+    ];
+    Ok(!told.contains(&false))
+}
+
+#[test]
+fn tells_all_or_runs_out_of_memory(rt: HostRuntime) -> Result<(), Fail> {
+    if tells_all(&rt, rt.alloc(), &small()?) != Ok(true) {
+        println!(rt; "out of memory")?;
+    }
+    Ok(())
+}
+
+/// The words of a command, how many bytes of the image they are over, what is answered, and how many bytes are written.
+static WORDS: [(&str, usize, &str, usize); 10] = [
+    ("geometry a", 2560, SMALL, 0),
+    ("list a --peb 512 --page 64 --pebs 32", 2560, LISTED, 0),
+    ("show a --block 4 --peb 512 --page 64", 2560, SHOWN, 0),
+    (
+        "extract a --id 0 --out b --peb 512 --page 64",
+        2560,
+        "bytes 7680\n",
+        7680,
+    ),
+    (
+        "unpack a --out made --peb 512 --page 64",
+        2560,
+        "volume 0 bytes=7680 name=root\n",
+        7680,
+    ),
+    (
+        "normalise a --out b --peb 512 --page 64",
+        2560,
+        "blocks 5\n",
+        2560,
+    ),
+    (
+        "normalise a --out a --peb 512 --page 64",
+        2560,
+        "blocks 5\n",
+        2560,
+    ),
+    ("same a b --peb 512 --page 64", 2560, "same\n", 0),
+    (
+        "change a --id 0 --lnum 1 --from new.bin --out b --peb 512 --page 64",
+        3072,
+        CHANGED,
+        3072,
+    ),
+    (
+        "rename a --id 0 --name data --out b --peb 512 --page 64",
+        3584,
+        LINES,
+        3584,
+    ),
+];
+
+/// Those that are over the text, and over a config.
+const COMPOSE: &str = "compose a --spares 1 --out b --peb 512 --page 64";
+
+const BUILD: &str = "build a --out b --peb 512 --page 64";
+
+/// Whether the words of a line answered a text, over files that each hold an image, and wrote so many bytes. Else
+/// memory ran out, and no part of the output was written.
+fn is_run(
+    rt: &impl Abort,
+    alloc: Global,
+    image: &[u8],
+    line: &str,
+    (text, count): (&str, usize),
+) -> bool {
+    let shown = RefCell::new(String::new(alloc));
+    let written = RefCell::new(Vec::new(alloc));
+    let files = FakeFiles {
+        image,
+        new: &[0x61; 64],
+        broken: Broken::Nothing,
+        written: &written,
+        shown: &shown,
+    };
+    let answer = run_line(&files, alloc, line);
+    let written = written.into_inner().len();
+    match answer {
+        Ok(outcome) if written == count => {
+            assert!(rt; outcome.text.as_slice() == text.as_bytes());
+            assert_eq!(rt; outcome.status, 0);
+            true
+        }
+        Ok(outcome) => {
+            // The fake file itself had no memory to keep what it was given.
+            assert!(rt; outcome.text.as_slice().starts_with(b"cannot write "));
+            false
+        }
+        Err(AllocError) => {
+            assert_eq!(rt; written, 0);
+            false
+        }
+    }
+}
+
+/// Whether each line ran. Else memory ran out.
+fn runs_all(rt: &impl Abort, alloc: Global, geometry: &Geometry) -> Result<bool, AllocError> {
+    let mut ran = is_run(rt, alloc, SPEC, COMPOSE, ("blocks 5\n", 2560));
+    ran = is_run(rt, alloc, CONFIG, BUILD, ("blocks 3\n", 1536)) && ran;
+    for (words, len, text, count) in &WORDS {
+        let image = image(alloc, geometry, *len)?;
+        ran = is_run(rt, alloc, image.as_slice(), words, (text, *count)) && ran;
+    }
+    Ok(ran)
+}
+
+#[test]
+fn runs_words_or_out_of_memory(rt: HostRuntime) -> Result<(), Fail> {
+    if runs_all(&rt, rt.alloc(), &small()?) != Ok(true) {
+        println!(rt; "out of memory")?;
+    }
+    Ok(())
+}

@@ -1,0 +1,270 @@
+//! The command `normalise` over sources and writers that fail, and over files that are linked, piped or endless.
+
+use super::answers::{assert_line, small};
+use super::contents::Contents;
+use std::alloc::Global;
+use std::fs::Files;
+use std::io::{ErrorKind, Write};
+use std::os::unix::fs::{FileExt, symlink};
+use std::os::unix::io::AsRawFd;
+use std::process::Abort;
+use std::test::Fail;
+use std::{fs, io};
+use ubi_commands::{ToolError, run_normalise};
+use ubi_compose::normalise_to;
+use ubi_scan::{BlockSource, FileSource, MemorySource, ProbeSource, StreamError};
+use ubi_volume::{Failure, ProbeWriter};
+
+/// The reads of the image of `root`, counted from 1, each with its eraseblock and the number of bytes that are written
+/// before it.
+static READS: [(u64, u32, usize); 9] = [
+    // The headers.
+    (1, 0, 0),
+    (2, 1, 0),
+    (3, 2, 0),
+    (4, 3, 0),
+    (5, 4, 0),
+    // The first copy of the table.
+    (6, 0, 0),
+    // The data of the three logical eraseblocks, each of which is written before the next is read.
+    (7, 2, 1024),
+    (8, 3, 1536),
+    (9, 4, 2048),
+];
+
+/// Whether work over a source is answered and written so.
+fn is_run<S: BlockSource>(
+    alloc: Global,
+    source: &mut S,
+    want: Result<&[u8], ToolError>,
+    written: &[u8],
+) -> Result<bool, Fail> {
+    let mut writer = ProbeWriter::new(alloc, 4096, 4096, Failure::Nothing)?;
+    let is_answer = match (run_normalise(alloc, &small()?, source, &mut writer), want) {
+        (Ok(outcome), Ok(line)) => outcome.text.as_slice() == line,
+        (Err(error), Err(other)) => error == other,
+        _ => false,
+    };
+    Ok(is_answer && writer.taken() == written)
+}
+
+/// Whether a read that fails is told with its eraseblock and the bytes that were written, and these are the first ones.
+fn is_told(alloc: Global, image: &[u8], at: u64, p: u32, written: &[u8]) -> Result<bool, Fail> {
+    let geometry = small()?;
+    let mut source = ProbeSource::new(alloc, &geometry, image, at)?;
+    let mut writer = ProbeWriter::new(alloc, 4096, 4096, Failure::Nothing)?;
+    let answer = normalise_to(alloc, &geometry, &mut source, &mut writer);
+    let count = written.len() as u64;
+    Ok(answer == Err(StreamError::Read(p, count)) && writer.taken() == written)
+}
+
+/// Asserts what is answered and written of an image whose reads fail in turn, up to one more than there are.
+fn assert_reads(rt: &impl Abort, alloc: Global, (image, want): (&[u8], &[u8])) -> Result<(), Fail> {
+    for (at, p, count) in READS {
+        let written = want.get(..count).ok_or("short")?;
+        let mut source = ProbeSource::new(alloc, &small()?, image, at)?;
+        let is = is_run(alloc, &mut source, Err(ToolError::Read), written)?;
+        assert!(*rt; is && is_told(alloc, image, at, p, written)?, "read {at}");
+    }
+    let mut source = ProbeSource::new(alloc, &small()?, image, 10)?;
+    assert!(*rt; is_run(alloc, &mut source, Ok(b"blocks 5\n"), want)?);
+    Ok(())
+}
+
+#[test]
+fn tells_of_a_read_that_fails(rt: HostRuntime) -> Result<(), Fail> {
+    let image = Contents::Root.bytes(rt.alloc())?;
+    let want = Contents::NormalRoot.bytes(rt.alloc())?;
+    assert_reads(&rt, rt.alloc(), (image.as_slice(), want.as_slice()))
+}
+
+/// Whether a writer that takes so many bytes at once and fails once it has so many is told with their number, and has
+/// the first ones; or all, where it has room for them.
+fn is_cut(
+    alloc: Global,
+    (image, want): (&[u8], &[u8]),
+    room: usize,
+    (failure, most): (Failure, usize),
+) -> Result<bool, Fail> {
+    let (mut source, mut again) = (MemorySource::new(image), MemorySource::new(image));
+    let mut writer = ProbeWriter::new(alloc, room, most, failure)?;
+    let mut other = ProbeWriter::new(alloc, room, most, failure)?;
+    let answer = normalise_to(alloc, &small()?, &mut source, &mut writer);
+    let run = run_normalise(alloc, &small()?, &mut again, &mut other);
+    let is_told = if room < want.len() {
+        answer == Err(StreamError::Write(room as u64)) && run.err() == Some(ToolError::Write)
+    } else {
+        answer == Ok(room as u64) && run.is_ok()
+    };
+    let is_same = writer.taken() == other.taken();
+    Ok(is_told && is_same && want.get(..room) == Some(writer.taken()))
+}
+
+/// An image, its normal image, how many bytes of that a writer takes, at least and at most, and how it fails then.
+static CUTS: [(Contents, Contents, (usize, usize), (Failure, usize)); 7] = [
+    (
+        Contents::Root,
+        Contents::NormalRoot,
+        (0, 0),
+        (Failure::Nothing, 100),
+    ),
+    (
+        Contents::Root,
+        Contents::NormalRoot,
+        (1, 1),
+        (Failure::Error(ErrorKind::Interrupted), 100),
+    ),
+    (
+        Contents::Root,
+        Contents::NormalRoot,
+        (512, 512),
+        (Failure::Nothing, 100),
+    ),
+    (
+        Contents::Root,
+        Contents::NormalRoot,
+        (1600, 1600),
+        (Failure::Error(ErrorKind::Interrupted), 100),
+    ),
+    (
+        Contents::Root,
+        Contents::NormalRoot,
+        (2559, 2559),
+        (Failure::Error(ErrorKind::Other), 100),
+    ),
+    (
+        Contents::Blank,
+        Contents::NormalNothing,
+        (0, 1023),
+        (Failure::Nothing, 100),
+    ),
+    (
+        Contents::Blank,
+        Contents::NormalNothing,
+        (1024, 1024),
+        (Failure::Nothing, 1),
+    ),
+];
+
+#[test]
+fn tells_of_a_write_that_fails(rt: HostRuntime) -> Result<(), Fail> {
+    let alloc = rt.alloc();
+    for (image, want, (least, most), way) in &CUTS {
+        let (image, want) = (image.bytes(alloc)?, want.bytes(alloc)?);
+        let over = (image.as_slice(), want.as_slice());
+        for room in *least..most.saturating_add(1) {
+            assert!(rt; is_cut(alloc, over, room, *way)?, "after {room} bytes");
+        }
+    }
+    Ok(())
+}
+
+/// Asserts what is answered and written of a file, and once it was cut short while it is open.
+fn assert_cut<R: Files + Abort>(
+    rt: &R,
+    alloc: Global,
+    image: &[u8],
+    want: &[u8],
+) -> Result<(), Fail>
+where
+    R::File: FileExt,
+{
+    fs::write(rt, "cut.img", image)?;
+    let mut source = FileSource::open(rt, "cut.img")?;
+    assert!(*rt; is_run(alloc, &mut source, Ok(b"blocks 5\n"), want)?);
+    fs::write(rt, "cut.img", [0xFF; 1024].as_slice())?;
+    assert!(*rt; is_run(alloc, &mut source, Err(ToolError::Read), &[])?);
+    Ok(())
+}
+
+#[test]
+fn tells_of_a_file_that_is_cut_short(rt: HostRuntime) -> Result<(), Fail> {
+    let image = Contents::Root.bytes(rt.alloc())?;
+    let want = Contents::NormalRoot.bytes(rt.alloc())?;
+    assert_cut(&rt, rt.alloc(), image.as_slice(), want.as_slice())?;
+    fs::remove_file(&rt, "cut.img")?;
+    Ok(())
+}
+
+/// Outputs that are the image itself, by its path, by another one and by links.
+static ONTO: [&str; 4] = [
+    "normalise onto_itself.img --out onto_itself.img",
+    "normalise onto_itself.img --out ./onto_itself.img",
+    "normalise onto_itself.img --out linked.img",
+    "normalise onto_itself.img --out pointing.img",
+];
+
+/// Asserts that each line answers, and what the image holds then.
+fn assert_onto<R: Files + Alloc + Eprint + Abort>(
+    rt: &R,
+    alloc: Global,
+    image: &[u8],
+    want: &[u8],
+) -> Result<(), Fail>
+where
+    R::File: FileExt,
+{
+    for line in ONTO {
+        fs::write(rt, "onto_itself.img", image)?;
+        assert_line(rt, alloc, line, ("blocks 5\n", 0))?;
+        assert!(*rt;
+            fs::read(rt, "onto_itself.img")?.as_slice() == want,
+            "of {line}"
+        );
+    }
+    Ok(())
+}
+
+#[test]
+fn normalises_a_file_onto_itself(rt: HostRuntime) -> Result<(), Fail> {
+    fs::write(&rt, "onto_itself.img", b"".as_slice())?;
+    fs::hard_link(&rt, "onto_itself.img", "linked.img")?;
+    symlink(&rt, "onto_itself.img", "pointing.img")?;
+    let image = Contents::Root.bytes(rt.alloc())?;
+    let want = Contents::NormalRoot.bytes(rt.alloc())?;
+    assert_onto(&rt, rt.alloc(), image.as_slice(), want.as_slice())?;
+    for path in ["onto_itself.img", "linked.img", "pointing.img"] {
+        fs::remove_file(&rt, path)?;
+    }
+    Ok(())
+}
+
+#[test]
+fn normalises_what_a_pipe_gives(rt: HostRuntime) -> Result<(), Fail> {
+    let (reader, mut writer) = io::pipe(&rt)?;
+    writer.write_all(&[0xFF; 1536])?;
+    drop(writer);
+    let end = reader.as_raw_fd();
+    let line = format!(in rt.alloc(); "normalise /proc/self/fd/{end} --out piped.img")?;
+    assert_line(&rt, rt.alloc(), line.as_str(), ("blocks 2\n", 0))?;
+    drop(reader);
+    let (piped, want) = (
+        fs::read(&rt, "piped.img")?,
+        Contents::NormalNothing.bytes(rt.alloc())?,
+    );
+    assert!(rt; piped.as_slice() == want.as_slice());
+    fs::remove_file(&rt, "piped.img")?;
+    Ok(())
+}
+
+/// The words of each command that reads a file, over a character device that has no end.
+static ENDLESS: [&str; 9] = [
+    "list /dev/zero",
+    "check /dev/zero",
+    "show /dev/zero --block 0",
+    "extract /dev/zero --id 0 --out endless.bin",
+    "normalise /dev/zero --out endless.bin",
+    "normalise /dev/zero --out /dev/zero",
+    "same /dev/zero /dev/zero",
+    "change /dev/zero --id 0 --lnum 0 --from /dev/zero --out endless.bin",
+    "compose /dev/zero --out endless.bin",
+];
+
+#[test]
+fn reads_no_file_without_an_end(rt: HostRuntime) -> Result<(), Fail> {
+    for line in ENDLESS {
+        assert_line(&rt, rt.alloc(), line, ("cannot read /dev/zero\n", 1))?;
+    }
+    assert!(rt; !fs::exists(&rt, "endless.bin")?);
+    Ok(())
+}

@@ -1,0 +1,94 @@
+//! What is told of long work.
+
+use super::fake::{Broken, FakeFiles};
+use std::alloc::Global;
+use std::cell::RefCell;
+use std::io::Write;
+use std::test::Fail;
+use ubi_commands::{Host, ProgressWriter, run_words};
+
+/// A hundredth of 256 MiB, and one byte more.
+const HUNDREDTH: usize = 2_684_355;
+
+/// Does work on so many bytes, of which the output receives two hundredths of 256 MiB.
+fn work(terminal: &impl Eprint, alloc: Global, most: u64, is_watched: bool) -> Result<(), Fail> {
+    let part = vec![in alloc; 0xFFu8; HUNDREDTH]?;
+    let mut writer = ProgressWriter::new(terminal, Vec::new(alloc), most, is_watched);
+    writer.write_all(&[0xFF; 100])?;
+    writer.write_all(part.as_slice())?;
+    writer.write_all(part.as_slice())?;
+    writer.clear();
+    Ok(())
+}
+
+/// What is told of that work.
+fn told(alloc: Global, most: u64, is_watched: bool) -> Result<String, Fail> {
+    let shown = RefCell::new(String::new(alloc));
+    let written = RefCell::new(Vec::new(alloc));
+    let files = FakeFiles {
+        image: &[],
+        new: &[],
+        broken: Broken::Nothing,
+        written: &written,
+        shown: &shown,
+    };
+    work(&files, alloc, most, is_watched)?;
+    Ok(shown.into_inner())
+}
+
+/// How long the work may be, whether somebody watches, and what is told of it.
+static TOLD: [(u64, bool, &str); 3] = [
+    (
+        1 << 28,
+        true,
+        "\r1 % of the image\r2 % of the image\r\x1b[K",
+    ),
+    ((1 << 28) - 1, true, ""),
+    (1 << 30, false, ""),
+];
+
+#[test]
+fn tells_each_hundredth_of_long_work_and_takes_it_away(rt: HostRuntime) -> Result<(), Fail> {
+    for (most, is_watched, text) in TOLD {
+        assert!(rt;
+            told(rt.alloc(), most, is_watched)?.as_str() == text,
+            "of {most}"
+        );
+    }
+    Ok(())
+}
+
+/// The words that normalise an image of eraseblocks of 2 MiB.
+static LONG: [&str; 7] = [
+    "ubi_tool",
+    "normalise",
+    "a",
+    "--out",
+    "b",
+    "--peb=2097152",
+    "--page=64",
+];
+
+/// The two eraseblocks of the normal image are 4 of 256 MiB, and are written by 1 MiB at a time.
+#[test]
+fn tells_of_a_long_image(rt: HostRuntime) -> Result<(), Fail> {
+    let alloc = rt.alloc();
+    let shown = RefCell::new(String::new(alloc));
+    let written = RefCell::new(Vec::new(alloc));
+    let files = FakeFiles {
+        image: &[0xFF],
+        new: &[],
+        broken: Broken::Blank(1 << 28),
+        written: &written,
+        shown: &shown,
+    };
+    let mut words = Vec::new(alloc);
+    for word in LONG {
+        words.push(String::from_str(alloc, word)?)?;
+    }
+    let outcome = run_words(&mut Host::new(&files), alloc, words.as_slice(), true)?;
+    assert_eq!(rt; outcome.text.as_slice(), b"blocks 2\n".as_slice());
+    let shown = shown.into_inner();
+    assert!(rt; shown.as_str() == "\r1 % of the image\r\x1b[K", "{shown}");
+    Ok(())
+}

@@ -1,0 +1,131 @@
+//! The command `same`.
+
+use super::answers::{assert_both, small};
+use super::contents::Contents;
+use std::alloc::Global;
+use std::process::Abort;
+use std::test::Fail;
+use ubi_commands::{SidesError, run_same_from};
+use ubi_scan::ProbeSource;
+
+/// Images that mean the same. The last five are what composing makes of texts, and damaged ones.
+static THE_SAME: [(Contents, Contents); 8] = [
+    (Contents::Root, Contents::Reversed),
+    (Contents::Reversed, Contents::Root),
+    (Contents::NormalRoot, Contents::Reversed),
+    (Contents::NormalRoot, Contents::Root),
+    (Contents::NormalAlignedRoot, Contents::AlignedRoot),
+    (Contents::NormalBoot, Contents::WholeBoot),
+    (Contents::DamagedBoot, Contents::NormalDamagedBoot),
+    (Contents::NormalUpdating, Contents::Updating),
+];
+
+/// Images that mean something else, in both orders.
+static OTHERS: [(Contents, Contents); 5] = [
+    (Contents::Root, Contents::Unnamed),
+    (Contents::Root, Contents::Rivals),
+    (Contents::Root, Contents::Updating),
+    (Contents::Root, Contents::Runs(&[(b"\xFF", 512)])),
+    (Contents::WholeBoot, Contents::DamagedBoot),
+];
+
+/// Images of which one is refused, or both.
+static REFUSED: [(Contents, Contents, &str); 6] = [
+    (Contents::Odd, Contents::Root, "left refused S1 Length\n"),
+    (Contents::Root, Contents::Odd, "right refused S1 Length\n"),
+    (Contents::Odd, Contents::Faulty, "left refused S1 Length\n"),
+    (Contents::Odd, Contents::Odd, "left refused S1 Length\n"),
+    (
+        Contents::Faulty,
+        Contents::Odd,
+        "left refused S4 ImageSeq block=3\n",
+    ),
+    (
+        Contents::Root,
+        Contents::Faulty,
+        "right refused S4 ImageSeq block=3\n",
+    ),
+];
+
+/// Asserts what is answered of two files.
+fn assert_compares(
+    rt: &impl Abort,
+    alloc: Global,
+    (left, right): (&Contents, &Contents),
+    answer: (&str, u8),
+) -> Result<(), Fail> {
+    let (left, right) = (left.bytes(alloc)?, right.bytes(alloc)?);
+    let files = (left.as_slice(), right.as_slice());
+    assert_both(rt, alloc, files, "same a.img new.bin", answer, &[])
+}
+
+#[test]
+fn tells_what_means_the_same_or_is_refused(rt: HostRuntime) -> Result<(), Fail> {
+    let alloc = rt.alloc();
+    for (left, right) in &THE_SAME {
+        assert_compares(&rt, alloc, (left, right), ("same\n", 0))?;
+    }
+    for (left, right) in &OTHERS {
+        assert_compares(&rt, alloc, (left, right), ("different\n", 1))?;
+        assert_compares(&rt, alloc, (right, left), ("different\n", 1))?;
+    }
+    for (left, right, line) in &REFUSED {
+        assert_compares(&rt, alloc, (left, right), (line, 1))?;
+    }
+    Ok(())
+}
+
+/// Whether a comparison, of which each side fails at one read, counted from 1, answers a line with its status, or the
+/// side that failed. 0 is no read.
+fn is_compared(
+    alloc: Global,
+    (left, left_at): (&[u8], u64),
+    (right, right_at): (&[u8], u64),
+    want: Result<(&str, u8), SidesError>,
+) -> Result<bool, Fail> {
+    let mut left = ProbeSource::new(alloc, &small()?, left, left_at)?;
+    let mut right = ProbeSource::new(alloc, &small()?, right, right_at)?;
+    let answer = run_same_from(alloc, &small()?, &mut left, &mut right);
+    Ok(match (answer, want) {
+        (Ok(outcome), Ok((line, status))) => {
+            outcome.text.as_slice() == line.as_bytes() && outcome.status == status
+        }
+        (Err(error), Err(side)) => error == side,
+        _ => false,
+    })
+}
+
+/// An image is read by the headers of five eraseblocks, a copy of the table, and three logical eraseblocks.
+#[test]
+fn names_the_side_whose_read_fails(rt: HostRuntime) -> Result<(), Fail> {
+    let alloc = rt.alloc();
+    let root = Contents::Root.bytes(alloc)?;
+    let image = root.as_slice();
+    for at in 1..10 {
+        let side = Err(SidesError::Left);
+        assert!(rt;
+            is_compared(alloc, (image, at), (image, 0), side)?,
+            "left at {at}"
+        );
+        let side = Err(SidesError::Right);
+        assert!(rt;
+            is_compared(alloc, (image, 0), (image, at), side)?,
+            "right at {at}"
+        );
+    }
+    assert!(rt; is_compared(alloc, (image, 10), (image, 0), Ok(("same\n", 0)))?);
+    Ok(())
+}
+
+/// The left image is judged before the right one is read: where it is refused, a right one that fails isn't told.
+#[test]
+fn refuses_the_left_image_before_the_right_is_read(rt: HostRuntime) -> Result<(), Fail> {
+    let alloc = rt.alloc();
+    let (root, faulty) = (Contents::Root.bytes(alloc)?, Contents::Faulty.bytes(alloc)?);
+    let (root, faulty) = (root.as_slice(), faulty.as_slice());
+    let left = Ok(("left refused S4 ImageSeq block=3\n", 1));
+    assert!(rt; is_compared(alloc, (faulty, 0), (root, 1), left)?);
+    let right = Ok(("right refused S4 ImageSeq block=3\n", 1));
+    assert!(rt; is_compared(alloc, (root, 0), (faulty, 0), right)?);
+    Ok(())
+}

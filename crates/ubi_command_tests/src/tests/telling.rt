@@ -1,0 +1,300 @@
+//! A disk of which it is known what its files hold: what the commands answer of the files that are named, and what they
+//! write, is proved of it.
+
+ghost use Rattle.std.specs.Prelude.{Some, option_map};
+
+use super::answers::{is_answer, run_on, with_sizes};
+use super::build::CONTENT;
+use super::contents::Contents;
+use super::geometry::SMALL;
+use std::alloc::Global;
+use std::fmt::Display;
+use std::io;
+use std::io::ErrorKind;
+use std::test::Fail;
+use ubi_commands::{Disk, OutputFile, SizedFile, ToolError, WholeFile};
+use ubi_scan::{FileSource, PlacedFile};
+
+/// The path of its image.
+const IMAGE: &str = "told.img";
+
+/// The path of its config.
+const CONFIG: &str = "told.ini";
+
+/// The path of its output.
+const OUT: &str = "kept.img";
+
+/// The path of its folder.
+const FOLDER: &str = "made";
+
+/// The path of the file that its folder has room for.
+const UNPACKED: &str = "made/0-root";
+
+/// A disk with one image, and room for one output and for a folder with one file.
+#[derive(Drop)]
+struct Telling<'a> {
+    alloc: Global,
+    image: Option<&'a [u8]>,
+    config: Option<&'a [u8]>,
+    out: Option<Vec<u8>>,
+    unpacked: Option<Vec<u8>>,
+}
+
+/// Bytes that are read at places.
+#[derive(Drop)]
+struct KnownFile<'a> {
+    bytes: &'a [u8],
+}
+
+impl PlacedFile for KnownFile<'_> {
+    ghost bytes = { λ told. Some told.bytes.now };
+
+    fn read_from(&self, at: u64, out: &mut [u8]) -> io::Result<usize> {
+        let start = (at as usize).min(self.bytes.len());
+        let count = out.len().min(self.bytes.len() - start);
+        out[..count].copy_from_slice(&self.bytes[start..start + count]);
+        Ok(count)
+    }
+}
+
+impl<'a> Disk for Telling<'a> {
+    ghost use Rattle.ubi_commands.specs.Disk.{IsKept};
+    ghost use Rattle.ubi_commands.specs.inner.Telling.{telling};
+
+    type Placed = KnownFile<'a>;
+
+    type Reader = &'a [u8];
+
+    type Output = Vec<u8>;
+
+    ghost files = { λ disk. telling (option_map (λ bytes. bytes.now) disk.image) (option_map (λ bytes. bytes.now) disk.config) (option_map (λ bytes. bytes.items) disk.out) (option_map (λ bytes. bytes.items) disk.unpacked) };
+
+    fn source_at(&self, path: &str) -> Option<FileSource<KnownFile<'a>>> {
+        match self.image {
+            Some(bytes) if path == IMAGE => {
+                Some(FileSource::of(KnownFile { bytes }, bytes.len() as u64))
+            }
+            _ => None,
+        }
+    }
+
+    fn source_beside(&self, path: &str, out: &str) -> Option<FileSource<KnownFile<'a>>> {
+        if path == out {
+            return None;
+        }
+        self.source_at(path)
+    }
+
+    fn whole(&self, path: &str) -> Result<WholeFile<&'a [u8]>, ToolError> {
+        let held = if path == IMAGE {
+            self.image
+        } else if path == CONFIG {
+            self.config
+        } else {
+            None
+        };
+        match held {
+            Some(reader) => Ok(WholeFile {
+                reader,
+                expected: reader.len() as u64,
+            }),
+            None => Err(ToolError::Read),
+        }
+    }
+
+    fn sized_beside(&self, path: &str, out: &str) -> Option<SizedFile<KnownFile<'a>>> {
+        match self.image {
+            Some(bytes) if path == IMAGE && path != out => {
+                Some(SizedFile::new(KnownFile { bytes }, bytes.len() as u64))
+            }
+            _ => None,
+        }
+    }
+
+    fn create<'p>(&self, path: &'p str) -> io::Result<OutputFile<'p, Vec<u8>>> {
+        if path == OUT {
+            Ok(OutputFile::new(path, Vec::new(self.alloc)))
+        } else {
+            Err(io::Error::from(ErrorKind::PermissionDenied))
+        }
+    }
+
+    fn create_new<'p>(&self, path: &'p str) -> io::Result<OutputFile<'p, Vec<u8>>> {
+        if path == UNPACKED && self.unpacked.is_none() {
+            Ok(OutputFile::new(path, Vec::new(self.alloc)))
+        } else {
+            Err(io::Error::from(ErrorKind::PermissionDenied))
+        }
+    }
+
+    fn make_folder(&self, path: &str) -> io::Result<()> {
+        if path == FOLDER {
+            Ok(())
+        } else {
+            Err(io::Error::from(ErrorKind::PermissionDenied))
+        }
+    }
+
+    fn keep(&mut self, file: OutputFile<'_, Vec<u8>>)
+        ensures { IsKept (telling (option_map (λ bytes. bytes.now) self.old.image) (option_map (λ bytes. bytes.now) self.old.config) (option_map (λ bytes. bytes.items) self.old.out) (option_map (λ bytes. bytes.items) self.old.unpacked)) (telling (option_map (λ bytes. bytes.now) self.new.image) (option_map (λ bytes. bytes.now) self.new.config) (option_map (λ bytes. bytes.items) self.new.out) (option_map (λ bytes. bytes.items) self.new.unpacked)) file.entry.path.now (Some file.entry.writer.items) }
+    {
+        if file.path() == OUT {
+            self.out = Some(file.writer);
+        } else if file.path() == UNPACKED {
+            self.unpacked = Some(file.writer);
+        } else if file.path() == IMAGE {
+            self.image = None;
+        } else if file.path() == CONFIG {
+            self.config = None;
+        }
+    }
+}
+
+impl Eprint for Telling<'_> {
+    fn eprint<D: Display + Drop>(&self, _value: D) -> io::Result<()> {
+        Ok(())
+    }
+
+    fn eprintln<D: Display + Drop>(&self, _value: D) -> io::Result<()> {
+        Ok(())
+    }
+}
+
+/// A line, what it answers of the image of `root`, and what its output and the file in its folder hold then, if they are
+/// there.
+static LINES: [(&str, (&str, u8), Option<Contents>, Option<Contents>); 12] = [
+    ("geometry told.img", (SMALL, 0), None, None),
+    (
+        "geometry kept.img",
+        ("cannot read kept.img\n", 1),
+        None,
+        None,
+    ),
+    ("check kept.img", ("cannot read kept.img\n", 1), None, None),
+    (
+        "normalise told.img --out kept.img",
+        ("blocks 5\n", 0),
+        Some(Contents::Root),
+        None,
+    ),
+    (
+        "normalise told.img --out told.img",
+        ("cannot write told.img\n", 1),
+        None,
+        None,
+    ),
+    (
+        "extract told.img --id 0 --out kept.img",
+        ("bytes 7680\n", 0),
+        Some(Contents::RootText),
+        None,
+    ),
+    (
+        "extract told.img --id 1 --out kept.img",
+        ("refused L1 NoVolume\n", 1),
+        None,
+        None,
+    ),
+    (
+        "unpack told.img --out made",
+        ("volume 0 bytes=7680 name=root\n", 0),
+        None,
+        Some(Contents::RootText),
+    ),
+    (
+        "unpack told.img --out other",
+        ("cannot write other\n", 1),
+        None,
+        None,
+    ),
+    (
+        "unpack kept.img --out made",
+        ("cannot read kept.img\n", 1),
+        None,
+        None,
+    ),
+    ("same told.img told.img", ("same\n", 0), None, None),
+    (
+        "same told.img other.img",
+        ("cannot read other.img\n", 1),
+        None,
+        None,
+    ),
+];
+
+/// What a file holds, if it is there.
+fn bytes_of(alloc: Global, contents: Option<Contents>) -> Result<Option<Vec<u8>>, Fail> {
+    match contents {
+        Some(contents) => Ok(Some(contents.bytes(alloc)?)),
+        None => Ok(None),
+    }
+}
+
+#[test]
+fn answers_of_the_named_files(rt: HostRuntime) -> Result<(), Fail> {
+    let alloc = rt.alloc();
+    let image = Contents::Root.bytes(alloc)?;
+    for (line, answer, output, unpacked) in &LINES {
+        let mut disk = Telling {
+            alloc,
+            image: Some(image.as_slice()),
+            config: None,
+            out: None,
+            unpacked: None,
+        };
+        let outcome = run_on(&mut disk, alloc, with_sizes(alloc, line)?.as_str())?;
+        assert!(rt; is_answer(&outcome, *answer), "of {line}");
+        assert!(rt; disk.out == bytes_of(alloc, *output)?, "of {line}");
+        assert!(rt; disk.unpacked == bytes_of(alloc, *unpacked)?, "of {line}");
+        assert!(rt; disk.image.is_some(), "of {line}");
+    }
+    Ok(())
+}
+
+/// The config of `root`, whose contents are those of the image file.
+const ROOT_CONFIG: &[u8] =
+    b"[root]\nmode=ubi\nvol_id=0\nvol_name=root\nvol_size=7680\nimage=told.img\n";
+
+/// A line, what it answers of that config, and what its output holds then, if it is there.
+static BUILDS: [(&str, (&str, u8), Option<Contents>); 4] = [
+    (
+        "build told.ini --out kept.img --seq 305419896",
+        ("blocks 5\n", 0),
+        Some(Contents::NormalRoot),
+    ),
+    (
+        "build told.ini --out told.img",
+        ("cannot read told.img\n", 1),
+        None,
+    ),
+    (
+        "build told.ini --out other.img",
+        ("cannot write other.img\n", 1),
+        None,
+    ),
+    (
+        "build kept.img --out kept.img",
+        ("cannot read kept.img\n", 1),
+        None,
+    ),
+];
+
+#[test]
+fn builds_of_the_named_files(rt: HostRuntime) -> Result<(), Fail> {
+    let alloc = rt.alloc();
+    let content = CONTENT.bytes(alloc)?;
+    for (line, answer, output) in &BUILDS {
+        let mut disk = Telling {
+            alloc,
+            image: Some(content.as_slice()),
+            config: Some(ROOT_CONFIG),
+            out: None,
+            unpacked: None,
+        };
+        let outcome = run_on(&mut disk, alloc, with_sizes(alloc, line)?.as_str())?;
+        assert!(rt; is_answer(&outcome, *answer), "of {line}");
+        assert!(rt; disk.out == bytes_of(alloc, *output)?, "of {line}");
+        assert!(rt; disk.image.is_some() && disk.config.is_some(), "of {line}");
+    }
+    Ok(())
+}

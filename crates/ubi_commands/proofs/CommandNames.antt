@@ -1,0 +1,48 @@
+-- How a command line grows, and the names of its commands.
+use Rattle.std.proofs.Common.{◌≡◌, ◌&&◌, Bool, ap, ap₂, false, map, not, refl, true, ◌∙◌}
+use Rattle.std.specs.Prelude.{IfOk, Result}
+use Rattle.std.specs.declared.alloc.AllocError.{AllocError}
+use Rattle.clap.specs.Built.{AddsArg, AddsSubcommand, subcommand_names}
+use Rattle.clap.specs.Simple.{App, Shape, app_of, shape_of, with_rule, with_subcommand}
+use Rattle.clap.specs.Walk.{Rule, rule_of}
+use Rattle.clap.specs.declared.builder.arg.Arg.{Arg}
+use Rattle.clap.specs.declared.builder.command.Command.{Command}
+use Rattle.clap.specs.declared.builder.command.Command.TheViews.{out-Command}
+use Rattle.ubi_commands.specs.Tool.{needed}
+use Rattle.ubi_commands.specs.inner.CommandLine.{HasOneMore, alone}
+
+-- the names of the commands are those of their shapes
+pub names_are : (c : Command) (a : App) → app_of c ≡ a → subcommand_names c ≡ map (λ (s : Shape). s.name) a.subs
+names_are c a is = ap (λ (x : App). map (λ (s : Shape). s.name) x.subs) is
+
+third_is_false : (a b g r : Bool) → (a && (b && (not g && r))) ≡ true → g ≡ false
+third_is_false true true false r h = refl
+third_is_false true true true r h = absurd (cc)
+third_is_false true false g r h = absurd (cc)
+third_is_false false b g r h = absurd (cc)
+
+-- a plain command with none below it has no global argument, so that it is added as it is
+pub one_more : (old sub new : Command) (s : Shape) → AddsSubcommand old sub new → s.is_plain ≡ true
+    → app_of sub ≡ alone s → app_of new ≡ with_subcommand (app_of old) s
+one_more old sub new s adds plain is =
+    let top : shape_of sub ≡ s = ap (λ (a : App). a.top) is in
+    let no_globals : (out-Command sub).has_globals ≡ false =
+    third_is_false _ _ _ _ (ap (λ (t : Shape). t.is_plain) top ∙ plain) in
+    adds.shape no_globals ∙ ap (with_subcommand (app_of old)) top
+
+-- and where it was made
+pub joined : (old new : Command) (made : Result Command AllocError) (x : App) (s : Shape) → HasOneMore old made new
+    → s.is_plain ≡ true → IfOk made (λ c. app_of c ≡ alone s) → app_of old ≡ x → app_of new ≡ with_subcommand x s
+joined old new made x s more plain is old_is = more s plain is ∙ ap (λ (a : App). with_subcommand a s) old_is
+
+-- an argument that isn't global is added as its rule
+pub argued : (old new : Command) (a : Arg) (x : App) (r : Rule) → AddsArg old a new → a.global ≡ false → rule_of a ≡ r
+    → app_of old ≡ x → app_of new ≡ with_rule x r
+argued old new a x r adds local is old_is = adds.shape local ∙ ap₂ with_rule old_is is
+
+-- and so is one that was made a needed one
+pub argued_needed : (old new : Command) (a b : Arg) (x : App) (r : Rule) → AddsArg old b new
+    → b ≡ record a { required = true } → a.global ≡ false → rule_of a ≡ r → app_of old ≡ x
+    → app_of new ≡ with_rule x (needed r)
+argued_needed old new a b x r adds made local is old_is =
+    argued old new b x (needed r) adds (ap (λ (c : Arg). c.global) made ∙ local) (ap rule_of made ∙ ap needed is) old_is

@@ -1,0 +1,204 @@
+-- How work ends that reads a source, and maybe writes a file meanwhile.
+use Rattle.std.proofs.Common.{◌≡◌, ℕ, List, ap, arith, refl, subst, sym, ◌∙◌}
+use Rattle.std.proofs.lemmas.Result.{IfOk-at_ok}
+use Rattle.std.specs.Prelude.{Bool, IfOk, IfSome, IsSome, None, Option, Some, is_some, true, MatchResult, Result, Ok, Err, codes}
+use Rattle.std.specs.declared.alloc.AllocError.{AllocError}
+use Rattle.ubi_media.specs.Geometry.{Sizes}
+use Rattle.ubi_media.specs.Limits.{first_broken}
+use Rattle.ubi_scan.specs.Source.{Agreed, Narrows, Source, holds, known_by, memory}
+use Rattle.ubi_commands.specs.AfterRun.{IsTold, after_left, after_right, after_run, outcome, read_failed}
+use Rattle.ubi_commands.specs.Answer.{Gives, says}
+use Rattle.ubi_commands.specs.inner.Ended.{IsEnded, IsToldOfSides, Works, answered, comparison, done, left_failed, no_read, no_source, no_write, right_failed, unopened}
+use Rattle.ubi_commands.specs.Disk.{Files, IsJudgedOf}
+use Rattle.ubi_commands.specs.Lines.{file_line}
+use Rattle.ubi_commands.specs.Numbers.{sizes_of}
+use Rattle.ubi_commands.specs.Opened.{IsOpened}
+use Rattle.ubi_commands.specs.declared.open_image.OpenImage.{OpenImage}
+use Rattle.ubi_commands.specs.declared.open_image.OpenImage.TheVariants as image
+use Rattle.ubi_commands.specs.Program.{IsRead, OfFile, cannot_read, no_file, places, whole}
+use Rattle.ubi_commands.specs.declared.numbers.Numbers.{Numbers}
+use Rattle.ubi_commands.specs.declared.outcome.Outcome.{Outcome}
+use Rattle.ubi_commands.specs.declared.outcome.SidesError.{SidesError}
+use Rattle.ubi_commands.specs.declared.outcome.ToolError.{ToolError}
+use Rattle.ubi_commands.specs.declared.outcome.ToolError.TheVariants as tool
+
+-- a file that is there is open
+pub is_open : {X : Type 0} → (file : Option X) → IsSome file → is_some file ≡ true
+is_open None h = absurd cc
+is_open (Some f) h = refl
+
+-- work that came to an outcome ends so
+pub after_outcome : (answer : Result Outcome ToolError) (there : Bool) (d unread unwritten o : Outcome) → answer ≡ Ok d
+    → IsEnded (Ok d) there unread unwritten o → IsEnded answer there unread unwritten o
+after_outcome answer there d unread unwritten o is h =
+    subst (λ (a : Result Outcome ToolError). IsEnded a there unread unwritten o) (sym is) h
+
+-- work that failed ends so
+pub after_error : (answer : Result Outcome ToolError) (there : Bool) (e : ToolError) (unread unwritten : Outcome)
+    (r : Result Outcome AllocError) → answer ≡ Err e
+    → MatchResult r (λ o. (b : Bool) → IsEnded (Err e) b unread unwritten o) (λ _. e ≡ tool.Memory)
+    → MatchResult r (IsEnded answer there unread unwritten) (λ _. answer ≡ Err tool.Memory)
+after_error answer there e unread unwritten (Ok o) is h =
+    subst (λ (a : Result Outcome ToolError). IsEnded a there unread unwritten o) (sym is) (h there)
+after_error answer there e unread unwritten (Err x) is h = is ∙ ap Err h
+
+module _ (answer : Result Outcome ToolError) (there : Bool) (k after : Source) (path : List ℕ) (answers : Outcome → Type 0)
+    (unread unwritten : Outcome) where
+  ends_in : (o : Outcome) → IsEnded answer there unread unwritten o
+      → ((d : Outcome) → answer ≡ Ok d → (d.status ≡ 0 → there ≡ true) → answers d)
+      → ((d : Outcome) → answer ≡ Ok d → d.status ≡ 0 → answers unwritten) → (answer ≡ Err tool.Write → answers unwritten)
+      → after ≡ after_run k answer
+      → Gives unread (says (file_line (codes "cannot read ") path) 1) → Works k after path answers o
+  ends_in o (done is opened) ok late failed known source = answered (known ∙ ap (after_run k) is) (ok o is opened)
+  ends_in o (unopened d is zero closed) ok late failed known source =
+      answered (known ∙ ap (after_run k) is) (late d is zero)
+  ends_in o (no_read is) ok late failed known source = no_source (known ∙ ap (after_run k) is) source
+  ends_in o (no_write is) ok late failed known source = answered (known ∙ ap (after_run k) is) (failed is)
+
+  -- the work's answer, and what was to be written where the file failed
+  pub ends : (r : Result Outcome AllocError)
+      → MatchResult r (IsEnded answer there unread unwritten) (λ _. answer ≡ Err tool.Memory)
+      → ((d : Outcome) → answer ≡ Ok d → (d.status ≡ 0 → there ≡ true) → answers d)
+      → ((d : Outcome) → answer ≡ Ok d → d.status ≡ 0 → answers unwritten) → (answer ≡ Err tool.Write → answers unwritten)
+      → after ≡ after_run k answer → Gives unread (says (file_line (codes "cannot read ") path) 1)
+      → IfOk r (Works k after path answers)
+  ends (Ok o) h ok late failed known source = ends_in o h ok late failed known source
+  ends (Err e) h ok late failed known source = tt
+
+-- work that writes nothing, once it is told
+module _ (work : Result Outcome ToolError) (k after : Source) (path : List ℕ) (answers : Outcome → Type 0) where
+  works_in : (o : Outcome) → IsTold work path o → after ≡ after_run k work → IfOk work answers → Works k after path answers o
+  works_in o (outcome is) known ok = answered (known ∙ ap (after_run k) is) (IfOk-at_ok answers is ok)
+  works_in o (read_failed is line) known ok = no_source (known ∙ ap (after_run k) is) line
+
+module _ (d : Files) (numbers : Numbers) (path : List ℕ) (answers : Sizes → Source → Agreed → Outcome → Type 0) (s : Sizes)
+    (same : s ≡ sizes_of numbers) where
+  -- what is answered of a file that is known by its reads
+  pub at_places : (k after : Source) (reads : List (ℕ × List ℕ)) (o : Outcome)
+      → first_broken (sizes_of numbers) ≡ None → (k.failures ≡ 0) × (k.held ≡ d.holds path) → IfSome after.held (known_by after.size reads)
+      → Works k after path (answers s k (known_by after.size reads)) o → OfFile d numbers path answers o
+  at_places k after reads o limits opened told (answered is h) =
+      let here = subst (λ (x : Source). answers s k (known_by x.size reads) o) is h in
+      let held = subst (λ (x : Source). IfSome x.held (known_by x.size reads)) is told in
+      let named = subst (λ (x : Option (List ℕ)). IfSome x (known_by k.size reads)) opened.1 held in
+      places k reads limits opened.0 named (subst (λ (t : Sizes). answers t k (known_by k.size reads) o) same here)
+  at_places k after reads o limits opened told (no_source is line) = no_file (cannot_read limits line)
+
+  -- and of one that was read whole
+  pub by_bytes : (bytes start later : List ℕ) (o : Outcome) → IsRead (sizes_of numbers) bytes
+      → IsJudgedOf d path (sizes_of numbers) bytes → start ≡ bytes → Narrows (holds start) (holds later)
+      → Works (memory start) (memory later) path (answers s (memory start) (holds later)) o
+      → OfFile d numbers path answers o
+  by_bytes bytes start later o read named is narrows (answered known h) =
+      let held = subst (λ (b : List ℕ). answers s (memory start) (holds b) o) (narrows later refl) h in
+      let here = subst (λ (b : List ℕ). answers s (memory b) (holds b) o) is held in
+      whole bytes read named (subst (λ (t : Sizes). answers t (memory bytes) (holds bytes) o) same here)
+  by_bytes bytes start later o read named is narrows (no_source known line) =
+      let e = ap (λ (k : Source). k.failures) known in absurd (omega (arith, e))
+
+  -- of work that writes nothing
+  pub told_at_places : (work : Result Outcome ToolError) (k after : Source) (reads : List (ℕ × List ℕ)) (r : Result Outcome AllocError)
+      → first_broken (sizes_of numbers) ≡ None → (k.failures ≡ 0) × (k.held ≡ d.holds path) → IfSome after.held (known_by after.size reads)
+      → after ≡ after_run k work → IfOk work (answers s k (known_by after.size reads))
+      → IfOk r (IsTold work path) → IfOk r (OfFile d numbers path answers)
+  told_at_places work k after reads (Ok o) limits opened told known ok h =
+      at_places k after reads o limits opened told (works_in work k after path _ o h known ok)
+  told_at_places work k after reads (Err e) limits opened told known ok h = tt
+
+  pub told_by_bytes : (work : Result Outcome ToolError) (bytes start later : List ℕ) (r : Result Outcome AllocError)
+      → IsRead (sizes_of numbers) bytes → IsJudgedOf d path (sizes_of numbers) bytes → start ≡ bytes → Narrows (holds start) (holds later)
+      → memory later ≡ after_run (memory start) work
+      → IfOk work (answers s (memory start) (holds later))
+      → IfOk r (IsTold work path) → IfOk r (OfFile d numbers path answers)
+  told_by_bytes work bytes start later (Ok o) read named is narrows known ok h =
+      by_bytes bytes start later o read named is narrows (works_in work _ _ path _ o h known ok)
+  told_by_bytes work bytes start later (Err e) read named is narrows known ok h = tt
+
+  -- of a file that was opened, and of which nothing was read
+  pub of_opened : (o : Outcome) → ((k : Source) (agrees : Agreed) → answers s k agrees o) → first_broken (sizes_of numbers) ≡ None
+      → (k : Source) (reads : List (ℕ × List ℕ)) → (k.failures ≡ 0) × (k.held ≡ d.holds path) → IfSome k.held (known_by k.size reads)
+      → OfFile d numbers path answers o
+  of_opened o h limits k reads opened told = at_places k k reads o limits opened told (answered refl (h k (known_by k.size reads)))
+
+  pub of_whole : (o : Outcome) → ((k : Source) (agrees : Agreed) → answers s k agrees o) → (bytes : List ℕ) → IsRead (sizes_of numbers) bytes
+      → IsJudgedOf d path (sizes_of numbers) bytes → OfFile d numbers path answers o
+  of_whole o h bytes read named =
+      by_bytes bytes bytes bytes o read named refl (λ held is. is) (answered refl (h (memory bytes) (holds bytes)))
+
+-- what is answered of a file that was opened, and of which nothing was read
+pub of_any : {S : Type 0} (known : S → Source) (reads : S → List (ℕ × List ℕ)) (is : S → Type 0) (d : Files) (numbers : Numbers) (path : List ℕ)
+    (answers : Sizes → Source → Agreed → Outcome → Type 0) (o : Outcome)
+    → ((x : S) → IfSome (known x).held (known_by (known x).size (reads x)))
+    → ((x : S) → is x → ((known x).failures ≡ 0) × ((known x).held ≡ d.holds path))
+    → ((k : Source) (agrees : Agreed) → answers (sizes_of numbers) k agrees o) → (opened : OpenImage S)
+    → IsOpened is d path numbers opened → OfFile d numbers path answers o
+of_any known reads is d numbers path answers o tells unread h (image.AtPlaces file) was =
+    of_opened d numbers path answers (sizes_of numbers) refl o h was.1 (known file.source) (reads file.source) (unread file.source was.2)
+    (tells file.source)
+of_any known reads is d numbers path answers o tells unread h (image.Whole file) was =
+    of_whole d numbers path answers (sizes_of numbers) refl o h file.bytes.items was.1 was.2
+
+-- what is answered of a file is no less than more
+pub OfFile-weaker : (d : Files) (numbers : Numbers) (path : List ℕ) (P Q : Sizes → Source → Agreed → Outcome → Type 0)
+    → ((s : Sizes) (k : Source) (agrees : Agreed) (o : Outcome) → P s k agrees o → Q s k agrees o) → (o : Outcome)
+    → OfFile d numbers path P o → OfFile d numbers path Q o
+OfFile-weaker d numbers path P Q f o (no_file h) = no_file h
+OfFile-weaker d numbers path P Q f o (whole bytes read named h) = whole bytes read named (f _ _ _ o h)
+OfFile-weaker d numbers path P Q f o (places k reads limits zero named h) = places k reads limits zero named (f _ _ _ o h)
+
+-- two facts of what was answered
+pub both : {E : Type 0} (work : Result Outcome E) (P Q : Outcome → Type 0) → IfOk work P → IfOk work Q
+    → IfOk work (λ o. P o × Q o)
+both (Ok o) P Q p q = (p, q)
+both (Err e) P Q p q = tt
+
+-- a comparison of two files, once it is told
+module _ (work : Result Outcome SidesError) (k after : Source) (left right : List ℕ) (d : Files) (numbers : Numbers)
+    (answers : Sizes → Source → Agreed → Outcome → Type 0) (s : Sizes) (same : s ≡ sizes_of numbers) where
+  sides_at_places : (l later : Source) (reads : List (ℕ × List ℕ)) (o : Outcome)
+      → first_broken (sizes_of numbers) ≡ None → (l.failures ≡ 0) × (l.held ≡ d.holds right) → IfSome later.held (known_by later.size reads)
+      → after ≡ after_left k work → later ≡ after_right l work
+      → IfOk work (answers s l (known_by later.size reads))
+      → IsToldOfSides work left right o → Works k after left (OfFile d numbers right answers) o
+  sides_at_places l later reads o limits opened told here there ok (comparison is) =
+      answered (here ∙ ap (after_left k) is)
+      (at_places d numbers right answers s same l later reads o limits opened told
+      (answered (there ∙ ap (after_right l) is) (IfOk-at_ok _ is ok)))
+  sides_at_places l later reads o limits opened told here there ok (left_failed is line) =
+      no_source (here ∙ ap (after_left k) is) line
+  sides_at_places l later reads o limits opened told here there ok (right_failed is line) =
+      answered (here ∙ ap (after_left k) is) (no_file (cannot_read limits line))
+
+  pub beside_places : (l later : Source) (reads : List (ℕ × List ℕ)) (r : Result Outcome AllocError)
+      → first_broken (sizes_of numbers) ≡ None → (l.failures ≡ 0) × (l.held ≡ d.holds right) → IfSome later.held (known_by later.size reads)
+      → after ≡ after_left k work → later ≡ after_right l work
+      → IfOk work (answers s l (known_by later.size reads))
+      → IfOk r (IsToldOfSides work left right) → IfOk r (Works k after left (OfFile d numbers right answers))
+  beside_places l later reads (Ok o) limits opened told here there ok h =
+      sides_at_places l later reads o limits opened told here there ok h
+  beside_places l later reads (Err e) limits opened told here there ok h = tt
+
+  sides_by_bytes : (bytes start later : List ℕ) (o : Outcome) → IsRead (sizes_of numbers) bytes
+      → IsJudgedOf d right (sizes_of numbers) bytes → start ≡ bytes
+      → Narrows (holds start) (holds later) → after ≡ after_left k work
+      → memory later ≡ after_right (memory start) work
+      → IfOk work (answers s (memory start) (holds later))
+      → IsToldOfSides work left right o → Works k after left (OfFile d numbers right answers) o
+  sides_by_bytes bytes start later o read named is narrows here there ok (comparison came) =
+      answered (here ∙ ap (after_left k) came)
+      (by_bytes d numbers right answers s same bytes start later o read named is narrows
+      (answered (there ∙ ap (after_right _) came) (IfOk-at_ok _ came ok)))
+  sides_by_bytes bytes start later o read named is narrows here there ok (left_failed came line) =
+      no_source (here ∙ ap (after_left k) came) line
+  sides_by_bytes bytes start later o read named is narrows here there ok (right_failed came line) =
+      let e = ap (λ (k : Source). k.failures) (there ∙ ap (after_right _) came) in absurd (omega (arith, e))
+
+  pub beside_bytes : (bytes start later : List ℕ) (r : Result Outcome AllocError) → IsRead (sizes_of numbers) bytes
+      → IsJudgedOf d right (sizes_of numbers) bytes → start ≡ bytes
+      → Narrows (holds start) (holds later) → after ≡ after_left k work
+      → memory later ≡ after_right (memory start) work
+      → IfOk work (answers s (memory start) (holds later))
+      → IfOk r (IsToldOfSides work left right) → IfOk r (Works k after left (OfFile d numbers right answers))
+  beside_bytes bytes start later (Ok o) read named is narrows here there ok h =
+      sides_by_bytes bytes start later o read named is narrows here there ok h
+  beside_bytes bytes start later (Err e) read named is narrows here there ok h = tt

@@ -1,0 +1,75 @@
+-- How work ends that reads a source, and writes a file meanwhile.
+use Rattle.std.proofs.Common.{◌≡◌, ◌≢◌, ℕ, List, ap, refl, subst, sym, ◌∙◌}
+use Rattle.std.proofs.lemmas.Result.{IfOk-at_ok}
+use Rattle.std.specs.Option.{ForSome}
+use Rattle.std.specs.Prelude.{IfOk, IsSome, MatchResult, None, OnErr, Option, Some, Result, Ok, Err, codes, is_some, true}
+use Rattle.std.specs.declared.alloc.AllocError.{AllocError}
+use Rattle.ubi_scan.specs.Source.{Source}
+use Rattle.ubi_commands.specs.AfterRun.{WhereUnwritten, after_run}
+use Rattle.ubi_commands.specs.Answer.{Gives, says}
+use Rattle.ubi_commands.specs.Disk.{AllStay, Files, Holds, IsKept, IsLeft, fresh}
+use Rattle.ubi_commands.specs.inner.Ended.{IsEnded, Works}
+use Rattle.ubi_commands.specs.Late.{contents_of}
+use Rattle.ubi_commands.specs.Lines.{file_line}
+use Rattle.ubi_commands.specs.Program as program
+use Rattle.ubi_commands.specs.Program.{WritesInto}
+use Rattle.ubi_commands.specs.declared.outcome.Outcome.{Outcome}
+use Rattle.ubi_commands.specs.declared.outcome.ToolError.{ToolError}
+use Rattle.ubi_commands.specs.declared.outcome.ToolError.TheVariants as tool
+use Rattle.ubi_commands.proofs.Ended.{ends}
+use Rattle.ubi_commands.proofs.Outcomes.{holds_received}
+
+-- where work ended, its file was closed, or was never open
+is_left : {F : Type 0} (file : Option F) (d e : Files) (out : List ℕ) (received : Option (List ℕ)) (o : Outcome)
+    → (o.status ≡ 0 → is_some file ≡ true) → (o.status ≢ 0 → file ≡ None) → (IsSome file → Holds e out received)
+    → (file ≡ None → e.holds out ≡ d.holds out) → IsLeft d e out received o
+is_left None d e out received o opened unopened closed stays =
+    record { done = λ zero. let h = opened zero in absurd cc; refused = λ bad. stays refl }
+is_left (Some f) d e out received o opened unopened closed stays =
+    record { done = λ zero. closed refl; refused = λ bad. stays (unopened bad) }
+
+-- a file that wasn't opened before, and where nothing was written, isn't open
+unopened_by : {F : Type 0} (answer : Result Outcome ToolError) (o : Outcome) (file : Option F) → answer ≡ Ok o
+    → WhereUnwritten (file ≡ None) answer → o.status ≢ 0 → file ≡ None
+unopened_by answer o file came h = subst (WhereUnwritten (file ≡ None)) came h
+
+-- work into a file that was opened late, and closed
+module _ (answer : Result Outcome ToolError) (k after : Source) (path out : List ℕ) (d e : Files)
+    (answers : Option (List ℕ) → Option (List ℕ) → Outcome → Type 0) (writes : Type 0) where
+  pub into_file : {F : Type 0} (contents : F → Option (List ℕ)) (at : F → List ℕ) (key : List ℕ) (empty : Option (List ℕ)) (file : Option F)
+      (unread no_output : Outcome) (r : Result Outcome AllocError)
+      → out ≡ key → fresh d ≡ empty → ForSome file (λ f. at f ≡ key) → ForSome file (λ f. IsKept d e (at f) (contents f))
+      → (file ≡ None → e ≡ d)
+      → MatchResult r (IsEnded answer (is_some file) unread no_output) (λ _. answer ≡ Err tool.Memory)
+      → IfOk answer (answers empty (contents_of empty contents file)) → IfOk answer (λ o. o.status ≡ 0 → writes)
+      → WhereUnwritten (file ≡ None) answer → (answer ≡ Err tool.Write → writes) → after ≡ after_run k answer
+      → Gives unread (says (file_line (codes "cannot read ") path) 1) → Gives no_output (says (file_line (codes "cannot write ") out) 1)
+      → IfOk r (Works k after path (WritesInto out d e answers writes))
+  into_file contents at key empty file unread no_output r named same is kept none ended ok finished untouched failed known source output =
+      ends answer (is_some file) k after path _ unread no_output r ended
+      (λ o came opened. program.written (contents_of empty contents file)
+      (subst (λ (x : Option (List ℕ)). answers x (contents_of empty contents file) o) (sym same) (IfOk-at_ok _ came ok))
+      (is_left file d e out _ o opened (unopened_by answer o file came untouched) (λ some. holds_received contents at d e out key empty file named some is kept)
+      (λ nothing. ap (λ (x : Files). x.holds out) (none nothing))))
+      (λ o came zero. program.unwritten (IfOk-at_ok _ came finished zero) output)
+      (λ came. program.unwritten (failed came) output)
+      known source
+
+-- where memory ran out, no file was opened, and all stay as they were
+pub memory_ended : {F : Type 0} (answer : Result Outcome ToolError) (r : Result Outcome AllocError) (is : Outcome → Type 0) (d e : Files)
+    (file : Option F) → MatchResult r is (λ _. answer ≡ Err tool.Memory) → WhereUnwritten (file ≡ None) answer → (file ≡ None → e ≡ d)
+    → OnErr r (AllStay d e)
+memory_ended answer (Ok o) is d e file h untouched none = tt
+memory_ended answer (Err x) is d e file h untouched none =
+    λ path. ap (λ (f : Files). f.holds path) (none (subst (WhereUnwritten (file ≡ None)) h untouched))
+
+-- a file that is opened late isn't open where nothing was written
+pub still_unopened : {T L F : Type 0} (writer : T → L) (file : L → Option F) (answer : Result Outcome ToolError) (told later : T)
+    (late taken ended : L) → writer told ≡ late → file late ≡ None → WhereUnwritten (later ≡ told) answer → taken ≡ writer later
+    → WhereUnwritten (file ended ≡ file taken) answer → WhereUnwritten (file ended ≡ None) answer
+still_unopened writer file (Ok o) told later late taken ended begun unopened same is stays =
+    λ bad. stays bad ∙ ap file (is ∙ ap writer (same bad) ∙ begun) ∙ unopened
+still_unopened writer file (Err tool.Memory) told later late taken ended begun unopened same is stays =
+    stays ∙ ap file (is ∙ ap writer same ∙ begun) ∙ unopened
+still_unopened writer file (Err tool.Read) told later late taken ended begun unopened same is stays = tt
+still_unopened writer file (Err tool.Write) told later late taken ended begun unopened same is stays = tt

@@ -1,0 +1,74 @@
+-- Words that lack what a command needs are no request of it.
+use Rattle.std.proofs.Common.{◌≡◌, ◌∙◌, List, codes, false, refl, sym, true≢false, ℕ}
+use Rattle.std.specs.Str.{bytes_eq}
+use Rattle.std.proofs.lemmas.Slice.Eq.{bytes_eq-Decides}
+use Rattle.clap.specs.Walk.{Row, Text}
+use Rattle.ubi_commands.specs.CommandLine.{AsksChange, AsksExtract, AsksNewImage, AsksNumbers, AsksPaths, AsksRename, HasNumber}
+use Rattle.ubi_commands.specs.inner.CommandLine.{IsAskedBy}
+use Rattle.ubi_commands.specs.declared.command_line.Change.{Change}
+use Rattle.ubi_commands.specs.declared.command_line.Extract.{Extract}
+use Rattle.ubi_commands.specs.declared.command_line.NewImage.{NewImage}
+use Rattle.ubi_commands.specs.declared.command_line.Paths.{Paths}
+use Rattle.ubi_commands.specs.declared.command_line.Rename.{Rename}
+use Rattle.ubi_commands.specs.declared.command_line.Request.{Request}
+use Rattle.ubi_commands.specs.declared.command_line.Request.TheVariants as request
+use Rattle.ubi_commands.specs.declared.numbers.Numbers.{Numbers}
+
+pub apart : (a b : Text) → bytes_eq a b ≡ false → a ≡ b → ⊥
+apart a b differ same = true≢false (sym ((bytes_eq-Decides a b).1 same) ∙ differ)
+
+-- of a command that is asked with the numbers of a geometry
+pub no_numbers : (name : Text) → bytes_eq (codes "geometry") name ≡ false → (rows : List Row)
+    → ((n : Numbers) → AsksNumbers rows n → ⊥) → (r : Request) → IsAskedBy name rows r → ⊥
+no_numbers name other rows none (request.Geometry image) asked = apart _ _ other asked.0
+no_numbers name other rows none (request.List n image) asked = none n asked.1.0
+no_numbers name other rows none (request.Check n image) asked = none n asked.1.0
+no_numbers name other rows none (request.Show n image block) asked = none n asked.1.0
+no_numbers name other rows none (request.Extract n extract) asked = none n asked.1.0
+no_numbers name other rows none (request.Unpack n paths) asked = none n asked.1.0
+no_numbers name other rows none (request.Compose n new) asked = none n asked.1.0
+no_numbers name other rows none (request.Build n new) asked = none n asked.1.0
+no_numbers name other rows none (request.Normalise n paths) asked = none n asked.1.0
+no_numbers name other rows none (request.Same n left right) asked = none n asked.1.0
+no_numbers name other rows none (request.Change n change) asked = none n asked.1.0
+no_numbers name other rows none (request.Rename n rename) asked = none n asked.1.0
+
+pub no_block : (rows : List Row) → ((n : ℕ) → HasNumber rows (codes "block") n → ⊥) → (r : Request)
+    → IsAskedBy (codes "show") rows r → ⊥
+no_block rows none (request.Show n image block) asked = none block asked.1.2
+no_block rows none _ asked = apart _ _ refl asked.0
+
+pub no_extract : (rows : List Row) → ((x : Extract) → AsksExtract rows x → ⊥) → (r : Request)
+    → IsAskedBy (codes "extract") rows r → ⊥
+no_extract rows none (request.Extract n extract) asked = none extract asked.1.1
+no_extract rows none _ asked = apart _ _ refl asked.0
+
+pub no_unpack : (rows : List Row) → ((p : Paths) → AsksPaths rows p → ⊥) → (r : Request)
+    → IsAskedBy (codes "unpack") rows r → ⊥
+no_unpack rows none (request.Unpack n paths) asked = none paths asked.1.1
+no_unpack rows none _ asked = apart _ _ refl asked.0
+
+pub no_normalise : (rows : List Row) → ((p : Paths) → AsksPaths rows p → ⊥) → (r : Request)
+    → IsAskedBy (codes "normalise") rows r → ⊥
+no_normalise rows none (request.Normalise n paths) asked = none paths asked.1.1
+no_normalise rows none _ asked = apart _ _ refl asked.0
+
+pub no_compose : (rows : List Row) → ((i : NewImage) → AsksNewImage rows (codes "SPEC") i → ⊥) → (r : Request)
+    → IsAskedBy (codes "compose") rows r → ⊥
+no_compose rows none (request.Compose n new) asked = none new asked.1.1
+no_compose rows none _ asked = apart _ _ refl asked.0
+
+pub no_build : (rows : List Row) → ((i : NewImage) → AsksNewImage rows (codes "CONFIG") i → ⊥) → (r : Request)
+    → IsAskedBy (codes "build") rows r → ⊥
+no_build rows none (request.Build n new) asked = none new asked.1.1
+no_build rows none _ asked = apart _ _ refl asked.0
+
+pub no_change : (rows : List Row) → ((c : Change) → AsksChange rows c → ⊥) → (r : Request)
+    → IsAskedBy (codes "change") rows r → ⊥
+no_change rows none (request.Change n change) asked = none change asked.1.1
+no_change rows none _ asked = apart _ _ refl asked.0
+
+pub no_rename : (rows : List Row) → ((c : Rename) → AsksRename rows c → ⊥) → (r : Request)
+    → IsAskedBy (codes "rename") rows r → ⊥
+no_rename rows none (request.Rename n rename) asked = none rename asked.1.1
+no_rename rows none _ asked = apart _ _ refl asked.0

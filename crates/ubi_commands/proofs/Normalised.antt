@@ -1,0 +1,51 @@
+-- What a normalising of a source tells of an image whose bytes are known, and over files.
+use Rattle.std.proofs.Common.{◌≡◌, ℕ, ◌/◌, List, ap, length, refl, subst, sym, ◌∙◌}
+use Rattle.std.proofs.lemmas.Result.{IfErr-at_err}
+use Rattle.std.specs.Prelude.{IfErr, IfOk, Option, Result, Ok, Err}
+use Rattle.ubi_media.specs.Geometry.{IsGeometry, Sizes}
+use Rattle.ubi_scan.specs.Image.{Image, image_of}
+use Rattle.ubi_scan.specs.Source.{Agreed, Source, WhereHeld}
+use Rattle.ubi_volume.specs.Accepts.{Accepts}
+use Rattle.ubi_volume.specs.Meant.{Meant}
+use Rattle.ubi_compose.specs.Normal.{normal_blocks}
+use Rattle.ubi_compose.specs.Streamed.{IsStreamed}
+use Rattle.ubi_compose.proofs.Form.{count-normal_bytes}
+use Rattle.ubi_commands.specs.Answer.{Gives, says}
+use Rattle.ubi_commands.specs.Lines.{blocks_line}
+use Rattle.ubi_commands.specs.Normalise.{HasMeaning, IsNormaliseError, Normalises, accepted, refused}
+use Rattle.ubi_commands.specs.declared.outcome.Outcome.{Outcome}
+use Rattle.ubi_commands.specs.declared.outcome.ToolError.{ToolError}
+use Rattle.ubi_commands.specs.declared.outcome.ToolError.TheVariants as tool
+use Rattle.ubi_commands.proofs.Outcomes.{not_both}
+
+quotient : {n l a b : ℕ} → n ≡ l → a ≡ b → n / a ≡ l / b
+quotient e f = rw (e, f) refl
+
+-- bytes that are the normal image are counted as its eraseblocks
+pub of_streamed : (s : Sizes) (bytes : List ℕ) (old new : Option (List ℕ)) (n : ℕ) (o : Outcome) → IsGeometry s
+    → IsStreamed (image_of s bytes) old new n → Gives o (says (blocks_line (n / s.peb_size)) 0)
+    → Normalises (image_of s bytes) old new o
+of_streamed s bytes old new n o g h gives =
+    let means = h.accepted.accepted.means in
+    let size : s.peb_size ≡ h.meaning.sizes.peb_size = ap (λ s. s.peb_size) (sym means.sizes) in
+    let count : n / s.peb_size ≡ length (normal_blocks h.meaning) =
+    quotient h.count size ∙ count-normal_bytes h.meaning (subst IsGeometry (sym means.sizes) g) means.meaning in
+    accepted h.meaning h.accepted (subst (λ (b : ℕ). Gives o (says (blocks_line b) 0)) count gives) h.written
+
+-- work that was done is that of an accepted image
+pub done_image : (image : Image) (old new : Option (List ℕ)) (o : Outcome) → Normalises image old new o → o.status ≡ 0
+    → (m : Meant) × Accepts image m
+done_image image old new o (accepted m a line bytes) done = (m, a)
+done_image image old new o (refused c h line kept) done = absurd (not_both o done line.status)
+
+-- work that was done, and work of which a write failed, is that of an accepted image
+module _ (s : Sizes) (k : Source) (agrees : Agreed) (old new : Option (List ℕ)) where
+  pub meant_done : (answer : Result Outcome ToolError)
+      → IfOk answer (λ o. WhereHeld agrees (λ bytes. Normalises (image_of s bytes) old new o))
+      → IfOk answer (λ o. o.status ≡ 0 → HasMeaning s agrees)
+  meant_done (Ok o) h = λ zero bytes holds. done_image (image_of s bytes) old new o (h bytes holds) zero
+  meant_done (Err e) h = tt
+
+  pub meant_failed : (answer : Result Outcome ToolError) → IfErr answer (IsNormaliseError s k agrees old new) → answer ≡ Err tool.Write
+      → HasMeaning s agrees
+  meant_failed answer err is bytes holds = let cut = (IfErr-at_err _ is err).1.1 bytes holds in (cut.meaning, cut.accepted)

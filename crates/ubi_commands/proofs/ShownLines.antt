@@ -1,0 +1,29 @@
+-- What is shown of a source, of whatever it may hold.
+use Rattle.std.proofs.Common.{◌≡◌, ℕ, ◌<◌, ◌≤◌, List, length, subst, sym}
+use Rattle.ubi_media.specs.Geometry.{Sizes}
+use Rattle.ubi_media.specs.declared.refusal.Refusal.{Refusal}
+use Rattle.ubi_scan.specs.Image.{IsLengthFault, IsWholeSize, block, image_of}
+use Rattle.ubi_scan.specs.Source.{Agreed, IsSource, Source, blocks_in, blocks_of}
+use Rattle.ubi_scan.proofs.ReadParts.{count_blocks}
+use Rattle.ubi_commands.specs.Answer.{Gives, says}
+use Rattle.ubi_commands.specs.Lines.{no_block_line, refusal_line}
+use Rattle.ubi_commands.specs.Show.{Shows, block_lines, no_block, no_image, shown}
+use Rattle.ubi_commands.specs.declared.outcome.Outcome.{Outcome}
+
+module _ (s : Sizes) (k : Source) (agrees : Agreed) (is : IsSource k agrees) (bytes : List ℕ) (holds : agrees bytes) (p : ℕ)
+    (o : Outcome) where
+  pub of_size : (c : Refusal) → IsLengthFault s k.size c → Gives o (says (refusal_line c) 1) → Shows (image_of s bytes) p o
+  of_size c fault line = no_image c (subst (λ (n : ℕ). IsLengthFault s n c) (sym (is.sized bytes holds)) fault) line
+
+  whole : IsWholeSize s k.size → IsWholeSize s (length bytes)
+  whole h = subst (IsWholeSize s) (sym (is.sized bytes holds)) h
+
+  count : length (blocks_of s bytes) ≡ blocks_in s k
+  count = count_blocks s k agrees bytes is holds
+
+  pub of_no_block : IsWholeSize s k.size → blocks_in s k ≤ p → Gives o (says no_block_line 1) → Shows (image_of s bytes) p o
+  of_no_block h far line = no_block (whole h) (subst (λ (n : ℕ). n ≤ p) (sym count) far) line
+
+  pub of_block : IsWholeSize s k.size → p < blocks_in s k
+      → Gives o (says (block_lines s (block (blocks_of s bytes) p)) 0) → Shows (image_of s bytes) p o
+  of_block h near lines = shown (whole h) (subst (λ (n : ℕ). p < n) (sym count) near) lines

@@ -1,0 +1,255 @@
+-- Words that the command line takes are a request.
+use Rattle.std.proofs.Common.{◌≡◌, ◌∙◌, ◌||◌, ◌∷◌, [], Bool, List, Some, ap, codes, cond, false, refl, sym, subst, true, true≢false, ℕ}
+use Rattle.std.specs.Borrow.{Bor}
+use Rattle.std.specs.Prelude.{unwrap_or}
+use Rattle.std.specs.List.{find, list_all}
+use Rattle.std.specs.Str.{bytes_eq}
+use Rattle.std.proofs.lemmas.Option.{same_Some}
+use Rattle.std.proofs.lemmas.Slice.Eq.{bytes_eq-Decides}
+use Rattle.clap.specs.Faults.{fault_of, level_fault}
+use Rattle.clap.specs.Simple.{Shape, argument_words, built, label_of, subcommand_of}
+use Rattle.clap.specs.Walk.{Row, Text, answers_to, nothing_held, rows_after}
+use Rattle.ubi_commands.specs.CommandLine.{Asks, AsksNewImage, AsksNumbers, AsksPaths, IsRequest, HasNumber, HasText, command_name}
+use Rattle.ubi_commands.specs.Tool.{HasOneVolume, Takes, tool}
+use Rattle.ubi_commands.specs.declared.command_line.Change.{Change}
+use Rattle.ubi_commands.specs.declared.command_line.Extract.{Extract}
+use Rattle.ubi_commands.specs.declared.command_line.NewImage.{NewImage}
+use Rattle.ubi_commands.specs.declared.command_line.Paths.{Paths}
+use Rattle.ubi_commands.specs.declared.command_line.Rename.{Rename}
+use Rattle.ubi_commands.specs.declared.command_line.Request.{Request}
+use Rattle.ubi_commands.specs.declared.command_line.Request.TheVariants as request
+use Rattle.ubi_commands.specs.declared.numbers.Numbers.{Numbers}
+use Rattle.ubi_commands.proofs.GivenKey.{key_asked}
+use Rattle.ubi_commands.proofs.GivenWords.{needs, number_asked, number_in, text_asked}
+use Rattle.ubi_commands.proofs.Uses.{is_number, takes_one}
+use Rattle.ubi_commands.proofs.Levels.{AreGiven, IsMet, leaf_given, met}
+
+-- the rows are a request of the command
+abbrev IsAsked : Text → List Row → Type 0
+IsAsked name rows = (r : Request) × (command_name r ≡ name) × Asks rows r
+
+-- the command needs an argument of this name
+abbrev Needs : Shape → Text → Type 0
+Needs s id = needs s.rules id ≡ true
+
+module _ (s : Shape) (rows : List Row) (given : AreGiven s rows) where
+  text : (id : Text) → Needs s id → (t : Bor Text) × HasText rows id t
+  text id wants = text_asked s.rules rows id given.each given.needed wants
+
+  number : (id : Text) → is_number id ≡ true → Needs s id → (n : ℕ) × HasNumber rows id n
+  number id is wants = number_asked s.rules rows id given.each given.needed wants is
+
+  numbers : Needs s (codes "peb") → Needs s (codes "page") → (n : Numbers) × AsksNumbers rows n
+  numbers peb page =
+      let size = number (codes "peb") refl peb in
+      let page_size = number (codes "page") refl page in
+      let vid = number_in rows (codes "vid") in
+      let data_at = number_in rows (codes "data") in
+      let pebs = number_in rows (codes "pebs") in (
+        record {
+          peb_size = size.0;
+          page = page_size.0;
+          vid_offset = vid.0;
+          data_offset = data_at.0;
+          pebs = pebs.0;
+        },
+        (size.1, page_size.1, vid.1, data_at.1, pebs.1),
+      )
+
+  paths : Needs s (codes "IMAGE") → Needs s (codes "out") → (p : Paths) × AsksPaths rows p
+  paths image out =
+      let i = text (codes "IMAGE") image in
+      let o = text (codes "out") out in
+      (record { image = i.0; out = o.0 }, (i.1, o.1))
+
+  new_image : (name : Text) → Needs s name → Needs s (codes "out") → (new : NewImage) × AsksNewImage rows name new
+  new_image name from out =
+      let t = text name from in
+      let o = text (codes "out") out in
+      let spares = number_in rows (codes "spares") in
+      let seq = number_in rows (codes "seq") in (
+        record {
+          from = t.0;
+          out = o.0;
+          spares = unwrap_or spares.0 0;
+          image_seq = unwrap_or seq.0 0;
+        },
+        (t.1, o.1, (spares.0, spares.1, refl), (seq.0, seq.1, refl)),
+      )
+
+  geometry_asked : Needs s (codes "IMAGE") → IsAsked (codes "geometry") rows
+  geometry_asked image =
+      let i = text (codes "IMAGE") image in
+      (request.Geometry i.0, refl, i.1)
+
+  list_asked : Needs s (codes "peb") → Needs s (codes "page") → Needs s (codes "IMAGE") → IsAsked (codes "list") rows
+  list_asked peb page image =
+      let n = numbers peb page in
+      let i = text (codes "IMAGE") image in
+      (request.List n.0 i.0, refl, (n.1, i.1))
+
+  check_asked : Needs s (codes "peb") → Needs s (codes "page") → Needs s (codes "IMAGE") → IsAsked (codes "check") rows
+  check_asked peb page image =
+      let n = numbers peb page in
+      let i = text (codes "IMAGE") image in
+      (request.Check n.0 i.0, refl, (n.1, i.1))
+
+  show_asked : Needs s (codes "peb") → Needs s (codes "page") → Needs s (codes "IMAGE") → Needs s (codes "block")
+      → IsAsked (codes "show") rows
+  show_asked peb page image block =
+      let n = numbers peb page in
+      let i = text (codes "IMAGE") image in
+      let b = number (codes "block") refl block in
+      (request.Show n.0 i.0 b.0, refl, (n.1, i.1, b.1))
+
+  extract_asked : Needs s (codes "peb") → Needs s (codes "page") → Needs s (codes "IMAGE") → Needs s (codes "out")
+      → HasOneVolume (Some (codes "extract", rows)) → IsAsked (codes "extract") rows
+  extract_asked peb page image out one =
+      let n = numbers peb page in
+      let p = paths image out in
+      let k = key_asked rows given.each (one rows refl) in
+      let extract : Extract = record { paths = p.0; key = k.0 } in
+      (request.Extract n.0 extract, refl, (n.1, (p.1, k.1)))
+
+  unpack_asked : Needs s (codes "peb") → Needs s (codes "page") → Needs s (codes "IMAGE") → Needs s (codes "out")
+      → IsAsked (codes "unpack") rows
+  unpack_asked peb page image out =
+      let n = numbers peb page in
+      let p = paths image out in
+      (request.Unpack n.0 p.0, refl, (n.1, p.1))
+
+  compose_asked : Needs s (codes "peb") → Needs s (codes "page") → Needs s (codes "SPEC") → Needs s (codes "out")
+      → IsAsked (codes "compose") rows
+  compose_asked peb page spec out =
+      let n = numbers peb page in
+      let new = new_image (codes "SPEC") spec out in
+      (request.Compose n.0 new.0, refl, (n.1, new.1))
+
+  build_asked : Needs s (codes "peb") → Needs s (codes "page") → Needs s (codes "CONFIG") → Needs s (codes "out")
+      → IsAsked (codes "build") rows
+  build_asked peb page config out =
+      let n = numbers peb page in
+      let new = new_image (codes "CONFIG") config out in
+      (request.Build n.0 new.0, refl, (n.1, new.1))
+
+  normalise_asked : Needs s (codes "peb") → Needs s (codes "page") → Needs s (codes "IMAGE") → Needs s (codes "out")
+      → IsAsked (codes "normalise") rows
+  normalise_asked peb page image out =
+      let n = numbers peb page in
+      let p = paths image out in
+      (request.Normalise n.0 p.0, refl, (n.1, p.1))
+
+  same_asked : Needs s (codes "peb") → Needs s (codes "page") → Needs s (codes "IMAGE") → Needs s (codes "OTHER")
+      → IsAsked (codes "same") rows
+  same_asked peb page image other =
+      let n = numbers peb page in
+      let i = text (codes "IMAGE") image in
+      let o = text (codes "OTHER") other in
+      (request.Same n.0 i.0 o.0, refl, (n.1, i.1, o.1))
+
+  change_asked : Needs s (codes "peb") → Needs s (codes "page") → Needs s (codes "IMAGE") → Needs s (codes "id")
+      → Needs s (codes "lnum") → Needs s (codes "from") → Needs s (codes "out") → IsAsked (codes "change") rows
+  change_asked peb page image id lnum from out =
+      let n = numbers peb page in
+      let p = paths image out in
+      let v = number (codes "id") refl id in
+      let l = number (codes "lnum") refl lnum in
+      let f = text (codes "from") from in
+      let stop = number_in rows (codes "stop") in
+      let change : Change = record {
+        paths = p.0;
+        id = v.0;
+        lnum = l.0;
+        from = f.0;
+        stop = stop.0;
+      } in
+      (request.Change n.0 change, refl, (n.1, (p.1, v.1, l.1, f.1, stop.1)))
+
+  rename_asked : Needs s (codes "peb") → Needs s (codes "page") → Needs s (codes "IMAGE") → Needs s (codes "id")
+      → Needs s (codes "name") → Needs s (codes "out") → IsAsked (codes "rename") rows
+  rename_asked peb page image id name out =
+      let n = numbers peb page in
+      let p = paths image out in
+      let v = number (codes "id") refl id in
+      let new = text (codes "name") name in
+      let stop = number_in rows (codes "stop") in
+      let rename : Rename = record {
+        paths = p.0;
+        id = v.0;
+        name = new.0;
+        stop = stop.0;
+      } in
+      (request.Rename n.0 rename, refl, (n.1, (p.1, v.1, new.1, stop.1)))
+
+-- ---- whichever command was met
+
+or_false : (b : Bool) → (b || false) ≡ true → b ≡ true
+or_false true e = refl
+or_false false e = e
+
+-- words behind the name of this command that are taken are a request of it
+abbrev AsksIt : Shape → Type 0
+AsksIt s = (name : Text) (words : List Text) → answers_to name (label_of s) ≡ true
+    → bytes_eq name (codes "help") ≡ false → level_fault s [] nothing_held words false [] ≡ []
+    → HasOneVolume (Some (s.name, rows_after s.rules [] words)) → IsAsked s.name (rows_after s.rules [] words)
+
+data EachAsks : List Shape → Type 0 where
+  none : EachAsks []
+  also : {s : Shape} {rest : List Shape} → AsksIt s → EachAsks rest → EachAsks (s ∷ rest)
+
+found_asks : (p : Shape → Bool) {shapes : List Shape} (s : Shape) → EachAsks shapes → find p shapes ≡ Some s
+    → AsksIt s × (p s ≡ true)
+found_asks p s none e = absurd (cc)
+found_asks p s (also {s = x} {rest = rest} here behind) e = go (p x) refl e (λ h. found_asks p s behind h)
+  where
+    go : (b : Bool) → p x ≡ b → cond b (Some x) (find p rest) ≡ Some s
+        → (find p rest ≡ Some s → AsksIt s × (p s ≡ true)) → AsksIt s × (p s ≡ true)
+    go true is h later =
+        let same : x ≡ s = same_Some _ _ h in
+        (subst AsksIt same here, ap p (sym same) ∙ is)
+    go false is h later = later h
+
+-- of a command of which each argument takes one value
+asks_it : (s : Shape) → s.args_override_self ≡ false → s.subcommand_negates_reqs ≡ false
+    → list_all takes_one s.rules ≡ true
+    → ((rows : List Row) → AreGiven s rows → HasOneVolume (Some (s.name, rows)) → IsAsked s.name rows) → AsksIt s
+asks_it s once negates ok asked name words named no_help fault one =
+    asked (rows_after s.rules [] words) (leaf_given s words once negates ok fault) one
+
+-- `help` isn't met
+help_asks : (s : Shape) → s.name ≡ codes "help" → s.aliases ≡ [] → AsksIt s
+help_asks s is alone name words named no_help fault one =
+    let same : (bytes_eq (codes "help") name || false) ≡ true = rw (is, alone) at named in
+    let help : codes "help" ≡ name = (bytes_eq-Decides (codes "help") name).0 (or_false _ same) in
+    absurd (true≢false (sym ((bytes_eq-Decides name (codes "help")).1 (sym help)) ∙ no_help))
+
+each_asks : EachAsks (built tool).subs
+unfolding tool
+each_asks =
+    also (asks_it _ refl refl refl (λ rows given one. geometry_asked _ rows given refl))
+    (also (asks_it _ refl refl refl (λ rows given one. list_asked _ rows given refl refl refl))
+    (also (asks_it _ refl refl refl (λ rows given one. check_asked _ rows given refl refl refl))
+    (also (asks_it _ refl refl refl (λ rows given one. show_asked _ rows given refl refl refl refl))
+    (also (asks_it _ refl refl refl (λ rows given one. extract_asked _ rows given refl refl refl refl one))
+    (also (asks_it _ refl refl refl (λ rows given one. unpack_asked _ rows given refl refl refl refl))
+    (also (asks_it _ refl refl refl (λ rows given one. compose_asked _ rows given refl refl refl refl))
+    (also (asks_it _ refl refl refl (λ rows given one. build_asked _ rows given refl refl refl refl))
+    (also (asks_it _ refl refl refl (λ rows given one. normalise_asked _ rows given refl refl refl refl))
+    (also (asks_it _ refl refl refl (λ rows given one. same_asked _ rows given refl refl refl refl))
+    (also (asks_it _ refl refl refl (λ rows given one. change_asked _ rows given refl refl refl refl refl refl refl))
+    (also (asks_it _ refl refl refl (λ rows given one. rename_asked _ rows given refl refl refl refl refl refl))
+    (also (help_asks _ refl refl) none))))))))))))
+
+tool_met : (words : List Text) → fault_of tool words ≡ [] → IsMet (built tool) (argument_words tool words)
+unfolding tool
+tool_met words takes = met (built tool) (argument_words tool words) refl refl takes
+
+-- words that are taken are a request
+pub taken_asked : (words : List Text) → Takes words → (r : Request) × IsRequest (subcommand_of tool words) r
+taken_asked words takes =
+    let m = tool_met words takes.0 in
+    let asks = found_asks (λ s. answers_to m.name (label_of s)) m.shape each_asks m.found in
+    let rows = rows_after m.shape.rules [] m.behind in
+    let one : HasOneVolume (Some (m.shape.name, rows)) = subst HasOneVolume m.is takes.1 in
+    let asked = asks.0 m.name m.behind asks.1 m.no_help m.fault one in
+    (asked.0, (rows, m.is ∙ ap (λ (name : Text). Some (name, rows)) (sym asked.1), asked.2))

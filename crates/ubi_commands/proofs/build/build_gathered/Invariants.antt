@@ -1,0 +1,5 @@
+use Rattle.ubi_commands.specs.Disk.{fresh}
+use Rattle.ubi_commands.proofs.build.build_gathered.Given as goal
+
+abbrev pub ghosts-build_into : goal.ghosts-build_into
+ghosts-build_into g a = record { path = a.asked.now.out.now; empty = fresh (g.D.Disk.files a.disk.now) }

@@ -1,0 +1,15 @@
+use Rattle.std.proofs.lemmas.Result.{IfOk-weaker}
+use Rattle.clap.specs.Built.{AddsArg}
+use Rattle.ubi_commands.proofs.CommandNames.{argued, argued_needed}
+use Rattle.ubi_commands.proofs.command_line.change_command.Goals as goal
+
+pub returns : goal.returns
+returns c =
+    let one = argued_needed _ _ _ _ _ _ c.in_ok-command-2.ensures c.required.ensures c.number.ensures.global
+    c.number.ensures.rule c.in_ok-command.ensures in
+    let two = argued_needed _ _ _ _ _ _ c.in_ok-command-3.ensures c.required-2.ensures c.number-2.ensures.global
+    c.number-2.ensures.rule one in
+    let three = argued _ _ _ _ _ c.in_ok-command-4.ensures c.new_bytes.ensures.global c.new_bytes.ensures.rule two in
+    IfOk-weaker c.arg-4.result (λ r. AddsArg c.in_ok-command-4.command c.number-3.result r) _
+    (λ r adds. argued _ _ _ _ _ adds c.number-3.ensures.global c.number-3.ensures.rule three)
+    c.arg-4.ensures

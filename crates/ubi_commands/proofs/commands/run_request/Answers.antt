@@ -1,0 +1,19 @@
+use Rattle.ubi_commands.proofs.commands.run_request.Goals as goal
+
+pub returns-in-Extract-clause-answer : goal.returns-in-Extract-clause-answer
+returns-in-Extract-clause-answer g c = rw c.in-Extract.is c.write_file.ensures.answer
+
+pub returns-in-Compose-clause-answer : goal.returns-in-Compose-clause-answer
+returns-in-Compose-clause-answer g c = rw c.in-Compose.is c.compose_file.ensures.answer
+
+pub returns-in-Normalise-clause-answer : goal.returns-in-Normalise-clause-answer
+returns-in-Normalise-clause-answer g c = rw c.in-Normalise.is c.write_file-in-Normalise.ensures.answer
+
+pub returns-in-Change-clause-answer : goal.returns-in-Change-clause-answer
+returns-in-Change-clause-answer g c = rw c.in-Change.is c.change_file.ensures.answer
+
+pub returns-in-Rename-clause-answer : goal.returns-in-Rename-clause-answer
+returns-in-Rename-clause-answer g c = rw c.in-Rename.is c.rename_file.ensures.answer
+
+pub returns-in-Build-clause-answer : goal.returns-in-Build-clause-answer
+returns-in-Build-clause-answer g c = rw c.in-Build.is c.build_file.ensures.answer

@@ -1,0 +1,14 @@
+use Rattle.std.proofs.Common.{◌≡◌, map, take, vec_items}
+use Rattle.std.specs.Prelude.{sum_by}
+use Rattle.ubi_commands.specs.Build.{AreBesideOut, AreUnread}
+use Rattle.ubi_commands.specs.inner.Gathering.{AreSoFar}
+use Rattle.ubi_commands.proofs.gathering.gather.Given as goal
+
+abbrev pub invariant-loop-section : goal.invariant-loop-section
+invariant-loop-section g l = record {
+  gathered : AreSoFar (g.D.Disk.files l.disk) l.geometry l.paths.config.now (take l.section-index l.sections) (vec_items l.gathered.parts)
+      (map (λ x. g.D.Placed.PlacedFile.bytes x.file) (vec_items l.gathered.files)) l.gathered.total;
+  total : l.gathered.total ≡ sum_by (λ x. x.len) (vec_items l.gathered.files);
+  apart : AreBesideOut l.paths.config.now l.paths.out.now (take l.section-index l.sections);
+  lines : AreUnread l.paths.config.now l.sections (vec_items l.gathered.unread);
+}

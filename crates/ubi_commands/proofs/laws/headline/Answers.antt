@@ -1,0 +1,16 @@
+use Rattle.ubi_volume.proofs.Either.{accepted_or_refused}
+use Rattle.ubi_volume.proofs.One.{Accepts-unique, never_accepted_and_refused}
+use Rattle.ubi_volume.proofs.OneCause.{one_cause}
+use Rattle.ubi_compose.proofs.Form.{normalising}
+use Rattle.ubi_change.proofs.PlanSurvives.{plan_survives_law}
+use Rattle.ubi_commands.proofs.laws.headline.Goals as goal
+
+pub returns : goal.returns
+returns c = record {
+  one_meaning = Accepts-unique;
+  normalising = normalising;
+  accepted_or_refused = accepted_or_refused;
+  never_both = never_accepted_and_refused;
+  one_cause = one_cause;
+  atomic = plan_survives_law;
+}

@@ -1,0 +1,7 @@
+use Rattle.std.proofs.Common.{◌≡◌, ◌++◌, take, vec_items}
+use Rattle.std.specs.List.{flat_map}
+use Rattle.ubi_commands.specs.Plan.{step_line}
+use Rattle.ubi_commands.proofs.plan.put_steps.Given as goal
+
+abbrev pub invariant-loop-step : goal.invariant-loop-step
+invariant-loop-step l = vec_items l.text ≡ vec_items l.initial.text ++ flat_map step_line (take l.step-index l.steps)

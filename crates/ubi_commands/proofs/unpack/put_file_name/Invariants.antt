@@ -1,0 +1,7 @@
+use Rattle.std.proofs.Common.{◌≡◌, ◌++◌, string_bytes, take}
+use Rattle.std.specs.List.{flat_map}
+use Rattle.ubi_commands.specs.Unpack.{file_byte}
+use Rattle.ubi_commands.proofs.unpack.put_file_name.Given as goal
+
+abbrev pub invariant-loop-byte : goal.invariant-loop-byte
+invariant-loop-byte l = string_bytes l.path ≡ string_bytes l.initial.path ++ flat_map file_byte (take l.byte-index l.name)

@@ -1,0 +1,15 @@
+use Rattle.std.proofs.Common.{ap, sym, ◌∙◌}
+use Rattle.ubi_volume.specs.Extract.{extent_len}
+use Rattle.ubi_commands.proofs.Unpacked.{all_unpacked, none_unpacked}
+use Rattle.ubi_commands.proofs.unpack.unpack_volume.Goals as goal
+
+pub returns-in_default-clause-unpacked : goal.returns-in_default-clause-unpacked
+returns-in_default-clause-unpacked g c = λ bytes holds h.
+    none_unpacked _ c.extent.result c.args.path.now _ c.in_default.not-Ok (c.extent.ensures.meant _ h)
+
+pub returns-in-Ok-work-clause-unpacked : goal.returns-in-Ok-work-clause-unpacked
+returns-in-Ok-work-clause-unpacked g c = λ bytes holds h.
+    all_unpacked c.args.geometry.now _ bytes holds c.args.places.now h c.args.id _
+    (ap extent_len (sym c.in-Ok.is) ∙ c.extent.ensures.meant _ h) _ _ _ c.in-Ok-work.ensures.written
+    (g.D.Disk.files c.args.disk.now) (g.D.Disk.files c.keep.new.self) c.args.path.now c.in-Ok-create_new.ensures.fresh
+    (rw c.in-Ok-create_new.ensures.path at c.keep.ensures)

@@ -1,0 +1,19 @@
+use Rattle.std.proofs.Common.{◌≡◌, take}
+use Rattle.std.specs.FinMap as finite
+use Rattle.ubi_scan.specs.Image.{image_of}
+use Rattle.ubi_scan.specs.Source.{Narrows, WhereHeld}
+use Rattle.ubi_volume.specs.Places.{ArePlaces}
+use Rattle.ubi_volume.specs.Reading.{read_volume}
+use Rattle.ubi_commands.specs.Disk.{OutsideStay}
+use Rattle.ubi_commands.specs.Unpack.{AreUnpacked}
+use Rattle.ubi_commands.proofs.unpack.unpack_volumes.Given as goal
+
+abbrev pub invariant-loop-i : goal.invariant-loop-i
+invariant-loop-i g l = record {
+  source : g.S.BlockSource.known l.source ≡ g.S.BlockSource.known l.fn.source;
+  narrows : Narrows (g.S.BlockSource.agrees l.fn.source) (g.S.BlockSource.agrees l.source);
+  unpacked : WhereHeld (g.S.BlockSource.agrees l.source) (λ bytes. (h : ArePlaces (image_of l.geometry bytes) l.places) →
+      AreUnpacked (read_volume h.meaning) l.folder.path.now (take l.i (finite.entries l.places.records.of)) (g.D.Disk.files l.fn.disk)
+      (g.D.Disk.files l.disk));
+  outside : OutsideStay (g.D.Disk.files l.fn.disk) (g.D.Disk.files l.disk) l.folder.path.now;
+}

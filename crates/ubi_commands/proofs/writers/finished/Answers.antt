@@ -1,0 +1,15 @@
+use Rattle.std.proofs.Common.{ap, refl}
+use Rattle.std.specs.Prelude.{is_some}
+use Rattle.ubi_commands.specs.inner.Ended.{done, unopened}
+use Rattle.ubi_commands.proofs.Ended.{is_open}
+use Rattle.ubi_commands.proofs.writers.finished.Goals as goal
+
+pub returns-then-outcome-ne-DONE-clause-answer : goal.returns-then-outcome-ne-DONE-clause-answer
+returns-then-outcome-ne-DONE-clause-answer g c = λ unread. done refl (λ zero. absurd (c.if-outcome-ne-DONE.true zero))
+
+pub returns-in-Ok-clause-answer : goal.returns-in-Ok-clause-answer
+returns-in-Ok-clause-answer g c = λ unread. done refl (λ zero. is_open c.finish.new.self.file c.in-Ok.ensures.opened)
+
+pub returns-in-Err-clause-answer : goal.returns-in-Err-clause-answer
+returns-in-Err-clause-answer g c = λ unread. unopened c.args.outcome refl c.if-outcome-ne-DONE.false
+    (ap is_some c.in-Err.ensures.unopened)

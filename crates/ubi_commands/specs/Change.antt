@@ -1,0 +1,65 @@
+-- What changing a logical eraseblock of an image answers.
+use Rattle.std.specs.Prelude.{◌≡◌, ◌⊎◌, ℕ, List, Option, Some, None}
+use Rattle.std.specs.Io.KnownBytes.{Keeps}
+use Rattle.ubi_media.specs.Geometry.{Sizes}
+use Rattle.ubi_change.specs.Cuts.{changed, turn}
+use Rattle.ubi_change.specs.ErrorTexts.{change_refusal_text}
+use Rattle.ubi_change.specs.Planned.{IsChangeError, IsChangeRefusal, IsPlanOf, IsPlanned}
+use Rattle.ubi_change.specs.declared.plan_error.PlanError.TheVariants as error
+use Rattle.ubi_change.specs.declared.refusal.ChangeRefusal.{ChangeRefusal}
+use Rattle.ubi_change.specs.declared.refusal.ChangeRefusal.TheVariants as refusal
+use Rattle.ubi_change.specs.declared.step.Step.{Step}
+use Rattle.ubi_scan.specs.Image.{Image, image_of}
+use Rattle.ubi_scan.specs.Source.{Agreed, Source, WhereHeld}
+use Rattle.ubi_volume.specs.Accepts.{Accepts}
+use Rattle.ubi_volume.specs.Meant.{Meant}
+use Rattle.ubi_volume.specs.Wrote.{All, Wrote}
+use Rattle.ubi_commands.specs.Answer.{Gives, says}
+use Rattle.ubi_commands.specs.Lines.{refused_line}
+use Rattle.ubi_commands.specs.Plan.{CutAccepts, IsCarryFault, cut_text, plan_answer, plan_lines, steps_done}
+use Rattle.ubi_commands.specs.declared.outcome.Outcome.{Outcome}
+use Rattle.ubi_commands.specs.declared.outcome.ToolError.{ToolError}
+use Rattle.ubi_commands.specs.declared.outcome.ToolError.TheVariants as tool
+
+-- the line of a change that isn't planned; memory that ran out has none
+abbrev pub cause_line : ChangeRefusal → Option (List ℕ)
+cause_line refusal.Memory = None
+cause_line c = Some (refused_line (change_refusal_text c))
+
+-- the image after the first k steps is accepted: before the turn it means what it meant before them, and from the turn on
+-- that with the new bytes
+abbrev pub CutMeans : Image → ℕ → ℕ → List ℕ → List Step → ℕ → Type 0
+CutMeans image id lnum new steps k =
+    (m : Meant) × Accepts image m × CutAccepts image steps (turn image.sizes steps new) m (changed m id lnum new) k
+
+-- what the command answers of an image: that of the plan, and what its file means; or the line of the cause for which
+-- nothing is planned
+pub data Changes (image : Image) (id lnum : ℕ) (new : List ℕ) (stop : Option ℕ) : Outcome → Type 0 where
+  planned : {o : Outcome} (steps : List Step) → IsPlanOf image id lnum new steps → Gives o (plan_answer image steps stop)
+      → CutMeans image id lnum new steps (steps_done steps stop) → Changes image id lnum new stop o
+  unplanned : {o : Outcome} (c : ChangeRefusal) (line : List ℕ) → IsChangeRefusal image id lnum new c → cause_line c ≡ Some line
+      → Gives o (says line 1) → Changes image id lnum new stop o
+
+module _ (id lnum : ℕ) (new : List ℕ) (stop : Option ℕ) (s : Sizes) (k : Source) (agrees : Agreed) where
+  -- what it answers of a source: the lines of the plan, and, whatever the source may hold, the writer received what the
+  -- file holds; or the line of the cause for which nothing is planned, and the writer received nothing
+  pub data ChangesFrom (old now : Option (List ℕ)) : Outcome → Type 0 where
+    planned_from : {o : Outcome} (steps : List Step) → IsPlanned s k agrees id lnum new steps
+        → Gives o (says (plan_lines steps) 0) → Wrote agrees old now (cut_text s steps (steps_done steps stop)) All 0 k.size
+        → WhereHeld agrees (λ bytes. CutMeans (image_of s bytes) id lnum new steps (steps_done steps stop)) → ChangesFrom old now o
+    unplanned_from : {o : Outcome} (c : ChangeRefusal) (line : List ℕ) → IsChangeError s k agrees id lnum new (error.Refused c)
+        → cause_line c ≡ Some line → Gives o (says line 1) → Keeps old now → ChangesFrom old now o
+
+  -- why it answers nothing: memory ran out, and the writer received nothing; or a read or a write failed, and it received
+  -- the first of what the plan leaves
+  abbrev pub IsChangeFault : Option (List ℕ) → Option (List ℕ) → ToolError → Type 0
+  IsChangeFault old now tool.Memory = Keeps old now
+  IsChangeFault old now tool.Read =
+      Keeps old now
+      ⊎ ((steps : List Step) × IsPlanned s k agrees id lnum new steps × IsCarryFault s agrees steps (steps_done steps stop) old now tool.Read)
+  IsChangeFault old now tool.Write =
+      (steps : List Step) × IsPlanned s k agrees id lnum new steps × IsCarryFault s agrees steps (steps_done steps stop) old now tool.Write
+
+-- a change of a source is planned
+abbrev pub HasPlan : ℕ → ℕ → List ℕ → Sizes → Source → Agreed → Type 0
+HasPlan id lnum new s k agrees = (steps : List Step) × IsPlanned s k agrees id lnum new steps

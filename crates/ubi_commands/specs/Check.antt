@@ -1,0 +1,77 @@
+-- What is counted of the eraseblocks of an image.
+use Rattle.std.specs.Prelude.{ℕ, Bool, true, false, List, [], ◌∷◌, ◌++◌, codes, count_by, decimal, length}
+use Rattle.std.specs.List.{flat_map}
+use Rattle.ubi_media.specs.declared.refusal.Refusal.{Refusal}
+use Rattle.ubi_media.specs.Geometry.{Sizes}
+use Rattle.ubi_scan.specs.Image.{Image, image_of}
+use Rattle.ubi_scan.specs.Source.{Agreed, Source, WhereHeld}
+use Rattle.ubi_scan.specs.declared.errors.StreamError.TheVariants as stream
+use Rattle.ubi_volume.specs.Accepts.{Refuses}
+use Rattle.ubi_volume.specs.Places.{ArePlacesError}
+use Rattle.ubi_volume.specs.Survey.{IsSurvey, IsSurveyOf, Seen}
+use Rattle.ubi_volume.specs.declared.attached.BlockState.{BlockState}
+use Rattle.ubi_volume.specs.declared.attached.BlockState.TheVariants as state
+use Rattle.ubi_commands.specs.Answer.{Gives, says}
+use Rattle.ubi_commands.specs.Lines.{refusal_line}
+use Rattle.ubi_commands.specs.declared.outcome.Outcome.{Outcome}
+
+-- whether two states are the same
+abbrev pub same_state : BlockState → BlockState → Bool
+same_state state.Blank state.Blank = true
+same_state state.Free state.Free = true
+same_state state.Garbage state.Garbage = true
+same_state state.Corrupt state.Corrupt = true
+same_state state.Dropped state.Dropped = true
+same_state state.Orphan state.Orphan = true
+same_state state.Table state.Table = true
+same_state state.Used state.Used = true
+same_state state.Stale state.Stale = true
+same_state _ _ = false
+
+-- a number behind its word
+abbrev pub number_line : List ℕ → ℕ → List ℕ
+number_line word n = word ++ decimal n ++ codes "\n"
+
+-- the word of a state
+abbrev pub state_word : BlockState → List ℕ
+state_word state.Blank = codes "blank "
+state_word state.Free = codes "free "
+state_word state.Garbage = codes "garbage "
+state_word state.Corrupt = codes "corrupt "
+state_word state.Dropped = codes "dropped "
+state_word state.Orphan = codes "orphan "
+state_word state.Table = codes "table "
+state_word state.Used = codes "used "
+state_word state.Stale = codes "stale "
+
+-- how many eraseblocks have a state
+abbrev pub state_line : List BlockState → BlockState → List ℕ
+state_line states of = number_line (state_word of) (count_by (λ s. same_state s of) states)
+
+-- the states, in the order in which they are printed
+unfoldable pub printed_states : List BlockState
+printed_states =
+    state.Blank ∷ state.Free ∷ state.Table ∷ state.Used ∷ state.Stale ∷ state.Orphan ∷ state.Dropped ∷ state.Corrupt
+    ∷ state.Garbage ∷ []
+
+-- the lines of an image that is surveyed
+abbrev pub check_lines : Seen → List ℕ
+check_lines a =
+    number_line (codes "blocks ") (length a.states) ++ flat_map (state_line a.states) printed_states
+    ++ number_line (codes "top sqnum ") a.scan.top_sqnum ++ number_line (codes "image seq ") a.scan.image_seq
+    ++ number_line (codes "mean counter ") a.scan.mean_ec ++ codes "accepted\n"
+
+-- what the command answers of an image: those lines, or the line of its refusal
+pub data Checks (image : Image) : Outcome → Type 0 where
+  accepted : {o : Outcome} (a : Seen) → IsSurvey image a → Gives o (says (check_lines a) 0) → Checks image o
+  refused : {o : Outcome} (c : Refusal) → Refuses image c → Gives o (says (refusal_line c) 1) → Checks image o
+
+-- what it answers of any source: the lines of what surveying it gives, or the line of its refusal
+pub data ChecksFrom (s : Sizes) (k : Source) (agrees : Agreed) : Outcome → Type 0 where
+  surveyed : {o : Outcome} (a : Seen) → IsSurveyOf s k agrees a → Gives o (says (check_lines a) 0) → ChecksFrom s k agrees o
+  unsurveyed : {o : Outcome} (c : Refusal) → ArePlacesError s k agrees (stream.Refused c) → Gives o (says (refusal_line c) 1)
+      → ChecksFrom s k agrees o
+
+-- what it answers of a source: whatever that may hold, it is what it answers of that image
+abbrev pub ChecksOf : Sizes → Source → Agreed → Outcome → Type 0
+ChecksOf s k agrees o = ChecksFrom s k agrees o × WhereHeld agrees (λ bytes. Checks (image_of s bytes) o)

@@ -1,0 +1,22 @@
+-- Laws of the commands, as they stand on functions that do nothing.
+use Rattle.std.specs.Prelude.{◌≡◌, ℕ, List, Some, Ok, option_map}
+use Rattle.ubi_media.specs.Geometry.{Sizes}
+use Rattle.ubi_scan.specs.Image.{image_of}
+use Rattle.ubi_volume.specs.Meant.{Meant}
+use Rattle.ubi_compose.specs.TextLaws.{ComesTo}
+use Rattle.ubi_commands.specs.Answer.{Answer, Gives, says}
+use Rattle.ubi_commands.specs.Compose.{Composes}
+use Rattle.ubi_commands.specs.List.{Lists, list_lines}
+use Rattle.ubi_commands.specs.declared.outcome.Outcome.{Outcome}
+
+-- what composing answers is a function of the text, the number of spares and the image
+-- sequence number: what one run gives, each gives
+abbrev pub OneComposed : Type 0
+OneComposed = (s : Sizes) (text : List ℕ) (spares seq : ℕ) (o p : Outcome) (a : Answer)
+    → Composes s text spares seq o → Composes s text spares seq p → Gives o a → Gives p a
+
+-- what is listed of a composed image is the meaning that the text comes to
+abbrev pub ListsComposed : Type 0
+ListsComposed = (s : Sizes) (text bytes : List ℕ) (spares seq : ℕ) (o p : Outcome)
+    → Composes s text spares seq o → option_map (λ v. v.items) o.file ≡ Some bytes → Lists (image_of s bytes) p
+    → (m : Meant) × ComesTo s seq text (Ok m) × Gives p (says (list_lines m) 0)

@@ -1,0 +1,95 @@
+-- What is listed of the volumes of an image.
+use Rattle.std.specs.Prelude.{ℕ, ◌==◌, ◌&&◌, not, nat_le, if◌then◌else◌, List, [], ◌∷◌, ◌++◌, codes, decimal, length}
+use Rattle.std.specs.FinMap.{entries}
+use Rattle.std.specs.List.{flat_map}
+use Rattle.hex.specs.Hex.{encode_lower}
+use Rattle.ubi_media.specs.Geometry.{Sizes, leb_size, slots}
+use Rattle.ubi_media.specs.Record.{usable}
+use Rattle.ubi_media.specs.declared.record.VolumeRecord.{VolumeRecord}
+use Rattle.ubi_media.specs.declared.refusal.Refusal.{Refusal}
+use Rattle.ubi_media.specs.declared.vid.VolKind.{VolKind}
+use Rattle.ubi_media.specs.declared.vid.VolKind.TheVariants as kind
+use Rattle.ubi_scan.specs.Image.{Image, image_of}
+use Rattle.ubi_scan.specs.Source.{Agreed, Source, WhereHeld}
+use Rattle.ubi_scan.specs.declared.errors.StreamError.TheVariants as stream
+use Rattle.ubi_volume.specs.Accepts.{Accepts, Refuses}
+use Rattle.ubi_volume.specs.Amounts.{amount_of}
+use Rattle.ubi_volume.specs.Meant.{Meant}
+use Rattle.ubi_volume.specs.Places.{ArePlacesError, ArePlacesOf, Placed}
+use Rattle.ubi_volume.specs.declared.block.Amount.{Amount}
+use Rattle.ubi_volume.specs.declared.block.Amount.TheVariants as amount
+use Rattle.ubi_volume.specs.declared.content.Volume.{Volume}
+use Rattle.ubi_commands.specs.Answer.{Gives, says}
+use Rattle.ubi_commands.specs.Lines.{refusal_line}
+use Rattle.ubi_commands.specs.declared.outcome.Outcome.{Outcome}
+
+-- a byte of a name as it is shown: a printable one but the backslash as it is, and any other by its two digits
+abbrev pub shown_byte : ℕ → List ℕ
+shown_byte b = if nat_le 0x21 b && nat_le b 0x7E && not (b == 0x5C) then b ∷ [] else codes "\\x" ++ encode_lower (b ∷ [])
+
+-- a name as it is shown
+abbrev pub shown : List ℕ → List ℕ
+shown name = flat_map shown_byte name
+
+-- the word for the kind of a volume
+abbrev pub kind_word : VolKind → List ℕ
+kind_word kind.Dynamic = codes "dynamic"
+kind_word kind.Static = codes "static"
+
+-- how much a volume reads, or why it can't be read
+abbrev pub amount_word : Amount → List ℕ
+amount_word amount.Updating = codes "updating"
+amount_word amount.Damaged = codes "damaged"
+amount_word (amount.Bytes bytes) = codes "bytes=" ++ decimal bytes
+amount_word (amount.Lebs count) = codes "lebs=" ++ decimal count
+
+-- the numbers of a geometry but how many eraseblocks there are
+unfoldable pub layout_words : Sizes → List ℕ
+layout_words s =
+    codes "peb=" ++ decimal s.peb_size ++ codes " page=" ++ decimal s.page ++ codes " vid=" ++ decimal s.vid_offset
+    ++ codes " data=" ++ decimal s.data_offset
+
+-- the numbers that follow from it, and how many eraseblocks there are
+unfoldable pub room_words : Sizes → List ℕ
+room_words s = codes " leb=" ++ decimal (leb_size s) ++ codes " slots=" ++ decimal (slots s) ++ codes " pebs=" ++ decimal s.pebs
+
+-- the line of the sizes of a device
+unfoldable pub sizes_line : Sizes → List ℕ
+sizes_line s = codes "geometry " ++ layout_words s ++ room_words s ++ codes "\n"
+
+-- what a record says of its volume but the name
+abbrev pub record_words : Sizes → VolumeRecord → List ℕ
+record_words s r =
+    kind_word r.kind ++ codes " reserved=" ++ decimal r.reserved ++ codes " alignment=" ++ decimal r.alignment
+    ++ codes " usable=" ++ decimal (usable s r) ++ codes " flags=" ++ encode_lower (r.flags ∷ [])
+
+-- the line of a record and its number, and how much its volume reads
+abbrev pub record_line : Sizes → ℕ → VolumeRecord → Amount → List ℕ
+record_line s id r amount =
+    codes "volume " ++ decimal id ++ codes " " ++ record_words s r ++ codes " " ++ amount_word amount
+    ++ codes " name=" ++ shown r.name ++ codes "\n"
+
+-- the line of a volume and its number
+abbrev pub volume_line : Sizes → ℕ × Volume → List ℕ
+volume_line s (id, v) = record_line s id v.entry (amount_of v.content)
+
+-- the lines of a meaning
+abbrev pub list_lines : Meant → List ℕ
+list_lines m =
+    sizes_line m.sizes ++ flat_map (volume_line m.sizes) (entries m.volumes)
+    ++ codes "volumes " ++ decimal (length (entries m.volumes)) ++ codes "\n"
+
+-- what the command answers of an image: the lines of its meaning, or the line of its refusal
+pub data Lists (image : Image) : Outcome → Type 0 where
+  accepted : {o : Outcome} (m : Meant) → Accepts image m → Gives o (says (list_lines m) 0) → Lists image o
+  refused : {o : Outcome} (c : Refusal) → Refuses image c → Gives o (says (refusal_line c) 1) → Lists image o
+
+-- what it answers of any source: some lines, of one whose places were found; or the line of its refusal
+pub data ListsFrom (s : Sizes) (k : Source) (agrees : Agreed) : Outcome → Type 0 where
+  listed : {o : Outcome} (p : Placed) (text : List ℕ) → ArePlacesOf s k agrees p → Gives o (says text 0) → ListsFrom s k agrees o
+  unlisted : {o : Outcome} (c : Refusal) → ArePlacesError s k agrees (stream.Refused c) → Gives o (says (refusal_line c) 1)
+      → ListsFrom s k agrees o
+
+-- what it answers of a source: whatever that may hold, it is what it answers of that image
+abbrev pub ListsOf : Sizes → Source → Agreed → Outcome → Type 0
+ListsOf s k agrees o = ListsFrom s k agrees o × WhereHeld agrees (λ bytes. Lists (image_of s bytes) o)

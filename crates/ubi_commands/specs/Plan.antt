@@ -1,0 +1,77 @@
+-- What a plan of steps prints, and the image after the first of them.
+use Rattle.std.specs.Prelude.{◌≡◌, ◌≢◌, ℕ, List, ◌++◌, Option, Some, None, codes, decimal, if◌then◌else◌, length, min, nat_lt}
+use Rattle.std.specs.Io.KnownBytes.{Keeps}
+use Rattle.std.specs.List.{concat, flat_map}
+use Rattle.ubi_media.specs.Geometry.{Sizes}
+use Rattle.ubi_change.specs.Steps.{after}
+use Rattle.ubi_change.specs.declared.step.Step.{Step}
+use Rattle.ubi_change.specs.declared.step.Step.TheVariants as step
+use Rattle.ubi_scan.specs.Image.{Image, eraseblocks, image_of, in_image}
+use Rattle.ubi_scan.specs.Source.{Agreed, WhereHeld}
+use Rattle.ubi_volume.specs.Accepts.{Accepts}
+use Rattle.ubi_volume.specs.Meant.{Meant}
+use Rattle.ubi_volume.specs.Wrote.{First, NotAll, Wrote}
+use Rattle.ubi_commands.specs.Answer.{Answer, Gives}
+use Rattle.ubi_commands.specs.declared.outcome.Outcome.{Outcome}
+use Rattle.ubi_commands.specs.declared.outcome.ToolError.{ToolError}
+use Rattle.ubi_commands.specs.declared.outcome.ToolError.TheVariants as tool
+
+-- what a step does, and to which eraseblock and page
+abbrev pub step_words : Step → List ℕ
+step_words (step.Erase p) = codes "erase block=" ++ decimal p
+step_words (step.Program p page bytes) = codes "program block=" ++ decimal p ++ codes " page=" ++ decimal page
+
+-- its line
+abbrev pub step_line : Step → List ℕ
+step_line next = step_words next ++ codes "\n"
+
+-- the lines of a plan: how many steps it has, and each of them
+abbrev pub plan_lines : List Step → List ℕ
+plan_lines steps = codes "steps " ++ decimal (length steps) ++ codes "\n" ++ flat_map step_line steps
+
+-- how many steps are done: as many as are asked for, or all where there are no more, or where no number is given
+abbrev pub steps_done : List Step → Option ℕ → ℕ
+steps_done steps (Some stop) = min (length steps) stop
+steps_done steps None = length steps
+
+-- the bytes of an image after the first k steps
+abbrev pub cut_bytes : Image → List Step → ℕ → List ℕ
+cut_bytes image steps k = concat (in_image after image steps k)
+
+-- the lines of the whole plan, and the image after those of its steps that are done
+abbrev pub plan_answer : Image → List Step → Option ℕ → Answer
+plan_answer image steps stop = record {
+  text = plan_lines steps;
+  status = 0;
+  file = Some (cut_bytes image steps (steps_done steps stop));
+}
+
+-- the text is the bytes of an image after the first k steps
+abbrev pub cut_text : Sizes → List Step → ℕ → List ℕ → List ℕ → Type 0
+cut_text s steps k image text = text ≡ cut_bytes (image_of s image) steps k
+
+-- why that wasn't written: memory ran out, and the writer received nothing; or a read or a write failed, and it received
+-- the first of it
+abbrev pub IsCarryFault : Sizes → Agreed → List Step → ℕ → Option (List ℕ) → Option (List ℕ) → ToolError → Type 0
+IsCarryFault s agrees steps k old new tool.Memory = Keeps old new
+IsCarryFault s agrees steps k old new tool.Read = (n : ℕ) × Wrote agrees old new (cut_text s steps k) First 0 n
+IsCarryFault s agrees steps k old new tool.Write = (n : ℕ) × Wrote agrees old new (cut_text s steps k) NotAll 0 n
+
+-- an outcome, with these bytes as its file where the work was done
+pub data HasFile (work : Outcome) (bytes : List ℕ) (o : Outcome) : Type 0 where
+  done : work.status ≡ 0 → Gives o (record { text = work.text.items; status = 0; file = Some bytes }) → HasFile work bytes o
+  refused_file : work.status ≢ 0 → o ≡ work → HasFile work bytes o
+
+-- the bytes after the first k steps are as many as before, and cut into the eraseblocks that these steps leave
+pub record IsCut (image : Image) (steps : List Step) (k : ℕ) : Type 0 where
+  pub same : length (cut_bytes image steps k) ≡ length image.bytes
+  pub done : eraseblocks (record image { bytes = cut_bytes image steps k }) ≡ in_image after image steps k
+
+-- so are those of whatever a source may hold
+abbrev pub AreCut : Sizes → Agreed → List Step → ℕ → Type 0
+AreCut s agrees steps k = WhereHeld agrees (λ bytes. IsCut (image_of s bytes) steps k)
+
+-- the image after the first k steps is accepted: before the turn with the old meaning, and from it on with the new one
+abbrev pub CutAccepts : Image → List Step → ℕ → Meant → Meant → ℕ → Type 0
+CutAccepts image steps turn old new k =
+    Accepts (record image { bytes = cut_bytes image steps k }) (if nat_lt k turn then old else new)

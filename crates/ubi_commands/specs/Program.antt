@@ -1,0 +1,147 @@
+-- What the program answers over files.
+use Rattle.std.specs.Prelude.{◌≡◌, ℕ, ◌*◌, ◌+◌, ◌≤◌, List, [], length, Some, None, Option, IfSome, IsSome, codes, option_map}
+use Rattle.ubi_media.specs.Geometry.{Sizes}
+use Rattle.ubi_media.specs.Limits.{first_broken}
+use Rattle.ubi_media.specs.declared.geometry.GeometryError.{GeometryError}
+use Rattle.ubi_scan.specs.Image.{Image, image_of}
+use Rattle.ubi_scan.specs.Source.{Agreed, Source, holds, known_by, memory}
+use Rattle.ubi_commands.specs.Answer.{Gives, says}
+use Rattle.ubi_commands.specs.Build.{Builds}
+use Rattle.ubi_commands.specs.Change.{ChangesFrom, HasPlan}
+use Rattle.ubi_commands.specs.Check.{ChecksOf}
+use Rattle.ubi_commands.specs.Compose.{ComposesInto}
+use Rattle.ubi_commands.specs.Disk.{AllStay, Files, IsJudgedOf, IsLeft, IsTextOf, OthersStay, OutsideStay, Receives, fresh}
+use Rattle.ubi_commands.specs.Extract.{ExtractsOf, HasTextIn}
+use Rattle.ubi_commands.specs.Geometry.{DetectsOf}
+use Rattle.ubi_commands.specs.Lines.{file_line, geometry_line}
+use Rattle.ubi_commands.specs.List.{ListsOf}
+use Rattle.ubi_commands.specs.Normalise.{HasMeaning, NormalisesOf}
+use Rattle.ubi_commands.specs.Numbers.{greatest, sizes_of}
+use Rattle.ubi_commands.specs.Rename.{HasRename, RenamesFrom}
+use Rattle.ubi_commands.specs.Same.{ComparesOf}
+use Rattle.ubi_commands.specs.Show.{ShowsOf}
+use Rattle.ubi_commands.specs.Tool.{Requests, Takes}
+use Rattle.ubi_commands.specs.Unpack.{UnpacksOf}
+use Rattle.ubi_commands.specs.declared.command_line.Request.{Request}
+use Rattle.ubi_commands.specs.declared.command_line.Request.TheVariants as request
+use Rattle.ubi_commands.specs.declared.image_file.Unread.{Unread}
+use Rattle.ubi_commands.specs.declared.image_file.Unread.TheVariants as unread
+use Rattle.ubi_commands.specs.declared.numbers.Numbers.{Numbers}
+use Rattle.ubi_commands.specs.declared.outcome.Outcome.{Outcome}
+
+-- what is answered where an image can't be had: the line of a limit that the numbers break, or of a file that can't be
+-- read
+pub data IsUnread (numbers : Numbers) (path : List ℕ) : Outcome → Type 0 where
+  bad_limit : {o : Outcome} (e : GeometryError) → first_broken (sizes_of numbers) ≡ Some e → Gives o (says (geometry_line e) 2)
+      → IsUnread numbers path o
+  cannot_read : {o : Outcome} → first_broken (sizes_of numbers) ≡ None → Gives o (says (file_line (codes "cannot read ") path) 1)
+      → IsUnread numbers path o
+
+-- the sizes break no limit, and the bytes are at most one more than the device has
+pub record IsRead (s : Sizes) (bytes : List ℕ) : Type 0 where
+  pub limits : first_broken s ≡ None
+  pub few : length bytes ≤ s.pebs * s.peb_size + 1
+
+-- what is told where an image can't be had; nothing is where memory ran out
+abbrev pub Tells : (Outcome → Type 0) → Unread → Type 0
+Tells is unread.Memory = Unit {0}
+Tells is (unread.Told o) = is o
+
+-- what a command over one image file can answer: that, or what it answers of the image that the file holds
+pub data OfImage (d : Files) (numbers : Numbers) (path : List ℕ) (answers : Image → Outcome → Type 0) : Outcome → Type 0 where
+  no_image : {o : Outcome} → IsUnread numbers path o → OfImage d numbers path answers o
+  image : {o : Outcome} (bytes : List ℕ) → IsRead (sizes_of numbers) bytes → IsJudgedOf d path (sizes_of numbers) bytes
+      → answers (image_of (sizes_of numbers) bytes) o → OfImage d numbers path answers o
+
+-- how many bytes a text may have: four for each byte of the device, and 65,536 more
+abbrev pub text_limit : Sizes → ℕ
+text_limit s = 4 * (s.pebs * s.peb_size) + 65536
+
+-- what a command over a text file can answer: that of a file that can't be had, or what it answers of the text that the
+-- file holds, and that isn't too long
+pub data OfText (d : Files) (numbers : Numbers) (path : List ℕ) (answers : Sizes → List ℕ → Outcome → Type 0) : Outcome → Type 0 where
+  no_text : {o : Outcome} → IsUnread numbers path o → OfText d numbers path answers o
+  text : {o : Outcome} (bytes : List ℕ) → first_broken (sizes_of numbers) ≡ None → length bytes ≤ text_limit (sizes_of numbers)
+      → IsTextOf d path bytes → answers (sizes_of numbers) bytes o → OfText d numbers path answers o
+
+-- what a command can answer over one image file: that of a file that can't be had; or what it answers of a source, which
+-- holds the bytes of the file, read whole, or is known by reads of it, with which the bytes of the file agree
+pub data OfFile (d : Files) (numbers : Numbers) (path : List ℕ) (answers : Sizes → Source → Agreed → Outcome → Type 0) : Outcome
+    → Type 0 where
+  no_file : {o : Outcome} → IsUnread numbers path o → OfFile d numbers path answers o
+  whole : {o : Outcome} (bytes : List ℕ) → IsRead (sizes_of numbers) bytes → IsJudgedOf d path (sizes_of numbers) bytes
+      → answers (sizes_of numbers) (memory bytes) (holds bytes) o → OfFile d numbers path answers o
+  places : {o : Outcome} (k : Source) (reads : List (ℕ × List ℕ)) → first_broken (sizes_of numbers) ≡ None → k.failures ≡ 0
+      → IfSome (d.holds path) (known_by k.size reads) → answers (sizes_of numbers) k (known_by k.size reads) o
+      → OfFile d numbers path answers o
+
+-- and over two
+abbrev pub BothOf : Files → Numbers → List ℕ → List ℕ → (Sizes → Source → Agreed → Source → Agreed → Outcome → Type 0) → Outcome
+    → Type 0
+BothOf d numbers left right answers =
+    OfFile d numbers left (λ s k here. OfFile d numbers right (λ t l there. answers t k here l there))
+
+-- what can be answered of a source by a command that writes the file at a path: what it answers, and the file received what
+-- it wrote; or the line of a file that can't be written, where there is something to write
+pub data WritesInto (out : List ℕ) (old new : Files) (answers : Option (List ℕ) → Option (List ℕ) → Outcome → Type 0) (writes : Type 0)
+    : Outcome → Type 0 where
+  written : {o : Outcome} (received : Option (List ℕ)) → answers (fresh old) received o → IsLeft old new out received o
+      → WritesInto out old new answers writes o
+  unwritten : {o : Outcome} → writes → Gives o (says (file_line (codes "cannot write ") out) 1) → WritesInto out old new answers writes o
+
+-- once the file of an outcome is written, if it has one: the outcome, and the file received that; or the line of a file that
+-- can't be written
+pub data WritesFile (path : List ℕ) (old new : Files) (outcome : Outcome) : Outcome → Type 0 where
+  kept : Receives old new path (option_map (λ v. v.items) outcome.file) → WritesFile path old new outcome outcome
+  lost : {o : Outcome} → IsSome outcome.file → Gives o (says (file_line (codes "cannot write ") path) 1)
+      → WritesFile path old new outcome o
+
+-- what a request can be answered: what its command answers, for its own numbers, paths and volume, of the files that are
+-- named, and with what becomes of the file that is written
+abbrev pub IsAnswerTo : Files → Files → Request → Outcome → Type 0
+IsAnswerTo d e (request.Geometry path) = OfFile d greatest path.now (λ _. DetectsOf)
+IsAnswerTo d e (request.List numbers path) = OfFile d numbers path.now ListsOf
+IsAnswerTo d e (request.Check numbers path) = OfFile d numbers path.now ChecksOf
+IsAnswerTo d e (request.Show numbers path p) = OfFile d numbers path.now (ShowsOf p)
+IsAnswerTo d e (request.Extract numbers extract) =
+    OfFile d numbers extract.paths.image.now
+    (λ s k agrees. WritesInto extract.paths.out.now d e (ExtractsOf extract.key s k agrees) (HasTextIn extract.key s agrees))
+IsAnswerTo d e (request.Unpack numbers paths) = OfFile d numbers paths.image.now (UnpacksOf paths.out.now d e)
+IsAnswerTo d e (request.Compose numbers new) =
+    OfText d numbers new.from.now (λ s t. ComposesInto new.out.now d e s t new.spares new.image_seq)
+IsAnswerTo d e (request.Build numbers new) =
+    OfText d numbers new.from.now (λ s t. Builds d e new.from.now new.out.now s t new.spares new.image_seq)
+IsAnswerTo d e (request.Normalise numbers paths) =
+    OfFile d numbers paths.image.now (λ s k agrees. WritesInto paths.out.now d e (NormalisesOf s k agrees) (HasMeaning s agrees))
+IsAnswerTo d e (request.Same numbers left right) = BothOf d numbers left.now right.now ComparesOf
+IsAnswerTo d e (request.Change numbers change) =
+    OfFile d numbers change.paths.image.now
+    (λ s k agrees. OfImage d numbers change.from.now
+    (λ f. WritesInto change.paths.out.now d e (ChangesFrom change.id change.lnum f.bytes change.stop s k agrees)
+    (HasPlan change.id change.lnum f.bytes s k agrees)))
+IsAnswerTo d e (request.Rename numbers rename) =
+    OfFile d numbers rename.paths.image.now
+    (λ s k agrees. WritesInto rename.paths.out.now d e (RenamesFrom rename.id rename.name.now rename.stop s k agrees)
+    (HasRename rename.id rename.name.now s k agrees))
+
+-- each file holds what it held, but for the one that a request writes, or those in the folder that it writes
+abbrev pub IsAllElse : Request → Files → Files → Type 0
+IsAllElse (request.Geometry _) d e = AllStay d e
+IsAllElse (request.List _ _) d e = AllStay d e
+IsAllElse (request.Check _ _) d e = AllStay d e
+IsAllElse (request.Show _ _ _) d e = AllStay d e
+IsAllElse (request.Extract _ extract) d e = OthersStay d e extract.paths.out.now
+IsAllElse (request.Unpack _ paths) d e = OutsideStay d e paths.out.now
+IsAllElse (request.Compose _ new) d e = OthersStay d e new.out.now
+IsAllElse (request.Build _ new) d e = OthersStay d e new.out.now
+IsAllElse (request.Normalise _ paths) d e = OthersStay d e paths.out.now
+IsAllElse (request.Same _ _ _) d e = AllStay d e
+IsAllElse (request.Change _ change) d e = OthersStay d e change.paths.out.now
+IsAllElse (request.Rename _ rename) d e = OthersStay d e rename.paths.out.now
+
+-- what the program can answer: nothing where the command line doesn't take the words, and else what the request that
+-- they are can be answered; and no other file is changed than the one that it names
+pub data IsAnswer (words : List (List ℕ)) (d e : Files) : Outcome → Type 0 where
+  wrong_words : {o : Outcome} → (Takes words → ⊥) → Gives o (says [] 2) → AllStay d e → IsAnswer words d e o
+  answered : {o : Outcome} (asked : Request) → Requests words asked → IsAnswerTo d e asked o → IsAllElse asked d e
+      → IsAnswer words d e o

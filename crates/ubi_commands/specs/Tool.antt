@@ -1,0 +1,121 @@
+-- The command line: which commands there are, and which words each takes.
+use Rattle.std.specs.Prelude.{◌≡◌, ◌∷◌, ◌++◌, [], List, Option, Some, codes, is_some, not, pos, true, false}
+use Rattle.clap.specs.Faults.{fault_of}
+use Rattle.clap.specs.Simple.{App, Shape, new_rule, new_shape, subcommand_of}
+use Rattle.clap.specs.Walk.{Row, Rule, Text, first_of}
+use Rattle.clap.specs.declared.builder.value_parser.ValueParser.TheVariants as parser
+use Rattle.ubi_commands.specs.CommandLine.{IsRequest}
+use Rattle.ubi_commands.specs.declared.command_line.Request.{Request}
+
+-- an argument that has to be given
+abbrev pub needed : Rule → Rule
+needed r = record r { required = true }
+
+-- an option that takes a text
+abbrev pub option : Text → Rule
+option name = record (new_rule name) { long = Some name; value_names = 1 }
+
+-- one that takes a number of 32 bits
+abbrev pub number : Text → Rule
+number name = record (option name) { parser = Some (parser.Signed (pos 0) (pos 4294967295)) }
+
+-- the numbers of a geometry
+abbrev pub numbers : List Rule
+numbers = needed (number (codes "peb")) ∷ needed (number (codes "page")) ∷ number (codes "vid") ∷ number (codes "data")
+    ∷ number (codes "pebs") ∷ []
+
+-- the option with the file or the folder to write
+abbrev pub output : Rule
+output = needed (option (codes "out"))
+
+-- the option with the number of a volume
+abbrev pub volume : Rule
+volume = needed (number (codes "id"))
+
+-- a command, with what it takes beside the numbers
+abbrev pub command : Text → List Rule → Shape
+command name rules = record (new_shape name) { rules = numbers ++ rules }
+
+-- the word that names an image file
+abbrev pub image_file : Rule
+image_file = needed (new_rule (codes "IMAGE"))
+
+-- one over an image file
+abbrev pub on_image : Text → List Rule → Shape
+on_image name rules = command name (image_file ∷ rules)
+
+-- `geometry`, over an image alone
+abbrev pub geometry : Shape
+geometry = record (new_shape (codes "geometry")) { rules = image_file ∷ [] }
+
+-- `list`, over an image
+abbrev pub list : Shape
+list = on_image (codes "list") []
+
+-- `check`, over an image
+abbrev pub check : Shape
+check = on_image (codes "check") []
+
+-- `show`, over an image, with the eraseblock to show
+abbrev pub show : Shape
+show = on_image (codes "show") (needed (number (codes "block")) ∷ [])
+
+-- `extract`, over an image, with the file to write, and the number or the name of the volume
+abbrev pub extract : Shape
+extract = on_image (codes "extract") (output ∷ number (codes "id") ∷ option (codes "name") ∷ [])
+
+-- `unpack`, over an image, with the folder to write
+abbrev pub unpack : Shape
+unpack = on_image (codes "unpack") (output ∷ [])
+
+-- `compose`, over a text, with the file to write, and the spare eraseblocks and the image sequence number if given
+abbrev pub compose : Shape
+compose =
+    command (codes "compose")
+    (needed (new_rule (codes "SPEC")) ∷ output ∷ number (codes "spares") ∷ number (codes "seq") ∷ [])
+
+-- `build`, over a config, with the file to write, and the spare eraseblocks and the image sequence number if given
+abbrev pub build : Shape
+build =
+    command (codes "build")
+    (needed (new_rule (codes "CONFIG")) ∷ output ∷ number (codes "spares") ∷ number (codes "seq") ∷ [])
+
+-- `normalise`, over an image, with the file to write
+abbrev pub normalise : Shape
+normalise = on_image (codes "normalise") (output ∷ [])
+
+-- `same`, over an image and another
+abbrev pub same : Shape
+same = on_image (codes "same") (needed (record (new_rule (codes "OTHER")) { value_names = 1 }) ∷ [])
+
+-- `change`, over an image, with the file to write, the volume, the LEB and the file of its bytes, and the steps to do
+-- if given
+abbrev pub change : Shape
+change =
+    on_image (codes "change")
+    (output ∷ volume ∷ needed (number (codes "lnum")) ∷ needed (option (codes "from")) ∷ number (codes "stop") ∷ [])
+
+-- `rename`, over an image, with the file to write, the volume and its name, and the steps to do if given
+abbrev pub rename : Shape
+rename = on_image (codes "rename") (output ∷ volume ∷ needed (option (codes "name")) ∷ number (codes "stop") ∷ [])
+
+-- the program: it has a version, and a command has to be named
+unfoldable pub tool : App
+tool = record {
+  top = record (new_shape (codes "ubi_tool")) { is_leaf = false; has_version = true; subcommand_required = true };
+  subs = geometry ∷ list ∷ check ∷ show ∷ extract ∷ unpack ∷ compose ∷ build ∷ normalise ∷ same ∷ change ∷ rename ∷ [];
+}
+
+-- of the words of `extract`, just one names the volume
+abbrev pub HasOneVolume : Option (Text × List Row) → Type 0
+HasOneVolume named = (words : List Row) → named ≡ Some (codes "extract", words)
+    → is_some (first_of (codes "name") words) ≡ not (is_some (first_of (codes "id") words))
+
+-- the command line takes the words, the program's name first: nothing is wrong with them, they ask for no help, and those of
+-- `extract` name one volume
+abbrev pub Takes : List Text → Type 0
+Takes words = (fault_of tool words ≡ []) × HasOneVolume (subcommand_of tool words)
+
+-- the words are taken, and are this request
+abbrev pub Requests : List Text → Request → Type 0
+Requests words r = Takes words × IsRequest (subcommand_of tool words) r

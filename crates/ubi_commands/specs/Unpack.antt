@@ -1,0 +1,111 @@
+-- What is unpacked of an image: what each of its volumes reads, into a file of its own.
+use Rattle.std.specs.Prelude.{◌≡◌, ℕ, ◌==◌, if◌then◌else◌, List, [], ◌∷◌, ◌++◌, Option, Some, Result, Ok, Err, codes, decimal, is_ok, slice_get, take}
+use Rattle.std.specs.FinMap.{entries}
+use Rattle.std.specs.Io.KnownBytes.{Appends}
+use Rattle.std.specs.List.{flat_map, list_all}
+use Rattle.ubi_media.specs.Geometry.{Sizes}
+use Rattle.ubi_media.specs.declared.record.VolumeRecord.{VolumeRecord}
+use Rattle.ubi_media.specs.declared.refusal.Refusal.{Refusal}
+use Rattle.ubi_scan.specs.Image.{Image, image_of}
+use Rattle.ubi_scan.specs.Source.{Agreed, Source, WhereHeld}
+use Rattle.ubi_scan.specs.declared.errors.StreamError.TheVariants as stream
+use Rattle.ubi_volume.specs.Accepts.{Accepts, Refuses}
+use Rattle.ubi_volume.specs.Meant.{Meant, records_of}
+use Rattle.ubi_volume.specs.Places.{ArePlacesError, ArePlacesOf, Placed}
+use Rattle.ubi_volume.specs.Reading.{read_volume, volume_len}
+use Rattle.ubi_volume.specs.declared.block.Amount.{Amount}
+use Rattle.ubi_volume.specs.declared.block.Amount.TheVariants as amount
+use Rattle.ubi_volume.specs.declared.errors.ReadError.{ReadError}
+use Rattle.ubi_volume.specs.declared.errors.ReadError.TheVariants as error
+use Rattle.ubi_commands.specs.Answer.{Gives, says}
+use Rattle.ubi_commands.specs.Disk.{AllStay, Files, IsKept, OthersStay, fresh}
+use Rattle.ubi_commands.specs.Lines.{file_line, refusal_line}
+use Rattle.ubi_commands.specs.List.{amount_word, shown, shown_byte}
+use Rattle.ubi_commands.specs.declared.outcome.Outcome.{Outcome}
+
+-- a record of a volume table, behind the number of its volume
+abbrev pub Listed : Type 0
+Listed = ℕ × VolumeRecord
+
+-- a byte of a volume's name in the name of its file: as it is shown, but a slash by its digits
+abbrev pub file_byte : ℕ → List ℕ
+file_byte b = if b == 0x2F then codes "\\x2f" else shown_byte b
+
+-- the name of a volume's file: the number of the volume, a hyphen, and the volume's name
+abbrev pub file_name : Listed → List ℕ
+file_name e = decimal e.0 ++ codes "-" ++ flat_map file_byte e.1.name
+
+-- the path of that file in a folder
+abbrev pub file_path : List ℕ → Listed → List ℕ
+file_path dir e = dir ++ codes "/" ++ file_name e
+
+-- how many bytes a volume reads, or why it can't be read
+abbrev pub unpacked_amount : Result ℕ ReadError → Amount
+unpacked_amount (Ok n) = amount.Bytes n
+unpacked_amount (Err error.Updating) = amount.Updating
+unpacked_amount (Err _) = amount.Damaged
+
+-- the line of a volume, by how many bytes it reads
+abbrev pub unpacked_line : Result ℕ ReadError → Listed → List ℕ
+unpacked_line len e =
+    codes "volume " ++ decimal e.0 ++ codes " " ++ amount_word (unpacked_amount len) ++ codes " name=" ++ shown e.1.name ++ codes "\n"
+
+-- the lines of volumes
+abbrev pub unpacked_lines : (ℕ → Result ℕ ReadError) → List Listed → List ℕ
+unpacked_lines len es = flat_map (λ e. unpacked_line (len e.0) e) es
+
+-- the status: that all is done, where each volume can be read
+abbrev pub unpacked_status : (ℕ → Result ℕ ReadError) → List Listed → ℕ
+unpacked_status len es = if list_all (λ e. is_ok (len e.0)) es then 0 else 1
+
+-- the records of a meaning's table, by rising number
+abbrev pub listed : Meant → List Listed
+listed m = entries (records_of m).of
+
+-- a volume was unpacked: the file at a path received what it reads, and each other path holds what it held; where it can't
+-- be read, no file is written
+abbrev pub IsUnpacked : Result (List ℕ) ReadError → List ℕ → Files → Files → Type 0
+IsUnpacked (Ok text) path old new =
+    (received : Option (List ℕ)) × Appends (fresh old) received text × IsKept old new path received
+IsUnpacked (Err e) path old new = new ≡ old
+
+-- volumes were unpacked into a folder, one after the other
+abbrev pub AreUnpacked : (ℕ → Result (List ℕ) ReadError) → List ℕ → List Listed → Files → Files → Type 0
+AreUnpacked read dir [] old new = new ≡ old
+AreUnpacked read dir (e ∷ es) old new =
+    (between : Files) × IsUnpacked (read e.0) (file_path dir e) old between × AreUnpacked read dir es between new
+
+-- the volumes before the one at a place were unpacked, and then no other file was written than that volume's
+pub record AreUnpackedUntil (read : ℕ → Result (List ℕ) ReadError) (dir : List ℕ) (es : List Listed) (i : ℕ) (e : Listed) (old new : Files)
+    : Type 0 where
+  pub next : slice_get es i ≡ Some e
+  pub between : Files
+  pub before : AreUnpacked read dir (take i es) old between
+  pub others : OthersStay between new (file_path dir e)
+
+-- what the command answers of an image, and what becomes of the files: the lines of the volumes, which are unpacked; the
+-- line of the image's refusal; or that of a folder that can't be made or isn't empty, or of a volume's file that can't be
+-- written
+pub data Unpacks (image : Image) (dir : List ℕ) (old new : Files) : Outcome → Type 0 where
+  unpacked : {o : Outcome} (m : Meant) → Accepts image m → AreUnpacked (read_volume m) dir (listed m) old new
+      → Gives o (says (unpacked_lines (volume_len m) (listed m)) (unpacked_status (volume_len m) (listed m)))
+      → Unpacks image dir old new o
+  refused : {o : Outcome} (c : Refusal) → Refuses image c → Gives o (says (refusal_line c) 1) → AllStay old new
+      → Unpacks image dir old new o
+  no_folder : {o : Outcome} (m : Meant) → Accepts image m → Gives o (says (file_line (codes "cannot write ") dir) 1) → AllStay old new
+      → Unpacks image dir old new o
+  unwritten : {o : Outcome} (m : Meant) (i : ℕ) (e : Listed) → Accepts image m
+      → AreUnpackedUntil (read_volume m) dir (listed m) i e old new
+      → Gives o (says (file_line (codes "cannot write ") (file_path dir e)) 1) → Unpacks image dir old new o
+
+-- what it answers of any source: some lines, of one whose places were found; or the line of its refusal
+pub data UnpacksFrom (s : Sizes) (k : Source) (agrees : Agreed) (old new : Files) : Outcome → Type 0 where
+  told : {o : Outcome} (p : Placed) (text : List ℕ) (status : ℕ) → ArePlacesOf s k agrees p → Gives o (says text status)
+      → UnpacksFrom s k agrees old new o
+  refused_from : {o : Outcome} (c : Refusal) → ArePlacesError s k agrees (stream.Refused c) → Gives o (says (refusal_line c) 1)
+      → AllStay old new → UnpacksFrom s k agrees old new o
+
+-- what it answers of a source: whatever that may hold, it is what it answers of that image
+abbrev pub UnpacksOf : List ℕ → Files → Files → Sizes → Source → Agreed → Outcome → Type 0
+UnpacksOf dir old new s k agrees o =
+    UnpacksFrom s k agrees old new o × WhereHeld agrees (λ bytes. Unpacks (image_of s bytes) dir old new o)

@@ -1,0 +1,42 @@
+-- What a command answers once its work is over, and which of its faults are told.
+use Rattle.std.specs.Prelude.{◌≡◌, ℕ, Bool, true, false, List, Result, Ok, Err, codes}
+use Rattle.ubi_scan.specs.Source.{Source, failed}
+use Rattle.ubi_volume.specs.declared.errors.ReadError.{ReadError}
+use Rattle.ubi_commands.specs.Answer.{Gives, says}
+use Rattle.ubi_commands.specs.Extract.{read_refusal}
+use Rattle.ubi_commands.specs.Lines.{file_line}
+use Rattle.ubi_commands.specs.declared.outcome.Outcome.{Outcome}
+use Rattle.ubi_commands.specs.declared.outcome.SidesError.{SidesError}
+use Rattle.ubi_commands.specs.declared.outcome.SidesError.TheVariants as side
+use Rattle.ubi_commands.specs.declared.outcome.ToolError.{ToolError}
+use Rattle.ubi_commands.specs.declared.outcome.ToolError.TheVariants as tool
+
+-- what is answered of a source: that of the work, after which no more reads have failed; or the line of the source, where
+-- one more read failed
+pub data Works (k after : Source) (path : List ℕ) (answers : Outcome → Type 0) : Outcome → Type 0 where
+  answered : {o : Outcome} → after ≡ k → answers o → Works k after path answers o
+  no_source : {o : Outcome} → after ≡ failed k → Gives o (says (file_line (codes "cannot read ") path) 1)
+      → Works k after path answers o
+
+-- what is answered once the work is over: its outcome, and where all is done the file is open; or the line of a file that
+-- can't be read or written, where a read or a write failed, or where all is done and the file can't be opened
+pub data IsEnded (answer : Result Outcome ToolError) (there : Bool) (unread unwritten : Outcome) : Outcome
+    → Type 0 where
+  done : {o : Outcome} → answer ≡ Ok o → (o.status ≡ 0 → there ≡ true) → IsEnded answer there unread unwritten o
+  unopened : (o : Outcome) → answer ≡ Ok o → o.status ≡ 0 → there ≡ false
+      → IsEnded answer there unread unwritten unwritten
+  no_read : answer ≡ Err tool.Read → IsEnded answer there unread unwritten unread
+  no_write : answer ≡ Err tool.Write → IsEnded answer there unread unwritten unwritten
+
+-- what is told of work over two files: its outcome, or the line of the file of which a read failed
+pub data IsToldOfSides (work : Result Outcome SidesError) (left right : List ℕ) : Outcome → Type 0 where
+  comparison : {o : Outcome} → work ≡ Ok o → IsToldOfSides work left right o
+  left_failed : {o : Outcome} → work ≡ Err side.Left → Gives o (says (file_line (codes "cannot read ") left) 1)
+      → IsToldOfSides work left right o
+  right_failed : {o : Outcome} → work ≡ Err side.Right → Gives o (says (file_line (codes "cannot read ") right) 1)
+      → IsToldOfSides work left right o
+
+-- why a refusal to read isn't told: memory ran out, or it is none
+abbrev pub IsUntold : ReadError → ToolError → Type 0
+IsUntold e tool.Memory = Unit {0}
+IsUntold e fault = read_refusal e ≡ Err fault

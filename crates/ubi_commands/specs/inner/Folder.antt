@@ -1,0 +1,24 @@
+-- The files into which volumes are unpacked.
+use Rattle.std.specs.Prelude.{◌≡◌, ℕ, List, [], ◌∷◌, None, Option, Result, Some, codes, string_bytes}
+use Rattle.ubi_commands.specs.Answer.{Gives, says}
+use Rattle.ubi_commands.specs.Lines.{file_line}
+use Rattle.ubi_volume.specs.declared.errors.ReadError.{ReadError}
+use Rattle.ubi_commands.specs.Disk.{Files}
+use Rattle.ubi_commands.specs.Unpack.{AreUnpacked, AreUnpackedUntil, Listed, file_path}
+use Rattle.ubi_commands.specs.declared.unpack.VolumeFile.{VolumeFile}
+
+-- the file of a volume in a folder: its path, and the line that is answered where it can't be written
+pub record IsFileOf (dir : List ℕ) (e : Listed) (f : VolumeFile) : Type 0 where
+  pub path : string_bytes f.path ≡ file_path dir e
+  pub unwritten : Gives f.unwritten (says (file_line (codes "cannot write ") (file_path dir e)) 1)
+
+-- the files of volumes, in their order
+abbrev pub AreFilesOf : List ℕ → List Listed → List VolumeFile → Type 0
+AreFilesOf dir [] [] = Unit {0}
+AreFilesOf dir (e ∷ es) (f ∷ fs) = IsFileOf dir e f × AreFilesOf dir es fs
+AreFilesOf dir _ _ = ⊥
+
+-- how unpacking volumes ends: each is unpacked, or those before the one at a place, whose file can't be written
+abbrev pub Ends : (ℕ → Result (List ℕ) ReadError) → List ℕ → List Listed → Files → Files → Option ℕ → Type 0
+Ends read dir es old new None = AreUnpacked read dir es old new
+Ends read dir es old new (Some i) = (e : Listed) × AreUnpackedUntil read dir es i e old new

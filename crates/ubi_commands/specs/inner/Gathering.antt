@@ -1,0 +1,32 @@
+-- How the sections of a config are gathered, one after the other.
+use Rattle.std.specs.Prelude.{◌≡◌, ℕ, List, [], ◌∷◌, IfSome, MatchOption, None, Ok, Option, Some, length, sum_by}
+use Rattle.ubi_media.specs.Geometry.{Sizes}
+use Rattle.ubi_media.specs.declared.record.VolumeRecord.{VolumeRecord}
+use Rattle.ubi_config.specs.Records.{record_in}
+use Rattle.ubi_config.specs.declared.section.Section.{Section}
+use Rattle.ubi_compose.specs.declared.recipe.Part.{Part}
+use Rattle.ubi_commands.specs.Build.{AreGathered, IsUnreadLine, Sized, image_path, len_of, part_at}
+use Rattle.ubi_commands.specs.Disk.{Files}
+use Rattle.ubi_commands.specs.declared.outcome.Outcome.{Outcome}
+
+-- the image file of a section was found, if it names one: what that holds, where it is known, and how many bytes it has; and the
+-- line that is answered where it can't be read, or else that of the config
+abbrev pub IsFound : Files → List ℕ → Section → Outcome → Option (Option (List ℕ) × ℕ) → Type 0
+IsFound d config x unread file = MatchOption x.image ((file ≡ None) × IsUnreadLine config unread)
+    (λ image. (held : Option (List ℕ)) × (n : ℕ) × (file ≡ Some (held, n)) × (held ≡ d.holds (image_path config image))
+    × IfSome held (λ all. length all ≡ n) × IsUnreadLine (image_path config image) unread)
+
+-- the part is the volume of a section, whose bytes begin at a place
+abbrev pub IsPartOf : Sizes → ℕ → Sized → Part → Type 0
+IsPartOf s start e p = (r : VolumeRecord) × (record_in s e.0 e.1 ≡ Ok r) × (p ≡ part_at start e r)
+
+-- an element, if there is one, as a list
+abbrev pub listed : {X : Type 0} → Option X → List X
+listed None = []
+listed (Some x) = x ∷ []
+
+-- what sections come to so far, whose files have so many bytes together
+pub record AreSoFar (d : Files) (s : Sizes) (config : List ℕ) (sections : List Section) (parts : List Part)
+    (held : List (Option (List ℕ))) (n : ℕ) : Type 0 where
+  pub gathered : AreGathered d s config sections parts held
+  pub total : n ≡ sum_by len_of gathered.sized

@@ -1,0 +1,226 @@
+//! The command `build`: the image of a config, and of the files that it names.
+
+ghost use Rattle.std.specs.Prelude.{◌≡◌, ◌+◌, ◌≤◌, ◌⊎◌, ◌∷◌, [], ℕ, Contains, Err, IfErr, IfOk, IsOk, IsSome, List, None, Ok, OnErr, map, sum_by, vec_capacity, vec_len};
+ghost use Rattle.ubi_compose.specs.Building.{WhereNotBegun};
+ghost use Rattle.ubi_config.specs.Config.{first_fault, sections_of};
+ghost use Rattle.ubi_config.specs.declared.section.Section.{Section};
+ghost use Rattle.ubi_commands.specs.Build.{AreUnread, Builds, BuildsParts, numbered};
+ghost use Rattle.ubi_commands.specs.Disk.{AllStay, OthersStay, fresh};
+ghost use Rattle.ubi_commands.specs.Late.{contents_of};
+ghost use Rattle.ubi_commands.specs.Program.{OfText};
+ghost use Rattle.ubi_commands.specs.Row.{row_bytes};
+ghost use Rattle.ubi_commands.specs.declared.outcome.Outcome.{Outcome};
+ghost use Rattle.ubi_commands.specs.inner.Built.{AreAnswers, IsNotBegun, IsToldOf};
+
+use crate::command_line::NewImage;
+use crate::compose::{meaning_line, room_line};
+use crate::disk::Disk;
+use crate::file_row::FileRow;
+use crate::gathering::{ConfigPaths, Gathered, config_line, gather};
+use crate::image_file::unread_line;
+use crate::late_file::{LateFile, Target};
+use crate::lines::{LONGEST_COUNT_LINE, put_blocks_line};
+use crate::numbers::Numbers;
+use crate::outcome::{DONE, FAILED, Outcome};
+use crate::output_file::{keep_file, unwritten_line};
+use crate::spec_file::load_spec;
+use std::alloc::{AllocError, Global};
+use std::marker::Brand;
+use ubi_compose::{BuildError, Recipe, RecipeError, build_to};
+use ubi_config::{ConfigError, Section, parse_config};
+use ubi_media::Geometry;
+use ubi_scan::{BlockSource, FileSource};
+
+/// What can be answered of a build, made before the output is opened, so that no part of it is written where memory runs out.
+#[derive(Drop)]
+struct Answers {
+    /// Room for the line of a number of eraseblocks.
+    line: Vec<u8>,
+    /// Where the bytes of a volume can't be read, for each volume; and else.
+    unread: Vec<Outcome>,
+    unread_else: Outcome,
+    /// Where the output can't be written.
+    unwritten: Outcome,
+}
+
+/// The line at a place, or another where there is none.
+fn line_at(mut lines: Vec<Outcome>, place: Option<usize>, other: Outcome) -> Outcome
+    ensures { Contains (other ∷ lines.items) result }
+{
+    match place {
+        Some(place) if place < lines.len() => lines.swap_remove(place),
+        _ => other,
+    }
+}
+
+/// The line of the volume with a number, of those of all volumes; or another where there is none.
+fn unread_of(recipe: &Recipe, id: u32, lines: Vec<Outcome>, other: Outcome) -> Outcome
+    ensures { Contains (other ∷ lines.items) result }
+{
+    let place = recipe.parts().iter().position(|part| part.id == id);
+    line_at(lines, place, other)
+}
+
+/// Opens the output of a build that was done, where no write did.
+///
+/// # Errors
+///
+/// Those of the build, and Write where the output can't be opened.
+fn finished<D: Disk, K: Target>(
+    work: Result<u64, BuildError>,
+    late: &mut LateFile<'_, '_, D, K>,
+) -> Result<u64, BuildError>
+    ensures done { IfOk result (λ n. (work ≡ Ok n) × IsSome late.new.file) }
+    ensures failed { IfErr result (λ e. (work ≡ Err e) ⊎ ((n : ℕ) × (e ≡ BuildError.Write n))) }
+    ensures contents { contents_of K.empty (λ f. D.Output.contents f.writer) late.new.file ≡ contents_of K.empty (λ f. D.Output.contents f.writer) late.old.file }
+    ensures untouched { IfErr result (WhereNotBegun (late.new.file ≡ late.old.file)) }
+{
+    let count = work?;
+    match late.finish() {
+        Ok(()) => Ok(count),
+        Err(_) => Err(BuildError::Write(count)),
+    }
+}
+
+/// What is answered of a build that ended so.
+///
+/// # Errors
+///
+/// Memory ran out, and nothing was written.
+fn told(
+    alloc: Global,
+    recipe: &Recipe,
+    end: Result<u64, BuildError>,
+    answers: Answers,
+) -> Result<Outcome, AllocError>
+    requires empty { answers.line.items ≡ [] }
+    requires room { vec_len answers.line + 28 ≤ vec_capacity answers.line }
+    ensures told { (config out : List ℕ) (sections : List Section) → AreAnswers config out sections answers → IfOk result (IsToldOf recipe.now.sizes config out sections end) }
+    ensures memory { OnErr result (IfErr end IsNotBegun) }
+    ensures done { IfOk end (λ _. IsOk result) }
+{
+    let Answers {
+        mut line,
+        unread,
+        unread_else,
+        unwritten,
+    } = answers;
+    match end {
+        Ok(count) => {
+            put_blocks_line(&mut line, count / u64::from(recipe.geometry().peb_size()))?;
+            Ok(Outcome::saying(line, DONE))
+        }
+        Err(error) => match error {
+            BuildError::TooMany => Ok(Outcome::saying(room_line(alloc)?, FAILED)),
+            BuildError::Memory => Err(AllocError),
+            BuildError::Write(_) => Ok(unwritten),
+            BuildError::Read(id, _) => Ok(unread_of(recipe, id, unread, unread_else)),
+            // The source is as long as all of its files.
+            BuildError::Beyond(_) => Ok(unread_else),
+        },
+    }
+}
+
+/// Builds the image of a recipe into a file, which is opened at the first write.
+fn build_into<D: Disk, K: Target>(
+    disk: &mut D,
+    alloc: Global,
+    recipe: &Recipe,
+    source: &mut FileSource<FileRow<D::Placed>>,
+    unread: Vec<Outcome>,
+    asked: &NewImage<'_>,
+) -> Result<Outcome, AllocError>
+    requires named { asked.now.out.now ≡ K.path }
+    requires empty { fresh (D.files disk.old) ≡ K.empty }
+    ensures answer { (sections : List Section) → AreUnread asked.now.from.now sections unread.items → IfOk result (BuildsParts (D.files disk.old) (D.files disk.new) asked.now.from.now asked.now.out.now sections recipe.now (row_bytes (map (λ f. D.Placed.bytes f.file) source.old.file.files.items)) asked.now.spares) }
+    ensures others { OthersStay (D.files disk.old) (D.files disk.new) asked.now.out.now }
+    ensures memory { OnErr result (AllStay (D.files disk.old) (D.files disk.new)) }
+{
+    let answers = Answers {
+        line: Vec::with_capacity(alloc, LONGEST_COUNT_LINE)?,
+        unread,
+        unread_else: unread_line(alloc, asked.from)?,
+        unwritten: unwritten_line(alloc, asked.out)?,
+    };
+    let mut late: LateFile<'_, '_, D, K> = LateFile::new(disk, asked.out);
+    let work = build_to(alloc, recipe, asked.spares, source, &mut late);
+    let end = finished(work, &mut late);
+    let file = late.into_file();
+    keep_file(disk, file);
+    told(alloc, recipe, end, answers)
+}
+
+/// Builds the image of the volumes that sections come to.
+fn build_gathered<D: Disk>(
+    disk: &mut D,
+    alloc: Global,
+    geometry: &Geometry,
+    gathered: Gathered<D::Placed>,
+    asked: &NewImage<'_>,
+) -> Result<Outcome, AllocError>
+    requires total { gathered.total ≡ sum_by (λ x. x.len) gathered.files.items }
+    ensures answer { (sections : List Section) → AreUnread asked.now.from.now sections gathered.unread.items → IfOk result (BuildsParts (D.files disk.old) (D.files disk.new) asked.now.from.now asked.now.out.now sections (numbered geometry.now asked.now.image_seq gathered.parts.items) (row_bytes (map (λ f. D.Placed.bytes f.file) gathered.files.items)) asked.now.spares) }
+    ensures others { OthersStay (D.files disk.old) (D.files disk.new) asked.now.out.now }
+    ensures memory { OnErr result (AllStay (D.files disk.old) (D.files disk.new)) }
+{
+    let Gathered {
+        parts,
+        files,
+        total,
+        unread,
+    } = gathered;
+    let recipe = match Recipe::new(alloc, geometry, asked.image_seq, parts) {
+        Ok(recipe) => recipe,
+        Err(RecipeError::Refused(cause)) => {
+            return Ok(Outcome::saying(meaning_line(alloc, cause)?, FAILED));
+        }
+        Err(RecipeError::Memory) => return Err(AllocError),
+    };
+    let mut source = FileSource::of(FileRow::new(files), total);
+    build_into::<D, Brand>(disk, alloc, &recipe, &mut source, unread, asked)
+}
+
+/// Builds the image of the sections of a config.
+fn build_sections<D: Disk>(
+    disk: &mut D,
+    alloc: Global,
+    geometry: &Geometry,
+    sections: &[Section],
+    asked: &NewImage<'_>,
+) -> Result<Outcome, AllocError>
+    ensures answer { (text : List ℕ) → first_fault text ≡ None → sections.now ≡ sections_of text → IfOk result (Builds (D.files disk.old) (D.files disk.new) asked.now.from.now asked.now.out.now geometry.now text asked.now.spares asked.now.image_seq) }
+    ensures others { OthersStay (D.files disk.old) (D.files disk.new) asked.now.out.now }
+    ensures memory { OnErr result (AllStay (D.files disk.old) (D.files disk.new)) }
+{
+    let paths = ConfigPaths {
+        config: asked.from,
+        out: asked.out,
+    };
+    match gather(disk, alloc, geometry, sections, paths) {
+        Ok(gathered) => build_gathered(disk, alloc, geometry, gathered, asked),
+        Err(unread) => unread.answer(),
+    }
+}
+
+/// Builds the image of a config and of the files that it names, into another file. The files are read a logical eraseblock at a
+/// time.
+pub fn build_file<D: Disk>(
+    disk: &mut D,
+    alloc: Global,
+    numbers: Numbers,
+    asked: &NewImage<'_>,
+) -> Result<Outcome, AllocError>
+    ensures answer { IfOk result (OfText (D.files disk.old) numbers asked.now.from.now (λ s t. Builds (D.files disk.old) (D.files disk.new) asked.now.from.now asked.now.out.now s t asked.now.spares asked.now.image_seq)) }
+    ensures others { OthersStay (D.files disk.old) (D.files disk.new) asked.now.out.now }
+    ensures memory { OnErr result (AllStay (D.files disk.old) (D.files disk.new)) }
+{
+    let file = match load_spec(disk, alloc, numbers, asked.from) {
+        Ok(file) => file,
+        Err(unread) => return unread.answer(),
+    };
+    match parse_config(alloc, file.text.as_slice()) {
+        Ok(sections) => build_sections(disk, alloc, &file.geometry, sections.as_slice(), asked),
+        Err(ConfigError::Refused { line, cause }) => config_line(alloc, line, cause),
+        Err(ConfigError::Memory) => Err(AllocError),
+    }
+}

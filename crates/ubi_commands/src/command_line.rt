@@ -1,0 +1,740 @@
+//! The command line: which words there are, and what they ask for.
+
+ghost use Rattle.std.specs.Prelude.{◌≡◌, ◌∷◌, [], IfOk, codes, false};
+ghost use Rattle.clap.specs.Built.{subcommand_names};
+ghost use Rattle.clap.specs.Simple.{app_of, new_rule, new_shape, subcommand_rows_of};
+ghost use Rattle.clap.specs.Walk.{Text, rule_of};
+ghost use Rattle.ubi_commands.specs.CommandLine.{AsksChange, AsksExtract, AsksKey, AsksNewImage, AsksNumbers, AsksPaths, AsksRename, HasNumber, HasText, IsOneOf, IsRequest, MayHaveNumber, command_names};
+ghost use Rattle.ubi_commands.specs.Tool as tool;
+ghost use Rattle.ubi_commands.specs.Tool.{tool as whole};
+ghost use Rattle.ubi_commands.specs.inner.CommandLine.{HasOneMore, IsAskedBy, alone, words_in};
+
+use crate::numbers::Numbers;
+use crate::volume_key::VolumeKey;
+use clap::{Arg, ArgMatches, Command, value_parser};
+use std::alloc::{AllocError, Global};
+
+/// What the words ask for, with the paths as they were given.
+#[derive(Clone, Copy)]
+pub enum Request<'a> {
+    /// The geometries that a file's own headers give.
+    Geometry {
+        image: &'a str,
+    },
+    /// The volumes of a file.
+    List {
+        numbers: Numbers,
+        image: &'a str,
+    },
+    /// The states of the eraseblocks of a file.
+    Check {
+        numbers: Numbers,
+        image: &'a str,
+    },
+    /// The headers of one eraseblock of a file.
+    Show {
+        numbers: Numbers,
+        image: &'a str,
+        block: u32,
+    },
+    /// What a volume of one file reads, into another.
+    Extract {
+        numbers: Numbers,
+        extract: Extract<'a>,
+    },
+    /// What each volume of a file reads, into files of a folder.
+    Unpack {
+        numbers: Numbers,
+        paths: Paths<'a>,
+    },
+    /// The image that a text file describes, into another file.
+    Compose {
+        numbers: Numbers,
+        new: NewImage<'a>,
+    },
+    /// The image that a config and the files that it names give, into another file.
+    Build {
+        numbers: Numbers,
+        new: NewImage<'a>,
+    },
+    /// The normal image of one file, into another.
+    Normalise {
+        numbers: Numbers,
+        paths: Paths<'a>,
+    },
+    /// Whether two files mean the same.
+    Same {
+        numbers: Numbers,
+        left: &'a str,
+        right: &'a str,
+    },
+    /// A change of one file, written into another.
+    Change {
+        numbers: Numbers,
+        change: Change<'a>,
+    },
+    /// A rename of a volume of one file, written into another.
+    Rename {
+        numbers: Numbers,
+        rename: Rename<'a>,
+    },
+}
+
+/// The paths of a command that reads one image and writes a file, or the files of a folder.
+#[derive(Clone, Copy)]
+pub struct Paths<'a> {
+    /// That of the image.
+    pub image: &'a str,
+    /// That of the file or the folder that is written.
+    pub out: &'a str,
+}
+
+/// A volume to take out of an image.
+#[derive(Clone, Copy)]
+pub struct Extract<'a> {
+    /// The paths of the image and of the file that is written.
+    pub paths: Paths<'a>,
+    /// The volume.
+    pub key: VolumeKey<'a>,
+}
+
+/// An image to make of a text, or of a config and the files that it names.
+#[derive(Clone, Copy)]
+pub struct NewImage<'a> {
+    /// The path of the text or the config.
+    pub from: &'a str,
+    /// The path of the file that is written.
+    pub out: &'a str,
+    /// How many spare eraseblocks follow.
+    pub spares: u32,
+    /// The image sequence number.
+    pub image_seq: u32,
+}
+
+/// The change of a logical eraseblock.
+#[derive(Clone, Copy)]
+pub struct Change<'a> {
+    /// The paths of the image and of the file that is written.
+    pub paths: Paths<'a>,
+    /// The number of the volume.
+    pub id: u32,
+    /// The number of the logical eraseblock.
+    pub lnum: u32,
+    /// The path of the file that holds the new bytes.
+    pub from: &'a str,
+    /// After how many steps the image is written; after all where it is left out.
+    pub stop: Option<u32>,
+}
+
+/// The rename of a volume.
+#[derive(Clone, Copy)]
+pub struct Rename<'a> {
+    /// The paths of the image and of the file that is written.
+    pub paths: Paths<'a>,
+    /// The number of the volume.
+    pub id: u32,
+    /// The new name, in the form in which names are printed.
+    pub name: &'a str,
+    /// After how many steps the image is written; after all where it is left out.
+    pub stop: Option<u32>,
+}
+
+/// What `--version` shows.
+const VERSION: &str = "0.1.0";
+
+const ABOUT: &str = "Reads raw NAND dumps that hold UBI volumes";
+
+/// What stands below the help of the program.
+const EXAMPLES: &str = "Examples, for eraseblocks of 128 KiB with pages of 2 KiB:
+  ubi_tool geometry dump.img
+  ubi_tool list dump.img --peb 131072 --page 2048
+  ubi_tool extract dump.img --name rootfs --out rootfs.bin --peb 131072 --page 2048
+  ubi_tool same old.img new.img --peb 131072 --page 2048 --vid 512 --data 2048
+
+Exit status: 0 done; 1 refused, different, a file that fails, or out of memory;
+2 bad arguments, help, or an invalid geometry.";
+
+/// The whole command line. A command line is used up by reading words, so that each call makes a new one.
+pub fn tool_command<'a>(alloc: Global) -> Result<Command<'a>, AllocError>
+    ensures names { IfOk result (λ c. subcommand_names c ≡ command_names) }
+    ensures app { IfOk result (λ c. app_of c ≡ whole) }
+{
+    let tool = Command::new(alloc, "ubi_tool")
+        .about(ABOUT)
+        .version(VERSION)
+        .after_help(EXAMPLES)
+        .subcommand_required(true);
+    let tool = with_command(tool, geometry_command(alloc))?;
+    let tool = with_command(tool, list_command(alloc))?;
+    let tool = with_command(tool, check_command(alloc))?;
+    let tool = with_command(tool, show_command(alloc))?;
+    let tool = with_command(tool, extract_command(alloc))?;
+    let tool = with_command(tool, unpack_command(alloc))?;
+    let tool = with_command(tool, compose_command(alloc))?;
+    let tool = with_command(tool, build_command(alloc))?;
+    let tool = with_command(tool, normalise_command(alloc))?;
+    let tool = with_command(tool, same_command(alloc))?;
+    let tool = with_command(tool, change_command(alloc))?;
+    with_command(tool, rename_command(alloc))
+}
+
+/// Adds a command, where memory didn't run out for it.
+fn with_command<'a>(
+    tool: Command<'a>,
+    command: Result<Command<'a>, AllocError>,
+) -> Result<Command<'a>, AllocError>
+    ensures { IfOk result (HasOneMore tool.entry command.entry) }
+{
+    tool.subcommand(command?)
+}
+
+/// What is asked for, where the words name a command and have all that it needs. Of words that the command line takes
+/// that is always so.
+pub fn request_of<'a>(matches: &'a ArgMatches<'_>) -> Option<Request<'a>>
+    ensures { IsOneOf (IsRequest (subcommand_rows_of matches.now)) result }
+{
+    let (name, inner) = matches.subcommand()?;
+    request_under(name, inner)
+}
+
+/// What the words of the command of this name ask for.
+fn request_under<'a>(name: &str, matches: &'a ArgMatches<'_>) -> Option<Request<'a>>
+    ensures { IsOneOf (IsAskedBy name.now (words_in matches.now)) result }
+{
+    match name {
+        "geometry" => geometry_of(matches),
+        "list" => list_of(matches),
+        "check" => check_of(matches),
+        "show" => show_of(matches),
+        "extract" => extract_of(matches),
+        "unpack" => unpack_of(matches),
+        "compose" => compose_of(matches),
+        "build" => build_of(matches),
+        "normalise" => normalise_of(matches),
+        "same" => same_of(matches),
+        "change" => change_of(matches),
+        "rename" => rename_of(matches),
+        _ => None,
+    }
+}
+
+fn geometry_of<'a>(matches: &'a ArgMatches<'_>) -> Option<Request<'a>>
+    ensures { IsOneOf (IsAskedBy (codes "geometry") (words_in matches.now)) result }
+{
+    Some(Request::Geometry {
+        image: text_of(matches, "IMAGE")?,
+    })
+}
+
+fn list_of<'a>(matches: &'a ArgMatches<'_>) -> Option<Request<'a>>
+    ensures { IsOneOf (IsAskedBy (codes "list") (words_in matches.now)) result }
+{
+    Some(Request::List {
+        numbers: numbers_of(matches)?,
+        image: text_of(matches, "IMAGE")?,
+    })
+}
+
+fn check_of<'a>(matches: &'a ArgMatches<'_>) -> Option<Request<'a>>
+    ensures { IsOneOf (IsAskedBy (codes "check") (words_in matches.now)) result }
+{
+    Some(Request::Check {
+        numbers: numbers_of(matches)?,
+        image: text_of(matches, "IMAGE")?,
+    })
+}
+
+fn show_of<'a>(matches: &'a ArgMatches<'_>) -> Option<Request<'a>>
+    ensures { IsOneOf (IsAskedBy (codes "show") (words_in matches.now)) result }
+{
+    Some(Request::Show {
+        numbers: numbers_of(matches)?,
+        image: text_of(matches, "IMAGE")?,
+        block: number_of(matches, "block")?,
+    })
+}
+
+fn extract_of<'a>(matches: &'a ArgMatches<'_>) -> Option<Request<'a>>
+    ensures { IsOneOf (IsAskedBy (codes "extract") (words_in matches.now)) result }
+{
+    Some(Request::Extract {
+        numbers: numbers_of(matches)?,
+        extract: volume_extract(matches)?,
+    })
+}
+
+fn unpack_of<'a>(matches: &'a ArgMatches<'_>) -> Option<Request<'a>>
+    ensures { IsOneOf (IsAskedBy (codes "unpack") (words_in matches.now)) result }
+{
+    Some(Request::Unpack {
+        numbers: numbers_of(matches)?,
+        paths: paths_of(matches)?,
+    })
+}
+
+fn compose_of<'a>(matches: &'a ArgMatches<'_>) -> Option<Request<'a>>
+    ensures { IsOneOf (IsAskedBy (codes "compose") (words_in matches.now)) result }
+{
+    Some(Request::Compose {
+        numbers: numbers_of(matches)?,
+        new: new_image(matches, "SPEC")?,
+    })
+}
+
+fn build_of<'a>(matches: &'a ArgMatches<'_>) -> Option<Request<'a>>
+    ensures { IsOneOf (IsAskedBy (codes "build") (words_in matches.now)) result }
+{
+    Some(Request::Build {
+        numbers: numbers_of(matches)?,
+        new: new_image(matches, "CONFIG")?,
+    })
+}
+
+fn normalise_of<'a>(matches: &'a ArgMatches<'_>) -> Option<Request<'a>>
+    ensures { IsOneOf (IsAskedBy (codes "normalise") (words_in matches.now)) result }
+{
+    Some(Request::Normalise {
+        numbers: numbers_of(matches)?,
+        paths: paths_of(matches)?,
+    })
+}
+
+fn same_of<'a>(matches: &'a ArgMatches<'_>) -> Option<Request<'a>>
+    ensures { IsOneOf (IsAskedBy (codes "same") (words_in matches.now)) result }
+{
+    Some(Request::Same {
+        numbers: numbers_of(matches)?,
+        left: text_of(matches, "IMAGE")?,
+        right: text_of(matches, "OTHER")?,
+    })
+}
+
+fn change_of<'a>(matches: &'a ArgMatches<'_>) -> Option<Request<'a>>
+    ensures { IsOneOf (IsAskedBy (codes "change") (words_in matches.now)) result }
+{
+    Some(Request::Change {
+        numbers: numbers_of(matches)?,
+        change: leb_change(matches)?,
+    })
+}
+
+fn rename_of<'a>(matches: &'a ArgMatches<'_>) -> Option<Request<'a>>
+    ensures { IsOneOf (IsAskedBy (codes "rename") (words_in matches.now)) result }
+{
+    Some(Request::Rename {
+        numbers: numbers_of(matches)?,
+        rename: volume_rename(matches)?,
+    })
+}
+
+fn geometry_command<'a>(alloc: Global) -> Result<Command<'a>, AllocError>
+    ensures { IfOk result (λ c. app_of c ≡ alone tool.geometry) }
+{
+    let about =
+        "Prints the geometry that the headers of a dump give, as options of the other commands";
+    let command = Command::new(alloc, "geometry").about(about);
+    command.arg(image_file(alloc))
+}
+
+fn list_command<'a>(alloc: Global) -> Result<Command<'a>, AllocError>
+    ensures { IfOk result (λ c. app_of c ≡ alone tool.list) }
+{
+    image_command(
+        alloc,
+        "list",
+        "Prints the volumes of an image: kind, size, flags, name",
+    )
+}
+
+fn check_command<'a>(alloc: Global) -> Result<Command<'a>, AllocError>
+    ensures { IfOk result (λ c. app_of c ≡ alone tool.check) }
+{
+    image_command(
+        alloc,
+        "check",
+        "Says why an image is refused, or counts what its eraseblocks are",
+    )
+}
+
+fn show_command<'a>(alloc: Global) -> Result<Command<'a>, AllocError>
+    ensures { IfOk result (λ c. app_of c ≡ alone tool.show) }
+{
+    let command = image_command(alloc, "show", "Prints the two headers of an eraseblock")?;
+    command.arg(block(alloc))
+}
+
+/// The option that names an eraseblock.
+fn block<'a>(alloc: Global) -> Arg<'a>
+    ensures rule { rule_of result ≡ tool.needed (tool.number (codes "block")) }
+    ensures global { result.global ≡ false }
+{
+    Arg::new(alloc, "block")
+        .long("block")
+        .value_name("P")
+        .help("Number of the eraseblock, from 0")
+        .value_parser(value_parser!(u32))
+        .required(true)
+}
+
+fn extract_command<'a>(alloc: Global) -> Result<Command<'a>, AllocError>
+    ensures { IfOk result (λ c. app_of c ≡ alone tool.extract) }
+{
+    let command = out_command(
+        alloc,
+        "extract",
+        "Writes the contents of a volume to a file",
+    )?;
+    let command = command.arg(number(alloc, "id", ID))?;
+    command.arg(volume_name(alloc))
+}
+
+/// The option that names a volume.
+fn volume_name<'a>(alloc: Global) -> Arg<'a>
+    ensures rule { rule_of result ≡ tool.option (codes "name") }
+    ensures global { result.global ≡ false }
+{
+    Arg::new(alloc, "name")
+        .long("name")
+        .value_name("NAME")
+        .help("Name of the volume as `list` prints it, instead of --id")
+}
+
+fn unpack_command<'a>(alloc: Global) -> Result<Command<'a>, AllocError>
+    ensures { IfOk result (λ c. app_of c ≡ alone tool.unpack) }
+{
+    let command = image_command(
+        alloc,
+        "unpack",
+        "Writes the contents of each volume to a file in a directory",
+    )?;
+    command.arg(out_folder(alloc))
+}
+
+/// The option that names the folder to write.
+fn out_folder<'a>(alloc: Global) -> Arg<'a>
+    ensures rule { rule_of result ≡ tool.output }
+    ensures global { result.global ≡ false }
+{
+    Arg::new(alloc, "out")
+        .long("out")
+        .value_name("DIR")
+        .help("Directory to make, or one that is empty")
+        .required(true)
+}
+
+fn compose_command<'a>(alloc: Global) -> Result<Command<'a>, AllocError>
+    ensures { IfOk result (λ c. app_of c ≡ alone tool.compose) }
+{
+    let about = "Writes the image that a text describes";
+    let command = device_command(alloc, "compose", about)?;
+    let command = command.arg(spec_file(alloc))?;
+    let command = command.arg(out_file(alloc))?;
+    let command = command.arg(number(alloc, "spares", SPARES))?;
+    command.arg(number(alloc, "seq", SEQ))
+}
+
+/// The word that names the text file.
+fn spec_file<'a>(alloc: Global) -> Arg<'a>
+    ensures rule { rule_of result ≡ tool.needed (new_rule (codes "SPEC")) }
+    ensures global { result.global ≡ false }
+{
+    Arg::new(alloc, "SPEC")
+        .help("Text that describes the volumes")
+        .required(true)
+}
+
+fn build_command<'a>(alloc: Global) -> Result<Command<'a>, AllocError>
+    ensures { IfOk result (λ c. app_of c ≡ alone tool.build) }
+{
+    let about = "Writes the image that a config of ubinize and the files in it give";
+    let command = device_command(alloc, "build", about)?;
+    let command = command.arg(config_file(alloc))?;
+    let command = command.arg(out_file(alloc))?;
+    let command = command.arg(number(alloc, "spares", SPARES))?;
+    command.arg(number(alloc, "seq", SEQ))
+}
+
+/// The word that names the config.
+fn config_file<'a>(alloc: Global) -> Arg<'a>
+    ensures rule { rule_of result ≡ tool.needed (new_rule (codes "CONFIG")) }
+    ensures global { result.global ≡ false }
+{
+    Arg::new(alloc, "CONFIG")
+        .help("Config of ubinize: an ini file")
+        .required(true)
+}
+
+fn normalise_command<'a>(alloc: Global) -> Result<Command<'a>, AllocError>
+    ensures { IfOk result (λ c. app_of c ≡ alone tool.normalise) }
+{
+    out_command(
+        alloc,
+        "normalise",
+        "Writes the normal image: the same bytes for all images with the same contents",
+    )
+}
+
+fn same_command<'a>(alloc: Global) -> Result<Command<'a>, AllocError>
+    ensures { IfOk result (λ c. app_of c ≡ alone tool.same) }
+{
+    let command = image_command(
+        alloc,
+        "same",
+        "Says whether two images have the same contents",
+    )?;
+    command.arg(other_image(alloc))
+}
+
+/// The word that names the second image file.
+fn other_image<'a>(alloc: Global) -> Arg<'a>
+    ensures rule { rule_of result ≡ tool.needed (record (new_rule (codes "OTHER")) { value_names = 1 }) }
+    ensures global { result.global ≡ false }
+{
+    Arg::new(alloc, "OTHER")
+        .value_name("IMAGE")
+        .help("Raw dump to compare it with")
+        .required(true)
+}
+
+fn change_command<'a>(alloc: Global) -> Result<Command<'a>, AllocError>
+    ensures { IfOk result (λ c. app_of c ≡ alone tool.change) }
+{
+    let command = out_command(alloc, "change", CHANGE)?;
+    let command = command.arg(number(alloc, "id", ID).required(true))?;
+    let command = command.arg(number(alloc, "lnum", LNUM).required(true))?;
+    let command = command.arg(new_bytes(alloc))?;
+    command.arg(number(alloc, "stop", STOP))
+}
+
+/// The option that names the file of the new bytes.
+fn new_bytes<'a>(alloc: Global) -> Arg<'a>
+    ensures rule { rule_of result ≡ tool.needed (tool.option (codes "from")) }
+    ensures global { result.global ≡ false }
+{
+    Arg::new(alloc, "from")
+        .long("from")
+        .value_name("FILE")
+        .help("File with the new bytes, which are whole pages")
+        .required(true)
+}
+
+fn rename_command<'a>(alloc: Global) -> Result<Command<'a>, AllocError>
+    ensures { IfOk result (λ c. app_of c ≡ alone tool.rename) }
+{
+    let command = out_command(alloc, "rename", RENAME)?;
+    let command = command.arg(number(alloc, "id", ID).required(true))?;
+    let command = command.arg(new_name(alloc))?;
+    command.arg(number(alloc, "stop", STOP))
+}
+
+/// The option that gives the new name.
+fn new_name<'a>(alloc: Global) -> Arg<'a>
+    ensures rule { rule_of result ≡ tool.needed (tool.option (codes "name")) }
+    ensures global { result.global ≡ false }
+{
+    Arg::new(alloc, "name")
+        .long("name")
+        .value_name("NAME")
+        .help("New name of the volume, in the form in which `list` prints names")
+        .required(true)
+}
+
+/// A command over an image file that writes another file.
+fn out_command<'a>(alloc: Global, name: &'a str, about: &'a str) -> Result<Command<'a>, AllocError>
+    ensures { IfOk result (λ c. app_of c ≡ alone (tool.on_image name.now (tool.output ∷ []))) }
+{
+    let command = image_command(alloc, name, about)?;
+    command.arg(out_file(alloc))
+}
+
+/// The option that names the output file.
+fn out_file<'a>(alloc: Global) -> Arg<'a>
+    ensures rule { rule_of result ≡ tool.output }
+    ensures global { result.global ≡ false }
+{
+    Arg::new(alloc, "out")
+        .long("out")
+        .value_name("FILE")
+        .help("File to write")
+        .required(true)
+}
+
+/// A command over an image file.
+fn image_command<'a>(
+    alloc: Global,
+    name: &'a str,
+    about: &'a str,
+) -> Result<Command<'a>, AllocError>
+    ensures { IfOk result (λ c. app_of c ≡ alone (tool.on_image name.now [])) }
+{
+    let command = device_command(alloc, name, about)?;
+    command.arg(image_file(alloc))
+}
+
+/// The word that names the image file.
+fn image_file<'a>(alloc: Global) -> Arg<'a>
+    ensures rule { rule_of result ≡ tool.needed (new_rule (codes "IMAGE")) }
+    ensures global { result.global ≡ false }
+{
+    Arg::new(alloc, "IMAGE")
+        .help("Raw dump, without out-of-band bytes")
+        .required(true)
+}
+
+/// A command that takes the numbers of a geometry.
+fn device_command<'a>(
+    alloc: Global,
+    name: &'a str,
+    about: &'a str,
+) -> Result<Command<'a>, AllocError>
+    ensures { IfOk result (λ c. app_of c ≡ alone (tool.command name.now [])) }
+{
+    with_numbers(alloc, Command::new(alloc, name).about(about))
+}
+
+/// Adds the numbers of a geometry to a command.
+fn with_numbers<'a>(alloc: Global, command: Command<'a>) -> Result<Command<'a>, AllocError>
+    ensures { IfOk result (λ c. (name : Text) → app_of command.entry ≡ alone (new_shape name) → app_of c ≡ alone (tool.command name [])) }
+{
+    let command = command.arg(measure(alloc, "peb", PEB).required(true))?;
+    let command = command.arg(measure(alloc, "page", PAGE).required(true))?;
+    let command = command.arg(measure(alloc, "vid", VID))?;
+    let command = command.arg(measure(alloc, "data", DATA))?;
+    command.arg(measure(alloc, "pebs", PEBS))
+}
+
+/// An option that takes a number of the geometry. The help lists these below the other options.
+fn measure<'a>(alloc: Global, name: &'a str, help: &'a str) -> Arg<'a>
+    ensures rule { rule_of result ≡ tool.number name.now }
+    ensures global { result.global ≡ false }
+{
+    number(alloc, name, help).help_heading("Geometry")
+}
+
+const ID: &str = "Number of the volume";
+
+const CHANGE: &str =
+    "Plans an update of a logical eraseblock that survives a power cut, and writes the resulting image";
+
+const RENAME: &str =
+    "Plans a rename of a volume that survives a power cut, and writes the resulting image";
+
+const LNUM: &str = "Number of the logical eraseblock (LEB) in the volume";
+
+const SPARES: &str = "Spare eraseblocks to append [default: 0]";
+
+const SEQ: &str = "Image sequence number [default: 0]";
+
+const STOP: &str = "Stop after N steps of the plan [default: all]";
+
+const PEB: &str = "Eraseblock size in bytes";
+
+const PAGE: &str = "Page size in bytes";
+
+const VID: &str = "Offset of the VID header in an eraseblock [default: one page]";
+
+const DATA: &str = "Offset of the data in an eraseblock [default: two pages]";
+
+const PEBS: &str = "Number of eraseblocks of the device [default: 1048576]";
+
+/// An option that takes a number of 32 bits.
+fn number<'a>(alloc: Global, name: &'a str, help: &'a str) -> Arg<'a>
+    ensures rule { rule_of result ≡ tool.number name.now }
+    ensures global { result.global ≡ false }
+{
+    Arg::new(alloc, name)
+        .long(name)
+        .value_name("N")
+        .help(help)
+        .value_parser(value_parser!(u32))
+}
+
+/// The volume that the words name, by its number or by its name. None where they do neither, or both.
+fn key_of<'a>(matches: &'a ArgMatches<'_>) -> Option<VolumeKey<'a>>
+    ensures { IsOneOf (AsksKey (words_in matches.now)) result }
+{
+    match (text_of(matches, "name"), text_of(matches, "id")) {
+        (None, _) => Some(VolumeKey::Id(number_of(matches, "id")?)),
+        (Some(name), None) => Some(VolumeKey::Name(name)),
+        (Some(_), Some(_)) => None,
+    }
+}
+
+fn paths_of<'a>(matches: &'a ArgMatches<'_>) -> Option<Paths<'a>>
+    ensures { IsOneOf (AsksPaths (words_in matches.now)) result }
+{
+    let image = text_of(matches, "IMAGE")?;
+    let out = text_of(matches, "out")?;
+    Some(Paths { image, out })
+}
+
+fn volume_extract<'a>(matches: &'a ArgMatches<'_>) -> Option<Extract<'a>>
+    ensures { IsOneOf (AsksExtract (words_in matches.now)) result }
+{
+    Some(Extract {
+        paths: paths_of(matches)?,
+        key: key_of(matches)?,
+    })
+}
+
+/// The image that the words ask for, of the file under a name.
+fn new_image<'a>(matches: &'a ArgMatches<'_>, name: &str) -> Option<NewImage<'a>>
+    ensures { IsOneOf (AsksNewImage (words_in matches.now) name.now) result }
+{
+    Some(NewImage {
+        from: text_of(matches, name)?,
+        out: text_of(matches, "out")?,
+        spares: number_of(matches, "spares").unwrap_or(0),
+        image_seq: number_of(matches, "seq").unwrap_or(0),
+    })
+}
+
+fn leb_change<'a>(matches: &'a ArgMatches<'_>) -> Option<Change<'a>>
+    ensures { IsOneOf (AsksChange (words_in matches.now)) result }
+{
+    Some(Change {
+        paths: paths_of(matches)?,
+        id: number_of(matches, "id")?,
+        lnum: number_of(matches, "lnum")?,
+        from: text_of(matches, "from")?,
+        stop: number_of(matches, "stop"),
+    })
+}
+
+fn volume_rename<'a>(matches: &'a ArgMatches<'_>) -> Option<Rename<'a>>
+    ensures { IsOneOf (AsksRename (words_in matches.now)) result }
+{
+    Some(Rename {
+        paths: paths_of(matches)?,
+        id: number_of(matches, "id")?,
+        name: text_of(matches, "name")?,
+        stop: number_of(matches, "stop"),
+    })
+}
+
+fn numbers_of(matches: &ArgMatches<'_>) -> Option<Numbers>
+    ensures { IsOneOf (AsksNumbers (words_in matches.now)) result }
+{
+    Some(Numbers {
+        peb_size: number_of(matches, "peb")?,
+        page: number_of(matches, "page")?,
+        vid_offset: number_of(matches, "vid"),
+        data_offset: number_of(matches, "data"),
+        pebs: number_of(matches, "pebs"),
+    })
+}
+
+/// The text that a word gives.
+fn text_of<'a>(matches: &'a ArgMatches<'_>, name: &str) -> Option<&'a str>
+    ensures { IsOneOf (HasText (words_in matches.now) name.now) result }
+{
+    matches.get_str(name)
+}
+
+/// The number that an option gives.
+fn number_of(matches: &ArgMatches<'_>, name: &str) -> Option<u32>
+    ensures one { IsOneOf (HasNumber (words_in matches.now) name.now) result }
+    ensures whole { MayHaveNumber (words_in matches.now) name.now result }
+{
+    matches.get_one::<u32>(name)
+}

@@ -1,0 +1,80 @@
+//! The command `compose`: the image that a text describes.
+
+ghost use Rattle.std.specs.Prelude.{◌≡◌, IfOk};
+ghost use Rattle.ubi_commands.specs.Compose.{Composes, ComposesOf, meaning_line, room_line, spec_line};
+
+use crate::lines::{blocks_line, refused};
+use crate::outcome::{DONE, FAILED, Outcome};
+use std::alloc::{AllocError, Global};
+use ubi_compose::{ComposeError, SpecCause, SpecError, compose, parse_spec};
+use ubi_media::Geometry;
+use ubi_volume::{Meaning, MeaningCause};
+
+/// The line of a text's line that something is wrong with, which is counted from 1.
+fn spec_line(alloc: Global, line: u32, cause: SpecCause) -> Result<Vec<u8>, AllocError>
+    ensures { IfOk result (λ text. text.items ≡ spec_line line cause) }
+{
+    refused(alloc, &SpecError::Refused { line, cause })
+}
+
+/// The line of volumes that have no meaning together.
+pub fn meaning_line(alloc: Global, cause: MeaningCause) -> Result<Vec<u8>, AllocError>
+    ensures { IfOk result (λ text. text.items ≡ meaning_line cause) }
+{
+    refused(alloc, &cause)
+}
+
+/// The line of an image that the device has no room for.
+pub fn room_line(alloc: Global) -> Result<Vec<u8>, AllocError>
+    ensures { IfOk result (λ text. text.items ≡ room_line) }
+{
+    refused(alloc, &ComposeError::TooMany)
+}
+
+/// What is answered of a meaning: the number of eraseblocks of its image, and their bytes, or that the device has no room
+/// for them.
+fn compose_meaning(alloc: Global, meaning: &Meaning, spares: u32) -> Result<Outcome, AllocError>
+    ensures { IfOk result (ComposesOf meaning.now spares) }
+{
+    match compose(alloc, meaning, spares) {
+        Ok(image) => Ok(Outcome {
+            text: blocks_line(alloc, image.len() / meaning.geometry().peb_size() as usize)?,
+            status: DONE,
+            file: Some(image),
+        }),
+        Err(ComposeError::TooMany) => Ok(Outcome::saying(room_line(alloc)?, FAILED)),
+        Err(ComposeError::Memory) => Err(AllocError),
+    }
+}
+
+/// Composes the image that a text describes, with so many spare eraseblocks at its end and an image sequence number: the
+/// number of its eraseblocks and their bytes.
+///
+/// Where the text describes none, a line says why, and there is no file: the first line of the text that something is
+/// wrong with; or why its volumes have no meaning together, counted from 0 in the order of their lines; or that the
+/// device has fewer eraseblocks.
+///
+/// # Errors
+///
+/// Memory ran out.
+pub fn run_compose(
+    alloc: Global,
+    geometry: &Geometry,
+    spec: &[u8],
+    spares: u32,
+    image_seq: u32,
+) -> Result<Outcome, AllocError>
+    ensures { IfOk result (Composes geometry.now spec.now spares image_seq) }
+{
+    let volumes = match parse_spec(alloc, geometry, spec) {
+        Ok(volumes) => volumes,
+        Err(SpecError::Refused { line, cause }) => {
+            return Ok(Outcome::saying(spec_line(alloc, line, cause)?, FAILED));
+        }
+        Err(SpecError::Memory) => return Err(AllocError),
+    };
+    match Meaning::new(geometry, image_seq, volumes) {
+        Ok(meaning) => compose_meaning(alloc, &meaning, spares),
+        Err(error) => Ok(Outcome::saying(meaning_line(alloc, error.cause)?, FAILED)),
+    }
+}

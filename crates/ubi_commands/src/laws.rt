@@ -1,0 +1,21 @@
+//! The laws that the program stands on, each as the contract of a function that does nothing.
+
+ghost use Rattle.ubi_commands.specs.Headline.{Headline};
+ghost use Rattle.ubi_commands.specs.Laws.{ListsComposed, OneComposed};
+
+/// Of accepted images of one geometry, two mean the same exactly if their normalised images are equal byte for byte;
+/// normalising keeps the meaning and twice is once; an image has one meaning at most; it is refused exactly where a stated
+/// fault stands; and an atomic change cut after any whole step means the old or the new.
+pub fn headline()
+    ensures { Headline }
+{}
+
+/// What composing answers is a function of the text and the number of spare eraseblocks.
+pub fn one_composed()
+    ensures { OneComposed }
+{}
+
+/// What is listed of a composed image is the meaning that the text comes to.
+pub fn lists_composed()
+    ensures { ListsComposed }
+{}

@@ -1,0 +1,134 @@
+//! Printed lines.
+
+ghost use Rattle.std.specs.Prelude.{◌≡◌, ◌+◌, ◌++◌, ◌≤◌, IfOk, IfSome, IsOk, OnOk, codes, decimal, length, vec_capacity, vec_len};
+ghost use Rattle.ubi_commands.specs.Lines.{blocks_line, bytes_line, comparison_line, file_line, geometry_line, no_block_line, refusal_line, refused_line, side_line, undetected_line};
+
+use itoa::Buffer;
+use std::alloc::{AllocError, Global};
+use std::fmt;
+use ubi_media::{GeometryError, Refusal};
+use ubi_scan::Undetected;
+
+/// Adds a word.
+pub fn put_word(text: &mut Vec<u8>, word: &str) -> Result<(), AllocError>
+    ensures { OnOk result (text.new.items ≡ text.old.items ++ word.now) }
+{
+    text.extend_from_slice(word.as_bytes())
+}
+
+/// Adds a word and a decimal number.
+pub fn put_number(text: &mut Vec<u8>, word: &str, number: u64) -> Result<(), AllocError>
+    ensures { OnOk result (text.new.items ≡ text.old.items ++ (word.now ++ decimal number)) }
+{
+    let mut buffer = Buffer::new();
+    put_word(text, word)?;
+    put_word(text, buffer.format(number))
+}
+
+/// The line of a refusal, by what is printed of its cause.
+pub fn refused<C: fmt::Display>(alloc: Global, cause: &C) -> Result<Vec<u8>, AllocError>
+    ensures { IfOk result (λ line. IfSome (C.output cause.now) (λ text. line.items ≡ refused_line text)) }
+{
+    Ok(format!(in alloc; "refused {cause}\n")?.into_bytes())
+}
+
+/// The line of a limit that a geometry breaks.
+pub fn geometry_line(alloc: Global, limit: GeometryError) -> Result<Vec<u8>, AllocError>
+    ensures { IfOk result (λ text. text.items ≡ geometry_line limit) }
+{
+    refused(alloc, &limit)
+}
+
+/// The line of an image that is refused.
+pub fn refusal_line(alloc: Global, cause: Refusal) -> Result<Vec<u8>, AllocError>
+    ensures { IfOk result (λ text. text.items ≡ refusal_line cause) }
+{
+    refused(alloc, &cause)
+}
+
+/// The line of a file of which no geometry is told.
+pub fn undetected_line(alloc: Global, why: Undetected) -> Result<Vec<u8>, AllocError>
+    ensures { IfOk result (λ text. text.items ≡ undetected_line why) }
+{
+    refused(alloc, &why)
+}
+
+/// The line of one of two images that is refused, behind the side on which it stands.
+pub fn side_line(alloc: Global, side: &str, cause: Refusal) -> Result<Vec<u8>, AllocError>
+    ensures { IfOk result (λ text. text.items ≡ side_line side.now cause) }
+{
+    let mut text = Vec::from_slice(alloc, side.as_bytes())?;
+    text.extend_from_slice(refusal_line(alloc, cause)?.as_slice())?;
+    Ok(text)
+}
+
+/// The line of two images that mean the same, or don't.
+pub fn comparison_line(alloc: Global, same: bool) -> Result<Vec<u8>, AllocError>
+    ensures { IfOk result (λ text. text.items ≡ comparison_line same) }
+{
+    Vec::from_slice(alloc, if same { b"same\n" } else { b"different\n" })
+}
+
+/// The line of an eraseblock that isn't in the image.
+pub fn no_block_line(alloc: Global) -> Result<Vec<u8>, AllocError>
+    ensures { IfOk result (λ text. text.items ≡ no_block_line) }
+{
+    refused(alloc, &"B1 Block")
+}
+
+/// The bytes of the longest line of a count: its word, twenty digits and the line's end.
+pub const LONGEST_COUNT_LINE: usize = 28;
+
+/// Adds a word, a number and the end of a line. Where there is room for the longest number, it takes no memory.
+fn put_count_line(text: &mut Vec<u8>, word: &[u8], count: u64) -> Result<(), AllocError>
+    ensures line { OnOk result (text.new.items ≡ text.old.items ++ (word.now ++ decimal count ++ codes "\n")) }
+    ensures room { vec_len text.old + length word.now + 21 ≤ vec_capacity text.old → IsOk result }
+{
+    let mut buffer = Buffer::new();
+    text.extend_from_slice(word)?;
+    text.extend_from_slice(buffer.format(count).as_bytes())?;
+    text.extend_from_slice(b"\n")
+}
+
+/// Adds the line of a number of bytes. Where there is room for the longest one, it takes no memory.
+///
+/// # Errors
+///
+/// Memory ran out.
+pub fn put_bytes_line(text: &mut Vec<u8>, count: u64) -> Result<(), AllocError>
+    ensures line { OnOk result (text.new.items ≡ text.old.items ++ bytes_line count) }
+    ensures room { vec_len text.old + 28 ≤ vec_capacity text.old → IsOk result }
+{
+    put_count_line(text, b"bytes ", count)
+}
+
+/// Adds the line of a number of eraseblocks. Where there is room for the longest one, it takes no memory.
+///
+/// # Errors
+///
+/// Memory ran out.
+pub fn put_blocks_line(text: &mut Vec<u8>, count: u64) -> Result<(), AllocError>
+    ensures line { OnOk result (text.new.items ≡ text.old.items ++ blocks_line count) }
+    ensures room { vec_len text.old + 28 ≤ vec_capacity text.old → IsOk result }
+{
+    put_count_line(text, b"blocks ", count)
+}
+
+/// The line of a number of eraseblocks.
+pub fn blocks_line(alloc: Global, count: usize) -> Result<Vec<u8>, AllocError>
+    ensures { IfOk result (λ text. text.items ≡ blocks_line count) }
+{
+    let mut text = Vec::new(alloc);
+    put_blocks_line(&mut text, count as u64)?;
+    Ok(text)
+}
+
+/// The line of a file that fails: what can't be done with it, and its path.
+pub fn file_line(alloc: Global, cannot: &str, path: &str) -> Result<Vec<u8>, AllocError>
+    ensures { IfOk result (λ text. text.items ≡ file_line cannot.now path.now) }
+{
+    let mut text = Vec::from_slice(alloc, cannot.as_bytes())?;
+    put_word(&mut text, path)?;
+    put_word(&mut text, "\n")?;
+    Ok(text)
+}

@@ -1,0 +1,248 @@
+//! The command `list`: the volumes of an image.
+
+ghost use Rattle.std.specs.Prelude.{◌≡◌, ◌++◌, ◌∷◌, [], IfErr, IfOk, None, OnOk, codes, length};
+ghost use Rattle.std.specs.FinMap as finite;
+ghost use Rattle.std.specs.List.{flat_map};
+ghost use Rattle.hex.specs.Hex.{encode_lower};
+ghost use Rattle.ubi_media.specs.Record.{rec_fault};
+ghost use Rattle.ubi_scan.specs.Image.{image_of};
+ghost use Rattle.ubi_scan.specs.Source.{Narrows, WhereHeld};
+ghost use Rattle.ubi_volume.specs.Places.{ArePlaces, ArePlacesOf};
+ghost use Rattle.ubi_commands.specs.AfterRun.{IsNoWrite, after_run};
+ghost use Rattle.ubi_commands.specs.List.{Lists, ListsFrom, amount_word, kind_word, layout_words, list_lines, record_line, record_words, room_words, shown, shown_byte, sizes_line, volume_line};
+
+use crate::lines::{put_number, put_word, refusal_line};
+use crate::outcome::{DONE, FAILED, Outcome, ToolError, in_memory};
+use std::alloc::{AllocError, Global};
+use ubi_media::{Geometry, VolKind, VolumeRecord};
+use ubi_scan::{BlockSource, MemorySource, StreamError};
+use ubi_volume::{Amount, Places, amount_of, attach_places};
+
+/// Adds a byte as two digits.
+fn put_digits(alloc: Global, text: &mut Vec<u8>, byte: u8) -> Result<(), AllocError>
+    ensures { OnOk result (text.new.items ≡ text.old.items ++ encode_lower (byte ∷ [])) }
+{
+    let digits = hex::encode(alloc, [byte])?;
+    put_word(text, digits.as_str())
+}
+
+/// Adds a byte of a name as it is shown.
+fn put_shown_byte(alloc: Global, text: &mut Vec<u8>, byte: u8) -> Result<(), AllocError>
+    ensures { OnOk result (text.new.items ≡ text.old.items ++ shown_byte byte) }
+{
+    if byte >= 0x21 && byte <= 0x7E && byte != b'\\' {
+        text.push(byte)?;
+        return Ok(());
+    }
+    put_word(text, "\\x")?;
+    put_digits(alloc, text, byte)
+}
+
+/// Adds a name as it is shown.
+pub fn put_shown(alloc: Global, text: &mut Vec<u8>, name: &[u8]) -> Result<(), AllocError>
+    ensures { OnOk result (text.new.items ≡ text.old.items ++ shown name.now) }
+{
+    for byte in name {
+        put_shown_byte(alloc, text, *byte)?;
+    }
+    Ok(())
+}
+
+fn kind_word(kind: VolKind) -> &'static str
+    ensures { result.now ≡ kind_word kind }
+{
+    match kind {
+        VolKind::Dynamic => "dynamic",
+        VolKind::Static => "static",
+    }
+}
+
+/// Adds how much a volume reads, or why it can't be read.
+pub fn put_amount(text: &mut Vec<u8>, amount: Amount) -> Result<(), AllocError>
+    ensures { OnOk result (text.new.items ≡ text.old.items ++ amount_word amount) }
+{
+    match amount {
+        Amount::Updating => put_word(text, "updating"),
+        Amount::Damaged => put_word(text, "damaged"),
+        Amount::Bytes(bytes) => put_number(text, "bytes=", bytes),
+        Amount::Lebs(count) => put_number(text, "lebs=", u64::from(count)),
+    }
+}
+
+/// Adds the numbers that a geometry is made of, but how many eraseblocks there are.
+fn put_layout(text: &mut Vec<u8>, geometry: &Geometry) -> Result<(), AllocError>
+    ensures { OnOk result (text.new.items ≡ text.old.items ++ layout_words geometry.now) }
+{
+    put_number(text, "peb=", u64::from(geometry.peb_size()))?;
+    put_number(text, " page=", u64::from(geometry.page()))?;
+    put_number(text, " vid=", u64::from(geometry.vid_offset()))?;
+    put_number(text, " data=", u64::from(geometry.data_offset()))
+}
+
+/// Adds the numbers that follow from a geometry, and how many eraseblocks there are.
+fn put_room(text: &mut Vec<u8>, geometry: &Geometry) -> Result<(), AllocError>
+    ensures { OnOk result (text.new.items ≡ text.old.items ++ room_words geometry.now) }
+{
+    put_number(text, " leb=", u64::from(geometry.leb_size()))?;
+    put_number(text, " slots=", u64::from(geometry.slots()))?;
+    put_number(text, " pebs=", u64::from(geometry.pebs()))
+}
+
+/// Adds the line of a device's sizes.
+fn put_sizes(text: &mut Vec<u8>, geometry: &Geometry) -> Result<(), AllocError>
+    ensures { OnOk result (text.new.items ≡ text.old.items ++ sizes_line geometry.now) }
+{
+    put_word(text, "geometry ")?;
+    put_layout(text, geometry)?;
+    put_room(text, geometry)?;
+    put_word(text, "\n")
+}
+
+/// Adds what a record says of its volume but the name.
+fn put_record(
+    alloc: Global,
+    text: &mut Vec<u8>,
+    geometry: &Geometry,
+    entry: &VolumeRecord,
+) -> Result<(), AllocError>
+    requires { rec_fault geometry.now entry.now ≡ None }
+    ensures { OnOk result (text.new.items ≡ text.old.items ++ record_words geometry.now entry.now) }
+{
+    put_word(text, kind_word(entry.kind))?;
+    put_number(text, " reserved=", u64::from(entry.reserved))?;
+    put_number(text, " alignment=", u64::from(entry.alignment))?;
+    put_number(text, " usable=", u64::from(entry.usable(geometry)))?;
+    put_word(text, " flags=")?;
+    put_digits(alloc, text, entry.flags)
+}
+
+/// Adds the line of a volume with a number.
+fn put_volume(
+    alloc: Global,
+    text: &mut Vec<u8>,
+    geometry: &Geometry,
+    id: u32,
+    entry: &VolumeRecord,
+    amount: Amount,
+) -> Result<(), AllocError>
+    requires { rec_fault geometry.now entry.now ≡ None }
+    ensures { OnOk result (text.new.items ≡ text.old.items ++ record_line geometry.now id entry.now amount) }
+{
+    put_number(text, "volume ", u64::from(id))?;
+    put_word(text, " ")?;
+    put_record(alloc, text, geometry, entry)?;
+    put_word(text, " ")?;
+    put_amount(text, amount)?;
+    put_word(text, " name=")?;
+    put_shown(alloc, text, entry.name.as_bytes())?;
+    put_word(text, "\n")
+}
+
+/// Adds the lines of the volumes of a source, by rising number. The buffer has the size of an eraseblock.
+///
+/// # Errors
+///
+/// Read where a read failed. Memory where memory ran out.
+fn put_volumes<S: BlockSource>(
+    alloc: Global,
+    text: &mut Vec<u8>,
+    geometry: &Geometry,
+    source: &mut S,
+    places: &Places,
+    buffer: &mut [u8],
+) -> Result<(), ToolError>
+    requires places { ArePlacesOf geometry.now (S.known source.old) (S.agrees source.old) places.now }
+    requires room { length buffer.old ≡ geometry.now.peb_size }
+    ensures known { S.known source.new ≡ after_run (S.known source.old) result }
+    ensures narrows { Narrows (S.agrees source.old) (S.agrees source.new) }
+    ensures text { OnOk result (WhereHeld (S.agrees source.new) (λ bytes. (h : ArePlaces (image_of geometry.now bytes) places.now) → text.new.items ≡ text.old.items ++ flat_map (volume_line geometry.now) (finite.entries h.meaning.volumes))) }
+    ensures failed { IfErr result IsNoWrite }
+{
+    for listed in places.table().entries() {
+        let (id, entry) = *listed;
+        match amount_of(geometry, source, places, id, &entry, buffer) {
+            Ok(amount) => put_volume(alloc, text, geometry, id, &entry, amount)?,
+            Err(StreamError::Read(_, _)) => return Err(ToolError::Read),
+            // Nothing is refused any more, and nothing is written.
+            Err(StreamError::Refused(_) | StreamError::Write(_) | StreamError::Memory) => {
+                unreachable!()
+            }
+        }
+    }
+    Ok(())
+}
+
+/// The lines of a source: the sizes of its device, its volumes, and how many there are.
+///
+/// # Errors
+///
+/// Read where a read failed. Memory where memory ran out.
+fn list_lines<S: BlockSource>(
+    alloc: Global,
+    geometry: &Geometry,
+    source: &mut S,
+    places: &Places,
+) -> Result<Vec<u8>, ToolError>
+    requires { ArePlacesOf geometry.now (S.known source.old) (S.agrees source.old) places.now }
+    ensures known { S.known source.new ≡ after_run (S.known source.old) result }
+    ensures narrows { Narrows (S.agrees source.old) (S.agrees source.new) }
+    ensures text { IfOk result (λ text. WhereHeld (S.agrees source.new) (λ bytes. (h : ArePlaces (image_of geometry.now bytes) places.now) → text.items ≡ list_lines h.meaning)) }
+    ensures failed { IfErr result IsNoWrite }
+{
+    let mut buffer = Vec::from_elem(alloc, 0u8, geometry.peb_size() as usize)?;
+    let mut text = Vec::new(alloc);
+    put_sizes(&mut text, geometry)?;
+    put_volumes(
+        alloc,
+        &mut text,
+        geometry,
+        source,
+        places,
+        buffer.as_mut_slice(),
+    )?;
+    put_number(&mut text, "volumes ", places.table().entries().len() as u64)?;
+    put_word(&mut text, "\n")?;
+    Ok(text)
+}
+
+/// Lists the volumes of a source, or answers the line of its refusal. One eraseblock of contents is held at a time.
+///
+/// # Errors
+///
+/// Read where a read failed. Memory where memory ran out.
+pub fn run_list_from<S: BlockSource>(
+    alloc: Global,
+    geometry: &Geometry,
+    source: &mut S,
+) -> Result<Outcome, ToolError>
+    ensures known { S.known source.new ≡ after_run (S.known source.old) result }
+    ensures narrows { Narrows (S.agrees source.old) (S.agrees source.new) }
+    ensures listed { IfOk result (ListsFrom geometry.now (S.known source.old) (S.agrees source.new)) }
+    ensures lists { IfOk result (λ o. WhereHeld (S.agrees source.new) (λ bytes. Lists (image_of geometry.now bytes) o)) }
+    ensures failed { IfErr result IsNoWrite }
+{
+    match attach_places(alloc, geometry, source) {
+        Ok(places) => {
+            let text = list_lines(alloc, geometry, source, &places)?;
+            Ok(Outcome::saying(text, DONE))
+        }
+        Err(StreamError::Refused(cause)) => {
+            Ok(Outcome::saying(refusal_line(alloc, cause)?, FAILED))
+        }
+        Err(StreamError::Read(_, _)) => Err(ToolError::Read),
+        Err(StreamError::Memory) => Err(ToolError::Memory),
+        // Nothing is written.
+        Err(StreamError::Write(_)) => unreachable!(),
+    }
+}
+
+/// Lists the volumes of an image, or answers the line of its refusal.
+///
+/// # Errors
+///
+/// Memory ran out.
+pub fn run_list(alloc: Global, geometry: &Geometry, image: &[u8]) -> Result<Outcome, AllocError>
+    ensures { IfOk result (Lists (image_of geometry.now image.now)) }
+{
+    in_memory(run_list_from(alloc, geometry, &mut MemorySource::new(image)))
+}

@@ -1,0 +1,64 @@
+//! Printing what a command answered.
+
+ghost use Rattle.std.specs.Io.KnownBytes.{Appends};
+ghost use Rattle.std.specs.Prelude.{◌≡◌, ℕ, ◌<◌, IfOk, OnErr, OnOk, length, take};
+ghost use Rattle.std.specs.Result.{result_unwrap_or};
+ghost use Rattle.ubi_commands.specs.Printed.{IsReported, printed_text, status_of};
+
+use crate::outcome::{FAILED, Outcome};
+use std::alloc::AllocError;
+use std::io::Write;
+use ubi_volume::write_all;
+
+/// That the text wasn't printed whole.
+#[derive(Clone, Copy, Debug, PartialEq, Eq)]
+struct Unprinted;
+
+/// What is printed where memory ran out.
+const OUT_OF_MEMORY: &[u8] = b"out of memory\n";
+
+/// Prints what a command answered, or that memory ran out, and gives the status to end with.
+///
+/// # Errors
+///
+/// A write failed: the writer received only a part of the text.
+fn print<W: Write>(writer: &mut W, answer: &Result<Outcome, AllocError>) -> Result<u8, Unprinted>
+    ensures status { IfOk result (λ s. s ≡ status_of answer.now) }
+    ensures text { OnOk result (Appends (W.contents writer.old) (W.contents writer.new) (printed_text answer.now)) }
+    ensures part { OnErr result ((n : ℕ) × (n < length (printed_text answer.now))
+        × Appends (W.contents writer.old) (W.contents writer.new) (take n (printed_text answer.now))) }
+{
+    let (text, status) = match answer {
+        Ok(outcome) => (outcome.text.as_slice(), outcome.status),
+        Err(AllocError) => (OUT_OF_MEMORY, FAILED),
+    };
+    match write_all(writer, text) {
+        Ok(()) => Ok(status),
+        Err(_) => Err(Unprinted),
+    }
+}
+
+/// The status to end with. Where the text wasn't printed whole, one line on the standard error says so.
+fn ended<R: Eprint>(rt: &R, printed: Result<u8, Unprinted>) -> u8
+    ensures { result ≡ result_unwrap_or printed 1 }
+{
+    match printed {
+        Ok(status) => status,
+        Err(Unprinted) => {
+            let _ = rt.eprintln("error: cannot write to standard output");
+            FAILED
+        }
+    }
+}
+
+/// Prints what a command answered, and gives the status to end with: that of the answer, or 1 where it couldn't be printed
+/// whole.
+pub fn report<R: Eprint, W: Write>(
+    rt: &R,
+    writer: &mut W,
+    answer: &Result<Outcome, AllocError>,
+) -> u8
+    ensures { IsReported (W.contents writer.old) (W.contents writer.new) answer.now result }
+{
+    ended(rt, print(writer, answer))
+}

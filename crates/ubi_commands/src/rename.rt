@@ -1,0 +1,96 @@
+//! The command `rename`: the plan of a rename of a volume, and the image after its first steps.
+
+ghost use Rattle.std.specs.Prelude.{◌≡◌, IfErr, IfOk, Some};
+ghost use Rattle.ubi_scan.specs.Image.{image_of};
+ghost use Rattle.ubi_scan.specs.Source.{Narrows};
+ghost use Rattle.ubi_commands.specs.AfterRun.{WhereUnwritten, after_run};
+ghost use Rattle.ubi_commands.specs.Rename.{IsRenameFault, Renames, RenamesFrom, rename_line};
+
+use crate::lines::refused;
+use crate::outcome::{FAILED, Outcome, ToolError};
+use crate::plan::{carry_out, with_file};
+use std::alloc::{AllocError, Global};
+use std::io::Write;
+use ubi_change::{PlanError, RenameRefusal, plan_rename_from};
+use ubi_compose::shown_name;
+use ubi_media::Geometry;
+use ubi_scan::{BlockSource, MemorySource};
+
+/// The line of a rename that isn't planned.
+///
+/// # Errors
+///
+/// Memory ran out, now or for the plan.
+fn rename_line(alloc: Global, cause: RenameRefusal) -> Result<Vec<u8>, AllocError>
+    ensures { IfOk result (λ text. rename_line cause ≡ Some text.items) }
+{
+    match cause {
+        RenameRefusal::Memory => Err(AllocError),
+        _ => refused(alloc, &cause),
+    }
+}
+
+/// Plans the rename of a volume of a source to the name that a word shows, byte by byte, or as `\x` and two hexadecimal
+/// digits: answers the lines of all steps, and writes the image after the first `stop` of them, or after all where there are
+/// no more or `stop` is left out. At most an eraseblock of contents is held.
+///
+/// Where the word shows no name, nothing is read. Where it doesn't, or no rename can be planned, the line of the first cause
+/// is answered, and nothing is written. What is written is accepted as an image whatever `stop` is, and means the old or
+/// the renamed.
+///
+/// # Errors
+///
+/// Read where a read failed, and Write where a write failed: the writer received the first of the bytes then, or nothing.
+/// Memory where memory ran out, and nothing is written then.
+pub fn run_rename_from<S: BlockSource, W: Write>(
+    alloc: Global,
+    geometry: &Geometry,
+    source: &mut S,
+    id: u32,
+    word: &[u8],
+    stop: Option<u32>,
+    writer: &mut W,
+) -> Result<Outcome, ToolError>
+    ensures known { S.known source.new ≡ after_run (S.known source.old) result }
+    ensures narrows { Narrows (S.agrees source.old) (S.agrees source.new) }
+    ensures ok { IfOk result (RenamesFrom id word.now stop geometry.now (S.known source.old) (S.agrees source.new) (W.contents writer.old) (W.contents writer.new)) }
+    ensures untouched { WhereUnwritten (writer.new ≡ writer.old) result }
+    ensures err { IfErr result (IsRenameFault id word.now stop geometry.now (S.known source.old) (S.agrees source.new) (W.contents writer.old) (W.contents writer.new)) }
+{
+    let Some(name) = shown_name(word) else {
+        let line = rename_line(alloc, RenameRefusal::BadName)?;
+        return Ok(Outcome::saying(line, FAILED));
+    };
+    match plan_rename_from(alloc, geometry, source, id, name.as_bytes()) {
+        Ok(steps) => carry_out(alloc, geometry, source, steps.as_slice(), stop, writer),
+        Err(PlanError::Refused(cause)) => {
+            Ok(Outcome::saying(rename_line(alloc, cause)?, FAILED))
+        }
+        Err(PlanError::Read(_)) => Err(ToolError::Read),
+    }
+}
+
+/// Plans the rename of a volume to the name that a word shows, as [`run_rename_from`] does: the lines of all steps, and as
+/// the file the image after the first `stop` of them, or after all where there are no more or `stop` is left out.
+///
+/// Where the word shows no name, or no rename can be planned, the line of the first cause is answered, and no file. The
+/// file is accepted as an image whatever `stop` is, and means the old or the renamed.
+///
+/// # Errors
+///
+/// Memory ran out.
+pub fn run_rename(
+    alloc: Global,
+    geometry: &Geometry,
+    image: &[u8],
+    id: u32,
+    word: &[u8],
+    stop: Option<u32>,
+) -> Result<Outcome, AllocError>
+    ensures { IfOk result (Renames (image_of geometry.now image.now) id word.now stop) }
+{
+    let mut file = Vec::new(alloc);
+    let mut source = MemorySource::new(image);
+    let work = run_rename_from(alloc, geometry, &mut source, id, word, stop, &mut file);
+    with_file(work, file)
+}

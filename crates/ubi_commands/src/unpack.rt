@@ -1,0 +1,367 @@
+//! The command `unpack`: what each volume of an image reads, into a file of its own.
+
+ghost use Rattle.std.specs.FinMap as finite;
+ghost use Rattle.std.specs.List.{flat_map};
+ghost use Rattle.std.specs.Prelude.{◌≡◌, ◌≢◌, ◌++◌, ◌<◌, ℕ, Err, IfErr, IfOk, IfSome, List, OnErr, OnOk, codes, if◌then◌else◌, is_ok, length, string_bytes};
+ghost use Rattle.ubi_scan.specs.Image.{image_of};
+ghost use Rattle.ubi_scan.specs.Source.{Narrows, WhereHeld};
+ghost use Rattle.ubi_volume.specs.Extract.{extent_in, extent_len};
+ghost use Rattle.ubi_volume.specs.Places.{ArePlaces, ArePlacesOf};
+ghost use Rattle.ubi_volume.specs.Reading.{read_volume};
+ghost use Rattle.ubi_commands.specs.AfterRun.{IsNoWrite, IsTold, after_run};
+ghost use Rattle.ubi_commands.specs.Answer.{Gives, says};
+ghost use Rattle.ubi_commands.specs.Disk.{AllStay, OthersStay, OutsideStay};
+ghost use Rattle.ubi_commands.specs.Lines.{file_line};
+ghost use Rattle.ubi_commands.specs.Program.{OfFile};
+ghost use Rattle.ubi_commands.specs.Unpack.{AreUnpacked, IsUnpacked, Unpacks, UnpacksFrom, UnpacksOf, file_byte, file_path, unpacked_amount, unpacked_line, unpacked_lines, unpacked_status};
+ghost use Rattle.ubi_commands.specs.inner.Folder.{AreFilesOf, Ends, IsFileOf};
+
+use crate::command_line::Paths;
+use crate::disk::Disk;
+use crate::image_file::unread_line;
+use crate::lines::{put_number, put_word, refusal_line};
+use crate::list::{put_amount, put_shown};
+use crate::numbers::Numbers;
+use crate::open_image::{OpenImage, open_image};
+use crate::outcome::{DONE, FAILED, Outcome, ToolError};
+use crate::output_file::unwritten_line;
+use itoa::Buffer;
+use std::alloc::{AllocError, Global};
+use ubi_media::{Geometry, VolumeRecord};
+use ubi_scan::{BlockSource, FileSource, MemorySource, StreamError};
+use ubi_volume::{Amount, Extent, Places, ReadError, attach_places, write_places};
+
+/// The file of a volume.
+#[derive(Drop)]
+struct VolumeFile {
+    /// Its path.
+    path: String,
+    /// What is answered where it can't be written.
+    unwritten: Outcome,
+}
+
+/// A folder, and the files of volumes in it.
+#[derive(Drop)]
+struct Folder<'a> {
+    /// Its path.
+    path: &'a str,
+    /// The file of each volume, by rising number.
+    files: Vec<VolumeFile>,
+}
+
+/// Adds a byte of a volume's name to the path of its file.
+fn put_file_byte(alloc: Global, path: &mut String, byte: u8) -> Result<(), AllocError>
+    ensures { OnOk result (string_bytes path.new ≡ string_bytes path.old ++ file_byte byte) }
+{
+    if byte == b'/' {
+        return path.push_str("\\x2f");
+    }
+    if byte >= 0x21 && byte <= 0x7E && byte != b'\\' {
+        return path.push(char::from(byte));
+    }
+    path.push_str("\\x")?;
+    let digits = hex::encode(alloc, [byte])?;
+    path.push_str(digits.as_str())
+}
+
+/// Adds a volume's name to the path of its file.
+fn put_file_name(alloc: Global, path: &mut String, name: &[u8]) -> Result<(), AllocError>
+    ensures { OnOk result (string_bytes path.new ≡ string_bytes path.old ++ flat_map file_byte name.now) }
+{
+    for byte in name {
+        put_file_byte(alloc, path, *byte)?;
+    }
+    Ok(())
+}
+
+/// The path of a volume's file in a folder.
+fn file_path(alloc: Global, dir: &str, listed: &(u32, VolumeRecord)) -> Result<String, AllocError>
+    ensures { IfOk result (λ path. string_bytes path ≡ file_path dir.now listed.now) }
+{
+    let mut buffer = Buffer::new();
+    let mut path = String::from_str(alloc, dir)?;
+    path.push_str("/")?;
+    path.push_str(buffer.format(listed.0))?;
+    path.push_str("-")?;
+    put_file_name(alloc, &mut path, listed.1.name.as_bytes())?;
+    Ok(path)
+}
+
+/// The file of a volume in a folder.
+fn volume_file(
+    alloc: Global,
+    dir: &str,
+    listed: &(u32, VolumeRecord),
+) -> Result<VolumeFile, AllocError>
+    ensures { IfOk result (IsFileOf dir.now listed.now) }
+{
+    let path = file_path(alloc, dir, listed)?;
+    let unwritten = unwritten_line(alloc, path.as_str())?;
+    Ok(VolumeFile { path, unwritten })
+}
+
+/// A folder with a file for each volume.
+fn folder_of<'a>(
+    alloc: Global,
+    path: &'a str,
+    entries: &[(u32, VolumeRecord)],
+) -> Result<Folder<'a>, AllocError>
+    ensures path { IfOk result (λ folder. folder.path.now ≡ path.now) }
+    ensures files { IfOk result (λ folder. AreFilesOf path.now entries.now folder.files.items) }
+{
+    let mut files = Vec::new(alloc);
+    for listed in entries {
+        files.push(volume_file(alloc, path, listed)?)?;
+    }
+    Ok(Folder { path, files })
+}
+
+/// How many bytes a volume reads, by its extent, or why it can't be read.
+fn unpacked_amount(extent: &Result<Extent, ReadError>) -> Amount
+    ensures { result ≡ unpacked_amount (extent_len extent.now) }
+{
+    match extent {
+        Ok(extent) => Amount::Bytes(extent.bytes),
+        Err(ReadError::Updating) => Amount::Updating,
+        Err(_) => Amount::Damaged,
+    }
+}
+
+/// Adds the line of a volume, by its extent.
+fn put_unpacked(
+    alloc: Global,
+    text: &mut Vec<u8>,
+    listed: &(u32, VolumeRecord),
+    extent: &Result<Extent, ReadError>,
+) -> Result<(), AllocError>
+    ensures { OnOk result (text.new.items ≡ text.old.items ++ unpacked_line (extent_len extent.now) listed.now) }
+{
+    put_number(text, "volume ", u64::from(listed.0))?;
+    put_word(text, " ")?;
+    put_amount(text, unpacked_amount(extent))?;
+    put_word(text, " name=")?;
+    put_shown(alloc, text, listed.1.name.as_bytes())?;
+    put_word(text, "\n")
+}
+
+/// The status once one volume more was looked at: a volume that can't be read has that of a failure.
+fn status_with(status: u8, extent: &Result<Extent, ReadError>) -> u8
+    ensures { result ≡ (if is_ok (extent_len extent.now) then status else 1) }
+{
+    match extent {
+        Ok(_) => status,
+        Err(_) => FAILED,
+    }
+}
+
+/// What is answered once the volumes are unpacked: a line for each, and whether all of them can be read.
+fn unpacked(alloc: Global, geometry: &Geometry, places: &Places) -> Result<Outcome, AllocError>
+    requires { places.now.records.sizes ≡ geometry.now }
+    ensures { IfOk result (λ o. Gives o (says (unpacked_lines (λ id. extent_len (extent_in places.now id)) (finite.entries places.now.records.of)) (unpacked_status (λ id. extent_len (extent_in places.now id)) (finite.entries places.now.records.of)))) }
+{
+    let mut text = Vec::new(alloc);
+    let mut status = DONE;
+    for listed in places.table().entries() {
+        let extent = places.extent(geometry, listed.0);
+        status = status_with(status, &extent);
+        put_unpacked(alloc, &mut text, listed, &extent)?;
+    }
+    Ok(Outcome::saying(text, status))
+}
+
+/// Writes what a volume of a source reads into a new file. Of a volume that can't be read no file is made.
+///
+/// # Errors
+///
+/// Read where a read failed. Write where the file can't be made, or a write failed.
+fn unpack_volume<D: Disk, S: BlockSource>(
+    disk: &mut D,
+    geometry: &Geometry,
+    source: &mut S,
+    places: &Places,
+    id: u32,
+    path: &str,
+    buffer: &mut [u8],
+) -> Result<(), ToolError>
+    requires places { ArePlacesOf geometry.now (S.known source.old) (S.agrees source.old) places.now }
+    requires room { length buffer.old ≡ geometry.now.peb_size }
+    ensures known { S.known source.new ≡ after_run (S.known source.old) result }
+    ensures narrows { Narrows (S.agrees source.old) (S.agrees source.new) }
+    ensures unpacked { OnOk result (WhereHeld (S.agrees source.new) (λ bytes. (h : ArePlaces (image_of geometry.now bytes) places.now) → IsUnpacked (read_volume h.meaning id) path.now (D.files disk.old) (D.files disk.new))) }
+    ensures others { OthersStay (D.files disk.old) (D.files disk.new) path.now }
+    ensures failed { IfErr result (λ e. e ≢ ToolError.Memory) }
+{
+    let Ok(extent) = places.extent(geometry, id) else {
+        return Ok(());
+    };
+    let Ok(mut file) = disk.create_new(path) else {
+        return Err(ToolError::Write);
+    };
+    let out = &mut file.writer;
+    let work = write_places(geometry, source, places, id, extent, buffer, out);
+    disk.keep(file);
+    match work {
+        Ok(_) => Ok(()),
+        Err(StreamError::Read(_, _)) => Err(ToolError::Read),
+        Err(StreamError::Write(_)) => Err(ToolError::Write),
+        // Nothing is refused any more, and no memory is taken.
+        Err(StreamError::Refused(_) | StreamError::Memory) => unreachable!(),
+    }
+}
+
+/// Unpacks the volumes of a source, each into its file. Gives the place of the first whose file can't be written, and
+/// goes no further then; none where all are unpacked.
+///
+/// # Errors
+///
+/// Read where a read failed. The files of the volumes before it are written then.
+fn unpack_volumes<D: Disk, S: BlockSource>(
+    disk: &mut D,
+    geometry: &Geometry,
+    source: &mut S,
+    places: &Places,
+    folder: &Folder<'_>,
+    buffer: &mut [u8],
+) -> Result<Option<usize>, ToolError>
+    requires places { ArePlacesOf geometry.now (S.known source.old) (S.agrees source.old) places.now }
+    requires room { length buffer.old ≡ geometry.now.peb_size }
+    requires files { AreFilesOf folder.now.path.now (finite.entries places.now.records.of) folder.now.files.items }
+    ensures known { S.known source.new ≡ after_run (S.known source.old) result }
+    ensures narrows { Narrows (S.agrees source.old) (S.agrees source.new) }
+    ensures ends { IfOk result (λ stop. WhereHeld (S.agrees source.new) (λ bytes. (h : ArePlaces (image_of geometry.now bytes) places.now) → Ends (read_volume h.meaning) folder.now.path.now (finite.entries places.now.records.of) (D.files disk.old) (D.files disk.new) stop)) }
+    ensures place { IfOk result (λ stop. IfSome stop (λ i. i < length (finite.entries places.now.records.of))) }
+    ensures outside { OutsideStay (D.files disk.old) (D.files disk.new) folder.now.path.now }
+    ensures failed { IfErr result (λ e. e ≡ ToolError.Read) }
+{
+    for (i, listed) in places.table().entries().iter().enumerate() {
+        let path = folder.files[i].path.as_str();
+        match unpack_volume(disk, geometry, source, places, listed.0, path, buffer) {
+            Ok(()) => {}
+            Err(ToolError::Read) => return Err(ToolError::Read),
+            Err(ToolError::Write) => return Ok(Some(i)),
+            // No memory is taken.
+            Err(ToolError::Memory) => unreachable!(),
+        }
+    }
+    Ok(None)
+}
+
+/// Unpacks the volumes of a source into a folder, which is made, or has to be empty. All memory is taken before that.
+///
+/// # Errors
+///
+/// Read where a read failed. Memory where memory ran out, and no file is written then.
+fn unpack_places<D: Disk, S: BlockSource>(
+    disk: &mut D,
+    alloc: Global,
+    geometry: &Geometry,
+    source: &mut S,
+    places: &Places,
+    dir: &str,
+) -> Result<Outcome, ToolError>
+    requires places { ArePlacesOf geometry.now (S.known source.old) (S.agrees source.old) places.now }
+    ensures known { S.known source.new ≡ after_run (S.known source.old) result }
+    ensures narrows { Narrows (S.agrees source.old) (S.agrees source.new) }
+    ensures ok { IfOk result (UnpacksFrom geometry.now (S.known source.old) (S.agrees source.new) (D.files disk.old) (D.files disk.new)) }
+    ensures image { IfOk result (λ o. WhereHeld (S.agrees source.new) (λ bytes. Unpacks (image_of geometry.now bytes) dir.now (D.files disk.old) (D.files disk.new) o)) }
+    ensures outside { OutsideStay (D.files disk.old) (D.files disk.new) dir.now }
+    ensures memory { result ≡ Err ToolError.Memory → AllStay (D.files disk.old) (D.files disk.new) }
+    ensures failed { IfErr result IsNoWrite }
+{
+    let outcome = unpacked(alloc, geometry, places)?;
+    let mut folder = folder_of(alloc, dir, places.table().entries())?;
+    let unmade = unwritten_line(alloc, dir)?;
+    let mut buffer = Vec::from_elem(alloc, 0u8, geometry.peb_size() as usize)?;
+    if disk.make_folder(dir).is_err() {
+        return Ok(unmade);
+    }
+    let room = buffer.as_mut_slice();
+    match unpack_volumes(disk, geometry, source, places, &folder, room)? {
+        None => Ok(outcome),
+        Some(i) => Ok(folder.files.swap_remove(i).unwritten),
+    }
+}
+
+/// Unpacks what the volumes of a source read into files of a folder, or answers the line of its refusal. At most an
+/// eraseblock of contents is held.
+///
+/// The folder is made, or has to be empty; it isn't touched where the image is refused. Where it can't be, or the file of a
+/// volume can't be written, the line of that is answered, and nothing more is written.
+///
+/// # Errors
+///
+/// Read where a read failed. Memory where memory ran out, and no file is written then.
+pub fn run_unpack_from<D: Disk, S: BlockSource>(
+    disk: &mut D,
+    alloc: Global,
+    geometry: &Geometry,
+    source: &mut S,
+    dir: &str,
+) -> Result<Outcome, ToolError>
+    ensures known { S.known source.new ≡ after_run (S.known source.old) result }
+    ensures narrows { Narrows (S.agrees source.old) (S.agrees source.new) }
+    ensures ok { IfOk result (UnpacksFrom geometry.now (S.known source.old) (S.agrees source.new) (D.files disk.old) (D.files disk.new)) }
+    ensures image { IfOk result (λ o. WhereHeld (S.agrees source.new) (λ bytes. Unpacks (image_of geometry.now bytes) dir.now (D.files disk.old) (D.files disk.new) o)) }
+    ensures outside { OutsideStay (D.files disk.old) (D.files disk.new) dir.now }
+    ensures memory { result ≡ Err ToolError.Memory → AllStay (D.files disk.old) (D.files disk.new) }
+    ensures failed { IfErr result IsNoWrite }
+{
+    match attach_places(alloc, geometry, source) {
+        Ok(places) => unpack_places(disk, alloc, geometry, source, &places, dir),
+        Err(StreamError::Refused(cause)) => {
+            Ok(Outcome::saying(refusal_line(alloc, cause)?, FAILED))
+        }
+        Err(StreamError::Read(_, _)) => Err(ToolError::Read),
+        Err(StreamError::Memory) => Err(ToolError::Memory),
+        // Nothing is written.
+        Err(StreamError::Write(_)) => unreachable!(),
+    }
+}
+
+/// What is answered of work over a file: its outcome, or the line of the file, where a read of it failed.
+///
+/// # Errors
+///
+/// Memory ran out.
+fn told_or(work: Result<Outcome, ToolError>, unread: Outcome) -> Result<Outcome, AllocError>
+    requires { IfErr work IsNoWrite }
+    ensures told { (path : List ℕ) → Gives unread (says (file_line (codes "cannot read ") path) 1) → IfOk result (IsTold work path) }
+    ensures memory { IfErr result (λ _. work ≡ Err ToolError.Memory) }
+{
+    match work {
+        Ok(outcome) => Ok(outcome),
+        Err(error) => match error {
+            ToolError::Read => Ok(unread),
+            ToolError::Memory => Err(AllocError),
+            // A file that can't be written is told by the outcome.
+            ToolError::Write => unreachable!(),
+        },
+    }
+}
+
+/// Unpacks what the volumes of an image file read, into files of a folder.
+pub fn unpack_file<D: Disk>(
+    disk: &mut D,
+    alloc: Global,
+    numbers: Numbers,
+    paths: &Paths<'_>,
+) -> Result<Outcome, AllocError>
+    ensures answer { IfOk result (OfFile (D.files disk.old) numbers paths.now.image.now (UnpacksOf paths.now.out.now (D.files disk.old) (D.files disk.new))) }
+    ensures outside { OutsideStay (D.files disk.old) (D.files disk.new) paths.now.out.now }
+    ensures memory { OnErr result (AllStay (D.files disk.old) (D.files disk.new)) }
+{
+    let unread = unread_line(alloc, paths.image)?;
+    match open_image(disk, alloc, numbers, paths.image) {
+        Ok(OpenImage::AtPlaces(mut file)) => {
+            let (geometry, source) = (&file.geometry, &mut file.source);
+            let work = run_unpack_from(disk, alloc, geometry, source, paths.out);
+            told_or(work, unread)
+        }
+        Ok(OpenImage::Whole(file)) => {
+            let mut source = MemorySource::new(file.bytes.as_slice());
+            let work = run_unpack_from(disk, alloc, &file.geometry, &mut source, paths.out);
+            told_or(work, unread)
+        }
+        Err(error) => error.answer(),
+    }
+}

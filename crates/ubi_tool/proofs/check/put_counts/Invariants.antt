@@ -1,8 +1,0 @@
-use Rattle.std.proofs.Common.{◌≡◌, ◌++◌, take, vec_items}
-use Rattle.std.specs.List.{flat_map}
-use Rattle.ubi_tool.specs.Check.{state_line}
-use Rattle.ubi_tool.proofs.check.put_counts.Given as goal
-
-abbrev pub invariant-loop-state : goal.invariant-loop-state
-invariant-loop-state l = vec_items l.text ≡ vec_items l.initial.text
-    ++ flat_map (state_line l.states) (take l.state-index l.named)

@@ -1,8 +1,0 @@
-use Rattle.std.proofs.Common.{arith}
-use Rattle.std.proofs.lemmas.Grind.{common_steps}
-use Rattle.ubi_tool.specs.Geometry.{options}
-use Rattle.ubi_tool.proofs.geometry.put_options.Goals as goal
-
-pub returns : goal.returns
-unfolding options
-returns c = grind (arith, common_steps)

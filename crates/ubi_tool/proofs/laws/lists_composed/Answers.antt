@@ -1,5 +1,0 @@
-use Rattle.ubi_tool.proofs.Composed.{lists_composed}
-use Rattle.ubi_tool.proofs.laws.lists_composed.Goals as goal
-
-pub returns : goal.returns
-returns c = lists_composed

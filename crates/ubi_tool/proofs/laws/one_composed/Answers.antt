@@ -1,5 +1,0 @@
-use Rattle.ubi_tool.proofs.Composed.{one_composed}
-use Rattle.ubi_tool.proofs.laws.one_composed.Goals as goal
-
-pub returns : goal.returns
-returns c = one_composed

@@ -1,6 +1,0 @@
-use Rattle.std.proofs.Common.{◌≡◌, ◌++◌, take, vec_items}
-use Rattle.ubi_tool.specs.List.{shown}
-use Rattle.ubi_tool.proofs.list.put_shown.Given as goal
-
-abbrev pub invariant-loop-byte : goal.invariant-loop-byte
-invariant-loop-byte l = vec_items l.text ≡ vec_items l.initial.text ++ shown (take l.byte-index l.name)

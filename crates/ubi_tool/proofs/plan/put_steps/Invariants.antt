@@ -1,7 +1,0 @@
-use Rattle.std.proofs.Common.{◌≡◌, ◌++◌, take, vec_items}
-use Rattle.std.specs.List.{flat_map}
-use Rattle.ubi_tool.specs.Plan.{step_line}
-use Rattle.ubi_tool.proofs.plan.put_steps.Given as goal
-
-abbrev pub invariant-loop-step : goal.invariant-loop-step
-invariant-loop-step l = vec_items l.text ≡ vec_items l.initial.text ++ flat_map step_line (take l.step-index l.steps)
