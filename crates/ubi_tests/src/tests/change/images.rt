@@ -11,7 +11,7 @@ use std::process::Abort;
 use std::test::Fail;
 use ubi_change::{ChangeRefusal, Step, apply, plan_change, step_fits};
 use ubi_media::{AttachError, EcHeader, Geometry, VidHeader, crc, write_ec, write_vid};
-use ubi_volume::{Attached, Bytes, attach, read_leb};
+use ubi_volume::{Attached, BlockState, Bytes, attach, read_leb};
 
 /// The checks of bytes 0x61, as many as the name says. These and those below were worked out by another program.
 pub const CHECK_OF_64: u32 = 0x764B_9AAA;
@@ -420,48 +420,42 @@ pub struct Case<'a> {
     pub turn: usize,
 }
 
-/// A change, and the new bytes, each so many times.
+/// Asserts what a change to new bytes is planned as, what each cut of the plan reads, and that it keeps the image sequence
+/// number. Gives the image at the end.
+pub fn assert_change(
+    rt: &impl Abort,
+    alloc: Global,
+    case: &Case<'_>,
+    new: &[u8],
+) -> Result<Vec<u8>, Fail> {
+    let geometry = case.sizes.geometry()?;
+    let image = image_of(alloc, &geometry, case.pebs)?;
+    assert_plan(rt, alloc, case, image, new, usize::MAX)
+}
+
+/// A change, the new bytes, each so many times, and the state of an eraseblock in the end.
 pub struct Change {
     pub case: Case<'static>,
     pub new: &'static [(u8, usize)],
+    pub ends: (usize, BlockState),
 }
 
-/// Asserts of each change what it is planned as, what each cut of the plan reads, and that it keeps the image sequence number.
+/// Asserts of each change what `assert_change` does, and the state in the end.
 pub fn assert_changes(rt: &impl Abort, alloc: Global, changes: &[Change]) -> Result<(), Fail> {
     for change in changes {
-        let geometry = change.case.sizes.geometry()?;
-        let image = image_of(alloc, &geometry, change.case.pebs)?;
         let mut new = Vec::new(alloc);
         for (byte, count) in change.new {
             new.resize(new.len().saturating_add(*count), *byte)?;
         }
-        assert_plan(rt, alloc, &change.case, image, new.as_slice(), usize::MAX)?;
+        let image = assert_change(rt, alloc, &change.case, new.as_slice())?;
+        let end = attached(alloc, &change.case.sizes.geometry()?, image.as_slice())?;
+        let (pnum, state) = change.ends;
+        assert!(*rt; end.states().get(pnum) == Some(&state));
     }
     Ok(())
 }
 
-/// What all steps of a change of an image leave.
-pub fn changed(
-    alloc: Global,
-    geometry: &Geometry,
-    image: Vec<u8>,
-    lnum: u32,
-    new: &[u8],
-) -> Result<Vec<u8>, Fail> {
-    let mut image = image;
-    let Ok(steps) = planned(alloc, geometry, image.as_slice(), lnum, new) else {
-        return Err("no plan".into());
-    };
-    for step in steps.as_slice() {
-        if step_fits(geometry, image.as_slice(), step) {
-            apply(geometry, image.as_mut_slice(), step);
-        }
-    }
-    Ok(image)
-}
-
-/// Asserts what a change of an image to new bytes is planned as, what each cut of the plan reads, and that it keeps the image
-/// sequence number, for so many steps. Gives what these leave.
+/// The same of an image, for so many steps. Gives what these leave.
 pub fn assert_plan(
     rt: &impl Abort,
     alloc: Global,

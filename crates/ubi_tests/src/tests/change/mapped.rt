@@ -4,8 +4,7 @@ use super::images::{
     A, ALIGNED_FIRST, ALIGNED_SECOND, B, BAD, C, CHECK_OF_62, CHECK_OF_128, CHECK_OF_256,
     CHECK_OF_2048, CHECK_OF_FF, CHECK_OF_HALF, COPY, COPY_OF_1, Case, Change, Data, ERASED, Ec,
     FIRST, FREE, GOOD, INSIDE, LARGE, LARGE_SHARED, NEW, NEW_FIRST, NEW_SECOND, ODD, ONE, ORIGINAL,
-    Peb, SECOND, SHARED, SMALL, Want, ZERO, assert_changes, assert_plan, attached, changed,
-    image_of,
+    Peb, SECOND, SHARED, SMALL, Want, ZERO, assert_changes, assert_plan, image_of,
 };
 use crate::tests::headers::{LEB_1, PLAIN};
 use std::test::Fail;
@@ -61,13 +60,13 @@ const LONG_PAGE: VidHeader = VidHeader {
     ..COPY
 };
 
-/// Logical eraseblock 0, and a free eraseblock, in no image.
+/// Logical eraseblock 0, in no image.
 const LONG: Peb = Peb(Ec::Is(NEW), Some(PLAIN), Data::Filled(0x41, 300));
 
 /// A clean eraseblock whose erase-counter header has padding that isn't zero.
 const PADDED_FREE: Peb = Peb(Ec::Padded(NEW), None, Data::Filled(0xFF, 0));
 
-/// Logical eraseblock 0 of an aligned volume, and the header of its copy.
+/// Logical eraseblock 0 of an aligned volume.
 const ALIGNED_A: Peb = Peb(
     Ec::Is(ZERO),
     Some(VidHeader {
@@ -82,6 +81,15 @@ const SECOND_COPY: VidHeader = VidHeader {
     data_crc: CHECK_OF_62,
     sqnum: 2,
     ..COPY_OF_1
+};
+
+/// A free eraseblock in no image.
+const NEW_FREE: Peb = Peb(Ec::Is(NEW), None, Data::Filled(0xFF, 0));
+
+/// The header of the copy of a logical eraseblock of an aligned volume.
+const ALIGNED_COPY: VidHeader = VidHeader {
+    data_pad: 128,
+    ..COPY
 };
 
 /// Changes of logical eraseblocks that have a winner.
@@ -103,6 +111,7 @@ static CHANGES: [Change; 13] = [
             turn: 3,
         },
         new: &[(0x61, 128)],
+        ends: (3, BlockState::Free),
     },
     // A second page that is blank: the turn comes with the page before.
     Change {
@@ -121,6 +130,7 @@ static CHANGES: [Change; 13] = [
             turn: 2,
         },
         new: &[(0x61, 64), (0xFF, 64)],
+        ends: (3, BlockState::Free),
     },
     // A blank text: the turn comes with the header.
     Change {
@@ -138,6 +148,7 @@ static CHANGES: [Change; 13] = [
             turn: 1,
         },
         new: &[(0xFF, 64)],
+        ends: (3, BlockState::Free),
     },
     // A winner whose counter can't grow: it stays.
     Change {
@@ -154,6 +165,7 @@ static CHANGES: [Change; 13] = [
             turn: 3,
         },
         new: &[(0x61, 128)],
+        ends: (3, BlockState::Stale),
     },
     // A blank eraseblock that is made ready.
     Change {
@@ -173,6 +185,7 @@ static CHANGES: [Change; 13] = [
             turn: 4,
         },
         new: &[(0x61, 64)],
+        ends: (3, BlockState::Free),
     },
     // A stale member that is taken.
     Change {
@@ -192,6 +205,7 @@ static CHANGES: [Change; 13] = [
             turn: 4,
         },
         new: &[(0x61, 64)],
+        ends: (3, BlockState::Free),
     },
     // Both headers in one page.
     Change {
@@ -209,6 +223,7 @@ static CHANGES: [Change; 13] = [
             turn: 2,
         },
         new: &[(0x61, 256)],
+        ends: (2, BlockState::Free),
     },
     // The padding of a header that is kept.
     Change {
@@ -226,6 +241,7 @@ static CHANGES: [Change; 13] = [
             turn: 2,
         },
         new: &[(0x61, 256)],
+        ends: (2, BlockState::Free),
     },
     // A header inside the second page.
     Change {
@@ -243,6 +259,7 @@ static CHANGES: [Change; 13] = [
             turn: 2,
         },
         new: &[(0x61, 256)],
+        ends: (2, BlockState::Free),
     },
     // An eraseblock of nine pages.
     Change {
@@ -260,6 +277,7 @@ static CHANGES: [Change; 13] = [
             turn: 2,
         },
         new: &[(0x61, 64)],
+        ends: (3, BlockState::Free),
     },
     // The padding of a volume.
     Change {
@@ -277,6 +295,7 @@ static CHANGES: [Change; 13] = [
             turn: 2,
         },
         new: &[(0x61, 64)],
+        ends: (2, BlockState::Free),
     },
     // A page of 2,048 bytes.
     Change {
@@ -294,6 +313,7 @@ static CHANGES: [Change; 13] = [
             turn: 2,
         },
         new: &[(0x61, 2048)],
+        ends: (3, BlockState::Free),
     },
     // The same where both headers are in the first page.
     Change {
@@ -311,32 +331,15 @@ static CHANGES: [Change; 13] = [
             turn: 2,
         },
         new: &[(0x61, 2048)],
+        ends: (3, BlockState::Free),
     },
 ];
 
-/// Each change is planned as it is written down, its cuts read the old or the new, and no step changes the image
-/// sequence number.
+/// Each change is planned as it is written down, its cuts read the old or the new, no step changes the image
+/// sequence number, and what is given up is free in the end.
 #[test]
 fn changes_what_has_a_winner(rt: HostRuntime) -> Result<(), Fail> {
     assert_changes(&rt, rt.alloc(), &CHANGES)
-}
-
-/// A winner whose counter can't grow is stale once its logical eraseblock was changed.
-#[test]
-fn leaves_a_worn_winner(rt: HostRuntime) -> Result<(), Fail> {
-    let alloc = rt.alloc();
-    let pebs = [FIRST, SECOND, A, WORN, C, FREE];
-    let geometry = SMALL.geometry()?;
-    let image = changed(
-        alloc,
-        &geometry,
-        image_of(alloc, &geometry, &pebs)?,
-        1,
-        &[0x61; 128],
-    )?;
-    let left = attached(alloc, &geometry, image.as_slice())?;
-    assert!(rt; left.states().get(3) == Some(&BlockState::Stale));
-    Ok(())
 }
 
 #[test]

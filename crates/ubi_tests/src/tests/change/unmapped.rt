@@ -7,6 +7,7 @@ use super::images::{
 use crate::tests::headers::PLAIN;
 use std::test::Fail;
 use ubi_media::{EcHeader, VidHeader};
+use ubi_volume::BlockState;
 
 /// The header under which logical eraseblock 7 reads 0xFF.
 const BLANK_7: VidHeader = VidHeader {
@@ -66,6 +67,7 @@ static CHANGES: [Change; 2] = [
             turn: 3,
         },
         new: &[(0x61, 64)],
+        ends: (5, BlockState::Free),
     },
     // A blank one whose counter can't grow any more: it stays.
     Change {
@@ -86,6 +88,7 @@ static CHANGES: [Change; 2] = [
             turn: 7,
         },
         new: &[(0x61, 64)],
+        ends: (5, BlockState::Stale),
     },
 ];
 
