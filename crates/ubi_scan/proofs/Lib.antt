@@ -11,6 +11,7 @@ pub mod Counted
 pub mod Counters
 pub mod Decided
 pub mod DetectVectors
+pub mod Detectable
 pub mod Detections
 pub mod Either
 pub mod Entries

@@ -63,3 +63,8 @@ DetectedOrNot = (starts : List EcStart) (n : ℕ) (found : List Sizes) (c : Unde
 -- a file is refused for one cause at most
 abbrev pub OneUndetected : Type 0
 OneUndetected = (starts : List EcStart) (n : ℕ) (c d : Undetected) → IsUndetected starts n c → IsUndetected starts n d → c ≡ d
+
+-- each file has geometries, or is refused for a cause
+abbrev pub DetectedOrRefused : Type 0
+DetectedOrRefused = (bytes : List ℕ) → ((found : List Sizes) × AreGeometries (starts_of bytes) (length bytes) found)
+    ⊎ ((c : Undetected) × IsUndetected (starts_of bytes) (length bytes) c)
