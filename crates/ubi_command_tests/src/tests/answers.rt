@@ -10,8 +10,8 @@ use std::process::Abort;
 use std::test::Fail;
 use ubi_commands::{Disk, Host, Outcome, run_normalise, run_words};
 use ubi_media::{Geometry, GeometryError};
+use ubi_probe::{Failure, ProbeWriter};
 use ubi_scan::MemorySource;
-use ubi_volume::{Failure, ProbeWriter};
 
 /// The geometry of small eraseblocks.
 pub fn small() -> Result<Geometry, GeometryError> {

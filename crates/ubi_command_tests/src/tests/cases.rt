@@ -12,8 +12,9 @@ use std::process::Abort;
 use std::test::Fail;
 use ubi_compose::normalise_to;
 use ubi_media::Refusal;
-use ubi_scan::{BlockSource, FileSource, ProbeSource, StreamError};
-use ubi_volume::{Failure, ProbeWriter, attach_places};
+use ubi_probe::{Failure, ProbeSource, ProbeWriter};
+use ubi_scan::{BlockSource, FileSource, StreamError};
+use ubi_volume::attach_places;
 
 /// What is answered of an image: its line, and the eraseblocks of its normal image, or the cause for which it is
 /// refused.

@@ -15,8 +15,9 @@ use ubi_commands::{
     run_rename, run_rename_from, run_same, run_same_from,
 };
 use ubi_compose::normalise_to;
+use ubi_probe::{Failure, ProbeWriter};
 use ubi_scan::{BlockSource, MemorySource, SourceFault, StreamError};
-use ubi_volume::{Failure, Places, ProbeWriter, attach_places};
+use ubi_volume::{Places, attach_places};
 
 /// A source that answers the bytes of one image for so many reads, and then those of another.
 #[derive(Drop)]

@@ -6,7 +6,7 @@ use std::alloc::Global;
 use std::io::ErrorKind;
 use std::test::Fail;
 use ubi_commands::{ToolError, VolumeKey, run_extract};
-use ubi_volume::{Failure, ProbeWriter};
+use ubi_probe::{Failure, ProbeWriter};
 
 /// An image, the words that name a volume, what is answered, and what is written.
 static EXTRACTED: [(Contents, &str, (&str, u8), Contents); 16] = [

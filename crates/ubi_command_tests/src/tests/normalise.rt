@@ -16,8 +16,8 @@ use std::alloc::Global;
 use std::test::Fail;
 use ubi_compose::normalise_to;
 use ubi_media::Refusal;
-use ubi_scan::{ProbeSource, StreamError};
-use ubi_volume::{Failure, ProbeWriter};
+use ubi_probe::{Failure, ProbeSource, ProbeWriter};
+use ubi_scan::StreamError;
 
 /// An image of the volume `root`, with logical eraseblocks 0, 1 and 2.
 const ROOT: Case = Case {

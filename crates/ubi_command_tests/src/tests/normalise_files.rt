@@ -12,8 +12,8 @@ use std::test::Fail;
 use std::{fs, io};
 use ubi_commands::{ToolError, run_normalise};
 use ubi_compose::normalise_to;
-use ubi_scan::{BlockSource, FileSource, MemorySource, ProbeSource, StreamError};
-use ubi_volume::{Failure, ProbeWriter};
+use ubi_probe::{Failure, ProbeSource, ProbeWriter};
+use ubi_scan::{BlockSource, FileSource, MemorySource, StreamError};
 
 /// The reads of the image of `root`, counted from 1, each with its eraseblock and the number of bytes that are written
 /// before it.

@@ -6,7 +6,7 @@ use std::alloc::Global;
 use std::process::Abort;
 use std::test::Fail;
 use ubi_commands::{SidesError, run_same_from};
-use ubi_scan::ProbeSource;
+use ubi_probe::ProbeSource;
 
 /// Images that mean the same. The last five are what composing makes of texts, and damaged ones.
 static THE_SAME: [(Contents, Contents); 8] = [

@@ -1,8 +1,7 @@
 //! What sources and writers for tests are asked, in several layers.
 
 use std::io::ErrorKind;
-use ubi_scan::ProbeSource;
-use ubi_volume::Failure;
+use ubi_probe::{Failure, ProbeSource};
 
 /// An eraseblock, how many reads begin in it, and how many of them in its data.
 pub type Reads = (u32, u64, u64);

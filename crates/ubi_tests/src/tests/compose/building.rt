@@ -5,8 +5,9 @@ use std::alloc::Global;
 use std::test::Fail;
 use ubi_compose::{BuildError, Part, Recipe, RecipeError, build_to, compose, parse_spec};
 use ubi_media::{Geometry, VolKind, VolName, VolumeRecord};
-use ubi_scan::{MemorySource, ProbeSource};
-use ubi_volume::{Failure, Meaning, MeaningCause, ProbeWriter};
+use ubi_probe::{Failure, ProbeSource, ProbeWriter};
+use ubi_scan::MemorySource;
+use ubi_volume::{Meaning, MeaningCause};
 
 /// A volume: its number, its kind, how many eraseblocks are reserved, its alignment and its name; and its bytes, by the
 /// place at which they begin and by how many they are.

@@ -4,7 +4,8 @@ use super::images::{Image, small};
 use std::test::Fail;
 use ubi_compose::{SameError, SameFault, same, same_from};
 use ubi_media::Refusal;
-use ubi_scan::{MemorySource, ProbeSource, StreamError};
+use ubi_probe::ProbeSource;
+use ubi_scan::{MemorySource, StreamError};
 
 /// Two images, and whether they mean the same, or the side that is refused.
 static COMPARED: [(Image, Image, Result<bool, SameError>); 22] = [

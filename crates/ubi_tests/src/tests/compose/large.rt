@@ -5,8 +5,9 @@ use std::alloc::Global;
 use std::test::Fail;
 use ubi_compose::{Part, Recipe, build_to, compose, normalise_to, parse_spec, same};
 use ubi_media::{Geometry, VolKind, VolName, VolumeRecord};
+use ubi_probe::{Failure, ProbeWriter};
 use ubi_scan::MemorySource;
-use ubi_volume::{Failure, Meaning, ProbeWriter};
+use ubi_volume::Meaning;
 
 /// Where the headers of an eraseblock and its data stand, and the normal image of the volume `root` whose logical
 /// eraseblock 1 holds two bytes, with a spare eraseblock behind it: bytes that each stand so many times.

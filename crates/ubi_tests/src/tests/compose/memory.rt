@@ -4,8 +4,9 @@ use super::images::small;
 use std::test::Fail;
 use ubi_compose::{BuildError, Part, Recipe, RecipeError, SpecError, build_to, parse_spec};
 use ubi_media::{VolKind, VolName, VolumeRecord};
+use ubi_probe::{Failure, ProbeWriter};
 use ubi_scan::MemorySource;
-use ubi_volume::{Content, Failure, ProbeWriter};
+use ubi_volume::Content;
 
 /// A text with each kind of line.
 const TEXT: &[u8] =

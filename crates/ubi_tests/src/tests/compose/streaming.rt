@@ -5,8 +5,8 @@ use crate::tests::probes::WAYS;
 use std::alloc::Global;
 use std::test::Fail;
 use ubi_compose::normalise_to;
-use ubi_scan::{MemorySource, ProbeSource, StreamError};
-use ubi_volume::{Failure, ProbeWriter};
+use ubi_probe::{Failure, ProbeSource, ProbeWriter};
+use ubi_scan::{MemorySource, StreamError};
 
 /// Whether a writer that fails once it has so many bytes of a normal image received these, and their number is told.
 fn is_cut(

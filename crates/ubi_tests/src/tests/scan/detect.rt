@@ -4,7 +4,8 @@ use super::dumps::{Dump, What, bytes_of, header, put};
 use std::alloc::Global;
 use std::test::Fail;
 use ubi_media::{EcOffsets, Geometry};
-use ubi_scan::{DetectError, MemorySource, OutOfBand, ProbeSource, Undetected, detect_from};
+use ubi_probe::ProbeSource;
+use ubi_scan::{DetectError, MemorySource, OutOfBand, Undetected, detect_from};
 
 /// What is detected: the bytes of an eraseblock, the offsets of the volume-identifier header and of the data, and the pages.
 type Sizes = (u32, u32, u32, &'static [u32]);

@@ -9,9 +9,8 @@ use std::alloc::Global;
 use std::fs;
 use std::test::Fail;
 use ubi_media::Refusal;
-use ubi_scan::{
-    BlockSource, FileSource, MemorySource, ProbeSource, Scan, SourceFault, StreamError, scan_from,
-};
+use ubi_probe::ProbeSource;
+use ubi_scan::{BlockSource, FileSource, MemorySource, Scan, SourceFault, StreamError, scan_from};
 
 /// The winner of logical eraseblock 0 of volume 0.
 fn winner(answer: Result<Scan, StreamError>) -> Option<u32> {

@@ -7,7 +7,8 @@ use std::alloc::Global;
 use std::fs;
 use std::test::Fail;
 use ubi_media::{Geometry, Refusal};
-use ubi_scan::{BlockSource, FileSource, ProbeSource, StreamError, scan_from};
+use ubi_probe::ProbeSource;
+use ubi_scan::{BlockSource, FileSource, StreamError, scan_from};
 use ubi_table::{Table, choose_from};
 
 /// The table of a source, which is scanned first.

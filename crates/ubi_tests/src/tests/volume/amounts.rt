@@ -6,7 +6,8 @@ use super::pebs::{
 };
 use std::alloc::Global;
 use std::test::Fail;
-use ubi_scan::{BlockSource, ProbeSource, StreamError};
+use ubi_probe::ProbeSource;
+use ubi_scan::{BlockSource, StreamError};
 use ubi_volume::{Amount, amount_of, attach_places};
 
 /// How much volume 0 of a source reads, or why that isn't told.

@@ -8,8 +8,9 @@ use super::pebs::{
 use std::alloc::Global;
 use std::io::Write;
 use std::test::Fail;
-use ubi_scan::{BlockSource, ProbeSource, StreamError};
-use ubi_volume::{Failure, ProbeWriter, ReadError, attach_places, write_places};
+use ubi_probe::{Failure, ProbeSource, ProbeWriter};
+use ubi_scan::{BlockSource, StreamError};
+use ubi_volume::{ReadError, attach_places, write_places};
 
 /// What is answered: how many bytes were written, why the volume isn't read, or why not all was written.
 #[derive(Clone, Copy, PartialEq, Eq)]

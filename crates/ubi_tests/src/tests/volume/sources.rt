@@ -12,7 +12,8 @@ use std::fs::Files;
 use std::os::unix::fs::FileExt;
 use std::test::Fail;
 use ubi_media::Refusal;
-use ubi_scan::{FileSource, MemorySource, ProbeSource, StreamError, scan_from};
+use ubi_probe::ProbeSource;
+use ubi_scan::{FileSource, MemorySource, StreamError, scan_from};
 use ubi_table::choose_from;
 use ubi_volume::{PlaceContent, Places, attach_places};
 

@@ -8,7 +8,8 @@ use super::pebs::{
 use std::alloc::Global;
 use std::test::Fail;
 use ubi_media::{AttachError, Refusal};
-use ubi_scan::{ProbeSource, StreamError};
+use ubi_probe::ProbeSource;
+use ubi_scan::StreamError;
 use ubi_volume::BlockState::{Blank, Orphan, Table, Used};
 use ubi_volume::{Surveyed, survey, survey_from};
 

@@ -8,7 +8,8 @@ use crate::tests::probes::WAYS;
 use std::alloc::Global;
 use std::process::Abort;
 use std::test::Fail;
-use ubi_volume::{Failure, Meaning, ProbeWriter, ReadError, write_all, write_volume};
+use ubi_probe::{Failure, ProbeWriter};
+use ubi_volume::{Meaning, ReadError, write_all, write_volume};
 
 /// Some eraseblocks, what their volume 0 reads, as bytes that each stand so many times, and for how many bytes writers
 /// have room.

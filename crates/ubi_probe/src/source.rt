@@ -1,12 +1,12 @@
 //! Sources for tests.
 
 ghost use Rattle.std.specs.Prelude.{◌≡◌, ◌+◌, ◌/◌, ◌<◌, IfOk, length, replicate, slice_index};
-ghost use Rattle.ubi_scan.specs.ProbeSource.{bumped, next};
+ghost use Rattle.ubi_probe.specs.ProbedSource.{bumped, next};
 
-use crate::source::{BlockSource, SourceFault};
 use std::alloc::{AllocError, Global};
 use std::marker::Model;
 use ubi_media::Geometry;
+use ubi_scan::{BlockSource, SourceFault};
 
 /// A source over bytes in memory, for tests. It counts its reads and fails at one of them. A count of 2^64 - 1 stays as
 /// it is.
@@ -27,7 +27,7 @@ pub struct ProbeSource<'a> {
 
 impl<'a> Model for ProbeSource<'a> {
     ghost use Rattle.std.specs.Prelude.{◌<◌};
-    ghost use Rattle.ubi_scan.specs.ProbeSource.{Probed, probed_code};
+    ghost use Rattle.ubi_probe.specs.ProbedSource.{Probed, probed_code};
 
     ghost Value = { Probed };
 
@@ -101,7 +101,7 @@ impl<'a> ProbeSource<'a> {
 impl BlockSource for ProbeSource<'_> {
     ghost use Rattle.std.specs.Prelude.{◌≤◌, slice_range, OnOk, refl};
     ghost use Rattle.ubi_scan.specs.Source.{Narrows, WhereHeld, after_read, holds};
-    ghost use Rattle.ubi_scan.specs.ProbeSource.{IsCounted, IsSameProbe, probe_sized, probe_source};
+    ghost use Rattle.ubi_probe.specs.ProbedSource.{IsCounted, IsSameProbe, probe_sized, probe_source};
 
     ghost known = { λ s. probe_source s };
 

@@ -1,9 +1,9 @@
 -- A writer for tests: what it has taken, and what it takes.
 use Rattle.std.specs.Prelude.{◌≡◌, ℕ, ◌-◌, List, Option, Some, None, Bool, true, false, if◌then◌else◌, not, ◌&&◌, ◌==◌, min, length, refl}
 use Rattle.std.specs.Coded.{Coded, code_by, coded×, coded_ℕ, coded_list}
-use Rattle.ubi_volume.specs.declared.probe.Failure.{Failure}
-use Rattle.ubi_volume.specs.declared.probe.Failure.TheVariants as failure
-use Rattle.ubi_volume.specs.contracts.probe.Failure as failure_type
+use Rattle.ubi_probe.specs.declared.writer.Failure.{Failure}
+use Rattle.ubi_probe.specs.declared.writer.Failure.TheVariants as failure
+use Rattle.ubi_probe.specs.contracts.writer.Failure as failure_type
 
 -- the bytes that it has taken, how many it takes in all and at once, and how it fails then
 pub record Probe : Type 0 where

@@ -29,7 +29,7 @@ pub struct ProbeWriter {
 
 impl Model for ProbeWriter {
     ghost use Rattle.std.specs.Prelude.{◌≤◌, length, take};
-    ghost use Rattle.ubi_volume.specs.Probe.{Probe, probe_code};
+    ghost use Rattle.ubi_probe.specs.ProbedWriter.{Probe, probe_code};
 
     ghost Value = { Probe };
 
@@ -74,7 +74,7 @@ impl Write for ProbeWriter {
     ghost use Rattle.std.specs.Prelude.{Some, None, MatchResult, IsOk, length};
     ghost use Rattle.std.specs.Io.KnownBytes.{Keeps, WriteAppends};
     ghost use Rattle.std.specs.Io.{WritesAtMost};
-    ghost use Rattle.ubi_volume.specs.Probe.{IsSameProbe, answer};
+    ghost use Rattle.ubi_probe.specs.ProbedWriter.{IsSameProbe, answer};
 
     ghost contents = { λ writer. Some writer.taken };
 

@@ -1,0 +1,2 @@
+pub mod ProbedSource
+pub mod ProbedWriter
