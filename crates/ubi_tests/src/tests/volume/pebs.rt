@@ -20,9 +20,6 @@ pub const CHECK_OF_61: u32 = 0x74A2_CBC2;
 /// The check of 384 bytes 0x62.
 pub const CHECK_OF_62: u32 = 0x3627_FAFB;
 
-/// The check of one byte 0x62.
-pub const CHECK_OF_ONE_62: u32 = 0x8E41_1006;
-
 /// The check of 384 bytes 0xFF.
 pub const CHECK_OF_FF: u32 = 0x6CE6_CFE8;
 
