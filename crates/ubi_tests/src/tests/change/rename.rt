@@ -12,7 +12,7 @@ use std::process::Abort;
 use std::test::Fail;
 use ubi_change::{RenameRefusal, Step, apply, plan_rename, step_fits};
 use ubi_media::{EcHeader, Geometry, Refusal, VidHeader, VolumeRecord};
-use ubi_volume::Attached;
+use ubi_volume::{Attached, Volume};
 
 /// What a rename is answered. It has no contract, so that a proof of a caller is spared that of `plan_rename`.
 pub fn planned(
@@ -328,6 +328,18 @@ static CASES: [Case; 14] = [
     },
 ];
 
+/// Asserts that a volume is as it was but for its name.
+fn assert_named(rt: &impl Abort, volume: &Volume, was: &Volume, name: &[u8]) -> Result<(), Fail> {
+    assert_eq!(*rt; volume.entry.name.as_bytes(), name);
+    let entry = VolumeRecord {
+        name: was.entry.name,
+        ..volume.entry
+    };
+    assert!(*rt; entry == was.entry);
+    assert!(*rt; volume.content == was.content);
+    Ok(())
+}
+
 /// Asserts that a volume has a name, and that it and the image are else as before.
 fn assert_means(
     rt: &impl Abort,
@@ -341,19 +353,9 @@ fn assert_means(
     for slot in 0..2 {
         match (here.get(slot), old.get(slot)) {
             (None, None) => assert!(*rt; slot != id),
+            (Some(volume), Some(was)) if slot == id => assert_named(rt, volume, was, name)?,
             (Some(volume), Some(was)) => {
-                let named = if slot == id {
-                    name
-                } else {
-                    was.entry.name.as_bytes()
-                };
-                assert_eq!(*rt; volume.entry.name.as_bytes(), named);
-                let entry = VolumeRecord {
-                    name: was.entry.name,
-                    ..volume.entry
-                };
-                assert!(*rt; entry == was.entry);
-                assert!(*rt; volume.content == was.content);
+                assert_named(rt, volume, was, was.entry.name.as_bytes())?;
             }
             _ => return Err("a volume more or less".into()),
         }

@@ -1,6 +1,7 @@
 //! Reading a text, and building an image, where memory is refused.
 
 use super::images::small;
+use std::alloc::Global;
 use std::test::Fail;
 use ubi_compose::{BuildError, Part, Recipe, RecipeError, SpecError, build_to, parse_spec};
 use ubi_media::{VolKind, VolName, VolumeRecord};
@@ -33,9 +34,8 @@ fn reads_all_or_runs_out_of_memory(rt: HostRuntime) -> Result<(), Fail> {
     Ok(())
 }
 
-/// Each growth is refused in turn here too. Where memory runs out while building, nothing was written.
-#[test]
-fn builds_all_or_runs_out_of_memory(rt: HostRuntime) -> Result<(), Fail> {
+/// Three bytes of a static volume, for the recipe of an image.
+fn boot() -> Result<Part, Fail> {
     let entry = VolumeRecord {
         reserved: 3,
         alignment: 1,
@@ -44,34 +44,38 @@ fn builds_all_or_runs_out_of_memory(rt: HostRuntime) -> Result<(), Fail> {
         name: VolName::new(b"boot").ok_or("no name")?,
         flags: 0,
     };
-    let part = Part {
+    Ok(Part {
         id: 0,
         entry,
         start: 0,
         len: 3,
-    };
+    })
+}
+
+/// What a build of that volume answers.
+fn build_boot(
+    alloc: Global,
+    parts: Vec<Part>,
+    writer: &mut ProbeWriter,
+) -> Result<Result<u64, BuildError>, Fail> {
+    match Recipe::new(alloc, &small()?, 7, parts) {
+        Ok(recipe) => Ok(build_to(alloc, &recipe, 0, &mut MemorySource::new(b"abc"), writer)),
+        Err(RecipeError::Memory) => Ok(Err(BuildError::Memory)),
+        Err(RecipeError::Refused(_)) => Err("refused".into()),
+    }
+}
+
+/// Each growth is refused in turn here too. Where memory runs out while building, nothing was written.
+#[test]
+fn builds_all_or_runs_out_of_memory(rt: HostRuntime) -> Result<(), Fail> {
     let mut parts = Vec::new(rt.alloc());
-    let mut writer = match (
-        parts.push(part),
-        ProbeWriter::new(rt.alloc(), 1536, 512, Failure::Nothing),
-    ) {
-        (Ok(()), Ok(writer)) => writer,
-        _ => {
-            println!(rt; "out of memory")?;
-            return Ok(());
-        }
+    let pushed = parts.push(boot()?);
+    let writer = ProbeWriter::new(rt.alloc(), 1536, 512, Failure::Nothing);
+    let (Ok(()), Ok(mut writer)) = (pushed, writer) else {
+        println!(rt; "out of memory")?;
+        return Ok(());
     };
-    let answer = match Recipe::new(rt.alloc(), &small()?, 7, parts) {
-        Ok(recipe) => build_to(
-            rt.alloc(),
-            &recipe,
-            0,
-            &mut MemorySource::new(b"abc"),
-            &mut writer,
-        ),
-        Err(RecipeError::Memory) => Err(BuildError::Memory),
-        Err(RecipeError::Refused(_)) => return Err("refused".into()),
-    };
+    let answer = build_boot(rt.alloc(), parts, &mut writer)?;
     if answer == Err(BuildError::Memory) {
         assert!(rt; writer.taken().is_empty());
         println!(rt; "out of memory")?;
