@@ -8,6 +8,7 @@ use Rattle.std.specs.Option.{option_map_or}
 use Rattle.std.specs.Ordering.{nat_cmp}
 use Rattle.std.proofs.lemmas.Bool.Decides.{nat_tests}
 use Rattle.ubi_media.specs.Geometry.{Sizes, IsGeometry, leb_size}
+use Rattle.ubi_media.specs.Kind.{is_static}
 use Rattle.ubi_media.specs.Record.{data_pad, usable}
 use Rattle.ubi_media.specs.Vid.{vid_bytes}
 use Rattle.ubi_media.specs.declared.ec.EcHeader.{EcHeader}
@@ -30,7 +31,7 @@ use Rattle.ubi_volume.proofs.Recorded.{records_meant}
 use Rattle.ubi_volume.proofs.Winners.{found_wins, none_found}
 use Rattle.ubi_change.specs.Cuts.{SurvivesCuts, programs_copy, turn}
 use Rattle.ubi_change.specs.Plan.{blank_header, copy_header, next_ec, mapped_plan, needs, plan_of, prepare, program_header, program_text, ready_bytes, ready_ec, release, taken, unmapped_plan}
-use Rattle.ubi_change.specs.Refused.{causes, first_cause, first_of, is_bad_length, is_static}
+use Rattle.ubi_change.specs.Refused.{causes, first_cause, first_of, is_bad_length}
 use Rattle.ubi_change.specs.Takeable.{ec_at, is_worn, takeable}
 use Rattle.ubi_change.specs.Weak.{weak_place, whole_place}
 use Rattle.ubi_change.specs.declared.refusal.ChangeRefusal.{ChangeRefusal}

@@ -2,7 +2,7 @@
 use Rattle.std.specs.Prelude.{ℕ, ◌||◌, Bool, true, false, not, List, fold, Some, None, Result, Ok, is_some}
 use Rattle.std.specs.Bool.{then_some}
 use Rattle.std.specs.Option.{ok_or}
-use Rattle.ubi_media.specs.declared.vid.VolKind.{VolKind}
+use Rattle.ubi_media.specs.Kind.{is_static}
 use Rattle.ubi_media.specs.declared.vid.VolKind.TheVariants as kind
 use Rattle.ubi_config.specs.Lines.{◌>>=◌}
 use Rattle.ubi_config.specs.declared.errors.ConfigCause.{ConfigCause}
@@ -41,11 +41,6 @@ with_line d (line.Alignment alignment) = record d { alignment = alignment }
 -- what the lines of a section say together
 unfoldable pub draft_of : List Line → Draft
 draft_of ls = fold with_line no_draft ls
-
--- whether a volume is static
-abbrev pub is_static : VolKind → Bool
-is_static kind.Dynamic = false
-is_static kind.Static = true
 
 -- a section has to name an image where it's static, or without a size
 abbrev pub needs_image : Draft → Bool

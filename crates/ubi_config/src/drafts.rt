@@ -4,7 +4,8 @@ ghost use Rattle.std.specs.List.{before_first};
 ghost use Rattle.std.specs.Prelude.{◌≡◌, IfOk, MatchResult, Ok, OnOk, position};
 ghost use Rattle.ubi_config.specs.Above.{is_heading};
 ghost use Rattle.ubi_config.specs.inner.Reading.{IsRefused};
-ghost use Rattle.ubi_config.specs.Sections.{draft_of, finished, is_static, needs_image, no_draft, with_line};
+ghost use Rattle.ubi_config.specs.Sections.{draft_of, finished, needs_image, no_draft, with_line};
+ghost use Rattle.ubi_media.specs.Kind.{is_static};
 
 use crate::errors::{ConfigCause, LineError};
 use crate::key::Key;

@@ -8,6 +8,7 @@ pub mod First
 pub mod Geometry
 pub mod Limits
 pub mod Header
+pub mod Kind
 pub mod Name
 pub mod Record
 pub mod Vid

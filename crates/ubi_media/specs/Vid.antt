@@ -46,8 +46,8 @@ vid_fields bytes = record {
 }
 
 -- whether the fields say that the volume is static
-abbrev pub is_static : VidFields → Bool
-is_static f = f.kind == 2
+abbrev pub says_static : VidFields → Bool
+says_static f = f.kind == 2
 
 -- the bytes of a logical eraseblock that its volume may use
 abbrev pub usable : Sizes → VidFields → ℕ
@@ -69,12 +69,12 @@ breaks s f fault.Kind = not (f.kind == 1) && not (f.kind == 2)
 breaks s f fault.Pad = nat_le (leb_size s / 2) f.data_pad
 breaks s f fault.Size =
     nat_lt (leb_size s) f.data_size
-    || (is_static f
+    || (says_static f
     && ((f.data_size == 0) || nat_lt (usable s f) f.data_size || (nat_lt (f.lnum + 1) f.used_ebs && not (f.data_size == usable s f))))
-breaks s f fault.UsedEbs = if is_static f then f.used_ebs == 0 else not (f.used_ebs == 0)
-breaks s f fault.Lnum = is_static f && nat_le f.used_ebs f.lnum
+breaks s f fault.UsedEbs = if says_static f then f.used_ebs == 0 else not (f.used_ebs == 0)
+breaks s f fault.Lnum = says_static f && nat_le f.used_ebs f.lnum
 breaks s f fault.CopyFields =
-    not (is_static f) && (if f.copy_flag == 0 then not (f.data_size == 0) || not (f.data_crc == 0) else f.data_size == 0)
+    not (says_static f) && (if f.copy_flag == 0 then not (f.data_size == 0) || not (f.data_crc == 0) else f.data_size == 0)
 
 -- the faults, in the order in which their rules are tried
 abbrev pub faults : List VidFault

@@ -26,6 +26,7 @@ pub mod Least
 pub mod Moved
 pub mod Narrowed
 pub mod Next
+pub mod Nominated
 pub mod OneFault
 pub mod OneScan
 pub mod OneSize
@@ -46,5 +47,6 @@ pub mod Spread
 pub mod Stands
 pub mod Told
 pub mod Truths
+pub mod Twins
 pub mod UnitStarts
 pub mod Within

@@ -13,6 +13,7 @@ ghost use Rattle.ubi_scan.specs.Stream.{IsScanError, IsReadFault, IsScanOf, IsSc
 use crate::blocks::Blocks;
 use crate::candidate::{Candidate, Meeting};
 use crate::errors::StreamError;
+use crate::faults::first_fault;
 use crate::found::Scan;
 use crate::header::member_of;
 use crate::pass::Pass;
@@ -20,7 +21,7 @@ use crate::reading::{read_headers, read_leb};
 use crate::size::block_count;
 use crate::source::{BlockSource, MemorySource};
 use std::alloc::Global;
-use ubi_media::{AttachError, EcRead, Geometry, VidHeader, VidRead, crc};
+use ubi_media::{AttachError, EcRead, Geometry, Refusal, VidHeader, VidRead, crc};
 
 /// Whether the data that a header speaks of are in the logical eraseblock. They are read into the buffer.
 fn is_right<S: BlockSource>(
@@ -147,13 +148,16 @@ fn scan_blocks<S: BlockSource>(
     let mut pass = Pass::new(alloc);
     for p in 0..count {
         let (ec, vid) = read_headers(source, geometry, p, buffer)?;
-        let held = pass.held(&ec, &vid);
-        match pass.fault(p, &ec, &vid, held) {
+        let held = pass.nominate(p, &ec, &vid)?;
+        match first_fault(p, pass.counts.image_seq, &ec, &vid, held) {
             None => {}
             Some(fault) => return Err(StreamError::Refused(fault)),
         }
         let met = meeting(source, geometry, held, p, &ec, &vid, buffer)?;
-        pass.add(p, &ec, &vid, met)?;
+        match pass.add(p, &ec, &vid, met)? {
+            None => {}
+            Some(earlier) => return Err(StreamError::Refused(Refusal::SameSqnum(p, earlier))),
+        }
     }
     Ok(Scan::of(pass))
 }

@@ -3,6 +3,7 @@ use Rattle.std.specs.Prelude.{◌≡◌, ℕ, ◌+◌, ◌<◌, ◌≤◌, ◌�
 use Rattle.std.specs.Bool.{then_some}
 use Rattle.std.specs.FinMap.{empty, get}
 use Rattle.ubi_media.specs.Geometry.{Sizes}
+use Rattle.ubi_media.specs.Kind.{is_static}
 use Rattle.ubi_media.specs.Record.{data_pad, rec_fault, usable}
 use Rattle.ubi_media.specs.declared.record.VolumeRecord.{VolumeRecord}
 use Rattle.ubi_scan.specs.Members.{layout}
@@ -14,7 +15,7 @@ use Rattle.ubi_table.specs.Records.{Records}
 use Rattle.ubi_volume.specs.Attached.{Whole}
 use Rattle.ubi_volume.specs.Survey.{Seen}
 use Rattle.ubi_change.specs.Plan.{blank_header, copy_header, needs}
-use Rattle.ubi_change.specs.Refused.{first_of, is_bad_length, is_static}
+use Rattle.ubi_change.specs.Refused.{first_of, is_bad_length}
 use Rattle.ubi_change.specs.Takeable.{takeable}
 use Rattle.ubi_change.specs.Weak.{weak_place}
 use Rattle.ubi_change.specs.inner.Sites.{FitsIn, HasCounter, IsSiteAt, copy_on, mount_on, ready_on}

@@ -2,7 +2,7 @@ use Rattle.std.proofs.Common.{◌≡◌, ◌<◌, inr, length, sym, ◌∙◌, a
 use Rattle.ubi_scan.specs.Source.{Source, blocks_in, blocks_of}
 use Rattle.ubi_scan.proofs.Counters.{mean_fits}
 use Rattle.ubi_scan.proofs.ReadParts.{count_blocks}
-use Rattle.ubi_scan.proofs.SoFar.{SoFar-all, SoFar-fault, SoFar-more}
+use Rattle.ubi_scan.proofs.SoFar.{SoFar-all, SoFar-fault, SoFar-more, SoFar-twin}
 use Rattle.ubi_scan.proofs.Within.{Within-all, Within-more}
 use Rattle.ubi_scan.proofs.scanning.scan_blocks.Goals as goal
 
@@ -20,9 +20,32 @@ returns-in-Some-clause-refused g c = inr (
       let inside : c.loop-p.p < length bs = rw count (rw (← c.requires.count) c.loop-p-test.true) in
       let ec = c.in_ok-ec.ensures.ec bytes holds in
       let vid = c.in_ok-ec.ensures.vid bytes holds in
-      SoFar-fault s bs c.loop-p.p inside c.loop-p.pass c.held-held.result c.in-Some.fault
-      (c.loop-p.invariant.so_far bytes before) (rw (← ec, ← vid) c.held-held.ensures)
-      (rw (← ec, ← vid) (sym c.fault.ensures ∙ c.in-Some.is)),
+      SoFar-fault s bs c.loop-p.p inside c.loop-p.pass c.nominate.new.self c.in_ok-held.held c.in-Some.fault
+      (c.loop-p.invariant.so_far bytes before) (rw (← ec, ← vid) c.in_ok-held.ensures.held)
+      (rw (← ec, ← vid) c.in_ok-held.ensures.nominated)
+      (rw (← ec, ← vid) (sym c.first_fault.ensures ∙ c.in-Some.is)),
+)
+
+pub returns-in-Some-2-clause-refused : goal.returns-in-Some-2-clause-refused
+returns-in-Some-2-clause-refused g c = inr (
+  c.requires.whole,
+  λ bytes holds.
+      let s = c.args.geometry.now in
+      let bs = blocks_of s bytes in
+      let known : Source = g.S.BlockSource.known c.args.source.now in
+      let read = c.in_ok-met.ensures.narrows bytes holds in
+      let before = c.in_ok-ec.ensures.narrows bytes read in
+      let first = c.loop-p.invariant.narrows bytes before in
+      let count : length bs ≡ blocks_in s known = count_blocks s known (g.S.BlockSource.agrees c.args.source.now) bytes
+      (g.met.S.BlockSource.sized c.args.source.now) first in
+      let inside : c.loop-p.p < length bs = rw count (rw (← c.requires.count) c.loop-p-test.true) in
+      let ec = c.in_ok-ec.ensures.ec bytes read in
+      let vid = c.in_ok-ec.ensures.vid bytes read in
+      SoFar-twin s bs c.loop-p.p inside c.loop-p.pass c.nominate.new.self c.in_ok-held.held c.in_ok-met.met
+      c.in-Some-2.earlier (c.loop-p.invariant.so_far bytes before) (rw (← ec, ← vid) c.in_ok-held.ensures.held)
+      (rw (← ec, ← vid) c.in_ok-held.ensures.nominated)
+      (rw (← ec, ← vid) (sym c.first_fault.ensures ∙ c.in-None.is))
+      (rw (← ec, ← vid) (sym c.in_ok-add.ensures.twin ∙ c.in-Some-2.is)),
 )
 
 pub loop-p-preserved : goal.loop-p-preserved
@@ -33,8 +56,9 @@ loop-p-preserved g c =
       source = c.in_ok-met.ensures.known ∙ c.in_ok-ec.ensures.known ∙ c.loop-p.invariant.source;
       narrows = λ bytes holds. c.loop-p.invariant.narrows bytes
           (c.in_ok-ec.ensures.narrows bytes (c.in_ok-met.ensures.narrows bytes holds));
-      within = Within-more c.loop-p.p c.loop-p.pass c.add.new.self _ _ c.in_ok-met.met c.loop-p.invariant.within
-          (c.in_ok-met.ensures.held ∙ c.held-held.ensures) c.in_ok-add.ensures;
+      within = Within-more c.loop-p.p c.loop-p.pass c.nominate.new.self c.add.new.self _ _ c.in_ok-met.met
+          c.loop-p.invariant.within (c.in_ok-met.ensures.held ∙ c.in_ok-held.ensures.held) c.in_ok-held.ensures.nominated
+          c.in_ok-add.ensures.taken;
       so_far = λ bytes holds.
           let bs = blocks_of s bytes in
           let read = c.in_ok-met.ensures.narrows bytes holds in
@@ -45,10 +69,13 @@ loop-p-preserved g c =
           let inside : c.loop-p.p < length bs = rw count (rw (← c.requires.count) c.loop-p-test.true) in
           let ec = c.in_ok-ec.ensures.ec bytes read in
           let vid = c.in_ok-ec.ensures.vid bytes read in
-          SoFar-more s bs c.loop-p.p inside c.loop-p.pass c.add.new.self c.held-held.result c.in_ok-met.met
-          (c.loop-p.invariant.so_far bytes before) (rw (← ec, ← vid) c.held-held.ensures)
-          (rw (← ec, ← vid) (sym c.fault.ensures ∙ c.in-None.is)) c.in_ok-met.ensures.held
-          (rw (← ec, ← vid) (c.in_ok-met.ensures.good bytes holds)) (rw (← ec, ← vid) c.in_ok-add.ensures);
+          SoFar-more s bs c.loop-p.p inside c.loop-p.pass c.nominate.new.self c.add.new.self c.in_ok-held.held
+          c.in_ok-met.met (c.loop-p.invariant.so_far bytes before) (rw (← ec, ← vid) c.in_ok-held.ensures.held)
+          (rw (← ec, ← vid) c.in_ok-held.ensures.nominated)
+          (rw (← ec, ← vid) (sym c.first_fault.ensures ∙ c.in-None.is)) c.in_ok-met.ensures.held
+          (rw (← ec, ← vid) (c.in_ok-met.ensures.good bytes holds)) 
+          (rw (← ec, ← vid) (sym c.in_ok-add.ensures.twin ∙ c.in-None-2.is))
+          (rw (← ec, ← vid) c.in_ok-add.ensures.taken);
     }
 
 pub returns-clause-found : goal.returns-clause-found
