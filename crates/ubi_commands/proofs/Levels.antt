@@ -13,7 +13,8 @@ use Rattle.clap.specs.Takes.{is_given}
 use Rattle.clap.specs.Walk.{Held, Names, Row, Rule, Text, answers_to, default_rows, finished, has_row, is_empty, nothing_held, reading_by, rows_after, settled, stop_after, walk, walk_from, with_default}
 use Rattle.clap.proofs.WalkLemmas.{both}
 use Rattle.ubi_commands.proofs.Uses.{EachRow, or_none, takes_one}
-use Rattle.ubi_commands.proofs.Walks.{NoHelp, settled_given, walk_given, walk_meets}
+use Rattle.ubi_commands.proofs.Unhelped.{NoHelp, walk_meets}
+use Rattle.ubi_commands.proofs.Walks.{settled_given, walk_given}
 
 check_none : (a b c : Bool) → check_kinds a b c ≡ [] → (a ≡ false) × (b ≡ false) × (c ≡ false)
 check_none true b c e = absurd (cc)

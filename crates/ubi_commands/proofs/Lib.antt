@@ -24,6 +24,7 @@ pub mod Requests
 pub mod ShownLines
 pub mod Taken
 pub mod ToolVectors
+pub mod Unhelped
 pub mod Unpacked
 pub mod Uses
 pub mod Walks

@@ -1,6 +1,6 @@
 -- What a walk over words that pass leaves of them.
-use Rattle.std.proofs.Common.{◌≡◌, ◌&&◌, ◌∷◌, [], Bool, List, None, Option, Some, cond, false, length, not, refl, suc, true, zero, ℕ}
-use Rattle.std.specs.Prelude.{IfSome, codes, fold, is_some, slice_get}
+use Rattle.std.proofs.Common.{◌≡◌, ◌&&◌, ◌∷◌, [], Bool, List, None, Option, Some, cond, false, length, suc, true, zero, ℕ}
+use Rattle.std.specs.Prelude.{IfSome, fold, is_some, slice_get}
 use Rattle.std.specs.List.{list_all}
 use Rattle.std.specs.Option.{option_map_or}
 use Rattle.std.specs.Str.{bytes_eq, chars}
@@ -10,7 +10,7 @@ use Rattle.clap.specs.Lexer.{long_of, short_of}
 use Rattle.clap.specs.Simple.{Shape}
 use Rattle.clap.specs.Walk.{Held, Names, Outcome, Row, Rule, Step, Text, Waiting, Walk, after_flag, after_step, arg_by_id, arg_by_index, arg_by_long, arg_by_short, attached_value, bundle, bundle_met, bundle_step, done, flag_met, idle, is_pending, long_met, long_or_other, option, option_met, option_word, plain, plain_word, positional, pushed, reacted, refused, settled, settled_rows, short_met, short_or_plain, subcommand_met, subcommand_or_other, takes_several, takes_values, to_positional, waits, walked, walked_from, word_met}
 use Rattle.clap.specs.Walk.{next, subcommand, trailing, value}
-use Rattle.clap.specs.declared.error.kind.ErrorKind.TheVariants.{DisplayHelp, InvalidSubcommand, TooManyValues}
+use Rattle.clap.specs.declared.error.kind.ErrorKind.TheVariants.{TooManyValues}
 use Rattle.ubi_commands.proofs.Uses.{EachRow, found_takes, or_none, takes_one, use_found, use_given}
 
 -- a word that is no flag changes no row
@@ -180,89 +180,3 @@ module _ (s : Shape) (once : s.args_override_self ≡ false) (ok : list_all take
   walk_given names w (word ∷ rest) e each =
       let two = or_none (turn_fault s names w word) (walk_fault s names (walked s.rules names w word) rest) e in
       walk_given names (walked s.rules names w word) rest two.1 (turn_used names w.stopped w word two.0 each)
-
--- ---- the command that is met
-
--- it isn't `help`
-abbrev pub NoHelp : Option (Text × List Text) → Type 0
-NoHelp o = IfSome o (λ p. bytes_eq p.0 (codes "help") ≡ false)
-
-abbrev MeetsNoHelp : Step → Type 0
-MeetsNoHelp (subcommand name) = bytes_eq name (codes "help") ≡ false
-MeetsNoHelp _ = Unit {0}
-
-plain_meets : (c : List Rule) (waiting : Waiting) (word : Text) (h : Held) → MeetsNoHelp (plain_word c waiting word h).1
-plain_meets c idle word h = tt
-plain_meets c (option id) word h = tt
-plain_meets c positional word h = tt
-
-flag_meets : (c : List Rule) (waiting : Waiting) (word : Text) (h : Held) (o : Outcome)
-    → MeetsNoHelp (after_flag c waiting word h o).1
-flag_meets c waiting word h done = tt
-flag_meets c waiting word h (waits id) = tt
-flag_meets c waiting word h plain = plain_meets c waiting word h
-flag_meets c waiting word h refused = plain_meets c waiting word h
-
-short_meets : (c : List Rule) (waiting : Waiting) (word : Text) (o : Option Text) (h : Held)
-    → MeetsNoHelp (short_or_plain c waiting word o h).1
-short_meets c waiting word None h = plain_meets c waiting word h
-short_meets c waiting word (Some flags) h = flag_meets c waiting word (bundle c flags h).0 (bundle c flags h).1
-
-long_meets : (c : List Rule) (waiting : Waiting) (word : Text) (o : Option (Text × Option Text)) (h : Held)
-    → MeetsNoHelp (long_or_other c waiting word o h).1
-long_meets c waiting word None h = short_meets c waiting word (short_of word) h
-long_meets c waiting word (Some p) h =
-    flag_meets c waiting word (long_met c (arg_by_long c p.0) p.1 h).0 (long_met c (arg_by_long c p.0) p.1 h).1
-
-module _ (s : Shape) (has_help : s.disable_help_subcommand ≡ false) where
-  other_meets : (o : Option Text) (waiting : Waiting) (position : ℕ) (word : Text) (h : Held)
-      → other_fault s o word h ≡ [] → MeetsNoHelp (subcommand_or_other s.rules o waiting position word h).1
-  other_meets (Some name) waiting position word h e = go (bytes_eq name (codes "help")) e
-    where
-      go : (b : Bool) → cond (b && not s.disable_help_subcommand) (DisplayHelp ∷ InvalidSubcommand ∷ []) [] ≡ [] → b ≡ false
-      go true e =
-          let bad = rw has_help at e in
-          absurd (cc)
-      go false e = refl
-  other_meets None waiting position word h e = go (bytes_eq word (45 ∷ 45 ∷ []))
-    where
-      go : (b : Bool) → MeetsNoHelp (cond b (h, trailing position) (long_or_other s.rules waiting word (long_of word) h)).1
-      go true = tt
-      go false = long_meets s.rules waiting word (long_of word) h
-
-  word_meets : (names : Names) (b : Bool) (waiting : Waiting) (position : ℕ) (word : Text) (h : Held)
-      → word_fault s names b waiting word h ≡ [] → MeetsNoHelp (word_met s.rules names b waiting position word h).1
-  word_meets names true waiting position word h e = tt
-  word_meets names false waiting position word h e =
-      other_meets (subcommand_met names waiting word) waiting position word h e
-
-  placed_meets : (o : Option Rule) (word : Text) (w : Walk) (h : Held) → NoHelp w.stopped
-      → NoHelp (to_positional s.rules o word w h).stopped
-  placed_meets None word w h still = still
-  placed_meets (Some a) word w h still = tt
-
-  then_meets : (w : Walk) (word : Text) (h : Held) (step : Step) → MeetsNoHelp step → NoHelp w.stopped
-      → NoHelp (after_step s.rules word w h step).stopped
-  then_meets w word h (next waiting) is still = still
-  then_meets w word h (trailing position) is still = still
-  then_meets w word h (subcommand name) is still = is
-  then_meets w word h value is still = placed_meets (arg_by_index s.rules w.position) word w h still
-
-  turn_meets : (names : Names) (o : Option (Text × List Text)) (w : Walk) (word : Text)
-      → cond (is_some o) [] (or_else (word_fault s names w.is_trailing w.waiting word w.held)
-      (step_fault s w.position (word_met s.rules names w.is_trailing w.waiting w.position word w.held).0
-      (word_met s.rules names w.is_trailing w.waiting w.position word w.held).1)) ≡ []
-      → NoHelp o → NoHelp w.stopped → NoHelp (walked_from s.rules names o w word).stopped
-  turn_meets names (Some p) w word e here still = here
-  turn_meets names None w word e here still =
-      let met = word_met s.rules names w.is_trailing w.waiting w.position word w.held in
-      let two = or_none (word_fault s names w.is_trailing w.waiting word w.held) (step_fault s w.position met.0 met.1) e in
-      then_meets w word met.0 met.1 (word_meets names w.is_trailing w.waiting w.position word w.held two.0) still
-
-  pub walk_meets : (names : Names) (w : Walk) (words : List Text) → walk_fault s names w words ≡ [] → NoHelp w.stopped
-      → NoHelp (fold (walked s.rules names) w words).stopped
-  unfolding walk_fault walked
-  walk_meets names w [] e still = still
-  walk_meets names w (word ∷ rest) e still =
-      let two = or_none (turn_fault s names w word) (walk_fault s names (walked s.rules names w word) rest) e in
-      walk_meets names (walked s.rules names w word) rest two.1 (turn_meets names w.stopped w word two.0 still still)

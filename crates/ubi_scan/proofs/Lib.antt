@@ -46,6 +46,7 @@ pub mod SoFar
 pub mod Spread
 pub mod Stands
 pub mod Told
+pub mod Tops
 pub mod Truths
 pub mod Twins
 pub mod UnitStarts

@@ -1,5 +1,7 @@
-use Rattle.std.proofs.Common.{◌≡◌, ◌<◌, inr, length, sym, ◌∙◌, arith}
+use Rattle.std.proofs.Common.{◌≡◌, ◌<◌, inr, length, subst, sym, ◌∙◌, arith}
 use Rattle.ubi_scan.specs.Source.{Source, blocks_in, blocks_of}
+use Rattle.ubi_scan.specs.inner.Pass.{AreAtMost}
+use Rattle.ubi_scan.specs.declared.pass.Pass.{Pass}
 use Rattle.ubi_scan.proofs.Counters.{mean_fits}
 use Rattle.ubi_scan.proofs.ReadParts.{count_blocks}
 use Rattle.ubi_scan.proofs.SoFar.{SoFar-all, SoFar-fault, SoFar-more, SoFar-twin}
@@ -47,6 +49,10 @@ returns-in-Some-2-clause-refused g c = inr (
       (rw (← ec, ← vid) (sym c.first_fault.ensures ∙ c.in-None.is))
       (rw (← ec, ← vid) (sym c.in_ok-add.ensures.twin ∙ c.in-Some-2.is)),
 )
+
+pub add-requires-clause-tops : goal.add-requires-clause-tops
+add-requires-clause-tops g c = subst (λ (x : Pass). AreAtMost x.others x.counts.top_sqnum)
+    (sym c.in_ok-held.ensures.nominated.rest) c.loop-p.invariant.within.tops
 
 pub loop-p-preserved : goal.loop-p-preserved
 loop-p-preserved g c =
