@@ -79,7 +79,7 @@ loop-p-preserved g c =
           c.in_ok-met.met (c.loop-p.invariant.so_far bytes before) (rw (← ec, ← vid) c.in_ok-held.ensures.held)
           (rw (← ec, ← vid) c.in_ok-held.ensures.nominated)
           (rw (← ec, ← vid) (sym c.first_fault.ensures ∙ c.in-None.is)) c.in_ok-met.ensures.held
-          (rw (← ec, ← vid) (c.in_ok-met.ensures.good bytes holds)) 
+          (rw (← ec, ← vid) (c.in_ok-met.ensures.good bytes holds))
           (rw (← ec, ← vid) (sym c.in_ok-add.ensures.twin ∙ c.in-None-2.is))
           (rw (← ec, ← vid) c.in_ok-add.ensures.taken);
     }
