@@ -1,5 +1,5 @@
 -- Why a change isn't planned, in the order in which the causes are tried.
-use Rattle.std.specs.Prelude.{ℕ, ◌+◌, ◌%◌, ◌==◌, ◌||◌, Bool, true, false, not, nat_lt, List, [], ◌∷◌, length, Option, Some, None, option_map}
+use Rattle.std.specs.Prelude.{ℕ, ◌+◌, ◌%◌, ◌==◌, ◌||◌, Bool, not, nat_lt, List, [], ◌∷◌, length, Option, Some, None, option_map}
 use Rattle.std.specs.Bool.{then_some}
 use Rattle.std.specs.FinMap.{get}
 use Rattle.std.specs.Option.{option_map_or}
