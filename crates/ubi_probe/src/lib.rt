@@ -1,9 +1,17 @@
-//! Sources and writers for tests: they fail where they are told to, and count or keep what they are asked.
+//! What the tests of several crates stand on: sources and writers that fail where they are told to, and count or keep what
+//! they are asked, and the headers, the records and the texts that images are made of.
 //!
-//! What they answer is said by contracts, so that a test may rest on it. No library stands on this crate, only tests do.
+//! What the sources and writers answer is said by contracts, so that a test may rest on it. No library stands on this crate,
+//! only tests do.
 #![tactic(auto)]
 
+pub mod chips;
+pub mod header_bytes;
+pub mod headers;
+pub mod records;
+pub mod sealed;
 mod source;
+pub mod texts;
 mod writer;
 
 pub use source::ProbeSource;

@@ -1,0 +1,56 @@
+//! Headers as they stand, each with its check. The checks of what tests make of them were worked out by another program.
+
+use ubi_media::{VidHeader, VolKind};
+
+/// An erase-counter header of eraseblocks of 512 bytes in pages of 64, as it stands: its counter, its image sequence number,
+/// and its check.
+#[derive(Clone, Copy)]
+pub struct SealedEc {
+    pub counter: u32,
+    pub image_seq: u32,
+    pub check: u32,
+}
+
+impl SealedEc {
+    /// The bytes of the header.
+    pub fn bytes(&self) -> [u8; 64] {
+        let mut bytes = [0u8; 64];
+        bytes[..4].copy_from_slice(b"UBI#");
+        bytes[4] = 1;
+        bytes[12..16].copy_from_slice(&self.counter.to_be_bytes());
+        bytes[19] = 64;
+        bytes[23] = 128;
+        bytes[24..28].copy_from_slice(&self.image_seq.to_be_bytes());
+        bytes[60..64].copy_from_slice(&self.check.to_be_bytes());
+        bytes
+    }
+}
+
+/// A volume-identifier header as it stands, with its check.
+#[derive(Clone, Copy)]
+pub struct SealedVid(pub VidHeader, pub u32);
+
+impl SealedVid {
+    /// The bytes of the header.
+    pub fn bytes(&self) -> [u8; 64] {
+        let SealedVid(header, check) = self;
+        let mut bytes = [0u8; 64];
+        bytes[..4].copy_from_slice(b"UBI!");
+        bytes[4] = 1;
+        bytes[5] = match header.kind {
+            VolKind::Dynamic => 1,
+            VolKind::Static => 2,
+        };
+        bytes[6] = u8::from(header.copy_flag);
+        bytes[7] = header.compat;
+        bytes[8..12].copy_from_slice(&header.vol_id.to_be_bytes());
+        bytes[12..16].copy_from_slice(&header.lnum.to_be_bytes());
+        bytes[20..24].copy_from_slice(&header.data_size.to_be_bytes());
+        bytes[24..28].copy_from_slice(&header.used_ebs.to_be_bytes());
+        bytes[28..32].copy_from_slice(&header.data_pad.to_be_bytes());
+        bytes[32..36].copy_from_slice(&header.data_crc.to_be_bytes());
+        bytes[40..48].copy_from_slice(&header.sqnum.to_be_bytes());
+        bytes[60..64].copy_from_slice(&check.to_be_bytes());
+        bytes
+    }
+}
