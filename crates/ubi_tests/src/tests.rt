@@ -1,10 +1,8 @@
 mod change;
 mod compose;
 mod config;
-mod headers;
 mod media;
 mod probes;
-mod records;
 mod scan;
 mod table;
 mod volume;

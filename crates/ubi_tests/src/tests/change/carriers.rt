@@ -1,22 +1,16 @@
 //! Changes of images that few eraseblocks name: their image sequence number stands at each cut.
 
 use super::images::{
-    COPY_OF_1, Case, Data, ERASED, Ec, NEW, NEW_FIRST, NEW_SECOND, Peb, SMALL, Want, assert_change,
-    attached, image_of, planned,
+    BLANK_7, CHANGE_OF_1, COPY_OF_1, COPY_OF_7, Case, Data, EIGHT, ERASED, Ec, LEB_20, LEB_21, NEW,
+    NEW_FIRST, NEW_SECOND, Peb, SMALL, Want, assert_change, attached, image_of, planned,
 };
-use crate::tests::headers::{LEB_1, LEB_2, PLAIN};
 use std::test::Fail;
 use ubi_change::ChangeRefusal;
-use ubi_media::{EcHeader, VidHeader};
+use ubi_media::EcHeader;
+use ubi_probe::headers::{LEB_1, LEB_2, PLAIN};
 use ubi_volume::BlockState;
 
-/// Counter 0, in the image 8.
-const EIGHT: EcHeader = EcHeader {
-    counter: 0,
-    image_seq: 8,
-};
-
-/// The same once the eraseblock was erased, and once more.
+/// The counter of an eraseblock of the image 8 once it was erased, and once more.
 const EIGHT_AGAIN: EcHeader = EcHeader {
     counter: 1,
     ..EIGHT
@@ -42,40 +36,9 @@ const CARRIER_B: Peb = Peb(Ec::Is(EIGHT), Some(LEB_1), Data::Filled(0x42, 384));
 
 const CARRIER_FREE: Peb = Peb(Ec::Is(EIGHT), None, Data::Filled(0xFF, 0));
 
-const CARRIER_20: Peb = Peb(
-    Ec::Is(EIGHT),
-    Some(VidHeader { lnum: 20, ..PLAIN }),
-    Data::Filled(0x44, 384),
-);
+const CARRIER_20: Peb = Peb(Ec::Is(EIGHT), Some(LEB_20), Data::Filled(0x44, 384));
 
-const CARRIER_21: Peb = Peb(
-    Ec::Is(EIGHT),
-    Some(VidHeader { lnum: 21, ..PLAIN }),
-    Data::Filled(0x44, 384),
-);
-
-/// The header under which logical eraseblock 7 reads 0xFF, and that of its copy.
-const BLANK_7: VidHeader = VidHeader {
-    lnum: 7,
-    sqnum: 1,
-    ..PLAIN
-};
-
-const COPY_OF_7: VidHeader = VidHeader {
-    lnum: 7,
-    sqnum: 2,
-    ..COPY_OF_1
-};
-
-/// A change of logical eraseblock 1.
-const CHANGE: Case<'static> = Case {
-    sizes: SMALL,
-    pebs: &[],
-    lnum: 1,
-    old: (0x42, 384),
-    steps: &[],
-    turn: 0,
-};
+const CARRIER_21: Peb = Peb(Ec::Is(EIGHT), Some(LEB_21), Data::Filled(0x44, 384));
 
 /// What is changed, each with the state of eraseblock 3 in the end.
 static CASES: [(Case<'static>, BlockState); 6] = [
@@ -83,9 +46,9 @@ static CASES: [(Case<'static>, BlockState); 6] = [
     (
         Case {
             pebs: &[NEW_FIRST, NEW_SECOND, A, CARRIER_B, C, FREE],
-            steps: &[Want::Header(5, 1, COPY_OF_1), Want::Text(5, 2, 0x61)],
+            steps: &[Want::Copy(5, 1, COPY_OF_1, &[0x61])],
             turn: 2,
-            ..CHANGE
+            ..CHANGE_OF_1
         },
         BlockState::Stale,
     ),
@@ -93,14 +56,9 @@ static CASES: [(Case<'static>, BlockState); 6] = [
     (
         Case {
             pebs: &[NEW_FIRST, NEW_SECOND, A, CARRIER_B, C, ERASED],
-            steps: &[
-                Want::Erase(5),
-                Want::Count(5, EIGHT),
-                Want::Header(5, 1, COPY_OF_1),
-                Want::Text(5, 2, 0x61),
-            ],
+            steps: &[Want::Renew(5, EIGHT), Want::Copy(5, 1, COPY_OF_1, &[0x61])],
             turn: 4,
-            ..CHANGE
+            ..CHANGE_OF_1
         },
         BlockState::Stale,
     ),
@@ -109,13 +67,11 @@ static CASES: [(Case<'static>, BlockState); 6] = [
         Case {
             pebs: &[NEW_FIRST, NEW_SECOND, A, B, C, CARRIER_FREE, FREE],
             steps: &[
-                Want::Header(6, 1, COPY_OF_1),
-                Want::Text(6, 2, 0x61),
-                Want::Erase(3),
-                Want::Count(3, EIGHT_AGAIN),
+                Want::Copy(6, 1, COPY_OF_1, &[0x61]),
+                Want::Renew(3, EIGHT_AGAIN),
             ],
             turn: 2,
-            ..CHANGE
+            ..CHANGE_OF_1
         },
         BlockState::Free,
     ),
@@ -124,13 +80,11 @@ static CASES: [(Case<'static>, BlockState); 6] = [
         Case {
             pebs: &[NEW_FIRST, NEW_SECOND, A, CARRIER_B, C, CARRIER_FREE],
             steps: &[
-                Want::Header(5, 1, COPY_OF_1),
-                Want::Text(5, 2, 0x61),
-                Want::Erase(3),
-                Want::Count(3, EIGHT_AGAIN),
+                Want::Copy(5, 1, COPY_OF_1, &[0x61]),
+                Want::Renew(3, EIGHT_AGAIN),
             ],
             turn: 2,
-            ..CHANGE
+            ..CHANGE_OF_1
         },
         BlockState::Free,
     ),
@@ -139,15 +93,12 @@ static CASES: [(Case<'static>, BlockState); 6] = [
         Case {
             pebs: &[NEW_FIRST, NEW_SECOND, A, CARRIER_B, C, CARRIER_20],
             steps: &[
-                Want::Erase(5),
-                Want::Count(5, EIGHT_AGAIN),
-                Want::Header(5, 1, COPY_OF_1),
-                Want::Text(5, 2, 0x61),
-                Want::Erase(3),
-                Want::Count(3, EIGHT_AGAIN),
+                Want::Renew(5, EIGHT_AGAIN),
+                Want::Copy(5, 1, COPY_OF_1, &[0x61]),
+                Want::Renew(3, EIGHT_AGAIN),
             ],
             turn: 4,
-            ..CHANGE
+            ..CHANGE_OF_1
         },
         BlockState::Free,
     ),
@@ -158,18 +109,14 @@ static CASES: [(Case<'static>, BlockState); 6] = [
             lnum: 7,
             old: (0xFF, 384),
             steps: &[
-                Want::Erase(5),
-                Want::Count(5, EIGHT_AGAIN),
-                Want::Header(5, 1, BLANK_7),
-                Want::Erase(6),
-                Want::Count(6, EIGHT_AGAIN),
-                Want::Header(6, 1, COPY_OF_7),
-                Want::Text(6, 2, 0x61),
-                Want::Erase(5),
-                Want::Count(5, EIGHT_TWICE),
+                Want::Renew(5, EIGHT_AGAIN),
+                Want::Copy(5, 1, BLANK_7, &[]),
+                Want::Renew(6, EIGHT_AGAIN),
+                Want::Copy(6, 1, COPY_OF_7, &[0x61]),
+                Want::Renew(5, EIGHT_TWICE),
             ],
             turn: 7,
-            ..CHANGE
+            ..CHANGE_OF_1
         },
         BlockState::Used,
     ),

@@ -2,15 +2,15 @@
 //!
 //! The eraseblocks are constants: a proof takes those as they stand, and pays for each loop and each call of a test.
 
-use crate::tests::headers::{
-    COPY as COPY_OF_37, LEB_1, LEB_2, PLAIN, STATIC_0, STATIC_1, TABLE_0, TABLE_1, WRONG_COPY,
-};
-use crate::tests::records::{ALIGNMENT_256, BOOT, EMPTY, MARKED, ROOT, Slot};
 use std::alloc::{AllocError, Global};
 use std::process::Abort;
 use std::test::Fail;
 use ubi_change::{ChangeRefusal, Step, apply, plan_change, step_fits};
 use ubi_media::{AttachError, EcHeader, Geometry, VidHeader, crc, write_ec, write_vid};
+use ubi_probe::headers::{
+    COPY as COPY_OF_37, LEB_1, LEB_2, PLAIN, STATIC_0, STATIC_1, TABLE_0, TABLE_1, WRONG_COPY,
+};
+use ubi_probe::records::{ALIGNMENT_256, BOOT, EMPTY, MARKED, ROOT, Slot};
 use ubi_volume::{Attached, BlockState, Bytes, attach, read_leb};
 
 /// The checks of bytes 0x61, as many as the name says. These and those below were worked out by another program.
@@ -98,10 +98,22 @@ pub const ZERO: EcHeader = EcHeader {
 /// Counter 1, in the same image.
 pub const ONE: EcHeader = EcHeader { counter: 1, ..ZERO };
 
+/// The last counter, in the same image.
+pub const WORN: EcHeader = EcHeader {
+    counter: 0x7FFF_FFFF,
+    ..ZERO
+};
+
 /// Counter 0, in no image.
 pub const NEW: EcHeader = EcHeader {
     counter: 0,
     image_seq: 0,
+};
+
+/// Counter 0, in the image 8.
+pub const EIGHT: EcHeader = EcHeader {
+    image_seq: 8,
+    ..NEW
 };
 
 /// The header of a copy of 64 bytes 0x61 for logical eraseblock 0, the first in its image.
@@ -115,6 +127,25 @@ pub const COPY: VidHeader = VidHeader {
 
 /// The same for logical eraseblock 1.
 pub const COPY_OF_1: VidHeader = VidHeader { lnum: 1, ..COPY };
+
+/// The headers of logical eraseblocks that the volume `root` doesn't reserve.
+pub const LEB_20: VidHeader = VidHeader { lnum: 20, ..PLAIN };
+
+pub const LEB_21: VidHeader = VidHeader { lnum: 21, ..PLAIN };
+
+/// The header of the original of logical eraseblock 0, with sequence number 5.
+pub const FIFTH: VidHeader = VidHeader { sqnum: 5, ..PLAIN };
+
+/// The header of logical eraseblock 7, that under which it reads 0xFF, and that of its copy.
+const LEB_7: VidHeader = VidHeader { lnum: 7, ..PLAIN };
+
+pub const BLANK_7: VidHeader = VidHeader { sqnum: 1, ..LEB_7 };
+
+pub const COPY_OF_7: VidHeader = VidHeader {
+    lnum: 7,
+    sqnum: 2,
+    ..COPY
+};
 
 /// The two copies of a table with the volume `root`.
 pub const FIRST: Peb = Peb(Ec::Is(ZERO), Some(TABLE_0), Data::Table(ROOT));
@@ -161,7 +192,7 @@ pub const ERASED: Peb = Peb(Ec::Blank, None, Data::Filled(0xFF, 0));
 /// Logical eraseblock 0 three times: original, as a good copy, and as a newer one that is bad.
 pub const ORIGINAL: Peb = Peb(
     Ec::Is(EcHeader { counter: 4, ..NEW }),
-    Some(VidHeader { sqnum: 5, ..PLAIN }),
+    Some(FIFTH),
     Data::Filled(0x35, 384),
 );
 
@@ -173,7 +204,7 @@ pub const BAD: Peb = Peb(Ec::Is(NEW), Some(WRONG_COPY), Data::Filled(0x39, 64));
 pub const LAST: Peb = Peb(
     Ec::Is(ZERO),
     Some(VidHeader {
-        sqnum: 0xFFFF_FFFF_FFFF_FFFF,
+        sqnum: u64::MAX,
         ..LEB_2
     }),
     Data::Filled(0x43, 384),
@@ -183,7 +214,7 @@ pub const LAST: Peb = Peb(
 pub const NEXT_TO_LAST: Peb = Peb(
     Ec::Is(ZERO),
     Some(VidHeader {
-        sqnum: 0xFFFF_FFFF_FFFF_FFFE,
+        sqnum: u64::MAX - 1,
         ..LEB_2
     }),
     Data::Filled(0x43, 384),
@@ -213,45 +244,37 @@ impl Ec {
 }
 
 impl Data {
-    /// The bytes at the front of the data.
-    fn bytes(&self, alloc: Global, geometry: &Geometry) -> Result<Vec<u8>, AllocError> {
-        let mut bytes = Vec::new(alloc);
+    /// Adds the bytes at the front of the data.
+    fn put(&self, geometry: &Geometry, image: &mut Vec<u8>) -> Result<(), AllocError> {
         match self {
             Data::Table(slot) => {
-                bytes.extend_from_slice(&slot.bytes())?;
+                image.extend_from_slice(&slot.bytes())?;
                 for _ in 1..geometry.slots() {
-                    bytes.extend_from_slice(&EMPTY.bytes())?;
+                    image.extend_from_slice(&EMPTY.bytes())?;
                 }
+                Ok(())
             }
             Data::Two(first, second) => {
-                bytes.extend_from_slice(&first.bytes())?;
-                bytes.extend_from_slice(&second.bytes())?;
+                image.extend_from_slice(&first.bytes())?;
+                image.extend_from_slice(&second.bytes())
             }
-            Data::Filled(byte, count) => bytes.resize(*count, *byte)?,
+            Data::Filled(byte, count) => image.resize(image.len().saturating_add(*count), *byte),
         }
-        Ok(bytes)
     }
 }
 
 impl Peb {
     /// Adds the bytes of the eraseblock to an image.
-    fn put(
-        &self,
-        alloc: Global,
-        geometry: &Geometry,
-        image: &mut Vec<u8>,
-    ) -> Result<(), AllocError> {
-        let mut bytes = Vec::new(alloc);
-        bytes.extend_from_slice(&self.0.bytes(geometry))?;
-        bytes.resize(geometry.vid_offset() as usize, 0xFF)?;
+    fn put(&self, geometry: &Geometry, image: &mut Vec<u8>) -> Result<(), AllocError> {
+        let start = image.len();
+        image.extend_from_slice(&self.0.bytes(geometry))?;
+        image.resize(start.saturating_add(geometry.vid_offset() as usize), 0xFF)?;
         if let Some(header) = &self.1 {
-            bytes.extend_from_slice(&write_vid(header))?;
+            image.extend_from_slice(&write_vid(header))?;
         }
-        bytes.resize(geometry.data_offset() as usize, 0xFF)?;
-        let data = self.2.bytes(alloc, geometry)?;
-        bytes.extend_from_slice(data.as_slice())?;
-        bytes.resize(geometry.peb_size() as usize, 0xFF)?;
-        image.extend_from_slice(bytes.as_slice())
+        image.resize(start.saturating_add(geometry.data_offset() as usize), 0xFF)?;
+        self.2.put(geometry, image)?;
+        image.resize(start.saturating_add(geometry.peb_size() as usize), 0xFF)
     }
 }
 
@@ -259,24 +282,20 @@ impl Peb {
 pub fn image_of(alloc: Global, geometry: &Geometry, pebs: &[Peb]) -> Result<Vec<u8>, Fail> {
     let mut image = Vec::new(alloc);
     for peb in pebs {
-        peb.put(alloc, geometry, &mut image)?;
+        peb.put(geometry, &mut image)?;
     }
     Ok(image)
 }
 
-/// A step, as tests write it down.
+/// Steps that come together, as tests write them down.
 #[derive(Clone, Copy)]
 pub enum Want {
-    /// An eraseblock is erased.
-    Erase(u32),
-    /// Page 0 of an eraseblock gets an erase-counter header.
-    Count(u32, EcHeader),
-    /// A page of an eraseblock gets a volume-identifier header.
-    Header(u32, u32, VidHeader),
-    /// Page 0 of an eraseblock gets one, behind an erase-counter header.
-    Headers(u32, Ec, VidHeader),
-    /// A page of an eraseblock is filled with a byte.
-    Text(u32, u32, u8),
+    /// An eraseblock is erased, and its page 0 gets an erase-counter header.
+    Renew(u32, EcHeader),
+    /// A page of an eraseblock gets a volume-identifier header, and each page behind it is filled with a byte.
+    Copy(u32, u32, VidHeader, &'static [u8]),
+    /// The same where the header stands in page 0, behind an erase-counter header.
+    Shared(u32, Ec, VidHeader, &'static [u8]),
 }
 
 /// A page: the bytes of a header, where the other one stands before it, and 0xFF elsewhere.
@@ -298,34 +317,46 @@ fn page_of(
 }
 
 impl Want {
-    /// The step.
-    fn step(&self, alloc: Global, geometry: &Geometry) -> Result<Step, AllocError> {
+    /// The step that writes the header.
+    fn first(&self, alloc: Global, geometry: &Geometry) -> Result<Step, AllocError> {
         let (pnum, page, bytes) = match self {
-            Want::Erase(pnum) => return Ok(Step::Erase { pnum: *pnum }),
-            Want::Count(pnum, ec) => (
-                *pnum,
-                0,
-                page_of(alloc, geometry, &write_ec(geometry, ec), &[])?,
-            ),
-            Want::Header(pnum, page, vid) => {
-                (
-                    *pnum,
-                    *page,
-                    page_of(alloc, geometry, &[], &write_vid(vid))?,
-                )
+            Want::Renew(pnum, ec) => {
+                let bytes = page_of(alloc, geometry, &write_ec(geometry, ec), &[])?;
+                (*pnum, 0, bytes)
             }
-            Want::Headers(pnum, ec, vid) => (
-                *pnum,
-                0,
-                page_of(alloc, geometry, &ec.bytes(geometry), &write_vid(vid))?,
-            ),
-            Want::Text(pnum, page, byte) => {
-                let mut bytes = Vec::new(alloc);
-                bytes.resize(geometry.page() as usize, *byte)?;
-                (*pnum, *page, Bytes::new(bytes))
+            Want::Copy(pnum, page, vid, _) => {
+                let bytes = page_of(alloc, geometry, &[], &write_vid(vid))?;
+                (*pnum, *page, bytes)
+            }
+            Want::Shared(pnum, ec, vid, _) => {
+                let bytes = page_of(alloc, geometry, &ec.bytes(geometry), &write_vid(vid))?;
+                (*pnum, 0, bytes)
             }
         };
         Ok(Step::Program { pnum, page, bytes })
+    }
+
+    /// Adds the steps.
+    fn put(
+        &self,
+        alloc: Global,
+        geometry: &Geometry,
+        steps: &mut Vec<Step>,
+    ) -> Result<(), AllocError> {
+        let (pnum, front, texts): (u32, u32, &[u8]) = match *self {
+            Want::Renew(pnum, _) => {
+                steps.push(Step::Erase { pnum })?;
+                (pnum, 0, &[])
+            }
+            Want::Copy(pnum, page, _, texts) => (pnum, page, texts),
+            Want::Shared(pnum, _, _, texts) => (pnum, 0, texts),
+        };
+        steps.push(self.first(alloc, geometry)?)?;
+        for (page, byte) in (front.saturating_add(1)..).zip(texts) {
+            let bytes = Bytes::new(text(alloc, *byte, geometry.page() as usize)?);
+            steps.push(Step::Program { pnum, page, bytes })?;
+        }
+        Ok(())
     }
 }
 
@@ -396,8 +427,8 @@ fn assert_steps(
     want: &[Want],
 ) -> Result<(), Fail> {
     let mut expected = Vec::new(alloc);
-    for step in want {
-        expected.push(step.step(alloc, geometry)?)?;
+    for steps in want {
+        steps.put(alloc, geometry, &mut expected)?;
     }
     assert!(*rt; steps == expected.as_slice());
     Ok(())
@@ -419,6 +450,16 @@ pub struct Case<'a> {
     /// The number of steps from which on it reads the new bytes.
     pub turn: usize,
 }
+
+/// A change of logical eraseblock 1 by one page, where the eraseblock behind three logical ones is free and clean.
+pub const CHANGE_OF_1: Case<'static> = Case {
+    sizes: SMALL,
+    pebs: &[FIRST, SECOND, A, B, C, FREE],
+    lnum: 1,
+    old: (0x42, 384),
+    steps: &[Want::Copy(5, 1, COPY_OF_1, &[0x61]), Want::Renew(3, ONE)],
+    turn: 2,
+};
 
 /// Asserts what a change to new bytes is planned as, what each cut of the plan reads, and that it keeps the image sequence
 /// number. Gives the image at the end.

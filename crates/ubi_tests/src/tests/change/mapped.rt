@@ -1,18 +1,16 @@
 //! Changes of logical eraseblocks that have a winner.
 
 use super::images::{
-    A, ALIGNED_FIRST, ALIGNED_SECOND, B, BAD, C, CHECK_OF_62, CHECK_OF_128, CHECK_OF_256,
-    CHECK_OF_2048, CHECK_OF_FF, CHECK_OF_HALF, COPY, COPY_OF_1, Case, Change, Data, ERASED, Ec,
-    FIRST, FREE, GOOD, INSIDE, LARGE, LARGE_SHARED, NEW, NEW_FIRST, NEW_SECOND, ODD, ONE, ORIGINAL,
-    Peb, SECOND, SHARED, SMALL, Want, ZERO, assert_changes, assert_plan, image_of,
+    A, ALIGNED_FIRST, ALIGNED_SECOND, B, BAD, C, CHANGE_OF_1, CHECK_OF_62, CHECK_OF_128,
+    CHECK_OF_256, CHECK_OF_2048, CHECK_OF_FF, CHECK_OF_HALF, COPY, COPY_OF_1, Case, Change, Data,
+    ERASED, Ec, FIRST, FREE, GOOD, INSIDE, LARGE, LARGE_SHARED, NEW, NEW_FIRST, NEW_SECOND, ODD,
+    ONE, ORIGINAL, Peb, SECOND, SHARED, SMALL, WORN, Want, ZERO, assert_changes, assert_plan,
+    image_of,
 };
-use crate::tests::headers::{LEB_1, PLAIN};
 use std::test::Fail;
 use ubi_media::{EcHeader, VidHeader};
+use ubi_probe::headers::{LEB_1, PLAIN};
 use ubi_volume::BlockState;
-
-/// Three logical eraseblocks, and a free eraseblock.
-const BASE: [Peb; 6] = [FIRST, SECOND, A, B, C, FREE];
 
 /// The header of a copy of two pages.
 const TWO_PAGES: VidHeader = VidHeader {
@@ -41,14 +39,7 @@ const BLANK: VidHeader = VidHeader {
 };
 
 /// An eraseblock whose counter can't grow, with logical eraseblock 1.
-const WORN: Peb = Peb(
-    Ec::Is(EcHeader {
-        counter: 0x7FFF_FFFF,
-        ..ZERO
-    }),
-    Some(LEB_1),
-    Data::Filled(0x42, 384),
-);
+const WORN_B: Peb = Peb(Ec::Is(WORN), Some(LEB_1), Data::Filled(0x42, 384));
 
 /// The header of a copy that is newer than a bad one.
 const TENTH: VidHeader = VidHeader { sqnum: 10, ..COPY };
@@ -83,6 +74,9 @@ const SECOND_COPY: VidHeader = VidHeader {
     ..COPY_OF_1
 };
 
+/// Counter 1, in no image.
+const NEW_ONE: EcHeader = EcHeader { counter: 1, ..NEW };
+
 /// A free eraseblock in no image.
 const NEW_FREE: Peb = Peb(Ec::Is(NEW), None, Data::Filled(0xFF, 0));
 
@@ -92,42 +86,42 @@ const ALIGNED_COPY: VidHeader = VidHeader {
     ..COPY
 };
 
+/// A change by two pages.
+const BY_TWO_PAGES: Case<'static> = Case {
+    steps: &[
+        Want::Copy(5, 1, TWO_PAGES, &[0x61, 0x61]),
+        Want::Renew(3, ONE),
+    ],
+    turn: 3,
+    ..CHANGE_OF_1
+};
+
+/// A change of an eraseblock of four pages, with both headers in the first.
+const IN_LONG: Case<'static> = Case {
+    sizes: SHARED,
+    pebs: &[NEW_FIRST, NEW_SECOND, LONG, NEW_FREE],
+    lnum: 0,
+    old: (0x41, 300),
+    steps: &[
+        Want::Shared(3, Ec::Is(NEW), LONG_PAGE, &[0x61]),
+        Want::Renew(2, NEW_ONE),
+    ],
+    turn: 2,
+};
+
 /// Changes of logical eraseblocks that have a winner.
 static CHANGES: [Change; 13] = [
-    // Two pages.
     Change {
-        case: Case {
-            sizes: SMALL,
-            pebs: &BASE,
-            lnum: 1,
-            old: (0x42, 384),
-            steps: &[
-                Want::Header(5, 1, TWO_PAGES),
-                Want::Text(5, 2, 0x61),
-                Want::Text(5, 3, 0x61),
-                Want::Erase(3),
-                Want::Count(3, ONE),
-            ],
-            turn: 3,
-        },
+        case: BY_TWO_PAGES,
         new: &[(0x61, 128)],
         ends: (3, BlockState::Free),
     },
     // A second page that is blank: the turn comes with the page before.
     Change {
         case: Case {
-            sizes: SMALL,
-            pebs: &BASE,
-            lnum: 1,
-            old: (0x42, 384),
-            steps: &[
-                Want::Header(5, 1, HALF),
-                Want::Text(5, 2, 0x61),
-                Want::Text(5, 3, 0xFF),
-                Want::Erase(3),
-                Want::Count(3, ONE),
-            ],
+            steps: &[Want::Copy(5, 1, HALF, &[0x61, 0xFF]), Want::Renew(3, ONE)],
             turn: 2,
+            ..CHANGE_OF_1
         },
         new: &[(0x61, 64), (0xFF, 64)],
         ends: (3, BlockState::Free),
@@ -135,17 +129,9 @@ static CHANGES: [Change; 13] = [
     // A blank text: the turn comes with the header.
     Change {
         case: Case {
-            sizes: SMALL,
-            pebs: &BASE,
-            lnum: 1,
-            old: (0x42, 384),
-            steps: &[
-                Want::Header(5, 1, BLANK),
-                Want::Text(5, 2, 0xFF),
-                Want::Erase(3),
-                Want::Count(3, ONE),
-            ],
+            steps: &[Want::Copy(5, 1, BLANK, &[0xFF]), Want::Renew(3, ONE)],
             turn: 1,
+            ..CHANGE_OF_1
         },
         new: &[(0xFF, 64)],
         ends: (3, BlockState::Free),
@@ -153,16 +139,10 @@ static CHANGES: [Change; 13] = [
     // A winner whose counter can't grow: it stays.
     Change {
         case: Case {
-            sizes: SMALL,
-            pebs: &[FIRST, SECOND, A, WORN, C, FREE],
-            lnum: 1,
-            old: (0x42, 384),
-            steps: &[
-                Want::Header(5, 1, TWO_PAGES),
-                Want::Text(5, 2, 0x61),
-                Want::Text(5, 3, 0x61),
-            ],
+            pebs: &[FIRST, SECOND, A, WORN_B, C, FREE],
+            steps: &[Want::Copy(5, 1, TWO_PAGES, &[0x61, 0x61])],
             turn: 3,
+            ..CHANGE_OF_1
         },
         new: &[(0x61, 128)],
         ends: (3, BlockState::Stale),
@@ -170,19 +150,14 @@ static CHANGES: [Change; 13] = [
     // A blank eraseblock that is made ready.
     Change {
         case: Case {
-            sizes: SMALL,
             pebs: &[FIRST, SECOND, A, B, C, ERASED],
-            lnum: 1,
-            old: (0x42, 384),
             steps: &[
-                Want::Erase(5),
-                Want::Count(5, ZERO),
-                Want::Header(5, 1, COPY_OF_1),
-                Want::Text(5, 2, 0x61),
-                Want::Erase(3),
-                Want::Count(3, ONE),
+                Want::Renew(5, ZERO),
+                Want::Copy(5, 1, COPY_OF_1, &[0x61]),
+                Want::Renew(3, ONE),
             ],
             turn: 4,
+            ..CHANGE_OF_1
         },
         new: &[(0x61, 64)],
         ends: (3, BlockState::Free),
@@ -190,55 +165,35 @@ static CHANGES: [Change; 13] = [
     // A stale member that is taken.
     Change {
         case: Case {
-            sizes: SMALL,
             pebs: &[NEW_FIRST, NEW_SECOND, ORIGINAL, GOOD, BAD],
             lnum: 0,
             old: (0x37, 64),
             steps: &[
-                Want::Erase(2),
-                Want::Count(2, EcHeader { counter: 5, ..NEW }),
-                Want::Header(2, 1, TENTH),
-                Want::Text(2, 2, 0x61),
-                Want::Erase(3),
-                Want::Count(3, EcHeader { counter: 1, ..NEW }),
+                Want::Renew(2, EcHeader { counter: 5, ..NEW }),
+                Want::Copy(2, 1, TENTH, &[0x61]),
+                Want::Renew(3, NEW_ONE),
             ],
             turn: 4,
+            ..CHANGE_OF_1
         },
         new: &[(0x61, 64)],
         ends: (3, BlockState::Free),
     },
     // Both headers in one page.
     Change {
-        case: Case {
-            sizes: SHARED,
-            pebs: &[NEW_FIRST, NEW_SECOND, LONG, NEW_FREE],
-            lnum: 0,
-            old: (0x41, 300),
-            steps: &[
-                Want::Headers(3, Ec::Is(NEW), LONG_PAGE),
-                Want::Text(3, 1, 0x61),
-                Want::Erase(2),
-                Want::Count(2, EcHeader { counter: 1, ..NEW }),
-            ],
-            turn: 2,
-        },
+        case: IN_LONG,
         new: &[(0x61, 256)],
         ends: (2, BlockState::Free),
     },
     // The padding of a header that is kept.
     Change {
         case: Case {
-            sizes: SHARED,
             pebs: &[NEW_FIRST, NEW_SECOND, LONG, PADDED_FREE],
-            lnum: 0,
-            old: (0x41, 300),
             steps: &[
-                Want::Headers(3, Ec::Padded(NEW), LONG_PAGE),
-                Want::Text(3, 1, 0x61),
-                Want::Erase(2),
-                Want::Count(2, EcHeader { counter: 1, ..NEW }),
+                Want::Shared(3, Ec::Padded(NEW), LONG_PAGE, &[0x61]),
+                Want::Renew(2, NEW_ONE),
             ],
-            turn: 2,
+            ..IN_LONG
         },
         new: &[(0x61, 256)],
         ends: (2, BlockState::Free),
@@ -247,16 +202,11 @@ static CHANGES: [Change; 13] = [
     Change {
         case: Case {
             sizes: INSIDE,
-            pebs: &[NEW_FIRST, NEW_SECOND, LONG, NEW_FREE],
-            lnum: 0,
-            old: (0x41, 300),
             steps: &[
-                Want::Header(3, 1, LONG_PAGE),
-                Want::Text(3, 2, 0x61),
-                Want::Erase(2),
-                Want::Count(2, EcHeader { counter: 1, ..NEW }),
+                Want::Copy(3, 1, LONG_PAGE, &[0x61]),
+                Want::Renew(2, NEW_ONE),
             ],
-            turn: 2,
+            ..IN_LONG
         },
         new: &[(0x61, 256)],
         ends: (2, BlockState::Free),
@@ -265,16 +215,7 @@ static CHANGES: [Change; 13] = [
     Change {
         case: Case {
             sizes: ODD,
-            pebs: &BASE,
-            lnum: 1,
-            old: (0x42, 384),
-            steps: &[
-                Want::Header(5, 1, COPY_OF_1),
-                Want::Text(5, 2, 0x61),
-                Want::Erase(3),
-                Want::Count(3, ONE),
-            ],
-            turn: 2,
+            ..CHANGE_OF_1
         },
         new: &[(0x61, 64)],
         ends: (3, BlockState::Free),
@@ -282,17 +223,11 @@ static CHANGES: [Change; 13] = [
     // The padding of a volume.
     Change {
         case: Case {
-            sizes: SMALL,
             pebs: &[ALIGNED_FIRST, ALIGNED_SECOND, ALIGNED_A, FREE],
             lnum: 0,
             old: (0x41, 256),
-            steps: &[
-                Want::Header(3, 1, ALIGNED_COPY),
-                Want::Text(3, 2, 0x61),
-                Want::Erase(2),
-                Want::Count(2, ONE),
-            ],
-            turn: 2,
+            steps: &[Want::Copy(3, 1, ALIGNED_COPY, &[0x61]), Want::Renew(2, ONE)],
+            ..CHANGE_OF_1
         },
         new: &[(0x61, 64)],
         ends: (2, BlockState::Free),
@@ -301,16 +236,8 @@ static CHANGES: [Change; 13] = [
     Change {
         case: Case {
             sizes: LARGE,
-            pebs: &BASE,
-            lnum: 1,
-            old: (0x42, 384),
-            steps: &[
-                Want::Header(5, 1, LARGE_PAGE),
-                Want::Text(5, 2, 0x61),
-                Want::Erase(3),
-                Want::Count(3, ONE),
-            ],
-            turn: 2,
+            steps: &[Want::Copy(5, 1, LARGE_PAGE, &[0x61]), Want::Renew(3, ONE)],
+            ..CHANGE_OF_1
         },
         new: &[(0x61, 2048)],
         ends: (3, BlockState::Free),
@@ -319,16 +246,11 @@ static CHANGES: [Change; 13] = [
     Change {
         case: Case {
             sizes: LARGE_SHARED,
-            pebs: &BASE,
-            lnum: 1,
-            old: (0x42, 384),
             steps: &[
-                Want::Headers(5, Ec::Is(ZERO), LARGE_PAGE),
-                Want::Text(5, 1, 0x61),
-                Want::Erase(3),
-                Want::Count(3, ONE),
+                Want::Shared(5, Ec::Is(ZERO), LARGE_PAGE, &[0x61]),
+                Want::Renew(3, ONE),
             ],
-            turn: 2,
+            ..CHANGE_OF_1
         },
         new: &[(0x61, 2048)],
         ends: (3, BlockState::Free),
@@ -345,30 +267,14 @@ fn changes_what_has_a_winner(rt: HostRuntime) -> Result<(), Fail> {
 #[test]
 fn changes_what_a_cut_left(rt: HostRuntime) -> Result<(), Fail> {
     let alloc = rt.alloc();
-    let torn = Case {
-        sizes: SMALL,
-        pebs: &BASE,
-        lnum: 1,
-        old: (0x42, 384),
-        steps: &[
-            Want::Header(5, 1, TWO_PAGES),
-            Want::Text(5, 2, 0x61),
-            Want::Text(5, 3, 0x61),
-            Want::Erase(3),
-            Want::Count(3, ONE),
-        ],
-        turn: 3,
-    };
-    let image = image_of(alloc, &SMALL.geometry()?, &BASE)?;
+    let torn = BY_TWO_PAGES;
+    let image = image_of(alloc, &SMALL.geometry()?, torn.pebs)?;
     let left = assert_plan(&rt, alloc, &torn, image, &[0x61; 128], 2)?;
     let again = Case {
         steps: &[
-            Want::Erase(5),
-            Want::Count(5, ONE),
-            Want::Header(5, 1, SECOND_COPY),
-            Want::Text(5, 2, 0x62),
-            Want::Erase(3),
-            Want::Count(3, ONE),
+            Want::Renew(5, ONE),
+            Want::Copy(5, 1, SECOND_COPY, &[0x62]),
+            Want::Renew(3, ONE),
         ],
         turn: 4,
         ..torn

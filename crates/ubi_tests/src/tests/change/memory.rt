@@ -2,11 +2,11 @@
 
 use super::images::{SMALL, ZERO, planned as planned_change};
 use super::rename::planned;
-use crate::tests::headers::TABLE_0;
 use std::alloc::Global;
 use std::test::Fail;
 use ubi_change::{ChangeRefusal, RenameRefusal, Step};
 use ubi_media::{VidHeader, write_ec, write_vid};
+use ubi_probe::headers::TABLE_0;
 
 /// The first bytes of the record of the volume `root`, and its check; and the check of the empty record.
 const ROOT: [u8; 20] = *b"\0\0\0\x14\0\0\0\x01\0\0\0\0\x01\0\0\x04root";

@@ -1,17 +1,17 @@
 //! Renames of a volume.
 
 use super::images::{
-    A, B, C, Data, ERASED, Ec, FIRST, FREE, INSIDE, LARGE, LARGE_SHARED, LAST, NEW, NEW_FIRST,
-    NEW_SECOND, NEXT_TO_LAST, ODD, ONE_PAGE, Peb, SECOND, SHARED, SMALL, Sizes, ZERO, attached,
-    image_of,
+    A, B, C, Data, EIGHT, ERASED, Ec, FIRST, FREE, INSIDE, LARGE, LARGE_SHARED, LAST, NEW,
+    NEW_FIRST, NEW_SECOND, NEXT_TO_LAST, ODD, ONE_PAGE, Peb, SECOND, SHARED, SMALL, Sizes, WORN,
+    ZERO, attached, image_of,
 };
-use crate::tests::headers::{LEB_2, TABLE_0, TABLE_1};
-use crate::tests::records::{ROOT, Slot};
 use std::alloc::{AllocError, Global};
 use std::process::Abort;
 use std::test::Fail;
 use ubi_change::{RenameRefusal, Step, apply, plan_rename, step_fits};
-use ubi_media::{EcHeader, Geometry, Refusal, VidHeader, VolumeRecord};
+use ubi_media::{Geometry, Refusal, VidHeader, VolumeRecord};
+use ubi_probe::headers::{LEB_2, TABLE_0, TABLE_1};
+use ubi_probe::records::{ROOT, Slot};
 use ubi_volume::{Attached, Volume};
 
 /// What a rename is answered. It has no contract, so that a proof of a caller is spared that of `plan_rename`.
@@ -99,42 +99,14 @@ const BASE: Case = Case {
 const PADDED: Peb = Peb(Ec::Padded(ZERO), None, Data::Filled(0xFF, 0));
 
 /// Copy 0 in an eraseblock that can't count another erase, and in the only one that names the image.
-const WORN_FIRST: Peb = Peb(
-    Ec::Is(EcHeader {
-        counter: 0x7FFF_FFFF,
-        ..ZERO
-    }),
-    Some(TABLE_0),
-    Data::Table(ROOT),
-);
+const WORN_FIRST: Peb = Peb(Ec::Is(WORN), Some(TABLE_0), Data::Table(ROOT));
 
-const CARRIER_FIRST: Peb = Peb(
-    Ec::Is(EcHeader {
-        image_seq: 8,
-        ..NEW
-    }),
-    Some(TABLE_0),
-    Data::Table(ROOT),
-);
+const CARRIER_FIRST: Peb = Peb(Ec::Is(EIGHT), Some(TABLE_0), Data::Table(ROOT));
 
 /// Copy 1 in such eraseblocks.
-const WORN_SECOND: Peb = Peb(
-    Ec::Is(EcHeader {
-        counter: 0x7FFF_FFFF,
-        ..ZERO
-    }),
-    Some(TABLE_1),
-    Data::Table(ROOT),
-);
+const WORN_SECOND: Peb = Peb(Ec::Is(WORN), Some(TABLE_1), Data::Table(ROOT));
 
-const CARRIER_SECOND: Peb = Peb(
-    Ec::Is(EcHeader {
-        image_seq: 8,
-        ..NEW
-    }),
-    Some(TABLE_1),
-    Data::Table(ROOT),
-);
+const CARRIER_SECOND: Peb = Peb(Ec::Is(EIGHT), Some(TABLE_1), Data::Table(ROOT));
 
 /// The record of another volume, of one reserved eraseblock.
 const DATA: Slot = Slot {
@@ -153,7 +125,7 @@ const SECOND_TWO: Peb = Peb(Ec::Is(ZERO), Some(TABLE_1), Data::Two(ROOT, DATA));
 const NEXT_TO_LATE: Peb = Peb(
     Ec::Is(ZERO),
     Some(VidHeader {
-        sqnum: 0xFFFF_FFFF_FFFF_FFFD,
+        sqnum: u64::MAX - 2,
         ..LEB_2
     }),
     Data::Filled(0x43, 384),
@@ -431,23 +403,9 @@ const SECOND_TWICE: Peb = Peb(Ec::Is(ZERO), Some(TABLE_1), Data::Two(ROOT, ROOT)
 const FIRST_TWICE: Peb = Peb(Ec::Is(ZERO), Some(TABLE_0), Data::Two(ROOT, ROOT));
 
 /// Free eraseblocks that can't be taken: one that can't count another erase, and the only one that names the image.
-const WORN_FREE: Peb = Peb(
-    Ec::Is(EcHeader {
-        counter: 0x7FFF_FFFF,
-        ..ZERO
-    }),
-    None,
-    Data::Filled(0xFF, 0),
-);
+const WORN_FREE: Peb = Peb(Ec::Is(WORN), None, Data::Filled(0xFF, 0));
 
-const CARRIER_FREE: Peb = Peb(
-    Ec::Is(EcHeader {
-        image_seq: 8,
-        ..NEW
-    }),
-    None,
-    Data::Filled(0xFF, 0),
-);
+const CARRIER_FREE: Peb = Peb(Ec::Is(EIGHT), None, Data::Filled(0xFF, 0));
 
 /// Why a rename of a volume to a name isn't planned. Of each two causes in their order both stand in some image.
 static REFUSED: [(&[Peb], u32, &[u8], RenameRefusal); 20] = [

@@ -1,50 +1,24 @@
 //! Changes of logical eraseblocks that have no winner.
 
 use super::images::{
-    A, B, C, COPY, Case, Change, Data, Ec, FIRST, FREE, ONE, Peb, SECOND, SMALL, Want, ZERO,
-    assert_changes,
+    A, B, BLANK_7, C, CHANGE_OF_1, COPY_OF_7, Case, Change, Data, Ec, FIRST, FREE, LEB_20, LEB_21,
+    ONE, Peb, SECOND, WORN, Want, ZERO, assert_changes,
 };
-use crate::tests::headers::PLAIN;
 use std::test::Fail;
-use ubi_media::{EcHeader, VidHeader};
+use ubi_media::EcHeader;
 use ubi_volume::BlockState;
-
-/// The header under which logical eraseblock 7 reads 0xFF.
-const BLANK_7: VidHeader = VidHeader {
-    lnum: 7,
-    sqnum: 1,
-    ..PLAIN
-};
-
-/// The header of its copy.
-const COPY_7: VidHeader = VidHeader {
-    lnum: 7,
-    sqnum: 2,
-    ..COPY
-};
 
 /// Three logical eraseblocks, and two free eraseblocks.
 const BASE: [Peb; 7] = [FIRST, SECOND, A, B, C, FREE, FREE];
 
 /// Members of logical eraseblocks that the volume doesn't reserve: one whose counter has one erase left, and another.
-const WORN_ORPHAN: Peb = Peb(
-    Ec::Is(EcHeader {
-        counter: 0x7FFF_FFFE,
-        ..ZERO
-    }),
-    Some(VidHeader { lnum: 20, ..PLAIN }),
-    Data::Filled(0x44, 384),
-);
+const WORN_ORPHAN: Peb = Peb(Ec::Is(NEARLY_WORN), Some(LEB_20), Data::Filled(0x44, 384));
 
-const ORPHAN: Peb = Peb(
-    Ec::Is(ZERO),
-    Some(VidHeader { lnum: 21, ..PLAIN }),
-    Data::Filled(0x44, 384),
-);
+const ORPHAN: Peb = Peb(Ec::Is(ZERO), Some(LEB_21), Data::Filled(0x44, 384));
 
-/// The last counter.
-const WORN: EcHeader = EcHeader {
-    counter: 0x7FFF_FFFF,
+/// The last counter but one.
+const NEARLY_WORN: EcHeader = EcHeader {
+    counter: 0x7FFF_FFFE,
     ..ZERO
 };
 
@@ -53,18 +27,16 @@ static CHANGES: [Change; 2] = [
     // A blank one is mapped first.
     Change {
         case: Case {
-            sizes: SMALL,
             pebs: &BASE,
             lnum: 7,
             old: (0xFF, 384),
             steps: &[
-                Want::Header(5, 1, BLANK_7),
-                Want::Header(6, 1, COPY_7),
-                Want::Text(6, 2, 0x61),
-                Want::Erase(5),
-                Want::Count(5, ONE),
+                Want::Copy(5, 1, BLANK_7, &[]),
+                Want::Copy(6, 1, COPY_OF_7, &[0x61]),
+                Want::Renew(5, ONE),
             ],
             turn: 3,
+            ..CHANGE_OF_1
         },
         new: &[(0x61, 64)],
         ends: (5, BlockState::Free),
@@ -72,20 +44,17 @@ static CHANGES: [Change; 2] = [
     // A blank one whose counter can't grow any more: it stays.
     Change {
         case: Case {
-            sizes: SMALL,
             pebs: &[FIRST, SECOND, A, B, C, WORN_ORPHAN, ORPHAN],
             lnum: 7,
             old: (0xFF, 384),
             steps: &[
-                Want::Erase(5),
-                Want::Count(5, WORN),
-                Want::Header(5, 1, BLANK_7),
-                Want::Erase(6),
-                Want::Count(6, ONE),
-                Want::Header(6, 1, COPY_7),
-                Want::Text(6, 2, 0x61),
+                Want::Renew(5, WORN),
+                Want::Copy(5, 1, BLANK_7, &[]),
+                Want::Renew(6, ONE),
+                Want::Copy(6, 1, COPY_OF_7, &[0x61]),
             ],
             turn: 7,
+            ..CHANGE_OF_1
         },
         new: &[(0x61, 64)],
         ends: (5, BlockState::Stale),

@@ -1,10 +1,11 @@
 //! Composing and normalising.
 
-use super::images::{Image, NAMED_EC, small};
+use super::images::{Image, small};
 use std::alloc::{AllocError, Global};
 use std::test::Fail;
 use ubi_compose::{ComposeError, compose, normalise};
 use ubi_media::{AttachError, Geometry, Refusal};
+use ubi_probe::header_bytes::NAMED_EC;
 use ubi_volume::{Meaning, attach};
 
 /// An image, and its normal image.

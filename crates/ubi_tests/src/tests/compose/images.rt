@@ -2,7 +2,11 @@
 
 use std::alloc::{AllocError, Global};
 use std::test::Fail;
-use ubi_media::Geometry;
+use ubi_media::{Geometry, VidHeader, VolKind};
+use ubi_probe::headers::{LEB_1, LEB_2, PIECE_0, PIECE_1, PLAIN, TABLE_0, TABLE_1};
+use ubi_probe::records::{BOOT, EMPTY, ROOT, Slot};
+use ubi_probe::sealed::{SealedEc, SealedVid};
+use ubi_probe::texts::put_runs;
 
 /// An image of the small geometry.
 #[derive(Clone, Copy)]
@@ -36,16 +40,42 @@ pub enum Image {
 }
 
 impl Image {
-    /// Its bytes, which each stand so many times.
-    fn runs(&self) -> &'static [(&'static [u8], usize)] {
+    /// How many bytes 0xFF it is, where it is nothing else.
+    fn blank(&self) -> usize {
         match self {
-            Image::Blank => &BLANK,
-            Image::BlankBlock => &BLANK_BLOCK,
-            Image::Odd => &ODD,
-            Image::Nothing => &[],
+            Image::Blank => 1536,
+            Image::BlankBlock => 512,
+            Image::Odd => 511,
+            _ => 0,
+        }
+    }
+
+    /// The erase-counter header of one of its eraseblocks.
+    fn ec(&self, pnum: usize) -> SealedEc {
+        match self {
+            Image::NormalRoot
+            | Image::WiderRoot
+            | Image::ShorterRoot
+            | Image::OtherRoot
+            | Image::TurnedRoot => NAMED,
+            Image::UsedRoot => {
+                let (counter, check) = USED.get(pnum).copied().unwrap_or((0, 0));
+                SealedEc {
+                    counter,
+                    check,
+                    ..NAMED
+                }
+            }
+            _ => UNNAMED,
+        }
+    }
+
+    /// Its eraseblocks.
+    fn pebs(&self) -> &'static [Peb] {
+        match self {
+            Image::Blank | Image::BlankBlock | Image::Odd | Image::Nothing => &[],
             Image::NormalTable => &NORMAL_TABLE,
-            Image::NormalRoot => &NORMAL_ROOT,
-            Image::UnnamedRoot => &UNNAMED_ROOT,
+            Image::NormalRoot | Image::UnnamedRoot => &NORMAL_ROOT,
             Image::WiderRoot => &WIDER_ROOT,
             Image::ShorterRoot => &SHORTER_ROOT,
             Image::OtherRoot => &OTHER_ROOT,
@@ -61,18 +91,22 @@ impl Image {
 
     /// Its bytes.
     pub fn bytes(&self, alloc: Global) -> Result<Vec<u8>, AllocError> {
-        bytes_of(alloc, self.runs())
+        let mut bytes = Vec::from_elem(alloc, 0xFF, self.blank())?;
+        for (pnum, Peb(vid, data)) in self.pebs().iter().enumerate() {
+            let end = bytes.len().saturating_add(512);
+            bytes.extend_from_slice(&self.ec(pnum).bytes())?;
+            bytes.extend_from_slice(&vid.bytes())?;
+            data.put(&mut bytes)?;
+            bytes.resize(end, 0xFF)?;
+        }
+        Ok(bytes)
     }
 }
 
 /// Bytes that each stand so many times.
 pub fn bytes_of(alloc: Global, runs: &[(&[u8], usize)]) -> Result<Vec<u8>, AllocError> {
     let mut bytes = Vec::new(alloc);
-    for (run, count) in runs {
-        for _ in 0..*count {
-            bytes.extend_from_slice(run)?;
-        }
-    }
+    put_runs(&mut bytes, runs)?;
     Ok(bytes)
 }
 
@@ -81,452 +115,224 @@ pub fn small() -> Result<Geometry, Fail> {
     Ok(Geometry::new(512, 64, 64, 128, 32)?)
 }
 
-/// An erase-counter header of the small geometry, with counter 0 and no image.
-const EC: [u8; 64] = *b"UBI#\x01\0\0\0\
-    \0\0\0\0\0\0\0\0\0\0\0\x40\0\0\0\x80\0\0\0\0\
-    \0\0\0\0\0\0\0\0\0\0\0\0\0\0\0\0\0\0\0\0\0\0\0\0\0\0\0\0\0\0\0\0\x77\x52\xb3\xc4";
+/// The data of an eraseblock, with 0xFF behind them.
+#[derive(Clone, Copy)]
+enum Data {
+    /// A table: a record in slot 0, and none in slot 1.
+    Table(Slot),
+    /// Bytes that each stand so many times.
+    Runs(&'static [(&'static [u8], usize)]),
+}
 
-/// The same in the image 0x12345678.
-pub const NAMED_EC: [u8; 64] = *b"UBI#\x01\0\0\0\
-    \0\0\0\0\0\0\0\0\0\0\0\x40\0\0\0\x80\x12\x34\x56\x78\
-    \0\0\0\0\0\0\0\0\0\0\0\0\0\0\0\0\0\0\0\0\0\0\0\0\0\0\0\0\0\0\0\0\x5b\x73\xf9\x13";
+impl Data {
+    /// Adds its bytes.
+    fn put(&self, bytes: &mut Vec<u8>) -> Result<(), AllocError> {
+        match self {
+            Data::Table(slot) => {
+                bytes.extend_from_slice(&slot.bytes())?;
+                bytes.extend_from_slice(&EMPTY.bytes())
+            }
+            Data::Runs(runs) => put_runs(bytes, runs),
+        }
+    }
+}
+
+/// An eraseblock, but for its erase-counter header.
+#[derive(Clone, Copy)]
+struct Peb(SealedVid, Data);
+
+/// The erase-counter header with counter 0 of no image, and of the image 0x12345678.
+const UNNAMED: SealedEc = SealedEc {
+    counter: 0,
+    image_seq: 0,
+    check: 0x7752_B3C4,
+};
+
+const NAMED: SealedEc = SealedEc {
+    image_seq: 0x1234_5678,
+    check: 0x5B73_F913,
+    ..UNNAMED
+};
+
+/// The erase counters of the used image, each with the check of its header.
+static USED: [(u32, u32); 6] = [
+    (10, 0xDBC8_FE6D),
+    (11, 0x785E_D621),
+    (12, 0xA45E_0347),
+    (13, 0x07C8_2B0B),
+    (14, 0x3803_559E),
+    (15, 0x9B95_7DD2),
+];
 
 /// The headers of the two copies of the volume table.
-pub const TABLE_0: [u8; 64] = *b"UBI!\x01\x01\0\x05\
-    \x7f\xff\xef\xff\0\0\0\0\0\0\0\0\0\0\0\0\0\0\0\0\0\0\0\0\0\0\0\0\0\0\0\0\
-    \0\0\0\0\0\0\0\0\0\0\0\0\0\0\0\0\0\0\0\0\xb8\x25\x64\xa8";
+const COPY_0: SealedVid = SealedVid(TABLE_0, 0xB825_64A8);
 
-pub const TABLE_1: [u8; 64] = *b"UBI!\x01\x01\0\x05\
-    \x7f\xff\xef\xff\0\0\0\x01\0\0\0\0\0\0\0\0\0\0\0\0\0\0\0\0\0\0\0\0\0\0\0\0\
-    \0\0\0\0\0\0\0\0\0\0\0\0\0\0\0\0\0\0\0\0\x1b\xb3\x4c\xe4";
+const COPY_1: SealedVid = SealedVid(TABLE_1, 0x1BB3_4CE4);
 
-/// The headers of the logical eraseblocks 0, 1 and 2 of the dynamic volume 0.
-const LEB_0: [u8; 64] = *b"UBI!\x01\x01\0\0\
-    \0\0\0\0\0\0\0\0\0\0\0\0\0\0\0\0\0\0\0\0\0\0\0\0\0\0\0\0\0\0\0\0\
-    \0\0\0\0\0\0\0\0\0\0\0\0\0\0\0\0\0\0\0\0\x73\xb1\xab\x57";
+/// The two copies of a table with the volume `root`, its logical eraseblocks 0, 1 and 2, and the last one with another byte at
+/// the end.
+const FIRST: Peb = Peb(COPY_0, Data::Table(ROOT));
 
-pub const LEB_1: [u8; 64] = *b"UBI!\x01\x01\0\0\
-    \0\0\0\0\0\0\0\x01\0\0\0\0\0\0\0\0\0\0\0\0\0\0\0\0\0\0\0\0\0\0\0\0\
-    \0\0\0\0\0\0\0\0\0\0\0\0\0\0\0\0\0\0\0\0\xd0\x27\x83\x1b";
+const SECOND: Peb = Peb(COPY_1, Data::Table(ROOT));
 
-const LEB_2: [u8; 64] = *b"UBI!\x01\x01\0\0\
-    \0\0\0\0\0\0\0\x02\0\0\0\0\0\0\0\0\0\0\0\0\0\0\0\0\0\0\0\0\0\0\0\0\
-    \0\0\0\0\0\0\0\0\0\0\0\0\0\0\0\0\0\0\0\0\xef\xec\xfd\x8e";
+const A: Peb = Peb(SealedVid(PLAIN, 0x73B1_AB57), Data::Runs(&[(b"A", 384)]));
 
-/// The header of the one eraseblock of the damaged volume 0: one byte, whose check isn't 0.
-const DAMAGED: [u8; 64] = *b"UBI!\x01\x02\0\0\
-    \0\0\0\0\0\0\0\0\0\0\0\0\0\0\0\x01\0\0\0\x01\0\0\0\0\0\0\0\0\0\0\0\0\
-    \0\0\0\0\0\0\0\0\0\0\0\0\0\0\0\0\0\0\0\0\xa3\xb7\xf9\x8b";
+const B: Peb = Peb(SealedVid(LEB_1, 0xD027_831B), Data::Runs(&[(b"B", 384)]));
 
-/// The headers of the two logical eraseblocks of the static volume 0, of 384 bytes 0x41 and a byte 0xFF.
-const PIECE_0: [u8; 64] = *b"UBI!\x01\x02\0\0\
-    \0\0\0\0\0\0\0\0\0\0\0\0\0\0\x01\x80\0\0\0\x02\0\0\0\0\xd6\xfb\x30\x26\0\0\0\0\
-    \0\0\0\0\0\0\0\0\0\0\0\0\0\0\0\0\0\0\0\0\xaa\xd6\x69\x2c";
+const C: Peb = Peb(SealedVid(LEB_2, 0xEFEC_FD8E), Data::Runs(&[(b"C", 384)]));
 
-const PIECE_1: [u8; 64] = *b"UBI!\x01\x02\0\0\
-    \0\0\0\0\0\0\0\x01\0\0\0\0\0\0\0\x01\0\0\0\x02\0\0\0\0\0\xff\xff\xff\0\0\0\0\
-    \0\0\0\0\0\0\0\0\0\0\0\0\0\0\0\0\0\0\0\0\xb7\x7e\x48\xcf";
+const OTHER_C: Peb = Peb(
+    SealedVid(LEB_2, 0xEFEC_FD8E),
+    Data::Runs(&[(b"C", 383), (b"D", 1)]),
+);
 
-/// The header of a copy of the first one, with sequence number 1.
-const COPY: [u8; 64] = *b"UBI!\x01\x02\x01\0\
-    \0\0\0\0\0\0\0\0\0\0\0\0\0\0\x01\x80\0\0\0\x02\0\0\0\0\xd6\xfb\x30\x26\0\0\0\0\
-    \0\0\0\0\0\0\0\x01\0\0\0\0\0\0\0\0\0\0\0\0\x76\xe5\x19\x1f";
+/// The two copies of a table with the volume `boot`.
+const FIRST_BOOT: Peb = Peb(COPY_0, Data::Table(BOOT));
 
-/// The headers of the volume `root` in an image of another order: with erase counters from 10 on, and sequence numbers.
-const USED_EC_0: [u8; 64] = *b"UBI#\x01\0\0\0\
-    \0\0\0\0\0\0\0\x0a\0\0\0\x40\0\0\0\x80\x12\x34\x56\x78\0\0\0\0\0\0\0\0\
-    \0\0\0\0\0\0\0\0\0\0\0\0\0\0\0\0\0\0\0\0\0\0\0\0\xdb\xc8\xfe\x6d";
+const SECOND_BOOT: Peb = Peb(COPY_1, Data::Table(BOOT));
 
-const USED_VID_0: [u8; 64] = *b"UBI!\x01\x01\0\0\
-    \0\0\0\0\0\0\0\x02\0\0\0\0\0\0\0\0\0\0\0\0\0\0\0\0\0\0\0\0\
-    \0\0\0\0\0\0\0\0\0\0\0\0\0\0\0\0\0\0\0\0\0\0\0\0\xef\xec\xfd\x8e";
+/// The volume `root` with 21 reserved eraseblocks.
+const WIDER: Slot = Slot {
+    reserved: 21,
+    check: 0x60C7_2F21,
+    ..ROOT
+};
 
-const USED_EC_1: [u8; 64] = *b"UBI#\x01\0\0\0\
-    \0\0\0\0\0\0\0\x0b\0\0\0\x40\0\0\0\x80\x12\x34\x56\x78\0\0\0\0\0\0\0\0\
-    \0\0\0\0\0\0\0\0\0\0\0\0\0\0\0\0\0\0\0\0\0\0\0\0\x78\x5e\xd6\x21";
+/// The header of the one logical eraseblock of the static volume `boot` that holds the text `ab`.
+const TEXT: VidHeader = VidHeader {
+    kind: VolKind::Static,
+    data_size: 2,
+    used_ebs: 1,
+    data_crc: 0x617C_B792,
+    ..PLAIN
+};
 
-const USED_VID_1: [u8; 64] = *b"UBI!\x01\x01\0\0\
-    \0\0\0\0\0\0\0\x01\0\0\0\0\0\0\0\0\0\0\0\0\0\0\0\0\0\0\0\0\
-    \0\0\0\0\0\0\0\0\0\0\0\x07\0\0\0\0\0\0\0\0\0\0\0\0\xad\x54\x85\x43";
-
-const USED_EC_2: [u8; 64] = *b"UBI#\x01\0\0\0\
-    \0\0\0\0\0\0\0\x0c\0\0\0\x40\0\0\0\x80\x12\x34\x56\x78\0\0\0\0\0\0\0\0\
-    \0\0\0\0\0\0\0\0\0\0\0\0\0\0\0\0\0\0\0\0\0\0\0\0\xa4\x5e\x03\x47";
-
-const USED_VID_2: [u8; 64] = *b"UBI!\x01\x01\0\0\
-    \0\0\0\0\0\0\0\0\0\0\0\0\0\0\0\0\0\0\0\0\0\0\0\0\0\0\0\0\
-    \0\0\0\0\0\0\0\0\0\0\0\x0e\0\0\0\0\0\0\0\0\0\0\0\0\x89\x57\xa7\xe7";
-
-const USED_EC_3: [u8; 64] = *b"UBI#\x01\0\0\0\
-    \0\0\0\0\0\0\0\x0d\0\0\0\x40\0\0\0\x80\x12\x34\x56\x78\0\0\0\0\0\0\0\0\
-    \0\0\0\0\0\0\0\0\0\0\0\0\0\0\0\0\0\0\0\0\0\0\0\0\x07\xc8\x2b\x0b";
-
-const USED_VID_3: [u8; 64] = *b"UBI!\x01\x01\0\x05\
-    \x7f\xff\xef\xff\0\0\0\x01\0\0\0\0\0\0\0\0\0\0\0\0\0\0\0\0\0\0\0\0\
-    \0\0\0\0\0\0\0\0\0\0\0\x15\0\0\0\0\0\0\0\0\0\0\0\0\xb2\x9b\x59\x2d";
-
-const USED_EC_4: [u8; 64] = *b"UBI#\x01\0\0\0\
-    \0\0\0\0\0\0\0\x0e\0\0\0\x40\0\0\0\x80\x12\x34\x56\x78\0\0\0\0\0\0\0\0\
-    \0\0\0\0\0\0\0\0\0\0\0\0\0\0\0\0\0\0\0\0\0\0\0\0\x38\x03\x55\x9e";
-
-const USED_VID_4: [u8; 64] = *b"UBI!\x01\x01\0\x05\
-    \x7f\xff\xef\xff\0\0\0\0\0\0\0\0\0\0\0\0\0\0\0\0\0\0\0\0\0\0\0\0\
-    \0\0\0\0\0\0\0\0\0\0\0\x1c\0\0\0\0\0\0\0\0\0\0\0\0\x96\x98\x7b\x89";
-
-const USED_EC_5: [u8; 64] = *b"UBI#\x01\0\0\0\
-    \0\0\0\0\0\0\0\x0f\0\0\0\x40\0\0\0\x80\x12\x34\x56\x78\0\0\0\0\0\0\0\0\
-    \0\0\0\0\0\0\0\0\0\0\0\0\0\0\0\0\0\0\0\0\0\0\0\0\x9b\x95\x7d\xd2";
-
-const USED_VID_5: [u8; 64] = *b"UBI!\x01\x01\0\0\
-    \0\0\0\0\0\0\0\x03\0\0\0\0\0\0\0\0\0\0\0\0\0\0\0\0\0\0\0\0\
-    \0\0\0\0\0\0\0\0\0\0\0\x23\0\0\0\0\0\0\0\0\0\0\0\0\x42\xce\xf2\xf9";
-
-/// Those of the one logical eraseblock of a static volume: of the bytes `ab`, and of these and a byte 0xFF.
-const TEXT_AB: [u8; 64] = *b"UBI!\x01\x02\0\0\
-    \0\0\0\0\0\0\0\0\0\0\0\0\0\0\0\x02\0\0\0\x01\0\0\0\0\x61\x7c\xb7\x92\
-    \0\0\0\0\0\0\0\0\0\0\0\0\0\0\0\0\0\0\0\0\0\0\0\0\x8a\x84\x5c\x5b";
-
-const TEXT_AB_FF: [u8; 64] = *b"UBI!\x01\x02\0\0\
-    \0\0\0\0\0\0\0\0\0\0\0\0\0\0\0\x03\0\0\0\x01\0\0\0\0\x33\x62\x61\x52\
-    \0\0\0\0\0\0\0\0\0\0\0\0\0\0\0\0\0\0\0\0\0\0\0\0\x4a\x04\x84\x51";
-
-static BLANK: [(&[u8], usize); 1] = [(b"\xFF", 1536)];
-
-static BLANK_BLOCK: [(&[u8], usize); 1] = [(b"\xFF", 512)];
-
-static ODD: [(&[u8], usize); 1] = [(b"\xFF", 511)];
-
-static NORMAL_TABLE: [(&[u8], usize); 14] = [
-    (&EC, 1),
-    (&TABLE_0, 1),
-    (b"\0", 168),
-    (b"\xF1\x16\xC3\x6B", 1),
-    (b"\0", 168),
-    (b"\xF1\x16\xC3\x6B", 1),
-    (b"\xFF", 40),
-    (&EC, 1),
-    (&TABLE_1, 1),
-    (b"\0", 168),
-    (b"\xF1\x16\xC3\x6B", 1),
-    (b"\0", 168),
-    (b"\xF1\x16\xC3\x6B", 1),
-    (b"\xFF", 40),
+static NORMAL_TABLE: [Peb; 2] = [
+    Peb(COPY_0, Data::Table(EMPTY)),
+    Peb(COPY_1, Data::Table(EMPTY)),
 ];
 
-static NORMAL_ROOT: [(&[u8], usize); 25] = [
-    (&NAMED_EC, 1),
-    (&TABLE_0, 1),
-    (b"\0\0\0\x14\0\0\0\x01\0\0\0\0\x01\0\0\x04root", 1),
-    (b"\0", 148),
-    (b"\x71\xDF\xB1\x1D", 1),
-    (b"\0", 168),
-    (b"\xF1\x16\xC3\x6B", 1),
-    (b"\xFF", 40),
-    (&NAMED_EC, 1),
-    (&TABLE_1, 1),
-    (b"\0\0\0\x14\0\0\0\x01\0\0\0\0\x01\0\0\x04root", 1),
-    (b"\0", 148),
-    (b"\x71\xDF\xB1\x1D", 1),
-    (b"\0", 168),
-    (b"\xF1\x16\xC3\x6B", 1),
-    (b"\xFF", 40),
-    (&NAMED_EC, 1),
-    (&LEB_0, 1),
-    (b"A", 384),
-    (&NAMED_EC, 1),
-    (&LEB_1, 1),
-    (b"B", 384),
-    (&NAMED_EC, 1),
-    (&LEB_2, 1),
-    (b"C", 384),
+static NORMAL_ROOT: [Peb; 5] = [FIRST, SECOND, A, B, C];
+
+static WIDER_ROOT: [Peb; 5] = [
+    Peb(COPY_0, Data::Table(WIDER)),
+    Peb(COPY_1, Data::Table(WIDER)),
+    A,
+    B,
+    C,
 ];
 
-static UNNAMED_ROOT: [(&[u8], usize); 25] = [
-    (&EC, 1),
-    (&TABLE_0, 1),
-    (b"\0\0\0\x14\0\0\0\x01\0\0\0\0\x01\0\0\x04root", 1),
-    (b"\0", 148),
-    (b"\x71\xDF\xB1\x1D", 1),
-    (b"\0", 168),
-    (b"\xF1\x16\xC3\x6B", 1),
-    (b"\xFF", 40),
-    (&EC, 1),
-    (&TABLE_1, 1),
-    (b"\0\0\0\x14\0\0\0\x01\0\0\0\0\x01\0\0\x04root", 1),
-    (b"\0", 148),
-    (b"\x71\xDF\xB1\x1D", 1),
-    (b"\0", 168),
-    (b"\xF1\x16\xC3\x6B", 1),
-    (b"\xFF", 40),
-    (&EC, 1),
-    (&LEB_0, 1),
-    (b"A", 384),
-    (&EC, 1),
-    (&LEB_1, 1),
-    (b"B", 384),
-    (&EC, 1),
-    (&LEB_2, 1),
-    (b"C", 384),
+static SHORTER_ROOT: [Peb; 4] = [FIRST, SECOND, A, B];
+
+static OTHER_ROOT: [Peb; 5] = [FIRST, SECOND, A, B, OTHER_C];
+
+static TURNED_ROOT: [Peb; 5] = [C, B, A, SECOND, FIRST];
+
+/// With sequence numbers, and a logical eraseblock behind that is blank throughout.
+static USED_ROOT: [Peb; 6] = [
+    C,
+    Peb(
+        SealedVid(VidHeader { sqnum: 7, ..LEB_1 }, 0xAD54_8543),
+        Data::Runs(&[(b"B", 384)]),
+    ),
+    Peb(
+        SealedVid(VidHeader { sqnum: 14, ..PLAIN }, 0x8957_A7E7),
+        Data::Runs(&[(b"A", 384)]),
+    ),
+    Peb(
+        SealedVid(
+            VidHeader {
+                sqnum: 21,
+                ..TABLE_1
+            },
+            0xB29B_592D,
+        ),
+        Data::Table(ROOT),
+    ),
+    Peb(
+        SealedVid(
+            VidHeader {
+                sqnum: 28,
+                ..TABLE_0
+            },
+            0x9698_7B89,
+        ),
+        Data::Table(ROOT),
+    ),
+    Peb(
+        SealedVid(
+            VidHeader {
+                lnum: 3,
+                sqnum: 35,
+                ..PLAIN
+            },
+            0x42CE_F2F9,
+        ),
+        Data::Runs(&[]),
+    ),
 ];
 
-static WIDER_ROOT: [(&[u8], usize); 25] = [
-    (&NAMED_EC, 1),
-    (&TABLE_0, 1),
-    (b"\0\0\0\x15\0\0\0\x01\0\0\0\0\x01\0\0\x04root", 1),
-    (b"\0", 148),
-    (b"\x60\xC7\x2F\x21", 1),
-    (b"\0", 168),
-    (b"\xF1\x16\xC3\x6B", 1),
-    (b"\xFF", 40),
-    (&NAMED_EC, 1),
-    (&TABLE_1, 1),
-    (b"\0\0\0\x15\0\0\0\x01\0\0\0\0\x01\0\0\x04root", 1),
-    (b"\0", 148),
-    (b"\x60\xC7\x2F\x21", 1),
-    (b"\0", 168),
-    (b"\xF1\x16\xC3\x6B", 1),
-    (b"\xFF", 40),
-    (&NAMED_EC, 1),
-    (&LEB_0, 1),
-    (b"A", 384),
-    (&NAMED_EC, 1),
-    (&LEB_1, 1),
-    (b"B", 384),
-    (&NAMED_EC, 1),
-    (&LEB_2, 1),
-    (b"C", 384),
+static NORMAL_TEXT: [Peb; 3] = [
+    FIRST_BOOT,
+    SECOND_BOOT,
+    Peb(SealedVid(TEXT, 0x8A84_5C5B), Data::Runs(&[(b"ab", 1)])),
 ];
 
-static SHORTER_ROOT: [(&[u8], usize); 22] = [
-    (&NAMED_EC, 1),
-    (&TABLE_0, 1),
-    (b"\0\0\0\x14\0\0\0\x01\0\0\0\0\x01\0\0\x04root", 1),
-    (b"\0", 148),
-    (b"\x71\xDF\xB1\x1D", 1),
-    (b"\0", 168),
-    (b"\xF1\x16\xC3\x6B", 1),
-    (b"\xFF", 40),
-    (&NAMED_EC, 1),
-    (&TABLE_1, 1),
-    (b"\0\0\0\x14\0\0\0\x01\0\0\0\0\x01\0\0\x04root", 1),
-    (b"\0", 148),
-    (b"\x71\xDF\xB1\x1D", 1),
-    (b"\0", 168),
-    (b"\xF1\x16\xC3\x6B", 1),
-    (b"\xFF", 40),
-    (&NAMED_EC, 1),
-    (&LEB_0, 1),
-    (b"A", 384),
-    (&NAMED_EC, 1),
-    (&LEB_1, 1),
-    (b"B", 384),
+/// That of the text and a byte 0xFF.
+static NORMAL_LONGER_TEXT: [Peb; 3] = [
+    FIRST_BOOT,
+    SECOND_BOOT,
+    Peb(
+        SealedVid(
+            VidHeader {
+                data_size: 3,
+                data_crc: 0x3362_6152,
+                ..TEXT
+            },
+            0x4A04_8451,
+        ),
+        Data::Runs(&[(b"ab", 1)]),
+    ),
 ];
 
-static OTHER_ROOT: [(&[u8], usize); 26] = [
-    (&NAMED_EC, 1),
-    (&TABLE_0, 1),
-    (b"\0\0\0\x14\0\0\0\x01\0\0\0\0\x01\0\0\x04root", 1),
-    (b"\0", 148),
-    (b"\x71\xDF\xB1\x1D", 1),
-    (b"\0", 168),
-    (b"\xF1\x16\xC3\x6B", 1),
-    (b"\xFF", 40),
-    (&NAMED_EC, 1),
-    (&TABLE_1, 1),
-    (b"\0\0\0\x14\0\0\0\x01\0\0\0\0\x01\0\0\x04root", 1),
-    (b"\0", 148),
-    (b"\x71\xDF\xB1\x1D", 1),
-    (b"\0", 168),
-    (b"\xF1\x16\xC3\x6B", 1),
-    (b"\xFF", 40),
-    (&NAMED_EC, 1),
-    (&LEB_0, 1),
-    (b"A", 384),
-    (&NAMED_EC, 1),
-    (&LEB_1, 1),
-    (b"B", 384),
-    (&NAMED_EC, 1),
-    (&LEB_2, 1),
-    (b"C", 383),
-    (b"D", 1),
+/// That where the volume is damaged: one byte, whose check isn't 0.
+static NORMAL_DAMAGED: [Peb; 3] = [
+    FIRST_BOOT,
+    SECOND_BOOT,
+    Peb(
+        SealedVid(
+            VidHeader {
+                data_size: 1,
+                data_crc: 0,
+                ..TEXT
+            },
+            0xA3B7_F98B,
+        ),
+        Data::Runs(&[]),
+    ),
 ];
 
-static TURNED_ROOT: [(&[u8], usize); 25] = [
-    (&NAMED_EC, 1),
-    (&LEB_2, 1),
-    (b"C", 384),
-    (&NAMED_EC, 1),
-    (&LEB_1, 1),
-    (b"B", 384),
-    (&NAMED_EC, 1),
-    (&LEB_0, 1),
-    (b"A", 384),
-    (&NAMED_EC, 1),
-    (&TABLE_1, 1),
-    (b"\0\0\0\x14\0\0\0\x01\0\0\0\0\x01\0\0\x04root", 1),
-    (b"\0", 148),
-    (b"\x71\xDF\xB1\x1D", 1),
-    (b"\0", 168),
-    (b"\xF1\x16\xC3\x6B", 1),
-    (b"\xFF", 40),
-    (&NAMED_EC, 1),
-    (&TABLE_0, 1),
-    (b"\0\0\0\x14\0\0\0\x01\0\0\0\0\x01\0\0\x04root", 1),
-    (b"\0", 148),
-    (b"\x71\xDF\xB1\x1D", 1),
-    (b"\0", 168),
-    (b"\xF1\x16\xC3\x6B", 1),
-    (b"\xFF", 40),
-];
+/// The pieces of a text in two logical eraseblocks.
+const FIRST_PIECE: Peb = Peb(SealedVid(PIECE_0, 0xAAD6_692C), Data::Runs(&[(b"A", 384)]));
 
-static USED_ROOT: [(&[u8], usize); 28] = [
-    (&USED_EC_0, 1),
-    (&USED_VID_0, 1),
-    (b"C", 384),
-    (&USED_EC_1, 1),
-    (&USED_VID_1, 1),
-    (b"B", 384),
-    (&USED_EC_2, 1),
-    (&USED_VID_2, 1),
-    (b"A", 384),
-    (&USED_EC_3, 1),
-    (&USED_VID_3, 1),
-    (b"\0\0\0\x14\0\0\0\x01\0\0\0\0\x01\0\0\x04root", 1),
-    (b"\0", 148),
-    (b"\x71\xDF\xB1\x1D", 1),
-    (b"\0", 168),
-    (b"\xF1\x16\xC3\x6B", 1),
-    (b"\xFF", 40),
-    (&USED_EC_4, 1),
-    (&USED_VID_4, 1),
-    (b"\0\0\0\x14\0\0\0\x01\0\0\0\0\x01\0\0\x04root", 1),
-    (b"\0", 148),
-    (b"\x71\xDF\xB1\x1D", 1),
-    (b"\0", 168),
-    (b"\xF1\x16\xC3\x6B", 1),
-    (b"\xFF", 40),
-    (&USED_EC_5, 1),
-    (&USED_VID_5, 1),
-    (b"\xFF", 384),
-];
+const LAST_PIECE: Peb = Peb(SealedVid(PIECE_1, 0xB77E_48CF), Data::Runs(&[]));
 
-static NORMAL_TEXT: [(&[u8], usize); 20] = [
-    (&EC, 1),
-    (&TABLE_0, 1),
-    (b"\0\0\0\x03\0\0\0\x01\0\0\0\0\x02\0\0\x04boot", 1),
-    (b"\0", 148),
-    (b"\x5F\xAB\xAC\xF8", 1),
-    (b"\0", 168),
-    (b"\xF1\x16\xC3\x6B", 1),
-    (b"\xFF", 40),
-    (&EC, 1),
-    (&TABLE_1, 1),
-    (b"\0\0\0\x03\0\0\0\x01\0\0\0\0\x02\0\0\x04boot", 1),
-    (b"\0", 148),
-    (b"\x5F\xAB\xAC\xF8", 1),
-    (b"\0", 168),
-    (b"\xF1\x16\xC3\x6B", 1),
-    (b"\xFF", 40),
-    (&EC, 1),
-    (&TEXT_AB, 1),
-    (b"ab", 1),
-    (b"\xFF", 382),
-];
+static NORMAL_PIECES: [Peb; 4] = [FIRST_BOOT, SECOND_BOOT, FIRST_PIECE, LAST_PIECE];
 
-static NORMAL_LONGER_TEXT: [(&[u8], usize); 20] = [
-    (&EC, 1),
-    (&TABLE_0, 1),
-    (b"\0\0\0\x03\0\0\0\x01\0\0\0\0\x02\0\0\x04boot", 1),
-    (b"\0", 148),
-    (b"\x5F\xAB\xAC\xF8", 1),
-    (b"\0", 168),
-    (b"\xF1\x16\xC3\x6B", 1),
-    (b"\xFF", 40),
-    (&EC, 1),
-    (&TABLE_1, 1),
-    (b"\0\0\0\x03\0\0\0\x01\0\0\0\0\x02\0\0\x04boot", 1),
-    (b"\0", 148),
-    (b"\x5F\xAB\xAC\xF8", 1),
-    (b"\0", 168),
-    (b"\xF1\x16\xC3\x6B", 1),
-    (b"\xFF", 40),
-    (&EC, 1),
-    (&TEXT_AB_FF, 1),
-    (b"ab", 1),
-    (b"\xFF", 382),
-];
-
-static NORMAL_DAMAGED: [(&[u8], usize); 19] = [
-    (&EC, 1),
-    (&TABLE_0, 1),
-    (b"\0\0\0\x03\0\0\0\x01\0\0\0\0\x02\0\0\x04boot", 1),
-    (b"\0", 148),
-    (b"\x5F\xAB\xAC\xF8", 1),
-    (b"\0", 168),
-    (b"\xF1\x16\xC3\x6B", 1),
-    (b"\xFF", 40),
-    (&EC, 1),
-    (&TABLE_1, 1),
-    (b"\0\0\0\x03\0\0\0\x01\0\0\0\0\x02\0\0\x04boot", 1),
-    (b"\0", 148),
-    (b"\x5F\xAB\xAC\xF8", 1),
-    (b"\0", 168),
-    (b"\xF1\x16\xC3\x6B", 1),
-    (b"\xFF", 40),
-    (&EC, 1),
-    (&DAMAGED, 1),
-    (b"\xFF", 384),
-];
-
-static NORMAL_PIECES: [(&[u8], usize); 22] = [
-    (&EC, 1),
-    (&TABLE_0, 1),
-    (b"\0\0\0\x03\0\0\0\x01\0\0\0\0\x02\0\0\x04boot", 1),
-    (b"\0", 148),
-    (b"\x5F\xAB\xAC\xF8", 1),
-    (b"\0", 168),
-    (b"\xF1\x16\xC3\x6B", 1),
-    (b"\xFF", 40),
-    (&EC, 1),
-    (&TABLE_1, 1),
-    (b"\0\0\0\x03\0\0\0\x01\0\0\0\0\x02\0\0\x04boot", 1),
-    (b"\0", 148),
-    (b"\x5F\xAB\xAC\xF8", 1),
-    (b"\0", 168),
-    (b"\xF1\x16\xC3\x6B", 1),
-    (b"\xFF", 40),
-    (&EC, 1),
-    (&PIECE_0, 1),
-    (b"A", 384),
-    (&EC, 1),
-    (&PIECE_1, 1),
-    (b"\xFF", 384),
-];
-
-static COPIED_PIECES: [(&[u8], usize); 25] = [
-    (&EC, 1),
-    (&TABLE_0, 1),
-    (b"\0\0\0\x03\0\0\0\x01\0\0\0\0\x02\0\0\x04boot", 1),
-    (b"\0", 148),
-    (b"\x5F\xAB\xAC\xF8", 1),
-    (b"\0", 168),
-    (b"\xF1\x16\xC3\x6B", 1),
-    (b"\xFF", 40),
-    (&EC, 1),
-    (&TABLE_1, 1),
-    (b"\0\0\0\x03\0\0\0\x01\0\0\0\0\x02\0\0\x04boot", 1),
-    (b"\0", 148),
-    (b"\x5F\xAB\xAC\xF8", 1),
-    (b"\0", 168),
-    (b"\xF1\x16\xC3\x6B", 1),
-    (b"\xFF", 40),
-    (&EC, 1),
-    (&COPY, 1),
-    (b"A", 384),
-    (&EC, 1),
-    (&PIECE_0, 1),
-    (b"A", 384),
-    (&EC, 1),
-    (&PIECE_1, 1),
-    (b"\xFF", 384),
+static COPIED_PIECES: [Peb; 5] = [
+    FIRST_BOOT,
+    SECOND_BOOT,
+    Peb(
+        SealedVid(
+            VidHeader {
+                copy_flag: true,
+                sqnum: 1,
+                ..PIECE_0
+            },
+            0x76E5_191F,
+        ),
+        Data::Runs(&[(b"A", 384)]),
+    ),
+    FIRST_PIECE,
+    LAST_PIECE,
 ];

@@ -4,7 +4,7 @@ use super::images::small;
 use std::alloc::Global;
 use std::test::Fail;
 use ubi_compose::{BuildError, Part, Recipe, RecipeError, SpecError, build_to, parse_spec};
-use ubi_media::{VolKind, VolName, VolumeRecord};
+use ubi_probe::records::BOOT;
 use ubi_probe::{Failure, ProbeWriter};
 use ubi_scan::MemorySource;
 use ubi_volume::Content;
@@ -36,14 +36,7 @@ fn reads_all_or_runs_out_of_memory(rt: HostRuntime) -> Result<(), Fail> {
 
 /// Three bytes of a static volume, for the recipe of an image.
 fn boot() -> Result<Part, Fail> {
-    let entry = VolumeRecord {
-        reserved: 3,
-        alignment: 1,
-        kind: VolKind::Static,
-        marker: false,
-        name: VolName::new(b"boot").ok_or("no name")?,
-        flags: 0,
-    };
+    let entry = BOOT.volume().ok_or("no name")?;
     Ok(Part {
         id: 0,
         entry,

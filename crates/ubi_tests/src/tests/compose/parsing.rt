@@ -5,6 +5,7 @@ use std::alloc::Global;
 use std::test::Fail;
 use ubi_compose::{SpecCause, SpecError, compose, parse_spec};
 use ubi_media::{RecFault, VolKind, VolName, VolumeRecord};
+use ubi_probe::texts::ROOT_TEXT;
 use ubi_volume::{Bytes, Content, Lebs, Meaning, Volume};
 
 /// The number and the cause of the first line of a text at fault.
@@ -190,18 +191,7 @@ fn gives_the_volumes_of_a_text(rt: HostRuntime) -> Result<(), Fail> {
 
 /// A text, as bytes that each stand so many times, an image sequence number, and the image that it composes to.
 static COMPOSED: [(&[(&[u8], usize)], u32, Image); 2] = [
-    (
-        &[
-            (b"volume 0 dynamic 20 1 00 root\nleb 0 2 ", 1),
-            (b"43", 384),
-            (b"\nleb 0 0 ", 1),
-            (b"41", 384),
-            (b"\nleb 0 1 ", 1),
-            (b"42", 384),
-        ],
-        0x1234_5678,
-        Image::NormalRoot,
-    ),
+    (ROOT_TEXT, 0x1234_5678, Image::NormalRoot),
     (
         &[(b"volume 0 static 3 1 00 boot\ndamaged 0", 1)],
         0,

@@ -4,11 +4,7 @@ use std::test::Fail;
 use ubi_media::{
     EcFault, EcHeader, EcOffsets, EcRead, EcStart, Geometry, read_ec, read_start, write_ec,
 };
-
-/// A header with an image sequence number, its check worked out by another program.
-const BASE: [u8; 64] = *b"UBI#\x01\0\0\0\
-    \0\0\0\0\0\0\0\0\0\0\0\x40\0\0\0\x80\x12\x34\x56\x78\
-    \0\0\0\0\0\0\0\0\0\0\0\0\0\0\0\0\0\0\0\0\0\0\0\0\0\0\0\0\0\0\0\0\x5b\x73\xf9\x13";
+use ubi_probe::header_bytes::NAMED_EC;
 
 #[test]
 fn writes_and_reads_a_header(rt: HostRuntime) -> Result<(), Fail> {
@@ -17,15 +13,15 @@ fn writes_and_reads_a_header(rt: HostRuntime) -> Result<(), Fail> {
         counter: 0,
         image_seq: 0x1234_5678,
     };
-    assert!(rt; write_ec(&geometry, &header) == BASE);
-    assert!(rt; read_ec(&geometry, &BASE) == EcRead::Valid(header));
+    assert!(rt; write_ec(&geometry, &header) == NAMED_EC);
+    assert!(rt; read_ec(&geometry, &NAMED_EC) == EcRead::Valid(header));
     let other = Geometry::new(512, 64, 64, 192, 32)?;
-    assert!(rt; read_ec(&other, &BASE) == EcRead::Fault(EcFault::Offsets));
+    assert!(rt; read_ec(&other, &NAMED_EC) == EcRead::Fault(EcFault::Offsets));
     let offsets = EcOffsets {
         vid_offset: 64,
         data_offset: 128,
     };
-    assert!(rt; read_start(&BASE) == EcStart::Header(offsets));
+    assert!(rt; read_start(&NAMED_EC) == EcStart::Header(offsets));
     assert!(rt; read_start(&[0xFF; 64]) == EcStart::Blank);
     Ok(())
 }
@@ -36,7 +32,7 @@ fn reads_what_is_no_header(rt: HostRuntime) -> Result<(), Fail> {
     assert!(rt; read_ec(&geometry, &[0xFF; 64]) == EcRead::Blank);
     assert!(rt; read_ec(&geometry, &[0; 64]) == EcRead::Corrupt);
     for at in 0..64 {
-        let mut torn = BASE;
+        let mut torn = NAMED_EC;
         torn[at] ^= 0x10;
         assert!(rt; read_ec(&geometry, &torn) == EcRead::Corrupt, "at {at}");
         let mut nearly_blank = [0xFF; 64];

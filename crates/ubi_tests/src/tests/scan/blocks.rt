@@ -2,9 +2,9 @@
 
 use super::images::{geometry, image};
 use super::pebs::{COPIED_3, ERASED, TORN};
-use crate::tests::headers::COPY;
 use std::test::Fail;
 use ubi_media::{EcHeader, EcRead, Refusal, VidRead};
+use ubi_probe::headers::COPY;
 use ubi_scan::Blocks;
 
 /// How many bytes there are, and for what cause they are no image, if they aren't.

@@ -1,6 +1,6 @@
 //! Which member wins a logical eraseblock.
 
-use super::images::Said::{Beaten, Winner};
+use super::images::Said::{Beaten, Blank, Dropped, Winner};
 use super::images::{Case, Said, assert_found, found, holds, image};
 use super::pebs::{
     DROPPED_0, ERASED, ERASED_1, FIFTH_OF_1, FIRST_OF_2, LEB_0, LEB_1, LEB_2, NINTH_OF_0, OLD, Peb,
@@ -15,14 +15,7 @@ static SMALL: [Case; 5] = [
     Case {
         what: "a small image, and logical eraseblocks that it hasn't",
         pebs: &[TABLE_0, TABLE_1, LEB_0, LEB_1, LEB_2, DROPPED_0],
-        states: &[
-            Said::Winner,
-            Said::Winner,
-            Said::Winner,
-            Said::Winner,
-            Said::Winner,
-            Said::Dropped,
-        ],
+        states: &[Winner, Winner, Winner, Winner, Winner, Dropped],
         winners: &[
             (LAYOUT_VOLUME, 0, Some(0)),
             (LAYOUT_VOLUME, 1, Some(1)),
@@ -39,40 +32,28 @@ static SMALL: [Case; 5] = [
     Case {
         what: "a member without its counter",
         pebs: &[TABLE_0, TABLE_1, LEB_0, TORN_1, LEB_2],
-        states: &[
-            Said::Winner,
-            Said::Winner,
-            Said::Winner,
-            Said::Winner,
-            Said::Winner,
-        ],
+        states: &[Winner, Winner, Winner, Winner, Winner],
         winners: &[(0, 0, Some(2)), (0, 1, Some(3)), (0, 2, Some(4))],
         numbers: (0, 0x1234_5678, 0),
     },
     Case {
         what: "a member that is erased",
         pebs: &[TABLE_0, TABLE_1, LEB_0, ERASED_1, LEB_2],
-        states: &[
-            Said::Winner,
-            Said::Winner,
-            Said::Winner,
-            Said::Blank,
-            Said::Winner,
-        ],
+        states: &[Winner, Winner, Winner, Blank, Winner],
         winners: &[(0, 0, Some(2)), (0, 1, None), (0, 2, Some(4))],
         numbers: (0, 0x1234_5678, 0),
     },
     Case {
         what: "a member without its counter, alone",
         pebs: &[TORN_1],
-        states: &[Said::Winner],
+        states: &[Winner],
         winners: &[(0, 1, Some(0))],
         numbers: (0, 0, 0),
     },
     Case {
         what: "a member that is erased, alone",
         pebs: &[ERASED_1],
-        states: &[Said::Blank],
+        states: &[Blank],
         winners: &[(0, 1, None)],
         numbers: (0, 0, 0),
     },

@@ -1,9 +1,9 @@
 //! A scan that is refused memory.
 
 use super::images::{found, image};
-use crate::tests::headers::PLAIN;
 use std::test::Fail;
 use ubi_media::{AttachError, EcHeader, Geometry, GeometryError, VidHeader, write_ec, write_vid};
+use ubi_probe::headers::PLAIN;
 use ubi_scan::{Blocks, Scan, scan};
 
 /// So many members make each map and the list of states grow several times.

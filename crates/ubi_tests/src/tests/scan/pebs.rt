@@ -4,14 +4,9 @@
 //! They are constants: a proof takes those as they stand, and pays for each loop and each call of a test.
 
 use super::images::geometry;
-use crate::tests::headers::{COPY, INTERNAL, PLAIN, TABLE_0 as LAYOUT, WRONG_CHECK_OF_39};
 use ubi_media::{EcHeader, GeometryError, VidHeader, VolKind, write_ec, write_vid};
-
-/// An erase-counter header of version 2, with counter 0 and the image 0x12345678, its check worked out by another
-/// program.
-const VERSION_2: [u8; 64] = *b"UBI#\x02\0\0\0\
-    \0\0\0\0\0\0\0\0\0\0\0\x40\0\0\0\x80\x12\x34\x56\x78\
-    \0\0\0\0\0\0\0\0\0\0\0\0\0\0\0\0\0\0\0\0\0\0\0\0\0\0\0\0\0\0\0\0\x7d\xcc\xcd\x6a";
+use ubi_probe::header_bytes::VERSION_2;
+use ubi_probe::headers::{COPY, INTERNAL, PLAIN, TABLE_0 as LAYOUT, WRONG_CHECK_OF_39};
 
 /// A volume-identifier header of logical eraseblock 0 of volume 0 with sequence number 1 and copy flag 2, its check
 /// worked out by another program.

@@ -1,19 +1,13 @@
 //! Which table an image has, or why it has none.
 
-use super::images::{
-    A, B, BOOT, C, Case, KIND_3, MOST_A, MOST_B, Peb, holds, image, larger, small,
-};
-use crate::tests::records::{ALIGNMENT_0, EMPTY, FLIPPED, FULL, OVERFULL, ROOT, Slot};
+use super::images::{Case, Peb, holds, image, larger, small};
 use std::test::Fail;
 use ubi_media::{RecFault, Refusal};
-use ubi_scan::Blocks;
-
-/// The volume `root` with a byte behind the zero of its name.
-const BEHIND: Slot = Slot {
-    name: b"root\0\x01",
-    check: 0xA4DC_AEDB,
-    ..ROOT
+use ubi_probe::records::{
+    A, ALIGNMENT_0, B, BEHIND, C, EMPTY, FLIPPED, FULL, GROWING, KIND_3, MOST_A, MOST_B, OVERFULL,
+    ROOT,
 };
+use ubi_scan::Blocks;
 
 static CASES: [Case; 47] = [
     // Images without copies of a table. Erased ones have no volumes.
@@ -37,11 +31,11 @@ static CASES: [Case; 47] = [
         Ok(&[(0, ROOT)]),
     ),
     (
-        &[Peb::Copy(0, &[ROOT, EMPTY]), Peb::Copy(1, &[BOOT, ROOT])],
+        &[Peb::Copy(0, &[ROOT, EMPTY]), Peb::Copy(1, &[GROWING, ROOT])],
         Ok(&[(0, ROOT)]),
     ),
     (
-        &[Peb::Copy(1, &[BOOT, ROOT]), Peb::Copy(0, &[ROOT, EMPTY])],
+        &[Peb::Copy(1, &[GROWING, ROOT]), Peb::Copy(0, &[ROOT, EMPTY])],
         Ok(&[(0, ROOT)]),
     ),
     (
@@ -77,25 +71,37 @@ static CASES: [Case; 47] = [
     (&[Peb::Copy(0, &[ROOT, EMPTY])], Ok(&[(0, ROOT)])),
     // Copy 0 is corrupt or absent, and copy 1 decides.
     (
-        &[Peb::Copy(0, &[FLIPPED, EMPTY]), Peb::Copy(1, &[BOOT, ROOT])],
-        Ok(&[(0, BOOT), (1, ROOT)]),
+        &[
+            Peb::Copy(0, &[FLIPPED, EMPTY]),
+            Peb::Copy(1, &[GROWING, ROOT]),
+        ],
+        Ok(&[(0, GROWING), (1, ROOT)]),
     ),
     (
-        &[Peb::Copy(0, &[ROOT, FLIPPED]), Peb::Copy(1, &[BOOT, ROOT])],
-        Ok(&[(0, BOOT), (1, ROOT)]),
+        &[
+            Peb::Copy(0, &[ROOT, FLIPPED]),
+            Peb::Copy(1, &[GROWING, ROOT]),
+        ],
+        Ok(&[(0, GROWING), (1, ROOT)]),
     ),
     (
         &[
             Peb::Copy(0, &[FLIPPED, ALIGNMENT_0]),
-            Peb::Copy(1, &[BOOT, ROOT]),
+            Peb::Copy(1, &[GROWING, ROOT]),
         ],
-        Ok(&[(0, BOOT), (1, ROOT)]),
+        Ok(&[(0, GROWING), (1, ROOT)]),
     ),
     (
-        &[Peb::Copy(0, &[FLIPPED, ROOT]), Peb::Copy(1, &[BOOT, ROOT])],
-        Ok(&[(0, BOOT), (1, ROOT)]),
+        &[
+            Peb::Copy(0, &[FLIPPED, ROOT]),
+            Peb::Copy(1, &[GROWING, ROOT]),
+        ],
+        Ok(&[(0, GROWING), (1, ROOT)]),
     ),
-    (&[Peb::Copy(1, &[BOOT, ROOT])], Ok(&[(0, BOOT), (1, ROOT)])),
+    (
+        &[Peb::Copy(1, &[GROWING, ROOT])],
+        Ok(&[(0, GROWING), (1, ROOT)]),
+    ),
     // Copies among logical eraseblocks of a volume, and one that is beaten.
     (
         &[
@@ -134,8 +140,11 @@ static CASES: [Case; 47] = [
     ),
     // The winner of a copy.
     (
-        &[Peb::Newer(0, &[BOOT, EMPTY]), Peb::Copy(0, &[ROOT, EMPTY])],
-        Ok(&[(0, BOOT)]),
+        &[
+            Peb::Newer(0, &[GROWING, EMPTY]),
+            Peb::Copy(0, &[ROOT, EMPTY]),
+        ],
+        Ok(&[(0, GROWING)]),
     ),
     // No copy that can be read, the first record at fault, a name that comes again, and no room.
     (
@@ -321,13 +330,13 @@ fn takes_the_table_or_names_why_there_is_none(rt: HostRuntime) -> Result<(), Fai
 #[test]
 fn lends_the_records_of_a_copy(rt: HostRuntime) -> Result<(), Fail> {
     let geometry = small()?;
-    let pebs = [Peb::Erased, Peb::Copy(0, &[ROOT, BOOT])];
+    let pebs = [Peb::Erased, Peb::Copy(0, &[ROOT, GROWING])];
     let bytes = image(rt.alloc(), &geometry, &pebs)?;
     let blocks = Blocks::new(&geometry, bytes.as_slice())?;
     assert!(rt; blocks.count() > 1);
     assert!(rt; geometry.slots() > 1);
     assert!(rt; *blocks.rec(0, 1) == [0xFF; 172]);
     assert!(rt; *blocks.rec(1, 0) == ROOT.bytes());
-    assert!(rt; *blocks.rec(1, 1) == BOOT.bytes());
+    assert!(rt; *blocks.rec(1, 1) == GROWING.bytes());
     Ok(())
 }

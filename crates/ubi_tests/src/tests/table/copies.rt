@@ -1,10 +1,10 @@
 //! What each copy of a table is, whether or not it decides.
 
-use super::images::{A, B, BOOT, C, KIND_3, Peb, Volumes, has_volumes, image, larger, small};
-use crate::tests::records::{ALIGNMENT_0, EMPTY, FLIPPED, OVERFULL, ROOT};
+use super::images::{Peb, Volumes, has_volumes, image, larger, small};
 use std::alloc::Global;
 use std::test::Fail;
 use ubi_media::{Geometry, RecFault};
+use ubi_probe::records::{A, ALIGNMENT_0, B, C, EMPTY, FLIPPED, GROWING, KIND_3, OVERFULL, ROOT};
 use ubi_scan::{Blocks, scan};
 use ubi_table::{CopyRead, read_copy};
 
@@ -54,23 +54,23 @@ static SMALL: [(&[Peb], Want, Want); 10] = [
     (&[Peb::Erased, Peb::Free], Want::Absent, Want::Absent),
     (
         &[
-            Peb::Newer(0, &[BOOT, EMPTY]),
+            Peb::Newer(0, &[GROWING, EMPTY]),
             Peb::Copy(0, &[ROOT, EMPTY]),
             Peb::Forgotten(1, &[ROOT, EMPTY]),
         ],
-        Want::Good(&[(0, BOOT)]),
+        Want::Good(&[(0, GROWING)]),
         Want::Absent,
     ),
     (
-        &[Peb::Member(0), Peb::Copy(1, &[EMPTY, BOOT])],
+        &[Peb::Member(0), Peb::Copy(1, &[EMPTY, GROWING])],
         Want::Absent,
-        Want::Good(&[(1, BOOT)]),
+        Want::Good(&[(1, GROWING)]),
     ),
     // Each is read for itself, wherever it lies.
     (
-        &[Peb::Copy(1, &[BOOT, ROOT]), Peb::Copy(0, &[ROOT, EMPTY])],
+        &[Peb::Copy(1, &[GROWING, ROOT]), Peb::Copy(0, &[ROOT, EMPTY])],
         Want::Good(&[(0, ROOT)]),
-        Want::Good(&[(0, BOOT), (1, ROOT)]),
+        Want::Good(&[(0, GROWING), (1, ROOT)]),
     ),
     (
         &[
@@ -94,7 +94,10 @@ static SMALL: [(&[Peb], Want, Want); 10] = [
         Want::Faulty(0, RecFault::Kind),
     ),
     (
-        &[Peb::Copy(0, &[EMPTY, EMPTY]), Peb::Copy(1, &[BOOT, BOOT])],
+        &[
+            Peb::Copy(0, &[EMPTY, EMPTY]),
+            Peb::Copy(1, &[GROWING, GROWING]),
+        ],
         Want::Good(&[]),
         Want::Twice(0, 1),
     ),

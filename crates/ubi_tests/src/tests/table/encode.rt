@@ -1,10 +1,10 @@
 //! The bytes of tables.
 
-use super::images::{BOOT, Peb, chosen, image, small, table_of};
-use crate::tests::records::{EMPTY, ROOT, Slot};
+use super::images::{Peb, chosen, image, small, table_of};
 use std::alloc::Global;
 use std::test::Fail;
 use ubi_media::{Geometry, VolKind, VolName, VolumeRecord, rec_fault, write_rec};
+use ubi_probe::records::{EMPTY, GROWING, ROOT, Slot};
 use ubi_table::Table;
 
 /// The records of a table, and some eraseblocks that have it.
@@ -14,12 +14,18 @@ const TABLES: [([Slot; 2], &[Peb]); 4] = [
         &[Peb::Copy(0, &[ROOT, EMPTY]), Peb::Copy(1, &[ROOT, EMPTY])],
     ),
     (
-        [EMPTY, BOOT],
-        &[Peb::Copy(0, &[EMPTY, BOOT]), Peb::Copy(1, &[EMPTY, BOOT])],
+        [EMPTY, GROWING],
+        &[
+            Peb::Copy(0, &[EMPTY, GROWING]),
+            Peb::Copy(1, &[EMPTY, GROWING]),
+        ],
     ),
     (
-        [BOOT, ROOT],
-        &[Peb::Copy(0, &[BOOT, ROOT]), Peb::Copy(1, &[BOOT, ROOT])],
+        [GROWING, ROOT],
+        &[
+            Peb::Copy(0, &[GROWING, ROOT]),
+            Peb::Copy(1, &[GROWING, ROOT]),
+        ],
     ),
     ([EMPTY, EMPTY], &[Peb::Erased]),
 ];

@@ -1,87 +1,14 @@
 //! Images that tests are made of: eraseblocks that hold headers and the records of a volume table.
 
-use crate::tests::headers::{PLAIN, TABLE_0};
-use crate::tests::records::{ROOT, Slot};
 use std::alloc::{AllocError, Global};
 use std::test::Fail;
 use ubi_media::{
-    AttachError, EcHeader, Geometry, GeometryError, Refusal, VidHeader, VolKind, VolName,
-    VolumeRecord, write_ec, write_vid,
+    AttachError, EcHeader, Geometry, GeometryError, Refusal, VidHeader, write_ec, write_vid,
 };
+use ubi_probe::headers::{PLAIN, TABLE_0};
+use ubi_probe::records::Slot;
 use ubi_scan::{Blocks, scan};
 use ubi_table::{Table, choose};
-
-/// The same of type 3.
-pub const KIND_3: Slot = Slot {
-    kind: 3,
-    check: 0x4B64_2D95,
-    ..ROOT
-};
-
-/// A static volume of 3 eraseblocks that is being updated, and grows.
-pub const BOOT: Slot = Slot {
-    reserved: 3,
-    kind: 2,
-    marker: 1,
-    name: b"boot",
-    flags: 0x41,
-    check: 0x128C_137A,
-    ..ROOT
-};
-
-/// A dynamic volume of one eraseblock.
-pub const A: Slot = Slot {
-    reserved: 1,
-    name_len: 1,
-    name: b"a",
-    check: 0x7F4F_79E4,
-    ..ROOT
-};
-
-/// Another.
-pub const B: Slot = Slot {
-    name: b"b",
-    check: 0x1455_0176,
-    ..A
-};
-
-/// A third.
-pub const C: Slot = Slot {
-    name: b"c",
-    check: 0x8473_D4C7,
-    ..A
-};
-
-/// The first of these with the most eraseblocks that a record can name. Two such and the table's own eraseblocks are
-/// 2^32.
-pub const MOST_A: Slot = Slot {
-    reserved: 0x7FFF_FFFF,
-    check: 0xAD63_4FE1,
-    ..A
-};
-
-/// The second of these with as many.
-pub const MOST_B: Slot = Slot {
-    reserved: 0x7FFF_FFFF,
-    check: 0xC679_3773,
-    ..B
-};
-
-/// What a record says of its volume.
-pub fn record(slot: &Slot) -> Result<VolumeRecord, Fail> {
-    Ok(VolumeRecord {
-        reserved: slot.reserved,
-        alignment: slot.alignment,
-        kind: if slot.kind == 2 {
-            VolKind::Static
-        } else {
-            VolKind::Dynamic
-        },
-        marker: slot.marker == 1,
-        name: VolName::new(slot.name).ok_or("a name")?,
-        flags: slot.flags,
-    })
-}
 
 /// An eraseblock.
 #[derive(Clone, Copy)]
@@ -200,7 +127,9 @@ pub type Case = (&'static [Peb], Result<Volumes, Refusal>);
 pub fn has_volumes(table: &Table, volumes: &[(u32, Slot)]) -> Result<bool, Fail> {
     let mut has = table.entries().len() == volumes.len();
     for (entry, (id, slot)) in table.entries().iter().zip(volumes) {
-        has = has && *entry == (*id, record(slot)?) && table.get(*id) == Some(&entry.1);
+        has = has
+            && *entry == (*id, slot.volume().ok_or("a name")?)
+            && table.get(*id) == Some(&entry.1);
     }
     Ok(has)
 }

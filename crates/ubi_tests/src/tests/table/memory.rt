@@ -1,16 +1,19 @@
 //! Tables that are read and renamed where memory is refused.
 
-use super::images::{BOOT, Peb, Volumes, has_volumes, image, small};
+use super::images::{Peb, Volumes, has_volumes, image, small};
 use super::naming::renamed;
-use crate::tests::records::{ROOT, Slot};
 use std::alloc::Global;
 use std::test::Fail;
 use ubi_media::{AttachError, Geometry};
+use ubi_probe::records::{GROWING, ROOT, Slot};
 use ubi_scan::{Blocks, scan};
 use ubi_table::{CopyRead, Table, read_copy};
 
 /// Two copies of a table.
-static COPIES: [Peb; 2] = [Peb::Copy(0, &[ROOT, BOOT]), Peb::Copy(1, &[ROOT, BOOT])];
+static COPIES: [Peb; 2] = [
+    Peb::Copy(0, &[ROOT, GROWING]),
+    Peb::Copy(1, &[ROOT, GROWING]),
+];
 
 /// Both copies, the second of which gets another name for volume 1; none where memory ran out.
 fn tables_if_memory(alloc: Global, geometry: &Geometry) -> Result<Option<(Table, Table)>, Fail> {
@@ -41,9 +44,18 @@ fn tables_if_memory(alloc: Global, geometry: &Geometry) -> Result<Option<(Table,
 }
 
 /// The volumes of the two tables.
-const FIRST: Volumes = &[(0, ROOT), (1, BOOT)];
+const FIRST: Volumes = &[(0, ROOT), (1, GROWING)];
 
-const SECOND: Volumes = &[(0, ROOT), (1, Slot { name: b"z", ..BOOT })];
+const SECOND: Volumes = &[
+    (0, ROOT),
+    (
+        1,
+        Slot {
+            name: b"z",
+            ..GROWING
+        },
+    ),
+];
 
 /// The script bench/second/refuse.sh refuses each growth of memory in turn, and looks for the line that is printed
 /// here.

@@ -3,11 +3,11 @@
 ghost use Rattle.std.specs.Prelude.{◌≡◌, ◌==◌, ◌&&◌, not, find, option_copied};
 ghost use Rattle.ubi_media.specs.Fields.{same_bytes};
 
-use super::images::{A, B, BOOT, C, Peb, chosen, larger, small};
-use crate::tests::records::{EMPTY, ROOT, Slot};
+use super::images::{Peb, chosen, larger, small};
 use std::alloc::{AllocError, Global};
 use std::test::Fail;
 use ubi_media::{Geometry, VolName, VolumeRecord};
+use ubi_probe::records::{A, B, C, EMPTY, GROWING, ROOT, Slot};
 use ubi_table::Table;
 
 /// The first entry of another volume that has a name.
@@ -56,14 +56,14 @@ const LONG_BOOT: Slot = Slot {
     name_len: 127,
     name: LONG,
     check: 0x320F_EF63,
-    ..BOOT
+    ..GROWING
 };
 
 /// A record with an alignment, and with another name.
 const ALIGNED: Slot = Slot {
     alignment: 128,
     check: 0xC3CF_B8C9,
-    ..BOOT
+    ..GROWING
 };
 
 const LONG_ALIGNED: Slot = Slot {
@@ -82,9 +82,9 @@ const D: Slot = Slot {
 type Case = (&'static [Slot], u32, &'static [u8], &'static [Slot]);
 
 static SMALL: [Case; 5] = [
-    (&[BOOT, ROOT], 1, b"z", &[BOOT, Z]),
-    (&[ROOT, BOOT], 1, LONG, &[ROOT, LONG_BOOT]),
-    (&[ROOT, BOOT], 1, b"boot", &[ROOT, BOOT]),
+    (&[GROWING, ROOT], 1, b"z", &[GROWING, Z]),
+    (&[ROOT, GROWING], 1, LONG, &[ROOT, LONG_BOOT]),
+    (&[ROOT, GROWING], 1, b"boot", &[ROOT, GROWING]),
     (&[ALIGNED, EMPTY], 0, LONG, &[LONG_ALIGNED, EMPTY]),
     (&[EMPTY, ROOT], 1, b"z", &[EMPTY, Z]),
 ];
@@ -110,12 +110,12 @@ fn gets(alloc: Global, geometry: &Geometry, pebs: &[Peb], case: &Case) -> Result
 
 /// The records of a table, a volume, and a name that it can't get.
 static REFUSED: [(&[Slot], u32, &[u8]); 9] = [
-    (&[ROOT, BOOT], 1, b""),
-    (&[ROOT, BOOT], 1, &[b'n'; 128]),
-    (&[ROOT, BOOT], 1, b"z\0"),
-    (&[ROOT, BOOT], 0, b"boot"),
-    (&[ROOT, BOOT], 1, b"root"),
-    (&[ROOT, BOOT], 2, b"z"),
+    (&[ROOT, GROWING], 1, b""),
+    (&[ROOT, GROWING], 1, &[b'n'; 128]),
+    (&[ROOT, GROWING], 1, b"z\0"),
+    (&[ROOT, GROWING], 0, b"boot"),
+    (&[ROOT, GROWING], 1, b"root"),
+    (&[ROOT, GROWING], 2, b"z"),
     (&[ROOT, EMPTY], 1, b"z"),
     (&[EMPTY, ROOT], 0, b"root"),
     (&[EMPTY, EMPTY], 0, b"z"),
@@ -142,12 +142,12 @@ fn names_one_volume_anew_or_none(rt: HostRuntime) -> Result<(), Fail> {
 
 /// The records of a table, a name, and the number of the volume that has it.
 static NAMED: [(&[Slot], &[u8], Option<u32>); 7] = [
-    (&[ROOT, BOOT], b"root", Some(0)),
-    (&[ROOT, BOOT], b"boot", Some(1)),
+    (&[ROOT, GROWING], b"root", Some(0)),
+    (&[ROOT, GROWING], b"boot", Some(1)),
     (&[EMPTY, ROOT], b"root", Some(1)),
     (&[ROOT, LONG_BOOT], LONG, Some(1)),
-    (&[ROOT, BOOT], b"boo", None),
-    (&[ROOT, BOOT], b"boots", None),
+    (&[ROOT, GROWING], b"boo", None),
+    (&[ROOT, GROWING], b"boots", None),
     (&[EMPTY, EMPTY], b"root", None),
 ];
 

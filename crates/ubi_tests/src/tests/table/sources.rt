@@ -1,13 +1,13 @@
 //! Tables of sources: what is read for them, and what fails.
 
-use super::images::{BOOT, Peb, Volumes, has_volumes, image, small};
+use super::images::{Peb, Volumes, has_volumes, image, small};
 use crate::tests::probes::{Reads, has_reads};
-use crate::tests::records::{EMPTY, FLIPPED, OVERFULL, ROOT};
 use std::alloc::Global;
 use std::fs;
 use std::test::Fail;
 use ubi_media::{Geometry, Refusal};
 use ubi_probe::ProbeSource;
+use ubi_probe::records::{EMPTY, FLIPPED, GROWING, OVERFULL, ROOT};
 use ubi_scan::{BlockSource, FileSource, StreamError, scan_from};
 use ubi_table::{Table, choose_from};
 
@@ -21,30 +21,27 @@ fn table_of<S: BlockSource>(
     choose_from(alloc, geometry, source, &found)
 }
 
-/// Copies of which the first decides, and of which the second does, each with a logical eraseblock behind.
-const SOUND: [Peb; 3] = [
-    Peb::Copy(0, &[ROOT, EMPTY]),
-    Peb::Copy(1, &[BOOT, ROOT]),
-    Peb::Member(0),
-];
+/// Copy 0 of a table with one volume, and where it is corrupt; copy 1 of a table with two; and a logical eraseblock.
+const FIRST: Peb = Peb::Copy(0, &[ROOT, EMPTY]);
 
-const FIRST_CORRUPT: [Peb; 3] = [
-    Peb::Copy(0, &[FLIPPED, EMPTY]),
-    Peb::Copy(1, &[BOOT, ROOT]),
-    Peb::Member(0),
-];
+const FLIPPED_FIRST: Peb = Peb::Copy(0, &[FLIPPED, EMPTY]);
+
+const SECOND: Peb = Peb::Copy(1, &[GROWING, ROOT]);
+
+const MEMBER: Peb = Peb::Member(0);
+
+/// Copies of which the first decides, and of which the second does, each with a logical eraseblock behind.
+const SOUND: [Peb; 3] = [FIRST, SECOND, MEMBER];
+
+const FIRST_CORRUPT: [Peb; 3] = [FLIPPED_FIRST, SECOND, MEMBER];
 
 /// Copies of which none can be read, and of a table that takes more eraseblocks than there are.
-const BOTH_CORRUPT: [Peb; 3] = [
-    Peb::Copy(0, &[FLIPPED, EMPTY]),
-    Peb::Copy(1, &[EMPTY, FLIPPED]),
-    Peb::Member(0),
-];
+const BOTH_CORRUPT: [Peb; 3] = [FLIPPED_FIRST, Peb::Copy(1, &[EMPTY, FLIPPED]), MEMBER];
 
 const TOO_LARGE: [Peb; 3] = [
     Peb::Copy(0, &[OVERFULL, EMPTY]),
     Peb::Copy(1, &[ROOT, EMPTY]),
-    Peb::Member(0),
+    MEMBER,
 ];
 
 /// Some eraseblocks, which read of them fails, if any does, the volumes of their table or why they have none then, and
@@ -67,13 +64,13 @@ static CASES: [Case; 8] = [
     (
         &FIRST_CORRUPT,
         0,
-        Ok(&[(0, BOOT), (1, ROOT)]),
+        Ok(&[(0, GROWING), (1, ROOT)]),
         &[(0, 2, 1), (1, 2, 1), (2, 1, 0)],
     ),
     (&FIRST_CORRUPT, 3, Err(StreamError::Read(2, 0)), &[]),
     (&FIRST_CORRUPT, 4, Err(StreamError::Read(0, 0)), &[]),
     (&FIRST_CORRUPT, 5, Err(StreamError::Read(1, 0)), &[]),
-    (&FIRST_CORRUPT, 6, Ok(&[(0, BOOT), (1, ROOT)]), &[]),
+    (&FIRST_CORRUPT, 6, Ok(&[(0, GROWING), (1, ROOT)]), &[]),
     (
         &BOTH_CORRUPT,
         0,

@@ -1,11 +1,11 @@
 //! The bytes of eraseblocks, and what these mean.
 
 use super::pebs::{Data, Ec, Peb, Vid};
-use crate::tests::records::EMPTY;
 use std::alloc::{AllocError, Global};
 use std::process::Abort;
 use std::test::Fail;
 use ubi_media::{AttachError, EcHeader, Geometry, GeometryError, write_ec, write_vid};
+use ubi_probe::records::EMPTY;
 use ubi_volume::{
     Attached, Content, Meaning, ReadError, attach, read_leb, read_volume, volume_len,
 };
@@ -139,10 +139,11 @@ pub enum Text {
     Not(ReadError),
 }
 
-/// Some eraseblocks, and what they mean.
+/// Images that mean the same, and what they mean.
+#[derive(Clone, Copy)]
 pub struct Case {
-    pub what: &'static str,
-    pub pebs: &'static [Peb],
+    /// What each image is, and its eraseblocks.
+    pub images: &'static [(&'static str, &'static [Peb])],
     /// The greatest sequence number.
     pub top: u64,
     /// The name of volume 0, where there is one. There are no other volumes.
@@ -231,9 +232,9 @@ fn has_name(meaning: &Meaning, name: Option<&[u8]>) -> bool {
     }
 }
 
-/// Whether the eraseblocks of a case mean what is wanted.
-fn holds(alloc: Global, case: &Case) -> Result<bool, Fail> {
-    let attached = attached(alloc, case.pebs)?;
+/// Whether eraseblocks mean what is wanted.
+fn holds(alloc: Global, pebs: &[Peb], case: &Case) -> Result<bool, Fail> {
+    let attached = attached(alloc, pebs)?;
     let meaning = attached.meaning();
     Ok(
         attached.top_sqnum() == case.top
@@ -244,10 +245,12 @@ fn holds(alloc: Global, case: &Case) -> Result<bool, Fail> {
     )
 }
 
-/// Asserts what the eraseblocks of each case mean.
+/// Asserts what the images of each case mean.
 pub fn assert_meanings(rt: &impl Abort, alloc: Global, cases: &[Case]) -> Result<(), Fail> {
     for case in cases {
-        assert!(*rt; holds(alloc, case)?, "{}", case.what);
+        for (what, pebs) in case.images {
+            assert!(*rt; holds(alloc, pebs, case)?, "{what}");
+        }
     }
     Ok(())
 }

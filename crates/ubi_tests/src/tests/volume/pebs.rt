@@ -3,47 +3,21 @@
 //!
 //! They are constants: a proof takes those as they stand, and pays for each loop and each call of a test.
 
-use crate::tests::headers::{
-    COPY, INTERNAL, LEB_1, PLAIN, STATIC_0, STATIC_1, TABLE_0, TABLE_1, WRONG_COPY,
-};
-use crate::tests::records::{
-    ALIGNMENT_0, ALIGNMENT_256, BOOT, FLIPPED, FULL, MARKED, OVERFULL, ROOT, Slot,
-};
 use ubi_media::{VidHeader, VolKind};
-
-/// The check of 384 bytes 0x41.
-pub const CHECK_OF_41: u32 = 0xD6FB_3026;
-
-/// The check of 384 bytes 0x61.
-pub const CHECK_OF_61: u32 = 0x74A2_CBC2;
+use ubi_probe::headers::{
+    CHECK_OF_41, CHECK_OF_61, COPY, INTERNAL, LEB_1, PLAIN, STATIC_0, STATIC_1, TABLE_0, TABLE_1,
+    WRONG_COPY,
+};
+use ubi_probe::records::{
+    ALIGNMENT_0, ALIGNMENT_256, BOOT, BOOT_OF_2, FLIPPED, FULL, MARKED, MARKED_BOOT, OVERFULL,
+    ROOT, SMALL_ROOT, Slot,
+};
 
 /// The check of 384 bytes 0x62.
 pub const CHECK_OF_62: u32 = 0x3627_FAFB;
 
 /// The check of 384 bytes 0xFF.
 pub const CHECK_OF_FF: u32 = 0x6CE6_CFE8;
-
-/// A dynamic volume of 3 eraseblocks.
-pub const SMALL: Slot = Slot {
-    reserved: 3,
-    check: 0xCC6C_8E28,
-    ..ROOT
-};
-
-/// A static volume of 2 eraseblocks.
-pub const BOOT_OF_2: Slot = Slot {
-    reserved: 2,
-    check: 0x4EB3_32C4,
-    ..BOOT
-};
-
-/// A static volume of 8 eraseblocks while it is updated.
-pub const MARKED_BOOT: Slot = Slot {
-    reserved: 8,
-    marker: 1,
-    check: 0x0E98_DF4C,
-    ..BOOT
-};
 
 /// What stands in the place of an erase-counter header.
 #[derive(Clone, Copy)]
@@ -157,8 +131,8 @@ pub const WITH_BLANK: [Peb; 4] = [
 
 /// A dynamic volume of three logical eraseblocks, the second of which has no place.
 pub const HOLED: [Peb; 4] = [
-    Peb(Ec::Zero, Vid::Is(TABLE_0), Data::Table(SMALL)),
-    Peb(Ec::Zero, Vid::Is(TABLE_1), Data::Table(SMALL)),
+    Peb(Ec::Zero, Vid::Is(TABLE_0), Data::Table(SMALL_ROOT)),
+    Peb(Ec::Zero, Vid::Is(TABLE_1), Data::Table(SMALL_ROOT)),
     A,
     Peb(
         Ec::Zero,
@@ -197,6 +171,19 @@ pub const GOOD: Peb = Peb(Ec::Zero, Vid::Is(COPY), Data::Filled(0x37, 64));
 
 /// A newer copy that isn't.
 pub const BAD: Peb = Peb(Ec::Zero, Vid::Is(WRONG_COPY), Data::Filled(0x39, 64));
+
+/// A table and these three, in any order.
+pub const OLD_GOOD_BAD: [Peb; 5] = [FIRST, SECOND, OLD, GOOD, BAD];
+
+pub const OLD_BAD_GOOD: [Peb; 5] = [FIRST, SECOND, OLD, BAD, GOOD];
+
+pub const GOOD_OLD_BAD: [Peb; 5] = [FIRST, SECOND, GOOD, OLD, BAD];
+
+pub const GOOD_BAD_OLD: [Peb; 5] = [FIRST, SECOND, GOOD, BAD, OLD];
+
+pub const BAD_OLD_GOOD: [Peb; 5] = [FIRST, SECOND, BAD, OLD, GOOD];
+
+pub const BAD_GOOD_OLD: [Peb; 5] = [FIRST, SECOND, BAD, GOOD, OLD];
 
 /// A copy that isn't whole.
 pub const OLDER_BAD: Peb = Peb(

@@ -2,9 +2,10 @@
 
 use super::images::{Case, Kept, Leb, Text, assert_meanings, attached, geometry, image};
 use super::pebs::{
-    A, ALIGNED, ALIGNED_ZEROS, B, BAD, BASE, BLANK_B, C, CORRUPT_B, ERASED, FIRST, FIRST_ALIGNED,
-    FIRST_FLIPPED, FIRST_MARKED, FORGOTTEN_B, GOOD, NEWER_B, NEWER_BAD, OLD, OLDER_BAD, PAD,
-    SECOND, SECOND_ALIGNED, SECOND_MARKED, STATIC_BEYOND, UNRECORDED,
+    A, ALIGNED, ALIGNED_ZEROS, B, BAD_GOOD_OLD, BAD_OLD_GOOD, BASE, BLANK_B, C, CORRUPT_B, ERASED,
+    FIRST, FIRST_ALIGNED, FIRST_FLIPPED, FIRST_MARKED, FORGOTTEN_B, GOOD_BAD_OLD, GOOD_OLD_BAD,
+    NEWER_B, NEWER_BAD, OLD_BAD_GOOD, OLD_GOOD_BAD, OLDER_BAD, PAD, SECOND, SECOND_ALIGNED,
+    SECOND_MARKED, STATIC_BEYOND, UNRECORDED,
 };
 use std::test::Fail;
 use ubi_media::{LAYOUT_VOLUME, VolKind};
@@ -12,17 +13,12 @@ use ubi_volume::{Attached, Meaning, ReadError};
 
 /// Whether what is attached has the numbers of the image.
 fn has_numbers(attached: &Attached) -> bool {
-    let numbers = (
-        attached.image_seq(),
-        attached.carriers(),
-        attached.mean_ec(),
-    );
-    let winners = (
-        attached.winner(LAYOUT_VOLUME, 1),
-        attached.winner(0, 2),
-        attached.winner(0, 3),
-    );
-    numbers == (305_419_896, 5, 0) && winners == (Some(1), Some(4), None)
+    attached.image_seq() == 0x1234_5678
+        && attached.carriers() == 5
+        && attached.mean_ec() == 0
+        && attached.winner(LAYOUT_VOLUME, 1) == Some(1)
+        && attached.winner(0, 2) == Some(4)
+        && attached.winner(0, 3).is_none()
 }
 
 /// Whether its meaning has the image's number, its geometry, and volume 0 alone.
@@ -53,13 +49,20 @@ const A_AND_B: [(u32, u32, Leb); 3] = [
     (0, 19, Leb::Reads(0xFF, 384, 384)),
 ];
 
+/// The volume `root`, which isn't looked at.
+const ROOT: Case = Case {
+    images: &[],
+    top: 0,
+    name: Some(b"root"),
+    lebs: &[],
+    texts: &[],
+    kept: Kept::Any,
+};
+
 /// A volume that reads three logical eraseblocks and 17 blank ones, and volumes that are not there; and others.
-static CASES: [Case; 22] = [
+static CASES: [Case; 13] = [
     Case {
-        what: "a volume",
-        pebs: &BASE,
-        top: 0,
-        name: Some(b"root"),
+        images: &[("a volume", &BASE)],
         lebs: &[
             (0, 0, Leb::Reads(0x41, 384, 384)),
             (0, 1, Leb::Reads(0x42, 384, 384)),
@@ -98,211 +101,136 @@ static CASES: [Case; 22] = [
             (200, Text::Not(ReadError::NoVolume)),
             (LAYOUT_VOLUME, Text::Not(ReadError::NoVolume)),
         ],
-        kept: Kept::Any,
+        ..ROOT
     },
     Case {
-        what: "a copy of the table that is corrupt",
-        pebs: &[FIRST_FLIPPED, SECOND, A, B, C],
-        top: 0,
-        name: Some(b"root"),
+        images: &[
+            (
+                "a copy of the table that is corrupt",
+                &[FIRST_FLIPPED, SECOND, A, B, C],
+            ),
+            (
+                "a corrupt erase-counter header",
+                &[FIRST, SECOND, A, CORRUPT_B, C],
+            ),
+        ],
         lebs: &[(0, 1, Leb::Reads(0x42, 384, 384))],
-        texts: &[],
-        kept: Kept::Any,
+        ..ROOT
     },
     Case {
-        what: "a volume that is updated",
-        pebs: &[FIRST_MARKED, SECOND_MARKED, A, B, C],
-        top: 0,
-        name: Some(b"root"),
+        images: &[(
+            "a volume that is updated",
+            &[FIRST_MARKED, SECOND_MARKED, A, B, C],
+        )],
         lebs: &[
             (0, 0, Leb::Not(ReadError::Updating)),
             (0, 20, Leb::Not(ReadError::Updating)),
         ],
         texts: &[(0, Text::Not(ReadError::Updating))],
-        kept: Kept::Any,
+        ..ROOT
     },
     Case {
-        what: "an erased image",
-        pebs: &[ERASED, ERASED],
-        top: 0,
+        images: &[("an erased image", &[ERASED, ERASED])],
         name: None,
         lebs: &[(0, 0, Leb::Not(ReadError::NoVolume))],
-        texts: &[],
-        kept: Kept::Any,
+        ..ROOT
     },
     // A member, a newer copy that is whole and one that is newer still and isn't, in any order.
     Case {
-        what: "old, good, bad",
-        pebs: &[FIRST, SECOND, OLD, GOOD, BAD],
+        images: &[
+            ("old, good, bad", &OLD_GOOD_BAD),
+            ("old, bad, good", &OLD_BAD_GOOD),
+            ("good, old, bad", &GOOD_OLD_BAD),
+            ("good, bad, old", &GOOD_BAD_OLD),
+            ("bad, old, good", &BAD_OLD_GOOD),
+            ("bad, good, old", &BAD_GOOD_OLD),
+        ],
         top: 9,
-        name: Some(b"root"),
         lebs: &[(0, 0, Leb::Reads(0x37, 64, 384))],
-        texts: &[],
-        kept: Kept::Any,
-    },
-    Case {
-        what: "old, bad, good",
-        pebs: &[FIRST, SECOND, OLD, BAD, GOOD],
-        top: 9,
-        name: Some(b"root"),
-        lebs: &[(0, 0, Leb::Reads(0x37, 64, 384))],
-        texts: &[],
-        kept: Kept::Any,
-    },
-    Case {
-        what: "good, old, bad",
-        pebs: &[FIRST, SECOND, GOOD, OLD, BAD],
-        top: 9,
-        name: Some(b"root"),
-        lebs: &[(0, 0, Leb::Reads(0x37, 64, 384))],
-        texts: &[],
-        kept: Kept::Any,
-    },
-    Case {
-        what: "good, bad, old",
-        pebs: &[FIRST, SECOND, GOOD, BAD, OLD],
-        top: 9,
-        name: Some(b"root"),
-        lebs: &[(0, 0, Leb::Reads(0x37, 64, 384))],
-        texts: &[],
-        kept: Kept::Any,
-    },
-    Case {
-        what: "bad, old, good",
-        pebs: &[FIRST, SECOND, BAD, OLD, GOOD],
-        top: 9,
-        name: Some(b"root"),
-        lebs: &[(0, 0, Leb::Reads(0x37, 64, 384))],
-        texts: &[],
-        kept: Kept::Any,
-    },
-    Case {
-        what: "bad, good, old",
-        pebs: &[FIRST, SECOND, BAD, GOOD, OLD],
-        top: 9,
-        name: Some(b"root"),
-        lebs: &[(0, 0, Leb::Reads(0x37, 64, 384))],
-        texts: &[],
-        kept: Kept::Any,
+        ..ROOT
     },
     // Copies that are not whole, alone.
     Case {
-        what: "older, newer",
-        pebs: &[FIRST, SECOND, OLDER_BAD, NEWER_BAD],
+        images: &[
+            ("older, newer", &[FIRST, SECOND, OLDER_BAD, NEWER_BAD]),
+            ("newer, older", &[FIRST, SECOND, NEWER_BAD, OLDER_BAD]),
+        ],
         top: 6,
-        name: Some(b"root"),
         lebs: &[(0, 0, Leb::Reads(0x39, 64, 384))],
-        texts: &[],
-        kept: Kept::Any,
+        ..ROOT
     },
     Case {
-        what: "newer, older",
-        pebs: &[FIRST, SECOND, NEWER_BAD, OLDER_BAD],
+        images: &[("one alone", &[FIRST, SECOND, NEWER_BAD])],
         top: 6,
-        name: Some(b"root"),
-        lebs: &[(0, 0, Leb::Reads(0x39, 64, 384))],
-        texts: &[],
-        kept: Kept::Any,
-    },
-    Case {
-        what: "one alone",
-        pebs: &[FIRST, SECOND, NEWER_BAD],
-        top: 6,
-        name: Some(b"root"),
         lebs: &[(0, 0, Leb::Reads(0x38, 64, 384))],
-        texts: &[],
-        kept: Kept::Any,
+        ..ROOT
     },
-    // An alignment that leaves bytes free, and erase-counter headers that can't be read.
+    // An alignment that leaves bytes free.
     Case {
-        what: "zeros behind what is read",
-        pebs: &[FIRST_ALIGNED, SECOND_ALIGNED, ALIGNED_ZEROS],
-        top: 0,
-        name: Some(b"root"),
+        images: &[
+            (
+                "zeros behind what is read",
+                &[FIRST_ALIGNED, SECOND_ALIGNED, ALIGNED_ZEROS],
+            ),
+            (
+                "0xFF behind what is read",
+                &[FIRST_ALIGNED, SECOND_ALIGNED, ALIGNED],
+            ),
+        ],
         lebs: &[
             (0, 0, Leb::Reads(0x41, 256, 256)),
             (0, 19, Leb::Reads(0xFF, 256, 256)),
         ],
         texts: &[(0, Text::Reads(&[(0x41, 256), (0xFF, 4864)]))],
-        kept: Kept::Any,
+        ..ROOT
     },
     Case {
-        what: "0xFF behind what is read",
-        pebs: &[FIRST_ALIGNED, SECOND_ALIGNED, ALIGNED],
-        top: 0,
-        name: Some(b"root"),
-        lebs: &[
-            (0, 0, Leb::Reads(0x41, 256, 256)),
-            (0, 19, Leb::Reads(0xFF, 256, 256)),
-        ],
-        texts: &[(0, Text::Reads(&[(0x41, 256), (0xFF, 4864)]))],
-        kept: Kept::Any,
-    },
-    Case {
-        what: "a corrupt erase-counter header",
-        pebs: &[FIRST, SECOND, A, CORRUPT_B, C],
-        top: 0,
-        name: Some(b"root"),
-        lebs: &[(0, 1, Leb::Reads(0x42, 384, 384))],
-        texts: &[],
-        kept: Kept::Any,
-    },
-    Case {
-        what: "a blank erase-counter header",
-        pebs: &[FIRST, SECOND, A, FORGOTTEN_B, C],
-        top: 0,
-        name: Some(b"root"),
+        images: &[(
+            "a blank erase-counter header",
+            &[FIRST, SECOND, A, FORGOTTEN_B, C],
+        )],
         lebs: &[(0, 1, BLANK)],
-        texts: &[],
-        kept: Kept::Any,
+        ..ROOT
     },
-    // A logical eraseblock of 0xFF isn't kept.
+    // It isn't kept.
     Case {
-        what: "a logical eraseblock of 0xFF",
-        pebs: &[FIRST, SECOND, A, BLANK_B, C],
-        top: 0,
-        name: Some(b"root"),
+        images: &[(
+            "a logical eraseblock of 0xFF",
+            &[FIRST, SECOND, A, BLANK_B, C],
+        )],
         lebs: &[(0, 1, BLANK)],
-        texts: &[],
         kept: Kept::Lebs([true, false, true, false]),
+        ..ROOT
     },
     // Eraseblocks that don't count.
     Case {
-        what: "an eraseblock beyond what is reserved",
-        pebs: &[FIRST, SECOND, A, B, C, STATIC_BEYOND],
-        top: 0,
-        name: Some(b"root"),
+        images: &[
+            (
+                "an eraseblock beyond what is reserved",
+                &[FIRST, SECOND, A, B, C, STATIC_BEYOND],
+            ),
+            (
+                "one of a volume without a record",
+                &[FIRST, SECOND, A, B, C, UNRECORDED],
+            ),
+        ],
         lebs: &A_AND_B,
-        texts: &[],
-        kept: Kept::Any,
+        ..ROOT
     },
     Case {
-        what: "one of a volume without a record",
-        pebs: &[FIRST, SECOND, A, B, C, UNRECORDED],
-        top: 0,
-        name: Some(b"root"),
-        lebs: &A_AND_B,
-        texts: &[],
-        kept: Kept::Any,
-    },
-    Case {
-        what: "one that is beaten",
-        pebs: &[FIRST, SECOND, A, PAD, C, NEWER_B],
+        images: &[("one that is beaten", &[FIRST, SECOND, A, PAD, C, NEWER_B])],
         top: 1,
-        name: Some(b"root"),
         lebs: &A_AND_B,
-        texts: &[],
-        kept: Kept::Any,
+        ..ROOT
     },
     // A volume of a table alone.
     Case {
-        what: "a volume that is updated, without eraseblocks",
-        pebs: &[FIRST_MARKED, SECOND_MARKED],
-        top: 0,
-        name: Some(b"root"),
-        lebs: &[],
+        images: &[(
+            "a volume that is updated, without eraseblocks",
+            &[FIRST_MARKED, SECOND_MARKED],
+        )],
         texts: &[(0, Text::Not(ReadError::Updating))],
-        kept: Kept::Any,
+        ..ROOT
     },
 ];
 

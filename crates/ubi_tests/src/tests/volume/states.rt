@@ -2,9 +2,10 @@
 
 use super::images::attached;
 use super::pebs::{
-    A, B, BAD, BEATEN, BEYOND_LAST, C, ERASED, Ec, FIRST, FIRST_BOOT, FORGOTTEN, GOOD, LAST,
-    LAST_OF_8, NONE, OF_OTHERS, OLD, Peb, SECOND, SECOND_BOOT, STATIC_BEYOND, STRANGER,
-    STRANGER_127, Vid, ZEROS_OF_OTHERS,
+    A, B, BAD_GOOD_OLD, BAD_OLD_GOOD, BEATEN, BEYOND_LAST, C, ERASED, Ec, FIRST, FIRST_BOOT,
+    FORGOTTEN, GOOD_BAD_OLD, GOOD_OLD_BAD, LAST, LAST_OF_8, NONE, OF_OTHERS, OLD_BAD_GOOD,
+    OLD_GOOD_BAD, Peb, SECOND, SECOND_BOOT, STATIC_BEYOND, STRANGER, STRANGER_127, Vid,
+    ZEROS_OF_OTHERS,
 };
 use std::alloc::Global;
 use std::test::Fail;
@@ -70,30 +71,12 @@ static CASES: [Case; 21] = [
     (&[FIRST, SECOND, STRANGER_127], &[Table, Table, Orphan]),
     // Members that are beaten, copies in any order, and a static winner beyond what its volume reserves.
     (&BEATEN, &STATES_OF_BEATEN),
-    (
-        &[FIRST, SECOND, OLD, GOOD, BAD],
-        &[Table, Table, Stale, Used, Stale],
-    ),
-    (
-        &[FIRST, SECOND, OLD, BAD, GOOD],
-        &[Table, Table, Stale, Stale, Used],
-    ),
-    (
-        &[FIRST, SECOND, GOOD, OLD, BAD],
-        &[Table, Table, Used, Stale, Stale],
-    ),
-    (
-        &[FIRST, SECOND, GOOD, BAD, OLD],
-        &[Table, Table, Used, Stale, Stale],
-    ),
-    (
-        &[FIRST, SECOND, BAD, OLD, GOOD],
-        &[Table, Table, Stale, Stale, Used],
-    ),
-    (
-        &[FIRST, SECOND, BAD, GOOD, OLD],
-        &[Table, Table, Stale, Used, Stale],
-    ),
+    (&OLD_GOOD_BAD, &[Table, Table, Stale, Used, Stale]),
+    (&OLD_BAD_GOOD, &[Table, Table, Stale, Stale, Used]),
+    (&GOOD_OLD_BAD, &[Table, Table, Used, Stale, Stale]),
+    (&GOOD_BAD_OLD, &[Table, Table, Used, Stale, Stale]),
+    (&BAD_OLD_GOOD, &[Table, Table, Stale, Stale, Used]),
+    (&BAD_GOOD_OLD, &[Table, Table, Stale, Used, Stale]),
     (&[FIRST_BOOT, SECOND_BOOT, LAST_OF_8], &[Table, Table, Used]),
 ];
 

@@ -8,13 +8,29 @@ use super::pebs::{
 use std::test::Fail;
 use ubi_volume::ReadError;
 
-/// Texts that are read, volumes that are damaged, and one that is updated, which isn't.
-static CASES: [Case; 12] = [
+/// The volume `boot`, which isn't looked at.
+const BOOT: Case = Case {
+    images: &[],
+    top: 0,
+    name: Some(b"boot"),
+    lebs: &[],
+    texts: &[],
+    kept: Kept::Any,
+};
+
+/// Texts that are read, a volume that is damaged, and one that is updated, which isn't read either.
+static CASES: [Case; 5] = [
     Case {
-        what: "a text whose last piece is short",
-        pebs: &[FIRST_BOOT, SECOND_BOOT, TEXT_0, TEXT_1],
-        top: 0,
-        name: Some(b"boot"),
+        images: &[
+            (
+                "a text whose last piece is short",
+                &[FIRST_BOOT, SECOND_BOOT, TEXT_0, TEXT_1],
+            ),
+            (
+                "the same in the other order",
+                &[FIRST_BOOT, SECOND_BOOT, TEXT_1, TEXT_0],
+            ),
+        ],
         lebs: &[
             (0, 0, Leb::Reads(0x61, 384, 384)),
             (0, 1, Leb::Reads(0x62, 1, 1)),
@@ -23,54 +39,52 @@ static CASES: [Case; 12] = [
             (0, u32::MAX, Leb::Not(ReadError::OutOfRange)),
         ],
         texts: &[(0, Text::Reads(&[(0x61, 384), (0x62, 1)]))],
-        kept: Kept::Any,
+        ..BOOT
     },
     Case {
-        what: "the same in the other order",
-        pebs: &[FIRST_BOOT, SECOND_BOOT, TEXT_1, TEXT_0],
-        top: 0,
-        name: Some(b"boot"),
-        lebs: &[
-            (0, 0, Leb::Reads(0x61, 384, 384)),
-            (0, 1, Leb::Reads(0x62, 1, 1)),
-            (0, 2, Leb::Not(ReadError::OutOfRange)),
-            (0, 3, Leb::Not(ReadError::OutOfRange)),
-            (0, u32::MAX, Leb::Not(ReadError::OutOfRange)),
-        ],
-        texts: &[(0, Text::Reads(&[(0x61, 384), (0x62, 1)]))],
-        kept: Kept::Any,
-    },
-    Case {
-        what: "a text that fills its volume",
-        pebs: &FULL_TEXT,
-        top: 0,
-        name: Some(b"boot"),
+        images: &[("a text that fills its volume", &FULL_TEXT)],
         lebs: &[
             (0, 0, Leb::Reads(0x61, 384, 384)),
             (0, 1, Leb::Reads(0x62, 384, 384)),
             (0, 2, Leb::Not(ReadError::OutOfRange)),
         ],
         texts: &[(0, Text::Reads(&[(0x61, 384), (0x62, 384)]))],
-        kept: Kept::Any,
+        ..BOOT
     },
     Case {
-        what: "an empty text",
-        pebs: &[FIRST_BOOT, SECOND_BOOT],
-        top: 0,
-        name: Some(b"boot"),
+        images: &[("an empty text", &[FIRST_BOOT, SECOND_BOOT])],
         lebs: &[
             (0, 0, Leb::Not(ReadError::OutOfRange)),
             (0, 1, Leb::Not(ReadError::OutOfRange)),
         ],
         texts: &[(0, Text::Reads(&[]))],
-        kept: Kept::Any,
+        ..BOOT
     },
-    // Volumes that are damaged.
     Case {
-        what: "no last piece",
-        pebs: &[FIRST_BOOT, SECOND_BOOT, TEXT_0],
-        top: 0,
-        name: Some(b"boot"),
+        images: &[
+            ("no last piece", &[FIRST_BOOT, SECOND_BOOT, TEXT_0]),
+            ("no first piece", &[FIRST_BOOT, SECOND_BOOT, TEXT_1]),
+            (
+                "pieces of two and of three",
+                &[FIRST_BOOT, SECOND_BOOT, TEXT_0, TEXT_OF_3],
+            ),
+            (
+                "a piece with a wrong check",
+                &[FIRST_BOOT, SECOND_BOOT, TEXT_0, TEXT_UNLIKE],
+            ),
+            (
+                "a piece behind the last",
+                &[FIRST_BOOT, SECOND_BOOT, TEXT_0, TEXT_1, TEXT_BEYOND],
+            ),
+            (
+                "a piece beyond the volume",
+                &[FIRST_BOOT, SECOND_BOOT, TEXT_BEYOND],
+            ),
+            (
+                "more pieces than the volume",
+                &[FIRST_BOOT, SECOND_BOOT, TEXT_OF_4],
+            ),
+        ],
         lebs: &[
             (0, 0, Leb::Not(ReadError::Damaged)),
             (0, 1, Leb::Not(ReadError::Damaged)),
@@ -78,69 +92,16 @@ static CASES: [Case; 12] = [
         ],
         texts: &[(0, Text::Not(ReadError::Damaged))],
         kept: Kept::Damaged,
+        ..BOOT
     },
     Case {
-        what: "no first piece",
-        pebs: &[FIRST_BOOT, SECOND_BOOT, TEXT_1],
-        top: 0,
-        name: Some(b"boot"),
-        lebs: &[],
-        texts: &[(0, Text::Not(ReadError::Damaged))],
-        kept: Kept::Damaged,
-    },
-    Case {
-        what: "pieces of two and of three",
-        pebs: &[FIRST_BOOT, SECOND_BOOT, TEXT_0, TEXT_OF_3],
-        top: 0,
-        name: Some(b"boot"),
-        lebs: &[],
-        texts: &[(0, Text::Not(ReadError::Damaged))],
-        kept: Kept::Damaged,
-    },
-    Case {
-        what: "a piece with a wrong check",
-        pebs: &[FIRST_BOOT, SECOND_BOOT, TEXT_0, TEXT_UNLIKE],
-        top: 0,
-        name: Some(b"boot"),
-        lebs: &[],
-        texts: &[(0, Text::Not(ReadError::Damaged))],
-        kept: Kept::Damaged,
-    },
-    Case {
-        what: "a piece behind the last",
-        pebs: &[FIRST_BOOT, SECOND_BOOT, TEXT_0, TEXT_1, TEXT_BEYOND],
-        top: 0,
-        name: Some(b"boot"),
-        lebs: &[],
-        texts: &[(0, Text::Not(ReadError::Damaged))],
-        kept: Kept::Damaged,
-    },
-    Case {
-        what: "a piece beyond the volume",
-        pebs: &[FIRST_BOOT, SECOND_BOOT, TEXT_BEYOND],
-        top: 0,
-        name: Some(b"boot"),
-        lebs: &[],
-        texts: &[(0, Text::Not(ReadError::Damaged))],
-        kept: Kept::Damaged,
-    },
-    Case {
-        what: "more pieces than the volume",
-        pebs: &[FIRST_BOOT, SECOND_BOOT, TEXT_OF_4],
-        top: 0,
-        name: Some(b"boot"),
-        lebs: &[],
-        texts: &[(0, Text::Not(ReadError::Damaged))],
-        kept: Kept::Damaged,
-    },
-    Case {
-        what: "pieces of five, six and seven while they are updated",
-        pebs: &UPDATING,
-        top: 0,
-        name: Some(b"boot"),
+        images: &[(
+            "pieces of five, six and seven while they are updated",
+            &UPDATING,
+        )],
         lebs: &[(0, 0, Leb::Not(ReadError::Updating))],
         texts: &[(0, Text::Not(ReadError::Updating))],
-        kept: Kept::Any,
+        ..BOOT
     },
 ];
 

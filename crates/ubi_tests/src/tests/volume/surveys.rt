@@ -15,22 +15,16 @@ use ubi_volume::{Surveyed, survey, survey_from};
 
 /// Whether what is surveyed has the states, the numbers, the winners of volume 0 and of none, and the records.
 fn is_found(surveyed: &Surveyed) -> bool {
-    let numbers = (
-        surveyed.top_sqnum(),
-        surveyed.image_seq(),
-        surveyed.mean_ec(),
-    );
-    let winners = (
-        surveyed.winner(0, 0),
-        surveyed.winner(0, 20),
-        surveyed.winner(1, 0),
-    );
     let table = surveyed.table();
-    let records = (table.get(0).is_some(), table.get(1).is_some());
     surveyed.states() == [Table, Table, Used, Used, Orphan, Blank].as_slice()
-        && numbers == (7, 0x1234_5678, 0)
-        && winners == (Some(2), Some(4), None)
-        && records == (true, false)
+        && surveyed.top_sqnum() == 7
+        && surveyed.image_seq() == 0x1234_5678
+        && surveyed.mean_ec() == 0
+        && surveyed.winner(0, 0) == Some(2)
+        && surveyed.winner(0, 20) == Some(4)
+        && surveyed.winner(1, 0).is_none()
+        && table.get(0).is_some()
+        && table.get(1).is_none()
 }
 
 #[test]
