@@ -12,7 +12,6 @@ mod fake;
 mod faults;
 mod files;
 mod geometry;
-mod headers;
 mod large;
 mod lines;
 mod list;

@@ -3,7 +3,6 @@
 use super::answers::assert_over;
 use super::contents::{Contents, EMPTY};
 use super::fake::Broken;
-use super::headers::{COPY_0, COPY_1, COPY_OF_64, EC, ERASED_EC, LEB_0, OTHER_EC};
 use super::pebs::{
     A, B, C, C_LAST, C_LAST_BUT_1, COUNTED_OLD, ERASED, FIRST, FREE, RIGHT, SECOND, WORN_OUT_B,
     WRONG_9,
@@ -12,6 +11,7 @@ use super::plans::{Plan, Reading, assert_plans};
 use std::alloc::Global;
 use std::process::Abort;
 use std::test::Fail;
+use ubi_probe::header_bytes::{COPY_0, COPY_1, COPY_OF_64, ERASED_EC, LEB_0, OTHER_EC};
 
 /// Logical eraseblock 1 of `root` is changed by two pages.
 const TWO_PAGES: Plan = Plan {
@@ -24,11 +24,9 @@ const TWO_PAGES: Plan = Plan {
     turn: 3,
     count: 5,
     steps: &[
-        (5 * 512 + 64, COPY_OF_128),
-        (5 * 512 + 128, &[0x61; 64]),
-        (5 * 512 + 192, &[0x61; 64]),
-        (3 * 512, &[0xFF; 512]),
-        (3 * 512, &ERASED_EC),
+        (5 * 512 + 64, &[COPY_OF_128, &[0x61; 64], &[0x61; 64]]),
+        (3 * 512, &[&[0xFF; 512]]),
+        (3 * 512, &[&ERASED_EC]),
     ],
     readings: &[Reading {
         line: "extract a.img --id 0 --out b.img",
@@ -64,10 +62,9 @@ const ONE_PAGE: Plan = Plan {
     turn: 2,
     count: 4,
     steps: &[
-        (5 * 512 + 64, &COPY_OF_64),
-        (5 * 512 + 128, &[0x61; 64]),
-        (3 * 512, &[0xFF; 512]),
-        (3 * 512, &ERASED_EC),
+        (5 * 512 + 64, &[&COPY_OF_64, &[0x61; 64]]),
+        (3 * 512, &[&[0xFF; 512]]),
+        (3 * 512, &[&ERASED_EC]),
     ],
     readings: ONE_PAGE_READ,
     ..TWO_PAGES
@@ -193,17 +190,7 @@ fn turns_at_the_last_page_that_is_not_blank(rt: HostRuntime) -> Result<(), Fail>
 /// The image whose only eraseblock with a number, 8, is that of logical eraseblock 1, and behind it a clean free one.
 /// The old eraseblock stays, so that it is stale.
 const NAMED_ONCE: Plan = Plan {
-    image: Contents::Pebs(
-        &[FIRST, SECOND, A, B, C, FREE],
-        &[
-            (0, &EC),
-            (512, &EC),
-            (1024, &EC),
-            (1536, &OTHER_EC),
-            (2048, &EC),
-            (2560, &EC),
-        ],
-    ),
+    image: Contents::UnnumberedBut(&[FIRST, SECOND, A, B, C, FREE], &[(1536, &OTHER_EC)]),
     lines: "steps 2\nprogram block=5 page=1\nprogram block=5 page=2\n",
     turn: 2,
     count: 2,
@@ -221,16 +208,7 @@ static LEFT: [Plan; 3] = [
     NAMED_ONCE,
     // The free eraseblock is blank, and is made ready before.
     Plan {
-        image: Contents::Pebs(
-            &[FIRST, SECOND, A, B, C, ERASED],
-            &[
-                (0, &EC),
-                (512, &EC),
-                (1024, &EC),
-                (1536, &OTHER_EC),
-                (2048, &EC),
-            ],
-        ),
+        image: Contents::UnnumberedBut(&[FIRST, SECOND, A, B, C, ERASED], &[(1536, &OTHER_EC)]),
         lines: "steps 4\nerase block=5\nprogram block=5 page=0\nprogram block=5 page=1\n\
             program block=5 page=2\n",
         turn: 4,
@@ -288,7 +266,7 @@ static FOUND: [Plan; 4] = [
             program block=6 page=2\nerase block=5\nprogram block=5 page=0\n",
         turn: 3,
         count: 5,
-        steps: &[(5 * 512 + 64, PLAIN_7), (6 * 512 + 64, COPY_7)],
+        steps: &[(5 * 512 + 64, &[PLAIN_7]), (6 * 512 + 64, &[COPY_7])],
         readings: &[Reading {
             line: "extract a.img --id 0 --out b.img",
             old: ("bytes 7680\n", Contents::RootText),
@@ -308,10 +286,7 @@ static FOUND: [Plan; 4] = [
     },
     // A stale eraseblock is taken where there is no other.
     Plan {
-        image: Contents::Pebs(
-            &[FIRST, SECOND, COUNTED_OLD, RIGHT, WRONG_9],
-            &[(0, &EC), (512, &EC), (1536, &EC), (2048, &EC)],
-        ),
+        image: Contents::Unnumbered(&[FIRST, SECOND, COUNTED_OLD, RIGHT, WRONG_9]),
         line: "change a.img --id 0 --lnum 0 --from new.bin --out b.img",
         lines: "steps 6\nerase block=2\nprogram block=2 page=0\nprogram block=2 page=1\n\
             program block=2 page=2\nerase block=3\nprogram block=3 page=0\n",
@@ -440,17 +415,7 @@ static REFUSED: [Refused; 16] = [
     },
     // The only eraseblock that names the image.
     Refused {
-        image: Contents::Pebs(
-            &[FIRST, SECOND, A, B, C, FREE],
-            &[
-                (0, &EC),
-                (512, &EC),
-                (1024, &EC),
-                (1536, &EC),
-                (2048, &EC),
-                (2560, &OTHER_EC),
-            ],
-        ),
+        image: Contents::UnnumberedBut(&[FIRST, SECOND, A, B, C, FREE], &[(2560, &OTHER_EC)]),
         ..PAGE
     },
     Refused {

@@ -239,52 +239,58 @@ static EDITED: [(&[Peb], &[Peb]); 4] = [
     ),
 ];
 
-/// Asserts it after each number of reads. No eraseblock is read more than 12 times, so that the last number is that of
-/// sources that don't change.
-fn assert_edited(
+/// What is asked of a source that changes.
+#[derive(Clone, Copy)]
+enum Work {
+    /// To be changed and renamed.
+    Edit,
+    /// To be told of.
+    Answer,
+}
+
+impl Work {
+    /// Whether it has an answer after so many reads.
+    fn is_done(self, alloc: Global, first: &[u8], then: &[u8], left: u64) -> Result<bool, Fail> {
+        match self {
+            Work::Edit => is_edited(alloc, first, then, left),
+            Work::Answer => are_answered(alloc, first, then, left),
+        }
+    }
+
+    /// A number of reads below which a source changes. From there on it is as one that doesn't: no eraseblock is read more than
+    /// 12 times to be edited, and more than 7 times to be told of.
+    fn most(self) -> u64 {
+        match self {
+            Work::Edit => 100,
+            Work::Answer => 50,
+        }
+    }
+}
+
+/// Asserts it of images, each after each number of reads.
+fn assert_done(
     rt: &impl Abort,
     alloc: Global,
-    (first, then): (&[u8], &[u8]),
+    work: Work,
+    changes: &[(&'static [Peb], &'static [Peb])],
 ) -> Result<(), Fail> {
-    for left in 0..100 {
-        let is = is_edited(alloc, first, then, left)?;
-        assert!(*rt; is, "after {left} reads");
+    for (first, then) in changes {
+        let first = Contents::Pebs(first, &[]).bytes(alloc)?;
+        let then = Contents::Pebs(then, &[]).bytes(alloc)?;
+        for left in 0..work.most() {
+            let is = work.is_done(alloc, first.as_slice(), then.as_slice(), left)?;
+            assert!(*rt; is, "after {left} reads");
+        }
     }
     Ok(())
 }
 
 #[test]
 fn edits_a_source_that_changes(rt: HostRuntime) -> Result<(), Fail> {
-    let alloc = rt.alloc();
-    for (first, then) in &EDITED {
-        let first = Contents::Pebs(first, &[]).bytes(alloc)?;
-        let then = Contents::Pebs(then, &[]).bytes(alloc)?;
-        assert_edited(&rt, alloc, (first.as_slice(), then.as_slice()))?;
-    }
-    Ok(())
-}
-
-/// Asserts it after each number of reads. No eraseblock is read more than 7 times, so that the last numbers are those of
-/// sources that don't change.
-fn assert_answered(
-    rt: &impl Abort,
-    alloc: Global,
-    (first, then): (&[u8], &[u8]),
-) -> Result<(), Fail> {
-    for left in 0..50 {
-        let is = are_answered(alloc, first, then, left)?;
-        assert!(*rt; is, "after {left} reads");
-    }
-    Ok(())
+    assert_done(&rt, rt.alloc(), Work::Edit, &EDITED)
 }
 
 #[test]
 fn answers_of_a_source_that_changes(rt: HostRuntime) -> Result<(), Fail> {
-    let alloc = rt.alloc();
-    for (first, then) in &CHANGES {
-        let first = Contents::Pebs(first, &[]).bytes(alloc)?;
-        let then = Contents::Pebs(then, &[]).bytes(alloc)?;
-        assert_answered(&rt, alloc, (first.as_slice(), then.as_slice()))?;
-    }
-    Ok(())
+    assert_done(&rt, rt.alloc(), Work::Answer, &CHANGES)
 }

@@ -1,63 +1,61 @@
 //! The command `check`.
 
-use super::answers::{Run, assert_runs};
-use super::contents::{Contents, EMPTY};
+use super::answers::assert_both;
+use super::contents::Contents;
+use std::alloc::{AllocError, Global};
 use std::test::Fail;
 
-const CHECK: Run = Run {
-    image: Contents::Blank,
-    new: EMPTY,
-    line: "check a.img",
-    answer: (
-        "blocks 3\nblank 3\nfree 0\ntable 0\nused 0\nstale 0\norphan 0\n\
-            dropped 0\ncorrupt 0\ngarbage 0\ntop sqnum 0\nimage seq 0\n\
-            mean counter 0\naccepted\n",
-        0,
-    ),
-    output: EMPTY,
-};
-
-static RUNS: [Run; 5] = [
-    CHECK,
-    Run {
-        image: Contents::Root,
-        answer: (
-            "blocks 5\nblank 0\nfree 0\ntable 2\nused 3\nstale 0\norphan 0\n\
-                dropped 0\ncorrupt 0\ngarbage 0\ntop sqnum 0\nimage seq 305419896\n\
-                mean counter 0\naccepted\n",
-            0,
-        ),
-        ..CHECK
-    },
-    // An eraseblock of each state.
-    Run {
-        image: Contents::Mixed,
-        answer: (
-            "blocks 9\nblank 0\nfree 0\ntable 2\nused 1\nstale 1\norphan 2\n\
-                dropped 1\ncorrupt 1\ngarbage 1\ntop sqnum 12\nimage seq 0\n\
-                mean counter 0\naccepted\n",
-            0,
-        ),
-        ..CHECK
-    },
-    Run {
-        image: Contents::MixedMore,
-        answer: (
-            "blocks 11\nblank 1\nfree 1\ntable 2\nused 1\nstale 1\norphan 2\n\
-                dropped 1\ncorrupt 1\ngarbage 1\ntop sqnum 12\nimage seq 0\n\
-                mean counter 0\naccepted\n",
-            0,
-        ),
-        ..CHECK
-    },
-    Run {
-        image: Contents::Faulty,
-        answer: ("refused S4 ImageSeq block=3\n", 1),
-        ..CHECK
-    },
+/// What the lines count that `check` prints, in their order.
+static COUNTED: [&str; 13] = [
+    "blocks",
+    "blank",
+    "free",
+    "table",
+    "used",
+    "stale",
+    "orphan",
+    "dropped",
+    "corrupt",
+    "garbage",
+    "top sqnum",
+    "image seq",
+    "mean counter",
 ];
+
+/// Images that are accepted, with the number in each of these lines. The mixed ones have an eraseblock of each state.
+static ACCEPTED: [(Contents, [u32; 13]); 4] = [
+    (Contents::Blank, [3, 3, 0, 0, 0, 0, 0, 0, 0, 0, 0, 0, 0]),
+    (
+        Contents::Root,
+        [5, 0, 0, 2, 3, 0, 0, 0, 0, 0, 0, 305_419_896, 0],
+    ),
+    (Contents::Mixed, [9, 0, 0, 2, 1, 1, 2, 1, 1, 1, 12, 0, 0]),
+    (
+        Contents::MixedMore,
+        [11, 1, 1, 2, 1, 1, 2, 1, 1, 1, 12, 0, 0],
+    ),
+];
+
+/// The lines of an image that is accepted.
+fn lines(alloc: Global, numbers: &[u32; 13]) -> Result<String, AllocError> {
+    let mut lines = String::new(alloc);
+    for (what, number) in COUNTED.iter().zip(numbers) {
+        lines.push_str(format!(in alloc; "{what} {number}\n")?.as_str())?;
+    }
+    lines.push_str("accepted\n")?;
+    Ok(lines)
+}
 
 #[test]
 fn counts_the_states_of_eraseblocks(rt: HostRuntime) -> Result<(), Fail> {
-    assert_runs(&rt, rt.alloc(), &RUNS)
+    let alloc = rt.alloc();
+    for (image, numbers) in &ACCEPTED {
+        let (image, lines) = (image.bytes(alloc)?, lines(alloc, numbers)?);
+        let files: (&[u8], &[u8]) = (image.as_slice(), &[]);
+        assert_both(&rt, alloc, files, "check a.img", (lines.as_str(), 0), &[])?;
+    }
+    let faulty = Contents::Faulty.bytes(alloc)?;
+    let files: (&[u8], &[u8]) = (faulty.as_slice(), &[]);
+    let refused = ("refused S4 ImageSeq block=3\n", 1);
+    assert_both(&rt, alloc, files, "check a.img", refused, &[])
 }

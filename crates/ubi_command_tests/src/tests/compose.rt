@@ -3,9 +3,10 @@
 use super::answers::{Run, assert_over, assert_runs};
 use super::contents::{Contents, EMPTY};
 use super::fake::Broken;
-use super::headers::EC;
 use super::pebs::{ERASED, Ec, Peb, ROOT_FIRST, ROOT_SECOND};
 use std::test::Fail;
+use ubi_probe::header_bytes::EC;
+use ubi_probe::texts::ROOT_TEXT;
 
 /// A text without a line.
 const NOTHING: Run = Run {
@@ -24,15 +25,7 @@ static COMPOSED: [Run; 10] = [
     },
     // Three logical eraseblocks in another order.
     Run {
-        image: Contents::Runs(&[
-            (b"volume 0 dynamic 20 1 00 root\nleb 0 2 ", 1),
-            (b"43", 384),
-            (b"\nleb 0 0 ", 1),
-            (b"41", 384),
-            (b"\nleb 0 1 ", 1),
-            (b"42", 384),
-            (b"\n", 1),
-        ]),
+        image: Contents::Runs(ROOT_TEXT),
         line: "compose a.txt --out b.img --seq 305419896",
         answer: ("blocks 5\n", 0),
         output: Contents::NormalRoot,

@@ -1,7 +1,6 @@
 //! What files hold: images, texts and others.
 
 use super::answers::small;
-use super::headers::{EC, OTHER_EC};
 use super::pebs::{
     A, ALIGNED_FIRST, ALIGNED_SECOND, ALIGNED_ZEROED, B, BEYOND, BOOT_FIRST, BOOT_SECOND, C,
     DROPPED, EMPTY_B, FIRST, FIRST_ALIGNED, FIRST_BOOT, FIRST_DATA, FIRST_MARKED, FIRST_NAME,
@@ -11,10 +10,15 @@ use super::pebs::{
     SECOND_MARKED, SECOND_NAME, SECOND_PLAIN, SECOND_STRANGE, SECOND_UPDATING, TEXT_0, TEXT_1,
     UNCHECKED, UNCHECKED_0, UNCHECKED_1, UNCHECKED_2, UNCHECKED_3, UNCHECKED_4, UNLIKE,
     UNNAMED_EMPTY_D, UNNAMED_FIRST, UNNAMED_FREE, UNNAMED_SECOND, UNREAD_13, UPDATING_FIRST,
-    UPDATING_SECOND, WORN_A, WORN_B, WORN_C, WORN_FIRST, WORN_SECOND, WRONG_9, put_pebs, put_runs,
+    UPDATING_SECOND, WORN_A, WORN_B, WORN_C, WORN_FIRST, WORN_SECOND, WRONG_9, put_pebs,
+    put_unnumbered,
 };
 use std::alloc::Global;
 use std::test::Fail;
+use ubi_probe::chips::Chip;
+use ubi_probe::header_bytes::OTHER_EC;
+use ubi_probe::records::SMALL_ROOT;
+use ubi_probe::texts::put_runs;
 
 /// What a file holds.
 #[derive(Clone, Copy)]
@@ -23,8 +27,13 @@ pub enum Contents {
     Runs(&'static [(&'static [u8], usize)]),
     /// The first ones of these.
     First(&'static [(&'static [u8], usize)], usize),
+    /// The first bytes of the image of a dynamic volume of 3 eraseblocks of a chip's size.
+    Chip(Chip, usize),
     /// Eraseblocks, and bytes that stand over theirs, each with their place.
     Pebs(&'static [Peb], &'static [(usize, &'static [u8])]),
+    /// These eraseblocks where they name no image; and the same with bytes that stand over theirs.
+    Unnumbered(&'static [Peb]),
+    UnnumberedBut(&'static [Peb], &'static [(usize, &'static [u8])]),
     /// Three blank eraseblocks, and bytes that are one too few for one.
     Blank,
     Odd,
@@ -93,9 +102,6 @@ impl Contents {
     /// What it is by its eraseblocks, or by its bytes.
     fn parts(&self) -> Contents {
         match *self {
-            Contents::Runs(runs) => Contents::Runs(runs),
-            Contents::First(runs, len) => Contents::First(runs, len),
-            Contents::Pebs(pebs, over) => Contents::Pebs(pebs, over),
             Contents::Blank => BLANK,
             Contents::Odd => ODD,
             Contents::Root => ROOT,
@@ -127,6 +133,7 @@ impl Contents {
             Contents::NormalBoot => NORMAL_BOOT,
             Contents::NormalDamagedBoot => NORMAL_DAMAGED_BOOT,
             Contents::NormalUpdating => NORMAL_UPDATING,
+            parts => parts,
         }
     }
 
@@ -136,13 +143,20 @@ impl Contents {
         match self.parts() {
             Contents::Pebs(pebs, over) => {
                 put_pebs(&mut bytes, &small()?, pebs)?;
-                for (at, over) in over {
-                    overwrite(bytes.as_mut_slice(), *at, over);
-                }
+                put_over(bytes.as_mut_slice(), over);
+            }
+            Contents::Unnumbered(pebs) => put_unnumbered(&mut bytes, &small()?, pebs)?,
+            Contents::UnnumberedBut(pebs, over) => {
+                put_unnumbered(&mut bytes, &small()?, pebs)?;
+                put_over(bytes.as_mut_slice(), over);
             }
             Contents::Runs(runs) => put_runs(&mut bytes, runs)?,
             Contents::First(runs, len) => {
                 put_runs(&mut bytes, runs)?;
+                bytes.truncate(len);
+            }
+            Contents::Chip(chip, len) => {
+                bytes = chip.image(alloc, &SMALL_ROOT)?;
                 bytes.truncate(len);
             }
             _ => return Err("a name of a name".into()),
@@ -155,6 +169,13 @@ impl Contents {
 pub fn overwrite(bytes: &mut [u8], at: usize, over: &[u8]) {
     for (old, new) in bytes.iter_mut().skip(at).zip(over) {
         *old = *new;
+    }
+}
+
+/// Writes each of some bytes over others.
+fn put_over(bytes: &mut [u8], over: &[(usize, &[u8])]) {
+    for (at, new) in over {
+        overwrite(bytes, *at, new);
     }
 }
 
@@ -177,10 +198,7 @@ static ROOT_TEXT: Contents = Contents::Runs(&[
     (b"\xFF", 6528),
 ]);
 
-static UNNAMED: Contents = Contents::Pebs(
-    &[FIRST, SECOND, A, B, C],
-    &[(0, &EC), (512, &EC), (1024, &EC), (1536, &EC), (2048, &EC)],
-);
+static UNNAMED: Contents = Contents::Unnumbered(&[FIRST, SECOND, A, B, C]);
 
 static REVERSED: Contents = Contents::Pebs(
     &[
@@ -194,31 +212,16 @@ static REVERSED: Contents = Contents::Pebs(
     &[],
 );
 
-static RIVALS: Contents = Contents::Pebs(
-    &[FIRST, SECOND, OLD, RIGHT, WRONG_9],
-    &[(0, &EC), (512, &EC), (1024, &EC), (1536, &EC), (2048, &EC)],
-);
+static RIVALS: Contents = Contents::Unnumbered(&[FIRST, SECOND, OLD, RIGHT, WRONG_9]);
 
-static MIXED: Contents = Contents::Pebs(
+static MIXED: Contents = Contents::UnnumberedBut(
     &[
         FIRST, SECOND, OLD, UNCHECKED, BEYOND, UNLIKE, EMPTY_B, DROPPED, FREE,
     ],
-    &[
-        (0, &EC),
-        (512, &EC),
-        (1024, &EC),
-        (1536, &EC),
-        (2048, &EC),
-        (2560, &EC),
-        (3072, &EC),
-        (3136, b"u"),
-        (3584, &EC),
-        (4096, &EC),
-        (4096, b"u"),
-    ],
+    &[(3136, b"u"), (4096, b"u")],
 );
 
-static MIXED_MORE: Contents = Contents::Pebs(
+static MIXED_MORE: Contents = Contents::UnnumberedBut(
     &[
         FIRST,
         SECOND,
@@ -232,76 +235,42 @@ static MIXED_MORE: Contents = Contents::Pebs(
         UNREAD_13,
         UNNAMED_FREE,
     ],
-    &[
-        (0, &EC),
-        (512, &EC),
-        (1024, &EC),
-        (1536, &EC),
-        (2048, &EC),
-        (2560, &EC),
-        (3072, &EC),
-        (3136, b"u"),
-        (3584, &EC),
-        (4096, &EC),
-        (4096, b"u"),
-    ],
+    &[(3136, b"u"), (4096, b"u")],
 );
 
-static MARKED: Contents = Contents::Pebs(&[FIRST_MARKED, SECOND_MARKED], &[(0, &EC), (512, &EC)]);
+static MARKED: Contents = Contents::Unnumbered(&[FIRST_MARKED, SECOND_MARKED]);
 
-static PLAIN_NAME: Contents = Contents::Pebs(&[FIRST_PLAIN, SECOND_PLAIN], &[(0, &EC), (512, &EC)]);
+static PLAIN_NAME: Contents = Contents::Unnumbered(&[FIRST_PLAIN, SECOND_PLAIN]);
 
-static STRANGE_NAME: Contents = Contents::Pebs(
-    &[FIRST_STRANGE, SECOND_STRANGE],
-    &[(0, &EC), (512, &EC)],
-);
+static STRANGE_NAME: Contents = Contents::Unnumbered(&[FIRST_STRANGE, SECOND_STRANGE]);
 
-static ALIGNED_TABLE: Contents = Contents::Pebs(
-    &[FIRST_ALIGNED, SECOND_ALIGNED],
-    &[(0, &EC), (512, &EC)],
-);
+static ALIGNED_TABLE: Contents = Contents::Unnumbered(&[FIRST_ALIGNED, SECOND_ALIGNED]);
 
 static WITH_DATA: Contents = Contents::Pebs(&[FIRST_DATA, SECOND_DATA, A, B, C, FREE, FREE], &[]);
 
 static WITH_NAME: Contents = Contents::Pebs(&[FIRST_NAME, SECOND_NAME, A, B, C, FREE, FREE], &[]);
 
-static UPDATING: Contents = Contents::Pebs(
-    &[
-        FIRST_UPDATING,
-        SECOND_UPDATING,
-        UNCHECKED_0,
-        UNCHECKED_1,
-        UNCHECKED_2,
-        UNCHECKED_3,
-        UNCHECKED_4,
-    ],
-    &[
-        (0, &EC),
-        (512, &EC),
-        (1024, &EC),
-        (1536, &EC),
-        (2048, &EC),
-        (2560, &EC),
-        (3072, &EC),
-    ],
-);
+static UPDATING: Contents = Contents::Unnumbered(&[
+    FIRST_UPDATING,
+    SECOND_UPDATING,
+    UNCHECKED_0,
+    UNCHECKED_1,
+    UNCHECKED_2,
+    UNCHECKED_3,
+    UNCHECKED_4,
+]);
 
-static EMPTY_BOOT: Contents = Contents::Pebs(&[FIRST_BOOT, SECOND_BOOT], &[(0, &EC), (512, &EC)]);
+static EMPTY_BOOT: Contents = Contents::Unnumbered(&[FIRST_BOOT, SECOND_BOOT]);
 
-static DAMAGED_BOOT: Contents = Contents::Pebs(
-    &[FIRST_BOOT, SECOND_BOOT, TEXT_0],
-    &[(0, &EC), (512, &EC), (1024, &EC)],
-);
+static DAMAGED_BOOT: Contents = Contents::Unnumbered(&[FIRST_BOOT, SECOND_BOOT, TEXT_0]);
 
-static WHOLE_BOOT: Contents = Contents::Pebs(
-    &[FIRST_BOOT, SECOND_BOOT, TEXT_0, TEXT_1],
-    &[(0, &EC), (512, &EC), (1024, &EC), (1536, &EC)],
-);
+static WHOLE_BOOT: Contents = Contents::Unnumbered(&[FIRST_BOOT, SECOND_BOOT, TEXT_0, TEXT_1]);
 
-static ALIGNED_ROOT: Contents = Contents::Pebs(
-    &[FIRST_ALIGNED, SECOND_ALIGNED, ALIGNED_ZEROED],
-    &[(0, &EC), (512, &EC), (1024, &EC)],
-);
+static ALIGNED_ROOT: Contents = Contents::Unnumbered(&[
+    FIRST_ALIGNED,
+    SECOND_ALIGNED,
+    ALIGNED_ZEROED,
+]);
 
 static NORMAL_NOTHING: Contents = Contents::Pebs(&[UNNAMED_FIRST, UNNAMED_SECOND], &[]);
 
@@ -310,32 +279,30 @@ static NORMAL_ROOT: Contents = Contents::Pebs(
     &[],
 );
 
-static NORMAL_FIRST: Contents = Contents::Pebs(
-    &[ROOT_FIRST, ROOT_SECOND, NORMAL_7],
-    &[(0, &EC), (512, &EC), (1024, &EC)],
-);
+static NORMAL_FIRST: Contents = Contents::Unnumbered(&[ROOT_FIRST, ROOT_SECOND, NORMAL_7]);
 
 static NORMAL_SPARE: Contents = Contents::Pebs(
     &[ROOT_FIRST, ROOT_SECOND, NORMAL_AB, NORMAL_FREE],
     &[],
 );
 
-static NORMAL_ALIGNED_ROOT: Contents = Contents::Pebs(
-    &[ALIGNED_FIRST, ALIGNED_SECOND, NORMAL_ALIGNED],
-    &[(0, &EC), (512, &EC), (1024, &EC)],
-);
+static NORMAL_ALIGNED_ROOT: Contents = Contents::Unnumbered(&[
+    ALIGNED_FIRST,
+    ALIGNED_SECOND,
+    NORMAL_ALIGNED,
+]);
 
-static NORMAL_BOOT: Contents = Contents::Pebs(
-    &[BOOT_FIRST, BOOT_SECOND, NORMAL_TEXT_0, NORMAL_TEXT_1],
-    &[(0, &EC), (512, &EC), (1024, &EC), (1536, &EC)],
-);
+static NORMAL_BOOT: Contents = Contents::Unnumbered(&[
+    BOOT_FIRST,
+    BOOT_SECOND,
+    NORMAL_TEXT_0,
+    NORMAL_TEXT_1,
+]);
 
-static NORMAL_DAMAGED_BOOT: Contents = Contents::Pebs(
-    &[BOOT_FIRST, BOOT_SECOND, NORMAL_DAMAGED],
-    &[(0, &EC), (512, &EC), (1024, &EC)],
-);
+static NORMAL_DAMAGED_BOOT: Contents = Contents::Unnumbered(&[
+    BOOT_FIRST,
+    BOOT_SECOND,
+    NORMAL_DAMAGED,
+]);
 
-static NORMAL_UPDATING: Contents = Contents::Pebs(
-    &[UPDATING_FIRST, UPDATING_SECOND],
-    &[(0, &EC), (512, &EC)],
-);
+static NORMAL_UPDATING: Contents = Contents::Unnumbered(&[UPDATING_FIRST, UPDATING_SECOND]);

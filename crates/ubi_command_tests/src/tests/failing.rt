@@ -4,13 +4,13 @@ use super::answers::assert_over;
 use super::contents::{Contents, EMPTY};
 use super::fake::Broken;
 use super::geometry::SMALL;
-use super::headers::COPY_OF_64;
 use super::pebs::{A, B, C, FIRST, FREE, ORPHAN, SECOND};
 use super::rename::LINES;
 use std::alloc::Global;
 use std::io::ErrorKind;
 use std::process::Abort;
 use std::test::Fail;
+use ubi_probe::header_bytes::COPY_OF_64;
 
 /// A line over an image, and ways in which its files fail: of each the answer, and how many bytes of the output are
 /// written.

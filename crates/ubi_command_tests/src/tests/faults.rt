@@ -1,13 +1,13 @@
 //! Images that are refused for a fault of an eraseblock, of the table or of a volume.
 
 use super::cases::{Answer, Case, assert_cases};
-use super::headers::{COPY_FLAG_2, VERSION_2};
 use super::pebs::{
     A, ALIGNMENT_0, B, C, COMPAT_0, COMPAT_2, COMPAT_4, COMPAT_5, Ec, FIRST, FREE, OLD, OTHER_B,
     OVERFULL, SECOND, SEVEN, STATIC_A, THIRD, Vid,
 };
 use std::test::Fail;
 use ubi_media::{EcFault, RecFault, Refusal, VidFault};
+use ubi_probe::header_bytes::{COPY_FLAG_2, VERSION_2};
 
 /// The image of the volume `root` with an erase-counter header of version 2.
 const VERSION: Case = Case {

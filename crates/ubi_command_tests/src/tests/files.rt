@@ -2,13 +2,13 @@
 
 use super::contents::{Contents, EMPTY};
 use super::geometry::SMALL;
-use super::headers::{COPY_OF_64, ERASED_EC, OTHER_EC};
 use super::pebs::{
     A, B, C, FIRST, FIRST_DATA, FREE, SECOND, SECOND_DATA, UNNAMED_FIRST, UNNAMED_SECOND,
 };
 use super::rename::LINES;
 use super::sessions::{Session, assert_session};
 use std::test::Fail;
+use ubi_probe::header_bytes::{COPY_OF_64, ERASED_EC, OTHER_EC};
 
 /// Commands that write nothing. A file that can't be read comes before the work, and the first of two first.
 static READERS: [Session; 2] = [

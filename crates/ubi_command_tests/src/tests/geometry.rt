@@ -3,11 +3,11 @@
 use super::answers::{assert_both, is_answer, run_over};
 use super::contents::{Contents, EMPTY};
 use super::fake::Broken;
-use super::headers::{EC, NO_PAGE_EC, SHARED_EC};
 use super::pebs::{A, ERASED, FIRST, SECOND};
 use std::str;
 use std::test::Fail;
 use ubi_commands::run_geometry;
+use ubi_probe::header_bytes::{EC, NO_PAGE_EC, SHARED_EC};
 
 /// What is told of images of small eraseblocks: pages of 64 and of 128 bytes fit.
 pub const SMALL: &str =
@@ -20,6 +20,16 @@ const SHARED: Contents = Contents::Runs(&[
     (&SHARED_EC, 1),
     (b"\xFF", 960),
 ]);
+
+/// Three eraseblocks of 1,024 bytes.
+const THREE_OF_1024: &[(&[u8], usize)] = &[
+    (&EC, 1),
+    (b"\0", 960),
+    (&EC, 1),
+    (b"\0", 960),
+    (&EC, 1),
+    (b"\0", 960),
+];
 
 /// Files, and what is told of them.
 static TOLD: [(Contents, (&str, u8)); 14] = [
@@ -40,25 +50,11 @@ static TOLD: [(Contents, (&str, u8)); 14] = [
     ),
     // Cut off in the third eraseblock of 1,024 bytes, by pages and by bytes.
     (
-        Contents::Runs(&[
-            (&EC, 1),
-            (b"\0", 960),
-            (&EC, 1),
-            (b"\0", 960),
-            (&EC, 1),
-            (b"\0", 448),
-        ]),
+        Contents::First(THREE_OF_1024, 2560),
         ("refused F3 Length peb=1024 rest=512\n", 1),
     ),
     (
-        Contents::Runs(&[
-            (&EC, 1),
-            (b"\0", 960),
-            (&EC, 1),
-            (b"\0", 960),
-            (&EC, 1),
-            (b"\0", 7),
-        ]),
+        Contents::First(THREE_OF_1024, 2119),
         ("refused F3 Length peb=1024 rest=71\n", 1),
     ),
     // The third one names other offsets.

@@ -3,15 +3,15 @@
 
 use super::answers::assert_line;
 use super::contents::{Contents, EMPTY};
-use super::headers::{COPY_0, COPY_1, LEB_1};
 use super::sessions::{Session, assert_session};
 use std::fs;
 use std::fs::{File, OpenFile};
 use std::os::unix::fs::FileExt;
 use std::test::Fail;
+use ubi_probe::chips::{PAGE_EC, PAGES, SUBPAGES};
 
 /// A page for each header, and both of them in one, in sub-pages of 512 bytes. Each of the two images has a volume of 3
-/// logical eraseblocks.
+/// logical eraseblocks, and a spare eraseblock, which its normal image hasn't.
 static CHIPS: [Session; 2] = [
     Session {
         before: BEFORE,
@@ -109,8 +109,8 @@ static CHIPS: [Session; 2] = [
             ),
         ],
         after: &[
-            ("chip.img", Contents::Runs(PAGE_IMAGE)),
-            ("chip_normal.img", Contents::First(PAGE_IMAGE, 393_216)),
+            ("chip.img", Contents::Chip(PAGES, 524_288)),
+            ("chip_normal.img", Contents::Chip(PAGES, 393_216)),
             ("chip.bin", PAGE_READ),
             ("chip_volumes/0-root", PAGE_READ),
             ("chip_renamed.bin", PAGE_READ),
@@ -212,8 +212,8 @@ static CHIPS: [Session; 2] = [
             ),
         ],
         after: &[
-            ("chip.img", Contents::Runs(SUBPAGE_IMAGE)),
-            ("chip_normal.img", Contents::First(SUBPAGE_IMAGE, 393_216)),
+            ("chip.img", Contents::Chip(SUBPAGES, 524_288)),
+            ("chip_normal.img", Contents::Chip(SUBPAGES, 393_216)),
             ("chip.bin", SUBPAGE_READ),
             ("chip_renamed.bin", SUBPAGE_READ),
             (
@@ -237,65 +237,6 @@ const BEFORE: &[(&str, Contents)] = &[
     ("chip_renamed.img", EMPTY),
 ];
 
-/// The images that are composed. Their normal images are the first three eraseblocks, without the spare one.
-const PAGE_IMAGE: &[(&[u8], usize)] = &[
-    (PAGE_EC, 1),
-    (b"\xFF", 1_984),
-    (&COPY_0, 1),
-    (b"\xFF", 1_984),
-    (b"\0\0\0\x03\0\0\0\x01\0\0\0\0\x01\0\0\x04root", 1),
-    (b"\0", 148),
-    (b"\xCC\x6C\x8E\x28", 1),
-    (NO_RECORD, 127),
-    (b"\xFF", 104_960),
-    (PAGE_EC, 1),
-    (b"\xFF", 1_984),
-    (&COPY_1, 1),
-    (b"\xFF", 1_984),
-    (b"\0\0\0\x03\0\0\0\x01\0\0\0\0\x01\0\0\x04root", 1),
-    (b"\0", 148),
-    (b"\xCC\x6C\x8E\x28", 1),
-    (NO_RECORD, 127),
-    (b"\xFF", 104_960),
-    (PAGE_EC, 1),
-    (b"\xFF", 1_984),
-    (&LEB_1, 1),
-    (b"\xFF", 1_984),
-    (b"ab", 1),
-    (b"\xFF", 126_974),
-    (PAGE_EC, 1),
-    (b"\xFF", 131_008),
-];
-
-const SUBPAGE_IMAGE: &[(&[u8], usize)] = &[
-    (SUBPAGE_EC, 1),
-    (b"\xFF", 448),
-    (&COPY_0, 1),
-    (b"\xFF", 1_472),
-    (b"\0\0\0\x03\0\0\0\x01\0\0\0\0\x01\0\0\x04root", 1),
-    (b"\0", 148),
-    (b"\xCC\x6C\x8E\x28", 1),
-    (NO_RECORD, 127),
-    (b"\xFF", 107_008),
-    (SUBPAGE_EC, 1),
-    (b"\xFF", 448),
-    (&COPY_1, 1),
-    (b"\xFF", 1_472),
-    (b"\0\0\0\x03\0\0\0\x01\0\0\0\0\x01\0\0\x04root", 1),
-    (b"\0", 148),
-    (b"\xCC\x6C\x8E\x28", 1),
-    (NO_RECORD, 127),
-    (b"\xFF", 107_008),
-    (SUBPAGE_EC, 1),
-    (b"\xFF", 448),
-    (&LEB_1, 1),
-    (b"\xFF", 1_472),
-    (b"ab", 1),
-    (b"\xFF", 129_022),
-    (SUBPAGE_EC, 1),
-    (b"\xFF", 131_008),
-];
-
 /// What the volume reads, whose logical eraseblock 1 begins with two bytes.
 const PAGE_READ: Contents = Contents::Runs(&[(b"\xFF", 126_976), (b"ab", 1), (b"\xFF", 253_950)]);
 
@@ -308,23 +249,6 @@ const SUBPAGE_READ: Contents = Contents::Runs(&[
 /// The lines of `check` of what is composed.
 const CHECKED: &str = "blocks 4\nblank 0\nfree 1\ntable 2\nused 1\nstale 0\norphan 0\ndropped 0\n\
     corrupt 0\ngarbage 0\ntop sqnum 0\nimage seq 305419896\nmean counter 0\naccepted\n";
-
-/// The erase-counter headers, and a record of no volume. Their checks, and that of the record of the volume, were
-/// worked out by another program.
-const PAGE_EC: &[u8] = b"UBI#\x01\0\0\0\0\0\0\0\0\0\0\0\0\0\x08\0\0\0\x10\0\x12\x34\x56\x78\
-    \0\0\0\0\0\0\0\0\0\0\0\0\0\0\0\0\0\0\0\0\0\0\0\0\0\0\0\0\0\0\0\0\xF0\xEF\x31\x82";
-
-const SUBPAGE_EC: &[u8] = b"UBI#\x01\0\0\0\0\0\0\0\0\0\0\0\0\0\x02\0\0\0\x08\0\x12\x34\x56\x78\
-    \0\0\0\0\0\0\0\0\0\0\0\0\0\0\0\0\0\0\0\0\0\0\0\0\0\0\0\0\0\0\0\0\x62\xA5\x03\x53";
-
-const NO_RECORD: &[u8] = b"\
-    \0\0\0\0\0\0\0\0\0\0\0\0\0\0\0\0\0\0\0\0\0\0\0\0\0\0\0\0\
-    \0\0\0\0\0\0\0\0\0\0\0\0\0\0\0\0\0\0\0\0\0\0\0\0\0\0\0\0\
-    \0\0\0\0\0\0\0\0\0\0\0\0\0\0\0\0\0\0\0\0\0\0\0\0\0\0\0\0\
-    \0\0\0\0\0\0\0\0\0\0\0\0\0\0\0\0\0\0\0\0\0\0\0\0\0\0\0\0\
-    \0\0\0\0\0\0\0\0\0\0\0\0\0\0\0\0\0\0\0\0\0\0\0\0\0\0\0\0\
-    \0\0\0\0\0\0\0\0\0\0\0\0\0\0\0\0\0\0\0\0\0\0\0\0\0\0\0\0\
-    \xF1\x16\xC3\x6B";
 
 #[test]
 fn answers_of_eraseblocks_of_128_kib(rt: HostRuntime) -> Result<(), Fail> {
@@ -357,7 +281,7 @@ fn reads_beyond_4_gib(rt: HostRuntime) -> Result<(), Fail> {
     let alloc = rt.alloc();
     let file = File::create(&rt, "far.img")?;
     file.set_len(2401 * 2_097_152)?;
-    file.write_all_at(PAGE_EC, 2400 * 2_097_152)?;
+    file.write_all_at(&PAGE_EC, 2400 * 2_097_152)?;
     for (line, text, status) in &FAR {
         assert_line(&rt, alloc, line, (text, *status))?;
     }

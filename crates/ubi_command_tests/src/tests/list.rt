@@ -2,11 +2,11 @@
 
 use super::answers::assert_both;
 use super::contents::Contents;
-use super::headers::EC;
 use super::pebs::{
     A, A_BEYOND, B, C, EMPTY_D, FIRST, FIRST_UPDATING, Peb, SECOND, SECOND_UPDATING, STATIC_A,
 };
 use std::test::Fail;
+use ubi_probe::header_bytes::EC;
 
 /// The image of `root` with a logical eraseblock that is blank, which isn't counted, and one that the volume doesn't
 /// reserve.

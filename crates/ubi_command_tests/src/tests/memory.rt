@@ -8,7 +8,7 @@ use super::build::CONFIG;
 use super::fake::{Broken, FakeFiles};
 use super::geometry::SMALL;
 use super::pebs::{
-    NORMAL_A, NORMAL_B, NORMAL_C, Peb, ROOT_FIRST, ROOT_SECOND, UNNAMED_FREE, put_pebs, put_runs,
+    NORMAL_A, NORMAL_B, NORMAL_C, Peb, ROOT_FIRST, ROOT_SECOND, UNNAMED_FREE, put_pebs,
 };
 use super::rename::LINES;
 use std::alloc::{AllocError, Global};
@@ -20,6 +20,7 @@ use ubi_commands::{
     run_list, run_normalise, run_rename, run_same, run_show,
 };
 use ubi_media::Geometry;
+use ubi_probe::texts::put_runs;
 use ubi_scan::MemorySource;
 
 /// A text of a dynamic and a static volume, with an eraseblock each.

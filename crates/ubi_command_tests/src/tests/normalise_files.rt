@@ -100,61 +100,53 @@ fn is_cut(
     Ok(is_told && is_same && want.get(..room) == Some(writer.taken()))
 }
 
-/// An image, its normal image, how many bytes of that a writer takes, at least and at most, and how it fails then.
-static CUTS: [(Contents, Contents, (usize, usize), (Failure, usize)); 7] = [
+/// How many bytes a writer takes, at least and at most, how it fails then, and how many it takes at once.
+type Cut = (usize, usize, Failure, usize);
+
+/// An image, its normal image, and how writers of that fail.
+static CUTS: [(Contents, Contents, &[Cut]); 2] = [
     (
         Contents::Root,
         Contents::NormalRoot,
-        (0, 0),
-        (Failure::Nothing, 100),
-    ),
-    (
-        Contents::Root,
-        Contents::NormalRoot,
-        (1, 1),
-        (Failure::Error(ErrorKind::Interrupted), 100),
-    ),
-    (
-        Contents::Root,
-        Contents::NormalRoot,
-        (512, 512),
-        (Failure::Nothing, 100),
-    ),
-    (
-        Contents::Root,
-        Contents::NormalRoot,
-        (1600, 1600),
-        (Failure::Error(ErrorKind::Interrupted), 100),
-    ),
-    (
-        Contents::Root,
-        Contents::NormalRoot,
-        (2559, 2559),
-        (Failure::Error(ErrorKind::Other), 100),
+        &[
+            (0, 0, Failure::Nothing, 100),
+            (1, 1, Failure::Error(ErrorKind::Interrupted), 100),
+            (512, 512, Failure::Nothing, 100),
+            (1600, 1600, Failure::Error(ErrorKind::Interrupted), 100),
+            (2559, 2559, Failure::Error(ErrorKind::Other), 100),
+        ],
     ),
     (
         Contents::Blank,
         Contents::NormalNothing,
-        (0, 1023),
-        (Failure::Nothing, 100),
-    ),
-    (
-        Contents::Blank,
-        Contents::NormalNothing,
-        (1024, 1024),
-        (Failure::Nothing, 1),
+        &[
+            (0, 1023, Failure::Nothing, 100),
+            (1024, 1024, Failure::Nothing, 1),
+        ],
     ),
 ];
 
+/// Asserts each cut of an image.
+fn assert_cuts(
+    rt: &impl Abort,
+    alloc: Global,
+    over: (&[u8], &[u8]),
+    cuts: &[Cut],
+) -> Result<(), Fail> {
+    for (least, most, failure, at_once) in cuts {
+        for room in *least..most.saturating_add(1) {
+            let is = is_cut(alloc, over, room, (*failure, *at_once))?;
+            assert!(*rt; is, "after {room} bytes");
+        }
+    }
+    Ok(())
+}
+
 #[test]
 fn tells_of_a_write_that_fails(rt: HostRuntime) -> Result<(), Fail> {
-    let alloc = rt.alloc();
-    for (image, want, (least, most), way) in &CUTS {
-        let (image, want) = (image.bytes(alloc)?, want.bytes(alloc)?);
-        let over = (image.as_slice(), want.as_slice());
-        for room in *least..most.saturating_add(1) {
-            assert!(rt; is_cut(alloc, over, room, *way)?, "after {room} bytes");
-        }
+    for (image, want, cuts) in &CUTS {
+        let (image, want) = (image.bytes(rt.alloc())?, want.bytes(rt.alloc())?);
+        assert_cuts(&rt, rt.alloc(), (image.as_slice(), want.as_slice()), cuts)?;
     }
     Ok(())
 }

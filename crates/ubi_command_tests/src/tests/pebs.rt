@@ -2,22 +2,18 @@
 //!
 //! They are constants: a proof takes those as they stand, and pays for each loop and each call of a test.
 
-use super::headers::{
-    ALIGNED, COPY_0, COPY_1, DAMAGED, EC, LEB_0, LEB_1, LEB_2, NAMED_EC, WHOLE_0, WHOLE_1,
-};
 use super::tables::Table;
 use std::alloc::AllocError;
-use ubi_media::{EcHeader, Geometry, LAYOUT_VOLUME, VidHeader, VolKind, write_ec, write_vid};
+use ubi_media::{EcHeader, Geometry, VidHeader, write_ec, write_vid};
+use ubi_probe::header_bytes::{
+    ALIGNED, COPY_0, COPY_1, DAMAGED, EC, LEB_0, LEB_1, LEB_2, NAMED_EC, WHOLE_0, WHOLE_1,
+};
+use ubi_probe::headers;
+use ubi_probe::headers::{COPY, INTERNAL, PIECE_0, PIECE_1, PLAIN, TABLE_0, TABLE_1, WRONG_COPY};
+use ubi_probe::texts::put_runs;
 
 /// The number of the image whose eraseblocks they are.
 pub const IMAGE: u32 = 0x1234_5678;
-
-/// The check of 384 bytes 0x41, of 64 bytes 0x37 and of 64 bytes 0x39. Another program worked them out.
-const CHECK_OF_41: u32 = 0xD6FB_3026;
-
-const CHECK_OF_37: u32 = 0x6BFF_21BA;
-
-const CHECK_OF_39: u32 = 0xF1EC_52E7;
 
 /// What stands in the place of an erase-counter header.
 #[derive(Clone, Copy)]
@@ -105,91 +101,49 @@ impl Vid {
     }
 }
 
-/// Adds bytes that each stand so many times.
-pub fn put_runs(bytes: &mut Vec<u8>, runs: &[(&[u8], usize)]) -> Result<(), AllocError> {
-    for (run, count) in runs {
-        for _ in 0..*count {
-            bytes.extend_from_slice(run)?;
-        }
+impl Peb {
+    /// The same where it names no image.
+    fn unnumbered(&self) -> Peb {
+        let ec = match self.ec {
+            Ec::Is(counter, _) => Ec::Is(counter, 0),
+            Ec::Normal => Ec::Unnamed,
+            other => other,
+        };
+        Peb { ec, ..*self }
     }
-    Ok(())
+
+    /// Adds its bytes.
+    fn put(&self, bytes: &mut Vec<u8>, geometry: &Geometry) -> Result<(), AllocError> {
+        let end = bytes.len().saturating_add(512);
+        bytes.extend_from_slice(&self.ec.bytes(geometry))?;
+        bytes.extend_from_slice(&self.vid.bytes())?;
+        match self.data {
+            Data::Table(table) => put_runs(bytes, table.runs())?,
+            Data::Runs(runs) => put_runs(bytes, runs)?,
+        }
+        bytes.resize(end, 0xFF)
+    }
 }
 
 /// Adds the bytes of some eraseblocks.
 pub fn put_pebs(bytes: &mut Vec<u8>, geometry: &Geometry, pebs: &[Peb]) -> Result<(), AllocError> {
     for peb in pebs {
-        let end = bytes.len().saturating_add(512);
-        bytes.extend_from_slice(&peb.ec.bytes(geometry))?;
-        bytes.extend_from_slice(&peb.vid.bytes())?;
-        match peb.data {
-            Data::Table(table) => put_runs(bytes, table.runs())?,
-            Data::Runs(runs) => put_runs(bytes, runs)?,
-        }
-        bytes.resize(end, 0xFF)?;
+        peb.put(bytes, geometry)?;
     }
     Ok(())
 }
 
-/// The header of logical eraseblock 0 of the dynamic volume 0, not copied.
-pub const PLAIN: VidHeader = VidHeader {
-    kind: VolKind::Dynamic,
-    copy_flag: false,
-    compat: 0,
-    vol_id: 0,
-    lnum: 0,
-    data_size: 0,
-    used_ebs: 0,
-    data_pad: 0,
-    data_crc: 0,
-    sqnum: 0,
-};
-
-/// That of copy 0 of the table.
-pub const LAYOUT: VidHeader = VidHeader {
-    compat: 5,
-    vol_id: LAYOUT_VOLUME,
-    ..PLAIN
-};
-
-/// That of an eraseblock of another internal volume.
-pub const INTERNAL: VidHeader = VidHeader {
-    compat: 1,
-    vol_id: 0x7FFF_F000,
-    ..PLAIN
-};
-
-/// That of the first of two logical eraseblocks of a static volume, with 384 bytes 0x41.
-pub const STATIC: VidHeader = VidHeader {
-    kind: VolKind::Static,
-    data_size: 384,
-    used_ebs: 2,
-    data_crc: CHECK_OF_41,
-    ..PLAIN
-};
-
-/// That of the second, with a byte 0xFF.
-pub const STATIC_1: VidHeader = VidHeader {
-    lnum: 1,
-    data_size: 1,
-    data_crc: 0x00FF_FFFF,
-    ..STATIC
-};
-
-/// That of a copy of 64 bytes 0x37.
-const COPIED: VidHeader = VidHeader {
-    copy_flag: true,
-    data_size: 64,
-    data_crc: CHECK_OF_37,
-    sqnum: 7,
-    ..PLAIN
-};
-
-/// That of one whose check is wrong, whether its bytes are 0x34 or 0x39.
-const MISCOPIED: VidHeader = VidHeader {
-    data_crc: CHECK_OF_39 ^ 1,
-    sqnum: 9,
-    ..COPIED
-};
+/// Adds those of the same where they name no image.
+pub fn put_unnumbered(
+    bytes: &mut Vec<u8>,
+    geometry: &Geometry,
+    pebs: &[Peb],
+) -> Result<(), AllocError> {
+    for peb in pebs {
+        peb.unnumbered().put(bytes, geometry)?;
+    }
+    Ok(())
+}
 
 /// An eraseblock that is blank throughout.
 pub const ERASED: Peb = Peb {
@@ -212,13 +166,13 @@ pub const A: Peb = Peb {
 };
 
 pub const B: Peb = Peb {
-    vid: Vid::Is(VidHeader { lnum: 1, ..PLAIN }),
+    vid: Vid::Is(headers::LEB_1),
     data: Data::Runs(&[(b"B", 384)]),
     ..A
 };
 
 pub const C: Peb = Peb {
-    vid: Vid::Is(VidHeader { lnum: 2, ..PLAIN }),
+    vid: Vid::Is(headers::LEB_2),
     data: Data::Runs(&[(b"C", 384)]),
     ..A
 };
@@ -239,13 +193,13 @@ pub const EMPTY_D: Peb = Peb {
 
 /// The two copies of a table with the volume `root`.
 pub const FIRST: Peb = Peb {
-    vid: Vid::Is(LAYOUT),
+    vid: Vid::Is(TABLE_0),
     data: Data::Table(Table::Root),
     ..A
 };
 
 pub const SECOND: Peb = Peb {
-    vid: Vid::Is(VidHeader { lnum: 1, ..LAYOUT }),
+    vid: Vid::Is(TABLE_1),
     ..FIRST
 };
 
@@ -290,7 +244,7 @@ pub const OLDER: Peb = Peb {
 };
 
 pub const RIGHT: Peb = Peb {
-    vid: Vid::Is(COPIED),
+    vid: Vid::Is(COPY),
     data: Data::Runs(&[(b"7", 64)]),
     ..A
 };
@@ -298,7 +252,7 @@ pub const RIGHT: Peb = Peb {
 pub const WRONG_4: Peb = Peb {
     vid: Vid::Is(VidHeader {
         sqnum: 4,
-        ..MISCOPIED
+        ..WRONG_COPY
     }),
     data: Data::Runs(&[(b"4", 64)]),
     ..A
@@ -307,14 +261,14 @@ pub const WRONG_4: Peb = Peb {
 pub const WRONG_6: Peb = Peb {
     vid: Vid::Is(VidHeader {
         sqnum: 6,
-        ..MISCOPIED
+        ..WRONG_COPY
     }),
     data: Data::Runs(&[(b"9", 64)]),
     ..A
 };
 
 pub const WRONG_9: Peb = Peb {
-    vid: Vid::Is(MISCOPIED),
+    vid: Vid::Is(WRONG_COPY),
     ..WRONG_6
 };
 
@@ -330,12 +284,12 @@ pub const SECOND_BOOT: Peb = Peb {
 };
 
 pub const TEXT_0: Peb = Peb {
-    vid: Vid::Is(STATIC),
+    vid: Vid::Is(PIECE_0),
     ..A
 };
 
 pub const TEXT_1: Peb = Peb {
-    vid: Vid::Is(STATIC_1),
+    vid: Vid::Is(PIECE_1),
     data: Data::Runs(&[]),
     ..A
 };
@@ -345,7 +299,7 @@ pub const NEWER_0: Peb = Peb {
     vid: Vid::Is(VidHeader {
         copy_flag: true,
         sqnum: 1,
-        ..STATIC
+        ..PIECE_0
     }),
     ..TEXT_0
 };
@@ -354,7 +308,7 @@ pub const NEWER_1: Peb = Peb {
     vid: Vid::Is(VidHeader {
         copy_flag: true,
         sqnum: 2,
-        ..STATIC_1
+        ..PIECE_1
     }),
     ..TEXT_1
 };
@@ -535,7 +489,7 @@ pub const UNLIKE: Peb = Peb {
         lnum: 20,
         used_ebs: 21,
         sqnum: 7,
-        ..STATIC
+        ..PIECE_0
     }),
     ..A
 };
@@ -567,7 +521,7 @@ pub const TORN: Peb = Peb {
 pub const FIRST_OF_5: Peb = Peb {
     vid: Vid::Is(VidHeader {
         used_ebs: 5,
-        ..STATIC
+        ..PIECE_0
     }),
     ..A
 };
@@ -576,7 +530,7 @@ pub const SECOND_OF_6: Peb = Peb {
     vid: Vid::Is(VidHeader {
         lnum: 1,
         used_ebs: 6,
-        ..STATIC
+        ..PIECE_0
     }),
     ..A
 };
@@ -585,7 +539,7 @@ pub const THIRD_OF_5: Peb = Peb {
     vid: Vid::Is(VidHeader {
         lnum: 2,
         used_ebs: 5,
-        ..STATIC
+        ..PIECE_0
     }),
     ..A
 };
@@ -594,7 +548,7 @@ pub const FOURTH_OF_7: Peb = Peb {
     vid: Vid::Is(VidHeader {
         lnum: 3,
         used_ebs: 7,
-        ..STATIC
+        ..PIECE_0
     }),
     ..A
 };
@@ -603,7 +557,7 @@ pub const FIFTH_OF_5: Peb = Peb {
     vid: Vid::Is(VidHeader {
         lnum: 4,
         used_ebs: 5,
-        ..STATIC
+        ..PIECE_0
     }),
     ..A
 };
@@ -612,7 +566,7 @@ pub const FIFTH_OF_5: Peb = Peb {
 pub const UNCHECKED: Peb = Peb {
     vid: Vid::Is(VidHeader {
         data_crc: 0,
-        ..MISCOPIED
+        ..WRONG_COPY
     }),
     ..WRONG_9
 };
@@ -756,7 +710,7 @@ pub const UNCHECKED_0: Peb = Peb {
     vid: Vid::Is(VidHeader {
         used_ebs: 5,
         data_crc: 0,
-        ..STATIC
+        ..PIECE_0
     }),
     ..A
 };
@@ -766,7 +720,7 @@ pub const UNCHECKED_1: Peb = Peb {
         lnum: 1,
         used_ebs: 6,
         data_crc: 0,
-        ..STATIC
+        ..PIECE_0
     }),
     ..A
 };
@@ -776,7 +730,7 @@ pub const UNCHECKED_2: Peb = Peb {
         lnum: 2,
         used_ebs: 5,
         data_crc: 0,
-        ..STATIC
+        ..PIECE_0
     }),
     ..A
 };
@@ -786,7 +740,7 @@ pub const UNCHECKED_3: Peb = Peb {
         lnum: 3,
         used_ebs: 7,
         data_crc: 0,
-        ..STATIC
+        ..PIECE_0
     }),
     ..A
 };
@@ -796,7 +750,7 @@ pub const UNCHECKED_4: Peb = Peb {
         lnum: 4,
         used_ebs: 5,
         data_crc: 0,
-        ..STATIC
+        ..PIECE_0
     }),
     ..A
 };
@@ -811,7 +765,7 @@ pub const A_BEYOND: Peb = Peb {
 pub const STATIC_A: Peb = Peb {
     vid: Vid::Is(VidHeader {
         used_ebs: 1,
-        ..STATIC
+        ..PIECE_0
     }),
     ..A
 };
@@ -827,13 +781,13 @@ pub const COMPAT_0: Peb = Peb {
     vid: Vid::Is(VidHeader {
         lnum: 1,
         compat: 0,
-        ..LAYOUT
+        ..TABLE_0
     }),
     ..SECOND
 };
 
 pub const THIRD: Peb = Peb {
-    vid: Vid::Is(VidHeader { lnum: 2, ..LAYOUT }),
+    vid: Vid::Is(VidHeader { lnum: 2, ..TABLE_0 }),
     ..SECOND
 };
 

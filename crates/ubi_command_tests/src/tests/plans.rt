@@ -29,8 +29,8 @@ pub struct Plan {
     /// How many steps turn the image, and how many there are.
     pub turn: u32,
     pub count: u32,
-    /// The bytes that the first steps write, each with their place.
-    pub steps: &'static [(usize, &'static [u8])],
+    /// What the first steps write: from a place on the bytes of each step, those behind the ones before.
+    pub steps: &'static [(usize, &'static [&'static [u8]])],
     pub readings: &'static [Reading],
     /// Lines over the image after all steps, with what they print.
     pub last: &'static [(&'static str, &'static str)],
@@ -100,9 +100,15 @@ impl Plan {
     fn has_steps(&self, alloc: Global, files: (&[u8], &[u8])) -> Result<bool, Fail> {
         let mut want = Vec::from_slice(alloc, files.0)?;
         let mut has = self.cut(alloc, files, Some(0))? == want;
-        for (stop, (at, bytes)) in (1..).zip(self.steps) {
-            overwrite(want.as_mut_slice(), *at, bytes);
-            has = has && self.cut(alloc, files, Some(stop))? == want;
+        let mut stop = 0u32;
+        for (at, steps) in self.steps {
+            let mut at = *at;
+            for bytes in *steps {
+                overwrite(want.as_mut_slice(), at, bytes);
+                at = at.saturating_add(bytes.len());
+                stop = stop.saturating_add(1);
+                has = has && self.cut(alloc, files, Some(stop))? == want;
+            }
         }
         Ok(has)
     }

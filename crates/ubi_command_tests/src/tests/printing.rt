@@ -18,13 +18,7 @@ fn assert_reports(
 ) {
     let printed = RefCell::new(Vec::new(alloc));
     let shown = RefCell::new(String::new(alloc));
-    let terminal = FakeFiles {
-        image: &[],
-        new: &[],
-        broken: Broken::Write(room),
-        written: &printed,
-        shown: &shown,
-    };
+    let terminal = FakeFiles::of(&[], Broken::Write(room), &printed, &shown);
     let ended = report(&terminal, &mut io::writer(&terminal), answer);
     let (printed, shown) = (printed.into_inner(), shown.into_inner());
     let is_shown = printed.as_slice() == text.as_bytes() && shown.as_str() == error;

@@ -25,13 +25,7 @@ fn work(terminal: &impl Eprint, alloc: Global, most: u64, is_watched: bool) -> R
 fn told(alloc: Global, most: u64, is_watched: bool) -> Result<String, Fail> {
     let shown = RefCell::new(String::new(alloc));
     let written = RefCell::new(Vec::new(alloc));
-    let files = FakeFiles {
-        image: &[],
-        new: &[],
-        broken: Broken::Nothing,
-        written: &written,
-        shown: &shown,
-    };
+    let files = FakeFiles::of(&[], Broken::Nothing, &written, &shown);
     work(&files, alloc, most, is_watched)?;
     Ok(shown.into_inner())
 }
@@ -75,13 +69,7 @@ fn tells_of_a_long_image(rt: HostRuntime) -> Result<(), Fail> {
     let alloc = rt.alloc();
     let shown = RefCell::new(String::new(alloc));
     let written = RefCell::new(Vec::new(alloc));
-    let files = FakeFiles {
-        image: &[0xFF],
-        new: &[],
-        broken: Broken::Blank(1 << 28),
-        written: &written,
-        shown: &shown,
-    };
+    let files = FakeFiles::of(&[0xFF], Broken::Blank(1 << 28), &written, &shown);
     let mut words = Vec::new(alloc);
     for word in LONG {
         words.push(String::from_str(alloc, word)?)?;

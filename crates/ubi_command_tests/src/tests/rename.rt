@@ -2,7 +2,6 @@
 
 use super::answers::{is_answer, small};
 use super::contents::{Contents, EMPTY};
-use super::headers::ERASED_EC;
 use super::pebs::{
     A, B, C, C_LAST, C_LAST_BUT_1, C_LAST_BUT_2, FIRST, FIRST_NAME, FREE, SECOND, SECOND_NAME,
 };
@@ -10,6 +9,7 @@ use super::plans::{Plan, Reading, assert_plans};
 use std::alloc::Global;
 use std::test::Fail;
 use ubi_commands::run_rename;
+use ubi_probe::header_bytes::ERASED_EC;
 
 /// The lines of the plan that renames a volume of an image with two spare eraseblocks.
 pub const LINES: &str = "steps 18\n\
@@ -46,24 +46,22 @@ const TO_DATA: Plan = Plan {
     turn: 7,
     count: 18,
     steps: &[
-        (5 * 512 + 64, NEW_COPY_0),
-        (5 * 512 + 128, FIRST_PAGE),
-        (5 * 512 + 192, &[0; 64]),
-        (5 * 512 + 256, THIRD_PAGE),
-        (5 * 512 + 320, &[0; 64]),
-        (5 * 512 + 384, &[0; 64]),
-        (5 * 512 + 448, LAST_PAGE),
-        (0, &[0xFF; 512]),
-        (0, &ERASED_EC),
-        (6 * 512 + 64, NEW_COPY_1),
-        (6 * 512 + 128, FIRST_PAGE),
-        (6 * 512 + 192, &[0; 64]),
-        (6 * 512 + 256, THIRD_PAGE),
-        (6 * 512 + 320, &[0; 64]),
-        (6 * 512 + 384, &[0; 64]),
-        (6 * 512 + 448, LAST_PAGE),
-        (512, &[0xFF; 512]),
-        (512, &ERASED_EC),
+        (
+            5 * 512 + 64,
+            &[
+                NEW_COPY_0, FIRST_PAGE, ZEROS, THIRD_PAGE, ZEROS, ZEROS, LAST_PAGE,
+            ],
+        ),
+        (0, &[&[0xFF; 512]]),
+        (0, &[&ERASED_EC]),
+        (
+            6 * 512 + 64,
+            &[
+                NEW_COPY_1, FIRST_PAGE, ZEROS, THIRD_PAGE, ZEROS, ZEROS, LAST_PAGE,
+            ],
+        ),
+        (512, &[&[0xFF; 512]]),
+        (512, &[&ERASED_EC]),
     ],
     readings: &[
         Reading {
@@ -90,6 +88,9 @@ const NEW_COPY_0: &[u8] = b"UBI!\x01\x01\x01\x05\
 const NEW_COPY_1: &[u8] = b"UBI!\x01\x01\x01\x05\
     \x7F\xFF\xEF\xFF\0\0\0\x01\0\0\0\0\0\0\x01\x80\0\0\0\0\0\0\0\0\xF8\x4E\xB9\x30\
     \0\0\0\0\0\0\0\0\0\0\0\x02\0\0\0\0\0\0\0\0\0\0\0\0\x36\x3B\xF6\xC6";
+
+/// A page of zeros.
+const ZEROS: &[u8] = &[0; 64];
 
 /// The pages of the table that aren't zeros: the first and the third of the record of `data`, and the last, of none.
 const FIRST_PAGE: &[u8] = b"\0\0\0\x14\0\0\0\x01\0\0\0\0\x01\0\0\x04data\0\0\0\0\0\0\0\0\0\0\0\0\

@@ -2,9 +2,9 @@
 
 use super::answers::{Run, assert_runs};
 use super::contents::{Contents, EMPTY};
-use super::headers::{COPY_FLAG_2, VERSION_2};
 use super::pebs::{A, B, C, FIRST, SECOND};
 use std::test::Fail;
+use ubi_probe::header_bytes::{COPY_FLAG_2, VERSION_2};
 
 const SHOW: Run = Run {
     image: Contents::Blank,

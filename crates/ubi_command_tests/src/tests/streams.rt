@@ -39,13 +39,7 @@ static READ: [(u64, u64, usize); 7] = [
 fn assert_fails(rt: &impl Abort, alloc: Global, kind: ErrorKind, after: usize) -> Result<(), Fail> {
     let shown = RefCell::new(String::new(alloc));
     let written = RefCell::new(Vec::new(alloc));
-    let files = FakeFiles {
-        image: &[7; 40_000],
-        new: &[],
-        broken: Broken::Read(kind, after),
-        written: &written,
-        shown: &shown,
-    };
+    let files = FakeFiles::of(&[7; 40_000], Broken::Read(kind, after), &written, &shown);
     let (mut file, mut again) = (fs::open(&files, "a.img")?, fs::open(&files, "a.img")?);
     let error = read_limited(alloc, &mut file, 40_000, 40_000).err();
     let bytes = read_limited(alloc, &mut again, after as u64, 0)?;

@@ -18,13 +18,7 @@ fn assert_answers(
 ) -> Result<(), Fail> {
     let shown = RefCell::new(String::new(alloc));
     let written = RefCell::new(Vec::new(alloc));
-    let files = FakeFiles {
-        image: &[],
-        new: &[],
-        broken: Broken::OpenRead,
-        written: &written,
-        shown: &shown,
-    };
+    let files = FakeFiles::of(&[], Broken::OpenRead, &written, &shown);
     let outcome = run_line(&files, alloc, line)?;
     let shown = shown.into_inner();
     let is_shown = shown.as_str().contains(error) && shown.is_empty() == error.is_empty();
