@@ -1,2 +1,3 @@
+pub mod ChangingSource
 pub mod ProbedSource
 pub mod ProbedWriter

@@ -15,43 +15,9 @@ use ubi_commands::{
     run_rename, run_rename_from, run_same, run_same_from,
 };
 use ubi_compose::normalise_to;
-use ubi_probe::{Failure, ProbeWriter};
-use ubi_scan::{BlockSource, MemorySource, SourceFault, StreamError};
+use ubi_probe::{ChangingSource, Failure, ProbeWriter};
+use ubi_scan::{MemorySource, StreamError};
 use ubi_volume::{Places, attach_places};
-
-/// A source that answers the bytes of one image for so many reads, and then those of another.
-#[derive(Drop)]
-struct Changing<'a> {
-    first: &'a [u8],
-    then: &'a [u8],
-    left: u64,
-}
-
-impl BlockSource for Changing<'_> {
-    ghost use Rattle.std.specs.Prelude.{length};
-    ghost use Rattle.ubi_scan.specs.inner.Held.{sound, unheld, unheld_sized};
-
-    ghost known = { λ s. sound (length s.first.now) };
-
-    ghost agrees = { λ s. unheld };
-
-    fn len(&self) -> u64 {
-        self.first.len() as u64
-    }
-
-    fn read(&mut self, at: u64, out: &mut [u8]) -> Result<(), SourceFault> {
-        let bytes = if self.left > 0 { self.first } else { self.then };
-        self.left = self.left.saturating_sub(1);
-        for (index, byte) in out.iter_mut().enumerate() {
-            *byte = bytes.get(at as usize + index).copied().unwrap_or(0xFF);
-        }
-        Ok(())
-    }
-
-    ghost sized = { λ s. unheld_sized (sound (length s.first.now)) };
-
-    ghost promised = { λ s. tt };
-}
 
 /// Whether each logical eraseblock of the first two volumes lies in one of so many eraseblocks.
 fn lie_within(places: &Places, count: usize) -> bool {
@@ -73,13 +39,13 @@ fn lie_within(places: &Places, count: usize) -> bool {
 /// is whole eraseblocks, or nothing.
 fn is_sound(alloc: Global, first: &[u8], then: &[u8], left: u64) -> Result<bool, Fail> {
     let geometry = small()?;
-    let mut source = Changing { first, then, left };
+    let mut source = ChangingSource { first, then, left };
     let lie = match attach_places(alloc, &geometry, &mut source) {
         Ok(places) => lie_within(&places, first.len() / 512),
         Err(StreamError::Refused(_)) => true,
         Err(_) => false,
     };
-    let mut source = Changing { first, then, left };
+    let mut source = ChangingSource { first, then, left };
     let mut writer = ProbeWriter::new(alloc, 32 * 512, 4096, Failure::Nothing)?;
     let is_told = match normalise_to(alloc, &geometry, &mut source, &mut writer) {
         Ok(count) => writer.taken().len() as u64 == count && count >= 1024 && count % 512 == 0,
@@ -133,7 +99,7 @@ fn is_answered<C: Reading>(
     has_to: bool,
 ) -> Result<bool, Fail> {
     let geometry = small()?;
-    let mut source = Changing { first, then, left };
+    let mut source = ChangingSource { first, then, left };
     let answer = command.answer(alloc, &geometry, &mut source)?;
     let want = command.answer(alloc, &geometry, &mut MemorySource::new(first))?;
     Ok(is_told(&answer, &want, has_to))
@@ -148,7 +114,7 @@ fn is_compared<'a>(
     left: u64,
 ) -> Result<bool, Fail> {
     let geometry = small()?;
-    let mut source = Changing { first, then, left };
+    let mut source = ChangingSource { first, then, left };
     let mut beside = MemorySource::new(first);
     let answer = run_same_from(alloc, &geometry, &mut source, &mut beside)?;
     let want = run_same(alloc, &geometry, first, first)?;
@@ -199,12 +165,12 @@ fn is_edited(alloc: Global, first: &[u8], then: &[u8], left: u64) -> Result<bool
         lnum: 0,
         bytes: &[0x61; 64],
     };
-    let mut source = Changing { first, then, left };
+    let mut source = ChangingSource { first, then, left };
     let mut writer = ProbeWriter::new(alloc, 8192, 1000, Failure::Nothing)?;
     let changed = run_change_from(alloc, &geometry, &mut source, &new, Some(2), &mut writer)?;
     let want = run_change(alloc, &geometry, first, 0, 0, &[0x61; 64], Some(2))?;
     let is_changed = is_written(&changed, writer.taken(), &want, first.len(), left == 99);
-    let mut source = Changing { first, then, left };
+    let mut source = ChangingSource { first, then, left };
     let mut writer = ProbeWriter::new(alloc, 8192, 1000, Failure::Nothing)?;
     let renamed = run_rename_from(alloc, &geometry, &mut source, 0, b"data", None, &mut writer)?;
     let want = run_rename(alloc, &geometry, first, 0, b"data", None)?;

@@ -1,7 +1,5 @@
 //! Scans over sources: what they read, what they find, and what fails.
 
-ghost use Rattle.std.specs.Prelude.{◌≡◌, ◌+◌, ◌≤◌, OnOk, length, slice_range};
-
 use super::images::{found, geometry, image};
 use super::pebs::{ERASED, OLD, OLDER, Peb, RIGHT, WRONG_4, WRONG_6, WRONG_9};
 use crate::tests::probes::{Reads, has_reads};
@@ -9,8 +7,8 @@ use std::alloc::Global;
 use std::fs;
 use std::test::Fail;
 use ubi_media::Refusal;
-use ubi_probe::ProbeSource;
-use ubi_scan::{BlockSource, FileSource, MemorySource, Scan, SourceFault, StreamError, scan_from};
+use ubi_probe::{ChangingSource, ProbeSource};
+use ubi_scan::{BlockSource, FileSource, MemorySource, Scan, StreamError, scan_from};
 
 /// The winner of logical eraseblock 0 of volume 0.
 fn winner(answer: Result<Scan, StreamError>) -> Option<u32> {
@@ -166,54 +164,16 @@ fn scans_a_file_as_memory(rt: HostRuntime) -> Result<(), Fail> {
     Ok(())
 }
 
-/// A source that answers other bytes from its third read on, so that no bytes agree with all of its reads.
-#[derive(Drop)]
-struct Fickle<'a> {
-    first: &'a [u8],
-    then: &'a [u8],
-    reads: u64,
-}
-
-impl BlockSource for Fickle<'_> {
-    ghost use Rattle.std.specs.Prelude.{length};
-    ghost use Rattle.ubi_scan.specs.inner.Held.{sound, unheld, unheld_sized};
-
-    ghost known = { λ s. sound (length s.first.now) };
-
-    ghost agrees = { λ s. unheld };
-
-    fn len(&self) -> u64 {
-        self.first.len() as u64
-    }
-
-    fn read(&mut self, at: u64, out: &mut [u8]) -> Result<(), SourceFault> {
-        self.reads = self.reads.saturating_add(1);
-        let bytes = if self.reads < 3 {
-            self.first
-        } else {
-            self.then
-        };
-        for (index, byte) in out.iter_mut().enumerate() {
-            *byte = bytes.get(at as usize + index).copied().unwrap_or(0xFF);
-        }
-        Ok(())
-    }
-
-    ghost sized = { λ s. unheld_sized (sound (length s.first.now)) };
-
-    ghost promised = { λ s. tt };
-}
-
-/// What it finds lies in the source, whatever that answers.
+/// What is found in a source that changes after two reads lies in the source, whatever that answers.
 #[test]
 fn scans_a_source_that_changes(rt: HostRuntime) -> Result<(), Fail> {
     let alloc = rt.alloc();
     let first = image(alloc, &[ERASED, OLD, ERASED])?;
     let then = image(alloc, &[RIGHT, ERASED, WRONG_9])?;
-    let mut source = Fickle {
+    let mut source = ChangingSource {
         first: first.as_slice(),
         then: then.as_slice(),
-        reads: 0,
+        left: 2,
     };
     // Eraseblock 1 was a member when its headers were read, and is none when it meets eraseblock 2.
     let found = winner(scan_from(alloc, &geometry()?, &mut source));
