@@ -5,7 +5,7 @@ use Rattle.std.specs.Option.{ForSome}
 use Rattle.std.specs.Prelude.{IfOk, IsSome, MatchResult, None, OnErr, Option, Some, Result, Ok, Err, codes, is_some, true}
 use Rattle.std.specs.declared.alloc.AllocError.{AllocError}
 use Rattle.ubi_scan.specs.Source.{Source}
-use Rattle.ubi_commands.specs.AfterRun.{WhereUnwritten, after_run}
+use Rattle.ubi_commands.specs.AfterRun.{WhereNotDone, after_run}
 use Rattle.ubi_commands.specs.Answer.{Gives, says}
 use Rattle.ubi_commands.specs.Disk.{AllStay, Files, Holds, IsKept, IsLeft, fresh}
 use Rattle.ubi_commands.specs.inner.Ended.{IsEnded, Works}
@@ -30,8 +30,8 @@ is_left (Some f) d e out received o opened unopened closed stays =
 
 -- a file that wasn't opened before, and where nothing was written, isn't open
 unopened_by : {F : Type 0} (answer : Result Outcome ToolError) (o : Outcome) (file : Option F) → answer ≡ Ok o
-    → WhereUnwritten (file ≡ None) answer → o.status ≢ 0 → file ≡ None
-unopened_by answer o file came h = subst (WhereUnwritten (file ≡ None)) came h
+    → WhereNotDone (file ≡ None) answer → o.status ≢ 0 → file ≡ None
+unopened_by answer o file came h = subst (WhereNotDone (file ≡ None)) came h
 
 -- work into a file that was opened late, and closed
 module _ (answer : Result Outcome ToolError) (k after : Source) (path out : List ℕ) (d e : Files)
@@ -42,7 +42,7 @@ module _ (answer : Result Outcome ToolError) (k after : Source) (path out : List
       → (file ≡ None → e ≡ d)
       → MatchResult r (IsEnded answer (is_some file) unread no_output) (λ _. answer ≡ Err tool.Memory)
       → IfOk answer (answers empty (contents_of empty contents file)) → IfOk answer (λ o. o.status ≡ 0 → writes)
-      → WhereUnwritten (file ≡ None) answer → (answer ≡ Err tool.Write → writes) → after ≡ after_run k answer
+      → WhereNotDone (file ≡ None) answer → (answer ≡ Err tool.Write → writes) → after ≡ after_run k answer
       → Gives unread (says (file_line (codes "cannot read ") path) 1) → Gives no_output (says (file_line (codes "cannot write ") out) 1)
       → IfOk r (Works k after path (WritesInto out d e answers writes))
   into_file contents at key empty file unread no_output r named same is kept none ended ok finished untouched failed known source output =
@@ -57,16 +57,16 @@ module _ (answer : Result Outcome ToolError) (k after : Source) (path out : List
 
 -- where memory ran out, no file was opened, and all stay as they were
 pub memory_ended : {F : Type 0} (answer : Result Outcome ToolError) (r : Result Outcome AllocError) (is : Outcome → Type 0) (d e : Files)
-    (file : Option F) → MatchResult r is (λ _. answer ≡ Err tool.Memory) → WhereUnwritten (file ≡ None) answer → (file ≡ None → e ≡ d)
+    (file : Option F) → MatchResult r is (λ _. answer ≡ Err tool.Memory) → WhereNotDone (file ≡ None) answer → (file ≡ None → e ≡ d)
     → OnErr r (AllStay d e)
 memory_ended answer (Ok o) is d e file h untouched none = tt
 memory_ended answer (Err x) is d e file h untouched none =
-    λ path. ap (λ (f : Files). f.holds path) (none (subst (WhereUnwritten (file ≡ None)) h untouched))
+    λ path. ap (λ (f : Files). f.holds path) (none (subst (WhereNotDone (file ≡ None)) h untouched))
 
 -- a file that is opened late isn't open where nothing was written
 pub still_unopened : {T L F : Type 0} (writer : T → L) (file : L → Option F) (answer : Result Outcome ToolError) (told later : T)
-    (late taken ended : L) → writer told ≡ late → file late ≡ None → WhereUnwritten (later ≡ told) answer → taken ≡ writer later
-    → WhereUnwritten (file ended ≡ file taken) answer → WhereUnwritten (file ended ≡ None) answer
+    (late taken ended : L) → writer told ≡ late → file late ≡ None → WhereNotDone (later ≡ told) answer → taken ≡ writer later
+    → WhereNotDone (file ended ≡ file taken) answer → WhereNotDone (file ended ≡ None) answer
 still_unopened writer file (Ok o) told later late taken ended begun unopened same is stays =
     λ bad. stays bad ∙ ap file (is ∙ ap writer (same bad) ∙ begun) ∙ unopened
 still_unopened writer file (Err tool.Memory) told later late taken ended begun unopened same is stays =

@@ -25,10 +25,10 @@ IsNoWrite tool.Write = ⊥
 IsNoWrite _ = Unit {0}
 
 -- a fact that holds where a command writes nothing: where its answer isn't that all is done, or memory ran out
-abbrev pub WhereUnwritten : Type 0 → Result Outcome ToolError → Type 0
-WhereUnwritten fact (Ok o) = o.status ≢ 0 → fact
-WhereUnwritten fact (Err tool.Memory) = fact
-WhereUnwritten fact (Err e) = Unit {0}
+abbrev pub WhereNotDone : Type 0 → Result Outcome ToolError → Type 0
+WhereNotDone fact (Ok o) = o.status ≢ 0 → fact
+WhereNotDone fact (Err tool.Memory) = fact
+WhereNotDone fact (Err e) = Unit {0}
 
 -- what is told of work over a file: its outcome, or the line of the file, where a read of it failed
 pub data IsTold (work : Result Outcome ToolError) (path : List ℕ) : Outcome → Type 0 where

@@ -3,7 +3,7 @@
 ghost use Rattle.std.specs.Prelude.{◌≡◌, IfErr, IfOk, Some};
 ghost use Rattle.ubi_scan.specs.Image.{image_of};
 ghost use Rattle.ubi_scan.specs.Source.{Narrows};
-ghost use Rattle.ubi_commands.specs.AfterRun.{WhereUnwritten, after_run};
+ghost use Rattle.ubi_commands.specs.AfterRun.{WhereNotDone, after_run};
 ghost use Rattle.ubi_commands.specs.Change.{Changes, ChangesFrom, IsChangeFault, cause_line};
 
 use crate::lines::refused;
@@ -62,7 +62,7 @@ pub fn run_change_from<S: BlockSource, W: Write>(
     ensures known { S.known source.new ≡ after_run (S.known source.old) result }
     ensures narrows { Narrows (S.agrees source.old) (S.agrees source.new) }
     ensures ok { IfOk result (ChangesFrom new.now.id new.now.lnum new.now.bytes.now stop geometry.now (S.known source.old) (S.agrees source.new) (W.contents writer.old) (W.contents writer.new)) }
-    ensures untouched { WhereUnwritten (writer.new ≡ writer.old) result }
+    ensures untouched { WhereNotDone (writer.new ≡ writer.old) result }
     ensures err { IfErr result (IsChangeFault new.now.id new.now.lnum new.now.bytes.now stop geometry.now (S.known source.old) (S.agrees source.new) (W.contents writer.old) (W.contents writer.new)) }
 {
     match plan_change_from(alloc, geometry, source, new.id, new.lnum, new.bytes) {

@@ -4,7 +4,7 @@ ghost use Rattle.std.specs.Prelude.{◌≡◌, IfErr, IfOk};
 ghost use Rattle.std.specs.Result.{result_map_both};
 ghost use Rattle.ubi_scan.specs.Image.{image_of};
 ghost use Rattle.ubi_scan.specs.Source.{Narrows, WhereHeld};
-ghost use Rattle.ubi_commands.specs.AfterRun.{WhereUnwritten, after_run};
+ghost use Rattle.ubi_commands.specs.AfterRun.{WhereNotDone, after_run};
 ghost use Rattle.ubi_commands.specs.Extract.{Extracts, ExtractsFrom, IsExtractError, IsExtractFault, RefusesToRead, read_refusal};
 ghost use Rattle.ubi_commands.specs.inner.Ended.{IsUntold};
 ghost use Rattle.ubi_volume.specs.Places.{ArePlacesOf};
@@ -54,7 +54,7 @@ fn extract_from_places<S: BlockSource, W: Write>(
     ensures narrows { Narrows (S.agrees source.old) (S.agrees source.new) }
     ensures ok { IfOk result (ExtractsFrom geometry.now (S.known source.old) (S.agrees source.new) (W.contents writer.old) (W.contents writer.new)) }
     ensures image { IfOk result (λ o. WhereHeld (S.agrees source.new) (λ bytes. Extracts (image_of geometry.now bytes) key.entry (W.contents writer.old) (W.contents writer.new) o)) }
-    ensures untouched { WhereUnwritten (writer.new ≡ writer.old) result }
+    ensures untouched { WhereNotDone (writer.new ≡ writer.old) result }
     ensures err { IfErr result (IsExtractFault geometry.now (S.known source.old) (S.agrees source.new) key.entry (W.contents writer.old) (W.contents writer.new)) }
 {
     // Taken before the first byte is written.
@@ -100,7 +100,7 @@ pub fn run_extract_from<S: BlockSource, W: Write>(
     ensures narrows { Narrows (S.agrees source.old) (S.agrees source.new) }
     ensures ok { IfOk result (ExtractsFrom geometry.now (S.known source.old) (S.agrees source.new) (W.contents writer.old) (W.contents writer.new)) }
     ensures image { IfOk result (λ o. WhereHeld (S.agrees source.new) (λ bytes. Extracts (image_of geometry.now bytes) key.entry (W.contents writer.old) (W.contents writer.new) o)) }
-    ensures untouched { WhereUnwritten (writer.new ≡ writer.old) result }
+    ensures untouched { WhereNotDone (writer.new ≡ writer.old) result }
     ensures err { IfErr result (IsExtractFault geometry.now (S.known source.old) (S.agrees source.new) key.entry (W.contents writer.old) (W.contents writer.new)) }
 {
     match attach_places(alloc, geometry, source) {

@@ -3,7 +3,7 @@
 ghost use Rattle.std.specs.Prelude.{◌≡◌, IfErr, IfOk};
 ghost use Rattle.ubi_scan.specs.Image.{image_of};
 ghost use Rattle.ubi_scan.specs.Source.{Narrows, WhereHeld};
-ghost use Rattle.ubi_commands.specs.AfterRun.{WhereUnwritten, after_run};
+ghost use Rattle.ubi_commands.specs.AfterRun.{WhereNotDone, after_run};
 ghost use Rattle.ubi_commands.specs.Normalise.{IsNormaliseError, Normalises, NormalisesTo};
 
 use crate::lines::{LONGEST_COUNT_LINE, put_blocks_line, refusal_line};
@@ -33,7 +33,7 @@ pub fn run_normalise<S: BlockSource, W: Write>(
     ensures narrows { Narrows (S.agrees source.old) (S.agrees source.new) }
     ensures ok { IfOk result (NormalisesTo geometry.now (S.known source.old) (S.agrees source.new) (W.contents writer.old) (W.contents writer.new)) }
     ensures image { IfOk result (λ o. WhereHeld (S.agrees source.new) (λ bytes. Normalises (image_of geometry.now bytes) (W.contents writer.old) (W.contents writer.new) o)) }
-    ensures untouched { WhereUnwritten (writer.new ≡ writer.old) result }
+    ensures untouched { WhereNotDone (writer.new ≡ writer.old) result }
     ensures err { IfErr result (IsNormaliseError geometry.now (S.known source.old) (S.agrees source.new) (W.contents writer.old) (W.contents writer.new)) }
 {
     let mut line = Vec::with_capacity(alloc, LONGEST_COUNT_LINE)?;

@@ -5,7 +5,7 @@ ghost use Rattle.std.specs.List.{flat_map};
 ghost use Rattle.ubi_change.specs.Fitting.{AllWithin};
 ghost use Rattle.ubi_scan.specs.Image.{IsWholeSize};
 ghost use Rattle.ubi_scan.specs.Source.{Narrows, blocks_in};
-ghost use Rattle.ubi_commands.specs.AfterRun.{WhereUnwritten, after_run};
+ghost use Rattle.ubi_commands.specs.AfterRun.{WhereNotDone, after_run};
 ghost use Rattle.ubi_commands.specs.Answer.{Gives, says};
 ghost use Rattle.ubi_commands.specs.Plan.{AreCut, HasFile, IsCarryFault, cut_text, plan_lines, step_line, step_words, steps_done};
 ghost use Rattle.ubi_volume.specs.Wrote.{All, Wrote};
@@ -87,7 +87,7 @@ pub fn carry_out<S: BlockSource, W: Write>(
     ensures answer { IfOk result (λ o. Gives o (says (plan_lines steps.now) 0)) }
     ensures written { IfOk result (λ _. Wrote (S.agrees source.new) (W.contents writer.old) (W.contents writer.new) (cut_text geometry.now steps.now (steps_done steps.now stop)) All 0 (S.known source.old).size) }
     ensures cut { IfOk result (λ _. AreCut geometry.now (S.agrees source.new) steps.now (steps_done steps.now stop)) }
-    ensures untouched { WhereUnwritten (writer.new ≡ writer.old) result }
+    ensures untouched { WhereNotDone (writer.new ≡ writer.old) result }
     ensures err { IfErr result (IsCarryFault geometry.now (S.agrees source.new) steps.now (steps_done steps.now stop) (W.contents writer.old) (W.contents writer.new)) }
 {
     let count = steps_done(steps, stop);

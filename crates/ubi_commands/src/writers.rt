@@ -5,7 +5,7 @@
 ghost use Rattle.std.specs.Prelude.{◌≡◌, ◌≢◌, ℕ, Bool, Err, IfOk, List, MatchResult, Ok, OnErr, Option, Result, is_some};
 ghost use Rattle.ubi_media.specs.Geometry.{Sizes};
 ghost use Rattle.ubi_scan.specs.Source.{Agreed, Narrows, Source};
-ghost use Rattle.ubi_commands.specs.AfterRun.{WhereUnwritten, after_run};
+ghost use Rattle.ubi_commands.specs.AfterRun.{WhereNotDone, after_run};
 ghost use Rattle.ubi_commands.specs.Change.{ChangesFrom, HasPlan};
 ghost use Rattle.ubi_commands.specs.Disk.{AllStay, OthersStay, fresh};
 ghost use Rattle.ubi_commands.specs.Late.{contents_of};
@@ -59,7 +59,7 @@ pub trait Writing {
         ensures known { S.known source.new ≡ after_run (S.known source.old) result }
         ensures narrows { Narrows (S.agrees source.old) (S.agrees source.new) }
         ensures answer { IfOk result (answers self.now geometry.now (S.known source.old) (S.agrees source.new) (W.contents writer.old) (W.contents writer.new)) }
-        ensures untouched { WhereUnwritten (writer.new ≡ writer.old) result }
+        ensures untouched { WhereNotDone (writer.new ≡ writer.old) result }
         ensures done { IfOk result (λ o. o.status ≡ 0 → writes self.now geometry.now (S.known source.old) (S.agrees source.new)) }
         ensures failed { result ≡ Err ToolError.Write → writes self.now geometry.now (S.known source.old) (S.agrees source.new) };
 }
@@ -217,7 +217,7 @@ fn ended<D: Disk, K: Target>(
 ) -> Result<Outcome, AllocError>
     ensures answer { MatchResult result (IsEnded answer (is_some late.new.file) unread unwritten) (λ _. answer ≡ Err ToolError.Memory) }
     ensures contents { contents_of K.empty (λ f. D.Output.contents f.writer) late.new.file ≡ contents_of K.empty (λ f. D.Output.contents f.writer) late.old.file }
-    ensures untouched { WhereUnwritten (late.new.file ≡ late.old.file) answer }
+    ensures untouched { WhereNotDone (late.new.file ≡ late.old.file) answer }
 {
     match answer {
         Ok(outcome) => Ok(finished(outcome, late, unwritten)),
