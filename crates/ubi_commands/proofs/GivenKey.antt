@@ -8,8 +8,8 @@ use Rattle.std.specs.Str.Parse.{without_leading_plus}
 use Rattle.clap.specs.Walk.{Row, Text, first_of, one_of}
 use Rattle.ubi_commands.specs.CommandLine.{Asks, AsksKey, HasNumber, HasText, IsRequest, command_name}
 use Rattle.ubi_commands.specs.Tool.{HasOneVolume}
-use Rattle.ubi_commands.specs.declared.command_line.Request.{Request}
-use Rattle.ubi_commands.specs.declared.command_line.Request.TheVariants as request
+use Rattle.ubi_commands.specs.declared.requests.Request.{Request}
+use Rattle.ubi_commands.specs.declared.requests.Request.TheVariants as request
 use Rattle.ubi_commands.specs.declared.volume_key.VolumeKey.{VolumeKey}
 use Rattle.ubi_commands.specs.declared.volume_key.VolumeKey.TheVariants as key
 use Rattle.ubi_commands.proofs.GivenWords.{found_row, number_in_row, text_in_row}

@@ -5,13 +5,13 @@ use Rattle.std.proofs.lemmas.Slice.Eq.{bytes_eq-Decides}
 use Rattle.clap.specs.Walk.{Row, Text}
 use Rattle.ubi_commands.specs.CommandLine.{AsksChange, AsksExtract, AsksNewImage, AsksNumbers, AsksPaths, AsksRename, HasNumber}
 use Rattle.ubi_commands.specs.inner.CommandLine.{IsAskedBy}
-use Rattle.ubi_commands.specs.declared.command_line.Change.{Change}
-use Rattle.ubi_commands.specs.declared.command_line.Extract.{Extract}
-use Rattle.ubi_commands.specs.declared.command_line.NewImage.{NewImage}
-use Rattle.ubi_commands.specs.declared.command_line.Paths.{Paths}
-use Rattle.ubi_commands.specs.declared.command_line.Rename.{Rename}
-use Rattle.ubi_commands.specs.declared.command_line.Request.{Request}
-use Rattle.ubi_commands.specs.declared.command_line.Request.TheVariants as request
+use Rattle.ubi_commands.specs.declared.requests.Change.{Change}
+use Rattle.ubi_commands.specs.declared.requests.Extract.{Extract}
+use Rattle.ubi_commands.specs.declared.requests.NewImage.{NewImage}
+use Rattle.ubi_commands.specs.declared.requests.Paths.{Paths}
+use Rattle.ubi_commands.specs.declared.requests.Rename.{Rename}
+use Rattle.ubi_commands.specs.declared.requests.Request.{Request}
+use Rattle.ubi_commands.specs.declared.requests.Request.TheVariants as request
 use Rattle.ubi_commands.specs.declared.numbers.Numbers.{Numbers}
 
 pub apart : (a b : Text) → bytes_eq a b ≡ false → a ≡ b → ⊥

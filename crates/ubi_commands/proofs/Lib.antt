@@ -20,7 +20,7 @@ pub mod Levels
 pub mod ListedLines
 pub mod Normalised
 pub mod Outcomes
-pub mod Requests
+pub mod RequestsOf
 pub mod ShownLines
 pub mod Taken
 pub mod ToolVectors

@@ -11,13 +11,13 @@ use Rattle.clap.specs.Simple.{Shape, argument_words, built, label_of, subcommand
 use Rattle.clap.specs.Walk.{Row, Text, answers_to, nothing_held, rows_after}
 use Rattle.ubi_commands.specs.CommandLine.{Asks, AsksNewImage, AsksNumbers, AsksPaths, IsRequest, HasNumber, HasText, command_name}
 use Rattle.ubi_commands.specs.Tool.{HasOneVolume, Takes, tool}
-use Rattle.ubi_commands.specs.declared.command_line.Change.{Change}
-use Rattle.ubi_commands.specs.declared.command_line.Extract.{Extract}
-use Rattle.ubi_commands.specs.declared.command_line.NewImage.{NewImage}
-use Rattle.ubi_commands.specs.declared.command_line.Paths.{Paths}
-use Rattle.ubi_commands.specs.declared.command_line.Rename.{Rename}
-use Rattle.ubi_commands.specs.declared.command_line.Request.{Request}
-use Rattle.ubi_commands.specs.declared.command_line.Request.TheVariants as request
+use Rattle.ubi_commands.specs.declared.requests.Change.{Change}
+use Rattle.ubi_commands.specs.declared.requests.Extract.{Extract}
+use Rattle.ubi_commands.specs.declared.requests.NewImage.{NewImage}
+use Rattle.ubi_commands.specs.declared.requests.Paths.{Paths}
+use Rattle.ubi_commands.specs.declared.requests.Rename.{Rename}
+use Rattle.ubi_commands.specs.declared.requests.Request.{Request}
+use Rattle.ubi_commands.specs.declared.requests.Request.TheVariants as request
 use Rattle.ubi_commands.specs.declared.numbers.Numbers.{Numbers}
 use Rattle.ubi_commands.proofs.GivenKey.{key_asked}
 use Rattle.ubi_commands.proofs.GivenWords.{needs, number_asked, number_in, text_asked}

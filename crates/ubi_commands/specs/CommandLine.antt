@@ -3,13 +3,13 @@ use Rattle.std.specs.Borrow.{Bor}
 use Rattle.std.specs.Prelude.{◌≡◌, ◌↔◌, ◌∷◌, ◌<◌, ◌^◌, [], List, None, Option, Some, codes, option_map, unwrap_or, ℕ}
 use Rattle.std.specs.Str.Parse.{IsNumeral, digits_value, without_leading_plus}
 use Rattle.clap.specs.Walk.{Row, Text, first_of, one_of}
-use Rattle.ubi_commands.specs.declared.command_line.Change.{Change}
-use Rattle.ubi_commands.specs.declared.command_line.Extract.{Extract}
-use Rattle.ubi_commands.specs.declared.command_line.NewImage.{NewImage}
-use Rattle.ubi_commands.specs.declared.command_line.Paths.{Paths}
-use Rattle.ubi_commands.specs.declared.command_line.Rename.{Rename}
-use Rattle.ubi_commands.specs.declared.command_line.Request.{Request}
-use Rattle.ubi_commands.specs.declared.command_line.Request.TheVariants as request
+use Rattle.ubi_commands.specs.declared.requests.Change.{Change}
+use Rattle.ubi_commands.specs.declared.requests.Extract.{Extract}
+use Rattle.ubi_commands.specs.declared.requests.NewImage.{NewImage}
+use Rattle.ubi_commands.specs.declared.requests.Paths.{Paths}
+use Rattle.ubi_commands.specs.declared.requests.Rename.{Rename}
+use Rattle.ubi_commands.specs.declared.requests.Request.{Request}
+use Rattle.ubi_commands.specs.declared.requests.Request.TheVariants as request
 use Rattle.ubi_commands.specs.declared.numbers.Numbers.{Numbers}
 use Rattle.ubi_commands.specs.declared.volume_key.VolumeKey.{VolumeKey}
 use Rattle.ubi_commands.specs.declared.volume_key.VolumeKey.TheVariants as key

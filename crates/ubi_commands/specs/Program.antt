@@ -22,8 +22,8 @@ use Rattle.ubi_commands.specs.Same.{ComparesOf}
 use Rattle.ubi_commands.specs.Show.{ShowsOf}
 use Rattle.ubi_commands.specs.Tool.{Requests, Takes}
 use Rattle.ubi_commands.specs.Unpack.{UnpacksOf}
-use Rattle.ubi_commands.specs.declared.command_line.Request.{Request}
-use Rattle.ubi_commands.specs.declared.command_line.Request.TheVariants as request
+use Rattle.ubi_commands.specs.declared.requests.Request.{Request}
+use Rattle.ubi_commands.specs.declared.requests.Request.TheVariants as request
 use Rattle.ubi_commands.specs.declared.image_file.Unread.{Unread}
 use Rattle.ubi_commands.specs.declared.image_file.Unread.TheVariants as unread
 use Rattle.ubi_commands.specs.declared.numbers.Numbers.{Numbers}

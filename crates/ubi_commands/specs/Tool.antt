@@ -5,7 +5,7 @@ use Rattle.clap.specs.Simple.{App, Shape, new_rule, new_shape, subcommand_of}
 use Rattle.clap.specs.Walk.{Row, Rule, Text, first_of}
 use Rattle.clap.specs.declared.builder.value_parser.ValueParser.TheVariants as parser
 use Rattle.ubi_commands.specs.CommandLine.{IsRequest}
-use Rattle.ubi_commands.specs.declared.command_line.Request.{Request}
+use Rattle.ubi_commands.specs.declared.requests.Request.{Request}
 
 -- an argument that has to be given
 abbrev pub needed : Rule → Rule

@@ -8,13 +8,14 @@ ghost use Rattle.ubi_commands.specs.Disk.{AllStay, OthersStay};
 ghost use Rattle.ubi_commands.specs.Program.{IsAllElse, IsAnswer, IsAnswerTo, OfText};
 
 use crate::build::build_file;
-use crate::command_line::{NewImage, Request, request_of, tool_command};
+use crate::command_line::tool_command;
 use crate::compose::run_compose;
 use crate::disk::Disk;
 use crate::numbers::{GREATEST, Numbers};
 use crate::outcome::{Outcome, WRONG_WORDS};
 use crate::output_file::write_outcome;
 use crate::readers::{Checking, Detecting, Listing, Showing, read_file, same_files};
+use crate::requests::{NewImage, Request, request_of};
 use crate::spec_file::load_spec;
 use crate::unpack::unpack_file;
 use crate::writers::{Extracting, Normalising, change_file, rename_file, write_file};

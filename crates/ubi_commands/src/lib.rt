@@ -36,6 +36,7 @@ mod progress;
 mod read;
 mod readers;
 mod rename;
+mod requests;
 mod same;
 mod show;
 mod spec_file;
@@ -46,9 +47,7 @@ mod writers;
 pub use build::build_file;
 pub use change::{NewBytes, run_change, run_change_from};
 pub use check::{run_check, run_check_from};
-pub use command_line::{
-    Change, Extract, NewImage, Paths, Rename, Request, request_of, tool_command,
-};
+pub use command_line::tool_command;
 pub use commands::run_words;
 pub use compose::run_compose;
 pub use disk::{Disk, OutputFile, WholeFile};
@@ -72,6 +71,7 @@ pub use progress::ProgressWriter;
 pub use read::read_limited;
 pub use readers::{Checking, Detecting, Listing, Reading, Showing, read_file, same_files};
 pub use rename::{run_rename, run_rename_from};
+pub use requests::{Change, Extract, NewImage, Paths, Rename, Request, request_of};
 pub use same::{run_same, run_same_from};
 pub use show::{run_show, run_show_from};
 pub use spec_file::{SpecFile, load_spec};

@@ -16,7 +16,6 @@ ghost use Rattle.ubi_commands.specs.Program.{OfFile};
 ghost use Rattle.ubi_commands.specs.Unpack.{AreUnpacked, IsUnpacked, Unpacks, UnpacksFrom, UnpacksOf, file_byte, file_path, unpacked_amount, unpacked_line, unpacked_lines, unpacked_status};
 ghost use Rattle.ubi_commands.specs.inner.Folder.{AreFilesOf, Ends, IsFileOf};
 
-use crate::command_line::Paths;
 use crate::disk::Disk;
 use crate::image_file::unread_line;
 use crate::lines::{put_number, put_word, refusal_line};
@@ -25,6 +24,7 @@ use crate::numbers::Numbers;
 use crate::open_image::{OpenImage, open_image};
 use crate::outcome::{DONE, FAILED, Outcome, ToolError};
 use crate::output_file::unwritten_line;
+use crate::requests::Paths;
 use itoa::Buffer;
 use std::alloc::{AllocError, Global};
 use ubi_media::{Geometry, VolumeRecord};

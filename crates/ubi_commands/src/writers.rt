@@ -17,7 +17,6 @@ ghost use Rattle.ubi_commands.specs.declared.numbers.Numbers.{Numbers};
 ghost use Rattle.ubi_commands.specs.declared.outcome.Outcome.{Outcome};
 
 use crate::change::{NewBytes, run_change_from};
-use crate::command_line::{Change, Paths, Rename};
 use crate::disk::Disk;
 use crate::extract::run_extract_from;
 use crate::image_file::{load, unread_line};
@@ -29,6 +28,7 @@ use crate::outcome::{DONE, Outcome, ToolError};
 use crate::output_file::{keep_file, unwritten_line};
 use crate::progress::ProgressWriter;
 use crate::rename::run_rename_from;
+use crate::requests::{Change, Paths, Rename};
 use crate::volume_key::VolumeKey;
 use std::alloc::{AllocError, Global};
 use std::io::Write;

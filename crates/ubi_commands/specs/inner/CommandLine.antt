@@ -7,7 +7,7 @@ use Rattle.clap.specs.Walk.{Row, Text, rows_of}
 use Rattle.clap.specs.declared.builder.command.Command.{Command}
 use Rattle.clap.specs.declared.parser.matches.ArgMatches.{ArgMatches}
 use Rattle.ubi_commands.specs.CommandLine.{Asks, command_name}
-use Rattle.ubi_commands.specs.declared.command_line.Request.{Request}
+use Rattle.ubi_commands.specs.declared.requests.Request.{Request}
 
 -- a command that has none below it
 abbrev pub alone : Shape → App

@@ -1,4 +1,4 @@
-use Rattle.ubi_commands.proofs.Requests.{asked, refused}
+use Rattle.ubi_commands.proofs.RequestsOf.{asked, refused}
 use Rattle.ubi_commands.proofs.commands.run_words.Goals as goal
 
 pub returns-in-Err-clause-answer : goal.returns-in-Err-clause-answer

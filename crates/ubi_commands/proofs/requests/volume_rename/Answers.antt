@@ -1,0 +1,8 @@
+use Rattle.ubi_commands.proofs.requests.volume_rename.Goals as goal
+
+pub returns-in_err-paths_of : goal.returns-in_err-paths_of
+returns-in_err-paths_of c = rw c.from_residual.ensures (λ x asked. c.in_err-paths_of.ensures x.paths asked.0)
+
+pub returns-in_err-number_of : goal.returns-in_err-number_of
+returns-in_err-number_of c =
+    rw c.from_residual-in_err-number_of.ensures (λ x asked. c.in_err-number_of.ensures.one x.id asked.1)

@@ -1,0 +1,365 @@
+//! What the words of a command line ask for.
+
+ghost use Rattle.std.specs.Prelude.{codes};
+ghost use Rattle.clap.specs.Simple.{subcommand_rows_of};
+ghost use Rattle.ubi_commands.specs.CommandLine.{AsksChange, AsksExtract, AsksKey, AsksNewImage, AsksNumbers, AsksPaths, AsksRename, HasNumber, HasText, IsOneOf, IsRequest, MayHaveNumber};
+ghost use Rattle.ubi_commands.specs.Tool.{tool as whole};
+ghost use Rattle.ubi_commands.specs.inner.CommandLine.{IsAskedBy, words_in};
+
+use crate::numbers::Numbers;
+use crate::volume_key::VolumeKey;
+use clap::ArgMatches;
+
+/// What the words ask for, with the paths as they were given.
+#[derive(Clone, Copy)]
+pub enum Request<'a> {
+    /// The geometries that a file's own headers give.
+    Geometry {
+        image: &'a str,
+    },
+    /// The volumes of a file.
+    List {
+        numbers: Numbers,
+        image: &'a str,
+    },
+    /// The states of the eraseblocks of a file.
+    Check {
+        numbers: Numbers,
+        image: &'a str,
+    },
+    /// The headers of one eraseblock of a file.
+    Show {
+        numbers: Numbers,
+        image: &'a str,
+        block: u32,
+    },
+    /// What a volume of one file reads, into another.
+    Extract {
+        numbers: Numbers,
+        extract: Extract<'a>,
+    },
+    /// What each volume of a file reads, into files of a folder.
+    Unpack {
+        numbers: Numbers,
+        paths: Paths<'a>,
+    },
+    /// The image that a text file describes, into another file.
+    Compose {
+        numbers: Numbers,
+        new: NewImage<'a>,
+    },
+    /// The image that a config and the files that it names give, into another file.
+    Build {
+        numbers: Numbers,
+        new: NewImage<'a>,
+    },
+    /// The normal image of one file, into another.
+    Normalise {
+        numbers: Numbers,
+        paths: Paths<'a>,
+    },
+    /// Whether two files mean the same.
+    Same {
+        numbers: Numbers,
+        left: &'a str,
+        right: &'a str,
+    },
+    /// A change of one file, written into another.
+    Change {
+        numbers: Numbers,
+        change: Change<'a>,
+    },
+    /// A rename of a volume of one file, written into another.
+    Rename {
+        numbers: Numbers,
+        rename: Rename<'a>,
+    },
+}
+
+/// The paths of a command that reads one image and writes a file, or the files of a folder.
+#[derive(Clone, Copy)]
+pub struct Paths<'a> {
+    /// That of the image.
+    pub image: &'a str,
+    /// That of the file or the folder that is written.
+    pub out: &'a str,
+}
+
+/// A volume to take out of an image.
+#[derive(Clone, Copy)]
+pub struct Extract<'a> {
+    /// The paths of the image and of the file that is written.
+    pub paths: Paths<'a>,
+    /// The volume.
+    pub key: VolumeKey<'a>,
+}
+
+/// An image to make of a text, or of a config and the files that it names.
+#[derive(Clone, Copy)]
+pub struct NewImage<'a> {
+    /// The path of the text or the config.
+    pub from: &'a str,
+    /// The path of the file that is written.
+    pub out: &'a str,
+    /// How many spare eraseblocks follow.
+    pub spares: u32,
+    /// The image sequence number.
+    pub image_seq: u32,
+}
+
+/// The change of a logical eraseblock.
+#[derive(Clone, Copy)]
+pub struct Change<'a> {
+    /// The paths of the image and of the file that is written.
+    pub paths: Paths<'a>,
+    /// The number of the volume.
+    pub id: u32,
+    /// The number of the logical eraseblock.
+    pub lnum: u32,
+    /// The path of the file that holds the new bytes.
+    pub from: &'a str,
+    /// After how many steps the image is written; after all where it is left out.
+    pub stop: Option<u32>,
+}
+
+/// The rename of a volume.
+#[derive(Clone, Copy)]
+pub struct Rename<'a> {
+    /// The paths of the image and of the file that is written.
+    pub paths: Paths<'a>,
+    /// The number of the volume.
+    pub id: u32,
+    /// The new name, in the form in which names are printed.
+    pub name: &'a str,
+    /// After how many steps the image is written; after all where it is left out.
+    pub stop: Option<u32>,
+}
+
+/// What is asked for, where the words name a command and have all that it needs. Of words that the command line takes
+/// that is always so.
+pub fn request_of<'a>(matches: &'a ArgMatches<'_>) -> Option<Request<'a>>
+    ensures { IsOneOf (IsRequest (subcommand_rows_of matches.now)) result }
+{
+    let (name, inner) = matches.subcommand()?;
+    request_under(name, inner)
+}
+
+/// What the words of the command of this name ask for.
+fn request_under<'a>(name: &str, matches: &'a ArgMatches<'_>) -> Option<Request<'a>>
+    ensures { IsOneOf (IsAskedBy name.now (words_in matches.now)) result }
+{
+    match name {
+        "geometry" => geometry_of(matches),
+        "list" => list_of(matches),
+        "check" => check_of(matches),
+        "show" => show_of(matches),
+        "extract" => extract_of(matches),
+        "unpack" => unpack_of(matches),
+        "compose" => compose_of(matches),
+        "build" => build_of(matches),
+        "normalise" => normalise_of(matches),
+        "same" => same_of(matches),
+        "change" => change_of(matches),
+        "rename" => rename_of(matches),
+        _ => None,
+    }
+}
+
+fn geometry_of<'a>(matches: &'a ArgMatches<'_>) -> Option<Request<'a>>
+    ensures { IsOneOf (IsAskedBy (codes "geometry") (words_in matches.now)) result }
+{
+    Some(Request::Geometry {
+        image: text_of(matches, "IMAGE")?,
+    })
+}
+
+fn list_of<'a>(matches: &'a ArgMatches<'_>) -> Option<Request<'a>>
+    ensures { IsOneOf (IsAskedBy (codes "list") (words_in matches.now)) result }
+{
+    Some(Request::List {
+        numbers: numbers_of(matches)?,
+        image: text_of(matches, "IMAGE")?,
+    })
+}
+
+fn check_of<'a>(matches: &'a ArgMatches<'_>) -> Option<Request<'a>>
+    ensures { IsOneOf (IsAskedBy (codes "check") (words_in matches.now)) result }
+{
+    Some(Request::Check {
+        numbers: numbers_of(matches)?,
+        image: text_of(matches, "IMAGE")?,
+    })
+}
+
+fn show_of<'a>(matches: &'a ArgMatches<'_>) -> Option<Request<'a>>
+    ensures { IsOneOf (IsAskedBy (codes "show") (words_in matches.now)) result }
+{
+    Some(Request::Show {
+        numbers: numbers_of(matches)?,
+        image: text_of(matches, "IMAGE")?,
+        block: number_of(matches, "block")?,
+    })
+}
+
+fn extract_of<'a>(matches: &'a ArgMatches<'_>) -> Option<Request<'a>>
+    ensures { IsOneOf (IsAskedBy (codes "extract") (words_in matches.now)) result }
+{
+    Some(Request::Extract {
+        numbers: numbers_of(matches)?,
+        extract: volume_extract(matches)?,
+    })
+}
+
+fn unpack_of<'a>(matches: &'a ArgMatches<'_>) -> Option<Request<'a>>
+    ensures { IsOneOf (IsAskedBy (codes "unpack") (words_in matches.now)) result }
+{
+    Some(Request::Unpack {
+        numbers: numbers_of(matches)?,
+        paths: paths_of(matches)?,
+    })
+}
+
+fn compose_of<'a>(matches: &'a ArgMatches<'_>) -> Option<Request<'a>>
+    ensures { IsOneOf (IsAskedBy (codes "compose") (words_in matches.now)) result }
+{
+    Some(Request::Compose {
+        numbers: numbers_of(matches)?,
+        new: new_image(matches, "SPEC")?,
+    })
+}
+
+fn build_of<'a>(matches: &'a ArgMatches<'_>) -> Option<Request<'a>>
+    ensures { IsOneOf (IsAskedBy (codes "build") (words_in matches.now)) result }
+{
+    Some(Request::Build {
+        numbers: numbers_of(matches)?,
+        new: new_image(matches, "CONFIG")?,
+    })
+}
+
+fn normalise_of<'a>(matches: &'a ArgMatches<'_>) -> Option<Request<'a>>
+    ensures { IsOneOf (IsAskedBy (codes "normalise") (words_in matches.now)) result }
+{
+    Some(Request::Normalise {
+        numbers: numbers_of(matches)?,
+        paths: paths_of(matches)?,
+    })
+}
+
+fn same_of<'a>(matches: &'a ArgMatches<'_>) -> Option<Request<'a>>
+    ensures { IsOneOf (IsAskedBy (codes "same") (words_in matches.now)) result }
+{
+    Some(Request::Same {
+        numbers: numbers_of(matches)?,
+        left: text_of(matches, "IMAGE")?,
+        right: text_of(matches, "OTHER")?,
+    })
+}
+
+fn change_of<'a>(matches: &'a ArgMatches<'_>) -> Option<Request<'a>>
+    ensures { IsOneOf (IsAskedBy (codes "change") (words_in matches.now)) result }
+{
+    Some(Request::Change {
+        numbers: numbers_of(matches)?,
+        change: leb_change(matches)?,
+    })
+}
+
+fn rename_of<'a>(matches: &'a ArgMatches<'_>) -> Option<Request<'a>>
+    ensures { IsOneOf (IsAskedBy (codes "rename") (words_in matches.now)) result }
+{
+    Some(Request::Rename {
+        numbers: numbers_of(matches)?,
+        rename: volume_rename(matches)?,
+    })
+}
+
+/// The volume that the words name, by its number or by its name. None where they do neither, or both.
+fn key_of<'a>(matches: &'a ArgMatches<'_>) -> Option<VolumeKey<'a>>
+    ensures { IsOneOf (AsksKey (words_in matches.now)) result }
+{
+    match (text_of(matches, "name"), text_of(matches, "id")) {
+        (None, _) => Some(VolumeKey::Id(number_of(matches, "id")?)),
+        (Some(name), None) => Some(VolumeKey::Name(name)),
+        (Some(_), Some(_)) => None,
+    }
+}
+
+fn paths_of<'a>(matches: &'a ArgMatches<'_>) -> Option<Paths<'a>>
+    ensures { IsOneOf (AsksPaths (words_in matches.now)) result }
+{
+    let image = text_of(matches, "IMAGE")?;
+    let out = text_of(matches, "out")?;
+    Some(Paths { image, out })
+}
+
+fn volume_extract<'a>(matches: &'a ArgMatches<'_>) -> Option<Extract<'a>>
+    ensures { IsOneOf (AsksExtract (words_in matches.now)) result }
+{
+    Some(Extract {
+        paths: paths_of(matches)?,
+        key: key_of(matches)?,
+    })
+}
+
+/// The image that the words ask for, of the file under a name.
+fn new_image<'a>(matches: &'a ArgMatches<'_>, name: &str) -> Option<NewImage<'a>>
+    ensures { IsOneOf (AsksNewImage (words_in matches.now) name.now) result }
+{
+    Some(NewImage {
+        from: text_of(matches, name)?,
+        out: text_of(matches, "out")?,
+        spares: number_of(matches, "spares").unwrap_or(0),
+        image_seq: number_of(matches, "seq").unwrap_or(0),
+    })
+}
+
+fn leb_change<'a>(matches: &'a ArgMatches<'_>) -> Option<Change<'a>>
+    ensures { IsOneOf (AsksChange (words_in matches.now)) result }
+{
+    Some(Change {
+        paths: paths_of(matches)?,
+        id: number_of(matches, "id")?,
+        lnum: number_of(matches, "lnum")?,
+        from: text_of(matches, "from")?,
+        stop: number_of(matches, "stop"),
+    })
+}
+
+fn volume_rename<'a>(matches: &'a ArgMatches<'_>) -> Option<Rename<'a>>
+    ensures { IsOneOf (AsksRename (words_in matches.now)) result }
+{
+    Some(Rename {
+        paths: paths_of(matches)?,
+        id: number_of(matches, "id")?,
+        name: text_of(matches, "name")?,
+        stop: number_of(matches, "stop"),
+    })
+}
+
+fn numbers_of(matches: &ArgMatches<'_>) -> Option<Numbers>
+    ensures { IsOneOf (AsksNumbers (words_in matches.now)) result }
+{
+    Some(Numbers {
+        peb_size: number_of(matches, "peb")?,
+        page: number_of(matches, "page")?,
+        vid_offset: number_of(matches, "vid"),
+        data_offset: number_of(matches, "data"),
+        pebs: number_of(matches, "pebs"),
+    })
+}
+
+/// The text that a word gives.
+fn text_of<'a>(matches: &'a ArgMatches<'_>, name: &str) -> Option<&'a str>
+    ensures { IsOneOf (HasText (words_in matches.now) name.now) result }
+{
+    matches.get_str(name)
+}
+
+/// The number that an option gives.
+fn number_of(matches: &ArgMatches<'_>, name: &str) -> Option<u32>
+    ensures one { IsOneOf (HasNumber (words_in matches.now) name.now) result }
+    ensures whole { MayHaveNumber (words_in matches.now) name.now result }
+{
+    matches.get_one::<u32>(name)
+}
