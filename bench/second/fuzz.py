@@ -607,10 +607,11 @@ class Case(Runner):
             self.look_read(self.path, image, number)
             self.look_read(self.path, image, number, rules.shown(record.name))
         names = {record.name for record in image.records.values()}
+        # By a name that no volume has, what is right is what is right by a number that none has.
         for name in {b"root", b"\x80", b"none"} - names:
-            self.look_read(self.path, image, 127, rules.shown(name))
+            self.look_read(self.path, image, 128, rules.shown(name))
         self.look_read(self.path, image, 127)
-        self.look_read(self.path, image, 127, self.rng.choice(NO_NAMES[:8]))
+        self.look_read(self.path, image, 128, self.rng.choice(NO_NAMES[:8]))
         self.look_unpacked(self.path, image)
         self.expect(["normalise", self.path, "--out", self.out], f"blocks {len(normal) // self.geometry.peb}\n", 0, normal)
         self.look_composed(image, self.rng.choice((0, 0, 1, 2, 3)))
