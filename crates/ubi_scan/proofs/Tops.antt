@@ -33,7 +33,7 @@ used_by (Some k) h e = by_test (has_members k.vol_id) e
 pub number_of_member : (e : EcRead) (v : VidRead) (h : VidHeader) → member_if e v ≡ Some h → sqnum_if e v ≡ h.sqnum
 number_of_member e v h is = ap (λ o. unwrap_or o 0) (used_by (header_if e v) h is)
 
--- a candidate, if there is one, has no number above one
+-- a candidate, if there is one, has no sequence number above `top`
 abbrev pub IsAtMost : ℕ → Option Candidate → Type 0
 IsAtMost top o = IfSome o (λ c. c.sqnum ≤ top)
 
