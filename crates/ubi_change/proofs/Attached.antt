@@ -22,7 +22,7 @@ use Rattle.ubi_scan.proofs.Seq.{Agrees}
 use Rattle.ubi_table.specs.Records.{Records}
 use Rattle.ubi_table.specs.Table.{AllBlank}
 use Rattle.ubi_volume.specs.Accepts.{AcceptsBlocks}
-use Rattle.ubi_volume.specs.Attached.{IsAttached, Whole, AreStates}
+use Rattle.ubi_volume.specs.Attached.{Whole}
 use Rattle.ubi_volume.specs.Meant.{Fits, IsVolume}
 use Rattle.ubi_volume.specs.declared.content.Content.{Content}
 use Rattle.ubi_volume.specs.declared.content.Content.TheVariants as content
@@ -53,6 +53,7 @@ use Rattle.ubi_change.proofs.Survives.{survives}
 use Rattle.ubi_change.proofs.Turned.{AllFail, fail-append, header_fails, one-copy, turn-is}
 use Rattle.ubi_change.proofs.Unmapped as first
 use Rattle.ubi_change.proofs.Vacated.{LosesAll}
+use Rattle.ubi_change.proofs.Shown.{IsShown, SayUnused}
 
 -- what it says that no cause stands
 first_none : (o : Option ChangeRefusal) (rest : List (Option ChangeRefusal)) → first_of (o ∷ rest) ≡ None
@@ -154,7 +155,7 @@ lebs_of s r content.Damaged d u f = absurd (let k = f.1 in cc)
 lebs_of s r (content.Static text) d u f = absurd (let k = f.1 in cc)
 lebs_of s r (content.Dynamic lebs) d u f = (lebs, refl)
 
-module _ (image : Image) (g : IsGeometry image.sizes) (a : Whole) (att : IsAttached image a)
+module _ (image : Image) (g : IsGeometry image.sizes) (a : Whole) (att : IsShown image a)
     (few : a.scan.mean_ec < 2 ^ 31) (narrow : a.scan.image_seq < 2 ^ 32)
     (id lnum : ℕ) (new : List ℕ) (v : Volume) (there : finite.get a.meaning.volumes id ≡ Some v)
     (allowed : in_image first_cause image a id lnum new ≡ None)
@@ -171,8 +172,8 @@ module _ (image : Image) (g : IsGeometry image.sizes) (a : Whole) (att : IsAttac
   agrees : Agrees s a.scan.image_seq bs
   agrees = on.agrees image g a att
 
-  states : AreStates s bs acc.records a.states
-  states = subst (λ (t : Records). AreStates s bs t a.states)
+  states : SayUnused s bs acc.records a.states
+  states = subst (λ (t : Records). SayUnused s bs t a.states)
       (records_meant s bs acc.records a.meaning acc.table acc.means) att.states
 
   volume : IsVolume a.meaning.sizes id v

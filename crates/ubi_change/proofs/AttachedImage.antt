@@ -9,7 +9,7 @@ use Rattle.ubi_scan.proofs.Chunks.{length-of_chunk, length-first_chunks}
 use Rattle.ubi_scan.proofs.Clean.{clean_from_none}
 use Rattle.ubi_scan.proofs.Seq.{Agrees, seq_agrees}
 use Rattle.ubi_volume.specs.Accepts.{AcceptsBlocks}
-use Rattle.ubi_volume.specs.Attached.{IsAttached, Whole}
+use Rattle.ubi_volume.specs.Attached.{Whole}
 use Rattle.ubi_change.specs.Cuts.{programs_copy}
 use Rattle.ubi_change.specs.Plan.{next_ec, prepare, release, renew}
 use Rattle.ubi_change.specs.Takeable.{ec_at, is_clean, is_sole_carrier, is_worn, stays}
@@ -21,9 +21,10 @@ use Rattle.ubi_change.proofs.Renewed.{IsCounter}
 use Rattle.ubi_change.proofs.Seq.{NamedBeside, not_sole}
 use Rattle.ubi_change.proofs.Top.{member_below}
 use Rattle.ubi_change.proofs.Turned.{AllFail, renew_fails}
+use Rattle.ubi_change.proofs.Shown.{IsShown}
 
 -- its numbers have 31 and 32 bits
-module _ (image : Image) (a : Whole) (att : IsAttached image a) where
+module _ (image : Image) (a : Whole) (att : IsShown image a) where
   pub mean_few : a.scan.mean_ec < 2 ^ 31
   mean_few = subst (λ (n : ℕ). n < 2 ^ 31) (sym att.scan.mean_ec) (mean_narrow image.sizes (eraseblocks image))
 
@@ -33,7 +34,7 @@ module _ (image : Image) (a : Whole) (att : IsAttached image a) where
       let means = att.accepted.accepted.means in
       subst (λ (n : ℕ). n < 2 ^ 32) (means.image_seq ∙ sym att.scan.image_seq) means.meaning.image_seq
 
-module _ (image : Image) (g : IsGeometry image.sizes) (a : Whole) (att : IsAttached image a) where
+module _ (image : Image) (g : IsGeometry image.sizes) (a : Whole) (att : IsShown image a) where
   abbrev s : Sizes
   s = image.sizes
 

@@ -11,8 +11,9 @@ use Rattle.ubi_scan.specs.Image.{Image, eraseblocks}
 use Rattle.ubi_volume.specs.Attached.{IsAttached, Whole}
 use Rattle.ubi_volume.specs.declared.content.Volume.{Volume}
 use Rattle.ubi_change.specs.inner.Making.{image_causes, own_causes}
-use Rattle.ubi_change.specs.Planned.{IsChangeRefusal}
+use Rattle.ubi_change.specs.Planned.{IsChangeRefusalAvoiding}
 use Rattle.ubi_change.specs.Refused.{causes, first_cause, first_of}
+use Rattle.ubi_change.specs.Avoided.{Avoided, avoiding}
 use Rattle.ubi_change.specs.declared.refusal.ChangeRefusal.{ChangeRefusal}
 use Rattle.ubi_change.specs.declared.refusal.ChangeRefusal.TheVariants as refusal
 
@@ -76,7 +77,11 @@ module _ (s : Sizes) (bs : List (List ℕ)) (a : Whole) (r : VolumeRecord) (id l
   no_attach c e = first_own (causes s bs a r id lnum new) are_own c
       (front_stands (own_causes s r lnum new) (image_causes s bs a id lnum) (refusal.Attach c) e)
 
-module _ (image : Image) (a : Whole) (att : IsAttached image a) (id lnum : ℕ) (new : List ℕ) where
+module _ (image : Image) (av : Avoided) (from : Whole) (att : IsAttached image from) (id lnum : ℕ) (new : List ℕ) where
+  -- the image as the plan sees it
+  abbrev a : Whole
+  a = avoiding av from
+
   abbrev s : Sizes
   s = image.sizes
 
@@ -84,9 +89,9 @@ module _ (image : Image) (a : Whole) (att : IsAttached image a) (id lnum : ℕ) 
   bs = eraseblocks image
 
   -- no volume has the number
-  pub no_volume : finite.get a.meaning.volumes id ≡ None → IsChangeRefusal image id lnum new refusal.NoVolume
+  pub no_volume : finite.get a.meaning.volumes id ≡ None → IsChangeRefusalAvoiding image av id lnum new refusal.NoVolume
   no_volume none = (
-    a,
+    from,
     att,
     ap (λ (o : Option Volume). option_map_or (λ v. first_of (causes s bs a v.entry id lnum new)) o
         (Some refusal.NoVolume)) none,
@@ -98,26 +103,26 @@ module _ (image : Image) (a : Whole) (att : IsAttached image a) (id lnum : ℕ) 
         (Some refusal.NoVolume)) there
 
     stands : (c : ChangeRefusal) → first_of (causes s bs a v.entry id lnum new) ≡ Some c
-        → IsChangeRefusal image id lnum new c
+        → IsChangeRefusalAvoiding image av id lnum new c
     stands refusal.Memory e = tt
     stands (refusal.Attach c) e =
         absurd (first_own (causes s bs a v.entry id lnum new) (are_own s bs a v.entry id lnum new) c e)
-    stands refusal.NoVolume e = (a, att, cause_is ∙ e)
-    stands refusal.StaticVolume e = (a, att, cause_is ∙ e)
-    stands refusal.Updating e = (a, att, cause_is ∙ e)
-    stands refusal.OutOfRange e = (a, att, cause_is ∙ e)
-    stands refusal.BadLength e = (a, att, cause_is ∙ e)
-    stands (refusal.WeakCheck k) e = (a, att, cause_is ∙ e)
-    stands refusal.Exhausted e = (a, att, cause_is ∙ e)
-    stands refusal.NoFree e = (a, att, cause_is ∙ e)
+    stands refusal.NoVolume e = (from, att, cause_is ∙ e)
+    stands refusal.StaticVolume e = (from, att, cause_is ∙ e)
+    stands refusal.Updating e = (from, att, cause_is ∙ e)
+    stands refusal.OutOfRange e = (from, att, cause_is ∙ e)
+    stands refusal.BadLength e = (from, att, cause_is ∙ e)
+    stands (refusal.WeakCheck k) e = (from, att, cause_is ∙ e)
+    stands refusal.Exhausted e = (from, att, cause_is ∙ e)
+    stands refusal.NoFree e = (from, att, cause_is ∙ e)
 
     pub own_stands : (c : ChangeRefusal) → first_of (own_causes s v.entry lnum new) ≡ Some c
-        → IsChangeRefusal image id lnum new c
+        → IsChangeRefusalAvoiding image av id lnum new c
     own_stands c e = stands c (front_stands (own_causes s v.entry lnum new) (image_causes s bs a id lnum) c e)
 
     module _ (own : first_of (own_causes s v.entry lnum new) ≡ None) where
       pub image_stands : (c : ChangeRefusal) → first_of (image_causes s bs a id lnum) ≡ Some c
-          → IsChangeRefusal image id lnum new c
+          → IsChangeRefusalAvoiding image av id lnum new c
       image_stands c e = stands c (rest_stands (own_causes s v.entry lnum new) (image_causes s bs a id lnum) own ∙ e)
 
       -- no cause stands

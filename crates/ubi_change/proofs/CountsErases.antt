@@ -23,7 +23,7 @@ use Rattle.ubi_scan.specs.Image.{Image, block, ec, eraseblocks, in_image}
 use Rattle.ubi_scan.specs.Numbers.{valid_ec}
 use Rattle.ubi_scan.proofs.Parts.{ec-laid, laid}
 use Rattle.ubi_volume.proofs.Winners.{found_wins}
-use Rattle.ubi_volume.specs.Attached.{IsAttached, Whole}
+use Rattle.ubi_volume.specs.Attached.{Whole}
 use Rattle.ubi_volume.specs.declared.content.Volume.{Volume}
 use Rattle.ubi_change.specs.Frugal.{CountsErases, counter_after, erases}
 use Rattle.ubi_change.specs.Plan.{blank_header, copy_header, next_ec, mapped_plan, mount, plan_of, prepare, program_header, program_text, ready_bytes, ready_ec, release, renew, taken, unmapped_plan}
@@ -43,6 +43,7 @@ use Rattle.ubi_change.proofs.Replaced.{block_other, block_same}
 use Rattle.ubi_change.proofs.Runs.{AllOn, after-all, done, done-on, on-append, run}
 use Rattle.ubi_change.proofs.Torn.{pages-all}
 use Rattle.ubi_change.proofs.Written.{ec-bare}
+use Rattle.ubi_change.proofs.Shown.{IsShown}
 
 -- how often lists of steps erase an eraseblock
 other_test : (q p : ℕ) → p ≢ q → (q == p) ≡ false
@@ -288,7 +289,7 @@ module _ (s : Sizes) (g : IsGeometry s) (bs : List (List ℕ)) (a : Whole) where
           counted_at front (mount s bs a b h ++ text) b (part new) all inside written_on written_leaves
           (ec_part new room ∙ ready_due b e is ∙ ap (ec_after b) (sym written_erases))
 
-module _ (image : Image) (g : IsGeometry image.sizes) (a : Whole) (att : IsAttached image a)
+module _ (image : Image) (g : IsGeometry image.sizes) (a : Whole) (att : IsShown image a)
     (few : a.scan.mean_ec < 2 ^ 31) (narrow : a.scan.image_seq < 2 ^ 32)
     (id lnum : ℕ) (new : List ℕ) (v : Volume) (there : finite.get a.meaning.volumes id ≡ Some v)
     (allowed : in_image first_cause image a id lnum new ≡ None)

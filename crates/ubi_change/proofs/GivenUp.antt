@@ -8,7 +8,7 @@ use Rattle.ubi_media.specs.Record.{data_pad}
 use Rattle.ubi_media.specs.declared.ec.EcHeader.{EcHeader}
 use Rattle.ubi_media.specs.declared.vid.VidHeader.{VidHeader}
 use Rattle.ubi_scan.specs.Image.{Image, eraseblocks, in_image}
-use Rattle.ubi_volume.specs.Attached.{IsAttached, Whole}
+use Rattle.ubi_volume.specs.Attached.{Whole}
 use Rattle.ubi_volume.specs.declared.content.Volume.{Volume}
 use Rattle.ubi_change.specs.Cuts.{turn}
 use Rattle.ubi_change.specs.Frugal.{given_up, stays_then}
@@ -21,6 +21,7 @@ use Rattle.ubi_change.specs.declared.step.Step.{Step}
 use Rattle.ubi_change.proofs.Attached as attached
 use Rattle.ubi_change.proofs.Copied.{length-program_text}
 use Rattle.ubi_change.proofs.Torn.{whole_place-is}
+use Rattle.ubi_change.proofs.Shown.{IsShown}
 
 -- the steps of a list that stands behind another
 pub step_behind : (xs ys : List Step) (j k : ℕ) → j ≡ length xs + k → slice_get (xs ++ ys) j ≡ slice_get ys k
@@ -55,7 +56,7 @@ module _ (s : Sizes) (bs : List (List ℕ)) (a : Whole) where
         let w = (whole_place-is s new paged).most in
         omega arith
 
-module _ (image : Image) (g : IsGeometry image.sizes) (a : Whole) (att : IsAttached image a)
+module _ (image : Image) (g : IsGeometry image.sizes) (a : Whole) (att : IsShown image a)
     (few : a.scan.mean_ec < 2 ^ 31) (narrow : a.scan.image_seq < 2 ^ 32)
     (id lnum : ℕ) (new : List ℕ) (v : Volume) (there : finite.get a.meaning.volumes id ≡ Some v)
     (allowed : in_image first_cause image a id lnum new ≡ None)

@@ -8,14 +8,15 @@ use Rattle.ubi_volume.specs.declared.attached.BlockState.{BlockState}
 use Rattle.ubi_change.specs.inner.Renaming.{AreHoldersOf}
 use Rattle.ubi_change.specs.inner.Sites.{IsSiteAt}
 use Rattle.ubi_change.specs.inner.Taking.{IsGroundOf}
+use Rattle.ubi_change.specs.Avoided.{Avoided}
 use Rattle.ubi_change.specs.declared.ground.Ground.{Ground}
 use Rattle.ubi_change.specs.declared.holders.Holders.{Holders}
 use Rattle.ubi_change.specs.declared.site.Site.{Site}
 use Rattle.ubi_change.proofs.WholeReads.{survey_narrowed}
 
 module _ (s : Sizes) (k : Source) (old new : Agreed) where
-  pub ground_narrowed : (ground : Ground) → Narrows old new → IsGroundOf s k old ground → IsGroundOf s k new ground
-  ground_narrowed ground narrows h = record {
+  pub ground_narrowed : (av : Avoided) (ground : Ground) → Narrows old new → IsGroundOf s k old av ground → IsGroundOf s k new av ground
+  ground_narrowed av ground narrows h = record {
     survey = survey_narrowed s k old new ground.surveyed narrows h.survey;
     taken = record {
       first = h.taken.first;
@@ -30,5 +31,6 @@ module _ (s : Sizes) (k j : Source) (agrees : Agreed) where
       → IsSiteAt s k agrees states o t
   site_known states o t same h = subst (λ (k : Source). IsSiteAt s k agrees states o t) same h
 
-  pub holders_known : (seen : Seen) (o : Option Holders) → j ≡ k → AreHoldersOf s j agrees seen o → AreHoldersOf s k agrees seen o
-  holders_known seen o same h = subst (λ (k : Source). AreHoldersOf s k agrees seen o) same h
+  pub holders_known : (av : Avoided) (seen : Seen) (o : Option Holders) → j ≡ k → AreHoldersOf s j agrees av seen o
+      → AreHoldersOf s k agrees av seen o
+  holders_known av seen o same h = subst (λ (k : Source). AreHoldersOf s k agrees av seen o) same h

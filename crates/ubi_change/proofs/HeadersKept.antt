@@ -17,7 +17,7 @@ use Rattle.ubi_media.specs.declared.ec.EcHeader.{EcHeader}
 use Rattle.ubi_media.specs.declared.vid.VidHeader.{VidHeader}
 use Rattle.ubi_scan.specs.Image.{Image, block, ec_area, eraseblocks, in_image}
 use Rattle.ubi_scan.proofs.Filled.{filled-by, filled-is}
-use Rattle.ubi_volume.specs.Attached.{IsAttached, Whole}
+use Rattle.ubi_volume.specs.Attached.{Whole}
 use Rattle.ubi_volume.specs.declared.content.Volume.{Volume}
 use Rattle.ubi_change.specs.Order.{ComesFirst, Programs}
 use Rattle.ubi_change.specs.Plan.{blank_header, copy_header, next_ec, vid_page, atomic_copy, mapped_plan, mount, plan_of, prepare, program_header, program_text, ready_bytes, ready_ec, release, renew, taken, unmapped_plan}
@@ -31,6 +31,7 @@ use Rattle.ubi_change.proofs.Attached as attached
 use Rattle.ubi_change.proofs.PagePlaces.{vid_before}
 use Rattle.ubi_change.proofs.PlanFits.{length-done}
 use Rattle.ubi_change.proofs.Runs.{done}
+use Rattle.ubi_change.proofs.Shown.{IsShown}
 
 no_program : (p q a : ℕ) (xs : List ℕ) → step.Erase q ≡ step.Program p a xs → ⊥
 no_program p q a xs e = cc
@@ -194,7 +195,7 @@ module _ (s : Sizes) (g : IsGeometry s) where
           (first_chunks s.page (pages_of s new) new) (omega arith)))
           (λ l. release_keeps l (done s cs (mount s bs a b h ++ program_text s b new)) old now)
 
-module _ (image : Image) (g : IsGeometry image.sizes) (a : Whole) (att : IsAttached image a)
+module _ (image : Image) (g : IsGeometry image.sizes) (a : Whole) (att : IsShown image a)
     (few : a.scan.mean_ec < 2 ^ 31) (narrow : a.scan.image_seq < 2 ^ 32)
     (id lnum : ℕ) (new : List ℕ) (v : Volume) (there : finite.get a.meaning.volumes id ≡ Some v)
     (allowed : in_image first_cause image a id lnum new ≡ None)

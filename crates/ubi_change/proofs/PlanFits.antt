@@ -13,7 +13,7 @@ use Rattle.ubi_media.specs.declared.vid.VidHeader.{VidHeader}
 use Rattle.ubi_scan.specs.Image.{Image, block, eraseblocks, in_image}
 use Rattle.ubi_scan.proofs.Parts.{laid}
 use Rattle.ubi_volume.proofs.Winners.{found_wins}
-use Rattle.ubi_volume.specs.Attached.{IsAttached, Whole}
+use Rattle.ubi_volume.specs.Attached.{Whole}
 use Rattle.ubi_volume.specs.declared.content.Volume.{Volume}
 use Rattle.ubi_change.specs.Fitting.{AllFit}
 use Rattle.ubi_change.specs.Plan.{blank_header, copy_header, next_ec, atomic_copy, mapped_plan, plan_of, prepare, program_header, program_text, ready_bytes, ready_ec, release, renew, taken, unmapped_plan}
@@ -26,6 +26,7 @@ use Rattle.ubi_change.proofs.CopyFits.{bytes-ec, header_done, header_fits, text_
 use Rattle.ubi_change.proofs.Fits.{FitAll, all_fit, fit-append, renew_fits}
 use Rattle.ubi_change.proofs.Runs.{done}
 use Rattle.ubi_change.proofs.Torn.{pages-all}
+use Rattle.ubi_change.proofs.Shown.{IsShown}
 
 module _ (s : Sizes) where
   -- steps change no number of eraseblocks
@@ -88,7 +89,7 @@ module _ (s : Sizes) (g : IsGeometry s) (bs : List (List ℕ)) (a : Whole) where
           mounted))
           (release_fits (done s cs (mount ++ program_text s b new)) old now (omega (arith, m)))
 
-module _ (image : Image) (g : IsGeometry image.sizes) (a : Whole) (att : IsAttached image a)
+module _ (image : Image) (g : IsGeometry image.sizes) (a : Whole) (att : IsShown image a)
     (few : a.scan.mean_ec < 2 ^ 31) (narrow : a.scan.image_seq < 2 ^ 32)
     (id lnum : ℕ) (new : List ℕ) (v : Volume) (there : finite.get a.meaning.volumes id ≡ Some v)
     (allowed : in_image first_cause image a id lnum new ≡ None)

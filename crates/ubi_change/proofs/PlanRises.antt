@@ -7,7 +7,7 @@ use Rattle.std.specs.FinMap.{get}
 use Rattle.ubi_media.specs.Geometry.{IsGeometry}
 use Rattle.ubi_media.proofs.Padding.{half_pad, reserved_within}
 use Rattle.ubi_scan.specs.Image.{Image, eraseblocks, in_image}
-use Rattle.ubi_volume.specs.Attached.{IsAttached, Whole}
+use Rattle.ubi_volume.specs.Attached.{Whole}
 use Rattle.ubi_volume.specs.declared.content.Volume.{Volume}
 use Rattle.ubi_change.specs.Order.{RisesBetweenErases}
 use Rattle.ubi_change.specs.Plan.{plan_of}
@@ -17,8 +17,9 @@ use Rattle.ubi_change.proofs.HeadersKept.{plan_keeps}
 use Rattle.ubi_change.proofs.PagesRise.{page_0_twice, pages_rise, plan_order}
 use Rattle.ubi_change.proofs.AttachedImage.{mean_few}
 use Rattle.ubi_change.proofs.PlanSurvives.{sound}
+use Rattle.ubi_change.proofs.Shown.{IsShown}
 
-pub plan_rises : (image : Image) → IsGeometry image.sizes → (a : Whole) → IsAttached image a → a.scan.image_seq < 2 ^ 32
+pub plan_rises : (image : Image) → IsGeometry image.sizes → (a : Whole) → IsShown image a → a.scan.image_seq < 2 ^ 32
     → (id lnum : ℕ) (new : List ℕ) (v : Volume) → get a.meaning.volumes id ≡ Some v
     → in_image first_cause image a id lnum new ≡ None
     → in_image RisesBetweenErases image (in_image plan_of image a v.entry id lnum new)

@@ -15,7 +15,7 @@ use Rattle.ubi_scan.specs.Image.{Image, IsWhole, block, eraseblocks, in_image}
 use Rattle.ubi_scan.proofs.Chunks.{first_chunks-concat, length-concat, length-first_chunks}
 use Rattle.ubi_scan.proofs.Filled.{length-blank}
 use Rattle.ubi_volume.specs.Accepts.{AcceptsBlocks}
-use Rattle.ubi_volume.specs.Attached.{IsAttached, Whole}
+use Rattle.ubi_volume.specs.Attached.{Whole}
 use Rattle.ubi_volume.specs.Meant.{IsVolume}
 use Rattle.ubi_volume.specs.declared.content.Volume.{Volume}
 use Rattle.ubi_change.specs.Cuts.{SurvivesCuts, changed, turn}
@@ -31,8 +31,9 @@ use Rattle.ubi_change.proofs.AttachedImage.{mean_few, seq_narrow, whole}
 use Rattle.ubi_change.proofs.PlanFits.{length-done, plan_fits}
 use Rattle.ubi_change.proofs.Premises.{left_of, right_of}
 use Rattle.ubi_change.proofs.Stepped.{length-written}
+use Rattle.ubi_change.proofs.Shown.{IsShown, shown}
 
-module _ (image : Image) (a : Whole) (att : IsAttached image a) where
+module _ (image : Image) (a : Whole) (att : IsShown image a) where
   -- the record of a volume that is meant breaks no rule
   pub sound : (id : ℕ) (v : Volume) → get a.meaning.volumes id ≡ Some v → rec_fault image.sizes v.entry ≡ None
   sound id v there =
@@ -43,7 +44,7 @@ module _ (image : Image) (a : Whole) (att : IsAttached image a) where
 
 -- the eraseblocks that the plan of an attached image leaves, cut after any step
 pub plan_survives : (image : Image) (a : Whole) (id lnum : ℕ) (new : List ℕ) (v : Volume) → IsGeometry image.sizes
-    → IsAttached image a → get a.meaning.volumes id ≡ Some v → in_image first_cause image a id lnum new ≡ None
+    → IsShown image a → get a.meaning.volumes id ≡ Some v → in_image first_cause image a id lnum new ≡ None
     → in_image SurvivesCuts image a.meaning id lnum new (in_image plan_of image a v.entry id lnum new)
 plan_survives image a id lnum new v g att there allowed =
     let narrow = seq_narrow image a att in
@@ -108,7 +109,7 @@ module _ (s : Sizes) (g : IsGeometry s) where
       sized_cut (step_done s bs x) xs k (sized_next bs x sized (fit 0 x refl)) (λ i next at. fit (suc i) next at)
 
 -- the image that is left is whole, and cut into the eraseblocks that are left
-module _ (image : Image) (g : IsGeometry image.sizes) (a : Whole) (att : IsAttached image a) (steps : List Step)
+module _ (image : Image) (g : IsGeometry image.sizes) (a : Whole) (att : IsShown image a) (steps : List Step)
     (fit : in_image AllFit image steps) (k : ℕ) where
   abbrev size : ℕ
   size = image.sizes.peb_size
@@ -143,7 +144,8 @@ module _ (image : Image) (g : IsGeometry image.sizes) (a : Whole) (att : IsAttac
       ap (λ n. first_chunks size n (concat cs)) count ∙ first_chunks-concat size cs sized
 
 pub plan_survives_law : PlanSurvives
-plan_survives_law image a id lnum new v g att there allowed =
+plan_survives_law image a id lnum new v g of_image there allowed =
+    let att = shown image a of_image in
     let steps = in_image plan_of image a v.entry id lnum new in
     let cuts = plan_survives image a id lnum new v g att there allowed in
     let r = sound image a att id v there in (

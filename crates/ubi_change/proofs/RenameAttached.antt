@@ -13,7 +13,7 @@ use Rattle.ubi_scan.specs.Members.{IsMember, Leb, Wins, layout}
 use Rattle.ubi_table.specs.Records.{AreRecords, Records, table_bytes}
 use Rattle.ubi_table.specs.Table.{AllBlank}
 use Rattle.ubi_volume.specs.Accepts.{AcceptsBlocks}
-use Rattle.ubi_volume.specs.Attached.{IsAttached, Whole}
+use Rattle.ubi_volume.specs.Attached.{Whole}
 use Rattle.ubi_volume.specs.Meant.{Meant, records_of}
 use Rattle.ubi_volume.specs.declared.content.Volume.{Volume}
 use Rattle.ubi_volume.proofs.MeantRecords.{records_are}
@@ -46,13 +46,14 @@ use Rattle.ubi_change.proofs.TablePages.{bytes_size}
 use Rattle.ubi_change.proofs.Turned.{one-copy, turn-is}
 use Rattle.ubi_change.proofs.Unused.{layout_counts, one_name, used_by_winner}
 use Rattle.ubi_change.proofs.Vacated.{LosesAll}
+use Rattle.ubi_change.proofs.Shown.{IsShown}
 
 -- a rename of an attached image, against which nothing stands
 pub record Renaming : Type 0 where
   pub image : Image
   pub geometry : IsGeometry image.sizes
   pub from : Whole
-  pub attached : IsAttached image from
+  pub attached : IsShown image from
   pub id : ℕ
   pub name : List ℕ
   pub allowed : in_image MayBeNamed image from id name

@@ -13,13 +13,14 @@ use Rattle.ubi_volume.specs.Survey.{IsSurvey, Seen}
 use Rattle.ubi_volume.specs.declared.content.Volume.{Volume}
 use Rattle.ubi_volume.proofs.Recorded.{record_of}
 use Rattle.ubi_change.specs.RenamePlan.{renamed_pages}
-use Rattle.ubi_change.specs.RenamePlanned.{IsRenameRefusal}
+use Rattle.ubi_change.specs.RenamePlanned.{IsRenameRefusalAvoiding}
 use Rattle.ubi_change.specs.RenameRefused.{BothGood, HasName, IsFirstCause, Stands, rank}
 use Rattle.ubi_change.specs.Takeable.{takeable}
 use Rattle.ubi_change.specs.Weak.{weak_place}
 use Rattle.ubi_change.specs.inner.Renaming.{IsNamable, IsNamingRefusal}
 use Rattle.ubi_change.specs.declared.rename_refusal.RenameRefusal.{RenameRefusal}
 use Rattle.ubi_change.specs.declared.rename_refusal.RenameRefusal.TheVariants as refusal
+use Rattle.ubi_change.specs.Avoided.{Avoided, avoiding}
 use Rattle.ubi_change.proofs.Surveys.{has_none, has_volume, whole}
 
 module _ (s : Sizes) (bs : List (List ℕ)) (a : Whole) (id : ℕ) (name : List ℕ) where
@@ -62,15 +63,19 @@ module _ (s : Sizes) (bs : List (List ℕ)) (a : Whole) (id : ℕ) (name : List 
   pub first_stands : (c : RenameRefusal) → AllOut (rank c) → Stands s bs a id name c → IsFirstCause s bs a id name c
   first_stands c all h = record { stands = h; first = λ d l k. is_out d (all (rank d) l) k }
 
-module _ (image : Image) (seen : Seen) (is : IsSurvey image seen) (id : ℕ) (name : List ℕ) where
+module _ (image : Image) (av : Avoided) (seen : Seen) (is : IsSurvey image seen) (id : ℕ) (name : List ℕ) where
   abbrev s : Sizes
   s = image.sizes
 
   abbrev bs : List (List ℕ)
   bs = eraseblocks image
 
+  abbrev from : Whole
+  from = whole image seen is
+
+  -- the image as the plan sees it
   abbrev a : Whole
-  a = whole image seen is
+  a = avoiding av from
 
   pub there : IsSome (finite.get seen.records.of id) → RuledOut s bs a id name 1
   there h =
@@ -86,16 +91,16 @@ module _ (image : Image) (seen : Seen) (is : IsSurvey image seen) (id : ℕ) (na
   two : IsSome (finite.get seen.records.of id) → AllOut s bs a id name 2
   two h = more_out s bs a id name 1 (none_out s bs a id name) (there h)
 
-  pub refused_name : (c : RenameRefusal) → IsNamingRefusal seen.records id name c → IsRenameRefusal image id name c
+  pub refused_name : (c : RenameRefusal) → IsNamingRefusal seen.records id name c → IsRenameRefusalAvoiding image av id name c
   refused_name refusal.NoVolume h = (
-    a,
+    from,
     is.attached,
     first_stands s bs a id name refusal.NoVolume (none_out s bs a id name) (has_none image seen is id h),
   )
-  refused_name refusal.BadName h = (a, is.attached, first_stands s bs a id name refusal.BadName (two h.0) h.1)
+  refused_name refusal.BadName h = (from, is.attached, first_stands s bs a id name refusal.BadName (two h.0) h.1)
   refused_name (refusal.SameName slot) h =
       let v = has_volume image seen is slot h.3 h.4 in (
-        a,
+        from,
         is.attached,
         first_stands s bs a id name (refusal.SameName slot) (more_out s bs a id name 2 (two h.0) h.1)
             (h.2, record { entry = h.3; content = v.0 }, v.1, h.5),
@@ -114,24 +119,24 @@ module _ (image : Image) (seen : Seen) (is : IsSurvey image seen) (id : ℕ) (na
     four : AllOut s bs a id name 4
     four = more_out s bs a id name 3 (more_out s bs a id name 2 (two may.there) may.named) free
 
-    pub refused_repair : ((t : Records) → BothGood s bs t → ⊥) → IsRenameRefusal image id name refusal.NeedsRepair
-    refused_repair h = (a, is.attached, first_stands s bs a id name refusal.NeedsRepair four h)
+    pub refused_repair : ((t : Records) → BothGood s bs t → ⊥) → IsRenameRefusalAvoiding image av id name refusal.NeedsRepair
+    refused_repair h = (from, is.attached, first_stands s bs a id name refusal.NeedsRepair four h)
 
     module _ (good : (t : Records) × BothGood s bs t) where
       five : AllOut s bs a id name 5
       five = more_out s bs a id name 4 four good
 
       pub refused_weak : (k : ℕ) → weak_place s (renamed_pages s is.meaning id name) ≡ Some k
-          → IsRenameRefusal image id name (refusal.WeakCheck k)
-      refused_weak k h = (a, is.attached, first_stands s bs a id name (refusal.WeakCheck k) five h)
+          → IsRenameRefusalAvoiding image av id name (refusal.WeakCheck k)
+      refused_weak k h = (from, is.attached, first_stands s bs a id name (refusal.WeakCheck k) five h)
 
       module _ (strong : weak_place s (renamed_pages s is.meaning id name) ≡ None) where
         six : AllOut s bs a id name 6
         six = more_out s bs a id name 5 five strong
 
-        pub refused_exhausted : 0xFFFFFFFFFFFFFFFF < a.scan.top_sqnum + 2 → IsRenameRefusal image id name refusal.Exhausted
-        refused_exhausted h = (a, is.attached, first_stands s bs a id name refusal.Exhausted six h)
+        pub refused_exhausted : 0xFFFFFFFFFFFFFFFF < a.scan.top_sqnum + 2 → IsRenameRefusalAvoiding image av id name refusal.Exhausted
+        refused_exhausted h = (from, is.attached, first_stands s bs a id name refusal.Exhausted six h)
 
         pub refused_free : a.scan.top_sqnum + 2 ≤ 0xFFFFFFFFFFFFFFFF → length (takeable s bs a.states) < 2
-            → IsRenameRefusal image id name refusal.NoFree
-        refused_free few h = (a, is.attached, first_stands s bs a id name refusal.NoFree (more_out s bs a id name 6 six few) h)
+            → IsRenameRefusalAvoiding image av id name refusal.NoFree
+        refused_free few h = (from, is.attached, first_stands s bs a id name refusal.NoFree (more_out s bs a id name 6 six few) h)

@@ -6,21 +6,24 @@ use Rattle.ubi_scan.specs.Image.{Image, in_image}
 use Rattle.ubi_change.specs.Fitting.{AllFit}
 use Rattle.ubi_change.specs.Order.{RisesBetweenErases}
 use Rattle.ubi_change.specs.RenamePlan.{renamed_pages}
-use Rattle.ubi_change.specs.RenamePlanned.{LeavesBothGood, LeavesBothGoodOf, IsFrugalRename, IsFrugalRenameOf, IsRename, IsRenameOf, KeepsReading, SurvivesRename, SurvivesRenameOf}
+use Rattle.ubi_change.specs.RenamePlanned.{LeavesBothGood, LeavesBothGoodOf, IsFrugalRename, IsFrugalRenameAvoiding, IsRenameOf, IsRenameAvoiding, KeepsReading, SurvivesRename, SurvivesRenameOf}
+use Rattle.ubi_change.specs.Avoided.{ReadBlank, Avoided, Avoids, avoiding}
 use Rattle.ubi_change.specs.declared.step.Step.{Step}
 use Rattle.ubi_change.proofs.RenameAttached.{Renaming, leaves_both_good, keeps_reading, survives_rename}
 use Rattle.ubi_change.proofs.RenameFits.{rename_fits}
 use Rattle.ubi_change.proofs.RenameFrugal.{rename_frugal}
 use Rattle.ubi_change.proofs.RenameRises.{rename_rises}
+use Rattle.ubi_change.proofs.Shown.{shown_avoiding}
+use Rattle.ubi_change.proofs.AvoidedKept.{rename_avoids}
 
-module _ (image : Image) (g : IsGeometry image.sizes) (id : ℕ) (name : List ℕ) (steps : List Step)
-    (is : IsRename image id name steps) where
+module _ (image : Image) (av : Avoided) (g : IsGeometry image.sizes) (blank : in_image ReadBlank image av) (id : ℕ)
+    (name : List ℕ) (steps : List Step) (is : IsRenameAvoiding image av id name steps) where
   abbrev r : Renaming
   r = record {
     image = image;
     geometry = g;
-    from = is.from;
-    attached = is.attached;
+    from = avoiding av is.from;
+    attached = shown_avoiding image av is.from is.attached;
     id = id;
     name = name;
     allowed = is.allowed;
@@ -49,14 +52,18 @@ module _ (image : Image) (g : IsGeometry image.sizes) (id : ℕ) (name : List �
   kept_rises : in_image RisesBetweenErases image steps
   kept_rises = subst (in_image RisesBetweenErases image) (sym is.plan) (rename_rises r)
 
-  kept_frugal : IsFrugalRenameOf image id name steps
+  kept_frugal : IsFrugalRenameAvoiding image av id name steps
   kept_frugal = (
     is.from,
     is.attached,
-    subst (in_image IsFrugalRename image is.from id name) (sym is.plan) (rename_frugal r),
+    subst (in_image IsFrugalRename image (avoiding av is.from) id name) (sym is.plan) (rename_frugal r),
   )
 
-  pub rename_kept : AreBytes (renamed_pages image.sizes is.from.meaning id name) → IsRenameOf image id name steps
+  kept_avoids : in_image Avoids image av steps
+  kept_avoids = subst (in_image Avoids image av) (sym is.plan)
+      (rename_avoids image av is.from is.attached blank g id name is.allowed)
+
+  pub rename_kept : AreBytes (renamed_pages image.sizes is.from.meaning id name) → IsRenameOf image av id name steps
   rename_kept bytes = record {
     survives = kept_survives;
     reads = kept_reads;
@@ -65,4 +72,5 @@ module _ (image : Image) (g : IsGeometry image.sizes) (id : ℕ) (name : List �
     rises = kept_rises;
     frugal = kept_frugal;
     plan = is;
+    avoids = kept_avoids;
   }

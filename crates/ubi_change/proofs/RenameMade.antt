@@ -24,7 +24,7 @@ use Rattle.ubi_volume.specs.declared.content.Volume.{Volume}
 use Rattle.ubi_volume.proofs.Recorded.{record_of, records_meant}
 use Rattle.ubi_change.specs.Plan.{atomic_copy, taken}
 use Rattle.ubi_change.specs.RenamePlan.{copy_plan, holder, layout_header, renamed_pages, table_pages}
-use Rattle.ubi_change.specs.RenamePlanned.{IsRename}
+use Rattle.ubi_change.specs.RenamePlanned.{IsRenameAvoiding}
 use Rattle.ubi_change.specs.RenameRefused.{BothGood, MayBeNamed}
 use Rattle.ubi_change.specs.Renamed.{renamed, volume_named}
 use Rattle.ubi_change.specs.Weak.{weak_place}
@@ -40,6 +40,7 @@ use Rattle.ubi_change.specs.declared.taking.FirstTwo.{FirstTwo}
 use Rattle.ubi_change.proofs.RenameCauses.{free, there}
 use Rattle.ubi_change.proofs.RenamedMeaning as naming
 use Rattle.ubi_change.proofs.Sited.{copy-is, first_some, second_some}
+use Rattle.ubi_change.specs.Avoided.{Avoided, avoiding}
 use Rattle.ubi_change.proofs.Surveys.{whole}
 
 -- both copies are good with the table of an accepted image
@@ -65,7 +66,7 @@ entry_inside : (b : Bool) (v : Volume) (o : Option Volume)
 entry_inside true v o = refl
 entry_inside false v o = refl
 
-module _ (image : Image) (seen : Seen) (is : IsSurvey image seen) (id : ℕ) (name : List ℕ)
+module _ (image : Image) (av : Avoided) (seen : Seen) (is : IsSurvey image seen) (id : ℕ) (name : List ℕ)
     (may : IsNamable seen.records id name) where
   abbrev s : Sizes
   s = image.sizes
@@ -73,21 +74,25 @@ module _ (image : Image) (seen : Seen) (is : IsSurvey image seen) (id : ℕ) (na
   abbrev bs : List (List ℕ)
   bs = eraseblocks image
 
+  abbrev from : Whole
+  from = whole image seen is
+
+  -- the image as the plan sees it
   abbrev a : Whole
-  a = whole image seen is
+  a = avoiding av from
 
   abbrev m : Meant
   m = is.meaning
 
   -- the records of the renamed meaning are the renamed records
   found : (v : Volume) × (finite.get m.volumes id ≡ Some v)
-  found = there image seen is id name may.there
+  found = there image av seen is id name may.there
 
   abbrev volume : Volume
   volume = found.0
 
   free_volume : (slot : ℕ) (w : Volume) → slot ≢ id → finite.get m.volumes slot ≡ Some w → w.entry.name ≡ name → ⊥
-  free_volume slot w apart e same = free image seen is id name may slot (apart, w, e, same)
+  free_volume slot w apart e same = free image av seen is id name may slot (apart, w, e, same)
 
   abbrev next : Meant
   next = naming.next m is.attached.accepted.accepted.means.meaning id name volume found.1 may.named free_volume
@@ -124,14 +129,14 @@ module _ (image : Image) (seen : Seen) (is : IsSurvey image seen) (id : ℕ) (na
       (ap (λ (t : Records). records_named t id name) is.records ∙ next-is id name (records_of m) volume.entry held
       ∙ sym records_same ∙ ap records_of (sym named-is))
 
-  module _ (old : Holders) (held : AreHolders s bs seen (Some old)) (two : FirstTwo) (taking : two ≡ first_taken s bs seen.states)
+  module _ (old : Holders) (held : AreHolders s bs av seen (Some old)) (two : FirstTwo) (taking : two ≡ first_taken s bs a.states)
       (on : Spares) (spares : AreSpares seen.scan two on) where
-    first_spare : (1 ≤ length (takeable s bs seen.states)) × (on.first ≡ site_at s bs seen.states (taken s bs a 0))
-    first_spare = first_some (site_at s bs seen.states) (takeable s bs seen.states) on.first
+    first_spare : (1 ≤ length (takeable s bs a.states)) × (on.first ≡ site_at s bs a.states (taken s bs a 0))
+    first_spare = first_some (site_at s bs a.states) (takeable s bs a.states) on.first
         (ap (λ (x : FirstTwo). x.first) (sym taking) ∙ spares.first)
 
-    second_spare : (2 ≤ length (takeable s bs seen.states)) × (on.second ≡ site_at s bs seen.states (taken s bs a 1))
-    second_spare = second_some (site_at s bs seen.states) (takeable s bs seen.states) on.second
+    second_spare : (2 ≤ length (takeable s bs a.states)) × (on.second ≡ site_at s bs a.states (taken s bs a 1))
+    second_spare = second_some (site_at s bs a.states) (takeable s bs a.states) on.second
         (ap (λ (x : FirstTwo). x.second) (sym taking) ∙ spares.second)
 
     pub may_be_named : weak_place s (renamed_pages s m id name) ≡ None → MayBeNamed s bs a id name
@@ -139,7 +144,7 @@ module _ (image : Image) (seen : Seen) (is : IsSurvey image seen) (id : ℕ) (na
       volume = volume;
       there = found.1;
       named = may.named;
-      free = free image seen is id name may;
+      free = free image av seen is id name may;
       both = subst (BothGood s bs)
           (both_records s bs m is.attached.accepted.accepted held.0.0 held.0.1) held.0.1;
       strong = strong;
@@ -168,9 +173,9 @@ module _ (image : Image) (seen : Seen) (is : IsSurvey image seen) (id : ℕ) (na
         ∙ ap (λ p. atomic_copy s bs a (taken s bs a 1) i new p (ec_at s bs p)) (sym (holder_is 1 second.0 second.1)))
 
     unfoldable pub is_rename : weak_place s (renamed_pages s m id name) ≡ None → (steps : List Step)
-        → steps ≡ two_copies s seen.scan old on (renamed_pages s m id name) → IsRename image id name steps
+        → steps ≡ two_copies s seen.scan old on (renamed_pages s m id name) → IsRenameAvoiding image av id name steps
     is_rename strong steps made = record {
-      from = a;
+      from = from;
       attached = is.attached;
       allowed = may_be_named strong;
       plan = made ∙ copies-are (renamed_pages s m id name);

@@ -1,6 +1,7 @@
 -- The law: the plan of a rename of an attached image, against which nothing stands, survives every cut, and leaves both
 -- copies good.
 use Rattle.ubi_change.specs.Laws.{RenameSurvives}
+use Rattle.ubi_change.proofs.Shown.{shown}
 use Rattle.ubi_change.proofs.RenameAttached.{Renaming, leaves_both_good, survives_rename}
 
 pub rename_survives : RenameSurvives
@@ -9,7 +10,7 @@ rename_survives image a id name g att may =
       image = image;
       geometry = g;
       from = a;
-      attached = att;
+      attached = shown image a att;
       id = id;
       name = name;
       allowed = may;

@@ -13,7 +13,8 @@ use Rattle.ubi_volume.specs.Survey.{IsSurvey, Seen}
 use Rattle.ubi_volume.specs.declared.content.Volume.{Volume}
 use Rattle.ubi_volume.proofs.PlacesOf.{refused_in_memory}
 use Rattle.ubi_change.specs.inner.Making.{AreStepsOf, IsPrepared, IsUnplanned, from_stream, shown}
-use Rattle.ubi_change.specs.Planned.{IsChangeError, IsChangeRefusal, IsPlan}
+use Rattle.ubi_change.specs.Planned.{IsChangeError, IsChangeRefusal, IsChangeRefusalAvoiding, IsPlanAvoiding}
+use Rattle.ubi_change.specs.Avoided.{Avoided, nothing, avoiding}
 use Rattle.ubi_change.specs.declared.plan_error.PlanError.{PlanError}
 use Rattle.ubi_change.specs.declared.plan_error.PlanError.TheVariants as error
 use Rattle.ubi_change.specs.declared.planning.Prepared.{Prepared}
@@ -21,11 +22,12 @@ use Rattle.ubi_change.specs.declared.refusal.ChangeRefusal.{ChangeRefusal}
 use Rattle.ubi_change.specs.declared.refusal.ChangeRefusal.TheVariants as refusal
 use Rattle.ubi_change.specs.declared.step.Step.{Step}
 use Rattle.ubi_change.proofs.ChangeCauses as causes
+use Rattle.ubi_change.proofs.NothingAvoided.{refusal_nothing}
 use Rattle.ubi_change.proofs.PlanMade as make
 use Rattle.ubi_change.proofs.Surveys.{has_none, has_volume, whole}
 
-module _ (s : Sizes) (k : Source) (agrees : Agreed) (id lnum : ℕ) (new : List ℕ) (p : Prepared)
-    (is : IsPrepared s k agrees id lnum p) where
+module _ (s : Sizes) (k : Source) (agrees : Agreed) (av : Avoided) (id lnum : ℕ) (new : List ℕ) (p : Prepared)
+    (is : IsPrepared s k agrees av id lnum p) where
   abbrev seen : Seen
   seen = p.ground.surveyed
 
@@ -39,10 +41,14 @@ module _ (s : Sizes) (k : Source) (agrees : Agreed) (id lnum : ℕ) (new : List 
     survey : IsSurvey image seen
     survey = is.ground.survey.held bytes holds
 
-    abbrev a : Whole
-    a = whole image seen survey
+    abbrev from : Whole
+    from = whole image seen survey
 
-    pub plan_is : (steps : List Step) → AreStepsOf s p id lnum new steps → IsPlan image id lnum new steps
+    -- the image as the plan sees it
+    abbrev a : Whole
+    a = avoiding av from
+
+    pub plan_is : (steps : List Step) → AreStepsOf s p id lnum new steps → IsPlanAvoiding image av id lnum new steps
     plan_is steps made =
         let h = has_volume image seen survey id made.asked.entry made.asked.there in
         let v : Volume = record { entry = made.asked.entry; content = h.0 } in
@@ -50,9 +56,9 @@ module _ (s : Sizes) (k : Source) (agrees : Agreed) (id lnum : ℕ) (new : List 
         let won = is.winner.held bytes holds in
         let taking = is.ground.taken.held bytes holds in
         record {
-          from = a;
+          from = from;
           attached = survey.attached;
-          allowed = causes.no_cause image a survey.attached id lnum new v h.1 made.asked.free
+          allowed = causes.no_cause image av from survey.attached id lnum new v h.1 made.asked.free
               (make.sites_free s bs a same id lnum p.winner p.ground.taken won taking made.sites made.are);
           volume = v;
           there = h.1;
@@ -60,17 +66,17 @@ module _ (s : Sizes) (k : Source) (agrees : Agreed) (id lnum : ℕ) (new : List 
               ∙ make.steps_are s bs a same id lnum p.winner p.ground.taken won taking made.asked.entry new made.sites made.are made.target made.asked.is;
         }
 
-    pub refused_is : (c : ChangeRefusal) → IsUnplanned s p id lnum new c → IsChangeRefusal image id lnum new c
-    refused_is c (inl memory) = subst (IsChangeRefusal image id lnum new) (sym memory) tt
-    refused_is c (inr (inl (inl none))) = subst (IsChangeRefusal image id lnum new) (sym none.1)
-        (causes.no_volume image a survey.attached id lnum new (has_none image seen survey id none.0))
+    pub refused_is : (c : ChangeRefusal) → IsUnplanned s p id lnum new c → IsChangeRefusalAvoiding image av id lnum new c
+    refused_is c (inl memory) = subst (IsChangeRefusalAvoiding image av id lnum new) (sym memory) tt
+    refused_is c (inr (inl (inl none))) = subst (IsChangeRefusalAvoiding image av id lnum new) (sym none.1)
+        (causes.no_volume image av from survey.attached id lnum new (has_none image seen survey id none.0))
     refused_is c (inr (inl (inr own))) =
         let h = has_volume image seen survey id own.0 own.1 in
-        causes.own_stands image a survey.attached id lnum new (record { entry = own.0; content = h.0 }) h.1 c own.2
+        causes.own_stands image av from survey.attached id lnum new (record { entry = own.0; content = h.0 }) h.1 c own.2
     refused_is c (inr (inr sites)) =
         let target = sites.1 in
         let h = has_volume image seen survey id target.entry target.there in
-        causes.image_stands image a survey.attached id lnum new (record { entry = target.entry; content = h.0 }) h.1 target.free c
+        causes.image_stands image av from survey.attached id lnum new (record { entry = target.entry; content = h.0 }) h.1 target.free c
         (make.sites_stand s bs a survey.attached.scan.carriers id lnum p.winner p.ground.taken (is.winner.held bytes holds)
         (is.ground.taken.held bytes holds) c sites.2)
 
@@ -82,10 +88,10 @@ module _ (s : Sizes) (k : Source) (agrees : Agreed) (id lnum : ℕ) (new : List 
   no_attach x (inr (inr sites)) = sites.2
 
   other : (c : ChangeRefusal) → IsUnplanned s p id lnum new c
-      → IsWholeSize s k.size × WhereHeld agrees (λ bytes. IsChangeRefusal (image_of s bytes) id lnum new c)
+      → IsWholeSize s k.size × WhereHeld agrees (λ bytes. IsChangeRefusalAvoiding (image_of s bytes) av id lnum new c)
   other c h = (is.ground.survey.scan.whole, λ bytes holds. refused_is bytes holds c h)
 
-  pub error_is : (c : ChangeRefusal) → IsUnplanned s p id lnum new c → IsChangeError s k agrees id lnum new (error.Refused c)
+  pub error_is : (c : ChangeRefusal) → IsUnplanned s p id lnum new c → IsChangeError s k agrees av id lnum new (error.Refused c)
   error_is refusal.Memory h = tt
   error_is (refusal.Attach x) h = absurd (no_attach x h)
   error_is refusal.NoVolume h = other refusal.NoVolume h
@@ -98,20 +104,20 @@ module _ (s : Sizes) (k : Source) (agrees : Agreed) (id lnum : ℕ) (new : List 
   error_is refusal.NoFree h = other refusal.NoFree h
 
 -- an error of what reads for a plan
-pub error_read : (s : Sizes) (k : Source) (agrees : Agreed) (id lnum : ℕ) (new : List ℕ) (e : StreamError)
-    → ArePlacesError s k agrees e → IsChangeError s k agrees id lnum new (from_stream e)
-error_read s k agrees id lnum new (stream.Refused c) h = h
-error_read s k agrees id lnum new (stream.Read p written) h = (h.0, h.1.0)
-error_read s k agrees id lnum new (stream.Write written) h = absurd h
-error_read s k agrees id lnum new stream.Memory h = tt
+pub error_read : (s : Sizes) (k : Source) (agrees : Agreed) (av : Avoided) (id lnum : ℕ) (new : List ℕ) (e : StreamError)
+    → ArePlacesError s k agrees e → IsChangeError s k agrees av id lnum new (from_stream e)
+error_read s k agrees av id lnum new (stream.Refused c) h = h
+error_read s k agrees av id lnum new (stream.Read p written) h = (h.0, h.1.0)
+error_read s k agrees av id lnum new (stream.Write written) h = absurd h
+error_read s k agrees av id lnum new stream.Memory h = tt
 
 -- why the change of bytes in memory isn't planned
 module _ (s : Sizes) (image left : List ℕ) (narrows : Narrows (holds image) (holds left)) (id lnum : ℕ) (new : List ℕ) where
-  stands : (c : ChangeRefusal) → IsWholeSize s (length image) × WhereHeld (holds left) (λ bytes. IsChangeRefusal (image_of s bytes) id lnum new c)
+  stands : (c : ChangeRefusal) → IsWholeSize s (length image) × WhereHeld (holds left) (λ bytes. IsChangeRefusalAvoiding (image_of s bytes) nothing id lnum new c)
       → IsChangeRefusal (image_of s image) id lnum new c
-  stands c h = h.1 image (still image left narrows)
+  stands c h = refusal_nothing (image_of s image) id lnum new c (h.1 image (still image left narrows))
 
-  by_cause : (c : ChangeRefusal) → IsChangeError s (memory image) (holds left) id lnum new (error.Refused c)
+  by_cause : (c : ChangeRefusal) → IsChangeError s (memory image) (holds left) nothing id lnum new (error.Refused c)
       → IsChangeRefusal (image_of s image) id lnum new c
   by_cause refusal.Memory h = tt
   by_cause (refusal.Attach x) h = refused_in_memory s image left x narrows h
@@ -126,7 +132,7 @@ module _ (s : Sizes) (image left : List ℕ) (narrows : Narrows (holds image) (h
 
 pub error_in_memory : (s : Sizes) (bytes old left : List ℕ) → old ≡ bytes → Narrows (holds old) (holds left)
     → (id lnum : ℕ) (new : List ℕ) (e : PlanError ChangeRefusal) (c : ChangeRefusal) → e ≡ error.Refused c
-    → IsChangeError s (memory old) (holds left) id lnum new e → IsChangeRefusal (image_of s bytes) id lnum new c
+    → IsChangeError s (memory old) (holds left) nothing id lnum new e → IsChangeRefusal (image_of s bytes) id lnum new c
 error_in_memory s bytes old left same narrows id lnum new e c is h =
     subst (λ (b : List ℕ). IsChangeRefusal (image_of s b) id lnum new c) same
-    (by_cause s old left narrows id lnum new c (subst (IsChangeError s (memory old) (holds left) id lnum new) is h))
+    (by_cause s old left narrows id lnum new c (subst (IsChangeError s (memory old) (holds left) nothing id lnum new) is h))

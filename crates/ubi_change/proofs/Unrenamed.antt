@@ -13,7 +13,8 @@ use Rattle.ubi_volume.specs.Places.{ArePlacesError}
 use Rattle.ubi_volume.specs.Survey.{IsSurvey, Seen}
 use Rattle.ubi_volume.proofs.PlacesOf.{refused_in_memory}
 use Rattle.ubi_change.specs.RenamePlan.{renamed_pages}
-use Rattle.ubi_change.specs.RenamePlanned.{IsRenameError, IsRenameOf, IsRenameRefusal}
+use Rattle.ubi_change.specs.RenamePlanned.{IsRenameError, IsRenameOf, IsRenameRefusal, IsRenameRefusalAvoiding}
+use Rattle.ubi_change.specs.Avoided.{ReadBlank, Avoided, nothing, states_avoiding}
 use Rattle.ubi_change.specs.Takeable.{takeable}
 use Rattle.ubi_change.specs.Weak.{weak_place}
 use Rattle.ubi_change.specs.inner.Renaming.{AreCopiesOf, AreHolders, IsNamable, IsRenamable, IsSparesRefusal, IsUnrenamed, from_stream, pages_for, two_copies}
@@ -27,12 +28,14 @@ use Rattle.ubi_change.specs.declared.rename_refusal.RenameRefusal.TheVariants as
 use Rattle.ubi_change.specs.declared.renaming.Renamable.{Renamable}
 use Rattle.ubi_change.specs.declared.step.Step.{Step}
 use Rattle.ubi_change.specs.declared.taking.FirstTwo.{FirstTwo}
+use Rattle.ubi_change.proofs.NothingAvoided.{rename_refusal_nothing}
 use Rattle.ubi_change.proofs.RenameCauses as cause
 use Rattle.ubi_change.proofs.RenameKept.{rename_kept}
 use Rattle.ubi_change.proofs.RenameMade as make
 use Rattle.ubi_change.proofs.Sited.{first_missing, second_missing}
 
-module _ (s : Sizes) (k : Source) (agrees : Agreed) (id : ℕ) (name : List ℕ) (r : Renamable) (is : IsRenamable s k agrees r) where
+module _ (s : Sizes) (k : Source) (agrees : Agreed) (av : Avoided) (id : ℕ) (name : List ℕ) (r : Renamable)
+    (is : IsRenamable s k agrees av r) where
   abbrev seen : Seen
   seen = r.ground.surveyed
 
@@ -46,38 +49,38 @@ module _ (s : Sizes) (k : Source) (agrees : Agreed) (id : ℕ) (name : List ℕ)
     survey : IsSurvey image seen
     survey = is.ground.survey.held bytes holds
 
-    taking : r.ground.taken ≡ first_taken s bs seen.states
+    taking : r.ground.taken ≡ first_taken s bs (states_avoiding av seen.states)
     taking = is.ground.taken.held bytes holds
 
-    held_by : (old : Holders) → r.holders ≡ Some old → AreHolders s bs seen (Some old)
-    held_by old e = subst (AreHolders s bs seen) e (is.holders.held bytes holds)
+    held_by : (old : Holders) → r.holders ≡ Some old → AreHolders s bs av seen (Some old)
+    held_by old e = subst (AreHolders s bs av seen) e (is.holders.held bytes holds)
 
-    pub rename_is : IsGeometry s → (steps : List Step) → AreCopiesOf s r id name steps → IsRenameOf image id name steps
+    pub rename_is : IsGeometry s → ReadBlank s bs av → (steps : List Step) → AreCopiesOf s r id name steps → IsRenameOf image av id name steps
     unfolding make.is_rename
-    rename_is g steps made =
-        let pages = make.pages-are image seen survey id name made.may in
-        rename_kept image g id name steps
-        (make.is_rename image seen survey id name made.may made.old (held_by made.old made.holders) r.ground.taken taking made.two made.spares
+    rename_is g blank steps made =
+        let pages = make.pages-are image av seen survey id name made.may in
+        rename_kept image av g blank id name steps
+        (make.is_rename image av seen survey id name made.may made.old (held_by made.old made.holders) r.ground.taken taking made.two made.spares
         (ap (weak_place s) (sym pages) ∙ made.strong) steps
         (made.is ∙ ap (two_copies s seen.scan made.old made.two) pages))
         (subst AreBytes pages made.bytes)
 
     -- too few eraseblocks can be taken
-    few_taken : (o : (r.ground.taken.first ≡ None) ⊎ (r.ground.taken.second ≡ None)) → length (takeable s bs seen.states) < 2
+    few_taken : (o : (r.ground.taken.first ≡ None) ⊎ (r.ground.taken.second ≡ None)) → length (takeable s bs (states_avoiding av seen.states)) < 2
     few_taken (inl none) =
-        let l = first_missing (site_at s bs seen.states) (takeable s bs seen.states) (ap (λ (x : FirstTwo). x.first) (sym taking) ∙ none) in
+        let l = first_missing (site_at s bs (states_avoiding av seen.states)) (takeable s bs (states_avoiding av seen.states)) (ap (λ (x : FirstTwo). x.first) (sym taking) ∙ none) in
         omega arith
-    few_taken (inr none) = second_missing (site_at s bs seen.states) (takeable s bs seen.states)
+    few_taken (inr none) = second_missing (site_at s bs (states_avoiding av seen.states)) (takeable s bs (states_avoiding av seen.states))
         (ap (λ (x : FirstTwo). x.second) (sym taking) ∙ none)
 
     module _ (may : IsNamable seen.records id name) (old : Holders) (e : r.holders ≡ Some old)
         (strong : weak_place s (pages_for s r id name) ≡ None) where
       same : weak_place s (renamed_pages s survey.meaning id name) ≡ None
-      same = ap (weak_place s) (sym (make.pages-are image seen survey id name may)) ∙ strong
+      same = ap (weak_place s) (sym (make.pages-are image av seen survey id name may)) ∙ strong
 
-      refused_spares : (c : RenameRefusal) → IsSparesRefusal seen.scan r.ground.taken c → IsRenameRefusal image id name c
-      refused_spares refusal.Exhausted h = cause.refused_exhausted image seen survey id name may (held_by old e).0 same h
-      refused_spares refusal.NoFree h = cause.refused_free image seen survey id name may (held_by old e).0 same h.0 (few_taken h.1)
+      refused_spares : (c : RenameRefusal) → IsSparesRefusal seen.scan r.ground.taken c → IsRenameRefusalAvoiding image av id name c
+      refused_spares refusal.Exhausted h = cause.refused_exhausted image av seen survey id name may (held_by old e).0 same h
+      refused_spares refusal.NoFree h = cause.refused_free image av seen survey id name may (held_by old e).0 same h.0 (few_taken h.1)
       refused_spares refusal.NoVolume h = absurd h
       refused_spares refusal.BadName h = absurd h
       refused_spares (refusal.SameName slot) h = absurd h
@@ -86,15 +89,15 @@ module _ (s : Sizes) (k : Source) (agrees : Agreed) (id : ℕ) (name : List ℕ)
       refused_spares (refusal.Attach c) h = absurd h
       refused_spares refusal.Memory h = absurd h
 
-    pub refused_is : (c : RenameRefusal) → IsUnrenamed s r id name c → IsRenameRefusal image id name c
-    refused_is c (inl naming) = cause.refused_name image seen survey id name c naming
-    refused_is c (inr (may, inl none)) = subst (IsRenameRefusal image id name) (sym none.1)
-        (cause.refused_repair image seen survey id name may (subst (AreHolders s bs seen) none.0 (is.holders.held bytes holds)))
-    refused_is c (inr (may, inr (old, e, inl weak))) = subst (IsRenameRefusal image id name) (sym weak.2)
-        (cause.refused_weak image seen survey id name may (held_by old e).0 weak.0
-        (ap (weak_place s) (sym (make.pages-are image seen survey id name may)) ∙ weak.1))
+    pub refused_is : (c : RenameRefusal) → IsUnrenamed s r id name c → IsRenameRefusalAvoiding image av id name c
+    refused_is c (inl naming) = cause.refused_name image av seen survey id name c naming
+    refused_is c (inr (may, inl none)) = subst (IsRenameRefusalAvoiding image av id name) (sym none.1)
+        (cause.refused_repair image av seen survey id name may (subst (AreHolders s bs av seen) none.0 (is.holders.held bytes holds)))
+    refused_is c (inr (may, inr (old, e, inl weak))) = subst (IsRenameRefusalAvoiding image av id name) (sym weak.2)
+        (cause.refused_weak image av seen survey id name may (held_by old e).0 weak.0
+        (ap (weak_place s) (sym (make.pages-are image av seen survey id name may)) ∙ weak.1))
     refused_is c (inr (may, inr (old, e, inr (strong, inl spares)))) = refused_spares may old e strong c spares
-    refused_is c (inr (may, inr (old, e, inr (strong, inr memory)))) = subst (IsRenameRefusal image id name) (sym memory) tt
+    refused_is c (inr (may, inr (old, e, inr (strong, inr memory)))) = subst (IsRenameRefusalAvoiding image av id name) (sym memory) tt
 
   -- attaching was no cause
   no_attach : (x : Refusal) → IsUnrenamed s r id name (refusal.Attach x) → ⊥
@@ -105,10 +108,10 @@ module _ (s : Sizes) (k : Source) (agrees : Agreed) (id : ℕ) (name : List ℕ)
   no_attach x (inr (may, inr (old, e, inr (strong, inr memory)))) = absurd (cc)
 
   other : (c : RenameRefusal) → IsUnrenamed s r id name c
-      → IsWholeSize s k.size × WhereHeld agrees (λ bytes. IsRenameRefusal (image_of s bytes) id name c)
+      → IsWholeSize s k.size × WhereHeld agrees (λ bytes. IsRenameRefusalAvoiding (image_of s bytes) av id name c)
   other c h = (is.ground.survey.scan.whole, λ bytes holds. refused_is bytes holds c h)
 
-  pub error_is : (c : RenameRefusal) → IsUnrenamed s r id name c → IsRenameError s k agrees id name (error.Refused c)
+  pub error_is : (c : RenameRefusal) → IsUnrenamed s r id name c → IsRenameError s k agrees av id name (error.Refused c)
   error_is refusal.Memory h = tt
   error_is (refusal.Attach x) h = absurd (no_attach x h)
   error_is refusal.NoVolume h = other refusal.NoVolume h
@@ -120,20 +123,20 @@ module _ (s : Sizes) (k : Source) (agrees : Agreed) (id : ℕ) (name : List ℕ)
   error_is refusal.NoFree h = other refusal.NoFree h
 
 -- an error of what reads for a plan
-pub error_read : (s : Sizes) (k : Source) (agrees : Agreed) (id : ℕ) (name : List ℕ) (e : StreamError)
-    → ArePlacesError s k agrees e → IsRenameError s k agrees id name (from_stream e)
-error_read s k agrees id name (stream.Refused c) h = h
-error_read s k agrees id name (stream.Read p written) h = (h.0, h.1.0)
-error_read s k agrees id name (stream.Write written) h = absurd h
-error_read s k agrees id name stream.Memory h = tt
+pub error_read : (s : Sizes) (k : Source) (agrees : Agreed) (av : Avoided) (id : ℕ) (name : List ℕ) (e : StreamError)
+    → ArePlacesError s k agrees e → IsRenameError s k agrees av id name (from_stream e)
+error_read s k agrees av id name (stream.Refused c) h = h
+error_read s k agrees av id name (stream.Read p written) h = (h.0, h.1.0)
+error_read s k agrees av id name (stream.Write written) h = absurd h
+error_read s k agrees av id name stream.Memory h = tt
 
 -- why the rename of bytes in memory isn't planned
 module _ (s : Sizes) (image left : List ℕ) (narrows : Narrows (holds image) (holds left)) (id : ℕ) (name : List ℕ) where
-  stands : (c : RenameRefusal) → IsWholeSize s (length image) × WhereHeld (holds left) (λ bytes. IsRenameRefusal (image_of s bytes) id name c)
+  stands : (c : RenameRefusal) → IsWholeSize s (length image) × WhereHeld (holds left) (λ bytes. IsRenameRefusalAvoiding (image_of s bytes) nothing id name c)
       → IsRenameRefusal (image_of s image) id name c
-  stands c h = h.1 image (still image left narrows)
+  stands c h = rename_refusal_nothing (image_of s image) id name c (h.1 image (still image left narrows))
 
-  by_cause : (c : RenameRefusal) → IsRenameError s (memory image) (holds left) id name (error.Refused c)
+  by_cause : (c : RenameRefusal) → IsRenameError s (memory image) (holds left) nothing id name (error.Refused c)
       → IsRenameRefusal (image_of s image) id name c
   by_cause refusal.Memory h = tt
   by_cause (refusal.Attach x) h = refused_in_memory s image left x narrows h
@@ -147,7 +150,7 @@ module _ (s : Sizes) (image left : List ℕ) (narrows : Narrows (holds image) (h
 
 pub error_in_memory : (s : Sizes) (bytes old left : List ℕ) → old ≡ bytes → Narrows (holds old) (holds left) → (id : ℕ) (name : List ℕ)
     → (e : PlanError RenameRefusal) (c : RenameRefusal) → e ≡ error.Refused c
-    → IsRenameError s (memory old) (holds left) id name e → IsRenameRefusal (image_of s bytes) id name c
+    → IsRenameError s (memory old) (holds left) nothing id name e → IsRenameRefusal (image_of s bytes) id name c
 error_in_memory s bytes old left same narrows id name e c is h =
     subst (λ (b : List ℕ). IsRenameRefusal (image_of s b) id name c) same
-    (by_cause s old left narrows id name c (subst (IsRenameError s (memory old) (holds left) id name) is h))
+    (by_cause s old left narrows id name c (subst (IsRenameError s (memory old) (holds left) nothing id name) is h))

@@ -37,3 +37,4 @@ rename_refusal_text rename.Memory = codes "out of memory"
 abbrev pub plan_error_text : {C : Type 0} → (C → Option (List ℕ)) → PlanError C → Option (List ℕ)
 plan_error_text text (plan.Refused c) = text c
 plan_error_text text (plan.Read p) = Some (codes "a read failed block=" ++ decimal p)
+plan_error_text text (plan.NotBlank p) = Some (codes "K10 NotBlank block=" ++ decimal p)

@@ -1,7 +1,9 @@
 pub mod Steps
 pub mod Fitting
 pub mod Order
+pub mod Pages
 pub mod Takeable
+pub mod Avoided
 pub mod Weak
 pub mod Plan
 pub mod Refused

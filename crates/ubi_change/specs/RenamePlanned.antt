@@ -17,6 +17,7 @@ use Rattle.ubi_change.specs.Order.{Erases, RisesBetweenErases}
 use Rattle.ubi_change.specs.Renamed.{ReadSame, renamed}
 use Rattle.ubi_change.specs.RenamePlan.{holder, rename_plan, renamed_pages}
 use Rattle.ubi_change.specs.RenameRefused.{BothGood, IsFirstCause, MayBeNamed}
+use Rattle.ubi_change.specs.Avoided.{AllBeside, IsNotBlank, Avoided, Avoids, avoiding}
 use Rattle.ubi_change.specs.Steps.{after}
 use Rattle.ubi_change.specs.Takeable.{ec_at, stays, takeable}
 use Rattle.ubi_change.specs.declared.plan_error.PlanError.{PlanError}
@@ -53,6 +54,13 @@ pub record IsRename (image : Image) (id : ℕ) (name : List ℕ) (steps : List S
   pub allowed : in_image MayBeNamed image from id name
   pub plan : steps ≡ in_image rename_plan image from id name
 
+-- the same of a plan that avoids something, as it sees the image
+pub record IsRenameAvoiding (image : Image) (av : Avoided) (id : ℕ) (name : List ℕ) (steps : List Step) : Type 0 where
+  pub from : Whole
+  pub attached : IsAttached image from
+  pub allowed : in_image MayBeNamed image (avoiding av from) id name
+  pub plan : steps ≡ in_image rename_plan image (avoiding av from) id name
+
 -- the image is accepted, and cut after any of the steps it means the old or the renamed
 abbrev pub SurvivesRenameOf : Image → ℕ → List ℕ → List Step → Type 0
 SurvivesRenameOf image id name steps = (m : Meant) × Accepts image m × in_image SurvivesRename image m id name steps
@@ -70,33 +78,49 @@ LeavesBothGoodOf image id name steps = (m : Meant) × Accepts image m × in_imag
 abbrev pub IsFrugalRenameOf : Image → ℕ → List ℕ → List Step → Type 0
 IsFrugalRenameOf image id name steps = (a : Whole) × IsAttached image a × in_image IsFrugalRename image a id name steps
 
+-- the same of a plan that avoids something, as it sees the image
+abbrev pub IsFrugalRenameAvoiding : Image → Avoided → ℕ → List ℕ → List Step → Type 0
+IsFrugalRenameAvoiding image av id name steps =
+    (a : Whole) × IsAttached image a × in_image IsFrugalRename image (avoiding av a) id name steps
+
 -- why a rename isn't planned
 abbrev pub IsRenameRefusal : Image → ℕ → List ℕ → RenameRefusal → Type 0
 IsRenameRefusal image id name refusal.Memory = Unit {0}
 IsRenameRefusal image id name (refusal.Attach c) = Refuses image c
 IsRenameRefusal image id name c = (a : Whole) × IsAttached image a × in_image IsFirstCause image a id name c
 
+-- the same of a plan that avoids something, as it sees the image
+abbrev pub IsRenameRefusalAvoiding : Image → Avoided → ℕ → List ℕ → RenameRefusal → Type 0
+IsRenameRefusalAvoiding image av id name refusal.Memory = Unit {0}
+IsRenameRefusalAvoiding image av id name (refusal.Attach c) = Refuses image c
+IsRenameRefusalAvoiding image av id name c =
+    (a : Whole) × IsAttached image a × in_image IsFirstCause image (avoiding av a) id name c
+
 -- what is shown of the steps for an image
-pub record IsRenameOf (image : Image) (id : ℕ) (name : List ℕ) (steps : List Step) : Type 0 where
+pub record IsRenameOf (image : Image) (av : Avoided) (id : ℕ) (name : List ℕ) (steps : List Step) : Type 0 where
   pub survives : SurvivesRenameOf image id name steps
   pub reads : KeepsReading image steps
   pub copies : LeavesBothGoodOf image id name steps
   pub fits : in_image AllFit image steps
   pub rises : in_image RisesBetweenErases image steps
-  pub frugal : IsFrugalRenameOf image id name steps
-  pub plan : IsRename image id name steps
+  pub frugal : IsFrugalRenameAvoiding image av id name steps
+  pub plan : IsRenameAvoiding image av id name steps
+  pub avoids : in_image Avoids image av steps
 
--- the steps for the image of a source: each works within one of its eraseblocks, and they are those of whatever the source
--- may hold
-pub record IsPlannedRename (s : Sizes) (k : Source) (agrees : Agreed) (id : ℕ) (name : List ℕ) (steps : List Step) : Type 0 where
+-- the steps for the image of a source: each works within one of its eraseblocks, and on none that is listed, and they are
+-- those of whatever the source may hold
+pub record IsPlannedRename (s : Sizes) (k : Source) (agrees : Agreed) (av : Avoided) (id : ℕ) (name : List ℕ) (steps : List Step) : Type 0 where
   pub whole : IsWholeSize s k.size
   pub within : AllWithin s (blocks_in s k) steps
-  pub held : WhereHeld agrees (λ bytes. IsRenameOf (image_of s bytes) id name steps)
+  pub beside : AllBeside av.marks steps
+  pub held : WhereHeld agrees (λ bytes. IsRenameOf (image_of s bytes) av id name steps)
 
 -- why the rename of a source isn't planned
-abbrev pub IsRenameError : Sizes → Source → Agreed → ℕ → List ℕ → PlanError RenameRefusal → Type 0
-IsRenameError s k agrees id name (error.Read p) = IsWholeSize s k.size × (p < blocks_in s k)
-IsRenameError s k agrees id name (error.Refused refusal.Memory) = Unit {0}
-IsRenameError s k agrees id name (error.Refused (refusal.Attach c)) = ArePlacesError s k agrees (stream.Refused c)
-IsRenameError s k agrees id name (error.Refused c) =
-    IsWholeSize s k.size × WhereHeld agrees (λ bytes. IsRenameRefusal (image_of s bytes) id name c)
+abbrev pub IsRenameError : Sizes → Source → Agreed → Avoided → ℕ → List ℕ → PlanError RenameRefusal → Type 0
+IsRenameError s k agrees av id name (error.Read p) = IsWholeSize s k.size × (p < blocks_in s k)
+IsRenameError s k agrees av id name (error.NotBlank p) =
+    IsWholeSize s k.size × WhereHeld agrees (λ bytes. in_image IsNotBlank (image_of s bytes) av p)
+IsRenameError s k agrees av id name (error.Refused refusal.Memory) = Unit {0}
+IsRenameError s k agrees av id name (error.Refused (refusal.Attach c)) = ArePlacesError s k agrees (stream.Refused c)
+IsRenameError s k agrees av id name (error.Refused c) =
+    IsWholeSize s k.size × WhereHeld agrees (λ bytes. IsRenameRefusalAvoiding (image_of s bytes) av id name c)

@@ -4,11 +4,13 @@ ghost use Rattle.std.specs.Prelude.{◌≡◌, IfErr, IfOk, length};
 ghost use Rattle.std.specs.FinMap as finite;
 ghost use Rattle.ubi_change.specs.inner.Sites.{IsSiteAt};
 ghost use Rattle.ubi_change.specs.inner.Taking.{IsGroundOf};
+ghost use Rattle.ubi_change.specs.Avoided.{states_avoiding};
 ghost use Rattle.ubi_scan.specs.Source.{Narrows, blocks_in};
 ghost use Rattle.ubi_scan.specs.Stream.{IsReadFault, after};
 ghost use Rattle.ubi_volume.specs.Places.{ArePlacesError};
 ghost use Rattle.ubi_volume.specs.Survey.{IsSurveyOf};
 
+use crate::avoided::Avoided;
 use crate::site::{Site, read_site};
 use crate::taking::{FirstTwo, first_takeable};
 use std::alloc::Global;
@@ -35,16 +37,17 @@ pub fn ground_of<S: BlockSource>(
     alloc: Global,
     geometry: &Geometry,
     source: &mut S,
+    avoided: &Avoided,
     buffer: &mut [u8],
 ) -> Result<Ground, StreamError>
     requires { length buffer.old ≡ geometry.now.peb_size }
     ensures known { S.known source.new ≡ after (S.known source.old) result }
     ensures narrows { Narrows (S.agrees source.old) (S.agrees source.new) }
-    ensures ground { IfOk result (IsGroundOf geometry.now (S.known source.old) (S.agrees source.new)) }
+    ensures ground { IfOk result (IsGroundOf geometry.now (S.known source.old) (S.agrees source.new) avoided.now) }
     ensures refused { IfErr result (ArePlacesError geometry.now (S.known source.old) (S.agrees source.new)) }
 {
     let surveyed = survey_from(alloc, geometry, source)?;
-    let taken = first_takeable(geometry, source, &surveyed, buffer)?;
+    let taken = first_takeable(geometry, source, &surveyed, avoided, buffer)?;
     Ok(Ground { surveyed, taken })
 }
 
@@ -57,6 +60,7 @@ pub fn winner_site<S: BlockSource>(
     geometry: &Geometry,
     source: &mut S,
     surveyed: &Surveyed,
+    avoided: &Avoided,
     id: u32,
     lnum: u32,
     buffer: &mut [u8],
@@ -65,11 +69,11 @@ pub fn winner_site<S: BlockSource>(
     requires room { length buffer.old ≡ geometry.now.peb_size }
     ensures known { S.known source.new ≡ after (S.known source.old) result }
     ensures narrows { Narrows (S.agrees source.old) (S.agrees source.new) }
-    ensures site { IfOk result (IsSiteAt geometry.now (S.known source.old) (S.agrees source.new) surveyed.now.states (finite.get surveyed.now.scan.winners (id, lnum))) }
+    ensures site { IfOk result (IsSiteAt geometry.now (S.known source.old) (S.agrees source.new) (states_avoiding avoided.now surveyed.now.states) (finite.get surveyed.now.scan.winners (id, lnum))) }
     ensures failed { IfErr result (IsReadFault (blocks_in geometry.now (S.known source.old))) }
 {
     match surveyed.winner(id, lnum) {
-        Some(p) => Ok(Some(read_site(geometry, source, p, surveyed.state(p), buffer)?)),
+        Some(p) => Ok(Some(read_site(geometry, source, p, avoided.state(surveyed, p), buffer)?)),
         None => Ok(None),
     }
 }

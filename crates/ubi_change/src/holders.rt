@@ -10,6 +10,7 @@ ghost use Rattle.ubi_table.specs.Stream.{IsCopyReadError};
 ghost use Rattle.ubi_table.specs.declared.copy.CopyRead.TheVariants as copy;
 ghost use Rattle.ubi_volume.specs.Survey.{IsSurveyOf};
 
+use crate::avoided::Avoided;
 use crate::ground::winner_site;
 use crate::site::Site;
 use std::alloc::Global;
@@ -76,23 +77,42 @@ pub fn holders_of<S: BlockSource>(
     geometry: &Geometry,
     source: &mut S,
     surveyed: &Surveyed,
+    avoided: &Avoided,
     buffer: &mut [u8],
 ) -> Result<Option<Holders>, StreamError>
     requires survey { IsSurveyOf geometry.now (S.known source.old) (S.agrees source.old) surveyed.now }
     requires room { length buffer.old ≡ geometry.now.peb_size }
     ensures known { S.known source.new ≡ after (S.known source.old) result }
     ensures narrows { Narrows (S.agrees source.old) (S.agrees source.new) }
-    ensures holders { IfOk result (AreHoldersOf geometry.now (S.known source.old) (S.agrees source.new) surveyed.now) }
+    ensures holders { IfOk result (AreHoldersOf geometry.now (S.known source.old) (S.agrees source.new) avoided.now surveyed.now) }
     ensures failed { IfErr result (IsCopyReadError (blocks_in geometry.now (S.known source.old))) }
 {
     if !are_both_good(alloc, geometry, source, surveyed.scan(), buffer)? {
         return Ok(None);
     }
     // A copy that no eraseblock holds isn't good.
-    let Some(first) = winner_site(geometry, source, surveyed, LAYOUT_VOLUME, 0, buffer)? else {
+    let Some(first) = winner_site(
+        geometry,
+        source,
+        surveyed,
+        avoided,
+        LAYOUT_VOLUME,
+        0,
+        buffer,
+    )?
+    else {
         return Ok(None);
     };
-    let Some(second) = winner_site(geometry, source, surveyed, LAYOUT_VOLUME, 1, buffer)? else {
+    let Some(second) = winner_site(
+        geometry,
+        source,
+        surveyed,
+        avoided,
+        LAYOUT_VOLUME,
+        1,
+        buffer,
+    )?
+    else {
         return Ok(None);
     };
     Ok(Some(Holders { first, second }))

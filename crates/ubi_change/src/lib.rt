@@ -28,6 +28,7 @@
 //! ```
 #![tactic(auto)]
 
+mod avoided;
 mod causes;
 mod ground;
 mod holders;
@@ -50,6 +51,7 @@ mod target;
 mod weakness;
 mod writing;
 
+pub use avoided::Avoided;
 pub use plan_error::PlanError;
 pub use planning::{plan_change, plan_change_from};
 pub use refusal::ChangeRefusal;

@@ -10,6 +10,8 @@ pub enum PlanError<C> {
     Refused(C),
     /// A read failed: the eraseblock.
     Read(u32),
+    /// An eraseblock that is listed as one that may not be touched isn't Blank: the plan might have to give it up.
+    NotBlank(u32),
 }
 
 impl<C: fmt::Display> fmt::Display for PlanError<C> {
@@ -21,6 +23,7 @@ impl<C: fmt::Display> fmt::Display for PlanError<C> {
         match self {
             PlanError::Refused(cause) => write!(f, "{cause}"),
             PlanError::Read(p) => write!(f, "a read failed block={p}"),
+            PlanError::NotBlank(p) => write!(f, "K10 NotBlank block={p}"),
         }
     }
 }

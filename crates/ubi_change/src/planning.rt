@@ -11,6 +11,7 @@ ghost use Rattle.ubi_scan.specs.Source.{Narrows};
 ghost use Rattle.ubi_scan.specs.Stream.{after};
 ghost use Rattle.ubi_volume.specs.Places.{ArePlacesError};
 
+use crate::avoided::Avoided;
 use crate::causes::own_cause;
 use crate::ground::{Ground, ground_of, winner_site};
 use crate::plan_error::PlanError;
@@ -43,18 +44,27 @@ fn prepare<S: BlockSource>(
     alloc: Global,
     geometry: &Geometry,
     source: &mut S,
+    avoided: &Avoided,
     id: u32,
     lnum: u32,
 ) -> Result<Prepared, StreamError>
     ensures known { S.known source.new ≡ after (S.known source.old) result }
     ensures narrows { Narrows (S.agrees source.old) (S.agrees source.new) }
-    ensures prepared { IfOk result (IsPrepared geometry.now (S.known source.old) (S.agrees source.new) id lnum) }
+    ensures prepared { IfOk result (IsPrepared geometry.now (S.known source.old) (S.agrees source.new) avoided.now id lnum) }
     ensures refused { IfErr result (ArePlacesError geometry.now (S.known source.old) (S.agrees source.new)) }
 {
     let mut buffer = Vec::from_elem(alloc, 0u8, geometry.peb_size() as usize)?;
     let buffer = buffer.as_mut_slice();
-    let ground = ground_of(alloc, geometry, source, buffer)?;
-    let winner = winner_site(geometry, source, &ground.surveyed, id, lnum, buffer)?;
+    let ground = ground_of(alloc, geometry, source, avoided, buffer)?;
+    let winner = winner_site(
+        geometry,
+        source,
+        &ground.surveyed,
+        avoided,
+        id,
+        lnum,
+        buffer,
+    )?;
     Ok(Prepared { ground, winner })
 }
 
@@ -216,30 +226,39 @@ fn unread(error: StreamError) -> PlanError<ChangeRefusal>
 /// The steps of [`plan_change`] for the image of a source, of which one eraseblock is held at a time.
 ///
 /// Each eraseblock that a step changes lies in the source, and a page that is programmed lies in its eraseblock. Whatever
-/// the source may hold after the reads that it answered, the steps are those for that image.
+/// the source may hold after the reads that it answered, the steps are those for that image. None of them touches what is
+/// avoided.
 ///
 /// # Errors
 ///
-/// The first cause in the order of [`ChangeRefusal`] that stands, or `Memory`; or Read where a read failed.
+/// The first cause in the order of [`ChangeRefusal`] that stands, or `Memory`; or Read where a read failed; or
+/// NotBlank where a listed eraseblock isn't Blank.
 pub fn plan_change_from<S: BlockSource>(
     alloc: Global,
     geometry: &Geometry,
     source: &mut S,
+    avoided: &Avoided,
     id: u32,
     lnum: u32,
     new: &[u8],
 ) -> Result<Vec<Step>, PlanError<ChangeRefusal>>
     ensures known { S.known source.new ≡ after_plan (S.known source.old) result }
     ensures narrows { Narrows (S.agrees source.old) (S.agrees source.new) }
-    ensures plan { IfOk result (λ steps. IsPlanned geometry.now (S.known source.old) (S.agrees source.new) id lnum new.now steps.items) }
-    ensures refused { IfErr result (IsChangeError geometry.now (S.known source.old) (S.agrees source.new) id lnum new.now) }
+    ensures plan { IfOk result (λ steps. IsPlanned geometry.now (S.known source.old) (S.agrees source.new) avoided.now id lnum new.now steps.items) }
+    ensures refused { IfErr result (IsChangeError geometry.now (S.known source.old) (S.agrees source.new) avoided.now id lnum new.now) }
 {
     // The law that plans survive asks for it.
     prove!(geometry.page() >= 64);
-    match prepare(alloc, geometry, source, id, lnum) {
-        Ok(prepared) => match change_steps(alloc, geometry, &prepared, id, lnum, new) {
-            Ok(steps) => Ok(steps),
-            Err(cause) => Err(PlanError::Refused(cause)),
+    match prepare(alloc, geometry, source, avoided, id, lnum) {
+        Ok(prepared) => match avoided.not_blank(geometry, &prepared.ground.surveyed) {
+            Some(p) => Err(PlanError::NotBlank(p)),
+            None => match change_steps(alloc, geometry, &prepared, id, lnum, new) {
+                Ok(steps) => match avoided.listed(steps.as_slice()) {
+                    Some(p) => Err(PlanError::NotBlank(p)),
+                    None => Ok(steps),
+                },
+                Err(cause) => Err(PlanError::Refused(cause)),
+            },
         },
         Err(error) => Err(unread(error)),
     }
@@ -281,6 +300,7 @@ pub fn plan_change(
         alloc,
         geometry,
         &mut MemorySource::new(image),
+        &Avoided::new(&[], false),
         id,
         lnum,
         new,
@@ -289,5 +309,7 @@ pub fn plan_change(
         Err(PlanError::Refused(cause)) => Err(cause),
         // No read fails.
         Err(PlanError::Read(_)) => unreachable!(),
+        // None is listed.
+        Err(PlanError::NotBlank(_)) => unreachable!(),
     }
 }

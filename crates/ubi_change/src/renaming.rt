@@ -13,6 +13,7 @@ ghost use Rattle.ubi_scan.specs.Source.{Narrows};
 ghost use Rattle.ubi_scan.specs.Stream.{after};
 ghost use Rattle.ubi_volume.specs.Places.{ArePlacesError};
 
+use crate::avoided::Avoided;
 use crate::ground::{Ground, ground_of};
 use crate::holders::{Holders, holders_of};
 use crate::naming::renamed_pages;
@@ -45,16 +46,17 @@ fn prepare<S: BlockSource>(
     alloc: Global,
     geometry: &Geometry,
     source: &mut S,
+    avoided: &Avoided,
 ) -> Result<Renamable, StreamError>
     ensures known { S.known source.new ≡ after (S.known source.old) result }
     ensures narrows { Narrows (S.agrees source.old) (S.agrees source.new) }
-    ensures prepared { IfOk result (IsRenamable geometry.now (S.known source.old) (S.agrees source.new)) }
+    ensures prepared { IfOk result (IsRenamable geometry.now (S.known source.old) (S.agrees source.new) avoided.now) }
     ensures refused { IfErr result (ArePlacesError geometry.now (S.known source.old) (S.agrees source.new)) }
 {
     let mut buffer = Vec::from_elem(alloc, 0u8, geometry.peb_size() as usize)?;
     let buffer = buffer.as_mut_slice();
-    let ground = ground_of(alloc, geometry, source, buffer)?;
-    let holders = holders_of(alloc, geometry, source, &ground.surveyed, buffer)?;
+    let ground = ground_of(alloc, geometry, source, avoided, buffer)?;
+    let holders = holders_of(alloc, geometry, source, &ground.surveyed, avoided, buffer)?;
     Ok(Renamable { ground, holders })
 }
 
@@ -140,29 +142,38 @@ fn unread(error: StreamError) -> PlanError<RenameRefusal>
 /// The steps of [`plan_rename`] for the image of a source, of which one eraseblock is held at a time.
 ///
 /// Each eraseblock that a step changes lies in the source, and a page that is programmed lies in its eraseblock. Whatever
-/// the source may hold after the reads that it answered, the steps are those for that image.
+/// the source may hold after the reads that it answered, the steps are those for that image. None of them touches what is
+/// avoided.
 ///
 /// # Errors
 ///
-/// The first cause in the order of [`RenameRefusal`] that stands, or `Memory`; or Read where a read failed.
+/// The first cause in the order of [`RenameRefusal`] that stands, or `Memory`; or Read where a read failed; or
+/// NotBlank where a listed eraseblock isn't Blank.
 pub fn plan_rename_from<S: BlockSource>(
     alloc: Global,
     geometry: &Geometry,
     source: &mut S,
+    avoided: &Avoided,
     id: u32,
     name: &[u8],
 ) -> Result<Vec<Step>, PlanError<RenameRefusal>>
     ensures known { S.known source.new ≡ after_plan (S.known source.old) result }
     ensures narrows { Narrows (S.agrees source.old) (S.agrees source.new) }
-    ensures plan { IfOk result (λ steps. IsPlannedRename geometry.now (S.known source.old) (S.agrees source.new) id name.now steps.items) }
-    ensures refused { IfErr result (IsRenameError geometry.now (S.known source.old) (S.agrees source.new) id name.now) }
+    ensures plan { IfOk result (λ steps. IsPlannedRename geometry.now (S.known source.old) (S.agrees source.new) avoided.now id name.now steps.items) }
+    ensures refused { IfErr result (IsRenameError geometry.now (S.known source.old) (S.agrees source.new) avoided.now id name.now) }
 {
     // The law that plans survive asks for it.
     prove!(geometry.page() >= 64);
-    match prepare(alloc, geometry, source) {
-        Ok(renamable) => match rename_steps(alloc, geometry, &renamable, id, name) {
-            Ok(steps) => Ok(steps),
-            Err(cause) => Err(PlanError::Refused(cause)),
+    match prepare(alloc, geometry, source, avoided) {
+        Ok(renamable) => match avoided.not_blank(geometry, &renamable.ground.surveyed) {
+            Some(p) => Err(PlanError::NotBlank(p)),
+            None => match rename_steps(alloc, geometry, &renamable, id, name) {
+                Ok(steps) => match avoided.listed(steps.as_slice()) {
+                    Some(p) => Err(PlanError::NotBlank(p)),
+                    None => Ok(steps),
+                },
+                Err(cause) => Err(PlanError::Refused(cause)),
+            },
         },
         Err(error) => Err(unread(error)),
     }
@@ -201,10 +212,20 @@ pub fn plan_rename(
     ensures plan { IfOk result (λ steps. IsRename (image_of geometry.now image.now) id name.now steps.items) }
     ensures refused { IfErr result (IsRenameRefusal (image_of geometry.now image.now) id name.now) }
 {
-    match plan_rename_from(alloc, geometry, &mut MemorySource::new(image), id, name) {
+    let nothing = Avoided::new(&[], false);
+    match plan_rename_from(
+        alloc,
+        geometry,
+        &mut MemorySource::new(image),
+        &nothing,
+        id,
+        name,
+    ) {
         Ok(steps) => Ok(steps),
         Err(PlanError::Refused(cause)) => Err(cause),
         // No read fails.
         Err(PlanError::Read(_)) => unreachable!(),
+        // None is listed.
+        Err(PlanError::NotBlank(_)) => unreachable!(),
     }
 }

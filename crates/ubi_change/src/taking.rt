@@ -3,11 +3,13 @@
 ghost use Rattle.std.specs.Prelude.{◌≡◌, ◌<◌, IfErr, IfOk, IfSome, length};
 ghost use Rattle.ubi_change.specs.inner.Sites.{FitsIn, is_sole_on, stays_on};
 ghost use Rattle.ubi_change.specs.inner.Taking.{AreTaken, TakeableIs, all_of, joined, parted_with, with_next};
+ghost use Rattle.ubi_change.specs.Avoided.{states_avoiding};
 ghost use Rattle.ubi_change.specs.Takeable.{is_unused, is_worn};
 ghost use Rattle.ubi_scan.specs.Source.{Narrows, WhereHeld, blocks_in, blocks_of};
 ghost use Rattle.ubi_scan.specs.Stream.{IsReadFault, after};
 ghost use Rattle.ubi_volume.specs.Survey.{IsSurveyOf};
 
+use crate::avoided::Avoided;
 use crate::site::{Site, read_site};
 use ubi_media::{EcHeader, Geometry};
 use ubi_scan::{BlockSource, Scan, StreamError};
@@ -145,12 +147,13 @@ pub fn stays(scan: &Scan, site: &Site, ec: Option<EcHeader>) -> bool
     is_worn(ec) || is_sole_carrier(scan, site)
 }
 
-/// An eraseblock that may be taken: nothing is lost with it, and it can be erased. None where it may not. The buffer has the
+/// An eraseblock that may be taken: nothing is lost with it, it isn't avoided, and it can be erased. None where it may not. The buffer has the
 /// size of an eraseblock, here and below.
 fn takeable_site<S: BlockSource>(
     geometry: &Geometry,
     source: &mut S,
     surveyed: &Surveyed,
+    avoided: &Avoided,
     p: u32,
     buffer: &mut [u8],
 ) -> Result<Option<Site>, StreamError>
@@ -160,10 +163,10 @@ fn takeable_site<S: BlockSource>(
     ensures known { S.known source.new ≡ after (S.known source.old) result }
     ensures narrows { Narrows (S.agrees source.old) (S.agrees source.new) }
     ensures fits { IfOk result (λ site. IfSome site (FitsIn (blocks_in geometry.now (S.known source.old)))) }
-    ensures takeable { IfOk result (λ site. WhereHeld (S.agrees source.new) (λ bytes. TakeableIs geometry.now (blocks_of geometry.now bytes) surveyed.now.states p site)) }
+    ensures takeable { IfOk result (λ site. WhereHeld (S.agrees source.new) (λ bytes. TakeableIs geometry.now (blocks_of geometry.now bytes) (states_avoiding avoided.now surveyed.now.states) p site)) }
     ensures failed { IfErr result (IsReadFault (blocks_in geometry.now (S.known source.old))) }
 {
-    let state = surveyed.state(p);
+    let state = avoided.state(surveyed, p);
     if !is_unused(state) {
         return Ok(None);
     }
@@ -185,13 +188,14 @@ pub fn first_takeable<S: BlockSource>(
     geometry: &Geometry,
     source: &mut S,
     surveyed: &Surveyed,
+    avoided: &Avoided,
     buffer: &mut [u8],
 ) -> Result<FirstTwo, StreamError>
     requires survey { IsSurveyOf geometry.now (S.known source.old) (S.agrees source.old) surveyed.now }
     requires room { length buffer.old ≡ geometry.now.peb_size }
     ensures known { S.known source.new ≡ after (S.known source.old) result }
     ensures narrows { Narrows (S.agrees source.old) (S.agrees source.new) }
-    ensures taken { IfOk result (AreTaken geometry.now (S.known source.old) (S.agrees source.new) surveyed.now.states) }
+    ensures taken { IfOk result (AreTaken geometry.now (S.known source.old) (S.agrees source.new) (states_avoiding avoided.now surveyed.now.states)) }
     ensures failed { IfErr result (IsReadFault (blocks_in geometry.now (S.known source.old))) }
 {
     let mut parted = Parted {
@@ -201,7 +205,7 @@ pub fn first_takeable<S: BlockSource>(
     let count = surveyed.states().len();
     prove!(count <= geometry.pebs() as usize);
     for p in 0..count as u32 {
-        parted = parted.with(takeable_site(geometry, source, surveyed, p, buffer)?);
+        parted = parted.with(takeable_site(geometry, source, surveyed, avoided, p, buffer)?);
         if parted.clean.second.is_some() {
             return Ok(parted.all());
         }

@@ -1,4 +1,5 @@
 mod answers;
+mod bad_blocks;
 mod build;
 mod cases;
 mod change;

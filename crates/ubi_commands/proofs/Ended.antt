@@ -5,6 +5,7 @@ use Rattle.std.specs.Prelude.{Bool, IfOk, IfSome, IsSome, None, Option, Some, is
 use Rattle.std.specs.declared.alloc.AllocError.{AllocError}
 use Rattle.ubi_media.specs.Geometry.{Sizes}
 use Rattle.ubi_media.specs.Limits.{first_broken}
+use Rattle.ubi_scan.specs.Image.{judged}
 use Rattle.ubi_scan.specs.Source.{Agreed, Narrows, Source, holds, known_by, memory}
 use Rattle.ubi_commands.specs.AfterRun.{IsTold, after_left, after_right, after_run, outcome, read_failed}
 use Rattle.ubi_commands.specs.Answer.{Gives, says}
@@ -145,6 +146,15 @@ pub OfFile-weaker : (d : Files) (numbers : Numbers) (path : List ℕ) (P Q : Siz
 OfFile-weaker d numbers path P Q f o (no_file h) = no_file h
 OfFile-weaker d numbers path P Q f o (whole bytes read named h) = whole bytes read named (f _ _ _ o h)
 OfFile-weaker d numbers path P Q f o (places k reads limits zero named h) = places k reads limits zero named (f _ _ _ o h)
+
+-- nor does it hang on other files than the named one
+pub OfFile-alike : (d e : Files) (numbers : Numbers) (path : List ℕ) (P : Sizes → Source → Agreed → Outcome → Type 0) (o : Outcome)
+    → d.holds path ≡ e.holds path → OfFile d numbers path P o → OfFile e numbers path P o
+OfFile-alike d e numbers path P o same (no_file h) = no_file h
+OfFile-alike d e numbers path P o same (whole bytes read named h) =
+    whole bytes read (subst (λ (held : Option (List ℕ)). IfSome held (λ all. bytes ≡ judged (sizes_of numbers) all)) same named) h
+OfFile-alike d e numbers path P o same (places k reads limits zero named h) =
+    places k reads limits zero (subst (λ (held : Option (List ℕ)). IfSome held (known_by k.size reads)) same named) h
 
 -- two facts of what was answered
 pub both : {E : Type 0} (work : Result Outcome E) (P Q : Outcome → Type 0) → IfOk work P → IfOk work Q

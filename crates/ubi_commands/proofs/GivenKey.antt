@@ -1,13 +1,18 @@
--- The volume that words name.
-use Rattle.std.proofs.Common.{◌≡◌, ◌∙◌, List, None, Option, Some, ap, codes, false, not, refl, sym, true, true≢false, ℕ}
+-- What the words of a request say: the volume that they name, what they list as bad, and what they keep.
+use Rattle.std.proofs.Common.{◌≡◌, ◌∙◌, Bool, List, None, Option, Some, ap, codes, false, not, refl, subst, sym, true, true≢false, ℕ}
 use Rattle.std.specs.Borrow.{Bor}
+use Rattle.std.specs.Option.{ForSome}
+use Rattle.std.proofs.lemmas.Option.{same_Some}
 use Rattle.std.specs.List.{find}
 use Rattle.std.specs.Prelude.{is_some, option_and_then, option_map, slice_get}
 use Rattle.std.specs.Str.{bytes_eq}
 use Rattle.std.specs.Str.Parse.{without_leading_plus}
 use Rattle.clap.specs.Walk.{Row, Text, first_of, one_of}
-use Rattle.ubi_commands.specs.CommandLine.{Asks, AsksKey, HasNumber, HasText, IsRequest, command_name}
-use Rattle.ubi_commands.specs.Tool.{HasOneVolume}
+use Rattle.ubi_commands.specs.BadBlocks.{is_block_list}
+use Rattle.ubi_commands.specs.CommandLine.{Asks, AsksBlank, AsksDump, AsksKey, AsksPlan, HasNumber, HasText, IsRequest, MayHaveText, command_name}
+use Rattle.ubi_commands.specs.Tool.{HasOneVolume, Mean, plans, reads_dump}
+use Rattle.ubi_commands.specs.declared.requests.Dump.{Dump}
+use Rattle.ubi_commands.specs.declared.requests.Plan.{Plan}
 use Rattle.ubi_commands.specs.declared.requests.Request.{Request}
 use Rattle.ubi_commands.specs.declared.requests.Request.TheVariants as request
 use Rattle.ubi_commands.specs.declared.volume_key.VolumeKey.{VolumeKey}
@@ -78,6 +83,80 @@ request_names_one named r asked words is = go r asked.1 asked.2
     go (request.Extract n x) at asks =
         rw (← (same (request.Extract n x) at).1) (one_volume asked.0 x.key asks.1.1)
     go q at asks = absurd (apart _ _ refl (same q at).0)
+
+-- what the words of a request list as bad is a list
+list_given : (rows : List Row) (bad : Option (Bor Text)) → MayHaveText rows (codes "bad") bad → ForSome bad (λ list. is_block_list list.now ≡ true)
+    → ForSome (first_of (codes "bad") rows) (λ list. is_block_list list ≡ true)
+list_given rows None is each list at = absurd (let none : None ≡ Some list = is ∙ at in cc)
+list_given rows (Some t) is each list at =
+    subst (λ (x : Text). is_block_list x ≡ true) (same_Some t.now list (is ∙ at)) (each t refl)
+
+-- and what they say of Blank eraseblocks is that they are kept
+blank_given : (rows : List Row) (keeps : Bool) → AsksBlank rows keeps → ForSome (first_of (codes "blank") rows) (λ word. word ≡ codes "keep")
+blank_given rows true is word at = same_Some word (codes "keep") (sym at ∙ is)
+blank_given rows false is word at = absurd (let none : Some word ≡ None = sym at ∙ is in cc)
+
+-- a request that is named is what its words say
+pub request_means : (named : Option (Text × List Row)) (r : Request) → IsRequest named r → Mean named
+request_means named r asked = record {
+  volume = request_names_one named r asked;
+  list = λ name words is dumps. lists r asked.1 asked.2 name words is dumps;
+  blank = λ name words is planned. keeps r asked.1 asked.2 name words is planned;
+}
+  where
+    same : (a : Text) (rows : List Row) → named ≡ Some (a, rows) → (name : Text) (words : List Row) → named ≡ Some (name, words)
+        → (a ≡ name) × (rows ≡ words)
+    same a rows at name words is =
+        let pair : (a, rows) ≡ (name, words) = same_Some (a, rows) (name, words) (sym at ∙ is) in
+        (ap (λ (e : Text × List Row). e.0) pair, ap (λ (e : Text × List Row). e.1) pair)
+
+    -- no such command
+    other : {X : Type 0} (test : Text → Bool) (a : Text) → test a ≡ false → named ≡ Some (a, asked.0) → (name : Text) (words : List Row)
+        → named ≡ Some (name, words) → test name ≡ true → X
+    other test a differs at name words is holds =
+        absurd (true≢false (sym holds ∙ ap test (sym (same a asked.0 at name words is).0) ∙ differs))
+
+    listed : (a : Text) (d : Dump) → named ≡ Some (a, asked.0) → AsksDump asked.0 d → (name : Text) (words : List Row)
+        → named ≡ Some (name, words) → ForSome (first_of (codes "bad") words) (λ list. is_block_list list ≡ true)
+    listed a d at asks name words is =
+        subst (λ (rows : List Row). ForSome (first_of (codes "bad") rows) (λ list. is_block_list list ≡ true))
+        (same a asked.0 at name words is).1 (list_given asked.0 d.bad asks.1 asks.2)
+
+    kept : (a : Text) (p : Plan) → named ≡ Some (a, asked.0) → AsksPlan asked.0 p → (name : Text) (words : List Row)
+        → named ≡ Some (name, words) → ForSome (first_of (codes "blank") words) (λ word. word ≡ codes "keep")
+    kept a p at asks name words is =
+        subst (λ (rows : List Row). ForSome (first_of (codes "blank") rows) (λ word. word ≡ codes "keep"))
+        (same a asked.0 at name words is).1 (blank_given asked.0 p.keeps_blank asks.2)
+
+    lists : (q : Request) → named ≡ Some (command_name q, asked.0) → Asks asked.0 q → (name : Text) (words : List Row)
+        → named ≡ Some (name, words) → reads_dump name ≡ true → ForSome (first_of (codes "bad") words) (λ list. is_block_list list ≡ true)
+    lists (request.Geometry image) at asks name words is holds = other reads_dump (codes "geometry") refl at name words is holds
+    lists (request.Compose n new) at asks name words is holds = other reads_dump (codes "compose") refl at name words is holds
+    lists (request.Build n new) at asks name words is holds = other reads_dump (codes "build") refl at name words is holds
+    lists (request.List d image) at asks name words is holds = listed (codes "list") d at asks.0 name words is
+    lists (request.Check d image) at asks name words is holds = listed (codes "check") d at asks.0 name words is
+    lists (request.Show d image block) at asks name words is holds = listed (codes "show") d at asks.0 name words is
+    lists (request.Extract d extract) at asks name words is holds = listed (codes "extract") d at asks.0 name words is
+    lists (request.Unpack d paths) at asks name words is holds = listed (codes "unpack") d at asks.0 name words is
+    lists (request.Normalise d paths) at asks name words is holds = listed (codes "normalise") d at asks.0 name words is
+    lists (request.Same d left right) at asks name words is holds = listed (codes "same") d at asks.0 name words is
+    lists (request.Change d change) at asks name words is holds = listed (codes "change") d at asks.0 name words is
+    lists (request.Rename d rename) at asks name words is holds = listed (codes "rename") d at asks.0 name words is
+
+    keeps : (q : Request) → named ≡ Some (command_name q, asked.0) → Asks asked.0 q → (name : Text) (words : List Row)
+        → named ≡ Some (name, words) → plans name ≡ true → ForSome (first_of (codes "blank") words) (λ word. word ≡ codes "keep")
+    keeps (request.Change d change) at asks name words is holds = kept (codes "change") change.plan at asks.1.0 name words is
+    keeps (request.Rename d rename) at asks name words is holds = kept (codes "rename") rename.plan at asks.1.0 name words is
+    keeps (request.Geometry image) at asks name words is holds = other plans (codes "geometry") refl at name words is holds
+    keeps (request.Compose n new) at asks name words is holds = other plans (codes "compose") refl at name words is holds
+    keeps (request.Build n new) at asks name words is holds = other plans (codes "build") refl at name words is holds
+    keeps (request.List d image) at asks name words is holds = other plans (codes "list") refl at name words is holds
+    keeps (request.Check d image) at asks name words is holds = other plans (codes "check") refl at name words is holds
+    keeps (request.Show d image block) at asks name words is holds = other plans (codes "show") refl at name words is holds
+    keeps (request.Extract d extract) at asks name words is holds = other plans (codes "extract") refl at name words is holds
+    keeps (request.Unpack d paths) at asks name words is holds = other plans (codes "unpack") refl at name words is holds
+    keeps (request.Normalise d paths) at asks name words is holds = other plans (codes "normalise") refl at name words is holds
+    keeps (request.Same d left right) at asks name words is holds = other plans (codes "same") refl at name words is holds
 
 -- words that name just one volume name it by a number or by a text
 module _ (rows : List Row) (each : EachRow rows) where

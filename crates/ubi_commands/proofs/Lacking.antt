@@ -3,9 +3,10 @@ use Rattle.std.proofs.Common.{◌≡◌, ◌∙◌, List, codes, false, refl, sy
 use Rattle.std.specs.Str.{bytes_eq}
 use Rattle.std.proofs.lemmas.Slice.Eq.{bytes_eq-Decides}
 use Rattle.clap.specs.Walk.{Row, Text}
-use Rattle.ubi_commands.specs.CommandLine.{AsksChange, AsksExtract, AsksNewImage, AsksNumbers, AsksPaths, AsksRename, HasNumber}
+use Rattle.ubi_commands.specs.CommandLine.{AsksChange, AsksDump, AsksExtract, AsksNewImage, AsksNumbers, AsksPaths, AsksRename, HasNumber}
 use Rattle.ubi_commands.specs.inner.CommandLine.{IsAskedBy}
 use Rattle.ubi_commands.specs.declared.requests.Change.{Change}
+use Rattle.ubi_commands.specs.declared.requests.Dump.{Dump}
 use Rattle.ubi_commands.specs.declared.requests.Extract.{Extract}
 use Rattle.ubi_commands.specs.declared.requests.NewImage.{NewImage}
 use Rattle.ubi_commands.specs.declared.requests.Paths.{Paths}
@@ -21,17 +22,34 @@ apart a b differ same = true≢false (sym ((bytes_eq-Decides a b).1 same) ∙ di
 pub no_numbers : (name : Text) → bytes_eq (codes "geometry") name ≡ false → (rows : List Row)
     → ((n : Numbers) → AsksNumbers rows n → ⊥) → (r : Request) → IsAskedBy name rows r → ⊥
 no_numbers name other rows none (request.Geometry image) asked = apart _ _ other asked.0
-no_numbers name other rows none (request.List n image) asked = none n asked.1.0
-no_numbers name other rows none (request.Check n image) asked = none n asked.1.0
-no_numbers name other rows none (request.Show n image block) asked = none n asked.1.0
-no_numbers name other rows none (request.Extract n extract) asked = none n asked.1.0
-no_numbers name other rows none (request.Unpack n paths) asked = none n asked.1.0
+no_numbers name other rows none (request.List dump image) asked = none dump.numbers asked.1.0.0
+no_numbers name other rows none (request.Check dump image) asked = none dump.numbers asked.1.0.0
+no_numbers name other rows none (request.Show dump image block) asked = none dump.numbers asked.1.0.0
+no_numbers name other rows none (request.Extract dump extract) asked = none dump.numbers asked.1.0.0
+no_numbers name other rows none (request.Unpack dump paths) asked = none dump.numbers asked.1.0.0
 no_numbers name other rows none (request.Compose n new) asked = none n asked.1.0
 no_numbers name other rows none (request.Build n new) asked = none n asked.1.0
-no_numbers name other rows none (request.Normalise n paths) asked = none n asked.1.0
-no_numbers name other rows none (request.Same n left right) asked = none n asked.1.0
-no_numbers name other rows none (request.Change n change) asked = none n asked.1.0
-no_numbers name other rows none (request.Rename n rename) asked = none n asked.1.0
+no_numbers name other rows none (request.Normalise dump paths) asked = none dump.numbers asked.1.0.0
+no_numbers name other rows none (request.Same dump left right) asked = none dump.numbers asked.1.0.0
+no_numbers name other rows none (request.Change dump change) asked = none dump.numbers asked.1.0.0
+no_numbers name other rows none (request.Rename dump rename) asked = none dump.numbers asked.1.0.0
+
+-- of a command that is asked with a dump
+pub no_dump : (name : Text) → bytes_eq (codes "geometry") name ≡ false → bytes_eq (codes "compose") name ≡ false
+    → bytes_eq (codes "build") name ≡ false → (rows : List Row) → ((d : Dump) → AsksDump rows d → ⊥) → (r : Request)
+    → IsAskedBy name rows r → ⊥
+no_dump name first second third rows none (request.Geometry image) asked = apart _ _ first asked.0
+no_dump name first second third rows none (request.Compose n new) asked = apart _ _ second asked.0
+no_dump name first second third rows none (request.Build n new) asked = apart _ _ third asked.0
+no_dump name first second third rows none (request.List d image) asked = none d asked.1.0
+no_dump name first second third rows none (request.Check d image) asked = none d asked.1.0
+no_dump name first second third rows none (request.Show d image block) asked = none d asked.1.0
+no_dump name first second third rows none (request.Extract d extract) asked = none d asked.1.0
+no_dump name first second third rows none (request.Unpack d paths) asked = none d asked.1.0
+no_dump name first second third rows none (request.Normalise d paths) asked = none d asked.1.0
+no_dump name first second third rows none (request.Same d left right) asked = none d asked.1.0
+no_dump name first second third rows none (request.Change d change) asked = none d asked.1.0
+no_dump name first second third rows none (request.Rename d rename) asked = none d asked.1.0
 
 pub no_block : (rows : List Row) → ((n : ℕ) → HasNumber rows (codes "block") n → ⊥) → (r : Request)
     → IsAskedBy (codes "show") rows r → ⊥

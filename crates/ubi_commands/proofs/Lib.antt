@@ -10,6 +10,7 @@ pub mod Edited
 pub mod Ended
 pub mod Extracted
 pub mod FileRows
+pub mod Filled
 pub mod GatheredParts
 pub mod GeometryVectors
 pub mod GivenKey
@@ -18,8 +19,11 @@ pub mod Into
 pub mod Lacking
 pub mod Levels
 pub mod ListedLines
+pub mod Marked
+pub mod Masked
 pub mod Normalised
 pub mod Outcomes
+pub mod Planned
 pub mod RequestsOf
 pub mod ShownLines
 pub mod Taken

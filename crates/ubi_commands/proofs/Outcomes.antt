@@ -97,6 +97,18 @@ others_stay contents at d e path key None named is kept none other apart = ap (�
 others_stay contents at d e path key (Some f) named is kept none other apart =
     (kept f refl).others other (λ same. apart (same ∙ is f refl ∙ sym named))
 
+-- a file that was opened first, and then closed, received what it did, and other paths hold what they held before both
+pub kept_after : (d m e : Files) (path : List ℕ) (received : Option (List ℕ)) → OthersStay d m path → IsKept m e path received
+    → IsKept d e path received
+kept_after d m e path received since kept =
+    record { named = kept.named; others = λ other apart. kept.others other apart ∙ since other apart }
+
+pub kept_since : {F : Type 0} (contents : F → Option (List ℕ)) (at : F → List ℕ) (d m e : Files) (key : List ℕ) (file : Option F)
+    → OthersStay d m key → ForSome file (λ f. at f ≡ key) → ForSome file (λ f. IsKept m e (at f) (contents f))
+    → ForSome file (λ f. IsKept d e (at f) (contents f))
+kept_since contents at d m e key file since is kept f some =
+    kept_after d m e (at f) (contents f) (λ other apart. since other (λ same. apart (same ∙ sym (is f some)))) (kept f some)
+
 -- the file received bytes that were written into it
 pub receives : (d e : Files) (path : List ℕ) (file : Option (Vec ℕ Global)) (v : Vec ℕ Global) (empty received : Option (List ℕ))
     → file ≡ Some v → fresh d ≡ empty → Holds e path received → Appends empty received v.items

@@ -18,7 +18,7 @@ use Rattle.ubi_commands.specs.Program.{IsAllElse, IsAnswer, IsAnswerTo, answered
 use Rattle.ubi_commands.specs.Tool.{Takes, tool}
 use Rattle.ubi_commands.specs.declared.requests.Request.{Request}
 use Rattle.ubi_commands.specs.declared.outcome.Outcome.{Outcome}
-use Rattle.ubi_commands.proofs.GivenKey.{request_names_one}
+use Rattle.ubi_commands.proofs.GivenKey.{request_means}
 use Rattle.ubi_commands.proofs.Taken.{taken_asked}
 
 tool_is_simple : is_simple tool ≡ true
@@ -74,4 +74,4 @@ module _ (c : Command) (words : List Text) (is : app_of c ≡ tool) where
       by_case (Some q) (Err x) one nothing some = tt
       by_case (Some q) (Ok o) one nothing some =
           let here = subst (λ named. IsRequest named q) read one in
-          answered q ((passed, request_names_one _ q here), here) some.0 some.1
+          answered q ((passed, request_means _ q here), here) some.0 some.1

@@ -1,20 +1,24 @@
 -- Words that the command line takes are a request.
-use Rattle.std.proofs.Common.{◌≡◌, ◌∙◌, ◌||◌, ◌∷◌, [], Bool, List, Some, ap, codes, cond, false, refl, sym, subst, true, true≢false, ℕ}
+use Rattle.std.proofs.Common.{◌≡◌, ◌∙◌, ◌||◌, ◌∷◌, [], Bool, List, None, Option, Some, ap, codes, cond, false, refl, sym, subst, true, true≢false, ℕ}
 use Rattle.std.specs.Borrow.{Bor}
-use Rattle.std.specs.Prelude.{unwrap_or}
+use Rattle.std.specs.Bool.{then_some}
+use Rattle.std.specs.Option.{ForSome}
+use Rattle.std.specs.Prelude.{option_map, unwrap_or}
 use Rattle.std.specs.List.{find, list_all}
 use Rattle.std.specs.Str.{bytes_eq}
 use Rattle.std.proofs.lemmas.Option.{same_Some}
 use Rattle.std.proofs.lemmas.Slice.Eq.{bytes_eq-Decides}
 use Rattle.clap.specs.Faults.{fault_of, level_fault}
 use Rattle.clap.specs.Simple.{Shape, argument_words, built, label_of, subcommand_of}
-use Rattle.clap.specs.Walk.{Row, Text, answers_to, nothing_held, rows_after}
-use Rattle.ubi_commands.specs.CommandLine.{Asks, AsksNewImage, AsksNumbers, AsksPaths, IsRequest, HasNumber, HasText, command_name}
-use Rattle.ubi_commands.specs.Tool.{HasOneVolume, Takes, tool}
+use Rattle.clap.specs.Walk.{Row, Text, answers_to, first_of, nothing_held, rows_after}
+use Rattle.ubi_commands.specs.CommandLine.{Asks, AsksBlank, AsksDump, AsksNewImage, AsksNumbers, AsksPaths, AsksPlan, IsRequest, HasNumber, HasText, MayHaveText, command_name}
+use Rattle.ubi_commands.specs.Tool.{Mean, Takes, plans, reads_dump, tool}
 use Rattle.ubi_commands.specs.declared.requests.Change.{Change}
+use Rattle.ubi_commands.specs.declared.requests.Dump.{Dump}
 use Rattle.ubi_commands.specs.declared.requests.Extract.{Extract}
 use Rattle.ubi_commands.specs.declared.requests.NewImage.{NewImage}
 use Rattle.ubi_commands.specs.declared.requests.Paths.{Paths}
+use Rattle.ubi_commands.specs.declared.requests.Plan.{Plan}
 use Rattle.ubi_commands.specs.declared.requests.Rename.{Rename}
 use Rattle.ubi_commands.specs.declared.requests.Request.{Request}
 use Rattle.ubi_commands.specs.declared.requests.Request.TheVariants as request
@@ -56,11 +60,51 @@ module _ (s : Shape) (rows : List Row) (given : AreGiven s rows) where
         (size.1, page_size.1, vid.1, data_at.1, pebs.1),
       )
 
+  -- a text that may be left out
+  text_in : (id : Text) → (t : Option (Bor Text)) × MayHaveText rows id t
+  text_in id = go (first_of id rows)
+    where
+      go : (o : Option Text) → (t : Option (Bor Text)) × (option_map (λ x. x.now) t ≡ o)
+      go None = (None, refl)
+      go (Some t) = (Some (record { ref_ptr = (0, 0); now = t }), refl)
+
+  dump : (name : Text) → reads_dump name ≡ true → Mean (Some (name, rows)) → Needs s (codes "peb") → Needs s (codes "page")
+      → (d : Dump) × AsksDump rows d
+  dump name reads mean peb page =
+      let n = numbers peb page in
+      let bad = text_in (codes "bad") in (
+        record { numbers = n.0; bad = bad.0 },
+        (n.1, bad.1, λ t is. mean.list name rows refl reads t.now (sym bad.1 ∙ ap (option_map (λ (x : Bor Text). x.now)) is)),
+      )
+
   paths : Needs s (codes "IMAGE") → Needs s (codes "out") → (p : Paths) × AsksPaths rows p
   paths image out =
       let i = text (codes "IMAGE") image in
       let o = text (codes "out") out in
       (record { image = i.0; out = o.0 }, (i.1, o.1))
+
+  blank : (name : Text) → plans name ≡ true → Mean (Some (name, rows)) → (b : Bool) × AsksBlank rows b
+  blank name planned mean = go (first_of (codes "blank") rows) (mean.blank name rows refl planned)
+    where
+      go : (o : Option Text) → ForSome o (λ word. word ≡ codes "keep") → (b : Bool) × (o ≡ then_some b (codes "keep"))
+      go None each = (false, refl)
+      go (Some word) each = (true, ap (λ (x : Text). Some x) (each word refl))
+
+  plan : (name : Text) → plans name ≡ true → Mean (Some (name, rows)) → Needs s (codes "IMAGE") → Needs s (codes "out")
+      → (p : Plan) × AsksPlan rows p
+  plan name planned mean image out =
+      let p = paths image out in
+      let stop = number_in rows (codes "stop") in
+      let keeps = blank name planned mean in
+      let pages = text_in (codes "pages") in (
+        record {
+          paths = p.0;
+          stop = stop.0;
+          keeps_blank = keeps.0;
+          pages = pages.0;
+        },
+        (p.1, stop.1, keeps.1, pages.1),
+      )
 
   new_image : (name : Text) → Needs s name → Needs s (codes "out") → (new : NewImage) × AsksNewImage rows name new
   new_image name from out =
@@ -82,39 +126,39 @@ module _ (s : Shape) (rows : List Row) (given : AreGiven s rows) where
       let i = text (codes "IMAGE") image in
       (request.Geometry i.0, refl, i.1)
 
-  list_asked : Needs s (codes "peb") → Needs s (codes "page") → Needs s (codes "IMAGE") → IsAsked (codes "list") rows
-  list_asked peb page image =
-      let n = numbers peb page in
+  list_asked : Mean (Some (codes "list", rows)) → Needs s (codes "peb") → Needs s (codes "page") → Needs s (codes "IMAGE") → IsAsked (codes "list") rows
+  list_asked mean peb page image =
+      let n = dump (codes "list") refl mean peb page in
       let i = text (codes "IMAGE") image in
       (request.List n.0 i.0, refl, (n.1, i.1))
 
-  check_asked : Needs s (codes "peb") → Needs s (codes "page") → Needs s (codes "IMAGE") → IsAsked (codes "check") rows
-  check_asked peb page image =
-      let n = numbers peb page in
+  check_asked : Mean (Some (codes "check", rows)) → Needs s (codes "peb") → Needs s (codes "page") → Needs s (codes "IMAGE") → IsAsked (codes "check") rows
+  check_asked mean peb page image =
+      let n = dump (codes "check") refl mean peb page in
       let i = text (codes "IMAGE") image in
       (request.Check n.0 i.0, refl, (n.1, i.1))
 
-  show_asked : Needs s (codes "peb") → Needs s (codes "page") → Needs s (codes "IMAGE") → Needs s (codes "block")
+  show_asked : Mean (Some (codes "show", rows)) → Needs s (codes "peb") → Needs s (codes "page") → Needs s (codes "IMAGE") → Needs s (codes "block")
       → IsAsked (codes "show") rows
-  show_asked peb page image block =
-      let n = numbers peb page in
+  show_asked mean peb page image block =
+      let n = dump (codes "show") refl mean peb page in
       let i = text (codes "IMAGE") image in
       let b = number (codes "block") refl block in
       (request.Show n.0 i.0 b.0, refl, (n.1, i.1, b.1))
 
-  extract_asked : Needs s (codes "peb") → Needs s (codes "page") → Needs s (codes "IMAGE") → Needs s (codes "out")
-      → HasOneVolume (Some (codes "extract", rows)) → IsAsked (codes "extract") rows
-  extract_asked peb page image out one =
-      let n = numbers peb page in
+  extract_asked : Mean (Some (codes "extract", rows)) → Needs s (codes "peb") → Needs s (codes "page") → Needs s (codes "IMAGE") → Needs s (codes "out")
+      → IsAsked (codes "extract") rows
+  extract_asked mean peb page image out =
+      let n = dump (codes "extract") refl mean peb page in
       let p = paths image out in
-      let k = key_asked rows given.each (one rows refl) in
+      let k = key_asked rows given.each (mean.volume rows refl) in
       let extract : Extract = record { paths = p.0; key = k.0 } in
       (request.Extract n.0 extract, refl, (n.1, (p.1, k.1)))
 
-  unpack_asked : Needs s (codes "peb") → Needs s (codes "page") → Needs s (codes "IMAGE") → Needs s (codes "out")
+  unpack_asked : Mean (Some (codes "unpack", rows)) → Needs s (codes "peb") → Needs s (codes "page") → Needs s (codes "IMAGE") → Needs s (codes "out")
       → IsAsked (codes "unpack") rows
-  unpack_asked peb page image out =
-      let n = numbers peb page in
+  unpack_asked mean peb page image out =
+      let n = dump (codes "unpack") refl mean peb page in
       let p = paths image out in
       (request.Unpack n.0 p.0, refl, (n.1, p.1))
 
@@ -132,54 +176,50 @@ module _ (s : Shape) (rows : List Row) (given : AreGiven s rows) where
       let new = new_image (codes "CONFIG") config out in
       (request.Build n.0 new.0, refl, (n.1, new.1))
 
-  normalise_asked : Needs s (codes "peb") → Needs s (codes "page") → Needs s (codes "IMAGE") → Needs s (codes "out")
+  normalise_asked : Mean (Some (codes "normalise", rows)) → Needs s (codes "peb") → Needs s (codes "page") → Needs s (codes "IMAGE") → Needs s (codes "out")
       → IsAsked (codes "normalise") rows
-  normalise_asked peb page image out =
-      let n = numbers peb page in
+  normalise_asked mean peb page image out =
+      let n = dump (codes "normalise") refl mean peb page in
       let p = paths image out in
       (request.Normalise n.0 p.0, refl, (n.1, p.1))
 
-  same_asked : Needs s (codes "peb") → Needs s (codes "page") → Needs s (codes "IMAGE") → Needs s (codes "OTHER")
+  same_asked : Mean (Some (codes "same", rows)) → Needs s (codes "peb") → Needs s (codes "page") → Needs s (codes "IMAGE") → Needs s (codes "OTHER")
       → IsAsked (codes "same") rows
-  same_asked peb page image other =
-      let n = numbers peb page in
+  same_asked mean peb page image other =
+      let n = dump (codes "same") refl mean peb page in
       let i = text (codes "IMAGE") image in
       let o = text (codes "OTHER") other in
       (request.Same n.0 i.0 o.0, refl, (n.1, i.1, o.1))
 
-  change_asked : Needs s (codes "peb") → Needs s (codes "page") → Needs s (codes "IMAGE") → Needs s (codes "id")
+  change_asked : Mean (Some (codes "change", rows)) → Needs s (codes "peb") → Needs s (codes "page") → Needs s (codes "IMAGE") → Needs s (codes "id")
       → Needs s (codes "lnum") → Needs s (codes "from") → Needs s (codes "out") → IsAsked (codes "change") rows
-  change_asked peb page image id lnum from out =
-      let n = numbers peb page in
-      let p = paths image out in
+  change_asked mean peb page image id lnum from out =
+      let n = dump (codes "change") refl mean peb page in
+      let p = plan (codes "change") refl mean image out in
       let v = number (codes "id") refl id in
       let l = number (codes "lnum") refl lnum in
       let f = text (codes "from") from in
-      let stop = number_in rows (codes "stop") in
       let change : Change = record {
-        paths = p.0;
+        plan = p.0;
         id = v.0;
         lnum = l.0;
         from = f.0;
-        stop = stop.0;
       } in
-      (request.Change n.0 change, refl, (n.1, (p.1, v.1, l.1, f.1, stop.1)))
+      (request.Change n.0 change, refl, (n.1, (p.1, v.1, l.1, f.1)))
 
-  rename_asked : Needs s (codes "peb") → Needs s (codes "page") → Needs s (codes "IMAGE") → Needs s (codes "id")
+  rename_asked : Mean (Some (codes "rename", rows)) → Needs s (codes "peb") → Needs s (codes "page") → Needs s (codes "IMAGE") → Needs s (codes "id")
       → Needs s (codes "name") → Needs s (codes "out") → IsAsked (codes "rename") rows
-  rename_asked peb page image id name out =
-      let n = numbers peb page in
-      let p = paths image out in
+  rename_asked mean peb page image id name out =
+      let n = dump (codes "rename") refl mean peb page in
+      let p = plan (codes "rename") refl mean image out in
       let v = number (codes "id") refl id in
       let new = text (codes "name") name in
-      let stop = number_in rows (codes "stop") in
       let rename : Rename = record {
-        paths = p.0;
+        plan = p.0;
         id = v.0;
         name = new.0;
-        stop = stop.0;
       } in
-      (request.Rename n.0 rename, refl, (n.1, (p.1, v.1, new.1, stop.1)))
+      (request.Rename n.0 rename, refl, (n.1, (p.1, v.1, new.1)))
 
 -- ---- whichever command was met
 
@@ -191,7 +231,7 @@ or_false false e = e
 abbrev AsksIt : Shape → Type 0
 AsksIt s = (name : Text) (words : List Text) → answers_to name (label_of s) ≡ true
     → bytes_eq name (codes "help") ≡ false → level_fault s [] nothing_held words false [] ≡ []
-    → HasOneVolume (Some (s.name, rows_after s.rules [] words)) → IsAsked s.name (rows_after s.rules [] words)
+    → Mean (Some (s.name, rows_after s.rules [] words)) → IsAsked s.name (rows_after s.rules [] words)
 
 data EachAsks : List Shape → Type 0 where
   none : EachAsks []
@@ -212,13 +252,13 @@ found_asks p s (also {s = x} {rest = rest} here behind) e = go (p x) refl e (λ 
 -- of a command of which each argument takes one value
 asks_it : (s : Shape) → s.args_override_self ≡ false → s.subcommand_negates_reqs ≡ false
     → list_all takes_one s.rules ≡ true
-    → ((rows : List Row) → AreGiven s rows → HasOneVolume (Some (s.name, rows)) → IsAsked s.name rows) → AsksIt s
-asks_it s once negates ok asked name words named no_help fault one =
-    asked (rows_after s.rules [] words) (leaf_given s words once negates ok fault) one
+    → ((rows : List Row) → AreGiven s rows → Mean (Some (s.name, rows)) → IsAsked s.name rows) → AsksIt s
+asks_it s once negates ok asked name words named no_help fault mean =
+    asked (rows_after s.rules [] words) (leaf_given s words once negates ok fault) mean
 
 -- `help` isn't met
 help_asks : (s : Shape) → s.name ≡ codes "help" → s.aliases ≡ [] → AsksIt s
-help_asks s is alone name words named no_help fault one =
+help_asks s is alone name words named no_help fault mean =
     let same : (bytes_eq (codes "help") name || false) ≡ true = rw (is, alone) at named in
     let help : codes "help" ≡ name = (bytes_eq-Decides (codes "help") name).0 (or_false _ same) in
     absurd (true≢false (sym ((bytes_eq-Decides name (codes "help")).1 (sym help)) ∙ no_help))
@@ -226,18 +266,18 @@ help_asks s is alone name words named no_help fault one =
 each_asks : EachAsks (built tool).subs
 unfolding tool
 each_asks =
-    also (asks_it _ refl refl refl (λ rows given one. geometry_asked _ rows given refl))
-    (also (asks_it _ refl refl refl (λ rows given one. list_asked _ rows given refl refl refl))
-    (also (asks_it _ refl refl refl (λ rows given one. check_asked _ rows given refl refl refl))
-    (also (asks_it _ refl refl refl (λ rows given one. show_asked _ rows given refl refl refl refl))
-    (also (asks_it _ refl refl refl (λ rows given one. extract_asked _ rows given refl refl refl refl one))
-    (also (asks_it _ refl refl refl (λ rows given one. unpack_asked _ rows given refl refl refl refl))
-    (also (asks_it _ refl refl refl (λ rows given one. compose_asked _ rows given refl refl refl refl))
-    (also (asks_it _ refl refl refl (λ rows given one. build_asked _ rows given refl refl refl refl))
-    (also (asks_it _ refl refl refl (λ rows given one. normalise_asked _ rows given refl refl refl refl))
-    (also (asks_it _ refl refl refl (λ rows given one. same_asked _ rows given refl refl refl refl))
-    (also (asks_it _ refl refl refl (λ rows given one. change_asked _ rows given refl refl refl refl refl refl refl))
-    (also (asks_it _ refl refl refl (λ rows given one. rename_asked _ rows given refl refl refl refl refl refl))
+    also (asks_it _ refl refl refl (λ rows given mean. geometry_asked _ rows given refl))
+    (also (asks_it _ refl refl refl (λ rows given mean. list_asked _ rows given mean refl refl refl))
+    (also (asks_it _ refl refl refl (λ rows given mean. check_asked _ rows given mean refl refl refl))
+    (also (asks_it _ refl refl refl (λ rows given mean. show_asked _ rows given mean refl refl refl refl))
+    (also (asks_it _ refl refl refl (λ rows given mean. extract_asked _ rows given mean refl refl refl refl))
+    (also (asks_it _ refl refl refl (λ rows given mean. unpack_asked _ rows given mean refl refl refl refl))
+    (also (asks_it _ refl refl refl (λ rows given mean. compose_asked _ rows given refl refl refl refl))
+    (also (asks_it _ refl refl refl (λ rows given mean. build_asked _ rows given refl refl refl refl))
+    (also (asks_it _ refl refl refl (λ rows given mean. normalise_asked _ rows given mean refl refl refl refl))
+    (also (asks_it _ refl refl refl (λ rows given mean. same_asked _ rows given mean refl refl refl refl))
+    (also (asks_it _ refl refl refl (λ rows given mean. change_asked _ rows given mean refl refl refl refl refl refl refl))
+    (also (asks_it _ refl refl refl (λ rows given mean. rename_asked _ rows given mean refl refl refl refl refl refl))
     (also (help_asks _ refl refl) none))))))))))))
 
 tool_met : (words : List Text) → fault_of tool words ≡ [] → IsMet (built tool) (argument_words tool words)
@@ -250,6 +290,6 @@ taken_asked words takes =
     let m = tool_met words takes.0 in
     let asks = found_asks (λ s. answers_to m.name (label_of s)) m.shape each_asks m.found in
     let rows = rows_after m.shape.rules [] m.behind in
-    let one : HasOneVolume (Some (m.shape.name, rows)) = subst HasOneVolume m.is takes.1 in
-    let asked = asks.0 m.name m.behind asks.1 m.no_help m.fault one in
+    let mean : Mean (Some (m.shape.name, rows)) = subst Mean m.is takes.1 in
+    let asked = asks.0 m.name m.behind asks.1 m.no_help m.fault mean in
     (asked.0, (rows, m.is ∙ ap (λ (name : Text). Some (name, rows)) (sym asked.1), asked.2))

@@ -1,12 +1,14 @@
 -- Which words the command line takes.
-use Rattle.std.proofs.Common.{◌≡◌, ◌∷◌, ◌∙◌, [], List, Option, Some, ap, codes, false, refl, sym, true, true≢false}
+use Rattle.std.proofs.Common.{◌≡◌, ◌∷◌, ◌∙◌, [], List, None, Option, Some, ap, codes, false, refl, subst, sym, true, true≢false}
+use Rattle.std.specs.Option.{ForSome}
 use Rattle.std.proofs.lemmas.Option.{same_Some}
 use Rattle.std.specs.Str.{bytes_eq}
 use Rattle.clap.specs.Faults.{fault_of}
-use Rattle.clap.specs.Walk.{Row, Text}
+use Rattle.clap.specs.Walk.{Row, Text, first_of}
 use Rattle.clap.specs.declared.error.kind.ErrorKind.TheVariants as kind
 use Rattle.clap.proofs.OnLiterals.{clap_on_literals}
-use Rattle.ubi_commands.specs.Tool.{HasOneVolume, Takes, tool}
+use Rattle.ubi_commands.specs.BadBlocks.{is_block_list}
+use Rattle.ubi_commands.specs.Tool.{HasOneVolume, Mean, Takes, tool}
 use Rattle.ubi_commands.proofs.Lacking.{apart}
 
 -- another command than `extract` needs no volume
@@ -16,13 +18,37 @@ of_another named name rows is other behind same =
     let both : Some (name, rows) ≡ Some (codes "extract", behind) = sym is ∙ same in
     absurd (apart name (codes "extract") other (ap (λ (e : Text × List Row). e.0) (same_Some _ _ both)))
 
+-- another command than `extract`, with a list of bad eraseblocks or none, and with nothing but `keep` said of Blank ones
+means : (name : Text) (rows : List Row) → bytes_eq name (codes "extract") ≡ false
+    → ForSome (first_of (codes "bad") rows) (λ list. is_block_list list ≡ true)
+    → ForSome (first_of (codes "blank") rows) (λ word. word ≡ codes "keep") → Mean (Some (name, rows))
+means name rows other listed kept = record {
+  volume = of_another (Some (name, rows)) name rows refl other;
+  list = λ named words is reads. subst (λ ws. ForSome (first_of (codes "bad") ws) (λ list. is_block_list list ≡ true)) (rows_of named words is) listed;
+  blank = λ named words is plans. subst (λ ws. ForSome (first_of (codes "blank") ws) (λ word. word ≡ codes "keep")) (rows_of named words is) kept;
+}
+  where
+    rows_of : (named : Text) (words : List Row) → ◌≡◌ {A = Option (Text × List Row)} (Some (name, rows)) (Some (named, words)) → rows ≡ words
+    rows_of named words is =
+        let asked : Text × List Row = (name, rows) in
+        let found : Text × List Row = (named, words) in
+        let same : asked ≡ found = same_Some asked found is in
+        ap (λ (e : Text × List Row). e.1) same
+
+-- a word that isn't given, and one that is
+not_given : (P : Text → Type 0) (o : Option Text) → o ≡ None → ForSome o P
+not_given P o none x is = absurd cc
+
+given : (P : Text → Type 0) (o : Option Text) (word : Text) → o ≡ Some word → P word → ForSome o P
+given P o word at holds x is = subst P (same_Some word x (sym at ∙ is)) holds
+
 -- a line, of which the program's name stands first
 abbrev words : List Text → List Text
 words behind = codes "ubi_tool" ∷ codes "list" ∷ codes "a.img" ∷ codes "--peb" ∷ codes "512" ∷ behind
 
 taken : Takes (words (codes "--page=64" ∷ []))
 unfolding clap_on_literals tool
-taken = (refl, of_another _ (codes "list") _ refl refl)
+taken = (refl, means (codes "list") _ refl (not_given _ _ refl) (not_given _ _ refl))
 
 -- a line of `extract`, with the options that name the volume
 abbrev extract_words : List Text → List Text
@@ -34,11 +60,20 @@ by_name = refl
 
 two_volumes : Takes (extract_words (codes "--name=root" ∷ codes "--id=0" ∷ [])) → ⊥
 unfolding clap_on_literals tool
-two_volumes takes = let both : true ≡ false = takes.1 _ refl in true≢false both
+two_volumes takes = let both : true ≡ false = takes.1.volume _ refl in true≢false both
 
 no_volume : Takes (extract_words []) → ⊥
 unfolding clap_on_literals tool
-no_volume takes = let neither : false ≡ true = takes.1 _ refl in true≢false (sym neither)
+no_volume takes = let neither : false ≡ true = takes.1.volume _ refl in true≢false (sym neither)
+
+-- eraseblocks that are listed as bad, and a word that is no list
+bad_taken : Takes (words (codes "--page=64" ∷ codes "--bad=1,4-9" ∷ []))
+unfolding clap_on_literals tool
+bad_taken = (refl, means (codes "list") _ refl (given _ _ (codes "1,4-9") refl refl) (not_given _ _ refl))
+
+no_list : Takes (words (codes "--page=64" ∷ codes "--bad=3,,4" ∷ [])) → ⊥
+unfolding clap_on_literals tool
+no_list takes = let listed : false ≡ true = takes.1.list (codes "list") _ refl refl (codes "3,,4") refl in true≢false (sym listed)
 
 no_page : fault_of tool (words []) ≡ kind.MissingRequiredArgument ∷ []
 unfolding clap_on_literals tool
@@ -60,7 +95,7 @@ help = refl
 options_taken : Takes (codes "ubi_tool" ∷ codes "list" ∷ codes "a.img" ∷ codes "--peb" ∷ codes "131072" ∷ codes "--page" ∷ codes "2048"
     ∷ codes "--vid" ∷ codes "2048" ∷ codes "--data" ∷ codes "4096" ∷ [])
 unfolding clap_on_literals tool
-options_taken = (refl, of_another _ (codes "list") _ refl refl)
+options_taken = (refl, means (codes "list") _ refl (not_given _ _ refl) (not_given _ _ refl))
 
 -- `geometry` takes the name of a file and nothing else
 abbrev of_geometry : List Text → List Text
@@ -68,7 +103,7 @@ of_geometry behind = codes "ubi_tool" ∷ codes "geometry" ∷ behind
 
 file_taken : Takes (of_geometry (codes "a.img" ∷ []))
 unfolding clap_on_literals tool
-file_taken = (refl, of_another _ (codes "geometry") _ refl refl)
+file_taken = (refl, means (codes "geometry") _ refl (not_given _ _ refl) (not_given _ _ refl))
 
 no_file : fault_of tool (of_geometry []) ≡ kind.MissingRequiredArgument ∷ []
 unfolding clap_on_literals tool

@@ -1,9 +1,11 @@
 -- What changing a logical eraseblock of an image answers.
-use Rattle.std.specs.Prelude.{◌≡◌, ◌⊎◌, ℕ, List, Option, Some, None}
+use Rattle.std.specs.Prelude.{◌≡◌, ◌⊎◌, ℕ, List, Option, Some, None, take}
 use Rattle.std.specs.Io.KnownBytes.{Keeps}
 use Rattle.ubi_media.specs.Geometry.{Sizes}
 use Rattle.ubi_change.specs.Cuts.{changed, turn}
+use Rattle.ubi_change.specs.Avoided.{Avoided, nothing}
 use Rattle.ubi_change.specs.ErrorTexts.{change_refusal_text}
+use Rattle.ubi_change.specs.Pages.{programmed}
 use Rattle.ubi_change.specs.Planned.{IsChangeError, IsChangeRefusal, IsPlanOf, IsPlanned}
 use Rattle.ubi_change.specs.declared.plan_error.PlanError.TheVariants as error
 use Rattle.ubi_change.specs.declared.refusal.ChangeRefusal.{ChangeRefusal}
@@ -16,7 +18,7 @@ use Rattle.ubi_volume.specs.Meant.{Meant}
 use Rattle.ubi_volume.specs.Wrote.{All, Wrote}
 use Rattle.ubi_commands.specs.Answer.{Gives, says}
 use Rattle.ubi_commands.specs.Lines.{refused_line}
-use Rattle.ubi_commands.specs.Plan.{CutAccepts, IsCarryFault, cut_text, plan_answer, plan_lines, steps_done}
+use Rattle.ubi_commands.specs.Plan.{CutAccepts, IsCarryFault, cut_text, not_blank_line, plan_answer, plan_lines, steps_done}
 use Rattle.ubi_commands.specs.declared.outcome.Outcome.{Outcome}
 use Rattle.ubi_commands.specs.declared.outcome.ToolError.{ToolError}
 use Rattle.ubi_commands.specs.declared.outcome.ToolError.TheVariants as tool
@@ -35,20 +37,24 @@ CutMeans image id lnum new steps k =
 -- what the command answers of an image: that of the plan, and what its file means; or the line of the cause for which
 -- nothing is planned
 pub data Changes (image : Image) (id lnum : ℕ) (new : List ℕ) (stop : Option ℕ) : Outcome → Type 0 where
-  planned : {o : Outcome} (steps : List Step) → IsPlanOf image id lnum new steps → Gives o (plan_answer image steps stop)
+  planned : {o : Outcome} (steps : List Step) → IsPlanOf image nothing id lnum new steps → Gives o (plan_answer image steps stop)
       → CutMeans image id lnum new steps (steps_done steps stop) → Changes image id lnum new stop o
   unplanned : {o : Outcome} (c : ChangeRefusal) (line : List ℕ) → IsChangeRefusal image id lnum new c → cause_line c ≡ Some line
       → Gives o (says line 1) → Changes image id lnum new stop o
 
-module _ (id lnum : ℕ) (new : List ℕ) (stop : Option ℕ) (s : Sizes) (k : Source) (agrees : Agreed) where
-  -- what it answers of a source: the lines of the plan, and, whatever the source may hold, the writer received what the
-  -- file holds; or the line of the cause for which nothing is planned, and the writer received nothing
-  pub data ChangesFrom (old now : Option (List ℕ)) : Outcome → Type 0 where
-    planned_from : {o : Outcome} (steps : List Step) → IsPlanned s k agrees id lnum new steps
-        → Gives o (says (plan_lines steps) 0) → Wrote agrees old now (cut_text s steps (steps_done steps stop)) All 0 k.size
-        → WhereHeld agrees (λ bytes. CutMeans (image_of s bytes) id lnum new steps (steps_done steps stop)) → ChangesFrom old now o
-    unplanned_from : {o : Outcome} (c : ChangeRefusal) (line : List ℕ) → IsChangeError s k agrees id lnum new (error.Refused c)
-        → cause_line c ≡ Some line → Gives o (says line 1) → Keeps old now → ChangesFrom old now o
+module _ (av : Avoided) (id lnum : ℕ) (new : List ℕ) (stop : Option ℕ) (s : Sizes) (k : Source) (agrees : Agreed) where
+  -- what it answers of a source: the lines of a plan that avoids some eraseblocks, with the pages that the steps done program;
+  -- and, whatever the source may hold, the writer received what the file holds. Or the line of the cause for which nothing is
+  -- planned, or of a listed eraseblock that isn't blank, and the writer received nothing
+  pub data ChangesFrom (pages : List ℕ) (old now : Option (List ℕ)) : Outcome → Type 0 where
+    planned_from : {o : Outcome} (steps : List Step) → IsPlanned s k agrees av id lnum new steps
+        → Gives o (says (plan_lines steps) 0) → pages ≡ programmed (take (steps_done steps stop) steps)
+        → Wrote agrees old now (cut_text s steps (steps_done steps stop)) All 0 k.size
+        → WhereHeld agrees (λ bytes. CutMeans (image_of s bytes) id lnum new steps (steps_done steps stop)) → ChangesFrom pages old now o
+    unplanned_from : {o : Outcome} (c : ChangeRefusal) (line : List ℕ) → IsChangeError s k agrees av id lnum new (error.Refused c)
+        → cause_line c ≡ Some line → Gives o (says line 1) → Keeps old now → ChangesFrom pages old now o
+    not_blank_from : {o : Outcome} (p : ℕ) → IsChangeError s k agrees av id lnum new (error.NotBlank p)
+        → Gives o (says (not_blank_line p) 1) → Keeps old now → ChangesFrom pages old now o
 
   -- why it answers nothing: memory ran out, and the writer received nothing; or a read or a write failed, and it received
   -- the first of what the plan leaves
@@ -56,10 +62,10 @@ module _ (id lnum : ℕ) (new : List ℕ) (stop : Option ℕ) (s : Sizes) (k : S
   IsChangeFault old now tool.Memory = Keeps old now
   IsChangeFault old now tool.Read =
       Keeps old now
-      ⊎ ((steps : List Step) × IsPlanned s k agrees id lnum new steps × IsCarryFault s agrees steps (steps_done steps stop) old now tool.Read)
+      ⊎ ((steps : List Step) × IsPlanned s k agrees av id lnum new steps × IsCarryFault s agrees steps (steps_done steps stop) old now tool.Read)
   IsChangeFault old now tool.Write =
-      (steps : List Step) × IsPlanned s k agrees id lnum new steps × IsCarryFault s agrees steps (steps_done steps stop) old now tool.Write
+      (steps : List Step) × IsPlanned s k agrees av id lnum new steps × IsCarryFault s agrees steps (steps_done steps stop) old now tool.Write
 
 -- a change of a source is planned
-abbrev pub HasPlan : ℕ → ℕ → List ℕ → Sizes → Source → Agreed → Type 0
-HasPlan id lnum new s k agrees = (steps : List Step) × IsPlanned s k agrees id lnum new steps
+abbrev pub HasPlan : Avoided → ℕ → ℕ → List ℕ → Sizes → Source → Agreed → Type 0
+HasPlan av id lnum new s k agrees = (steps : List Step) × IsPlanned s k agrees av id lnum new steps

@@ -1,12 +1,17 @@
 -- The names of the commands, and what the words behind one ask for.
 use Rattle.std.specs.Borrow.{Bor}
-use Rattle.std.specs.Prelude.{◌≡◌, ◌↔◌, ◌∷◌, ◌<◌, ◌^◌, [], List, None, Option, Some, codes, option_map, unwrap_or, ℕ}
+use Rattle.std.specs.Bool.{then_some}
+use Rattle.std.specs.Option.{ForSome}
+use Rattle.std.specs.Prelude.{◌≡◌, ◌↔◌, ◌∷◌, ◌<◌, ◌^◌, [], List, None, Option, Some, Bool, codes, option_map, true, unwrap_or, ℕ}
 use Rattle.std.specs.Str.Parse.{IsNumeral, digits_value, without_leading_plus}
 use Rattle.clap.specs.Walk.{Row, Text, first_of, one_of}
+use Rattle.ubi_commands.specs.BadBlocks.{is_block_list}
 use Rattle.ubi_commands.specs.declared.requests.Change.{Change}
+use Rattle.ubi_commands.specs.declared.requests.Dump.{Dump}
 use Rattle.ubi_commands.specs.declared.requests.Extract.{Extract}
 use Rattle.ubi_commands.specs.declared.requests.NewImage.{NewImage}
 use Rattle.ubi_commands.specs.declared.requests.Paths.{Paths}
+use Rattle.ubi_commands.specs.declared.requests.Plan.{Plan}
 use Rattle.ubi_commands.specs.declared.requests.Rename.{Rename}
 use Rattle.ubi_commands.specs.declared.requests.Request.{Request}
 use Rattle.ubi_commands.specs.declared.requests.Request.TheVariants as request
@@ -38,6 +43,10 @@ command_names = codes "geometry" ∷ codes "list" ∷ codes "check" ∷ codes "s
 abbrev pub HasText : List Row → List ℕ → Bor (List ℕ) → Type 0
 HasText words name text = first_of name words ≡ Some text.now
 
+-- this is the text that they give under the name, where they give one
+abbrev pub MayHaveText : List Row → List ℕ → Option (Bor (List ℕ)) → Type 0
+MayHaveText words name text = option_map (λ t. t.now) text ≡ first_of name words
+
 -- they give this number of 32 bits in decimal, where a plus may stand first
 abbrev pub HasNumber : List Row → List ℕ → ℕ → Type 0
 HasNumber words name n = (digits : List ℕ)
@@ -61,6 +70,12 @@ AsksNumbers words numbers = HasNumber words (codes "peb") numbers.peb_size
     × MayHaveNumber words (codes "data") numbers.data_offset
     × MayHaveNumber words (codes "pebs") numbers.pebs
 
+-- the words give this dump: its numbers, and the list of its bad eraseblocks, if there is one
+abbrev pub AsksDump : List Row → Dump → Type 0
+AsksDump words dump = AsksNumbers words dump.numbers
+    × MayHaveText words (codes "bad") dump.bad
+    × ForSome dump.bad (λ list. is_block_list list.now ≡ true)
+
 -- the words name this volume: by its number or by its name, and not by both
 abbrev pub AsksKey : List Row → VolumeKey → Type 0
 AsksKey words (key.Id id) = HasNumber words (codes "id") id × (first_of (codes "name") words ≡ None)
@@ -79,37 +94,46 @@ abbrev pub AsksNewImage : List Row → List ℕ → NewImage → Type 0
 AsksNewImage words name new = HasText words name new.from × HasText words (codes "out") new.out
     × HasNumberOr 0 words (codes "spares") new.spares × HasNumberOr 0 words (codes "seq") new.image_seq
 
+-- the words say this of Blank eraseblocks: that they are kept, or nothing
+abbrev pub AsksBlank : List Row → Bool → Type 0
+AsksBlank words keeps = first_of (codes "blank") words ≡ then_some keeps (codes "keep")
+
+-- the words give this plan
+abbrev pub AsksPlan : List Row → Plan → Type 0
+AsksPlan words plan = AsksPaths words plan.paths
+    × MayHaveNumber words (codes "stop") plan.stop
+    × AsksBlank words plan.keeps_blank
+    × MayHaveText words (codes "pages") plan.pages
+
 -- the words give this change
 abbrev pub AsksChange : List Row → Change → Type 0
-AsksChange words change = AsksPaths words change.paths
+AsksChange words change = AsksPlan words change.plan
     × HasNumber words (codes "id") change.id
     × HasNumber words (codes "lnum") change.lnum
     × HasText words (codes "from") change.from
-    × MayHaveNumber words (codes "stop") change.stop
 
 -- the words give this rename
 abbrev pub AsksRename : List Row → Rename → Type 0
-AsksRename words rename = AsksPaths words rename.paths
+AsksRename words rename = AsksPlan words rename.plan
     × HasNumber words (codes "id") rename.id
     × HasText words (codes "name") rename.name
-    × MayHaveNumber words (codes "stop") rename.stop
 
 -- the words give what the request says
 abbrev pub Asks : List Row → Request → Type 0
 Asks words (request.Geometry image) = HasText words (codes "IMAGE") image
-Asks words (request.List numbers image) = AsksNumbers words numbers × HasText words (codes "IMAGE") image
-Asks words (request.Check numbers image) = AsksNumbers words numbers × HasText words (codes "IMAGE") image
-Asks words (request.Show numbers image block) = AsksNumbers words numbers × HasText words (codes "IMAGE") image
+Asks words (request.List dump image) = AsksDump words dump × HasText words (codes "IMAGE") image
+Asks words (request.Check dump image) = AsksDump words dump × HasText words (codes "IMAGE") image
+Asks words (request.Show dump image block) = AsksDump words dump × HasText words (codes "IMAGE") image
     × HasNumber words (codes "block") block
-Asks words (request.Extract numbers extract) = AsksNumbers words numbers × AsksExtract words extract
-Asks words (request.Unpack numbers paths) = AsksNumbers words numbers × AsksPaths words paths
+Asks words (request.Extract dump extract) = AsksDump words dump × AsksExtract words extract
+Asks words (request.Unpack dump paths) = AsksDump words dump × AsksPaths words paths
 Asks words (request.Compose numbers new) = AsksNumbers words numbers × AsksNewImage words (codes "SPEC") new
 Asks words (request.Build numbers new) = AsksNumbers words numbers × AsksNewImage words (codes "CONFIG") new
-Asks words (request.Normalise numbers paths) = AsksNumbers words numbers × AsksPaths words paths
-Asks words (request.Same numbers left right) = AsksNumbers words numbers × HasText words (codes "IMAGE") left
+Asks words (request.Normalise dump paths) = AsksDump words dump × AsksPaths words paths
+Asks words (request.Same dump left right) = AsksDump words dump × HasText words (codes "IMAGE") left
     × HasText words (codes "OTHER") right
-Asks words (request.Change numbers change) = AsksNumbers words numbers × AsksChange words change
-Asks words (request.Rename numbers rename) = AsksNumbers words numbers × AsksRename words rename
+Asks words (request.Change dump change) = AsksDump words dump × AsksChange words change
+Asks words (request.Rename dump rename) = AsksDump words dump × AsksRename words rename
 
 -- the command that was named, with its words, is the request
 abbrev pub IsRequest : Option (Text × List Row) → Request → Type 0

@@ -1,6 +1,8 @@
 -- What is known of files by their paths.
 use Rattle.std.specs.Prelude.{◌≡◌, ◌≢◌, ℕ, Bool, IfSome, List, [], ◌++◌, None, Option, Some, codes, false, if◌then◌else◌}
+use Rattle.std.specs.Borrow.{Bor}
 use Rattle.std.specs.Io.KnownBytes.{Appends}
+use Rattle.std.specs.Option.{ForSome}
 use Rattle.ubi_media.specs.Geometry.{Sizes}
 use Rattle.ubi_scan.specs.Image.{judged}
 use Rattle.ubi_commands.specs.declared.outcome.Outcome.{Outcome}
@@ -51,6 +53,15 @@ OutsideStay old new dir = (path : List ℕ) → ((name : List ℕ) → path ≢ 
 -- each path holds what it held
 abbrev pub AllStay : Files → Files → Type 0
 AllStay old new = (path : List ℕ) → new.holds path ≡ old.holds path
+
+-- the file at a path holds what it held
+abbrev pub Stays : Files → Files → List ℕ → Type 0
+Stays old new path = new.holds path ≡ old.holds path
+
+-- each path but two holds what it held, the second of which may be left out
+abbrev pub OthersStayBeside : Files → Files → List ℕ → Option (Bor (List ℕ)) → Type 0
+OthersStayBeside old new path second =
+    (other : List ℕ) → other ≢ path → ForSome second (λ p. other ≢ p.now) → new.holds other ≡ old.holds other
 
 -- the file at a path received some bytes, if there are any, and else holds what it held
 abbrev pub Receives : Files → Files → List ℕ → Option (List ℕ) → Type 0

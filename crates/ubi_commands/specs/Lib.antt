@@ -1,11 +1,13 @@
 pub mod AfterRun
 pub mod Answer
+pub mod BadBlocks
 pub mod Build
 pub mod Change
 pub mod Check
 pub mod CommandLine
 pub mod Compose
 pub mod Disk
+pub mod Dump
 pub mod Extract
 pub mod Geometry
 pub mod Headline

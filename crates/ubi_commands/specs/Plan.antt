@@ -12,6 +12,7 @@ use Rattle.ubi_volume.specs.Accepts.{Accepts}
 use Rattle.ubi_volume.specs.Meant.{Meant}
 use Rattle.ubi_volume.specs.Wrote.{First, NotAll, Wrote}
 use Rattle.ubi_commands.specs.Answer.{Answer, Gives}
+use Rattle.ubi_commands.specs.Lines.{refused_line}
 use Rattle.ubi_commands.specs.declared.outcome.Outcome.{Outcome}
 use Rattle.ubi_commands.specs.declared.outcome.ToolError.{ToolError}
 use Rattle.ubi_commands.specs.declared.outcome.ToolError.TheVariants as tool
@@ -28,6 +29,10 @@ step_line next = step_words next ++ codes "\n"
 -- the lines of a plan: how many steps it has, and each of them
 abbrev pub plan_lines : List Step → List ℕ
 plan_lines steps = codes "steps " ++ decimal (length steps) ++ codes "\n" ++ flat_map step_line steps
+
+-- the line of a listed eraseblock that isn't blank, so that nothing is planned
+abbrev pub not_blank_line : ℕ → List ℕ
+not_blank_line p = refused_line (codes "K10 NotBlank block=" ++ decimal p)
 
 -- how many steps are done: as many as are asked for, or all where there are no more, or where no number is given
 abbrev pub steps_done : List Step → Option ℕ → ℕ

@@ -1,16 +1,20 @@
 -- What the program answers over files.
-use Rattle.std.specs.Prelude.{◌≡◌, ℕ, ◌*◌, ◌+◌, ◌≤◌, List, [], length, Some, None, Option, IfSome, IsSome, codes, option_map}
+use Rattle.std.specs.Borrow.{Bor}
+use Rattle.std.specs.Option.{ForSome}
+use Rattle.std.specs.Prelude.{◌≡◌, ◌≢◌, ℕ, ◌*◌, ◌+◌, ◌≤◌, List, [], length, Some, None, Option, IfSome, IsSome, codes, option_map}
 use Rattle.ubi_media.specs.Geometry.{Sizes}
 use Rattle.ubi_media.specs.Limits.{first_broken}
 use Rattle.ubi_media.specs.declared.geometry.GeometryError.{GeometryError}
 use Rattle.ubi_scan.specs.Image.{Image, image_of}
 use Rattle.ubi_scan.specs.Source.{Agreed, Source, holds, known_by, memory}
+use Rattle.ubi_change.specs.Avoided.{Avoided}
 use Rattle.ubi_commands.specs.Answer.{Gives, says}
 use Rattle.ubi_commands.specs.Build.{Builds}
 use Rattle.ubi_commands.specs.Change.{ChangesFrom, HasPlan}
 use Rattle.ubi_commands.specs.Check.{ChecksOf}
 use Rattle.ubi_commands.specs.Compose.{ComposesInto}
-use Rattle.ubi_commands.specs.Disk.{AllStay, Files, IsJudgedOf, IsLeft, IsTextOf, OthersStay, OutsideStay, Receives, fresh}
+use Rattle.ubi_commands.specs.Disk.{AllStay, Files, IsJudgedOf, IsLeft, IsTextOf, OthersStay, OthersStayBeside, OutsideStay, Receives, Stays, fresh}
+use Rattle.ubi_commands.specs.Dump.{marks_of, seen}
 use Rattle.ubi_commands.specs.Extract.{ExtractsOf, HasTextIn}
 use Rattle.ubi_commands.specs.Geometry.{DetectsOf}
 use Rattle.ubi_commands.specs.Lines.{file_line, geometry_line}
@@ -22,6 +26,8 @@ use Rattle.ubi_commands.specs.Same.{ComparesOf}
 use Rattle.ubi_commands.specs.Show.{ShowsOf}
 use Rattle.ubi_commands.specs.Tool.{Requests, Takes}
 use Rattle.ubi_commands.specs.Unpack.{UnpacksOf}
+use Rattle.ubi_commands.specs.declared.requests.Dump.{Dump}
+use Rattle.ubi_commands.specs.declared.requests.Plan.{Plan}
 use Rattle.ubi_commands.specs.declared.requests.Request.{Request}
 use Rattle.ubi_commands.specs.declared.requests.Request.TheVariants as request
 use Rattle.ubi_commands.specs.declared.image_file.Unread.{Unread}
@@ -89,6 +95,23 @@ pub data WritesInto (out : List ℕ) (old new : Files) (answers : Option (List �
       → WritesInto out old new answers writes o
   unwritten : {o : Outcome} → writes → Gives o (says (file_line (codes "cannot write ") out) 1) → WritesInto out old new answers writes o
 
+-- what can be answered of a source by a command that plans, writes the file at a path, and may write the programmed pages to a
+-- second: what is said of the first, and where all is done, the second received the pages; or the line of a second file that
+-- can't be written, where all is done but that
+pub data WritesPlan (out : List ℕ) (pages : Option (Bor (List ℕ))) (old new : Files)
+    (answers : List ℕ → Option (List ℕ) → Option (List ℕ) → Outcome → Type 0) (writes : Type 0) : Outcome → Type 0 where
+  planned : {o : Outcome} (bytes : List ℕ) → WritesInto out old new (answers bytes) writes o
+      → (o.status ≡ 0 → ForSome pages (λ path. Receives old new path.now (Some bytes))) → WritesPlan out pages old new answers writes o
+  no_pages : {o : Outcome} (path : Bor (List ℕ)) (bytes : List ℕ) (done : Outcome) → pages ≡ Some path
+      → WritesInto out old new (answers bytes) writes done → done.status ≡ 0
+      → Gives o (says (file_line (codes "cannot write ") path.now) 1) → WritesPlan out pages old new answers writes o
+
+-- what can be answered of a dump by a command that plans: nothing, as of wrong words, where it may be a device of which no bad
+-- eraseblocks are listed; or what it answers
+pub data WithList (d e : Files) (bad : Option (Bor (List ℕ))) (path : List ℕ) (answers : Outcome → Type 0) : Outcome → Type 0 where
+  no_list : {o : Outcome} → bad ≡ None → d.holds path ≡ None → Gives o (says [] 2) → AllStay d e → WithList d e bad path answers o
+  with_list : {o : Outcome} → answers o → WithList d e bad path answers o
+
 -- once the file of an outcome is written, if it has one: the outcome, and the file received that; or the line of a file that
 -- can't be written
 pub data WritesFile (path : List ℕ) (old new : Files) (outcome : Outcome) : Outcome → Type 0 where
@@ -96,35 +119,51 @@ pub data WritesFile (path : List ℕ) (old new : Files) (outcome : Outcome) : Ou
   lost : {o : Outcome} → IsSome outcome.file → Gives o (says (file_line (codes "cannot write ") path) 1)
       → WritesFile path old new outcome o
 
+-- what a plan avoids of a dump: its bad eraseblocks, and Blank ones where they are kept
+abbrev pub avoided : Dump → Plan → Avoided
+avoided dump plan = record { marks = marks_of dump; blank = plan.keeps_blank }
+
 -- what a request can be answered: what its command answers, for its own numbers, paths and volume, of the files that are
--- named, and with what becomes of the file that is written
+-- named, as they are seen, and with what becomes of the files that are written
 abbrev pub IsAnswerTo : Files → Files → Request → Outcome → Type 0
 IsAnswerTo d e (request.Geometry path) = OfFile d greatest path.now (λ _. DetectsOf)
-IsAnswerTo d e (request.List numbers path) = OfFile d numbers path.now ListsOf
-IsAnswerTo d e (request.Check numbers path) = OfFile d numbers path.now ChecksOf
-IsAnswerTo d e (request.Show numbers path p) = OfFile d numbers path.now (ShowsOf p)
-IsAnswerTo d e (request.Extract numbers extract) =
-    OfFile d numbers extract.paths.image.now
+IsAnswerTo d e (request.List dump path) = OfFile (seen dump d) dump.numbers path.now ListsOf
+IsAnswerTo d e (request.Check dump path) = OfFile (seen dump d) dump.numbers path.now ChecksOf
+IsAnswerTo d e (request.Show dump path p) = OfFile (seen dump d) dump.numbers path.now (ShowsOf p)
+IsAnswerTo d e (request.Extract dump extract) =
+    OfFile (seen dump d) dump.numbers extract.paths.image.now
     (λ s k agrees. WritesInto extract.paths.out.now d e (ExtractsOf extract.key s k agrees) (HasTextIn extract.key s agrees))
-IsAnswerTo d e (request.Unpack numbers paths) = OfFile d numbers paths.image.now (UnpacksOf paths.out.now d e)
+IsAnswerTo d e (request.Unpack dump paths) = OfFile (seen dump d) dump.numbers paths.image.now (UnpacksOf paths.out.now d e)
 IsAnswerTo d e (request.Compose numbers new) =
     OfText d numbers new.from.now (λ s t. ComposesInto new.out.now d e s t new.spares new.image_seq)
 IsAnswerTo d e (request.Build numbers new) =
     OfText d numbers new.from.now (λ s t. Builds d e new.from.now new.out.now s t new.spares new.image_seq)
-IsAnswerTo d e (request.Normalise numbers paths) =
-    OfFile d numbers paths.image.now (λ s k agrees. WritesInto paths.out.now d e (NormalisesOf s k agrees) (HasMeaning s agrees))
-IsAnswerTo d e (request.Same numbers left right) = BothOf d numbers left.now right.now ComparesOf
-IsAnswerTo d e (request.Change numbers change) =
-    OfFile d numbers change.paths.image.now
-    (λ s k agrees. OfImage d numbers change.from.now
-    (λ f. WritesInto change.paths.out.now d e (ChangesFrom change.id change.lnum f.bytes change.stop s k agrees)
-    (HasPlan change.id change.lnum f.bytes s k agrees)))
-IsAnswerTo d e (request.Rename numbers rename) =
-    OfFile d numbers rename.paths.image.now
-    (λ s k agrees. WritesInto rename.paths.out.now d e (RenamesFrom rename.id rename.name.now rename.stop s k agrees)
-    (HasRename rename.id rename.name.now s k agrees))
+IsAnswerTo d e (request.Normalise dump paths) =
+    OfFile (seen dump d) dump.numbers paths.image.now
+    (λ s k agrees. WritesInto paths.out.now d e (NormalisesOf s k agrees) (HasMeaning s agrees))
+IsAnswerTo d e (request.Same dump left right) = BothOf (seen dump d) dump.numbers left.now right.now ComparesOf
+IsAnswerTo d e (request.Change dump change) =
+    let plan = change.plan in
+    WithList d e dump.bad plan.paths.image.now (OfFile (seen dump d) dump.numbers plan.paths.image.now
+    (λ s k agrees. OfImage d dump.numbers change.from.now
+    (λ f. WritesPlan plan.paths.out.now plan.pages d e
+    (ChangesFrom (avoided dump plan) change.id change.lnum f.bytes plan.stop s k agrees)
+    (HasPlan (avoided dump plan) change.id change.lnum f.bytes s k agrees))))
+IsAnswerTo d e (request.Rename dump rename) =
+    let plan = rename.plan in
+    WithList d e dump.bad plan.paths.image.now (OfFile (seen dump d) dump.numbers plan.paths.image.now
+    (λ s k agrees. WritesPlan plan.paths.out.now plan.pages d e
+    (RenamesFrom (avoided dump plan) rename.id rename.name.now plan.stop s k agrees)
+    (HasRename (avoided dump plan) rename.id rename.name.now s k agrees)))
 
--- each file holds what it held, but for the one that a request writes, or those in the folder that it writes
+-- each file holds what it held, but for those that a plan writes; and the image does, unless it is itself the file that the
+-- changed image is written to
+pub record PlanStays (d e : Files) (plan : Plan) : Type 0 where
+  pub others : OthersStayBeside d e plan.paths.out.now plan.pages
+  pub image : plan.paths.image.now ≢ plan.paths.out.now → Stays d e plan.paths.image.now
+
+-- each file holds what it held, but for the one that a request writes, or those in the folder that it writes; and so does a
+-- text or a file with new bytes, also where that is named for the output
 abbrev pub IsAllElse : Request → Files → Files → Type 0
 IsAllElse (request.Geometry _) d e = AllStay d e
 IsAllElse (request.List _ _) d e = AllStay d e
@@ -132,12 +171,12 @@ IsAllElse (request.Check _ _) d e = AllStay d e
 IsAllElse (request.Show _ _ _) d e = AllStay d e
 IsAllElse (request.Extract _ extract) d e = OthersStay d e extract.paths.out.now
 IsAllElse (request.Unpack _ paths) d e = OutsideStay d e paths.out.now
-IsAllElse (request.Compose _ new) d e = OthersStay d e new.out.now
-IsAllElse (request.Build _ new) d e = OthersStay d e new.out.now
+IsAllElse (request.Compose _ new) d e = OthersStay d e new.out.now × Stays d e new.from.now
+IsAllElse (request.Build _ new) d e = OthersStay d e new.out.now × Stays d e new.from.now
 IsAllElse (request.Normalise _ paths) d e = OthersStay d e paths.out.now
 IsAllElse (request.Same _ _ _) d e = AllStay d e
-IsAllElse (request.Change _ change) d e = OthersStay d e change.paths.out.now
-IsAllElse (request.Rename _ rename) d e = OthersStay d e rename.paths.out.now
+IsAllElse (request.Change _ change) d e = PlanStays d e change.plan × Stays d e change.from.now
+IsAllElse (request.Rename _ rename) d e = PlanStays d e rename.plan
 
 -- what the program can answer: nothing where the command line doesn't take the words, and else what the request that
 -- they are can be answered; and no other file is changed than the one that it names

@@ -1,8 +1,10 @@
 -- What renaming a volume of an image answers.
-use Rattle.std.specs.Prelude.{◌≡◌, ◌⊎◌, ℕ, List, Option, Some, None}
+use Rattle.std.specs.Prelude.{◌≡◌, ◌⊎◌, ℕ, List, Option, Some, None, take}
 use Rattle.std.specs.Io.KnownBytes.{Keeps}
 use Rattle.ubi_media.specs.Geometry.{Sizes}
 use Rattle.ubi_change.specs.Cuts.{turn}
+use Rattle.ubi_change.specs.Avoided.{Avoided, nothing}
+use Rattle.ubi_change.specs.Pages.{programmed}
 use Rattle.ubi_change.specs.ErrorTexts.{rename_refusal_text}
 use Rattle.ubi_change.specs.RenamePlan.{renamed_pages}
 use Rattle.ubi_change.specs.RenamePlanned.{IsPlannedRename, IsRenameError, IsRenameOf, IsRenameRefusal}
@@ -19,7 +21,7 @@ use Rattle.ubi_volume.specs.Meant.{Meant}
 use Rattle.ubi_volume.specs.Wrote.{All, Wrote}
 use Rattle.ubi_commands.specs.Answer.{Gives, says}
 use Rattle.ubi_commands.specs.Lines.{refused_line}
-use Rattle.ubi_commands.specs.Plan.{CutAccepts, IsCarryFault, cut_text, plan_answer, plan_lines, steps_done}
+use Rattle.ubi_commands.specs.Plan.{CutAccepts, IsCarryFault, cut_text, not_blank_line, plan_answer, plan_lines, steps_done}
 use Rattle.ubi_commands.specs.declared.outcome.Outcome.{Outcome}
 use Rattle.ubi_commands.specs.declared.outcome.ToolError.{ToolError}
 use Rattle.ubi_commands.specs.declared.outcome.ToolError.TheVariants as tool
@@ -40,7 +42,7 @@ CutIsNamed image id name steps k =
 -- or the line of the cause for which nothing is planned; or that the word shows none
 pub data Renames (image : Image) (id : ℕ) (word : List ℕ) (stop : Option ℕ) : Outcome → Type 0 where
   planned : {o : Outcome} (name : List ℕ) (steps : List Step) → shown_name word ≡ Some name
-      → IsRenameOf image id name steps → Gives o (plan_answer image steps stop)
+      → IsRenameOf image nothing id name steps → Gives o (plan_answer image steps stop)
       → CutIsNamed image id name steps (steps_done steps stop) → Renames image id word stop o
   nameless : {o : Outcome} → shown_name word ≡ None → Gives o (says (refused_line (rename_refusal_text refusal.BadName)) 1)
       → Renames image id word stop o
@@ -48,20 +50,25 @@ pub data Renames (image : Image) (id : ℕ) (word : List ℕ) (stop : Option ℕ
       → IsRenameRefusal image id name c → rename_line c ≡ Some line → Gives o (says line 1)
       → Renames image id word stop o
 
-module _ (id : ℕ) (word : List ℕ) (stop : Option ℕ) (s : Sizes) (k : Source) (agrees : Agreed) where
-  -- what it answers of a source: where the word shows a name, the lines of the plan, and, whatever the source may hold, the
-  -- writer received what the file holds; or the line of the cause for which nothing is planned, or that the word shows no
-  -- name, and the writer received nothing
-  pub data RenamesFrom (old now : Option (List ℕ)) : Outcome → Type 0 where
+module _ (av : Avoided) (id : ℕ) (word : List ℕ) (stop : Option ℕ) (s : Sizes) (k : Source) (agrees : Agreed) where
+  -- what it answers of a source: where the word shows a name, the lines of a plan that avoids some eraseblocks, with the pages
+  -- that the steps done program; and, whatever the source may hold, the writer received what the file holds. Or the line of
+  -- the cause for which nothing is planned, of a listed eraseblock that isn't blank, or that the word shows no name, and the
+  -- writer received nothing
+  pub data RenamesFrom (pages : List ℕ) (old now : Option (List ℕ)) : Outcome → Type 0 where
     planned_from : {o : Outcome} (name : List ℕ) (steps : List Step) → shown_name word ≡ Some name
-        → IsPlannedRename s k agrees id name steps → Gives o (says (plan_lines steps) 0)
+        → IsPlannedRename s k agrees av id name steps → Gives o (says (plan_lines steps) 0)
+        → pages ≡ programmed (take (steps_done steps stop) steps)
         → Wrote agrees old now (cut_text s steps (steps_done steps stop)) All 0 k.size
-        → WhereHeld agrees (λ bytes. CutIsNamed (image_of s bytes) id name steps (steps_done steps stop)) → RenamesFrom old now o
+        → WhereHeld agrees (λ bytes. CutIsNamed (image_of s bytes) id name steps (steps_done steps stop)) → RenamesFrom pages old now o
     nameless_from : {o : Outcome} → shown_name word ≡ None → Gives o (says (refused_line (rename_refusal_text refusal.BadName)) 1) → Keeps old now
-        → RenamesFrom old now o
+        → RenamesFrom pages old now o
     unplanned_from : {o : Outcome} (name : List ℕ) (c : RenameRefusal) (line : List ℕ) → shown_name word ≡ Some name
-        → IsRenameError s k agrees id name (error.Refused c) → rename_line c ≡ Some line → Gives o (says line 1) → Keeps old now
-        → RenamesFrom old now o
+        → IsRenameError s k agrees av id name (error.Refused c) → rename_line c ≡ Some line → Gives o (says line 1) → Keeps old now
+        → RenamesFrom pages old now o
+    not_blank_from : {o : Outcome} (name : List ℕ) (p : ℕ) → shown_name word ≡ Some name
+        → IsRenameError s k agrees av id name (error.NotBlank p) → Gives o (says (not_blank_line p) 1) → Keeps old now
+        → RenamesFrom pages old now o
 
   -- why it answers nothing: memory ran out, and the writer received nothing; or a read or a write failed, and it received
   -- the first of what the plan leaves
@@ -69,13 +76,13 @@ module _ (id : ℕ) (word : List ℕ) (stop : Option ℕ) (s : Sizes) (k : Sourc
   IsRenameFault old now tool.Memory = Keeps old now
   IsRenameFault old now tool.Read =
       Keeps old now
-      ⊎ ((name : List ℕ) × (steps : List Step) × (shown_name word ≡ Some name) × IsPlannedRename s k agrees id name steps
+      ⊎ ((name : List ℕ) × (steps : List Step) × (shown_name word ≡ Some name) × IsPlannedRename s k agrees av id name steps
       × IsCarryFault s agrees steps (steps_done steps stop) old now tool.Read)
   IsRenameFault old now tool.Write =
-      (name : List ℕ) × (steps : List Step) × (shown_name word ≡ Some name) × IsPlannedRename s k agrees id name steps
+      (name : List ℕ) × (steps : List Step) × (shown_name word ≡ Some name) × IsPlannedRename s k agrees av id name steps
       × IsCarryFault s agrees steps (steps_done steps stop) old now tool.Write
 
 -- a rename of a source to the name that a word shows is planned
-abbrev pub HasRename : ℕ → List ℕ → Sizes → Source → Agreed → Type 0
-HasRename id word s k agrees =
-    (name : List ℕ) × (steps : List Step) × (shown_name word ≡ Some name) × IsPlannedRename s k agrees id name steps
+abbrev pub HasRename : Avoided → ℕ → List ℕ → Sizes → Source → Agreed → Type 0
+HasRename av id word s k agrees =
+    (name : List ℕ) × (steps : List Step) × (shown_name word ≡ Some name) × IsPlannedRename s k agrees av id name steps

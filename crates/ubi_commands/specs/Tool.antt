@@ -1,9 +1,13 @@
 -- The command line: which commands there are, and which words each takes.
-use Rattle.std.specs.Prelude.{◌≡◌, ◌∷◌, ◌++◌, [], List, Option, Some, codes, is_some, not, pos, true, false}
+use Rattle.std.specs.Prelude.{◌≡◌, ◌∷◌, ◌++◌, [], Bool, List, Option, Some, codes, is_some, not, pos, true, false}
+use Rattle.std.specs.List.{list_any}
+use Rattle.std.specs.Option.{ForSome}
+use Rattle.std.specs.Str.{bytes_eq}
 use Rattle.clap.specs.Faults.{fault_of}
 use Rattle.clap.specs.Simple.{App, Shape, new_rule, new_shape, subcommand_of}
 use Rattle.clap.specs.Walk.{Row, Rule, Text, first_of}
 use Rattle.clap.specs.declared.builder.value_parser.ValueParser.TheVariants as parser
+use Rattle.ubi_commands.specs.BadBlocks.{is_block_list}
 use Rattle.ubi_commands.specs.CommandLine.{IsRequest}
 use Rattle.ubi_commands.specs.declared.requests.Request.{Request}
 
@@ -40,9 +44,13 @@ command name rules = record (new_shape name) { rules = numbers ++ rules }
 abbrev pub image_file : Rule
 image_file = needed (new_rule (codes "IMAGE"))
 
--- one over an image file
+-- the option that lists bad eraseblocks
+abbrev pub bad_list : Rule
+bad_list = option (codes "bad")
+
+-- one over an image file, whose bad eraseblocks may be listed
 abbrev pub on_image : Text → List Rule → Shape
-on_image name rules = command name (image_file ∷ rules)
+on_image name rules = command name (image_file ∷ bad_list ∷ rules)
 
 -- `geometry`, over an image alone
 abbrev pub geometry : Shape
@@ -88,16 +96,20 @@ normalise = on_image (codes "normalise") (output ∷ [])
 abbrev pub same : Shape
 same = on_image (codes "same") (needed (record (new_rule (codes "OTHER")) { value_names = 1 }) ∷ [])
 
--- `change`, over an image, with the file to write, the volume, the LEB and the file of its bytes, and the steps to do
--- if given
+-- the options of a plan, all of which may be left out: the steps to do, what is said of Blank eraseblocks, and the file for the
+-- pages
+abbrev pub plan_options : List Rule
+plan_options = number (codes "stop") ∷ option (codes "blank") ∷ option (codes "pages") ∷ []
+
+-- `change`, over an image, with the file to write, the volume, the LEB and the file of its bytes
 abbrev pub change : Shape
 change =
     on_image (codes "change")
-    (output ∷ volume ∷ needed (number (codes "lnum")) ∷ needed (option (codes "from")) ∷ number (codes "stop") ∷ [])
+    (output ∷ volume ∷ needed (number (codes "lnum")) ∷ needed (option (codes "from")) ∷ plan_options)
 
--- `rename`, over an image, with the file to write, the volume and its name, and the steps to do if given
+-- `rename`, over an image, with the file to write, the volume and its name
 abbrev pub rename : Shape
-rename = on_image (codes "rename") (output ∷ volume ∷ needed (option (codes "name")) ∷ number (codes "stop") ∷ [])
+rename = on_image (codes "rename") (output ∷ volume ∷ needed (option (codes "name")) ∷ plan_options)
 
 -- the program: it has a version, and a command has to be named
 unfoldable pub tool : App
@@ -111,10 +123,34 @@ abbrev pub HasOneVolume : Option (Text × List Row) → Type 0
 HasOneVolume named = (words : List Row) → named ≡ Some (codes "extract", words)
     → is_some (first_of (codes "name") words) ≡ not (is_some (first_of (codes "id") words))
 
--- the command line takes the words, the program's name first: nothing is wrong with them, they ask for no help, and those of
--- `extract` name one volume
+-- the commands that read no dump as the words list its bad eraseblocks
+abbrev pub reads_dump : Text → Bool
+reads_dump name = not (list_any (bytes_eq name) (codes "geometry" ∷ codes "compose" ∷ codes "build" ∷ []))
+
+-- of the words of a command over a dump, what lists bad eraseblocks is a list
+abbrev pub HasBlockList : Option (Text × List Row) → Type 0
+HasBlockList named = (name : Text) (words : List Row) → named ≡ Some (name, words) → reads_dump name ≡ true
+    → ForSome (first_of (codes "bad") words) (λ list. is_block_list list ≡ true)
+
+-- the commands that plan
+abbrev pub plans : Text → Bool
+plans name = list_any (bytes_eq name) (codes "change" ∷ codes "rename" ∷ [])
+
+-- of the words of a command that plans, what is said of Blank eraseblocks is that they are kept
+abbrev pub HasBlankWord : Option (Text × List Row) → Type 0
+HasBlankWord named = (name : Text) (words : List Row) → named ≡ Some (name, words) → plans name ≡ true
+    → ForSome (first_of (codes "blank") words) (λ word. word ≡ codes "keep")
+
+-- the words say what their command can do, beside what the command line knows
+pub record Mean (named : Option (Text × List Row)) : Type 0 where
+  pub volume : HasOneVolume named
+  pub list : HasBlockList named
+  pub blank : HasBlankWord named
+
+-- the command line takes the words, the program's name first: nothing is wrong with them, they ask for no help, those of
+-- `extract` name one volume, what lists bad eraseblocks is a list, and `--blank` has the word `keep`
 abbrev pub Takes : List Text → Type 0
-Takes words = (fault_of tool words ≡ []) × HasOneVolume (subcommand_of tool words)
+Takes words = (fault_of tool words ≡ []) × Mean (subcommand_of tool words)
 
 -- the words are taken, and are this request
 abbrev pub Requests : List Text → Request → Type 0

@@ -1,11 +1,11 @@
 //! The command `build`: the image of a config, and of the files that it names.
 
-ghost use Rattle.std.specs.Prelude.{◌≡◌, ◌+◌, ◌≤◌, ◌⊎◌, ◌∷◌, [], ℕ, Contains, Err, IfErr, IfOk, IsOk, IsSome, List, None, Ok, OnErr, map, sum_by, vec_capacity, vec_len};
+ghost use Rattle.std.specs.Prelude.{◌≡◌, ◌+◌, ◌≤◌, ◌⊎◌, ◌∷◌, [], ℕ, Contains, Err, IfErr, IfOk, IsOk, IsSome, List, None, Ok, OnErr, false, map, sum_by, vec_capacity, vec_len};
 ghost use Rattle.ubi_compose.specs.Building.{WhereNotBegun};
 ghost use Rattle.ubi_config.specs.Config.{first_fault, sections_of};
 ghost use Rattle.ubi_config.specs.declared.section.Section.{Section};
 ghost use Rattle.ubi_commands.specs.Build.{AreUnread, Builds, BuildsParts, numbered};
-ghost use Rattle.ubi_commands.specs.Disk.{AllStay, OthersStay, fresh};
+ghost use Rattle.ubi_commands.specs.Disk.{AllStay, OthersStay, Stays, fresh};
 ghost use Rattle.ubi_commands.specs.Late.{contents_of};
 ghost use Rattle.ubi_commands.specs.Program.{OfText};
 ghost use Rattle.ubi_commands.specs.Row.{row_bytes};
@@ -41,6 +41,8 @@ struct Answers {
     unread_else: Outcome,
     /// Where the output can't be written.
     unwritten: Outcome,
+    /// Whether the output may be opened: not so where it may be the config.
+    may_open: bool,
 }
 
 /// The line at a place, or another where there is none.
@@ -72,7 +74,7 @@ fn finished<D: Disk, K: Target>(
 ) -> Result<u64, BuildError>
     ensures done { IfOk result (λ n. (work ≡ Ok n) × IsSome late.new.file) }
     ensures failed { IfErr result (λ e. (work ≡ Err e) ⊎ ((n : ℕ) × (e ≡ BuildError.Write n))) }
-    ensures contents { contents_of K.empty (λ f. D.Output.contents f.writer) late.new.file ≡ contents_of K.empty (λ f. D.Output.contents f.writer) late.old.file }
+    ensures contents { contents_of (fresh K.files) (λ f. D.Output.contents f.writer) late.new.file ≡ contents_of (fresh K.files) (λ f. D.Output.contents f.writer) late.old.file }
     ensures untouched { IfErr result (WhereNotBegun (late.new.file ≡ late.old.file)) }
 {
     let count = work?;
@@ -104,6 +106,7 @@ fn told(
         unread,
         unread_else,
         unwritten,
+        ..
     } = answers;
     match end {
         Ok(count) => {
@@ -121,33 +124,35 @@ fn told(
     }
 }
 
-/// Builds the image of a recipe into a file, which is opened at the first write.
-fn build_into<D: Disk, K: Target>(
-    disk: &mut D,
+/// Builds the image of a recipe into a file, which is opened at the first write. Gives the disk back.
+fn build_into<'a, D: Disk, K: Target>(
+    disk: &'a mut D,
     alloc: Global,
     recipe: &Recipe,
     source: &mut FileSource<FileRow<D::Placed>>,
-    unread: Vec<Outcome>,
+    answers: Answers,
     asked: &NewImage<'_>,
-) -> Result<Outcome, AllocError>
+    outcome: &mut Result<Outcome, AllocError>,
+) -> &'a mut D
+    requires same { disk.ghost_name ≡ K.disk }
     requires named { asked.now.out.now ≡ K.path }
-    requires empty { fresh (D.files disk.old) ≡ K.empty }
-    ensures answer { (sections : List Section) → AreUnread asked.now.from.now sections unread.items → IfOk result (BuildsParts (D.files disk.old) (D.files disk.new) asked.now.from.now asked.now.out.now sections recipe.now (row_bytes (map (λ f. D.Placed.bytes f.file) source.old.file.files.items)) asked.now.spares) }
-    ensures others { OthersStay (D.files disk.old) (D.files disk.new) asked.now.out.now }
-    ensures memory { OnErr result (AllStay (D.files disk.old) (D.files disk.new)) }
+    requires files { D.files disk.old ≡ K.files }
+    requires allowed { answers.may_open ≡ K.may_open }
+    requires empty { answers.line.items ≡ [] }
+    requires room { vec_len answers.line + 28 ≤ vec_capacity answers.line }
+    ensures same { result.ghost_name ≡ K.disk }
+    ensures answer { (sections : List Section) → AreAnswers asked.now.from.now asked.now.out.now sections answers → IfOk outcome.new (BuildsParts K.files (D.files result.now) asked.now.from.now asked.now.out.now sections recipe.now (row_bytes (map (λ f. D.Placed.bytes f.file) source.old.file.files.items)) asked.now.spares) }
+    ensures others { OthersStay K.files (D.files result.now) asked.now.out.now }
+    ensures shut { K.may_open ≡ false → D.files result.now ≡ K.files }
+    ensures memory { OnErr outcome.new (AllStay K.files (D.files result.now)) }
 {
-    let answers = Answers {
-        line: Vec::with_capacity(alloc, LONGEST_COUNT_LINE)?,
-        unread,
-        unread_else: unread_line(alloc, asked.from)?,
-        unwritten: unwritten_line(alloc, asked.out)?,
-    };
-    let mut late: LateFile<'_, '_, D, K> = LateFile::new(disk, asked.out);
+    let mut late: LateFile<'a, '_, D, K> = LateFile::new(disk, asked.out, answers.may_open);
     let work = build_to(alloc, recipe, asked.spares, source, &mut late);
     let end = finished(work, &mut late);
-    let file = late.into_file();
+    let (disk, file) = late.into_parts();
     keep_file(disk, file);
-    told(alloc, recipe, end, answers)
+    *outcome = told(alloc, recipe, end, answers);
+    disk
 }
 
 /// Builds the image of the volumes that sections come to.
@@ -161,6 +166,7 @@ fn build_gathered<D: Disk>(
     requires total { gathered.total ≡ sum_by (λ x. x.len) gathered.files.items }
     ensures answer { (sections : List Section) → AreUnread asked.now.from.now sections gathered.unread.items → IfOk result (BuildsParts (D.files disk.old) (D.files disk.new) asked.now.from.now asked.now.out.now sections (numbered geometry.now asked.now.image_seq gathered.parts.items) (row_bytes (map (λ f. D.Placed.bytes f.file) gathered.files.items)) asked.now.spares) }
     ensures others { OthersStay (D.files disk.old) (D.files disk.new) asked.now.out.now }
+    ensures from { Stays (D.files disk.old) (D.files disk.new) asked.now.from.now }
     ensures memory { OnErr result (AllStay (D.files disk.old) (D.files disk.new)) }
 {
     let Gathered {
@@ -177,7 +183,24 @@ fn build_gathered<D: Disk>(
         Err(RecipeError::Memory) => return Err(AllocError),
     };
     let mut source = FileSource::of(FileRow::new(files), total);
-    build_into::<D, Brand>(disk, alloc, &recipe, &mut source, unread, asked)
+    let answers = Answers {
+        line: Vec::with_capacity(alloc, LONGEST_COUNT_LINE)?,
+        unread,
+        unread_else: unread_line(alloc, asked.from)?,
+        unwritten: unwritten_line(alloc, asked.out)?,
+        may_open: !disk.may_be_one(asked.from, asked.out),
+    };
+    let mut outcome = Err(AllocError);
+    let _ = build_into::<D, Brand>(
+        disk,
+        alloc,
+        &recipe,
+        &mut source,
+        answers,
+        asked,
+        &mut outcome,
+    );
+    outcome
 }
 
 /// Builds the image of the sections of a config.
@@ -190,6 +213,7 @@ fn build_sections<D: Disk>(
 ) -> Result<Outcome, AllocError>
     ensures answer { (text : List ℕ) → first_fault text ≡ None → sections.now ≡ sections_of text → IfOk result (Builds (D.files disk.old) (D.files disk.new) asked.now.from.now asked.now.out.now geometry.now text asked.now.spares asked.now.image_seq) }
     ensures others { OthersStay (D.files disk.old) (D.files disk.new) asked.now.out.now }
+    ensures from { Stays (D.files disk.old) (D.files disk.new) asked.now.from.now }
     ensures memory { OnErr result (AllStay (D.files disk.old) (D.files disk.new)) }
 {
     let paths = ConfigPaths {
@@ -212,6 +236,7 @@ pub fn build_file<D: Disk>(
 ) -> Result<Outcome, AllocError>
     ensures answer { IfOk result (OfText (D.files disk.old) numbers asked.now.from.now (λ s t. Builds (D.files disk.old) (D.files disk.new) asked.now.from.now asked.now.out.now s t asked.now.spares asked.now.image_seq)) }
     ensures others { OthersStay (D.files disk.old) (D.files disk.new) asked.now.out.now }
+    ensures from { Stays (D.files disk.old) (D.files disk.new) asked.now.from.now }
     ensures memory { OnErr result (AllStay (D.files disk.old) (D.files disk.new)) }
 {
     let file = match load_spec(disk, alloc, numbers, asked.from) {

@@ -1,6 +1,6 @@
 //! The command `change`: the plan of an atomic change of an image, and the image after its first steps.
 
-ghost use Rattle.std.specs.Prelude.{◌≡◌, IfErr, IfOk, Some};
+ghost use Rattle.std.specs.Prelude.{◌≡◌, [], IfErr, IfOk, Some};
 ghost use Rattle.ubi_scan.specs.Image.{image_of};
 ghost use Rattle.ubi_scan.specs.Source.{Narrows};
 ghost use Rattle.ubi_commands.specs.AfterRun.{WhereNotDone, after_run};
@@ -8,10 +8,10 @@ ghost use Rattle.ubi_commands.specs.Change.{Changes, ChangesFrom, IsChangeFault,
 
 use crate::lines::refused;
 use crate::outcome::{FAILED, Outcome, ToolError};
-use crate::plan::{carry_out, with_file};
+use crate::plan::{carry_out, not_blank_line, with_file};
 use std::alloc::{AllocError, Global};
 use std::io::Write;
-use ubi_change::{ChangeRefusal, PlanError, plan_change_from};
+use ubi_change::{Avoided, ChangeRefusal, PlanError, plan_change_from};
 use ubi_media::Geometry;
 use ubi_scan::{BlockSource, MemorySource};
 
@@ -40,9 +40,10 @@ pub struct NewBytes<'a> {
     pub bytes: &'a [u8],
 }
 
-/// Plans the change of a logical eraseblock of a dynamic volume of a source: answers the lines of all steps, and writes the
-/// image after the first `stop` of them, or after all where there are no more or `stop` is left out. At most an eraseblock
-/// of contents is held.
+/// Plans the change of a logical eraseblock of a dynamic volume of a source, which touches none of the eraseblocks that are
+/// to be avoided: answers the lines of all steps, writes the image after the first `stop` of them, or after all where there
+/// are no more or `stop` is left out, and adds the pages that these program to `pages`. At most an eraseblock of contents is
+/// held.
 ///
 /// Where no change can be planned, the line of its first cause is answered, and nothing is written. What is written is
 /// accepted as an image whatever `stop` is, and means the old or the new.
@@ -55,18 +56,31 @@ pub fn run_change_from<S: BlockSource, W: Write>(
     alloc: Global,
     geometry: &Geometry,
     source: &mut S,
+    avoided: &Avoided<'_>,
     new: &NewBytes<'_>,
     stop: Option<u32>,
     writer: &mut W,
+    pages: &mut Vec<u8>,
 ) -> Result<Outcome, ToolError>
+    requires { pages.old.items ≡ [] }
     ensures known { S.known source.new ≡ after_run (S.known source.old) result }
     ensures narrows { Narrows (S.agrees source.old) (S.agrees source.new) }
-    ensures ok { IfOk result (ChangesFrom new.now.id new.now.lnum new.now.bytes.now stop geometry.now (S.known source.old) (S.agrees source.new) (W.contents writer.old) (W.contents writer.new)) }
+    ensures ok { IfOk result (ChangesFrom avoided.now new.now.id new.now.lnum new.now.bytes.now stop geometry.now (S.known source.old) (S.agrees source.new) pages.new.items (W.contents writer.old) (W.contents writer.new)) }
     ensures untouched { WhereNotDone (writer.new ≡ writer.old) result }
-    ensures err { IfErr result (IsChangeFault new.now.id new.now.lnum new.now.bytes.now stop geometry.now (S.known source.old) (S.agrees source.new) (W.contents writer.old) (W.contents writer.new)) }
+    ensures err { IfErr result (IsChangeFault avoided.now new.now.id new.now.lnum new.now.bytes.now stop geometry.now (S.known source.old) (S.agrees source.new) (W.contents writer.old) (W.contents writer.new)) }
 {
-    match plan_change_from(alloc, geometry, source, new.id, new.lnum, new.bytes) {
-        Ok(steps) => carry_out(alloc, geometry, source, steps.as_slice(), stop, writer),
+    let NewBytes { id, lnum, bytes } = *new;
+    match plan_change_from(alloc, geometry, source, avoided, id, lnum, bytes) {
+        Ok(steps) => carry_out(
+            alloc,
+            geometry,
+            source,
+            steps.as_slice(),
+            stop,
+            writer,
+            pages,
+        ),
+        Err(PlanError::NotBlank(p)) => Ok(Outcome::saying(not_blank_line(alloc, p)?, FAILED)),
         Err(PlanError::Refused(cause)) => { Ok(Outcome::saying(cause_line(alloc, cause)?, FAILED)) }
         Err(PlanError::Read(_)) => Err(ToolError::Read),
     }
@@ -99,6 +113,17 @@ pub fn run_change(
     };
     let mut file = Vec::new(alloc);
     let mut source = MemorySource::new(image);
-    let work = run_change_from(alloc, geometry, &mut source, &new, stop, &mut file);
+    let nothing = Avoided::new(&[], false);
+    let mut pages = Vec::new(alloc);
+    let work = run_change_from(
+        alloc,
+        geometry,
+        &mut source,
+        &nothing,
+        &new,
+        stop,
+        &mut file,
+        &mut pages,
+    );
     with_file(work, file)
 }

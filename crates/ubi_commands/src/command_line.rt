@@ -2,7 +2,7 @@
 
 ghost use Rattle.std.specs.Prelude.{◌≡◌, ◌∷◌, [], IfOk, codes, false};
 ghost use Rattle.clap.specs.Built.{subcommand_names};
-ghost use Rattle.clap.specs.Simple.{app_of, new_rule, new_shape};
+ghost use Rattle.clap.specs.Simple.{App, app_of, new_rule, new_shape, with_rule};
 ghost use Rattle.clap.specs.Walk.{Text, rule_of};
 ghost use Rattle.ubi_commands.specs.CommandLine.{command_names};
 ghost use Rattle.ubi_commands.specs.Tool as tool;
@@ -237,7 +237,38 @@ fn change_command<'a>(alloc: Global) -> Result<Command<'a>, AllocError>
     let command = command.arg(number(alloc, "id", ID).required(true))?;
     let command = command.arg(number(alloc, "lnum", LNUM).required(true))?;
     let command = command.arg(new_bytes(alloc))?;
-    command.arg(number(alloc, "stop", STOP))
+    with_plan(alloc, command)
+}
+
+/// Adds the options of a plan to a command.
+fn with_plan<'a>(alloc: Global, command: Command<'a>) -> Result<Command<'a>, AllocError>
+    ensures { IfOk result (λ c. (x : App) → app_of command.entry ≡ x → app_of c ≡ with_rule (with_rule (with_rule x (tool.number (codes "stop"))) (tool.option (codes "blank"))) (tool.option (codes "pages"))) }
+{
+    let command = command.arg(number(alloc, "stop", STOP))?;
+    let command = command.arg(blank_word(alloc))?;
+    command.arg(pages_file(alloc))
+}
+
+/// The option that says what becomes of Blank eraseblocks.
+fn blank_word<'a>(alloc: Global) -> Arg<'a>
+    ensures rule { rule_of result ≡ tool.option (codes "blank") }
+    ensures global { result.global ≡ false }
+{
+    Arg::new(alloc, "blank")
+        .long("blank")
+        .value_name("keep")
+        .help("Take no blank eraseblock [default: blank ones are taken]")
+}
+
+/// The option that names the file for the programmed pages.
+fn pages_file<'a>(alloc: Global) -> Arg<'a>
+    ensures rule { rule_of result ≡ tool.option (codes "pages") }
+    ensures global { result.global ≡ false }
+{
+    Arg::new(alloc, "pages")
+        .long("pages")
+        .value_name("FILE")
+        .help("File to write the programmed pages to, in the order of the plan")
 }
 
 /// The option that names the file of the new bytes.
@@ -258,7 +289,7 @@ fn rename_command<'a>(alloc: Global) -> Result<Command<'a>, AllocError>
     let command = out_command(alloc, "rename", RENAME)?;
     let command = command.arg(number(alloc, "id", ID).required(true))?;
     let command = command.arg(new_name(alloc))?;
-    command.arg(number(alloc, "stop", STOP))
+    with_plan(alloc, command)
 }
 
 /// The option that gives the new name.
@@ -302,7 +333,18 @@ fn image_command<'a>(
     ensures { IfOk result (λ c. app_of c ≡ alone (tool.on_image name.now [])) }
 {
     let command = device_command(alloc, name, about)?;
-    command.arg(image_file(alloc))
+    let command = command.arg(image_file(alloc))?;
+    command.arg(bad_list(alloc))
+}
+
+/// The option that lists bad eraseblocks.
+fn bad_list<'a>(alloc: Global) -> Arg<'a>
+    ensures rule { rule_of result ≡ tool.bad_list }
+    ensures global { result.global ≡ false }
+{
+    Arg::new(alloc, "bad").long("bad").value_name("LIST").help(
+        "Bad eraseblocks, as 3,9,28-31: they read 0xFF [default: none]",
+    )
 }
 
 /// The word that names the image file.

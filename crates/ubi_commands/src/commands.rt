@@ -4,21 +4,22 @@ ghost use Rattle.clap.specs.Values.{kind_of};
 ghost use Rattle.std.specs.Prelude.{◌≡◌, ◌↔◌, [], IfOk, IfSome, IsErr, None, OnErr, map, string_bytes};
 ghost use Rattle.ubi_commands.specs.Answer.{Gives, says};
 ghost use Rattle.ubi_commands.specs.Compose.{ComposesInto};
-ghost use Rattle.ubi_commands.specs.Disk.{AllStay, OthersStay};
+ghost use Rattle.ubi_commands.specs.Disk.{AllStay, OthersStay, Stays};
 ghost use Rattle.ubi_commands.specs.Program.{IsAllElse, IsAnswer, IsAnswerTo, OfText};
 
 use crate::build::build_file;
 use crate::command_line::tool_command;
 use crate::compose::run_compose;
 use crate::disk::Disk;
-use crate::numbers::{GREATEST, Numbers};
-use crate::outcome::{Outcome, WRONG_WORDS};
+use crate::numbers::Numbers;
+use crate::outcome::{Outcome, nothing};
 use crate::output_file::write_outcome;
+use crate::planners::{change_file, rename_file};
 use crate::readers::{Checking, Detecting, Listing, Showing, read_file, same_files};
-use crate::requests::{NewImage, Request, request_of};
+use crate::requests::{GREATEST_DUMP, NewImage, Request, request_of, why_unasked};
 use crate::spec_file::load_spec;
 use crate::unpack::unpack_file;
-use crate::writers::{Extracting, Normalising, change_file, rename_file, write_file};
+use crate::writers::{Extracting, Normalising, write_file};
 use clap::Error;
 use clap::error::ErrorKind;
 use std::alloc::{AllocError, Global};
@@ -45,20 +46,16 @@ pub fn run_words<D: Disk + Eprint>(
         Ok(matches) => matches,
         Err(error) => return wrong_words(disk, alloc, &error),
     };
-    run_asked(disk, alloc, request_of(&matches), is_watched)
+    let reason = why_unasked(&matches);
+    run_asked(disk, alloc, request_of(&matches), reason, is_watched)
 }
 
-/// What is wrong with words that the command line reads, and that ask for nothing.
-const ONE_VOLUME: &str = "error: either '--id <N>' or '--name <NAME>' names the volume, and not both
-
-For more information, try '--help'.
-";
-
-/// Runs what the words ask for. Where they name no volume to extract, or two, that is printed to standard error.
+/// Runs what the words ask for. Where they ask for nothing, the reason is printed to standard error.
 fn run_asked<D: Disk + Eprint>(
     disk: &mut D,
     alloc: Global,
     request: Option<Request<'_>>,
+    reason: &str,
     is_watched: bool,
 ) -> Result<Outcome, AllocError>
     ensures none { request.entry ≡ None → IfOk result (λ o. Gives o (says [] 2) × AllStay (D.files disk.old) (D.files disk.new)) }
@@ -68,7 +65,7 @@ fn run_asked<D: Disk + Eprint>(
     match request {
         Some(request) => run_request(disk, alloc, request, is_watched),
         None => {
-            let _ = disk.eprint(ONE_VOLUME);
+            let _ = disk.eprint(reason);
             Ok(nothing(alloc))
         }
     }
@@ -86,31 +83,25 @@ fn run_request<D: Disk + Eprint>(
     ensures memory { OnErr result (AllStay (D.files disk.old) (D.files disk.new)) }
 {
     match request {
-        Request::Geometry { image } => read_file(disk, alloc, GREATEST, image, &Detecting),
-        Request::List { numbers, image } => read_file(disk, alloc, numbers, image, &Listing),
-        Request::Check { numbers, image } => read_file(disk, alloc, numbers, image, &Checking),
-        Request::Show {
-            numbers,
-            image,
-            block,
-        } => read_file(disk, alloc, numbers, image, &Showing { block }),
-        Request::Extract { numbers, extract } => {
-            let command = Extracting { key: extract.key };
-            write_file(disk, alloc, numbers, &extract.paths, &command, false)
+        Request::Geometry { image } => read_file(disk, alloc, &GREATEST_DUMP, image, &Detecting),
+        Request::List { dump, image } => read_file(disk, alloc, &dump, image, &Listing),
+        Request::Check { dump, image } => read_file(disk, alloc, &dump, image, &Checking),
+        Request::Show { dump, image, block } => {
+            read_file(disk, alloc, &dump, image, &Showing { block })
         }
-        Request::Unpack { numbers, paths } => unpack_file(disk, alloc, numbers, &paths),
+        Request::Extract { dump, extract } => {
+            let command = Extracting { key: extract.key };
+            write_file(disk, alloc, &dump, &extract.paths, &command, false)
+        }
+        Request::Unpack { dump, paths } => unpack_file(disk, alloc, &dump, &paths),
         Request::Compose { numbers, new } => compose_file(disk, alloc, numbers, &new),
         Request::Build { numbers, new } => build_file(disk, alloc, numbers, &new),
-        Request::Normalise { numbers, paths } => {
-            write_file(disk, alloc, numbers, &paths, &Normalising, is_watched)
+        Request::Normalise { dump, paths } => {
+            write_file(disk, alloc, &dump, &paths, &Normalising, is_watched)
         }
-        Request::Same {
-            numbers,
-            left,
-            right,
-        } => same_files(disk, alloc, numbers, left, right),
-        Request::Change { numbers, change } => change_file(disk, alloc, numbers, &change),
-        Request::Rename { numbers, rename } => rename_file(disk, alloc, numbers, &rename),
+        Request::Same { dump, left, right } => same_files(disk, alloc, &dump, left, right),
+        Request::Change { dump, change } => change_file(disk, alloc, &dump, &change),
+        Request::Rename { dump, rename } => rename_file(disk, alloc, &dump, &rename),
     }
 }
 
@@ -123,6 +114,7 @@ fn compose_file<D: Disk>(
 ) -> Result<Outcome, AllocError>
     ensures answer { IfOk result (OfText (D.files disk.old) numbers asked.now.from.now (λ s t. ComposesInto asked.now.out.now (D.files disk.old) (D.files disk.new) s t asked.now.spares asked.now.image_seq)) }
     ensures others { OthersStay (D.files disk.old) (D.files disk.new) asked.now.out.now }
+    ensures from { Stays (D.files disk.old) (D.files disk.new) asked.now.from.now }
     ensures memory { OnErr result (AllStay (D.files disk.old) (D.files disk.new)) }
 {
     let file = match load_spec(disk, alloc, numbers, asked.from) {
@@ -131,7 +123,7 @@ fn compose_file<D: Disk>(
     };
     let text = file.text.as_slice();
     let outcome = run_compose(alloc, &file.geometry, text, asked.spares, asked.image_seq)?;
-    write_outcome(disk, alloc, outcome, asked.out)
+    write_outcome(disk, alloc, outcome, asked.out, asked.from)
 }
 
 /// Prints to standard error what is wrong with the words.
@@ -148,11 +140,4 @@ fn wrong_words<R: Eprint>(rt: &R, alloc: Global, error: &Error) -> Result<Outcom
     }
     let _ = rt.eprint(error);
     Ok(nothing(alloc))
-}
-
-/// Nothing to print, for wrong words.
-fn nothing(alloc: Global) -> Outcome
-    ensures { Gives result (says [] 2) }
-{
-    Outcome::saying(Vec::new(alloc), WRONG_WORDS)
 }

@@ -1,13 +1,13 @@
 //! Files by their paths, as the commands see them.
 
-ghost use Rattle.std.specs.Prelude.{◌≡◌, ◌≢◌, IfErr, IfOk, IfSome};
-ghost use Rattle.ubi_commands.specs.Disk.{Files, IsKept, fresh};
+ghost use Rattle.std.specs.Prelude.{◌≡◌, ◌≢◌, IfErr, IfOk, IfSome, None, OnErr, true};
+ghost use Rattle.ubi_commands.specs.Disk.{Files, IsKept, OthersStay, fresh};
 
 use crate::file_row::SizedFile;
 use crate::outcome::ToolError;
 use std::io;
 use std::io::{Read, Write};
-use ubi_scan::{FileSource, PlacedFile};
+use ubi_scan::PlacedFile;
 
 /// A file that is read from its beginning to its end.
 #[derive(Drop)]
@@ -57,23 +57,26 @@ pub trait Disk {
     // What is known of the files.
     ghost files: { Self → Files };
 
-    /// A source over the file at a path; or none where that is to be read whole, since it can't be read at places.
-    fn source_at(&self, path: &str) -> Option<FileSource<Self::Placed>>
-        ensures unread { IfSome result (λ s. s.failures ≡ 0) }
-        ensures named { IfSome result (λ s. Self.Placed.bytes s.file ≡ (files self.now).holds path.now) };
+    // Whether it is known what files receive doesn't change.
+    ghost same_telling: { (a b : Self) → (files a).tells ≡ (files b).tells };
 
-    /// A source over the file at a path, to be read while the file at `out` is written; or none where that is to be read
-    /// whole, since it can't be read at places, or both may be one file.
-    fn source_beside(&self, path: &str, out: &str) -> Option<FileSource<Self::Placed>>
-        ensures unread { IfSome result (λ s. s.failures ≡ 0) }
-        ensures named { IfSome result (λ s. Self.Placed.bytes s.file ≡ (files self.now).holds path.now) }
-        ensures apart { IfSome result (λ _. path.now ≢ out.now) };
+    /// The file at a path, to be read at places; or none where it can't be read so.
+    fn placed_at(&self, path: &str) -> Option<SizedFile<Self::Placed>>
+        ensures { IfSome result (λ f. Self.Placed.bytes f.file ≡ (files self.now).holds path.now) };
 
     /// The file at a path, to be read at places while the file at `out` is written; or none where it can't be read so, or both
     /// may be one file.
-    fn sized_beside(&self, path: &str, out: &str) -> Option<SizedFile<Self::Placed>>
+    fn placed_beside(&self, path: &str, out: &str) -> Option<SizedFile<Self::Placed>>
         ensures named { IfSome result (λ f. Self.Placed.bytes f.file ≡ (files self.now).holds path.now) }
         ensures apart { IfSome result (λ _. path.now ≢ out.now) };
+
+    /// Whether what is written to the second path may be written into the file at the first.
+    fn may_be_one(&self, path: &str, other: &str) -> bool
+        ensures { path.now ≡ other.now → result ≡ true };
+
+    /// Whether there is a device at a path whose bad eraseblocks may read anything.
+    fn is_flash(&self, path: &str) -> bool
+        ensures { result ≡ true → (files self.now).holds path.now ≡ None };
 
     /// Opens the file at a path, to be read from its beginning to its end.
     ///
@@ -84,23 +87,27 @@ pub trait Disk {
         ensures named { IfOk result (λ f. IfSome ((files self.now).holds path.now) (λ all. Self.Reader.remaining f.reader ≡ Some all)) }
         ensures err { IfErr result (λ e. e ≡ ToolError.Read) };
 
-    /// Opens the file at a path anew: what it held is lost.
+    /// Opens the file at a path anew: what it held is lost, and nothing is known of it until [`keep`](Self::keep) closes it.
     ///
     /// # Errors
     ///
-    /// It can't be opened.
-    fn create<'p>(&self, path: &'p str) -> io::Result<OutputFile<'p, Self::Output>>
+    /// It can't be opened, and holds what it held.
+    fn create<'p>(&mut self, path: &'p str) -> io::Result<OutputFile<'p, Self::Output>>
         ensures path { IfOk result (λ f. f.path.now ≡ path.now) }
-        ensures fresh { IfOk result (λ f. Self.Output.contents f.writer ≡ fresh (files self.now)) };
+        ensures fresh { IfOk result (λ f. Self.Output.contents f.writer ≡ fresh (files self.old)) }
+        ensures others { OthersStay (files self.old) (files self.new) path.now }
+        ensures unopened { OnErr result (files self.new ≡ files self.old) };
 
-    /// Makes the file at a path, where there is none yet.
+    /// Makes the file at a path, where there is none yet. Nothing is known of it until [`keep`](Self::keep) closes it.
     ///
     /// # Errors
     ///
-    /// There is something at the path, or it can't be made.
-    fn create_new<'p>(&self, path: &'p str) -> io::Result<OutputFile<'p, Self::Output>>
+    /// There is something at the path, or it can't be made. The path holds what it held.
+    fn create_new<'p>(&mut self, path: &'p str) -> io::Result<OutputFile<'p, Self::Output>>
         ensures path { IfOk result (λ f. f.path.now ≡ path.now) }
-        ensures fresh { IfOk result (λ f. Self.Output.contents f.writer ≡ fresh (files self.now)) };
+        ensures fresh { IfOk result (λ f. Self.Output.contents f.writer ≡ fresh (files self.old)) }
+        ensures others { OthersStay (files self.old) (files self.new) path.now }
+        ensures unopened { OnErr result (files self.new ≡ files self.old) };
 
     /// Makes the folder at a path, or finds that there is one without files.
     ///

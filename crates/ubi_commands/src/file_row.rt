@@ -27,6 +27,13 @@ impl<F: PlacedFile> SizedFile<F> {
         SizedFile { file, len }
     }
 
+    /// The file.
+    pub fn file(&self) -> &F
+        ensures { result.now ≡ self.now.file }
+    {
+        &self.file
+    }
+
     /// How many bytes it has.
     pub fn len(&self) -> u64
         ensures { result ≡ self.now.len }

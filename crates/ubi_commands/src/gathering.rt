@@ -82,7 +82,7 @@ fn find_image<D: Disk>(
     };
     let path = Path::new(paths.config).with_file_name(alloc, image)?;
     let unread = unread_line(alloc, path.as_str())?;
-    match disk.sized_beside(path.as_str(), paths.out) {
+    match disk.placed_beside(path.as_str(), paths.out) {
         Some(file) => Ok(Found {
             file: Some(file),
             unread,

@@ -5,7 +5,7 @@ ghost use Rattle.std.specs.Prelude.{◌≡◌};
 use crate::disk::{Disk, OutputFile, WholeFile};
 use crate::file_row::SizedFile;
 use crate::folder::make_folder;
-use crate::image_source::{sized_beside, source_at, source_of};
+use crate::image_source::{is_flash, may_be_one, placed_at, placed_beside};
 use crate::outcome::ToolError;
 use crate::read::{expected_len, open_whole};
 use std::fmt::Display;
@@ -13,7 +13,7 @@ use std::fs::{File, Files};
 use std::io;
 use std::io::Write;
 use std::os::unix::fs::FileExt;
-use ubi_scan::{FileSource, SystemFile};
+use ubi_scan::SystemFile;
 
 /// The files of the system. Other programs may write to them, so that nothing is known of what they hold.
 #[derive(Clone, Copy)]
@@ -54,7 +54,7 @@ impl<R: Files> Disk for Host<'_, R>
 where
     R::File: FileExt,
 {
-    ghost use Rattle.std.specs.Prelude.{None};
+    ghost use Rattle.std.specs.Prelude.{None, refl};
     ghost use Rattle.ubi_commands.specs.Disk.{IsKept, untold};
 
     type Placed = SystemFile<R::File>;
@@ -65,16 +65,22 @@ where
 
     ghost files = { λ _. untold };
 
-    fn source_at(&self, path: &str) -> Option<FileSource<SystemFile<R::File>>> {
-        source_at(self.rt, path)
+    ghost same_telling = { λ a b. refl };
+
+    fn placed_at(&self, path: &str) -> Option<SizedFile<SystemFile<R::File>>> {
+        placed_at(self.rt, path)
     }
 
-    fn source_beside(&self, path: &str, out: &str) -> Option<FileSource<SystemFile<R::File>>> {
-        source_of(self.rt, path, out)
+    fn placed_beside(&self, path: &str, out: &str) -> Option<SizedFile<SystemFile<R::File>>> {
+        placed_beside(self.rt, path, out)
     }
 
-    fn sized_beside(&self, path: &str, out: &str) -> Option<SizedFile<SystemFile<R::File>>> {
-        sized_beside(self.rt, path, out)
+    fn may_be_one(&self, path: &str, other: &str) -> bool {
+        may_be_one(self.rt, path, other)
+    }
+
+    fn is_flash(&self, path: &str) -> bool {
+        is_flash(self.rt, path)
     }
 
     fn whole(&self, path: &str) -> Result<WholeFile<R::File>, ToolError> {
@@ -83,12 +89,12 @@ where
         Ok(WholeFile { reader, expected })
     }
 
-    fn create<'p>(&self, path: &'p str) -> io::Result<OutputFile<'p, HostFile<R::File>>> {
+    fn create<'p>(&mut self, path: &'p str) -> io::Result<OutputFile<'p, HostFile<R::File>>> {
         let file = File::create(self.rt, path)?;
         Ok(OutputFile::new(path, HostFile { file }))
     }
 
-    fn create_new<'p>(&self, path: &'p str) -> io::Result<OutputFile<'p, HostFile<R::File>>> {
+    fn create_new<'p>(&mut self, path: &'p str) -> io::Result<OutputFile<'p, HostFile<R::File>>> {
         let file = File::create_new(self.rt, path)?;
         Ok(OutputFile::new(path, HostFile { file }))
     }

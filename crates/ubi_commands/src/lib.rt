@@ -6,6 +6,7 @@
 //! answered, by [`report`].
 #![tactic(auto)]
 
+mod bad_blocks;
 mod build;
 mod change;
 mod check;
@@ -31,6 +32,7 @@ mod open_image;
 mod outcome;
 mod output_file;
 mod plan;
+mod planners;
 mod printing;
 mod progress;
 mod read;
@@ -41,9 +43,11 @@ mod same;
 mod show;
 mod spec_file;
 mod unpack;
+mod view;
 mod volume_key;
 mod writers;
 
+pub use bad_blocks::{BlockRange, bad_marks, is_block_list};
 pub use build::build_file;
 pub use change::{NewBytes, run_change, run_change_from};
 pub use check::{run_check, run_check_from};
@@ -62,21 +66,21 @@ pub use lines::{blocks_line, geometry_line, put_blocks_line, put_bytes_line, ref
 pub use list::{run_list, run_list_from};
 pub use normalise::run_normalise;
 pub use numbers::{GREATEST, Numbers, geometry_of};
-pub use open_image::{OpenImage, PlacedImage, open_beside};
+pub use open_image::{DumpSource, Frame, OpenImage, PlacedImage, frame_of, open_beside};
 pub use outcome::{DONE, FAILED, Outcome, SidesError, ToolError, WRONG_WORDS};
 pub use output_file::write_outcome;
 pub use plan::{carry_out, with_file};
+pub use planners::{change_file, rename_file};
 pub use printing::report;
 pub use progress::ProgressWriter;
 pub use read::read_limited;
 pub use readers::{Checking, Detecting, Listing, Reading, Showing, read_file, same_files};
 pub use rename::{run_rename, run_rename_from};
-pub use requests::{Change, Extract, NewImage, Paths, Rename, Request, request_of};
+pub use requests::{Change, Dump, Extract, NewImage, Paths, Plan, Rename, Request, request_of};
 pub use same::{run_same, run_same_from};
 pub use show::{run_show, run_show_from};
 pub use spec_file::{SpecFile, load_spec};
 pub use unpack::{run_unpack_from, unpack_file};
+pub use view::{View, mask};
 pub use volume_key::VolumeKey;
-pub use writers::{
-    Changing, Extracting, Normalising, Renaming, Writing, change_file, rename_file, write_file,
-};
+pub use writers::{Changing, Extracting, Normalising, Renaming, Way, Writing, write_file};

@@ -1,10 +1,10 @@
 //! What a command answers, and what keeps it from answering.
 
-ghost use Rattle.std.specs.Prelude.{◌≡◌, Err, IfErr, MatchResult, Ok};
+ghost use Rattle.std.specs.Prelude.{◌≡◌, [], Err, IfErr, MatchResult, Ok};
 ghost use Rattle.ubi_commands.specs.Answer.{Gives, says};
 ghost use Rattle.ubi_commands.specs.declared.outcome.ToolError.TheVariants.{Memory};
 
-use std::alloc::{AllocError, AllocFailed};
+use std::alloc::{AllocError, AllocFailed, Global};
 use thiserror::Error;
 
 /// The exit status of a command that did its work.
@@ -109,4 +109,11 @@ pub fn in_memory(work: Result<Outcome, ToolError>) -> Result<Outcome, AllocError
         Err(ToolError::Memory) => Err(AllocError),
         Err(ToolError::Read | ToolError::Write) => unreachable!(),
     }
+}
+
+/// Nothing to print, for wrong words.
+pub fn nothing(alloc: Global) -> Outcome
+    ensures { Gives result (says [] 2) }
+{
+    Outcome::saying(Vec::new(alloc), WRONG_WORDS)
 }

@@ -2,9 +2,9 @@
 
 ghost use Rattle.std.specs.Io.KnownBytes.{Appends};
 ghost use Rattle.std.specs.Option.{ForSome};
-ghost use Rattle.std.specs.Prelude.{◌≡◌, IfOk, IsSome, None, OnErr, OnOk, codes};
+ghost use Rattle.std.specs.Prelude.{◌≡◌, IfOk, IsSome, None, OnErr, OnOk, Some, codes, true};
 ghost use Rattle.ubi_commands.specs.Answer.{Gives, says};
-ghost use Rattle.ubi_commands.specs.Disk.{AllStay, IsKept, OthersStay, Receives, fresh};
+ghost use Rattle.ubi_commands.specs.Disk.{AllStay, IsKept, OthersStay, Receives, Stays, fresh};
 ghost use Rattle.ubi_commands.specs.Late.{contents_of};
 ghost use Rattle.ubi_commands.specs.Lines.{file_line};
 ghost use Rattle.ubi_commands.specs.Program.{WritesFile};
@@ -40,7 +40,7 @@ fn write_late<D: Disk, K: Target>(
     bytes: &[u8],
 ) -> Result<(), ToolError>
     requires { late.old.file ≡ None }
-    ensures received { OnOk result (Appends K.empty (contents_of K.empty (λ f. D.Output.contents f.writer) late.new.file) bytes.now) }
+    ensures received { OnOk result (Appends (fresh K.files) (contents_of (fresh K.files) (λ f. D.Output.contents f.writer) late.new.file) bytes.now) }
     ensures opened { OnOk result (IsSome late.new.file) }
 {
     let Ok(()) = write_all(late, bytes) else {
@@ -54,50 +54,65 @@ fn write_late<D: Disk, K: Target>(
 
 /// Where an output is written.
 #[derive(Clone, Copy)]
-struct Output<'a> {
+pub struct Output<'a> {
     /// The path of its file.
-    path: &'a str,
+    pub path: &'a str,
 }
 
-/// Writes the file of an outcome, if it has one, as [`write_outcome`] does.
-fn write_to<D: Disk, K: Target>(
+/// Writes bytes into the file of an output, and closes it. Gives the disk back.
+fn write_to<'a, D: Disk, K: Target>(
+    disk: &'a mut D,
+    bytes: &[u8],
+    output: Output<'_>,
+) -> (&'a mut D, Result<(), ToolError>)
+    requires same { disk.ghost_name ≡ K.disk }
+    requires named { output.path.now ≡ K.path }
+    requires files { D.files disk.old ≡ K.files }
+    requires allowed { K.may_open ≡ true }
+    ensures same { result.0.ghost_name ≡ K.disk }
+    ensures received { OnOk result.1 (Receives K.files (D.files result.0.now) K.path (Some bytes.now)) }
+    ensures others { OthersStay K.files (D.files result.0.now) K.path }
+{
+    let mut late: LateFile<'a, '_, D, K> = LateFile::new(disk, output.path, true);
+    let work = write_late(&mut late, bytes);
+    let (disk, file) = late.into_parts();
+    keep_file(disk, file);
+    (disk, work)
+}
+
+/// Writes bytes into the file of an output, which is opened anew, and closes it.
+pub fn write_bytes<D: Disk>(disk: &mut D, bytes: &[u8], output: Output<'_>) -> Result<(), ToolError>
+    ensures received { OnOk result (Receives (D.files disk.old) (D.files disk.new) output.entry.path.now (Some bytes.now)) }
+    ensures others { OthersStay (D.files disk.old) (D.files disk.new) output.entry.path.now }
+{
+    let (_, work) = write_to::<D, Brand>(disk, bytes, output);
+    work
+}
+
+/// Writes the file of an outcome, if it has one, and answers the outcome, or the line of a file that can't be written. An
+/// outcome without a file opens none, nor is one opened that may be the file at `read`.
+pub fn write_outcome<D: Disk>(
     disk: &mut D,
     alloc: Global,
     outcome: Outcome,
-    output: Output<'_>,
+    path: &str,
+    read: &str,
 ) -> Result<Outcome, AllocError>
-    requires named { output.path.now ≡ K.path }
-    requires empty { fresh (D.files disk.old) ≡ K.empty }
-    ensures answer { IfOk result (WritesFile output.entry.path.now (D.files disk.old) (D.files disk.new) outcome) }
-    ensures others { OthersStay (D.files disk.old) (D.files disk.new) output.entry.path.now }
+    ensures answer { IfOk result (WritesFile path.now (D.files disk.old) (D.files disk.new) outcome) }
+    ensures others { OthersStay (D.files disk.old) (D.files disk.new) path.now }
+    ensures read { Stays (D.files disk.old) (D.files disk.new) read.now }
     ensures memory { OnErr result (AllStay (D.files disk.old) (D.files disk.new)) }
 {
     let Some(bytes) = &outcome.file else {
         return Ok(outcome);
     };
     // Made before the file is opened, so that no part of it is written where memory runs out.
-    let unwritten = unwritten_line(alloc, output.path)?;
-    let mut late: LateFile<'_, '_, D, K> = LateFile::new(disk, output.path);
-    let work = write_late(&mut late, bytes.as_slice());
-    let file = late.into_file();
-    keep_file(disk, file);
-    match work {
+    let unwritten = unwritten_line(alloc, path)?;
+    if disk.may_be_one(read, path) {
+        return Ok(unwritten);
+    }
+    match write_bytes(disk, bytes.as_slice(), Output { path }) {
         Ok(()) => Ok(outcome),
         Err(_) => Ok(unwritten),
     }
-}
-
-/// Writes the file of an outcome, if it has one, and answers the outcome, or the line of a file that can't be written. An
-/// outcome without a file opens none.
-pub fn write_outcome<D: Disk>(
-    disk: &mut D,
-    alloc: Global,
-    outcome: Outcome,
-    path: &str,
-) -> Result<Outcome, AllocError>
-    ensures answer { IfOk result (WritesFile path.now (D.files disk.old) (D.files disk.new) outcome) }
-    ensures others { OthersStay (D.files disk.old) (D.files disk.new) path.now }
-    ensures memory { OnErr result (AllStay (D.files disk.old) (D.files disk.new)) }
-{
-    write_to::<D, Brand>(disk, alloc, outcome, Output { path })
 }

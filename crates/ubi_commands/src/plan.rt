@@ -1,20 +1,21 @@
 //! What a command answers that plans steps: their lines, and the image after the first of them, into a writer.
 
-ghost use Rattle.std.specs.Prelude.{◌≡◌, ◌≢◌, ◌++◌, IfErr, IfOk, Ok, OnOk};
+ghost use Rattle.std.specs.Prelude.{◌≡◌, ◌≢◌, ◌∷◌, ◌++◌, [], IfErr, IfOk, Ok, OnOk, take};
 ghost use Rattle.std.specs.List.{flat_map};
 ghost use Rattle.ubi_change.specs.Fitting.{AllWithin};
+ghost use Rattle.ubi_change.specs.Pages.{programmed};
 ghost use Rattle.ubi_scan.specs.Image.{IsWholeSize};
 ghost use Rattle.ubi_scan.specs.Source.{Narrows, blocks_in};
 ghost use Rattle.ubi_commands.specs.AfterRun.{WhereNotDone, after_run};
 ghost use Rattle.ubi_commands.specs.Answer.{Gives, says};
-ghost use Rattle.ubi_commands.specs.Plan.{AreCut, HasFile, IsCarryFault, cut_text, plan_lines, step_line, step_words, steps_done};
+ghost use Rattle.ubi_commands.specs.Plan.{AreCut, HasFile, IsCarryFault, cut_text, not_blank_line, plan_lines, step_line, step_words, steps_done};
 ghost use Rattle.ubi_volume.specs.Wrote.{All, Wrote};
 
-use crate::lines::{put_number, put_word};
+use crate::lines::{put_number, put_word, refused};
 use crate::outcome::{DONE, Outcome, ToolError};
 use std::alloc::{AllocError, Global};
 use std::io::Write;
-use ubi_change::{Step, write_after};
+use ubi_change::{ChangeRefusal, PlanError, Step, write_after};
 use ubi_media::Geometry;
 use ubi_scan::{BlockSource, StreamError};
 
@@ -53,6 +54,26 @@ fn plan_lines(alloc: Global, steps: &[Step]) -> Result<Vec<u8>, AllocError>
     Ok(text)
 }
 
+/// Adds the page that a step programs, if it programs one.
+fn put_page(pages: &mut Vec<u8>, step: &Step) -> Result<(), AllocError>
+    ensures { OnOk result (pages.new.items ≡ pages.old.items ++ programmed (step.now ∷ [])) }
+{
+    match step {
+        Step::Program { bytes, .. } => pages.extend_from_slice(bytes.as_slice()),
+        Step::Erase { .. } => Ok(()),
+    }
+}
+
+/// Adds the pages that steps program, in their order.
+fn put_pages(pages: &mut Vec<u8>, steps: &[Step]) -> Result<(), AllocError>
+    ensures { OnOk result (pages.new.items ≡ pages.old.items ++ programmed steps.now) }
+{
+    for step in steps {
+        put_page(pages, step)?;
+    }
+    Ok(())
+}
+
 /// How many steps are done: as many as are asked for, or all where there are no more, or where no number is given.
 fn steps_done(steps: &[Step], stop: Option<u32>) -> usize
     ensures { result ≡ steps_done steps.now stop }
@@ -64,9 +85,10 @@ fn steps_done(steps: &[Step], stop: Option<u32>) -> usize
 }
 
 /// Writes the image of a source after the first `stop` steps of a plan, or after all where there are no more or `stop` is
-/// left out, and answers the lines of all of them. At most an eraseblock of contents is held.
+/// left out, and answers the lines of all of them. The pages that these steps program are added to `pages`. At most an
+/// eraseblock of contents is held.
 ///
-/// The room for the answer is taken before the first byte is written.
+/// The room for the answer and the pages is taken before the first byte is written.
 ///
 /// # Errors
 ///
@@ -79,12 +101,14 @@ pub fn carry_out<S: BlockSource, W: Write>(
     steps: &[Step],
     stop: Option<u32>,
     writer: &mut W,
+    pages: &mut Vec<u8>,
 ) -> Result<Outcome, ToolError>
     requires whole { IsWholeSize geometry.now (S.known source.old).size }
     requires within { AllWithin geometry.now (blocks_in geometry.now (S.known source.old)) steps.now }
     ensures known { S.known source.new ≡ after_run (S.known source.old) result }
     ensures narrows { Narrows (S.agrees source.old) (S.agrees source.new) }
     ensures answer { IfOk result (λ o. Gives o (says (plan_lines steps.now) 0)) }
+    ensures pages { OnOk result (pages.new.items ≡ pages.old.items ++ programmed (take (steps_done steps.now stop) steps.now)) }
     ensures written { IfOk result (λ _. Wrote (S.agrees source.new) (W.contents writer.old) (W.contents writer.new) (cut_text geometry.now steps.now (steps_done steps.now stop)) All 0 (S.known source.old).size) }
     ensures cut { IfOk result (λ _. AreCut geometry.now (S.agrees source.new) steps.now (steps_done steps.now stop)) }
     ensures untouched { WhereNotDone (writer.new ≡ writer.old) result }
@@ -92,6 +116,7 @@ pub fn carry_out<S: BlockSource, W: Write>(
 {
     let count = steps_done(steps, stop);
     let text = plan_lines(alloc, steps)?;
+    put_pages(pages, &steps[..count])?;
     let mut buffer = Vec::from_elem(alloc, 0u8, geometry.peb_size() as usize)?;
     match write_after(
         geometry,
@@ -106,6 +131,17 @@ pub fn carry_out<S: BlockSource, W: Write>(
         // Nothing is refused any more, and all memory was taken.
         Err(StreamError::Refused(_) | StreamError::Memory) => unreachable!(),
     }
+}
+
+/// The line of a listed eraseblock that isn't blank, so that nothing is planned.
+///
+/// # Errors
+///
+/// Memory ran out.
+pub fn not_blank_line(alloc: Global, p: u32) -> Result<Vec<u8>, AllocError>
+    ensures { IfOk result (λ text. text.items ≡ not_blank_line p) }
+{
+    refused(alloc, &PlanError::<ChangeRefusal>::NotBlank(p))
 }
 
 /// An outcome with what was written for it as its file, where the work was done.

@@ -8,12 +8,11 @@ use std::io::Write;
 /// From how many bytes on the progress of work on an image is shown.
 const LONG: u64 = 1 << 28;
 
-/// A writer that hands all on to another, and shows on the standard error how far that is.
+/// A writer that hands all on to another, and shows on the standard error, which that reaches too, how far that is.
 ///
 /// Its contents are those of the other.
 #[derive(Drop)]
-pub struct ProgressWriter<'a, R, W> {
-    rt: &'a R,
+pub struct ProgressWriter<W> {
     writer: W,
     /// How many bytes it may receive, where that is shown.
     most: Option<u64>,
@@ -23,13 +22,12 @@ pub struct ProgressWriter<'a, R, W> {
     last: u64,
 }
 
-impl<'a, R: Eprint, W: Write> ProgressWriter<'a, R, W> {
+impl<W: Write + Eprint> ProgressWriter<W> {
     /// A writer of work on `most` bytes, which is shown where these are many and somebody watches.
-    pub fn new(rt: &'a R, writer: W, most: u64, is_watched: bool) -> ProgressWriter<'a, R, W>
+    pub fn new(writer: W, most: u64, is_watched: bool) -> ProgressWriter<W>
         ensures { result.writer ≡ writer }
     {
         ProgressWriter {
-            rt,
             writer,
             most: if is_watched && most >= LONG {
                 Some(most)
@@ -51,13 +49,13 @@ impl<'a, R: Eprint, W: Write> ProgressWriter<'a, R, W> {
         let now = self.received / (most / 100).max(1);
         if now != self.last {
             self.last = now;
-            let _ = self.rt.eprint(format_args!("\r{now} % of the image"));
+            let _ = self.writer.eprint(format_args!("\r{now} % of the image"));
         }
     }
 
     /// The other writer.
     pub fn into_writer(self) -> W
-        ensures { result ≡ self.entry.writer }
+        ensures { result ≡ self.writer }
     {
         self.writer
     }
@@ -65,12 +63,12 @@ impl<'a, R: Eprint, W: Write> ProgressWriter<'a, R, W> {
     /// Takes the line away again.
     pub fn clear(&self) {
         if self.last > 0 {
-            let _ = self.rt.eprint("\r\x1b[K");
+            let _ = self.writer.eprint("\r\x1b[K");
         }
     }
 }
 
-impl<R: Eprint, W: Write> Write for ProgressWriter<'_, R, W> {
+impl<W: Write + Eprint> Write for ProgressWriter<W> {
     ghost contents = { λ progress. W.contents progress.writer };
 
     fn write(&mut self, buf: &[u8]) -> io::Result<usize> {

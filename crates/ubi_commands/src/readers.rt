@@ -4,6 +4,7 @@ ghost use Rattle.std.specs.Prelude.{◌≡◌, IfErr, IfOk, List, Result, ℕ};
 ghost use Rattle.ubi_media.specs.Geometry.{Sizes};
 ghost use Rattle.ubi_scan.specs.Source.{Agreed, Narrows, Source};
 ghost use Rattle.ubi_commands.specs.AfterRun.{IsNoWrite, after_run};
+ghost use Rattle.ubi_commands.specs.Dump.{seen};
 ghost use Rattle.ubi_commands.specs.inner.Ended.{IsToldOfSides, Works};
 ghost use Rattle.ubi_commands.specs.Program.{BothOf, OfFile};
 ghost use Rattle.ubi_commands.specs.Same.{ComparesOf};
@@ -14,9 +15,9 @@ use crate::disk::Disk;
 use crate::geometry::run_geometry_from;
 use crate::image_file::{told, unread_line};
 use crate::list::run_list_from;
-use crate::numbers::Numbers;
-use crate::open_image::{OpenImage, open_image};
+use crate::open_image::{Frame, OpenImage, frame_of, open_image};
 use crate::outcome::{Outcome, SidesError, ToolError};
+use crate::requests::Dump;
 use crate::same::run_same_from;
 use crate::show::run_show_from;
 use std::alloc::{AllocError, Global};
@@ -128,15 +129,20 @@ impl Reading for Showing {
 pub fn read_file<D: Disk, C: Reading>(
     disk: &D,
     alloc: Global,
-    numbers: Numbers,
+    dump: &Dump<'_>,
     image: &str,
     command: &C,
 ) -> Result<Outcome, AllocError>
-    ensures { IfOk result (OfFile (D.files disk.now) numbers image.now (C.answers command.now)) }
+    ensures { IfOk result (OfFile (seen dump.now (D.files disk.now)) dump.now.numbers image.now (C.answers command.now)) }
 {
-    match open_image(disk, alloc, numbers, image) {
+    let frame = match frame_of(alloc, dump) {
+        Ok(frame) => frame,
+        Err(unread) => return unread.answer(),
+    };
+    match open_image(disk, alloc, &frame, image) {
         Ok(OpenImage::AtPlaces(mut file)) => {
-            let work = command.answer(alloc, &file.geometry, &mut file.source);
+            let geometry = file.geometry;
+            let work = command.answer(alloc, &geometry, &mut file.source);
             told(alloc, work, image)
         }
         Ok(OpenImage::Whole(file)) => {
@@ -174,17 +180,18 @@ fn told_of_sides(
 fn same_beside<D: Disk, S: BlockSource>(
     disk: &D,
     alloc: Global,
-    numbers: Numbers,
+    frame: &Frame<'_>,
     source: &mut S,
     left: &str,
     right: &str,
 ) -> Result<Outcome, AllocError>
     ensures narrows { Narrows (S.agrees source.old) (S.agrees source.new) }
-    ensures answer { IfOk result (Works (S.known source.old) (S.known source.new) left.now (OfFile (D.files disk.now) numbers right.now (λ s l there. ComparesOf s (S.known source.old) (S.agrees source.new) l there))) }
+    ensures answer { IfOk result (Works (S.known source.old) (S.known source.new) left.now (OfFile (seen frame.now.dump (D.files disk.now)) frame.now.dump.numbers right.now (λ s l there. ComparesOf s (S.known source.old) (S.agrees source.new) l there))) }
 {
-    match open_image(disk, alloc, numbers, right) {
+    match open_image(disk, alloc, frame, right) {
         Ok(OpenImage::AtPlaces(mut file)) => {
-            let work = run_same_from(alloc, &file.geometry, source, &mut file.source);
+            let geometry = file.geometry;
+            let work = run_same_from(alloc, &geometry, source, &mut file.source);
             told_of_sides(alloc, work, left, right)
         }
         Ok(OpenImage::Whole(file)) => {
@@ -200,19 +207,23 @@ fn same_beside<D: Disk, S: BlockSource>(
 pub fn same_files<D: Disk>(
     disk: &D,
     alloc: Global,
-    numbers: Numbers,
+    dump: &Dump<'_>,
     left: &str,
     right: &str,
 ) -> Result<Outcome, AllocError>
-    ensures { IfOk result (BothOf (D.files disk.now) numbers left.now right.now ComparesOf) }
+    ensures { IfOk result (BothOf (seen dump.now (D.files disk.now)) dump.now.numbers left.now right.now ComparesOf) }
 {
-    match open_image(disk, alloc, numbers, left) {
+    let frame = match frame_of(alloc, dump) {
+        Ok(frame) => frame,
+        Err(unread) => return unread.answer(),
+    };
+    match open_image(disk, alloc, &frame, left) {
         Ok(OpenImage::AtPlaces(mut file)) => {
-            same_beside(disk, alloc, numbers, &mut file.source, left, right)
+            same_beside(disk, alloc, &frame, &mut file.source, left, right)
         }
         Ok(OpenImage::Whole(file)) => {
             let mut source = MemorySource::new(file.bytes.as_slice());
-            same_beside(disk, alloc, numbers, &mut source, left, right)
+            same_beside(disk, alloc, &frame, &mut source, left, right)
         }
         Err(unread) => unread.answer(),
     }

@@ -1,6 +1,6 @@
 //! The command `rename`: the plan of a rename of a volume, and the image after its first steps.
 
-ghost use Rattle.std.specs.Prelude.{◌≡◌, IfErr, IfOk, Some};
+ghost use Rattle.std.specs.Prelude.{◌≡◌, [], IfErr, IfOk, Some};
 ghost use Rattle.ubi_scan.specs.Image.{image_of};
 ghost use Rattle.ubi_scan.specs.Source.{Narrows};
 ghost use Rattle.ubi_commands.specs.AfterRun.{WhereNotDone, after_run};
@@ -8,10 +8,10 @@ ghost use Rattle.ubi_commands.specs.Rename.{IsRenameFault, Renames, RenamesFrom,
 
 use crate::lines::refused;
 use crate::outcome::{FAILED, Outcome, ToolError};
-use crate::plan::{carry_out, with_file};
+use crate::plan::{carry_out, not_blank_line, with_file};
 use std::alloc::{AllocError, Global};
 use std::io::Write;
-use ubi_change::{PlanError, RenameRefusal, plan_rename_from};
+use ubi_change::{Avoided, PlanError, RenameRefusal, plan_rename_from};
 use ubi_compose::shown_name;
 use ubi_media::Geometry;
 use ubi_scan::{BlockSource, MemorySource};
@@ -31,8 +31,9 @@ fn rename_line(alloc: Global, cause: RenameRefusal) -> Result<Vec<u8>, AllocErro
 }
 
 /// Plans the rename of a volume of a source to the name that a word shows, byte by byte, or as `\x` and two hexadecimal
-/// digits: answers the lines of all steps, and writes the image after the first `stop` of them, or after all where there are
-/// no more or `stop` is left out. At most an eraseblock of contents is held.
+/// digits; it touches none of the eraseblocks that are to be avoided. Answers the lines of all steps, writes the image after
+/// the first `stop` of them, or after all where there are no more or `stop` is left out, and adds the pages that these program
+/// to `pages`. At most an eraseblock of contents is held.
 ///
 /// Where the word shows no name, nothing is read. Where it doesn't, or no rename can be planned, the line of the first cause
 /// is answered, and nothing is written. What is written is accepted as an image whatever `stop` is, and means the old or
@@ -46,23 +47,35 @@ pub fn run_rename_from<S: BlockSource, W: Write>(
     alloc: Global,
     geometry: &Geometry,
     source: &mut S,
+    avoided: &Avoided<'_>,
     id: u32,
     word: &[u8],
     stop: Option<u32>,
     writer: &mut W,
+    pages: &mut Vec<u8>,
 ) -> Result<Outcome, ToolError>
+    requires { pages.old.items ≡ [] }
     ensures known { S.known source.new ≡ after_run (S.known source.old) result }
     ensures narrows { Narrows (S.agrees source.old) (S.agrees source.new) }
-    ensures ok { IfOk result (RenamesFrom id word.now stop geometry.now (S.known source.old) (S.agrees source.new) (W.contents writer.old) (W.contents writer.new)) }
+    ensures ok { IfOk result (RenamesFrom avoided.now id word.now stop geometry.now (S.known source.old) (S.agrees source.new) pages.new.items (W.contents writer.old) (W.contents writer.new)) }
     ensures untouched { WhereNotDone (writer.new ≡ writer.old) result }
-    ensures err { IfErr result (IsRenameFault id word.now stop geometry.now (S.known source.old) (S.agrees source.new) (W.contents writer.old) (W.contents writer.new)) }
+    ensures err { IfErr result (IsRenameFault avoided.now id word.now stop geometry.now (S.known source.old) (S.agrees source.new) (W.contents writer.old) (W.contents writer.new)) }
 {
     let Some(name) = shown_name(word) else {
         let line = rename_line(alloc, RenameRefusal::BadName)?;
         return Ok(Outcome::saying(line, FAILED));
     };
-    match plan_rename_from(alloc, geometry, source, id, name.as_bytes()) {
-        Ok(steps) => carry_out(alloc, geometry, source, steps.as_slice(), stop, writer),
+    match plan_rename_from(alloc, geometry, source, avoided, id, name.as_bytes()) {
+        Ok(steps) => carry_out(
+            alloc,
+            geometry,
+            source,
+            steps.as_slice(),
+            stop,
+            writer,
+            pages,
+        ),
+        Err(PlanError::NotBlank(p)) => Ok(Outcome::saying(not_blank_line(alloc, p)?, FAILED)),
         Err(PlanError::Refused(cause)) => {
             Ok(Outcome::saying(rename_line(alloc, cause)?, FAILED))
         }
@@ -91,6 +104,18 @@ pub fn run_rename(
 {
     let mut file = Vec::new(alloc);
     let mut source = MemorySource::new(image);
-    let work = run_rename_from(alloc, geometry, &mut source, id, word, stop, &mut file);
+    let nothing = Avoided::new(&[], false);
+    let mut pages = Vec::new(alloc);
+    let work = run_rename_from(
+        alloc,
+        geometry,
+        &mut source,
+        &nothing,
+        id,
+        word,
+        stop,
+        &mut file,
+        &mut pages,
+    );
     with_file(work, file)
 }

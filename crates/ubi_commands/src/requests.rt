@@ -1,14 +1,36 @@
 //! What the words of a command line ask for.
 
-ghost use Rattle.std.specs.Prelude.{codes};
+ghost use Rattle.std.specs.Option.{ForSome};
+ghost use Rattle.std.specs.Prelude.{◌≡◌, ◌↔◌, IsTrue, codes, true};
 ghost use Rattle.clap.specs.Simple.{subcommand_rows_of};
-ghost use Rattle.ubi_commands.specs.CommandLine.{AsksChange, AsksExtract, AsksKey, AsksNewImage, AsksNumbers, AsksPaths, AsksRename, HasNumber, HasText, IsOneOf, IsRequest, MayHaveNumber};
+ghost use Rattle.ubi_commands.specs.BadBlocks.{is_block_list};
+ghost use Rattle.ubi_commands.specs.CommandLine.{AsksBlank, AsksChange, AsksDump, AsksExtract, AsksKey, AsksNewImage, AsksNumbers, AsksPaths, AsksPlan, AsksRename, HasNumber, HasText, IsOneOf, IsRequest, MayHaveNumber, MayHaveText};
 ghost use Rattle.ubi_commands.specs.Tool.{tool as whole};
 ghost use Rattle.ubi_commands.specs.inner.CommandLine.{IsAskedBy, words_in};
 
-use crate::numbers::Numbers;
+use crate::bad_blocks::is_block_list;
+use crate::numbers::{GREATEST, Numbers};
 use crate::volume_key::VolumeKey;
 use clap::ArgMatches;
+
+/// The one word that `--blank` takes.
+const KEEP: &str = "keep";
+
+const ONE_VOLUME: &str = "error: either '--id <N>' or '--name <NAME>' names the volume, and not both
+
+For more information, try '--help'.
+";
+
+const BAD_LIST: &str =
+    "error: '--bad <LIST>' takes numbers of eraseblocks and ranges of them, as 3,9,28-31
+
+For more information, try '--help'.
+";
+
+const BAD_BLANK: &str = "error: '--blank' takes the word keep
+
+For more information, try '--help'.
+";
 
 /// What the words ask for, with the paths as they were given.
 #[derive(Clone, Copy)]
@@ -19,28 +41,28 @@ pub enum Request<'a> {
     },
     /// The volumes of a file.
     List {
-        numbers: Numbers,
+        dump: Dump<'a>,
         image: &'a str,
     },
     /// The states of the eraseblocks of a file.
     Check {
-        numbers: Numbers,
+        dump: Dump<'a>,
         image: &'a str,
     },
     /// The headers of one eraseblock of a file.
     Show {
-        numbers: Numbers,
+        dump: Dump<'a>,
         image: &'a str,
         block: u32,
     },
     /// What a volume of one file reads, into another.
     Extract {
-        numbers: Numbers,
+        dump: Dump<'a>,
         extract: Extract<'a>,
     },
     /// What each volume of a file reads, into files of a folder.
     Unpack {
-        numbers: Numbers,
+        dump: Dump<'a>,
         paths: Paths<'a>,
     },
     /// The image that a text file describes, into another file.
@@ -55,23 +77,23 @@ pub enum Request<'a> {
     },
     /// The normal image of one file, into another.
     Normalise {
-        numbers: Numbers,
+        dump: Dump<'a>,
         paths: Paths<'a>,
     },
     /// Whether two files mean the same.
     Same {
-        numbers: Numbers,
+        dump: Dump<'a>,
         left: &'a str,
         right: &'a str,
     },
     /// A change of one file, written into another.
     Change {
-        numbers: Numbers,
+        dump: Dump<'a>,
         change: Change<'a>,
     },
     /// A rename of a volume of one file, written into another.
     Rename {
-        numbers: Numbers,
+        dump: Dump<'a>,
         rename: Rename<'a>,
     },
 }
@@ -84,6 +106,21 @@ pub struct Paths<'a> {
     /// That of the file or the folder that is written.
     pub out: &'a str,
 }
+
+/// A dump, as the words tell how it is read.
+#[derive(Clone, Copy)]
+pub struct Dump<'a> {
+    /// The numbers of its geometry.
+    pub numbers: Numbers,
+    /// The list of its bad eraseblocks, which read 0xFF; none is bad where it is left out.
+    pub bad: Option<&'a str>,
+}
+
+/// The greatest dump that there is: of a file of which no geometry is known, no more is read.
+pub const GREATEST_DUMP: Dump<'static> = Dump {
+    numbers: GREATEST,
+    bad: None,
+};
 
 /// A volume to take out of an image.
 #[derive(Clone, Copy)]
@@ -107,32 +144,41 @@ pub struct NewImage<'a> {
     pub image_seq: u32,
 }
 
+/// What a plan does with its steps.
+#[derive(Clone, Copy)]
+pub struct Plan<'a> {
+    /// The paths of the image and of the file that is written.
+    pub paths: Paths<'a>,
+    /// After how many steps the image is written; after all where it is left out.
+    pub stop: Option<u32>,
+    /// Whether no Blank eraseblock is taken.
+    pub keeps_blank: bool,
+    /// The path of the file that the programmed pages are written to, if they are.
+    pub pages: Option<&'a str>,
+}
+
 /// The change of a logical eraseblock.
 #[derive(Clone, Copy)]
 pub struct Change<'a> {
-    /// The paths of the image and of the file that is written.
-    pub paths: Paths<'a>,
+    /// The files and the steps.
+    pub plan: Plan<'a>,
     /// The number of the volume.
     pub id: u32,
     /// The number of the logical eraseblock.
     pub lnum: u32,
     /// The path of the file that holds the new bytes.
     pub from: &'a str,
-    /// After how many steps the image is written; after all where it is left out.
-    pub stop: Option<u32>,
 }
 
 /// The rename of a volume.
 #[derive(Clone, Copy)]
 pub struct Rename<'a> {
-    /// The paths of the image and of the file that is written.
-    pub paths: Paths<'a>,
+    /// The files and the steps.
+    pub plan: Plan<'a>,
     /// The number of the volume.
     pub id: u32,
     /// The new name, in the form in which names are printed.
     pub name: &'a str,
-    /// After how many steps the image is written; after all where it is left out.
-    pub stop: Option<u32>,
 }
 
 /// What is asked for, where the words name a command and have all that it needs. Of words that the command line takes
@@ -142,6 +188,15 @@ pub fn request_of<'a>(matches: &'a ArgMatches<'_>) -> Option<Request<'a>>
 {
     let (name, inner) = matches.subcommand()?;
     request_under(name, inner)
+}
+
+/// What is wrong with words that the command line reads, and that ask for nothing.
+pub fn why_unasked(matches: &ArgMatches<'_>) -> &'static str {
+    match matches.subcommand() {
+        Some((_, words)) if !are_listed(words.get_str("bad")) => BAD_LIST,
+        Some((_, words)) if blank_of(words).is_none() => BAD_BLANK,
+        _ => ONE_VOLUME,
+    }
 }
 
 /// What the words of the command of this name ask for.
@@ -177,7 +232,7 @@ fn list_of<'a>(matches: &'a ArgMatches<'_>) -> Option<Request<'a>>
     ensures { IsOneOf (IsAskedBy (codes "list") (words_in matches.now)) result }
 {
     Some(Request::List {
-        numbers: numbers_of(matches)?,
+        dump: dump_of(matches)?,
         image: text_of(matches, "IMAGE")?,
     })
 }
@@ -186,7 +241,7 @@ fn check_of<'a>(matches: &'a ArgMatches<'_>) -> Option<Request<'a>>
     ensures { IsOneOf (IsAskedBy (codes "check") (words_in matches.now)) result }
 {
     Some(Request::Check {
-        numbers: numbers_of(matches)?,
+        dump: dump_of(matches)?,
         image: text_of(matches, "IMAGE")?,
     })
 }
@@ -195,7 +250,7 @@ fn show_of<'a>(matches: &'a ArgMatches<'_>) -> Option<Request<'a>>
     ensures { IsOneOf (IsAskedBy (codes "show") (words_in matches.now)) result }
 {
     Some(Request::Show {
-        numbers: numbers_of(matches)?,
+        dump: dump_of(matches)?,
         image: text_of(matches, "IMAGE")?,
         block: number_of(matches, "block")?,
     })
@@ -205,7 +260,7 @@ fn extract_of<'a>(matches: &'a ArgMatches<'_>) -> Option<Request<'a>>
     ensures { IsOneOf (IsAskedBy (codes "extract") (words_in matches.now)) result }
 {
     Some(Request::Extract {
-        numbers: numbers_of(matches)?,
+        dump: dump_of(matches)?,
         extract: volume_extract(matches)?,
     })
 }
@@ -214,7 +269,7 @@ fn unpack_of<'a>(matches: &'a ArgMatches<'_>) -> Option<Request<'a>>
     ensures { IsOneOf (IsAskedBy (codes "unpack") (words_in matches.now)) result }
 {
     Some(Request::Unpack {
-        numbers: numbers_of(matches)?,
+        dump: dump_of(matches)?,
         paths: paths_of(matches)?,
     })
 }
@@ -241,7 +296,7 @@ fn normalise_of<'a>(matches: &'a ArgMatches<'_>) -> Option<Request<'a>>
     ensures { IsOneOf (IsAskedBy (codes "normalise") (words_in matches.now)) result }
 {
     Some(Request::Normalise {
-        numbers: numbers_of(matches)?,
+        dump: dump_of(matches)?,
         paths: paths_of(matches)?,
     })
 }
@@ -250,7 +305,7 @@ fn same_of<'a>(matches: &'a ArgMatches<'_>) -> Option<Request<'a>>
     ensures { IsOneOf (IsAskedBy (codes "same") (words_in matches.now)) result }
 {
     Some(Request::Same {
-        numbers: numbers_of(matches)?,
+        dump: dump_of(matches)?,
         left: text_of(matches, "IMAGE")?,
         right: text_of(matches, "OTHER")?,
     })
@@ -260,7 +315,7 @@ fn change_of<'a>(matches: &'a ArgMatches<'_>) -> Option<Request<'a>>
     ensures { IsOneOf (IsAskedBy (codes "change") (words_in matches.now)) result }
 {
     Some(Request::Change {
-        numbers: numbers_of(matches)?,
+        dump: dump_of(matches)?,
         change: leb_change(matches)?,
     })
 }
@@ -269,7 +324,7 @@ fn rename_of<'a>(matches: &'a ArgMatches<'_>) -> Option<Request<'a>>
     ensures { IsOneOf (IsAskedBy (codes "rename") (words_in matches.now)) result }
 {
     Some(Request::Rename {
-        numbers: numbers_of(matches)?,
+        dump: dump_of(matches)?,
         rename: volume_rename(matches)?,
     })
 }
@@ -318,11 +373,10 @@ fn leb_change<'a>(matches: &'a ArgMatches<'_>) -> Option<Change<'a>>
     ensures { IsOneOf (AsksChange (words_in matches.now)) result }
 {
     Some(Change {
-        paths: paths_of(matches)?,
+        plan: plan_of(matches)?,
         id: number_of(matches, "id")?,
         lnum: number_of(matches, "lnum")?,
         from: text_of(matches, "from")?,
-        stop: number_of(matches, "stop"),
     })
 }
 
@@ -330,11 +384,55 @@ fn volume_rename<'a>(matches: &'a ArgMatches<'_>) -> Option<Rename<'a>>
     ensures { IsOneOf (AsksRename (words_in matches.now)) result }
 {
     Some(Rename {
-        paths: paths_of(matches)?,
+        plan: plan_of(matches)?,
         id: number_of(matches, "id")?,
         name: text_of(matches, "name")?,
-        stop: number_of(matches, "stop"),
     })
+}
+
+fn plan_of<'a>(matches: &'a ArgMatches<'_>) -> Option<Plan<'a>>
+    ensures { IsOneOf (AsksPlan (words_in matches.now)) result }
+{
+    Some(Plan {
+        paths: paths_of(matches)?,
+        stop: number_of(matches, "stop"),
+        keeps_blank: blank_of(matches)?,
+        pages: may_text_of(matches, "pages"),
+    })
+}
+
+/// Whether the words keep Blank eraseblocks. None where they say something else of them.
+fn blank_of(matches: &ArgMatches<'_>) -> Option<bool>
+    ensures { IsOneOf (AsksBlank (words_in matches.now)) result }
+{
+    match may_text_of(matches, "blank") {
+        None => Some(false),
+        Some(word) if word == KEEP => Some(true),
+        Some(_) => None,
+    }
+}
+
+/// A dump that is read. None where the list of its bad eraseblocks is none.
+fn dump_of<'a>(matches: &'a ArgMatches<'_>) -> Option<Dump<'a>>
+    ensures { IsOneOf (AsksDump (words_in matches.now)) result }
+{
+    let numbers = numbers_of(matches)?;
+    let bad = may_text_of(matches, "bad");
+    if are_listed(bad) {
+        Some(Dump { numbers, bad })
+    } else {
+        None
+    }
+}
+
+/// Whether a word, if there is one, is a list of eraseblocks.
+pub fn are_listed(word: Option<&str>) -> bool
+    ensures { IsTrue result ↔ ForSome word.entry (λ list. is_block_list list.now ≡ true) }
+{
+    match word {
+        Some(word) => is_block_list(word.as_bytes()),
+        None => true,
+    }
 }
 
 fn numbers_of(matches: &ArgMatches<'_>) -> Option<Numbers>
@@ -352,6 +450,13 @@ fn numbers_of(matches: &ArgMatches<'_>) -> Option<Numbers>
 /// The text that a word gives.
 fn text_of<'a>(matches: &'a ArgMatches<'_>, name: &str) -> Option<&'a str>
     ensures { IsOneOf (HasText (words_in matches.now) name.now) result }
+{
+    matches.get_str(name)
+}
+
+/// The text that a word gives, if it is there.
+fn may_text_of<'a>(matches: &'a ArgMatches<'_>, name: &str) -> Option<&'a str>
+    ensures { MayHaveText (words_in matches.now) name.now result }
 {
     matches.get_str(name)
 }

@@ -12,6 +12,7 @@ ghost use Rattle.ubi_commands.specs.AfterRun.{IsNoWrite, IsTold, after_run};
 ghost use Rattle.ubi_commands.specs.Answer.{Gives, says};
 ghost use Rattle.ubi_commands.specs.Disk.{AllStay, OthersStay, OutsideStay};
 ghost use Rattle.ubi_commands.specs.Lines.{file_line};
+ghost use Rattle.ubi_commands.specs.Dump.{seen};
 ghost use Rattle.ubi_commands.specs.Program.{OfFile};
 ghost use Rattle.ubi_commands.specs.Unpack.{AreUnpacked, IsUnpacked, Unpacks, UnpacksFrom, UnpacksOf, file_byte, file_path, unpacked_amount, unpacked_line, unpacked_lines, unpacked_status};
 ghost use Rattle.ubi_commands.specs.inner.Folder.{AreFilesOf, Ends, IsFileOf};
@@ -20,11 +21,10 @@ use crate::disk::Disk;
 use crate::image_file::unread_line;
 use crate::lines::{put_number, put_word, refusal_line};
 use crate::list::{put_amount, put_shown};
-use crate::numbers::Numbers;
-use crate::open_image::{OpenImage, open_image};
+use crate::open_image::{OpenImage, frame_of, open_image};
 use crate::outcome::{DONE, FAILED, Outcome, ToolError};
 use crate::output_file::unwritten_line;
-use crate::requests::Paths;
+use crate::requests::{Dump, Paths};
 use itoa::Buffer;
 use std::alloc::{AllocError, Global};
 use ubi_media::{Geometry, VolumeRecord};
@@ -343,18 +343,22 @@ fn told_or(work: Result<Outcome, ToolError>, unread: Outcome) -> Result<Outcome,
 pub fn unpack_file<D: Disk>(
     disk: &mut D,
     alloc: Global,
-    numbers: Numbers,
+    dump: &Dump<'_>,
     paths: &Paths<'_>,
 ) -> Result<Outcome, AllocError>
-    ensures answer { IfOk result (OfFile (D.files disk.old) numbers paths.now.image.now (UnpacksOf paths.now.out.now (D.files disk.old) (D.files disk.new))) }
+    ensures answer { IfOk result (OfFile (seen dump.now (D.files disk.old)) dump.now.numbers paths.now.image.now (UnpacksOf paths.now.out.now (D.files disk.old) (D.files disk.new))) }
     ensures outside { OutsideStay (D.files disk.old) (D.files disk.new) paths.now.out.now }
     ensures memory { OnErr result (AllStay (D.files disk.old) (D.files disk.new)) }
 {
     let unread = unread_line(alloc, paths.image)?;
-    match open_image(disk, alloc, numbers, paths.image) {
+    let frame = match frame_of(alloc, dump) {
+        Ok(frame) => frame,
+        Err(error) => return error.answer(),
+    };
+    match open_image(disk, alloc, &frame, paths.image) {
         Ok(OpenImage::AtPlaces(mut file)) => {
-            let (geometry, source) = (&file.geometry, &mut file.source);
-            let work = run_unpack_from(disk, alloc, geometry, source, paths.out);
+            let geometry = file.geometry;
+            let work = run_unpack_from(disk, alloc, &geometry, &mut file.source, paths.out);
             told_or(work, unread)
         }
         Ok(OpenImage::Whole(file)) => {

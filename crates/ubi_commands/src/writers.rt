@@ -2,49 +2,50 @@
 //!
 //! The image is read at places; or whole, where that can't be or where it may be the output too.
 
-ghost use Rattle.std.specs.Prelude.{◌≡◌, ◌≢◌, ℕ, Bool, Err, IfOk, List, MatchResult, Ok, OnErr, Option, Result, is_some};
+ghost use Rattle.std.specs.Prelude.{◌≡◌, ◌≢◌, [], ℕ, Bool, Err, IfOk, List, MatchResult, Ok, OnErr, Option, Result, codes, false, is_some};
 ghost use Rattle.ubi_media.specs.Geometry.{Sizes};
 ghost use Rattle.ubi_scan.specs.Source.{Agreed, Narrows, Source};
 ghost use Rattle.ubi_commands.specs.AfterRun.{WhereNotDone, after_run};
-ghost use Rattle.ubi_commands.specs.Change.{ChangesFrom, HasPlan};
-ghost use Rattle.ubi_commands.specs.Disk.{AllStay, OthersStay, fresh};
+ghost use Rattle.ubi_commands.specs.Answer.{Gives, says};
+ghost use Rattle.ubi_commands.specs.Lines.{file_line};
+ghost use Rattle.ubi_commands.specs.Disk.{AllStay, Files, OthersStay, fresh};
 ghost use Rattle.ubi_commands.specs.Late.{contents_of};
-ghost use Rattle.ubi_commands.specs.Rename.{HasRename, RenamesFrom};
+ghost use Rattle.ubi_commands.specs.Dump.{seen, viewed};
 ghost use Rattle.ubi_commands.specs.Opened.{IsOpened, IsUnreadOf};
 ghost use Rattle.ubi_commands.specs.inner.Ended.{IsEnded, Works};
-ghost use Rattle.ubi_commands.specs.Program.{OfFile, OfImage, WritesInto};
+ghost use Rattle.ubi_commands.specs.Program.{OfFile, WritesInto};
 ghost use Rattle.ubi_commands.specs.declared.numbers.Numbers.{Numbers};
 ghost use Rattle.ubi_commands.specs.declared.outcome.Outcome.{Outcome};
 
 use crate::change::{NewBytes, run_change_from};
 use crate::disk::Disk;
 use crate::extract::run_extract_from;
-use crate::image_file::{load, unread_line};
+use crate::image_file::unread_line;
 use crate::late_file::{LateFile, Target};
 use crate::normalise::run_normalise;
-use crate::numbers::Numbers;
-use crate::open_image::{OpenImage, open_beside};
+use crate::open_image::{DumpSource, OpenImage, frame_of, open_beside};
 use crate::outcome::{DONE, Outcome, ToolError};
 use crate::output_file::{keep_file, unwritten_line};
 use crate::progress::ProgressWriter;
 use crate::rename::run_rename_from;
-use crate::requests::{Change, Paths, Rename};
+use crate::requests::{Dump, Paths};
 use crate::volume_key::VolumeKey;
 use std::alloc::{AllocError, Global};
 use std::io::Write;
 use std::marker::Brand;
+use ubi_change::Avoided;
 use ubi_media::Geometry;
-use ubi_scan::{BlockSource, FileSource, MemorySource};
+use ubi_scan::{BlockSource, MemorySource};
 
 /// A command that reads one image, and writes a file.
 pub trait Writing {
-    // What it answers of a source, and what the writer receives meanwhile.
-    ghost answers: { Self → Sizes → Source → Agreed → Option (List ℕ) → Option (List ℕ) → Outcome → Type 0 };
+    // What it answers of a source, which pages it gives, and what the writer receives meanwhile.
+    ghost answers: { Self → Sizes → Source → Agreed → List ℕ → Option (List ℕ) → Option (List ℕ) → Outcome → Type 0 };
 
     // That there is something to write.
     ghost writes: { Self → Sizes → Source → Agreed → Type 0 };
 
-    /// Does its work over a source, into a writer.
+    /// Does its work over a source, into a writer, and adds the pages that a plan programs to `pages`.
     ///
     /// # Errors
     ///
@@ -55,10 +56,12 @@ pub trait Writing {
         geometry: &Geometry,
         source: &mut S,
         writer: &mut W,
+        pages: &mut Vec<u8>,
     ) -> Result<Outcome, ToolError>
+        requires { pages.old.items ≡ [] }
         ensures known { S.known source.new ≡ after_run (S.known source.old) result }
         ensures narrows { Narrows (S.agrees source.old) (S.agrees source.new) }
-        ensures answer { IfOk result (answers self.now geometry.now (S.known source.old) (S.agrees source.new) (W.contents writer.old) (W.contents writer.new)) }
+        ensures answer { IfOk result (answers self.now geometry.now (S.known source.old) (S.agrees source.new) pages.new.items (W.contents writer.old) (W.contents writer.new)) }
         ensures untouched { WhereNotDone (writer.new ≡ writer.old) result }
         ensures done { IfOk result (λ o. o.status ≡ 0 → writes self.now geometry.now (S.known source.old) (S.agrees source.new)) }
         ensures failed { result ≡ Err ToolError.Write → writes self.now geometry.now (S.known source.old) (S.agrees source.new) };
@@ -71,7 +74,7 @@ pub struct Normalising;
 impl Writing for Normalising {
     ghost use Rattle.ubi_commands.specs.Normalise.{HasMeaning, NormalisesOf};
 
-    ghost answers = { λ _. NormalisesOf };
+    ghost answers = { λ _ s k agrees _. NormalisesOf s k agrees };
 
     ghost writes = { λ _ s k agrees. HasMeaning s agrees };
 
@@ -81,6 +84,7 @@ impl Writing for Normalising {
         geometry: &Geometry,
         source: &mut S,
         writer: &mut W,
+        _pages: &mut Vec<u8>,
     ) -> Result<Outcome, ToolError> {
         run_normalise(alloc, geometry, source, writer)
     }
@@ -96,7 +100,7 @@ pub struct Extracting<'a> {
 impl Writing for Extracting<'_> {
     ghost use Rattle.ubi_commands.specs.Extract.{ExtractsOf, HasTextIn};
 
-    ghost answers = { λ extracting. ExtractsOf extracting.key };
+    ghost answers = { λ extracting s k agrees _. ExtractsOf extracting.key s k agrees };
 
     ghost writes = { λ extracting s k agrees. HasTextIn extracting.key s agrees };
 
@@ -106,6 +110,7 @@ impl Writing for Extracting<'_> {
         geometry: &Geometry,
         source: &mut S,
         writer: &mut W,
+        _pages: &mut Vec<u8>,
     ) -> Result<Outcome, ToolError> {
         run_extract_from(alloc, geometry, source, self.key, writer)
     }
@@ -116,6 +121,8 @@ impl Writing for Extracting<'_> {
 pub struct Changing<'a> {
     /// The new bytes, and where they go.
     pub new: NewBytes<'a>,
+    /// What the plan avoids.
+    pub avoided: &'a Avoided<'a>,
     /// After how many steps; after all where it is left out.
     pub stop: Option<u32>,
 }
@@ -123,9 +130,9 @@ pub struct Changing<'a> {
 impl Writing for Changing<'_> {
     ghost use Rattle.ubi_commands.specs.Change.{ChangesFrom, HasPlan};
 
-    ghost answers = { λ changing. ChangesFrom changing.new.id changing.new.lnum changing.new.bytes.now changing.stop };
+    ghost answers = { λ changing. ChangesFrom changing.avoided.now changing.new.id changing.new.lnum changing.new.bytes.now changing.stop };
 
-    ghost writes = { λ changing. HasPlan changing.new.id changing.new.lnum changing.new.bytes.now };
+    ghost writes = { λ changing. HasPlan changing.avoided.now changing.new.id changing.new.lnum changing.new.bytes.now };
 
     fn answer<S: BlockSource, W: Write>(
         &self,
@@ -133,14 +140,18 @@ impl Writing for Changing<'_> {
         geometry: &Geometry,
         source: &mut S,
         writer: &mut W,
+        pages: &mut Vec<u8>,
     ) -> Result<Outcome, ToolError> {
-        run_change_from(alloc, geometry, source, &self.new, self.stop, writer)
+        let Changing { new, avoided, stop } = self;
+        run_change_from(alloc, geometry, source, avoided, new, *stop, writer, pages)
     }
 }
 
 /// `rename`: what is left after the first steps of a rename.
 #[derive(Clone, Copy)]
 pub struct Renaming<'a> {
+    /// What the plan avoids.
+    pub avoided: &'a Avoided<'a>,
     /// The number of the volume.
     pub id: u32,
     /// The word that shows the new name.
@@ -152,9 +163,9 @@ pub struct Renaming<'a> {
 impl Writing for Renaming<'_> {
     ghost use Rattle.ubi_commands.specs.Rename.{HasRename, RenamesFrom};
 
-    ghost answers = { λ renaming. RenamesFrom renaming.id renaming.word.now renaming.stop };
+    ghost answers = { λ renaming. RenamesFrom renaming.avoided.now renaming.id renaming.word.now renaming.stop };
 
-    ghost writes = { λ renaming. HasRename renaming.id renaming.word.now };
+    ghost writes = { λ renaming. HasRename renaming.avoided.now renaming.id renaming.word.now };
 
     fn answer<S: BlockSource, W: Write>(
         &self,
@@ -162,9 +173,16 @@ impl Writing for Renaming<'_> {
         geometry: &Geometry,
         source: &mut S,
         writer: &mut W,
+        pages: &mut Vec<u8>,
     ) -> Result<Outcome, ToolError> {
+        let Renaming {
+            avoided,
+            id,
+            word,
+            stop,
+        } = self;
         run_rename_from(
-            alloc, geometry, source, self.id, self.word, self.stop, writer,
+            alloc, geometry, source, avoided, *id, word, *stop, writer, pages,
         )
     }
 }
@@ -192,7 +210,7 @@ fn finished<D: Disk, K: Target>(
     unwritten: Outcome,
 ) -> Outcome
     ensures answer { (unread : Outcome) → IsEnded (Ok outcome) (is_some late.new.file) unread unwritten result }
-    ensures contents { contents_of K.empty (λ f. D.Output.contents f.writer) late.new.file ≡ contents_of K.empty (λ f. D.Output.contents f.writer) late.old.file }
+    ensures contents { contents_of (fresh K.files) (λ f. D.Output.contents f.writer) late.new.file ≡ contents_of (fresh K.files) (λ f. D.Output.contents f.writer) late.old.file }
     ensures refused { outcome.status ≢ 0 → late.new.file ≡ late.old.file }
 {
     if outcome.status != DONE {
@@ -216,7 +234,7 @@ fn ended<D: Disk, K: Target>(
     unwritten: Outcome,
 ) -> Result<Outcome, AllocError>
     ensures answer { MatchResult result (IsEnded answer (is_some late.new.file) unread unwritten) (λ _. answer ≡ Err ToolError.Memory) }
-    ensures contents { contents_of K.empty (λ f. D.Output.contents f.writer) late.new.file ≡ contents_of K.empty (λ f. D.Output.contents f.writer) late.old.file }
+    ensures contents { contents_of (fresh K.files) (λ f. D.Output.contents f.writer) late.new.file ≡ contents_of (fresh K.files) (λ f. D.Output.contents f.writer) late.old.file }
     ensures untouched { WhereNotDone (late.new.file ≡ late.old.file) answer }
 {
     match answer {
@@ -225,138 +243,163 @@ fn ended<D: Disk, K: Target>(
     }
 }
 
+/// What is answered where a file fails, made before the output is opened, so that no part of it is written where memory runs
+/// out.
+#[derive(Drop)]
+struct Faults {
+    /// Where the image can't be read.
+    unread: Outcome,
+    /// Where the output can't be written.
+    unwritten: Outcome,
+}
+
+/// From which file the work of a command goes to which.
+#[derive(Clone, Copy)]
+pub struct Way<'a> {
+    /// Their paths.
+    pub paths: Paths<'a>,
+    /// Whether the output may be opened: not so where it may be a file that was read, beside the image.
+    pub may_open: bool,
+    /// Whether somebody watches how far the work is.
+    pub is_watched: bool,
+}
+
+/// Does the work of a command over a source, into a file, which is opened at the first write, or once the work is done. Gives
+/// the disk back. (The outcome isn't in the result: beside memory, a caller learns nothing of a reference.)
+fn work_late<'a, D: Disk + Eprint, S: BlockSource, C: Writing, K: Target>(
+    disk: &'a mut D,
+    alloc: Global,
+    geometry: &Geometry,
+    source: &mut S,
+    way: &Way<'_>,
+    command: &C,
+    faults: Faults,
+    pages: &mut Vec<u8>,
+    outcome: &mut Result<Outcome, AllocError>,
+) -> &'a mut D
+    requires same { disk.ghost_name ≡ K.disk }
+    requires named { way.now.paths.out.now ≡ K.path }
+    requires files { D.files disk.old ≡ K.files }
+    requires allowed { way.now.may_open ≡ K.may_open }
+    requires empty { pages.old.items ≡ [] }
+    requires unread { Gives faults.unread (says (file_line (codes "cannot read ") way.now.paths.image.now) 1) }
+    requires unwritten { Gives faults.unwritten (says (file_line (codes "cannot write ") way.now.paths.out.now) 1) }
+    ensures same { result.ghost_name ≡ K.disk }
+    ensures narrows { Narrows (S.agrees source.old) (S.agrees source.new) }
+    ensures answer { IfOk outcome.new (Works (S.known source.old) (S.known source.new) way.now.paths.image.now (WritesInto way.now.paths.out.now K.files (D.files result.now) (C.answers command.now geometry.now (S.known source.old) (S.agrees source.new) pages.new.items) (C.writes command.now geometry.now (S.known source.old) (S.agrees source.new)))) }
+    ensures others { OthersStay K.files (D.files result.now) way.now.paths.out.now }
+    ensures shut { K.may_open ≡ false → D.files result.now ≡ K.files }
+    ensures memory { OnErr outcome.new (AllStay K.files (D.files result.now)) }
+{
+    let Faults { unread, unwritten } = faults;
+    let late: LateFile<'a, '_, D, K> = LateFile::new(disk, way.paths.out, way.may_open);
+    let mut progress = ProgressWriter::new(late, source.len(), way.is_watched);
+    let answer = command.answer(alloc, geometry, source, &mut progress, pages);
+    progress.clear();
+    let mut late = progress.into_writer();
+    *outcome = ended(answer, &mut late, unread, unwritten);
+    let (disk, file) = late.into_parts();
+    keep_file(disk, file);
+    disk
+}
+
 /// Does the work of a command over a source, into a file, which is opened at the first write, or once the work is done.
-fn work_into<D: Disk + Eprint, S: BlockSource, C: Writing, K: Target>(
+fn work_into<D: Disk + Eprint, S: BlockSource, C: Writing>(
     disk: &mut D,
     alloc: Global,
     geometry: &Geometry,
     source: &mut S,
-    paths: &Paths<'_>,
+    way: &Way<'_>,
     command: &C,
-    is_watched: bool,
+    pages: &mut Vec<u8>,
 ) -> Result<Outcome, AllocError>
-    requires named { paths.now.out.now ≡ K.path }
-    requires empty { fresh (D.files disk.old) ≡ K.empty }
+    requires { pages.old.items ≡ [] }
     ensures narrows { Narrows (S.agrees source.old) (S.agrees source.new) }
-    ensures answer { IfOk result (Works (S.known source.old) (S.known source.new) paths.now.image.now (WritesInto paths.now.out.now (D.files disk.old) (D.files disk.new) (C.answers command.now geometry.now (S.known source.old) (S.agrees source.new)) (C.writes command.now geometry.now (S.known source.old) (S.agrees source.new)))) }
-    ensures others { OthersStay (D.files disk.old) (D.files disk.new) paths.now.out.now }
+    ensures answer { IfOk result (Works (S.known source.old) (S.known source.new) way.now.paths.image.now (WritesInto way.now.paths.out.now (D.files disk.old) (D.files disk.new) (C.answers command.now geometry.now (S.known source.old) (S.agrees source.new) pages.new.items) (C.writes command.now geometry.now (S.known source.old) (S.agrees source.new)))) }
+    ensures others { OthersStay (D.files disk.old) (D.files disk.new) way.now.paths.out.now }
+    ensures shut { way.now.may_open ≡ false → D.files disk.new ≡ D.files disk.old }
     ensures memory { OnErr result (AllStay (D.files disk.old) (D.files disk.new)) }
 {
-    // Made before the output is opened, so that no part of it is written where memory runs out.
-    let unread = unread_line(alloc, paths.image)?;
-    let unwritten = unwritten_line(alloc, paths.out)?;
-    let late: LateFile<'_, '_, D, K> = LateFile::new(disk, paths.out);
-    let mut progress = ProgressWriter::new(disk, late, source.len(), is_watched);
-    let answer = command.answer(alloc, geometry, source, &mut progress);
-    progress.clear();
-    let mut late = progress.into_writer();
-    let outcome = ended(answer, &mut late, unread, unwritten);
-    let file = late.into_file();
-    keep_file(disk, file);
+    let faults = Faults {
+        unread: unread_line(alloc, way.paths.image)?,
+        unwritten: unwritten_line(alloc, way.paths.out)?,
+    };
+    let mut outcome = Err(AllocError);
+    let _ = work_late::<D, S, C, Brand>(
+        disk,
+        alloc,
+        geometry,
+        source,
+        way,
+        command,
+        faults,
+        pages,
+        &mut outcome,
+    );
     outcome
 }
 
 /// Does the work of a command over an image that was opened, into a file.
-fn write_opened<D: Disk + Eprint, C: Writing>(
+pub fn write_opened<D: Disk + Eprint, C: Writing>(
     disk: &mut D,
     alloc: Global,
-    opened: OpenImage<FileSource<D::Placed>>,
-    paths: &Paths<'_>,
+    opened: OpenImage<DumpSource<'_, D::Placed>>,
+    way: &Way<'_>,
     command: &C,
-    is_watched: bool,
+    pages: &mut Vec<u8>,
 ) -> Result<Outcome, AllocError>
-    ensures answer { (numbers : Numbers) → IsOpened (λ s. IsUnreadOf (D.files disk.old) paths.now.image.now (D.Placed.bytes s.file) s.failures) (D.files disk.old) paths.now.image.now numbers opened → IfOk result (OfFile (D.files disk.old) numbers paths.now.image.now (λ s k agrees. WritesInto paths.now.out.now (D.files disk.old) (D.files disk.new) (C.answers command.now s k agrees) (C.writes command.now s k agrees))) }
-    ensures others { OthersStay (D.files disk.old) (D.files disk.new) paths.now.out.now }
+    requires { pages.old.items ≡ [] }
+    ensures answer { (d : Files) (numbers : Numbers) → IsOpened (λ s. IsUnreadOf d way.now.paths.image.now (viewed s.file.size s.file.marks.now (D.Placed.bytes s.file.file.file)) s.failures) d way.now.paths.image.now numbers opened.entry → IfOk result (OfFile d numbers way.now.paths.image.now (λ s k agrees. WritesInto way.now.paths.out.now (D.files disk.old) (D.files disk.new) (C.answers command.now s k agrees pages.new.items) (C.writes command.now s k agrees))) }
+    ensures others { OthersStay (D.files disk.old) (D.files disk.new) way.now.paths.out.now }
+    ensures shut { way.now.may_open ≡ false → D.files disk.new ≡ D.files disk.old }
     ensures memory { OnErr result (AllStay (D.files disk.old) (D.files disk.new)) }
 {
     match opened {
         OpenImage::AtPlaces(mut file) => {
-            let (geometry, source) = (&file.geometry, &mut file.source);
-            work_into::<D, FileSource<D::Placed>, C, Brand>(
-                disk, alloc, geometry, source, paths, command, is_watched,
-            )
+            let geometry = file.geometry;
+            let source = &mut file.source;
+            work_into(disk, alloc, &geometry, source, way, command, pages)
         }
         OpenImage::Whole(file) => {
             let mut source = MemorySource::new(file.bytes.as_slice());
-            work_into::<D, MemorySource<'_>, C, Brand>(
+            work_into(
                 disk,
                 alloc,
                 &file.geometry,
                 &mut source,
-                paths,
+                way,
                 command,
-                is_watched,
+                pages,
             )
         }
     }
 }
 
-/// Does the work of a command over one file, into another.
+/// Does the work of a command over one file, into another. What it gives of pages isn't used.
 pub fn write_file<D: Disk + Eprint, C: Writing>(
     disk: &mut D,
     alloc: Global,
-    numbers: Numbers,
+    dump: &Dump<'_>,
     paths: &Paths<'_>,
     command: &C,
     is_watched: bool,
 ) -> Result<Outcome, AllocError>
-    ensures answer { IfOk result (OfFile (D.files disk.old) numbers paths.now.image.now (λ s k agrees. WritesInto paths.now.out.now (D.files disk.old) (D.files disk.new) (C.answers command.now s k agrees) (C.writes command.now s k agrees))) }
+    ensures answer { IfOk result (λ o. (pages : List ℕ) × OfFile (seen dump.now (D.files disk.old)) dump.now.numbers paths.now.image.now (λ s k agrees. WritesInto paths.now.out.now (D.files disk.old) (D.files disk.new) (C.answers command.now s k agrees pages) (C.writes command.now s k agrees)) o) }
     ensures others { OthersStay (D.files disk.old) (D.files disk.new) paths.now.out.now }
     ensures memory { OnErr result (AllStay (D.files disk.old) (D.files disk.new)) }
 {
-    match open_beside(disk, alloc, numbers, paths.image, paths.out) {
-        Ok(opened) => write_opened(disk, alloc, opened, paths, command, is_watched),
+    let frame = match frame_of(alloc, dump) {
+        Ok(frame) => frame,
+        Err(unread) => return unread.answer(),
+    };
+    let way = Way {
+        paths: *paths,
+        may_open: true,
+        is_watched,
+    };
+    let mut pages = Vec::new(alloc);
+    match open_beside(disk, alloc, &frame, paths.image, paths.out) {
+        Ok(opened) => write_opened(disk, alloc, opened, &way, command, &mut pages),
         Err(unread) => unread.answer(),
     }
-}
-
-/// Changes one file into another, by the bytes of a third, which is read before anything is written.
-pub fn change_file<D: Disk + Eprint>(
-    disk: &mut D,
-    alloc: Global,
-    numbers: Numbers,
-    asked: &Change<'_>,
-) -> Result<Outcome, AllocError>
-    ensures answer { IfOk result (OfFile (D.files disk.old) numbers asked.now.paths.image.now (λ s k agrees. OfImage (D.files disk.old) numbers asked.now.from.now (λ f. WritesInto asked.now.paths.out.now (D.files disk.old) (D.files disk.new) (ChangesFrom asked.now.id asked.now.lnum f.bytes asked.now.stop s k agrees) (HasPlan asked.now.id asked.now.lnum f.bytes s k agrees)))) }
-    ensures others { OthersStay (D.files disk.old) (D.files disk.new) asked.now.paths.out.now }
-    ensures memory { OnErr result (AllStay (D.files disk.old) (D.files disk.new)) }
-{
-    let Paths { image, out } = asked.paths;
-    let opened = match open_beside(disk, alloc, numbers, image, out) {
-        Ok(opened) => opened,
-        Err(unread) => return unread.answer(),
-    };
-    let file = match load(disk, alloc, numbers, asked.from) {
-        Ok(file) => file,
-        Err(unread) => return unread.answer(),
-    };
-    let new = NewBytes {
-        id: asked.id,
-        lnum: asked.lnum,
-        bytes: file.bytes.as_slice(),
-    };
-    let command = Changing {
-        new,
-        stop: asked.stop,
-    };
-    write_opened(disk, alloc, opened, &asked.paths, &command, false)
-}
-
-/// Renames a volume of one file, into another.
-pub fn rename_file<D: Disk + Eprint>(
-    disk: &mut D,
-    alloc: Global,
-    numbers: Numbers,
-    asked: &Rename<'_>,
-) -> Result<Outcome, AllocError>
-    ensures answer { IfOk result (OfFile (D.files disk.old) numbers asked.now.paths.image.now (λ s k agrees. WritesInto asked.now.paths.out.now (D.files disk.old) (D.files disk.new) (RenamesFrom asked.now.id asked.now.name.now asked.now.stop s k agrees) (HasRename asked.now.id asked.now.name.now s k agrees))) }
-    ensures others { OthersStay (D.files disk.old) (D.files disk.new) asked.now.paths.out.now }
-    ensures memory { OnErr result (AllStay (D.files disk.old) (D.files disk.new)) }
-{
-    let command = Renaming {
-        id: asked.id,
-        word: asked.name.as_bytes(),
-        stop: asked.stop,
-    };
-    write_file(disk, alloc, numbers, &asked.paths, &command, false)
 }

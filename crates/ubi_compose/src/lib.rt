@@ -49,6 +49,7 @@ mod words;
 pub use building::build_to;
 pub use comparing::{same, same_from};
 pub use composing::{compose, normalise};
+pub use cutting::cut;
 pub use errors::{
     BuildError, ComposeError, RecipeError, SameError, SameFault, SpecCause, SpecError,
 };
@@ -56,3 +57,4 @@ pub use parsing::parse_spec;
 pub use recipe::{Part, Recipe};
 pub use shown::shown_name;
 pub use streaming::normalise_to;
+pub use words::decimal_of;

@@ -11,7 +11,7 @@ use ubi_media::VolKind;
 use ubi_volume::Bytes;
 
 /// The number that decimal digits write. None where another byte stands among them, or where it is above 4294967295.
-fn decimal_of(digits: &[u8]) -> Option<u32>
+pub fn decimal_of(digits: &[u8]) -> Option<u32>
     ensures { result ≡ then_some (list_all is_digit digits.now && nat_le (decimal_value digits.now) 0xFFFFFFFF) (decimal_value digits.now) }
 {
     let mut value: u64 = 0;

@@ -16,6 +16,7 @@ use Rattle.ubi_volume.specs.Attached.{Whole}
 use Rattle.ubi_volume.specs.Survey.{Seen}
 use Rattle.ubi_change.specs.Plan.{blank_header, copy_header, needs}
 use Rattle.ubi_change.specs.Refused.{first_of, is_bad_length}
+use Rattle.ubi_change.specs.Avoided.{Avoided, states_avoiding}
 use Rattle.ubi_change.specs.Takeable.{takeable}
 use Rattle.ubi_change.specs.Weak.{weak_place}
 use Rattle.ubi_change.specs.inner.Sites.{FitsIn, HasCounter, IsSiteAt, copy_on, mount_on, ready_on}
@@ -54,9 +55,9 @@ image_causes s bs a id lnum =
     ∷ []
 
 -- what was read for a change: the ground, and the winner of the LEB
-pub record IsPrepared (s : Sizes) (k : Source) (agrees : Agreed) (id lnum : ℕ) (p : Prepared) : Type 0 where
-  pub ground : IsGroundOf s k agrees p.ground
-  pub winner : IsSiteAt s k agrees p.ground.surveyed.states (get p.ground.surveyed.scan.winners (id, lnum)) p.winner
+pub record IsPrepared (s : Sizes) (k : Source) (agrees : Agreed) (av : Avoided) (id lnum : ℕ) (p : Prepared) : Type 0 where
+  pub ground : IsGroundOf s k agrees av p.ground
+  pub winner : IsSiteAt s k agrees (states_avoiding av p.ground.surveyed.states) (get p.ground.surveyed.scan.winners (id, lnum)) p.winner
 
 -- and what holds of it whatever is held
 pub record FitsPrepared (s : Sizes) (p : Prepared) : Type 0 where

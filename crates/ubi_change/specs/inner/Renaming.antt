@@ -15,6 +15,7 @@ use Rattle.ubi_table.specs.Records.{Records}
 use Rattle.ubi_volume.specs.Survey.{Seen}
 use Rattle.ubi_change.specs.RenamePlan.{layout_header, table_pages}
 use Rattle.ubi_change.specs.RenameRefused.{BothGood}
+use Rattle.ubi_change.specs.Avoided.{Avoided, states_avoiding}
 use Rattle.ubi_change.specs.Weak.{weak_place}
 use Rattle.ubi_change.specs.inner.Sites.{FitsIn, HasCounter, copy_on, site_at}
 use Rattle.ubi_change.specs.inner.Taking.{IsGroundOf}
@@ -54,22 +55,22 @@ pub record BothFit (n : ℕ) (two : Holders) : Type 0 where
   pub second : FitsIn n two.second
 
 -- the eraseblocks that hold the copies of these eraseblocks, both of which are good; without them, they aren't
-abbrev pub AreHolders : Sizes → List (List ℕ) → Seen → Option Holders → Type 0
-AreHolders s bs seen None = (t : Records) → BothGood s bs t → ⊥
-AreHolders s bs seen (Some two) =
+abbrev pub AreHolders : Sizes → List (List ℕ) → Avoided → Seen → Option Holders → Type 0
+AreHolders s bs av seen None = (t : Records) → BothGood s bs t → ⊥
+AreHolders s bs av seen (Some two) =
     ((t : Records) × BothGood s bs t)
-    × ((p : ℕ) × (get seen.scan.winners (layout, 0) ≡ Some p) × (two.first ≡ site_at s bs seen.states p))
-    × ((p : ℕ) × (get seen.scan.winners (layout, 1) ≡ Some p) × (two.second ≡ site_at s bs seen.states p))
+    × ((p : ℕ) × (get seen.scan.winners (layout, 0) ≡ Some p) × (two.first ≡ site_at s bs (states_avoiding av seen.states) p))
+    × ((p : ℕ) × (get seen.scan.winners (layout, 1) ≡ Some p) × (two.second ≡ site_at s bs (states_avoiding av seen.states) p))
 
 -- and of a source: they lie in it, and hold the copies of whatever it may hold
-pub record AreHoldersOf (s : Sizes) (k : Source) (agrees : Agreed) (seen : Seen) (o : Option Holders) : Type 0 where
+pub record AreHoldersOf (s : Sizes) (k : Source) (agrees : Agreed) (av : Avoided) (seen : Seen) (o : Option Holders) : Type 0 where
   pub fits : IfSome o (BothFit (blocks_in s k))
-  pub held : WhereHeld agrees (λ bytes. AreHolders s (blocks_of s bytes) seen o)
+  pub held : WhereHeld agrees (λ bytes. AreHolders s (blocks_of s bytes) av seen o)
 
 -- what was read for a rename: the ground, and the eraseblocks that hold the copies
-pub record IsRenamable (s : Sizes) (k : Source) (agrees : Agreed) (r : Renamable) : Type 0 where
-  pub ground : IsGroundOf s k agrees r.ground
-  pub holders : AreHoldersOf s k agrees r.ground.surveyed r.holders
+pub record IsRenamable (s : Sizes) (k : Source) (agrees : Agreed) (av : Avoided) (r : Renamable) : Type 0 where
+  pub ground : IsGroundOf s k agrees av r.ground
+  pub holders : AreHoldersOf s k agrees av r.ground.surveyed r.holders
 
 -- and what holds of it whatever is held
 pub record FitsRenamable (s : Sizes) (r : Renamable) : Type 0 where

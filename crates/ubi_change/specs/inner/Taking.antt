@@ -1,12 +1,15 @@
 -- The eraseblocks that a plan takes, read one by one.
-use Rattle.std.specs.Prelude.{◌≡◌, ℕ, if◌then◌else◌, List, map, Option, Some, None, IfSome, slice_get}
+use Rattle.std.specs.Prelude.{◌≡◌, ◌<◌, ℕ, Bool, true, false, if◌then◌else◌, List, length, map, Option, Some, None, IfSome, slice_get}
 use Rattle.ubi_media.specs.Geometry.{Sizes}
 use Rattle.ubi_scan.specs.Source.{Agreed, Source, WhereHeld, blocks_in, blocks_of}
 use Rattle.ubi_volume.specs.Survey.{IsSurveyOf}
 use Rattle.ubi_volume.specs.declared.attached.BlockState.{BlockState}
+use Rattle.ubi_change.specs.Avoided.{AllBeside, Avoided, is_blank_one, is_listed, states_avoiding}
 use Rattle.ubi_change.specs.Takeable.{is_takeable, takeable}
 use Rattle.ubi_change.specs.inner.Sites.{FitsIn, site_at}
 use Rattle.ubi_change.specs.declared.ground.Ground.{Ground}
+use Rattle.ubi_change.specs.Steps.{target}
+use Rattle.ubi_change.specs.declared.step.Step.{Step}
 use Rattle.ubi_change.specs.declared.site.Site.{Site}
 use Rattle.ubi_change.specs.declared.taking.FirstTwo.{FirstTwo}
 use Rattle.ubi_change.specs.declared.taking.Parted.{Parted}
@@ -60,7 +63,22 @@ pub record AreTaken (s : Sizes) (k : Source) (agrees : Agreed) (states : List Bl
   pub second : IfSome two.second (FitsIn (blocks_in s k))
   pub held : WhereHeld agrees (λ bytes. two ≡ first_taken s (blocks_of s bytes) states)
 
--- a source that is surveyed, with the eraseblocks that may be taken
-pub record IsGroundOf (s : Sizes) (k : Source) (agrees : Agreed) (ground : Ground) : Type 0 where
+-- a source that is surveyed, with the eraseblocks that may be taken where something is avoided
+pub record IsGroundOf (s : Sizes) (k : Source) (agrees : Agreed) (av : Avoided) (ground : Ground) : Type 0 where
   pub survey : IsSurveyOf s k agrees ground.surveyed
-  pub taken : AreTaken s k agrees ground.surveyed.states ground.taken
+  pub taken : AreTaken s k agrees (states_avoiding av ground.surveyed.states) ground.taken
+
+-- the listed eraseblocks below n are Blank, by the states
+abbrev pub SayBlank : List Bool → List BlockState → ℕ → Type 0
+SayBlank marks states n = (p : ℕ) → p < n → is_listed marks p ≡ true → IfSome (slice_get states p) (λ st. is_blank_one st ≡ true)
+
+-- the lowest listed eraseblock that is there and isn't Blank, if there is one
+abbrev pub NotBlankIs : List Bool → List BlockState → Option ℕ → Type 0
+NotBlankIs marks states None = SayBlank marks states (length states)
+NotBlankIs marks states (Some p) =
+    (is_listed marks p ≡ true) × ((st : BlockState) × (slice_get states p ≡ Some st) × (is_blank_one st ≡ false)) × SayBlank marks states p
+
+-- the eraseblock of a step that works on a listed one, if there is one
+abbrev pub ListedIs : List Bool → List Step → Option ℕ → Type 0
+ListedIs marks steps None = AllBeside marks steps
+ListedIs marks steps (Some p) = (k : ℕ) × (next : Step) × (slice_get steps k ≡ Some next) × (target next ≡ p) × (is_listed marks p ≡ true)

@@ -10,6 +10,7 @@ use super::pebs::{
 use std::alloc::Global;
 use std::process::Abort;
 use std::test::Fail;
+use ubi_change::Avoided;
 use ubi_commands::{
     Checking, Listing, NewBytes, Outcome, Reading, Showing, run_change, run_change_from,
     run_rename, run_rename_from, run_same, run_same_from,
@@ -165,14 +166,36 @@ fn is_edited(alloc: Global, first: &[u8], then: &[u8], left: u64) -> Result<bool
         lnum: 0,
         bytes: &[0x61; 64],
     };
+    let nothing = Avoided::new(&[], false);
+    let mut pages = Vec::new(alloc);
     let mut source = ChangingSource { first, then, left };
     let mut writer = ProbeWriter::new(alloc, 8192, 1000, Failure::Nothing)?;
-    let changed = run_change_from(alloc, &geometry, &mut source, &new, Some(2), &mut writer)?;
+    let changed = run_change_from(
+        alloc,
+        &geometry,
+        &mut source,
+        &nothing,
+        &new,
+        Some(2),
+        &mut writer,
+        &mut pages,
+    )?;
     let want = run_change(alloc, &geometry, first, 0, 0, &[0x61; 64], Some(2))?;
     let is_changed = is_written(&changed, writer.taken(), &want, first.len(), left == 99);
+    pages.clear();
     let mut source = ChangingSource { first, then, left };
     let mut writer = ProbeWriter::new(alloc, 8192, 1000, Failure::Nothing)?;
-    let renamed = run_rename_from(alloc, &geometry, &mut source, 0, b"data", None, &mut writer)?;
+    let renamed = run_rename_from(
+        alloc,
+        &geometry,
+        &mut source,
+        &nothing,
+        0,
+        b"data",
+        None,
+        &mut writer,
+        &mut pages,
+    )?;
     let want = run_rename(alloc, &geometry, first, 0, b"data", None)?;
     Ok(is_changed && is_written(&renamed, writer.taken(), &want, first.len(), left == 99))
 }

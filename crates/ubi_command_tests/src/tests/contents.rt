@@ -3,8 +3,8 @@
 use super::answers::small;
 use super::pebs::{
     A, ALIGNED_FIRST, ALIGNED_SECOND, ALIGNED_ZEROED, B, BEYOND, BOOT_FIRST, BOOT_SECOND, C,
-    DROPPED, EMPTY_B, FIRST, FIRST_ALIGNED, FIRST_BOOT, FIRST_DATA, FIRST_MARKED, FIRST_NAME,
-    FIRST_PLAIN, FIRST_STRANGE, FIRST_UPDATING, FREE, NORMAL_7, NORMAL_A, NORMAL_AB,
+    DROPPED, EMPTY_B, ERASED, FIRST, FIRST_ALIGNED, FIRST_BOOT, FIRST_DATA, FIRST_MARKED,
+    FIRST_NAME, FIRST_PLAIN, FIRST_STRANGE, FIRST_UPDATING, FREE, NORMAL_7, NORMAL_A, NORMAL_AB,
     NORMAL_ALIGNED, NORMAL_B, NORMAL_C, NORMAL_DAMAGED, NORMAL_FREE, NORMAL_TEXT_0, NORMAL_TEXT_1,
     OLD, Peb, RIGHT, ROOT_FIRST, ROOT_SECOND, SECOND, SECOND_ALIGNED, SECOND_BOOT, SECOND_DATA,
     SECOND_MARKED, SECOND_NAME, SECOND_PLAIN, SECOND_STRANGE, SECOND_UPDATING, TEXT_0, TEXT_1,
@@ -42,6 +42,13 @@ pub enum Contents {
     Root,
     Spare,
     Spares,
+    /// The last with a blank eraseblock in the place of the first free one, of the second, of both, and of logical eraseblock 1.
+    BlankFree,
+    FreeBlank,
+    BlankBoth,
+    BlankWinner,
+    /// The first with a blank eraseblock behind it.
+    OneBlank,
     /// The first with an eraseblock of another image, so that it is refused.
     Faulty,
     /// What that volume reads.
@@ -107,6 +114,11 @@ impl Contents {
             Contents::Root => ROOT,
             Contents::Spare => SPARE,
             Contents::Spares => SPARES,
+            Contents::BlankFree => BLANK_FREE,
+            Contents::FreeBlank => FREE_BLANK,
+            Contents::BlankBoth => BLANK_BOTH,
+            Contents::BlankWinner => BLANK_WINNER,
+            Contents::OneBlank => ONE_BLANK,
             Contents::Faulty => FAULTY,
             Contents::RootText => ROOT_TEXT,
             Contents::Unnamed => UNNAMED,
@@ -188,6 +200,16 @@ static ROOT: Contents = Contents::Pebs(&[FIRST, SECOND, A, B, C], &[]);
 static SPARE: Contents = Contents::Pebs(&[FIRST, SECOND, A, B, C, FREE], &[]);
 
 static SPARES: Contents = Contents::Pebs(&[FIRST, SECOND, A, B, C, FREE, FREE], &[]);
+
+static BLANK_FREE: Contents = Contents::Pebs(&[FIRST, SECOND, A, B, C, ERASED, FREE], &[]);
+
+static FREE_BLANK: Contents = Contents::Pebs(&[FIRST, SECOND, A, B, C, FREE, ERASED], &[]);
+
+static BLANK_BOTH: Contents = Contents::Pebs(&[FIRST, SECOND, A, B, C, ERASED, ERASED], &[]);
+
+static BLANK_WINNER: Contents = Contents::Pebs(&[FIRST, SECOND, A, ERASED, C, FREE, FREE], &[]);
+
+static ONE_BLANK: Contents = Contents::Pebs(&[FIRST, SECOND, A, B, C, ERASED], &[]);
 
 static FAULTY: Contents = Contents::Pebs(&[FIRST, SECOND, A, B, C], &[(3 * 512, &OTHER_EC)]);
 

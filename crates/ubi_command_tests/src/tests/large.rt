@@ -83,6 +83,30 @@ static CHIPS: [Session; 2] = [
                 0,
             ),
             (
+                "change chip_spares.img --id 0 --lnum 1 --from chip.new --out chip_beside.img --pages chip.pages --bad 3,60-63 --blank keep --peb 131072 --page 2048 --pebs 64",
+                "steps 4\nprogram block=4 page=1\nprogram block=4 page=2\n\
+                    erase block=2\nprogram block=2 page=0\n",
+                0,
+            ),
+            (
+                "extract chip_beside.img --id 0 --out chip_beside.bin --bad 3,60-63 --peb 131072 --page 2048 --pebs 64",
+                "bytes 380928\n",
+                0,
+            ),
+            (
+                "show chip_spares.img --block 3 --bad 3 --peb 131072 --page 2048 --pebs 64",
+                "ec blank ffffffffffffffffffffffffffffffffffffffffffffffffffffffffffffffff\
+                    ffffffffffffffffffffffffffffffffffffffffffffffffffffffffffffffff\n\
+                    vid blank ffffffffffffffffffffffffffffffffffffffffffffffffffffffffffffffff\
+                    ffffffffffffffffffffffffffffffffffffffffffffffffffffffffffffffff\n",
+                0,
+            ),
+            (
+                "change chip_spares.img --id 0 --lnum 1 --from chip.new --out chip_refused.img --pages chip_refused.pages --bad 3-4 --peb 131072 --page 2048 --pebs 64",
+                "refused K9 NoFree\n",
+                1,
+            ),
+            (
                 "rename chip_spares.img --id 0 --name data --out chip_renamed.img --peb 131072 --page 2048 --pebs 64",
                 "steps 28\n\
                     program block=3 page=1\nprogram block=3 page=2\nprogram block=3 page=3\nprogram block=3 page=4\n\
@@ -114,12 +138,20 @@ static CHIPS: [Session; 2] = [
             ("chip.bin", PAGE_READ),
             ("chip_volumes/0-root", PAGE_READ),
             ("chip_renamed.bin", PAGE_READ),
+            ("chip_changed.bin", PAGE_CHANGED),
+            ("chip_beside.bin", PAGE_CHANGED),
             (
-                "chip_changed.bin",
-                Contents::Runs(&[(b"\xFF", 126_976), (b"a", 2048), (b"\xFF", 251_904)]),
+                "chip.pages",
+                Contents::Runs(&[
+                    (PAGE_COPY, 1),
+                    (b"\xFF", 1984),
+                    (b"a", 2048),
+                    (ERASED_EC, 1),
+                    (b"\xFF", 1984),
+                ]),
             ),
         ],
-        absent: "chip.none",
+        absent: "chip_refused.pages",
     },
     Session {
         before: BEFORE,
@@ -235,10 +267,27 @@ const BEFORE: &[(&str, Contents)] = &[
     ("chip_changed.img", EMPTY),
     ("chip_spares.img", EMPTY),
     ("chip_renamed.img", EMPTY),
+    ("chip_beside.img", EMPTY),
 ];
 
 /// What the volume reads, whose logical eraseblock 1 begins with two bytes.
 const PAGE_READ: Contents = Contents::Runs(&[(b"\xFF", 126_976), (b"ab", 1), (b"\xFF", 253_950)]);
+
+/// What it reads once that is 2,048 bytes 0x61.
+const PAGE_CHANGED: Contents = Contents::Runs(&[
+    (b"\xFF", 126_976),
+    (b"a", 2048),
+    (b"\xFF", 251_904),
+]);
+
+/// The header of the copy with these bytes, and that of the eraseblock that is given up, erased once. Another program worked
+/// out their checks.
+const PAGE_COPY: &[u8] =
+    b"UBI!\x01\x01\x01\0\0\0\0\0\0\0\0\x01\0\0\0\0\0\0\x08\0\0\0\0\0\0\0\0\0\xBB\xC2\x8D\x13\
+    \0\0\0\0\0\0\0\0\0\0\0\x01\0\0\0\0\0\0\0\0\0\0\0\0\x05\x08\x93\xB2";
+
+const ERASED_EC: &[u8] = b"UBI#\x01\0\0\0\0\0\0\0\0\0\0\x01\0\0\x08\0\0\0\x10\0\x12\x34\x56\x78\
+    \0\0\0\0\0\0\0\0\0\0\0\0\0\0\0\0\0\0\0\0\0\0\0\0\0\0\0\0\0\0\0\0Sy\x19\xCE";
 
 const SUBPAGE_READ: Contents = Contents::Runs(&[
     (b"\xFF", 129_024),

@@ -248,7 +248,7 @@ static ENDLESS: [&str; 9] = [
     "normalise /dev/zero --out endless.bin",
     "normalise /dev/zero --out /dev/zero",
     "same /dev/zero /dev/zero",
-    "change /dev/zero --id 0 --lnum 0 --from /dev/zero --out endless.bin",
+    "change /dev/zero --id 0 --lnum 0 --from /dev/zero --out endless.bin --bad=",
     "compose /dev/zero --out endless.bin",
 ];
 

@@ -3,6 +3,8 @@
 use super::fake::{Broken, FakeFiles};
 use std::alloc::Global;
 use std::cell::RefCell;
+use std::fmt::Display;
+use std::io;
 use std::io::Write;
 use std::test::Fail;
 use ubi_commands::{Host, ProgressWriter, run_words};
@@ -10,10 +12,45 @@ use ubi_commands::{Host, ProgressWriter, run_words};
 /// A hundredth of 256 MiB, and one byte more.
 const HUNDREDTH: usize = 2_684_355;
 
+/// Bytes that are received, beside a terminal.
+#[derive(Drop)]
+struct Output<'a, E> {
+    terminal: &'a E,
+    bytes: Vec<u8>,
+}
+
+impl<E> Write for Output<'_, E> {
+    ghost use Rattle.std.specs.Prelude.{None};
+
+    ghost contents = { λ _. None };
+
+    fn write(&mut self, buf: &[u8]) -> io::Result<usize> {
+        self.bytes.write(buf)
+    }
+
+    fn flush(&mut self) -> io::Result<()> {
+        Ok(())
+    }
+}
+
+impl<E: Eprint> Eprint for Output<'_, E> {
+    fn eprint<D: Display + Drop>(&self, value: D) -> io::Result<()> {
+        self.terminal.eprint(value)
+    }
+
+    fn eprintln<D: Display + Drop>(&self, value: D) -> io::Result<()> {
+        self.terminal.eprintln(value)
+    }
+}
+
 /// Does work on so many bytes, of which the output receives two hundredths of 256 MiB.
 fn work(terminal: &impl Eprint, alloc: Global, most: u64, is_watched: bool) -> Result<(), Fail> {
     let part = vec![in alloc; 0xFFu8; HUNDREDTH]?;
-    let mut writer = ProgressWriter::new(terminal, Vec::new(alloc), most, is_watched);
+    let output = Output {
+        terminal,
+        bytes: Vec::new(alloc),
+    };
+    let mut writer = ProgressWriter::new(output, most, is_watched);
     writer.write_all(&[0xFF; 100])?;
     writer.write_all(part.as_slice())?;
     writer.write_all(part.as_slice())?;

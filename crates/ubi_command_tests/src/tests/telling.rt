@@ -1,7 +1,7 @@
 //! A disk of which it is known what its files hold: what the commands answer of the files that are named, and what they
 //! write, is proved of it.
 
-ghost use Rattle.std.specs.Prelude.{Some, option_map};
+ghost use Rattle.std.specs.Prelude.{Some, option_map, refl};
 
 use super::answers::{is_answer, run_on, with_sizes};
 use super::build::CONTENT;
@@ -13,7 +13,7 @@ use std::io;
 use std::io::ErrorKind;
 use std::test::Fail;
 use ubi_commands::{Disk, OutputFile, SizedFile, ToolError, WholeFile};
-use ubi_scan::{FileSource, PlacedFile};
+use ubi_scan::PlacedFile;
 
 /// The path of its image.
 const IMAGE: &str = "told.img";
@@ -29,6 +29,9 @@ const FOLDER: &str = "made";
 
 /// The path of the file that its folder has room for.
 const UNPACKED: &str = "made/0-root";
+
+/// The path of its flash memory, of which nothing is known.
+const FLASH: &str = "/dev/mtd0";
 
 /// A disk with one image, and room for one output and for a folder with one file.
 #[derive(Drop)]
@@ -67,22 +70,32 @@ impl<'a> Disk for Telling<'a> {
 
     type Output = Vec<u8>;
 
+    ghost same_telling = { λ a b. refl };
+
     ghost files = { λ disk. telling (option_map (λ bytes. bytes.now) disk.image) (option_map (λ bytes. bytes.now) disk.config) (option_map (λ bytes. bytes.items) disk.out) (option_map (λ bytes. bytes.items) disk.unpacked) };
 
-    fn source_at(&self, path: &str) -> Option<FileSource<KnownFile<'a>>> {
+    fn placed_at(&self, path: &str) -> Option<SizedFile<KnownFile<'a>>> {
         match self.image {
             Some(bytes) if path == IMAGE => {
-                Some(FileSource::of(KnownFile { bytes }, bytes.len() as u64))
+                Some(SizedFile::new(KnownFile { bytes }, bytes.len() as u64))
             }
             _ => None,
         }
     }
 
-    fn source_beside(&self, path: &str, out: &str) -> Option<FileSource<KnownFile<'a>>> {
+    fn placed_beside(&self, path: &str, out: &str) -> Option<SizedFile<KnownFile<'a>>> {
         if path == out {
             return None;
         }
-        self.source_at(path)
+        self.placed_at(path)
+    }
+
+    fn may_be_one(&self, path: &str, other: &str) -> bool {
+        path == other
+    }
+
+    fn is_flash(&self, path: &str) -> bool {
+        path == FLASH
     }
 
     fn whole(&self, path: &str) -> Result<WholeFile<&'a [u8]>, ToolError> {
@@ -102,25 +115,18 @@ impl<'a> Disk for Telling<'a> {
         }
     }
 
-    fn sized_beside(&self, path: &str, out: &str) -> Option<SizedFile<KnownFile<'a>>> {
-        match self.image {
-            Some(bytes) if path == IMAGE && path != out => {
-                Some(SizedFile::new(KnownFile { bytes }, bytes.len() as u64))
-            }
-            _ => None,
-        }
-    }
-
-    fn create<'p>(&self, path: &'p str) -> io::Result<OutputFile<'p, Vec<u8>>> {
+    fn create<'p>(&mut self, path: &'p str) -> io::Result<OutputFile<'p, Vec<u8>>> {
         if path == OUT {
+            self.out = Some(Vec::new(self.alloc));
             Ok(OutputFile::new(path, Vec::new(self.alloc)))
         } else {
             Err(io::Error::from(ErrorKind::PermissionDenied))
         }
     }
 
-    fn create_new<'p>(&self, path: &'p str) -> io::Result<OutputFile<'p, Vec<u8>>> {
+    fn create_new<'p>(&mut self, path: &'p str) -> io::Result<OutputFile<'p, Vec<u8>>> {
         if path == UNPACKED && self.unpacked.is_none() {
+            self.unpacked = Some(Vec::new(self.alloc));
             Ok(OutputFile::new(path, Vec::new(self.alloc)))
         } else {
             Err(io::Error::from(ErrorKind::PermissionDenied))
@@ -162,7 +168,7 @@ impl Eprint for Telling<'_> {
 
 /// A line, what it answers of the image of `root`, and what its output and the file in its folder hold then, if they are
 /// there.
-static LINES: [(&str, (&str, u8), Option<Contents>, Option<Contents>); 12] = [
+static LINES: [(&str, (&str, u8), Option<Contents>, Option<Contents>); 15] = [
     ("geometry told.img", (SMALL, 0), None, None),
     (
         "geometry kept.img",
@@ -214,6 +220,25 @@ static LINES: [(&str, (&str, u8), Option<Contents>, Option<Contents>); 12] = [
         None,
     ),
     ("same told.img told.img", ("same\n", 0), None, None),
+    // Of a device somebody has to list the bad eraseblocks, or that there is none.
+    (
+        "rename /dev/mtd0 --id 0 --name data --out kept.img",
+        ("", 2),
+        None,
+        None,
+    ),
+    (
+        "change /dev/mtd0 --id 0 --lnum 0 --from told.img --out kept.img",
+        ("", 2),
+        None,
+        None,
+    ),
+    (
+        "rename /dev/mtd0 --id 0 --name data --out kept.img --bad=",
+        ("cannot read /dev/mtd0\n", 1),
+        None,
+        None,
+    ),
     (
         "same told.img other.img",
         ("cannot read other.img\n", 1),

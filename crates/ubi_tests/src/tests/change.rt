@@ -1,3 +1,4 @@
+mod avoided;
 mod carriers;
 mod cuts;
 mod images;

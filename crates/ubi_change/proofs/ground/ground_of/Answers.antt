@@ -1,5 +1,6 @@
 use Rattle.std.proofs.Common.{subst}
 use Rattle.ubi_scan.specs.Source.{Source}
+use Rattle.ubi_change.specs.Avoided.{states_avoiding}
 use Rattle.ubi_change.specs.inner.Taking.{AreTaken}
 use Rattle.ubi_change.proofs.WholeReads.{survey_narrowed}
 use Rattle.ubi_change.proofs.ground.ground_of.Goals as goal
@@ -11,5 +12,5 @@ returns-clause-ground g c =
     let seen = c.in_ok-surveyed.surveyed in
     record {
       survey = survey_narrowed s _ _ agrees seen c.in_ok-taken.ensures.narrows c.in_ok-surveyed.ensures.survey;
-      taken = subst (λ (k : Source). AreTaken s k agrees seen.states c.in_ok-taken.taken) c.in_ok-surveyed.ensures.known c.in_ok-taken.ensures.taken;
+      taken = subst (λ (k : Source). AreTaken s k agrees (states_avoiding c.args.avoided.now seen.states) c.in_ok-taken.taken) c.in_ok-surveyed.ensures.known c.in_ok-taken.ensures.taken;
     }

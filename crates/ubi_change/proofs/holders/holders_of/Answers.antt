@@ -2,6 +2,7 @@ use Rattle.std.proofs.Common.{sym, subst, ◌∙◌}
 use Rattle.ubi_scan.specs.Source.{Source, blocks_of}
 use Rattle.ubi_volume.specs.Survey.{IsSurveyOf}
 use Rattle.ubi_change.specs.inner.Sites.{site_at}
+use Rattle.ubi_change.specs.Avoided.{states_avoiding}
 use Rattle.ubi_change.proofs.Sited.{fits_some, site_there}
 use Rattle.ubi_change.proofs.WholeReads.{survey_narrowed}
 use Rattle.ubi_change.proofs.holders.holders_of.Goals as goal
@@ -30,7 +31,7 @@ winner_site-requires-2-clause-survey g c =
 pub returns-clause-holders : goal.returns-clause-holders
 returns-clause-holders g c =
     let s = c.args.geometry.now in
-    let states = c.args.surveyed.now.states in
+    let states = states_avoiding c.args.avoided.now c.args.surveyed.now.states in
     let first_known = c.in_ok-are_both_good.ensures.known in
     let second_known = c.in_ok-first.ensures.known ∙ first_known in
     record {

@@ -1,5 +1,8 @@
 use Rattle.std.proofs.Common.{subst}
 use Rattle.ubi_change.specs.Fitting.{AllWithin}
+use Rattle.ubi_change.proofs.BlankListed.{survey_blank}
+use Rattle.ubi_scan.specs.Source.{blocks_of}
+use Rattle.ubi_change.proofs.Listed.{never_listed}
 use Rattle.ubi_change.proofs.Unrenamed.{error_is, error_read, rename_is}
 use Rattle.ubi_change.proofs.renaming.plan_rename_from.Goals as goal
 
@@ -14,7 +17,9 @@ returns-in-Ok-rename_steps-clause-plan g c =
     record {
       whole = is.ground.survey.scan.whole;
       within = subst (λ n. AllWithin s n steps) is.ground.survey.count c.in-Ok-rename_steps.ensures.within;
-      held = λ bytes holds. rename_is s known agrees c.args.id c.args.name.now r is bytes holds c.page.ensures.limits steps
+      beside = rw c.as_slice.ensures.value at c.in-None-listed.ensures;
+      held = λ bytes holds. rename_is s known agrees c.args.avoided.now c.args.id c.args.name.now r is bytes holds c.page.ensures.limits
+          (survey_blank _ r.ground.surveyed (is.ground.survey.held bytes holds) c.args.avoided.now c.in-None.ensures) steps
           c.in-Ok-rename_steps.ensures.steps;
     }
 
@@ -23,10 +28,26 @@ returns-in-Ok-clause-refused g c =
     let s = c.args.geometry.now in
     let known = g.S.BlockSource.known c.args.source.now in
     let agrees = g.S.BlockSource.agrees c.prepare.new.source in
-    error_is s known agrees c.args.id c.args.name.now c.in-Ok.renamable c.in-Ok.ensures.prepared c.in-Err-rename_steps.cause
+    error_is s known agrees c.args.avoided.now c.args.id c.args.name.now c.in-Ok.renamable c.in-Ok.ensures.prepared c.in-Err-rename_steps.cause
     c.in-Err-rename_steps.ensures.refused
 
 pub returns-clause-refused : goal.returns-clause-refused
 returns-clause-refused g c = rw c.unread.ensures
     (error_read c.args.geometry.now (g.S.BlockSource.known c.args.source.now) (g.S.BlockSource.agrees c.prepare.new.source)
-    c.args.id c.args.name.now c.in-Err.error c.in-Err.ensures.refused)
+    c.args.avoided.now c.args.id c.args.name.now c.in-Err.error c.in-Err.ensures.refused)
+
+pub returns-in-Some-listed-clause-refused : goal.returns-in-Some-listed-clause-refused
+returns-in-Some-listed-clause-refused g c =
+    let s = c.args.geometry.now in
+    let known = g.S.BlockSource.known c.args.source.now in
+    let agrees = g.S.BlockSource.agrees c.prepare.new.source in
+    let r = c.in-Ok.renamable in
+    let is = c.in-Ok.ensures.prepared in
+    let steps = c.in-Ok-rename_steps.steps.items in (
+      is.ground.survey.scan.whole,
+      λ bytes holds. absurd (never_listed s (blocks_of s bytes) c.args.avoided.now steps c.in-Some-listed.p
+          (rename_is s known agrees c.args.avoided.now c.args.id c.args.name.now r is bytes holds c.page.ensures.limits
+          (survey_blank _ r.ground.surveyed (is.ground.survey.held bytes holds) c.args.avoided.now c.in-None.ensures) steps
+          c.in-Ok-rename_steps.ensures.steps).avoids
+          (rw c.as_slice.ensures.value at c.in-Some-listed.ensures)),
+    )

@@ -4,6 +4,7 @@ use Rattle.ubi_scan.specs.Source.{Source, blocks_in, blocks_of}
 use Rattle.ubi_scan.proofs.ReadParts.{count_blocks}
 use Rattle.ubi_volume.specs.Survey.{IsSurveyOf}
 use Rattle.ubi_change.specs.inner.Sites.{FitsIn}
+use Rattle.ubi_change.specs.Avoided.{states_avoiding}
 use Rattle.ubi_change.proofs.Taken.{AreParted, PartedFit, all_fit, more_fit, parted_all, parted_enough, parted_more}
 use Rattle.ubi_change.proofs.WholeReads.{survey_narrowed}
 use Rattle.ubi_change.proofs.taking.first_takeable.Goals as goal
@@ -28,7 +29,7 @@ loop-p-preserved g c =
       fits = rw c.with-parted.ensures
           (more_fit (blocks_in s known) old found c.loop-p.invariant.fits (subst (λ n. IfSome found (FitsIn n)) here c.in_ok-takeable_site.ensures.fits));
       parted = λ bytes holds. rw c.with-parted.ensures
-          (parted_more s (blocks_of s bytes) c.args.surveyed.now.states c.loop-p.p old
+          (parted_more s (blocks_of s bytes) (states_avoiding c.args.avoided.now c.args.surveyed.now.states) c.loop-p.p old
           (c.loop-p.invariant.parted bytes (c.in_ok-takeable_site.ensures.narrows bytes holds)) found
           (c.in_ok-takeable_site.ensures.takeable bytes holds));
     }
@@ -53,11 +54,11 @@ returns-then-is_some-clause-taken g c =
           let before = c.in_ok-takeable_site.ensures.narrows bytes holds in
           let count : length bs ≡ n = count_blocks s known (g.S.BlockSource.agrees c.args.source.now) bytes
           (g.met.S.BlockSource.sized c.args.source.now) (c.loop-p.invariant.narrows bytes before) in
-          let parted : AreParted s bs c.args.surveyed.now.states (c.loop-p.p + 1) now = rw c.with-parted.ensures
-          (parted_more s bs c.args.surveyed.now.states c.loop-p.p old (c.loop-p.invariant.parted bytes before) found
+          let parted : AreParted s bs (states_avoiding c.args.avoided.now c.args.surveyed.now.states) (c.loop-p.p + 1) now = rw c.with-parted.ensures
+          (parted_more s bs (states_avoiding c.args.avoided.now c.args.surveyed.now.states) c.loop-p.p old (c.loop-p.invariant.parted bytes before) found
           (c.in_ok-takeable_site.ensures.takeable bytes holds)) in
           c.all.ensures
-          ∙ parted_enough s bs c.args.surveyed.now.states (c.loop-p.p + 1)
+          ∙ parted_enough s bs (states_avoiding c.args.avoided.now c.args.surveyed.now.states) (c.loop-p.p + 1)
           (omega (arith, c.requires.survey.count, c.loop-p-test.true, ap length c.states-count.ensures, count)) now parted
           (sym c.if-is_some.ensures);
     }
@@ -75,5 +76,5 @@ returns-clause-taken g c =
           let bs = blocks_of s bytes in
           let count : length bs ≡ blocks_in s known = count_blocks s known (g.S.BlockSource.agrees c.args.source.now) bytes
           (g.met.S.BlockSource.sized c.args.source.now) (c.loop-p.invariant.narrows bytes holds) in
-          c.all-2.ensures ∙ parted_all s bs c.args.surveyed.now.states c.loop-p.parted (rw (count, ← all) (c.loop-p.invariant.parted bytes holds));
+          c.all-2.ensures ∙ parted_all s bs (states_avoiding c.args.avoided.now c.args.surveyed.now.states) c.loop-p.parted (rw (count, ← all) (c.loop-p.invariant.parted bytes holds));
     }

@@ -1,5 +1,6 @@
 use Rattle.std.proofs.Common.{◌≡◌}
 use Rattle.ubi_scan.specs.Source.{Narrows, WhereHeld, blocks_in, blocks_of}
+use Rattle.ubi_change.specs.Avoided.{states_avoiding}
 use Rattle.ubi_change.proofs.Taken.{AreParted, PartedFit}
 use Rattle.ubi_change.proofs.taking.first_takeable.Given as goal
 
@@ -9,5 +10,5 @@ invariant-loop-p g l = record {
   narrows : Narrows (g.S.BlockSource.agrees l.fn.source) (g.S.BlockSource.agrees l.source);
   fits : PartedFit (blocks_in l.geometry (g.S.BlockSource.known l.fn.source)) l.parted;
   parted : WhereHeld (g.S.BlockSource.agrees l.source)
-      (λ bytes. AreParted l.geometry (blocks_of l.geometry bytes) l.surveyed.states l.p l.parted);
+      (λ bytes. AreParted l.geometry (blocks_of l.geometry bytes) (states_avoiding l.avoided l.surveyed.states) l.p l.parted);
 }

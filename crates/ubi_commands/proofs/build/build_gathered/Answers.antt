@@ -1,6 +1,8 @@
 use Rattle.std.proofs.Common.{◌∙◌, refl, sym}
 use Rattle.ubi_commands.specs.Build.{unmade}
+use Rattle.ubi_commands.specs.inner.Built.{AreAnswers}
 use Rattle.ubi_commands.proofs.FileRows.{row_sized}
+use Rattle.ubi_commands.proofs.Planned.{stays_unopened}
 use Rattle.ubi_commands.proofs.build.build_gathered.Goals as goal
 
 pub returns-in-Err-Refused-clause-answer : goal.returns-in-Err-Refused-clause-answer
@@ -14,4 +16,12 @@ of-source-requires g c = rw c.new-2.ensures (λ all is.
 
 pub returns-clause-answer : goal.returns-clause-answer
 returns-clause-answer g c = λ sections lines.
-    rw (c.of-source.ensures.file, c.new-2.ensures, c.in-Ok.ensures.made) at (c.build_into.ensures.answer sections lines)
+    let are : AreAnswers c.args.asked.now.from.now c.args.asked.now.out.now sections _ = record { unread = lines; unread_else = c.in_ok-unread_line.ensures; unwritten = c.in_ok-unwritten_line.ensures } in
+    rw (c.disk-1.given.1 (sym c.build_into.ensures.same))
+    (rw (c.of-source.ensures.file, c.new-2.ensures, c.in-Ok.ensures.made) at (c.build_into.ensures.answer sections are))
+
+pub returns-clause-from : goal.returns-clause-from
+returns-clause-from g c =
+    rw (c.disk-1.given.1 (sym c.build_into.ensures.same))
+    (stays_unopened (g.D.Disk.files c.args.disk.now) _ c.args.asked.now.from.now c.args.asked.now.out.now c.may_be_one.result
+    c.may_be_one.ensures c.build_into.ensures.others c.build_into.ensures.shut)

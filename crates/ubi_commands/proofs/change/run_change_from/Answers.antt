@@ -6,7 +6,7 @@ use Rattle.ubi_volume.specs.Wrote.{All, Wrote}
 use Rattle.ubi_change.specs.Fitting.{AllWithin}
 use Rattle.ubi_change.specs.Planned.{IsChangeError, IsPlanned}
 use Rattle.ubi_change.specs.declared.step.Step.{Step}
-use Rattle.ubi_commands.specs.Change.{unplanned_from}
+use Rattle.ubi_commands.specs.Change.{not_blank_from, unplanned_from}
 use Rattle.ubi_commands.specs.Plan.{cut_text, steps_done}
 use Rattle.ubi_commands.proofs.Edited.{change_cut, change_done, change_narrowed}
 use Rattle.ubi_commands.proofs.change.run_change_from.Goals as goal
@@ -22,16 +22,18 @@ carry_out-requires-clause-within g c =
 pub returns-in-Ok-clause-ok : goal.returns-in-Ok-clause-ok
 returns-in-Ok-clause-ok g c =
     let s = c.args.geometry.now in
+    let av = c.args.avoided.now in
     let new = c.args.new.now in
     let known = g.S.BlockSource.known c.args.source.now in
     let agrees = g.S.BlockSource.agrees c.carry_out.new.source in
     let steps = c.as_slice.result.now in
-    let plan : IsPlanned s known (g.S.BlockSource.agrees c.plan_change_from.new.source) new.id new.lnum new.bytes.now steps =
-    subst (λ (steps : List Step). IsPlanned s known (g.S.BlockSource.agrees c.plan_change_from.new.source) new.id new.lnum new.bytes.now steps)
+    let plan : IsPlanned s known (g.S.BlockSource.agrees c.plan_change_from.new.source) av new.id new.lnum new.bytes.now steps =
+    subst (λ (steps : List Step). IsPlanned s known (g.S.BlockSource.agrees c.plan_change_from.new.source) av new.id new.lnum new.bytes.now steps)
     (sym c.as_slice.ensures.value) c.in-Ok.ensures.plan in
-    change_done new.id new.lnum new.bytes.now c.args.stop s known agrees steps
-    (change_narrowed new.id new.lnum new.bytes.now c.args.stop s known _ agrees steps c.carry_out.ensures.narrows plan)
-    c.carry_out.result _ _ c.carry_out.ensures.answer
+    change_done av new.id new.lnum new.bytes.now c.args.stop s known agrees steps
+    (change_narrowed av new.id new.lnum new.bytes.now c.args.stop s known _ agrees steps c.carry_out.ensures.narrows plan)
+    c.carry_out.result c.carry_out.new.pages.items _ _ c.carry_out.ensures.answer
+    (rw c.requires at c.carry_out.ensures.pages)
     (subst (λ (k : Source). IfOk c.carry_out.result (λ _. Wrote agrees (g.W.Write.contents c.args.writer.now)
     (g.W.Write.contents c.carry_out.new.writer) (cut_text s steps (steps_done steps c.args.stop)) All 0 k.size)) c.in-Ok.ensures.known
     c.carry_out.ensures.written)
@@ -40,22 +42,33 @@ returns-in-Ok-clause-ok g c =
 pub returns-in-Ok-clause-err : goal.returns-in-Ok-clause-err
 returns-in-Ok-clause-err g c =
     let s = c.args.geometry.now in
+    let av = c.args.avoided.now in
     let new = c.args.new.now in
     let known = g.S.BlockSource.known c.args.source.now in
     let agrees = g.S.BlockSource.agrees c.carry_out.new.source in
     let steps = c.as_slice.result.now in
-    let plan : IsPlanned s known (g.S.BlockSource.agrees c.plan_change_from.new.source) new.id new.lnum new.bytes.now steps =
-    subst (λ (steps : List Step). IsPlanned s known (g.S.BlockSource.agrees c.plan_change_from.new.source) new.id new.lnum new.bytes.now steps)
+    let plan : IsPlanned s known (g.S.BlockSource.agrees c.plan_change_from.new.source) av new.id new.lnum new.bytes.now steps =
+    subst (λ (steps : List Step). IsPlanned s known (g.S.BlockSource.agrees c.plan_change_from.new.source) av new.id new.lnum new.bytes.now steps)
     (sym c.as_slice.ensures.value) c.in-Ok.ensures.plan in
-    change_cut new.id new.lnum new.bytes.now c.args.stop s known agrees steps
-    (change_narrowed new.id new.lnum new.bytes.now c.args.stop s known _ agrees steps c.carry_out.ensures.narrows plan)
+    change_cut av new.id new.lnum new.bytes.now c.args.stop s known agrees steps
+    (change_narrowed av new.id new.lnum new.bytes.now c.args.stop s known _ agrees steps c.carry_out.ensures.narrows plan)
     c.carry_out.result _ _ c.carry_out.ensures.err
 
 pub returns-in_ok-cause_line-in-Err-Refused-clause-ok : goal.returns-in_ok-cause_line-in-Err-Refused-clause-ok
 returns-in_ok-cause_line-in-Err-Refused-clause-ok g c =
     let s = c.args.geometry.now in
+    let av = c.args.avoided.now in
     let new = c.args.new.now in
     unplanned_from c.in-Err-Refused.cause c.in_ok-cause_line-in-Err-Refused.field-0.items
     (subst (IsChangeError s (g.S.BlockSource.known c.args.source.now) (g.S.BlockSource.agrees c.plan_change_from.new.source)
-    new.id new.lnum new.bytes.now) c.in-Err-Refused.field-0-is c.in-Err-Refused.ensures.refused)
-    (rw c.in-Err-Refused.field-0-is at c.in_ok-cause_line-in-Err-Refused.ensures) c.saying.ensures (Keeps-refl _)
+    av new.id new.lnum new.bytes.now) c.in-Err-Refused.field-0-is c.in-Err-Refused.ensures.refused)
+    (rw c.in-Err-Refused.field-0-is at c.in_ok-cause_line-in-Err-Refused.ensures) c.saying-in-Err-Refused.ensures (Keeps-refl _)
+
+pub returns-in_ok-not_blank_line-in-Err-NotBlank-clause-ok : goal.returns-in_ok-not_blank_line-in-Err-NotBlank-clause-ok
+returns-in_ok-not_blank_line-in-Err-NotBlank-clause-ok g c =
+    let s = c.args.geometry.now in
+    let new = c.args.new.now in
+    not_blank_from c.in-Err-NotBlank.p
+    (subst (IsChangeError s (g.S.BlockSource.known c.args.source.now) (g.S.BlockSource.agrees c.plan_change_from.new.source)
+    c.args.avoided.now new.id new.lnum new.bytes.now) c.in-Err-NotBlank.field-0-is c.in-Err-NotBlank.ensures.refused)
+    (rw (c.in_ok-not_blank_line-in-Err-NotBlank.ensures, c.in-Err-NotBlank.field-0-is) at c.saying.ensures) (Keeps-refl _)

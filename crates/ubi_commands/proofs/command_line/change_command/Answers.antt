@@ -1,5 +1,4 @@
 use Rattle.std.proofs.lemmas.Result.{IfOk-weaker}
-use Rattle.clap.specs.Built.{AddsArg}
 use Rattle.ubi_commands.proofs.CommandNames.{argued, argued_needed}
 use Rattle.ubi_commands.proofs.command_line.change_command.Goals as goal
 
@@ -10,6 +9,4 @@ returns c =
     let two = argued_needed _ _ _ _ _ _ c.in_ok-command-3.ensures c.required-2.ensures c.number-2.ensures.global
     c.number-2.ensures.rule one in
     let three = argued _ _ _ _ _ c.in_ok-command-4.ensures c.new_bytes.ensures.global c.new_bytes.ensures.rule two in
-    IfOk-weaker c.arg-4.result (λ r. AddsArg c.in_ok-command-4.command c.number-3.result r) _
-    (λ r adds. argued _ _ _ _ _ adds c.number-3.ensures.global c.number-3.ensures.rule three)
-    c.arg-4.ensures
+    IfOk-weaker c.with_plan.result _ _ (λ r more. more _ three) c.with_plan.ensures

@@ -1,5 +1,4 @@
 use Rattle.std.proofs.lemmas.Result.{IfOk-weaker}
-use Rattle.clap.specs.Built.{AddsArg}
 use Rattle.ubi_commands.proofs.CommandNames.{argued, argued_needed}
 use Rattle.ubi_commands.proofs.command_line.rename_command.Goals as goal
 
@@ -8,6 +7,4 @@ returns c =
     let one = argued_needed _ _ _ _ _ _ c.in_ok-command-2.ensures c.required.ensures c.number.ensures.global
     c.number.ensures.rule c.in_ok-command.ensures in
     let two = argued _ _ _ _ _ c.in_ok-command-3.ensures c.new_name.ensures.global c.new_name.ensures.rule one in
-    IfOk-weaker c.arg-3.result (λ r. AddsArg c.in_ok-command-3.command c.number-2.result r) _
-    (λ r adds. argued _ _ _ _ _ adds c.number-2.ensures.global c.number-2.ensures.rule two)
-    c.arg-3.ensures
+    IfOk-weaker c.with_plan.result _ _ (λ r more. more _ two) c.with_plan.ensures

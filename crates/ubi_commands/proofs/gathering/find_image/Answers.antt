@@ -17,10 +17,10 @@ returns-clause-unread g c = λ s.
     no_image c.as_bytes.result.now (c.in-Some.is ∙ ap Some (sym c.as_bytes.ensures))
     (subst (λ (p : List ℕ). IsUnreadLine p c.in_ok-unread-2.unread) named c.in_ok-unread-2.ensures)
 
-pub returns-in-Some-sized_beside-clause-apart : goal.returns-in-Some-sized_beside-clause-apart
-returns-in-Some-sized_beside-clause-apart g c =
+pub returns-in-Some-placed_beside-clause-apart : goal.returns-in-Some-placed_beside-clause-apart
+returns-in-Some-placed_beside-clause-apart g c =
     let named : c.as_str-2.result.now ≡ image_path c.args.paths.config.now c.as_bytes.result.now =
     c.as_str-2.ensures ∙ c.in_ok-path.ensures ∙ ap (λ (x : List ℕ). path_with_file_name x c.in-Ok.image.now) c.new.ensures
     ∙ ap (path_with_file_name c.args.paths.config.now) c.in-Ok.ensures.cases.0 in
     one_apart c.args.paths.config.now c.args.paths.out.now c.args.section.now c.as_bytes.result.now (c.in-Some.is ∙ ap Some (sym c.as_bytes.ensures))
-    (λ same. c.in-Some-sized_beside.ensures.apart (named ∙ same))
+    (λ same. c.in-Some-placed_beside.ensures.apart (named ∙ same))

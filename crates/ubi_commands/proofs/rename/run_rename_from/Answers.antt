@@ -11,7 +11,7 @@ use Rattle.ubi_change.specs.declared.step.Step.{Step}
 use Rattle.ubi_commands.specs.Answer.{Gives, says}
 use Rattle.ubi_commands.specs.Lines.{refused_line}
 use Rattle.ubi_commands.specs.Plan.{cut_text, steps_done}
-use Rattle.ubi_commands.specs.Rename.{nameless_from, unplanned_from}
+use Rattle.ubi_commands.specs.Rename.{not_blank_from, nameless_from, unplanned_from}
 use Rattle.ubi_commands.proofs.Edited.{rename_cut, rename_done, rename_narrowed}
 use Rattle.ubi_commands.proofs.rename.run_rename_from.Goals as goal
 
@@ -34,19 +34,21 @@ carry_out-requires-clause-within g c =
 pub returns-in-Ok-clause-ok : goal.returns-in-Ok-clause-ok
 returns-in-Ok-clause-ok g c =
     let s = c.args.geometry.now in
+    let av = c.args.avoided.now in
     let id = c.args.id in
     let word = c.args.word.now in
     let name = c.as_bytes.result.now in
     let known = g.S.BlockSource.known c.args.source.now in
     let agrees = g.S.BlockSource.agrees c.carry_out.new.source in
     let steps = c.as_slice.result.now in
-    let plan : IsPlannedRename s known (g.S.BlockSource.agrees c.plan_rename_from.new.source) id name steps =
-    subst (λ (steps : List Step). IsPlannedRename s known (g.S.BlockSource.agrees c.plan_rename_from.new.source) id name steps)
+    let plan : IsPlannedRename s known (g.S.BlockSource.agrees c.plan_rename_from.new.source) av id name steps =
+    subst (λ (steps : List Step). IsPlannedRename s known (g.S.BlockSource.agrees c.plan_rename_from.new.source) av id name steps)
     (sym c.as_slice.ensures.value) c.in-Ok.ensures.plan in
     let shown : shown_name word ≡ Some name = sym c.in-Some.ensures ∙ ap Some (sym c.as_bytes.ensures.value) in
-    rename_done id word c.args.stop s known agrees name shown steps
-    (rename_narrowed id word c.args.stop s name known _ agrees steps c.carry_out.ensures.narrows plan)
-    c.carry_out.result _ _ c.carry_out.ensures.answer
+    rename_done av id word c.args.stop s known agrees name shown steps
+    (rename_narrowed av id word c.args.stop s name known _ agrees steps c.carry_out.ensures.narrows plan)
+    c.carry_out.result c.carry_out.new.pages.items _ _ c.carry_out.ensures.answer
+    (rw c.requires at c.carry_out.ensures.pages)
     (subst (λ (k : Source). IfOk c.carry_out.result (λ _. Wrote agrees (g.W.Write.contents c.args.writer.now)
     (g.W.Write.contents c.carry_out.new.writer) (cut_text s steps (steps_done steps c.args.stop)) All 0 k.size)) c.in-Ok.ensures.known
     c.carry_out.ensures.written)
@@ -55,18 +57,19 @@ returns-in-Ok-clause-ok g c =
 pub returns-in-Ok-clause-err : goal.returns-in-Ok-clause-err
 returns-in-Ok-clause-err g c =
     let s = c.args.geometry.now in
+    let av = c.args.avoided.now in
     let id = c.args.id in
     let word = c.args.word.now in
     let name = c.as_bytes.result.now in
     let known = g.S.BlockSource.known c.args.source.now in
     let agrees = g.S.BlockSource.agrees c.carry_out.new.source in
     let steps = c.as_slice.result.now in
-    let plan : IsPlannedRename s known (g.S.BlockSource.agrees c.plan_rename_from.new.source) id name steps =
-    subst (λ (steps : List Step). IsPlannedRename s known (g.S.BlockSource.agrees c.plan_rename_from.new.source) id name steps)
+    let plan : IsPlannedRename s known (g.S.BlockSource.agrees c.plan_rename_from.new.source) av id name steps =
+    subst (λ (steps : List Step). IsPlannedRename s known (g.S.BlockSource.agrees c.plan_rename_from.new.source) av id name steps)
     (sym c.as_slice.ensures.value) c.in-Ok.ensures.plan in
     let shown : shown_name word ≡ Some name = sym c.in-Some.ensures ∙ ap Some (sym c.as_bytes.ensures.value) in
-    rename_cut id word c.args.stop s known agrees name shown steps
-    (rename_narrowed id word c.args.stop s name known _ agrees steps c.carry_out.ensures.narrows plan)
+    rename_cut av id word c.args.stop s known agrees name shown steps
+    (rename_narrowed av id word c.args.stop s name known _ agrees steps c.carry_out.ensures.narrows plan)
     c.carry_out.result _ _ c.carry_out.ensures.err
 
 pub returns-in_ok-rename_line-in-Err-Refused-clause-ok : goal.returns-in_ok-rename_line-in-Err-Refused-clause-ok
@@ -76,5 +79,15 @@ returns-in_ok-rename_line-in-Err-Refused-clause-ok g c =
     let shown : shown_name c.args.word.now ≡ Some name = sym c.in-Some.ensures ∙ ap Some (sym c.as_bytes.ensures.value) in
     unplanned_from name c.in-Err-Refused.cause c.in_ok-rename_line-in-Err-Refused.field-0.items shown
     (subst (IsRenameError s (g.S.BlockSource.known c.args.source.now) (g.S.BlockSource.agrees c.plan_rename_from.new.source)
-    c.args.id name) c.in-Err-Refused.field-0-is c.in-Err-Refused.ensures.refused)
+    c.args.avoided.now c.args.id name) c.in-Err-Refused.field-0-is c.in-Err-Refused.ensures.refused)
     (rw c.in-Err-Refused.field-0-is at c.in_ok-rename_line-in-Err-Refused.ensures) c.saying-in-Err-Refused.ensures (Keeps-refl _)
+
+pub returns-in_ok-not_blank_line-in-Err-NotBlank-clause-ok : goal.returns-in_ok-not_blank_line-in-Err-NotBlank-clause-ok
+returns-in_ok-not_blank_line-in-Err-NotBlank-clause-ok g c =
+    let s = c.args.geometry.now in
+    let name = c.as_bytes.result.now in
+    let shown : shown_name c.args.word.now ≡ Some name = sym c.in-Some.ensures ∙ ap Some (sym c.as_bytes.ensures.value) in
+    not_blank_from name c.in-Err-NotBlank.p shown
+    (subst (IsRenameError s (g.S.BlockSource.known c.args.source.now) (g.S.BlockSource.agrees c.plan_rename_from.new.source)
+    c.args.avoided.now c.args.id name) c.in-Err-NotBlank.field-0-is c.in-Err-NotBlank.ensures.refused)
+    (rw (c.in_ok-not_blank_line-in-Err-NotBlank.ensures, c.in-Err-NotBlank.field-0-is) at c.saying-in-Err-NotBlank.ensures) (Keeps-refl _)

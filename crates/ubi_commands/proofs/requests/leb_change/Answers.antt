@@ -1,7 +1,7 @@
 use Rattle.ubi_commands.proofs.requests.leb_change.Goals as goal
 
-pub returns-in_err-paths_of : goal.returns-in_err-paths_of
-returns-in_err-paths_of c = rw c.from_residual.ensures (λ x asked. c.in_err-paths_of.ensures x.paths asked.0)
+pub returns-in_err-plan_of : goal.returns-in_err-plan_of
+returns-in_err-plan_of c = rw c.from_residual.ensures (λ x asked. c.in_err-plan_of.ensures x.plan asked.0)
 
 pub returns-in_err-number_of : goal.returns-in_err-number_of
 returns-in_err-number_of c =

@@ -1,5 +1,6 @@
 use Rattle.std.proofs.Common.{ap, sym, ◌∙◌}
 use Rattle.ubi_volume.specs.Extract.{extent_len}
+use Rattle.ubi_commands.proofs.Outcomes.{kept_after}
 use Rattle.ubi_commands.proofs.Unpacked.{all_unpacked, none_unpacked}
 use Rattle.ubi_commands.proofs.unpack.unpack_volume.Goals as goal
 
@@ -12,4 +13,5 @@ returns-in-Ok-work-clause-unpacked g c = λ bytes holds h.
     all_unpacked c.args.geometry.now _ bytes holds c.args.places.now h c.args.id _
     (ap extent_len (sym c.in-Ok.is) ∙ c.extent.ensures.meant _ h) _ _ _ c.in-Ok-work.ensures.written
     (g.D.Disk.files c.args.disk.now) (g.D.Disk.files c.keep.new.self) c.args.path.now c.in-Ok-create_new.ensures.fresh
-    (rw c.in-Ok-create_new.ensures.path at c.keep.ensures)
+    (kept_after _ (g.D.Disk.files c.create_new.new.self) _ _ _ c.in-Ok-create_new.ensures.others
+    (rw c.in-Ok-create_new.ensures.path at c.keep.ensures))

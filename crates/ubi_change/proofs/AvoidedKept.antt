@@ -1,0 +1,159 @@
+-- The steps of a plan that avoids something touch none of it: not what is taken, since the plan sees that as used; and not
+-- what is given up, since that holds a LEB, and the listed ones begin blank.
+use Rattle.std.proofs.Common.{◌≡◌, ℕ, zero, suc, ◌<◌, ◌≤◌, Bool, true, false, List, [], ◌∷◌, length, take, get_or, refl, ap, sym, ◌∙◌, subst, arith}
+use Rattle.std.specs.Prelude.{◌&&◌, ◌||◌, IfSome, None, Option, Some, not, option_map, slice_get}
+use Rattle.std.specs.FinMap as finite
+use Rattle.std.specs.Option.{option_map_or}
+use Rattle.ubi_media.specs.Geometry.{IsGeometry, Sizes}
+use Rattle.ubi_media.specs.declared.ec.EcRead.TheVariants as ec_read
+use Rattle.ubi_media.proofs.Padding.{half_pad, reserved_within}
+use Rattle.ubi_scan.specs.Image.{Image, block, ec, eraseblocks, in_image}
+use Rattle.ubi_scan.specs.Members.{Leb, Wins, layout}
+use Rattle.ubi_table.specs.Records.{Records}
+use Rattle.ubi_volume.specs.Attached.{IsAttached, StateIs, Whole}
+use Rattle.ubi_volume.specs.Meant.{records_of}
+use Rattle.ubi_volume.specs.declared.attached.BlockState.{BlockState}
+use Rattle.ubi_volume.specs.declared.attached.BlockState.TheVariants as state
+use Rattle.ubi_volume.specs.declared.content.Volume.{Volume}
+use Rattle.ubi_volume.proofs.Winners.{found_wins}
+use Rattle.ubi_change.specs.Frugal.{TouchesOnly, given_up}
+use Rattle.ubi_change.specs.Plan.{needs, plan_of, taken}
+use Rattle.ubi_change.specs.Refused.{first_cause}
+use Rattle.ubi_change.specs.RenamePlan.{rename_plan}
+use Rattle.ubi_change.specs.RenameRefused.{MayBeNamed}
+use Rattle.ubi_change.specs.Avoided.{MayTouch, ReadBlank, Avoided, Avoids, avoiding, is_avoided, is_blank_one, is_listed, state_avoiding}
+use Rattle.ubi_change.specs.Steps.{target}
+use Rattle.ubi_change.specs.Takeable.{ec_at, is_unused, stays, takeable}
+use Rattle.ubi_change.specs.declared.step.Step.{Step}
+use Rattle.ubi_change.proofs.Attached.{no_cause}
+use Rattle.ubi_change.proofs.AttachedImage.{mean_few, seq_narrow}
+use Rattle.ubi_change.proofs.BlankListed.{blank_one}
+use Rattle.ubi_change.proofs.Choosing.{Each, MayBeTaken, each_map, may_be_taken, takeable_each}
+use Rattle.ubi_change.proofs.PlanSurvives.{sound}
+use Rattle.ubi_change.proofs.Premises.{left_of}
+use Rattle.ubi_change.proofs.RenameAttached as rename
+use Rattle.ubi_change.proofs.RenameAttached.{Renaming}
+use Rattle.ubi_change.proofs.RenameFrugal.{rename_frugal}
+use Rattle.ubi_change.proofs.Shown.{IsShown, seen_state, shown_avoiding, not_avoided}
+use Rattle.ubi_change.proofs.Touched.{plan_touches}
+use Rattle.ubi_change.proofs.Unused.{nameless_ec, nameless_loses}
+
+or_true : (b : Bool) → (b || true) ≡ true
+or_true true = refl
+or_true false = refl
+
+-- a fact about each of a list is one about what it contains
+each_at : (P : ℕ → Type 0) (xs : List ℕ) (k p : ℕ) → Each P xs → k < length xs → get_or xs k p ≡ p → P p
+each_at P [] k p e l same = absurd (omega arith)
+each_at P (x ∷ xs) zero p e l same = subst P same e.0
+each_at P (x ∷ xs) (suc k) p e l same = each_at P xs k p e.1 (omega arith) same
+
+each_take : (P : ℕ → Type 0) (n : ℕ) (xs : List ℕ) → Each P xs → Each P (take n xs)
+each_take P zero xs e = tt
+each_take P (suc n) [] e = tt
+each_take P (suc n) (x ∷ xs) e = (e.0, each_take P n xs e.1)
+
+module _ (s : Sizes) (bs : List (List ℕ)) (av : Avoided) where
+  pub avoids_each : (ps : List ℕ) (steps : List Step) → TouchesOnly ps steps → Each (MayTouch s bs av) ps → Avoids s bs av steps
+  avoids_each ps steps touches each k next e =
+      let c = touches k next e in
+      each_at (MayTouch s bs av) ps c.0 (target next) each c.1 c.2
+
+  unread : (b : Bool) → (b ≡ true → ⊥) → b ≡ false
+  unread true none = absurd (none refl)
+  unread false none = refl
+
+  unlisted : (b c : Bool) → (b || c) ≡ false → b ≡ false
+  unlisted true c e = e
+  unlisted false c e = refl
+
+  -- what wins a LEB isn't Blank
+  pub winner_may : (t : Records) (of : Leb) (p : ℕ) → ReadBlank s bs av → Wins s bs of p → MayTouch s bs av p
+  winner_may t of p blank w =
+      let full : ec s (block bs p) ≡ ec_read.Blank → ⊥ =
+      λ e. nameless_loses s bs t p (nameless_ec s (block bs p) e) of w in
+      (unread (is_listed av.marks p) (λ c. full (blank p w.member.inside c)), λ on e. full e)
+
+  module _ (t : Records) (p : ℕ) where
+    by_state : (o : Option BlockState) → IfSome o (StateIs s bs t p)
+        → option_map_or is_unused (option_map (state_avoiding av p) o) false ≡ true → MayTouch s bs av p
+    by_state None h u = absurd (cc)
+    by_state (Some st) h u =
+        let is = not_avoided av p st u in
+        let unused : is_unused st ≡ true = ap is_unused (sym is.1) ∙ u in (
+          unlisted (is_listed av.marks p) (av.blank && is_blank_one st) is.0,
+          λ on e. (let k = avoided_blank st (blank_one s bs t p st h e) on in let f = is.0 in absurd (cc)),
+        )
+      where
+        avoided_blank : (st : BlockState) → st ≡ state.Blank → av.blank ≡ true → is_avoided av p st ≡ true
+        avoided_blank st e on =
+            ap (is_avoided av p) e
+            ∙ ap (λ b. is_listed av.marks p || (b && true)) on
+            ∙ or_true (is_listed av.marks p)
+
+module _ (image : Image) (av : Avoided) (from : Whole) (att : IsAttached image from) (blank : in_image ReadBlank image av) where
+  abbrev s : Sizes
+  s = image.sizes
+
+  abbrev bs : List (List ℕ)
+  bs = eraseblocks image
+
+  -- the image as the plan sees it
+  abbrev a : Whole
+  a = avoiding av from
+
+  -- what may be taken may be touched
+  taken_may : (p : ℕ) → MayBeTaken s bs a.states p → MayTouch s bs av p
+  taken_may p may =
+      by_state s bs av (records_of from.meaning) p (slice_get from.states p) (att.states.1 p)
+      (ap (λ o. option_map_or is_unused o false) (sym (seen_state av from.states p))
+      ∙ left_of (option_map_or is_unused (slice_get a.states p) false) (not (stays s bs p (ec_at s bs p))) may.1)
+
+  takeable_may : (n : ℕ) → Each (MayTouch s bs av) (take n (takeable s bs a.states))
+  takeable_may n = each_take (MayTouch s bs av) n (takeable s bs a.states)
+      (each_map (MayBeTaken s bs a.states) (MayTouch s bs av) (takeable s bs a.states) taken_may
+      (takeable_each s bs a.states))
+
+  given_may : (id lnum : ℕ) → needs s bs a id lnum ≤ length (takeable s bs a.states)
+      → MayTouch s bs av (given_up s bs a id lnum)
+  given_may id lnum enough = by_winner (finite.get a.scan.winners (id, lnum)) refl enough
+    where
+      by_winner : (o : Option ℕ) → finite.get a.scan.winners (id, lnum) ≡ o
+          → option_map_or (λ _. 1) o 2 ≤ length (takeable s bs a.states)
+          → MayTouch s bs av (option_map_or (λ p. p) o (taken s bs a 0))
+      by_winner (Some p) e l = winner_may s bs av (records_of from.meaning) (id, lnum) p blank
+          (found_wins s bs a.scan att.scan (id, lnum) p e)
+      by_winner None e l = taken_may (taken s bs a 0) (may_be_taken s bs a.states 0 (omega arith))
+
+  pub plan_avoids : (g : IsGeometry s) (id lnum : ℕ) (new : List ℕ) (v : Volume) → finite.get a.meaning.volumes id ≡ Some v
+      → first_cause s bs a id lnum new ≡ None → Avoids s bs av (plan_of s bs a v.entry id lnum new)
+  plan_avoids g id lnum new v there allowed =
+      let seen : IsShown image a = shown_avoiding image av from att in
+      let r = sound image a seen id v there in
+      let enough = (no_cause image g a seen (mean_few image a seen) (seq_narrow image a seen) id lnum new v there allowed
+      (half_pad s v.entry r g) (reserved_within s v.entry r)).enough in
+      avoids_each s bs av (given_up s bs a id lnum ∷ take (needs s bs a id lnum) (takeable s bs a.states))
+      (plan_of s bs a v.entry id lnum new)
+      (plan_touches s bs a v.entry id lnum new enough)
+      (given_may id lnum enough, takeable_may (needs s bs a id lnum))
+
+  pub rename_avoids : (g : IsGeometry s) (id : ℕ) (name : List ℕ) (allowed : in_image MayBeNamed image a id name)
+      → Avoids s bs av (rename_plan s bs a id name)
+  rename_avoids g id name allowed =
+      let r : Renaming = record {
+        image = image;
+        geometry = g;
+        from = a;
+        attached = shown_avoiding image av from att;
+        id = id;
+        name = name;
+        allowed = allowed;
+      } in
+      avoids_each s bs av (rename.old0 r ∷ rename.old1 r ∷ take 2 (takeable s bs a.states)) (rename_plan s bs a id name)
+      (rename_frugal r).touches (
+        winner_may s bs av (records_of from.meaning) (layout, 0) (rename.old0 r) blank (rename.wins0 r),
+        (
+          winner_may s bs av (records_of from.meaning) (layout, 1) (rename.old1 r) blank (rename.wins1 r),
+          takeable_may 2,
+        ),
+      )

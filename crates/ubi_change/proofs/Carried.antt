@@ -1,0 +1,39 @@
+-- Lines and pages are the steps that they were taken from.
+use Rattle.std.proofs.Common.{◌≡◌, ◌∙◌, ℕ, zero, suc, arith, List, [], ◌∷◌, ◌++◌, ap, ap₂, drop, fold, map, refl, sym, take}
+use Rattle.std.proofs.Math.Seq.{drop-append_seam, take-append_seam}
+use Rattle.std.proofs.lemmas.List.{take-take}
+use Rattle.ubi_media.specs.Geometry.{Sizes}
+use Rattle.ubi_change.specs.Fitting.{AllWithin, FitsBlock}
+use Rattle.ubi_change.specs.Pages.{PagesCarry, line_of, programmed, with_pages}
+use Rattle.ubi_change.specs.Steps.{after, step_done}
+use Rattle.ubi_change.specs.declared.step.Step.{Step}
+use Rattle.ubi_change.specs.declared.step.Step.TheVariants as step
+
+-- the bytes of each program are one page
+data ArePaged (s : Sizes) : List Step → Type 0 where
+  none : ArePaged s []
+  also : {x : Step} {xs : List Step} → FitsBlock s x → ArePaged s xs → ArePaged s (x ∷ xs)
+
+paged : (s : Sizes) (n : ℕ) (steps : List Step) → AllWithin s n steps → ArePaged s steps
+paged s n [] within = none
+paged s n (x ∷ xs) within = also (within 0 x refl).1 (paged s n xs (λ k next e. within (suc k) next e))
+
+paged_take : (s : Sizes) (k : ℕ) (steps : List Step) → ArePaged s steps → ArePaged s (take k steps)
+paged_take s zero steps all = none
+paged_take s (suc k) [] all = none
+paged_take s (suc k) (x ∷ xs) (also here rest) = also here (paged_take s k xs rest)
+
+rebuilt : (s : Sizes) (steps : List Step) → ArePaged s steps → with_pages s.page (map line_of steps) (programmed steps) ≡ steps
+rebuilt s [] all = refl
+rebuilt s (step.Erase p ∷ xs) (also here rest) = ap (λ ys. step.Erase p ∷ ys) (rebuilt s xs rest)
+rebuilt s (step.Program p page bytes ∷ xs) (also here rest) =
+    ap₂ (λ (b : List ℕ) (ys : List Step). step.Program p page b ∷ ys)
+    (ap (λ n. take n (bytes ++ programmed xs)) (sym here.1) ∙ take-append_seam bytes (programmed xs))
+    (ap (λ n. with_pages s.page (map line_of xs) (drop n (bytes ++ programmed xs))) (sym here.1)
+    ∙ ap (with_pages s.page (map line_of xs)) (drop-append_seam bytes (programmed xs))
+    ∙ rebuilt s xs rest)
+
+pub pages_carry : PagesCarry
+pages_carry s bs n steps k within =
+    ap (λ xs. after s bs xs k) (rebuilt s (take k steps) (paged_take s k steps (paged s n steps within)))
+    ∙ ap (fold (step_done s) bs) (take-take k k steps (omega arith))

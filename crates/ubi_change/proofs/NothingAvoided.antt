@@ -1,0 +1,83 @@
+-- Where nothing is avoided, what holds of a plan that avoids something is what holds of one that doesn't.
+use Rattle.std.proofs.Common.{◌≡◌, ℕ, List, subst, sym, true≢false}
+use Rattle.std.specs.Prelude.{None, Some}
+use Rattle.ubi_media.specs.Geometry.{Sizes}
+use Rattle.ubi_scan.specs.Image.{Image, in_image}
+use Rattle.ubi_volume.specs.Attached.{Whole}
+use Rattle.ubi_change.specs.Frugal.{IsFrugal}
+use Rattle.ubi_change.specs.Plan.{plan_of}
+use Rattle.ubi_change.specs.Planned.{IsChangeRefusal, IsChangeRefusalAvoiding, IsFrugalOf, IsFrugalAvoiding, IsPlan, IsPlanAvoiding}
+use Rattle.ubi_change.specs.Refused.{first_cause}
+use Rattle.ubi_change.specs.RenamePlan.{rename_plan}
+use Rattle.ubi_change.specs.RenamePlanned.{IsFrugalRename, IsFrugalRenameOf, IsFrugalRenameAvoiding, IsRename, IsRenameRefusal, IsRenameRefusalAvoiding, IsRenameAvoiding}
+use Rattle.ubi_change.specs.RenameRefused.{IsFirstCause, MayBeNamed}
+use Rattle.ubi_change.specs.Avoided.{ReadBlank, nothing, avoiding}
+use Rattle.ubi_change.specs.declared.refusal.ChangeRefusal.{ChangeRefusal}
+use Rattle.ubi_change.specs.declared.refusal.ChangeRefusal.TheVariants as change
+use Rattle.ubi_change.specs.declared.rename_refusal.RenameRefusal.{RenameRefusal}
+use Rattle.ubi_change.specs.declared.rename_refusal.RenameRefusal.TheVariants as rename
+use Rattle.ubi_change.specs.declared.step.Step.{Step}
+use Rattle.ubi_change.proofs.Shown.{avoiding_nothing}
+
+-- where nothing is listed, no listed eraseblock holds anything
+pub none_listed : (s : Sizes) (bs : List (List ℕ)) → ReadBlank s bs nothing
+none_listed s bs p l c = absurd (true≢false (sym c))
+
+-- a fact of what a plan sees
+as_is : (fact : Whole → Type 0) (a : Whole) → fact (avoiding nothing a) → fact a
+as_is fact a h = subst fact (avoiding_nothing a) h
+
+module _ (image : Image) (id lnum : ℕ) (new : List ℕ) where
+  pub plan_nothing : (steps : List Step) → IsPlanAvoiding image nothing id lnum new steps → IsPlan image id lnum new steps
+  plan_nothing steps h = record {
+    from = h.from;
+    attached = h.attached;
+    allowed = as_is (λ a. in_image first_cause image a id lnum new ≡ None) h.from h.allowed;
+    volume = h.volume;
+    there = h.there;
+    plan = as_is (λ a. steps ≡ in_image plan_of image a h.volume.entry id lnum new) h.from h.plan;
+  }
+
+  pub frugal_nothing : (steps : List Step) → IsFrugalAvoiding image nothing id lnum new steps → IsFrugalOf image id lnum new steps
+  frugal_nothing steps h = (h.0, h.1, as_is (λ a. in_image IsFrugal image a id lnum new steps) h.0 h.2)
+
+  abbrev Causes : ChangeRefusal → Whole → Type 0
+  Causes c a = in_image first_cause image a id lnum new ≡ Some c
+
+  pub refusal_nothing : (c : ChangeRefusal) → IsChangeRefusalAvoiding image nothing id lnum new c → IsChangeRefusal image id lnum new c
+  refusal_nothing change.Memory h = tt
+  refusal_nothing (change.Attach x) h = h
+  refusal_nothing change.NoVolume h = (h.0, h.1, as_is (Causes change.NoVolume) h.0 h.2)
+  refusal_nothing change.StaticVolume h = (h.0, h.1, as_is (Causes change.StaticVolume) h.0 h.2)
+  refusal_nothing change.Updating h = (h.0, h.1, as_is (Causes change.Updating) h.0 h.2)
+  refusal_nothing change.OutOfRange h = (h.0, h.1, as_is (Causes change.OutOfRange) h.0 h.2)
+  refusal_nothing change.BadLength h = (h.0, h.1, as_is (Causes change.BadLength) h.0 h.2)
+  refusal_nothing (change.WeakCheck k) h = (h.0, h.1, as_is (Causes (change.WeakCheck k)) h.0 h.2)
+  refusal_nothing change.Exhausted h = (h.0, h.1, as_is (Causes change.Exhausted) h.0 h.2)
+  refusal_nothing change.NoFree h = (h.0, h.1, as_is (Causes change.NoFree) h.0 h.2)
+
+module _ (image : Image) (id : ℕ) (name : List ℕ) where
+  pub rename_nothing : (steps : List Step) → IsRenameAvoiding image nothing id name steps → IsRename image id name steps
+  rename_nothing steps h = record {
+    from = h.from;
+    attached = h.attached;
+    allowed = as_is (λ a. in_image MayBeNamed image a id name) h.from h.allowed;
+    plan = as_is (λ a. steps ≡ in_image rename_plan image a id name) h.from h.plan;
+  }
+
+  pub frugal_rename_nothing : (steps : List Step) → IsFrugalRenameAvoiding image nothing id name steps → IsFrugalRenameOf image id name steps
+  frugal_rename_nothing steps h = (h.0, h.1, as_is (λ a. in_image IsFrugalRename image a id name steps) h.0 h.2)
+
+  abbrev Stops : RenameRefusal → Whole → Type 0
+  Stops c a = in_image IsFirstCause image a id name c
+
+  pub rename_refusal_nothing : (c : RenameRefusal) → IsRenameRefusalAvoiding image nothing id name c → IsRenameRefusal image id name c
+  rename_refusal_nothing rename.Memory h = tt
+  rename_refusal_nothing (rename.Attach x) h = h
+  rename_refusal_nothing rename.NoVolume h = (h.0, h.1, as_is (Stops rename.NoVolume) h.0 h.2)
+  rename_refusal_nothing rename.BadName h = (h.0, h.1, as_is (Stops rename.BadName) h.0 h.2)
+  rename_refusal_nothing (rename.SameName slot) h = (h.0, h.1, as_is (Stops (rename.SameName slot)) h.0 h.2)
+  rename_refusal_nothing rename.NeedsRepair h = (h.0, h.1, as_is (Stops rename.NeedsRepair) h.0 h.2)
+  rename_refusal_nothing (rename.WeakCheck k) h = (h.0, h.1, as_is (Stops (rename.WeakCheck k)) h.0 h.2)
+  rename_refusal_nothing rename.Exhausted h = (h.0, h.1, as_is (Stops rename.Exhausted) h.0 h.2)
+  rename_refusal_nothing rename.NoFree h = (h.0, h.1, as_is (Stops rename.NoFree) h.0 h.2)

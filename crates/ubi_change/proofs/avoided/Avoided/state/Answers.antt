@@ -1,0 +1,18 @@
+use Rattle.std.proofs.Common.{Bool, cond, sym, ap, ◌∙◌}
+use Rattle.std.specs.Prelude.{Some, option_map}
+use Rattle.ubi_volume.specs.declared.attached.BlockState.TheVariants as state
+use Rattle.ubi_change.specs.Avoided.{state_avoiding}
+use Rattle.ubi_change.proofs.Shown.{seen_state}
+use Rattle.ubi_change.proofs.avoided.Avoided.state.Goals as goal
+
+pub returns-then-has : goal.returns-then-has
+returns-then-has c =
+    seen_state c.args.self.now c.args.surveyed.now.states c.args.p
+    ∙ ap (option_map (state_avoiding c.args.self.now c.args.p)) c.state-state.ensures
+    ∙ ap (λ (b : Bool). Some (cond b state.Used c.state-state.result)) (sym c.has.ensures ∙ c.if-has.true)
+
+pub returns-else-has : goal.returns-else-has
+returns-else-has c =
+    seen_state c.args.self.now c.args.surveyed.now.states c.args.p
+    ∙ ap (option_map (state_avoiding c.args.self.now c.args.p)) c.state-state.ensures
+    ∙ ap (λ (b : Bool). Some (cond b state.Used c.state-state.result)) (sym c.has.ensures ∙ c.if-has.false)

@@ -1,0 +1,78 @@
+-- What a plan may not touch, and what an attach shows of an image as a plan sees it that avoids it.
+use Rattle.std.specs.Prelude.{◌≡◌, ℕ, ◌<◌, ◌&&◌, ◌||◌, Bool, true, false, if◌then◌else◌, List, [], length, map, Some, slice_get, refl, unwrap_or}
+use Rattle.std.specs.Coded.{Coded, code_by, coded×, coded_bool, coded_list}
+use Rattle.std.specs.List.{enumerate_from}
+use Rattle.ubi_media.specs.Geometry.{Sizes}
+use Rattle.ubi_media.specs.declared.ec.EcRead.TheVariants as ec_read
+use Rattle.ubi_scan.specs.Image.{block, ec}
+use Rattle.ubi_volume.specs.Attached.{Whole}
+use Rattle.ubi_volume.specs.declared.attached.BlockState.{BlockState}
+use Rattle.ubi_volume.specs.declared.attached.BlockState.TheVariants as state
+use Rattle.ubi_change.specs.Steps.{target}
+use Rattle.ubi_change.specs.declared.step.Step.{Step}
+
+-- the eraseblocks that a plan may not touch: of each whether it is listed, and whether no Blank one may be touched
+pub record Avoided : Type 0 where
+  pub marks : List Bool
+  pub blank : Bool
+
+-- the same as a pair
+abbrev pub avoided_code : Coded Avoided
+avoided_code =
+    code_by (List Bool × Bool) (coded× (coded_list coded_bool) coded_bool) (λ e. (e.marks, e.blank))
+    (λ p. record { marks = p.0; blank = p.1 }) (λ _. refl)
+
+-- nothing is avoided
+abbrev pub nothing : Avoided
+nothing = record { marks = []; blank = false }
+
+-- whether p is listed: it has a mark, and that says so
+abbrev pub is_listed : List Bool → ℕ → Bool
+is_listed marks p = unwrap_or (slice_get marks p) false
+
+-- whether an eraseblock in this state is Blank
+abbrev pub is_blank_one : BlockState → Bool
+is_blank_one state.Blank = true
+is_blank_one _ = false
+
+module _ (av : Avoided) where
+  -- whether p, which is in this state, is avoided
+  abbrev pub is_avoided : ℕ → BlockState → Bool
+  is_avoided p st = is_listed av.marks p || (av.blank && is_blank_one st)
+
+  -- its state as the plan sees it: what is avoided is as good as used
+  abbrev pub state_avoiding : ℕ → BlockState → BlockState
+  state_avoiding p st = if is_avoided p st then state.Used else st
+
+  -- and those of all
+  abbrev pub states_avoiding : List BlockState → List BlockState
+  states_avoiding states = map (λ e. state_avoiding e.0 e.1) (enumerate_from 0 states)
+
+  -- what an attach shows, as the plan sees it
+  abbrev pub avoiding : Whole → Whole
+  avoiding a = record a { states = states_avoiding a.states }
+
+-- no step works on a listed eraseblock
+abbrev pub AllBeside : List Bool → List Step → Type 0
+AllBeside marks steps = (k : ℕ) (next : Step) → slice_get steps k ≡ Some next → is_listed marks (target next) ≡ false
+
+module _ (s : Sizes) (bs : List (List ℕ)) (av : Avoided) where
+  -- p isn't listed, and it isn't Blank where no Blank one may be touched
+  abbrev pub MayTouch : ℕ → Type 0
+  MayTouch p = (is_listed av.marks p ≡ false) × (av.blank ≡ true → ec s (block bs p) ≡ ec_read.Blank → ⊥)
+
+  -- no step erases or programs what is avoided
+  abbrev pub Avoids : List Step → Type 0
+  Avoids steps = (k : ℕ) (next : Step) → slice_get steps k ≡ Some next → MayTouch (target next)
+
+  -- the listed eraseblocks below n are Blank
+  abbrev pub BlankBelow : ℕ → Type 0
+  BlankBelow n = (p : ℕ) → p < n → is_listed av.marks p ≡ true → ec s (block bs p) ≡ ec_read.Blank
+
+  -- all listed eraseblocks that are there are Blank: none of them holds anything
+  abbrev pub ReadBlank : Type 0
+  ReadBlank = BlankBelow (length bs)
+
+  -- p is the lowest listed eraseblock that is there and isn't Blank
+  abbrev pub IsNotBlank : ℕ → Type 0
+  IsNotBlank p = (is_listed av.marks p ≡ true) × (p < length bs) × (ec s (block bs p) ≡ ec_read.Blank → ⊥) × BlankBelow p

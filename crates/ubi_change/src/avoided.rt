@@ -1,0 +1,118 @@
+//! What a plan may not touch.
+
+ghost use Rattle.std.specs.Prelude.{◌≡◌, ◌<◌, ◌≤◌, Some, length, slice_get};
+ghost use Rattle.ubi_change.specs.inner.Taking.{ListedIs, NotBlankIs};
+ghost use Rattle.ubi_change.specs.Avoided.{is_avoided, is_blank_one, is_listed, state_avoiding, states_avoiding};
+
+use crate::step::Step;
+use std::marker::Model;
+use ubi_media::Geometry;
+use ubi_volume::{BlockState, Surveyed};
+
+/// Eraseblocks that a plan may not touch, as those of a flash device that are bad.
+#[derive(Drop)]
+pub struct Avoided<'a> {
+    /// Of each eraseblock, by its number, whether it is listed. One that has no mark isn't.
+    marks: &'a [bool],
+    /// Whether no eraseblock may be touched that is Blank.
+    blank: bool,
+}
+
+impl<'a> Model for Avoided<'a> {
+    ghost use Rattle.ubi_change.specs.Avoided.{Avoided, avoided_code};
+
+    ghost Value = { Avoided };
+
+    ghost coded = { avoided_code };
+
+    ghost view = { λ a. record { marks = a.marks.now; blank = a.blank } };
+}
+
+/// Whether an eraseblock in this state is Blank.
+fn is_blank(state: BlockState) -> bool
+    ensures { result ≡ is_blank_one state }
+{
+    matches!(state, BlockState::Blank)
+}
+
+/// Whether an eraseblock is listed.
+fn is_listed(marks: &[bool], p: u32) -> bool
+    ensures { result ≡ is_listed marks.now p }
+{
+    match marks.get(p as usize) {
+        Some(mark) => *mark,
+        None => false,
+    }
+}
+
+/// The lowest listed eraseblock that is there and isn't Blank, if there is one.
+fn not_blank(marks: &[bool], geometry: &Geometry, surveyed: &Surveyed) -> Option<u32>
+    requires { length surveyed.now.states ≤ geometry.now.pebs }
+    ensures { NotBlankIs marks.now surveyed.now.states result }
+{
+    let count = surveyed.states().len();
+    prove!(count <= geometry.pebs() as usize);
+    for p in 0..count as u32 {
+        if is_listed(marks, p) && !is_blank(surveyed.state(p)) {
+            return Some(p);
+        }
+    }
+    None
+}
+
+/// The eraseblock of a step that works on a listed one, if there is one.
+fn listed(marks: &[bool], steps: &[Step]) -> Option<u32>
+    ensures { ListedIs marks.now steps.now result }
+{
+    for i in 0..steps.len() {
+        let p = steps[i].eraseblock();
+        if is_listed(marks, p) {
+            return Some(p);
+        }
+    }
+    None
+}
+
+impl<'a> Avoided<'a> {
+    /// The eraseblocks whose marks say so, and the Blank ones where `blank` does.
+    pub fn new(marks: &'a [bool], blank: bool) -> Avoided<'a>
+        ensures { result ≡ record { marks = marks.now; blank = blank } }
+    {
+        Avoided { marks, blank }
+    }
+
+    /// Whether an eraseblock in this state is one of them.
+    fn has(&self, p: u32, state: BlockState) -> bool
+        ensures { result ≡ is_avoided self.now p state }
+    {
+        is_listed(self.marks, p) || (self.blank && is_blank(state))
+    }
+
+    /// The lowest listed eraseblock that is there and isn't Blank, if there is one.
+    pub(crate) fn not_blank(&self, geometry: &Geometry, surveyed: &Surveyed) -> Option<u32>
+        requires { length surveyed.now.states ≤ geometry.now.pebs }
+        ensures { NotBlankIs self.now.marks surveyed.now.states result }
+    {
+        not_blank(self.marks, geometry, surveyed)
+    }
+
+    /// The listed eraseblock of a step that works on one, if there is one.
+    pub(crate) fn listed(&self, steps: &[Step]) -> Option<u32>
+        ensures { ListedIs self.now.marks steps.now result }
+    {
+        listed(self.marks, steps)
+    }
+
+    /// What a plan sees of an eraseblock: its state, or that it is used where it is one of them.
+    pub(crate) fn state(&self, surveyed: &Surveyed, p: u32) -> BlockState
+        requires { p < length surveyed.now.states }
+        ensures { slice_get (states_avoiding self.now surveyed.now.states) p ≡ Some result }
+    {
+        let state = surveyed.state(p);
+        if self.has(p, state) {
+            BlockState::Used
+        } else {
+            state
+        }
+    }
+}

@@ -1,0 +1,98 @@
+-- How a plan over a file ends, that may write its pages to a second one.
+use Rattle.std.proofs.Common.{◌≡◌, ◌≢◌, ◌∙◌, ◌⊎◌, inl, inr, ℕ, Bool, List, None, Option, Some, ap, false, not, refl, subst, sym, true, true≢false}
+use Rattle.std.specs.Borrow.{Bor}
+use Rattle.std.specs.Io.KnownBytes.{Appends}
+use Rattle.std.specs.Prelude.{IfSome, codes}
+use Rattle.ubi_media.specs.Geometry.{Sizes}
+use Rattle.ubi_scan.specs.Source.{Agreed, Source}
+use Rattle.ubi_commands.specs.Answer.{Gives, says}
+use Rattle.ubi_commands.specs.Disk.{Files, Holds, OthersStay, Receives, Stays, fresh}
+use Rattle.ubi_commands.specs.Lines.{file_line}
+use Rattle.ubi_commands.specs.Program.{OfFile, PlanStays, WritesInto, WritesPlan, bad_limit, cannot_read, no_file, no_pages, places, planned, unwritten, whole, written}
+use Rattle.ubi_commands.specs.declared.numbers.Numbers.{Numbers}
+use Rattle.ubi_commands.specs.declared.outcome.Outcome.{Outcome}
+use Rattle.ubi_commands.specs.declared.requests.Plan.{Plan}
+
+-- what is answered of a file once work that was done goes on
+pub OfFile-after : (d : Files) (numbers : Numbers) (path : List ℕ) (P Q : Sizes → Source → Agreed → Outcome → Type 0) (o r : Outcome)
+    → o.status ≡ 0 → ((s : Sizes) (k : Source) (agrees : Agreed) → P s k agrees o → Q s k agrees r)
+    → OfFile d numbers path P o → OfFile d numbers path Q r
+OfFile-after d numbers path P Q o r zero f (no_file (bad_limit e broken gives)) = absurd (let bad = sym zero ∙ gives.status in cc)
+OfFile-after d numbers path P Q o r zero f (no_file (cannot_read limits gives)) = absurd (let bad = sym zero ∙ gives.status in cc)
+OfFile-after d numbers path P Q o r zero f (whole bytes read named h) = whole bytes read named (f _ _ _ h)
+OfFile-after d numbers path P Q o r zero f (places k reads limits unfailed named h) = places k reads limits unfailed named (f _ _ _ h)
+
+-- what is answered of a file is no less than more, of one answer
+pub OfFile-at : (d : Files) (numbers : Numbers) (path : List ℕ) (P Q : Sizes → Source → Agreed → Outcome → Type 0) (o : Outcome)
+    → ((s : Sizes) (k : Source) (agrees : Agreed) → P s k agrees o → Q s k agrees o) → OfFile d numbers path P o → OfFile d numbers path Q o
+OfFile-at d numbers path P Q o f (no_file h) = no_file h
+OfFile-at d numbers path P Q o f (whole bytes read named h) = whole bytes read named (f _ _ _ h)
+OfFile-at d numbers path P Q o f (places k reads limits unfailed named h) = places k reads limits unfailed named (f _ _ _ h)
+
+-- the file at a path holds what it received, though another was written since
+holds_since : (m e : Files) (out : List ℕ) (received : Option (List ℕ)) → Stays m e out → Holds m out received → Holds e out received
+holds_since m e out received stays holds = subst (λ (o : Option (List ℕ)). IfSome o (λ bytes. received ≡ Some bytes)) (sym stays) holds
+
+module _ (out : List ℕ) (d m e : Files) (writes : Type 0) where
+  into_since : (answers : Option (List ℕ) → Option (List ℕ) → Outcome → Type 0) (o : Outcome) → Stays m e out
+      → WritesInto out d m answers writes o → WritesInto out d e answers writes o
+  into_since answers o stays (written received answer left) = written received answer (record {
+    done = λ zero. holds_since m e out received stays (left.done zero);
+    refused = λ bad. stays ∙ left.refused bad;
+  })
+  into_since answers o stays (unwritten some gives) = unwritten some gives
+
+  module _ (answers : List ℕ → Option (List ℕ) → Option (List ℕ) → Outcome → Type 0) (bytes : List ℕ) (o : Outcome) where
+    -- no pages are asked for
+    pub without_pages : (pages : Option (Bor (List ℕ))) → pages ≡ None → WritesInto out d e (answers bytes) writes o
+        → WritesPlan out pages d e answers writes o
+    without_pages pages none h = planned bytes h (λ zero path is. absurd (let bad = sym none ∙ is in cc))
+
+    -- the work wasn't done, so that there are none
+    pub not_done : (pages : Option (Bor (List ℕ))) → o.status ≢ 0 → WritesInto out d e (answers bytes) writes o
+        → WritesPlan out pages d e answers writes o
+    not_done pages bad h = planned bytes h (λ zero. absurd (bad zero))
+
+    module _ (path : Bor (List ℕ)) (pages : Option (Bor (List ℕ))) (asked : pages ≡ Some path) (stays : Stays m e out)
+        (h : WritesInto out d m (answers bytes) writes o) where
+      -- the pages were written behind the image
+      pub with_pages : fresh m ≡ fresh d → Receives m e path.now (Some bytes) → WritesPlan out pages d e answers writes o
+      with_pages same received = planned bytes (into_since (answers bytes) o stays h)
+          (λ zero other is. receives other (sym is ∙ asked))
+        where
+          receives : (other : Bor (List ℕ)) → Some other ≡ Some path → Receives d e other.now (Some bytes)
+          receives other is =
+              let at : other ≡ path = cc in
+              subst (λ (p : Bor (List ℕ)). Receives d e p.now (Some bytes)) (sym at)
+              (received.0, subst (λ (x : Option (List ℕ)). Appends x received.0 bytes) same received.1, received.2)
+
+      -- or couldn't be
+      pub lost_pages : (r : Outcome) → o.status ≡ 0 → Gives r (says (file_line (codes "cannot write ") path.now) 1)
+          → WritesPlan out pages d e answers writes r
+      lost_pages r zero gives = no_pages path bytes o asked (into_since (answers bytes) o stays h) zero gives
+
+      -- so that it ends with its outcome, or with the line of a file that can't be written
+      pub pages_end : fresh m ≡ fresh d → o.status ≡ 0 → (r lost : Outcome)
+          → Gives lost (says (file_line (codes "cannot write ") path.now) 1)
+          → ((r ≡ o) × Receives m e path.now (Some bytes)) ⊎ (r ≡ lost) → WritesPlan out pages d e answers writes r
+      pages_end same zero r lost line (inl (is, received)) =
+          subst (λ (x : Outcome). WritesPlan out pages d e answers writes x) (sym is) (with_pages same received)
+      pages_end same zero r lost line (inr is) =
+          lost_pages r zero (subst (λ (x : Outcome). Gives x (says (file_line (codes "cannot write ") path.now) 1)) (sym is) line)
+
+-- a file that was read stays, also where it may be the one that is written: that isn't opened then
+pub stays_unopened : (d e : Files) (path out : List ℕ) (may_be_one : Bool) → (path ≡ out → may_be_one ≡ true) → OthersStay d e out
+    → (not may_be_one ≡ false → e ≡ d) → Stays d e path
+stays_unopened d e path out true one others shut = ap (λ (files : Files). files.holds path) (shut refl)
+stays_unopened d e path out false one others shut = others path (λ same. true≢false (sym (one same)))
+
+-- the files that a plan leaves as they were
+pub stays_alone : (d e : Files) (plan : Plan) → OthersStay d e plan.paths.out.now → PlanStays d e plan
+stays_alone d e plan others = record { others = λ other apart beside. others other apart; image = λ apart. others plan.paths.image.now apart }
+
+pub stays_beside : (d m e : Files) (plan : Plan) (path : Bor (List ℕ)) → plan.pages ≡ Some path → OthersStay d m plan.paths.out.now
+    → OthersStay m e path.now → Stays m e plan.paths.image.now → PlanStays d e plan
+stays_beside d m e plan path asked first second image = record {
+  others = λ other apart beside. second other (beside path asked) ∙ first other apart;
+  image = λ apart. image ∙ first plan.paths.image.now apart;
+}

@@ -1,0 +1,12 @@
+use Rattle.std.proofs.Common.{◌≡◌, ◌==◌, is_some, length}
+use Rattle.std.specs.List.{list_all, slice_split}
+use Rattle.ubi_commands.specs.BadBlocks.{range_of}
+use Rattle.ubi_commands.proofs.bad_blocks.are_ranges.Given as goal
+
+abbrev pub invariant-items : goal.invariant-items
+invariant-items l =
+    list_all (λ item. is_some (range_of item)) (slice_split (λ b. b == 44) l.fn.items)
+    ≡ list_all (λ item. is_some (range_of item)) (slice_split (λ b. b == 44) l.rest)
+
+abbrev pub decreases-items : goal.decreases-items
+decreases-items l = length l.rest

@@ -1,7 +1,0 @@
-use Rattle.std.proofs.lemmas.Result.{err_from_is_err_and}
-use Rattle.ubi_commands.proofs.open_image.open_image.Goals as goal
-
-pub returns-in_err-geometry-clause-unread : goal.returns-in_err-geometry-clause-unread
-returns-in_err-geometry-clause-unread g c =
-    let p = err_from_is_err_and c.from_residual.result c.from_residual.ensures.1 in
-    rw (p.1, p.2) (c.in_err-geometry.ensures.broken c.args.path.now)

@@ -1,0 +1,13 @@
+use Rattle.std.proofs.Common.{◌∙◌, ap, sym}
+use Rattle.std.proofs.lemmas.List.{take_all}
+use Rattle.ubi_commands.specs.BadBlocks.{masked}
+use Rattle.ubi_commands.proofs.Masked.{masked_none}
+use Rattle.ubi_commands.proofs.view.mask.Goals as goal
+
+pub loop-p-init : goal.loop-p-init
+loop-p-init c = sym (masked_none c.args.size c.args.bytes.now)
+
+pub returns : goal.returns
+returns c =
+    c.loop-p.invariant
+    ∙ ap (λ marks. masked c.args.size marks c.args.bytes.now) (take_all c.loop-p.p c.args.marks.now c.loop-p-test.false)

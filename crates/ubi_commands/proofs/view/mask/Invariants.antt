@@ -1,0 +1,7 @@
+use Rattle.std.proofs.Common.{◌≡◌, take}
+use Rattle.ubi_commands.specs.BadBlocks.{masked}
+use Rattle.ubi_commands.proofs.view.mask.Given as goal
+
+-- the first eraseblocks are masked
+abbrev pub invariant-loop-p : goal.invariant-loop-p
+invariant-loop-p l = l.bytes ≡ masked l.size (take l.p l.marks) l.fn.bytes
