@@ -8,17 +8,17 @@ _ubi_tool() {
     fi
     case ${COMP_WORDS[1]} in
         geometry) words=' --help' ;;
-        list) words='--peb --page --vid --data --pebs --help' ;;
-        check) words='--peb --page --vid --data --pebs --help' ;;
-        show) words='--block --peb --page --vid --data --pebs --help' ;;
-        extract) words='--out --id --name --peb --page --vid --data --pebs --help' ;;
-        unpack) words='--out --peb --page --vid --data --pebs --help' ;;
+        list) words='--bad --peb --page --vid --data --pebs --help' ;;
+        check) words='--bad --peb --page --vid --data --pebs --help' ;;
+        show) words='--bad --block --peb --page --vid --data --pebs --help' ;;
+        extract) words='--bad --out --id --name --peb --page --vid --data --pebs --help' ;;
+        unpack) words='--bad --out --peb --page --vid --data --pebs --help' ;;
         compose) words='--out --spares --seq --peb --page --vid --data --pebs --help' ;;
         build) words='--out --spares --seq --peb --page --vid --data --pebs --help' ;;
-        normalise) words='--out --peb --page --vid --data --pebs --help' ;;
-        same) words='--peb --page --vid --data --pebs --help' ;;
-        change) words='--out --id --lnum --from --stop --peb --page --vid --data --pebs --help' ;;
-        rename) words='--out --id --name --stop --peb --page --vid --data --pebs --help' ;;
+        normalise) words='--bad --out --peb --page --vid --data --pebs --help' ;;
+        same) words='--bad --peb --page --vid --data --pebs --help' ;;
+        change) words='--bad --out --id --lnum --from --stop --blank --pages --peb --page --vid --data --pebs --help' ;;
+        rename) words='--bad --out --id --name --stop --blank --pages --peb --page --vid --data --pebs --help' ;;
     esac
     case $word in
         -*) mapfile -t COMPREPLY < <(compgen -W "$words" -- "$word") ;;

@@ -15,7 +15,7 @@ from pathlib import Path
 
 ROOT = Path(__file__).resolve().parents[2]
 # Options whose value is a path.
-PATHS = ('out', 'from')
+PATHS = ('out', 'from', 'pages')
 
 
 class Entry:

@@ -13,6 +13,12 @@ copies of the table differ. Which step turns, what is listed and extracted, and 
 by the format alone. Where too few eraseblocks can be taken, the number isn't reserved, the volume isn't there, or another one has
 the name, the refusal is looked at.
 
+In half of the images one to four more eraseblocks are bad, and are listed so. They hold anything: bytes that are all alike or random,
+a free eraseblock, headers that are at fault or name another number, or what would win a logical eraseblock or the table. No step
+may touch them, and with other bytes in them the plan, its pages and what is written stay as they are. A quarter of the plans keep
+blank eraseblocks. The pages of each cut must be those that its programs gave. Beside the program bench/second/rules.py judges
+each cut, too.
+
 Without words there are 100 images (--count) of the seed 1 (--seed) to change, and as many to rename. They lie in a new folder
 below FOLDER (/tmp where it is left out), which is removed again. Without --tool the program is built first where it isn't yet.
 The last line is 'N passed, M failed', and the exit status is 0 where none failed.
@@ -21,7 +27,8 @@ import os
 import struct
 import subprocess
 
-from fuzz import Failure, built, finish, options, run_cases
+import rules
+from fuzz import Failure, built, either, finish, listing, options, run_cases
 from rules import check, sealed
 
 LAYOUT, PEBS = 0x7FFFEFFF, 32
@@ -43,7 +50,10 @@ def identifier_header(volume, number, sqnum, copied=b"", compat=0):
 
 
 class Device:
-    """A random image, what its volumes are called and read, and which of its eraseblocks is what."""
+    """A random image, what its volumes are called and read, and which of its eraseblocks is what.
+
+    `image` is what the file holds, and `seen` what is read of it: 0xFF in the eraseblocks that are bad.
+    """
 
     def __init__(self, rng):
         self.rng = rng
@@ -58,14 +68,41 @@ class Device:
         if 1 in self.names:
             blocks += self.members(1, rng.randrange(RESERVED[1]))
         for _ in range(rng.randrange(5)):
-            blocks.append(rng.choice((("clean", self.free()), ("unused", self.erased()), ("unused", self.garbage()))))
+            blocks.append(rng.choice((("clean", self.free()), ("erased", self.erased()), ("unused", self.garbage()))))
         if rng.random() < 0.2:
             blocks.append(("corrupt", self.corrupt()))
+        if rng.random() < 0.5:
+            blocks += [("bad", self.erased()) for _ in range(rng.randrange(1, 5))]
         rng.shuffle(blocks)
         self.kinds, blocks = (list(of) for of in zip(*blocks))
         self.number, self.sole = 0, None
         self.carry(blocks)
-        self.image = b"".join(blocks)
+        self.seen = b"".join(blocks)
+        self.bad = [p for p, kind in enumerate(self.kinds) if kind == "bad"]
+        self.of_bad = either(rng, "--bad", listing(rng, self.bad, len(blocks))) if self.bad else []
+        self.image = self.with_bad()
+        self.keeps_blank = rng.random() < 0.25
+        self.of_plan = either(rng, "--blank", "keep") if self.keeps_blank else []
+
+    def with_bad(self):
+        """The image with any bytes in the eraseblocks that are bad."""
+        blocks = [self.seen[at : at + self.peb] for at in range(0, len(self.seen), self.peb)]
+        return b"".join(self.bad_block() if p in self.bad else block for p, block in enumerate(blocks))
+
+    def bad_block(self):
+        """What an eraseblock that is bad holds: anything, or what would win, be taken or be refused if it were looked at."""
+        rng, sqnum = self.rng, self.rng.choice((1000, 2**63, 2**64 - 1))
+        counted = counter_header(rng.randrange(100), self.vid, self.data, rng.choice((0, 0x12345678, 0x12345678, 7)))
+        lebs = [*self.lebs, *((0, number) for number in range(RESERVED[0]))]
+        member = identifier_header(*rng.choice(lebs), sqnum)
+        table = identifier_header(LAYOUT, rng.randrange(2), sqnum, compat=5)
+        at_fault = sealed(counted[:4] + b"\x02" + counted[5:60])
+        return rng.choice((
+            bytes(self.peb), self.erased(), rng.randbytes(self.peb), self.block(counted, b"\xFF" * 64), self.block(counted, bytes(64)),
+            self.block(counted, member, self.text()), self.block(counted, member, self.text()), self.block(bytes(64), member, self.text()),
+            self.block(counted, table, self.records({0: b"bad"})), self.block(at_fault, member),
+            self.block(counted, sealed(member[:5] + b"\x03" + member[6:60])),
+        ))
 
     def carry(self, blocks):
         """Gives the image's number to none, one, two or all of the eraseblocks with an erase-counter header."""
@@ -79,8 +116,9 @@ class Device:
             self.sole = carriers[0]
 
     def takeable(self):
-        """The eraseblocks that may be taken, in their order: the clean ones, and then the other unused ones."""
-        return [p for kind in ("clean", "unused") for p, of in enumerate(self.kinds) if of == kind and p != self.sole]
+        """The eraseblocks that may be taken, in their order: the clean ones, and then the other unused ones, of which blank ones may be kept."""
+        groups = ("clean",), ("unused",) if self.keeps_blank else ("unused", "erased")
+        return [p for kinds in groups for p, of in enumerate(self.kinds) if of in kinds and p != self.sole]
 
     def touched(self, lnum):
         """The eraseblocks that a change of a LEB erases or programs: what it takes, and the winner that it gives up."""
@@ -140,7 +178,12 @@ class Device:
 
     def words(self):
         sizes = (("--peb", self.peb), ("--page", self.page), ("--vid", self.vid), ("--data", self.data), ("--pebs", PEBS))
-        return [str(word) for pair in sizes for word in pair]
+        return [*(str(word) for pair in sizes for word in pair), *self.of_bad]
+
+    def meant(self, cut):
+        """What a cut means by the second reading of the format."""
+        geometry = rules.Geometry(self.peb, self.page, self.vid, self.data, PEBS)
+        return rules.Image(geometry, cut, lambda p: p in self.bad).meaning()
 
 
 def expect(is_right, what):
@@ -195,6 +238,13 @@ def turns(device, steps, cuts, new, count):
     return found
 
 
+def page_of(device, cut, step):
+    """The bytes that a page has behind the step that programs it; no byte of an erase."""
+    p, page = step
+    start = p * device.peb + (page or 0) * device.page
+    return b"" if page is None else cut[start : start + device.page]
+
+
 def is_one_step(device, before, after, step):
     """Whether nothing but the eraseblock or the page of a step differs, and a program sets no bit."""
     p, page = step
@@ -212,7 +262,8 @@ class Looker:
 
     def __init__(self, tool, folder):
         self.tool = tool
-        self.image, self.new, self.cut, self.out = (os.path.join(folder, name) for name in ("image", "new", "cut", "out"))
+        names = ("image", "new", "cut", "out", "pages")
+        self.image, self.new, self.cut, self.out, self.pages = (os.path.join(folder, name) for name in names)
 
     def run(self, *words):
         done = subprocess.run([self.tool, *words], capture_output=True, text=True)
@@ -236,7 +287,7 @@ class Looker:
         if mapped and device.rng.random() < 0.5:
             lnum = device.rng.choice(mapped)
         write(self.new, new)
-        words = ["change", self.image, "--id", "0", "--lnum", str(lnum), "--from", self.new, "--out", self.cut, *device.words()]
+        words = ["change", self.image, "--id", "0", "--lnum", str(lnum), "--from", self.new, *self.outs(device)]
         refusal = None
         if lnum == RESERVED[0]:
             refusal = "K5 OutOfRange"
@@ -245,9 +296,10 @@ class Looker:
         steps, cuts = self.planned(device, words, refusal)
         if refusal:
             return 0
-        self.look_touched(steps, device.touched(lnum))
+        self.look_touched(device, steps, device.touched(lnum))
         [(_, at)] = turns(device, steps, cuts, new, 1)
         changed = device.lebs | {(0, lnum): new.ljust(device.leb, b"\xFF")}
+        self.judge(device, cuts, at)
         for k, what in self.each_cut(device, steps, cuts):
             self.look(device, device.names, device.lebs if k < at else changed, f"{what} of a change that turns at {at}")
         return len(steps)
@@ -255,7 +307,7 @@ class Looker:
     def try_rename(self, device):
         """Renames a volume of an image, and looks at each cut. Gives how many steps the plan has."""
         volume, word = device.rng.randrange(2), device.rng.choice(list(NAMES))
-        words = ["rename", self.image, "--id", str(volume), "--name", word, "--out", self.cut, *device.words()]
+        words = ["rename", self.image, "--id", str(volume), "--name", word, *self.outs(device)]
         names = device.names | {volume: NAMES[word]}
         refusal = None
         if volume not in device.names:
@@ -267,9 +319,10 @@ class Looker:
         steps, cuts = self.planned(device, words, refusal)
         if refusal:
             return 0
-        self.look_touched(steps, device.touched_by_rename())
+        self.look_touched(device, steps, device.touched_by_rename())
         (first, at), (second, end) = turns(device, steps, cuts, device.records(names), 2)
         expect([first, second] == device.takeable()[:2], f"the copies are put to {first} and {second}")
+        self.judge(device, cuts, at)
         for k, what in self.each_cut(device, steps, cuts):
             self.look(device, device.names if k < at else names, device.lebs, f"{what} of a rename that turns at {at}")
             again, _ = self.run("rename", self.cut, "--id", str(volume), "--name", "again", "--out", self.out, *device.words())
@@ -277,29 +330,54 @@ class Looker:
             expect((again == "refused N3 NeedsRepair\n") == differ, f"{what} of a rename from {at} to {end} is renamed: {again}")
         return len(steps)
 
+    def outs(self, device):
+        """The words behind those that say what is planned."""
+        return ["--out", self.cut, *either(device.rng, "--pages", self.pages), *device.of_plan, *device.words()]
+
     def planned(self, device, words, refusal):
         """The steps of a plan, and what is written behind each number of them, and behind one more than there are; or a refusal."""
         write(self.image, device.image)
-        if os.path.exists(self.cut):
-            os.remove(self.cut)
+        for path in (self.cut, self.pages):
+            if os.path.exists(path):
+                os.remove(path)
         plan, status = self.run(*words)
         if refusal:
-            expect((plan, status) == (f"refused {refusal}\n", 1) and not os.path.exists(self.cut), f"of {refusal!r} comes {plan!r}")
+            written = os.path.exists(self.cut) or os.path.exists(self.pages)
+            expect((plan, status) == (f"refused {refusal}\n", 1) and not written, f"of {refusal!r} comes {plan!r}")
+            self.look_others(device, words, (plan, status))
             return [], []
         expect(status == 0, f"{words[0]} is refused: {plan}")
-        steps, cuts = steps_of(plan), []
+        steps, cuts, pages = steps_of(plan), [], b""
         for k in range(len(steps) + 2):
             expect(self.run(*words, "--stop", str(k)) == (plan, 0), f"--stop {k} prints something else")
             cuts.append(read(self.cut))
+            pages += page_of(device, cuts[-1], steps[k - 1]) if 0 < k <= len(steps) else b""
+            expect(read(self.pages) == pages, f"--stop {k} writes other pages")
+        self.look_others(device, words, (plan, 0), cuts[-1], pages)
         return steps, cuts
 
-    def look_touched(self, steps, expected):
+    def look_others(self, device, words, answer, *files):
+        """Whether an answer and the files that are written stay, with other bytes in the eraseblocks that are bad."""
+        if device.bad:
+            write(self.image, device.with_bad())
+            came = self.run(*words)
+            expect(came == answer, f"with other bytes in what is bad comes {came}")
+            expect(not files or (read(self.cut), read(self.pages)) == files, "with other bytes in what is bad other files are written")
+
+    def look_touched(self, device, steps, expected):
         touched = {p for p, _ in steps}
         expect(touched == expected, f"the steps touch {touched} and not {expected}")
+        expect(not touched & set(device.bad), f"the steps touch {touched}, of which some are bad")
+
+    def judge(self, device, cuts, at):
+        """Whether the second reading takes each cut for the old image up to a step, and for the new one from it on."""
+        old, new = device.meant(device.image), device.meant(cuts[-1])
+        for k, cut in enumerate(cuts):
+            expect(device.meant(cut) == (old if k < at else new), f"cut {k} of a plan that turns at {at} is neither the old nor the new")
 
     def each_cut(self, device, steps, cuts):
         """Puts each cut in its file, once it is one step from the one before. Gives its number, and what it is called."""
-        expect(cuts[0] == device.image and cuts[-1] == cuts[-2], "--stop 0 isn't the image, or too large a one isn't all")
+        expect(cuts[0] == device.seen and cuts[-1] == cuts[-2], "--stop 0 isn't the image, or too large a one isn't all")
         for k, cut in enumerate(cuts[:-1]):
             expect(k == 0 or is_one_step(device, cuts[k - 1], cut, steps[k - 1]), f"step {k} does something else")
             write(self.cut, cut)

@@ -16,6 +16,10 @@ says what it means, and `change` and `rename`, whose printed plans and whose byt
 cut means the old or the new, and the last the new. Now and then a cut is changed and renamed itself. Some new names are there
 already, some can't be read, and some are made so that the first pages of the table have the check of all, or that its last page
 is blank. Numbers of volumes, LEBs, eraseblocks, spares and steps are also far out of range.
+Of a third of the images some eraseblocks are listed as bad, by each command that takes --bad: such as win, hold a table, are blank,
+carry the number or are at fault, any, and up to two that are put in; in all spellings of a LIST. Such an image means the same with
+any other bytes in them, and its plans stay as they are, with what is written. Some plans keep blank eraseblocks, and of most the
+pages are compared: with them the printed steps make of the image what is written. Some words of each image are wrong.
 
 Without words there are 500 images (--count) of the seed 1 (--seed) with eraseblocks of up to 1 KiB. Then come 20 (--large)
 with eraseblocks of 128 KiB and pages of 2 KiB, with sub-pages and without, of whose plans some cuts are looked at; and one
@@ -47,6 +51,11 @@ REAL_SIZES = ((131072, 2048, 2048, 4096), (131072, 2048, 512, 2048))
 FAR = (64, 100, 128, 256, 1000, 65536, 2**31)
 # Words that can't be read as a name; nor can most words with one of them inside.
 NO_NAMES = ("\\", "\\x", "\\x4", "\\X41", "\\x00", "\\x4g", "\\n", " ", "\t", "\n", "\x7F", "\x80", "\xE9", "a" * 128, "\\x61" * 128)
+# The commands that take --bad, and LISTs that are wrong.
+OF_BAD = ("list", "check", "show", "extract", "unpack", "normalise", "same", "change", "rename")
+NO_LISTS = ("3,,4", ",", "3,", ",3", "-1", "3-", "9-3", "3-4-5", "4294967296", "0x3", "3 ,4", "a", " ", "3 ", " 3", "+", "++3", "3+", "-", "--", "-0",
+    "0--1", "3-+", "3,-4", "3--4", "+-3", "1-4294967296", "4294967299", "18446744073709551616", "9" * 40, "3;4", "3\n", "3\t", "3.0", "1e3",
+    "3,a", "\uFF13", "\u0663", "3-2,", "1_0", "0-4294967296", "all", "none")
 
 
 class Failure(Exception):
@@ -72,6 +81,16 @@ def taken(folder):
     return files
 
 
+def taken_file(path):
+    """What a file holds, which is removed; None where there is none."""
+    if not os.path.exists(path):
+        return None
+    with open(path, "rb") as file:
+        data = file.read()
+    os.remove(path)
+    return data
+
+
 def far(rng, number):
     """A number that is far above another one, or the largest."""
     return rng.choice((*(number + step for step in FAR), 2**32 - 1))
@@ -85,6 +104,33 @@ def sized(words, geometry):
 def given(rng, name, number):
     """A number among the words, which may be left out where it is 0."""
     return [name, str(number)] if number or rng.random() < 0.5 else []
+
+
+def either(rng, name, value):
+    """An option and its value, as two words or as one; as one where the value begins with a hyphen."""
+    return [f"{name}={value}"] if value.startswith("-") or rng.random() < 0.5 else [name, value]
+
+
+def listing(rng, places, count):
+    """A LIST of just some of COUNT eraseblocks, and maybe of others beyond: in any order, as numbers and ranges, some of them twice."""
+    items, rest = [], sorted(places)
+    while rest:
+        first = last = rest.pop(0)
+        while last + 1 in rest and rng.random() < 0.7:
+            last = rest.pop(0)
+        items += [(first, last)] * rng.choice((1, 1, 1, 2))
+        if last == count - 1 and rng.random() < 0.3:
+            items.append((last, far(rng, count)))
+    if rng.random() < 0.3:
+        items.append((far(rng, count), 2**32 - 1))
+    word = ",".join(spelled_item(rng, *item) for item in rng.sample(items, len(items)))
+    assert [p for p in range(count) if rules.listed(word)(p)] == sorted(places), f"{word} is misread"
+    return word
+
+
+def spelled_item(rng, first, last):
+    numbers = [first] if first == last and rng.random() < 0.8 else [first, last]
+    return "-".join(rng.choice(("", "", "", "", "+", "0", "000", "+00")) + str(number) for number in numbers)
 
 
 def name_in(word):
@@ -293,6 +339,90 @@ class Maker:
         return self.block(Vid(1, 0, 0, self.rng.choice((77, 127)), 0, 0, 0, 0, 0, self.sqnum()), b"text")
 
 
+class Lister:
+    """Makes random LISTs of eraseblocks of an image, and other bytes of those that are listed."""
+
+    def __init__(self, rng, geometry, image):
+        self.rng, self.geometry = rng, geometry
+        self.blocks = [image[at : at + geometry.peb] for at in range(0, len(image), geometry.peb)]
+        self.kinds = self.kinds_of(image)
+
+    def kinds_of(self, image):
+        """Groups of eraseblocks: of one state, those that carry the number, or the one that is at fault; and those with a header."""
+        with_header = [p for p, block in enumerate(self.blocks) if block[:4] == b"UBI#"]
+        try:
+            found = Image(self.geometry, image)
+        except Refused as refused:
+            at_fault = [int(word[6:]) for word in str(refused).split() if word.startswith("block=")]
+            return [group for group in (with_header, at_fault, at_fault, at_fault) if group]
+        states = [[p for p, of in enumerate(found.states) if of == state] for state in sorted(set(found.states))]
+        mapped = [p for (volume, _), p in found.winners.items() if volume != LAYOUT]
+        return [group for group in (*states, mapped, found.found.carriers, with_header) if group]
+
+    def places(self):
+        """Some eraseblocks: one, two or all of some groups, or any."""
+        rng, count = self.rng, len(self.blocks)
+        places = set()
+        for _ in range(rng.choice((0, 1, 1, 1, 2))):
+            group = rng.choice(self.kinds or [[]])
+            places.update(rng.sample(group, min(len(group), rng.choice((1, 1, 1, 2, 2, 99)))))
+        any_size = rng.choice((0, 0, 0, 0, 1, 1, 2, rng.randrange(count + 1)))
+        return places | set(rng.sample(range(count), min(any_size, count)))
+
+    def bad(self):
+        """The image, maybe with some eraseblocks more, and a LIST: of some eraseblocks, or of any characters where they are right."""
+        rng, image = self.rng, b"".join(self.blocks)
+        word = rng.choice(("", self.random_word()))
+        if rng.random() < 0.1 and rules.listed(word):
+            return image, word
+        places = self.places() if rng.random() < 0.6 else set()
+        image, places = self.put_in(places, max(0, self.geometry.pebs - len(self.blocks)))
+        return image, listing(rng, places, -(-len(image) // self.geometry.peb))
+
+    def put_in(self, places, room):
+        """The image with up to two eraseblocks more, if there is room, that hold other bytes; and which are they and those at places."""
+        rng, blocks, listed = self.rng, [], set()
+        before = rng.sample(range(len(self.blocks)), min(rng.randrange(3), room, len(self.blocks)))
+        for p, block in enumerate(self.blocks):
+            if p in before:
+                listed.add(len(blocks))
+                blocks.append(self.other(bytes(self.geometry.peb)))
+            if p in places:
+                listed.add(len(blocks))
+            blocks.append(block)
+        return b"".join(blocks), listed
+
+    def random_word(self):
+        """Some of the characters that are in LISTs, and a few others."""
+        return "".join(self.rng.choice("0123456789,,--+ x") for _ in range(self.rng.randrange(1, 9)))
+
+    def wrong(self):
+        """A LIST that is wrong."""
+        rng, word = self.rng, self.random_word()
+        right = listing(rng, self.places(), len(self.blocks))
+        other = rng.choice((word, rng.choice(NO_LISTS), f"{right},{rng.choice(NO_LISTS)}", f"{rng.choice(NO_LISTS)},{right}", f"{right},"))
+        return other if rules.listed(other) is None else rng.choice(NO_LISTS)
+
+    def others(self, image, is_bad):
+        """An image with other bytes in each eraseblock that is listed."""
+        blocks = [image[at : at + self.geometry.peb] for at in range(0, len(image), self.geometry.peb)]
+        return b"".join(self.other(block) if is_bad(p) else block for p, block in enumerate(blocks))
+
+    def other(self, block):
+        """Other bytes of an eraseblock: all alike, any, a header that is at fault, or those of another one, maybe with a later number."""
+        rng, whole = self.rng, self.some_block()
+        later = rules.sealed(whole[self.geometry.vid :][:40] + struct.pack(">Q", rng.choice((5000, TOP_SQNUM))) + bytes(12))
+        front, rest = whole[: self.geometry.vid], whole[self.geometry.vid + 64 :]
+        ways = (bytes(len(block)), b"\xFF" * len(block), rng.randbytes(len(block)), whole, front + later + rest,
+            renumbered(whole, rng.randrange(1, 2**32)), with_field(rng, whole[:64], EC_FIELDS) + whole[64:])
+        return rng.choice(ways)[: len(block)].ljust(len(block), b"\xFF")
+
+    def some_block(self):
+        """An eraseblock of the image, often one with the header of a LEB."""
+        members = [block for block in self.blocks if block[self.geometry.vid :].startswith(b"UBI!")]
+        return self.rng.choice(members if members and self.rng.random() < 0.7 else self.blocks)
+
+
 class HugeMaker(Maker):
     """Makes an image above 16 MiB: a dynamic volume, of whose LEBs most have a few bytes, and two eraseblocks that are free."""
 
@@ -433,7 +563,8 @@ class Runner:
 
     def __init__(self, tool, folder, geometry):
         self.tool, self.folder, self.geometry = tool, folder, geometry
-        self.out = os.path.join(folder, "out")
+        self.out, self.pages = os.path.join(folder, "out"), os.path.join(folder, "pages")
+        self.bad, self.is_bad = [], rules.none_listed
 
     def put(self, name, data):
         path = os.path.join(self.folder, name)
@@ -441,36 +572,47 @@ class Runner:
             file.write(data)
         return path
 
+    def read(self, data):
+        """The image that some bytes are, with the eraseblocks that are listed as bad."""
+        return Image(self.geometry, data, self.is_bad)
+
+    def whole(self, words):
+        """The words of a command, with the numbers of a geometry and the LIST where it takes them."""
+        return [*sized(words, self.geometry), *(self.bad if words[0] in OF_BAD else [])]
+
     def written(self):
         """What the program wrote into its output file; None where there is none."""
-        if not os.path.exists(self.out):
-            return None
-        with open(self.out, "rb") as file:
-            data = file.read()
-        os.remove(self.out)
-        return data
+        return taken_file(self.out)
 
-    def expect(self, words, lines, status, written=None):
-        """Runs the program, whose lines, status and output file have to be these."""
-        self.expect_bare(sized(words, self.geometry), lines, status, written)
+    def expect(self, words, lines, status, written=None, pages=None):
+        """Runs the program, whose lines, status, output file and file of pages have to be these."""
+        self.expect_bare(self.whole(words), lines, status, written, pages)
 
-    def expect_bare(self, words, lines, status, written=None):
-        """The same of words that have the numbers of a geometry already."""
+    def expect_bare(self, words, lines, status, written=None, pages=None):
+        """The same of words that are whole already."""
         ran = subprocess.run([self.tool, *words], capture_output=True)
-        came = (ran.stdout.decode(), ran.returncode, self.written())
-        if came != (lines, status, written) or ran.stderr:
-            raise Failure(f"{words[0]} answers {came[:2]} where {(lines, status)} is right, and writes "
-                f"{'what is right' if came[2] == written else 'something else'}; {ran.stderr.decode()}")
+        came = (ran.stdout.decode(), ran.returncode, self.written(), taken_file(self.pages))
+        if came != (lines, status, written, pages) or ran.stderr:
+            what = [name for name, is_right in (("output", came[2] == written), ("pages", came[3] == pages)) if not is_right]
+            raise Failure(f"{words} answers {came[:2]} where {(lines, status)} is right, and writes "
+                f"{'other ' + ' and '.join(what) if what else 'what is right'}; {ran.stderr.decode()}")
 
-    def change(self, path, image, number, lnum, new):
+    def expect_wrong(self, words):
+        """Runs the program with words that are wrong: nothing is printed but on standard error, and nothing is written."""
+        ran = subprocess.run([self.tool, *words], capture_output=True)
+        came = (ran.stdout, ran.returncode, self.written(), taken_file(self.pages))
+        if came != (b"", 2, None, None) or not ran.stderr:
+            raise Failure(f"{words} answers {came[:2]} where the words are wrong")
+
+    def change(self, path, image, number, lnum, new, more=()):
         """The words that ask for a change, and what the rules say of it."""
-        words = ["change", path, "--id", str(number), "--lnum", str(lnum), "--from", self.put("new", new), "--out", self.out]
+        words = ["change", path, "--id", str(number), "--lnum", str(lnum), "--from", self.put("new", new), "--out", self.out, *more]
         return words, *said(rules.change_refusal, rules.Change, rules.changed, image, number, lnum, new)
 
-    def rename(self, path, image, number, word):
+    def rename(self, path, image, number, word, more=()):
         """The words that ask for a rename, and what the rules say of it."""
         named = [f"--name={word}"] if word.startswith("-") else ["--name", word]
-        words, name = ["rename", path, "--id", str(number), *(part.encode() for part in named), "--out", self.out], name_in(word)
+        words, name = ["rename", path, "--id", str(number), *(part.encode() for part in named), "--out", self.out, *more], name_in(word)
         if name is None:
             return words, "N1 BadName", [], None
         return words, *said(rules.rename_refusal, rules.Rename, rules.renamed, image, number, name)
@@ -479,9 +621,9 @@ class Runner:
         """Compares the plan that is printed, and what is written behind each of some numbers of its steps. Gives the last."""
         lines, whole, old, turned = "".join(rules.plan_lines(steps)), b"".join(image.found.blocks), image.meaning(), []
         for k in stops:
-            cut = rules.after(self.geometry, whole, steps[:k])
-            self.expect([*words, "--stop", str(k)], lines, 0, cut)
-            last = Image(self.geometry, cut)
+            cut, pages = rules.after(self.geometry, whole, steps[:k]), self.pages_of(words, steps[:k])
+            self.expect([*words, "--stop", str(k)], lines, 0, cut, pages)
+            last = self.read(cut)
             if last.meaning() not in (old, meant):
                 raise Failure(f"cut {k} of {len(steps)} means neither the old nor the new")
             turned.append(last.meaning() != old)
@@ -489,7 +631,28 @@ class Runner:
             raise Failure("a cut turns back, or the last one doesn't mean the new")
         if rules.needs_repair(last) != rules.needs_repair(image):
             raise Failure("the copies of the table are unlike in the end")
+        if pages is not None:
+            self.look_replayed(whole, lines, pages, k, cut)
+        self.look_kept(image, whole, cut)
         return cut
+
+    def pages_of(self, words, steps):
+        """What the file of pages holds of some steps; None where the words name none."""
+        return rules.pages_of(steps) if any(str(word).startswith("--pages") for word in words) else None
+
+    def look_replayed(self, whole, lines, pages, count, cut):
+        """Whether the first lines of a plan and their pages make what is written of the image."""
+        steps = rules.read_steps(self.geometry, lines.splitlines()[1:][:count], pages)
+        if rules.after(self.geometry, whole, steps) != cut:
+            raise Failure("the steps with their pages give another image")
+
+    def look_kept(self, image, whole, cut):
+        """Whether the eraseblocks that a plan may not touch are as they were, and those that are listed are blank."""
+        peb = self.geometry.peb
+        for p in range(len(image.states)):
+            old, new = (data[p * peb : (p + 1) * peb] for data in (whole, cut))
+            if rules.is_kept(image, p) and (old != new or image.is_bad(p) and not rules.is_blank(new)):
+                raise Failure(f"the plan touches eraseblock {p}")
 
     def look_read(self, path, meaning, number, name=None):
         """Compares what is extracted of a volume, by its number or by its name, with what an image means."""
@@ -500,7 +663,6 @@ class Runner:
             self.expect(words, f"refused {refused}\n", 1)
             return
         self.expect(words, f"bytes {len(text)}\n", 0, text)
-
 
     def look_unpacked(self, path, meaning):
         """Compares what is unpacked of an image into a new folder: the files before the first whose name is too long, or all."""
@@ -534,19 +696,45 @@ class Case(Runner):
     each are looked at.
     """
 
-    def __init__(self, rng, tool, folder, maker, times=(0, 1, 1, 2, 3), plans=3, cuts=99):
+    def __init__(self, rng, tool, folder, maker, times=(0, 1, 1, 2, 3), plans=4, cuts=99):
         super().__init__(tool, folder, maker.geometry)
         self.rng, self.plans, self.cuts = rng, plans, cuts
         self.mutator = Mutator(rng, self.geometry, times)
         self.blocks = maker.blocks
         self.image = self.mutator.mutate(self.blocks)
+        self.lister = Lister(rng, self.geometry, self.image)
+        if rng.random() < 0.35:
+            self.image, word = self.lister.bad()
+            self.bad, self.is_bad = either(rng, "--bad", word), rules.listed(word)
         self.path = self.put("image", self.image)
 
     def look(self):
         """Compares each answer. Gives whether the image is accepted, and how many cuts were looked at."""
         answer = self.look_image()
         self.look_geometries()
+        self.look_wrong()
         return answer
+
+    def look_wrong(self):
+        """Looks at words that are wrong for their options."""
+        rng, command = self.rng, self.rng.choice(OF_BAD)
+        other = rng.choice(("geometry", "compose", "build"))
+        of_plan = self.plain_words(rng.choice(("change", "rename")))
+        no_value = rng.choice(("", "Keep", "keep,", "keep ", "take", "0", "3", "-"))
+        self.expect_wrong(rng.choice((
+            [*self.plain_words(command), *either(rng, "--bad", self.lister.wrong())],
+            [*self.plain_words(command), *either(rng, "--bad", self.lister.wrong())],
+            [*self.plain_words(other), *either(rng, "--bad", rng.choice(("", "0", "3,4")))],
+            [*of_plan, *either(rng, "--blank", no_value)],
+            [*self.plain_words(rng.choice((*OF_BAD[:-2], other))), *rng.choice((["--blank", "keep"], ["--pages", self.pages]))],
+        )))
+
+    def plain_words(self, command):
+        """Words that are right for a command."""
+        of = {"show": ["--block", "0"], "extract": ["--id", "0"], "same": [self.path], "change": ["--id", "0", "--lnum", "0", "--from", self.path],
+            "rename": ["--id", "0", "--name", "data"]}
+        outs = ["--out", self.out] if command not in ("geometry", "list", "check", "show", "same") else []
+        return sized([command, self.path, *of.get(command, []), *outs], self.geometry)
 
     def look_geometries(self):
         """Compares what is told of the geometry of the image and of other files."""
@@ -576,19 +764,20 @@ class Case(Runner):
     def look_image(self):
         """Compares the answers of the image under its own geometry."""
         try:
-            image = Image(self.geometry, self.image)
+            image = self.read(self.image)
         except Refused as refused:
             self.look_refused(f"refused {refused}\n")
             return False, 0
         self.look_meant(image)
         self.look_far(image)
+        self.look_others(image)
         return True, sum(self.look_plans(image, self.path) for _ in range(self.plans))
 
     def look_refused(self, line):
-        of_volume = ("--id", "0", "--out", self.out)
+        of_volume, more = ("--id", "0", "--out", self.out), self.plan_words()
         new = self.put("new", bytes(self.geometry.page))
         for command, *words in (["check"], ["list"], ["normalise", "--out", self.out], ["extract", *of_volume],
-                ["change", *of_volume, "--lnum", "0", "--from", new], ["rename", *of_volume, "--name", "data"]):
+                ["change", *of_volume, "--lnum", "0", "--from", new, *more], ["rename", *of_volume, "--name", "data", *more]):
             self.expect([command, self.path, *words], line, 1)
         self.expect(["rename", self.path, *of_volume, "--name", self.rng.choice(("", *NO_NAMES)).encode()], "refused N1 BadName\n", 1)
         folder = os.path.join(self.folder, "volumes")
@@ -596,6 +785,7 @@ class Case(Runner):
         if os.path.exists(folder):
             raise Failure("a folder is made for an image that is refused")
         self.expect(["same", self.path, self.put("other", self.mixed())], f"left {line}", 1)
+        self.expect(["check", self.put("others", self.with_others(self.image))], line, 1)
 
     def look_meant(self, image):
         """Compares what is printed and written of an accepted image, and of others beside it."""
@@ -626,6 +816,28 @@ class Case(Runner):
         self.look_composed(image, far(self.rng, 1))
         self.look_change(image, self.path, *self.rng.choice(((far(self.rng, number), lnum), (number, far(self.rng, lnum)))))
         self.look_rename(image, self.path, far(self.rng, number))
+
+    def with_others(self, data):
+        """The bytes of an image with others in the eraseblocks that are listed."""
+        return self.lister.others(data, self.is_bad)
+
+    def look_others(self, image):
+        """Whether the image means the same with other bytes in the eraseblocks that are listed."""
+        if any(map(self.is_bad, range(len(image.states)))):
+            path = self.put("others", self.with_others(self.image))
+            self.expect(["check", path], "".join(rules.check_lines(image)), 0)
+            self.expect(["same", self.path, path], "same\n", 0)
+
+    def plan_words(self):
+        """Words for a plan: whether blank eraseblocks are kept, and where its pages go."""
+        rng = self.rng
+        keep = rng.choice(([], [], [], either(rng, "--blank", "keep")))
+        return [*keep, *rng.choice(([], either(rng, "--pages", self.pages), either(rng, "--pages", self.pages)))]
+
+    def with_plan_words(self, image):
+        """An image, which keeps its blank eraseblocks where words for a plan say so, and those words."""
+        more = self.plan_words()
+        return (image.keeping_blank() if more and more[0].startswith("--blank") else image), more
 
     def mixed(self):
         """Another image that is made from the same eraseblocks."""
@@ -662,7 +874,7 @@ class Case(Runner):
     def look_same(self, image, other):
         words = ["same", self.path, self.put("other", other)]
         try:
-            is_same = Image(self.geometry, other).meaning() == image.meaning()
+            is_same = self.read(other).meaning() == image.meaning()
         except Refused as refused:
             self.expect(words, f"right refused {refused}\n", 1)
             return
@@ -722,10 +934,12 @@ class Case(Runner):
         return self.look_change(image, path, *self.target(image)) + self.look_rename(image, path, number)
 
     def look_change(self, image, path, number, lnum):
-        return self.look_plan(image, *self.change(path, image, number, lnum, self.new_bytes()))
+        image, more = self.with_plan_words(image)
+        return self.look_plan(image, *self.change(path, image, number, lnum, self.new_bytes(), more))
 
     def look_rename(self, image, path, number):
-        return self.look_plan(image, *self.rename(path, image, number, self.new_name(image, number)))
+        image, more = self.with_plan_words(image)
+        return self.look_plan(image, *self.rename(path, image, number, self.new_name(image, number), more))
 
     def look_plan(self, image, words, refusal, steps, meant):
         """Compares a plan, and what is written behind its steps. Gives how many cuts those are."""
@@ -735,14 +949,18 @@ class Case(Runner):
         stops = sorted(self.rng.sample(range(len(steps)), min(self.cuts, len(steps))))
         last = self.look_cuts(image, words, steps, meant, (*stops, len(steps)))
         beyond = self.rng.choice(([], ["--stop", str(far(self.rng, len(steps)))]))
-        self.expect(words + beyond, "".join(rules.plan_lines(steps)), 0, last)
+        self.expect(words + beyond, "".join(rules.plan_lines(steps)), 0, last, self.pages_of(words, steps))
+        if any(map(self.is_bad, range(len(image.states)))):
+            with open(words[1], "rb") as file:
+                path = self.put("others", self.with_others(file.read()))
+            self.expect([words[0], path, *words[2:]], "".join(rules.plan_lines(steps)), 0, last, self.pages_of(words, steps))
         of_cut = self.look_cut(image, steps) if words[1] == self.path and self.rng.random() < 0.2 else 0
         return len(stops) + 1 + of_cut
 
     def look_cut(self, image, steps):
         """Compares the plans of a cut of a plan. Gives how many cuts of those were looked at."""
         cut = rules.after(self.geometry, b"".join(image.found.blocks), steps[: self.rng.randrange(len(steps) + 1)])
-        path, image = self.put("cut", cut), Image(self.geometry, cut)
+        path, image = self.put("cut", self.with_others(cut)), self.read(cut)
         self.expect(["check", path], "".join(rules.check_lines(image)), 0)
         self.expect(["list", path], "".join(rules.list_lines(image)), 0)
         return self.look_plans(image, path)

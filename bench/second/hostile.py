@@ -22,8 +22,10 @@ The image is crates/ubi_tool/data/root.img: the two copies of a table with one d
             and to words that can't be read: refused N1 BadName, whether the volume is there or not
   texts     of `compose`: each form of line with each fault, each two faults in one text, each byte in each place that has
             a rule of its own, and right texts at the limits; the cause of the first line comes first (text_faults.py)
-  devices   character devices without an end, for each file that a command reads: cannot read; and the image by way of
-            a pipe, of standard input from a file, and of a terminal: as from its file
+  lists     LISTs of eraseblocks that are bad: each form, each byte in each place of one, words that are as long as may be, numbers
+            that are doubled, backward and beyond the image, and words that are wrong; each is answered within two seconds
+  devices   character devices without an end, for each file that a command reads: cannot read, or wrong words where a plan has
+            no LIST; and the image by way of a pipe, of standard input from a file, and of a terminal: as from its file
 
 What is expected is said here, family by family. The images lie in a new folder below FOLDER (/tmp where it is left out),
 which is removed again. Without --tool the program is built first where it isn't yet. The last line is 'N passed, M failed',
@@ -39,7 +41,7 @@ import tempfile
 
 import rules
 import text_faults
-from fuzz import NO_NAMES, ROOT, Failure, Runner, built, finish, renumbered, sized, solved, weakness
+from fuzz import NO_LISTS, NO_NAMES, ROOT, Failure, Runner, built, finish, renumbered, sized, solved, weakness
 from text_rules import Described
 
 GEOMETRY = rules.Geometry(512, 64, 64, 128, 1048576)
@@ -295,6 +297,63 @@ def names():
             yield MORE, number, bad, BAD_NAME
 
 
+# The most bytes of a word, the eraseblocks of the image with two more, and the image with a thousand times as many.
+LONGEST, ALL = 131071, set(range(len(BLOCKS)))
+LONG = MORE + b"\xFF" * 999 * len(MORE)
+
+
+def lists():
+    """LISTs, those of the image's first eraseblocks that they list or None where they are wrong, and the image."""
+    for word, places in itertools.chain(short_lists(), bytes_in_lists()):
+        yield word, places, MORE
+    for (word, places), image in itertools.product(long_lists(), (MORE, LONG)):
+        yield word, places, image
+
+
+def short_lists():
+    yield from (("", set()), ("3,9,28-31", {3}), ("31-31,3,3,005,+2", {2, 3, 5}), ("4294967295", set()), ("0-4294967295", ALL), ("3-3", {3}))
+    yield from (("7", set()), ("7-4294967295", set()), ("6-4294967295", {6}), ("4294967295-4294967295", set()), ("6,5,4,3,2,1,0", ALL))
+    yield "+0-+04294967295", ALL
+    for first, last in itertools.product(range(8), range(8)):
+        yield f"{first}-{last}", ALL & set(range(first, last + 1)) if first <= last else None
+        yield f"{first},{last}", ALL & {first, last}
+        yield f"0{first}-{last},{last}-{first}", ALL & {first} if first == last else None
+    for k in range(32):
+        # Numbers that are 3 where their high bits are lost.
+        yield str(3 + 2**k), ALL & {3 + 2**k}
+    for word in (*NO_LISTS, *(str(3 + 2**k) for k in (32, 33, 40, 63, 64, 128)), "1" * 11, "0-18446744073709551615"):
+        yield word, None
+
+
+def bytes_in_lists():
+    """Each byte before, between, behind and in place of numbers; those above 0x7F aren't text by themselves."""
+    for byte in range(1, 256):
+        for word in (b"%c", b"%c3", b"2%c4", b"3%c", b"3,%c,5", b"1-%c"):
+            word %= byte
+            test = rules.listed(word.decode("latin-1"))
+            yield word, None if test is None else {p for p in ALL if test(p)}
+
+
+def long_lists():
+    """LISTs that are long, or have many items."""
+    digits = LONGEST - 1
+    yield from (("0" * digits + "3", {3}), ("+" + "0" * (digits - 1) + "3", {3}), ("0" * LONGEST, {0}))
+    yield from (("0" * digits + "a", None), ("9" * LONGEST, None))
+    zeros = "0" * (LONGEST // 2 - 2)
+    yield from ((f"{zeros}2-{zeros}4", {2, 3, 4}), (f"{zeros}4-{zeros}2", None), (f"{zeros}4294967295", set()), (f"{zeros}4294967296", None))
+    beyond = ",".join(map(str, range(10000, 30000)))
+    yield from ((beyond, set()), (f"{beyond},3", {3}), (f"3,{beyond}", {3}), (f"{beyond},", None), (f"{beyond},x", None), (f"{beyond},4-3", None))
+    backward = ",".join(map(str, range(19999, -1, -1)))
+    yield from ((backward, ALL), (f"{backward},{backward[-9000:].lstrip(',')}", ALL), (f"{backward},-1", None))
+    every_second = ",".join(f"{k}-{k}" for k in range(11000, -1, -2))
+    yield from ((every_second, {0, 2, 4, 6}), (f"{every_second},3-2", None))
+    yield ",".join(["0-1048575"] * 13000), ALL
+    for item, places in (("2-3", {2, 3}), ("3", {3}), ("3-2", None), ("0-4294967295", ALL), ("7-1048575", set()), ("4294967295", set())):
+        yield ",".join([item] * ((LONGEST + 1) // (len(item) + 1))), places
+    for part in (",", "-", "+", " ", "3,,", "0-"):
+        yield part * ((LONGEST - 6) // len(part)), None
+
+
 ENDLESS = ("/dev/zero", "/dev/full", "/dev/random")
 
 
@@ -302,6 +361,10 @@ def devices():
     """Words, what they read from standard input, and what they print. OUT stands for a file that mustn't be there then."""
     for path in ENDLESS:
         line = f"cannot read {path}\n"
+        of_change, of_rename = ("--id", "0", "--lnum", "0", "--from", path, "--out", "OUT"), ("--id", "0", "--name", "data", "--out", "OUT")
+        for words in (("change", path, *of_change), ("rename", path, *of_rename), ("rename", path, "--id", "0", "--name", "\\", "--out", "OUT")):
+            yield words, b"", ""
+            yield (*words, "--blank", "keep", "--stop", "0"), b"", ""
         for words in (
             ("geometry", path),
             ("list", path),
@@ -311,9 +374,13 @@ def devices():
             ("normalise", path, "--out", "OUT"),
             ("normalise", path, "--out", path),
             ("same", path, path),
-            ("change", path, "--id", "0", "--lnum", "0", "--from", path, "--out", "OUT"),
-            ("rename", path, "--id", "0", "--name", "data", "--out", "OUT"),
-            ("rename", path, "--id", "0", "--name", "\\", "--out", "OUT"),
+            ("check", path, "--bad", "0-4294967295"),
+            ("change", path, *of_change, "--bad="),
+            ("change", path, *of_change, "--bad", "3,9"),
+            ("change", BASE_PATH, *of_change),
+            ("rename", path, *of_rename, "--bad", ""),
+            ("rename", path, *of_rename, "--bad=0-4294967295"),
+            ("rename", path, "--id", "0", "--name", "\\", "--out", "OUT", "--bad="),
             ("compose", path, "--out", "OUT"),
         ):
             yield words, b"", line
@@ -350,6 +417,7 @@ FAMILIES = {
     "weak": weak,
     "names": names,
     "texts": text_faults.texts,
+    "lists": lists,
     "devices": devices,
 }
 
@@ -436,11 +504,50 @@ class Looker:
             return False
         return True
 
+    def is_listed(self, word, places, image):
+        """Whether a LIST lists some eraseblocks of an image, or is wrong, as one word with its option and as one of its own."""
+        test = rules.listed(word.decode("latin-1") if isinstance(word, bytes) else word)
+        if (test is None) != (places is None) or test and {p for p in ALL if test(p)} != places:
+            return False
+        word = os.fsencode(word)
+        ways = [[b"--bad", word]] if not word.startswith(b"-") else []
+        ways += [[b"--bad=" + word]] if len(word) + 6 <= LONGEST else []
+        path = self.runner.put("listed", image)
+        return all(self.is_answered(path, words, test, image) for words in ways)
+
+    def is_answered(self, path, of_bad, test, image):
+        """Whether an image is checked and its eraseblocks are shown so, where those of a test are bad; without one, the words are wrong."""
+        lines, shown = "", []
+        if test:
+            try:
+                found = rules.Image(GEOMETRY, image, test)
+                lines, shown = "".join(rules.check_lines(found)), range(len(BLOCKS))
+            except rules.Refused as refused:
+                lines = f"refused {refused}\n"
+        status = 2 if not test else 1 if lines.startswith("refused") else 0
+        if self.answer(["check", path, *GEOMETRY.words(), *of_bad]) != (lines, status, not test):
+            return False
+        for p in shown:
+            block = found.found.blocks[p]
+            headers = ("ec", found.found.ecs[p][0], block[:64]), ("vid", found.found.vids[p][0], block[GEOMETRY.vid : GEOMETRY.vid + 64])
+            lines = "".join(f"{word} {state} {raw.hex()}\n" for word, state, raw in headers)
+            if self.answer(["show", path, "--block", str(p), *of_bad, *GEOMETRY.words()]) != (lines, 0, False):
+                return False
+        return True
+
+    def answer(self, words):
+        """What is printed within two seconds, with which status, and whether anything is on standard error."""
+        try:
+            ran = subprocess.run([self.tool, *words], capture_output=True, timeout=2)
+        except subprocess.TimeoutExpired:
+            return None
+        return ran.stdout.decode(), ran.returncode, bool(ran.stderr)
+
     def is_printed(self, words, given, expected):
         """Whether words print a text, and write no file, over standard input: bytes in a pipe, a path or a terminal."""
         out = self.out + ".none"
         words = [self.tool, *sized([out if word == "OUT" else word for word in words], GEOMETRY)]
-        status = 1 if expected.startswith(("cannot read ", "refused ")) else 0
+        status = 2 if not expected else 1 if expected.startswith(("cannot read ", "refused ")) else 0
         if isinstance(given, bytes):
             ran = subprocess.run(words, input=given, capture_output=True, timeout=60)
         else:
@@ -460,6 +567,7 @@ def main():
     with tempfile.TemporaryDirectory(dir=words.dir) as folder:
         looker = Looker(built(words.tool), folder)
         judges = {"devices": (looker.is_printed, "runs"), "texts": (looker.is_composed, "texts"), "carriers": (looker.is_carried, "plans"),
+            "lists": (looker.is_listed, "lists"),
             **dict.fromkeys(("repairs", "weak", "names"), (looker.is_renamed, "renames"))}
         for name in words.families or FAMILIES:
             judge, what = judges.get(name, (looker.is_right, "images"))

@@ -1,11 +1,14 @@
-"""A second reading of docs/FORMAT.md: what an image means, or why it is refused, the plans of a change and of a rename, and the
-geometries of a file of which nothing is known.
+"""A second reading of docs/FORMAT.md: what an image means, or why it is refused, also where some of its eraseblocks are bad, the
+plans of a change and of a rename with their pages, and the geometries of a file of which nothing is known.
 
 It was written from that document and not from the program, so that the answers of the program can be compared with it.
 It is short and slow: each rule stands once, in the document's words. A refusal is the exception `Refused`, which holds the
 line that the program prints, without `refused `.
 """
+import bisect
+import copy
 import dataclasses
+import re
 import struct
 import zlib
 
@@ -69,6 +72,55 @@ class Geometry:
         """The words that name it on the command line."""
         pairs = (("--peb", self.peb), ("--page", self.page), ("--vid", self.vid), ("--data", self.data), ("--pebs", self.pebs))
         return [str(word) for pair in pairs for word in pair]
+
+
+# The eraseblocks that are listed as bad.
+
+TOP_NUMBER = 4294967295
+NUMBER = r"\+?0*([0-9]{1,10})"
+ITEM = re.compile(f"{NUMBER}(?:-{NUMBER})?")
+
+
+def listed(word):
+    """The test whether a LIST lists an eraseblock; None where the word is wrong."""
+    ranges = set()
+    for item in word.split(",") if word else ():
+        numbers = ITEM.fullmatch(item)
+        if numbers is None:
+            return None
+        first, last = int(numbers[1]), int(numbers[2] or numbers[1])
+        if not first <= last <= TOP_NUMBER:
+            return None
+        ranges.add((first, last))
+    ranges = apart(ranges)
+    firsts = [first for first, _ in ranges]
+
+    def is_listed(p):
+        k = bisect.bisect(firsts, p)
+        return k > 0 and p <= ranges[k - 1][1]
+
+    return is_listed
+
+
+def apart(ranges):
+    """Ranges with the same numbers, of which no two have one in common, by rising number."""
+    out = []
+    for first, last in sorted(ranges):
+        if out and first <= out[-1][1]:
+            first, last = out[-1][0], max(last, out.pop()[1])
+        out.append((first, last))
+    return out
+
+
+def none_listed(p):
+    return False
+
+
+def masked(geometry, image, is_bad):
+    """What is read of an image: each byte of an eraseblock that is listed as 0xFF, and every other as it is."""
+    places = range(0, len(image), geometry.peb)
+    blocks = [image[at : at + geometry.peb] for at in places]
+    return b"".join(b"\xFF" * len(block) if is_bad(p) else block for p, block in enumerate(blocks))
 
 
 # What is read of 64 bytes: 'blank', 'corrupt', 'valid' or 'fault:NAME', and the fields of a header that is valid.
@@ -328,10 +380,16 @@ class Meaning:
 
 
 class Image(Meaning):
-    """An accepted image: what it means, and what is said of its eraseblocks."""
+    """An accepted image, of whose eraseblocks some may be listed as bad: what it means, and what is said of its eraseblocks.
 
-    def __init__(self, geometry, image):
-        self.found = Blocks(geometry, image)
+    Of a plan it says whether blank eraseblocks are kept.
+    """
+
+    keeps_blank = False
+
+    def __init__(self, geometry, image, is_bad=none_listed):
+        self.is_bad = is_bad
+        self.found = Blocks(geometry, masked(geometry, image, is_bad))
         self.winners = self.found.winners()
         super().__init__(geometry, self.found.image_seq, read_table(self.found, self.winners), {})
         self.check_winners()
@@ -341,6 +399,12 @@ class Image(Meaning):
         self.top_sqnum = max(sqnums, default=0)
         counters = [ec.counter for state, ec in self.found.ecs if state == "valid"]
         self.mean_counter = sum(counters) // len(counters) if counters else 0
+
+    def keeping_blank(self):
+        """The same image, of which a plan takes no eraseblock that is blank."""
+        other = copy.copy(self)
+        other.keeps_blank = True
+        return other
 
     def check_winners(self):
         for p in sorted(self.winners.values()):
@@ -542,7 +606,8 @@ def composed(meaning, spares):
     return normal + spares * put_block(geometry, put_ec(geometry, image_seq=meaning.image_seq))
 
 
-# The plans of a change and of a rename. A step is ('erase', p) or ('program', p, page, bytes).
+# The plans of a change and of a rename. A step is ('erase', p) or ('program', p, page, bytes). K10 isn't among the causes, since an
+# eraseblock that is listed reads 0xFF here.
 
 
 def stays(image, p, front):
@@ -555,11 +620,16 @@ def is_clean(image, p):
     return image.states[p] == "free" and is_blank(image.found.blocks[p][64:])
 
 
+def is_kept(image, p):
+    """Whether an eraseblock is listed as bad, or is a blank one where those are kept."""
+    return image.is_bad(p) or (image.keeps_blank and image.states[p] == "blank")
+
+
 def takeable(image):
     """The eraseblocks that may be taken, in the order in which they are."""
     states = ("free", "blank", "stale", "orphan", "dropped", "garbage")
     places = [p for p, block in enumerate(image.found.blocks) if image.states[p] in states and not stays(image, p, block[:64])]
-    return sorted(places, key=lambda p: (not is_clean(image, p), p))
+    return sorted((p for p in places if not is_kept(image, p)), key=lambda p: (not is_clean(image, p), p))
 
 
 def weak_pages(geometry, new):
@@ -728,10 +798,26 @@ def after(geometry, image, steps):
     return bytes(image)
 
 
+def pages_of(steps):
+    """The pages of a plan's steps: the bytes that their programs give to pages, one after the other."""
+    return b"".join(data for _, _, *program in steps for data in program[1:])
+
+
 def plan_lines(steps):
     yield f"steps {len(steps)}\n"
     for word, p, *program in steps:
         yield f"program block={p} page={program[0]}\n" if word == "program" else f"erase block={p}\n"
+
+
+def read_steps(geometry, lines, pages):
+    """The steps of some lines of a plan, whose programs take the bytes of one page after the other; of the last none is left."""
+    for line in lines:
+        word, *numbers = line.split()
+        size = 0 if word == "erase" else geometry.page
+        assert len(pages) >= size, f"no page is left for {line}"
+        yield (word, *(int(number.partition("=")[2]) for number in numbers), *([pages[:size]] if size else []))
+        pages = pages[size:]
+    assert not pages, "pages are left"
 
 
 def changed(image, number, lnum, new):

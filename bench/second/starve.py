@@ -3,10 +3,10 @@
 
 usage: starve.py [--seed N] [--count N] [--first N] [--dir FOLDER] [--tool PROGRAM]
 
-The images are those of fuzz.py that are accepted. Each command is run over an image again and again: of the first run the
-first growth is refused, of the second the second, and so on until a run meets no refusal. Each run that meets one has to
-print `out of memory` with the status 1, and to leave the output as it was: no file, and no folder. The last one has to answer as
-with ample memory. bench/second/refuse.sh does the same with the program's tests.
+The images are those of fuzz.py that are accepted, some of them with eraseblocks that are listed as bad. Each command is run over an
+image again and again: of the first run the first growth is refused, of the second the second, and so on until a run meets no
+refusal. Each run that meets one has to print `out of memory` with the status 1, and to leave the output and the pages as they
+were: no file, and no folder. The last one has to answer as with ample memory. bench/second/refuse.sh does the same with the program's tests.
 
 Without words there are 20 images (--count) of the seed 1 (--seed). They lie in a new folder below FOLDER (/tmp where it is
 left out), which is removed again. Without --tool the program is built first where it isn't yet. It needs a C compiler (cc,
@@ -19,7 +19,7 @@ import subprocess
 import tempfile
 
 import rules
-from fuzz import ROOT, Case, Failure, Maker, built, finish, options, sized, taken
+from fuzz import ROOT, Case, Failure, Maker, built, finish, options, taken, taken_file
 
 
 def refusing(folder):
@@ -65,17 +65,18 @@ class Starved(Case):
         yield ["build", self.put("config", CONFIG.encode()), "--out", self.out]
         yield ["normalise", self.path, "--out", self.out]
         yield self.compose_words(image, 1)
-        yield ["change", self.path, "--id", number, "--lnum", "0", "--from", new, "--out", self.out]
-        yield ["rename", self.path, "--id", number, "--name", "another", "--out", self.out]
+        yield ["change", self.path, "--id", number, "--lnum", "0", "--from", new, "--out", self.out, "--pages", self.pages]
+        yield ["rename", self.path, "--id", number, "--name", "another", "--out", self.out, "--pages", self.pages]
+        yield ["rename", self.path, "--id", number, "--name", "another", "--out", self.out, "--blank", "keep"]
 
     def run(self, words, **environment):
-        ran = subprocess.run([self.tool, *sized(words, self.geometry)], capture_output=True, env={**os.environ, **environment})
-        left = taken(self.volumes) if words[0] == "unpack" else self.written()
+        ran = subprocess.run([self.tool, *self.whole(words)], capture_output=True, env={**os.environ, **environment})
+        left = (taken(self.volumes), self.written(), taken_file(self.pages))
         return ran.stdout, ran.returncode, left, b"refused a growth" in ran.stderr
 
     def starve(self, words, library):
         """Refuses each growth of a run. Gives how many there are."""
-        ample = self.run(words)
+        ample, nothing = self.run(words), (None, None, None)
         growth = 1
         while True:
             answer = self.run(words, LD_PRELOAD=library, REFUSE_AT=str(growth))
@@ -83,8 +84,8 @@ class Starved(Case):
                 if answer != ample:
                     raise Failure(f"{words[0]} answers {answer[:2]} in place of {ample[:2]}")
                 return growth - 1
-            if answer[:3] != (b"out of memory\n", 1, None):
-                raise Failure(f"{words[0]} answers {answer[:2]} where growth {growth} is refused, and writes {answer[2]!r:.40}")
+            if answer[:3] != (b"out of memory\n", 1, nothing):
+                raise Failure(f"{words[0]} answers {answer[:2]} where growth {growth} is refused, and writes {answer[2]!r:.60}")
             growth += 1
 
 
@@ -99,7 +100,7 @@ def main():
             case = Starved(rng, tool, folder, Maker(rng))
             number += 1
             try:
-                image = rules.Image(case.geometry, case.image)
+                image = case.read(case.image)
             except rules.Refused:
                 continue
             images += 1

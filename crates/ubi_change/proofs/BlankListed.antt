@@ -11,8 +11,9 @@ use Rattle.ubi_volume.specs.Meant.{records_of}
 use Rattle.ubi_volume.specs.Survey.{IsSurvey, Seen}
 use Rattle.ubi_volume.specs.declared.attached.BlockState.{BlockState}
 use Rattle.ubi_volume.specs.declared.attached.BlockState.TheVariants as state
-use Rattle.ubi_change.specs.Avoided.{Avoided, BlankBelow, IsNotBlank, ReadBlank, is_blank_one}
+use Rattle.ubi_change.specs.Avoided.{Avoided, BlankBelow, IsNotBlank, is_blank_one}
 use Rattle.ubi_change.specs.inner.Taking.{NotBlankIs, SayBlank}
+use Rattle.ubi_change.proofs.Blanks.{ReadBlank}
 use Rattle.ubi_change.proofs.Prepared.{valid_is}
 use Rattle.ubi_change.proofs.Unused.{nameless_ec, nameless_loses}
 
@@ -81,7 +82,3 @@ module _ (image : Image) (seen : Seen) (is : IsSurvey image seen) (av : Avoided)
   pub survey_blank : NotBlankIs av.marks seen.states None → in_image ReadBlank image av
   survey_blank none =
       begin_blank image.sizes (eraseblocks image) (records_of is.meaning) av seen.states is.attached.states none
-
-  pub survey_other : (p : ℕ) → NotBlankIs av.marks seen.states (Some p) → in_image IsNotBlank image av p
-  survey_other p some =
-      begins_otherwise image.sizes (eraseblocks image) (records_of is.meaning) av seen.states is.attached.states p some

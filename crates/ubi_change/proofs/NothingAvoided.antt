@@ -11,17 +11,13 @@ use Rattle.ubi_change.specs.Refused.{first_cause}
 use Rattle.ubi_change.specs.RenamePlan.{rename_plan}
 use Rattle.ubi_change.specs.RenamePlanned.{IsFrugalRename, IsFrugalRenameOf, IsFrugalRenameAvoiding, IsRename, IsRenameRefusal, IsRenameRefusalAvoiding, IsRenameAvoiding}
 use Rattle.ubi_change.specs.RenameRefused.{IsFirstCause, MayBeNamed}
-use Rattle.ubi_change.specs.Avoided.{ReadBlank, nothing, avoiding}
+use Rattle.ubi_change.specs.Avoided.{nothing, avoiding}
 use Rattle.ubi_change.specs.declared.refusal.ChangeRefusal.{ChangeRefusal}
 use Rattle.ubi_change.specs.declared.refusal.ChangeRefusal.TheVariants as change
 use Rattle.ubi_change.specs.declared.rename_refusal.RenameRefusal.{RenameRefusal}
 use Rattle.ubi_change.specs.declared.rename_refusal.RenameRefusal.TheVariants as rename
 use Rattle.ubi_change.specs.declared.step.Step.{Step}
 use Rattle.ubi_change.proofs.Shown.{avoiding_nothing}
-
--- where nothing is listed, no listed eraseblock holds anything
-pub none_listed : (s : Sizes) (bs : List (List ℕ)) → ReadBlank s bs nothing
-none_listed s bs p l c = absurd (true≢false (sym c))
 
 -- a fact of what a plan sees
 as_is : (fact : Whole → Type 0) (a : Whole) → fact (avoiding nothing a) → fact a

@@ -9,7 +9,8 @@ use Rattle.ubi_change.specs.Fitting.{AllFit}
 use Rattle.ubi_change.specs.Frugal.{IsFrugal}
 use Rattle.ubi_change.specs.Order.{RisesBetweenErases}
 use Rattle.ubi_change.specs.Planned.{IsPlanOf, IsPlanAvoiding}
-use Rattle.ubi_change.specs.Avoided.{ReadBlank, Avoided, Avoids, avoiding}
+use Rattle.ubi_change.specs.Avoided.{Avoided, Avoids, avoiding}
+use Rattle.ubi_change.proofs.Blanks.{ReadBlank}
 use Rattle.ubi_change.specs.declared.step.Step.{Step}
 use Rattle.ubi_change.proofs.AttachedImage.{mean_few, seq_narrow}
 use Rattle.ubi_change.proofs.PlanFits.{plan_fits}

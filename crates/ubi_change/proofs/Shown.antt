@@ -41,13 +41,6 @@ pub seen_state : (av : Avoided) (states : List BlockState) (p : ℕ)
 seen_state av states p =
     numbered av states 0 p ∙ ap (λ k. option_map (state_avoiding av k) (slice_get states p)) (omega arith)
 
-pub length-avoiding : (av : Avoided) (states : List BlockState) → length (states_avoiding av states) ≡ length states
-length-avoiding av states = from 0 states
-  where
-    from : (n : ℕ) (states : List BlockState) → length (map (λ e. state_avoiding av e.0 e.1) (enumerate_from n states)) ≡ length states
-    from n [] = refl
-    from n (st ∷ states) = ap suc (from (n + 1) states)
-
 -- what a plan sees as unused isn't avoided, and is in that state
 pub not_avoided : (av : Avoided) (p : ℕ) (st : BlockState) → is_unused (state_avoiding av p st) ≡ true
     → (is_avoided av p st ≡ false) × (state_avoiding av p st ≡ st)
@@ -99,19 +92,3 @@ states_nothing states = from 0 states
 
 pub avoiding_nothing : (a : Whole) → avoiding nothing a ≡ a
 avoiding_nothing a = ap (λ (states : List BlockState). record { meaning = a.meaning; scan = a.scan; states = states }) (states_nothing a.states)
-
--- what may be taken is what might be taken otherwise, but for what is avoided
-pub takeable_avoiding : (s : Sizes) (bs : List (List ℕ)) (av : Avoided) (states : List BlockState) (p : ℕ) (st : BlockState)
-    → slice_get states p ≡ Some st
-    → is_takeable s bs (states_avoiding av states) p ≡ (not (is_avoided av p st) && is_takeable s bs states p)
-takeable_avoiding s bs av states p st e =
-    ap (λ o. option_map_or is_unused o false && free) (seen_state av states p ∙ ap (option_map (state_avoiding av p)) e)
-    ∙ by_test (is_avoided av p st)
-    ∙ ap (λ o. not (is_avoided av p st) && (option_map_or is_unused o false && free)) (sym e)
-  where
-    free : Bool
-    free = not (stays s bs p (ec_at s bs p))
-
-    by_test : (b : Bool) → (is_unused (cond b state.Used st) && free) ≡ (not b && (is_unused st && free))
-    by_test true = refl
-    by_test false = refl

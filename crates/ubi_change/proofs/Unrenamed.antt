@@ -14,7 +14,8 @@ use Rattle.ubi_volume.specs.Survey.{IsSurvey, Seen}
 use Rattle.ubi_volume.proofs.PlacesOf.{refused_in_memory}
 use Rattle.ubi_change.specs.RenamePlan.{renamed_pages}
 use Rattle.ubi_change.specs.RenamePlanned.{IsRenameError, IsRenameOf, IsRenameRefusal, IsRenameRefusalAvoiding}
-use Rattle.ubi_change.specs.Avoided.{ReadBlank, Avoided, nothing, states_avoiding}
+use Rattle.ubi_change.specs.Avoided.{Avoided, nothing, states_avoiding}
+use Rattle.ubi_change.proofs.Blanks.{ReadBlank}
 use Rattle.ubi_change.specs.Takeable.{takeable}
 use Rattle.ubi_change.specs.Weak.{weak_place}
 use Rattle.ubi_change.specs.inner.Renaming.{AreCopiesOf, AreHolders, IsNamable, IsRenamable, IsSparesRefusal, IsUnrenamed, from_stream, pages_for, two_copies}

@@ -132,9 +132,6 @@ module _ (size : ℕ) (some : 0 < size) (marks : List Bool) (p : ℕ) (inside : 
           absurd (omega (arith, low, e, above))
       by_less (inr more) = grind (arith, nat_tests)
 
-  mark_at : ℕ → Bool
-  mark_at k = is_listed (take (p + 1) marks) (k / size)
-
   -- where it isn't marked nothing changes
   pub not_masked : get_or marks p false ≡ false → now ≡ masked size (take (p + 1) marks) bytes
   not_masked unmarked = same_lists now (masked size (take (p + 1) marks) bytes)

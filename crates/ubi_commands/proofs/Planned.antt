@@ -8,10 +8,9 @@ use Rattle.ubi_scan.specs.Source.{Agreed, Source}
 use Rattle.ubi_commands.specs.Answer.{Gives, says}
 use Rattle.ubi_commands.specs.Disk.{Files, Holds, OthersStay, Receives, Stays, fresh}
 use Rattle.ubi_commands.specs.Lines.{file_line}
-use Rattle.ubi_commands.specs.Program.{OfFile, PlanStays, WritesInto, WritesPlan, bad_limit, cannot_read, no_file, no_pages, places, planned, unwritten, whole, written}
+use Rattle.ubi_commands.specs.Program.{OfFile, WritesInto, WritesPlan, bad_limit, cannot_read, no_file, no_pages, places, planned, unwritten, whole, written}
 use Rattle.ubi_commands.specs.declared.numbers.Numbers.{Numbers}
 use Rattle.ubi_commands.specs.declared.outcome.Outcome.{Outcome}
-use Rattle.ubi_commands.specs.declared.requests.Plan.{Plan}
 
 -- what is answered of a file once work that was done goes on
 pub OfFile-after : (d : Files) (numbers : Numbers) (path : List ℕ) (P Q : Sizes → Source → Agreed → Outcome → Type 0) (o r : Outcome)
@@ -85,14 +84,3 @@ pub stays_unopened : (d e : Files) (path out : List ℕ) (may_be_one : Bool) →
     → (not may_be_one ≡ false → e ≡ d) → Stays d e path
 stays_unopened d e path out true one others shut = ap (λ (files : Files). files.holds path) (shut refl)
 stays_unopened d e path out false one others shut = others path (λ same. true≢false (sym (one same)))
-
--- the files that a plan leaves as they were
-pub stays_alone : (d e : Files) (plan : Plan) → OthersStay d e plan.paths.out.now → PlanStays d e plan
-stays_alone d e plan others = record { others = λ other apart beside. others other apart; image = λ apart. others plan.paths.image.now apart }
-
-pub stays_beside : (d m e : Files) (plan : Plan) (path : Bor (List ℕ)) → plan.pages ≡ Some path → OthersStay d m plan.paths.out.now
-    → OthersStay m e path.now → Stays m e plan.paths.image.now → PlanStays d e plan
-stays_beside d m e plan path asked first second image = record {
-  others = λ other apart beside. second other (beside path asked) ∙ first other apart;
-  image = λ apart. image ∙ first plan.paths.image.now apart;
-}

@@ -9,7 +9,7 @@ use ubi_change::{
 };
 use ubi_scan::MemorySource;
 
-/// The image, and the same with blank eraseblocks in the place of two.
+/// An image with two free eraseblocks.
 const TWO_FREE: [Peb; 7] = [FIRST, SECOND, A, B, C, FREE, FREE];
 
 /// The plan of a change of a page of volume 0, or why there is none, beside eraseblocks that are marked or Blank. It has no
@@ -44,9 +44,10 @@ fn unrenamed(
 /// The image with blank eraseblocks in the place of some.
 fn with_blank(alloc: Global, pebs: &[usize]) -> Result<Vec<u8>, Fail> {
     let mut image = image_of(alloc, &SMALL.geometry()?, &TWO_FREE)?;
-    for p in pebs {
-        let start = p.saturating_mul(512);
-        image.as_mut_slice()[start..start + 512].fill(0xFF);
+    for (place, byte) in image.as_mut_slice().iter_mut().enumerate() {
+        if pebs.contains(&(place / 512)) {
+            *byte = 0xFF;
+        }
     }
     Ok(image)
 }

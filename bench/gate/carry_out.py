@@ -1,0 +1,885 @@
+#!/usr/bin/env python3
+"""Carries plans out with carry_out.sh, on a chip that a file plays, and looks at what it does, tells and leaves.
+
+usage: carry_out.py [--tool PROGRAM] [--script PATH] [--only WORD]
+
+The tools that the script calls are those of bench/gate/fakes, which behave as mtd-utils and dd do on NAND flash. They can be told
+what goes wrong: an erase that fails, that does nothing or half of it, a program that fails, that is torn, that can't be read back,
+an eraseblock that is bad. Images are small, with pages that have sub-pages and pages that have none, and with eraseblocks that are
+bad. Of each image a LEB that is mapped is changed, and one that isn't, and a volume is renamed:
+
+- the whole plan, with a dump and without; `-c`, which writes nothing
+- ended after each step (`-e`), and gone on with (`-s`)
+- each write gone wrong, in each way: the step that is named, that nothing behind it was written, what the chip holds, and that
+  the plan can be gone on with where nothing was torn
+- each refusal: its line, and that not a byte is another
+- interrupts, outputs that are closed or full, offsets beyond 4 GiB
+
+What the chip holds has to be the image after the steps that are done, and to mean the old or the new. Plans, pages and meanings
+are those of bench/second/rules.py. With --tool the plans and the pages are those of PROGRAM too, which have to be the same, and
+the meaning is what its `list` and `extract` say. The script is run by dash, bash and busybox in turn, as far as they are there.
+--only runs the cases whose names have WORD. The last line is 'N passed, M failed', and the exit status is 0 where none failed.
+"""
+import argparse
+import itertools
+import os
+import random
+import re
+import shutil
+import signal
+import subprocess
+import sys
+import tempfile
+import time
+from pathlib import Path
+
+ROOT = Path(__file__).resolve().parents[2]
+FAKES = ROOT / 'bench/gate/fakes'
+DATA = ROOT / 'crates/ubi_tool/data'
+sys.path.insert(0, str(ROOT / 'bench/second'))
+import rules  # noqa: E402
+from rules import LAYOUT, Geometry, Record, Vid  # noqa: E402
+
+# The names of shells, and the words before those of the script. busybox has a dd of its own, which it takes before the fake one.
+SHELLS = {
+    'dash': ['dash'],
+    'bash': ['bash'],
+    'busybox': ['busybox', 'sh', '-c', 'dd() { "$FAKES/dd" "$@"; }; . "$0"'],
+}
+# Of each size the bytes of a sub-page. In the second the VID header lies in page 0, in a sub-page of its own.
+SIZES = (
+    (Geometry(512, 64, 64, 128, 32), 64),
+    (Geometry(8192, 2048, 512, 2048, 32), 512),
+    (Geometry(2048, 256, 320, 512, 32), 64),
+)
+# What may go wrong with an erase and with a program, and what the script tells of it.
+ERASES = {
+    'fail': 'libmtd: error!: MEMERASE64 ioctl failed', 'skip': "it isn't blank afterwards", 'most': "it isn't blank afterwards",
+    'loud': 'flash_erase: warning!', 'status': 'flash_erase ended with status 1', 'unread': "it can't be read back: ECC: 1 uncorrectable",
+}
+PROGRAMS = {
+    'fail': 'Input/output error', 'skip': 'it reads other bytes afterwards', 'torn': 'it reads other bytes afterwards',
+    'broken': 'Input/output error', 'flip': 'it reads other bytes afterwards', 'unread': "it can't be read back: ECC: 1 uncorrectable",
+    'killed': 'it was broken off with status 137',
+}
+# Those after which the chip holds what it held before the step, or after which the erase is done.
+HARMLESS = ('fail', 'skip', 'loud', 'status')
+# The plans that are ended after each step and of which each write goes wrong: of the first in each way, of the others in one.
+STEPPED = ('peb 8192 used mapped', 'peb 512 clean rename', 'spare change')
+
+
+class Failure(Exception):
+    """What was expected, and what came."""
+
+
+def expect(is_right, what):
+    if not is_right:
+        raise Failure(what)
+
+
+# Images, and plans of them.
+
+
+def image_of(geometry, layout):
+    """An image of eraseblocks that a layout names."""
+    rng = random.Random(f'{geometry} {layout}')
+    records = {0: Record(6, 1, 1, 0, b'root', 0), 1: Record(2, 1, 2, 0, b'kernel', 0)}
+    table, text, sqnums = rules.put_table(geometry, records), rng.randbytes(100), itertools.count(1)
+
+    def member(volume, lnum, data, kind=1, compat=0, size=0, used=0, right=0):
+        ec = rules.put_ec(geometry, rng.randrange(50), 7)
+        vid = rules.put_vid(Vid(kind, 0, compat, volume, lnum, size, used, 0, right, next(sqnums)))
+        return rules.put_block(geometry, ec, vid, data)
+
+    made = {
+        'table0': lambda: member(LAYOUT, 0, table, compat=5),
+        'table1': lambda: member(LAYOUT, 1, table, compat=5),
+        'leb0': lambda: member(0, 0, rng.randbytes(geometry.leb)),
+        'leb1': lambda: member(0, 1, rng.randbytes(geometry.page)),
+        'old1': lambda: member(0, 1, rng.randbytes(geometry.leb)),
+        'static': lambda: member(1, 0, text, 2, 0, len(text), 1, rules.check(text)),
+        'clean': lambda: rules.put_block(geometry, rules.put_ec(geometry, 3, 7)),
+        'free': lambda: rules.put_block(geometry, rules.put_ec(geometry, 4, 7), data=bytes(9)),
+        'blank': lambda: b'\xFF' * geometry.peb,
+        'bad': lambda: b'\xFF' * geometry.peb,
+    }
+    return b''.join(made[word]() for word in layout.split())
+
+
+# The first has two eraseblocks that are clean, the second none; and each has bad ones.
+LAYOUTS = {
+    'clean': 'bad table0 old1 leb0 clean bad leb1 table1 static clean blank',
+    'used': 'table0 free leb0 old1 leb1 static table1 bad free bad',
+}
+
+
+class Plan:
+    """A plan of an image: its steps, its pages, and the image after each number of steps."""
+
+    def __init__(self, name, geometry, sub, image, made, words, files=(), bad=()):
+        self.name, self.geometry, self.sub, self.image, self.bad = name, geometry, sub, image, bad
+        self.steps, self.words, self.files = made.steps, words, dict(files)
+        self.text = ''.join(rules.plan_lines(self.steps))
+        self.pages = [step[3] for step in self.steps if step[0] == 'program']
+        self.after = [rules.after(geometry, image, self.steps[:k]) for k in range(len(self.steps) + 1)]
+        self.count = len(self.steps)
+
+    def line(self, n):
+        """The line of step N, counted from 1."""
+        return self.text.splitlines()[n]
+
+    def pages_of(self, n):
+        """The bytes of the pages of the first N steps."""
+        return b''.join(self.pages[: sum(step[0] == 'program' for step in self.steps[:n])])
+
+    def writes(self, n):
+        """What step N writes, as the fakes note it: of page 0, where there are sub-pages, those alone that change."""
+        word, p, *rest = self.steps[n - 1]
+        if word == 'erase':
+            return [f'erase {p}']
+        page = self.geometry.page
+        at = p * self.geometry.peb + rest[0] * page
+        old, new = (self.after[k][at : at + page] for k in (n - 1, n))
+        if old == new:
+            return []
+        size = self.sub if rest[0] == 0 else page
+        return [f'program {at + part} {size}' for part in range(0, page, size) if old[part : part + size] != new[part : part + size]]
+
+    def all_writes(self, first=1, last=None):
+        """Of each write of some steps the step and the line."""
+        return [(n, line) for n in range(first, (self.count if last is None else last) + 1) for line in self.writes(n)]
+
+    def with_bad(self, data):
+        """The bytes of a chip where bad eraseblocks hold something."""
+        data, peb = bytearray(data), self.geometry.peb
+        for p in self.bad:
+            data[p * peb : (p + 1) * peb] = b'bad?' * (peb // 4)
+        return bytes(data)
+
+
+def plans():
+    """The plans that are carried out."""
+    small = SIZES[0][0]
+    spare, new = (DATA / 'spare.img').read_bytes(), (DATA / 'new.bin').read_bytes()
+    yield Plan('spare change', small, 64, spare, rules.Change(rules.Image(small, spare), 0, 1, new),
+        ['change', '--id', '0', '--lnum', '1', '--from', 'new.bin'], {'new.bin': new})
+    for (geometry, sub), (layout, words) in itertools.product(SIZES, LAYOUTS.items()):
+        if (geometry, layout) == (SIZES[2][0], 'clean'):
+            continue
+        data, bad = image_of(geometry, words), [p for p, word in enumerate(words.split()) if word == 'bad']
+        image, page = rules.Image(geometry, data), geometry.page
+        new = random.Random(layout).randbytes(page) + b'\xFF' * page + b'end'.ljust(page, b'\xFF')
+        name = f'peb {geometry.peb} {layout}'
+        for lnum, which in ((1, 'mapped'), (4, 'unmapped'))[: 1 if layout == 'clean' else 2]:
+            yield Plan(f'{name} {which}', geometry, sub, data, rules.Change(image, 0, lnum, new),
+                ['change', '--id', '0', '--lnum', str(lnum), '--from', 'new.bin'], {'new.bin': new}, bad)
+        yield Plan(f'{name} rename', geometry, sub, data, rules.Rename(image, 1, b'kernel_old'),
+            ['rename', '--id', '1', '--name', 'kernel_old'], (), bad)
+
+
+# What an image means: by the rules, or by the program.
+
+
+def by_rules(plan, data):
+    try:
+        return rules.Image(plan.geometry, data).meaning()
+    except rules.Refused as refused:
+        return f'refused {refused}'
+
+
+class Program:
+    """The program: what an image means to it, and its plans."""
+
+    def __init__(self, tool, folder):
+        self.tool, self.folder, self.known = str(Path(tool).resolve()), folder, {}
+
+    def run(self, *words):
+        done = subprocess.run([self.tool, *words], capture_output=True, cwd=self.folder)
+        return done.stdout.decode(errors='replace'), done.returncode
+
+    def put(self, name, data):
+        (self.folder / name).write_bytes(data)
+        return name
+
+    def meaning(self, plan, data):
+        """What `list` says of an image, and the bytes of each volume that can be extracted."""
+        key = plan.geometry, data
+        if key not in self.known:
+            self.put('cut.img', data)
+            listed, status = self.run('list', 'cut.img', *plan.geometry.words())
+            volumes = re.findall(r'^volume (\d+) ', listed, re.M)
+            read = []
+            for number in volumes:
+                (self.folder / 'volume').write_bytes(b'')
+                answer = self.run('extract', 'cut.img', '--id', number, '--out', 'volume', *plan.geometry.words())
+                read.append((number, answer, (self.folder / 'volume').read_bytes()))
+            self.known[key] = listed, status, read
+        return self.known[key]
+
+    def compare(self, plan):
+        """Whether the plan and the pages of the program are those of the rules."""
+        for name, data in plan.files.items():
+            self.put(name, data)
+        command, *rest = plan.words
+        words = [command, self.put('dump.img', plan.image), *rest, '--out', 'out.img', *plan.geometry.words()]
+        path = self.folder / 'pages'
+        path.unlink(missing_ok=True)
+        text, status = self.run(*words, '--pages', 'pages')
+        pages = path.read_bytes() if path.exists() else None
+        if status == 2:
+            # it has no --pages
+            text, status = self.run(*words)
+            pages = b''.join(self.page_after(plan, words, k) for k, step in enumerate(plan.steps, 1) if step[0] == 'program')
+        expect((text, status) == (plan.text, 0), f'the program plans {text!r} with status {status}')
+        expect(pages == plan.pages_of(plan.count), "the program's pages are others")
+
+    def page_after(self, plan, words, k):
+        """The page that step K programs, of the image after it."""
+        self.run(*words, '--stop', str(k))
+        _, p, page, _ = plan.steps[k - 1]
+        at = p * plan.geometry.peb + page * plan.geometry.page
+        return (self.folder / 'out.img').read_bytes()[at : at + plan.geometry.page]
+
+
+# The chip that a file plays.
+
+
+class Ran:
+    """What a run has told, and what it has written."""
+
+    def __init__(self, status, out, err, log):
+        self.status, self.out, self.err, self.log = status, out, err, log
+
+    def __str__(self):
+        return f'status {self.status}, {self.out!r}, {self.err!r}, {self.log}'
+
+
+class Chip:
+    """The folder of a chip, what the kernel says of it, and the script that works on it."""
+
+    turns = itertools.count()
+
+    def __init__(self, folder, script, plan):
+        self.folder, self.script, self.plan = folder, script, plan
+        shutil.rmtree(folder, ignore_errors=True)
+        self.chip, self.root, self.scratch = folder / 'the chip', folder / 'root', folder / 'scratch'
+        self.mtd = self.root / 'sys/class/mtd/mtd0'
+        for made in (self.chip, self.mtd, self.scratch, self.root / 'proc', self.root / 'sys/class/ubi'):
+            made.mkdir(parents=True)
+        geometry = plan.geometry
+        said = {'type': 'nand', 'size': len(plan.image), 'erasesize': geometry.peb, 'writesize': geometry.page, 'subpagesize': plan.sub,
+            'flags': '0x400', 'numeraseregions': 0, 'name': 'a chip'}
+        for name, value in said.items():
+            self.say(name, value)
+        (self.root / 'proc/mounts').write_text('proc /proc proc rw 0 0\n/dev/mtdblock1 /mnt ext4 rw 0 0\nmtd1 /a jffs2 rw 0 0\n')
+        (self.root / 'sys/class/ubi/version').write_text('1\n')
+        (self.chip / 'blank').write_bytes(b'\xFF' * geometry.peb)
+        self.device = self.chip / 'mtd0'
+        self.files = {'plan': plan.text.encode(), 'pages': plan.pages_of(plan.count), 'dump': plan.image}
+        for name, data in self.files.items():
+            self.put(name, data)
+        self.fill(plan.image)
+
+    def say(self, name, value):
+        (self.mtd / name).write_text(f'{value}\n')
+
+    def put(self, name, data):
+        path = self.folder / name
+        path.write_bytes(data)
+        return path
+
+    def fill(self, image):
+        """Puts an image on the chip, of which nothing goes wrong. Bad eraseblocks hold something else."""
+        self.held = self.plan.with_bad(image)
+        self.device.write_bytes(self.held)
+        self.set('bad', *self.plan.bad)
+        self.set('fault', '0 -')
+        self.set('mtdinfo', '-')
+        for name in ('locked', 'unread', 'flipped', 'log'):
+            self.set(name)
+
+    def set(self, name, *lines):
+        (self.chip / name).write_text(''.join(f'{line}\n' for line in lines))
+
+    def data(self):
+        return self.device.read_bytes()
+
+    def words(self, *options, **others):
+        named = {'device': self.device, 'plan': self.folder / 'plan', 'pages': self.folder / 'pages', 'peb': self.plan.geometry.peb,
+            'page': self.plan.geometry.page} | others
+        return [*map(str, options), *map(str, named.values())]
+
+    def start(self, words, shell=None, environment=(), **how):
+        shell = shell or SHELLS_THERE[next(self.turns) % len(SHELLS_THERE)]
+        path = f'{self.folder / "stubs"}:{FAKES}:{os.environ["PATH"]}'
+        variables = {**os.environ, 'PATH': path, 'FAKES': str(FAKES), 'FAKE_CHIP': str(self.chip),
+            'FAKE_DD': REAL_DD, 'FAKE_PYTHON': sys.executable, 'CARRY_OUT_ROOT': str(self.root), 'TMPDIR': str(self.scratch),
+            **dict(environment)}
+        how = {'stdout': subprocess.PIPE, 'stderr': subprocess.PIPE, 'stdin': subprocess.DEVNULL} | how
+        return subprocess.Popen([*SHELLS[shell], self.script, *words], cwd=self.folder, env=variables, start_new_session=True, **how)
+
+    def end(self, child):
+        try:
+            out, err = child.communicate(timeout=30)
+        except subprocess.TimeoutExpired:
+            os.killpg(child.pid, signal.SIGKILL)
+            raise Failure('it has not ended after 30 seconds') from None
+        left = os.listdir(self.scratch)
+        expect(not left, f'it leaves {left}')
+        log = (self.chip / 'log').read_text().splitlines()
+        return Ran(child.returncode, (out or b'').decode(), (err or b'').decode(), log)
+
+    def run(self, *options, **others):
+        return self.end(self.start(self.words(*options, **others)))
+
+    def expect(self, ran, status, image, log, err=''):
+        """Compares a run with what it is to do: its status, the chip after it, what it wrote, and its line to standard error."""
+        expect(ran.status == status, f'not status {status} but {ran}')
+        expect(self.data() == self.plan.with_bad(image), f'the chip holds something else: {ran}')
+        expect(ran.log == log, f'it writes {ran.log} and not {log}')
+        expect(ran.err == '' if err == '' else err in ran.err and ran.err.count('\n') == 1, f'not {err!r} but {ran}')
+
+    def expect_refused(self, line, *options, words=None, start=()):
+        """Runs the script, which is to refuse with a line, and to write nothing."""
+        before = self.data()
+        ran = self.end(self.start(self.words(*options) if words is None else words, **dict(start)))
+        expect(ran.status == 2, f'not status 2 but {ran}')
+        expect(self.data() == before and not ran.log, f'something was written: {ran}')
+        expect(re.fullmatch(f'carry_out: .*{re.escape(line)}.*; nothing was written\n', ran.err) and not ran.out, f'not {line!r} but {ran}')
+
+
+SHELLS_THERE = [name for name, words in SHELLS.items() if shutil.which(words[0])]
+REAL_DD = shutil.which('dd')
+
+
+class Cases:
+    """The cases: each is a name, and a call that raises where something is wrong."""
+
+    def __init__(self, folder, script, tool):
+        self.folder, self.script = folder, script
+        self.plans = {plan.name: plan for plan in plans()}
+        self.program = Program(tool, folder) if tool else None
+
+    def chip(self, name='peb 8192 used mapped'):
+        return Chip(self.folder / 'a chip', self.script, self.plans[name])
+
+    def meaning(self, plan, data):
+        return self.program.meaning(plan, data) if self.program else by_rules(plan, data)
+
+    def look(self, plan, data, what):
+        """Whether an image means the old or the new."""
+        old, new, now = (self.meaning(plan, of) for of in (plan.image, plan.after[-1], data))
+        expect(old != new and now in (old, new), f'{what}: the chip means neither the old nor the new')
+        return now == new
+
+    def all(self):
+        for plan in self.plans.values():
+            if self.program:
+                yield f'plan: {plan.name}', lambda plan=plan: self.program.compare(plan)
+            yield f'whole: {plan.name}', lambda plan=plan: self.whole(plan)
+        for plan in map(self.plans.get, STEPPED):
+            yield f'steps: {plan.name}', lambda plan=plan: self.one_by_one(plan)
+            for n in range(1, plan.count + 1):
+                for number, line in enumerate(plan.writes(n), 1):
+                    ways = list(ERASES if line.startswith('erase') else PROGRAMS)
+                    for how in ways if plan.name == STEPPED[0] else ways[n % len(ways) :][: n % 2]:
+                        yield (f'fault: {plan.name}, write {number} of step {n}, {how}',
+                            lambda plan=plan, n=n, number=number, how=how: self.fault(plan, n, number, how))
+        for name, test in self.refusals():
+            yield f'refused: {name}', test
+        for name, test in vars(Cases).items():
+            if name.startswith('try_'):
+                yield f'other: {name[4:]}', lambda test=test: test(self)
+
+    # Whole plans, single steps and faults.
+
+    def whole(self, plan):
+        chip = Chip(self.folder / 'a chip', self.script, plan)
+        ran = chip.run('-c', '-d', 'dump')
+        chip.expect(ran, 0, plan.image, [])
+        first = f'checked: {chip.device}, {len(plan.image) // plan.geometry.peb} eraseblocks, {len(plan.bad)} bad; ' \
+            f'{plan.count} steps, {len(plan.pages)} pages\n'
+        expect(ran.out == first, f'-c prints {ran.out!r}')
+        ran = chip.run(*(('-d', 'dump') if 'clean' in plan.name else ()))
+        chip.expect(ran, 0, plan.after[-1], [line for _, line in plan.all_writes()])
+        lines = ran.out.splitlines(True)
+        expect(len(lines) == plan.count + 2 and lines[0] == first and lines[-1] == f'done: {plan.count} steps\n', f'it prints {ran.out!r}')
+        for n in range(1, plan.count + 1):
+            expect(lines[n].startswith(f'step {n}: {plan.line(n)}: '), f'step {n} prints {lines[n]!r}')
+            expect((': has its bytes' in lines[n]) == (not plan.writes(n)), f'step {n} prints {lines[n]!r}')
+
+    def one_by_one(self, plan):
+        """Ends after each step, and goes on with the next, where PAGES may be the pages of the first steps alone."""
+        chip = Chip(self.folder / 'a chip', self.script, plan)
+        meant = []
+        for k in range(1, plan.count + 1):
+            chip.put('pages', plan.pages_of(k if k % 2 else plan.count))
+            ran = chip.run(*(('-s', k) if k > 1 else ()), '-e', k, *(('-d', 'dump') if k % 3 else ()))
+            chip.expect(ran, 0, plan.after[k], [line for _, line in plan.all_writes(1, k)])
+            ended = f'ended after step {k} of {plan.count}\n' if k < plan.count else f'done: {plan.count} steps\n'
+            expect(ran.out.endswith(f'\n{ended}') and ran.out.count('\n') == 3, f'it prints {ran.out!r}')
+            meant.append(self.look(plan, plan.after[k], f'cut {k}'))
+        expect(meant == sorted(meant) and meant[-1], f'the steps mean the new: {meant}')
+
+    def fault(self, plan, n, number, how):
+        """Begins with step N, of which a write goes wrong. Where nothing was torn, the plan is gone on with."""
+        chip = Chip(self.folder / 'a chip', self.script, plan)
+        chip.fill(plan.after[n - 1])
+        chip.set('fault', f'{number} {how}')
+        options = (*(('-s', n) if n > 1 else ()), '-d', 'dump')
+        ran = chip.run(*options)
+        word, p, *page = plan.steps[n - 1]
+        what = (ERASES if word == 'erase' else PROGRAMS)[how]
+        named = rf'carry_out: step {n} of {plan.count} \({plan.line(n)}\) failed: .*{re.escape(what)}.*\. Steps done: {n - 1}; nothing'
+        expect(ran.status == 1, f'not status 1 but {ran}')
+        # of a shell that was killed another shell says so
+        lines = ran.err.count('\n') - (how == 'killed'), ran.out.count('\n')
+        expect(re.search(named, ran.err) and lines == (1, 1), f'not {what!r} but {ran}')
+        expect(ran.log == plan.writes(n)[:number], f'it writes {ran.log} and not {plan.writes(n)[:number]}')
+        data, old = bytearray(chip.data()), plan.after[n - 1]
+        for bad in plan.bad:
+            data[bad * plan.geometry.peb : (bad + 1) * plan.geometry.peb] = b'\xFF' * plan.geometry.peb
+        at = p * plan.geometry.peb + (page[0] * plan.geometry.page if page else 0)
+        end = at + (plan.geometry.page if page else plan.geometry.peb)
+        expect(data[:at] == old[:at] and data[end:] == old[end:], 'another place of the chip has changed')
+        self.look(plan, bytes(data), f'{how} at step {n}')
+        chip.set('fault', '0 -')
+        chip.set('log')
+        if how in HARMLESS:
+            ran = chip.run(*(options if n > 1 or data == plan.image else ()), '-e', n)
+            chip.expect(ran, 0, plan.after[n], plan.writes(n)[number - 1 if word == 'program' else 0 :])
+        elif how in ('torn', 'broken', 'flip') and n > 1:
+            chip.expect_refused(f'eraseblock {p} ', *options)
+
+    # Refusals.
+
+    def refusals(self):
+        """Each refusal: its name, and the test of it."""
+        def of(line, *options, change=None, of_plan='peb 8192 used mapped', start=(), **others):
+            def test():
+                chip = self.chip(of_plan)
+                if change:
+                    change(chip)
+                chip.expect_refused(line, words=chip.words(*options, **others), start=start)
+            return test
+
+        def plan_text(text):
+            return lambda chip: chip.put('plan', text if isinstance(text, bytes) else text.encode())
+
+        def with_pages(data):
+            return lambda chip: chip.put('pages', data(chip.files['pages']))
+
+        def said(name, value):
+            return lambda chip: chip.say(name, value)
+
+        def pipe(name):
+            def change(chip):
+                (chip.folder / name).unlink()
+                os.mkfifo(chip.folder / name)
+            return change
+
+        def mount(source):
+            return lambda chip: (chip.root / 'proc/mounts').write_text(f'proc /proc proc rw 0 0\n{source} /mnt jffs2 ro 0 0\n')
+
+        def attach(number):
+            def change(chip):
+                (chip.root / 'sys/class/ubi/ubi3').mkdir()
+                (chip.root / 'sys/class/ubi/ubi3/mtd_num').write_text(f'{number}\n')
+            return change
+
+        def byte(p, at=1000):
+            """Another byte in an eraseblock of the chip."""
+            def change(chip):
+                data, at_all = bytearray(chip.data()), p * chip.plan.geometry.peb + at
+                data[at_all] ^= 1
+                chip.device.write_bytes(data)
+            return change
+
+        def done(k, *more):
+            """A chip that has the image after K steps."""
+            def change(chip):
+                chip.fill(chip.plan.after[k])
+                for one in more:
+                    one(chip)
+            return change
+
+        name = 'peb 8192 used mapped'
+        plan = self.plans[name]
+        taken, given_up = plan.steps[0][1], plan.steps[-1][1]
+        text, lines, pages = plan.text, plan.text.splitlines(), len(plan.pages)
+        other = next(p for p in range(10) if p not in (taken, given_up, *plan.bad))
+
+        yield 'no plan', of('is no ordinary file', change=lambda chip: (chip.folder / 'plan').unlink())
+        yield 'a plan that is a pipe', of('is no ordinary file', change=pipe('plan'))
+        yield 'a plan that is a folder', of('is no ordinary file', plan=self.folder)
+        yield 'no pages', of('is no ordinary file', change=lambda chip: (chip.folder / 'pages').unlink())
+        yield 'pages that are a pipe', of('is no ordinary file', change=pipe('pages'))
+        yield 'an empty plan', of('is empty', change=plan_text(''))
+        yield 'line ends of DOS', of('line ends of DOS', change=plan_text(text.replace('\n', '\r\n')))
+        yield 'a zero byte', of('bytes that no plan has', change=plan_text(text.replace('=', '=\0', 1)))
+        yield 'lines behind the last step', of(f'has {plan.count + 1} steps, not {plan.count}', change=plan_text(text + 'erase block=0\n'))
+        yield 'too few lines', of(f'has {plan.count - 1} steps, not {plan.count}', change=plan_text('\n'.join(lines[:-1]) + '\n'))
+        yield 'a line behind the last step', of('no step: ', change=plan_text(text + '\n'))
+        yield 'the last line cut short', of('was cut short', change=plan_text(text[:-1]))
+        yield 'no steps', of('the plan has no steps', change=plan_text('steps 0\n'))
+        yield 'no first line', of('line 1 of the plan: not `steps N`', change=plan_text('\n'.join(lines[1:]) + '\n'))
+        yield 'a number of steps with a zero', of('line 1 of the plan: not `steps N`', change=plan_text('steps 0' + text[6:]))
+        for word in ('00', '01', '', 'x', '1x', '0x1', '1 ', '1e0', '1 page=1'):
+            yield f'erase block={word}', of('line 2 of the plan: no step', change=plan_text(text.replace(lines[1], f'erase block={word}')))
+        for word in ('-1', '+1', '1;', 'A'):
+            yield f'erase block={word}', of('bytes that no plan has', change=plan_text(text.replace(lines[1], f'erase block={word}')))
+        for word in ('10', '2147483649', '4294967296', '4294967297', '18446744073709551617', '9' * 400):
+            yield f'eraseblock {word[:30]}', of('the device has 10 eraseblocks',
+                change=plan_text(text.replace(lines[1], f'erase block={word}')))
+        for word in ('4', '4294967296', '9' * 400):
+            yield f'page {word[:30]}', of('an eraseblock has 4 pages',
+                change=plan_text(text.replace(lines[2], f'{lines[2].rpartition("=")[0]}={word}')))
+        yield 'a page more', of(f'not {pages} pages of 2048', change=with_pages(lambda data: data + data[:2048]))
+        yield 'a byte more', of(f'not {pages} pages of 2048', change=with_pages(lambda data: data + b'x'))
+        yield 'a page less', of(f'not {pages} pages of 2048', change=with_pages(lambda data: data[:-2048]))
+        yield 'no bytes of pages', of(f'not {pages} pages of 2048', change=with_pages(lambda data: b''))
+        yield 'a page less than -e wants', of(f'not {pages} pages of 2048', '-e', 4, change=with_pages(lambda data: data[: 2 * 2048]))
+        for word in ('', 'x', '-1', '01', ' 1', '99999999999'):
+            yield f'-s {word!r}', of("-s isn't a number", '-s', word)
+            yield f'-e {word!r}', of("-e isn't a number", '-e', word)
+            yield f'PEB {word!r}', of("PEB isn't a number", peb=word)
+            yield f'PAGE {word!r}', of("PAGE isn't a number", page=word)
+        yield '-s 0', of('-s 0: steps are counted from 1', '-s', 0)
+        yield '-e 0', of('-e 0: steps are counted from 1', '-e', 0)
+        yield '-s too large', of(f'the plan has {plan.count} steps', '-s', plan.count + 2)
+        yield '-e too large', of(f'the plan has {plan.count} steps', '-e', plan.count + 1)
+        yield '-s behind -e', of('-s 4 is behind -e 2', '-s', 4, '-e', 2)
+        yield 'PAGE 0', of('a page has no bytes', page=0)
+        yield 'PEB 0', of('an eraseblock has no bytes', peb=0)
+        yield 'pages that are no part of an eraseblock', of("isn't whole pages", peb=8193)
+        yield 'eraseblocks of another size', of('has 8192 bytes, not 4096', peb=4096)
+        yield 'pages of another size', of('has 2048 bytes, not 1024', page=1024)
+        yield 'no device', of('nowhere', device='/nowhere/mtd0')
+        yield 'a device of another name', of("isn't named as /dev/mtd0", device='/dev/null')
+        yield 'a device for reading alone', of("isn't named as /dev/mtd0", change=lambda chip: (chip.chip / 'mtd0ro').write_bytes(b''),
+            device=self.folder / 'a chip/the chip/mtd0ro')
+        yield 'a file', of('is no character device', start={'environment': {'CARRY_OUT_ROOT': ''}})
+        yield 'a device that the kernel does not know', of("mtd1/type can't be read",
+            change=lambda chip: (chip.chip / 'mtd1').write_bytes(b''), device=self.folder / 'a chip/the chip/mtd1')
+        for word in ('nor', 'mlc-nand', 'ubi', ''):
+            yield f'flash of type {word!r}', of(f'is of type {word}, not nand', change=said('type', word))
+        yield 'a device that is read only', of('is read only', change=said('flags', '0x0'))
+        yield 'a device with other flags', of('is read only', change=said('flags', '0x800'))
+        yield 'flags that are none', of("/flags says 'x'", change=said('flags', 'x'))
+        yield 'eraseblocks of several sizes', of('eraseblocks of several sizes', change=said('numeraseregions', 2))
+        yield 'no sub-pages told', of('subpagesize', change=lambda chip: (chip.mtd / 'subpagesize').unlink())
+        yield 'sub-pages of no bytes', of('has no bytes', change=said('subpagesize', 0))
+        yield 'sub-pages that are no part of a page', of("isn't whole sub-pages", change=said('subpagesize', 600))
+        yield 'a size that is none', of("/size says ''", change=said('size', ''))
+        yield 'attached', of('UBI has', change=attach(0))
+        for source in ('/dev/mtdblock0', 'mtd0', 'mtd:a\\040chip'):
+            yield f'mounted as {source}', of('is mounted', change=mount(source))
+        yield 'no list of mounts', of("mounts can't be read", change=lambda chip: (chip.root / 'proc/mounts').unlink())
+        for word, line in (('fail', 'mtdinfo -M'), ('blind', 'could not read bad block info'), ('short', "doesn't show 10 eraseblocks"),
+                ('other', "isn't mtd0, says mtdinfo")):
+            yield f'mtdinfo: {word}', of(line, change=lambda chip, word=word: chip.set('mtdinfo', word))
+        for p in (taken, given_up):
+            yield f'eraseblock {p} is bad', of(f'the plan names eraseblock {p}, which is BAD', change=lambda chip, p=p: chip.set('bad', p))
+            yield f'eraseblock {p} is locked', of(f'the plan names eraseblock {p}, which is RO',
+                change=lambda chip, p=p: chip.set('locked', p))
+        yield 'no dump', of('is no ordinary file', '-d', 'nowhere')
+        yield '-d without a name', of('-d has no file', '-d', '')
+        yield 'a dump that is a pipe', of('is no ordinary file', '-d', 'dump', change=pipe('dump'))
+        yield 'a dump without bad eraseblocks', of('take the dump with --bb=padbad', '-d', 'dump',
+            change=lambda chip: chip.put('dump', plan.image[: -2 * 8192]))
+        yield 'a dump with what bad eraseblocks hold', of(f'eraseblock {plan.bad[0]} is bad', '-d', 'dump',
+            change=lambda chip: chip.put('dump', plan.with_bad(plan.image)))
+        for p in range(10):
+            if p not in plan.bad:
+                yield f'another byte in eraseblock {p}', of(f"eraseblock {p} of", '-d', 'dump', change=byte(p))
+        yield 'bits of the dump that ECC cannot correct', of('uncorrectable', '-d', 'dump',
+            change=lambda chip: chip.set('unread', other * 4 + 1))
+        for k in (1, 2, 3):
+            yield f'begun up to step {k}, with the dump', of('take a new dump', '-d', 'dump', change=done(k))
+        for k in range(2, plan.count + 1):
+            yield f'begun up to step {k}, without it', of('has been begun already', change=done(k))
+        yield 'begun, and the first page not blank', of('has been begun already', change=done(1), of_plan='peb 512 clean mapped')
+        unused = self.plans['peb 512 clean mapped']
+        yield 'a page that is not blank', of('that it can\'t keep', of_plan='peb 512 clean mapped', change=byte(unused.steps[1][1], 128))
+        yield 'a sub-page that is not blank', of('that it can\'t keep', of_plan='peb 8192 clean mapped',
+            change=byte(self.plans['peb 8192 clean mapped'].steps[0][1], 600))
+        yield 'a page that cannot be read', of('can\'t be read: ECC: 1 uncorrectable', of_plan='peb 512 clean mapped',
+            change=lambda chip: chip.set('unread', unused.steps[1][1] * 8 + unused.steps[1][2]))
+        for k in range(1, plan.count):
+            if plan.writes(k + 1):
+                yield f'-s {k + 2} after step {k}', of("isn't as the steps before step", '-s', k + 2, *(('-d', 'dump') if k % 2 else ()),
+                    change=done(k))
+        yield 'a plan that is not finished', of("isn't as the steps before step", '-s', plan.count + 1, change=done(plan.count - 1))
+        yield 'gone on with, and another byte elsewhere', of(f'eraseblock {other} of', '-s', 3, '-d', 'dump', change=done(2, byte(other)))
+        yield 'gone on with, and another byte where a later step is', of(f'eraseblock {given_up} of', '-s', 3, '-d', 'dump',
+            change=done(2, byte(given_up)))
+        yield 'gone on with, and another byte where a step was', of(f'eraseblock {taken} of', '-s', 3, change=done(2, byte(taken, 0)))
+        yield 'gone on with, and another byte where steps have blanked', of(f'eraseblock {taken} of', '-s', 4, '-d', 'dump',
+            change=done(3, byte(taken, 8191)))
+        yield 'gone on with at an erase of what is not the dump\'s', of(f'eraseblock {given_up} of', '-s', plan.count - 1, '-d', 'dump',
+            change=done(plan.count - 2, byte(given_up)))
+        yield 'page 0 programmed twice without sub-pages', of('which needs sub-pages', change=said('subpagesize', 2048))
+        yield 'no folder for scratch files', of('no folder for scratch files', start={'environment': {'TMPDIR': '/nowhere'}})
+        yield 'a nanddump that is too old', of('no --bb=dumpbad', change=lambda chip: stub(chip, 'nanddump'))
+        yield 'a flash_erase that is too old', of('has no -N', change=lambda chip: stub(chip, 'flash_erase'))
+
+    # Others.
+
+    def try_wrong_words(self):
+        chip = self.chip()
+        for words in ((), ('-h',), ('--help',), ('-x', *chip.words()), chip.words()[:-1], (*chip.words(), 'more'), ('-d',), ('-s',)):
+            ran = chip.end(chip.start(list(words)))
+            expect(ran.status == 2 and '\nExit status: 0 done' in ran.err and ran.err.rstrip().endswith("busybox's.") and not ran.out,
+                f'of {words} comes {ran}')
+            expect(chip.data() == chip.held and not ran.log, f'{words} write something')
+
+    def try_links_and_blanks(self):
+        """A device by a link, and names that begin with a hyphen, have blanks or look like something else."""
+        for shell in SHELLS_THERE[:1]:
+            chip = self.chip()
+            (chip.folder / 'a link').symlink_to(chip.device)
+            for name in ('dump', 'plan', 'pages'):
+                (chip.folder / name).rename(chip.folder / f'-e a=b *{name}')
+            words = chip.words('-d', '-e a=b *dump', device='a link', plan='-e a=b *plan', pages='-e a=b *pages')
+            # behind -- they are no options
+            ran = chip.end(chip.start([*words[:2], '--', *words[2:]], shell))
+            chip.expect(ran, 0, chip.plan.after[-1], [line for _, line in chip.plan.all_writes()])
+
+    def try_each_shell(self):
+        for shell in SHELLS_THERE:
+            chip = self.chip('spare change')
+            ran = chip.end(chip.start(chip.words('-d', 'dump'), shell))
+            chip.expect(ran, 0, chip.plan.after[-1], [line for _, line in chip.plan.all_writes()])
+
+    def try_corrected_bits(self):
+        """Bits that ECC corrects are no fault."""
+        chip = self.chip()
+        chip.set('flipped', *range(len(chip.plan.image) // chip.plan.geometry.page))
+        ran = chip.run('-d', 'dump')
+        chip.expect(ran, 0, chip.plan.after[-1], [line for _, line in chip.plan.all_writes()])
+
+    def try_bits_of_bad_ones(self):
+        """What a bad eraseblock holds isn't read."""
+        chip = self.chip()
+        chip.set('unread', *(p * 4 for p in chip.plan.bad))
+        ran = chip.run('-d', 'dump')
+        chip.expect(ran, 0, chip.plan.after[-1], [line for _, line in chip.plan.all_writes()])
+
+    def try_a_step_that_may_be_done(self):
+        """Going on with a step that has been done."""
+        chip = self.chip('peb 8192 used unmapped')
+        plan = chip.plan
+        for n in (2, 3, 5, plan.count - 1, plan.count):
+            chip.fill(plan.after[n])
+            ran = chip.run('-s', n, '-e', n, '-d', 'dump')
+            chip.expect(ran, 0, plan.after[n], plan.writes(n) if plan.steps[n - 1][0] == 'erase' else [])
+
+    def try_the_half_of_a_page(self):
+        """Going on with a step of page 0, of which one sub-page has been programmed."""
+        (geometry, sub), rng = SIZES[1], random.Random(1)
+        image = image_of(geometry, LAYOUTS['clean'])
+        made = rules.Plan(rules.Image(geometry, image))
+        made.program(10, 0, rng.randbytes(sub) + b'\xFF' * sub + rng.randbytes(sub))
+        plan = Plan('two parts', geometry, sub, image, made, ())
+        chip = Chip(self.folder / 'a chip', self.script, plan)
+        for shell in SHELLS_THERE:
+            chip.fill(plan.image)
+            chip.set('fault', '2 fail')
+            ran = chip.end(chip.start(chip.words(), shell))
+            expect(ran.status == 1 and ran.log == plan.writes(1), f'{ran}')
+            chip.set('fault', '0 -')
+            chip.set('log')
+            chip.expect(chip.end(chip.start(chip.words(), shell)), 0, plan.after[1], plan.writes(1)[1:])
+
+    def try_an_erase_that_was_cut(self):
+        """Going on with an erase whose eraseblock can't be read."""
+        chip = self.chip('peb 8192 used mapped')
+        plan, n = chip.plan, chip.plan.count - 1
+        for options in (('-d', 'dump'), ()):
+            chip.fill(plan.after[n])
+            chip.set('unread', plan.steps[n - 1][1] * 4 + 2)
+            ran = chip.run('-s', n, '-e', n, *options)
+            chip.expect(ran, 0, plan.after[n], plan.writes(n))
+        chip.set('unread', plan.steps[0][1] * 4 + 2)
+        chip.set('log')
+        chip.expect_refused("can't be read: ECC: 1 uncorrectable", '-s', n)
+
+    def try_a_finished_plan(self):
+        chip = self.chip()
+        chip.fill(chip.plan.after[-1])
+        ran = chip.run('-s', chip.plan.count + 1, '-d', 'dump')
+        chip.expect(ran, 0, chip.plan.after[-1], [])
+        expect(ran.out.endswith(f'done: {chip.plan.count} steps\n'), f'it prints {ran.out!r}')
+
+    def try_attached_in_between(self):
+        chip = self.chip()
+        chip.set('fault', '1 attach')
+        ran = chip.run('-d', 'dump')
+        chip.expect(ran, 1, chip.plan.after[1], chip.plan.writes(1), f'step 2 of {chip.plan.count} ({chip.plan.line(2)}) failed: UBI has')
+
+    def try_interrupts(self):
+        """A signal ends the plan behind the step that is at work, whoever gets it; and nothing is left."""
+        ways = ((signal.SIGINT, os.killpg), (signal.SIGTERM, os.kill), (signal.SIGHUP, os.killpg), (signal.SIGTERM, os.killpg))
+        for shell, (sign, kill) in zip((*SHELLS_THERE, 'dash'), ways):
+            chip = self.chip()
+            chip.set('fault', '2 slow')
+            child = chip.start(chip.words('-d', 'dump'), shell)
+            wait_for(chip.chip / 'reached')
+            kill(child.pid, sign)
+            ran = chip.end(child)
+            n = chip.plan.all_writes()[1][0]
+            chip.expect(ran, 1, chip.plan.after[n], [line for _, line in chip.plan.all_writes(1, n)], f'interrupted before step {n + 1} of')
+
+    def try_interrupts_of_checks(self):
+        for shell, kill in zip(SHELLS_THERE, (os.kill, os.killpg, os.killpg)):
+            chip = self.chip()
+            chip.set('mtdinfo', 'slow')
+            child = chip.start(chip.words(), shell)
+            wait_for(chip.chip / 'reached')
+            kill(child.pid, signal.SIGTERM)
+            ran = chip.end(child)
+            expect(ran.status == 2 and ran.err.endswith('carry_out: interrupted; nothing was written\n'), f'{shell}: {ran}')
+            expect(chip.data() == chip.held and not ran.log, 'something was written')
+
+    def try_outputs(self):
+        """An output that is closed, full or broken ends no plan, and is no step that fails."""
+        for shell in SHELLS_THERE:
+            for kind in ('full', 'closed', 'broken', 'no error', 'nothing'):
+                if shell == 'bash' and kind != 'full':
+                    continue
+                chip = self.chip()
+                words = chip.words('-d', 'dump', '-e', 2)
+                if kind == 'full':
+                    with open('/dev/full', 'wb') as full:
+                        ran = chip.end(chip.start(words, shell, stdout=full))
+                elif kind == 'broken':
+                    reader, writer = os.pipe()
+                    os.close(reader)
+                    child = chip.start(words, shell, stdout=writer)
+                    os.close(writer)
+                    ran = chip.end(child)
+                else:
+                    closed = {'closed': (1,), 'no error': (2,), 'nothing': (0, 1, 2)}[kind]
+                    child = chip.start(words, shell, preexec_fn=lambda closed=closed: [os.close(fd) for fd in closed])
+                    ran = chip.end(child)
+                expect(ran.status == 0 and ran.log == [line for _, line in chip.plan.all_writes(1, 2)], f'{kind} in {shell}: {ran}')
+                expect(chip.data() == chip.plan.with_bad(chip.plan.after[2]), f'{kind} in {shell}: the chip holds something else')
+                if kind in ('full', 'broken'):
+                    expect(f'carry_out: ended after step 2 of {chip.plan.count}\n' in ran.err, f'{kind} in {shell}: {ran}')
+
+    def try_outputs_of_a_fault(self):
+        """And a step that fails fails, though no line can be told."""
+        for shell in SHELLS_THERE:
+            chip = self.chip()
+            chip.set('fault', '3 fail')
+            with open('/dev/full', 'wb') as full:
+                ran = chip.end(chip.start(chip.words(), shell, stdout=full, stderr=full))
+            expect(ran.status == 1 and len(ran.log) == 3, f'{shell}: {ran}')
+
+    def try_far_offsets(self):
+        """Offsets beyond 4 GiB."""
+        peb, page, blocks, p = 2**22, 2**15, 1100, 1050
+        for shell in SHELLS_THERE:
+            chip = self.chip()
+            for name, value in (('size', peb * blocks), ('erasesize', peb), ('writesize', page), ('subpagesize', page)):
+                chip.say(name, value)
+            chip.set('bad', 3)
+            (chip.chip / 'blank').write_bytes(b'\xFF' * peb)
+            chip.device.write_bytes(b'')
+            os.truncate(chip.device, peb * blocks)
+            data = [random.Random(k).randbytes(page) for k in range(2)]
+            chip.put('plan', f'steps 3\nerase block={p}\nprogram block={p} page=1\nprogram block={p} page=127\n'.encode())
+            chip.put('pages', b''.join(data))
+            ran = chip.end(chip.start(chip.words(peb=peb, page=page), shell))
+            writes = [f'erase {p}', *(f'program {p * peb + k * page} {page}' for k in (1, 127))]
+            expect(ran.status == 0 and ran.log == writes, f'{ran}')
+            with open(chip.device, 'rb') as file:
+                file.seek(p * peb)
+                expect(file.read(peb) == b'\xFF' * page + data[0] + b'\xFF' * 125 * page + data[1], 'the eraseblock is another')
+                file.seek(p * peb % 2**32)
+                expect(file.read(peb) == bytes(peb), 'another eraseblock was written')
+            ran = chip.end(chip.start(chip.words('-s', 4, peb=peb, page=page), shell))
+            expect(ran.status == 0, f'{ran}')
+
+    def try_the_tools(self):
+        """The fakes are as the tools are: which is why the script checks, reads back, and takes dd."""
+        chip = self.chip()
+        bad, page = chip.plan.bad[0], chip.plan.geometry.page
+        environment = {**os.environ, 'PATH': f'{FAKES}:{os.environ["PATH"]}', 'FAKE_CHIP': str(chip.chip), 'FAKE_DD': REAL_DD,
+            'FAKE_PYTHON': sys.executable, 'CARRY_OUT_ROOT': str(chip.root)}
+
+        def run(*words):
+            done = subprocess.run([str(FAKES / words[0]), *map(str, words[1:])], env=environment, capture_output=True)
+            return done.returncode, done.stdout, done.stderr.decode()
+
+        peb, device = chip.plan.geometry.peb, chip.device
+        expect(run('flash_erase', '-q', device, bad * peb, 1) == (0, b'', '') and chip.data() == chip.held, 'flash_erase erases a bad one')
+        status, _, err = run('flash_erase', '-q', '-N', device, bad * peb, 1)
+        expect(status == 0 and 'MTD Erase failure' in err and chip.data() == chip.held, 'flash_erase -N tells nothing')
+        sizes = {'dumpbad': len(chip.held), 'padbad': len(chip.held), 'skipbad': len(chip.held) - len(chip.plan.bad) * peb}
+        wanted = {'dumpbad': chip.held, 'padbad': chip.plan.image}
+        for method, size in sizes.items():
+            status, out, err = run('nanddump', '-q', f'--bb={method}', device)
+            expect((status, len(out), err) == (0, size, '') and out == wanted.get(method, out), f'nanddump --bb={method} gives others')
+        chip.set('unread', 5)
+        status, out, err = run('nanddump', '-q', '--bb=dumpbad', '-s', 5 * page, '-l', page, device)
+        told = f'ECC: 1 uncorrectable bitflip(s) at offset 0x{5 * page:08x}\n'
+        expect((status, len(out), err) == (0, page, told), 'nanddump tells no bits')
+        chip.fill(chip.plan.after[1])
+        chip.put('new', b'x' * page)
+        at = chip.plan.steps[0][1] * peb // page
+        words = ('dd', f'if={chip.folder / "new"}', f'of={device}', f'bs={page}', f'seek={at + 1}', 'count=1', 'conv=notrunc')
+        chip.set('fault', '1 fail')
+        before = chip.data()
+        expect(run(*words)[0] == 1 and chip.data() == before, 'dd fails with another status')
+        expect(run(*words)[0] == 0 and chip.data()[(at + 1) * page : (at + 2) * page] == b'x' * page, 'dd writes nothing')
+        chip.put('new', b'y' * page)
+        expect(run(*words)[0] == 0 and chip.data()[(at + 1) * page : (at + 2) * page] == b'x' * page, 'a program sets bits')
+        status, out, err = run('nanddump', '-q', '--bb=dumpbad', '-s', (at + 1) * page, '-l', page, device)
+        expect('uncorrectable' in err, 'a second program can be read')
+
+
+def wait_for(path):
+    for _ in range(1000):
+        if path.exists():
+            return
+        time.sleep(0.01)
+    raise Failure(f'{path} never comes')
+
+
+def stub(chip, name):
+    """Puts a tool that knows nothing before the fake one."""
+    (chip.folder / 'stubs').mkdir()
+    (chip.folder / 'stubs' / name).write_text('#!/bin/sh\necho "usage"\n')
+    (chip.folder / 'stubs' / name).chmod(0o755)
+
+
+def main():
+    words = argparse.ArgumentParser(description=__doc__, formatter_class=argparse.RawDescriptionHelpFormatter)
+    words.add_argument('--tool', help='the program, whose plans are compared, and which says what a chip means')
+    words.add_argument('--script', default=str(ROOT / 'carry_out.sh'), help='the script; ./carry_out.sh where it is left out')
+    words.add_argument('--only', default='', help='run the cases whose names have this word')
+    words = words.parse_args()
+    for name in SHELLS:
+        if name not in SHELLS_THERE:
+            print(f'not tried: there is no {name}')
+    passed = failed = 0
+    with tempfile.TemporaryDirectory() as folder:
+        for name, test in Cases(Path(folder).resolve(), str(Path(words.script).resolve()), words.tool).all():
+            if words.only not in name:
+                continue
+            try:
+                test()
+                passed += 1
+            except Failure as failure:
+                failed += 1
+                print(f'failed: {name}: {failure}', flush=True)
+            except Exception as error:  # such as a file that isn't there
+                failed += 1
+                print(f'failed: {name}: {error!r}', flush=True)
+    print(f'{passed} passed, {failed} failed')
+    return 1 if failed or not passed else 0
+
+
+if __name__ == '__main__':
+    sys.exit(main())

@@ -1,0 +1,48 @@
+# What the fake tools of carry_out.py share: a file plays the chip /dev/mtd0. To be read by them, not to be run.
+#
+# The folder FAKE_CHIP has
+#   mtd0     the bytes of the chip; DEVICE of the script
+#   bad      the numbers of the eraseblocks that are bad
+#   locked   of those that are locked
+#   unread   the numbers of the pages, counted over the whole chip, whose bits ECC can't correct
+#   flipped  of those of which it corrects some
+#   fault    a line `N HOW`: what goes wrong with the write number N, an erase or a program, counted from 1
+#   mtdinfo  a word: what goes wrong with mtdinfo
+#   log      a line for each write, `erase P` or `program OFFSET LENGTH`
+#   blank    an eraseblock of 0xFF
+# The sizes are those of $CARRY_OUT_ROOT/sys/class/mtd/mtd0. FAKE_DD is the real dd.
+# shellcheck shell=sh disable=SC2034
+chip=$FAKE_CHIP
+device=$chip/mtd0
+class=$CARRY_OUT_ROOT/sys/class/mtd/mtd0
+read -r size < "$class/size"
+read -r peb < "$class/erasesize"
+read -r page < "$class/writesize"
+read -r sub < "$class/subpagesize"
+
+# Whether a list of the chip has a number.
+listed() { # LIST NUMBER
+  while read -r one; do
+    [ "$one" != "$2" ] || return 0
+  done < "$chip/$1"
+  return 1
+}
+
+# Adds a write to the log, and sets `how` to what goes wrong with it.
+count_write() { # LINE
+  how=
+  writes=1
+  while read -r _; do writes=$((writes + 1)); done < "$chip/log"
+  echo "$1" >> "$chip/log"
+  read -r when what < "$chip/fault"
+  [ "$when" != "$writes" ] || how=$what
+  if [ "$how" = slow ]; then
+    : > "$chip/reached"
+    sleep 0.3
+  fi
+}
+
+# Copies bytes of a file, or of the standard input, to a place of the chip.
+store() { # OFFSET LENGTH
+  "$FAKE_DD" of="$device" bs="$sub" seek=$(($1 / sub)) count=$(($2 / sub)) conv=notrunc iflag=fullblock 2> /dev/null
+}

@@ -1,0 +1,408 @@
+#!/usr/bin/env python3
+"""Writes outputs and pages to files of all kinds, and looks at what becomes of the files that were read.
+
+usage: files.py [--dir FOLDER] [--tool PROGRAM]
+
+A file isn't written that was read, but IMAGE by --out; nor are the pages written where the output is. Each is tried by the file's
+name, by other paths to it, and by links of both kinds. Other outputs are there already, or are links, folders, devices and
+pipes, or can't be written; and some names have blanks, lines' ends or a hyphen in front.
+Of each case the printed lines and the status are compared, and every file of the folder: what is written has its new bytes, and each
+other file those that it had. Where the pages can't be written the output may have been written or not, and where the
+output can't be, so may the pages.
+
+The cases are always the same. Their files lie in new folders below FOLDER (/tmp where it is left out), which are removed again. Without
+--tool the program is built first where it isn't yet. The last line is 'N passed, M failed', and the exit status is 0 where none failed.
+"""
+import argparse
+import dataclasses
+import os
+import subprocess
+import tempfile
+
+import rules
+from fuzz import built, finish
+from hostile import GEOMETRY, MORE, NEW
+from text_rules import Described
+
+SPEC, CONTENT = b"volume 0 dynamic 3 1 00 data\nleb 0 1 abcdef\n", b"content"
+CONFIG = b"[a]\nmode=ubi\nvol_id=0\nvol_name=a\nimage=content\n"
+# With one free eraseblock more two may be taken where blank ones are kept.
+IMAGE = MORE + rules.put_block(GEOMETRY, rules.put_ec(GEOMETRY))
+# The files of a folder. Each has links too: NAME.soft, NAME.twice to that one, and NAME.hard.
+FILES = {"image": IMAGE, "from": NEW, "spec": SPEC, "config": CONFIG, "content": CONTENT, "old": b"old" * 5000}
+# Other names of a file: with blanks, a line's end and a hyphen.
+ODD = ("-%s", "--%s", "%s ", " %s", "%s\n", "a\n%s", "%s\t", "\\%s", "%s*", "caf\xe9 %s")
+WORDS = {
+    "compose": ["compose", "spec"],
+    "build": ["build", "config"],
+    "normalise": ["normalise", "image"],
+    "extract": ["extract", "image", "--id", "0"],
+    "change": ["change", "image", "--id", "0", "--lnum", "1", "--from", "from"],
+    "rename": ["rename", "image", "--id", "0", "--name", "data"],
+}
+OTHERS = ([], ["--stop", "0"], ["--stop", "2"], ["--blank", "keep"], ["--bad="], ["--bad", "4"])
+# What can't be written. Of some of it nothing can be told, not even that it isn't there; of LONG because of its length.
+LONG = "n" * 256
+UNTOLD = ("old/", "old/new", "loop", LONG)
+UNWRITABLE = ("folder", "folder/", "folder/.", "no/such", "new/", *UNTOLD, "", ".", "/dev/full", "no/such\nfile", "no/such ")
+
+
+@dataclasses.dataclass(frozen=True)
+class Case:
+    """The words of a command, its output, its pages, and its line; None where the work is done."""
+
+    words: list
+    out: str
+    pages: str = None
+    line: str = None
+    stdin: str = os.devnull
+
+    @property
+    def command(self):
+        return self.words[0]
+
+    @property
+    def outs(self):
+        """The words for the output and the pages by option, as far as there are any."""
+        return {"--out": self.out} | ({} if self.pages is None else {"--pages": self.pages})
+
+    @property
+    def early(self):
+        """The option whose file may have been written though the work isn't done, since the other one can't be; or None."""
+        if self.pages is None or self.line is None or not self.line.startswith("cannot write "):
+            return None
+        return "--out" if self.line == f"cannot write {self.pages}\n" else "--pages"
+
+
+def cannot_write(words, out, pages=None, **others):
+    """A case in which the pages can't be written or, where none are asked for, the output."""
+    return Case(words, out, pages, f"cannot write {out if pages is None else pages}\n", **others)
+
+
+def paths(name):
+    """Paths to a file of the folder; FOLDER stands for where that is."""
+    links = f"{name}.soft", f"{name}.twice", f"{name}.hard", f"./{name}.hard", f"FOLDER/{name}.soft"
+    return (name, f"./{name}", f".//./{name}", f"folder/../{name}", f"FOLDER/{name}", *links)
+
+
+def cases():
+    for family in (files_read, outputs_twice, refused, unread, unwritable, existing, streams, odd_names):
+        yield from family()
+
+
+def files_read():
+    """The output, or the pages, are a file that was read."""
+    for command, name in (("compose", "spec"), ("build", "config"), ("change", "from")):
+        for path in paths(name):
+            yield cannot_write(WORDS[command], path)
+    for path in paths("spec"):
+        yield cannot_write([*WORDS["compose"], "--spares", "2", "--seq", "1"], path)
+        yield cannot_write(["compose", path], "spec")
+        yield cannot_write(["compose", "/dev/stdin"], path, stdin="spec")
+    for path in paths("config"):
+        yield cannot_write(["build", "config", "--spares", "2"], path)
+        yield cannot_write(["build", path], "config")
+    for path in paths("from"):
+        for more in OTHERS:
+            yield cannot_write([*WORDS["change"], *more], path)
+        yield cannot_write([*WORDS["change"][:-1], path], "from")
+        yield cannot_write([*WORDS["change"][:-1], "/dev/stdin"], path, stdin="from")
+        yield Case(WORDS["change"], path, "new", f"cannot write {path}\n")
+        yield cannot_write(WORDS["change"], "new", path)
+        yield cannot_write(WORDS["change"], "image", path)
+        yield cannot_write([*WORDS["change"][:-1], "/dev/stdin"], "new", path, stdin="from")
+    for path in paths("image"):
+        for command in ("normalise", "extract", "change", "rename"):
+            yield Case(WORDS[command], path)
+            yield Case([command, path, *WORDS[command][2:]], "image")
+        for command, more in ((command, more) for command in ("change", "rename") for more in OTHERS):
+            yield Case([*WORDS[command], *more], path, "new")
+            yield cannot_write([*WORDS[command], *more], "new", path)
+        for command in ("change", "rename"):
+            yield cannot_write([command, path, *WORDS[command][2:]], "old", "image")
+            yield cannot_write([command, "/dev/stdin", *WORDS[command][2:]], "old", path, stdin="image")
+            yield cannot_write(WORDS[command], "image", path)
+            yield cannot_write(WORDS[command], path, "image")
+        yield cannot_write([*WORDS["change"], "--blank", "keep"], path, "from")
+
+
+def outputs_twice():
+    """The pages are the file of the output."""
+    for command, out, path in ((command, out, path) for command in ("change", "rename") for out in ("old", "new") for path in paths(out)):
+        if out == "old" or not path.endswith(("soft", "twice", "hard")):
+            yield cannot_write(WORDS[command], out, path)
+            yield cannot_write(WORDS[command], path, out)
+    for command in ("change", "rename"):
+        for out, pages in (("nowhere", "new"), ("new", "nowhere"), ("nowhere", "nowhere"), ("old.hard", "old.soft"), ("pipe", "pipe")):
+            yield cannot_write(WORDS[command], out, pages)
+        for path in ("/dev/null", "/dev/stdout", "old", "new ", "-"):
+            for more in OTHERS:
+                yield cannot_write([*WORDS[command], *more], path, path)
+
+
+def refused():
+    """The work is refused, so nothing is written, whatever the output and the pages are."""
+    of = {"change": ("refused K2 NoVolume\n", ["change", "image", "--id", "5", "--lnum", "1", "--from", "from"]),
+        "rename": ("refused K2 NoVolume\n", ["rename", "image", "--id", "5", "--name", "data"]),
+        "compose": ("refused P1 Word line=1\n", ["compose", "from"]), "build": ("refused I2 Form line=1\n", ["build", "spec"])}
+    for out in ("image", "from", "spec", "old", "new", "folder", "old.soft", "nowhere", "/dev/full", "no/such", "/dev/stdout"):
+        for command, (line, words) in of.items():
+            yield Case(words, out, None, line)
+        for pages in ("image", "from.hard", "new", out, "folder", "/dev/full"):
+            for command in ("change", "rename"):
+                yield Case(of[command][1], out, pages, of[command][0])
+    for pages in ("image", "from", "new"):
+        yield Case(["rename", "image", "--id", "0", "--name", "\\"], "old", pages, "refused N1 BadName\n")
+        yield Case([*WORDS["change"], "--bad", "0-99"], "from", pages, "refused K2 NoVolume\n")
+        yield Case([*WORDS["change"], "--bad", "0-1"], "from", pages, "refused T1 NoTable\n")
+        yield Case([*WORDS["rename"], "--blank", "keep", "--bad", "5"], "old", pages, "refused K9 NoFree\n")
+        yield Case([*WORDS["rename"], "--bad=1"], "image", pages, "refused N3 NeedsRepair\n")
+
+
+def unread():
+    """A file can't be read, so nothing is written."""
+    for path in ("missing", "folder", "nowhere", "loop", "no/such", "missing\nfile", "", LONG):
+        for out in ("old", "new", "from", "spec", "folder", "/dev/full"):
+            for command in WORDS:
+                yield Case([command, path, *WORDS[command][2:]], out, None, f"cannot read {path}\n")
+            yield Case([*WORDS["change"][:-1], path], out, "image", f"cannot read {path}\n")
+
+
+def unwritable():
+    """The output or the pages can't be written. `build` doesn't read an image file that may be the output."""
+    for path in UNWRITABLE:
+        for command in WORDS:
+            is_unread = command == "build" and path in UNTOLD
+            yield Case(WORDS[command], path, None, "cannot read content\n") if is_unread else cannot_write(WORDS[command], path)
+        for command in ("change", "rename"):
+            yield cannot_write(WORDS[command], "new", path)
+            yield cannot_write(WORDS[command], "image", path)
+            yield Case(WORDS[command], path, "new", f"cannot write {path}\n")
+    if os.geteuid() != 0:
+        for command in WORDS:
+            yield cannot_write(WORDS[command], "sealed")
+        yield cannot_write(WORDS["change"], "new", "sealed")
+
+
+def existing():
+    """The output or the pages are there already, as a file that is longer or a link, or aren't there."""
+    for path in ("new", "old", "old.soft", "old.twice", "old.hard", "nowhere", "folder/new", "folder/../new", "FOLDER/new", "/dev/null"):
+        for command in WORDS:
+            yield Case(WORDS[command], path)
+        for command, more in ((command, more) for command in ("change", "rename") for more in OTHERS):
+            yield Case([*WORDS[command], *more], "other", path)
+            yield Case([*WORDS[command], *more], path, "other")
+
+
+def streams():
+    """The output or the pages are a pipe, which somebody reads, or standard output."""
+    for path in ("pipe", "/dev/stdout"):
+        for command in WORDS:
+            yield Case(WORDS[command], path)
+        for command, more in ((command, more) for command in ("change", "rename") for more in OTHERS):
+            yield Case([*WORDS[command], *more], "new", path)
+            yield Case([*WORDS[command], *more], path, "new")
+            yield Case([*WORDS[command], *more], "image", path)
+    for command in ("change", "rename"):
+        yield Case(WORDS[command], "pipe", "/dev/stdout")
+        yield Case(WORDS[command], "/dev/stdout", "pipe")
+        yield Case([command, "/dev/stdin", *WORDS[command][2:]], "image", "new", stdin="image")
+
+
+def odd_names():
+    """Names with blanks, lines' ends and a hyphen in front, of what is written and of what is read."""
+    for odd in ODD:
+        new, image, of_from, spec = odd % "new", odd % "image", odd % "from", odd % "spec"
+        for command in WORDS:
+            yield Case(WORDS[command], new)
+        for command in ("change", "rename"):
+            yield Case([command, image, *WORDS[command][2:]], new, odd % "pages")
+            yield Case([command, image, *WORDS[command][2:]], image, new)
+            yield cannot_write([command, image, *WORDS[command][2:]], new, image)
+            yield cannot_write(WORDS[command], new, new)
+            yield cannot_write(WORDS[command], new, image)
+        yield cannot_write(["compose", spec], spec)
+        yield cannot_write([*WORDS["change"][:-1], of_from], of_from)
+        yield cannot_write([*WORDS["change"][:-1], of_from], new, of_from)
+
+
+def spelled(case, folder):
+    """The words of a case. A value that begins with a hyphen stands in one word with its option, and such a path in the end."""
+    command, path, *rest = case.words
+    words = [command]
+    for word in (*rest, *(word for pair in case.outs.items() for word in pair)):
+        if word.startswith("-") and words[-1].startswith("--") and "=" not in words[-1]:
+            words[-1] += f"={word}"
+        else:
+            words.append(word)
+    words += [*GEOMETRY.words(), *(["--", path] if path.startswith("-") else [path])]
+    return [word.replace("FOLDER", folder) for word in words]
+
+
+def fill(folder):
+    """Puts the files, the links to them, and what else there may be."""
+    for name, data in FILES.items():
+        path = os.path.join(folder, name)
+        with open(path, "wb") as file:
+            file.write(data)
+        os.symlink(name, f"{path}.soft")
+        os.symlink(f"{name}.soft", f"{path}.twice")
+        os.link(path, f"{path}.hard")
+    for odd in ODD:
+        for name in ("image", "from", "spec"):
+            os.link(os.path.join(folder, name), os.path.join(folder, odd % name))
+    os.mkdir(os.path.join(folder, "folder"))
+    os.symlink("new", os.path.join(folder, "nowhere"))
+    os.symlink("loop", os.path.join(folder, "loop"))
+    os.mkfifo(os.path.join(folder, "pipe"))
+    with open(os.path.join(folder, "sealed"), "wb"):
+        os.chmod(file_of(folder, "sealed"), 0o400)
+
+
+def file_of(folder, word):
+    """The file that a word names, whether it is there or not."""
+    return os.path.realpath(os.path.join(folder, word.replace("FOLDER", folder)))
+
+
+def key_of(path):
+    """What is one for all names of a file: its numbers, or its path where it isn't there."""
+    return (os.stat(path).st_dev, os.stat(path).st_ino) if os.path.exists(path) else path
+
+
+def held(folder):
+    """What each file of a folder and of its folders holds, by path; symbolic links aside."""
+    found = {}
+    for place, _, names in os.walk(folder):
+        for path in (os.path.join(place, name) for name in names):
+            if os.path.isfile(path) and not os.path.islink(path):
+                with open(path, "rb") as file:
+                    found[path] = file.read()
+    return found
+
+
+def value_of(words, option):
+    """The value of an option; None where it isn't there."""
+    joined = next((word.partition("=")[2] for word in words if word.startswith(f"{option}=")), None)
+    return words[words.index(option) + 1] if option in words else joined
+
+
+def answer(case):
+    """What is printed where the work is done, and what is written by option."""
+    if case.command == "extract":
+        text = rules.Image(GEOMETRY, IMAGE).read_volume(0)
+        return f"bytes {len(text)}\n", {"--out": text}
+    if case.command in ("change", "rename"):
+        return planned(case, rules.Image(GEOMETRY, IMAGE, rules.listed(value_of(case.words, "--bad") or "")))
+    if case.command == "normalise":
+        return of_image(rules.Image(GEOMETRY, IMAGE))
+    meant = Described(GEOMETRY, SPEC)
+    if case.command == "build":
+        meant = rules.Meaning(GEOMETRY, 0, {0: rules.Record(1, 1, 1, 0, b"a", 0)}, {0: {0: CONTENT.ljust(GEOMETRY.leb, b"\xFF")}})
+    return of_image(meant)
+
+
+def of_image(meant):
+    image = rules.composed(meant, 0)
+    return f"blocks {len(image) // GEOMETRY.peb}\n", {"--out": image}
+
+
+def planned(case, image):
+    """The same of a plan."""
+    image = image.keeping_blank() if value_of(case.words, "--blank") else image
+    steps = (rules.Change(image, 0, 1, NEW) if case.command == "change" else rules.Rename(image, 0, b"data")).steps
+    stop = value_of(case.words, "--stop")
+    done = steps if stop is None else steps[: int(stop)]
+    written = {"--out": rules.after(GEOMETRY, b"".join(image.found.blocks), done), "--pages": rules.pages_of(done)}
+    return "".join(rules.plan_lines(steps)), written
+
+
+class Looker:
+    """Runs the program in a folder, and looks at what becomes of its files."""
+
+    def __init__(self, tool, folder):
+        self.tool, self.folder = tool, folder
+        fill(folder)
+        self.before = held(folder)
+
+    def run(self, case):
+        """What is printed, with which status, and what a reader of the pipe gets."""
+        reader = os.open(os.path.join(self.folder, "pipe"), os.O_RDONLY | os.O_NONBLOCK)
+        with open(os.path.join(self.folder, case.stdin), "rb") as stdin:
+            words = [self.tool, *spelled(case, self.folder)]
+            ran = subprocess.run(words, stdin=stdin, capture_output=True, cwd=self.folder, timeout=10)
+        piped = os.read(reader, 65536)
+        os.close(reader)
+        return ran.stdout, ran.returncode, piped
+
+    def wrong(self, case):
+        """What is wrong with the answer of a case; None where nothing is."""
+        keys = {path: key_of(path) for path in self.before}
+        places = {option: key_of(file_of(self.folder, word)) for option, word in case.outs.items()}
+        try:
+            printed, status, piped = self.run(case)
+        except subprocess.TimeoutExpired:
+            return "it doesn't end"
+        is_done = case.line is None
+        lines, new = answer(case) if is_done or case.early else (None, {})
+        line = (lines if is_done else case.line.replace("FOLDER", self.folder)).encode()
+        if status != (0 if is_done else 1):
+            return f"its status is {status}, and it prints {printed[:200]!r}"
+        if printed not in [data + line for data in self.streamed(case, new, "/dev/stdout")]:
+            return f"it prints {printed[:200]!r} and not {line[:200]!r}, or other bytes before that"
+        if piped not in self.streamed(case, new, "pipe"):
+            return "the pipe gets something else"
+        return self.wrong_file(case, keys, places, new)
+
+    def streamed(self, case, new, path):
+        """What a stream may get: what is written there or, where that may be so or not, also nothing."""
+        if case.line is None:
+            return [b"".join(new[option] for option, word in case.outs.items() if word == path)]
+        return [b"", *([new[case.early]] if case.early and case.outs[case.early] == path else [])]
+
+    def wrong_file(self, case, keys, places, new):
+        """What is wrong with the files: each that is written has its new bytes, and each other one its old ones or isn't there."""
+        after = held(self.folder)
+        for path in {*self.before, *after, *(place for place in places.values() if self.is_new(place))}:
+            written = [option for option, place in places.items() if place == keys.get(path, path)]
+            right = [new[option] for option in written] if case.line is None else []
+            if case.early in written:
+                right.append(new[case.early])
+            if case.line is not None or not written:
+                right.append(self.before.get(path))
+            if after.get(path) not in right:
+                return f"{os.path.relpath(path, self.folder)!r} {'holds something else' if path in after else 'is not there'}"
+        return None
+
+    def is_new(self, place):
+        """Whether a place is the path of a file of the folder that wasn't there."""
+        return isinstance(place, str) and place.startswith(self.folder)
+
+    def is_spoiled(self):
+        return held(self.folder) != self.before
+
+
+def wrongs(tool, within):
+    """Each case, and what is wrong with it. A folder is taken again where its files are as they were."""
+    left = list(cases())
+    while left:
+        with tempfile.TemporaryDirectory(dir=within) as folder:
+            looker = Looker(tool, os.path.realpath(folder))
+            while left and not looker.is_spoiled():
+                yield left[0], looker.wrong(left.pop(0))
+
+
+def main():
+    words = argparse.ArgumentParser(description=__doc__, formatter_class=argparse.RawDescriptionHelpFormatter)
+    words.add_argument("--dir", default="/tmp")
+    words.add_argument("--tool", help="the program; the one that ./ubi_tool starts where it is left out")
+    words = words.parse_args()
+    tool, passed, failed = os.path.abspath(built(words.tool)), 0, 0
+    for case, wrong in wrongs(tool, words.dir):
+        if wrong:
+            print(f"{case}: {wrong}", flush=True)
+        passed, failed = passed + (not wrong), failed + bool(wrong)
+    finish(passed, failed)
+
+
+if __name__ == "__main__":
+    main()

@@ -1,0 +1,538 @@
+#!/bin/sh
+# carry_out.sh [-c] [-d DUMP] [-s N] [-e N] DEVICE PLAN PAGES PEB PAGE
+#
+# Carries out a plan of `ubi_tool change` or `ubi_tool rename` on a NAND chip, one step after the other. Each is read back.
+#   DEVICE   the MTD character device, as /dev/mtd0; UBI must not have it attached
+#   PLAN     a file with the lines that `change` or `rename` printed
+#   PAGES    the file that it wrote with --pages: the bytes of the pages that the plan programs, in the plan's order
+#   PEB      the bytes of an eraseblock, and
+#   PAGE     those of a page: --peb and --page of the plan
+#   -d DUMP  the dump that the plan was made from (nanddump --bb=padbad). The chip has to hold it still. Give it always
+#   -s N     begin with step N: an earlier run did those before it
+#   -e N     end after step N. PAGES may then be just the pages up to there
+#   -c       check, and write nothing
+#
+# Exit status: 0 done; 1 a step failed, or was interrupted: a line says which. Those before it are done, and nothing behind it
+# was tried; 2 nothing was written.
+# Needs mtdinfo, nanddump and flash_erase of mtd-utils. All else may be busybox's.
+
+# Pages are programmed with dd. nandwrite goes on in the next eraseblock where one is bad, or a program fails.
+# For tests: where CARRY_OUT_ROOT names a folder, its sys and proc are read in place of /sys and /proc, and DEVICE may be a file.
+root=${CARRY_OUT_ROOT-}
+
+# Prints a line; to standard error where standard output can't be written, so that a full log doesn't end a plan.
+say() {
+  printf '%s\n' "$*" 2> /dev/null || warn "$*"
+  return 0
+}
+
+# Prints a line to standard error.
+warn() {
+  printf 'carry_out: %s\n' "$*" >&2 2> /dev/null
+  return 0
+}
+
+# Ends with status 2.
+refuse() {
+  warn "$*; nothing was written"
+  exit 2
+}
+
+# Prints the comment at the head of this file, and ends with status 2.
+usage() {
+  sed -n '2,/^$/s/^# \{0,1\}//p' "$0" >&2
+  exit 2
+}
+
+# Refuses a WORD that isn't a decimal number below 10^10.
+number() { # WHAT WORD
+  case $2 in
+  '' | *[!0-9]* | 0?* | ???????????*) refuse "$1 isn't a number: '$2'" ;;
+  esac
+}
+
+# Refuses what isn't an ordinary file that can be read.
+file() { # PATH
+  [ -f "$1" ] || refuse "$1 is no ordinary file"
+  [ -r "$1" ] || refuse "$1 can't be read"
+}
+
+# Prints the bytes of a file.
+size_of() { # FILE
+  wc -c < "$1"
+}
+
+# Takes the options, and sets `options` to how many words they are.
+read_options() {
+  check_only='' dump='' first=1 last=''
+  while getopts cd:s:e: option; do
+    case $option in
+    c) check_only=yes ;;
+    d) dump=$OPTARG; [ -n "$dump" ] || refuse "-d has no file" ;;
+    s) first=$OPTARG; number -s "$first" ;;
+    e) last=$OPTARG; number -e "$last" ;;
+    *) usage ;;
+    esac
+  done
+  options=$((OPTIND - 1))
+}
+
+# Looks at the numbers of PEB and PAGE.
+look_at_sizes() {
+  [ "$((65536 * 65536))" = 4294967296 ] || refuse "this shell counts in 32 bits"
+  number PEB "$peb"
+  number PAGE "$page"
+  [ "$page" -gt 0 ] || refuse "a page has no bytes"
+  [ "$peb" -gt 0 ] || refuse "an eraseblock has no bytes"
+  [ $((peb % page)) -eq 0 ] || refuse "an eraseblock of $peb bytes isn't whole pages of $page"
+}
+
+# Looks for the tools that are needed.
+look_for_tools() {
+  for tool in mtdinfo nanddump flash_erase dd cmp tr wc awk sed grep sort head tail cut cp cat rm sha256sum mktemp readlink; do
+    command -v "$tool" > /dev/null || refuse "there is no $tool"
+  done
+  nanddump --help 2>&1 | grep -q dumpbad || refuse "this nanddump has no --bb=dumpbad: take that of mtd-utils"
+  flash_erase --help 2>&1 | grep -q noskipbad || refuse "this flash_erase has no -N: take that of mtd-utils"
+}
+
+# Makes the files that are blank: an eraseblock, a page and a sub-page of bytes 0xFF.
+make_blanks() {
+  for bytes in "$peb" "$page" "$sub"; do
+    dd if=/dev/zero bs="$bytes" count=1 2> /dev/null | tr '\000' '\377' > "$tmp/blank.$bytes"
+    [ "$(size_of "$tmp/blank.$bytes")" = "$bytes" ] || refuse "$tmp can't be written"
+  done
+}
+
+# Sets `told` to what the kernel says of the device.
+tell() { # NAME
+  { IFS= read -r told < "$class/$1"; } 2> /dev/null || refuse "$class/$1 can't be read"
+}
+
+# Looks at the device: it is of NAND flash that can be written, with these sizes.
+look_at_device() {
+  real=$(readlink -f -- "$device") || refuse "$device isn't there"
+  name=${real##*/}
+  [ -e "$real" ] || refuse "$device isn't there"
+  [ -c "$real" ] || [ -n "$root" ] || refuse "$device is no character device"
+  case ${name#mtd} in
+  "$name" | '' | *[!0-9]*) refuse "$device isn't named as /dev/mtd0" ;;
+  esac
+  class=$root/sys/class/mtd/$name
+  tell type
+  [ "$told" = nand ] || refuse "$device is of type $told, not nand"
+  tell flags
+  case ${told#0x} in
+  '' | *[!0-9a-fA-F]*) refuse "$class/flags says '$told'" ;;
+  esac
+  [ $((0x${told#0x} & 0x400)) -ne 0 ] || refuse "$device is read only"
+  tell erasesize
+  [ "$told" = "$peb" ] || refuse "an eraseblock of $device has $told bytes, not $peb"
+  tell writesize
+  [ "$told" = "$page" ] || refuse "a page of $device has $told bytes, not $page"
+  tell numeraseregions
+  [ "$told" = 0 ] || refuse "$device has eraseblocks of several sizes"
+  tell subpagesize
+  sub=$told
+  number "$class/subpagesize" "$sub"
+  [ "$sub" -gt 0 ] || refuse "a sub-page of $device has no bytes"
+  [ $((page % sub)) -eq 0 ] || refuse "a page of $device isn't whole sub-pages of $sub"
+  tell size
+  size=$told
+  case $size in
+  '' | *[!0-9]* | 0*) refuse "$class/size says '$size'" ;;
+  esac
+  blocks=$((size / peb))
+}
+
+# Whether UBI has the device attached; sets `ubi` to the folder that says so.
+attached() {
+  for ubi in "$root"/sys/class/ubi/ubi*; do
+    [ -r "$ubi/mtd_num" ] || continue
+    read -r of < "$ubi/mtd_num"
+    [ "mtd$of" != "$name" ] || return 0
+  done
+  return 1
+}
+
+# Refuses a device that something uses.
+look_at_users() {
+  ! attached || refuse "UBI has $device attached ($ubi): ubidetach -p $device"
+  [ -r "$root/proc/mounts" ] || refuse "$root/proc/mounts can't be read"
+  tell name
+  label=$(printf '%s\n' "$told" | sed 's/ /\\040/g')
+  while read -r source _; do
+    case $source in
+    "/dev/mtdblock${name#mtd}" | "$name" | "mtd:$label") refuse "$device is mounted" ;;
+    esac
+  done < "$root/proc/mounts"
+}
+
+# Makes $tmp/steps of the plan. A line is a step: its number, its word, the eraseblock, the page, which of PAGES that is, counted
+# from 0, and what the page holds before, as far as the steps from the first on say it: `chip`, what it holds now; `blank`, since
+# one of them erases it; or which of PAGES one of them has programmed.
+read_plan() {
+  file "$plan"
+  cat < "$plan" > "$tmp/plan" || refuse "$plan can't be read"
+  [ "$(tr -d 'a-z0-9= \n' < "$tmp/plan" | wc -c)" -eq 0 ] || refuse "$plan has bytes that no plan has, as line ends of DOS"
+  [ -s "$tmp/plan" ] || refuse "$plan is empty"
+  [ -z "$(tail -c 1 "$tmp/plan")" ] || refuse "the last line of $plan has no end: it was cut short"
+  awk -v blocks="$blocks" -v pages=$((peb / page)) -v first="$first" '
+    function fault(text) { print "line " NR " of the plan: " text; bad = 1; exit 1 }
+    NR == 1 {
+      if ($0 !~ /^steps (0|[1-9][0-9]*)$/) fault("not `steps N`")
+      steps = $2
+      next
+    }
+    $0 !~ /^(erase block=(0|[1-9][0-9]*)|program block=(0|[1-9][0-9]*) page=(0|[1-9][0-9]*))$/ { fault("no step: " $0) }
+    {
+      n = NR - 1; p = $2; k = $3
+      sub(/^block=/, "", p)
+      sub(/^page=/, "", k)
+      if (p + 0 >= blocks) fault("the device has " blocks " eraseblocks")
+      if (k + 0 >= pages) fault("an eraseblock has " pages " pages")
+    }
+    $1 == "erase" {
+      if (n >= first) erased[p]++
+      print n, "erase", p, "-", "-", "-"
+    }
+    $1 == "program" {
+      place = p " " erased[p] " " k
+      before = (place in holds) ? holds[place] : erased[p] ? "blank" : "chip"
+      if (n >= first) holds[place] = at + 0
+      print n, "program", p, k, at + 0, before
+      at++
+    }
+    END {
+      if (bad) exit 1
+      if (n + 0 != steps) { print "the plan has " n + 0 " steps, not " steps; exit 1 }
+    }
+  ' "$tmp/plan" > "$tmp/steps" || refuse "$(tail -n 1 "$tmp/steps")"
+  steps=$(wc -l < "$tmp/steps")
+  steps=$((steps))
+  [ "$steps" -gt 0 ] || refuse "the plan has no steps"
+  [ "steps $steps" = "$(head -n 1 "$tmp/plan")" ] || refuse "$tmp can't be written"
+  last=${last:-$steps}
+  [ "$first" -ge 1 ] || refuse "-s $first: steps are counted from 1"
+  [ "$first" -le $((steps + 1)) ] || refuse "-s $first: the plan has $steps steps"
+  [ "$last" -ge 1 ] || refuse "-e $last: steps are counted from 1"
+  [ "$last" -le "$steps" ] || refuse "-e $last: the plan has $steps steps"
+  [ "$first" -le $((last + 1)) ] || refuse "-s $first is behind -e $last"
+}
+
+# Takes the bytes of the pages, into $tmp/pages, and sets `have` to how many they are.
+read_pages() {
+  file "$pages"
+  all=$(grep -c ' program ' "$tmp/steps")
+  some=$(head -n "$last" "$tmp/steps" | grep -c ' program ')
+  length=$(size_of "$pages")
+  have=$((length / page))
+  case $length in
+  $((all * page)) | $((some * page))) ;;
+  *) refuse "$pages has $length bytes, not $all pages of $page" ;;
+  esac
+  cat < "$pages" > "$tmp/pages" || refuse "$pages can't be copied to $tmp"
+  [ "$(size_of "$tmp/pages")" = "$length" ] || refuse "$pages can't be copied to $tmp"
+}
+
+# Prints the numbers of the eraseblocks that the steps from 1 to N touch.
+touched_by() { # N
+  head -n "$1" "$tmp/steps" | cut -d ' ' -f 3 | sort -nu
+}
+
+# Makes $tmp/marks, the eraseblocks that are bad or locked: lines of a number and BAD or RO. Refuses a plan that names one.
+look_at_marks() {
+  # Its status is 0 though it can't tell which eraseblocks are bad.
+  mtdinfo -M "$real" > "$tmp/map" 2> "$tmp/said" || refuse "mtdinfo -M $device failed: $(head -n 1 "$tmp/said")"
+  [ ! -s "$tmp/said" ] || refuse "mtdinfo -M $device: $(head -n 1 "$tmp/said")"
+  [ "$(head -n 1 "$tmp/map")" = "$name" ] || refuse "$device isn't $name, says mtdinfo"
+  awk '
+    /^Eraseblock map:/ { on = 1; next }
+    on { for (i = 1; i <= NF; i++) if ($i ~ /^[0-9]+:$/) { p = $i + 0; seen++ } else if ($i == "BAD" || $i == "RO") print p, $i }
+    END { print "seen", seen + 0 }
+  ' "$tmp/map" > "$tmp/marks"
+  [ "$(tail -n 1 "$tmp/marks")" = "seen $blocks" ] || refuse "mtdinfo -M $device doesn't show $blocks eraseblocks"
+  touched_by "$steps" > "$tmp/touched"
+  while read -r p <&3; do
+    mark=$(sed -n "s/^$p //p" "$tmp/marks" | tail -n 1)
+    [ -z "$mark" ] || refuse "the plan names eraseblock $p, which is $mark"
+  done 3< "$tmp/touched"
+}
+
+# Reads bytes of the chip into a file. Fails where they aren't read whole, and for all that is said but bits that ECC corrected.
+get() { # FILE OFFSET LENGTH
+  : > "$1"
+  : > "$tmp/fault"
+  nanddump -q --bb=dumpbad -s "$2" -l "$3" -f "$1" "$real" > "$tmp/said" 2>&1 || return 1
+  [ ! -s "$tmp/said" ] || ! grep -v ' corrected bitflip' "$tmp/said" > "$tmp/fault" || return 1
+}
+
+# Prints why something can't be read.
+reason() {
+  if [ -s "$tmp/fault" ]; then head -n 1 "$tmp/fault"; else head -n 1 "$tmp/said"; fi
+}
+
+# Reads an eraseblock, or a page, of the chip.
+get_block() { get "$1" $(($2 * peb)) "$peb"; } # FILE P
+get_page() { get "$1" $(($2 * peb + $3 * page)) "$page"; } # FILE P K
+
+# Takes one piece out of a file: a sub-page of a page, a page of PAGES, or an eraseblock of the dump.
+piece() { # FILE FROM BYTES WHICH
+  dd if="$2" of="$1" bs="$3" skip="$4" count=1 2> /dev/null
+}
+
+# Whether two files hold the same bytes, and whether one of so many bytes is blank. A file that isn't there never does.
+same() { cmp -s "$1" "$2"; } # FILE FILE
+blank() { cmp -s "$1" "$tmp/blank.$2"; } # FILE BYTES
+
+# Whether a page can become another one by programs, that is, whether it is blank. With sub-pages, page 0 is programmed by those
+# alone that change, as UBI does it, and they have to be blank; `parts` is set to their numbers then.
+fits() { # OLD NEW K
+  parts=''
+  if [ "$3" -gt 0 ] || [ "$sub" -eq "$page" ]; then
+    blank "$1" "$page"
+    return
+  fi
+  part=0
+  while [ "$part" -lt $((page / sub)) ]; do
+    piece "$tmp/old.sub" "$1" "$sub" "$part" || return 1
+    piece "$tmp/new.sub" "$2" "$sub" "$part" || return 1
+    if ! same "$tmp/old.sub" "$tmp/new.sub"; then
+      blank "$tmp/old.sub" "$sub" || return 1
+      parts="$parts $part"
+    fi
+    part=$((part + 1))
+  done
+}
+
+# Whether some eraseblocks of the chip are those of the dump.
+holds() { # P COUNT
+  { nanddump -q --bb=dumpbad -s $(($1 * peb)) -l $(($2 * peb)) "$real" 2> "$tmp/said" || echo "nanddump failed" >> "$tmp/said"; } |
+    sha256sum > "$tmp/held"
+  dd if="$dump" bs="$peb" skip="$1" count="$2" 2> /dev/null | sha256sum > "$tmp/dumped"
+  ! grep -v ' corrected bitflip' "$tmp/said" > "$tmp/fault" ||
+    refuse "eraseblocks $1 to $(($1 + $2 - 1)) of $device can't be read: $(reason)"
+  [ -s "$tmp/held" ] && same "$tmp/held" "$tmp/dumped"
+}
+
+# Compares the chip with the dump, but for eraseblocks that are bad, and those that steps up to the first have touched.
+look_at_dump() {
+  file "$dump"
+  length=$(size_of "$dump")
+  [ "$length" = "$size" ] || refuse "$dump has $length bytes and $device $size: take the dump with --bb=padbad"
+  sed -n 's/ BAD$//p' "$tmp/marks" > "$tmp/bad"
+  while read -r p <&3; do
+    piece "$tmp/here" "$dump" "$peb" "$p" || refuse "$dump can't be read"
+    blank "$tmp/here" "$peb" || refuse "eraseblock $p is bad, and $dump has bytes there: take the dump with --bb=padbad"
+  done 3< "$tmp/bad"
+  if [ "$first" -gt 1 ]; then touched_by "$first" > "$tmp/touched"; else : > "$tmp/touched"; fi
+  # the runs of eraseblocks between those
+  sort -nu "$tmp/bad" "$tmp/touched" |
+    awk -v blocks="$blocks" '{ if ($1 > p) print p + 0, $1 - p; p = $1 + 1 } END { if (blocks > p) print p + 0, blocks - p }' > "$tmp/runs"
+  while read -r p count <&3; do
+    if ! holds "$p" "$count"; then
+      while [ "$count" -gt 1 ] && holds "$p" 1; do
+        p=$((p + 1)) count=$((count - 1))
+      done
+      refuse "eraseblock $p of $device isn't that of $dump: take a new dump and plan again"
+    fi
+  done 3< "$tmp/runs"
+}
+
+# Makes $tmp/want, an eraseblock as it is once the steps before the first are done. Without a dump, what they don't set is taken
+# from the chip.
+want() ( # P
+  if [ -n "$dump" ]; then piece "$tmp/want" "$dump" "$peb" "$1"; else cp "$tmp/here" "$tmp/want"; fi || refuse "$tmp can't be written"
+  while read -r n word p k at _ <&4; do
+    [ "$n" -lt "$first" ] || break
+    [ "$p" -eq "$1" ] || continue
+    if [ "$word" = erase ]; then
+      cp "$tmp/blank.$peb" "$tmp/want" || refuse "$tmp can't be written"
+    else
+      dd if="$tmp/pages" of="$tmp/want" bs="$page" skip="$at" seek="$k" count=1 conv=notrunc 2> /dev/null || refuse "$tmp can't be written"
+    fi
+  done 4< "$tmp/steps"
+)
+
+# Whether a page of $tmp/here is that of $tmp/want, but that some of its sub-pages, or all of them, are those of one of PAGES.
+# Gives it to $tmp/want then.
+begun() { # K AT
+  part=0
+  while [ "$part" -lt $((page / sub)) ]; do
+    piece "$tmp/here.sub" "$tmp/here" "$sub" $(($1 * (page / sub) + part)) || return 1
+    piece "$tmp/old.sub" "$tmp/want" "$sub" $(($1 * (page / sub) + part)) || return 1
+    piece "$tmp/new.sub" "$tmp/pages" "$sub" $(($2 * (page / sub) + part)) || return 1
+    same "$tmp/here.sub" "$tmp/old.sub" || same "$tmp/here.sub" "$tmp/new.sub" || return 1
+    part=$((part + 1))
+  done
+  dd if="$tmp/here" of="$tmp/want" bs="$page" skip="$1" seek="$1" count=1 conv=notrunc 2> /dev/null
+}
+
+# Looks at the eraseblocks that steps up to the first touch: those before it are done. It itself may be done, or begun, or not.
+look_at_done() {
+  read -r n word own k at _ << LINE
+$(sed -n "${first}p" "$tmp/steps")
+LINE
+  touched_by "$first" > "$tmp/touched"
+  while read -r p <&3; do
+    if ! get_block "$tmp/here" "$p"; then
+      # an erase that was cut may leave this behind
+      [ "$p $word" != "$own erase" ] || continue
+      refuse "eraseblock $p of $device can't be read: $(reason)"
+    fi
+    want "$p" || exit 2
+    same "$tmp/here" "$tmp/want" && continue
+    case "$p $word" in
+    "$own erase") blank "$tmp/here" "$peb" && continue ;;
+    "$own program") begun "$k" "$at" && same "$tmp/here" "$tmp/want" && continue ;;
+    esac
+    refuse "eraseblock $p of $device isn't as the steps before step $first leave it: begin with another step, or plan again on a new dump"
+  done 3< "$tmp/touched"
+}
+
+# Whether $tmp/new would be a second program of page 0, with the same header, where there are no sub-pages.
+twice() { # K
+  [ "$1" -eq 0 ] && [ "$sub" -eq "$page" ] || return 1
+  piece "$tmp/old.sub" "$tmp/here" 64 0
+  piece "$tmp/new.sub" "$tmp/new" 64 0
+  same "$tmp/old.sub" "$tmp/new.sub"
+}
+
+# Looks at the pages that are to be programmed, as each is by then.
+look_at_rest() {
+  while read -r n word p k at before <&3; do
+    [ "$n" -ge "$first" ] || continue
+    [ "$word" = program ] || continue
+    [ "$at" -lt "$have" ] || continue
+    piece "$tmp/new" "$tmp/pages" "$page" "$at" || refuse "$tmp can't be written"
+    case $before in
+    blank) continue ;;
+    chip) get_page "$tmp/here" "$p" "$k" || refuse "page $k of eraseblock $p of $device can't be read: $(reason)" ;;
+    *) piece "$tmp/here" "$tmp/pages" "$page" "$before" || refuse "$tmp can't be written" ;;
+    esac
+    same "$tmp/here" "$tmp/new" && continue
+    fits "$tmp/here" "$tmp/new" "$k" && continue
+    ! twice "$k" ||
+      refuse "step $n programs page 0 of eraseblock $p a second time, which needs sub-pages, and $device has none"
+    refuse "step $n finds bytes in page $k of eraseblock $p that it can't keep (sub-pages of $sub): plan again on a new dump"
+  done 3< "$tmp/steps"
+}
+
+# Refuses a plan that has been begun: the page that it programs first has bytes of the plan.
+look_at_begun() {
+  [ "$first" -eq 1 ] || return 0
+  place=''
+  while read -r n word p k at _ <&3; do
+    [ "$word" = program ] || continue
+    [ "$at" -lt "$have" ] || continue
+    if [ -z "$place" ]; then
+      place="$p $k"
+      get_page "$tmp/here" "$p" "$k" || return 0
+      ! blank "$tmp/here" "$page" || return 0
+    fi
+    [ "$place" = "$p $k" ] || continue
+    piece "$tmp/new" "$tmp/pages" "$page" "$at" || refuse "$tmp can't be written"
+    ! same "$tmp/here" "$tmp/new" || refuse "the plan has been begun already: step $n is done. Plan again on a new dump, or go on with -s"
+  done 3< "$tmp/steps"
+}
+
+# Ends with status 1: the step that is carried out has failed.
+fail() {
+  warn "step $n of $steps ($what) failed: $*. Steps done: $((n - 1)); nothing behind them was tried"
+  exit 1
+}
+
+# Erases an eraseblock.
+erase() { # P
+  # Its status is 0 though the erase fails, or the eraseblock is left out.
+  flash_erase -q -N "$real" $(($1 * peb)) 1 > "$tmp/did" 2>&1 || fail "flash_erase ended with status $?"
+  [ ! -s "$tmp/did" ] || fail "$(head -n 1 "$tmp/did")"
+  get_block "$tmp/here" "$1" || fail "it can't be read back: $(reason)"
+  blank "$tmp/here" "$peb" || fail "it isn't blank afterwards"
+  how=erased
+}
+
+# Writes a file to the chip, which is one page or sub-page.
+put() { # FILE BYTES WHICH
+  dd if="$1" of="$real" bs="$2" seek="$3" count=1 conv=notrunc 2> "$tmp/did" || fail "$(head -n 1 "$tmp/did")"
+}
+
+# Programs a page with one of PAGES. One that has its bytes isn't programmed: where those are all 0xFF, it would get ECC bytes.
+program() { # P K AT
+  piece "$tmp/new" "$tmp/pages" "$page" "$3" || fail "$tmp can't be written"
+  get_page "$tmp/here" "$1" "$2" || fail "the page can't be read: $(reason)"
+  if same "$tmp/here" "$tmp/new"; then
+    how='has its bytes'
+    return 0
+  fi
+  fits "$tmp/here" "$tmp/new" "$2" || fail "the page isn't blank"
+  [ -n "$parts" ] || put "$tmp/new" "$page" $(($1 * (peb / page) + $2))
+  for part in $parts; do
+    piece "$tmp/new.sub" "$tmp/new" "$sub" "$part" || fail "$tmp can't be written"
+    put "$tmp/new.sub" "$sub" $(($1 * (peb / sub) + part))
+  done
+  how="programmed${parts:+, sub-pages$parts}"
+  get_page "$tmp/here" "$1" "$2" || fail "it can't be read back: $(reason)"
+  same "$tmp/here" "$tmp/new" || fail "it reads other bytes afterwards"
+}
+
+# Carries one step out, in a shell of its own, which no signal interrupts.
+step() { # WORD P K AT
+  trap '' HUP INT QUIT TERM
+  ! attached || fail "UBI has $device attached by now"
+  if [ "$1" = erase ]; then erase "$2"; else program "$2" "$3" "$4"; fi
+  say "step $n: $what: $how"
+}
+
+# Carries the steps out.
+carry_out() {
+  interrupted=''
+  trap 'interrupted=yes' HUP INT QUIT TERM
+  while read -r n word p k at _ <&3; do
+    [ "$n" -ge "$first" ] || continue
+    [ "$n" -le "$last" ] || break
+    if [ -n "$interrupted" ]; then
+      warn "interrupted before step $n of $steps. Steps done: $((n - 1)); nothing behind them was tried"
+      exit 1
+    fi
+    what="$word block=$p"
+    [ "$word" = erase ] || what="$what page=$k"
+    (step "$word" "$p" "$k" "$at")
+    ended=$?
+    [ "$ended" -le 1 ] || fail "it was broken off with status $ended"
+    [ "$ended" -eq 0 ] || exit 1
+  done 3< "$tmp/steps"
+  if [ "$last" -lt "$steps" ]; then say "ended after step $last of $steps"; else say "done: $steps steps"; fi
+}
+
+# No file that is opened later takes the number of a closed input or output.
+(exec 3<&0) 2> /dev/null || exec < /dev/null
+(exec 3>&1) 2> /dev/null || exec > /dev/null
+(exec 3>&2) || exec 2> /dev/null
+trap '' PIPE
+LC_ALL=C
+export LC_ALL
+umask 077
+read_options "$@"
+shift "$options"
+[ $# -eq 5 ] || usage
+device=$1 plan=$2 pages=$3 peb=$4 page=$5
+look_at_sizes
+look_for_tools
+tmp=''
+trap '[ -z "$tmp" ] || rm -rf "$tmp"' EXIT
+trap 'refuse interrupted' HUP INT QUIT TERM
+tmp=$(mktemp -d 2> /dev/null) || refuse "no folder for scratch files can be made"
+look_at_device
+look_at_users
+make_blanks
+read_plan
+read_pages
+look_at_marks
+[ -z "$dump" ] || look_at_dump
+[ "$first" -eq 1 ] || look_at_done
+look_at_begun
+look_at_rest
+say "checked: $device, $blocks eraseblocks, $(grep -c ' BAD$' "$tmp/marks") bad; $steps steps, $all pages"
+[ -z "$check_only" ] || exit 0
+carry_out
