@@ -67,16 +67,6 @@ module _ (s : Sizes) (bs : List (List ℕ)) (t : Records) (av : Avoided) (states
   pub begin_blank : NotBlankIs av.marks states None → ReadBlank s bs av
   begin_blank none p l c = begin_below (length states) (let n = are.0 in omega arith) none p (let n = are.0 in omega arith) c
 
-  pub begins_otherwise : (p : ℕ) → NotBlankIs av.marks states (Some p) → IsNotBlank s bs av p
-  begins_otherwise p some =
-      let n = are.0 in
-      let l = place_of states p some.1.0 some.1.1 in (
-        some.0,
-        (let m = n in omega arith),
-        λ e. (let b = ap is_blank_one (blank_one s bs t p some.1.0 (state_is p some.1.0 some.1.1) e) in let f = some.1.2 in absurd (cc)),
-        begin_below p (let m = n in omega arith) some.2,
-      )
-
 -- so a survey tells it
 module _ (image : Image) (seen : Seen) (is : IsSurvey image seen) (av : Avoided) where
   pub survey_blank : NotBlankIs av.marks seen.states None → in_image ReadBlank image av
