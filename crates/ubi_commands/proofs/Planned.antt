@@ -45,19 +45,20 @@ module _ (out : List ℕ) (d m e : Files) (writes : Type 0) where
     -- no pages are asked for
     pub without_pages : (pages : Option (Bor (List ℕ))) → pages ≡ None → WritesInto out d e (answers bytes) writes o
         → WritesPlan out pages d e answers writes o
-    without_pages pages none h = planned bytes h (λ zero path is. absurd (let bad = sym none ∙ is in cc))
+    without_pages pages none h =
+        planned bytes h (λ zero path is. absurd (let bad = sym none ∙ is in cc)) (λ fails path is. absurd (let bad = sym none ∙ is in cc))
 
     -- the work wasn't done, so that there are none
-    pub not_done : (pages : Option (Bor (List ℕ))) → o.status ≢ 0 → WritesInto out d e (answers bytes) writes o
+    pub not_done : (pages : Option (Bor (List ℕ))) → o.status ≢ 0 → OthersStay d e out → WritesInto out d e (answers bytes) writes o
         → WritesPlan out pages d e answers writes o
-    not_done pages bad h = planned bytes h (λ zero. absurd (bad zero))
+    not_done pages bad others h = planned bytes h (λ zero. absurd (bad zero)) (λ fails path is apart. others path.now apart)
 
     module _ (path : Bor (List ℕ)) (pages : Option (Bor (List ℕ))) (asked : pages ≡ Some path) (stays : Stays m e out)
         (h : WritesInto out d m (answers bytes) writes o) where
       -- the pages were written behind the image
-      pub with_pages : fresh m ≡ fresh d → Receives m e path.now (Some bytes) → WritesPlan out pages d e answers writes o
-      with_pages same received = planned bytes (into_since (answers bytes) o stays h)
-          (λ zero other is. receives other (sym is ∙ asked))
+      pub with_pages : fresh m ≡ fresh d → o.status ≡ 0 → Receives m e path.now (Some bytes) → WritesPlan out pages d e answers writes o
+      with_pages same zero received = planned bytes (into_since (answers bytes) o stays h)
+          (λ done other is. receives other (sym is ∙ asked)) (λ fails. absurd (fails zero))
         where
           receives : (other : Bor (List ℕ)) → Some other ≡ Some path → Receives d e other.now (Some bytes)
           receives other is =
@@ -75,7 +76,7 @@ module _ (out : List ℕ) (d m e : Files) (writes : Type 0) where
           → Gives lost (says (file_line (codes "cannot write ") path.now) 1)
           → ((r ≡ o) × Receives m e path.now (Some bytes)) ⊎ (r ≡ lost) → WritesPlan out pages d e answers writes r
       pages_end same zero r lost line (inl (is, received)) =
-          subst (λ (x : Outcome). WritesPlan out pages d e answers writes x) (sym is) (with_pages same received)
+          subst (λ (x : Outcome). WritesPlan out pages d e answers writes x) (sym is) (with_pages same zero received)
       pages_end same zero r lost line (inr is) =
           lost_pages r zero (subst (λ (x : Outcome). Gives x (says (file_line (codes "cannot write ") path.now) 1)) (sym is) line)
 

@@ -96,12 +96,13 @@ pub data WritesInto (out : List ℕ) (old new : Files) (answers : Option (List �
   unwritten : {o : Outcome} → writes → Gives o (says (file_line (codes "cannot write ") out) 1) → WritesInto out old new answers writes o
 
 -- what can be answered of a source by a command that plans, writes the file at a path, and may write the programmed pages to a
--- second: what is said of the first, and where all is done, the second received the pages; or the line of a second file that
--- can't be written, where all is done but that
+-- second: what is said of the first, and where all is done, the second received the pages, and else it stays as it was, unless it is
+-- the first; or the line of a second file that can't be written, where all is done but that
 pub data WritesPlan (out : List ℕ) (pages : Option (Bor (List ℕ))) (old new : Files)
     (answers : List ℕ → Option (List ℕ) → Option (List ℕ) → Outcome → Type 0) (writes : Type 0) : Outcome → Type 0 where
   planned : {o : Outcome} (bytes : List ℕ) → WritesInto out old new (answers bytes) writes o
-      → (o.status ≡ 0 → ForSome pages (λ path. Receives old new path.now (Some bytes))) → WritesPlan out pages old new answers writes o
+      → (o.status ≡ 0 → ForSome pages (λ path. Receives old new path.now (Some bytes)))
+      → (o.status ≢ 0 → ForSome pages (λ path. path.now ≢ out → Stays old new path.now)) → WritesPlan out pages old new answers writes o
   no_pages : {o : Outcome} (path : Bor (List ℕ)) (bytes : List ℕ) (done : Outcome) → pages ≡ Some path
       → WritesInto out old new (answers bytes) writes done → done.status ≡ 0
       → Gives o (says (file_line (codes "cannot write ") path.now) 1) → WritesPlan out pages old new answers writes o

@@ -154,13 +154,12 @@ pub fn change_file<D: Disk + Eprint>(
         Err(unread) => return unread.answer(),
     };
     let avoided = Avoided::new(frame.marks.as_slice(), asked.plan.keeps_blank);
-    let new = NewBytes {
-        id: asked.id,
-        lnum: asked.lnum,
-        bytes: file.bytes.as_slice(),
-    };
     let command = Changing {
-        new,
+        new: NewBytes {
+            id: asked.id,
+            lnum: asked.lnum,
+            bytes: file.bytes.as_slice(),
+        },
         avoided: &avoided,
         stop: asked.plan.stop,
     };

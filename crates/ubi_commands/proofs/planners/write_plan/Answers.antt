@@ -25,7 +25,8 @@ returns-then-outcome-ne-DONE-clause-answer g c d numbers is =
     let o = c.in_ok-outcome.outcome in
     OfFile-at d numbers plan.paths.image.now _ _ o
     (λ s k agrees a. not_done plan.paths.out.now old new new (g.C.Writing.writes c.args.command.now s k agrees)
-    (g.C.Writing.answers c.args.command.now s k agrees) c.write_opened-2.new.pages.items o plan.pages c.if-outcome-ne-DONE.true a)
+    (g.C.Writing.answers c.args.command.now s k agrees) c.write_opened-2.new.pages.items o plan.pages c.if-outcome-ne-DONE.true
+    c.in_ok-outcome.ensures.others a)
     (c.in_ok-outcome.ensures.answer d numbers is)
 
 pub returns-clause-answer : goal.returns-clause-answer
