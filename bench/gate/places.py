@@ -1,0 +1,83 @@
+#!/usr/bin/env python3
+"""Looks where failures are made and where files are opened: only at the places that are listed here.
+
+usage: places.py
+
+That memory ran out, or that a read or a write failed, is something that no clause can tell from the outside: a body that answers so
+above some size meets each contract. So this looks at the source. A failure may be made in three ways: by `impl From<AllocError>`, which
+`?` uses on an allocation; out of a failure of the same kind, in an arm of a `match`; and at one of the places in bench/gate/places.txt,
+each the call that reads or writes, or an arm that is told why there. A file of the system may be opened at the places in there too.
+
+A line of bench/gate/places.txt is a file below crates/, a colon, and the text of a line of it, as often as it stands there. Ends with
+'N passed, M failed', and with status 1 where a place isn't listed, or one that is listed isn't there.
+"""
+import re
+import sys
+from collections import Counter
+from pathlib import Path
+
+ROOT = Path(__file__).resolve().parents[2]
+CRATES = ('ubi_media', 'ubi_config', 'ubi_scan', 'ubi_table', 'ubi_volume', 'ubi_change', 'ubi_compose', 'ubi_commands', 'ubi_tool')
+LISTED = Path(__file__).resolve().with_name('places.txt')
+# What a failure of each kind is called.
+KINDS = {
+    'memory': re.compile(r'\b\w+::(Memory|OutOfMemory)\b|\bAllocError\b'),
+    'read': re.compile(r'\b\w+::(Read|Left|Right)\b'),
+    'write': re.compile(r'\b\w+::Write\b'),
+}
+# What opens, makes or removes a file.
+OPENS = re.compile(r'\bFile::\w+\(|\bfs::(open|write|copy|rename|create\w*|remove\w*)\(|\bOpenOptions\b|\.(open_file|create_dir)\(')
+# Lines that make nothing: of types, contracts and imports.
+MAKES_NOTHING = re.compile(r'^(pub(\(crate\))? )?(use|fn|struct|enum|impl|trait|type|ghost|requires|ensures)\b|^\) -> |^\w+: (&(mut )?)?Result<')
+
+
+def statements(path):
+    """The lines of a file without comments, each with whether it stands in `impl From<AllocError>`."""
+    from_memory = False
+    for line in path.read_text().splitlines():
+        text = line.split('//')[0].strip()
+        if line.startswith('impl From<AllocError>'):
+            from_memory = True
+        elif line == '}':
+            from_memory = False
+        if text and not MAKES_NOTHING.match(text):
+            yield text, from_memory
+
+
+def makes_failure(text, from_memory):
+    """Whether a line makes a failure in a way that has to be listed."""
+    pattern, arrow, made = text.partition(' => ')
+    if not arrow:
+        pattern, made = '', text
+    if 'unreachable!' in made or made.startswith('write!'):
+        return False
+    if from_memory and KINDS['memory'].search(made):
+        return False
+    return any(kind.search(made) and not kind.search(pattern) for kind in KINDS.values())
+
+
+def places():
+    """All places that have to be listed."""
+    found = Counter()
+    for crate in CRATES:
+        for path in sorted((ROOT / 'crates' / crate / 'src').rglob('*.rt')):
+            for text, from_memory in statements(path):
+                if OPENS.search(text) or makes_failure(text, from_memory):
+                    found[f'{path.relative_to(ROOT / "crates")}: {text}'] += 1
+    return found
+
+
+def main():
+    listed = Counter(line for line in LISTED.read_text().splitlines() if line and not line.startswith('#'))
+    found = places()
+    for place in found - listed:
+        print(f'not listed: {place}')
+    for place in listed - found:
+        print(f'listed, and not there: {place}')
+    failed = sum((found - listed).values()) + sum((listed - found).values())
+    print(f'{sum((found & listed).values())} passed, {failed} failed')
+    return 1 if failed else 0
+
+
+if __name__ == '__main__':
+    sys.exit(main())
