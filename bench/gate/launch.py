@@ -1,0 +1,139 @@
+#!/usr/bin/env python3
+"""What a shell gets of the program and of its launcher: the status, and what comes on each output.
+
+usage: launch.py [--tool PROGRAM]
+
+The program is run with words that are right, wrong, no text, or refused; with a terminal for standard error, which is told how far
+long work is, and with a pipe, which isn't; and through `./ubi_tool`, called by links, in folders and with words that have blanks.
+Ends with 'N passed, M failed', and with status 1 where some failed.
+"""
+import argparse
+import os
+import pty
+import shutil
+import subprocess
+import sys
+import tempfile
+from pathlib import Path
+
+ROOT = Path(__file__).resolve().parents[2]
+IMAGE = ROOT / 'crates/ubi_tool/data/root.img'
+SMALL = ['--peb', '512', '--page', '64']
+CHIP = ['--peb', '131072', '--page', '2048']
+# How many eraseblocks of 128 KiB are long work: 256 MiB.
+LONG = 2048
+
+# Words, the status, and the beginning of what comes on standard output and on standard error.
+CASES = [
+    ([], 2, b'', b'error: '),
+    (['nonsense'], 2, b'', b'error: '),
+    (['--help'], 2, b'', b'Reads raw NAND dumps'),
+    (['--version'], 2, b'', b'ubi_tool 0.1.0\n'),
+    (['list', b'\xff\xfe'], 2, b'', b"error: the words aren't text\n"),
+    (['list', 'a', '--peb', '500', '--page', '64'], 2, b'refused G2 PebSize\n', b''),
+    (['list', '/nonexistent', *SMALL], 1, b'cannot read /nonexistent\n', b''),
+    (['extract', IMAGE, '--id', '7', '--out', '/dev/null', *SMALL], 1, b'refused L1 NoVolume\n', b''),
+    (['list', IMAGE, *SMALL, '--bad', '3,,4'], 2, b'', b"error: '--bad <LIST>'"),
+    (['change', '/dev/zero', '--id', '0', '--lnum', '0', '--from', IMAGE, '--out', '/dev/null', *SMALL], 2, b'', b"error: '--bad <LIST>' is needed"),
+    (['same', IMAGE, IMAGE, *SMALL], 0, b'same\n', b''),
+    (['same', IMAGE, ROOT / 'crates/ubi_tool/data/spare.img', *SMALL], 0, b'same\n', b''),
+    (['check', IMAGE, *SMALL], 0, b'blocks 5\n', b''),
+]
+
+
+def run(program, words, **more):
+    """What a run ends with: the status and both outputs."""
+    done = subprocess.run([program, *words], stdin=subprocess.DEVNULL, stdout=subprocess.PIPE, stderr=subprocess.PIPE, check=False, **more)
+    return done.returncode, done.stdout, done.stderr
+
+
+def fits(came, status, out, error):
+    """Whether it is what was wanted. Where nothing is wanted on an output, nothing may come."""
+    def begins(text, wanted):
+        return text.startswith(wanted) if wanted else not text
+    return came[0] == status and begins(came[1], out) and begins(came[2], error)
+
+
+def statuses(tool):
+    """Each case, by whether it fits."""
+    for words, status, out, error in CASES:
+        came = run(tool, words)
+        yield f'{words}: {came}'[:300], fits(came, status, out, error)
+
+
+def on_terminal(words):
+    """What a run shows on a terminal that standard error is."""
+    ours, theirs = pty.openpty()
+    with subprocess.Popen(words, stdin=subprocess.DEVNULL, stdout=subprocess.DEVNULL, stderr=theirs) as child:
+        os.close(theirs)
+        shown = b''
+        while True:
+            try:
+                more = os.read(ours, 65536)
+            except OSError:
+                break
+            if not more:
+                break
+            shown += more
+        child.wait()
+    os.close(ours)
+    return shown
+
+
+def watching(tool, folder):
+    """That long work is told to a terminal, and to nothing else."""
+    text, image = folder / 'long.txt', folder / 'long.img'
+    lebs = ''.join(f'leb 0 {lnum} 61\n' for lnum in range(LONG))
+    text.write_text(f'volume 0 dynamic {LONG} 1 00 long\n{lebs}')
+    came = run(tool, ['compose', text, '--out', image, *CHIP])
+    yield f'compose: {came}', came == (0, f'blocks {LONG + 2}\n'.encode(), b'')
+    words = ['normalise', image, '--out', '/dev/null', *CHIP]
+    came = run(tool, words)
+    yield f'with a pipe: {came}', came == (0, f'blocks {LONG + 2}\n'.encode(), b'')
+    shown = on_terminal([tool, *words])
+    yield f'with a terminal: {shown[-80:]}', b'%' in shown
+
+
+def launched(tool, folder):
+    """That the launcher runs the program that is built, by links, with the words as they were given and the status that it has."""
+    home = folder / 'a house'
+    program = home / 'crates/ubi_tool/out/launched/ubi_tool'
+    program.parent.mkdir(parents=True)
+    source = home / 'crates/ubi_tool/src/main.rt'
+    source.parent.mkdir()
+    source.write_text('')
+    (home / 'crates.txt').write_text('')
+    os.utime(source, (1, 1))
+    os.utime(home / 'crates.txt', (1, 1))
+    shutil.copy(ROOT / 'ubi_tool', home / 'ubi_tool')
+    shutil.copy(tool, program)
+    (folder / 'link').symlink_to('a house/ubi_tool')
+    (folder / 'beyond').mkdir()
+    (folder / 'beyond' / 'far link').symlink_to('../link')
+    shutil.copy(IMAGE, folder / 'an image')
+    for name in ('a house/ubi_tool', 'link', 'beyond/far link'):
+        for words, status, out in ((['list', 'an image', *SMALL], 0, b'geometry peb=512 '),
+                                   (['list', 'no image', *SMALL], 1, b'cannot read no image\n'),
+                                   (['list', 'a * b', *SMALL], 1, b'cannot read a * b\n'),
+                                   (['nonsense word'], 2, b'')):
+            came = run(folder / name, words, cwd=folder)
+            yield f'{name} {words}: {came}'[:300], fits(came, status, out, b'' if status < 2 else b'error: ')
+
+
+def main():
+    parser = argparse.ArgumentParser()
+    parser.add_argument('--tool', type=Path, default=ROOT / 'crates/ubi_tool/out/ubi_tool')
+    tool = parser.parse_args().tool.resolve()
+    with tempfile.TemporaryDirectory(prefix='ubi-launch-') as room:
+        shutil.copy(tool, Path(room) / 'ubi_tool')
+        tool, passed, failed = Path(room) / 'ubi_tool', 0, 0
+        for told, is_so in (*statuses(tool), *watching(tool, Path(room)), *launched(tool, Path(room))):
+            passed, failed = passed + is_so, failed + (not is_so)
+            if not is_so:
+                print(f'failed: {told}')
+    print(f'{passed} passed, {failed} failed')
+    return 1 if failed else 0
+
+
+if __name__ == '__main__':
+    sys.exit(main())
