@@ -5,8 +5,8 @@ usage: gate.py COMMAND ..
 
 `.ci/run` calls it with `rt ci`. While the command runs, the processes below it are looked at each second, so what a process took
 is known but for its last second. It prints minutes of the processor: of each crate what its own proof took, its proof with tests,
-and its must-fail edits; what everything took, as the system counts it; and how many times that is what the proof of ubi_media
-took. 60 times is the budget of the gate. The exit status is that of the command.
+and its must-fail edits; what everything took, as the system counts it; and how many times that is what the proof of ubi_table
+took. 135 times is the budget of the gate. The exit status is that of the command.
 
 What `rt ci` passed before on the machine it doesn't do again, so a ratio holds only where everything was proved anew, and best on
 a machine that does nothing else.
@@ -93,11 +93,11 @@ def main():
     began = time.monotonic()
     status, took = measure(sys.argv[1:])
     usage = resource.getrusage(resource.RUSAGE_CHILDREN)
-    whole, first = usage.ru_utime + usage.ru_stime, took.get(("ubi_media", "proof"), 0)
+    whole, first = usage.ru_utime + usage.ru_stime, took.get(("ubi_table", "proof"), 0)
     print(f"{'minutes of the processor':<26}" + "".join(f"{kind:>8}" for kind in KINDS))
     for crate in crates():
         print(f"{crate:<26}" + "".join(f"{took.get((crate, kind), 0) / 60:>8.1f}" for kind in KINDS))
-    ratio = f"{whole / first:.0f} times the proof of ubi_media" if first else "the proof of ubi_media was kept"
+    ratio = f"{whole / first:.0f} times the proof of ubi_table" if first else "the proof of ubi_table was kept"
     print(f"{whole / 60:.0f} in all, in {(time.monotonic() - began) / 60:.0f} minutes; {ratio}")
     sys.exit(status)
 
