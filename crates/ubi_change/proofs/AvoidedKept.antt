@@ -21,8 +21,7 @@ use Rattle.ubi_change.specs.Plan.{needs, plan_of, taken}
 use Rattle.ubi_change.specs.Refused.{first_cause}
 use Rattle.ubi_change.specs.RenamePlan.{rename_plan}
 use Rattle.ubi_change.specs.RenameRefused.{MayBeNamed}
-use Rattle.ubi_change.specs.Avoided.{MayTouch, Avoided, Avoids, avoiding, is_avoided, is_blank_one, is_listed, state_avoiding}
-use Rattle.ubi_change.proofs.Blanks.{ReadBlank}
+use Rattle.ubi_change.specs.Avoided.{ReadBlank, MayTouch, Avoided, Avoids, avoiding, is_avoided, is_blank_one, is_listed, state_avoiding}
 use Rattle.ubi_change.specs.Steps.{target}
 use Rattle.ubi_change.specs.Takeable.{ec_at, is_unused, stays, takeable}
 use Rattle.ubi_change.specs.declared.step.Step.{Step}

@@ -11,9 +11,8 @@ use Rattle.ubi_volume.specs.Meant.{records_of}
 use Rattle.ubi_volume.specs.Survey.{IsSurvey, Seen}
 use Rattle.ubi_volume.specs.declared.attached.BlockState.{BlockState}
 use Rattle.ubi_volume.specs.declared.attached.BlockState.TheVariants as state
-use Rattle.ubi_change.specs.Avoided.{Avoided, BlankBelow, IsNotBlank, is_blank_one}
+use Rattle.ubi_change.specs.Avoided.{ReadBlank, Avoided, BlankBelow, IsNotBlank, is_blank_one}
 use Rattle.ubi_change.specs.inner.Taking.{NotBlankIs, SayBlank}
-use Rattle.ubi_change.proofs.Blanks.{ReadBlank}
 use Rattle.ubi_change.proofs.Prepared.{valid_is}
 use Rattle.ubi_change.proofs.Unused.{nameless_ec, nameless_loses}
 

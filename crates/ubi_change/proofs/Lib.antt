@@ -2,7 +2,6 @@ pub mod Attached
 pub mod AttachedImage
 pub mod AvoidedKept
 pub mod BlankListed
-pub mod Blanks
 pub mod BlockSteps
 pub mod Carried
 pub mod ChangeCauses

@@ -9,8 +9,7 @@ use Rattle.ubi_change.specs.Fitting.{AllFit}
 use Rattle.ubi_change.specs.Frugal.{IsFrugal}
 use Rattle.ubi_change.specs.Order.{RisesBetweenErases}
 use Rattle.ubi_change.specs.Planned.{IsPlanOf, IsPlanAvoiding}
-use Rattle.ubi_change.specs.Avoided.{Avoided, Avoids, avoiding}
-use Rattle.ubi_change.proofs.Blanks.{ReadBlank}
+use Rattle.ubi_change.specs.Avoided.{ReadBlank, Avoided, Avoids, avoiding}
 use Rattle.ubi_change.specs.declared.step.Step.{Step}
 use Rattle.ubi_change.proofs.AttachedImage.{mean_few, seq_narrow}
 use Rattle.ubi_change.proofs.PlanFits.{plan_fits}
@@ -49,4 +48,5 @@ plan_kept image av g blank id lnum new bytes steps is =
       plan = is;
       avoids = subst (in_image Avoids image av) (sym is.plan)
           (plan_avoids image av is.from is.attached blank g id lnum new v is.there is.allowed);
+      blank = blank;
     }

@@ -7,8 +7,7 @@ use Rattle.ubi_change.specs.Fitting.{AllFit}
 use Rattle.ubi_change.specs.Order.{RisesBetweenErases}
 use Rattle.ubi_change.specs.RenamePlan.{renamed_pages}
 use Rattle.ubi_change.specs.RenamePlanned.{LeavesBothGood, LeavesBothGoodOf, IsFrugalRename, IsFrugalRenameAvoiding, IsRenameOf, IsRenameAvoiding, KeepsReading, SurvivesRename, SurvivesRenameOf}
-use Rattle.ubi_change.specs.Avoided.{Avoided, Avoids, avoiding}
-use Rattle.ubi_change.proofs.Blanks.{ReadBlank}
+use Rattle.ubi_change.specs.Avoided.{ReadBlank, Avoided, Avoids, avoiding}
 use Rattle.ubi_change.specs.declared.step.Step.{Step}
 use Rattle.ubi_change.proofs.RenameAttached.{Renaming, leaves_both_good, keeps_reading, survives_rename}
 use Rattle.ubi_change.proofs.RenameFits.{rename_fits}
@@ -74,4 +73,5 @@ module _ (image : Image) (av : Avoided) (g : IsGeometry image.sizes) (blank : in
     frugal = kept_frugal;
     plan = is;
     avoids = kept_avoids;
+    blank = blank;
   }

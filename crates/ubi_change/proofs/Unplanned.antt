@@ -2,7 +2,7 @@
 use Rattle.std.proofs.Common.{◌≡◌, ℕ, inl, inr, List, [], length, sym, ◌∙◌, subst}
 use Rattle.ubi_media.specs.Geometry.{Sizes}
 use Rattle.ubi_media.specs.declared.refusal.Refusal.{Refusal}
-use Rattle.ubi_scan.specs.Image.{Image, IsWholeSize, image_of}
+use Rattle.ubi_scan.specs.Image.{Image, IsWholeSize, image_of, in_image}
 use Rattle.ubi_scan.specs.Source.{Agreed, Narrows, Source, WhereHeld, blocks_of, holds, memory}
 use Rattle.ubi_scan.specs.declared.errors.StreamError.{StreamError}
 use Rattle.ubi_scan.specs.declared.errors.StreamError.TheVariants as stream
@@ -14,7 +14,7 @@ use Rattle.ubi_volume.specs.declared.content.Volume.{Volume}
 use Rattle.ubi_volume.proofs.PlacesOf.{refused_in_memory}
 use Rattle.ubi_change.specs.inner.Making.{AreStepsOf, IsPrepared, IsUnplanned, from_stream, shown}
 use Rattle.ubi_change.specs.Planned.{IsChangeError, IsChangeRefusal, IsChangeRefusalAvoiding, IsPlanAvoiding}
-use Rattle.ubi_change.specs.Avoided.{Avoided, nothing, avoiding}
+use Rattle.ubi_change.specs.Avoided.{Avoided, ReadBlank, nothing, avoiding}
 use Rattle.ubi_change.specs.declared.plan_error.PlanError.{PlanError}
 use Rattle.ubi_change.specs.declared.plan_error.PlanError.TheVariants as error
 use Rattle.ubi_change.specs.declared.planning.Prepared.{Prepared}
@@ -87,21 +87,23 @@ module _ (s : Sizes) (k : Source) (agrees : Agreed) (av : Avoided) (id lnum : �
   no_attach x (inr (inl (inr own))) = causes.no_attach s [] (shown seen) own.0 id lnum new x own.2
   no_attach x (inr (inr sites)) = sites.2
 
-  other : (c : ChangeRefusal) → IsUnplanned s p id lnum new c
-      → IsWholeSize s k.size × WhereHeld agrees (λ bytes. IsChangeRefusalAvoiding (image_of s bytes) av id lnum new c)
-  other c h = (is.ground.survey.scan.whole, λ bytes holds. refused_is bytes holds c h)
+  -- no listed eraseblock holds anything
+  module _ (blank : WhereHeld agrees (λ bytes. in_image ReadBlank (image_of s bytes) av)) where
+    other : (c : ChangeRefusal) → IsUnplanned s p id lnum new c
+        → IsWholeSize s k.size × WhereHeld agrees (λ bytes. in_image ReadBlank (image_of s bytes) av × IsChangeRefusalAvoiding (image_of s bytes) av id lnum new c)
+    other c h = (is.ground.survey.scan.whole, λ bytes holds. (blank bytes holds, refused_is bytes holds c h))
 
-  pub error_is : (c : ChangeRefusal) → IsUnplanned s p id lnum new c → IsChangeError s k agrees av id lnum new (error.Refused c)
-  error_is refusal.Memory h = tt
-  error_is (refusal.Attach x) h = absurd (no_attach x h)
-  error_is refusal.NoVolume h = other refusal.NoVolume h
-  error_is refusal.StaticVolume h = other refusal.StaticVolume h
-  error_is refusal.Updating h = other refusal.Updating h
-  error_is refusal.OutOfRange h = other refusal.OutOfRange h
-  error_is refusal.BadLength h = other refusal.BadLength h
-  error_is (refusal.WeakCheck n) h = other (refusal.WeakCheck n) h
-  error_is refusal.Exhausted h = other refusal.Exhausted h
-  error_is refusal.NoFree h = other refusal.NoFree h
+    pub error_is : (c : ChangeRefusal) → IsUnplanned s p id lnum new c → IsChangeError s k agrees av id lnum new (error.Refused c)
+    error_is refusal.Memory h = tt
+    error_is (refusal.Attach x) h = absurd (no_attach x h)
+    error_is refusal.NoVolume h = other refusal.NoVolume h
+    error_is refusal.StaticVolume h = other refusal.StaticVolume h
+    error_is refusal.Updating h = other refusal.Updating h
+    error_is refusal.OutOfRange h = other refusal.OutOfRange h
+    error_is refusal.BadLength h = other refusal.BadLength h
+    error_is (refusal.WeakCheck n) h = other (refusal.WeakCheck n) h
+    error_is refusal.Exhausted h = other refusal.Exhausted h
+    error_is refusal.NoFree h = other refusal.NoFree h
 
 -- an error of what reads for a plan
 pub error_read : (s : Sizes) (k : Source) (agrees : Agreed) (av : Avoided) (id lnum : ℕ) (new : List ℕ) (e : StreamError)
@@ -113,9 +115,9 @@ error_read s k agrees av id lnum new stream.Memory h = tt
 
 -- why the change of bytes in memory isn't planned
 module _ (s : Sizes) (image left : List ℕ) (narrows : Narrows (holds image) (holds left)) (id lnum : ℕ) (new : List ℕ) where
-  stands : (c : ChangeRefusal) → IsWholeSize s (length image) × WhereHeld (holds left) (λ bytes. IsChangeRefusalAvoiding (image_of s bytes) nothing id lnum new c)
+  stands : (c : ChangeRefusal) → IsWholeSize s (length image) × WhereHeld (holds left) (λ bytes. in_image ReadBlank (image_of s bytes) nothing × IsChangeRefusalAvoiding (image_of s bytes) nothing id lnum new c)
       → IsChangeRefusal (image_of s image) id lnum new c
-  stands c h = refusal_nothing (image_of s image) id lnum new c (h.1 image (still image left narrows))
+  stands c h = refusal_nothing (image_of s image) id lnum new c (h.1 image (still image left narrows)).1
 
   by_cause : (c : ChangeRefusal) → IsChangeError s (memory image) (holds left) nothing id lnum new (error.Refused c)
       → IsChangeRefusal (image_of s image) id lnum new c

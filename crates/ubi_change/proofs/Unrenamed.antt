@@ -4,7 +4,7 @@ use Rattle.std.specs.Prelude.{◌⊎◌, None, Some}
 use Rattle.ubi_media.specs.Fields.{AreBytes}
 use Rattle.ubi_media.specs.Geometry.{IsGeometry, Sizes}
 use Rattle.ubi_media.specs.declared.refusal.Refusal.{Refusal}
-use Rattle.ubi_scan.specs.Image.{Image, IsWholeSize, image_of}
+use Rattle.ubi_scan.specs.Image.{Image, IsWholeSize, image_of, in_image}
 use Rattle.ubi_scan.specs.Source.{Agreed, Narrows, Source, WhereHeld, blocks_of, holds, memory}
 use Rattle.ubi_scan.specs.declared.errors.StreamError.{StreamError}
 use Rattle.ubi_scan.specs.declared.errors.StreamError.TheVariants as stream
@@ -14,8 +14,7 @@ use Rattle.ubi_volume.specs.Survey.{IsSurvey, Seen}
 use Rattle.ubi_volume.proofs.PlacesOf.{refused_in_memory}
 use Rattle.ubi_change.specs.RenamePlan.{renamed_pages}
 use Rattle.ubi_change.specs.RenamePlanned.{IsRenameError, IsRenameOf, IsRenameRefusal, IsRenameRefusalAvoiding}
-use Rattle.ubi_change.specs.Avoided.{Avoided, nothing, states_avoiding}
-use Rattle.ubi_change.proofs.Blanks.{ReadBlank}
+use Rattle.ubi_change.specs.Avoided.{ReadBlank, Avoided, nothing, states_avoiding}
 use Rattle.ubi_change.specs.Takeable.{takeable}
 use Rattle.ubi_change.specs.Weak.{weak_place}
 use Rattle.ubi_change.specs.inner.Renaming.{AreCopiesOf, AreHolders, IsNamable, IsRenamable, IsSparesRefusal, IsUnrenamed, from_stream, pages_for, two_copies}
@@ -108,20 +107,22 @@ module _ (s : Sizes) (k : Source) (agrees : Agreed) (av : Avoided) (id : ℕ) (n
   no_attach x (inr (may, inr (old, e, inr (strong, inl spares)))) = spares
   no_attach x (inr (may, inr (old, e, inr (strong, inr memory)))) = absurd (cc)
 
-  other : (c : RenameRefusal) → IsUnrenamed s r id name c
-      → IsWholeSize s k.size × WhereHeld agrees (λ bytes. IsRenameRefusalAvoiding (image_of s bytes) av id name c)
-  other c h = (is.ground.survey.scan.whole, λ bytes holds. refused_is bytes holds c h)
+  -- no listed eraseblock holds anything
+  module _ (blank : WhereHeld agrees (λ bytes. in_image ReadBlank (image_of s bytes) av)) where
+    other : (c : RenameRefusal) → IsUnrenamed s r id name c
+        → IsWholeSize s k.size × WhereHeld agrees (λ bytes. in_image ReadBlank (image_of s bytes) av × IsRenameRefusalAvoiding (image_of s bytes) av id name c)
+    other c h = (is.ground.survey.scan.whole, λ bytes holds. (blank bytes holds, refused_is bytes holds c h))
 
-  pub error_is : (c : RenameRefusal) → IsUnrenamed s r id name c → IsRenameError s k agrees av id name (error.Refused c)
-  error_is refusal.Memory h = tt
-  error_is (refusal.Attach x) h = absurd (no_attach x h)
-  error_is refusal.NoVolume h = other refusal.NoVolume h
-  error_is refusal.BadName h = other refusal.BadName h
-  error_is (refusal.SameName slot) h = other (refusal.SameName slot) h
-  error_is refusal.NeedsRepair h = other refusal.NeedsRepair h
-  error_is (refusal.WeakCheck n) h = other (refusal.WeakCheck n) h
-  error_is refusal.Exhausted h = other refusal.Exhausted h
-  error_is refusal.NoFree h = other refusal.NoFree h
+    pub error_is : (c : RenameRefusal) → IsUnrenamed s r id name c → IsRenameError s k agrees av id name (error.Refused c)
+    error_is refusal.Memory h = tt
+    error_is (refusal.Attach x) h = absurd (no_attach x h)
+    error_is refusal.NoVolume h = other refusal.NoVolume h
+    error_is refusal.BadName h = other refusal.BadName h
+    error_is (refusal.SameName slot) h = other (refusal.SameName slot) h
+    error_is refusal.NeedsRepair h = other refusal.NeedsRepair h
+    error_is (refusal.WeakCheck n) h = other (refusal.WeakCheck n) h
+    error_is refusal.Exhausted h = other refusal.Exhausted h
+    error_is refusal.NoFree h = other refusal.NoFree h
 
 -- an error of what reads for a plan
 pub error_read : (s : Sizes) (k : Source) (agrees : Agreed) (av : Avoided) (id : ℕ) (name : List ℕ) (e : StreamError)
@@ -133,9 +134,9 @@ error_read s k agrees av id name stream.Memory h = tt
 
 -- why the rename of bytes in memory isn't planned
 module _ (s : Sizes) (image left : List ℕ) (narrows : Narrows (holds image) (holds left)) (id : ℕ) (name : List ℕ) where
-  stands : (c : RenameRefusal) → IsWholeSize s (length image) × WhereHeld (holds left) (λ bytes. IsRenameRefusalAvoiding (image_of s bytes) nothing id name c)
+  stands : (c : RenameRefusal) → IsWholeSize s (length image) × WhereHeld (holds left) (λ bytes. in_image ReadBlank (image_of s bytes) nothing × IsRenameRefusalAvoiding (image_of s bytes) nothing id name c)
       → IsRenameRefusal (image_of s image) id name c
-  stands c h = rename_refusal_nothing (image_of s image) id name c (h.1 image (still image left narrows))
+  stands c h = rename_refusal_nothing (image_of s image) id name c (h.1 image (still image left narrows)).1
 
   by_cause : (c : RenameRefusal) → IsRenameError s (memory image) (holds left) nothing id name (error.Refused c)
       → IsRenameRefusal (image_of s image) id name c

@@ -69,6 +69,10 @@ module _ (s : Sizes) (bs : List (List ℕ)) (av : Avoided) where
   abbrev pub BlankBelow : ℕ → Type 0
   BlankBelow n = (p : ℕ) → p < n → is_listed av.marks p ≡ true → ec s (block bs p) ≡ ec_read.Blank
 
+  -- all listed eraseblocks that are there are Blank: none of them holds anything
+  abbrev pub ReadBlank : Type 0
+  ReadBlank = BlankBelow (length bs)
+
   -- p is the lowest listed eraseblock that is there and isn't Blank
   abbrev pub IsNotBlank : ℕ → Type 0
   IsNotBlank p = (is_listed av.marks p ≡ true) × (p < length bs) × (ec s (block bs p) ≡ ec_read.Blank → ⊥) × BlankBelow p

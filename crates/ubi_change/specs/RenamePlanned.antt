@@ -17,7 +17,7 @@ use Rattle.ubi_change.specs.Order.{Erases, RisesBetweenErases}
 use Rattle.ubi_change.specs.Renamed.{ReadSame, renamed}
 use Rattle.ubi_change.specs.RenamePlan.{holder, rename_plan, renamed_pages}
 use Rattle.ubi_change.specs.RenameRefused.{BothGood, IsFirstCause, MayBeNamed}
-use Rattle.ubi_change.specs.Avoided.{AllBeside, IsNotBlank, Avoided, Avoids, avoiding}
+use Rattle.ubi_change.specs.Avoided.{AllBeside, Avoided, Avoids, IsNotBlank, ReadBlank, avoiding}
 use Rattle.ubi_change.specs.Steps.{after}
 use Rattle.ubi_change.specs.Takeable.{ec_at, stays, takeable}
 use Rattle.ubi_change.specs.declared.plan_error.PlanError.{PlanError}
@@ -106,6 +106,7 @@ pub record IsRenameOf (image : Image) (av : Avoided) (id : ℕ) (name : List ℕ
   pub frugal : IsFrugalRenameAvoiding image av id name steps
   pub plan : IsRenameAvoiding image av id name steps
   pub avoids : in_image Avoids image av steps
+  pub blank : in_image ReadBlank image av
 
 -- the steps for the image of a source: each works within one of its eraseblocks, and on none that is listed, and they are
 -- those of whatever the source may hold
@@ -123,4 +124,5 @@ IsRenameError s k agrees av id name (error.NotBlank p) =
 IsRenameError s k agrees av id name (error.Refused refusal.Memory) = Unit {0}
 IsRenameError s k agrees av id name (error.Refused (refusal.Attach c)) = ArePlacesError s k agrees (stream.Refused c)
 IsRenameError s k agrees av id name (error.Refused c) =
-    IsWholeSize s k.size × WhereHeld agrees (λ bytes. IsRenameRefusalAvoiding (image_of s bytes) av id name c)
+    IsWholeSize s k.size
+    × WhereHeld agrees (λ bytes. in_image ReadBlank (image_of s bytes) av × IsRenameRefusalAvoiding (image_of s bytes) av id name c)

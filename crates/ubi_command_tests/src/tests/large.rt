@@ -309,9 +309,26 @@ fn answers_of_eraseblocks_of_128_kib(rt: HostRuntime) -> Result<(), Fail> {
 
 /// What is shown of an eraseblock that begins beyond 4 GiB, and why its image is refused, once it is read to its end:
 /// what isn't written in it reads zero, which is no header.
-static FAR: [(&str, &str, u8); 2] = [
+static FAR: [(&str, &str, u8); 4] = [
     (
         "show far.img --block 2400 --peb 2097152 --page 2048",
+        "ec valid 55424923010000000000000000000000000008000000100012345678\
+            0000000000000000000000000000000000000000000000000000000000000000f0ef3182\n\
+            vid corrupt 0000000000000000000000000000000000000000000000000000000000000000\
+            0000000000000000000000000000000000000000000000000000000000000000\n",
+        0,
+    ),
+    // What is listed there is blank, and what is listed beside it isn't.
+    (
+        "show far.img --block 2400 --bad 2399,2400 --peb 2097152 --page 2048",
+        "ec blank ffffffffffffffffffffffffffffffffffffffffffffffffffffffffffffffff\
+            ffffffffffffffffffffffffffffffffffffffffffffffffffffffffffffffff\n\
+            vid blank ffffffffffffffffffffffffffffffffffffffffffffffffffffffffffffffff\
+            ffffffffffffffffffffffffffffffffffffffffffffffffffffffffffffffff\n",
+        0,
+    ),
+    (
+        "show far.img --block 2400 --bad 352,2399,2401-4294967295 --peb 2097152 --page 2048",
         "ec valid 55424923010000000000000000000000000008000000100012345678\
             0000000000000000000000000000000000000000000000000000000000000000f0ef3182\n\
             vid corrupt 0000000000000000000000000000000000000000000000000000000000000000\

@@ -32,7 +32,10 @@ returns-in-Ok-clause-refused g c =
     let s = c.args.geometry.now in
     let known = g.S.BlockSource.known c.args.source.now in
     let agrees = g.S.BlockSource.agrees c.prepare.new.source in
-    error_is s known agrees c.args.avoided.now c.args.id c.args.lnum c.args.new.now c.in-Ok.prepared c.in-Ok.ensures.prepared c.in-Err-change_steps.cause
+    let is = c.in-Ok.ensures.prepared in
+    error_is s known agrees c.args.avoided.now c.args.id c.args.lnum c.args.new.now c.in-Ok.prepared is
+    (λ bytes holds. survey_blank _ c.in-Ok.prepared.ground.surveyed (is.ground.survey.held bytes holds) c.args.avoided.now c.in-None.ensures)
+    c.in-Err-change_steps.cause
     c.in-Err-change_steps.ensures.refused
 
 pub returns-clause-refused : goal.returns-clause-refused
