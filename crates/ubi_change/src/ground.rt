@@ -6,7 +6,7 @@ ghost use Rattle.ubi_change.specs.inner.Sites.{IsSiteAt};
 ghost use Rattle.ubi_change.specs.inner.Taking.{IsGroundOf};
 ghost use Rattle.ubi_change.specs.Avoided.{states_avoiding};
 ghost use Rattle.ubi_scan.specs.Source.{Narrows, blocks_in};
-ghost use Rattle.ubi_scan.specs.Stream.{IsReadFault, after};
+ghost use Rattle.ubi_scan.specs.Stream.{IsReadFault, NamesBlock, after};
 ghost use Rattle.ubi_volume.specs.Places.{ArePlacesError};
 ghost use Rattle.ubi_volume.specs.Survey.{IsSurveyOf};
 
@@ -45,6 +45,7 @@ pub fn ground_of<S: BlockSource>(
     ensures narrows { Narrows (S.agrees source.old) (S.agrees source.new) }
     ensures ground { IfOk result (IsGroundOf geometry.now (S.known source.old) (S.agrees source.new) avoided.now) }
     ensures refused { IfErr result (ArePlacesError geometry.now (S.known source.old) (S.agrees source.new)) }
+    ensures named { IfErr result (NamesBlock geometry.now (S.failed_at source.new)) }
 {
     let surveyed = survey_from(alloc, geometry, source)?;
     let taken = first_takeable(geometry, source, &surveyed, avoided, buffer)?;
@@ -71,6 +72,7 @@ pub fn winner_site<S: BlockSource>(
     ensures narrows { Narrows (S.agrees source.old) (S.agrees source.new) }
     ensures site { IfOk result (IsSiteAt geometry.now (S.known source.old) (S.agrees source.new) (states_avoiding avoided.now surveyed.now.states) (finite.get surveyed.now.scan.winners (id, lnum))) }
     ensures failed { IfErr result (IsReadFault (blocks_in geometry.now (S.known source.old))) }
+    ensures named { IfErr result (NamesBlock geometry.now (S.failed_at source.new)) }
 {
     match surveyed.winner(id, lnum) {
         Some(p) => Ok(Some(read_site(geometry, source, p, avoided.state(surveyed, p), buffer)?)),

@@ -4,7 +4,7 @@ ghost use Rattle.std.specs.Prelude.{◌≡◌, true, false, IfErr, IfOk, length}
 ghost use Rattle.ubi_change.specs.inner.Renaming.{AreHoldersOf};
 ghost use Rattle.ubi_change.specs.RenameRefused.{BothGood};
 ghost use Rattle.ubi_scan.specs.Source.{Narrows, WhereHeld, blocks_in, blocks_of};
-ghost use Rattle.ubi_scan.specs.Stream.{IsScanOf, after};
+ghost use Rattle.ubi_scan.specs.Stream.{IsScanOf, NamesBlock, after};
 ghost use Rattle.ubi_table.specs.Records.{Records};
 ghost use Rattle.ubi_table.specs.Stream.{IsCopyReadError};
 ghost use Rattle.ubi_table.specs.declared.copy.CopyRead.TheVariants as copy;
@@ -59,6 +59,7 @@ fn are_both_good<S: BlockSource>(
     ensures good { IfOk result (λ b. b ≡ true → WhereHeld (S.agrees source.new) (λ bytes. (t : Records) × BothGood geometry.now (blocks_of geometry.now bytes) t)) }
     ensures bad { IfOk result (λ b. b ≡ false → WhereHeld (S.agrees source.new) (λ bytes. (t : Records) → BothGood geometry.now (blocks_of geometry.now bytes) t → ⊥)) }
     ensures failed { IfErr result (IsCopyReadError (blocks_in geometry.now (S.known source.old))) }
+    ensures named { IfErr result (NamesBlock geometry.now (S.failed_at source.new)) }
 {
     prove!(geometry.data_offset() <= geometry.peb_size());
     let leb = &mut buffer[..geometry.leb_size() as usize];
@@ -86,6 +87,7 @@ pub fn holders_of<S: BlockSource>(
     ensures narrows { Narrows (S.agrees source.old) (S.agrees source.new) }
     ensures holders { IfOk result (AreHoldersOf geometry.now (S.known source.old) (S.agrees source.new) avoided.now surveyed.now) }
     ensures failed { IfErr result (IsCopyReadError (blocks_in geometry.now (S.known source.old))) }
+    ensures named { IfErr result (NamesBlock geometry.now (S.failed_at source.new)) }
 {
     if !are_both_good(alloc, geometry, source, surveyed.scan(), buffer)? {
         return Ok(None);

@@ -5,10 +5,10 @@ ghost use Rattle.ubi_change.specs.Fitting.{AllFit, AllWithin};
 ghost use Rattle.ubi_change.specs.inner.Making.{AreStepsOf, FitsPrepared, HasRoom, IsNoWrite, IsPrepared, IsTarget, IsTargetRefusal, IsUnplanned, from_stream, mapped_steps, steps_on, unmapped_steps};
 ghost use Rattle.ubi_change.specs.inner.Sites.{HasCounter};
 ghost use Rattle.ubi_change.specs.Order.{RisesBetweenErases};
-ghost use Rattle.ubi_change.specs.Planned.{IsChangeError, IsChangeRefusal, IsFrugalOf, IsPlan, IsPlanned, SurvivesCutsOf, after_plan};
+ghost use Rattle.ubi_change.specs.Planned.{IsChangeError, IsChangeRefusal, IsFrugalOf, IsPlan, IsPlanned, NamesFailed, SurvivesCutsOf, after_plan};
 ghost use Rattle.ubi_scan.specs.Image.{image_of, in_image};
 ghost use Rattle.ubi_scan.specs.Source.{Narrows};
-ghost use Rattle.ubi_scan.specs.Stream.{after};
+ghost use Rattle.ubi_scan.specs.Stream.{NamesBlock, after};
 ghost use Rattle.ubi_volume.specs.Places.{ArePlacesError};
 
 use crate::avoided::Avoided;
@@ -52,6 +52,7 @@ fn prepare<S: BlockSource>(
     ensures narrows { Narrows (S.agrees source.old) (S.agrees source.new) }
     ensures prepared { IfOk result (IsPrepared geometry.now (S.known source.old) (S.agrees source.new) avoided.now id lnum) }
     ensures refused { IfErr result (ArePlacesError geometry.now (S.known source.old) (S.agrees source.new)) }
+    ensures named { IfErr result (NamesBlock geometry.now (S.failed_at source.new)) }
 {
     let mut buffer = Vec::from_elem(alloc, 0u8, geometry.peb_size() as usize)?;
     let buffer = buffer.as_mut_slice();
@@ -246,6 +247,7 @@ pub fn plan_change_from<S: BlockSource>(
     ensures narrows { Narrows (S.agrees source.old) (S.agrees source.new) }
     ensures plan { IfOk result (λ steps. IsPlanned geometry.now (S.known source.old) (S.agrees source.new) avoided.now id lnum new.now steps.items) }
     ensures refused { IfErr result (IsChangeError geometry.now (S.known source.old) (S.agrees source.new) avoided.now id lnum new.now) }
+    ensures named { IfErr result (NamesFailed geometry.now (S.failed_at source.new)) }
 {
     // The law that plans survive asks for it.
     prove!(geometry.page() >= 64);

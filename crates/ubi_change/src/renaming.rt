@@ -5,12 +5,12 @@ ghost use Rattle.ubi_change.specs.Fitting.{AllFit, AllWithin};
 ghost use Rattle.ubi_change.specs.inner.Making.{IsNoWrite};
 ghost use Rattle.ubi_change.specs.inner.Renaming.{AreCopiesOf, CopiesHaveRoom, FitsRenamable, IsRenamable, IsUnrenamed, from_stream, two_copies};
 ghost use Rattle.ubi_change.specs.Order.{RisesBetweenErases};
-ghost use Rattle.ubi_change.specs.Planned.{after_plan};
+ghost use Rattle.ubi_change.specs.Planned.{NamesFailed, after_plan};
 ghost use Rattle.ubi_change.specs.RenamePlanned.{IsFrugalRenameOf, IsPlannedRename, IsRename, IsRenameError, IsRenameRefusal, KeepsReading, LeavesBothGoodOf, SurvivesRenameOf};
 ghost use Rattle.ubi_media.specs.Fields.{AreBytes};
 ghost use Rattle.ubi_scan.specs.Image.{image_of, in_image};
 ghost use Rattle.ubi_scan.specs.Source.{Narrows};
-ghost use Rattle.ubi_scan.specs.Stream.{after};
+ghost use Rattle.ubi_scan.specs.Stream.{NamesBlock, after};
 ghost use Rattle.ubi_volume.specs.Places.{ArePlacesError};
 
 use crate::avoided::Avoided;
@@ -52,6 +52,7 @@ fn prepare<S: BlockSource>(
     ensures narrows { Narrows (S.agrees source.old) (S.agrees source.new) }
     ensures prepared { IfOk result (IsRenamable geometry.now (S.known source.old) (S.agrees source.new) avoided.now) }
     ensures refused { IfErr result (ArePlacesError geometry.now (S.known source.old) (S.agrees source.new)) }
+    ensures named { IfErr result (NamesBlock geometry.now (S.failed_at source.new)) }
 {
     let mut buffer = Vec::from_elem(alloc, 0u8, geometry.peb_size() as usize)?;
     let buffer = buffer.as_mut_slice();
@@ -161,6 +162,7 @@ pub fn plan_rename_from<S: BlockSource>(
     ensures narrows { Narrows (S.agrees source.old) (S.agrees source.new) }
     ensures plan { IfOk result (λ steps. IsPlannedRename geometry.now (S.known source.old) (S.agrees source.new) avoided.now id name.now steps.items) }
     ensures refused { IfErr result (IsRenameError geometry.now (S.known source.old) (S.agrees source.new) avoided.now id name.now) }
+    ensures named { IfErr result (NamesFailed geometry.now (S.failed_at source.new)) }
 {
     // The law that plans survive asks for it.
     prove!(geometry.page() >= 64);

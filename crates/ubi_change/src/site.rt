@@ -7,7 +7,7 @@ ghost use Rattle.ubi_media.specs.Fields.{is_blank};
 ghost use Rattle.ubi_scan.specs.Image.{block};
 ghost use Rattle.ubi_scan.specs.Numbers.{valid_ec};
 ghost use Rattle.ubi_scan.specs.Source.{Narrows, WhereHeld, blocks_in, blocks_of};
-ghost use Rattle.ubi_scan.specs.Stream.{IsReadFault, after};
+ghost use Rattle.ubi_scan.specs.Stream.{IsReadFault, NamesBlock, after};
 
 use ubi_media::{EcHeader, EcRead, Geometry, read_ec};
 use ubi_scan::{BlockSource, StreamError, read_part};
@@ -62,6 +62,7 @@ fn is_clean<S: BlockSource>(
     ensures clean { IfOk result (λ clean. WhereHeld (S.agrees source.new) (λ bytes. clean ≡ (is_free state && is_blank (drop 64 (block (blocks_of geometry.now bytes) p))))) }
     ensures failed { IfErr result (IsReadFault (blocks_in geometry.now (S.known source.old))) }
     ensures names { IfErr result (λ e. e ≡ StreamError.Read p 0) }
+    ensures named { IfErr result (NamesBlock geometry.now (S.failed_at source.new)) }
 {
     if !is_free(state) {
         return Ok(false);
@@ -95,6 +96,7 @@ pub fn read_site<S: BlockSource>(
     ensures site { IfOk result (IsSiteOf geometry.now (S.known source.old) (S.agrees source.new) p state) }
     ensures failed { IfErr result (IsReadFault (blocks_in geometry.now (S.known source.old))) }
     ensures names { IfErr result (λ e. e ≡ StreamError.Read p 0) }
+    ensures named { IfErr result (NamesBlock geometry.now (S.failed_at source.new)) }
 {
     let mut ec_area = [0; HEADER_SIZE];
     prove!(geometry.peb_size() >= 64);

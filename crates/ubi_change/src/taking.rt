@@ -6,7 +6,7 @@ ghost use Rattle.ubi_change.specs.inner.Taking.{AreTaken, TakeableIs, all_of, jo
 ghost use Rattle.ubi_change.specs.Avoided.{states_avoiding};
 ghost use Rattle.ubi_change.specs.Takeable.{is_unused, is_worn};
 ghost use Rattle.ubi_scan.specs.Source.{Narrows, WhereHeld, blocks_in, blocks_of};
-ghost use Rattle.ubi_scan.specs.Stream.{IsReadFault, after};
+ghost use Rattle.ubi_scan.specs.Stream.{IsReadFault, NamesBlock, after};
 ghost use Rattle.ubi_volume.specs.Survey.{IsSurveyOf};
 
 use crate::avoided::Avoided;
@@ -165,6 +165,7 @@ fn takeable_site<S: BlockSource>(
     ensures fits { IfOk result (λ site. IfSome site (FitsIn (blocks_in geometry.now (S.known source.old)))) }
     ensures takeable { IfOk result (λ site. WhereHeld (S.agrees source.new) (λ bytes. TakeableIs geometry.now (blocks_of geometry.now bytes) (states_avoiding avoided.now surveyed.now.states) p site)) }
     ensures failed { IfErr result (IsReadFault (blocks_in geometry.now (S.known source.old))) }
+    ensures named { IfErr result (NamesBlock geometry.now (S.failed_at source.new)) }
 {
     let state = avoided.state(surveyed, p);
     if !is_unused(state) {
@@ -197,6 +198,7 @@ pub fn first_takeable<S: BlockSource>(
     ensures narrows { Narrows (S.agrees source.old) (S.agrees source.new) }
     ensures taken { IfOk result (AreTaken geometry.now (S.known source.old) (S.agrees source.new) (states_avoiding avoided.now surveyed.now.states)) }
     ensures failed { IfErr result (IsReadFault (blocks_in geometry.now (S.known source.old))) }
+    ensures named { IfErr result (NamesBlock geometry.now (S.failed_at source.new)) }
 {
     let mut parted = Parted {
         clean: FirstTwo::NONE,

@@ -6,7 +6,7 @@ ghost use Rattle.ubi_change.specs.Steps.{after_text};
 ghost use Rattle.ubi_change.specs.inner.Writing.{block_text};
 ghost use Rattle.ubi_scan.specs.Image.{IsWholeSize};
 ghost use Rattle.ubi_scan.specs.Source.{Narrows, blocks_in};
-ghost use Rattle.ubi_scan.specs.Stream.{after};
+ghost use Rattle.ubi_scan.specs.Stream.{NamesBlock, after};
 ghost use Rattle.ubi_volume.specs.Wrote.{All, IsWroteError, Wrote};
 
 use crate::step::Step;
@@ -40,6 +40,7 @@ fn write_block<S: BlockSource, W: Write>(
     ensures written { IfOk result (Wrote (S.agrees source.new) (W.contents writer.old) (W.contents writer.new) (block_text geometry.now p steps.now) All done) }
     ensures count { IfOk result (λ n. n ≡ done + geometry.now.peb_size) }
     ensures failed { IfErr result (IsWroteError geometry.now (S.known source.old) (S.agrees source.new) (W.contents writer.old) (W.contents writer.new) (block_text geometry.now p steps.now) done) }
+    ensures named { IfErr result (NamesBlock geometry.now (S.failed_at source.new)) }
 {
     match read_part(source, geometry, p, 0, buffer) {
         Ok(()) => {}
@@ -75,6 +76,7 @@ pub fn write_after<S: BlockSource, W: Write>(
     ensures written { IfOk result (Wrote (S.agrees source.new) (W.contents writer.old) (W.contents writer.new) (after_text geometry.now steps.now) All 0) }
     ensures count { IfOk result (λ n. n ≡ (S.known source.old).size) }
     ensures failed { IfErr result (IsWroteError geometry.now (S.known source.old) (S.agrees source.new) (W.contents writer.old) (W.contents writer.new) (after_text geometry.now steps.now) 0) }
+    ensures named { IfErr result (NamesBlock geometry.now (S.failed_at source.new)) }
 {
     let count = source.len() / u64::from(geometry.peb_size());
     prove!(count <= u64::from(geometry.pebs()));

@@ -5,9 +5,9 @@ ghost use Rattle.std.specs.Prelude.{◌≡◌, ◌≢◌, IfSome, true};
 use crate::file_row::SizedFile;
 use std::fs;
 use std::fs::{FileType, Files, Metadata};
-use std::io::{ErrorKind, Seek, SeekFrom};
+use std::io::ErrorKind;
 use std::os::unix::fs::{FileExt, FileTypeExt, MetadataExt};
-use ubi_scan::SystemFile;
+use ubi_scan::{SystemFile, file_len};
 
 /// Whether two paths name one file, by what the system tells of them: its device and its number there, or which block
 /// device it is itself.
@@ -75,7 +75,7 @@ where
     R::File: FileExt,
 {
     let mut file = fs::open(rt, path).ok()?;
-    let len = file.seek(SeekFrom::End(0)).ok()?;
+    let len = file_len(&mut file).ok()?;
     (kind.is_file() || len > 0).then_some(SizedFile::new(SystemFile::new(file), len))
 }
 

@@ -42,6 +42,16 @@ IsBuildError ps spares k agrees old new (build.Write n) =
     CanBuild ps spares k.size × Wrote agrees old new (image_built ps spares) NotAll 0 n
 IsBuildError ps spares k agrees old new e = IsRefused ps spares k.size e
 
+-- a read that failed began in the bytes of the part whose volume is told
+abbrev pub NamesPart : Part → ℕ → BuildError → Type 0
+NamesPart p at (build.Read id n) = (id ≡ p.id) × (p.start ≤ at) × (at < p.start + p.len)
+NamesPart p at _ = Unit {0}
+
+-- which is one of the parts
+abbrev pub NamesVolume : Parts → ℕ → BuildError → Type 0
+NamesVolume ps at (build.Read id n) = (p : Part) × Contains ps.of p × NamesPart p at (build.Read id n)
+NamesVolume ps at _ = Unit {0}
+
 -- a fact that holds where nothing was written
 abbrev pub WhereNotBegun : Type 0 → BuildError → Type 0
 WhereNotBegun fact (build.Read _ _) = Unit {0}

@@ -3,7 +3,7 @@ use Rattle.std.specs.Prelude.{ℕ, List, Result, Err}
 use Rattle.ubi_media.specs.Geometry.{Sizes}
 use Rattle.ubi_scan.specs.Image.{image_of}
 use Rattle.ubi_scan.specs.Source.{Agreed, Source, WhereHeld}
-use Rattle.ubi_scan.specs.Stream.{after_error}
+use Rattle.ubi_scan.specs.Stream.{NamesBlock, after_error}
 use Rattle.ubi_volume.specs.Accepts.{Accepts}
 use Rattle.ubi_volume.specs.Meant.{Meant}
 use Rattle.ubi_volume.specs.Places.{ArePlacesError}
@@ -23,6 +23,12 @@ after_left k _ = k
 abbrev pub after_right : {A : Type 0} → Source → Result A SameFault → Source
 after_right k (Err (fault.Right e)) = after_error k e
 after_right k _ = k
+
+-- of the side on which a read failed the eraseblock is told in which that read began
+abbrev pub NamesSide : Sizes → ℕ → ℕ → SameFault → Type 0
+NamesSide s left right (fault.Left e) = NamesBlock s left e
+NamesSide s left right (fault.Right e) = NamesBlock s right e
+NamesSide s left right fault.Memory = Unit {0}
 
 -- why two sources aren't compared: the left one isn't attached, or the right one alone; a read of a side failed later; or
 -- memory ran out

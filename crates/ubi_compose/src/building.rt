@@ -10,7 +10,7 @@ ghost use Rattle.ubi_scan.specs.Source.{Narrows, Source, WhereHeld};
 ghost use Rattle.ubi_scan.specs.inner.Held.{anything};
 ghost use Rattle.ubi_volume.specs.Accepts.{Accepts};
 ghost use Rattle.ubi_volume.specs.Wrote.{All, Wrote};
-ghost use Rattle.ubi_compose.specs.Building.{CanBuild, IsBuildError, IsPartOf, IsRefused, WhereNotBegun, image_built, known_after, those};
+ghost use Rattle.ubi_compose.specs.Building.{CanBuild, IsBuildError, IsPartOf, IsRefused, NamesVolume, WhereNotBegun, image_built, known_after, those};
 ghost use Rattle.ubi_compose.specs.Built.{Reaches, built, most_blocks};
 ghost use Rattle.ubi_compose.specs.Composed.{composed};
 ghost use Rattle.ubi_compose.specs.inner.Building.{HasParts, IsUnbuilt, first_volumes, numbered_bytes, spares_bytes, table_block, table_of, tables_bytes, whole_bytes};
@@ -71,6 +71,7 @@ fn put_numbered<S: BlockSource, W: Write>(
     ensures written { IfOk result (Wrote (S.agrees source.new) (W.contents writer.old) (W.contents writer.new) (those (numbered_bytes recipe.now id)) All done) }
     ensures most { IfOk result (λ n. n ≤ done + 2 ^ 55) }
     ensures failed { IfErr result (IsUnbuilt recipe.now (S.agrees source.new) (W.contents writer.old) (W.contents writer.new) (those (numbered_bytes recipe.now id)) done) }
+    ensures named { IfErr result (NamesVolume recipe.now (S.failed_at source.new)) }
 {
     match recipe.part(id) {
         Some(part) => put_part(recipe, source, part, buffer, writer, done),
@@ -98,6 +99,7 @@ fn put_volumes<S: BlockSource, W: Write>(
     ensures written { IfOk result (Wrote (S.agrees source.new) (W.contents writer.old) (W.contents writer.new) (those (first_volumes recipe.now (slots recipe.now.sizes))) All done) }
     ensures most { IfOk result (λ n. n ≤ done + 2 ^ 62) }
     ensures failed { IfErr result (IsUnbuilt recipe.now (S.agrees source.new) (W.contents writer.old) (W.contents writer.new) (those (first_volumes recipe.now (slots recipe.now.sizes))) done) }
+    ensures named { IfErr result (NamesVolume recipe.now (S.failed_at source.new)) }
 {
     let mut total = done;
     for id in 0..recipe.geometry().slots() {
@@ -210,6 +212,7 @@ fn put_image<S: BlockSource, W: Write>(
     ensures narrows { Narrows (S.agrees source.old) (S.agrees source.new) }
     ensures written { IfOk result (Wrote (S.agrees source.new) (W.contents writer.old) (W.contents writer.new) (those (whole_bytes recipe.now spares)) All 0) }
     ensures failed { IfErr result (IsUnbuilt recipe.now (S.agrees source.new) (W.contents writer.old) (W.contents writer.new) (those (whole_bytes recipe.now spares)) 0) }
+    ensures named { IfErr result (NamesVolume recipe.now (S.failed_at source.new)) }
 {
     let front = put_tables(recipe, text, buffer, writer)?;
     let normal = put_volumes(recipe, source, buffer, writer, front)?;
@@ -261,6 +264,7 @@ pub fn build_to<S: BlockSource, W: Write>(
     ensures untouched { IfErr result (WhereNotBegun (writer.new ≡ writer.old)) }
     ensures refused { IfErr result (IsBuildError recipe.now spares (S.known source.old) (S.agrees source.new) (W.contents writer.old) (W.contents writer.new)) }
     ensures fits { spares ≡ 0 → result ≢ Err BuildError.TooMany }
+    ensures named { IfErr result (NamesVolume recipe.now (S.failed_at source.new)) }
 {
     judge(recipe, spares, source.len())?;
     let geometry = recipe.geometry();

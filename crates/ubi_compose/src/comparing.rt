@@ -5,7 +5,7 @@ ghost use Rattle.std.specs.Prelude.{◌≡◌, ◌↔◌, IfErr, IfOk, IsTrue};
 ghost use Rattle.ubi_scan.specs.Image.{image_of};
 ghost use Rattle.ubi_scan.specs.Source.{Narrows, blocks_in};
 ghost use Rattle.ubi_volume.specs.Places.{ArePlacesOf};
-ghost use Rattle.ubi_compose.specs.Compared.{IsSameFault, WhereBothHeld, after_left, after_right};
+ghost use Rattle.ubi_compose.specs.Compared.{IsSameFault, NamesSide, WhereBothHeld, after_left, after_right};
 ghost use Rattle.ubi_compose.specs.Composed.{IsComparison, IsSameError};
 ghost use Rattle.ubi_compose.specs.inner.Comparing.{IsSidesError, OfMeanings, TellsMeaning};
 
@@ -45,6 +45,7 @@ fn same_places<L: BlockSource, R: BlockSource>(
     ensures right_narrows { Narrows (R.agrees right.old) (R.agrees right.new) }
     ensures answer { IfOk result (λ answer. WhereBothHeld (L.agrees left.new) (R.agrees right.new) (λ x y. OfMeanings geometry.now here.now there.now x y (TellsMeaning answer))) }
     ensures failed { IfErr result (IsSidesError (blocks_in geometry.now (L.known left.old)) (blocks_in geometry.now (R.known right.old))) }
+    ensures named { IfErr result (NamesSide geometry.now (L.failed_at left.new) (R.failed_at right.new)) }
 {
     if here.image_seq() != there.image_seq() {
         return Ok(false);
@@ -76,6 +77,7 @@ pub fn same_from<L: BlockSource, R: BlockSource>(
     ensures right_narrows { Narrows (R.agrees right.old) (R.agrees right.new) }
     ensures answer { IfOk result (λ answer. WhereBothHeld (L.agrees left.new) (R.agrees right.new) (λ x y. IsComparison (image_of geometry.now x) (image_of geometry.now y) answer)) }
     ensures refused { IfErr result (IsSameFault geometry.now (L.known left.old) (L.agrees left.new) (R.known right.old) (R.agrees right.new)) }
+    ensures named { IfErr result (NamesSide geometry.now (L.failed_at left.new) (R.failed_at right.new)) }
 {
     let here = match attach_places(alloc, geometry, left) {
         Ok(places) => places,

@@ -8,7 +8,7 @@ ghost use Rattle.ubi_media.specs.Geometry.{leb_size};
 ghost use Rattle.ubi_scan.specs.Source.{Narrows, blocks_in};
 ghost use Rattle.ubi_volume.specs.Extract.{leb_bytes};
 ghost use Rattle.ubi_volume.specs.Places.{ArePlacesOf};
-ghost use Rattle.ubi_compose.specs.Compared.{WhereBothHeld, after_left, after_right};
+ghost use Rattle.ubi_compose.specs.Compared.{NamesSide, WhereBothHeld, after_left, after_right};
 ghost use Rattle.ubi_compose.specs.inner.Comparing.{IsSideRead, OfMeanings, TellsMeaning, TellsVolume};
 
 use crate::errors::SameFault;
@@ -54,6 +54,7 @@ fn same_leb<L: BlockSource, R: BlockSource>(
     ensures right_narrows { Narrows (R.agrees right.old) (R.agrees right.new) }
     ensures answer { IfOk result (λ answer. WhereBothHeld (L.agrees left.new) (R.agrees right.new) (λ x y. IsTrue answer ↔ (leb_bytes geometry.now (length one.old) here x ≡ leb_bytes geometry.now (length one.old) there y))) }
     ensures failed { IfErr result (IsSideRead (blocks_in geometry.now (L.known left.old)) (blocks_in geometry.now (R.known right.old))) }
+    ensures named { IfErr result (NamesSide geometry.now (L.failed_at left.new) (R.failed_at right.new)) }
 {
     if here.is_none() && there.is_none() {
         return Ok(true);
@@ -94,6 +95,7 @@ fn same_volume<L: BlockSource, R: BlockSource>(
     ensures right_narrows { Narrows (R.agrees right.old) (R.agrees right.new) }
     ensures answer { IfOk result (λ answer. WhereBothHeld (L.agrees left.new) (R.agrees right.new) (λ x y. OfMeanings geometry.now here.now there.now x y (TellsVolume id answer))) }
     ensures failed { IfErr result (IsSideRead (blocks_in geometry.now (L.known left.old)) (blocks_in geometry.now (R.known right.old))) }
+    ensures named { IfErr result (NamesSide geometry.now (L.failed_at left.new) (R.failed_at right.new)) }
 {
     let content = here.content(id);
     if !is_alike(content, there.content(id)) {
@@ -139,6 +141,7 @@ pub fn same_volumes<L: BlockSource, R: BlockSource>(
     ensures right_narrows { Narrows (R.agrees right.old) (R.agrees right.new) }
     ensures answer { IfOk result (λ answer. WhereBothHeld (L.agrees left.new) (R.agrees right.new) (λ x y. OfMeanings geometry.now here.now there.now x y (TellsMeaning answer))) }
     ensures failed { IfErr result (IsSideRead (blocks_in geometry.now (L.known left.old)) (blocks_in geometry.now (R.known right.old))) }
+    ensures named { IfErr result (NamesSide geometry.now (L.failed_at left.new) (R.failed_at right.new)) }
 {
     for listed in here.table().entries() {
         let (id, _) = *listed;

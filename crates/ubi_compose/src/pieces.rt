@@ -9,7 +9,7 @@ ghost use Rattle.ubi_media.specs.Record.{rec_fault, usable};
 ghost use Rattle.ubi_scan.specs.Source.{Narrows, WhereHeld};
 ghost use Rattle.ubi_volume.specs.Meant.{share};
 ghost use Rattle.ubi_volume.specs.Wrote.{All, Wrote};
-ghost use Rattle.ubi_compose.specs.Building.{known_after, those};
+ghost use Rattle.ubi_compose.specs.Building.{NamesPart, known_after, those};
 ghost use Rattle.ubi_compose.specs.Built.{pieces_of, text_of};
 ghost use Rattle.ubi_compose.specs.inner.Building.{IsReadable, IsUnbuilt, dynamic_piece, first_pieces, part_bytes, piece_bytes, static_piece};
 
@@ -53,6 +53,7 @@ fn fetch_piece<S: BlockSource>(
     ensures count { IfOk result (λ len. len ≤ usable recipe.now.sizes part.now.entry) }
     ensures bytes { IfOk result (λ len. WhereHeld (S.agrees source.new) (λ bytes. take len (drop recipe.now.sizes.data_offset buffer.new) ≡ share (usable recipe.now.sizes part.now.entry) (text_of bytes part.now) lnum)) }
     ensures failed { IfErr result (λ e. e ≡ BuildError.Read part.now.id done) }
+    ensures named { IfErr result (NamesPart part.now (S.failed_at source.new)) }
 {
     let geometry = recipe.geometry();
     let size = u64::from(part.entry.usable(&geometry));
@@ -97,6 +98,7 @@ fn put_static_piece<S: BlockSource, W: Write>(
     ensures written { IfOk result (Wrote (S.agrees source.new) (W.contents writer.old) (W.contents writer.new) (those (static_piece recipe.now part.now lnum)) All done) }
     ensures most { IfOk result (λ n. n ≤ done + recipe.now.sizes.peb_size) }
     ensures failed { IfErr result (IsUnbuilt recipe.now (S.agrees source.new) (W.contents writer.old) (W.contents writer.new) (those (static_piece recipe.now part.now lnum)) done) }
+    ensures named { IfErr result (NamesPart part.now (S.failed_at source.new)) }
 {
     let geometry = recipe.geometry();
     let len = fetch_piece(recipe, source, part, lnum, buffer, done)?;
@@ -135,6 +137,7 @@ fn put_dynamic_piece<S: BlockSource, W: Write>(
     ensures written { IfOk result (Wrote (S.agrees source.new) (W.contents writer.old) (W.contents writer.new) (those (dynamic_piece recipe.now part.now lnum)) All done) }
     ensures most { IfOk result (λ n. n ≤ done + recipe.now.sizes.peb_size) }
     ensures failed { IfErr result (IsUnbuilt recipe.now (S.agrees source.new) (W.contents writer.old) (W.contents writer.new) (those (dynamic_piece recipe.now part.now lnum)) done) }
+    ensures named { IfErr result (NamesPart part.now (S.failed_at source.new)) }
 {
     let geometry = recipe.geometry();
     let len = fetch_piece(recipe, source, part, lnum, buffer, done)?;
@@ -172,6 +175,7 @@ fn put_piece<S: BlockSource, W: Write>(
     ensures written { IfOk result (Wrote (S.agrees source.new) (W.contents writer.old) (W.contents writer.new) (those (piece_bytes recipe.now part.now lnum)) All done) }
     ensures most { IfOk result (λ n. n ≤ done + recipe.now.sizes.peb_size) }
     ensures failed { IfErr result (IsUnbuilt recipe.now (S.agrees source.new) (W.contents writer.old) (W.contents writer.new) (those (piece_bytes recipe.now part.now lnum)) done) }
+    ensures named { IfErr result (NamesPart part.now (S.failed_at source.new)) }
 {
     match part.entry.kind {
         VolKind::Static => put_static_piece(recipe, source, part, lnum, buffer, writer, done),
@@ -200,6 +204,7 @@ pub fn put_part<S: BlockSource, W: Write>(
     ensures written { IfOk result (Wrote (S.agrees source.new) (W.contents writer.old) (W.contents writer.new) (those (part_bytes recipe.now part.now)) All done) }
     ensures most { IfOk result (λ n. n ≤ done + part.now.entry.reserved * recipe.now.sizes.peb_size) }
     ensures failed { IfErr result (IsUnbuilt recipe.now (S.agrees source.new) (W.contents writer.old) (W.contents writer.new) (those (part_bytes recipe.now part.now)) done) }
+    ensures named { IfErr result (NamesPart part.now (S.failed_at source.new)) }
 {
     let mut total = done;
     for lnum in 0..piece_count(&recipe.geometry(), part) {

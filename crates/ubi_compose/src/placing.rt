@@ -10,7 +10,7 @@ ghost use Rattle.ubi_media.specs.declared.vid.VidRead.TheVariants as vid_read;
 ghost use Rattle.ubi_scan.specs.Image.{block, vid};
 ghost use Rattle.ubi_scan.specs.Source.{Narrows, Source, WhereHeld, blocks_in, blocks_of};
 ghost use Rattle.ubi_scan.specs.inner.Held.{anything};
-ghost use Rattle.ubi_scan.specs.Stream.{after};
+ghost use Rattle.ubi_scan.specs.Stream.{NamesBlock, after};
 ghost use Rattle.ubi_compose.specs.inner.Streaming.{kept_text, laid_text};
 ghost use Rattle.ubi_volume.specs.Wrote.{All, IsWroteError, Wrote};
 
@@ -38,6 +38,7 @@ pub fn fetch<S: BlockSource>(
     ensures narrows { Narrows (S.agrees source.old) (S.agrees source.new) }
     ensures bytes { OnOk result (WhereHeld (S.agrees source.new) (λ bytes. buffer.new ≡ block (blocks_of geometry.now bytes) p)) }
     ensures failed { IfErr result (λ e. e ≡ StreamError.Read p done) }
+    ensures named { IfErr result (NamesBlock geometry.now (S.failed_at source.new)) }
 {
     match source.read(u64::from(p) * u64::from(geometry.peb_size()), buffer) {
         Ok(()) => Ok(()),

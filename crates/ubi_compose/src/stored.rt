@@ -7,7 +7,7 @@ ghost use Rattle.std.specs.FinMap as finite;
 ghost use Rattle.std.specs.Prelude.{◌≡◌, ℕ, ◌+◌, ◌*◌, ◌<◌, ◌≤◌, ◌^◌, IfErr, IfOk, None, Some, length};
 ghost use Rattle.ubi_media.specs.Record.{rec_fault};
 ghost use Rattle.ubi_scan.specs.Source.{Narrows, Source};
-ghost use Rattle.ubi_scan.specs.Stream.{after};
+ghost use Rattle.ubi_scan.specs.Stream.{NamesBlock, after};
 ghost use Rattle.ubi_volume.specs.Places.{ArePlacesOf};
 ghost use Rattle.ubi_volume.specs.declared.places.PlaceContent.TheVariants as place;
 ghost use Rattle.ubi_compose.specs.inner.Streaming.{volume_text};
@@ -46,6 +46,7 @@ fn put_static<S: BlockSource, W: Write>(
     ensures written { IfOk result (Wrote (S.agrees source.new) (W.contents writer.old) (W.contents writer.new) (volume_text geometry.now places.now numbered.now.0) All done) }
     ensures most { IfOk result (λ n. n ≤ done + numbered.now.1.reserved * geometry.now.peb_size) }
     ensures failed { IfErr result (IsWroteError geometry.now (S.known source.old) (S.agrees source.new) (W.contents writer.old) (W.contents writer.new) (volume_text geometry.now places.now numbered.now.0) done) }
+    ensures named { IfErr result (NamesBlock geometry.now (S.failed_at source.new)) }
 {
     let (id, entry) = numbered;
     let PlaceContent::Static { lebs, bytes } = places.content(*id) else {
@@ -92,6 +93,7 @@ fn put_dynamic<S: BlockSource, W: Write>(
     ensures written { IfOk result (Wrote (S.agrees source.new) (W.contents writer.old) (W.contents writer.new) (volume_text geometry.now places.now numbered.now.0) All done) }
     ensures most { IfOk result (λ n. n ≤ done + numbered.now.1.reserved * geometry.now.peb_size) }
     ensures failed { IfErr result (IsWroteError geometry.now (S.known source.old) (S.agrees source.new) (W.contents writer.old) (W.contents writer.new) (volume_text geometry.now places.now numbered.now.0) done) }
+    ensures named { IfErr result (NamesBlock geometry.now (S.failed_at source.new)) }
 {
     let (id, entry) = numbered;
     let size = entry.usable(geometry) as usize;
@@ -132,6 +134,7 @@ pub fn put_volume<S: BlockSource, W: Write>(
     ensures written { IfOk result (Wrote (S.agrees source.new) (W.contents writer.old) (W.contents writer.new) (volume_text geometry.now places.now numbered.now.0) All done) }
     ensures most { IfOk result (λ n. n ≤ done + numbered.now.1.reserved * geometry.now.peb_size) }
     ensures failed { IfErr result (IsWroteError geometry.now (S.known source.old) (S.agrees source.new) (W.contents writer.old) (W.contents writer.new) (volume_text geometry.now places.now numbered.now.0) done) }
+    ensures named { IfErr result (NamesBlock geometry.now (S.failed_at source.new)) }
 {
     let (id, entry) = numbered;
     match places.content(*id) {

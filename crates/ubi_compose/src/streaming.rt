@@ -7,7 +7,7 @@ ghost use Rattle.std.specs.Prelude.{◌≡◌, ◌+◌, ◌<◌, ◌≤◌, ◌^
 ghost use Rattle.ubi_media.specs.Geometry.{leb_size};
 ghost use Rattle.ubi_scan.specs.Image.{IsWholeSize};
 ghost use Rattle.ubi_scan.specs.Source.{Narrows};
-ghost use Rattle.ubi_scan.specs.Stream.{after};
+ghost use Rattle.ubi_scan.specs.Stream.{NamesBlock, after};
 ghost use Rattle.ubi_table.specs.Records.{table_bytes};
 ghost use Rattle.ubi_volume.specs.Places.{ArePlacesOf};
 ghost use Rattle.ubi_compose.specs.inner.Streaming.{normal_text, volumes_text};
@@ -43,6 +43,7 @@ fn put_volumes<S: BlockSource, W: Write>(
     ensures narrows { Narrows (S.agrees source.old) (S.agrees source.new) }
     ensures written { IfOk result (Wrote (S.agrees source.new) (W.contents writer.old) (W.contents writer.new) (volumes_text geometry.now places.now) All done) }
     ensures failed { IfErr result (IsWroteError geometry.now (S.known source.old) (S.agrees source.new) (W.contents writer.old) (W.contents writer.new) (volumes_text geometry.now places.now) done) }
+    ensures named { IfErr result (NamesBlock geometry.now (S.failed_at source.new)) }
 {
     prove!(geometry.peb_size() >= 64);
     let mut total = done;
@@ -74,6 +75,7 @@ fn put_image<S: BlockSource, W: Write>(
     ensures narrows { Narrows (S.agrees source.old) (S.agrees source.new) }
     ensures written { IfOk result (Wrote (S.agrees source.new) (W.contents writer.old) (W.contents writer.new) (normal_text geometry.now places.now) All 0) }
     ensures failed { IfErr result (IsWroteError geometry.now (S.known source.old) (S.agrees source.new) (W.contents writer.old) (W.contents writer.new) (normal_text geometry.now places.now) 0) }
+    ensures named { IfErr result (NamesBlock geometry.now (S.failed_at source.new)) }
 {
     prove!(geometry.peb_size() >= 64);
     let image_seq = places.image_seq();
@@ -102,6 +104,7 @@ pub fn normalise_to<S: BlockSource, W: Write>(
     ensures whole { IfOk result (λ _. IsWholeSize geometry.now (S.known source.old).size) }
     ensures untouched { IfErr result (WhereUnwritten (writer.new ≡ writer.old)) }
     ensures refused { IfErr result (IsNormaliseToError geometry.now (S.known source.old) (S.agrees source.new) (W.contents writer.old) (W.contents writer.new)) }
+    ensures named { IfErr result (NamesBlock geometry.now (S.failed_at source.new)) }
 {
     let places = attach_places(alloc, geometry, source)?;
     let text = places.table().encode(alloc)?;

@@ -1,11 +1,12 @@
 -- A source for tests: what it holds, where it fails, and what it has counted.
-use Rattle.std.specs.Prelude.{◌≡◌, ℕ, ◌+◌, ◌-◌, ◌/◌, ◌%◌, ◌^◌, ◌==◌, Bool, nat_le, nat_lt, List, if◌then◌else◌, Some, length, min, refl, slice_index, slice_set}
+use Rattle.std.specs.Prelude.{◌≡◌, ℕ, ◌+◌, ◌-◌, ◌/◌, ◌%◌, ◌^◌, ◌==◌, Bool, nat_le, nat_lt, List, [], if◌then◌else◌, Some, length, min, refl, slice_index, slice_set}
 use Rattle.std.specs.Coded.{Coded, code_by, coded×, coded_ℕ, coded_list}
 use Rattle.std.proofs.Common.{ap}
-use Rattle.ubi_scan.specs.Source.{IsSource, Source, holds}
+use Rattle.ubi_scan.specs.Source.{IsSource, Reads, Source, holds}
 
--- its bytes, how an eraseblock is cut, the read that fails (0 for none), and how many reads were made, failed, began in
--- each eraseblock, began in the data of each, and went beyond the eraseblock in which they began
+-- its bytes, how an eraseblock is cut, the read that fails (0 for none), how many reads were made and failed, where the last one
+-- began that failed, and how many began in each eraseblock, began in the data of each, and went beyond the eraseblock in which
+-- they began
 pub record Probed : Type 0 where
   pub bytes : List ℕ
   pub peb_size : ℕ
@@ -13,6 +14,7 @@ pub record Probed : Type 0 where
   pub fail_at : ℕ
   pub made : ℕ
   pub failures : ℕ
+  pub failed_at : ℕ
   pub reads : List ℕ
   pub data_reads : List ℕ
   pub crossing : ℕ
@@ -20,9 +22,9 @@ pub record Probed : Type 0 where
 -- how that is stored
 abbrev pub probed_code : Coded Probed
 probed_code =
-    code_by (List ℕ × (ℕ × (ℕ × (ℕ × (ℕ × (ℕ × (List ℕ × (List ℕ × ℕ))))))))
-    (coded× (coded_list coded_ℕ) (coded× coded_ℕ (coded× coded_ℕ (coded× coded_ℕ (coded× coded_ℕ (coded× coded_ℕ (coded× (coded_list coded_ℕ) (coded× (coded_list coded_ℕ) coded_ℕ))))))))
-    (λ p. (p.bytes, (p.peb_size, (p.data_offset, (p.fail_at, (p.made, (p.failures, (p.reads, (p.data_reads, p.crossing)))))))))
+    code_by (List ℕ × (ℕ × (ℕ × (ℕ × (ℕ × (ℕ × (ℕ × (List ℕ × (List ℕ × ℕ)))))))))
+    (coded× (coded_list coded_ℕ) (coded× coded_ℕ (coded× coded_ℕ (coded× coded_ℕ (coded× coded_ℕ (coded× coded_ℕ (coded× coded_ℕ (coded× (coded_list coded_ℕ) (coded× (coded_list coded_ℕ) coded_ℕ)))))))))
+    (λ p. (p.bytes, (p.peb_size, (p.data_offset, (p.fail_at, (p.made, (p.failures, (p.failed_at, (p.reads, (p.data_reads, p.crossing))))))))))
     (λ t. record {
       bytes = t.0;
       peb_size = t.1.0;
@@ -30,9 +32,10 @@ probed_code =
       fail_at = t.1.1.1.0;
       made = t.1.1.1.1.0;
       failures = t.1.1.1.1.1.0;
-      reads = t.1.1.1.1.1.1.0;
-      data_reads = t.1.1.1.1.1.1.1.0;
-      crossing = t.1.1.1.1.1.1.1.1;
+      failed_at = t.1.1.1.1.1.1.0;
+      reads = t.1.1.1.1.1.1.1.0;
+      data_reads = t.1.1.1.1.1.1.1.1.0;
+      crossing = t.1.1.1.1.1.1.1.1.1;
     })
     (λ _. refl)
 
@@ -55,6 +58,10 @@ next_if b n = if b then next n else n
 -- what is known of it
 abbrev pub probe_source : Probed → Source
 probe_source p = record { size = length p.bytes; failures = p.failures; held = Some p.bytes }
+
+-- the reads that it notes: none, since it promises its bytes
+abbrev pub no_reads : Probed → Reads
+no_reads p = []
 
 -- what it holds is as long as its size
 pub probe_sized : (p : Probed) → IsSource (probe_source p) (holds p.bytes)

@@ -18,6 +18,8 @@ pub struct ProbeSource<'a> {
     fail_at: u64,
     made: u64,
     failures: u64,
+    /// Where the last read began that failed, 0 before one has.
+    failed_at: u64,
     /// The reads that begin in each eraseblock.
     reads: Vec<u64>,
     /// Those of them that begin in its data.
@@ -33,7 +35,7 @@ impl<'a> Model for ProbeSource<'a> {
 
     ghost coded = { probed_code };
 
-    ghost view = { λ s. record { bytes = s.bytes.now; peb_size = s.peb_size; data_offset = s.data_offset; fail_at = s.fail_at; made = s.made; failures = s.failures; reads = s.reads.items; data_reads = s.data_reads.items; crossing = s.crossing } };
+    ghost view = { λ s. record { bytes = s.bytes.now; peb_size = s.peb_size; data_offset = s.data_offset; fail_at = s.fail_at; made = s.made; failures = s.failures; failed_at = s.failed_at; reads = s.reads.items; data_reads = s.data_reads.items; crossing = s.crossing } };
 
     ghost invariant = { λ s. 0 < s.peb_size };
 }
@@ -59,7 +61,7 @@ impl<'a> ProbeSource<'a> {
         bytes: &'a [u8],
         fail_at: u64,
     ) -> Result<ProbeSource<'a>, AllocError>
-        ensures { IfOk result (λ s. s ≡ record { bytes = bytes.now; peb_size = geometry.now.peb_size; data_offset = geometry.now.data_offset; fail_at = fail_at; made = 0; failures = 0; reads = replicate (length bytes.now / geometry.now.peb_size + 1) 0; data_reads = replicate (length bytes.now / geometry.now.peb_size + 1) 0; crossing = 0 }) }
+        ensures { IfOk result (λ s. s ≡ record { bytes = bytes.now; peb_size = geometry.now.peb_size; data_offset = geometry.now.data_offset; fail_at = fail_at; made = 0; failures = 0; failed_at = 0; reads = replicate (length bytes.now / geometry.now.peb_size + 1) 0; data_reads = replicate (length bytes.now / geometry.now.peb_size + 1) 0; crossing = 0 }) }
     {
         let peb_size = geometry.peb_size();
         let count = bytes.len() / peb_size as usize + 1;
@@ -70,6 +72,7 @@ impl<'a> ProbeSource<'a> {
             fail_at,
             made: 0,
             failures: 0,
+            failed_at: 0,
             reads: Vec::from_elem(alloc, 0, count)?,
             data_reads: Vec::from_elem(alloc, 0, count)?,
             crossing: 0,
@@ -99,11 +102,15 @@ impl<'a> ProbeSource<'a> {
 }
 
 impl BlockSource for ProbeSource<'_> {
-    ghost use Rattle.std.specs.Prelude.{◌≤◌, slice_range, OnOk, refl};
-    ghost use Rattle.ubi_scan.specs.Source.{Narrows, WhereHeld, after_read, holds};
-    ghost use Rattle.ubi_probe.specs.ProbedSource.{IsCounted, IsSameProbe, probe_sized, probe_source};
+    ghost use Rattle.std.specs.Prelude.{◌≤◌, [], None, Some, slice_range, OnErr, OnOk, refl};
+    ghost use Rattle.ubi_scan.specs.Source.{Narrows, Reads, WhereHeld, after_read, holds, memory_owned, noted};
+    ghost use Rattle.ubi_probe.specs.ProbedSource.{IsCounted, IsSameProbe, no_reads, probe_sized, probe_source};
 
     ghost known = { λ s. probe_source s };
+
+    ghost reads = { λ s. no_reads s };
+
+    ghost failed_at = { λ s. s.failed_at };
 
     ghost agrees = { λ s. holds s.bytes };
 
@@ -114,6 +121,8 @@ impl BlockSource for ProbeSource<'_> {
     fn read(&mut self, at: u64, out: &mut [u8]) -> Result<(), SourceFault>
         requires { at + length out.old ≤ length self.old.bytes }
         ensures known { probe_source self.new ≡ after_read (probe_source self.old) result }
+        ensures noted { Some self.old.bytes ≡ None → no_reads self.new ≡ noted (no_reads self.old) at out.new result }
+        ensures failed { OnErr result (self.new.failed_at ≡ at) }
         ensures narrows { Narrows (holds self.old.bytes) (holds self.new.bytes) }
         ensures bytes { OnOk result (WhereHeld (holds self.new.bytes) (λ bytes. out.new ≡ slice_range bytes at (at + length out.old))) }
         ensures exact { WhereHeld (holds self.old.bytes) (λ bytes. OnOk result (out.new ≡ slice_range bytes at (at + length out.old)) → holds self.new.bytes bytes) }
@@ -133,6 +142,7 @@ impl BlockSource for ProbeSource<'_> {
         self.made = self.made.saturating_add(1);
         if self.made == self.fail_at {
             self.failures = self.failures.saturating_add(1);
+            self.failed_at = at;
             return Err(SourceFault);
         }
         let start = at as usize;
@@ -143,4 +153,6 @@ impl BlockSource for ProbeSource<'_> {
     ghost sized = { λ s. probe_sized s };
 
     ghost promised = { λ s. refl };
+
+    ghost owned = { λ s none. memory_owned s.bytes none };
 }

@@ -16,6 +16,7 @@ pub mod Detections
 pub mod Either
 pub mod Entries
 pub mod ErrorTextVectors
+pub mod FailedReads
 pub mod Filled
 pub mod Finite
 pub mod Held

@@ -58,6 +58,11 @@ after_detecting k _ = k
 abbrev pub IsPlace : ℕ → ℕ → Type 0
 IsPlace n at = (at % unit ≡ 0) × (at + 64 ≤ n)
 
+-- the place of a read that failed is that where it began
+abbrev pub NamesPlace : ℕ → DetectError → Type 0
+NamesPlace at (error.Read place) = place ≡ at
+NamesPlace at _ = Unit {0}
+
 -- the geometries of a source: those of whatever it may hold
 abbrev pub AreGeometriesOf : Source → Agreed → List Sizes → Type 0
 AreGeometriesOf k agrees found = WhereHeld agrees (λ bytes. AreGeometries (starts_of bytes) k.size found)

@@ -1,6 +1,7 @@
 -- What is known of bytes that are read at places.
-use Rattle.std.specs.Prelude.{◌≡◌, ℕ, ◌+◌, ◌-◌, ◌/◌, ◌^◌, List, [], ◌∷◌, length, slice_range, Option, Some, IfSome, Result, Ok, Err, min}
-use Rattle.std.proofs.Common.{ap}
+use Rattle.std.specs.Prelude.{◌≡◌, ◌↔◌, ℕ, ◌+◌, ◌-◌, ◌/◌, ◌^◌, List, [], ◌∷◌, length, slice_range, None, Option, Some, IfSome, Result, Ok, Err, min}
+use Rattle.std.proofs.Common.{ap, sym}
+use Rattle.std.proofs.lemmas.Option.{none-some}
 use Rattle.ubi_media.specs.Geometry.{Sizes}
 use Rattle.ubi_scan.specs.Image.{eraseblocks, image_of}
 
@@ -39,6 +40,15 @@ abbrev pub after_read : {E : Type 0} → Source → Result (Unit {0}) E → Sour
 after_read k (Ok _) = k
 after_read k (Err _) = failed k
 
+-- reads that were answered, the last one first: where each began, and the bytes that it answered
+abbrev pub Reads : Type 0
+Reads = List (ℕ × List ℕ)
+
+-- a read of these bytes is noted where it was answered; one that failed tells nothing
+abbrev pub noted : {E : Type 0} → Reads → ℕ → List ℕ → Result (Unit {0}) E → Reads
+noted reads at bytes (Ok _) = (at, bytes) ∷ reads
+noted reads at bytes (Err _) = reads
+
 -- how many whole eraseblocks a source has
 abbrev pub blocks_in : Sizes → Source → ℕ
 blocks_in s k = k.size / s.peb_size
@@ -60,14 +70,26 @@ pub memory_sized : (bytes : List ℕ) → IsSource (memory bytes) (holds bytes)
 memory_sized bytes = record { sized = λ held is. ap length is }
 
 -- bytes agree with reads, each of which answered some bytes at a place
-abbrev pub AgreesWith : List (ℕ × List ℕ) → List ℕ → Type 0
+abbrev pub AgreesWith : Reads → List ℕ → Type 0
 AgreesWith [] bytes = Unit {0}
 AgreesWith ((at, read) ∷ reads) bytes = (read ≡ slice_range bytes at (at + length read)) × AgreesWith reads bytes
 
 -- a source of some size that is known by its reads: it may hold any bytes with which they agree
-abbrev pub known_by : ℕ → List (ℕ × List ℕ) → Agreed
+abbrev pub known_by : ℕ → Reads → Agreed
 known_by size reads = λ bytes. (length bytes ≡ size) × AgreesWith reads bytes
 
+-- a source may hold just what its size and its reads say
+abbrev pub AreKnownBy : ℕ → Reads → Agreed → Type 0
+AreKnownBy size reads agrees = (bytes : List ℕ) → agrees bytes ↔ known_by size reads bytes
+
+-- memory promises its bytes
+pub memory_owned : (bytes : List ℕ) → Some bytes ≡ None → AreKnownBy (length bytes) [] (holds bytes)
+memory_owned bytes none = absurd (none-some bytes (sym none))
+
+-- what is known of a file by its reads is just that
+pub file_owned : (size : ℕ) (reads : Reads) → AreKnownBy size reads (known_by size reads)
+file_owned size reads = λ bytes. (λ agrees. agrees, λ agrees. agrees)
+
 -- what agrees with reads of a file is as long as its size
-pub file_sized : (k : Source) (reads : List (ℕ × List ℕ)) → IsSource k (known_by k.size reads)
+pub file_sized : (k : Source) (reads : Reads) → IsSource k (known_by k.size reads)
 file_sized k reads = record { sized = λ bytes agrees. agrees.0 }

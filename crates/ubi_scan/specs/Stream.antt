@@ -1,5 +1,5 @@
 -- What a call answers that scans, over bytes or over a source.
-use Rattle.std.specs.Prelude.{ℕ, List, ◌≡◌, ◌<◌, ◌⊎◌, length, Result, Ok, Err, IfSome}
+use Rattle.std.specs.Prelude.{ℕ, List, ◌≡◌, ◌/◌, ◌<◌, ◌⊎◌, length, Result, Ok, Err, IfSome}
 use Rattle.std.specs.FinMap.{get}
 use Rattle.ubi_media.specs.Geometry.{Sizes}
 use Rattle.ubi_media.specs.declared.refusal.AttachError.{AttachError}
@@ -31,6 +31,11 @@ after k (Err e) = after_error k e
 abbrev pub IsReadFault : ℕ → StreamError → Type 0
 IsReadFault n (stream.Read p written) = (p < n) × (written ≡ 0)
 IsReadFault n _ = ⊥
+
+-- the eraseblock of a read that failed, which began at a place, is that in which the place lies
+abbrev pub NamesBlock : Sizes → ℕ → StreamError → Type 0
+NamesBlock s at (stream.Read p written) = p ≡ at / s.peb_size
+NamesBlock s at _ = Unit {0}
 
 -- each eraseblock that a scan tells of is one of n
 pub record LiesWithin (n : ℕ) (found : Found) : Type 0 where

@@ -2,7 +2,7 @@
 
 ghost use Rattle.std.specs.Prelude.{◌≡◌, ◌≢◌, ◌<◌, ◌≤◌, ◌^◌, [], List, IfErr, IfOk, MatchResult, length};
 ghost use Rattle.ubi_media.specs.declared.ec.EcStart.{EcStart};
-ghost use Rattle.ubi_scan.specs.Detected.{AreGeometries, AreGeometriesOf, HasHeader, IsDetectError, IsKnown, IsUndetected, after_detecting};
+ghost use Rattle.ubi_scan.specs.Detected.{AreGeometries, AreGeometriesOf, HasHeader, IsDetectError, IsKnown, IsUndetected, NamesPlace, after_detecting};
 ghost use Rattle.ubi_scan.specs.Fit.{IsPlain, IsSize, block_starts};
 ghost use Rattle.ubi_scan.specs.Source.{Narrows};
 ghost use Rattle.ubi_scan.specs.Starts.{units};
@@ -247,6 +247,7 @@ pub fn detect_from<S: BlockSource>(
     ensures found { IfOk result (λ found. AreGeometriesOf (S.known source.old) (S.agrees source.new) found.items) }
     ensures some { IfOk result (λ found. found.items ≢ []) }
     ensures refused { IfErr result (IsDetectError (S.known source.old) (S.agrees source.new)) }
+    ensures named { IfErr result (NamesPlace (S.failed_at source.new)) }
 {
     let len = source.len();
     if len > LONGEST {

@@ -4,13 +4,13 @@ ghost use Rattle.std.specs.Option.{ForSome};
 ghost use Rattle.std.specs.Prelude.{◌≡◌, ◌+◌, ◌<◌, ◌^◌, [], IfOk, length, true, take};
 ghost use Rattle.ubi_scan.specs.Placed.{IsSourceOf, StandsAt};
 
-use crate::placed::{PlacedFile, SystemFile};
+use crate::placed::{PlacedFile, SystemFile, file_len};
 use crate::source::{BlockSource, SourceFault};
 use crate::trace::Trace;
 use crate::window::Window;
 use std::fs;
 use std::fs::{Files, OpenFile};
-use std::io::{Seek, SeekFrom};
+use std::io::Seek;
 use std::os::unix::fs::FileExt;
 
 /// A source over a file, of the size that the file had when it was opened. Of the bytes of a file of the system no more is
@@ -23,6 +23,8 @@ pub struct FileSource<F: PlacedFile = SystemFile> {
     file: F,
     len: u64,
     failures: u64,
+    /// Where the last read began that failed, 0 before one has.
+    failed_at: u64,
     trace: Trace,
     window: Window,
     // Of a file whose bytes are known, the reads answered those.
@@ -73,6 +75,7 @@ impl<F: PlacedFile> FileSource<F> {
             file,
             len,
             failures: 0,
+            failed_at: 0,
             trace: Trace::new(),
             window: Window::new(),
         }
@@ -99,7 +102,7 @@ impl<F: FileExt + OpenFile + Seek + Drop> FileSource<SystemFile<F>> {
             Ok(metadata) if !metadata.is_dir() => {}
             _ => return Err(SourceFault),
         }
-        match file.seek(SeekFrom::End(0)) {
+        match file_len(&mut file) {
             Ok(len) => Ok(FileSource::of(SystemFile::new(file), len)),
             Err(_) => Err(SourceFault),
         }
@@ -107,10 +110,14 @@ impl<F: FileExt + OpenFile + Seek + Drop> FileSource<SystemFile<F>> {
 }
 
 impl<F: PlacedFile + Drop> BlockSource for FileSource<F> {
-    ghost use Rattle.ubi_scan.specs.Source.{file_sized, known_by};
+    ghost use Rattle.ubi_scan.specs.Source.{file_owned, file_sized, known_by};
     ghost use Rattle.ubi_scan.specs.Promised.{keeps_promise};
 
     ghost known = { λ s. record { size = s.len; failures = s.failures; held = F.bytes s.file } };
+
+    ghost reads = { λ s. s.trace.reads };
+
+    ghost failed_at = { λ s. s.failed_at };
 
     ghost agrees = { λ s. known_by s.len s.trace.reads };
 
@@ -125,10 +132,13 @@ impl<F: PlacedFile + Drop> BlockSource for FileSource<F> {
             return Ok(());
         }
         self.failures = self.failures.saturating_add(1);
+        self.failed_at = at;
         Err(SourceFault)
     }
 
     ghost sized = { λ s. file_sized (record { size = s.len; failures = s.failures; held = F.bytes s.file }) s.trace.reads };
 
     ghost promised = { λ s. keeps_promise (F.bytes s.file) s.len s.trace.reads s.told };
+
+    ghost owned = { λ s _. file_owned s.len s.trace.reads };
 }

@@ -2,11 +2,12 @@
 
 ghost use Rattle.std.specs.Io.{ReadsAtMost};
 ghost use Rattle.std.specs.Option.{ForSome};
-ghost use Rattle.std.specs.Prelude.{◌≡◌, List, ℕ, Option, IfOk, take};
+ghost use Rattle.std.specs.Prelude.{◌≡◌, List, ℕ, Option, IfOk, IfSome, length, take};
 ghost use Rattle.ubi_scan.specs.Placed.{StandsAt};
 
 use std::fs::File;
 use std::io;
+use std::io::{Seek, SeekFrom};
 use std::os::unix::fs::FileExt;
 
 /// A file that is read at places.
@@ -22,6 +23,17 @@ pub trait PlacedFile {
     fn read_from(&self, at: u64, out: &mut [u8]) -> io::Result<usize>
         ensures bound { ReadsAtMost result out.new }
         ensures read { IfOk result (λ n. ForSome (bytes self.now) (λ all. StandsAt all at (take n out.new))) };
+}
+
+/// How many bytes a file has: its position is at its end then.
+///
+/// # Errors
+///
+/// It has no end, or it can't be told where that is.
+pub fn file_len<F: Seek>(file: &mut F) -> io::Result<u64>
+    ensures { IfSome (F.stream_position file.old) (λ _. IfSome (F.stream_bytes file.old) (λ all. IfOk result (λ len. len ≡ length all))) }
+{
+    file.seek(SeekFrom::End(0))
 }
 
 /// A file of the system: other programs may write to it, so that nobody knows what it holds.

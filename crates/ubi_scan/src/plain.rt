@@ -1,7 +1,7 @@
 //! Sources whose eraseblocks plainly have one size: of these only the first two eraseblocks are read unit by unit.
 
 ghost use Rattle.std.specs.Prelude.{◌≡◌, ◌*◌, ◌%◌, ◌<◌, ◌≤◌, ◌^◌, length, IfErr, IfOk, IfSome, OnOk, vec_len};
-ghost use Rattle.ubi_scan.specs.Detected.{after_detecting};
+ghost use Rattle.ubi_scan.specs.Detected.{NamesPlace, after_detecting};
 ghost use Rattle.ubi_scan.specs.Source.{Narrows};
 ghost use Rattle.ubi_scan.specs.Starts.{unit, units};
 ghost use Rattle.ubi_scan.specs.inner.Detecting.{AreFirst, ArePlain, IsReadError};
@@ -53,6 +53,7 @@ pub fn read_plain<S: BlockSource>(
     ensures inside { IfOk result (λ o. IfSome o (λ found. found.0 < units (S.known source.old).size)) }
     ensures plain { IfOk result (λ o. IfSome o (λ found. ArePlain (S.agrees source.new) (S.known source.old).size found.0 found.1.items)) }
     ensures failed { IfErr result (IsReadError (S.known source.old).size) }
+    ensures named { IfErr result (NamesPlace (S.failed_at source.new)) }
 {
     read_to_header(source, starts)?;
     let Some(size) = plain_candidate(starts.as_slice(), source.len()) else {

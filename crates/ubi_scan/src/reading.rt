@@ -6,7 +6,7 @@ ghost use Rattle.ubi_scan.specs.Image.{block, ec, leb, vid};
 ghost use Rattle.ubi_scan.specs.Members.{member};
 ghost use Rattle.ubi_scan.specs.Numbers.{CounterFits};
 ghost use Rattle.ubi_scan.specs.Source.{Narrows, WhereHeld, blocks_in, blocks_of};
-ghost use Rattle.ubi_scan.specs.Stream.{IsReadFault, after};
+ghost use Rattle.ubi_scan.specs.Stream.{IsReadFault, NamesBlock, after};
 
 use crate::errors::StreamError;
 use crate::header::member_of;
@@ -32,6 +32,7 @@ pub fn read_part<S: BlockSource>(
     ensures bytes { OnOk result (WhereHeld (S.agrees source.new) (λ bytes. out.new ≡ slice_range (block (blocks_of geometry.now bytes) p) start (start + length out.old))) }
     ensures failed { IfErr result (IsReadFault (blocks_in geometry.now (S.known source.old))) }
     ensures names { IfErr result (λ e. e ≡ StreamError.Read p 0) }
+    ensures place { OnErr result (S.failed_at source.new ≡ p * geometry.now.peb_size + start) }
 {
     let at = u64::from(p) * u64::from(geometry.peb_size()) + u64::from(start);
     match source.read(at, out) {
@@ -60,6 +61,7 @@ pub fn read_headers<S: BlockSource>(
     ensures counter { IfOk result (λ h. CounterFits h.0) }
     ensures failed { IfErr result (IsReadFault (blocks_in geometry.now (S.known source.old))) }
     ensures names { IfErr result (λ e. e ≡ StreamError.Read p 0) }
+    ensures named { IfErr result (NamesBlock geometry.now (S.failed_at source.new)) }
 {
     let start = geometry.vid_offset() as usize;
     prove!(geometry.data_offset() <= geometry.peb_size());
@@ -89,6 +91,7 @@ pub fn read_member<S: BlockSource>(
     ensures member { IfOk result (λ header. WhereHeld (S.agrees source.new) (λ bytes. header ≡ member geometry.now (block (blocks_of geometry.now bytes) p))) }
     ensures failed { IfErr result (IsReadFault (blocks_in geometry.now (S.known source.old))) }
     ensures names { IfErr result (λ e. e ≡ StreamError.Read p 0) }
+    ensures named { IfErr result (NamesBlock geometry.now (S.failed_at source.new)) }
 {
     let (ec, vid) = read_headers(source, geometry, p, buffer)?;
     Ok(member_of(&ec, &vid))
@@ -112,6 +115,7 @@ pub fn read_leb<S: BlockSource>(
     ensures bytes { OnOk result (WhereHeld (S.agrees source.new) (λ bytes. out.new ≡ slice_range (leb geometry.now (block (blocks_of geometry.now bytes) p)) 0 (length out.old))) }
     ensures failed { IfErr result (IsReadFault (blocks_in geometry.now (S.known source.old))) }
     ensures names { IfErr result (λ e. e ≡ StreamError.Read p 0) }
+    ensures named { IfErr result (NamesBlock geometry.now (S.failed_at source.new)) }
 {
     prove!(geometry.data_offset() <= geometry.peb_size());
     read_part(source, geometry, p, geometry.data_offset(), out)

@@ -8,7 +8,7 @@ ghost use Rattle.ubi_scan.specs.inner.Pass.{IsMeeting};
 ghost use Rattle.ubi_scan.specs.Members.{good_at, is_good, is_right, member_if};
 ghost use Rattle.ubi_scan.specs.Scan.{IsScan};
 ghost use Rattle.ubi_scan.specs.Source.{Narrows, WhereHeld, blocks_in, blocks_of};
-ghost use Rattle.ubi_scan.specs.Stream.{IsScanError, IsReadFault, IsScanOf, IsScanOfError, after};
+ghost use Rattle.ubi_scan.specs.Stream.{IsReadFault, IsScanError, IsScanOf, IsScanOfError, NamesBlock, after};
 
 use crate::blocks::Blocks;
 use crate::candidate::{Candidate, Meeting};
@@ -38,6 +38,7 @@ fn is_right<S: BlockSource>(
     ensures right { IfOk result (λ right. WhereHeld (S.agrees source.new) (λ bytes. right ≡ is_right geometry.now (block (blocks_of geometry.now bytes) p) header.now)) }
     ensures failed { IfErr result (IsReadFault (blocks_in geometry.now (S.known source.old))) }
     ensures names { IfErr result (λ e. e ≡ StreamError.Read p 0) }
+    ensures named { IfErr result (NamesBlock geometry.now (S.failed_at source.new)) }
 {
     let size = header.data_size.min(geometry.leb_size()) as usize;
     prove!(geometry.data_offset() <= geometry.peb_size());
@@ -62,6 +63,7 @@ fn is_good<S: BlockSource>(
     ensures good { IfOk result (λ good. WhereHeld (S.agrees source.new) (λ bytes. good ≡ option_map_or (is_good geometry.now (block (blocks_of geometry.now bytes) p)) (member_if ec.now vid.now) false)) }
     ensures failed { IfErr result (IsReadFault (blocks_in geometry.now (S.known source.old))) }
     ensures names { IfErr result (λ e. e ≡ StreamError.Read p 0) }
+    ensures named { IfErr result (NamesBlock geometry.now (S.failed_at source.new)) }
 {
     match member_of(ec, vid) {
         Some(header) if header.copy_flag => is_right(source, geometry, p, &header, buffer),
@@ -84,6 +86,7 @@ fn is_held_good<S: BlockSource>(
     ensures good { IfOk result (λ good. WhereHeld (S.agrees source.new) (λ bytes. good ≡ unwrap_or held.now.good (good_at geometry.now (blocks_of geometry.now bytes) held.now.peb))) }
     ensures failed { IfErr result (IsReadFault (blocks_in geometry.now (S.known source.old))) }
     ensures names { IfErr result (λ e. e ≡ StreamError.Read held.now.peb 0) }
+    ensures named { IfErr result (NamesBlock geometry.now (S.failed_at source.new)) }
 {
     match held.good {
         Some(good) => Ok(good),
@@ -115,6 +118,7 @@ fn meeting<S: BlockSource>(
     ensures good { IfOk result (λ met. WhereHeld (S.agrees source.new) (λ bytes. IfSome met (IsMeeting geometry.now (blocks_of geometry.now bytes) p ec.now vid.now))) }
     ensures failed { IfErr result (IsReadFault (blocks_in geometry.now (S.known source.old))) }
     ensures names { IfErr result (λ e. (e ≡ StreamError.Read p 0) ⊎ IfSome held (λ c. e ≡ StreamError.Read c.peb 0)) }
+    ensures named { IfErr result (NamesBlock geometry.now (S.failed_at source.new)) }
 {
     let Some(held) = held else {
         return Ok(None);
@@ -144,6 +148,7 @@ fn scan_blocks<S: BlockSource>(
     ensures found { IfOk result (IsScanOf geometry.now (S.known source.old) (S.agrees source.new)) }
     ensures mean { IfOk result (λ found. found.mean_ec ≤ 0x7FFFFFFF) }
     ensures refused { IfErr result (IsScanOfError geometry.now (S.known source.old) (S.agrees source.new)) }
+    ensures named { IfErr result (NamesBlock geometry.now (S.failed_at source.new)) }
 {
     let mut pass = Pass::new(alloc);
     for p in 0..count {
@@ -180,6 +185,7 @@ pub fn scan_from<S: BlockSource>(
     ensures found { IfOk result (IsScanOf geometry.now (S.known source.old) (S.agrees source.new)) }
     ensures mean { IfOk result (λ found. found.mean_ec ≤ 0x7FFFFFFF) }
     ensures refused { IfErr result (IsScanOfError geometry.now (S.known source.old) (S.agrees source.new)) }
+    ensures named { IfErr result (NamesBlock geometry.now (S.failed_at source.new)) }
 {
     let count = block_count(geometry, source.len())?;
     let mut buffer = Vec::from_elem(alloc, 0u8, geometry.peb_size() as usize)?;

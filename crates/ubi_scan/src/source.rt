@@ -1,7 +1,7 @@
 //! Sources: bytes that are read at places, and what is known of them.
 
-ghost use Rattle.std.specs.Prelude.{◌≡◌, ℕ, ◌+◌, ◌≤◌, List, length, slice_range, OnOk};
-ghost use Rattle.ubi_scan.specs.Source.{Agreed, IsSource, MayHold, Narrows, Source, WhereHeld, after_read};
+ghost use Rattle.std.specs.Prelude.{◌≡◌, ℕ, ◌+◌, ◌≤◌, List, None, length, slice_range, OnErr, OnOk};
+ghost use Rattle.ubi_scan.specs.Source.{Agreed, AreKnownBy, IsSource, MayHold, Narrows, Reads, Source, WhereHeld, after_read, noted};
 
 use std::error::Error;
 use std::fmt;
@@ -28,6 +28,12 @@ pub trait BlockSource {
     // Its size, how many of its reads failed, and what it is promised to hold.
     ghost known: { Self → Source };
 
+    // The reads that it has answered, the last one first, where it promises no bytes.
+    ghost reads: { Self → Reads };
+
+    // Where the last of its reads began that failed.
+    ghost failed_at: { Self → ℕ };
+
     // Which bytes it may hold: those with which each read agrees that it has answered.
     ghost agrees: { Self → Agreed };
 
@@ -44,6 +50,8 @@ pub trait BlockSource {
     fn read(&mut self, at: u64, out: &mut [u8]) -> Result<(), SourceFault>
         requires { at + length out.old ≤ (known self.old).size }
         ensures known { known self.new ≡ after_read (known self.old) result }
+        ensures noted { (known self.old).held ≡ None → reads self.new ≡ noted (reads self.old) at out.new result }
+        ensures failed { OnErr result (failed_at self.new ≡ at) }
         ensures narrows { Narrows (agrees self.old) (agrees self.new) }
         ensures bytes { OnOk result (WhereHeld (agrees self.new) (λ bytes. out.new ≡ slice_range bytes at (at + length out.old))) }
         ensures exact { WhereHeld (agrees self.old) (λ bytes. OnOk result (out.new ≡ slice_range bytes at (at + length out.old)) → agrees self.new bytes) };
@@ -53,6 +61,9 @@ pub trait BlockSource {
 
     // The bytes that it is promised to hold are among those that it may hold.
     ghost promised: { (s : Self) → MayHold (known s) (agrees s) };
+
+    // Where it promises none it has no choice: it may hold whatever has its size and agrees with the reads.
+    ghost owned: { (s : Self) → (known s).held ≡ None → AreKnownBy (known s).size (reads s) (agrees s) };
 }
 
 /// A source over bytes in memory. Its reads never fail.
@@ -79,10 +90,14 @@ impl<'a> MemorySource<'a> {
 }
 
 impl BlockSource for MemorySource<'_> {
-    ghost use Rattle.std.specs.Prelude.{refl};
-    ghost use Rattle.ubi_scan.specs.Source.{holds, memory, memory_sized};
+    ghost use Rattle.std.specs.Prelude.{[], refl};
+    ghost use Rattle.ubi_scan.specs.Source.{holds, memory, memory_owned, memory_sized};
 
     ghost known = { λ s. memory s };
+
+    ghost reads = { λ _. [] };
+
+    ghost failed_at = { λ _. 0 };
 
     ghost agrees = { λ s. holds s };
 
@@ -99,4 +114,6 @@ impl BlockSource for MemorySource<'_> {
     ghost sized = { λ s. memory_sized s };
 
     ghost promised = { λ s. refl };
+
+    ghost owned = { λ s none. memory_owned s none };
 }

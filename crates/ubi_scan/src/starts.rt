@@ -3,7 +3,7 @@
 ghost use Rattle.std.specs.Prelude.{◌≡◌, ◌<◌, ◌≤◌, ◌^◌, true, IfErr, IfOk, IfSome, OnOk, max, vec_len};
 ghost use Rattle.std.specs.Int.{div_ceil};
 ghost use Rattle.std.specs.List.{list_all};
-ghost use Rattle.ubi_scan.specs.Detected.{after_detecting};
+ghost use Rattle.ubi_scan.specs.Detected.{NamesPlace, after_detecting};
 ghost use Rattle.ubi_scan.specs.inner.Detecting.{AreAt, AreFirst, IsReadAt, IsReadError};
 ghost use Rattle.ubi_scan.specs.Source.{Narrows, WhereHeld};
 ghost use Rattle.ubi_scan.specs.Starts.{is_header, start_at, units};
@@ -35,6 +35,7 @@ fn read_unit<S: BlockSource>(source: &mut S, u: u64) -> Result<EcStart, DetectEr
     ensures narrows { Narrows (S.agrees source.old) (S.agrees source.new) }
     ensures start { IfOk result (λ start. WhereHeld (S.agrees source.new) (λ bytes. start ≡ start_at bytes u)) }
     ensures failed { IfErr result (IsReadAt (S.known source.old).size) }
+    ensures named { IfErr result (NamesPlace (S.failed_at source.new)) }
 {
     let at = u * UNIT;
     if at + 64 > source.len() {
@@ -65,6 +66,7 @@ pub fn read_more<S: BlockSource>(
     ensures first { OnOk result (AreFirst (S.agrees source.new) starts.new.items (vec_len starts.new)) }
     ensures count { OnOk result (vec_len starts.new ≡ max (vec_len starts.old) end) }
     ensures failed { IfErr result (IsReadError (S.known source.old).size) }
+    ensures named { IfErr result (NamesPlace (S.failed_at source.new)) }
 {
     for u in starts.len() as u64..end {
         let start = read_unit(source, u)?;
@@ -90,6 +92,7 @@ pub fn read_to_header<S: BlockSource>(
     ensures first { OnOk result (AreFirst (S.agrees source.new) starts.new.items (vec_len starts.new)) }
     ensures count { OnOk result (vec_len starts.new ≤ units (S.known source.old).size) }
     ensures failed { IfErr result (IsReadError (S.known source.old).size) }
+    ensures named { IfErr result (NamesPlace (S.failed_at source.new)) }
 {
     for u in 0..source.len().div_ceil(UNIT) {
         let start = read_unit(source, u)?;
@@ -118,6 +121,7 @@ pub fn read_headers_at<S: BlockSource>(
     ensures starts { IfOk result (λ o. IfSome o (λ starts. AreAt (S.agrees source.new) size starts.items (div_ceil (units (S.known source.old).size) size))) }
     ensures headers { IfOk result (λ o. IfSome o (λ starts. list_all is_header starts.items ≡ true)) }
     ensures failed { IfErr result (IsReadError (S.known source.old).size) }
+    ensures named { IfErr result (NamesPlace (S.failed_at source.new)) }
 {
     let mut starts = Vec::new(alloc);
     for i in 0..source.len().div_ceil(UNIT).div_ceil(size) {

@@ -1,7 +1,7 @@
 //! Bytes of a file that were read ahead.
 
 ghost use Rattle.std.specs.Option.{ForSome};
-ghost use Rattle.std.specs.Prelude.{◌≡◌, ◌≤◌, take, true};
+ghost use Rattle.std.specs.Prelude.{◌≡◌, ◌↔◌, ◌-◌, ◌<◌, ◌≤◌, IsTrue, take, true};
 ghost use Rattle.ubi_scan.specs.inner.Ahead.{HoldsAt};
 ghost use Rattle.ubi_scan.specs.Placed.{StandsAt};
 
@@ -72,7 +72,9 @@ impl Window {
     }
 
     /// Whether a read is small, and begins closely after the last one.
-    fn follows(&self, at: u64, len: usize) -> bool {
+    fn follows(&self, at: u64, len: usize) -> bool
+        ensures { IsTrue result ↔ ((len ≤ GAP) × (self.now.next ≤ at) × (at - self.now.next < GAP)) }
+    {
         len as u64 <= GAP && at >= self.next && at - self.next < GAP
     }
 
@@ -81,6 +83,7 @@ impl Window {
     pub fn give<F: PlacedFile>(&mut self, file: &F, at: u64, out: &mut [u8]) -> bool
         requires { ForSome (F.bytes file.now) (λ all. StandsAt all self.old.start (take self.old.filled self.old.bytes)) }
         ensures held { result ≡ true → HoldsAt self.new at out.new }
+        ensures forward { result ≡ true → self.old.next ≤ at }
         ensures told { ForSome (F.bytes file.now) (λ all. StandsAt all self.new.start (take self.new.filled self.new.bytes)) }
     {
         if !self.follows(at, out.len()) {

@@ -7,7 +7,7 @@ ghost use Rattle.ubi_scan.specs.Image.{in_image};
 ghost use Rattle.ubi_scan.specs.Members.{layout};
 ghost use Rattle.ubi_scan.specs.Scan.{IsScan};
 ghost use Rattle.ubi_scan.specs.Source.{Narrows, WhereHeld, blocks_of};
-ghost use Rattle.ubi_scan.specs.Stream.{IsScanOf, after};
+ghost use Rattle.ubi_scan.specs.Stream.{IsScanOf, NamesBlock, after};
 ghost use Rattle.ubi_table.specs.inner.OneCopy.{IsCopyOfError, IsCopyTableOf};
 ghost use Rattle.ubi_table.specs.Records.{HasSpace};
 ghost use Rattle.ubi_table.specs.Stream.{IsTableOf, IsTableOfError, IsTableError};
@@ -55,6 +55,7 @@ fn decided<S: BlockSource>(
     ensures sizes { IfOk result (λ t. IfSome t (λ t. t.sizes ≡ geometry.now)) }
     ensures space { IfOk result (λ t. IfSome t (HasSpace geometry.now)) }
     ensures refused { IfErr result (IsCopyOfError geometry.now (S.known source.old) (S.agrees source.new) c) }
+    ensures named { IfErr result (NamesBlock geometry.now (S.failed_at source.new)) }
 {
     let Some(p) = scan.winner(LAYOUT_VOLUME, c) else {
         return Ok(None);
@@ -92,6 +93,7 @@ fn first_decided<S: BlockSource>(
     ensures narrows { Narrows (S.agrees source.old) (S.agrees source.new) }
     ensures table { IfOk result (IsTableOf geometry.now (S.agrees source.new)) }
     ensures refused { IfErr result (IsTableOfError geometry.now (S.known source.old) (S.agrees source.new)) }
+    ensures named { IfErr result (NamesBlock geometry.now (S.failed_at source.new)) }
 {
     for c in 0..COPIES {
         match decided(alloc, geometry, source, scan, c, buffer)? {
@@ -122,6 +124,7 @@ pub fn choose_from<S: BlockSource>(
     ensures narrows { Narrows (S.agrees source.old) (S.agrees source.new) }
     ensures table { IfOk result (IsTableOf geometry.now (S.agrees source.new)) }
     ensures refused { IfErr result (IsTableOfError geometry.now (S.known source.old) (S.agrees source.new)) }
+    ensures named { IfErr result (NamesBlock geometry.now (S.failed_at source.new)) }
 {
     let count = (source.len() / u64::from(geometry.peb_size())) as u32;
     if is_erased(count, scan) {

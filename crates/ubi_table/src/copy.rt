@@ -5,7 +5,7 @@ ghost use Rattle.ubi_media.specs.Geometry.{leb_size};
 ghost use Rattle.ubi_scan.specs.Image.{in_image};
 ghost use Rattle.ubi_scan.specs.Scan.{IsScan};
 ghost use Rattle.ubi_scan.specs.Source.{Narrows, WhereHeld, blocks_in, blocks_of};
-ghost use Rattle.ubi_scan.specs.Stream.{IsScanOf, after};
+ghost use Rattle.ubi_scan.specs.Stream.{IsScanOf, NamesBlock, after};
 ghost use Rattle.ubi_table.specs.Records.{twice};
 ghost use Rattle.ubi_table.specs.Stream.{HasSizes, IsCopyReadError};
 ghost use Rattle.ubi_table.specs.Table.{CopyIs, copy_of};
@@ -85,6 +85,7 @@ pub fn read_copy_from<S: BlockSource>(
     ensures copy { IfOk result (λ what. WhereHeld (S.agrees source.new) (λ bytes. CopyIs geometry.now (blocks_of geometry.now bytes) c what)) }
     ensures sizes { IfOk result (HasSizes geometry.now) }
     ensures failed { IfErr result (IsCopyReadError (blocks_in geometry.now (S.known source.old))) }
+    ensures named { IfErr result (NamesBlock geometry.now (S.failed_at source.new)) }
 {
     match scan.winner(LAYOUT_VOLUME, c) {
         None => Ok(CopyRead::Absent),

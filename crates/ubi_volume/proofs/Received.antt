@@ -1,5 +1,5 @@
 -- What a writer received piece by piece.
-use Rattle.std.proofs.Common.{◌≡◌, ℕ, ◌+◌, ◌<◌, ◌≤◌, List, [], ◌++◌, length, take, ap, sym, ◌∙◌, subst, arith, length-append, length-take-le}
+use Rattle.std.proofs.Common.{◌≡◌, ℕ, ◌+◌, ◌<◌, ◌≤◌, List, [], ◌++◌, length, take, ap, refl, sym, ◌∙◌, subst, arith, length-append, length-take-le}
 use Rattle.std.specs.Prelude.{Option}
 use Rattle.std.specs.Io.KnownBytes.{Appends}
 use Rattle.std.proofs.KnownBytes.{Appends-nil, Appends-trans}
@@ -24,6 +24,15 @@ module _ (k : Source) (agrees : Agreed) where
     got = Appends-nil a;
     count = omega arith;
     held = λ image h text is. (sym (ap length is), sym (ap (take 0) is));
+  }
+
+  -- nothing was received yet
+  pub wrote_first : (a : Option (List ℕ)) (wanted : Wanted) (n : ℕ) → Wrote agrees a a wanted First n n
+  wrote_first a wanted n = record {
+    bytes = [];
+    got = Appends-nil a;
+    count = omega arith;
+    held = λ image h text is. (omega arith, refl);
   }
 
   -- one text, or the first bytes of it

@@ -7,7 +7,7 @@ ghost use Rattle.ubi_media.specs.Record.{rec_fault};
 ghost use Rattle.ubi_media.specs.declared.vid.VolKind.TheVariants.{Dynamic};
 ghost use Rattle.ubi_scan.specs.Image.{image_of};
 ghost use Rattle.ubi_scan.specs.Source.{Narrows, WhereHeld, blocks_in};
-ghost use Rattle.ubi_scan.specs.Stream.{after};
+ghost use Rattle.ubi_scan.specs.Stream.{NamesBlock, after};
 ghost use Rattle.ubi_volume.specs.Accepts.{IsAttachError, Accepts};
 ghost use Rattle.ubi_volume.specs.Attached.{IsAttached};
 ghost use Rattle.ubi_volume.specs.Extract.{extent_in, read_text};
@@ -142,6 +142,7 @@ pub fn attach_from<S: BlockSource>(
     ensures narrows { Narrows (S.agrees source.old) (S.agrees source.new) }
     ensures attached { IfOk result (IsAttachedOf geometry.now (S.agrees source.new)) }
     ensures refused { IfErr result (ArePlacesError geometry.now (S.known source.old) (S.agrees source.new)) }
+    ensures named { IfErr result (NamesBlock geometry.now (S.failed_at source.new)) }
 {
     let Checked { scan, table, count } = checked_from(alloc, geometry, source)?;
     let states = states_of(alloc, &scan, &table, count)?;
@@ -200,6 +201,7 @@ fn static_text<S: BlockSource>(
     ensures read { IfOk result (λ text. WhereHeld (S.agrees source.new) (λ bytes. (all : List ℕ) → read_text geometry.now places.now id bytes all → text ≡ all)) }
     ensures most { IfOk result (λ text. length text ≤ extent.lebs * extent.size) }
     ensures failed { IfErr result (IsReadFailure (blocks_in geometry.now (S.known source.old))) }
+    ensures named { IfErr result (NamesBlock geometry.now (S.failed_at source.new)) }
 {
     let mut text = Vec::new(alloc);
     match write_places(geometry, source, places, id, extent, buffer, &mut text) {
@@ -230,6 +232,7 @@ fn dynamic_content<S: BlockSource>(
     ensures narrows { Narrows (S.agrees source.old) (S.agrees source.new) }
     ensures content { IfOk result (IsContentOf geometry.now (S.agrees source.new) id entry.now) }
     ensures failed { IfErr result (IsReadFailure (blocks_in geometry.now (S.known source.old))) }
+    ensures named { IfErr result (NamesBlock geometry.now (S.failed_at source.new)) }
 {
     let text = &mut buffer[..entry.usable(geometry) as usize];
     let mut lebs = Lebs::new(alloc);
@@ -259,6 +262,7 @@ fn content_from<S: BlockSource>(
     ensures narrows { Narrows (S.agrees source.old) (S.agrees source.new) }
     ensures content { IfOk result (IsContentOf geometry.now (S.agrees source.new) id entry.now) }
     ensures failed { IfErr result (IsReadFailure (blocks_in geometry.now (S.known source.old))) }
+    ensures named { IfErr result (NamesBlock geometry.now (S.failed_at source.new)) }
 {
     match places.content(id) {
         PlaceContent::Updating => Ok(Content::Updating),
@@ -295,6 +299,7 @@ impl Places {
         ensures narrows { Narrows (S.agrees source.old) (S.agrees source.new) }
         ensures meaning { IfOk result (λ meaning. WhereHeld (S.agrees source.new) (λ bytes. Accepts (image_of geometry.now bytes) meaning)) }
         ensures failed { IfErr result (IsReadFailure (blocks_in geometry.now (S.known source.old))) }
+        ensures named { IfErr result (NamesBlock geometry.now (S.failed_at source.new)) }
     {
         let mut volumes = Vec::new(alloc);
         for listed in self.table().entries() {

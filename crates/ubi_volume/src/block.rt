@@ -7,7 +7,7 @@ ghost use Rattle.ubi_media.specs.Geometry.{leb_size};
 ghost use Rattle.ubi_media.specs.Record.{rec_fault};
 ghost use Rattle.ubi_scan.specs.Image.{block};
 ghost use Rattle.ubi_scan.specs.Source.{Narrows, WhereHeld, blocks_in, blocks_of};
-ghost use Rattle.ubi_scan.specs.Stream.{IsReadFault, after};
+ghost use Rattle.ubi_scan.specs.Stream.{IsReadFault, NamesBlock, after};
 ghost use Rattle.ubi_volume.specs.Amounts.{AmountIs};
 ghost use Rattle.ubi_volume.specs.Extract.{leb_bytes};
 ghost use Rattle.ubi_volume.specs.Places.{ArePlaces, ArePlacesOf};
@@ -39,6 +39,7 @@ pub fn read_place<S: BlockSource>(
     ensures bytes { OnOk result (WhereHeld (S.agrees source.new) (λ bytes. out.new ≡ leb_bytes geometry.now (length out.old) place bytes)) }
     ensures failed { IfErr result (IsReadFault (blocks_in geometry.now (S.known source.old))) }
     ensures names { IfErr result (λ e. (p : ℕ) × (place ≡ Some p) × (e ≡ StreamError.Read p 0)) }
+    ensures named { IfErr result (NamesBlock geometry.now (S.failed_at source.new)) }
 {
     match place {
         Some(p) => read_leb(source, geometry, p, out),
@@ -69,6 +70,7 @@ pub fn is_kept<S: BlockSource>(
     ensures some { IfOk result (λ kept. IsTrue kept → text.new ≢ blank (length text.old)) }
     ensures failed { IfErr result (IsReadFault (blocks_in geometry.now (S.known source.old))) }
     ensures names { IfErr result (λ e. (p : ℕ) × (place ≡ Some p) × (e ≡ StreamError.Read p 0)) }
+    ensures named { IfErr result (NamesBlock geometry.now (S.failed_at source.new)) }
 {
     if place.is_none() {
         return Ok(false);
@@ -97,6 +99,7 @@ pub fn is_blank_part<S: BlockSource>(
     ensures blank { IfOk result (λ b. WhereHeld (S.agrees source.new) (λ bytes. b ≡ is_blank (slice_range (block (blocks_of geometry.now bytes) p) start (start + length buffer.old)))) }
     ensures failed { IfErr result (IsReadFault (blocks_in geometry.now (S.known source.old))) }
     ensures names { IfErr result (λ e. e ≡ StreamError.Read p 0) }
+    ensures named { start < geometry.now.peb_size → IfErr result (NamesBlock geometry.now (S.failed_at source.new)) }
 {
     let front = buffer.len().min(FRONT);
     let (first, rest) = buffer.split_at_mut(front);
@@ -131,6 +134,7 @@ fn holds_bytes<S: BlockSource>(
     ensures holds { IfOk result (λ holds. WhereHeld (S.agrees source.new) (λ bytes. holds ≡ not (is_blank (leb_bytes geometry.now (length buffer.old) place bytes)))) }
     ensures failed { IfErr result (IsReadFault (blocks_in geometry.now (S.known source.old))) }
     ensures names { IfErr result (λ e. (p : ℕ) × (place ≡ Some p) × (e ≡ StreamError.Read p 0)) }
+    ensures named { IfErr result (NamesBlock geometry.now (S.failed_at source.new)) }
 {
     let Some(p) = place else {
         return Ok(false);
@@ -170,6 +174,7 @@ fn count_kept<S: BlockSource>(
     ensures narrows { Narrows (S.agrees source.old) (S.agrees source.new) }
     ensures count { IfOk result (λ count. WhereHeld (S.agrees source.new) (λ bytes. AreKept geometry.now (blocks_of geometry.now bytes) id entry.now entry.now.reserved count)) }
     ensures failed { IfErr result (IsReadFault (blocks_in geometry.now (S.known source.old))) }
+    ensures named { IfErr result (NamesBlock geometry.now (S.failed_at source.new)) }
 {
     let text = &mut buffer[..entry.usable(geometry) as usize];
     let mut count = 0;
@@ -203,6 +208,7 @@ pub fn amount_of<S: BlockSource>(
     ensures narrows { Narrows (S.agrees source.old) (S.agrees source.new) }
     ensures amount { IfOk result (λ amount. WhereHeld (S.agrees source.new) (λ bytes. AmountIs geometry.now places.now id bytes amount)) }
     ensures failed { IfErr result (IsReadFault (blocks_in geometry.now (S.known source.old))) }
+    ensures named { IfErr result (NamesBlock geometry.now (S.failed_at source.new)) }
 {
     match places.content(id) {
         PlaceContent::Updating => Ok(Amount::Updating),

@@ -3,7 +3,7 @@
 ghost use Rattle.std.specs.Prelude.{◌≡◌, ◌+◌, ◌*◌, ◌<◌, ◌≤◌, ◌^◌, IfErr, IfOk, IfSome, Ok, length};
 ghost use Rattle.ubi_media.specs.Geometry.{leb_size};
 ghost use Rattle.ubi_scan.specs.Source.{Narrows, blocks_in};
-ghost use Rattle.ubi_scan.specs.Stream.{after};
+ghost use Rattle.ubi_scan.specs.Stream.{NamesBlock, after};
 ghost use Rattle.ubi_scan.specs.inner.Named.{NamesRead};
 ghost use Rattle.ubi_volume.specs.Extract.{extent_in, read_text};
 ghost use Rattle.ubi_volume.specs.Places.{ArePlacesOf};
@@ -40,6 +40,7 @@ fn write_leb<S: BlockSource, W: Write>(
     ensures count { IfOk result (λ n. n ≡ done + length buffer.old) }
     ensures failed { IfErr result (IsWroteError geometry.now (S.known source.old) (S.agrees source.new) (W.contents writer.old) (W.contents writer.new) (leb_at geometry.now (length buffer.old) place) done) }
     ensures names { IfSome place (λ p. IfErr result (NamesRead p done)) }
+    ensures named { IfErr result (NamesBlock geometry.now (S.failed_at source.new)) }
 {
     match read_place(geometry, source, place, buffer) {
         Ok(()) => {}
@@ -78,6 +79,7 @@ pub fn write_places<S: BlockSource, W: Write>(
     ensures written { IfOk result (Wrote (S.agrees source.new) (W.contents writer.old) (W.contents writer.new) (read_text geometry.now places.now id) All 0) }
     ensures most { IfOk result (λ n. n ≤ extent.lebs * extent.size) }
     ensures failed { IfErr result (IsWroteError geometry.now (S.known source.old) (S.agrees source.new) (W.contents writer.old) (W.contents writer.new) (read_text geometry.now places.now id) 0) }
+    ensures named { IfErr result (NamesBlock geometry.now (S.failed_at source.new)) }
 {
     let mut done = 0;
     for lnum in 0..extent.lebs {

@@ -8,7 +8,7 @@ ghost use Rattle.ubi_media.specs.Record.{rec_fault};
 ghost use Rattle.ubi_media.specs.declared.vid.VolKind.TheVariants.{Static};
 ghost use Rattle.ubi_scan.specs.Image.{Image};
 ghost use Rattle.ubi_scan.specs.Source.{Narrows, WhereHeld, blocks_in, blocks_of};
-ghost use Rattle.ubi_scan.specs.Stream.{after, IsReadFault, IsScanOf};
+ghost use Rattle.ubi_scan.specs.Stream.{IsReadFault, IsScanOf, NamesBlock, after};
 ghost use Rattle.ubi_volume.specs.Extract.{extent_in, extent_len, extent_of, share_len};
 ghost use Rattle.ubi_volume.specs.Places.{ArePlacesError, ArePlacesOf, IsNextPlace, CaseFits, IsReadFailure, ArePlaces};
 ghost use Rattle.ubi_volume.specs.Reading.{volume_len};
@@ -139,6 +139,7 @@ pub fn attach_places<S: BlockSource>(
     ensures narrows { Narrows (S.agrees source.old) (S.agrees source.new) }
     ensures places { IfOk result (ArePlacesOf geometry.now (S.known source.old) (S.agrees source.new)) }
     ensures refused { IfErr result (ArePlacesError geometry.now (S.known source.old) (S.agrees source.new)) }
+    ensures named { IfErr result (NamesBlock geometry.now (S.failed_at source.new)) }
 {
     let Checked { scan, table, .. } = checked_from(alloc, geometry, source)?;
     let mut buffer = Vec::from_elem(alloc, 0u8, geometry.peb_size() as usize)?;
@@ -166,6 +167,7 @@ fn used_ebs<S: BlockSource>(
     ensures narrows { Narrows (S.agrees source.old) (S.agrees source.new) }
     ensures used { IfOk result (λ used. WhereHeld (S.agrees source.new) (λ bytes. UsedIs geometry.now (blocks_of geometry.now bytes) id used)) }
     ensures failed { IfErr result (IsReadFault (blocks_in geometry.now (S.known source.old))) }
+    ensures named { IfErr result (NamesBlock geometry.now (S.failed_at source.new)) }
 {
     match scan.next_winner(id, 0) {
         Some((_, p)) => match read_member(source, geometry, p, buffer)? {
@@ -201,6 +203,7 @@ fn piece_size<S: BlockSource>(
     ensures won { IfOk result (λ size. IsSome size → IsSome (finite.get scan.now.winners (id, lnum))) }
     ensures piece { IfOk result (λ size. WhereHeld (S.agrees source.new) (λ bytes. PieceSizeIs geometry.now (blocks_of geometry.now bytes) id used lnum size)) }
     ensures failed { IfErr result (IsReadFault (blocks_in geometry.now (S.known source.old))) }
+    ensures named { IfErr result (NamesBlock geometry.now (S.failed_at source.new)) }
 {
     let Some(p) = scan.winner(id, lnum) else {
         return Ok(None);
@@ -241,6 +244,7 @@ fn static_case<S: BlockSource>(
     ensures case { IfOk result (λ case. WhereHeld (S.agrees source.new) (λ bytes. CaseIs geometry.now (blocks_of geometry.now bytes) id entry.now case)) }
     ensures fits { IfOk result (CaseFits scan.now.winners id entry.now) }
     ensures failed { IfErr result (IsReadFault (blocks_in geometry.now (S.known source.old))) }
+    ensures named { IfErr result (NamesBlock geometry.now (S.failed_at source.new)) }
 {
     let used = used_ebs(geometry, source, scan, id, buffer)?;
     if used > entry.reserved {
@@ -278,6 +282,7 @@ fn case_of<S: BlockSource>(
     ensures case { IfOk result (λ case. WhereHeld (S.agrees source.new) (λ bytes. CaseIs geometry.now (blocks_of geometry.now bytes) id entry.now case)) }
     ensures fits { IfOk result (CaseFits scan.now.winners id entry.now) }
     ensures failed { IfErr result (IsReadFault (blocks_in geometry.now (S.known source.old))) }
+    ensures named { IfErr result (NamesBlock geometry.now (S.failed_at source.new)) }
 {
     if entry.marker {
         return Ok(PlaceContent::Updating);
@@ -308,6 +313,7 @@ pub fn cases_from<S: BlockSource>(
     ensures numbered { IfOk result (λ cases. AreNumbered scan.now.winners (finite.entries table.now.of) cases.items) }
     ensures cases { IfOk result (λ cases. WhereHeld (S.agrees source.new) (λ bytes. AreCases geometry.now (blocks_of geometry.now bytes) (finite.entries table.now.of) cases.items)) }
     ensures failed { IfErr result (IsReadFailure (blocks_in geometry.now (S.known source.old))) }
+    ensures named { IfErr result (NamesBlock geometry.now (S.failed_at source.new)) }
 {
     let mut cases = Vec::new(alloc);
     for listed in table.entries() {

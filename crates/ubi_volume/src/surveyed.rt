@@ -8,7 +8,7 @@ ghost use Rattle.ubi_scan.specs.Image.{image_of};
 ghost use Rattle.ubi_scan.specs.Scan as scanned;
 ghost use Rattle.ubi_scan.specs.Scan.{IsScan};
 ghost use Rattle.ubi_scan.specs.Source.{Narrows};
-ghost use Rattle.ubi_scan.specs.Stream.{after};
+ghost use Rattle.ubi_scan.specs.Stream.{NamesBlock, after};
 ghost use Rattle.ubi_volume.specs.Accepts.{IsAttachError, IsMismatched, IsVolumeFault, NoMismatch, IsWithin};
 ghost use Rattle.ubi_volume.specs.Attached.{AreStates, IsOutside, StateIs};
 ghost use Rattle.ubi_volume.specs.Places.{ArePlacesError};
@@ -126,6 +126,7 @@ pub fn survey_from<S: BlockSource>(
     ensures narrows { Narrows (S.agrees source.old) (S.agrees source.new) }
     ensures survey { IfOk result (IsSurveyOf geometry.now (S.known source.old) (S.agrees source.new)) }
     ensures refused { IfErr result (ArePlacesError geometry.now (S.known source.old) (S.agrees source.new)) }
+    ensures named { IfErr result (NamesBlock geometry.now (S.failed_at source.new)) }
 {
     let Checked { scan, table, count } = checked_from(alloc, geometry, source)?;
     let states = states_of(alloc, &scan, &table, count)?;
@@ -301,6 +302,7 @@ pub fn checked_from<S: BlockSource>(
     ensures checked { IfOk result (λ c. AreChecked geometry.now (S.known source.old) (S.agrees source.new) c.scan c.table) }
     ensures count { IfOk result (λ c. c.count ≡ length c.scan.states) }
     ensures refused { IfErr result (ArePlacesError geometry.now (S.known source.old) (S.agrees source.new)) }
+    ensures named { IfErr result (NamesBlock geometry.now (S.failed_at source.new)) }
 {
     let scan = scan_from(alloc, geometry, source)?;
     let table = choose_from(alloc, geometry, source, &scan)?;

@@ -40,13 +40,13 @@ fn lie_within(places: &Places, count: usize) -> bool {
 /// is whole eraseblocks, or nothing.
 fn is_sound(alloc: Global, first: &[u8], then: &[u8], left: u64) -> Result<bool, Fail> {
     let geometry = small()?;
-    let mut source = ChangingSource { first, then, left };
+    let mut source = ChangingSource::new(first, then, left);
     let lie = match attach_places(alloc, &geometry, &mut source) {
         Ok(places) => lie_within(&places, first.len() / 512),
         Err(StreamError::Refused(_)) => true,
         Err(_) => false,
     };
-    let mut source = ChangingSource { first, then, left };
+    let mut source = ChangingSource::new(first, then, left);
     let mut writer = ProbeWriter::new(alloc, 32 * 512, 4096, Failure::Nothing)?;
     let is_told = match normalise_to(alloc, &geometry, &mut source, &mut writer) {
         Ok(count) => writer.taken().len() as u64 == count && count >= 1024 && count % 512 == 0,
@@ -100,7 +100,7 @@ fn is_answered<C: Reading>(
     has_to: bool,
 ) -> Result<bool, Fail> {
     let geometry = small()?;
-    let mut source = ChangingSource { first, then, left };
+    let mut source = ChangingSource::new(first, then, left);
     let answer = command.answer(alloc, &geometry, &mut source)?;
     let want = command.answer(alloc, &geometry, &mut MemorySource::new(first))?;
     Ok(is_told(&answer, &want, has_to))
@@ -115,7 +115,7 @@ fn is_compared<'a>(
     left: u64,
 ) -> Result<bool, Fail> {
     let geometry = small()?;
-    let mut source = ChangingSource { first, then, left };
+    let mut source = ChangingSource::new(first, then, left);
     let mut beside = MemorySource::new(first);
     let answer = run_same_from(alloc, &geometry, &mut source, &mut beside)?;
     let want = run_same(alloc, &geometry, first, first)?;
@@ -168,7 +168,7 @@ fn is_edited(alloc: Global, first: &[u8], then: &[u8], left: u64) -> Result<bool
     };
     let nothing = Avoided::new(&[], false);
     let mut pages = Vec::new(alloc);
-    let mut source = ChangingSource { first, then, left };
+    let mut source = ChangingSource::new(first, then, left);
     let mut writer = ProbeWriter::new(alloc, 8192, 1000, Failure::Nothing)?;
     let changed = run_change_from(
         alloc,
@@ -183,7 +183,7 @@ fn is_edited(alloc: Global, first: &[u8], then: &[u8], left: u64) -> Result<bool
     let want = run_change(alloc, &geometry, first, 0, 0, &[0x61; 64], Some(2))?;
     let is_changed = is_written(&changed, writer.taken(), &want, first.len(), left == 99);
     pages.clear();
-    let mut source = ChangingSource { first, then, left };
+    let mut source = ChangingSource::new(first, then, left);
     let mut writer = ProbeWriter::new(alloc, 8192, 1000, Failure::Nothing)?;
     let renamed = run_rename_from(
         alloc,

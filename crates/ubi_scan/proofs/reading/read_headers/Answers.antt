@@ -1,10 +1,11 @@
-use Rattle.std.proofs.Common.{◌≡◌, ◌+◌, ◌≤◌, length, slice_range, length-take-le, ap, sym, ◌∙◌, arith}
+use Rattle.std.proofs.Common.{rules, ◌≡◌, ◌+◌, ◌≤◌, length, slice_range, length-take-le, ap, sym, ◌∙◌, arith}
 use Rattle.ubi_media.specs.Ec.{ec_reading}
 use Rattle.ubi_media.specs.Vid.{vid_reading}
 use Rattle.ubi_scan.specs.Image.{block}
 use Rattle.ubi_scan.specs.Source.{blocks_of}
 use Rattle.ubi_scan.proofs.Counters.{counter_fits}
 use Rattle.ubi_scan.proofs.ReadParts.{front_of_read, part_of_read}
+use Rattle.ubi_scan.proofs.FailedReads.{names_part}
 use Rattle.ubi_scan.proofs.reading.read_headers.Goals as goal
 
 pub returns-clause-ec : goal.returns-clause-ec
@@ -45,3 +46,12 @@ returns-clause-vid g c = λ bytes holds.
 
 pub returns-clause-counter : goal.returns-clause-counter
 returns-clause-counter g c = counter_fits c.args.geometry.now _ c.read_ec-ec.result (sym c.read_ec-ec.ensures.value)
+
+pub returns-in_err-read_part-clause-named : goal.returns-in_err-read_part-clause-named
+returns-in_err-read_part-clause-named g c =
+    let s = c.args.geometry.now in
+    let limits = c.vid_offset-start.ensures.limits in
+    let vid_from = limits.vid_from in
+    let data_from = limits.data_from in
+    let leb = limits.leb in
+    names_part s c.args.p 0 _ c.from_residual.result (omega arith) (search rules) (search rules)

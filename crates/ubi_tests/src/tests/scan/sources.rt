@@ -170,11 +170,7 @@ fn scans_a_source_that_changes(rt: HostRuntime) -> Result<(), Fail> {
     let alloc = rt.alloc();
     let first = image(alloc, &[ERASED, OLD, ERASED])?;
     let then = image(alloc, &[RIGHT, ERASED, WRONG_9])?;
-    let mut source = ChangingSource {
-        first: first.as_slice(),
-        then: then.as_slice(),
-        left: 2,
-    };
+    let mut source = ChangingSource::new(first.as_slice(), then.as_slice(), 2);
     // Eraseblock 1 was a member when its headers were read, and is none when it meets eraseblock 2.
     let found = winner(scan_from(alloc, &geometry()?, &mut source));
     assert!(rt; found.is_some_and(|p| p < 3));

@@ -1,8 +1,9 @@
-use Rattle.std.proofs.Common.{◌≡◌, ◌≤◌, ap, arith, length, sym, ◌∙◌, drop}
+use Rattle.std.proofs.Common.{rules, ◌≡◌, ◌≢◌, ◌+◌, ◌<◌, ◌≤◌, ap, arith, length, sym, ◌∙◌, drop}
 use Rattle.std.proofs.lemmas.Bool.Decides.{nat_tests}
 use Rattle.ubi_media.specs.Fields.{is_blank}
 use Rattle.ubi_scan.specs.Image.{block}
 use Rattle.ubi_scan.specs.Source.{blocks_of}
+use Rattle.ubi_scan.proofs.FailedReads.{names_part}
 use Rattle.ubi_volume.proofs.Blanks.{front_holds, part_first, part_is, rest_holds, rest_of_leb, whole_front}
 use Rattle.ubi_volume.proofs.block.is_blank_part.Goals as goal
 
@@ -49,3 +50,18 @@ returns-clause-blank g c = λ bytes holds.
     c.is_blank-2.ensures
     ∙ sym (ap is_blank (part_is b c.args.start n)
     ∙ rest_holds (drop c.args.start b) c.read_part.new.out n a short first c.read_part-2.new.out (sym c.if-not-is_blank.ensures) rest)
+
+pub returns-in_err-read_part-clause-named : goal.returns-in_err-read_part-clause-named
+returns-in_err-read_part-clause-named g c = λ inside.
+    names_part c.args.geometry.now c.args.p c.args.start _ c.from_residual.result inside (search rules) (search rules)
+
+pub returns-in_err-read_part-2-clause-named : goal.returns-in_err-read_part-2-clause-named
+returns-in_err-read_part-2-clause-named g c = λ inside.
+    let some : length c.split_at_mut-first.result.1.now ≢ 0 = grind (arith, nat_tests, sym c.if-is_empty.ensures) in
+    let within : c.args.start + c.min-front.result < c.args.geometry.now.peb_size = omega (
+      arith,
+      c.requires.part,
+      c.split_at_mut-first.ensures.back_len,
+      some,
+    ) in
+    names_part c.args.geometry.now c.args.p _ _ c.from_residual-in_err-read_part-2.result within (search rules) (search rules)
