@@ -276,9 +276,10 @@ pub fn plan_change_from<S: BlockSource>(
 /// the erase-counter header as they stand.
 ///
 /// The steps touch only the winner of the logical eraseblock, if it has one, and the first of the eraseblocks that may be
-/// taken: one if it has a winner, else two. Once the copy is whole, they erase what is given up (the winner, or the one that
-/// is taken first), unless it can't count another erase by then. Each eraseblock that is erased has at the end a Valid
-/// erase-counter header that counts each erase.
+/// taken: one if it has a winner, else two. An eraseblock that alone names the image, by its image sequence number, isn't taken.
+/// Once the copy is whole, they erase what is given up (the winner, or the one that is taken first), unless it can't count another
+/// erase by then, or alone names the image. Each eraseblock that is erased has at the end a Valid erase-counter header that
+/// counts each erase.
 ///
 /// # Errors
 ///

@@ -15,6 +15,7 @@ pub mod Decimals
 pub mod DynamicPlaces
 pub mod EntriesByNumber
 pub mod Escapes
+pub mod FailedParts
 pub mod Fitting
 pub mod Form
 pub mod Headers

@@ -3,7 +3,7 @@
 //! Each buffer has the size of an eraseblock. `done` is how many bytes were written before, and what is given how many are
 //! written then.
 
-ghost use Rattle.std.specs.Prelude.{◌≡◌, ◌≢◌, ◌+◌, ◌*◌, ◌<◌, ◌≤◌, ◌^◌, Err, IfErr, IfOk, MatchOption, OnOk, length};
+ghost use Rattle.std.specs.Prelude.{◌≡◌, ◌≢◌, ℕ, ◌+◌, ◌*◌, ◌<◌, ◌≤◌, ◌^◌, Err, IfErr, IfOk, MatchOption, OnOk, length};
 ghost use Rattle.ubi_media.specs.Geometry.{leb_size, slots};
 ghost use Rattle.ubi_scan.specs.Image.{image_of};
 ghost use Rattle.ubi_scan.specs.Source.{Narrows, Source, WhereHeld};
@@ -129,6 +129,7 @@ fn put_copy<W: Write>(
     ensures written { IfOk result (Wrote anything (W.contents writer.old) (W.contents writer.new) (those (table_block recipe.now copy)) All done) }
     ensures least { IfOk result (λ n. n ≡ done + recipe.now.sizes.peb_size) }
     ensures failed { IfErr result (IsUnbuilt recipe.now anything (W.contents writer.old) (W.contents writer.new) (those (table_block recipe.now copy)) done) }
+    ensures named { (at : ℕ) → IfErr result (NamesVolume recipe.now at) }
 {
     let (geometry, image_seq) = (recipe.geometry(), recipe.image_seq());
     let header = copy_header(copy);
@@ -156,6 +157,7 @@ fn put_tables<W: Write>(
     ensures written { IfOk result (Wrote anything (W.contents writer.old) (W.contents writer.new) (those (tables_bytes recipe.now)) All 0) }
     ensures most { IfOk result (λ n. n ≤ 2 ^ 25) }
     ensures failed { IfErr result (IsUnbuilt recipe.now anything (W.contents writer.old) (W.contents writer.new) (those (tables_bytes recipe.now)) 0) }
+    ensures named { (at : ℕ) → IfErr result (NamesVolume recipe.now at) }
 {
     prove!(recipe.geometry().peb_size() >= 64);
     let first = put_copy(recipe, 0, text, buffer, writer, 0)?;
@@ -179,6 +181,7 @@ fn put_spares<W: Write>(
     ensures known { (k : Source) → known_after k result ≡ k }
     ensures written { IfOk result (Wrote anything (W.contents writer.old) (W.contents writer.new) (those (spares_bytes recipe.now count)) All done) }
     ensures failed { IfErr result (IsUnbuilt recipe.now anything (W.contents writer.old) (W.contents writer.new) (those (spares_bytes recipe.now count)) done) }
+    ensures named { (at : ℕ) → IfErr result (NamesVolume recipe.now at) }
 {
     lay_spare(buffer, &recipe.geometry(), recipe.image_seq());
     let mut total = done;

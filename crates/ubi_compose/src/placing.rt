@@ -3,7 +3,7 @@
 //! Each buffer has the size of an eraseblock. `done` is how many bytes were written before, and what is given how many are
 //! written then.
 
-ghost use Rattle.std.specs.Prelude.{◌≡◌, ◌+◌, ◌<◌, ◌≤◌, ◌^◌, IfErr, IfOk, OnOk, drop, length, slice_range, take};
+ghost use Rattle.std.specs.Prelude.{◌≡◌, ℕ, ◌+◌, ◌<◌, ◌≤◌, ◌^◌, IfErr, IfOk, OnOk, drop, length, slice_range, take};
 ghost use Rattle.ubi_media.specs.Geometry.{leb_size};
 ghost use Rattle.ubi_media.specs.declared.vid.VidHeader.{VidHeader};
 ghost use Rattle.ubi_media.specs.declared.vid.VidRead.TheVariants as vid_read;
@@ -96,6 +96,7 @@ pub fn put_laid<W: Write>(
     ensures written { IfOk result (Wrote anything (W.contents writer.old) (W.contents writer.new) (laid_text geometry.now image_seq header.now (take len (drop geometry.now.data_offset buffer.old))) All done) }
     ensures least { IfOk result (λ n. n ≡ done + geometry.now.peb_size) }
     ensures failed { IfErr result (λ e. (k : Source) → IsWroteError geometry.now k anything (W.contents writer.old) (W.contents writer.new) (laid_text geometry.now image_seq header.now (take len (drop geometry.now.data_offset buffer.old))) done e) }
+    ensures named { (at : ℕ) → IfErr result (NamesBlock geometry.now at) }
 {
     lay(buffer, geometry, image_seq, header, len);
     match write_all(writer, buffer) {
@@ -125,6 +126,7 @@ pub fn put_kept<W: Write>(
     ensures written { IfOk result (Wrote anything (W.contents writer.old) (W.contents writer.new) (kept_text geometry.now image_seq header.now (take len (drop geometry.now.data_offset buffer.old))) All done) }
     ensures most { IfOk result (λ n. n ≤ done + geometry.now.peb_size) }
     ensures failed { IfErr result (λ e. (k : Source) → IsWroteError geometry.now k anything (W.contents writer.old) (W.contents writer.new) (kept_text geometry.now image_seq header.now (take len (drop geometry.now.data_offset buffer.old))) done e) }
+    ensures named { (at : ℕ) → IfErr result (NamesBlock geometry.now at) }
 {
     let data = geometry.data_offset() as usize;
     prove!(geometry.data_offset() <= geometry.peb_size());
@@ -155,6 +157,7 @@ pub fn put_text<W: Write>(
     ensures written { IfOk result (Wrote anything (W.contents writer.old) (W.contents writer.new) (laid_text geometry.now image_seq header.now text.now) All done) }
     ensures least { IfOk result (λ n. n ≡ done + geometry.now.peb_size) }
     ensures failed { IfErr result (λ e. (k : Source) → IsWroteError geometry.now k anything (W.contents writer.old) (W.contents writer.new) (laid_text geometry.now image_seq header.now text.now) done e) }
+    ensures named { (at : ℕ) → IfErr result (NamesBlock geometry.now at) }
 {
     let data = geometry.data_offset() as usize;
     prove!(geometry.data_offset() <= geometry.peb_size());

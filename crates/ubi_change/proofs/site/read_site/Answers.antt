@@ -1,7 +1,8 @@
-use Rattle.std.proofs.Common.{◌≡◌, ap, refl, ◌∙◌}
+use Rattle.std.proofs.Common.{rules, ◌≡◌, ap, arith, refl, ◌∙◌}
 use Rattle.ubi_scan.specs.Image.{block, ec_area}
 use Rattle.ubi_scan.specs.Numbers.{valid_ec}
 use Rattle.ubi_scan.specs.Source.{blocks_of}
+use Rattle.ubi_scan.proofs.FailedReads.{names_part}
 use Rattle.ubi_change.proofs.Sited.{counter_fits}
 use Rattle.ubi_change.proofs.site.read_site.Goals as goal
 
@@ -22,3 +23,11 @@ returns-clause-site g c =
           let clean = c.in_ok-is_clean.ensures.clean bytes holds in
           rw (read, area, clean) refl;
     }
+
+pub returns-in_err-read_part-clause-named : goal.returns-in_err-read_part-clause-named
+returns-in_err-read_part-clause-named g c =
+    let limits = c.peb_size.ensures.limits in
+    let vid_from = limits.vid_from in
+    let data_from = limits.data_from in
+    let leb = limits.leb in
+    names_part c.args.geometry.now c.args.p 0 _ c.from_residual.result (omega arith) (search rules) (search rules)

@@ -70,3 +70,11 @@ returns-clause-failed g c =
     c.in_ok-normal.ensures.written)
     (unbuilt_narrowed anything agrees (λ bytes holds. tt) ps _ _ _ c.in_ok-normal.normal e h))
     c.put_spares.ensures.failed
+
+pub returns-in_err-front-clause-named : goal.returns-in_err-front-clause-named
+returns-in_err-front-clause-named g c =
+    let from = err_from_is_err_and c.from_residual.result c.from_residual.ensures.1 in
+    rw (from.1, from.2) (c.in_err-front.ensures.named (g.S.BlockSource.failed_at c.args.source.now))
+
+pub returns-clause-named : goal.returns-clause-named
+returns-clause-named g c = c.put_spares.ensures.named (g.S.BlockSource.failed_at c.put_volumes.new.source)

@@ -28,3 +28,8 @@ returns-clause-failed g c =
     (λ e h. back_unbuilt anything (tables_bytes ps) (table_block ps 0) (table_block ps 1) (λ bytes. refl) ps _ _ _ 0
     c.in_ok-first.first e c.in_ok-first.ensures.written h)
     c.put_copy-2.ensures.failed
+
+pub returns-in_err-first-clause-named : goal.returns-in_err-first-clause-named
+returns-in_err-first-clause-named g c = λ at.
+    let from = err_from_is_err_and c.from_residual.result c.from_residual.ensures.1 in
+    rw (from.1, from.2) (c.in_err-first.ensures.named at)

@@ -104,3 +104,8 @@ returns-clause-written g c =
     (first_lebs s p id r c.loop-lnum.from) (volume_text s p id) All c.args.done c.loop-lnum.total
     (dynamic_all s p id r c.requires.recorded c.requires.dynamic c.loop-lnum.from c.loop-lnum.invariant.within
     c.in_default.ensures) c.loop-lnum.invariant.wrote
+
+pub returns-in_err-total-clause-named : goal.returns-in_err-total-clause-named
+returns-in_err-total-clause-named g c =
+    let from = err_from_is_err_and c.from_residual-in_err-total.result c.from_residual-in_err-total.ensures.1 in
+    rw (from.1, from.2) (c.in_err-total.ensures.named (g.S.BlockSource.failed_at c.fetch.new.source))

@@ -105,3 +105,8 @@ returns-clause-written g c =
     All c.args.done c.loop-lnum.total
     (static_all s p id r c.requires.recorded c.requires.sound c.in-Static.lebs c.in-Static.bytes c.in-Static.ensures)
     (rw last at c.loop-lnum.invariant.wrote)
+
+pub returns-in_err-total-clause-named : goal.returns-in_err-total-clause-named
+returns-in_err-total-clause-named g c =
+    let from = err_from_is_err_and c.from_residual-in_err-total.result c.from_residual-in_err-total.ensures.1 in
+    rw (from.1, from.2) (c.in_err-total.ensures.named (g.S.BlockSource.failed_at c.fetch.new.source))

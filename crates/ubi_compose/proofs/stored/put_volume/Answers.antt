@@ -59,3 +59,6 @@ returns-in-Damaged-clause-failed g c =
     (λ image text holds. damaged_text s p c.args.numbered.now.0 c.args.numbered.now.1 c.requires.recorded h is
     c.in-Damaged.ensures image text) (rw c.image_seq-image_seq.ensures at (failed k)))
     c.put_text.ensures.failed
+
+pub returns-in-Damaged-clause-named : goal.returns-in-Damaged-clause-named
+returns-in-Damaged-clause-named g c = c.put_text.ensures.named (g.S.BlockSource.failed_at c.args.source.now)

@@ -49,3 +49,13 @@ returns-clause-failed g c =
     (wrote_narrowed anything agrees (λ bytes holds. tt) _ _ _ All c.in_ok-first.first c.in_ok-second.second
     (rw (c.image_seq-image_seq.ensures, c.copy_header-one.ensures) at c.in_ok-second.ensures.written)) h)
     c.put_volumes.ensures.failed
+
+pub returns-in_err-first-clause-named : goal.returns-in_err-first-clause-named
+returns-in_err-first-clause-named g c =
+    let from = err_from_is_err_and c.from_residual.result c.from_residual.ensures.1 in
+    rw (from.1, from.2) (c.in_err-first.ensures.named (g.S.BlockSource.failed_at c.args.source.now))
+
+pub returns-in_err-second-clause-named : goal.returns-in_err-second-clause-named
+returns-in_err-second-clause-named g c =
+    let from = err_from_is_err_and c.from_residual-in_err-second.result c.from_residual-in_err-second.ensures.1 in
+    rw (from.1, from.2) (c.in_err-second.ensures.named (g.S.BlockSource.failed_at c.args.source.now))
