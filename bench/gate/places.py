@@ -8,8 +8,12 @@ above some size meets each contract. So this looks at the source. A failure may 
 `?` uses on an allocation; out of a failure of the same kind, in an arm of a `match`; and at one of the places in bench/gate/places.txt,
 each the call that reads or writes, or an arm that is told why there. A file of the system may be opened at the places in there too.
 
-A line of bench/gate/places.txt is a file below crates/, a colon, and the text of a line of it, as often as it stands there. Ends with
-'N passed, M failed', and with status 1 where a place isn't listed, or one that is listed isn't there.
+A line of bench/gate/places.txt is a file below crates/, a colon, and the text of a line of it, as often as it stands there.
+
+It also looks which functions are proved by hand, without the steps that Rattle writes of the code: those two that note the reads of a
+source, and no other, since one more could note reads that weren't made.
+
+Ends with 'N passed, M failed', and with status 1 where a place isn't listed, or one that is listed isn't there.
 """
 import re
 import sys
@@ -19,6 +23,8 @@ from pathlib import Path
 ROOT = Path(__file__).resolve().parents[2]
 CRATES = ('ubi_media', 'ubi_config', 'ubi_scan', 'ubi_table', 'ubi_volume', 'ubi_change', 'ubi_compose', 'ubi_commands', 'ubi_tool')
 LISTED = Path(__file__).resolve().with_name('places.txt')
+# The proofs by hand.
+BY_HAND = ('crates/ubi_scan/proofs/trace/Trace/new/Proof.antt', 'crates/ubi_scan/proofs/trace/Trace/note/Proof.antt')
 # What a failure of each kind is called.
 KINDS = {
     'memory': re.compile(r'\b\w+::(Memory|OutOfMemory)\b|\bAllocError\b'),
@@ -67,9 +73,14 @@ def places():
     return found
 
 
+def by_hand():
+    """All proofs by hand."""
+    return Counter(str(path.relative_to(ROOT)) for path in (ROOT / 'crates').glob('*/proofs/**/Proof.antt'))
+
+
 def main():
-    listed = Counter(line for line in LISTED.read_text().splitlines() if line and not line.startswith('#'))
-    found = places()
+    listed = Counter(line for line in LISTED.read_text().splitlines() if line and not line.startswith('#')) + Counter(BY_HAND)
+    found = places() + by_hand()
     for place in found - listed:
         print(f'not listed: {place}')
     for place in listed - found:

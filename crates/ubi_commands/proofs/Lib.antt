@@ -22,6 +22,7 @@ pub mod ListedLines
 pub mod Marked
 pub mod Masked
 pub mod Normalised
+pub mod OpensAtPlaces
 pub mod Outcomes
 pub mod Planned
 pub mod RequestsOf

@@ -74,6 +74,11 @@ none_unpacked (Err x) e path d none same = refl
 none_unpacked (Ok text) (Ok x) path d none same = absurd (none x refl)
 none_unpacked (Ok text) (Err x) path d none same = absurd cc
 
+-- a volume of which it is known how many bytes it reads can be read
+pub can_read : (r : Result (List ℕ) ReadError) (n : ℕ) → Ok n ≡ result_map_both length (λ (x : ReadError). x) r
+    → (text : List ℕ) × (r ≡ Ok text)
+can_read r n is = let t = has_text r n is in (t.0, t.1)
+
 -- what a volume reads was written to its file
 module _ (s : Sizes) (agrees : Agreed) (bytes : List ℕ) (holds : agrees bytes) (p : Placed) (h : ArePlaces (image_of s bytes) p)
     (id len : ℕ) (is : Ok len ≡ volume_len h.meaning id) (old new : Option (List ℕ)) (n : ℕ) where
@@ -103,13 +108,14 @@ module _ (read : ℕ → Result (List ℕ) ReadError) (dir : List ℕ) (es : Lis
       (are_more read dir (take i es) e old between new before
       (subst (λ (p : List ℕ). IsUnpacked (read e.0) p between new) named is))
 
-  pub next_unwritten : OthersStay between new path → (x : Listed) × AreUnpackedUntil read dir es i x old new
-  next_unwritten others = (
+  pub next_unwritten : (text : List ℕ) × (read e.0 ≡ Ok text) → OthersStay between new path → (x : Listed) × AreUnpackedUntil read dir es i x old new
+  next_unwritten readable others = (
     e,
     record {
       next = slice_get_read es (length es) i e refl inside (sym here);
       between = between;
       before = before;
+      readable = readable;
       others = subst (OthersStay between new) named others;
     },
   )

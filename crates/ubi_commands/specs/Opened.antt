@@ -20,6 +20,11 @@ IsOpened is d path numbers (image.AtPlaces file) =
 IsOpened is d path numbers (image.Whole file) =
     (file.geometry ≡ sizes_of numbers) × IsRead (sizes_of numbers) file.bytes.items × IsJudgedOf d path (sizes_of numbers) file.bytes.items
 
+-- it was opened at places
+abbrev pub IsAtPlaces : {S : Type 0} → OpenImage S → Type 0
+IsAtPlaces (image.AtPlaces file) = Unit {0}
+IsAtPlaces (image.Whole file) = ⊥
+
 -- something holds where it was opened at places
 abbrev pub WhereAtPlaces : {S : Type 0} → Type 0 → OpenImage S → Type 0
 WhereAtPlaces fact (image.AtPlaces file) = fact

@@ -75,12 +75,13 @@ AreUnpacked read dir [] old new = new ≡ old
 AreUnpacked read dir (e ∷ es) old new =
     (between : Files) × IsUnpacked (read e.0) (file_path dir e) old between × AreUnpacked read dir es between new
 
--- the volumes before the one at a place were unpacked, and then no other file was written than that volume's
+-- the volumes before the one at a place were unpacked, that one can be read, and then no other file was written than its own
 pub record AreUnpackedUntil (read : ℕ → Result (List ℕ) ReadError) (dir : List ℕ) (es : List Listed) (i : ℕ) (e : Listed) (old new : Files)
     : Type 0 where
   pub next : slice_get es i ≡ Some e
   pub between : Files
   pub before : AreUnpacked read dir (take i es) old between
+  pub readable : (text : List ℕ) × (read e.0 ≡ Ok text)
   pub others : OthersStay between new (file_path dir e)
 
 -- what the command answers of an image, and what becomes of the files: the lines of the volumes, which are unpacked; the

@@ -1,6 +1,6 @@
 //! Files by their paths, as the commands see them.
 
-ghost use Rattle.std.specs.Prelude.{◌≡◌, ◌≢◌, IfErr, IfOk, IfSome, None, OnErr, true};
+ghost use Rattle.std.specs.Prelude.{◌≡◌, ◌≢◌, ℕ, Bool, IfErr, IfOk, IfSome, List, None, OnErr, false, true};
 ghost use Rattle.ubi_commands.specs.Disk.{Files, IsKept, OthersStay, fresh};
 
 use crate::file_row::SizedFile;
@@ -60,15 +60,20 @@ pub trait Disk {
     // Whether it is known what files receive doesn't change.
     ghost same_telling: { (a b : Self) → (files a).tells ≡ (files b).tells };
 
+    // At which paths it is known that there is a file which can be opened.
+    ghost opens: { Self → List ℕ → Bool };
+
     /// The file at a path, to be read at places; or none where it can't be read so.
     fn placed_at(&self, path: &str) -> Option<SizedFile<Self::Placed>>
-        ensures { IfSome result (λ f. Self.Placed.bytes f.file ≡ (files self.now).holds path.now) };
+        ensures named { IfSome result (λ f. Self.Placed.bytes f.file ≡ (files self.now).holds path.now) }
+        ensures none { result ≡ None → opens self.now path.now ≡ false };
 
     /// The file at a path, to be read at places while the file at `out` is written; or none where it can't be read so, or both
     /// may be one file.
     fn placed_beside(&self, path: &str, out: &str) -> Option<SizedFile<Self::Placed>>
         ensures named { IfSome result (λ f. Self.Placed.bytes f.file ≡ (files self.now).holds path.now) }
-        ensures apart { IfSome result (λ _. path.now ≢ out.now) };
+        ensures apart { IfSome result (λ _. path.now ≢ out.now) }
+        ensures none { path.now ≢ out.now → result ≡ None → opens self.now path.now ≡ false };
 
     /// Whether what is written to the second path may be written into the file at the first.
     fn may_be_one(&self, path: &str, other: &str) -> bool
@@ -85,7 +90,8 @@ pub trait Disk {
     /// Read where it can't be opened, and where it has no end.
     fn whole(&self, path: &str) -> Result<WholeFile<Self::Reader>, ToolError>
         ensures named { IfOk result (λ f. IfSome ((files self.now).holds path.now) (λ all. Self.Reader.remaining f.reader ≡ Some all)) }
-        ensures err { IfErr result (λ e. e ≡ ToolError.Read) };
+        ensures err { IfErr result (λ e. e ≡ ToolError.Read) }
+        ensures none { OnErr result (opens self.now path.now ≡ false) };
 
     /// Opens the file at a path anew: what it held is lost, and nothing is known of it until [`keep`](Self::keep) closes it.
     ///

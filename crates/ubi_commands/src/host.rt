@@ -54,7 +54,7 @@ impl<R: Files> Disk for Host<'_, R>
 where
     R::File: FileExt,
 {
-    ghost use Rattle.std.specs.Prelude.{None, refl};
+    ghost use Rattle.std.specs.Prelude.{None, false, refl};
     ghost use Rattle.ubi_commands.specs.Disk.{IsKept, untold};
 
     type Placed = SystemFile<R::File>;
@@ -66,6 +66,8 @@ where
     ghost files = { λ _. untold };
 
     ghost same_telling = { λ a b. refl };
+
+    ghost opens = { λ _ _. false };
 
     fn placed_at(&self, path: &str) -> Option<SizedFile<SystemFile<R::File>>> {
         placed_at(self.rt, path)

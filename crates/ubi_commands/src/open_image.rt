@@ -1,11 +1,11 @@
 //! Image files that are opened: to be read at places where they can be, and else read whole.
 
-ghost use Rattle.std.specs.Prelude.{◌≡◌, ◌≢◌, ℕ, IfErr, IfOk, List, None};
+ghost use Rattle.std.specs.Prelude.{◌≡◌, ◌≢◌, ℕ, [], IfErr, IfOk, IfSome, IsOkAnd, List, None, true};
 ghost use Rattle.ubi_media.specs.Limits.{first_broken};
 ghost use Rattle.ubi_commands.specs.Disk.{IsJudgedOf};
 ghost use Rattle.ubi_commands.specs.Dump.{marks_of, seen, viewed};
 ghost use Rattle.ubi_commands.specs.Numbers.{sizes_of};
-ghost use Rattle.ubi_commands.specs.Opened.{IsOpened, IsUnreadOf, WhereAtPlaces};
+ghost use Rattle.ubi_commands.specs.Opened.{IsAtPlaces, IsOpened, IsUnreadOf, WhereAtPlaces};
 ghost use Rattle.ubi_commands.specs.Program.{IsRead, IsUnread, Tells};
 
 use crate::bad_blocks::bad_marks;
@@ -132,6 +132,7 @@ pub fn open_image<'f, D: Disk>(
     path: &str,
 ) -> Result<OpenImage<DumpSource<'f, D::Placed>>, Unread>
     ensures opened { IfOk result (IsOpened (λ s. IsUnreadOf (seen frame.now.dump (D.files disk.now)) path.now (viewed s.file.size s.file.marks.now (D.Placed.bytes s.file.file.file)) s.failures) (seen frame.now.dump (D.files disk.now)) path.now frame.now.dump.numbers) }
+    ensures opens { D.opens disk.now path.now ≡ true → IfSome ((D.files disk.now).holds path.now) (λ all. all ≢ [] → IsOkAnd result IsAtPlaces) }
     ensures unread { IfErr result (Tells (IsUnread frame.now.dump.numbers path.now)) }
 {
     match disk.placed_at(path) {
@@ -156,6 +157,7 @@ pub fn open_beside<'f, D: Disk>(
 ) -> Result<OpenImage<DumpSource<'f, D::Placed>>, Unread>
     ensures opened { IfOk result (IsOpened (λ s. IsUnreadOf (seen frame.now.dump (D.files disk.now)) path.now (viewed s.file.size s.file.marks.now (D.Placed.bytes s.file.file.file)) s.failures) (seen frame.now.dump (D.files disk.now)) path.now frame.now.dump.numbers) }
     ensures apart { IfOk result (WhereAtPlaces (path.now ≢ out.now)) }
+    ensures opens { D.opens disk.now path.now ≡ true → path.now ≢ out.now → IfSome ((D.files disk.now).holds path.now) (λ all. all ≢ [] → IsOkAnd result IsAtPlaces) }
     ensures unread { IfErr result (Tells (IsUnread frame.now.dump.numbers path.now)) }
 {
     match disk.placed_beside(path, out) {

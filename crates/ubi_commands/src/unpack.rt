@@ -2,7 +2,7 @@
 
 ghost use Rattle.std.specs.FinMap as finite;
 ghost use Rattle.std.specs.List.{flat_map};
-ghost use Rattle.std.specs.Prelude.{◌≡◌, ◌≢◌, ◌++◌, ◌<◌, ℕ, Err, IfErr, IfOk, IfSome, List, OnErr, OnOk, codes, if◌then◌else◌, is_ok, length, string_bytes};
+ghost use Rattle.std.specs.Prelude.{◌≡◌, ◌≢◌, ◌++◌, ◌<◌, ℕ, Err, IfErr, IfOk, IfSome, List, Ok, OnErr, OnOk, codes, if◌then◌else◌, is_ok, length, string_bytes};
 ghost use Rattle.ubi_scan.specs.Image.{image_of};
 ghost use Rattle.ubi_scan.specs.Source.{Narrows, WhereHeld};
 ghost use Rattle.ubi_volume.specs.Extract.{extent_in, extent_len};
@@ -188,6 +188,7 @@ fn unpack_volume<D: Disk, S: BlockSource>(
     ensures known { S.known source.new ≡ after_run (S.known source.old) result }
     ensures narrows { Narrows (S.agrees source.old) (S.agrees source.new) }
     ensures unpacked { OnOk result (WhereHeld (S.agrees source.new) (λ bytes. (h : ArePlaces (image_of geometry.now bytes) places.now) → IsUnpacked (read_volume h.meaning id) path.now (D.files disk.old) (D.files disk.new))) }
+    ensures readable { result ≡ Err ToolError.Write → WhereHeld (S.agrees source.new) (λ bytes. (h : ArePlaces (image_of geometry.now bytes) places.now) → (text : List ℕ) × (read_volume h.meaning id ≡ Ok text)) }
     ensures others { OthersStay (D.files disk.old) (D.files disk.new) path.now }
     ensures failed { IfErr result (λ e. e ≢ ToolError.Memory) }
 {

@@ -1,7 +1,7 @@
 use Rattle.std.proofs.Common.{ap, sym, ◌∙◌}
 use Rattle.ubi_volume.specs.Extract.{extent_len}
 use Rattle.ubi_commands.proofs.Outcomes.{kept_after}
-use Rattle.ubi_commands.proofs.Unpacked.{all_unpacked, none_unpacked}
+use Rattle.ubi_commands.proofs.Unpacked.{all_unpacked, can_read, none_unpacked}
 use Rattle.ubi_commands.proofs.unpack.unpack_volume.Goals as goal
 
 pub returns-in_default-clause-unpacked : goal.returns-in_default-clause-unpacked
@@ -15,3 +15,11 @@ returns-in-Ok-work-clause-unpacked g c = λ bytes holds h.
     (g.D.Disk.files c.args.disk.now) (g.D.Disk.files c.keep.new.self) c.args.path.now c.in-Ok-create_new.ensures.fresh
     (kept_after _ (g.D.Disk.files c.create_new.new.self) _ _ _ c.in-Ok-create_new.ensures.others
     (rw c.in-Ok-create_new.ensures.path at c.keep.ensures))
+
+pub returns-in_default-create_new-clause-readable : goal.returns-in_default-create_new-clause-readable
+returns-in_default-create_new-clause-readable g c = λ is bytes holds h.
+    can_read _ _ (ap extent_len (sym c.in-Ok.is) ∙ c.extent.ensures.meant _ h)
+
+pub returns-in-Err-Write-clause-readable : goal.returns-in-Err-Write-clause-readable
+returns-in-Err-Write-clause-readable g c = λ is bytes holds h.
+    can_read _ _ (ap extent_len (sym c.in-Ok.is) ∙ c.extent.ensures.meant _ h)

@@ -1,4 +1,5 @@
 use Rattle.std.proofs.Common.{◌≡◌, ◌<◌, ◌≤◌, ◌∙◌, List, ap, arith, get_or, length, subst, sym}
+use Rattle.std.specs.Prelude.{Err}
 use Rattle.std.specs.FinMap as finite
 use Rattle.std.proofs.lemmas.List.{take_all}
 use Rattle.ubi_scan.specs.Source.{Source}
@@ -63,7 +64,8 @@ returns-in-Err-Write g c =
       narrows = λ bytes holds. c.loop-i.invariant.narrows bytes (c.in-Err-Write.ensures.narrows bytes holds);
       ends = λ bytes holds h.
           next_unwritten (read_volume h.meaning) dir es i e path old between new inside here named
-          (c.loop-i.invariant.unpacked bytes (c.in-Err-Write.ensures.narrows bytes holds) h) c.in-Err-Write.ensures.others;
+          (c.loop-i.invariant.unpacked bytes (c.in-Err-Write.ensures.narrows bytes holds) h)
+          (c.in-Err-Write.ensures.readable (ap Err c.in-Err-Write.field-0-is) bytes holds h) c.in-Err-Write.ensures.others;
       place = inside;
       outside = outside_more dir e path old between new named c.loop-i.invariant.outside c.in-Err-Write.ensures.others;
       failed = tt;
