@@ -21,6 +21,3 @@ fault_reserving s section n some small =
 
 pub parts_hold : (bytes part : ℕ) → 1 ≤ part → bytes ≤ parts_of bytes part * part
 parts_hold bytes part some = (div_ceil_times bytes part some).0
-
-pub some_parts : (bytes part : ℕ) → 1 ≤ part → 1 ≤ bytes → 1 ≤ parts_of bytes part
-some_parts bytes part some more = grind (arith, parts_hold bytes part some)
