@@ -3,8 +3,8 @@
 
 usage: builds.py [--seed N] [--count N] [--first N] [--dir FOLDER] [--tool PROGRAM]
 
-A config describes random volumes: static, dynamic, aligned ones, one that grows, and empty ones, over files of all lengths, some of
-which are 0xFF at their end or throughout. Its keys stand in a random order and case, its values with and without quotes and
+A config describes random volumes: static, dynamic, aligned ones, one that grows, some whose check is skipped, and empty ones, over files
+of all lengths, some of which are 0xFF at their end or throughout. Its keys stand in a random order and case, its values with and without quotes and
 remarks. Two of three configs are then changed up to three times: a line, a byte, a value or a name. Of each config `build`, also with spares
 and an image sequence number, has to print the line of the first cause and write nothing; or to write what the rules give, byte for
 byte. Then `unpack` of that gives what the files hold, and 0xFF behind it.
@@ -49,7 +49,7 @@ class Writer:
 
     def bytes(self):
         rng, leb = self.rng, self.geometry.leb
-        size = rng.choice((1, leb - 1, leb, leb + 1, 2 * leb, rng.randrange(1, 3 * leb)))
+        size = rng.choice((0, 1, leb - 1, leb, leb + 1, 2 * leb, rng.randrange(1, 3 * leb)))
         blank = rng.choice((0, 0, size // 2, size))
         return rng.randbytes(size - blank) + b"\xFF" * blank
 
@@ -57,6 +57,11 @@ class Writer:
         rng = self.rng
         quote = rng.choice(("", "", "\"", "\'"))
         return f"{quote}{value}{quote}{rng.choice(('', '', ' # x', ';x'))}"
+
+    def flags(self, number, kind):
+        if number == self.grows:
+            return "autoresize"
+        return self.rng.choice((None, "skip-check")) if kind == "static" or self.rng.random() < 0.05 else None
 
     def section(self, place, number):
         rng, geometry = self.rng, self.geometry
@@ -68,7 +73,7 @@ class Writer:
         size = rng.choice((None, 0, 1, geometry.leb, 2 * geometry.leb)) if data is not None else rng.randrange(1, 3 * geometry.leb)
         size = size if size is None or data is None else len(data) + size
         keys = {"mode": "ubi", "vol_id": number, "vol_name": f"name{place}", "vol_type": kind, "vol_alignment": alignment, "vol_size": size,
-            "image": None if data is None else f"v{place}", "vol_flags": "autoresize" if number == self.grows else None}
+            "image": None if data is None else f"v{place}", "vol_flags": self.flags(number, kind)}
         said = [(key, value) for key, value in keys.items() if value is not None]
         rng.shuffle(said)
         yield f"[{rng.choice(('volume', ' Volume'))}{place}]"

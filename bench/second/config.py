@@ -16,6 +16,7 @@ NUMBER = re.compile(rb"0|[1-9][0-9]*")
 SIZE = re.compile(rb"(0|[1-9][0-9]*)(?:[ \t]*(KiB|MiB|GiB))?")
 UNITS = {None: 1, b"KiB": 1024, b"MiB": 1048576, b"GiB": 1073741824}
 KINDS = {b"dynamic": 1, b"static": 2}
+AUTORESIZE, SKIP_CHECK = 1, 2
 
 
 @dataclasses.dataclass
@@ -97,7 +98,7 @@ KEYS = {
     "vol_size": size,
     "vol_type": one_of(KINDS),
     "vol_name": name,
-    "vol_flags": one_of({b"autoresize": 1}),
+    "vol_flags": one_of({b"autoresize": AUTORESIZE, b"skip-check": SKIP_CHECK}),
     "vol_alignment": number,
 }
 
@@ -154,7 +155,7 @@ def begin(sections, line, title):
     sections.append(Section(line, title))
 
 
-ONCE = {"vol_id": "I9 SameId", "vol_name": "I10 SameName", "vol_flags": "I11 Autoresize"}
+ONCE = {"vol_id": "I9 SameId", "vol_name": "I10 SameName"}
 
 
 def add(sections, key, value):
@@ -165,6 +166,8 @@ def add(sections, key, value):
         raise Fault("I7 Again")
     if key in ONCE and value in (section.values.get(key) for section in sections):
         raise Fault(ONCE[key])
+    if key == "vol_flags" and value == AUTORESIZE and value in (section.flags for section in sections):
+        raise Fault("I11 Autoresize")
     sections[-1].values[key] = value
 
 
@@ -190,6 +193,15 @@ def lacks(section):
     return None
 
 
+def lack(section):
+    """What a section lacks, or can't have, as it is printed."""
+    if lacks(section):
+        return f"I12 Missing {lacks(section)}"
+    if section.flags == SKIP_CHECK and section.kind != KINDS[b"static"]:
+        return "I18 SkipCheck"
+    return None
+
+
 def read_config(text):
     """The sections of a config, or its first fault."""
     sections = []
@@ -200,15 +212,15 @@ def read_config(text):
         except Fault as fault:
             return line, str(fault)
     for section in sections:
-        if lacks(section):
-            return section.line, f"I12 Missing {lacks(section)}"
+        if lack(section):
+            return section.line, lack(section)
     return sections or (1, "I6 NoSection")
 
 
 def record(section, geometry, image_len):
     """The record of a section's volume, where its image file has so many bytes (None: it names none)."""
     kept = section.size if section.size is not None else image_len
-    if image_len == 0:
+    if image_len == 0 and section.kind != KINDS[b"static"]:
         raise Refused("I13 Empty")
     if image_len is not None and image_len > kept:
         raise Refused("I14 LongImage")
@@ -221,7 +233,7 @@ def record(section, geometry, image_len):
         if not holds:
             raise Refused(f"I15 Record {rule}")
     usable = geometry.leb - geometry.leb % section.alignment
-    reserved = -(-kept // usable)
+    reserved = max(1, -(-kept // usable))
     if reserved >= 2**31:
         raise Refused("I16 TooLarge")
     if section.id >= geometry.slots:

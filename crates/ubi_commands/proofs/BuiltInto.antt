@@ -9,12 +9,12 @@ use Rattle.ubi_scan.specs.Source.{Agreed, Source, known_by}
 use Rattle.ubi_config.specs.Config.{first_fault, sections_of}
 use Rattle.ubi_config.specs.declared.section.Section.{Section}
 use Rattle.ubi_volume.specs.Wrote.{All, Wrote}
-use Rattle.ubi_compose.specs.Building.{IsBuildError, WhereNotBegun, image_built, known_after}
-use Rattle.ubi_compose.specs.Built.{Parts}
+use Rattle.ubi_compose.specs.Building.{CanBuild, IsBuildError, WhereNotBegun, image_built, known_after}
+use Rattle.ubi_compose.specs.Built.{HaveMeaning, Parts}
 use Rattle.ubi_compose.specs.declared.errors.BuildError.{BuildError}
 use Rattle.ubi_compose.specs.declared.errors.BuildError.TheVariants as build
 use Rattle.ubi_compose.specs.declared.recipe.Part.{Part}
-use Rattle.ubi_commands.specs.Build.{AreBesideOut, AreGathered, Builds, BuildsParts, IsUnreadLine, built, crowded, gathered, image_paths, numbered, unread, unwritten}
+use Rattle.ubi_commands.specs.Build.{AreBesideOut, AreGathered, Builds, BuildsParts, HaveImage, IsUnreadLine, built, crowded, gathered, image_paths, numbered, unread, unwritten}
 use Rattle.ubi_commands.specs.Row.{row_bytes}
 use Rattle.ubi_commands.specs.Disk.{AllStay, Files, IsKept, fresh}
 use Rattle.ubi_commands.specs.Late.{contents_of}
@@ -56,7 +56,7 @@ not_begun (build.Write n) P Q R f p q = tt
 
 -- a file that wasn't open before is not where nothing was written
 pub still_unopened : {L F : Type 0} (file : L → Option F) (work end : Result ℕ BuildError) (late made ended : L) → file late ≡ None
-    → IfErr work (WhereNotBegun (made ≡ late)) → IfErr end (λ e. (work ≡ Err e) ⊎ ((n : ℕ) × (e ≡ build.Write n)))
+    → IfErr work (WhereNotBegun (made ≡ late)) → IfErr end (λ e. (work ≡ Err e) ⊎ ((n : ℕ) × (e ≡ build.Write n) × (work ≡ Ok n)))
     → IfErr end (WhereNotBegun (file ended ≡ file made)) → IfErr end (WhereNotBegun (file ended ≡ None))
 still_unopened file work (Ok n) late made ended unopened begun failed stays = tt
 still_unopened file work (Err e) late made ended unopened begun (inl is) stays =
@@ -80,37 +80,61 @@ memory_ends (Err (build.Write n)) (Err x) file d e not_yet done begun none = abs
 -- what is answered of a build into a file that was opened late, and closed
 module _ {F : Type 0} (contents : F → Option (List ℕ)) (at : F → List ℕ) (d e : Files) (config out : List ℕ) (sections : List Section) (ps : Parts)
     (held : Option (List ℕ)) (spares : ℕ) (key : List ℕ) (empty : Option (List ℕ)) (file : Option F) (size : ℕ) (reads : List (ℕ × List ℕ))
-    (named : out ≡ key) (same : fresh d ≡ empty) (is : ForSome file (λ f. at f ≡ key)) (kept : ForSome file (λ f. IsKept d e (at f) (contents f)))
+    (means : HaveMeaning ps) (named : out ≡ key) (same : fresh d ≡ empty) (is : ForSome file (λ f. at f ≡ key)) (kept : ForSome file (λ f. IsKept d e (at f) (contents f)))
     (none : file ≡ None → e ≡ d) (holds : IfSome held (known_by size reads)) where
+  -- how the work ended says whether the device has room
+  room_done : (k : Source) (work : Result ℕ BuildError) (n : ℕ) → IfOk work (λ _. CanBuild ps spares k.size) → work ≡ Ok n
+      → HaveImage ps spares
+  room_done k work n whole is = record {
+    meaning = means;
+    room = (subst (λ (w : Result ℕ BuildError). IfOk w (λ _. CanBuild ps spares k.size)) is whole).room;
+  }
+
+  refused_so : (k : Source) (agrees : Agreed) (was now : Option (List ℕ)) (work : Result ℕ BuildError) (x : BuildError)
+      → IfErr work (IsBuildError ps spares k agrees was now) → work ≡ Err x → IsBuildError ps spares k agrees was now x
+  refused_so k agrees was now work x refused is =
+      subst (λ (w : Result ℕ BuildError). IfErr w (IsBuildError ps spares k agrees was now)) is refused
+
   ends_in : (o : Outcome) (k : Source) (agrees : Agreed) (was now : Option (List ℕ)) (work end : Result ℕ BuildError)
       → IfOk work (Wrote (known_by size reads) empty (contents_of empty contents file) (image_built ps spares) All 0)
-      → IfErr work (IsBuildError ps spares k agrees was now)
-      → IfOk end (λ n. (work ≡ Ok n) × IsSome file) → IfErr end (λ x. (work ≡ Err x) ⊎ ((n : ℕ) × (x ≡ build.Write n)))
+      → IfOk work (λ _. CanBuild ps spares k.size) → IfErr work (IsBuildError ps spares k agrees was now)
+      → IfOk end (λ n. (work ≡ Ok n) × IsSome file)
+      → IfErr end (λ x. (work ≡ Err x) ⊎ ((n : ℕ) × (x ≡ build.Write n) × (work ≡ Ok n)))
       → IfErr end (WhereNotBegun (file ≡ None)) → IsToldOf ps.sizes config out sections end o
       → BuildsParts d e config out sections ps held spares o
-  ends_in o k agrees was now work (Ok n) written refused done failed begun told =
-      built size n reads (contents_of empty contents file) holds
+  ends_in o k agrees was now work (Ok n) written whole refused done failed begun told =
+      built size n reads (contents_of empty contents file) (room_done k work n whole done.0) holds
       (subst (λ (x : Option (List ℕ)). Wrote (known_by size reads) x (contents_of empty contents file) (image_built ps spares) All 0 n) (sym same)
       (subst (λ (w : Result ℕ BuildError). IfOk w (Wrote (known_by size reads) empty (contents_of empty contents file) (image_built ps spares) All 0)) done.0 written))
       (holds_received contents at d e out key empty file named done.1 is kept) told
-  ends_in o k agrees was now work (Err build.TooMany) written refused done (inl came) begun told =
-      crowded (subst (λ (w : Result ℕ BuildError). IfErr w (IsBuildError ps spares k agrees was now)) came refused) told
-      (λ path. ap (λ (f : Files). f.holds path) (none begun))
-  ends_in o k agrees was now work (Err build.TooMany) written refused done (inr came) begun told = let bad = came.1 in absurd cc
-  ends_in o k agrees was now work (Err build.Memory) written refused done failed begun told = absurd told
-  ends_in o k agrees was now work (Err (build.Write n)) written refused done failed begun told = unwritten told
-  ends_in o k agrees was now work (Err (build.Read id n)) written refused done failed begun told = unread told.0 told.1 told.2
-  ends_in o k agrees was now work (Err (build.Beyond id)) written refused done failed begun told = unread told.0 told.1 told.2
+  ends_in o k agrees was now work (Err build.TooMany) written whole refused done (inl came) begun told =
+      crowded means (refused_so k agrees was now work build.TooMany refused came) told (λ path. ap (λ (f : Files). f.holds path) (none begun))
+  ends_in o k agrees was now work (Err build.TooMany) written whole refused done (inr came) begun told =
+      let bad = came.1 in absurd cc
+  ends_in o k agrees was now work (Err build.Memory) written whole refused done failed begun told = absurd told
+  ends_in o k agrees was now work (Err (build.Write n)) written whole refused done (inl came) begun told =
+      unwritten (record { meaning = means; room = (refused_so k agrees was now work (build.Write n) refused came).0.room }) told
+  ends_in o k agrees was now work (Err (build.Write n)) written whole refused done (inr came) begun told =
+      unwritten (room_done k work came.0 whole came.2) told
+  ends_in o k agrees was now work (Err (build.Read id n)) written whole refused done (inl came) begun told =
+      unread told.0 (record { meaning = means; room = (refused_so k agrees was now work (build.Read id n) refused came).0.room }) told.1 told.2
+  ends_in o k agrees was now work (Err (build.Read id n)) written whole refused done (inr came) begun told =
+      let bad = came.1 in absurd cc
+  ends_in o k agrees was now work (Err (build.Beyond id)) written whole refused done (inl came) begun told =
+      unread told.0 (record { meaning = means; room = (refused_so k agrees was now work (build.Beyond id) refused came).0 }) told.1 told.2
+  ends_in o k agrees was now work (Err (build.Beyond id)) written whole refused done (inr came) begun told =
+      let bad = came.1 in absurd cc
 
   pub build_ends : (r : Result Outcome AllocError) (k : Source) (agrees : Agreed) (was now : Option (List ℕ)) (work end : Result ℕ BuildError)
       → IfOk work (Wrote (known_by size reads) empty (contents_of empty contents file) (image_built ps spares) All 0)
-      → IfErr work (IsBuildError ps spares k agrees was now)
-      → IfOk end (λ n. (work ≡ Ok n) × IsSome file) → IfErr end (λ x. (work ≡ Err x) ⊎ ((n : ℕ) × (x ≡ build.Write n)))
+      → IfOk work (λ _. CanBuild ps spares k.size) → IfErr work (IsBuildError ps spares k agrees was now)
+      → IfOk end (λ n. (work ≡ Ok n) × IsSome file)
+      → IfErr end (λ x. (work ≡ Err x) ⊎ ((n : ℕ) × (x ≡ build.Write n) × (work ≡ Ok n)))
       → IfErr end (WhereNotBegun (file ≡ None)) → IfOk r (IsToldOf ps.sizes config out sections end)
       → IfOk r (BuildsParts d e config out sections ps held spares)
-  build_ends (Ok o) k agrees was now work end written refused done failed begun told =
-      ends_in o k agrees was now work end written refused done failed begun told
-  build_ends (Err x) k agrees was now work end written refused done failed begun told = tt
+  build_ends (Ok o) k agrees was now work end written whole refused done failed begun told =
+      ends_in o k agrees was now work end written whole refused done failed begun told
+  build_ends (Err x) k agrees was now work end written whole refused done failed begun told = tt
 
 -- what is answered of the sections of a text that were gathered
 pub of_gathered : (d e : Files) (config out : List ℕ) (s : Sizes) (text : List ℕ) (spares seq : ℕ) (xs : List Section) (parts : List Part)

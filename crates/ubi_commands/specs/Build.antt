@@ -1,5 +1,5 @@
 -- What building an image of a config and of the files that it names answers.
-use Rattle.std.specs.Prelude.{◌≡◌, ◌≢◌, ℕ, ◌+◌, ◌/◌, ◌<◌, List, [], ◌∷◌, Contains, IfSome, MatchOption, None, Option, Some, Ok, Err, codes, get_or, length, map, option_map, take, unwrap_or}
+use Rattle.std.specs.Prelude.{◌≡◌, ◌≢◌, ℕ, ◌+◌, ◌/◌, ◌<◌, ◌≤◌, List, [], ◌∷◌, Contains, IfSome, MatchOption, None, Option, Some, Ok, Err, codes, get_or, length, map, option_map, take, unwrap_or}
 use Rattle.std.specs.List.{AllByRecursion, filter_map}
 use Rattle.std.specs.Path.{path_with_file_name}
 use Rattle.std.specs.Str.{IsUtf8}
@@ -15,7 +15,7 @@ use Rattle.ubi_config.specs.declared.errors.ConfigCause.TheVariants as cause
 use Rattle.ubi_config.specs.declared.errors.ConfigError.TheVariants as error
 use Rattle.ubi_config.specs.declared.section.Section.{Section}
 use Rattle.ubi_compose.specs.Building.{image_built}
-use Rattle.ubi_compose.specs.Built.{IsRecipeError, Parts, most_blocks}
+use Rattle.ubi_compose.specs.Built.{HaveMeaning, IsRecipeError, Parts, most_blocks}
 use Rattle.ubi_compose.specs.declared.errors.RecipeError.TheVariants as recipe
 use Rattle.ubi_compose.specs.declared.recipe.Part.{Part}
 use Rattle.ubi_volume.specs.declared.errors.MeaningCause.{MeaningCause}
@@ -107,6 +107,11 @@ pub record IsUngathered (d : Files) (s : Sizes) (config : List ℕ) (xs : List S
   pub before : AreGathered d s config (take at xs) parts held
   pub first : (x : Section) × (get_or xs at x ≡ x) × IsNoVolume d s config x o
 
+-- the volumes have an image: they have a meaning together, and the device has room for all pieces and the spares
+pub record HaveImage (ps : Parts) (spares : ℕ) : Type 0 where
+  pub meaning : HaveMeaning ps
+  pub room : most_blocks ps + spares ≤ ps.sizes.pebs
+
 -- what the volumes are answered, and what becomes of the files: how many eraseblocks the image has, which the output received,
 -- whatever the files hold that agrees with what was read of them; the line of volumes that have no meaning together, of a device
 -- that is too small for them, of a file that can't be read, or of an output that can't be written
@@ -114,15 +119,16 @@ pub data BuildsParts (d e : Files) (config out : List ℕ) (sections : List Sect
     : Outcome → Type 0 where
   unmade : {o : Outcome} (c : MeaningCause) → IsRecipeError ps.sizes ps.of (recipe.Refused c) → Gives o (says (meaning_line c) 1)
       → AllStay d e → BuildsParts d e config out sections ps held spares o
-  crowded : {o : Outcome} → ps.sizes.pebs < most_blocks ps + spares → Gives o (says room_line 1) → AllStay d e
+  crowded : {o : Outcome} → HaveMeaning ps → ps.sizes.pebs < most_blocks ps + spares → Gives o (says room_line 1) → AllStay d e
       → BuildsParts d e config out sections ps held spares o
   built : {o : Outcome} (size n : ℕ) (reads : List (ℕ × List ℕ)) (received : Option (List ℕ))
-      → IfSome held (known_by size reads)
+      → HaveImage ps spares → IfSome held (known_by size reads)
       → Wrote (known_by size reads) (fresh d) received (image_built ps spares) All 0 n → Holds e out received
       → Gives o (says (blocks_line (n / ps.sizes.peb_size)) 0) → BuildsParts d e config out sections ps held spares o
-  unread : {o : Outcome} (path : List ℕ) → Contains (config ∷ image_paths config sections) path
+  unread : {o : Outcome} (path : List ℕ) → HaveImage ps spares → Contains (config ∷ image_paths config sections) path
       → IsUnreadLine path o → BuildsParts d e config out sections ps held spares o
-  unwritten : {o : Outcome} → Gives o (says (file_line (codes "cannot write ") out) 1) → BuildsParts d e config out sections ps held spares o
+  unwritten : {o : Outcome} → HaveImage ps spares → Gives o (says (file_line (codes "cannot write ") out) 1)
+      → BuildsParts d e config out sections ps held spares o
 
 -- what the command answers of a config, and what becomes of the files
 pub data Builds (d e : Files) (config out : List ℕ) (s : Sizes) (text : List ℕ) (spares seq : ℕ) : Outcome → Type 0 where

@@ -2,6 +2,7 @@ pub mod AfterRun
 pub mod Answer
 pub mod BadBlocks
 pub mod Build
+pub mod BuildLaws
 pub mod Change
 pub mod Check
 pub mod CommandLine

@@ -2,6 +2,7 @@
 
 ghost use Rattle.std.specs.Prelude.{◌≡◌, ◌+◌, ◌≤◌, ◌⊎◌, ◌∷◌, [], ℕ, Contains, Err, IfErr, IfOk, IsOk, IsSome, List, None, Ok, OnErr, false, map, sum_by, vec_capacity, vec_len};
 ghost use Rattle.ubi_compose.specs.Building.{WhereNotBegun};
+ghost use Rattle.ubi_compose.specs.Built.{HaveMeaning};
 ghost use Rattle.ubi_config.specs.Config.{first_fault, sections_of};
 ghost use Rattle.ubi_config.specs.declared.section.Section.{Section};
 ghost use Rattle.ubi_commands.specs.Build.{AreUnread, Builds, BuildsParts, numbered};
@@ -73,7 +74,7 @@ fn finished<D: Disk, K: Target>(
     late: &mut LateFile<'_, '_, D, K>,
 ) -> Result<u64, BuildError>
     ensures done { IfOk result (λ n. (work ≡ Ok n) × IsSome late.new.file) }
-    ensures failed { IfErr result (λ e. (work ≡ Err e) ⊎ ((n : ℕ) × (e ≡ BuildError.Write n))) }
+    ensures failed { IfErr result (λ e. (work ≡ Err e) ⊎ ((n : ℕ) × (e ≡ BuildError.Write n) × (work ≡ Ok n))) }
     ensures contents { contents_of (fresh K.files) (λ f. D.Output.contents f.writer) late.new.file ≡ contents_of (fresh K.files) (λ f. D.Output.contents f.writer) late.old.file }
     ensures untouched { IfErr result (WhereNotBegun (late.new.file ≡ late.old.file)) }
 {
@@ -100,6 +101,7 @@ fn told(
     ensures told { (config out : List ℕ) (sections : List Section) → AreAnswers config out sections answers → IfOk result (IsToldOf recipe.now.sizes config out sections end) }
     ensures memory { OnErr result (IfErr end IsNotBegun) }
     ensures done { IfOk end (λ _. IsOk result) }
+    ensures meaning { HaveMeaning recipe.now }
 {
     let Answers {
         mut line,
@@ -108,9 +110,10 @@ fn told(
         unwritten,
         ..
     } = answers;
+    let peb_size = u64::from(recipe.geometry().peb_size());
     match end {
         Ok(count) => {
-            put_blocks_line(&mut line, count / u64::from(recipe.geometry().peb_size()))?;
+            put_blocks_line(&mut line, count / peb_size)?;
             Ok(Outcome::saying(line, DONE))
         }
         Err(error) => match error {

@@ -1,5 +1,6 @@
 //! The laws that the program stands on, each as the contract of a function that does nothing.
 
+ghost use Rattle.ubi_commands.specs.BuildLaws.{BuildReads};
 ghost use Rattle.ubi_commands.specs.Headline.{Headline};
 ghost use Rattle.ubi_commands.specs.Laws.{ListsComposed, OneComposed};
 
@@ -18,4 +19,11 @@ pub fn one_composed()
 /// What is listed of a composed image is the meaning that the text comes to.
 pub fn lists_composed()
     ensures { ListsComposed }
+{}
+
+/// Of a config that was built with the status 0, over a disk that tells its files: what the output holds is an image that is
+/// accepted, and the volume of each section reads what the file of its `image` key holds, and a dynamic one 0xFF behind that, to
+/// the end of what it reserves.
+pub fn build_reads()
+    ensures { BuildReads }
 {}

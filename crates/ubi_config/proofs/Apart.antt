@@ -94,6 +94,7 @@ module _ {X : Type 0} (e : X → X → Bool) (pick : Line → Option X) (key : S
   none_pass q (line.Kind k ∷ below) h = none_pass q below (less (line.Kind k) below q h)
   none_pass q (line.Name t ∷ below) h = none_pass q below (less (line.Name t) below q h)
   none_pass q (line.Autoresize ∷ below) h = none_pass q below (less line.Autoresize below q h)
+  none_pass q (line.SkipCheck ∷ below) h = none_pass q below (less line.SkipCheck below q h)
   none_pass q (line.Alignment a ∷ below) h = none_pass q below (less (line.Alignment a) below q h)
 
   distinct_one : (g : Group) (gs : List Group) (r : Result Section ConfigCause) → section_of g ≡ r
@@ -124,6 +125,8 @@ module _ {X : Type 0} (e : X → X → Bool) (pick : Line → Option X) (key : S
   distinct_keys (line.Name t ∷ below) d = distinct_keys below (distinct_tail e (pick (line.Name t)) (given_in below) d)
   distinct_keys (line.Autoresize ∷ below) d =
       distinct_keys below (distinct_tail e (pick line.Autoresize) (given_in below) d)
+  distinct_keys (line.SkipCheck ∷ below) d =
+      distinct_keys below (distinct_tail e (pick line.SkipCheck) (given_in below) d)
   distinct_keys (line.Alignment a ∷ below) d =
       distinct_keys below (distinct_tail e (pick (line.Alignment a)) (given_in below) d)
 

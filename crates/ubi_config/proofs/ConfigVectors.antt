@@ -10,7 +10,7 @@ use Rattle.ubi_media.proofs.Words.{small}
 use Rattle.ubi_config.specs.Above.{heading_cause, later_cause, setting_cause}
 use Rattle.ubi_config.specs.Config.{cause_at, first_fault as config_fault, line_fault, saying, sayings, section_fault, sections_in, sections_of}
 use Rattle.ubi_config.specs.ErrorTexts.{config_error_text}
-use Rattle.ubi_config.specs.Lines.{heading_line, is_one_line, kind_of, line_of, line_said, setting, setting_at, setting_line, title_of}
+use Rattle.ubi_config.specs.Lines.{flag_of, heading_line, is_one_line, kind_of, line_of, line_said, setting, setting_at, setting_line, title_of}
 use Rattle.ubi_config.specs.Records.{record_in}
 use Rattle.ubi_config.specs.Sections.{draft_of, finished}
 use Rattle.ubi_config.specs.Values.{key_of, plain_value, quoted_value, value_of}
@@ -23,7 +23,7 @@ use Rattle.ubi_config.specs.declared.section.Section.{Section}
 -- what is unfolded to compute a config on a literal
 unfoldable config_on_literals : ⊤
 unfolding config_fault line_fault cause_at section_fault sections_in sayings saying line_of is_one_line line_said
-    heading_line title_of setting_line setting_at setting kind_of key_of value_of plain_value quoted_value trimmed
+    heading_line title_of setting_line setting_at setting flag_of kind_of key_of value_of plain_value quoted_value trimmed
     number_of is_number size_of unit_of unit_named later_cause heading_cause setting_cause draft_of finished
 config_on_literals = tt
 
@@ -174,6 +174,31 @@ static_without_image : config_fault (text (codes "# a" ∷ codes "[v]" ∷ codes
 unfolding config_on_literals
 static_without_image = refl
 
+dynamic_without_check : config_fault (text (codes "[v]" ∷ codes "mode=ubi" ∷ codes "vol_id=1" ∷ codes "vol_name=a"
+    ∷ codes "image=a" ∷ codes "vol_flags=skip-check" ∷ [])) ≡ Some (1, cause.SkipCheck)
+unfolding config_on_literals
+dynamic_without_check = refl
+
+static_without_check : sections_of (text (codes "[v]" ∷ codes "vol_flags=skip-check" ∷ codes "mode=ubi" ∷ codes "vol_id=1"
+    ∷ codes "vol_name=a" ∷ codes "image=b" ∷ codes "vol_type=static" ∷ []))
+    ≡ record {
+      line = 1;
+      id = 1;
+      name = codes "a";
+      kind = kind.Static;
+      alignment = 1;
+      flags = 2;
+      size = None;
+      image = Some (codes "b");
+    } ∷ []
+unfolding config_on_literals
+static_without_check = refl
+
+skip_check_twice : config_fault (text (codes "[v]" ∷ codes "vol_flags=skip-check" ∷ codes "[w]"
+    ∷ codes "vol_flags=skip-check" ∷ [])) ≡ Some (1, cause.Missing key.Mode)
+unfolding config_on_literals
+skip_check_twice = refl
+
 -- the example of ubinize's manual
 abbrev manual : List ℕ
 manual =
@@ -227,6 +252,18 @@ longer_image = refl
 empty_image : record_in small jffs2 (Some 0) ≡ Err cause.Empty
 unfolding records_on_literals
 empty_image = refl
+
+empty_static : record_in small (record jffs2 { kind = kind.Static; size = None }) (Some 0)
+    ≡ Ok (record {
+      reserved = 1;
+      alignment = 1;
+      kind = kind.Static;
+      marker = false;
+      name = codes "jffs2_volume";
+      flags = 1;
+    })
+unfolding records_on_literals
+empty_static = refl
 
 alignment_of_256 : record_in small (record jffs2 { alignment = 256; size = None }) (Some 769)
     ≡ Ok (record {

@@ -1,6 +1,6 @@
 -- What a section has of its lines: the number and the name of its volume.
 use Rattle.std.proofs.Common.{◌≡◌, ℕ, Bool, true, false, List, [], ◌∷◌, ap, sym, ◌∙◌, refl}
-use Rattle.std.specs.Prelude.{Option, Some, None, Result, Ok, Err, filter_map, fold}
+use Rattle.std.specs.Prelude.{◌==◌, Option, Some, None, Result, Ok, Err, filter_map, fold}
 use Rattle.std.specs.Bool.{then_some}
 use Rattle.std.specs.List.{list_any}
 use Rattle.std.specs.Option.{ok_or}
@@ -44,6 +44,7 @@ id_fold q (line.Size b ∷ es) d n h k e = id_fold q es (with_line d (line.Size 
 id_fold q (line.Kind v ∷ es) d n h k e = id_fold q es (with_line d (line.Kind v)) n h k e
 id_fold q (line.Name t ∷ es) d n h k e = id_fold q es (with_line d (line.Name t)) n h k e
 id_fold q (line.Autoresize ∷ es) d n h k e = id_fold q es (with_line d line.Autoresize) n h k e
+id_fold q (line.SkipCheck ∷ es) d n h k e = id_fold q es (with_line d line.SkipCheck) n h k e
 id_fold q (line.Alignment a ∷ es) d n h k e = id_fold q es (with_line d (line.Alignment a)) n h k e
 
 name_fold : (q : List ℕ → Bool) (es : List Line) (d : Draft) (n : List ℕ)
@@ -60,37 +61,40 @@ name_fold q (line.Name t ∷ es) d n h k e =
     let both = or_false (q t) (list_any q (filter_map name_in es)) h in
     name_fold q es (with_line d (line.Name t)) n both.1 (λ s. some_is q t n s both.0) e
 name_fold q (line.Autoresize ∷ es) d n h k e = name_fold q es (with_line d line.Autoresize) n h k e
+name_fold q (line.SkipCheck ∷ es) d n h k e = name_fold q es (with_line d line.SkipCheck) n h k e
 name_fold q (line.Alignment a ∷ es) d n h k e = name_fold q es (with_line d (line.Alignment a)) n h k e
 
 read_fields : (number : ℕ) (m : Bool) (i : Option ℕ) (t : Option (List ℕ))
-    (p : Result (Option (List ℕ)) ConfigCause) (c d e : ConfigCause) (k : VolKind) (a f : ℕ) (z : Option ℕ)
+    (p : Result (Option (List ℕ)) ConfigCause) (v : Result VolKind ConfigCause) (c d e : ConfigCause) (a f : ℕ) (z : Option ℕ)
     (s : Section)
     → (ok_or (then_some m true) c >>=
     (λ (mode : Bool). ok_or i d >>=
     (λ (id : ℕ). ok_or t e >>=
     (λ (name : List ℕ). p >>=
-    (λ (image : Option (List ℕ)). Ok
+    (λ (image : Option (List ℕ)). v >>=
+    (λ (kind : VolKind). Ok
     (let made : Section = record {
       line = number;
       id = id;
       name = name;
-      kind = k;
+      kind = kind;
       alignment = a;
       flags = f;
       size = z;
       image = image;
-    } in made)))))) ≡ Ok s
+    } in made))))))) ≡ Ok s
     → (i ≡ Some s.id) × (t ≡ Some s.name) × (f ≡ s.flags)
-read_fields number false i t p c d e k a f z s h = absurd (cc)
-read_fields number true None t p c d e k a f z s h = absurd (cc)
-read_fields number true (Some id) None p c d e k a f z s h = absurd (cc)
-read_fields number true (Some id) (Some name) (Err x) c d e k a f z s h = absurd (cc)
-read_fields number true (Some id) (Some name) (Ok image) c d e k a f z s h =
+read_fields number false i t p v c d e a f z s h = absurd (cc)
+read_fields number true None t p v c d e a f z s h = absurd (cc)
+read_fields number true (Some id) None p v c d e a f z s h = absurd (cc)
+read_fields number true (Some id) (Some name) (Err x) v c d e a f z s h = absurd (cc)
+read_fields number true (Some id) (Some name) (Ok image) (Err x) c d e a f z s h = absurd (cc)
+read_fields number true (Some id) (Some name) (Ok image) (Ok kind) c d e a f z s h =
     let r : Section = record {
       line = number;
       id = id;
       name = name;
-      kind = k;
+      kind = kind;
       alignment = a;
       flags = f;
       size = z;
@@ -102,7 +106,7 @@ read_fields number true (Some id) (Some name) (Ok image) c d e k a f z s h =
 fields_of : (number : ℕ) (d : Draft) (s : Section) → finished number d ≡ Ok s
     → (d.id ≡ Some s.id) × (d.name ≡ Some s.name) × (d.flags ≡ s.flags)
 unfolding finished
-fields_of number d s h = read_fields number d.mode d.id d.name _ _ _ _ d.kind d.alignment d.flags d.size s h
+fields_of number d s h = read_fields number d.mode d.id d.name _ _ _ _ _ d.alignment d.flags d.size s h
 
 -- a section has a number that one of its lines gives
 pub id_given : (number : ℕ) (es : List Line) (s : Section) → finished number (draft_of es) ≡ Ok s → (q : ℕ → Bool)
@@ -118,21 +122,23 @@ unfolding draft_of
 name_given number es s made q none =
     name_fold q es no_draft s.name none (no_such q s.name) (fields_of number (draft_of es) s made).1
 
-flags_fold : (es : List Line) (d : Draft) → list_any is_autoresize es ≡ false → (fold with_line d es).flags ≡ d.flags
-flags_fold [] d h = refl
-flags_fold (line.Heading m t ∷ es) d h = flags_fold es (with_line d (line.Heading m t)) h
-flags_fold (line.Mode ∷ es) d h = flags_fold es (with_line d line.Mode) h
-flags_fold (line.Image p ∷ es) d h = flags_fold es (with_line d (line.Image p)) h
-flags_fold (line.Id m ∷ es) d h = flags_fold es (with_line d (line.Id m)) h
-flags_fold (line.Size b ∷ es) d h = flags_fold es (with_line d (line.Size b)) h
-flags_fold (line.Kind v ∷ es) d h = flags_fold es (with_line d (line.Kind v)) h
-flags_fold (line.Name t ∷ es) d h = flags_fold es (with_line d (line.Name t)) h
-flags_fold (line.Autoresize ∷ es) d h = absurd (cc)
-flags_fold (line.Alignment a ∷ es) d h = flags_fold es (with_line d (line.Alignment a)) h
+flags_fold : (es : List Line) (d : Draft) → list_any is_autoresize es ≡ false → (d.flags == 1) ≡ false
+    → ((fold with_line d es).flags == 1) ≡ false
+flags_fold [] d h k = k
+flags_fold (line.Heading m t ∷ es) d h k = flags_fold es (with_line d (line.Heading m t)) h k
+flags_fold (line.Mode ∷ es) d h k = flags_fold es (with_line d line.Mode) h k
+flags_fold (line.Image p ∷ es) d h k = flags_fold es (with_line d (line.Image p)) h k
+flags_fold (line.Id m ∷ es) d h k = flags_fold es (with_line d (line.Id m)) h k
+flags_fold (line.Size b ∷ es) d h k = flags_fold es (with_line d (line.Size b)) h k
+flags_fold (line.Kind v ∷ es) d h k = flags_fold es (with_line d (line.Kind v)) h k
+flags_fold (line.Name t ∷ es) d h k = flags_fold es (with_line d (line.Name t)) h k
+flags_fold (line.Autoresize ∷ es) d h k = absurd (cc)
+flags_fold (line.SkipCheck ∷ es) d h k = flags_fold es (with_line d line.SkipCheck) h refl
+flags_fold (line.Alignment a ∷ es) d h k = flags_fold es (with_line d (line.Alignment a)) h k
 
--- a section of which no line lets the volume grow has no flag
-pub no_flags : (number : ℕ) (es : List Line) (s : Section) → finished number (draft_of es) ≡ Ok s
-    → list_any is_autoresize es ≡ false → s.flags ≡ 0
+-- a section of which no line lets the volume grow doesn't
+pub no_growth : (number : ℕ) (es : List Line) (s : Section) → finished number (draft_of es) ≡ Ok s
+    → list_any is_autoresize es ≡ false → (s.flags == 1) ≡ false
 unfolding draft_of
-no_flags number es s made none =
-    sym (fields_of number (draft_of es) s made).2 ∙ flags_fold es no_draft none
+no_growth number es s made none =
+    ap (λ f. f == 1) (sym (fields_of number (draft_of es) s made).2) ∙ flags_fold es no_draft none refl

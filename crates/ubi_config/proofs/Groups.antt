@@ -100,6 +100,7 @@ no_group (line.Size bytes) below h = refl
 no_group (line.Kind k) below h = refl
 no_group (line.Name name) below h = refl
 no_group line.Autoresize below h = refl
+no_group line.SkipCheck below h = refl
 no_group (line.Alignment alignment) below h = refl
 
 -- what is known of the sections of lines as far as they were made

@@ -12,7 +12,7 @@ use Rattle.ubi_config.specs.declared.line.Line.TheVariants as line
 use Rattle.ubi_config.specs.declared.section.Section.{Section}
 use Rattle.ubi_config.proofs.Apart.{from_heading, from_next, no_sections, sections_cons}
 use Rattle.ubi_config.proofs.Counts.{count_both, count_cons, some_counted}
-use Rattle.ubi_config.proofs.Fields.{no_flags}
+use Rattle.ubi_config.proofs.Fields.{no_growth}
 
 -- whether a section's volume grows
 abbrev grows : Section → Bool
@@ -26,7 +26,7 @@ grows_by : (g : Group) (s : Section) → section_of g ≡ Ok s → (b : Bool) �
     → cond (grows s) 1 0 ≤ count_by is_autoresize g.1
 grows_by g s is true h = omega (arith, at_most_one (grows s), some_counted is_autoresize g.1 h)
 grows_by g s is false h =
-    let none : cond {A = ℕ} (grows s) 1 0 ≡ 0 = ap (λ f. cond {A = ℕ} (f == 1) 1 0) (no_flags g.0 g.1 s is h) in
+    let none : cond {A = ℕ} (grows s) 1 0 ≡ 0 = ap (λ b. cond {A = ℕ} b 1 0) (no_growth g.0 g.1 s is h) in
     omega (arith, none)
 
 first_grows : (g : Group) (ss : List Section) (r : Result Section ConfigCause) → section_of g ≡ r
@@ -65,6 +65,7 @@ grow_from (line.Size b ∷ below) = omega (arith, grow_from below, next (line.Si
 grow_from (line.Kind k ∷ below) = omega (arith, grow_from below, next (line.Kind k) below)
 grow_from (line.Name t ∷ below) = omega (arith, grow_from below, next (line.Name t) below)
 grow_from (line.Autoresize ∷ below) = omega (arith, grow_from below, next line.Autoresize below)
+grow_from (line.SkipCheck ∷ below) = omega (arith, grow_from below, next line.SkipCheck below)
 grow_from (line.Alignment a ∷ below) = omega (arith, grow_from below, next (line.Alignment a) below)
 
 pub sections_grow : (ls : List Line) → count_by grows (sections_in (groups ls)) ≤ count_by is_autoresize ls

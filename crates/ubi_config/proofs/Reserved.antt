@@ -1,12 +1,11 @@
 -- How many eraseblocks a volume reserves changes no fault of its record, as long as there are some and not too many.
-use Rattle.std.proofs.Common.{◌≡◌, ◌<◌, ◌≤◌, ℕ, ◌^◌, ◌*◌, false, refl, arith}
+use Rattle.std.proofs.Common.{◌≡◌, ◌<◌, ◌≤◌, ℕ, ◌^◌, false, refl, arith}
 use Rattle.std.specs.Prelude.{◌==◌}
 use Rattle.std.proofs.lemmas.Bool.Decides.{nat_tests}
-use Rattle.std.proofs.lemmas.Grind.{div_ceil_times}
 use Rattle.ubi_media.specs.Geometry.{Sizes}
 use Rattle.ubi_media.specs.Record.{breaks, fields_from, first_fault, rec_fault}
 use Rattle.ubi_media.specs.Vid.{is_negative}
-use Rattle.ubi_config.specs.Records.{parts_of, reserving}
+use Rattle.ubi_config.specs.Records.{reserving}
 use Rattle.ubi_config.specs.declared.section.Section.{Section}
 
 same_fault : (s : Sizes) (section : Section) (n : ℕ) → (n == 0) ≡ false → is_negative n ≡ false
@@ -18,9 +17,3 @@ pub fault_reserving : (s : Sizes) (section : Section) (n : ℕ) → 1 ≤ n → 
     → rec_fault s (reserving section n) ≡ rec_fault s (reserving section 1)
 fault_reserving s section n some small =
     same_fault s section n (grind (arith, nat_tests)) (grind (arith, nat_tests))
-
-pub parts_hold : (bytes part : ℕ) → 1 ≤ part → bytes ≤ parts_of bytes part * part
-parts_hold bytes part some = (div_ceil_times bytes part some).0
-
-pub some_parts : (bytes part : ℕ) → 1 ≤ part → 1 ≤ bytes → 1 ≤ parts_of bytes part
-some_parts bytes part some more = grind (arith, parts_hold bytes part some)

@@ -34,6 +34,7 @@ id_any n (line.Size b ∷ ls) = id_any n ls
 id_any n (line.Kind k ∷ ls) = id_any n ls
 id_any n (line.Name t ∷ ls) = id_any n ls
 id_any n (line.Autoresize ∷ ls) = id_any n ls
+id_any n (line.SkipCheck ∷ ls) = id_any n ls
 id_any n (line.Alignment a ∷ ls) = id_any n ls
 
 name_any : (n : List ℕ) (ls : List Line)
@@ -47,6 +48,7 @@ name_any n (line.Size b ∷ ls) = name_any n ls
 name_any n (line.Kind k ∷ ls) = name_any n ls
 name_any n (line.Name t ∷ ls) = ap (λ b. same_bytes t n || b) (name_any n ls)
 name_any n (line.Autoresize ∷ ls) = name_any n ls
+name_any n (line.SkipCheck ∷ ls) = name_any n ls
 name_any n (line.Alignment a ∷ ls) = name_any n ls
 
 last_none : (a b : Bool) (c d : ConfigCause) (o : Option ConfigCause)
@@ -89,6 +91,7 @@ id_step above (line.Size b) d h = same_ids above (line.Size b) refl d
 id_step above (line.Kind k) d h = same_ids above (line.Kind k) refl d
 id_step above (line.Name t) d h = same_ids above (line.Name t) refl d
 id_step above line.Autoresize d h = same_ids above line.Autoresize refl d
+id_step above line.SkipCheck d h = same_ids above line.SkipCheck refl d
 id_step above (line.Alignment a) d h = same_ids above (line.Alignment a) refl d
 
 name_step : (above : List Line) (l : Line) → IsDistinct same_bytes (filter_map name_in above)
@@ -104,6 +107,7 @@ name_step above (line.Size b) d h = same_names above (line.Size b) refl d
 name_step above (line.Kind k) d h = same_names above (line.Kind k) refl d
 name_step above (line.Id i) d h = same_names above (line.Id i) refl d
 name_step above line.Autoresize d h = same_names above line.Autoresize refl d
+name_step above line.SkipCheck d h = same_names above line.SkipCheck refl d
 name_step above (line.Alignment a) d h = same_names above (line.Alignment a) refl d
 
 few_none : (a b : Bool) (c d : ConfigCause)
@@ -132,6 +136,7 @@ few_step above (line.Size b) d h = omega (arith, count_more is_heading above (li
 few_step above (line.Kind k) d h = omega (arith, count_more is_heading above (line.Kind k))
 few_step above (line.Name t) d h = omega (arith, count_more is_heading above (line.Name t))
 few_step above line.Autoresize d h = omega (arith, count_more is_heading above line.Autoresize)
+few_step above line.SkipCheck d h = omega (arith, count_more is_heading above line.SkipCheck)
 few_step above (line.Alignment a) d h = omega (arith, count_more is_heading above (line.Alignment a))
 
 one_more : (o : Option Section) (ss : List Section) → length (cons_option o ss) ≤ length ss + 1
@@ -157,6 +162,7 @@ sections_few (line.Size b ∷ below) = omega (arith, sections_few below, count_c
 sections_few (line.Kind k ∷ below) = omega (arith, sections_few below, count_cons is_heading (line.Kind k) below)
 sections_few (line.Name t ∷ below) = omega (arith, sections_few below, count_cons is_heading (line.Name t) below)
 sections_few (line.Autoresize ∷ below) = omega (arith, sections_few below, count_cons is_heading line.Autoresize below)
+sections_few (line.SkipCheck ∷ below) = omega (arith, sections_few below, count_cons is_heading line.SkipCheck below)
 sections_few (line.Alignment a ∷ below) =
     omega (arith, sections_few below, count_cons is_heading (line.Alignment a) below)
 
@@ -171,6 +177,7 @@ grow_step above line.Autoresize d h =
     )
 grow_step above (line.Heading n t) d h = omega (arith, count_more is_autoresize above (line.Heading n t))
 grow_step above line.Mode d h = omega (arith, count_more is_autoresize above line.Mode)
+grow_step above line.SkipCheck d h = omega (arith, count_more is_autoresize above line.SkipCheck)
 grow_step above (line.Image p) d h = omega (arith, count_more is_autoresize above (line.Image p))
 grow_step above (line.Id n) d h = omega (arith, count_more is_autoresize above (line.Id n))
 grow_step above (line.Size b) d h = omega (arith, count_more is_autoresize above (line.Size b))

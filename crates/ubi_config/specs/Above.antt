@@ -27,6 +27,7 @@ key_in (line.Size _) = Some key.Size
 key_in (line.Kind _) = Some key.Kind
 key_in (line.Name _) = Some key.Name
 key_in line.Autoresize = Some key.Flags
+key_in line.SkipCheck = Some key.Flags
 key_in (line.Alignment _) = Some key.Alignment
 
 -- whether a line sets a key

@@ -32,6 +32,12 @@ kind_of value =
     if same_bytes value (codes "dynamic") then Some kind.Dynamic
     else (if same_bytes value (codes "static") then Some kind.Static else None)
 
+-- what a value of `vol_flags` says of its volume
+unfoldable pub flag_of : List ℕ → Option Line
+flag_of value =
+    if same_bytes value (codes "autoresize") then Some line.Autoresize
+    else (if same_bytes value (codes "skip-check") then Some line.SkipCheck else None)
+
 -- what a key with a value says, where the key takes it
 unfoldable pub setting : Key → List ℕ → Option Line
 setting key.Mode value = then_some (same_bytes value (codes "ubi")) line.Mode
@@ -40,7 +46,7 @@ setting key.Id value = option_map line.Id (number_of most_number value)
 setting key.Size value = option_map line.Size (size_of value)
 setting key.Kind value = option_map line.Kind (kind_of value)
 setting key.Name value = then_some (is_name value) (line.Name value)
-setting key.Flags value = then_some (same_bytes value (codes "autoresize")) line.Autoresize
+setting key.Flags value = flag_of value
 setting key.Alignment value = option_map line.Alignment (number_of most_number value)
 
 -- what a line says whose `=` stands at a place

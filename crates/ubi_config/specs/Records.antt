@@ -1,8 +1,9 @@
 -- The record of a section's volume.
-use Rattle.std.specs.Prelude.{ℕ, ◌^◌, ◌==◌, ◌||◌, false, nat_lt, if◌then◌else◌, Option, Result, Ok, Err, unwrap_or}
+use Rattle.std.specs.Prelude.{ℕ, ◌^◌, ◌==◌, ◌&&◌, Bool, false, max, nat_lt, not, if◌then◌else◌, Option, Some, None, Result, Ok, Err, unwrap_or}
 use Rattle.std.specs.Int.{div_ceil}
 use Rattle.std.specs.Option.{option_map_or}
 use Rattle.ubi_media.specs.Geometry.{Sizes, slots}
+use Rattle.ubi_media.specs.Kind.{is_static}
 use Rattle.ubi_media.specs.Record.{rec_fault, usable}
 use Rattle.ubi_media.specs.declared.record.VolumeRecord.{VolumeRecord}
 use Rattle.ubi_config.specs.declared.errors.ConfigCause.{ConfigCause}
@@ -28,9 +29,9 @@ reserving section n = record {
 abbrev pub parts_of : ℕ → ℕ → ℕ
 parts_of bytes part = div_ceil bytes part
 
--- how many eraseblocks have so many bytes, each without what its alignment leaves free
+-- how many eraseblocks have so many bytes, each without what its alignment leaves free: one at least, also for no byte
 abbrev pub blocks_of : Sizes → Section → ℕ → ℕ
-blocks_of s section bytes = parts_of bytes (usable s (reserving section 1))
+blocks_of s section bytes = max 1 (parts_of bytes (usable s (reserving section 1)))
 
 -- the record that reserves so many eraseblocks, where a record can, and there is a slot for it
 abbrev pub fitting : Sizes → Section → ℕ → Result VolumeRecord ConfigCause
@@ -44,9 +45,14 @@ sized s section bytes =
     option_map_or (λ fault. Err (cause.Record fault)) (rec_fault s (reserving section 1))
     (fitting s section (blocks_of s section bytes))
 
+-- whether a volume has no byte that should have some: one without an image file, or a dynamic one with an empty file
+abbrev pub is_empty : Section → Option ℕ → Bool
+is_empty section None = unwrap_or section.size 0 == 0
+is_empty section (Some image_len) = (image_len == 0) && not (is_static section.kind)
+
 -- the record of a section's volume, where its image file has so many bytes
 unfoldable pub record_in : Sizes → Section → Option ℕ → Result VolumeRecord ConfigCause
 record_in s section image_len =
-    if (bytes_of section image_len == 0) || (unwrap_or image_len 1 == 0) then Err cause.Empty
+    if is_empty section image_len then Err cause.Empty
     else (if nat_lt (bytes_of section image_len) (unwrap_or image_len 0) then Err cause.LongImage
     else sized s section (bytes_of section image_len))

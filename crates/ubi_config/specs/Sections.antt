@@ -1,5 +1,5 @@
 -- A section of a config: what its lines say together, and the first key that it lacks.
-use Rattle.std.specs.Prelude.{ℕ, ◌||◌, Bool, true, false, not, List, fold, Some, None, Result, Ok, is_some}
+use Rattle.std.specs.Prelude.{ℕ, ◌==◌, ◌||◌, Bool, true, false, not, List, fold, Some, None, Result, Ok, is_some}
 use Rattle.std.specs.Bool.{then_some}
 use Rattle.std.specs.Option.{ok_or}
 use Rattle.ubi_media.specs.Kind.{is_static}
@@ -36,6 +36,7 @@ with_line d (line.Size bytes) = record d { size = Some bytes }
 with_line d (line.Kind k) = record d { kind = k }
 with_line d (line.Name name) = record d { name = Some name }
 with_line d line.Autoresize = record d { flags = 1 }
+with_line d line.SkipCheck = record d { flags = 2 }
 with_line d (line.Alignment alignment) = record d { alignment = alignment }
 
 -- what the lines of a section say together
@@ -46,18 +47,23 @@ draft_of ls = fold with_line no_draft ls
 abbrev pub needs_image : Draft → Bool
 needs_image d = is_static d.kind || not (is_some d.size)
 
--- the section, or the first key that it lacks
+-- a section may skip the check of its bytes where it's static: a dynamic volume has none
+abbrev pub may_skip : Draft → Bool
+may_skip d = is_static d.kind || not (d.flags == 2)
+
+-- the section, or the first key that it lacks, or that it can't skip a check
 unfoldable pub finished : ℕ → Draft → Result Section ConfigCause
 finished number d = do
   mode ← ok_or (then_some d.mode true) (cause.Missing key.Mode)
   id ← ok_or d.id (cause.Missing key.Id)
   name ← ok_or d.name (cause.Missing key.Name)
   image ← ok_or (then_some (is_some d.image || not (needs_image d)) d.image) (cause.Missing key.Image)
+  kind ← ok_or (then_some (may_skip d) d.kind) cause.SkipCheck
   Ok (record {
     line = number;
     id = id;
     name = name;
-    kind = d.kind;
+    kind = kind;
     alignment = d.alignment;
     flags = d.flags;
     size = d.size;

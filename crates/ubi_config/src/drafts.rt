@@ -4,7 +4,7 @@ ghost use Rattle.std.specs.List.{before_first};
 ghost use Rattle.std.specs.Prelude.{◌≡◌, IfOk, MatchResult, Ok, OnOk, position};
 ghost use Rattle.ubi_config.specs.Above.{is_heading};
 ghost use Rattle.ubi_config.specs.inner.Reading.{IsRefused};
-ghost use Rattle.ubi_config.specs.Sections.{draft_of, finished, needs_image, no_draft, with_line};
+ghost use Rattle.ubi_config.specs.Sections.{draft_of, finished, may_skip, needs_image, no_draft, with_line};
 ghost use Rattle.ubi_media.specs.Kind.{is_static};
 
 use crate::errors::{ConfigCause, LineError};
@@ -17,6 +17,9 @@ use ubi_media::{VolKind, VolName};
 
 /// The flag of a volume that grows to the size of the device (`UBI_VTBL_AUTORESIZE_FLG`).
 const AUTORESIZE: u8 = 0x01;
+
+/// The flag of a static volume whose bytes aren't checked where it's opened (`UBI_VTBL_SKIP_CRC_CHECK_FLG`).
+const SKIP_CHECK: u8 = 0x02;
 
 /// What the lines of a section say together.
 #[derive(Drop)]
@@ -61,6 +64,7 @@ impl Draft {
             Line::Kind(kind) => self.kind = *kind,
             Line::Name(name) => self.name = Some(*name),
             Line::Autoresize => self.flags = AUTORESIZE,
+            Line::SkipCheck => self.flags = SKIP_CHECK,
             Line::Alignment(alignment) => self.alignment = *alignment,
         }
         Ok(())
@@ -71,6 +75,13 @@ impl Draft {
         ensures { result ≡ needs_image self.now }
     {
         self.kind == VolKind::Static || self.size.is_none()
+    }
+
+    /// Whether the section may skip the check of its bytes, or doesn't: a dynamic volume has none.
+    fn may_skip(&self) -> bool
+        ensures { result ≡ may_skip self.now }
+    {
+        self.kind == VolKind::Static || self.flags != SKIP_CHECK
     }
 
     /// The section that begins at a line.
@@ -85,6 +96,9 @@ impl Draft {
         let name = self.name.ok_or(ConfigCause::Missing(Key::Name))?;
         if self.image.is_none() && self.needs_image() {
             return Err(ConfigCause::Missing(Key::Image));
+        }
+        if !self.may_skip() {
+            return Err(ConfigCause::SkipCheck);
         }
         Ok(Section {
             line,

@@ -38,7 +38,9 @@ pub enum ConfigCause {
     Autoresize,
     /// The section lacks the key.
     Missing(Key),
-    /// The image file has no byte.
+    /// The section is dynamic, and `skip-check` is for static volumes.
+    SkipCheck,
+    /// The image file of a dynamic volume has no byte.
     Empty,
     /// The image file has more bytes than `vol_size`.
     LongImage,
@@ -68,6 +70,7 @@ impl ConfigCause {
             ConfigCause::SameName => "I10 SameName",
             ConfigCause::Autoresize => "I11 Autoresize",
             ConfigCause::Missing(_) => "I12 Missing",
+            ConfigCause::SkipCheck => "I18 SkipCheck",
             ConfigCause::Empty => "I13 Empty",
             ConfigCause::LongImage => "I14 LongImage",
             ConfigCause::Record(_) => "I15 Record",

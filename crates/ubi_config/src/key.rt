@@ -20,7 +20,7 @@ pub enum Key {
     Kind,
     /// The name of the volume.
     Name,
-    /// Whether the volume is to grow to the size of the device.
+    /// Whether the volume is to grow to the size of the device, or isn't to be checked.
     Flags,
     /// The alignment of the volume.
     Alignment,

@@ -4,7 +4,7 @@ ghost use Rattle.std.specs.List.{list_any};
 ghost use Rattle.std.specs.Prelude.{◌≡◌, ◌==◌, ◌<◌, IfOk, MatchResult, Ok, length, option_map, position};
 ghost use Rattle.ubi_config.specs.Above.{gives_id, gives_name, is_autoresize, is_heading, is_setting, is_titled, key_in, sets};
 ghost use Rattle.ubi_config.specs.inner.Reading.{IsRefused};
-ghost use Rattle.ubi_config.specs.Lines.{heading_line, is_one_line, is_special, is_title, kind_of, line_of, line_said, setting, setting_at, setting_line, title_of};
+ghost use Rattle.ubi_config.specs.Lines.{flag_of, heading_line, is_one_line, is_special, is_title, kind_of, line_of, line_said, setting, setting_at, setting_line, title_of};
 ghost use Rattle.ubi_config.specs.Words.{number_of};
 
 use crate::errors::{ConfigCause, LineError};
@@ -34,6 +34,8 @@ pub(crate) enum Line {
     Name(VolName),
     /// It grows to the size of the device.
     Autoresize,
+    /// Its bytes aren't checked where it's opened.
+    SkipCheck,
     /// Its alignment.
     Alignment(u32),
 }
@@ -51,7 +53,7 @@ impl Line {
             Line::Size(_) => Some(Key::Size),
             Line::Kind(_) => Some(Key::Kind),
             Line::Name(_) => Some(Key::Name),
-            Line::Autoresize => Some(Key::Flags),
+            Line::Autoresize | Line::SkipCheck => Some(Key::Flags),
             Line::Alignment(_) => Some(Key::Alignment),
         }
     }
@@ -149,6 +151,20 @@ fn kind_of(value: &[u8]) -> Option<VolKind>
     None
 }
 
+/// What a value of `vol_flags` says of its volume.
+#[tactic(auto, unfolding(crate::specs::Lines::flag_of))]
+fn flag_of(value: &[u8]) -> Option<Line>
+    ensures { result ≡ flag_of value.now }
+{
+    if value == b"autoresize".as_slice() {
+        return Some(Line::Autoresize);
+    }
+    if value == b"skip-check".as_slice() {
+        return Some(Line::SkipCheck);
+    }
+    None
+}
+
 /// What a key with a value says. None where the key doesn't take the value.
 #[tactic(auto, unfolding(crate::specs::Lines::setting))]
 fn setting(alloc: Global, key: Key, value: &[u8]) -> Result<Option<Line>, AllocError>
@@ -162,8 +178,7 @@ fn setting(alloc: Global, key: Key, value: &[u8]) -> Result<Option<Line>, AllocE
         Key::Size => size_of(value).map(Line::Size),
         Key::Kind => kind_of(value).map(Line::Kind),
         Key::Name => VolName::new(value).map(Line::Name),
-        Key::Flags if value == b"autoresize".as_slice() => Some(Line::Autoresize),
-        Key::Flags => None,
+        Key::Flags => flag_of(value),
         Key::Alignment => number(value).map(Line::Alignment),
     };
     Ok(said)

@@ -1,7 +1,7 @@
 //! A section of a config, and the record of its volume.
 
 ghost use Rattle.std.specs.Prelude.{◌≡◌, ◌*◌, ◌≤◌, IfOk, None, unwrap_or};
-ghost use Rattle.ubi_config.specs.Records.{blocks_of, bytes_of, fitting, parts_of, record_in, reserving, sized};
+ghost use Rattle.ubi_config.specs.Records.{blocks_of, bytes_of, fitting, is_empty, parts_of, record_in, reserving, sized};
 ghost use Rattle.ubi_media.specs.Record.{rec_fault, usable};
 
 use crate::errors::ConfigCause;
@@ -21,7 +21,7 @@ pub struct Section {
     pub kind: VolKind,
     /// What the volume uses of a logical eraseblock is a multiple of so many bytes.
     pub alignment: u32,
-    /// 0x01 where the volume grows to the size of the device, else 0.
+    /// 0x01 where the volume grows to the size of the device, 0x02 where the bytes of a static one aren't checked, else 0.
     pub flags: u8,
     /// How many bytes are kept for the volume, where the config says it.
     pub size: Option<u64>,
@@ -62,9 +62,18 @@ impl Section {
         }
     }
 
-    /// The record of a volume of some bytes.
+    /// Whether the volume has no byte, and should: one without an image file, or a dynamic one with an empty file.
+    fn is_empty(&self, image_len: Option<u64>) -> bool
+        ensures { result ≡ is_empty self.now image_len }
+    {
+        match image_len {
+            Some(len) => len == 0 && self.kind == VolKind::Dynamic,
+            None => self.size.unwrap_or(0) == 0,
+        }
+    }
+
+    /// The record of a volume of so many bytes: it reserves an eraseblock at least.
     fn sized(&self, geometry: &Geometry, bytes: u64) -> Result<VolumeRecord, ConfigCause>
-        requires { 1 ≤ bytes }
         ensures value { result ≡ sized geometry.now self.now bytes }
         ensures faultless { IfOk result (λ r. rec_fault geometry.now r ≡ None) }
         ensures room { IfOk result (λ r. bytes ≤ r.reserved * usable geometry.now r) }
@@ -73,7 +82,8 @@ impl Section {
         if let Some(fault) = rec_fault(geometry, &smallest) {
             return Err(ConfigCause::Record(fault));
         }
-        let reserved = parts_of(bytes, smallest.usable(geometry));
+        let parts = parts_of(bytes, smallest.usable(geometry));
+        let reserved = parts.max(1);
         if reserved >= 0x8000_0000 {
             return Err(ConfigCause::TooLarge);
         }
@@ -84,11 +94,13 @@ impl Section {
     }
 
     /// The record of the section's volume, where its image file has so many bytes: None where it names none. It reserves
-    /// the eraseblocks that `vol_size`, or else the image file, fills, each without what the alignment leaves free.
+    /// the eraseblocks that `vol_size`, or else the image file, fills, each without what the alignment leaves free, and one at
+    /// least: so a static volume may be empty.
     ///
     /// # Errors
     ///
-    /// Of these the first: [`Empty`](ConfigCause::Empty) where the image file has no byte, or the volume none;
+    /// Of these the first: [`Empty`](ConfigCause::Empty) where the image file of a dynamic volume has no byte, or a volume
+    /// without an image file none;
     /// [`LongImage`](ConfigCause::LongImage) where the image file has more bytes than `vol_size`;
     /// [`Record`](ConfigCause::Record) where the alignment isn't right for the geometry;
     /// [`TooLarge`](ConfigCause::TooLarge) where 2^31 eraseblocks and more would be reserved;
@@ -103,10 +115,10 @@ impl Section {
         ensures faultless { IfOk result (λ r. rec_fault geometry.now r ≡ None) }
         ensures room { IfOk result (λ r. unwrap_or image_len 0 ≤ r.reserved * usable geometry.now r) }
     {
-        let bytes = self.bytes(image_len);
-        if bytes == 0 || image_len.unwrap_or(1) == 0 {
+        if self.is_empty(image_len) {
             return Err(ConfigCause::Empty);
         }
+        let bytes = self.bytes(image_len);
         if bytes < image_len.unwrap_or(0) {
             return Err(ConfigCause::LongImage);
         }

@@ -91,7 +91,7 @@ fn tells_which_of_two_files_fails(rt: HostRuntime) -> Result<(), Fail> {
 }
 
 /// Configs, what `new.bin` holds, and what is answered. Nothing is written.
-static REFUSED: [(&[u8], Contents, (&str, u8)); 13] = [
+static REFUSED: [(&[u8], Contents, (&str, u8)); 14] = [
     (b"", EMPTY, ("refused I6 NoSection line=1\n", 1)),
     (
         b"\n[a]\nmode=ubi\nvol_name=root\nvol_size=1\n",
@@ -104,6 +104,11 @@ static REFUSED: [(&[u8], Contents, (&str, u8)); 13] = [
         ("refused I5 Unfit line=3\n", 1),
     ),
     (CONFIG, EMPTY, ("refused I13 Empty line=2\n", 1)),
+    (
+        b"[a]\nmode=ubi\nvol_id=0\nvol_name=root\nvol_flags=skip-check\nimage=new.bin\n",
+        CONTENT,
+        ("refused I18 SkipCheck line=1\n", 1),
+    ),
     (
         b"[a]\nmode=ubi\nvol_id=0\nvol_name=root\nvol_size=1151\nimage=new.bin\n",
         CONTENT,
@@ -177,6 +182,51 @@ fn assert_refused(
 fn tells_why_a_config_is_refused(rt: HostRuntime) -> Result<(), Fail> {
     for (config, content, answer) in &REFUSED {
         assert_refused(&rt, rt.alloc(), config, *content, *answer)?;
+    }
+    Ok(())
+}
+
+/// Configs of a static volume, what `new.bin` holds, and what `list` tells of the image that is built.
+static STATIC: [(&[u8], Contents, (&str, u8)); 3] = [
+    (
+        b"[a]\nmode=ubi\nvol_id=0\nvol_name=root\nvol_type=static\nvol_flags=skip-check\nimage=new.bin\n",
+        CONTENT,
+        (
+            "geometry peb=512 page=64 vid=64 data=128 leb=384 slots=2 pebs=32\n\
+            volume 0 static reserved=3 alignment=1 usable=384 flags=02 bytes=1152 name=root\nvolumes 1\n",
+            0,
+        ),
+    ),
+    (
+        b"[a]\nmode=ubi\nvol_id=0\nvol_name=root\nvol_type=static\nimage=new.bin\n",
+        EMPTY,
+        (
+            "geometry peb=512 page=64 vid=64 data=128 leb=384 slots=2 pebs=32\n\
+            volume 0 static reserved=1 alignment=1 usable=384 flags=00 bytes=0 name=root\nvolumes 1\n",
+            0,
+        ),
+    ),
+    (
+        b"[a]\nmode=ubi\nvol_id=1\nvol_name=root\nvol_type=static\nvol_size=769\nimage=new.bin\n",
+        EMPTY,
+        (
+            "geometry peb=512 page=64 vid=64 data=128 leb=384 slots=2 pebs=32\n\
+            volume 1 static reserved=3 alignment=1 usable=384 flags=00 bytes=0 name=root\nvolumes 1\n",
+            0,
+        ),
+    ),
+];
+
+#[test]
+fn builds_static_volumes_that_are_empty_or_unchecked(rt: HostRuntime) -> Result<(), Fail> {
+    let alloc = rt.alloc();
+    for (config, content, listed) in &STATIC {
+        let content = content.bytes(alloc)?;
+        let files = (*config, content.as_slice());
+        let (_, image) = run_over(alloc, files, Broken::Nothing, LINE)?;
+        let files = (image.as_slice(), content.as_slice());
+        let (outcome, _) = run_over(alloc, files, Broken::Nothing, "list a.img")?;
+        assert!(rt; is_answer(&outcome, *listed), "{}", listed.0);
     }
     Ok(())
 }

@@ -23,7 +23,7 @@ returns-clause-answer g c = λ sections are.
     } in
     build_ends (λ f. g.D.Output.Write.contents f.writer) (λ f. f.path.now) d e c.args.asked.now.from.now c.args.asked.now.out.now sections
     c.args.recipe.now _ c.args.asked.now.spares g.K.Target.path (fresh d) late.file c.build_to-work.new.source.len
-    c.build_to-work.new.source.trace.reads c.requires.named refl
+    c.build_to-work.new.source.trace.reads c.told.ensures.meaning c.requires.named refl
     (rw parts.file at parts.named)
     (kept_since (λ f. g.D.Output.Write.contents f.writer) (λ f. f.path.now) d (g.D.Disk.files c.into_parts-disk.result.0.now) e g.K.Target.path
     late.file parts.since (rw parts.file at parts.named) (rw parts.file at c.keep_file.ensures.kept))
@@ -33,7 +33,7 @@ returns-clause-answer g c = λ sections are.
     (keeps_promise _ _ _ c.build_to-work.new.source.told))
     c.told.result known _ _ _ c.build_to-work.result c.finished-end.result
     (subst (λ (x : Option (List ℕ)). IfOk c.build_to-work.result (Wrote (known_by c.build_to-work.new.source.len c.build_to-work.new.source.trace.reads) (fresh d) x (image_built c.args.recipe.now c.args.asked.now.spares) All 0))
-    (sym c.finished-end.ensures.contents) (rw c.new-late.ensures at c.build_to-work.ensures.written)) c.build_to-work.ensures.refused c.finished-end.ensures.done c.finished-end.ensures.failed
+    (sym c.finished-end.ensures.contents) (rw c.new-late.ensures at c.build_to-work.ensures.written)) c.build_to-work.ensures.whole c.build_to-work.ensures.refused c.finished-end.ensures.done c.finished-end.ensures.failed
     (still_unopened (λ l. l.file) c.build_to-work.result c.finished-end.result c.new-late.result c.build_to-work.new.writer late c.new-late.ensures
     c.build_to-work.ensures.untouched c.finished-end.ensures.failed c.finished-end.ensures.untouched)
     (c.told.ensures.told c.args.asked.now.from.now c.args.asked.now.out.now sections are)

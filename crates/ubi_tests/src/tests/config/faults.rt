@@ -14,7 +14,7 @@ fn fault(alloc: Global, text: &[u8]) -> Result<Option<(u32, ConfigCause)>, Fail>
 }
 
 /// A text, and the number and the cause of its first fault, if it has one.
-static FAULTS: [(&[u8], Option<(u32, ConfigCause)>); 50] = [
+static FAULTS: [(&[u8], Option<(u32, ConfigCause)>); 56] = [
     // A line by itself.
     (b"[v]\n# a\\\nmode=ubi", Some((2, ConfigCause::Line))),
     (b"[v]\n# a\0\nmode=ubi", Some((2, ConfigCause::Line))),
@@ -37,6 +37,11 @@ static FAULTS: [(&[u8], Option<(u32, ConfigCause)>); 50] = [
     (b"[v]\nmode=UBI", Some((2, ConfigCause::Unfit))),
     (b"[v]\nvol_type=Static", Some((2, ConfigCause::Unfit))),
     (b"[v]\nvol_flags=01", Some((2, ConfigCause::Unfit))),
+    (b"[v]\nvol_flags=skip_check", Some((2, ConfigCause::Unfit))),
+    (
+        b"[v]\nvol_flags=autoresize,skip-check",
+        Some((2, ConfigCause::Unfit)),
+    ),
     (b"[v]\nvol_id=010", Some((2, ConfigCause::Unfit))),
     (b"[v]\nvol_id=+1", Some((2, ConfigCause::Unfit))),
     (b"[v]\nvol_id=4294967296", Some((2, ConfigCause::Unfit))),
@@ -64,6 +69,14 @@ static FAULTS: [(&[u8], Option<(u32, ConfigCause)>); 50] = [
     (
         b"[v]\nvol_flags=autoresize\n[w]\nvol_flags=autoresize",
         Some((4, ConfigCause::Autoresize)),
+    ),
+    (
+        b"[v]\nvol_flags=autoresize\nvol_flags=skip-check",
+        Some((3, ConfigCause::Again)),
+    ),
+    (
+        b"[v]\nvol_flags=skip-check\n[w]\nvol_flags=skip-check",
+        Some((1, ConfigCause::Missing(Key::Mode))),
     ),
     // The first line decides, and a line before any section.
     (
@@ -95,6 +108,15 @@ static FAULTS: [(&[u8], Option<(u32, ConfigCause)>); 50] = [
     (
         b"[v]\nmode=ubi\nvol_id=1\nvol_name=a\nvol_size=9\n[w]",
         Some((6, ConfigCause::Missing(Key::Mode))),
+    ),
+    // A dynamic volume has no check to skip.
+    (
+        b"\n[v]\nvol_flags=skip-check\nmode=ubi\nvol_id=1\nvol_name=a\nimage=a",
+        Some((2, ConfigCause::SkipCheck)),
+    ),
+    (
+        b"[v]\nvol_flags=skip-check\nmode=ubi\nvol_id=1\nvol_name=a",
+        Some((1, ConfigCause::Missing(Key::Image))),
     ),
     // What is read.
     (b"[v]\nmode=ubi\nvol_id=1\nvol_name=a\nvol_size=9", None),

@@ -6,7 +6,7 @@ use ubi_media::{Geometry, RecFault};
 
 /// The lines of a section, the bytes of its image file, and how many eraseblocks of 384 bytes the volume reserves, or
 /// why it has no record.
-static RECORDS: [(&[u8], Option<u64>, Result<u32, ConfigCause>); 12] = [
+static RECORDS: [(&[u8], Option<u64>, Result<u32, ConfigCause>); 15] = [
     (b"vol_size=384", None, Ok(1)),
     (b"vol_size=385", Some(1), Ok(2)),
     (b"image=a", Some(1), Ok(1)),
@@ -17,6 +17,14 @@ static RECORDS: [(&[u8], Option<u64>, Result<u32, ConfigCause>); 12] = [
         b"image=a\nvol_size=1\nvol_alignment=65",
         Some(0),
         Err(ConfigCause::Empty),
+    ),
+    // A static volume may be empty, and reserves an eraseblock then, or those of its size.
+    (b"image=a\nvol_type=static", Some(0), Ok(1)),
+    (b"image=a\nvol_type=static\nvol_size=769", Some(0), Ok(3)),
+    (
+        b"image=a\nvol_type=static\nvol_alignment=65",
+        Some(0),
+        Err(ConfigCause::Record(RecFault::AlignmentPage)),
     ),
     (b"image=a\nvol_size=768", Some(768), Ok(2)),
     (

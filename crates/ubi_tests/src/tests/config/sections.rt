@@ -44,7 +44,7 @@ const MANUAL: &[u8] =
 
 /// A text with quotes, remarks, blanks and letters of both cases.
 const MIXED: &[u8] = b"# a remark\r\n\r\n [ Boot ] \r\n\tMode = ubi ; a volume\r\nVOL_ID\t=\t7\r\n\
-    vol_name = \"a;b 'c'\" # quoted\r\nimage = a=b\"c\" d # plain\r\nvol_type = 'static'\r\n\
+    vol_name = \"a;b 'c'\" # quoted\r\nimage = a=b\"c\" d # plain\r\nvol_type = 'static'\r\nvol_flags = \"skip-check\"\r\n\
     [w]\nvol_alignment=2048\nvol_size= 16 \t KiB\nvol_name=w\nvol_id=0\nmode='ubi'";
 
 /// A text, and the sections that it gives.
@@ -71,12 +71,12 @@ static SECTIONS: [(&[u8], &[Wanted]); 2] = [
                 name: b"a;b 'c'",
                 kind: VolKind::Static,
                 alignment: 1,
-                flags: 0,
+                flags: 2,
                 size: None,
                 image: Some(b"a=b\"c\" d"),
             },
             Wanted {
-                line: 9,
+                line: 10,
                 id: 0,
                 name: b"w",
                 kind: VolKind::Dynamic,

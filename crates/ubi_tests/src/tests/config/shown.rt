@@ -5,7 +5,7 @@ use ubi_config::{ConfigCause, ConfigError, Key};
 use ubi_media::RecFault;
 
 /// A cause, and its text on line 3.
-static SHOWN: [(ConfigCause, &str, &str); 17] = [
+static SHOWN: [(ConfigCause, &str, &str); 18] = [
     (ConfigCause::Line, "I1 Line", "I1 Line line=3"),
     (ConfigCause::Form, "I2 Form", "I2 Form line=3"),
     (ConfigCause::Key, "I3 Key", "I3 Key line=3"),
@@ -29,6 +29,11 @@ static SHOWN: [(ConfigCause, &str, &str); 17] = [
         ConfigCause::Missing(Key::Id),
         "I12 Missing vol_id",
         "I12 Missing line=3 vol_id",
+    ),
+    (
+        ConfigCause::SkipCheck,
+        "I18 SkipCheck",
+        "I18 SkipCheck line=3",
     ),
     (ConfigCause::Empty, "I13 Empty", "I13 Empty line=3"),
     (
