@@ -1,5 +1,5 @@
 use Rattle.std.proofs.Common.{◌∙◌}
-use Rattle.std.proofs.lemmas.Result.{IfOk-weaker}
+use Rattle.std.proofs.lemmas.Result.{IfErr-weaker, IfOk-weaker}
 use Rattle.ubi_scan.specs.Promised.{keeps_promise}
 use Rattle.ubi_commands.specs.Dump.{seen}
 use Rattle.ubi_commands.specs.Program.{no_file}
@@ -43,3 +43,12 @@ returns-clause-answer g c =
     IfOk-weaker c.answer-in-Err-open_image.result _ _ (λ o h. no_file h)
     (told _ c.in-Err-open_image.error c.answer-in-Err-open_image.result
     (rw c.in-Ok.ensures.dump at c.in-Err-open_image.ensures.unread) c.answer-in-Err-open_image.ensures)
+
+pub returns-in-Ok-AtPlaces-clause-memory : goal.returns-in-Ok-AtPlaces-clause-memory
+returns-in-Ok-AtPlaces-clause-memory g c =
+    IfErr-weaker c.told_or.result _ _ (λ e is. c.run_unpack_from-work.ensures.memory is) c.told_or.ensures.memory
+
+pub returns-in-Ok-Whole-clause-memory : goal.returns-in-Ok-Whole-clause-memory
+returns-in-Ok-Whole-clause-memory g c =
+    IfErr-weaker c.told_or-in-Ok-Whole.result _ _ (λ e is. c.run_unpack_from-work-in-Ok-Whole.ensures.memory is)
+    c.told_or-in-Ok-Whole.ensures.memory
