@@ -514,7 +514,8 @@ def links(looker):
     """An image above 1 GiB that is the output, or should be the pages, by a link. It is read before it is written."""
     g, records = LARGEST, {0: Record(3, 1, 1, 0, b"far", 0)}
     pieces, text = spread(g, 1)
-    image = Sparse(80 * g.peb, table_parts(g, records, (0, 78)) | leb_parts(g, 79, of_leb(2, 9), pieces) | {77 * g.peb: rules.put_block(g, rules.put_ec(g, 0, SEQ))})
+    image = Sparse(80 * g.peb, table_parts(g, records, (0, 78)) | leb_parts(g, 79, of_leb(2, 9), pieces)
+        | {77 * g.peb: rules.put_block(g, rules.put_ec(g, 0, SEQ))})
     normal, read = [rules.normal_image(Meaning(g, SEQ, records, {0: {2: text}}))], list(read_pieces(g, 3, {2: text}))
     for words, line, right in ((["normalise", "far.img"], "blocks 3\n", normal), (["extract", "far.img", "--id", 0], f"bytes {3 * g.leb}\n", read)):
         for make in (os.link, os.symlink):
@@ -525,9 +526,11 @@ def links(looker):
             os.remove(looker.path("far.img"))
     image.put(looker.path("far.img"))
     os.link(looker.path("far.img"), looker.path("link"))
-    for words in (["change", "far.img", "--id", 0, "--lnum", 2, "--from", looker.put("new", noise(1, g.page))], ["rename", "far.img", "--id", 0, "--name", "a"]):
-        yield looker.look(g, [*words, "--out", "/dev/null", "--pages", "link"], "cannot write link\n" if words[0] == "change" else "refused K9 NoFree\n", 1,
-            files=[("far.img", image.pieces())])
+    new = looker.put("new", noise(1, g.page))
+    # A rename would take two free eraseblocks, and there is one.
+    for words, line in ((["change", "far.img", "--id", 0, "--lnum", 2, "--from", new], "cannot write link\n"),
+                        (["rename", "far.img", "--id", 0, "--name", "a"], "refused K9 NoFree\n")):
+        yield looker.look(g, [*words, "--out", "/dev/null", "--pages", "link"], line, 1, files=[("far.img", image.pieces())])
 
 
 FAMILIES = (headers, places, beyond, many, volumes, largest, chips, row, geometry, links)
