@@ -12,7 +12,8 @@ the standard library defines isn't printed. Then, and with --files only, the fil
 with the number of lines of these definitions of all its lines; then the files of src/ with the structs and enums that they
 name. With --down each file stands before those that it uses. The exit status is 1 where a name can't be followed.
 
-With --calls the contracts alone are printed.
+With --calls contracts alone are printed: those of these calls, and then of the calls that the program makes in their place, over files
+that it reads and writes piece by piece, with the call that `main` makes.
 
 With --check the files that the promise rests on are listed, and those that all public contracts rest on. What only private
 functions' contracts and proofs cite lies in specs/inner/. The exit status is 1 where a public contract or a file above that
@@ -35,6 +36,21 @@ CALLS = (
     ("ubi_compose", "comparing", "same"),
     ("ubi_change", "planning", "plan_change"),
     ("ubi_change", "renaming", "plan_rename"),
+)
+# The calls that the program makes of the libraries, over sources and writers, and the one that `main` makes. What `show`, `compose` and
+# `build` read first is in docs/PROVED.md.
+PROGRAM_CALLS = (
+    ("ubi_scan", "detect", "detect_from"),
+    ("ubi_volume", "places", "attach_places"),
+    ("ubi_volume", "surveyed", "survey_from"),
+    ("ubi_volume", "extract", "write_places"),
+    ("ubi_compose", "streaming", "normalise_to"),
+    ("ubi_compose", "comparing", "same_from"),
+    ("ubi_compose", "building", "build_to"),
+    ("ubi_change", "planning", "plan_change_from"),
+    ("ubi_change", "renaming", "plan_rename_from"),
+    ("ubi_change", "writing", "write_after"),
+    ("ubi_commands", "commands", "run_words"),
 )
 NAME = r"[^\s(){}.,;:λ→←∷≡×⊎]+"
 # The first line of a definition: its modifiers, and then its name with a colon, or a record or a family with its own. A
@@ -246,9 +262,9 @@ def print_types(seen):
         print(f"crates/{CRATES[crate]}/src/{module}.rt: {', '.join(sorted(kinds))}")
 
 
-def print_contracts():
+def print_contracts(calls=CALLS):
     parts, place = [], None
-    for crate, module, name in CALLS:
+    for crate, module, name in calls:
         if (crate, module) != place:
             place = crate, module
             parts.append(f"crates/{crate}/src/{module}.rt")
@@ -341,7 +357,7 @@ def main():
     if words == ["--check"]:
         wrong = check()
     elif words == ["--calls"]:
-        print_contracts()
+        print_contracts(CALLS + PROGRAM_CALLS)
     else:
         wrong = tell(words)
     for line in wrong:

@@ -4,7 +4,8 @@
 usage: launch.py [--tool PROGRAM]
 
 The program is run with words that are right, wrong, no text, or refused; with a terminal for standard error, which is told how far
-long work is, and with a pipe, which isn't; and through `./ubi_tool`, called by links, in folders and with words that have blanks.
+long work is, and with a pipe, which isn't; and through `./ubi_tool`, called by links, in folders and with words that have blanks. With
+an `rt` that builds another program it has to run just that where a source is newer, and nothing where the build fails.
 Ends with 'N passed, M failed', and with status 1 where some failed.
 """
 import argparse
@@ -22,6 +23,10 @@ SMALL = ['--peb', '512', '--page', '64']
 CHIP = ['--peb', '131072', '--page', '2048']
 # How many eraseblocks of 128 KiB are long work: 256 MiB.
 LONG = 2048
+
+# What the launcher builds, in this order, and where the program lies that it runs.
+CRATES = ('ubi_media', 'ubi_config', 'ubi_scan', 'ubi_table', 'ubi_volume', 'ubi_change', 'ubi_compose', 'ubi_commands', 'ubi_tool')
+PROGRAM = 'crates/ubi_tool/out/launched/ubi_tool'
 
 # Words, the status, and the beginning of what comes on standard output and on standard error.
 CASES = [
@@ -41,9 +46,9 @@ CASES = [
 ]
 
 
-def run(program, words, **more):
+def run(program, words, stdin=subprocess.DEVNULL, **more):
     """What a run ends with: the status and both outputs."""
-    done = subprocess.run([program, *words], stdin=subprocess.DEVNULL, stdout=subprocess.PIPE, stderr=subprocess.PIPE, check=False, **more)
+    done = subprocess.run([program, *words], stdin=stdin, stdout=subprocess.PIPE, stderr=subprocess.PIPE, check=False, **more)
     return done.returncode, done.stdout, done.stderr
 
 
@@ -96,28 +101,77 @@ def watching(tool, folder):
 
 def launched(tool, folder):
     """That the launcher runs the program that is built, by links, with the words as they were given and the status that it has."""
-    home = folder / 'a house'
-    program = home / 'crates/ubi_tool/out/launched/ubi_tool'
-    program.parent.mkdir(parents=True)
-    source = home / 'crates/ubi_tool/src/main.rt'
-    source.parent.mkdir()
-    source.write_text('')
-    (home / 'crates.txt').write_text('')
-    os.utime(source, (1, 1))
-    os.utime(home / 'crates.txt', (1, 1))
-    shutil.copy(ROOT / 'ubi_tool', home / 'ubi_tool')
-    shutil.copy(tool, program)
-    (folder / 'link').symlink_to('a house/ubi_tool')
+    home = house(folder)
+    shutil.copy(tool, home / PROGRAM)
+    (folder / 'link').symlink_to(f'{home.name}/ubi_tool')
     (folder / 'beyond').mkdir()
     (folder / 'beyond' / 'far link').symlink_to('../link')
     shutil.copy(IMAGE, folder / 'an image')
-    for name in ('a house/ubi_tool', 'link', 'beyond/far link'):
+    for name in (f'{home.name}/ubi_tool', 'link', 'beyond/far link'):
         for words, status, out in ((['list', 'an image', *SMALL], 0, b'geometry peb=512 '),
                                    (['list', 'no image', *SMALL], 1, b'cannot read no image\n'),
                                    (['list', 'a * b', *SMALL], 1, b'cannot read a * b\n'),
                                    (['nonsense word'], 2, b'')):
             came = run(folder / name, words, cwd=folder)
             yield f'{name} {words}: {came}'[:300], fits(came, status, out, b'' if status < 2 else b'error: ')
+    with open(IMAGE, 'rb') as image:
+        came = run(folder / 'link', ['list', '/dev/stdin', *SMALL], stdin=image)
+    yield f'of standard input: {came}'[:300], fits(came, 0, b'geometry peb=512 ', b'')
+
+
+def house(folder):
+    """A repository with the launcher, whose sources are old."""
+    home = folder / 'a  house *'
+    for crate in CRATES:
+        (home / 'crates' / crate / 'src').mkdir(parents=True)
+        (home / 'crates' / crate / 'src/lib.rt').write_text('')
+    (home / PROGRAM).parent.mkdir(parents=True)
+    (home / 'crates.txt').write_text('')
+    for source in sources(home):
+        os.utime(source, (1, 1))
+    shutil.copy(ROOT / 'ubi_tool', home / 'ubi_tool')
+    return home
+
+
+def sources(home):
+    return [home / 'crates.txt', *home.glob('crates/*/src/*.rt')]
+
+
+def kit(folder):
+    """A folder with an `rt` that builds a program which prints its words; not where there is a file `broken` beside it."""
+    place = folder / 'kit'
+    place.mkdir()
+    (place / 'program').write_text('#!/bin/sh\necho "new $1"\nexit 7\n')
+    (place / 'rt').write_text(f'#!/bin/sh\necho "$1" >>{place}/calls\ncase $1 in\n    version) echo rattle-kit-13b ;;\n'
+                              f'    run) [ ! -e {place}/broken ] && cp {place}/program out/ubi_tool ;;\nesac\n')
+    for name in ('program', 'rt'):
+        (place / name).chmod(0o755)
+    return place
+
+
+def rebuilt(tool, folder):
+    """That the launcher builds where a source is newer than the program, runs what was built, and nothing where the build fails."""
+    (folder / 'again').mkdir()
+    home, tools = house(folder / 'again'), kit(folder)
+    path = {'PATH': f'{tools}:/usr/bin:/bin'}
+    for source in sources(home):
+        shutil.copy(tool, home / PROGRAM)
+        os.utime(home / PROGRAM, (2, 2))
+        came = run(home / 'ubi_tool', ['--version'], env=path)
+        yield f'before {source.name} is newer: {came}', fits(came, 2, b'', b'ubi_tool 0.1.0\n') and not (tools / 'calls').exists()
+        os.utime(source, (3, 3))
+        came = run(home / 'ubi_tool', ['a word'], env=path)
+        yield f'{source} is newer: {came}', fits(came, 7, b'new a word\n', b'ubi_tool: building, once') and (tools / 'calls').exists()
+        (tools / 'calls').unlink(missing_ok=True)
+        came = run(home / 'ubi_tool', ['a word'], env=path)
+        yield f'again: {came}', came == (7, b'new a word\n', b'') and not (tools / 'calls').exists()
+        os.utime(source, (1, 1))
+    os.utime(home / PROGRAM, (0, 0))
+    (tools / 'broken').write_text('')
+    came = run(home / 'ubi_tool', ['a word'], env=path)
+    yield f'a build that fails: {came}', fits(came, 1, b'', b'ubi_tool: building, once')
+    came = run(home / 'ubi_tool', ['a word'], env={'PATH': '/usr/bin:/bin'})
+    yield f'without rt: {came}', fits(came, 1, b'', b'ubi_tool: not built yet')
 
 
 def main():
@@ -127,7 +181,7 @@ def main():
     with tempfile.TemporaryDirectory(prefix='ubi-launch-') as room:
         shutil.copy(tool, Path(room) / 'ubi_tool')
         tool, passed, failed = Path(room) / 'ubi_tool', 0, 0
-        for told, is_so in (*statuses(tool), *watching(tool, Path(room)), *launched(tool, Path(room))):
+        for told, is_so in (*statuses(tool), *watching(tool, Path(room)), *launched(tool, Path(room)), *rebuilt(tool, Path(room))):
             passed, failed = passed + is_so, failed + (not is_so)
             if not is_so:
                 print(f'failed: {told}')

@@ -8,7 +8,10 @@ name, by other paths to it, and by links of both kinds. Other outputs are there 
 pipes, or can't be written; and some names have blanks, lines' ends or a hyphen in front.
 Of each case the printed lines and the status are compared, and every file of the folder: what is written has its new bytes, and each
 other file those that it had. Where the pages can't be written the output may have been written or not, and where the
-output can't be, so may the pages.
+output can't be, so may the pages. Whatever stands in the folder stays there as it is: a link, a pipe, a device (made as root alone),
+each file under its number and with its mode.
+Then `unpack` goes into folders that are there already: empty ones, which are taken, and such as hold a file with a dot in front, can't
+be read, are a link, or have a name that differs by a blank.
 
 The cases are always the same. Their files lie in new folders below FOLDER (/tmp where it is left out), which are removed again. Without
 --tool the program is built first where it isn't yet. The last line is 'N passed, M failed', and the exit status is 0 where none failed.
@@ -16,6 +19,8 @@ The cases are always the same. Their files lie in new folders below FOLDER (/tmp
 import argparse
 import dataclasses
 import os
+import shutil
+import stat
 import subprocess
 import tempfile
 
@@ -31,7 +36,7 @@ IMAGE = MORE + rules.put_block(GEOMETRY, rules.put_ec(GEOMETRY))
 # The files of a folder. Each has links too: NAME.soft, NAME.twice to that one, and NAME.hard.
 FILES = {"image": IMAGE, "from": NEW, "spec": SPEC, "config": CONFIG, "content": CONTENT, "old": b"old" * 5000}
 # Other names of a file: with blanks, a line's end and a hyphen.
-ODD = ("-%s", "--%s", "%s ", " %s", "%s\n", "a\n%s", "%s\t", "\\%s", "%s*", "caf\xe9 %s")
+ODD = ("-%s", "--%s", "%s ", " %s", "%s\n", "a\n%s", "%s\t", "\\%s", "%s*", "caf\xe9 %s", "%s.", "\"%s\"", "%s\r", "\u200b%s", "%s\u00a0")
 WORDS = {
     "compose": ["compose", "spec"],
     "build": ["build", "config"],
@@ -45,6 +50,8 @@ OTHERS = ([], ["--stop", "0"], ["--stop", "2"], ["--blank", "keep"], ["--bad="],
 LONG = "n" * 256
 UNTOLD = ("old/", "old/new", "loop", LONG)
 UNWRITABLE = ("folder", "folder/", "folder/.", "no/such", "new/", *UNTOLD, "", ".", "/dev/full", "no/such\nfile", "no/such ")
+# Devices of the folder, which root alone can make: their numbers.
+DEVICES = {"null": os.makedev(1, 3), "full": os.makedev(1, 7)} if os.geteuid() == 0 else {}
 
 
 @dataclasses.dataclass(frozen=True)
@@ -170,7 +177,7 @@ def unread():
 
 def unwritable():
     """The output or the pages can't be written. `build` doesn't read an image file that may be the output."""
-    for path in UNWRITABLE:
+    for path in (*UNWRITABLE, *(name for name in DEVICES if name == "full")):
         for command in WORDS:
             is_unread = command == "build" and path in UNTOLD
             yield Case(WORDS[command], path, None, "cannot read content\n") if is_unread else cannot_write(WORDS[command], path)
@@ -186,7 +193,8 @@ def unwritable():
 
 def existing():
     """The output or the pages are there already, as a file that is longer or a link, or aren't there."""
-    for path in ("new", "old", "old.soft", "old.twice", "old.hard", "nowhere", "folder/new", "folder/../new", "FOLDER/new", "/dev/null"):
+    devices = ("/dev/null", *(name for name in DEVICES if name == "null"))
+    for path in ("new", "old", "old.soft", "old.twice", "old.hard", "secret", "nowhere", "folder/new", "folder/../new", "FOLDER/new", *devices):
         for command in WORDS:
             yield Case(WORDS[command], path)
         for command, more in ((command, more) for command in ("change", "rename") for more in OTHERS):
@@ -255,8 +263,11 @@ def fill(folder):
     os.symlink("new", os.path.join(folder, "nowhere"))
     os.symlink("loop", os.path.join(folder, "loop"))
     os.mkfifo(os.path.join(folder, "pipe"))
-    with open(os.path.join(folder, "sealed"), "wb"):
-        os.chmod(file_of(folder, "sealed"), 0o400)
+    for name, mode in (("sealed", 0o400), ("secret", 0o600)):
+        with open(os.path.join(folder, name), "wb"):
+            os.chmod(file_of(folder, name), mode)
+    for name, device in DEVICES.items():
+        os.mknod(os.path.join(folder, name), 0o666 | stat.S_IFCHR, device)
 
 
 def file_of(folder, word):
@@ -277,6 +288,16 @@ def held(folder):
             if os.path.isfile(path) and not os.path.islink(path):
                 with open(path, "rb") as file:
                     found[path] = file.read()
+    return found
+
+
+def standing(folder):
+    """What stands at each path of a folder and of its folders: its kind and mode, its number, and where it leads if it is a link."""
+    found = {}
+    for place, names, more in os.walk(folder):
+        for path in (os.path.join(place, name) for name in (*names, *more)):
+            of = os.lstat(path)
+            found[path] = of.st_mode, of.st_ino, os.readlink(path) if stat.S_ISLNK(of.st_mode) else None
     return found
 
 
@@ -322,7 +343,7 @@ class Looker:
     def __init__(self, tool, folder):
         self.tool, self.folder = tool, folder
         fill(folder)
-        self.before = held(folder)
+        self.before, self.stood = held(folder), standing(folder)
 
     def run(self, case):
         """What is printed, with which status, and what a reader of the pipe gets."""
@@ -361,7 +382,10 @@ class Looker:
 
     def wrong_file(self, case, keys, places, new):
         """What is wrong with the files: each that is written has its new bytes, and each other one its old ones or isn't there."""
-        after = held(self.folder)
+        after, stands = held(self.folder), standing(self.folder)
+        for path, what in self.stood.items():
+            if stands.get(path) != what:
+                return f"{os.path.relpath(path, self.folder)!r} isn't what stood there"
         for path in {*self.before, *after, *(place for place in places.values() if self.is_new(place))}:
             written = [option for option, place in places.items() if place == keys.get(path, path)]
             right = [new[option] for option in written] if case.line is None else []
@@ -391,13 +415,64 @@ def wrongs(tool, within):
                 yield left[0], looker.wrong(left.pop(0))
 
 
+def unpack_into(tool, folder, name, is_taken, is_other=False):
+    """Unpacks into a folder of that name, maybe as somebody else than root. Gives what it was, and what is wrong; None where the files
+    come where they should, or nothing is written."""
+    text = rules.Image(GEOMETRY, IMAGE).read_volume(0)
+    before, path = standing(folder), os.path.join(folder, name, "0-root")
+    other = ["setpriv", "--reuid=65534", "--regid=65534", "--clear-groups"] if is_other and os.geteuid() == 0 else []
+    words = [*other, tool, "unpack", "image", f"--out={name}", *GEOMETRY.words()]
+    ran = subprocess.run(words, stdin=subprocess.DEVNULL, capture_output=True, cwd=folder, timeout=10)
+    after, line = standing(folder), f"volume 0 bytes={len(text)} name=root\n" if is_taken else f"cannot write {name}\n"
+    new = {where for where in after if where not in before}
+    right = {path, os.path.dirname(path)} - before.keys() if is_taken else set()
+    wrong = None
+    if (ran.stdout, ran.returncode) != (line.encode(), 0 if is_taken else 1):
+        wrong = f"its status is {ran.returncode}, and it prints {ran.stdout[:200]!r}"
+    elif new != right or any(after.get(where) != what for where, what in before.items()):
+        wrong = f"new are {sorted(new)}, or something isn't there any more"
+    elif is_taken and held(folder)[path] != text:
+        wrong = f"{path} holds something else"
+    return f"unpack into {name!r}", wrong
+
+
+def unpacking(tool, within):
+    """`unpack` into folders that are there already, or whose names differ by a blank. Everybody may reach the program and the image."""
+    with tempfile.TemporaryDirectory(dir=within) as room:
+        os.chmod(room, 0o755)
+        tool, folder = shutil.copy(tool, os.path.join(room, "tool")), os.path.join(room, "folder")
+        os.chmod(tool, 0o755)
+        os.mkdir(folder)
+        with open(os.path.join(folder, "image"), "wb") as file:
+            file.write(IMAGE)
+        for name, inside in (("hidden", ".config"), ("dots", "..."), ("double", "..a"), ("blank", " "), ("line", "\n"), ("full", "0-root")):
+            os.mkdir(os.path.join(folder, name))
+            with open(os.path.join(folder, name, inside), "wb"):
+                yield unpack_into(tool, folder, name, False)
+        for name in ("empty", "empty.", "unread", "shut"):
+            os.mkdir(os.path.join(folder, name))
+        os.symlink("empty", os.path.join(folder, "link"))
+        os.mkfifo(os.path.join(folder, "pipe"))
+        for name in ("link", "image", "pipe", "no/such", ""):
+            yield unpack_into(tool, folder, name, False)
+        for name in ("empty ", "empty", "empty\t", " empty", "empty.", "a new one", "-o"):
+            yield unpack_into(tool, folder, name, True)
+        yield unpack_into(tool, folder, "empty", False)
+        # Files can be made in a folder that can't be read, but nobody can tell what is in there.
+        os.chmod(folder, 0o777)
+        for name, mode in (("unread", 0o333), ("shut", 0)):
+            os.chmod(os.path.join(folder, name), mode)
+            yield unpack_into(tool, folder, name, False, is_other=True)
+            os.chmod(os.path.join(folder, name), 0o755)
+
+
 def main():
     words = argparse.ArgumentParser(description=__doc__, formatter_class=argparse.RawDescriptionHelpFormatter)
     words.add_argument("--dir", default="/tmp")
     words.add_argument("--tool", help="the program; the one that ./ubi_tool starts where it is left out")
     words = words.parse_args()
     tool, passed, failed = os.path.abspath(built(words.tool)), 0, 0
-    for case, wrong in wrongs(tool, words.dir):
+    for case, wrong in (*wrongs(tool, words.dir), *unpacking(tool, words.dir)):
         if wrong:
             print(f"{case}: {wrong}", flush=True)
         passed, failed = passed + (not wrong), failed + bool(wrong)

@@ -20,6 +20,7 @@ mod memory;
 mod normalise;
 mod normalise_files;
 mod once;
+mod opened;
 mod pebs;
 mod plans;
 mod printing;

@@ -1,9 +1,9 @@
 //! What commands answer, over bytes and over files, compared with what they are to answer.
 
 use super::contents::Contents;
-use super::fake::{Broken, FakeFiles};
+use super::fake::{Broken, FakeFiles, Left};
+use super::opened::opens_right;
 use std::alloc::{AllocError, Global};
-use std::cell::RefCell;
 use std::fs::Files;
 use std::os::unix::fs::FileExt;
 use std::process::Abort;
@@ -89,17 +89,20 @@ pub fn run_over(
     broken: Broken,
     line: &str,
 ) -> Result<(Outcome, Vec<u8>), Fail> {
-    let shown = RefCell::new(String::new(alloc));
-    let written = RefCell::new(Vec::new(alloc));
+    let left = Left::new(alloc);
     let files = FakeFiles {
         image,
         new,
         broken,
-        written: &written,
-        shown: &shown,
+        left: &left,
     };
     let outcome = run_line(&files, alloc, with_sizes(alloc, line)?.as_str())?;
-    Ok((outcome, written.into_inner()))
+    let (written, opened) = (left.written.into_inner(), left.opened.into_inner());
+    if opens_right(line, &outcome, written.is_empty(), opened.as_str()) {
+        Ok((outcome, written))
+    } else {
+        Err("opens other files".into())
+    }
 }
 
 /// Asserts what is answered and written so.

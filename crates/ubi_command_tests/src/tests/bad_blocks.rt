@@ -2,10 +2,9 @@
 
 use super::answers::{Run, assert_over, assert_runs, is_answer, run_line, run_over};
 use super::contents::{Contents, overwrite};
-use super::fake::{Broken, FakeFiles};
+use super::fake::{Broken, FakeFiles, Left};
 use super::pebs::{A, B, C, ERASED, FIRST, FREE, OLD, Peb, SECOND, TORN};
 use std::alloc::Global;
-use std::cell::RefCell;
 use std::process::Abort;
 use std::test::Fail;
 use ubi_probe::header_bytes::{COPY_OF_64, ERASED_EC};
@@ -83,14 +82,14 @@ static NO_LISTS: [&str; 20] = [
 
 /// Asserts that the words of a line are wrong: nothing is printed and no file is written, and standard error says why.
 fn assert_wrong(rt: &impl Abort, alloc: Global, line: &str, why: &str) -> Result<(), Fail> {
-    let shown = RefCell::new(String::new(alloc));
-    let written = RefCell::new(Vec::new(alloc));
+    let left = Left::new(alloc);
     let image = Contents::Spare.bytes(alloc)?;
-    let files = FakeFiles::of(image.as_slice(), Broken::Nothing, &written, &shown);
+    let files = FakeFiles::of(image.as_slice(), Broken::Nothing, &left);
     let line = format!(in alloc; "{line} --peb 512 --page 64 --pebs 32")?;
     let outcome = run_line(&files, alloc, line.as_str())?;
-    let is_shown = shown.into_inner().as_str().contains(why);
-    let is = is_answer(&outcome, ("", 2)) && is_shown && written.into_inner().is_empty();
+    let is_shown = left.shown.into_inner().as_str().contains(why);
+    let is_untouched = left.written.into_inner().is_empty() && left.opened.into_inner().is_empty();
+    let is = is_answer(&outcome, ("", 2)) && is_shown && is_untouched;
     assert!(*rt; is, "of {line}");
     Ok(())
 }

@@ -5,14 +5,14 @@
 
 use super::answers::{run_line, small};
 use super::build::CONFIG;
-use super::fake::{Broken, FakeFiles};
+use super::fake::{Broken, FakeFiles, Left};
 use super::geometry::SMALL;
+use super::opened::opens_right;
 use super::pebs::{
     NORMAL_A, NORMAL_B, NORMAL_C, Peb, ROOT_FIRST, ROOT_SECOND, UNNAMED_FREE, put_pebs,
 };
 use super::rename::LINES;
 use std::alloc::{AllocError, Global};
-use std::cell::RefCell;
 use std::process::Abort;
 use std::test::Fail;
 use ubi_commands::{
@@ -214,21 +214,20 @@ fn is_run(
     line: &str,
     (text, count): (&str, usize),
 ) -> bool {
-    let shown = RefCell::new(String::new(alloc));
-    let written = RefCell::new(Vec::new(alloc));
+    let left = Left::new(alloc);
     let files = FakeFiles {
         image,
         new: &[0x61; 64],
         broken: Broken::Nothing,
-        written: &written,
-        shown: &shown,
+        left: &left,
     };
     let answer = run_line(&files, alloc, line);
-    let written = written.into_inner().len();
+    let (written, opened) = (left.written.into_inner().len(), left.opened.into_inner());
     match answer {
         Ok(outcome) if written == count => {
             assert!(rt; outcome.text.as_slice() == text.as_bytes());
             assert_eq!(rt; outcome.status, 0);
+            assert!(rt; opens_right(line, &outcome, written == 0, opened.as_str()));
             true
         }
         Ok(outcome) => {
@@ -238,6 +237,7 @@ fn is_run(
         }
         Err(AllocError) => {
             assert_eq!(rt; written, 0);
+            assert!(rt; opened.is_empty());
             false
         }
     }

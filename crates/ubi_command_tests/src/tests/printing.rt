@@ -1,8 +1,7 @@
 //! Printing over terminals that fail.
 
-use super::fake::{Broken, FakeFiles};
+use super::fake::{Broken, FakeFiles, Left};
 use std::alloc::{AllocError, Global};
-use std::cell::RefCell;
 use std::io;
 use std::process::Abort;
 use std::test::Fail;
@@ -16,11 +15,10 @@ fn assert_reports(
     room: usize,
     (text, error, status): (&str, &str, u8),
 ) {
-    let printed = RefCell::new(Vec::new(alloc));
-    let shown = RefCell::new(String::new(alloc));
-    let terminal = FakeFiles::of(&[], Broken::Write(room), &printed, &shown);
+    let left = Left::new(alloc);
+    let terminal = FakeFiles::of(&[], Broken::Write(room), &left);
     let ended = report(&terminal, &mut io::writer(&terminal), answer);
-    let (printed, shown) = (printed.into_inner(), shown.into_inner());
+    let (printed, shown) = (left.written.into_inner(), left.shown.into_inner());
     let is_shown = printed.as_slice() == text.as_bytes() && shown.as_str() == error;
     assert!(*rt; is_shown && ended == status, "in {room} bytes");
 }

@@ -1,8 +1,7 @@
 //! What is told of long work.
 
-use super::fake::{Broken, FakeFiles};
+use super::fake::{Broken, FakeFiles, Left};
 use std::alloc::Global;
-use std::cell::RefCell;
 use std::fmt::Display;
 use std::io;
 use std::io::Write;
@@ -60,11 +59,10 @@ fn work(terminal: &impl Eprint, alloc: Global, most: u64, is_watched: bool) -> R
 
 /// What is told of that work.
 fn told(alloc: Global, most: u64, is_watched: bool) -> Result<String, Fail> {
-    let shown = RefCell::new(String::new(alloc));
-    let written = RefCell::new(Vec::new(alloc));
-    let files = FakeFiles::of(&[], Broken::Nothing, &written, &shown);
+    let left = Left::new(alloc);
+    let files = FakeFiles::of(&[], Broken::Nothing, &left);
     work(&files, alloc, most, is_watched)?;
-    Ok(shown.into_inner())
+    Ok(left.shown.into_inner())
 }
 
 /// How long the work may be, whether somebody watches, and what is told of it.
@@ -104,16 +102,15 @@ static LONG: [&str; 7] = [
 #[test]
 fn tells_of_a_long_image(rt: HostRuntime) -> Result<(), Fail> {
     let alloc = rt.alloc();
-    let shown = RefCell::new(String::new(alloc));
-    let written = RefCell::new(Vec::new(alloc));
-    let files = FakeFiles::of(&[0xFF], Broken::Blank(1 << 28), &written, &shown);
+    let left = Left::new(alloc);
+    let files = FakeFiles::of(&[0xFF], Broken::Blank(1 << 28), &left);
     let mut words = Vec::new(alloc);
     for word in LONG {
         words.push(String::from_str(alloc, word)?)?;
     }
     let outcome = run_words(&mut Host::new(&files), alloc, words.as_slice(), true)?;
     assert_eq!(rt; outcome.text.as_slice(), b"blocks 2\n".as_slice());
-    let shown = shown.into_inner();
+    let shown = left.shown.into_inner();
     assert!(rt; shown.as_str() == "\r1 % of the image\r\x1b[K", "{shown}");
     Ok(())
 }

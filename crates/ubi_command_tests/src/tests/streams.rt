@@ -1,8 +1,7 @@
 //! Reading through readers that fail.
 
-use super::fake::{Broken, FakeFiles};
+use super::fake::{Broken, FakeFiles, Left};
 use std::alloc::Global;
-use std::cell::RefCell;
 use std::fs;
 use std::io::ErrorKind;
 use std::process::Abort;
@@ -37,9 +36,8 @@ static READ: [(u64, u64, usize); 7] = [
 /// Asserts that a read is told of that fails by an error of a kind once so many bytes were read, and that these are
 /// read.
 fn assert_fails(rt: &impl Abort, alloc: Global, kind: ErrorKind, after: usize) -> Result<(), Fail> {
-    let shown = RefCell::new(String::new(alloc));
-    let written = RefCell::new(Vec::new(alloc));
-    let files = FakeFiles::of(&[7; 40_000], Broken::Read(kind, after), &written, &shown);
+    let left = Left::new(alloc);
+    let files = FakeFiles::of(&[7; 40_000], Broken::Read(kind, after), &left);
     let (mut file, mut again) = (fs::open(&files, "a.img")?, fs::open(&files, "a.img")?);
     let error = read_limited(alloc, &mut file, 40_000, 40_000).err();
     let bytes = read_limited(alloc, &mut again, after as u64, 0)?;

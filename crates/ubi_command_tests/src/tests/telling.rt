@@ -7,10 +7,11 @@ use super::answers::{is_answer, run_on, with_sizes};
 use super::build::CONTENT;
 use super::contents::Contents;
 use super::geometry::SMALL;
+use super::opened::opens_right;
 use std::alloc::Global;
 use std::fmt::Display;
 use std::io;
-use std::io::ErrorKind;
+use std::io::{ErrorKind, Write};
 use std::test::Fail;
 use ubi_commands::{Disk, OutputFile, SizedFile, ToolError, WholeFile};
 use ubi_scan::PlacedFile;
@@ -41,6 +42,8 @@ struct Telling<'a> {
     config: Option<&'a [u8]>,
     out: Option<Vec<u8>>,
     unpacked: Option<Vec<u8>>,
+    /// The paths that were to be opened to be written, a line each.
+    opened: String,
 }
 
 /// Bytes that are read at places.
@@ -116,6 +119,7 @@ impl<'a> Disk for Telling<'a> {
     }
 
     fn create<'p>(&mut self, path: &'p str) -> io::Result<OutputFile<'p, Vec<u8>>> {
+        writeln!(self.opened, "{path}")?;
         if path == OUT {
             self.out = Some(Vec::new(self.alloc));
             Ok(OutputFile::new(path, Vec::new(self.alloc)))
@@ -125,6 +129,7 @@ impl<'a> Disk for Telling<'a> {
     }
 
     fn create_new<'p>(&mut self, path: &'p str) -> io::Result<OutputFile<'p, Vec<u8>>> {
+        writeln!(self.opened, "{path}")?;
         if path == UNPACKED && self.unpacked.is_none() {
             self.unpacked = Some(Vec::new(self.alloc));
             Ok(OutputFile::new(path, Vec::new(self.alloc)))
@@ -266,12 +271,15 @@ fn answers_of_the_named_files(rt: HostRuntime) -> Result<(), Fail> {
             config: None,
             out: None,
             unpacked: None,
+            opened: String::new(alloc),
         };
         let outcome = run_on(&mut disk, alloc, with_sizes(alloc, line)?.as_str())?;
         assert!(rt; is_answer(&outcome, *answer), "of {line}");
         assert!(rt; disk.out == bytes_of(alloc, *output)?, "of {line}");
         assert!(rt; disk.unpacked == bytes_of(alloc, *unpacked)?, "of {line}");
-        assert!(rt; disk.image.is_some(), "of {line}");
+        let is_unwritten = disk.out.is_none() && disk.unpacked.is_none();
+        let is_right = opens_right(line, &outcome, is_unwritten, disk.opened.as_str());
+        assert!(rt; is_right && disk.image.is_some(), "of {line}");
     }
     Ok(())
 }
@@ -315,11 +323,16 @@ fn builds_of_the_named_files(rt: HostRuntime) -> Result<(), Fail> {
             config: Some(ROOT_CONFIG),
             out: None,
             unpacked: None,
+            opened: String::new(alloc),
         };
         let outcome = run_on(&mut disk, alloc, with_sizes(alloc, line)?.as_str())?;
         assert!(rt; is_answer(&outcome, *answer), "of {line}");
         assert!(rt; disk.out == bytes_of(alloc, *output)?, "of {line}");
-        assert!(rt; disk.image.is_some() && disk.config.is_some(), "of {line}");
+        let is_right = opens_right(line, &outcome, disk.out.is_none(), disk.opened.as_str());
+        assert!(rt;
+            is_right && disk.image.is_some() && disk.config.is_some(),
+            "of {line}"
+        );
     }
     Ok(())
 }

@@ -1,9 +1,8 @@
 //! Words of the command line, over files that aren't there.
 
 use super::answers::{is_answer, run_line};
-use super::fake::{Broken, FakeFiles};
+use super::fake::{Broken, FakeFiles, Left};
 use std::alloc::Global;
-use std::cell::RefCell;
 use std::process::Abort;
 use std::test::Fail;
 
@@ -16,12 +15,13 @@ fn assert_answers(
     answer: (&str, u8),
     error: &str,
 ) -> Result<(), Fail> {
-    let shown = RefCell::new(String::new(alloc));
-    let written = RefCell::new(Vec::new(alloc));
-    let files = FakeFiles::of(&[], Broken::OpenRead, &written, &shown);
+    let left = Left::new(alloc);
+    let files = FakeFiles::of(&[], Broken::OpenRead, &left);
     let outcome = run_line(&files, alloc, line)?;
-    let shown = shown.into_inner();
-    let is_shown = shown.as_str().contains(error) && shown.is_empty() == error.is_empty();
+    let (shown, opened) = (left.shown.into_inner(), left.opened.into_inner());
+    let is_shown = shown.as_str().contains(error)
+        && shown.is_empty() == error.is_empty()
+        && opened.is_empty();
     assert!(*rt;
         is_shown && is_answer(&outcome, answer),
         "of {line:?}: {shown}"

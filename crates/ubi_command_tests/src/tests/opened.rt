@@ -1,0 +1,71 @@
+//! Which files a run may open to write them.
+
+use ubi_commands::Outcome;
+
+/// The word behind an option, if it is there.
+fn value<'a>(line: &'a str, option: &str) -> Option<&'a str> {
+    let mut is_next = false;
+    for word in line.split_whitespace() {
+        if is_next {
+            return Some(word);
+        }
+        is_next = word == option;
+    }
+    None
+}
+
+/// Whether nothing may be opened: the words are wrong, the work is refused, or nothing was written by a read that failed.
+fn opens_nothing(outcome: &Outcome, is_unwritten: bool) -> bool {
+    let text = outcome.text.as_slice();
+    let is_unread = text.starts_with(b"cannot read ");
+    outcome.status == 2
+        || text.starts_with(b"refused ")
+        || text.starts_with(b"left ")
+        || text.starts_with(b"right ")
+        || (is_unread && is_unwritten)
+}
+
+/// Whether the paths that were opened, a line each, are the first ones of those behind `--out` and `--pages`, and all of
+/// them where the work is done.
+fn are_outputs(line: &str, is_done: bool, opened: &str) -> bool {
+    let (out, pages) = (value(line, "--out"), value(line, "--pages"));
+    let mut paths = opened.lines();
+    let (first, second) = (paths.next(), paths.next());
+    let is_first = first == out || (!is_done && first.is_none());
+    let is_second = second == pages || (!is_done && second.is_none());
+    is_first && is_second && paths.next().is_none()
+}
+
+/// Whether they are files of the folder behind `--out`, and as many as lines were printed where the work is done.
+fn are_unpacked(line: &str, outcome: &Outcome, opened: &str) -> bool {
+    let Some(folder) = value(line, "--out") else {
+        return opened.is_empty();
+    };
+    let mut count: usize = 0;
+    for path in opened.lines() {
+        count = count.saturating_add(1);
+        match path.strip_prefix(folder) {
+            Some(name) if name.starts_with("/") => {}
+            _ => return false,
+        }
+    }
+    let mut printed: usize = 0;
+    for byte in outcome.text.as_slice() {
+        if *byte == b'\n' {
+            printed = printed.saturating_add(1);
+        }
+    }
+    outcome.status != 0 || count == printed
+}
+
+/// Whether a line opened the files that its outcome may have been written to, in their order, and none else. The paths stand a
+/// line each.
+pub fn opens_right(line: &str, outcome: &Outcome, is_unwritten: bool, opened: &str) -> bool {
+    if opens_nothing(outcome, is_unwritten) {
+        return opened.is_empty();
+    }
+    if line.starts_with("unpack ") {
+        return are_unpacked(line, outcome, opened);
+    }
+    are_outputs(line, outcome.status == 0, opened)
+}
