@@ -12,6 +12,7 @@ pub mod FedWords
 pub mod First
 pub mod GeometryVectors
 pub mod Headers
+pub mod KeptLimits
 pub mod Lookups
 pub mod Mirror
 pub mod Names

@@ -1,12 +1,13 @@
 //! Laws of the definitions that the contracts cite, each as the contract of a function that does nothing.
 
-ghost use Rattle.std.specs.Prelude.{◌≡◌, ℕ, ◌+◌, ◌++◌, ◌^◌, ◌<◌, ◌↔◌, List, Option};
+ghost use Rattle.std.specs.Prelude.{◌≡◌, ℕ, ◌+◌, ◌++◌, ◌^◌, ◌<◌, ◌↔◌, List, None, Option};
 ghost use Rattle.std.specs.Option.{ForSome};
 ghost use Rattle.ubi_media.specs.Check.{check_from, remainder};
 ghost use Rattle.ubi_media.specs.Ec as ec;
 ghost use Rattle.ubi_media.specs.Ec.{EcIs, ec_bytes, ec_reading, ec_start, offsets_in};
 ghost use Rattle.ubi_media.specs.First.{IsFirst};
-ghost use Rattle.ubi_media.specs.Geometry.{Sizes};
+ghost use Rattle.ubi_media.specs.Geometry.{IsGeometry, Sizes};
+ghost use Rattle.ubi_media.specs.Limits.{first_broken};
 ghost use Rattle.ubi_media.specs.Record as rec;
 ghost use Rattle.ubi_media.specs.Record.{RecIs, rec_bytes, rec_reading};
 ghost use Rattle.ubi_media.specs.Remainder.{IsRemainder};
@@ -24,6 +25,11 @@ ghost use Rattle.ubi_media.specs.declared.record.VolumeRecord.{VolumeRecord};
 ghost use Rattle.ubi_media.specs.declared.vid.VidFields.{VidFields};
 ghost use Rattle.ubi_media.specs.declared.vid.VidHeader.{VidHeader};
 ghost use Rattle.ubi_media.specs.declared.vid.VidRead.{VidRead};
+
+/// Numbers are those of a geometry exactly where they break no limit.
+pub fn limits_of_geometry()
+    ensures { (s : Sizes) → (first_broken s ≡ None) ↔ IsGeometry s }
+{}
 
 /// The division by the generator leaves a remainder, and there is no other.
 pub fn one_remainder()

@@ -65,7 +65,7 @@ impl PlacedFile for KnownFile<'_> {
 
 impl<'a> Disk for Telling<'a> {
     ghost use Rattle.ubi_commands.specs.Disk.{IsKept};
-    ghost use Rattle.ubi_commands.specs.inner.Telling.{telling};
+    ghost use Rattle.ubi_commands.specs.inner.Telling.{opens_image, telling};
 
     type Placed = KnownFile<'a>;
 
@@ -74,6 +74,8 @@ impl<'a> Disk for Telling<'a> {
     type Output = Vec<u8>;
 
     ghost same_telling = { λ a b. refl };
+
+    ghost opens = { λ disk path. opens_image (option_map (λ bytes. bytes.now) disk.image) path };
 
     ghost files = { λ disk. telling (option_map (λ bytes. bytes.now) disk.image) (option_map (λ bytes. bytes.now) disk.config) (option_map (λ bytes. bytes.items) disk.out) (option_map (λ bytes. bytes.items) disk.unpacked) };
 

@@ -1,5 +1,5 @@
 -- What is known of a disk for tests.
-use Rattle.std.specs.Prelude.{List, None, Option, codes, if◌then◌else◌, true, ℕ}
+use Rattle.std.specs.Prelude.{◌&&◌, Bool, List, None, Option, codes, if◌then◌else◌, is_some, true, ℕ}
 use Rattle.std.specs.Str.{bytes_eq}
 use Rattle.ubi_commands.specs.Disk.{Files}
 
@@ -27,3 +27,7 @@ telling image config out unpacked = record {
       else (if bytes_eq path unpacked_path then unpacked
       else (if bytes_eq path image_path then image else (if bytes_eq path config_path then config else None)));
 }
+
+-- its image can be opened, if it is there
+abbrev pub opens_image : Option (List ℕ) → List ℕ → Bool
+opens_image image path = bytes_eq path image_path && is_some image

@@ -150,6 +150,22 @@ fn place(way: &Way, k: u64) -> u64 {
     }
 }
 
+/// Asserts that a read gives the bytes of its place.
+fn assert_read(
+    rt: &impl Abort,
+    source: &mut FileSource<CountedFile<'_>>,
+    bytes: &[u8],
+    at: u64,
+    room: &mut [u8],
+) -> Result<(), Fail> {
+    let is_within = at <= source.len() && room.len() as u64 <= source.len() - at;
+    assert!(*rt; is_within, "at {at}");
+    source.read(at, room)?;
+    let rest = bytes.get(at as usize..).ok_or("too far")?;
+    assert!(*rt; rest.starts_with(room), "at {at}");
+    Ok(())
+}
+
 /// Asserts how often a file is read in one way, and that each read gives its bytes.
 fn assert_way(rt: &impl Abort, alloc: Global, bytes: &[u8], way: &Way) -> Result<(), Fail> {
     let (reads, asked) = (Cell::new(0), Cell::new(0));
@@ -161,12 +177,7 @@ fn assert_way(rt: &impl Abort, alloc: Global, bytes: &[u8], way: &Way) -> Result
     let mut source = FileSource::of(file, bytes.len() as u64);
     let mut room = vec![in alloc; 0u8; way.len]?;
     for k in 0..way.count {
-        let at = place(way, k);
-        let end = at.saturating_add(way.len as u64);
-        assert!(*rt; at < end && end <= source.len(), "at {at}");
-        source.read(at, room.as_mut_slice())?;
-        let is_read = bytes.get(at as usize..end as usize) == Some(room.as_slice());
-        assert!(*rt; is_read, "at {at}");
+        assert_read(rt, &mut source, bytes, place(way, k), room.as_mut_slice())?;
     }
     assert!(*rt;
         reads.get() == way.reads && asked.get() == way.asked,
