@@ -102,10 +102,10 @@ def watching(tool, folder):
     yield f'with a pipe: {came}', came == (0, f'blocks {LONG + 2}\n'.encode(), b'')
     shown = on_terminal([tool, *words])
     yield f'with a terminal: {shown[-80:]}', b'%' in shown
-    # What is written of an image of 64 GiB is less than a hundredth of it.
-    os.truncate(image, 2**36)
+    # Of 8 GiB a hundredth is 85,899,345 bytes, and the normal image has 2050 * 131,072 = 268,697,600.
+    os.truncate(image, 2**33)
     shown = on_terminal([tool, *words])
-    yield f'of 64 GiB: {shown[-80:]}', not shown
+    yield f'of 8 GiB: {shown[-80:]}', b'\r3 %' in shown and b'\r4 %' not in shown
 
 
 def launched(tool, folder):
