@@ -40,6 +40,11 @@ CASES = [
     (['extract', IMAGE, '--id', '7', '--out', '/dev/null', *SMALL], 1, b'refused L1 NoVolume\n', b''),
     (['list', IMAGE, *SMALL, '--bad', '3,,4'], 2, b'', b"error: '--bad <LIST>'"),
     (['change', '/dev/zero', '--id', '0', '--lnum', '0', '--from', IMAGE, '--out', '/dev/null', *SMALL], 2, b'', b"error: '--bad <LIST>' is needed"),
+    (['change', '/dev/zero', '--id', '0', '--lnum', '0', '--from', IMAGE, '--out', '/dev/null', *SMALL, '--pebs', '8'], 2, b'',
+        b"error: '--bad <LIST>' is needed"),
+    (['rename', '/dev/zero', '--id', '0', '--name', 'a', '--out', '/dev/null', *SMALL], 2, b'', b"error: '--bad <LIST>' is needed"),
+    (['list', '/dev/zero', *SMALL], 1, b'cannot read /dev/zero\n', b''),
+    (['change', IMAGE, '--id', '0', '--lnum', '0', '--from', IMAGE, '--out', '/dev/null', *SMALL, '--blank', 'no'], 2, b'', b"error: '--blank' takes"),
     (['same', IMAGE, IMAGE, *SMALL], 0, b'same\n', b''),
     (['same', IMAGE, ROOT / 'crates/ubi_tool/data/spare.img', *SMALL], 0, b'same\n', b''),
     (['check', IMAGE, *SMALL], 0, b'blocks 5\n', b''),
@@ -97,6 +102,10 @@ def watching(tool, folder):
     yield f'with a pipe: {came}', came == (0, f'blocks {LONG + 2}\n'.encode(), b'')
     shown = on_terminal([tool, *words])
     yield f'with a terminal: {shown[-80:]}', b'%' in shown
+    # Of 8 GiB a hundredth is 85,899,345 bytes, and the normal image has 2050 * 131,072 = 268,697,600.
+    os.truncate(image, 2**33)
+    shown = on_terminal([tool, *words])
+    yield f'of 8 GiB: {shown[-80:]}', b'\r3 %' in shown and b'\r4 %' not in shown
 
 
 def launched(tool, folder):

@@ -6,7 +6,7 @@ usage: sizes.py [--dir FOLDER] [--tool PROGRAM] [FAMILY ..]
 A body that takes a size or a place modulo a power of two, or that gives up above some size, answers small images as the rules do.
 So each command is run on images that are made here, up to the largest that may be, and each byte that it writes is compared.
 The families, all of which are run where none is named:
-  headers   headers at 0, 5, 9 and 65 GiB, and at each power of two from 2^31 to 2^43, shown one by one, with what lies beside each
+  headers   headers at 0, 5, 9 and 65 GiB, and at each power of two from 2^31 to 2^43, shown one by one, with what lies beside each, and where they are bad
   places    an image of 256 GiB and more whose tables and LEBs lie at these places up to 2^38: each command that writes no image of its size
   beyond    an image that ends beyond 4 GiB: a change and a rename, whose outputs are compared byte for byte
   many      an image of 2^20 eraseblocks, which is the most; and as a pipe of 512 MiB
@@ -15,6 +15,7 @@ The families, all of which are run where none is named:
   chips     chips with eraseblocks of 131072 and pages of 2048: images of 1, 20 and 100 MiB; and `compose` with outputs of 39 and 100 MB
   row       a config whose files end beyond 4 GiB, one by one and in a row
   geometry  the geometry of files of 1 MiB to 9 GiB, and of those up to 5 GiB what is wrong with the last eraseblock
+  huge      files of 8 TiB that are named as new bytes, as a text and in a config; and a text of 269 MB
   links     an image above 1 GiB that is the output, or should be the pages, by a link of either kind
 
 Large files are sparse: what wasn't written in them reads zero, which is no header. Large outputs go into a pipe, where they are compared
@@ -35,7 +36,7 @@ import rules
 from fuzz import built, finish
 from rules import LAYOUT, Geometry, Meaning, Record, Vid
 
-MIB, GIB = 2**20, 2**30
+MIB, GIB, HUGE = 2**20, 2**30, 2**43
 LARGEST = Geometry(2**24, 65536, 65536, 131072, 2**20)
 CHIP = Geometry(131072, 2048, 2048, 4096, 2**20)
 LEAST = Geometry(512, 64, 64, 128, 2**20)
@@ -44,6 +45,8 @@ FAR = sorted({5 * GIB, 9 * GIB, 65 * GIB, *(2**k for k in range(31, 44))})
 SEQ = 0x12345678
 # What is compared at once, and how much of the disk has to be free.
 CHUNK, ROOM = 2**24, 3 * 10**9
+# A file of Linux that has fewer bytes than it tells.
+SHORT = "/sys/kernel/uevent_seqnum"
 ZEROS, BLANKS = bytes(CHUNK), b"\xFF" * CHUNK
 
 
@@ -217,11 +220,11 @@ def shown(front, vid):
     return "".join(f"{word} {state} {raw.hex()}\n" for word, (state, raw) in (("ec", front), ("vid", vid)))
 
 
-NONE_THERE = ("corrupt", bytes(64))
+NONE_THERE, BLANK = ("corrupt", bytes(64)), ("blank", b"\xFF" * 64)
 
 
 def headers(looker):
-    """Headers that are far from the beginning, each another one."""
+    """Headers that are far from the beginning, each another one; and of each eraseblock what it reads where it is bad."""
     for geometry, places in ((LARGEST, (0, *FAR, 2**44 - 2 * LARGEST.peb)), (CHIP, (0, *(at for at in FAR if at < 2**37)))):
         parts = {}
         for k, at in enumerate(places, 1):
@@ -233,6 +236,7 @@ def headers(looker):
             ec, vid = (("valid", parts[at + offset]) for offset in (0, geometry.vid))
             p = at // geometry.peb
             yield looker.look(geometry, ["show", "far.img", "--block", p], shown(ec, vid))
+            yield looker.look(geometry, ["show", "far.img", "--block", p, "--bad", p], shown(BLANK, BLANK))
             if at + geometry.peb < size:
                 yield looker.look(geometry, ["show", "far.img", "--block", p + 1], shown(NONE_THERE, NONE_THERE))
         yield looker.look(geometry, ["show", "far.img", "--block", size // geometry.peb], "refused B1 Block\n", 1)
@@ -439,6 +443,12 @@ def volumes(looker):
     meant = Meaning(g, SEQ, records, contents)
     yield from made(looker, meant, 3, ("build", "compose"))
     yield from all_commands(looker, g, noise(77, g.leb))
+    # The size of this file of the system is told as 4096, and it has fewer bytes. It is the file of a volume in the middle.
+    if os.path.exists(SHORT):
+        config = "".join(config_of(looker, meant)).replace("image=v100\n", f"image={SHORT}\n")
+        for text in (config, "[" + "[".join(config.split("[")[:0:-1])):
+            looker.put("text", text.encode())
+            yield looker.look(g, ["build", "text", "--out", "out"], f"cannot read {SHORT}\n", 1)
 
 
 def largest(looker):
@@ -510,6 +520,24 @@ def geometry(looker):
         yield looker.look(None, ["geometry", "far.img"], f"refused F4 Offsets block={last // g.peb} earlier=0\n", 1)
 
 
+def huge(looker):
+    """Files of 8 TiB, of which no more is read than a device has or a text may have; and a text that is long, mostly by its comments."""
+    few, volume = dataclasses.replace(LEAST, pebs=64), Meaning(LEAST, SEQ, {0: Record(1, 1, 1, 0, b"a", 0)}, {0: {0: noise(1, LEAST.leb)}})
+    Sparse(HUGE, {}).put(looker.path("huge"))
+    looker.put("image", rules.composed(volume, 2))
+    # A volume of so many bytes reserves more eraseblocks than there are.
+    for kind in ("dynamic", "static"):
+        looker.put("config", f"[a]\nmode=ubi\nvol_id=0\nvol_name=a\nvol_type={kind}\nimage=huge\n".encode())
+        yield looker.look(CHIP, ["build", "config", "--out", "out"], "refused M5 NoSpace\n", 1)
+    change = ["change", "image", "--id", 0, "--lnum", 0, "--from", "huge", "--out", "out"]
+    yield looker.look(few, change, "refused K6 BadLength\n", 1)
+    for command in ("compose", "build"):
+        yield looker.look(few, [command, "huge", "--out", "out"], "cannot read huge\n", 1)
+    os.remove(looker.path("huge"))
+    looker.put("text", (b"#".ljust(MIB - 1) + b"\n") * 257 + "".join(spec_of(volume)).encode())
+    yield looker.look(LEAST, ["compose", "text", "--seq", SEQ, "--out", "out"], "blocks 3\n", files=[("out", [rules.composed(volume, 0)])])
+
+
 def links(looker):
     """An image above 1 GiB that is the output, or should be the pages, by a link. It is read before it is written."""
     g, records = LARGEST, {0: Record(3, 1, 1, 0, b"far", 0)}
@@ -533,7 +561,7 @@ def links(looker):
         yield looker.look(g, [*words, "--out", "/dev/null", "--pages", "link"], line, 1, files=[("far.img", image.pieces())])
 
 
-FAMILIES = (headers, places, beyond, many, volumes, largest, chips, row, geometry, links)
+FAMILIES = (headers, places, beyond, many, volumes, largest, chips, row, geometry, huge, links)
 
 
 def main():

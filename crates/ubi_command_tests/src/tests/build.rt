@@ -62,7 +62,7 @@ fn builds_of_files_or_tells_which_fails(rt: HostRuntime) -> Result<(), Fail> {
 
 /// Configs of two volumes, of which one's file is `new.bin`, and how many bytes are written until a read of that fails. The other
 /// file holds what the config does.
-static TWO: [(&[u8], usize); 3] = [
+static TWO: [(&[u8], usize); 4] = [
     (
         b"[a]\nmode=ubi\nvol_id=0\nvol_name=a\nimage=a\n[b]\nmode=ubi\nvol_id=1\nvol_name=b\nimage=new.bin\n",
         1536,
@@ -74,6 +74,10 @@ static TWO: [(&[u8], usize); 3] = [
     (
         b"[a]\nmode=ubi\nvol_id=1\nvol_name=a\nimage=new.bin\n[b]\nmode=ubi\nvol_id=0\nvol_name=b\nimage=a\n",
         1536,
+    ),
+    (
+        b"[a]\nmode=ubi\nvol_id=1\nvol_name=a\nimage=a\n[b]\nmode=ubi\nvol_id=0\nvol_name=b\nimage=new.bin\n",
+        1024,
     ),
 ];
 

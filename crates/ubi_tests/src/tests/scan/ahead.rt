@@ -37,9 +37,11 @@ const SIZE: u64 = 1 << 20;
 struct Way {
     /// Where the first begins.
     first: u64,
-    /// How much further on the next one begins, and whether that is back.
+    /// How much further on the next one begins, and whether that is back. The bits of a read's number that count: all, or the last
+    /// alone, so that reads go to and fro.
     step: u64,
     is_back: bool,
+    bits: u64,
     /// How many bytes each asks for, and how many there are.
     len: usize,
     count: u64,
@@ -50,12 +52,13 @@ struct Way {
 
 /// Small reads that follow each other by less than 4096 bytes are answered from 16 KiB that are read at once; all others are
 /// read alone.
-static WAYS: [Way; 9] = [
+static WAYS: [Way; 11] = [
     // The first headers of 2048 eraseblocks of 512 bytes, and each eraseblock's two.
     Way {
         first: 0,
         step: 512,
         is_back: false,
+        bits: u64::MAX,
         len: 64,
         count: 2048,
         reads: 64,
@@ -65,6 +68,7 @@ static WAYS: [Way; 9] = [
         first: 0,
         step: 64,
         is_back: false,
+        bits: u64::MAX,
         len: 64,
         count: 16_384,
         reads: 64,
@@ -75,6 +79,7 @@ static WAYS: [Way; 9] = [
         first: 0,
         step: 4096,
         is_back: false,
+        bits: u64::MAX,
         len: 64,
         count: 256,
         reads: 64,
@@ -85,6 +90,7 @@ static WAYS: [Way; 9] = [
         first: 0,
         step: 8192,
         is_back: false,
+        bits: u64::MAX,
         len: 64,
         count: 128,
         reads: 128,
@@ -95,6 +101,7 @@ static WAYS: [Way; 9] = [
         first: 0,
         step: 4159,
         is_back: false,
+        bits: u64::MAX,
         len: 64,
         count: 4,
         reads: 1,
@@ -104,6 +111,7 @@ static WAYS: [Way; 9] = [
         first: 0,
         step: 4160,
         is_back: false,
+        bits: u64::MAX,
         len: 64,
         count: 4,
         reads: 4,
@@ -114,6 +122,7 @@ static WAYS: [Way; 9] = [
         first: 0,
         step: 4096,
         is_back: false,
+        bits: u64::MAX,
         len: 4096,
         count: 256,
         reads: 64,
@@ -123,6 +132,7 @@ static WAYS: [Way; 9] = [
         first: 0,
         step: 4097,
         is_back: false,
+        bits: u64::MAX,
         len: 4097,
         count: 255,
         reads: 255,
@@ -133,16 +143,39 @@ static WAYS: [Way; 9] = [
         first: SIZE - 512,
         step: 512,
         is_back: true,
+        bits: u64::MAX,
         len: 64,
         count: 2048,
         reads: 2048,
         asked: 2048 * 64,
     },
+    // One place, which is answered once from what was read ahead.
+    Way {
+        first: 0,
+        step: 0,
+        is_back: false,
+        bits: u64::MAX,
+        len: 64,
+        count: 10,
+        reads: 10,
+        asked: 16_384 + 9 * 64,
+    },
+    // To and fro: neither place is answered twice so.
+    Way {
+        first: 0,
+        step: 1000,
+        is_back: false,
+        bits: 1,
+        len: 64,
+        count: 4,
+        reads: 3,
+        asked: 16_384 + 2 * 64,
+    },
 ];
 
 /// The place of a read.
 fn place(way: &Way, k: u64) -> u64 {
-    let far = way.step.saturating_mul(k);
+    let far = way.step.saturating_mul(k & way.bits);
     if way.is_back {
         way.first.saturating_sub(far)
     } else {
