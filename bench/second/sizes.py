@@ -101,6 +101,8 @@ class Taker(threading.Thread):
     def run(self):
         for piece in self.pieces:
             self.take(piece)
+            if self.wrong:
+                break
         while data := os.read(self.end, CHUNK):
             self.wrong = self.wrong or f"{len(data)} bytes behind the end"
         os.close(self.end)
@@ -167,7 +169,11 @@ class Looker:
         if ends:
             os.close(ends[1])
             taker.start()
-        out, error = child.communicate(timeout=300)
+        try:
+            out, error = child.communicate(timeout=300)
+        except subprocess.TimeoutExpired:
+            child.kill()
+            out, error = child.communicate()
         if taker:
             taker.join()
         if feeder:
