@@ -11,7 +11,7 @@ pub fn headline()
     ensures { Headline }
 {}
 
-/// What composing answers is a function of the text and the number of spare eraseblocks.
+/// What composing answers is a function of the text, the number of spare eraseblocks and the image sequence number.
 pub fn one_composed()
     ensures { OneComposed }
 {}
