@@ -43,7 +43,7 @@ CASES = [
     (['change', '/dev/zero', '--id', '0', '--lnum', '0', '--from', IMAGE, '--out', '/dev/null', *SMALL, '--pebs', '8'], 2, b'',
         b"error: '--bad <LIST>' is needed"),
     (['rename', '/dev/zero', '--id', '0', '--name', 'a', '--out', '/dev/null', *SMALL], 2, b'', b"error: '--bad <LIST>' is needed"),
-    (['list', '/dev/zero', *SMALL], 1, b'cannot read /dev/zero\n', b''),
+    (['list', '/dev/zero', *SMALL, '--pebs', '64'], 1, b'cannot read /dev/zero\n', b''),
     (['change', IMAGE, '--id', '0', '--lnum', '0', '--from', IMAGE, '--out', '/dev/null', *SMALL, '--blank', 'no'], 2, b'', b"error: '--blank' takes"),
     (['same', IMAGE, IMAGE, *SMALL], 0, b'same\n', b''),
     (['same', IMAGE, ROOT / 'crates/ubi_tool/data/spare.img', *SMALL], 0, b'same\n', b''),

@@ -114,3 +114,49 @@ fn tells_of_a_long_image(rt: HostRuntime) -> Result<(), Fail> {
     assert!(rt; shown.as_str() == "\r1 % of the image\r\x1b[K", "{shown}");
     Ok(())
 }
+
+/// A writer that takes all bytes and keeps none, beside a terminal.
+#[derive(Drop)]
+struct Sink<'a, E> {
+    terminal: &'a E,
+}
+
+impl<E> Write for Sink<'_, E> {
+    ghost use Rattle.std.specs.Prelude.{None};
+
+    ghost contents = { λ _. None };
+
+    fn write(&mut self, buf: &[u8]) -> io::Result<usize> {
+        Ok(buf.len())
+    }
+
+    fn flush(&mut self) -> io::Result<()> {
+        Ok(())
+    }
+}
+
+impl<E: Eprint> Eprint for Sink<'_, E> {
+    fn eprint<D: Display + Drop>(&self, value: D) -> io::Result<()> {
+        self.terminal.eprint(value)
+    }
+
+    fn eprintln<D: Display + Drop>(&self, value: D) -> io::Result<()> {
+        self.terminal.eprintln(value)
+    }
+}
+
+/// Of 8 GiB a hundredth is 85,899,345 bytes: 4200 MiB are 51 of them.
+#[test]
+fn tells_of_work_beyond_4_gib(rt: HostRuntime) -> Result<(), Fail> {
+    let alloc = rt.alloc();
+    let left = Left::new(alloc);
+    let files = FakeFiles::of(&[], Broken::Nothing, &left);
+    let part = vec![in alloc; 0xFFu8; 1 << 20]?;
+    let mut writer = ProgressWriter::new(Sink { terminal: &files }, 1 << 33, true);
+    for _ in 0..4200u32 {
+        writer.write_all(part.as_slice())?;
+    }
+    let shown = left.shown.into_inner();
+    assert!(rt; shown.as_str().ends_with("\r51 % of the image"), "{shown}");
+    Ok(())
+}
