@@ -32,4 +32,5 @@ mod show;
 mod streams;
 mod tables;
 mod telling;
+mod views;
 mod words;

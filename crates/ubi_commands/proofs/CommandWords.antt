@@ -8,7 +8,7 @@ use Rattle.clap.specs.Matches.{ReadsOne, first_value, one_text}
 use Rattle.clap.specs.Walk.{one_of, rows_of}
 use Rattle.clap.specs.declared.parser.matches.Found.{Found}
 use Rattle.clap.proofs.WalkLemmas.{first_value-rows, one_text-rows}
-use Rattle.ubi_commands.specs.CommandLine.{HasNumber, HasText, IsOneOf, MayHaveNumber}
+use Rattle.ubi_commands.specs.CommandLine.{HasBelow, HasNumber, HasText, IsOneOf, MayHaveBelow, MayHaveNumber}
 
 -- a text that the matches give is one of the words
 pub text_given : (f : Found) (name : List ℕ) (text : Option (Bor (List ℕ)))
@@ -18,13 +18,13 @@ text_given f name None same = λ t has.
     cc
 text_given f name (Some s) same = sym (first_value-rows f name) ∙ sym same
 
--- and so is a number of 32 bits, where they give one
-pub number_given : (E : Type 0) (G : List ℕ → Result ℕ E → Type 0) (f : Found) (name : List ℕ) (number : Option ℕ)
-    → ((t : List ℕ) (r : Result ℕ E) → G t r → ParsesUnsigned 32 10 t r)
+-- and so is a number of so many bits, where they give one
+pub number_given : (E : Type 0) (G : List ℕ → Result ℕ E → Type 0) (bits : ℕ) (f : Found) (name : List ℕ) (number : Option ℕ)
+    → ((t : List ℕ) (r : Result ℕ E) → G t r → ParsesUnsigned bits 10 t r)
     → (one_text f name ≡ None → number ≡ None)
     → ((t : List ℕ) → one_text f name ≡ Some t → ReadsOne G t number)
-    → MayHaveNumber (rows_of f) name number
-number_given E G f name number parses none value n = (there, back)
+    → MayHaveBelow (2 ^ bits) (rows_of f) name number
+number_given E G bits f name number parses none value n = (there, back)
   where
     text : Option (List ℕ)
     text = one_text f name
@@ -32,16 +32,16 @@ number_given E G f name number parses none value n = (there, back)
     shown : option_map without_leading_plus (one_of name (rows_of f)) ≡ option_map without_leading_plus text
     shown = ap (option_map without_leading_plus) (sym (one_text-rows f name))
 
-    there : number ≡ Some n → HasNumber (rows_of f) name n
+    there : number ≡ Some n → HasBelow (2 ^ bits) (rows_of f) name n
     there is = go text refl
       where
-        go : (o : Option (List ℕ)) → text ≡ o → HasNumber (rows_of f) name n
+        go : (o : Option (List ℕ)) → text ≡ o → HasBelow (2 ^ bits) (rows_of f) name n
         go None e =
             let bad : Some n ≡ None = sym is ∙ none e in
             cc
         go (Some t) e =
             let read : ReadsOne G t (Some n) = subst (λ o. ReadsOne G t o) is (value t e) in
-            let parsed : ParsesUnsigned {E = E} 32 10 t (Ok n) = parses t (Ok n) read in (
+            let parsed : ParsesUnsigned {E = E} bits 10 t (Ok n) = parses t (Ok n) read in (
               without_leading_plus t,
               shown ∙ ap (option_map without_leading_plus) e,
               parsed.0.0,
@@ -49,15 +49,15 @@ number_given E G f name number parses none value n = (there, back)
               rw parsed.1 parsed.0.1,
             )
 
-    back : HasNumber (rows_of f) name n → number ≡ Some n
+    back : HasBelow (2 ^ bits) (rows_of f) name n → number ≡ Some n
     back has = go text refl
       where
         reads : (t : List ℕ) → without_leading_plus t ≡ has.0 → (o : Option ℕ) → ReadsOne G t o → o ≡ Some n
         reads t same (Some v) given =
-            let parsed : ParsesUnsigned {E = E} 32 10 t (Ok v) = parses t (Ok v) given in
+            let parsed : ParsesUnsigned {E = E} bits 10 t (Ok v) = parses t (Ok v) given in
             ap Some (parsed.1 ∙ ap (digits_value 10) same ∙ sym has.3)
         reads t same None given =
-            let small : digits_value 10 has.0 < 2 ^ 32 = rw (← has.3) has.4 in
+            let small : digits_value 10 has.0 < 2 ^ bits = rw (← has.3) has.4 in
             absurd (parses t (Err given.0) given.1 (rw same has.2, rw same small))
 
         go : (o : Option (List ℕ)) → text ≡ o → number ≡ Some n

@@ -5,19 +5,19 @@ use Rattle.std.specs.Prelude.{Bool, IfOk, IfSome, IsSome, None, Option, Some, is
 use Rattle.std.specs.declared.alloc.AllocError.{AllocError}
 use Rattle.ubi_media.specs.Geometry.{Sizes}
 use Rattle.ubi_media.specs.Limits.{first_broken}
-use Rattle.ubi_scan.specs.Image.{judged}
 use Rattle.ubi_scan.specs.Source.{Agreed, Narrows, Source, holds, known_by, memory}
 use Rattle.ubi_commands.specs.AfterRun.{IsTold, after_left, after_right, after_run, outcome, read_failed}
 use Rattle.ubi_commands.specs.Answer.{Gives, says}
 use Rattle.ubi_commands.specs.inner.Ended.{IsEnded, IsToldOfSides, Works, answered, comparison, done, left_failed, no_read, no_source, no_write, right_failed, unopened}
 use Rattle.ubi_commands.specs.Disk.{Files, IsJudgedOf}
+use Rattle.ubi_commands.specs.Dump.{Fits, FitsWhole, seen}
 use Rattle.ubi_commands.specs.Lines.{file_line}
 use Rattle.ubi_commands.specs.Numbers.{sizes_of}
 use Rattle.ubi_commands.specs.Opened.{IsOpened}
 use Rattle.ubi_commands.specs.declared.open_image.OpenImage.{OpenImage}
 use Rattle.ubi_commands.specs.declared.open_image.OpenImage.TheVariants as image
-use Rattle.ubi_commands.specs.Program.{IsRead, OfFile, cannot_read, no_file, places, whole}
-use Rattle.ubi_commands.specs.declared.numbers.Numbers.{Numbers}
+use Rattle.ubi_commands.specs.Program.{IsRead, OfFile, cannot_read, no_file, places, unreadable, whole}
+use Rattle.ubi_commands.specs.declared.requests.Dump.{Dump}
 use Rattle.ubi_commands.specs.declared.outcome.Outcome.{Outcome}
 use Rattle.ubi_commands.specs.declared.outcome.SidesError.{SidesError}
 use Rattle.ubi_commands.specs.declared.outcome.ToolError.{ToolError}
@@ -72,89 +72,80 @@ module _ (work : Result Outcome ToolError) (k after : Source) (path : List ℕ) 
   works_in o (outcome is) known ok = answered (known ∙ ap (after_run k) is) (IfOk-at_ok answers is ok)
   works_in o (read_failed is line) known ok = no_source (known ∙ ap (after_run k) is) line
 
-module _ (d : Files) (numbers : Numbers) (path : List ℕ) (answers : Sizes → Source → Agreed → Outcome → Type 0) (s : Sizes)
-    (same : s ≡ sizes_of numbers) where
+module _ (d : Files) (dump : Dump) (path : List ℕ) (answers : Sizes → Source → Agreed → Outcome → Type 0) (s : Sizes)
+    (same : s ≡ sizes_of dump.numbers) where
   -- what is answered of a file that is known by its reads
   pub at_places : (k after : Source) (reads : List (ℕ × List ℕ)) (o : Outcome)
-      → first_broken (sizes_of numbers) ≡ None → (k.failures ≡ 0) × (k.held ≡ d.holds path) → IfSome after.held (known_by after.size reads)
-      → Works k after path (answers s k (known_by after.size reads)) o → OfFile d numbers path answers o
-  at_places k after reads o limits opened told (answered is h) =
+      → first_broken (sizes_of dump.numbers) ≡ None → (k.failures ≡ 0) × (k.held ≡ (seen dump d).holds path) → Fits d dump path → IfSome after.held (known_by after.size reads)
+      → Works k after path (answers s k (known_by after.size reads)) o → OfFile d dump path answers o
+  at_places k after reads o limits opened fits told (answered is h) =
       let here = subst (λ (x : Source). answers s k (known_by x.size reads) o) is h in
       let held = subst (λ (x : Source). IfSome x.held (known_by x.size reads)) is told in
       let named = subst (λ (x : Option (List ℕ)). IfSome x (known_by k.size reads)) opened.1 held in
-      places k reads limits opened.0 named (subst (λ (t : Sizes). answers t k (known_by k.size reads) o) same here)
-  at_places k after reads o limits opened told (no_source is line) = no_file (cannot_read limits line)
+      places k reads limits opened.0 named fits (subst (λ (t : Sizes). answers t k (known_by k.size reads) o) same here)
+  at_places k after reads o limits opened fits told (no_source is line) = no_file (unreadable (cannot_read limits line))
 
   -- and of one that was read whole
-  pub by_bytes : (bytes start later : List ℕ) (o : Outcome) → IsRead (sizes_of numbers) bytes
-      → IsJudgedOf d path (sizes_of numbers) bytes → start ≡ bytes → Narrows (holds start) (holds later)
+  pub by_bytes : (bytes start later : List ℕ) (o : Outcome) → IsRead (sizes_of dump.numbers) bytes
+      → IsJudgedOf (seen dump d) path (sizes_of dump.numbers) bytes → FitsWhole d dump path → start ≡ bytes → Narrows (holds start) (holds later)
       → Works (memory start) (memory later) path (answers s (memory start) (holds later)) o
-      → OfFile d numbers path answers o
-  by_bytes bytes start later o read named is narrows (answered known h) =
+      → OfFile d dump path answers o
+  by_bytes bytes start later o read named fits is narrows (answered known h) =
       let held = subst (λ (b : List ℕ). answers s (memory start) (holds b) o) (narrows later refl) h in
       let here = subst (λ (b : List ℕ). answers s (memory b) (holds b) o) is held in
-      whole bytes read named (subst (λ (t : Sizes). answers t (memory bytes) (holds bytes) o) same here)
-  by_bytes bytes start later o read named is narrows (no_source known line) =
+      whole bytes read named fits (subst (λ (t : Sizes). answers t (memory bytes) (holds bytes) o) same here)
+  by_bytes bytes start later o read named fits is narrows (no_source known line) =
       let e = ap (λ (k : Source). k.failures) known in absurd (omega (arith, e))
 
   -- of work that writes nothing
   pub told_at_places : (work : Result Outcome ToolError) (k after : Source) (reads : List (ℕ × List ℕ)) (r : Result Outcome AllocError)
-      → first_broken (sizes_of numbers) ≡ None → (k.failures ≡ 0) × (k.held ≡ d.holds path) → IfSome after.held (known_by after.size reads)
+      → first_broken (sizes_of dump.numbers) ≡ None → (k.failures ≡ 0) × (k.held ≡ (seen dump d).holds path) → Fits d dump path → IfSome after.held (known_by after.size reads)
       → after ≡ after_run k work → IfOk work (answers s k (known_by after.size reads))
-      → IfOk r (IsTold work path) → IfOk r (OfFile d numbers path answers)
-  told_at_places work k after reads (Ok o) limits opened told known ok h =
-      at_places k after reads o limits opened told (works_in work k after path _ o h known ok)
-  told_at_places work k after reads (Err e) limits opened told known ok h = tt
+      → IfOk r (IsTold work path) → IfOk r (OfFile d dump path answers)
+  told_at_places work k after reads (Ok o) limits opened fits told known ok h =
+      at_places k after reads o limits opened fits told (works_in work k after path _ o h known ok)
+  told_at_places work k after reads (Err e) limits opened fits told known ok h = tt
 
   pub told_by_bytes : (work : Result Outcome ToolError) (bytes start later : List ℕ) (r : Result Outcome AllocError)
-      → IsRead (sizes_of numbers) bytes → IsJudgedOf d path (sizes_of numbers) bytes → start ≡ bytes → Narrows (holds start) (holds later)
+      → IsRead (sizes_of dump.numbers) bytes → IsJudgedOf (seen dump d) path (sizes_of dump.numbers) bytes → FitsWhole d dump path → start ≡ bytes → Narrows (holds start) (holds later)
       → memory later ≡ after_run (memory start) work
       → IfOk work (answers s (memory start) (holds later))
-      → IfOk r (IsTold work path) → IfOk r (OfFile d numbers path answers)
-  told_by_bytes work bytes start later (Ok o) read named is narrows known ok h =
-      by_bytes bytes start later o read named is narrows (works_in work _ _ path _ o h known ok)
-  told_by_bytes work bytes start later (Err e) read named is narrows known ok h = tt
+      → IfOk r (IsTold work path) → IfOk r (OfFile d dump path answers)
+  told_by_bytes work bytes start later (Ok o) read named fits is narrows known ok h =
+      by_bytes bytes start later o read named fits is narrows (works_in work _ _ path _ o h known ok)
+  told_by_bytes work bytes start later (Err e) read named fits is narrows known ok h = tt
 
   -- of a file that was opened, and of which nothing was read
-  pub of_opened : (o : Outcome) → ((k : Source) (agrees : Agreed) → answers s k agrees o) → first_broken (sizes_of numbers) ≡ None
-      → (k : Source) (reads : List (ℕ × List ℕ)) → (k.failures ≡ 0) × (k.held ≡ d.holds path) → IfSome k.held (known_by k.size reads)
-      → OfFile d numbers path answers o
-  of_opened o h limits k reads opened told = at_places k k reads o limits opened told (answered refl (h k (known_by k.size reads)))
+  pub of_opened : (o : Outcome) → ((k : Source) (agrees : Agreed) → answers s k agrees o) → first_broken (sizes_of dump.numbers) ≡ None
+      → (k : Source) (reads : List (ℕ × List ℕ)) → (k.failures ≡ 0) × (k.held ≡ (seen dump d).holds path) → Fits d dump path → IfSome k.held (known_by k.size reads)
+      → OfFile d dump path answers o
+  of_opened o h limits k reads opened fits told = at_places k k reads o limits opened fits told (answered refl (h k (known_by k.size reads)))
 
-  pub of_whole : (o : Outcome) → ((k : Source) (agrees : Agreed) → answers s k agrees o) → (bytes : List ℕ) → IsRead (sizes_of numbers) bytes
-      → IsJudgedOf d path (sizes_of numbers) bytes → OfFile d numbers path answers o
-  of_whole o h bytes read named =
-      by_bytes bytes bytes bytes o read named refl (λ held is. is) (answered refl (h (memory bytes) (holds bytes)))
+  pub of_whole : (o : Outcome) → ((k : Source) (agrees : Agreed) → answers s k agrees o) → (bytes : List ℕ) → IsRead (sizes_of dump.numbers) bytes
+      → IsJudgedOf (seen dump d) path (sizes_of dump.numbers) bytes → FitsWhole d dump path → OfFile d dump path answers o
+  of_whole o h bytes read named fits =
+      by_bytes bytes bytes bytes o read named fits refl (λ held is. is) (answered refl (h (memory bytes) (holds bytes)))
 
 -- what is answered of a file that was opened, and of which nothing was read
-pub of_any : {S : Type 0} (known : S → Source) (reads : S → List (ℕ × List ℕ)) (is : S → Type 0) (d : Files) (numbers : Numbers) (path : List ℕ)
+pub of_any : {S : Type 0} (known : S → Source) (reads : S → List (ℕ × List ℕ)) (is : S → Type 0) (d : Files) (dump : Dump) (path : List ℕ)
     (answers : Sizes → Source → Agreed → Outcome → Type 0) (o : Outcome)
     → ((x : S) → IfSome (known x).held (known_by (known x).size (reads x)))
-    → ((x : S) → is x → ((known x).failures ≡ 0) × ((known x).held ≡ d.holds path))
-    → ((k : Source) (agrees : Agreed) → answers (sizes_of numbers) k agrees o) → (opened : OpenImage S)
-    → IsOpened is d path numbers opened → OfFile d numbers path answers o
-of_any known reads is d numbers path answers o tells unread h (image.AtPlaces file) was =
-    of_opened d numbers path answers (sizes_of numbers) refl o h was.1 (known file.source) (reads file.source) (unread file.source was.2)
-    (tells file.source)
-of_any known reads is d numbers path answers o tells unread h (image.Whole file) was =
-    of_whole d numbers path answers (sizes_of numbers) refl o h file.bytes.items was.1 was.2
+    → ((x : S) → is x → ((known x).failures ≡ 0) × ((known x).held ≡ (seen dump d).holds path))
+    → ((k : Source) (agrees : Agreed) → answers (sizes_of dump.numbers) k agrees o) → (opened : OpenImage S)
+    → IsOpened is d path dump opened → OfFile d dump path answers o
+of_any known reads is d dump path answers o tells unread h (image.AtPlaces file) was =
+    of_opened d dump path answers (sizes_of dump.numbers) refl o h was.1 (known file.source) (reads file.source) (unread file.source was.2)
+    was.3 (tells file.source)
+of_any known reads is d dump path answers o tells unread h (image.Whole file) was =
+    of_whole d dump path answers (sizes_of dump.numbers) refl o h file.bytes.items was.1 was.2 was.3
 
 -- what is answered of a file is no less than more
-pub OfFile-weaker : (d : Files) (numbers : Numbers) (path : List ℕ) (P Q : Sizes → Source → Agreed → Outcome → Type 0)
+pub OfFile-weaker : (d : Files) (dump : Dump) (path : List ℕ) (P Q : Sizes → Source → Agreed → Outcome → Type 0)
     → ((s : Sizes) (k : Source) (agrees : Agreed) (o : Outcome) → P s k agrees o → Q s k agrees o) → (o : Outcome)
-    → OfFile d numbers path P o → OfFile d numbers path Q o
-OfFile-weaker d numbers path P Q f o (no_file h) = no_file h
-OfFile-weaker d numbers path P Q f o (whole bytes read named h) = whole bytes read named (f _ _ _ o h)
-OfFile-weaker d numbers path P Q f o (places k reads limits zero named h) = places k reads limits zero named (f _ _ _ o h)
-
--- nor does it hang on other files than the named one
-pub OfFile-alike : (d e : Files) (numbers : Numbers) (path : List ℕ) (P : Sizes → Source → Agreed → Outcome → Type 0) (o : Outcome)
-    → d.holds path ≡ e.holds path → OfFile d numbers path P o → OfFile e numbers path P o
-OfFile-alike d e numbers path P o same (no_file h) = no_file h
-OfFile-alike d e numbers path P o same (whole bytes read named h) =
-    whole bytes read (subst (λ (held : Option (List ℕ)). IfSome held (λ all. bytes ≡ judged (sizes_of numbers) all)) same named) h
-OfFile-alike d e numbers path P o same (places k reads limits zero named h) =
-    places k reads limits zero (subst (λ (held : Option (List ℕ)). IfSome held (known_by k.size reads)) same named) h
+    → OfFile d dump path P o → OfFile d dump path Q o
+OfFile-weaker d dump path P Q f o (no_file h) = no_file h
+OfFile-weaker d dump path P Q f o (whole bytes read named fits h) = whole bytes read named fits (f _ _ _ o h)
+OfFile-weaker d dump path P Q f o (places k reads limits zero named fits h) = places k reads limits zero named fits (f _ _ _ o h)
 
 -- two facts of what was answered
 pub both : {E : Type 0} (work : Result Outcome E) (P Q : Outcome → Type 0) → IfOk work P → IfOk work Q
@@ -163,52 +154,52 @@ both (Ok o) P Q p q = (p, q)
 both (Err e) P Q p q = tt
 
 -- a comparison of two files, once it is told
-module _ (work : Result Outcome SidesError) (k after : Source) (left right : List ℕ) (d : Files) (numbers : Numbers)
-    (answers : Sizes → Source → Agreed → Outcome → Type 0) (s : Sizes) (same : s ≡ sizes_of numbers) where
+module _ (work : Result Outcome SidesError) (k after : Source) (left right : List ℕ) (d : Files) (dump : Dump)
+    (answers : Sizes → Source → Agreed → Outcome → Type 0) (s : Sizes) (same : s ≡ sizes_of dump.numbers) where
   sides_at_places : (l later : Source) (reads : List (ℕ × List ℕ)) (o : Outcome)
-      → first_broken (sizes_of numbers) ≡ None → (l.failures ≡ 0) × (l.held ≡ d.holds right) → IfSome later.held (known_by later.size reads)
+      → first_broken (sizes_of dump.numbers) ≡ None → (l.failures ≡ 0) × (l.held ≡ (seen dump d).holds right) → Fits d dump right → IfSome later.held (known_by later.size reads)
       → after ≡ after_left k work → later ≡ after_right l work
       → IfOk work (answers s l (known_by later.size reads))
-      → IsToldOfSides work left right o → Works k after left (OfFile d numbers right answers) o
-  sides_at_places l later reads o limits opened told here there ok (comparison is) =
+      → IsToldOfSides work left right o → Works k after left (OfFile d dump right answers) o
+  sides_at_places l later reads o limits opened fits told here there ok (comparison is) =
       answered (here ∙ ap (after_left k) is)
-      (at_places d numbers right answers s same l later reads o limits opened told
+      (at_places d dump right answers s same l later reads o limits opened fits told
       (answered (there ∙ ap (after_right l) is) (IfOk-at_ok _ is ok)))
-  sides_at_places l later reads o limits opened told here there ok (left_failed is line) =
+  sides_at_places l later reads o limits opened fits told here there ok (left_failed is line) =
       no_source (here ∙ ap (after_left k) is) line
-  sides_at_places l later reads o limits opened told here there ok (right_failed is line) =
-      answered (here ∙ ap (after_left k) is) (no_file (cannot_read limits line))
+  sides_at_places l later reads o limits opened fits told here there ok (right_failed is line) =
+      answered (here ∙ ap (after_left k) is) (no_file (unreadable (cannot_read limits line)))
 
   pub beside_places : (l later : Source) (reads : List (ℕ × List ℕ)) (r : Result Outcome AllocError)
-      → first_broken (sizes_of numbers) ≡ None → (l.failures ≡ 0) × (l.held ≡ d.holds right) → IfSome later.held (known_by later.size reads)
+      → first_broken (sizes_of dump.numbers) ≡ None → (l.failures ≡ 0) × (l.held ≡ (seen dump d).holds right) → Fits d dump right → IfSome later.held (known_by later.size reads)
       → after ≡ after_left k work → later ≡ after_right l work
       → IfOk work (answers s l (known_by later.size reads))
-      → IfOk r (IsToldOfSides work left right) → IfOk r (Works k after left (OfFile d numbers right answers))
-  beside_places l later reads (Ok o) limits opened told here there ok h =
-      sides_at_places l later reads o limits opened told here there ok h
-  beside_places l later reads (Err e) limits opened told here there ok h = tt
+      → IfOk r (IsToldOfSides work left right) → IfOk r (Works k after left (OfFile d dump right answers))
+  beside_places l later reads (Ok o) limits opened fits told here there ok h =
+      sides_at_places l later reads o limits opened fits told here there ok h
+  beside_places l later reads (Err e) limits opened fits told here there ok h = tt
 
-  sides_by_bytes : (bytes start later : List ℕ) (o : Outcome) → IsRead (sizes_of numbers) bytes
-      → IsJudgedOf d right (sizes_of numbers) bytes → start ≡ bytes
+  sides_by_bytes : (bytes start later : List ℕ) (o : Outcome) → IsRead (sizes_of dump.numbers) bytes
+      → IsJudgedOf (seen dump d) right (sizes_of dump.numbers) bytes → FitsWhole d dump right → start ≡ bytes
       → Narrows (holds start) (holds later) → after ≡ after_left k work
       → memory later ≡ after_right (memory start) work
       → IfOk work (answers s (memory start) (holds later))
-      → IsToldOfSides work left right o → Works k after left (OfFile d numbers right answers) o
-  sides_by_bytes bytes start later o read named is narrows here there ok (comparison came) =
+      → IsToldOfSides work left right o → Works k after left (OfFile d dump right answers) o
+  sides_by_bytes bytes start later o read named fits is narrows here there ok (comparison came) =
       answered (here ∙ ap (after_left k) came)
-      (by_bytes d numbers right answers s same bytes start later o read named is narrows
+      (by_bytes d dump right answers s same bytes start later o read named fits is narrows
       (answered (there ∙ ap (after_right _) came) (IfOk-at_ok _ came ok)))
-  sides_by_bytes bytes start later o read named is narrows here there ok (left_failed came line) =
+  sides_by_bytes bytes start later o read named fits is narrows here there ok (left_failed came line) =
       no_source (here ∙ ap (after_left k) came) line
-  sides_by_bytes bytes start later o read named is narrows here there ok (right_failed came line) =
+  sides_by_bytes bytes start later o read named fits is narrows here there ok (right_failed came line) =
       let e = ap (λ (k : Source). k.failures) (there ∙ ap (after_right _) came) in absurd (omega (arith, e))
 
-  pub beside_bytes : (bytes start later : List ℕ) (r : Result Outcome AllocError) → IsRead (sizes_of numbers) bytes
-      → IsJudgedOf d right (sizes_of numbers) bytes → start ≡ bytes
+  pub beside_bytes : (bytes start later : List ℕ) (r : Result Outcome AllocError) → IsRead (sizes_of dump.numbers) bytes
+      → IsJudgedOf (seen dump d) right (sizes_of dump.numbers) bytes → FitsWhole d dump right → start ≡ bytes
       → Narrows (holds start) (holds later) → after ≡ after_left k work
       → memory later ≡ after_right (memory start) work
       → IfOk work (answers s (memory start) (holds later))
-      → IfOk r (IsToldOfSides work left right) → IfOk r (Works k after left (OfFile d numbers right answers))
-  beside_bytes bytes start later (Ok o) read named is narrows here there ok h =
-      sides_by_bytes bytes start later o read named is narrows here there ok h
-  beside_bytes bytes start later (Err e) read named is narrows here there ok h = tt
+      → IfOk r (IsToldOfSides work left right) → IfOk r (Works k after left (OfFile d dump right answers))
+  beside_bytes bytes start later (Ok o) read named fits is narrows here there ok h =
+      sides_by_bytes bytes start later o read named fits is narrows here there ok h
+  beside_bytes bytes start later (Err e) read named fits is narrows here there ok h = tt

@@ -120,7 +120,7 @@ request_means named r asked = record {
         → named ≡ Some (name, words) → ForSome (first_of (codes "bad") words) (λ list. is_block_list list ≡ true)
     listed a d at asks name words is =
         subst (λ (rows : List Row). ForSome (first_of (codes "bad") rows) (λ list. is_block_list list ≡ true))
-        (same a asked.0 at name words is).1 (list_given asked.0 d.bad asks.1 asks.2)
+        (same a asked.0 at name words is).1 (list_given asked.0 d.bad asks.3 asks.4)
 
     kept : (a : Text) (p : Plan) → named ≡ Some (a, asked.0) → AsksPlan asked.0 p → (name : Text) (words : List Row)
         → named ≡ Some (name, words) → ForSome (first_of (codes "blank") words) (λ word. word ≡ codes "keep")
@@ -130,7 +130,7 @@ request_means named r asked = record {
 
     lists : (q : Request) → named ≡ Some (command_name q, asked.0) → Asks asked.0 q → (name : Text) (words : List Row)
         → named ≡ Some (name, words) → reads_dump name ≡ true → ForSome (first_of (codes "bad") words) (λ list. is_block_list list ≡ true)
-    lists (request.Geometry image) at asks name words is holds = other reads_dump (codes "geometry") refl at name words is holds
+    lists (request.Geometry part image) at asks name words is holds = other reads_dump (codes "geometry") refl at name words is holds
     lists (request.Compose n new) at asks name words is holds = other reads_dump (codes "compose") refl at name words is holds
     lists (request.Build n new) at asks name words is holds = other reads_dump (codes "build") refl at name words is holds
     lists (request.List d image) at asks name words is holds = listed (codes "list") d at asks.0 name words is
@@ -147,7 +147,7 @@ request_means named r asked = record {
         → named ≡ Some (name, words) → plans name ≡ true → ForSome (first_of (codes "blank") words) (λ word. word ≡ codes "keep")
     keeps (request.Change d change) at asks name words is holds = kept (codes "change") change.plan at asks.1.0 name words is
     keeps (request.Rename d rename) at asks name words is holds = kept (codes "rename") rename.plan at asks.1.0 name words is
-    keeps (request.Geometry image) at asks name words is holds = other plans (codes "geometry") refl at name words is holds
+    keeps (request.Geometry part image) at asks name words is holds = other plans (codes "geometry") refl at name words is holds
     keeps (request.Compose n new) at asks name words is holds = other plans (codes "compose") refl at name words is holds
     keeps (request.Build n new) at asks name words is holds = other plans (codes "build") refl at name words is holds
     keeps (request.List d image) at asks name words is holds = other plans (codes "list") refl at name words is holds

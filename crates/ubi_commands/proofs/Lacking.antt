@@ -21,7 +21,7 @@ apart a b differ same = true≢false (sym ((bytes_eq-Decides a b).1 same) ∙ di
 -- of a command that is asked with the numbers of a geometry
 pub no_numbers : (name : Text) → bytes_eq (codes "geometry") name ≡ false → (rows : List Row)
     → ((n : Numbers) → AsksNumbers rows n → ⊥) → (r : Request) → IsAskedBy name rows r → ⊥
-no_numbers name other rows none (request.Geometry image) asked = apart _ _ other asked.0
+no_numbers name other rows none (request.Geometry part image) asked = apart _ _ other asked.0
 no_numbers name other rows none (request.List dump image) asked = none dump.numbers asked.1.0.0
 no_numbers name other rows none (request.Check dump image) asked = none dump.numbers asked.1.0.0
 no_numbers name other rows none (request.Show dump image block) asked = none dump.numbers asked.1.0.0
@@ -38,7 +38,7 @@ no_numbers name other rows none (request.Rename dump rename) asked = none dump.n
 pub no_dump : (name : Text) → bytes_eq (codes "geometry") name ≡ false → bytes_eq (codes "compose") name ≡ false
     → bytes_eq (codes "build") name ≡ false → (rows : List Row) → ((d : Dump) → AsksDump rows d → ⊥) → (r : Request)
     → IsAskedBy name rows r → ⊥
-no_dump name first second third rows none (request.Geometry image) asked = apart _ _ first asked.0
+no_dump name first second third rows none (request.Geometry part image) asked = apart _ _ first asked.0
 no_dump name first second third rows none (request.Compose n new) asked = apart _ _ second asked.0
 no_dump name first second third rows none (request.Build n new) asked = apart _ _ third asked.0
 no_dump name first second third rows none (request.List d image) asked = none d asked.1.0

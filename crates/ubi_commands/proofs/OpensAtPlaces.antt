@@ -1,5 +1,5 @@
 -- Which files are opened to be read at places.
-use Rattle.std.proofs.Common.{◌≡◌, ◌≢◌, ◌≤◌, ℕ, List, [], ◌∷◌, arith, length, refl, true, false, Bool, sym, ◌∙◌}
+use Rattle.std.proofs.Common.{◌≡◌, ◌≢◌, ◌≤◌, ℕ, List, [], ◌∷◌, arith, length, refl, true, false, Bool}
 use Rattle.std.specs.Option.{ForSome}
 use Rattle.std.specs.Prelude.{IfSome, None, Option, Some}
 
@@ -8,12 +8,13 @@ no_bytes [] few = refl
 no_bytes (x ∷ xs) few = absurd (omega arith)
 
 -- one that has none is empty
-pub few_bytes : (A : Type 0) (told held : Option (List ℕ)) (len : ℕ) → told ≡ held → ForSome told (λ all. length all ≡ len) → len ≤ 0
-    → IfSome held (λ all. all ≢ [] → A)
+pub few_bytes : (A : List ℕ → Type 0) (told held : Option (List ℕ)) (len : ℕ) → told ≡ held → ForSome told (λ all. length all ≡ len) → len ≤ 0
+    → IfSome held (λ all. all ≢ [] → A all)
 few_bytes A told None len same sized few = tt
 few_bytes A told (Some all) len same sized few = λ some. absurd (some (no_bytes all (let long = sized all same in omega arith)))
 
 -- one that can be opened is
-pub was_opened : (A : Type 0) (opens : Bool) (held : Option (List ℕ)) → opens ≡ true → opens ≡ false → IfSome held (λ all. all ≢ [] → A)
+pub was_opened : (A : List ℕ → Type 0) (opens : Bool) (held : Option (List ℕ)) → opens ≡ true → opens ≡ false
+    → IfSome held (λ all. all ≢ [] → A all)
 was_opened A opens None known none = tt
 was_opened A opens (Some all) known none = absurd cc

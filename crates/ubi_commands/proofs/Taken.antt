@@ -11,7 +11,7 @@ use Rattle.std.proofs.lemmas.Slice.Eq.{bytes_eq-Decides}
 use Rattle.clap.specs.Faults.{fault_of, level_fault}
 use Rattle.clap.specs.Simple.{Shape, argument_words, built, label_of, subcommand_of}
 use Rattle.clap.specs.Walk.{Row, Text, answers_to, first_of, nothing_held, rows_after}
-use Rattle.ubi_commands.specs.CommandLine.{Asks, AsksBlank, AsksDump, AsksNewImage, AsksNumbers, AsksPaths, AsksPlan, IsRequest, HasNumber, HasText, MayHaveText, command_name}
+use Rattle.ubi_commands.specs.CommandLine.{Asks, AsksBlank, AsksDump, AsksNewImage, AsksNumbers, AsksPart, AsksPaths, AsksPlan, IsRequest, HasNumber, HasText, MayHaveText, command_name}
 use Rattle.ubi_commands.specs.Tool.{Mean, Takes, plans, reads_dump, tool}
 use Rattle.ubi_commands.specs.declared.requests.Change.{Change}
 use Rattle.ubi_commands.specs.declared.requests.Dump.{Dump}
@@ -23,8 +23,9 @@ use Rattle.ubi_commands.specs.declared.requests.Rename.{Rename}
 use Rattle.ubi_commands.specs.declared.requests.Request.{Request}
 use Rattle.ubi_commands.specs.declared.requests.Request.TheVariants as request
 use Rattle.ubi_commands.specs.declared.numbers.Numbers.{Numbers}
+use Rattle.ubi_commands.specs.declared.view.FilePart.{FilePart}
 use Rattle.ubi_commands.proofs.GivenKey.{key_asked}
-use Rattle.ubi_commands.proofs.GivenWords.{needs, number_asked, number_in, text_asked}
+use Rattle.ubi_commands.proofs.GivenWords.{long_in, needs, number_asked, number_in, text_asked}
 use Rattle.ubi_commands.proofs.Uses.{is_number, takes_one}
 use Rattle.ubi_commands.proofs.Levels.{AreGiven, IsMet, leaf_given, met}
 
@@ -68,13 +69,26 @@ module _ (s : Shape) (rows : List Row) (given : AreGiven s rows) where
       go None = (None, refl)
       go (Some t) = (Some (record { ref_ptr = (0, 0); now = t }), refl)
 
+  -- the part of a file
+  part : (p : FilePart) × AsksPart rows p
+  part =
+      let start = long_in rows (codes "start") in
+      let len = long_in rows (codes "length") in
+      (record { start = unwrap_or start.0 0; length = len.0 }, (start.0, start.1, refl, len.1))
+
   dump : (name : Text) → reads_dump name ≡ true → Mean (Some (name, rows)) → Needs s (codes "peb") → Needs s (codes "page")
       → (d : Dump) × AsksDump rows d
   dump name reads mean peb page =
       let n = numbers peb page in
+      let oob = number_in rows (codes "oob") in
       let bad = text_in (codes "bad") in (
-        record { numbers = n.0; bad = bad.0 },
-        (n.1, bad.1, λ t is. mean.list name rows refl reads t.now (sym bad.1 ∙ ap (option_map (λ (x : Bor Text). x.now)) is)),
+        record {
+          numbers = n.0;
+          part = part.0;
+          oob = unwrap_or oob.0 0;
+          bad = bad.0;
+        },
+        (n.1, part.1, (oob.0, oob.1, refl), bad.1, λ t is. mean.list name rows refl reads t.now (sym bad.1 ∙ ap (option_map (λ (x : Bor Text). x.now)) is)),
       )
 
   paths : Needs s (codes "IMAGE") → Needs s (codes "out") → (p : Paths) × AsksPaths rows p
@@ -124,7 +138,7 @@ module _ (s : Shape) (rows : List Row) (given : AreGiven s rows) where
   geometry_asked : Needs s (codes "IMAGE") → IsAsked (codes "geometry") rows
   geometry_asked image =
       let i = text (codes "IMAGE") image in
-      (request.Geometry i.0, refl, i.1)
+      (request.Geometry part.0 i.0, refl, (part.1, i.1))
 
   list_asked : Mean (Some (codes "list", rows)) → Needs s (codes "peb") → Needs s (codes "page") → Needs s (codes "IMAGE") → IsAsked (codes "list") rows
   list_asked mean peb page image =

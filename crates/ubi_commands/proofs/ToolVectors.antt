@@ -97,13 +97,30 @@ options_taken : Takes (codes "ubi_tool" ∷ codes "list" ∷ codes "a.img" ∷ c
 unfolding clap_on_literals tool
 options_taken = (refl, means (codes "list") _ refl (not_given _ _ refl) (not_given _ _ refl))
 
--- `geometry` takes the name of a file and nothing else
+-- a part of a file, with out-of-band bytes
+view_taken : Takes (words (codes "--page=64" ∷ codes "--start" ∷ codes "9223372036854775807" ∷ codes "--length=+00" ∷ codes "--oob=64" ∷ []))
+unfolding clap_on_literals tool
+view_taken = (refl, means (codes "list") _ refl (not_given _ _ refl) (not_given _ _ refl))
+
+far_start : fault_of tool (words (codes "--page=64" ∷ codes "--start" ∷ codes "9223372036854775808" ∷ [])) ≡ kind.ValueValidation ∷ []
+unfolding clap_on_literals tool
+far_start = refl
+
+-- `geometry` takes the name of a file, and the part of it in which it looks
 abbrev of_geometry : List Text → List Text
 of_geometry behind = codes "ubi_tool" ∷ codes "geometry" ∷ behind
 
 file_taken : Takes (of_geometry (codes "a.img" ∷ []))
 unfolding clap_on_literals tool
 file_taken = (refl, means (codes "geometry") _ refl (not_given _ _ refl) (not_given _ _ refl))
+
+part_taken : Takes (of_geometry (codes "a.img" ∷ codes "--start=512" ∷ codes "--length" ∷ codes "1024" ∷ []))
+unfolding clap_on_literals tool
+part_taken = (refl, means (codes "geometry") _ refl (not_given _ _ refl) (not_given _ _ refl))
+
+no_oob_taken : fault_of tool (of_geometry (codes "a.img" ∷ codes "--oob" ∷ codes "64" ∷ [])) ≡ kind.UnknownArgument ∷ []
+unfolding clap_on_literals tool
+no_oob_taken = refl
 
 no_file : fault_of tool (of_geometry []) ≡ kind.MissingRequiredArgument ∷ []
 unfolding clap_on_literals tool

@@ -27,7 +27,7 @@ is_set _ = false
 -- the names of the arguments that are numbers
 abbrev pub is_number : Text → Bool
 is_number id = list_any (λ name. bytes_eq name id)
-    (codes "peb" ∷ codes "page" ∷ codes "vid" ∷ codes "data" ∷ codes "pebs" ∷ codes "block" ∷ codes "id" ∷ codes "spares"
+    (codes "peb" ∷ codes "page" ∷ codes "vid" ∷ codes "data" ∷ codes "pebs" ∷ codes "oob" ∷ codes "block" ∷ codes "id" ∷ codes "spares"
     ∷ codes "seq" ∷ codes "lnum" ∷ codes "stop" ∷ [])
 
 abbrev pub is_word : Option ValueParser → Bool

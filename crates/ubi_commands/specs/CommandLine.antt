@@ -16,12 +16,13 @@ use Rattle.ubi_commands.specs.declared.requests.Rename.{Rename}
 use Rattle.ubi_commands.specs.declared.requests.Request.{Request}
 use Rattle.ubi_commands.specs.declared.requests.Request.TheVariants as request
 use Rattle.ubi_commands.specs.declared.numbers.Numbers.{Numbers}
+use Rattle.ubi_commands.specs.declared.view.FilePart.{FilePart}
 use Rattle.ubi_commands.specs.declared.volume_key.VolumeKey.{VolumeKey}
 use Rattle.ubi_commands.specs.declared.volume_key.VolumeKey.TheVariants as key
 
 -- the command by which a request is made
 abbrev pub command_name : Request → List ℕ
-command_name (request.Geometry _) = codes "geometry"
+command_name (request.Geometry _ _) = codes "geometry"
 command_name (request.List _ _) = codes "list"
 command_name (request.Check _ _) = codes "check"
 command_name (request.Show _ _ _) = codes "show"
@@ -47,20 +48,32 @@ HasText words name text = first_of name words ≡ Some text.now
 abbrev pub MayHaveText : List Row → List ℕ → Option (Bor (List ℕ)) → Type 0
 MayHaveText words name text = option_map (λ t. t.now) text ≡ first_of name words
 
--- they give this number of 32 bits in decimal, where a plus may stand first
-abbrev pub HasNumber : List Row → List ℕ → ℕ → Type 0
-HasNumber words name n = (digits : List ℕ)
+-- they give this number below a limit in decimal, where a plus may stand first
+abbrev pub HasBelow : ℕ → List Row → List ℕ → ℕ → Type 0
+HasBelow limit words name n = (digits : List ℕ)
     × (option_map without_leading_plus (one_of name words) ≡ Some digits)
-    × IsNumeral 10 digits × (n ≡ digits_value 10 digits) × (n < 2 ^ 32)
+    × IsNumeral 10 digits × (n ≡ digits_value 10 digits) × (n < limit)
 
--- this is the number that they give, where they give one
+-- this is the number below a limit that they give, where they give one
+abbrev pub MayHaveBelow : ℕ → List Row → List ℕ → Option ℕ → Type 0
+MayHaveBelow limit words name number = (n : ℕ) → (number ≡ Some n) ↔ HasBelow limit words name n
+
+-- they give this number of 32 bits
+abbrev pub HasNumber : List Row → List ℕ → ℕ → Type 0
+HasNumber words name n = HasBelow (2 ^ 32) words name n
+
+-- this is the number of 32 bits that they give, where they give one
 abbrev pub MayHaveNumber : List Row → List ℕ → Option ℕ → Type 0
-MayHaveNumber words name number = (n : ℕ) → (number ≡ Some n) ↔ HasNumber words name n
+MayHaveNumber words name number = MayHaveBelow (2 ^ 32) words name number
 
--- they give this number, or none, and then it is the default
+-- they give this number of 32 bits, or none, and then it is the default
 abbrev pub HasNumberOr : ℕ → List Row → List ℕ → ℕ → Type 0
 HasNumberOr default words name n = (number : Option ℕ) × MayHaveNumber words name number
     × (n ≡ unwrap_or number default)
+
+-- this is the number of 64 bits that they give, where they give one
+abbrev pub MayHaveLong : List Row → List ℕ → Option ℕ → Type 0
+MayHaveLong words name number = MayHaveBelow (2 ^ 64) words name number
 
 -- the words give these numbers of a geometry
 abbrev pub AsksNumbers : List Row → Numbers → Type 0
@@ -70,9 +83,17 @@ AsksNumbers words numbers = HasNumber words (codes "peb") numbers.peb_size
     × MayHaveNumber words (codes "data") numbers.data_offset
     × MayHaveNumber words (codes "pebs") numbers.pebs
 
--- the words give this dump: its numbers, and the list of its bad eraseblocks, if there is one
+-- the words give this part of a file: all of it from its beginning on, where they say nothing of it
+abbrev pub AsksPart : List Row → FilePart → Type 0
+AsksPart words part = (start : Option ℕ) × MayHaveLong words (codes "start") start × (part.start ≡ unwrap_or start 0)
+    × MayHaveLong words (codes "length") part.length
+
+-- the words give this dump: its numbers, its part of the file, how many out-of-band bytes a page has, none if they don't say, and the
+-- list of its bad eraseblocks, if there is one
 abbrev pub AsksDump : List Row → Dump → Type 0
 AsksDump words dump = AsksNumbers words dump.numbers
+    × AsksPart words dump.part
+    × HasNumberOr 0 words (codes "oob") dump.oob
     × MayHaveText words (codes "bad") dump.bad
     × ForSome dump.bad (λ list. is_block_list list.now ≡ true)
 
@@ -120,7 +141,7 @@ AsksRename words rename = AsksPlan words rename.plan
 
 -- the words give what the request says
 abbrev pub Asks : List Row → Request → Type 0
-Asks words (request.Geometry image) = HasText words (codes "IMAGE") image
+Asks words (request.Geometry part image) = AsksPart words part × HasText words (codes "IMAGE") image
 Asks words (request.List dump image) = AsksDump words dump × HasText words (codes "IMAGE") image
 Asks words (request.Check dump image) = AsksDump words dump × HasText words (codes "IMAGE") image
 Asks words (request.Show dump image block) = AsksDump words dump × HasText words (codes "IMAGE") image

@@ -5,6 +5,8 @@ use Rattle.ubi_media.specs.declared.geometry.GeometryError.{GeometryError}
 use Rattle.ubi_media.specs.declared.refusal.Refusal.{Refusal}
 use Rattle.ubi_scan.specs.ErrorTexts.{undetected_text}
 use Rattle.ubi_scan.specs.declared.detect.Undetected.{Undetected}
+use Rattle.ubi_commands.specs.declared.view.Misfit.{Misfit}
+use Rattle.ubi_commands.specs.declared.view.Misfit.TheVariants as why
 
 -- the line of a refusal, by the text of its cause
 abbrev pub refused_line : List ℕ → List ℕ
@@ -21,6 +23,15 @@ refusal_line c = refused_line (refusal_text c)
 -- the line of a file of which no geometry is told
 abbrev pub undetected_line : Undetected → List ℕ
 undetected_line c = refused_line (undetected_text c)
+
+-- the text of why a file can't be seen as the words tell
+abbrev pub misfit_text : Misfit → List ℕ
+misfit_text (why.Part bytes) = codes "F7 Part bytes=" ++ decimal bytes
+misfit_text (why.Pages rest) = codes "F8 Pages rest=" ++ decimal rest
+
+-- the line of a file that can't be seen so
+abbrev pub misfit_line : Misfit → List ℕ
+misfit_line m = refused_line (misfit_text m)
 
 -- the line of one of two images that is refused, behind the side on which it stands
 abbrev pub side_line : List ℕ → Refusal → List ℕ

@@ -2,9 +2,10 @@
 use Rattle.std.specs.Prelude.{◌≡◌, ℕ, List, None, Option}
 use Rattle.ubi_media.specs.Limits.{first_broken}
 use Rattle.ubi_commands.specs.Disk.{Files, IsJudgedOf}
+use Rattle.ubi_commands.specs.Dump.{Fits, FitsWhole, seen}
 use Rattle.ubi_commands.specs.Numbers.{sizes_of}
 use Rattle.ubi_commands.specs.Program.{IsRead}
-use Rattle.ubi_commands.specs.declared.numbers.Numbers.{Numbers}
+use Rattle.ubi_commands.specs.declared.requests.Dump.{Dump}
 use Rattle.ubi_commands.specs.declared.open_image.OpenImage.{OpenImage}
 use Rattle.ubi_commands.specs.declared.open_image.OpenImage.TheVariants as image
 
@@ -12,13 +13,14 @@ use Rattle.ubi_commands.specs.declared.open_image.OpenImage.TheVariants as image
 abbrev pub IsUnreadOf : Files → List ℕ → Option (List ℕ) → ℕ → Type 0
 IsUnreadOf d path held failures = (failures ≡ 0) × (held ≡ d.holds path)
 
--- it was opened for a device of these numbers, which break no limit: at places, by a source over the named file; or its
--- bytes were read, and are those of the named file that are judged
-abbrev pub IsOpened : {S : Type 0} → (S → Type 0) → Files → List ℕ → Numbers → OpenImage S → Type 0
-IsOpened is d path numbers (image.AtPlaces file) =
-    (file.geometry ≡ sizes_of numbers) × (first_broken (sizes_of numbers) ≡ None) × is file.source
-IsOpened is d path numbers (image.Whole file) =
-    (file.geometry ≡ sizes_of numbers) × IsRead (sizes_of numbers) file.bytes.items × IsJudgedOf d path (sizes_of numbers) file.bytes.items
+-- a dump was opened whose numbers break no limit, and that the named file can be read as: at places, by a source over that, as it is
+-- seen; or its bytes were read, and are those of the file that are judged, as they are seen
+abbrev pub IsOpened : {S : Type 0} → (S → Type 0) → Files → List ℕ → Dump → OpenImage S → Type 0
+IsOpened is d path dump (image.AtPlaces file) =
+    (file.geometry ≡ sizes_of dump.numbers) × (first_broken (sizes_of dump.numbers) ≡ None) × is file.source × Fits d dump path
+IsOpened is d path dump (image.Whole file) =
+    (file.geometry ≡ sizes_of dump.numbers) × IsRead (sizes_of dump.numbers) file.bytes.items
+    × IsJudgedOf (seen dump d) path (sizes_of dump.numbers) file.bytes.items × FitsWhole d dump path
 
 -- it was opened at places
 abbrev pub IsAtPlaces : {S : Type 0} → OpenImage S → Type 0

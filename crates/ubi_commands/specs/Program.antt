@@ -1,7 +1,7 @@
 -- What the program answers over files.
 use Rattle.std.specs.Borrow.{Bor}
 use Rattle.std.specs.Option.{ForSome}
-use Rattle.std.specs.Prelude.{◌≡◌, ◌≢◌, ℕ, ◌*◌, ◌+◌, ◌≤◌, List, [], length, Some, None, Option, IfSome, IsSome, codes, option_map}
+use Rattle.std.specs.Prelude.{◌≡◌, ◌≢◌, ◌⊎◌, ℕ, ◌*◌, ◌+◌, ◌≤◌, List, [], length, Some, None, Option, IfSome, IsSome, codes, option_map}
 use Rattle.ubi_media.specs.Geometry.{Sizes}
 use Rattle.ubi_media.specs.Limits.{first_broken}
 use Rattle.ubi_media.specs.declared.geometry.GeometryError.{GeometryError}
@@ -14,13 +14,13 @@ use Rattle.ubi_commands.specs.Change.{ChangesFrom, HasPlan}
 use Rattle.ubi_commands.specs.Check.{ChecksOf}
 use Rattle.ubi_commands.specs.Compose.{ComposesInto}
 use Rattle.ubi_commands.specs.Disk.{AllStay, Files, IsJudgedOf, IsLeft, IsTextOf, OthersStay, OthersStayBeside, OutsideStay, Receives, Stays, fresh}
-use Rattle.ubi_commands.specs.Dump.{marks_of, seen}
+use Rattle.ubi_commands.specs.Dump.{Fits, FitsWhole, greatest_dump, marks_of, misfit_of, seen, whole_len}
 use Rattle.ubi_commands.specs.Extract.{ExtractsOf, HasTextIn}
 use Rattle.ubi_commands.specs.Geometry.{DetectsOf}
-use Rattle.ubi_commands.specs.Lines.{file_line, geometry_line}
+use Rattle.ubi_commands.specs.Lines.{file_line, geometry_line, misfit_line}
 use Rattle.ubi_commands.specs.List.{ListsOf}
 use Rattle.ubi_commands.specs.Normalise.{HasMeaning, NormalisesOf}
-use Rattle.ubi_commands.specs.Numbers.{greatest, sizes_of}
+use Rattle.ubi_commands.specs.Numbers.{sizes_of}
 use Rattle.ubi_commands.specs.Rename.{HasRename, RenamesFrom}
 use Rattle.ubi_commands.specs.Same.{ComparesOf}
 use Rattle.ubi_commands.specs.Show.{ShowsOf}
@@ -34,6 +34,7 @@ use Rattle.ubi_commands.specs.declared.image_file.Unread.{Unread}
 use Rattle.ubi_commands.specs.declared.image_file.Unread.TheVariants as unread
 use Rattle.ubi_commands.specs.declared.numbers.Numbers.{Numbers}
 use Rattle.ubi_commands.specs.declared.outcome.Outcome.{Outcome}
+use Rattle.ubi_commands.specs.declared.view.Misfit.{Misfit}
 
 -- what is answered where an image can't be had: the line of a limit that the numbers break, or of a file that can't be
 -- read
@@ -42,6 +43,16 @@ pub data IsUnread (numbers : Numbers) (path : List ℕ) : Outcome → Type 0 whe
       → IsUnread numbers path o
   cannot_read : {o : Outcome} → first_broken (sizes_of numbers) ≡ None → Gives o (says (file_line (codes "cannot read ") path) 1)
       → IsUnread numbers path o
+
+-- n is how many bytes a file has of which these are all; or how many of them are read, where it is read whole
+abbrev pub IsLenOf : Dump → ℕ → List ℕ → Type 0
+IsLenOf dump n all = (n ≡ length all) ⊎ (n ≡ whole_len dump (length all))
+
+-- what is answered where a dump can't be had: that; or the line of why the file can't be read as the dump
+pub data IsUnseen (d : Files) (dump : Dump) (path : List ℕ) : Outcome → Type 0 where
+  unreadable : {o : Outcome} → IsUnread dump.numbers path o → IsUnseen d dump path o
+  unfit : {o : Outcome} (n : ℕ) (m : Misfit) → first_broken (sizes_of dump.numbers) ≡ None → IfSome (d.holds path) (IsLenOf dump n)
+      → misfit_of dump n ≡ Some m → Gives o (says (misfit_line m) 1) → IsUnseen d dump path o
 
 -- the sizes break no limit, and the bytes are at most one more than the device has
 pub record IsRead (s : Sizes) (bytes : List ℕ) : Type 0 where
@@ -70,22 +81,23 @@ pub data OfText (d : Files) (numbers : Numbers) (path : List ℕ) (answers : Siz
   text : {o : Outcome} (bytes : List ℕ) → first_broken (sizes_of numbers) ≡ None → length bytes ≤ text_limit (sizes_of numbers)
       → IsTextOf d path bytes → answers (sizes_of numbers) bytes o → OfText d numbers path answers o
 
--- what a command can answer over one image file: that of a file that can't be had; or what it answers of a source, which
--- holds the bytes of the file, read whole, or is known by reads of it, with which the bytes of the file agree
-pub data OfFile (d : Files) (numbers : Numbers) (path : List ℕ) (answers : Sizes → Source → Agreed → Outcome → Type 0) : Outcome
+-- what a command can answer over one image file: that of a dump that can't be had; or, of a file that can be read as the dump, what
+-- it answers of a source, which holds the bytes that are seen of it, read whole, or is known by reads, with which the bytes that are
+-- seen agree
+pub data OfFile (d : Files) (dump : Dump) (path : List ℕ) (answers : Sizes → Source → Agreed → Outcome → Type 0) : Outcome
     → Type 0 where
-  no_file : {o : Outcome} → IsUnread numbers path o → OfFile d numbers path answers o
-  whole : {o : Outcome} (bytes : List ℕ) → IsRead (sizes_of numbers) bytes → IsJudgedOf d path (sizes_of numbers) bytes
-      → answers (sizes_of numbers) (memory bytes) (holds bytes) o → OfFile d numbers path answers o
-  places : {o : Outcome} (k : Source) (reads : List (ℕ × List ℕ)) → first_broken (sizes_of numbers) ≡ None → k.failures ≡ 0
-      → IfSome (d.holds path) (known_by k.size reads) → answers (sizes_of numbers) k (known_by k.size reads) o
-      → OfFile d numbers path answers o
+  no_file : {o : Outcome} → IsUnseen d dump path o → OfFile d dump path answers o
+  whole : {o : Outcome} (bytes : List ℕ) → IsRead (sizes_of dump.numbers) bytes
+      → IsJudgedOf (seen dump d) path (sizes_of dump.numbers) bytes → FitsWhole d dump path
+      → answers (sizes_of dump.numbers) (memory bytes) (holds bytes) o → OfFile d dump path answers o
+  places : {o : Outcome} (k : Source) (reads : List (ℕ × List ℕ)) → first_broken (sizes_of dump.numbers) ≡ None → k.failures ≡ 0
+      → IfSome ((seen dump d).holds path) (known_by k.size reads) → Fits d dump path
+      → answers (sizes_of dump.numbers) k (known_by k.size reads) o → OfFile d dump path answers o
 
 -- and over two
-abbrev pub BothOf : Files → Numbers → List ℕ → List ℕ → (Sizes → Source → Agreed → Source → Agreed → Outcome → Type 0) → Outcome
+abbrev pub BothOf : Files → Dump → List ℕ → List ℕ → (Sizes → Source → Agreed → Source → Agreed → Outcome → Type 0) → Outcome
     → Type 0
-BothOf d numbers left right answers =
-    OfFile d numbers left (λ s k here. OfFile d numbers right (λ t l there. answers t k here l there))
+BothOf d dump left right answers = OfFile d dump left (λ s k here. OfFile d dump right (λ t l there. answers t k here l there))
 
 -- what can be answered of a source by a command that writes the file at a path: what it answers, and the file received what
 -- it wrote; or the line of a file that can't be written, where there is something to write
@@ -127,32 +139,32 @@ avoided dump plan = record { marks = marks_of dump; blank = plan.keeps_blank }
 -- what a request can be answered: what its command answers, for its own numbers, paths and volume, of the files that are
 -- named, as they are seen, and with what becomes of the files that are written
 abbrev pub IsAnswerTo : Files → Files → Request → Outcome → Type 0
-IsAnswerTo d e (request.Geometry path) = OfFile d greatest path.now (λ _. DetectsOf)
-IsAnswerTo d e (request.List dump path) = OfFile (seen dump d) dump.numbers path.now ListsOf
-IsAnswerTo d e (request.Check dump path) = OfFile (seen dump d) dump.numbers path.now ChecksOf
-IsAnswerTo d e (request.Show dump path p) = OfFile (seen dump d) dump.numbers path.now (ShowsOf p)
+IsAnswerTo d e (request.Geometry part path) = OfFile d (greatest_dump part) path.now (λ _. DetectsOf)
+IsAnswerTo d e (request.List dump path) = OfFile d dump path.now ListsOf
+IsAnswerTo d e (request.Check dump path) = OfFile d dump path.now ChecksOf
+IsAnswerTo d e (request.Show dump path p) = OfFile d dump path.now (ShowsOf p)
 IsAnswerTo d e (request.Extract dump extract) =
-    OfFile (seen dump d) dump.numbers extract.paths.image.now
+    OfFile d dump extract.paths.image.now
     (λ s k agrees. WritesInto extract.paths.out.now d e (ExtractsOf extract.key s k agrees) (HasTextIn extract.key s agrees))
-IsAnswerTo d e (request.Unpack dump paths) = OfFile (seen dump d) dump.numbers paths.image.now (UnpacksOf paths.out.now d e)
+IsAnswerTo d e (request.Unpack dump paths) = OfFile d dump paths.image.now (UnpacksOf paths.out.now d e)
 IsAnswerTo d e (request.Compose numbers new) =
     OfText d numbers new.from.now (λ s t. ComposesInto new.out.now d e s t new.spares new.image_seq)
 IsAnswerTo d e (request.Build numbers new) =
     OfText d numbers new.from.now (λ s t. Builds d e new.from.now new.out.now s t new.spares new.image_seq)
 IsAnswerTo d e (request.Normalise dump paths) =
-    OfFile (seen dump d) dump.numbers paths.image.now
+    OfFile d dump paths.image.now
     (λ s k agrees. WritesInto paths.out.now d e (NormalisesOf s k agrees) (HasMeaning s agrees))
-IsAnswerTo d e (request.Same dump left right) = BothOf (seen dump d) dump.numbers left.now right.now ComparesOf
+IsAnswerTo d e (request.Same dump left right) = BothOf d dump left.now right.now ComparesOf
 IsAnswerTo d e (request.Change dump change) =
     let plan = change.plan in
-    WithList d e dump.bad plan.paths.image.now (OfFile (seen dump d) dump.numbers plan.paths.image.now
+    WithList d e dump.bad plan.paths.image.now (OfFile d dump plan.paths.image.now
     (λ s k agrees. OfImage d dump.numbers change.from.now
     (λ f. WritesPlan plan.paths.out.now plan.pages d e
     (ChangesFrom (avoided dump plan) change.id change.lnum f.bytes plan.stop s k agrees)
     (HasPlan (avoided dump plan) change.id change.lnum f.bytes s k agrees))))
 IsAnswerTo d e (request.Rename dump rename) =
     let plan = rename.plan in
-    WithList d e dump.bad plan.paths.image.now (OfFile (seen dump d) dump.numbers plan.paths.image.now
+    WithList d e dump.bad plan.paths.image.now (OfFile d dump plan.paths.image.now
     (λ s k agrees. WritesPlan plan.paths.out.now plan.pages d e
     (RenamesFrom (avoided dump plan) rename.id rename.name.now plan.stop s k agrees)
     (HasRename (avoided dump plan) rename.id rename.name.now s k agrees)))
@@ -166,7 +178,7 @@ pub record PlanStays (d e : Files) (plan : Plan) : Type 0 where
 -- each file holds what it held, but for the one that a request writes, or those in the folder that it writes; and so does a
 -- text or a file with new bytes, also where that is named for the output
 abbrev pub IsAllElse : Request → Files → Files → Type 0
-IsAllElse (request.Geometry _) d e = AllStay d e
+IsAllElse (request.Geometry _ _) d e = AllStay d e
 IsAllElse (request.List _ _) d e = AllStay d e
 IsAllElse (request.Check _ _) d e = AllStay d e
 IsAllElse (request.Show _ _ _) d e = AllStay d e

@@ -23,6 +23,10 @@ option name = record (new_rule name) { long = Some name; value_names = 1 }
 abbrev pub number : Text → Rule
 number name = record (option name) { parser = Some (parser.Signed (pos 0) (pos 4294967295)) }
 
+-- one that takes a place in a file, or how many bytes of it: a number of 63 bits
+abbrev pub long : Text → Rule
+long name = record (option name) { parser = Some (parser.Signed (pos 0) (pos 9223372036854775807)) }
+
 -- the numbers of a geometry
 abbrev pub numbers : List Rule
 numbers = needed (number (codes "peb")) ∷ needed (number (codes "page")) ∷ number (codes "vid") ∷ number (codes "data")
@@ -48,13 +52,17 @@ image_file = needed (new_rule (codes "IMAGE"))
 abbrev pub bad_list : Rule
 bad_list = option (codes "bad")
 
--- one over an image file, whose bad eraseblocks may be listed
+-- the word that names an image file, and the options that say which part of it is the image
+abbrev pub image_part : List Rule
+image_part = image_file ∷ long (codes "start") ∷ long (codes "length") ∷ []
+
+-- one over an image file, whose pages may have out-of-band bytes, and whose bad eraseblocks may be listed
 abbrev pub on_image : Text → List Rule → Shape
-on_image name rules = command name (image_file ∷ bad_list ∷ rules)
+on_image name rules = command name (image_part ++ number (codes "oob") ∷ bad_list ∷ rules)
 
 -- `geometry`, over an image alone
 abbrev pub geometry : Shape
-geometry = record (new_shape (codes "geometry")) { rules = image_file ∷ [] }
+geometry = record (new_shape (codes "geometry")) { rules = image_part }
 
 -- `list`, over an image
 abbrev pub list : Shape

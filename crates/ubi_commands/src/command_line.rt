@@ -9,6 +9,7 @@ ghost use Rattle.ubi_commands.specs.Tool as tool;
 ghost use Rattle.ubi_commands.specs.Tool.{tool as whole};
 ghost use Rattle.ubi_commands.specs.inner.CommandLine.{HasOneMore, alone};
 
+use clap::builder::ValueParser;
 use clap::{Arg, Command, value_parser};
 use std::alloc::{AllocError, Global};
 
@@ -66,8 +67,7 @@ fn geometry_command<'a>(alloc: Global) -> Result<Command<'a>, AllocError>
 {
     let about =
         "Prints the geometry that the headers of a dump give, as options of the other commands";
-    let command = Command::new(alloc, "geometry").about(about);
-    command.arg(image_file(alloc))
+    with_image(alloc, Command::new(alloc, "geometry").about(about))
 }
 
 fn list_command<'a>(alloc: Global) -> Result<Command<'a>, AllocError>
@@ -333,8 +333,18 @@ fn image_command<'a>(
     ensures { IfOk result (λ c. app_of c ≡ alone (tool.on_image name.now [])) }
 {
     let command = device_command(alloc, name, about)?;
-    let command = command.arg(image_file(alloc))?;
+    let command = with_image(alloc, command)?;
+    let command = command.arg(number(alloc, "oob", OOB))?;
     command.arg(bad_list(alloc))
+}
+
+/// Adds the word that names the image file, and the options that say which part of it is the image, to a command.
+fn with_image<'a>(alloc: Global, command: Command<'a>) -> Result<Command<'a>, AllocError>
+    ensures { IfOk result (λ c. (x : App) → app_of command.entry ≡ x → app_of c ≡ with_rule (with_rule (with_rule x tool.image_file) (tool.long (codes "start"))) (tool.long (codes "length"))) }
+{
+    let command = command.arg(image_file(alloc))?;
+    let command = command.arg(long(alloc, "start", START))?;
+    command.arg(long(alloc, "length", LENGTH))
 }
 
 /// The option that lists bad eraseblocks.
@@ -349,12 +359,10 @@ fn bad_list<'a>(alloc: Global) -> Arg<'a>
 
 /// The word that names the image file.
 fn image_file<'a>(alloc: Global) -> Arg<'a>
-    ensures rule { rule_of result ≡ tool.needed (new_rule (codes "IMAGE")) }
+    ensures rule { rule_of result ≡ tool.image_file }
     ensures global { result.global ≡ false }
 {
-    Arg::new(alloc, "IMAGE")
-        .help("Raw dump, without out-of-band bytes")
-        .required(true)
+    Arg::new(alloc, "IMAGE").help("Raw dump").required(true)
 }
 
 /// A command that takes the numbers of a geometry.
@@ -401,6 +409,12 @@ const SPARES: &str = "Spare eraseblocks to append [default: 0]";
 
 const SEQ: &str = "Image sequence number [default: 0]";
 
+const START: &str = "Place in the file where the image begins [default: 0]";
+
+const LENGTH: &str = "Bytes of the file that are the image [default: all from --start on]";
+
+const OOB: &str = "Out-of-band bytes behind each page [default: 0]";
+
 const STOP: &str = "Stop after N steps of the plan [default: all]";
 
 const PEB: &str = "Eraseblock size in bytes";
@@ -423,4 +437,12 @@ fn number<'a>(alloc: Global, name: &'a str, help: &'a str) -> Arg<'a>
         .value_name("N")
         .help(help)
         .value_parser(value_parser!(u32))
+}
+
+/// An option that takes a place in a file, or how many bytes of it: a number of 63 bits.
+fn long<'a>(alloc: Global, name: &'a str, help: &'a str) -> Arg<'a>
+    ensures rule { rule_of result ≡ tool.long name.now }
+    ensures global { result.global ≡ false }
+{
+    number(alloc, name, help).value_parser(ValueParser::signed(0, i64::MAX))
 }

@@ -16,7 +16,7 @@ use crate::outcome::{Outcome, nothing};
 use crate::output_file::write_outcome;
 use crate::planners::{change_file, rename_file};
 use crate::readers::{Checking, Detecting, Listing, Showing, read_file, same_files};
-use crate::requests::{GREATEST_DUMP, NewImage, Request, request_of, why_unasked};
+use crate::requests::{Dump, NewImage, Request, request_of, why_unasked};
 use crate::spec_file::load_spec;
 use crate::unpack::unpack_file;
 use crate::writers::{Extracting, Normalising, write_file};
@@ -83,7 +83,9 @@ fn run_request<D: Disk + Eprint>(
     ensures memory { OnErr result (AllStay (D.files disk.old) (D.files disk.new)) }
 {
     match request {
-        Request::Geometry { image } => read_file(disk, alloc, &GREATEST_DUMP, image, &Detecting),
+        Request::Geometry { part, image } => {
+            read_file(disk, alloc, &Dump::greatest(part), image, &Detecting)
+        }
         Request::List { dump, image } => read_file(disk, alloc, &dump, image, &Listing),
         Request::Check { dump, image } => read_file(disk, alloc, &dump, image, &Checking),
         Request::Show { dump, image, block } => {

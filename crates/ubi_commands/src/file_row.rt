@@ -15,6 +15,7 @@ pub struct SizedFile<F: PlacedFile> {
     len: u64,
     // Of a file whose bytes are known, it has as many.
     pub ghost sized: { ForSome (F.bytes file) (λ all. length all ≡ len) },
+    pub ghost counted: { len < 2 ^ 64 },
 }
 
 impl<F: PlacedFile> SizedFile<F> {

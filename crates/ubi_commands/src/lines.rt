@@ -1,8 +1,9 @@
 //! Printed lines.
 
 ghost use Rattle.std.specs.Prelude.{◌≡◌, ◌+◌, ◌++◌, ◌≤◌, IfOk, IfSome, IsOk, OnOk, codes, decimal, length, vec_capacity, vec_len};
-ghost use Rattle.ubi_commands.specs.Lines.{blocks_line, bytes_line, comparison_line, file_line, geometry_line, no_block_line, refusal_line, refused_line, side_line, undetected_line};
+ghost use Rattle.ubi_commands.specs.Lines.{blocks_line, bytes_line, comparison_line, file_line, geometry_line, misfit_line, no_block_line, refusal_line, refused_line, side_line, undetected_line};
 
+use crate::view::Misfit;
 use itoa::Buffer;
 use std::alloc::{AllocError, Global};
 use std::fmt;
@@ -51,6 +52,13 @@ pub fn undetected_line(alloc: Global, why: Undetected) -> Result<Vec<u8>, AllocE
     ensures { IfOk result (λ text. text.items ≡ undetected_line why) }
 {
     refused(alloc, &why)
+}
+
+/// The line of a file that can't be seen as the words tell.
+pub fn misfit_line(alloc: Global, misfit: Misfit) -> Result<Vec<u8>, AllocError>
+    ensures { IfOk result (λ text. text.items ≡ misfit_line misfit) }
+{
+    refused(alloc, &misfit)
 }
 
 /// The line of one of two images that is refused, behind the side on which it stands.

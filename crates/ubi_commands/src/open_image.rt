@@ -1,19 +1,23 @@
 //! Image files that are opened: to be read at places where they can be, and else read whole.
 
-ghost use Rattle.std.specs.Prelude.{◌≡◌, ◌≢◌, ℕ, [], IfErr, IfOk, IfSome, IsOkAnd, List, None, true};
+ghost use Rattle.std.specs.Prelude.{◌≡◌, ◌≢◌, ℕ, [], IfErr, IfOk, IfSome, IsOkAnd, List, MatchResult, None, Some, length, option_map, true};
 ghost use Rattle.ubi_media.specs.Limits.{first_broken};
-ghost use Rattle.ubi_commands.specs.Disk.{IsJudgedOf};
-ghost use Rattle.ubi_commands.specs.Dump.{marks_of, seen, viewed};
+ghost use Rattle.ubi_commands.specs.Disk.{Files};
+ghost use Rattle.ubi_commands.specs.Dump.{marks_of, misfit_of, seen, viewed};
 ghost use Rattle.ubi_commands.specs.Numbers.{sizes_of};
 ghost use Rattle.ubi_commands.specs.Opened.{IsAtPlaces, IsOpened, IsUnreadOf, WhereAtPlaces};
-ghost use Rattle.ubi_commands.specs.Program.{IsRead, IsUnread, Tells};
+ghost use Rattle.ubi_commands.specs.Program.{IsUnread, IsUnseen, Tells};
 
 use crate::bad_blocks::bad_marks;
 use crate::disk::Disk;
 use crate::file_row::SizedFile;
-use crate::image_file::{ImageFile, Unread, allowed_geometry, load};
+use crate::image_file::{ImageFile, Unread, allowed_geometry};
+use crate::masked::Masked;
+use crate::pages::Pages;
+use crate::part::Part;
 use crate::requests::Dump;
-use crate::view::{View, mask};
+use crate::view::{Misfit, misfit_of};
+use crate::whole_dump::{load_seen, unseen};
 use std::alloc::{AllocError, Global};
 use ubi_media::Geometry;
 use ubi_scan::{FileSource, PlacedFile};
@@ -78,66 +82,81 @@ pub enum OpenImage<S> {
     Whole(ImageFile),
 }
 
+/// A file that is read at places, as it is seen: of a part of it the pages, with 0xFF in the place of bad eraseblocks.
+pub type Seen<'f, F> = Masked<'f, Pages<Part<F>>>;
+
 /// A source over the file of a dump, as it is seen.
-pub type DumpSource<'f, F> = FileSource<View<'f, F>>;
+pub type DumpSource<'f, F> = FileSource<Seen<'f, F>>;
 
-/// A source over the file of a dump.
-fn placed<'f, F: PlacedFile>(
-    frame: &'f Frame<'_>,
-    file: SizedFile<F>,
-) -> PlacedImage<DumpSource<'f, F>>
-    ensures geometry { result.geometry ≡ sizes_of frame.now.dump.numbers }
-    ensures unread { result.source.failures ≡ 0 }
-    ensures held { viewed result.source.file.size result.source.file.marks.now (F.bytes result.source.file.file.file) ≡ viewed (sizes_of frame.now.dump.numbers).peb_size (marks_of frame.now.dump) (F.bytes file.file) }
-{
-    let len = file.len();
-    let view = View::new(file, frame.geometry.peb_size(), frame.marks.as_slice());
-    PlacedImage {
-        geometry: frame.geometry,
-        source: FileSource::of(view, len),
-    }
-}
-
-/// Reads the file of a dump whole, as it is seen.
+/// A source over the file of a dump, where that can be seen so.
 ///
 /// # Errors
 ///
-/// The line of a file that can't be read, or that memory ran out.
-fn load_seen<D: Disk>(
-    disk: &D,
-    alloc: Global,
-    frame: &Frame<'_>,
-    path: &str,
-) -> Result<ImageFile, Unread>
-    ensures geometry { IfOk result (λ f. f.geometry ≡ sizes_of frame.now.dump.numbers) }
-    ensures read { IfOk result (λ f. IsRead (sizes_of frame.now.dump.numbers) f.bytes.items) }
-    ensures named { IfOk result (λ f. IsJudgedOf (seen frame.now.dump (D.files disk.now)) path.now (sizes_of frame.now.dump.numbers) f.bytes.items) }
-    ensures unread { IfErr result (Tells (IsUnread frame.now.dump.numbers path.now)) }
+/// Why it can't.
+fn placed<'f, F: PlacedFile + Drop>(
+    frame: &'f Frame<'_>,
+    file: SizedFile<F>,
+) -> Result<PlacedImage<DumpSource<'f, F>>, Misfit>
+    ensures fits { MatchResult result (λ _. misfit_of frame.now.dump file.len ≡ None) (λ m. misfit_of frame.now.dump file.len ≡ Some m) }
+    ensures geometry { IfOk result (λ image. image.geometry ≡ sizes_of frame.now.dump.numbers) }
+    ensures unread { IfOk result (λ image. image.source.failures ≡ 0) }
+    ensures held { IfOk result (λ image. ⟦<Seen<'static, F> as PlacedFile>⟧.bytes image.source.file ≡ option_map (viewed frame.now.dump) (F.bytes file.file)) }
 {
-    let mut file = load(disk, alloc, frame.dump.numbers, path)?;
-    let size = frame.geometry.peb_size();
-    mask(file.bytes.as_mut_slice(), size, frame.marks.as_slice());
-    Ok(file)
+    let geometry = frame.geometry;
+    let Dump { part, oob, .. } = frame.dump;
+    let len = file.len();
+    if let Some(misfit) = misfit_of(part, geometry.page(), oob, len) {
+        return Err(misfit);
+    }
+    let part_len = part.length.unwrap_or(len - part.start);
+    let part = Part::of(file, part.start, part_len);
+    let pages = Pages::of(part, geometry.page(), oob);
+    let len = pages.len();
+    let seen = Masked::new(pages, geometry.peb_size(), frame.marks.as_slice());
+    Ok(PlacedImage {
+        geometry,
+        source: FileSource::of(seen, len),
+    })
+}
+
+/// The image of a file that was opened at places.
+///
+/// # Errors
+///
+/// The line of why it can't be seen so, or that memory ran out.
+fn at_places<'f, F: PlacedFile + Drop>(
+    alloc: Global,
+    frame: &'f Frame<'_>,
+    file: SizedFile<F>,
+) -> Result<OpenImage<DumpSource<'f, F>>, Unread>
+    ensures opened { (d : Files) (path : List ℕ) → F.bytes file.file ≡ d.holds path → IfOk result (IsOpened (λ s. IsUnreadOf (seen frame.now.dump d) path (⟦<Seen<'static, F> as PlacedFile>⟧.bytes s.file) s.failures) d path frame.now.dump) }
+    ensures opens { misfit_of frame.now.dump file.len ≡ None → IsOkAnd result IsAtPlaces }
+    ensures unread { (d : Files) (path : List ℕ) → F.bytes file.file ≡ d.holds path → IfErr result (Tells (IsUnseen d frame.now.dump path)) }
+{
+    match placed(frame, file) {
+        Ok(image) => Ok(OpenImage::AtPlaces(image)),
+        Err(misfit) => Err(unseen(alloc, misfit)),
+    }
 }
 
 /// Opens the image of a path, of which the frame is known.
 ///
 /// # Errors
 ///
-/// The line of a file that can't be read, or that memory ran out.
+/// The line of a file that can't be read, or of why it can't be seen so, or that memory ran out.
 pub fn open_image<'f, D: Disk>(
     disk: &D,
     alloc: Global,
     frame: &'f Frame<'_>,
     path: &str,
 ) -> Result<OpenImage<DumpSource<'f, D::Placed>>, Unread>
-    ensures opened { IfOk result (IsOpened (λ s. IsUnreadOf (seen frame.now.dump (D.files disk.now)) path.now (viewed s.file.size s.file.marks.now (D.Placed.bytes s.file.file.file)) s.failures) (seen frame.now.dump (D.files disk.now)) path.now frame.now.dump.numbers) }
-    ensures opens { D.opens disk.now path.now ≡ true → IfSome ((D.files disk.now).holds path.now) (λ all. all ≢ [] → IsOkAnd result IsAtPlaces) }
-    ensures unread { IfErr result (Tells (IsUnread frame.now.dump.numbers path.now)) }
+    ensures opened { IfOk result (IsOpened (λ s. IsUnreadOf (seen frame.now.dump (D.files disk.now)) path.now (⟦<Seen<'static, D::Placed> as PlacedFile>⟧.bytes s.file) s.failures) (D.files disk.now) path.now frame.now.dump) }
+    ensures opens { D.opens disk.now path.now ≡ true → IfSome ((D.files disk.now).holds path.now) (λ all. all ≢ [] → misfit_of frame.now.dump (length all) ≡ None → IsOkAnd result IsAtPlaces) }
+    ensures unread { IfErr result (Tells (IsUnseen (D.files disk.now) frame.now.dump path.now)) }
 {
     match disk.placed_at(path) {
         // Of some of its own files the system tells no size.
-        Some(file) if file.len() > 0 => Ok(OpenImage::AtPlaces(placed(frame, file))),
+        Some(file) if file.len() > 0 => at_places(alloc, frame, file),
         _ => Ok(OpenImage::Whole(load_seen(disk, alloc, frame, path)?)),
     }
 }
@@ -155,13 +174,13 @@ pub fn open_beside<'f, D: Disk>(
     path: &str,
     out: &str,
 ) -> Result<OpenImage<DumpSource<'f, D::Placed>>, Unread>
-    ensures opened { IfOk result (IsOpened (λ s. IsUnreadOf (seen frame.now.dump (D.files disk.now)) path.now (viewed s.file.size s.file.marks.now (D.Placed.bytes s.file.file.file)) s.failures) (seen frame.now.dump (D.files disk.now)) path.now frame.now.dump.numbers) }
+    ensures opened { IfOk result (IsOpened (λ s. IsUnreadOf (seen frame.now.dump (D.files disk.now)) path.now (⟦<Seen<'static, D::Placed> as PlacedFile>⟧.bytes s.file) s.failures) (D.files disk.now) path.now frame.now.dump) }
     ensures apart { IfOk result (WhereAtPlaces (path.now ≢ out.now)) }
-    ensures opens { D.opens disk.now path.now ≡ true → path.now ≢ out.now → IfSome ((D.files disk.now).holds path.now) (λ all. all ≢ [] → IsOkAnd result IsAtPlaces) }
-    ensures unread { IfErr result (Tells (IsUnread frame.now.dump.numbers path.now)) }
+    ensures opens { D.opens disk.now path.now ≡ true → path.now ≢ out.now → IfSome ((D.files disk.now).holds path.now) (λ all. all ≢ [] → misfit_of frame.now.dump (length all) ≡ None → IsOkAnd result IsAtPlaces) }
+    ensures unread { IfErr result (Tells (IsUnseen (D.files disk.now) frame.now.dump path.now)) }
 {
     match disk.placed_beside(path, out) {
-        Some(file) if file.len() > 0 => Ok(OpenImage::AtPlaces(placed(frame, file))),
+        Some(file) if file.len() > 0 => at_places(alloc, frame, file),
         _ => Ok(OpenImage::Whole(load_seen(disk, alloc, frame, path)?)),
     }
 }

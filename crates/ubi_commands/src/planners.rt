@@ -4,22 +4,22 @@ ghost use Rattle.std.specs.Option.{ForSome};
 ghost use Rattle.std.specs.Prelude.{◌≡◌, ◌≢◌, ◌⊎◌, IfOk, None, OnErr, Some, true};
 ghost use Rattle.ubi_commands.specs.Change.{ChangesFrom, HasPlan};
 ghost use Rattle.ubi_commands.specs.Disk.{AllStay, Files, OthersStay, Receives, Stays};
-ghost use Rattle.ubi_commands.specs.Dump.{seen, viewed};
+ghost use Rattle.ubi_commands.specs.Dump.{seen};
 ghost use Rattle.ubi_commands.specs.Opened.{IsOpened, IsUnreadOf};
 ghost use Rattle.ubi_commands.specs.Program.{OfFile, OfImage, PlanStays, WithList, WritesPlan, avoided};
 ghost use Rattle.ubi_commands.specs.Rename.{HasRename, RenamesFrom};
-ghost use Rattle.ubi_commands.specs.declared.numbers.Numbers.{Numbers};
 
 use crate::change::NewBytes;
 use crate::disk::Disk;
 use crate::image_file::load;
-use crate::open_image::{DumpSource, OpenImage, frame_of, open_beside};
+use crate::open_image::{DumpSource, OpenImage, Seen, frame_of, open_beside};
 use crate::outcome::{DONE, Outcome, nothing};
 use crate::output_file::{Output, unwritten_line, write_bytes};
 use crate::requests::{Change, Dump, Paths, Plan, Rename};
 use crate::writers::{Changing, Renaming, Way, Writing, write_opened};
 use std::alloc::{AllocError, Global};
 use ubi_change::Avoided;
+use ubi_scan::PlacedFile;
 
 /// What is said of a device whose bad eraseblocks nobody lists.
 const NO_LIST: &str =
@@ -100,7 +100,7 @@ fn write_plan<D: Disk + Eprint, C: Writing>(
     from: Option<&str>,
     command: &C,
 ) -> Result<Outcome, AllocError>
-    ensures answer { (d : Files) (numbers : Numbers) → IsOpened (λ s. IsUnreadOf d plan.now.paths.image.now (viewed s.file.size s.file.marks.now (D.Placed.bytes s.file.file.file)) s.failures) d plan.now.paths.image.now numbers opened.entry → IfOk result (OfFile d numbers plan.now.paths.image.now (λ s k agrees. WritesPlan plan.now.paths.out.now plan.now.pages (D.files disk.old) (D.files disk.new) (C.answers command.now s k agrees) (C.writes command.now s k agrees))) }
+    ensures answer { (d : Files) (dump : Dump) → IsOpened (λ s. IsUnreadOf (seen dump d) plan.now.paths.image.now (⟦<Seen<'static, D::Placed> as PlacedFile>⟧.bytes s.file) s.failures) d plan.now.paths.image.now dump opened.entry → IfOk result (OfFile d dump plan.now.paths.image.now (λ s k agrees. WritesPlan plan.now.paths.out.now plan.now.pages (D.files disk.old) (D.files disk.new) (C.answers command.now s k agrees) (C.writes command.now s k agrees))) }
     ensures stays { PlanStays (D.files disk.old) (D.files disk.new) plan.now }
     ensures from { ForSome from.entry (λ f. Stays (D.files disk.old) (D.files disk.new) f.now) }
     ensures memory { OnErr result (AllStay (D.files disk.old) (D.files disk.new)) }
@@ -132,7 +132,7 @@ pub fn change_file<D: Disk + Eprint>(
     dump: &Dump<'_>,
     asked: &Change<'_>,
 ) -> Result<Outcome, AllocError>
-    ensures answer { IfOk result (WithList (D.files disk.old) (D.files disk.new) dump.now.bad asked.now.plan.paths.image.now (OfFile (seen dump.now (D.files disk.old)) dump.now.numbers asked.now.plan.paths.image.now (λ s k agrees. OfImage (D.files disk.old) dump.now.numbers asked.now.from.now (λ f. WritesPlan asked.now.plan.paths.out.now asked.now.plan.pages (D.files disk.old) (D.files disk.new) (ChangesFrom (avoided dump.now asked.now.plan) asked.now.id asked.now.lnum f.bytes asked.now.plan.stop s k agrees) (HasPlan (avoided dump.now asked.now.plan) asked.now.id asked.now.lnum f.bytes s k agrees))))) }
+    ensures answer { IfOk result (WithList (D.files disk.old) (D.files disk.new) dump.now.bad asked.now.plan.paths.image.now (OfFile (D.files disk.old) dump.now asked.now.plan.paths.image.now (λ s k agrees. OfImage (D.files disk.old) dump.now.numbers asked.now.from.now (λ f. WritesPlan asked.now.plan.paths.out.now asked.now.plan.pages (D.files disk.old) (D.files disk.new) (ChangesFrom (avoided dump.now asked.now.plan) asked.now.id asked.now.lnum f.bytes asked.now.plan.stop s k agrees) (HasPlan (avoided dump.now asked.now.plan) asked.now.id asked.now.lnum f.bytes s k agrees))))) }
     ensures stays { PlanStays (D.files disk.old) (D.files disk.new) asked.now.plan }
     ensures from { Stays (D.files disk.old) (D.files disk.new) asked.now.from.now }
     ensures memory { OnErr result (AllStay (D.files disk.old) (D.files disk.new)) }
@@ -174,7 +174,7 @@ pub fn rename_file<D: Disk + Eprint>(
     dump: &Dump<'_>,
     asked: &Rename<'_>,
 ) -> Result<Outcome, AllocError>
-    ensures answer { IfOk result (WithList (D.files disk.old) (D.files disk.new) dump.now.bad asked.now.plan.paths.image.now (OfFile (seen dump.now (D.files disk.old)) dump.now.numbers asked.now.plan.paths.image.now (λ s k agrees. WritesPlan asked.now.plan.paths.out.now asked.now.plan.pages (D.files disk.old) (D.files disk.new) (RenamesFrom (avoided dump.now asked.now.plan) asked.now.id asked.now.name.now asked.now.plan.stop s k agrees) (HasRename (avoided dump.now asked.now.plan) asked.now.id asked.now.name.now s k agrees)))) }
+    ensures answer { IfOk result (WithList (D.files disk.old) (D.files disk.new) dump.now.bad asked.now.plan.paths.image.now (OfFile (D.files disk.old) dump.now asked.now.plan.paths.image.now (λ s k agrees. WritesPlan asked.now.plan.paths.out.now asked.now.plan.pages (D.files disk.old) (D.files disk.new) (RenamesFrom (avoided dump.now asked.now.plan) asked.now.id asked.now.name.now asked.now.plan.stop s k agrees) (HasRename (avoided dump.now asked.now.plan) asked.now.id asked.now.name.now s k agrees)))) }
     ensures stays { PlanStays (D.files disk.old) (D.files disk.new) asked.now.plan }
     ensures memory { OnErr result (AllStay (D.files disk.old) (D.files disk.new)) }
 {

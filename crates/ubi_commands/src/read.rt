@@ -1,6 +1,6 @@
 //! Reading the bytes of a file to its end, or up to a limit.
 
-ghost use Rattle.std.specs.Prelude.{◌≡◌, ◌≢◌, ◌≤◌, IfOk, IfErr, IfSome, OnErr, take, vec_len};
+ghost use Rattle.std.specs.Prelude.{◌≡◌, ◌≢◌, ◌≤◌, IfOk, IfErr, IfSome, List, OnErr, length, min, take, vec_len, ℕ};
 ghost use Rattle.std.specs.Io.KnownBytes.{Consumes};
 ghost use Rattle.ubi_commands.specs.Read.{TakesAtMost};
 
@@ -48,6 +48,34 @@ pub fn read_limited<R: Read>(
         left -= count as u64;
     }
     Ok(bytes)
+}
+
+/// Passes over the first bytes of a reader, `limit` of them at most, and tells how many they were.
+///
+/// # Errors
+///
+/// Read where a read fails, with an error of any kind; no read is tried again. The reader may then stand further on, by `limit`
+/// bytes at most.
+pub fn skip_limited<R: Read>(reader: &mut R, limit: u64) -> Result<u64, ToolError>
+    ensures count { IfOk result (λ n. IfSome (R.remaining reader.old) (λ xs. n ≡ min limit (length xs))) }
+    ensures within { IfOk result (λ n. n ≤ limit) }
+    ensures rest { IfOk result (λ n. (skipped : List ℕ) × (length skipped ≡ n) × Consumes (R.remaining reader.old) (R.remaining reader.new) skipped) }
+    ensures taken { OnErr result (TakesAtMost limit (R.remaining reader.old) (R.remaining reader.new)) }
+    ensures err { IfErr result (λ e. e ≡ ToolError.Read) }
+{
+    let mut chunk = [0u8; CHUNK];
+    let mut skipped = 0;
+    while skipped < limit {
+        let room = (limit - skipped).min(CHUNK as u64) as usize;
+        let Ok(count) = reader.read(&mut chunk[..room]) else {
+            return Err(ToolError::Read);
+        };
+        if count == 0 {
+            return Ok(skipped);
+        }
+        skipped += count as u64;
+    }
+    Ok(skipped)
 }
 
 /// Whether a file that was just opened has an end: not so a character device that has places and tells no size, as

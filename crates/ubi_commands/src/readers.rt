@@ -4,7 +4,6 @@ ghost use Rattle.std.specs.Prelude.{◌≡◌, IfErr, IfOk, List, Result, ℕ};
 ghost use Rattle.ubi_media.specs.Geometry.{Sizes};
 ghost use Rattle.ubi_scan.specs.Source.{Agreed, Narrows, Source};
 ghost use Rattle.ubi_commands.specs.AfterRun.{IsNoWrite, after_run};
-ghost use Rattle.ubi_commands.specs.Dump.{seen};
 ghost use Rattle.ubi_commands.specs.inner.Ended.{IsToldOfSides, Works};
 ghost use Rattle.ubi_commands.specs.Program.{BothOf, OfFile};
 ghost use Rattle.ubi_commands.specs.Same.{ComparesOf};
@@ -133,7 +132,7 @@ pub fn read_file<D: Disk, C: Reading>(
     image: &str,
     command: &C,
 ) -> Result<Outcome, AllocError>
-    ensures { IfOk result (OfFile (seen dump.now (D.files disk.now)) dump.now.numbers image.now (C.answers command.now)) }
+    ensures { IfOk result (OfFile (D.files disk.now) dump.now image.now (C.answers command.now)) }
 {
     let frame = match frame_of(alloc, dump) {
         Ok(frame) => frame,
@@ -186,7 +185,7 @@ fn same_beside<D: Disk, S: BlockSource>(
     right: &str,
 ) -> Result<Outcome, AllocError>
     ensures narrows { Narrows (S.agrees source.old) (S.agrees source.new) }
-    ensures answer { IfOk result (Works (S.known source.old) (S.known source.new) left.now (OfFile (seen frame.now.dump (D.files disk.now)) frame.now.dump.numbers right.now (λ s l there. ComparesOf s (S.known source.old) (S.agrees source.new) l there))) }
+    ensures answer { IfOk result (Works (S.known source.old) (S.known source.new) left.now (OfFile (D.files disk.now) frame.now.dump right.now (λ s l there. ComparesOf s (S.known source.old) (S.agrees source.new) l there))) }
 {
     match open_image(disk, alloc, frame, right) {
         Ok(OpenImage::AtPlaces(mut file)) => {
@@ -211,7 +210,7 @@ pub fn same_files<D: Disk>(
     left: &str,
     right: &str,
 ) -> Result<Outcome, AllocError>
-    ensures { IfOk result (BothOf (seen dump.now (D.files disk.now)) dump.now.numbers left.now right.now ComparesOf) }
+    ensures { IfOk result (BothOf (D.files disk.now) dump.now left.now right.now ComparesOf) }
 {
     let frame = match frame_of(alloc, dump) {
         Ok(frame) => frame,

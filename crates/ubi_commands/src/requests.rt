@@ -4,12 +4,14 @@ ghost use Rattle.std.specs.Option.{ForSome};
 ghost use Rattle.std.specs.Prelude.{◌≡◌, ◌↔◌, IsTrue, codes, true};
 ghost use Rattle.clap.specs.Simple.{subcommand_rows_of};
 ghost use Rattle.ubi_commands.specs.BadBlocks.{is_block_list};
-ghost use Rattle.ubi_commands.specs.CommandLine.{AsksBlank, AsksChange, AsksDump, AsksExtract, AsksKey, AsksNewImage, AsksNumbers, AsksPaths, AsksPlan, AsksRename, HasNumber, HasText, IsOneOf, IsRequest, MayHaveNumber, MayHaveText};
+ghost use Rattle.ubi_commands.specs.CommandLine.{AsksBlank, AsksChange, AsksDump, AsksExtract, AsksKey, AsksNewImage, AsksNumbers, AsksPart, AsksPaths, AsksPlan, AsksRename, HasNumber, HasText, IsOneOf, IsRequest, MayHaveLong, MayHaveNumber, MayHaveText};
+ghost use Rattle.ubi_commands.specs.Dump.{greatest_dump};
 ghost use Rattle.ubi_commands.specs.Tool.{tool as whole};
 ghost use Rattle.ubi_commands.specs.inner.CommandLine.{IsAskedBy, words_in};
 
 use crate::bad_blocks::is_block_list;
 use crate::numbers::{GREATEST, Numbers};
+use crate::view::FilePart;
 use crate::volume_key::VolumeKey;
 use clap::ArgMatches;
 
@@ -35,8 +37,9 @@ For more information, try '--help'.
 /// What the words ask for, with the paths as they were given.
 #[derive(Clone, Copy)]
 pub enum Request<'a> {
-    /// The geometries that a file's own headers give.
+    /// The geometries that the headers in a part of a file give.
     Geometry {
+        part: FilePart,
         image: &'a str,
     },
     /// The volumes of a file.
@@ -112,15 +115,27 @@ pub struct Paths<'a> {
 pub struct Dump<'a> {
     /// The numbers of its geometry.
     pub numbers: Numbers,
+    /// The part of its file that it is.
+    pub part: FilePart,
+    /// How many out-of-band bytes lie behind each page.
+    pub oob: u32,
     /// The list of its bad eraseblocks, which read 0xFF; none is bad where it is left out.
     pub bad: Option<&'a str>,
 }
 
-/// The greatest dump that there is: of a file of which no geometry is known, no more is read.
-pub const GREATEST_DUMP: Dump<'static> = Dump {
-    numbers: GREATEST,
-    bad: None,
-};
+impl<'a> Dump<'a> {
+    /// A part of a file of which no geometry is known: no more is read of it than the greatest dump has that there is.
+    pub fn greatest(part: FilePart) -> Dump<'a>
+        ensures { result ≡ greatest_dump part }
+    {
+        Dump {
+            numbers: GREATEST,
+            part,
+            oob: 0,
+            bad: None,
+        }
+    }
+}
 
 /// A volume to take out of an image.
 #[derive(Clone, Copy)]
@@ -224,6 +239,7 @@ fn geometry_of<'a>(matches: &'a ArgMatches<'_>) -> Option<Request<'a>>
     ensures { IsOneOf (IsAskedBy (codes "geometry") (words_in matches.now)) result }
 {
     Some(Request::Geometry {
+        part: part_of(matches),
         image: text_of(matches, "IMAGE")?,
     })
 }
@@ -418,10 +434,24 @@ fn dump_of<'a>(matches: &'a ArgMatches<'_>) -> Option<Dump<'a>>
 {
     let numbers = numbers_of(matches)?;
     let bad = may_text_of(matches, "bad");
-    if are_listed(bad) {
-        Some(Dump { numbers, bad })
-    } else {
-        None
+    if !are_listed(bad) {
+        return None;
+    }
+    Some(Dump {
+        numbers,
+        part: part_of(matches),
+        oob: number_of(matches, "oob").unwrap_or(0),
+        bad,
+    })
+}
+
+/// The part of a file.
+fn part_of(matches: &ArgMatches<'_>) -> FilePart
+    ensures { AsksPart (words_in matches.now) result }
+{
+    FilePart {
+        start: long_of(matches, "start").unwrap_or(0),
+        length: long_of(matches, "length"),
     }
 }
 
@@ -467,4 +497,11 @@ fn number_of(matches: &ArgMatches<'_>, name: &str) -> Option<u32>
     ensures whole { MayHaveNumber (words_in matches.now) name.now result }
 {
     matches.get_one::<u32>(name)
+}
+
+/// The place in a file that an option gives, or how many bytes of it.
+fn long_of(matches: &ArgMatches<'_>, name: &str) -> Option<u64>
+    ensures { MayHaveLong (words_in matches.now) name.now result }
+{
+    matches.get_one::<u64>(name)
 }

@@ -12,7 +12,6 @@ ghost use Rattle.ubi_commands.specs.AfterRun.{IsNoWrite, IsTold, after_run};
 ghost use Rattle.ubi_commands.specs.Answer.{Gives, says};
 ghost use Rattle.ubi_commands.specs.Disk.{AllStay, OthersStay, OutsideStay};
 ghost use Rattle.ubi_commands.specs.Lines.{file_line};
-ghost use Rattle.ubi_commands.specs.Dump.{seen};
 ghost use Rattle.ubi_commands.specs.Program.{OfFile};
 ghost use Rattle.ubi_commands.specs.Unpack.{AreUnpacked, IsUnpacked, Unpacks, UnpacksFrom, UnpacksOf, file_byte, file_path, unpacked_amount, unpacked_line, unpacked_lines, unpacked_status};
 ghost use Rattle.ubi_commands.specs.inner.Folder.{AreFilesOf, Ends, IsFileOf};
@@ -347,7 +346,7 @@ pub fn unpack_file<D: Disk>(
     dump: &Dump<'_>,
     paths: &Paths<'_>,
 ) -> Result<Outcome, AllocError>
-    ensures answer { IfOk result (OfFile (seen dump.now (D.files disk.old)) dump.now.numbers paths.now.image.now (UnpacksOf paths.now.out.now (D.files disk.old) (D.files disk.new))) }
+    ensures answer { IfOk result (OfFile (D.files disk.old) dump.now paths.now.image.now (UnpacksOf paths.now.out.now (D.files disk.old) (D.files disk.new))) }
     ensures outside { OutsideStay (D.files disk.old) (D.files disk.new) paths.now.out.now }
     ensures memory { OnErr result (AllStay (D.files disk.old) (D.files disk.new)) }
 {

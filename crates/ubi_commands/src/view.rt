@@ -1,84 +1,55 @@
-//! Dumps as they are read: with 0xFF in the place of bad eraseblocks.
+//! How the bytes of a file are seen: which part of it, and whether that can be seen so.
 
-ghost use Rattle.std.specs.Option.{ForSome};
-ghost use Rattle.std.specs.Prelude.{◌≡◌, ◌+◌, ◌<◌, ℕ, List, length, option_map, take};
-ghost use Rattle.ubi_change.specs.Avoided.{is_listed};
-ghost use Rattle.ubi_commands.specs.BadBlocks.{masked};
+ghost use Rattle.std.specs.Prelude.{◌≡◌, ◌<◌};
+ghost use Rattle.ubi_commands.specs.Views.{misfit};
 
-use crate::file_row::SizedFile;
-use std::io;
-use ubi_scan::PlacedFile;
+use std::fmt;
 
-/// Whether an eraseblock is marked. One that has no mark isn't.
-fn is_marked(marks: &[bool], p: u64) -> bool
-    ensures { result ≡ is_listed marks.now p }
-{
-    if p >= marks.len() as u64 {
-        return false;
-    }
-    marks[p as usize]
+/// The part of a file that is an image.
+#[derive(Clone, Copy)]
+pub struct FilePart {
+    /// The place of its first byte.
+    pub start: u64,
+    /// How many bytes it has; where this is left out, it ends with the file.
+    pub length: Option<u64>,
 }
 
-/// Fills an eraseblock of an image with 0xFF if it is marked, as far as the image has bytes of it.
-fn mask_block(bytes: &mut [u8], size: u32, p: usize, marks: &[bool])
-    requires some { 0 < size }
-    requires within { p < length marks.now }
-    ensures { (before : List ℕ) → bytes.old ≡ masked size (take p marks.now) before → bytes.new ≡ masked size (take (p + 1) marks.now) before }
-{
-    if marks[p] {
-        let start = p.saturating_mul(size as usize).min(bytes.len());
-        let end = start.saturating_add(size as usize).min(bytes.len());
-        bytes[start..end].fill(0xFF);
-    }
+/// Why a file can't be seen as the words tell.
+#[derive(Clone, Copy)]
+pub enum Misfit {
+    /// The part begins or ends beyond the end of the file, which has so many bytes.
+    Part(u64),
+    /// So many bytes of the part are left over behind the last page that has its out-of-band bytes.
+    Pages(u64),
 }
 
-/// Fills the eraseblocks of an image that are marked with 0xFF. An eraseblock has `size` bytes.
-pub fn mask(bytes: &mut [u8], size: u32, marks: &[bool])
-    requires { 0 < size }
-    ensures { bytes.new ≡ masked size marks.now bytes.old }
-{
-    for p in 0..marks.len() {
-        mask_block(bytes, size, p, marks);
-    }
-}
+impl fmt::Display for Misfit {
+    ghost use Rattle.std.specs.Prelude.{Some};
+    ghost use Rattle.ubi_commands.specs.Lines.{misfit_text};
 
-/// A dump that is read at places, of which the bytes of each marked eraseblock read 0xFF: they aren't read from the file.
-#[derive(Drop)]
-pub struct View<'a, F: PlacedFile> {
-    file: SizedFile<F>,
-    /// The bytes of an eraseblock.
-    size: u32,
-    marks: &'a [bool],
-    ghost some: { 0 < size },
-}
+    ghost output = { λ misfit. Some (misfit_text misfit) };
 
-impl<'a, F: PlacedFile> View<'a, F> {
-    /// A dump with eraseblocks of `size` bytes, and their marks.
-    pub fn new(file: SizedFile<F>, size: u32, marks: &'a [bool]) -> View<'a, F>
-        requires { 0 < size }
-        ensures file { result.file ≡ file }
-        ensures size { result.size ≡ size }
-        ensures marks { result.marks.now ≡ marks.now }
-    {
-        View { file, size, marks }
-    }
-}
-
-impl<F: PlacedFile> PlacedFile for View<'_, F> {
-    ghost bytes = { λ view. option_map (masked view.size view.marks.now) (F.bytes view.file.file) };
-
-    fn read_from(&self, at: u64, out: &mut [u8]) -> io::Result<usize> {
-        if self.marks.is_empty() {
-            return self.file.file().read_from(at, out);
+    fn fmt<W: fmt::Write>(&self, f: &mut fmt::Formatter<W>) -> fmt::Result {
+        match self {
+            Misfit::Part(bytes) => write!(f, "F7 Part bytes={bytes}"),
+            Misfit::Pages(rest) => write!(f, "F8 Pages rest={rest}"),
         }
-        let size = u64::from(self.size);
-        // No more than what is left of the eraseblock.
-        let most = out.len().min((size - at % size) as usize);
-        if !is_marked(self.marks, at / size) {
-            return self.file.file().read_from(at, &mut out[..most]);
-        }
-        let count = most.min(self.file.len().saturating_sub(at) as usize);
-        out[..count].fill(0xFF);
-        Ok(count)
+    }
+}
+
+/// Why a file of `len` bytes can't be seen as its part with pages of `page` bytes, behind each of which lie `oob` out-of-band bytes.
+/// None where it can.
+pub fn misfit_of(part: FilePart, page: u32, oob: u32, len: u64) -> Option<Misfit>
+    requires { 0 < page }
+    ensures { result ≡ misfit part page oob len }
+{
+    if len < part.start || len - part.start < part.length.unwrap_or(0) {
+        return Some(Misfit::Part(len));
+    }
+    let rest = part.length.unwrap_or(len - part.start) % (u64::from(page) + u64::from(oob));
+    if oob == 0 || rest == 0 {
+        None
+    } else {
+        Some(Misfit::Pages(rest))
     }
 }

@@ -10,11 +10,10 @@ ghost use Rattle.ubi_commands.specs.Answer.{Gives, says};
 ghost use Rattle.ubi_commands.specs.Lines.{file_line};
 ghost use Rattle.ubi_commands.specs.Disk.{AllStay, Files, OthersStay, fresh};
 ghost use Rattle.ubi_commands.specs.Late.{contents_of};
-ghost use Rattle.ubi_commands.specs.Dump.{seen, viewed};
+ghost use Rattle.ubi_commands.specs.Dump.{seen};
 ghost use Rattle.ubi_commands.specs.Opened.{IsOpened, IsUnreadOf};
 ghost use Rattle.ubi_commands.specs.inner.Ended.{IsEnded, Works};
 ghost use Rattle.ubi_commands.specs.Program.{OfFile, WritesInto};
-ghost use Rattle.ubi_commands.specs.declared.numbers.Numbers.{Numbers};
 ghost use Rattle.ubi_commands.specs.declared.outcome.Outcome.{Outcome};
 
 use crate::change::{NewBytes, run_change_from};
@@ -23,7 +22,7 @@ use crate::extract::run_extract_from;
 use crate::image_file::unread_line;
 use crate::late_file::{LateFile, Target};
 use crate::normalise::run_normalise;
-use crate::open_image::{DumpSource, OpenImage, frame_of, open_beside};
+use crate::open_image::{DumpSource, OpenImage, Seen, frame_of, open_beside};
 use crate::outcome::{DONE, Outcome, ToolError};
 use crate::output_file::{keep_file, unwritten_line};
 use crate::progress::ProgressWriter;
@@ -35,7 +34,7 @@ use std::io::Write;
 use std::marker::Brand;
 use ubi_change::Avoided;
 use ubi_media::Geometry;
-use ubi_scan::{BlockSource, MemorySource};
+use ubi_scan::{BlockSource, MemorySource, PlacedFile};
 
 /// A command that reads one image, and writes a file.
 pub trait Writing {
@@ -349,7 +348,7 @@ pub fn write_opened<D: Disk + Eprint, C: Writing>(
     pages: &mut Vec<u8>,
 ) -> Result<Outcome, AllocError>
     requires { pages.old.items ≡ [] }
-    ensures answer { (d : Files) (numbers : Numbers) → IsOpened (λ s. IsUnreadOf d way.now.paths.image.now (viewed s.file.size s.file.marks.now (D.Placed.bytes s.file.file.file)) s.failures) d way.now.paths.image.now numbers opened.entry → IfOk result (OfFile d numbers way.now.paths.image.now (λ s k agrees. WritesInto way.now.paths.out.now (D.files disk.old) (D.files disk.new) (C.answers command.now s k agrees pages.new.items) (C.writes command.now s k agrees))) }
+    ensures answer { (d : Files) (dump : Dump) → IsOpened (λ s. IsUnreadOf (seen dump d) way.now.paths.image.now (⟦<Seen<'static, D::Placed> as PlacedFile>⟧.bytes s.file) s.failures) d way.now.paths.image.now dump opened.entry → IfOk result (OfFile d dump way.now.paths.image.now (λ s k agrees. WritesInto way.now.paths.out.now (D.files disk.old) (D.files disk.new) (C.answers command.now s k agrees pages.new.items) (C.writes command.now s k agrees))) }
     ensures others { OthersStay (D.files disk.old) (D.files disk.new) way.now.paths.out.now }
     ensures shut { way.now.may_open ≡ false → D.files disk.new ≡ D.files disk.old }
     ensures memory { OnErr result (AllStay (D.files disk.old) (D.files disk.new)) }
@@ -384,7 +383,7 @@ pub fn write_file<D: Disk + Eprint, C: Writing>(
     command: &C,
     is_watched: bool,
 ) -> Result<Outcome, AllocError>
-    ensures answer { IfOk result (λ o. (pages : List ℕ) × OfFile (seen dump.now (D.files disk.old)) dump.now.numbers paths.now.image.now (λ s k agrees. WritesInto paths.now.out.now (D.files disk.old) (D.files disk.new) (C.answers command.now s k agrees pages) (C.writes command.now s k agrees)) o) }
+    ensures answer { IfOk result (λ o. (pages : List ℕ) × OfFile (D.files disk.old) dump.now paths.now.image.now (λ s k agrees. WritesInto paths.now.out.now (D.files disk.old) (D.files disk.new) (C.answers command.now s k agrees pages) (C.writes command.now s k agrees)) o) }
     ensures others { OthersStay (D.files disk.old) (D.files disk.new) paths.now.out.now }
     ensures memory { OnErr result (AllStay (D.files disk.old) (D.files disk.new)) }
 {

@@ -175,7 +175,7 @@ impl Eprint for Telling<'_> {
 
 /// A line, what it answers of the image of `root`, and what its output and the file in its folder hold then, if they are
 /// there.
-static LINES: [(&str, (&str, u8), Option<Contents>, Option<Contents>); 15] = [
+static LINES: [(&str, (&str, u8), Option<Contents>, Option<Contents>); 19] = [
     ("geometry told.img", (SMALL, 0), None, None),
     (
         "geometry kept.img",
@@ -227,6 +227,31 @@ static LINES: [(&str, (&str, u8), Option<Contents>, Option<Contents>); 15] = [
         None,
     ),
     ("same told.img told.img", ("same\n", 0), None, None),
+    // The part lies beyond the end, or isn't whole pages.
+    (
+        "geometry told.img --start 2561",
+        ("refused F7 Part bytes=2560\n", 1),
+        None,
+        None,
+    ),
+    (
+        "normalise told.img --out kept.img --length 2561",
+        ("refused F7 Part bytes=2560\n", 1),
+        None,
+        None,
+    ),
+    (
+        "normalise told.img --out told.img --oob 1",
+        ("refused F8 Pages rest=25\n", 1),
+        None,
+        None,
+    ),
+    (
+        "normalise told.img --out kept.img --length 2560",
+        ("blocks 5\n", 0),
+        Some(Contents::Root),
+        None,
+    ),
     // Of a device somebody has to list the bad eraseblocks, or that there is none.
     (
         "rename /dev/mtd0 --id 0 --name data --out kept.img",

@@ -1,11 +1,4 @@
 use Rattle.std.proofs.lemmas.Result.{IfOk-weaker}
-use Rattle.std.specs.Prelude.{None}
-use Rattle.ubi_commands.specs.Dump.{seen}
-use Rattle.ubi_commands.specs.Geometry.{DetectsOf}
-use Rattle.ubi_commands.specs.Numbers.{greatest, sizes_of}
-use Rattle.ubi_commands.specs.declared.requests.Dump.{Dump}
-use Rattle.ubi_commands.proofs.Ended.{OfFile-alike}
-use Rattle.ubi_commands.proofs.Masked.{viewed_none}
 use Rattle.ubi_commands.proofs.commands.run_request.Goals as goal
 
 pub returns-in-Extract-clause-answer : goal.returns-in-Extract-clause-answer
@@ -28,10 +21,4 @@ pub returns-in-Build-clause-answer : goal.returns-in-Build-clause-answer
 returns-in-Build-clause-answer g c = rw c.in-Build.is c.build_file.ensures.answer
 
 pub returns-in-Geometry-clause-answer : goal.returns-in-Geometry-clause-answer
-returns-in-Geometry-clause-answer g c =
-    let d = g.D.Disk.files c.args.disk.now in
-    let dump : Dump = record { numbers = greatest; bad = None } in
-    let path = c.in-Geometry.image.now in
-    rw c.in-Geometry.is (IfOk-weaker c.read_file.result _ _
-    (λ o h. OfFile-alike (seen dump d) d greatest path (λ _. DetectsOf) o (viewed_none (sizes_of greatest).peb_size (d.holds path)) h)
-    c.read_file.ensures)
+returns-in-Geometry-clause-answer g c = rw (c.in-Geometry.is, ← c.greatest.ensures) c.read_file.ensures

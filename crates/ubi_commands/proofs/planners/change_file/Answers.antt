@@ -1,15 +1,17 @@
-use Rattle.std.proofs.Common.{◌≡◌, refl}
+use Rattle.std.proofs.Common.{◌≡◌, drop, refl, take}
+use Rattle.std.specs.Prelude.{option_map}
 use Rattle.std.proofs.lemmas.Result.{IfOk-weaker}
 use Rattle.ubi_scan.specs.Promised.{keeps_promise}
-use Rattle.ubi_commands.specs.Dump.{seen, viewed}
-use Rattle.ubi_commands.specs.Program.{avoided, image, no_file, no_image, no_list, with_list}
+use Rattle.ubi_commands.specs.BadBlocks.{masked}
+use Rattle.ubi_commands.specs.Views.{pages_of}
+use Rattle.ubi_commands.specs.Program.{avoided, image, no_file, no_image, no_list, unreadable, with_list}
 use Rattle.ubi_commands.proofs.Ended.{OfFile-weaker, of_any}
 use Rattle.ubi_commands.proofs.Outcomes.{told}
 use Rattle.ubi_commands.proofs.planners.change_file.Goals as goal
 
 pub returns-in-Err-clause-answer : goal.returns-in-Err-clause-answer
 returns-in-Err-clause-answer g c =
-    IfOk-weaker c.answer.result _ _ (λ o h. with_list (no_file h))
+    IfOk-weaker c.answer.result _ _ (λ o h. with_list (no_file (unreadable h)))
     (told _ c.in-Err.unread c.answer.result (c.in-Err.ensures.broken c.args.asked.now.plan.paths.image.now) c.answer.ensures)
 
 pub returns-in-Err-open_beside-clause-answer : goal.returns-in-Err-open_beside-clause-answer
@@ -23,9 +25,9 @@ returns-in-Err-load-clause-answer g c =
     let dump = c.args.dump.now in
     IfOk-weaker c.answer-in-Err-load.result _ _
     (λ o h. with_list (of_any
-    (λ s. record { size = s.len; failures = s.failures; held = viewed s.file.size s.file.marks.now (g.D.Placed.PlacedFile.bytes s.file.file.file) })
+    (λ s. record { size = s.len; failures = s.failures; held = option_map (masked s.file.size s.file.marks.now) (option_map (pages_of s.file.file.file.page s.file.file.file.oob) (option_map (λ all. take s.file.file.file.file.file.len (drop s.file.file.file.file.file.start all)) (g.D.Placed.PlacedFile.bytes s.file.file.file.file.file.file.file))) })
     (λ s. s.trace.reads) _
-    (seen dump (g.D.Disk.files c.args.disk.now)) dump.numbers c.args.asked.now.plan.paths.image.now _ o (λ s. keeps_promise _ _ _ s.told) (λ s is. is)
+    (g.D.Disk.files c.args.disk.now) dump c.args.asked.now.plan.paths.image.now _ o (λ s. keeps_promise _ _ _ s.told) (λ s is. is)
     (λ k agrees. no_image h) c.in-Ok-open_beside.opened (rw c.in-Ok.ensures.dump at c.in-Ok-open_beside.ensures.opened)))
     (told _ c.in-Err-load.unread c.answer-in-Err-load.result c.in-Err-load.ensures.unread c.answer-in-Err-load.ensures)
 
@@ -36,11 +38,11 @@ returns-then-lacks_list-clause-answer g c =
 pub returns-clause-answer : goal.returns-clause-answer
 returns-clause-answer g c =
     let dump = c.args.dump.now in
-    let d = seen dump (g.D.Disk.files c.args.disk.now) in
+    let d = g.D.Disk.files c.args.disk.now in
     let file = c.in-Ok-load.file in
     let given : c.new-avoided.result ≡ avoided dump c.args.asked.now.plan =
     rw (c.as_slice.ensures.value, c.in-Ok.frame.marked, c.in-Ok.ensures.dump) at c.new-avoided.ensures in
     IfOk-weaker c.write_plan.result _ _
-    (λ o h. with_list (OfFile-weaker d dump.numbers c.args.asked.now.plan.paths.image.now _ _
+    (λ o h. with_list (OfFile-weaker d dump c.args.asked.now.plan.paths.image.now _ _
     (λ s k agrees o a. image file.bytes.items c.in-Ok-load.ensures.read c.in-Ok-load.ensures.named a) o h))
-    (rw (given, c.as_slice-2.ensures.value) at (c.write_plan.ensures.answer d dump.numbers (rw c.in-Ok.ensures.dump at c.in-Ok-open_beside.ensures.opened)))
+    (rw (given, c.as_slice-2.ensures.value) at (c.write_plan.ensures.answer d dump (rw c.in-Ok.ensures.dump at c.in-Ok-open_beside.ensures.opened)))

@@ -1,13 +1,12 @@
 use Rattle.std.proofs.Common.{◌≡◌, refl}
 use Rattle.std.proofs.lemmas.Result.{IfOk-weaker}
-use Rattle.ubi_commands.specs.Dump.{seen}
-use Rattle.ubi_commands.specs.Program.{avoided, no_file, no_list, with_list}
+use Rattle.ubi_commands.specs.Program.{avoided, no_file, no_list, unreadable, with_list}
 use Rattle.ubi_commands.proofs.Outcomes.{told}
 use Rattle.ubi_commands.proofs.planners.rename_file.Goals as goal
 
 pub returns-in-Err-clause-answer : goal.returns-in-Err-clause-answer
 returns-in-Err-clause-answer g c =
-    IfOk-weaker c.answer.result _ _ (λ o h. with_list (no_file h))
+    IfOk-weaker c.answer.result _ _ (λ o h. with_list (no_file (unreadable h)))
     (told _ c.in-Err.unread c.answer.result (c.in-Err.ensures.broken c.args.asked.now.plan.paths.image.now) c.answer.ensures)
 
 pub returns-in-Err-open_beside-clause-answer : goal.returns-in-Err-open_beside-clause-answer
@@ -23,8 +22,8 @@ returns-then-lacks_list-clause-answer g c =
 pub returns-clause-answer : goal.returns-clause-answer
 returns-clause-answer g c =
     let dump = c.args.dump.now in
-    let d = seen dump (g.D.Disk.files c.args.disk.now) in
+    let d = g.D.Disk.files c.args.disk.now in
     let given : c.new-avoided.result ≡ avoided dump c.args.asked.now.plan =
     rw (c.as_slice.ensures.value, c.in-Ok.frame.marked, c.in-Ok.ensures.dump) at c.new-avoided.ensures in
     IfOk-weaker c.write_plan.result _ _ (λ o h. with_list h)
-    (rw (given, c.as_bytes.ensures.value) at (c.write_plan.ensures.answer d dump.numbers (rw c.in-Ok.ensures.dump at c.in-Ok-open_beside.ensures.opened)))
+    (rw (given, c.as_bytes.ensures.value) at (c.write_plan.ensures.answer d dump (rw c.in-Ok.ensures.dump at c.in-Ok-open_beside.ensures.opened)))

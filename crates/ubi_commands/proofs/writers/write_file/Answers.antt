@@ -1,7 +1,6 @@
 use Rattle.std.proofs.Common.{[]}
 use Rattle.std.proofs.lemmas.Result.{IfOk-weaker}
-use Rattle.ubi_commands.specs.Program.{no_file}
-use Rattle.ubi_commands.specs.Dump.{seen}
+use Rattle.ubi_commands.specs.Program.{no_file, unreadable}
 use Rattle.ubi_commands.proofs.Outcomes.{told}
 use Rattle.ubi_commands.proofs.writers.write_file.Goals as goal
 
@@ -9,12 +8,12 @@ pub returns-in-Ok-open_beside-clause-answer : goal.returns-in-Ok-open_beside-cla
 returns-in-Ok-open_beside-clause-answer g c =
     let dump = c.args.dump.now in
     IfOk-weaker c.write_opened.result _ _ (λ o h. (c.write_opened.new.pages.items, h))
-    (c.write_opened.ensures.answer (seen dump (g.D.Disk.files c.args.disk.now)) dump.numbers
+    (c.write_opened.ensures.answer (g.D.Disk.files c.args.disk.now) dump
     (rw c.in-Ok.ensures.dump at c.in-Ok-open_beside.ensures.opened))
 
 pub returns-in-Err-clause-answer : goal.returns-in-Err-clause-answer
 returns-in-Err-clause-answer g c =
-    IfOk-weaker c.answer.result _ _ (λ o h. ([], no_file h))
+    IfOk-weaker c.answer.result _ _ (λ o h. ([], no_file (unreadable h)))
     (told _ c.in-Err.unread c.answer.result (c.in-Err.ensures.broken c.args.paths.now.image.now) c.answer.ensures)
 
 pub returns-clause-answer : goal.returns-clause-answer

@@ -1,8 +1,8 @@
 use Rattle.std.proofs.Common.{◌≡◌, ◌/◌, ◌∙◌, ap, arith, false, replicate, sym, true}
 use Rattle.std.proofs.lemmas.List.{length-take-le}
 use Rattle.ubi_change.specs.Avoided.{is_listed}
-use Rattle.ubi_commands.proofs.Masked.{read_marked, read_unmarked, read_without_marks}
-use Rattle.ubi_commands.proofs.view.ViewPlacedFile.read_from.Goals as goal
+use Rattle.ubi_commands.proofs.MaskedBytes.{read_marked, read_unmarked, read_without_marks}
+use Rattle.ubi_commands.proofs.masked.MaskedPlacedFile.read_from.Goals as goal
 
 pub returns-then-is_empty-clause-read : goal.returns-then-is_empty-clause-read
 returns-then-is_empty-clause-read g c =

@@ -1,6 +1,6 @@
 use Rattle.std.proofs.Common.{◌≡◌, take}
 use Rattle.ubi_commands.specs.BadBlocks.{masked}
-use Rattle.ubi_commands.proofs.view.mask.Given as goal
+use Rattle.ubi_commands.proofs.masked.mask.Given as goal
 
 -- the first eraseblocks are masked
 abbrev pub invariant-loop-p : goal.invariant-loop-p

@@ -4,14 +4,12 @@ use Rattle.std.proofs.Math.Nat.{div-lt_iff_lt-mul}
 use Rattle.std.specs.List.{enumerate_from}
 use Rattle.std.specs.Io.{ReadsAtMost}
 use Rattle.std.specs.Option.{ForSome}
-use Rattle.std.specs.Prelude.{Err, IfOk, IfSome, None, Ok, Option, Result, Some, if◌then◌else◌, option_map}
+use Rattle.std.specs.Prelude.{Err, IfOk, None, Ok, Option, Result, Some, if◌then◌else◌, option_map}
 use Rattle.std.proofs.lemmas.Bool.{cases_lt}
 use Rattle.std.proofs.lemmas.Bool.Decides.{nat_tests}
 use Rattle.std.proofs.lemmas.Nat.{div-mul-add}
 use Rattle.std.proofs.lemmas.List.{get_or-drop, get_or-replicate, get_or-take, length-append, length-drop, length-replicate, length-take, length-take-le, same_lists, take-append-le, take_all}
 use Rattle.ubi_change.specs.Avoided.{is_listed}
-use Rattle.ubi_media.specs.Geometry.{Sizes}
-use Rattle.ubi_scan.specs.Image.{judged}
 use Rattle.ubi_scan.specs.Placed.{StandsAt}
 use Rattle.ubi_commands.specs.BadBlocks.{masked}
 use Rattle.ubi_commands.proofs.Filled.{get_or-filled, get_or-placed, length-placed}
@@ -219,7 +217,7 @@ masked-take size marks n bytes = from 0 n bytes
 
 -- ---- what is read of a file, as it is seen
 
-for_mapped : {X Y : Type 0} (f : X → Y) (P : Y → Type 0) (o : Option X) → ForSome o (λ x. P (f x)) → ForSome (option_map f o) P
+pub for_mapped : {X Y : Type 0} (f : X → Y) (P : Y → Type 0) (o : Option X) → ForSome o (λ x. P (f x)) → ForSome (option_map f o) P
 for_mapped f P None h y is = absurd cc
 for_mapped f P (Some x) h y is = let same : f x ≡ y = cc in subst P same (h x refl)
 
@@ -262,22 +260,3 @@ module _ (size : ℕ) (some : 0 < size) (marks : List Bool) (held : Option (List
       (sym (ap (λ ys. take n (ys ++ rest)) full ∙ take-append-le n (replicate n 0xFF) rest (omega (arith, long)) ∙ take_all n (replicate n 0xFF) (omega (arith, long))))
       (stands_marked size marks all at some n few (room all is) marked
       ∙ ap (λ m. take m (drop at (masked size marks all))) (sym long)))
-
--- a file of which the length is known has it also as it is seen
-pub viewed_sized : (size : ℕ) (marks : List Bool) (held : Option (List ℕ)) (n : ℕ) → ForSome held (λ all. length all ≡ n)
-    → ForSome (option_map (masked size marks) held) (λ all. length all ≡ n)
-viewed_sized size marks held n sized =
-    for_mapped (masked size marks) (λ all. length all ≡ n) held (λ all is. length-masked size marks all ∙ sized all is)
-
--- the bytes of a file that are judged, as they are seen
-pub judged_seen : (size : ℕ) (marks : List Bool) (s : Sizes) (held : Option (List ℕ)) (bytes : List ℕ)
-    → IfSome held (λ all. bytes ≡ judged s all)
-    → IfSome (option_map (masked size marks) held) (λ all. masked size marks bytes ≡ judged s all)
-judged_seen size marks s None bytes h = tt
-judged_seen size marks s (Some all) bytes h =
-    ap (masked size marks) h ∙ masked-take size marks (s.pebs * s.peb_size + 1) all
-
--- a file without marks is seen as it is
-pub viewed_none : (size : ℕ) (held : Option (List ℕ)) → option_map (masked size []) held ≡ held
-viewed_none size None = refl
-viewed_none size (Some all) = ap Some (masked_none size all)

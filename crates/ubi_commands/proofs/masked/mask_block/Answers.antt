@@ -1,7 +1,7 @@
 use Rattle.std.proofs.Common.{◌≡◌, ◌-◌, ◌∙◌, ap, arith, drop, length, replicate, take}
 use Rattle.std.proofs.lemmas.List.{length-drop, length-take-le}
-use Rattle.ubi_commands.proofs.Masked.{length-masked, not_masked, now_masked}
-use Rattle.ubi_commands.proofs.view.mask_block.Goals as goal
+use Rattle.ubi_commands.proofs.MaskedBytes.{length-masked, not_masked, now_masked}
+use Rattle.ubi_commands.proofs.masked.mask_block.Goals as goal
 
 pub returns-then-marks-p : goal.returns-then-marks-p
 returns-then-marks-p c before are =

@@ -1,8 +1,8 @@
 use Rattle.std.proofs.Common.{◌∙◌, ap, sym}
 use Rattle.std.proofs.lemmas.List.{take_all}
 use Rattle.ubi_commands.specs.BadBlocks.{masked}
-use Rattle.ubi_commands.proofs.Masked.{masked_none}
-use Rattle.ubi_commands.proofs.view.mask.Goals as goal
+use Rattle.ubi_commands.proofs.MaskedBytes.{masked_none}
+use Rattle.ubi_commands.proofs.masked.mask.Goals as goal
 
 pub loop-p-init : goal.loop-p-init
 loop-p-init c = sym (masked_none c.args.size c.args.bytes.now)
