@@ -7,18 +7,18 @@ _ubi_tool() {
         return
     fi
     case ${COMP_WORDS[1]} in
-        geometry) words=' --help' ;;
-        list) words='--bad --peb --page --vid --data --pebs --help' ;;
-        check) words='--bad --peb --page --vid --data --pebs --help' ;;
-        show) words='--bad --block --peb --page --vid --data --pebs --help' ;;
-        extract) words='--bad --out --id --name --peb --page --vid --data --pebs --help' ;;
-        unpack) words='--bad --out --peb --page --vid --data --pebs --help' ;;
+        geometry) words='--start --length --help' ;;
+        list) words='--start --length --oob --bad --peb --page --vid --data --pebs --help' ;;
+        check) words='--start --length --oob --bad --peb --page --vid --data --pebs --help' ;;
+        show) words='--start --length --oob --bad --block --peb --page --vid --data --pebs --help' ;;
+        extract) words='--start --length --oob --bad --out --id --name --peb --page --vid --data --pebs --help' ;;
+        unpack) words='--start --length --oob --bad --out --peb --page --vid --data --pebs --help' ;;
         compose) words='--out --spares --seq --peb --page --vid --data --pebs --help' ;;
         build) words='--out --spares --seq --peb --page --vid --data --pebs --help' ;;
-        normalise) words='--bad --out --peb --page --vid --data --pebs --help' ;;
-        same) words='--bad --peb --page --vid --data --pebs --help' ;;
-        change) words='--bad --out --id --lnum --from --stop --blank --pages --peb --page --vid --data --pebs --help' ;;
-        rename) words='--bad --out --id --name --stop --blank --pages --peb --page --vid --data --pebs --help' ;;
+        normalise) words='--start --length --oob --bad --out --peb --page --vid --data --pebs --help' ;;
+        same) words='--start --length --oob --bad --peb --page --vid --data --pebs --help' ;;
+        change) words='--start --length --oob --bad --out --id --lnum --from --stop --blank --pages --peb --page --vid --data --pebs --help' ;;
+        rename) words='--start --length --oob --bad --out --id --name --stop --blank --pages --peb --page --vid --data --pebs --help' ;;
     esac
     case $word in
         -*) mapfile -t COMPREPLY < <(compgen -W "$words" -- "$word") ;;

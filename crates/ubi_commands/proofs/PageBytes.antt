@@ -347,6 +347,12 @@ module _ (page oob place : ℕ) (old : List ℕ) (small : place < page) where
       → take kept now ≡ pages_from place page oob old
   closed_all now kept from h all = h.front ∙ ap (λ ys. pages_from place page oob ys) (take_all from old (omega (arith, h.long, all)))
 
+-- the first of bytes that stand in a file stand there
+stands_shorter : (all : List ℕ) (at n : ℕ) (bytes : List ℕ) → n ≤ length bytes → StandsAt all at bytes → StandsAt all at (take n bytes)
+stands_shorter all at n bytes few stands =
+    ap (λ ys. take n ys) stands ∙ take-take n (length bytes) (drop at all) few
+    ∙ ap (λ k. take k (drop at all)) (sym (length-take-le n bytes few))
+
 -- ---- what is read of a file with out-of-band bytes
 
 module _ (page : ℕ) (some : 0 < page) (held : Option (List ℕ)) (at : ℕ) where
@@ -368,6 +374,22 @@ module _ (page : ℕ) (some : 0 < page) (held : Option (List ℕ)) (at : ℕ) wh
       (λ all is.
       subst (λ bytes. StandsAt (pages_of page oob all) at bytes) (sym (take-append-le kept closed rest within ∙ are))
       (stands_in_pages page oob some all (take n out) at (subst (λ k. at / page < k / (page + oob)) (sym (sized all is)) inside) (h all is)))
+
+  -- and of fewer that are handed on
+  pub read_some_pages : (oob len n kept given : ℕ) (out closed rest mine behind : List ℕ) → ForSome held (λ all. length all ≡ len)
+      → at / page < len / (page + oob) → kept ≤ length closed → take kept closed ≡ pages_from (at % page) page oob (take n out)
+      → given ≤ kept → mine ≡ take given (closed ++ rest)
+      → ForSome held (λ all. StandsAt all (at / page * (page + oob) + at % page) (take n out))
+      → ForSome (option_map (pages_of page oob) held) (λ all. StandsAt all at (take given (mine ++ behind)))
+  read_some_pages oob len n kept given out closed rest mine behind sized inside within are few is h = λ all seen.
+      let many = length-append closed rest in
+      let count = length-take-le given (closed ++ rest) (omega (arith, many, few, within)) in
+      let long = ap length is ∙ count in
+      let shown = length-take-le kept (closed ++ rest) (omega (arith, many, within)) in
+      let stands = read_pages oob len n kept out closed rest sized inside within are h all seen in
+      subst (λ bytes. StandsAt all at bytes)
+      (sym (take_at mine behind given long ∙ is ∙ sym (take-take given kept (closed ++ rest) few)))
+      (stands_shorter all at given (take kept (closed ++ rest)) (omega (arith, shown, few)) stands)
 
 -- how many bytes lie in pages
 pub length-pages_of : (page oob len : ℕ) (bytes : List ℕ) → 0 < page → length bytes ≡ len → len % (page + oob) ≡ 0

@@ -1,6 +1,9 @@
 //! Files with out-of-band bytes behind each page, and the pages without them.
 
-ghost use Rattle.std.specs.Prelude.{◌≡◌, ◌≢◌, ◌+◌, ◌%◌, ◌<◌, ◌≤◌, List, length, option_map, take, ℕ};
+ghost use Rattle.std.specs.Io.{ReadsAtMost};
+ghost use Rattle.std.specs.Option.{ForSome};
+ghost use Rattle.std.specs.Prelude.{◌≡◌, ◌≢◌, ◌+◌, ◌/◌, ◌%◌, ◌<◌, ◌≤◌, IfOk, List, length, option_map, take, ℕ};
+ghost use Rattle.ubi_scan.specs.Placed.{StandsAt};
 ghost use Rattle.ubi_commands.specs.Views.{pages_from, pages_of};
 
 use crate::file_row::SizedFile;
@@ -38,6 +41,9 @@ pub fn keep_pages(bytes: &mut Vec<u8>, page: u32, oob: u32)
     bytes.truncate(kept);
 }
 
+/// How many raw bytes are read through a buffer at most. So a read of headers is one read of the file.
+const SMALL: usize = 8192;
+
 /// A file with out-of-band bytes behind each page that is read at places, of which the pages are read as a file.
 #[derive(Drop)]
 pub struct Pages<F: PlacedFile> {
@@ -74,6 +80,26 @@ impl<F: PlacedFile> Pages<F> {
         let len = pages_len(file.len(), page, oob);
         SizedFile::new(Pages { file, page, oob }, len)
     }
+
+    /// Reads `len` raw bytes through a buffer, those from the byte `at` of the pages on, and gives their pages as far as they have room.
+    fn read_small(&self, at: u64, len: usize, out: &mut [u8]) -> io::Result<usize>
+        requires few { len ≤ SMALL }
+        requires inside { at / self.now.page < self.now.file.len / (self.now.page + self.now.oob) }
+        ensures bound { ReadsAtMost result out.new }
+        ensures read { IfOk result (λ n. ForSome (option_map (pages_of self.now.page self.now.oob) (F.bytes self.now.file.file)) (λ all. StandsAt all at (take n out.new))) }
+    {
+        let page = u64::from(self.page);
+        let unit = page + u64::from(self.oob);
+        let place = at % page;
+        let mut buffer = [0u8; SMALL];
+        let file = self.file.file();
+        prove!(at / page < self.file.len() / unit);
+        let count = file.read_from(at / page * unit + place, &mut buffer[..len])?;
+        let kept = close_gaps(&mut buffer[..count], place as usize, self.page, self.oob);
+        let kept = kept.min(out.len());
+        out[..kept].copy_from_slice(&buffer[..kept]);
+        Ok(kept)
+    }
 }
 
 impl<F: PlacedFile> PlacedFile for Pages<F> {
@@ -91,6 +117,11 @@ impl<F: PlacedFile> PlacedFile for Pages<F> {
             return Ok(0);
         }
         let place = at % page;
+        let gaps = ((place + out.len() as u64) / page).saturating_mul(u64::from(self.oob));
+        let len = gaps.saturating_add(out.len() as u64);
+        if len <= SMALL as u64 {
+            return self.read_small(at, len as usize, out);
+        }
         let count = file.read_from(at / page * unit + place, out)?;
         Ok(close_gaps(&mut out[..count], place as usize, self.page, self.oob))
     }
