@@ -342,11 +342,6 @@ module _ (page oob place : ℕ) (old : List ℕ) (small : place < page) where
           ∙ sym (pages_from_unit page oob (omega arith) (place + from) (take (page + oob) (drop from old)) h.begins (omega (arith, few)))
           ∙ ap (λ ys. pages_from (place + from) page oob ys) (sym unit)
 
-  -- once no bytes are left
-  pub closed_all : (now : List ℕ) (kept from : ℕ) → AreClosed page oob place old now kept from → length now ≤ from
-      → take kept now ≡ pages_from place page oob old
-  closed_all now kept from h all = h.front ∙ ap (λ ys. pages_from place page oob ys) (take_all from old (omega (arith, h.long, all)))
-
 -- the first of bytes that stand in a file stand there
 stands_shorter : (all : List ℕ) (at n : ℕ) (bytes : List ℕ) → n ≤ length bytes → StandsAt all at bytes → StandsAt all at (take n bytes)
 stands_shorter all at n bytes few stands =

@@ -29,7 +29,7 @@ impl Lay {
     fn file(&self, alloc: Global, image: &[u8], page: usize) -> Result<Vec<u8>, Fail> {
         let mut bytes = Vec::new(alloc);
         put_junk(&mut bytes, self.before)?;
-        for page in image.chunks(page) {
+        for page in image.chunks(page.max(1)) {
             bytes.extend_from_slice(page)?;
             put_junk(&mut bytes, self.oob)?;
         }
@@ -223,8 +223,14 @@ static EDGES: [(&str, &str); 22] = [
     // 28 units of 128 bytes, of which the pages are three and a half eraseblocks.
     ("--oob 64", "refused S1 Length\n"),
     ("--start 1 --oob 64", "refused F8 Pages rest=127\n"),
-    ("--start 128 --length 127 --oob 64", "refused F8 Pages rest=127\n"),
-    ("--start 128 --length 129 --oob 64", "refused F8 Pages rest=1\n"),
+    (
+        "--start 128 --length 127 --oob 64",
+        "refused F8 Pages rest=127\n",
+    ),
+    (
+        "--start 128 --length 129 --oob 64",
+        "refused F8 Pages rest=1\n",
+    ),
     ("--start 128 --length 128 --oob 64", "refused S1 Length\n"),
     // A last page without its out-of-band bytes.
     ("--length 64 --oob 64", "refused F8 Pages rest=64\n"),
@@ -232,7 +238,10 @@ static EDGES: [(&str, &str); 22] = [
     ("--start 3584 --oob 4294967295", "refused S1 Length\n"),
     // Tried in this order.
     ("--start 3585 --oob 63", "refused F7 Part bytes=3584\n"),
-    ("--length 3585 --oob 63 --bad 1", "refused F7 Part bytes=3584\n"),
+    (
+        "--length 3585 --oob 63 --bad 1",
+        "refused F7 Part bytes=3584\n",
+    ),
 ];
 
 /// Lines that write, and one that reads.
@@ -286,7 +295,10 @@ fn reads_no_more_than_a_device_has(rt: HostRuntime) -> Result<(), Fail> {
     assert!(rt; is_answer(&answer, too_many), "at places");
     // 49 pages of 66 bytes, behind 3 bytes.
     let (answer, _) = run_over(alloc, files, Broken::Places, line)?;
-    assert!(rt; is_answer(&answer, ("refused F7 Part bytes=3237\n", 1)), "whole");
+    assert!(rt;
+        is_answer(&answer, ("refused F7 Part bytes=3237\n", 1)),
+        "whole"
+    );
     Ok(())
 }
 
@@ -307,7 +319,12 @@ fn sees_a_part_beyond_four_gibibytes(rt: HostRuntime) -> Result<(), Fail> {
         let words = lay.words(alloc, image.len(), 64)?;
         let line = format!(in alloc; "{line} --start 4294967299{words}")?;
         let files: (&[u8], &[u8]) = (file.as_slice(), &[]);
-        let (answer, written) = run_over(alloc, files, Broken::Behind(4_294_967_299), line.as_str())?;
+        let (answer, written) = run_over(
+            alloc,
+            files,
+            Broken::Behind(4_294_967_299),
+            line.as_str(),
+        )?;
         let is = answer.text == want.text && answer.status == want.status && written == output;
         assert!(rt; is && answer.status == 0, "of {line}");
     }

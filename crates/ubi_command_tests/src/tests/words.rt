@@ -50,7 +50,10 @@ static NO_COMMAND: [(&str, &str); 25] = [
     ("--version", "ubi_tool 0.1.0\n"),
     ("move a", "unrecognized subcommand"),
     ("list --help", "--vid <N>   Offset of the VID header"),
-    ("geometry --help", "Usage: ubi_tool geometry [OPTIONS] <IMAGE>\n"),
+    (
+        "geometry --help",
+        "Usage: ubi_tool geometry [OPTIONS] <IMAGE>\n",
+    ),
     ("show --help", "Usage: ubi_tool show"),
     ("same --help", "Usage: ubi_tool same"),
     ("extract --help", "Usage: ubi_tool extract"),
