@@ -1,0 +1,154 @@
+#!/usr/bin/env python3
+"""Compares what the program answers of a view of a file (--start, --length, --oob, --bad) with what it answers of a file that holds just the
+bytes that are seen, which are made here, by docs/FORMAT.md.
+
+usage: views.py [--seed N] [--count N] [--tool PROGRAM]
+
+A file is an image with junk before and behind it, and with out-of-band bytes behind each page, or not; now and then it is cut. The words
+say so, or something else: other places, lengths and numbers of out-of-band bytes, at the edges of the file and far out. Each is asked of
+the file and of a pipe, by `check`, `list`, `show`, `normalise`, `extract` and `same`; and of a part by `geometry`. What can't be seen so
+has to be refused by the first cause that stands, F7 or F8, with its number, and no output may be there then.
+
+Without words there are 500 files of the seed 1. Without --tool the program is built first where it isn't yet. The last line is 'N passed,
+M failed', and the exit status is 0 where none failed.
+"""
+import argparse
+import random
+import subprocess
+import sys
+import tempfile
+from pathlib import Path
+
+ROOT = Path(__file__).resolve().parents[2]
+IMAGE = (ROOT / 'crates/ubi_tool/data/root.img').read_bytes()
+PEB, PAGE, PEBS = 512, 64, 32
+NUMBERS = ['--peb', str(PEB), '--page', str(PAGE), '--pebs', str(PEBS)]
+
+
+def laid(rng, oob):
+    """A file in which an image lies, the place of the image and how many bytes it has there."""
+    image = IMAGE if rng.random() < 0.8 else IMAGE + b'\xff' * PEB * rng.randrange(1, 40)
+    pages = b''.join(image[at:at + PAGE] + rng.randbytes(oob) for at in range(0, len(image), PAGE))
+    before = rng.randbytes(rng.choice([0, 0, 1, PEB, rng.randrange(5000)]))
+    behind = rng.randbytes(rng.choice([0, 0, 1, rng.randrange(5000)]))
+    return before + pages + behind, len(before), len(pages)
+
+
+def near(rng, number, file):
+    """A number that may be that, or another."""
+    kind = rng.random()
+    if kind < 0.6:
+        return number
+    if kind < 0.8:
+        return max(0, number + rng.choice([-PAGE, -1, 1, PAGE]))
+    return rng.choice([0, 1, len(file) - 1, len(file), len(file) + 1, 2**32, 2**63 - 1, rng.randrange(len(file) + 2)])
+
+
+class View:
+    """A view: a place, a length or none, how many out-of-band bytes, and the words that say so."""
+
+    def __init__(self, start, length, oob):
+        self.start, self.length, self.oob = start, length, oob
+
+    def words(self):
+        """The words."""
+        words = ['--start', str(self.start)] if self.start else []
+        words += ['--length', str(self.length)] if self.length is not None else []
+        return words + (['--oob', str(self.oob)] if self.oob else [])
+
+    def read(self, file, is_pipe, device):
+        """How many bytes of a file are there, as far as they are read."""
+        if not is_pipe:
+            return len(file)
+        most = (device // PAGE + 1) * (PAGE + self.oob)
+        return min(len(file), self.start + (most if self.length is None else min(self.length, most)))
+
+    def refusal(self, count):
+        """The line of a file of so many bytes that can't be seen so; or none."""
+        if count < self.start + (self.length or 0):
+            return f'refused F7 Part bytes={count}\n'
+        rest = (count - self.start if self.length is None else self.length) % (PAGE + self.oob)
+        return f'refused F8 Pages rest={rest}\n' if self.oob and rest else None
+
+    def seen(self, file):
+        """The bytes that are seen."""
+        part = file[self.start:] if self.length is None else file[self.start:self.start + self.length]
+        return b''.join(part[at:at + PAGE] for at in range(0, len(part), PAGE + self.oob))
+
+
+def run(tool, words, stdin=None):
+    """What is printed, and the exit status."""
+    ran = subprocess.run([tool, *words], input=stdin, capture_output=True)
+    return ran.stdout.decode(), ran.returncode
+
+
+class Case:
+    """A file, a view of it, and what failed."""
+
+    def __init__(self, tool, folder, rng):
+        oob = rng.choice([0, 0, 1, 2, 3, PAGE, 200])
+        file, before, length = laid(rng, oob)
+        if rng.random() < 0.1:
+            file = file[:rng.randrange(len(file))]
+        start, length = near(rng, before, file), near(rng, length, file) if rng.random() < 0.7 else None
+        self.view = View(start, length, oob if rng.random() < 0.8 else rng.choice([0, 1, 5, 2**32 - 1]))
+        self.tool, self.folder, self.file, self.failed = tool, folder, file, []
+        self.bad = ['--bad', rng.choice(['0', '3', '1-2,4', '9', '']) + ''] if rng.random() < 0.3 else []
+
+    def compare(self, words, is_pipe, view, device, numbers):
+        """Compares an answer: words with the place of the image left open."""
+        raw, seen, out, want_out = (self.folder / name for name in ('raw', 'seen', 'out', 'want'))
+        for path in (out, want_out):
+            path.unlink(missing_ok=True)
+        seen.write_bytes(view.seen(self.file))
+        name = '/dev/stdin' if is_pipe else str(raw)
+        asked = [word.format(image=name, out=out) for word in words] + numbers + view.words()
+        got = run(self.tool, asked, self.file if is_pipe else None)
+        refusal = view.refusal(view.read(self.file, is_pipe, device))
+        if refusal:
+            want = (refusal, 1)
+        else:
+            want = run(self.tool, [word.format(image=seen, out=want_out) for word in words] + numbers)
+        written = [path.read_bytes() if path.exists() else None for path in (out, want_out)]
+        if got != want or written[0] != written[1]:
+            self.failed.append(f'{asked}: {got}, not {want}')
+
+    def check(self):
+        """Compares all answers."""
+        (self.folder / 'raw').write_bytes(self.file)
+        numbers = NUMBERS + self.bad
+        for words in (['check', '{image}'], ['list', '{image}'], ['show', '{image}', '--block', '2'],
+                      ['normalise', '{image}', '--out', '{out}'], ['extract', '{image}', '--id', '0', '--out', '{out}'],
+                      ['rename', '{image}', '--id', '0', '--name', 'x', '--out', '{out}']):
+            for is_pipe in (False, True):
+                self.compare(words, is_pipe, self.view, PEB * PEBS, numbers)
+        self.compare(['same', '{image}', '{image}'], False, self.view, PEB * PEBS, numbers)
+        part = View(self.view.start, self.view.length, 0)
+        for is_pipe in (False, True):
+            self.compare(['geometry', '{image}'], is_pipe, part, 2**44, [])
+
+
+def main():
+    parser = argparse.ArgumentParser(description=__doc__.partition('\n')[0])
+    parser.add_argument('--seed', type=int, default=1)
+    parser.add_argument('--count', type=int, default=500)
+    parser.add_argument('--tool')
+    args = parser.parse_args()
+    tool = args.tool
+    if not tool:
+        tool = str(ROOT / 'ubi_tool')
+        subprocess.run([tool, '--version'], stderr=subprocess.DEVNULL)
+    passed = failed = 0
+    with tempfile.TemporaryDirectory() as folder:
+        for number in range(args.count):
+            case = Case(tool, Path(folder), random.Random(args.seed * 1000003 + number))
+            case.check()
+            for line in case.failed:
+                print(f'{number}: {line}')
+            passed, failed = passed + (not case.failed), failed + bool(case.failed)
+    print(f'{passed} passed, {failed} failed')
+    return 1 if failed else 0
+
+
+if __name__ == '__main__':
+    sys.exit(main())
