@@ -104,7 +104,7 @@ static LAYS: [Lay; 9] = [
 ];
 
 /// Lines over a dump, with and without bad eraseblocks.
-static LINES: [&str; 14] = [
+static LINES: [&str; 15] = [
     "list a.img",
     "check a.img",
     "check a.img --bad 0,4-9",
@@ -116,6 +116,7 @@ static LINES: [&str; 14] = [
     "unpack a.img --out made",
     "normalise a.img --out b.img",
     "normalise a.img --out b.img --bad 3",
+    "normalise a.img --out a.img",
     "same a.img a.img",
     "change a.img --id 0 --lnum 1 --from new.bin --out b.img --pages b",
     "rename a.img --id 0 --name data --out b.img --bad 5",
