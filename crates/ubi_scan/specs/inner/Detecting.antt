@@ -1,67 +1,59 @@
--- What is answered on the way to the geometries of a file.
-use Rattle.std.specs.Prelude.{◌≡◌, ◌≢◌, ℕ, ◌*◌, List, [], Some, None, map}
-use Rattle.std.specs.List.{range_with_len}
-use Rattle.ubi_media.specs.Geometry.{Sizes}
-use Rattle.ubi_media.specs.declared.ec.EcOffsets.{EcOffsets}
-use Rattle.ubi_media.specs.declared.ec.EcStart.{EcStart}
-use Rattle.ubi_scan.specs.Detected.{IsPlace, IsUndetected}
-use Rattle.ubi_scan.specs.Source.{Agreed, WhereHeld}
-use Rattle.ubi_scan.specs.Starts.{start_at, starts_of}
-use Rattle.ubi_scan.specs.Fit.{IsPlain, block_starts}
-use Rattle.ubi_scan.specs.Layout.{geometries, out_of_band}
+-- What is answered on the way to what is detected of a file.
+use Rattle.std.specs.Prelude.{◌≡◌, ℕ, ◌+◌, ◌-◌, ◌*◌, ◌<◌, ◌≤◌, ◌==◌, if◌then◌else◌, IsFalse, IsTrue, List, length, map, slice_index_or}
+use Rattle.std.specs.Int.{IsGcd}
+use Rattle.std.specs.List.{All}
+use Rattle.ubi_scan.specs.Groups.{IsGroup, greatest_size}
+use Rattle.ubi_scan.specs.Heads.{is_of, keys_of, speaks, step}
 use Rattle.ubi_scan.specs.declared.detect.DetectError.{DetectError}
 use Rattle.ubi_scan.specs.declared.detect.DetectError.TheVariants as error
-use Rattle.ubi_scan.specs.declared.detect.Undetected.TheVariants as cause
+use Rattle.ubi_scan.specs.declared.groups.Group.{Group}
+use Rattle.ubi_scan.specs.declared.heads.Head.{Head}
+use Rattle.ubi_scan.specs.declared.heads.Key.{Key}
 
--- the geometries of a size without out-of-band bytes and of offsets, of which there are some
-pub record IsPaged (size : ℕ) (o : EcOffsets) (found : List Sizes) : Type 0 where
-  pub alone : out_of_band size ≡ None
-  pub are : found ≡ geometries size o
-  pub some : found ≢ []
+-- the first place of a group to which a header is added
+abbrev pub first_with : ℕ → Group → ℕ
+first_with p g = if g.count == 0 then p else g.first
 
--- why there are none: the size is one with out-of-band bytes, or no page fits, or memory ran out
-abbrev pub IsUnpaged : ℕ → EcOffsets → DetectError → Type 0
-IsUnpaged size o (error.Undetected (cause.OutOfBand b)) = out_of_band size ≡ Some b
-IsUnpaged size o (error.Undetected (cause.Page bytes p)) =
-    (out_of_band size ≡ None) × (bytes ≡ size) × (p ≡ o) × (geometries size o ≡ [])
-IsUnpaged size o error.Memory = Unit {0}
-IsUnpaged size o _ = ⊥
+-- a header was added to a group, if it belongs to it
+pub record IsAdded (h : Head) (old new : Group) : Type 0 where
+  pub key : new.key ≡ old.key
+  pub other : IsFalse (is_of old.key h.key) → new ≡ old
+  pub count : IsTrue (is_of old.key h.key) → new.count ≡ old.count + 1
+  pub first : IsTrue (is_of old.key h.key) → new.first ≡ first_with h.place old
+  pub last : IsTrue (is_of old.key h.key) → new.last ≡ h.place
+  pub size : IsTrue (is_of old.key h.key) → IsGcd old.size (h.place - new.first) new.size
 
--- a failure that isn't a read's
-abbrev pub IsFailure : List EcStart → ℕ → DetectError → Type 0
-IsFailure starts n (error.Undetected c) = IsUndetected starts n c
-IsFailure starts n (error.Read _) = ⊥
-IsFailure starts n error.Memory = Unit {0}
+-- the headers of a group stand in the first n units of 64 bytes
+pub record IsWithin (n : ℕ) (g : Group) : Type 0 where
+  pub count : g.count ≤ n
+  pub order : g.first ≤ g.last
+  pub last : 1 ≤ g.count → g.last + step ≤ n * step
+  pub none : g.last ≤ n * step
 
--- a read of a unit of n bytes failed
+-- these are the groups of headers, in the order of their keys
+pub record AreGroups (heads : List Head) (gs : List Group) : Type 0 where
+  pub keys : map (λ g. g.key) gs ≡ keys_of heads
+  pub each : All (IsGroup heads) gs
+
+-- it was added to each of these
+pub record AreAdded (h : Head) (old new : List Group) : Type 0 where
+  pub many : length new ≡ length old
+  pub each : (i : ℕ) (d : Group) → i < length old → IsAdded h (slice_index_or old i d) (slice_index_or new i d)
+
+-- a group among those of these keys says a size
+pub record SaysSize (keys : List Key) (g : Group) : Type 0 where
+  pub two : 2 ≤ g.count
+  pub from : 1 ≤ g.size
+  pub to : g.size ≤ greatest_size
+  pub speaks : IsTrue (speaks keys g.key)
+
+-- a read that began in a source of this size failed
 abbrev pub IsReadAt : ℕ → DetectError → Type 0
-IsReadAt n (error.Read at) = IsPlace n at
-IsReadAt n _ = ⊥
+IsReadAt size (error.Read at) = at < size
+IsReadAt size _ = ⊥
 
 -- it did, or memory ran out
 abbrev pub IsReadError : ℕ → DetectError → Type 0
-IsReadError n (error.Undetected _) = ⊥
-IsReadError n (error.Read at) = IsPlace n at
-IsReadError n error.Memory = Unit {0}
-
--- these are what the first n units of whatever may be held start with
-abbrev pub AreFirst : Agreed → List EcStart → ℕ → Type 0
-AreFirst agrees starts n = WhereHeld agrees (λ bytes. starts ≡ map (start_at bytes) (range_with_len 0 n))
-
--- what the eraseblock i of q units starts with
-abbrev pub block_at : List ℕ → ℕ → ℕ → EcStart
-block_at bytes q i = start_at bytes (i * q)
-
--- these are what the first n eraseblocks of q units of whatever may be held start with
-abbrev pub AreAt : Agreed → ℕ → List EcStart → ℕ → Type 0
-AreAt agrees q starts n = WhereHeld agrees (λ bytes. starts ≡ map (block_at bytes q) (range_with_len 0 n))
-
--- whatever may be held plainly has eraseblocks of q units in its n bytes, and they start so
-abbrev pub ArePlain : Agreed → ℕ → ℕ → List EcStart → Type 0
-ArePlain agrees n q heads =
-    WhereHeld agrees (λ bytes. IsPlain (starts_of bytes) n q × (heads ≡ block_starts (starts_of bytes) q))
-
--- a failure that isn't a read's, whatever the file holds
-abbrev pub IsNoRead : DetectError → Type 0
-IsNoRead (error.Read _) = ⊥
-IsNoRead _ = Unit {0}
+IsReadError size (error.Undetected _) = ⊥
+IsReadError size (error.Read at) = at < size
+IsReadError size error.Memory = Unit {0}

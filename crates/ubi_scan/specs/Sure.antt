@@ -1,0 +1,119 @@
+-- Whether the size that a group of headers says is sure: what stands at the places of its eraseblocks.
+use Rattle.std.specs.Prelude.{ℕ, ◌+◌, ◌-◌, ◌*◌, ◌/◌, ◌%◌, ◌==◌, ◌&&◌, ◌||◌, Bool, List, ◌++◌, Option, None, Some, false, if◌then◌else◌, length, nat_le, nat_lt, not, slice_range}
+use Rattle.std.specs.List.{list_all, list_any, range_with_len}
+use Rattle.ubi_media.specs.Fields.{field}
+use Rattle.ubi_media.specs.Geometry.{slots}
+use Rattle.ubi_media.specs.Record.{record_size}
+use Rattle.ubi_media.specs.Vid.{vid_magic}
+use Rattle.ubi_media.specs.declared.ec.EcOffsets.{EcOffsets}
+use Rattle.ubi_scan.specs.Heads.{is_of, key_at, step}
+use Rattle.ubi_scan.specs.Members.{layout}
+use Rattle.ubi_scan.specs.Ways.{plain_ways, put, ways}
+use Rattle.ubi_scan.specs.declared.groups.Group.{Group}
+use Rattle.ubi_scan.specs.declared.heads.Key.{Key}
+use Rattle.ubi_scan.specs.declared.ways.Way.{Way}
+
+-- whether the n bytes at a place are there, and all b
+abbrev pub all_are : ℕ → ℕ → List ℕ → ℕ → Bool
+all_are b n bytes at = nat_le (at + n) (length bytes) && list_all (λ x. x == b) (slice_range bytes at (at + n))
+
+-- whether 64 bytes 0xFF stand at a place: an eraseblock that begins there is blank
+abbrev pub is_blank : List ℕ → ℕ → Bool
+is_blank = all_are 0xFF 64
+
+-- whether something stands at a place: 64 bytes that are neither all 0xFF nor all zero, as those of a bad eraseblock may be
+abbrev pub is_filled : List ℕ → ℕ → Bool
+is_filled bytes at = not (all_are 0xFF 64 bytes at || all_are 0 64 bytes at)
+
+-- the number in the four bytes at a place; 0 where they aren't there
+abbrev pub number_at : List ℕ → ℕ → ℕ
+number_at bytes at = if nat_le (at + 4) (length bytes) then field 4 at bytes else 0
+
+-- how many eraseblocks there are from the first header of a group to the last one
+abbrev pub blocks : Group → ℕ
+blocks g = (g.last - g.first) / g.size + 1
+
+-- where the eraseblock i of these begins
+abbrev pub block_at : Group → ℕ → ℕ
+block_at g i = g.first + i * g.size
+
+-- whether an eraseblock starts with a header of the group
+abbrev pub is_member : Key → Option Key → Bool
+is_member k None = false
+is_member k (Some l) = is_of k l
+
+abbrev pub is_start : List ℕ → Group → ℕ → Bool
+is_start bytes g p = is_member g.key (key_at bytes p)
+
+-- whether one of them does of which a test holds
+abbrev pub some_start : List ℕ → Group → (ℕ → Bool) → Bool
+some_start bytes g test = list_any (λ i. is_start bytes g (block_at g i) && test (block_at g i)) (range_with_len 0 (blocks g))
+
+-- whether there is room for data behind the headers in q bytes
+abbrev pub has_room : EcOffsets → ℕ → Bool
+has_room o q = nat_le (o.data_offset + 64) q
+
+-- whether more than half of the eraseblocks start with a header of the group
+abbrev pub is_dense : Group → Bool
+is_dense g = nat_lt (blocks g) (2 * g.count)
+
+-- whether an eraseblock ends with 16 bytes 0xFF, as those of the volume table do
+abbrev pub ends_blank : List ℕ → Group → ℕ → Bool
+ends_blank bytes g p = all_are 0xFF 16 bytes (p + g.size - 16)
+
+-- whether it holds a copy of the volume table: its volume-identifier header says so, and the place of the table's last record isn't
+-- blank
+abbrev pub holds_table : List ℕ → Way → ℕ → Bool
+holds_table bytes w p =
+    let v = p + put w w.geometry.vid_offset in
+    (number_at bytes v == vid_magic) && (number_at bytes (v + 8) == layout)
+    && not (is_blank bytes (p + put w (w.geometry.data_offset + record_size * (slots w.geometry - 1))))
+
+-- which copy it is, by the same header
+abbrev pub copy_at : List ℕ → Way → ℕ → ℕ
+copy_at bytes w p = number_at bytes (p + put w w.geometry.vid_offset + 12)
+
+-- whether it and the next one, which starts with a header too, hold the two copies
+abbrev pub meets : List ℕ → Group → Way → ℕ → Bool
+meets bytes g w p =
+    nat_le (p + g.size) g.last && is_start bytes g (p + g.size) && holds_table bytes w p && holds_table bytes w (p + g.size)
+    && not (copy_at bytes w p == copy_at bytes w (p + g.size))
+
+-- whether two eraseblocks that follow each other do
+abbrev pub tables_meet : List ℕ → Group → Bool
+tables_meet bytes g =
+    list_any (λ w. some_start bytes g (meets bytes g w)) (plain_ways g.size g.key.offsets ++ ways g.size g.key.offsets)
+
+-- whether no number but 1 and n divides n
+abbrev pub is_prime : ℕ → Bool
+is_prime n = list_all (λ d. not (n % d == 0)) (range_with_len 2 (n - 2))
+
+-- whether eraseblocks of q bytes may be d of the true ones: d is a prime, and a part has whole units, and room
+abbrev pub may_be_parts : EcOffsets → ℕ → ℕ → Bool
+may_be_parts o q d = (q % (d * step) == 0) && has_room o (q / d) && is_prime d
+
+-- whether a test holds where a part of an eraseblock would begin, of d parts, but for the first one
+abbrev pub some_inner : Group → ℕ → (ℕ → Bool) → ℕ → Bool
+some_inner g d test p = nat_lt p g.last && list_any (λ j. test (p + j * (g.size / d))) (range_with_len 1 (d - 1))
+
+-- whether something stands there behind 16 bytes 0xFF, as nothing does in an eraseblock that is written from its beginning on
+abbrev pub is_hole : List ℕ → ℕ → Bool
+is_hole bytes at = is_filled bytes at && all_are 0xFF 16 bytes (at - 16)
+
+-- whether the eraseblocks can't be d of the true ones: before the last header something stands where a part would begin, and nowhere
+-- behind blank bytes
+abbrev pub are_no_parts : List ℕ → Group → ℕ → Bool
+are_no_parts bytes g d =
+    some_start bytes g (some_inner g d (is_filled bytes)) && not (some_start bytes g (some_inner g d (is_hole bytes)))
+
+-- whether they are no number of the true ones
+abbrev pub is_whole_size : List ℕ → Group → Bool
+is_whole_size bytes g =
+    list_all (λ d. not (may_be_parts g.key.offsets g.size d) || are_no_parts bytes g d) (range_with_len 2 (g.size / step))
+
+-- whether the size that a group says is sure: there is room, more than half of the eraseblocks start with a header, and one of these ends
+-- blank; and two neighbours hold the two copies of the volume table, or there are three headers, and no part could be the size
+abbrev pub is_sure : List ℕ → Group → Bool
+is_sure bytes g =
+    has_room g.key.offsets g.size && is_dense g && some_start bytes g (ends_blank bytes g)
+    && (tables_meet bytes g || (nat_le 3 g.count && is_whole_size bytes g))

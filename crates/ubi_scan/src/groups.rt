@@ -1,0 +1,178 @@
+//! Headers that are of one image, and what they say of the size of its eraseblocks.
+
+ghost use Rattle.std.specs.Int.{IsGcd};
+ghost use Rattle.std.specs.List.{All, list_any};
+ghost use Rattle.std.specs.Prelude.{◌≡◌, ◌+◌, ◌*◌, ◌<◌, ◌≤◌, ◌^◌, ◌/◌, ◌%◌, ◌++◌, ◌∷◌, ◌↔◌, [], false, IsTrue, List, MatchOption, OnOk, map, ℕ};
+ghost use Rattle.ubi_scan.specs.Groups.{IsImage};
+ghost use Rattle.ubi_scan.specs.Heads.{keys_of, same_key, speaks, step};
+ghost use Rattle.ubi_scan.specs.declared.heads.Head.{Head};
+ghost use Rattle.ubi_scan.specs.Groups.{IsGroup, spoken};
+ghost use Rattle.ubi_scan.specs.inner.Detecting.{AreAdded, AreGroups, IsAdded, IsWithin, SaysSize};
+
+use crate::heads::{Head, Key};
+use std::alloc::AllocError;
+
+/// An eraseblock has at most so many bytes.
+pub const GREATEST_SIZE: u64 = 16_777_216;
+
+/// The headers of a file that name one key, or the same offsets and no number. It takes the same memory, however many they are.
+#[derive(Clone, Copy, Debug, PartialEq, Eq)]
+pub struct Group {
+    /// What they name.
+    pub key: Key,
+    /// Where the first of them begins.
+    pub first: u64,
+    /// Where the last one begins.
+    pub last: u64,
+    /// How many they are.
+    pub count: u64,
+    /// The greatest common divisor of the distances between them: the bytes of an eraseblock; 0 of one header or none.
+    pub size: u64,
+}
+
+/// The greatest common divisor of two numbers.
+fn gcd(a: u64, b: u64) -> u64
+    ensures { IsGcd a b result }
+{
+    let (mut x, mut y) = (a, b);
+    while y != 0 {
+        let rest = x % y;
+        x = y;
+        y = rest;
+    }
+    x
+}
+
+impl Group {
+    /// A group to which no header belongs yet.
+    fn empty(key: Key) -> Group
+        ensures group { (heads : List Head) → IsGroup [] result }
+        ensures within { IsWithin 0 result }
+        ensures key { result.key ≡ key }
+    {
+        Group {
+            key,
+            first: 0,
+            last: 0,
+            count: 0,
+            size: 0,
+        }
+    }
+
+    /// Adds a header, if it belongs to the group.
+    fn add(&mut self, head: &Head)
+        requires { self.old.count < 2 ^ 63 }
+        ensures { IsAdded head.now self.old self.new }
+    {
+        if !self.key.owns(&head.key) {
+            return;
+        }
+        if self.count == 0 {
+            self.first = head.place;
+        }
+        self.size = gcd(self.size, head.place.saturating_sub(self.first));
+        self.last = head.place;
+        self.count += 1;
+    }
+}
+
+/// Whether a header of a key is among those of groups.
+fn has_key(groups: &[Group], key: &Key) -> bool
+    ensures { result ≡ list_any (same_key key.now) (map (λ g. g.key) groups.now) }
+{
+    groups.iter().any(|group| key.is_same(&group.key))
+}
+
+/// The group of a key that no header has named yet: the headers of its offsets that name no number belong to it.
+fn new_group(groups: &[Group], key: &Key) -> Group
+    ensures key { result.key ≡ key.now }
+    ensures group { (heads : List Head) → AreGroups heads groups.now → list_any (same_key key.now) (keys_of heads) ≡ false → IsGroup heads result }
+    ensures within { (n : ℕ) → All (IsWithin n) groups.now → IsWithin n result }
+{
+    let none = Key {
+        offsets: key.offsets,
+        image_seq: 0,
+    };
+    match groups.iter().find(|group| none.is_same(&group.key)) {
+        Some(group) => Group { key: *key, ..*group },
+        None => Group::empty(*key),
+    }
+}
+
+/// Adds a header to the groups to which it belongs, after that of its key.
+fn add_to_each(groups: &mut [Group], head: &Head)
+    requires { All (λ g. g.count < 2 ^ 63) groups.old }
+    ensures { AreAdded head.now groups.old groups.new }
+{
+    for i in 0..groups.len() {
+        groups[i].add(head);
+    }
+}
+
+/// Adds a header that stands in the unit `n` of 64 bytes, behind all that were added before.
+///
+/// # Errors
+///
+/// Memory ran out.
+pub fn add_head(groups: &mut Vec<Group>, head: &Head) -> Result<(), AllocError>
+    requires within { All (IsWithin (head.now.place / step)) groups.old.items }
+    requires place { head.now.place < 2 ^ 63 }
+    ensures groups { (heads : List Head) → AreGroups heads groups.old.items → OnOk result (AreGroups (heads ++ head.now ∷ []) groups.new.items) }
+    ensures within { head.now.place % step ≡ 0 → OnOk result (All (IsWithin (head.now.place / step + 1)) groups.new.items) }
+{
+    if !has_key(groups.as_slice(), &head.key) {
+        let group = new_group(groups.as_slice(), &head.key);
+        groups.push(group)?;
+    }
+    add_to_each(groups.as_mut_slice(), head);
+    Ok(())
+}
+
+/// Whether a group speaks for an image: it has a number, or none of its offsets has.
+fn speaks(groups: &[Group], key: &Key) -> bool
+    ensures { result ≡ speaks (map (λ g. g.key) groups.now) key.now }
+{
+    key.image_seq != 0
+        || groups
+            .iter()
+            .all(|group| !key.has_offsets_of(&group.key) || group.key.image_seq == 0)
+}
+
+/// Whether a group says a size: it speaks, has two headers or more, and the size is one that an eraseblock may have.
+fn says_size(groups: &[Group], group: &Group) -> bool
+    ensures { IsTrue result ↔ SaysSize (map (λ g. g.key) groups.now) group.now }
+{
+    group.count >= 2
+        && group.size >= 1
+        && group.size <= GREATEST_SIZE
+        && speaks(groups, &group.key)
+}
+
+/// Whether a group speaks for more bytes than another.
+fn speaks_for_more(group: &Group, other: &Group) -> bool
+    ensures { IsTrue result ↔ (spoken other.now < spoken group.now) }
+{
+    let spoken = |group: &Group| u128::from(group.count) * u128::from(group.size);
+    spoken(group) > spoken(other)
+}
+
+/// The group of the image of a file, of the groups of its headers: the one that speaks for most bytes, of several the first one.
+pub fn image_among(groups: &[Group]) -> Option<Group>
+    ensures { (heads : List Head) → AreGroups heads groups.now → MatchOption result ((j : ℕ) (g : Group) → IsImage heads j g → ⊥) (λ g. (j : ℕ) × IsImage heads j g) }
+{
+    let mut best: Option<Group> = None;
+    for i in 0..groups.len() {
+        let group = groups[i];
+        if !says_size(groups, &group) {
+            continue;
+        }
+        let is_better = match &best {
+            Some(other) => speaks_for_more(&group, other),
+            None => true,
+        };
+        if is_better {
+            best = Some(group);
+        }
+    }
+    best
+}

@@ -1,0 +1,69 @@
+//! The headers of a source, which is read once, from its beginning to its end.
+
+ghost use Rattle.std.specs.List.{All};
+ghost use Rattle.std.specs.Prelude.{◌≡◌, ℕ, ◌+◌, ◌/◌, ◌%◌, ◌<◌, ◌≤◌, ◌^◌, IfErr, IfOk, List, OnOk, length, slice_range};
+ghost use Rattle.ubi_scan.specs.Detected.{NamesPlace, after_detecting};
+ghost use Rattle.ubi_scan.specs.Heads.{heads_of, heads_to, step};
+ghost use Rattle.ubi_scan.specs.Source.{Narrows, WhereHeld};
+ghost use Rattle.ubi_scan.specs.inner.Detecting.{AreGroups, IsReadError, IsWithin};
+
+use crate::detect::DetectError;
+use crate::groups::{Group, add_head};
+use crate::heads::{Head, STEP, key_within};
+use crate::source::BlockSource;
+use std::alloc::{AllocError, Global};
+
+/// So many bytes are read at once.
+const WINDOW: usize = 65_536;
+
+/// Adds the headers that stand in bytes, which begin at a place of their file.
+fn add_heads(groups: &mut Vec<Group>, place: u64, bytes: &[u8]) -> Result<(), AllocError>
+    requires place { place % step ≡ 0 }
+    requires end { place + length bytes.now < 2 ^ 63 }
+    requires within { All (IsWithin (place / step)) groups.old.items }
+    ensures groups { (all : List ℕ) → slice_range all place (place + length bytes.now) ≡ bytes.now → AreGroups (heads_to all (place / step)) groups.old.items → OnOk result (AreGroups (heads_to all (place / step + length bytes.now / step)) groups.new.items) }
+    ensures within { OnOk result (All (IsWithin (place / step + length bytes.now / step)) groups.new.items) }
+{
+    for i in 0..bytes.len() / STEP as usize {
+        let at = i * STEP as usize;
+        if let Some(key) = key_within(bytes, at) {
+            let head = Head {
+                place: place + at as u64,
+                key,
+            };
+            add_head(groups, &head)?;
+        }
+    }
+    Ok(())
+}
+
+/// The groups of the headers of a source.
+///
+/// # Errors
+///
+/// Read where a read failed, Memory where it ran out: it takes 64 KiB, and so many bytes a group.
+pub fn read_groups<S: BlockSource>(
+    alloc: Global,
+    source: &mut S,
+) -> Result<Vec<Group>, DetectError>
+    requires size { (S.known source.old).size < 2 ^ 63 }
+    ensures known { S.known source.new ≡ after_detecting (S.known source.old) result }
+    ensures narrows { Narrows (S.agrees source.old) (S.agrees source.new) }
+    ensures groups { IfOk result (λ groups. WhereHeld (S.agrees source.new) (λ bytes. AreGroups (heads_of bytes) groups.items)) }
+    ensures within { IfOk result (λ groups. All (IsWithin ((S.known source.old).size / step)) groups.items) }
+    ensures failed { IfErr result (IsReadError (S.known source.old).size) }
+    ensures named { IfErr result (NamesPlace (S.failed_at source.new)) }
+{
+    let len = source.len();
+    let mut groups = Vec::new(alloc);
+    let mut window = Vec::from_elem(alloc, 0u8, WINDOW)?;
+    for i in 0..len.div_ceil(WINDOW as u64) {
+        let at = i * WINDOW as u64;
+        let count = (len - at).min(WINDOW as u64) as usize;
+        if source.read(at, &mut window[..count]).is_err() {
+            return Err(DetectError::Read(at));
+        }
+        add_heads(&mut groups, at, &window[..count])?;
+    }
+    Ok(groups)
+}

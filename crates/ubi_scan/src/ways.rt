@@ -1,0 +1,119 @@
+//! The pages that eraseblocks of a size may have, with out-of-band bytes or without.
+
+ghost use Rattle.std.specs.List.{filter_map};
+ghost use Rattle.std.specs.Prelude.{◌≡◌, ◌++◌, ◌<◌, ◌≤◌, IfOk, OnOk};
+ghost use Rattle.ubi_scan.specs.Layout.{geometry_of};
+ghost use Rattle.ubi_scan.specs.Ways.{page_counts, plain_ways, put, way_of, ways};
+
+use std::alloc::{AllocError, Global};
+use ubi_media::{EcOffsets, Geometry, MOST_PEBS, PAGE_SIZES};
+
+/// The bytes of a header.
+const HEADER_SIZE: u64 = 64;
+
+/// How many pages an eraseblock with out-of-band bytes may have.
+const PAGE_COUNTS: [u32; 8] = [16, 32, 64, 128, 256, 512, 1024, 2048];
+
+/// A geometry, and how many out-of-band bytes lie behind each page of it.
+#[derive(Clone, Copy, Debug, PartialEq, Eq)]
+pub struct Way {
+    /// The sizes without out-of-band bytes.
+    pub geometry: Geometry,
+    /// The out-of-band bytes of a page.
+    pub oob: u32,
+}
+
+impl Way {
+    /// Where a place of an eraseblock without its out-of-band bytes stands in one with them.
+    pub fn put(&self, place: u32) -> u64
+        ensures { result ≡ put self.now place }
+    {
+        let (page, oob) = (self.geometry.page(), self.oob);
+        u64::from(place / page) * (u64::from(page) + u64::from(oob)) + u64::from(place % page)
+    }
+}
+
+/// The geometry of a page, if there is one in which the data begin where Linux has them.
+fn geometry_of(size: u32, offsets: &EcOffsets, page: u32) -> Option<Geometry>
+    ensures { result ≡ geometry_of size offsets.now page }
+{
+    let EcOffsets {
+        vid_offset,
+        data_offset,
+    } = *offsets;
+    let geometry = Geometry::new(size, page, vid_offset, data_offset, MOST_PEBS).ok()?;
+    let end = u64::from(vid_offset) + HEADER_SIZE;
+    if end.div_ceil(u64::from(page)) * u64::from(page) == u64::from(data_offset) {
+        Some(geometry)
+    } else {
+        None
+    }
+}
+
+/// The pages without out-of-band bytes that an eraseblock may have, the least first.
+///
+/// # Errors
+///
+/// Memory ran out.
+pub fn plain_ways(alloc: Global, size: u32, offsets: &EcOffsets) -> Result<Vec<Way>, AllocError>
+    ensures { IfOk result (λ ways. ways.items ≡ plain_ways size offsets.now) }
+{
+    let mut found = Vec::new(alloc);
+    for page in &PAGE_SIZES {
+        if let Some(geometry) = geometry_of(size, offsets, *page) {
+            found.push(Way { geometry, oob: 0 })?;
+        }
+    }
+    Ok(found)
+}
+
+/// The way in which an eraseblock is `count` pages with out-of-band bytes, if it is.
+fn way_of(size: u32, offsets: &EcOffsets, page: u32, count: u32) -> Option<Way>
+    requires some { 1 ≤ count }
+    requires few { count ≤ 2048 }
+    requires page { page ≤ 65536 }
+    ensures { result ≡ way_of size offsets.now page count }
+{
+    let both = size / count;
+    if size % count != 0 || both <= page || 4 * (both - page) > page || page < 256 {
+        return None;
+    }
+    let geometry = geometry_of(page * count, offsets, page)?;
+    Some(Way {
+        geometry,
+        oob: both - page,
+    })
+}
+
+/// Adds the ways of a page.
+fn push_ways(
+    found: &mut Vec<Way>,
+    size: u32,
+    offsets: &EcOffsets,
+    page: u32,
+) -> Result<(), AllocError>
+    requires { page ≤ 65536 }
+    ensures { OnOk result (found.new.items ≡ found.old.items ++ filter_map (way_of size offsets.now page) page_counts) }
+{
+    for count in &PAGE_COUNTS {
+        if let Some(way) = way_of(size, offsets, page, *count) {
+            found.push(way)?;
+        }
+    }
+    Ok(())
+}
+
+/// The pages with out-of-band bytes that an eraseblock may have, the least first, and of one page the fewest first.
+///
+/// # Errors
+///
+/// Memory ran out.
+pub fn ways(alloc: Global, size: u32, offsets: &EcOffsets) -> Result<Vec<Way>, AllocError>
+    ensures { IfOk result (λ found. found.items ≡ ways size offsets.now) }
+{
+    let mut found = Vec::new(alloc);
+    for page in &PAGE_SIZES {
+        push_ways(&mut found, size, offsets, *page)?;
+    }
+    Ok(found)
+}
