@@ -1,3 +1,4 @@
+pub mod AddedGroups
 pub mod BlockVectors
 pub mod Causes
 pub mod Choice
@@ -13,12 +14,14 @@ pub mod ErrorTextVectors
 pub mod FailedReads
 pub mod Filled
 pub mod Finite
+pub mod Grouped
 pub mod Held
 pub mod InMemory
 pub mod Keys
 pub mod Least
 pub mod Moved
 pub mod Narrowed
+pub mod NewGroups
 pub mod Next
 pub mod Nominated
 pub mod OneFault
@@ -36,4 +39,5 @@ pub mod Told
 pub mod Tops
 pub mod Truths
 pub mod Twins
+pub mod WaysThatFit
 pub mod Within

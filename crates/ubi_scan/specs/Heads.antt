@@ -58,7 +58,7 @@ keys_of heads = fold with_key [] (map (λ h. h.key) heads)
 
 -- whether the group of k speaks for an image: it has a number, or no header of its offsets has
 abbrev pub speaks : List Key → Key → Bool
-speaks keys k = (if k.image_seq == 0 then list_all (λ l. not (same_offsets k l) || (l.image_seq == 0)) keys else true)
+speaks keys k = not (k.image_seq == 0) || list_all (λ l. not (same_offsets k l) || (l.image_seq == 0)) keys
 
 -- where the headers stand that belong to the group of k
 abbrev pub places : List Head → Key → List ℕ

@@ -23,7 +23,7 @@ page_counts = 16 ∷ 32 ∷ 64 ∷ 128 ∷ 256 ∷ 512 ∷ 1024 ∷ 2048 ∷ []
 abbrev pub way_of : ℕ → EcOffsets → ℕ → ℕ → Option Way
 way_of q o page n =
     let s = sizes_of (page * n) o page in
-    then_some ((q % n == 0) && nat_lt page (q / n) && nat_le (4 * (q / n - page)) page && nat_le 256 page && is_laid_out s)
+    then_some ((q % n == 0) && nat_lt page (q / n) && nat_le 256 page && nat_le (q / n - page) (page / 4) && is_laid_out s)
     (record { geometry = s; oob = q / n - page })
 
 -- all of these, the least page first, and of one page the fewest pages first

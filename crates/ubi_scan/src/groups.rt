@@ -1,13 +1,13 @@
 //! Headers that are of one image, and what they say of the size of its eraseblocks.
 
 ghost use Rattle.std.specs.Int.{IsGcd};
-ghost use Rattle.std.specs.List.{All, list_any};
-ghost use Rattle.std.specs.Prelude.{◌≡◌, ◌+◌, ◌*◌, ◌<◌, ◌≤◌, ◌^◌, ◌/◌, ◌%◌, ◌++◌, ◌∷◌, ◌↔◌, [], false, IsTrue, List, MatchOption, OnOk, map, ℕ};
+ghost use Rattle.std.specs.List.{All};
+ghost use Rattle.std.specs.Prelude.{◌≡◌, ◌+◌, ◌*◌, ◌<◌, ◌≤◌, ◌^◌, ◌/◌, ◌%◌, ◌++◌, ◌∷◌, ◌↔◌, [], false, IsTrue, List, MatchOption, OnOk, ℕ};
 ghost use Rattle.ubi_scan.specs.Groups.{IsImage};
-ghost use Rattle.ubi_scan.specs.Heads.{keys_of, same_key, speaks, step};
+ghost use Rattle.ubi_scan.specs.Heads.{step};
 ghost use Rattle.ubi_scan.specs.declared.heads.Head.{Head};
 ghost use Rattle.ubi_scan.specs.Groups.{IsGroup, spoken};
-ghost use Rattle.ubi_scan.specs.inner.Detecting.{AreAdded, AreGroups, IsAdded, IsWithin, SaysSize};
+ghost use Rattle.ubi_scan.specs.inner.Detecting.{AreAdded, AreGroups, AreReady, IsAdded, IsWithin, SaysSize, are_unnumbered, first_with, group_with, has_key, speaks_among};
 
 use crate::heads::{Head, Key};
 use std::alloc::AllocError;
@@ -46,7 +46,7 @@ fn gcd(a: u64, b: u64) -> u64
 impl Group {
     /// A group to which no header belongs yet.
     fn empty(key: Key) -> Group
-        ensures group { (heads : List Head) → IsGroup [] result }
+        ensures group { IsGroup [] result }
         ensures within { IsWithin 0 result }
         ensures key { result.key ≡ key }
     {
@@ -59,6 +59,13 @@ impl Group {
         }
     }
 
+    /// Where its first header begins once one at a place is added.
+    fn first_with(&self, place: u64) -> u64
+        ensures { result ≡ first_with place self.now }
+    {
+        if self.count == 0 { place } else { self.first }
+    }
+
     /// Adds a header, if it belongs to the group.
     fn add(&mut self, head: &Head)
         requires { self.old.count < 2 ^ 63 }
@@ -67,34 +74,47 @@ impl Group {
         if !self.key.owns(&head.key) {
             return;
         }
-        if self.count == 0 {
-            self.first = head.place;
-        }
-        self.size = gcd(self.size, head.place.saturating_sub(self.first));
-        self.last = head.place;
-        self.count += 1;
+        let first = self.first_with(head.place);
+        let size = gcd(self.size, head.place.saturating_sub(first));
+        *self = Group {
+            key: self.key,
+            first,
+            last: head.place,
+            count: self.count + 1,
+            size,
+        };
     }
 }
 
 /// Whether a header of a key is among those of groups.
 fn has_key(groups: &[Group], key: &Key) -> bool
-    ensures { result ≡ list_any (same_key key.now) (map (λ g. g.key) groups.now) }
+    ensures { result ≡ has_key groups.now key.now }
 {
     groups.iter().any(|group| key.is_same(&group.key))
+}
+
+/// The group of a key, if there is one.
+fn group_with(groups: &[Group], key: &Key) -> Option<Group>
+    ensures { result ≡ group_with groups.now key.now }
+{
+    groups
+        .iter()
+        .copied()
+        .find(|group| key.is_same(&group.key))
 }
 
 /// The group of a key that no header has named yet: the headers of its offsets that name no number belong to it.
 fn new_group(groups: &[Group], key: &Key) -> Group
     ensures key { result.key ≡ key.now }
-    ensures group { (heads : List Head) → AreGroups heads groups.now → list_any (same_key key.now) (keys_of heads) ≡ false → IsGroup heads result }
+    ensures group { (heads : List Head) → AreGroups heads groups.now → has_key groups.now key.now ≡ false → IsGroup heads result }
     ensures within { (n : ℕ) → All (IsWithin n) groups.now → IsWithin n result }
 {
-    let none = Key {
-        offsets: key.offsets,
+    let unnumbered = Key {
         image_seq: 0,
+        ..*key
     };
-    match groups.iter().find(|group| none.is_same(&group.key)) {
-        Some(group) => Group { key: *key, ..*group },
+    match group_with(groups, &unnumbered) {
+        Some(group) => Group { key: *key, ..group },
         None => Group::empty(*key),
     }
 }
@@ -109,7 +129,24 @@ fn add_to_each(groups: &mut [Group], head: &Head)
     }
 }
 
-/// Adds a header that stands in the unit `n` of 64 bytes, behind all that were added before.
+/// Adds the group of a key, if there is none.
+///
+/// # Errors
+///
+/// Memory ran out.
+fn have_group(groups: &mut Vec<Group>, key: &Key) -> Result<(), AllocError>
+    ensures groups { (heads : List Head) → AreGroups heads groups.old.items → OnOk result (AreReady heads key.now groups.new.items) }
+    ensures within { (n : ℕ) → All (IsWithin n) groups.old.items → OnOk result (All (IsWithin n) groups.new.items) }
+{
+    if has_key(groups.as_slice(), key) {
+        return Ok(());
+    }
+    let group = new_group(groups.as_slice(), key);
+    groups.push(group)?;
+    Ok(())
+}
+
+/// Adds a header that stands behind all that were added before.
 ///
 /// # Errors
 ///
@@ -120,27 +157,28 @@ pub fn add_head(groups: &mut Vec<Group>, head: &Head) -> Result<(), AllocError>
     ensures groups { (heads : List Head) → AreGroups heads groups.old.items → OnOk result (AreGroups (heads ++ head.now ∷ []) groups.new.items) }
     ensures within { head.now.place % step ≡ 0 → OnOk result (All (IsWithin (head.now.place / step + 1)) groups.new.items) }
 {
-    if !has_key(groups.as_slice(), &head.key) {
-        let group = new_group(groups.as_slice(), &head.key);
-        groups.push(group)?;
-    }
+    have_group(groups, &head.key)?;
     add_to_each(groups.as_mut_slice(), head);
     Ok(())
 }
 
+/// Whether no header of the offsets of a key has a number.
+fn are_unnumbered(groups: &[Group], key: &Key) -> bool
+    ensures { result ≡ are_unnumbered groups.now key.now }
+{
+    groups.iter().all(|group| key.is_unnumbered_by(&group.key))
+}
+
 /// Whether a group speaks for an image: it has a number, or none of its offsets has.
 fn speaks(groups: &[Group], key: &Key) -> bool
-    ensures { result ≡ speaks (map (λ g. g.key) groups.now) key.now }
+    ensures { result ≡ speaks_among groups.now key.now }
 {
-    key.image_seq != 0
-        || groups
-            .iter()
-            .all(|group| !key.has_offsets_of(&group.key) || group.key.image_seq == 0)
+    key.image_seq != 0 || are_unnumbered(groups, key)
 }
 
 /// Whether a group says a size: it speaks, has two headers or more, and the size is one that an eraseblock may have.
 fn says_size(groups: &[Group], group: &Group) -> bool
-    ensures { IsTrue result ↔ SaysSize (map (λ g. g.key) groups.now) group.now }
+    ensures { IsTrue result ↔ SaysSize groups.now group.now }
 {
     group.count >= 2
         && group.size >= 1

@@ -1,6 +1,6 @@
 //! The erase-counter headers of a file of which nothing else is known.
 
-ghost use Rattle.std.specs.Prelude.{◌≡◌, ◌+◌, ◌≤◌, length, slice_range};
+ghost use Rattle.std.specs.Prelude.{◌≡◌, ◌+◌, ◌≤◌, ◌==◌, ◌||◌, length, not, slice_range};
 ghost use Rattle.ubi_scan.specs.Heads.{is_of, key_in, same_key, same_offsets};
 
 use byteorder::{BigEndian, ByteOrder};
@@ -43,6 +43,13 @@ impl Key {
     {
         self.has_offsets_of(other)
             && (other.image_seq == self.image_seq || other.image_seq == 0)
+    }
+
+    /// Whether another header gives the offsets of this one no number: it names other offsets, or none.
+    pub fn is_unnumbered_by(&self, other: &Key) -> bool
+        ensures { result ≡ not (same_offsets self.now other.now) || (other.now.image_seq == 0) }
+    {
+        !self.has_offsets_of(other) || other.image_seq == 0
     }
 }
 

@@ -75,7 +75,7 @@ fn way_of(size: u32, offsets: &EcOffsets, page: u32, count: u32) -> Option<Way>
     ensures { result ≡ way_of size offsets.now page count }
 {
     let both = size / count;
-    if size % count != 0 || both <= page || 4 * (both - page) > page || page < 256 {
+    if size % count != 0 || both <= page || page < 256 || both - page > page / 4 {
         return None;
     }
     let geometry = geometry_of(page * count, offsets, page)?;

@@ -1,9 +1,9 @@
 -- What is answered on the way to what is detected of a file.
-use Rattle.std.specs.Prelude.{◌≡◌, ℕ, ◌+◌, ◌-◌, ◌*◌, ◌<◌, ◌≤◌, ◌==◌, if◌then◌else◌, IsFalse, IsTrue, List, length, map, slice_index_or}
+use Rattle.std.specs.Prelude.{◌≡◌, ℕ, ◌+◌, ◌-◌, ◌*◌, ◌<◌, ◌≤◌, ◌==◌, ◌||◌, Bool, if◌then◌else◌, IsFalse, IsTrue, List, Option, find, length, map, not, slice_index_or}
 use Rattle.std.specs.Int.{IsGcd}
-use Rattle.std.specs.List.{All}
+use Rattle.std.specs.List.{All, list_all, list_any}
 use Rattle.ubi_scan.specs.Groups.{IsGroup, greatest_size}
-use Rattle.ubi_scan.specs.Heads.{is_of, keys_of, speaks, step}
+use Rattle.ubi_scan.specs.Heads.{is_of, keys_of, same_key, same_offsets, step, with_key}
 use Rattle.ubi_scan.specs.declared.detect.DetectError.{DetectError}
 use Rattle.ubi_scan.specs.declared.detect.DetectError.TheVariants as error
 use Rattle.ubi_scan.specs.declared.groups.Group.{Group}
@@ -40,12 +40,37 @@ pub record AreAdded (h : Head) (old new : List Group) : Type 0 where
   pub many : length new ≡ length old
   pub each : (i : ℕ) (d : Group) → i < length old → IsAdded h (slice_index_or old i d) (slice_index_or new i d)
 
--- a group among those of these keys says a size
-pub record SaysSize (keys : List Key) (g : Group) : Type 0 where
+-- these are groups of headers, and one of them is that of a key
+pub record AreReady (heads : List Head) (k : Key) (gs : List Group) : Type 0 where
+  pub keys : map (λ g. g.key) gs ≡ with_key (keys_of heads) k
+  pub each : All (IsGroup heads) gs
+
+-- whether one of groups has a key
+abbrev pub has_key : List Group → Key → Bool
+has_key gs k = list_any (λ g. same_key k g.key) gs
+
+-- a key without a number, of the same offsets
+abbrev pub unnumbered : Key → Key
+unnumbered k = record k { image_seq = 0 }
+
+-- the group of a key, if there is one
+abbrev pub group_with : List Group → Key → Option Group
+group_with gs k = find (λ g. same_key k g.key) gs
+
+-- whether none of the offsets of a key has a number
+abbrev pub are_unnumbered : List Group → Key → Bool
+are_unnumbered gs k = list_all (λ g. not (same_offsets k g.key) || (g.key.image_seq == 0)) gs
+
+-- whether a key speaks for an image among groups
+abbrev pub speaks_among : List Group → Key → Bool
+speaks_among gs k = not (k.image_seq == 0) || are_unnumbered gs k
+
+-- one of groups says a size
+pub record SaysSize (gs : List Group) (g : Group) : Type 0 where
   pub two : 2 ≤ g.count
   pub from : 1 ≤ g.size
   pub to : g.size ≤ greatest_size
-  pub speaks : IsTrue (speaks keys g.key)
+  pub speaks : IsTrue (speaks_among gs g.key)
 
 -- a read that began in a source of this size failed
 abbrev pub IsReadAt : ℕ → DetectError → Type 0
