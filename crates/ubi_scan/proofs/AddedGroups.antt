@@ -71,7 +71,7 @@ added_within : (h : Head) (n : ℕ) (old new : Group) → h.place ≡ n * step �
 added_within h n old new place is added = added_by h n old new place is added (is_of old.key h.key) refl
 
 -- no group, where one is asked for behind the last one
-abbrev no_group : Group
+abbrev pub no_group : Group
 no_group = record { key = no_key; first = 0; last = 0; count = 0; size = 0 }
 
 module _ (heads : List Head) (k : Key) (gs : List Group) (are : AreGroups heads gs) where

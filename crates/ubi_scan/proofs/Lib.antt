@@ -1,4 +1,5 @@
 pub mod AddedGroups
+pub mod BestGroup
 pub mod BlockVectors
 pub mod Causes
 pub mod Choice

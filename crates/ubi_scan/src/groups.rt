@@ -2,12 +2,12 @@
 
 ghost use Rattle.std.specs.Int.{IsGcd};
 ghost use Rattle.std.specs.List.{All};
-ghost use Rattle.std.specs.Prelude.{◌≡◌, ◌+◌, ◌*◌, ◌<◌, ◌≤◌, ◌^◌, ◌/◌, ◌%◌, ◌++◌, ◌∷◌, ◌↔◌, [], false, IsTrue, List, MatchOption, OnOk, ℕ};
+ghost use Rattle.std.specs.Prelude.{◌≡◌, ◌+◌, ◌*◌, ◌<◌, ◌≤◌, ◌^◌, ◌/◌, ◌%◌, ◌++◌, ◌&&◌, ◌∷◌, [], false, List, MatchOption, OnOk, ℕ};
 ghost use Rattle.ubi_scan.specs.Groups.{IsImage};
 ghost use Rattle.ubi_scan.specs.Heads.{step};
 ghost use Rattle.ubi_scan.specs.declared.heads.Head.{Head};
 ghost use Rattle.ubi_scan.specs.Groups.{IsGroup, spoken};
-ghost use Rattle.ubi_scan.specs.inner.Detecting.{AreAdded, AreGroups, AreReady, IsAdded, IsWithin, SaysSize, are_unnumbered, first_with, group_with, has_key, speaks_among};
+ghost use Rattle.ubi_scan.specs.inner.Detecting.{AreAdded, AreGroups, AreReady, IsAdded, IsWithin, are_unnumbered, beats, first_with, group_with, has_key, says_size, speaks_among};
 
 use crate::heads::{Head, Key};
 use std::alloc::AllocError;
@@ -178,7 +178,7 @@ fn speaks(groups: &[Group], key: &Key) -> bool
 
 /// Whether a group says a size: it speaks, has two headers or more, and the size is one that an eraseblock may have.
 fn says_size(groups: &[Group], group: &Group) -> bool
-    ensures { IsTrue result ↔ SaysSize groups.now group.now }
+    ensures { result ≡ says_size groups.now group.now }
 {
     group.count >= 2
         && group.size >= 1
@@ -186,12 +186,30 @@ fn says_size(groups: &[Group], group: &Group) -> bool
         && speaks(groups, &group.key)
 }
 
-/// Whether a group speaks for more bytes than another.
-fn speaks_for_more(group: &Group, other: &Group) -> bool
-    ensures { IsTrue result ↔ (spoken other.now < spoken group.now) }
+impl Group {
+    /// How many bytes it speaks for.
+    fn spoken(&self) -> u128
+        ensures { result ≡ spoken self.now }
+    {
+        u128::from(self.count) * u128::from(self.size)
+    }
+
+    /// Whether it speaks for more bytes than another group, if there is one.
+    fn beats(&self, other: &Option<Group>) -> bool
+        ensures { result ≡ beats self.now other.now }
+    {
+        match other {
+            Some(group) => group.spoken() < self.spoken(),
+            None => true,
+        }
+    }
+}
+
+/// Whether a group says a size, and speaks for more bytes than another group, if there is one.
+fn is_better(groups: &[Group], group: &Group, best: &Option<Group>) -> bool
+    ensures { result ≡ says_size groups.now group.now && beats group.now best.now }
 {
-    let spoken = |group: &Group| u128::from(group.count) * u128::from(group.size);
-    spoken(group) > spoken(other)
+    says_size(groups, group) && group.beats(best)
 }
 
 /// The group of the image of a file, of the groups of its headers: the one that speaks for most bytes, of several the first one.
@@ -200,16 +218,8 @@ pub fn image_among(groups: &[Group]) -> Option<Group>
 {
     let mut best: Option<Group> = None;
     for i in 0..groups.len() {
-        let group = groups[i];
-        if !says_size(groups, &group) {
-            continue;
-        }
-        let is_better = match &best {
-            Some(other) => speaks_for_more(&group, other),
-            None => true,
-        };
-        if is_better {
-            best = Some(group);
+        if is_better(groups, &groups[i], &best) {
+            best = Some(groups[i]);
         }
     }
     best

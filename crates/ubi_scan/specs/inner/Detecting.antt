@@ -1,8 +1,8 @@
 -- What is answered on the way to what is detected of a file.
-use Rattle.std.specs.Prelude.{◌≡◌, ℕ, ◌+◌, ◌-◌, ◌*◌, ◌<◌, ◌≤◌, ◌==◌, ◌||◌, Bool, if◌then◌else◌, IsFalse, IsTrue, List, Option, find, length, map, not, slice_index_or}
+use Rattle.std.specs.Prelude.{◌≡◌, ℕ, ◌+◌, ◌-◌, ◌*◌, ◌<◌, ◌≤◌, ◌⊎◌, ◌==◌, ◌&&◌, ◌||◌, Bool, None, Some, true, if◌then◌else◌, nat_le, nat_lt, IsFalse, IsTrue, List, Option, find, length, map, not, slice_index_or}
 use Rattle.std.specs.Int.{IsGcd}
 use Rattle.std.specs.List.{All, list_all, list_any}
-use Rattle.ubi_scan.specs.Groups.{IsGroup, greatest_size}
+use Rattle.ubi_scan.specs.Groups.{IsGroup, greatest_size, spoken}
 use Rattle.ubi_scan.specs.Heads.{is_of, keys_of, same_key, same_offsets, step, with_key}
 use Rattle.ubi_scan.specs.declared.detect.DetectError.{DetectError}
 use Rattle.ubi_scan.specs.declared.detect.DetectError.TheVariants as error
@@ -65,12 +65,27 @@ are_unnumbered gs k = list_all (λ g. not (same_offsets k g.key) || (g.key.image
 abbrev pub speaks_among : List Group → Key → Bool
 speaks_among gs k = not (k.image_seq == 0) || are_unnumbered gs k
 
--- one of groups says a size
-pub record SaysSize (gs : List Group) (g : Group) : Type 0 where
-  pub two : 2 ≤ g.count
-  pub from : 1 ≤ g.size
-  pub to : g.size ≤ greatest_size
-  pub speaks : IsTrue (speaks_among gs g.key)
+-- whether one of groups says a size
+abbrev pub says_size : List Group → Group → Bool
+says_size gs g = nat_le 2 g.count && nat_le 1 g.size && nat_le g.size greatest_size && speaks_among gs g.key
+
+-- whether a group speaks for more bytes than another, if there is one
+abbrev pub beats : Group → Option Group → Bool
+beats g (Some f) = nat_lt (spoken f) (spoken g)
+beats g None = true
+
+-- of the first n of groups the group j says a size, and speaks for most bytes of those that do; of several it is the first
+pub record IsBestOf (gs : List Group) (n : ℕ) (g : Group) : Type 0 where
+  pub index : ℕ
+  pub inside : index < n
+  pub is : (d : Group) → slice_index_or gs index d ≡ g
+  pub says : IsTrue (says_size gs g)
+  pub most : (k : ℕ) (d : Group) → k < n → IsTrue (says_size gs (slice_index_or gs k d))
+      → (spoken (slice_index_or gs k d) < spoken g) ⊎ ((spoken (slice_index_or gs k d) ≡ spoken g) × (index ≤ k))
+
+-- none of the first n of groups says a size
+abbrev pub NoneSays : List Group → ℕ → Type 0
+NoneSays gs n = (k : ℕ) (d : Group) → k < n → IsFalse (says_size gs (slice_index_or gs k d))
 
 -- a read that began in a source of this size failed
 abbrev pub IsReadAt : ℕ → DetectError → Type 0
