@@ -20,6 +20,7 @@ pub mod Held
 pub mod InMemory
 pub mod Keys
 pub mod Least
+pub mod Magics
 pub mod Moved
 pub mod Narrowed
 pub mod NewGroups
@@ -37,6 +38,7 @@ pub mod Shown
 pub mod SoFar
 pub mod Stands
 pub mod Told
+pub mod Surveyed
 pub mod Tops
 pub mod Truths
 pub mod Twins

@@ -1,11 +1,12 @@
 //! The headers of a source, which is read once, from its beginning to its end.
 
 ghost use Rattle.std.specs.List.{All};
-ghost use Rattle.std.specs.Prelude.{◌≡◌, ℕ, ◌+◌, ◌/◌, ◌%◌, ◌<◌, ◌≤◌, ◌^◌, IfErr, IfOk, List, OnOk, length, slice_range};
+ghost use Rattle.std.specs.Prelude.{◌≡◌, ℕ, ◌+◌, ◌++◌, ◌/◌, ◌%◌, ◌<◌, ◌≤◌, ◌^◌, IfErr, IfOk, List, OnOk, length, slice_range};
 ghost use Rattle.ubi_scan.specs.Detected.{NamesPlace, after_detecting};
 ghost use Rattle.ubi_scan.specs.Heads.{heads_of, heads_to, step};
 ghost use Rattle.ubi_scan.specs.Source.{Narrows, WhereHeld};
-ghost use Rattle.ubi_scan.specs.inner.Detecting.{AreGroups, IsReadError, IsWithin};
+ghost use Rattle.ubi_scan.specs.declared.heads.Head.{Head};
+ghost use Rattle.ubi_scan.specs.inner.Detecting.{AreGroups, IsReadError, IsWithin, head_in};
 
 use crate::detect::DetectError;
 use crate::groups::{Group, add_head};
@@ -15,6 +16,25 @@ use std::alloc::{AllocError, Global};
 
 /// So many bytes are read at once.
 const WINDOW: usize = 65_536;
+
+/// Adds the header that 64 bytes of some bytes are, which stand at a place of their file, if they are one.
+fn add_unit(
+    groups: &mut Vec<Group>,
+    place: u64,
+    bytes: &[u8],
+    at: usize,
+) -> Result<(), AllocError>
+    requires inside { at + 64 ≤ length bytes.now }
+    requires place { place < 2 ^ 63 }
+    requires within { All (IsWithin (place / step)) groups.old.items }
+    ensures groups { (heads : List Head) → AreGroups heads groups.old.items → OnOk result (AreGroups (heads ++ head_in place (slice_range bytes.now at (at + 64))) groups.new.items) }
+    ensures within { place % step ≡ 0 → OnOk result (All (IsWithin (place / step + 1)) groups.new.items) }
+{
+    match key_within(bytes, at) {
+        Some(key) => add_head(groups, &Head { place, key }),
+        None => Ok(()),
+    }
+}
 
 /// Adds the headers that stand in bytes, which begin at a place of their file.
 fn add_heads(groups: &mut Vec<Group>, place: u64, bytes: &[u8]) -> Result<(), AllocError>
@@ -26,13 +46,7 @@ fn add_heads(groups: &mut Vec<Group>, place: u64, bytes: &[u8]) -> Result<(), Al
 {
     for i in 0..bytes.len() / STEP as usize {
         let at = i * STEP as usize;
-        if let Some(key) = key_within(bytes, at) {
-            let head = Head {
-                place: place + at as u64,
-                key,
-            };
-            add_head(groups, &head)?;
-        }
+        add_unit(groups, place + at as u64, bytes, at)?;
     }
     Ok(())
 }

@@ -1,9 +1,10 @@
 -- What is answered on the way to what is detected of a file.
-use Rattle.std.specs.Prelude.{◌≡◌, ℕ, ◌+◌, ◌-◌, ◌*◌, ◌<◌, ◌≤◌, ◌⊎◌, ◌==◌, ◌&&◌, ◌||◌, Bool, None, Some, true, if◌then◌else◌, nat_le, nat_lt, IsFalse, IsTrue, List, Option, find, length, map, not, slice_index_or}
+use Rattle.std.specs.Prelude.{◌≡◌, ℕ, ◌+◌, ◌-◌, ◌*◌, ◌<◌, ◌≤◌, ◌⊎◌, ◌==◌, ◌&&◌, ◌||◌, Bool, None, Some, true, if◌then◌else◌, nat_le, nat_lt, IsFalse, IsTrue, List, Option, find, length, map, not, option_map, slice_index_or}
 use Rattle.std.specs.Int.{IsGcd}
 use Rattle.std.specs.List.{All, list_all, list_any}
+use Rattle.std.specs.Option.{option_to_list}
 use Rattle.ubi_scan.specs.Groups.{IsGroup, greatest_size, spoken}
-use Rattle.ubi_scan.specs.Heads.{is_of, keys_of, same_key, same_offsets, step, with_key}
+use Rattle.ubi_scan.specs.Heads.{is_of, key_in, keys_of, same_key, same_offsets, step, with_key}
 use Rattle.ubi_scan.specs.declared.detect.DetectError.{DetectError}
 use Rattle.ubi_scan.specs.declared.detect.DetectError.TheVariants as error
 use Rattle.ubi_scan.specs.declared.groups.Group.{Group}
@@ -39,6 +40,10 @@ pub record AreGroups (heads : List Head) (gs : List Group) : Type 0 where
 pub record AreAdded (h : Head) (old new : List Group) : Type 0 where
   pub many : length new ≡ length old
   pub each : (i : ℕ) (d : Group) → i < length old → IsAdded h (slice_index_or old i d) (slice_index_or new i d)
+
+-- the header that 64 bytes at a place are, if they are one
+abbrev pub head_in : ℕ → List ℕ → List Head
+head_in place front = option_to_list (option_map (λ key. record { place = place; key = key }) (key_in front))
 
 -- these are groups of headers, and one of them is that of a key
 pub record AreReady (heads : List Head) (k : Key) (gs : List Group) : Type 0 where
