@@ -14,7 +14,7 @@ use Rattle.ubi_scan.specs.inner.Detecting.{AreGroups, head_in}
 -- n numbers and one more
 pub range_more : (n : ℕ) → range_with_len 0 (n + 1) ≡ range_with_len 0 n ++ n ∷ []
 range_more n =
-    sym (map-id (range_with_len 0 (n + 1))) ∙ map-range_with_len_more (λ x. x) 0 n n refl
+    sym (map-id (range_with_len 0 (n + 1))) ∙ map-range_with_len_more (λ x. x) 0 n n (omega arith)
     ∙ ap (λ xs. xs ++ n ∷ []) (map-id (range_with_len 0 n))
 
 one_or_none : {X : Type 0} (o : Option X) → cons_option o [] ≡ option_to_list o
@@ -61,3 +61,7 @@ module _ (all bytes : List ℕ) (place i : ℕ) (here : slice_range all place (p
 -- that many units of 64 bytes
 pub unit_inside : (i n : ℕ) → i < n / step → i * step + 64 ≤ n
 unit_inside i n below = let e = mod-add-div' n step in omega (arith, e, below)
+
+-- the unit of a place that is a number of units behind another
+pub unit_behind : (place i : ℕ) → place % step ≡ 0 → ((place + i * step) / step ≡ place / step + i) × ((place + i * step) % step ≡ 0)
+unit_behind place i begin = (omega (arith, begin), omega (arith, begin))

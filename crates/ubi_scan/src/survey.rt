@@ -1,7 +1,7 @@
 //! The headers of a source, which is read once, from its beginning to its end.
 
 ghost use Rattle.std.specs.List.{All};
-ghost use Rattle.std.specs.Prelude.{◌≡◌, ℕ, ◌+◌, ◌++◌, ◌/◌, ◌%◌, ◌<◌, ◌≤◌, ◌^◌, IfErr, IfOk, List, OnOk, length, slice_range};
+ghost use Rattle.std.specs.Prelude.{◌≡◌, ℕ, ◌+◌, ◌-◌, ◌++◌, ◌/◌, ◌%◌, ◌<◌, ◌≤◌, ◌^◌, IfErr, IfOk, List, OnOk, length, min, slice_range, vec_len};
 ghost use Rattle.ubi_scan.specs.Detected.{NamesPlace, after_detecting};
 ghost use Rattle.ubi_scan.specs.Heads.{heads_of, heads_to, step};
 ghost use Rattle.ubi_scan.specs.Source.{Narrows, WhereHeld};
@@ -51,6 +51,44 @@ fn add_heads(groups: &mut Vec<Group>, place: u64, bytes: &[u8]) -> Result<(), Al
     Ok(())
 }
 
+/// Adds the headers that stand in the bytes of a source from a place on, as many as fit in a window.
+///
+/// # Errors
+///
+/// Read where the read failed, Memory where it ran out.
+fn add_window<S: BlockSource>(
+    source: &mut S,
+    groups: &mut Vec<Group>,
+    window: &mut [u8],
+    at: u64,
+) -> Result<(), DetectError>
+    requires size { (S.known source.old).size < 2 ^ 63 }
+    requires place { at % step ≡ 0 }
+    requires inside { at < (S.known source.old).size }
+    requires within { All (IsWithin (at / step)) groups.old.items }
+    ensures window { length window.new ≡ length window.old }
+    ensures known { S.known source.new ≡ after_detecting (S.known source.old) result }
+    ensures narrows { Narrows (S.agrees source.old) (S.agrees source.new) }
+    ensures groups { OnOk result (WhereHeld (S.agrees source.new) (λ bytes. AreGroups (heads_to bytes (at / step)) groups.old.items → AreGroups (heads_to bytes (at / step + min ((S.known source.old).size - at) (length window.old) / step)) groups.new.items)) }
+    ensures within { OnOk result (All (IsWithin (at / step + min ((S.known source.old).size - at) (length window.old) / step)) groups.new.items) }
+    ensures failed { IfErr result (IsReadError (S.known source.old).size) }
+    ensures named { IfErr result (NamesPlace (S.failed_at source.new)) }
+{
+    let count = (source.len() - at).min(window.len() as u64) as usize;
+    let bytes = &mut window[..count];
+    match source.read(at, bytes) {
+        Ok(()) => Ok(add_heads(groups, at, bytes)?),
+        Err(_) => Err(DetectError::Read(at)),
+    }
+}
+
+/// So many zeros.
+fn zeros(alloc: Global, count: usize) -> Result<Vec<u8>, AllocError>
+    ensures { IfOk result (λ zeros. vec_len zeros ≡ count) }
+{
+    Vec::from_elem(alloc, 0u8, count)
+}
+
 /// The groups of the headers of a source.
 ///
 /// # Errors
@@ -68,16 +106,11 @@ pub fn read_groups<S: BlockSource>(
     ensures failed { IfErr result (IsReadError (S.known source.old).size) }
     ensures named { IfErr result (NamesPlace (S.failed_at source.new)) }
 {
-    let len = source.len();
     let mut groups = Vec::new(alloc);
-    let mut window = Vec::from_elem(alloc, 0u8, WINDOW)?;
-    for i in 0..len.div_ceil(WINDOW as u64) {
+    let mut window = zeros(alloc, WINDOW)?;
+    for i in 0..source.len().div_ceil(WINDOW as u64) {
         let at = i * WINDOW as u64;
-        let count = (len - at).min(WINDOW as u64) as usize;
-        if source.read(at, &mut window[..count]).is_err() {
-            return Err(DetectError::Read(at));
-        }
-        add_heads(&mut groups, at, &window[..count])?;
+        add_window(source, &mut groups, window.as_mut_slice(), at)?;
     }
     Ok(groups)
 }

@@ -3,7 +3,7 @@ use Rattle.std.specs.List.{All}
 use Rattle.ubi_scan.specs.Heads.{heads_to, step}
 use Rattle.ubi_scan.specs.declared.heads.Head.{Head}
 use Rattle.ubi_scan.specs.inner.Detecting.{AreGroups, IsWithin}
-use Rattle.ubi_scan.proofs.Surveyed.{heads_of_unit, unit_inside}
+use Rattle.ubi_scan.proofs.Surveyed.{heads_of_unit, unit_behind, unit_inside}
 use Rattle.ubi_scan.proofs.survey.add_heads.Goals as goal
 
 pub loop-i-preserved : goal.loop-i-preserved
@@ -13,7 +13,10 @@ loop-i-preserved c = record {
       subst P (sym (heads_of_unit all c.args.bytes.now c.args.place c.loop-i.i here c.requires.place
       (unit_inside c.loop-i.i (length c.args.bytes.now) c.loop-i-test.true)))
       (c.in_ok-add_unit.ensures.groups _ (c.loop-i.invariant.groups all here are));
-  within = ?;
+  within = let e = unit_behind c.args.place c.loop-i.i c.requires.place in
+      let P : ℕ → Type 0 = λ n. All (IsWithin n) c.add_unit.new.groups.items in
+      let f = e.0 in
+      subst P (omega (arith, f)) (c.in_ok-add_unit.ensures.within e.1);
 }
 
 pub returns-clause-groups : goal.returns-clause-groups
