@@ -1,8 +1,9 @@
 -- The headers of a file, unit by unit.
 use Rattle.std.proofs.Common.{◌≡◌, ℕ, ◌+◌, ◌-◌, ◌*◌, ◌/◌, ◌%◌, ◌<◌, ◌≤◌, List, [], ◌∷◌, ◌++◌, length, take, drop, slice_range, refl, ap, sym, ◌∙◌, subst, arith}
+use Rattle.std.specs.Int.{div_ceil}
 use Rattle.std.specs.List.{All, cons_option, filter_map, range_with_len}
 use Rattle.std.specs.Option.{option_to_list}
-use Rattle.std.specs.Prelude.{None, Option, Some, map}
+use Rattle.std.specs.Prelude.{min, None, Option, Some, map}
 use Rattle.std.proofs.Math.Nat.{mod-add-div'}
 use Rattle.std.proofs.lemmas.List.{drop-drop, drop-take, map-id, take-take}
 use Rattle.std.proofs.lemmas.List.Elements.{filter_map-append}
@@ -65,3 +66,17 @@ unit_inside i n below = let e = mod-add-div' n step in omega (arith, e, below)
 -- the unit of a place that is a number of units behind another
 pub unit_behind : (place i : ℕ) → place % step ≡ 0 → ((place + i * step) / step ≡ place / step + i) × ((place + i * step) % step ≡ 0)
 unit_behind place i begin = (omega (arith, begin), omega (arith, begin))
+
+-- the units in one window more, and those in all windows
+pub next_window : (i n : ℕ) → i * 65536 < n
+    → (min (i * 1024) (n / step) ≡ i * 65536 / step) × (min ((i + 1) * 1024) (n / step) ≡ i * 65536 / step + min (n - i * 65536) 65536 / step)
+next_window i n more = (omega (arith, more), omega (arith, more))
+
+pub all_windows : (i n : ℕ) → n ≤ i * 65536 → min (i * 1024) (n / step) ≡ n / step
+all_windows i n done = omega (arith, done)
+
+pub below_ceil : (i n : ℕ) {m : ℕ} → m ≡ div_ceil n 65536 → i < m → i * 65536 < n
+below_ceil i n e less = omega (arith, e, less)
+
+pub past_ceil : (i n : ℕ) {m : ℕ} → m ≡ div_ceil n 65536 → m ≤ i → n ≤ i * 65536
+past_ceil i n e more = omega (arith, e, more)
