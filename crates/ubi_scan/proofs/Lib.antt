@@ -37,6 +37,7 @@ pub mod Seq
 pub mod Shown
 pub mod SoFar
 pub mod Stands
+pub mod Tested
 pub mod Told
 pub mod Surveyed
 pub mod Tops

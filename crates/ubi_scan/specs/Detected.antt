@@ -1,8 +1,9 @@
 -- What is detected of the geometry of a file, or why nothing is.
 use Rattle.std.specs.Prelude.{◌≡◌, ◌≢◌, ℕ, ◌-◌, ◌<◌, ◌≤◌, ◌⊎◌, IsFalse, IsTrue, List, [], Result, Err, length}
-use Rattle.ubi_scan.specs.Groups.{IsImage, IsPlain}
+use Rattle.ubi_scan.specs.Groups.{IsImage}
 use Rattle.ubi_scan.specs.Heads.{heads_of}
 use Rattle.ubi_scan.specs.Place.{end_of_last, told, ways_with}
+use Rattle.ubi_scan.specs.Plain.{IsSurelyPlain}
 use Rattle.ubi_scan.specs.Source.{Agreed, Source, WhereHeld, failed}
 use Rattle.ubi_scan.specs.Sure.{is_sure}
 use Rattle.ubi_scan.specs.declared.detect.DetectError.{DetectError}
@@ -12,15 +13,11 @@ use Rattle.ubi_scan.specs.declared.detect.Undetected.{Undetected}
 use Rattle.ubi_scan.specs.declared.detect.Undetected.TheVariants as cause
 use Rattle.ubi_scan.specs.declared.groups.Group.{Group}
 
--- a file is plainly an image, and its size is sure
-abbrev pub IsSurelyPlain : List ℕ → Group → Type 0
-IsSurelyPlain bytes g = IsPlain bytes g × IsTrue (is_sure bytes g)
-
--- it isn't
+-- no group is plainly that of the file's image
 abbrev pub NonePlain : List ℕ → Type 0
 NonePlain bytes = (g : Group) → IsSurelyPlain bytes g → ⊥
 
--- it isn't, and this is the group of the image that its headers say, of which the last eraseblock is all there
+-- this is the group of the image that its headers say, where none plainly is, of which the last eraseblock is all there
 pub record IsWhole (bytes : List ℕ) (g : Group) : Type 0 where
   pub none : NonePlain bytes
   pub index : ℕ

@@ -1,8 +1,8 @@
 -- What a group of headers says of the size of eraseblocks, and which group is that of the image.
-use Rattle.std.specs.Prelude.{◌≡◌, ◌≢◌, ℕ, ◌+◌, ◌-◌, ◌*◌, ◌/◌, ◌%◌, ◌<◌, ◌≤◌, ◌⊎◌, IsTrue, List, None, Some, length, slice_index_or}
+use Rattle.std.specs.Prelude.{◌≡◌, ℕ, ◌-◌, ◌*◌, ◌<◌, ◌≤◌, ◌⊎◌, IsTrue, List, length, slice_index_or}
 use Rattle.std.specs.Int.{◌∣◌}
 use Rattle.std.specs.List.{All}
-use Rattle.ubi_scan.specs.Heads.{first_place, heads_of, is_of, key_at, keys_of, last_place, places, speaks, step}
+use Rattle.ubi_scan.specs.Heads.{first_place, keys_of, last_place, places, speaks}
 use Rattle.ubi_scan.specs.declared.groups.Group.{Group}
 use Rattle.ubi_scan.specs.declared.heads.Head.{Head}
 use Rattle.ubi_scan.specs.declared.heads.Key.{Key}
@@ -50,17 +50,3 @@ spoken g = g.count * g.size
 pub record IsImage (heads : List Head) (j : ℕ) (g : Group) : Type 0 where
   pub says : Says heads j g
   pub most : (i : ℕ) (f : Group) → Says heads i f → (spoken f < spoken g) ⊎ ((spoken f ≡ spoken g) × (j ≤ i))
-
--- the n bytes of a file are plainly eraseblocks of one image: whole ones, two or more, each of which starts with a header of it; and
--- no other header stands in the first two
-pub record IsPlain (bytes : List ℕ) (g : Group) : Type 0 where
-  pub first : g.first ≡ 0
-  pub last : g.last + g.size ≡ length bytes
-  pub count : g.count * g.size ≡ length bytes
-  pub two : 2 ≤ g.count
-  pub from : 1 ≤ g.size
-  pub to : g.size ≤ greatest_size
-  pub units : g.size % step ≡ 0
-  pub each : (i : ℕ) → i < g.count → (k : Key) × (key_at bytes (i * g.size) ≡ Some k) × IsTrue (is_of g.key k)
-  pub named : (i : ℕ) × (k : Key) × (i < g.count) × (key_at bytes (i * g.size) ≡ Some k) × (k.image_seq ≡ g.key.image_seq)
-  pub alone : (u : ℕ) → u * step < 2 * g.size → (u * step) % g.size ≢ 0 → key_at bytes (u * step) ≡ None

@@ -3,10 +3,10 @@ use Rattle.std.specs.Prelude.{ℕ, ◌+◌, ◌-◌, ◌*◌, ◌/◌, ◌==◌,
 use Rattle.std.specs.List.{prefix_len, range_with_len}
 use Rattle.ubi_media.specs.Vid.{vid_magic}
 use Rattle.ubi_scan.specs.Sure.{block_at, blocks, is_blank, is_start, number_at}
-use Rattle.ubi_scan.specs.Ways.{plain_ways, put, ways}
+use Rattle.ubi_scan.specs.Ways.{has_no_way, plain_ways, put, ways}
 use Rattle.ubi_scan.specs.declared.detect.Detected.{Detected}
 use Rattle.ubi_scan.specs.declared.groups.Group.{Group}
-use Rattle.ubi_scan.specs.declared.ways.Way.{Way}
+use Rattle.ubi_scan.specs.declared.way.Way.{Way}
 
 -- how many of n numbers, from 0 on, pass a test before one doesn't
 abbrev pub run : (ℕ → Bool) → ℕ → ℕ
@@ -29,10 +29,13 @@ end_of_image bytes g =
 abbrev pub has_vid : List ℕ → Way → ℕ → Bool
 has_vid bytes w p = number_at bytes (p + put w w.geometry.vid_offset) == vid_magic
 
--- in how many of the eraseblocks that start with a header it does
+-- how many eraseblocks that start with a header of a group pass a test
+abbrev pub count_starts : List ℕ → Group → (ℕ → Bool) → ℕ
+count_starts bytes g test = count_by (λ i. is_start bytes g (block_at g i) && test (block_at g i)) (range_with_len 0 (blocks g))
+
+-- in how many of these the magic does
 abbrev pub votes : List ℕ → Group → Way → ℕ
-votes bytes g w =
-    count_by (λ i. is_start bytes g (block_at g i) && has_vid bytes w (block_at g i)) (range_with_len 0 (blocks g))
+votes bytes g w = count_starts bytes g (has_vid bytes w)
 
 -- the most votes that one of some ways has
 abbrev pub top_vote : List ℕ → Group → List Way → ℕ
@@ -47,7 +50,7 @@ ways_without g = plain_ways g.size g.key.offsets
 
 -- whether the pages have no out-of-band bytes: the size isn't one with them, or more volume-identifier headers say so
 abbrev pub is_without : List ℕ → Group → Bool
-is_without bytes g = (length (ways_with g) == 0) || nat_lt (top_vote bytes g (ways_with g)) (top_vote bytes g (ways_without g))
+is_without bytes g = has_no_way g.size g.key.offsets || nat_lt (top_vote bytes g (ways_with g)) (top_vote bytes g (ways_without g))
 
 -- whether a way with out-of-band bytes has the most votes, and one at least
 abbrev pub is_voted : List ℕ → Group → Way → Bool

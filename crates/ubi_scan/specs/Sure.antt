@@ -1,5 +1,5 @@
 -- Whether the size that a group of headers says is sure: what stands at the places of its eraseblocks.
-use Rattle.std.specs.Prelude.{ℕ, ◌+◌, ◌-◌, ◌*◌, ◌/◌, ◌%◌, ◌==◌, ◌&&◌, ◌||◌, Bool, List, ◌++◌, Option, None, Some, false, if◌then◌else◌, length, nat_le, nat_lt, not, slice_range}
+use Rattle.std.specs.Prelude.{[], ◌∷◌, map, ℕ, ◌+◌, ◌-◌, ◌*◌, ◌/◌, ◌%◌, ◌==◌, ◌&&◌, ◌||◌, Bool, List, ◌++◌, Option, None, Some, false, if◌then◌else◌, length, nat_le, nat_lt, not, slice_range}
 use Rattle.std.specs.List.{list_all, list_any, range_with_len}
 use Rattle.ubi_media.specs.Fields.{field}
 use Rattle.ubi_media.specs.Geometry.{slots}
@@ -8,10 +8,10 @@ use Rattle.ubi_media.specs.Vid.{vid_magic}
 use Rattle.ubi_media.specs.declared.ec.EcOffsets.{EcOffsets}
 use Rattle.ubi_scan.specs.Heads.{is_of, key_at, step}
 use Rattle.ubi_scan.specs.Members.{layout}
-use Rattle.ubi_scan.specs.Ways.{plain_ways, put, ways}
+use Rattle.ubi_scan.specs.Ways.{has_no_way, plain_ways, put, ways}
 use Rattle.ubi_scan.specs.declared.groups.Group.{Group}
 use Rattle.ubi_scan.specs.declared.heads.Key.{Key}
-use Rattle.ubi_scan.specs.declared.ways.Way.{Way}
+use Rattle.ubi_scan.specs.declared.way.Way.{Way}
 
 -- whether the n bytes at a place are there, and all b
 abbrev pub all_are : ℕ → ℕ → List ℕ → ℕ → Bool
@@ -43,7 +43,7 @@ is_member k None = false
 is_member k (Some l) = is_of k l
 
 abbrev pub is_start : List ℕ → Group → ℕ → Bool
-is_start bytes g p = is_member g.key (key_at bytes p)
+is_start bytes g p = nat_le (p + 64) (length bytes) && is_member g.key (key_at bytes p)
 
 -- whether one of them does of which a test holds
 abbrev pub some_start : List ℕ → Group → (ℕ → Bool) → Bool
@@ -57,9 +57,22 @@ has_room o q = nat_le (o.data_offset + 64) q
 abbrev pub is_dense : Group → Bool
 is_dense g = nat_lt (blocks g) (2 * g.count)
 
--- whether an eraseblock ends with 16 bytes 0xFF, as those of the volume table do
-abbrev pub ends_blank : List ℕ → Group → ℕ → Bool
-ends_blank bytes g p = all_are 0xFF 16 bytes (p + g.size - 16)
+-- whether headers of eraseblocks of half or a quarter of this size would all be seen: they stand at multiples of 64, or no page with
+-- out-of-band bytes fits them
+abbrev pub is_seen : Group → Bool
+is_seen g = (g.size % (2 * step) == 0) || (has_no_way (g.size / 2) g.key.offsets && has_no_way (g.size / 4) g.key.offsets)
+
+-- whether an eraseblock ends with 16 bytes 0xFF, as those of the volume table do, but for b out-of-band bytes of its last page
+abbrev pub ends_blank : List ℕ → Group → ℕ → ℕ → Bool
+ends_blank bytes g b p = all_are 0xFF 16 bytes (p + g.size - (b + 16))
+
+-- how many out-of-band bytes its pages may have
+abbrev pub backs : Group → List ℕ
+backs g = 0 ∷ map (λ w. w.oob) (ways g.size g.key.offsets)
+
+-- whether an eraseblock that starts with a header ends so
+abbrev pub some_ends_blank : List ℕ → Group → Bool
+some_ends_blank bytes g = list_any (λ b. some_start bytes g (ends_blank bytes g b)) (backs g)
 
 -- whether it holds a copy of the volume table: its volume-identifier header says so, and the place of the table's last record isn't
 -- blank
@@ -71,13 +84,17 @@ holds_table bytes w p =
 
 -- which copy it is, by the same header
 abbrev pub copy_at : List ℕ → Way → ℕ → ℕ
-copy_at bytes w p = number_at bytes (p + put w w.geometry.vid_offset + 12)
+copy_at bytes w p = number_at bytes (p + (put w w.geometry.vid_offset + 12))
 
--- whether it and the next one, which starts with a header too, hold the two copies
+-- whether two eraseblocks hold the two copies
+abbrev pub have_copies : List ℕ → Way → ℕ → ℕ → Bool
+have_copies bytes w p next =
+    holds_table bytes w p && holds_table bytes w next && not (copy_at bytes w p == copy_at bytes w next)
+
+-- whether an eraseblock and the next one, which starts with a header too, hold them
 abbrev pub meets : List ℕ → Group → Way → ℕ → Bool
 meets bytes g w p =
-    nat_le (p + g.size) g.last && is_start bytes g (p + g.size) && holds_table bytes w p && holds_table bytes w (p + g.size)
-    && not (copy_at bytes w p == copy_at bytes w (p + g.size))
+    nat_le (p + g.size) g.last && is_start bytes g (p + g.size) && have_copies bytes w p (p + g.size)
 
 -- whether two eraseblocks that follow each other do
 abbrev pub tables_meet : List ℕ → Group → Bool
@@ -93,8 +110,12 @@ abbrev pub may_be_parts : EcOffsets → ℕ → ℕ → Bool
 may_be_parts o q d = (q % (d * step) == 0) && has_room o (q / d) && is_prime d
 
 -- whether a test holds where a part of an eraseblock would begin, of d parts, but for the first one
+abbrev pub some_part : Group → ℕ → (ℕ → Bool) → ℕ → Bool
+some_part g d test p = list_any (λ j. test (p + j * (g.size / d))) (range_with_len 1 (d - 1))
+
+-- the same of an eraseblock before that of the last header
 abbrev pub some_inner : Group → ℕ → (ℕ → Bool) → ℕ → Bool
-some_inner g d test p = nat_lt p g.last && list_any (λ j. test (p + j * (g.size / d))) (range_with_len 1 (d - 1))
+some_inner g d test p = nat_lt p g.last && some_part g d test p
 
 -- whether something stands there behind 16 bytes 0xFF, as nothing does in an eraseblock that is written from its beginning on
 abbrev pub is_hole : List ℕ → ℕ → Bool
@@ -111,9 +132,16 @@ abbrev pub is_whole_size : List ℕ → Group → Bool
 is_whole_size bytes g =
     list_all (λ d. not (may_be_parts g.key.offsets g.size d) || are_no_parts bytes g d) (range_with_len 2 (g.size / step))
 
--- whether the size that a group says is sure: there is room, more than half of the eraseblocks start with a header, and one of these ends
--- blank; and two neighbours hold the two copies of the volume table, or there are three headers, and no part could be the size
+-- whether the size that a group says is sure: there is room, more than half of the eraseblocks start with a header, no other header of
+-- theirs could be unseen, and one of these ends blank; and two neighbours hold the two copies of the volume table, or there are three
+-- headers, and no part could be the size
 abbrev pub is_sure : List ℕ → Group → Bool
 is_sure bytes g =
-    has_room g.key.offsets g.size && is_dense g && some_start bytes g (ends_blank bytes g)
+    has_room g.key.offsets g.size && is_dense g && is_seen g && some_ends_blank bytes g
     && (tables_meet bytes g || (nat_le 3 g.count && is_whole_size bytes g))
+
+-- whether a header of the group stands where a part of an eraseblock could begin
+abbrev pub has_inner_start : List ℕ → Group → Bool
+has_inner_start bytes g =
+    list_any (λ d. may_be_parts g.key.offsets g.size d && some_start bytes g (some_part g d (is_start bytes g)))
+    (range_with_len 2 (g.size / step))

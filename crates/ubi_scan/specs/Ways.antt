@@ -1,11 +1,11 @@
 -- The pages that eraseblocks of a size may have, with out-of-band bytes or without.
-use Rattle.std.specs.Prelude.{ℕ, ◌+◌, ◌-◌, ◌*◌, ◌/◌, ◌%◌, ◌==◌, ◌&&◌, Bool, List, [], ◌∷◌, Option, filter_map, nat_le, nat_lt, option_map}
+use Rattle.std.specs.Prelude.{ℕ, ◌+◌, ◌-◌, ◌*◌, ◌/◌, ◌%◌, ◌==◌, ◌&&◌, Bool, List, [], ◌∷◌, Option, filter_map, length, nat_le, nat_lt, option_map}
 use Rattle.std.specs.Bool.{then_some}
 use Rattle.std.specs.List.{flat_map}
 use Rattle.ubi_media.specs.Geometry.{page_sizes}
 use Rattle.ubi_media.specs.declared.ec.EcOffsets.{EcOffsets}
 use Rattle.ubi_scan.specs.Layout.{geometry_of, is_laid_out, sizes_of}
-use Rattle.ubi_scan.specs.declared.ways.Way.{Way}
+use Rattle.ubi_scan.specs.declared.way.Way.{Way}
 
 -- a page without out-of-band bytes
 abbrev pub plain_way : ℕ → EcOffsets → ℕ → Option Way
@@ -29,6 +29,10 @@ way_of q o page n =
 -- all of these, the least page first, and of one page the fewest pages first
 abbrev pub ways : ℕ → EcOffsets → List Way
 ways q o = flat_map (λ page. filter_map (way_of q o page) page_counts) page_sizes
+
+-- whether there is none
+abbrev pub has_no_way : ℕ → EcOffsets → Bool
+has_no_way q o = length (ways q o) == 0
 
 -- where the place x of an eraseblock without its out-of-band bytes stands in one with them
 abbrev pub put : Way → ℕ → ℕ

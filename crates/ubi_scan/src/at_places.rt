@@ -1,6 +1,7 @@
 //! What stands at single places of a source, and at the places of the eraseblocks of a group.
 
-ghost use Rattle.std.specs.Prelude.{◌≡◌, ℕ, ◌+◌, ◌<◌, ◌≤◌, ◌^◌, ◌↔◌, Bool, IfErr, IfOk, IsTrue, List, length, slice_range};
+ghost use Rattle.std.specs.List.{list_all};
+ghost use Rattle.std.specs.Prelude.{◌≡◌, ◌+◌, ◌<◌, ◌≤◌, ◌^◌, ◌==◌, IfErr, IfOk, IsTrue, length, nat_le, slice_range};
 ghost use Rattle.ubi_scan.specs.Detected.{NamesPlace, after_detecting};
 ghost use Rattle.ubi_scan.specs.Heads.{key_at};
 ghost use Rattle.ubi_scan.specs.Source.{Narrows, WhereHeld};
@@ -23,22 +24,29 @@ fn read_there<S: BlockSource>(
     at: u64,
     out: &mut [u8],
 ) -> Result<bool, DetectError>
+    requires size { (S.known source.old).size < 2 ^ 63 }
     requires some { 1 ≤ length out.old }
     ensures known { S.known source.new ≡ after_detecting (S.known source.old) result }
     ensures narrows { Narrows (S.agrees source.old) (S.agrees source.new) }
-    ensures there { IfOk result (λ there. IsTrue there ↔ (at + length out.old ≤ (S.known source.old).size)) }
+    ensures there { IfOk result (λ there. WhereHeld (S.agrees source.new) (λ bytes. there ≡ nat_le (at + length out.old) (length bytes))) }
     ensures bytes { IfOk result (λ there. IsTrue there → WhereHeld (S.agrees source.new) (λ bytes. out.new ≡ slice_range bytes at (at + length out.old))) }
     ensures failed { IfErr result (IsReadAt (S.known source.old).size) }
     ensures named { IfErr result (NamesPlace (S.failed_at source.new)) }
 {
-    let len = source.len();
-    if at > len || len - at < out.len() as u64 {
+    if at.saturating_add(out.len() as u64) > source.len() {
         return Ok(false);
     }
     match source.read(at, out) {
         Ok(()) => Ok(true),
         Err(_) => Err(DetectError::Read(at)),
     }
+}
+
+/// Whether bytes are all `byte`.
+fn are_all(bytes: &[u8], byte: u8) -> bool
+    ensures { result ≡ list_all (λ x. x == byte) bytes.now }
+{
+    bytes.iter().all(|b| *b == byte)
 }
 
 /// Whether the `count` bytes at a place of a source are there, and all `byte`.
@@ -52,6 +60,7 @@ pub fn all_are<S: BlockSource>(
     count: usize,
     at: u64,
 ) -> Result<bool, DetectError>
+    requires size { (S.known source.old).size < 2 ^ 63 }
     requires some { 1 ≤ count }
     requires few { count ≤ 64 }
     ensures known { S.known source.new ≡ after_detecting (S.known source.old) result }
@@ -62,8 +71,11 @@ pub fn all_are<S: BlockSource>(
 {
     let mut bytes = [0u8; 64];
     let out = &mut bytes[..count];
-    let is_there = read_there(source, at, out)?;
-    Ok(is_there && out.iter().all(|b| *b == byte))
+    if read_there(source, at, out)? {
+        Ok(are_all(out, byte))
+    } else {
+        Ok(false)
+    }
 }
 
 /// The number in the four bytes at a place of a source; 0 where they aren't there.
@@ -72,6 +84,7 @@ pub fn all_are<S: BlockSource>(
 ///
 /// Read where the read failed.
 pub fn number_at<S: BlockSource>(source: &mut S, at: u64) -> Result<u32, DetectError>
+    requires { (S.known source.old).size < 2 ^ 63 }
     ensures known { S.known source.new ≡ after_detecting (S.known source.old) result }
     ensures narrows { Narrows (S.agrees source.old) (S.agrees source.new) }
     ensures is { IfOk result (λ number. WhereHeld (S.agrees source.new) (λ bytes. number ≡ number_at bytes at)) }
@@ -106,7 +119,7 @@ pub fn key_at<S: BlockSource>(source: &mut S, at: u64) -> Result<Option<Key>, De
     }
 }
 
-/// Whether an eraseblock starts with a header of a group.
+/// Whether an eraseblock that begins at a place of a source starts with a header of a group.
 ///
 /// # Errors
 ///
@@ -116,35 +129,19 @@ pub fn is_start<S: BlockSource>(
     group: &Group,
     at: u64,
 ) -> Result<bool, DetectError>
-    requires { at + 64 ≤ (S.known source.old).size }
+    requires { (S.known source.old).size < 2 ^ 63 }
     ensures known { S.known source.new ≡ after_detecting (S.known source.old) result }
     ensures narrows { Narrows (S.agrees source.old) (S.agrees source.new) }
     ensures is { IfOk result (λ is. WhereHeld (S.agrees source.new) (λ bytes. is ≡ is_start bytes group.now at)) }
     ensures failed { IfErr result (IsReadAt (S.known source.old).size) }
     ensures named { IfErr result (NamesPlace (S.failed_at source.new)) }
 {
-    match key_at(source, at)? {
+    let mut bytes = [0u8; 64];
+    if !read_there(source, at, &mut bytes)? {
+        return Ok(false);
+    }
+    match key_in(&bytes) {
         Some(key) => Ok(group.key.owns(&key)),
         None => Ok(false),
     }
-}
-
-/// A test of what an eraseblock holds that begins at a place of a source.
-pub trait BlockTest {
-    // Whether it holds of the eraseblock that begins at a place of some bytes.
-    ghost holds: { Self → List ℕ → ℕ → Bool };
-
-    /// Whether it holds of the eraseblock that begins at a place.
-    ///
-    /// # Errors
-    ///
-    /// Read where a read failed.
-    fn holds<S: BlockSource>(&self, source: &mut S, at: u64) -> Result<bool, DetectError>
-        requires size { (S.known source.old).size < 2 ^ 63 }
-        requires inside { at ≤ (S.known source.old).size }
-        ensures known { S.known source.new ≡ after_detecting (S.known source.old) result }
-        ensures narrows { Narrows (S.agrees source.old) (S.agrees source.new) }
-        ensures answer { IfOk result (λ answer. WhereHeld (S.agrees source.new) (λ bytes. answer ≡ holds self.now bytes at)) }
-        ensures failed { IfErr result (IsReadAt (S.known source.old).size) }
-        ensures named { IfErr result (NamesPlace (S.failed_at source.new)) };
 }

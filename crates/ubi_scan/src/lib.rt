@@ -32,6 +32,7 @@
 #![tactic(auto)]
 
 mod at_places;
+mod block_tests;
 mod blocks;
 mod candidate;
 mod counts;
@@ -50,8 +51,10 @@ mod reading;
 mod scanning;
 mod size;
 mod source;
+mod sure;
 mod survey;
 mod trace;
+mod way;
 mod ways;
 mod window;
 

@@ -1,10 +1,11 @@
 //! The pages that eraseblocks of a size may have, with out-of-band bytes or without.
 
 ghost use Rattle.std.specs.List.{filter_map};
-ghost use Rattle.std.specs.Prelude.{◌≡◌, ◌++◌, ◌<◌, ◌≤◌, IfOk, OnOk};
+ghost use Rattle.std.specs.Prelude.{◌≡◌, ◌++◌, ◌<◌, ◌≤◌, ◌^◌, IfOk, OnOk};
 ghost use Rattle.ubi_scan.specs.Layout.{geometry_of};
-ghost use Rattle.ubi_scan.specs.Ways.{page_counts, plain_ways, put, way_of, ways};
+ghost use Rattle.ubi_scan.specs.Ways.{has_no_way, page_counts, plain_ways, put, way_of, ways};
 
+use crate::way::Way;
 use std::alloc::{AllocError, Global};
 use ubi_media::{EcOffsets, Geometry, MOST_PEBS, PAGE_SIZES};
 
@@ -14,19 +15,11 @@ const HEADER_SIZE: u64 = 64;
 /// How many pages an eraseblock with out-of-band bytes may have.
 const PAGE_COUNTS: [u32; 8] = [16, 32, 64, 128, 256, 512, 1024, 2048];
 
-/// A geometry, and how many out-of-band bytes lie behind each page of it.
-#[derive(Clone, Copy, Debug, PartialEq, Eq)]
-pub struct Way {
-    /// The sizes without out-of-band bytes.
-    pub geometry: Geometry,
-    /// The out-of-band bytes of a page.
-    pub oob: u32,
-}
-
 impl Way {
     /// Where a place of an eraseblock without its out-of-band bytes stands in one with them.
     pub fn put(&self, place: u32) -> u64
-        ensures { result ≡ put self.now place }
+        ensures place { result ≡ put self.now place }
+        ensures few { result < 2 ^ 60 }
     {
         let (page, oob) = (self.geometry.page(), self.oob);
         u64::from(place / page) * (u64::from(page) + u64::from(oob)) + u64::from(place % page)
@@ -116,4 +109,16 @@ pub fn ways(alloc: Global, size: u32, offsets: &EcOffsets) -> Result<Vec<Way>, A
         push_ways(&mut found, size, offsets, *page)?;
     }
     Ok(found)
+}
+
+/// Whether eraseblocks of a size have no pages with out-of-band bytes.
+///
+/// # Errors
+///
+/// Memory ran out.
+pub fn has_no_way(alloc: Global, size: u32, offsets: &EcOffsets) -> Result<bool, AllocError>
+    ensures { IfOk result (λ none. none ≡ has_no_way size offsets.now) }
+{
+    let found = ways(alloc, size, offsets)?;
+    Ok(found.is_empty())
 }

@@ -102,3 +102,10 @@ abbrev pub IsReadError : ℕ → DetectError → Type 0
 IsReadError size (error.Undetected _) = ⊥
 IsReadError size (error.Read at) = at < size
 IsReadError size error.Memory = Unit {0}
+
+-- the headers of a group, and the eraseblocks between them, lie in a source of n bytes
+pub record LiesIn (n : ℕ) (g : Group) : Type 0 where
+  pub from : 1 ≤ g.size
+  pub to : g.size ≤ greatest_size
+  pub order : g.first ≤ g.last
+  pub last : g.last + step ≤ n

@@ -1,5 +1,5 @@
 use Rattle.std.proofs.Common.{◌≡◌, ◌∙◌, ◌++◌, List, ap, get_or, sym, take, ℕ}
-use Rattle.ubi_scan.specs.declared.ways.Way.{Way}
+use Rattle.ubi_scan.specs.declared.way.Way.{Way}
 use Rattle.std.specs.List.{filter_map, flat_map}
 use Rattle.std.proofs.lemmas.List.{take_all}
 use Rattle.ubi_media.specs.Geometry.{page_sizes}
