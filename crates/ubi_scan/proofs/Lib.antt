@@ -18,6 +18,7 @@ pub mod Finite
 pub mod Grouped
 pub mod Held
 pub mod InMemory
+pub mod InTurn
 pub mod Keys
 pub mod Least
 pub mod Magics

@@ -1,5 +1,5 @@
 -- Whether the size that a group of headers says is sure: what stands at the places of its eraseblocks.
-use Rattle.std.specs.Prelude.{[], ◌∷◌, map, ℕ, ◌+◌, ◌-◌, ◌*◌, ◌/◌, ◌%◌, ◌==◌, ◌&&◌, ◌||◌, Bool, List, ◌++◌, Option, None, Some, false, if◌then◌else◌, length, nat_le, nat_lt, not, slice_range}
+use Rattle.std.specs.Prelude.{ℕ, ◌+◌, ◌-◌, ◌*◌, ◌/◌, ◌%◌, ◌==◌, ◌&&◌, ◌||◌, Bool, List, Option, None, Some, false, if◌then◌else◌, length, nat_le, nat_lt, not, slice_range}
 use Rattle.std.specs.List.{list_all, list_any, range_with_len}
 use Rattle.ubi_media.specs.Fields.{field}
 use Rattle.ubi_media.specs.Geometry.{slots}
@@ -66,13 +66,11 @@ is_seen g = (g.size % (2 * step) == 0) || (has_no_way (g.size / 2) g.key.offsets
 abbrev pub ends_blank : List ℕ → Group → ℕ → ℕ → Bool
 ends_blank bytes g b p = all_are 0xFF 16 bytes (p + g.size - (b + 16))
 
--- how many out-of-band bytes its pages may have
-abbrev pub backs : Group → List ℕ
-backs g = 0 ∷ map (λ w. w.oob) (ways g.size g.key.offsets)
-
--- whether an eraseblock that starts with a header ends so
+-- whether an eraseblock that starts with a header ends so, without out-of-band bytes or with those that its pages may have
 abbrev pub some_ends_blank : List ℕ → Group → Bool
-some_ends_blank bytes g = list_any (λ b. some_start bytes g (ends_blank bytes g b)) (backs g)
+some_ends_blank bytes g =
+    some_start bytes g (ends_blank bytes g 0)
+    || list_any (λ w. some_start bytes g (ends_blank bytes g w.oob)) (ways g.size g.key.offsets)
 
 -- whether it holds a copy of the volume table: its volume-identifier header says so, and the place of the table's last record isn't
 -- blank
@@ -96,26 +94,29 @@ abbrev pub meets : List ℕ → Group → Way → ℕ → Bool
 meets bytes g w p =
     nat_le (p + g.size) g.last && is_start bytes g (p + g.size) && have_copies bytes w p (p + g.size)
 
--- whether two eraseblocks that follow each other do
+-- whether two eraseblocks that follow each other do, in one of some ways
+abbrev pub meet_in : List ℕ → Group → List Way → Bool
+meet_in bytes g ws = list_any (λ w. some_start bytes g (meets bytes g w)) ws
+
+-- whether they do, without out-of-band bytes or with them
 abbrev pub tables_meet : List ℕ → Group → Bool
-tables_meet bytes g =
-    list_any (λ w. some_start bytes g (meets bytes g w)) (plain_ways g.size g.key.offsets ++ ways g.size g.key.offsets)
+tables_meet bytes g = meet_in bytes g (plain_ways g.size g.key.offsets) || meet_in bytes g (ways g.size g.key.offsets)
 
 -- whether no number but 1 and n divides n
 abbrev pub is_prime : ℕ → Bool
-is_prime n = list_all (λ d. not (n % d == 0)) (range_with_len 2 (n - 2))
+is_prime n = list_all (λ e. not (n % (e + 2) == 0)) (range_with_len 0 (n - 2))
 
 -- whether eraseblocks of q bytes may be d of the true ones: d is a prime, and a part has whole units, and room
 abbrev pub may_be_parts : EcOffsets → ℕ → ℕ → Bool
 may_be_parts o q d = (q % (d * step) == 0) && has_room o (q / d) && is_prime d
 
--- whether a test holds where a part of an eraseblock would begin, of d parts, but for the first one
-abbrev pub some_part : Group → ℕ → (ℕ → Bool) → ℕ → Bool
-some_part g d test p = list_any (λ j. test (p + j * (g.size / d))) (range_with_len 1 (d - 1))
+-- whether a test holds where a part of an eraseblock of q bytes would begin, of d parts, but for the first one
+abbrev pub some_part : ℕ → ℕ → (ℕ → Bool) → ℕ → Bool
+some_part q d test p = list_any (λ j. test (p + (j + 1) * (q / d))) (range_with_len 0 (d - 1))
 
 -- the same of an eraseblock before that of the last header
-abbrev pub some_inner : Group → ℕ → (ℕ → Bool) → ℕ → Bool
-some_inner g d test p = nat_lt p g.last && some_part g d test p
+abbrev pub some_inner : ℕ → ℕ → ℕ → (ℕ → Bool) → ℕ → Bool
+some_inner last q d test p = nat_lt p last && some_part q d test p
 
 -- whether something stands there behind 16 bytes 0xFF, as nothing does in an eraseblock that is written from its beginning on
 abbrev pub is_hole : List ℕ → ℕ → Bool
@@ -125,12 +126,13 @@ is_hole bytes at = is_filled bytes at && all_are 0xFF 16 bytes (at - 16)
 -- behind blank bytes
 abbrev pub are_no_parts : List ℕ → Group → ℕ → Bool
 are_no_parts bytes g d =
-    some_start bytes g (some_inner g d (is_filled bytes)) && not (some_start bytes g (some_inner g d (is_hole bytes)))
+    some_start bytes g (some_inner g.last g.size d (is_filled bytes))
+    && not (some_start bytes g (some_inner g.last g.size d (is_hole bytes)))
 
 -- whether they are no number of the true ones
 abbrev pub is_whole_size : List ℕ → Group → Bool
 is_whole_size bytes g =
-    list_all (λ d. not (may_be_parts g.key.offsets g.size d) || are_no_parts bytes g d) (range_with_len 2 (g.size / step))
+    list_all (λ i. not (may_be_parts g.key.offsets g.size (i + 2)) || are_no_parts bytes g (i + 2)) (range_with_len 0 (g.size / step))
 
 -- whether the size that a group says is sure: there is room, more than half of the eraseblocks start with a header, no other header of
 -- theirs could be unseen, and one of these ends blank; and two neighbours hold the two copies of the volume table, or there are three
@@ -143,5 +145,5 @@ is_sure bytes g =
 -- whether a header of the group stands where a part of an eraseblock could begin
 abbrev pub has_inner_start : List ℕ → Group → Bool
 has_inner_start bytes g =
-    list_any (λ d. may_be_parts g.key.offsets g.size d && some_start bytes g (some_part g d (is_start bytes g)))
-    (range_with_len 2 (g.size / step))
+    list_any (λ i. may_be_parts g.key.offsets g.size (i + 2) && some_start bytes g (some_part g.size (i + 2) (is_start bytes g)))
+    (range_with_len 0 (g.size / step))

@@ -17,6 +17,9 @@ pub trait BlockTest {
     // Whether it holds of the eraseblock that begins at a place of some bytes.
     ghost holds: { Self → List ℕ → ℕ → Bool };
 
+    // How far behind that place it may look for others.
+    ghost reach: { Self → ℕ };
+
     /// Whether it holds of the eraseblock that begins at a place.
     ///
     /// # Errors
@@ -24,7 +27,7 @@ pub trait BlockTest {
     /// Read where a read failed.
     fn holds<S: BlockSource>(&self, source: &mut S, at: u64) -> Result<bool, DetectError>
         requires size { (S.known source.old).size < 2 ^ 63 }
-        requires inside { at ≤ (S.known source.old).size }
+        requires inside { at + reach self.now < 2 ^ 63 + 2 ^ 33 }
         ensures known { S.known source.new ≡ after_detecting (S.known source.old) result }
         ensures narrows { Narrows (S.agrees source.old) (S.agrees source.new) }
         ensures answer { IfOk result (λ answer. WhereHeld (S.agrees source.new) (λ bytes. answer ≡ holds self.now bytes at)) }
@@ -68,7 +71,7 @@ fn start_holds<S: BlockSource, T: BlockTest>(
     at: u64,
 ) -> Result<bool, DetectError>
     requires size { (S.known source.old).size < 2 ^ 63 }
-    requires inside { at ≤ (S.known source.old).size }
+    requires inside { at + T.reach test.now < 2 ^ 63 + 2 ^ 33 }
     ensures known { S.known source.new ≡ after_detecting (S.known source.old) result }
     ensures narrows { Narrows (S.agrees source.old) (S.agrees source.new) }
     ensures answer { IfOk result (λ answer. WhereHeld (S.agrees source.new) (λ bytes. answer ≡ is_start bytes group.now at && T.holds test.now bytes at)) }
@@ -94,6 +97,7 @@ pub fn some_start<S: BlockSource, T: BlockTest>(
 ) -> Result<bool, DetectError>
     requires size { (S.known source.old).size < 2 ^ 63 }
     requires lies { LiesIn (S.known source.old).size group.now }
+    requires reach { T.reach test.now < 2 ^ 32 }
     ensures known { S.known source.new ≡ after_detecting (S.known source.old) result }
     ensures narrows { Narrows (S.agrees source.old) (S.agrees source.new) }
     ensures some { IfOk result (λ some. WhereHeld (S.agrees source.new) (λ bytes. some ≡ some_start bytes group.now (T.holds test.now bytes))) }
@@ -128,6 +132,7 @@ pub fn count_starts<S: BlockSource, T: BlockTest>(
 ) -> Result<u64, DetectError>
     requires size { (S.known source.old).size < 2 ^ 63 }
     requires lies { LiesIn (S.known source.old).size group.now }
+    requires reach { T.reach test.now < 2 ^ 32 }
     ensures known { S.known source.new ≡ after_detecting (S.known source.old) result }
     ensures narrows { Narrows (S.agrees source.old) (S.agrees source.new) }
     ensures count { IfOk result (λ count. WhereHeld (S.agrees source.new) (λ bytes. count ≡ count_starts bytes group.now (T.holds test.now bytes))) }

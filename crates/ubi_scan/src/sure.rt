@@ -1,6 +1,6 @@
 //! Whether the size that a group of headers says is sure, by what stands at the places of its eraseblocks.
 
-ghost use Rattle.std.specs.Prelude.{◌≡◌, ℕ, ◌+◌, ◌*◌, ◌<◌, ◌≤◌, ◌^◌, IfErr, IfOk, List};
+ghost use Rattle.std.specs.Prelude.{◌≡◌, ℕ, ◌+◌, ◌<◌, ◌≤◌, ◌^◌, ◌||◌, IfErr, IfOk, not};
 ghost use Rattle.ubi_scan.specs.Detected.{NamesPlace, after_detecting};
 ghost use Rattle.ubi_scan.specs.Groups.{greatest_size};
 ghost use Rattle.ubi_scan.specs.Place.{ways_with, ways_without};
@@ -23,6 +23,7 @@ use ubi_media::{EcOffsets, LAYOUT_VOLUME, RECORD_SIZE};
 pub const VID_MAGIC: u32 = 0x5542_4921;
 
 /// Whether an eraseblock ends with 16 bytes 0xFF, but for so many out-of-band bytes.
+#[derive(Drop)]
 struct EndsBlank {
     size: u64,
     oob: u32,
@@ -34,6 +35,8 @@ impl BlockTest for EndsBlank {
     ghost use Rattle.std.specs.Prelude.{◌+◌, ◌-◌};
 
     ghost holds = { λ test bytes p. all_are 0xFF 16 bytes (p + test.size - (test.oob + 16)) };
+
+    ghost reach = { λ _. 0 };
 
     fn holds<S: BlockSource>(&self, source: &mut S, at: u64) -> Result<bool, DetectError> {
         let end = at + self.size;
@@ -86,7 +89,7 @@ fn is_hole<S: BlockSource>(source: &mut S, at: u64) -> Result<bool, DetectError>
 /// Read where a read failed.
 fn holds_table<S: BlockSource>(source: &mut S, way: &Way, at: u64) -> Result<bool, DetectError>
     requires size { (S.known source.old).size < 2 ^ 63 }
-    requires inside { at ≤ (S.known source.old).size }
+    requires inside { at < 2 ^ 63 + 2 ^ 34 }
     ensures known { S.known source.new ≡ after_detecting (S.known source.old) result }
     ensures narrows { Narrows (S.agrees source.old) (S.agrees source.new) }
     ensures is { IfOk result (λ is. WhereHeld (S.agrees source.new) (λ bytes. is ≡ holds_table bytes way.now at)) }
@@ -118,8 +121,8 @@ fn have_copies<S: BlockSource>(
     next: u64,
 ) -> Result<bool, DetectError>
     requires size { (S.known source.old).size < 2 ^ 63 }
-    requires inside { at ≤ (S.known source.old).size }
-    requires next { next ≤ (S.known source.old).size }
+    requires inside { at < 2 ^ 63 + 2 ^ 34 }
+    requires next { next < 2 ^ 63 + 2 ^ 34 }
     ensures known { S.known source.new ≡ after_detecting (S.known source.old) result }
     ensures narrows { Narrows (S.agrees source.old) (S.agrees source.new) }
     ensures have { IfOk result (λ have. WhereHeld (S.agrees source.new) (λ bytes. have ≡ have_copies bytes way.now at next)) }
@@ -139,6 +142,7 @@ fn have_copies<S: BlockSource>(
 }
 
 /// Whether an eraseblock and the next one, which starts with a header too, hold the two copies of the volume table.
+#[derive(Drop)]
 struct Meets<'a> {
     group: &'a Group,
     way: &'a Way,
@@ -150,6 +154,8 @@ impl BlockTest for Meets<'_> {
 
     ghost holds = { λ test bytes p. meets bytes test.group.now test.way.now p };
 
+    ghost reach = { λ _. 0 };
+
     fn holds<S: BlockSource>(&self, source: &mut S, at: u64) -> Result<bool, DetectError> {
         let next = at + self.group.size;
         if next > self.group.last {
@@ -160,4 +166,227 @@ impl BlockTest for Meets<'_> {
         }
         have_copies(source, self.way, at, next)
     }
+}
+
+/// Whether something stands at a place.
+#[derive(Drop)]
+struct Filled;
+
+impl BlockTest for Filled {
+    ghost use Rattle.ubi_scan.specs.Sure.{is_filled};
+
+    ghost holds = { λ _. is_filled };
+
+    ghost reach = { λ _. 0 };
+
+    fn holds<S: BlockSource>(&self, source: &mut S, at: u64) -> Result<bool, DetectError> {
+        is_filled(source, at)
+    }
+}
+
+/// Whether something stands at a place behind 16 bytes 0xFF.
+#[derive(Drop)]
+struct Hole;
+
+impl BlockTest for Hole {
+    ghost use Rattle.ubi_scan.specs.Sure.{is_hole};
+
+    ghost holds = { λ _. is_hole };
+
+    ghost reach = { λ _. 0 };
+
+    fn holds<S: BlockSource>(&self, source: &mut S, at: u64) -> Result<bool, DetectError> {
+        is_hole(source, at)
+    }
+}
+
+/// Whether a header of a group stands at a place.
+#[derive(Drop)]
+struct Starts<'a> {
+    group: &'a Group,
+}
+
+impl BlockTest for Starts<'_> {
+    ghost use Rattle.ubi_scan.specs.Sure.{is_start};
+
+    ghost holds = { λ test bytes. is_start bytes test.group.now };
+
+    ghost reach = { λ _. 0 };
+
+    fn holds<S: BlockSource>(&self, source: &mut S, at: u64) -> Result<bool, DetectError> {
+        is_start(source, self.group, at)
+    }
+}
+
+/// Whether a test holds where a part of an eraseblock would begin, but for the first one.
+#[derive(Drop)]
+struct SomePart<'a, T: BlockTest> {
+    /// The bytes of an eraseblock.
+    size: u64,
+    /// How many parts it has.
+    parts: u64,
+    test: &'a T,
+    ghost few: { size ≤ greatest_size },
+    ghost some: { 1 ≤ parts },
+}
+
+impl<T: BlockTest> BlockTest for SomePart<'_, T> {
+    ghost use Rattle.std.specs.Prelude.{◌+◌};
+    ghost use Rattle.ubi_scan.specs.Sure.{some_part};
+
+    ghost holds = { λ test bytes. some_part test.size test.parts (T.holds test.test.now bytes) };
+
+    ghost reach = { λ test. test.size + T.reach test.test.now };
+
+    fn holds<S: BlockSource>(&self, source: &mut S, at: u64) -> Result<bool, DetectError> {
+        let part = self.size / self.parts;
+        for j in 0..self.parts - 1 {
+            if self.test.holds(source, at + (j + 1) * part)? {
+                return Ok(true);
+            }
+        }
+        Ok(false)
+    }
+}
+
+/// The same of the eraseblocks before that of the last header.
+#[derive(Drop)]
+struct SomeInner<'a, T: BlockTest> {
+    last: u64,
+    part: SomePart<'a, T>,
+}
+
+impl<T: BlockTest> BlockTest for SomeInner<'_, T> {
+    ghost use Rattle.std.specs.Prelude.{◌+◌};
+    ghost use Rattle.ubi_scan.specs.Sure.{some_inner};
+
+    ghost holds = { λ test bytes. some_inner test.last test.part.size test.part.parts (T.holds test.part.test.now bytes) };
+
+    ghost reach = { λ test. test.part.size + T.reach test.part.test.now };
+
+    fn holds<S: BlockSource>(&self, source: &mut S, at: u64) -> Result<bool, DetectError> {
+        if at < self.last {
+            self.part.holds(source, at)
+        } else {
+            Ok(false)
+        }
+    }
+}
+
+/// Whether there is room for data behind the headers in eraseblocks of a size.
+fn has_room(offsets: &EcOffsets, size: u64) -> bool
+    ensures { result ≡ has_room offsets.now size }
+{
+    u64::from(offsets.data_offset) + 64 <= size
+}
+
+/// Whether no number but 1 and itself divides a number.
+fn is_prime(number: u64) -> bool
+    ensures { result ≡ is_prime number }
+{
+    for e in 0..number.saturating_sub(2) {
+        if number % (e + 2) == 0 {
+            return false;
+        }
+    }
+    true
+}
+
+/// Whether eraseblocks of a size may be so many of the true ones.
+fn may_be_parts(offsets: &EcOffsets, size: u64, parts: u64) -> bool
+    requires some { 1 ≤ parts }
+    requires few { parts < 2 ^ 32 }
+    ensures { result ≡ may_be_parts offsets.now size parts }
+{
+    size % (parts * STEP) == 0 && has_room(offsets, size / parts) && is_prime(parts)
+}
+
+/// Whether the eraseblocks of a group can't be so many of the true ones.
+///
+/// # Errors
+///
+/// Read where a read failed.
+fn are_no_parts<S: BlockSource>(
+    source: &mut S,
+    group: &Group,
+    parts: u64,
+) -> Result<bool, DetectError>
+    requires size { (S.known source.old).size < 2 ^ 63 }
+    requires lies { LiesIn (S.known source.old).size group.now }
+    requires some { 1 ≤ parts }
+    ensures known { S.known source.new ≡ after_detecting (S.known source.old) result }
+    ensures narrows { Narrows (S.agrees source.old) (S.agrees source.new) }
+    ensures are { IfOk result (λ are. WhereHeld (S.agrees source.new) (λ bytes. are ≡ are_no_parts bytes group.now parts)) }
+    ensures failed { IfErr result (IsReadAt (S.known source.old).size) }
+    ensures named { IfErr result (NamesPlace (S.failed_at source.new)) }
+{
+    let filled = SomeInner {
+        last: group.last,
+        part: SomePart {
+            size: group.size,
+            parts,
+            test: &Filled,
+        },
+    };
+    if !some_start(source, group, &filled)? {
+        return Ok(false);
+    }
+    let hole = SomeInner {
+        last: group.last,
+        part: SomePart {
+            size: group.size,
+            parts,
+            test: &Hole,
+        },
+    };
+    Ok(!some_start(source, group, &hole)?)
+}
+
+/// Whether a number of parts is none that the eraseblocks of a group could be of.
+///
+/// # Errors
+///
+/// Read where a read failed.
+fn is_no_number<S: BlockSource>(
+    source: &mut S,
+    group: &Group,
+    parts: u64,
+) -> Result<bool, DetectError>
+    requires size { (S.known source.old).size < 2 ^ 63 }
+    requires lies { LiesIn (S.known source.old).size group.now }
+    requires some { 1 ≤ parts }
+    requires few { parts < 2 ^ 32 }
+    ensures known { S.known source.new ≡ after_detecting (S.known source.old) result }
+    ensures narrows { Narrows (S.agrees source.old) (S.agrees source.new) }
+    ensures is { IfOk result (λ is. WhereHeld (S.agrees source.new) (λ bytes. is ≡ (not (may_be_parts group.now.key.offsets group.now.size parts) || are_no_parts bytes group.now parts))) }
+    ensures failed { IfErr result (IsReadAt (S.known source.old).size) }
+    ensures named { IfErr result (NamesPlace (S.failed_at source.new)) }
+{
+    if may_be_parts(&group.key.offsets, group.size, parts) {
+        are_no_parts(source, group, parts)
+    } else {
+        Ok(true)
+    }
+}
+
+/// Whether the eraseblocks of a group can't be any number of the true ones.
+///
+/// # Errors
+///
+/// Read where a read failed.
+fn is_whole_size<S: BlockSource>(source: &mut S, group: &Group) -> Result<bool, DetectError>
+    requires size { (S.known source.old).size < 2 ^ 63 }
+    requires lies { LiesIn (S.known source.old).size group.now }
+    ensures known { S.known source.new ≡ after_detecting (S.known source.old) result }
+    ensures narrows { Narrows (S.agrees source.old) (S.agrees source.new) }
+    ensures is { IfOk result (λ is. WhereHeld (S.agrees source.new) (λ bytes. is ≡ is_whole_size bytes group.now)) }
+    ensures failed { IfErr result (IsReadAt (S.known source.old).size) }
+    ensures named { IfErr result (NamesPlace (S.failed_at source.new)) }
+{
+    for i in 0..group.size / STEP {
+        if !is_no_number(source, group, i + 2)? {
+            return Ok(false);
+        }
+    }
+    Ok(true)
 }
