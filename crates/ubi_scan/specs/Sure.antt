@@ -66,11 +66,13 @@ is_seen g = (g.size % (2 * step) == 0) || (has_no_way (g.size / 2) g.key.offsets
 abbrev pub ends_blank : List ℕ → Group → ℕ → ℕ → Bool
 ends_blank bytes g b p = all_are 0xFF 16 bytes (p + g.size - (b + 16))
 
--- whether an eraseblock that starts with a header ends so, without out-of-band bytes or with those that its pages may have
+-- whether an eraseblock that starts with a header ends so in one of some ways
+abbrev pub end_in : List ℕ → Group → List Way → Bool
+end_in bytes g ws = list_any (λ w. some_start bytes g (ends_blank bytes g w.oob)) ws
+
+-- whether one does, without out-of-band bytes or with those that its pages may have
 abbrev pub some_ends_blank : List ℕ → Group → Bool
-some_ends_blank bytes g =
-    some_start bytes g (ends_blank bytes g 0)
-    || list_any (λ w. some_start bytes g (ends_blank bytes g w.oob)) (ways g.size g.key.offsets)
+some_ends_blank bytes g = some_start bytes g (ends_blank bytes g 0) || end_in bytes g (ways g.size g.key.offsets)
 
 -- whether it holds a copy of the volume table: its volume-identifier header says so, and the place of the table's last record isn't
 -- blank

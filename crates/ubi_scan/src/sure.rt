@@ -3,9 +3,8 @@
 ghost use Rattle.std.specs.Prelude.{◌≡◌, ℕ, ◌+◌, ◌<◌, ◌≤◌, ◌^◌, ◌||◌, IfErr, IfOk, not};
 ghost use Rattle.ubi_scan.specs.Detected.{NamesPlace, after_detecting};
 ghost use Rattle.ubi_scan.specs.Groups.{greatest_size};
-ghost use Rattle.ubi_scan.specs.Place.{ways_with, ways_without};
 ghost use Rattle.ubi_scan.specs.Source.{Narrows, WhereHeld};
-ghost use Rattle.ubi_scan.specs.Sure.{are_no_parts, have_copies, has_room, holds_table, is_dense, is_filled, is_hole, is_prime, is_seen, is_sure, is_whole_size, may_be_parts, some_ends_blank, some_start, tables_meet};
+ghost use Rattle.ubi_scan.specs.Sure.{are_no_parts, end_in, have_copies, has_room, holds_table, is_dense, is_filled, is_hole, is_prime, is_seen, is_sure, is_whole_size, may_be_parts, meet_in};
 ghost use Rattle.ubi_scan.specs.inner.Detecting.{IsReadAt, IsReadError, LiesIn};
 
 use crate::at_places::{all_are, is_start, number_at};
@@ -389,4 +388,90 @@ fn is_whole_size<S: BlockSource>(source: &mut S, group: &Group) -> Result<bool, 
         }
     }
     Ok(true)
+}
+
+/// Whether two eraseblocks that follow each other hold the two copies of the volume table, in one of some ways.
+///
+/// # Errors
+///
+/// Read where a read failed.
+fn meet_in<S: BlockSource>(
+    source: &mut S,
+    group: &Group,
+    ways: &[Way],
+) -> Result<bool, DetectError>
+    requires size { (S.known source.old).size < 2 ^ 63 }
+    requires lies { LiesIn (S.known source.old).size group.now }
+    ensures known { S.known source.new ≡ after_detecting (S.known source.old) result }
+    ensures narrows { Narrows (S.agrees source.old) (S.agrees source.new) }
+    ensures meet { IfOk result (λ meet. WhereHeld (S.agrees source.new) (λ bytes. meet ≡ meet_in bytes group.now ways.now)) }
+    ensures failed { IfErr result (IsReadAt (S.known source.old).size) }
+    ensures named { IfErr result (NamesPlace (S.failed_at source.new)) }
+{
+    for way in ways {
+        if some_start(source, group, &Meets { group, way })? {
+            return Ok(true);
+        }
+    }
+    Ok(false)
+}
+
+/// Whether an eraseblock ends blank, but for the out-of-band bytes of one of some ways.
+///
+/// # Errors
+///
+/// Read where a read failed.
+fn end_in<S: BlockSource>(
+    source: &mut S,
+    group: &Group,
+    ways: &[Way],
+) -> Result<bool, DetectError>
+    requires size { (S.known source.old).size < 2 ^ 63 }
+    requires lies { LiesIn (S.known source.old).size group.now }
+    ensures known { S.known source.new ≡ after_detecting (S.known source.old) result }
+    ensures narrows { Narrows (S.agrees source.old) (S.agrees source.new) }
+    ensures end { IfOk result (λ end. WhereHeld (S.agrees source.new) (λ bytes. end ≡ end_in bytes group.now ways.now)) }
+    ensures failed { IfErr result (IsReadAt (S.known source.old).size) }
+    ensures named { IfErr result (NamesPlace (S.failed_at source.new)) }
+{
+    for way in ways {
+        let test = EndsBlank {
+            size: group.size,
+            oob: way.oob,
+        };
+        if some_start(source, group, &test)? {
+            return Ok(true);
+        }
+    }
+    Ok(false)
+}
+
+impl Group {
+    /// Whether more than half of its eraseblocks start with a header.
+    fn is_dense(&self) -> bool
+        requires from { 1 ≤ self.now.size }
+        requires order { self.now.first ≤ self.now.last }
+        requires last { self.now.last < 2 ^ 63 }
+        ensures { result ≡ is_dense self.now }
+    {
+        self.blocks() / 2 < self.count
+    }
+}
+
+/// Whether headers of eraseblocks of half or a quarter of a group's size would all be seen.
+///
+/// # Errors
+///
+/// Memory ran out.
+fn is_seen(alloc: Global, group: &Group) -> Result<bool, AllocError>
+    requires { group.now.size ≤ greatest_size }
+    ensures { IfOk result (λ seen. seen ≡ is_seen group.now) }
+{
+    if group.size % (2 * STEP) == 0 {
+        return Ok(true);
+    }
+    let (size, offsets) = (group.size as u32, &group.key.offsets);
+    let half = has_no_way(alloc, size / 2, offsets)?;
+    let quarter = has_no_way(alloc, size / 4, offsets)?;
+    Ok(half && quarter)
 }
