@@ -136,13 +136,15 @@ abbrev pub is_whole_size : List ℕ → Group → Bool
 is_whole_size bytes g =
     list_all (λ i. not (may_be_parts g.key.offsets g.size (i + 2)) || are_no_parts bytes g (i + 2)) (range_with_len 0 (g.size / step))
 
+-- whether what stands in the eraseblocks says their size: one of those that start with a header ends blank; and two neighbours hold
+-- the two copies of the volume table, or there are three headers, and no part could be the size
+abbrev pub says_so : List ℕ → Group → Bool
+says_so bytes g = some_ends_blank bytes g && (tables_meet bytes g || (nat_le 3 g.count && is_whole_size bytes g))
+
 -- whether the size that a group says is sure: there is room, more than half of the eraseblocks start with a header, no other header of
--- theirs could be unseen, and one of these ends blank; and two neighbours hold the two copies of the volume table, or there are three
--- headers, and no part could be the size
+-- theirs could be unseen, and what stands in them says so
 abbrev pub is_sure : List ℕ → Group → Bool
-is_sure bytes g =
-    has_room g.key.offsets g.size && is_dense g && is_seen g && some_ends_blank bytes g
-    && (tables_meet bytes g || (nat_le 3 g.count && is_whole_size bytes g))
+is_sure bytes g = has_room g.key.offsets g.size && is_dense g && is_seen g && says_so bytes g
 
 -- whether a header of the group stands where a part of an eraseblock could begin
 abbrev pub has_inner_start : List ℕ → Group → Bool

@@ -3,9 +3,10 @@
 ghost use Rattle.std.specs.Prelude.{◌≡◌, ℕ, ◌+◌, ◌<◌, ◌≤◌, ◌^◌, ◌||◌, IfErr, IfOk, not};
 ghost use Rattle.ubi_scan.specs.Detected.{NamesPlace, after_detecting};
 ghost use Rattle.ubi_scan.specs.Groups.{greatest_size};
+ghost use Rattle.ubi_scan.specs.Place.{ways_with};
 ghost use Rattle.ubi_scan.specs.Source.{Narrows, WhereHeld};
-ghost use Rattle.ubi_scan.specs.Sure.{are_no_parts, end_in, have_copies, has_room, holds_table, is_dense, is_filled, is_hole, is_prime, is_seen, is_sure, is_whole_size, may_be_parts, meet_in};
-ghost use Rattle.ubi_scan.specs.inner.Detecting.{IsReadAt, IsReadError, LiesIn};
+ghost use Rattle.ubi_scan.specs.Sure.{are_no_parts, end_in, have_copies, has_room, holds_table, is_dense, is_filled, is_hole, is_prime, is_seen, is_sure, is_whole_size, may_be_parts, meet_in, says_so, some_ends_blank, tables_meet};
+ghost use Rattle.ubi_scan.specs.inner.Detecting.{AreWays, IsReadAt, IsReadError, LiesIn};
 
 use crate::at_places::{all_are, is_start, number_at};
 use crate::block_tests::{BlockTest, some_start};
@@ -14,7 +15,7 @@ use crate::groups::Group;
 use crate::heads::STEP;
 use crate::source::BlockSource;
 use crate::way::Way;
-use crate::ways::has_no_way;
+use crate::ways::{Ways, has_no_way};
 use std::alloc::{AllocError, Global};
 use ubi_media::{EcOffsets, LAYOUT_VOLUME, RECORD_SIZE};
 
@@ -474,4 +475,122 @@ fn is_seen(alloc: Global, group: &Group) -> Result<bool, AllocError>
     let half = has_no_way(alloc, size / 2, offsets)?;
     let quarter = has_no_way(alloc, size / 4, offsets)?;
     Ok(half && quarter)
+}
+
+/// Whether an eraseblock ends blank, without out-of-band bytes or with those of one of some ways.
+///
+/// # Errors
+///
+/// Read where a read failed.
+fn some_ends_blank<S: BlockSource>(
+    source: &mut S,
+    group: &Group,
+    with: &[Way],
+) -> Result<bool, DetectError>
+    requires size { (S.known source.old).size < 2 ^ 63 }
+    requires lies { LiesIn (S.known source.old).size group.now }
+    requires ways { with.now ≡ ways_with group.now }
+    ensures known { S.known source.new ≡ after_detecting (S.known source.old) result }
+    ensures narrows { Narrows (S.agrees source.old) (S.agrees source.new) }
+    ensures ends { IfOk result (λ ends. WhereHeld (S.agrees source.new) (λ bytes. ends ≡ some_ends_blank bytes group.now)) }
+    ensures failed { IfErr result (IsReadAt (S.known source.old).size) }
+    ensures named { IfErr result (NamesPlace (S.failed_at source.new)) }
+{
+    let test = EndsBlank {
+        size: group.size,
+        oob: 0,
+    };
+    if some_start(source, group, &test)? {
+        return Ok(true);
+    }
+    end_in(source, group, with)
+}
+
+/// Whether two eraseblocks that follow each other hold the two copies of the volume table, without out-of-band bytes or with them.
+///
+/// # Errors
+///
+/// Read where a read failed.
+fn tables_meet<S: BlockSource>(
+    source: &mut S,
+    group: &Group,
+    ways: &Ways,
+) -> Result<bool, DetectError>
+    requires size { (S.known source.old).size < 2 ^ 63 }
+    requires lies { LiesIn (S.known source.old).size group.now }
+    requires ways { AreWays group.now ways.now }
+    ensures known { S.known source.new ≡ after_detecting (S.known source.old) result }
+    ensures narrows { Narrows (S.agrees source.old) (S.agrees source.new) }
+    ensures meet { IfOk result (λ meet. WhereHeld (S.agrees source.new) (λ bytes. meet ≡ tables_meet bytes group.now)) }
+    ensures failed { IfErr result (IsReadAt (S.known source.old).size) }
+    ensures named { IfErr result (NamesPlace (S.failed_at source.new)) }
+{
+    if meet_in(source, group, ways.without.as_slice())? {
+        return Ok(true);
+    }
+    meet_in(source, group, ways.with.as_slice())
+}
+
+/// Whether what stands in eraseblocks says their size: one ends blank; and two neighbours hold the copies of the volume table, or there
+/// are three headers, and no part could be the size.
+///
+/// # Errors
+///
+/// Read where a read failed.
+fn says_so<S: BlockSource>(
+    source: &mut S,
+    group: &Group,
+    ways: &Ways,
+) -> Result<bool, DetectError>
+    requires size { (S.known source.old).size < 2 ^ 63 }
+    requires lies { LiesIn (S.known source.old).size group.now }
+    requires ways { AreWays group.now ways.now }
+    ensures known { S.known source.new ≡ after_detecting (S.known source.old) result }
+    ensures narrows { Narrows (S.agrees source.old) (S.agrees source.new) }
+    ensures says { IfOk result (λ says. WhereHeld (S.agrees source.new) (λ bytes. says ≡ says_so bytes group.now)) }
+    ensures failed { IfErr result (IsReadAt (S.known source.old).size) }
+    ensures named { IfErr result (NamesPlace (S.failed_at source.new)) }
+{
+    if !some_ends_blank(source, group, ways.with.as_slice())? {
+        return Ok(false);
+    }
+    if tables_meet(source, group, ways)? {
+        return Ok(true);
+    }
+    if group.count < 3 {
+        return Ok(false);
+    }
+    is_whole_size(source, group)
+}
+
+/// Whether the size that a group says is sure.
+///
+/// # Errors
+///
+/// Read where a read failed. Memory where it ran out.
+pub fn is_sure<S: BlockSource>(
+    alloc: Global,
+    source: &mut S,
+    group: &Group,
+    ways: &Ways,
+) -> Result<bool, DetectError>
+    requires size { (S.known source.old).size < 2 ^ 63 }
+    requires lies { LiesIn (S.known source.old).size group.now }
+    requires ways { AreWays group.now ways.now }
+    ensures known { S.known source.new ≡ after_detecting (S.known source.old) result }
+    ensures narrows { Narrows (S.agrees source.old) (S.agrees source.new) }
+    ensures sure { IfOk result (λ sure. WhereHeld (S.agrees source.new) (λ bytes. sure ≡ is_sure bytes group.now)) }
+    ensures failed { IfErr result (IsReadError (S.known source.old).size) }
+    ensures named { IfErr result (NamesPlace (S.failed_at source.new)) }
+{
+    if !has_room(&group.key.offsets, group.size) {
+        return Ok(false);
+    }
+    if !group.is_dense() {
+        return Ok(false);
+    }
+    if !is_seen(alloc, group)? {
+        return Ok(false);
+    }
+    says_so(source, group, ways)
 }

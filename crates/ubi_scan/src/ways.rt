@@ -2,9 +2,12 @@
 
 ghost use Rattle.std.specs.List.{filter_map};
 ghost use Rattle.std.specs.Prelude.{◌≡◌, ◌++◌, ◌<◌, ◌≤◌, ◌^◌, IfOk, OnOk};
+ghost use Rattle.ubi_scan.specs.Groups.{greatest_size};
+ghost use Rattle.ubi_scan.specs.inner.Detecting.{AreWays};
 ghost use Rattle.ubi_scan.specs.Layout.{geometry_of};
 ghost use Rattle.ubi_scan.specs.Ways.{has_no_way, page_counts, plain_ways, put, way_of, ways};
 
+use crate::groups::Group;
 use crate::way::Way;
 use std::alloc::{AllocError, Global};
 use ubi_media::{EcOffsets, Geometry, MOST_PEBS, PAGE_SIZES};
@@ -121,4 +124,30 @@ pub fn has_no_way(alloc: Global, size: u32, offsets: &EcOffsets) -> Result<bool,
 {
     let found = ways(alloc, size, offsets)?;
     Ok(found.is_empty())
+}
+
+/// The pages that the eraseblocks of a group may have, without out-of-band bytes and with them.
+#[derive(Drop)]
+pub struct Ways {
+    /// Those without, the least page first.
+    pub without: Vec<Way>,
+    /// Those with them.
+    pub with: Vec<Way>,
+}
+
+impl Ways {
+    /// The pages of the eraseblocks of a group.
+    ///
+    /// # Errors
+    ///
+    /// Memory ran out.
+    pub fn of(alloc: Global, group: &Group) -> Result<Ways, AllocError>
+        requires { group.now.size ≤ greatest_size }
+        ensures { IfOk result (AreWays group.now) }
+    {
+        let (size, offsets) = (group.size as u32, &group.key.offsets);
+        let without = plain_ways(alloc, size, offsets)?;
+        let with = ways(alloc, size, offsets)?;
+        Ok(Ways { without, with })
+    }
 }

@@ -5,6 +5,8 @@ use Rattle.std.specs.List.{All, list_all, list_any}
 use Rattle.std.specs.Option.{option_to_list}
 use Rattle.ubi_scan.specs.Groups.{IsGroup, greatest_size, spoken}
 use Rattle.ubi_scan.specs.Heads.{is_of, key_in, keys_of, same_key, same_offsets, step, with_key}
+use Rattle.ubi_scan.specs.Place.{ways_with, ways_without}
+use Rattle.ubi_scan.specs.declared.ways.Ways.{Ways}
 use Rattle.ubi_scan.specs.declared.detect.DetectError.{DetectError}
 use Rattle.ubi_scan.specs.declared.detect.DetectError.TheVariants as error
 use Rattle.ubi_scan.specs.declared.groups.Group.{Group}
@@ -109,3 +111,8 @@ pub record LiesIn (n : ℕ) (g : Group) : Type 0 where
   pub to : g.size ≤ greatest_size
   pub order : g.first ≤ g.last
   pub last : g.last + step ≤ n
+
+-- these are the pages that the eraseblocks of a group may have
+pub record AreWays (g : Group) (w : Ways) : Type 0 where
+  pub without : w.without.items ≡ ways_without g
+  pub with : w.with.items ≡ ways_with g
