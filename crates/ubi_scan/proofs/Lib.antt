@@ -12,6 +12,7 @@ pub mod Decided
 pub mod Either
 pub mod Entries
 pub mod ErrorTextVectors
+pub mod FailedPlaces
 pub mod FailedReads
 pub mod Filled
 pub mod Finite

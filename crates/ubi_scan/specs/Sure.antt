@@ -141,10 +141,14 @@ is_whole_size bytes g =
 abbrev pub says_so : List ℕ → Group → Bool
 says_so bytes g = some_ends_blank bytes g && (tables_meet bytes g || (nat_le 3 g.count && is_whole_size bytes g))
 
--- whether the size that a group says is sure: there is room, more than half of the eraseblocks start with a header, no other header of
--- theirs could be unseen, and what stands in them says so
+-- whether a group may be that of eraseblocks of its size: there is room, more than half of them start with a header, and no other header
+-- of theirs could be unseen
+abbrev pub may_be_size : Group → Bool
+may_be_size g = has_room g.key.offsets g.size && is_dense g && is_seen g
+
+-- whether its size is sure: it may be one, and what stands in the eraseblocks says so
 abbrev pub is_sure : List ℕ → Group → Bool
-is_sure bytes g = has_room g.key.offsets g.size && is_dense g && is_seen g && says_so bytes g
+is_sure bytes g = may_be_size g && says_so bytes g
 
 -- whether a header of the group stands where a part of an eraseblock could begin
 abbrev pub has_inner_start : List ℕ → Group → Bool

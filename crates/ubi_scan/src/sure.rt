@@ -5,7 +5,7 @@ ghost use Rattle.ubi_scan.specs.Detected.{NamesPlace, after_detecting};
 ghost use Rattle.ubi_scan.specs.Groups.{greatest_size};
 ghost use Rattle.ubi_scan.specs.Place.{ways_with};
 ghost use Rattle.ubi_scan.specs.Source.{Narrows, WhereHeld};
-ghost use Rattle.ubi_scan.specs.Sure.{are_no_parts, end_in, have_copies, has_room, holds_table, is_dense, is_filled, is_hole, is_prime, is_seen, is_sure, is_whole_size, may_be_parts, meet_in, says_so, some_ends_blank, tables_meet};
+ghost use Rattle.ubi_scan.specs.Sure.{are_no_parts, end_in, have_copies, has_room, holds_table, is_dense, is_filled, is_hole, is_prime, is_seen, is_sure, is_whole_size, may_be_parts, may_be_size, meet_in, says_so, some_ends_blank, tables_meet};
 ghost use Rattle.ubi_scan.specs.inner.Detecting.{AreWays, IsReadAt, IsReadError, LiesIn};
 
 use crate::at_places::{all_are, is_start, number_at};
@@ -563,6 +563,28 @@ fn says_so<S: BlockSource>(
     is_whole_size(source, group)
 }
 
+/// Whether a group may be that of eraseblocks of its size: there is room, more than half of them start with a header, and no other header
+/// of theirs could be unseen.
+///
+/// # Errors
+///
+/// Memory ran out.
+fn may_be_size(alloc: Global, group: &Group) -> Result<bool, AllocError>
+    requires from { 1 ≤ group.now.size }
+    requires to { group.now.size ≤ greatest_size }
+    requires order { group.now.first ≤ group.now.last }
+    requires last { group.now.last < 2 ^ 63 }
+    ensures { IfOk result (λ may. may ≡ may_be_size group.now) }
+{
+    if !has_room(&group.key.offsets, group.size) {
+        return Ok(false);
+    }
+    if !group.is_dense() {
+        return Ok(false);
+    }
+    is_seen(alloc, group)
+}
+
 /// Whether the size that a group says is sure.
 ///
 /// # Errors
@@ -583,14 +605,9 @@ pub fn is_sure<S: BlockSource>(
     ensures failed { IfErr result (IsReadError (S.known source.old).size) }
     ensures named { IfErr result (NamesPlace (S.failed_at source.new)) }
 {
-    if !has_room(&group.key.offsets, group.size) {
-        return Ok(false);
+    if may_be_size(alloc, group)? {
+        says_so(source, group, ways)
+    } else {
+        Ok(false)
     }
-    if !group.is_dense() {
-        return Ok(false);
-    }
-    if !is_seen(alloc, group)? {
-        return Ok(false);
-    }
-    says_so(source, group, ways)
 }

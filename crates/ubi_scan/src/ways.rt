@@ -104,7 +104,7 @@ fn push_ways(
 /// # Errors
 ///
 /// Memory ran out.
-pub fn ways(alloc: Global, size: u32, offsets: &EcOffsets) -> Result<Vec<Way>, AllocError>
+pub fn oob_ways(alloc: Global, size: u32, offsets: &EcOffsets) -> Result<Vec<Way>, AllocError>
     ensures { IfOk result (λ found. found.items ≡ ways size offsets.now) }
 {
     let mut found = Vec::new(alloc);
@@ -122,7 +122,7 @@ pub fn ways(alloc: Global, size: u32, offsets: &EcOffsets) -> Result<Vec<Way>, A
 pub fn has_no_way(alloc: Global, size: u32, offsets: &EcOffsets) -> Result<bool, AllocError>
     ensures { IfOk result (λ none. none ≡ has_no_way size offsets.now) }
 {
-    let found = ways(alloc, size, offsets)?;
+    let found = oob_ways(alloc, size, offsets)?;
     Ok(found.is_empty())
 }
 
@@ -147,7 +147,7 @@ impl Ways {
     {
         let (size, offsets) = (group.size as u32, &group.key.offsets);
         let without = plain_ways(alloc, size, offsets)?;
-        let with = ways(alloc, size, offsets)?;
+        let with = oob_ways(alloc, size, offsets)?;
         Ok(Ways { without, with })
     }
 }

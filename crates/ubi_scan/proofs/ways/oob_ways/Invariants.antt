@@ -2,7 +2,7 @@ use Rattle.std.proofs.Common.{◌≡◌, take}
 use Rattle.std.specs.List.{filter_map, flat_map}
 use Rattle.ubi_media.specs.Geometry.{page_sizes}
 use Rattle.ubi_scan.specs.Ways.{page_counts, way_of}
-use Rattle.ubi_scan.proofs.ways.ways.Given as goal
+use Rattle.ubi_scan.proofs.ways.oob_ways.Given as goal
 
 abbrev pub invariant-loop-page : goal.invariant-loop-page
 invariant-loop-page l =

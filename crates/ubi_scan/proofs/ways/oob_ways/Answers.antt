@@ -5,7 +5,7 @@ use Rattle.std.proofs.lemmas.List.{take_all}
 use Rattle.ubi_media.specs.Geometry.{page_sizes}
 use Rattle.ubi_scan.specs.Ways.{page_counts, way_of}
 use Rattle.ubi_scan.proofs.WaysThatFit.{found_more}
-use Rattle.ubi_scan.proofs.ways.ways.Goals as goal
+use Rattle.ubi_scan.proofs.ways.oob_ways.Goals as goal
 
 pub loop-page-preserved : goal.loop-page-preserved
 loop-page-preserved c =
