@@ -34,6 +34,7 @@ pub mod Parts
 pub mod Places
 pub mod ReadParts
 pub mod Revalued
+pub mod Runs
 pub mod Seen
 pub mod Seq
 pub mod Shown

@@ -2,7 +2,7 @@
 use Rattle.std.specs.Prelude.{◌≡◌, ◌≢◌, ℕ, ◌-◌, ◌<◌, ◌≤◌, ◌⊎◌, IsFalse, IsTrue, List, [], Result, Err, length}
 use Rattle.ubi_scan.specs.Groups.{IsImage}
 use Rattle.ubi_scan.specs.Heads.{heads_of}
-use Rattle.ubi_scan.specs.Place.{end_of_last, told, ways_with}
+use Rattle.ubi_scan.specs.Place.{end_of_last, has_no_page, told}
 use Rattle.ubi_scan.specs.Plain.{IsSurelyPlain}
 use Rattle.ubi_scan.specs.Source.{Agreed, Source, WhereHeld, failed}
 use Rattle.ubi_scan.specs.Sure.{is_sure}
@@ -47,12 +47,12 @@ IsUndetected bytes cause.NoSize =
 IsUndetected bytes (cause.Length size rest) =
     NonePlain bytes × ((j : ℕ) × (g : Group) × IsImage (heads_of bytes) j g × (length bytes < end_of_last g) × (size ≡ g.size)
     × (rest ≡ length bytes - g.last))
--- the size is one with out-of-band bytes, and no volume-identifier header says which
+-- there are pages, and no volume-identifier header stands where one of them has it
 IsUndetected bytes (cause.OutOfBand size) =
-    (g : Group) × IsFound bytes g × (told bytes g ≡ []) × (ways_with g ≢ []) × (size ≡ g.size)
+    (g : Group) × IsFound bytes g × (told bytes g ≡ []) × IsFalse (has_no_page g) × (size ≡ g.size)
 -- no page fits the size and the offsets
 IsUndetected bytes (cause.Page size o) =
-    (g : Group) × IsFound bytes g × (told bytes g ≡ []) × (ways_with g ≡ []) × (size ≡ g.size) × (o ≡ g.key.offsets)
+    (g : Group) × IsFound bytes g × (told bytes g ≡ []) × IsTrue (has_no_page g) × (size ≡ g.size) × (o ≡ g.key.offsets)
 
 -- what is known of a source afterwards: one read has failed where the answer is Read, and none where it isn't
 abbrev pub after_detecting : {A : Type 0} → Source → Result A DetectError → Source

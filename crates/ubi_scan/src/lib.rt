@@ -46,6 +46,7 @@ mod header;
 mod heads;
 pub mod laws;
 mod pass;
+mod place;
 mod placed;
 mod reading;
 mod scanning;

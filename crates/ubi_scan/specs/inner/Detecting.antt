@@ -1,11 +1,12 @@
 -- What is answered on the way to what is detected of a file.
-use Rattle.std.specs.Prelude.{◌≡◌, ℕ, ◌+◌, ◌-◌, ◌*◌, ◌<◌, ◌≤◌, ◌⊎◌, ◌==◌, ◌&&◌, ◌||◌, Bool, None, Some, true, if◌then◌else◌, nat_le, nat_lt, IsFalse, IsTrue, List, Option, find, length, map, not, option_map, slice_index_or}
+use Rattle.std.specs.Prelude.{◌≡◌, ℕ, ◌+◌, ◌-◌, ◌*◌, ◌<◌, ◌≤◌, ◌⊎◌, ◌==◌, ◌&&◌, ◌||◌, Bool, None, Some, true, if◌then◌else◌, nat_le, nat_lt, IsFalse, IsTrue, List, Option, find, fold, length, map, max, not, option_map, slice_index_or}
 use Rattle.std.specs.Int.{IsGcd}
 use Rattle.std.specs.List.{All, list_all, list_any}
 use Rattle.std.specs.Option.{option_to_list}
 use Rattle.ubi_scan.specs.Groups.{IsGroup, greatest_size, spoken}
 use Rattle.ubi_scan.specs.Heads.{is_of, key_in, keys_of, same_key, same_offsets, step, with_key}
 use Rattle.ubi_scan.specs.Place.{ways_with, ways_without}
+use Rattle.ubi_scan.specs.declared.way.Way.{Way}
 use Rattle.ubi_scan.specs.declared.ways.Ways.{Ways}
 use Rattle.ubi_scan.specs.declared.detect.DetectError.{DetectError}
 use Rattle.ubi_scan.specs.declared.detect.DetectError.TheVariants as error
@@ -116,3 +117,7 @@ pub record LiesIn (n : ℕ) (g : Group) : Type 0 where
 pub record AreWays (g : Group) (w : Ways) : Type 0 where
   pub without : w.without.items ≡ ways_without g
   pub with : w.with.items ≡ ways_with g
+
+-- whether a way has as many votes as the one of some ways that has most, and one at least
+abbrev pub is_most_voted : (Way → ℕ) → List Way → Way → Bool
+is_most_voted f ws w = nat_lt 0 (f w) && (f w == fold max 0 (map f ws))
