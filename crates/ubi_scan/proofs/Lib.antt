@@ -23,6 +23,7 @@ pub mod InTurn
 pub mod Keys
 pub mod Least
 pub mod Magics
+pub mod MostVoted
 pub mod Moved
 pub mod Narrowed
 pub mod NewGroups

@@ -1,7 +1,7 @@
 //! Where an image lies in a source, and the geometries that its headers give.
 
 ghost use Rattle.std.specs.List.{filter, fold};
-ghost use Rattle.std.specs.Prelude.{◌≡◌, ℕ, ◌+◌, ◌-◌, ◌/◌, ◌<◌, ◌≤◌, ◌^◌, ◌==◌, ◌&&◌, IfErr, IfOk, length, map, max, nat_lt};
+ghost use Rattle.std.specs.Prelude.{◌≡◌, ℕ, ◌+◌, ◌-◌, ◌/◌, ◌<◌, ◌≤◌, ◌^◌, ◌==◌, ◌&&◌, IfErr, IfOk, length, map, max, nat_lt, vec_len};
 ghost use Rattle.ubi_scan.specs.Detected.{NamesPlace, after_detecting};
 ghost use Rattle.ubi_scan.specs.Place.{blanks_before, blanks_behind, end_of_image, end_of_last, has_vote, start_of_image, told, told_by, told_ways, votes, ways_without};
 ghost use Rattle.ubi_scan.specs.Source.{Narrows, WhereHeld};
@@ -102,6 +102,7 @@ fn votes_of<S: BlockSource>(
     requires lies { LiesIn (S.known source.old).size group.now }
     ensures known { S.known source.new ≡ after_detecting (S.known source.old) result }
     ensures narrows { Narrows (S.agrees source.old) (S.agrees source.new) }
+    ensures many { IfOk result (λ counts. vec_len counts ≡ length ways.now) }
     ensures votes { IfOk result (λ counts. WhereHeld (S.agrees source.new) (λ bytes. counts.items ≡ map (votes bytes group.now) ways.now)) }
     ensures failed { IfErr result (IsReadError (S.known source.old).size) }
     ensures named { IfErr result (NamesPlace (S.failed_at source.new)) }
@@ -125,6 +126,13 @@ fn greatest(numbers: &[u64]) -> u64
     greatest
 }
 
+/// Whether so many votes are as many as the most, and one at least.
+fn are_most(votes: u64, most: u64) -> bool
+    ensures { result ≡ nat_lt 0 votes && (votes == most) }
+{
+    votes > 0 && votes == most
+}
+
 /// Those of some ways that have as many votes as the one with most, and one at least.
 ///
 /// # Errors
@@ -137,8 +145,9 @@ fn most_voted(alloc: Global, ways: &[Way], votes: &[u64]) -> Result<Vec<Way>, Al
     let most = greatest(votes);
     let mut voted = Vec::new(alloc);
     for i in 0..ways.len() {
-        if votes[i] > 0 && votes[i] == most {
-            voted.push(ways[i])?;
+        let way = ways[i];
+        if are_most(votes[i], most) {
+            voted.push(way)?;
         }
     }
     Ok(voted)
