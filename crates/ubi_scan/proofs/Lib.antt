@@ -20,6 +20,7 @@ pub mod Grouped
 pub mod Held
 pub mod InMemory
 pub mod InTurn
+pub mod JoinedKeys
 pub mod Keys
 pub mod Least
 pub mod Magics
@@ -33,6 +34,7 @@ pub mod OneFault
 pub mod OneScan
 pub mod Parts
 pub mod Places
+pub mod PlainSizes
 pub mod ReadParts
 pub mod Revalued
 pub mod Runs

@@ -4,5 +4,6 @@ pub mod Choice
 pub mod Counts
 pub mod Detecting
 pub mod Held
+pub mod Joined
 pub mod Named
 pub mod Pass

@@ -1,6 +1,7 @@
 //! The erase-counter headers of a file of which nothing else is known.
 
-ghost use Rattle.std.specs.Prelude.{◌≡◌, ◌+◌, ◌≤◌, ◌==◌, ◌||◌, length, not, slice_range};
+ghost use Rattle.std.specs.Prelude.{◌≡◌, ◌+◌, ◌≤◌, ◌==◌, ◌||◌, MatchOption, length, not, slice_range};
+ghost use Rattle.ubi_scan.specs.inner.Joined.{IsJoined, NoneOwns};
 ghost use Rattle.ubi_scan.specs.Heads.{is_of, key_in, same_key, same_offsets};
 
 use byteorder::{BigEndian, ByteOrder};
@@ -43,6 +44,19 @@ impl Key {
     {
         self.has_offsets_of(other)
             && (other.image_seq == self.image_seq || other.image_seq == 0)
+    }
+
+    /// The key of the group to which a header of this key and one of another belong, if there is one.
+    pub fn joined(&self, other: &Key) -> Option<Key>
+        ensures { MatchOption result (NoneOwns self.now other.now) (IsJoined self.now other.now) }
+    {
+        if self.owns(other) {
+            Some(*self)
+        } else if other.owns(self) {
+            Some(*other)
+        } else {
+            None
+        }
     }
 
     /// Whether another header gives the offsets of this one no number: it names other offsets, or none.

@@ -48,6 +48,7 @@ pub mod laws;
 mod pass;
 mod place;
 mod placed;
+mod plain;
 mod reading;
 mod scanning;
 mod size;
