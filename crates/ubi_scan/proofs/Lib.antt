@@ -34,6 +34,7 @@ pub mod OneFault
 pub mod OneScan
 pub mod Parts
 pub mod Places
+pub mod PlainGroups
 pub mod PlainSizes
 pub mod ReadParts
 pub mod Revalued

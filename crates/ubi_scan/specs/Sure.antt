@@ -150,8 +150,10 @@ may_be_size g = has_room g.key.offsets g.size && is_dense g && is_seen g
 abbrev pub is_sure : List ℕ → Group → Bool
 is_sure bytes g = may_be_size g && says_so bytes g
 
--- whether a header of the group stands where a part of an eraseblock could begin
+-- whether a header of the group stands where one of d parts of an eraseblock would begin, if it may have so many
+abbrev pub has_part_start : List ℕ → Group → ℕ → Bool
+has_part_start bytes g d = may_be_parts g.key.offsets g.size d && some_start bytes g (some_part g.size d (is_start bytes g))
+
+-- whether one stands where a part of an eraseblock could begin
 abbrev pub has_inner_start : List ℕ → Group → Bool
-has_inner_start bytes g =
-    list_any (λ i. may_be_parts g.key.offsets g.size (i + 2) && some_start bytes g (some_part g.size (i + 2) (is_start bytes g)))
-    (range_with_len 0 (g.size / step))
+has_inner_start bytes g = list_any (λ i. has_part_start bytes g (i + 2)) (range_with_len 0 (g.size / step))

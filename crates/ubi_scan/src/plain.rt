@@ -3,6 +3,8 @@
 ghost use Rattle.std.specs.Prelude.{◌≡◌, ℕ, ◌*◌, ◌+◌, ◌/◌, ◌%◌, ◌<◌, ◌≤◌, ◌^◌, IfErr, IfOk, IfSome, MatchOption, Some};
 ghost use Rattle.ubi_scan.specs.Detected.{NamesPlace, after_detecting};
 ghost use Rattle.ubi_scan.specs.Heads.{key_at, step};
+ghost use Rattle.ubi_scan.specs.Place.{end_of_last};
+ghost use Rattle.ubi_scan.specs.Plain.{IsPlain};
 ghost use Rattle.ubi_scan.specs.Source.{Narrows, WhereHeld};
 ghost use Rattle.ubi_scan.specs.declared.groups.Group.{Group};
 ghost use Rattle.ubi_scan.specs.inner.Detecting.{IsReadAt, LiesIn};
@@ -103,4 +105,42 @@ fn plain_size<S: BlockSource>(source: &mut S) -> Result<Option<u64>, DetectError
         Some(_) => Ok(None),
         None => Ok(Some(unit * STEP)),
     }
+}
+
+/// The group of a source that is plainly an image, but for what its eraseblocks hold, if it is.
+///
+/// # Errors
+///
+/// Read where a read failed.
+pub fn read_plain<S: BlockSource>(source: &mut S) -> Result<Option<Group>, DetectError>
+    requires { (S.known source.old).size < 2 ^ 63 }
+    ensures known { S.known source.new ≡ after_detecting (S.known source.old) result }
+    ensures narrows { Narrows (S.agrees source.old) (S.agrees source.new) }
+    ensures plain { IfOk result (λ o. MatchOption o (WhereHeld (S.agrees source.new) NotPlain) (λ g. WhereHeld (S.agrees source.new) (λ bytes. IsPlain bytes g))) }
+    ensures lies { IfOk result (λ o. IfSome o (LiesIn (S.known source.old).size)) }
+    ensures whole { IfOk result (λ o. IfSome o (λ g. end_of_last g ≤ (S.known source.old).size)) }
+    ensures failed { IfErr result (IsReadAt (S.known source.old).size) }
+    ensures named { IfErr result (NamesPlace (S.failed_at source.new)) }
+{
+    let len = source.len();
+    if len < 2 * STEP {
+        return Ok(None);
+    }
+    let Some(first) = key_at(source, 0)? else {
+        return Ok(None);
+    };
+    let Some(size) = plain_size(source)? else {
+        return Ok(None);
+    };
+    let count = len / size;
+    let Some(key) = joined_key(source, first, size, count)? else {
+        return Ok(None);
+    };
+    Ok(Some(Group {
+        key,
+        first: 0,
+        last: len - size,
+        count,
+        size,
+    }))
 }

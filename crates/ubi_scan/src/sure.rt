@@ -5,7 +5,7 @@ ghost use Rattle.ubi_scan.specs.Detected.{NamesPlace, after_detecting};
 ghost use Rattle.ubi_scan.specs.Groups.{greatest_size};
 ghost use Rattle.ubi_scan.specs.Place.{ways_with};
 ghost use Rattle.ubi_scan.specs.Source.{Narrows, WhereHeld};
-ghost use Rattle.ubi_scan.specs.Sure.{are_no_parts, end_in, have_copies, has_room, holds_table, is_dense, is_filled, is_hole, is_prime, is_seen, is_sure, is_whole_size, may_be_parts, may_be_size, meet_in, says_so, some_ends_blank, tables_meet};
+ghost use Rattle.ubi_scan.specs.Sure.{are_no_parts, end_in, has_inner_start, has_part_start, has_room, have_copies, holds_table, is_dense, is_filled, is_hole, is_prime, is_seen, is_sure, is_whole_size, may_be_parts, may_be_size, meet_in, says_so, some_ends_blank, tables_meet};
 ghost use Rattle.ubi_scan.specs.inner.Detecting.{AreWays, IsReadAt, IsReadError, LiesIn};
 
 use crate::at_places::{all_are, is_start, number_at};
@@ -610,4 +610,60 @@ pub fn is_sure<S: BlockSource>(
     } else {
         Ok(false)
     }
+}
+
+/// Whether a header of a group stands where one of so many parts of an eraseblock would begin, if it may have so many.
+///
+/// # Errors
+///
+/// Read where a read failed.
+fn has_part_start<S: BlockSource>(
+    source: &mut S,
+    group: &Group,
+    parts: u64,
+) -> Result<bool, DetectError>
+    requires size { (S.known source.old).size < 2 ^ 63 }
+    requires lies { LiesIn (S.known source.old).size group.now }
+    requires some { 1 ≤ parts }
+    requires few { parts < 2 ^ 32 }
+    ensures known { S.known source.new ≡ after_detecting (S.known source.old) result }
+    ensures narrows { Narrows (S.agrees source.old) (S.agrees source.new) }
+    ensures has { IfOk result (λ has. WhereHeld (S.agrees source.new) (λ bytes. has ≡ has_part_start bytes group.now parts)) }
+    ensures failed { IfErr result (IsReadAt (S.known source.old).size) }
+    ensures named { IfErr result (NamesPlace (S.failed_at source.new)) }
+{
+    if !may_be_parts(&group.key.offsets, group.size, parts) {
+        return Ok(false);
+    }
+    let test = SomePart {
+        size: group.size,
+        parts,
+        test: &Starts { group },
+    };
+    some_start(source, group, &test)
+}
+
+/// Whether a header of a group stands where a part of an eraseblock could begin.
+///
+/// # Errors
+///
+/// Read where a read failed.
+pub fn has_inner_start<S: BlockSource>(
+    source: &mut S,
+    group: &Group,
+) -> Result<bool, DetectError>
+    requires size { (S.known source.old).size < 2 ^ 63 }
+    requires lies { LiesIn (S.known source.old).size group.now }
+    ensures known { S.known source.new ≡ after_detecting (S.known source.old) result }
+    ensures narrows { Narrows (S.agrees source.old) (S.agrees source.new) }
+    ensures has { IfOk result (λ has. WhereHeld (S.agrees source.new) (λ bytes. has ≡ has_inner_start bytes group.now)) }
+    ensures failed { IfErr result (IsReadAt (S.known source.old).size) }
+    ensures named { IfErr result (NamesPlace (S.failed_at source.new)) }
+{
+    for i in 0..group.size / STEP {
+        if has_part_start(source, group, i + 2)? {
+            return Ok(true);
+        }
+    }
+    Ok(false)
 }
