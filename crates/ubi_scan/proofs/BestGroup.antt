@@ -1,7 +1,7 @@
 -- The group that speaks for most bytes is that of the image.
 use Rattle.std.proofs.Common.{◌≡◌, ◌≢◌, ℕ, ◌+◌, ◌*◌, ◌<◌, ◌≤◌, ◌⊎◌, Bool, true, false, List, [], ◌∷◌, ◌++◌, length, inl, inr, refl, ap, sym, ◌∙◌, subst, arith}
 use Rattle.std.specs.List.{All, list_all}
-use Rattle.std.specs.Prelude.{◌&&◌, ◌||◌, ◌==◌, IsFalse, IsTrue, MatchOption, None, Option, Some, map, nat_le, nat_lt, not, slice_index_or}
+use Rattle.std.specs.Prelude.{◌&&◌, ◌||◌, ◌==◌, IfSome, IsFalse, IsTrue, MatchOption, None, Option, Some, map, nat_le, nat_lt, not, slice_index_or}
 use Rattle.std.proofs.lemmas.Bool.{and_cases, and_from, and_parts, le-leb, leb-true, ltb-false, ltb-true, true≢false}
 use Rattle.std.proofs.lemmas.List.{get_or-map, get_or_default, length-map}
 use Rattle.std.proofs.lemmas.List.Folds.{list_all-map}
@@ -12,7 +12,7 @@ use Rattle.ubi_scan.specs.Heads.{keys_of, places, same_offsets, speaks}
 use Rattle.ubi_scan.specs.declared.groups.Group.{Group}
 use Rattle.ubi_scan.specs.declared.heads.Head.{Head}
 use Rattle.ubi_scan.specs.declared.heads.Key.{Key}
-use Rattle.ubi_scan.specs.inner.Detecting.{AreGroups, IsBestOf, NoneSays, beats, says_size, speaks_among}
+use Rattle.ubi_scan.specs.inner.Detecting.{AreGroups, IsBestOf, IsWithin, NoneSays, beats, says_size, speaks_among}
 use Rattle.ubi_scan.proofs.AddedGroups.{no_group}
 
 and_true : (b : Bool) → (b && true) ≡ b
@@ -169,3 +169,20 @@ module _ (heads : List Head) (gs : List Group) (are : AreGroups heads gs) where
       → MatchOption best ((j : ℕ) (g : Group) → IsImage heads j g → ⊥) (λ g. (j : ℕ) × IsImage heads j g)
   image_of n None e none = let P : ℕ → Type 0 = λ m. NoneSays gs m in no_image (subst P e none)
   image_of n (Some g) e best = let P : ℕ → Type 0 = λ m. IsBestOf gs m g in best_image g (subst P e best)
+
+-- what holds of each group, and what is asked of one that says a size, holds of the best one
+pub best_within : (gs : List Group) (n m : ℕ) (best : Option Group) → m ≤ length gs → MatchOption best (NoneSays gs m) (IsBestOf gs m)
+    → All (IsWithin n) gs → IfSome best (IsWithin n)
+best_within gs n m None e none all = tt
+best_within gs n m (Some g) e best all =
+    let P : Group → Type 0 = λ f. IsWithin n f in
+    let at = best.inside in subst P (best.is no_group) (all best.index no_group (omega (arith, at, e)))
+
+pub best_size : (gs : List Group) (m : ℕ) (best : Option Group) → MatchOption best (NoneSays gs m) (IsBestOf gs m)
+    → IfSome best (λ g. (1 ≤ g.size) × (g.size ≤ greatest_size) × (2 ≤ g.count))
+best_size gs m None none = tt
+best_size gs m (Some g) best =
+    let all = and_parts _ _ best.says in
+    let sizes = and_parts _ _ all.0 in
+    let least = and_parts _ _ sizes.0 in
+    (leb-true 1 g.size least.1, leb-true g.size greatest_size sizes.1, leb-true 2 g.count least.0)

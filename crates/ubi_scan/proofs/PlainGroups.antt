@@ -60,7 +60,7 @@ module _ (bytes : List ℕ) (n q : ℕ) (sized : length bytes ≡ n) (is : IsPla
   below_count : (g : Group) → IsPlain bytes g → (i : ℕ) → i < n / q → i < g.count
   below_count g plain i below =
       let size = is.one g plain in
-      let all : (i + 1) * q ≤ n / q * q = mul-le-mul_right q below in
+      let all : (i + 1) * q ≤ n / q * q = mul-le-mul_right q (omega (arith, below)) in
       let count : g.count * q ≡ n = ap (λ s. g.count * s) (sym size) ∙ plain.count ∙ sized in
       let c = count_is in
       let less : i * q < g.count * q = (let f = is.from in let m = next_mul i q in omega (arith, all, count, c, f, m)) in

@@ -1,6 +1,20 @@
 //! The geometry of a file of which nothing else is known, and where in it the image lies.
 
-use std::alloc::{AllocError, AllocFailed};
+ghost use Rattle.std.specs.Prelude.{◌≡◌, ◌≢◌, ℕ, ◌<◌, ◌≤◌, ◌^◌, [], IfErr, IfOk, IfSome, MatchOption};
+ghost use Rattle.ubi_scan.specs.Detected.{AreDetectedOf, IsDetectError, IsFound, NamesPlace, NonePlain, after_detecting};
+ghost use Rattle.ubi_scan.specs.Place.{end_of_last, told};
+ghost use Rattle.ubi_scan.specs.Plain.{IsSurelyPlain};
+ghost use Rattle.ubi_scan.specs.Source.{Narrows, WhereHeld};
+ghost use Rattle.ubi_scan.specs.inner.Detecting.{AreWays, IsReadError, IsUntold, LiesIn};
+
+use crate::groups::{Group, image_among};
+use crate::place::told;
+use crate::plain::read_plain;
+use crate::source::BlockSource;
+use crate::sure::{has_inner_start, is_sure};
+use crate::survey::read_groups;
+use crate::ways::Ways;
+use std::alloc::{AllocError, AllocFailed, Global};
 use std::error::Error;
 use std::fmt;
 use ubi_media::{EcOffsets, Geometry};
@@ -106,4 +120,142 @@ impl<T: Drop> From<AllocFailed<T>> for DetectError {
     fn from(_: AllocFailed<T>) -> DetectError {
         DetectError::Memory
     }
+}
+
+/// What is told of the image of a group.
+///
+/// # Errors
+///
+/// Undetected with OutOfBand or Page. Read where a read failed. Memory where it ran out.
+fn tell<S: BlockSource>(
+    alloc: Global,
+    source: &mut S,
+    group: &Group,
+    ways: &Ways,
+) -> Result<Vec<Detected>, DetectError>
+    requires size { (S.known source.old).size < 2 ^ 63 }
+    requires lies { LiesIn (S.known source.old).size group.now }
+    requires whole { end_of_last group.now ≤ (S.known source.old).size }
+    requires ways { AreWays group.now ways.now }
+    ensures known { S.known source.new ≡ after_detecting (S.known source.old) result }
+    ensures narrows { Narrows (S.agrees source.old) (S.agrees source.new) }
+    ensures told { IfOk result (λ found. WhereHeld (S.agrees source.new) (λ bytes. found.items ≡ told bytes group.now)) }
+    ensures some { IfOk result (λ found. found.items ≢ []) }
+    ensures refused { IfErr result (IsUntold (S.known source.old).size (S.agrees source.new) group.now) }
+    ensures named { IfErr result (NamesPlace (S.failed_at source.new)) }
+{
+    let found = told(alloc, source, group, ways)?;
+    if !found.is_empty() {
+        return Ok(found);
+    }
+    if ways.are_none() {
+        let page = Undetected::Page(group.size, group.key.offsets);
+        return Err(DetectError::Undetected(page));
+    }
+    Err(DetectError::Undetected(Undetected::OutOfBand(group.size)))
+}
+
+/// The group of the image that a source plainly is, and the pages that its eraseblocks may have, if it plainly is one.
+///
+/// # Errors
+///
+/// Read where a read failed. Memory where it ran out.
+fn plain_image<S: BlockSource>(
+    alloc: Global,
+    source: &mut S,
+) -> Result<Option<(Group, Ways)>, DetectError>
+    requires { (S.known source.old).size < 2 ^ 63 }
+    ensures known { S.known source.new ≡ after_detecting (S.known source.old) result }
+    ensures narrows { Narrows (S.agrees source.old) (S.agrees source.new) }
+    ensures plain { IfOk result (λ o. MatchOption o (WhereHeld (S.agrees source.new) NonePlain) (λ image. WhereHeld (S.agrees source.new) (λ bytes. IsSurelyPlain bytes image.0))) }
+    ensures lies { IfOk result (λ o. IfSome o (λ image. LiesIn (S.known source.old).size image.0)) }
+    ensures whole { IfOk result (λ o. IfSome o (λ image. end_of_last image.0 ≤ (S.known source.old).size)) }
+    ensures ways { IfOk result (λ o. IfSome o (λ image. AreWays image.0 image.1)) }
+    ensures failed { IfErr result (IsReadError (S.known source.old).size) }
+    ensures named { IfErr result (NamesPlace (S.failed_at source.new)) }
+{
+    let Some(group) = read_plain(source)? else {
+        return Ok(None);
+    };
+    if has_inner_start(source, &group)? {
+        return Ok(None);
+    }
+    let ways = Ways::of(alloc, &group)?;
+    if is_sure(alloc, source, &group, &ways)? {
+        Ok(Some((group, ways)))
+    } else {
+        Ok(None)
+    }
+}
+
+/// The group of the image that the headers of a source say, where none plainly is, and the pages that its eraseblocks may have.
+///
+/// # Errors
+///
+/// Undetected with NoHeader, NoSize or Length. Read where a read failed. Memory where it ran out.
+fn found_image<S: BlockSource>(
+    alloc: Global,
+    source: &mut S,
+) -> Result<(Group, Ways), DetectError>
+    requires size { (S.known source.old).size < 2 ^ 63 }
+    requires none { WhereHeld (S.agrees source.old) NonePlain }
+    ensures known { S.known source.new ≡ after_detecting (S.known source.old) result }
+    ensures narrows { Narrows (S.agrees source.old) (S.agrees source.new) }
+    ensures found { IfOk result (λ image. WhereHeld (S.agrees source.new) (λ bytes. IsFound bytes image.0)) }
+    ensures lies { IfOk result (λ image. LiesIn (S.known source.old).size image.0) }
+    ensures whole { IfOk result (λ image. end_of_last image.0 ≤ (S.known source.old).size) }
+    ensures ways { IfOk result (λ image. AreWays image.0 image.1) }
+    ensures refused { IfErr result (IsDetectError (S.known source.old) (S.agrees source.new)) }
+    ensures named { IfErr result (NamesPlace (S.failed_at source.new)) }
+{
+    let groups = read_groups(alloc, source)?;
+    if groups.is_empty() {
+        return Err(DetectError::Undetected(Undetected::NoHeader));
+    }
+    let Some(group) = image_among(groups.as_slice()) else {
+        return Err(DetectError::Undetected(Undetected::NoSize));
+    };
+    let rest = source.len() - group.last;
+    if rest < group.size {
+        return Err(DetectError::Undetected(Undetected::Length(group.size, rest)));
+    }
+    let ways = Ways::of(alloc, &group)?;
+    if !is_sure(alloc, source, &group, &ways)? {
+        return Err(DetectError::Undetected(Undetected::NoSize));
+    }
+    Ok((group, ways))
+}
+
+/// The most bytes that a file has.
+const LONGEST: u64 = 0x7FFF_FFFF_FFFF_FFFF;
+
+/// Detects the geometry of a source of which nothing else is known, and which part of it is the image: by the erase-counter headers at
+/// multiples of 64 that name the same offsets and the same image sequence number, or none, as docs/FORMAT.md has it. There is one for
+/// each page that Linux lays out so, the least first; as many eraseblocks as a device may have are given to each. Where a source is
+/// plainly an image its first two eraseblocks are read, and single places of the others; else all of it, from its beginning to its end.
+///
+/// # Errors
+///
+/// Undetected with the first cause that stands: NoHeader; NoSize, where no headers say a size; Length; NoSize, where it isn't sure;
+/// OutOfBand; Page. Read where a read failed. Memory where it ran out: it needs 64 KiB, and 48 bytes for each two offsets and number
+/// that headers name.
+pub fn detect_from<S: BlockSource>(
+    alloc: Global,
+    source: &mut S,
+) -> Result<Vec<Detected>, DetectError>
+    ensures known { S.known source.new ≡ after_detecting (S.known source.old) result }
+    ensures narrows { Narrows (S.agrees source.old) (S.agrees source.new) }
+    ensures found { IfOk result (λ found. AreDetectedOf (S.agrees source.new) found.items) }
+    ensures some { IfOk result (λ found. found.items ≢ []) }
+    ensures refused { IfErr result (IsDetectError (S.known source.old) (S.agrees source.new)) }
+    ensures named { IfErr result (NamesPlace (S.failed_at source.new)) }
+{
+    if source.len() > LONGEST {
+        return Err(DetectError::Memory);
+    }
+    if let Some((group, ways)) = plain_image(alloc, source)? {
+        return tell(alloc, source, &group, &ways);
+    }
+    let (group, ways) = found_image(alloc, source)?;
+    tell(alloc, source, &group, &ways)
 }

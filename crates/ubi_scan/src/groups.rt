@@ -2,11 +2,11 @@
 
 ghost use Rattle.std.specs.Int.{IsGcd};
 ghost use Rattle.std.specs.List.{All};
-ghost use Rattle.std.specs.Prelude.{◌≡◌, ◌+◌, ◌*◌, ◌<◌, ◌≤◌, ◌^◌, ◌/◌, ◌%◌, ◌++◌, ◌&&◌, ◌∷◌, [], false, List, MatchOption, OnOk, ℕ};
+ghost use Rattle.std.specs.Prelude.{◌≡◌, ◌+◌, ◌*◌, ◌<◌, ◌≤◌, ◌^◌, ◌/◌, ◌%◌, ◌++◌, ◌&&◌, ◌∷◌, [], false, IfSome, List, MatchOption, OnOk, ℕ};
 ghost use Rattle.ubi_scan.specs.Groups.{IsImage};
 ghost use Rattle.ubi_scan.specs.Heads.{step};
 ghost use Rattle.ubi_scan.specs.declared.heads.Head.{Head};
-ghost use Rattle.ubi_scan.specs.Groups.{IsGroup, spoken};
+ghost use Rattle.ubi_scan.specs.Groups.{IsGroup, greatest_size, spoken};
 ghost use Rattle.ubi_scan.specs.inner.Detecting.{AreAdded, AreGroups, AreReady, IsAdded, IsWithin, are_unnumbered, beats, first_with, group_with, has_key, says_size, speaks_among};
 
 use crate::heads::{Head, Key};
@@ -214,7 +214,9 @@ fn is_better(groups: &[Group], group: &Group, best: &Option<Group>) -> bool
 
 /// The group of the image of a file, of the groups of its headers: the one that speaks for most bytes, of several the first one.
 pub fn image_among(groups: &[Group]) -> Option<Group>
-    ensures { (heads : List Head) → AreGroups heads groups.now → MatchOption result ((j : ℕ) (g : Group) → IsImage heads j g → ⊥) (λ g. (j : ℕ) × IsImage heads j g) }
+    ensures within { (n : ℕ) → All (IsWithin n) groups.now → IfSome result (IsWithin n) }
+    ensures size { IfSome result (λ g. (1 ≤ g.size) × (g.size ≤ greatest_size) × (2 ≤ g.count)) }
+    ensures image { (heads : List Head) → AreGroups heads groups.now → MatchOption result ((j : ℕ) (g : Group) → IsImage heads j g → ⊥) (λ g. (j : ℕ) × IsImage heads j g) }
 {
     let mut best: Option<Group> = None;
     for i in 0..groups.len() {

@@ -61,7 +61,7 @@ mod ways;
 mod window;
 
 pub use blocks::Blocks;
-pub use detect::{DetectError, Detected, Undetected};
+pub use detect::{DetectError, Detected, Undetected, detect_from};
 pub use errors::StreamError;
 pub use file::FileSource;
 pub use found::{Leb, MemberHeader, Scan, ScanState};

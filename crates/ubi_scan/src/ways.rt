@@ -1,7 +1,7 @@
 //! The pages that eraseblocks of a size may have, with out-of-band bytes or without.
 
 ghost use Rattle.std.specs.List.{filter_map};
-ghost use Rattle.std.specs.Prelude.{◌≡◌, ◌++◌, ◌<◌, ◌≤◌, ◌^◌, IfOk, OnOk};
+ghost use Rattle.std.specs.Prelude.{◌≡◌, ◌++◌, ◌<◌, ◌≤◌, ◌^◌, ◌==◌, ◌&&◌, IfOk, OnOk, length};
 ghost use Rattle.ubi_scan.specs.Groups.{greatest_size};
 ghost use Rattle.ubi_scan.specs.inner.Detecting.{AreWays};
 ghost use Rattle.ubi_scan.specs.Layout.{geometry_of};
@@ -149,5 +149,12 @@ impl Ways {
         let without = plain_ways(alloc, size, offsets)?;
         let with = oob_ways(alloc, size, offsets)?;
         Ok(Ways { without, with })
+    }
+
+    /// Whether there are none.
+    pub fn are_none(&self) -> bool
+        ensures { result ≡ (length self.now.without.items == 0) && (length self.now.with.items == 0) }
+    {
+        self.without.is_empty() && self.with.is_empty()
     }
 }

@@ -1,15 +1,17 @@
 -- What is answered on the way to what is detected of a file.
-use Rattle.std.specs.Prelude.{◌≡◌, ℕ, ◌+◌, ◌-◌, ◌*◌, ◌<◌, ◌≤◌, ◌⊎◌, ◌==◌, ◌&&◌, ◌||◌, Bool, None, Some, true, if◌then◌else◌, nat_le, nat_lt, IsFalse, IsTrue, List, Option, find, fold, length, map, max, not, option_map, slice_index_or}
+use Rattle.std.specs.Prelude.{◌≡◌, ℕ, ◌+◌, ◌-◌, ◌*◌, ◌<◌, ◌≤◌, ◌⊎◌, ◌==◌, ◌&&◌, ◌||◌, Bool, [], None, Some, true, if◌then◌else◌, nat_le, nat_lt, IsFalse, IsTrue, List, Option, find, fold, length, map, max, not, option_map, slice_index_or}
 use Rattle.std.specs.Int.{IsGcd}
 use Rattle.std.specs.List.{All, list_all, list_any}
 use Rattle.std.specs.Option.{option_to_list}
 use Rattle.ubi_scan.specs.Groups.{IsGroup, greatest_size, spoken}
 use Rattle.ubi_scan.specs.Heads.{is_of, key_in, keys_of, same_key, same_offsets, step, with_key}
-use Rattle.ubi_scan.specs.Place.{ways_with, ways_without}
+use Rattle.ubi_scan.specs.Place.{has_no_page, told, ways_with, ways_without}
+use Rattle.ubi_scan.specs.Source.{Agreed, WhereHeld}
 use Rattle.ubi_scan.specs.declared.way.Way.{Way}
 use Rattle.ubi_scan.specs.declared.ways.Ways.{Ways}
 use Rattle.ubi_scan.specs.declared.detect.DetectError.{DetectError}
 use Rattle.ubi_scan.specs.declared.detect.DetectError.TheVariants as error
+use Rattle.ubi_scan.specs.declared.detect.Undetected.TheVariants as cause
 use Rattle.ubi_scan.specs.declared.groups.Group.{Group}
 use Rattle.ubi_scan.specs.declared.heads.Head.{Head}
 use Rattle.ubi_scan.specs.declared.heads.Key.{Key}
@@ -121,3 +123,13 @@ pub record AreWays (g : Group) (w : Ways) : Type 0 where
 -- whether a way has as many votes as the one of some ways that has most, and one at least
 abbrev pub is_most_voted : (Way → ℕ) → List Way → Way → Bool
 is_most_voted f ws w = nat_lt 0 (f w) && (f w == fold max 0 (map f ws))
+
+-- why no geometry is told of the image of a group in a source of this size
+abbrev pub IsUntold : ℕ → Agreed → Group → DetectError → Type 0
+IsUntold size agrees g (error.Undetected (cause.OutOfBand q)) =
+    WhereHeld agrees (λ bytes. told bytes g ≡ []) × IsFalse (has_no_page g) × (q ≡ g.size)
+IsUntold size agrees g (error.Undetected (cause.Page q o)) =
+    WhereHeld agrees (λ bytes. told bytes g ≡ []) × IsTrue (has_no_page g) × (q ≡ g.size) × (o ≡ g.key.offsets)
+IsUntold size agrees g (error.Undetected _) = ⊥
+IsUntold size agrees g (error.Read at) = at < size
+IsUntold size agrees g error.Memory = Unit {0}

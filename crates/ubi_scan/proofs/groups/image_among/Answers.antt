@@ -5,7 +5,7 @@ use Rattle.std.proofs.lemmas.List.{get_or_default}
 use Rattle.ubi_scan.specs.declared.groups.Group.{Group}
 use Rattle.ubi_scan.specs.inner.Detecting.{IsBestOf, NoneSays}
 use Rattle.ubi_scan.proofs.AddedGroups.{no_group}
-use Rattle.ubi_scan.proofs.BestGroup.{best_taken, image_of, stays_best}
+use Rattle.ubi_scan.proofs.BestGroup.{best_size, best_taken, best_within, image_of, stays_best}
 use Rattle.ubi_scan.proofs.groups.image_among.Goals as goal
 use Rattle.ubi_scan.proofs.groups.image_among.Goals.{else-is_better, then-is_better}
 
@@ -24,7 +24,13 @@ loop-i-preserved c =
           (sym c.is_better.ensures ∙ w.if-is_better.false))
     ]
 
-pub returns : goal.returns
-returns c = λ heads are.
+pub returns-clause-within : goal.returns-clause-within
+returns-clause-within c = λ n all. let e = c.loop-i.auto.i-end in best_within c.args.groups.now n c.loop-i.i c.loop-i.best e c.loop-i.invariant all
+
+pub returns-clause-size : goal.returns-clause-size
+returns-clause-size c = best_size c.args.groups.now c.loop-i.i c.loop-i.best c.loop-i.invariant
+
+pub returns-clause-image : goal.returns-clause-image
+returns-clause-image c = λ heads are.
     image_of heads c.args.groups.now are c.loop-i.i c.loop-i.best (let e = c.loop-i.auto.i-end in omega (arith, e, c.loop-i-test.false))
     c.loop-i.invariant
