@@ -31,6 +31,7 @@ pub mod NewGroups
 pub mod Next
 pub mod Nominated
 pub mod OneFault
+pub mod OnePlain
 pub mod OneScan
 pub mod Parts
 pub mod Places

@@ -5,11 +5,12 @@ use Rattle.std.specs.Prelude.{◌&&◌, ◌==◌, IsFalse, map, max, nat_lt}
 use Rattle.std.proofs.lemmas.Bool.{le-ltb, lt-ltb, or_from, or_right}
 use Rattle.std.proofs.lemmas.List.{append-nil, get_or-map}
 use Rattle.std.proofs.lemmas.List.Elements.{filter_more}
-use Rattle.ubi_scan.specs.Place.{has_vote, is_voted, is_without, told_ways, top_vote, votes, ways_with, ways_without}
+use Rattle.ubi_scan.specs.Place.{has_no_page, has_vote, is_voted, is_without, told_ways, top_vote, votes, ways_with, ways_without}
 use Rattle.ubi_scan.specs.Ways.{has_no_way}
 use Rattle.ubi_scan.specs.declared.groups.Group.{Group}
 use Rattle.ubi_scan.specs.declared.way.Way.{Way}
-use Rattle.ubi_scan.specs.inner.Detecting.{is_most_voted}
+use Rattle.ubi_scan.specs.declared.ways.Ways.{Ways}
+use Rattle.ubi_scan.specs.inner.Detecting.{AreWays, is_most_voted}
 
 module _ (f : Way → ℕ) (ws : List Way) (vs : List ℕ) (are : vs ≡ map f ws) (i : ℕ) (d : Way) (inside : i < length ws) (found : List Way)
     (so_far : found ≡ filter (is_most_voted f ws) (take i ws)) (b : Bool)
@@ -50,3 +51,9 @@ module _ (bytes : List ℕ) (g : Group) (vs us : List ℕ) (with : vs ≡ map (v
       (le-ltb (top_vote bytes g (ways_with g)) (top_vote bytes g (ways_without g))
       (let v = ap (fold max 0) with in let u = ap (fold max 0) without in omega (arith, more, v, u))) in
       sym (ap (λ b. cond b (filter (has_vote bytes g) (ways_without g)) (filter (is_voted bytes g) (ways_with g))) e)
+
+-- whether there is no page, by the ways that were made
+pub no_page_is : (g : Group) (w : Ways) → AreWays g w → has_no_page g ≡ ((length w.without.items == 0) && (length w.with.items == 0))
+no_page_is g w are =
+    ap (λ (ws : List Way). (length ws == 0) && (length (ways_with g) == 0)) (sym are.without)
+    ∙ ap (λ (ws : List Way). (length w.without.items == 0) && (length ws == 0)) (sym are.with)

@@ -22,7 +22,7 @@ module _ (bytes : List ℕ) (g : Group) (plain : IsPlain bytes g) where
       let f = plain.count in omega (arith, e, f)
 
   -- the unit in which the second one starts with a header
-  second : (k : Key) × (key_at bytes (g.size / step * step) ≡ Some k)
+  pub second : (k : Key) × (key_at bytes (g.size / step * step) ≡ Some k)
   second =
       let h = plain.each 1 plain.two in
       let e : g.size / step * step ≡ 1 * g.size = (let f = mod-add-div' g.size step in let u = plain.units in omega (arith, f, u)) in
