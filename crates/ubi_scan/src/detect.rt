@@ -5,7 +5,8 @@ ghost use Rattle.ubi_scan.specs.Detected.{AreDetectedOf, IsDetectError, IsFound,
 ghost use Rattle.ubi_scan.specs.Place.{end_of_last, told};
 ghost use Rattle.ubi_scan.specs.Plain.{IsSurelyPlain};
 ghost use Rattle.ubi_scan.specs.Source.{Narrows, WhereHeld};
-ghost use Rattle.ubi_scan.specs.inner.Detecting.{AreWays, IsReadError, IsUntold, LiesIn};
+ghost use Rattle.ubi_scan.specs.inner.Detecting.{AreWays, IsReadAt, IsReadError, IsUntold, LiesIn};
+ghost use Rattle.ubi_scan.specs.inner.Joined.{IsAlone, NoneAlone};
 
 use crate::groups::{Group, image_among};
 use crate::place::told;
@@ -155,6 +156,31 @@ fn tell<S: BlockSource>(
     Err(DetectError::Undetected(Undetected::OutOfBand(group.size)))
 }
 
+/// The group of a source that is plainly an image, but for what its eraseblocks hold, if no header of it stands where a part of one
+/// could begin.
+///
+/// # Errors
+///
+/// Read where a read failed.
+fn plain_group<S: BlockSource>(source: &mut S) -> Result<Option<Group>, DetectError>
+    requires { (S.known source.old).size < 2 ^ 63 }
+    ensures known { S.known source.new ≡ after_detecting (S.known source.old) result }
+    ensures narrows { Narrows (S.agrees source.old) (S.agrees source.new) }
+    ensures plain { IfOk result (λ o. MatchOption o (WhereHeld (S.agrees source.new) NoneAlone) (λ g. WhereHeld (S.agrees source.new) (λ bytes. IsAlone bytes g))) }
+    ensures lies { IfOk result (λ o. IfSome o (LiesIn (S.known source.old).size)) }
+    ensures whole { IfOk result (λ o. IfSome o (λ g. end_of_last g ≤ (S.known source.old).size)) }
+    ensures failed { IfErr result (IsReadAt (S.known source.old).size) }
+    ensures named { IfErr result (NamesPlace (S.failed_at source.new)) }
+{
+    let Some(group) = read_plain(source)? else {
+        return Ok(None);
+    };
+    if has_inner_start(source, &group)? {
+        return Ok(None);
+    }
+    Ok(Some(group))
+}
+
 /// The group of the image that a source plainly is, and the pages that its eraseblocks may have, if it plainly is one.
 ///
 /// # Errors
@@ -174,12 +200,9 @@ fn plain_image<S: BlockSource>(
     ensures failed { IfErr result (IsReadError (S.known source.old).size) }
     ensures named { IfErr result (NamesPlace (S.failed_at source.new)) }
 {
-    let Some(group) = read_plain(source)? else {
+    let Some(group) = plain_group(source)? else {
         return Ok(None);
     };
-    if has_inner_start(source, &group)? {
-        return Ok(None);
-    }
     let ways = Ways::of(alloc, &group)?;
     if is_sure(alloc, source, &group, &ways)? {
         Ok(Some((group, ways)))

@@ -1,7 +1,8 @@
 -- Headers that are of one group.
-use Rattle.std.specs.Prelude.{◌≡◌, ◌≢◌, ℕ, ◌*◌, ◌%◌, ◌<◌, ◌≤◌, ◌⊎◌, IsTrue, List, None, Some, length}
+use Rattle.std.specs.Prelude.{◌≡◌, ◌≢◌, ℕ, ◌*◌, ◌%◌, ◌<◌, ◌≤◌, ◌⊎◌, IsFalse, IsTrue, List, None, Some, length}
 use Rattle.ubi_scan.specs.Groups.{greatest_size}
 use Rattle.ubi_scan.specs.Plain.{IsPlain}
+use Rattle.ubi_scan.specs.Sure.{has_inner_start}
 use Rattle.ubi_scan.specs.Heads.{is_of, key_at, step}
 use Rattle.ubi_scan.specs.declared.groups.Group.{Group}
 use Rattle.ubi_scan.specs.declared.heads.Key.{Key}
@@ -60,3 +61,12 @@ pub record IsCut (n q : ℕ) : Type 0 where
   pub to : q ≤ greatest_size
   pub two : 2 * q ≤ n
   pub whole : n % q ≡ 0
+
+-- none that plainly is has all headers of its group where its eraseblocks begin
+abbrev pub NoneAlone : List ℕ → Type 0
+NoneAlone bytes = (g : Group) → IsPlain bytes g → IsFalse (has_inner_start bytes g) → ⊥
+
+-- this one has
+pub record IsAlone (bytes : List ℕ) (g : Group) : Type 0 where
+  pub plain : IsPlain bytes g
+  pub alone : IsFalse (has_inner_start bytes g)
