@@ -40,6 +40,7 @@ pub mod PlainSizes
 pub mod ReadParts
 pub mod Revalued
 pub mod Runs
+pub mod SaidGroups
 pub mod Seen
 pub mod Seq
 pub mod Shown

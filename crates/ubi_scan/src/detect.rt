@@ -1,7 +1,7 @@
 //! The geometry of a file of which nothing else is known, and where in it the image lies.
 
 ghost use Rattle.std.specs.Prelude.{◌≡◌, ◌≢◌, ℕ, ◌<◌, ◌≤◌, ◌^◌, [], IfErr, IfOk, IfSome, MatchOption};
-ghost use Rattle.ubi_scan.specs.Detected.{AreDetectedOf, IsDetectError, IsFound, NamesPlace, NonePlain, after_detecting};
+ghost use Rattle.ubi_scan.specs.Detected.{AreDetectedOf, IsDetectError, IsFound, IsWhole, NamesPlace, NonePlain, after_detecting};
 ghost use Rattle.ubi_scan.specs.Place.{end_of_last, told};
 ghost use Rattle.ubi_scan.specs.Plain.{IsSurelyPlain};
 ghost use Rattle.ubi_scan.specs.Source.{Narrows, WhereHeld};
@@ -211,6 +211,36 @@ fn plain_image<S: BlockSource>(
     }
 }
 
+/// The group of the image that the headers of a source say, where none plainly is.
+///
+/// # Errors
+///
+/// Undetected with NoHeader, NoSize or Length. Read where a read failed. Memory where it ran out.
+fn said_group<S: BlockSource>(alloc: Global, source: &mut S) -> Result<Group, DetectError>
+    requires size { (S.known source.old).size < 2 ^ 63 }
+    requires none { WhereHeld (S.agrees source.old) NonePlain }
+    ensures known { S.known source.new ≡ after_detecting (S.known source.old) result }
+    ensures narrows { Narrows (S.agrees source.old) (S.agrees source.new) }
+    ensures found { IfOk result (λ g. WhereHeld (S.agrees source.new) (λ bytes. IsWhole bytes g)) }
+    ensures lies { IfOk result (LiesIn (S.known source.old).size) }
+    ensures whole { IfOk result (λ g. end_of_last g ≤ (S.known source.old).size) }
+    ensures refused { IfErr result (IsDetectError (S.known source.old) (S.agrees source.new)) }
+    ensures named { IfErr result (NamesPlace (S.failed_at source.new)) }
+{
+    let groups = read_groups(alloc, source)?;
+    if groups.is_empty() {
+        return Err(DetectError::Undetected(Undetected::NoHeader));
+    }
+    let Some(group) = image_among(groups.as_slice()) else {
+        return Err(DetectError::Undetected(Undetected::NoSize));
+    };
+    let rest = source.len() - group.last;
+    if rest < group.size {
+        return Err(DetectError::Undetected(Undetected::Length(group.size, rest)));
+    }
+    Ok(group)
+}
+
 /// The group of the image that the headers of a source say, where none plainly is, and the pages that its eraseblocks may have.
 ///
 /// # Errors
@@ -231,17 +261,7 @@ fn found_image<S: BlockSource>(
     ensures refused { IfErr result (IsDetectError (S.known source.old) (S.agrees source.new)) }
     ensures named { IfErr result (NamesPlace (S.failed_at source.new)) }
 {
-    let groups = read_groups(alloc, source)?;
-    if groups.is_empty() {
-        return Err(DetectError::Undetected(Undetected::NoHeader));
-    }
-    let Some(group) = image_among(groups.as_slice()) else {
-        return Err(DetectError::Undetected(Undetected::NoSize));
-    };
-    let rest = source.len() - group.last;
-    if rest < group.size {
-        return Err(DetectError::Undetected(Undetected::Length(group.size, rest)));
-    }
+    let group = said_group(alloc, source)?;
     let ways = Ways::of(alloc, &group)?;
     if !is_sure(alloc, source, &group, &ways)? {
         return Err(DetectError::Undetected(Undetected::NoSize));
