@@ -47,3 +47,11 @@ lies_in n g within size = record {
   order = within.order;
   last = (let some = size.2 in let l = within.last (omega (arith, some)) in omega (arith, l));
 }
+
+-- an image has headers
+pub image_heads : (heads : List Head) (j : ℕ) (g : Group) → IsImage heads j g → heads ≢ []
+image_heads heads j g is e = let n = ap (λ hs. length (keys_of hs)) e in let i = is.says.inside in omega (arith, n, i)
+
+-- a whole image of which the size isn't sure is refused for it
+pub not_sure : (bytes : List ℕ) (g : Group) → IsWhole bytes g → IsFalse (is_sure bytes g) → IsUndetected bytes cause.NoSize
+not_sure bytes g is fails = (image_heads (heads_of bytes) is.index g is.image, is.none, inr (g, is, fails))
