@@ -9,6 +9,7 @@ pub mod Compatible
 pub mod Counted
 pub mod Counters
 pub mod Decided
+pub mod DetectedParts
 pub mod Either
 pub mod Entries
 pub mod ErrorTextVectors
