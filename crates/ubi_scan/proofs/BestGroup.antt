@@ -1,5 +1,5 @@
 -- The group that speaks for most bytes is that of the image.
-use Rattle.std.proofs.Common.{◌≡◌, ◌≢◌, ℕ, ◌+◌, ◌*◌, ◌<◌, ◌≤◌, ◌⊎◌, Bool, true, false, List, [], ◌∷◌, ◌++◌, length, inl, inr, refl, ap, sym, ◌∙◌, subst, arith}
+use Rattle.std.proofs.Common.{◌≡◌, ◌≢◌, ℕ, ◌+◌, ◌-◌, ◌*◌, ◌<◌, ◌≤◌, ◌⊎◌, Bool, true, false, List, [], ◌∷◌, ◌++◌, length, inl, inr, refl, ap, sym, ◌∙◌, subst, arith}
 use Rattle.std.specs.List.{All, list_all}
 use Rattle.std.specs.Prelude.{◌&&◌, ◌||◌, ◌==◌, IfSome, IsFalse, IsTrue, MatchOption, None, Option, Some, map, nat_le, nat_lt, not, slice_index_or}
 use Rattle.std.proofs.lemmas.Bool.{and_cases, and_from, and_parts, le-leb, leb-true, ltb-false, ltb-true, true≢false}
@@ -80,17 +80,17 @@ module _ (gs : List Group) (n : ℕ) (inside : n < length gs) (g : Group) (is : 
 
 -- a group is one value by its key
 module _ (heads : List Head) (f g : Group) (one : IsGroup heads f) (two : IsGroup heads g) (same : f.key ≡ g.key) where
-  same_count : f.count ≡ g.count
+  pub same_count : f.count ≡ g.count
   same_count = one.count ∙ ap (λ k. length (places heads k)) same ∙ sym two.count
 
-  same_size : f.size ≡ g.size
+  pub same_size : f.size ≡ g.size
   same_size =
       let P : Key → Type 0 = λ k. IsSpacing (places heads k) f.size in
       let here = subst P same one.size in
       dvd_antisymm (two.size.greatest f.size here.divides) (here.greatest g.size two.size.divides)
 
   same_spoken : spoken f ≡ spoken g
-  same_spoken = ap (λ n. n * f.size) same_count ∙ ap (λ n. g.count * n) same_size
+  same_spoken = ap (λ n. (n - 1) * f.size) same_count ∙ ap (λ n. (g.count - 1) * n) same_size
 
 module _ (heads : List Head) (gs : List Group) (are : AreGroups heads gs) where
   many : length (keys_of heads) ≡ length gs

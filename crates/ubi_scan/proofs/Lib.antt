@@ -32,6 +32,7 @@ pub mod NewGroups
 pub mod Next
 pub mod Nominated
 pub mod OneFault
+pub mod OneImage
 pub mod OnePlain
 pub mod OneScan
 pub mod Parts

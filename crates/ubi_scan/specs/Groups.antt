@@ -41,9 +41,9 @@ pub record Says (heads : List Head) (j : ℕ) (g : Group) : Type 0 where
   pub from : 1 ≤ g.size
   pub to : g.size ≤ greatest_size
 
--- how many bytes a group speaks for
+-- how many bytes a group speaks for: for each header but the last one those of an eraseblock
 abbrev pub spoken : Group → ℕ
-spoken g = g.count * g.size
+spoken g = (g.count - 1) * g.size
 
 -- the image of the headers is that of the key j: no group speaks for more bytes, and of those that speak for as many none has an
 -- earlier key

@@ -187,11 +187,11 @@ fn says_size(groups: &[Group], group: &Group) -> bool
 }
 
 impl Group {
-    /// How many bytes it speaks for.
+    /// How many bytes it speaks for: for each header but the last one those of an eraseblock.
     fn spoken(&self) -> u128
         ensures { result ≡ spoken self.now }
     {
-        u128::from(self.count) * u128::from(self.size)
+        u128::from(self.count.saturating_sub(1)) * u128::from(self.size)
     }
 
     /// Whether it speaks for more bytes than another group, if there is one.
