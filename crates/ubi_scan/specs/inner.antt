@@ -3,7 +3,7 @@ pub mod Ahead
 pub mod Choice
 pub mod Counts
 pub mod Detecting
-pub mod Fit
 pub mod Held
+pub mod Joined
 pub mod Named
 pub mod Pass

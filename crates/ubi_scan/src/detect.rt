@@ -1,47 +1,50 @@
-//! The geometry of a file of which nothing else is known.
+//! The geometry of a file of which nothing else is known, and where in it the image lies.
 
-ghost use Rattle.std.specs.Prelude.{◌≡◌, ◌≢◌, ◌<◌, ◌≤◌, ◌^◌, [], List, IfErr, IfOk, MatchResult, length};
-ghost use Rattle.ubi_media.specs.declared.ec.EcStart.{EcStart};
-ghost use Rattle.ubi_scan.specs.Detected.{AreGeometries, AreGeometriesOf, HasHeader, IsDetectError, IsKnown, IsUndetected, NamesPlace, after_detecting};
-ghost use Rattle.ubi_scan.specs.Fit.{IsPlain, IsSize, block_starts};
-ghost use Rattle.ubi_scan.specs.Source.{Narrows};
-ghost use Rattle.ubi_scan.specs.Starts.{units};
-ghost use Rattle.ubi_scan.specs.inner.Detecting.{IsFailure, IsNoRead, IsPaged, IsUnpaged};
+ghost use Rattle.std.specs.Prelude.{◌≡◌, ◌≢◌, ℕ, ◌<◌, ◌≤◌, ◌^◌, [], IfErr, IfOk, IfSome, MatchOption};
+ghost use Rattle.ubi_scan.specs.Detected.{AreDetectedOf, IsDetectError, IsFound, IsWhole, NamesPlace, NonePlain, after_detecting};
+ghost use Rattle.ubi_scan.specs.Place.{end_of_last, told};
+ghost use Rattle.ubi_scan.specs.Plain.{IsSurelyPlain};
+ghost use Rattle.ubi_scan.specs.Source.{Narrows, WhereHeld};
+ghost use Rattle.ubi_scan.specs.inner.Detecting.{AreWays, IsReadAt, IsReadError, IsUntold, LiesIn};
+ghost use Rattle.ubi_scan.specs.inner.Joined.{IsAlone, NoneAlone};
 
-use crate::fit::{count_starts, has_header, size_of_blocks};
-use crate::layout::{geometries, out_of_band};
-use crate::named::offsets_named;
+use crate::groups::{Group, image_among};
+use crate::place::told;
 use crate::plain::read_plain;
 use crate::source::BlockSource;
-use crate::starts::{UNIT, read_more};
+use crate::sure::{has_inner_start, is_sure};
+use crate::survey::read_groups;
+use crate::ways::Ways;
 use std::alloc::{AllocError, AllocFailed, Global};
 use std::error::Error;
 use std::fmt;
-use ubi_media::{EcOffsets, EcStart, Geometry};
+use ubi_media::{EcOffsets, Geometry};
 
-/// An eraseblock that was dumped with its out-of-band bytes.
+/// A geometry that the headers of a file give, and which part of the file is the image.
 #[derive(Clone, Copy, Debug, PartialEq, Eq)]
-pub struct OutOfBand {
-    /// Its bytes without them.
-    pub peb_size: u32,
-    /// How many bytes have one of them.
-    pub share: u32,
+pub struct Detected {
+    /// The geometry, of a device with as many eraseblocks as any may have.
+    pub geometry: Geometry,
+    /// How many out-of-band bytes lie behind each page.
+    pub oob: u32,
+    /// Where the image begins.
+    pub start: u64,
+    /// How many bytes it has, out-of-band bytes among them.
+    pub length: u64,
 }
 
 /// Why no geometry is told of a file.
 #[derive(Clone, Copy, Debug, PartialEq, Eq)]
 pub enum Undetected {
-    /// No erase-counter header stands at a multiple of 512.
+    /// No erase-counter header stands at a multiple of 64.
     NoHeader,
-    /// Of the eraseblocks of any size as many start with something else as with a header.
+    /// No two headers are of one image, or what stands at the places of its eraseblocks speaks against the size that they say.
     NoSize,
-    /// The file isn't whole eraseblocks of the size that fits best: that size, and the bytes that are left.
+    /// The eraseblock of the image's last header isn't all there: the size of one, and how many bytes of it are.
     Length(u64, u64),
-    /// The headers of two eraseblocks name unlike offsets.
-    Offsets(u64, u64),
-    /// The size that fits best is that of a power of two with out-of-band bytes.
-    OutOfBand(OutOfBand),
-    /// No page fits the size that fits best and the offsets.
+    /// Eraseblocks of this size may have out-of-band bytes, and no volume-identifier header says how many.
+    OutOfBand(u64),
+    /// No page fits the size and the offsets.
     Page(u64, EcOffsets),
 }
 
@@ -56,13 +59,7 @@ impl fmt::Display for Undetected {
             Undetected::NoHeader => write!(f, "F1 NoHeader"),
             Undetected::NoSize => write!(f, "F2 NoSize"),
             Undetected::Length(size, rest) => write!(f, "F3 Length peb={size} rest={rest}"),
-            Undetected::Offsets(first, other) => {
-                write!(f, "F4 Offsets block={other} earlier={first}")
-            }
-            Undetected::OutOfBand(found) => {
-                let (size, share) = (found.peb_size, found.share);
-                write!(f, "F5 OutOfBand peb={size} share={share}")
-            }
+            Undetected::OutOfBand(size) => write!(f, "F5 OutOfBand peb={size}"),
             Undetected::Page(
                 size,
                 EcOffsets {
@@ -126,139 +123,182 @@ impl<T: Drop> From<AllocFailed<T>> for DetectError {
     }
 }
 
-/// The offsets of the eraseblocks of a file of `len` bytes, which have `size` units.
+/// What is told of the image of a group.
 ///
 /// # Errors
 ///
-/// `NoSize`, `Length` or `Offsets`, tried in this order.
-fn known_offsets(starts: &[EcStart], size: usize, len: u64) -> Result<EcOffsets, Undetected>
-    requires size { IsSize starts.now len size }
-    requires from { 1 ≤ size }
-    requires to { size ≤ length starts.now }
-    requires len { len < 2 ^ 63 }
-    requires units { length starts.now ≡ units len }
-    requires some { HasHeader starts.now }
-    ensures { MatchResult result (IsKnown starts.now len size) (IsUndetected starts.now len) }
-{
-    let score = count_starts(starts, size);
-    if score.headers <= score.others {
-        return Err(Undetected::NoSize);
-    }
-    let bytes = size as u64 * UNIT;
-    let rest = len % bytes;
-    if rest != 0 {
-        return Err(Undetected::Length(bytes, rest));
-    }
-    match offsets_named(starts, size) {
-        Ok(offsets) => Ok(offsets),
-        Err(Some((first, other))) => Err(Undetected::Offsets(first as u64, other as u64)),
-        // More start with a header than with anything else.
-        Err(None) => Err(Undetected::NoSize),
-    }
-}
-
-/// The geometries of eraseblocks of `size` bytes that name these offsets, the least page first.
-///
-/// # Errors
-///
-/// `OutOfBand` or `Page`, tried in this order, or Memory where it ran out.
-fn known_geometries(
+/// Undetected with OutOfBand or Page. Read where a read failed. Memory where it ran out.
+fn tell<S: BlockSource>(
     alloc: Global,
-    size: u64,
-    offsets: EcOffsets,
-) -> Result<Vec<Geometry>, DetectError>
-    ensures { MatchResult result (λ found. IsPaged size offsets found.items) (IsUnpaged size offsets) }
+    source: &mut S,
+    group: &Group,
+    ways: &Ways,
+) -> Result<Vec<Detected>, DetectError>
+    requires size { (S.known source.old).size < 2 ^ 63 }
+    requires lies { LiesIn (S.known source.old).size group.now }
+    requires whole { end_of_last group.now ≤ (S.known source.old).size }
+    requires ways { AreWays group.now ways.now }
+    ensures known { S.known source.new ≡ after_detecting (S.known source.old) result }
+    ensures narrows { Narrows (S.agrees source.old) (S.agrees source.new) }
+    ensures told { IfOk result (λ found. WhereHeld (S.agrees source.new) (λ bytes. found.items ≡ told bytes group.now)) }
+    ensures some { IfOk result (λ found. found.items ≢ []) }
+    ensures refused { IfErr result (IsUntold (S.known source.old).size (S.agrees source.new) group.now) }
+    ensures named { IfErr result (NamesPlace (S.failed_at source.new)) }
 {
-    if let Some(found) = out_of_band(size) {
-        return Err(DetectError::Undetected(Undetected::OutOfBand(found)));
+    let found = told(alloc, source, group, ways)?;
+    if !found.is_empty() {
+        return Ok(found);
     }
-    let found = geometries(alloc, size, &offsets)?;
-    if found.is_empty() {
-        return Err(DetectError::Undetected(Undetected::Page(size, offsets)));
+    if ways.are_none() {
+        let page = Undetected::Page(group.size, group.key.offsets);
+        return Err(DetectError::Undetected(page));
     }
-    Ok(found)
+    Err(DetectError::Undetected(Undetected::OutOfBand(group.size)))
 }
 
-/// The geometries of a file of `len` bytes whose units start so.
+/// The group of a source that is plainly an image, but for what its eraseblocks hold, if no header of it stands where a part of one
+/// could begin.
 ///
 /// # Errors
 ///
-/// The first cause that stands, in the order of [`Undetected`], or Memory where it ran out.
-fn judge(alloc: Global, starts: &[EcStart], len: u64) -> Result<Vec<Geometry>, DetectError>
-    requires len { len < 2 ^ 63 }
-    requires units { length starts.now ≡ units len }
-    ensures { MatchResult result (λ found. AreGeometries starts.now len found.items) (IsFailure starts.now len) }
+/// Read where a read failed.
+fn plain_group<S: BlockSource>(source: &mut S) -> Result<Option<Group>, DetectError>
+    requires { (S.known source.old).size < 2 ^ 63 }
+    ensures known { S.known source.new ≡ after_detecting (S.known source.old) result }
+    ensures narrows { Narrows (S.agrees source.old) (S.agrees source.new) }
+    ensures plain { IfOk result (λ o. MatchOption o (WhereHeld (S.agrees source.new) NoneAlone) (λ g. WhereHeld (S.agrees source.new) (λ bytes. IsAlone bytes g))) }
+    ensures lies { IfOk result (λ o. IfSome o (LiesIn (S.known source.old).size)) }
+    ensures whole { IfOk result (λ o. IfSome o (λ g. end_of_last g ≤ (S.known source.old).size)) }
+    ensures failed { IfErr result (IsReadAt (S.known source.old).size) }
+    ensures named { IfErr result (NamesPlace (S.failed_at source.new)) }
 {
-    if !has_header(starts) {
+    let Some(group) = read_plain(source)? else {
+        return Ok(None);
+    };
+    if has_inner_start(source, &group)? {
+        return Ok(None);
+    }
+    Ok(Some(group))
+}
+
+/// The group of the image that a source plainly is, and the pages that its eraseblocks may have, if it plainly is one.
+///
+/// # Errors
+///
+/// Read where a read failed. Memory where it ran out.
+fn plain_image<S: BlockSource>(
+    alloc: Global,
+    source: &mut S,
+) -> Result<Option<(Group, Ways)>, DetectError>
+    requires { (S.known source.old).size < 2 ^ 63 }
+    ensures known { S.known source.new ≡ after_detecting (S.known source.old) result }
+    ensures narrows { Narrows (S.agrees source.old) (S.agrees source.new) }
+    ensures plain { IfOk result (λ o. MatchOption o (WhereHeld (S.agrees source.new) NonePlain) (λ image. WhereHeld (S.agrees source.new) (λ bytes. IsSurelyPlain bytes image.0))) }
+    ensures lies { IfOk result (λ o. IfSome o (λ image. LiesIn (S.known source.old).size image.0)) }
+    ensures whole { IfOk result (λ o. IfSome o (λ image. end_of_last image.0 ≤ (S.known source.old).size)) }
+    ensures ways { IfOk result (λ o. IfSome o (λ image. AreWays image.0 image.1)) }
+    ensures failed { IfErr result (IsReadError (S.known source.old).size) }
+    ensures named { IfErr result (NamesPlace (S.failed_at source.new)) }
+{
+    let Some(group) = plain_group(source)? else {
+        return Ok(None);
+    };
+    let ways = Ways::of(alloc, &group)?;
+    if is_sure(alloc, source, &group, &ways)? {
+        Ok(Some((group, ways)))
+    } else {
+        Ok(None)
+    }
+}
+
+/// The group of the image that the headers of a source say, where none plainly is.
+///
+/// # Errors
+///
+/// Undetected with NoHeader, NoSize or Length. Read where a read failed. Memory where it ran out.
+fn said_group<S: BlockSource>(alloc: Global, source: &mut S) -> Result<Group, DetectError>
+    requires size { (S.known source.old).size < 2 ^ 63 }
+    requires none { WhereHeld (S.agrees source.old) NonePlain }
+    ensures known { S.known source.new ≡ after_detecting (S.known source.old) result }
+    ensures narrows { Narrows (S.agrees source.old) (S.agrees source.new) }
+    ensures found { IfOk result (λ g. WhereHeld (S.agrees source.new) (λ bytes. IsWhole bytes g)) }
+    ensures lies { IfOk result (LiesIn (S.known source.old).size) }
+    ensures whole { IfOk result (λ g. end_of_last g ≤ (S.known source.old).size) }
+    ensures refused { IfErr result (IsDetectError (S.known source.old) (S.agrees source.new)) }
+    ensures named { IfErr result (NamesPlace (S.failed_at source.new)) }
+{
+    let groups = read_groups(alloc, source)?;
+    if groups.is_empty() {
         return Err(DetectError::Undetected(Undetected::NoHeader));
     }
-    let size = size_of_blocks(starts, len);
-    match known_offsets(starts, size, len) {
-        Ok(offsets) => known_geometries(alloc, size as u64 * UNIT, offsets),
-        Err(cause) => Err(DetectError::Undetected(cause)),
+    let Some(group) = image_among(groups.as_slice()) else {
+        return Err(DetectError::Undetected(Undetected::NoSize));
+    };
+    let rest = source.len() - group.last;
+    if rest < group.size {
+        return Err(DetectError::Undetected(Undetected::Length(group.size, rest)));
     }
+    Ok(group)
 }
 
-/// The geometries of a file of `len` bytes that plainly has eraseblocks of `size` units, which start so.
+/// The group of the image that the headers of a source say, where none plainly is, and the pages that its eraseblocks may have.
 ///
 /// # Errors
 ///
-/// The first cause that stands, in the order of [`Undetected`], or Memory where it ran out.
-fn judge_plain(
+/// Undetected with NoHeader, NoSize or Length. Read where a read failed. Memory where it ran out.
+fn found_image<S: BlockSource>(
     alloc: Global,
-    heads: &[EcStart],
-    size: u64,
-    len: u64,
-) -> Result<Vec<Geometry>, DetectError>
-    requires { size < 2 ^ 54 }
-    ensures plain { (starts : List EcStart) → IsPlain starts len size → heads.now ≡ block_starts starts size → MatchResult result (λ found. AreGeometries starts len found.items) (IsFailure starts len) }
-    ensures some { IfOk result (λ found. found.items ≢ []) }
-    ensures no_read { IfErr result IsNoRead }
+    source: &mut S,
+) -> Result<(Group, Ways), DetectError>
+    requires size { (S.known source.old).size < 2 ^ 63 }
+    requires none { WhereHeld (S.agrees source.old) NonePlain }
+    ensures known { S.known source.new ≡ after_detecting (S.known source.old) result }
+    ensures narrows { Narrows (S.agrees source.old) (S.agrees source.new) }
+    ensures found { IfOk result (λ image. WhereHeld (S.agrees source.new) (λ bytes. IsFound bytes image.0)) }
+    ensures lies { IfOk result (λ image. LiesIn (S.known source.old).size image.0) }
+    ensures whole { IfOk result (λ image. end_of_last image.0 ≤ (S.known source.old).size) }
+    ensures ways { IfOk result (λ image. AreWays image.0 image.1) }
+    ensures refused { IfErr result (IsDetectError (S.known source.old) (S.agrees source.new)) }
+    ensures named { IfErr result (NamesPlace (S.failed_at source.new)) }
 {
-    match offsets_named(heads, 1) {
-        Ok(offsets) => known_geometries(alloc, size * UNIT, offsets),
-        Err(Some((first, other))) => Err(DetectError::Undetected(Undetected::Offsets(
-            first as u64,
-            other as u64,
-        ))),
-        // All of them start with a header.
-        Err(None) => Err(DetectError::Undetected(Undetected::NoSize)),
+    let group = said_group(alloc, source)?;
+    let ways = Ways::of(alloc, &group)?;
+    if !is_sure(alloc, source, &group, &ways)? {
+        return Err(DetectError::Undetected(Undetected::NoSize));
     }
+    Ok((group, ways))
 }
 
 /// The most bytes that a file has.
 const LONGEST: u64 = 0x7FFF_FFFF_FFFF_FFFF;
 
-/// Detects the geometries of a source of which nothing else is known: the sizes for which the headers and the erased
-/// eraseblocks speak best, with each page that Linux lays out so, the least first. As many eraseblocks as a device may have are
-/// given to each. Where the eraseblocks plainly have one size, their first 64 bytes are read and the first two of them; else 64
-/// bytes of each 512.
+/// Detects the geometry of a source of which nothing else is known, and which part of it is the image: by the erase-counter headers at
+/// multiples of 64 that name the same offsets and the same image sequence number, or none, as docs/FORMAT.md has it. There is one for
+/// each page that Linux lays out so, the least first; as many eraseblocks as a device may have are given to each. Where a source is
+/// plainly an image its first two eraseblocks are read, and single places of the others; else all of it, from its beginning to its end.
 ///
 /// # Errors
 ///
-/// Undetected with the first cause that stands, in the order of [`Undetected`]. Read where a read failed. Memory where it ran
-/// out: it needs 12 bytes for each 512 where all of these are read.
+/// Undetected with the first cause that stands: NoHeader; NoSize, where no headers say a size; Length; NoSize, where it isn't sure;
+/// OutOfBand; Page. Read where a read failed. Memory where it ran out: it needs 64 KiB, and 48 bytes for each two offsets and number
+/// that headers name.
 pub fn detect_from<S: BlockSource>(
     alloc: Global,
     source: &mut S,
-) -> Result<Vec<Geometry>, DetectError>
+) -> Result<Vec<Detected>, DetectError>
     ensures known { S.known source.new ≡ after_detecting (S.known source.old) result }
     ensures narrows { Narrows (S.agrees source.old) (S.agrees source.new) }
-    ensures found { IfOk result (λ found. AreGeometriesOf (S.known source.old) (S.agrees source.new) found.items) }
+    ensures found { IfOk result (λ found. AreDetectedOf (S.agrees source.new) found.items) }
     ensures some { IfOk result (λ found. found.items ≢ []) }
     ensures refused { IfErr result (IsDetectError (S.known source.old) (S.agrees source.new)) }
     ensures named { IfErr result (NamesPlace (S.failed_at source.new)) }
 {
-    let len = source.len();
-    if len > LONGEST {
+    if source.len() > LONGEST {
         return Err(DetectError::Memory);
     }
-    let mut starts = Vec::new(alloc);
-    match read_plain(alloc, source, &mut starts)? {
-        Some((size, heads)) => judge_plain(alloc, heads.as_slice(), size, len),
-        None => {
-            read_more(source, &mut starts, len.div_ceil(UNIT))?;
-            judge(alloc, starts.as_slice(), len)
-        }
+    if let Some((group, ways)) = plain_image(alloc, source)? {
+        return tell(alloc, source, &group, &ways);
     }
+    let (group, ways) = found_image(alloc, source)?;
+    tell(alloc, source, &group, &ways)
 }

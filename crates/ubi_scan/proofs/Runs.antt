@@ -1,0 +1,30 @@
+-- How many numbers from 0 on pass a test.
+use Rattle.std.proofs.Common.{◌≡◌, ℕ, ◌+◌, ◌<◌, ◌≤◌, Bool, true, false, cond, zero, suc, inl, inr, add-zero, refl, ap, sym, ◌∙◌, arith}
+use Rattle.std.specs.List.{prefix_len, range_with_len}
+use Rattle.ubi_media.proofs.Cases.{below_or_last}
+use Rattle.ubi_scan.specs.Place.{run}
+
+-- so many of n numbers pass, where those pass and the next one doesn't
+run_from : (t : ℕ → Bool) (a n m : ℕ) → m ≤ n → ((j : ℕ) → j < m → t (a + j) ≡ true) → (m < n → t (a + m) ≡ false)
+    → prefix_len t (range_with_len a n) ≡ m
+run_from t a zero zero h all end = refl
+run_from t a zero (suc m) h all end = absurd (omega (arith, h))
+run_from t a (suc n) zero h all end =
+    let e : t a ≡ false = sym (ap t (add-zero a)) ∙ end (omega arith) in
+    ap (λ b. cond b (1 + prefix_len t (range_with_len (a + 1) n)) 0) e
+run_from t a (suc n) (suc m) h all end =
+    let e : t a ≡ true = sym (ap t (add-zero a)) ∙ all 0 (omega arith) in
+    let more : prefix_len t (range_with_len (a + 1) n) ≡ m = run_from t (a + 1) n m (omega (arith, h))
+    (λ j below. ap t (omega arith) ∙ all (suc j) (omega (arith, below)))
+    (λ below. ap t (omega arith) ∙ end (omega (arith, below))) in
+    ap (λ b. cond b (1 + prefix_len t (range_with_len (a + 1) n)) 0) e ∙ ap (λ k. 1 + k) more ∙ omega arith
+
+pub run_is : (t : ℕ → Bool) (n m : ℕ) → m ≤ n → ((j : ℕ) → j < m → t j ≡ true) → (m < n → t m ≡ false) → run t n ≡ m
+run_is t n m h all end = run_from t 0 n m h (λ j below. ap t (omega arith) ∙ all j below) (λ below. ap t (omega arith) ∙ end below)
+
+pub run_all : (t : ℕ → Bool) (n m : ℕ) → m ≡ n → ((j : ℕ) → j < m → t j ≡ true) → run t n ≡ m
+run_all t n m e all = run_is t n m (omega (arith, e)) all (λ below. absurd (omega (arith, below, e)))
+
+-- one more that passes
+pub pass_more : (t : ℕ → Bool) (n : ℕ) → ((j : ℕ) → j < n → t j ≡ true) → t n ≡ true → (j : ℕ) → j < n + 1 → t j ≡ true
+pass_more t n all here j below = elim (below_or_last j n below) [ | inl less ↦ all j less | inr same ↦ ap t same ∙ here ]

@@ -1,0 +1,57 @@
+-- The group that the headers of a file say.
+use Rattle.std.proofs.Common.{◌≡◌, ◌≢◌, ℕ, ◌+◌, ◌-◌, ◌*◌, ◌/◌, ◌<◌, ◌≤◌, ◌⊎◌, true, false, List, [], ◌∷◌, length, inl, inr, refl, ap, sym, ◌∙◌, arith}
+use Rattle.std.specs.List.{list_any}
+use Rattle.std.specs.Prelude.{◌&&◌, ◌||◌, ◌==◌, IsFalse, IsTrue, map}
+use Rattle.std.proofs.lemmas.Bool.{and_from, eq-eqb, or_left, true≢false}
+use Rattle.std.proofs.lemmas.List.{length-map}
+use Rattle.ubi_scan.specs.Detected.{IsUndetected, IsWhole, NonePlain}
+use Rattle.ubi_scan.specs.Groups.{IsImage}
+use Rattle.ubi_scan.specs.Heads.{heads_of, keys_of, same_key, same_offsets, step}
+use Rattle.ubi_scan.specs.Place.{end_of_last}
+use Rattle.ubi_scan.specs.Sure.{is_sure}
+use Rattle.ubi_scan.specs.declared.detect.Undetected.TheVariants as cause
+use Rattle.ubi_scan.specs.declared.groups.Group.{Group}
+use Rattle.ubi_scan.specs.declared.heads.Head.{Head}
+use Rattle.ubi_scan.specs.declared.heads.Key.{Key}
+use Rattle.ubi_scan.specs.inner.Detecting.{AreGroups, IsWithin, LiesIn}
+use Rattle.ubi_scan.proofs.NewGroups.{any_key}
+
+same_itself : (k : Key) → same_key k k ≡ true
+same_itself k =
+    and_from _ _
+    (and_from _ _ (eq-eqb k.offsets.vid_offset k.offsets.vid_offset refl) (eq-eqb k.offsets.data_offset k.offsets.data_offset refl))
+    (eq-eqb k.image_seq k.image_seq refl)
+
+no_keys : (heads : List Head) → keys_of heads ≡ [] → heads ≡ []
+no_keys [] e = refl
+no_keys (h ∷ heads) e = absurd (true≢false (
+  sym (any_key h.key (h ∷ heads) ∙ or_left (same_key h.key h.key) (list_any (λ g. same_key h.key g.key) heads) (same_itself h.key))
+  ∙ ap (list_any (same_key h.key)) e))
+
+no_map : (gs : List Group) → map (λ g. g.key) gs ≡ [] → length gs ≡ 0
+no_map gs e = sym (length-map gs (λ (g : Group). g.key)) ∙ ap length e
+
+module _ (heads : List Head) (gs : List Group) (are : AreGroups heads gs) where
+  -- where there is no group there is no header, and the other way round
+  pub no_heads : gs ≡ [] → heads ≡ []
+  no_heads e = no_keys heads (sym are.keys ∙ ap (map (λ g. g.key)) e)
+
+  pub some_heads : 1 ≤ length gs → heads ≢ []
+  some_heads some e = let n = no_map gs (are.keys ∙ ap keys_of e) in omega (arith, some, n)
+
+-- the group of an image lies in its file
+pub lies_in : (n : ℕ) (g : Group) → IsWithin (n / step) g → (1 ≤ g.size) × (g.size ≤ 16777216) × (2 ≤ g.count) → LiesIn n g
+lies_in n g within size = record {
+  from = size.0;
+  to = size.1;
+  order = within.order;
+  last = (let some = size.2 in let l = within.last (omega (arith, some)) in omega (arith, l));
+}
+
+-- an image has headers
+pub image_heads : (heads : List Head) (j : ℕ) (g : Group) → IsImage heads j g → heads ≢ []
+image_heads heads j g is e = let n = ap (λ hs. length (keys_of hs)) e in let i = is.says.inside in omega (arith, n, i)
+
+-- a whole image of which the size isn't sure is refused for it
+pub not_sure : (bytes : List ℕ) (g : Group) → IsWhole bytes g → IsFalse (is_sure bytes g) → IsUndetected bytes cause.NoSize
+not_sure bytes g is fails = (image_heads (heads_of bytes) is.index g is.image, is.none, inr (g, is, fails))

@@ -1,0 +1,12 @@
+use Rattle.std.proofs.Common.{◌≡◌, ◌+◌, ◌-◌, ◌*◌, ◌<◌, true, ℕ}
+use Rattle.ubi_scan.specs.Source.{Narrows, WhereHeld}
+use Rattle.ubi_scan.specs.Sure.{is_blank}
+use Rattle.ubi_scan.proofs.place.blanks_before.Given as goal
+
+abbrev pub invariant-loop-j : goal.invariant-loop-j
+invariant-loop-j g l = record {
+  source : g.S.BlockSource.known l.source ≡ g.S.BlockSource.known l.fn.source;
+  narrows : Narrows (g.S.BlockSource.agrees l.fn.source) (g.S.BlockSource.agrees l.source);
+  blank : WhereHeld (g.S.BlockSource.agrees l.source) (λ bytes.
+      (k : ℕ) → k < l.j → is_blank bytes (l.group.first - (k + 1) * l.group.size) ≡ true);
+}

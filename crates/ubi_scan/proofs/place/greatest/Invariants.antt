@@ -1,0 +1,7 @@
+use Rattle.std.proofs.Common.{◌≡◌, take}
+use Rattle.std.specs.List.{fold}
+use Rattle.std.specs.Prelude.{max}
+use Rattle.ubi_scan.proofs.place.greatest.Given as goal
+
+abbrev pub invariant-loop-number : goal.invariant-loop-number
+invariant-loop-number l = l.greatest ≡ fold max 0 (take l.number-index l.numbers)

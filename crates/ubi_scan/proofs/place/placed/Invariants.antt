@@ -1,0 +1,7 @@
+use Rattle.std.proofs.Common.{◌≡◌, take}
+use Rattle.std.specs.Prelude.{map}
+use Rattle.ubi_scan.specs.Place.{told_by}
+use Rattle.ubi_scan.proofs.place.placed.Given as goal
+
+abbrev pub invariant-loop-way : goal.invariant-loop-way
+invariant-loop-way l = l.found.items ≡ map (told_by l.start l.end) (take l.way-index l.ways)
