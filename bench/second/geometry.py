@@ -22,6 +22,14 @@ PAGES_WITH_MORE = [page for page in PAGES if page >= 256]
 COUNTS = [2**k for k in range(4, 12)]
 
 
+class NoSize(Refused):
+    """Why no size can be told: no group says one, or it isn't sure, as `why` says in a word."""
+
+    def __init__(self, why):
+        super().__init__("F2 NoSize")
+        self.why = why
+
+
 @dataclasses.dataclass(frozen=True)
 class Header:
     """A header: where it stands, the two offsets that it names, and its image sequence number."""
@@ -193,14 +201,20 @@ def could_be(file, group, q, prime):
     return not filled or any(is_blank(file[at - 16 : at]) for at in filled)
 
 
-def is_sure(file, group, q):
-    """Whether it is sure that these headers are those of eraseblocks of q bytes."""
+def doubt(file, group, q):
+    """Why it isn't sure that these headers are those of eraseblocks of q bytes; None where it is."""
     first, last = group.places[0], group.places[-1]
-    return (has_room(q, group.offsets)
-        and 2 * len(group.places) > (last - first) // q + 1
-        and any(is_blank(file[start + q - 16 : start + q]) for start in group.places)
-        and (holds_tables(file, group, q)
-            or len(group.places) >= 3 and not any(could_be(file, group, q, prime) for prime in primes_of(q))))
+    if not has_room(q, group.offsets):
+        return "room"
+    if 2 * len(group.places) <= (last - first) // q + 1:
+        return "half"
+    if not any(is_blank(file[start + q - 16 : start + q]) for start in group.places):
+        return "end"
+    if holds_tables(file, group, q):
+        return None
+    if len(group.places) < 3:
+        return "few"
+    return "part" if any(could_be(file, group, q, prime) for prime in primes_of(q)) else None
 
 
 # Which image it is, and where it lies.
@@ -218,7 +232,7 @@ def plain_image(file, found):
     if len(starts) != len(file) // q or len({header.offsets for header in starts}) > 1 or len(numbers) > 1:
         return None
     group = Group(found[0].offsets, [header.place for header in starts])
-    return (group, q) if is_sure(file, group, q) else None
+    return None if doubt(file, group, q) else (group, q)
 
 
 def image_of(file):
@@ -232,12 +246,13 @@ def image_of(file):
     # Of several that speak for as many bytes `max` gives the first.
     group = max(groups(found), key=lambda group: group.speaks_for, default=None)
     if group is None:
-        raise Refused("F2 NoSize")
+        raise NoSize("group")
     q, rest = group.said, len(file) - group.places[-1]
     if rest < q:
         raise Refused(f"F3 Length peb={q} rest={rest}")
-    if not is_sure(file, group, q):
-        raise Refused("F2 NoSize")
+    why = doubt(file, group, q)
+    if why:
+        raise NoSize(why)
     return group, q
 
 

@@ -1,0 +1,660 @@
+#!/usr/bin/env python3
+"""Makes files of which the truth is known: images of many geometries, with anything around them, damaged, cut, one in another, with
+out-of-band bytes; and judges what bench/second/geometry.py tells of them.
+
+usage: dumps.py [--seed N] [--count N] [--first N] [--ubinize] [--wrong]
+
+An image is that of fuzz.py's Maker, or one as ubinize writes it or a kernel leaves it; with --ubinize those of ubinize itself, where mtd-utils
+are there. The kinds of files are those of KINDS below, by turns. What is told is right if the sizes, the offsets and the out-of-band
+bytes are the true ones, the true page is among the pages, and the place lies on the grid of the image's eraseblocks and holds each of them that
+starts with a header. A file whose image has one such eraseblock, or that holds no image, has to be refused.
+
+Without words there are 2,000 files (--count) of the seed 1 (--seed). It prints of each kind how many are right, wrong and refused, each wrong
+answer by its number, with which --first makes it again (--wrong prints no table), and ends with status 1 where one is wrong of a kind of which
+docs/FORMAT.md doesn't say that it may be told wrong.
+"""
+import argparse
+import collections
+import dataclasses
+import functools
+import os
+import random
+import re
+import shutil
+import subprocess
+import sys
+import tempfile
+
+import geometry
+import rules
+from fuzz import Maker, renumbered
+from rules import LAYOUT, Geometry, Record, Refused, Vid
+
+# The sizes of an eraseblock and a page, the offsets, and how often they are taken.
+SIZES = {
+    (512, 64, 64, 128): 12,
+    (1024, 256, 64, 256): 8,
+    (1024, 256, 320, 512): 8,
+    (2048, 512, 512, 1024): 8,
+    (16384, 512, 512, 1024): 5,
+    (16384, 2048, 64, 2048): 3,
+    (16384, 2048, 1984, 2048): 3,
+    (32768, 2048, 2048, 4096): 3,
+    (65536, 4096, 4096, 8192): 2,
+    (131072, 2048, 512, 2048): 1,
+    (131072, 2048, 2048, 4096): 1,
+    (262144, 16384, 16384, 32768): 0.5,
+}
+# The same of eraseblocks of 16 pages or more, and how many out-of-band bytes a page has.
+SIZES_WITH_MORE = {
+    (16384, 512, 512, 1024): 8,
+    (8192, 512, 64, 512): 8,
+    (32768, 2048, 2048, 4096): 6,
+    (32768, 2048, 512, 2048): 6,
+    (65536, 4096, 4096, 8192): 4,
+    (131072, 2048, 512, 2048): 1,
+    (131072, 2048, 2048, 4096): 1,
+    (131072, 8192, 8192, 16384): 1.5,
+    (262144, 4096, 4096, 8192): 0.5,
+}
+OUT_OF_BAND = {512: (16,), 2048: (64, 112, 128), 4096: (128, 218, 224, 232), 8192: (448, 744)}
+OF_WRITTEN = ("random written", "code written")
+BLANK, ZERO = b"\xFF", b"\0"
+
+
+# Images.
+
+
+def sizes_of(rng, weights):
+    return rng.choices(list(weights), list(weights.values()))[0]
+
+
+class Dump(Maker):
+    """Makes an image as ubinize writes it, or as it lies on a chip once a kernel has used it."""
+
+    def __init__(self, rng, sizes):
+        self.is_used = rng.random() < 0.5
+        super().__init__(rng, sizes)
+        if not self.is_used:
+            self.blocks = self.as_written
+        elif rng.random() < 0.7:
+            # Most tables lie where they were written first.
+            self.blocks = self.as_written[:2] + [block for block in self.blocks if block not in self.as_written[:2]]
+
+    def numbered(self, *kinds):
+        number = self.rng.randrange(1, 2**32)
+        self.as_written = [renumbered(block, number) for blocks in kinds for block in blocks]
+        return list(self.as_written)
+
+    def tables(self):
+        text = rules.put_table(self.geometry, self.records)
+        return [self.block(Vid(1, 0, 5, LAYOUT, copy, 0, 0, 0, 0, self.sqnum()), text) for copy in range(2)]
+
+    def others(self):
+        if not self.is_used:
+            return []
+        kinds = (self.free,) * 12 + (self.erased, self.garbage, self.orphan)
+        return [self.rng.choice(kinds)() for _ in range(self.rng.randrange(12))]
+
+
+CONFIG = """[volume{0}]
+mode=ubi
+vol_id={0}
+vol_name=volume{0}
+vol_type={1}
+vol_size={2}
+image={3}
+"""
+
+
+class Ubinized:
+    """Makes an image of ubinize, which has to be there."""
+
+    def __init__(self, rng, sizes):
+        peb, page, vid, data = rng.choice(sizes)
+        self.geometry = Geometry(peb, page, vid, data, 2**20)
+        with tempfile.TemporaryDirectory() as folder:
+            config, out = os.path.join(folder, "config"), os.path.join(folder, "out")
+            with open(config, "w", encoding="ascii") as file:
+                file.writelines(self.sections(rng, folder))
+            subprocess.run(["ubinize", "-o", out, "-p", str(peb), "-m", str(page), "-s", str(min(page, 512)), "-O", str(vid),
+                "-Q", str(rng.randrange(1, 2**31)), config], check=True, capture_output=True)
+            with open(out, "rb") as file:
+                image = file.read()
+        self.blocks = [image[at : at + peb] for at in range(0, len(image), peb)]
+
+    def sections(self, rng, folder):
+        leb = self.geometry.leb
+        for number in range(rng.choice((1, 1, 2, 3, 5))):
+            path = os.path.join(folder, f"of{number}")
+            size = rng.choice((1, leb // 3, leb, rng.randrange(1, 4 * leb)))
+            with open(path, "wb") as file:
+                file.write(rng.randbytes(size))
+            yield CONFIG.format(number, rng.choice(("static", "dynamic")), size + rng.choice((0, leb, 2 * leb)), path)
+
+
+def is_ubinized(peb, page, vid, data):
+    """Whether ubinize makes images of these sizes."""
+    return page >= 512 and vid >= 512
+
+
+def made(rng, weights, makers):
+    """An image: its geometry and its eraseblocks."""
+    maker = rng.choice(makers)
+    if maker is Ubinized:
+        weights = {sizes: often for sizes, often in weights.items() if is_ubinized(*sizes)}
+    image = maker(rng, (sizes_of(rng, weights),))
+    return image.geometry, image.blocks
+
+
+# What is known of a file.
+
+
+@dataclasses.dataclass(frozen=True)
+class Truth:
+    """An image in a file: its geometry, the out-of-band bytes of a page, where its first eraseblock lies, and how many it has."""
+
+    geometry: Geometry
+    oob: int
+    start: int
+    count: int
+
+    @property
+    def size(self):
+        """The bytes of an eraseblock in the file."""
+        return self.geometry.peb // self.geometry.page * (self.geometry.page + self.oob)
+
+    def headers(self, file):
+        """Where in the file its eraseblocks lie that start with a header."""
+        places = range(self.start, self.start + self.count * self.size, self.size)
+        return [at for at in places if at + 64 <= len(file) and rules.read_ec(self.geometry, file[at : at + 64])[0] == "valid"]
+
+    def moved(self, more):
+        return dataclasses.replace(self, start=self.start + more)
+
+
+class File:
+    """Some bytes, and the images in them, any of which may be told."""
+
+    def __init__(self, data, *truths):
+        self.data, self.truths = data, truths
+
+    def behind(self, other):
+        """The same behind another file."""
+        return File(other.data + self.data, *other.truths, *(truth.moved(len(other.data)) for truth in self.truths))
+
+    def around(self, before, behind):
+        """The same with bytes before and behind it."""
+        return File(behind).behind(self.behind(File(before)))
+
+
+def whole(geometry, blocks):
+    return File(b"".join(blocks), Truth(geometry, 0, 0, len(blocks)))
+
+
+LINE = re.compile(r"--peb (\d+) --page (\d+) --vid (\d+) --data (\d+)(?: --oob (\d+))?(?: --start (\d+) --length (\d+))?\n")
+
+
+def is_true(file, truth, told):
+    """Whether the lines that are told of some bytes, as numbers, say what is true of an image in them."""
+    g, (peb, page, vid, data, oob, start, length) = truth.geometry, told[0]
+    places = truth.headers(file)
+    return ((peb // page * (page + oob), vid, data) == (truth.size, g.vid, g.data)
+        and (g.page, truth.oob) in [(line[1], line[4]) for line in told]
+        and (start - truth.start) % truth.size == 0 and length % truth.size == 0
+        and start + length <= len(file)
+        and len(places) > 1 and start <= places[0] and places[-1] + truth.size <= start + length
+        and (g.peb, truth.oob) in [(line[0], line[4]) for line in told if line[1] == g.page])
+
+
+def told_numbers(file, text):
+    """The numbers of some lines; None where one isn't such a line."""
+    lines = [LINE.fullmatch(line) for line in text.splitlines(True)]
+    if not lines or None in lines:
+        return None
+    return [(*map(int, line.groups()[:4]), int(line[5] or 0), int(line[6] or 0), int(line[7] or len(file))) for line in lines]
+
+
+def judged(file, text, status):
+    """What an answer of a file is: right, wrong or refused."""
+    if status == 1 and text.startswith("refused F") and text.count("\n") == 1:
+        return "refused"
+    told = told_numbers(file.data, text) if status == 0 else None
+    return "right" if told and any(is_true(file.data, truth, told) for truth in file.truths) else "wrong"
+
+
+# Bytes that are no image.
+
+
+def junk(rng, size):
+    """Bytes that are all random, all zero or all 0xFF."""
+    return rng.choice((rng.randbytes(size), ZERO * size, BLANK * size))
+
+
+def boot_loader(rng):
+    return rng.randbytes(512 * rng.randrange(1, 129))
+
+
+def bad_block(rng, size):
+    """A bad eraseblock."""
+    return junk(rng, size)
+
+
+def header(rng, offsets=(64, 128)):
+    """A header that stands alone."""
+    return rules.put_ec(Geometry(0, 0, *offsets, 0), rng.randrange(1000), rng.randrange(1, 2**32))
+
+
+# Kinds of files. Each is made of random numbers and a function that makes an image of some weights of sizes.
+
+
+def as_it_is(rng, image):
+    return whole(*image(SIZES))
+
+
+def junk_behind(byte, rng, image):
+    file = whole(*image(SIZES))
+    size = len(file.data) if rng.random() < 0.7 else rng.randrange(1, 2 * len(file.data) + 2)
+    return file.around(b"", byte * size if byte else rng.randbytes(size))
+
+
+def junk_before(byte, rng, image):
+    file = whole(*image(SIZES))
+    size = len(file.data)
+    return file.around(byte * size if byte else rng.randbytes(size), b"")
+
+
+def loader_before(rng, image):
+    return whole(*image(SIZES)).around(boot_loader(rng), b"")
+
+
+def loader_and_junk(rng, image):
+    file = whole(*image(SIZES))
+    return file.around(boot_loader(rng), junk(rng, rng.randrange(2 * len(file.data) + 2)))
+
+
+def at_any_64(rng, image):
+    """An image at a multiple of 64 that is none of 512."""
+    file = whole(*image(SIZES))
+    return file.around(junk(rng, 64 * (8 * rng.randrange(99) + rng.randrange(1, 8))), junk(rng, rng.randrange(len(file.data) + 2)))
+
+
+def at_any_byte(rng, image):
+    """An image at no multiple of 64."""
+    return whole(*image(SIZES)).around(junk(rng, 64 * rng.randrange(99) + rng.randrange(1, 64)), b"")
+
+
+def with_number(rng, geometry, blocks):
+    """The same image, of which each header has one number."""
+    number = rng.randrange(1, 2**32)
+    return geometry, [renumbered(block, number) for block in blocks]
+
+
+def two_images(rng, image):
+    first, second = (whole(*with_number(rng, *image(SIZES))) for _ in range(2))
+    return second.behind(first)
+
+
+def two_images_apart(rng, image):
+    first, second = (whole(*with_number(rng, *image(SIZES))) for _ in range(2))
+    return second.behind(first.around(b"", junk(rng, 64 * rng.randrange(1, 2000))))
+
+
+def two_of_one_size(rng, image):
+    """Two images of the same sizes, one of another number, with or without a gap of any multiple of 64."""
+    sizes = sizes_of(rng, SIZES)
+    first, second = (whole(*with_number(rng, *image({sizes: 1}))) for _ in range(2))
+    return second.behind(first.around(b"", junk(rng, 64 * rng.choice((0, rng.randrange(2000))))))
+
+
+def two_without_number(rng, image):
+    """Two images of the same sizes, whose headers are of one image, as they have no numbers or one has none; both may lie on one grid."""
+    sizes = sizes_of(rng, SIZES)
+    first, second = (image({sizes: 1}) for _ in range(2))
+    first = (first[0], [renumbered(block, 0) for block in first[1]])
+    both = whole(*second).behind(whole(*first).around(b"", junk(rng, sizes[0] * rng.choice((0, rng.randrange(5))) + 64 * rng.choice((0, 0, 1)))))
+    return with_both(both)
+
+
+def one_twice(rng, image):
+    file = whole(*image(SIZES))
+    return with_both(file.behind(file.around(b"", junk(rng, file.truths[0].size * rng.choice((0, 0, 1, 3))))))
+
+
+def with_both(file):
+    """A file of two images, which may be told as one where the second lies on the grid of the first."""
+    first, second = file.truths
+    between = second.start - first.start
+    if between % first.size:
+        return file
+    return File(file.data, first, second, dataclasses.replace(first, count=between // first.size + second.count))
+
+
+def volume_of(rng, geometry, content):
+    """The eraseblocks of an image with a volume that holds some bytes; the volume is dynamic, or static."""
+    leb, number = geometry.leb, rng.randrange(1, 2**32)
+    shares = [content[at : at + leb] for at in range(0, len(content), leb)]
+    kind, is_used = rng.choice((1, 2)), rng.random() < 0.5
+    table = rules.put_table(geometry, {0: Record(len(shares), 1, kind, 0, b"inner", 0)})
+    parts = [(Vid(1, 0, 5, LAYOUT, copy, 0, 0, 0, 0, 0), table) for copy in range(2)]
+    for lnum, share in enumerate(shares):
+        of_static = (len(share), len(shares), 0, rules.check(share))
+        parts.append((Vid(kind, 0, 0, 0, lnum, *(of_static if kind == 2 else (0, 0, 0, 0)), lnum + 1), share))
+    if is_used:
+        rng.shuffle(parts)
+    ec = rules.put_ec(geometry, rng.randrange(1000), number)
+    blocks = [rules.put_block(geometry, ec, rules.put_vid(vid), data) for vid, data in parts]
+    return geometry, blocks + [rules.put_block(geometry, ec) for _ in range(rng.randrange(4) if is_used else 0)]
+
+
+def in_another(rng, image):
+    inner = whole(*image({sizes: often for sizes, often in SIZES.items() if sizes[0] <= 32768}))
+    outer = Geometry(*sizes_of(rng, {sizes: often + 1 for sizes, often in SIZES.items() if len(inner.data) // sizes[0] < 200}), 2**20)
+    content = inner.data if rng.random() < 0.5 else rng.randbytes(64 * rng.randrange(99)) + inner.data + junk(rng, rng.randrange(999))
+    return whole(*volume_of(rng, outer, content))
+
+
+def in_itself(rng, image):
+    """An image in a volume of one of the same sizes and, now and then, the same number."""
+    geometry, blocks = image({sizes: often for sizes, often in SIZES.items() if sizes[0] <= 32768})
+    geometry, outer = volume_of(rng, geometry, b"".join(blocks))
+    if rng.random() < 0.5:
+        number = int.from_bytes(next((block[24:28] for block in blocks if block.startswith(b"UBI#")), ZERO * 4), "big")
+        outer = [renumbered(block, number) for block in outer]
+    return whole(geometry, outer)
+
+
+def with_bad(rng, geometry, blocks, count):
+    """An image of which so many eraseblocks are bad."""
+    blocks = list(blocks)
+    for p in rng.sample(range(len(blocks)), min(count, len(blocks))):
+        blocks[p] = bad_block(rng, geometry.peb)
+    return geometry, blocks
+
+
+def some_bad(rng, image):
+    return whole(*with_bad(rng, *image(SIZES), rng.choice((1, 2, 3))))
+
+
+def one_bad(rng, image):
+    return whole(*with_bad(rng, *image(SIZES), 1))
+
+
+def bad_and_junk(rng, image):
+    file = whole(*with_bad(rng, *image(SIZES), rng.choice((1, 2, 3))))
+    return file.around(boot_loader(rng), junk(rng, rng.randrange(2 * len(file.data) + 2)))
+
+
+def each_second_bad(rng, image):
+    """An image of which each second eraseblock is bad."""
+    geometry, blocks = image(SIZES)
+    how, first = rng.choice((ZERO, BLANK, None)), rng.choice((0, 1))
+    return whole(geometry, [(how * geometry.peb if how else bad_block(rng, geometry.peb)) if p % 2 == first else block for p, block in enumerate(blocks)])
+
+
+def cut(rng, image):
+    file = whole(*image(SIZES))
+    return File(file.data[: rng.randrange(len(file.data) + 1)], *file.truths)
+
+
+def cut_before(rng, image):
+    """An image of which the first bytes are lost, as many as any multiple of 64."""
+    file = whole(*image(SIZES))
+    lost = 64 * rng.randrange(len(file.data) // 64 + 1)
+    return File(file.data[lost:], *(truth.moved(-lost) for truth in file.truths))
+
+
+def with_more(rng, geometry, blocks, how):
+    """The file of an image with out-of-band bytes: random ones of each page or of those that aren't blank, or a code in those of each page
+    that isn't blank, or of each page."""
+    page = geometry.page
+    oob, code = rng.choice(OUT_OF_BAND[page]), rng.choice((3, 6, 12))
+
+    def of_page(data):
+        if how.endswith("written") and rules.is_blank(data):
+            return BLANK * oob
+        return rng.randbytes(oob) if how.startswith("random") else BLANK * (oob - code) + rng.randbytes(code)
+
+    image = b"".join(blocks)
+    pages = (image[at : at + page] for at in range(0, len(image), page))
+    return File(b"".join(data + of_page(data) for data in pages), Truth(geometry, oob, 0, len(blocks)))
+
+
+def out_of_band(how, rng, image):
+    return with_more(rng, *image(SIZES_WITH_MORE), how)
+
+
+def out_of_band_bad(rng, image):
+    return with_more(rng, *with_bad(rng, *image(SIZES_WITH_MORE), rng.choice((1, 2, 3))), rng.choice(OF_WRITTEN))
+
+
+def out_of_band_junk(rng, image):
+    file = with_more(rng, *image(SIZES_WITH_MORE), rng.choice(OF_WRITTEN))
+    return file.around(boot_loader(rng), junk(rng, rng.randrange(2 * len(file.data) + 2)))
+
+
+def out_of_band_cut(rng, image):
+    file = with_more(rng, *image(SIZES_WITH_MORE), rng.choice(OF_WRITTEN))
+    return File(file.data[: rng.randrange(len(file.data) + 1)], *file.truths)
+
+
+def no_number(rng, image):
+    geometry, blocks = image(SIZES)
+    return whole(geometry, [renumbered(block, 0) for block in blocks])
+
+
+def half_numbers(rng, image):
+    geometry, blocks = with_number(rng, *image(SIZES))
+    file = whole(geometry, [renumbered(block, 0) if rng.random() < 0.5 else block for block in blocks])
+    return file.around(rng.choice((b"", boot_loader(rng))), b"")
+
+
+def one_header(rng, image):
+    """An image of which one eraseblock has a header, or a header alone, with anything around it."""
+    geometry, blocks = image(SIZES)
+    starts = [p for p, block in enumerate(blocks) if block.startswith(b"UBI#")]
+    keep = rng.choice(starts) if starts else None
+    blocks = [block if p == keep else bad_block(rng, geometry.peb) for p, block in enumerate(blocks)]
+    alone = File(header(rng)).around(junk(rng, 64 * rng.randrange(99)), junk(rng, rng.randrange(9999)))
+    return rng.choice((whole(geometry, blocks), whole(geometry, blocks[keep or 0 :]), alone))
+
+
+def stray_before(rng, image):
+    file = whole(*image(SIZES))
+    g = file.truths[0].geometry
+    offsets = rng.choice(((g.vid, g.data), (64, 128), (2048, 4096)))
+    return file.around(header(rng, offsets) + junk(rng, 64 * rng.randrange(500)), b"")
+
+
+def stray_behind(rng, image):
+    file = whole(*image(SIZES))
+    g = file.truths[0].geometry
+    offsets = rng.choice(((g.vid, g.data), (64, 128), (2048, 4096)))
+    return file.around(boot_loader(rng), junk(rng, 64 * rng.randrange(500)) + header(rng, offsets) + junk(rng, rng.randrange(2000)))
+
+
+def stray_alone(rng, image):
+    """Two or three headers of one image in bytes that are none."""
+    g = Geometry(*sizes_of(rng, SIZES), 2**20)
+    ec = rules.put_ec(g, 7, rng.choice((0, 5)))
+    return File(b"".join(ec + junk(rng, 64 * rng.randrange(1, 600)) for _ in range(rng.choice((2, 2, 3)))))
+
+
+# Hostile files.
+
+
+def back_to_back(rng, image):
+    """Headers without a gap, each with its own number; some have none, or the numbers come again."""
+    numbers = rng.choice((range(1, 10**9), range(1, 10**9), (0, 1), (0, 0, 1, 2), (5,)))
+    g = Geometry(*sizes_of(rng, SIZES), 2**20)
+    return File(b"".join(rules.put_ec(g, 1, number if isinstance(numbers, range) and k % 9 else rng.choice(numbers[:4]))
+        for k, number in zip(range(rng.randrange(2, 600)), range(1, 10**9))))
+
+
+def three_offsets(rng, image):
+    """Headers with three pairs of offsets at random places."""
+    raw = bytearray(junk(rng, 64 * rng.randrange(8, 1000)))
+    named = [(g[2], g[3]) for g in rng.sample(list(SIZES), 3)]
+    for _ in range(rng.randrange(2, 60)):
+        at = 64 * rng.randrange(len(raw) // 64)
+        raw[at : at + 64] = rules.put_ec(Geometry(0, 0, *rng.choice(named), 0), 1, rng.choice((0, 0, 1, 1, 2)))
+    return File(bytes(raw))
+
+
+def far_apart(rng, image):
+    """Headers that are 16 MiB apart, or a bit more or less, or twice as far; now and then the eraseblocks have tables."""
+    g = Geometry(rng.choice((2**24, 2**24, 2**24 + 65536, 2**24 - 65536, 2**25)), 65536, 65536, 131072, 2**20)
+    number, text = rng.choice((0, 9)), rng.choice((b"", rules.put_table(dataclasses.replace(g, peb=2**24), {})))
+    vids = [rules.put_vid(Vid(1, 0, 5, LAYOUT, copy, 0, 0, 0, 0, 0)) if text else b"" for copy in range(2)]
+    blocks = [rules.put_block(g, rules.put_ec(g, 1, number), vid, text) for vid in vids]
+    return whole(g, blocks) if g.peb <= 2**24 else File(b"".join(blocks))
+
+
+def at_the_end(rng, image):
+    """An image, and behind it a header that is the end of the file, or of which some bytes are missing."""
+    file = whole(*image(SIZES))
+    g, more = file.truths[0].geometry, rng.choice((64, 63, 4, 60, rng.randrange(65)))
+    own, gap = file.data[:64], rng.choice((b"", BLANK * 64, junk(rng, 64 * rng.randrange(100))))
+    last = rng.choice((own, header(rng), header(rng, (g.vid, g.data))))[:more]
+    truth = file.truths[0]
+    if last == own and len(gap) % truth.size == 0:
+        # The header is one of the image, whose last eraseblock isn't all there.
+        truth = dataclasses.replace(truth, count=truth.count + len(gap) // truth.size + 1)
+    return File(file.data + gap + last, truth)
+
+
+def tiny(rng, image):
+    """At most 63 bytes, or a few headers."""
+    return File(rng.choice((b"", header(rng)[:63], rng.randbytes(63), header(rng), header(rng) * 2, header(rng) + b"UBI#", BLANK * 64)))
+
+
+def other_checks(rng, image):
+    """An image with magics at multiples of 64 and at others, of which the check, the version or the counter is wrong."""
+    geometry, blocks = image(SIZES)
+    wrong = (header(rng)[:60] + rng.randbytes(4), rules.sealed(b"UBI#\x02" + header(rng)[5:60]), rules.sealed(b"UBI#\x01\0\0\0" + BLANK * 8 + header(rng)[16:60]))
+    raw = bytearray(b"".join(blocks))
+    for _ in range(rng.randrange(1, 9)):
+        at = rng.randrange(len(raw) // 64 + 1) * 64 + rng.choice((0, 0, 4))
+        if not any(at - 64 < start * geometry.peb + off < at + 64 for start in range(len(blocks)) for off in (0, geometry.vid)):
+            raw[at : at + 64] = rng.choice(wrong)
+    raw = raw[: len(blocks) * geometry.peb]
+    return File(bytes(raw), Truth(geometry, 0, 0, len(blocks)))
+
+
+# Of each kind how a file is made. Those of the second list may be told wrong, as docs/FORMAT.md says.
+KINDS = {
+    "as it is": as_it_is,
+    "random bytes behind": functools.partial(junk_behind, None),
+    "zeros behind": functools.partial(junk_behind, ZERO),
+    "0xFF behind": functools.partial(junk_behind, BLANK),
+    "random bytes before": functools.partial(junk_before, None),
+    "zeros before": functools.partial(junk_before, ZERO),
+    "0xFF before": functools.partial(junk_before, BLANK),
+    "a boot loader before": loader_before,
+    "a boot loader before and junk behind": loader_and_junk,
+    "at a multiple of 64": at_any_64,
+    "at no multiple of 64": at_any_byte,
+    "two images": two_images,
+    "two images, junk between": two_images_apart,
+    "two images of the same sizes": two_of_one_size,
+    "two images of the same sizes, one without number": two_without_number,
+    "one image twice": one_twice,
+    "in a volume of another": in_another,
+    "in a volume of itself": in_itself,
+    "one bad eraseblock": one_bad,
+    "one to three bad eraseblocks": some_bad,
+    "bad eraseblocks and junk around": bad_and_junk,
+    "each second eraseblock bad": each_second_bad,
+    "cut behind": cut,
+    "cut before": cut_before,
+    "out-of-band bytes, random of each page": functools.partial(out_of_band, "random"),
+    "out-of-band bytes, a code of each page": functools.partial(out_of_band, "code"),
+    "out-of-band bytes, random of written pages": functools.partial(out_of_band, "random written"),
+    "out-of-band bytes, a code of written pages": functools.partial(out_of_band, "code written"),
+    "out-of-band bytes, bad eraseblocks": out_of_band_bad,
+    "out-of-band bytes, junk around": out_of_band_junk,
+    "out-of-band bytes, cut": out_of_band_cut,
+    "no number": no_number,
+    "a number in half of the headers": half_numbers,
+    "one header": one_header,
+    "a stray header before": stray_before,
+    "a stray header behind": stray_behind,
+    "stray headers alone": stray_alone,
+    "headers back to back": back_to_back,
+    "headers with three offsets": three_offsets,
+    "headers at the end": at_the_end,
+    "wrong checks, versions and counters": other_checks,
+    "tiny": tiny,
+}
+RARE = {"headers far apart": far_apart}
+MAY_BE_WRONG = ("each second eraseblock bad", "in a volume of another", "in a volume of itself", "one image twice", "two images of the same sizes, one without number")
+MAKERS = (Maker, Dump, Dump, Dump)
+
+
+def file_of(rng, k, makers=MAKERS):
+    """The kind of the file of a number, and the file."""
+    names = list(KINDS)
+    name = next(iter(RARE)) if k % 400 == 399 else names[k % len(names)]
+    return name, (KINDS | RARE)[name](rng, lambda weights: made(rng, weights, makers))
+
+
+def reason(file):
+    """Why a file is refused, in short; of a size that can't be told, in which point. None where it isn't."""
+    try:
+        geometry.find(file)
+    except geometry.NoSize as refused:
+        return f"F2 {refused.why}"
+    except Refused as refused:
+        return str(refused).split()[0]
+    return None
+
+
+def row_of(name, file):
+    """The kind under which a file is counted: one of which less than two eraseblocks of an image start with a header has one header."""
+    return "one header" if file.truths and all(len(truth.headers(file.data)) < 2 for truth in file.truths) else name
+
+
+def options():
+    words = argparse.ArgumentParser(description=__doc__, formatter_class=argparse.RawDescriptionHelpFormatter)
+    words.add_argument("--seed", type=int, default=1)
+    words.add_argument("--count", type=int, default=2000)
+    words.add_argument("--first", type=int, default=0)
+    words.add_argument("--ubinize", action="store_true")
+    words.add_argument("--wrong", action="store_true")
+    return words.parse_args()
+
+
+def main():
+    words = options()
+    makers = (Ubinized,) if words.ubinize else MAKERS
+    counts, wrong = collections.defaultdict(collections.Counter), 0
+    for k in range(words.first, words.first + words.count):
+        name, file = file_of(random.Random(f"{words.seed} {k}"), k, makers)
+        text, status = geometry.answer(file.data)
+        judgement = judged(file, text, status)
+        counts[row_of(name, file)].update([judgement, reason(file.data) or "told"])
+        if judgement == "wrong":
+            wrong += name not in MAY_BE_WRONG
+            truths = [(*dataclasses.astuple(truth)[:1], truth.oob, truth.start, truth.count) for truth in file.truths]
+            print(f"number {k} of seed {words.seed}, {name}, {len(file.data)} bytes: {text.splitlines()} where {truths} is true", flush=True)
+    if not words.wrong:
+        print_table(counts)
+    sys.exit(1 if wrong else 0)
+
+
+def print_table(counts):
+    print("| files | right | wrong | refused |\n|---|---|---|---|")
+    total = collections.Counter()
+    for name in sorted(counts, key=list(KINDS | RARE).index):
+        total.update(counts[name])
+        print_row(name, counts[name])
+    print_row("all", total)
+
+
+def print_row(name, count):
+    why = ", ".join(f"{cause} {count[cause]}" for cause in sorted(count) if cause.startswith("F"))
+    print(f"| {name} | {count['right']} | {count['wrong']} | {count['refused']}{': ' if why else ''}{why} |")
+
+
+if __name__ == "__main__":
+    main()
