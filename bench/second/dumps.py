@@ -167,7 +167,7 @@ class Truth:
     def headers(self, file):
         """Where in the file its eraseblocks lie that start with a header."""
         places = range(self.start, self.start + self.count * self.size, self.size)
-        return [at for at in places if at + 64 <= len(file) and rules.read_ec(self.geometry, file[at : at + 64])[0] == "valid"]
+        return [at for at in places if 0 <= at <= len(file) - 64 and rules.read_ec(self.geometry, file[at : at + 64])[0] == "valid"]
 
     def moved(self, more):
         return dataclasses.replace(self, start=self.start + more)
@@ -385,6 +385,27 @@ def bad_and_junk(rng, image):
     return file.around(boot_loader(rng), junk(rng, rng.randrange(2 * len(file.data) + 2)))
 
 
+def with_blank(rng, image):
+    """An image with blank eraseblocks among the others, as many as a third of them."""
+    geometry, blocks = image(SIZES)
+    blocks = list(blocks)
+    for _ in range(rng.randrange(1, len(blocks) // 2 + 2)):
+        blocks.insert(rng.randrange(len(blocks) + 1), BLANK * geometry.peb)
+    return whole(geometry, blocks)
+
+
+def second_and_fourth_blank(rng, image):
+    """An image with blank eraseblocks behind the first and the second, and the two copies of the table two apart behind these."""
+    geometry, blocks = image(SIZES)
+    layout = LAYOUT.to_bytes(4, "big")
+    tables = [block for block in blocks if block[geometry.vid + 8 : geometry.vid + 12] == layout]
+    rest = [block for block in blocks if block not in tables] + [rules.put_block(geometry, rules.put_ec(geometry))] * 4
+    first, second, third, fourth, *rest = (renumbered(block, 7) for block in rest)
+    blank, (one, two) = BLANK * geometry.peb, (renumbered(block, 7) for block in (tables + rest)[:2])
+    blocks = [first, blank, second, blank, one, third, two, fourth, *rest]
+    return whole(geometry, blocks + [blank] * rng.choice((0, len(blocks) % 2)))
+
+
 def each_second_bad(rng, image):
     """An image of which each second eraseblock is bad."""
     geometry, blocks = image(SIZES)
@@ -404,11 +425,12 @@ def cut_before(rng, image):
     return File(file.data[lost:], *(truth.moved(-lost) for truth in file.truths))
 
 
-def with_more(rng, geometry, blocks, how):
+def with_more(rng, geometry, blocks, how, numbers=()):
     """The file of an image with out-of-band bytes: random ones of each page or of those that aren't blank, or a code in those of each page
-    that isn't blank, or of each page."""
-    page = geometry.page
-    oob, code = rng.choice(OUT_OF_BAND[page]), rng.choice((3, 6, 12))
+    that isn't blank, or of each page. A page has one of some NUMBERS of them, or one with which an eraseblock is a multiple of 64."""
+    page, count = geometry.page, geometry.peb // geometry.page
+    oob = rng.choice(numbers or [number for number in OUT_OF_BAND[page] if count * number % 64 == 0])
+    code = rng.choice((3, 6, 12))
 
     def of_page(data):
         if how.endswith("written") and rules.is_blank(data):
@@ -418,6 +440,11 @@ def with_more(rng, geometry, blocks, how):
     image = b"".join(blocks)
     pages = (image[at : at + page] for at in range(0, len(image), page))
     return File(b"".join(data + of_page(data) for data in pages), Truth(geometry, oob, 0, len(blocks)))
+
+
+def out_of_band_odd(rng, image):
+    """An image with out-of-band bytes whose eraseblocks, of 16 pages of 4096 and 218 bytes, are no multiple of 64."""
+    return with_more(rng, *image({(65536, 4096, 4096, 8192): 1}), rng.choice(OF_WRITTEN), (218,))
 
 
 def out_of_band(how, rng, image):
@@ -564,6 +591,8 @@ KINDS = {
     "one bad eraseblock": one_bad,
     "one to three bad eraseblocks": some_bad,
     "bad eraseblocks and junk around": bad_and_junk,
+    "blank eraseblocks among the others": with_blank,
+    "the second and the fourth blank": second_and_fourth_blank,
     "each second eraseblock bad": each_second_bad,
     "cut behind": cut,
     "cut before": cut_before,
@@ -571,6 +600,7 @@ KINDS = {
     "out-of-band bytes, a code of each page": functools.partial(out_of_band, "code"),
     "out-of-band bytes, random of written pages": functools.partial(out_of_band, "random written"),
     "out-of-band bytes, a code of written pages": functools.partial(out_of_band, "code written"),
+    "out-of-band bytes, eraseblocks that are no multiple of 64": out_of_band_odd,
     "out-of-band bytes, bad eraseblocks": out_of_band_bad,
     "out-of-band bytes, junk around": out_of_band_junk,
     "out-of-band bytes, cut": out_of_band_cut,
