@@ -2,7 +2,7 @@
 """Makes files of which the truth is known: images of many geometries, with anything around them, damaged, cut, one in another, with
 out-of-band bytes; and judges what bench/second/geometry.py tells of them.
 
-usage: dumps.py [--seed N] [--count N] [--first N] [--ubinize] [--wrong]
+usage: dumps.py [--seed N ..] [--count N] [--first N] [--ubinize] [--wrong]
 
 An image is that of fuzz.py's Maker, or one as ubinize writes it or a kernel leaves it; with --ubinize those of ubinize itself, where mtd-utils
 are there. The kinds of files are those of KINDS below, by turns. What is told is right if the sizes, the offsets and the out-of-band
@@ -17,6 +17,7 @@ import argparse
 import collections
 import dataclasses
 import functools
+import itertools
 import os
 import random
 import re
@@ -142,7 +143,7 @@ def made(rng, weights, makers):
     """An image: its geometry and its eraseblocks."""
     maker = rng.choice(makers)
     if maker is Ubinized:
-        weights = {sizes: often for sizes, often in weights.items() if is_ubinized(*sizes)}
+        weights = {sizes: often for sizes, often in weights.items() if is_ubinized(*sizes)} or {(16384, 512, 512, 1024): 1}
     image = maker(rng, (sizes_of(rng, weights),))
     return image.geometry, image.blocks
 
@@ -397,11 +398,12 @@ def with_blank(rng, image):
 def second_and_fourth_blank(rng, image):
     """An image with blank eraseblocks behind the first and the second, and the two copies of the table two apart behind these."""
     geometry, blocks = image(SIZES)
-    layout = LAYOUT.to_bytes(4, "big")
+    layout, free = LAYOUT.to_bytes(4, "big"), rules.put_block(geometry, rules.put_ec(geometry))
     tables = [block for block in blocks if block[geometry.vid + 8 : geometry.vid + 12] == layout]
-    rest = [block for block in blocks if block not in tables] + [rules.put_block(geometry, rules.put_ec(geometry))] * 4
-    first, second, third, fourth, *rest = (renumbered(block, 7) for block in rest)
-    blank, (one, two) = BLANK * geometry.peb, (renumbered(block, 7) for block in (tables + rest)[:2])
+    others = [block for block in blocks if block not in tables]
+    first, second, third, fourth, *rest = (renumbered(block, 7) for block in others + [free] * 4)
+    one, two = (renumbered(block, 7) for block in (tables + [free] * 2)[:2])
+    blank = BLANK * geometry.peb
     blocks = [first, blank, second, blank, one, third, two, fourth, *rest]
     return whole(geometry, blocks + [blank] * rng.choice((0, len(blocks) % 2)))
 
@@ -628,6 +630,23 @@ def file_of(rng, k, makers=MAKERS):
     return name, (KINDS | RARE)[name](rng, lambda weights: made(rng, weights, makers))
 
 
+def fault(file, text):
+    """What is wrong with a wrong answer, in a few words."""
+    told = told_numbers(file.data, text)
+    if not told or not file.truths:
+        return "told of no image"
+    peb, page, _, _, oob, start, _ = told[0]
+    size = peb // page * (page + oob)
+    for truth in file.truths:
+        places = truth.headers(file.data)
+        if truth.size % 64:
+            return "the eraseblock is no multiple of 64"
+        if len(places) > 1 and size > truth.size and size % truth.size == 0 and (start - truth.start) % truth.size == 0:
+            off = sum((at - start) % size != 0 for at in places)
+            return f"{size // truth.size} times the size, {off} of {len(places)} headers off the grid"
+    return "another size or place"
+
+
 def reason(file):
     """Why a file is refused, in short; of a size that can't be told, in which point. None where it isn't."""
     try:
@@ -646,7 +665,7 @@ def row_of(name, file):
 
 def options():
     words = argparse.ArgumentParser(description=__doc__, formatter_class=argparse.RawDescriptionHelpFormatter)
-    words.add_argument("--seed", type=int, default=1)
+    words.add_argument("--seed", type=int, nargs="+", default=[1])
     words.add_argument("--count", type=int, default=2000)
     words.add_argument("--first", type=int, default=0)
     words.add_argument("--ubinize", action="store_true")
@@ -658,15 +677,15 @@ def main():
     words = options()
     makers = (Ubinized,) if words.ubinize else MAKERS
     counts, wrong = collections.defaultdict(collections.Counter), 0
-    for k in range(words.first, words.first + words.count):
-        name, file = file_of(random.Random(f"{words.seed} {k}"), k, makers)
+    for seed, k in itertools.product(words.seed, range(words.first, words.first + words.count)):
+        name, file = file_of(random.Random(f"{seed} {k}"), k, makers)
         text, status = geometry.answer(file.data)
         judgement = judged(file, text, status)
         counts[row_of(name, file)].update([judgement, reason(file.data) or "told"])
         if judgement == "wrong":
             wrong += name not in MAY_BE_WRONG
             truths = [(*dataclasses.astuple(truth)[:1], truth.oob, truth.start, truth.count) for truth in file.truths]
-            print(f"number {k} of seed {words.seed}, {name}, {len(file.data)} bytes: {text.splitlines()} where {truths} is true", flush=True)
+            print(f"number {k} of seed {seed}, {name}, {fault(file, text)}: {text.splitlines()[0]} where {truths} is true", flush=True)
     if not words.wrong:
         print_table(counts)
     sys.exit(1 if wrong else 0)
