@@ -10,8 +10,8 @@ bytes are the true ones, the true page is among the pages, and the place lies on
 starts with a header. A file whose image has one such eraseblock, or that holds no image, has to be refused.
 
 Without words there are 2,000 files (--count) of the seed 1 (--seed). It prints of each kind how many are right, wrong and refused, each wrong
-answer by its number, with which --first makes it again (--wrong prints no table), and ends with status 1 where one is wrong of a kind of which
-docs/FORMAT.md doesn't say that it may be told wrong.
+answer by its number, with which --first makes it again (--wrong prints no table), and ends with status 1 where one is wrong of which docs/FORMAT.md
+doesn't say that it may be told.
 """
 import argparse
 import collections
@@ -570,7 +570,7 @@ def other_checks(rng, image):
     return File(bytes(raw), Truth(geometry, 0, 0, len(blocks)))
 
 
-# Of each kind how a file is made. Those of the second list may be told wrong, as docs/FORMAT.md says.
+# Of each kind how a file is made.
 KINDS = {
     "as it is": as_it_is,
     "random bytes behind": functools.partial(junk_behind, None),
@@ -619,7 +619,6 @@ KINDS = {
     "tiny": tiny,
 }
 RARE = {"headers far apart": far_apart}
-MAY_BE_WRONG = ("each second eraseblock bad", "in a volume of another", "in a volume of itself", "one image twice", "two images of the same sizes, one without number")
 MAKERS = (Maker, Dump, Dump, Dump)
 
 
@@ -630,21 +629,33 @@ def file_of(rng, k, makers=MAKERS):
     return name, (KINDS | RARE)[name](rng, lambda weights: made(rng, weights, makers))
 
 
+def off_grid(file, truth, told):
+    """How many headers of an image aren't where the told eraseblocks begin, and how many it has; None where those aren't some of its own."""
+    peb, page, _, _, oob, start, _ = told[0]
+    size, places = peb // page * (page + oob), truth.headers(file)
+    if len(places) < 2 or size <= truth.size or size % truth.size or (start - truth.start) % truth.size:
+        return None
+    return sum((at - start) % size != 0 for at in places), len(places)
+
+
+def may_be_told(file, text):
+    """Whether a wrong answer is one of those that docs/FORMAT.md names: what was lost isn't seen, and all headers begin eraseblocks of
+    several times the size."""
+    told = told_numbers(file.data, text)
+    offs = [off_grid(file.data, truth, told) for truth in file.truths] if told else []
+    return any(off and off[0] == 0 for off in offs)
+
+
 def fault(file, text):
     """What is wrong with a wrong answer, in a few words."""
     told = told_numbers(file.data, text)
-    if not told or not file.truths:
-        return "told of no image"
-    peb, page, _, _, oob, start, _ = told[0]
-    size = peb // page * (page + oob)
-    for truth in file.truths:
-        places = truth.headers(file.data)
+    for truth in file.truths if told else ():
         if truth.size % 64:
             return "the eraseblock is no multiple of 64"
-        if len(places) > 1 and size > truth.size and size % truth.size == 0 and (start - truth.start) % truth.size == 0:
-            off = sum((at - start) % size != 0 for at in places)
-            return f"{size // truth.size} times the size, {off} of {len(places)} headers off the grid"
-    return "another size or place"
+        off = off_grid(file.data, truth, told)
+        if off:
+            return f"several times the size, {off[0]} of {off[1]} headers off the grid"
+    return "another size or place" if file.truths else "there is no image"
 
 
 def reason(file):
@@ -683,7 +694,7 @@ def main():
         judgement = judged(file, text, status)
         counts[row_of(name, file)].update([judgement, reason(file.data) or "told"])
         if judgement == "wrong":
-            wrong += name not in MAY_BE_WRONG
+            wrong += not may_be_told(file, text)
             truths = [(*dataclasses.astuple(truth)[:1], truth.oob, truth.start, truth.count) for truth in file.truths]
             print(f"number {k} of seed {seed}, {name}, {fault(file, text)}: {text.splitlines()[0]} where {truths} is true", flush=True)
     if not words.wrong:
