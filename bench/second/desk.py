@@ -20,9 +20,9 @@ import os
 import subprocess
 
 import dumps
-import geometry
 import rules
 from fuzz import Failure, Runner, built, finish, options, run_cases, taken
+from geometry import geometries, printed
 from rules import Image, Refused
 
 
@@ -45,13 +45,13 @@ class Case(Runner):
 
     def look(self):
         """Compares each answer. Gives what the geometry is: right, wrong or refused."""
-        text, status = geometry.answer(self.file.data)
+        text, status = printed(self.file.data)
         judgement = dumps.judged(self.file, text, status)
         self.look_geometry(text, status, judgement)
         if judgement == "refused":
             self.look_refused(text)
         else:
-            self.look_found(geometry.geometries(self.file.data)[0])
+            self.look_found(geometries(self.file.data)[0])
         return judgement
 
     def look_geometry(self, text, status, judgement):

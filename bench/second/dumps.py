@@ -26,9 +26,9 @@ import subprocess
 import sys
 import tempfile
 
-import geometry
 import rules
 from fuzz import Maker, renumbered
+from geometry import NoSize, find, printed
 from rules import LAYOUT, Geometry, Record, Refused, Vid
 
 # The sizes of an eraseblock and a page, the offsets, and how often they are taken.
@@ -661,8 +661,8 @@ def fault(file, text):
 def reason(file):
     """Why a file is refused, in short; of a size that can't be told, in which point. None where it isn't."""
     try:
-        geometry.find(file)
-    except geometry.NoSize as refused:
+        find(file)
+    except NoSize as refused:
         return f"F2 {refused.why}"
     except Refused as refused:
         return str(refused).split()[0]
@@ -690,7 +690,7 @@ def main():
     counts, wrong = collections.defaultdict(collections.Counter), 0
     for seed, k in itertools.product(words.seed, range(words.first, words.first + words.count)):
         name, file = file_of(random.Random(f"{seed} {k}"), k, makers)
-        text, status = geometry.answer(file.data)
+        text, status = printed(file.data)
         judgement = judged(file, text, status)
         counts[row_of(name, file)].update([judgement, reason(file.data) or "told"])
         if judgement == "wrong":

@@ -312,7 +312,7 @@ def find(file):
     return [found.line() for found in geometries(file)]
 
 
-def answer(file):
+def printed(file):
     """What is printed of the geometry of a file, and the exit status."""
     try:
         return "".join(find(file)), 0
