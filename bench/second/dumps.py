@@ -37,6 +37,9 @@ SIZES = {
     (1024, 256, 64, 256): 8,
     (1024, 256, 320, 512): 8,
     (2048, 512, 512, 1024): 8,
+    (576, 64, 64, 128): 3,
+    (704, 64, 64, 128): 3,
+    (6144, 512, 512, 1024): 3,
     (16384, 512, 512, 1024): 5,
     (16384, 2048, 64, 2048): 3,
     (16384, 2048, 1984, 2048): 3,
@@ -408,11 +411,13 @@ def second_and_fourth_blank(rng, image):
     return whole(geometry, blocks + [blank] * rng.choice((0, len(blocks) % 2)))
 
 
-def each_second_bad(rng, image):
-    """An image of which each second eraseblock is bad."""
+def most_bad(rng, image):
+    """An image of which each second eraseblock is bad, or two of three."""
     geometry, blocks = image(SIZES)
-    how, first = rng.choice((ZERO, BLANK, None)), rng.choice((0, 1))
-    return whole(geometry, [(how * geometry.peb if how else bad_block(rng, geometry.peb)) if p % 2 == first else block for p, block in enumerate(blocks)])
+    how, step = rng.choice((ZERO, BLANK, None)), rng.choice((2, 2, 3))
+    kept = rng.randrange(step)
+    bad = (how * geometry.peb if how else bad_block(rng, geometry.peb) for _ in blocks)
+    return whole(geometry, [block if p % step == kept else other for p, (block, other) in enumerate(zip(blocks, bad))])
 
 
 def cut(rng, image):
@@ -465,6 +470,30 @@ def out_of_band_junk(rng, image):
 def out_of_band_cut(rng, image):
     file = with_more(rng, *image(SIZES_WITH_MORE), rng.choice(OF_WRITTEN))
     return File(file.data[: rng.randrange(len(file.data) + 1)], *file.truths)
+
+
+def full_blocks(rng, geometry, how):
+    """Eraseblocks without a VID header that are full but for one, so that no part of one could be the size."""
+    size = geometry.leb
+    texts = [rng.randbytes(size) for _ in range(rng.randrange(3, 7))] + [rng.randbytes(size * 3 // 4 // geometry.page * geometry.page)]
+    ec = rules.put_ec(geometry, 3, rng.randrange(1, 2**32))
+    return [rules.put_block(geometry, ec, how, text) for text in rng.sample(texts, len(texts))]
+
+
+def out_of_band_unsaid(rng, image):
+    """Eraseblocks with out-of-band bytes in which no VID header says how many these are."""
+    geometry = Geometry(*sizes_of(rng, SIZES_WITH_MORE), 2**20)
+    return with_more(rng, geometry, full_blocks(rng, geometry, bytes(64)), rng.choice(OF_WRITTEN))
+
+
+def no_page(rng, image):
+    """An image whose data begin where Linux has them for no page: it is none that Linux reads."""
+    vid, data = rng.choice(((64, 192), (64, 320), (128, 320), (512, 2112), (2048, 2240)))
+    geometry = Geometry(rng.choice((4096, 16384, 65536)), 64, vid, data, 2**20)
+    tables = [rules.put_vid(Vid(1, 0, 5, LAYOUT, copy, 0, 0, 0, 0, 0)) for copy in range(2)]
+    ec, text = rules.put_ec(geometry, 3, rng.randrange(1, 2**32)), rules.put_table(geometry, {})
+    blocks = [rules.put_block(geometry, ec, vid, text) for vid in tables] + full_blocks(rng, geometry, b"")
+    return File(b"".join(blocks)).around(boot_loader(rng), b"")
 
 
 def no_number(rng, image):
@@ -595,7 +624,7 @@ KINDS = {
     "bad eraseblocks and junk around": bad_and_junk,
     "blank eraseblocks among the others": with_blank,
     "the second and the fourth blank": second_and_fourth_blank,
-    "each second eraseblock bad": each_second_bad,
+    "each second eraseblock bad, or two of three": most_bad,
     "cut behind": cut,
     "cut before": cut_before,
     "out-of-band bytes, random of each page": functools.partial(out_of_band, "random"),
@@ -603,6 +632,7 @@ KINDS = {
     "out-of-band bytes, random of written pages": functools.partial(out_of_band, "random written"),
     "out-of-band bytes, a code of written pages": functools.partial(out_of_band, "code written"),
     "out-of-band bytes, eraseblocks that are no multiple of 64": out_of_band_odd,
+    "out-of-band bytes, no VID header": out_of_band_unsaid,
     "out-of-band bytes, bad eraseblocks": out_of_band_bad,
     "out-of-band bytes, junk around": out_of_band_junk,
     "out-of-band bytes, cut": out_of_band_cut,
@@ -614,6 +644,7 @@ KINDS = {
     "stray headers alone": stray_alone,
     "headers back to back": back_to_back,
     "headers with three offsets": three_offsets,
+    "offsets of no page": no_page,
     "headers at the end": at_the_end,
     "wrong checks, versions and counters": other_checks,
     "tiny": tiny,
