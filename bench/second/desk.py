@@ -63,7 +63,7 @@ class Case(Runner):
             raise Failure(f"{self.kind}: geometry answers {came}, which is {judged}, where {(text, status)}, which is {judgement}, is the rule's; "
                 f"{ran.stderr.decode()}")
         if judgement == "wrong" and not dumps.may_be_told(self.file, text):
-            raise Failure(f"{self.kind}: geometry answers {text.splitlines()[0]}, {dumps.fault(self.file, text)}")
+            raise Failure(f"{self.kind}: the rule itself is wrong: {text.splitlines()[0]}, {dumps.fault(self.file, text)}")
 
     def look_refused(self, line):
         """Whether a command that reads an image refuses a file as `geometry` does."""
