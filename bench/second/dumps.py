@@ -365,7 +365,7 @@ def in_itself(rng, image):
     if rng.random() < 0.5:
         number = int.from_bytes(next((block[24:28] for block in blocks if block.startswith(b"UBI#")), ZERO * 4), "big")
         outer = [renumbered(block, number) for block in outer]
-    return whole(geometry, outer)
+    return whole(geometry, outer).around(b"", junk(rng, rng.choice((0, 0, rng.randrange(geometry.peb)))))
 
 
 def with_bad(rng, geometry, blocks, count):
@@ -561,11 +561,13 @@ def three_offsets(rng, image):
 
 def far_apart(rng, image):
     """Headers that are 16 MiB apart, or a bit more or less, or twice as far; now and then the eraseblocks have tables."""
-    g = Geometry(rng.choice((2**24, 2**24, 2**24 + 65536, 2**24 - 65536, 2**25)), 65536, 65536, 131072, 2**20)
-    number, text = rng.choice((0, 9)), rng.choice((b"", rules.put_table(dataclasses.replace(g, peb=2**24), {})))
+    g = Geometry(rng.choice((2**24, 2**24 + 65536, 2**24 + 65536, 2**24 - 65536)), 65536, 65536, 131072, 2**20)
+    number, table = rng.choice((0, 9)), rules.put_table(dataclasses.replace(g, peb=2**24), {})
+    text = rng.choice((b"", table, table, table))
     vids = [rules.put_vid(Vid(1, 0, 5, LAYOUT, copy, 0, 0, 0, 0, 0)) if text else b"" for copy in range(2)]
     blocks = [rules.put_block(g, rules.put_ec(g, 1, number), vid, text) for vid in vids]
-    return whole(g, blocks) if g.peb <= 2**24 else File(b"".join(blocks))
+    file = whole(g, blocks) if g.peb <= 2**24 else File(b"".join(blocks))
+    return file.around(rng.choice((b"", b"", ZERO * 64)), b"")
 
 
 def at_the_end(rng, image):
@@ -587,16 +589,153 @@ def tiny(rng, image):
 
 
 def other_checks(rng, image):
-    """An image with magics at multiples of 64 and at others, of which the check, the version or the counter is wrong."""
+    """An image with headers of its own that are none at any multiple of 64, and others at none: the check, the version or the counter is wrong."""
     geometry, blocks = image(SIZES)
-    wrong = (header(rng)[:60] + rng.randbytes(4), rules.sealed(b"UBI#\x02" + header(rng)[5:60]), rules.sealed(b"UBI#\x01\0\0\0" + BLANK * 8 + header(rng)[16:60]))
+    own = next((block[:64] for block in blocks if block.startswith(b"UBI#")), rules.put_ec(geometry))
+    wrong = (own[:60] + rng.randbytes(4), rules.sealed(own[:4] + b"\x02" + own[5:60]), rules.sealed(own[:8] + b"\0\0\0\0\x80\0\0\0" + own[16:60]))
     raw = bytearray(b"".join(blocks))
     for _ in range(rng.randrange(1, 9)):
-        at = rng.randrange(len(raw) // 64 + 1) * 64 + rng.choice((0, 0, 4))
-        if not any(at - 64 < start * geometry.peb + off < at + 64 for start in range(len(blocks)) for off in (0, geometry.vid)):
-            raw[at : at + 64] = rng.choice(wrong)
-    raw = raw[: len(blocks) * geometry.peb]
+        start, at = rng.randrange(len(blocks)) * geometry.peb, 64 * rng.randrange(geometry.data // 64, geometry.peb // 64 - 1)
+        more, other = rng.choice([(0, bad) for bad in wrong] + [(4, own)])
+        raw[start + at + more : start + at + more + 64] = other
     return File(bytes(raw), Truth(geometry, 0, 0, len(blocks)))
+
+
+# Files at the edges of the rule. Their eraseblocks are made by hand.
+
+
+def by_hand(rng, geometry, texts):
+    """Eraseblocks of one image, each with a LEB that holds some bytes."""
+    ec = rules.put_ec(geometry, 3, rng.randrange(1, 2**32))
+    vids = [rules.put_vid(Vid(1, 0, 0, 0, lnum, 0, 0, 0, 0, lnum + 1)) for lnum in range(len(texts))]
+    return [rules.put_block(geometry, ec, vid, text) for vid, text in zip(vids, texts)]
+
+
+def dense(rng, size):
+    """Random bytes, none of them 0xFF or zero."""
+    return bytes(1 + byte % 254 for byte in rng.randbytes(size))
+
+
+def with_hole(rng, geometry, blanks):
+    """The bytes of a full LEB, of which some before the middle of the eraseblock are blank."""
+    text, middle = bytearray(dense(rng, geometry.leb)), geometry.peb // 2 - geometry.data
+    text[middle - blanks : middle] = BLANK * blanks
+    return bytes(text)
+
+
+def edge_geometry(rng):
+    return Geometry(*rng.choice(((1024, 64, 64, 128), (2048, 512, 512, 1024), (4096, 512, 64, 512), (16384, 2048, 1984, 2048))), 2**20)
+
+
+def blank_ends(rng, image):
+    """Full eraseblocks, of which one ends with some blank bytes: as many as are looked at, or one more or less."""
+    geometry = edge_geometry(rng)
+    texts = [dense(rng, geometry.leb) for _ in range(rng.randrange(3, 7))]
+    k, blanks = rng.randrange(len(texts)), rng.choice((15, 16, 17))
+    texts[k] = texts[k][:-blanks] + BLANK * blanks
+    return whole(geometry, by_hand(rng, geometry, texts)).around(boot_loader(rng), b"")
+
+
+def holes(rng, image):
+    """Eraseblocks of which one has some blank bytes before its middle, and of which another ends blank."""
+    geometry = edge_geometry(rng)
+    texts = [dense(rng, geometry.leb) for _ in range(rng.randrange(2, 6))] + [dense(rng, 20)]
+    k = rng.randrange(len(texts))
+    texts[k] = with_hole(rng, geometry, rng.choice((15, 16, 17)))
+    rng.shuffle(texts)
+    return whole(geometry, by_hand(rng, geometry, texts)).around(boot_loader(rng), b"")
+
+
+def blank_beside(rng, image):
+    """An image, and before and behind it eraseblocks that are blank, or of which as many bytes are as are looked at, or one less."""
+    geometry = edge_geometry(rng)
+    texts = [dense(rng, geometry.leb) for _ in range(rng.randrange(2, 5))] + [dense(rng, 20)]
+
+    def beside():
+        begin = rng.choice((63, 64, 64, geometry.peb))
+        return BLANK * begin + dense(rng, geometry.peb - begin)
+
+    before, behind = (b"".join(beside() for _ in range(rng.randrange(4))) for _ in range(2))
+    last = beside()[: rng.choice((0, 64, geometry.peb - 1, geometry.peb - 64))]
+    return whole(geometry, by_hand(rng, geometry, texts)).around(dense(rng, 64 * rng.randrange(9)) + before, behind + last)
+
+
+def some_tables(rng, image):
+    """Two eraseblocks that follow each other, and maybe a third two behind them: they hold the two copies of the table, or look like it."""
+    geometry = edge_geometry(rng)
+    table = rules.put_table(geometry, {})
+    last, how = 172 * (geometry.slots - 1), rng.choice(("right", "alike", "magic", "volume", "record", "record", "check"))
+    blanks = rng.choice((63, 64, 172))
+    texts = [table[:last] + BLANK * blanks + table[last + blanks :] if how == "record" and copy else table for copy in range(2)]
+    vids = [rules.put_vid(Vid(1, 0, 5, LAYOUT - (how == "volume" and copy), copy and how != "alike", 0, 0, 0, 0, 0)) for copy in range(2)]
+    vids[1] = {"magic": bytes(4) + vids[1][4:], "check": vids[1][:60] + bytes(4)}.get(how, vids[1])
+    ec = rules.put_ec(geometry, 3, rng.randrange(1, 2**32))
+    blocks = [rules.put_block(geometry, ec, vid, text) for vid, text in zip(vids, texts)]
+    blocks += rng.choice(([], [junk(rng, geometry.peb)], [junk(rng, geometry.peb), rules.put_block(geometry, ec)]))
+    return whole(geometry, blocks)
+
+
+def half_there(rng, image):
+    """An image that begins with its tables, of which about half of the eraseblocks start with a header."""
+    geometry = edge_geometry(rng)
+    count = rng.randrange(5, 15)
+    table = rules.put_table(geometry, {})
+    blocks = by_hand(rng, geometry, [dense(rng, 20) for _ in range(count)])
+    vids = [rules.put_vid(Vid(1, 0, 5, LAYOUT, copy, 0, 0, 0, 0, 0)) for copy in range(2)]
+    blocks[:2] = [rules.put_block(geometry, blocks[0][:64], vid, table) for vid in vids]
+    there = {0, 1, count - 1, *rng.sample(range(2, count - 1), max(0, count // 2 + rng.choice((0, 0, 1, -1)) - 3))}
+    return whole(geometry, [block if p in there else bad_block(rng, geometry.peb) for p, block in enumerate(blocks)])
+
+
+def out_of_band_limits(rng, image):
+    """Out-of-band bytes as few or as many as may be, or one more; and pages and numbers of pages that are the least or the greatest, or beyond."""
+    page, count = rng.choice(((256, 16), (256, 16), (256, 32), (512, 16), (128, 32), (256, 8), (512, 8), (1024, 8), (2048, 16), (256, 2048), (256, 4096), (65536, 16)))
+    geometry = Geometry(page * count, page, page, 2 * page, 2**20)
+    more = rng.choice((4, page // 8, page // 8 + 4, page // 4 - 4, page // 4, page // 4, page // 4 + 4, page // 2))
+    table = rules.put_table(geometry, {})
+    tables = [rules.put_vid(Vid(1, 0, 5, LAYOUT, copy, 0, 0, 0, 0, 0)) for copy in range(2)]
+    ec = rules.put_ec(geometry, 3, rng.randrange(1, 2**32))
+    blocks = [rules.put_block(geometry, ec, vid, table) for vid in tables] + [rules.put_block(geometry, ec)]
+    return with_more(rng, geometry, blocks, rng.choice(OF_WRITTEN), (more,))
+
+
+def out_of_band_magics(rng, image):
+    """An image of pages of 2048 and 64 bytes whose out-of-band bytes have the magic where it would stand with pages of 4096 and 128; less often than
+    where it stands."""
+    geometry = Geometry(65536, 2048, 2048, 4096, 2**20)
+    maker = Dump(rng, (dataclasses.astuple(geometry)[:4],))
+    file = with_more(rng, maker.geometry, maker.blocks, rng.choice(OF_WRITTEN), (64,))
+    raw, size = bytearray(file.data), file.truths[0].size
+    said = sum(block[2048:2052] == b"UBI!" for block in maker.blocks)
+    for p in rng.sample(range(len(maker.blocks)), rng.randrange(said + 1)):
+        raw[p * size + 2048 : p * size + 2052] = b"UBI!"
+    return File(bytes(raw), *file.truths)
+
+
+def other_offsets(rng, image):
+    """An image with a header or two that name other offsets."""
+    geometry, blocks = with_number(rng, *image(SIZES))
+    number, blocks = next((block[24:28] for block in blocks if block.startswith(b"UBI#")), ZERO * 4), list(blocks)
+    other = rng.choice(((geometry.vid, 2 * geometry.data), (geometry.data, 2 * geometry.data)))
+    for p in rng.sample(range(len(blocks)), min(len(blocks), rng.choice((1, 1, 2)))):
+        p = rng.choice((p, len(blocks) - 1))
+        blocks[p] = rules.put_ec(Geometry(0, 0, *other, 0), 1, int.from_bytes(number, "big")) + blocks[p][64:]
+    return whole(geometry, blocks)
+
+
+def small_lebs(rng, image):
+    """Eraseblocks that are too small for a record of a table, or just large enough."""
+    geometry = Geometry(rng.choice((192, 256, 256, 320)), 64, 64, 128, 2**20)
+    texts = [dense(rng, geometry.leb) for _ in range(rng.randrange(3, 6))] + [dense(rng, 10)]
+    file = whole(geometry, by_hand(rng, geometry, texts)).around(boot_loader(rng), b"")
+    return file if geometry.leb >= 172 else File(file.data)
+
+
+def of_one_weight(rng, image):
+    """An image, and behind it the same under another number: of the two the first has to be told."""
+    geometry, blocks = with_number(rng, *image(SIZES))
+    second = whole(*with_number(rng, geometry, blocks))
+    return second.behind(whole(geometry, blocks).around(b"", junk(rng, 64 * rng.randrange(1, 99))))
 
 
 # Of each kind how a file is made.
@@ -648,6 +787,16 @@ KINDS = {
     "headers at the end": at_the_end,
     "wrong checks, versions and counters": other_checks,
     "tiny": tiny,
+    "edges: blank ends": blank_ends,
+    "edges: holes": holes,
+    "edges: blank eraseblocks beside": blank_beside,
+    "edges: tables, and what looks like it": some_tables,
+    "edges: half of the eraseblocks": half_there,
+    "edges: out-of-band bytes and pages": out_of_band_limits,
+    "edges: magics in out-of-band bytes": out_of_band_magics,
+    "edges: other offsets": other_offsets,
+    "edges: small LEBs": small_lebs,
+    "edges: two of one weight": of_one_weight,
 }
 RARE = {"headers far apart": far_apart}
 MAKERS = (Maker, Dump, Dump, Dump)
@@ -656,7 +805,7 @@ MAKERS = (Maker, Dump, Dump, Dump)
 def file_of(rng, k, makers=MAKERS):
     """The kind of the file of a number, and the file."""
     names = list(KINDS)
-    name = next(iter(RARE)) if k % 400 == 399 else names[k % len(names)]
+    name = next(iter(RARE)) if k % 200 == 199 else names[k % len(names)]
     return name, (KINDS | RARE)[name](rng, lambda weights: made(rng, weights, makers))
 
 
