@@ -560,12 +560,17 @@ def three_offsets(rng, image):
 
 
 def far_apart(rng, image):
-    """Headers that are 16 MiB apart, or a bit more or less, or twice as far; now and then the eraseblocks have tables."""
-    g = Geometry(rng.choice((2**24, 2**24 + 65536, 2**24 + 65536, 2**24 - 65536)), 65536, 65536, 131072, 2**20)
-    number, table = rng.choice((0, 9)), rules.put_table(dataclasses.replace(g, peb=2**24), {})
-    text = rng.choice((b"", table, table, table))
-    vids = [rules.put_vid(Vid(1, 0, 5, LAYOUT, copy, 0, 0, 0, 0, 0)) if text else b"" for copy in range(2)]
-    blocks = [rules.put_block(g, rules.put_ec(g, 1, number), vid, text) for vid in vids]
+    """Eraseblocks of 16 MiB, which is the most, or of a page less or more; or an image between headers that are farther apart, and of no image."""
+    g = Geometry(2**24 + rng.choice((0, -65536, 65536)), 65536, 65536, 131072, 2**20)
+    ec, how = rules.put_ec(g, 1, rng.choice((0, 9))), rng.choice(("tables", "headers", "full", "between"))
+    if how == "between":
+        file = whole(*image({(16384, 512, 512, 1024): 1, (32768, 2048, 2048, 4096): 1}))
+        return file.around(ec, ZERO * (2**24 - len(file.data) + 64 * rng.randrange(9)) + ec + ZERO * 2**24)
+    if how == "full":
+        blocks = [rules.put_block(g, ec, data=b"x" * g.leb) for _ in range(2)] + [rules.put_block(g, ec)]
+    else:
+        table = rules.put_table(dataclasses.replace(g, peb=2**24), {}) if how == "tables" else b""
+        blocks = [rules.put_block(g, ec, rules.put_vid(Vid(1, 0, 5, LAYOUT, copy, 0, 0, 0, 0, 0)), table) for copy in range(2)]
     file = whole(g, blocks) if g.peb <= 2**24 else File(b"".join(blocks))
     return file.around(rng.choice((b"", b"", ZERO * 64)), b"")
 
