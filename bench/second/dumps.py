@@ -567,7 +567,8 @@ def far_apart(rng, image):
         file = whole(*image({(16384, 512, 512, 1024): 1, (32768, 2048, 2048, 4096): 1}))
         return file.around(ec, ZERO * (2**24 - len(file.data) + 64 * rng.randrange(9)) + ec + ZERO * 2**24)
     if how == "full":
-        blocks = [rules.put_block(g, ec, data=b"x" * g.leb) for _ in range(2)] + [rules.put_block(g, ec)]
+        vids = [rules.put_vid(Vid(1, 0, 0, 0, lnum, 0, 0, 0, 0, lnum + 1)) for lnum in range(2)]
+        blocks = [rules.put_block(g, ec, vid, b"x" * g.leb) for vid in vids] + [rules.put_block(g, ec)]
     else:
         table = rules.put_table(dataclasses.replace(g, peb=2**24), {}) if how == "tables" else b""
         blocks = [rules.put_block(g, ec, rules.put_vid(Vid(1, 0, 5, LAYOUT, copy, 0, 0, 0, 0, 0)), table) for copy in range(2)]
@@ -718,12 +719,12 @@ def out_of_band_magics(rng, image):
 
 
 def other_offsets(rng, image):
-    """An image with a header or two that name other offsets."""
+    """An image with a header or two, fewer than the others, that name other offsets."""
     geometry, blocks = with_number(rng, *image(SIZES))
     number, blocks = next((block[24:28] for block in blocks if block.startswith(b"UBI#")), ZERO * 4), list(blocks)
     other = rng.choice(((geometry.vid, 2 * geometry.data), (geometry.data, 2 * geometry.data)))
-    for p in rng.sample(range(len(blocks)), min(len(blocks), rng.choice((1, 1, 2)))):
-        p = rng.choice((p, len(blocks) - 1))
+    starts = [p for p, block in enumerate(blocks) if block.startswith(b"UBI#")]
+    for p in rng.choice((starts[-1:], starts[:1], starts[1:2], starts[-2:]))[: (len(starts) - 1) // 2]:
         blocks[p] = rules.put_ec(Geometry(0, 0, *other, 0), 1, int.from_bytes(number, "big")) + blocks[p][64:]
     return whole(geometry, blocks)
 
