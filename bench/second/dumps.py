@@ -695,7 +695,8 @@ def half_there(rng, image):
 
 def out_of_band_limits(rng, image):
     """Out-of-band bytes as few or as many as may be, or one more; and pages and numbers of pages that are the least or the greatest, or beyond."""
-    page, count = rng.choice(((256, 16), (256, 16), (256, 32), (512, 16), (128, 32), (256, 8), (512, 8), (1024, 8), (2048, 16), (256, 2048), (256, 4096), (65536, 16)))
+    page, count = rng.choice(((256, 16), (256, 16), (256, 32), (512, 16), (128, 32), (256, 8), (512, 8), (1024, 8), (2048, 16), (256, 2048), (256, 4096),
+        (65536, 16)))
     geometry = Geometry(page * count, page, page, 2 * page, 2**20)
     more = rng.choice((4, page // 8, page // 8 + 4, page // 4 - 4, page // 4, page // 4, page // 4 + 4, page // 2))
     table = rules.put_table(geometry, {})
