@@ -73,15 +73,18 @@ class Group:
 
 def groups(found):
     """The groups of headers that say a size, in the order in which their offsets and numbers are named first."""
-    named = dict.fromkeys((header.offsets, header.number) for header in found)
-    of = collections.defaultdict(list)
+    named = collections.defaultdict(list)
     for header in found:
-        of[header.offsets].append(header)
-    for offsets, number in named:
-        if number or not any(header.number for header in of[offsets]):
-            group = Group(offsets, [header.place for header in of[offsets] if header.number in (number, 0)])
-            if len(group.places) > 1 and group.said:
-                yield group
+        named[header.offsets, header.number].append(header.place)
+    with_number = {offsets for offsets, number in named if number}
+    for (offsets, number), places in list(named.items()):
+        if number:
+            places = sorted(places + named.get((offsets, 0), []))
+        elif offsets in with_number:
+            continue
+        group = Group(offsets, places)
+        if len(places) > 1 and group.said:
+            yield group
 
 
 # The pages that an image may have.
