@@ -11,11 +11,7 @@ cut_off : undetected_text (cause.Length 131072 4096) ≡ codes "F3 Length peb=13
 unfolding digits
 cut_off = refl
 
-unlike : undetected_text (cause.Offsets 0 7) ≡ codes "F4 Offsets block=7 earlier=0"
-unfolding digits
-unlike = refl
-
-with_out_of_band : undetected_text (cause.OutOfBand (record { peb_size = 131072; share = 32 })) ≡ codes "F5 OutOfBand peb=131072 share=32"
+with_out_of_band : undetected_text (cause.OutOfBand 135168) ≡ codes "F5 OutOfBand peb=135168"
 unfolding digits
 with_out_of_band = refl
 

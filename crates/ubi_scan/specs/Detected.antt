@@ -1,75 +1,76 @@
--- What is detected of the geometry of a file, or why none is.
-use Rattle.std.specs.Prelude.{◌≡◌, ◌≢◌, ℕ, ◌+◌, ◌*◌, ◌%◌, ◌<◌, ◌≤◌, IsTrue, List, [], Some, None, Result, Err}
-use Rattle.ubi_media.specs.Geometry.{Sizes}
-use Rattle.ubi_media.specs.declared.ec.EcOffsets.{EcOffsets}
-use Rattle.ubi_media.specs.declared.ec.EcStart.{EcStart}
-use Rattle.ubi_scan.specs.Fit.{AreOffsets, Disagree, IsFitting, IsSize, headers, others}
-use Rattle.ubi_scan.specs.Layout.{geometries, out_of_band}
+-- What is detected of the geometry of a file, or why nothing is.
+use Rattle.std.specs.Prelude.{◌≡◌, ◌≢◌, ℕ, ◌-◌, ◌<◌, ◌≤◌, ◌⊎◌, IsFalse, IsTrue, List, [], Result, Err, length}
+use Rattle.ubi_scan.specs.Groups.{IsImage}
+use Rattle.ubi_scan.specs.Heads.{heads_of}
+use Rattle.ubi_scan.specs.Place.{end_of_last, told, ways_with}
+use Rattle.ubi_scan.specs.Plain.{IsSurelyPlain}
 use Rattle.ubi_scan.specs.Source.{Agreed, Source, WhereHeld, failed}
-use Rattle.ubi_scan.specs.Starts.{is_header, start_of, starts_of, unit}
+use Rattle.ubi_scan.specs.Sure.{is_sure}
 use Rattle.ubi_scan.specs.declared.detect.DetectError.{DetectError}
 use Rattle.ubi_scan.specs.declared.detect.DetectError.TheVariants as error
+use Rattle.ubi_scan.specs.declared.detect.Detected.{Detected}
 use Rattle.ubi_scan.specs.declared.detect.Undetected.{Undetected}
 use Rattle.ubi_scan.specs.declared.detect.Undetected.TheVariants as cause
+use Rattle.ubi_scan.specs.declared.groups.Group.{Group}
 
--- the size and the offsets of a file's eraseblocks are known: in units, and as its headers name them
-pub record IsKnown (starts : List EcStart) (n q : ℕ) (o : EcOffsets) : Type 0 where
-  pub fitting : IsFitting starts n q
-  pub offsets : AreOffsets starts q o
+-- no group is plainly that of the file's image
+abbrev pub NonePlain : List ℕ → Type 0
+NonePlain bytes = (g : Group) → IsSurelyPlain bytes g → ⊥
 
--- these are the geometries of a file of n bytes
-pub record AreGeometries (starts : List EcStart) (n : ℕ) (found : List Sizes) : Type 0 where
-  pub size : ℕ
-  pub offsets : EcOffsets
-  pub known : IsKnown starts n size offsets
-  pub alone : out_of_band (size * unit) ≡ None
-  pub are : found ≡ geometries (size * unit) offsets
+-- this is the group of the image that its headers say, where none plainly is, of which the last eraseblock is all there
+pub record IsWhole (bytes : List ℕ) (g : Group) : Type 0 where
+  pub none : NonePlain bytes
+  pub index : ℕ
+  pub image : IsImage (heads_of bytes) index g
+  pub whole : end_of_last g ≤ length bytes
+
+-- this is the group of the image that a file holds
+abbrev pub IsFound : List ℕ → Group → Type 0
+IsFound bytes g = IsSurelyPlain bytes g ⊎ (IsWhole bytes g × IsTrue (is_sure bytes g))
+
+-- this is what is told of a file
+pub record AreDetected (bytes : List ℕ) (found : List Detected) : Type 0 where
+  pub group : Group
+  pub is : IsFound bytes group
+  pub are : found ≡ told bytes group
   pub some : found ≢ []
 
--- some unit starts with a header
-abbrev pub HasHeader : List EcStart → Type 0
-HasHeader starts = (u : ℕ) × IsTrue (is_header (start_of starts u))
-
--- why none is detected
-abbrev pub IsUndetected : List EcStart → ℕ → Undetected → Type 0
--- no unit starts with a header
-IsUndetected starts n cause.NoHeader = HasHeader starts → ⊥
--- some unit does, but of the eraseblocks of the size that fits best no more start with a header than with anything else
-IsUndetected starts n cause.NoSize =
-    HasHeader starts × ((q : ℕ) × IsSize starts n q × (headers starts q ≤ others starts q))
--- that size doesn't divide the file's: so many bytes are left
-IsUndetected starts n (cause.Length size rest) =
-    (q : ℕ) × IsSize starts n q × (others starts q < headers starts q) × (size ≡ q * unit) × (rest ≡ n % size) × (rest ≢ 0)
--- two eraseblocks name unlike offsets
-IsUndetected starts n (cause.Offsets i j) = (q : ℕ) × IsFitting starts n q × Disagree starts q i j
--- the size is that of a power of two with out-of-band bytes
-IsUndetected starts n (cause.OutOfBand b) =
-    (q : ℕ) × (o : EcOffsets) × IsKnown starts n q o × (out_of_band (q * unit) ≡ Some b)
+-- why nothing is told
+abbrev pub IsUndetected : List ℕ → Undetected → Type 0
+-- no header stands in it
+IsUndetected bytes cause.NoHeader = heads_of bytes ≡ []
+-- some do, but no group says a size, or it isn't sure
+IsUndetected bytes cause.NoSize =
+    (heads_of bytes ≢ []) × NonePlain bytes × (((j : ℕ) (g : Group) → IsImage (heads_of bytes) j g → ⊥)
+    ⊎ ((g : Group) × IsWhole bytes g × IsFalse (is_sure bytes g)))
+-- of the last eraseblock of the image only so many bytes are there
+IsUndetected bytes (cause.Length size rest) =
+    NonePlain bytes × ((j : ℕ) × (g : Group) × IsImage (heads_of bytes) j g × (length bytes < end_of_last g) × (size ≡ g.size)
+    × (rest ≡ length bytes - g.last))
+-- the size is one with out-of-band bytes, and no volume-identifier header says which
+IsUndetected bytes (cause.OutOfBand size) =
+    (g : Group) × IsFound bytes g × (told bytes g ≡ []) × (ways_with g ≢ []) × (size ≡ g.size)
 -- no page fits the size and the offsets
-IsUndetected starts n (cause.Page size o) =
-    (q : ℕ) × IsKnown starts n q o × (out_of_band (q * unit) ≡ None) × (size ≡ q * unit) × (geometries size o ≡ [])
+IsUndetected bytes (cause.Page size o) =
+    (g : Group) × IsFound bytes g × (told bytes g ≡ []) × (ways_with g ≡ []) × (size ≡ g.size) × (o ≡ g.key.offsets)
 
 -- what is known of a source afterwards: one read has failed where the answer is Read, and none where it isn't
 abbrev pub after_detecting : {A : Type 0} → Source → Result A DetectError → Source
 after_detecting k (Err (error.Read _)) = failed k
 after_detecting k _ = k
 
--- where the first 64 bytes of a unit of n bytes stand
-abbrev pub IsPlace : ℕ → ℕ → Type 0
-IsPlace n at = (at % unit ≡ 0) × (at + 64 ≤ n)
-
 -- the place of a read that failed is that where it began
 abbrev pub NamesPlace : ℕ → DetectError → Type 0
 NamesPlace at (error.Read place) = place ≡ at
 NamesPlace at _ = Unit {0}
 
--- the geometries of a source: those of whatever it may hold
-abbrev pub AreGeometriesOf : Source → Agreed → List Sizes → Type 0
-AreGeometriesOf k agrees found = WhereHeld agrees (λ bytes. AreGeometries (starts_of bytes) k.size found)
+-- what is told of a source: that of whatever it may hold
+abbrev pub AreDetectedOf : Agreed → List Detected → Type 0
+AreDetectedOf agrees found = WhereHeld agrees (λ bytes. AreDetected bytes found)
 
--- why none is told of a source: for a cause that stands in whatever it may hold, since a read of the 64 bytes from a unit's
--- place on failed, or since memory ran out
+-- why nothing is told of a source: for a cause that stands in whatever it may hold, since a read that began in it failed, or since
+-- memory ran out
 abbrev pub IsDetectError : Source → Agreed → DetectError → Type 0
-IsDetectError k agrees (error.Undetected c) = WhereHeld agrees (λ bytes. IsUndetected (starts_of bytes) k.size c)
-IsDetectError k agrees (error.Read at) = IsPlace k.size at
+IsDetectError k agrees (error.Undetected c) = WhereHeld agrees (λ bytes. IsUndetected bytes c)
+IsDetectError k agrees (error.Read at) = at < k.size
 IsDetectError k agrees error.Memory = Unit {0}

@@ -20,8 +20,7 @@ abbrev pub undetected_text : Undetected → List ℕ
 undetected_text cause.NoHeader = codes "F1 NoHeader"
 undetected_text cause.NoSize = codes "F2 NoSize"
 undetected_text (cause.Length size rest) = codes "F3 Length peb=" ++ decimal size ++ codes " rest=" ++ decimal rest
-undetected_text (cause.Offsets i j) = codes "F4 Offsets block=" ++ decimal j ++ codes " earlier=" ++ decimal i
-undetected_text (cause.OutOfBand b) = codes "F5 OutOfBand peb=" ++ decimal b.peb_size ++ codes " share=" ++ decimal b.share
+undetected_text (cause.OutOfBand size) = codes "F5 OutOfBand peb=" ++ decimal size
 undetected_text (cause.Page size o) =
     codes "F6 Page peb=" ++ decimal size ++ codes " vid=" ++ decimal o.vid_offset ++ codes " data=" ++ decimal o.data_offset
 

@@ -1,12 +1,10 @@
--- The geometries that a size and offsets fit, and the sizes of eraseblocks that were dumped with their out-of-band bytes.
-use Rattle.std.specs.Prelude.{ℕ, ◌+◌, ◌*◌, ◌/◌, ◌==◌, ◌&&◌, Bool, List, [], ◌∷◌, Option, filter_map, find, is_none, option_map}
+-- The geometry of a size, of offsets and of a page, where the data begin where Linux has them.
+use Rattle.std.specs.Prelude.{ℕ, ◌+◌, ◌*◌, ◌==◌, ◌&&◌, Bool, Option, is_none}
 use Rattle.std.specs.Int.{div_ceil}
 use Rattle.std.specs.Bool.{then_some}
-use Rattle.std.specs.Option.{option_or}
-use Rattle.ubi_media.specs.Geometry.{Sizes, page_sizes}
+use Rattle.ubi_media.specs.Geometry.{Sizes}
 use Rattle.ubi_media.specs.Limits.{first_broken}
 use Rattle.ubi_media.specs.declared.ec.EcOffsets.{EcOffsets}
-use Rattle.ubi_scan.specs.declared.detect.OutOfBand.{OutOfBand}
 
 -- the sizes of a device of so many bytes an eraseblock, of a page and of offsets; it may have as many eraseblocks as any
 abbrev pub sizes_of : ℕ → EcOffsets → ℕ → Sizes
@@ -24,25 +22,3 @@ is_laid_out s = (data_place s.page s.vid_offset == s.data_offset) && is_none (fi
 -- the geometry of a page, if it is one
 abbrev pub geometry_of : ℕ → EcOffsets → ℕ → Option Sizes
 geometry_of size o page = then_some (is_laid_out (sizes_of size o page)) (sizes_of size o page)
-
--- the geometries that fit, the least page first
-abbrev pub geometries : ℕ → EcOffsets → List Sizes
-geometries size o = filter_map (geometry_of size o) page_sizes
-
--- the powers of two from 512 to 16,777,216
-abbrev pub chip_sizes : List ℕ
-chip_sizes =
-    512 ∷ 1024 ∷ 2048 ∷ 4096 ∷ 8192 ∷ 16384 ∷ 32768 ∷ 65536 ∷ 131072 ∷ 262144 ∷ 524288 ∷ 1048576 ∷ 2097152 ∷ 4194304
-    ∷ 8388608 ∷ 16777216 ∷ []
-
--- the power of two that has n bytes with an out-of-band byte for each `share` bytes, if one has
-unfoldable pub chip_size : ℕ → ℕ → Option ℕ
-chip_size share n = find (λ size. size + size / share == n) chip_sizes
-
--- the same, as it is told
-abbrev pub out_of_band_by : ℕ → ℕ → Option OutOfBand
-out_of_band_by share n = option_map (λ size. record { peb_size = size; share = share }) (chip_size share n)
-
--- the same where each 32 bytes have one, or each 16 bytes, as on usual chips
-abbrev pub out_of_band : ℕ → Option OutOfBand
-out_of_band n = option_or (out_of_band_by 32 n) (out_of_band_by 16 n)

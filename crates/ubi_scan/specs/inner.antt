@@ -3,7 +3,6 @@ pub mod Ahead
 pub mod Choice
 pub mod Counts
 pub mod Detecting
-pub mod Fit
 pub mod Held
 pub mod Named
 pub mod Pass

@@ -31,6 +31,8 @@
 //! ```
 #![tactic(auto)]
 
+mod at_places;
+mod block_tests;
 mod blocks;
 mod candidate;
 mod counts;
@@ -38,25 +40,26 @@ mod detect;
 mod errors;
 mod faults;
 mod file;
-mod fit;
 mod found;
+mod groups;
 mod header;
+mod heads;
 pub mod laws;
-mod layout;
-mod named;
 mod pass;
 mod placed;
-mod plain;
 mod reading;
 mod scanning;
 mod size;
 mod source;
-mod starts;
+mod sure;
+mod survey;
 mod trace;
+mod way;
+mod ways;
 mod window;
 
 pub use blocks::Blocks;
-pub use detect::{DetectError, OutOfBand, Undetected, detect_from};
+pub use detect::{DetectError, Detected, Undetected};
 pub use errors::StreamError;
 pub use file::FileSource;
 pub use found::{Leb, MemberHeader, Scan, ScanState};

@@ -1,67 +1,118 @@
--- What is answered on the way to the geometries of a file.
-use Rattle.std.specs.Prelude.{◌≡◌, ◌≢◌, ℕ, ◌*◌, List, [], Some, None, map}
-use Rattle.std.specs.List.{range_with_len}
-use Rattle.ubi_media.specs.Geometry.{Sizes}
-use Rattle.ubi_media.specs.declared.ec.EcOffsets.{EcOffsets}
-use Rattle.ubi_media.specs.declared.ec.EcStart.{EcStart}
-use Rattle.ubi_scan.specs.Detected.{IsPlace, IsUndetected}
-use Rattle.ubi_scan.specs.Source.{Agreed, WhereHeld}
-use Rattle.ubi_scan.specs.Starts.{start_at, starts_of}
-use Rattle.ubi_scan.specs.Fit.{IsPlain, block_starts}
-use Rattle.ubi_scan.specs.Layout.{geometries, out_of_band}
+-- What is answered on the way to what is detected of a file.
+use Rattle.std.specs.Prelude.{◌≡◌, ℕ, ◌+◌, ◌-◌, ◌*◌, ◌<◌, ◌≤◌, ◌⊎◌, ◌==◌, ◌&&◌, ◌||◌, Bool, None, Some, true, if◌then◌else◌, nat_le, nat_lt, IsFalse, IsTrue, List, Option, find, length, map, not, option_map, slice_index_or}
+use Rattle.std.specs.Int.{IsGcd}
+use Rattle.std.specs.List.{All, list_all, list_any}
+use Rattle.std.specs.Option.{option_to_list}
+use Rattle.ubi_scan.specs.Groups.{IsGroup, greatest_size, spoken}
+use Rattle.ubi_scan.specs.Heads.{is_of, key_in, keys_of, same_key, same_offsets, step, with_key}
+use Rattle.ubi_scan.specs.Place.{ways_with, ways_without}
+use Rattle.ubi_scan.specs.declared.ways.Ways.{Ways}
 use Rattle.ubi_scan.specs.declared.detect.DetectError.{DetectError}
 use Rattle.ubi_scan.specs.declared.detect.DetectError.TheVariants as error
-use Rattle.ubi_scan.specs.declared.detect.Undetected.TheVariants as cause
+use Rattle.ubi_scan.specs.declared.groups.Group.{Group}
+use Rattle.ubi_scan.specs.declared.heads.Head.{Head}
+use Rattle.ubi_scan.specs.declared.heads.Key.{Key}
 
--- the geometries of a size without out-of-band bytes and of offsets, of which there are some
-pub record IsPaged (size : ℕ) (o : EcOffsets) (found : List Sizes) : Type 0 where
-  pub alone : out_of_band size ≡ None
-  pub are : found ≡ geometries size o
-  pub some : found ≢ []
+-- the first place of a group to which a header is added
+abbrev pub first_with : ℕ → Group → ℕ
+first_with p g = if g.count == 0 then p else g.first
 
--- why there are none: the size is one with out-of-band bytes, or no page fits, or memory ran out
-abbrev pub IsUnpaged : ℕ → EcOffsets → DetectError → Type 0
-IsUnpaged size o (error.Undetected (cause.OutOfBand b)) = out_of_band size ≡ Some b
-IsUnpaged size o (error.Undetected (cause.Page bytes p)) =
-    (out_of_band size ≡ None) × (bytes ≡ size) × (p ≡ o) × (geometries size o ≡ [])
-IsUnpaged size o error.Memory = Unit {0}
-IsUnpaged size o _ = ⊥
+-- a header was added to a group, if it belongs to it
+pub record IsAdded (h : Head) (old new : Group) : Type 0 where
+  pub key : new.key ≡ old.key
+  pub other : IsFalse (is_of old.key h.key) → new ≡ old
+  pub count : IsTrue (is_of old.key h.key) → new.count ≡ old.count + 1
+  pub first : IsTrue (is_of old.key h.key) → new.first ≡ first_with h.place old
+  pub last : IsTrue (is_of old.key h.key) → new.last ≡ h.place
+  pub size : IsTrue (is_of old.key h.key) → IsGcd old.size (h.place - new.first) new.size
 
--- a failure that isn't a read's
-abbrev pub IsFailure : List EcStart → ℕ → DetectError → Type 0
-IsFailure starts n (error.Undetected c) = IsUndetected starts n c
-IsFailure starts n (error.Read _) = ⊥
-IsFailure starts n error.Memory = Unit {0}
+-- the headers of a group stand in the first n units of 64 bytes
+pub record IsWithin (n : ℕ) (g : Group) : Type 0 where
+  pub count : g.count ≤ n
+  pub order : g.first ≤ g.last
+  pub last : 1 ≤ g.count → g.last + step ≤ n * step
+  pub none : g.last ≤ n * step
 
--- a read of a unit of n bytes failed
+-- these are the groups of headers, in the order of their keys
+pub record AreGroups (heads : List Head) (gs : List Group) : Type 0 where
+  pub keys : map (λ g. g.key) gs ≡ keys_of heads
+  pub each : All (IsGroup heads) gs
+
+-- it was added to each of these
+pub record AreAdded (h : Head) (old new : List Group) : Type 0 where
+  pub many : length new ≡ length old
+  pub each : (i : ℕ) (d : Group) → i < length old → IsAdded h (slice_index_or old i d) (slice_index_or new i d)
+
+-- the header that 64 bytes at a place are, if they are one
+abbrev pub head_in : ℕ → List ℕ → List Head
+head_in place front = option_to_list (option_map (λ key. record { place = place; key = key }) (key_in front))
+
+-- these are groups of headers, and one of them is that of a key
+pub record AreReady (heads : List Head) (k : Key) (gs : List Group) : Type 0 where
+  pub keys : map (λ g. g.key) gs ≡ with_key (keys_of heads) k
+  pub each : All (IsGroup heads) gs
+
+-- whether one of groups has a key
+abbrev pub has_key : List Group → Key → Bool
+has_key gs k = list_any (λ g. same_key k g.key) gs
+
+-- a key without a number, of the same offsets
+abbrev pub unnumbered : Key → Key
+unnumbered k = record k { image_seq = 0 }
+
+-- the group of a key, if there is one
+abbrev pub group_with : List Group → Key → Option Group
+group_with gs k = find (λ g. same_key k g.key) gs
+
+-- whether none of the offsets of a key has a number
+abbrev pub are_unnumbered : List Group → Key → Bool
+are_unnumbered gs k = list_all (λ g. not (same_offsets k g.key) || (g.key.image_seq == 0)) gs
+
+-- whether a key speaks for an image among groups
+abbrev pub speaks_among : List Group → Key → Bool
+speaks_among gs k = not (k.image_seq == 0) || are_unnumbered gs k
+
+-- whether one of groups says a size
+abbrev pub says_size : List Group → Group → Bool
+says_size gs g = nat_le 2 g.count && nat_le 1 g.size && nat_le g.size greatest_size && speaks_among gs g.key
+
+-- whether a group speaks for more bytes than another, if there is one
+abbrev pub beats : Group → Option Group → Bool
+beats g (Some f) = nat_lt (spoken f) (spoken g)
+beats g None = true
+
+-- of the first n of groups the group j says a size, and speaks for most bytes of those that do; of several it is the first
+pub record IsBestOf (gs : List Group) (n : ℕ) (g : Group) : Type 0 where
+  pub index : ℕ
+  pub inside : index < n
+  pub is : (d : Group) → slice_index_or gs index d ≡ g
+  pub says : IsTrue (says_size gs g)
+  pub most : (k : ℕ) (d : Group) → k < n → IsTrue (says_size gs (slice_index_or gs k d))
+      → (spoken (slice_index_or gs k d) < spoken g) ⊎ ((spoken (slice_index_or gs k d) ≡ spoken g) × (index ≤ k))
+
+-- none of the first n of groups says a size
+abbrev pub NoneSays : List Group → ℕ → Type 0
+NoneSays gs n = (k : ℕ) (d : Group) → k < n → IsFalse (says_size gs (slice_index_or gs k d))
+
+-- a read that began in a source of this size failed
 abbrev pub IsReadAt : ℕ → DetectError → Type 0
-IsReadAt n (error.Read at) = IsPlace n at
-IsReadAt n _ = ⊥
+IsReadAt size (error.Read at) = at < size
+IsReadAt size _ = ⊥
 
 -- it did, or memory ran out
 abbrev pub IsReadError : ℕ → DetectError → Type 0
-IsReadError n (error.Undetected _) = ⊥
-IsReadError n (error.Read at) = IsPlace n at
-IsReadError n error.Memory = Unit {0}
+IsReadError size (error.Undetected _) = ⊥
+IsReadError size (error.Read at) = at < size
+IsReadError size error.Memory = Unit {0}
 
--- these are what the first n units of whatever may be held start with
-abbrev pub AreFirst : Agreed → List EcStart → ℕ → Type 0
-AreFirst agrees starts n = WhereHeld agrees (λ bytes. starts ≡ map (start_at bytes) (range_with_len 0 n))
+-- the headers of a group, and the eraseblocks between them, lie in a source of n bytes
+pub record LiesIn (n : ℕ) (g : Group) : Type 0 where
+  pub from : 1 ≤ g.size
+  pub to : g.size ≤ greatest_size
+  pub order : g.first ≤ g.last
+  pub last : g.last + step ≤ n
 
--- what the eraseblock i of q units starts with
-abbrev pub block_at : List ℕ → ℕ → ℕ → EcStart
-block_at bytes q i = start_at bytes (i * q)
-
--- these are what the first n eraseblocks of q units of whatever may be held start with
-abbrev pub AreAt : Agreed → ℕ → List EcStart → ℕ → Type 0
-AreAt agrees q starts n = WhereHeld agrees (λ bytes. starts ≡ map (block_at bytes q) (range_with_len 0 n))
-
--- whatever may be held plainly has eraseblocks of q units in its n bytes, and they start so
-abbrev pub ArePlain : Agreed → ℕ → ℕ → List EcStart → Type 0
-ArePlain agrees n q heads =
-    WhereHeld agrees (λ bytes. IsPlain (starts_of bytes) n q × (heads ≡ block_starts (starts_of bytes) q))
-
--- a failure that isn't a read's, whatever the file holds
-abbrev pub IsNoRead : DetectError → Type 0
-IsNoRead (error.Read _) = ⊥
-IsNoRead _ = Unit {0}
+-- these are the pages that the eraseblocks of a group may have
+pub record AreWays (g : Group) (w : Ways) : Type 0 where
+  pub without : w.without.items ≡ ways_without g
+  pub with : w.with.items ≡ ways_with g

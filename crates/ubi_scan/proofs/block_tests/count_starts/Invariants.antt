@@ -1,0 +1,16 @@
+use Rattle.std.proofs.Common.{◌≡◌, ◌≤◌}
+use Rattle.std.specs.List.{range_with_len}
+use Rattle.std.specs.Prelude.{◌&&◌, count_by}
+use Rattle.ubi_scan.specs.Source.{Narrows, WhereHeld}
+use Rattle.ubi_scan.specs.Sure.{block_at, is_start}
+use Rattle.ubi_scan.proofs.block_tests.count_starts.Given as goal
+
+-- so many of the first eraseblocks pass
+abbrev pub invariant-loop-i : goal.invariant-loop-i
+invariant-loop-i g l = record {
+  source : g.S.BlockSource.known l.source ≡ g.S.BlockSource.known l.fn.source;
+  narrows : Narrows (g.S.BlockSource.agrees l.fn.source) (g.S.BlockSource.agrees l.source);
+  few : l.count ≤ l.i;
+  count : WhereHeld (g.S.BlockSource.agrees l.source) (λ bytes.
+      l.count ≡ count_by (λ i. is_start bytes l.group (block_at l.group i) && g.T.BlockTest.holds l.test bytes (block_at l.group i)) (range_with_len 0 l.i));
+}

@@ -1,0 +1,15 @@
+use Rattle.std.proofs.Common.{◌≡◌, false}
+use Rattle.std.specs.List.{list_any, range_with_len}
+use Rattle.std.specs.Prelude.{◌&&◌}
+use Rattle.ubi_scan.specs.Source.{Narrows, WhereHeld}
+use Rattle.ubi_scan.specs.Sure.{block_at, is_start}
+use Rattle.ubi_scan.proofs.block_tests.some_start.Given as goal
+
+-- none of the first eraseblocks passes
+abbrev pub invariant-loop-i : goal.invariant-loop-i
+invariant-loop-i g l = record {
+  source : g.S.BlockSource.known l.source ≡ g.S.BlockSource.known l.fn.source;
+  narrows : Narrows (g.S.BlockSource.agrees l.fn.source) (g.S.BlockSource.agrees l.source);
+  none : WhereHeld (g.S.BlockSource.agrees l.source) (λ bytes.
+      list_any (λ i. is_start bytes l.group (block_at l.group i) && g.T.BlockTest.holds l.test bytes (block_at l.group i)) (range_with_len 0 l.i) ≡ false);
+}

@@ -1,0 +1,30 @@
+use Rattle.std.proofs.Common.{◌≡◌, ◌+◌, sym, ◌∙◌, ap, subst, arith}
+use Rattle.std.specs.Prelude.{MatchOption, Option, Some, slice_index_or}
+use Rattle.std.proofs.lemmas.Bool.{and_parts}
+use Rattle.std.proofs.lemmas.List.{get_or_default}
+use Rattle.ubi_scan.specs.declared.groups.Group.{Group}
+use Rattle.ubi_scan.specs.inner.Detecting.{IsBestOf, NoneSays}
+use Rattle.ubi_scan.proofs.AddedGroups.{no_group}
+use Rattle.ubi_scan.proofs.BestGroup.{best_taken, image_of, stays_best}
+use Rattle.ubi_scan.proofs.groups.image_among.Goals as goal
+use Rattle.ubi_scan.proofs.groups.image_among.Goals.{else-is_better, then-is_better}
+
+pub loop-i-preserved : goal.loop-i-preserved
+loop-i-preserved c =
+    let gs = c.args.groups.now in
+    let i = c.loop-i.i in
+    let P : Option Group → Type 0 = λ b. MatchOption b (NoneSays gs (i + 1)) (IsBestOf gs (i + 1)) in
+    elim c.if-is_better.branch [
+      | then-is_better w ↦ (let both = and_parts _ _ (sym c.is_better.ensures ∙ w.if-is_better.true) in
+          subst P (sym w.best-is)
+          (best_taken gs i c.loop-i-test.true (slice_index_or gs i no_group) (λ d. get_or_default gs i d no_group c.loop-i-test.true) c.loop-i.best c.loop-i.invariant both.0 both.1))
+      | else-is_better w ↦
+          subst P (sym w.best-is)
+          (stays_best gs i c.loop-i-test.true (slice_index_or gs i no_group) (λ d. get_or_default gs i d no_group c.loop-i-test.true) c.loop-i.best c.loop-i.invariant
+          (sym c.is_better.ensures ∙ w.if-is_better.false))
+    ]
+
+pub returns : goal.returns
+returns c = λ heads are.
+    image_of heads c.args.groups.now are c.loop-i.i c.loop-i.best (let e = c.loop-i.auto.i-end in omega (arith, e, c.loop-i-test.false))
+    c.loop-i.invariant

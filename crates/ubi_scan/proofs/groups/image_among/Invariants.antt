@@ -1,0 +1,6 @@
+use Rattle.std.specs.Prelude.{MatchOption}
+use Rattle.ubi_scan.specs.inner.Detecting.{IsBestOf, NoneSays}
+use Rattle.ubi_scan.proofs.groups.image_among.Given as goal
+
+abbrev pub invariant-loop-i : goal.invariant-loop-i
+invariant-loop-i l = MatchOption l.best (NoneSays l.groups l.i) (IsBestOf l.groups l.i)

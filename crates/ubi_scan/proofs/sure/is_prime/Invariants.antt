@@ -1,0 +1,7 @@
+use Rattle.std.proofs.Common.{◌≡◌, ◌+◌, ◌%◌, true}
+use Rattle.std.specs.List.{list_all, range_with_len}
+use Rattle.std.specs.Prelude.{◌==◌, not}
+use Rattle.ubi_scan.proofs.sure.is_prime.Given as goal
+
+abbrev pub invariant-loop-e : goal.invariant-loop-e
+invariant-loop-e l = list_all (λ e. not (l.number % (e + 2) == 0)) (range_with_len 0 l.e) ≡ true

@@ -1,0 +1,14 @@
+use Rattle.std.proofs.Common.{◌≡◌, ◌+◌, true}
+use Rattle.std.specs.List.{list_all, range_with_len}
+use Rattle.std.specs.Prelude.{◌||◌, not}
+use Rattle.ubi_scan.specs.Source.{Narrows, WhereHeld}
+use Rattle.ubi_scan.specs.Sure.{are_no_parts, may_be_parts}
+use Rattle.ubi_scan.proofs.sure.is_whole_size.Given as goal
+
+abbrev pub invariant-loop-i : goal.invariant-loop-i
+invariant-loop-i g l = record {
+  source : g.S.BlockSource.known l.source ≡ g.S.BlockSource.known l.fn.source;
+  narrows : Narrows (g.S.BlockSource.agrees l.fn.source) (g.S.BlockSource.agrees l.source);
+  all : WhereHeld (g.S.BlockSource.agrees l.source) (λ bytes.
+      list_all (λ i. not (may_be_parts l.group.key.offsets l.group.size (i + 2)) || are_no_parts bytes l.group (i + 2)) (range_with_len 0 l.i) ≡ true);
+}

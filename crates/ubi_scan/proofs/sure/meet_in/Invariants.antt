@@ -1,0 +1,13 @@
+use Rattle.std.proofs.Common.{◌≡◌, false, take}
+use Rattle.std.specs.List.{list_any}
+use Rattle.ubi_scan.specs.Source.{Narrows, WhereHeld}
+use Rattle.ubi_scan.specs.Sure.{meets, some_start}
+use Rattle.ubi_scan.proofs.sure.meet_in.Given as goal
+
+-- none of the first ways does
+abbrev pub invariant-loop-way : goal.invariant-loop-way
+invariant-loop-way g l = record {
+  source : g.S.BlockSource.known l.source ≡ g.S.BlockSource.known l.fn.source;
+  narrows : Narrows (g.S.BlockSource.agrees l.fn.source) (g.S.BlockSource.agrees l.source);
+  none : WhereHeld (g.S.BlockSource.agrees l.source) (λ bytes. list_any (λ w. some_start bytes l.group (meets bytes l.group w)) (take l.way-index l.ways) ≡ false);
+}

@@ -1,0 +1,13 @@
+use Rattle.std.proofs.Common.{◌≡◌, ℕ, ◌+◌, ◌/◌, List, length, slice_range}
+use Rattle.std.specs.List.{All}
+use Rattle.ubi_scan.specs.Heads.{heads_to, step}
+use Rattle.ubi_scan.specs.inner.Detecting.{AreGroups, IsWithin}
+use Rattle.ubi_scan.proofs.survey.add_heads.Given as goal
+
+-- the headers of the first units are among the groups
+abbrev pub invariant-loop-i : goal.invariant-loop-i
+invariant-loop-i l = record {
+  groups : (all : List ℕ) → slice_range all l.place (l.place + length l.bytes) ≡ l.bytes → AreGroups (heads_to all (l.place / step)) l.fn.groups.items
+      → AreGroups (heads_to all (l.place / step + l.i)) l.groups.items;
+  within : All (IsWithin (l.place / step + l.i)) l.groups.items;
+}

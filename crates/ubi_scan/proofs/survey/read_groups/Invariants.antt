@@ -1,0 +1,18 @@
+use Rattle.std.proofs.Common.{◌≡◌, ◌*◌, ◌/◌, vec_len}
+use Rattle.std.specs.List.{All}
+use Rattle.std.specs.Prelude.{min}
+use Rattle.ubi_scan.specs.Heads.{heads_to, step}
+use Rattle.ubi_scan.specs.Source.{Narrows, WhereHeld}
+use Rattle.ubi_scan.specs.inner.Detecting.{AreGroups, IsWithin}
+use Rattle.ubi_scan.proofs.survey.read_groups.Given as goal
+
+-- the headers of the first windows are among the groups
+abbrev pub invariant-loop-i : goal.invariant-loop-i
+invariant-loop-i g l = record {
+  source : g.S.BlockSource.known l.source ≡ g.S.BlockSource.known l.fn.source;
+  narrows : Narrows (g.S.BlockSource.agrees l.fn.source) (g.S.BlockSource.agrees l.source);
+  groups : WhereHeld (g.S.BlockSource.agrees l.source) (λ bytes.
+      AreGroups (heads_to bytes (min (l.i * 1024) ((g.S.BlockSource.known l.fn.source).size / step))) l.groups.items);
+  within : All (IsWithin (min (l.i * 1024) ((g.S.BlockSource.known l.fn.source).size / step))) l.groups.items;
+  window : vec_len l.window ≡ 65536;
+}
