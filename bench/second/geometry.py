@@ -151,10 +151,13 @@ def told_pages(file, group, q):
     without, with_more = pages_without(q, group.offsets), pages_with(q, group.offsets)
     votes = {pages: pages.votes(file, group.places) for pages in (*without, *with_more)}
     most_without, most_with = (max((votes[pages] for pages in of), default=0) for of in (without, with_more))
-    told = without if not with_more or most_without > most_with else [pages for pages in with_more if votes[pages] == most_with > 0]
+    if not with_more or most_without > most_with:
+        told = [pages for pages in without if votes[pages]]
+    else:
+        told = [pages for pages in with_more if votes[pages] == most_with > 0]
     if told:
         return told
-    if with_more:
+    if votes:
         raise Refused(f"F5 OutOfBand peb={q}")
     raise Refused(f"F6 Page peb={q} vid={group.offsets[0]} data={group.offsets[1]}")
 
@@ -164,6 +167,17 @@ def told_pages(file, group, q):
 
 def has_room(q, offsets):
     return offsets[1] + 64 <= q
+
+
+def is_odd_with_more(q, offsets):
+    """Whether each second header could stand at no multiple of 64: q is no multiple of 128, and half or a quarter of it has out-of-band bytes."""
+    return q % 128 != 0 and any(q % of == 0 and pages_with(q // of, offsets) for of in (2, 4))
+
+
+def ends_blank(file, group, q):
+    """Whether one of the eraseblocks, or its last page where it has out-of-band bytes, ends with 16 bytes 0xFF."""
+    more = {0, *(pages.oob for pages in pages_with(q, group.offsets))}
+    return any(is_blank(file[start + q - oob - 16 : start + q - oob]) for start in group.places for oob in more)
 
 
 def is_filled(file, at):
@@ -195,11 +209,14 @@ def primes_of(number):
     return primes
 
 
-def could_be(file, group, q, prime):
-    """Whether q divided by a prime could be the size."""
-    part = q // prime
-    if part % STEP or not has_room(part, group.offsets):
-        return False
+def parts(q, offsets):
+    """The parts of q: q divided by a prime, where that is a multiple of 64 with room for data."""
+    of = (q // prime for prime in primes_of(q))
+    return [part for part in of if part % STEP == 0 and has_room(part, offsets)]
+
+
+def could_be(file, group, q, part):
+    """Whether a part of q could be the size."""
     filled = [at for start in group.places[:-1] for at in range(start + part, start + q, part) if is_filled(file, at)]
     return not filled or any(is_blank(file[at - 16 : at]) for at in filled)
 
@@ -211,13 +228,15 @@ def doubt(file, group, q):
         return "room"
     if 2 * len(group.places) <= (last - first) // q + 1:
         return "half"
-    if not any(is_blank(file[start + q - 16 : start + q]) for start in group.places):
+    if is_odd_with_more(q, group.offsets):
+        return "odd"
+    if not ends_blank(file, group, q):
         return "end"
     if holds_tables(file, group, q):
         return None
     if len(group.places) < 3:
         return "few"
-    return "part" if any(could_be(file, group, q, prime) for prime in primes_of(q)) else None
+    return "part" if any(could_be(file, group, q, part) for part in parts(q, group.offsets)) else None
 
 
 # Which image it is, and where it lies.
@@ -235,6 +254,11 @@ def plain_image(file, found):
     if len(starts) != len(file) // q or len({header.offsets for header in starts}) > 1 or len(numbers) > 1:
         return None
     group = Group(found[0].offsets, [header.place for header in starts])
+    # Where none names a number they are of each group of their offsets.
+    others = [header.place for header in found if header.place % q and header.offsets == group.offsets
+        and (header.number in numbers | {0} or not numbers)]
+    if any(place % part == 0 for place in others for part in parts(q, group.offsets)):
+        return None
     return None if doubt(file, group, q) else (group, q)
 
 
