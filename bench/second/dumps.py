@@ -2,16 +2,16 @@
 """Makes files of which the truth is known: images of many geometries, with anything around them, damaged, cut, one in another, with
 out-of-band bytes; and judges what bench/second/geometry.py tells of them.
 
-usage: dumps.py [--seed N ..] [--count N] [--first N] [--ubinize] [--wrong]
+usage: dumps.py [--seed N ..] [--count N] [--first N] [--ubinize] [--wrong] [--kind KIND]
 
 An image is that of fuzz.py's Maker, or one as ubinize writes it or a kernel leaves it; with --ubinize those of ubinize itself, where mtd-utils
-are there. The kinds of files are those of KINDS below, by turns. What is told is right if the sizes, the offsets and the out-of-band
+are there. The kinds of files are those of KINDS below, by turns, or one of ALL (--kind). What is told is right if the sizes, the offsets and the out-of-band
 bytes are the true ones, the true page is among the pages, and the place lies on the grid of the image's eraseblocks and holds each of them that
-starts with a header. A file whose image has one such eraseblock, or that holds no image, has to be refused.
+starts with a header. A file whose image has one such eraseblock, or that holds no image, has to be refused. A wrong answer is *named* if docs/FORMAT.md
+says that it may be told, and else *other*.
 
 Without words there are 2,000 files (--count) of the seed 1 (--seed). It prints of each kind how many are right, wrong and refused, each wrong
-answer by its number, with which --first makes it again (--wrong prints no table), and ends with status 1 where one is wrong of which docs/FORMAT.md
-doesn't say that it may be told.
+answer by its number, with which --first makes it again (--wrong prints no table), and ends with status 1 where one is wrong that isn't named.
 """
 import argparse
 import collections
@@ -178,22 +178,24 @@ class Truth:
 
 
 class File:
-    """Some bytes, and the images in them, any of which may be told."""
+    """Some bytes, and the images in them, any of which may be told; and what is wrong and yet may be told, as docs/FORMAT.md says: pairs of
+    what that is called and a test of a line that is told, as numbers."""
 
-    def __init__(self, data, *truths):
-        self.data, self.truths = data, truths
+    def __init__(self, data, *truths, named=()):
+        self.data, self.truths, self.named = data, truths, named
 
     def behind(self, other):
         """The same behind another file."""
-        return File(other.data + self.data, *other.truths, *(truth.moved(len(other.data)) for truth in self.truths))
+        truths = (truth.moved(len(other.data)) for truth in self.truths)
+        return File(other.data + self.data, *other.truths, *truths, named=(*other.named, *self.named))
 
     def around(self, before, behind):
         """The same with bytes before and behind it."""
         return File(behind).behind(self.behind(File(before)))
 
 
-def whole(geometry, blocks):
-    return File(b"".join(blocks), Truth(geometry, 0, 0, len(blocks)))
+def whole(geometry, blocks, named=()):
+    return File(b"".join(blocks), Truth(geometry, 0, 0, len(blocks)), named=named)
 
 
 LINE = re.compile(r"--peb (\d+) --page (\d+) --vid (\d+) --data (\d+)(?: --oob (\d+))?(?: --start (\d+) --length (\d+))?\n")
@@ -351,21 +353,63 @@ def volume_of(rng, geometry, content):
     return geometry, blocks + [rules.put_block(geometry, ec) for _ in range(rng.randrange(4) if is_used else 0)]
 
 
+INNER_SIZES = {sizes: often for sizes, often in SIZES.items() if sizes[0] <= 32768}
+
+
+def has_offsets(geometry, told):
+    return told[2:4] == (geometry.vid, geometry.data)
+
+
+def may_be_joined(geometry, blocks, outer):
+    """What may be told wrong of an image in a volume of another of which all headers are there: something where both name the same offsets, and a
+    header of the inner one no number."""
+    is_joined = (geometry.vid, geometry.data) == (outer.vid, outer.data) and any(block[:4] == b"UBI#" and block[24:28] == bytes(4) for block in blocks)
+    return (("an image in one of the same offsets, without number", functools.partial(has_offsets, geometry)),) if is_joined else ()
+
+
+def with_junk(rng, content):
+    """Some bytes, or these with others around."""
+    return content if rng.random() < 0.5 else rng.randbytes(64 * rng.randrange(99)) + content + junk(rng, rng.randrange(999))
+
+
+def outer_of(rng, size):
+    """The geometry of an image with a volume that holds so many bytes."""
+    return Geometry(*sizes_of(rng, {sizes: often + 1 for sizes, often in SIZES.items() if size // sizes[0] < 200}), 2**20)
+
+
 def in_another(rng, image):
-    inner = whole(*image({sizes: often for sizes, often in SIZES.items() if sizes[0] <= 32768}))
-    outer = Geometry(*sizes_of(rng, {sizes: often + 1 for sizes, often in SIZES.items() if len(inner.data) // sizes[0] < 200}), 2**20)
-    content = inner.data if rng.random() < 0.5 else rng.randbytes(64 * rng.randrange(99)) + inner.data + junk(rng, rng.randrange(999))
-    return whole(*volume_of(rng, outer, content))
+    geometry, blocks = image(INNER_SIZES)
+    content = b"".join(blocks)
+    outer = outer_of(rng, len(content))
+    return whole(*volume_of(rng, outer, with_junk(rng, content)), may_be_joined(geometry, blocks, outer))
+
+
+def in_another_lost(rng, image):
+    """An image in a volume of another of which nearly no header is left; now and then each LEB of that holds an eraseblock of the inner one."""
+    geometry, blocks = image(INNER_SIZES)
+    content, pages = b"".join(blocks), [page for page in (128, 256, 512, 1024, 2048) if geometry.peb % page == 0]
+    if pages and rng.random() < 0.5:
+        page = rng.choice(pages)
+        outer = Geometry(geometry.peb + page, page, 64, page, 2**20)
+    else:
+        outer, content = outer_of(rng, len(content)), with_junk(rng, content)
+    outer, blocks = volume_of(rng, outer, content)
+    left = rng.sample(range(len(blocks)), rng.choice((0, 0, 1, 2) if len(blocks) > 8 else (0, 1)))
+    lost = rng.choice((ZERO * 64, BLANK * 64, rng.randbytes(64)))
+    blocks = [block if p in left else lost + block[64:] for p, block in enumerate(blocks)]
+    name = "an image in one of which nearly no header is left"
+    return whole(outer, blocks, ((name, functools.partial(has_offsets, geometry)),))
 
 
 def in_itself(rng, image):
     """An image in a volume of one of the same sizes and, now and then, the same number."""
-    geometry, blocks = image({sizes: often for sizes, often in SIZES.items() if sizes[0] <= 32768})
+    geometry, blocks = image(INNER_SIZES)
+    named = may_be_joined(geometry, blocks, geometry)
     geometry, outer = volume_of(rng, geometry, b"".join(blocks))
     if rng.random() < 0.5:
         number = int.from_bytes(next((block[24:28] for block in blocks if block.startswith(b"UBI#")), ZERO * 4), "big")
         outer = [renumbered(block, number) for block in outer]
-    return whole(geometry, outer).around(b"", junk(rng, rng.choice((0, 0, rng.randrange(geometry.peb)))))
+    return whole(geometry, outer, named).around(b"", junk(rng, rng.choice((0, 0, rng.randrange(geometry.peb)))))
 
 
 def with_bad(rng, geometry, blocks, count):
@@ -456,6 +500,22 @@ def out_of_band_odd(rng, image):
 
 def out_of_band(how, rng, image):
     return with_more(rng, *image(SIZES_WITH_MORE), how)
+
+
+def out_of_band_behind(is_first, rng, image):
+    """A dump with all out-of-band bytes of an eraseblock behind its last page, and the VID header in the first page, or behind that."""
+    weights = {sizes: often for sizes, often in SIZES_WITH_MORE.items() if (sizes[2] < sizes[1]) == is_first}
+    file = with_more(rng, *image(weights), rng.choice(OF_WRITTEN))
+    truth, g = file.truths[0], file.truths[0].geometry
+    step, data = g.page + truth.oob, b""
+    for start in range(0, len(file.data), truth.size):
+        places = range(start, start + truth.size, step)
+        data += b"".join(file.data[at : at + g.page] for at in places) + b"".join(file.data[at + g.page : at + step] for at in places)
+
+    def as_behind_each(told):
+        return g.vid < g.page and told[:5] == (g.peb, g.page, g.vid, g.data, truth.oob)
+
+    return File(data, named=(("out-of-band bytes behind the last page", as_behind_each),))
 
 
 def out_of_band_bad(rng, image):
@@ -764,6 +824,7 @@ KINDS = {
     "two images of the same sizes, one without number": two_without_number,
     "one image twice": one_twice,
     "in a volume of another": in_another,
+    "in a volume of another, of which nearly no header is left": in_another_lost,
     "in a volume of itself": in_itself,
     "one bad eraseblock": one_bad,
     "one to three bad eraseblocks": some_bad,
@@ -779,6 +840,7 @@ KINDS = {
     "out-of-band bytes, a code of written pages": functools.partial(out_of_band, "code written"),
     "out-of-band bytes, eraseblocks that are no multiple of 64": out_of_band_odd,
     "out-of-band bytes, no VID header": out_of_band_unsaid,
+    "out-of-band bytes, all behind the last page": functools.partial(out_of_band_behind, True),
     "out-of-band bytes, bad eraseblocks": out_of_band_bad,
     "out-of-band bytes, junk around": out_of_band_junk,
     "out-of-band bytes, cut": out_of_band_cut,
@@ -806,14 +868,17 @@ KINDS = {
     "edges: two of one weight": of_one_weight,
 }
 RARE = {"headers far apart": far_apart}
+# Kinds of which docs/FORMAT.md doesn't say yet what may be told wrong.
+UNSAID = {"out-of-band bytes, all behind the last page, the VID header in the second": functools.partial(out_of_band_behind, False)}
+ALL = KINDS | RARE | UNSAID
 MAKERS = (Maker, Dump, Dump, Dump)
 
 
-def file_of(rng, k, makers=MAKERS):
-    """The kind of the file of a number, and the file."""
+def file_of(rng, k, makers=MAKERS, name=None):
+    """The kind of the file of a number, where none is named, and the file."""
     names = list(KINDS)
-    name = next(iter(RARE)) if k % 200 == 199 else names[k % len(names)]
-    return name, (KINDS | RARE)[name](rng, lambda weights: made(rng, weights, makers))
+    name = name or (next(iter(RARE)) if k % 200 == 199 else names[k % len(names)])
+    return name, ALL[name](rng, lambda weights: made(rng, weights, makers))
 
 
 def off_grid(file, truth, told):
@@ -825,17 +890,33 @@ def off_grid(file, truth, told):
     return sum((at - start) % size != 0 for at in places), len(places)
 
 
-def may_be_told(file, text):
-    """Whether a wrong answer is one of those that docs/FORMAT.md names: what was lost isn't seen, and all headers begin eraseblocks of
-    several times the size."""
+def is_lost_between(file, truth, told):
+    """Whether an image is told as one of eraseblocks of twice or three times the size, or both, where all of its headers begin one of these."""
+    peb, page, _, _, oob, *_ = told[0]
+    off = off_grid(file.data, truth, told)
+    return off is not None and off[0] == 0 and peb // page * (page + oob) // truth.size in (2, 3, 4, 6)
+
+
+def named_fault(file, text):
+    """What docs/FORMAT.md calls it that a wrong answer is told, in short; None where it doesn't say that this may be."""
     told = told_numbers(file.data, text)
-    offs = [off_grid(file.data, truth, told) for truth in file.truths] if told else []
-    return any(off and off[0] == 0 for off in offs)
+    if not told:
+        return None
+    if any(is_lost_between(file, truth, told) for truth in file.truths):
+        return "what is lost between isn't seen"
+    return next((name for name, is_it in file.named if any(map(is_it, told))), None)
+
+
+def may_be_told(file, text):
+    return named_fault(file, text) is not None
 
 
 def fault(file, text):
     """What is wrong with a wrong answer, in a few words."""
     told = told_numbers(file.data, text)
+    name = named_fault(file, text)
+    if name:
+        return name
     for truth in file.truths if told else ():
         if truth.size % 64:
             return "the eraseblock is no multiple of 64"
@@ -857,8 +938,10 @@ def reason(file):
 
 
 def row_of(name, file):
-    """The kind under which a file is counted: one of which less than two eraseblocks of an image start with a header has one header."""
-    return "one header" if file.truths and all(len(truth.headers(file.data)) < 2 for truth in file.truths) else name
+    """The kind under which a file is counted: one of which less than two eraseblocks of an image start with a header has one header, but where
+    another image lies in it."""
+    is_alone = file.truths and not file.named and all(len(truth.headers(file.data)) < 2 for truth in file.truths)
+    return "one header" if is_alone else name
 
 
 def options():
@@ -868,6 +951,7 @@ def options():
     words.add_argument("--first", type=int, default=0)
     words.add_argument("--ubinize", action="store_true")
     words.add_argument("--wrong", action="store_true")
+    words.add_argument("--kind", choices=ALL)
     return words.parse_args()
 
 
@@ -876,12 +960,13 @@ def main():
     makers = (Ubinized,) if words.ubinize else MAKERS
     counts, wrong = collections.defaultdict(collections.Counter), 0
     for seed, k in itertools.product(words.seed, range(words.first, words.first + words.count)):
-        name, file = file_of(random.Random(f"{seed} {k}"), k, makers)
+        name, file = file_of(random.Random(f"{seed} {k}"), k, makers, words.kind)
         text, status = printed(file.data)
         judgement = judged(file, text, status)
-        counts[row_of(name, file)].update([judgement, reason(file.data) or "told"])
+        is_other = judgement == "wrong" and not may_be_told(file, text)
+        counts[row_of(name, file)].update(["other" if is_other else judgement, reason(file.data) or "told"])
         if judgement == "wrong":
-            wrong += not may_be_told(file, text)
+            wrong += is_other
             truths = [(*dataclasses.astuple(truth)[:1], truth.oob, truth.start, truth.count) for truth in file.truths]
             print(f"number {k} of seed {seed}, {name}, {fault(file, text)}: {text.splitlines()[0]} where {truths} is true", flush=True)
     if not words.wrong:
@@ -890,9 +975,9 @@ def main():
 
 
 def print_table(counts):
-    print("| files | right | wrong | refused |\n|---|---|---|---|")
+    print("| files | right | wrong, named | wrong, other | refused |\n|---|---|---|---|---|")
     total = collections.Counter()
-    for name in sorted(counts, key=list(KINDS | RARE).index):
+    for name in sorted(counts, key=list(ALL).index):
         total.update(counts[name])
         print_row(name, counts[name])
     print_row("all", total)
@@ -900,7 +985,7 @@ def print_table(counts):
 
 def print_row(name, count):
     why = ", ".join(f"{cause} {count[cause]}" for cause in sorted(count) if cause.startswith("F"))
-    print(f"| {name} | {count['right']} | {count['wrong']} | {count['refused']}{': ' if why else ''}{why} |")
+    print(f"| {name} | {count['right']} | {count['wrong']} | {count['other']} | {count['refused']}{': ' if why else ''}{why} |")
 
 
 if __name__ == "__main__":
