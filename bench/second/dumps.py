@@ -481,7 +481,7 @@ def with_more(rng, geometry, blocks, how, numbers=()):
     that isn't blank, or of each page. A page has one of some NUMBERS of them, or one with which an eraseblock is a multiple of 64."""
     page, count = geometry.page, geometry.peb // geometry.page
     oob = rng.choice(numbers or [number for number in OUT_OF_BAND[page] if count * number % 64 == 0])
-    code = rng.choice((3, 6, 12))
+    code = min(oob, rng.choice((3, 6, 12)))
 
     def of_page(data):
         if how.endswith("written") and rules.is_blank(data):
@@ -755,10 +755,10 @@ def half_there(rng, image):
 
 def out_of_band_limits(rng, image):
     """Out-of-band bytes as few or as many as may be, or one more; and pages and numbers of pages that are the least or the greatest, or beyond."""
-    page, count = rng.choice(((256, 16), (256, 16), (256, 32), (512, 16), (128, 32), (256, 8), (512, 8), (1024, 8), (2048, 16), (256, 2048), (256, 4096),
+    page, count = rng.choice(((256, 16), (256, 16), (256, 32), (256, 64), (512, 16), (128, 32), (256, 8), (512, 8), (1024, 8), (2048, 16), (256, 2048), (256, 4096),
         (65536, 16)))
     geometry = Geometry(page * count, page, page, 2 * page, 2**20)
-    more = rng.choice((4, page // 8, page // 8 + 4, page // 4 - 4, page // 4, page // 4, page // 4 + 4, page // 2))
+    more = rng.choice((1, 4, page // 8, page // 8 + 4, page // 4 - 4, page // 4, page // 4, page // 4 + 4, page // 2))
     table = rules.put_table(geometry, {})
     tables = [rules.put_vid(Vid(1, 0, 5, LAYOUT, copy, 0, 0, 0, 0, 0)) for copy in range(2)]
     ec = rules.put_ec(geometry, 3, rng.randrange(1, 2**32))
