@@ -397,8 +397,14 @@ def in_another_lost(rng, image):
     left = rng.sample(range(len(blocks)), rng.choice((0, 0, 1, 2) if len(blocks) > 8 else (0, 1)))
     lost = rng.choice((ZERO * 64, BLANK * 64, rng.randbytes(64)))
     blocks = [block if p in left else lost + block[64:] for p, block in enumerate(blocks)]
-    name = "an image in one of which nearly no header is left"
-    return whole(outer, blocks, ((name, functools.partial(has_offsets, geometry)),))
+    return whole(outer, blocks, (("an image in one of which nearly no header is left", functools.partial(is_inner, geometry)),
+        ("an image in one of which nearly no header is left, told as larger eraseblocks", functools.partial(has_offsets, geometry))))
+
+
+def is_inner(geometry, told):
+    """Whether an image is told, or what looks like one of its offsets with out-of-band bytes."""
+    peb, *_, oob, _, _ = told
+    return has_offsets(geometry, told) and (oob > 0 or peb == geometry.peb)
 
 
 def in_itself(rng, image):

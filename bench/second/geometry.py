@@ -254,9 +254,8 @@ def plain_image(file, found):
     if len(starts) != len(file) // q or len({header.offsets for header in starts}) > 1 or len(numbers) > 1:
         return None
     group = Group(found[0].offsets, [header.place for header in starts])
-    # Where none names a number they are of each group of their offsets.
-    others = [header.place for header in found if header.place % q and header.offsets == group.offsets
-        and (header.number in numbers | {0} or not numbers)]
+    # Their group is that of the number which one of them names, or of no number where none does.
+    others = [header.place for header in found if header.place % q and header.offsets == group.offsets and header.number in numbers | {0}]
     if any(place % part == 0 for place in others for part in parts(q, group.offsets)):
         return None
     return None if doubt(file, group, q) else (group, q)
