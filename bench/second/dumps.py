@@ -418,6 +418,15 @@ def in_itself(rng, image):
     return whole(geometry, outer, named).around(b"", junk(rng, rng.choice((0, 0, rng.randrange(geometry.peb)))))
 
 
+def in_one_without_number(rng, image):
+    """An image in a volume of one of the same sizes, whose headers name no number, with or without junk behind."""
+    geometry, blocks = image(INNER_SIZES)
+    named = may_be_joined(geometry, blocks, geometry)
+    _, outer = volume_of(rng, geometry, b"".join(blocks))
+    file = whole(geometry, [renumbered(block, 0) for block in outer], named)
+    return file.around(b"", junk(rng, rng.choice((0, 0, 0, rng.randrange(geometry.peb)))))
+
+
 def with_bad(rng, geometry, blocks, count):
     """An image of which so many eraseblocks are bad."""
     blocks = list(blocks)
@@ -832,6 +841,7 @@ KINDS = {
     "in a volume of another": in_another,
     "in a volume of another, of which nearly no header is left": in_another_lost,
     "in a volume of itself": in_itself,
+    "in a volume of one of the same sizes, without number": in_one_without_number,
     "one bad eraseblock": one_bad,
     "one to three bad eraseblocks": some_bad,
     "bad eraseblocks and junk around": bad_and_junk,
