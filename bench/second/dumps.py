@@ -907,10 +907,10 @@ def off_grid(file, truth, told):
 
 
 def is_lost_between(file, truth, told):
-    """Whether an image is told as one of eraseblocks of twice or three times the size, or both, where all of its headers begin one of these."""
+    """Whether an image is told as one of eraseblocks of twice or three times the size, where all of its headers begin one of these."""
     peb, page, _, _, oob, *_ = told[0]
     off = off_grid(file.data, truth, told)
-    return off is not None and off[0] == 0 and peb // page * (page + oob) // truth.size in (2, 3, 4, 6)
+    return off is not None and off[0] == 0 and peb // page * (page + oob) // truth.size in (2, 3)
 
 
 def named_fault(file, text):
