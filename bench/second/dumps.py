@@ -54,7 +54,8 @@ SIZES_WITH_MORE = {
     (16384, 512, 512, 1024): 8,
     (8192, 512, 64, 512): 8,
     (32768, 2048, 2048, 4096): 6,
-    (32768, 2048, 512, 2048): 6,
+    (32768, 2048, 512, 2048): 4,
+    (32768, 2048, 1024, 2048): 4,
     (65536, 4096, 4096, 8192): 4,
     (131072, 2048, 512, 2048): 1,
     (131072, 2048, 2048, 4096): 1,
@@ -768,6 +769,24 @@ def half_there(rng, image):
     return whole(geometry, [block if p in there else bad_block(rng, geometry.peb) for p, block in enumerate(blocks)])
 
 
+def headers_at_parts(is_own, rng, image):
+    """A whole image with a header or two at half of an eraseblock or beside it, behind the first two eraseblocks: of its own offsets and number; or
+    of no number, of another, or of other offsets. Some images have no number."""
+    geometry, count = edge_geometry(rng), rng.randrange(4, 12)
+    table, texts = rules.put_table(geometry, {}), [dense(rng, 20) for _ in range(count)]
+    blocks = by_hand(rng, geometry, texts)
+    vids = [rules.put_vid(Vid(1, 0, 5, LAYOUT, copy, 0, 0, 0, 0, 0)) for copy in range(2)]
+    blocks[:2] = [rules.put_block(geometry, blocks[0][:64], vid, table) for vid in vids]
+    if rng.random() < 0.3:
+        blocks = [renumbered(block, 0) for block in blocks]
+    own, at = blocks[0][:64], geometry.peb // 2 + rng.choice((0, 0, 0, 64, -64))
+    other = rules.put_ec(dataclasses.replace(geometry, data=2 * geometry.data), 1, int.from_bytes(own[24:28], "big"))
+    inner = own if is_own else rng.choice((renumbered(own, 0), renumbered(own, 77), other, other))
+    for p in rng.choice(((2,), (count - 1,), (2, count - 1))):
+        blocks[p] = blocks[p][:at] + inner + blocks[p][at + 64 :]
+    return whole(geometry, blocks, () if is_own or inner == other else may_be_joined(geometry, [inner], geometry))
+
+
 def out_of_band_limits(rng, image):
     """Out-of-band bytes as few or as many as may be, or one more; and pages and numbers of pages that are the least or the greatest, or beyond."""
     page, count = rng.choice(((256, 16), (256, 16), (256, 32), (256, 64), (512, 16), (128, 32), (256, 8), (512, 8), (1024, 8), (2048, 16), (256, 2048), (256, 4096),
@@ -877,6 +896,7 @@ KINDS = {
     "edges: blank eraseblocks beside": blank_beside,
     "edges: tables, and what looks like it": some_tables,
     "edges: half of the eraseblocks": half_there,
+    "edges: headers at parts": functools.partial(headers_at_parts, False),
     "edges: out-of-band bytes and pages": out_of_band_limits,
     "edges: magics in out-of-band bytes": out_of_band_magics,
     "edges: other offsets": other_offsets,
@@ -885,7 +905,10 @@ KINDS = {
 }
 RARE = {"headers far apart": far_apart}
 # Kinds of which docs/FORMAT.md doesn't say yet what may be told wrong.
-UNSAID = {"out-of-band bytes, all behind the last page, the VID header in the second": functools.partial(out_of_band_behind, False)}
+UNSAID = {
+    "out-of-band bytes, all behind the last page, the VID header in the second": functools.partial(out_of_band_behind, False),
+    "edges: headers of its own at parts": functools.partial(headers_at_parts, True),
+}
 ALL = KINDS | RARE | UNSAID
 MAKERS = (Maker, Dump, Dump, Dump)
 
