@@ -8,8 +8,8 @@ are free, erased, dropped, orphans or unreadable, in a random order. A copy of t
 than the other, or the same with other bytes where none are looked at. None, one, two, some or all eraseblocks carry the image's
 number. Most images are then changed up to three times: a byte anywhere, a field of a header or a record with its check made
 right again, eraseblocks doubled, erased, swapped or cut off.
-Of each image, of a part of it, of one with out-of-band bytes and of a file of random units, `geometry` has to answer what the rules
-say, and `list` by the words of a line that it prints. Of each image `check`, `list`, `show` and `normalise` have to answer what the
+Of each image, of its first bytes or of it with out-of-band bytes, and junk around, `geometry` has to answer what geometry.py says, and `list` by the
+words of a line that it prints. Of each image `check`, `list`, `show` and `normalise` have to answer what the
 rules say; and of one that is accepted
 `extract`, `unpack`, `same` with its normal image, with another and with its eraseblocks under another number, `compose` of a text that
 says what it means, and `change` and `rename`, whose printed plans and whose bytes after each step are those of the rules: each
@@ -38,6 +38,7 @@ import sys
 import tempfile
 
 import rules
+from geometry import geometries, printed
 from rules import LAYOUT, TOP_COUNTER, TOP_SQNUM, Geometry, Image, Record, Refused, Vid
 from text_rules import Fault, name_of
 
@@ -527,21 +528,6 @@ class Mutator:
         blocks[-1] = blocks[-1][: self.rng.choice((0, 1, self.geometry.peb - 1, self.rng.randrange(self.geometry.peb)))]
 
 
-def units(rng):
-    """A file of random units: eraseblocks of some size, most of which start with a header; from the third on their data may have others."""
-    offsets = rng.choice(((64, 128), (64, 128), (64, 192), (64, 256), (512, 1024)))
-    other, q = rng.choice((offsets, offsets, (64, 128))), rng.choice((1, 2, 3, 4, 17, 33))
-    headers = [rules.put_ec(Geometry(0, 0, *named, 0), rng.randrange(9), rng.randrange(2)) for named in (offsets, other)]
-    starts = (b"\xFF" * 64, bytes(64), headers[1])
-    rare, inner = rng.choice((0, 0, 0.05, 0.2, 0.7)), rng.choice((starts[:2], starts[:2], (starts[0], headers[0], headers[0])))
-    file = bytearray()
-    for u in range(rng.choice((0, 1, q, 2 * q, 4 * q, 7 * q, rng.randrange(40)))):
-        expected = headers[:1] if u % q == 0 else starts[:2] if u < 2 * q else inner
-        start = rng.choice(starts if rng.random() < rare else expected)
-        file += start + rng.choice((b"\xFF", b"\0")) * (rules.UNIT - 64)
-    return bytes(file)
-
-
 def spec_of(image):
     """A text that `compose` makes the normal image of."""
     for slot, record in sorted(image.records.items()):
@@ -737,29 +723,27 @@ class Case(Runner):
         return sized([command, self.path, *of.get(command, []), *outs], self.geometry)
 
     def look_geometries(self):
-        """Compares what is told of the geometry of the image and of other files."""
+        """Compares what is told of the geometry of the image, and of another file that is made of it."""
         rng = self.rng
-        blocks, share = self.blocks[: rng.randrange(len(self.blocks) + 1)], rng.choice((16, 32))
-        with_more = b"".join(block + rng.randbytes(len(block) // share) for block in blocks)
-        for file in (self.image, self.image[: rng.randrange(len(self.image) + 1)], with_more, units(rng), units(rng)):
-            self.look_geometry(file)
+        page, more = self.geometry.page, rng.choice((1, self.geometry.page // 32, self.geometry.page // 4))
+        with_more = b"".join(self.image[at : at + page] + b"\xFF" * more for at in range(0, len(self.image), page))
+        around = rng.randbytes(64 * rng.randrange(20)) + self.image + rng.choice((b"\xFF", b"\0")) * rng.randrange(2000)
+        self.look_geometry(self.image)
+        self.look_geometry(rng.choice((self.image[: rng.randrange(len(self.image) + 1)], with_more, around)))
 
     def look_geometry(self, file):
         """Compares what is told of the geometry of a file, and what `list` answers by a line of that."""
         path = self.put("dump", file)
-        try:
-            found = rules.geometries(file)
-        except Refused as refused:
-            self.expect(["geometry", path], f"refused {refused}\n", 1)
+        text, status = printed(file)
+        self.expect(["geometry", path], text, status)
+        if status:
             return
-        lines = list(rules.geometry_lines(found))
-        self.expect(["geometry", path], "".join(lines), 0)
-        k = self.rng.randrange(len(found))
+        found = self.rng.choice(geometries(file))
         try:
-            listed, status = "".join(rules.list_lines(Image(found[k], file))), 0
+            listed = "".join(rules.list_lines(Image(found.geometry, found.image(file))))
         except Refused as refused:
             listed, status = f"refused {refused}\n", 1
-        self.expect_bare(["list", path, *lines[k].split()], listed, status)
+        self.expect_bare(["list", path, *found.line().split()], listed, status)
 
     def look_image(self):
         """Compares the answers of the image under its own geometry."""

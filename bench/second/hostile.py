@@ -42,6 +42,7 @@ import tempfile
 import rules
 import text_faults
 from fuzz import NO_LISTS, NO_NAMES, ROOT, Failure, Runner, built, finish, renumbered, sized, solved, weakness
+from geometry import find
 from text_rules import Described
 
 GEOMETRY = rules.Geometry(512, 64, 64, 128, 1048576)
@@ -388,7 +389,7 @@ def devices():
     checked = "".join(rules.check_lines(MEANT))
     yield ("check", "/dev/stdin"), BASE, checked
     yield ("check", "/dev/stdin"), BASE_PATH, checked
-    told = "".join(rules.geometry_lines(rules.geometries(BASE)))
+    told = "".join(find(BASE))
     yield ("geometry", "/dev/stdin"), BASE, told
     yield ("geometry", "/dev/stdin"), BASE_PATH, told
     yield ("geometry", "/dev/stdin"), b"", "refused F1 NoHeader\n"

@@ -1,5 +1,5 @@
-"""A second reading of docs/FORMAT.md: what an image means, or why it is refused, also where some of its eraseblocks are bad, the
-plans of a change and of a rename with their pages, and the geometries of a file of which nothing is known.
+"""A second reading of docs/FORMAT.md: what an image means, or why it is refused, also where some of its eraseblocks are bad, and the
+plans of a change and of a rename with their pages. The geometries of a file of which nothing is known are those of geometry.py.
 
 It was written from that document and not from the program, so that the answers of the program can be compared with it.
 It is short and slow: each rule stands once, in the document's words. A refusal is the exception `Refused`, which holds the
@@ -14,8 +14,6 @@ import zlib
 
 LAYOUT, TOP_COUNTER, TOP_SQNUM = 0x7FFFEFFF, 0x7FFFFFFF, 2**64 - 1
 RECORD = 172
-# The bytes of a unit, where no geometry is known.
-UNIT = 512
 
 
 class Refused(Exception):
@@ -444,82 +442,6 @@ class Image(Meaning):
         if self.winners[(header.volume, header.lnum)] != p:
             return "stale"
         return "table" if header.volume == LAYOUT else "used"
-
-
-# The geometries of a file of which nothing else is known.
-
-
-def unit_start(raw):
-    """What a unit starts with: the offsets that its header names, 'blank' or 'anything else'."""
-    if len(raw) < 64:
-        return "anything else"
-    if is_blank(raw[:64]):
-        return "blank"
-    offsets = struct.unpack(">II", raw[16:24])
-    state, _ = read_ec(Geometry(0, 0, *offsets, 0), raw[:64])
-    return offsets if state == "valid" else "anything else"
-
-
-class Units:
-    """What the units of a file start with."""
-
-    def __init__(self, file):
-        self.size = len(file)
-        self.starts = [unit_start(file[at : at + 64]) for at in range(0, len(file), UNIT)]
-
-    def headers(self, first=0, end=None, step=1):
-        """Of some units those that start with a header: which, and the offsets that it names."""
-        places = range(len(self.starts))[first:end:step]
-        return [(u, self.starts[u]) for u in places if isinstance(self.starts[u], tuple)]
-
-    def score(self, q):
-        return len(self.headers(step=q)) - self.starts[::q].count("anything else")
-
-    def is_plain(self, q):
-        whole = self.size % (UNIT * q) == 0 and self.size >= 2 * UNIT * q
-        return whole and len(self.headers(step=q)) == len(self.starts[::q]) and len(self.headers(end=2 * q)) == 2
-
-    def block_units(self):
-        """The units of an eraseblock."""
-        sizes = range(1, len(self.starts) + 1)
-        return next((q for q in sizes if self.is_plain(q)), None) or max(sizes, key=lambda q: (self.score(q), q))
-
-
-def without_out_of_band(peb):
-    """The size of an eraseblock that is so long with its out-of-band bytes, and of how many bytes each has one; or None."""
-    pairs = ((2**k, share) for share in (32, 16) for k in range(9, 25))
-    return next(((size, share) for size, share in pairs if size + size // share == peb), None)
-
-
-def geometries(file):
-    """The geometries that the headers of a file give."""
-    units = Units(file)
-    if not units.headers():
-        raise Refused("F1 NoHeader")
-    q = units.block_units()
-    if units.score(q) <= 0:
-        raise Refused("F2 NoSize")
-    peb = UNIT * q
-    if units.size % peb:
-        raise Refused(f"F3 Length peb={peb} rest={units.size % peb}")
-    named = [(u // q, offsets) for u, offsets in units.headers(step=q)]
-    earlier, (vid, data) = named[0]
-    for p, offsets in named:
-        if offsets != (vid, data):
-            raise Refused(f"F4 Offsets block={p} earlier={earlier}")
-    bare = without_out_of_band(peb)
-    if bare:
-        raise Refused(f"F5 OutOfBand peb={bare[0]} share={bare[1]}")
-    of_pages = (Geometry(peb, 2**k, vid, data, 2**20) for k in range(6, 17))
-    found = [g for g in of_pages if g.fault() is None and data == -(-(vid + 64) // g.page) * g.page]
-    if not found:
-        raise Refused(f"F6 Page peb={peb} vid={vid} data={data}")
-    return found
-
-
-def geometry_lines(found):
-    for g in found:
-        yield f"--peb {g.peb} --page {g.page} --vid {g.vid} --data {g.data}\n"
 
 
 def shown(name):

@@ -14,7 +14,7 @@ The families, all of which are run where none is named:
   largest   eraseblocks of 2^24 bytes with pages of 65536, which are the largest; a text of 20 MB; files of 1, 20 and 100 MiB
   chips     chips with eraseblocks of 131072 and pages of 2048: images of 1, 20 and 100 MiB; and `compose` with outputs of 39 and 100 MB
   row       a config whose files end beyond 4 GiB, one by one and in a row
-  geometry  the geometry of files of 1 MiB to 9 GiB, and of those up to 5 GiB what is wrong with the last eraseblock
+  geometry  the geometry of files of 1 MiB to 9 GiB, and of those up to 5 GiB where the last eraseblock is no longer the image's
   huge      files of 8 TiB that are named as new bytes, as a text and in a config; and a text of 269 MB
   links     an image above 1 GiB that is the output, or should be the pages, by a link of either kind
 
@@ -34,6 +34,7 @@ import threading
 
 import rules
 from fuzz import built, finish
+from geometry import printed
 from rules import LAYOUT, Geometry, Meaning, Record, Vid
 
 MIB, GIB, HUGE = 2**20, 2**30, 2**43
@@ -402,7 +403,7 @@ def all_commands(looker, g, new):
     found = rules.Image(g, image)
     normal, last = rules.normal_image(found), max(found.records)
     texts = {number: found.read_volume(number) for number in found.records}
-    yield looker.look(None, ["geometry", "image"], "".join(rules.geometry_lines(rules.geometries(image))))
+    yield looker.look(None, ["geometry", "image"], *printed(image))
     yield looker.look(g, ["check", "image"], "".join(rules.check_lines(found)))
     yield looker.look(g, ["list", "image"], "".join(rules.list_lines(found)))
     yield looker.look(g, ["normalise", "image", "--out", "out"], f"blocks {len(normal) // g.peb}\n", files=[("out", [normal])])
@@ -512,18 +513,18 @@ def shares(file, size):
 
 
 def geometry(looker):
-    """Files of headers alone, up to 9 GiB; then the last eraseblock has another header."""
+    """Files of the two tables and headers alone, up to 9 GiB; then the last eraseblock has a header of other offsets, which is no image's."""
     for g, size in ((CHIP, MIB), (CHIP, 20 * MIB), (CHIP, 100 * MIB), (LARGEST, 5 * GIB), (LARGEST, 9 * GIB)):
         last = size - g.peb
-        file = Sparse(size, {at: rules.put_ec(g, at // g.peb, SEQ) for at in range(0, size, g.peb)})
+        headers = {at: rules.put_ec(g, at // g.peb, SEQ) for at in range(0, size, g.peb)}
+        file = Sparse(size, headers | table_parts(g, {}, (0, 1)))
         file.put(looker.path("far.img"))
-        offsets = f"--vid {g.vid} --data {g.data}\n"
-        pages = (2048, 4096) if g == CHIP else (65536,)
-        yield looker.look(None, ["geometry", "far.img"], "".join(f"--peb {g.peb} --page {page} {offsets}" for page in pages))
+        lines = [f"--peb {g.peb} --page {page} --vid {g.vid} --data {g.data}" for page in ((2048, 4096) if g == CHIP else (65536,))]
+        yield looker.look(None, ["geometry", "far.img"], "".join(f"{line}\n" for line in lines))
         if size == 9 * GIB:
             break
         file.but({last: rules.put_ec(dataclasses.replace(g, vid=64))}).put(looker.path("far.img"))
-        yield looker.look(None, ["geometry", "far.img"], f"refused F4 Offsets block={last // g.peb} earlier=0\n", 1)
+        yield looker.look(None, ["geometry", "far.img"], "".join(f"{line} --start 0 --length {last}\n" for line in lines))
 
 
 def huge(looker):

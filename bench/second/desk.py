@@ -1,0 +1,105 @@
+#!/usr/bin/env python3
+"""Compares what the program answers of files of which no number is typed with what docs/FORMAT.md says, as bench/second/geometry.py and
+rules.py read it, and with the truth.
+
+usage: desk.py [--seed N] [--count N] [--first N] [--dir FOLDER] [--tool PROGRAM]
+
+The files are those of dumps.py: images with anything around them, damaged, cut, one in another, with out-of-band bytes; and hostile ones.
+Of each `geometry` has to print the lines of geometry.py, or the line of the cause for which there are none; and what it prints has to be true, but
+where docs/FORMAT.md says what may be told wrong. Then `list`, `check`, `extract`, `unpack` and `normalise` of the file, without a number, have to
+answer what the rules say of the image that lies there under the first geometry: its bytes without those around it and without out-of-band bytes.
+Where no geometry can be told they have to print the line of `geometry`, end with status 1 and write nothing.
+
+Without words there are 1,000 files (--count) of the seed 1 (--seed). They lie in a new folder below FOLDER (/tmp where it is left out),
+which is removed again. Without --tool the program is built first where it isn't yet. What was told right, wrong and refused is counted. The
+last line is 'N passed, M failed', and the exit status is 0 where none failed; a file that failed can be made again by its number, which
+--first names: the kind of a file depends on its number.
+"""
+import collections
+import os
+import subprocess
+
+import dumps
+import rules
+from fuzz import Failure, Runner, built, finish, options, run_cases, taken
+from geometry import geometries, printed
+from rules import Image, Refused
+
+
+class Case(Runner):
+    """A file, and what the program is to answer of it."""
+
+    def __init__(self, rng, tool, folder, k):
+        super().__init__(tool, folder, None)
+        self.rng = rng
+        self.kind, self.file = dumps.file_of(rng, k)
+        self.path = self.put("file", self.file.data)
+        self.volumes = os.path.join(folder, "volumes")
+        # What an earlier file that failed may have left.
+        taken(self.volumes)
+        self.written()
+
+    def whole(self, words):
+        """The words of a command as they are: no number is typed."""
+        return words
+
+    def look(self):
+        """Compares each answer. Gives what the geometry is: right, wrong or refused."""
+        text, status = printed(self.file.data)
+        judgement = dumps.judged(self.file, text, status)
+        self.look_geometry(text, status, judgement)
+        if judgement == "refused":
+            self.look_refused(text)
+        else:
+            self.look_found(geometries(self.file.data)[0])
+        return judgement
+
+    def look_geometry(self, text, status, judgement):
+        """Compares what is told with the rule and with the truth."""
+        ran = subprocess.run([self.tool, "geometry", self.path], capture_output=True)
+        came = (ran.stdout.decode(), ran.returncode)
+        if came != (text, status) or ran.stderr:
+            judged = dumps.judged(self.file, *came)
+            raise Failure(f"{self.kind}: geometry answers {came}, which is {judged}, where {(text, status)}, which is {judgement}, is the rule's; "
+                f"{ran.stderr.decode()}")
+        if judgement == "wrong" and not dumps.may_be_told(self.file, text):
+            raise Failure(f"{self.kind}: the rule itself is wrong: {text.splitlines()[0]}, {dumps.fault(self.file, text)}")
+
+    def look_refused(self, line):
+        """Whether a command that reads an image refuses a file as `geometry` does."""
+        for command, *words in (["list"], ["check"], ["extract", "--id", "0", "--out", self.out], ["normalise", "--out", self.out]):
+            self.expect([command, self.path, *words], line, 1)
+        self.look_not_unpacked(line)
+
+    def look_not_unpacked(self, line):
+        self.expect(["unpack", self.path, "--out", self.volumes], line, 1)
+        if os.path.exists(self.volumes):
+            raise Failure(f"{self.kind}: a folder is made for a file that is refused")
+
+    def look_found(self, found):
+        """Compares what is answered of the image that lies in a file."""
+        try:
+            image = Image(found.geometry, found.image(self.file.data))
+        except Refused as refused:
+            self.look_refused(f"refused {refused}\n")
+            return
+        self.geometry = found.geometry
+        normal = rules.normal_image(image)
+        self.expect(["list", self.path], "".join(rules.list_lines(image)), 0)
+        self.expect(["check", self.path], "".join(rules.check_lines(image)), 0)
+        self.look_read(self.path, image, self.rng.choice((*image.records, 0, 127)))
+        self.look_unpacked(self.path, image)
+        self.expect(["normalise", self.path, "--out", self.out], f"blocks {len(normal) // self.geometry.peb}\n", 0, normal)
+
+
+def main():
+    words = options(__doc__, 1000)
+    tool, numbers = built(words.tool), iter(range(words.first, words.first + words.count))
+    answers, failed = run_cases(words, {"": (lambda rng, folder: Case(rng, tool, folder, next(numbers)).look(), words.count)})
+    counts = collections.Counter(answers)
+    print(", ".join(f"{counts[judgement]} {judgement}" for judgement in ("right", "wrong", "refused")))
+    finish(len(answers), failed)
+
+
+if __name__ == "__main__":
+    main()

@@ -1,0 +1,120 @@
+#!/usr/bin/env python3
+"""Measures commands of files of which no number is typed, and of dumps with out-of-band bytes.
+
+usage: desk.py [--dir FOLDER] [--blocks N] [--tool PROGRAM]
+
+The image is the dynamic one of normalise.py: N eraseblocks (8,192, which is 1 GiB) of 128 KiB with pages of 2 KiB. Measured are:
+  plain   `geometry` and `list` of it, without a number, against `cat`
+  around  `geometry` of a file as large, of which one half is such an image, and a quarter before and one behind it random bytes, against `cat`
+  oob     `check` and `normalise` of it with 64 out-of-band bytes behind each page, by --oob, against the same of it without them
+  sparse  `geometry` of a sparse file of 5 GiB with an image of nine eraseblocks at 3 GiB, in seconds
+They lie in a new folder below FOLDER (/tmp where it is left out), which is removed again; some 4 GiB have to be free there for 8,192 eraseblocks.
+Without --tool the program is built first where it isn't yet.
+
+It prints a table: how many times as long each takes as what it is measured against, by the seconds that pass, the least of five runs of a file that was
+read before; and the peak of memory, which needs GNU time. It ends with status 1 where one is above its target, or takes more than 16 MiB.
+"""
+import os
+import random
+import shutil
+import sys
+import tempfile
+
+from normalise import PAGE, PEB, eraseblocks, measure, options
+
+MIB, GIB = 2**20, 2**30
+OOB, ROOM = 64, 16
+SIZES = ["--peb", str(PEB), "--page", str(PAGE)]
+SPARSE_SIZE, SPARSE_PLACE, SPARSE_BLOCKS = 5 * GIB, 3 * GIB, 9
+# Of each measurement the most times as long as what it is measured against; of the last one the most seconds.
+TARGETS = {
+    "`geometry`, plain": 0.2,
+    "`list` without a number, plain": 0.3,
+    "`geometry`, random bytes around": 1.5,
+    f"`check --oob {OOB}`": 1.3,
+    f"`normalise --oob {OOB}`": 1.6,
+    "`geometry`, sparse": 5,
+}
+
+
+def put(path, pieces):
+    with open(path, "wb") as file:
+        file.writelines(pieces)
+    return path
+
+
+def noise(seed, size):
+    """Random bytes, piece by piece."""
+    rng = random.Random(seed)
+    for at in range(0, size, MIB):
+        yield rng.randbytes(min(MIB, size - at))
+
+
+def around(count):
+    """An image of half of the eraseblocks, with random bytes before and behind it, which are a quarter each."""
+    yield from noise(1, count // 4 * PEB)
+    yield from eraseblocks("dynamic", count // 2)
+    yield from noise(2, count // 4 * PEB)
+
+
+def with_more(count):
+    """An image with out-of-band bytes behind each page: a code behind one that holds anything, 0xFF behind others."""
+    blank = b"\xFF" * PAGE
+    code, none = b"\xFF" * (OOB - 24) + bytes(range(24)), b"\xFF" * OOB
+    for block in eraseblocks("dynamic", count):
+        pages = [block[at : at + PAGE] for at in range(0, PEB, PAGE)]
+        yield b"".join(page + (none if page == blank else code) for page in pages)
+
+
+def put_sparse(path):
+    with open(path, "wb") as file:
+        file.truncate(SPARSE_SIZE)
+        file.seek(SPARSE_PLACE)
+        file.writelines(eraseblocks("dynamic", SPARSE_BLOCKS))
+    return path
+
+
+class Measured:
+    """What was measured, as it is printed, and whether anything is above its target."""
+
+    def __init__(self):
+        self.is_above = False
+        print("| what | against | times as long | target | seconds | MiB at the peak |\n|---|---|---|---|---|---|", flush=True)
+
+    def add(self, what, against, seconds, run):
+        """A run, and of what it is measured against the seconds that this takes."""
+        passed, _, most = run
+        times, target = passed / seconds, TARGETS[what]
+        self.is_above |= times > target or most > ROOM
+        unit = "s" if against == "a second" else ""
+        print(f"| {what} | {against} | {times:.2f}{unit} | {target}{unit} | {passed:.3f} | {most:.1f} |", flush=True)
+
+
+def main():
+    place, count, tool = options(__doc__, "--blocks", 8192)
+    folder = tempfile.mkdtemp(dir=place)
+    path, out = os.path.join(folder, "dump"), os.path.join(folder, "out")
+    measured = Measured()
+    try:
+        put(path, eraseblocks("dynamic", count))
+        cat = measure(["cat", path], out)[0]
+        measured.add("`geometry`, plain", "`cat`", cat, measure([tool, "geometry", path], out))
+        measured.add("`list` without a number, plain", "`cat`", cat, measure([tool, "list", path], out))
+        check = measure([tool, "check", path, *SIZES], out)[0]
+        normalise = measure([tool, "normalise", path, "--out", out, *SIZES], out)[0]
+        put(path, with_more(count))
+        more = [*SIZES, "--oob", str(OOB)]
+        measured.add(f"`check --oob {OOB}`", "`check` without", check, measure([tool, "check", path, *more], out))
+        measured.add(f"`normalise --oob {OOB}`", "`normalise` without", normalise, measure([tool, "normalise", path, "--out", out, *more], out))
+        put(path, around(count))
+        cat = measure(["cat", path], out)[0]
+        measured.add("`geometry`, random bytes around", "`cat`", cat, measure([tool, "geometry", path], out))
+        os.remove(path)
+        measured.add("`geometry`, sparse", "a second", 1, measure([tool, "geometry", put_sparse(path)], out))
+    finally:
+        shutil.rmtree(folder)
+    sys.exit(1 if measured.is_above else 0)
+
+
+if __name__ == "__main__":
+    main()
