@@ -34,10 +34,12 @@ pub mod Nominated
 pub mod OneFault
 pub mod OneImage
 pub mod OnePlain
+pub mod OneUndetected
 pub mod OneScan
 pub mod Parts
 pub mod Places
 pub mod PlainGroups
+pub mod PlainHeads
 pub mod PlainSizes
 pub mod ReadParts
 pub mod Revalued
