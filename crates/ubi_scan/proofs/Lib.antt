@@ -31,6 +31,7 @@ pub mod Narrowed
 pub mod NewGroups
 pub mod Next
 pub mod Nominated
+pub mod OnGrid
 pub mod OneFault
 pub mod OneImage
 pub mod OnePlain
