@@ -29,10 +29,10 @@ places_more heads h k b e =
     ∙ map-append (λ g. g.place) (filter (λ g. is_of k g.key) heads) (filter (λ g. is_of k g.key) (h ∷ []))
     ∙ ap (λ c. places heads k ++ map (λ g. g.place) (cond c (h ∷ []) [])) e
 
-places_with : (heads : List Head) (h : Head) (k : Key) → IsTrue (is_of k h.key) → places (heads ++ h ∷ []) k ≡ places heads k ++ h.place ∷ []
+pub places_with : (heads : List Head) (h : Head) (k : Key) → IsTrue (is_of k h.key) → places (heads ++ h ∷ []) k ≡ places heads k ++ h.place ∷ []
 places_with heads h k e = places_more heads h k true e
 
-places_without : (heads : List Head) (h : Head) (k : Key) → IsFalse (is_of k h.key) → places (heads ++ h ∷ []) k ≡ places heads k
+pub places_without : (heads : List Head) (h : Head) (k : Key) → IsFalse (is_of k h.key) → places (heads ++ h ∷ []) k ≡ places heads k
 places_without heads h k e = places_more heads h k false e ∙ append-nil (places heads k)
 
 -- the last of places with one more is that
@@ -40,11 +40,11 @@ last_more : (p : ℕ) (ps : List ℕ) (o : Option ℕ) → last_or o (ps ++ p �
 last_more p [] o = refl
 last_more p (x ∷ xs) o = last_more p xs (Some x)
 
-last_is : (p : ℕ) (ps : List ℕ) → last_place (ps ++ p ∷ []) ≡ p
+pub last_is : (p : ℕ) (ps : List ℕ) → last_place (ps ++ p ∷ []) ≡ p
 last_is p ps = ap (λ o. unwrap_or o 0) (last_more p ps _)
 
 -- and the first one is the first that was, or that
-first_is : (p : ℕ) (ps : List ℕ) → first_place (ps ++ p ∷ []) ≡ cond (length ps == 0) p (first_place ps)
+pub first_is : (p : ℕ) (ps : List ℕ) → first_place (ps ++ p ∷ []) ≡ cond (length ps == 0) p (first_place ps)
 first_is p [] = refl
 first_is p (x ∷ xs) = sym (ap (λ b. cond b p x) (ne_eqb (length (x ∷ xs)) 0 (λ e. omega (arith, e))))
 

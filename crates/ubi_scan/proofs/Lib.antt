@@ -31,13 +31,16 @@ pub mod Narrowed
 pub mod NewGroups
 pub mod Next
 pub mod Nominated
+pub mod OnGrid
 pub mod OneFault
 pub mod OneImage
 pub mod OnePlain
+pub mod OneUndetected
 pub mod OneScan
 pub mod Parts
 pub mod Places
 pub mod PlainGroups
+pub mod PlainHeads
 pub mod PlainSizes
 pub mod ReadParts
 pub mod Revalued

@@ -1,22 +1,16 @@
 -- A file holds one image at most, and what is told of it is one list or one cause.
 use Rattle.std.proofs.Common.{◌≡◌, ◌≢◌, ℕ, ◌+◌, ◌-◌, ◌<◌, ◌≤◌, true, false, List, [], length, inl, inr, refl, ap, sym, ◌∙◌, subst, arith}
-use Rattle.std.specs.Prelude.{IsFalse, IsTrue, slice_index_or}
-use Rattle.std.proofs.lemmas.Bool.{true≢false}
-use Rattle.ubi_scan.specs.Detected.{AreDetected, IsFound, IsUndetected, IsWhole, NonePlain}
-use Rattle.ubi_scan.specs.DetectLaws.{DetectedOrNot, OneDetection, OneFound, OneImage, OneUndetected, TwoHeaders}
+use Rattle.std.specs.Prelude.{slice_index_or}
+use Rattle.ubi_scan.specs.Detected.{IsWhole}
+use Rattle.ubi_scan.specs.DetectLaws.{OneDetection, OneFound, OneImage, TwoHeaders}
 use Rattle.ubi_scan.specs.Groups.{IsGroup, IsImage, no_key, spoken}
 use Rattle.ubi_scan.specs.Heads.{first_place, heads_of, keys_of, last_place, places}
-use Rattle.ubi_scan.specs.Place.{end_of_last, has_no_page, told}
-use Rattle.ubi_scan.specs.Sure.{is_sure}
-use Rattle.ubi_scan.specs.declared.detect.Detected.{Detected}
-use Rattle.ubi_scan.specs.declared.detect.Undetected.{Undetected}
-use Rattle.ubi_scan.specs.declared.detect.Undetected.TheVariants as cause
+use Rattle.ubi_scan.specs.Place.{told}
 use Rattle.ubi_scan.specs.declared.groups.Group.{Group}
 use Rattle.ubi_scan.specs.declared.heads.Head.{Head}
 use Rattle.ubi_media.proofs.Cases.{below_same_or_above}
 use Rattle.ubi_scan.proofs.BestGroup.{same_count, same_size}
 use Rattle.ubi_scan.proofs.OnePlain.{one_plain, same_groups}
-use Rattle.ubi_scan.proofs.SaidGroups.{image_heads}
 
 module _ (heads : List Head) (i j : ℕ) (f g : Group) (one : IsImage heads i f) (two : IsImage heads j g) where
   same_index : i ≡ j
@@ -34,7 +28,7 @@ module _ (heads : List Head) (i j : ℕ) (f g : Group) (one : IsImage heads i f)
   same_key : f.key ≡ g.key
   same_key = one.says.key ∙ ap (λ k. slice_index_or (keys_of heads) k no_key) same_index ∙ sym two.says.key
 
-  same_group : f ≡ g
+  pub same_group : f ≡ g
   same_group =
       let a = one.says.group in
       let b = two.says.group in
@@ -45,7 +39,7 @@ module _ (heads : List Head) (i j : ℕ) (f g : Group) (one : IsImage heads i f)
 pub one_image : OneImage
 one_image heads i j f g one two = (same_index heads i j f g one two, same_group heads i j f g one two)
 
-same_whole : (bytes : List ℕ) (f g : Group) → IsWhole bytes f → IsWhole bytes g → f ≡ g
+pub same_whole : (bytes : List ℕ) (f g : Group) → IsWhole bytes f → IsWhole bytes g → f ≡ g
 same_whole bytes f g one two = same_group (heads_of bytes) one.index two.index f g one.image two.image
 
 pub one_found : OneFound
@@ -61,18 +55,3 @@ two_headers bytes g (inr one) = one.0.image.says.two
 pub one_detection : OneDetection
 one_detection bytes found other one two =
     one.are ∙ ap (told bytes) (one_found bytes one.group two.group one.is two.is) ∙ sym two.are
-
--- the place of a cause in the order in which they are tried
-abbrev rank : Undetected → ℕ
-rank cause.NoHeader = 1
-rank (cause.Length q rest) = 2
-rank cause.NoSize = 3
-rank (cause.OutOfBand q) = 4
-rank (cause.Page q o) = 5
-
-rank_last : (d : Undetected) → rank d ≤ 5
-rank_last cause.NoHeader = omega arith
-rank_last (cause.Length q rest) = omega arith
-rank_last cause.NoSize = omega arith
-rank_last (cause.OutOfBand q) = omega arith
-rank_last (cause.Page q o) = omega arith
