@@ -1,45 +1,65 @@
 -- What is printed of the geometries that a dump's own headers give.
-use Rattle.std.specs.Prelude.{◌≢◌, ℕ, List, [], ◌++◌, codes, decimal, length}
+use Rattle.std.specs.Prelude.{◌≢◌, ℕ, ◌+◌, ◌==◌, ◌&&◌, Bool, List, [], ◌++◌, codes, decimal, if◌then◌else◌, is_none, length}
 use Rattle.std.specs.List.{flat_map}
 use Rattle.ubi_media.specs.Geometry.{Sizes}
-use Rattle.ubi_scan.specs.Detected.{AreGeometries, AreGeometriesOf, IsDetectError, IsUndetected}
+use Rattle.ubi_scan.specs.Detected.{AreDetected, AreDetectedOf, IsDetectError, IsUndetected}
 use Rattle.ubi_scan.specs.Source.{Agreed, Source, WhereHeld}
-use Rattle.ubi_scan.specs.Starts.{starts_of}
 use Rattle.ubi_scan.specs.declared.detect.DetectError.TheVariants as error
+use Rattle.ubi_scan.specs.declared.detect.Detected.{Detected}
 use Rattle.ubi_scan.specs.declared.detect.Undetected.{Undetected}
 use Rattle.ubi_commands.specs.Answer.{Gives, says}
 use Rattle.ubi_commands.specs.Lines.{undetected_line}
 use Rattle.ubi_commands.specs.declared.outcome.Outcome.{Outcome}
+use Rattle.ubi_commands.specs.declared.view.FilePart.{FilePart}
 
--- the options by which the other commands are given a geometry
-unfoldable pub options : Sizes → List ℕ
-options s =
+-- the options by which the other commands are given the sizes of a device
+unfoldable pub sizes_options : Sizes → List ℕ
+sizes_options s =
     codes "--peb " ++ decimal s.peb_size ++ codes " --page " ++ decimal s.page ++ codes " --vid " ++ decimal s.vid_offset
     ++ codes " --data " ++ decimal s.data_offset
 
--- the line of a geometry
-abbrev pub options_line : Sizes → List ℕ
-options_line s = options s ++ codes "\n"
+-- that by which they are given how many out-of-band bytes lie behind each page, where some do
+abbrev pub oob_option : ℕ → List ℕ
+oob_option oob = if oob == 0 then [] else codes " --oob " ++ decimal oob
 
--- the lines of geometries, in their order
-abbrev pub options_lines : List Sizes → List ℕ
-options_lines found = flat_map options_line found
+-- whether what is told of a part of n bytes is told of the whole file: not where the words say how long the part is, as the file may
+-- be longer
+abbrev pub is_whole_file : FilePart → ℕ → Detected → Bool
+is_whole_file part n told = is_none part.length && (part.start == 0) && (told.start == 0) && (told.length == n)
 
--- what the command answers of the bytes of a file: the lines of its geometries, or that of the cause for which none is told
-pub data Detects (bytes : List ℕ) : Outcome → Type 0 where
-  detected : {o : Outcome} (found : List Sizes) → AreGeometries (starts_of bytes) (length bytes) found
-      → Gives o (says (options_lines found) 0) → Detects bytes o
-  undetected : {o : Outcome} (c : Undetected) → IsUndetected (starts_of bytes) (length bytes) c
-      → Gives o (says (undetected_line c) 1) → Detects bytes o
+-- those by which they are given which part of the file the image is, where it isn't the whole file: it begins so many bytes behind the
+-- start of the part in which it was found
+abbrev pub part_options : FilePart → ℕ → Detected → List ℕ
+part_options part n told =
+    if is_whole_file part n told then [] else codes " --start " ++ decimal (part.start + told.start) ++ codes " --length " ++ decimal told.length
 
--- what it answers of any source: the lines of some geometries, which are those of whatever it may hold; or the line of a
--- cause, which stands in whatever it may hold
-pub data DetectsFrom (k : Source) (agrees : Agreed) : Outcome → Type 0 where
-  detected_from : {o : Outcome} (found : List Sizes) → AreGeometriesOf k agrees found → found ≢ []
-      → Gives o (says (options_lines found) 0) → DetectsFrom k agrees o
+-- the options by which they are given what is told of a part of n bytes
+unfoldable pub options : FilePart → ℕ → Detected → List ℕ
+options part n told = sizes_options told.geometry ++ oob_option told.oob ++ part_options part n told
+
+-- the line of it
+abbrev pub options_line : FilePart → ℕ → Detected → List ℕ
+options_line part n told = options part n told ++ codes "\n"
+
+-- the lines of all that is told, in their order
+abbrev pub options_lines : FilePart → ℕ → List Detected → List ℕ
+options_lines part n found = flat_map (options_line part n) found
+
+-- what the command answers of the bytes of a part of a file: the lines of what is told of them, or that of the cause for which
+-- nothing is
+pub data Detects (part : FilePart) (bytes : List ℕ) : Outcome → Type 0 where
+  detected : {o : Outcome} (found : List Detected) → AreDetected bytes found → Gives o (says (options_lines part (length bytes) found) 0)
+      → Detects part bytes o
+  undetected : {o : Outcome} (c : Undetected) → IsUndetected bytes c → Gives o (says (undetected_line c) 1) → Detects part bytes o
+
+-- what it answers of any source: some lines, which are those of what is told of whatever it may hold; or the line of a cause, which
+-- stands in whatever it may hold
+pub data DetectsFrom (part : FilePart) (k : Source) (agrees : Agreed) : Outcome → Type 0 where
+  detected_from : {o : Outcome} (found : List Detected) → AreDetectedOf agrees found → found ≢ []
+      → Gives o (says (options_lines part k.size found) 0) → DetectsFrom part k agrees o
   undetected_from : {o : Outcome} (c : Undetected) → IsDetectError k agrees (error.Undetected c)
-      → Gives o (says (undetected_line c) 1) → DetectsFrom k agrees o
+      → Gives o (says (undetected_line c) 1) → DetectsFrom part k agrees o
 
 -- what it answers of a source: whatever that may hold, it is what it answers of those bytes
-abbrev pub DetectsOf : Source → Agreed → Outcome → Type 0
-DetectsOf k agrees o = DetectsFrom k agrees o × WhereHeld agrees (λ bytes. Detects bytes o)
+abbrev pub DetectsOf : FilePart → Source → Agreed → Outcome → Type 0
+DetectsOf part k agrees o = DetectsFrom part k agrees o × WhereHeld agrees (λ bytes. Detects part bytes o)

@@ -139,7 +139,7 @@ avoided dump plan = record { marks = marks_of dump; blank = plan.keeps_blank }
 -- what a request can be answered: what its command answers, for its own numbers, paths and volume, of the files that are
 -- named, as they are seen, and with what becomes of the files that are written
 abbrev pub IsAnswerTo : Files → Files → Request → Outcome → Type 0
-IsAnswerTo d e (request.Geometry part path) = OfFile d (greatest_dump part) path.now (λ _. DetectsOf)
+IsAnswerTo d e (request.Geometry part path) = OfFile d (greatest_dump part) path.now (λ _. DetectsOf part)
 IsAnswerTo d e (request.List dump path) = OfFile d dump path.now ListsOf
 IsAnswerTo d e (request.Check dump path) = OfFile d dump path.now ChecksOf
 IsAnswerTo d e (request.Show dump path p) = OfFile d dump path.now (ShowsOf p)

@@ -7,6 +7,10 @@ use Rattle.ubi_commands.specs.declared.view.FilePart.{FilePart}
 use Rattle.ubi_commands.specs.declared.view.Misfit.{Misfit}
 use Rattle.ubi_commands.specs.declared.view.Misfit.TheVariants as why
 
+-- the part of a file that it is itself
+abbrev pub whole_file : FilePart
+whole_file = record { start = 0; length = None }
+
 -- the part of a file: its bytes from the start on, so many of them, or all where it isn't told how many
 abbrev pub part_of : FilePart → List ℕ → List ℕ
 part_of part bytes = option_map_or (λ n. take n (drop part.start bytes)) part.length (drop part.start bytes)

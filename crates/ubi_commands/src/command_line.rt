@@ -66,7 +66,7 @@ fn geometry_command<'a>(alloc: Global) -> Result<Command<'a>, AllocError>
     ensures { IfOk result (λ c. app_of c ≡ alone tool.geometry) }
 {
     let about =
-        "Prints the geometry that the headers of a dump give, as options of the other commands";
+        "Prints the geometry that the headers of a dump give and where the image lies, as options of the other commands";
     with_image(alloc, Command::new(alloc, "geometry").about(about))
 }
 

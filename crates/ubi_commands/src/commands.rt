@@ -84,7 +84,8 @@ fn run_request<D: Disk + Eprint>(
 {
     match request {
         Request::Geometry { part, image } => {
-            read_file(disk, alloc, &Dump::greatest(part), image, &Detecting)
+            let command = Detecting { part };
+            read_file(disk, alloc, &Dump::greatest(part), image, &command)
         }
         Request::List { dump, image } => read_file(disk, alloc, &dump, image, &Listing),
         Request::Check { dump, image } => read_file(disk, alloc, &dump, image, &Checking),

@@ -1,19 +1,22 @@
-//! The command `geometry`: the geometries that a dump's own headers give.
+//! The command `geometry`: the geometries that a dump's own headers give, and which part of the file the image is.
 
-ghost use Rattle.std.specs.Prelude.{◌≡◌, ◌++◌, IfErr, IfOk, OnOk};
+ghost use Rattle.std.specs.Prelude.{◌≡◌, ◌+◌, ◌++◌, IfErr, IfOk, OnOk, codes, decimal};
 ghost use Rattle.ubi_scan.specs.Source.{Narrows, WhereHeld};
 ghost use Rattle.ubi_commands.specs.AfterRun.{IsNoWrite, after_run};
-ghost use Rattle.ubi_commands.specs.Geometry.{Detects, DetectsFrom, options, options_line, options_lines};
+ghost use Rattle.ubi_commands.specs.Geometry.{Detects, DetectsFrom, is_whole_file, oob_option, options, options_line, options_lines, part_options, sizes_options};
+ghost use Rattle.ubi_commands.specs.Views.{whole_file};
 
 use crate::lines::{put_number, put_word, undetected_line};
 use crate::outcome::{DONE, FAILED, Outcome, ToolError, in_memory};
+use crate::view::{FilePart, WHOLE_FILE};
+use itoa::Buffer;
 use std::alloc::{AllocError, Global};
 use ubi_media::Geometry;
-use ubi_scan::{BlockSource, DetectError, MemorySource, detect_from};
+use ubi_scan::{BlockSource, DetectError, Detected, MemorySource, detect_from};
 
-/// Adds the options by which the other commands are given a geometry.
-fn put_options(text: &mut Vec<u8>, geometry: &Geometry) -> Result<(), AllocError>
-    ensures { OnOk result (text.new.items ≡ text.old.items ++ options geometry.now) }
+/// Adds the options by which the other commands are given the sizes of a device.
+fn put_sizes(text: &mut Vec<u8>, geometry: &Geometry) -> Result<(), AllocError>
+    ensures { OnOk result (text.new.items ≡ text.old.items ++ sizes_options geometry.now) }
 {
     put_number(text, "--peb ", u64::from(geometry.peb_size()))?;
     put_number(text, " --page ", u64::from(geometry.page()))?;
@@ -21,27 +24,89 @@ fn put_options(text: &mut Vec<u8>, geometry: &Geometry) -> Result<(), AllocError
     put_number(text, " --data ", u64::from(geometry.data_offset()))
 }
 
-/// Adds the line of a geometry.
-fn put_options_line(text: &mut Vec<u8>, geometry: &Geometry) -> Result<(), AllocError>
-    ensures { OnOk result (text.new.items ≡ text.old.items ++ options_line geometry.now) }
+/// Adds the option by which they are given how many out-of-band bytes lie behind each page, where some do.
+fn put_oob(text: &mut Vec<u8>, oob: u32) -> Result<(), AllocError>
+    ensures { OnOk result (text.new.items ≡ text.old.items ++ oob_option oob) }
 {
-    put_options(text, geometry)?;
+    if oob == 0 {
+        return Ok(());
+    }
+    put_number(text, " --oob ", u64::from(oob))
+}
+
+/// Whether what is told of a part of `len` bytes is told of the whole file. Where the words say how long the part is, the file may be
+/// longer.
+fn is_whole_file(part: FilePart, len: u64, told: &Detected) -> bool
+    ensures { result ≡ is_whole_file part len told.now }
+{
+    part.length.is_none() && part.start == 0 && told.start == 0 && told.length == len
+}
+
+/// Adds the option of the place that lies so many bytes behind a start.
+fn put_start(text: &mut Vec<u8>, start: u64, behind: u64) -> Result<(), AllocError>
+    ensures { OnOk result (text.new.items ≡ text.old.items ++ (codes " --start " ++ decimal (start + behind))) }
+{
+    let mut buffer = Buffer::new();
+    put_word(text, " --start ")?;
+    put_word(text, buffer.format(u128::from(start) + u128::from(behind)))
+}
+
+/// Adds the options by which they are given which part of the file the image is, where it isn't the whole file.
+fn put_part(text: &mut Vec<u8>, part: FilePart, len: u64, told: &Detected) -> Result<(), AllocError>
+    ensures { OnOk result (text.new.items ≡ text.old.items ++ part_options part len told.now) }
+{
+    if is_whole_file(part, len, told) {
+        return Ok(());
+    }
+    put_start(text, part.start, told.start)?;
+    put_number(text, " --length ", told.length)
+}
+
+/// Adds the options by which they are given what is told of a part of `len` bytes.
+fn put_options(
+    text: &mut Vec<u8>,
+    part: FilePart,
+    len: u64,
+    told: &Detected,
+) -> Result<(), AllocError>
+    ensures { OnOk result (text.new.items ≡ text.old.items ++ options part len told.now) }
+{
+    put_sizes(text, &told.geometry)?;
+    put_oob(text, told.oob)?;
+    put_part(text, part, len, told)
+}
+
+/// Adds the line of what is told of a part of `len` bytes.
+fn put_options_line(
+    text: &mut Vec<u8>,
+    part: FilePart,
+    len: u64,
+    told: &Detected,
+) -> Result<(), AllocError>
+    ensures { OnOk result (text.new.items ≡ text.old.items ++ options_line part len told.now) }
+{
+    put_options(text, part, len, told)?;
     put_word(text, "\n")
 }
 
-/// The lines of geometries, in their order.
-fn options_lines(alloc: Global, found: &[Geometry]) -> Result<Vec<u8>, AllocError>
-    ensures { IfOk result (λ text. text.items ≡ options_lines found.now) }
+/// The lines of all that is told of a part of `len` bytes, in their order.
+fn options_lines(
+    alloc: Global,
+    part: FilePart,
+    len: u64,
+    found: &[Detected],
+) -> Result<Vec<u8>, AllocError>
+    ensures { IfOk result (λ text. text.items ≡ options_lines part len found.now) }
 {
     let mut text = Vec::new(alloc);
-    for geometry in found {
-        put_options_line(&mut text, geometry)?;
+    for told in found {
+        put_options_line(&mut text, part, len, told)?;
     }
     Ok(text)
 }
 
-/// Tells the geometries that the headers of a source give, each as the options of the other commands, or answers the line of
-/// the cause for which none is told.
+/// Tells the geometries that the headers of a part of a file give, and which part of the file the image is, each as the options of the
+/// other commands; or answers the line of the cause for which none is told. The source is over that part.
 ///
 /// # Errors
 ///
@@ -49,16 +114,18 @@ fn options_lines(alloc: Global, found: &[Geometry]) -> Result<Vec<u8>, AllocErro
 pub fn run_geometry_from<S: BlockSource>(
     alloc: Global,
     source: &mut S,
+    part: FilePart,
 ) -> Result<Outcome, ToolError>
     ensures known { S.known source.new ≡ after_run (S.known source.old) result }
     ensures narrows { Narrows (S.agrees source.old) (S.agrees source.new) }
-    ensures detected { IfOk result (DetectsFrom (S.known source.old) (S.agrees source.new)) }
-    ensures detects { IfOk result (λ o. WhereHeld (S.agrees source.new) (λ bytes. Detects bytes o)) }
+    ensures detected { IfOk result (DetectsFrom part (S.known source.old) (S.agrees source.new)) }
+    ensures detects { IfOk result (λ o. WhereHeld (S.agrees source.new) (λ bytes. Detects part bytes o)) }
     ensures failed { IfErr result IsNoWrite }
 {
+    let len = source.len();
     match detect_from(alloc, source) {
         Ok(found) => {
-            let text = options_lines(alloc, found.as_slice())?;
+            let text = options_lines(alloc, part, len, found.as_slice())?;
             Ok(Outcome::saying(text, DONE))
         }
         Err(DetectError::Undetected(cause)) => {
@@ -75,7 +142,7 @@ pub fn run_geometry_from<S: BlockSource>(
 ///
 /// Memory ran out.
 pub fn run_geometry(alloc: Global, bytes: &[u8]) -> Result<Outcome, AllocError>
-    ensures { IfOk result (Detects bytes.now) }
+    ensures { IfOk result (Detects whole_file bytes.now) }
 {
-    in_memory(run_geometry_from(alloc, &mut MemorySource::new(bytes)))
+    in_memory(run_geometry_from(alloc, &mut MemorySource::new(bytes), WHOLE_FILE))
 }

@@ -147,6 +147,7 @@ pub use unpack::run_unpack_from;
 pub use unpack::unpack_file;
 pub use view::FilePart;
 pub use view::Misfit;
+pub use view::WHOLE_FILE;
 pub use volume_key::VolumeKey;
 pub use writers::Changing;
 pub use writers::Extracting;

@@ -19,6 +19,7 @@ use crate::outcome::{Outcome, SidesError, ToolError};
 use crate::requests::Dump;
 use crate::same::run_same_from;
 use crate::show::run_show_from;
+use crate::view::FilePart;
 use std::alloc::{AllocError, Global};
 use ubi_media::Geometry;
 use ubi_scan::{BlockSource, MemorySource};
@@ -45,14 +46,17 @@ pub trait Reading {
         ensures failed { IfErr result IsNoWrite };
 }
 
-/// `geometry`: the geometries that the headers give, whatever the words give.
+/// `geometry`: the geometries that the headers give, and which part of the file the image is, whatever geometry the words give.
 #[derive(Clone, Copy)]
-pub struct Detecting;
+pub struct Detecting {
+    /// The part of the file in which the headers are looked for.
+    pub part: FilePart,
+}
 
 impl Reading for Detecting {
     ghost use Rattle.ubi_commands.specs.Geometry.{DetectsOf};
 
-    ghost answers = { λ _ _. DetectsOf };
+    ghost answers = { λ detecting _. DetectsOf detecting.part };
 
     fn answer<S: BlockSource>(
         &self,
@@ -60,7 +64,7 @@ impl Reading for Detecting {
         _geometry: &Geometry,
         source: &mut S,
     ) -> Result<Outcome, ToolError> {
-        run_geometry_from(alloc, source)
+        run_geometry_from(alloc, source, self.part)
     }
 }
 

@@ -14,6 +14,12 @@ pub struct FilePart {
     pub length: Option<u64>,
 }
 
+/// The part of a file that it is itself.
+pub const WHOLE_FILE: FilePart = FilePart {
+    start: 0,
+    length: None,
+};
+
 /// Why a file can't be seen as the words tell.
 #[derive(Clone, Copy)]
 pub enum Misfit {

@@ -44,7 +44,7 @@ static NO_COMMAND: [(&str, &str); 25] = [
     ("--help", "ubi_tool list dump.img --peb 131072 --page 2048"),
     (
         "--help",
-        "  geometry   Prints the geometry that the headers of a dump give, as options of the other commands\n",
+        "  geometry   Prints the geometry that the headers of a dump give and where the image lies, as options of the other commands\n",
     ),
     ("help", "Usage: ubi_tool"),
     ("--version", "ubi_tool 0.1.0\n"),
