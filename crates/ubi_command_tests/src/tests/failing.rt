@@ -69,7 +69,7 @@ const RENAMED: (&str, u8) = (LINES, 0);
 /// Commands that write nothing. A file is read at places, or whole where it can't be; one that was cut short since it
 /// was opened fails where its bytes are missing.
 static READERS: [Failing; 7] = [
-    // The last header that is read ends at byte 2112.
+    // The last place that is looked at is that where the half of the last eraseblock would begin, to byte 2368.
     Failing {
         image: Contents::Root,
         line: "geometry a.img",
@@ -79,8 +79,8 @@ static READERS: [Failing; 7] = [
             (Broken::Places, (SMALL, 0), 0),
             (Broken::OpenRead, UNREAD, 0),
             (Broken::Read(ErrorKind::Other, 0), UNREAD, 0),
-            (Broken::Read(ErrorKind::Other, 2111), UNREAD, 0),
-            (Broken::Read(ErrorKind::Other, 2112), (SMALL, 0), 0),
+            (Broken::Read(ErrorKind::Other, 2367), UNREAD, 0),
+            (Broken::Read(ErrorKind::Other, 2368), (SMALL, 0), 0),
             (Broken::Read(ErrorKind::Interrupted, 1100), UNREAD, 0),
             (Broken::Cut, UNREAD, 0),
         ],

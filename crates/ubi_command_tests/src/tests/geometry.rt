@@ -3,22 +3,68 @@
 use super::answers::{assert_both, is_answer, run_over};
 use super::contents::{Contents, EMPTY};
 use super::fake::Broken;
-use super::pebs::{A, ERASED, FIRST, SECOND};
+use super::pebs::{A, ERASED, Ec, FIRST, Peb, SECOND};
+use super::views::Lay;
 use std::str;
 use std::test::Fail;
 use ubi_commands::run_geometry;
-use ubi_probe::header_bytes::{EC, NO_PAGE_EC, SHARED_EC};
+use ubi_probe::chips::PAGES;
+use ubi_probe::header_bytes::{EC, LEB_0, LEB_1, LEB_2, NO_PAGE_EC, OTHER_EC, SHARED_EC};
 
 /// What is told of images of small eraseblocks: pages of 64 and of 128 bytes fit.
 pub const SMALL: &str =
     "--peb 512 --page 64 --vid 64 --data 128\n--peb 512 --page 128 --vid 64 --data 128\n";
 
-/// Two eraseblocks of 1,024 bytes, of which each has both headers in one page.
+/// What is told of files of small eraseblocks that begin with an image of two.
+const FIRST_1024: &str = "--peb 512 --page 64 --vid 64 --data 128 --start 0 --length 1024\n\
+    --peb 512 --page 128 --vid 64 --data 128 --start 0 --length 1024\n";
+
+/// An eraseblock with no header of which anything can be read.
+const CORRUPT: Peb = Peb {
+    ec: Ec::Corrupt,
+    ..A
+};
+
+/// Three eraseblocks of 1,024 bytes, of which each has both headers in one page, and something where its half would begin.
 const SHARED: Contents = Contents::Runs(&[
     (&SHARED_EC, 1),
-    (b"\xFF", 960),
+    (&LEB_0, 1),
+    (b"A", 832),
+    (b"\xFF", 64),
     (&SHARED_EC, 1),
-    (b"\xFF", 960),
+    (&LEB_1, 1),
+    (b"A", 832),
+    (b"\xFF", 64),
+    (&SHARED_EC, 1),
+    (&LEB_2, 1),
+    (b"A", 832),
+    (b"\xFF", 64),
+]);
+
+/// The same without volume-identifier headers.
+const UNVOTED: Contents = Contents::Runs(&[
+    (&SHARED_EC, 1),
+    (b"A", 896),
+    (b"\xFF", 64),
+    (&SHARED_EC, 1),
+    (b"A", 896),
+    (b"\xFF", 64),
+    (&SHARED_EC, 1),
+    (b"A", 896),
+    (b"\xFF", 64),
+]);
+
+/// Three eraseblocks of 512 bytes whose data begin where no page has them begin.
+const NO_PAGE: Contents = Contents::Runs(&[
+    (&NO_PAGE_EC, 1),
+    (b"A", 384),
+    (b"\xFF", 64),
+    (&NO_PAGE_EC, 1),
+    (b"A", 384),
+    (b"\xFF", 64),
+    (&NO_PAGE_EC, 1),
+    (b"A", 384),
+    (b"\xFF", 64),
 ]);
 
 /// Three eraseblocks of 1,024 bytes.
@@ -32,20 +78,41 @@ const THREE_OF_1024: &[(&[u8], usize)] = &[
 ];
 
 /// Files, and what is told of them.
-static TOLD: [(Contents, (&str, u8)); 14] = [
+static TOLD: [(Contents, (&str, u8)); 17] = [
     (Contents::Root, (SMALL, 0)),
     (SHARED, ("--peb 1024 --page 256 --vid 64 --data 256\n", 0)),
+    // A blank eraseblock before the first header belongs to the image, and one behind the last.
     (Contents::Pebs(&[ERASED, FIRST, SECOND, A], &[]), (SMALL, 0)),
-    // No header at a multiple of 512.
+    (Contents::Pebs(&[FIRST, SECOND, A, ERASED], &[]), (SMALL, 0)),
+    // One of another image doesn't, nor one of other offsets.
+    (
+        Contents::Pebs(&[FIRST, SECOND, A], &[(1024, &OTHER_EC)]),
+        (FIRST_1024, 0),
+    ),
+    (
+        Contents::Pebs(&[FIRST, SECOND, A], &[(1024, &NO_PAGE_EC)]),
+        (FIRST_1024, 0),
+    ),
+    // No header at a multiple of 64.
     (EMPTY, ("refused F1 NoHeader\n", 1)),
     (Contents::Blank, ("refused F1 NoHeader\n", 1)),
     (
-        Contents::Runs(&[(b"\0", 256), (&EC, 1), (b"\0", 704)]),
+        Contents::Runs(&[(b"\0", 32), (&EC, 1), (b"\0", 928)]),
         ("refused F1 NoHeader\n", 1),
     ),
-    // One, and more of anything else.
+    // One alone.
     (
-        Contents::Runs(&[(b"\0", 1536), (&EC, 1), (b"\0", 2496)]),
+        Contents::Runs(&[(b"\0", 64), (&EC, 1), (b"\0", 896)]),
+        ("refused F2 NoSize\n", 1),
+    ),
+    // Two without a volume table.
+    (
+        Contents::Runs(&[(&EC, 1), (b"\xFF", 448), (&EC, 1), (b"\xFF", 448)]),
+        ("refused F2 NoSize\n", 1),
+    ),
+    // Three that are no more than half of the eraseblocks.
+    (
+        Contents::Pebs(&[FIRST, SECOND, CORRUPT, CORRUPT, CORRUPT, A], &[]),
         ("refused F2 NoSize\n", 1),
     ),
     // Cut off in the third eraseblock of 1,024 bytes, by pages and by bytes.
@@ -57,37 +124,13 @@ static TOLD: [(Contents, (&str, u8)); 14] = [
         Contents::First(THREE_OF_1024, 2119),
         ("refused F3 Length peb=1024 rest=71\n", 1),
     ),
-    // The third one names other offsets.
+    // The chip's, cut off in its last eraseblock.
     (
-        Contents::Runs(&[
-            (&EC, 1),
-            (b"\xFF", 448),
-            (&EC, 1),
-            (b"\xFF", 448),
-            (&NO_PAGE_EC, 1),
-            (b"\xFF", 448),
-        ]),
-        ("refused F4 Offsets block=2 earlier=0\n", 1),
+        Contents::Chip(PAGES, 400_000),
+        ("refused F3 Length peb=131072 rest=6784\n", 1),
     ),
-    // Eraseblocks of 8 KiB with an out-of-band byte for each 16, and of 16 KiB with one for each 32.
-    (
-        Contents::Runs(&[(&EC, 1), (b"\0", 8640), (&EC, 1), (b"\0", 8640)]),
-        ("refused F5 OutOfBand peb=8192 share=16\n", 1),
-    ),
-    (
-        Contents::Runs(&[(&EC, 1), (b"\0", 16_832), (&EC, 1), (b"\0", 16_832)]),
-        ("refused F5 OutOfBand peb=16384 share=32\n", 1),
-    ),
-    (
-        Contents::Runs(&[(&NO_PAGE_EC, 1), (b"\xFF", 448)]),
-        ("refused F6 Page peb=512 vid=64 data=192\n", 1),
-    ),
-    // Eraseblocks of 576 bytes: the header of the second one stands at no multiple of 512, so that the first one seems longer than
-    // the file.
-    (
-        Contents::Runs(&[(&EC, 1), (b"\0", 512), (&EC, 1), (b"\0", 512)]),
-        ("refused F3 Length peb=1536 rest=1152\n", 1),
-    ),
+    (UNVOTED, ("refused F5 OutOfBand peb=1024\n", 1)),
+    (NO_PAGE, ("refused F6 Page peb=512 vid=64 data=192\n", 1)),
 ];
 
 #[test]
@@ -101,6 +144,212 @@ fn tells_geometries_or_why_there_are_none(rt: HostRuntime) -> Result<(), Fail> {
         assert_both(&rt, alloc, files, "geometry a.img", *answer, &[])?;
     }
     Ok(())
+}
+
+/// Where an image lies in a file, and the words of a part of that, if any; and what is told of it.
+struct Laid {
+    lay: Lay,
+    part: &'static str,
+    told: &'static str,
+}
+
+/// Files with the image of small eraseblocks, of 2,560 bytes.
+static SMALL_LAID: [Laid; 12] = [
+    // The file is the image.
+    Laid {
+        lay: ALONE,
+        part: "",
+        told: "",
+    },
+    Laid {
+        lay: ALONE,
+        part: "--start 0",
+        told: "",
+    },
+    // The words say how long the part is.
+    Laid {
+        lay: ALONE,
+        part: "--length 2560",
+        told: " --start 0 --length 2560",
+    },
+    // A boot loader in front, junk behind, and both.
+    Laid {
+        lay: BEHIND_1024,
+        part: "",
+        told: " --start 1024 --length 2560",
+    },
+    Laid {
+        lay: BEFORE_300,
+        part: "",
+        told: " --start 0 --length 2560",
+    },
+    Laid {
+        lay: BETWEEN,
+        part: "",
+        told: " --start 64 --length 2560",
+    },
+    // Of a part, from where it begins on.
+    Laid {
+        lay: BEHIND_1024,
+        part: "--start 1024",
+        told: " --start 1024 --length 2560",
+    },
+    Laid {
+        lay: BEHIND_1024,
+        part: "--start 512",
+        told: " --start 1024 --length 2560",
+    },
+    Laid {
+        lay: BEHIND_1024,
+        part: "--start 960 --length 2624",
+        told: " --start 1024 --length 2560",
+    },
+    Laid {
+        lay: BEFORE_300,
+        part: "--length 2560",
+        told: " --start 0 --length 2560",
+    },
+    Laid {
+        lay: BETWEEN,
+        part: "--start 64 --length 2560",
+        told: " --start 64 --length 2560",
+    },
+    // No place of a header is a multiple of 64 in the file, and each is one in the part.
+    Laid {
+        lay: BEHIND_1,
+        part: "--start 1",
+        told: " --start 1 --length 2560",
+    },
+];
+
+const ALONE: Lay = Lay {
+    before: 0,
+    oob: 0,
+    behind: 0,
+};
+
+const BEHIND_1: Lay = Lay { before: 1, ..ALONE };
+
+const BEHIND_1024: Lay = Lay {
+    before: 1024,
+    ..ALONE
+};
+
+const BEFORE_300: Lay = Lay {
+    behind: 300,
+    ..ALONE
+};
+
+const BETWEEN: Lay = Lay {
+    before: 64,
+    oob: 0,
+    behind: 1,
+};
+
+#[test]
+fn tells_where_an_image_lies(rt: HostRuntime) -> Result<(), Fail> {
+    let alloc = rt.alloc();
+    let image = Contents::Root.bytes(alloc)?;
+    for Laid { lay, part, told } in &SMALL_LAID {
+        let file = lay.file(alloc, image.as_slice(), 64)?;
+        let files: (&[u8], &[u8]) = (file.as_slice(), &[]);
+        let line = format!(in alloc; "geometry a.img {part}")?;
+        let lines = format!(in alloc;
+            "--peb 512 --page 64 --vid 64 --data 128{told}\n--peb 512 --page 128 --vid 64 --data 128{told}\n"
+        )?;
+        assert_both(&rt, alloc, files, line.as_str(), (lines.as_str(), 0), &[])?;
+    }
+    Ok(())
+}
+
+/// Files with the image of a chip, of 64 pages of 2 KiB an eraseblock, each with 64 out-of-band bytes behind it.
+static CHIP_LAID: [(Lay, &str); 4] = [
+    (
+        Lay {
+            before: 0,
+            oob: 64,
+            behind: 0,
+        },
+        "--peb 131072 --page 2048 --vid 2048 --data 4096 --oob 64\n",
+    ),
+    (
+        Lay {
+            before: 65_536,
+            oob: 64,
+            behind: 0,
+        },
+        "--peb 131072 --page 2048 --vid 2048 --data 4096 --oob 64 --start 65536 --length 540672\n",
+    ),
+    (
+        Lay {
+            before: 0,
+            oob: 64,
+            behind: 4096,
+        },
+        "--peb 131072 --page 2048 --vid 2048 --data 4096 --oob 64 --start 0 --length 540672\n",
+    ),
+    (
+        Lay {
+            before: 64,
+            oob: 64,
+            behind: 1,
+        },
+        "--peb 131072 --page 2048 --vid 2048 --data 4096 --oob 64 --start 64 --length 540672\n",
+    ),
+];
+
+#[test]
+fn tells_out_of_band_bytes(rt: HostRuntime) -> Result<(), Fail> {
+    let alloc = rt.alloc();
+    let image = Contents::Chip(PAGES, 524_288).bytes(alloc)?;
+    for (lay, told) in &CHIP_LAID {
+        let file = lay.file(alloc, image.as_slice(), 2048)?;
+        let files: (&[u8], &[u8]) = (file.as_slice(), &[]);
+        assert_both(&rt, alloc, files, "geometry a.img", (told, 0), &[])?;
+    }
+    Ok(())
+}
+
+/// A dump with out-of-band bytes that was cut off: its number counts those.
+#[test]
+fn refuses_what_was_cut_off(rt: HostRuntime) -> Result<(), Fail> {
+    let alloc = rt.alloc();
+    let image = Contents::Chip(PAGES, 524_288).bytes(alloc)?;
+    let lay = Lay {
+        before: 65_536,
+        oob: 64,
+        behind: 0,
+    };
+    let mut file = lay.file(alloc, image.as_slice(), 2048)?;
+    // Its last eraseblock begins 405,504 bytes behind the boot loader.
+    file.truncate(65_536 + 405_504 + 135_167);
+    let files: (&[u8], &[u8]) = (file.as_slice(), &[]);
+    let told = ("refused F3 Length peb=135168 rest=135167\n", 1);
+    assert_both(&rt, alloc, files, "geometry a.img", told, &[])
+}
+
+/// What is told of a file in which an image lies, given to `list`, shows that image.
+#[test]
+fn lists_what_is_told(rt: HostRuntime) -> Result<(), Fail> {
+    let alloc = rt.alloc();
+    let image = Contents::Chip(PAGES, 524_288).bytes(alloc)?;
+    let lay = Lay {
+        before: 65_536,
+        oob: 64,
+        behind: 4096,
+    };
+    let file = lay.file(alloc, image.as_slice(), 2048)?;
+    let files: (&[u8], &[u8]) = (file.as_slice(), &[]);
+    let (told, _) = run_over(alloc, files, Broken::Nothing, "geometry a.img")?;
+    let line = format!(in alloc;
+        "list a.img {}",
+        str::from_utf8(told.text.as_slice())?.trim_end()
+    )?;
+    let listed =
+        "geometry peb=131072 page=2048 vid=2048 data=4096 leb=126976 slots=128 pebs=1048576\n\
+        volume 0 dynamic reserved=3 alignment=1 usable=126976 flags=00 lebs=1 name=root\n\
+        volumes 1\n";
+    assert_both(&rt, alloc, files, line.as_str(), (listed, 0), &[])
 }
 
 /// Images, and what `list` answers of each by the words of each line that is told of it.

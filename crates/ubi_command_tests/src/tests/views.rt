@@ -10,10 +10,10 @@ use ubi_probe::chips::PAGES;
 
 /// Where an image lies in a file: behind so many bytes, before so many, and with so many bytes behind each page.
 #[derive(Clone, Copy)]
-struct Lay {
-    before: usize,
-    oob: usize,
-    behind: usize,
+pub struct Lay {
+    pub before: usize,
+    pub oob: usize,
+    pub behind: usize,
 }
 
 /// Adds so many bytes that are neither 0xFF nor those of a header.
@@ -26,7 +26,7 @@ fn put_junk(bytes: &mut Vec<u8>, count: usize) -> Result<(), Fail> {
 
 impl Lay {
     /// The bytes of a file in which an image with pages of a size lies so.
-    fn file(&self, alloc: Global, image: &[u8], page: usize) -> Result<Vec<u8>, Fail> {
+    pub fn file(&self, alloc: Global, image: &[u8], page: usize) -> Result<Vec<u8>, Fail> {
         let mut bytes = Vec::new(alloc);
         put_junk(&mut bytes, self.before)?;
         for page in image.chunks(page.max(1)) {
@@ -151,17 +151,6 @@ fn sees_an_image_wherever_it_lies(rt: HostRuntime) -> Result<(), Fail> {
         for line in LINES {
             assert_viewed(&rt, alloc, image.as_slice(), line, lay)?;
         }
-    }
-    Ok(())
-}
-
-/// The part of a file of which `geometry` tells.
-#[test]
-fn tells_the_geometry_of_a_part(rt: HostRuntime) -> Result<(), Fail> {
-    let alloc = rt.alloc();
-    let image = Contents::Root.bytes(alloc)?;
-    for lay in LAYS.iter().filter(|lay| lay.oob == 0) {
-        assert_viewed(&rt, alloc, image.as_slice(), "geometry a.img", lay)?;
     }
     Ok(())
 }
