@@ -1,6 +1,5 @@
 -- Of each file something is told, or it is refused for a cause.
-use Rattle.std.proofs.Common.{◌≡◌, ◌≢◌, ℕ, ◌+◌, ◌-◌, ◌<◌, ◌≤◌, ◌⊎◌, Bool, true, false, List, [], ◌∷◌, length, inl, inr, refl, ap, sym, ◌∙◌, arith}
-use Rattle.std.specs.Prelude.{IsFalse, IsTrue}
+use Rattle.std.proofs.Common.{◌≡◌, ℕ, ◌-◌, ◌⊎◌, Bool, true, false, List, [], ◌∷◌, length, inl, inr, refl, ap, sym, ◌∙◌, arith}
 use Rattle.ubi_media.proofs.Cases.{within_or_past}
 use Rattle.ubi_scan.specs.Detected.{AreDetected, IsFound, IsUndetected, IsWhole, NonePlain}
 use Rattle.ubi_scan.specs.DetectLaws.{DetectedOrRefused}
@@ -14,7 +13,7 @@ use Rattle.ubi_scan.specs.declared.detect.Undetected.TheVariants as cause
 use Rattle.ubi_scan.specs.declared.groups.Group.{Group}
 use Rattle.ubi_scan.specs.declared.heads.Head.{Head}
 use Rattle.ubi_scan.proofs.PlainOrNot.{surely_or_not}
-use Rattle.ubi_scan.proofs.SaidGroups.{image_heads, not_sure}
+use Rattle.ubi_scan.proofs.SaidGroups.{not_sure}
 use Rattle.ubi_scan.proofs.SomeGroups.{image_or_none}
 
 module _ (bytes : List ℕ) where

@@ -1,9 +1,9 @@
 -- Each file is plainly an image, or it isn't.
-use Rattle.std.proofs.Common.{◌≡◌, ◌≢◌, ℕ, ◌+◌, ◌-◌, ◌*◌, ◌/◌, ◌%◌, ◌<◌, ◌≤◌, ◌⊎◌, Bool, true, false, List, length, zero, suc, inl, inr, refl, ap, sym, ◌∙◌, subst, arith}
-use Rattle.std.specs.Prelude.{IsFalse, IsTrue, None, Option, Some, min}
+use Rattle.std.proofs.Common.{◌≡◌, ℕ, ◌+◌, ◌-◌, ◌*◌, ◌/◌, ◌%◌, ◌≤◌, ◌⊎◌, Bool, true, false, List, length, zero, suc, inl, inr, refl, ap, sym, ◌∙◌, subst, arith}
+use Rattle.std.specs.Prelude.{IsFalse, None, Option, Some, min}
 use Rattle.std.proofs.Math.Nat.{le-div_iff_mul-le, mod-add-div'}
 use Rattle.std.proofs.lemmas.Bool.{true≢false}
-use Rattle.ubi_media.proofs.Cases.{below_or_last, below_same_or_above, within_or_past}
+use Rattle.ubi_media.proofs.Cases.{below_or_last, below_same_or_above}
 use Rattle.ubi_scan.specs.Groups.{greatest_size}
 use Rattle.ubi_scan.specs.Heads.{is_of, key_at, step}
 use Rattle.ubi_scan.specs.Detected.{NonePlain}
@@ -14,7 +14,7 @@ use Rattle.ubi_scan.specs.declared.heads.Key.{Key}
 use Rattle.ubi_scan.specs.inner.Joined.{AreJoined, IsFirstHead, IsJoined, IsPlainSize, NoHeads, NoneJoined, NoneOwns, NotPlain}
 use Rattle.ubi_scan.proofs.JoinedKeys.{is_owned, joined_first, joined_more, none_joined, none_there, owns, owns_itself}
 use Rattle.ubi_scan.proofs.OnePlain.{none_alone, none_plain, none_sure, none_surely}
-use Rattle.ubi_scan.proofs.PlainGroups.{has_first, long_enough, no_group, plain_group}
+use Rattle.ubi_scan.proofs.PlainGroups.{has_first, no_group, plain_group}
 use Rattle.ubi_scan.proofs.PlainSizes.{no_second, not_alone, not_whole, plain_size_is}
 
 -- a header stands in one of n units, or none does

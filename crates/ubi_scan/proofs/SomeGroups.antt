@@ -1,20 +1,20 @@
 -- Headers form groups, and say an image or none.
-use Rattle.std.proofs.Common.{◌≡◌, ℕ, ◌+◌, ◌-◌, ◌*◌, ◌/◌, ◌%◌, ◌<◌, ◌≤◌, ◌⊎◌, Bool, true, false, cond, List, [], ◌∷◌, ◌++◌, length, slice_range, zero, suc, inl, inr, refl, ap, sym, ◌∙◌, subst, arith}
+use Rattle.std.proofs.Common.{◌≡◌, ℕ, ◌+◌, ◌-◌, ◌*◌, ◌/◌, ◌%◌, ◌<◌, ◌≤◌, ◌⊎◌, Bool, true, false, List, [], ◌∷◌, ◌++◌, length, slice_range, zero, suc, inl, inr, refl, ap, sym, ◌∙◌, subst, arith}
 use Rattle.std.specs.Int.{IsGcd}
 use Rattle.std.specs.Option.{option_to_list}
-use Rattle.std.specs.Prelude.{◌&&◌, ◌==◌, IsFalse, IsTrue, MatchOption, None, Option, Some, option_map, slice_index_or}
+use Rattle.std.specs.Prelude.{◌&&◌, IsFalse, MatchOption, None, Option, Some, option_map, slice_index_or}
 use Rattle.std.proofs.Math.Nat.{mod-lt}
 use Rattle.std.proofs.lemmas.Bool.{and_parts, true≢false}
 use Rattle.std.proofs.lemmas.List.{append-nil, get_or_default}
 use Rattle.std.proofs.lemmas.List.Elements.{All-nil}
 use Rattle.std.proofs.lemmas.Nat.Gcd.{IsGcd-from_mod, IsGcd-from_zero, dvd-zero}
 use Rattle.ubi_media.proofs.Cases.{below_same_or_above}
-use Rattle.ubi_scan.specs.Groups.{Divides, IsGroup, IsImage}
+use Rattle.ubi_scan.specs.Groups.{IsGroup, IsImage}
 use Rattle.ubi_scan.specs.Heads.{heads_of, heads_to, is_of, key_in, step}
 use Rattle.ubi_scan.specs.declared.groups.Group.{Group}
 use Rattle.ubi_scan.specs.declared.heads.Head.{Head}
 use Rattle.ubi_scan.specs.declared.heads.Key.{Key}
-use Rattle.ubi_scan.specs.inner.Detecting.{AreAdded, AreGroups, AreReady, IsAdded, IsBestOf, NoneSays, beats, first_with, group_with, has_key, head_in, says_size, unnumbered}
+use Rattle.ubi_scan.specs.inner.Detecting.{AreAdded, AreGroups, AreReady, IsAdded, IsBestOf, NoneSays, beats, first_with, group_with, has_key, says_size, unnumbered}
 use Rattle.ubi_scan.proofs.AddedGroups.{groups_more, no_group, ready, ready_with}
 use Rattle.ubi_scan.proofs.BestGroup.{best_taken, image_of, stays_best}
 use Rattle.ubi_scan.proofs.NewGroups.{group_of_none, group_of_unnumbered}
@@ -34,24 +34,29 @@ gcd_by (suc n) a b few = elim (below_same_or_above b 0) [
 
 -- a header can be added to a group
 added_by : (h : Head) (g : Group) (b : Bool) → is_of g.key h.key ≡ b → (f : Group) × IsAdded h g f
-added_by h g false e = (g, record {
-  key = refl;
-  other = λ other. refl;
-  count = λ is. absurd (true≢false (sym is ∙ e));
-  first = λ is. absurd (true≢false (sym is ∙ e));
-  last = λ is. absurd (true≢false (sym is ∙ e));
-  size = λ is. absurd (true≢false (sym is ∙ e));
-})
+added_by h g false e = (
+  g,
+  record {
+    key = refl;
+    other = λ other. refl;
+    count = λ is. absurd (true≢false (sym is ∙ e));
+    first = λ is. absurd (true≢false (sym is ∙ e));
+    last = λ is. absurd (true≢false (sym is ∙ e));
+    size = λ is. absurd (true≢false (sym is ∙ e));
+  },
+)
 added_by h g true e =
-    let d = gcd_by (h.place - first_with h.place g) g.size (h.place - first_with h.place g) (omega arith) in
-    (record { key = g.key; first = first_with h.place g; last = h.place; count = g.count + 1; size = d.0 }, record {
-      key = refl;
-      other = λ other. absurd (true≢false (sym e ∙ other));
-      count = λ is. refl;
-      first = λ is. refl;
-      last = λ is. refl;
-      size = λ is. d.1;
-    })
+    let d = gcd_by (h.place - first_with h.place g) g.size (h.place - first_with h.place g) (omega arith) in (
+      record { key = g.key; first = first_with h.place g; last = h.place; count = g.count + 1; size = d.0 },
+      record {
+        key = refl;
+        other = λ other. absurd (true≢false (sym e ∙ other));
+        count = λ is. refl;
+        first = λ is. refl;
+        last = λ is. refl;
+        size = λ is. d.1;
+      },
+    )
 
 -- and to each of some groups
 each_added : (h : Head) (gs : List Group) → (fs : List Group) × AreAdded h gs fs
@@ -113,9 +118,10 @@ module _ (gs : List Group) where
   best_by : (n : ℕ) (inside : n < length gs) (o : Option Group) → MatchOption o (NoneSays gs n) (IsBestOf gs n) → (b : Bool)
       → (says_size gs (slice_index_or gs n no_group) && beats (slice_index_or gs n no_group) o) ≡ b → Best (n + 1)
   best_by n inside o best true e =
-      let both = and_parts _ _ e in
-      (Some (slice_index_or gs n no_group),
-      best_taken gs n inside (slice_index_or gs n no_group) (λ d. get_or_default gs n d no_group inside) o best both.0 both.1)
+      let both = and_parts _ _ e in (
+        Some (slice_index_or gs n no_group),
+        best_taken gs n inside (slice_index_or gs n no_group) (λ d. get_or_default gs n d no_group inside) o best both.0 both.1,
+      )
   best_by n inside o best false e =
       (o, stays_best gs n inside (slice_index_or gs n no_group) (λ d. get_or_default gs n d no_group inside) o best e)
 
