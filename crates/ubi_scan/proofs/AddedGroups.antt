@@ -1,12 +1,12 @@
 -- A header that is added to each of some groups.
-use Rattle.std.proofs.Common.{◌≡◌, ◌≢◌, ℕ, ◌+◌, ◌*◌, ◌/◌, ◌%◌, ◌<◌, ◌≤◌, Bool, true, false, cond, List, [], ◌∷◌, ◌++◌, length, take, drop, refl, ap, sym, ◌∙◌, subst, arith, inl, inr}
-use Rattle.std.specs.List.{All, list_any}
+use Rattle.std.proofs.Common.{◌≡◌, ℕ, ◌+◌, ◌*◌, ◌<◌, ◌≤◌, Bool, true, false, cond, List, [], ◌∷◌, ◌++◌, length, take, drop, refl, ap, sym, ◌∙◌, subst, arith, inl, inr}
+use Rattle.std.specs.List.{All}
 use Rattle.std.specs.Prelude.{◌==◌, IsFalse, IsTrue, map, slice_index_or, slice_set}
 use Rattle.std.proofs.lemmas.List.{append-nil, drop_all, ext_get_or, get_or-map, get_or-set_other, get_or-set_same, length-map, map-append, take_all}
 use Rattle.std.proofs.lemmas.List.Elements.{All-push}
 use Rattle.ubi_media.proofs.Cases.{below_or_last}
 use Rattle.ubi_scan.specs.Groups.{IsGroup, no_key}
-use Rattle.ubi_scan.specs.Heads.{is_of, keys_of, same_key, step, with_key}
+use Rattle.ubi_scan.specs.Heads.{is_of, keys_of, step, with_key}
 use Rattle.ubi_scan.specs.declared.groups.Group.{Group}
 use Rattle.ubi_scan.specs.declared.heads.Head.{Head}
 use Rattle.ubi_scan.specs.declared.heads.Key.{Key}

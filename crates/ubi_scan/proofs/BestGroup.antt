@@ -1,9 +1,9 @@
 -- The group that speaks for most bytes is that of the image.
-use Rattle.std.proofs.Common.{◌≡◌, ◌≢◌, ℕ, ◌+◌, ◌-◌, ◌*◌, ◌<◌, ◌≤◌, ◌⊎◌, Bool, true, false, List, [], ◌∷◌, ◌++◌, length, inl, inr, refl, ap, sym, ◌∙◌, subst, arith}
+use Rattle.std.proofs.Common.{◌≡◌, ℕ, ◌+◌, ◌-◌, ◌*◌, ◌<◌, ◌≤◌, ◌⊎◌, Bool, true, false, List, length, inl, inr, refl, ap, sym, ◌∙◌, subst, arith}
 use Rattle.std.specs.List.{All, list_all}
-use Rattle.std.specs.Prelude.{◌&&◌, ◌||◌, ◌==◌, IfSome, IsFalse, IsTrue, MatchOption, None, Option, Some, map, nat_le, nat_lt, not, slice_index_or}
+use Rattle.std.specs.Prelude.{◌&&◌, ◌||◌, ◌==◌, IfSome, IsFalse, IsTrue, MatchOption, None, Option, Some, nat_lt, not, slice_index_or}
 use Rattle.std.proofs.lemmas.Bool.{and_cases, and_from, and_parts, le-leb, leb-true, ltb-false, ltb-true, true≢false}
-use Rattle.std.proofs.lemmas.List.{get_or-map, get_or_default, length-map}
+use Rattle.std.proofs.lemmas.List.{get_or-map, length-map}
 use Rattle.std.proofs.lemmas.List.Folds.{list_all-map}
 use Rattle.std.proofs.lemmas.Nat.Gcd.{dvd_antisymm}
 use Rattle.ubi_media.proofs.Cases.{below_or_last, below_same_or_above}
@@ -147,23 +147,25 @@ module _ (heads : List Head) (gs : List Group) (are : AreGroups heads gs) where
       let sizes = and_parts _ _ all.0 in
       let least = and_parts _ _ sizes.0 in
       let P : Group → Type 0 = λ f. IsGroup heads f in
-      let at = best.inside in
-      (best.index, record {
-        says = record {
-          inside = (let m = many in omega (arith, at, m));
-          key = sym (ap (λ f. f.key) e) ∙ key_is best.index at;
-          group = subst P e (are.each best.index no_group at);
-          speaks = sym (speaks_is g.key) ∙ all.1;
-          two = leb-true 2 g.count least.0;
-          from = leb-true 1 g.size least.1;
-          to = leb-true g.size greatest_size sizes.1;
-        };
-        most = λ i f says. let same = same_bytes i f says in
-            elim (best.most i no_group (inside i f says) (says_there i f says)) [
-              | inl less ↦ inl (omega (arith, less, same))
-              | inr even ↦ inr (same ∙ even.0, even.1)
-            ];
-      })
+      let at = best.inside in (
+        best.index,
+        record {
+          says = record {
+            inside = (let m = many in omega (arith, at, m));
+            key = sym (ap (λ f. f.key) e) ∙ key_is best.index at;
+            group = subst P e (are.each best.index no_group at);
+            speaks = sym (speaks_is g.key) ∙ all.1;
+            two = leb-true 2 g.count least.0;
+            from = leb-true 1 g.size least.1;
+            to = leb-true g.size greatest_size sizes.1;
+          };
+          most = λ i f says. let same = same_bytes i f says in
+              elim (best.most i no_group (inside i f says) (says_there i f says)) [
+                | inl less ↦ inl (omega (arith, less, same))
+                | inr even ↦ inr (same ∙ even.0, even.1)
+              ];
+        },
+      )
 
   pub image_of : (n : ℕ) (best : Option Group) → n ≡ length gs → MatchOption best (NoneSays gs n) (IsBestOf gs n)
       → MatchOption best ((j : ℕ) (g : Group) → IsImage heads j g → ⊥) (λ g. (j : ℕ) × IsImage heads j g)

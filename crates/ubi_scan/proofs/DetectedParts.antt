@@ -1,5 +1,5 @@
 -- What is detected of a source, by the group of its image.
-use Rattle.std.proofs.Common.{◌≡◌, ◌≢◌, ℕ, ◌<◌, List, []}
+use Rattle.std.proofs.Common.{◌≡◌, ◌≢◌, ℕ, List, []}
 use Rattle.std.specs.Prelude.{Result, Ok, Err, IfErr, IfOk}
 use Rattle.ubi_scan.specs.Detected.{AreDetectedOf, IsDetectError, IsFound}
 use Rattle.ubi_scan.specs.Place.{told}

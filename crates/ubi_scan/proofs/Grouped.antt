@@ -1,20 +1,20 @@
 -- The groups of headers with one header more.
-use Rattle.std.proofs.Common.{◌≡◌, ◌≢◌, ℕ, ◌+◌, ◌-◌, ◌*◌, ◌/◌, ◌%◌, ◌<◌, ◌≤◌, Bool, true, false, cond, List, [], ◌∷◌, ◌++◌, length, zero, suc, refl, ap, sym, ◌∙◌, subst, arith}
+use Rattle.std.proofs.Common.{◌≡◌, ℕ, ◌+◌, ◌-◌, Bool, true, false, cond, List, [], ◌∷◌, ◌++◌, length, refl, ap, sym, ◌∙◌, subst, arith}
 use Rattle.std.specs.Int.{◌∣◌, IsGcd}
-use Rattle.std.specs.List.{All, filter, fold, last_or, list_any, slice_index_or}
-use Rattle.std.specs.Prelude.{◌&&◌, ◌==◌, IsFalse, IsTrue, Option, Some, map, not, unwrap_or}
+use Rattle.std.specs.List.{filter, fold, last_or}
+use Rattle.std.specs.Prelude.{◌==◌, IsFalse, IsTrue, Option, Some, map, unwrap_or}
 use Rattle.std.proofs.lemmas.Bool.{ne_eqb}
 use Rattle.std.proofs.lemmas.List.{append-nil, get_or_append_left, length-append, map-append}
-use Rattle.std.proofs.lemmas.List.Elements.{All-append, All-cons, All-nil, All-push, filter-append}
+use Rattle.std.proofs.lemmas.List.Elements.{All-cons, All-nil, All-push, filter-append}
 use Rattle.std.proofs.lemmas.List.Sums.{fold-append}
 use Rattle.std.proofs.Math.Seq.{get_or-append_seam}
-use Rattle.std.proofs.lemmas.Nat.Gcd.{dvd-zero, dvd_antisymm, dvd_trans}
+use Rattle.std.proofs.lemmas.Nat.Gcd.{dvd_trans}
 use Rattle.ubi_scan.specs.Groups.{Divides, IsGroup, IsSpacing}
-use Rattle.ubi_scan.specs.Heads.{first_place, is_of, keys_of, last_place, places, same_key, with_key}
+use Rattle.ubi_scan.specs.Heads.{first_place, is_of, keys_of, last_place, places, with_key}
 use Rattle.ubi_scan.specs.declared.groups.Group.{Group}
 use Rattle.ubi_scan.specs.declared.heads.Head.{Head}
 use Rattle.ubi_scan.specs.declared.heads.Key.{Key}
-use Rattle.ubi_scan.specs.inner.Detecting.{AreGroups, IsAdded, first_with}
+use Rattle.ubi_scan.specs.inner.Detecting.{IsAdded}
 
 -- the keys with one header more
 pub keys_more : (heads : List Head) (h : Head) → keys_of (heads ++ h ∷ []) ≡ with_key (keys_of heads) h.key
@@ -57,9 +57,9 @@ divides_less : (r p : ℕ) (ps : List ℕ) → Divides r (ps ++ p ∷ []) → Di
 divides_less r p [] d = (All-nil (λ y. r ∣ (y - 0)), d 0 0 (omega arith))
 divides_less r p (x ∷ xs) d = (
   λ k e below. let P : ℕ → Type 0 = λ y. r ∣ (y - x) in
-  subst P (get_or_append_left (x ∷ xs) (p ∷ []) e k below) (d k e (let l = length-append (x ∷ xs) (p ∷ []) in omega (arith, l, below))),
+      subst P (get_or_append_left (x ∷ xs) (p ∷ []) e k below) (d k e (let l = length-append (x ∷ xs) (p ∷ []) in omega (arith, l, below))),
   let P : ℕ → Type 0 = λ y. r ∣ (y - x) in
-  subst P (get_or-append_seam (x ∷ xs) p [] 0) (d (length (x ∷ xs)) 0 (let l = length-append (x ∷ xs) (p ∷ []) in omega (arith, l))),
+      subst P (get_or-append_seam (x ∷ xs) p [] 0) (d (length (x ∷ xs)) 0 (let l = length-append (x ∷ xs) (p ∷ []) in omega (arith, l))),
 )
 
 spacing_more : (p s t : ℕ) (ps : List ℕ) → IsSpacing ps s → IsGcd s (p - first_place (ps ++ p ∷ [])) t → IsSpacing (ps ++ p ∷ []) t
@@ -81,8 +81,7 @@ module _ (heads : List Head) (h : Head) (old new : Group) (group : IsGroup heads
       let first : new.first ≡ first_place (ps ++ h.place ∷ []) =
       added.first owned ∙ ap (λ n. cond (n == 0) h.place old.first) group.count
       ∙ ap (cond (length ps == 0) h.place) group.first ∙ sym (first_is h.place ps) in
-      let S : ℕ → Type 0 = λ f. IsGcd old.size (h.place - f) new.size in
-      (
+      let S : ℕ → Type 0 = λ f. IsGcd old.size (h.place - f) new.size in (
         first,
         added.last owned ∙ sym (last_is h.place ps),
         added.count owned ∙ ap (λ n. n + 1) group.count ∙ sym (length-append ps (h.place ∷ [])),
@@ -92,8 +91,7 @@ module _ (heads : List Head) (h : Head) (old new : Group) (group : IsGroup heads
   is_without : IsFalse (is_of old.key h.key) → Is ps
   is_without other =
       let same = added.other other in
-      let S : ℕ → Type 0 = λ s. IsSpacing ps s in
-      (
+      let S : ℕ → Type 0 = λ s. IsSpacing ps s in (
         ap (λ g. g.first) same ∙ group.first,
         ap (λ g. g.last) same ∙ group.last,
         ap (λ g. g.count) same ∙ group.count,

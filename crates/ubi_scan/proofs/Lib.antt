@@ -9,6 +9,7 @@ pub mod Compatible
 pub mod Counted
 pub mod Counters
 pub mod Decided
+pub mod Detectable
 pub mod DetectedParts
 pub mod Either
 pub mod Entries
@@ -41,6 +42,7 @@ pub mod Parts
 pub mod Places
 pub mod PlainGroups
 pub mod PlainHeads
+pub mod PlainOrNot
 pub mod PlainSizes
 pub mod ReadParts
 pub mod Revalued
@@ -50,6 +52,7 @@ pub mod Seen
 pub mod Seq
 pub mod Shown
 pub mod SoFar
+pub mod SomeGroups
 pub mod Stands
 pub mod Tested
 pub mod Told

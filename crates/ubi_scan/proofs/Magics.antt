@@ -1,5 +1,5 @@
 -- Bytes with another magic than that of a header are none.
-use Rattle.std.proofs.Common.{◌≡◌, ℕ, ◌+◌, ◌-◌, Bool, true, false, cond, List, length, take, drop, refl, ap, sym, ◌∙◌, arith}
+use Rattle.std.proofs.Common.{◌≡◌, ℕ, ◌+◌, ◌-◌, Bool, true, false, cond, List, take, drop, refl, ap, sym, ◌∙◌, arith}
 use Rattle.std.specs.Prelude.{◌==◌, IsFalse, None, not, slice_range}
 use Rattle.std.proofs.lemmas.List.{take-take}
 use Rattle.byteorder.specs.Endian.{big_number}

@@ -1,7 +1,7 @@
 -- The group of a key that no header has named yet.
 use Rattle.std.proofs.Common.{◌≡◌, ℕ, Bool, true, false, cond, List, [], ◌∷◌, ◌++◌, length, refl, ap, sym, ◌∙◌, subst}
 use Rattle.std.specs.List.{All, filter, fold, list_any}
-use Rattle.std.specs.Prelude.{◌&&◌, ◌||◌, ◌==◌, IsFalse, IsTrue, Option, None, Some, find, map}
+use Rattle.std.specs.Prelude.{◌&&◌, ◌||◌, ◌==◌, IsFalse, IsTrue, None, Some, find, map}
 use Rattle.std.proofs.lemmas.Bool.{and_parts, eqb-true, false≢true, or_parts, true≢false}
 use Rattle.std.proofs.lemmas.Cmp.{nat_eq_equiv}
 use Rattle.std.proofs.lemmas.List.Elements.{All-head, All-tail}

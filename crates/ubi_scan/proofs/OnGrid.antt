@@ -1,7 +1,7 @@
 -- Where the headers of an image stand, and where it begins and ends.
-use Rattle.std.proofs.Common.{◌≡◌, ℕ, ◌+◌, ◌-◌, ◌*◌, ◌/◌, ◌%◌, ◌<◌, ◌≤◌, Bool, true, false, cond, List, [], ◌∷◌, ◌++◌, length, slice_range, zero, suc, refl, ap, sym, ◌∙◌, subst, arith}
+use Rattle.std.proofs.Common.{◌≡◌, ℕ, ◌+◌, ◌-◌, ◌*◌, ◌/◌, ◌<◌, ◌≤◌, Bool, true, false, List, [], ◌∷◌, ◌++◌, length, slice_range, zero, suc, refl, ap, sym, subst, arith}
 use Rattle.std.specs.Int.{◌∣◌}
-use Rattle.std.specs.List.{All, prefix_len, range_with_len}
+use Rattle.std.specs.List.{All, range_with_len}
 use Rattle.std.specs.Option.{option_to_list}
 use Rattle.std.specs.Prelude.{None, Option, Some, option_map}
 use Rattle.std.proofs.Math.Nat.{dvd-mul_left, mod-add-div', mul-le-mul_right}
@@ -11,12 +11,11 @@ use Rattle.std.proofs.lemmas.List.FromFn.{length-range_with_len}
 use Rattle.std.proofs.lemmas.List.Sums.{prefix_len-le-length}
 use Rattle.std.proofs.lemmas.Nat.Gcd.{le_of_dvd}
 use Rattle.ubi_scan.specs.DetectLaws.{EachOnGrid, GreatestSize, PlaceOnGrid}
-use Rattle.ubi_scan.specs.Heads.{first_place, heads_of, heads_to, is_of, key_at, key_in, last_place, places, step}
+use Rattle.ubi_scan.specs.Heads.{first_place, heads_of, heads_to, is_of, key_in, last_place, places, step}
 use Rattle.ubi_scan.specs.Place.{blanks_before, blanks_behind, end_of_last, run}
 use Rattle.ubi_scan.specs.declared.heads.Head.{Head}
 use Rattle.ubi_scan.specs.declared.heads.Key.{Key}
-use Rattle.ubi_scan.specs.inner.Detecting.{head_in}
-use Rattle.ubi_scan.proofs.Grouped.{first_is, last_is, places_with, places_without}
+use Rattle.ubi_scan.proofs.Grouped.{last_is, places_with, places_without}
 use Rattle.ubi_scan.proofs.Surveyed.{heads_more}
 
 -- places between the first of them and the last one, and in the first n units

@@ -1,6 +1,6 @@
 -- A file of which something is told isn't refused, and else it is refused for one cause at most.
-use Rattle.std.proofs.Common.{◌≡◌, ◌≢◌, ℕ, ◌+◌, ◌-◌, ◌<◌, ◌≤◌, true, false, List, [], length, inl, inr, refl, ap, sym, ◌∙◌, arith}
-use Rattle.std.specs.Prelude.{IsFalse, IsTrue}
+use Rattle.std.proofs.Common.{◌≡◌, ◌≢◌, ℕ, ◌-◌, ◌<◌, ◌≤◌, List, [], length, inl, inr, refl, ap, sym, ◌∙◌, arith}
+use Rattle.std.specs.Prelude.{IsFalse}
 use Rattle.std.proofs.lemmas.Bool.{true≢false}
 use Rattle.ubi_media.proofs.Cases.{below_same_or_above}
 use Rattle.ubi_scan.specs.Detected.{AreDetected, IsFound, IsUndetected, IsWhole, NonePlain}

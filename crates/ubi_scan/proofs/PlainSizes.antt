@@ -1,5 +1,5 @@
 -- The size that a file plainly has, if it has one.
-use Rattle.std.proofs.Common.{◌≡◌, ◌≢◌, ℕ, ◌+◌, ◌-◌, ◌*◌, ◌/◌, ◌%◌, ◌<◌, ◌≤◌, List, length, inl, inr, refl, ap, sym, ◌∙◌, subst, arith}
+use Rattle.std.proofs.Common.{◌≡◌, ◌≢◌, ℕ, ◌+◌, ◌-◌, ◌*◌, ◌/◌, ◌%◌, ◌<◌, ◌≤◌, List, length, inl, inr, ap, sym, ◌∙◌, arith}
 use Rattle.std.specs.Prelude.{None, Some, min}
 use Rattle.std.proofs.Math.Nat.{add-mod_left, mod-add-div', mod-eq_of_lt, mod_self, mul-le-mul_right, mul-mod_left}
 use Rattle.std.proofs.lemmas.Option.{none-some}

@@ -27,4 +27,4 @@ run_all t n m e all = run_is t n m (omega (arith, e)) all (λ below. absurd (ome
 
 -- one more that passes
 pub pass_more : (t : ℕ → Bool) (n : ℕ) → ((j : ℕ) → j < n → t j ≡ true) → t n ≡ true → (j : ℕ) → j < n + 1 → t j ≡ true
-pass_more t n all here j below = elim (below_or_last j n below) [ | inl less ↦ all j less | inr same ↦ ap t same ∙ here ]
+pass_more t n all here j below = elim (below_or_last j n below) [ inl less ↦ all j less | inr same ↦ ap t same ∙ here ]

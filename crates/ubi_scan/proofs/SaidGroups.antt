@@ -1,13 +1,12 @@
 -- The group that the headers of a file say.
-use Rattle.std.proofs.Common.{◌≡◌, ◌≢◌, ℕ, ◌+◌, ◌-◌, ◌*◌, ◌/◌, ◌<◌, ◌≤◌, ◌⊎◌, true, false, List, [], ◌∷◌, length, inl, inr, refl, ap, sym, ◌∙◌, arith}
+use Rattle.std.proofs.Common.{◌≡◌, ◌≢◌, ℕ, ◌/◌, ◌≤◌, true, List, [], ◌∷◌, length, inr, refl, ap, sym, ◌∙◌, arith}
 use Rattle.std.specs.List.{list_any}
-use Rattle.std.specs.Prelude.{◌&&◌, ◌||◌, ◌==◌, IsFalse, IsTrue, map}
+use Rattle.std.specs.Prelude.{IsFalse, map}
 use Rattle.std.proofs.lemmas.Bool.{and_from, eq-eqb, or_left, true≢false}
 use Rattle.std.proofs.lemmas.List.{length-map}
-use Rattle.ubi_scan.specs.Detected.{IsUndetected, IsWhole, NonePlain}
+use Rattle.ubi_scan.specs.Detected.{IsUndetected, IsWhole}
 use Rattle.ubi_scan.specs.Groups.{IsImage}
-use Rattle.ubi_scan.specs.Heads.{heads_of, keys_of, same_key, same_offsets, step}
-use Rattle.ubi_scan.specs.Place.{end_of_last}
+use Rattle.ubi_scan.specs.Heads.{heads_of, keys_of, same_key, step}
 use Rattle.ubi_scan.specs.Sure.{is_sure}
 use Rattle.ubi_scan.specs.declared.detect.Undetected.TheVariants as cause
 use Rattle.ubi_scan.specs.declared.groups.Group.{Group}
@@ -25,8 +24,8 @@ same_itself k =
 no_keys : (heads : List Head) → keys_of heads ≡ [] → heads ≡ []
 no_keys [] e = refl
 no_keys (h ∷ heads) e = absurd (true≢false (
-  sym (any_key h.key (h ∷ heads) ∙ or_left (same_key h.key h.key) (list_any (λ g. same_key h.key g.key) heads) (same_itself h.key))
-  ∙ ap (list_any (same_key h.key)) e))
+    sym (any_key h.key (h ∷ heads) ∙ or_left (same_key h.key h.key) (list_any (λ g. same_key h.key g.key) heads) (same_itself h.key))
+    ∙ ap (list_any (same_key h.key)) e))
 
 no_map : (gs : List Group) → map (λ g. g.key) gs ≡ [] → length gs ≡ 0
 no_map gs e = sym (length-map gs (λ (g : Group). g.key)) ∙ ap length e

@@ -1,20 +1,14 @@
 -- Laws of what is detected.
-use Rattle.std.specs.Prelude.{◌≡◌, ◌≢◌, ℕ, ◌+◌, ◌-◌, ◌*◌, ◌%◌, ◌<◌, ◌≤◌, ◌⊎◌, Contains, IsFalse, IsTrue, List, [], None, Some, length}
+use Rattle.std.specs.Prelude.{◌≡◌, ℕ, ◌-◌, ◌≤◌, ◌⊎◌, Contains, List}
 use Rattle.std.specs.Int.{◌∣◌}
-use Rattle.ubi_media.specs.Ec.{offsets_in}
-use Rattle.ubi_media.specs.Geometry.{Sizes}
-use Rattle.ubi_media.specs.Limits.{first_broken}
-use Rattle.ubi_scan.specs.Detected.{AreDetected, IsFound, IsUndetected, IsWhole, NonePlain}
+use Rattle.ubi_scan.specs.Detected.{AreDetected, IsFound, IsUndetected}
 use Rattle.ubi_scan.specs.Groups.{Divides, IsImage}
-use Rattle.ubi_scan.specs.Heads.{heads_of, is_of, key_at, places, step}
-use Rattle.ubi_scan.specs.Layout.{data_place, sizes_of}
-use Rattle.ubi_scan.specs.Place.{end_of_image, end_of_last, start_of_image, told, ways_with}
-use Rattle.ubi_scan.specs.Sure.{is_blank}
+use Rattle.ubi_scan.specs.Heads.{heads_of, places}
+use Rattle.ubi_scan.specs.Place.{end_of_image, end_of_last, start_of_image}
 use Rattle.ubi_scan.specs.declared.detect.Detected.{Detected}
 use Rattle.ubi_scan.specs.declared.detect.Undetected.{Undetected}
 use Rattle.ubi_scan.specs.declared.groups.Group.{Group}
 use Rattle.ubi_scan.specs.declared.heads.Head.{Head}
-use Rattle.ubi_scan.specs.declared.heads.Key.{Key}
 
 -- headers say one image at most
 abbrev pub OneImage : Type 0

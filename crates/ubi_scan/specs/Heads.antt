@@ -1,5 +1,5 @@
 -- The erase-counter headers of a file of which nothing else is known, and which of them are of one image.
-use Rattle.std.specs.Prelude.{ℕ, ◌+◌, ◌*◌, ◌/◌, ◌==◌, ◌&&◌, ◌||◌, Bool, true, List, [], ◌∷◌, ◌++◌, None, Option, Some, not, filter, filter_map, fold, if◌then◌else◌, length, map, option_map, slice_index_or, slice_range, unwrap_or}
+use Rattle.std.specs.Prelude.{ℕ, ◌+◌, ◌*◌, ◌/◌, ◌==◌, ◌&&◌, ◌||◌, Bool, List, [], ◌∷◌, ◌++◌, None, Option, Some, not, filter, filter_map, fold, if◌then◌else◌, length, map, option_map, slice_index_or, slice_range, unwrap_or}
 use Rattle.std.specs.List.{last_or, list_all, list_any, range_with_len}
 use Rattle.ubi_media.specs.Ec.{ec_fields, ec_start}
 use Rattle.ubi_media.specs.declared.ec.EcStart.{EcStart}

@@ -19,11 +19,7 @@ use byteorder::{BigEndian, ByteOrder};
 /// # Errors
 ///
 /// Read where the read failed.
-fn read_there<S: BlockSource>(
-    source: &mut S,
-    at: u64,
-    out: &mut [u8],
-) -> Result<bool, DetectError>
+fn read_there<S: BlockSource>(source: &mut S, at: u64, out: &mut [u8]) -> Result<bool, DetectError>
     requires size { (S.known source.old).size < 2 ^ 63 }
     requires some { 1 ≤ length out.old }
     ensures known { S.known source.new ≡ after_detecting (S.known source.old) result }
@@ -124,11 +120,7 @@ pub fn key_at<S: BlockSource>(source: &mut S, at: u64) -> Result<Option<Key>, De
 /// # Errors
 ///
 /// Read where the read failed.
-pub fn is_start<S: BlockSource>(
-    source: &mut S,
-    group: &Group,
-    at: u64,
-) -> Result<bool, DetectError>
+pub fn is_start<S: BlockSource>(source: &mut S, group: &Group, at: u64) -> Result<bool, DetectError>
     requires { (S.known source.old).size < 2 ^ 63 }
     ensures known { S.known source.new ≡ after_detecting (S.known source.old) result }
     ensures narrows { Narrows (S.agrees source.old) (S.agrees source.new) }

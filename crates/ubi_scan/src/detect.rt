@@ -246,10 +246,7 @@ fn said_group<S: BlockSource>(alloc: Global, source: &mut S) -> Result<Group, De
 /// # Errors
 ///
 /// Undetected with NoHeader, NoSize or Length. Read where a read failed. Memory where it ran out.
-fn found_image<S: BlockSource>(
-    alloc: Global,
-    source: &mut S,
-) -> Result<(Group, Ways), DetectError>
+fn found_image<S: BlockSource>(alloc: Global, source: &mut S) -> Result<(Group, Ways), DetectError>
     requires size { (S.known source.old).size < 2 ^ 63 }
     requires none { WhereHeld (S.agrees source.old) NonePlain }
     ensures known { S.known source.new ≡ after_detecting (S.known source.old) result }

@@ -97,10 +97,7 @@ fn has_key(groups: &[Group], key: &Key) -> bool
 fn group_with(groups: &[Group], key: &Key) -> Option<Group>
     ensures { result ≡ group_with groups.now key.now }
 {
-    groups
-        .iter()
-        .copied()
-        .find(|group| key.is_same(&group.key))
+    groups.iter().copied().find(|group| key.is_same(&group.key))
 }
 
 /// The group of a key that no header has named yet: the headers of its offsets that name no number belong to it.
@@ -180,10 +177,7 @@ fn speaks(groups: &[Group], key: &Key) -> bool
 fn says_size(groups: &[Group], group: &Group) -> bool
     ensures { result ≡ says_size groups.now group.now }
 {
-    group.count >= 2
-        && group.size >= 1
-        && group.size <= GREATEST_SIZE
-        && speaks(groups, &group.key)
+    group.count >= 2 && group.size >= 1 && group.size <= GREATEST_SIZE && speaks(groups, &group.key)
 }
 
 impl Group {

@@ -42,8 +42,7 @@ impl Key {
     pub fn owns(&self, other: &Key) -> bool
         ensures { result ≡ is_of self.now other.now }
     {
-        self.has_offsets_of(other)
-            && (other.image_seq == self.image_seq || other.image_seq == 0)
+        self.has_offsets_of(other) && (other.image_seq == self.image_seq || other.image_seq == 0)
     }
 
     /// The key of the group to which a header of this key and one of another belong, if there is one.

@@ -40,7 +40,12 @@ impl BlockTest for EndsBlank {
 
     fn holds<S: BlockSource>(&self, source: &mut S, at: u64) -> Result<bool, DetectError> {
         let end = at + self.size;
-        all_are(source, 0xFF, 16, end.saturating_sub(u64::from(self.oob) + 16))
+        all_are(
+            source,
+            0xFF,
+            16,
+            end.saturating_sub(u64::from(self.oob) + 16),
+        )
     }
 }
 
@@ -396,11 +401,7 @@ fn is_whole_size<S: BlockSource>(source: &mut S, group: &Group) -> Result<bool, 
 /// # Errors
 ///
 /// Read where a read failed.
-fn meet_in<S: BlockSource>(
-    source: &mut S,
-    group: &Group,
-    ways: &[Way],
-) -> Result<bool, DetectError>
+fn meet_in<S: BlockSource>(source: &mut S, group: &Group, ways: &[Way]) -> Result<bool, DetectError>
     requires size { (S.known source.old).size < 2 ^ 63 }
     requires lies { LiesIn (S.known source.old).size group.now }
     ensures known { S.known source.new ≡ after_detecting (S.known source.old) result }
@@ -422,11 +423,7 @@ fn meet_in<S: BlockSource>(
 /// # Errors
 ///
 /// Read where a read failed.
-fn end_in<S: BlockSource>(
-    source: &mut S,
-    group: &Group,
-    ways: &[Way],
-) -> Result<bool, DetectError>
+fn end_in<S: BlockSource>(source: &mut S, group: &Group, ways: &[Way]) -> Result<bool, DetectError>
     requires size { (S.known source.old).size < 2 ^ 63 }
     requires lies { LiesIn (S.known source.old).size group.now }
     ensures known { S.known source.new ≡ after_detecting (S.known source.old) result }
@@ -537,11 +534,7 @@ fn tables_meet<S: BlockSource>(
 /// # Errors
 ///
 /// Read where a read failed.
-fn says_so<S: BlockSource>(
-    source: &mut S,
-    group: &Group,
-    ways: &Ways,
-) -> Result<bool, DetectError>
+fn says_so<S: BlockSource>(source: &mut S, group: &Group, ways: &Ways) -> Result<bool, DetectError>
     requires size { (S.known source.old).size < 2 ^ 63 }
     requires lies { LiesIn (S.known source.old).size group.now }
     requires ways { AreWays group.now ways.now }
@@ -648,10 +641,7 @@ fn has_part_start<S: BlockSource>(
 /// # Errors
 ///
 /// Read where a read failed.
-pub fn has_inner_start<S: BlockSource>(
-    source: &mut S,
-    group: &Group,
-) -> Result<bool, DetectError>
+pub fn has_inner_start<S: BlockSource>(source: &mut S, group: &Group) -> Result<bool, DetectError>
     requires size { (S.known source.old).size < 2 ^ 63 }
     requires lies { LiesIn (S.known source.old).size group.now }
     ensures known { S.known source.new ≡ after_detecting (S.known source.old) result }

@@ -18,12 +18,7 @@ use std::alloc::{AllocError, Global};
 const WINDOW: usize = 65_536;
 
 /// Adds the header that 64 bytes of some bytes are, which stand at a place of their file, if they are one.
-fn add_unit(
-    groups: &mut Vec<Group>,
-    place: u64,
-    bytes: &[u8],
-    at: usize,
-) -> Result<(), AllocError>
+fn add_unit(groups: &mut Vec<Group>, place: u64, bytes: &[u8], at: usize) -> Result<(), AllocError>
     requires inside { at + 64 ≤ length bytes.now }
     requires place { place < 2 ^ 63 }
     requires within { All (IsWithin (place / step)) groups.old.items }
@@ -94,10 +89,7 @@ fn zeros(alloc: Global, count: usize) -> Result<Vec<u8>, AllocError>
 /// # Errors
 ///
 /// Read where a read failed, Memory where it ran out: it takes 64 KiB, and so many bytes a group.
-pub fn read_groups<S: BlockSource>(
-    alloc: Global,
-    source: &mut S,
-) -> Result<Vec<Group>, DetectError>
+pub fn read_groups<S: BlockSource>(alloc: Global, source: &mut S) -> Result<Vec<Group>, DetectError>
     requires size { (S.known source.old).size < 2 ^ 63 }
     ensures known { S.known source.new ≡ after_detecting (S.known source.old) result }
     ensures narrows { Narrows (S.agrees source.old) (S.agrees source.new) }

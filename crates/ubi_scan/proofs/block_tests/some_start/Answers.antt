@@ -1,4 +1,4 @@
-use Rattle.std.proofs.Common.{◌≡◌, ◌∙◌, ◌<◌, ap, sym, subst, true, false, ℕ}
+use Rattle.std.proofs.Common.{◌∙◌, sym, ℕ}
 use Rattle.std.specs.Prelude.{◌&&◌, Bool}
 use Rattle.ubi_scan.specs.Sure.{block_at, blocks, is_start}
 use Rattle.ubi_scan.proofs.Tested.{any_here, none_more}

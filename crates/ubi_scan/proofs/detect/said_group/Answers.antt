@@ -1,11 +1,10 @@
-use Rattle.std.proofs.Common.{◌≡◌, ◌∙◌, ◌-◌, List, ℕ, ap, inl, length, refl, subst, sym, arith}
-use Rattle.std.specs.Prelude.{◌==◌}
+use Rattle.std.proofs.Common.{◌≡◌, ◌∙◌, ◌-◌, List, ap, inl, length, refl, subst, sym, arith}
 use Rattle.std.proofs.lemmas.Bool.{eqb-false, eqb-true}
 use Rattle.std.proofs.lemmas.List.{nil_from_length}
 use Rattle.ubi_scan.specs.Heads.{heads_of}
 use Rattle.ubi_scan.specs.declared.groups.Group.{Group}
 use Rattle.ubi_scan.specs.inner.Detecting.{AreGroups}
-use Rattle.ubi_scan.proofs.SaidGroups.{lies_in, no_heads, some_heads}
+use Rattle.ubi_scan.proofs.SaidGroups.{no_heads, some_heads}
 use Rattle.ubi_scan.proofs.detect.said_group.Goals as goal
 
 pub returns-then-is_empty-clause-refused : goal.returns-then-is_empty-clause-refused
@@ -20,8 +19,7 @@ returns-in_default-clause-refused g c = λ bytes holds.
     let ok = c.in_ok-groups.groups.ok in
     let none = rw c.in_default.is at c.image_among.ensures.image in
     let P : List Group → Type 0 = λ gs. AreGroups (heads_of bytes) gs in
-    let are = c.in_ok-groups.ensures.groups bytes holds in
-    (
+    let are = c.in_ok-groups.ensures.groups bytes holds in (
       some_heads (heads_of bytes) c.in_ok-groups.groups.items are (omega (arith, some, ok)),
       c.requires.none bytes (c.in_ok-groups.ensures.narrows bytes holds),
       inl (none (heads_of bytes) (subst P (sym c.as_slice.ensures.value) are)),
@@ -35,8 +33,7 @@ returns-then-rest-group-clause-refused g c = λ bytes holds.
     let image = found (heads_of bytes) (subst P (sym c.as_slice.ensures.value) (c.in_ok-groups.ensures.groups bytes holds)) in
     let sized = (g.met.S.BlockSource.sized c.args.source.now).sized bytes before in
     let known = ap (λ k. k.size) c.in_ok-groups.ensures.known in
-    let len : c.len.result ≡ length bytes = c.len.ensures ∙ known ∙ sym sized in
-    (
+    let len : c.len.result ≡ length bytes = c.len.ensures ∙ known ∙ sym sized in (
       c.requires.none bytes before,
       (
         image.0,

@@ -2,7 +2,7 @@ use Rattle.std.proofs.Common.{◌≡◌, ◌∙◌, ◌+◌, ◌-◌, ◌*◌, �
 use Rattle.std.specs.Prelude.{Bool}
 use Rattle.ubi_scan.specs.Place.{end_of_last, run}
 use Rattle.ubi_scan.specs.Sure.{is_blank}
-use Rattle.ubi_scan.proofs.Runs.{pass_more, run_all, run_is}
+use Rattle.ubi_scan.proofs.Runs.{run_all, run_is}
 use Rattle.ubi_scan.proofs.place.blanks_behind.Goals as goal
 
 pub returns-then-not-branch-clause-blanks : goal.returns-then-not-branch-clause-blanks

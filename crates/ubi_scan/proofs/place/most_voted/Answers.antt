@@ -1,6 +1,5 @@
-use Rattle.std.proofs.Common.{◌≡◌, ◌∙◌, ◌++◌, ◌∷◌, [], Bool, List, ap, get_or, ℕ}
-use Rattle.std.specs.List.{fold}
-use Rattle.std.specs.Prelude.{◌&&◌, ◌==◌, max, nat_lt}
+use Rattle.std.proofs.Common.{◌∙◌, ◌++◌, ◌∷◌, [], List, ap, get_or, ℕ}
+use Rattle.std.specs.Prelude.{◌&&◌, ◌==◌, nat_lt}
 use Rattle.ubi_scan.specs.declared.way.Way.{Way}
 use Rattle.ubi_scan.proofs.MostVoted.{less_more, most_more}
 use Rattle.ubi_scan.proofs.place.most_voted.Goals as goal

@@ -1,4 +1,4 @@
-use Rattle.std.proofs.Common.{◌≡◌, ◌∙◌, ◌<◌, ◌≤◌, List, ap, sym, length, ℕ, arith}
+use Rattle.std.proofs.Common.{◌∙◌, ap, sym, length, arith}
 use Rattle.std.specs.List.{filter, fold}
 use Rattle.std.specs.Prelude.{◌==◌, map, max}
 use Rattle.std.proofs.lemmas.Result.{IfOk-weaker}

@@ -1,4 +1,4 @@
-use Rattle.std.proofs.Common.{◌≡◌, ◌∙◌, ◌++◌, ◌∷◌, [], ◌+◌, List, ap, sym, take, get_or, ℕ}
+use Rattle.std.proofs.Common.{◌∙◌, ◌++◌, ◌∷◌, [], ◌+◌, List, ap, sym, take, ℕ}
 use Rattle.std.specs.Prelude.{map}
 use Rattle.std.proofs.lemmas.List.{map_more}
 use Rattle.ubi_scan.specs.Place.{votes}

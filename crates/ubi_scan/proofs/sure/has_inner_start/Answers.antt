@@ -1,4 +1,4 @@
-use Rattle.std.proofs.Common.{◌≡◌, ◌∙◌, ◌+◌, ◌/◌, sym, ℕ}
+use Rattle.std.proofs.Common.{◌∙◌, ◌+◌, ◌/◌, sym, ℕ}
 use Rattle.std.specs.Prelude.{Bool}
 use Rattle.ubi_scan.specs.Heads.{step}
 use Rattle.ubi_scan.specs.Sure.{has_part_start}

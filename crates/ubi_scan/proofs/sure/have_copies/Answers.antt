@@ -1,4 +1,4 @@
-use Rattle.std.proofs.Common.{◌≡◌, ◌∙◌, ◌+◌, ap, sym, false, true, List, ℕ}
+use Rattle.std.proofs.Common.{◌∙◌, ◌+◌, ap, sym}
 use Rattle.std.specs.Prelude.{◌==◌, not}
 use Rattle.ubi_scan.specs.Sure.{copy_at, number_at}
 use Rattle.ubi_scan.specs.Ways.{put}

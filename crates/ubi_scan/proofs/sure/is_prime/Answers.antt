@@ -1,4 +1,4 @@
-use Rattle.std.proofs.Common.{◌≡◌, ◌∙◌, ◌+◌, ◌-◌, ◌%◌, ap, sym, ℕ, arith}
+use Rattle.std.proofs.Common.{◌+◌, ◌-◌, ◌%◌, ap, sym, ℕ, arith}
 use Rattle.std.specs.Prelude.{◌==◌, Bool, not}
 use Rattle.std.proofs.lemmas.Bool.{eq-eqb, ne_eqb}
 use Rattle.ubi_scan.proofs.Tested.{all_fails, all_pass}

@@ -1,4 +1,4 @@
-use Rattle.std.proofs.Common.{◌≡◌, ◌∙◌, ◌+◌, ◌/◌, ap, sym, ℕ}
+use Rattle.std.proofs.Common.{◌∙◌, ◌+◌, ◌/◌, sym, ℕ}
 use Rattle.std.specs.Prelude.{◌||◌, Bool, not}
 use Rattle.ubi_scan.specs.Heads.{step}
 use Rattle.ubi_scan.specs.Sure.{are_no_parts, may_be_parts}

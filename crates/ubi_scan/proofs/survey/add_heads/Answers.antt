@@ -1,4 +1,4 @@
-use Rattle.std.proofs.Common.{◌≡◌, ◌∙◌, ◌+◌, ◌*◌, ◌/◌, List, ℕ, ap, subst, sym, arith, length}
+use Rattle.std.proofs.Common.{◌+◌, ◌/◌, List, ℕ, subst, sym, arith, length}
 use Rattle.std.specs.List.{All}
 use Rattle.ubi_scan.specs.Heads.{heads_to, step}
 use Rattle.ubi_scan.specs.declared.heads.Head.{Head}

@@ -1,4 +1,4 @@
-use Rattle.std.proofs.Common.{◌≡◌, ◌∙◌, ◌++◌, List, ap, get_or, sym, take, ℕ}
+use Rattle.std.proofs.Common.{◌∙◌, ◌++◌, List, ap, get_or, sym, ℕ}
 use Rattle.ubi_scan.specs.declared.way.Way.{Way}
 use Rattle.std.specs.List.{filter_map, flat_map}
 use Rattle.std.proofs.lemmas.List.{take_all}

@@ -1,199 +1,351 @@
 //! Geometries that are detected, and why none is.
 
-use super::dumps::{Dump, What, bytes_of, header, put};
+use super::dumps::{Dump, What, bytes_of, header, put, table_vid};
 use std::alloc::Global;
 use std::test::Fail;
 use ubi_media::{EcOffsets, Geometry};
 use ubi_probe::ProbeSource;
-use ubi_scan::{DetectError, MemorySource, OutOfBand, Undetected, detect_from};
+use ubi_scan::{DetectError, Detected, MemorySource, Undetected, detect_from};
 
-/// What is detected: the bytes of an eraseblock, the offsets of the volume-identifier header and of the data, and the pages.
-type Sizes = (u32, u32, u32, &'static [u32]);
-
-/// Whether these geometries are told, in their order, for a device of any number of eraseblocks.
-fn has_sizes(found: &[Geometry], want: &Sizes) -> bool {
-    let mut has = found.len() == want.3.len();
-    for (geometry, page) in found.iter().zip(want.3) {
-        has = has
-            && geometry.peb_size() == want.0
-            && geometry.vid_offset() == want.1
-            && geometry.data_offset() == want.2
-            && geometry.page() == *page
-            && geometry.pebs() == 1_048_576;
-    }
-    has
+/// What is told of a file.
+#[derive(Drop)]
+struct Told {
+    /// The bytes of an eraseblock, without out-of-band bytes.
+    peb: u32,
+    /// Where its volume-identifier header and its data stand.
+    offsets: (u32, u32),
+    pages: &'static [u32],
+    /// The out-of-band bytes of a page.
+    oob: u32,
+    /// Where the image begins, and how many bytes it has.
+    part: (u64, u64),
 }
 
-/// Whether of a file these sizes are detected.
-fn detects(alloc: Global, dump: &Dump<'_>, want: &Sizes) -> Result<bool, Fail> {
+/// Whether a geometry is told, for a device of any number of eraseblocks.
+fn is_told(found: &Detected, want: &Told, page: u32) -> bool {
+    let geometry = &found.geometry;
+    geometry.peb_size() == want.peb
+        && geometry.page() == page
+        && (geometry.vid_offset(), geometry.data_offset()) == want.offsets
+        && geometry.pebs() == 1_048_576
+        && found.oob == want.oob
+        && (found.start, found.length) == want.part
+}
+
+/// Whether one is told for each page, in their order, and no other.
+fn are_told(found: &[Detected], want: &Told) -> bool {
+    let mut are = found.len() == want.pages.len();
+    for (detected, page) in found.iter().zip(want.pages) {
+        are = are && is_told(detected, want, *page);
+    }
+    are
+}
+
+/// Whether this is detected of a file.
+fn detects(alloc: Global, dump: &Dump<'_>, want: &Told) -> Result<bool, Fail> {
     let bytes = bytes_of(alloc, dump)?;
     let mut source = MemorySource::new(bytes.as_slice());
     Ok(match detect_from(alloc, &mut source) {
-        Ok(found) => has_sizes(found.as_slice(), want),
+        Ok(found) => are_told(found.as_slice(), want),
         Err(_) => false,
     })
 }
 
-/// Why of a file none is detected, if none is.
+/// Why of a file nothing is detected, if nothing is.
 fn cause_of(alloc: Global, dump: &Dump<'_>) -> Result<Option<DetectError>, Fail> {
     let bytes = bytes_of(alloc, dump)?;
     let mut source = MemorySource::new(bytes.as_slice());
     Ok(detect_from(alloc, &mut source).err())
 }
 
-/// A file of eraseblocks that all start with the same header, so many bytes of each, and how many of them.
-static PLAIN: [(Sizes, usize); 14] = [
-    ((131_072, 2048, 4096, &[2048, 4096]), 4),
-    ((131_072, 512, 2048, &[2048]), 3),
-    ((262_144, 4096, 8192, &[4096, 8192]), 2),
-    ((262_144, 1024, 4096, &[4096]), 3),
-    ((16_384, 512, 1024, &[512, 1024]), 9),
-    ((16_384, 256, 512, &[256, 512]), 8),
-    ((65_536, 64, 128, &[64, 128]), 5),
-    ((4096, 256, 512, &[256, 512]), 7),
-    ((1024, 64, 128, &[64, 128]), 33),
-    ((512, 64, 128, &[64, 128]), 10),
-    // No powers of two.
-    ((1536, 64, 128, &[64, 128]), 4),
-    ((4608, 512, 1024, &[512]), 6),
-    ((126_976, 2048, 4096, &[2048, 4096]), 3),
-    ((393_216, 2048, 4096, &[2048, 4096]), 2),
-];
-
-/// The geometry of a file of eraseblocks each of which starts with a header, over any data.
-#[test]
-fn detects_eraseblocks_that_all_have_headers(rt: HostRuntime) -> Result<(), Fail> {
-    for (index, (sizes, count)) in PLAIN.iter().enumerate() {
-        let size = sizes.0 as usize;
-        for fill in [0, 0xFF] {
-            let dump = Dump {
-                len: size.saturating_mul(*count),
-                fill,
-                rows: &[(0, size, *count, What::Header(sizes.1, sizes.2))],
-            };
-            assert!(rt; detects(rt.alloc(), &dump, sizes)?, "case {index}, {fill}");
-        }
+/// What is told of eraseblocks of 1,024 bytes that lie in a part of a file. Their headers fit pages of 64 and of 128 bytes.
+const fn small(start: u64, length: u64) -> Told {
+    Told {
+        peb: 1024,
+        offsets: (64, 128),
+        pages: &[64, 128],
+        oob: 0,
+        part: (start, length),
     }
-    Ok(())
 }
 
-/// Files of which not each eraseblock starts with a header, or that hold others.
-static DETECTED: [(Dump<'static>, Sizes); 9] = [
-    // The first eraseblock is blank, or the second one.
-    (
-        Dump {
-            len: 4096,
-            fill: 0xFF,
-            rows: &[(1024, 1024, 3, What::Header(64, 128))],
-        },
-        (1024, 64, 128, &[64, 128]),
-    ),
+/// Files that are an image, or hold one. Eraseblocks of 1,024 bytes have their table's last record at 816.
+static DETECTED: [(Dump<'static>, Told); 16] = [
+    // Each eraseblock has a header, and the first two hold the volume table.
     (
         Dump {
             len: 4096,
             fill: 0xFF,
             rows: &[
-                (0, 1024, 1, What::Header(64, 128)),
+                (0, 1024, 4, What::Header(64, 128)),
+                (64, 1, 1, What::Table(0)),
+                (1024 + 64, 1, 1, What::Table(1)),
+                (128, 1024, 2, What::Fill(0, 860)),
+            ],
+        },
+        small(0, 4096),
+    ),
+    // The first eraseblock is blank; the second, behind the last one of the table.
+    (
+        Dump {
+            len: 4096,
+            fill: 0xFF,
+            rows: &[
+                (1024, 1024, 3, What::Header(64, 128)),
+                (1024 + 64, 1, 1, What::Table(1)),
+                (2048 + 64, 1, 1, What::Table(0)),
+                (1024 + 128, 1024, 2, What::Fill(0, 860)),
+            ],
+        },
+        small(0, 4096),
+    ),
+    // One in the middle and two at the end are.
+    (
+        Dump {
+            len: 7 * 1024,
+            fill: 0xFF,
+            rows: &[
+                (0, 1024, 2, What::Header(64, 128)),
+                (3 * 1024, 1024, 2, What::Header(64, 128)),
+                (64, 1, 1, What::Table(0)),
+                (1024 + 64, 1, 1, What::Table(1)),
+                (128, 1024, 2, What::Fill(0, 860)),
+            ],
+        },
+        small(0, 7 * 1024),
+    ),
+    // A bad eraseblock is all zeros. It isn't blank: behind the last header it is no part of the image.
+    (
+        Dump {
+            len: 6 * 1024,
+            fill: 0,
+            rows: &[
+                (0, 1024, 2, What::Header(64, 128)),
+                (3 * 1024, 1024, 2, What::Header(64, 128)),
+                (64, 1, 1, What::Table(0)),
+                (1024 + 64, 1, 1, What::Table(1)),
+                (1024 - 16, 1024, 2, What::Fill(0xFF, 16)),
+            ],
+        },
+        small(0, 5 * 1024),
+    ),
+    // A boot loader lies before it.
+    (
+        Dump {
+            len: 1536 + 4096,
+            fill: 0xFF,
+            rows: &[
+                (0, 1, 1, What::Fill(5, 1536)),
+                (1536, 1024, 4, What::Header(64, 128)),
+                (1536 + 64, 1, 1, What::Table(0)),
+                (2560 + 64, 1, 1, What::Table(1)),
+                (1536 + 128, 1024, 2, What::Fill(0, 860)),
+            ],
+        },
+        small(1536, 4096),
+    ),
+    // Other bytes lie behind it, as many as no eraseblock has.
+    (
+        Dump {
+            len: 4096 + 3000,
+            fill: 0xFF,
+            rows: &[
+                (0, 1024, 4, What::Header(64, 128)),
+                (64, 1, 1, What::Table(0)),
+                (1024 + 64, 1, 1, What::Table(1)),
+                (128, 1024, 2, What::Fill(0, 860)),
+                (4096, 1, 1, What::Fill(5, 3000)),
+            ],
+        },
+        small(0, 4096),
+    ),
+    // No table, but three headers, and in the first eraseblock data up to beyond its half.
+    (
+        Dump {
+            len: 3 * 1024,
+            fill: 0xFF,
+            rows: &[
+                (0, 1024, 3, What::Header(64, 128)),
+                (64, 1024, 3, What::Vid),
+                (128, 1, 1, What::Fill(1, 472)),
+            ],
+        },
+        small(0, 3 * 1024),
+    ),
+    // Some headers name no image sequence number, also the first one.
+    (
+        Dump {
+            len: 4096,
+            fill: 0xFF,
+            rows: &[
+                (0, 2048, 2, What::Numbered(64, 128, 0)),
+                (1024, 2048, 2, What::Header(64, 128)),
+                (64, 1, 1, What::Table(0)),
+                (1024 + 64, 1, 1, What::Table(1)),
+                (128, 1024, 2, What::Fill(0, 860)),
+            ],
+        },
+        small(0, 4096),
+    ),
+    // None names one.
+    (
+        Dump {
+            len: 4096,
+            fill: 0xFF,
+            rows: &[
+                (0, 1024, 4, What::Numbered(64, 128, 0)),
+                (64, 1, 1, What::Table(0)),
+                (1024 + 64, 1, 1, What::Table(1)),
+                (128, 1024, 2, What::Fill(0, 860)),
+            ],
+        },
+        small(0, 4096),
+    ),
+    // Of two images that are equally large the first one is told.
+    (
+        Dump {
+            len: 4096,
+            fill: 0xFF,
+            rows: &[
+                (0, 1024, 2, What::Numbered(64, 128, 8)),
                 (2048, 1024, 2, What::Header(64, 128)),
+                (64, 2048, 2, What::Table(0)),
+                (1024 + 64, 2048, 2, What::Table(1)),
+                (128, 1024, 4, What::Fill(0, 860)),
             ],
         },
-        (1024, 64, 128, &[64, 128]),
+        small(0, 2048),
     ),
-    // Neighbours are only the last two.
+    // Of others the larger one.
     (
         Dump {
-            len: 9 * 1024,
+            len: 5 * 1024,
             fill: 0xFF,
             rows: &[
-                (0, 4096, 2, What::Header(64, 128)),
-                (7 * 1024, 1024, 2, What::Header(64, 128)),
+                (0, 1024, 2, What::Numbered(64, 128, 8)),
+                (2048, 1024, 3, What::Header(64, 128)),
+                (64, 2048, 2, What::Table(0)),
+                (1024 + 64, 2048, 2, What::Table(1)),
+                (128, 1024, 4, What::Fill(0, 860)),
             ],
         },
-        (1024, 64, 128, &[64, 128]),
+        small(2048, 3072),
     ),
-    // A bad eraseblock is all zeros.
+    // The data of the third eraseblock hold an image of smaller ones; and those of the second.
     (
         Dump {
-            len: 8 * 1024,
-            fill: 0,
-            rows: &[
-                (0, 1024, 1, What::Header(64, 128)),
-                (2048, 1024, 6, What::Header(64, 128)),
-            ],
-        },
-        (1024, 64, 128, &[64, 128]),
-    ),
-    // The second half is free.
-    (
-        Dump {
-            len: 16 * 16_384,
+            len: 4 * 16_384,
             fill: 0xFF,
             rows: &[
-                (0, 16_384, 8, What::Header(512, 1024)),
-                (512, 512, 31, What::Fill(0, 512)),
-                (16_384 + 512, 16_384, 7, What::Fill(1, 512)),
+                (0, 16_384, 4, What::Header(512, 1024)),
+                (512, 1, 1, What::Table(0)),
+                (16_384 + 512, 1, 1, What::Table(1)),
+                (1024, 16_384, 2, What::Fill(0, 15_344)),
+                (2 * 16_384 + 1024, 1024, 15, What::Header(64, 128)),
             ],
         },
-        (16_384, 512, 1024, &[512, 1024]),
+        Told {
+            peb: 16_384,
+            offsets: (512, 1024),
+            pages: &[512, 1024],
+            oob: 0,
+            part: (0, 65_536),
+        },
     ),
-    // The data of an eraseblock hold smaller ones: where all eraseblocks have headers, and where one is blank.
     (
         Dump {
-            len: 16 * 16_384,
+            len: 4 * 16_384,
             fill: 0xFF,
             rows: &[
-                (0, 16_384, 16, What::Header(512, 1024)),
-                (5 * 16_384 + 1024, 1024, 15, What::Header(64, 128)),
+                (0, 16_384, 4, What::Header(512, 1024)),
+                (2 * 16_384 + 512, 1, 1, What::Table(0)),
+                (3 * 16_384 + 512, 1, 1, What::Table(1)),
+                (2 * 16_384 + 1024, 16_384, 2, What::Fill(0, 15_344)),
+                (16_384 + 1024, 1024, 15, What::Header(64, 128)),
             ],
         },
-        (16_384, 512, 1024, &[512, 1024]),
-    ),
-    (
-        Dump {
-            len: 16 * 16_384,
-            fill: 0,
-            rows: &[
-                (0, 16_384, 16, What::Header(512, 1024)),
-                (5 * 16_384 + 1024, 1024, 15, What::Header(64, 128)),
-                (9 * 16_384, 1, 1, What::Fill(0xFF, 16_384)),
-            ],
+        Told {
+            peb: 16_384,
+            offsets: (512, 1024),
+            pages: &[512, 1024],
+            oob: 0,
+            part: (0, 65_536),
         },
-        (16_384, 512, 1024, &[512, 1024]),
     ),
-    // They lie in the free half, and none of them where an eraseblock begins.
+    // Pages of 256 bytes with 8 out-of-band bytes: the identifier stands at 264, and the table's last record at 3892.
     (
         Dump {
-            len: 16 * 16_384,
+            len: 4 * 4224,
             fill: 0xFF,
             rows: &[
-                (0, 16_384, 8, What::Header(512, 1024)),
-                (512, 16_384, 8, What::Fill(0, 1024)),
-                (8 * 16_384 + 512, 1024, 4, What::Header(64, 128)),
+                (0, 4224, 4, What::Header(256, 512)),
+                (264, 1, 1, What::Table(0)),
+                (4224 + 264, 1, 1, What::Table(1)),
+                (528, 4224, 2, What::Fill(0, 3500)),
             ],
         },
-        (16_384, 512, 1024, &[512, 1024]),
+        Told {
+            peb: 4096,
+            offsets: (256, 512),
+            pages: &[256],
+            oob: 8,
+            part: (0, 16_896),
+        },
     ),
-    // One eraseblock is the whole file.
+    // Eraseblocks of 131,072 bytes: the identifier at 2048 fits pages of 2048 and of 4096 bytes, and the table ends at 26,112.
     (
         Dump {
-            len: 131_072,
-            fill: 0,
-            rows: &[(0, 1, 1, What::Header(2048, 4096))],
+            len: 4 * 131_072,
+            fill: 0xFF,
+            rows: &[
+                (0, 131_072, 4, What::Header(2048, 4096)),
+                (2048, 1, 1, What::Table(0)),
+                (131_072 + 2048, 1, 1, What::Table(1)),
+                (4096, 131_072, 2, What::Fill(0, 22_016)),
+            ],
         },
-        (131_072, 2048, 4096, &[2048, 4096]),
+        Told {
+            peb: 131_072,
+            offsets: (2048, 4096),
+            pages: &[2048, 4096],
+            oob: 0,
+            part: (0, 524_288),
+        },
+    ),
+    // With 64 out-of-band bytes behind each page of 2048, the identifier stands at 2112, and the table's last record at 26,708. A
+    // page of other bytes lies before them.
+    (
+        Dump {
+            len: 2112 + 3 * 135_168,
+            fill: 0xFF,
+            rows: &[
+                (0, 1, 1, What::Fill(5, 2112)),
+                (2112, 135_168, 3, What::Header(2048, 4096)),
+                (2112 + 2112, 1, 1, What::Table(0)),
+                (2112 + 135_168 + 2112, 1, 1, What::Table(1)),
+                (2112 + 4224, 135_168, 2, What::Fill(0, 23_000)),
+            ],
+        },
+        Told {
+            peb: 131_072,
+            offsets: (2048, 4096),
+            pages: &[2048],
+            oob: 64,
+            part: (2112, 405_504),
+        },
     ),
 ];
 
 #[test]
-fn detects_the_size_that_fits_best(rt: HostRuntime) -> Result<(), Fail> {
-    for (index, (dump, sizes)) in DETECTED.iter().enumerate() {
-        assert!(rt; detects(rt.alloc(), dump, sizes)?, "case {index}");
+fn detects_an_image(rt: HostRuntime) -> Result<(), Fail> {
+    for (index, (dump, told)) in DETECTED.iter().enumerate() {
+        assert!(rt; detects(rt.alloc(), dump, told)?, "case {index}");
     }
     Ok(())
 }
 
-/// Files of which none is detected, and why.
-static UNDETECTED: [(Dump<'static>, Undetected); 12] = [
+/// Files of which nothing is detected, and why.
+static UNDETECTED: [(Dump<'static>, Undetected); 17] = [
     (
         Dump {
             len: 0,
@@ -205,25 +357,17 @@ static UNDETECTED: [(Dump<'static>, Undetected); 12] = [
     (
         Dump {
             len: 8192,
-            fill: 0,
-            rows: &[],
-        },
-        Undetected::NoHeader,
-    ),
-    (
-        Dump {
-            len: 8192,
             fill: 0xFF,
             rows: &[],
         },
         Undetected::NoHeader,
     ),
-    // It stands beside the multiples of 512, or the file ends in it.
+    // It stands beside the multiples of 64, or the file ends in it.
     (
         Dump {
             len: 8192,
             fill: 0xFF,
-            rows: &[(256, 1, 1, What::Header(64, 128))],
+            rows: &[(32, 1, 1, What::Header(64, 128))],
         },
         Undetected::NoHeader,
     ),
@@ -235,11 +379,117 @@ static UNDETECTED: [(Dump<'static>, Undetected); 12] = [
         },
         Undetected::NoHeader,
     ),
+    // A single header says no size, also not that of the file.
+    (
+        Dump {
+            len: 131_072,
+            fill: 0xFF,
+            rows: &[(0, 1, 1, What::Header(2048, 4096))],
+        },
+        Undetected::NoSize,
+    ),
+    // Neither do two of other images.
+    (
+        Dump {
+            len: 2048,
+            fill: 0xFF,
+            rows: &[
+                (0, 1, 1, What::Header(64, 128)),
+                (1024, 1, 1, What::Numbered(64, 128, 8)),
+            ],
+        },
+        Undetected::NoSize,
+    ),
+    (
+        Dump {
+            len: 2048,
+            fill: 0xFF,
+            rows: &[
+                (0, 1, 1, What::Header(64, 128)),
+                (1024, 1, 1, What::Header(64, 256)),
+            ],
+        },
+        Undetected::NoSize,
+    ),
+    // Two headers, and no table.
+    (
+        Dump {
+            len: 2048,
+            fill: 0xFF,
+            rows: &[
+                (0, 1024, 2, What::Header(64, 128)),
+                (64, 1024, 2, What::Vid),
+                (128, 1, 1, What::Fill(1, 472)),
+            ],
+        },
+        Undetected::NoSize,
+    ),
+    // Three, but nothing where the second half of an eraseblock would begin; or something behind blank bytes.
+    (
+        Dump {
+            len: 3 * 1024,
+            fill: 0xFF,
+            rows: &[
+                (0, 1024, 3, What::Header(64, 128)),
+                (64, 1024, 3, What::Vid),
+                (128, 1, 1, What::Fill(1, 300)),
+            ],
+        },
+        Undetected::NoSize,
+    ),
+    (
+        Dump {
+            len: 3 * 1024,
+            fill: 0xFF,
+            rows: &[
+                (0, 1024, 3, What::Header(64, 128)),
+                (64, 1024, 3, What::Vid),
+                (128, 1, 1, What::Fill(1, 472)),
+                (1024 + 512, 1, 1, What::Fill(1, 64)),
+            ],
+        },
+        Undetected::NoSize,
+    ),
+    // No eraseblock ends blank.
     (
         Dump {
             len: 4096,
             fill: 0,
-            rows: &[(1536, 1, 1, What::Header(64, 128))],
+            rows: &[
+                (0, 1024, 4, What::Header(64, 128)),
+                (64, 1, 1, What::Table(0)),
+                (1024 + 64, 1, 1, What::Table(1)),
+            ],
+        },
+        Undetected::NoSize,
+    ),
+    // No more than half of the eraseblocks have a header: three of six.
+    (
+        Dump {
+            len: 6 * 1024,
+            fill: 0xFF,
+            rows: &[
+                (0, 1024, 2, What::Header(64, 128)),
+                (5 * 1024, 1, 1, What::Header(64, 128)),
+                (64, 1, 1, What::Table(0)),
+                (1024 + 64, 1, 1, What::Table(1)),
+                (128, 1024, 2, What::Fill(0, 860)),
+            ],
+        },
+        Undetected::NoSize,
+    ),
+    // A header lies off the grid of the others: of all of them the size is 512.
+    (
+        Dump {
+            len: 4096 + 1024,
+            fill: 0xFF,
+            rows: &[
+                (0, 1024, 4, What::Header(64, 128)),
+                (64, 1, 1, What::Table(0)),
+                (1024 + 64, 1, 1, What::Table(1)),
+                (128, 1024, 2, What::Fill(0, 860)),
+                (4096 + 512, 1, 1, What::Header(64, 128)),
+            ],
         },
         Undetected::NoSize,
     ),
@@ -247,59 +497,41 @@ static UNDETECTED: [(Dump<'static>, Undetected); 12] = [
     (
         Dump {
             len: 3 * 1024 + 512,
-            fill: 0,
-            rows: &[(0, 1024, 4, What::Header(64, 128))],
+            fill: 0xFF,
+            rows: &[
+                (0, 1024, 4, What::Header(64, 128)),
+                (64, 1, 1, What::Table(0)),
+                (1024 + 64, 1, 1, What::Table(1)),
+                (128, 1024, 2, What::Fill(0, 860)),
+            ],
         },
         Undetected::Length(1024, 512),
     ),
     (
         Dump {
-            len: 5 * 1024 + 7,
+            len: 4 * 131_072 - 1,
             fill: 0xFF,
-            rows: &[(0, 1024, 5, What::Header(64, 128))],
+            rows: &[(0, 131_072, 4, What::Header(2048, 4096))],
         },
-        Undetected::Length(1024, 7),
+        Undetected::Length(131_072, 131_071),
     ),
-    // The image in the free half begins where an eraseblock does.
+    // Pages of 256 bytes with 8 out-of-band bytes, and no identifier. The parts of a half and of a third begin with data.
     (
         Dump {
-            len: 16 * 16_384,
+            len: 4 * 4224,
             fill: 0xFF,
             rows: &[
-                (0, 16_384, 8, What::Header(512, 1024)),
-                (512, 16_384, 8, What::Fill(0, 15_872)),
-                (8 * 16_384, 1024, 4, What::Header(64, 128)),
+                (0, 4224, 4, What::Header(256, 512)),
+                (528, 1, 1, What::Fill(1, 2500)),
             ],
         },
-        Undetected::Offsets(0, 8),
+        Undetected::OutOfBand(4224),
     ),
     (
         Dump {
-            len: 4 * 135_168,
-            fill: 0,
-            rows: &[(0, 135_168, 4, What::Header(2048, 4096))],
-        },
-        Undetected::OutOfBand(OutOfBand {
-            peb_size: 131_072,
-            share: 32,
-        }),
-    ),
-    (
-        Dump {
-            len: 4 * 17_408,
-            fill: 0,
-            rows: &[(0, 17_408, 4, What::Header(512, 1024))],
-        },
-        Undetected::OutOfBand(OutOfBand {
-            peb_size: 16_384,
-            share: 16,
-        }),
-    ),
-    (
-        Dump {
-            len: 2 * 6144,
-            fill: 0,
-            rows: &[(0, 6144, 2, What::Header(64, 4096))],
+            len: 3 * 6144,
+            fill: 0xFF,
+            rows: &[(0, 6144, 3, What::Header(64, 4096))],
         },
         Undetected::Page(
             6144,
@@ -323,38 +555,56 @@ fn tells_why_none_is_detected(rt: HostRuntime) -> Result<(), Fail> {
     Ok(())
 }
 
-/// Why of four eraseblocks of 1,024 bytes none is detected whose read `at` fails, if none is. `first` is where the first header
-/// stands.
+/// Why of eraseblocks of 1,024 bytes none is detected whose read `at` fails, if none is. The first one lies at `first`.
 fn error_of(alloc: Global, first: usize, at: u64) -> Result<Option<DetectError>, Fail> {
     let dump = Dump {
-        len: 4096,
+        len: 200 * 1024,
         fill: 0xFF,
-        rows: &[(first, 1024, 4, What::Header(64, 128))],
+        rows: &[
+            (first, 1024, 150, What::Header(64, 128)),
+            (first.saturating_add(64), 1, 1, What::Table(0)),
+            (first.saturating_add(1024 + 64), 1, 1, What::Table(1)),
+            (first.saturating_add(128), 1024, 2, What::Fill(0, 860)),
+        ],
     };
     let bytes = bytes_of(alloc, &dump)?;
-    let geometry = Geometry::new(1024, 64, 64, 128, 32)?;
+    let geometry = Geometry::new(1024, 64, 64, 128, 256)?;
     let mut source = ProbeSource::new(alloc, &geometry, bytes.as_slice(), at)?;
     Ok(detect_from(alloc, &mut source).err())
 }
 
-/// Where the reads begin, up to the last one: the first two eraseblocks, and then where each begins; or where the first one is
-/// blank, the first two, the first one again, and the others.
-static READS: [(usize, &[u64]); 2] = [
-    (0, &[0, 512, 1024, 1536, 0, 1024, 2048, 3072]),
-    (1024, &[0, 512, 1024, 1536, 0, 2048, 2560, 3072, 3584]),
+/// The reads of a file that begins with a header, by number, and where they begin: those of the first header, of the places up to the
+/// second one and of those up to where a third would be, and of where eraseblocks begin, up to the first that is blank; then all of
+/// it, and the first eraseblock again.
+static READS: [(u64, u64); 12] = [
+    (1, 0),
+    (2, 64),
+    (3, 128),
+    (17, 1024),
+    (18, 1024 + 64),
+    (32, 2048 - 64),
+    (33, 1024),
+    (34, 2048),
+    (182, 150 * 1024),
+    (183, 0),
+    (184, 65_536),
+    (187, 0),
 ];
+
+/// Those of one whose first eraseblock is blank: the first 64 bytes, and all of it.
+static READS_BEHIND: [(u64, u64); 5] = [(1, 0), (2, 0), (3, 65_536), (4, 131_072), (5, 196_608)];
 
 #[test]
 fn tells_the_place_of_the_read_that_failed(rt: HostRuntime) -> Result<(), Fail> {
-    for (first, places) in &READS {
-        for (index, place) in places.iter().enumerate() {
-            let error = error_of(rt.alloc(), *first, index as u64 + 1)?;
+    for (first, reads) in [(0, READS.as_slice()), (1024, READS_BEHIND.as_slice())] {
+        for (number, place) in reads {
+            let error = error_of(rt.alloc(), first, *number)?;
             assert!(rt;
                 error == Some(DetectError::Read(*place)),
-                "read {index}, {first}"
+                "read {number}, {first}"
             );
         }
-        let error = error_of(rt.alloc(), *first, places.len() as u64 + 1)?;
+        let error = error_of(rt.alloc(), first, 1_000_000)?;
         assert!(rt; error == None, "no read, {first}");
     }
     Ok(())
@@ -363,7 +613,11 @@ fn tells_the_place_of_the_read_that_failed(rt: HostRuntime) -> Result<(), Fail> 
 /// The size that is detected of a file, in bytes, or that memory ran out.
 fn size_of(alloc: Global, bytes: &[u8]) -> Result<u32, DetectError> {
     let found = detect_from(alloc, &mut MemorySource::new(bytes))?;
-    Ok(found.get(0).map_or(0, |geometry| geometry.peb_size()))
+    Ok(
+        found
+            .get(0)
+            .map_or(0, |detected| detected.geometry.peb_size()),
+    )
 }
 
 /// The script bench/second/refuse.sh refuses each growth of memory in turn, and looks for the line that is printed here.
@@ -372,6 +626,11 @@ fn detects_or_runs_out_of_memory(rt: HostRuntime) -> Result<(), Fail> {
     let mut bytes = [0xFF; 16_384];
     for block in 1..8 {
         put(&mut bytes, 2048 * block, &header(64, 128)?);
+    }
+    for copy in 0..2 {
+        let at = 2048 * (usize::from(copy) + 1);
+        put(&mut bytes, at + 64, &table_vid(copy));
+        put(&mut bytes, at + 128, &[0; 1900]);
     }
     let blank = size_of(rt.alloc(), &bytes);
     put(&mut bytes, 0, &header(64, 128)?);

@@ -7,8 +7,14 @@ use ubi_media::{EcHeader, Geometry, GeometryError, write_ec};
 /// What is put at a place of a file.
 #[derive(Clone, Copy)]
 pub enum What {
-    /// An erase-counter header that names offsets.
+    /// An erase-counter header that names offsets, and the image sequence number 9.
     Header(u32, u32),
+    /// One that names offsets and another number.
+    Numbered(u32, u32, u32),
+    /// What a volume-identifier header of the volume 0 begins with.
+    Vid,
+    /// What one of the volume table begins with, of the copy with this number.
+    Table(u8),
     /// As many bytes of one value.
     Fill(u8, usize),
 }
@@ -24,14 +30,29 @@ pub struct Dump<'a> {
     pub rows: &'a [Row],
 }
 
-/// The bytes of a header that names offsets.
-pub fn header(vid_offset: u32, data_offset: u32) -> Result<[u8; 64], GeometryError> {
+/// The bytes of a header that names offsets and a number.
+fn numbered(vid_offset: u32, data_offset: u32, image_seq: u32) -> Result<[u8; 64], GeometryError> {
     let geometry = Geometry::new(0x0100_0000, 64, vid_offset, data_offset, 2)?;
     let header = EcHeader {
         counter: 7,
-        image_seq: 9,
+        image_seq,
     };
     Ok(write_ec(&geometry, &header))
+}
+
+/// The bytes of a header that names offsets, and the number 9.
+pub fn header(vid_offset: u32, data_offset: u32) -> Result<[u8; 64], GeometryError> {
+    numbered(vid_offset, data_offset, 9)
+}
+
+/// The first 16 bytes of the volume-identifier header of the volume 0: magic, version, type and flags, volume, logical eraseblock.
+static VID: [u8; 16] = [b'U', b'B', b'I', b'!', 1, 1, 0, 0, 0, 0, 0, 0, 0, 0, 0, 0];
+
+/// Those of the volume table, of the copy with this number.
+pub fn table_vid(copy: u8) -> [u8; 16] {
+    [
+        b'U', b'B', b'I', b'!', 1, 1, 0, 5, 0x7F, 0xFF, 0xEF, 0xFF, 0, 0, 0, copy,
+    ]
 }
 
 /// Puts bytes at a place, as far as there is room.
@@ -50,16 +71,25 @@ fn fill(bytes: &mut [u8], at: usize, value: u8, count: usize) {
     }
 }
 
+/// Puts something at a place.
+fn put_what(bytes: &mut [u8], at: usize, what: What) -> Result<(), GeometryError> {
+    match what {
+        What::Header(vid, data) => put(bytes, at, &header(vid, data)?),
+        What::Numbered(vid, data, seq) => put(bytes, at, &numbered(vid, data, seq)?),
+        What::Vid => put(bytes, at, &VID),
+        What::Table(copy) => put(bytes, at, &table_vid(copy)),
+        What::Fill(value, count) => fill(bytes, at, value, count),
+    }
+    Ok(())
+}
+
 /// The bytes of a file.
 pub fn bytes_of(alloc: Global, dump: &Dump<'_>) -> Result<Vec<u8>, Fail> {
     let mut bytes = Vec::from_elem(alloc, dump.fill, dump.len)?;
     for (from, step, count, what) in dump.rows {
         for index in 0..*count {
             let at = from.saturating_add(step.saturating_mul(index));
-            match *what {
-                What::Header(vid, data) => put(bytes.as_mut_slice(), at, &header(vid, data)?),
-                What::Fill(value, count) => fill(bytes.as_mut_slice(), at, value, count),
-            }
+            put_what(bytes.as_mut_slice(), at, *what)?;
         }
     }
     Ok(bytes)

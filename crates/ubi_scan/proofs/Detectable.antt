@@ -1,0 +1,57 @@
+-- Of each file something is told, or it is refused for a cause.
+use Rattle.std.proofs.Common.{◌≡◌, ℕ, ◌-◌, ◌⊎◌, Bool, true, false, List, [], ◌∷◌, length, inl, inr, refl, ap, sym, ◌∙◌, arith}
+use Rattle.ubi_media.proofs.Cases.{within_or_past}
+use Rattle.ubi_scan.specs.Detected.{AreDetected, IsFound, IsUndetected, IsWhole, NonePlain}
+use Rattle.ubi_scan.specs.DetectLaws.{DetectedOrRefused}
+use Rattle.ubi_scan.specs.Groups.{IsImage}
+use Rattle.ubi_scan.specs.Heads.{heads_of}
+use Rattle.ubi_scan.specs.Place.{end_of_last, has_no_page, told}
+use Rattle.ubi_scan.specs.Sure.{is_sure}
+use Rattle.ubi_scan.specs.declared.detect.Detected.{Detected}
+use Rattle.ubi_scan.specs.declared.detect.Undetected.{Undetected}
+use Rattle.ubi_scan.specs.declared.detect.Undetected.TheVariants as cause
+use Rattle.ubi_scan.specs.declared.groups.Group.{Group}
+use Rattle.ubi_scan.specs.declared.heads.Head.{Head}
+use Rattle.ubi_scan.proofs.PlainOrNot.{surely_or_not}
+use Rattle.ubi_scan.proofs.SaidGroups.{not_sure}
+use Rattle.ubi_scan.proofs.SomeGroups.{image_or_none}
+
+module _ (bytes : List ℕ) where
+  abbrev Answer : Type 0
+  Answer = ((found : List Detected) × AreDetected bytes found) ⊎ ((c : Undetected) × IsUndetected bytes c)
+
+  by_page : (g : Group) → IsFound bytes g → told bytes g ≡ [] → (b : Bool) → has_no_page g ≡ b → Answer
+  by_page g found none true e = inr (cause.Page g.size g.key.offsets, (g, found, none, e, refl, refl))
+  by_page g found none false e = inr (cause.OutOfBand g.size, (g, found, none, e, refl))
+
+  by_told : (g : Group) → IsFound bytes g → (ds : List Detected) → told bytes g ≡ ds → Answer
+  by_told g found [] e = by_page g found e (has_no_page g) refl
+  by_told g found (d ∷ ds) e =
+      inl (d ∷ ds, record { group = g; is = found; are = sym e; some = λ f. let n = ap length f in omega (arith, n) })
+
+  by_sure : (g : Group) → IsWhole bytes g → (b : Bool) → is_sure bytes g ≡ b → Answer
+  by_sure g whole true e = by_told g (inr (whole, e)) (told bytes g) refl
+  by_sure g whole false e = inr (cause.NoSize, not_sure bytes g whole e)
+
+  by_image : NonePlain bytes → (j : ℕ) (g : Group) → IsImage (heads_of bytes) j g → Answer
+  by_image none j g image = elim (within_or_past (end_of_last g) (length bytes)) [
+    | inl whole ↦ by_sure g (record { none = none; index = j; image = image; whole = whole }) (is_sure bytes g) refl
+    | inr past ↦ inr (cause.Length g.size (length bytes - g.last), (none, (j, g, image, past, refl, refl)))
+  ]
+
+  by_heads : NonePlain bytes → ((j : ℕ) (g : Group) → IsImage (heads_of bytes) j g → ⊥) → (hs : List Head) → heads_of bytes ≡ hs → Answer
+  by_heads none images [] e = inr (cause.NoHeader, e)
+  by_heads none images (h ∷ hs) e =
+      inr (cause.NoSize, ((λ f. let n = ap length (sym e ∙ f) in omega (arith, n)), none, inl images))
+
+  answer : Answer
+  answer = elim (surely_or_not bytes) [
+    | inl plain ↦ by_told plain.0 (inl plain.1) (told bytes plain.0) refl
+    | inr none ↦ elim (image_or_none bytes) [
+      | inl image ↦ by_image none image.1 image.0 image.2
+      | inr images ↦ by_heads none images (heads_of bytes) refl
+    ]
+  ]
+
+pub detected_or_refused : DetectedOrRefused
+detected_or_refused bytes = answer bytes
