@@ -59,18 +59,19 @@ fn cause_of(alloc: Global, dump: &Dump<'_>) -> Result<Option<DetectError>, Fail>
 }
 
 /// What is told of eraseblocks of 1,024 bytes that lie in a part of a file. Their headers fit pages of 64 and of 128 bytes.
-const fn small(start: u64, length: u64) -> Told {
+fn small(part: (u64, u64)) -> Told {
     Told {
         peb: 1024,
         offsets: (64, 128),
         pages: &[64, 128],
         oob: 0,
-        part: (start, length),
+        part,
     }
 }
 
-/// Files that are an image, or hold one. Eraseblocks of 1,024 bytes have their table's last record at 816.
-static DETECTED: [(Dump<'static>, Told); 16] = [
+/// Files that are an image of eraseblocks of 1,024 bytes, or hold one, and where it begins, and how many bytes it has. The last record
+/// of the table stands at 816.
+static SMALL: [(Dump<'static>, (u64, u64)); 11] = [
     // Each eraseblock has a header, and the first two hold the volume table.
     (
         Dump {
@@ -83,7 +84,7 @@ static DETECTED: [(Dump<'static>, Told); 16] = [
                 (128, 1024, 2, What::Fill(0, 860)),
             ],
         },
-        small(0, 4096),
+        (0, 4096),
     ),
     // The first eraseblock is blank; the second, behind the last one of the table.
     (
@@ -97,7 +98,7 @@ static DETECTED: [(Dump<'static>, Told); 16] = [
                 (1024 + 128, 1024, 2, What::Fill(0, 860)),
             ],
         },
-        small(0, 4096),
+        (0, 4096),
     ),
     // One in the middle and two at the end are.
     (
@@ -112,7 +113,7 @@ static DETECTED: [(Dump<'static>, Told); 16] = [
                 (128, 1024, 2, What::Fill(0, 860)),
             ],
         },
-        small(0, 7 * 1024),
+        (0, 7 * 1024),
     ),
     // A bad eraseblock is all zeros. It isn't blank: behind the last header it is no part of the image.
     (
@@ -127,7 +128,7 @@ static DETECTED: [(Dump<'static>, Told); 16] = [
                 (1024 - 16, 1024, 2, What::Fill(0xFF, 16)),
             ],
         },
-        small(0, 5 * 1024),
+        (0, 5 * 1024),
     ),
     // A boot loader lies before it.
     (
@@ -142,7 +143,7 @@ static DETECTED: [(Dump<'static>, Told); 16] = [
                 (1536 + 128, 1024, 2, What::Fill(0, 860)),
             ],
         },
-        small(1536, 4096),
+        (1536, 4096),
     ),
     // Other bytes lie behind it, as many as no eraseblock has.
     (
@@ -157,7 +158,7 @@ static DETECTED: [(Dump<'static>, Told); 16] = [
                 (4096, 1, 1, What::Fill(5, 3000)),
             ],
         },
-        small(0, 4096),
+        (0, 4096),
     ),
     // No table, but three headers, and in the first eraseblock data up to beyond its half.
     (
@@ -170,7 +171,7 @@ static DETECTED: [(Dump<'static>, Told); 16] = [
                 (128, 1, 1, What::Fill(1, 472)),
             ],
         },
-        small(0, 3 * 1024),
+        (0, 3 * 1024),
     ),
     // Some headers name no image sequence number, also the first one.
     (
@@ -185,7 +186,7 @@ static DETECTED: [(Dump<'static>, Told); 16] = [
                 (128, 1024, 2, What::Fill(0, 860)),
             ],
         },
-        small(0, 4096),
+        (0, 4096),
     ),
     // None names one.
     (
@@ -199,7 +200,7 @@ static DETECTED: [(Dump<'static>, Told); 16] = [
                 (128, 1024, 2, What::Fill(0, 860)),
             ],
         },
-        small(0, 4096),
+        (0, 4096),
     ),
     // Of two images that are equally large the first one is told.
     (
@@ -214,7 +215,7 @@ static DETECTED: [(Dump<'static>, Told); 16] = [
                 (128, 1024, 4, What::Fill(0, 860)),
             ],
         },
-        small(0, 2048),
+        (0, 2048),
     ),
     // Of others the larger one.
     (
@@ -229,8 +230,20 @@ static DETECTED: [(Dump<'static>, Told); 16] = [
                 (128, 1024, 4, What::Fill(0, 860)),
             ],
         },
-        small(2048, 3072),
+        (2048, 3072),
     ),
+];
+
+#[test]
+fn detects_an_image_of_small_eraseblocks(rt: HostRuntime) -> Result<(), Fail> {
+    for (index, (dump, part)) in SMALL.iter().enumerate() {
+        assert!(rt; detects(rt.alloc(), dump, &small(*part))?, "case {index}");
+    }
+    Ok(())
+}
+
+/// Files that are an image of others.
+static OTHERS: [(Dump<'static>, Told); 5] = [
     // The data of the third eraseblock hold an image of smaller ones; and those of the second.
     (
         Dump {
@@ -337,8 +350,8 @@ static DETECTED: [(Dump<'static>, Told); 16] = [
 ];
 
 #[test]
-fn detects_an_image(rt: HostRuntime) -> Result<(), Fail> {
-    for (index, (dump, told)) in DETECTED.iter().enumerate() {
+fn detects_an_image_of_others(rt: HostRuntime) -> Result<(), Fail> {
+    for (index, (dump, told)) in OTHERS.iter().enumerate() {
         assert!(rt; detects(rt.alloc(), dump, told)?, "case {index}");
     }
     Ok(())
