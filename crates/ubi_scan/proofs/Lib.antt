@@ -43,6 +43,7 @@ pub mod Places
 pub mod PlainGroups
 pub mod PlainHeads
 pub mod PlainOrNot
+pub mod OwnGeometry
 pub mod PlainSizes
 pub mod ReadParts
 pub mod Revalued

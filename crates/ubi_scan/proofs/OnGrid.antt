@@ -4,13 +4,13 @@ use Rattle.std.specs.Int.{◌∣◌}
 use Rattle.std.specs.List.{All, range_with_len}
 use Rattle.std.specs.Option.{option_to_list}
 use Rattle.std.specs.Prelude.{None, Option, Some, option_map}
-use Rattle.std.proofs.Math.Nat.{dvd-mul_left, mod-add-div', mul-le-mul_right}
+use Rattle.std.proofs.Math.Nat.{dvd-mul_left, dvd-sub, mod-add-div', mul-le-mul_right}
 use Rattle.std.proofs.lemmas.List.{append-nil}
 use Rattle.std.proofs.lemmas.List.Elements.{All-cons, All-nil, All-push}
 use Rattle.std.proofs.lemmas.List.FromFn.{length-range_with_len}
 use Rattle.std.proofs.lemmas.List.Sums.{prefix_len-le-length}
 use Rattle.std.proofs.lemmas.Nat.Gcd.{le_of_dvd}
-use Rattle.ubi_scan.specs.DetectLaws.{EachOnGrid, GreatestSize, PlaceOnGrid}
+use Rattle.ubi_scan.specs.DetectLaws.{EachOnGrid, GreatestSize, PlaceOnGrid, SizeOfImage}
 use Rattle.ubi_scan.specs.Heads.{first_place, heads_of, heads_to, is_of, key_in, last_place, places, step}
 use Rattle.ubi_scan.specs.Place.{blanks_before, blanks_behind, end_of_last, run}
 use Rattle.ubi_scan.specs.declared.heads.Head.{Head}
@@ -89,6 +89,18 @@ each_on_grid bytes j p g image has =
 pub greatest_size : GreatestSize
 greatest_size bytes j q g image divides =
     let from = image.says.from in le_of_dvd (omega (arith, from)) (image.says.group.size.greatest q divides)
+
+-- where all distances are multiples of q, and two headers stand q apart, the size is q
+pub size_of_image : SizeOfImage
+size_of_image bytes j q p g image from divides one other =
+    let here = each_on_grid bytes j p g image one in
+    let there = each_on_grid bytes j (p + q) g image other in
+    let low = here.0 in
+    let same : p + q - g.first - (p - g.first) ≡ q = omega (arith, low) in
+    let P : ℕ → Type 0 = λ x. g.size ∣ x in
+    let few = le_of_dvd from (subst P same (dvd-sub g.size there.2 here.2)) in
+    let most = greatest_size bytes j q g image divides in
+    omega (arith, few, most)
 
 run_most : (t : ℕ → Bool) (n : ℕ) → run t n ≤ n
 run_most t n =

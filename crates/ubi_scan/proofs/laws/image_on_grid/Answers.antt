@@ -1,4 +1,4 @@
-use Rattle.ubi_scan.proofs.OnGrid.{each_on_grid, greatest_size, place_on_grid}
+use Rattle.ubi_scan.proofs.OnGrid.{each_on_grid, greatest_size, place_on_grid, size_of_image}
 use Rattle.ubi_scan.proofs.laws.image_on_grid.Goals as goal
 
 pub returns-clause-each : goal.returns-clause-each
@@ -9,3 +9,6 @@ returns-clause-greatest c = greatest_size
 
 pub returns-clause-place : goal.returns-clause-place
 returns-clause-place c = place_on_grid
+
+pub returns-clause-size : goal.returns-clause-size
+returns-clause-size c = size_of_image
