@@ -68,7 +68,8 @@ class Group:
 
     @property
     def speaks_for(self):
-        return len(self.places) * self.said
+        """How many bytes it speaks for: as many as its size times its headers but one."""
+        return (len(self.places) - 1) * self.said
 
 
 def groups(found):
