@@ -382,12 +382,20 @@ def is_part(geometry, told):
     return has_offsets(geometry, told) and geometry.peb % (peb // page * (page + oob)) == 0
 
 
+def is_cut_up(geometry, told):
+    """Whether an image in a volume of another is told, as one of larger eraseblocks or with out-of-band bytes where the LEBs of that cut it up."""
+    peb, page, _, _, oob, *_ = told
+    return has_offsets(geometry, told) and peb // page * (page + oob) >= geometry.peb
+
+
 def may_be_joined(geometry, blocks, outer, number=None):
-    """What may be told wrong of an image in a volume of another of which all headers are there: a part of its eraseblocks where both name the same
-    offsets, and a header of the inner one no number, or that of the outer one."""
-    joined = {bytes(4), number}
-    is_joined = (geometry.vid, geometry.data) == (outer.vid, outer.data) and any(block[:4] == b"UBI#" and block[24:28] in joined for block in blocks)
-    return (("headers in one of the same offsets, without number or of the same", functools.partial(is_part, outer)),) if is_joined else ()
+    """What may be told wrong of an image in a volume of another of which all headers are there, where both name the same offsets, and a header of one
+    of them no number, or both the same: a part of the outer eraseblocks, or the inner image. The number is that of the outer headers."""
+    numbers = {block[24:28] for block in blocks if block[:4] == b"UBI#"}
+    if (geometry.vid, geometry.data) != (outer.vid, outer.data) or not numbers or (number != bytes(4) and not numbers & {bytes(4), number}):
+        return ()
+    return (("headers in one of the same offsets, one without number or both of the same", functools.partial(is_part, outer)),
+        ("an image in one of the same offsets, one without number or both of the same", functools.partial(is_cut_up, geometry)))
 
 
 def with_junk(rng, content):
@@ -444,7 +452,7 @@ def in_itself(rng, image):
 def in_one_without_number(rng, image):
     """An image in a volume of one of the same sizes, whose headers name no number, with or without junk behind."""
     geometry, blocks = image(INNER_SIZES)
-    named = may_be_joined(geometry, blocks, geometry)
+    named = may_be_joined(geometry, blocks, geometry, bytes(4))
     _, outer = volume_of(rng, geometry, b"".join(blocks))
     file = whole(geometry, [renumbered(block, 0) for block in outer], named)
     return file.around(b"", junk(rng, rng.choice((0, 0, 0, rng.randrange(geometry.peb)))))
@@ -816,8 +824,8 @@ def half_there(rng, image):
 
 
 def headers_at_parts(is_own, rng, image):
-    """A whole image with a header or two at half of an eraseblock or beside it, behind the first two eraseblocks: of its own offsets and number; or
-    of no number, of another, or of other offsets. Some images have no number."""
+    """An image with a header or two at half of an eraseblock or beside it, behind the first two eraseblocks: of its own offsets and number; or
+    of no number, of another, or of other offsets. Some images have no number, and some a boot loader in front."""
     geometry, count = edge_geometry(rng), rng.randrange(4, 12)
     table, texts = rules.put_table(geometry, {}), [dense(rng, 20) for _ in range(count)]
     blocks = by_hand(rng, geometry, texts)
@@ -830,7 +838,8 @@ def headers_at_parts(is_own, rng, image):
     inner = own if is_own else rng.choice((renumbered(own, 0), renumbered(own, 77), other, other))
     for p in rng.choice(((2,), (count - 1,), (2, count - 1))):
         blocks[p] = blocks[p][:at] + inner + blocks[p][at + 64 :]
-    return whole(geometry, blocks, may_be_joined(geometry, [inner], geometry, own[24:28]) if inner != other else ())
+    named = may_be_joined(geometry, [inner], geometry, own[24:28])[:1] if inner != other else ()
+    return whole(geometry, blocks, named).around(rng.choice((b"", b"", boot_loader(rng))), b"")
 
 
 def out_of_band_limits(rng, image):
