@@ -323,6 +323,21 @@ def two_without_number(rng, image):
     return with_both(both)
 
 
+def two_off_grid(rng, image):
+    """Two images of the same sizes and number, or without one, of which the second mostly doesn't lie on the grid of the first: there is a gap, or the
+    first is cut within its last eraseblock, often in the middle of it."""
+    sizes = sizes_of(rng, SIZES)
+    number, how = rng.choice((0, 5)), rng.choice(("gap", "cut", "half"))
+    first, second = (whole(geometry, [renumbered(block, number) for block in blocks]) for geometry, blocks in (image({sizes: 1}) for _ in range(2)))
+    if how == "gap":
+        return with_both(second.behind(first.around(b"", junk(rng, 64 * rng.randrange(1, 400)))))
+    lost = sizes[0] // 2 if how == "half" else 64 * rng.randrange(1, sizes[0] // 64)
+    is_first_part = functools.partial(is_part, first.truths[0].geometry)
+    first = File(first.data[: max(0, len(first.data) - lost)], *first.truths)
+    both = second.behind(first)
+    return File(both.data, *both.truths, named=(("two images of one number, the first cut", is_first_part),))
+
+
 def one_twice(rng, image):
     file = whole(*image(SIZES))
     return with_both(file.behind(file.around(b"", junk(rng, file.truths[0].size * rng.choice((0, 0, 1, 3))))))
@@ -361,11 +376,26 @@ def has_offsets(geometry, told):
     return told[2:4] == (geometry.vid, geometry.data)
 
 
-def may_be_joined(geometry, blocks, outer):
-    """What may be told wrong of an image in a volume of another of which all headers are there: something where both name the same offsets, and a
-    header of the inner one no number."""
-    is_joined = (geometry.vid, geometry.data) == (outer.vid, outer.data) and any(block[:4] == b"UBI#" and block[24:28] == bytes(4) for block in blocks)
-    return (("an image in one of the same offsets, without number", functools.partial(has_offsets, geometry)),) if is_joined else ()
+def is_part(geometry, told):
+    """Whether eraseblocks are told that are parts of those of an image, of its offsets."""
+    peb, page, _, _, oob, *_ = told
+    return has_offsets(geometry, told) and geometry.peb % (peb // page * (page + oob)) == 0
+
+
+def is_cut_up(geometry, told):
+    """Whether an image in a volume of another is told, as one of larger eraseblocks or with out-of-band bytes where the LEBs of that cut it up."""
+    peb, page, _, _, oob, *_ = told
+    return has_offsets(geometry, told) and peb // page * (page + oob) >= geometry.peb
+
+
+def may_be_joined(geometry, blocks, outer, number=None):
+    """What may be told wrong of an image in a volume of another of which all headers are there, where both name the same offsets, and a header of one
+    of them no number, or both the same: a part of the outer eraseblocks, or the inner image. The number is that of the outer headers."""
+    numbers = {block[24:28] for block in blocks if block[:4] == b"UBI#"}
+    if (geometry.vid, geometry.data) != (outer.vid, outer.data) or not numbers or (number != bytes(4) and not numbers & {bytes(4), number}):
+        return ()
+    return (("headers in one of the same offsets, one without number or both of the same", functools.partial(is_part, outer)),
+        ("an image in one of the same offsets, one without number or both of the same", functools.partial(is_cut_up, geometry)))
 
 
 def with_junk(rng, content):
@@ -411,18 +441,18 @@ def is_inner(geometry, told):
 def in_itself(rng, image):
     """An image in a volume of one of the same sizes and, now and then, the same number."""
     geometry, blocks = image(INNER_SIZES)
-    named = may_be_joined(geometry, blocks, geometry)
     geometry, outer = volume_of(rng, geometry, b"".join(blocks))
     if rng.random() < 0.5:
         number = int.from_bytes(next((block[24:28] for block in blocks if block.startswith(b"UBI#")), ZERO * 4), "big")
         outer = [renumbered(block, number) for block in outer]
+    named = may_be_joined(geometry, blocks, geometry, outer[0][24:28])
     return whole(geometry, outer, named).around(b"", junk(rng, rng.choice((0, 0, rng.randrange(geometry.peb)))))
 
 
 def in_one_without_number(rng, image):
     """An image in a volume of one of the same sizes, whose headers name no number, with or without junk behind."""
     geometry, blocks = image(INNER_SIZES)
-    named = may_be_joined(geometry, blocks, geometry)
+    named = may_be_joined(geometry, blocks, geometry, bytes(4))
     _, outer = volume_of(rng, geometry, b"".join(blocks))
     file = whole(geometry, [renumbered(block, 0) for block in outer], named)
     return file.around(b"", junk(rng, rng.choice((0, 0, 0, rng.randrange(geometry.peb)))))
@@ -480,6 +510,16 @@ def most_bad(rng, image):
     return whole(geometry, [block if p % step == kept else other for p, (block, other) in enumerate(zip(blocks, bad))])
 
 
+def most_random(rng, image):
+    """An image of which most eraseblocks are random bytes: behind each that is left one to four lie that are lost, of which the last may be blank."""
+    geometry, blocks = image(SIZES)
+    lost, found = rng.randrange(1, 5), []
+    for block in blocks:
+        last = rng.choice((BLANK * geometry.peb, rng.randbytes(geometry.peb)))
+        found += [block, *(rng.randbytes(geometry.peb) for _ in range(lost - 1)), last]
+    return whole(geometry, found)
+
+
 def cut(rng, image):
     file = whole(*image(SIZES))
     return File(file.data[: rng.randrange(len(file.data) + 1)], *file.truths)
@@ -514,6 +554,16 @@ def out_of_band_odd(rng, image):
     return with_more(rng, *image({(65536, 4096, 4096, 8192): 1}), rng.choice(OF_WRITTEN), (218,))
 
 
+def out_of_band_odd_lost(rng, image):
+    """The same, of which eraseblocks are lost: of those whose headers stand at a multiple of 64 each second or two of three, and all others."""
+    file = out_of_band_odd(rng, image)
+    raw, size, step = bytearray(file.data), file.truths[0].size, rng.choice((4, 4, 6))
+    for p in range(file.truths[0].count):
+        if p % step:
+            raw[p * size : (p + 1) * size] = junk(rng, size)
+    return File(bytes(raw), *file.truths)
+
+
 def out_of_band(how, rng, image):
     return with_more(rng, *image(SIZES_WITH_MORE), how)
 
@@ -528,10 +578,14 @@ def out_of_band_behind(is_first, rng, image):
         places = range(start, start + truth.size, step)
         data += b"".join(file.data[at : at + g.page] for at in places) + b"".join(file.data[at + g.page : at + step] for at in places)
 
-    def as_behind_each(told):
-        return g.vid < g.page and told[:5] == (g.peb, g.page, g.vid, g.data, truth.oob)
+    def as_one(told):
+        """Whether eraseblocks of the size with out-of-band bytes are told: as pages of the true size or twice that with some behind each, or
+        without them."""
+        peb, page, _, _, oob, *_ = told
+        is_such = page in ((g.page, 2 * g.page) if g.vid < g.page else (2 * g.page,)) if oob else peb == truth.size
+        return has_offsets(g, told) and peb // page * (page + oob) == truth.size and is_such
 
-    return File(data, named=(("out-of-band bytes behind the last page", as_behind_each),))
+    return File(data, named=(("out-of-band bytes behind the last page", as_one),))
 
 
 def out_of_band_bad(rng, image):
@@ -676,7 +730,7 @@ def other_checks(rng, image):
     own = next((block[:64] for block in blocks if block.startswith(b"UBI#")), rules.put_ec(geometry))
     wrong = (own[:60] + rng.randbytes(4), rules.sealed(own[:4] + b"\x02" + own[5:60]), rules.sealed(own[:8] + b"\0\0\0\0\x80\0\0\0" + own[16:60]))
     raw = bytearray(b"".join(blocks))
-    for _ in range(rng.randrange(1, 9)):
+    for _ in range(rng.randrange(1, 9) if blocks else 0):
         start, at = rng.randrange(len(blocks)) * geometry.peb, 64 * rng.randrange(geometry.data // 64, geometry.peb // 64 - 1)
         more, other = rng.choice([(0, bad) for bad in wrong] + [(4, own)])
         raw[start + at + more : start + at + more + 64] = other
@@ -770,8 +824,8 @@ def half_there(rng, image):
 
 
 def headers_at_parts(is_own, rng, image):
-    """A whole image with a header or two at half of an eraseblock or beside it, behind the first two eraseblocks: of its own offsets and number; or
-    of no number, of another, or of other offsets. Some images have no number."""
+    """An image with a header or two at half of an eraseblock or beside it, behind the first two eraseblocks: of its own offsets and number; or
+    of no number, of another, or of other offsets. Some images have no number, and some a boot loader in front."""
     geometry, count = edge_geometry(rng), rng.randrange(4, 12)
     table, texts = rules.put_table(geometry, {}), [dense(rng, 20) for _ in range(count)]
     blocks = by_hand(rng, geometry, texts)
@@ -784,7 +838,8 @@ def headers_at_parts(is_own, rng, image):
     inner = own if is_own else rng.choice((renumbered(own, 0), renumbered(own, 77), other, other))
     for p in rng.choice(((2,), (count - 1,), (2, count - 1))):
         blocks[p] = blocks[p][:at] + inner + blocks[p][at + 64 :]
-    return whole(geometry, blocks, () if is_own or inner == other else may_be_joined(geometry, [inner], geometry))
+    named = may_be_joined(geometry, [inner], geometry, own[24:28])[:1] if inner != other else ()
+    return whole(geometry, blocks, named).around(rng.choice((b"", b"", boot_loader(rng))), b"")
 
 
 def out_of_band_limits(rng, image):
@@ -856,6 +911,7 @@ KINDS = {
     "two images, junk between": two_images_apart,
     "two images of the same sizes": two_of_one_size,
     "two images of the same sizes, one without number": two_without_number,
+    "two images of one number, off one grid": two_off_grid,
     "one image twice": one_twice,
     "in a volume of another": in_another,
     "in a volume of another, of which nearly no header is left": in_another_lost,
@@ -867,6 +923,7 @@ KINDS = {
     "blank eraseblocks among the others": with_blank,
     "the second and the fourth blank": second_and_fourth_blank,
     "each second eraseblock bad, or two of three": most_bad,
+    "most eraseblocks random": most_random,
     "cut behind": cut,
     "cut before": cut_before,
     "out-of-band bytes, random of each page": functools.partial(out_of_band, "random"),
@@ -874,8 +931,10 @@ KINDS = {
     "out-of-band bytes, random of written pages": functools.partial(out_of_band, "random written"),
     "out-of-band bytes, a code of written pages": functools.partial(out_of_band, "code written"),
     "out-of-band bytes, eraseblocks that are no multiple of 64": out_of_band_odd,
+    "out-of-band bytes, eraseblocks that are no multiple of 64, most of them lost": out_of_band_odd_lost,
     "out-of-band bytes, no VID header": out_of_band_unsaid,
     "out-of-band bytes, all behind the last page": functools.partial(out_of_band_behind, True),
+    "out-of-band bytes, all behind the last page, the VID header in the second": functools.partial(out_of_band_behind, False),
     "out-of-band bytes, bad eraseblocks": out_of_band_bad,
     "out-of-band bytes, junk around": out_of_band_junk,
     "out-of-band bytes, cut": out_of_band_cut,
@@ -897,6 +956,7 @@ KINDS = {
     "edges: tables, and what looks like it": some_tables,
     "edges: half of the eraseblocks": half_there,
     "edges: headers at parts": functools.partial(headers_at_parts, False),
+    "edges: headers of its own at parts": functools.partial(headers_at_parts, True),
     "edges: out-of-band bytes and pages": out_of_band_limits,
     "edges: magics in out-of-band bytes": out_of_band_magics,
     "edges: other offsets": other_offsets,
@@ -904,12 +964,7 @@ KINDS = {
     "edges: two of one weight": of_one_weight,
 }
 RARE = {"headers far apart": far_apart}
-# Kinds of which docs/FORMAT.md doesn't say yet what may be told wrong.
-UNSAID = {
-    "out-of-band bytes, all behind the last page, the VID header in the second": functools.partial(out_of_band_behind, False),
-    "edges: headers of its own at parts": functools.partial(headers_at_parts, True),
-}
-ALL = KINDS | RARE | UNSAID
+ALL = KINDS | RARE
 MAKERS = (Maker, Dump, Dump, Dump)
 
 
@@ -921,19 +976,19 @@ def file_of(rng, k, makers=MAKERS, name=None):
 
 
 def off_grid(file, truth, told):
-    """How many headers of an image aren't where the told eraseblocks begin, and how many it has; None where those aren't some of its own."""
+    """How many headers of an image aren't where the told eraseblocks begin, and how many it has at multiples of 64; None where those aren't some of its
+    own."""
     peb, page, _, _, oob, start, _ = told[0]
-    size, places = peb // page * (page + oob), truth.headers(file)
+    size, places = peb // page * (page + oob), [at for at in truth.headers(file) if at % 64 == 0]
     if len(places) < 2 or size <= truth.size or size % truth.size or (start - truth.start) % truth.size:
         return None
     return sum((at - start) % size != 0 for at in places), len(places)
 
 
 def is_lost_between(file, truth, told):
-    """Whether an image is told as one of eraseblocks of twice or three times the size, where all of its headers begin one of these."""
-    peb, page, _, _, oob, *_ = told[0]
+    """Whether an image is told as one of eraseblocks of several times the size, where all of its headers begin one of these."""
     off = off_grid(file.data, truth, told)
-    return off is not None and off[0] == 0 and peb // page * (page + oob) // truth.size in (2, 3)
+    return off is not None and off[0] == 0
 
 
 def named_fault(file, text):

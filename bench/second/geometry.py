@@ -68,7 +68,8 @@ class Group:
 
     @property
     def speaks_for(self):
-        return len(self.places) * self.said
+        """How many bytes it speaks for: as many as its size times its headers but one."""
+        return (len(self.places) - 1) * self.said
 
 
 def groups(found):
@@ -170,7 +171,8 @@ def has_room(q, offsets):
 
 
 def is_odd_with_more(q, offsets):
-    """Whether each second header could stand at no multiple of 64: q is no multiple of 128, and half or a quarter of it has out-of-band bytes."""
+    """Whether q could be two or four eraseblocks that are no multiple of 64: it is no multiple of 128, and a page with out-of-band bytes fits half or a
+    quarter of it."""
     return q % 128 != 0 and any(q % of == 0 and pages_with(q // of, offsets) for of in (2, 4))
 
 
