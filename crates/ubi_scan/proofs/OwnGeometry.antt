@@ -1,6 +1,6 @@
 -- The geometry of an image is among those that are told of it.
-use Rattle.std.proofs.Common.{◌≡◌, ◌≢◌, ℕ, ◌<◌, ◌≤◌, Bool, true, false, true≢false, List, [], ◌∷◌, cond, length, zero, suc, refl, ap, sym, ◌∙◌, subst, arith}
-use Rattle.std.specs.Prelude.{Contains, Option, Some, None, IsTrue, filter, is_none, map, option_map, ◌==◌, ◌&&◌, ◌||◌}
+use Rattle.std.proofs.Common.{◌≡◌, ℕ, Bool, true, false, true≢false, List, [], ◌∷◌, cond, length, zero, suc, refl, ap, sym, ◌∙◌, subst, arith}
+use Rattle.std.specs.Prelude.{Contains, Option, Some, None, filter, is_none, map, option_map, ◌==◌, ◌&&◌, ◌||◌}
 use Rattle.std.specs.List.{cons_option, filter_map, list_any}
 use Rattle.std.specs.Bool.{then_some}
 use Rattle.std.proofs.lemmas.Bool.{eqb-true, eq-eqb}
@@ -10,14 +10,11 @@ use Rattle.ubi_media.specs.Limits.{first_broken}
 use Rattle.ubi_scan.specs.DetectLaws.{GeometryOfImage, OutOfBandOfImage}
 use Rattle.ubi_scan.specs.Detected.{AreDetected, IsFound}
 use Rattle.ubi_scan.specs.Layout.{data_place, is_laid_out, sizes_of}
-use Rattle.ubi_scan.specs.Place.{end_of_image, has_vote, is_voted, is_without, start_of_image, told, told_by, told_ways, ways_with, ways_without}
-use Rattle.ubi_scan.specs.Ways.{plain_way, plain_ways}
+use Rattle.ubi_scan.specs.Place.{end_of_image, has_vote, is_voted, start_of_image, told, told_by, told_ways, ways_with, ways_without}
+use Rattle.ubi_scan.specs.Ways.{plain_way}
 use Rattle.ubi_scan.specs.declared.detect.Detected.{Detected}
 use Rattle.ubi_scan.specs.declared.groups.Group.{Group}
 use Rattle.ubi_scan.specs.declared.way.Way.{Way}
-
-contains_head : {X : Type 0} (x : X) (xs : List X) → Contains (x ∷ xs) x
-contains_head x xs = (0, omega arith, refl)
 
 contains_tail : {X : Type 0} (x y : X) (xs : List X) → Contains xs y → Contains (x ∷ xs) y
 contains_tail x y xs has = (suc has.0, omega (arith, has.1), has.2)

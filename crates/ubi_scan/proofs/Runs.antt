@@ -1,7 +1,6 @@
 -- How many numbers from 0 on pass a test.
-use Rattle.std.proofs.Common.{◌≡◌, ℕ, ◌+◌, ◌<◌, ◌≤◌, Bool, true, false, cond, zero, suc, inl, inr, add-zero, refl, ap, sym, ◌∙◌, arith}
+use Rattle.std.proofs.Common.{◌≡◌, ℕ, ◌+◌, ◌<◌, ◌≤◌, Bool, true, false, cond, zero, suc, add-zero, refl, ap, sym, ◌∙◌, arith}
 use Rattle.std.specs.List.{prefix_len, range_with_len}
-use Rattle.ubi_media.proofs.Cases.{below_or_last}
 use Rattle.ubi_scan.specs.Place.{run}
 
 -- so many of n numbers pass, where those pass and the next one doesn't
@@ -24,7 +23,3 @@ run_is t n m h all end = run_from t 0 n m h (λ j below. ap t (omega arith) ∙ 
 
 pub run_all : (t : ℕ → Bool) (n m : ℕ) → m ≡ n → ((j : ℕ) → j < m → t j ≡ true) → run t n ≡ m
 run_all t n m e all = run_is t n m (omega (arith, e)) all (λ below. absurd (omega (arith, below, e)))
-
--- one more that passes
-pub pass_more : (t : ℕ → Bool) (n : ℕ) → ((j : ℕ) → j < n → t j ≡ true) → t n ≡ true → (j : ℕ) → j < n + 1 → t j ≡ true
-pass_more t n all here j below = elim (below_or_last j n below) [ inl less ↦ all j less | inr same ↦ ap t same ∙ here ]

@@ -64,9 +64,10 @@ speaks keys k = not (k.image_seq == 0) || list_all (λ l. not (same_offsets k l)
 abbrev pub places : List Head → Key → List ℕ
 places heads k = map (λ h. h.place) (filter (λ h. is_of k h.key) heads)
 
--- the first of places, and the last
+-- the first of places
 abbrev pub first_place : List ℕ → ℕ
 first_place ps = slice_index_or ps 0 0
 
+-- the last of them
 abbrev pub last_place : List ℕ → ℕ
 last_place ps = unwrap_or (last_or None ps) 0

@@ -48,10 +48,11 @@ votes bytes g w = count_starts bytes g (has_vid bytes w)
 abbrev pub top_vote : List ℕ → Group → List Way → ℕ
 top_vote bytes g ws = fold max 0 (map (votes bytes g) ws)
 
--- the ways of an image, with out-of-band bytes and without
+-- the ways of an image with out-of-band bytes
 abbrev pub ways_with : Group → List Way
 ways_with g = ways g.size g.key.offsets
 
+-- those without
 abbrev pub ways_without : Group → List Way
 ways_without g = plain_ways g.size g.key.offsets
 

@@ -37,11 +37,12 @@ blocks g = (g.last - g.first) / g.size + 1
 abbrev pub block_at : Group → ℕ → ℕ
 block_at g i = g.first + i * g.size
 
--- whether an eraseblock starts with a header of the group
+-- whether there is a key, and it is one of the group of k
 abbrev pub is_member : Key → Option Key → Bool
 is_member k None = false
 is_member k (Some l) = is_of k l
 
+-- whether an eraseblock starts with a header of the group
 abbrev pub is_start : List ℕ → Group → ℕ → Bool
 is_start bytes g p = nat_le (p + 64) (length bytes) && is_member g.key (key_at bytes p)
 
