@@ -82,6 +82,17 @@ def run(tool, words, stdin=None):
     return ran.stdout.decode(), ran.returncode
 
 
+def placed(lines, start, length, is_whole):
+    """The lines of `geometry` of a part of so many bytes, as they are for the file around it, if it was looked at to its end or not."""
+    there = []
+    for line in lines.splitlines():
+        numbers, _, place = line.partition(' --start ')
+        at, _, count = place.partition(' --length ')
+        at, count = start + int(at or 0), int(count or length)
+        there.append(numbers if (at, count) == (0, start + length) and is_whole else f'{numbers} --start {at} --length {count}')
+    return ''.join(line + '\n' for line in there)
+
+
 class Case:
     """A file, a view of it, and what failed."""
 
@@ -109,6 +120,8 @@ class Case:
             want = (refusal, 1)
         else:
             want = run(self.tool, [word.format(image=seen, out=want_out) for word in words] + numbers)
+            if words[0] == 'geometry' and want[1] == 0:
+                want = placed(want[0], view.start, len(view.seen(self.file)), view.length is None), 0
         written = [path.read_bytes() if path.exists() else None for path in (out, want_out)]
         if got != want or written[0] != written[1]:
             self.failed.append(f'{asked}: {got}, not {want}')
