@@ -2,7 +2,7 @@
 """Compares what the program answers of files of which no number is typed with what docs/FORMAT.md says, as bench/second/geometry.py and
 rules.py read it, and with the truth.
 
-usage: desk.py [--seed N] [--count N] [--first N] [--dir FOLDER] [--tool PROGRAM]
+usage: desk.py [--seed N] [--count N] [--geometry N] [--first N] [--dir FOLDER] [--tool PROGRAM]
 
 The files are those of dumps.py: images with anything around them, damaged, cut, one in another, with out-of-band bytes; and hostile ones.
 Of each `geometry` has to print the lines of geometry.py, or the line of the cause for which there are none; and what it prints has to be true, but
@@ -10,7 +10,7 @@ where docs/FORMAT.md says what may be told wrong. Then `list`, `check`, `extract
 answer what the rules say of the image that lies there under the first geometry: its bytes without those around it and without out-of-band bytes.
 Where no geometry can be told they have to print the line of `geometry`, end with status 1 and write nothing.
 
-Without words there are 1,000 files (--count) of the seed 1 (--seed). They lie in a new folder below FOLDER (/tmp where it is left out),
+Without words there are 1,000 files (--count) of the seed 1 (--seed), and none of which `geometry` alone is asked (--geometry). They lie in a new folder below FOLDER (/tmp where it is left out),
 which is removed again. Without --tool the program is built first where it isn't yet. What was told right, wrong and refused is counted. The
 last line is 'N passed, M failed', and the exit status is 0 where none failed; a file that failed can be made again by its number, which
 --first names: the kind of a file depends on its number.
@@ -45,17 +45,17 @@ class Case(Runner):
 
     def look(self):
         """Compares each answer. Gives what the geometry is: right, wrong or refused."""
-        text, status = printed(self.file.data)
-        judgement = dumps.judged(self.file, text, status)
-        self.look_geometry(text, status, judgement)
+        judgement, text = self.look_geometry()
         if judgement == "refused":
             self.look_refused(text)
         else:
             self.look_found(geometries(self.file.data)[0])
         return judgement
 
-    def look_geometry(self, text, status, judgement):
-        """Compares what is told with the rule and with the truth."""
+    def look_geometry(self):
+        """Compares what is told with the rule and with the truth. Gives what it is, and what is printed."""
+        text, status = printed(self.file.data)
+        judgement = dumps.judged(self.file, text, status)
         ran = subprocess.run([self.tool, "geometry", self.path], capture_output=True)
         came = (ran.stdout.decode(), ran.returncode)
         if came != (text, status) or ran.stderr:
@@ -64,6 +64,7 @@ class Case(Runner):
                 f"{ran.stderr.decode()}")
         if judgement == "wrong" and not dumps.may_be_told(self.file, text):
             raise Failure(f"{self.kind}: the rule itself is wrong: {text.splitlines()[0]}, {dumps.fault(self.file, text)}")
+        return judgement, text
 
     def look_refused(self, line):
         """Whether a command that reads an image refuses a file as `geometry` does."""
@@ -93,9 +94,17 @@ class Case(Runner):
 
 
 def main():
-    words = options(__doc__, 1000)
-    tool, numbers = built(words.tool), iter(range(words.first, words.first + words.count))
-    answers, failed = run_cases(words, {"": (lambda rng, folder: Case(rng, tool, folder, next(numbers)).look(), words.count)})
+    words = options(__doc__, 1000, geometry=0)
+    tool = built(words.tool)
+
+    def looks(count, look):
+        numbers = iter(range(words.first, words.first + count))
+        return lambda rng, folder: look(Case(rng, tool, folder, next(numbers))), count
+
+    answers, failed = run_cases(words, {
+        "": looks(words.count, Case.look),
+        "geometry": looks(words.geometry, lambda case: case.look_geometry()[0]),
+    })
     counts = collections.Counter(answers)
     print(", ".join(f"{counts[judgement]} {judgement}" for judgement in ("right", "wrong", "refused")))
     finish(len(answers), failed)
