@@ -18,11 +18,13 @@ pub mod Escapes
 pub mod FailedParts
 pub mod Fitting
 pub mod Form
+pub mod GreaterPage
 pub mod Headers
 pub mod Headings
 pub mod Hexadecimal
 pub mod Image
 pub mod LaidPieces
+pub mod LesserPage
 pub mod LineForms
 pub mod LinesLeft
 pub mod LinesRead

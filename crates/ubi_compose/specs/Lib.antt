@@ -8,6 +8,7 @@ pub mod Spec
 pub mod Laws
 pub mod TextLaws
 pub mod NormalLaws
+pub mod PageLaws
 pub mod BuiltLaws
 pub mod Streamed
 pub mod Compared

@@ -3,6 +3,7 @@
 ghost use Rattle.ubi_compose.specs.BuiltLaws.{BuiltAccepted, BuiltReads};
 ghost use Rattle.ubi_compose.specs.Laws.{Normalising, TwiceIsOnce};
 ghost use Rattle.ubi_compose.specs.NormalLaws.{NormalAccepted, NormalFits, NormalForm};
+ghost use Rattle.ubi_compose.specs.PageLaws.{LeastTold, LesserAcceptsMore, NormalWithLesserPage};
 ghost use Rattle.ubi_compose.specs.TextLaws.{OneAnswer};
 
 /// The normal image of a meaning is accepted with that meaning, and so it is with any number of spare eraseblocks behind
@@ -47,4 +48,22 @@ pub fn built_reads()
 /// behind it, as far as the device has room for them and for all pieces.
 pub fn built_accepted()
     ensures { BuiltAccepted }
+{}
+
+/// The normal image of a meaning is the same bytes with each page; so what an image is normalised to, it is with each
+/// page of which its own is a multiple.
+pub fn normal_with_lesser_page()
+    ensures { NormalWithLesserPage }
+{}
+
+/// A page can accept what a multiple of it refuses.
+pub fn lesser_accepts_more()
+    ensures { LesserAcceptsMore }
+{}
+
+/// Of what is told of a file, the first has the least page: where pages have no out-of-band bytes, nothing else
+/// differs, and an image that is accepted with another one is accepted with the first, with the same meaning but for
+/// the page, and the same normal image.
+pub fn least_told()
+    ensures { LeastTold }
 {}

@@ -13,6 +13,7 @@ pub mod First
 pub mod GeometryVectors
 pub mod Headers
 pub mod KeptLimits
+pub mod LesserPage
 pub mod Lookups
 pub mod Mirror
 pub mod Names

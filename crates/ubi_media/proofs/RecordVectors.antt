@@ -2,6 +2,7 @@
 use Rattle.std.proofs.Common.{◌≡◌, ℕ, ◌*◌, ◌-◌, List, [], ◌∷◌, ◌++◌, length, replicate, true, false, refl}
 use Rattle.std.specs.Prelude.{Some, None}
 use Rattle.ubi_media.specs.Check.{check_from, remainder}
+use Rattle.ubi_media.specs.OtherPage.{with_page}
 use Rattle.ubi_media.specs.Record.{data_pad, rec_bytes, rec_fault, rec_fields, rec_reading, empty_record, fields_from, record_of, judged, first_fault, breaks, usable}
 use Rattle.ubi_media.specs.declared.record.RecFault.TheVariants as fault
 use Rattle.ubi_media.specs.declared.record.RecRead.TheVariants.{Empty, BadCrc, Fault, Valid}
@@ -176,3 +177,25 @@ fault_of_alignment_0 = refl
 fault_of_alignment_65 : rec_fault small (record root { alignment = 65 }) ≡ Some fault.AlignmentPage
 unfolding root fields_from first_fault breaks
 fault_of_alignment_65 = refl
+
+-- an alignment of 256 is good with each page that divides it, and with no greater one
+alignment_256_of_page_256 : rec_reading (with_page small 256)
+    (slot (0x00000014 ∷ 0x00000100 ∷ 0x00000080 ∷ 0x01000004 ∷ 0x726f6f74 ∷ []) 0x30ed19e0)
+    ≡ Valid (record root { alignment = 256 })
+unfolding root rec_reading judged first_fault breaks rec_fields record_of empty_record check_from remainder
+alignment_256_of_page_256 = refl
+
+alignment_256_of_page_512 : rec_reading (with_page small 512)
+    (slot (0x00000014 ∷ 0x00000100 ∷ 0x00000080 ∷ 0x01000004 ∷ 0x726f6f74 ∷ []) 0x30ed19e0)
+    ≡ Fault fault.AlignmentPage
+unfolding rec_reading judged first_fault breaks rec_fields record_of empty_record check_from remainder
+alignment_256_of_page_512 = refl
+
+fault_of_page_512 : rec_fault (with_page small 512) (record root { alignment = 256 }) ≡ Some fault.AlignmentPage
+unfolding root fields_from first_fault breaks
+fault_of_page_512 = refl
+
+-- an alignment of 1 is good with each page
+no_fault_of_page_512 : rec_fault (with_page small 512) root ≡ None
+unfolding root fields_from first_fault breaks
+no_fault_of_page_512 = refl

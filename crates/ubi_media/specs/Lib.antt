@@ -10,6 +10,7 @@ pub mod Limits
 pub mod Header
 pub mod Kind
 pub mod Name
+pub mod OtherPage
 pub mod Record
 pub mod Vid
 pub mod inner

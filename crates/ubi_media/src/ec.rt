@@ -13,8 +13,8 @@ use byteorder::{BigEndian, ByteOrder};
 use std::error::Error;
 use std::fmt;
 
-/// The text `UBI#`.
-const MAGIC: u32 = 0x5542_4923;
+/// The text `UBI#`, with which an erase-counter header begins (`UBI_EC_HDR_MAGIC`).
+pub const EC_MAGIC: u32 = 0x5542_4923;
 
 /// The version of the format.
 const VERSION: u8 = 1;
@@ -172,7 +172,7 @@ pub fn read_ec(geometry: &Geometry, bytes: &[u8; 64]) -> EcRead
     ensures is { EcIs geometry.now bytes.now result }
     ensures value { result ≡ ec_reading geometry.now bytes.now }
 {
-    match form_of(MAGIC, bytes) {
+    match form_of(EC_MAGIC, bytes) {
         Form::Blank => EcRead::Blank,
         Form::Corrupt => EcRead::Corrupt,
         Form::Sealed => judged(geometry, &fields_of(bytes)),
@@ -199,7 +199,7 @@ fn start_of(fields: &EcFields) -> EcStart
 pub fn read_start(bytes: &[u8; 64]) -> EcStart
     ensures { result ≡ ec_start bytes.now }
 {
-    match form_of(MAGIC, bytes) {
+    match form_of(EC_MAGIC, bytes) {
         Form::Blank => EcStart::Blank,
         Form::Corrupt => EcStart::Other,
         Form::Sealed => start_of(&fields_of(bytes)),
@@ -213,7 +213,7 @@ fn front_of(geometry: &Geometry, counter: u32, image_seq: u32) -> [u8; 64]
 {
     let mut bytes = [0u8; 64];
     bytes[4] = VERSION;
-    put_u32(&mut bytes, 0, MAGIC);
+    put_u32(&mut bytes, 0, EC_MAGIC);
     put_u64(&mut bytes, 8, u64::from(counter));
     put_u32(&mut bytes, 16, geometry.vid_offset());
     put_u32(&mut bytes, 20, geometry.data_offset());

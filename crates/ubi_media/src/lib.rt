@@ -35,11 +35,14 @@ mod vid;
 
 pub use bytes::is_blank;
 pub use check::{crc, crc_more};
-pub use ec::{EcFault, EcHeader, EcOffsets, EcRead, EcStart, read_ec, read_start, write_ec};
+pub use ec::{
+    EC_MAGIC, EcFault, EcHeader, EcOffsets, EcRead, EcStart, read_ec, read_start, write_ec,
+};
 pub use geometry::{Geometry, GeometryError, MOST_PEBS, PAGE_SIZES};
 pub use name::{LONGEST_NAME, VolName};
 pub use record::{RECORD_SIZE, RecFault, RecRead, VolumeRecord, read_rec, rec_fault, write_rec};
 pub use refusal::{AttachError, Refusal};
 pub use vid::{
-    LAYOUT_VOLUME, MOST_VOLUMES, REJECT, VidFault, VidHeader, VidRead, VolKind, read_vid, write_vid,
+    LAYOUT_VOLUME, MOST_VOLUMES, REJECT, VID_MAGIC, VidFault, VidHeader, VidRead, VolKind,
+    read_vid, write_vid,
 };

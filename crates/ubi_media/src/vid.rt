@@ -14,8 +14,8 @@ use byteorder::{BigEndian, ByteOrder};
 use std::error::Error;
 use std::fmt;
 
-/// The text `UBI!`.
-const MAGIC: u32 = 0x5542_4921;
+/// The text `UBI!`, with which a volume-identifier header begins (`UBI_VID_HDR_MAGIC`).
+pub const VID_MAGIC: u32 = 0x5542_4921;
 
 /// The version of the format.
 const VERSION: u8 = 1;
@@ -329,7 +329,7 @@ pub fn read_vid(geometry: &Geometry, bytes: &[u8; 64]) -> VidRead
     ensures is { VidIs geometry.now bytes.now result }
     ensures value { result ≡ vid_reading geometry.now bytes.now }
 {
-    match form_of(MAGIC, bytes) {
+    match form_of(VID_MAGIC, bytes) {
         Form::Blank => VidRead::Blank,
         Form::Corrupt => VidRead::Corrupt,
         Form::Sealed => judged(geometry, &fields_of(bytes)),
@@ -363,7 +363,7 @@ fn front_of(fields: VidFields) -> [u8; 64]
     bytes[5] = fields.kind;
     bytes[6] = fields.copy_flag;
     bytes[7] = fields.compat;
-    put_u32(&mut bytes, 0, MAGIC);
+    put_u32(&mut bytes, 0, VID_MAGIC);
     put_u32(&mut bytes, 8, fields.vol_id);
     put_u32(&mut bytes, 12, fields.lnum);
     put_u32(&mut bytes, 20, fields.data_size);

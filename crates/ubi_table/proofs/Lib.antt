@@ -4,6 +4,7 @@ pub mod Either
 pub mod Entries
 pub mod Held
 pub mod Kept
+pub mod LesserPage
 pub mod Moved
 pub mod NameRules
 pub mod NamedTable

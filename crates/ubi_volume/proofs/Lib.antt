@@ -15,6 +15,7 @@ pub mod Gathered
 pub mod Judged
 pub mod LebsText
 pub mod Lengths
+pub mod LesserPage
 pub mod Listed
 pub mod MeaningOf
 pub mod MeantRecords

@@ -2,6 +2,7 @@
 
 ghost use Rattle.ubi_volume.specs.Laws.{NeverBoth, OneCause, OneOrOther};
 ghost use Rattle.ubi_volume.specs.MeaningLaws.{JudgedAlone, OneAttached, OneFirst, OneMeaning, Reorder};
+ghost use Rattle.ubi_volume.specs.PageLaws.{LesserPage};
 
 /// An image has one meaning at most.
 pub fn one_meaning()
@@ -42,4 +43,12 @@ pub fn reorder()
 /// What a file means, or why it is refused, is told by its first bytes up to one more than the device has.
 pub fn judged_alone()
     ensures { JudgedAlone }
+{}
+
+/// An image that is accepted with some page is accepted with each page of which that one is a multiple, all other
+/// sizes being equal, with the same meaning but for the page, and nothing else that attaching it gives differs. One
+/// that is refused with the lesser page isn't accepted with the greater one. One that is accepted with the lesser page
+/// is accepted with the greater one, too, or refused for a record whose alignment isn't a multiple of that.
+pub fn lesser_page()
+    ensures { LesserPage }
 {}
