@@ -3,7 +3,7 @@ use Rattle.std.proofs.Common.{◌≡◌, ℕ, ◌+◌, ◌-◌, ◌*◌, ◌<◌
 use Rattle.std.specs.List.{All, list_all}
 use Rattle.std.specs.Prelude.{◌&&◌, ◌||◌, ◌==◌, IfSome, IsFalse, IsTrue, MatchOption, None, Option, Some, nat_lt, not, slice_index_or}
 use Rattle.std.proofs.lemmas.Bool.{and_cases, and_from, and_parts, le-leb, leb-true, ltb-false, ltb-true, true≢false}
-use Rattle.std.proofs.lemmas.List.{get_or-map, length-map}
+use Rattle.std.proofs.lemmas.List.{get_or-map}
 use Rattle.std.proofs.lemmas.List.Folds.{list_all-map}
 use Rattle.std.proofs.lemmas.Nat.Gcd.{dvd_antisymm}
 use Rattle.ubi_media.proofs.Cases.{below_or_last, below_same_or_above}
@@ -14,6 +14,7 @@ use Rattle.ubi_scan.specs.declared.heads.Head.{Head}
 use Rattle.ubi_scan.specs.declared.heads.Key.{Key}
 use Rattle.ubi_scan.specs.inner.Detecting.{AreGroups, IsBestOf, IsWithin, NoneSays, beats, says_size, speaks_among}
 use Rattle.ubi_scan.proofs.AddedGroups.{no_group}
+use Rattle.ubi_scan.proofs.MoreKeys.{as_many_keys}
 
 and_true : (b : Bool) → (b && true) ≡ b
 and_true true = refl
@@ -89,13 +90,10 @@ module _ (heads : List Head) (f g : Group) (one : IsGroup heads f) (two : IsGrou
       let here = subst P same one.size in
       dvd_antisymm (two.size.greatest f.size here.divides) (here.greatest g.size two.size.divides)
 
-  same_spoken : spoken f ≡ spoken g
+  pub same_spoken : spoken f ≡ spoken g
   same_spoken = ap (λ n. (n - 1) * f.size) same_count ∙ ap (λ n. (g.count - 1) * n) same_size
 
 module _ (heads : List Head) (gs : List Group) (are : AreGroups heads gs) where
-  many : length (keys_of heads) ≡ length gs
-  many = sym (ap length are.keys) ∙ length-map gs (λ (g : Group). g.key)
-
   key_is : (k : ℕ) → k < length gs → (slice_index_or gs k no_group).key ≡ slice_index_or (keys_of heads) k no_key
   key_is k below = sym (get_or-map (λ g. g.key) gs k no_group no_key below) ∙ ap (λ ks. slice_index_or ks k no_key) are.keys
 
@@ -107,7 +105,7 @@ module _ (heads : List Head) (gs : List Group) (are : AreGroups heads gs) where
   -- a group that says a size does so by the test of it
   module _ (i : ℕ) (f : Group) (says : Says heads i f) where
     inside : i < length gs
-    inside = let e = says.inside in let m = many in omega (arith, e, m)
+    inside = let e = says.inside in let m = as_many_keys heads gs are in omega (arith, e, m)
 
     abbrev pub there : Group
     there = slice_index_or gs i no_group
@@ -151,7 +149,7 @@ module _ (heads : List Head) (gs : List Group) (are : AreGroups heads gs) where
         best.index,
         record {
           says = record {
-            inside = (let m = many in omega (arith, at, m));
+            inside = (let m = as_many_keys heads gs are in omega (arith, at, m));
             key = sym (ap (λ f. f.key) e) ∙ key_is best.index at;
             group = subst P e (are.each best.index no_group at);
             speaks = sym (speaks_is g.key) ∙ all.1;

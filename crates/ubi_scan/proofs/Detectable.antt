@@ -1,10 +1,10 @@
 -- Of each file something is told, or it is refused for a cause.
-use Rattle.std.proofs.Common.{◌≡◌, ℕ, ◌-◌, ◌⊎◌, Bool, true, false, List, [], ◌∷◌, length, inl, inr, refl, ap, sym, ◌∙◌, arith}
+use Rattle.std.proofs.Common.{◌≡◌, ℕ, ◌-◌, ◌≤◌, ◌⊎◌, Bool, true, false, List, [], ◌∷◌, length, inl, inr, refl, ap, sym, ◌∙◌, arith}
 use Rattle.ubi_media.proofs.Cases.{within_or_past}
 use Rattle.ubi_scan.specs.Detected.{AreDetected, IsFound, IsUndetected, IsWhole, NonePlain}
 use Rattle.ubi_scan.specs.DetectLaws.{DetectedOrRefused}
 use Rattle.ubi_scan.specs.Groups.{IsImage}
-use Rattle.ubi_scan.specs.Heads.{heads_of}
+use Rattle.ubi_scan.specs.Heads.{heads_of, key_count, most_keys}
 use Rattle.ubi_scan.specs.Place.{end_of_last, has_no_page, told}
 use Rattle.ubi_scan.specs.Sure.{is_sure}
 use Rattle.ubi_scan.specs.declared.detect.Detected.{Detected}
@@ -13,7 +13,7 @@ use Rattle.ubi_scan.specs.declared.detect.Undetected.TheVariants as cause
 use Rattle.ubi_scan.specs.declared.groups.Group.{Group}
 use Rattle.ubi_scan.specs.declared.heads.Head.{Head}
 use Rattle.ubi_scan.proofs.PlainOrNot.{surely_or_not}
-use Rattle.ubi_scan.proofs.SaidGroups.{not_sure}
+use Rattle.ubi_scan.proofs.SaidGroups.{not_sure, too_many}
 use Rattle.ubi_scan.proofs.SomeGroups.{image_or_none}
 
 module _ (bytes : List ℕ) where
@@ -33,23 +33,26 @@ module _ (bytes : List ℕ) where
   by_sure g whole true e = by_told g (inr (whole, e)) (told bytes g) refl
   by_sure g whole false e = inr (cause.NoSize, not_sure bytes g whole e)
 
-  by_image : NonePlain bytes → (j : ℕ) (g : Group) → IsImage (heads_of bytes) j g → Answer
-  by_image none j g image = elim (within_or_past (end_of_last g) (length bytes)) [
-    | inl whole ↦ by_sure g (record { none = none; index = j; image = image; whole = whole }) (is_sure bytes g) refl
-    | inr past ↦ inr (cause.Length g.size (length bytes - g.last), (none, (j, g, image, past, refl, refl)))
+  by_image : NonePlain bytes → key_count bytes ≤ most_keys → (j : ℕ) (g : Group) → IsImage (heads_of bytes) j g → Answer
+  by_image none few j g image = elim (within_or_past (end_of_last g) (length bytes)) [
+    | inl whole ↦ by_sure g (record { none = none; few = few; index = j; image = image; whole = whole }) (is_sure bytes g) refl
+    | inr past ↦ inr (cause.Length g.size (length bytes - g.last), (none, few, (j, g, image, past, refl, refl)))
   ]
 
   by_heads : NonePlain bytes → ((j : ℕ) (g : Group) → IsImage (heads_of bytes) j g → ⊥) → (hs : List Head) → heads_of bytes ≡ hs → Answer
   by_heads none images [] e = inr (cause.NoHeader, e)
   by_heads none images (h ∷ hs) e =
-      inr (cause.NoSize, ((λ f. let n = ap length (sym e ∙ f) in omega (arith, n)), none, inl images))
+      inr (cause.NoSize, ((λ f. let n = ap length (sym e ∙ f) in omega (arith, n)), none, inr (inl images)))
 
   answer : Answer
   answer = elim (surely_or_not bytes) [
     | inl plain ↦ by_told plain.0 (inl plain.1) (told bytes plain.0) refl
-    | inr none ↦ elim (image_or_none bytes) [
-      | inl image ↦ by_image none image.1 image.0 image.2
-      | inr images ↦ by_heads none images (heads_of bytes) refl
+    | inr none ↦ elim (within_or_past (key_count bytes) most_keys) [
+      | inl few ↦ elim (image_or_none bytes) [
+        | inl image ↦ by_image none few image.1 image.0 image.2
+        | inr images ↦ by_heads none images (heads_of bytes) refl
+      ]
+      | inr many ↦ inr (cause.NoSize, too_many bytes none many)
     ]
   ]
 

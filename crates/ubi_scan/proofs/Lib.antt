@@ -1,4 +1,5 @@
 pub mod AddedGroups
+pub mod AnyPage
 pub mod BestGroup
 pub mod BlockVectors
 pub mod Causes
@@ -25,7 +26,9 @@ pub mod InTurn
 pub mod JoinedKeys
 pub mod Keys
 pub mod Least
+pub mod LeastWay
 pub mod Magics
+pub mod MoreKeys
 pub mod MostVoted
 pub mod Moved
 pub mod Narrowed
@@ -38,6 +41,13 @@ pub mod OneImage
 pub mod OnePlain
 pub mod OneUndetected
 pub mod OneScan
+pub mod PartGroups
+pub mod PartHeads
+pub mod PartPlaces
+pub mod PartReads
+pub mod PartSure
+pub mod PartTold
+pub mod PartWays
 pub mod Parts
 pub mod Places
 pub mod PlainGroups
@@ -61,5 +71,6 @@ pub mod Surveyed
 pub mod Tops
 pub mod Truths
 pub mod Twins
+pub mod WayVectors
 pub mod WaysThatFit
 pub mod Within

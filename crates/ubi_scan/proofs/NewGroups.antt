@@ -59,7 +59,7 @@ fold_more k ks (l ∷ ls) =
     fold_more k (with_key ks l) ls ∙ ap (λ b. b || list_any (same_key k) ls) (with_more k l ks _ _ refl refl)
     ∙ or_assoc (list_any (same_key k) ks) (same_key k l) (list_any (same_key k) ls)
 
-any_map : {X Y : Type 0} (p : Y → Bool) (f : X → Y) (xs : List X) → list_any p (map f xs) ≡ list_any (λ x. p (f x)) xs
+pub any_map : {X Y : Type 0} (p : Y → Bool) (f : X → Y) (xs : List X) → list_any p (map f xs) ≡ list_any (λ x. p (f x)) xs
 any_map p f [] = refl
 any_map p f (x ∷ xs) = ap (λ b. p (f x) || b) (any_map p f xs)
 

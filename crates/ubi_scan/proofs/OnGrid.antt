@@ -1,51 +1,54 @@
 -- Where the headers of an image stand, and where it begins and ends.
-use Rattle.std.proofs.Common.{◌≡◌, ℕ, ◌+◌, ◌-◌, ◌*◌, ◌/◌, ◌<◌, ◌≤◌, Bool, true, false, List, [], ◌∷◌, ◌++◌, length, slice_range, zero, suc, refl, ap, sym, subst, arith}
+use Rattle.std.proofs.Common.{◌≡◌, ℕ, ◌+◌, ◌-◌, ◌*◌, ◌/◌, ◌%◌, ◌≤◌, Bool, true, false, List, [], ◌∷◌, ◌++◌, length, slice_range, zero, suc, refl, ap, sym, subst, arith}
 use Rattle.std.specs.Int.{◌∣◌}
-use Rattle.std.specs.List.{All, range_with_len}
+use Rattle.std.specs.List.{All}
 use Rattle.std.specs.Option.{option_to_list}
 use Rattle.std.specs.Prelude.{None, Option, Some, option_map}
 use Rattle.std.proofs.Math.Nat.{dvd-mul_left, dvd-sub, mod-add-div', mul-le-mul_right}
 use Rattle.std.proofs.lemmas.List.{append-nil}
 use Rattle.std.proofs.lemmas.List.Elements.{All-cons, All-nil, All-push}
-use Rattle.std.proofs.lemmas.List.FromFn.{length-range_with_len}
-use Rattle.std.proofs.lemmas.List.Sums.{prefix_len-le-length}
 use Rattle.std.proofs.lemmas.Nat.Gcd.{le_of_dvd}
 use Rattle.ubi_scan.specs.DetectLaws.{EachOnGrid, GreatestSize, PlaceOnGrid, SizeOfImage}
 use Rattle.ubi_scan.specs.Heads.{first_place, heads_of, heads_to, is_of, key_in, last_place, places, step}
-use Rattle.ubi_scan.specs.Place.{blanks_before, blanks_behind, end_of_last, run}
+use Rattle.ubi_scan.specs.Place.{blanks_before, blanks_behind, end_of_last}
 use Rattle.ubi_scan.specs.declared.heads.Head.{Head}
 use Rattle.ubi_scan.specs.declared.heads.Key.{Key}
 use Rattle.ubi_scan.proofs.Grouped.{last_is, places_with, places_without}
+use Rattle.ubi_scan.proofs.Runs.{run_most}
 use Rattle.ubi_scan.proofs.Surveyed.{heads_more}
 
--- places between the first of them and the last one, and in the first n units
-record AreBetween (n : ℕ) (ps : List ℕ) : Type 0 where
-  pub each : All (λ p. (first_place ps ≤ p) × (p ≤ last_place ps)) ps
-  pub below : All (λ p. p < n * step) ps
+-- one of the first n units begins at a place
+abbrev pub IsUnit : ℕ → ℕ → Type 0
+IsUnit n p = (p % step ≡ 0) × (p + step ≤ n * step)
 
-below_more : (n : ℕ) (ps : List ℕ) → All (λ p. p < n * step) ps → All (λ p. p < (n + 1) * step) ps
-below_more n ps all = λ k d under. let b = all k d under in omega (arith, b)
+-- places between the first of them and the last one, where the first n units begin
+pub record AreBetween (n : ℕ) (ps : List ℕ) : Type 0 where
+  pub each : All (λ p. (first_place ps ≤ p) × (p ≤ last_place ps)) ps
+  pub below : All (IsUnit n) ps
+
+below_more : (n : ℕ) (ps : List ℕ) → All (IsUnit n) ps → All (IsUnit (n + 1)) ps
+below_more n ps all = λ k d under. let b = all k d under in (b.0, (let c = b.1 in omega (arith, c)))
 
 -- one more behind them
 between_with : (n : ℕ) (ps : List ℕ) → AreBetween n ps → AreBetween (n + 1) (ps ++ n * step ∷ [])
 between_with n [] are = record {
   each = All-cons (λ p. (n * step ≤ p) × (p ≤ n * step)) (n * step) [] (omega arith, omega arith) (All-nil (λ p. (n * step ≤ p) × (p ≤ n * step)));
-  below = All-cons (λ p. p < (n + 1) * step) (n * step) [] (omega arith) (All-nil (λ p. p < (n + 1) * step));
+  below = All-cons (IsUnit (n + 1)) (n * step) [] (omega arith, omega arith) (All-nil (IsUnit (n + 1)));
 }
 between_with n (x ∷ xs) are =
     let last = last_is (n * step) (x ∷ xs) in
     record {
       each = All-push (λ p. (x ≤ p) × (p ≤ last_place ((x ∷ xs) ++ n * step ∷ []))) (x ∷ xs) (n * step)
-          (λ k d below. let e = are.each k d below in let b = are.below k d below in (e.0, omega (arith, b, last)))
-          ((let b = are.below 0 0 (omega arith) in omega (arith, b)), omega (arith, last));
-      below = All-push (λ p. p < (n + 1) * step) (x ∷ xs) (n * step) (below_more n (x ∷ xs) are.below) (omega arith);
+          (λ k d below. let e = are.each k d below in let b = (are.below k d below).1 in (e.0, omega (arith, b, last)))
+          ((let b = (are.below 0 0 (omega arith)).1 in omega (arith, b)), omega (arith, last));
+      below = All-push (IsUnit (n + 1)) (x ∷ xs) (n * step) (below_more n (x ∷ xs) are.below) (omega arith, omega arith);
     }
 
 between_same : (n : ℕ) (ps : List ℕ) → AreBetween n ps → AreBetween (n + 1) ps
 between_same n ps are = record { each = are.each; below = below_more n ps are.below }
 
 module _ (bytes : List ℕ) (k : Key) where
-  abbrev ps : ℕ → List ℕ
+  abbrev pub ps : ℕ → List ℕ
   ps n = places (heads_to bytes n) k
 
   next : (n : ℕ) (b : Bool) (h : Head) → h.place ≡ n * step → is_of k h.key ≡ b → AreBetween n (ps n)
@@ -63,7 +66,7 @@ module _ (bytes : List ℕ) (k : Key) where
       subst P (sym (append-nil (heads_to bytes n))) (between_same n (ps n) are)
   more n (Some l) are = next n (is_of k l) (record { place = n * step; key = l }) refl refl are
 
-  between : (n : ℕ) → AreBetween n (ps n)
+  pub between : (n : ℕ) → AreBetween n (ps n)
   between zero = record { each = All-nil _; below = All-nil _ }
   between (suc n) =
       let e : suc n ≡ n + 1 = omega arith in
@@ -101,10 +104,6 @@ size_of_image bytes j q p g image from divides one other =
     let few = le_of_dvd from (subst P same (dvd-sub g.size there.2 here.2)) in
     let most = greatest_size bytes j q g image divides in
     omega (arith, few, most)
-
-run_most : (t : ℕ → Bool) (n : ℕ) → run t n ≤ n
-run_most t n =
-    let e = prefix_len-le-length t (range_with_len 0 n) in let f = length-range_with_len 0 n in omega (arith, e, f)
 
 module _ (q : ℕ) (some : 1 ≤ q) where
   starts : (a k : ℕ) → k ≤ a / q → (a - k * q ≤ a) × (q ∣ (a - (a - k * q)))

@@ -31,7 +31,8 @@ same_groups f g a b c d e =
     ∙ ap (λ n. record { key = g.key; first = g.first; last = g.last; count = n; size = f.size }) d
     ∙ ap (λ n. record { key = g.key; first = g.first; last = g.last; count = g.count; size = n }) e
 
-next_mul : (k q : ℕ) → (k + 1) * q ≡ k * q + q
+-- one eraseblock more
+pub next_mul : (k q : ℕ) → (k + 1) * q ≡ k * q + q
 next_mul k q = grind arith
 
 module _ (bytes : List ℕ) where

@@ -6,7 +6,7 @@ use Rattle.ubi_media.proofs.Cases.{below_same_or_above}
 use Rattle.ubi_scan.specs.Detected.{AreDetected, IsFound, IsUndetected, IsWhole, NonePlain}
 use Rattle.ubi_scan.specs.DetectLaws.{DetectedOrNot, OneUndetected}
 use Rattle.ubi_scan.specs.Groups.{IsImage}
-use Rattle.ubi_scan.specs.Heads.{heads_of}
+use Rattle.ubi_scan.specs.Heads.{heads_of, key_count, most_keys}
 use Rattle.ubi_scan.specs.Place.{end_of_last, has_no_page, told}
 use Rattle.ubi_scan.specs.Sure.{is_sure}
 use Rattle.ubi_scan.specs.declared.detect.Detected.{Detected}
@@ -60,6 +60,11 @@ module _ (bytes : List ℕ) where
   not_any g none images (inl two) = none g two
   not_any g none images (inr two) = images two.0.index g two.0.image
 
+  -- nor one of a file with too many keys
+  not_many : (g : Group) → NonePlain bytes → most_keys < key_count bytes → IsFound bytes g → ⊥
+  not_many g none many (inl two) = none g two
+  not_many g none many (inr two) = let few = two.0.few in omega (arith, few, many)
+
   -- a cause that is tried behind the sizes has a group that is found
   group_of : (d : Undetected) → 3 < rank d → Is d → (g : Group) × IsFound bytes g
   group_of (cause.OutOfBand q) h (g, found, none, some, size) = (g, found)
@@ -67,7 +72,7 @@ module _ (bytes : List ℕ) where
   group_of d h a = absurd (omega (arith, h))
 
   some_header : (d : Undetected) → 1 < rank d → Is d → heads_of bytes ≢ []
-  some_header (cause.Length q rest) h (none, (j, g, is, less, size, left)) = image_heads (heads_of bytes) j g is
+  some_header (cause.Length q rest) h (none, few, (j, g, is, less, size, left)) = image_heads (heads_of bytes) j g is
   some_header cause.NoSize h a = a.0
   some_header (cause.OutOfBand q) h (g, found, none, some, size) = found_heads g found
   some_header (cause.Page q o) h (g, found, none, nil, size, is) = found_heads g found
@@ -78,15 +83,17 @@ module _ (bytes : List ℕ) where
 
   apart : (c d : Undetected) → rank c < rank d → Is c → Is d → ⊥
   apart cause.NoHeader d h a b = some_header d h b a
-  apart (cause.Length q rest) cause.NoSize h (none, (j, g, is, less, size, left)) (some, plain, inl images) = images j g is
-  apart (cause.Length q rest) cause.NoSize h (none, (j, g, is, less, size, left)) (some, plain, inr (f, two, fails)) =
+  apart (cause.Length q rest) cause.NoSize h (none, few, (j, g, is, less, size, left)) (some, plain, inl many) = absurd (omega (arith, few, many))
+  apart (cause.Length q rest) cause.NoSize h (none, few, (j, g, is, less, size, left)) (some, plain, inr (inl images)) = images j g is
+  apart (cause.Length q rest) cause.NoSize h (none, few, (j, g, is, less, size, left)) (some, plain, inr (inr (f, two, fails))) =
       not_whole j g f is less two
-  apart (cause.Length q rest) (cause.OutOfBand r) h (none, (j, g, is, less, size, left)) (f, found, nil, some, length') =
+  apart (cause.Length q rest) (cause.OutOfBand r) h (none, few, (j, g, is, less, size, left)) (f, found, nil, some, length') =
       not_found j g f none is less found
-  apart (cause.Length q rest) (cause.Page r o) h (none, (j, g, is, less, size, left)) (f, found, nil, no_page, length', are) =
+  apart (cause.Length q rest) (cause.Page r o) h (none, few, (j, g, is, less, size, left)) (f, found, nil, no_page, length', are) =
       not_found j g f none is less found
-  apart cause.NoSize d h (some, none, inl images) b = let s = group_of d h b in not_any s.0 none images s.1
-  apart cause.NoSize d h (some, none, inr (g, one, fails)) b = let s = group_of d h b in not_sure g s.0 none one fails s.1
+  apart cause.NoSize d h (some, none, inl many) b = let s = group_of d h b in not_many s.0 none many s.1
+  apart cause.NoSize d h (some, none, inr (inl images)) b = let s = group_of d h b in not_any s.0 none images s.1
+  apart cause.NoSize d h (some, none, inr (inr (g, one, fails))) b = let s = group_of d h b in not_sure g s.0 none one fails s.1
   apart (cause.OutOfBand q) (cause.Page r o) h (f, one, none, some, size) (g, two, nil, no_page, length', is) =
       true≢false (sym no_page ∙ sym (same_page f g one two) ∙ some)
   apart (cause.Page q o) d h a b = absurd (omega (arith, h, rank_last d))
@@ -95,7 +102,7 @@ module _ (bytes : List ℕ) where
   same : (c d : Undetected) → rank c ≡ rank d → Is c → Is d → c ≡ d
   same cause.NoHeader cause.NoHeader e a b = refl
   same cause.NoSize cause.NoSize e a b = refl
-  same (cause.Length q rest) (cause.Length r over) e (none, (i, f, one, less, size, left)) (plain, (j, g, two, few, length', more)) =
+  same (cause.Length q rest) (cause.Length r over) e (none, few, (i, f, one, less, size, left)) (plain, two_few, (j, g, two, past, length', more)) =
       let s = same_group (heads_of bytes) i j f g one two in
       let sizes : q ≡ r = size ∙ ap (λ x. x.size) s ∙ sym length' in
       let rests : rest ≡ over = left ∙ ap (λ x. length bytes - x.last) s ∙ sym more in
@@ -110,9 +117,10 @@ module _ (bytes : List ℕ) where
   -- what is told rules each cause out
   not_both : (found : List Detected) (c : Undetected) → AreDetected bytes found → Is c → ⊥
   not_both found cause.NoHeader are e = found_heads are.group are.is e
-  not_both found (cause.Length q rest) are (none, (j, g, one, less, size, left)) = not_found j g are.group none one less are.is
-  not_both found cause.NoSize are (some, none, inl images) = not_any are.group none images are.is
-  not_both found cause.NoSize are (some, none, inr (g, one, fails)) = not_sure g are.group none one fails are.is
+  not_both found (cause.Length q rest) are (none, few, (j, g, one, less, size, left)) = not_found j g are.group none one less are.is
+  not_both found cause.NoSize are (some, none, inl many) = not_many are.group none many are.is
+  not_both found cause.NoSize are (some, none, inr (inl images)) = not_any are.group none images are.is
+  not_both found cause.NoSize are (some, none, inr (inr (g, one, fails))) = not_sure g are.group none one fails are.is
   not_both found (cause.OutOfBand q) are (g, one, none, some, size) =
       are.some (are.are ∙ ap (told bytes) (one_found bytes are.group g are.is one) ∙ none)
   not_both found (cause.Page q o) are (g, one, none, nil, size, is) =

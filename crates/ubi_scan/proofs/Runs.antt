@@ -1,6 +1,8 @@
 -- How many numbers from 0 on pass a test.
 use Rattle.std.proofs.Common.{◌≡◌, ℕ, ◌+◌, ◌<◌, ◌≤◌, Bool, true, false, cond, zero, suc, add-zero, refl, ap, sym, ◌∙◌, arith}
 use Rattle.std.specs.List.{prefix_len, range_with_len}
+use Rattle.std.proofs.lemmas.List.FromFn.{get_or-range_with_len, length-range_with_len}
+use Rattle.std.proofs.lemmas.List.Sums.{prefix_len-le-length, prefix_len_passes, prefix_len_stops}
 use Rattle.ubi_scan.specs.Place.{run}
 
 -- so many of n numbers pass, where those pass and the next one doesn't
@@ -23,3 +25,19 @@ run_is t n m h all end = run_from t 0 n m h (λ j below. ap t (omega arith) ∙ 
 
 pub run_all : (t : ℕ → Bool) (n m : ℕ) → m ≡ n → ((j : ℕ) → j < m → t j ≡ true) → run t n ≡ m
 run_all t n m e all = run_is t n m (omega (arith, e)) all (λ below. absurd (omega (arith, below, e)))
+
+-- no more than all pass; each of those passes, and the next one doesn't
+pub run_most : (t : ℕ → Bool) (n : ℕ) → run t n ≤ n
+run_most t n =
+    let e = prefix_len-le-length t (range_with_len 0 n) in let f = length-range_with_len 0 n in omega (arith, e, f)
+
+pub run_passes : (t : ℕ → Bool) (n j : ℕ) → j < run t n → t j ≡ true
+run_passes t n j below =
+    let most = run_most t n in
+    sym (ap t (get_or-range_with_len 0 n j 0 (omega (arith, below, most)) ∙ omega arith)) ∙ prefix_len_passes t (range_with_len 0 n) j 0 below
+
+pub run_stops : (t : ℕ → Bool) (n : ℕ) → run t n < n → t (run t n) ≡ false
+run_stops t n below =
+    let f = length-range_with_len 0 n in
+    sym (ap t (get_or-range_with_len 0 n (run t n) 0 below ∙ omega arith))
+    ∙ prefix_len_stops t (range_with_len 0 n) 0 (omega (arith, below, f))

@@ -1,12 +1,12 @@
 -- The group that the headers of a file say.
-use Rattle.std.proofs.Common.{◌≡◌, ◌≢◌, ℕ, ◌/◌, ◌≤◌, true, List, [], ◌∷◌, length, inr, refl, ap, sym, ◌∙◌, arith}
+use Rattle.std.proofs.Common.{◌≡◌, ◌≢◌, ℕ, ◌/◌, ◌<◌, ◌≤◌, true, List, [], ◌∷◌, length, inl, inr, refl, ap, sym, ◌∙◌, arith}
 use Rattle.std.specs.List.{list_any}
 use Rattle.std.specs.Prelude.{IsFalse, map}
 use Rattle.std.proofs.lemmas.Bool.{and_from, eq-eqb, or_left, true≢false}
 use Rattle.std.proofs.lemmas.List.{length-map}
-use Rattle.ubi_scan.specs.Detected.{IsUndetected, IsWhole}
+use Rattle.ubi_scan.specs.Detected.{IsUndetected, IsWhole, NonePlain}
 use Rattle.ubi_scan.specs.Groups.{IsImage}
-use Rattle.ubi_scan.specs.Heads.{heads_of, keys_of, same_key, step}
+use Rattle.ubi_scan.specs.Heads.{heads_of, key_count, keys_of, most_keys, same_key, step}
 use Rattle.ubi_scan.specs.Sure.{is_sure}
 use Rattle.ubi_scan.specs.declared.detect.Undetected.TheVariants as cause
 use Rattle.ubi_scan.specs.declared.groups.Group.{Group}
@@ -15,7 +15,7 @@ use Rattle.ubi_scan.specs.declared.heads.Key.{Key}
 use Rattle.ubi_scan.specs.inner.Detecting.{AreGroups, IsWithin, LiesIn}
 use Rattle.ubi_scan.proofs.NewGroups.{any_key}
 
-same_itself : (k : Key) → same_key k k ≡ true
+pub same_itself : (k : Key) → same_key k k ≡ true
 same_itself k =
     and_from _ _
     (and_from _ _ (eq-eqb k.offsets.vid_offset k.offsets.vid_offset refl) (eq-eqb k.offsets.data_offset k.offsets.data_offset refl))
@@ -51,6 +51,14 @@ lies_in n g within size = record {
 pub image_heads : (heads : List Head) (j : ℕ) (g : Group) → IsImage heads j g → heads ≢ []
 image_heads heads j g is e = let n = ap (λ hs. length (keys_of hs)) e in let i = is.says.inside in omega (arith, n, i)
 
+-- and so has a file of too many keys
+pub many_heads : (bytes : List ℕ) → most_keys < key_count bytes → heads_of bytes ≢ []
+many_heads bytes many e = let n = ap (λ hs. length (keys_of hs)) e in omega (arith, n, many)
+
+-- which is refused for them
+pub too_many : (bytes : List ℕ) → NonePlain bytes → most_keys < key_count bytes → IsUndetected bytes cause.NoSize
+too_many bytes none many = (many_heads bytes many, none, inl many)
+
 -- a whole image of which the size isn't sure is refused for it
 pub not_sure : (bytes : List ℕ) (g : Group) → IsWhole bytes g → IsFalse (is_sure bytes g) → IsUndetected bytes cause.NoSize
-not_sure bytes g is fails = (image_heads (heads_of bytes) is.index g is.image, is.none, inr (g, is, fails))
+not_sure bytes g is fails = (image_heads (heads_of bytes) is.index g is.image, is.none, inr (inr (g, is, fails)))

@@ -1,7 +1,7 @@
 -- What is detected of the geometry of a file, or why nothing is.
 use Rattle.std.specs.Prelude.{◌≡◌, ◌≢◌, ℕ, ◌-◌, ◌<◌, ◌≤◌, ◌⊎◌, IsFalse, IsTrue, List, [], Result, Err, length}
 use Rattle.ubi_scan.specs.Groups.{IsImage}
-use Rattle.ubi_scan.specs.Heads.{heads_of}
+use Rattle.ubi_scan.specs.Heads.{heads_of, key_count, most_keys}
 use Rattle.ubi_scan.specs.Place.{end_of_last, has_no_page, told}
 use Rattle.ubi_scan.specs.Plain.{IsSurelyPlain}
 use Rattle.ubi_scan.specs.Source.{Agreed, Source, WhereHeld, failed}
@@ -17,9 +17,11 @@ use Rattle.ubi_scan.specs.declared.groups.Group.{Group}
 abbrev pub NonePlain : List ℕ → Type 0
 NonePlain bytes = (g : Group) → IsSurelyPlain bytes g → ⊥
 
--- this is the group of the image that its headers say, where none plainly is, of which the last eraseblock is all there
+-- this is the group of the image that its headers say, where none plainly is and they name few keys, of which the last eraseblock is
+-- all there
 pub record IsWhole (bytes : List ℕ) (g : Group) : Type 0 where
   pub none : NonePlain bytes
+  pub few : key_count bytes ≤ most_keys
   pub index : ℕ
   pub image : IsImage (heads_of bytes) index g
   pub whole : end_of_last g ≤ length bytes
@@ -39,13 +41,13 @@ pub record AreDetected (bytes : List ℕ) (found : List Detected) : Type 0 where
 abbrev pub IsUndetected : List ℕ → Undetected → Type 0
 -- no header stands in it
 IsUndetected bytes cause.NoHeader = heads_of bytes ≡ []
--- some do, but no group says a size, or it isn't sure
+-- some do, but they name too many keys, or no group says a size, or it isn't sure
 IsUndetected bytes cause.NoSize =
-    (heads_of bytes ≢ []) × NonePlain bytes × (((j : ℕ) (g : Group) → IsImage (heads_of bytes) j g → ⊥)
-    ⊎ ((g : Group) × IsWhole bytes g × IsFalse (is_sure bytes g)))
--- of the last eraseblock of the image only so many bytes are there
+    (heads_of bytes ≢ []) × NonePlain bytes × ((most_keys < key_count bytes)
+    ⊎ (((j : ℕ) (g : Group) → IsImage (heads_of bytes) j g → ⊥) ⊎ ((g : Group) × IsWhole bytes g × IsFalse (is_sure bytes g))))
+-- they name few, and of the last eraseblock of the image only so many bytes are there
 IsUndetected bytes (cause.Length size rest) =
-    NonePlain bytes × ((j : ℕ) × (g : Group) × IsImage (heads_of bytes) j g × (length bytes < end_of_last g) × (size ≡ g.size)
+    NonePlain bytes × (key_count bytes ≤ most_keys) × ((j : ℕ) × (g : Group) × IsImage (heads_of bytes) j g × (length bytes < end_of_last g) × (size ≡ g.size)
     × (rest ≡ length bytes - g.last))
 -- there are pages, and no volume-identifier header stands where one of them has it
 IsUndetected bytes (cause.OutOfBand size) =

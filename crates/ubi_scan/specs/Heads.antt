@@ -7,7 +7,7 @@ use Rattle.ubi_media.specs.declared.ec.EcStart.TheVariants as start
 use Rattle.ubi_scan.specs.declared.heads.Head.{Head}
 use Rattle.ubi_scan.specs.declared.heads.Key.{Key}
 
--- headers stand at multiples of it: an eraseblock with its out-of-band bytes is one too
+-- headers are looked for at multiples of so many bytes
 abbrev pub step : ℕ
 step = 64
 
@@ -55,6 +55,14 @@ with_key keys k = if list_any (same_key k) keys then keys else keys ++ k ∷ []
 -- what the headers name, each once, in the order of the first headers that do
 abbrev pub keys_of : List Head → List Key
 keys_of heads = fold with_key [] (map (λ h. h.key) heads)
+
+-- how many keys the headers of a file name
+abbrev pub key_count : List ℕ → ℕ
+key_count bytes = length (keys_of (heads_of bytes))
+
+-- headers may name so many: each header is compared with all keys that were named before
+abbrev pub most_keys : ℕ
+most_keys = 256
 
 -- whether the group of k speaks for an image: it has a number, or no header of its offsets has
 abbrev pub speaks : List Key → Key → Bool

@@ -1,5 +1,5 @@
 -- Whether the size that a group of headers says is sure: what stands at the places of its eraseblocks.
-use Rattle.std.specs.Prelude.{ℕ, ◌+◌, ◌-◌, ◌*◌, ◌/◌, ◌%◌, ◌==◌, ◌&&◌, ◌||◌, Bool, List, Option, None, Some, false, if◌then◌else◌, length, nat_le, nat_lt, not, slice_range}
+use Rattle.std.specs.Prelude.{ℕ, ◌+◌, ◌-◌, ◌*◌, ◌/◌, ◌%◌, ◌==◌, ◌&&◌, ◌||◌, Bool, List, Option, None, Some, false, if◌then◌else◌, length, min, nat_le, nat_lt, not, slice_range}
 use Rattle.std.specs.List.{list_all, list_any, range_with_len}
 use Rattle.ubi_media.specs.Fields.{field}
 use Rattle.ubi_media.specs.Geometry.{slots}
@@ -121,15 +121,25 @@ some_part q d test p = list_any (λ j. test (p + (j + 1) * (q / d))) (range_with
 abbrev pub some_inner : ℕ → ℕ → ℕ → (ℕ → Bool) → ℕ → Bool
 some_inner last q d test p = nat_lt p last && some_part q d test p
 
+-- how many bytes are looked at where a part of so many begins: more than a record of the volume table has, whose check is no zero; or
+-- all of a shorter part
+abbrev pub looked_at : ℕ → ℕ
+looked_at part = min part 192
+
+-- whether what an eraseblock holds goes on at a place: n bytes there are neither all 0xFF nor all zero, and they don't stand behind 16
+-- bytes 0xFF
+abbrev pub goes_on : ℕ → List ℕ → ℕ → Bool
+goes_on n bytes at = not (all_are 0xFF n bytes at || all_are 0 n bytes at) && not (all_are 0xFF 16 bytes (at - 16))
+
 -- whether something stands there behind 16 bytes 0xFF, as nothing does in an eraseblock that is written from its beginning on
 abbrev pub is_hole : List ℕ → ℕ → Bool
 is_hole bytes at = is_filled bytes at && all_are 0xFF 16 bytes (at - 16)
 
--- whether the eraseblocks can't be d of the true ones: before the last header something stands where a part would begin, and nowhere
--- behind blank bytes
+-- whether the eraseblocks can't be d of the true ones: before the last header what one holds goes on where a part would begin, and
+-- nothing stands at such a place behind blank bytes
 abbrev pub are_no_parts : List ℕ → Group → ℕ → Bool
 are_no_parts bytes g d =
-    some_start bytes g (some_inner g.last g.size d (is_filled bytes))
+    some_start bytes g (some_inner g.last g.size d (goes_on (looked_at (g.size / d)) bytes))
     && not (some_start bytes g (some_inner g.last g.size d (is_hole bytes)))
 
 -- whether they are no number of the true ones

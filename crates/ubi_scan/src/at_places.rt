@@ -58,14 +58,14 @@ pub fn all_are<S: BlockSource>(
 ) -> Result<bool, DetectError>
     requires size { (S.known source.old).size < 2 ^ 63 }
     requires some { 1 ≤ count }
-    requires few { count ≤ 64 }
+    requires few { count ≤ 192 }
     ensures known { S.known source.new ≡ after_detecting (S.known source.old) result }
     ensures narrows { Narrows (S.agrees source.old) (S.agrees source.new) }
     ensures are { IfOk result (λ are. WhereHeld (S.agrees source.new) (λ bytes. are ≡ all_are byte count bytes at)) }
     ensures failed { IfErr result (IsReadAt (S.known source.old).size) }
     ensures named { IfErr result (NamesPlace (S.failed_at source.new)) }
 {
-    let mut bytes = [0u8; 64];
+    let mut bytes = [0u8; 192];
     let out = &mut bytes[..count];
     if read_there(source, at, out)? {
         Ok(are_all(out, byte))

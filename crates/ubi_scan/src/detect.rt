@@ -38,7 +38,8 @@ pub struct Detected {
 pub enum Undetected {
     /// No erase-counter header stands at a multiple of 64.
     NoHeader,
-    /// No two headers are of one image, or what stands at the places of its eraseblocks speaks against the size that they say.
+    /// Headers name too many offsets and numbers, or no two are of one image, or what stands at the places of its eraseblocks speaks
+    /// against the size that they say.
     NoSize,
     /// The eraseblock of the image's last header isn't all there: the size of one, and how many bytes of it are.
     Length(u64, u64),
@@ -227,7 +228,9 @@ fn said_group<S: BlockSource>(alloc: Global, source: &mut S) -> Result<Group, De
     ensures refused { IfErr result (IsDetectError (S.known source.old) (S.agrees source.new)) }
     ensures named { IfErr result (NamesPlace (S.failed_at source.new)) }
 {
-    let groups = read_groups(alloc, source)?;
+    let Some(groups) = read_groups(alloc, source)? else {
+        return Err(DetectError::Undetected(Undetected::NoSize));
+    };
     if groups.is_empty() {
         return Err(DetectError::Undetected(Undetected::NoHeader));
     }
@@ -276,9 +279,9 @@ const LONGEST: u64 = 0x7FFF_FFFF_FFFF_FFFF;
 ///
 /// # Errors
 ///
-/// Undetected with the first cause that stands: NoHeader; NoSize, where no headers say a size; Length; NoSize, where it isn't sure;
-/// OutOfBand; Page. Read where a read failed. Memory where it ran out: it needs 64 KiB, and 48 bytes for each two offsets and number
-/// that headers name.
+/// Undetected with the first cause that stands: NoHeader; NoSize, where headers name more than 256 keys, which are two offsets and a
+/// number, or where none say a size; Length; NoSize, where it isn't sure; OutOfBand; Page. Read where a read failed. Memory where it ran
+/// out: it needs 100 KiB at most, however long the source is.
 pub fn detect_from<S: BlockSource>(
     alloc: Global,
     source: &mut S,

@@ -15,6 +15,9 @@ use std::alloc::AllocError;
 /// An eraseblock has at most so many bytes.
 pub const GREATEST_SIZE: u64 = 16_777_216;
 
+/// The headers of a file that isn't plainly an image name at most so many keys.
+pub const MOST_KEYS: usize = 256;
+
 /// The headers of a file that name one key, or the same offsets and no number. It takes the same memory, however many they are.
 #[derive(Clone, Copy, Debug, PartialEq, Eq)]
 pub struct Group {

@@ -5,13 +5,10 @@ ghost use Rattle.ubi_scan.specs.inner.Joined.{IsJoined, NoneOwns};
 ghost use Rattle.ubi_scan.specs.Heads.{is_of, key_in, same_key, same_offsets};
 
 use byteorder::{BigEndian, ByteOrder};
-use ubi_media::{EcOffsets, EcStart, read_start};
+use ubi_media::{EC_MAGIC, EcOffsets, EcStart, read_start};
 
-/// Headers stand at multiples of so many bytes: an eraseblock with its out-of-band bytes is one too.
+/// Headers are looked for at multiples of so many bytes.
 pub const STEP: u64 = 64;
-
-/// The text `UBI#`, with which each header begins.
-const MAGIC: u32 = 0x5542_4923;
 
 /// What the headers of one image name alike.
 #[derive(Clone, Copy, Debug, PartialEq, Eq)]
@@ -94,7 +91,7 @@ pub fn key_within(bytes: &[u8], at: usize) -> Option<Key>
     requires { at + 64 ≤ length bytes.now }
     ensures { result ≡ key_in (slice_range bytes.now at (at + 64)) }
 {
-    if BigEndian::read_u32(&bytes[at..at + 4]) != MAGIC {
+    if BigEndian::read_u32(&bytes[at..at + 4]) != EC_MAGIC {
         return None;
     }
     let mut front = [0u8; 64];

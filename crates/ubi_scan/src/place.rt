@@ -13,10 +13,10 @@ use crate::block_tests::{BlockTest, count_starts, some_start};
 use crate::detect::{DetectError, Detected};
 use crate::groups::Group;
 use crate::source::BlockSource;
-use crate::sure::VID_MAGIC;
 use crate::way::Way;
 use crate::ways::Ways;
 use std::alloc::{AllocError, Global};
+use ubi_media::VID_MAGIC;
 
 /// Whether the magic of a volume-identifier header stands where it does in an eraseblock.
 #[derive(Drop)]

@@ -1,11 +1,11 @@
 //! Whether the size that a group of headers says is sure, by what stands at the places of its eraseblocks.
 
-ghost use Rattle.std.specs.Prelude.{◌≡◌, ℕ, ◌+◌, ◌<◌, ◌≤◌, ◌^◌, ◌||◌, IfErr, IfOk, not};
+ghost use Rattle.std.specs.Prelude.{◌≡◌, ℕ, ◌+◌, ◌/◌, ◌<◌, ◌≤◌, ◌^◌, ◌||◌, IfErr, IfOk, not};
 ghost use Rattle.ubi_scan.specs.Detected.{NamesPlace, after_detecting};
 ghost use Rattle.ubi_scan.specs.Groups.{greatest_size};
 ghost use Rattle.ubi_scan.specs.Place.{ways_with};
 ghost use Rattle.ubi_scan.specs.Source.{Narrows, WhereHeld};
-ghost use Rattle.ubi_scan.specs.Sure.{are_no_parts, end_in, has_inner_start, has_part_start, has_room, have_copies, holds_table, is_dense, is_filled, is_hole, is_prime, is_seen, is_sure, is_whole_size, may_be_parts, may_be_size, meet_in, says_so, some_ends_blank, tables_meet};
+ghost use Rattle.ubi_scan.specs.Sure.{are_no_parts, end_in, goes_on, has_inner_start, has_part_start, has_room, have_copies, holds_table, is_dense, is_filled, is_hole, is_prime, is_seen, is_sure, is_whole_size, may_be_parts, may_be_size, meet_in, says_so, some_ends_blank, tables_meet};
 ghost use Rattle.ubi_scan.specs.inner.Detecting.{AreWays, IsReadAt, IsReadError, LiesIn};
 
 use crate::at_places::{all_are, is_start, number_at};
@@ -17,10 +17,7 @@ use crate::source::BlockSource;
 use crate::way::Way;
 use crate::ways::{Ways, has_no_way};
 use std::alloc::{AllocError, Global};
-use ubi_media::{EcOffsets, LAYOUT_VOLUME, RECORD_SIZE};
-
-/// The text `UBI!`, with which a volume-identifier header begins.
-pub const VID_MAGIC: u32 = 0x5542_4921;
+use ubi_media::{EcOffsets, LAYOUT_VOLUME, RECORD_SIZE, VID_MAGIC};
 
 /// Whether an eraseblock ends with 16 bytes 0xFF, but for so many out-of-band bytes.
 #[derive(Drop)]
@@ -85,6 +82,31 @@ fn is_hole<S: BlockSource>(source: &mut S, at: u64) -> Result<bool, DetectError>
         return Ok(false);
     }
     all_are(source, 0xFF, 16, at.saturating_sub(16))
+}
+
+/// Whether what an eraseblock holds goes on at a place: so many bytes are neither all 0xFF nor all zero, and don't stand behind 16 bytes
+/// 0xFF.
+///
+/// # Errors
+///
+/// Read where a read failed.
+fn goes_on<S: BlockSource>(source: &mut S, count: usize, at: u64) -> Result<bool, DetectError>
+    requires size { (S.known source.old).size < 2 ^ 63 }
+    requires some { 1 ≤ count }
+    requires few { count ≤ 192 }
+    ensures known { S.known source.new ≡ after_detecting (S.known source.old) result }
+    ensures narrows { Narrows (S.agrees source.old) (S.agrees source.new) }
+    ensures goes { IfOk result (λ goes. WhereHeld (S.agrees source.new) (λ bytes. goes ≡ goes_on count bytes at)) }
+    ensures failed { IfErr result (IsReadAt (S.known source.old).size) }
+    ensures named { IfErr result (NamesPlace (S.failed_at source.new)) }
+{
+    if all_are(source, 0xFF, count, at)? {
+        return Ok(false);
+    }
+    if all_are(source, 0, count, at)? {
+        return Ok(false);
+    }
+    Ok(!all_are(source, 0xFF, 16, at.saturating_sub(16))?)
 }
 
 /// Whether an eraseblock holds a copy of the volume table, by its volume-identifier header and the place of the table's last record.
@@ -173,19 +195,28 @@ impl BlockTest for Meets<'_> {
     }
 }
 
-/// Whether something stands at a place.
+/// At most so many bytes are looked at where a part of an eraseblock begins: more than a record of the volume table has, whose check is
+/// no zero.
+const LOOKED_AT: u64 = 192;
+
+/// Whether what an eraseblock holds goes on at a place.
 #[derive(Drop)]
-struct Filled;
+struct GoesOn {
+    /// How many bytes are looked at.
+    count: usize,
+    ghost some: { 1 ≤ count },
+    ghost few: { count ≤ 192 },
+}
 
-impl BlockTest for Filled {
-    ghost use Rattle.ubi_scan.specs.Sure.{is_filled};
+impl BlockTest for GoesOn {
+    ghost use Rattle.ubi_scan.specs.Sure.{goes_on};
 
-    ghost holds = { λ _. is_filled };
+    ghost holds = { λ test. goes_on test.count };
 
     ghost reach = { λ _. 0 };
 
     fn holds<S: BlockSource>(&self, source: &mut S, at: u64) -> Result<bool, DetectError> {
-        is_filled(source, at)
+        goes_on(source, self.count, at)
     }
 }
 
@@ -319,21 +350,24 @@ fn are_no_parts<S: BlockSource>(
     requires size { (S.known source.old).size < 2 ^ 63 }
     requires lies { LiesIn (S.known source.old).size group.now }
     requires some { 1 ≤ parts }
+    requires part { 1 ≤ group.now.size / parts }
     ensures known { S.known source.new ≡ after_detecting (S.known source.old) result }
     ensures narrows { Narrows (S.agrees source.old) (S.agrees source.new) }
     ensures are { IfOk result (λ are. WhereHeld (S.agrees source.new) (λ bytes. are ≡ are_no_parts bytes group.now parts)) }
     ensures failed { IfErr result (IsReadAt (S.known source.old).size) }
     ensures named { IfErr result (NamesPlace (S.failed_at source.new)) }
 {
-    let filled = SomeInner {
+    let goes_on = SomeInner {
         last: group.last,
         part: SomePart {
             size: group.size,
             parts,
-            test: &Filled,
+            test: &GoesOn {
+                count: (group.size / parts).min(LOOKED_AT) as usize,
+            },
         },
     };
-    if !some_start(source, group, &filled)? {
+    if !some_start(source, group, &goes_on)? {
         return Ok(false);
     }
     let hole = SomeInner {

@@ -1,10 +1,10 @@
 -- What is answered on the way to what is detected of a file.
-use Rattle.std.specs.Prelude.{◌≡◌, ℕ, ◌+◌, ◌-◌, ◌*◌, ◌<◌, ◌≤◌, ◌⊎◌, ◌==◌, ◌&&◌, ◌||◌, Bool, [], None, Some, true, if◌then◌else◌, nat_le, nat_lt, IsFalse, IsTrue, List, Option, find, fold, length, map, max, not, option_map, slice_index_or}
+use Rattle.std.specs.Prelude.{◌≡◌, ℕ, ◌+◌, ◌-◌, ◌*◌, ◌<◌, ◌≤◌, ◌⊎◌, ◌==◌, ◌&&◌, ◌||◌, Bool, [], None, Some, false, true, if◌then◌else◌, nat_le, nat_lt, IsFalse, IsTrue, List, Option, find, fold, length, map, max, not, option_map, slice_index_or}
 use Rattle.std.specs.Int.{IsGcd}
 use Rattle.std.specs.List.{All, list_all, list_any}
 use Rattle.std.specs.Option.{option_to_list}
 use Rattle.ubi_scan.specs.Groups.{IsGroup, greatest_size, spoken}
-use Rattle.ubi_scan.specs.Heads.{is_of, key_in, keys_of, same_key, same_offsets, step, with_key}
+use Rattle.ubi_scan.specs.Heads.{is_of, key_in, keys_of, most_keys, same_key, same_offsets, step, with_key}
 use Rattle.ubi_scan.specs.Place.{has_no_page, told, ways_with, ways_without}
 use Rattle.ubi_scan.specs.Source.{Agreed, WhereHeld}
 use Rattle.ubi_scan.specs.declared.way.Way.{Way}
@@ -40,6 +40,11 @@ pub record IsWithin (n : ℕ) (g : Group) : Type 0 where
 pub record AreGroups (heads : List Head) (gs : List Group) : Type 0 where
   pub keys : map (λ g. g.key) gs ≡ keys_of heads
   pub each : All (IsGroup heads) gs
+
+-- whether these are the groups of headers; else these name too many keys
+abbrev pub AreGroupsIf : List Head → List Group → Bool → Type 0
+AreGroupsIf heads gs true = AreGroups heads gs
+AreGroupsIf heads gs false = most_keys < length (keys_of heads)
 
 -- it was added to each of these
 pub record AreAdded (h : Head) (old new : List Group) : Type 0 where

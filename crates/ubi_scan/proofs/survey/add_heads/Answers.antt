@@ -1,8 +1,9 @@
-use Rattle.std.proofs.Common.{◌+◌, ◌/◌, List, ℕ, subst, sym, arith, length}
+use Rattle.std.proofs.Common.{◌+◌, ◌/◌, List, ℕ, ap, subst, sym, arith, length}
 use Rattle.std.specs.List.{All}
-use Rattle.ubi_scan.specs.Heads.{heads_to, step}
+use Rattle.ubi_scan.specs.Heads.{heads_to, keys_of, step}
 use Rattle.ubi_scan.specs.declared.heads.Head.{Head}
 use Rattle.ubi_scan.specs.inner.Detecting.{AreGroups, IsWithin}
+use Rattle.ubi_scan.proofs.MoreKeys.{as_many_keys, keys_in_more}
 use Rattle.ubi_scan.proofs.Surveyed.{heads_of_unit, unit_behind, unit_inside}
 use Rattle.ubi_scan.proofs.survey.add_heads.Goals as goal
 
@@ -13,11 +14,22 @@ loop-i-preserved c = record {
       subst P (sym (heads_of_unit all c.args.bytes.now c.args.place c.loop-i.i here c.requires.place
       (unit_inside c.loop-i.i (length c.args.bytes.now) c.loop-i-test.true)))
       (c.in_ok-add_unit.ensures.groups _ (c.loop-i.invariant.groups all here are));
+  few = omega arith;
   within = let e = unit_behind c.args.place c.loop-i.i c.requires.place in
       let P : ℕ → Type 0 = λ n. All (IsWithin n) c.add_unit.new.groups.items in
       let f = e.0 in
       subst P (omega (arith, f)) (c.in_ok-add_unit.ensures.within e.1);
 }
+
+pub returns-then-len-gt-MOST_KEYS-clause-groups : goal.returns-then-len-gt-MOST_KEYS-clause-groups
+returns-then-len-gt-MOST_KEYS-clause-groups c = λ all here are.
+    let units = heads_of_unit all c.args.bytes.now c.args.place c.loop-i.i here c.requires.place
+    (unit_inside c.loop-i.i (length c.args.bytes.now) c.loop-i-test.true) in
+    let named = ap (λ hs. length (keys_of hs)) units in
+    let groups = as_many_keys _ c.add_unit.new.groups.items (c.in_ok-add_unit.ensures.groups _ (c.loop-i.invariant.groups all here are)) in
+    let more = keys_in_more all (c.args.place / step + (c.loop-i.i + 1)) (c.args.place / step + length c.args.bytes.now / step)
+    (let inside = c.loop-i-test.true in omega (arith, inside)) in
+    let ok = c.add_unit.new.groups.ok in omega (arith, named, groups, more, ok)
 
 pub returns-clause-groups : goal.returns-clause-groups
 returns-clause-groups c = λ all here are.

@@ -1,4 +1,4 @@
-use Rattle.std.proofs.Common.{◌≡◌, ℕ, ◌+◌, ◌/◌, List, length, slice_range}
+use Rattle.std.proofs.Common.{◌≡◌, ℕ, ◌+◌, ◌/◌, ◌≤◌, List, length, slice_range, vec_len}
 use Rattle.std.specs.List.{All}
 use Rattle.ubi_scan.specs.Heads.{heads_to, step}
 use Rattle.ubi_scan.specs.inner.Detecting.{AreGroups, IsWithin}
@@ -9,5 +9,6 @@ abbrev pub invariant-loop-i : goal.invariant-loop-i
 invariant-loop-i l = record {
   groups : (all : List ℕ) → slice_range all l.place (l.place + length l.bytes) ≡ l.bytes → AreGroups (heads_to all (l.place / step)) l.fn.groups.items
       → AreGroups (heads_to all (l.place / step + l.i)) l.groups.items;
+  few : vec_len l.groups ≤ 256;
   within : All (IsWithin (l.place / step + l.i)) l.groups.items;
 }

@@ -1,4 +1,4 @@
-use Rattle.std.proofs.Common.{◌≡◌, ◌*◌, ◌/◌, vec_len}
+use Rattle.std.proofs.Common.{◌≡◌, ◌*◌, ◌/◌, ◌≤◌, vec_len}
 use Rattle.std.specs.List.{All}
 use Rattle.std.specs.Prelude.{min}
 use Rattle.ubi_scan.specs.Heads.{heads_to, step}
@@ -14,5 +14,6 @@ invariant-loop-i g l = record {
   groups : WhereHeld (g.S.BlockSource.agrees l.source) (λ bytes.
       AreGroups (heads_to bytes (min (l.i * 1024) ((g.S.BlockSource.known l.fn.source).size / step))) l.groups.items);
   within : All (IsWithin (min (l.i * 1024) ((g.S.BlockSource.known l.fn.source).size / step))) l.groups.items;
+  few : vec_len l.groups ≤ 256;
   window : vec_len l.window ≡ 65536;
 }
