@@ -40,9 +40,15 @@ pub argued : (old new : Command) (a : Arg) (x : App) (r : Rule) → AddsArg old 
     → app_of old ≡ x → app_of new ≡ with_rule x r
 argued old new a x r adds local is old_is = adds.shape local ∙ ap₂ with_rule old_is is
 
--- and so is one that was made a needed one
+-- and so is one that was made a needed one, or one that may be left out
+pub argued_required : (old new : Command) (a b : Arg) (x : App) (r : Rule) (need : Bool) → AddsArg old b new
+    → b ≡ record a { required = need } → a.global ≡ false → rule_of a ≡ r → app_of old ≡ x
+    → app_of new ≡ with_rule x (record r { required = need })
+argued_required old new a b x r need adds made local is old_is =
+    argued old new b x (record r { required = need }) adds (ap (λ (c : Arg). c.global) made ∙ local)
+    (ap rule_of made ∙ ap (λ (s : Rule). record s { required = need }) is) old_is
+
 pub argued_needed : (old new : Command) (a b : Arg) (x : App) (r : Rule) → AddsArg old b new
     → b ≡ record a { required = true } → a.global ≡ false → rule_of a ≡ r → app_of old ≡ x
     → app_of new ≡ with_rule x (needed r)
-argued_needed old new a b x r adds made local is old_is =
-    argued old new b x (needed r) adds (ap (λ (c : Arg). c.global) made ∙ local) (ap rule_of made ∙ ap needed is) old_is
+argued_needed old new a b x r = argued_required old new a b x r true

@@ -2,13 +2,13 @@
 use Rattle.std.proofs.Common.{◌≡◌, ◌∙◌, ◌<◌, ◌^◌, List, Option, None, Some, ap, option_map, refl, subst, sym, ℕ}
 use Rattle.std.proofs.lemmas.Option.{same_Some}
 use Rattle.std.specs.Borrow.{Bor}
-use Rattle.std.specs.Prelude.{Err, Ok, Result}
+use Rattle.std.specs.Prelude.{Err, Ok, Result, is_some}
 use Rattle.std.specs.Str.Parse.{ParsesUnsigned, digits_value, without_leading_plus}
 use Rattle.clap.specs.Matches.{ReadsOne, first_value, one_text}
 use Rattle.clap.specs.Walk.{one_of, rows_of}
 use Rattle.clap.specs.declared.parser.matches.Found.{Found}
 use Rattle.clap.proofs.WalkLemmas.{first_value-rows, one_text-rows}
-use Rattle.ubi_commands.specs.CommandLine.{HasBelow, HasNumber, HasText, IsOneOf, MayHaveBelow, MayHaveNumber}
+use Rattle.ubi_commands.specs.CommandLine.{HasBelow, HasNumber, HasText, IsOneOf, MayHaveBelow, MayHaveNumber, gives}
 
 -- a text that the matches give is one of the words
 pub text_given : (f : Found) (name : List ℕ) (text : Option (Bor (List ℕ)))
@@ -17,6 +17,12 @@ text_given f name None same = λ t has.
     let bad : None ≡ Some t.now = same ∙ first_value-rows f name ∙ has in
     cc
 text_given f name (Some s) same = sym (first_value-rows f name) ∙ sym same
+
+-- whether they give one is whether the words do
+pub is_given : (f : Found) (name : List ℕ) (text : Option (Bor (List ℕ))) → option_map (λ s. s.now) text ≡ first_value f name
+    → is_some text ≡ gives (rows_of f) name
+is_given f name None same = ap is_some (same ∙ first_value-rows f name)
+is_given f name (Some s) same = ap is_some (same ∙ first_value-rows f name)
 
 -- and so is a number of so many bits, where they give one
 pub number_given : (E : Type 0) (G : List ℕ → Result ℕ E → Type 0) (bits : ℕ) (f : Found) (name : List ℕ) (number : Option ℕ)

@@ -16,7 +16,7 @@ use Rattle.ubi_commands.specs.Numbers.{sizes_of}
 use Rattle.ubi_commands.specs.Opened.{IsOpened}
 use Rattle.ubi_commands.specs.declared.open_image.OpenImage.{OpenImage}
 use Rattle.ubi_commands.specs.declared.open_image.OpenImage.TheVariants as image
-use Rattle.ubi_commands.specs.Program.{IsRead, OfFile, cannot_read, no_file, places, unreadable, whole}
+use Rattle.ubi_commands.specs.Program.{IsRead, OfFile, WhereRead, cannot_read, file, no_file, places, unreadable, whole}
 use Rattle.ubi_commands.specs.declared.requests.Dump.{Dump}
 use Rattle.ubi_commands.specs.declared.outcome.Outcome.{Outcome}
 use Rattle.ubi_commands.specs.declared.outcome.SidesError.{SidesError}
@@ -72,6 +72,24 @@ module _ (work : Result Outcome ToolError) (k after : Source) (path : List ℕ) 
   works_in o (outcome is) known ok = answered (known ∙ ap (after_run k) is) (IfOk-at_ok answers is ok)
   works_in o (read_failed is line) known ok = no_source (known ∙ ap (after_run k) is) line
 
+-- what is known of a source over a dump is known where that is read
+module _ (d : Files) (dump : Dump) (path : List ℕ) (known : Source → Agreed → Type 0) where
+  pub read_at_places : (k after : Source) (reads : List (ℕ × List ℕ)) → first_broken (sizes_of dump.numbers) ≡ None
+      → (k.failures ≡ 0) × (k.held ≡ (seen dump d).holds path) → Fits d dump path → IfSome after.held (known_by after.size reads)
+      → after ≡ k → known k (known_by after.size reads) → WhereRead d dump path known
+  read_at_places k after reads limits opened fits told is h =
+      let here = subst (λ (x : Source). known k (known_by x.size reads)) is h in
+      let held = subst (λ (x : Source). IfSome x.held (known_by x.size reads)) is told in
+      let named = subst (λ (x : Option (List ℕ)). IfSome x (known_by k.size reads)) opened.1 held in
+      places k reads limits opened.0 named fits here
+
+  pub read_by_bytes : (bytes start later : List ℕ) → IsRead (sizes_of dump.numbers) bytes
+      → IsJudgedOf (seen dump d) path (sizes_of dump.numbers) bytes → FitsWhole d dump path → start ≡ bytes
+      → Narrows (holds start) (holds later) → known (memory start) (holds later) → WhereRead d dump path known
+  read_by_bytes bytes start later read named fits is narrows h =
+      let held = subst (λ (b : List ℕ). known (memory start) (holds b)) (narrows later refl) h in
+      whole bytes read named fits (subst (λ (b : List ℕ). known (memory b) (holds b)) is held)
+
 module _ (d : Files) (dump : Dump) (path : List ℕ) (answers : Sizes → Source → Agreed → Outcome → Type 0) (s : Sizes)
     (same : s ≡ sizes_of dump.numbers) where
   -- what is answered of a file that is known by its reads
@@ -79,10 +97,8 @@ module _ (d : Files) (dump : Dump) (path : List ℕ) (answers : Sizes → Source
       → first_broken (sizes_of dump.numbers) ≡ None → (k.failures ≡ 0) × (k.held ≡ (seen dump d).holds path) → Fits d dump path → IfSome after.held (known_by after.size reads)
       → Works k after path (answers s k (known_by after.size reads)) o → OfFile d dump path answers o
   at_places k after reads o limits opened fits told (answered is h) =
-      let here = subst (λ (x : Source). answers s k (known_by x.size reads) o) is h in
-      let held = subst (λ (x : Source). IfSome x.held (known_by x.size reads)) is told in
-      let named = subst (λ (x : Option (List ℕ)). IfSome x (known_by k.size reads)) opened.1 held in
-      places k reads limits opened.0 named fits (subst (λ (t : Sizes). answers t k (known_by k.size reads) o) same here)
+      file (read_at_places d dump path (λ x agrees. answers (sizes_of dump.numbers) x agrees o) k after reads limits opened fits told is
+      (subst (λ (t : Sizes). answers t k (known_by after.size reads) o) same h))
   at_places k after reads o limits opened fits told (no_source is line) = no_file (unreadable (cannot_read limits line))
 
   -- and of one that was read whole
@@ -91,9 +107,8 @@ module _ (d : Files) (dump : Dump) (path : List ℕ) (answers : Sizes → Source
       → Works (memory start) (memory later) path (answers s (memory start) (holds later)) o
       → OfFile d dump path answers o
   by_bytes bytes start later o read named fits is narrows (answered known h) =
-      let held = subst (λ (b : List ℕ). answers s (memory start) (holds b) o) (narrows later refl) h in
-      let here = subst (λ (b : List ℕ). answers s (memory b) (holds b) o) is held in
-      whole bytes read named fits (subst (λ (t : Sizes). answers t (memory bytes) (holds bytes) o) same here)
+      file (read_by_bytes d dump path (λ x agrees. answers (sizes_of dump.numbers) x agrees o) bytes start later read named fits is narrows
+      (subst (λ (t : Sizes). answers t (memory start) (holds later) o) same h))
   by_bytes bytes start later o read named fits is narrows (no_source known line) =
       let e = ap (λ (k : Source). k.failures) known in absurd (omega (arith, e))
 
@@ -133,22 +148,37 @@ pub of_any : {S : Type 0} (known : S → Source) (reads : S → List (ℕ × Lis
     → ((x : S) → is x → ((known x).failures ≡ 0) × ((known x).held ≡ (seen dump d).holds path))
     → ((k : Source) (agrees : Agreed) → answers (sizes_of dump.numbers) k agrees o) → (opened : OpenImage S)
     → IsOpened is d path dump opened → OfFile d dump path answers o
-of_any known reads is d dump path answers o tells unread h (image.AtPlaces file) was =
-    of_opened d dump path answers (sizes_of dump.numbers) refl o h was.1 (known file.source) (reads file.source) (unread file.source was.2)
-    was.3 (tells file.source)
-of_any known reads is d dump path answers o tells unread h (image.Whole file) was =
-    of_whole d dump path answers (sizes_of dump.numbers) refl o h file.bytes.items was.1 was.2 was.3
+of_any known reads is d dump path answers o tells unread h (image.AtPlaces placed) was =
+    of_opened d dump path answers (sizes_of dump.numbers) refl o h was.1 (known placed.source) (reads placed.source)
+    (unread placed.source was.2) was.3 (tells placed.source)
+of_any known reads is d dump path answers o tells unread h (image.Whole loaded) was =
+    of_whole d dump path answers (sizes_of dump.numbers) refl o h loaded.bytes.items was.1 was.2 was.3
 
 -- what is answered of a file is no less than more
 pub OfFile-weaker : (d : Files) (dump : Dump) (path : List ℕ) (P Q : Sizes → Source → Agreed → Outcome → Type 0)
     → ((s : Sizes) (k : Source) (agrees : Agreed) (o : Outcome) → P s k agrees o → Q s k agrees o) → (o : Outcome)
     → OfFile d dump path P o → OfFile d dump path Q o
 OfFile-weaker d dump path P Q f o (no_file h) = no_file h
-OfFile-weaker d dump path P Q f o (whole bytes read named fits h) = whole bytes read named fits (f _ _ _ o h)
-OfFile-weaker d dump path P Q f o (places k reads limits zero named fits h) = places k reads limits zero named fits (f _ _ _ o h)
+OfFile-weaker d dump path P Q f o (file (whole bytes read named fits h)) = file (whole bytes read named fits (f _ _ _ o h))
+OfFile-weaker d dump path P Q f o (file (places k reads limits zero named fits h)) =
+    file (places k reads limits zero named fits (f _ _ _ o h))
+
+-- and by other sizes, where these are those of the dump
+pub OfFile-sized : (d : Files) (dump : Dump) (path : List ℕ) (P : Sizes → Source → Agreed → Outcome → Type 0) (s : Sizes)
+    → sizes_of dump.numbers ≡ s → (o : Outcome) → OfFile d dump path P o → OfFile d dump path (λ _. P s) o
+OfFile-sized d dump path P s same o (no_file h) = no_file h
+OfFile-sized d dump path P s same o (file (whole bytes read named fits h)) =
+    file (whole bytes read named fits (subst (λ (t : Sizes). P t (memory bytes) (holds bytes) o) same h))
+OfFile-sized d dump path P s same o (file (places k reads limits zero named fits h)) =
+    file (places k reads limits zero named fits (subst (λ (t : Sizes). P t k (known_by k.size reads) o) same h))
+
+pub Works-weaker : (k after : Source) (path : List ℕ) (P Q : Outcome → Type 0) → ((o : Outcome) → P o → Q o) → (o : Outcome)
+    → Works k after path P o → Works k after path Q o
+Works-weaker k after path P Q f o (answered is h) = answered is (f o h)
+Works-weaker k after path P Q f o (no_source is line) = no_source is line
 
 -- two facts of what was answered
-pub both : {E : Type 0} (work : Result Outcome E) (P Q : Outcome → Type 0) → IfOk work P → IfOk work Q
+pub both : {X E : Type 0} (work : Result X E) (P Q : X → Type 0) → IfOk work P → IfOk work Q
     → IfOk work (λ o. P o × Q o)
 both (Ok o) P Q p q = (p, q)
 both (Err e) P Q p q = tt

@@ -3,7 +3,6 @@ use Rattle.std.proofs.Common.{◌≡◌, [], ◌∷◌, None, Some, codes, refl}
 use Rattle.std.specs.Fmt.{digits}
 use Rattle.ubi_media.specs.Geometry.{Sizes}
 use Rattle.ubi_media.specs.Limits.{first_broken}
-use Rattle.ubi_scan.specs.declared.detect.Detected.{Detected}
 use Rattle.ubi_scan.specs.declared.detect.Undetected.TheVariants as cause
 use Rattle.ubi_commands.specs.Geometry.{options, options_lines, sizes_options}
 use Rattle.ubi_commands.specs.Lines.{undetected_line}

@@ -1,5 +1,5 @@
 -- What the words of a request say: the volume that they name, what they list as bad, and what they keep.
-use Rattle.std.proofs.Common.{◌≡◌, ◌∙◌, Bool, List, None, Option, Some, ap, codes, false, not, refl, subst, sym, true, true≢false, ℕ}
+use Rattle.std.proofs.Common.{◌≡◌, ◌∙◌, ◌&&◌, ◌||◌, Bool, List, None, Option, Some, ap, ap₂, codes, false, not, refl, subst, sym, true, true≢false, ℕ}
 use Rattle.std.specs.Borrow.{Bor}
 use Rattle.std.specs.Option.{ForSome}
 use Rattle.std.proofs.lemmas.Option.{same_Some}
@@ -9,8 +9,10 @@ use Rattle.std.specs.Str.{bytes_eq}
 use Rattle.std.specs.Str.Parse.{without_leading_plus}
 use Rattle.clap.specs.Walk.{Row, Text, first_of, one_of}
 use Rattle.ubi_commands.specs.BadBlocks.{is_block_list}
-use Rattle.ubi_commands.specs.CommandLine.{Asks, AsksBlank, AsksDump, AsksKey, AsksPlan, HasNumber, HasText, IsRequest, MayHaveText, command_name}
-use Rattle.ubi_commands.specs.Tool.{HasOneVolume, Mean, plans, reads_dump}
+use Rattle.ubi_commands.specs.CommandLine.{Asks, AsksAsked, AsksBlank, AsksDump, AsksKey, AsksPlan, HasNumber, HasText, IsRequest, MayHaveText, command_name, gives, gives_no_geometry}
+use Rattle.ubi_commands.specs.Tool.{HasOneVolume, Mean, finds, plans, reads_dump}
+use Rattle.ubi_commands.specs.declared.requests.Asked.{Asked}
+use Rattle.ubi_commands.specs.declared.requests.Asked.TheVariants as way
 use Rattle.ubi_commands.specs.declared.requests.Dump.{Dump}
 use Rattle.ubi_commands.specs.declared.requests.Plan.{Plan}
 use Rattle.ubi_commands.specs.declared.requests.Request.{Request}
@@ -41,6 +43,10 @@ no_text_no_number rows id none n has = go (find (λ r. bytes_eq r.id id) rows) r
         let bad : None ≡ Some has.0 = sym (ap (option_map without_leading_plus) nothing) ∙ has.1 in
         cc
     go (Some r) is = by_value r (slice_get r.values 0) refl is
+
+or_true : (a b : Bool) → b ≡ true → (a || b) ≡ true
+or_true true b is = refl
+or_true false b is = is
 
 text_given : (o : Option Text) → (o ≡ None → ⊥) → is_some o ≡ true
 text_given None some = absurd (some refl)
@@ -91,6 +97,20 @@ list_given rows None is each list at = absurd (let none : None ≡ Some list = i
 list_given rows (Some t) is each list at =
     subst (λ (x : Text). is_block_list x ≡ true) (same_Some t.now list (is ∙ at)) (each t refl)
 
+-- so it is of those over a dump that may be found
+list_asked : (rows : List Row) (d : Asked) → AsksAsked rows d → ForSome (first_of (codes "bad") rows) (λ list. is_block_list list ≡ true)
+list_asked rows (way.Given dump) asks = list_given rows dump.bad asks.3 asks.4
+list_asked rows (way.Sought sought) asks = list_given rows sought.bad asks.1.2 asks.1.3
+
+-- they give both sizes of a geometry, or nothing of one
+sizes_asked : (rows : List Row) (d : Asked) → AsksAsked rows d
+    → ((gives rows (codes "peb") && gives rows (codes "page")) || gives_no_geometry rows) ≡ true
+sizes_asked rows (way.Given dump) asks =
+    let peb = number_is_text rows (codes "peb") dump.numbers.peb_size asks.0.0 in
+    let page = number_is_text rows (codes "page") dump.numbers.page asks.0.1 in
+    ap₂ (λ (a b : Bool). (a && b) || gives_no_geometry rows) peb page
+sizes_asked rows (way.Sought sought) asks = or_true _ _ asks.0
+
 -- and what they say of Blank eraseblocks is that they are kept
 blank_given : (rows : List Row) (keeps : Bool) → AsksBlank rows keeps → ForSome (first_of (codes "blank") rows) (λ word. word ≡ codes "keep")
 blank_given rows true is word at = same_Some word (codes "keep") (sym at ∙ is)
@@ -102,6 +122,7 @@ request_means named r asked = record {
   volume = request_names_one named r asked;
   list = λ name words is dumps. lists r asked.1 asked.2 name words is dumps;
   blank = λ name words is planned. keeps r asked.1 asked.2 name words is planned;
+  geometry = λ name words is found. sizes r asked.1 asked.2 name words is found;
 }
   where
     same : (a : Text) (rows : List Row) → named ≡ Some (a, rows) → (name : Text) (words : List Row) → named ≡ Some (name, words)
@@ -122,6 +143,18 @@ request_means named r asked = record {
         subst (λ (rows : List Row). ForSome (first_of (codes "bad") rows) (λ list. is_block_list list ≡ true))
         (same a asked.0 at name words is).1 (list_given asked.0 d.bad asks.3 asks.4)
 
+    listed_asked : (a : Text) (d : Asked) → named ≡ Some (a, asked.0) → AsksAsked asked.0 d → (name : Text) (words : List Row)
+        → named ≡ Some (name, words) → ForSome (first_of (codes "bad") words) (λ list. is_block_list list ≡ true)
+    listed_asked a d at asks name words is =
+        subst (λ (rows : List Row). ForSome (first_of (codes "bad") rows) (λ list. is_block_list list ≡ true))
+        (same a asked.0 at name words is).1 (list_asked asked.0 d asks)
+
+    sized : (a : Text) (d : Asked) → named ≡ Some (a, asked.0) → AsksAsked asked.0 d → (name : Text) (words : List Row)
+        → named ≡ Some (name, words) → ((gives words (codes "peb") && gives words (codes "page")) || gives_no_geometry words) ≡ true
+    sized a d at asks name words is =
+        subst (λ (rows : List Row). ((gives rows (codes "peb") && gives rows (codes "page")) || gives_no_geometry rows) ≡ true)
+        (same a asked.0 at name words is).1 (sizes_asked asked.0 d asks)
+
     kept : (a : Text) (p : Plan) → named ≡ Some (a, asked.0) → AsksPlan asked.0 p → (name : Text) (words : List Row)
         → named ≡ Some (name, words) → ForSome (first_of (codes "blank") words) (λ word. word ≡ codes "keep")
     kept a p at asks name words is =
@@ -133,15 +166,31 @@ request_means named r asked = record {
     lists (request.Geometry part image) at asks name words is holds = other reads_dump (codes "geometry") refl at name words is holds
     lists (request.Compose n new) at asks name words is holds = other reads_dump (codes "compose") refl at name words is holds
     lists (request.Build n new) at asks name words is holds = other reads_dump (codes "build") refl at name words is holds
-    lists (request.List d image) at asks name words is holds = listed (codes "list") d at asks.0 name words is
-    lists (request.Check d image) at asks name words is holds = listed (codes "check") d at asks.0 name words is
-    lists (request.Show d image block) at asks name words is holds = listed (codes "show") d at asks.0 name words is
-    lists (request.Extract d extract) at asks name words is holds = listed (codes "extract") d at asks.0 name words is
-    lists (request.Unpack d paths) at asks name words is holds = listed (codes "unpack") d at asks.0 name words is
-    lists (request.Normalise d paths) at asks name words is holds = listed (codes "normalise") d at asks.0 name words is
-    lists (request.Same d left right) at asks name words is holds = listed (codes "same") d at asks.0 name words is
+    lists (request.List d image) at asks name words is holds = listed_asked (codes "list") d at asks.0 name words is
+    lists (request.Check d image) at asks name words is holds = listed_asked (codes "check") d at asks.0 name words is
+    lists (request.Show d image block) at asks name words is holds = listed_asked (codes "show") d at asks.0 name words is
+    lists (request.Extract d extract) at asks name words is holds = listed_asked (codes "extract") d at asks.0 name words is
+    lists (request.Unpack d paths) at asks name words is holds = listed_asked (codes "unpack") d at asks.0 name words is
+    lists (request.Normalise d paths) at asks name words is holds = listed_asked (codes "normalise") d at asks.0 name words is
+    lists (request.Same d left right) at asks name words is holds = listed_asked (codes "same") d at asks.0 name words is
     lists (request.Change d change) at asks name words is holds = listed (codes "change") d at asks.0 name words is
     lists (request.Rename d rename) at asks name words is holds = listed (codes "rename") d at asks.0 name words is
+
+    sizes : (q : Request) → named ≡ Some (command_name q, asked.0) → Asks asked.0 q → (name : Text) (words : List Row)
+        → named ≡ Some (name, words) → finds name ≡ true
+        → ((gives words (codes "peb") && gives words (codes "page")) || gives_no_geometry words) ≡ true
+    sizes (request.Geometry part image) at asks name words is holds = other finds (codes "geometry") refl at name words is holds
+    sizes (request.Compose n new) at asks name words is holds = other finds (codes "compose") refl at name words is holds
+    sizes (request.Build n new) at asks name words is holds = other finds (codes "build") refl at name words is holds
+    sizes (request.Change d change) at asks name words is holds = other finds (codes "change") refl at name words is holds
+    sizes (request.Rename d rename) at asks name words is holds = other finds (codes "rename") refl at name words is holds
+    sizes (request.List d image) at asks name words is holds = sized (codes "list") d at asks.0 name words is
+    sizes (request.Check d image) at asks name words is holds = sized (codes "check") d at asks.0 name words is
+    sizes (request.Show d image block) at asks name words is holds = sized (codes "show") d at asks.0 name words is
+    sizes (request.Extract d extract) at asks name words is holds = sized (codes "extract") d at asks.0 name words is
+    sizes (request.Unpack d paths) at asks name words is holds = sized (codes "unpack") d at asks.0 name words is
+    sizes (request.Normalise d paths) at asks name words is holds = sized (codes "normalise") d at asks.0 name words is
+    sizes (request.Same d left right) at asks name words is holds = sized (codes "same") d at asks.0 name words is
 
     keeps : (q : Request) → named ≡ Some (command_name q, asked.0) → Asks asked.0 q → (name : Text) (words : List Row)
         → named ≡ Some (name, words) → plans name ≡ true → ForSome (first_of (codes "blank") words) (λ word. word ≡ codes "keep")

@@ -1,10 +1,13 @@
 -- Words that lack what a command needs are no request of it.
-use Rattle.std.proofs.Common.{◌≡◌, ◌∙◌, List, codes, false, refl, sym, true≢false, ℕ}
+use Rattle.std.proofs.Common.{◌≡◌, ◌∙◌, ◌∷◌, [], Bool, List, ap, codes, false, refl, sym, true, true≢false, ℕ}
+use Rattle.std.specs.List.{list_any}
 use Rattle.std.specs.Str.{bytes_eq}
 use Rattle.std.proofs.lemmas.Slice.Eq.{bytes_eq-Decides}
 use Rattle.clap.specs.Walk.{Row, Text}
-use Rattle.ubi_commands.specs.CommandLine.{AsksChange, AsksDump, AsksExtract, AsksNewImage, AsksNumbers, AsksPaths, AsksRename, HasNumber}
+use Rattle.ubi_commands.specs.CommandLine.{AsksAsked, AsksChange, AsksDump, AsksExtract, AsksNewImage, AsksNumbers, AsksPaths, AsksRename, HasNumber}
+use Rattle.ubi_commands.specs.Tool.{finds, plans}
 use Rattle.ubi_commands.specs.inner.CommandLine.{IsAskedBy}
+use Rattle.ubi_commands.specs.declared.requests.Asked.{Asked}
 use Rattle.ubi_commands.specs.declared.requests.Change.{Change}
 use Rattle.ubi_commands.specs.declared.requests.Dump.{Dump}
 use Rattle.ubi_commands.specs.declared.requests.Extract.{Extract}
@@ -15,41 +18,64 @@ use Rattle.ubi_commands.specs.declared.requests.Request.{Request}
 use Rattle.ubi_commands.specs.declared.requests.Request.TheVariants as request
 use Rattle.ubi_commands.specs.declared.numbers.Numbers.{Numbers}
 
+-- the commands that make an image of no other
+abbrev pub makes : Text → Bool
+makes name = list_any (bytes_eq name) (codes "compose" ∷ codes "build" ∷ [])
+
+-- a name that passes a test isn't one that doesn't
+other_test : (test : Text → Bool) (a b : Text) → test a ≡ false → test b ≡ true → a ≡ b → ⊥
+other_test test a b fails passes same = true≢false (sym passes ∙ sym (ap test same) ∙ fails)
+
 pub apart : (a b : Text) → bytes_eq a b ≡ false → a ≡ b → ⊥
 apart a b differ same = true≢false (sym ((bytes_eq-Decides a b).1 same) ∙ differ)
 
--- of a command that is asked with the numbers of a geometry
-pub no_numbers : (name : Text) → bytes_eq (codes "geometry") name ≡ false → (rows : List Row)
-    → ((n : Numbers) → AsksNumbers rows n → ⊥) → (r : Request) → IsAskedBy name rows r → ⊥
-no_numbers name other rows none (request.Geometry part image) asked = apart _ _ other asked.0
-no_numbers name other rows none (request.List dump image) asked = none dump.numbers asked.1.0.0
-no_numbers name other rows none (request.Check dump image) asked = none dump.numbers asked.1.0.0
-no_numbers name other rows none (request.Show dump image block) asked = none dump.numbers asked.1.0.0
-no_numbers name other rows none (request.Extract dump extract) asked = none dump.numbers asked.1.0.0
-no_numbers name other rows none (request.Unpack dump paths) asked = none dump.numbers asked.1.0.0
-no_numbers name other rows none (request.Compose n new) asked = none n asked.1.0
-no_numbers name other rows none (request.Build n new) asked = none n asked.1.0
-no_numbers name other rows none (request.Normalise dump paths) asked = none dump.numbers asked.1.0.0
-no_numbers name other rows none (request.Same dump left right) asked = none dump.numbers asked.1.0.0
-no_numbers name other rows none (request.Change dump change) asked = none dump.numbers asked.1.0.0
-no_numbers name other rows none (request.Rename dump rename) asked = none dump.numbers asked.1.0.0
+-- of a command that is asked with the numbers of a new image's geometry
+pub no_numbers : (name : Text) → makes name ≡ true → (rows : List Row) → ((n : Numbers) → AsksNumbers rows n → ⊥)
+    → (r : Request) → IsAskedBy name rows r → ⊥
+no_numbers name made rows none (request.Compose n new) asked = none n asked.1.0
+no_numbers name made rows none (request.Build n new) asked = none n asked.1.0
+no_numbers name made rows none (request.Geometry part image) asked = other_test makes _ _ refl made asked.0
+no_numbers name made rows none (request.List dump image) asked = other_test makes _ _ refl made asked.0
+no_numbers name made rows none (request.Check dump image) asked = other_test makes _ _ refl made asked.0
+no_numbers name made rows none (request.Show dump image block) asked = other_test makes _ _ refl made asked.0
+no_numbers name made rows none (request.Extract dump extract) asked = other_test makes _ _ refl made asked.0
+no_numbers name made rows none (request.Unpack dump paths) asked = other_test makes _ _ refl made asked.0
+no_numbers name made rows none (request.Normalise dump paths) asked = other_test makes _ _ refl made asked.0
+no_numbers name made rows none (request.Same dump left right) asked = other_test makes _ _ refl made asked.0
+no_numbers name made rows none (request.Change dump change) asked = other_test makes _ _ refl made asked.0
+no_numbers name made rows none (request.Rename dump rename) asked = other_test makes _ _ refl made asked.0
 
--- of a command that is asked with a dump
-pub no_dump : (name : Text) → bytes_eq (codes "geometry") name ≡ false → bytes_eq (codes "compose") name ≡ false
-    → bytes_eq (codes "build") name ≡ false → (rows : List Row) → ((d : Dump) → AsksDump rows d → ⊥) → (r : Request)
+-- of a command that plans, over a dump
+pub no_dump : (name : Text) → plans name ≡ true → (rows : List Row) → ((d : Dump) → AsksDump rows d → ⊥) → (r : Request)
     → IsAskedBy name rows r → ⊥
-no_dump name first second third rows none (request.Geometry part image) asked = apart _ _ first asked.0
-no_dump name first second third rows none (request.Compose n new) asked = apart _ _ second asked.0
-no_dump name first second third rows none (request.Build n new) asked = apart _ _ third asked.0
-no_dump name first second third rows none (request.List d image) asked = none d asked.1.0
-no_dump name first second third rows none (request.Check d image) asked = none d asked.1.0
-no_dump name first second third rows none (request.Show d image block) asked = none d asked.1.0
-no_dump name first second third rows none (request.Extract d extract) asked = none d asked.1.0
-no_dump name first second third rows none (request.Unpack d paths) asked = none d asked.1.0
-no_dump name first second third rows none (request.Normalise d paths) asked = none d asked.1.0
-no_dump name first second third rows none (request.Same d left right) asked = none d asked.1.0
-no_dump name first second third rows none (request.Change d change) asked = none d asked.1.0
-no_dump name first second third rows none (request.Rename d rename) asked = none d asked.1.0
+no_dump name planned rows none (request.Change d change) asked = none d asked.1.0
+no_dump name planned rows none (request.Rename d rename) asked = none d asked.1.0
+no_dump name planned rows none (request.Geometry part image) asked = other_test plans _ _ refl planned asked.0
+no_dump name planned rows none (request.Compose n new) asked = other_test plans _ _ refl planned asked.0
+no_dump name planned rows none (request.Build n new) asked = other_test plans _ _ refl planned asked.0
+no_dump name planned rows none (request.List d image) asked = other_test plans _ _ refl planned asked.0
+no_dump name planned rows none (request.Check d image) asked = other_test plans _ _ refl planned asked.0
+no_dump name planned rows none (request.Show d image block) asked = other_test plans _ _ refl planned asked.0
+no_dump name planned rows none (request.Extract d extract) asked = other_test plans _ _ refl planned asked.0
+no_dump name planned rows none (request.Unpack d paths) asked = other_test plans _ _ refl planned asked.0
+no_dump name planned rows none (request.Normalise d paths) asked = other_test plans _ _ refl planned asked.0
+no_dump name planned rows none (request.Same d left right) asked = other_test plans _ _ refl planned asked.0
+
+-- of a command that finds how a dump is read
+pub no_asked : (name : Text) → finds name ≡ true → (rows : List Row) → ((d : Asked) → AsksAsked rows d → ⊥) → (r : Request)
+    → IsAskedBy name rows r → ⊥
+no_asked name found rows none (request.List d image) asked = none d asked.1.0
+no_asked name found rows none (request.Check d image) asked = none d asked.1.0
+no_asked name found rows none (request.Show d image block) asked = none d asked.1.0
+no_asked name found rows none (request.Extract d extract) asked = none d asked.1.0
+no_asked name found rows none (request.Unpack d paths) asked = none d asked.1.0
+no_asked name found rows none (request.Normalise d paths) asked = none d asked.1.0
+no_asked name found rows none (request.Same d left right) asked = none d asked.1.0
+no_asked name found rows none (request.Geometry part image) asked = other_test finds _ _ refl found asked.0
+no_asked name found rows none (request.Compose n new) asked = other_test finds _ _ refl found asked.0
+no_asked name found rows none (request.Build n new) asked = other_test finds _ _ refl found asked.0
+no_asked name found rows none (request.Change d change) asked = other_test finds _ _ refl found asked.0
+no_asked name found rows none (request.Rename d rename) asked = other_test finds _ _ refl found asked.0
 
 pub no_block : (rows : List Row) → ((n : ℕ) → HasNumber rows (codes "block") n → ⊥) → (r : Request)
     → IsAskedBy (codes "show") rows r → ⊥

@@ -12,11 +12,13 @@ pub mod Ended
 pub mod Extracted
 pub mod FileRows
 pub mod Filled
+pub mod Found
 pub mod GatheredParts
 pub mod GeometryVectors
 pub mod GivenKey
 pub mod GivenWords
 pub mod Into
+pub mod KeptPart
 pub mod Lacking
 pub mod Levels
 pub mod ListedLines
@@ -32,6 +34,7 @@ pub mod RequestsOf
 pub mod SeenBytes
 pub mod ShownLines
 pub mod Taken
+pub mod ToldPlaces
 pub mod ToolVectors
 pub mod Unhelped
 pub mod Unpacked

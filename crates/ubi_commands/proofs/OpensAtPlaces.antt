@@ -18,3 +18,9 @@ pub was_opened : (A : List ℕ → Type 0) (opens : Bool) (held : Option (List �
     → IfSome held (λ all. all ≢ [] → A all)
 was_opened A opens None known none = tt
 was_opened A opens (Some all) known none = absurd cc
+
+-- one that fits, and is never opened so, isn't there
+pub never_opened : (held : Option (List ℕ)) (fits : List ℕ → Type 0) (A : List ℕ → Type 0) → IfSome held (λ all. all ≢ [] → fits all → ⊥)
+    → IfSome held (λ all. all ≢ [] → fits all → A all)
+never_opened None fits A never = tt
+never_opened (Some all) fits A never = λ some fit. absurd (never some fit)

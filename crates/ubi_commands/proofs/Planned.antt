@@ -8,7 +8,7 @@ use Rattle.ubi_scan.specs.Source.{Agreed, Source}
 use Rattle.ubi_commands.specs.Answer.{Gives, says}
 use Rattle.ubi_commands.specs.Disk.{Files, Holds, OthersStay, Receives, Stays, fresh}
 use Rattle.ubi_commands.specs.Lines.{file_line}
-use Rattle.ubi_commands.specs.Program.{OfFile, WritesInto, WritesPlan, bad_limit, cannot_read, no_file, no_pages, places, planned, unfit, unreadable, unwritten, whole, written}
+use Rattle.ubi_commands.specs.Program.{OfFile, WritesInto, WritesPlan, bad_limit, cannot_read, file, no_file, no_pages, places, planned, unfit, unfit_whole, unreadable, unwritten, whole, written}
 use Rattle.ubi_commands.specs.declared.outcome.Outcome.{Outcome}
 use Rattle.ubi_commands.specs.declared.requests.Dump.{Dump}
 
@@ -21,16 +21,19 @@ OfFile-after d dump path P Q o r zero f (no_file (unreadable (bad_limit e broken
 OfFile-after d dump path P Q o r zero f (no_file (unreadable (cannot_read limits gives))) =
     absurd (let bad = sym zero ∙ gives.status in cc)
 OfFile-after d dump path P Q o r zero f (no_file (unfit n m limits count is gives)) = absurd (let bad = sym zero ∙ gives.status in cc)
-OfFile-after d dump path P Q o r zero f (whole bytes read named fits h) = whole bytes read named fits (f _ _ _ h)
-OfFile-after d dump path P Q o r zero f (places k reads limits unfailed named fits h) =
-    places k reads limits unfailed named fits (f _ _ _ h)
+OfFile-after d dump path P Q o r zero f (no_file (unfit_whole n m limits count is gives)) =
+    absurd (let bad = sym zero ∙ gives.status in cc)
+OfFile-after d dump path P Q o r zero f (file (whole bytes read named fits h)) = file (whole bytes read named fits (f _ _ _ h))
+OfFile-after d dump path P Q o r zero f (file (places k reads limits unfailed named fits h)) =
+    file (places k reads limits unfailed named fits (f _ _ _ h))
 
 -- what is answered of a file is no less than more, of one answer
 pub OfFile-at : (d : Files) (dump : Dump) (path : List ℕ) (P Q : Sizes → Source → Agreed → Outcome → Type 0) (o : Outcome)
     → ((s : Sizes) (k : Source) (agrees : Agreed) → P s k agrees o → Q s k agrees o) → OfFile d dump path P o → OfFile d dump path Q o
 OfFile-at d dump path P Q o f (no_file h) = no_file h
-OfFile-at d dump path P Q o f (whole bytes read named fits h) = whole bytes read named fits (f _ _ _ h)
-OfFile-at d dump path P Q o f (places k reads limits unfailed named fits h) = places k reads limits unfailed named fits (f _ _ _ h)
+OfFile-at d dump path P Q o f (file (whole bytes read named fits h)) = file (whole bytes read named fits (f _ _ _ h))
+OfFile-at d dump path P Q o f (file (places k reads limits unfailed named fits h)) =
+    file (places k reads limits unfailed named fits (f _ _ _ h))
 
 -- the file at a path holds what it received, though another was written since
 holds_since : (m e : Files) (out : List ℕ) (received : Option (List ℕ)) → Stays m e out → Holds m out received → Holds e out received

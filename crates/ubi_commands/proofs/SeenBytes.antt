@@ -10,7 +10,6 @@ use Rattle.ubi_commands.specs.BadBlocks.{masked}
 use Rattle.ubi_commands.specs.Disk.{Files}
 use Rattle.ubi_commands.specs.Dump.{Fits, marks_of, misfit_of, most_of, viewed}
 use Rattle.ubi_commands.specs.Numbers.{sizes_of}
-use Rattle.ubi_commands.specs.Program.{IsLenOf}
 use Rattle.ubi_commands.specs.Views.{pages_of, part_len, part_of}
 use Rattle.ubi_commands.specs.declared.requests.Dump.{Dump}
 use Rattle.ubi_commands.proofs.MaskedBytes.{for_mapped, length-masked, masked-take}
@@ -38,7 +37,7 @@ seen_is dump (Some all) size page oob start len n marks a b c d e f sized =
 -- ---- a file that is read whole
 
 -- the first bytes of a part, where fewer are read than it has, or that of the device
-take-part : (len : Option ℕ) (raw : ℕ) (xs : List ℕ)
+pub take-part : (len : Option ℕ) (raw : ℕ) (xs : List ℕ)
     → take (min (unwrap_or len raw) raw) xs ≡ take raw (option_map_or (λ n. take n xs) len xs)
 take-part None raw xs = ap (λ n. take n xs) (let e : min raw raw ≡ raw = omega arith in e)
 take-part (Some n) raw xs = by_len (cases_lt n raw)
@@ -99,10 +98,10 @@ fits d dump path held n same sized none =
     of_held (Some all) sized = ap (misfit_of dump) (sized all refl) ∙ none
 
 pub has_len : (d : Files) (dump : Dump) (path : List ℕ) (held : Option (List ℕ)) (n : ℕ) → held ≡ d.holds path
-    → ForSome held (λ all. length all ≡ n) → IfSome (d.holds path) (IsLenOf dump n)
+    → ForSome held (λ all. length all ≡ n) → IfSome (d.holds path) (λ all. n ≡ length all)
 has_len d dump path held n same sized =
-    subst (λ (o : Option (List ℕ)). IfSome o (IsLenOf dump n)) same (of_held held sized)
+    subst (λ (o : Option (List ℕ)). IfSome o (λ all. n ≡ length all)) same (of_held held sized)
   where
-    of_held : (o : Option (List ℕ)) → ForSome o (λ all. length all ≡ n) → IfSome o (IsLenOf dump n)
+    of_held : (o : Option (List ℕ)) → ForSome o (λ all. length all ≡ n) → IfSome o (λ all. n ≡ length all)
     of_held None sized = tt
-    of_held (Some all) sized = inl (sym (sized all refl))
+    of_held (Some all) sized = sym (sized all refl)

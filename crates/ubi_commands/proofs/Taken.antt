@@ -1,9 +1,9 @@
 -- Words that the command line takes are a request.
-use Rattle.std.proofs.Common.{◌≡◌, ◌∙◌, ◌||◌, ◌∷◌, [], Bool, List, None, Option, Some, ap, codes, cond, false, refl, sym, subst, true, true≢false, ℕ}
+use Rattle.std.proofs.Common.{◌≡◌, ◌∙◌, ◌&&◌, ◌||◌, ◌∷◌, [], Bool, List, None, Option, Some, ap, codes, cond, false, refl, sym, subst, true, true≢false, ℕ}
 use Rattle.std.specs.Borrow.{Bor}
 use Rattle.std.specs.Bool.{then_some}
 use Rattle.std.specs.Option.{ForSome}
-use Rattle.std.specs.Prelude.{option_map, unwrap_or}
+use Rattle.std.specs.Prelude.{is_some, option_and_then, option_map, slice_get, unwrap_or}
 use Rattle.std.specs.List.{find, list_all}
 use Rattle.std.specs.Str.{bytes_eq}
 use Rattle.std.proofs.lemmas.Option.{same_Some}
@@ -11,8 +11,12 @@ use Rattle.std.proofs.lemmas.Slice.Eq.{bytes_eq-Decides}
 use Rattle.clap.specs.Faults.{fault_of, level_fault}
 use Rattle.clap.specs.Simple.{Shape, argument_words, built, label_of, subcommand_of}
 use Rattle.clap.specs.Walk.{Row, Text, answers_to, first_of, nothing_held, rows_after}
-use Rattle.ubi_commands.specs.CommandLine.{Asks, AsksBlank, AsksDump, AsksNewImage, AsksNumbers, AsksPart, AsksPaths, AsksPlan, IsRequest, HasNumber, HasText, MayHaveText, command_name}
-use Rattle.ubi_commands.specs.Tool.{Mean, Takes, plans, reads_dump, tool}
+use Rattle.clap.proofs.WalkLemmas.{both}
+use Rattle.ubi_commands.specs.BadBlocks.{is_block_list}
+use Rattle.ubi_commands.specs.CommandLine.{Asks, AsksAsked, AsksBlank, AsksDump, AsksNewImage, AsksNumbers, AsksPart, AsksPaths, AsksPlan, IsRequest, HasNumber, HasText, MayHaveNumber, MayHaveText, command_name, gives, gives_no_geometry}
+use Rattle.ubi_commands.specs.Tool.{Mean, Takes, finds, plans, reads_dump, tool}
+use Rattle.ubi_commands.specs.declared.requests.Asked.{Asked}
+use Rattle.ubi_commands.specs.declared.requests.Asked.TheVariants as way
 use Rattle.ubi_commands.specs.declared.requests.Change.{Change}
 use Rattle.ubi_commands.specs.declared.requests.Dump.{Dump}
 use Rattle.ubi_commands.specs.declared.requests.Extract.{Extract}
@@ -22,10 +26,11 @@ use Rattle.ubi_commands.specs.declared.requests.Plan.{Plan}
 use Rattle.ubi_commands.specs.declared.requests.Rename.{Rename}
 use Rattle.ubi_commands.specs.declared.requests.Request.{Request}
 use Rattle.ubi_commands.specs.declared.requests.Request.TheVariants as request
+use Rattle.ubi_commands.specs.declared.requests.Sought.{Sought}
 use Rattle.ubi_commands.specs.declared.numbers.Numbers.{Numbers}
 use Rattle.ubi_commands.specs.declared.view.FilePart.{FilePart}
 use Rattle.ubi_commands.proofs.GivenKey.{key_asked}
-use Rattle.ubi_commands.proofs.GivenWords.{long_in, needs, number_asked, number_in, text_asked}
+use Rattle.ubi_commands.proofs.GivenWords.{found_row, long_in, needs, number_asked, number_in, number_in_row, text_asked}
 use Rattle.ubi_commands.proofs.Uses.{is_number, takes_one}
 use Rattle.ubi_commands.proofs.Levels.{AreGiven, IsMet, leaf_given, met}
 
@@ -91,6 +96,55 @@ module _ (s : Shape) (rows : List Row) (given : AreGiven s rows) where
         (n.1, part.1, (oob.0, oob.1, refl), bad.1, λ t is. mean.list name rows refl reads t.now (sym bad.1 ∙ ap (option_map (λ (x : Bor Text). x.now)) is)),
       )
 
+  -- a number that is given
+  given_number : (id : Text) → is_number id ≡ true → gives rows id ≡ true → (n : ℕ) × HasNumber rows id n
+  given_number id is has = go (find (λ r. bytes_eq r.id id) rows) refl
+    where
+      go : (o : Option Row) → find (λ r. bytes_eq r.id id) rows ≡ o → (n : ℕ) × HasNumber rows id n
+      go (Some r) at = number_in_row rows id is (found_row id rows given.each r at)
+      go None at =
+          absurd (true≢false (sym has ∙ ap (λ (o : Option Row). is_some (option_and_then (λ (x : Row). slice_get x.values 0) o)) at))
+
+  -- how a dump is read: by the sizes that are given, or by its headers
+  asked_dump : (name : Text) → reads_dump name ≡ true → finds name ≡ true → Mean (Some (name, rows)) → (d : Asked) × AsksAsked rows d
+  asked_dump name reads found mean =
+      go (gives rows (codes "peb") && gives rows (codes "page")) refl (mean.geometry name rows refl found)
+    where
+      bad : (t : Option (Bor Text)) × MayHaveText rows (codes "bad") t
+      bad = text_in (codes "bad")
+
+      pebs : (n : Option ℕ) × MayHaveNumber rows (codes "pebs") n
+      pebs = number_in rows (codes "pebs")
+
+      list : ForSome bad.0 (λ l. is_block_list l.now ≡ true)
+      list = λ t is. mean.list name rows refl reads t.now (sym bad.1 ∙ ap (option_map (λ (x : Bor Text). x.now)) is)
+
+      go : (b : Bool) → (gives rows (codes "peb") && gives rows (codes "page")) ≡ b → (b || gives_no_geometry rows) ≡ true
+          → (d : Asked) × AsksAsked rows d
+      go true two h =
+          let sizes = both _ _ two in
+          let peb = given_number (codes "peb") refl sizes.0 in
+          let page = given_number (codes "page") refl sizes.1 in
+          let vid = number_in rows (codes "vid") in
+          let data_at = number_in rows (codes "data") in
+          let oob = number_in rows (codes "oob") in
+          let dump : Dump = record {
+            numbers = record {
+              peb_size = peb.0;
+              page = page.0;
+              vid_offset = vid.0;
+              data_offset = data_at.0;
+              pebs = pebs.0;
+            };
+            part = part.0;
+            oob = unwrap_or oob.0 0;
+            bad = bad.0;
+          } in
+          (way.Given dump, ((peb.1, page.1, vid.1, data_at.1, pebs.1), part.1, (oob.0, oob.1, refl), bad.1, list))
+      go false two h =
+          let sought : Sought = record { part = part.0; pebs = pebs.0; bad = bad.0 } in
+          (way.Sought sought, (h, (part.1, pebs.1, bad.1, list)))
+
   paths : Needs s (codes "IMAGE") → Needs s (codes "out") → (p : Paths) × AsksPaths rows p
   paths image out =
       let i = text (codes "IMAGE") image in
@@ -140,39 +194,39 @@ module _ (s : Shape) (rows : List Row) (given : AreGiven s rows) where
       let i = text (codes "IMAGE") image in
       (request.Geometry part.0 i.0, refl, (part.1, i.1))
 
-  list_asked : Mean (Some (codes "list", rows)) → Needs s (codes "peb") → Needs s (codes "page") → Needs s (codes "IMAGE") → IsAsked (codes "list") rows
-  list_asked mean peb page image =
-      let n = dump (codes "list") refl mean peb page in
+  list_asked : Mean (Some (codes "list", rows)) → Needs s (codes "IMAGE") → IsAsked (codes "list") rows
+  list_asked mean image =
+      let n = asked_dump (codes "list") refl refl mean in
       let i = text (codes "IMAGE") image in
       (request.List n.0 i.0, refl, (n.1, i.1))
 
-  check_asked : Mean (Some (codes "check", rows)) → Needs s (codes "peb") → Needs s (codes "page") → Needs s (codes "IMAGE") → IsAsked (codes "check") rows
-  check_asked mean peb page image =
-      let n = dump (codes "check") refl mean peb page in
+  check_asked : Mean (Some (codes "check", rows)) → Needs s (codes "IMAGE") → IsAsked (codes "check") rows
+  check_asked mean image =
+      let n = asked_dump (codes "check") refl refl mean in
       let i = text (codes "IMAGE") image in
       (request.Check n.0 i.0, refl, (n.1, i.1))
 
-  show_asked : Mean (Some (codes "show", rows)) → Needs s (codes "peb") → Needs s (codes "page") → Needs s (codes "IMAGE") → Needs s (codes "block")
+  show_asked : Mean (Some (codes "show", rows)) → Needs s (codes "IMAGE") → Needs s (codes "block")
       → IsAsked (codes "show") rows
-  show_asked mean peb page image block =
-      let n = dump (codes "show") refl mean peb page in
+  show_asked mean image block =
+      let n = asked_dump (codes "show") refl refl mean in
       let i = text (codes "IMAGE") image in
       let b = number (codes "block") refl block in
       (request.Show n.0 i.0 b.0, refl, (n.1, i.1, b.1))
 
-  extract_asked : Mean (Some (codes "extract", rows)) → Needs s (codes "peb") → Needs s (codes "page") → Needs s (codes "IMAGE") → Needs s (codes "out")
+  extract_asked : Mean (Some (codes "extract", rows)) → Needs s (codes "IMAGE") → Needs s (codes "out")
       → IsAsked (codes "extract") rows
-  extract_asked mean peb page image out =
-      let n = dump (codes "extract") refl mean peb page in
+  extract_asked mean image out =
+      let n = asked_dump (codes "extract") refl refl mean in
       let p = paths image out in
       let k = key_asked rows given.each (mean.volume rows refl) in
       let extract : Extract = record { paths = p.0; key = k.0 } in
       (request.Extract n.0 extract, refl, (n.1, (p.1, k.1)))
 
-  unpack_asked : Mean (Some (codes "unpack", rows)) → Needs s (codes "peb") → Needs s (codes "page") → Needs s (codes "IMAGE") → Needs s (codes "out")
+  unpack_asked : Mean (Some (codes "unpack", rows)) → Needs s (codes "IMAGE") → Needs s (codes "out")
       → IsAsked (codes "unpack") rows
-  unpack_asked mean peb page image out =
-      let n = dump (codes "unpack") refl mean peb page in
+  unpack_asked mean image out =
+      let n = asked_dump (codes "unpack") refl refl mean in
       let p = paths image out in
       (request.Unpack n.0 p.0, refl, (n.1, p.1))
 
@@ -190,17 +244,17 @@ module _ (s : Shape) (rows : List Row) (given : AreGiven s rows) where
       let new = new_image (codes "CONFIG") config out in
       (request.Build n.0 new.0, refl, (n.1, new.1))
 
-  normalise_asked : Mean (Some (codes "normalise", rows)) → Needs s (codes "peb") → Needs s (codes "page") → Needs s (codes "IMAGE") → Needs s (codes "out")
+  normalise_asked : Mean (Some (codes "normalise", rows)) → Needs s (codes "IMAGE") → Needs s (codes "out")
       → IsAsked (codes "normalise") rows
-  normalise_asked mean peb page image out =
-      let n = dump (codes "normalise") refl mean peb page in
+  normalise_asked mean image out =
+      let n = asked_dump (codes "normalise") refl refl mean in
       let p = paths image out in
       (request.Normalise n.0 p.0, refl, (n.1, p.1))
 
-  same_asked : Mean (Some (codes "same", rows)) → Needs s (codes "peb") → Needs s (codes "page") → Needs s (codes "IMAGE") → Needs s (codes "OTHER")
+  same_asked : Mean (Some (codes "same", rows)) → Needs s (codes "IMAGE") → Needs s (codes "OTHER")
       → IsAsked (codes "same") rows
-  same_asked mean peb page image other =
-      let n = dump (codes "same") refl mean peb page in
+  same_asked mean image other =
+      let n = asked_dump (codes "same") refl refl mean in
       let i = text (codes "IMAGE") image in
       let o = text (codes "OTHER") other in
       (request.Same n.0 i.0 o.0, refl, (n.1, i.1, o.1))
@@ -281,15 +335,15 @@ each_asks : EachAsks (built tool).subs
 unfolding tool
 each_asks =
     also (asks_it _ refl refl refl (λ rows given mean. geometry_asked _ rows given refl))
-    (also (asks_it _ refl refl refl (λ rows given mean. list_asked _ rows given mean refl refl refl))
-    (also (asks_it _ refl refl refl (λ rows given mean. check_asked _ rows given mean refl refl refl))
-    (also (asks_it _ refl refl refl (λ rows given mean. show_asked _ rows given mean refl refl refl refl))
-    (also (asks_it _ refl refl refl (λ rows given mean. extract_asked _ rows given mean refl refl refl refl))
-    (also (asks_it _ refl refl refl (λ rows given mean. unpack_asked _ rows given mean refl refl refl refl))
+    (also (asks_it _ refl refl refl (λ rows given mean. list_asked _ rows given mean refl))
+    (also (asks_it _ refl refl refl (λ rows given mean. check_asked _ rows given mean refl))
+    (also (asks_it _ refl refl refl (λ rows given mean. show_asked _ rows given mean refl refl))
+    (also (asks_it _ refl refl refl (λ rows given mean. extract_asked _ rows given mean refl refl))
+    (also (asks_it _ refl refl refl (λ rows given mean. unpack_asked _ rows given mean refl refl))
     (also (asks_it _ refl refl refl (λ rows given mean. compose_asked _ rows given refl refl refl refl))
     (also (asks_it _ refl refl refl (λ rows given mean. build_asked _ rows given refl refl refl refl))
-    (also (asks_it _ refl refl refl (λ rows given mean. normalise_asked _ rows given mean refl refl refl refl))
-    (also (asks_it _ refl refl refl (λ rows given mean. same_asked _ rows given mean refl refl refl refl))
+    (also (asks_it _ refl refl refl (λ rows given mean. normalise_asked _ rows given mean refl refl))
+    (also (asks_it _ refl refl refl (λ rows given mean. same_asked _ rows given mean refl refl))
     (also (asks_it _ refl refl refl (λ rows given mean. change_asked _ rows given mean refl refl refl refl refl refl refl))
     (also (asks_it _ refl refl refl (λ rows given mean. rename_asked _ rows given mean refl refl refl refl refl refl))
     (also (help_asks _ refl refl) none))))))))))))

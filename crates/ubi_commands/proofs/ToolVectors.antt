@@ -1,5 +1,5 @@
 -- Which words the command line takes.
-use Rattle.std.proofs.Common.{◌≡◌, ◌∷◌, ◌∙◌, [], List, None, Option, Some, ap, codes, false, refl, subst, sym, true, true≢false}
+use Rattle.std.proofs.Common.{◌≡◌, ◌&&◌, ◌||◌, ◌∷◌, ◌∙◌, [], List, None, Option, Some, ap, codes, false, refl, subst, sym, true, true≢false}
 use Rattle.std.specs.Option.{ForSome}
 use Rattle.std.proofs.lemmas.Option.{same_Some}
 use Rattle.std.specs.Str.{bytes_eq}
@@ -8,6 +8,7 @@ use Rattle.clap.specs.Walk.{Row, Text, first_of}
 use Rattle.clap.specs.declared.error.kind.ErrorKind.TheVariants as kind
 use Rattle.clap.proofs.OnLiterals.{clap_on_literals}
 use Rattle.ubi_commands.specs.BadBlocks.{is_block_list}
+use Rattle.ubi_commands.specs.CommandLine.{gives, gives_no_geometry}
 use Rattle.ubi_commands.specs.Tool.{HasOneVolume, Mean, Takes, tool}
 use Rattle.ubi_commands.proofs.Lacking.{apart}
 
@@ -18,14 +19,18 @@ of_another named name rows is other behind same =
     let both : Some (name, rows) ≡ Some (codes "extract", behind) = sym is ∙ same in
     absurd (apart name (codes "extract") other (ap (λ (e : Text × List Row). e.0) (same_Some _ _ both)))
 
--- another command than `extract`, with a list of bad eraseblocks or none, and with nothing but `keep` said of Blank ones
+-- another command than `extract`, with a list of bad eraseblocks or none, with nothing but `keep` said of Blank ones, and with both
+-- sizes or nothing of a geometry
 means : (name : Text) (rows : List Row) → bytes_eq name (codes "extract") ≡ false
     → ForSome (first_of (codes "bad") rows) (λ list. is_block_list list ≡ true)
-    → ForSome (first_of (codes "blank") rows) (λ word. word ≡ codes "keep") → Mean (Some (name, rows))
-means name rows other listed kept = record {
+    → ForSome (first_of (codes "blank") rows) (λ word. word ≡ codes "keep")
+    → ((gives rows (codes "peb") && gives rows (codes "page")) || gives_no_geometry rows) ≡ true → Mean (Some (name, rows))
+means name rows other listed kept whole = record {
   volume = of_another (Some (name, rows)) name rows refl other;
   list = λ named words is reads. subst (λ ws. ForSome (first_of (codes "bad") ws) (λ list. is_block_list list ≡ true)) (rows_of named words is) listed;
   blank = λ named words is plans. subst (λ ws. ForSome (first_of (codes "blank") ws) (λ word. word ≡ codes "keep")) (rows_of named words is) kept;
+  geometry = λ named words is found.
+      subst (λ ws. ((gives ws (codes "peb") && gives ws (codes "page")) || gives_no_geometry ws) ≡ true) (rows_of named words is) whole;
 }
   where
     rows_of : (named : Text) (words : List Row) → ◌≡◌ {A = Option (Text × List Row)} (Some (name, rows)) (Some (named, words)) → rows ≡ words
@@ -48,7 +53,7 @@ words behind = codes "ubi_tool" ∷ codes "list" ∷ codes "a.img" ∷ codes "--
 
 taken : Takes (words (codes "--page=64" ∷ []))
 unfolding clap_on_literals tool
-taken = (refl, means (codes "list") _ refl (not_given _ _ refl) (not_given _ _ refl))
+taken = (refl, means (codes "list") _ refl (not_given _ _ refl) (not_given _ _ refl) refl)
 
 -- a line of `extract`, with the options that name the volume
 abbrev extract_words : List Text → List Text
@@ -69,15 +74,38 @@ no_volume takes = let neither : false ≡ true = takes.1.volume _ refl in true�
 -- eraseblocks that are listed as bad, and a word that is no list
 bad_taken : Takes (words (codes "--page=64" ∷ codes "--bad=1,4-9" ∷ []))
 unfolding clap_on_literals tool
-bad_taken = (refl, means (codes "list") _ refl (given _ _ (codes "1,4-9") refl refl) (not_given _ _ refl))
+bad_taken = (refl, means (codes "list") _ refl (given _ _ (codes "1,4-9") refl refl) (not_given _ _ refl) refl)
 
 no_list : Takes (words (codes "--page=64" ∷ codes "--bad=3,,4" ∷ [])) → ⊥
 unfolding clap_on_literals tool
 no_list takes = let listed : false ≡ true = takes.1.list (codes "list") _ refl refl (codes "3,,4") refl in true≢false (sym listed)
 
-no_page : fault_of tool (words []) ≡ kind.MissingRequiredArgument ∷ []
+-- half a geometry, none, and what goes with one alone
+no_page : Takes (words []) → ⊥
 unfolding clap_on_literals tool
-no_page = refl
+no_page takes = let half : false ≡ true = takes.1.geometry (codes "list") _ refl refl in true≢false (sym half)
+
+-- a line of `list` without a geometry
+abbrev of_list : List Text → List Text
+of_list behind = codes "ubi_tool" ∷ codes "list" ∷ codes "a.img" ∷ behind
+
+nothing_taken : Takes (of_list [])
+unfolding clap_on_literals tool
+nothing_taken = (refl, means (codes "list") _ refl (not_given _ _ refl) (not_given _ _ refl) refl)
+
+pebs_taken : Takes (of_list (codes "--pebs=32" ∷ codes "--start=64" ∷ codes "--bad=3" ∷ []))
+unfolding clap_on_literals tool
+pebs_taken = (refl, means (codes "list") _ refl (given _ _ (codes "3") refl refl) (not_given _ _ refl) refl)
+
+oob_alone : Takes (of_list (codes "--oob=64" ∷ [])) → ⊥
+unfolding clap_on_literals tool
+oob_alone takes = let alone : false ≡ true = takes.1.geometry (codes "list") _ refl refl in true≢false (sym alone)
+
+-- a plan isn't made without one
+no_sizes : fault_of tool (codes "ubi_tool" ∷ codes "rename" ∷ codes "a.img" ∷ codes "--id=0" ∷ codes "--name=b" ∷ codes "--out=c" ∷ [])
+    ≡ kind.MissingRequiredArgument ∷ []
+unfolding clap_on_literals tool
+no_sizes = refl
 
 large_number : fault_of tool (words (codes "--page" ∷ codes "4294967296" ∷ [])) ≡ kind.ValueValidation ∷ []
 unfolding clap_on_literals tool
@@ -95,12 +123,12 @@ help = refl
 options_taken : Takes (codes "ubi_tool" ∷ codes "list" ∷ codes "a.img" ∷ codes "--peb" ∷ codes "131072" ∷ codes "--page" ∷ codes "2048"
     ∷ codes "--vid" ∷ codes "2048" ∷ codes "--data" ∷ codes "4096" ∷ [])
 unfolding clap_on_literals tool
-options_taken = (refl, means (codes "list") _ refl (not_given _ _ refl) (not_given _ _ refl))
+options_taken = (refl, means (codes "list") _ refl (not_given _ _ refl) (not_given _ _ refl) refl)
 
 -- a part of a file, with out-of-band bytes
 view_taken : Takes (words (codes "--page=64" ∷ codes "--start" ∷ codes "9223372036854775807" ∷ codes "--length=+00" ∷ codes "--oob=64" ∷ []))
 unfolding clap_on_literals tool
-view_taken = (refl, means (codes "list") _ refl (not_given _ _ refl) (not_given _ _ refl))
+view_taken = (refl, means (codes "list") _ refl (not_given _ _ refl) (not_given _ _ refl) refl)
 
 far_start : fault_of tool (words (codes "--page=64" ∷ codes "--start" ∷ codes "9223372036854775808" ∷ [])) ≡ kind.ValueValidation ∷ []
 unfolding clap_on_literals tool
@@ -112,11 +140,11 @@ of_geometry behind = codes "ubi_tool" ∷ codes "geometry" ∷ behind
 
 file_taken : Takes (of_geometry (codes "a.img" ∷ []))
 unfolding clap_on_literals tool
-file_taken = (refl, means (codes "geometry") _ refl (not_given _ _ refl) (not_given _ _ refl))
+file_taken = (refl, means (codes "geometry") _ refl (not_given _ _ refl) (not_given _ _ refl) refl)
 
 part_taken : Takes (of_geometry (codes "a.img" ∷ codes "--start=512" ∷ codes "--length" ∷ codes "1024" ∷ []))
 unfolding clap_on_literals tool
-part_taken = (refl, means (codes "geometry") _ refl (not_given _ _ refl) (not_given _ _ refl))
+part_taken = (refl, means (codes "geometry") _ refl (not_given _ _ refl) (not_given _ _ refl) refl)
 
 no_oob_taken : fault_of tool (of_geometry (codes "a.img" ∷ codes "--oob" ∷ codes "64" ∷ [])) ≡ kind.UnknownArgument ∷ []
 unfolding clap_on_literals tool

@@ -1,9 +1,11 @@
 -- What is seen of files, on literals.
 use Rattle.std.proofs.Common.{◌≡◌, ◌∷◌, [], List, None, Option, Some, codes, refl, ℕ}
 use Rattle.std.specs.Borrow.{Bor}
-use Rattle.ubi_commands.specs.Dump.{misfit_of, viewed, whole_len}
+use Rattle.ubi_scan.specs.declared.detect.Detected.{Detected}
+use Rattle.ubi_commands.specs.Dump.{as_read, misfit_of, told_dump, viewed, whole_len}
 use Rattle.ubi_commands.specs.Views.{misfit, pages_of, part_of}
 use Rattle.ubi_commands.specs.declared.requests.Dump.{Dump}
+use Rattle.ubi_commands.specs.declared.requests.Sought.{Sought}
 use Rattle.ubi_commands.specs.declared.view.FilePart.{FilePart}
 use Rattle.ubi_commands.specs.declared.view.Misfit.TheVariants as why
 
@@ -97,3 +99,30 @@ read_whole = refl
 
 read_of_device : whole_len (record dump { part = at 1 None }) 100 ≡ 16
 read_of_device = refl
+
+-- where the file is read whole, of a longer part no more is looked for than five pages have
+fits_as_read : misfit_of (as_read (record dump { part = at 1 (Some 90) })) (whole_len (record dump { part = at 1 (Some 90) }) 100) ≡ None
+fits_as_read = refl
+
+too_long : misfit_of (record dump { part = at 1 (Some 100) }) 100 ≡ Some (why.Part 100)
+too_long = refl
+
+-- what is told of a part of a file, as a dump: its place counts from the beginning of the file
+abbrev sought : Sought
+sought = record { part = at 512 None; pebs = Some 32; bad = Some bad }
+
+abbrev found : Detected
+found = record {
+  geometry = record { peb_size = 4096; page = 256; vid_offset = 256; data_offset = 512; pebs = 1048576 };
+  oob = 16;
+  start = 64;
+  length = 8704;
+}
+
+as_told : told_dump sought found ≡ record {
+  numbers = record { peb_size = 4096; page = 256; vid_offset = Some 256; data_offset = Some 512; pebs = Some 32 };
+  part = at 576 (Some 8704);
+  oob = 16;
+  bad = Some bad;
+}
+as_told = refl

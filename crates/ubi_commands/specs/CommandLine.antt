@@ -2,10 +2,12 @@
 use Rattle.std.specs.Borrow.{Bor}
 use Rattle.std.specs.Bool.{then_some}
 use Rattle.std.specs.Option.{ForSome}
-use Rattle.std.specs.Prelude.{◌≡◌, ◌↔◌, ◌∷◌, ◌<◌, ◌^◌, [], List, None, Option, Some, Bool, codes, option_map, true, unwrap_or, ℕ}
+use Rattle.std.specs.Prelude.{◌≡◌, ◌↔◌, ◌∷◌, ◌<◌, ◌^◌, ◌&&◌, [], List, None, Option, Some, Bool, codes, is_some, not, option_map, true, unwrap_or, ℕ}
 use Rattle.std.specs.Str.Parse.{IsNumeral, digits_value, without_leading_plus}
 use Rattle.clap.specs.Walk.{Row, Text, first_of, one_of}
 use Rattle.ubi_commands.specs.BadBlocks.{is_block_list}
+use Rattle.ubi_commands.specs.declared.requests.Asked.{Asked}
+use Rattle.ubi_commands.specs.declared.requests.Asked.TheVariants as asked
 use Rattle.ubi_commands.specs.declared.requests.Change.{Change}
 use Rattle.ubi_commands.specs.declared.requests.Dump.{Dump}
 use Rattle.ubi_commands.specs.declared.requests.Extract.{Extract}
@@ -15,6 +17,7 @@ use Rattle.ubi_commands.specs.declared.requests.Plan.{Plan}
 use Rattle.ubi_commands.specs.declared.requests.Rename.{Rename}
 use Rattle.ubi_commands.specs.declared.requests.Request.{Request}
 use Rattle.ubi_commands.specs.declared.requests.Request.TheVariants as request
+use Rattle.ubi_commands.specs.declared.requests.Sought.{Sought}
 use Rattle.ubi_commands.specs.declared.numbers.Numbers.{Numbers}
 use Rattle.ubi_commands.specs.declared.view.FilePart.{FilePart}
 use Rattle.ubi_commands.specs.declared.volume_key.VolumeKey.{VolumeKey}
@@ -97,6 +100,29 @@ AsksDump words dump = AsksNumbers words dump.numbers
     × MayHaveText words (codes "bad") dump.bad
     × ForSome dump.bad (λ list. is_block_list list.now ≡ true)
 
+-- the words give something under the name
+abbrev pub gives : List Row → List ℕ → Bool
+gives words name = is_some (first_of name words)
+
+-- they say nothing of a geometry but how many eraseblocks there are
+abbrev pub gives_no_geometry : List Row → Bool
+gives_no_geometry words =
+    not (gives words (codes "peb")) && not (gives words (codes "page")) && not (gives words (codes "vid"))
+    && not (gives words (codes "data")) && not (gives words (codes "oob"))
+
+-- the words give this dump of which they give no geometry: its part of the file, how many eraseblocks there are, and the list of its
+-- bad eraseblocks, if there is one
+abbrev pub AsksSought : List Row → Sought → Type 0
+AsksSought words sought = AsksPart words sought.part
+    × MayHaveNumber words (codes "pebs") sought.pebs
+    × MayHaveText words (codes "bad") sought.bad
+    × ForSome sought.bad (λ list. is_block_list list.now ≡ true)
+
+-- the words tell how a dump is read, or say nothing of that
+abbrev pub AsksAsked : List Row → Asked → Type 0
+AsksAsked words (asked.Given dump) = AsksDump words dump
+AsksAsked words (asked.Sought sought) = (gives_no_geometry words ≡ true) × AsksSought words sought
+
 -- the words name this volume: by its number or by its name, and not by both
 abbrev pub AsksKey : List Row → VolumeKey → Type 0
 AsksKey words (key.Id id) = HasNumber words (codes "id") id × (first_of (codes "name") words ≡ None)
@@ -142,16 +168,16 @@ AsksRename words rename = AsksPlan words rename.plan
 -- the words give what the request says
 abbrev pub Asks : List Row → Request → Type 0
 Asks words (request.Geometry part image) = AsksPart words part × HasText words (codes "IMAGE") image
-Asks words (request.List dump image) = AsksDump words dump × HasText words (codes "IMAGE") image
-Asks words (request.Check dump image) = AsksDump words dump × HasText words (codes "IMAGE") image
-Asks words (request.Show dump image block) = AsksDump words dump × HasText words (codes "IMAGE") image
+Asks words (request.List dump image) = AsksAsked words dump × HasText words (codes "IMAGE") image
+Asks words (request.Check dump image) = AsksAsked words dump × HasText words (codes "IMAGE") image
+Asks words (request.Show dump image block) = AsksAsked words dump × HasText words (codes "IMAGE") image
     × HasNumber words (codes "block") block
-Asks words (request.Extract dump extract) = AsksDump words dump × AsksExtract words extract
-Asks words (request.Unpack dump paths) = AsksDump words dump × AsksPaths words paths
+Asks words (request.Extract dump extract) = AsksAsked words dump × AsksExtract words extract
+Asks words (request.Unpack dump paths) = AsksAsked words dump × AsksPaths words paths
 Asks words (request.Compose numbers new) = AsksNumbers words numbers × AsksNewImage words (codes "SPEC") new
 Asks words (request.Build numbers new) = AsksNumbers words numbers × AsksNewImage words (codes "CONFIG") new
-Asks words (request.Normalise dump paths) = AsksDump words dump × AsksPaths words paths
-Asks words (request.Same dump left right) = AsksDump words dump × HasText words (codes "IMAGE") left
+Asks words (request.Normalise dump paths) = AsksAsked words dump × AsksPaths words paths
+Asks words (request.Same dump left right) = AsksAsked words dump × HasText words (codes "IMAGE") left
     × HasText words (codes "OTHER") right
 Asks words (request.Change dump change) = AsksDump words dump × AsksChange words change
 Asks words (request.Rename dump rename) = AsksDump words dump × AsksRename words rename

@@ -1,11 +1,13 @@
 -- A dump as it is read: of what the files hold a part, of that the pages, and 0xFF in the place of bad eraseblocks.
-use Rattle.std.specs.Prelude.{◌≡◌, ℕ, ◌*◌, ◌+◌, Bool, IfSome, List, [], None, Option, length, min, option_map}
+use Rattle.std.specs.Prelude.{◌≡◌, ℕ, ◌*◌, ◌+◌, ◌≤◌, Bool, IfSome, List, [], None, Option, Some, length, min, option_map}
 use Rattle.std.specs.Option.{option_map_or}
+use Rattle.ubi_scan.specs.declared.detect.Detected.{Detected}
 use Rattle.ubi_commands.specs.BadBlocks.{bad_marks, masked}
 use Rattle.ubi_commands.specs.Disk.{Files}
-use Rattle.ubi_commands.specs.Numbers.{greatest, sizes_of}
+use Rattle.ubi_commands.specs.Numbers.{greatest, numbers_of, sizes_of}
 use Rattle.ubi_commands.specs.Views.{misfit, most_of_part, pages_of, part_of}
 use Rattle.ubi_commands.specs.declared.requests.Dump.{Dump}
+use Rattle.ubi_commands.specs.declared.requests.Sought.{Sought}
 use Rattle.ubi_commands.specs.declared.view.FilePart.{FilePart}
 use Rattle.ubi_commands.specs.declared.view.Misfit.{Misfit}
 
@@ -38,9 +40,26 @@ whole_len dump n = min (dump.part.start + most_of dump) n
 abbrev pub Fits : Files → Dump → List ℕ → Type 0
 Fits d dump path = IfSome (d.holds path) (λ all. misfit_of dump (length all) ≡ None)
 
+-- these are all bytes of the part of a file, in which it lies
+abbrev pub IsPartOf : Files → Dump → List ℕ → List ℕ → Type 0
+IsPartOf d dump path bytes = IfSome (d.holds path) (λ all. (bytes ≡ part_of dump.part all) × (dump.part.start ≤ length all))
+
+-- the dump as far as it is read then: of a part that is longer than the device no more
+abbrev pub as_read : Dump → Dump
+as_read dump = record dump { part = record dump.part { length = option_map (λ n. min n (most_of dump)) dump.part.length } }
+
 -- and so it can where it is read whole
 abbrev pub FitsWhole : Files → Dump → List ℕ → Type 0
-FitsWhole d dump path = IfSome (d.holds path) (λ all. misfit_of dump (whole_len dump (length all)) ≡ None)
+FitsWhole d dump path = IfSome (d.holds path) (λ all. misfit_of (as_read dump) (whole_len dump (length all)) ≡ None)
+
+-- a dump of which the words give no geometry, as its own headers tell
+abbrev pub told_dump : Sought → Detected → Dump
+told_dump sought told = record {
+  numbers = record (numbers_of told.geometry) { pebs = sought.pebs };
+  part = record { start = sought.part.start + told.start; length = Some told.length };
+  oob = told.oob;
+  bad = sought.bad;
+}
 
 -- of a file of which no geometry is known, a part of the greatest dump that there is
 abbrev pub greatest_dump : FilePart → Dump

@@ -1,6 +1,7 @@
 -- Printed lines.
 use Rattle.std.specs.Prelude.{ℕ, Bool, true, false, List, ◌++◌, codes, decimal}
 use Rattle.ubi_media.specs.ErrorTexts.{geometry_error_text, refusal_text}
+use Rattle.ubi_media.specs.Geometry.{Sizes}
 use Rattle.ubi_media.specs.declared.geometry.GeometryError.{GeometryError}
 use Rattle.ubi_media.specs.declared.refusal.Refusal.{Refusal}
 use Rattle.ubi_scan.specs.ErrorTexts.{undetected_text}
@@ -24,6 +25,10 @@ refusal_line c = refused_line (refusal_text c)
 abbrev pub undetected_line : Undetected → List ℕ
 undetected_line c = refused_line (undetected_text c)
 
+-- the same of one of two files, behind the side on which it stands
+abbrev pub undetected_side_line : List ℕ → Undetected → List ℕ
+undetected_side_line side c = side ++ undetected_line c
+
 -- the text of why a file can't be seen as the words tell
 abbrev pub misfit_text : Misfit → List ℕ
 misfit_text (why.Part bytes) = codes "F7 Part bytes=" ++ decimal bytes
@@ -32,6 +37,16 @@ misfit_text (why.Pages rest) = codes "F8 Pages rest=" ++ decimal rest
 -- the line of a file that can't be seen so
 abbrev pub misfit_line : Misfit → List ℕ
 misfit_line m = refused_line (misfit_text m)
+
+-- the numbers of a geometry but how many eraseblocks there are
+unfoldable pub layout_words : Sizes → List ℕ
+layout_words s =
+    codes "peb=" ++ decimal s.peb_size ++ codes " page=" ++ decimal s.page ++ codes " vid=" ++ decimal s.vid_offset
+    ++ codes " data=" ++ decimal s.data_offset
+
+-- the line of two images whose own geometries differ
+abbrev pub unlike_line : Sizes → Sizes → List ℕ
+unlike_line left right = refused_line (codes "F9 Geometries left " ++ layout_words left ++ codes " right " ++ layout_words right)
 
 -- the line of one of two images that is refused, behind the side on which it stands
 abbrev pub side_line : List ℕ → Refusal → List ℕ

@@ -20,7 +20,7 @@ use Rattle.ubi_volume.specs.declared.block.Amount.{Amount}
 use Rattle.ubi_volume.specs.declared.block.Amount.TheVariants as amount
 use Rattle.ubi_volume.specs.declared.content.Volume.{Volume}
 use Rattle.ubi_commands.specs.Answer.{Gives, says}
-use Rattle.ubi_commands.specs.Lines.{refusal_line}
+use Rattle.ubi_commands.specs.Lines.{layout_words, refusal_line}
 use Rattle.ubi_commands.specs.declared.outcome.Outcome.{Outcome}
 
 -- a byte of a name as it is shown: a printable one but the backslash as it is, and any other by its two digits
@@ -42,12 +42,6 @@ amount_word amount.Updating = codes "updating"
 amount_word amount.Damaged = codes "damaged"
 amount_word (amount.Bytes bytes) = codes "bytes=" ++ decimal bytes
 amount_word (amount.Lebs count) = codes "lebs=" ++ decimal count
-
--- the numbers of a geometry but how many eraseblocks there are
-unfoldable pub layout_words : Sizes → List ℕ
-layout_words s =
-    codes "peb=" ++ decimal s.peb_size ++ codes " page=" ++ decimal s.page ++ codes " vid=" ++ decimal s.vid_offset
-    ++ codes " data=" ++ decimal s.data_offset
 
 -- the numbers that follow from it, and how many eraseblocks there are
 unfoldable pub room_words : Sizes → List ℕ

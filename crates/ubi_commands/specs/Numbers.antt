@@ -1,5 +1,5 @@
 -- The numbers of a geometry, as the words of a command give them.
-use Rattle.std.specs.Prelude.{◌*◌, None, unwrap_or}
+use Rattle.std.specs.Prelude.{◌*◌, None, Some, unwrap_or}
 use Rattle.ubi_media.specs.Geometry.{Sizes}
 use Rattle.ubi_commands.specs.declared.numbers.Numbers.{Numbers}
 
@@ -12,6 +12,16 @@ sizes_of n = record {
   vid_offset = unwrap_or n.vid_offset n.page;
   data_offset = unwrap_or n.data_offset (2 * n.page);
   pebs = unwrap_or n.pebs 1048576;
+}
+
+-- the numbers of a geometry, of which none is left out
+abbrev pub numbers_of : Sizes → Numbers
+numbers_of s = record {
+  peb_size = s.peb_size;
+  page = s.page;
+  vid_offset = Some s.vid_offset;
+  data_offset = Some s.data_offset;
+  pebs = Some s.pebs;
 }
 
 -- the numbers of the greatest device that there is: of a file of which no geometry is known, no more is read

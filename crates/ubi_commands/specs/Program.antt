@@ -1,12 +1,16 @@
 -- What the program answers over files.
 use Rattle.std.specs.Borrow.{Bor}
 use Rattle.std.specs.Option.{ForSome}
-use Rattle.std.specs.Prelude.{◌≡◌, ◌≢◌, ◌⊎◌, ℕ, ◌*◌, ◌+◌, ◌≤◌, List, [], length, Some, None, Option, IfSome, IsSome, codes, option_map}
+use Rattle.std.specs.Prelude.{◌≡◌, ◌≢◌, ℕ, ◌*◌, ◌+◌, ◌≤◌, ◌∷◌, List, [], length, Some, None, Option, IfSome, IsSome, codes, option_map}
 use Rattle.ubi_media.specs.Geometry.{Sizes}
 use Rattle.ubi_media.specs.Limits.{first_broken}
 use Rattle.ubi_media.specs.declared.geometry.GeometryError.{GeometryError}
+use Rattle.ubi_scan.specs.Detected.{AreDetectedOf, IsDetectError}
 use Rattle.ubi_scan.specs.Image.{Image, image_of}
 use Rattle.ubi_scan.specs.Source.{Agreed, Source, holds, known_by, memory}
+use Rattle.ubi_scan.specs.declared.detect.DetectError.TheVariants as error
+use Rattle.ubi_scan.specs.declared.detect.Detected.{Detected}
+use Rattle.ubi_scan.specs.declared.detect.Undetected.{Undetected}
 use Rattle.ubi_change.specs.Avoided.{Avoided}
 use Rattle.ubi_commands.specs.Answer.{Gives, says}
 use Rattle.ubi_commands.specs.Build.{Builds}
@@ -14,10 +18,10 @@ use Rattle.ubi_commands.specs.Change.{ChangesFrom, HasPlan}
 use Rattle.ubi_commands.specs.Check.{ChecksOf}
 use Rattle.ubi_commands.specs.Compose.{ComposesInto}
 use Rattle.ubi_commands.specs.Disk.{AllStay, Files, IsJudgedOf, IsLeft, IsTextOf, OthersStay, OthersStayBeside, OutsideStay, Receives, Stays, fresh}
-use Rattle.ubi_commands.specs.Dump.{Fits, FitsWhole, greatest_dump, marks_of, misfit_of, seen, whole_len}
+use Rattle.ubi_commands.specs.Dump.{Fits, FitsWhole, as_read, greatest_dump, marks_of, misfit_of, seen, told_dump, whole_len}
 use Rattle.ubi_commands.specs.Extract.{ExtractsOf, HasTextIn}
 use Rattle.ubi_commands.specs.Geometry.{DetectsOf}
-use Rattle.ubi_commands.specs.Lines.{file_line, geometry_line, misfit_line}
+use Rattle.ubi_commands.specs.Lines.{file_line, geometry_line, misfit_line, undetected_side_line, unlike_line}
 use Rattle.ubi_commands.specs.List.{ListsOf}
 use Rattle.ubi_commands.specs.Normalise.{HasMeaning, NormalisesOf}
 use Rattle.ubi_commands.specs.Numbers.{sizes_of}
@@ -26,14 +30,18 @@ use Rattle.ubi_commands.specs.Same.{ComparesOf}
 use Rattle.ubi_commands.specs.Show.{ShowsOf}
 use Rattle.ubi_commands.specs.Tool.{Requests, Takes}
 use Rattle.ubi_commands.specs.Unpack.{UnpacksOf}
+use Rattle.ubi_commands.specs.declared.requests.Asked.{Asked}
+use Rattle.ubi_commands.specs.declared.requests.Asked.TheVariants as asked
 use Rattle.ubi_commands.specs.declared.requests.Dump.{Dump}
 use Rattle.ubi_commands.specs.declared.requests.Plan.{Plan}
 use Rattle.ubi_commands.specs.declared.requests.Request.{Request}
 use Rattle.ubi_commands.specs.declared.requests.Request.TheVariants as request
+use Rattle.ubi_commands.specs.declared.requests.Sought.{Sought}
 use Rattle.ubi_commands.specs.declared.image_file.Unread.{Unread}
 use Rattle.ubi_commands.specs.declared.image_file.Unread.TheVariants as unread
 use Rattle.ubi_commands.specs.declared.numbers.Numbers.{Numbers}
 use Rattle.ubi_commands.specs.declared.outcome.Outcome.{Outcome}
+use Rattle.ubi_commands.specs.declared.view.FilePart.{FilePart}
 use Rattle.ubi_commands.specs.declared.view.Misfit.{Misfit}
 
 -- what is answered where an image can't be had: the line of a limit that the numbers break, or of a file that can't be
@@ -44,15 +52,16 @@ pub data IsUnread (numbers : Numbers) (path : List ℕ) : Outcome → Type 0 whe
   cannot_read : {o : Outcome} → first_broken (sizes_of numbers) ≡ None → Gives o (says (file_line (codes "cannot read ") path) 1)
       → IsUnread numbers path o
 
--- n is how many bytes a file has of which these are all; or how many of them are read, where it is read whole
-abbrev pub IsLenOf : Dump → ℕ → List ℕ → Type 0
-IsLenOf dump n all = (n ≡ length all) ⊎ (n ≡ whole_len dump (length all))
-
--- what is answered where a dump can't be had: that; or the line of why the file can't be read as the dump
+-- what is answered where a dump can't be had: that; or the line of why the file can't be read as the dump, by how many bytes it has; or,
+-- where it is read whole, by how many of them were read
 pub data IsUnseen (d : Files) (dump : Dump) (path : List ℕ) : Outcome → Type 0 where
   unreadable : {o : Outcome} → IsUnread dump.numbers path o → IsUnseen d dump path o
-  unfit : {o : Outcome} (n : ℕ) (m : Misfit) → first_broken (sizes_of dump.numbers) ≡ None → IfSome (d.holds path) (IsLenOf dump n)
-      → misfit_of dump n ≡ Some m → Gives o (says (misfit_line m) 1) → IsUnseen d dump path o
+  unfit : {o : Outcome} (n : ℕ) (m : Misfit) → first_broken (sizes_of dump.numbers) ≡ None
+      → IfSome (d.holds path) (λ all. n ≡ length all) → misfit_of dump n ≡ Some m → Gives o (says (misfit_line m) 1)
+      → IsUnseen d dump path o
+  unfit_whole : {o : Outcome} (n : ℕ) (m : Misfit) → first_broken (sizes_of dump.numbers) ≡ None
+      → IfSome (d.holds path) (λ all. n ≡ whole_len dump (length all)) → misfit_of (as_read dump) n ≡ Some m
+      → Gives o (says (misfit_line m) 1) → IsUnseen d dump path o
 
 -- the sizes break no limit, and the bytes are at most one more than the device has
 pub record IsRead (s : Sizes) (bytes : List ℕ) : Type 0 where
@@ -81,23 +90,63 @@ pub data OfText (d : Files) (numbers : Numbers) (path : List ℕ) (answers : Siz
   text : {o : Outcome} (bytes : List ℕ) → first_broken (sizes_of numbers) ≡ None → length bytes ≤ text_limit (sizes_of numbers)
       → IsTextOf d path bytes → answers (sizes_of numbers) bytes o → OfText d numbers path answers o
 
--- what a command can answer over one image file: that of a dump that can't be had; or, of a file that can be read as the dump, what
--- it answers of a source, which holds the bytes that are seen of it, read whole, or is known by reads, with which the bytes that are
--- seen agree
+-- something is known of a dump that can be read: of a source that holds the bytes that are seen of it, read whole; or of one that is
+-- known by reads, with which the bytes that are seen agree
+pub data WhereRead (d : Files) (dump : Dump) (path : List ℕ) (known : Source → Agreed → Type 0) : Type 0 where
+  whole : (bytes : List ℕ) → IsRead (sizes_of dump.numbers) bytes → IsJudgedOf (seen dump d) path (sizes_of dump.numbers) bytes
+      → FitsWhole d dump path → known (memory bytes) (holds bytes) → WhereRead d dump path known
+  places : (k : Source) (reads : List (ℕ × List ℕ)) → first_broken (sizes_of dump.numbers) ≡ None → k.failures ≡ 0
+      → IfSome ((seen dump d).holds path) (known_by k.size reads) → Fits d dump path → known k (known_by k.size reads)
+      → WhereRead d dump path known
+
+-- what a command can answer over a dump whose geometry is known: that of one that can't be had; or what it answers of a source
 pub data OfFile (d : Files) (dump : Dump) (path : List ℕ) (answers : Sizes → Source → Agreed → Outcome → Type 0) : Outcome
     → Type 0 where
   no_file : {o : Outcome} → IsUnseen d dump path o → OfFile d dump path answers o
-  whole : {o : Outcome} (bytes : List ℕ) → IsRead (sizes_of dump.numbers) bytes
-      → IsJudgedOf (seen dump d) path (sizes_of dump.numbers) bytes → FitsWhole d dump path
-      → answers (sizes_of dump.numbers) (memory bytes) (holds bytes) o → OfFile d dump path answers o
-  places : {o : Outcome} (k : Source) (reads : List (ℕ × List ℕ)) → first_broken (sizes_of dump.numbers) ≡ None → k.failures ≡ 0
-      → IfSome ((seen dump d).holds path) (known_by k.size reads) → Fits d dump path
-      → answers (sizes_of dump.numbers) k (known_by k.size reads) o → OfFile d dump path answers o
+  file : {o : Outcome} → WhereRead d dump path (λ k agrees. answers (sizes_of dump.numbers) k agrees o) → OfFile d dump path answers o
 
--- and over two
-abbrev pub BothOf : Files → Dump → List ℕ → List ℕ → (Sizes → Source → Agreed → Source → Agreed → Outcome → Type 0) → Outcome
-    → Type 0
-BothOf d dump left right answers = OfFile d dump left (λ s k here. OfFile d dump right (λ t l there. answers t k here l there))
+-- this is told first of a source
+abbrev pub IsToldFirst : Agreed → Detected → Type 0
+IsToldFirst agrees told = (others : List Detected) × AreDetectedOf agrees (told ∷ others)
+
+-- the headers in a part of the file at a path tell this first
+abbrev pub TellFirst : Files → FilePart → List ℕ → Detected → Type 0
+TellFirst d part path told = WhereRead d (greatest_dump part) path (λ _ agrees. IsToldFirst agrees told)
+
+-- the dump that is asked for: the one that the words give; or, where they give no geometry, what its headers tell first
+pub data IsDump (d : Files) (path : List ℕ) : Asked → Dump → Type 0 where
+  given : {dump : Dump} → IsDump d path (asked.Given dump) dump
+  told : {sought : Sought} (told : Detected) → TellFirst d sought.part path told
+      → IsDump d path (asked.Sought sought) (told_dump sought told)
+
+-- the line of the cause for which the headers of a source tell nothing, behind a side
+abbrev pub TellsNothing : List ℕ → Source → Agreed → Outcome → Type 0
+TellsNothing side k agrees o = (c : Undetected) × IsDetectError k agrees (error.Undetected c)
+    × Gives o (says (undetected_side_line side c) 1)
+
+-- what is answered where no dump is told: that of a part of a file that can't be had; or the line of the cause
+abbrev pub IsUntold : Files → List ℕ → List ℕ → Asked → Outcome → Type 0
+IsUntold d path side (asked.Given dump) o = ⊥
+IsUntold d path side (asked.Sought sought) o = OfFile d (greatest_dump sought.part) path (λ _. TellsNothing side) o
+
+-- what a command can answer over one image file: where no dump is told, that, and no file is changed; or what it answers of the dump
+pub data OfAsked (d e : Files) (asked : Asked) (path : List ℕ) (answers : Sizes → Source → Agreed → Outcome → Type 0) : Outcome
+    → Type 0 where
+  untold : {o : Outcome} → IsUntold d path [] asked o → AllStay d e → OfAsked d e asked path answers o
+  of_dump : {o : Outcome} (dump : Dump) → IsDump d path asked dump → OfFile d dump path answers o
+      → OfAsked d e asked path answers o
+
+-- and over two: where no dump is told of one of them, that; the line of two geometries, where they have two; or what it answers of both
+pub data OfBoth (d : Files) (asked : Asked) (left right : List ℕ)
+    (answers : Sizes → Source → Agreed → Source → Agreed → Outcome → Type 0) : Outcome → Type 0 where
+  no_left : {o : Outcome} → IsUntold d left (codes "left ") asked o → OfBoth d asked left right answers o
+  no_right : {o : Outcome} (here : Dump) → IsDump d left asked here → IsUntold d right (codes "right ") asked o
+      → OfBoth d asked left right answers o
+  unlike : {o : Outcome} (here there : Dump) → IsDump d left asked here → IsDump d right asked there → here.numbers ≢ there.numbers
+      → Gives o (says (unlike_line (sizes_of here.numbers) (sizes_of there.numbers)) 1) → OfBoth d asked left right answers o
+  alike : {o : Outcome} (here there : Dump) → IsDump d left asked here → IsDump d right asked there → here.numbers ≡ there.numbers
+      → OfFile d here left (λ s k agrees. OfFile d there right (λ _ l fits. answers s k agrees l fits)) o
+      → OfBoth d asked left right answers o
 
 -- what can be answered of a source by a command that writes the file at a path: what it answers, and the file received what
 -- it wrote; or the line of a file that can't be written, where there is something to write
@@ -140,21 +189,21 @@ avoided dump plan = record { marks = marks_of dump; blank = plan.keeps_blank }
 -- named, as they are seen, and with what becomes of the files that are written
 abbrev pub IsAnswerTo : Files → Files → Request → Outcome → Type 0
 IsAnswerTo d e (request.Geometry part path) = OfFile d (greatest_dump part) path.now (λ _. DetectsOf part)
-IsAnswerTo d e (request.List dump path) = OfFile d dump path.now ListsOf
-IsAnswerTo d e (request.Check dump path) = OfFile d dump path.now ChecksOf
-IsAnswerTo d e (request.Show dump path p) = OfFile d dump path.now (ShowsOf p)
+IsAnswerTo d e (request.List dump path) = OfAsked d e dump path.now ListsOf
+IsAnswerTo d e (request.Check dump path) = OfAsked d e dump path.now ChecksOf
+IsAnswerTo d e (request.Show dump path p) = OfAsked d e dump path.now (ShowsOf p)
 IsAnswerTo d e (request.Extract dump extract) =
-    OfFile d dump extract.paths.image.now
+    OfAsked d e dump extract.paths.image.now
     (λ s k agrees. WritesInto extract.paths.out.now d e (ExtractsOf extract.key s k agrees) (HasTextIn extract.key s agrees))
-IsAnswerTo d e (request.Unpack dump paths) = OfFile d dump paths.image.now (UnpacksOf paths.out.now d e)
+IsAnswerTo d e (request.Unpack dump paths) = OfAsked d e dump paths.image.now (UnpacksOf paths.out.now d e)
 IsAnswerTo d e (request.Compose numbers new) =
     OfText d numbers new.from.now (λ s t. ComposesInto new.out.now d e s t new.spares new.image_seq)
 IsAnswerTo d e (request.Build numbers new) =
     OfText d numbers new.from.now (λ s t. Builds d e new.from.now new.out.now s t new.spares new.image_seq)
 IsAnswerTo d e (request.Normalise dump paths) =
-    OfFile d dump paths.image.now
+    OfAsked d e dump paths.image.now
     (λ s k agrees. WritesInto paths.out.now d e (NormalisesOf s k agrees) (HasMeaning s agrees))
-IsAnswerTo d e (request.Same dump left right) = BothOf d dump left.now right.now ComparesOf
+IsAnswerTo d e (request.Same dump left right) = OfBoth d dump left.now right.now ComparesOf
 IsAnswerTo d e (request.Change dump change) =
     let plan = change.plan in
     WithList d e dump.bad plan.paths.image.now (OfFile d dump plan.paths.image.now
@@ -195,5 +244,5 @@ IsAllElse (request.Rename _ rename) d e = PlanStays d e rename.plan
 -- they are can be answered; and no other file is changed than the one that it names
 pub data IsAnswer (words : List (List ℕ)) (d e : Files) : Outcome → Type 0 where
   wrong_words : {o : Outcome} → (Takes words → ⊥) → Gives o (says [] 2) → AllStay d e → IsAnswer words d e o
-  answered : {o : Outcome} (asked : Request) → Requests words asked → IsAnswerTo d e asked o → IsAllElse asked d e
+  answered : {o : Outcome} (request : Request) → Requests words request → IsAnswerTo d e request o → IsAllElse request d e
       → IsAnswer words d e o

@@ -1,5 +1,5 @@
 -- The command line: which commands there are, and which words each takes.
-use Rattle.std.specs.Prelude.{◌≡◌, ◌∷◌, ◌++◌, [], Bool, List, Option, Some, codes, is_some, not, pos, true, false}
+use Rattle.std.specs.Prelude.{◌≡◌, ◌∷◌, ◌++◌, ◌&&◌, ◌||◌, [], Bool, List, Option, Some, codes, is_some, not, pos, true, false}
 use Rattle.std.specs.List.{list_any}
 use Rattle.std.specs.Option.{ForSome}
 use Rattle.std.specs.Str.{bytes_eq}
@@ -8,7 +8,7 @@ use Rattle.clap.specs.Simple.{App, Shape, new_rule, new_shape, subcommand_of}
 use Rattle.clap.specs.Walk.{Row, Rule, Text, first_of}
 use Rattle.clap.specs.declared.builder.value_parser.ValueParser.TheVariants as parser
 use Rattle.ubi_commands.specs.BadBlocks.{is_block_list}
-use Rattle.ubi_commands.specs.CommandLine.{IsRequest}
+use Rattle.ubi_commands.specs.CommandLine.{IsRequest, gives, gives_no_geometry}
 use Rattle.ubi_commands.specs.declared.requests.Request.{Request}
 
 -- an argument that has to be given
@@ -27,9 +27,13 @@ number name = record (option name) { parser = Some (parser.Signed (pos 0) (pos 4
 abbrev pub long : Text → Rule
 long name = record (option name) { parser = Some (parser.Signed (pos 0) (pos 9223372036854775807)) }
 
--- the numbers of a geometry
-abbrev pub numbers : List Rule
-numbers = needed (number (codes "peb")) ∷ needed (number (codes "page")) ∷ number (codes "vid") ∷ number (codes "data")
+-- a number that has to be given, or may be left out
+abbrev pub measure : Bool → Text → Rule
+measure need name = record (number name) { required = need }
+
+-- the numbers of a geometry, of which the two sizes have to be given, or may be left out
+abbrev pub numbers : Bool → List Rule
+numbers need = measure need (codes "peb") ∷ measure need (codes "page") ∷ number (codes "vid") ∷ number (codes "data")
     ∷ number (codes "pebs") ∷ []
 
 -- the option with the file or the folder to write
@@ -41,8 +45,8 @@ abbrev pub volume : Rule
 volume = needed (number (codes "id"))
 
 -- a command, with what it takes beside the numbers
-abbrev pub command : Text → List Rule → Shape
-command name rules = record (new_shape name) { rules = numbers ++ rules }
+abbrev pub command : Bool → Text → List Rule → Shape
+command need name rules = record (new_shape name) { rules = numbers need ++ rules }
 
 -- the word that names an image file
 abbrev pub image_file : Rule
@@ -57,8 +61,8 @@ abbrev pub image_part : List Rule
 image_part = image_file ∷ long (codes "start") ∷ long (codes "length") ∷ []
 
 -- one over an image file, whose pages may have out-of-band bytes, and whose bad eraseblocks may be listed
-abbrev pub on_image : Text → List Rule → Shape
-on_image name rules = command name (image_part ++ number (codes "oob") ∷ bad_list ∷ rules)
+abbrev pub on_image : Bool → Text → List Rule → Shape
+on_image need name rules = command need name (image_part ++ number (codes "oob") ∷ bad_list ∷ rules)
 
 -- `geometry`, over an image alone
 abbrev pub geometry : Shape
@@ -66,43 +70,43 @@ geometry = record (new_shape (codes "geometry")) { rules = image_part }
 
 -- `list`, over an image
 abbrev pub list : Shape
-list = on_image (codes "list") []
+list = on_image false (codes "list") []
 
 -- `check`, over an image
 abbrev pub check : Shape
-check = on_image (codes "check") []
+check = on_image false (codes "check") []
 
 -- `show`, over an image, with the eraseblock to show
 abbrev pub show : Shape
-show = on_image (codes "show") (needed (number (codes "block")) ∷ [])
+show = on_image false (codes "show") (needed (number (codes "block")) ∷ [])
 
 -- `extract`, over an image, with the file to write, and the number or the name of the volume
 abbrev pub extract : Shape
-extract = on_image (codes "extract") (output ∷ number (codes "id") ∷ option (codes "name") ∷ [])
+extract = on_image false (codes "extract") (output ∷ number (codes "id") ∷ option (codes "name") ∷ [])
 
 -- `unpack`, over an image, with the folder to write
 abbrev pub unpack : Shape
-unpack = on_image (codes "unpack") (output ∷ [])
+unpack = on_image false (codes "unpack") (output ∷ [])
 
 -- `compose`, over a text, with the file to write, and the spare eraseblocks and the image sequence number if given
 abbrev pub compose : Shape
 compose =
-    command (codes "compose")
+    command true (codes "compose")
     (needed (new_rule (codes "SPEC")) ∷ output ∷ number (codes "spares") ∷ number (codes "seq") ∷ [])
 
 -- `build`, over a config, with the file to write, and the spare eraseblocks and the image sequence number if given
 abbrev pub build : Shape
 build =
-    command (codes "build")
+    command true (codes "build")
     (needed (new_rule (codes "CONFIG")) ∷ output ∷ number (codes "spares") ∷ number (codes "seq") ∷ [])
 
 -- `normalise`, over an image, with the file to write
 abbrev pub normalise : Shape
-normalise = on_image (codes "normalise") (output ∷ [])
+normalise = on_image false (codes "normalise") (output ∷ [])
 
 -- `same`, over an image and another
 abbrev pub same : Shape
-same = on_image (codes "same") (needed (record (new_rule (codes "OTHER")) { value_names = 1 }) ∷ [])
+same = on_image false (codes "same") (needed (record (new_rule (codes "OTHER")) { value_names = 1 }) ∷ [])
 
 -- the options of a plan, all of which may be left out: the steps to do, what is said of Blank eraseblocks, and the file for the
 -- pages
@@ -112,12 +116,12 @@ plan_options = number (codes "stop") ∷ option (codes "blank") ∷ option (code
 -- `change`, over an image, with the file to write, the volume, the LEB and the file of its bytes
 abbrev pub change : Shape
 change =
-    on_image (codes "change")
+    on_image true (codes "change")
     (output ∷ volume ∷ needed (number (codes "lnum")) ∷ needed (option (codes "from")) ∷ plan_options)
 
 -- `rename`, over an image, with the file to write, the volume and its name
 abbrev pub rename : Shape
-rename = on_image (codes "rename") (output ∷ volume ∷ needed (option (codes "name")) ∷ plan_options)
+rename = on_image true (codes "rename") (output ∷ volume ∷ needed (option (codes "name")) ∷ plan_options)
 
 -- the program: it has a version, and a command has to be named
 unfoldable pub tool : App
@@ -144,6 +148,15 @@ HasBlockList named = (name : Text) (words : List Row) → named ≡ Some (name, 
 abbrev pub plans : Text → Bool
 plans name = list_any (bytes_eq name) (codes "change" ∷ codes "rename" ∷ [])
 
+-- the commands that find the geometry of a dump where the words give none
+abbrev pub finds : Text → Bool
+finds name = reads_dump name && not (plans name)
+
+-- of the words of such a command both sizes are given, or nothing of a geometry is but how many eraseblocks there are
+abbrev pub HasGeometryOrNone : Option (Text × List Row) → Type 0
+HasGeometryOrNone named = (name : Text) (words : List Row) → named ≡ Some (name, words) → finds name ≡ true
+    → ((gives words (codes "peb") && gives words (codes "page")) || gives_no_geometry words) ≡ true
+
 -- of the words of a command that plans, what is said of Blank eraseblocks is that they are kept
 abbrev pub HasBlankWord : Option (Text × List Row) → Type 0
 HasBlankWord named = (name : Text) (words : List Row) → named ≡ Some (name, words) → plans name ≡ true
@@ -154,9 +167,10 @@ pub record Mean (named : Option (Text × List Row)) : Type 0 where
   pub volume : HasOneVolume named
   pub list : HasBlockList named
   pub blank : HasBlankWord named
+  pub geometry : HasGeometryOrNone named
 
 -- the command line takes the words, the program's name first: nothing is wrong with them, they ask for no help, those of
--- `extract` name one volume, what lists bad eraseblocks is a list, and `--blank` has the word `keep`
+-- `extract` name one volume, what lists bad eraseblocks is a list, `--blank` has the word `keep`, and a geometry is whole or left out
 abbrev pub Takes : List Text → Type 0
 Takes words = (fault_of tool words ≡ []) × Mean (subcommand_of tool words)
 

@@ -4,4 +4,5 @@ pub mod CommandLine
 pub mod Ended
 pub mod Folder
 pub mod Gathering
+pub mod Kept
 pub mod Telling

@@ -20,10 +20,10 @@ const ABOUT: &str = "Reads raw NAND dumps that hold UBI volumes";
 
 /// What stands below the help of the program.
 const EXAMPLES: &str = "Examples, for eraseblocks of 128 KiB with pages of 2 KiB:
-  ubi_tool geometry dump.img
-  ubi_tool list dump.img --peb 131072 --page 2048
-  ubi_tool extract dump.img --name rootfs --out rootfs.bin --peb 131072 --page 2048
-  ubi_tool same old.img new.img --peb 131072 --page 2048 --vid 512 --data 2048
+  ubi_tool list dump.img
+  ubi_tool extract dump.img --name rootfs --out rootfs.bin
+  ubi_tool list chip.img --peb 131072 --page 2048 --vid 512 --data 2048 --start 1048576
+  ubi_tool compose spec.txt --out new.img --peb 131072 --page 2048
 
 Exit status: 0 done; 1 refused, different, a file that fails, or out of memory;
 2 bad arguments, help, or an invalid geometry.";
@@ -73,27 +73,22 @@ fn geometry_command<'a>(alloc: Global) -> Result<Command<'a>, AllocError>
 fn list_command<'a>(alloc: Global) -> Result<Command<'a>, AllocError>
     ensures { IfOk result (λ c. app_of c ≡ alone tool.list) }
 {
-    image_command(
-        alloc,
-        "list",
-        "Prints the volumes of an image: kind, size, flags, name",
-    )
+    let about = "Prints the volumes of an image: kind, size, flags, name";
+    image_command(alloc, "list", about, false)
 }
 
 fn check_command<'a>(alloc: Global) -> Result<Command<'a>, AllocError>
     ensures { IfOk result (λ c. app_of c ≡ alone tool.check) }
 {
-    image_command(
-        alloc,
-        "check",
-        "Says why an image is refused, or counts what its eraseblocks are",
-    )
+    let about = "Says why an image is refused, or counts what its eraseblocks are";
+    image_command(alloc, "check", about, false)
 }
 
 fn show_command<'a>(alloc: Global) -> Result<Command<'a>, AllocError>
     ensures { IfOk result (λ c. app_of c ≡ alone tool.show) }
 {
-    let command = image_command(alloc, "show", "Prints the two headers of an eraseblock")?;
+    let about = "Prints the two headers of an eraseblock";
+    let command = image_command(alloc, "show", about, false)?;
     command.arg(block(alloc))
 }
 
@@ -113,11 +108,8 @@ fn block<'a>(alloc: Global) -> Arg<'a>
 fn extract_command<'a>(alloc: Global) -> Result<Command<'a>, AllocError>
     ensures { IfOk result (λ c. app_of c ≡ alone tool.extract) }
 {
-    let command = out_command(
-        alloc,
-        "extract",
-        "Writes the contents of a volume to a file",
-    )?;
+    let about = "Writes the contents of a volume to a file";
+    let command = out_command(alloc, "extract", about, false)?;
     let command = command.arg(number(alloc, "id", ID))?;
     command.arg(volume_name(alloc))
 }
@@ -136,11 +128,8 @@ fn volume_name<'a>(alloc: Global) -> Arg<'a>
 fn unpack_command<'a>(alloc: Global) -> Result<Command<'a>, AllocError>
     ensures { IfOk result (λ c. app_of c ≡ alone tool.unpack) }
 {
-    let command = image_command(
-        alloc,
-        "unpack",
-        "Writes the contents of each volume to a file in a directory",
-    )?;
+    let about = "Writes the contents of each volume to a file in a directory";
+    let command = image_command(alloc, "unpack", about, false)?;
     command.arg(out_folder(alloc))
 }
 
@@ -160,7 +149,7 @@ fn compose_command<'a>(alloc: Global) -> Result<Command<'a>, AllocError>
     ensures { IfOk result (λ c. app_of c ≡ alone tool.compose) }
 {
     let about = "Writes the image that a text describes";
-    let command = device_command(alloc, "compose", about)?;
+    let command = device_command(alloc, "compose", about, true)?;
     let command = command.arg(spec_file(alloc))?;
     let command = command.arg(out_file(alloc))?;
     let command = command.arg(number(alloc, "spares", SPARES))?;
@@ -181,7 +170,7 @@ fn build_command<'a>(alloc: Global) -> Result<Command<'a>, AllocError>
     ensures { IfOk result (λ c. app_of c ≡ alone tool.build) }
 {
     let about = "Writes the image that a config of ubinize and the files in it give";
-    let command = device_command(alloc, "build", about)?;
+    let command = device_command(alloc, "build", about, true)?;
     let command = command.arg(config_file(alloc))?;
     let command = command.arg(out_file(alloc))?;
     let command = command.arg(number(alloc, "spares", SPARES))?;
@@ -201,21 +190,15 @@ fn config_file<'a>(alloc: Global) -> Arg<'a>
 fn normalise_command<'a>(alloc: Global) -> Result<Command<'a>, AllocError>
     ensures { IfOk result (λ c. app_of c ≡ alone tool.normalise) }
 {
-    out_command(
-        alloc,
-        "normalise",
-        "Writes the normal image: the same bytes for all images with the same contents",
-    )
+    let about = "Writes the normal image: the same bytes for all images with the same contents";
+    out_command(alloc, "normalise", about, false)
 }
 
 fn same_command<'a>(alloc: Global) -> Result<Command<'a>, AllocError>
     ensures { IfOk result (λ c. app_of c ≡ alone tool.same) }
 {
-    let command = image_command(
-        alloc,
-        "same",
-        "Says whether two images have the same contents",
-    )?;
+    let about = "Says whether two images have the same contents";
+    let command = image_command(alloc, "same", about, false)?;
     command.arg(other_image(alloc))
 }
 
@@ -233,7 +216,7 @@ fn other_image<'a>(alloc: Global) -> Arg<'a>
 fn change_command<'a>(alloc: Global) -> Result<Command<'a>, AllocError>
     ensures { IfOk result (λ c. app_of c ≡ alone tool.change) }
 {
-    let command = out_command(alloc, "change", CHANGE)?;
+    let command = out_command(alloc, "change", CHANGE, true)?;
     let command = command.arg(number(alloc, "id", ID).required(true))?;
     let command = command.arg(number(alloc, "lnum", LNUM).required(true))?;
     let command = command.arg(new_bytes(alloc))?;
@@ -286,7 +269,7 @@ fn new_bytes<'a>(alloc: Global) -> Arg<'a>
 fn rename_command<'a>(alloc: Global) -> Result<Command<'a>, AllocError>
     ensures { IfOk result (λ c. app_of c ≡ alone tool.rename) }
 {
-    let command = out_command(alloc, "rename", RENAME)?;
+    let command = out_command(alloc, "rename", RENAME, true)?;
     let command = command.arg(number(alloc, "id", ID).required(true))?;
     let command = command.arg(new_name(alloc))?;
     with_plan(alloc, command)
@@ -305,10 +288,15 @@ fn new_name<'a>(alloc: Global) -> Arg<'a>
 }
 
 /// A command over an image file that writes another file.
-fn out_command<'a>(alloc: Global, name: &'a str, about: &'a str) -> Result<Command<'a>, AllocError>
-    ensures { IfOk result (λ c. app_of c ≡ alone (tool.on_image name.now (tool.output ∷ []))) }
+fn out_command<'a>(
+    alloc: Global,
+    name: &'a str,
+    about: &'a str,
+    needs_sizes: bool,
+) -> Result<Command<'a>, AllocError>
+    ensures { IfOk result (λ c. app_of c ≡ alone (tool.on_image needs_sizes name.now (tool.output ∷ []))) }
 {
-    let command = image_command(alloc, name, about)?;
+    let command = image_command(alloc, name, about, needs_sizes)?;
     command.arg(out_file(alloc))
 }
 
@@ -329,10 +317,11 @@ fn image_command<'a>(
     alloc: Global,
     name: &'a str,
     about: &'a str,
+    needs_sizes: bool,
 ) -> Result<Command<'a>, AllocError>
-    ensures { IfOk result (λ c. app_of c ≡ alone (tool.on_image name.now [])) }
+    ensures { IfOk result (λ c. app_of c ≡ alone (tool.on_image needs_sizes name.now [])) }
 {
-    let command = device_command(alloc, name, about)?;
+    let command = device_command(alloc, name, about, needs_sizes)?;
     let command = with_image(alloc, command)?;
     let command = command.arg(number(alloc, "oob", OOB))?;
     command.arg(bad_list(alloc))
@@ -365,23 +354,33 @@ fn image_file<'a>(alloc: Global) -> Arg<'a>
     Arg::new(alloc, "IMAGE").help("Raw dump").required(true)
 }
 
-/// A command that takes the numbers of a geometry.
+/// A command that takes the numbers of a geometry. Its two sizes are needed, or may be left out.
 fn device_command<'a>(
     alloc: Global,
     name: &'a str,
     about: &'a str,
+    needs_sizes: bool,
 ) -> Result<Command<'a>, AllocError>
-    ensures { IfOk result (λ c. app_of c ≡ alone (tool.command name.now [])) }
+    ensures { IfOk result (λ c. app_of c ≡ alone (tool.command needs_sizes name.now [])) }
 {
-    with_numbers(alloc, Command::new(alloc, name).about(about))
+    with_numbers(alloc, Command::new(alloc, name).about(about), needs_sizes)
 }
 
 /// Adds the numbers of a geometry to a command.
-fn with_numbers<'a>(alloc: Global, command: Command<'a>) -> Result<Command<'a>, AllocError>
-    ensures { IfOk result (λ c. (name : Text) → app_of command.entry ≡ alone (new_shape name) → app_of c ≡ alone (tool.command name [])) }
+fn with_numbers<'a>(
+    alloc: Global,
+    command: Command<'a>,
+    needs_sizes: bool,
+) -> Result<Command<'a>, AllocError>
+    ensures { IfOk result (λ c. (name : Text) → app_of command.entry ≡ alone (new_shape name) → app_of c ≡ alone (tool.command needs_sizes name [])) }
 {
-    let command = command.arg(measure(alloc, "peb", PEB).required(true))?;
-    let command = command.arg(measure(alloc, "page", PAGE).required(true))?;
+    let (peb, page) = if needs_sizes {
+        (PEB, PAGE)
+    } else {
+        (FOUND_PEB, FOUND_PAGE)
+    };
+    let command = command.arg(measure(alloc, "peb", peb).required(needs_sizes))?;
+    let command = command.arg(measure(alloc, "page", page).required(needs_sizes))?;
     let command = command.arg(measure(alloc, "vid", VID))?;
     let command = command.arg(measure(alloc, "data", DATA))?;
     command.arg(measure(alloc, "pebs", PEBS))
@@ -420,6 +419,10 @@ const STOP: &str = "Stop after N steps of the plan [default: all]";
 const PEB: &str = "Eraseblock size in bytes";
 
 const PAGE: &str = "Page size in bytes";
+
+const FOUND_PEB: &str = "Eraseblock size in bytes [default: what the dump's headers tell]";
+
+const FOUND_PAGE: &str = "Page size in bytes [default: what the dump's headers tell]";
 
 const VID: &str = "Offset of the VID header in an eraseblock [default: one page]";
 

@@ -11,11 +11,12 @@ use crate::build::build_file;
 use crate::command_line::tool_command;
 use crate::compose::run_compose;
 use crate::disk::Disk;
+use crate::finding::KnownDump;
 use crate::numbers::Numbers;
 use crate::outcome::{Outcome, nothing};
 use crate::output_file::write_outcome;
 use crate::planners::{change_file, rename_file};
-use crate::readers::{Checking, Detecting, Listing, Showing, read_file, same_files};
+use crate::readers::{Checking, Detecting, Listing, Showing, read_dump, read_file, same_files};
 use crate::requests::{Dump, NewImage, Request, request_of, why_unasked};
 use crate::spec_file::load_spec;
 use crate::unpack::unpack_file;
@@ -84,8 +85,8 @@ fn run_request<D: Disk + Eprint>(
 {
     match request {
         Request::Geometry { part, image } => {
-            let command = Detecting { part };
-            read_file(disk, alloc, &Dump::greatest(part), image, &command)
+            let known = KnownDump::given(Dump::greatest(part));
+            read_dump(disk, alloc, known, image, &Detecting { part })
         }
         Request::List { dump, image } => read_file(disk, alloc, &dump, image, &Listing),
         Request::Check { dump, image } => read_file(disk, alloc, &dump, image, &Checking),

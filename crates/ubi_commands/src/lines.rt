@@ -1,8 +1,10 @@
 //! Printed lines.
 
-ghost use Rattle.std.specs.Prelude.{◌≡◌, ◌+◌, ◌++◌, ◌≤◌, IfOk, IfSome, IsOk, OnOk, codes, decimal, length, vec_capacity, vec_len};
-ghost use Rattle.ubi_commands.specs.Lines.{blocks_line, bytes_line, comparison_line, file_line, geometry_line, misfit_line, no_block_line, refusal_line, refused_line, side_line, undetected_line};
+ghost use Rattle.std.specs.Prelude.{◌≡◌, ◌+◌, ◌++◌, ◌≤◌, IfOk, IfSome, IsOk, OnOk, codes, decimal, length, unwrap_or, vec_capacity, vec_len};
+ghost use Rattle.ubi_commands.specs.Lines.{blocks_line, bytes_line, comparison_line, file_line, geometry_line, layout_words, misfit_line, no_block_line, refusal_line, refused_line, side_line, undetected_line, undetected_side_line, unlike_line};
+ghost use Rattle.ubi_commands.specs.Numbers.{sizes_of};
 
+use crate::numbers::Numbers;
 use crate::view::Misfit;
 use itoa::Buffer;
 use std::alloc::{AllocError, Global};
@@ -52,6 +54,52 @@ pub fn undetected_line(alloc: Global, why: Undetected) -> Result<Vec<u8>, AllocE
     ensures { IfOk result (λ text. text.items ≡ undetected_line why) }
 {
     refused(alloc, &why)
+}
+
+/// The same of one of two files, behind the side on which it stands.
+pub fn undetected_side_line(
+    alloc: Global,
+    side: &str,
+    why: Undetected,
+) -> Result<Vec<u8>, AllocError>
+    ensures { IfOk result (λ text. text.items ≡ undetected_side_line side.now why) }
+{
+    let mut text = Vec::from_slice(alloc, side.as_bytes())?;
+    text.extend_from_slice(undetected_line(alloc, why)?.as_slice())?;
+    Ok(text)
+}
+
+/// Adds the numbers that a geometry is made of, but how many eraseblocks there are.
+pub fn put_layout(text: &mut Vec<u8>, numbers: Numbers) -> Result<(), AllocError>
+    ensures { OnOk result (text.new.items ≡ text.old.items ++ layout_words (sizes_of numbers)) }
+{
+    let page = u64::from(numbers.page);
+    put_number(text, "peb=", u64::from(numbers.peb_size))?;
+    put_number(text, " page=", page)?;
+    put_number(text, " vid=", number_or(numbers.vid_offset, page))?;
+    put_number(text, " data=", number_or(numbers.data_offset, 2 * page))
+}
+
+/// A number, or what stands for it where it is left out.
+fn number_or(number: Option<u32>, default: u64) -> u64
+    ensures { result ≡ unwrap_or number default }
+{
+    match number {
+        Some(number) => u64::from(number),
+        None => default,
+    }
+}
+
+/// The line of two images whose own geometries differ.
+pub fn unlike_line(alloc: Global, left: Numbers, right: Numbers) -> Result<Vec<u8>, AllocError>
+    ensures { IfOk result (λ text. text.items ≡ unlike_line (sizes_of left) (sizes_of right)) }
+{
+    let mut text = Vec::from_slice(alloc, b"refused F9 Geometries left ")?;
+    put_layout(&mut text, left)?;
+    put_word(&mut text, " right ")?;
+    put_layout(&mut text, right)?;
+    put_word(&mut text, "\n")?;
+    Ok(text)
 }
 
 /// The line of a file that can't be seen as the words tell.

@@ -9,9 +9,10 @@ ghost use Rattle.ubi_scan.specs.Image.{image_of};
 ghost use Rattle.ubi_scan.specs.Source.{Narrows, WhereHeld};
 ghost use Rattle.ubi_volume.specs.Places.{ArePlaces, ArePlacesOf};
 ghost use Rattle.ubi_commands.specs.AfterRun.{IsNoWrite, after_run};
-ghost use Rattle.ubi_commands.specs.List.{Lists, ListsFrom, amount_word, kind_word, layout_words, list_lines, record_line, record_words, room_words, shown, shown_byte, sizes_line, volume_line};
+ghost use Rattle.ubi_commands.specs.List.{Lists, ListsFrom, amount_word, kind_word, list_lines, record_line, record_words, room_words, shown, shown_byte, sizes_line, volume_line};
 
-use crate::lines::{put_number, put_word, refusal_line};
+use crate::lines::{put_layout, put_number, put_word, refusal_line};
+use crate::numbers::Numbers;
 use crate::outcome::{DONE, FAILED, Outcome, ToolError, in_memory};
 use std::alloc::{AllocError, Global};
 use ubi_media::{Geometry, VolKind, VolumeRecord};
@@ -69,16 +70,6 @@ pub fn put_amount(text: &mut Vec<u8>, amount: Amount) -> Result<(), AllocError>
     }
 }
 
-/// Adds the numbers that a geometry is made of, but how many eraseblocks there are.
-fn put_layout(text: &mut Vec<u8>, geometry: &Geometry) -> Result<(), AllocError>
-    ensures { OnOk result (text.new.items ≡ text.old.items ++ layout_words geometry.now) }
-{
-    put_number(text, "peb=", u64::from(geometry.peb_size()))?;
-    put_number(text, " page=", u64::from(geometry.page()))?;
-    put_number(text, " vid=", u64::from(geometry.vid_offset()))?;
-    put_number(text, " data=", u64::from(geometry.data_offset()))
-}
-
 /// Adds the numbers that follow from a geometry, and how many eraseblocks there are.
 fn put_room(text: &mut Vec<u8>, geometry: &Geometry) -> Result<(), AllocError>
     ensures { OnOk result (text.new.items ≡ text.old.items ++ room_words geometry.now) }
@@ -93,7 +84,7 @@ fn put_sizes(text: &mut Vec<u8>, geometry: &Geometry) -> Result<(), AllocError>
     ensures { OnOk result (text.new.items ≡ text.old.items ++ sizes_line geometry.now) }
 {
     put_word(text, "geometry ")?;
-    put_layout(text, geometry)?;
+    put_layout(text, Numbers::of(geometry))?;
     put_room(text, geometry)?;
     put_word(text, "\n")
 }

@@ -2,12 +2,12 @@
 
 ghost use Rattle.std.specs.Prelude.{◌≡◌, Some, None, MatchResult};
 ghost use Rattle.ubi_media.specs.Limits.{first_broken};
-ghost use Rattle.ubi_commands.specs.Numbers.{sizes_of};
+ghost use Rattle.ubi_commands.specs.Numbers.{numbers_of, sizes_of};
 
 use ubi_media::{Geometry, GeometryError, MOST_PEBS};
 
 /// The numbers that the words give. Those that may be left out are options.
-#[derive(Clone, Copy)]
+#[derive(Clone, Copy, PartialEq, Eq)]
 pub struct Numbers {
     /// The bytes of an eraseblock.
     pub peb_size: u32,
@@ -19,6 +19,21 @@ pub struct Numbers {
     pub data_offset: Option<u32>,
     /// The eraseblocks of the device; the most that there can be where they are left out.
     pub pebs: Option<u32>,
+}
+
+impl Numbers {
+    /// The numbers of a geometry, of which none is left out.
+    pub fn of(geometry: &Geometry) -> Numbers
+        ensures { result ≡ numbers_of geometry.now }
+    {
+        Numbers {
+            peb_size: geometry.peb_size(),
+            page: geometry.page(),
+            vid_offset: Some(geometry.vid_offset()),
+            data_offset: Some(geometry.data_offset()),
+            pebs: Some(geometry.pebs()),
+        }
+    }
 }
 
 /// The bytes of the largest page.

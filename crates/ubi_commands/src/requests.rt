@@ -4,7 +4,7 @@ ghost use Rattle.std.specs.Option.{ForSome};
 ghost use Rattle.std.specs.Prelude.{◌≡◌, ◌↔◌, IsTrue, codes, true};
 ghost use Rattle.clap.specs.Simple.{subcommand_rows_of};
 ghost use Rattle.ubi_commands.specs.BadBlocks.{is_block_list};
-ghost use Rattle.ubi_commands.specs.CommandLine.{AsksBlank, AsksChange, AsksDump, AsksExtract, AsksKey, AsksNewImage, AsksNumbers, AsksPart, AsksPaths, AsksPlan, AsksRename, HasNumber, HasText, IsOneOf, IsRequest, MayHaveLong, MayHaveNumber, MayHaveText};
+ghost use Rattle.ubi_commands.specs.CommandLine.{AsksAsked, AsksBlank, AsksChange, AsksDump, AsksExtract, AsksKey, AsksNewImage, AsksNumbers, AsksPart, AsksPaths, AsksPlan, AsksRename, AsksSought, HasNumber, HasText, IsOneOf, IsRequest, MayHaveLong, MayHaveNumber, MayHaveText, gives, gives_no_geometry};
 ghost use Rattle.ubi_commands.specs.Dump.{greatest_dump};
 ghost use Rattle.ubi_commands.specs.Tool.{tool as whole};
 ghost use Rattle.ubi_commands.specs.inner.CommandLine.{IsAskedBy, words_in};
@@ -19,6 +19,12 @@ use clap::ArgMatches;
 const KEEP: &str = "keep";
 
 const ONE_VOLUME: &str = "error: either '--id <N>' or '--name <NAME>' names the volume, and not both
+
+For more information, try '--help'.
+";
+
+const HALF_GEOMETRY: &str =
+    "error: '--peb <N>' and '--page <N>' are given together, or left out, and then '--vid', '--data' and '--oob' are too
 
 For more information, try '--help'.
 ";
@@ -44,28 +50,28 @@ pub enum Request<'a> {
     },
     /// The volumes of a file.
     List {
-        dump: Dump<'a>,
+        dump: Asked<'a>,
         image: &'a str,
     },
     /// The states of the eraseblocks of a file.
     Check {
-        dump: Dump<'a>,
+        dump: Asked<'a>,
         image: &'a str,
     },
     /// The headers of one eraseblock of a file.
     Show {
-        dump: Dump<'a>,
+        dump: Asked<'a>,
         image: &'a str,
         block: u32,
     },
     /// What a volume of one file reads, into another.
     Extract {
-        dump: Dump<'a>,
+        dump: Asked<'a>,
         extract: Extract<'a>,
     },
     /// What each volume of a file reads, into files of a folder.
     Unpack {
-        dump: Dump<'a>,
+        dump: Asked<'a>,
         paths: Paths<'a>,
     },
     /// The image that a text file describes, into another file.
@@ -80,12 +86,12 @@ pub enum Request<'a> {
     },
     /// The normal image of one file, into another.
     Normalise {
-        dump: Dump<'a>,
+        dump: Asked<'a>,
         paths: Paths<'a>,
     },
     /// Whether two files mean the same.
     Same {
-        dump: Dump<'a>,
+        dump: Asked<'a>,
         left: &'a str,
         right: &'a str,
     },
@@ -135,6 +141,26 @@ impl<'a> Dump<'a> {
             bad: None,
         }
     }
+}
+
+/// A dump of which the words give no geometry: it is read as its own headers tell.
+#[derive(Clone, Copy)]
+pub struct Sought<'a> {
+    /// The part of its file in which its headers are looked for.
+    pub part: FilePart,
+    /// The eraseblocks of the device; the most that there can be where they are left out.
+    pub pebs: Option<u32>,
+    /// The list of its bad eraseblocks, which read 0xFF; none is bad where it is left out.
+    pub bad: Option<&'a str>,
+}
+
+/// How a dump is read.
+#[derive(Clone, Copy)]
+pub enum Asked<'a> {
+    /// As the words tell.
+    Given(Dump<'a>),
+    /// As its own headers tell.
+    Sought(Sought<'a>),
 }
 
 /// A volume to take out of an image.
@@ -210,6 +236,8 @@ pub fn why_unasked(matches: &ArgMatches<'_>) -> &'static str {
     match matches.subcommand() {
         Some((_, words)) if !are_listed(words.get_str("bad")) => BAD_LIST,
         Some((_, words)) if blank_of(words).is_none() => BAD_BLANK,
+        Some((_, words)) if numbers_of(words).is_none() && !gives_no_geometry(words) =>
+            HALF_GEOMETRY,
         _ => ONE_VOLUME,
     }
 }
@@ -248,7 +276,7 @@ fn list_of<'a>(matches: &'a ArgMatches<'_>) -> Option<Request<'a>>
     ensures { IsOneOf (IsAskedBy (codes "list") (words_in matches.now)) result }
 {
     Some(Request::List {
-        dump: dump_of(matches)?,
+        dump: asked_of(matches)?,
         image: text_of(matches, "IMAGE")?,
     })
 }
@@ -257,7 +285,7 @@ fn check_of<'a>(matches: &'a ArgMatches<'_>) -> Option<Request<'a>>
     ensures { IsOneOf (IsAskedBy (codes "check") (words_in matches.now)) result }
 {
     Some(Request::Check {
-        dump: dump_of(matches)?,
+        dump: asked_of(matches)?,
         image: text_of(matches, "IMAGE")?,
     })
 }
@@ -266,7 +294,7 @@ fn show_of<'a>(matches: &'a ArgMatches<'_>) -> Option<Request<'a>>
     ensures { IsOneOf (IsAskedBy (codes "show") (words_in matches.now)) result }
 {
     Some(Request::Show {
-        dump: dump_of(matches)?,
+        dump: asked_of(matches)?,
         image: text_of(matches, "IMAGE")?,
         block: number_of(matches, "block")?,
     })
@@ -276,7 +304,7 @@ fn extract_of<'a>(matches: &'a ArgMatches<'_>) -> Option<Request<'a>>
     ensures { IsOneOf (IsAskedBy (codes "extract") (words_in matches.now)) result }
 {
     Some(Request::Extract {
-        dump: dump_of(matches)?,
+        dump: asked_of(matches)?,
         extract: volume_extract(matches)?,
     })
 }
@@ -285,7 +313,7 @@ fn unpack_of<'a>(matches: &'a ArgMatches<'_>) -> Option<Request<'a>>
     ensures { IsOneOf (IsAskedBy (codes "unpack") (words_in matches.now)) result }
 {
     Some(Request::Unpack {
-        dump: dump_of(matches)?,
+        dump: asked_of(matches)?,
         paths: paths_of(matches)?,
     })
 }
@@ -312,7 +340,7 @@ fn normalise_of<'a>(matches: &'a ArgMatches<'_>) -> Option<Request<'a>>
     ensures { IsOneOf (IsAskedBy (codes "normalise") (words_in matches.now)) result }
 {
     Some(Request::Normalise {
-        dump: dump_of(matches)?,
+        dump: asked_of(matches)?,
         paths: paths_of(matches)?,
     })
 }
@@ -321,7 +349,7 @@ fn same_of<'a>(matches: &'a ArgMatches<'_>) -> Option<Request<'a>>
     ensures { IsOneOf (IsAskedBy (codes "same") (words_in matches.now)) result }
 {
     Some(Request::Same {
-        dump: dump_of(matches)?,
+        dump: asked_of(matches)?,
         left: text_of(matches, "IMAGE")?,
         right: text_of(matches, "OTHER")?,
     })
@@ -428,7 +456,52 @@ fn blank_of(matches: &ArgMatches<'_>) -> Option<bool>
     }
 }
 
-/// A dump that is read. None where the list of its bad eraseblocks is none.
+/// How a dump is read: as the words tell, or, where they give no geometry, as its own headers do. None where they give half a geometry,
+/// or the list of its bad eraseblocks is none.
+fn asked_of<'a>(matches: &'a ArgMatches<'_>) -> Option<Asked<'a>>
+    ensures { IsOneOf (AsksAsked (words_in matches.now)) result }
+{
+    if gives_no_geometry(matches) {
+        Some(Asked::Sought(sought_of(matches)?))
+    } else {
+        Some(Asked::Given(dump_of(matches)?))
+    }
+}
+
+/// Whether the words say nothing of a geometry but how many eraseblocks there are.
+fn gives_no_geometry(matches: &ArgMatches<'_>) -> bool
+    ensures { result ≡ gives_no_geometry (words_in matches.now) }
+{
+    !gives(matches, "peb")
+        && !gives(matches, "page")
+        && !gives(matches, "vid")
+        && !gives(matches, "data")
+        && !gives(matches, "oob")
+}
+
+/// Whether the words give anything under a name.
+fn gives(matches: &ArgMatches<'_>, name: &str) -> bool
+    ensures { result ≡ gives (words_in matches.now) name.now }
+{
+    matches.get_str(name).is_some()
+}
+
+/// A dump of which the words give no geometry. None where the list of its bad eraseblocks is none.
+fn sought_of<'a>(matches: &'a ArgMatches<'_>) -> Option<Sought<'a>>
+    ensures { IsOneOf (AsksSought (words_in matches.now)) result }
+{
+    let bad = may_text_of(matches, "bad");
+    if !are_listed(bad) {
+        return None;
+    }
+    Some(Sought {
+        part: part_of(matches),
+        pebs: number_of(matches, "pebs"),
+        bad,
+    })
+}
+
+/// A dump of which the words give the geometry. None where the list of its bad eraseblocks is none.
 fn dump_of<'a>(matches: &'a ArgMatches<'_>) -> Option<Dump<'a>>
     ensures { IsOneOf (AsksDump (words_in matches.now)) result }
 {

@@ -2,6 +2,7 @@
 
 ghost use Rattle.std.specs.FinMap as finite;
 ghost use Rattle.std.specs.List.{flat_map};
+ghost use Rattle.std.specs.Option.{ForSome};
 ghost use Rattle.std.specs.Prelude.{◌≡◌, ◌≢◌, ◌++◌, ◌<◌, ℕ, Err, IfErr, IfOk, IfSome, List, Ok, OnErr, OnOk, codes, if◌then◌else◌, is_ok, length, string_bytes};
 ghost use Rattle.ubi_scan.specs.Image.{image_of};
 ghost use Rattle.ubi_scan.specs.Source.{Narrows, WhereHeld};
@@ -12,18 +13,20 @@ ghost use Rattle.ubi_commands.specs.AfterRun.{IsNoWrite, IsTold, after_run};
 ghost use Rattle.ubi_commands.specs.Answer.{Gives, says};
 ghost use Rattle.ubi_commands.specs.Disk.{AllStay, OthersStay, OutsideStay};
 ghost use Rattle.ubi_commands.specs.Lines.{file_line};
-ghost use Rattle.ubi_commands.specs.Program.{OfFile};
+ghost use Rattle.ubi_commands.specs.Dump.{IsPartOf};
+ghost use Rattle.ubi_commands.specs.Program.{OfAsked, OfFile};
 ghost use Rattle.ubi_commands.specs.Unpack.{AreUnpacked, IsUnpacked, Unpacks, UnpacksFrom, UnpacksOf, file_byte, file_path, unpacked_amount, unpacked_line, unpacked_lines, unpacked_status};
 ghost use Rattle.ubi_commands.specs.inner.Folder.{AreFilesOf, Ends, IsFileOf};
 
 use crate::disk::Disk;
+use crate::finding::{KnownDump, find_dump, open_known};
 use crate::image_file::unread_line;
 use crate::lines::{put_number, put_word, refusal_line};
 use crate::list::{put_amount, put_shown};
-use crate::open_image::{OpenImage, frame_of, open_image};
+use crate::open_image::{OpenImage, frame_of};
 use crate::outcome::{DONE, FAILED, Outcome, ToolError};
 use crate::output_file::unwritten_line;
-use crate::requests::{Dump, Paths};
+use crate::requests::{Asked, Paths};
 use itoa::Buffer;
 use std::alloc::{AllocError, Global};
 use ubi_media::{Geometry, VolumeRecord};
@@ -339,23 +342,25 @@ fn told_or(work: Result<Outcome, ToolError>, unread: Outcome) -> Result<Outcome,
     }
 }
 
-/// Unpacks what the volumes of an image file read, into files of a folder.
-pub fn unpack_file<D: Disk>(
+/// Unpacks what the volumes of a dump read of which it is known how it is read, into files of a folder.
+fn unpack_dump<D: Disk>(
     disk: &mut D,
     alloc: Global,
-    dump: &Dump<'_>,
+    known: KnownDump<'_>,
     paths: &Paths<'_>,
 ) -> Result<Outcome, AllocError>
-    ensures answer { IfOk result (OfFile (D.files disk.old) dump.now paths.now.image.now (UnpacksOf paths.now.out.now (D.files disk.old) (D.files disk.new))) }
+    requires kept { ForSome known.kept (λ bytes. IsPartOf (D.files disk.old) known.dump paths.now.image.now bytes.items) }
+    ensures answer { IfOk result (OfFile (D.files disk.old) known.entry.dump paths.now.image.now (UnpacksOf paths.now.out.now (D.files disk.old) (D.files disk.new))) }
     ensures outside { OutsideStay (D.files disk.old) (D.files disk.new) paths.now.out.now }
     ensures memory { OnErr result (AllStay (D.files disk.old) (D.files disk.new)) }
 {
     let unread = unread_line(alloc, paths.image)?;
-    let frame = match frame_of(alloc, dump) {
+    let KnownDump { dump, kept } = known;
+    let frame = match frame_of(alloc, &dump) {
         Ok(frame) => frame,
         Err(error) => return error.answer(),
     };
-    match open_image(disk, alloc, &frame, paths.image) {
+    match open_known(disk, alloc, &frame, kept, paths.image) {
         Ok(OpenImage::AtPlaces(mut file)) => {
             let geometry = file.geometry;
             let work = run_unpack_from(disk, alloc, &geometry, &mut file.source, paths.out);
@@ -367,5 +372,22 @@ pub fn unpack_file<D: Disk>(
             told_or(work, unread)
         }
         Err(error) => error.answer(),
+    }
+}
+
+/// Unpacks what the volumes of an image file read, which is read as the words tell, or as its own headers do, into files of a folder.
+pub fn unpack_file<D: Disk>(
+    disk: &mut D,
+    alloc: Global,
+    asked: &Asked<'_>,
+    paths: &Paths<'_>,
+) -> Result<Outcome, AllocError>
+    ensures answer { IfOk result (OfAsked (D.files disk.old) (D.files disk.new) asked.now paths.now.image.now (UnpacksOf paths.now.out.now (D.files disk.old) (D.files disk.new))) }
+    ensures outside { OutsideStay (D.files disk.old) (D.files disk.new) paths.now.out.now }
+    ensures memory { OnErr result (AllStay (D.files disk.old) (D.files disk.new)) }
+{
+    match find_dump(disk, alloc, asked, paths.image, "") {
+        Ok(known) => unpack_dump(disk, alloc, known, paths),
+        Err(unread) => unread.answer(),
     }
 }

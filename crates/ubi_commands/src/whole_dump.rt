@@ -1,15 +1,16 @@
 //! Dumps that are read whole, since they can't be read at places.
 
-ghost use Rattle.std.specs.Prelude.{◌≡◌, ◌*◌, ◌+◌, ◌-◌, ◌/◌, ◌^◌, IfErr, IfOk, IfSome, Some, codes, drop, length, min, take, unwrap_or, ℕ, List};
+ghost use Rattle.std.specs.Prelude.{◌≡◌, ◌*◌, ◌+◌, ◌-◌, ◌/◌, ◌^◌, ◌≤◌, IfErr, IfOk, IfSome, None, Some, codes, drop, length, min, option_map, take, unwrap_or, ℕ, List};
 ghost use Rattle.ubi_media.specs.Limits.{first_broken};
 ghost use Rattle.ubi_commands.specs.Answer.{Gives, says};
 ghost use Rattle.ubi_commands.specs.BadBlocks.{masked};
-ghost use Rattle.ubi_commands.specs.Disk.{IsJudgedOf};
-ghost use Rattle.ubi_commands.specs.Dump.{FitsWhole, most_of, seen, whole_len};
+ghost use Rattle.ubi_commands.specs.Disk.{Files, IsJudgedOf};
+ghost use Rattle.ubi_commands.specs.Dump.{FitsWhole, IsPartOf, as_read, seen};
 ghost use Rattle.ubi_commands.specs.Lines.{misfit_line};
 ghost use Rattle.ubi_commands.specs.Numbers.{sizes_of};
 ghost use Rattle.ubi_commands.specs.Program.{IsRead, IsUnseen, Tells};
 ghost use Rattle.ubi_commands.specs.Views.{pages_of};
+ghost use Rattle.ubi_commands.specs.inner.Kept.{IsReadOf};
 
 use crate::disk::{Disk, WholeFile};
 use crate::image_file::{ImageFile, Unread, unread_file};
@@ -89,6 +90,51 @@ fn see(bytes: &mut Vec<u8>, frame: &Frame<'_>)
     );
 }
 
+/// A number, or another where that is less; of the other it is known, as far as it can be counted, what it is.
+fn at_most(number: u64, most: u64) -> u64
+    ensures { (n : ℕ) → most ≡ min n (2 ^ 64 - 1) → result ≡ min number n }
+{
+    number.min(most)
+}
+
+/// The part of a dump, as far as it is read.
+fn part_read(frame: &Frame<'_>) -> FilePart
+    ensures { result ≡ (as_read frame.now.dump).part }
+{
+    let part = frame.dump.part;
+    let most = raw_len(&frame.geometry, frame.dump.oob);
+    match part.length {
+        Some(length) => FilePart {
+            start: part.start,
+            length: Some(at_most(length, most)),
+        },
+        None => part,
+    }
+}
+
+/// The image of a dump of whose part so much was read.
+///
+/// # Errors
+///
+/// The line of why the file can't be seen so, or that memory ran out.
+fn image_of(alloc: Global, frame: &Frame<'_>, read: PartRead) -> Result<ImageFile, Unread>
+    ensures geometry { IfOk result (λ f. f.geometry ≡ sizes_of frame.now.dump.numbers) }
+    ensures read { IfOk result (λ f. IsRead (sizes_of frame.now.dump.numbers) f.bytes.items) }
+    ensures named { (d : Files) (path : List ℕ) → IsReadOf d frame.now.dump path read.bytes.items read.len → IfOk result (λ f. IsJudgedOf (seen frame.now.dump d) path (sizes_of frame.now.dump.numbers) f.bytes.items) }
+    ensures fits { (d : Files) (path : List ℕ) → IsReadOf d frame.now.dump path read.bytes.items read.len → IfOk result (λ _. FitsWhole d frame.now.dump path) }
+    ensures unread { (d : Files) (path : List ℕ) → IsReadOf d frame.now.dump path read.bytes.items read.len → IfErr result (Tells (IsUnseen d frame.now.dump path)) }
+{
+    let geometry = frame.geometry;
+    let dump = &frame.dump;
+    let part = part_read(frame);
+    let PartRead { mut bytes, len } = read;
+    if let Some(misfit) = misfit_of(part, geometry.page(), dump.oob, len) {
+        return Err(unseen(alloc, misfit));
+    }
+    see(&mut bytes, frame);
+    Ok(ImageFile { geometry, bytes })
+}
+
 /// What is read of the part of the file at a path.
 fn read_seen<D: Disk>(
     disk: &D,
@@ -96,8 +142,7 @@ fn read_seen<D: Disk>(
     frame: &Frame<'_>,
     path: &str,
 ) -> Result<PartRead, ToolError>
-    ensures bytes { IfOk result (λ read. IfSome ((D.files disk.now).holds path.now) (λ all. read.bytes.items ≡ take (most_of frame.now.dump) (drop frame.now.dump.part.start all))) }
-    ensures len { IfOk result (λ read. IfSome ((D.files disk.now).holds path.now) (λ all. read.len ≡ whole_len frame.now.dump (length all))) }
+    ensures { IfOk result (λ read. IsReadOf (D.files disk.now) frame.now.dump path.now read.bytes.items read.len) }
 {
     let most = raw_len(&frame.geometry, frame.dump.oob);
     read_part(alloc, &mut disk.whole(path)?, frame.dump.part, most)
@@ -120,15 +165,43 @@ pub fn load_seen<D: Disk>(
     ensures fits { IfOk result (λ _. FitsWhole (D.files disk.now) frame.now.dump path.now) }
     ensures unread { IfErr result (Tells (IsUnseen (D.files disk.now) frame.now.dump path.now)) }
 {
-    let PartRead { mut bytes, len } = match read_seen(disk, alloc, frame, path) {
-        Ok(read) => read,
-        Err(error) => return Err(unread_file(alloc, path, error)),
-    };
-    let geometry = frame.geometry;
-    let dump = &frame.dump;
-    if let Some(misfit) = misfit_of(dump.part, geometry.page(), dump.oob, len) {
-        return Err(unseen(alloc, misfit));
+    match read_seen(disk, alloc, frame, path) {
+        Ok(read) => image_of(alloc, frame, read),
+        Err(error) => Err(unread_file(alloc, path, error)),
     }
-    see(&mut bytes, frame);
-    Ok(ImageFile { geometry, bytes })
+}
+
+/// What was read of the part of a dump, of whose bytes all are kept, where no more than a device of its geometry has is read.
+fn kept_part(frame: &Frame<'_>, kept: Vec<u8>) -> Option<PartRead>
+    ensures read { (d : Files) (path : List ℕ) → IsPartOf d frame.now.dump path kept.items → IfSome result (λ read. IsReadOf d frame.now.dump path read.bytes.items read.len) }
+    ensures none { result ≡ None → 2 ^ 64 ≤ frame.now.dump.part.start + length kept.items }
+{
+    let mut bytes = kept;
+    bytes.truncate(raw_len(&frame.geometry, frame.dump.oob) as usize);
+    let len = frame.dump.part.start.checked_add(bytes.len() as u64)?;
+    Some(PartRead { bytes, len })
+}
+
+/// The image of a dump of whose part all bytes are kept, as it is seen.
+///
+/// # Errors
+///
+/// The line of why the file can't be seen so, or that memory ran out.
+pub fn see_kept(
+    alloc: Global,
+    frame: &Frame<'_>,
+    kept: Vec<u8>,
+    path: &str,
+) -> Result<ImageFile, Unread>
+    ensures geometry { IfOk result (λ f. f.geometry ≡ sizes_of frame.now.dump.numbers) }
+    ensures read { IfOk result (λ f. IsRead (sizes_of frame.now.dump.numbers) f.bytes.items) }
+    ensures named { (d : Files) → IsPartOf d frame.now.dump path.now kept.items → IfOk result (λ f. IsJudgedOf (seen frame.now.dump d) path.now (sizes_of frame.now.dump.numbers) f.bytes.items) }
+    ensures fits { (d : Files) → IsPartOf d frame.now.dump path.now kept.items → IfOk result (λ _. FitsWhole d frame.now.dump path.now) }
+    ensures unread { (d : Files) → IsPartOf d frame.now.dump path.now kept.items → IfErr result (Tells (IsUnseen d frame.now.dump path.now)) }
+{
+    match kept_part(frame, kept) {
+        Some(read) => image_of(alloc, frame, read),
+        // No file has more bytes than can be counted.
+        None => Err(unread_file(alloc, path, ToolError::Read)),
+    }
 }

@@ -2,6 +2,7 @@
 //!
 //! The image is read at places; or whole, where that can't be or where it may be the output too.
 
+ghost use Rattle.std.specs.Option.{ForSome};
 ghost use Rattle.std.specs.Prelude.{◌≡◌, ◌≢◌, [], ℕ, Bool, Err, IfOk, List, MatchResult, Ok, OnErr, Option, Result, codes, false, is_some};
 ghost use Rattle.ubi_media.specs.Geometry.{Sizes};
 ghost use Rattle.ubi_scan.specs.Source.{Agreed, Narrows, Source};
@@ -10,24 +11,26 @@ ghost use Rattle.ubi_commands.specs.Answer.{Gives, says};
 ghost use Rattle.ubi_commands.specs.Lines.{file_line};
 ghost use Rattle.ubi_commands.specs.Disk.{AllStay, Files, OthersStay, fresh};
 ghost use Rattle.ubi_commands.specs.Late.{contents_of};
-ghost use Rattle.ubi_commands.specs.Dump.{seen};
+ghost use Rattle.ubi_commands.specs.Dump.{IsPartOf, seen};
 ghost use Rattle.ubi_commands.specs.Opened.{IsOpened, IsUnreadOf};
 ghost use Rattle.ubi_commands.specs.inner.Ended.{IsEnded, Works};
-ghost use Rattle.ubi_commands.specs.Program.{OfFile, WritesInto};
+ghost use Rattle.ubi_commands.specs.Program.{OfAsked, OfFile, WritesInto};
 ghost use Rattle.ubi_commands.specs.declared.outcome.Outcome.{Outcome};
+ghost use Rattle.ubi_commands.specs.declared.requests.Dump.{Dump};
 
 use crate::change::{NewBytes, run_change_from};
 use crate::disk::Disk;
 use crate::extract::run_extract_from;
+use crate::finding::{KnownDump, find_dump, open_known_beside};
 use crate::image_file::unread_line;
 use crate::late_file::{LateFile, Target};
 use crate::normalise::run_normalise;
-use crate::open_image::{DumpSource, OpenImage, Seen, frame_of, open_beside};
+use crate::open_image::{DumpSource, OpenImage, Seen, frame_of};
 use crate::outcome::{DONE, Outcome, ToolError};
 use crate::output_file::{keep_file, unwritten_line};
 use crate::progress::ProgressWriter;
 use crate::rename::run_rename_from;
-use crate::requests::{Dump, Paths};
+use crate::requests::{Asked, Paths};
 use crate::volume_key::VolumeKey;
 use std::alloc::{AllocError, Global};
 use std::io::Write;
@@ -374,20 +377,22 @@ pub fn write_opened<D: Disk + Eprint, C: Writing>(
     }
 }
 
-/// Does the work of a command over one file, into another. What it gives of pages isn't used.
-pub fn write_file<D: Disk + Eprint, C: Writing>(
+/// Does the work of a command over a dump of which it is known how it is read, into a file. What it gives of pages isn't used.
+fn write_dump<D: Disk + Eprint, C: Writing>(
     disk: &mut D,
     alloc: Global,
-    dump: &Dump<'_>,
+    known: KnownDump<'_>,
     paths: &Paths<'_>,
     command: &C,
     is_watched: bool,
 ) -> Result<Outcome, AllocError>
-    ensures answer { IfOk result (λ o. (pages : List ℕ) × OfFile (D.files disk.old) dump.now paths.now.image.now (λ s k agrees. WritesInto paths.now.out.now (D.files disk.old) (D.files disk.new) (C.answers command.now s k agrees pages) (C.writes command.now s k agrees)) o) }
+    requires kept { ForSome known.kept (λ bytes. IsPartOf (D.files disk.old) known.dump paths.now.image.now bytes.items) }
+    ensures answer { IfOk result (λ o. (pages : List ℕ) × OfFile (D.files disk.old) known.entry.dump paths.now.image.now (λ s k agrees. WritesInto paths.now.out.now (D.files disk.old) (D.files disk.new) (C.answers command.now s k agrees pages) (C.writes command.now s k agrees)) o) }
     ensures others { OthersStay (D.files disk.old) (D.files disk.new) paths.now.out.now }
     ensures memory { OnErr result (AllStay (D.files disk.old) (D.files disk.new)) }
 {
-    let frame = match frame_of(alloc, dump) {
+    let KnownDump { dump, kept } = known;
+    let frame = match frame_of(alloc, &dump) {
         Ok(frame) => frame,
         Err(unread) => return unread.answer(),
     };
@@ -397,8 +402,27 @@ pub fn write_file<D: Disk + Eprint, C: Writing>(
         is_watched,
     };
     let mut pages = Vec::new(alloc);
-    match open_beside(disk, alloc, &frame, paths.image, paths.out) {
+    match open_known_beside(disk, alloc, &frame, kept, paths) {
         Ok(opened) => write_opened(disk, alloc, opened, &way, command, &mut pages),
+        Err(unread) => unread.answer(),
+    }
+}
+
+/// Does the work of a command over one file, which is read as the words tell, or as its own headers do, into another.
+pub fn write_file<D: Disk + Eprint, C: Writing>(
+    disk: &mut D,
+    alloc: Global,
+    asked: &Asked<'_>,
+    paths: &Paths<'_>,
+    command: &C,
+    is_watched: bool,
+) -> Result<Outcome, AllocError>
+    ensures answer { IfOk result (λ o. (pages : List ℕ) × OfAsked (D.files disk.old) (D.files disk.new) asked.now paths.now.image.now (λ s k agrees. WritesInto paths.now.out.now (D.files disk.old) (D.files disk.new) (C.answers command.now s k agrees pages) (C.writes command.now s k agrees)) o) }
+    ensures others { OthersStay (D.files disk.old) (D.files disk.new) paths.now.out.now }
+    ensures memory { OnErr result (AllStay (D.files disk.old) (D.files disk.new)) }
+{
+    match find_dump(disk, alloc, asked, paths.image, "") {
+        Ok(known) => write_dump(disk, alloc, known, paths, command, is_watched),
         Err(unread) => unread.answer(),
     }
 }

@@ -21,4 +21,4 @@ pub returns-in-Build-clause-answer : goal.returns-in-Build-clause-answer
 returns-in-Build-clause-answer g c = rw c.in-Build.is c.build_file.ensures.answer
 
 pub returns-in-Geometry-clause-answer : goal.returns-in-Geometry-clause-answer
-returns-in-Geometry-clause-answer g c = rw (c.in-Geometry.is, ← c.greatest.ensures) c.read_file.ensures
+returns-in-Geometry-clause-answer g c = rw (c.in-Geometry.is, ← c.greatest.ensures, ← c.given-known.ensures.dump) c.read_dump.ensures

@@ -1,38 +1,14 @@
-use Rattle.std.proofs.Common.{◌∙◌}
+use Rattle.std.proofs.Common.{refl}
 use Rattle.std.proofs.lemmas.Result.{IfOk-weaker}
-use Rattle.ubi_scan.specs.Promised.{keeps_promise}
-use Rattle.ubi_commands.specs.Program.{no_file, unreadable}
-use Rattle.ubi_commands.proofs.Ended.{told_at_places, told_by_bytes}
+use Rattle.ubi_commands.specs.Program.{of_dump, untold}
 use Rattle.ubi_commands.proofs.Outcomes.{told}
 use Rattle.ubi_commands.proofs.readers.read_file.Goals as goal
 
-pub returns-in-Ok-AtPlaces : goal.returns-in-Ok-AtPlaces
-returns-in-Ok-AtPlaces g c =
-    let dump = c.args.dump.now in
-    let d = g.D.Disk.files c.args.disk.now in
-    let h = rw (c.in-Ok.ensures.dump, c.in-Ok-AtPlaces.field-0-is) at c.in-Ok-AtPlaces.ensures.opened in
-    let work = c.answer-work.ensures in
-    told_at_places d dump c.args.image.now (g.C.Reading.answers c.args.command.now) c.in-Ok-AtPlaces.file.geometry h.0
-    c.answer-work.result _ _ _ c.told.result h.1 h.2 h.3 (keeps_promise _ _ _ c.answer-work.new.source.told) work.known work.answer
-    c.told.ensures
-
-pub returns-in-Ok-Whole : goal.returns-in-Ok-Whole
-returns-in-Ok-Whole g c =
-    let dump = c.args.dump.now in
-    let d = g.D.Disk.files c.args.disk.now in
-    let h = rw (c.in-Ok.ensures.dump, c.in-Ok-Whole.field-0-is) at c.in-Ok-Whole.ensures.opened in
-    let work = c.answer-in-Ok-Whole.ensures in
-    told_by_bytes d dump c.args.image.now (g.C.Reading.answers c.args.command.now) c.in-Ok-Whole.file.geometry h.0
-    c.answer-in-Ok-Whole.result c.in-Ok-Whole.file.bytes.items _ _ c.told-in-Ok-Whole.result h.1 h.2 h.3
-    (c.new-source.ensures ∙ c.as_slice.ensures.value) work.narrows work.known work.answer c.told-in-Ok-Whole.ensures
+pub returns-in-Ok : goal.returns-in-Ok
+returns-in-Ok g c =
+    IfOk-weaker c.read_dump.result _ _ (λ o h. of_dump c.in-Ok.known.dump c.in-Ok.ensures.dump h) c.read_dump.ensures
 
 pub returns-in-Err : goal.returns-in-Err
 returns-in-Err g c =
-    IfOk-weaker c.answer.result _ _ (λ o h. no_file (unreadable h))
-    (told _ c.in-Err.unread c.answer.result (c.in-Err.ensures.broken c.args.image.now) c.answer.ensures)
-
-pub returns : goal.returns
-returns g c =
-    IfOk-weaker c.answer-in-Err-open_image.result _ _ (λ o h. no_file h)
-    (told _ c.in-Err-open_image.unread c.answer-in-Err-open_image.result
-    (rw c.in-Ok.ensures.dump at c.in-Err-open_image.ensures.unread) c.answer-in-Err-open_image.ensures)
+    IfOk-weaker c.answer.result _ _ (λ o h. untold h (λ path. refl))
+    (told _ c.in-Err.unread c.answer.result c.in-Err.ensures.untold c.answer.ensures)

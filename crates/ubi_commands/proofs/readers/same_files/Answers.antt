@@ -1,44 +1,30 @@
-use Rattle.std.proofs.Common.{◌∙◌, refl}
+use Rattle.std.proofs.Common.{◌∙◌, sym, true≢false}
 use Rattle.std.proofs.lemmas.Result.{IfOk-weaker}
-use Rattle.ubi_scan.specs.Promised.{keeps_promise}
-use Rattle.ubi_commands.specs.Numbers.{sizes_of}
-use Rattle.ubi_commands.specs.Program.{OfFile, no_file, unreadable}
-use Rattle.ubi_commands.specs.Same.{ComparesOf}
-use Rattle.ubi_commands.proofs.Ended.{at_places, by_bytes}
+use Rattle.ubi_commands.specs.Program.{alike, no_left, no_right, unlike}
 use Rattle.ubi_commands.proofs.Outcomes.{told}
 use Rattle.ubi_commands.proofs.readers.same_files.Goals as goal
 
 pub returns-in-Err : goal.returns-in-Err
 returns-in-Err g c =
-    IfOk-weaker c.answer.result _ _ (λ o h. no_file (unreadable h))
-    (told _ c.in-Err.unread c.answer.result (c.in-Err.ensures.broken c.args.left.now) c.answer.ensures)
+    IfOk-weaker c.answer.result _ _ (λ o h. no_left h)
+    (told _ c.in-Err.unread c.answer.result c.in-Err.ensures.untold c.answer.ensures)
+
+pub returns-in-Err-find_dump : goal.returns-in-Err-find_dump
+returns-in-Err-find_dump g c =
+    IfOk-weaker c.answer-in-Err-find_dump.result _ _ (λ o h. no_right c.in-Ok.known.dump c.in-Ok.ensures.dump h)
+    (told _ c.in-Err-find_dump.unread c.answer-in-Err-find_dump.result c.in-Err-find_dump.ensures.untold
+    c.answer-in-Err-find_dump.ensures)
+
+pub returns-then-not-are_alike : goal.returns-then-not-are_alike
+returns-then-not-are_alike g c =
+    IfOk-weaker c.unlike.result _ _
+    (λ o h. unlike c.in-Ok.known.dump c.in-Ok-find_dump.known.dump c.in-Ok.ensures.dump c.in-Ok-find_dump.ensures.dump
+    (λ is. true≢false (sym (c.are_alike.ensures.1 is) ∙ c.if-not-are_alike.true)) h)
+    c.unlike.ensures
 
 pub returns : goal.returns
 returns g c =
-    IfOk-weaker c.answer-in-Err-open_image.result _ _ (λ o h. no_file h)
-    (told _ c.in-Err-open_image.unread c.answer-in-Err-open_image.result
-    (rw c.in-Ok.ensures.dump at c.in-Err-open_image.ensures.unread) c.answer-in-Err-open_image.ensures)
-
-pub returns-in-Ok-AtPlaces : goal.returns-in-Ok-AtPlaces
-returns-in-Ok-AtPlaces g c =
-    let dump = c.args.dump.now in
-    let d = g.D.Disk.files c.args.disk.now in
-    let h = rw (c.in-Ok.ensures.dump, c.in-Ok-AtPlaces.field-0-is) at c.in-Ok-AtPlaces.ensures.opened in
-    IfOk-weaker c.same_beside.result _ _
-    (λ o work. at_places d dump c.args.left.now
-    (λ s k here. OfFile d dump c.args.right.now (λ t l there. ComparesOf t k here l there))
-    (sizes_of dump.numbers) refl _ _ _ o h.1 h.2 h.3 (keeps_promise _ _ _ c.same_beside.new.source.told) work)
-    (rw c.in-Ok.ensures.dump at c.same_beside.ensures.answer)
-
-pub returns-in-Ok-Whole : goal.returns-in-Ok-Whole
-returns-in-Ok-Whole g c =
-    let dump = c.args.dump.now in
-    let d = g.D.Disk.files c.args.disk.now in
-    let h = rw (c.in-Ok.ensures.dump, c.in-Ok-Whole.field-0-is) at c.in-Ok-Whole.ensures.opened in
-    IfOk-weaker c.same_beside-in-Ok-Whole.result _ _
-    (λ o work. by_bytes d dump c.args.left.now
-    (λ s k here. OfFile d dump c.args.right.now (λ t l there. ComparesOf t k here l there))
-    (sizes_of dump.numbers) refl
-    c.in-Ok-Whole.file.bytes.items _ _ o h.1 h.2 h.3 (c.new-source.ensures ∙ c.as_slice.ensures.value)
-    c.same_beside-in-Ok-Whole.ensures.narrows work)
-    (rw c.in-Ok.ensures.dump at c.same_beside-in-Ok-Whole.ensures.answer)
+    IfOk-weaker c.same_dumps.result _ _
+    (λ o h. alike c.in-Ok.known.dump c.in-Ok-find_dump.known.dump c.in-Ok.ensures.dump c.in-Ok-find_dump.ensures.dump
+    (c.are_alike.ensures.0 c.if-not-are_alike.false) h)
+    c.same_dumps.ensures

@@ -1,8 +1,8 @@
 use Rattle.std.proofs.Common.{refl}
 use Rattle.ubi_commands.specs.inner.CommandLine.{words_in}
-use Rattle.ubi_commands.proofs.Lacking.{no_dump}
+use Rattle.ubi_commands.proofs.Lacking.{no_asked}
 use Rattle.ubi_commands.proofs.requests.check_of.Goals as goal
 
-pub returns-in_err-dump_of : goal.returns-in_err-dump_of
-returns-in_err-dump_of c =
-    rw c.from_residual.ensures (no_dump _ refl refl refl (words_in c.args.matches.now) c.in_err-dump_of.ensures)
+pub returns-in_err-asked_of : goal.returns-in_err-asked_of
+returns-in_err-asked_of c =
+    rw c.from_residual.ensures (no_asked _ refl (words_in c.args.matches.now) c.in_err-asked_of.ensures)

@@ -1,0 +1,79 @@
+-- Where what is told of a file lies in it.
+use Rattle.std.proofs.Common.{◌≡◌, ℕ, ◌+◌, ◌-◌, ◌*◌, ◌/◌, ◌≤◌, Bool, List, [], ◌∷◌, ap, arith, inl, inr, length, refl}
+use Rattle.std.proofs.Math.Nat.{mod-add-div', mul-le-mul_right}
+use Rattle.std.proofs.lemmas.List.FromFn.{length-range_with_len}
+use Rattle.std.proofs.lemmas.List.Sums.{prefix_len-le-length}
+use Rattle.std.specs.List.{range_with_len}
+use Rattle.std.specs.Prelude.{Contains, map}
+use Rattle.ubi_scan.specs.Detected.{AreDetected, IsFound}
+use Rattle.ubi_scan.specs.Heads.{first_place, heads_of, places}
+use Rattle.ubi_scan.specs.Place.{blanks_behind, end_of_image, end_of_last, run, start_of_image, told_by, told_ways}
+use Rattle.ubi_scan.specs.Source.{holds}
+use Rattle.ubi_scan.specs.declared.detect.Detected.{Detected}
+use Rattle.ubi_scan.specs.declared.groups.Group.{Group}
+use Rattle.ubi_scan.specs.declared.way.Way.{Way}
+use Rattle.ubi_scan.proofs.OnGrid.{each_on_grid}
+use Rattle.ubi_commands.specs.Program.{IsToldFirst}
+
+-- the first of some places is one of them
+contains_first : (ps : List ℕ) → 1 ≤ length ps → Contains ps (first_place ps)
+contains_first [] some = absurd (omega (arith, some))
+contains_first (p ∷ ps) some = (0, some, refl)
+
+-- the image of a file lies in it
+pub found_inside : (bytes : List ℕ) (g : Group) → IsFound bytes g → (g.first ≤ end_of_last g) × (end_of_last g ≤ length bytes) × (1 ≤ g.size)
+found_inside bytes g (inl plain) =
+    let is = plain.plain in
+    let first = is.first in
+    let last = is.last in
+    let from = is.from in
+    (omega (arith, first), omega (arith, last), from)
+found_inside bytes g (inr (whole, sure)) =
+    let group = whole.image.says.group in
+    let two = whole.image.says.two in
+    let count = group.count in
+    let has = contains_first (places (heads_of bytes) g.key) (omega (arith, two, count)) in
+    let on = each_on_grid bytes whole.index (first_place (places (heads_of bytes) g.key)) g whole.image has in
+    let low = on.0 in
+    let high = on.1 in
+    (omega (arith, low, high), whole.whole, whole.image.says.from)
+
+run_most : (t : ℕ → Bool) (n : ℕ) → run t n ≤ n
+run_most t n =
+    let e = prefix_len-le-length t (range_with_len 0 n) in
+    let f = length-range_with_len 0 n in
+    omega (arith, e, f)
+
+-- and so do the blank eraseblocks behind it
+end_inside : (bytes : List ℕ) (g : Group) → end_of_last g ≤ length bytes → end_of_image bytes g ≤ length bytes
+end_inside bytes g inside =
+    let room = length bytes - end_of_last g in
+    let few : blanks_behind bytes g * g.size ≤ room / g.size * g.size = mul-le-mul_right g.size (run_most _ (room / g.size)) in
+    let parts = mod-add-div' room g.size in
+    omega (arith, few, parts, inside)
+
+-- the first of what is told of an image is told of its place
+head_placed : (start end : ℕ) (ways : List Way) (t : Detected) (others : List Detected) → t ∷ others ≡ map (told_by start end) ways
+    → (t.start ≡ start) × (t.length ≡ end - start)
+head_placed start end [] t others is = absurd (cc)
+head_placed start end (w ∷ ws) t others is =
+    let same : t ≡ told_by start end w = head_eq is in
+    (ap (λ (d : Detected). d.start) same, ap (λ (d : Detected). d.length) same)
+  where
+    head_eq : t ∷ others ≡ told_by start end w ∷ map (told_by start end) ws → t ≡ told_by start end w
+    head_eq e = cc
+
+-- what is told first of some bytes lies in them
+pub told_inside : (bytes : List ℕ) (t : Detected) → IsToldFirst (holds bytes) t → t.start + t.length ≤ length bytes
+told_inside bytes t (others, are) =
+    let is : AreDetected bytes (t ∷ others) = are bytes refl in
+    let g = is.group in
+    let place = found_inside bytes g is.is in
+    let order = place.0 in
+    let behind = end_inside bytes g place.1 in
+    let last = place.1 in
+    let head = head_placed (start_of_image bytes g) (end_of_image bytes g) (told_ways bytes g) t others is.are in
+    let start = head.0 in
+    let count = head.1 in
+    let low : start_of_image bytes g ≤ g.first = omega arith in
+    omega (arith, order, behind, last, start, count, low)

@@ -1,0 +1,5 @@
+use Rattle.ubi_commands.specs.Program.{given}
+use Rattle.ubi_commands.proofs.finding.find_dump.Goals as goal
+
+pub returns-in-Given-clause-dump : goal.returns-in-Given-clause-dump
+returns-in-Given-clause-dump g c = rw (c.in-Given.is, c.given.ensures.dump) given

@@ -1,0 +1,8 @@
+use Rattle.std.proofs.Common.{◌∙◌}
+use Rattle.clap.specs.Matches.{found_of}
+use Rattle.ubi_commands.proofs.CommandWords.{is_given}
+use Rattle.ubi_commands.proofs.requests.gives.Goals as goal
+
+pub returns : goal.returns
+returns c =
+    c.is_some.ensures ∙ is_given (found_of c.args.matches.now) c.args.name.now c.get_str.result c.get_str.ensures

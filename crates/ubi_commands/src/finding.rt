@@ -1,0 +1,279 @@
+//! How a dump is read: as the words tell, or, where they give no geometry, as its own headers do.
+
+ghost use Rattle.std.specs.Option.{ForSome, IsSomeAnd};
+ghost use Rattle.std.specs.Prelude.{◌≡◌, ◌≢◌, ◌+◌, ◌^◌, ◌≤◌, ◌⊎◌, IfErr, IfOk, IfSome, IsOkAnd, None, [], codes, drop, length, take, true};
+ghost use Rattle.ubi_scan.specs.Source.{Narrows, holds, memory};
+ghost use Rattle.ubi_scan.specs.declared.detect.Detected.{Detected};
+ghost use Rattle.ubi_commands.specs.Answer.{Gives, says};
+ghost use Rattle.ubi_commands.specs.Dump.{IsPartOf, greatest_dump, misfit_of, seen, told_dump};
+ghost use Rattle.ubi_commands.specs.Lines.{file_line, undetected_side_line};
+ghost use Rattle.ubi_commands.specs.Opened.{IsAtPlaces, IsOpened, IsUnreadOf, WhereAtPlaces};
+ghost use Rattle.ubi_commands.specs.Program.{IsDump, IsToldFirst, IsUnseen, IsUntold, Tells, TellsNothing};
+ghost use Rattle.ubi_commands.specs.declared.requests.Asked.TheVariants as asked;
+ghost use Rattle.ubi_commands.specs.inner.Ended.{Works};
+
+use crate::disk::Disk;
+use crate::image_file::{ImageFile, Unread, unread_file};
+use crate::lines::undetected_side_line;
+use crate::numbers::Numbers;
+use crate::open_image::{DumpSource, Frame, OpenImage, Seen, frame_of, open_beside, open_image};
+use crate::outcome::{FAILED, Outcome, ToolError};
+use crate::requests::{Asked, Dump, Paths, Sought};
+use crate::view::FilePart;
+use crate::whole_dump::see_kept;
+use std::alloc::{AllocError, Global};
+use ubi_scan::{
+    BlockSource, DetectError, Detected, MemorySource, PlacedFile, Undetected, detect_from,
+};
+
+/// A dump of which it is known how it is read.
+#[derive(Drop)]
+pub struct KnownDump<'a> {
+    /// The dump.
+    pub dump: Dump<'a>,
+    /// The bytes of its part of the file, where that can't be read at places and was read whole to find how the dump is read.
+    pub kept: Option<Vec<u8>>,
+}
+
+impl<'a> KnownDump<'a> {
+    /// A dump that is read as the words tell.
+    pub fn given(dump: Dump<'a>) -> KnownDump<'a>
+        ensures dump { result.dump ≡ dump.entry }
+        ensures kept { result.kept ≡ None }
+    {
+        KnownDump { dump, kept: None }
+    }
+}
+
+impl<'a> Sought<'a> {
+    /// The dump, as its headers tell. None where its place can't be counted.
+    fn told(&self, told: &Detected) -> Option<Dump<'a>>
+        ensures dump { IfSome result (λ dump. dump ≡ told_dump self.now told.now) }
+        ensures none { result ≡ None → 2 ^ 64 ≤ self.now.part.start + told.now.start }
+    {
+        let part = FilePart {
+            start: self.part.start.checked_add(told.start)?,
+            length: Some(told.length),
+        };
+        Some(Dump {
+            numbers: Numbers {
+                pebs: self.pebs,
+                ..Numbers::of(&told.geometry)
+            },
+            part,
+            oob: told.oob,
+            bad: self.bad,
+        })
+    }
+}
+
+/// What is told of a file whose headers tell nothing: the line of the cause, behind a side; or that memory ran out.
+fn undetected(alloc: Global, side: &str, cause: Undetected) -> Unread
+    ensures { Tells (λ o. Gives o (says (undetected_side_line side.now cause) 1)) result }
+{
+    match undetected_side_line(alloc, side, cause) {
+        Ok(line) => Unread::Told(Outcome::saying(line, FAILED)),
+        Err(AllocError) => Unread::Memory,
+    }
+}
+
+/// What the headers of a source tell first.
+///
+/// # Errors
+///
+/// The line of the file, where a read failed; that of the cause for which they tell nothing, behind a side; or that memory ran out.
+fn first_told<S: BlockSource>(
+    alloc: Global,
+    source: &mut S,
+    path: &str,
+    side: &str,
+) -> Result<Detected, Unread>
+    ensures narrows { Narrows (S.agrees source.old) (S.agrees source.new) }
+    ensures known { IfOk result (λ _. S.known source.new ≡ S.known source.old) }
+    ensures first { IfOk result (λ told. IsToldFirst (S.agrees source.new) told) }
+    ensures nothing { IfErr result (Tells (Works (S.known source.old) (S.known source.new) path.now (TellsNothing side.now (S.known source.old) (S.agrees source.new)))) }
+{
+    match detect_from(alloc, source) {
+        Ok(found) => Ok(found[0]),
+        Err(DetectError::Undetected(cause)) => Err(undetected(alloc, side, cause)),
+        Err(DetectError::Read(_)) => Err(unread_file(alloc, path, ToolError::Read)),
+        Err(DetectError::Memory) => Err(Unread::Memory),
+    }
+}
+
+/// The dump of a file, as its headers tell.
+///
+/// # Errors
+///
+/// The line of a file that can't be read, or that memory ran out.
+fn dump_told<'a>(
+    alloc: Global,
+    sought: &Sought<'a>,
+    told: &Detected,
+    path: &str,
+) -> Result<Dump<'a>, Unread>
+    ensures dump { IfOk result (λ dump. dump ≡ told_dump sought.now told.now) }
+    ensures unread { IfErr result (Tells (λ o. Gives o (says (file_line (codes "cannot read ") path.now) 1))) }
+{
+    match sought.told(told) {
+        Some(dump) => Ok(dump),
+        // No file has more bytes than can be counted.
+        None => Err(unread_file(alloc, path, ToolError::Read)),
+    }
+}
+
+/// Keeps of bytes a part.
+fn keep_part(bytes: &mut Vec<u8>, start: u64, length: u64)
+    ensures { bytes.new.items ≡ take length (drop start bytes.old.items) }
+{
+    let len = bytes.len() as u64;
+    let start = start.min(len);
+    let count = length.min(len - start) as usize;
+    let start = start as usize;
+    bytes.as_mut_slice().copy_within(start..start + count, 0);
+    bytes.truncate(count);
+}
+
+/// How a dump is read that is read at places, as the headers of the source tell first.
+///
+/// # Errors
+///
+/// The line of the file, where a read failed; that of the cause for which they tell nothing, behind a side; or that memory ran out.
+fn seek_at_places<'a, S: BlockSource>(
+    alloc: Global,
+    sought: &Sought<'a>,
+    source: &mut S,
+    path: &str,
+    side: &str,
+) -> Result<KnownDump<'a>, Unread>
+    ensures narrows { Narrows (S.agrees source.old) (S.agrees source.new) }
+    ensures known { IfOk result (λ _. S.known source.new ≡ S.known source.old) }
+    ensures told { IfOk result (λ known. (told : Detected) × IsToldFirst (S.agrees source.new) told × (known.dump ≡ told_dump sought.now told)) }
+    ensures kept { IfOk result (λ known. known.kept ≡ None) }
+    ensures nothing { IfErr result (Tells (λ o. Works (S.known source.old) (S.known source.new) path.now (TellsNothing side.now (S.known source.old) (S.agrees source.new)) o ⊎ Gives o (says (file_line (codes "cannot read ") path.now) 1))) }
+{
+    let told = first_told(alloc, source, path, side)?;
+    Ok(KnownDump::given(dump_told(alloc, sought, &told, path)?))
+}
+
+/// How a dump is read of whose file the part in which its headers are looked for was read whole.
+///
+/// # Errors
+///
+/// Those of [`seek_at_places`].
+fn seek_whole<'a>(
+    alloc: Global,
+    sought: &Sought<'a>,
+    file: ImageFile,
+    path: &str,
+    side: &str,
+) -> Result<KnownDump<'a>, Unread>
+    ensures told { IfOk result (λ known. (told : Detected) × IsToldFirst (holds file.bytes.items) told × (known.dump ≡ told_dump sought.now told) × IsSomeAnd known.kept (λ bytes. bytes.items ≡ take told.length (drop told.start file.bytes.items))) }
+    ensures nothing { IfErr result (Tells (λ o. TellsNothing side.now (memory file.bytes.items) (holds file.bytes.items) o ⊎ Gives o (says (file_line (codes "cannot read ") path.now) 1))) }
+{
+    let mut bytes = file.bytes;
+    let told = first_told(alloc, &mut MemorySource::new(bytes.as_slice()), path, side)?;
+    let dump = dump_told(alloc, sought, &told, path)?;
+    keep_part(&mut bytes, told.start, told.length);
+    Ok(KnownDump {
+        dump,
+        kept: Some(bytes),
+    })
+}
+
+/// How a dump is read of which the words give no geometry: as its headers tell first.
+///
+/// # Errors
+///
+/// The line of a file that can't be read, or that hasn't the part in which they are looked for; that of the cause for which they tell
+/// nothing, behind a side; or that memory ran out.
+fn seek_dump<'a, D: Disk>(
+    disk: &D,
+    alloc: Global,
+    sought: &Sought<'a>,
+    path: &str,
+    side: &str,
+) -> Result<KnownDump<'a>, Unread>
+    ensures dump { IfOk result (λ known. IsDump (D.files disk.now) path.now (asked.Sought sought.now) known.dump) }
+    ensures kept { IfOk result (λ known. ForSome known.kept (λ bytes. IsPartOf (D.files disk.now) known.dump path.now bytes.items)) }
+    ensures opens { D.opens disk.now path.now ≡ true → IfSome ((D.files disk.now).holds path.now) (λ all. all ≢ [] → misfit_of (greatest_dump sought.now.part) (length all) ≡ None → IfOk result (λ known. known.kept ≡ None)) }
+    ensures untold { IfErr result (Tells (IsUntold (D.files disk.now) path.now side.now (asked.Sought sought.now))) }
+{
+    let frame = frame_of(alloc, &Dump::greatest(sought.part))?;
+    match open_image(disk, alloc, &frame, path)? {
+        OpenImage::AtPlaces(mut file) => {
+            seek_at_places(alloc, sought, &mut file.source, path, side)
+        }
+        OpenImage::Whole(file) => seek_whole(alloc, sought, file, path, side),
+    }
+}
+
+/// How a dump is read: as the words tell, or, where they give no geometry, as its headers tell first.
+///
+/// # Errors
+///
+/// Where the words give no geometry: the line of a file that can't be read, or that hasn't the part in which its headers are looked
+/// for; that of the cause for which they tell nothing, behind a side; or that memory ran out.
+pub fn find_dump<'a, D: Disk>(
+    disk: &D,
+    alloc: Global,
+    asked: &Asked<'a>,
+    path: &str,
+    side: &str,
+) -> Result<KnownDump<'a>, Unread>
+    ensures dump { IfOk result (λ known. IsDump (D.files disk.now) path.now asked.now known.dump) }
+    ensures kept { IfOk result (λ known. ForSome known.kept (λ bytes. IsPartOf (D.files disk.now) known.dump path.now bytes.items)) }
+    ensures untold { IfErr result (Tells (IsUntold (D.files disk.now) path.now side.now asked.now)) }
+{
+    match asked {
+        Asked::Given(dump) => Ok(KnownDump::given(*dump)),
+        Asked::Sought(sought) => seek_dump(disk, alloc, sought, path, side),
+    }
+}
+
+/// Opens the image of a path, as [`open_image`] does. What is kept of its part isn't read again.
+///
+/// # Errors
+///
+/// Those of [`open_image`].
+pub fn open_known<'f, D: Disk>(
+    disk: &D,
+    alloc: Global,
+    frame: &'f Frame<'_>,
+    kept: Option<Vec<u8>>,
+    path: &str,
+) -> Result<OpenImage<DumpSource<'f, D::Placed>>, Unread>
+    requires kept { ForSome kept (λ bytes. IsPartOf (D.files disk.now) frame.now.dump path.now bytes.items) }
+    ensures opened { IfOk result (IsOpened (λ s. IsUnreadOf (seen frame.now.dump (D.files disk.now)) path.now (⟦<Seen<'static, D::Placed> as PlacedFile>⟧.bytes s.file) s.failures) (D.files disk.now) path.now frame.now.dump) }
+    ensures opens { kept ≡ None → D.opens disk.now path.now ≡ true → IfSome ((D.files disk.now).holds path.now) (λ all. all ≢ [] → misfit_of frame.now.dump (length all) ≡ None → IsOkAnd result IsAtPlaces) }
+    ensures unread { IfErr result (Tells (IsUnseen (D.files disk.now) frame.now.dump path.now)) }
+{
+    match kept {
+        Some(bytes) => Ok(OpenImage::Whole(see_kept(alloc, frame, bytes, path)?)),
+        None => open_image(disk, alloc, frame, path),
+    }
+}
+
+/// Opens the image of a path, as [`open_beside`] does. What is kept of its part isn't read again.
+///
+/// # Errors
+///
+/// Those of [`open_image`].
+pub fn open_known_beside<'f, D: Disk>(
+    disk: &D,
+    alloc: Global,
+    frame: &'f Frame<'_>,
+    kept: Option<Vec<u8>>,
+    paths: &Paths<'_>,
+) -> Result<OpenImage<DumpSource<'f, D::Placed>>, Unread>
+    requires kept { ForSome kept (λ bytes. IsPartOf (D.files disk.now) frame.now.dump paths.now.image.now bytes.items) }
+    ensures opened { IfOk result (IsOpened (λ s. IsUnreadOf (seen frame.now.dump (D.files disk.now)) paths.now.image.now (⟦<Seen<'static, D::Placed> as PlacedFile>⟧.bytes s.file) s.failures) (D.files disk.now) paths.now.image.now frame.now.dump) }
+    ensures apart { IfOk result (WhereAtPlaces (paths.now.image.now ≢ paths.now.out.now)) }
+    ensures opens { kept ≡ None → D.opens disk.now paths.now.image.now ≡ true → paths.now.image.now ≢ paths.now.out.now → IfSome ((D.files disk.now).holds paths.now.image.now) (λ all. all ≢ [] → misfit_of frame.now.dump (length all) ≡ None → IsOkAnd result IsAtPlaces) }
+    ensures unread { IfErr result (Tells (IsUnseen (D.files disk.now) frame.now.dump paths.now.image.now)) }
+{
+    match kept {
+        Some(bytes) => Ok(OpenImage::Whole(see_kept(alloc, frame, bytes, paths.image)?)),
+        None => open_beside(disk, alloc, frame, paths.image, paths.out),
+    }
+}
