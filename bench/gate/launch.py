@@ -51,9 +51,11 @@ CASES = [
 ]
 
 
-def run(program, words, stdin=subprocess.DEVNULL, **more):
-    """What a run ends with: the status and both outputs."""
-    done = subprocess.run([program, *words], stdin=stdin, stdout=subprocess.PIPE, stderr=subprocess.PIPE, check=False, **more)
+def run(program, words, **more):
+    """What a run ends with: the status and both outputs. Nothing comes on standard input, unless some is given."""
+    if not {'stdin', 'input'} & more.keys():
+        more['stdin'] = subprocess.DEVNULL
+    done = subprocess.run([program, *words], stdout=subprocess.PIPE, stderr=subprocess.PIPE, check=False, **more)
     return done.returncode, done.stdout, done.stderr
 
 
@@ -126,6 +128,10 @@ def launched(tool, folder):
     with open(IMAGE, 'rb') as image:
         came = run(folder / 'link', ['list', '/dev/stdin', *SMALL], stdin=image)
     yield f'of standard input: {came}'[:300], fits(came, 0, b'geometry peb=512 ', b'')
+    # A pipe gives its bytes once: it is read once, to find the geometry and to answer.
+    for words in (SMALL, []):
+        came = run(folder / 'link', ['list', '/dev/stdin', *words], input=IMAGE.read_bytes())
+        yield f'of a pipe {words}: {came}'[:300], fits(came, 0, b'geometry peb=512 ', b'')
 
 
 def house(folder):

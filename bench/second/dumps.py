@@ -679,6 +679,14 @@ def back_to_back(rng, image):
         for k, number in zip(range(rng.randrange(2, 600)), range(1, 10**9))))
 
 
+def many_keys(rng, image):
+    """An image, and beside it headers of so many other numbers that there are 256 keys, which are the most, or one less or more."""
+    file = whole(*with_number(rng, *image(SIZES)))
+    others = [rules.put_ec(Geometry(0, 0, 64, 128, 0), 1, number) for number in range(1, rng.choice((255, 256, 256, 257)))]
+    before = rng.choice((0, len(others), rng.randrange(len(others))))
+    return file.around(b"".join(others[:before]), b"".join(others[before:]))
+
+
 def three_offsets(rng, image):
     """Headers with three pairs of offsets at random places."""
     raw = bytearray(junk(rng, 64 * rng.randrange(8, 1000)))
@@ -946,6 +954,7 @@ KINDS = {
     "stray headers alone": stray_alone,
     "headers back to back": back_to_back,
     "headers with three offsets": three_offsets,
+    "headers of 256 keys, one less or more": many_keys,
     "offsets of no page": no_page,
     "headers at the end": at_the_end,
     "wrong checks, versions and counters": other_checks,

@@ -14,8 +14,8 @@ from rules import LAYOUT, RECORD, Geometry, Refused, is_blank, read_ec
 MAGIC, VID_MAGIC = b"UBI#", b"UBI!"
 # Headers stand at multiples of so many bytes, and have as many.
 STEP = 64
-# The most bytes of an eraseblock, and the most eraseblocks of a device.
-TOP_SIZE, TOP_PEBS = 2**24, 2**20
+# The most bytes of an eraseblock, the most eraseblocks of a device, and the most keys that headers may name.
+TOP_SIZE, TOP_PEBS, TOP_KEYS = 2**24, 2**20, 256
 PAGES = [2**k for k in range(6, 17)]
 PAGES_WITH_MORE = [page for page in PAGES if page >= 256]
 # How many pages with out-of-band bytes an eraseblock may have.
@@ -23,7 +23,7 @@ COUNTS = [2**k for k in range(4, 12)]
 
 
 class NoSize(Refused):
-    """Why no size can be told: no group says one, or it isn't sure, as `why` says in a word."""
+    """Why no size can be told: headers name too many keys, no group says one, or it isn't sure, as `why` says in a word."""
 
     def __init__(self, why):
         super().__init__("F2 NoSize")
@@ -182,10 +182,16 @@ def ends_blank(file, group, q):
     return any(is_blank(file[start + q - oob - 16 : start + q - oob]) for start in group.places for oob in more)
 
 
-def is_filled(file, at):
-    """Whether something stands there: 64 bytes that are neither all 0xFF nor all zero."""
-    raw = file[at : at + 64]
+def is_filled(file, at, count=64):
+    """Whether something stands there: so many bytes that are neither all 0xFF nor all zero."""
+    raw = file[at : at + count]
     return not is_blank(raw) and any(raw)
+
+
+def goes_on(file, at, part):
+    """Whether what an eraseblock holds goes on there, where a part begins: something stands in 192 bytes, or in all of a shorter part, and not
+    behind 16 bytes 0xFF."""
+    return is_filled(file, at, min(part, 192)) and not is_blank(file[at - 16 : at])
 
 
 def holds_tables(file, group, q):
@@ -219,8 +225,9 @@ def parts(q, offsets):
 
 def could_be(file, group, q, part):
     """Whether a part of q could be the size."""
-    filled = [at for start in group.places[:-1] for at in range(start + part, start + q, part) if is_filled(file, at)]
-    return not filled or any(is_blank(file[at - 16 : at]) for at in filled)
+    places = [at for start in group.places[:-1] for at in range(start + part, start + q, part)]
+    goes = any(goes_on(file, at, part) for at in places)
+    return not goes or any(is_filled(file, at) and is_blank(file[at - 16 : at]) for at in places)
 
 
 def doubt(file, group, q):
@@ -271,6 +278,8 @@ def image_of(file):
     plain = plain_image(file, found)
     if plain:
         return plain
+    if len({(header.offsets, header.number) for header in found}) > TOP_KEYS:
+        raise NoSize("keys")
     # Of several that speak for as many bytes `max` gives the first.
     group = max(groups(found), key=lambda group: group.speaks_for, default=None)
     if group is None:

@@ -56,18 +56,16 @@ class View:
         words += ['--length', str(self.length)] if self.length is not None else []
         return words + (['--oob', str(self.oob)] if self.oob else [])
 
-    def read(self, file, is_pipe, device):
-        """How many bytes of a file are there, as far as they are read."""
-        if not is_pipe:
-            return len(file)
-        most = (device // PAGE + 1) * (PAGE + self.oob)
-        return min(len(file), self.start + (most if self.length is None else min(self.length, most)))
-
-    def refusal(self, count):
-        """The line of a file of so many bytes that can't be seen so; or none."""
-        if count < self.start + (self.length or 0):
+    def refusal(self, file, is_pipe, device):
+        """The line of a file that can't be seen so; or none. Of a pipe no more is read, and looked for, than the device has and a page."""
+        count, length = len(file), self.length
+        if is_pipe:
+            most = (device // PAGE + 1) * (PAGE + self.oob)
+            length = None if length is None else min(length, most)
+            count = min(count, self.start + (most if length is None else length))
+        if count < self.start + (length or 0):
             return f'refused F7 Part bytes={count}\n'
-        rest = (count - self.start if self.length is None else self.length) % (PAGE + self.oob)
+        rest = (count - self.start if length is None else length) % (PAGE + self.oob)
         return f'refused F8 Pages rest={rest}\n' if self.oob and rest else None
 
     def seen(self, file):
@@ -115,7 +113,7 @@ class Case:
         name = '/dev/stdin' if is_pipe else str(raw)
         asked = [word.format(image=name, out=out) for word in words] + numbers + view.words()
         got = run(self.tool, asked, self.file if is_pipe else None)
-        refusal = view.refusal(view.read(self.file, is_pipe, device))
+        refusal = view.refusal(self.file, is_pipe, device)
         if refusal:
             want = (refusal, 1)
         else:

@@ -85,6 +85,16 @@ pub fn with_sizes(alloc: Global, line: &str) -> Result<String, AllocError> {
 /// `new.bin` holds an image; and the bytes that are written.
 pub fn run_over(
     alloc: Global,
+    files: (&[u8], &[u8]),
+    broken: Broken,
+    line: &str,
+) -> Result<(Outcome, Vec<u8>), Fail> {
+    run_own(alloc, files, broken, with_sizes(alloc, line)?.as_str())
+}
+
+/// The same of a line as it is: where it names no geometry, that is found.
+pub fn run_own(
+    alloc: Global,
     (image, new): (&[u8], &[u8]),
     broken: Broken,
     line: &str,
@@ -96,7 +106,7 @@ pub fn run_over(
         broken,
         left: &left,
     };
-    let outcome = run_line(&files, alloc, with_sizes(alloc, line)?.as_str())?;
+    let outcome = run_line(&files, alloc, line)?;
     let (written, opened) = (left.written.into_inner(), left.opened.into_inner());
     if opens_right(line, &outcome, written.is_empty(), opened.as_str()) {
         Ok((outcome, written))

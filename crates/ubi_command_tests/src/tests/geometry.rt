@@ -78,7 +78,7 @@ const THREE_OF_1024: &[(&[u8], usize)] = &[
 ];
 
 /// Files, and what is told of them.
-static TOLD: [(Contents, (&str, u8)); 17] = [
+pub static TOLD: [(Contents, (&str, u8)); 17] = [
     (Contents::Root, (SMALL, 0)),
     (SHARED, ("--peb 1024 --page 256 --vid 64 --data 256\n", 0)),
     // A blank eraseblock before the first header belongs to the image, and one behind the last.

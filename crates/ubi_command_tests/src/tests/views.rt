@@ -281,14 +281,16 @@ fn reads_no_more_than_a_device_has(rt: HostRuntime) -> Result<(), Fail> {
     let line = "check a.img --peb 512 --page 64 --pebs 6 --start 3 --oob 2";
     assert_both(&rt, alloc, files, line, too_many, &[])?;
     let line = "check a.img --peb 512 --page 64 --pebs 6 --start 3 --oob 2 --length 3696";
+    assert_both(&rt, alloc, files, line, too_many, &[])?;
+    // One byte more than the file has: read whole, 49 pages of 66 bytes are read, and no more is looked for.
+    let line = "check a.img --peb 512 --page 64 --pebs 6 --start 3 --oob 2 --length 3762";
     let (answer, _) = run_over(alloc, files, Broken::Nothing, line)?;
-    assert!(rt; is_answer(&answer, too_many), "at places");
-    // 49 pages of 66 bytes, behind 3 bytes.
-    let (answer, _) = run_over(alloc, files, Broken::Places, line)?;
     assert!(rt;
-        is_answer(&answer, ("refused F7 Part bytes=3237\n", 1)),
-        "whole"
+        is_answer(&answer, ("refused F7 Part bytes=3699\n", 1)),
+        "at places"
     );
+    let (answer, _) = run_over(alloc, files, Broken::Places, line)?;
+    assert!(rt; is_answer(&answer, too_many), "whole");
     Ok(())
 }
 

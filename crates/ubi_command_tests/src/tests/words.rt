@@ -41,7 +41,7 @@ fn assert_wrong(rt: &impl Abort, alloc: Global, cases: &[(&str, &str)]) -> Resul
 static NO_COMMAND: [(&str, &str); 25] = [
     ("", "requires a subcommand"),
     ("--help", "Usage: ubi_tool"),
-    ("--help", "ubi_tool list dump.img --peb 131072 --page 2048"),
+    ("--help", "  ubi_tool list dump.img\n"),
     (
         "--help",
         "  geometry   Prints the geometry that the headers of a dump give and where the image lies, as options of the other commands\n",
@@ -78,9 +78,23 @@ fn shows_wrong_commands_and_help(rt: HostRuntime) -> Result<(), Fail> {
 }
 
 /// Lines of which words are missing.
-static MISSING: [(&str, &str); 27] = [
+static MISSING: [(&str, &str); 41] = [
     ("geometry", "<IMAGE>"),
-    ("normalise a --out b --peb 512", "--page <N>"),
+    ("normalise a --out b --peb 512", "are given together"),
+    ("list a --page 64", "are given together"),
+    ("list a --vid 64", "'--vid', '--data' and '--oob'"),
+    ("check a --data 128", "'--vid', '--data' and '--oob'"),
+    ("show a --block 0 --oob 64", "'--vid', '--data' and '--oob'"),
+    ("same a b --vid 64 --page 64", "are given together"),
+    ("extract a --id 0 --out b --page 64", "are given together"),
+    ("unpack a --out b --peb 512 --oob 3", "are given together"),
+    ("extract a --out b", "and not both"),
+    ("list a --bad x", "'--bad <LIST>'"),
+    ("list a --bad x --peb 512", "'--bad <LIST>'"),
+    ("compose a --out b --peb 512", "--page <N>"),
+    ("build a --out b", "--peb <N>"),
+    ("change a --id 0 --lnum 0 --from b --out c", "--peb <N>"),
+    ("rename a --id 0 --name b --out c --peb 512", "--page <N>"),
     ("normalise --out b --peb 512 --page 64", "<IMAGE>"),
     ("normalise a --peb 512 --page 64", "--out <FILE>"),
     ("check --peb 512 --page 64", "<IMAGE>"),
@@ -201,7 +215,7 @@ fn shows_words_that_cannot_be_read(rt: HostRuntime) -> Result<(), Fail> {
 
 /// Lines that are answered before any image is read, with the answers: of the numbers the first limit that they break,
 /// and of what is left out its default. A path that begins with a hyphen follows `--`.
-static ANSWERED: [(&str, &str, u8); 33] = [
+static ANSWERED: [(&str, &str, u8); 37] = [
     ("geometry a", "cannot read a\n", 1),
     ("geometry -- -a", "cannot read -a\n", 1),
     (
@@ -313,6 +327,14 @@ static ANSWERED: [(&str, &str, u8); 33] = [
         1,
     ),
     ("check --peb=512 --page=64 a", "cannot read a\n", 1),
+    ("list a", "cannot read a\n", 1),
+    ("list a --pebs 1", "cannot read a\n", 1),
+    (
+        "unpack a --out b --start 1 --length 2",
+        "cannot read a\n",
+        1,
+    ),
+    ("same a b", "cannot read a\n", 1),
     ("check --page 0064 --peb +512 a", "cannot read a\n", 1),
     ("check --peb 512 --page 64 -- -a", "cannot read -a\n", 1),
 ];

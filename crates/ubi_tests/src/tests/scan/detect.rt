@@ -71,7 +71,7 @@ fn small(part: (u64, u64)) -> Told {
 
 /// Files that are an image of eraseblocks of 1,024 bytes, or hold one, and where it begins, and how many bytes it has. The last record
 /// of the table stands at 816.
-static SMALL: [(Dump<'static>, (u64, u64)); 11] = [
+static SMALL: [(Dump<'static>, (u64, u64)); 12] = [
     // Each eraseblock has a header, and the first two hold the volume table.
     (
         Dump {
@@ -129,6 +129,21 @@ static SMALL: [(Dump<'static>, (u64, u64)); 11] = [
             ],
         },
         (0, 5 * 1024),
+    ),
+    // Headers of 255 other numbers lie before it, so that there are 256.
+    (
+        Dump {
+            len: 16_384 + 4096,
+            fill: 0xFF,
+            rows: &[
+                (0, 64, 255, What::Counted(64, 128)),
+                (16_384, 1024, 4, What::Header(64, 128)),
+                (16_384 + 64, 1, 1, What::Table(0)),
+                (16_384 + 1024 + 64, 1, 1, What::Table(1)),
+                (16_384 + 128, 1024, 2, What::Fill(0, 860)),
+            ],
+        },
+        (16_384, 4096),
     ),
     // A boot loader lies before it.
     (
@@ -358,7 +373,7 @@ fn detects_an_image_of_others(rt: HostRuntime) -> Result<(), Fail> {
 }
 
 /// Files of which nothing is detected, and why.
-static UNDETECTED: [(Dump<'static>, Undetected); 17] = [
+static UNDETECTED: [(Dump<'static>, Undetected); 18] = [
     (
         Dump {
             len: 0,
@@ -506,6 +521,21 @@ static UNDETECTED: [(Dump<'static>, Undetected); 17] = [
         },
         Undetected::NoSize,
     ),
+    // Headers name 257 numbers.
+    (
+        Dump {
+            len: 16_384 + 4096,
+            fill: 0xFF,
+            rows: &[
+                (0, 64, 256, What::Counted(64, 128)),
+                (16_384, 1024, 4, What::Header(64, 128)),
+                (16_384 + 64, 1, 1, What::Table(0)),
+                (16_384 + 1024 + 64, 1, 1, What::Table(1)),
+                (16_384 + 128, 1024, 2, What::Fill(0, 860)),
+            ],
+        },
+        Undetected::NoSize,
+    ),
     // The file is cut off.
     (
         Dump {
@@ -588,8 +618,8 @@ fn error_of(alloc: Global, first: usize, at: u64) -> Result<Option<DetectError>,
 
 /// The reads of a file that begins with a header, by number, and where they begin: those of the first header, of the places up to the
 /// second one and of those up to where a third would be, and of where eraseblocks begin, up to the first that is blank; then all of
-/// it, and the first eraseblock again.
-static READS: [(u64, u64); 12] = [
+/// it, the end of the first eraseblock, and its header again.
+static READS: [(u64, u64); 13] = [
     (1, 0),
     (2, 64),
     (3, 128),
@@ -601,7 +631,8 @@ static READS: [(u64, u64); 12] = [
     (182, 150 * 1024),
     (183, 0),
     (184, 65_536),
-    (187, 0),
+    (187, 1024 - 16),
+    (188, 0),
 ];
 
 /// Those of one whose first eraseblock is blank: the first 64 bytes, and all of it.
@@ -620,6 +651,22 @@ fn tells_the_place_of_the_read_that_failed(rt: HostRuntime) -> Result<(), Fail> 
         let error = error_of(rt.alloc(), first, 1_000_000)?;
         assert!(rt; error == None, "no read, {first}");
     }
+    Ok(())
+}
+
+/// Of 4 MiB of headers of other numbers the first 64 KiB alone are read: the read behind them, which would fail, isn't tried.
+#[test]
+fn stops_at_too_many_numbers(rt: HostRuntime) -> Result<(), Fail> {
+    let dump = Dump {
+        len: 0x0040_0000,
+        fill: 0xFF,
+        rows: &[(64, 64, 65_535, What::Counted(64, 128))],
+    };
+    let bytes = bytes_of(rt.alloc(), &dump)?;
+    let geometry = Geometry::new(1024, 64, 64, 128, 4096)?;
+    let mut source = ProbeSource::new(rt.alloc(), &geometry, bytes.as_slice(), 3)?;
+    let error = detect_from(rt.alloc(), &mut source).err();
+    assert!(rt; error == Some(DetectError::Undetected(Undetected::NoSize)));
     Ok(())
 }
 

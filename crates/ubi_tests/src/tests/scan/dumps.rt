@@ -11,6 +11,8 @@ pub enum What {
     Header(u32, u32),
     /// One that names offsets and another number.
     Numbered(u32, u32, u32),
+    /// One that names offsets, and at each place of its row another number: 10, 11 and so on.
+    Counted(u32, u32),
     /// What a volume-identifier header of the volume 0 begins with.
     Vid,
     /// What one of the volume table begins with, of the copy with this number.
@@ -71,11 +73,17 @@ fn fill(bytes: &mut [u8], at: usize, value: u8, count: usize) {
     }
 }
 
-/// Puts something at a place.
-fn put_what(bytes: &mut [u8], at: usize, what: What) -> Result<(), GeometryError> {
+/// The number of the header at a place of its row.
+fn counted(index: usize) -> u32 {
+    u32::try_from(index).unwrap_or(0).saturating_add(10)
+}
+
+/// Puts something at a place, the next of its row.
+fn put_what(bytes: &mut [u8], at: usize, what: What, index: usize) -> Result<(), GeometryError> {
     match what {
         What::Header(vid, data) => put(bytes, at, &header(vid, data)?),
         What::Numbered(vid, data, seq) => put(bytes, at, &numbered(vid, data, seq)?),
+        What::Counted(vid, data) => put(bytes, at, &numbered(vid, data, counted(index))?),
         What::Vid => put(bytes, at, &VID),
         What::Table(copy) => put(bytes, at, &table_vid(copy)),
         What::Fill(value, count) => fill(bytes, at, value, count),
@@ -89,7 +97,7 @@ pub fn bytes_of(alloc: Global, dump: &Dump<'_>) -> Result<Vec<u8>, Fail> {
     for (from, step, count, what) in dump.rows {
         for index in 0..*count {
             let at = from.saturating_add(step.saturating_mul(index));
-            put_what(bytes.as_mut_slice(), at, *what)?;
+            put_what(bytes.as_mut_slice(), at, *what, index)?;
         }
     }
     Ok(bytes)

@@ -1,0 +1,341 @@
+//! Dumps of which no number is typed: how they are read is found in their own headers.
+
+use super::answers::{is_answer, run_over, run_own};
+use super::contents::Contents;
+use super::fake::Broken;
+use super::geometry::TOLD;
+use super::views::Lay;
+use std::alloc::Global;
+use std::io::ErrorKind;
+use std::process::Abort;
+use std::test::Fail;
+use ubi_commands::Outcome;
+use ubi_probe::chips::PAGES;
+
+/// Where an image of small eraseblocks lies: nothing tells out-of-band bytes of it.
+static SMALL_LAYS: [Lay; 5] = [
+    Lay {
+        before: 0,
+        oob: 0,
+        behind: 0,
+    },
+    Lay {
+        before: 512,
+        oob: 0,
+        behind: 0,
+    },
+    Lay {
+        before: 0,
+        oob: 0,
+        behind: 700,
+    },
+    Lay {
+        before: 64,
+        oob: 0,
+        behind: 1,
+    },
+    Lay {
+        before: 20_032,
+        oob: 0,
+        behind: 20_000,
+    },
+];
+
+/// Lines over a dump that is told, for which as many words are left out as can be.
+static LINES: [&str; 15] = [
+    "list a.img",
+    "check a.img",
+    "check a.img --bad 0,4-9",
+    "show a.img --block 0",
+    "show a.img --block 6",
+    "show a.img --block 7",
+    "show a.img --block 4 --bad 4",
+    "extract a.img --id 0 --out b.img",
+    "extract a.img --name root --out b.img --bad 3",
+    "extract a.img --id 1 --out b.img",
+    "unpack a.img --out made",
+    "normalise a.img --out b.img",
+    "normalise a.img --out b.img --bad 3",
+    "normalise a.img --out a.img",
+    "same a.img a.img",
+];
+
+/// Whether two runs answered and wrote the same.
+fn are_one(answer: &(Outcome, Vec<u8>), other: &(Outcome, Vec<u8>)) -> bool {
+    answer.0.text == other.0.text && answer.0.status == other.0.status && answer.1 == other.1
+}
+
+/// Asserts that a line without a geometry answers and writes of a file, read at places and whole, what it does of the image in it with
+/// the words of its geometry.
+fn assert_found(
+    rt: &impl Abort,
+    alloc: Global,
+    (file, image): (&[u8], &[u8]),
+    line: &str,
+    words: &str,
+) -> Result<(), Fail> {
+    let named = format!(in alloc; "{line} {words} --pebs 32")?;
+    let want = run_over(alloc, (image, &[]), Broken::Nothing, named.as_str())?;
+    let line = format!(in alloc; "{line} --pebs 32")?;
+    for broken in [Broken::Nothing, Broken::Places] {
+        let answer = run_own(alloc, (file, &[]), broken, line.as_str())?;
+        assert!(*rt; are_one(&answer, &want), "of {line}, {broken:?}");
+    }
+    Ok(())
+}
+
+#[test]
+fn finds_an_image_wherever_it_lies(rt: HostRuntime) -> Result<(), Fail> {
+    let alloc = rt.alloc();
+    let image = Contents::Spares.bytes(alloc)?;
+    for lay in &SMALL_LAYS {
+        let file = lay.file(alloc, image.as_slice(), 64)?;
+        let files = (file.as_slice(), image.as_slice());
+        for line in LINES {
+            assert_found(&rt, alloc, files, line, "--peb 512 --page 64")?;
+        }
+    }
+    Ok(())
+}
+
+/// Where a chip's image lies, with out-of-band bytes behind each page or without.
+static CHIP_LAYS: [Lay; 5] = [
+    Lay {
+        before: 0,
+        oob: 0,
+        behind: 0,
+    },
+    Lay {
+        before: 65_536,
+        oob: 0,
+        behind: 5000,
+    },
+    Lay {
+        before: 0,
+        oob: 64,
+        behind: 0,
+    },
+    Lay {
+        before: 0,
+        oob: 128,
+        behind: 0,
+    },
+    Lay {
+        before: 70_400,
+        oob: 64,
+        behind: 70_001,
+    },
+];
+
+/// Lines over a chip's dump.
+static CHIP_LINES: [&str; 5] = [
+    "list a.img",
+    "check a.img --bad 3",
+    "extract a.img --id 0 --out b.img",
+    "normalise a.img --out b.img",
+    "same a.img a.img",
+];
+
+#[test]
+fn finds_a_chip_and_its_out_of_band_bytes(rt: HostRuntime) -> Result<(), Fail> {
+    let alloc = rt.alloc();
+    let image = Contents::Chip(PAGES, 524_288).bytes(alloc)?;
+    for lay in &CHIP_LAYS {
+        let file = lay.file(alloc, image.as_slice(), 2048)?;
+        let files = (file.as_slice(), image.as_slice());
+        for line in CHIP_LINES {
+            assert_found(&rt, alloc, files, line, "--peb 131072 --page 2048")?;
+        }
+    }
+    Ok(())
+}
+
+/// Lines over files that tell nothing, and what stands before the line of the cause.
+static UNTOLD_LINES: [(&str, &str); 8] = [
+    ("list a.img", ""),
+    ("check a.img", ""),
+    ("show a.img --block 0", ""),
+    ("extract a.img --id 0 --out b.img", ""),
+    ("unpack a.img --out made", ""),
+    ("normalise a.img --out b.img", ""),
+    ("same a.img new.bin", "left "),
+    ("same new.bin a.img", "right "),
+];
+
+#[test]
+fn refuses_what_tells_nothing(rt: HostRuntime) -> Result<(), Fail> {
+    let alloc = rt.alloc();
+    let told = Contents::Root.bytes(alloc)?;
+    for (contents, (text, status)) in &TOLD {
+        if *status == 0 {
+            continue;
+        }
+        let file = contents.bytes(alloc)?;
+        for (line, side) in UNTOLD_LINES {
+            let want = format!(in alloc; "{side}{text}")?;
+            for broken in [Broken::Nothing, Broken::Places] {
+                let files = (file.as_slice(), told.as_slice());
+                let (answer, written) = run_own(alloc, files, broken, line)?;
+                let is = is_answer(&answer, (want.as_str(), 1)) && written.is_empty();
+                assert!(rt; is, "of {line}, {want}, {broken:?}");
+            }
+        }
+    }
+    Ok(())
+}
+
+/// Words over the image of small eraseblocks behind 512 bytes, of which 4,096 are there, and what is answered.
+static PARTS: [(&str, (&str, u8)); 12] = [
+    ("check a.img --start 512 --length 3584 --pebs 6", TOO_MANY),
+    ("check a.img --pebs 6", TOO_MANY),
+    ("check a.img --pebs 1", ("refused G6 Pebs\n", 2)),
+    ("check a.img --pebs 1048577", ("refused G6 Pebs\n", 2)),
+    (
+        "check a.img --start 4097",
+        ("refused F7 Part bytes=4096\n", 1),
+    ),
+    (
+        "check a.img --length 4097",
+        ("refused F7 Part bytes=4096\n", 1),
+    ),
+    (
+        "check a.img --start 9223372036854775807",
+        ("refused F7 Part bytes=4096\n", 1),
+    ),
+    ("check a.img --start 4096", ("refused F1 NoHeader\n", 1)),
+    // Headers are looked for at multiples of 64 from the start on.
+    ("check a.img --start 1", ("refused F1 NoHeader\n", 1)),
+    // One header alone, and two whose eraseblocks aren't all there.
+    ("check a.img --length 1024", ("refused F2 NoSize\n", 1)),
+    (
+        "check a.img --length 2000",
+        ("refused F3 Length peb=512 rest=464\n", 1),
+    ),
+    (
+        "same a.img a.img --length 1024",
+        ("left refused F2 NoSize\n", 1),
+    ),
+];
+
+/// More eraseblocks than the device has.
+const TOO_MANY: (&str, u8) = ("refused S2 TooMany\n", 1);
+
+#[test]
+fn looks_in_a_part_alone(rt: HostRuntime) -> Result<(), Fail> {
+    let alloc = rt.alloc();
+    let image = Contents::Spares.bytes(alloc)?;
+    let file = BEHIND_512.file(alloc, image.as_slice(), 64)?;
+    let files = (file.as_slice(), image.as_slice());
+    for (line, answer) in &PARTS {
+        for broken in [Broken::Nothing, Broken::Places] {
+            let (outcome, _) = run_own(alloc, files, broken, line)?;
+            assert!(rt; is_answer(&outcome, *answer), "of {line}, {broken:?}");
+        }
+    }
+    Ok(())
+}
+
+/// Behind a boot loader.
+const BEHIND_512: Lay = Lay {
+    before: 512,
+    oob: 0,
+    behind: 0,
+};
+
+/// Lines over two files, the image of small eraseblocks and that of a chip, and what is answered.
+static PAIRS: [(&str, (&str, u8)); 4] = [
+    (
+        "same a.img new.bin",
+        (
+            "refused F9 Geometries left peb=512 page=64 vid=64 data=128 \
+            right peb=131072 page=2048 vid=2048 data=4096\n",
+            1,
+        ),
+    ),
+    (
+        "same new.bin a.img --pebs 64",
+        (
+            "refused F9 Geometries left peb=131072 page=2048 vid=2048 data=4096 \
+            right peb=512 page=64 vid=64 data=128\n",
+            1,
+        ),
+    ),
+    ("same a.img a.img", ("same\n", 0)),
+    ("same new.bin new.bin", ("same\n", 0)),
+];
+
+#[test]
+fn compares_by_the_geometry_of_each(rt: HostRuntime) -> Result<(), Fail> {
+    let alloc = rt.alloc();
+    let image = Contents::Root.bytes(alloc)?;
+    let chip = Contents::Chip(PAGES, 524_288).bytes(alloc)?;
+    let lay = Lay {
+        before: 640,
+        oob: 64,
+        behind: 3,
+    };
+    let dump = lay.file(alloc, chip.as_slice(), 2048)?;
+    let spares = Contents::Spares.bytes(alloc)?;
+    let other = Contents::Unnamed.bytes(alloc)?;
+    for (line, answer) in &PAIRS {
+        assert_pair(
+            &rt,
+            alloc,
+            (image.as_slice(), dump.as_slice()),
+            line,
+            *answer,
+        )?;
+    }
+    // One that is plain, and one with out-of-band bytes between other bytes.
+    let files = (chip.as_slice(), dump.as_slice());
+    assert_pair(&rt, alloc, files, "same a.img new.bin", ("same\n", 0))?;
+    let moved = BEHIND_512.file(alloc, spares.as_slice(), 64)?;
+    let files = (image.as_slice(), moved.as_slice());
+    assert_pair(&rt, alloc, files, "same a.img new.bin", ("same\n", 0))?;
+    let files = (image.as_slice(), other.as_slice());
+    assert_pair(&rt, alloc, files, "same a.img new.bin", ("different\n", 1))
+}
+
+/// Asserts what a line without a geometry answers over two files, read at places and whole.
+fn assert_pair(
+    rt: &impl Abort,
+    alloc: Global,
+    files: (&[u8], &[u8]),
+    line: &str,
+    answer: (&str, u8),
+) -> Result<(), Fail> {
+    for broken in [Broken::Nothing, Broken::Places] {
+        let (outcome, _) = run_own(alloc, files, broken, line)?;
+        assert!(*rt; is_answer(&outcome, answer), "of {line}, {broken:?}");
+    }
+    Ok(())
+}
+
+/// Reads that fail while the headers are looked for, or behind that; and those that aren't told: one that reads ahead, since what is asked
+/// for is read alone then, and those one after the other of a file that is read at places.
+static FAILURES: [(Broken, bool); 5] = [
+    (Broken::OpenRead, true),
+    (Broken::Read(ErrorKind::Other, 0), true),
+    (Broken::Read(ErrorKind::Other, 3000), true),
+    (Broken::PlacesOnce(ErrorKind::Other, 100), false),
+    (Broken::Whole, false),
+];
+
+#[test]
+fn tells_a_file_that_fails(rt: HostRuntime) -> Result<(), Fail> {
+    let alloc = rt.alloc();
+    let image = Contents::Spares.bytes(alloc)?;
+    for (broken, fails) in FAILURES {
+        for line in [
+            "check a.img",
+            "normalise a.img --out b.img",
+            "same a.img a.img",
+        ] {
+            let files = (image.as_slice(), image.as_slice());
+            let (outcome, _) = run_own(alloc, files, broken, line)?;
+            let is_told = is_answer(&outcome, ("cannot read a.img\n", 1));
+            assert!(rt; is_told == fails, "of {line}, {broken:?}");
+        }
+    }
+    Ok(())
+}
