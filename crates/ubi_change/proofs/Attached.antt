@@ -1,50 +1,15 @@
 -- The plan of an attached image, against which no cause stands, survives every cut.
-use Rattle.std.proofs.Common.{◌≡◌, ◌≢◌, ℕ, suc, ◌+◌, ◌/◌, ◌%◌, ◌^◌, ◌<◌, ◌≤◌, Bool, true, false, not, List, [], ◌∷◌, ◌++◌, append_assoc, length, set, refl, ap, sym, ◌∙◌, subst, arith, length-append, length-set}
-use Rattle.std.specs.Prelude.{None, Option, Some, ◌==◌, IfSome, count_by, nat_lt, option_map}
-use Rattle.std.specs.Bool.{then_some}
+use Rattle.ubi_change.proofs.Prelude.{◌≡◌, ◌≢◌, ℕ, suc, ◌+◌, ◌/◌, ◌%◌, ◌^◌, ◌<◌, ◌≤◌, Bool, true, false, not, List, [], ◌∷◌, ◌++◌, append_assoc, length, set, refl, ap, sym, ◌∙◌, subst, arith, length-append, length-set, None, Option, Some, ◌==◌, IfSome, count_by, nat_lt, option_map, then_some, FinMap, option_map_or, nat_cmp, nat_tests, Sizes, IsGeometry, leb_size, is_static, data_pad, usable, vid_bytes, EcHeader, VidHeader, VolKind, VolumeRecord, Image, eraseblocks, in_image, NoMember, Wins, Agrees, Records, AllBlank, AcceptsBlocks, Whole, Fits, IsVolume, Content, Volume, records_meant, found_wins, none_found, SurvivesCuts, programs_copy, turn, blank_header, copy_header, next_ec, mapped_plan, needs, plan_of, prepare, program_header, program_text, ready_bytes, ready_ec, release, taken, unmapped_plan, causes, first_cause, first_of, is_bad_length, ec_at, is_worn, takeable, weak_place, whole_place, ChangeRefusal, Step, own_causes, laid}
 use Rattle.std.specs.FinMap as finite
-use Rattle.std.specs.FinMap.{FinMap}
-use Rattle.std.specs.Option.{option_map_or}
-use Rattle.std.specs.Ordering.{nat_cmp}
-use Rattle.std.proofs.lemmas.Bool.Decides.{nat_tests}
-use Rattle.ubi_media.specs.Geometry.{Sizes, IsGeometry, leb_size}
-use Rattle.ubi_media.specs.Kind.{is_static}
-use Rattle.ubi_media.specs.Record.{data_pad, usable}
-use Rattle.ubi_media.specs.Vid.{vid_bytes}
-use Rattle.ubi_media.specs.declared.ec.EcHeader.{EcHeader}
-use Rattle.ubi_media.specs.declared.vid.VidHeader.{VidHeader}
-use Rattle.ubi_media.specs.declared.vid.VolKind.{VolKind}
 use Rattle.ubi_media.specs.declared.vid.VolKind.TheVariants as kind
-use Rattle.ubi_media.specs.declared.record.VolumeRecord.{VolumeRecord}
-use Rattle.ubi_scan.specs.Image.{Image, eraseblocks, in_image}
-use Rattle.ubi_scan.specs.Members.{NoMember, Wins}
-use Rattle.ubi_scan.proofs.Seq.{Agrees}
-use Rattle.ubi_table.specs.Records.{Records}
-use Rattle.ubi_table.specs.Table.{AllBlank}
-use Rattle.ubi_volume.specs.Accepts.{AcceptsBlocks}
-use Rattle.ubi_volume.specs.Attached.{Whole}
-use Rattle.ubi_volume.specs.Meant.{Fits, IsVolume}
-use Rattle.ubi_volume.specs.declared.content.Content.{Content}
 use Rattle.ubi_volume.specs.declared.content.Content.TheVariants as content
-use Rattle.ubi_volume.specs.declared.content.Volume.{Volume}
-use Rattle.ubi_volume.proofs.Recorded.{records_meant}
-use Rattle.ubi_volume.proofs.Winners.{found_wins, none_found}
-use Rattle.ubi_change.specs.Cuts.{SurvivesCuts, programs_copy, turn}
-use Rattle.ubi_change.specs.Plan.{blank_header, copy_header, next_ec, mapped_plan, needs, plan_of, prepare, program_header, program_text, ready_bytes, ready_ec, release, taken, unmapped_plan}
-use Rattle.ubi_change.specs.Refused.{causes, first_cause, first_of, is_bad_length}
-use Rattle.ubi_change.specs.Takeable.{ec_at, is_worn, takeable}
-use Rattle.ubi_change.specs.Weak.{weak_place, whole_place}
-use Rattle.ubi_change.specs.declared.refusal.ChangeRefusal.{ChangeRefusal}
 use Rattle.ubi_change.specs.declared.refusal.ChangeRefusal.TheVariants as refusal
-use Rattle.ubi_change.specs.declared.step.Step.{Step}
-use Rattle.ubi_change.specs.inner.Making.{own_causes}
 use Rattle.ubi_change.proofs.CopyReplaced.{IsPrepared, IsRelease}
 use Rattle.ubi_change.proofs.AttachedImage as on
 use Rattle.ubi_change.proofs.Choosing.{MayBeTaken, may_be_taken, two_apart}
 use Rattle.ubi_change.proofs.Mapped as mapped_copy
 use Rattle.ubi_change.proofs.Mapped.{copy_fits, copy_sound, IsNew, mapped, used_by_volume}
 use Rattle.ubi_change.proofs.Premises.{counter_behind, neither, next_counter, ready, taken_beside, taken_loses, valid_counter}
-use Rattle.ubi_scan.proofs.Parts.{laid}
 use Rattle.ubi_change.proofs.Renewed.{IsCounter}
 use Rattle.ubi_change.proofs.Replaced.{block_other}
 use Rattle.ubi_change.proofs.Runs.{done}

@@ -1,18 +1,6 @@
 -- What an attached image gives all plans on it: what its eraseblocks are, and what the parts of a plan do there.
-use Rattle.std.proofs.Common.{◌≡◌, ℕ, ◌+◌, ◌/◌, ◌^◌, ◌<◌, inl, inr, Bool, true, false, cond, List, [], length, refl, sym, ◌∙◌, subst, arith}
-use Rattle.std.specs.Prelude.{Option}
+use Rattle.ubi_change.proofs.Prelude.{◌≡◌, ℕ, ◌+◌, ◌/◌, ◌^◌, ◌<◌, inl, inr, Bool, true, false, cond, List, [], length, refl, sym, ◌∙◌, subst, arith, Option, Sizes, IsGeometry, EcHeader, Image, block, eraseblocks, length-of_chunk, length-first_chunks, clean_from_none, Agrees, seq_agrees, AcceptsBlocks, Whole, programs_copy, next_ec, prepare, release, renew, ec_at, is_clean, is_sole_carrier, is_worn, stays}
 use Rattle.std.proofs.Math.Nat as nat
-use Rattle.ubi_media.specs.Geometry.{Sizes, IsGeometry}
-use Rattle.ubi_media.specs.declared.ec.EcHeader.{EcHeader}
-use Rattle.ubi_scan.specs.Image.{Image, block, eraseblocks}
-use Rattle.ubi_scan.proofs.Chunks.{length-of_chunk, length-first_chunks}
-use Rattle.ubi_scan.proofs.Clean.{clean_from_none}
-use Rattle.ubi_scan.proofs.Seq.{Agrees, seq_agrees}
-use Rattle.ubi_volume.specs.Accepts.{AcceptsBlocks}
-use Rattle.ubi_volume.specs.Attached.{Whole}
-use Rattle.ubi_change.specs.Cuts.{programs_copy}
-use Rattle.ubi_change.specs.Plan.{next_ec, prepare, release, renew}
-use Rattle.ubi_change.specs.Takeable.{ec_at, is_clean, is_sole_carrier, is_worn, stays}
 use Rattle.ubi_change.proofs.CopyReplaced.{IsRelease}
 use Rattle.ubi_change.proofs.Emptied.{AreBelow}
 use Rattle.ubi_change.proofs.Mean.{mean_narrow}

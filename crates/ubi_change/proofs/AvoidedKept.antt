@@ -1,30 +1,10 @@
 -- The steps of a plan that avoids something touch none of it: not what is taken, since the plan sees that as used; and not
 -- what is given up, since that holds a LEB, and the listed ones begin blank.
-use Rattle.std.proofs.Common.{◌≡◌, ℕ, zero, suc, ◌<◌, ◌≤◌, Bool, true, false, List, [], ◌∷◌, length, take, get_or, refl, ap, sym, ◌∙◌, subst, arith}
-use Rattle.std.specs.Prelude.{◌&&◌, ◌||◌, IfSome, None, Option, Some, not, option_map, slice_get}
+use Rattle.ubi_change.proofs.Prelude.{◌≡◌, ℕ, zero, suc, ◌<◌, ◌≤◌, Bool, true, false, List, [], ◌∷◌, length, take, get_or, refl, ap, sym, ◌∙◌, subst, arith, ◌&&◌, ◌||◌, IfSome, None, Option, Some, option_map, slice_get, option_map_or, IsGeometry, Sizes, half_pad, reserved_within, Image, block, ec, eraseblocks, in_image, Leb, Wins, layout, Records, IsAttached, StateIs, Whole, records_of, BlockState, Volume, found_wins, TouchesOnly, given_up, needs, plan_of, taken, first_cause, rename_plan, MayBeNamed, ReadBlank, MayTouch, Avoided, Avoids, avoiding, is_avoided, is_blank_one, is_listed, state_avoiding, target, ec_at, is_unused, stays, takeable, Step}
+use Rattle.std.specs.Prelude.{not}
 use Rattle.std.specs.FinMap as finite
-use Rattle.std.specs.Option.{option_map_or}
-use Rattle.ubi_media.specs.Geometry.{IsGeometry, Sizes}
 use Rattle.ubi_media.specs.declared.ec.EcRead.TheVariants as ec_read
-use Rattle.ubi_media.proofs.Padding.{half_pad, reserved_within}
-use Rattle.ubi_scan.specs.Image.{Image, block, ec, eraseblocks, in_image}
-use Rattle.ubi_scan.specs.Members.{Leb, Wins, layout}
-use Rattle.ubi_table.specs.Records.{Records}
-use Rattle.ubi_volume.specs.Attached.{IsAttached, StateIs, Whole}
-use Rattle.ubi_volume.specs.Meant.{records_of}
-use Rattle.ubi_volume.specs.declared.attached.BlockState.{BlockState}
 use Rattle.ubi_volume.specs.declared.attached.BlockState.TheVariants as state
-use Rattle.ubi_volume.specs.declared.content.Volume.{Volume}
-use Rattle.ubi_volume.proofs.Winners.{found_wins}
-use Rattle.ubi_change.specs.Frugal.{TouchesOnly, given_up}
-use Rattle.ubi_change.specs.Plan.{needs, plan_of, taken}
-use Rattle.ubi_change.specs.Refused.{first_cause}
-use Rattle.ubi_change.specs.RenamePlan.{rename_plan}
-use Rattle.ubi_change.specs.RenameRefused.{MayBeNamed}
-use Rattle.ubi_change.specs.Avoided.{ReadBlank, MayTouch, Avoided, Avoids, avoiding, is_avoided, is_blank_one, is_listed, state_avoiding}
-use Rattle.ubi_change.specs.Steps.{target}
-use Rattle.ubi_change.specs.Takeable.{ec_at, is_unused, stays, takeable}
-use Rattle.ubi_change.specs.declared.step.Step.{Step}
 use Rattle.ubi_change.proofs.Attached.{no_cause}
 use Rattle.ubi_change.proofs.AttachedImage.{mean_few, seq_narrow}
 use Rattle.ubi_change.proofs.BlankListed.{blank_one}

@@ -1,18 +1,7 @@
 -- What the states say of the eraseblocks that are listed: that they begin blank, or that one doesn't.
-use Rattle.std.proofs.Common.{◌≡◌, ℕ, zero, suc, ◌<◌, ◌≤◌, true, List, [], ◌∷◌, length, refl, ap, subst, arith}
-use Rattle.std.specs.Prelude.{IfSome, None, Option, Some, slice_get}
-use Rattle.ubi_media.specs.Geometry.{Sizes}
+use Rattle.ubi_change.proofs.Prelude.{◌≡◌, ℕ, zero, suc, ◌<◌, ◌≤◌, true, List, [], ◌∷◌, length, refl, ap, subst, arith, IfSome, None, Option, Some, slice_get, Sizes, Image, block, ec, eraseblocks, in_image, vid, foreign_if, Records, AreStates, StateIs, records_of, IsSurvey, Seen, BlockState, ReadBlank, Avoided, BlankBelow, IsNotBlank, is_blank_one, NotBlankIs, SayBlank}
 use Rattle.ubi_media.specs.declared.ec.EcRead.TheVariants as ec_read
-use Rattle.ubi_scan.specs.Image.{Image, block, ec, eraseblocks, in_image, vid}
-use Rattle.ubi_scan.specs.Members.{foreign_if}
-use Rattle.ubi_table.specs.Records.{Records}
-use Rattle.ubi_volume.specs.Attached.{AreStates, StateIs}
-use Rattle.ubi_volume.specs.Meant.{records_of}
-use Rattle.ubi_volume.specs.Survey.{IsSurvey, Seen}
-use Rattle.ubi_volume.specs.declared.attached.BlockState.{BlockState}
 use Rattle.ubi_volume.specs.declared.attached.BlockState.TheVariants as state
-use Rattle.ubi_change.specs.Avoided.{ReadBlank, Avoided, BlankBelow, IsNotBlank, is_blank_one}
-use Rattle.ubi_change.specs.inner.Taking.{NotBlankIs, SayBlank}
 use Rattle.ubi_change.proofs.Prepared.{valid_is}
 use Rattle.ubi_change.proofs.Unused.{nameless_ec, nameless_loses}
 

@@ -1,12 +1,6 @@
 -- The steps to one eraseblock, of those to all.
-use Rattle.std.proofs.Common.{◌≡◌, ◌≢◌, ℕ, ◌<◌, ◌==◌, Bool, true, false, cond, List, [], ◌∷◌, length, set, refl, ap, sym, ◌∙◌, arith, length-set, get_or-set_other, get_or-set_same}
-use Rattle.std.specs.Prelude.{fold}
-use Rattle.std.proofs.lemmas.Bool.Decides.{nat_tests}
-use Rattle.ubi_media.specs.Geometry.{Sizes}
-use Rattle.ubi_scan.specs.Image.{block}
-use Rattle.ubi_change.specs.Steps.{block_after, step_done, target}
-use Rattle.ubi_change.specs.inner.Writing.{block_cut, block_step}
-use Rattle.ubi_change.specs.declared.step.Step.{Step}
+use Rattle.ubi_change.proofs.Prelude.{◌≡◌, ◌≢◌, ℕ, ◌<◌, Bool, true, false, cond, List, [], ◌∷◌, length, set, refl, ap, sym, ◌∙◌, arith, length-set, get_or-set_other, get_or-set_same, fold, nat_tests, Sizes, block, block_after, step_done, target, block_cut, block_step, Step}
+use Rattle.std.proofs.Common.{◌==◌}
 
 same_test : (a b : ℕ) → a ≡ b → (a == b) ≡ true
 same_test a b e = grind (arith, nat_tests)

@@ -1,12 +1,6 @@
 -- Lines and pages are the steps that they were taken from.
-use Rattle.std.proofs.Common.{◌≡◌, ◌∙◌, ℕ, zero, suc, arith, List, [], ◌∷◌, ◌++◌, ap, ap₂, drop, fold, map, refl, sym, take}
-use Rattle.std.proofs.Math.Seq.{drop-append_seam, take-append_seam}
-use Rattle.std.proofs.lemmas.List.{take-take}
-use Rattle.ubi_media.specs.Geometry.{Sizes}
-use Rattle.ubi_change.specs.Fitting.{AllWithin, FitsBlock}
-use Rattle.ubi_change.specs.Pages.{PagesCarry, line_of, programmed, with_pages}
-use Rattle.ubi_change.specs.Steps.{after, step_done}
-use Rattle.ubi_change.specs.declared.step.Step.{Step}
+use Rattle.ubi_change.proofs.Prelude.{◌≡◌, ◌∙◌, ℕ, zero, suc, arith, List, [], ◌∷◌, ◌++◌, ap, ap₂, drop, map, refl, sym, take, drop-append_seam, take-append_seam, take-take, Sizes, AllWithin, FitsBlock, PagesCarry, line_of, programmed, with_pages, after, step_done, Step}
+use Rattle.std.proofs.Common.{fold}
 use Rattle.ubi_change.specs.declared.step.Step.TheVariants as step
 
 -- the bytes of each program are one page

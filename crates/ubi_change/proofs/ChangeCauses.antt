@@ -1,20 +1,6 @@
 -- Which cause stands against a change, by those that the request alone gives and those that the image does.
-use Rattle.std.proofs.Common.{◌≡◌, ◌≢◌, ℕ, Bool, true, false, List, [], ◌∷◌, ◌++◌, refl, ap, ◌∙◌}
-use Rattle.std.specs.Prelude.{None, Option, Some, option_map}
-use Rattle.std.specs.Bool.{then_some}
+use Rattle.ubi_change.proofs.Prelude.{◌≡◌, ◌≢◌, ℕ, Bool, true, false, List, [], ◌∷◌, ◌++◌, refl, ap, ◌∙◌, None, Option, Some, option_map, then_some, option_map_or, Sizes, VolumeRecord, Refusal, Image, eraseblocks, IsAttached, Whole, Volume, image_causes, own_causes, IsChangeRefusalAvoiding, causes, first_cause, first_of, Avoided, avoiding, ChangeRefusal}
 use Rattle.std.specs.FinMap as finite
-use Rattle.std.specs.Option.{option_map_or}
-use Rattle.ubi_media.specs.Geometry.{Sizes}
-use Rattle.ubi_media.specs.declared.record.VolumeRecord.{VolumeRecord}
-use Rattle.ubi_media.specs.declared.refusal.Refusal.{Refusal}
-use Rattle.ubi_scan.specs.Image.{Image, eraseblocks}
-use Rattle.ubi_volume.specs.Attached.{IsAttached, Whole}
-use Rattle.ubi_volume.specs.declared.content.Volume.{Volume}
-use Rattle.ubi_change.specs.inner.Making.{image_causes, own_causes}
-use Rattle.ubi_change.specs.Planned.{IsChangeRefusalAvoiding}
-use Rattle.ubi_change.specs.Refused.{causes, first_cause, first_of}
-use Rattle.ubi_change.specs.Avoided.{Avoided, avoiding}
-use Rattle.ubi_change.specs.declared.refusal.ChangeRefusal.{ChangeRefusal}
 use Rattle.ubi_change.specs.declared.refusal.ChangeRefusal.TheVariants as refusal
 
 -- the first of causes and of others behind them

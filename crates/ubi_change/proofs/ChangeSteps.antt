@@ -1,15 +1,7 @@
 -- What holds of the new bytes and the eraseblocks of a change against which no cause stands, whatever is held.
-use Rattle.std.proofs.Common.{◌≡◌, ℕ, ◌%◌, ◌^◌, ◌<◌, ◌≤◌, List, length, sym, subst, arith}
-use Rattle.std.specs.Prelude.{IfSome, Option, Some}
-use Rattle.ubi_media.specs.Geometry.{IsGeometry, Sizes, leb_size}
-use Rattle.ubi_table.specs.Records.{Records}
-use Rattle.ubi_change.specs.inner.Making.{AreSites, FitsPrepared, IsTarget}
-use Rattle.ubi_change.specs.inner.Sites.{FitsIn}
-use Rattle.ubi_change.specs.declared.planning.Prepared.{Prepared}
-use Rattle.ubi_change.specs.declared.site.Site.{Site}
+use Rattle.ubi_change.proofs.Prelude.{◌≡◌, ℕ, ◌%◌, ◌^◌, ◌<◌, ◌≤◌, List, length, sym, subst, arith, IfSome, Option, Some, IsGeometry, Sizes, leb_size, Records, AreSites, FitsPrepared, IsTarget, FitsIn, Prepared, Site, Target}
 use Rattle.ubi_change.specs.declared.sites.Sites.{Sites as OnSites}
 use Rattle.ubi_change.specs.declared.sites.Sites.TheVariants as on
-use Rattle.ubi_change.specs.declared.target.Target.{Target}
 use Rattle.ubi_change.proofs.Attached.{own_allowed}
 use Rattle.ubi_change.proofs.StepPages.{SitesFit}
 

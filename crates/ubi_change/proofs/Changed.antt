@@ -1,26 +1,7 @@
 -- A meaning with another text in one LEB is a meaning.
-use Rattle.std.proofs.Common.{◌≡◌, ◌≢◌, ℕ, ◌<◌, ◌≤◌, ◌⊎◌, inl, inr, cond, List, length, refl, ap, sym, ◌∙◌, subst, arith}
-use Rattle.std.specs.Prelude.{IfSome, None, Option, Some, option_map, unwrap_or}
-use Rattle.std.specs.Cmp.{nat_cmp_total}
+use Rattle.ubi_change.proofs.Prelude.{◌≡◌, ◌≢◌, ℕ, ◌<◌, ◌≤◌, ◌⊎◌, inl, inr, cond, List, length, refl, ap, sym, ◌∙◌, subst, arith, IfSome, None, Option, Some, option_map, unwrap_or, nat_cmp_total, FinMap, nat_cmp-IsAntisymmetric, option_map_or, nat_cmp, same_Some, cases_eq, blank, filled, is_blank, usable, VolumeRecord, false_or_true, apart_test, same_test, space, IsMeaning, IsVolume, Meant, records_of, Volume, blank_text, other_text, record_of, space_of, length-filled, changed, volume_with, with_leb}
 use Rattle.std.specs.FinMap as finite
-use Rattle.std.specs.FinMap.{FinMap, nat_cmp-IsAntisymmetric}
-use Rattle.std.specs.Option.{option_map_or}
-use Rattle.std.specs.Ordering.{nat_cmp}
-use Rattle.std.proofs.lemmas.Option.{same_Some}
-use Rattle.std.proofs.lemmas.Bool.{cases_eq}
-use Rattle.ubi_media.specs.Fields.{blank, filled, is_blank}
-use Rattle.ubi_media.specs.Record.{usable}
-use Rattle.ubi_media.specs.declared.record.VolumeRecord.{VolumeRecord}
-use Rattle.ubi_scan.proofs.Choice.{false_or_true}
-use Rattle.ubi_scan.proofs.Keys.{apart_test, same_test}
-use Rattle.ubi_table.specs.Records.{space}
-use Rattle.ubi_volume.specs.Meant.{IsMeaning, IsVolume, Meant, records_of}
 use Rattle.ubi_volume.specs.declared.content.Content.TheVariants as content
-use Rattle.ubi_volume.specs.declared.content.Volume.{Volume}
-use Rattle.ubi_volume.proofs.Blanks.{blank_text, other_text}
-use Rattle.ubi_volume.proofs.Recorded.{record_of, space_of}
-use Rattle.ubi_scan.proofs.Filled.{length-filled}
-use Rattle.ubi_change.specs.Cuts.{changed, volume_with, with_leb}
 use Rattle.ubi_change.proofs.Mounted.{IsChanged}
 
 module _ {X : Type 0} (m : FinMap nat_cmp X) (k : ℕ) where

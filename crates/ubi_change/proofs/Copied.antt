@@ -1,34 +1,11 @@
 -- A copy is written on an eraseblock: its header and then the pages of its text. What holds while the copy is bad holds
 -- before a turn, and what holds once it is good holds from it on.
-use Rattle.std.proofs.Common.{◌≡◌, ◌≢◌, ℕ, zero, suc, ◌+◌, ◌-◌, ◌*◌, ◌/◌, ◌%◌, ◌<◌, ◌≤◌, ◌⊎◌, inl, inr, Bool, true, false, List, [], ◌∷◌, ◌++◌, append_assoc, append-nil, length, map, set, take, drop, refl, ap, ap₂, sym, ◌∙◌, subst, arith, length-drop, take-add}
+use Rattle.ubi_change.proofs.Prelude.{◌≡◌, ◌≢◌, ℕ, zero, suc, ◌+◌, ◌-◌, ◌*◌, ◌/◌, ◌%◌, ◌<◌, ◌≤◌, ◌⊎◌, inl, inr, Bool, true, false, List, [], ◌∷◌, ◌++◌, append_assoc, append-nil, length, map, set, take, drop, refl, ap, ap₂, sym, ◌∙◌, subst, arith, length-drop, take-add, ◌==◌, None, enumerate_from, first_chunks, length-take-le, set-set, check, ec_reading, blank, filled, overwrite, Sizes, IsGeometry, vid_bytes, vid_fault, VidFits, EcHeader, VidHeader, IsMislaid, leb, IsMember, Leb, has_members, is_good, leb_of, sqnum_at, seq_of, length-first_chunks, program_header, program_text, fold-append, after, step_done, pages_of, torn, weak_place, whole_place, Step, filled-by, join_blank, laid}
 use Rattle.std.proofs.Common as lists
 use Rattle.std.proofs.lemmas.Nat as nat
-use Rattle.std.specs.Prelude.{◌==◌, None}
-use Rattle.std.specs.List.{enumerate_from}
-use Rattle.std.specs.Simd.{first_chunks}
-use Rattle.std.proofs.lemmas.List.{get_or-set_same, length-take-le, set-set}
-use Rattle.ubi_media.specs.Check.{check}
-use Rattle.ubi_media.specs.Ec.{ec_reading}
-use Rattle.ubi_media.specs.Fields.{blank, filled, overwrite}
-use Rattle.ubi_media.specs.Geometry.{Sizes, IsGeometry}
-use Rattle.ubi_media.specs.Vid.{vid_bytes, vid_fault}
-use Rattle.ubi_media.specs.Widths.{VidFits}
-use Rattle.ubi_media.specs.declared.ec.EcHeader.{EcHeader}
+use Rattle.std.proofs.lemmas.List.{get_or-set_same}
 use Rattle.ubi_media.specs.declared.ec.EcRead.TheVariants as ec_read
-use Rattle.ubi_media.specs.declared.vid.VidHeader.{VidHeader}
-use Rattle.ubi_scan.specs.Faults.{IsMislaid}
-use Rattle.ubi_scan.specs.Image.{leb}
-use Rattle.ubi_scan.specs.Members.{IsMember, Leb, has_members, is_good, leb_of, sqnum_at}
-use Rattle.ubi_scan.specs.Numbers.{seq_of}
-use Rattle.ubi_scan.proofs.Chunks.{length-first_chunks}
-use Rattle.ubi_change.specs.Plan.{program_header, program_text}
-use Rattle.std.proofs.lemmas.List.Sums.{fold-append}
-use Rattle.ubi_change.specs.Steps.{after, step_done}
-use Rattle.ubi_change.specs.Weak.{pages_of, torn, weak_place, whole_place}
-use Rattle.ubi_change.specs.declared.step.Step.{Step}
 use Rattle.ubi_change.specs.declared.step.Step.TheVariants as step
-use Rattle.ubi_scan.proofs.Filled.{filled-by, join_blank}
-use Rattle.ubi_scan.proofs.Parts.{laid}
 use Rattle.ubi_change.proofs.Laid.{header_written, page_written}
 use Rattle.ubi_change.proofs.Mounted.{IsMount}
 use Rattle.ubi_change.proofs.PagePlaces.{data_pages}

@@ -1,33 +1,8 @@
 -- The steps of a copy fit: the header on an eraseblock that was made ready, and the pages of the text behind it.
-use Rattle.std.proofs.Common.{◌≡◌, ℕ, zero, suc, ◌+◌, ◌-◌, ◌*◌, ◌/◌, ◌%◌, ◌^◌, ◌<◌, ◌≤◌, inl, inr, Bool, true, false, cond, List, [], ◌∷◌, ◌++◌, append_assoc, length, map, take, drop, replicate, refl, ap, ap₂, sym, ◌∙◌, subst, arith, length-append, length-drop, length-set, get_or-set_same}
-use Rattle.std.specs.Prelude.{nat_lt, slice_range}
-use Rattle.std.specs.Int.{byte_at, bytes_high_first}
-use Rattle.std.specs.List.{enumerate_from}
-use Rattle.std.specs.Simd.{first_chunks}
-use Rattle.std.proofs.Math.Nat.{div-add-mod, div-eq_of_lt, mod-lt}
-use Rattle.std.proofs.lemmas.Bool.Decides.{nat_tests}
-use Rattle.std.proofs.lemmas.List.{length-take-le}
-use Rattle.std.proofs.lemmas.Nat.{mul-le}
-use Rattle.std.proofs.lemmas.Bool.{cases_lt}
-use Rattle.ubi_media.specs.Check.{check}
-use Rattle.ubi_media.specs.Ec.{ec_bytes, ec_front}
-use Rattle.ubi_media.specs.Fields.{AreBytes, blank, filled, overwrite}
-use Rattle.ubi_media.specs.Geometry.{IsGeometry, Sizes}
-use Rattle.ubi_media.specs.Vid.{fields_from, kind_number, vid_bytes, vid_front}
-use Rattle.ubi_media.specs.declared.ec.EcHeader.{EcHeader}
-use Rattle.ubi_media.specs.declared.vid.VidHeader.{VidHeader}
-use Rattle.ubi_media.specs.declared.vid.VolKind.{VolKind}
+use Rattle.ubi_change.proofs.Prelude.{◌≡◌, ℕ, zero, suc, ◌+◌, ◌-◌, ◌*◌, ◌/◌, ◌%◌, ◌^◌, ◌<◌, ◌≤◌, inl, inr, Bool, true, false, cond, List, [], ◌∷◌, ◌++◌, append_assoc, length, map, take, drop, replicate, refl, ap, ap₂, sym, ◌∙◌, subst, arith, length-append, length-drop, length-set, get_or-set_same, nat_lt, byte_at, bytes_high_first, enumerate_from, first_chunks, div-add-mod, div-eq_of_lt, mod-lt, nat_tests, length-take-le, mul-le, cases_lt, check, ec_bytes, ec_front, AreBytes, blank, filled, overwrite, IsGeometry, Sizes, fields_from, kind_number, vid_bytes, vid_front, EcHeader, VidHeader, VolKind, bytes-append, bytes-blank, bytes-drop, bytes-take, zero_or_more, block, filled-by, filled-is, length-blank, length-filled, laid, only_clears, page_of, vid_page, program_header, program_text, step_done, pages_of}
+use Rattle.std.specs.Prelude.{slice_range}
 use Rattle.ubi_media.specs.declared.vid.VolKind.TheVariants as kind
-use Rattle.ubi_media.proofs.ByteLists.{bytes-append, bytes-blank, bytes-drop, bytes-take}
-use Rattle.ubi_media.proofs.Cases.{zero_or_more}
-use Rattle.ubi_scan.specs.Image.{block}
-use Rattle.ubi_scan.proofs.Filled.{filled-by, filled-is, length-blank, length-filled}
-use Rattle.ubi_scan.proofs.Parts.{laid}
 use Rattle.ubi_scan.proofs.Parts as parts
-use Rattle.ubi_change.specs.Fitting.{only_clears, page_of}
-use Rattle.ubi_change.specs.Plan.{vid_page, program_header, program_text}
-use Rattle.ubi_change.specs.Steps.{step_done}
-use Rattle.ubi_change.specs.Weak.{pages_of}
 use Rattle.ubi_change.specs.declared.step.Step.TheVariants as step
 use Rattle.ubi_change.proofs.Fits.{FitAll, blank_page, clears-append, clears_blank, clears_same, program_fits}
 use Rattle.ubi_change.proofs.Laid.{header_written, page_written}

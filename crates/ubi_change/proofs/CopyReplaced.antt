@@ -1,29 +1,12 @@
 -- The cuts of an atomic copy of any LEB that has a winner and counts: before the turn the old is meant, and from it on
 -- there holds what holds of a good copy and of the old winner emptied.
-use Rattle.std.proofs.Common.{◌≡◌, ◌≢◌, ℕ, zero, suc, ◌+◌, ◌-◌, ◌<◌, ◌≤◌, ◌⊎◌, inl, inr, true, false, List, [], ◌∷◌, ◌++◌, length, set, refl, sym, ◌∙◌, subst, arith, length-set}
-use Rattle.ubi_media.specs.Ec.{ec_bytes, ec_reading}
-use Rattle.ubi_media.specs.Fields.{blank, filled}
-use Rattle.ubi_media.specs.Geometry.{Sizes, IsGeometry}
-use Rattle.ubi_media.specs.declared.ec.EcHeader.{EcHeader}
+use Rattle.ubi_change.proofs.Prelude.{◌≡◌, ◌≢◌, ℕ, zero, suc, ◌+◌, ◌-◌, ◌<◌, ◌≤◌, ◌⊎◌, inl, inr, true, false, List, [], ◌∷◌, ◌++◌, length, set, refl, sym, ◌∙◌, subst, arith, length-set, ec_bytes, ec_reading, blank, filled, Sizes, IsGeometry, EcHeader, VidHeader, block, leb, Leb, Wins, is_good, seq_of, AllBlank, AcceptsBlocks, IsOutside, Meant, program_header, program_text, renew, after, pages_of, whole_place, Step, Agrees}
 use Rattle.ubi_media.specs.declared.ec.EcRead.TheVariants as ec_read
-use Rattle.ubi_media.specs.declared.vid.VidHeader.{VidHeader}
-use Rattle.ubi_scan.specs.Image.{block, leb}
-use Rattle.ubi_scan.specs.Members.{Leb, Wins, is_good}
-use Rattle.ubi_scan.specs.Numbers.{seq_of}
-use Rattle.ubi_table.specs.Table.{AllBlank}
-use Rattle.ubi_volume.specs.Accepts.{AcceptsBlocks}
-use Rattle.ubi_volume.specs.Attached.{IsOutside}
-use Rattle.ubi_volume.specs.Meant.{Meant}
-use Rattle.ubi_change.specs.Plan.{program_header, program_text, renew}
-use Rattle.ubi_change.specs.Steps.{after}
-use Rattle.ubi_change.specs.Weak.{pages_of, whole_place}
-use Rattle.ubi_change.specs.declared.step.Step.{Step}
 use Rattle.ubi_change.proofs.Copied as copy
 use Rattle.ubi_change.proofs.Copied.{IsCopy}
 use Rattle.ubi_change.proofs.Mounted.{IsMount, mounted_bad}
 use Rattle.ubi_change.proofs.Renewed.{IsCounter, counter_back, counter_size, renew_cuts, renewed}
 use Rattle.ubi_change.proofs.Runs.{AtEachCut, TurnsAt, done}
-use Rattle.ubi_scan.proofs.Seq.{Agrees}
 use Rattle.ubi_change.proofs.Seq.{NamedBeside}
 use Rattle.ubi_change.proofs.Torn.{told-from, whole_place-is}
 use Rattle.ubi_change.proofs.Vacated.{IsVacant, LosesAll, beside_set}

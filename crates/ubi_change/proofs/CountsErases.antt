@@ -1,37 +1,7 @@
 -- Each eraseblock that a plan erases has at the end a Valid erase-counter header that counts each erase.
-use Rattle.std.proofs.Common.{◌≡◌, ◌≢◌, ℕ, zero, suc, ◌+◌, ◌-◌, ◌*◌, ◌/◌, ◌%◌, ◌^◌, ◌<◌, ◌≤◌, inl, inr, Bool, true, false, cond, List, [], ◌∷◌, ◌++◌, append_assoc, append-nil, length, map, set, refl, ap, sym, ◌∙◌, subst, arith, length-set, get_or-set_same}
-use Rattle.std.specs.Prelude.{None, Option, Some, ◌==◌, count_by, fold}
+use Rattle.ubi_change.proofs.Prelude.{◌≡◌, ◌≢◌, ℕ, zero, suc, ◌+◌, ◌-◌, ◌*◌, ◌/◌, ◌%◌, ◌^◌, ◌<◌, ◌≤◌, inl, inr, Bool, true, false, cond, List, [], ◌∷◌, ◌++◌, append_assoc, append-nil, length, map, set, refl, ap, sym, ◌∙◌, subst, arith, length-set, get_or-set_same, None, Option, Some, ◌==◌, count_by, fold, enumerate_from, option_map_or, first_chunks, nat_tests, set-set, take_all, fold-append, sum_by-append, same_Some, cases_eq, ec_bytes, ec_reading, filled, IsGeometry, Sizes, leb_size, data_pad, vid_bytes, EcHeader, EcRead, VidHeader, Image, block, ec, eraseblocks, in_image, valid_ec, ec-laid, laid, found_wins, Whole, Volume, CountsErases, counter_after, erases, blank_header, copy_header, next_ec, mapped_plan, mount, plan_of, prepare, program_header, program_text, ready_bytes, ready_ec, release, renew, taken, unmapped_plan, first_cause, block_after, step_done, target, ec_at, is_clean, is_sole_carrier, is_worn, stays, pages_of, Step}
 use Rattle.std.specs.FinMap as finite
-use Rattle.std.specs.List.{enumerate_from}
-use Rattle.std.specs.Option.{option_map_or}
-use Rattle.std.specs.Simd.{first_chunks}
-use Rattle.std.proofs.lemmas.Bool.Decides.{nat_tests}
-use Rattle.std.proofs.lemmas.List.{set-set, take_all}
-use Rattle.std.proofs.lemmas.List.Sums.{fold-append, sum_by-append}
-use Rattle.std.proofs.lemmas.Option.{same_Some}
-use Rattle.std.proofs.lemmas.Bool.{cases_eq}
-use Rattle.ubi_media.specs.Ec.{ec_bytes, ec_reading}
-use Rattle.ubi_media.specs.Fields.{filled}
-use Rattle.ubi_media.specs.Geometry.{IsGeometry, Sizes, leb_size}
-use Rattle.ubi_media.specs.Record.{data_pad}
-use Rattle.ubi_media.specs.Vid.{vid_bytes}
-use Rattle.ubi_media.specs.declared.ec.EcHeader.{EcHeader}
-use Rattle.ubi_media.specs.declared.ec.EcRead.{EcRead}
 use Rattle.ubi_media.specs.declared.ec.EcRead.TheVariants as ec_read
-use Rattle.ubi_media.specs.declared.vid.VidHeader.{VidHeader}
-use Rattle.ubi_scan.specs.Image.{Image, block, ec, eraseblocks, in_image}
-use Rattle.ubi_scan.specs.Numbers.{valid_ec}
-use Rattle.ubi_scan.proofs.Parts.{ec-laid, laid}
-use Rattle.ubi_volume.proofs.Winners.{found_wins}
-use Rattle.ubi_volume.specs.Attached.{Whole}
-use Rattle.ubi_volume.specs.declared.content.Volume.{Volume}
-use Rattle.ubi_change.specs.Frugal.{CountsErases, counter_after, erases}
-use Rattle.ubi_change.specs.Plan.{blank_header, copy_header, next_ec, mapped_plan, mount, plan_of, prepare, program_header, program_text, ready_bytes, ready_ec, release, renew, taken, unmapped_plan}
-use Rattle.ubi_change.specs.Refused.{first_cause}
-use Rattle.ubi_change.specs.Steps.{block_after, step_done, target}
-use Rattle.ubi_change.specs.Takeable.{ec_at, is_clean, is_sole_carrier, is_worn, stays}
-use Rattle.ubi_change.specs.Weak.{pages_of}
-use Rattle.ubi_change.specs.declared.step.Step.{Step}
 use Rattle.ubi_change.specs.declared.step.Step.TheVariants as step
 use Rattle.ubi_change.proofs.Attached as attached
 use Rattle.ubi_change.proofs.Copied.{length-program_text, run_text}

@@ -1,17 +1,6 @@
 -- The bytes of an image after steps that work within its eraseblocks: they are as many, and cut into what the steps leave.
-use Rattle.std.proofs.Common.{◌≡◌, ◌≢◌, ℕ, zero, suc, ◌*◌, ◌/◌, ◌<◌, ◌==◌, Bool, true, false, List, [], ◌∷◌, length, get_or, set, refl, ap, sym, ◌∙◌, subst, arith, length-set, get_or-set_other, get_or-set_same}
-use Rattle.std.specs.List.{concat}
-use Rattle.std.specs.Simd.{first_chunks}
-use Rattle.std.proofs.Math.Nat.{div-add-mod, div-mul-le_self}
-use Rattle.std.proofs.lemmas.Bool.Decides.{nat_tests}
-use Rattle.std.proofs.lemmas.List.{length-replicate}
-use Rattle.ubi_media.specs.Geometry.{Sizes}
-use Rattle.ubi_scan.specs.Image.{IsWholeSize, block}
-use Rattle.ubi_scan.specs.Source.{blocks_of}
-use Rattle.ubi_scan.proofs.Chunks.{first_chunks-concat, length-concat, length-first_chunks, length-of_chunk}
-use Rattle.ubi_change.specs.Fitting.{AllWithin, FitsBlock}
-use Rattle.ubi_change.specs.Steps.{after, block_after, step_done, target}
-use Rattle.ubi_change.specs.declared.step.Step.{Step}
+use Rattle.ubi_change.proofs.Prelude.{◌≡◌, ◌≢◌, ℕ, zero, suc, ◌*◌, ◌/◌, ◌<◌, Bool, true, false, List, [], ◌∷◌, length, get_or, set, refl, ap, sym, ◌∙◌, subst, arith, length-set, get_or-set_other, get_or-set_same, concat, first_chunks, div-add-mod, div-mul-le_self, nat_tests, length-replicate, Sizes, IsWholeSize, block, blocks_of, first_chunks-concat, length-concat, length-first_chunks, length-of_chunk, AllWithin, FitsBlock, after, block_after, step_done, target, Step}
+use Rattle.std.proofs.Common.{◌==◌}
 use Rattle.ubi_change.specs.declared.step.Step.TheVariants as step
 use Rattle.ubi_change.proofs.Stepped.{length-written}
 

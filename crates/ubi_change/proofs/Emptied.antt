@@ -1,13 +1,6 @@
 -- What stays when an eraseblock that wins no LEB that counts is emptied: winners, who wins nothing, and the greatest
 -- sequence number.
-use Rattle.std.proofs.Common.{◌≡◌, ℕ, ◌<◌, inl, inr, List, length, set, ap, subst, arith}
-use Rattle.std.proofs.lemmas.Bool.{cases_eq}
-use Rattle.std.specs.Prelude.{Some}
-use Rattle.ubi_media.specs.Geometry.{Sizes}
-use Rattle.ubi_scan.specs.Faults.{NoFault}
-use Rattle.ubi_scan.specs.Members.{IsMember, Leb, named_in, sqnum_at, sqnum_in}
-use Rattle.ubi_table.specs.Records.{Records}
-use Rattle.ubi_volume.specs.Attached.{IsOutside}
+use Rattle.ubi_change.proofs.Prelude.{◌≡◌, ℕ, ◌<◌, inl, inr, List, length, set, ap, subst, arith, cases_eq, Some, Sizes, NoFault, IsMember, Leb, named_in, sqnum_at, sqnum_in, Records, IsOutside}
 use Rattle.ubi_change.proofs.Kept.{KeepsLeb, kept_back}
 use Rattle.ubi_change.proofs.Replaced.{block_other, keeps_vacated, member_was, named_here}
 use Rattle.ubi_change.proofs.Vacated.{IsVacant, LosesAll}

@@ -1,27 +1,10 @@
 -- Copy 0 of the table is written anew: before the turn the old is meant, and from it on the renamed, by copy 0 alone.
-use Rattle.std.proofs.Common.{◌≡◌, ◌≢◌, ℕ, suc, ◌+◌, ◌<◌, List, [], ◌∷◌, ◌++◌, length, set, ap, sym, ◌∙◌, subst, arith, length-set}
-use Rattle.ubi_media.specs.Geometry.{IsGeometry, Sizes}
-use Rattle.ubi_media.specs.declared.ec.EcHeader.{EcHeader}
-use Rattle.ubi_media.specs.declared.vid.VidHeader.{VidHeader}
-use Rattle.ubi_scan.specs.Faults.{NoFault}
-use Rattle.ubi_scan.specs.Image.{block, leb}
-use Rattle.ubi_scan.specs.Members.{Leb, Wins, layout}
-use Rattle.ubi_table.specs.Records.{AreRecords, Records}
-use Rattle.ubi_table.specs.Table.{copy_of}
+use Rattle.ubi_change.proofs.Prelude.{◌≡◌, ◌≢◌, ℕ, suc, ◌+◌, ◌<◌, List, [], ◌∷◌, ◌++◌, length, set, ap, sym, ◌∙◌, subst, arith, length-set, IsGeometry, Sizes, EcHeader, VidHeader, NoFault, block, leb, Leb, Wins, layout, AreRecords, Records, copy_of, AcceptsBlocks, IsOutside, Meant, records_of, records_meant, program_header, program_text, layout_header, table_pages, whole_place, Step, records_are, Agrees}
 use Rattle.ubi_table.specs.declared.copy.CopyRead.TheVariants as copy
-use Rattle.ubi_volume.specs.Accepts.{AcceptsBlocks}
-use Rattle.ubi_volume.specs.Attached.{IsOutside}
-use Rattle.ubi_volume.specs.Meant.{Meant, records_of}
-use Rattle.ubi_volume.proofs.Recorded.{records_meant}
-use Rattle.ubi_change.specs.Plan.{program_header, program_text}
-use Rattle.ubi_change.specs.RenamePlan.{layout_header, table_pages}
-use Rattle.ubi_change.specs.Weak.{whole_place}
-use Rattle.ubi_change.specs.declared.step.Step.{Step}
 use Rattle.ubi_change.proofs.Copied.{IsCopy}
 use Rattle.ubi_change.proofs.CopyReplaced.{IsGoodCopy, IsPrepared, IsRelease, ends_beside, replaced}
 use Rattle.ubi_change.proofs.Emptied.{AreBelow, emptied_below, emptied_keeps, emptied_loses}
 use Rattle.ubi_change.proofs.Kept.{KeepsLeb}
-use Rattle.ubi_volume.proofs.MeantRecords.{records_are}
 use Rattle.ubi_change.proofs.NamedAccepted.{meant_fit, named_accepted, table_by_first}
 use Rattle.ubi_change.proofs.Newest.{newest_below, old_loses, others_lose}
 use Rattle.ubi_change.proofs.TableCopied.{copied_clean, copied_keeps, copied_reads, copied_volumes, copied_wins}
@@ -29,7 +12,6 @@ use Rattle.ubi_change.proofs.RenamedMeaning.{IsRenamed, records_alike}
 use Rattle.ubi_change.proofs.Replaced.{block_other}
 use Rattle.ubi_change.proofs.Runs.{TurnsAt, done}
 use Rattle.ubi_change.proofs.SameButName.{outside_now}
-use Rattle.ubi_scan.proofs.Seq.{Agrees}
 use Rattle.ubi_change.proofs.Seq.{NamedBeside}
 use Rattle.ubi_change.proofs.Unused.{layout_counts, used_by_winner}
 use Rattle.ubi_change.proofs.Vacated.{IsVacant, LosesAll, agrees_set, seq_set, vacated}

@@ -1,24 +1,6 @@
 -- Steps that fit: of lists of steps, of pages that are blank, and of an erase with its header.
-use Rattle.std.proofs.Common.{◌≡◌, ℕ, zero, suc, ◌+◌, ◌-◌, ◌*◌, ◌/◌, ◌<◌, ◌≤◌, inl, inr, Bool, true, false, List, [], ◌∷◌, ◌++◌, length, set, refl, ap, ap₂, sym, ◌∙◌, subst, arith, length-set, get_or-set_same}
-use Rattle.std.specs.Prelude.{◌==◌, ◌&&◌, bit_and, nat_lt}
-use Rattle.std.specs.Int.Bits.{and_self}
-use Rattle.std.proofs.lemmas.Bool.Decides.{nat_tests}
-use Rattle.std.proofs.lemmas.Grind.{common_steps}
-use Rattle.std.proofs.Math.Nat.{div-add-mod}
-use Rattle.std.proofs.lemmas.Option.{same_Some}
-use Rattle.ubi_media.specs.Ec.{ec_bytes}
-use Rattle.ubi_media.specs.Fields.{AreBytes, blank, filled}
-use Rattle.ubi_media.specs.Geometry.{Sizes, IsGeometry}
-use Rattle.ubi_media.specs.declared.ec.EcHeader.{EcHeader}
-use Rattle.ubi_media.proofs.ByteLists.{bytes-append, bytes-blank}
-use Rattle.ubi_media.proofs.Cases.{zero_or_more}
-use Rattle.ubi_scan.specs.Image.{block}
-use Rattle.ubi_change.specs.Fitting.{AllFit, fits, only_clears, page_of}
-use Rattle.ubi_change.specs.Plan.{renew}
-use Rattle.ubi_change.specs.Steps.{step_done}
-use Rattle.ubi_change.specs.declared.step.Step.{Step}
+use Rattle.ubi_change.proofs.Prelude.{◌≡◌, ℕ, zero, suc, ◌+◌, ◌-◌, ◌*◌, ◌/◌, ◌<◌, ◌≤◌, inl, inr, Bool, true, false, List, [], ◌∷◌, ◌++◌, length, set, refl, ap, ap₂, sym, ◌∙◌, subst, arith, length-set, get_or-set_same, ◌==◌, ◌&&◌, bit_and, nat_lt, and_self, nat_tests, common_steps, div-add-mod, same_Some, ec_bytes, AreBytes, blank, filled, Sizes, IsGeometry, EcHeader, bytes-append, bytes-blank, zero_or_more, block, AllFit, fits, only_clears, page_of, renew, step_done, Step, behind, filled-is, length-filled}
 use Rattle.ubi_change.specs.declared.step.Step.TheVariants as step
-use Rattle.ubi_scan.proofs.Filled.{behind, filled-is, length-filled}
 use Rattle.ubi_change.proofs.Runs.{done}
 
 cleared : (x : ℕ) → x < 256 → (bit_and 255 x == x) ≡ true

@@ -1,23 +1,6 @@
 -- Once the copy is whole, a plan erases the eraseblock that is given up, unless it is worn by then or the sole carrier.
-use Rattle.std.proofs.Common.{◌≡◌, ℕ, zero, suc, ◌+◌, ◌/◌, ◌%◌, ◌^◌, ◌<◌, ◌≤◌, false, cond, List, [], ◌∷◌, ◌++◌, length, refl, ap, ◌∙◌, arith, length-append}
-use Rattle.std.specs.Prelude.{None, Option, Some, slice_get}
+use Rattle.ubi_change.proofs.Prelude.{◌≡◌, ℕ, zero, suc, ◌+◌, ◌/◌, ◌%◌, ◌^◌, ◌<◌, ◌≤◌, false, cond, List, [], ◌∷◌, ◌++◌, length, refl, ap, ◌∙◌, arith, length-append, None, Option, Some, slice_get, option_map_or, IsGeometry, Sizes, leb_size, data_pad, EcHeader, VidHeader, Image, eraseblocks, in_image, Whole, Volume, turn, given_up, stays_then, Erases, blank_header, copy_header, next_ec, atomic_copy, mapped_plan, mount, plan_of, prepare, program_header, program_text, ready_bytes, ready_ec, release, renew, taken, unmapped_plan, first_cause, ec_at, stays, whole_place, Step}
 use Rattle.std.specs.FinMap as finite
-use Rattle.std.specs.Option.{option_map_or}
-use Rattle.ubi_media.specs.Geometry.{IsGeometry, Sizes, leb_size}
-use Rattle.ubi_media.specs.Record.{data_pad}
-use Rattle.ubi_media.specs.declared.ec.EcHeader.{EcHeader}
-use Rattle.ubi_media.specs.declared.vid.VidHeader.{VidHeader}
-use Rattle.ubi_scan.specs.Image.{Image, eraseblocks, in_image}
-use Rattle.ubi_volume.specs.Attached.{Whole}
-use Rattle.ubi_volume.specs.declared.content.Volume.{Volume}
-use Rattle.ubi_change.specs.Cuts.{turn}
-use Rattle.ubi_change.specs.Frugal.{given_up, stays_then}
-use Rattle.ubi_change.specs.Order.{Erases}
-use Rattle.ubi_change.specs.Plan.{blank_header, copy_header, next_ec, atomic_copy, mapped_plan, mount, plan_of, prepare, program_header, program_text, ready_bytes, ready_ec, release, renew, taken, unmapped_plan}
-use Rattle.ubi_change.specs.Refused.{first_cause}
-use Rattle.ubi_change.specs.Takeable.{ec_at, stays}
-use Rattle.ubi_change.specs.Weak.{whole_place}
-use Rattle.ubi_change.specs.declared.step.Step.{Step}
 use Rattle.ubi_change.proofs.Attached as attached
 use Rattle.ubi_change.proofs.Copied.{length-program_text}
 use Rattle.ubi_change.proofs.Torn.{whole_place-is}

@@ -1,17 +1,5 @@
 -- What was read for a plan, once more is read.
-use Rattle.std.proofs.Common.{◌≡◌, ℕ, subst, List}
-use Rattle.std.specs.Prelude.{Option}
-use Rattle.ubi_media.specs.Geometry.{Sizes}
-use Rattle.ubi_scan.specs.Source.{Agreed, Narrows, Source}
-use Rattle.ubi_volume.specs.Survey.{Seen}
-use Rattle.ubi_volume.specs.declared.attached.BlockState.{BlockState}
-use Rattle.ubi_change.specs.inner.Renaming.{AreHoldersOf}
-use Rattle.ubi_change.specs.inner.Sites.{IsSiteAt}
-use Rattle.ubi_change.specs.inner.Taking.{IsGroundOf}
-use Rattle.ubi_change.specs.Avoided.{Avoided}
-use Rattle.ubi_change.specs.declared.ground.Ground.{Ground}
-use Rattle.ubi_change.specs.declared.holders.Holders.{Holders}
-use Rattle.ubi_change.specs.declared.site.Site.{Site}
+use Rattle.ubi_change.proofs.Prelude.{◌≡◌, ℕ, subst, List, Option, Sizes, Agreed, Narrows, Source, Seen, BlockState, AreHoldersOf, IsSiteAt, IsGroundOf, Avoided, Ground, Holders, Site}
 use Rattle.ubi_change.proofs.WholeReads.{survey_narrowed}
 
 module _ (s : Sizes) (k : Source) (old new : Agreed) where

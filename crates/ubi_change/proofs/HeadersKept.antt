@@ -1,31 +1,6 @@
 -- A program of page 0 comes right behind an erase, or keeps the bytes of the erase-counter header as they stand.
-use Rattle.std.proofs.Common.{◌≡◌, ℕ, zero, suc, ◌+◌, ◌-◌, ◌*◌, ◌/◌, ◌%◌, ◌^◌, ◌<◌, ◌≤◌, ◌⊎◌, inl, inr, Bool, true, false, cond, List, [], ◌∷◌, ◌++◌, append_assoc, length, map, set, take, refl, ap, sym, ◌∙◌, subst, arith, get_or-set_same}
-use Rattle.std.specs.Prelude.{None, Option, Some, nat_lt, slice_get}
+use Rattle.ubi_change.proofs.Prelude.{◌≡◌, ℕ, zero, suc, ◌+◌, ◌-◌, ◌*◌, ◌/◌, ◌%◌, ◌^◌, ◌<◌, ◌≤◌, ◌⊎◌, inl, inr, Bool, true, false, cond, List, [], ◌∷◌, ◌++◌, append_assoc, length, map, set, take, refl, ap, sym, ◌∙◌, subst, arith, get_or-set_same, None, Option, Some, nat_lt, slice_get, enumerate_from, option_map_or, first_chunks, div-add-mod, mod-lt, nat_tests, take_at, same_Some, blank, filled, IsGeometry, Sizes, leb_size, data_pad, vid_bytes, EcHeader, VidHeader, Image, block, ec_area, eraseblocks, in_image, filled-by, filled-is, Whole, Volume, ComesFirst, Programs, blank_header, copy_header, next_ec, vid_page, atomic_copy, mapped_plan, mount, plan_of, prepare, program_header, program_text, ready_bytes, ready_ec, release, renew, taken, unmapped_plan, first_cause, after, step_done, ec_at, is_clean, stays, pages_of, Step}
 use Rattle.std.specs.FinMap as finite
-use Rattle.std.specs.List.{enumerate_from}
-use Rattle.std.specs.Option.{option_map_or}
-use Rattle.std.specs.Simd.{first_chunks}
-use Rattle.std.proofs.Math.Nat.{div-add-mod, mod-lt}
-use Rattle.std.proofs.lemmas.Bool.Decides.{nat_tests}
-use Rattle.std.proofs.lemmas.List.{take_at}
-use Rattle.std.proofs.lemmas.Option.{same_Some}
-use Rattle.ubi_media.specs.Fields.{blank, filled}
-use Rattle.ubi_media.specs.Geometry.{IsGeometry, Sizes, leb_size}
-use Rattle.ubi_media.specs.Record.{data_pad}
-use Rattle.ubi_media.specs.Vid.{vid_bytes}
-use Rattle.ubi_media.specs.declared.ec.EcHeader.{EcHeader}
-use Rattle.ubi_media.specs.declared.vid.VidHeader.{VidHeader}
-use Rattle.ubi_scan.specs.Image.{Image, block, ec_area, eraseblocks, in_image}
-use Rattle.ubi_scan.proofs.Filled.{filled-by, filled-is}
-use Rattle.ubi_volume.specs.Attached.{Whole}
-use Rattle.ubi_volume.specs.declared.content.Volume.{Volume}
-use Rattle.ubi_change.specs.Order.{ComesFirst, Programs}
-use Rattle.ubi_change.specs.Plan.{blank_header, copy_header, next_ec, vid_page, atomic_copy, mapped_plan, mount, plan_of, prepare, program_header, program_text, ready_bytes, ready_ec, release, renew, taken, unmapped_plan}
-use Rattle.ubi_change.specs.Refused.{first_cause}
-use Rattle.ubi_change.specs.Steps.{after, step_done}
-use Rattle.ubi_change.specs.Takeable.{ec_at, is_clean, stays}
-use Rattle.ubi_change.specs.Weak.{pages_of}
-use Rattle.ubi_change.specs.declared.step.Step.{Step}
 use Rattle.ubi_change.specs.declared.step.Step.TheVariants as step
 use Rattle.ubi_change.proofs.Attached as attached
 use Rattle.ubi_change.proofs.PagePlaces.{vid_before}

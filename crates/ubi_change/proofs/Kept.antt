@@ -1,29 +1,9 @@
 -- What eraseblocks mean is that of the winners of the LEBs that count, and of the image sequence number: where these stay, so
 -- does the meaning.
-use Rattle.std.proofs.Common.{◌≡◌, ℕ, suc, ◌<◌, inl, inr, List, [], ◌∷◌, ◌++◌, length, take, refl, ap, ap₂, sym, ◌∙◌, subst, arith}
-use Rattle.std.specs.Prelude.{Option, Some, None, flat_map, slice_index}
+use Rattle.ubi_change.proofs.Prelude.{◌≡◌, ℕ, suc, ◌<◌, inl, inr, List, [], ◌∷◌, ◌++◌, length, take, refl, ap, ap₂, sym, ◌∙◌, subst, arith, Option, Some, None, flat_map, slice_index, option_map_or, Sizes, usable, VolumeRecord, VidHeader, Static, NoFault, block, leb, Leb, NoMember, Wins, is_right, layout, member, image_seq, Wins-unique, winner_or_none, Records, CopyIs, copy_of, AllBlank, Decides, IsTable, CopyRead, AcceptsBlocks, IsWithin, NoMismatch, Means, SlotMeans, AreWhole, IsPiece, LebReads, StaticReads, VolumeReads, piece, Meant, Content, Volume}
 use Rattle.std.specs.FinMap as finite
-use Rattle.std.specs.Option.{option_map_or}
-use Rattle.ubi_media.specs.Geometry.{Sizes}
-use Rattle.ubi_media.specs.Record.{usable}
-use Rattle.ubi_media.specs.declared.record.VolumeRecord.{VolumeRecord}
-use Rattle.ubi_media.specs.declared.vid.VidHeader.{VidHeader}
-use Rattle.ubi_media.specs.declared.vid.VolKind.TheVariants.{Static}
-use Rattle.ubi_scan.specs.Faults.{NoFault}
-use Rattle.ubi_scan.specs.Image.{block, leb}
-use Rattle.ubi_scan.specs.Members.{Leb, NoMember, Wins, is_right, layout, member}
-use Rattle.ubi_scan.specs.Numbers.{image_seq}
-use Rattle.ubi_scan.proofs.Decided.{Wins-unique, winner_or_none}
-use Rattle.ubi_table.specs.Records.{Records}
-use Rattle.ubi_table.specs.Table.{CopyIs, copy_of, AllBlank, Decides, IsTable}
-use Rattle.ubi_table.specs.declared.copy.CopyRead.{CopyRead}
 use Rattle.ubi_table.specs.declared.copy.CopyRead.TheVariants as copy
-use Rattle.ubi_volume.specs.Accepts.{AcceptsBlocks, IsWithin, NoMismatch}
-use Rattle.ubi_volume.specs.Means.{Means, SlotMeans, AreWhole, IsPiece, LebReads, StaticReads, VolumeReads, piece}
-use Rattle.ubi_volume.specs.Meant.{Meant}
-use Rattle.ubi_volume.specs.declared.content.Content.{Content}
 use Rattle.ubi_volume.specs.declared.content.Content.TheVariants as content
-use Rattle.ubi_volume.specs.declared.content.Volume.{Volume}
 
 -- a LEB keeps its winner with that eraseblock, or goes on having no member
 pub record KeepsLeb (s : Sizes) (bs cs : List (List ℕ)) (of : Leb) : Type 0 where

@@ -1,16 +1,6 @@
 -- What the programs of its pages do to an eraseblock with two headers and the first bytes of a LEB.
-use Rattle.std.proofs.Common.{◌≡◌, ℕ, ◌+◌, ◌-◌, ◌*◌, ◌/◌, ◌%◌, ◌<◌, ◌≤◌, inl, inr, true, false, cond, List, [], ◌++◌, append_assoc, append-nil, length, ap, sym, ◌∙◌, arith, length-append}
-use Rattle.std.specs.Prelude.{nat_lt}
-use Rattle.std.proofs.Math.Nat.{div-add-mod, div-eq_of_lt, mod-lt}
-use Rattle.std.proofs.lemmas.Bool.Decides.{nat_tests}
-use Rattle.std.proofs.lemmas.Nat.{mul-le}
-use Rattle.std.proofs.lemmas.Bool.{cases_lt}
-use Rattle.ubi_media.specs.Fields.{blank, filled, overwrite}
-use Rattle.ubi_media.specs.Geometry.{Sizes, IsGeometry}
-use Rattle.ubi_media.proofs.Cases.{zero_or_more}
+use Rattle.ubi_change.proofs.Prelude.{◌≡◌, ℕ, ◌+◌, ◌-◌, ◌*◌, ◌/◌, ◌%◌, ◌<◌, ◌≤◌, inl, inr, true, false, cond, List, [], ◌++◌, append_assoc, append-nil, length, ap, sym, ◌∙◌, arith, length-append, nat_lt, div-add-mod, div-eq_of_lt, mod-lt, nat_tests, mul-le, cases_lt, blank, filled, overwrite, Sizes, IsGeometry, zero_or_more, filled-by, filled-none, filled_inner, filled_more, join_blank, length-filled, overwrite_filled, overwrite_front, laid}
 use Rattle.ubi_change.proofs.PagePlaces.{vid_beside, vid_left, vid_page_within}
-use Rattle.ubi_scan.proofs.Filled.{filled-by, filled-none, filled_inner, filled_more, join_blank, length-filled, overwrite_filled, overwrite_front}
-use Rattle.ubi_scan.proofs.Parts.{laid}
 use Rattle.ubi_scan.proofs.Parts as parts
 
 less_test : (a b : ℕ) → a < b → nat_lt a b ≡ true

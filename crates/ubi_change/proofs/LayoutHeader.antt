@@ -1,19 +1,5 @@
 -- The header of a new copy of the table breaks no rule, and its text can be written under it.
-use Rattle.std.proofs.Common.{◌≡◌, ℕ, ◌*◌, ◌/◌, ◌^◌, ◌<◌, ◌≤◌, inl, inr, List, length, refl, arith}
-use Rattle.std.specs.Prelude.{None}
-use Rattle.std.proofs.lemmas.Bool.Decides.{nat_tests}
-use Rattle.ubi_media.specs.Geometry.{IsGeometry, Sizes, leb_size, slots}
-use Rattle.ubi_media.specs.Vid.{breaks, fields_from, first_fault, vid_fault}
-use Rattle.ubi_media.specs.Widths.{VidFits}
-use Rattle.ubi_media.specs.declared.ec.EcHeader.{EcHeader}
-use Rattle.ubi_media.proofs.Checks.{check_from-lt}
-use Rattle.ubi_scan.specs.Faults.{IsMislaid}
-use Rattle.ubi_scan.specs.Members.{layout}
-use Rattle.ubi_table.specs.Records.{Records, table_bytes}
-use Rattle.ubi_volume.specs.Meant.{Meant}
-use Rattle.ubi_change.specs.RenamePlan.{layout_header, table_pages}
-use Rattle.ubi_change.specs.Weak.{weak_place}
-use Rattle.ubi_change.specs.declared.step.Step.{Step}
+use Rattle.ubi_change.proofs.Prelude.{◌≡◌, ℕ, ◌*◌, ◌/◌, ◌^◌, ◌<◌, ◌≤◌, inl, inr, List, length, refl, arith, None, nat_tests, IsGeometry, Sizes, leb_size, slots, breaks, fields_from, first_fault, vid_fault, VidFits, EcHeader, check_from-lt, IsMislaid, layout, Records, table_bytes, Meant, layout_header, table_pages, weak_place, Step}
 use Rattle.ubi_change.proofs.Copied.{IsCopy}
 use Rattle.ubi_change.proofs.CopyReplaced.{IsPrepared}
 use Rattle.ubi_change.proofs.Emptied.{AreBelow}

@@ -83,3 +83,4 @@ pub mod WeakPlaces
 pub mod WholeReads
 pub mod Written
 pub mod WrittenAfter
+pub mod Prelude

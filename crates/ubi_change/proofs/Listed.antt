@@ -1,9 +1,6 @@
 -- What a look through the steps tells: that none works on a listed eraseblock, or that one does, which no plan has.
-use Rattle.std.proofs.Common.{◌∙◌, ℕ, List, Some, ap, sym, true≢false}
-use Rattle.ubi_media.specs.Geometry.{Sizes}
-use Rattle.ubi_change.specs.Avoided.{Avoided, Avoids, is_listed}
-use Rattle.ubi_change.specs.declared.step.Step.{Step}
-use Rattle.ubi_change.specs.inner.Taking.{ListedIs}
+use Rattle.ubi_change.proofs.Prelude.{◌∙◌, ℕ, List, ap, sym, true≢false, Sizes, Avoided, Avoids, is_listed, Step, ListedIs}
+use Rattle.std.proofs.Common.{Some}
 
 pub never_listed : (s : Sizes) (bs : List (List ℕ)) (av : Avoided) (steps : List Step) (p : ℕ) → Avoids s bs av steps
     → ListedIs av.marks steps (Some p) → ⊥

@@ -1,35 +1,8 @@
 -- The cuts of an atomic copy of a LEB that has a winner: before the turn the old is meant, and from it on the new.
-use Rattle.std.proofs.Common.{◌≡◌, ◌≢◌, ℕ, suc, ◌+◌, ◌-◌, ◌/◌, ◌%◌, ◌^◌, ◌<◌, ◌≤◌, inl, inr, true, List, [], ◌∷◌, ◌++◌, length, set, take, refl, ap, sym, ◌∙◌, subst, arith, length-set}
-use Rattle.std.specs.Prelude.{None, Option, Some}
+use Rattle.ubi_change.proofs.Prelude.{◌≡◌, ◌≢◌, ℕ, suc, ◌+◌, ◌-◌, ◌/◌, ◌%◌, ◌^◌, ◌<◌, ◌≤◌, inl, inr, true, List, [], ◌∷◌, ◌++◌, length, set, take, refl, ap, sym, ◌∙◌, subst, arith, length-set, None, Option, Some, FinMap, nat_cmp, nat_tests, filled, Sizes, IsGeometry, leb_size, data_pad, usable, breaks, fields_from, first_fault, vid_fault, VidFits, EcHeader, VolumeRecord, VidHeader, check_from-lt, block, leb, IsMember, Leb, Wins, has_members, layout, sqnum_at, Agrees, Records, AllBlank, AcceptsBlocks, IsUnlike, IsOutside, SlotMeans, Meant, Volume, changed, copy_header, program_header, program_text, weak_place, whole_place, Step}
 use Rattle.std.specs.FinMap as finite
-use Rattle.std.specs.FinMap.{FinMap}
-use Rattle.std.specs.Ordering.{nat_cmp}
-use Rattle.std.proofs.lemmas.Bool.Decides.{nat_tests}
-use Rattle.ubi_media.specs.Fields.{filled}
-use Rattle.ubi_media.specs.Geometry.{Sizes, IsGeometry, leb_size}
-use Rattle.ubi_media.specs.Record.{data_pad, usable}
-use Rattle.ubi_media.specs.Vid.{breaks, fields_from, first_fault, vid_fault}
-use Rattle.ubi_media.specs.Widths.{VidFits}
-use Rattle.ubi_media.specs.declared.ec.EcHeader.{EcHeader}
-use Rattle.ubi_media.specs.declared.record.VolumeRecord.{VolumeRecord}
-use Rattle.ubi_media.specs.declared.vid.VidHeader.{VidHeader}
 use Rattle.ubi_media.specs.declared.vid.VolKind.TheVariants as kind
-use Rattle.ubi_media.proofs.Checks.{check_from-lt}
-use Rattle.ubi_scan.specs.Image.{block, leb}
-use Rattle.ubi_scan.specs.Members.{IsMember, Leb, Wins, has_members, layout, sqnum_at}
-use Rattle.ubi_scan.proofs.Seq.{Agrees}
-use Rattle.ubi_table.specs.Records.{Records}
-use Rattle.ubi_table.specs.Table.{AllBlank}
-use Rattle.ubi_volume.specs.Accepts.{AcceptsBlocks, IsUnlike}
-use Rattle.ubi_volume.specs.Attached.{IsOutside}
-use Rattle.ubi_volume.specs.Means.{SlotMeans}
-use Rattle.ubi_volume.specs.Meant.{Meant}
 use Rattle.ubi_volume.specs.declared.content.Content.TheVariants as content
-use Rattle.ubi_volume.specs.declared.content.Volume.{Volume}
-use Rattle.ubi_change.specs.Cuts.{changed}
-use Rattle.ubi_change.specs.Plan.{copy_header, program_header, program_text}
-use Rattle.ubi_change.specs.Weak.{weak_place, whole_place}
-use Rattle.ubi_change.specs.declared.step.Step.{Step}
 use Rattle.ubi_change.proofs.Changed as change
 use Rattle.ubi_change.proofs.Copied.{IsCopy}
 use Rattle.ubi_change.proofs.CopyReplaced.{IsGoodCopy, IsPrepared, IsRelease, replaced}

@@ -1,24 +1,9 @@
 -- Eraseblocks that keep the winners of all volumes, and whose table is that of a meaning with other names, are accepted
 -- with it.
-use Rattle.std.proofs.Common.{◌≡◌, ℕ, inl, inr, List, refl, ap, sym, ◌∙◌, subst}
-use Rattle.std.specs.Prelude.{None, Option, Some, option_map}
+use Rattle.ubi_change.proofs.Prelude.{◌≡◌, ℕ, inl, inr, List, refl, ap, sym, ◌∙◌, subst, None, Option, Some, option_map, Sizes, VolumeRecord, NoFault, block, leb, Wins, layout, member, image_seq, HasSpace, Records, IsTable, copy_of, AcceptsBlocks, NoMismatch, Means, SlotMeans, VolumeReads, Meant, records_of, Volume, record_of, records_meant, records_fit}
 use Rattle.std.specs.FinMap as finite
-use Rattle.ubi_media.specs.Geometry.{Sizes}
-use Rattle.ubi_media.specs.declared.record.VolumeRecord.{VolumeRecord}
-use Rattle.ubi_scan.specs.Faults.{NoFault}
-use Rattle.ubi_scan.specs.Image.{block, leb}
-use Rattle.ubi_scan.specs.Members.{Wins, layout, member}
-use Rattle.ubi_scan.specs.Numbers.{image_seq}
-use Rattle.ubi_table.specs.Records.{HasSpace, Records}
-use Rattle.ubi_table.specs.Table.{IsTable, copy_of}
 use Rattle.ubi_table.specs.declared.copy.CopyRead.TheVariants as copy
-use Rattle.ubi_volume.specs.Accepts.{AcceptsBlocks, NoMismatch}
-use Rattle.ubi_volume.specs.Means.{Means, SlotMeans, VolumeReads}
-use Rattle.ubi_volume.specs.Meant.{Meant, records_of}
-use Rattle.ubi_volume.specs.declared.content.Volume.{Volume}
-use Rattle.ubi_volume.proofs.Recorded.{record_of, records_meant}
 use Rattle.ubi_change.proofs.Kept.{KeepsVolumes, kept_back, volume_kept}
-use Rattle.ubi_volume.proofs.MeantRecords.{records_fit}
 use Rattle.ubi_change.proofs.RenamedMeaning.{AreRenamed, IsRenamed, records_alike, renamed_at}
 use Rattle.ubi_change.proofs.SameButName.{AreAlike, IsAlike, reads_named, recorded_was, unlike_was, within_was}
 

@@ -1,21 +1,10 @@
 -- What stays when an eraseblock that wins no LEB that counts becomes the newest good member of a LEB: the winners of
 -- the others, and who wins nothing. The old winner wins nothing any more.
-use Rattle.std.proofs.Common.{◌≡◌, ◌≢◌, ℕ, ◌+◌, ◌<◌, inl, inr, true, List, length, set, ap, ◌∙◌, subst, arith}
-use Rattle.std.proofs.lemmas.Bool.{cases_eq}
-use Rattle.std.specs.Option.{option_map_or}
-use Rattle.std.specs.Prelude.{Option}
-use Rattle.ubi_media.specs.Geometry.{Sizes}
-use Rattle.ubi_media.specs.declared.vid.VidHeader.{VidHeader}
-use Rattle.ubi_scan.specs.Faults.{NoFault}
-use Rattle.ubi_scan.specs.Image.{block}
-use Rattle.ubi_scan.specs.Members.{Leb, Wins, is_good, sqnum_at, sqnum_in}
-use Rattle.ubi_scan.proofs.Decided.{Wins-unique}
-use Rattle.ubi_table.specs.Records.{Records}
+use Rattle.ubi_change.proofs.Prelude.{◌≡◌, ◌≢◌, ℕ, ◌+◌, ◌<◌, inl, inr, true, List, length, set, ap, ◌∙◌, subst, arith, cases_eq, option_map_or, Option, Sizes, VidHeader, NoFault, block, Leb, Wins, is_good, sqnum_at, sqnum_in, Wins-unique, Records, Agrees}
 use Rattle.ubi_change.proofs.Emptied.{AreBelow}
 use Rattle.ubi_change.proofs.Kept.{KeepsLeb, kept_back}
 use Rattle.ubi_change.proofs.Mounted.{IsMount, leb_same, mount_named, mounted_clean, mounted_wins}
 use Rattle.ubi_change.proofs.Replaced.{block_other, block_same, keeps_others, member_was}
-use Rattle.ubi_scan.proofs.Seq.{Agrees}
 use Rattle.ubi_change.proofs.Unused.{one_name}
 use Rattle.ubi_change.proofs.Vacated.{LosesAll}
 

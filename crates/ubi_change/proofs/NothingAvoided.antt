@@ -1,22 +1,7 @@
 -- Where nothing is avoided, what holds of a plan that avoids something is what holds of one that doesn't.
-use Rattle.std.proofs.Common.{◌≡◌, ℕ, List, subst, sym, true≢false}
-use Rattle.std.specs.Prelude.{None, Some}
-use Rattle.ubi_media.specs.Geometry.{Sizes}
-use Rattle.ubi_scan.specs.Image.{Image, in_image}
-use Rattle.ubi_volume.specs.Attached.{Whole}
-use Rattle.ubi_change.specs.Frugal.{IsFrugal}
-use Rattle.ubi_change.specs.Plan.{plan_of}
-use Rattle.ubi_change.specs.Planned.{IsChangeRefusal, IsChangeRefusalAvoiding, IsFrugalOf, IsFrugalAvoiding, IsPlan, IsPlanAvoiding}
-use Rattle.ubi_change.specs.Refused.{first_cause}
-use Rattle.ubi_change.specs.RenamePlan.{rename_plan}
-use Rattle.ubi_change.specs.RenamePlanned.{IsFrugalRename, IsFrugalRenameOf, IsFrugalRenameAvoiding, IsRename, IsRenameRefusal, IsRenameRefusalAvoiding, IsRenameAvoiding}
-use Rattle.ubi_change.specs.RenameRefused.{IsFirstCause, MayBeNamed}
-use Rattle.ubi_change.specs.Avoided.{nothing, avoiding}
-use Rattle.ubi_change.specs.declared.refusal.ChangeRefusal.{ChangeRefusal}
+use Rattle.ubi_change.proofs.Prelude.{◌≡◌, ℕ, List, subst, sym, true≢false, None, Some, Sizes, Image, in_image, Whole, IsFrugal, plan_of, IsChangeRefusal, IsChangeRefusalAvoiding, IsFrugalOf, IsFrugalAvoiding, IsPlan, IsPlanAvoiding, first_cause, rename_plan, IsFrugalRename, IsFrugalRenameOf, IsFrugalRenameAvoiding, IsRename, IsRenameRefusal, IsRenameRefusalAvoiding, IsRenameAvoiding, IsFirstCause, MayBeNamed, nothing, avoiding, ChangeRefusal, RenameRefusal, Step}
 use Rattle.ubi_change.specs.declared.refusal.ChangeRefusal.TheVariants as change
-use Rattle.ubi_change.specs.declared.rename_refusal.RenameRefusal.{RenameRefusal}
 use Rattle.ubi_change.specs.declared.rename_refusal.RenameRefusal.TheVariants as rename
-use Rattle.ubi_change.specs.declared.step.Step.{Step}
 use Rattle.ubi_change.proofs.Shown.{avoiding_nothing}
 
 -- a fact of what a plan sees

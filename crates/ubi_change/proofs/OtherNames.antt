@@ -1,21 +1,7 @@
 -- Which other volume of a table has a name.
-use Rattle.std.proofs.Common.{◌≡◌, ◌≢◌, ℕ, suc, ◌<◌, ◌==◌, ◌&&◌, Bool, true, false, cond, not, List, [], ◌∷◌, length, get_or, refl, ap, sym, ◌∙◌, subst, arith}
-use Rattle.std.specs.Prelude.{IsSome, None, Option, Some, find, is_some, option_copied}
-use Rattle.std.specs.Borrow.{Bor}
-use Rattle.std.specs.Cmp.{nat_cmp_total, unsigned_Decides}
-use Rattle.std.specs.Cmp.Lexicographic.{same_text}
+use Rattle.ubi_change.proofs.Prelude.{◌≡◌, ◌≢◌, ℕ, suc, ◌<◌, Bool, true, false, cond, not, List, [], ◌∷◌, length, get_or, refl, ap, sym, ◌∙◌, subst, arith, IsSome, None, Option, Some, find, is_some, option_copied, Bor, nat_cmp_total, unsigned_Decides, same_text, same_bytes, VolumeRecord, found_passes, none_passes, entry_place, at_other, IsFreeName, Records, Entry, bytes_Decides, listed_at, other_named}
+use Rattle.std.proofs.Common.{◌==◌, ◌&&◌}
 use Rattle.std.specs.FinMap as finite
-use Rattle.ubi_media.specs.Fields.{same_bytes}
-use Rattle.ubi_media.specs.declared.record.VolumeRecord.{VolumeRecord}
-use Rattle.ubi_media.proofs.First.{found_passes, none_passes}
-use Rattle.ubi_scan.proofs.Entries.{entry_place}
-use Rattle.ubi_scan.proofs.Keys.{at_other}
-use Rattle.ubi_table.specs.Named.{IsFreeName}
-use Rattle.ubi_table.specs.Records.{Records}
-use Rattle.ubi_table.proofs.Names.{Entry}
-use Rattle.ubi_volume.proofs.Equal.{bytes_Decides}
-use Rattle.ubi_volume.proofs.Gathered.{listed_at}
-use Rattle.ubi_change.specs.inner.Renaming.{other_named}
 use Rattle.ubi_change.proofs.Premises.{left_of, right_of}
 
 -- what is found stands in the list

@@ -1,12 +1,5 @@
 -- The bytes of the page that holds a volume-identifier header.
-use Rattle.std.proofs.Common.{◌≡◌, ℕ, ◌-◌, ◌%◌, ◌≤◌, List, ◌++◌, length, take, ap, ap₂, sym, ◌∙◌, arith, length-append}
-use Rattle.std.specs.Prelude.{OnOk, Result, Ok, Err}
-use Rattle.std.specs.Bool.{if◌then◌else◌}
-use Rattle.std.specs.Result.{is_ok}
-use Rattle.std.proofs.lemmas.List.{take_all}
-use Rattle.ubi_media.specs.Fields.{blank, filled}
-use Rattle.ubi_media.specs.Geometry.{IsGeometry, Sizes}
-use Rattle.ubi_scan.proofs.Filled.{filled-is, length-filled}
+use Rattle.ubi_change.proofs.Prelude.{◌≡◌, ℕ, ◌-◌, ◌%◌, ◌≤◌, List, ◌++◌, length, take, ap, ap₂, sym, ◌∙◌, arith, length-append, OnOk, Result, Ok, Err, if◌then◌else◌, is_ok, take_all, blank, filled, IsGeometry, Sizes, filled-is, length-filled}
 use Rattle.ubi_change.proofs.PagePlaces.{vid_left}
 
 -- bytes that were made longer by bytes 0xFF, if memory was left

@@ -1,25 +1,8 @@
 -- Between two erases of an eraseblock a plan programs its pages in rising order, none twice but page 0, and that not
 -- three
 -- times.
-use Rattle.std.proofs.Common.{◌≡◌, ◌≢◌, ℕ, zero, suc, ◌+◌, ◌/◌, ◌<◌, ◌≤◌, ◌⊎◌, inl, inr, Bool, true, false, cond, List, [], ◌∷◌, ◌++◌, append_assoc, length, map, refl, ap, sym, ◌∙◌, subst, arith}
-use Rattle.std.specs.Prelude.{None, Option, Some}
+use Rattle.ubi_change.proofs.Prelude.{◌≡◌, ◌≢◌, ℕ, zero, suc, ◌+◌, ◌/◌, ◌<◌, ◌≤◌, ◌⊎◌, inl, inr, Bool, true, false, cond, List, [], ◌∷◌, ◌++◌, append_assoc, length, map, refl, ap, sym, ◌∙◌, subst, arith, None, Option, Some, enumerate_from, option_map_or, first_chunks, same_Some, cases_eq, IsGeometry, Sizes, EcHeader, data_pad, VolumeRecord, VidHeader, Whole, NoErase, Programs, blank_header, copy_header, next_ec, vid_page, atomic_copy, mapped_plan, mount, needs, plan_of, prepare, program_header, program_text, ready_bytes, ready_ec, release, renew, taken, unmapped_plan, ec_at, is_clean, stays, takeable, pages_of, Step}
 use Rattle.std.specs.FinMap as finite
-use Rattle.std.specs.List.{enumerate_from}
-use Rattle.std.specs.Option.{option_map_or}
-use Rattle.std.specs.Simd.{first_chunks}
-use Rattle.std.proofs.lemmas.Option.{same_Some}
-use Rattle.std.proofs.lemmas.Bool.{cases_eq}
-use Rattle.ubi_media.specs.Geometry.{IsGeometry, Sizes}
-use Rattle.ubi_media.specs.declared.ec.EcHeader.{EcHeader}
-use Rattle.ubi_media.specs.Record.{data_pad}
-use Rattle.ubi_media.specs.declared.record.VolumeRecord.{VolumeRecord}
-use Rattle.ubi_media.specs.declared.vid.VidHeader.{VidHeader}
-use Rattle.ubi_volume.specs.Attached.{Whole}
-use Rattle.ubi_change.specs.Order.{NoErase, Programs}
-use Rattle.ubi_change.specs.Plan.{blank_header, copy_header, next_ec, vid_page, atomic_copy, mapped_plan, mount, needs, plan_of, prepare, program_header, program_text, ready_bytes, ready_ec, release, renew, taken, unmapped_plan}
-use Rattle.ubi_change.specs.Takeable.{ec_at, is_clean, stays, takeable}
-use Rattle.ubi_change.specs.Weak.{pages_of}
-use Rattle.ubi_change.specs.declared.step.Step.{Step}
 use Rattle.ubi_change.specs.declared.step.Step.TheVariants as step
 use Rattle.ubi_change.proofs.Choosing.{two_apart}
 use Rattle.ubi_change.proofs.PagePlaces.{vid_before}

@@ -1,26 +1,6 @@
 -- Each step of a plan fits what those before it leave.
-use Rattle.std.proofs.Common.{◌≡◌, ℕ, ◌+◌, ◌/◌, ◌%◌, ◌^◌, ◌<◌, ◌≤◌, Bool, true, false, cond, List, [], ◌∷◌, ◌++◌, length, set, refl, ap, sym, ◌∙◌, subst, arith, length-set, get_or-set_same}
-use Rattle.std.specs.Prelude.{None, Option, Some}
+use Rattle.ubi_change.proofs.Prelude.{◌≡◌, ℕ, ◌+◌, ◌/◌, ◌%◌, ◌^◌, ◌<◌, ◌≤◌, Bool, true, false, cond, List, [], ◌∷◌, ◌++◌, length, set, refl, ap, sym, ◌∙◌, subst, arith, length-set, get_or-set_same, None, Option, Some, option_map_or, fold-append, AreBytes, filled, IsGeometry, Sizes, leb_size, data_pad, vid_bytes, EcHeader, VidHeader, Image, block, eraseblocks, in_image, laid, found_wins, Whole, Volume, AllFit, blank_header, copy_header, next_ec, atomic_copy, mapped_plan, plan_of, prepare, program_header, program_text, ready_bytes, ready_ec, release, renew, taken, unmapped_plan, first_cause, step_done, ec_at, is_clean, stays, Step}
 use Rattle.std.specs.FinMap as finite
-use Rattle.std.specs.Option.{option_map_or}
-use Rattle.std.proofs.lemmas.List.Sums.{fold-append}
-use Rattle.ubi_media.specs.Fields.{AreBytes, filled}
-use Rattle.ubi_media.specs.Geometry.{IsGeometry, Sizes, leb_size}
-use Rattle.ubi_media.specs.Record.{data_pad}
-use Rattle.ubi_media.specs.Vid.{vid_bytes}
-use Rattle.ubi_media.specs.declared.ec.EcHeader.{EcHeader}
-use Rattle.ubi_media.specs.declared.vid.VidHeader.{VidHeader}
-use Rattle.ubi_scan.specs.Image.{Image, block, eraseblocks, in_image}
-use Rattle.ubi_scan.proofs.Parts.{laid}
-use Rattle.ubi_volume.proofs.Winners.{found_wins}
-use Rattle.ubi_volume.specs.Attached.{Whole}
-use Rattle.ubi_volume.specs.declared.content.Volume.{Volume}
-use Rattle.ubi_change.specs.Fitting.{AllFit}
-use Rattle.ubi_change.specs.Plan.{blank_header, copy_header, next_ec, atomic_copy, mapped_plan, plan_of, prepare, program_header, program_text, ready_bytes, ready_ec, release, renew, taken, unmapped_plan}
-use Rattle.ubi_change.specs.Refused.{first_cause}
-use Rattle.ubi_change.specs.Steps.{step_done}
-use Rattle.ubi_change.specs.Takeable.{ec_at, is_clean, stays}
-use Rattle.ubi_change.specs.declared.step.Step.{Step}
 use Rattle.ubi_change.proofs.Attached as attached
 use Rattle.ubi_change.proofs.CopyFits.{bytes-ec, header_done, header_fits, text_fits}
 use Rattle.ubi_change.proofs.Fits.{FitAll, all_fit, fit-append, renew_fits}

@@ -1,17 +1,7 @@
 -- The plan of an attached image, against which no cause stands, touches just what it needs, erases what is given up,
 -- and
 -- counts each erase.
-use Rattle.std.proofs.Common.{◌≡◌, ℕ, ◌^◌, ◌<◌, List}
-use Rattle.std.specs.Prelude.{None, Some}
-use Rattle.std.specs.FinMap.{get}
-use Rattle.ubi_media.specs.Geometry.{IsGeometry}
-use Rattle.ubi_media.proofs.Padding.{half_pad, reserved_within}
-use Rattle.ubi_scan.specs.Image.{Image, eraseblocks, in_image}
-use Rattle.ubi_volume.specs.Attached.{Whole}
-use Rattle.ubi_volume.specs.declared.content.Volume.{Volume}
-use Rattle.ubi_change.specs.Frugal.{IsFrugal}
-use Rattle.ubi_change.specs.Plan.{plan_of}
-use Rattle.ubi_change.specs.Refused.{first_cause}
+use Rattle.ubi_change.proofs.Prelude.{◌≡◌, ℕ, ◌^◌, ◌<◌, List, None, Some, get, IsGeometry, half_pad, reserved_within, Image, eraseblocks, in_image, Whole, Volume, IsFrugal, plan_of, first_cause}
 use Rattle.ubi_change.proofs.Attached.{no_cause}
 use Rattle.ubi_change.proofs.CountsErases.{plan_counts}
 use Rattle.ubi_change.proofs.GivenUp.{plan_gives_up}

@@ -1,16 +1,5 @@
 -- What holds of the steps of a change, since they are those of its plan.
-use Rattle.std.proofs.Common.{ℕ, List, sym, subst}
-use Rattle.ubi_media.specs.Fields.{AreBytes}
-use Rattle.ubi_media.specs.Geometry.{IsGeometry}
-use Rattle.ubi_media.proofs.Padding.{half_pad, reserved_within}
-use Rattle.ubi_scan.specs.Image.{Image, in_image}
-use Rattle.ubi_change.specs.Cuts.{SurvivesCuts}
-use Rattle.ubi_change.specs.Fitting.{AllFit}
-use Rattle.ubi_change.specs.Frugal.{IsFrugal}
-use Rattle.ubi_change.specs.Order.{RisesBetweenErases}
-use Rattle.ubi_change.specs.Planned.{IsPlanOf, IsPlanAvoiding}
-use Rattle.ubi_change.specs.Avoided.{ReadBlank, Avoided, Avoids, avoiding}
-use Rattle.ubi_change.specs.declared.step.Step.{Step}
+use Rattle.ubi_change.proofs.Prelude.{ℕ, List, sym, subst, AreBytes, IsGeometry, half_pad, reserved_within, Image, in_image, SurvivesCuts, AllFit, IsFrugal, RisesBetweenErases, IsPlanOf, IsPlanAvoiding, ReadBlank, Avoided, Avoids, avoiding, Step}
 use Rattle.ubi_change.proofs.AttachedImage.{mean_few, seq_narrow}
 use Rattle.ubi_change.proofs.PlanFits.{plan_fits}
 use Rattle.ubi_change.proofs.PlanFrugal.{plan_frugal}

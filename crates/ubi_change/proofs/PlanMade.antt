@@ -1,28 +1,9 @@
 -- What was read for a change makes its plan: which cause stands, and that the steps are those of the plan.
-use Rattle.std.proofs.Common.{◌≡◌, ℕ, ◌+◌, ◌<◌, ◌≤◌, inl, inr, Bool, true, false, List, [], ◌∷◌, ◌++◌, length, refl, ap, ap₂, sym, ◌∙◌, subst, arith}
-use Rattle.std.specs.Prelude.{None, Option, Some, nat_lt, option_map}
-use Rattle.std.specs.Bool.{then_some}
+use Rattle.ubi_change.proofs.Prelude.{◌≡◌, ℕ, ◌+◌, ◌<◌, ◌≤◌, inl, inr, Bool, true, false, List, [], ◌∷◌, ◌++◌, length, refl, ap, ap₂, sym, ◌∙◌, subst, arith, None, Option, Some, nat_lt, option_map, then_some, option_map_or, nat_tests, Sizes, data_pad, VolumeRecord, carriers, Whole, AreSites, IsSitesRefusal, IsTooFew, image_causes, needed, steps_on, site_at, first_taken, blank_header, copy_header, mapped_plan, mount, needs, plan_of, ready_ec, taken, unmapped_plan, first_of, ec_at, takeable, ChangeRefusal, Site, FirstTwo, Target}
 use Rattle.std.specs.FinMap as finite
-use Rattle.std.specs.Option.{option_map_or}
-use Rattle.std.proofs.lemmas.Bool.Decides.{nat_tests}
-use Rattle.ubi_media.specs.Geometry.{Sizes}
-use Rattle.ubi_media.specs.Record.{data_pad}
-use Rattle.ubi_media.specs.declared.record.VolumeRecord.{VolumeRecord}
-use Rattle.ubi_scan.specs.Numbers.{carriers}
-use Rattle.ubi_volume.specs.Attached.{Whole}
-use Rattle.ubi_change.specs.inner.Making.{AreSites, IsSitesRefusal, IsTooFew, image_causes, needed, steps_on}
-use Rattle.ubi_change.specs.inner.Sites.{site_at}
-use Rattle.ubi_change.specs.inner.Taking.{first_taken}
-use Rattle.ubi_change.specs.Plan.{blank_header, copy_header, mapped_plan, mount, needs, plan_of, ready_ec, taken, unmapped_plan}
-use Rattle.ubi_change.specs.Refused.{first_of}
-use Rattle.ubi_change.specs.Takeable.{ec_at, takeable}
-use Rattle.ubi_change.specs.declared.refusal.ChangeRefusal.{ChangeRefusal}
 use Rattle.ubi_change.specs.declared.refusal.ChangeRefusal.TheVariants as refusal
-use Rattle.ubi_change.specs.declared.site.Site.{Site}
 use Rattle.ubi_change.specs.declared.sites.Sites.{Sites as OnSites}
 use Rattle.ubi_change.specs.declared.sites.Sites.TheVariants as on
-use Rattle.ubi_change.specs.declared.taking.FirstTwo.{FirstTwo}
-use Rattle.ubi_change.specs.declared.target.Target.{Target}
 use Rattle.ubi_change.proofs.Sited.{copy-is, first_missing, first_some, second_missing, second_some, site_none, site_there}
 
 more_test : (a b : ℕ) → a < b → nat_lt a b ≡ true

@@ -1,30 +1,8 @@
 -- The law: the plan of an attached image, against which no cause stands, survives every cut.
-use Rattle.std.proofs.Common.{◌≡◌, ◌≢◌, ◌*◌, ◌/◌, ◌<◌, ◌⊎◌, ◌==◌, ◌&&◌, ◌∷◌, [], List, ap, arith, get_or, get_or-set_other, get_or-set_same, inl, inr, length, length-set, nat_lt, refl, subst, suc, sym, take, true, zero, ◌∙◌, ℕ}
-use Rattle.std.specs.Prelude.{IfSome, None, Option, Some, if◌then◌else◌}
-use Rattle.std.specs.List.{concat}
-use Rattle.std.specs.Simd.{first_chunks}
+use Rattle.ubi_change.proofs.Prelude.{◌≡◌, ◌≢◌, ◌*◌, ◌/◌, ◌<◌, ◌⊎◌, ◌∷◌, [], List, ap, arith, get_or, get_or-set_other, get_or-set_same, inl, inr, length, length-set, refl, subst, suc, sym, take, true, zero, ◌∙◌, ℕ, IfSome, None, Option, Some, concat, first_chunks, div-mul-add, eqb-true, ltb-true, get, IsGeometry, Sizes, rec_fault, half_pad, reserved_within, below_same_or_above, Image, IsWhole, block, eraseblocks, in_image, first_chunks-concat, length-concat, length-first_chunks, length-blank, AcceptsBlocks, Whole, IsVolume, Volume, SurvivesCuts, changed, turn, AllFit, fits, only_clears, page_of, PlanSurvives, left, plan_of, first_cause, after, block_after, step_done, target, Step}
+use Rattle.std.proofs.Common.{◌==◌, ◌&&◌, nat_lt}
+use Rattle.std.specs.Prelude.{if◌then◌else◌}
 use Rattle.std.proofs.Math.Nat as nat
-use Rattle.std.proofs.lemmas.Nat.{div-mul-add}
-use Rattle.std.proofs.lemmas.Bool.{eqb-true, ltb-true}
-use Rattle.std.specs.FinMap.{get}
-use Rattle.ubi_media.specs.Geometry.{IsGeometry, Sizes}
-use Rattle.ubi_media.specs.Record.{rec_fault}
-use Rattle.ubi_media.proofs.Padding.{half_pad, reserved_within}
-use Rattle.ubi_media.proofs.Cases.{below_same_or_above}
-use Rattle.ubi_scan.specs.Image.{Image, IsWhole, block, eraseblocks, in_image}
-use Rattle.ubi_scan.proofs.Chunks.{first_chunks-concat, length-concat, length-first_chunks}
-use Rattle.ubi_scan.proofs.Filled.{length-blank}
-use Rattle.ubi_volume.specs.Accepts.{AcceptsBlocks}
-use Rattle.ubi_volume.specs.Attached.{Whole}
-use Rattle.ubi_volume.specs.Meant.{IsVolume}
-use Rattle.ubi_volume.specs.declared.content.Volume.{Volume}
-use Rattle.ubi_change.specs.Cuts.{SurvivesCuts, changed, turn}
-use Rattle.ubi_change.specs.Fitting.{AllFit, fits, only_clears, page_of}
-use Rattle.ubi_change.specs.Laws.{PlanSurvives, left}
-use Rattle.ubi_change.specs.Plan.{plan_of}
-use Rattle.ubi_change.specs.Refused.{first_cause}
-use Rattle.ubi_change.specs.Steps.{after, block_after, step_done, target}
-use Rattle.ubi_change.specs.declared.step.Step.{Step}
 use Rattle.ubi_change.specs.declared.step.Step.TheVariants as step
 use Rattle.ubi_change.proofs.Attached.{survives_all}
 use Rattle.ubi_change.proofs.AttachedImage.{mean_few, seq_narrow, whole}

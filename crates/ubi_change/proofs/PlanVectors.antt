@@ -1,25 +1,9 @@
 -- Plans, the places where they turn, and the images that they leave, computed by the definitions.
-use Rattle.std.proofs.Common.{◌≡◌, ℕ, List, [], ◌∷◌, ◌++◌, false, replicate, refl}
-use Rattle.std.specs.FinMap.{FinMap}
-use Rattle.ubi_media.specs.Check.{check_from, remainder}
+use Rattle.ubi_change.proofs.Prelude.{◌≡◌, ℕ, List, [], ◌∷◌, ◌++◌, false, replicate, refl, FinMap, check_from, remainder, ec_fields, ec_reading, filled, overwrite, form_of, Sizes, vid_fields, vid_reading, VolumeRecord, leb_cmp, Whole, Meant, BlockState, turn, mapped_plan, unmapped_plan, after, takeable, Step}
 use Rattle.ubi_media.specs.Ec as ec
-use Rattle.ubi_media.specs.Ec.{ec_fields, ec_reading}
-use Rattle.ubi_media.specs.Fields.{filled, overwrite, form_of}
-use Rattle.ubi_media.specs.Geometry.{Sizes}
 use Rattle.ubi_media.specs.Vid as vid
-use Rattle.ubi_media.specs.Vid.{vid_fields, vid_reading}
-use Rattle.ubi_media.specs.declared.record.VolumeRecord.{VolumeRecord}
 use Rattle.ubi_media.specs.declared.vid.VolKind.TheVariants as kind
-use Rattle.ubi_scan.specs.Scan.{leb_cmp}
-use Rattle.ubi_volume.specs.Attached.{Whole}
-use Rattle.ubi_volume.specs.Meant.{Meant}
-use Rattle.ubi_volume.specs.declared.attached.BlockState.{BlockState}
 use Rattle.ubi_volume.specs.declared.attached.BlockState.TheVariants as state
-use Rattle.ubi_change.specs.Cuts.{turn}
-use Rattle.ubi_change.specs.Plan.{mapped_plan, unmapped_plan}
-use Rattle.ubi_change.specs.Steps.{after}
-use Rattle.ubi_change.specs.Takeable.{takeable}
-use Rattle.ubi_change.specs.declared.step.Step.{Step}
 use Rattle.ubi_change.specs.declared.step.Step.TheVariants as step
 
 abbrev g1 : Sizes

@@ -1,22 +1,6 @@
 -- An eraseblock that is taken is made ready.
-use Rattle.std.proofs.Common.{◌≡◌, ℕ, zero, suc, ◌-◌, ◌<◌, ◌≤◌, true, List, [], ◌++◌, length, set, take, drop, refl, ap, sym, ◌∙◌, arith, length-drop}
-use Rattle.std.specs.Prelude.{IsSome}
-use Rattle.std.proofs.lemmas.List.{length-take-le, set-get_or, take-append-drop}
-use Rattle.ubi_media.specs.Ec.{ec_bytes}
-use Rattle.ubi_media.specs.Fields.{filled, is_blank}
-use Rattle.ubi_media.specs.Geometry.{Sizes, IsGeometry}
-use Rattle.ubi_media.specs.declared.ec.EcHeader.{EcHeader}
-use Rattle.ubi_media.specs.declared.ec.EcRead.{EcRead}
+use Rattle.ubi_change.proofs.Prelude.{◌≡◌, ℕ, zero, suc, ◌-◌, ◌<◌, ◌≤◌, true, List, [], ◌++◌, length, set, take, drop, refl, ap, sym, ◌∙◌, arith, length-drop, IsSome, length-take-le, set-get_or, take-append-drop, ec_bytes, filled, is_blank, Sizes, IsGeometry, EcHeader, EcRead, block, ec, ec_area, seq_if, valid_ec, AllBlank, AcceptsBlocks, Meant, blank_text, renew, Agrees, filled-by}
 use Rattle.ubi_media.specs.declared.ec.EcRead.TheVariants as ec_read
-use Rattle.ubi_scan.specs.Image.{block, ec, ec_area}
-use Rattle.ubi_scan.specs.Numbers.{seq_if, valid_ec}
-use Rattle.ubi_table.specs.Table.{AllBlank}
-use Rattle.ubi_volume.specs.Accepts.{AcceptsBlocks}
-use Rattle.ubi_volume.specs.Meant.{Meant}
-use Rattle.ubi_volume.proofs.Blanks.{blank_text}
-use Rattle.ubi_change.specs.Plan.{renew}
-use Rattle.ubi_scan.proofs.Seq.{Agrees}
-use Rattle.ubi_scan.proofs.Filled.{filled-by}
 use Rattle.ubi_change.proofs.CopyReplaced.{IsPrepared}
 use Rattle.ubi_change.proofs.Renewed.{IsCounter, counter_back, counter_size, renew_accepted, renewed}
 use Rattle.ubi_change.proofs.Runs.{AtEachCut}

@@ -1,18 +1,5 @@
 -- Steps that are added to those before them.
-use Rattle.std.proofs.Common.{◌≡◌, ℕ, zero, suc, ◌+◌, ◌*◌, false, cond, List, [], ◌∷◌, ◌++◌, append_assoc, map, take, drop, ap, ap₂, sym, ◌∙◌, arith}
-use Rattle.std.specs.Prelude.{Option}
-use Rattle.std.specs.List.{enumerate_from}
-use Rattle.std.specs.Simd.{first_chunks}
-use Rattle.std.proofs.lemmas.List.{drop-drop}
-use Rattle.ubi_media.specs.Ec.{ec_bytes}
-use Rattle.ubi_media.specs.Geometry.{Sizes}
-use Rattle.ubi_media.specs.declared.ec.EcHeader.{EcHeader}
-use Rattle.ubi_media.specs.declared.vid.VidHeader.{VidHeader}
-use Rattle.ubi_scan.specs.Scan.{Found}
-use Rattle.ubi_change.specs.Plan.{next_ec, program_header, renew}
-use Rattle.ubi_change.specs.inner.Sites.{mount_on, release_on, stays_on}
-use Rattle.ubi_change.specs.declared.site.Site.{Site}
-use Rattle.ubi_change.specs.declared.step.Step.{Step}
+use Rattle.ubi_change.proofs.Prelude.{◌≡◌, ℕ, zero, suc, ◌+◌, ◌*◌, false, cond, List, [], ◌∷◌, ◌++◌, append_assoc, map, take, drop, ap, ap₂, sym, ◌∙◌, arith, Option, enumerate_from, first_chunks, drop-drop, ec_bytes, Sizes, EcHeader, VidHeader, Found, next_ec, program_header, renew, mount_on, release_on, stays_on, Site, Step}
 use Rattle.ubi_change.specs.declared.step.Step.TheVariants as step
 
 -- the programs of the first pages of a text, from a page on

@@ -1,34 +1,6 @@
 -- The plan of a rename of an attached image, against which nothing stands: its parts, and that it survives every cut.
-use Rattle.std.proofs.Common.{◌≡◌, ◌≢◌, ℕ, suc, ◌+◌, ◌*◌, ◌^◌, ◌<◌, ◌≤◌, inl, inr, Bool, true, false, cond, List, ◌++◌, append_assoc, length, refl, ap, sym, ◌∙◌, subst, arith}
-use Rattle.std.specs.Prelude.{None, Option, Some, count_by, nat_lt}
+use Rattle.ubi_change.proofs.Prelude.{◌≡◌, ◌≢◌, ℕ, suc, ◌+◌, ◌*◌, ◌^◌, ◌<◌, ◌≤◌, inl, inr, Bool, true, false, cond, List, ◌++◌, append_assoc, length, refl, ap, sym, ◌∙◌, subst, arith, None, Option, Some, count_by, nat_lt, option_map_or, cases_lt, fold-append, sum_by-append, IsGeometry, Sizes, slots, EcHeader, VidHeader, Image, eraseblocks, in_image, IsMember, Leb, Wins, layout, AreRecords, Records, table_bytes, AllBlank, AcceptsBlocks, Whole, Meant, records_of, Volume, records_are, records_meant, found_wins, none_found, programs_copy, turn, mount, prepare, program_text, ready_bytes, ready_ec, release, taken, copy_plan, holder, layout_header, rename_plan, renamed_pages, table_pages, LeavesBothGood, KeepsReading, SurvivesRename, BothGood, MayBeNamed, ReadSame, renamed, after, step_done, ec_at, weak_place, whole_place, Step}
 use Rattle.std.specs.FinMap as finite
-use Rattle.std.specs.Option.{option_map_or}
-use Rattle.std.proofs.lemmas.Bool.{cases_lt}
-use Rattle.std.proofs.lemmas.List.Sums.{fold-append, sum_by-append}
-use Rattle.ubi_media.specs.Geometry.{IsGeometry, Sizes, slots}
-use Rattle.ubi_media.specs.declared.ec.EcHeader.{EcHeader}
-use Rattle.ubi_media.specs.declared.vid.VidHeader.{VidHeader}
-use Rattle.ubi_scan.specs.Image.{Image, eraseblocks, in_image}
-use Rattle.ubi_scan.specs.Members.{IsMember, Leb, Wins, layout}
-use Rattle.ubi_table.specs.Records.{AreRecords, Records, table_bytes}
-use Rattle.ubi_table.specs.Table.{AllBlank}
-use Rattle.ubi_volume.specs.Accepts.{AcceptsBlocks}
-use Rattle.ubi_volume.specs.Attached.{Whole}
-use Rattle.ubi_volume.specs.Meant.{Meant, records_of}
-use Rattle.ubi_volume.specs.declared.content.Volume.{Volume}
-use Rattle.ubi_volume.proofs.MeantRecords.{records_are}
-use Rattle.ubi_volume.proofs.Recorded.{records_meant}
-use Rattle.ubi_volume.proofs.Winners.{found_wins, none_found}
-use Rattle.ubi_change.specs.Cuts.{programs_copy, turn}
-use Rattle.ubi_change.specs.Plan.{mount, prepare, program_text, ready_bytes, ready_ec, release, taken}
-use Rattle.ubi_change.specs.RenamePlan.{copy_plan, holder, layout_header, rename_plan, renamed_pages, table_pages}
-use Rattle.ubi_change.specs.RenamePlanned.{LeavesBothGood, KeepsReading, SurvivesRename}
-use Rattle.ubi_change.specs.RenameRefused.{BothGood, MayBeNamed}
-use Rattle.ubi_change.specs.Renamed.{ReadSame, renamed}
-use Rattle.ubi_change.specs.Steps.{after, step_done}
-use Rattle.ubi_change.specs.Takeable.{ec_at}
-use Rattle.ubi_change.specs.Weak.{weak_place, whole_place}
-use Rattle.ubi_change.specs.declared.step.Step.{Step}
 use Rattle.ubi_change.proofs.AttachedImage as on
 use Rattle.ubi_change.proofs.Choosing.{MayBeTaken, may_be_taken, two_apart}
 use Rattle.ubi_change.proofs.Copied.{IsCopy}

@@ -1,26 +1,7 @@
 -- Which cause stands first against a rename, by what the functions on the way to its plan found.
-use Rattle.std.proofs.Common.{◌≡◌, ℕ, zero, suc, ◌+◌, ◌<◌, ◌≤◌, inl, inr, true, List, length, ap, ◌∙◌, subst, arith}
-use Rattle.std.specs.Prelude.{IsSome, None, Some, option_map}
+use Rattle.ubi_change.proofs.Prelude.{◌≡◌, ℕ, zero, suc, ◌+◌, ◌<◌, ◌≤◌, inl, inr, true, List, length, ap, ◌∙◌, subst, arith, IsSome, None, Some, option_map, cases_lt, Sizes, is_name, Image, eraseblocks, Records, some_record, Whole, IsSurvey, Seen, Volume, record_of, renamed_pages, IsRenameRefusalAvoiding, BothGood, HasName, IsFirstCause, Stands, rank, takeable, weak_place, IsNamable, IsNamingRefusal, RenameRefusal, Avoided, avoiding}
 use Rattle.std.specs.FinMap as finite
-use Rattle.std.proofs.lemmas.Bool.{cases_lt}
-use Rattle.ubi_media.specs.Geometry.{Sizes}
-use Rattle.ubi_media.specs.Name.{is_name}
-use Rattle.ubi_scan.specs.Image.{Image, eraseblocks}
-use Rattle.ubi_table.specs.Records.{Records}
-use Rattle.ubi_table.proofs.NamedTable.{some_record}
-use Rattle.ubi_volume.specs.Attached.{Whole}
-use Rattle.ubi_volume.specs.Survey.{IsSurvey, Seen}
-use Rattle.ubi_volume.specs.declared.content.Volume.{Volume}
-use Rattle.ubi_volume.proofs.Recorded.{record_of}
-use Rattle.ubi_change.specs.RenamePlan.{renamed_pages}
-use Rattle.ubi_change.specs.RenamePlanned.{IsRenameRefusalAvoiding}
-use Rattle.ubi_change.specs.RenameRefused.{BothGood, HasName, IsFirstCause, Stands, rank}
-use Rattle.ubi_change.specs.Takeable.{takeable}
-use Rattle.ubi_change.specs.Weak.{weak_place}
-use Rattle.ubi_change.specs.inner.Renaming.{IsNamable, IsNamingRefusal}
-use Rattle.ubi_change.specs.declared.rename_refusal.RenameRefusal.{RenameRefusal}
 use Rattle.ubi_change.specs.declared.rename_refusal.RenameRefusal.TheVariants as refusal
-use Rattle.ubi_change.specs.Avoided.{Avoided, avoiding}
 use Rattle.ubi_change.proofs.Surveys.{has_none, has_volume, whole}
 
 module _ (s : Sizes) (bs : List (List ℕ)) (a : Whole) (id : ℕ) (name : List ℕ) where

@@ -1,12 +1,5 @@
 -- Each step of the plan of a rename fits what those before it leave.
-use Rattle.std.proofs.Common.{sym, subst, arith}
-use Rattle.ubi_media.specs.Fields.{AreBytes}
-use Rattle.ubi_scan.specs.Image.{in_image}
-use Rattle.ubi_volume.specs.Meant.{records_of}
-use Rattle.ubi_change.specs.Fitting.{AllFit}
-use Rattle.ubi_change.specs.Plan.{ready_bytes}
-use Rattle.ubi_change.specs.RenamePlan.{rename_plan, renamed_pages}
-use Rattle.ubi_change.specs.Takeable.{ec_at}
+use Rattle.ubi_change.proofs.Prelude.{sym, subst, arith, AreBytes, in_image, records_of, AllFit, ready_bytes, rename_plan, renamed_pages, ec_at}
 use Rattle.ubi_change.proofs.Fits.{FitAll, all_fit, fit-append}
 use Rattle.ubi_change.proofs.PlanFits.{copy_fits}
 use Rattle.ubi_change.proofs.RenameAttached as rename

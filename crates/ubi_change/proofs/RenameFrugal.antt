@@ -1,22 +1,7 @@
 -- The plan of a rename touches just what it needs, erases what held the copies once the new ones are good, and counts
 -- each erase.
-use Rattle.std.proofs.Common.{◌≡◌, ℕ, zero, suc, ◌+◌, ◌%◌, ◌<◌, ◌≤◌, false, List, [], ◌∷◌, ◌++◌, append_assoc, length, take, refl, ap, sym, subst, ◌∙◌, arith, length-append}
-use Rattle.std.specs.Prelude.{Contains, count_by}
-use Rattle.ubi_media.specs.Geometry.{Sizes}
-use Rattle.ubi_scan.specs.Image.{in_image}
-use Rattle.ubi_table.specs.Table.{CopyIs}
+use Rattle.ubi_change.proofs.Prelude.{◌≡◌, ℕ, zero, suc, ◌+◌, ◌%◌, ◌<◌, ◌≤◌, false, List, [], ◌∷◌, ◌++◌, append_assoc, length, take, refl, ap, sym, subst, ◌∙◌, arith, length-append, Contains, count_by, Sizes, in_image, CopyIs, Whole, Meant, records_of, erases, Erases, taken, holder, rename_plan, IsFrugalRename, renamed, after, ec_at, stays, takeable, Step}
 use Rattle.ubi_table.specs.declared.copy.CopyRead.TheVariants as copy
-use Rattle.ubi_volume.specs.Attached.{Whole}
-use Rattle.ubi_volume.specs.Meant.{Meant, records_of}
-use Rattle.ubi_change.specs.Frugal.{erases}
-use Rattle.ubi_change.specs.Order.{Erases}
-use Rattle.ubi_change.specs.Plan.{taken}
-use Rattle.ubi_change.specs.RenamePlan.{holder, rename_plan}
-use Rattle.ubi_change.specs.RenamePlanned.{IsFrugalRename}
-use Rattle.ubi_change.specs.Renamed.{renamed}
-use Rattle.ubi_change.specs.Steps.{after}
-use Rattle.ubi_change.specs.Takeable.{ec_at, stays, takeable}
-use Rattle.ubi_change.specs.declared.step.Step.{Step}
 use Rattle.ubi_change.proofs.CountsErases.{AllCounted, counted, ec_after, erases-append, erases_none, next_due, release_counted, written_counted}
 use Rattle.ubi_change.proofs.GivenUp.{erased_behind, step_before, step_behind, whole_by}
 use Rattle.ubi_change.proofs.Premises.{next_counter}

@@ -1,14 +1,5 @@
 -- What holds of the steps of a rename, since they are those of its plan.
-use Rattle.std.proofs.Common.{ℕ, List, sym, subst}
-use Rattle.ubi_media.specs.Fields.{AreBytes}
-use Rattle.ubi_media.specs.Geometry.{IsGeometry}
-use Rattle.ubi_scan.specs.Image.{Image, in_image}
-use Rattle.ubi_change.specs.Fitting.{AllFit}
-use Rattle.ubi_change.specs.Order.{RisesBetweenErases}
-use Rattle.ubi_change.specs.RenamePlan.{renamed_pages}
-use Rattle.ubi_change.specs.RenamePlanned.{LeavesBothGood, LeavesBothGoodOf, IsFrugalRename, IsFrugalRenameAvoiding, IsRenameOf, IsRenameAvoiding, KeepsReading, SurvivesRename, SurvivesRenameOf}
-use Rattle.ubi_change.specs.Avoided.{ReadBlank, Avoided, Avoids, avoiding}
-use Rattle.ubi_change.specs.declared.step.Step.{Step}
+use Rattle.ubi_change.proofs.Prelude.{ℕ, List, sym, subst, AreBytes, IsGeometry, Image, in_image, AllFit, RisesBetweenErases, renamed_pages, LeavesBothGood, LeavesBothGoodOf, IsFrugalRename, IsFrugalRenameAvoiding, IsRenameOf, IsRenameAvoiding, KeepsReading, SurvivesRename, SurvivesRenameOf, ReadBlank, Avoided, Avoids, avoiding, Step}
 use Rattle.ubi_change.proofs.RenameAttached.{Renaming, leaves_both_good, keeps_reading, survives_rename}
 use Rattle.ubi_change.proofs.RenameFits.{rename_fits}
 use Rattle.ubi_change.proofs.RenameFrugal.{rename_frugal}

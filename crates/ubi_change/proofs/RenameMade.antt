@@ -1,46 +1,10 @@
 -- What the functions on the way to a rename found makes its plan: nothing stands against it, and the steps are those.
-use Rattle.std.proofs.Common.{◌≡◌, ◌≢◌, ℕ, ◌+◌, ◌≤◌, inl, inr, Bool, true, false, cond, List, ◌++◌, length, refl, ap, ap₂, sym, ◌∙◌, subst}
-use Rattle.std.specs.Prelude.{None, Option, Some, option_map}
-use Rattle.std.specs.Option.{option_map_or}
-use Rattle.std.specs.Cmp.{nat_cmp_total}
+use Rattle.ubi_change.proofs.Prelude.{◌≡◌, ◌≢◌, ℕ, ◌+◌, ◌≤◌, inl, inr, Bool, true, false, cond, List, ◌++◌, length, refl, ap, ap₂, sym, ◌∙◌, subst, None, Option, Some, option_map, option_map_or, nat_cmp_total, nat_cmp-IsAntisymmetric, eq_by_cmp, nat_cmp, Sizes, VolumeRecord, Image, eraseblocks, layout, records_named, with_name, Records, Decides, IsTable, next-is, blank_none, decides_unique, AcceptsBlocks, Whole, Meant, records_of, IsSurvey, Seen, Volume, record_of, records_meant, atomic_copy, taken, copy_plan, holder, layout_header, renamed_pages, table_pages, IsRenameAvoiding, BothGood, MayBeNamed, renamed, volume_named, weak_place, AreHolders, AreSpares, IsNamable, two_copies, copy_on, site_at, first_taken, Holders, ec_at, takeable, Site, Spares, Step, FirstTwo, Avoided, avoiding}
 use Rattle.std.specs.FinMap as finite
-use Rattle.std.specs.FinMap.{nat_cmp-IsAntisymmetric}
-use Rattle.std.specs.Ordering.{eq_by_cmp, nat_cmp}
-use Rattle.ubi_media.specs.Geometry.{Sizes}
-use Rattle.ubi_media.specs.declared.record.VolumeRecord.{VolumeRecord}
-use Rattle.ubi_scan.specs.Image.{Image, eraseblocks}
-use Rattle.ubi_scan.specs.Members.{layout}
-use Rattle.ubi_table.specs.Named.{records_named, with_name}
-use Rattle.ubi_table.specs.Records.{Records}
-use Rattle.ubi_table.specs.Table.{Decides, IsTable}
 use Rattle.ubi_table.specs.declared.copy.CopyRead.TheVariants as copy
-use Rattle.ubi_table.proofs.NamedTable.{next-is}
-use Rattle.ubi_table.proofs.One.{blank_none, decides_unique}
-use Rattle.ubi_volume.specs.Accepts.{AcceptsBlocks}
-use Rattle.ubi_volume.specs.Attached.{Whole}
-use Rattle.ubi_volume.specs.Meant.{Meant, records_of}
-use Rattle.ubi_volume.specs.Survey.{IsSurvey, Seen}
-use Rattle.ubi_volume.specs.declared.content.Volume.{Volume}
-use Rattle.ubi_volume.proofs.Recorded.{record_of, records_meant}
-use Rattle.ubi_change.specs.Plan.{atomic_copy, taken}
-use Rattle.ubi_change.specs.RenamePlan.{copy_plan, holder, layout_header, renamed_pages, table_pages}
-use Rattle.ubi_change.specs.RenamePlanned.{IsRenameAvoiding}
-use Rattle.ubi_change.specs.RenameRefused.{BothGood, MayBeNamed}
-use Rattle.ubi_change.specs.Renamed.{renamed, volume_named}
-use Rattle.ubi_change.specs.Weak.{weak_place}
-use Rattle.ubi_change.specs.inner.Renaming.{AreHolders, AreSpares, IsNamable, two_copies}
-use Rattle.ubi_change.specs.inner.Sites.{copy_on, site_at}
-use Rattle.ubi_change.specs.inner.Taking.{first_taken}
-use Rattle.ubi_change.specs.declared.holders.Holders.{Holders}
-use Rattle.ubi_change.specs.Takeable.{ec_at, takeable}
-use Rattle.ubi_change.specs.declared.site.Site.{Site}
-use Rattle.ubi_change.specs.declared.spares.Spares.{Spares}
-use Rattle.ubi_change.specs.declared.step.Step.{Step}
-use Rattle.ubi_change.specs.declared.taking.FirstTwo.{FirstTwo}
 use Rattle.ubi_change.proofs.RenameCauses.{free, there}
 use Rattle.ubi_change.proofs.RenamedMeaning as naming
 use Rattle.ubi_change.proofs.Sited.{copy-is, first_some, second_some}
-use Rattle.ubi_change.specs.Avoided.{Avoided, avoiding}
 use Rattle.ubi_change.proofs.Surveys.{whole}
 
 -- both copies are good with the table of an accepted image

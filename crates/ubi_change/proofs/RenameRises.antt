@@ -1,13 +1,5 @@
 -- The plan of a rename programs the pages of an eraseblock in rising order between two erases.
-use Rattle.std.proofs.Common.{ℕ, inl, inr, List, sym, subst, arith}
-use Rattle.std.specs.Prelude.{None}
-use Rattle.std.proofs.lemmas.Bool.{cases_eq}
-use Rattle.ubi_media.specs.Geometry.{Sizes}
-use Rattle.ubi_scan.specs.Image.{in_image}
-use Rattle.ubi_volume.specs.Attached.{Whole}
-use Rattle.ubi_change.specs.Order.{RisesBetweenErases}
-use Rattle.ubi_change.specs.RenamePlan.{rename_plan}
-use Rattle.ubi_change.specs.Takeable.{ec_at}
+use Rattle.ubi_change.proofs.Prelude.{ℕ, inl, inr, List, sym, subst, arith, None, cases_eq, Sizes, in_image, Whole, RisesBetweenErases, rename_plan, ec_at}
 use Rattle.ubi_change.proofs.HeadersKept.{KeepAll, copy_keeps, keep-append, keeps_all}
 use Rattle.ubi_change.proofs.PagesRise.{InOrder, copy_order, page_0_twice, pages_rise}
 use Rattle.ubi_change.proofs.RenameAttached as rename

@@ -1,6 +1,6 @@
 -- The law: the plan of a rename of an attached image, against which nothing stands, survives every cut, and leaves both
 -- copies good.
-use Rattle.ubi_change.specs.Laws.{RenameSurvives}
+use Rattle.ubi_change.proofs.Prelude.{RenameSurvives}
 use Rattle.ubi_change.proofs.Shown.{shown}
 use Rattle.ubi_change.proofs.RenameAttached.{Renaming, leaves_both_good, survives_rename}
 

@@ -1,25 +1,8 @@
 -- A meaning with another name in one record is a meaning, and its volumes are the same but for that name.
-use Rattle.std.proofs.Common.{◌≡◌, ◌≢◌, ℕ, ◌==◌, inl, inr, Bool, true, false, cond, List, refl, ap, sym, ◌∙◌, subst, arith}
-use Rattle.std.specs.Prelude.{IfSome, None, Option, Some, option_map}
-use Rattle.std.specs.Cmp.{nat_cmp_total}
+use Rattle.ubi_change.proofs.Prelude.{◌≡◌, ◌≢◌, ℕ, inl, inr, Bool, true, false, cond, List, refl, ap, sym, ◌∙◌, subst, arith, IfSome, None, Option, Some, option_map, nat_cmp_total, sum_by, option_map_or, cases_eq, same_Some, Sizes, is_name, VolumeRecord, apart_test, at_itself, at_other, same_test, revalued_is, sum_revalued, Fits, IsMeaning, IsVolume, KeepsNoBlank, Meant, VolumeMap, records_of, Content, Volume, record_of, with_name, sound_named, ReadSame, nameless, renamed, volume_named}
+use Rattle.std.proofs.Common.{◌==◌}
 use Rattle.std.specs.FinMap as finite
-use Rattle.std.specs.List.{sum_by}
-use Rattle.std.specs.Option.{option_map_or}
-use Rattle.std.proofs.lemmas.Bool.{cases_eq}
-use Rattle.std.proofs.lemmas.Option.{same_Some}
-use Rattle.ubi_media.specs.Geometry.{Sizes}
-use Rattle.ubi_media.specs.Name.{is_name}
-use Rattle.ubi_media.specs.declared.record.VolumeRecord.{VolumeRecord}
-use Rattle.ubi_scan.proofs.Keys.{apart_test, at_itself, at_other, same_test}
-use Rattle.ubi_scan.proofs.Revalued.{revalued_is, sum_revalued}
-use Rattle.ubi_volume.specs.Meant.{Fits, IsMeaning, IsVolume, KeepsNoBlank, Meant, VolumeMap, records_of}
-use Rattle.ubi_volume.specs.declared.content.Content.{Content}
 use Rattle.ubi_volume.specs.declared.content.Content.TheVariants as content
-use Rattle.ubi_volume.specs.declared.content.Volume.{Volume}
-use Rattle.ubi_volume.proofs.Recorded.{record_of}
-use Rattle.ubi_table.specs.Named.{with_name}
-use Rattle.ubi_table.proofs.NameRules.{sound_named}
-use Rattle.ubi_change.specs.Renamed.{ReadSame, nameless, renamed, volume_named}
 use Rattle.ubi_change.proofs.SameButName.{AreAlike, IsAlike}
 
 -- a meaning is another but for names

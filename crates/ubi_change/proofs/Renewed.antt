@@ -1,19 +1,6 @@
 -- An eraseblock is erased, and gets an erase-counter header.
-use Rattle.std.proofs.Common.{◌≡◌, ◌≢◌, ℕ, zero, suc, ◌*◌, ◌^◌, ◌<◌, List, [], length, set, refl, ap, sym, ◌∙◌, subst, arith, get_or-set_same}
-use Rattle.std.proofs.lemmas.List.{set-set}
-use Rattle.ubi_media.specs.Ec.{ec_bytes, ec_reading}
-use Rattle.ubi_media.specs.Fields.{blank, filled, overwrite}
-use Rattle.ubi_media.specs.Geometry.{Sizes, IsGeometry}
-use Rattle.ubi_media.specs.declared.ec.EcHeader.{EcHeader}
+use Rattle.ubi_change.proofs.Prelude.{◌≡◌, ◌≢◌, ℕ, zero, suc, ◌*◌, ◌^◌, ◌<◌, List, [], length, set, refl, ap, sym, ◌∙◌, subst, arith, get_or-set_same, set-set, ec_bytes, ec_reading, blank, filled, overwrite, Sizes, IsGeometry, EcHeader, ec_read_back, one_ec_reading, AllBlank, AcceptsBlocks, Meant, renew, Agrees, filled-none, filled_more, length-filled, overwrite_front}
 use Rattle.ubi_media.specs.declared.ec.EcRead.TheVariants as ec_read
-use Rattle.ubi_media.proofs.Headers.{ec_read_back}
-use Rattle.ubi_media.proofs.Readings.{one_ec_reading}
-use Rattle.ubi_table.specs.Table.{AllBlank}
-use Rattle.ubi_volume.specs.Accepts.{AcceptsBlocks}
-use Rattle.ubi_volume.specs.Meant.{Meant}
-use Rattle.ubi_change.specs.Plan.{renew}
-use Rattle.ubi_scan.proofs.Seq.{Agrees}
-use Rattle.ubi_scan.proofs.Filled.{filled-none, filled_more, length-filled, overwrite_front}
 use Rattle.ubi_change.proofs.Runs.{AtEachCut, done}
 use Rattle.ubi_change.proofs.Seq.{NamedBeside}
 use Rattle.ubi_change.proofs.Vacated.{LosesAll, vacated}

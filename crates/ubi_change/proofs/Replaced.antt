@@ -1,12 +1,5 @@
 -- One eraseblock is given other bytes: who is a member then, who wins, and that nothing is at fault.
-use Rattle.std.proofs.Common.{◌≡◌, ◌≢◌, ℕ, ◌<◌, ◌≤◌, inl, inr, Bool, true, false, List, [], length, set, ap, sym, ◌∙◌, subst, arith, length-set, get_or-set_same, get_or-set_other}
-use Rattle.std.specs.Prelude.{Some, None}
-use Rattle.std.proofs.lemmas.Bool.{cases_eq}
-use Rattle.ubi_media.specs.Geometry.{Sizes}
-use Rattle.ubi_scan.specs.Clean.{IsClean, IsSound}
-use Rattle.ubi_scan.specs.Image.{block}
-use Rattle.ubi_scan.specs.Members.{IsMember, Leb, NoMember, Wins, good_at, good_in, named_in, sqnum_at, sqnum_in}
-use Rattle.ubi_scan.specs.Numbers.{seq_of}
+use Rattle.ubi_change.proofs.Prelude.{◌≡◌, ◌≢◌, ℕ, ◌<◌, ◌≤◌, inl, inr, Bool, true, false, List, [], length, set, ap, sym, ◌∙◌, subst, arith, length-set, get_or-set_same, get_or-set_other, Some, None, cases_eq, Sizes, IsClean, IsSound, block, IsMember, Leb, NoMember, Wins, good_at, good_in, named_in, sqnum_at, sqnum_in, seq_of}
 use Rattle.ubi_change.proofs.Kept.{KeepsLeb}
 
 module _ (s : Sizes) (bs : List (List ℕ)) (b : ℕ) (x : List ℕ) (inside : b < length bs) where

@@ -1,15 +1,5 @@
 -- The eraseblocks after some steps: of two lists of steps, and of steps on one eraseblock.
-use Rattle.std.proofs.Common.{◌≡◌, ℕ, zero, suc, ◌+◌, ◌-◌, ◌<◌, ◌≤◌, inl, inr, List, [], ◌∷◌, ◌++◌, length, take, set, refl, ap, sym, ◌∙◌, subst, arith, length-append, get_or-set_same}
-use Rattle.std.specs.Prelude.{fold}
-use Rattle.std.proofs.lemmas.List.{take_all, set-set, set-get_or}
-use Rattle.std.proofs.lemmas.List.Sums.{fold-append}
-use Rattle.std.proofs.Math.Seq.{take-append-add}
-use Rattle.std.proofs.lemmas.List.{take-append-le}
-use Rattle.ubi_media.specs.Geometry.{Sizes}
-use Rattle.ubi_media.proofs.Cases.{within_or_past}
-use Rattle.ubi_scan.specs.Image.{block}
-use Rattle.ubi_change.specs.Steps.{after, block_after, step_done, target}
-use Rattle.ubi_change.specs.declared.step.Step.{Step}
+use Rattle.ubi_change.proofs.Prelude.{◌≡◌, ℕ, zero, suc, ◌+◌, ◌-◌, ◌<◌, ◌≤◌, inl, inr, List, [], ◌∷◌, ◌++◌, length, take, set, refl, ap, sym, ◌∙◌, subst, arith, length-append, get_or-set_same, fold, take_all, set-set, set-get_or, fold-append, take-append-add, take-append-le, Sizes, within_or_past, block, after, block_after, step_done, target, Step}
 
 module _ (s : Sizes) where
   -- after all of the steps

@@ -1,19 +1,6 @@
 -- Records that are the same but for the name: what a volume reads doesn't depend on its name.
-use Rattle.std.proofs.Common.{◌≡◌, ℕ, ◌-◌, ◌%◌, ◌⊎◌, inl, inr, List, take, refl, ap, sym, ◌∙◌, subst, arith}
-use Rattle.std.specs.Prelude.{None, Option, Some, unwrap_or}
+use Rattle.ubi_change.proofs.Prelude.{◌≡◌, ℕ, ◌-◌, ◌%◌, ◌⊎◌, inl, inr, List, take, refl, ap, sym, ◌∙◌, subst, arith, None, Option, Some, unwrap_or, blank, Sizes, leb_size, usable, VolumeRecord, VidHeader, block, leb, Leb, NoMember, Wins, Records, IsUnlike, IsWithin, IsOutside, StaticReads, VolumeReads, Content}
 use Rattle.std.specs.FinMap as finite
-use Rattle.ubi_media.specs.Fields.{blank}
-use Rattle.ubi_media.specs.Geometry.{Sizes, leb_size}
-use Rattle.ubi_media.specs.Record.{usable}
-use Rattle.ubi_media.specs.declared.record.VolumeRecord.{VolumeRecord}
-use Rattle.ubi_media.specs.declared.vid.VidHeader.{VidHeader}
-use Rattle.ubi_scan.specs.Image.{block, leb}
-use Rattle.ubi_scan.specs.Members.{Leb, NoMember, Wins}
-use Rattle.ubi_table.specs.Records.{Records}
-use Rattle.ubi_volume.specs.Accepts.{IsUnlike, IsWithin}
-use Rattle.ubi_volume.specs.Attached.{IsOutside}
-use Rattle.ubi_volume.specs.Means.{StaticReads, VolumeReads}
-use Rattle.ubi_volume.specs.declared.content.Content.{Content}
 use Rattle.ubi_volume.specs.declared.content.Content.TheVariants as content
 
 -- a record is another but for its name, as far as reading asks for it

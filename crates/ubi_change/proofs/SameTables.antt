@@ -1,19 +1,8 @@
 -- When two copies of a table have equal records.
-use Rattle.std.proofs.Common.{◌≡◌, ℕ, ◌==◌, ◌&&◌, Bool, Decides, List, refl, ap, sym, ◌∙◌, subst}
-use Rattle.std.specs.Cmp.{unsigned_Decides}
-use Rattle.std.specs.Cmp.Lexicographic.{pointwise}
-use Rattle.std.proofs.lemmas.Bool.Decides.{Decides-and, Decides-like}
-use Rattle.std.proofs.lemmas.Slice.Eq.{slice_eq-Decides}
-use Rattle.ubi_media.specs.Geometry.{Sizes}
+use Rattle.ubi_change.proofs.Prelude.{◌≡◌, ℕ, Bool, List, refl, ap, sym, ◌∙◌, subst, unsigned_Decides, pointwise, Decides-and, Decides-like, slice_eq-Decides, Sizes, block, leb, Records, CopyIs, HasSizes, Entry, copy_sizes, record_Decides}
+use Rattle.std.proofs.Common.{◌==◌, ◌&&◌, Decides}
 use Rattle.ubi_media.specs.contracts.record.VolumeRecordPartialEq.TheImpl as record_eq
-use Rattle.ubi_scan.specs.Image.{block, leb}
-use Rattle.ubi_table.specs.Records.{Records}
-use Rattle.ubi_table.specs.Table.{CopyIs}
-use Rattle.ubi_table.specs.Stream.{HasSizes}
 use Rattle.ubi_table.specs.declared.copy.CopyRead.TheVariants as copy
-use Rattle.ubi_table.proofs.Names.{Entry}
-use Rattle.ubi_table.proofs.Streamed.{copy_sizes}
-use Rattle.ubi_volume.proofs.Equal.{record_Decides}
 
 -- equal entries
 abbrev pub same_entry : Entry → Entry → Bool

@@ -1,27 +1,10 @@
 -- Copy 1 of the table is written anew, where copy 0 already is: the meaning stays, and then both copies are good.
-use Rattle.std.proofs.Common.{◌≡◌, ◌≢◌, ℕ, suc, ◌+◌, ◌<◌, List, [], ◌∷◌, ◌++◌, length, set, ap, ◌∙◌, subst, arith, length-set}
-use Rattle.ubi_media.specs.Geometry.{IsGeometry, Sizes}
-use Rattle.ubi_media.specs.declared.ec.EcHeader.{EcHeader}
-use Rattle.ubi_media.specs.declared.vid.VidHeader.{VidHeader}
-use Rattle.ubi_scan.specs.Faults.{NoFault}
-use Rattle.ubi_scan.specs.Image.{block, leb}
-use Rattle.ubi_scan.specs.Members.{Wins, layout}
-use Rattle.ubi_table.specs.Records.{AreRecords, Records}
-use Rattle.ubi_table.specs.Table.{copy_of}
+use Rattle.ubi_change.proofs.Prelude.{◌≡◌, ◌≢◌, ℕ, suc, ◌+◌, ◌<◌, List, [], ◌∷◌, ◌++◌, length, set, ap, ◌∙◌, subst, arith, length-set, IsGeometry, Sizes, EcHeader, VidHeader, NoFault, block, leb, Wins, layout, AreRecords, Records, copy_of, AcceptsBlocks, Meant, records_of, records_meant, program_header, program_text, BothGood, layout_header, table_pages, whole_place, Step, records_are}
 use Rattle.ubi_table.specs.declared.copy.CopyRead.TheVariants as copy
-use Rattle.ubi_volume.specs.Accepts.{AcceptsBlocks}
-use Rattle.ubi_volume.specs.Meant.{Meant, records_of}
-use Rattle.ubi_volume.proofs.Recorded.{records_meant}
-use Rattle.ubi_change.specs.Plan.{program_header, program_text}
-use Rattle.ubi_change.specs.RenameRefused.{BothGood}
-use Rattle.ubi_change.specs.RenamePlan.{layout_header, table_pages}
-use Rattle.ubi_change.specs.Weak.{whole_place}
-use Rattle.ubi_change.specs.declared.step.Step.{Step}
 use Rattle.ubi_change.proofs.Copied.{IsCopy}
 use Rattle.ubi_change.proofs.CopyReplaced.{IsGoodCopy, IsPrepared, IsRelease, replaced}
 use Rattle.ubi_change.proofs.Emptied.{emptied_keeps}
 use Rattle.ubi_change.proofs.FirstCopy.{IsHalfway}
-use Rattle.ubi_volume.proofs.MeantRecords.{records_are}
 use Rattle.ubi_change.proofs.NamedAccepted.{meant_fit, named_accepted, table_by_first}
 use Rattle.ubi_change.proofs.Newest.{old_loses}
 use Rattle.ubi_change.proofs.TableCopied.{copied_clean, copied_keeps, copied_reads, copied_volumes, copied_wins}

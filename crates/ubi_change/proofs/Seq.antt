@@ -1,14 +1,5 @@
 -- The eraseblocks that name the image, and what it is that an eraseblock isn't the only one.
-use Rattle.std.proofs.Common.{◌≡◌, ◌≢◌, ℕ, zero, suc, ◌+◌, ◌<◌, ◌⊎◌, inl, inr, Bool, true, false, cond, not, List, [], ◌∷◌, length, refl, ap, sym, ◌∙◌, arith}
-use Rattle.std.specs.Prelude.{◌==◌, ◌&&◌, count_by}
-use Rattle.std.proofs.lemmas.Bool.{cases_eq}
-use Rattle.std.proofs.lemmas.Bool.Decides.{nat_tests}
-use Rattle.std.proofs.lemmas.List.Sums.{sum_by-cons}
-use Rattle.ubi_media.specs.Geometry.{Sizes}
-use Rattle.ubi_scan.specs.Image.{block}
-use Rattle.ubi_scan.specs.Numbers.{carriers, is_carrier, seq_of}
-use Rattle.ubi_scan.proofs.Seq.{Agrees}
-use Rattle.ubi_change.specs.Takeable.{is_sole_carrier}
+use Rattle.ubi_change.proofs.Prelude.{◌≡◌, ◌≢◌, ℕ, zero, suc, ◌+◌, ◌<◌, ◌⊎◌, inl, inr, Bool, true, false, cond, not, List, [], ◌∷◌, length, refl, ap, sym, ◌∙◌, arith, ◌==◌, ◌&&◌, count_by, cases_eq, nat_tests, sum_by-cons, Sizes, block, carriers, is_carrier, seq_of, Agrees, is_sole_carrier}
 
 -- an eraseblock other than b names this image, if it isn't 0
 abbrev pub NamedBeside : Sizes → ℕ → List (List ℕ) → ℕ → Type 0

@@ -1,20 +1,8 @@
 -- What the plans ask of an attach: of the states only those in which nothing is lost have to be so. Such is what an attach
 -- shows, and what a plan sees of it that avoids something.
-use Rattle.std.proofs.Common.{◌≡◌, ℕ, zero, suc, ◌+◌, Bool, true, false, cond, List, [], ◌∷◌, length, map, refl, ap, sym, ◌∙◌, subst, arith}
-use Rattle.std.specs.Prelude.{◌&&◌, IfSome, None, Option, Some, not, option_map, slice_get}
-use Rattle.std.specs.List.{enumerate_from}
-use Rattle.std.specs.Option.{option_map_or}
-use Rattle.ubi_media.specs.Geometry.{Sizes}
-use Rattle.ubi_scan.specs.Image.{Image, eraseblocks, in_image}
-use Rattle.ubi_scan.specs.Scan.{IsScan}
-use Rattle.ubi_table.specs.Records.{Records}
-use Rattle.ubi_volume.specs.Accepts.{Accepts}
-use Rattle.ubi_volume.specs.Attached.{AreStates, IsAttached, StateIs, Whole}
-use Rattle.ubi_volume.specs.Meant.{records_of}
-use Rattle.ubi_volume.specs.declared.attached.BlockState.{BlockState}
+use Rattle.ubi_change.proofs.Prelude.{◌≡◌, ℕ, zero, suc, ◌+◌, Bool, true, false, cond, List, [], ◌∷◌, length, map, refl, ap, sym, ◌∙◌, subst, arith, ◌&&◌, IfSome, None, Option, Some, option_map, slice_get, enumerate_from, option_map_or, Sizes, Image, eraseblocks, in_image, IsScan, Records, Accepts, AreStates, IsAttached, StateIs, Whole, records_of, BlockState, Avoided, is_avoided, nothing, avoiding, state_avoiding, states_avoiding, ec_at, is_takeable, is_unused, stays}
+use Rattle.std.specs.Prelude.{not}
 use Rattle.ubi_volume.specs.declared.attached.BlockState.TheVariants as state
-use Rattle.ubi_change.specs.Avoided.{Avoided, is_avoided, nothing, avoiding, state_avoiding, states_avoiding}
-use Rattle.ubi_change.specs.Takeable.{ec_at, is_takeable, is_unused, stays}
 
 -- each eraseblock in a state in which nothing is lost with it has this state
 abbrev pub SayUnused : Sizes → List (List ℕ) → Records → List BlockState → Type 0

@@ -1,19 +1,6 @@
 -- What is read of an eraseblock, and the parts of a plan by that.
-use Rattle.std.proofs.Common.{◌≡◌, ℕ, ◌<◌, ◌≤◌, cond, List, [], ◌∷◌, ◌++◌, length, map, refl, ap, sym, subst, arith}
-use Rattle.std.specs.Prelude.{◌&&◌, ◌||◌, ◌==◌, IfSome, None, Option, Some, not, option_map, slice_get, slice_index}
-use Rattle.std.specs.Option.{option_map_or}
-use Rattle.std.proofs.lemmas.Option.{same_Some}
-use Rattle.ubi_media.specs.Ec.{ec_reading}
-use Rattle.ubi_media.specs.Geometry.{Sizes}
-use Rattle.ubi_media.specs.declared.ec.EcHeader.{EcHeader}
-use Rattle.ubi_scan.specs.Numbers.{carriers, valid_ec}
-use Rattle.ubi_scan.specs.Source.{Source, blocks_in}
-use Rattle.ubi_volume.specs.Attached.{Whole}
-use Rattle.ubi_change.specs.Plan.{atomic_copy, mount, next_ec, program_text, renew}
-use Rattle.ubi_change.specs.Takeable.{ec_at, is_sole_carrier, is_worn, stays}
-use Rattle.ubi_change.specs.inner.Sites.{FitsIn, copy_on, is_sole_on, site_at, stays_on}
-use Rattle.ubi_media.specs.declared.vid.VidHeader.{VidHeader}
-use Rattle.ubi_change.specs.declared.site.Site.{Site}
+use Rattle.ubi_change.proofs.Prelude.{◌≡◌, ℕ, ◌<◌, ◌≤◌, cond, List, [], ◌∷◌, ◌++◌, length, map, refl, ap, sym, subst, arith, ◌&&◌, ◌||◌, ◌==◌, IfSome, None, Option, Some, option_map, slice_get, slice_index, option_map_or, same_Some, ec_reading, Sizes, EcHeader, carriers, valid_ec, Source, blocks_in, Whole, atomic_copy, mount, next_ec, program_text, renew, ec_at, is_sole_carrier, is_worn, stays, FitsIn, copy_on, is_sole_on, site_at, stays_on, VidHeader, Site}
+use Rattle.std.specs.Prelude.{not}
 use Rattle.ubi_change.proofs.Premises.{by_reading}
 
 module _ (s : Sizes) (bs : List (List ℕ)) (a : Whole) (same : a.scan.carriers ≡ carriers s bs) where

@@ -1,33 +1,8 @@
 -- The steps of a plan work within their eraseblocks: each page lies there, and its bytes are one page.
-use Rattle.std.proofs.Common.{◌≡◌, ℕ, zero, suc, ◌+◌, ◌*◌, ◌/◌, ◌%◌, ◌<◌, ◌≤◌, Bool, true, false, cond, List, [], ◌∷◌, ◌++◌, length, map, drop, refl, subst, arith, length-drop}
-use Rattle.std.specs.Prelude.{Option}
-use Rattle.std.specs.List.{enumerate_from}
-use Rattle.std.specs.Simd.{first_chunks}
-use Rattle.std.proofs.Math.Nat.{div-add-mod}
-use Rattle.std.proofs.lemmas.List.{length-take-le}
-use Rattle.std.proofs.lemmas.Option.{same_Some}
-use Rattle.ubi_media.specs.Ec.{ec_bytes}
-use Rattle.ubi_media.specs.Geometry.{IsGeometry, Sizes, leb_size}
-use Rattle.ubi_media.specs.declared.ec.EcHeader.{EcHeader}
-use Rattle.ubi_media.specs.declared.vid.VidHeader.{VidHeader}
-use Rattle.ubi_scan.specs.Scan.{Found}
-use Rattle.ubi_scan.proofs.Filled.{length-filled}
-use Rattle.ubi_change.specs.Fitting.{AllWithin, FitsBlock}
-use Rattle.ubi_change.specs.Plan.{next_ec, program_header, program_text, renew}
-use Rattle.ubi_change.specs.RenamePlan.{layout_header}
-use Rattle.ubi_change.specs.Steps.{target}
-use Rattle.ubi_change.specs.Weak.{pages_of}
-use Rattle.ubi_change.specs.inner.Making.{steps_on}
-use Rattle.ubi_change.specs.inner.Renaming.{BothFit, two_copies}
-use Rattle.ubi_change.specs.inner.Sites.{FitsIn, copy_on, mount_on, ready_on, release_on, stays_on}
-use Rattle.ubi_change.specs.declared.holders.Holders.{Holders}
-use Rattle.ubi_change.specs.declared.site.Site.{Site}
+use Rattle.ubi_change.proofs.Prelude.{◌≡◌, ℕ, zero, suc, ◌+◌, ◌*◌, ◌/◌, ◌%◌, ◌<◌, ◌≤◌, Bool, true, false, cond, List, [], ◌∷◌, ◌++◌, length, map, drop, refl, subst, arith, length-drop, Option, enumerate_from, first_chunks, div-add-mod, length-take-le, same_Some, ec_bytes, IsGeometry, Sizes, leb_size, EcHeader, VidHeader, Found, length-filled, AllWithin, FitsBlock, next_ec, program_header, program_text, renew, layout_header, target, pages_of, steps_on, BothFit, two_copies, FitsIn, copy_on, mount_on, ready_on, release_on, stays_on, Holders, Site, Spares, Step, Target}
 use Rattle.ubi_change.specs.declared.sites.Sites.{Sites as OnSites}
 use Rattle.ubi_change.specs.declared.sites.Sites.TheVariants as on
-use Rattle.ubi_change.specs.declared.spares.Spares.{Spares}
-use Rattle.ubi_change.specs.declared.step.Step.{Step}
 use Rattle.ubi_change.specs.declared.step.Step.TheVariants as step
-use Rattle.ubi_change.specs.declared.target.Target.{Target}
 use Rattle.ubi_change.proofs.CopyFits.{length-vid_page, page_inside}
 use Rattle.ubi_change.proofs.PagePlaces.{data_pages, vid_page_within}
 

@@ -1,16 +1,5 @@
 -- Steps on other eraseblocks: those of a copy and of what is given up leave the order of an eraseblock's pages.
-use Rattle.std.proofs.Common.{◌≡◌, ◌≢◌, ℕ, ◌+◌, ◌/◌, ◌≤◌, ◌⊎◌, inl, inr, Bool, true, false, cond, List, [], ◌∷◌, ◌++◌, refl, sym, ◌∙◌}
-use Rattle.std.specs.Prelude.{Option}
-use Rattle.std.specs.Simd.{first_chunks}
-use Rattle.ubi_media.specs.Geometry.{IsGeometry, Sizes}
-use Rattle.ubi_media.specs.declared.ec.EcHeader.{EcHeader}
-use Rattle.ubi_media.specs.declared.vid.VidHeader.{VidHeader}
-use Rattle.ubi_volume.specs.Attached.{Whole}
-use Rattle.ubi_change.specs.Plan.{mount, next_ec, prepare, program_header, program_text, ready_bytes, release, renew}
-use Rattle.ubi_change.specs.Steps.{target}
-use Rattle.ubi_change.specs.Takeable.{stays}
-use Rattle.ubi_change.specs.Weak.{pages_of}
-use Rattle.ubi_change.specs.declared.step.Step.{Step}
+use Rattle.ubi_change.proofs.Prelude.{◌≡◌, ◌≢◌, ℕ, ◌+◌, ◌/◌, ◌≤◌, ◌⊎◌, inl, inr, Bool, true, false, cond, List, [], ◌∷◌, ◌++◌, refl, sym, ◌∙◌, Option, first_chunks, IsGeometry, Sizes, EcHeader, VidHeader, Whole, mount, next_ec, prepare, program_header, program_text, ready_bytes, release, renew, target, stays, pages_of, Step}
 use Rattle.ubi_change.specs.declared.step.Step.TheVariants as step
 use Rattle.ubi_change.proofs.CountsErases.{pages_on, prepare_on}
 use Rattle.ubi_change.proofs.PagesRise.{InOrder}

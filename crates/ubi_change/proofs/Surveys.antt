@@ -1,17 +1,5 @@
 -- What a survey of an image tells of its meaning.
-use Rattle.std.proofs.Common.{◌≡◌, ℕ, refl, ap, sym, ◌∙◌}
-use Rattle.std.specs.Prelude.{None, Option, Some, option_map}
-use Rattle.std.specs.FinMap.{get}
-use Rattle.std.proofs.lemmas.Option.{same_Some}
-use Rattle.ubi_media.specs.declared.record.VolumeRecord.{VolumeRecord}
-use Rattle.ubi_scan.specs.Image.{Image}
-use Rattle.ubi_table.specs.Records.{Records}
-use Rattle.ubi_volume.specs.Attached.{Whole}
-use Rattle.ubi_volume.specs.Survey.{IsSurvey, Seen}
-use Rattle.ubi_volume.specs.declared.content.Content.{Content}
-use Rattle.ubi_volume.specs.declared.content.Volume.{Volume}
-use Rattle.ubi_volume.proofs.Recorded.{record_of}
-use Rattle.ubi_volume.proofs.Winners.{no_some}
+use Rattle.ubi_change.proofs.Prelude.{◌≡◌, ℕ, refl, ap, sym, ◌∙◌, None, Option, Some, option_map, get, same_Some, VolumeRecord, Image, Records, Whole, IsSurvey, Seen, Content, Volume, record_of, no_some}
 
 with_entry : (o : Option Volume) (r : VolumeRecord) → option_map (λ (v : Volume). v.entry) o ≡ Some r
     → (c : Content) × (o ≡ Some (record { entry = r; content = c }))

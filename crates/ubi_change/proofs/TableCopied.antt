@@ -1,23 +1,8 @@
 -- A good copy of the table stands on an eraseblock that won nothing: it wins, and each other LEB that counts keeps its
 -- winner.
-use Rattle.std.proofs.Common.{◌≡◌, ◌≢◌, ℕ, ◌<◌, List, length, set, ap, ◌∙◌, arith}
-use Rattle.std.specs.Prelude.{Some}
+use Rattle.ubi_change.proofs.Prelude.{◌≡◌, ◌≢◌, ℕ, ◌<◌, List, length, set, ap, ◌∙◌, arith, Some, IsGeometry, Sizes, VolumeRecord, VidHeader, NoFault, block, leb, Leb, Wins, layout, Agrees, AreRecords, Records, copy_of, AcceptsBlocks, IsOutside, Meant, records_of, meant_by, volume_is, table_pages}
 use Rattle.std.specs.FinMap as finite
-use Rattle.ubi_media.specs.Geometry.{IsGeometry, Sizes}
-use Rattle.ubi_media.specs.declared.record.VolumeRecord.{VolumeRecord}
-use Rattle.ubi_media.specs.declared.vid.VidHeader.{VidHeader}
-use Rattle.ubi_scan.specs.Faults.{NoFault}
-use Rattle.ubi_scan.specs.Image.{block, leb}
-use Rattle.ubi_scan.specs.Members.{Leb, Wins, layout}
-use Rattle.ubi_scan.proofs.Seq.{Agrees}
-use Rattle.ubi_table.specs.Records.{AreRecords, Records}
-use Rattle.ubi_table.specs.Table.{copy_of}
 use Rattle.ubi_table.specs.declared.copy.CopyRead.TheVariants as copy
-use Rattle.ubi_volume.specs.Accepts.{AcceptsBlocks}
-use Rattle.ubi_volume.specs.Attached.{IsOutside}
-use Rattle.ubi_volume.specs.Meant.{Meant, records_of}
-use Rattle.ubi_volume.proofs.MeantRecords.{meant_by, volume_is}
-use Rattle.ubi_change.specs.RenamePlan.{table_pages}
 use Rattle.ubi_change.proofs.CopyReplaced.{IsGoodCopy}
 use Rattle.ubi_change.proofs.Kept.{KeepsLeb, KeepsVolumes}
 use Rattle.ubi_change.proofs.Newest.{newest_clean, newest_wins, others_keep}

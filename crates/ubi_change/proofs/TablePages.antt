@@ -1,19 +1,6 @@
 -- The pages of a table: how many bytes they are, and that a copy with them is good.
-use Rattle.std.proofs.Common.{◌≡◌, ℕ, ◌+◌, ◌-◌, ◌*◌, ◌/◌, ◌%◌, ◌^◌, ◌<◌, ◌≤◌, inl, inr, List, ◌++◌, append_assoc, length, min, ap, sym, ◌∙◌, arith}
-use Rattle.std.proofs.Math.Nat.{div-add-mod}
-use Rattle.std.proofs.lemmas.Nat.{mod-mul-add, mul-le}
-use Rattle.std.proofs.lemmas.Bool.{cases_lt}
-use Rattle.ubi_media.specs.Fields.{blank}
-use Rattle.ubi_media.specs.Geometry.{IsGeometry, Sizes, leb_size, slots}
-use Rattle.ubi_scan.specs.Image.{leb}
-use Rattle.ubi_scan.proofs.Filled.{filled-is, length-filled}
-use Rattle.ubi_table.specs.Records.{AreRecords, Records, table_bytes}
-use Rattle.ubi_table.specs.Table.{copy_of}
+use Rattle.ubi_change.proofs.Prelude.{◌≡◌, ℕ, ◌+◌, ◌-◌, ◌*◌, ◌/◌, ◌%◌, ◌^◌, ◌<◌, ◌≤◌, inl, inr, List, ◌++◌, append_assoc, length, min, ap, sym, ◌∙◌, arith, div-add-mod, mod-mul-add, mul-le, cases_lt, blank, IsGeometry, Sizes, leb_size, slots, leb, filled-is, length-filled, AreRecords, Records, table_bytes, copy_of, length-table_bytes, reads_back, pieces, pieces_few, pieces_suffice, table_pages}
 use Rattle.ubi_table.specs.declared.copy.CopyRead.TheVariants as copy
-use Rattle.ubi_table.proofs.ReadBack.{length-table_bytes, reads_back}
-use Rattle.ubi_volume.specs.Meant.{pieces}
-use Rattle.ubi_volume.proofs.Pieces.{pieces_few, pieces_suffice}
-use Rattle.ubi_change.specs.RenamePlan.{table_pages}
 
 -- what two multiples of a number differ by is one
 differ : (n d page a b : ℕ) → n ≡ page * a → d ≡ page * b → d ≤ n → 1 ≤ page → (k : ℕ) × (n - d ≡ k * page)

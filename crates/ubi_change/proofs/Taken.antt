@@ -1,16 +1,5 @@
 -- The first two of the eraseblocks that may be taken, found one by one.
-use Rattle.std.proofs.Common.{◌≡◌, ℕ, zero, suc, ◌+◌, ◌-◌, ◌≤◌, Bool, true, false, cond, not, List, [], ◌∷◌, ◌++◌, append-nil, append_assoc, length, map, refl, ap, ap₂, sym, ◌∙◌, subst, arith}
-use Rattle.std.specs.Prelude.{IfSome, IsSome, None, Option, Some, filter}
-use Rattle.std.specs.List.{range_with_len}
-use Rattle.std.proofs.lemmas.List.Elements.{filter-append}
-use Rattle.ubi_media.specs.Geometry.{Sizes}
-use Rattle.ubi_volume.specs.declared.attached.BlockState.{BlockState}
-use Rattle.ubi_change.specs.Takeable.{is_clean, is_takeable}
-use Rattle.ubi_change.specs.inner.Sites.{FitsIn, site_at}
-use Rattle.ubi_change.specs.inner.Taking.{TakeableIs, all_of, first_taken, first_two, joined, parted_with, two_joined, two_with, with_next}
-use Rattle.ubi_change.specs.declared.site.Site.{Site}
-use Rattle.ubi_change.specs.declared.taking.FirstTwo.{FirstTwo}
-use Rattle.ubi_change.specs.declared.taking.Parted.{Parted}
+use Rattle.ubi_change.proofs.Prelude.{◌≡◌, ℕ, zero, suc, ◌+◌, ◌-◌, ◌≤◌, Bool, true, false, cond, not, List, [], ◌∷◌, ◌++◌, append-nil, append_assoc, length, map, refl, ap, ap₂, sym, ◌∙◌, subst, arith, IfSome, IsSome, None, Option, Some, filter, range_with_len, filter-append, Sizes, BlockState, is_clean, is_takeable, FitsIn, site_at, TakeableIs, all_of, first_taken, first_two, joined, parted_with, two_joined, two_with, with_next, Site, FirstTwo, Parted}
 
 two_more : (xs : List Site) (t : Site) → with_next (first_two xs) t ≡ first_two (xs ++ t ∷ [])
 two_more [] t = refl

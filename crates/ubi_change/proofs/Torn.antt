@@ -1,16 +1,6 @@
 -- From which number of pages on a text that was cut short is the whole, and that its check tells before.
-use Rattle.std.proofs.Common.{◌≡◌, ℕ, zero, suc, ◌+◌, ◌-◌, ◌*◌, ◌%◌, ◌<◌, ◌≤◌, ◌⊎◌, inl, inr, Bool, true, false, cond, not, List, [], ◌∷◌, ◌++◌, length, take, drop, refl, ap, ap₂, sym, ◌∙◌, subst, arith}
-use Rattle.std.specs.Prelude.{None, Option, Some, ◌==◌, ◌&&◌, find, nat_eq, unwrap_or}
-use Rattle.std.specs.List.{range_with_len}
-use Rattle.std.proofs.Math.Nat.{div-add-mod}
-use Rattle.std.proofs.lemmas.Bool.Decides.{nat_tests}
+use Rattle.ubi_change.proofs.Prelude.{◌≡◌, ℕ, zero, suc, ◌+◌, ◌-◌, ◌*◌, ◌%◌, ◌<◌, ◌≤◌, ◌⊎◌, inl, inr, Bool, true, false, cond, not, List, [], ◌∷◌, ◌++◌, length, take, drop, refl, ap, ap₂, sym, ◌∙◌, subst, arith, None, Option, Some, ◌==◌, ◌&&◌, find, nat_eq, unwrap_or, range_with_len, div-add-mod, nat_tests, drop-drop, drop_at, length-take-le, take-append-drop, take_all, check, blank, filled, same_bytes, Sizes, is_weak, is_whole, pages_of, torn, weak_place, whole_place, drop_blank, filled-by}
 use Rattle.std.proofs.lemmas.Nat as nat
-use Rattle.std.proofs.lemmas.List.{drop-drop, drop_at, length-take-le, take-append-drop, take_all}
-use Rattle.ubi_media.specs.Check.{check}
-use Rattle.ubi_media.specs.Fields.{blank, filled, same_bytes}
-use Rattle.ubi_media.specs.Geometry.{Sizes}
-use Rattle.ubi_change.specs.Weak.{is_weak, is_whole, pages_of, torn, weak_place, whole_place}
-use Rattle.ubi_scan.proofs.Filled.{drop_blank, filled-by}
 
 same_true : (xs ys : List ℕ) → same_bytes xs ys ≡ true → xs ≡ ys
 same_true [] [] e = refl

@@ -1,31 +1,8 @@
 -- Where in a plan the header of the copy is programmed: once, behind the steps that make its eraseblock ready.
-use Rattle.std.proofs.Common.{◌≡◌, ◌≢◌, ℕ, suc, ◌+◌, ◌-◌, ◌*◌, ◌/◌, ◌%◌, ◌<◌, ◌≤◌, ◌⊎◌, inl, inr, Bool, true, false, cond, List, [], ◌∷◌, ◌++◌, append_assoc, length, map, take, drop, refl, ap, sym, ◌∙◌, arith}
-use Rattle.std.specs.Prelude.{None, ◌==◌, ◌&&◌, count_by, fold, nat_lt, slice_range}
-use Rattle.std.specs.List.{enumerate_from, position_or_len}
-use Rattle.std.specs.Simd.{first_chunks}
-use Rattle.std.proofs.Math.Nat.{div-add-mod, div-eq_of_lt}
-use Rattle.std.proofs.lemmas.Bool.Decides.{nat_tests}
-use Rattle.std.proofs.lemmas.List.{take_at, drop_at}
-use Rattle.std.proofs.lemmas.List.Sums.{fold-append}
-use Rattle.std.proofs.lemmas.Bool.{cases_lt}
-use Rattle.ubi_media.specs.Ec.{ec_bytes}
-use Rattle.ubi_media.specs.Fields.{blank, filled}
-use Rattle.ubi_media.specs.Geometry.{Sizes, IsGeometry}
-use Rattle.ubi_media.specs.Vid.{vid_bytes, vid_fault, vid_reading}
-use Rattle.ubi_media.specs.Widths.{VidFits}
-use Rattle.ubi_media.specs.declared.ec.EcHeader.{EcHeader}
-use Rattle.ubi_media.specs.declared.vid.VidHeader.{VidHeader}
+use Rattle.ubi_change.proofs.Prelude.{◌≡◌, ◌≢◌, ℕ, suc, ◌+◌, ◌-◌, ◌*◌, ◌/◌, ◌%◌, ◌<◌, ◌≤◌, ◌⊎◌, inl, inr, Bool, true, false, cond, List, [], ◌∷◌, ◌++◌, append_assoc, length, map, take, drop, refl, ap, sym, ◌∙◌, arith, None, ◌==◌, ◌&&◌, count_by, fold, nat_lt, enumerate_from, position_or_len, first_chunks, div-add-mod, div-eq_of_lt, nat_tests, take_at, drop_at, fold-append, cases_lt, ec_bytes, blank, filled, Sizes, IsGeometry, vid_bytes, vid_fault, vid_reading, VidFits, EcHeader, VidHeader, fields_fit, vid_read_back, one_vid_reading, zero_or_more, header_in, is_copy, programs_copy, turn, vid_page, program_header, program_text, renew, pages_of, whole_place, Step, behind, filled-by, filled-is, length-filled, blank_vid}
+use Rattle.std.specs.Prelude.{slice_range}
 use Rattle.ubi_media.specs.declared.vid.VidRead.TheVariants as vid_read
-use Rattle.ubi_media.proofs.Headers.{fields_fit, vid_read_back}
-use Rattle.ubi_media.proofs.Readings.{one_vid_reading}
-use Rattle.ubi_media.proofs.Cases.{zero_or_more}
-use Rattle.ubi_change.specs.Cuts.{header_in, is_copy, programs_copy, turn}
-use Rattle.ubi_change.specs.Plan.{vid_page, program_header, program_text, renew}
-use Rattle.ubi_change.specs.Weak.{pages_of, whole_place}
-use Rattle.ubi_change.specs.declared.step.Step.{Step}
 use Rattle.ubi_change.specs.declared.step.Step.TheVariants as step
-use Rattle.ubi_scan.proofs.Filled.{behind, filled-by, filled-is, length-filled}
-use Rattle.ubi_scan.proofs.Parts.{blank_vid}
 use Rattle.ubi_change.proofs.PagePlaces.{vid_before, vid_left}
 
 -- one element of a list passes

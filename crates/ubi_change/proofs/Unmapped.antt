@@ -1,38 +1,10 @@
 -- A LEB without a winner is first mapped with a plain blank eraseblock: the meaning stays, and then it has a winner.
-use Rattle.std.proofs.Common.{◌≡◌, ◌≢◌, ℕ, zero, suc, ◌+◌, ◌-◌, ◌/◌, ◌^◌, ◌<◌, ◌≤◌, inl, inr, true, List, [], ◌∷◌, ◌++◌, length, set, take, refl, ap, sym, ◌∙◌, subst, arith, length-set}
-use Rattle.std.specs.Prelude.{None, Option, Some, unwrap_or}
+use Rattle.ubi_change.proofs.Prelude.{◌≡◌, ◌≢◌, ℕ, zero, suc, ◌+◌, ◌-◌, ◌/◌, ◌^◌, ◌<◌, ◌≤◌, inl, inr, true, List, [], ◌∷◌, ◌++◌, length, set, take, refl, ap, sym, ◌∙◌, subst, arith, length-set, None, Option, Some, unwrap_or, FinMap, nat_cmp, nat_tests, set-set, take-replicate, fold-append, blank, filled, Sizes, IsGeometry, leb_size, data_pad, usable, breaks, fields_from, first_fault, vid_bytes, vid_fault, VidFits, EcHeader, VolumeRecord, VidHeader, leb, IsMember, Leb, NoMember, Wins, has_members, sqnum_at, Agrees, Records, AllBlank, AcceptsBlocks, IsUnlike, SlotMeans, LebReads, Meant, Volume, changed, blank_header, copy_header, program_header, program_text, block_after, step_done, whole_place, Step, laid}
 use Rattle.std.specs.FinMap as finite
-use Rattle.std.specs.FinMap.{FinMap}
-use Rattle.std.specs.Ordering.{nat_cmp}
-use Rattle.std.proofs.lemmas.Bool.Decides.{nat_tests}
-use Rattle.std.proofs.lemmas.List.{get_or-set_same, set-set, take-replicate}
-use Rattle.std.proofs.lemmas.List.Sums.{fold-append}
-use Rattle.ubi_media.specs.Fields.{blank, filled}
-use Rattle.ubi_media.specs.Geometry.{Sizes, IsGeometry, leb_size}
-use Rattle.ubi_media.specs.Record.{data_pad, usable}
-use Rattle.ubi_media.specs.Vid.{breaks, fields_from, first_fault, vid_bytes, vid_fault}
-use Rattle.ubi_media.specs.Widths.{VidFits}
-use Rattle.ubi_media.specs.declared.ec.EcHeader.{EcHeader}
-use Rattle.ubi_media.specs.declared.record.VolumeRecord.{VolumeRecord}
-use Rattle.ubi_media.specs.declared.vid.VidHeader.{VidHeader}
-use Rattle.ubi_scan.specs.Image.{leb}
-use Rattle.ubi_scan.specs.Members.{IsMember, Leb, NoMember, Wins, has_members, sqnum_at}
-use Rattle.ubi_scan.proofs.Seq.{Agrees}
-use Rattle.ubi_table.specs.Records.{Records}
-use Rattle.ubi_table.specs.Table.{AllBlank}
-use Rattle.ubi_volume.specs.Accepts.{AcceptsBlocks, IsUnlike}
-use Rattle.ubi_volume.specs.Means.{SlotMeans, LebReads}
-use Rattle.ubi_volume.specs.Meant.{Meant}
+use Rattle.std.proofs.lemmas.List.{get_or-set_same}
 use Rattle.ubi_volume.specs.declared.content.Content.TheVariants as content
-use Rattle.ubi_volume.specs.declared.content.Volume.{Volume}
-use Rattle.ubi_change.specs.Cuts.{changed}
-use Rattle.ubi_change.specs.Plan.{blank_header, copy_header, program_header, program_text}
-use Rattle.ubi_change.specs.Steps.{block_after, step_done}
-use Rattle.ubi_change.specs.Weak.{whole_place}
-use Rattle.ubi_change.specs.declared.step.Step.{Step}
 use Rattle.ubi_change.proofs.CopyReplaced.{IsPrepared, IsRelease}
 use Rattle.ubi_change.proofs.Changed.{unchanged}
-use Rattle.ubi_scan.proofs.Parts.{laid}
 use Rattle.ubi_change.proofs.Laid.{header_written}
 use Rattle.ubi_change.proofs.Mapped.{IsNew, mapped, used_by_volume}
 use Rattle.ubi_change.proofs.Emptied.{AreBelow}

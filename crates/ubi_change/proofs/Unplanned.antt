@@ -1,26 +1,8 @@
 -- What was read of a source for a change tells of whatever it may hold: its plan, or why it has none.
-use Rattle.std.proofs.Common.{◌≡◌, ℕ, inl, inr, List, [], length, sym, ◌∙◌, subst}
-use Rattle.ubi_media.specs.Geometry.{Sizes}
-use Rattle.ubi_media.specs.declared.refusal.Refusal.{Refusal}
-use Rattle.ubi_scan.specs.Image.{Image, IsWholeSize, image_of, in_image}
-use Rattle.ubi_scan.specs.Source.{Agreed, Narrows, Source, WhereHeld, blocks_of, holds, memory}
-use Rattle.ubi_scan.specs.declared.errors.StreamError.{StreamError}
+use Rattle.ubi_change.proofs.Prelude.{◌≡◌, ℕ, inl, inr, List, [], length, sym, ◌∙◌, subst, Sizes, Refusal, Image, IsWholeSize, image_of, in_image, Agreed, Narrows, Source, WhereHeld, blocks_of, holds, memory, StreamError, still, Whole, ArePlacesError, IsSurvey, Seen, Volume, refused_in_memory, AreStepsOf, IsPrepared, IsUnplanned, from_stream, shown, IsChangeError, IsChangeRefusal, IsChangeRefusalAvoiding, IsPlanAvoiding, Avoided, ReadBlank, nothing, avoiding, PlanError, Prepared, ChangeRefusal, Step}
 use Rattle.ubi_scan.specs.declared.errors.StreamError.TheVariants as stream
-use Rattle.ubi_scan.proofs.InMemory.{still}
-use Rattle.ubi_volume.specs.Attached.{Whole}
-use Rattle.ubi_volume.specs.Places.{ArePlacesError}
-use Rattle.ubi_volume.specs.Survey.{IsSurvey, Seen}
-use Rattle.ubi_volume.specs.declared.content.Volume.{Volume}
-use Rattle.ubi_volume.proofs.PlacesOf.{refused_in_memory}
-use Rattle.ubi_change.specs.inner.Making.{AreStepsOf, IsPrepared, IsUnplanned, from_stream, shown}
-use Rattle.ubi_change.specs.Planned.{IsChangeError, IsChangeRefusal, IsChangeRefusalAvoiding, IsPlanAvoiding}
-use Rattle.ubi_change.specs.Avoided.{Avoided, ReadBlank, nothing, avoiding}
-use Rattle.ubi_change.specs.declared.plan_error.PlanError.{PlanError}
 use Rattle.ubi_change.specs.declared.plan_error.PlanError.TheVariants as error
-use Rattle.ubi_change.specs.declared.planning.Prepared.{Prepared}
-use Rattle.ubi_change.specs.declared.refusal.ChangeRefusal.{ChangeRefusal}
 use Rattle.ubi_change.specs.declared.refusal.ChangeRefusal.TheVariants as refusal
-use Rattle.ubi_change.specs.declared.step.Step.{Step}
 use Rattle.ubi_change.proofs.ChangeCauses as causes
 use Rattle.ubi_change.proofs.NothingAvoided.{refusal_nothing}
 use Rattle.ubi_change.proofs.PlanMade as make

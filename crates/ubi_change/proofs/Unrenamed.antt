@@ -1,33 +1,10 @@
 -- What was read of a source for a rename tells of whatever it may hold: its plan, or why it has none.
-use Rattle.std.proofs.Common.{◌≡◌, ℕ, ◌<◌, inl, inr, List, length, ap, sym, ◌∙◌, subst, arith}
-use Rattle.std.specs.Prelude.{◌⊎◌, None, Some}
-use Rattle.ubi_media.specs.Fields.{AreBytes}
-use Rattle.ubi_media.specs.Geometry.{IsGeometry, Sizes}
-use Rattle.ubi_media.specs.declared.refusal.Refusal.{Refusal}
-use Rattle.ubi_scan.specs.Image.{Image, IsWholeSize, image_of, in_image}
-use Rattle.ubi_scan.specs.Source.{Agreed, Narrows, Source, WhereHeld, blocks_of, holds, memory}
-use Rattle.ubi_scan.specs.declared.errors.StreamError.{StreamError}
+use Rattle.ubi_change.proofs.Prelude.{◌≡◌, ℕ, ◌<◌, inl, inr, List, length, ap, sym, ◌∙◌, subst, arith, None, Some, AreBytes, IsGeometry, Sizes, Refusal, Image, IsWholeSize, image_of, in_image, Agreed, Narrows, Source, WhereHeld, blocks_of, holds, memory, StreamError, still, ArePlacesError, IsSurvey, Seen, refused_in_memory, renamed_pages, IsRenameError, IsRenameOf, IsRenameRefusal, IsRenameRefusalAvoiding, ReadBlank, Avoided, nothing, states_avoiding, takeable, weak_place, AreCopiesOf, AreHolders, IsNamable, IsRenamable, IsSparesRefusal, IsUnrenamed, pages_for, two_copies, site_at, first_taken, Holders, PlanError, RenameRefusal, Renamable, Step, FirstTwo}
+use Rattle.std.specs.Prelude.{◌⊎◌}
 use Rattle.ubi_scan.specs.declared.errors.StreamError.TheVariants as stream
-use Rattle.ubi_scan.proofs.InMemory.{still}
-use Rattle.ubi_volume.specs.Places.{ArePlacesError}
-use Rattle.ubi_volume.specs.Survey.{IsSurvey, Seen}
-use Rattle.ubi_volume.proofs.PlacesOf.{refused_in_memory}
-use Rattle.ubi_change.specs.RenamePlan.{renamed_pages}
-use Rattle.ubi_change.specs.RenamePlanned.{IsRenameError, IsRenameOf, IsRenameRefusal, IsRenameRefusalAvoiding}
-use Rattle.ubi_change.specs.Avoided.{ReadBlank, Avoided, nothing, states_avoiding}
-use Rattle.ubi_change.specs.Takeable.{takeable}
-use Rattle.ubi_change.specs.Weak.{weak_place}
-use Rattle.ubi_change.specs.inner.Renaming.{AreCopiesOf, AreHolders, IsNamable, IsRenamable, IsSparesRefusal, IsUnrenamed, from_stream, pages_for, two_copies}
-use Rattle.ubi_change.specs.inner.Sites.{site_at}
-use Rattle.ubi_change.specs.inner.Taking.{first_taken}
-use Rattle.ubi_change.specs.declared.holders.Holders.{Holders}
-use Rattle.ubi_change.specs.declared.plan_error.PlanError.{PlanError}
+use Rattle.ubi_change.specs.inner.Renaming.{from_stream}
 use Rattle.ubi_change.specs.declared.plan_error.PlanError.TheVariants as error
-use Rattle.ubi_change.specs.declared.rename_refusal.RenameRefusal.{RenameRefusal}
 use Rattle.ubi_change.specs.declared.rename_refusal.RenameRefusal.TheVariants as refusal
-use Rattle.ubi_change.specs.declared.renaming.Renamable.{Renamable}
-use Rattle.ubi_change.specs.declared.step.Step.{Step}
-use Rattle.ubi_change.specs.declared.taking.FirstTwo.{FirstTwo}
 use Rattle.ubi_change.proofs.NothingAvoided.{rename_refusal_nothing}
 use Rattle.ubi_change.proofs.RenameCauses as cause
 use Rattle.ubi_change.proofs.RenameKept.{rename_kept}

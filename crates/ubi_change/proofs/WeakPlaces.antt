@@ -1,17 +1,7 @@
 -- Whether the first pages of a text are weak, by the check of its front and the bytes behind it; and the least such
 -- place.
-use Rattle.std.proofs.Common.{◌≡◌, ℕ, ◌+◌, ◌-◌, ◌*◌, ◌^◌, ◌<◌, ◌≤◌, inl, inr, Bool, true, false, not, List, [], ◌∷◌, ◌++◌, length, take, drop, refl, ap, ap₂, sym, ◌∙◌, arith, length-drop}
-use Rattle.std.specs.Prelude.{None, Some, ◌==◌, ◌&&◌}
-use Rattle.std.proofs.lemmas.Bool.Decides.{nat_tests}
-use Rattle.std.proofs.lemmas.List.{length-take-le, take-append-drop, take_all}
+use Rattle.ubi_change.proofs.Prelude.{◌≡◌, ℕ, ◌+◌, ◌-◌, ◌*◌, ◌^◌, ◌<◌, ◌≤◌, inl, inr, Bool, true, false, not, List, [], ◌∷◌, ◌++◌, length, take, drop, refl, ap, ap₂, sym, ◌∙◌, arith, length-drop, None, Some, ◌==◌, ◌&&◌, nat_tests, length-take-le, take-append-drop, take_all, check, check_from, blank, is_blank, same_bytes, Sizes, check_from-append, check_from-empty, below_same_or_above, filled-by, join_blank, is_weak, is_whole, pages_of, torn, weak_place}
 use Rattle.std.proofs.Math.Seq.{take-add}
-use Rattle.ubi_media.specs.Check.{check, check_from}
-use Rattle.ubi_media.specs.Fields.{blank, is_blank, same_bytes}
-use Rattle.ubi_media.specs.Geometry.{Sizes}
-use Rattle.ubi_media.proofs.Checks.{check_from-append, check_from-empty}
-use Rattle.ubi_media.proofs.Cases.{below_same_or_above}
-use Rattle.ubi_scan.proofs.Filled.{filled-by, join_blank}
-use Rattle.ubi_change.specs.Weak.{is_weak, is_whole, pages_of, torn, weak_place}
 use Rattle.ubi_change.proofs.Torn.{find_range}
 
 same_front : (xs a b : List ℕ) → same_bytes (xs ++ a) (xs ++ b) ≡ same_bytes a b

@@ -1,14 +1,5 @@
 -- What is read of an eraseblock, in the bytes that a source may hold.
-use Rattle.std.proofs.Common.{◌≡◌, ℕ, ◌+◌, ◌-◌, ◌/◌, ◌<◌, List, length, drop, sym, ◌∙◌, subst, arith, length-drop, slice_range}
-use Rattle.std.proofs.Math.Nat.{div-mul-le_self}
-use Rattle.std.proofs.lemmas.List.{take_all}
-use Rattle.ubi_media.specs.Geometry.{Sizes}
-use Rattle.ubi_scan.specs.Image.{block}
-use Rattle.ubi_scan.specs.Source.{Agreed, IsSource, Narrows, Source, blocks_in, blocks_of}
-use Rattle.ubi_scan.proofs.Chunks.{length-of_chunk}
-use Rattle.ubi_scan.proofs.Narrowed.{scan_narrowed}
-use Rattle.ubi_volume.specs.Survey.{IsSurveyOf, Seen}
-use Rattle.ubi_volume.proofs.Blanks.{part_is}
+use Rattle.ubi_change.proofs.Prelude.{◌≡◌, ℕ, ◌+◌, ◌-◌, ◌/◌, ◌<◌, List, length, drop, sym, ◌∙◌, subst, arith, length-drop, slice_range, div-mul-le_self, take_all, Sizes, block, Agreed, IsSource, Narrows, Source, blocks_in, blocks_of, length-of_chunk, scan_narrowed, IsSurveyOf, Seen, part_is}
 
 -- what is known of all that a source may hold is known of what is left of it
 pub survey_narrowed : (s : Sizes) (k : Source) (old new : Agreed) (v : Seen) → Narrows old new → IsSurveyOf s k old v

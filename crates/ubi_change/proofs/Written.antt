@@ -1,31 +1,9 @@
 -- What the eraseblocks are that the steps of a plan leave: blank, with an erase-counter header alone, or with a part of
 -- a
 -- copy.
-use Rattle.std.proofs.Common.{◌≡◌, ◌≢◌, ℕ, ◌+◌, ◌-◌, ◌*◌, ◌<◌, ◌≤◌, true, not, List, ◌++◌, length, take, refl, ap, ap₂, sym, ◌∙◌, subst, arith}
-use Rattle.std.specs.Prelude.{None, Some, ◌==◌, ◌||◌, option_map}
-use Rattle.std.specs.Bool.{then_some}
-use Rattle.std.proofs.lemmas.List.{take_at, take-replicate, length-take-le}
-use Rattle.std.proofs.Math.Seq.{take-append-add}
-use Rattle.std.proofs.lemmas.Option.{same_Some}
-use Rattle.ubi_media.specs.Check.{check}
-use Rattle.ubi_media.specs.Ec.{ec_reading}
-use Rattle.ubi_media.specs.Fields.{blank, filled}
-use Rattle.ubi_media.specs.Geometry.{Sizes, IsGeometry}
-use Rattle.ubi_media.specs.Vid.{vid_bytes, vid_fault, vid_reading}
-use Rattle.ubi_media.specs.Widths.{VidFits}
-use Rattle.ubi_media.specs.declared.ec.EcHeader.{EcHeader}
+use Rattle.ubi_change.proofs.Prelude.{◌≡◌, ◌≢◌, ℕ, ◌+◌, ◌-◌, ◌*◌, ◌<◌, ◌≤◌, true, not, List, ◌++◌, length, take, refl, ap, ap₂, sym, ◌∙◌, subst, arith, None, Some, ◌==◌, ◌||◌, option_map, then_some, take_at, take-replicate, length-take-le, take-append-add, same_Some, check, ec_reading, blank, filled, Sizes, IsGeometry, vid_bytes, vid_fault, vid_reading, VidFits, EcHeader, VidHeader, fields_fit, vid_read_back, one_vid_reading, IsMislaid, ec, leb, vid, vid_area, IsMember, Leb, foreign, foreign_if, has_members, is_good, is_right, leb_of, member, member_if, sqnum_at, seq_if, seq_of, torn, behind, filled-by, filled-is, blank_ec, blank_vid, ec-laid, laid, leb-laid, vid-laid}
 use Rattle.ubi_media.specs.declared.ec.EcRead.TheVariants as ec_read
-use Rattle.ubi_media.specs.declared.vid.VidHeader.{VidHeader}
 use Rattle.ubi_media.specs.declared.vid.VidRead.TheVariants as vid_read
-use Rattle.ubi_media.proofs.Headers.{fields_fit, vid_read_back}
-use Rattle.ubi_media.proofs.Readings.{one_vid_reading}
-use Rattle.ubi_scan.specs.Faults.{IsMislaid}
-use Rattle.ubi_scan.specs.Image.{ec, leb, vid, vid_area}
-use Rattle.ubi_scan.specs.Members.{IsMember, Leb, foreign, foreign_if, has_members, is_good, is_right, leb_of, member, member_if, sqnum_at}
-use Rattle.ubi_scan.specs.Numbers.{seq_if, seq_of}
-use Rattle.ubi_change.specs.Weak.{torn}
-use Rattle.ubi_scan.proofs.Filled.{behind, filled-by, filled-is}
-use Rattle.ubi_scan.proofs.Parts.{blank_ec, blank_vid, ec-laid, laid, leb-laid, vid-laid}
 use Rattle.ubi_change.proofs.Mounted.{IsMount}
 use Rattle.ubi_change.proofs.Vacated.{IsVacant}
 

@@ -1,21 +1,6 @@
 -- What is written of an image after steps, eraseblock by eraseblock.
-use Rattle.std.proofs.Common.{◌≡◌, ℕ, ◌+◌, ◌<◌, List, [], ◌∷◌, ◌++◌, append-nil, length, take, drop, slice_range, ap, sym, ◌∙◌, arith, length-set, take-append-drop}
-use Rattle.std.specs.Prelude.{Option, fold}
-use Rattle.std.specs.List.{concat}
-use Rattle.std.proofs.lemmas.List.{take_all, take_more}
-use Rattle.std.proofs.lemmas.List.Folds.{concat-append}
-use Rattle.ubi_media.specs.Geometry.{Sizes}
-use Rattle.ubi_scan.specs.Image.{block}
-use Rattle.ubi_scan.specs.Source.{Agreed, IsSource, Source, blocks_in, blocks_of}
-use Rattle.ubi_scan.specs.declared.errors.StreamError.{StreamError}
-use Rattle.ubi_scan.proofs.ReadParts.{count_blocks}
-use Rattle.ubi_volume.specs.Wrote.{All, IsWroteError, Wrote}
-use Rattle.ubi_volume.proofs.Blanks.{part_is}
-use Rattle.ubi_volume.proofs.Narrowed.{error_where, wrote_where}
-use Rattle.ubi_volume.proofs.Received.{Splits, error_behind, error_front, wrote_as, wrote_more, wrote_none}
-use Rattle.ubi_change.specs.Steps.{after, after_text, step_done, target, block_after}
-use Rattle.ubi_change.specs.inner.Writing.{block_cut, block_text, front_text}
-use Rattle.ubi_change.specs.declared.step.Step.{Step}
+use Rattle.ubi_change.proofs.Prelude.{◌≡◌, ℕ, ◌+◌, ◌<◌, List, [], ◌∷◌, ◌++◌, append-nil, length, take, drop, slice_range, ap, sym, ◌∙◌, arith, length-set, Option, fold, concat, take_all, take_more, concat-append, Sizes, block, Agreed, IsSource, Source, blocks_in, blocks_of, StreamError, count_blocks, All, IsWroteError, Wrote, part_is, error_where, wrote_where, Splits, error_behind, error_front, wrote_as, wrote_more, wrote_none, after, after_text, step_done, target, block_after, block_cut, block_text, front_text, Step}
+use Rattle.std.proofs.Common.{take-append-drop}
 use Rattle.ubi_change.proofs.BlockSteps.{block_done}
 use Rattle.ubi_change.proofs.WholeReads.{block_whole}
 

@@ -1,36 +1,9 @@
 -- Each volume of a built image reads the file that its section names.
-use Rattle.std.proofs.Common.{◌≡◌, ℕ, ◌+◌, ◌*◌, ◌≤◌, List, [], ◌∷◌, ◌++◌, drop, length, map, take, zero, suc, ap, arith, refl, subst, sym, ◌∙◌}
-use Rattle.std.proofs.Math.Seq.{drop-append-add}
-use Rattle.std.proofs.lemmas.List.{append_assoc, length-append, take-append-le, take_all}
-use Rattle.std.proofs.lemmas.Option.{get_or_from_slice_get, same_Some, slice_get_within}
-use Rattle.std.specs.Io.KnownBytes.{Appends}
-use Rattle.std.specs.List.{AllByRecursion, cons_option}
-use Rattle.std.specs.Option.{option_map_or}
-use Rattle.std.specs.Prelude.{IfSome, IsSome, MatchOption, None, Ok, Option, Some, if◌then◌else◌, option_map, sum_by, true, unwrap_or}
-use Rattle.ubi_media.specs.Geometry.{Sizes}
-use Rattle.ubi_media.specs.Record.{usable}
-use Rattle.ubi_scan.specs.Image.{image_of}
-use Rattle.ubi_scan.specs.Source.{known_by}
-use Rattle.ubi_volume.specs.Accepts.{Accepts}
-use Rattle.ubi_volume.specs.Meant.{Meant}
-use Rattle.ubi_volume.specs.Reading.{read_volume}
-use Rattle.ubi_volume.specs.Wrote.{All, Wrote}
-use Rattle.ubi_config.specs.Config.{sections_of}
-use Rattle.ubi_config.specs.Records.{record_in}
-use Rattle.ubi_config.specs.declared.section.Section.{Section}
-use Rattle.ubi_compose.specs.Building.{image_built}
-use Rattle.ubi_compose.specs.Built.{Parts, Reaches, built as meant, text_of}
-use Rattle.ubi_compose.specs.BuiltLaws.{text_read}
-use Rattle.ubi_compose.specs.Composed.{composed}
-use Rattle.ubi_compose.specs.declared.recipe.Part.{Part}
-use Rattle.ubi_compose.proofs.BuiltReads.{built_reads}
-use Rattle.ubi_compose.proofs.BuiltRoom.{built_accepted}
-use Rattle.ubi_compose.proofs.Lists.{all_from}
-use Rattle.ubi_commands.specs.Build.{AreGathered, ArePartsOf, HaveImage, IsNoVolume, IsSized, Sized, built, crowded, faulty, gathered, image_path, image_paths, len_of, no_image, no_path, no_record, numbered, part_at, ungathered, unmade, unread, unwritten}
-use Rattle.ubi_commands.specs.BuildLaws.{AreTold, BuildReads, ReadsItsFile, file_of}
-use Rattle.ubi_commands.specs.Disk.{Files, Holds, fresh}
-use Rattle.ubi_commands.specs.Row.{row_bytes}
-use Rattle.ubi_commands.specs.declared.outcome.Outcome.{Outcome}
+use Rattle.ubi_commands.proofs.Prelude.{◌≡◌, ℕ, ◌+◌, ◌*◌, ◌≤◌, List, [], ◌∷◌, ◌++◌, drop, length, map, take, zero, suc, ap, arith, refl, subst, sym, ◌∙◌, drop-append-add, length-append, take-append-le, take_all, get_or_from_slice_get, same_Some, slice_get_within, Appends, AllByRecursion, cons_option, option_map_or, IfSome, IsSome, MatchOption, None, Ok, Option, if◌then◌else◌, option_map, sum_by, unwrap_or, Sizes, usable, image_of, known_by, Accepts, Meant, read_volume, All, Wrote, sections_of, record_in, Section, image_built, Parts, Reaches, text_of, text_read, composed, Part, built_reads, built_accepted, all_from, AreGathered, ArePartsOf, HaveImage, IsNoVolume, IsSized, Sized, built, faulty, gathered, image_path, image_paths, len_of, no_image, no_path, no_record, numbered, part_at, ungathered, unwritten, AreTold, BuildReads, ReadsItsFile, file_of, Files, Holds, fresh, row_bytes, Outcome}
+use Rattle.std.proofs.lemmas.List.{append_assoc}
+use Rattle.std.specs.Prelude.{Some, true}
+use Rattle.ubi_compose.specs.Built.{built as meant}
+use Rattle.ubi_commands.specs.Build.{crowded, unmade, unread}
 use Rattle.ubi_commands.proofs.FileRows.{sum_cons}
 use Rattle.ubi_commands.proofs.Outcomes.{not_both}
 

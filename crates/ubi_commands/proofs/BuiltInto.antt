@@ -1,26 +1,7 @@
 -- How a build into a file ends.
-use Rattle.std.proofs.Common.{◌≡◌, ◌<◌, ◌⊎◌, ◌∷◌, ◌∙◌, ℕ, List, [], ap, arith, get_or, inl, inr, length, refl, subst, suc, sym, zero}
-use Rattle.std.specs.List.{AllByRecursion}
-use Rattle.std.specs.Option.{ForSome}
-use Rattle.std.specs.Prelude.{Contains, Err, IfErr, IfOk, IfSome, IsOk, IsSome, None, Ok, OnErr, Option, Result}
-use Rattle.std.specs.declared.alloc.AllocError.{AllocError}
-use Rattle.ubi_media.specs.Geometry.{Sizes}
-use Rattle.ubi_scan.specs.Source.{Agreed, Source, known_by}
-use Rattle.ubi_config.specs.Config.{first_fault, sections_of}
-use Rattle.ubi_config.specs.declared.section.Section.{Section}
-use Rattle.ubi_volume.specs.Wrote.{All, Wrote}
-use Rattle.ubi_compose.specs.Building.{CanBuild, IsBuildError, WhereNotBegun, image_built, known_after}
-use Rattle.ubi_compose.specs.Built.{HaveMeaning, Parts}
-use Rattle.ubi_compose.specs.declared.errors.BuildError.{BuildError}
+use Rattle.ubi_commands.proofs.Prelude.{◌≡◌, ◌<◌, ◌⊎◌, ◌∷◌, ◌∙◌, ℕ, List, [], ap, arith, get_or, inl, inr, length, refl, subst, suc, sym, zero, AllByRecursion, ForSome, Contains, Err, IfErr, IfOk, IfSome, IsOk, IsSome, None, Ok, OnErr, Option, Result, AllocError, Sizes, Agreed, Source, known_by, first_fault, sections_of, Section, All, Wrote, CanBuild, IsBuildError, WhereNotBegun, image_built, known_after, HaveMeaning, Parts, BuildError, Part, AreBesideOut, AreGathered, Builds, BuildsParts, HaveImage, IsUnreadLine, built, gathered, image_paths, numbered, unwritten, row_bytes, AllStay, Files, IsKept, fresh, contents_of, AreAnswers, IsNotBegun, IsToldOf, Answers, Outcome}
 use Rattle.ubi_compose.specs.declared.errors.BuildError.TheVariants as build
-use Rattle.ubi_compose.specs.declared.recipe.Part.{Part}
-use Rattle.ubi_commands.specs.Build.{AreBesideOut, AreGathered, Builds, BuildsParts, HaveImage, IsUnreadLine, built, crowded, gathered, image_paths, numbered, unread, unwritten}
-use Rattle.ubi_commands.specs.Row.{row_bytes}
-use Rattle.ubi_commands.specs.Disk.{AllStay, Files, IsKept, fresh}
-use Rattle.ubi_commands.specs.Late.{contents_of}
-use Rattle.ubi_commands.specs.inner.Built.{AreAnswers, IsNotBegun, IsToldOf}
-use Rattle.ubi_commands.specs.declared.build.Answers.{Answers}
-use Rattle.ubi_commands.specs.declared.outcome.Outcome.{Outcome}
+use Rattle.ubi_commands.specs.Build.{crowded, unread}
 use Rattle.ubi_commands.proofs.Outcomes.{holds_received}
 
 -- what holds of each element holds of one

@@ -1,15 +1,5 @@
 -- How a command line grows, and the names of its commands.
-use Rattle.std.proofs.Common.{◌≡◌, ◌&&◌, Bool, ap, ap₂, false, map, not, refl, true, ◌∙◌}
-use Rattle.std.specs.Prelude.{IfOk, Result}
-use Rattle.std.specs.declared.alloc.AllocError.{AllocError}
-use Rattle.clap.specs.Built.{AddsArg, AddsSubcommand, subcommand_names}
-use Rattle.clap.specs.Simple.{App, Shape, app_of, shape_of, with_rule, with_subcommand}
-use Rattle.clap.specs.Walk.{Rule, rule_of}
-use Rattle.clap.specs.declared.builder.arg.Arg.{Arg}
-use Rattle.clap.specs.declared.builder.command.Command.{Command}
-use Rattle.clap.specs.declared.builder.command.Command.TheViews.{out-Command}
-use Rattle.ubi_commands.specs.Tool.{needed}
-use Rattle.ubi_commands.specs.inner.CommandLine.{HasOneMore, alone}
+use Rattle.ubi_commands.proofs.Prelude.{◌≡◌, ◌&&◌, Bool, ap, ap₂, false, map, not, refl, true, ◌∙◌, IfOk, Result, AllocError, AddsArg, AddsSubcommand, subcommand_names, App, Shape, app_of, shape_of, with_rule, with_subcommand, Rule, rule_of, Arg, Command, out-Command, needed, HasOneMore, alone}
 
 -- the names of the commands are those of their shapes
 pub names_are : (c : Command) (a : App) → app_of c ≡ a → subcommand_names c ≡ map (λ (s : Shape). s.name) a.subs

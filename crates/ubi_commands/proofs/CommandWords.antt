@@ -1,14 +1,6 @@
 -- What the words of a command give.
-use Rattle.std.proofs.Common.{◌≡◌, ◌∙◌, ◌<◌, ◌^◌, List, Option, None, Some, ap, option_map, refl, subst, sym, ℕ}
-use Rattle.std.proofs.lemmas.Option.{same_Some}
-use Rattle.std.specs.Borrow.{Bor}
-use Rattle.std.specs.Prelude.{Err, Ok, Result, is_some}
-use Rattle.std.specs.Str.Parse.{ParsesUnsigned, digits_value, without_leading_plus}
-use Rattle.clap.specs.Matches.{ReadsOne, first_value, one_text}
-use Rattle.clap.specs.Walk.{one_of, rows_of}
-use Rattle.clap.specs.declared.parser.matches.Found.{Found}
-use Rattle.clap.proofs.WalkLemmas.{first_value-rows, one_text-rows}
-use Rattle.ubi_commands.specs.CommandLine.{HasBelow, HasNumber, HasText, IsOneOf, MayHaveBelow, MayHaveNumber, gives}
+use Rattle.ubi_commands.proofs.Prelude.{◌≡◌, ◌∙◌, ◌<◌, ◌^◌, List, Some, ap, refl, subst, sym, ℕ, same_Some, Bor, Err, Ok, Result, is_some, ParsesUnsigned, digits_value, without_leading_plus, ReadsOne, first_value, one_text, one_of, rows_of, Found, first_value-rows, one_text-rows, HasBelow, HasNumber, HasText, IsOneOf, MayHaveBelow, MayHaveNumber, gives}
+use Rattle.std.proofs.Common.{Option, None, option_map}
 
 -- a text that the matches give is one of the words
 pub text_given : (f : Found) (name : List ℕ) (text : Option (Bor (List ℕ)))

@@ -1,12 +1,5 @@
 -- What comparing two sources answers, of whatever they may hold.
-use Rattle.std.proofs.Common.{Bool, true, false, refl, subst, sym}
-use Rattle.ubi_scan.specs.Image.{Image}
-use Rattle.ubi_volume.specs.Accepts.{Accepts}
-use Rattle.ubi_compose.specs.Composed.{IsComparison}
-use Rattle.ubi_commands.specs.Answer.{Gives, says}
-use Rattle.ubi_commands.specs.Lines.{comparison_line}
-use Rattle.ubi_commands.specs.Same.{Compares, comparison_status, different, same}
-use Rattle.ubi_commands.specs.declared.outcome.Outcome.{Outcome}
+use Rattle.ubi_commands.proofs.Prelude.{Bool, true, false, refl, subst, sym, Image, Accepts, IsComparison, Gives, says, comparison_line, Compares, comparison_status, different, same, Outcome}
 
 -- two images that were compared mean the same or not, as is told
 pub of_images : (left right : Image) (answer : Bool) (o : Outcome) → IsComparison left right answer

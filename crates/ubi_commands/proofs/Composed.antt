@@ -1,21 +1,6 @@
 -- What is composed of a text, and listed of that.
-use Rattle.std.proofs.Common.{◌≡◌, ℕ, List, Some, ap, sym, subst, ◌∙◌, arith}
-use Rattle.std.specs.Prelude.{Ok, option_map}
-use Rattle.std.proofs.lemmas.Option.{same_Some}
-use Rattle.ubi_media.specs.Geometry.{Sizes}
-use Rattle.ubi_scan.specs.Image.{Image, image_of}
-use Rattle.ubi_volume.specs.Accepts.{Accepts}
-use Rattle.ubi_volume.specs.Meant.{Meant}
-use Rattle.ubi_volume.specs.declared.errors.MeaningCause.{MeaningCause}
-use Rattle.ubi_volume.proofs.FirstCause.{one_first}
-use Rattle.ubi_volume.proofs.One.{Accepts-unique, never_accepted_and_refused}
-use Rattle.ubi_compose.specs.Spec.{volumes_of}
-use Rattle.ubi_compose.specs.TextLaws.{ComesTo}
-use Rattle.ubi_compose.specs.declared.errors.SpecCause.{SpecCause}
-use Rattle.ubi_commands.specs.Answer.{Answer, Gives, says}
-use Rattle.ubi_commands.specs.Compose.{Composes, ComposesOf, crowded, described, fits, meaning_line, spec_line, unmade, unread}
-use Rattle.ubi_commands.specs.List.{Lists, accepted, list_lines, refused}
-use Rattle.ubi_commands.specs.declared.outcome.Outcome.{Outcome}
+use Rattle.ubi_commands.proofs.Prelude.{◌≡◌, ℕ, List, Some, ap, sym, subst, ◌∙◌, arith, Ok, option_map, same_Some, Sizes, Image, image_of, Accepts, Meant, MeaningCause, one_first, Accepts-unique, never_accepted_and_refused, volumes_of, ComesTo, SpecCause, Answer, Gives, says, Composes, ComposesOf, crowded, described, fits, meaning_line, spec_line, unmade, unread, Lists, list_lines, Outcome}
+use Rattle.ubi_commands.specs.List.{accepted, refused}
 
 same_sizes : (s z : Sizes) (bytes : List ℕ) → s ≡ z → ◌≡◌ {A = Image} (image_of s bytes) (image_of z bytes)
 same_sizes s z bytes e = ap (λ (t : Sizes). record { sizes = t; bytes = bytes }) e

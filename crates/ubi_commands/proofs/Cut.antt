@@ -1,22 +1,7 @@
 -- The image after the first steps of a plan: what was written of it, and what it means.
-use Rattle.std.proofs.Common.{◌≡◌, ℕ, zero, suc, ◌/◌, ◌<◌, ◌≤◌, List, [], ◌∷◌, length, take, arith, ap, sym, subst, ◌∙◌}
-use Rattle.std.specs.Prelude.{Option, Some, None, fold, if◌then◌else◌, nat_lt, slice_get}
-use Rattle.std.specs.List.{concat}
-use Rattle.std.proofs.lemmas.List.{take_all}
-use Rattle.ubi_media.specs.Geometry.{IsGeometry, Sizes}
-use Rattle.ubi_change.specs.Fitting.{AllWithin}
-use Rattle.ubi_change.specs.Steps.{after, after_text, step_done}
-use Rattle.ubi_change.specs.declared.step.Step.{Step}
-use Rattle.ubi_change.proofs.CutSizes.{blocks-cut, length-cut}
-use Rattle.ubi_scan.specs.Image.{Image, IsWhole, IsWholeSize, eraseblocks, image_of}
-use Rattle.ubi_scan.specs.Source.{Agreed, Source, blocks_of}
-use Rattle.ubi_scan.specs.declared.errors.StreamError.{StreamError}
+use Rattle.ubi_commands.proofs.Prelude.{◌≡◌, ℕ, zero, suc, ◌/◌, ◌<◌, ◌≤◌, List, [], ◌∷◌, length, take, arith, ap, sym, subst, ◌∙◌, Option, None, fold, if◌then◌else◌, slice_get, concat, take_all, IsGeometry, Sizes, AllWithin, after, after_text, step_done, Step, blocks-cut, length-cut, Image, IsWhole, IsWholeSize, eraseblocks, image_of, Agreed, Source, blocks_of, StreamError, AcceptsBlocks, Meant, First, IsWroteError, Wanted, Wrote, error_as, CutAccepts, IsCut, cut_text, steps_done}
+use Rattle.std.specs.Prelude.{Some, nat_lt}
 use Rattle.ubi_scan.specs.declared.errors.StreamError.TheVariants as stream
-use Rattle.ubi_volume.specs.Accepts.{AcceptsBlocks}
-use Rattle.ubi_volume.specs.Meant.{Meant}
-use Rattle.ubi_volume.specs.Wrote.{First, IsWroteError, Wanted, Wrote}
-use Rattle.ubi_volume.proofs.Received.{error_as}
-use Rattle.ubi_commands.specs.Plan.{CutAccepts, IsCut, cut_text, steps_done}
 
 -- where the eraseblocks that the steps leave are accepted, so are the bytes
 pub cut_accepts : (image : Image) (steps : List Step) (k turn : ℕ) (old new : Meant) → IsWhole image → IsCut image steps k

@@ -1,9 +1,5 @@
 -- A page above the largest is no page size.
-use Rattle.std.proofs.Common.{◌≡◌, ℕ, ◌<◌, ◌==◌, Some, false, refl, arith}
-use Rattle.std.specs.List.{list_any}
-use Rattle.std.proofs.lemmas.Bool.Decides.{nat_tests}
-use Rattle.ubi_media.specs.Geometry.{Sizes, page_sizes}
-use Rattle.ubi_media.specs.Limits.{first_broken}
+use Rattle.ubi_commands.proofs.Prelude.{◌≡◌, ℕ, ◌<◌, ◌==◌, Some, false, refl, arith, list_any, nat_tests, Sizes, page_sizes, first_broken}
 use Rattle.ubi_media.specs.declared.geometry.GeometryError.TheVariants as fault
 
 no_page_size : (page : ℕ) → 65536 < page → list_any (λ size. size == page) page_sizes ≡ false

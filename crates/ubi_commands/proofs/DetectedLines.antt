@@ -1,15 +1,6 @@
 -- What is told of a part of a file, of whatever the source over it may hold.
-use Rattle.std.proofs.Common.{List, ℕ, subst, sym}
-use Rattle.ubi_scan.specs.Detected.{AreDetectedOf, IsDetectError}
-use Rattle.ubi_scan.specs.Source.{Agreed, IsSource, Source}
+use Rattle.ubi_commands.proofs.Prelude.{List, ℕ, subst, sym, AreDetectedOf, IsDetectError, Agreed, IsSource, Source, Detected, Undetected, Gives, says, Detects, detected, options_lines, undetected, undetected_line, Outcome, FilePart}
 use Rattle.ubi_scan.specs.declared.detect.DetectError.TheVariants as error
-use Rattle.ubi_scan.specs.declared.detect.Detected.{Detected}
-use Rattle.ubi_scan.specs.declared.detect.Undetected.{Undetected}
-use Rattle.ubi_commands.specs.Answer.{Gives, says}
-use Rattle.ubi_commands.specs.Geometry.{Detects, detected, options_lines, undetected}
-use Rattle.ubi_commands.specs.Lines.{undetected_line}
-use Rattle.ubi_commands.specs.declared.outcome.Outcome.{Outcome}
-use Rattle.ubi_commands.specs.declared.view.FilePart.{FilePart}
 
 module _ (part : FilePart) (k : Source) (agrees : Agreed) (bytes : List ℕ) (holds : agrees bytes) (o : Outcome) where
   -- of bytes that it may hold the same is told

@@ -1,34 +1,11 @@
 -- What a change or a rename of a source answers: what its file means, of an image in memory, and into a file.
-use Rattle.std.proofs.Common.{◌≡◌, ℕ, inr, List, [], ◌++◌, length, ap, arith, sym, take, true≢false, ◌∙◌, subst, refl}
-use Rattle.std.specs.Prelude.{IfErr, IfOk, OnOk, Option, Result, Some, Ok, Err, codes}
-use Rattle.std.specs.declared.alloc.AllocError.{AllocError}
-use Rattle.std.proofs.lemmas.List.{take_all}
-use Rattle.std.proofs.lemmas.Result.{IfOk-at_ok}
-use Rattle.ubi_media.specs.Geometry.{Sizes}
-use Rattle.ubi_scan.specs.Image.{image_of}
-use Rattle.ubi_scan.specs.Source.{Agreed, Narrows, Source, WhereHeld, holds, memory}
-use Rattle.ubi_scan.proofs.InMemory.{still}
-use Rattle.ubi_volume.specs.Wrote.{All, Wrote}
-use Rattle.ubi_change.specs.Avoided.{Avoided, nothing}
-use Rattle.ubi_change.specs.Cuts.{changed, turn}
-use Rattle.ubi_change.specs.Pages.{programmed}
-use Rattle.ubi_change.specs.Planned.{IsPlanned}
-use Rattle.ubi_change.specs.RenamePlan.{renamed_pages}
-use Rattle.ubi_change.specs.RenamePlanned.{IsPlannedRename}
-use Rattle.ubi_change.specs.Renamed.{renamed}
-use Rattle.ubi_change.specs.declared.step.Step.{Step}
+use Rattle.ubi_commands.proofs.Prelude.{◌≡◌, ℕ, inr, List, [], ◌++◌, length, ap, arith, sym, take, true≢false, ◌∙◌, subst, refl, IfErr, IfOk, OnOk, Option, Result, Ok, Err, codes, AllocError, take_all, IfOk-at_ok, Sizes, image_of, Agreed, Narrows, Source, WhereHeld, holds, memory, still, All, Wrote, Avoided, nothing, changed, turn, programmed, IsPlanned, renamed_pages, IsPlannedRename, renamed, Step, shown_name, Gives, says, Changes, ChangesFrom, CutMeans, HasPlan, IsChangeFault, refused_line, AreCut, HasFile, IsCarryFault, cut_bytes, cut_text, plan_answer, plan_lines, refused_file, steps_done, CutIsNamed, HasRename, IsRenameFault, Renames, RenamesFrom, Outcome, ToolError}
+use Rattle.std.specs.Prelude.{Some}
 use Rattle.ubi_change.proofs.Unplanned as planning
 use Rattle.ubi_change.proofs.Unrenamed as renaming
-use Rattle.ubi_compose.specs.Words.{shown_name}
-use Rattle.ubi_commands.specs.Answer.{Gives, says}
 use Rattle.ubi_commands.specs.Change as change
-use Rattle.ubi_commands.specs.Change.{Changes, ChangesFrom, CutMeans, HasPlan, IsChangeFault}
-use Rattle.ubi_commands.specs.Lines.{refused_line}
-use Rattle.ubi_commands.specs.Plan.{AreCut, HasFile, IsCarryFault, cut_bytes, cut_text, done, plan_answer, plan_lines, refused_file, steps_done}
+use Rattle.ubi_commands.specs.Plan.{done}
 use Rattle.ubi_commands.specs.Rename as rename
-use Rattle.ubi_commands.specs.Rename.{CutIsNamed, HasRename, IsRenameFault, Renames, RenamesFrom}
-use Rattle.ubi_commands.specs.declared.outcome.Outcome.{Outcome}
-use Rattle.ubi_commands.specs.declared.outcome.ToolError.{ToolError}
 use Rattle.ubi_commands.specs.declared.outcome.ToolError.TheVariants as tool
 use Rattle.ubi_commands.proofs.Cut.{cut_accepts, few_done}
 use Rattle.ubi_commands.proofs.Outcomes.{not_both}

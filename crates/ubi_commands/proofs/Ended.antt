@@ -1,26 +1,8 @@
 -- How work ends that reads a source, and maybe writes a file meanwhile.
-use Rattle.std.proofs.Common.{◌≡◌, ℕ, List, ap, arith, refl, subst, sym, ◌∙◌}
-use Rattle.std.proofs.lemmas.Result.{IfOk-at_ok}
-use Rattle.std.specs.Prelude.{Bool, IfOk, IfSome, IsSome, None, Option, Some, is_some, true, MatchResult, Result, Ok, Err, codes}
-use Rattle.std.specs.declared.alloc.AllocError.{AllocError}
-use Rattle.ubi_media.specs.Geometry.{Sizes}
-use Rattle.ubi_media.specs.Limits.{first_broken}
-use Rattle.ubi_scan.specs.Source.{Agreed, Narrows, Source, holds, known_by, memory}
-use Rattle.ubi_commands.specs.AfterRun.{IsTold, after_left, after_right, after_run, outcome, read_failed}
-use Rattle.ubi_commands.specs.Answer.{Gives, says}
-use Rattle.ubi_commands.specs.inner.Ended.{IsEnded, IsToldOfSides, Works, answered, comparison, done, left_failed, no_read, no_source, no_write, right_failed, unopened}
-use Rattle.ubi_commands.specs.Disk.{Files, IsJudgedOf}
-use Rattle.ubi_commands.specs.Dump.{Fits, FitsWhole, seen}
-use Rattle.ubi_commands.specs.Lines.{file_line}
-use Rattle.ubi_commands.specs.Numbers.{sizes_of}
-use Rattle.ubi_commands.specs.Opened.{IsOpened}
-use Rattle.ubi_commands.specs.declared.open_image.OpenImage.{OpenImage}
+use Rattle.ubi_commands.proofs.Prelude.{◌≡◌, ℕ, List, ap, arith, refl, subst, sym, ◌∙◌, IfOk-at_ok, IfOk, IfSome, IsSome, None, Option, is_some, MatchResult, Result, Ok, Err, codes, AllocError, Sizes, first_broken, Agreed, Narrows, Source, holds, known_by, memory, IsTold, after_left, after_right, after_run, outcome, read_failed, Gives, says, IsEnded, IsToldOfSides, Works, answered, comparison, left_failed, no_read, no_source, no_write, right_failed, unopened, Files, IsJudgedOf, Fits, FitsWhole, seen, file_line, sizes_of, IsOpened, OpenImage, IsRead, OfFile, WhereRead, cannot_read, file, no_file, places, unreadable, whole, Dump, Outcome, SidesError, ToolError}
+use Rattle.std.specs.Prelude.{Bool, Some, true}
+use Rattle.ubi_commands.specs.inner.Ended.{done}
 use Rattle.ubi_commands.specs.declared.open_image.OpenImage.TheVariants as image
-use Rattle.ubi_commands.specs.Program.{IsRead, OfFile, WhereRead, cannot_read, file, no_file, places, unreadable, whole}
-use Rattle.ubi_commands.specs.declared.requests.Dump.{Dump}
-use Rattle.ubi_commands.specs.declared.outcome.Outcome.{Outcome}
-use Rattle.ubi_commands.specs.declared.outcome.SidesError.{SidesError}
-use Rattle.ubi_commands.specs.declared.outcome.ToolError.{ToolError}
 use Rattle.ubi_commands.specs.declared.outcome.ToolError.TheVariants as tool
 
 -- a file that is there is open

@@ -1,31 +1,9 @@
 -- What was extracted where the command did its work, or where a write failed.
-use Rattle.std.proofs.Common.{◌≡◌, ℕ, List, ap, refl, length, sym, zero-add, ◌∙◌, subst, arith}
-use Rattle.std.proofs.lemmas.Result.{IfErr-at_err}
-use Rattle.std.specs.Option.{option_map_or}
-use Rattle.std.specs.Prelude.{IfErr, IfOk, Option, Some, None, Result, Ok, Err}
-use Rattle.std.specs.Result.{result_map_both}
-use Rattle.ubi_media.specs.Geometry.{Sizes}
-use Rattle.ubi_scan.specs.Image.{Image, image_of}
-use Rattle.ubi_table.specs.Records.{Records}
-use Rattle.ubi_volume.specs.Meant.{Meant, records_of}
-use Rattle.ubi_volume.specs.Reading.{read_volume, volume_len}
-use Rattle.ubi_volume.specs.declared.errors.ReadError.{ReadError}
+use Rattle.ubi_commands.proofs.Prelude.{◌≡◌, ℕ, List, ap, refl, length, sym, zero-add, ◌∙◌, subst, arith, IfErr-at_err, option_map_or, IfErr, IfOk, Option, None, Result, Ok, Err, result_map_both, Sizes, Image, image_of, Records, Meant, records_of, read_volume, volume_len, ReadError, take_all, Appends, Agreed, Source, WhereHeld, read_text, ArePlaces, Placed, All, First, NotAll, Wanted, Wrote, HasGot, Gives, says, Extracts, HasFirst, HasTextIn, IsExtractError, IsExtractFault, ReadsVolume, accepted, read, read_key, number_in, bytes_line, Outcome, ToolError, VolumeKey}
+use Rattle.std.specs.Prelude.{Some}
 use Rattle.ubi_volume.specs.declared.errors.ReadError.TheVariants as error
-use Rattle.std.proofs.lemmas.List.{take_all}
-use Rattle.std.specs.Io.KnownBytes.{Appends}
-use Rattle.ubi_scan.specs.Source.{Agreed, Source, WhereHeld}
-use Rattle.ubi_volume.specs.Extract.{read_text}
-use Rattle.ubi_volume.specs.Places.{ArePlaces, Placed}
-use Rattle.ubi_volume.specs.Wrote.{All, First, NotAll, Wanted, Wrote}
-use Rattle.ubi_compose.specs.Streamed.{HasGot}
-use Rattle.ubi_commands.specs.Answer.{Gives, says}
-use Rattle.ubi_commands.specs.Extract.{Extracts, HasFirst, HasText, HasTextIn, IsExtractError, IsExtractFault, ReadsVolume, accepted, read, read_key, refused, unread}
-use Rattle.ubi_commands.specs.Key.{number_in}
-use Rattle.ubi_commands.specs.Lines.{bytes_line}
-use Rattle.ubi_commands.specs.declared.outcome.Outcome.{Outcome}
-use Rattle.ubi_commands.specs.declared.outcome.ToolError.{ToolError}
+use Rattle.ubi_commands.specs.Extract.{HasText, refused, unread}
 use Rattle.ubi_commands.specs.declared.outcome.ToolError.TheVariants as tool
-use Rattle.ubi_commands.specs.declared.volume_key.VolumeKey.{VolumeKey}
 use Rattle.ubi_commands.proofs.Outcomes.{not_both}
 
 volume_text : (m : Meant) (key : VolumeKey) (old new : Option (List ℕ)) (o : Outcome) → ReadsVolume m key old new o → o.status ≡ 0

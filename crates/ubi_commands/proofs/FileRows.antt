@@ -1,14 +1,6 @@
 -- Files that are read as one.
-use Rattle.std.proofs.Common.{◌≡◌, ℕ, ◌+◌, ◌-◌, ◌<◌, ◌≤◌, min, List, [], ◌∷◌, ◌++◌, drop, get_or, length, map, take, zero, suc, ap, arith, refl, subst, sym, ◌∙◌}
-use Rattle.std.proofs.Math.Nat.{min-le_left, min-le_right}
-use Rattle.std.proofs.Math.Seq.{drop-append-add}
-use Rattle.std.proofs.lemmas.List.{drop-append-le, length-append, length-drop, length-take, length-take-le, take-append-le, take-take}
-use Rattle.std.proofs.lemmas.List.Sums.{sum_by-append}
-use Rattle.std.specs.Option.{ForSome}
-use Rattle.std.specs.Prelude.{None, Option, Some, option_and_then, option_map, sum_by}
-use Rattle.ubi_scan.specs.Placed.{StandsAt}
-use Rattle.ubi_scan.proofs.Stands.{stand_within}
-use Rattle.ubi_commands.specs.Row.{row_bytes}
+use Rattle.ubi_commands.proofs.Prelude.{◌≡◌, ℕ, ◌+◌, ◌-◌, ◌<◌, ◌≤◌, min, List, [], ◌∷◌, ◌++◌, drop, get_or, length, map, take, zero, suc, ap, arith, refl, subst, sym, ◌∙◌, min-le_left, min-le_right, drop-append-add, drop-append-le, length-append, length-drop, length-take, length-take-le, take-append-le, take-take, sum_by-append, ForSome, None, Option, option_and_then, option_map, sum_by, StandsAt, stand_within, row_bytes}
+use Rattle.std.specs.Prelude.{Some}
 
 -- both are known where bytes and more are
 both_known : (P : List ℕ → Type 0) (held rest : Option (List ℕ))

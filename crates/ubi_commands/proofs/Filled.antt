@@ -1,10 +1,5 @@
 -- Lists place by place.
-use Rattle.std.proofs.Common.{◌≡◌, ◌∙◌, ℕ, zero, suc, ◌+◌, ◌-◌, ◌<◌, ◌≤◌, ◌&&◌, List, [], ◌∷◌, ◌++◌, ap, arith, cond, drop, false, get_or, length, map, nat_le, nat_lt, refl, replicate, sym, take, true}
-use Rattle.std.specs.List.{enumerate_from}
-use Rattle.std.proofs.lemmas.Bool.{cases_lt}
-use Rattle.std.proofs.lemmas.Bool.Decides.{nat_tests}
-use Rattle.std.proofs.lemmas.List.{get_or-drop, get_or-replicate, get_or-take, get_or_append_left, get_or-append_right, length-replicate, length-take-le}
-use Rattle.std.proofs.Common.{inl, inr, ◌⊎◌}
+use Rattle.ubi_commands.proofs.Prelude.{◌≡◌, ◌∙◌, ℕ, zero, suc, ◌+◌, ◌-◌, ◌<◌, ◌≤◌, ◌&&◌, List, [], ◌∷◌, ◌++◌, ap, arith, cond, drop, false, get_or, length, map, nat_le, nat_lt, refl, replicate, sym, take, true, enumerate_from, cases_lt, nat_tests, get_or-drop, get_or-replicate, get_or-take, get_or_append_left, get_or-append_right, length-replicate, length-take-le, inl, inr, ◌⊎◌}
 
 -- what a function of the places and the elements gives has as many elements
 pub length-placed : {X Y : Type 0} (f : ℕ → X → Y) (n : ℕ) (xs : List X) → length (map (λ e. f e.0 e.1) (enumerate_from n xs)) ≡ length xs

@@ -1,20 +1,6 @@
 -- How a dump is found of which the words give no geometry.
-use Rattle.std.proofs.Common.{◌≡◌, ◌≢◌, ◌∙◌, ◌⊎◌, ◌∷◌, [], List, inl, inr, refl, subst, sym, ℕ}
-use Rattle.std.specs.Option.{ForSome, IsSomeAnd}
-use Rattle.std.specs.Prelude.{Err, IfErr, None, Ok, Option, Result, Some, codes, slice_index_or}
-use Rattle.ubi_media.specs.Limits.{first_broken}
-use Rattle.ubi_scan.specs.Detected.{AreDetectedOf}
-use Rattle.ubi_scan.specs.Source.{Agreed, Narrows, holds, memory}
-use Rattle.ubi_scan.specs.declared.detect.Detected.{Detected}
-use Rattle.ubi_commands.specs.Answer.{Gives, says}
-use Rattle.ubi_commands.specs.Disk.{Files}
-use Rattle.ubi_commands.specs.Lines.{file_line}
-use Rattle.ubi_commands.specs.Numbers.{sizes_of}
-use Rattle.ubi_commands.specs.Program.{IsToldFirst, IsUnseen, Tells, TellsNothing, cannot_read, unreadable}
-use Rattle.ubi_commands.specs.inner.Ended.{Works, answered, no_source}
-use Rattle.ubi_commands.specs.declared.image_file.Unread.{Unread}
-use Rattle.ubi_commands.specs.declared.outcome.Outcome.{Outcome}
-use Rattle.ubi_commands.specs.declared.requests.Dump.{Dump}
+use Rattle.ubi_commands.proofs.Prelude.{◌≡◌, ◌≢◌, ◌∙◌, ◌⊎◌, ◌∷◌, [], List, inl, inr, refl, subst, sym, ℕ, ForSome, IsSomeAnd, Err, IfErr, None, Ok, Option, Result, codes, slice_index_or, first_broken, AreDetectedOf, Agreed, Narrows, holds, memory, Detected, Gives, says, Files, file_line, sizes_of, IsToldFirst, IsUnseen, Tells, TellsNothing, cannot_read, unreadable, Works, answered, no_source, Unread, Outcome, Dump}
+use Rattle.std.specs.Prelude.{Some}
 use Rattle.ubi_commands.proofs.Outcomes.{Tells-weaker}
 
 -- what is told where something fails is told of what is less

@@ -1,19 +1,8 @@
 -- What the sections of a config come to.
-use Rattle.std.proofs.Common.{◌≡◌, ℕ, ◌+◌, ◌<◌, ◌^◌, List, [], ◌∷◌, ◌++◌, get_or, length, map, take, zero, suc, ap, arith, refl, subst, sym, ◌∙◌}
-use Rattle.std.proofs.lemmas.List.{map-append, take_more}
-use Rattle.std.proofs.lemmas.List.Elements.{filter_map-append}
-use Rattle.std.proofs.lemmas.List.Sums.{sum_by-append}
-use Rattle.std.specs.List.{AllByRecursion, cons_option}
-use Rattle.std.specs.Prelude.{◌≢◌, Contains, IfSome, MatchOption, None, Option, Some, option_map, sum_by, unwrap_or}
-use Rattle.ubi_media.specs.Geometry.{Sizes}
-use Rattle.ubi_config.specs.declared.section.Section.{Section}
-use Rattle.ubi_compose.proofs.Lists.{all_append}
-use Rattle.ubi_compose.specs.declared.recipe.Part.{Part}
-use Rattle.ubi_commands.specs.Build.{AreBesideOut, ArePartsOf, IsNoVolume, IsSized, IsUngathered, IsUnreadLine, Sized, image_path, image_paths, len_of, part_at}
-use Rattle.ubi_commands.specs.Disk.{Files}
+use Rattle.ubi_commands.proofs.Prelude.{◌≡◌, ℕ, ◌+◌, ◌<◌, ◌^◌, List, [], ◌∷◌, ◌++◌, get_or, length, map, take, zero, suc, ap, arith, refl, subst, sym, ◌∙◌, map-append, take_more, filter_map-append, sum_by-append, AllByRecursion, cons_option, Contains, IfSome, MatchOption, None, Option, option_map, sum_by, unwrap_or, Sizes, Section, all_append, Part, AreBesideOut, ArePartsOf, IsNoVolume, IsSized, IsUngathered, IsUnreadLine, Sized, image_path, image_paths, len_of, part_at, Files, AreSoFar, IsFound, Outcome}
+use Rattle.std.specs.Prelude.{◌≢◌, Some}
 use Rattle.ubi_commands.proofs.FileRows.{sum_cons}
-use Rattle.ubi_commands.specs.inner.Gathering.{AreSoFar, IsFound, IsPartOf, listed}
-use Rattle.ubi_commands.specs.declared.outcome.Outcome.{Outcome}
+use Rattle.ubi_commands.specs.inner.Gathering.{IsPartOf, listed}
 
 -- an element stays in a longer list
 behind_option : {X : Type 0} (o : Option X) (xs : List X) (x : X) → Contains xs x → Contains (cons_option o xs) x

@@ -1,14 +1,8 @@
 -- The lines of what is told of files, and of why nothing is, on literals.
-use Rattle.std.proofs.Common.{◌≡◌, [], ◌∷◌, None, Some, codes, refl}
-use Rattle.std.specs.Fmt.{digits}
-use Rattle.ubi_media.specs.Geometry.{Sizes}
-use Rattle.ubi_media.specs.Limits.{first_broken}
+use Rattle.ubi_commands.proofs.Prelude.{◌≡◌, [], ◌∷◌, Some, refl, digits, Sizes, first_broken, options, options_lines, sizes_options, undetected_line, greatest, whole_file}
+use Rattle.std.proofs.Common.{None, codes}
 use Rattle.ubi_scan.specs.declared.detect.Undetected.TheVariants as cause
-use Rattle.ubi_commands.specs.Geometry.{options, options_lines, sizes_options}
-use Rattle.ubi_commands.specs.Lines.{undetected_line}
-use Rattle.ubi_commands.specs.Numbers.{greatest}
 use Rattle.ubi_commands.specs.Numbers as numbers
-use Rattle.ubi_commands.specs.Views.{whole_file}
 
 -- an eraseblock of 64 pages, and one of 32
 abbrev small_pages : Sizes

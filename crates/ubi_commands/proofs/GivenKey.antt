@@ -1,23 +1,8 @@
 -- What the words of a request say: the volume that they name, what they list as bad, and what they keep.
-use Rattle.std.proofs.Common.{◌≡◌, ◌∙◌, ◌&&◌, ◌||◌, Bool, List, None, Option, Some, ap, ap₂, codes, false, not, refl, subst, sym, true, true≢false, ℕ}
-use Rattle.std.specs.Borrow.{Bor}
-use Rattle.std.specs.Option.{ForSome}
-use Rattle.std.proofs.lemmas.Option.{same_Some}
-use Rattle.std.specs.List.{find}
-use Rattle.std.specs.Prelude.{is_some, option_and_then, option_map, slice_get}
-use Rattle.std.specs.Str.{bytes_eq}
-use Rattle.std.specs.Str.Parse.{without_leading_plus}
-use Rattle.clap.specs.Walk.{Row, Text, first_of, one_of}
-use Rattle.ubi_commands.specs.BadBlocks.{is_block_list}
-use Rattle.ubi_commands.specs.CommandLine.{Asks, AsksAsked, AsksBlank, AsksDump, AsksKey, AsksPlan, HasNumber, HasText, IsRequest, MayHaveText, command_name, gives, gives_no_geometry}
-use Rattle.ubi_commands.specs.Tool.{HasOneVolume, Mean, finds, plans, reads_dump}
-use Rattle.ubi_commands.specs.declared.requests.Asked.{Asked}
+use Rattle.ubi_commands.proofs.Prelude.{◌≡◌, ◌∙◌, ◌&&◌, ◌||◌, Bool, List, Some, ap, ap₂, false, not, refl, subst, sym, true, true≢false, ℕ, Bor, ForSome, same_Some, find, is_some, option_and_then, option_map, slice_get, bytes_eq, without_leading_plus, Row, Text, first_of, one_of, is_block_list, Asks, AsksAsked, AsksBlank, AsksDump, AsksKey, AsksPlan, HasNumber, HasText, IsRequest, MayHaveText, command_name, gives, gives_no_geometry, HasOneVolume, Mean, finds, plans, reads_dump, Asked, Dump, Plan, Request, VolumeKey}
+use Rattle.std.proofs.Common.{None, Option, codes}
 use Rattle.ubi_commands.specs.declared.requests.Asked.TheVariants as way
-use Rattle.ubi_commands.specs.declared.requests.Dump.{Dump}
-use Rattle.ubi_commands.specs.declared.requests.Plan.{Plan}
-use Rattle.ubi_commands.specs.declared.requests.Request.{Request}
 use Rattle.ubi_commands.specs.declared.requests.Request.TheVariants as request
-use Rattle.ubi_commands.specs.declared.volume_key.VolumeKey.{VolumeKey}
 use Rattle.ubi_commands.specs.declared.volume_key.VolumeKey.TheVariants as key
 use Rattle.ubi_commands.proofs.GivenWords.{found_row, number_in_row, text_in_row}
 use Rattle.ubi_commands.proofs.Lacking.{apart}

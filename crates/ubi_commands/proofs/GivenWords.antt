@@ -1,28 +1,8 @@
 -- The request that words are, once the command line takes them.
-use Rattle.std.proofs.Common.{◌≡◌, ◌∙◌, ◌&&◌, ◌||◌, ◌-◌, ◌<◌, ◌≤◌, ◌==◌, ◌^◌, ◌∷◌, [], ap, ap₂, Bool, List, None, Option, Some, arith, cond, drop, false, lit<, lit≤, not, refl, subst, sym, true, true≢false, ℕ}
-use Rattle.std.specs.Borrow.{Bor}
-use Rattle.std.specs.Prelude.{option_and_then, option_map, pos, slice_get, unwrap_or}
-use Rattle.std.specs.List.{find, list_any}
-use Rattle.std.specs.Option.{option_map_or}
-use Rattle.std.specs.Str.{bytes_eq}
-use Rattle.std.specs.Str.Parse.{IsNumeral, digits_value, starts_with_minus, without_leading_plus}
-use Rattle.std.proofs.lemmas.Bool.{eqb-true, ne_eqb}
-use Rattle.std.proofs.lemmas.Int.{ints}
-use Rattle.std.proofs.lemmas.Option.{same_Some}
-use Rattle.std.proofs.lemmas.Slice.Eq.{bytes_eq-Decides}
-use Rattle.std.proofs.lemmas.Str.Parse.{digit_from_value}
-use Rattle.clap.specs.Facts.{explicit_source, parser_of_value}
-use Rattle.clap.specs.Lexer.{without_minus}
-use Rattle.clap.specs.Takes.{is_given}
-use Rattle.clap.specs.ValueTests.{accepts}
-use Rattle.clap.specs.Values.{Accepts, IsSignedIn, read_as, reading_of}
-use Rattle.clap.specs.Walk.{Row, Rule, Text, first_of, is_empty, one_of, row_text}
-use Rattle.clap.specs.declared.builder.value_parser.Reading.{Reading}
-use Rattle.clap.specs.declared.builder.value_parser.ValueParser.{ValueParser}
+use Rattle.ubi_commands.proofs.Prelude.{◌≡◌, ◌∙◌, ◌&&◌, ◌||◌, ◌-◌, ◌<◌, ◌≤◌, ◌==◌, ◌^◌, ◌∷◌, [], ap, ap₂, Bool, List, Some, arith, cond, drop, false, lit<, lit≤, not, refl, subst, sym, true, true≢false, ℕ, Bor, option_and_then, option_map, pos, slice_get, unwrap_or, find, list_any, option_map_or, bytes_eq, IsNumeral, digits_value, starts_with_minus, without_leading_plus, eqb-true, ne_eqb, ints, same_Some, bytes_eq-Decides, digit_from_value, explicit_source, parser_of_value, without_minus, is_given, accepts, IsSignedIn, read_as, reading_of, Row, Rule, Text, first_of, is_empty, one_of, row_text, Reading, ValueParser, Accepts-accepts, accepts-Accepts, both, HasBelow, HasNumber, HasText, MayHaveBelow, MayHaveLong, MayHaveNumber}
+use Rattle.std.proofs.Common.{None, Option}
+use Rattle.clap.specs.Values.{Accepts}
 use Rattle.clap.specs.declared.builder.value_parser.ValueParser.TheVariants as parser
-use Rattle.clap.proofs.ValueTestLemmas.{Accepts-accepts, accepts-Accepts}
-use Rattle.clap.proofs.WalkLemmas.{both}
-use Rattle.ubi_commands.specs.CommandLine.{HasBelow, HasNumber, HasText, MayHaveBelow, MayHaveLong, MayHaveNumber}
 use Rattle.ubi_commands.proofs.Uses.{EachRow, IsGiven, either, is_number, is_word, takes_one}
 
 -- ---- a number

@@ -1,20 +1,7 @@
 -- How work ends that reads a source, and writes a file meanwhile.
-use Rattle.std.proofs.Common.{◌≡◌, ◌≢◌, ℕ, List, ap, refl, subst, sym, ◌∙◌}
-use Rattle.std.proofs.lemmas.Result.{IfOk-at_ok}
-use Rattle.std.specs.Option.{ForSome}
-use Rattle.std.specs.Prelude.{IfOk, IsSome, MatchResult, None, OnErr, Option, Some, Result, Ok, Err, codes, is_some, true}
-use Rattle.std.specs.declared.alloc.AllocError.{AllocError}
-use Rattle.ubi_scan.specs.Source.{Source}
-use Rattle.ubi_commands.specs.AfterRun.{WhereNotDone, after_run}
-use Rattle.ubi_commands.specs.Answer.{Gives, says}
-use Rattle.ubi_commands.specs.Disk.{AllStay, Files, Holds, IsKept, IsLeft, fresh}
-use Rattle.ubi_commands.specs.inner.Ended.{IsEnded, Works}
-use Rattle.ubi_commands.specs.Late.{contents_of}
-use Rattle.ubi_commands.specs.Lines.{file_line}
+use Rattle.ubi_commands.proofs.Prelude.{◌≡◌, ◌≢◌, ℕ, List, ap, refl, subst, sym, ◌∙◌, IfOk-at_ok, ForSome, IfOk, IsSome, MatchResult, None, OnErr, Option, Result, Ok, Err, codes, is_some, AllocError, Source, WhereNotDone, after_run, Gives, says, AllStay, Files, Holds, IsKept, IsLeft, fresh, IsEnded, Works, contents_of, file_line, WritesInto, Outcome, ToolError}
+use Rattle.std.specs.Prelude.{Some, true}
 use Rattle.ubi_commands.specs.Program as program
-use Rattle.ubi_commands.specs.Program.{WritesInto}
-use Rattle.ubi_commands.specs.declared.outcome.Outcome.{Outcome}
-use Rattle.ubi_commands.specs.declared.outcome.ToolError.{ToolError}
 use Rattle.ubi_commands.specs.declared.outcome.ToolError.TheVariants as tool
 use Rattle.ubi_commands.proofs.Ended.{ends}
 use Rattle.ubi_commands.proofs.Outcomes.{holds_received}

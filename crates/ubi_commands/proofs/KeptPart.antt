@@ -1,21 +1,7 @@
 -- What is kept of a file that was read whole to find how it is read.
-use Rattle.std.proofs.Common.{◌≡◌, ◌∙◌, ℕ, ◌+◌, ◌-◌, ◌*◌, ◌/◌, ◌≤◌, Bool, List, ap, arith, drop, false, if◌then◌else◌, length, min, refl, take, true}
-use Rattle.std.proofs.lemmas.Bool.{ltb-false}
-use Rattle.std.proofs.lemmas.List.{drop-drop, drop-take, length-drop, length-take, take-take}
-use Rattle.std.specs.Option.{option_map_or}
-use Rattle.std.specs.Prelude.{IfSome, None, Option, Some, option_map, unwrap_or}
-use Rattle.ubi_media.specs.Geometry.{Sizes}
-use Rattle.ubi_scan.specs.Image.{judged}
-use Rattle.ubi_scan.specs.Source.{holds}
-use Rattle.ubi_scan.specs.declared.detect.Detected.{Detected}
-use Rattle.ubi_commands.specs.Disk.{Files, IsJudgedOf}
-use Rattle.ubi_commands.specs.Dump.{FitsWhole, IsPartOf, as_read, greatest_dump, misfit_of, seen, told_dump, viewed, whole_len}
-use Rattle.ubi_commands.specs.Numbers.{sizes_of}
-use Rattle.ubi_commands.specs.Program.{IsToldFirst}
-use Rattle.ubi_commands.specs.Views.{misfit, part_of}
-use Rattle.ubi_commands.specs.declared.requests.Dump.{Dump}
-use Rattle.ubi_commands.specs.declared.requests.Sought.{Sought}
-use Rattle.ubi_commands.specs.declared.view.FilePart.{FilePart}
+use Rattle.ubi_commands.proofs.Prelude.{◌≡◌, ◌∙◌, ℕ, ◌+◌, ◌-◌, ◌*◌, ◌/◌, ◌≤◌, Bool, List, ap, arith, drop, false, length, min, refl, take, true, ltb-false, drop-drop, drop-take, length-drop, length-take, take-take, option_map_or, IfSome, None, Option, option_map, unwrap_or, Sizes, judged, holds, Detected, Files, IsJudgedOf, FitsWhole, IsPartOf, as_read, greatest_dump, misfit_of, seen, told_dump, viewed, whole_len, sizes_of, IsToldFirst, misfit, part_of, Dump, Sought, FilePart}
+use Rattle.std.proofs.Common.{if◌then◌else◌}
+use Rattle.std.specs.Prelude.{Some}
 use Rattle.ubi_commands.proofs.MaskedBytes.{masked_none}
 use Rattle.ubi_commands.proofs.PageBytes.{pages_none}
 use Rattle.ubi_commands.proofs.ToldPlaces.{told_inside}

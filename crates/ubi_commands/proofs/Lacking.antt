@@ -1,22 +1,7 @@
 -- Words that lack what a command needs are no request of it.
-use Rattle.std.proofs.Common.{◌≡◌, ◌∙◌, ◌∷◌, [], Bool, List, ap, codes, false, refl, sym, true, true≢false, ℕ}
-use Rattle.std.specs.List.{list_any}
-use Rattle.std.specs.Str.{bytes_eq}
-use Rattle.std.proofs.lemmas.Slice.Eq.{bytes_eq-Decides}
-use Rattle.clap.specs.Walk.{Row, Text}
-use Rattle.ubi_commands.specs.CommandLine.{AsksAsked, AsksChange, AsksDump, AsksExtract, AsksNewImage, AsksNumbers, AsksPaths, AsksRename, HasNumber}
-use Rattle.ubi_commands.specs.Tool.{finds, plans}
-use Rattle.ubi_commands.specs.inner.CommandLine.{IsAskedBy}
-use Rattle.ubi_commands.specs.declared.requests.Asked.{Asked}
-use Rattle.ubi_commands.specs.declared.requests.Change.{Change}
-use Rattle.ubi_commands.specs.declared.requests.Dump.{Dump}
-use Rattle.ubi_commands.specs.declared.requests.Extract.{Extract}
-use Rattle.ubi_commands.specs.declared.requests.NewImage.{NewImage}
-use Rattle.ubi_commands.specs.declared.requests.Paths.{Paths}
-use Rattle.ubi_commands.specs.declared.requests.Rename.{Rename}
-use Rattle.ubi_commands.specs.declared.requests.Request.{Request}
+use Rattle.ubi_commands.proofs.Prelude.{◌≡◌, ◌∙◌, ◌∷◌, [], Bool, List, ap, false, refl, sym, true, true≢false, ℕ, list_any, bytes_eq, bytes_eq-Decides, Row, Text, AsksAsked, AsksChange, AsksDump, AsksExtract, AsksNewImage, AsksNumbers, AsksPaths, AsksRename, HasNumber, finds, plans, IsAskedBy, Asked, Change, Dump, Extract, NewImage, Paths, Rename, Request, Numbers}
+use Rattle.std.proofs.Common.{codes}
 use Rattle.ubi_commands.specs.declared.requests.Request.TheVariants as request
-use Rattle.ubi_commands.specs.declared.numbers.Numbers.{Numbers}
 
 -- the commands that make an image of no other
 abbrev pub makes : Text → Bool

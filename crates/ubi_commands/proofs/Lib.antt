@@ -41,3 +41,4 @@ pub mod Unpacked
 pub mod Uses
 pub mod ViewVectors
 pub mod Walks
+pub mod Prelude

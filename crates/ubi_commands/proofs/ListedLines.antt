@@ -1,20 +1,7 @@
 -- The lines of the volumes of an image, by their places.
-use Rattle.std.proofs.Common.{◌≡◌, ℕ, ◌+◌, ◌<◌, List, [], ◌∷◌, ◌++◌, length, take, get_or, append-nil, append_assoc, ap, sym, ◌∙◌, arith}
-use Rattle.std.specs.Prelude.{codes, decimal}
+use Rattle.ubi_commands.proofs.Prelude.{◌≡◌, ℕ, ◌+◌, ◌<◌, List, [], ◌∷◌, ◌++◌, length, take, get_or, append-nil, append_assoc, ap, sym, ◌∙◌, arith, codes, decimal, flat_map, flat_map-append, take_all, take_more, Sizes, VolumeRecord, image_of, AmountIs, ArePlaces, Placed, Amount, Volume, count, volume_at, list_lines, record_line, sizes_line, volume_line}
 use Rattle.std.specs.FinMap as finite
-use Rattle.std.specs.List.{flat_map}
-use Rattle.std.proofs.lemmas.Grind.{flat_map-append}
-use Rattle.std.proofs.lemmas.List.{take_all, take_more}
-use Rattle.ubi_media.specs.Geometry.{Sizes}
-use Rattle.ubi_media.specs.declared.record.VolumeRecord.{VolumeRecord}
-use Rattle.ubi_scan.specs.Image.{image_of}
-use Rattle.ubi_volume.specs.Amounts.{AmountIs}
-use Rattle.ubi_volume.specs.Places.{ArePlaces, Placed}
-use Rattle.ubi_volume.specs.declared.block.Amount.{Amount}
 use Rattle.ubi_volume.specs.declared.content.Content.TheVariants as content
-use Rattle.ubi_volume.specs.declared.content.Volume.{Volume}
-use Rattle.ubi_compose.proofs.StoredVolumes.{count, volume_at}
-use Rattle.ubi_commands.specs.List.{list_lines, record_line, sizes_line, volume_line}
 
 module _ (s : Sizes) (p : Placed) (image : List ℕ) (h : ArePlaces (image_of s image) p) where
   abbrev volumes : List (ℕ × Volume)

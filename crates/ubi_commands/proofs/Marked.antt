@@ -1,16 +1,6 @@
 -- Marks of eraseblocks, range by range.
-use Rattle.std.proofs.Common.{◌≡◌, ◌∙◌, ℕ, ◌+◌, ◌-◌, ◌<◌, ◌≤◌, ◌&&◌, ◌||◌, ◌⊎◌, Bool, List, [], ◌∷◌, ◌++◌, ap, arith, cond, drop, false, get_or, length, min, nat_le, nat_lt, refl, replicate, sym, take, true}
-use Rattle.std.specs.List.{list_any, slice_split}
-use Rattle.std.proofs.lemmas.Bool.{cases_lt}
-use Rattle.std.proofs.lemmas.Bool.Decides.{nat_tests}
-use Rattle.std.proofs.lemmas.List.{length-append, length-drop, length-replicate, length-take-le, same_lists}
-use Rattle.std.proofs.lemmas.List.Splits.{length-slice_split}
-use Rattle.std.specs.Borrow.{Bor}
-use Rattle.std.specs.Option.{option_map_or}
-use Rattle.std.specs.Prelude.{◌==◌, None, Option, Some, filter_map, is_some}
-use Rattle.std.proofs.lemmas.List.Elements.{filter_map-append}
-use Rattle.ubi_commands.specs.BadBlocks.{has_number, range_of, range_of_parts, ranges_of, with_ranges}
-use Rattle.ubi_commands.specs.declared.bad_blocks.BlockRange.{BlockRange}
+use Rattle.ubi_commands.proofs.Prelude.{◌≡◌, ◌∙◌, ℕ, ◌+◌, ◌-◌, ◌<◌, ◌≤◌, ◌&&◌, ◌||◌, ◌⊎◌, Bool, List, [], ◌∷◌, ◌++◌, ap, arith, cond, drop, false, get_or, length, min, nat_le, nat_lt, refl, replicate, sym, take, true, list_any, slice_split, cases_lt, nat_tests, length-append, length-drop, length-replicate, length-take-le, same_lists, length-slice_split, Bor, option_map_or, None, Option, filter_map, is_some, filter_map-append, has_number, range_of, range_of_parts, ranges_of, with_ranges, BlockRange}
+use Rattle.std.specs.Prelude.{◌==◌, Some}
 use Rattle.ubi_commands.proofs.Filled.{get_or-filled, get_or-placed, length-placed}
 
 -- an item that is cut twice at its hyphens has no range

@@ -1,17 +1,6 @@
 -- Bytes of which those of marked eraseblocks read 0xFF.
-use Rattle.std.proofs.Common.{◌≡◌, ◌∙◌, ℕ, zero, suc, ◌+◌, ◌-◌, ◌*◌, ◌/◌, ◌%◌, ◌<◌, ◌≤◌, ◌&&◌, ◌||◌, ◌⊎◌, ◌==◌, Bool, List, [], ◌∷◌, ◌++◌, ap, arith, cond, drop, false, get_or, inl, inr, length, map, min, nat_le, nat_lt, refl, replicate, subst, sym, take, true}
-use Rattle.std.proofs.Math.Nat.{div-lt_iff_lt-mul}
-use Rattle.std.specs.List.{enumerate_from}
-use Rattle.std.specs.Io.{ReadsAtMost}
-use Rattle.std.specs.Option.{ForSome}
-use Rattle.std.specs.Prelude.{Err, IfOk, None, Ok, Option, Result, Some, if◌then◌else◌, option_map}
-use Rattle.std.proofs.lemmas.Bool.{cases_lt}
-use Rattle.std.proofs.lemmas.Bool.Decides.{nat_tests}
-use Rattle.std.proofs.lemmas.Nat.{div-mul-add}
-use Rattle.std.proofs.lemmas.List.{get_or-drop, get_or-replicate, get_or-take, length-append, length-drop, length-replicate, length-take, length-take-le, same_lists, take-append-le, take_all}
-use Rattle.ubi_change.specs.Avoided.{is_listed}
-use Rattle.ubi_scan.specs.Placed.{StandsAt}
-use Rattle.ubi_commands.specs.BadBlocks.{masked}
+use Rattle.ubi_commands.proofs.Prelude.{◌≡◌, ◌∙◌, ℕ, zero, suc, ◌+◌, ◌-◌, ◌*◌, ◌/◌, ◌%◌, ◌<◌, ◌≤◌, ◌&&◌, ◌||◌, ◌⊎◌, ◌==◌, Bool, List, [], ◌∷◌, ◌++◌, ap, arith, cond, drop, false, get_or, inl, inr, length, map, min, nat_le, nat_lt, refl, replicate, subst, sym, take, true, div-lt_iff_lt-mul, enumerate_from, ReadsAtMost, ForSome, Err, IfOk, None, Ok, Option, Result, if◌then◌else◌, option_map, cases_lt, nat_tests, div-mul-add, get_or-drop, get_or-replicate, get_or-take, length-append, length-drop, length-replicate, length-take, length-take-le, same_lists, take-append-le, take_all, is_listed, StandsAt, masked}
+use Rattle.std.specs.Prelude.{Some}
 use Rattle.ubi_commands.proofs.Filled.{get_or-filled, get_or-placed, length-placed}
 
 pub length-masked : (size : ℕ) (marks : List Bool) (bytes : List ℕ) → length (masked size marks bytes) ≡ length bytes

@@ -1,20 +1,6 @@
 -- What a normalising of a source tells of an image whose bytes are known, and over files.
-use Rattle.std.proofs.Common.{◌≡◌, ℕ, ◌/◌, List, ap, length, refl, subst, sym, ◌∙◌}
-use Rattle.std.proofs.lemmas.Result.{IfErr-at_err}
-use Rattle.std.specs.Prelude.{IfErr, IfOk, Option, Result, Ok, Err}
-use Rattle.ubi_media.specs.Geometry.{IsGeometry, Sizes}
-use Rattle.ubi_scan.specs.Image.{Image, image_of}
-use Rattle.ubi_scan.specs.Source.{Agreed, Source, WhereHeld}
-use Rattle.ubi_volume.specs.Accepts.{Accepts}
-use Rattle.ubi_volume.specs.Meant.{Meant}
-use Rattle.ubi_compose.specs.Normal.{normal_blocks}
-use Rattle.ubi_compose.specs.Streamed.{IsStreamed}
-use Rattle.ubi_compose.proofs.Form.{count-normal_bytes}
-use Rattle.ubi_commands.specs.Answer.{Gives, says}
-use Rattle.ubi_commands.specs.Lines.{blocks_line}
-use Rattle.ubi_commands.specs.Normalise.{HasMeaning, IsNormaliseError, Normalises, accepted, refused}
-use Rattle.ubi_commands.specs.declared.outcome.Outcome.{Outcome}
-use Rattle.ubi_commands.specs.declared.outcome.ToolError.{ToolError}
+use Rattle.ubi_commands.proofs.Prelude.{◌≡◌, ℕ, ◌/◌, List, ap, length, refl, subst, sym, ◌∙◌, IfErr-at_err, IfErr, IfOk, Option, Result, Ok, Err, IsGeometry, Sizes, Image, image_of, Agreed, Source, WhereHeld, Accepts, Meant, normal_blocks, IsStreamed, count-normal_bytes, Gives, says, blocks_line, HasMeaning, IsNormaliseError, Normalises, Outcome, ToolError}
+use Rattle.ubi_commands.specs.Normalise.{accepted, refused}
 use Rattle.ubi_commands.specs.declared.outcome.ToolError.TheVariants as tool
 use Rattle.ubi_commands.proofs.Outcomes.{not_both}
 

@@ -1,7 +1,6 @@
 -- Which files are opened to be read at places.
-use Rattle.std.proofs.Common.{◌≡◌, ◌≢◌, ◌≤◌, ℕ, List, [], ◌∷◌, arith, length, refl, true, false, Bool}
-use Rattle.std.specs.Option.{ForSome}
-use Rattle.std.specs.Prelude.{IfSome, None, Option, Some}
+use Rattle.ubi_commands.proofs.Prelude.{◌≡◌, ◌≢◌, ◌≤◌, ℕ, List, [], ◌∷◌, arith, length, refl, true, false, Bool, ForSome, IfSome, None, Option}
+use Rattle.std.specs.Prelude.{Some}
 
 no_bytes : (all : List ℕ) → length all ≤ 0 → all ≡ []
 no_bytes [] few = refl

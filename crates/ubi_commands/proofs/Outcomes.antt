@@ -1,28 +1,8 @@
 -- What outcomes tell.
-use Rattle.std.proofs.Common.{◌≡◌, ℕ, ◌≤◌, ◌∙◌, List, Some, None, ap, length, refl, subst, sym}
-use Rattle.std.specs.Io.KnownBytes.{Appends}
-use Rattle.std.specs.Option.{ForSome}
-use Rattle.std.specs.Prelude.{IsSome, MatchResult, Ok, Err, Option, Result, IfOk, option_map}
-use Rattle.std.specs.declared.alloc.AllocError.{AllocError}
-use Rattle.std.specs.declared.alloc.Global.{Global}
-use Rattle.std.specs.declared.vec.Vec.{Vec}
-use Rattle.ubi_media.specs.Geometry.{Sizes}
-use Rattle.ubi_media.specs.Limits.{first_broken}
-use Rattle.ubi_scan.specs.Image.{Image, image_of}
-use Rattle.ubi_volume.specs.Meant.{Meant}
-use Rattle.ubi_compose.specs.Composed.{HasRoom}
-use Rattle.ubi_compose.specs.TextLaws.{ComesTo}
-use Rattle.ubi_commands.specs.Compose.{Composes, ComposesInto, ComposesOf, crowded, described, fits, unmade, unread}
+use Rattle.ubi_commands.proofs.Prelude.{◌≡◌, ℕ, ◌≤◌, ◌∙◌, List, Some, ap, length, refl, subst, sym, Appends, ForSome, IsSome, MatchResult, Ok, Err, Option, Result, IfOk, option_map, AllocError, Global, Vec, Sizes, first_broken, Image, image_of, Meant, HasRoom, ComesTo, Composes, ComposesInto, ComposesOf, crowded, described, fits, unmade, unread, sizes_of, IsRead, WritesFile, OfImage, OfText, Tells, text_limit, Files, Holds, IsJudgedOf, IsKept, IsTextOf, OthersStay, Receives, fresh, contents_of, Unread, Memory, Told, Numbers, Outcome}
+use Rattle.std.proofs.Common.{None}
 use Rattle.ubi_commands.specs.Compose as compose
-use Rattle.ubi_commands.specs.Numbers.{sizes_of}
-use Rattle.ubi_commands.specs.Program.{IsRead, WritesFile, OfImage, OfText, Tells, text_limit}
 use Rattle.ubi_commands.specs.Program as program
-use Rattle.ubi_commands.specs.Disk.{Files, Holds, IsJudgedOf, IsKept, IsTextOf, OthersStay, Receives, fresh}
-use Rattle.ubi_commands.specs.Late.{contents_of}
-use Rattle.ubi_commands.specs.declared.image_file.Unread.{Unread}
-use Rattle.ubi_commands.specs.declared.image_file.Unread.TheVariants.{Memory, Told}
-use Rattle.ubi_commands.specs.declared.numbers.Numbers.{Numbers}
-use Rattle.ubi_commands.specs.declared.outcome.Outcome.{Outcome}
 
 -- work that was done isn't refused
 pub not_both : (o : Outcome) → o.status ≡ 0 → o.status ≡ 1 → ⊥

@@ -1,18 +1,6 @@
 -- Which of the bytes of a file lie in pages.
-use Rattle.std.proofs.Common.{◌≡◌, ◌∙◌, ℕ, zero, suc, ◌+◌, ◌-◌, ◌*◌, ◌/◌, ◌%◌, ◌<◌, ◌≤◌, ◌⊎◌, List, [], ◌∷◌, ◌++◌, ap, arith, drop, false, inl, inr, le_refl, length, min, nat_lt, refl, subst, sym, take, true}
-use Rattle.std.specs.Bool.{then_some}
-use Rattle.std.specs.List.{cons_option, enumerate_from}
-use Rattle.std.specs.Option.{ForSome}
-use Rattle.std.specs.Prelude.{Err, IfOk, Ok, Option, Result, filter_map, option_map}
-use Rattle.std.proofs.lemmas.Bool.{cases_lt}
-use Rattle.std.proofs.lemmas.Bool.Decides.{nat_tests}
-use Rattle.std.proofs.lemmas.Nat.{div-add-mod', mod-mul-add, mod_below, mul-le}
-use Rattle.std.proofs.lemmas.List.{append-nil, drop_all, drop-drop, drop-take, drop_at, length-append, length-drop, length-take, length-take-le, nil_from_length, take-append-drop, take-append-le, take-take, take_all, take_at, take_min}
-use Rattle.std.proofs.Math.Seq.{paste}
-use Rattle.std.proofs.lemmas.List.Edits.{drop-paste, length-paste, take-paste}
-use Rattle.std.proofs.lemmas.List.Elements.{filter_map-append}
-use Rattle.ubi_scan.specs.Placed.{StandsAt}
-use Rattle.ubi_commands.specs.Views.{pages_from, pages_of}
+use Rattle.ubi_commands.proofs.Prelude.{◌≡◌, ◌∙◌, ℕ, zero, suc, ◌+◌, ◌-◌, ◌*◌, ◌/◌, ◌%◌, ◌<◌, ◌≤◌, ◌⊎◌, List, [], ◌∷◌, ◌++◌, ap, arith, drop, false, inl, inr, le_refl, length, min, nat_lt, refl, subst, sym, take, true, then_some, cons_option, enumerate_from, ForSome, Err, IfOk, Ok, Option, Result, filter_map, option_map, cases_lt, nat_tests, div-add-mod', mod-mul-add, mod_below, mul-le, drop_all, drop-drop, drop-take, drop_at, length-append, length-drop, length-take, length-take-le, nil_from_length, take-append-drop, take-append-le, take-take, take_all, take_at, take_min, paste, drop-paste, length-paste, take-paste, filter_map-append, StandsAt, pages_from, pages_of}
+use Rattle.std.proofs.lemmas.List.{append-nil}
 use Rattle.ubi_commands.proofs.MaskedBytes.{for_mapped}
 
 enumerate_from-append : (i : ℕ) (xs ys : List ℕ)

@@ -1,12 +1,6 @@
 -- Parts of files, and which files have them.
-use Rattle.std.proofs.Common.{◌≡◌, ◌∙◌, ℕ, ◌+◌, ◌-◌, ◌<◌, ◌≤◌, List, ap, arith, drop, length, refl, subst, sym, take, ◌++◌}
-use Rattle.std.specs.Io.{ReadsAtMost}
-use Rattle.std.specs.Option.{ForSome, option_map_or}
-use Rattle.std.specs.Prelude.{Err, IfOk, None, Ok, Option, Result, Some, option_map, unwrap_or}
-use Rattle.std.proofs.lemmas.List.{drop-drop, drop-take, length-take-le, take-append-le, take-take, take_rest}
-use Rattle.ubi_scan.specs.Placed.{StandsAt}
-use Rattle.ubi_commands.specs.Views.{part_len, part_of}
-use Rattle.ubi_commands.specs.declared.view.FilePart.{FilePart}
+use Rattle.ubi_commands.proofs.Prelude.{◌≡◌, ◌∙◌, ℕ, ◌+◌, ◌-◌, ◌<◌, ◌≤◌, List, ap, arith, drop, length, refl, subst, sym, take, ◌++◌, ReadsAtMost, ForSome, option_map_or, Err, IfOk, None, Ok, Option, Result, option_map, unwrap_or, drop-drop, drop-take, length-take-le, take-append-le, take-take, take_rest, StandsAt, part_len, part_of, FilePart}
+use Rattle.std.specs.Prelude.{Some}
 use Rattle.ubi_commands.proofs.MaskedBytes.{for_mapped}
 
 -- what stands in a file stands in its part

@@ -1,16 +1,7 @@
 -- How a plan over a file ends, that may write its pages to a second one.
-use Rattle.std.proofs.Common.{◌≡◌, ◌≢◌, ◌∙◌, ◌⊎◌, inl, inr, ℕ, Bool, List, None, Option, Some, ap, false, not, refl, subst, sym, true, true≢false}
-use Rattle.std.specs.Borrow.{Bor}
-use Rattle.std.specs.Io.KnownBytes.{Appends}
-use Rattle.std.specs.Prelude.{IfSome, codes}
-use Rattle.ubi_media.specs.Geometry.{Sizes}
-use Rattle.ubi_scan.specs.Source.{Agreed, Source}
-use Rattle.ubi_commands.specs.Answer.{Gives, says}
-use Rattle.ubi_commands.specs.Disk.{Files, Holds, OthersStay, Receives, Stays, fresh}
-use Rattle.ubi_commands.specs.Lines.{file_line}
-use Rattle.ubi_commands.specs.Program.{OfFile, WritesInto, WritesPlan, bad_limit, cannot_read, file, no_file, no_pages, places, planned, unfit, unfit_whole, unreadable, unwritten, whole, written}
-use Rattle.ubi_commands.specs.declared.outcome.Outcome.{Outcome}
-use Rattle.ubi_commands.specs.declared.requests.Dump.{Dump}
+use Rattle.ubi_commands.proofs.Prelude.{◌≡◌, ◌≢◌, ◌∙◌, ◌⊎◌, inl, inr, ℕ, Bool, List, Some, ap, false, not, refl, subst, sym, true, true≢false, Bor, Appends, IfSome, codes, Sizes, Agreed, Source, Gives, says, Files, Holds, OthersStay, Receives, Stays, fresh, file_line, OfFile, WritesInto, WritesPlan, bad_limit, cannot_read, file, no_file, no_pages, places, planned, unfit, unfit_whole, unreadable, whole, written, Outcome, Dump}
+use Rattle.std.proofs.Common.{None, Option}
+use Rattle.ubi_commands.specs.Program.{unwritten}
 
 -- what is answered of a file once work that was done goes on
 pub OfFile-after : (d : Files) (dump : Dump) (path : List ℕ) (P Q : Sizes → Source → Agreed → Outcome → Type 0) (o r : Outcome)

@@ -1,23 +1,8 @@
 -- The answer to the words.
-use Rattle.std.proofs.Common.{◌≡◌, ◌∙◌, ◌↔◌, [], List, Option, None, Some, ap, inl, inr, refl, subst, sym, true, true≢false}
-use Rattle.std.specs.Prelude.{Err, IfOk, IfSome, IsErr, Ok, Result}
-use Rattle.std.specs.declared.alloc.AllocError.{AllocError}
-use Rattle.clap.specs.Faults.{fault_of, is_simple_and_free}
-use Rattle.clap.specs.Kinds.{HasKind, IsAmong}
-use Rattle.clap.specs.Simple.{App, HasMatchesOf, app_of, is_simple, subcommand_of, subcommand_rows_of}
-use Rattle.clap.specs.Values.{kind_of}
-use Rattle.clap.specs.Walk.{Text}
-use Rattle.clap.specs.declared.builder.command.Command.{Command}
-use Rattle.clap.specs.declared.error.Error.{Error}
+use Rattle.ubi_commands.proofs.Prelude.{◌≡◌, ◌∙◌, ◌↔◌, [], List, Some, ap, inl, inr, refl, subst, sym, true, true≢false, Err, IfOk, IfSome, IsErr, Ok, Result, AllocError, fault_of, is_simple_and_free, HasKind, IsAmong, App, HasMatchesOf, app_of, is_simple, subcommand_of, subcommand_rows_of, kind_of, Text, Command, Error, ArgMatches, Gives, says, IsOneOf, IsRequest, AllStay, Files, IsAllElse, IsAnswer, IsAnswerTo, wrong_words, Takes, tool, Request, Outcome}
+use Rattle.std.proofs.Common.{Option, None}
 use Rattle.clap.specs.declared.error.kind.ErrorKind.TheVariants as kind
-use Rattle.clap.specs.declared.parser.matches.ArgMatches.{ArgMatches}
-use Rattle.ubi_commands.specs.Answer.{Gives, says}
-use Rattle.ubi_commands.specs.CommandLine.{IsOneOf, IsRequest}
-use Rattle.ubi_commands.specs.Disk.{AllStay, Files}
-use Rattle.ubi_commands.specs.Program.{IsAllElse, IsAnswer, IsAnswerTo, answered, wrong_words}
-use Rattle.ubi_commands.specs.Tool.{Takes, tool}
-use Rattle.ubi_commands.specs.declared.requests.Request.{Request}
-use Rattle.ubi_commands.specs.declared.outcome.Outcome.{Outcome}
+use Rattle.ubi_commands.specs.Program.{answered}
 use Rattle.ubi_commands.proofs.GivenKey.{request_means}
 use Rattle.ubi_commands.proofs.Taken.{taken_asked}
 

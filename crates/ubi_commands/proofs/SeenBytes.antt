@@ -1,17 +1,6 @@
 -- The bytes of a file as a dump is read.
-use Rattle.std.proofs.Common.{◌≡◌, ◌∙◌, ℕ, ◌+◌, ◌*◌, ◌/◌, ◌<◌, ◌≤◌, ◌⊎◌, Bool, List, ap, arith, drop, inl, inr, length, min, refl, subst, sym, take}
-use Rattle.std.proofs.lemmas.Bool.{cases_lt}
-use Rattle.std.proofs.lemmas.List.{length-take, take-take, take_all}
-use Rattle.std.specs.Option.{ForSome, option_map_or}
-use Rattle.std.specs.Prelude.{IfSome, None, Option, Some, option_map, unwrap_or}
-use Rattle.ubi_media.specs.Geometry.{Sizes}
-use Rattle.ubi_scan.specs.Image.{judged}
-use Rattle.ubi_commands.specs.BadBlocks.{masked}
-use Rattle.ubi_commands.specs.Disk.{Files}
-use Rattle.ubi_commands.specs.Dump.{Fits, marks_of, misfit_of, most_of, viewed}
-use Rattle.ubi_commands.specs.Numbers.{sizes_of}
-use Rattle.ubi_commands.specs.Views.{pages_of, part_len, part_of}
-use Rattle.ubi_commands.specs.declared.requests.Dump.{Dump}
+use Rattle.ubi_commands.proofs.Prelude.{◌≡◌, ◌∙◌, ℕ, ◌+◌, ◌*◌, ◌/◌, ◌<◌, ◌≤◌, ◌⊎◌, Bool, List, ap, arith, drop, inl, inr, length, min, refl, subst, sym, take, cases_lt, length-take, take-take, take_all, ForSome, option_map_or, IfSome, None, Option, option_map, unwrap_or, Sizes, judged, masked, Files, Fits, marks_of, misfit_of, most_of, viewed, sizes_of, pages_of, part_len, part_of, Dump}
+use Rattle.std.specs.Prelude.{Some}
 use Rattle.ubi_commands.proofs.MaskedBytes.{for_mapped, length-masked, masked-take}
 use Rattle.ubi_commands.proofs.PageBytes.{judged_pages}
 use Rattle.ubi_commands.proofs.PartBytes.{is_part}

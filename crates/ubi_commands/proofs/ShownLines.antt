@@ -1,14 +1,6 @@
 -- What is shown of a source, of whatever it may hold.
-use Rattle.std.proofs.Common.{◌≡◌, ℕ, ◌<◌, ◌≤◌, List, length, subst, sym}
-use Rattle.ubi_media.specs.Geometry.{Sizes}
-use Rattle.ubi_media.specs.declared.refusal.Refusal.{Refusal}
-use Rattle.ubi_scan.specs.Image.{IsLengthFault, IsWholeSize, block, image_of}
-use Rattle.ubi_scan.specs.Source.{Agreed, IsSource, Source, blocks_in, blocks_of}
-use Rattle.ubi_scan.proofs.ReadParts.{count_blocks}
-use Rattle.ubi_commands.specs.Answer.{Gives, says}
-use Rattle.ubi_commands.specs.Lines.{no_block_line, refusal_line}
-use Rattle.ubi_commands.specs.Show.{Shows, block_lines, no_block, no_image, shown}
-use Rattle.ubi_commands.specs.declared.outcome.Outcome.{Outcome}
+use Rattle.ubi_commands.proofs.Prelude.{◌≡◌, ℕ, ◌<◌, ◌≤◌, List, length, subst, sym, Sizes, Refusal, IsLengthFault, IsWholeSize, block, image_of, Agreed, IsSource, Source, blocks_in, blocks_of, count_blocks, Gives, says, no_block_line, refusal_line, Shows, block_lines, no_block, Outcome}
+use Rattle.ubi_commands.specs.Show.{no_image, shown}
 
 module _ (s : Sizes) (k : Source) (agrees : Agreed) (is : IsSource k agrees) (bytes : List ℕ) (holds : agrees bytes) (p : ℕ)
     (o : Outcome) where

@@ -1,34 +1,9 @@
 -- Words that the command line takes are a request.
-use Rattle.std.proofs.Common.{◌≡◌, ◌∙◌, ◌&&◌, ◌||◌, ◌∷◌, [], Bool, List, None, Option, Some, ap, codes, cond, false, refl, sym, subst, true, true≢false, ℕ}
-use Rattle.std.specs.Borrow.{Bor}
-use Rattle.std.specs.Bool.{then_some}
-use Rattle.std.specs.Option.{ForSome}
-use Rattle.std.specs.Prelude.{is_some, option_and_then, option_map, slice_get, unwrap_or}
-use Rattle.std.specs.List.{find, list_all}
-use Rattle.std.specs.Str.{bytes_eq}
-use Rattle.std.proofs.lemmas.Option.{same_Some}
-use Rattle.std.proofs.lemmas.Slice.Eq.{bytes_eq-Decides}
-use Rattle.clap.specs.Faults.{fault_of, level_fault}
-use Rattle.clap.specs.Simple.{Shape, argument_words, built, label_of, subcommand_of}
-use Rattle.clap.specs.Walk.{Row, Text, answers_to, first_of, nothing_held, rows_after}
-use Rattle.clap.proofs.WalkLemmas.{both}
-use Rattle.ubi_commands.specs.BadBlocks.{is_block_list}
-use Rattle.ubi_commands.specs.CommandLine.{Asks, AsksAsked, AsksBlank, AsksDump, AsksNewImage, AsksNumbers, AsksPart, AsksPaths, AsksPlan, IsRequest, HasNumber, HasText, MayHaveNumber, MayHaveText, command_name, gives, gives_no_geometry}
-use Rattle.ubi_commands.specs.Tool.{Mean, Takes, finds, plans, reads_dump, tool}
-use Rattle.ubi_commands.specs.declared.requests.Asked.{Asked}
+use Rattle.ubi_commands.proofs.Prelude.{◌≡◌, ◌∙◌, ◌&&◌, ◌||◌, ◌∷◌, [], Bool, List, Some, ap, cond, false, refl, sym, subst, true, true≢false, ℕ, Bor, then_some, ForSome, is_some, option_and_then, option_map, slice_get, unwrap_or, find, list_all, bytes_eq, same_Some, bytes_eq-Decides, fault_of, level_fault, Shape, argument_words, label_of, subcommand_of, Row, Text, answers_to, first_of, nothing_held, rows_after, both, is_block_list, Asks, AsksAsked, AsksBlank, AsksDump, AsksNewImage, AsksNumbers, AsksPart, AsksPaths, AsksPlan, IsRequest, HasNumber, HasText, MayHaveNumber, MayHaveText, command_name, gives, gives_no_geometry, Mean, Takes, finds, plans, reads_dump, tool, Asked, Change, Dump, Extract, NewImage, Paths, Plan, Rename, Request, Sought, Numbers, FilePart}
+use Rattle.std.proofs.Common.{None, Option, codes}
+use Rattle.clap.specs.Simple.{built}
 use Rattle.ubi_commands.specs.declared.requests.Asked.TheVariants as way
-use Rattle.ubi_commands.specs.declared.requests.Change.{Change}
-use Rattle.ubi_commands.specs.declared.requests.Dump.{Dump}
-use Rattle.ubi_commands.specs.declared.requests.Extract.{Extract}
-use Rattle.ubi_commands.specs.declared.requests.NewImage.{NewImage}
-use Rattle.ubi_commands.specs.declared.requests.Paths.{Paths}
-use Rattle.ubi_commands.specs.declared.requests.Plan.{Plan}
-use Rattle.ubi_commands.specs.declared.requests.Rename.{Rename}
-use Rattle.ubi_commands.specs.declared.requests.Request.{Request}
 use Rattle.ubi_commands.specs.declared.requests.Request.TheVariants as request
-use Rattle.ubi_commands.specs.declared.requests.Sought.{Sought}
-use Rattle.ubi_commands.specs.declared.numbers.Numbers.{Numbers}
-use Rattle.ubi_commands.specs.declared.view.FilePart.{FilePart}
 use Rattle.ubi_commands.proofs.GivenKey.{key_asked}
 use Rattle.ubi_commands.proofs.GivenWords.{found_row, long_in, needs, number_asked, number_in, number_in_row, text_asked}
 use Rattle.ubi_commands.proofs.Uses.{is_number, takes_one}

@@ -1,19 +1,8 @@
 -- Where what is told of a file lies in it.
-use Rattle.std.proofs.Common.{◌≡◌, ℕ, ◌+◌, ◌-◌, ◌*◌, ◌/◌, ◌≤◌, Bool, List, [], ◌∷◌, ap, arith, inl, inr, length, refl}
-use Rattle.std.proofs.Math.Nat.{mod-add-div', mul-le-mul_right}
-use Rattle.std.proofs.lemmas.List.FromFn.{length-range_with_len}
-use Rattle.std.proofs.lemmas.List.Sums.{prefix_len-le-length}
-use Rattle.std.specs.List.{range_with_len}
-use Rattle.std.specs.Prelude.{Contains, map}
-use Rattle.ubi_scan.specs.Detected.{AreDetected, IsFound}
-use Rattle.ubi_scan.specs.Heads.{first_place, heads_of, places}
-use Rattle.ubi_scan.specs.Place.{blanks_behind, end_of_image, end_of_last, run, start_of_image, told_by, told_ways}
-use Rattle.ubi_scan.specs.Source.{holds}
-use Rattle.ubi_scan.specs.declared.detect.Detected.{Detected}
-use Rattle.ubi_scan.specs.declared.groups.Group.{Group}
-use Rattle.ubi_scan.specs.declared.way.Way.{Way}
-use Rattle.ubi_scan.proofs.OnGrid.{each_on_grid}
-use Rattle.ubi_commands.specs.Program.{IsToldFirst}
+use Rattle.ubi_commands.proofs.Prelude.{◌≡◌, ℕ, ◌+◌, ◌-◌, ◌*◌, ◌/◌, ◌≤◌, Bool, List, [], ◌∷◌, ap, arith, inl, inr, length, refl, mod-add-div', mul-le-mul_right, length-range_with_len, prefix_len-le-length, range_with_len, Contains, AreDetected, first_place, heads_of, blanks_behind, end_of_image, end_of_last, run, start_of_image, told_by, told_ways, holds, Detected, Group, Way, each_on_grid, IsToldFirst}
+use Rattle.std.specs.Prelude.{map}
+use Rattle.ubi_scan.specs.Detected.{IsFound}
+use Rattle.ubi_scan.specs.Heads.{places}
 
 -- the first of some places is one of them
 contains_first : (ps : List ℕ) → 1 ≤ length ps → Contains ps (first_place ps)

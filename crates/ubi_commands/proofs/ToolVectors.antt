@@ -1,15 +1,7 @@
 -- Which words the command line takes.
-use Rattle.std.proofs.Common.{◌≡◌, ◌&&◌, ◌||◌, ◌∷◌, ◌∙◌, [], List, None, Option, Some, ap, codes, false, refl, subst, sym, true, true≢false}
-use Rattle.std.specs.Option.{ForSome}
-use Rattle.std.proofs.lemmas.Option.{same_Some}
-use Rattle.std.specs.Str.{bytes_eq}
-use Rattle.clap.specs.Faults.{fault_of}
-use Rattle.clap.specs.Walk.{Row, Text, first_of}
+use Rattle.ubi_commands.proofs.Prelude.{◌≡◌, ◌&&◌, ◌||◌, ◌∷◌, ◌∙◌, [], List, Some, ap, false, refl, subst, sym, true, true≢false, ForSome, same_Some, bytes_eq, fault_of, Row, Text, first_of, clap_on_literals, is_block_list, gives, gives_no_geometry, HasOneVolume, Mean, Takes, tool}
+use Rattle.std.proofs.Common.{None, Option, codes}
 use Rattle.clap.specs.declared.error.kind.ErrorKind.TheVariants as kind
-use Rattle.clap.proofs.OnLiterals.{clap_on_literals}
-use Rattle.ubi_commands.specs.BadBlocks.{is_block_list}
-use Rattle.ubi_commands.specs.CommandLine.{gives, gives_no_geometry}
-use Rattle.ubi_commands.specs.Tool.{HasOneVolume, Mean, Takes, tool}
 use Rattle.ubi_commands.proofs.Lacking.{apart}
 
 -- another command than `extract` needs no volume

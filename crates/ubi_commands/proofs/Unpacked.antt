@@ -1,36 +1,8 @@
 -- What was unpacked of an image, and how.
-use Rattle.std.proofs.Common.{◌≡◌, ℕ, ◌+◌, ◌<◌, ◌≤◌, ◌⊎◌, ◌&&◌, Bool, inl, inr, true, false, append-nil, zero, suc, List, [], ◌∷◌, ◌++◌, cond, take, get_or, length, ap, arith, refl, subst, sym, ◌∙◌}
-use Rattle.std.specs.Prelude.{Err, None, Ok, Option, Result, Some, codes, is_ok, slice_get}
-use Rattle.std.specs.List.{list_all}
-use Rattle.std.specs.FinMap.{entries, get}
-use Rattle.std.specs.Option.{option_map_or}
-use Rattle.std.proofs.lemmas.List.{take_all, take_more}
-use Rattle.std.proofs.lemmas.Grind.{flat_map-append}
-use Rattle.std.proofs.lemmas.List.Folds.{list_all_more}
-use Rattle.std.proofs.lemmas.Option.{get_or_from_slice_get, slice_get_cases, slice_get_read, slice_get_within}
-use Rattle.ubi_media.specs.declared.record.VolumeRecord.{VolumeRecord}
-use Rattle.std.specs.Io.KnownBytes.{Appends}
-use Rattle.std.specs.Result.{result_map_both}
-use Rattle.ubi_media.specs.Geometry.{Sizes}
-use Rattle.ubi_scan.specs.Image.{Image, image_of}
-use Rattle.ubi_scan.specs.Source.{Agreed}
-use Rattle.ubi_table.specs.Records.{Records}
-use Rattle.ubi_volume.specs.Extract.{extent_in, extent_len, extent_of, read_text}
-use Rattle.ubi_volume.specs.Places.{ArePlaces, AreWithin, Placed}
-use Rattle.ubi_volume.specs.Reading.{read_volume, volume_len}
-use Rattle.ubi_volume.specs.declared.errors.ReadError.{ReadError}
+use Rattle.ubi_commands.proofs.Prelude.{◌≡◌, ℕ, ◌+◌, ◌<◌, ◌≤◌, ◌⊎◌, ◌&&◌, Bool, inl, inr, true, false, append-nil, zero, suc, List, [], ◌∷◌, ◌++◌, cond, take, get_or, length, ap, arith, refl, subst, sym, ◌∙◌, Err, None, Ok, Option, Result, codes, is_ok, slice_get, list_all, entries, get, option_map_or, take_all, take_more, flat_map-append, list_all_more, get_or_from_slice_get, slice_get_cases, slice_get_read, slice_get_within, VolumeRecord, Appends, result_map_both, Sizes, Image, image_of, Agreed, Records, extent_in, extent_len, extent_of, read_text, ArePlaces, AreWithin, Placed, read_volume, volume_len, ReadError, All, Wrote, Extent, PlaceContent, len_none, len_some, Gives, says, Files, IsKept, OthersStay, OutsideStay, fresh, file_line, AreUnpacked, AreUnpackedUntil, IsUnpacked, Listed, Unpacks, file_name, file_path, unpacked, unpacked_line, unpacked_lines, unpacked_status, AreFilesOf, Ends, IsFileOf, VolumeFile, Outcome}
+use Rattle.std.specs.Prelude.{Some}
 use Rattle.ubi_volume.specs.declared.errors.ReadError.TheVariants as error
-use Rattle.ubi_volume.specs.Wrote.{All, Wrote}
-use Rattle.ubi_volume.specs.declared.places.Extent.{Extent}
-use Rattle.ubi_volume.specs.declared.places.PlaceContent.{PlaceContent}
-use Rattle.ubi_volume.proofs.Extracted.{len_none, len_some}
-use Rattle.ubi_commands.specs.Answer.{Gives, says}
-use Rattle.ubi_commands.specs.Disk.{Files, IsKept, OthersStay, OutsideStay, fresh}
-use Rattle.ubi_commands.specs.Lines.{file_line}
-use Rattle.ubi_commands.specs.Unpack.{AreUnpacked, AreUnpackedUntil, IsUnpacked, Listed, Unpacks, file_name, file_path, listed, unpacked, unpacked_line, unpacked_lines, unpacked_status, unwritten}
-use Rattle.ubi_commands.specs.inner.Folder.{AreFilesOf, Ends, IsFileOf}
-use Rattle.ubi_commands.specs.declared.unpack.VolumeFile.{VolumeFile}
-use Rattle.ubi_commands.specs.declared.outcome.Outcome.{Outcome}
+use Rattle.ubi_commands.specs.Unpack.{listed, unwritten}
 use Rattle.ubi_commands.proofs.Extracted.{has_text}
 
 -- how many bytes a volume reads, by its places

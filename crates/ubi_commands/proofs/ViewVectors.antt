@@ -1,12 +1,6 @@
 -- What is seen of files, on literals.
-use Rattle.std.proofs.Common.{◌≡◌, ◌∷◌, [], List, None, Option, Some, codes, refl, ℕ}
-use Rattle.std.specs.Borrow.{Bor}
-use Rattle.ubi_scan.specs.declared.detect.Detected.{Detected}
-use Rattle.ubi_commands.specs.Dump.{as_read, misfit_of, told_dump, viewed, whole_len}
-use Rattle.ubi_commands.specs.Views.{misfit, pages_of, part_of}
-use Rattle.ubi_commands.specs.declared.requests.Dump.{Dump}
-use Rattle.ubi_commands.specs.declared.requests.Sought.{Sought}
-use Rattle.ubi_commands.specs.declared.view.FilePart.{FilePart}
+use Rattle.ubi_commands.proofs.Prelude.{◌≡◌, ◌∷◌, [], List, Some, refl, ℕ, Bor, Detected, as_read, misfit_of, told_dump, viewed, whole_len, misfit, pages_of, part_of, Dump, Sought, FilePart}
+use Rattle.std.proofs.Common.{None, Option, codes}
 use Rattle.ubi_commands.specs.declared.view.Misfit.TheVariants as why
 
 abbrev bytes : List ℕ

@@ -1,35 +1,14 @@
 -- A normal image is accepted with its meaning.
-use Rattle.std.proofs.Common.{◌≡◌, ℕ, ◌+◌, ◌*◌, zero, suc, List, length, inl, inr, refl, sym, ap, ◌∙◌, subst, arith}
-use Rattle.std.specs.Prelude.{None, Option, Some, flat_map, option_map}
+use Rattle.ubi_compose.proofs.Prelude.{◌≡◌, ℕ, ◌+◌, ◌*◌, zero, suc, List, length, inl, inr, refl, sym, ap, ◌∙◌, subst, arith, None, Option, Some, flat_map, option_map, AllByRecursion, concat, same_Some, IsGeometry, data_pad, VolumeRecord, VidHeader, usable_some, NoFault, image_of, Leb, layout, IsTable, table_written, Accepts, AcceptsBlocks, NoMismatch, SlotMeans, VolumeReads, Fits, IsMeaning, IsVolume, Meant, records_of, Content, Volume, HasRoom, composed, Laid, layout_block, normal_blocks, normal_bytes, volume_blocks, meant_by, records_are, records_fit, volume_is}
 use Rattle.std.specs.FinMap as finite
-use Rattle.std.specs.List.{AllByRecursion, concat}
-use Rattle.std.proofs.lemmas.Option.{same_Some}
-use Rattle.ubi_media.specs.Geometry.{IsGeometry}
-use Rattle.ubi_media.specs.Record.{data_pad}
-use Rattle.ubi_media.specs.declared.record.VolumeRecord.{VolumeRecord}
-use Rattle.ubi_media.specs.declared.vid.VidHeader.{VidHeader}
-use Rattle.ubi_media.proofs.Records.{usable_some}
-use Rattle.ubi_scan.specs.Faults.{NoFault}
-use Rattle.ubi_scan.specs.Image.{image_of}
-use Rattle.ubi_scan.specs.Members.{Leb, layout}
-use Rattle.ubi_table.specs.Table.{IsTable}
-use Rattle.ubi_table.proofs.Held.{table_written}
-use Rattle.ubi_volume.specs.Accepts.{Accepts, AcceptsBlocks, NoMismatch}
-use Rattle.ubi_volume.specs.Means.{SlotMeans, VolumeReads}
-use Rattle.ubi_volume.specs.Meant.{Fits, IsMeaning, IsVolume, Meant, records_of}
-use Rattle.ubi_volume.specs.declared.content.Content.{Content}
 use Rattle.ubi_volume.specs.declared.content.Content.TheVariants as content
-use Rattle.ubi_volume.specs.declared.content.Volume.{Volume}
 use Rattle.ubi_volume.proofs.Recorded.{record_of}
-use Rattle.ubi_compose.specs.Composed.{HasRoom, composed}
-use Rattle.ubi_compose.specs.Normal.{Laid, layout_block, normal_blocks, normal_bytes, volume_blocks}
 use Rattle.ubi_compose.proofs.Apart.{AreApart}
 use Rattle.ubi_compose.proofs.Blocks.{IsFine}
 use Rattle.ubi_compose.proofs.Contents.{AreOwn, damaged_reads, dynamic_reads, header_at, text_at, text_reads}
 use Rattle.ubi_compose.proofs.Image.{blocks_again, concat-image_blocks, image_blocks, image_clean, image_named, image_whole, laid_wins, length-bytes, length-image_blocks, member_laid}
 use Rattle.ubi_compose.proofs.Lists.{Holds, all_at, entry_held, flat_map_holds, held_entry, holds_flat_map}
 use Rattle.ubi_compose.proofs.Normal.{apart_normal, fine_normal}
-use Rattle.ubi_volume.proofs.MeantRecords.{meant_by, records_are, records_fit, volume_is}
 use Rattle.ubi_compose.proofs.Volumes.{IsLike, like_blocks, own_blocks}
 
 module _ (m : Meant) (g : IsGeometry m.sizes) (is : IsMeaning m) (spares : ℕ) where

@@ -1,10 +1,5 @@
 -- Eraseblocks of LEBs of which no two are the same.
-use Rattle.std.proofs.Common.{◌≡◌, ◌≢◌, ℕ, zero, suc, List, [], ◌∷◌, ◌++◌, refl, ap, sym, ◌∙◌}
-use Rattle.std.specs.Prelude.{Some, slice_get}
-use Rattle.std.specs.List.{AllByRecursion}
-use Rattle.std.proofs.lemmas.Option.{same_Some}
-use Rattle.ubi_scan.specs.Members.{leb_of}
-use Rattle.ubi_compose.specs.Normal.{Laid}
+use Rattle.ubi_compose.proofs.Prelude.{◌≡◌, ◌≢◌, ℕ, zero, suc, List, [], ◌∷◌, ◌++◌, refl, ap, sym, ◌∙◌, Some, slice_get, AllByRecursion, same_Some, leb_of, Laid}
 use Rattle.ubi_compose.proofs.Lists.{all_append, all_at}
 
 -- two eraseblocks are of different LEBs

@@ -1,27 +1,9 @@
 -- An eraseblock that was laid out is read back.
-use Rattle.std.proofs.Common.{◌≡◌, ℕ, ◌+◌, ◌-◌, ◌^◌, ◌<◌, ◌≤◌, ◌++◌, true, false, not, length, List, refl, ap, sym, ◌∙◌, subst, arith}
-use Rattle.std.specs.Bool.{then_some}
-use Rattle.std.specs.Option.{option_map_or}
-use Rattle.std.specs.Prelude.{None, Option, Some, option_map}
-use Rattle.std.proofs.Math.Path.{ap₂}
-use Rattle.std.proofs.lemmas.Option.{same_Some}
-use Rattle.ubi_media.specs.Ec.{ec_bytes, ec_reading}
-use Rattle.ubi_media.specs.Fields.{blank}
-use Rattle.ubi_media.specs.Geometry.{IsGeometry, Sizes}
-use Rattle.ubi_media.specs.Vid.{vid_bytes, vid_fault, vid_reading}
-use Rattle.ubi_media.specs.Widths.{VidFits}
+use Rattle.ubi_compose.proofs.Prelude.{◌≡◌, ℕ, ◌+◌, ◌-◌, ◌^◌, ◌<◌, ◌≤◌, ◌++◌, true, false, length, List, refl, ap, sym, ◌∙◌, subst, arith, then_some, option_map_or, None, Option, Some, option_map, ap₂, same_Some, ec_bytes, ec_reading, blank, IsGeometry, Sizes, vid_bytes, vid_fault, vid_reading, VidFits, VidHeader, ec_read_back, fields_fit, vid_read_back, one_ec_reading, one_vid_reading, IsSound, IsMislaid, ec, leb, vid, foreign, foreign_if, good_in, has_members, is_good, leb_of, member, member_if, named_in, sqnum_in, seq_if, seq_of, Laid, laid_bytes, new_ec}
+use Rattle.std.proofs.Common.{not}
 use Rattle.ubi_media.specs.declared.ec.EcRead.TheVariants as ec_read
-use Rattle.ubi_media.specs.declared.vid.VidHeader.{VidHeader}
 use Rattle.ubi_media.specs.declared.vid.VidRead.TheVariants as vid_read
-use Rattle.ubi_media.proofs.Headers.{ec_read_back, fields_fit, vid_read_back}
-use Rattle.ubi_media.proofs.Readings.{one_ec_reading, one_vid_reading}
-use Rattle.ubi_scan.specs.Clean.{IsSound}
-use Rattle.ubi_scan.specs.Faults.{IsMislaid}
-use Rattle.ubi_scan.specs.Image.{ec, leb, vid}
-use Rattle.ubi_scan.specs.Members.{foreign, foreign_if, good_in, has_members, is_good, leb_of, member, member_if, named_in, sqnum_in}
-use Rattle.ubi_scan.specs.Numbers.{seq_if, seq_of}
 use Rattle.ubi_scan.proofs.Parts as parts
-use Rattle.ubi_compose.specs.Normal.{Laid, laid_bytes, new_ec}
 
 -- an eraseblock that can be laid out, and is then a good member of its LEB with the sequence number 0
 pub record IsFine (s : Sizes) (l : Laid) : Type 0 where

@@ -1,22 +1,7 @@
 -- What a volume holds that a text was written to: its LEBs, and whether its record allows it.
-use Rattle.std.proofs.Common.{◌≡◌, ◌==◌, ℕ, ◌+◌, ◌*◌, ◌<◌, ◌≤◌, false, List, length, length-drop, length-take-le, drop, refl, ap, sym, ◌∙◌, subst, arith, inl, inr, zero-add}
-use Rattle.std.specs.Prelude.{IfSome, None, Option, Some, find, option_map}
+use Rattle.ubi_compose.proofs.Prelude.{◌≡◌, ◌==◌, ℕ, ◌+◌, ◌*◌, ◌<◌, ◌≤◌, false, List, length, length-drop, length-take-le, drop, refl, ap, sym, ◌∙◌, subst, arith, inl, inr, zero-add, IfSome, None, Option, Some, find, option_map, range_with_len, mul-le, same_Some, filled, Sizes, usable, VolumeRecord, VolKind, within_or_past, length-filled, Fits, pieces, share, pieces_few, pieces_suffice, share_most, content_of, lebs_of, text_of, Part}
 use Rattle.std.specs.FinMap as finite
-use Rattle.std.specs.List.{range_with_len}
-use Rattle.std.proofs.lemmas.Nat.{mul-le}
-use Rattle.std.proofs.lemmas.Option.{same_Some}
-use Rattle.ubi_media.specs.Fields.{filled}
-use Rattle.ubi_media.specs.Geometry.{Sizes}
-use Rattle.ubi_media.specs.Record.{usable}
-use Rattle.ubi_media.specs.declared.record.VolumeRecord.{VolumeRecord}
-use Rattle.ubi_media.specs.declared.vid.VolKind.{VolKind}
 use Rattle.ubi_media.specs.declared.vid.VolKind.TheVariants as kind
-use Rattle.ubi_media.proofs.Cases.{within_or_past}
-use Rattle.ubi_scan.proofs.Filled.{length-filled}
-use Rattle.ubi_volume.specs.Meant.{Fits, pieces, share}
-use Rattle.ubi_volume.proofs.Pieces.{pieces_few, pieces_suffice, share_most}
-use Rattle.ubi_compose.specs.Built.{content_of, lebs_of, text_of}
-use Rattle.ubi_compose.specs.declared.recipe.Part.{Part}
 use Rattle.ubi_compose.proofs.EntriesByNumber.{find_in_range, found_in_range, get_made}
 
 -- a part has as many bytes as it says where the source has them

@@ -1,29 +1,7 @@
 -- What is built is a meaning, and its normal image has room where all pieces have.
-use Rattle.std.proofs.Common.{◌≡◌, ℕ, ◌+◌, ◌≤◌, true, false, Bool, inl, inr, List, [], ◌∷◌, length, map, refl, ap, sym, ◌∙◌, subst, arith}
-use Rattle.std.specs.Prelude.{IfSome, None, Option, Some, slice_get, sum_by}
-use Rattle.std.specs.Cmp.{nat_cmp_total}
+use Rattle.ubi_compose.proofs.Prelude.{◌≡◌, ℕ, ◌+◌, ◌≤◌, true, false, Bool, inl, inr, List, [], ◌∷◌, length, map, refl, ap, sym, ◌∙◌, subst, arith, IfSome, None, Option, Some, slice_get, sum_by, nat_cmp_total, put, by_order, nat_cmp, Less, Equal, Greater, cases_order, sum_by-cons, same_Some, blank, leb_size, usable, usable_some, length-blank, no_entries, IsItem, NoCause, item_without_blank, HasDistinctNames, IsMeaning, IsVolume, Volume, fits_without_blank, keeps_no_blank, HaveMeaning, Parts, Reaches, built, content_of, item_of, items_of, text_of, table_of, Part}
 use Rattle.std.specs.FinMap as finite
-use Rattle.std.specs.FinMap.{put}
-use Rattle.std.specs.FinMap.Entries.{by_order}
-use Rattle.std.specs.Ordering.{nat_cmp}
-use Rattle.std.specs.declared.cmp.Ordering.TheVariants.{Less, Equal, Greater}
-use Rattle.std.proofs.lemmas.Bool.{cases_order}
-use Rattle.std.proofs.lemmas.List.Sums.{sum_by-cons}
-use Rattle.std.proofs.lemmas.Option.{same_Some}
-use Rattle.ubi_media.specs.Fields.{blank}
-use Rattle.ubi_media.specs.Geometry.{leb_size}
-use Rattle.ubi_media.specs.Record.{usable}
-use Rattle.ubi_media.proofs.Records.{usable_some}
-use Rattle.ubi_scan.proofs.Filled.{length-blank}
-use Rattle.ubi_table.proofs.NoRecords.{no_entries}
-use Rattle.ubi_volume.specs.Made.{IsItem, NoCause, item_without_blank}
-use Rattle.ubi_volume.specs.Meant.{HasDistinctNames, IsMeaning, IsVolume}
-use Rattle.ubi_volume.specs.declared.content.Volume.{Volume}
 use Rattle.ubi_volume.specs.declared.errors.MeaningCause.TheVariants as cause
-use Rattle.ubi_volume.proofs.Arranged.{fits_without_blank, keeps_no_blank}
-use Rattle.ubi_compose.specs.Built.{HaveMeaning, Parts, Reaches, built, content_of, item_of, items_of, text_of}
-use Rattle.ubi_compose.specs.inner.Building.{table_of}
-use Rattle.ubi_compose.specs.declared.recipe.Part.{Part}
 use Rattle.ubi_compose.proofs.BuiltContents.{content_fits, text_size}
 use Rattle.ubi_compose.proofs.BuiltVolumes.{built_part, table_is, volume_in}
 use Rattle.ubi_compose.proofs.ListedParts.{enough, enough_reaches, found_part, item_at, listed_at, part_fits, part_slot, part_sound, reached, reserved_room}

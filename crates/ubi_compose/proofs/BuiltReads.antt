@@ -1,39 +1,10 @@
 -- What volumes read that are built.
-use Rattle.std.proofs.Common.{◌≡◌, ◌==◌, ℕ, zero, suc, ◌+◌, ◌-◌, ◌*◌, ◌<◌, ◌≤◌, inl, inr, Bool, true, false, cond, not, List, [], ◌∷◌, ◌++◌, append-nil, length, length-drop, length-take-le, take, drop, refl, ap, sym, ◌∙◌, arith, zero-add}
-use Rattle.std.specs.Prelude.{Contains, Err, None, Ok, Option, Some, find, flat_map, option_map, slice_get, unwrap_or}
+use Rattle.ubi_compose.proofs.Prelude.{◌≡◌, ◌==◌, ℕ, zero, suc, ◌+◌, ◌-◌, ◌*◌, ◌<◌, ◌≤◌, inl, inr, Bool, true, false, cond, List, [], ◌∷◌, ◌++◌, append-nil, length, length-drop, length-take-le, take, drop, refl, ap, sym, ◌∙◌, arith, zero-add, Contains, Err, None, Ok, Option, Some, find, flat_map, option_map, slice_get, unwrap_or, FinMap, nat_cmp, range_with_len, option_map_or, drop-append-add, take-append-add, cases_order, drop-append-le, drop_all, take-append-le, take-replicate, take_all, same_Some, mul-le, blank, filled, is_blank, usable, VolKind, within_or_past, usable_some, drop_blank, filled-is, filled-none, length-filled, at_itself, pieces_more, lebs_without_blank, without_blank, pieces, share, leb_text, lebs_text, read_volume, volume_read, Volume, blank_text, same_range, pieces_suffice, share_more, share_most, get_without_blank, is_kept, HaveMeaning, Parts, Reaches, built, content_of, item_of, lebs_of, text_of, text_read, part_at, Part}
+use Rattle.std.proofs.Common.{not}
 use Rattle.std.specs.FinMap as finite
-use Rattle.std.specs.FinMap.{FinMap}
-use Rattle.std.specs.Ordering.{nat_cmp}
-use Rattle.std.specs.List.{range_with_len}
-use Rattle.std.specs.Option.{option_map_or}
-use Rattle.std.proofs.Math.Seq.{drop-append-add, take-append-add}
-use Rattle.std.proofs.lemmas.Bool.{cases_order}
-use Rattle.std.proofs.lemmas.List.{drop-append-le, drop_all, take-append-le, take-replicate, take_all}
-use Rattle.std.proofs.lemmas.Option.{same_Some}
-use Rattle.std.proofs.lemmas.Nat.{mul-le}
-use Rattle.ubi_media.specs.Fields.{blank, filled, is_blank}
-use Rattle.ubi_media.specs.Record.{usable}
-use Rattle.ubi_media.specs.declared.vid.VolKind.{VolKind}
 use Rattle.ubi_media.specs.declared.vid.VolKind.TheVariants as kind
-use Rattle.ubi_media.proofs.Cases.{within_or_past}
-use Rattle.ubi_media.proofs.Records.{usable_some}
-use Rattle.ubi_scan.proofs.Filled.{drop_blank, filled-is, filled-none, length-filled}
-use Rattle.ubi_scan.proofs.Keys.{at_itself}
-use Rattle.ubi_table.proofs.ReadBack.{pieces_more}
-use Rattle.ubi_volume.specs.Made.{lebs_without_blank, without_blank}
-use Rattle.ubi_volume.specs.Meant.{pieces, share}
-use Rattle.ubi_volume.specs.Reading.{leb_text, lebs_text, read_volume, volume_read}
-use Rattle.ubi_volume.specs.declared.content.Volume.{Volume}
 use Rattle.ubi_volume.specs.declared.errors.MeaningCause.TheVariants as cause
 use Rattle.ubi_volume.specs.declared.errors.ReadError.TheVariants as error
-use Rattle.ubi_volume.proofs.Blanks.{blank_text}
-use Rattle.ubi_volume.proofs.Extracted.{same_range}
-use Rattle.ubi_volume.proofs.Pieces.{pieces_suffice, share_more, share_most}
-use Rattle.ubi_volume.proofs.WithoutBlank.{get_without_blank, is_kept}
-use Rattle.ubi_compose.specs.Built.{HaveMeaning, Parts, Reaches, built, content_of, item_of, lebs_of, text_of}
-use Rattle.ubi_compose.specs.BuiltLaws.{text_read}
-use Rattle.ubi_compose.specs.inner.Building.{part_at}
-use Rattle.ubi_compose.specs.declared.recipe.Part.{Part}
 use Rattle.ubi_compose.proofs.BuiltContents.{leb_of, leb_there, leb_within, text_size}
 use Rattle.ubi_compose.proofs.BuiltVolumes.{built_at, volume_in}
 use Rattle.ubi_compose.proofs.ListedParts.{found_part, item_at, listed_at, part_fits, part_sound, reached}

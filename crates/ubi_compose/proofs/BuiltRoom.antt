@@ -1,28 +1,8 @@
 -- The normal image of what is built has room where the table, all pieces and the spares have, and is accepted then.
-use Rattle.std.proofs.Common.{◌≡◌, ℕ, suc, ◌+◌, ◌<◌, ◌≤◌, List, [], ◌∷◌, length, map, refl, ap, sym, ◌∙◌, arith}
-use Rattle.std.specs.Prelude.{Some, slice_get, sum_by}
+use Rattle.ubi_compose.proofs.Prelude.{◌≡◌, ℕ, suc, ◌+◌, ◌<◌, ◌≤◌, List, [], ◌∷◌, length, map, refl, ap, sym, ◌∙◌, arith, Some, slice_get, sum_by, AllByRecursion, length-map, length-flat_map, length-map-range_with_len, sum_by-cons, Sizes, data_pad, usable, VolumeRecord, VolKind, image_of, Accepts, item_without_blank, without_blank, pieces, Content, Volume, HaveMeaning, Parts, Reaches, built, content_of, item_of, items_of, most_blocks, pieces_of, text_of, HasRoom, composed, dynamic_block, static_part, volume_blocks, Part}
 use Rattle.std.specs.FinMap as finite
-use Rattle.std.specs.List.{AllByRecursion}
-use Rattle.std.proofs.lemmas.List.{length-map}
-use Rattle.std.proofs.lemmas.List.Concat.{length-flat_map}
-use Rattle.std.proofs.lemmas.List.FromFn.{length-map-range_with_len}
-use Rattle.std.proofs.lemmas.List.Sums.{sum_by-cons}
-use Rattle.ubi_media.specs.Geometry.{Sizes}
-use Rattle.ubi_media.specs.Record.{data_pad, usable}
-use Rattle.ubi_media.specs.declared.record.VolumeRecord.{VolumeRecord}
-use Rattle.ubi_media.specs.declared.vid.VolKind.{VolKind}
 use Rattle.ubi_media.specs.declared.vid.VolKind.TheVariants as kind
-use Rattle.ubi_scan.specs.Image.{image_of}
-use Rattle.ubi_volume.specs.Accepts.{Accepts}
-use Rattle.ubi_volume.specs.Made.{item_without_blank, without_blank}
-use Rattle.ubi_volume.specs.Meant.{pieces}
-use Rattle.ubi_volume.specs.declared.content.Content.{Content}
 use Rattle.ubi_volume.specs.declared.content.Content.TheVariants as content
-use Rattle.ubi_volume.specs.declared.content.Volume.{Volume}
-use Rattle.ubi_compose.specs.Built.{HaveMeaning, Parts, Reaches, built, content_of, item_of, items_of, most_blocks, pieces_of, text_of}
-use Rattle.ubi_compose.specs.Composed.{HasRoom, composed}
-use Rattle.ubi_compose.specs.Normal.{dynamic_block, static_part, volume_blocks}
-use Rattle.ubi_compose.specs.declared.recipe.Part.{Part}
 use Rattle.ubi_compose.proofs.Accepted.{normal_accepted}
 use Rattle.ubi_compose.proofs.BuiltContents.{text_size}
 use Rattle.ubi_compose.proofs.BuiltMeaning.{built_meaning, sum_made}

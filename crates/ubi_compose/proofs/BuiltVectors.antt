@@ -1,13 +1,7 @@
 -- What is built of parts on literals.
-use Rattle.std.proofs.Common.{◌≡◌, false, [], ◌∷◌, refl}
+use Rattle.ubi_compose.proofs.Prelude.{◌≡◌, false, [], ◌∷◌, refl, filled, small, sorted_entries, lebs_of, most_blocks, text_of, text_read, Part}
 use Rattle.std.specs.FinMap as finite
-use Rattle.ubi_media.specs.Fields.{filled}
 use Rattle.ubi_media.specs.declared.vid.VolKind.TheVariants as kind
-use Rattle.ubi_media.proofs.Words.{small}
-use Rattle.ubi_scan.proofs.Entries.{sorted_entries}
-use Rattle.ubi_compose.specs.Built.{lebs_of, most_blocks, text_of}
-use Rattle.ubi_compose.specs.BuiltLaws.{text_read}
-use Rattle.ubi_compose.specs.declared.recipe.Part.{Part}
 
 -- a static volume of 385 bytes in LEBs of 384, and a dynamic one of 258 that uses 256 bytes of each
 boot : Part

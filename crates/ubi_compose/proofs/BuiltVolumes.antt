@@ -1,31 +1,10 @@
 -- The normal image of what is built of parts, by their pieces.
-use Rattle.std.proofs.Common.{◌≡◌, ◌==◌, ℕ, zero, suc, ◌+◌, ◌<◌, ◌≤◌, Bool, true, false, cond, not, List, [], ◌++◌, length, refl, ap, sym, ◌∙◌, subst, arith}
-use Rattle.std.specs.Prelude.{None, Option, Some, flat_map, option_map, replicate, unwrap_or}
+use Rattle.ubi_compose.proofs.Prelude.{◌≡◌, ◌==◌, ℕ, zero, suc, ◌+◌, ◌<◌, ◌≤◌, Bool, true, false, cond, List, [], ◌++◌, length, refl, ap, sym, ◌∙◌, subst, arith, None, Option, Some, flat_map, option_map, unwrap_or, FinMap, range_with_len, option_map_or, nat_cmp, flat_map-map, is_blank, slots, data_pad, rec_bytes, usable, plain, VolKind, layout, table_bytes, item_without_blank, lebs_without_blank, without_blank, pieces, records_of, Volume, same_range, get_without_blank, is_kept, HaveMeaning, Parts, Reaches, built, content_of, item_of, items_of, lebs_of, text_of, composed, spare, blocks_of, dynamic_block, laid_bytes, new_ec, static_part, volume_blocks, dynamic_piece, first_volumes, part_at, part_bytes, piece_of_kind, spares_bytes, table_of, whole_bytes, Part}
+use Rattle.std.proofs.Common.{not}
+use Rattle.std.specs.Prelude.{replicate}
 use Rattle.std.specs.FinMap as finite
-use Rattle.std.specs.FinMap.{FinMap}
-use Rattle.std.specs.List.{range_with_len}
-use Rattle.std.specs.Option.{option_map_or}
-use Rattle.std.specs.Ordering.{nat_cmp}
-use Rattle.std.proofs.lemmas.List.Folds.{flat_map-map}
-use Rattle.ubi_media.specs.Fields.{is_blank}
-use Rattle.ubi_media.specs.Geometry.{slots}
-use Rattle.ubi_media.specs.Record.{data_pad, rec_bytes, usable}
-use Rattle.ubi_media.specs.Vid.{plain}
-use Rattle.ubi_media.specs.declared.vid.VolKind.{VolKind}
 use Rattle.ubi_media.specs.declared.vid.VolKind.TheVariants as kind
-use Rattle.ubi_scan.specs.Members.{layout}
-use Rattle.ubi_table.specs.Records.{table_bytes}
-use Rattle.ubi_volume.specs.Made.{item_without_blank, lebs_without_blank, without_blank}
-use Rattle.ubi_volume.specs.Meant.{pieces, records_of}
-use Rattle.ubi_volume.specs.declared.content.Volume.{Volume}
-use Rattle.ubi_volume.proofs.Extracted.{same_range}
 use Rattle.ubi_volume.proofs.Recorded.{record_of}
-use Rattle.ubi_volume.proofs.WithoutBlank.{get_without_blank, is_kept}
-use Rattle.ubi_compose.specs.Built.{HaveMeaning, Parts, Reaches, built, content_of, item_of, items_of, lebs_of, text_of}
-use Rattle.ubi_compose.specs.Composed.{composed, spare}
-use Rattle.ubi_compose.specs.Normal.{blocks_of, dynamic_block, laid_bytes, new_ec, static_part, volume_blocks}
-use Rattle.ubi_compose.specs.inner.Building.{dynamic_piece, first_volumes, part_at, part_bytes, piece_of_kind, spares_bytes, table_of, whole_bytes}
-use Rattle.ubi_compose.specs.declared.recipe.Part.{Part}
 use Rattle.ubi_compose.proofs.BuiltContents.{leb_of, leb_there, leb_within, text_size}
 use Rattle.ubi_compose.proofs.EntriesByNumber.{entries_by_number, find-map, flat_map-flat_map, get_made}
 use Rattle.ubi_compose.proofs.ListedParts.{found_part, listed_at, part_slot, reached}

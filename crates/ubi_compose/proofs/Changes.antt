@@ -1,29 +1,10 @@
 -- Changing the volumes and the map that tells where they stand.
-use Rattle.std.proofs.Common.{◌≡◌, ◌<◌, ℕ, ◌+◌, ◌==◌, Bool, true, false, cond, List, [], ◌∷◌, ◌++◌, length, map, get_or, set, refl, sym, ap, ◌∙◌, arith}
-use Rattle.std.specs.Prelude.{Option, Some, None, Result, Ok, Err, MatchResult, slice_get, slice_set}
+use Rattle.ubi_compose.proofs.Prelude.{◌≡◌, ◌<◌, ℕ, ◌+◌, ◌==◌, Bool, true, false, cond, List, [], ◌∷◌, ◌++◌, length, map, get_or, set, refl, sym, ap, ◌∙◌, arith, Option, Some, None, Result, Ok, Err, MatchResult, slice_get, slice_set, BTreeMap, IsOrdered, is_at, position_from, option_or, nat_cmp, result_map_both, nat_tests, length-map, map-append, map-set, set-get_or, Sizes, VolumeRecord, Items, Content, Volume, AreDrafts, IsRefused, changed, place_of, with_line, volume_of, volume_from, LineError, SpecCause, Line}
 use Rattle.std.specs.BTreeMap as tree
-use Rattle.std.specs.BTreeMap.{BTreeMap, IsOrdered, is_at}
 use Rattle.std.specs.FinMap as finite
-use Rattle.std.specs.List.{position_from}
-use Rattle.std.specs.Option.{option_or}
-use Rattle.std.specs.Ordering.{nat_cmp}
-use Rattle.std.specs.Result.{result_map_both}
-use Rattle.std.proofs.lemmas.Bool.Decides.{nat_tests}
-use Rattle.std.proofs.lemmas.List.{length-map, map-append, map-set, set-get_or}
-use Rattle.ubi_media.specs.Geometry.{Sizes}
-use Rattle.ubi_media.specs.declared.record.VolumeRecord.{VolumeRecord}
 use Rattle.ubi_media.specs.declared.vid.VolKind.TheVariants as kind
-use Rattle.ubi_volume.specs.Made.{Items}
-use Rattle.ubi_volume.specs.declared.content.Content.{Content}
 use Rattle.ubi_volume.specs.declared.content.Content.TheVariants as content
-use Rattle.ubi_volume.specs.declared.content.Volume.{Volume}
-use Rattle.ubi_compose.specs.inner.Drafts.{AreDrafts, IsRefused, changed, place_of, with_line}
-use Rattle.ubi_compose.specs.Lines.{volume_of}
-use Rattle.ubi_compose.specs.Spec.{volume_from}
-use Rattle.ubi_compose.specs.declared.errors.LineError.{LineError}
 use Rattle.ubi_compose.specs.declared.errors.LineError.TheVariants as line_error
-use Rattle.ubi_compose.specs.declared.errors.SpecCause.{SpecCause}
-use Rattle.ubi_compose.specs.declared.line.Line.{Line}
 use Rattle.ubi_compose.proofs.Places.{equal_number, place_below, place_end}
 
 abbrev numbers : Items → List ℕ

@@ -1,32 +1,11 @@
 -- What a volume reads whose eraseblocks are laid out.
-use Rattle.std.proofs.Common.{◌≡◌, ℕ, zero, suc, ◌+◌, ◌-◌, ◌*◌, ◌^◌, ◌<◌, ◌≤◌, inl, inr, List, [], ◌∷◌, ◌++◌, length, take, refl, sym, ap, ◌∙◌, subst, arith}
-use Rattle.std.specs.Prelude.{IfSome, None, Option, Some, slice_get, unwrap_or}
+use Rattle.ubi_compose.proofs.Prelude.{◌≡◌, ℕ, zero, suc, ◌+◌, ◌-◌, ◌*◌, ◌^◌, ◌<◌, ◌≤◌, inl, inr, List, [], ◌∷◌, ◌++◌, length, take, refl, sym, ap, ◌∙◌, subst, arith, IfSome, None, Option, Some, slice_get, unwrap_or, FinMap, AllByRecursion, range_with_len, option_map_or, nat_cmp, take-replicate, take_at, check, check_from, remainder, blank, IsGeometry, Sizes, data_pad, usable, VolumeRecord, VidHeader, NoFault, block, leb, Leb, NoMember, member, AreRead, PieceIs, UsedIs, LebReads, VolumeReads, Fits, pieces, share, damaged_piece, piece_checked, piece_unchecked, read_more, read_none, static_reads, Laid, damaged_block, dynamic_block, static_part, volume_blocks, pieces_few, share_more, share_none, shares_all}
 use Rattle.std.specs.FinMap as finite
-use Rattle.std.specs.FinMap.{FinMap}
-use Rattle.std.specs.List.{AllByRecursion, range_with_len}
-use Rattle.std.specs.Option.{option_map_or}
-use Rattle.std.specs.Ordering.{nat_cmp}
-use Rattle.std.proofs.lemmas.List.{take-replicate, take_at}
-use Rattle.ubi_media.specs.Check.{check, check_from, remainder}
-use Rattle.ubi_media.specs.Fields.{blank}
-use Rattle.ubi_media.specs.Geometry.{IsGeometry, Sizes}
-use Rattle.ubi_media.specs.Record.{data_pad, usable}
-use Rattle.ubi_media.specs.declared.record.VolumeRecord.{VolumeRecord}
-use Rattle.ubi_media.specs.declared.vid.VidHeader.{VidHeader}
-use Rattle.ubi_scan.specs.Faults.{NoFault}
-use Rattle.ubi_scan.specs.Image.{block, leb}
-use Rattle.ubi_scan.specs.Members.{Leb, NoMember, member}
-use Rattle.ubi_volume.specs.inner.Gathered.{AreRead, PieceIs, UsedIs}
-use Rattle.ubi_volume.specs.Means.{LebReads, VolumeReads}
-use Rattle.ubi_volume.specs.Meant.{Fits, pieces, share}
 use Rattle.ubi_volume.specs.declared.content.Content.TheVariants as content
-use Rattle.ubi_volume.proofs.Static.{damaged_piece, piece_checked, piece_unchecked, read_more, read_none, static_reads}
-use Rattle.ubi_compose.specs.Normal.{Laid, damaged_block, dynamic_block, static_part, volume_blocks}
 use Rattle.ubi_compose.proofs.Apart.{AreApart}
 use Rattle.ubi_compose.proofs.Blocks.{IsFine, leb-laid_bytes, member-laid_bytes}
 use Rattle.ubi_compose.proofs.Image.{block_laid, image_blocks, image_clean, laid_wins, none_laid}
 use Rattle.ubi_compose.proofs.Lists.{Holds, all_at, entry_held, held_entry, holds_map, holds_range, map_holds, range_holds}
-use Rattle.ubi_volume.proofs.Pieces.{pieces_few, share_more, share_none, shares_all}
 
 -- of the eraseblocks, those of a volume
 pub record AreOwn (ls : List Laid) (vol : ℕ) (own : List Laid) : Type 0 where

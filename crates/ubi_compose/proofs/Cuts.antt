@@ -1,10 +1,6 @@
 -- Bytes that are cut at the first byte that passes a test.
-use Rattle.std.proofs.Common.{◌≡◌, ℕ, ◌+◌, ◌-◌, ◌<◌, Bool, true, false, cond, List, [], ◌∷◌, length, take, drop, refl, ap, sym, ◌∙◌, arith}
-use Rattle.std.specs.Prelude.{not, nat_lt, Some, None}
-use Rattle.std.specs.List.{onto_first, position, position_or_len, slice_split}
-use Rattle.std.proofs.lemmas.List.{length-drop, take_all}
-use Rattle.std.proofs.lemmas.List.Splits.{slice_split_first, slice_split-cons_no}
-use Rattle.std.proofs.lemmas.Bool.Decides.{nat_tests}
+use Rattle.ubi_compose.proofs.Prelude.{◌≡◌, ℕ, ◌+◌, ◌-◌, ◌<◌, Bool, true, false, cond, List, [], ◌∷◌, length, take, drop, refl, ap, sym, ◌∙◌, arith, not, nat_lt, Some, None, onto_first, position, position_or_len, slice_split, take_all, slice_split_first, slice_split-cons_no, nat_tests}
+use Rattle.std.proofs.lemmas.List.{length-drop}
 
 uncut_here : (p : ℕ → Bool) (x : ℕ) (xs : List ℕ) (b : Bool) → p x ≡ b
     → (nat_lt (position_or_len p xs) (length xs) ≡ false → slice_split p xs ≡ xs ∷ [])

@@ -1,46 +1,14 @@
 -- The LEBs of a dynamic volume, by their places.
-use Rattle.std.proofs.Common.{◌≡◌, ◌≢◌, ℕ, zero, suc, ◌+◌, ◌-◌, ◌<◌, ◌≤◌, inl, inr, Bool, true, false, cond, List, [], ◌∷◌, ◌++◌, length, take, refl, ap, sym, ◌∙◌, subst, arith, append-nil, zero-add}
-use Rattle.std.specs.Prelude.{IfSome, None, Option, Some, flat_map, unwrap_or}
+use Rattle.ubi_compose.proofs.Prelude.{◌≡◌, ◌≢◌, ℕ, zero, suc, ◌+◌, ◌-◌, ◌<◌, ◌≤◌, inl, inr, Bool, true, false, cond, List, [], ◌∷◌, ◌++◌, length, take, refl, ap, sym, ◌∙◌, subst, arith, append-nil, zero-add, IfSome, None, Option, Some, flat_map, unwrap_or, FinMap, AllByRecursion, range_with_len, option_map_or, nat_cmp, flat_map-map, blank, is_blank, Sizes, data_pad, usable, plain, VolumeRecord, VidHeader, block, leb, Wins, Agreed, Source, WhereHeld, blocks_in, anything, StreamError, Wins-unique, pieces_more, LebReads, VolumeReads, Fits, IsVolume, KeepsNoBlank, IsCountedPlace, IsNextPlace, Placed, Content, Volume, blank_text, other_text, volume_is, IsVolumeOf, kept_bytes, kept_text, volume_text, dynamic_block, laid_bytes, new_ec, volume_blocks, All, IsWroteError, Wanted, Wrote, front_of, content_is, found_or_none, found_wins, reads_of, error_where, wrote_where, Splits, error_behind, error_front, error_read, wrote_more}
 use Rattle.std.specs.FinMap as finite
-use Rattle.std.specs.FinMap.{FinMap}
-use Rattle.std.specs.List.{AllByRecursion, range_with_len}
-use Rattle.std.specs.Option.{option_map_or}
-use Rattle.std.specs.Ordering.{nat_cmp}
-use Rattle.std.proofs.lemmas.List.Folds.{flat_map-map}
-use Rattle.ubi_media.specs.Fields.{blank, is_blank}
-use Rattle.ubi_media.specs.Geometry.{Sizes}
-use Rattle.ubi_media.specs.Record.{data_pad, usable}
-use Rattle.ubi_media.specs.Vid.{plain}
-use Rattle.ubi_media.specs.declared.record.VolumeRecord.{VolumeRecord}
-use Rattle.ubi_media.specs.declared.vid.VidHeader.{VidHeader}
 use Rattle.ubi_media.specs.declared.vid.VolKind.TheVariants as kind
-use Rattle.ubi_scan.specs.Image.{block, leb}
-use Rattle.ubi_scan.specs.Members.{Wins}
-use Rattle.ubi_scan.specs.Source.{Agreed, Source, WhereHeld, blocks_in, blocks_of}
-use Rattle.ubi_scan.specs.inner.Held.{anything}
-use Rattle.ubi_scan.specs.declared.errors.StreamError.{StreamError}
+use Rattle.ubi_scan.specs.Source.{blocks_of}
 use Rattle.ubi_scan.specs.declared.errors.StreamError.TheVariants as stream
-use Rattle.ubi_scan.proofs.Decided.{Wins-unique}
-use Rattle.ubi_table.proofs.ReadBack.{pieces_more}
-use Rattle.ubi_volume.specs.Means.{LebReads, VolumeReads}
-use Rattle.ubi_volume.specs.Meant.{Fits, IsVolume, KeepsNoBlank}
-use Rattle.ubi_volume.specs.Places.{IsCountedPlace, IsNextPlace, Placed}
-use Rattle.ubi_volume.specs.declared.content.Content.{Content}
 use Rattle.ubi_volume.specs.declared.content.Content.TheVariants as content
-use Rattle.ubi_volume.specs.declared.content.Volume.{Volume}
 use Rattle.ubi_volume.specs.declared.places.PlaceContent.TheVariants as place
-use Rattle.ubi_volume.proofs.Blanks.{blank_text, other_text}
-use Rattle.ubi_volume.proofs.MeantRecords.{volume_is}
-use Rattle.ubi_compose.specs.inner.Streaming.{IsVolumeOf, kept_bytes, kept_text, volume_text}
-use Rattle.ubi_compose.specs.Normal.{dynamic_block, laid_bytes, new_ec, volume_blocks}
-use Rattle.ubi_volume.specs.Wrote.{All, IsWroteError, Wanted, Wrote}
 use Rattle.ubi_compose.proofs.ByNumber.{Rises, by_number, kept_at}
 use Rattle.ubi_compose.proofs.Lists.{all_from, held_entry}
 use Rattle.ubi_compose.proofs.Rising as rising
-use Rattle.ubi_volume.proofs.Extracted.{front_of}
-use Rattle.ubi_volume.proofs.VolumeAt.{content_is, found_or_none, found_wins, reads_of}
-use Rattle.ubi_volume.proofs.Narrowed.{error_where, wrote_where}
-use Rattle.ubi_volume.proofs.Received.{Splits, error_behind, error_front, error_read, wrote_more}
 
 -- the eraseblock of what is kept of a LEB
 abbrev pub leb_bytes : Sizes → ℕ → ℕ → VolumeRecord → ℕ × List ℕ → List ℕ

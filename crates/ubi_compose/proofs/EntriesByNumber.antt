@@ -1,15 +1,6 @@
 -- The entries of a map by rising number, and those of a map that is made of a list.
-use Rattle.std.proofs.Common.{◌≡◌, ℕ, zero, suc, ◌+◌, ◌<◌, ◌≤◌, ◌==◌, Bool, true, false, cond, List, [], ◌∷◌, ◌++◌, map, refl, ap, sym, ◌∙◌, arith, zero-add, subst}
-use Rattle.std.specs.Prelude.{Some, find, flat_map, option_map}
+use Rattle.ubi_compose.proofs.Prelude.{◌≡◌, ℕ, zero, suc, ◌+◌, ◌<◌, ◌≤◌, ◌==◌, Bool, true, false, cond, List, [], ◌∷◌, ◌++◌, map, refl, ap, sym, ◌∙◌, arith, zero-add, subst, Some, find, flat_map, option_map, FinMap, AllByRecursion, range_with_len, option_map_or, nat_cmp, nat_tests, flat_map-append, first_entry, same_range}
 use Rattle.std.specs.FinMap as finite
-use Rattle.std.specs.FinMap.{FinMap}
-use Rattle.std.specs.List.{AllByRecursion, range_with_len}
-use Rattle.std.specs.Option.{option_map_or}
-use Rattle.std.specs.Ordering.{nat_cmp}
-use Rattle.std.proofs.lemmas.Bool.Decides.{nat_tests}
-use Rattle.std.proofs.lemmas.Grind.{flat_map-append}
-use Rattle.ubi_scan.proofs.Entries.{first_entry}
-use Rattle.ubi_volume.proofs.Extracted.{same_range}
 use Rattle.ubi_compose.proofs.ByNumber.{Rises, by_number}
 use Rattle.ubi_compose.proofs.DynamicPlaces.{rises_from}
 use Rattle.ubi_compose.proofs.Lists.{all_from, held_entry}

@@ -1,12 +1,5 @@
 -- Two hexadecimal digits, and the parts of a shown name in order.
-use Rattle.std.proofs.Common.{◌≡◌, ℕ, ◌+◌, ◌*◌, ◌==◌, ◌&&◌, Bool, true, false, List, [], ◌∷◌, ◌++◌, length, refl, sym, ap, ◌∙◌, append_assoc, arith, length-append}
-use Rattle.std.specs.Prelude.{Option, Some, None, Ok, Err, Result, MatchResult, flat_map, nat_le, not, slice_index, option_and_then, option_map}
-use Rattle.std.specs.Bool.{then_some}
-use Rattle.std.specs.List.{list_all, list_any}
-use Rattle.std.proofs.lemmas.Bool.Decides.{nat_tests}
-use Rattle.hex.specs.Hex.{◌>>=◌, decode_pairs, decode_sized, digit_or_error, hex_digit_value}
-use Rattle.hex.specs.declared.error.FromHexError.{FromHexError}
-use Rattle.ubi_compose.specs.Words.{escaped, is_escape, shown_byte, shown_bytes, shown_name, some_name}
+use Rattle.ubi_compose.proofs.Prelude.{◌≡◌, ℕ, ◌+◌, ◌*◌, ◌==◌, ◌&&◌, Bool, true, false, List, [], ◌∷◌, ◌++◌, length, refl, sym, ap, ◌∙◌, append_assoc, arith, length-append, Option, Some, None, Ok, Err, Result, MatchResult, flat_map, nat_le, not, slice_index, option_and_then, option_map, then_some, list_all, list_any, nat_tests, ◌>>=◌, decode_pairs, decode_sized, digit_or_error, hex_digit_value, FromHexError, escaped, is_escape, shown_byte, shown_bytes, shown_name, some_name}
 
 pair_by : (h l : ℕ) (a b : Option ℕ)
     → MatchResult ((digit_or_error h 0 a >>= (λ x. digit_or_error l 1 b >>= (λ y. Ok (x * 16 + y)))) >>=

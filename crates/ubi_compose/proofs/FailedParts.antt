@@ -1,11 +1,6 @@
 -- Which volume is told where a read of its bytes failed.
-use Rattle.std.proofs.Common.{ℕ}
-use Rattle.std.specs.Prelude.{Contains, IfErr, Result, Ok, Err}
-use Rattle.ubi_compose.specs.Building.{NamesPart, NamesVolume}
-use Rattle.ubi_compose.specs.Built.{Parts}
-use Rattle.ubi_compose.specs.declared.errors.BuildError.{BuildError}
+use Rattle.ubi_compose.proofs.Prelude.{ℕ, Contains, IfErr, Result, Ok, Err, NamesPart, NamesVolume, Parts, BuildError, Part}
 use Rattle.ubi_compose.specs.declared.errors.BuildError.TheVariants as build
-use Rattle.ubi_compose.specs.declared.recipe.Part.{Part}
 
 -- that of a part is that of one of the parts
 pub names_volume : {A : Type 0} (ps : Parts) (p : Part) (at : ℕ) → Contains ps.of p → (r : Result A BuildError)

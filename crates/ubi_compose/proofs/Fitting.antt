@@ -1,18 +1,8 @@
 -- What a volume reads has room in its LEBs.
-use Rattle.std.proofs.Common.{◌≡◌, ℕ, ◌*◌, ◌<◌, ◌≤◌, List, length, subst, arith}
-use Rattle.std.specs.Prelude.{IfSome, Option}
+use Rattle.ubi_compose.proofs.Prelude.{◌≡◌, ℕ, ◌*◌, ◌<◌, ◌≤◌, List, length, subst, arith, IfSome, Option, FinMap, AllByRecursion, nat_cmp, mul-le, Sizes, leb_size, usable, Fits, IsVolume, Volume, reserved_within}
 use Rattle.std.specs.FinMap as finite
-use Rattle.std.specs.FinMap.{FinMap}
-use Rattle.std.specs.List.{AllByRecursion}
-use Rattle.std.specs.Ordering.{nat_cmp}
-use Rattle.std.proofs.lemmas.Nat.{mul-le}
-use Rattle.ubi_media.specs.Geometry.{Sizes, leb_size}
-use Rattle.ubi_media.specs.Record.{usable}
-use Rattle.ubi_volume.specs.Meant.{Fits, IsVolume}
 use Rattle.ubi_volume.specs.declared.content.Content.TheVariants as content
-use Rattle.ubi_volume.specs.declared.content.Volume.{Volume}
 use Rattle.ubi_compose.proofs.Lists.{all_from, held_entry}
-use Rattle.ubi_media.proofs.Padding.{reserved_within}
 
 module _ (s : Sizes) (vol : ℕ) (v : Volume) (is : IsVolume s vol v) where
   -- a static text has few pieces

@@ -1,16 +1,6 @@
 -- The normal image tells meanings apart, and normalising it changes nothing.
-use Rattle.std.proofs.Common.{◌≡◌, ℕ, ◌+◌, ◌/◌, ◌<◌, List, length, sym, ap, ◌∙◌, subst, arith}
-use Rattle.std.specs.Prelude.{◌↔◌}
+use Rattle.ubi_compose.proofs.Prelude.{◌≡◌, ℕ, ◌+◌, ◌/◌, ◌<◌, List, length, sym, ap, ◌∙◌, subst, arith, ◌↔◌, div-mul-add, IsGeometry, Sizes, Image, image_of, Accepts, IsMeaning, Meant, Accepts-unique, composed, MeanTheSame, Normalising, IsNormalised, normal_blocks, normal_bytes}
 use Rattle.std.proofs.lemmas.List.{append-nil}
-use Rattle.std.proofs.lemmas.Nat.{div-mul-add}
-use Rattle.ubi_media.specs.Geometry.{IsGeometry, Sizes}
-use Rattle.ubi_scan.specs.Image.{Image, image_of}
-use Rattle.ubi_volume.specs.Accepts.{Accepts}
-use Rattle.ubi_volume.specs.Meant.{IsMeaning, Meant}
-use Rattle.ubi_volume.proofs.One.{Accepts-unique}
-use Rattle.ubi_compose.specs.Composed.{composed}
-use Rattle.ubi_compose.specs.Laws.{MeanTheSame, Normalising}
-use Rattle.ubi_compose.specs.Normal.{IsNormalised, normal_blocks, normal_bytes}
 use Rattle.ubi_compose.proofs.Accepted.{length-composed, normal_accepted}
 use Rattle.ubi_compose.proofs.Room.{normal_fits}
 

@@ -1,34 +1,13 @@
 -- A page can accept what its double refuses: an image with a volume whose alignment is a multiple of the page alone.
-use Rattle.std.proofs.Common.{◌≡◌, ℕ, ◌+◌, ◌≤◌, cond, false, List, [], ◌∷◌, refl, ap, sym, ◌∙◌, subst, lit<, arith, inl, inr}
-use Rattle.std.specs.Prelude.{IfSome, None, Some, map, sum_by}
-use Rattle.std.specs.Cmp.{nat_cmp_total}
+use Rattle.ubi_compose.proofs.Prelude.{◌≡◌, ℕ, ◌+◌, ◌≤◌, cond, false, List, [], ◌∷◌, refl, ap, sym, ◌∙◌, subst, lit<, arith, inl, inr, IfSome, None, Some, sum_by, nat_cmp_total, ◌∣◌, nat_cmp, cases_eq, dvd_of_mod-eq-zero, none-some, IsGeometry, Sizes, first_broken, breaks, fields_from, first_fault, rec_fault, kept_limits, Refusal, sorted_entries, apart_test, same_test, image_of, greater_breaks, lesser_page, Accepts, Refuses, HasDistinctNames, IsMeaning, IsVolume, Meant, VolumeMap, meaning_with_page, Volume, composed, LesserAcceptsMore}
+use Rattle.std.specs.Prelude.{map}
 use Rattle.std.specs.FinMap as finite
-use Rattle.std.specs.Int.{◌∣◌}
-use Rattle.std.specs.Ordering.{nat_cmp}
-use Rattle.std.proofs.lemmas.Bool.{cases_eq}
-use Rattle.std.proofs.lemmas.Nat.Gcd.{dvd_of_mod-eq-zero}
-use Rattle.std.proofs.lemmas.Option.{none-some}
-use Rattle.ubi_media.specs.Geometry.{IsGeometry, Sizes}
-use Rattle.ubi_media.specs.Limits.{first_broken}
-use Rattle.ubi_media.specs.Record.{breaks, fields_from, first_fault, rec_fault}
 use Rattle.ubi_media.specs.declared.record.RecFault.TheVariants as fault
 use Rattle.ubi_media.specs.declared.vid.VolKind.TheVariants as kind
-use Rattle.ubi_media.proofs.KeptLimits.{kept_limits}
-use Rattle.ubi_media.specs.declared.refusal.Refusal.{Refusal}
 use Rattle.ubi_media.specs.declared.refusal.Refusal.TheVariants as refusal
-use Rattle.ubi_scan.proofs.Entries.{sorted_entries}
-use Rattle.ubi_scan.proofs.Keys.{apart_test, same_test}
-use Rattle.ubi_scan.specs.Image.{image_of}
-use Rattle.ubi_volume.proofs.LesserPage.{greater_breaks, lesser_page}
-use Rattle.ubi_volume.specs.Accepts.{Accepts, Refuses}
-use Rattle.ubi_volume.specs.Meant.{HasDistinctNames, IsMeaning, IsVolume, Meant, VolumeMap}
-use Rattle.ubi_volume.specs.PageLaws.{meaning_with_page}
 use Rattle.ubi_volume.specs.declared.content.Content.TheVariants as content
-use Rattle.ubi_volume.specs.declared.content.Volume.{Volume}
 use Rattle.ubi_compose.proofs.Accepted.{normal_accepted}
 use Rattle.ubi_compose.proofs.Room.{normal_fits}
-use Rattle.ubi_compose.specs.Composed.{composed}
-use Rattle.ubi_compose.specs.PageLaws.{LesserAcceptsMore}
 
 -- eraseblocks of 1,024 bytes with pages of 128 or of 256
 abbrev sizes_by : ℕ → Sizes

@@ -1,14 +1,7 @@
 -- The headers of a normal image break no rule.
-use Rattle.std.proofs.Common.{◌≡◌, ℕ, ◌+◌, ◌-◌, ◌/◌, ◌^◌, ◌<◌, ◌≤◌, inl, inr, true, refl, arith}
-use Rattle.std.specs.Prelude.{None}
-use Rattle.std.proofs.lemmas.Bool.Decides.{nat_tests}
-use Rattle.ubi_media.specs.Geometry.{IsGeometry, Sizes, leb_size}
-use Rattle.ubi_media.specs.Vid.{breaks, fields_from, first_fault, plain, vid_fault}
-use Rattle.ubi_media.specs.Widths.{VidFits}
-use Rattle.ubi_media.specs.declared.vid.VidHeader.{VidHeader}
+use Rattle.ubi_compose.proofs.Prelude.{◌≡◌, ℕ, ◌+◌, ◌-◌, ◌/◌, ◌^◌, ◌<◌, ◌≤◌, inl, inr, true, refl, arith, None, nat_tests, IsGeometry, Sizes, leb_size, plain, vid_fault, VidFits, VidHeader, IsMislaid, has_members, layout}
+use Rattle.ubi_media.specs.Vid.{breaks, fields_from, first_fault}
 use Rattle.ubi_media.specs.declared.vid.VolKind.TheVariants as kind
-use Rattle.ubi_scan.specs.Faults.{IsMislaid}
-use Rattle.ubi_scan.specs.Members.{has_members, layout}
 
 pub layout_sound : (s : Sizes) → IsGeometry s → (copy : ℕ) → copy < 2
     → vid_fault s (plain kind.Dynamic 5 0 layout copy) ≡ None

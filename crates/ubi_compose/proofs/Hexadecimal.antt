@@ -1,12 +1,5 @@
 -- Words of hexadecimal digits: how many bytes they write.
-use Rattle.std.proofs.Common.{◌≡◌, ◌≤◌, ℕ, ◌+◌, ◌*◌, Bool, true, false, cond, ◌==◌, List, [], ◌∷◌, length, refl, arith}
-use Rattle.std.specs.Prelude.{Option, Some, None, Ok, Err, Result, not, slice_index, option_and_then, option_map}
-use Rattle.std.specs.Result.{result_ok}
-use Rattle.std.proofs.lemmas.Bool.Decides.{nat_tests}
-use Rattle.hex.proofs.HexLemmas.{decode_of-ok}
-use Rattle.hex.specs.Hex.{◌>>=◌, decode_of, decode_pairs, digit_or_error, hex_digit_value}
-use Rattle.hex.specs.declared.error.FromHexError.{FromHexError}
-use Rattle.ubi_compose.specs.Words.{flags_of, hex_of, only_byte, shown_byte}
+use Rattle.ubi_compose.proofs.Prelude.{◌≡◌, ◌≤◌, ℕ, ◌+◌, ◌*◌, Bool, true, false, cond, ◌==◌, List, [], ◌∷◌, length, refl, arith, Option, Some, None, Ok, Err, Result, not, slice_index, option_and_then, option_map, result_ok, nat_tests, decode_of-ok, ◌>>=◌, decode_of, decode_pairs, digit_or_error, hex_digit_value, FromHexError, flags_of, hex_of, only_byte, shown_byte}
 
 given_ok : (r : Result (List ℕ) FromHexError) (bytes : List ℕ) → result_ok r ≡ Some bytes → r ≡ Ok bytes
 given_ok (Ok other) bytes h = cc

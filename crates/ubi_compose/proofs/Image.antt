@@ -1,24 +1,6 @@
 -- Eraseblocks that are laid out, one of each LEB, with spare ones behind them.
-use Rattle.std.proofs.Common.{◌≡◌, ℕ, ◌+◌, ◌-◌, ◌*◌, ◌/◌, ◌%◌, ◌^◌, ◌<◌, ◌≤◌, ◌⊎◌, inl, inr, List, [], ◌∷◌, ◌++◌, length, map, replicate, get_or, refl, ap, sym, ◌∙◌, subst, arith, length-append}
-use Rattle.std.specs.Prelude.{Some, flat_map, option_map, slice_get}
-use Rattle.std.specs.List.{AllByRecursion, concat}
-use Rattle.std.specs.Simd.{first_chunks}
-use Rattle.std.proofs.Math.Nat.{mul-add-mod_self_right}
-use Rattle.std.proofs.lemmas.List.{get_or-append_right, get_or-replicate, length-map, length-replicate, append_assoc}
-use Rattle.std.proofs.lemmas.List.Concat.{concat_is}
-use Rattle.std.proofs.lemmas.Nat.{div-mul-add, mul-le}
-use Rattle.std.proofs.lemmas.Option.{get_or_from_slice_get, slice_get-map, slice_get_cases, slice_get_within, same_Some}
-use Rattle.ubi_media.specs.Geometry.{IsGeometry, Sizes}
-use Rattle.ubi_scan.specs.Clean.{IsSound}
-use Rattle.ubi_scan.specs.Faults.{NoFault}
-use Rattle.ubi_scan.specs.Image.{IsWhole, block, eraseblocks}
-use Rattle.ubi_scan.specs.Members.{IsMember, Leb, NoMember, Wins, good_in, leb_of, named_in, sqnum_at, sqnum_in}
-use Rattle.ubi_scan.specs.Numbers.{image_seq, seq_of}
-use Rattle.ubi_scan.proofs.Chunks.{first_chunks-concat, length-concat}
-use Rattle.ubi_scan.proofs.Clean.{none_from_clean}
-use Rattle.ubi_scan.proofs.Seq.{seq_is}
-use Rattle.ubi_compose.specs.Composed.{spare}
-use Rattle.ubi_compose.specs.Normal.{Laid, laid_bytes, new_ec}
+use Rattle.ubi_compose.proofs.Prelude.{◌≡◌, ℕ, ◌+◌, ◌-◌, ◌*◌, ◌/◌, ◌%◌, ◌^◌, ◌<◌, ◌≤◌, ◌⊎◌, inl, inr, List, [], ◌∷◌, ◌++◌, length, map, replicate, get_or, refl, ap, sym, ◌∙◌, subst, arith, length-append, Some, flat_map, option_map, slice_get, AllByRecursion, concat, first_chunks, mul-add-mod_self_right, get_or-append_right, get_or-replicate, length-map, length-replicate, concat_is, div-mul-add, mul-le, get_or_from_slice_get, slice_get-map, slice_get_cases, slice_get_within, same_Some, IsGeometry, Sizes, IsSound, NoFault, IsWhole, block, eraseblocks, IsMember, Leb, NoMember, Wins, good_in, leb_of, named_in, sqnum_at, sqnum_in, image_seq, seq_of, first_chunks-concat, length-concat, none_from_clean, seq_is, spare, Laid, laid_bytes, new_ec}
+use Rattle.std.proofs.lemmas.List.{append_assoc}
 use Rattle.ubi_compose.proofs.Apart.{AreApart, one_place}
 use Rattle.ubi_compose.proofs.Blocks.{IsFine, good-laid_bytes, length-laid_bytes, named-laid_bytes, seq-laid_bytes, sound-laid_bytes, sqnum-laid_bytes}
 use Rattle.ubi_compose.proofs.Lists.{Holds, all_at, slice_get_left}

@@ -1,8 +1,5 @@
 -- An eraseblock is laid piece by piece.
-use Rattle.std.proofs.Common.{◌≡◌, ℕ, ◌+◌, ◌-◌, List, [], ◌++◌, length, ap, sym, ◌∙◌, append_assoc, length-append, arith}
-use Rattle.ubi_media.specs.Fields.{blank, filled}
-use Rattle.ubi_media.specs.Geometry.{Sizes, IsGeometry, leb_size}
-use Rattle.ubi_scan.proofs.Filled.{filled-by}
+use Rattle.ubi_compose.proofs.Prelude.{◌≡◌, ℕ, ◌+◌, ◌-◌, List, [], ◌++◌, length, ap, sym, ◌∙◌, append_assoc, length-append, arith, blank, filled, Sizes, IsGeometry, leb_size, filled-by}
 use Rattle.ubi_scan.proofs.Parts as parts
 
 module _ (s : Sizes) (g : IsGeometry s) (ec vid text : List ℕ) (ec_size : length ec ≡ 64)

@@ -1,19 +1,6 @@
 -- The normal image is the same bytes with each page, and of what is told of a file the first accepts what another one
 -- does.
-use Rattle.std.proofs.Common.{◌≡◌, ℕ, List, refl, sym, ◌∙◌, subst}
-use Rattle.std.specs.Int.{◌∣◌}
-use Rattle.ubi_media.specs.Geometry.{Sizes}
-use Rattle.ubi_media.specs.OtherPage.{with_page}
-use Rattle.ubi_media.specs.Record.{rec_bytes}
-use Rattle.ubi_scan.proofs.LeastWay.{IsLesserTold, least_first}
-use Rattle.ubi_scan.specs.Image.{Image, image_of}
-use Rattle.ubi_scan.specs.declared.detect.Detected.{Detected}
-use Rattle.ubi_volume.specs.Accepts.{Accepts}
-use Rattle.ubi_volume.specs.Meant.{Meant}
-use Rattle.ubi_volume.specs.PageLaws.{image_with_page, meaning_with_page}
-use Rattle.ubi_volume.proofs.LesserPage.{lesser_page}
-use Rattle.ubi_compose.specs.Normal.{IsNormalised, normal_bytes}
-use Rattle.ubi_compose.specs.PageLaws.{AreTold, LeastTold, NormalWithLesserPage}
+use Rattle.ubi_compose.proofs.Prelude.{◌≡◌, ℕ, List, refl, sym, ◌∙◌, subst, ◌∣◌, Sizes, with_page, rec_bytes, IsLesserTold, least_first, Image, image_of, Detected, Accepts, Meant, image_with_page, meaning_with_page, lesser_page, IsNormalised, normal_bytes, AreTold, LeastTold, NormalWithLesserPage}
 
 same_normal : (m : Meant) (page : ℕ) → normal_bytes (meaning_with_page m page) ≡ normal_bytes m
 unfolding normal_bytes rec_bytes

@@ -55,3 +55,4 @@ pub mod TextAnswers
 pub mod VolumeLines
 pub mod Volumes
 pub mod WantedBytes
+pub mod Prelude

@@ -1,13 +1,6 @@
 -- The form of a line, and how many words it has.
-use Rattle.std.proofs.Common.{◌≡◌, ◌≤◌, ◌==◌, ℕ, List, true, map, length, take, refl, sym, ap, ◌∙◌, arith}
-use Rattle.std.specs.Prelude.{Option, Some, None, Err}
-use Rattle.std.proofs.lemmas.Bool.{and_parts, eqb-true}
-use Rattle.std.proofs.lemmas.List.{length-map, length-take, take_all, map-id}
-use Rattle.ubi_media.specs.Fields.{same_bytes}
-use Rattle.ubi_media.proofs.First.{found_passes}
-use Rattle.ubi_compose.specs.Lines.{first_word, form_of, forms, is_form, is_spelled, line_of, said, word, word_count, words}
+use Rattle.ubi_compose.proofs.Prelude.{◌≡◌, ◌≤◌, ◌==◌, ℕ, List, true, map, length, take, refl, sym, ap, ◌∙◌, arith, Option, Some, None, Err, and_parts, eqb-true, length-map, length-take, take_all, map-id, same_bytes, found_passes, first_word, form_of, forms, is_form, is_spelled, line_of, said, word, word_count, words, Form}
 use Rattle.ubi_compose.specs.declared.errors.SpecCause.TheVariants as cause
-use Rattle.ubi_compose.specs.declared.line.Form.{Form}
 use Rattle.ubi_compose.specs.declared.line.Form.TheVariants as form
 
 pub form_fits : {X : Type 0} (read : X → List ℕ) (ws : List X) (f : Form) → form_of (map read ws) ≡ Some f

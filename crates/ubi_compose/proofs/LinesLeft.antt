@@ -1,12 +1,6 @@
 -- The first line with a cause, read from the lines that are left.
-use Rattle.std.proofs.Common.{◌≡◌, ℕ, ◌+◌, List, [], ◌∷◌, ◌++◌, length, take, refl, ap, sym, ◌∙◌, arith, append_assoc}
-use Rattle.std.specs.Prelude.{Option, None, map, option_map}
-use Rattle.std.specs.List.{enumerate_from}
-use Rattle.std.specs.Option.{option_or}
-use Rattle.std.proofs.lemmas.List.{length_push, take_at}
-use Rattle.ubi_media.specs.Geometry.{Sizes}
-use Rattle.ubi_compose.specs.Spec.{cause_at, cause_of, first_cause, first_some, line_number, lines}
-use Rattle.ubi_compose.specs.declared.errors.SpecCause.{SpecCause}
+use Rattle.ubi_compose.proofs.Prelude.{◌≡◌, ℕ, ◌+◌, List, [], ◌∷◌, ◌++◌, length, take, refl, ap, sym, ◌∙◌, arith, append_assoc, Option, None, option_map, enumerate_from, option_or, length_push, take_at, Sizes, cause_at, cause_of, first_cause, first_some, line_number, lines, SpecCause}
+use Rattle.std.specs.Prelude.{map}
 
 -- the first of the lines that are left that has a cause, after those before
 abbrev pub first_left : Sizes → List (List ℕ) → List (List ℕ) → Option (ℕ × SpecCause)

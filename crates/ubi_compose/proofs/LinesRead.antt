@@ -1,19 +1,9 @@
 -- Reading a line of a text after those above it.
-use Rattle.std.proofs.Common.{append-nil, ◌≡◌, ℕ, Bool, true, false, List, [], ◌∷◌, ◌++◌, refl, ◌∙◌}
-use Rattle.std.specs.Prelude.{cond, IfOk, Option, Some, None, Result, Ok, Err}
-use Rattle.std.specs.Option.{ok_or, option_map_or}
-use Rattle.std.proofs.lemmas.List.Elements.{filter_map-append}
-use Rattle.ubi_media.specs.Geometry.{Sizes}
-use Rattle.ubi_media.specs.declared.vid.VolKind.{VolKind}
-use Rattle.ubi_compose.specs.inner.Drafts.{read, taken}
-use Rattle.ubi_compose.specs.Lines.{◌>>=◌, damaged_line, form_of, is_skipped, is_spelled, leb_line, line_of, number_word, said, text_line, updating_line, volume_line, word, words}
-use Rattle.ubi_compose.specs.Spec.{cause_after, cause_of, saying, sayings, volumes_in}
-use Rattle.ubi_compose.specs.Words.{flags_of, hex_of, kind_of, shown_name}
-use Rattle.ubi_compose.specs.declared.errors.SpecCause.{SpecCause}
+use Rattle.ubi_compose.proofs.Prelude.{append-nil, ◌≡◌, ℕ, Bool, true, false, List, [], ◌∷◌, ◌++◌, refl, ◌∙◌, IfOk, Option, Some, None, Result, Ok, Err, ok_or, option_map_or, filter_map-append, Sizes, VolKind, read, taken, damaged_line, form_of, is_skipped, is_spelled, leb_line, line_of, number_word, said, text_line, updating_line, volume_line, word, words, cause_after, cause_of, saying, sayings, volumes_in, flags_of, hex_of, kind_of, shown_name, SpecCause, Form, Line}
+use Rattle.std.specs.Prelude.{cond}
+use Rattle.ubi_compose.specs.Lines.{◌>>=◌}
 use Rattle.ubi_compose.specs.declared.errors.SpecCause.TheVariants as cause
-use Rattle.ubi_compose.specs.declared.line.Form.{Form}
 use Rattle.ubi_compose.specs.declared.line.Form.TheVariants as form
-use Rattle.ubi_compose.specs.declared.line.Line.{Line}
 use Rattle.ubi_compose.specs.declared.line.Line.TheVariants as line
 use Rattle.ubi_compose.proofs.VolumeLines.{is_filled}
 use Rattle.ubi_compose.proofs.Hexadecimal.{hex_filled}

@@ -1,25 +1,7 @@
 -- The parts of volumes that have a meaning together.
-use Rattle.std.proofs.Common.{◌≡◌, ◌==◌, ℕ, zero, suc, ◌+◌, ◌*◌, ◌<◌, ◌≤◌, true, false, cond, List, [], ◌∷◌, length, map, refl, ap, sym, ◌∙◌, subst, arith, inl, inr}
-use Rattle.std.specs.Prelude.{Contains, None, Option, Some, find, fold, slice_get, sum_by}
-use Rattle.std.proofs.lemmas.Bool.Decides.{nat_tests}
-use Rattle.std.proofs.lemmas.List.Sums.{sum_by-cons}
-use Rattle.std.proofs.lemmas.Option.{get_or_from_slice_get, slice_get-get_or, slice_get-map, slice_get_within, same_Some}
+use Rattle.ubi_compose.proofs.Prelude.{◌≡◌, ◌==◌, ℕ, zero, suc, ◌+◌, ◌*◌, ◌<◌, ◌≤◌, true, false, cond, List, [], ◌∷◌, length, map, refl, ap, sym, ◌∙◌, subst, arith, inl, inr, Contains, None, Option, Some, find, fold, slice_get, sum_by, nat_tests, sum_by-cons, get_or_from_slice_get, slice_get-get_or, slice_get-map, slice_get_within, same_Some, blank, slots, rec_fault, usable, RecFault, within_or_past, usable_some, Source, length-blank, IsItem, NoCause, Volume, pieces_few, HaveMeaning, Parts, Reaches, item_of, items_of, most_blocks, pieces_of, text_of, HasParts, IsReadable, part_at, Part}
 use Rattle.std.specs.Option.{option_map}
-use Rattle.ubi_media.specs.Fields.{blank}
-use Rattle.ubi_media.specs.Geometry.{slots}
-use Rattle.ubi_media.specs.Record.{rec_fault, usable}
-use Rattle.ubi_media.specs.declared.record.RecFault.{RecFault}
-use Rattle.ubi_media.proofs.Cases.{within_or_past}
-use Rattle.ubi_media.proofs.Records.{usable_some}
-use Rattle.ubi_scan.specs.Source.{Source}
-use Rattle.ubi_scan.proofs.Filled.{length-blank}
-use Rattle.ubi_volume.specs.Made.{IsItem, NoCause}
-use Rattle.ubi_volume.specs.declared.content.Volume.{Volume}
 use Rattle.ubi_volume.specs.declared.errors.MeaningCause.TheVariants as cause
-use Rattle.ubi_volume.proofs.Pieces.{pieces_few}
-use Rattle.ubi_compose.specs.Built.{HaveMeaning, Parts, Reaches, item_of, items_of, most_blocks, pieces_of, text_of}
-use Rattle.ubi_compose.specs.inner.Building.{HasParts, IsReadable, part_at}
-use Rattle.ubi_compose.specs.declared.recipe.Part.{Part}
 use Rattle.ubi_compose.proofs.BuiltContents.{long_misfits, text_size}
 
 -- the part that is found by a number is listed, and has it

@@ -1,23 +1,13 @@
 -- The eraseblocks of a normal image can be laid out, and are of different LEBs.
-use Rattle.std.proofs.Common.{◌≡◌, ℕ, ◌<◌, List, length, refl, ap, arith}
+use Rattle.ubi_compose.proofs.Prelude.{◌≡◌, ℕ, ◌<◌, List, length, refl, ap, arith, AllByRecursion, range_with_len, IsGeometry, Sizes, data_pad, usable, VolumeRecord, Leb, layout, IsMeaning, IsVolume, Meant, pieces, Content, Volume, Laid, blocks_of, dynamic_block, layout_block, normal_blocks, static_part, volume_blocks, volume_is}
 use Rattle.std.specs.FinMap as finite
-use Rattle.std.specs.List.{AllByRecursion, range_with_len}
-use Rattle.ubi_media.specs.Geometry.{IsGeometry, Sizes}
-use Rattle.ubi_media.specs.Record.{data_pad, usable}
-use Rattle.ubi_media.specs.declared.record.VolumeRecord.{VolumeRecord}
-use Rattle.ubi_scan.specs.Members.{Leb, layout}
-use Rattle.ubi_volume.specs.Meant.{IsMeaning, IsVolume, Meant, pieces}
-use Rattle.ubi_volume.specs.declared.content.Content.{Content}
 use Rattle.ubi_volume.specs.declared.content.Content.TheVariants as content
-use Rattle.ubi_volume.specs.declared.content.Volume.{Volume}
-use Rattle.ubi_compose.specs.Normal.{Laid, blocks_of, dynamic_block, layout_block, normal_blocks, static_part, volume_blocks}
 use Rattle.ubi_compose.proofs.Apart.{AreApart, Differ}
 use Rattle.ubi_compose.proofs.Blocks.{IsFine}
 use Rattle.ubi_compose.proofs.Headers.{layout_fits, layout_placed, layout_sound}
 use Rattle.ubi_compose.proofs.Lists.{Holds, all_at, all_flat_map, all_from, held_entry}
 use Rattle.ubi_compose.proofs.Rising.{apart_flat_map, apart_map, entries_rise, range_rises}
 use Rattle.ubi_compose.proofs.Table.{table_fits}
-use Rattle.ubi_volume.proofs.MeantRecords.{volume_is}
 use Rattle.ubi_compose.proofs.Volumes.{fine_volume, own_blocks}
 
 -- those of a volume are of different LEBs

@@ -1,26 +1,9 @@
 -- What a writer received of the normal image of a source: the copies of the table, and the volumes.
-use Rattle.std.proofs.Common.{◌≡◌, ℕ, inr, List, ◌++◌, length, take, refl, ap, sym, ◌∙◌, subst, arith}
-use Rattle.std.specs.Prelude.{Option, flat_map}
+use Rattle.ubi_compose.proofs.Prelude.{◌≡◌, ℕ, inr, List, ◌++◌, length, take, refl, ap, sym, ◌∙◌, subst, arith, Option, flat_map, Appends, take_all, Sizes, plain, image_of, layout, Agreed, Source, StreamError, table_bytes, Meant, ArePlaces, ArePlacesOf, Placed, laid_text, normal_text, volumes_text, laid_bytes, layout_block, new_ec, normal_bytes, IsNormaliseToError, IsNormalisedTo, All, IsWroteError, Wanted, Wrote, Splits, error_behind, error_front, wrote_more}
 use Rattle.std.specs.FinMap as finite
-use Rattle.std.specs.Io.KnownBytes.{Appends}
-use Rattle.std.proofs.lemmas.List.{take_all}
-use Rattle.ubi_media.specs.Geometry.{Sizes}
-use Rattle.ubi_media.specs.Vid.{plain}
 use Rattle.ubi_media.specs.declared.vid.VolKind.TheVariants as kind
-use Rattle.ubi_scan.specs.Image.{image_of}
-use Rattle.ubi_scan.specs.Members.{layout}
-use Rattle.ubi_scan.specs.Source.{Agreed, Source}
-use Rattle.ubi_scan.specs.declared.errors.StreamError.{StreamError}
 use Rattle.ubi_scan.specs.declared.errors.StreamError.TheVariants as stream
-use Rattle.ubi_table.specs.Records.{table_bytes}
-use Rattle.ubi_volume.specs.Meant.{Meant}
-use Rattle.ubi_volume.specs.Places.{ArePlaces, ArePlacesOf, Placed}
-use Rattle.ubi_compose.specs.inner.Streaming.{laid_text, normal_text, volumes_text}
 use Rattle.ubi_compose.specs.Normal as normal
-use Rattle.ubi_compose.specs.Normal.{laid_bytes, layout_block, new_ec, normal_bytes}
-use Rattle.ubi_compose.specs.Streamed.{IsNormaliseToError, IsNormalisedTo}
-use Rattle.ubi_volume.specs.Wrote.{All, IsWroteError, Wanted, Wrote}
-use Rattle.ubi_volume.proofs.Received.{Splits, error_behind, error_front, wrote_more}
 
 module _ (s : Sizes) (p : Placed) (table : List ℕ) (bytes : table ≡ table_bytes p.records) where
   -- a copy of the table, and what follows the first

@@ -1,24 +1,10 @@
 -- Eraseblocks of normal images on literals.
-use Rattle.std.proofs.Common.{◌≡◌, ℕ, false, List, [], ◌∷◌, ◌++◌, length, map, replicate, refl, ap, ◌∙◌}
-use Rattle.std.specs.Prelude.{None, Option, flat_map, option_map}
+use Rattle.ubi_compose.proofs.Prelude.{◌≡◌, ℕ, false, List, [], ◌∷◌, ◌++◌, length, map, replicate, refl, ap, ◌∙◌, None, Option, flat_map, option_map, repeat, nat_cmp, ap₂, check_from, remainder, filled, empty_record, rec_bytes, vid_bytes, VolumeRecord, small, sorted_entries, Meant, records_of, Volume, no_entries, spare, Laid, blocks_of, damaged_block, dynamic_block, laid_bytes, layout_block, new_ec, normal_bytes, static_blocks, volume_blocks}
 use Rattle.std.specs.FinMap as finite
-use Rattle.std.specs.List.{repeat}
-use Rattle.std.specs.Ordering.{nat_cmp}
-use Rattle.std.proofs.Math.Path.{ap₂}
-use Rattle.ubi_media.specs.Check.{check_from, remainder}
-use Rattle.ubi_media.specs.Fields.{filled}
-use Rattle.ubi_media.specs.Record.{empty_record, rec_bytes}
-use Rattle.ubi_media.specs.Vid.{fields_from, vid_bytes}
-use Rattle.ubi_media.specs.declared.record.VolumeRecord.{VolumeRecord}
+use Rattle.ubi_media.specs.Vid.{fields_from}
 use Rattle.ubi_media.specs.declared.vid.VolKind.TheVariants as kind
-use Rattle.ubi_media.proofs.Words.{small, words}
-use Rattle.ubi_scan.proofs.Entries.{sorted_entries}
-use Rattle.ubi_volume.specs.Meant.{Meant, records_of}
+use Rattle.ubi_media.proofs.Words.{words}
 use Rattle.ubi_volume.specs.declared.content.Content.TheVariants as content
-use Rattle.ubi_volume.specs.declared.content.Volume.{Volume}
-use Rattle.ubi_table.proofs.NoRecords.{no_entries}
-use Rattle.ubi_compose.specs.Composed.{spare}
-use Rattle.ubi_compose.specs.Normal.{Laid, blocks_of, damaged_block, dynamic_block, laid_bytes, layout_block, new_ec, normal_bytes, static_blocks, volume_blocks}
 use Rattle.ubi_volume.proofs.Recorded.{record_of}
 
 -- the erase-counter header of each eraseblock

@@ -1,17 +1,7 @@
 -- An eraseblock whose text was read from a place.
-use Rattle.std.proofs.Common.{◌≡◌, ℕ, ◌+◌, ◌-◌, ◌*◌, ◌/◌, ◌<◌, ◌≤◌, Bool, true, false, cond, List, [], ◌++◌, length, take, drop, slice_range, ap, sym, ◌∙◌, arith, length-take-le}
-use Rattle.std.proofs.Math.Seq.{drop-append_seam, take-append_seam}
-use Rattle.std.proofs.lemmas.List.{take-take}
-use Rattle.ubi_media.specs.Check.{check}
-use Rattle.ubi_media.specs.Fields.{is_blank}
-use Rattle.ubi_media.specs.Geometry.{Sizes}
-use Rattle.ubi_media.specs.declared.vid.VidHeader.{VidHeader}
+use Rattle.ubi_compose.proofs.Prelude.{◌≡◌, ℕ, ◌+◌, ◌-◌, ◌*◌, ◌/◌, ◌<◌, ◌≤◌, Bool, true, false, cond, List, [], ◌++◌, length, take, drop, slice_range, ap, sym, ◌∙◌, arith, length-take-le, drop-append_seam, take-append_seam, take-take, check, is_blank, Sizes, VidHeader, block, leb, vid, vid_area, get_or-first_chunks, kept_bytes, laid_bytes, new_ec, piece_header, static_block}
 use Rattle.ubi_media.specs.declared.vid.VidRead.TheVariants as vid_read
-use Rattle.ubi_scan.specs.Image.{block, leb, vid, vid_area}
 use Rattle.ubi_scan.specs.Source.{blocks_of}
-use Rattle.ubi_scan.proofs.Chunks.{get_or-first_chunks}
-use Rattle.ubi_compose.specs.inner.Streaming.{kept_bytes}
-use Rattle.ubi_compose.specs.Normal.{laid_bytes, new_ec, piece_header, static_block}
 
 -- what was put behind the headers' bytes
 pub text_is : (xs text rest : List ℕ) (n : ℕ) → length xs ≡ n

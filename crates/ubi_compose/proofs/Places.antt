@@ -1,12 +1,6 @@
 -- Where the volume with a number stands.
-use Rattle.std.proofs.Common.{add-zero, ◌≡◌, ◌<◌, ℕ, ◌+◌, ◌==◌, Bool, true, false, cond, List, [], ◌∷◌, ◌++◌, length, map, refl, sym, ap, ◌∙◌, arith}
-use Rattle.std.specs.Prelude.{Option, Some, None, find, is_some, option_map, slice_get, slice_set}
-use Rattle.std.specs.List.{position_from}
-use Rattle.std.specs.Option.{option_or}
-use Rattle.std.proofs.lemmas.Bool.Decides.{nat_tests}
-use Rattle.std.proofs.lemmas.List.{get_or_at, length-append, length-map, map-append, set_at}
-use Rattle.std.proofs.lemmas.Option.{slice_get-get_or, slice_get-map}
-use Rattle.std.proofs.lemmas.List.Folds.{find-append}
+use Rattle.ubi_compose.proofs.Prelude.{add-zero, ◌≡◌, ◌<◌, ℕ, ◌+◌, ◌==◌, Bool, true, false, cond, List, [], ◌∷◌, ◌++◌, length, map, refl, sym, ap, ◌∙◌, arith, Option, Some, None, find, is_some, option_map, slice_get, slice_set, position_from, option_or, nat_tests, get_or_at, length-map, map-append, set_at, slice_get-get_or, slice_get-map, find-append}
+use Rattle.std.proofs.lemmas.List.{length-append}
 
 abbrev has : {X : Type 0} → ℕ → ℕ × X → Bool
 has id e = e.0 == id

@@ -1,24 +1,9 @@
 -- Eraseblocks that are laid in order.
-use Rattle.std.proofs.Common.{◌≡◌, ℕ, ◌+◌, List, [], ◌∷◌, ◌++◌, ◌<◌, get_or, length, map, replicate, take, append_assoc, append-nil, arith, length-append, ap, sym, ◌∙◌, zero-add}
+use Rattle.ubi_compose.proofs.Prelude.{◌≡◌, ℕ, ◌+◌, List, [], ◌∷◌, ◌++◌, ◌<◌, get_or, length, map, replicate, take, append_assoc, append-nil, arith, length-append, ap, sym, ◌∙◌, zero-add, range_with_len, flat_map-append, take_more, length-map-range_with_len, flat_map-map, Sizes, data_pad, usable, plain, VolumeRecord, VidHeader, pieces_more, pieces, share, Meant, Content, Volume, composed, spare, Laid, blocks_of, damaged_block, dynamic_block, laid_bytes, layout_block, new_ec, normal_bytes, static_block, static_blocks, volume_blocks}
 use Rattle.std.specs.FinMap as finite
-use Rattle.std.specs.List.{flat_map, range_with_len}
-use Rattle.std.proofs.lemmas.Grind.{flat_map-append}
-use Rattle.std.proofs.lemmas.List.{take_more}
-use Rattle.std.proofs.lemmas.List.FromFn.{length-map-range_with_len}
-use Rattle.std.proofs.lemmas.List.Folds.{flat_map-map}
-use Rattle.ubi_media.specs.Geometry.{Sizes}
-use Rattle.ubi_media.specs.Record.{data_pad, usable}
-use Rattle.ubi_media.specs.Vid.{plain}
-use Rattle.ubi_media.specs.declared.record.VolumeRecord.{VolumeRecord}
-use Rattle.ubi_media.specs.declared.vid.VidHeader.{VidHeader}
+use Rattle.std.specs.List.{flat_map}
 use Rattle.ubi_media.specs.declared.vid.VolKind.TheVariants as kind
-use Rattle.ubi_table.proofs.ReadBack.{pieces_more}
-use Rattle.ubi_volume.specs.Meant.{pieces, share, Meant}
-use Rattle.ubi_volume.specs.declared.content.Content.{Content}
 use Rattle.ubi_volume.specs.declared.content.Content.TheVariants as content
-use Rattle.ubi_volume.specs.declared.content.Volume.{Volume}
-use Rattle.ubi_compose.specs.Composed.{composed, spare}
-use Rattle.ubi_compose.specs.Normal.{Laid, blocks_of, damaged_block, dynamic_block, laid_bytes, layout_block, new_ec, normal_bytes, static_block, static_blocks, volume_blocks}
 
 -- one more behind the others
 pub put_more : (f : ℕ → List ℕ) (n : ℕ) (front image next x : List ℕ) → image ≡ front ++ flat_map f (range_with_len 0 n)

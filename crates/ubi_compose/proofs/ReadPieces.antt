@@ -1,33 +1,8 @@
 -- Pieces of the bytes of a part: how they are read, and what a writer receives of each.
-use Rattle.std.proofs.Common.{◌≡◌, ℕ, ◌+◌, ◌-◌, ◌*◌, ◌/◌, ◌<◌, ◌≤◌, List, [], ◌++◌, length, length-take-le, slice_range, take, drop, refl, ap, sym, ◌∙◌, arith, inl, inr}
-use Rattle.std.specs.Prelude.{Option, min}
-use Rattle.std.specs.Int.{div_ceil}
-use Rattle.std.proofs.KnownBytes.{Appends-nil}
-use Rattle.std.proofs.lemmas.Grind.{div_ceil_times}
-use Rattle.std.proofs.lemmas.Nat.{mul-le}
-use Rattle.std.proofs.lemmas.List.{drop-drop, drop-take, length-take, take-take, take_all}
-use Rattle.ubi_media.specs.Fields.{blank, filled}
-use Rattle.ubi_media.specs.Geometry.{Sizes}
-use Rattle.ubi_media.specs.Record.{data_pad, usable}
-use Rattle.ubi_media.specs.Vid.{plain}
-use Rattle.ubi_media.specs.declared.vid.VidHeader.{VidHeader}
+use Rattle.ubi_compose.proofs.Prelude.{◌≡◌, ℕ, ◌+◌, ◌-◌, ◌*◌, ◌/◌, ◌<◌, ◌≤◌, List, [], ◌++◌, length, length-take-le, slice_range, take, drop, refl, ap, sym, ◌∙◌, arith, inl, inr, Option, min, div_ceil, Appends-nil, div_ceil_times, mul-le, drop-drop, drop-take, length-take, take-take, take_all, blank, filled, Sizes, data_pad, usable, plain, VidHeader, within_or_past, Agreed, Source, sound, StreamError, filled-is, pieces, share, pieces_few, pieces_suffice, IsWroteError, Wanted, IsPartOf, Parts, pieces_of, text_of, laid_bytes, new_ec, static_block, IsUnbuilt, IsWriteFault, dynamic_piece, of_write, static_piece, kept_bytes, kept_text, laid_text, Part}
 use Rattle.ubi_media.specs.declared.vid.VolKind.TheVariants as kind
-use Rattle.ubi_media.proofs.Cases.{within_or_past}
-use Rattle.ubi_scan.specs.Source.{Agreed, Source}
-use Rattle.ubi_scan.specs.inner.Held.{sound}
-use Rattle.ubi_scan.specs.declared.errors.StreamError.{StreamError}
 use Rattle.ubi_scan.specs.declared.errors.StreamError.TheVariants as stream
-use Rattle.ubi_scan.proofs.Filled.{filled-is}
-use Rattle.ubi_volume.specs.Meant.{pieces, share}
-use Rattle.ubi_volume.proofs.Pieces.{pieces_few, pieces_suffice}
-use Rattle.ubi_volume.specs.Wrote.{IsWroteError, Wanted}
-use Rattle.ubi_compose.specs.Building.{IsPartOf}
-use Rattle.ubi_compose.specs.Built.{Parts, pieces_of, text_of}
-use Rattle.ubi_compose.specs.Normal.{laid_bytes, new_ec, static_block}
-use Rattle.ubi_compose.specs.inner.Building.{IsUnbuilt, IsWriteFault, dynamic_piece, of_write, static_piece}
-use Rattle.ubi_compose.specs.inner.Streaming.{kept_bytes, kept_text, laid_text}
 use Rattle.ubi_compose.specs.declared.errors.BuildError.TheVariants as build
-use Rattle.ubi_compose.specs.declared.recipe.Part.{Part}
 use Rattle.ubi_compose.proofs.BuiltContents.{text_size}
 use Rattle.ubi_compose.proofs.Puts.{static_is}
 

@@ -1,23 +1,7 @@
 -- What is known of a text as far as its lines were read.
-use Rattle.std.proofs.Common.{◌≡◌, ◌<◌, ℕ, ◌+◌, Bool, true, false, cond, List, [], ◌∷◌, ◌++◌, length, map, drop, get_or, refl, sym, ap, ◌∙◌, arith}
-use Rattle.std.specs.Prelude.{Option, Some, None, Ok, Err, min, option_map}
-use Rattle.std.specs.List.{AllByRecursion, list_any}
-use Rattle.std.specs.Option.{option_or}
-use Rattle.std.proofs.lemmas.List.{drop_all, drop_more, length_push}
-use Rattle.std.proofs.lemmas.List.Elements.{All-from_recursion}
-use Rattle.ubi_media.specs.Geometry.{Sizes}
-use Rattle.ubi_media.specs.Record.{breaks, fields_from, first_fault, rec_fault}
-use Rattle.ubi_media.specs.declared.record.VolumeRecord.{VolumeRecord}
-use Rattle.ubi_volume.specs.Made.{Items}
-use Rattle.ubi_volume.specs.declared.content.Content.{Content}
+use Rattle.ubi_compose.proofs.Prelude.{◌≡◌, ◌<◌, ℕ, ◌+◌, Bool, true, false, cond, List, [], ◌∷◌, ◌++◌, length, map, drop, get_or, refl, sym, ap, ◌∙◌, arith, Option, Some, None, Ok, Err, min, option_map, AllByRecursion, list_any, option_or, drop_all, drop_more, length_push, All-from_recursion, Sizes, breaks, fields_from, first_fault, rec_fault, VolumeRecord, Items, Content, Volume, AreFaultless, IsRefused, error_at, read, IsSpecError, cause_of, first_cause, is_damaged, is_dynamic, is_updating, line_number, lines, numbered_volume, of_volume, sayings, volume_from, volumes_in, volumes_of, LineError, SpecCause, Line}
 use Rattle.ubi_volume.specs.declared.content.Content.TheVariants as content
-use Rattle.ubi_volume.specs.declared.content.Volume.{Volume}
-use Rattle.ubi_compose.specs.inner.Drafts.{AreFaultless, IsRefused, error_at, read}
-use Rattle.ubi_compose.specs.Spec.{IsSpecError, cause_of, first_cause, is_damaged, is_dynamic, is_updating, line_number, lines, numbered_volume, of_volume, sayings, volume_from, volumes_in, volumes_of}
-use Rattle.ubi_compose.specs.declared.errors.LineError.{LineError}
 use Rattle.ubi_compose.specs.declared.errors.LineError.TheVariants as line_error
-use Rattle.ubi_compose.specs.declared.errors.SpecCause.{SpecCause}
-use Rattle.ubi_compose.specs.declared.line.Line.{Line}
 use Rattle.ubi_compose.proofs.LinesLeft.{first_from_start, first_left}
 use Rattle.ubi_compose.proofs.LinesRead.{read_more, sound_read}
 use Rattle.ubi_compose.proofs.Sound.{AreRight, IsSoundText, no_lines}

@@ -1,26 +1,9 @@
 -- A normal image fits the device: a volume has no more eraseblocks than it reserves.
-use Rattle.std.proofs.Common.{take-append-drop, ◌≡◌, ℕ, ◌+◌, ◌<◌, ◌≤◌, List, [], ◌∷◌, ◌++◌, drop, length, map, take, sym, ap, ◌∙◌, subst, arith}
-use Rattle.std.specs.Prelude.{IfSome, Option, flat_map, fold}
+use Rattle.ubi_compose.proofs.Prelude.{take-append-drop, ◌≡◌, ℕ, ◌+◌, ◌<◌, ◌≤◌, List, [], ◌∷◌, ◌++◌, drop, length, map, take, sym, ap, ◌∙◌, subst, arith, IfSome, Option, flat_map, fold, FinMap, AllByRecursion, nat_cmp, length-map, flat_map-append, length-map-range_with_len, Sizes, data_pad, usable, usable_some, Fits, IsMeaning, IsVolume, Meant, pieces, Content, Volume, HasRoom, blocks_of, dynamic_block, normal_blocks, static_part, volume_blocks, reserved_some, pieces_few, volume_is}
 use Rattle.std.specs.FinMap as finite
-use Rattle.std.specs.FinMap.{FinMap}
-use Rattle.std.specs.List.{AllByRecursion}
-use Rattle.std.specs.Ordering.{nat_cmp}
-use Rattle.std.proofs.lemmas.List.{length-append, length-map}
-use Rattle.std.proofs.lemmas.Grind.{flat_map-append}
-use Rattle.std.proofs.lemmas.List.FromFn.{length-map-range_with_len}
-use Rattle.ubi_media.specs.Geometry.{Sizes}
-use Rattle.ubi_media.specs.Record.{data_pad, usable}
-use Rattle.ubi_media.proofs.Records.{usable_some}
-use Rattle.ubi_volume.specs.Meant.{Fits, IsMeaning, IsVolume, Meant, pieces}
-use Rattle.ubi_volume.specs.declared.content.Content.{Content}
+use Rattle.std.proofs.lemmas.List.{length-append}
 use Rattle.ubi_volume.specs.declared.content.Content.TheVariants as content
-use Rattle.ubi_volume.specs.declared.content.Volume.{Volume}
-use Rattle.ubi_compose.specs.Composed.{HasRoom}
-use Rattle.ubi_compose.specs.Normal.{blocks_of, dynamic_block, normal_blocks, static_part, volume_blocks}
 use Rattle.ubi_compose.proofs.Lists.{all_from, held_entry}
-use Rattle.ubi_media.proofs.Padding.{reserved_some}
-use Rattle.ubi_volume.proofs.Pieces.{pieces_few}
-use Rattle.ubi_volume.proofs.MeantRecords.{volume_is}
 use Rattle.ubi_compose.proofs.Rising.{Rises, entries_rise}
 
 -- numbers that rise, from k on and below n, are no more than those between

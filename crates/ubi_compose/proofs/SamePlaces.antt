@@ -1,40 +1,10 @@
 -- Whether two images mean the same, by their places and the bytes of their LEBs.
-use Rattle.std.proofs.Common.{◌≡◌, ℕ, ◌+◌, ◌*◌, ◌<◌, inl, inr, ◌==◌, ◌&&◌, Bool, true, false, Decides, List, [], ◌∷◌, ◌++◌, length, take, get_or, refl, ap, sym, ◌∙◌, subst, arith}
-use Rattle.std.specs.Prelude.{◌↔◌, Err, IsSome, IsTrue, None, Ok, Option, Some}
-use Rattle.std.specs.Cmp.{nat_cmp_total, unsigned_Decides}
-use Rattle.std.specs.Cmp.Lexicographic.{pointwise}
+use Rattle.ubi_compose.proofs.Prelude.{◌≡◌, ℕ, ◌+◌, ◌*◌, ◌<◌, inl, inr, ◌==◌, ◌&&◌, Bool, true, false, Decides, List, [], ◌∷◌, ◌++◌, length, take, get_or, refl, ap, sym, ◌∙◌, subst, arith, ◌↔◌, Err, IsSome, IsTrue, None, Ok, Option, Some, nat_cmp_total, unsigned_Decides, pointwise, FinMap, nat_cmp-IsAntisymmetric, same_entries_map, nat_cmp, false≢true, cases_lt, Decides-and, Decides-like, take_all, take_more, same_Some, slice_eq-Decides, Sizes, usable, VolumeRecord, image_of, Records, extent_in, extent_of, leb_bytes, share_len, ContentIs, Meant, share, ArePlaces, Placed, case_of, leb_text, Content, Volume, ReadError, Extent, PlaceContent, record_Decides, extent_at, leb_is, piece_is, same_Ok, same_range, static_is, kept_alike, outside, HasCase, case_is, content_has, content_is, AreSameLebs, IsSameLeb, TellsVolume}
 use Rattle.std.specs.FinMap as finite
-use Rattle.std.specs.FinMap.{FinMap, nat_cmp-IsAntisymmetric, same_entries_map}
-use Rattle.std.specs.Ordering.{nat_cmp}
-use Rattle.std.proofs.lemmas.Bool.{false≢true, cases_lt}
-use Rattle.std.proofs.lemmas.Bool.Decides.{Decides-and, Decides-like}
-use Rattle.std.proofs.lemmas.List.{take_all, take_more}
-use Rattle.std.proofs.lemmas.Option.{same_Some}
-use Rattle.std.proofs.lemmas.Slice.Eq.{slice_eq-Decides}
-use Rattle.ubi_media.specs.Geometry.{Sizes}
-use Rattle.ubi_media.specs.Record.{usable}
 use Rattle.ubi_media.specs.contracts.record.VolumeRecordPartialEq.TheImpl as record_eq
-use Rattle.ubi_media.specs.declared.record.VolumeRecord.{VolumeRecord}
-use Rattle.ubi_scan.specs.Image.{image_of}
-use Rattle.ubi_table.specs.Records.{Records}
-use Rattle.ubi_volume.specs.Extract.{extent_in, extent_of, leb_bytes, share_len}
-use Rattle.ubi_volume.specs.inner.Gathered.{ContentIs}
-use Rattle.ubi_volume.specs.Meant.{Meant, share}
 use Rattle.ubi_scan.specs.Source.{blocks_of}
-use Rattle.ubi_volume.specs.Places.{ArePlaces, Placed, case_of}
-use Rattle.ubi_volume.specs.Reading.{leb_text}
-use Rattle.ubi_volume.specs.declared.content.Content.{Content}
 use Rattle.ubi_volume.specs.declared.content.Content.TheVariants as content
-use Rattle.ubi_volume.specs.declared.content.Volume.{Volume}
-use Rattle.ubi_volume.specs.declared.errors.ReadError.{ReadError}
-use Rattle.ubi_volume.specs.declared.places.Extent.{Extent}
-use Rattle.ubi_volume.specs.declared.places.PlaceContent.{PlaceContent}
 use Rattle.ubi_volume.specs.declared.places.PlaceContent.TheVariants as place
-use Rattle.ubi_volume.proofs.Equal.{record_Decides}
-use Rattle.ubi_volume.proofs.Extracted.{extent_at, leb_is, piece_is, same_Ok, same_range, static_is}
-use Rattle.ubi_volume.proofs.One.{kept_alike, outside}
-use Rattle.ubi_volume.proofs.VolumeAt.{HasCase, case_is, content_has, content_is}
-use Rattle.ubi_compose.specs.inner.Comparing.{AreSameLebs, IsSameLeb, TellsVolume}
 use Rattle.ubi_compose.proofs.StoredVolumes.{count, volume_at}
 
 -- one fact told by another

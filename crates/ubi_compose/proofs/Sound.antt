@@ -1,19 +1,7 @@
 -- What is known of lines without a cause.
-use Rattle.std.proofs.Common.{◌≡◌, ℕ, ◌==◌, ◌&&◌, Bool, true, false, List, [], ◌∷◌, ◌++◌, refl, sym, ap, ◌∙◌}
-use Rattle.std.specs.Prelude.{cond, Option, Some, None, find, is_some, not, option_map}
-use Rattle.std.specs.Bool.{then_some}
-use Rattle.std.specs.List.{AllByRecursion, list_all}
-use Rattle.std.specs.Option.{option_map_or, option_or}
-use Rattle.std.proofs.lemmas.List.Folds.{find-append, list_all-append}
-use Rattle.ubi_media.specs.Geometry.{Sizes}
-use Rattle.ubi_media.specs.Record.{rec_fault}
-use Rattle.ubi_media.specs.declared.record.RecFault.{RecFault}
-use Rattle.ubi_media.specs.declared.record.VolumeRecord.{VolumeRecord}
-use Rattle.ubi_compose.specs.Lines.{volume_of}
-use Rattle.ubi_compose.specs.Spec.{content_cause, heading, later_cause, may_follow, of_volume, record_of, suits}
-use Rattle.ubi_compose.specs.declared.errors.SpecCause.{SpecCause}
+use Rattle.ubi_compose.proofs.Prelude.{◌≡◌, ℕ, ◌==◌, ◌&&◌, Bool, true, false, List, [], ◌∷◌, ◌++◌, refl, sym, ap, ◌∙◌, Option, Some, None, find, is_some, not, option_map, then_some, AllByRecursion, list_all, option_map_or, option_or, find-append, list_all-append, Sizes, rec_fault, RecFault, VolumeRecord, volume_of, content_cause, heading, later_cause, may_follow, of_volume, record_of, suits, SpecCause, Line}
+use Rattle.std.specs.Prelude.{cond}
 use Rattle.ubi_compose.specs.declared.errors.SpecCause.TheVariants as cause
-use Rattle.ubi_compose.specs.declared.line.Line.{Line}
 use Rattle.ubi_compose.specs.declared.line.Line.TheVariants as line
 use Rattle.ubi_compose.proofs.VolumeLines.{is_filled, is_sound}
 use Rattle.ubi_compose.proofs.Headings.{headed, headings, headings_kept, headings_more, own_kept, own_more, record_headed, record_kept}

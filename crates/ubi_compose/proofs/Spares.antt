@@ -1,22 +1,7 @@
 -- A spare eraseblock is a member of no LEB, and has no fault.
-use Rattle.std.proofs.Common.{◌≡◌, ℕ, ◌-◌, ◌^◌, ◌<◌, ◌++◌, length, take, refl, ap, ◌∙◌, arith}
-use Rattle.std.specs.Prelude.{None, option_map}
-use Rattle.std.proofs.Math.Path.{ap₂}
-use Rattle.std.proofs.lemmas.List.{take_at}
-use Rattle.ubi_media.specs.Ec.{ec_bytes, ec_reading}
-use Rattle.ubi_media.specs.Fields.{blank}
-use Rattle.ubi_media.specs.Geometry.{IsGeometry, Sizes}
-use Rattle.ubi_media.specs.Vid.{vid_reading}
+use Rattle.ubi_compose.proofs.Prelude.{◌≡◌, ℕ, ◌-◌, ◌^◌, ◌<◌, ◌++◌, length, take, refl, ap, ◌∙◌, arith, None, option_map, ap₂, take_at, ec_bytes, ec_reading, blank, IsGeometry, Sizes, vid_reading, IsSound, ec, vid, vid_area, foreign, foreign_if, leb_of, member, member_if, named_in, seq_if, seq_of, behind, filled-is, length-filled, blank_vid, spare, new_ec}
 use Rattle.ubi_media.specs.declared.ec.EcRead.TheVariants as ec_read
 use Rattle.ubi_media.specs.declared.vid.VidRead.TheVariants as vid_read
-use Rattle.ubi_scan.specs.Clean.{IsSound}
-use Rattle.ubi_scan.specs.Image.{ec, vid, vid_area}
-use Rattle.ubi_scan.specs.Members.{foreign, foreign_if, leb_of, member, member_if, named_in}
-use Rattle.ubi_scan.specs.Numbers.{seq_if, seq_of}
-use Rattle.ubi_scan.proofs.Filled.{behind, filled-is, length-filled}
-use Rattle.ubi_scan.proofs.Parts.{blank_vid}
-use Rattle.ubi_compose.specs.Composed.{spare}
-use Rattle.ubi_compose.specs.Normal.{new_ec}
 use Rattle.ubi_compose.proofs.Blocks.{new_ec_back}
 
 module _ (s : Sizes) (g : IsGeometry s) (seq : ℕ) (narrow : seq < 2 ^ 32) where

@@ -1,20 +1,8 @@
 -- The composer's text on literals: the first line with a cause, and the volumes.
-use Rattle.std.proofs.Common.{◌≡◌, false, true, [], ◌∷◌, ◌++◌, replicate, refl}
-use Rattle.std.specs.Prelude.{⊤, Some, None, codes}
-use Rattle.std.specs.FinMap.{from_entries}
-use Rattle.std.specs.Fmt.{digits}
-use Rattle.hex.specs.Hex.{decode_pairs}
-use Rattle.ubi_media.specs.Fields.{filled}
-use Rattle.ubi_media.specs.Record.{breaks, fields_from, first_fault}
+use Rattle.ubi_compose.proofs.Prelude.{◌≡◌, false, true, [], ◌∷◌, ◌++◌, replicate, refl, ⊤, Some, None, codes, from_entries, digits, decode_pairs, filled, breaks, fields_from, first_fault, VolumeRecord, small, spec_error_text, damaged_line, form_of, leb_line, line_of, text_line, updating_line, volume_line, cause_of, content_cause, first_cause, later_cause, record_of, saying, sayings, volume_from, volumes_in, volumes_of, flags_of, hex_of, is_number, kind_of, number_of, shown_bytes, shown_name}
 use Rattle.ubi_media.specs.declared.record.RecFault.TheVariants as fault
-use Rattle.ubi_media.specs.declared.record.VolumeRecord.{VolumeRecord}
 use Rattle.ubi_media.specs.declared.vid.VolKind.TheVariants as kind
-use Rattle.ubi_media.proofs.Words.{small}
 use Rattle.ubi_volume.specs.declared.content.Content.TheVariants as content
-use Rattle.ubi_compose.specs.ErrorTexts.{spec_error_text}
-use Rattle.ubi_compose.specs.Lines.{damaged_line, form_of, leb_line, line_of, text_line, updating_line, volume_line}
-use Rattle.ubi_compose.specs.Spec.{cause_of, content_cause, first_cause, later_cause, record_of, saying, sayings, volume_from, volumes_in, volumes_of}
-use Rattle.ubi_compose.specs.Words.{flags_of, hex_of, is_number, kind_of, number_of, shown_bytes, shown_name}
 use Rattle.ubi_compose.specs.declared.errors.SpecCause.TheVariants as cause
 use Rattle.ubi_compose.specs.declared.errors.SpecError.TheVariants as error
 

@@ -1,26 +1,10 @@
 -- Volumes are judged by what stands in for their bytes as they are by the bytes.
-use Rattle.std.proofs.Common.{◌≡◌, ℕ, ◌+◌, ◌*◌, ◌<◌, ◌≤◌, ◌&&◌, Bool, true, false, cond, not, List, [], ◌∷◌, length, map, refl, ap, sym, ◌∙◌, subst, arith, inl, inr}
-use Rattle.std.specs.Prelude.{None, Option, Some, fold, is_none, nat_lt, slice_get, IfSome}
+use Rattle.ubi_compose.proofs.Prelude.{◌≡◌, ℕ, ◌+◌, ◌*◌, ◌<◌, ◌≤◌, ◌&&◌, Bool, true, false, cond, List, [], ◌∷◌, length, map, refl, ap, sym, ◌∙◌, subst, arith, inl, inr, None, Option, Some, fold, is_none, nat_lt, slice_get, IfSome, nat_cmp, nat_tests, Sizes, rec_fault, usable, RecFault, VolumeRecord, VolKind, usable_some, IsBefore, IsFirst, IsItem, NoCause, Stands, rank, Fits, Content, Volume, MeaningCause, Reaches, content_of, items_of, text_of, empty_of, is_long, stand_in, stand_in_item, Part}
+use Rattle.std.proofs.Common.{not}
 use Rattle.std.specs.FinMap as finite
-use Rattle.std.specs.Ordering.{nat_cmp}
-use Rattle.std.proofs.lemmas.Bool.Decides.{nat_tests}
-use Rattle.ubi_media.specs.Geometry.{Sizes}
-use Rattle.ubi_media.specs.Record.{rec_fault, usable}
-use Rattle.ubi_media.specs.declared.record.RecFault.{RecFault}
-use Rattle.ubi_media.specs.declared.record.VolumeRecord.{VolumeRecord}
-use Rattle.ubi_media.specs.declared.vid.VolKind.{VolKind}
 use Rattle.ubi_media.specs.declared.vid.VolKind.TheVariants as kind
-use Rattle.ubi_media.proofs.Records.{usable_some}
-use Rattle.ubi_volume.specs.Made.{IsBefore, IsFirst, IsItem, NoCause, Stands, rank}
-use Rattle.ubi_volume.specs.Meant.{Fits}
-use Rattle.ubi_volume.specs.declared.content.Content.{Content}
 use Rattle.ubi_volume.specs.declared.content.Content.TheVariants as content
-use Rattle.ubi_volume.specs.declared.content.Volume.{Volume}
-use Rattle.ubi_volume.specs.declared.errors.MeaningCause.{MeaningCause}
 use Rattle.ubi_volume.specs.declared.errors.MeaningCause.TheVariants as cause
-use Rattle.ubi_compose.specs.Built.{Reaches, content_of, items_of, text_of}
-use Rattle.ubi_compose.specs.inner.Building.{empty_of, is_long, stand_in, stand_in_item}
-use Rattle.ubi_compose.specs.declared.recipe.Part.{Part}
 use Rattle.ubi_compose.proofs.BuiltContents.{content_fits, long_misfits, text_size}
 use Rattle.ubi_compose.proofs.ListedParts.{item_at, item_from, reached}
 

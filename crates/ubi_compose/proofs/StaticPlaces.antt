@@ -1,43 +1,13 @@
 -- The static text of a volume, by the places of its LEBs.
-use Rattle.std.proofs.Common.{◌≡◌, ℕ, ◌+◌, ◌-◌, ◌*◌, ◌<◌, ◌≤◌, false, List, length, take, refl, ap, sym, ◌∙◌, subst, arith, zero-add}
-use Rattle.std.specs.Prelude.{None, Option, Some, flat_map, min}
+use Rattle.ubi_compose.proofs.Prelude.{◌≡◌, ℕ, ◌+◌, ◌-◌, ◌*◌, ◌<◌, ◌≤◌, false, List, length, take, refl, ap, sym, ◌∙◌, subst, arith, zero-add, None, Option, Some, flat_map, min, range_with_len, flat_map-map, check, Sizes, data_pad, rec_fault, usable, VolumeRecord, VidHeader, usable_some, block, image_of, leb, vid, Wins, Agreed, Source, WhereHeld, blocks_in, anything, StreamError, pieces_more, AreWhole, StaticReads, VolumeReads, piece, pieces, share, Placed, Content, Volume, member_valid, are_lebs, front_of, static_whole, IsVolumeOf, laid_text, volume_text, laid_bytes, new_ec, piece_header, static_block, static_part, volume_blocks, All, IsWroteError, Wanted, Wrote, length-share, header_at, share_at, content_is, found_wins, in_table, reads_of, table, error_where, wrote_where, Splits, error_behind, error_front, error_read, wrote_more}
 use Rattle.std.specs.FinMap as finite
-use Rattle.std.specs.List.{range_with_len}
-use Rattle.std.proofs.lemmas.List.Folds.{flat_map-map}
-use Rattle.ubi_media.specs.Check.{check}
-use Rattle.ubi_media.specs.Geometry.{Sizes}
-use Rattle.ubi_media.specs.Record.{data_pad, rec_fault, usable}
-use Rattle.ubi_media.specs.declared.record.VolumeRecord.{VolumeRecord}
-use Rattle.ubi_media.specs.declared.vid.VidHeader.{VidHeader}
 use Rattle.ubi_media.specs.declared.vid.VidRead.TheVariants as vid_read
 use Rattle.ubi_media.specs.declared.vid.VolKind.TheVariants as kind
-use Rattle.ubi_media.proofs.Records.{usable_some}
-use Rattle.ubi_scan.specs.Image.{block, image_of, leb, vid}
-use Rattle.ubi_scan.specs.Members.{Wins}
-use Rattle.ubi_scan.specs.Source.{Agreed, Source, WhereHeld, blocks_in, blocks_of}
-use Rattle.ubi_scan.specs.inner.Held.{anything}
-use Rattle.ubi_scan.specs.declared.errors.StreamError.{StreamError}
+use Rattle.ubi_scan.specs.Source.{blocks_of}
 use Rattle.ubi_scan.specs.declared.errors.StreamError.TheVariants as stream
-use Rattle.ubi_table.proofs.ReadBack.{pieces_more}
-use Rattle.ubi_volume.specs.Means.{AreWhole, StaticReads, VolumeReads, piece}
-use Rattle.ubi_volume.specs.Meant.{pieces, share}
-use Rattle.ubi_volume.specs.Places.{Placed}
-use Rattle.ubi_volume.specs.declared.content.Content.{Content}
 use Rattle.ubi_volume.specs.declared.content.Content.TheVariants as content
-use Rattle.ubi_volume.specs.declared.content.Volume.{Volume}
 use Rattle.ubi_volume.specs.declared.places.PlaceContent.TheVariants as place
-use Rattle.ubi_volume.proofs.Alike.{member_valid}
-use Rattle.ubi_volume.proofs.Either.{are_lebs}
-use Rattle.ubi_volume.proofs.Extracted.{front_of, static_whole}
-use Rattle.ubi_compose.specs.inner.Streaming.{IsVolumeOf, laid_text, volume_text}
 use Rattle.ubi_compose.proofs.Placed.{GivesCheck, piece_is}
-use Rattle.ubi_compose.specs.Normal.{laid_bytes, new_ec, piece_header, static_block, static_part, volume_blocks}
-use Rattle.ubi_volume.specs.Wrote.{All, IsWroteError, Wanted, Wrote}
-use Rattle.ubi_volume.proofs.Pieces.{length-share}
-use Rattle.ubi_volume.proofs.Shares.{header_at, share_at}
-use Rattle.ubi_volume.proofs.VolumeAt.{content_is, found_wins, in_table, reads_of, table}
-use Rattle.ubi_volume.proofs.Narrowed.{error_where, wrote_where}
-use Rattle.ubi_volume.proofs.Received.{Splits, error_behind, error_front, error_read, wrote_more}
 
 -- the eraseblocks of the first n pieces
 abbrev pub first_pieces : Sizes → Placed → ℕ → VolumeRecord → ℕ → Wanted

@@ -1,21 +1,8 @@
 -- What is written of a volume of an image whose places are known.
-use Rattle.std.proofs.Common.{◌≡◌, ℕ, ◌+◌, ◌*◌, ◌<◌, ◌≤◌, List, [], refl, ap, sym, ◌∙◌, subst, arith}
-use Rattle.std.specs.Prelude.{Some, flat_map}
+use Rattle.ubi_compose.proofs.Prelude.{◌≡◌, ℕ, ◌+◌, ◌*◌, ◌<◌, ◌≤◌, List, [], refl, ap, sym, ◌∙◌, subst, arith, Some, flat_map, mul-le, same_Some, Sizes, data_pad, VolumeRecord, VidHeader, IsWithin, IsCountedPlace, Placed, Content, content_is, reads_of, laid_text, volume_text, damaged_block, laid_bytes, new_ec, volume_blocks}
 use Rattle.std.specs.FinMap as finite
-use Rattle.std.proofs.lemmas.Nat.{mul-le}
-use Rattle.std.proofs.lemmas.Option.{same_Some}
-use Rattle.ubi_media.specs.Geometry.{Sizes}
-use Rattle.ubi_media.specs.Record.{data_pad}
-use Rattle.ubi_media.specs.declared.record.VolumeRecord.{VolumeRecord}
-use Rattle.ubi_media.specs.declared.vid.VidHeader.{VidHeader}
 use Rattle.ubi_media.specs.declared.vid.VolKind.TheVariants as kind
-use Rattle.ubi_volume.specs.Accepts.{IsWithin}
-use Rattle.ubi_volume.specs.Places.{IsCountedPlace, Placed}
-use Rattle.ubi_volume.specs.declared.content.Content.{Content}
 use Rattle.ubi_volume.specs.declared.places.PlaceContent.TheVariants as place
-use Rattle.ubi_volume.proofs.VolumeAt.{content_is, reads_of}
-use Rattle.ubi_compose.specs.inner.Streaming.{laid_text, volume_text}
-use Rattle.ubi_compose.specs.Normal.{damaged_block, laid_bytes, new_ec, volume_blocks}
 use Rattle.ubi_compose.proofs.Puts.{damaged_is}
 
 -- a place that counts for a dynamic volume is below what it reserves

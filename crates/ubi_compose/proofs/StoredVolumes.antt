@@ -1,34 +1,13 @@
 -- The volumes of an image whose places are known.
-use Rattle.std.proofs.Common.{◌≡◌, ℕ, ◌+◌, ◌*◌, ◌<◌, ◌≤◌, ◌^◌, List, ◌++◌, length, map, take, drop, get_or, refl, ap, sym, ◌∙◌, subst, arith}
-use Rattle.std.specs.Prelude.{Option, Some, flat_map}
-use Rattle.std.specs.Cmp.{nat_cmp_total}
+use Rattle.ubi_compose.proofs.Prelude.{◌≡◌, ℕ, ◌+◌, ◌*◌, ◌<◌, ◌≤◌, ◌^◌, List, ◌++◌, length, map, take, drop, get_or, refl, ap, sym, ◌∙◌, subst, arith, Option, Some, flat_map, nat_cmp_total, AllByRecursion, flat_map-append, get_or-map, length-map, take_all, mul-le, Sizes, slots, VolumeRecord, image_of, Agreed, Source, StreamError, entries_revalued, find_at, AreRecords, Records, Meant, records_of, ArePlaces, Placed, Volume, record_at, volume_text, volumes_text, Laid, laid_bytes, new_ec, volume_blocks, All, IsWroteError, Wanted, Wrote, Splits, error_behind, error_front, wrote_more}
 use Rattle.std.specs.FinMap as finite
-use Rattle.std.specs.List.{AllByRecursion}
-use Rattle.std.proofs.lemmas.Grind.{flat_map-append}
-use Rattle.std.proofs.lemmas.List.{get_or-map, length-map, take-append-drop, take_all}
-use Rattle.std.proofs.lemmas.Nat.{mul-le}
-use Rattle.ubi_media.specs.Geometry.{Sizes, slots}
-use Rattle.ubi_media.specs.declared.record.VolumeRecord.{VolumeRecord}
-use Rattle.ubi_scan.specs.Image.{image_of}
-use Rattle.ubi_scan.specs.Source.{Agreed, Source}
-use Rattle.ubi_scan.specs.declared.errors.StreamError.{StreamError}
-use Rattle.ubi_scan.proofs.Revalued.{entries_revalued}
-use Rattle.ubi_scan.proofs.Finite.{find_at}
-use Rattle.ubi_table.specs.Records.{AreRecords, Records}
-use Rattle.ubi_volume.specs.Meant.{Meant, records_of}
-use Rattle.ubi_volume.specs.Places.{ArePlaces, Placed}
+use Rattle.std.proofs.lemmas.List.{take-append-drop}
 use Rattle.ubi_volume.specs.declared.content.Content.TheVariants as content
-use Rattle.ubi_volume.specs.declared.content.Volume.{Volume}
-use Rattle.ubi_volume.proofs.Gathered.{record_at}
-use Rattle.ubi_compose.specs.inner.Streaming.{volume_text, volumes_text}
 use Rattle.ubi_compose.specs.Normal as normal
-use Rattle.ubi_compose.specs.Normal.{Laid, laid_bytes, new_ec, volume_blocks}
-use Rattle.ubi_volume.specs.Wrote.{All, IsWroteError, Wanted, Wrote}
 use Rattle.ubi_compose.proofs.Lists.{all_from, held_entry}
 use Rattle.ubi_compose.proofs.Puts.{blocks_more}
 use Rattle.ubi_compose.proofs.Rising.{entries_rise}
 use Rattle.ubi_compose.proofs.Room.{few_rising}
-use Rattle.ubi_volume.proofs.Received.{Splits, error_behind, error_front, wrote_more}
 
 -- the eraseblocks of the first n volumes
 abbrev pub first_volumes : Sizes → Placed → ℕ → Wanted

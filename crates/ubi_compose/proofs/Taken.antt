@@ -1,23 +1,7 @@
 -- Taking a line into the volumes that the lines above it give: the volumes of one line more, or its cause.
-use Rattle.std.proofs.Common.{◌≡◌, ℕ, ◌==◌, Bool, true, false, List, [], ◌∷◌, ◌++◌, map, refl, sym, ap, ◌∙◌}
-use Rattle.std.specs.Prelude.{cond, Option, Some, None, Result, Ok, Err, is_some, option_map, slice_set}
-use Rattle.std.specs.List.{list_all, position_from}
-use Rattle.std.specs.Option.{option_map_or}
-use Rattle.std.specs.Result.{result_map_both}
-use Rattle.std.proofs.lemmas.List.{map-append}
-use Rattle.std.proofs.lemmas.Simd.{map-map}
-use Rattle.ubi_media.specs.Geometry.{Sizes}
-use Rattle.ubi_media.specs.Record.{rec_fault}
-use Rattle.ubi_media.specs.declared.record.RecFault.{RecFault}
-use Rattle.ubi_media.specs.declared.record.VolumeRecord.{VolumeRecord}
-use Rattle.ubi_volume.specs.Made.{Items}
-use Rattle.ubi_volume.specs.declared.content.Volume.{Volume}
-use Rattle.ubi_compose.specs.inner.Drafts.{changed, changed_at, opened, place_of, taken, with_line}
-use Rattle.ubi_compose.specs.Lines.{volume_of}
-use Rattle.ubi_compose.specs.Spec.{content_cause, heading, later_cause, numbered_volume, of_volume, record_of, volume_from, volumes_in}
-use Rattle.ubi_compose.specs.declared.errors.SpecCause.{SpecCause}
+use Rattle.ubi_compose.proofs.Prelude.{◌≡◌, ℕ, ◌==◌, Bool, true, false, List, [], ◌∷◌, ◌++◌, map, refl, sym, ap, ◌∙◌, Option, Some, None, Result, Ok, Err, is_some, option_map, slice_set, list_all, position_from, option_map_or, result_map_both, map-append, map-map, Sizes, rec_fault, RecFault, VolumeRecord, Items, Volume, changed, changed_at, opened, place_of, taken, with_line, volume_of, content_cause, heading, later_cause, numbered_volume, of_volume, record_of, volume_from, volumes_in, SpecCause, Line}
+use Rattle.std.specs.Prelude.{cond}
 use Rattle.ubi_compose.specs.declared.errors.SpecCause.TheVariants as cause
-use Rattle.ubi_compose.specs.declared.line.Line.{Line}
 use Rattle.ubi_compose.specs.declared.line.Line.TheVariants as line
 use Rattle.ubi_compose.proofs.VolumeLines.{answer_of, damaged_taken, is_sound, leb_taken, text_taken, updating_taken}
 use Rattle.ubi_compose.proofs.Headings.{headings, headings_kept, headings_more, own_kept, own_more, record_headed}

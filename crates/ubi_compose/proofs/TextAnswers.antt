@@ -1,11 +1,5 @@
 -- What a text comes to: one meaning, or one cause for which its volumes have none.
-use Rattle.std.proofs.Common.{◌≡◌, ℕ, List, sym, ap, ◌∙◌}
-use Rattle.std.specs.Prelude.{Result, Ok, Err}
-use Rattle.ubi_media.specs.Geometry.{Sizes}
-use Rattle.ubi_volume.specs.Meant.{Meant}
-use Rattle.ubi_volume.specs.declared.errors.MeaningCause.{MeaningCause}
-use Rattle.ubi_volume.proofs.FirstCause.{one_first}
-use Rattle.ubi_compose.specs.TextLaws.{ComesTo}
+use Rattle.ubi_compose.proofs.Prelude.{◌≡◌, ℕ, List, sym, ap, ◌∙◌, Result, Ok, Err, Sizes, Meant, MeaningCause, one_first, ComesTo}
 
 pub one_answer : (s : Sizes) (seq : ℕ) (text : List ℕ) (a b : Result Meant MeaningCause) → ComesTo s seq text a
     → ComesTo s seq text b → a ≡ b

@@ -1,26 +1,10 @@
 -- The eraseblocks of one volume.
-use Rattle.std.proofs.Common.{◌≡◌, ℕ, ◌^◌, ◌<◌, ◌≤◌, List, length, map, refl, sym, subst, arith}
-use Rattle.std.specs.Prelude.{IfSome, Option}
+use Rattle.ubi_compose.proofs.Prelude.{◌≡◌, ℕ, ◌^◌, ◌<◌, ◌≤◌, List, length, map, refl, sym, subst, arith, IfSome, Option, FinMap, AllByRecursion, range_with_len, nat_cmp, check, IsGeometry, Sizes, data_pad, usable, VolumeRecord, check_from-lt, usable_some, Fits, IsVolume, pieces, share, Content, Volume, Laid, damaged_block, dynamic_block, static_blocks, static_part, volume_blocks, half_pad, reserved_within, pieces_few, share_full, share_most, share_some}
 use Rattle.std.specs.FinMap as finite
-use Rattle.std.specs.FinMap.{FinMap}
-use Rattle.std.specs.List.{AllByRecursion, range_with_len}
-use Rattle.std.specs.Ordering.{nat_cmp}
-use Rattle.ubi_media.specs.Check.{check}
-use Rattle.ubi_media.specs.Geometry.{IsGeometry, Sizes}
-use Rattle.ubi_media.specs.Record.{data_pad, usable}
-use Rattle.ubi_media.specs.declared.record.VolumeRecord.{VolumeRecord}
-use Rattle.ubi_media.proofs.Checks.{check_from-lt}
-use Rattle.ubi_media.proofs.Records.{usable_some}
-use Rattle.ubi_volume.specs.Meant.{Fits, IsVolume, pieces, share}
-use Rattle.ubi_volume.specs.declared.content.Content.{Content}
 use Rattle.ubi_volume.specs.declared.content.Content.TheVariants as content
-use Rattle.ubi_volume.specs.declared.content.Volume.{Volume}
-use Rattle.ubi_compose.specs.Normal.{Laid, damaged_block, dynamic_block, static_blocks, static_part, volume_blocks}
 use Rattle.ubi_compose.proofs.Blocks.{IsFine}
 use Rattle.ubi_compose.proofs.Headers.{IsPart, IsUsers, dynamic_fits, dynamic_sound, static_fits, static_sound, user_known, user_placed}
 use Rattle.ubi_compose.proofs.Lists.{Holds, all_map, held_entry, range_holds}
-use Rattle.ubi_media.proofs.Padding.{half_pad, reserved_within}
-use Rattle.ubi_volume.proofs.Pieces.{pieces_few, share_full, share_most, share_some}
 
 -- what holds of each piece of a static text, or of each LEB that is kept of a dynamic volume
 all_static : (P : Laid → Type 0) (pad size vol : ℕ) (text : List ℕ)

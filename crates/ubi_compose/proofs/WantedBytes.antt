@@ -1,20 +1,6 @@
 -- What a writer received of bytes that a function gives of the source's.
-use Rattle.std.proofs.Common.{◌≡◌, ℕ, ◌+◌, ◌-◌, ◌<◌, List, ◌++◌, refl, ap, sym, ◌∙◌, arith, zero-add}
-use Rattle.std.specs.Prelude.{Option, flat_map}
-use Rattle.std.specs.List.{range_with_len}
-use Rattle.ubi_media.specs.Geometry.{Sizes}
-use Rattle.ubi_scan.specs.Source.{Agreed, Narrows, Source, blocks_in}
-use Rattle.ubi_scan.specs.inner.Held.{sound}
+use Rattle.ubi_compose.proofs.Prelude.{◌≡◌, ℕ, ◌+◌, ◌-◌, ◌<◌, List, ◌++◌, refl, ap, sym, ◌∙◌, arith, zero-add, Option, flat_map, range_with_len, Sizes, Agreed, Narrows, Source, blocks_in, sound, pieces_more, All, First, NotAll, Wanted, Wrote, front_of, wrote_where, Splits, error_behind, error_front, wrote_more, CanBuild, IsBuildError, image_built, those, Parts, IsUnbuilt, BuildError}
 use Rattle.ubi_scan.specs.declared.errors.StreamError.TheVariants as stream
-use Rattle.ubi_table.proofs.ReadBack.{pieces_more}
-use Rattle.ubi_volume.specs.Wrote.{All, First, NotAll, Wanted, Wrote}
-use Rattle.ubi_volume.proofs.Extracted.{front_of}
-use Rattle.ubi_volume.proofs.Narrowed.{wrote_where}
-use Rattle.ubi_volume.proofs.Received.{Splits, error_behind, error_front, wrote_more}
-use Rattle.ubi_compose.specs.Building.{CanBuild, IsBuildError, image_built, those}
-use Rattle.ubi_compose.specs.Built.{Parts}
-use Rattle.ubi_compose.specs.inner.Building.{IsUnbuilt}
-use Rattle.ubi_compose.specs.declared.errors.BuildError.{BuildError}
 use Rattle.ubi_compose.specs.declared.errors.BuildError.TheVariants as build
 
 -- a source of one block of one byte

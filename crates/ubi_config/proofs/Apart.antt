@@ -1,18 +1,6 @@
 -- The sections of lines that give distinct keys have distinct ones.
-use Rattle.std.proofs.Common.{◌≡◌, ◌+◌, ◌∙◌, ℕ, Bool, false, List, [], ◌∷◌, ◌++◌, ap, append-nil, arith, drop, refl, subst, suc, sym}
-use Rattle.std.specs.Prelude.{Option, Some, None, Result, Ok, Err, filter_map, map, option_to_list}
-use Rattle.std.specs.List.{AllByRecursion, IsDistinct, before_first, cons_option, list_any, position_or_len}
-use Rattle.std.specs.Option.{option_map_or}
-use Rattle.std.specs.Result.{result_ok}
-use Rattle.std.proofs.lemmas.List.{take-append-drop}
-use Rattle.std.proofs.lemmas.List.Elements.{filter_map-append}
-use Rattle.std.proofs.lemmas.List.Folds.{list_any-append}
-use Rattle.ubi_config.specs.Above.{is_heading}
-use Rattle.ubi_config.specs.Config.{Group, groups, section_of, sections_in}
-use Rattle.ubi_config.specs.declared.errors.ConfigCause.{ConfigCause}
-use Rattle.ubi_config.specs.declared.line.Line.{Line}
+use Rattle.ubi_config.proofs.Prelude.{◌≡◌, ◌+◌, ◌∙◌, ℕ, Bool, false, List, [], ◌∷◌, ◌++◌, ap, append-nil, arith, drop, refl, subst, suc, sym, Option, Some, None, Result, Ok, Err, filter_map, map, option_to_list, AllByRecursion, IsDistinct, before_first, cons_option, list_any, position_or_len, option_map_or, result_ok, take-append-drop, filter_map-append, list_any-append, is_heading, Group, groups, section_of, sections_in, ConfigCause, Line, Section}
 use Rattle.ubi_config.specs.declared.line.Line.TheVariants as line
-use Rattle.ubi_config.specs.declared.section.Section.{Section}
 use Rattle.ubi_config.proofs.Distinct.{apart, both_false, distinct-push, distinct_cons, distinct_none, distinct_tail, or_false}
 
 -- the lines from the first that begins a section on

@@ -1,24 +1,11 @@
 -- A config on literals: its first fault, and its sections.
-use Rattle.std.proofs.Common.{◌≡◌, false, List, ℕ, [], ◌∷◌, ◌++◌, refl}
-use Rattle.std.specs.Prelude.{⊤, Some, None, Ok, Err, codes, replicate}
-use Rattle.std.specs.Fmt.{digits}
-use Rattle.std.specs.List.{join_with_byte}
-use Rattle.ubi_media.specs.Record.{breaks, fields_from, first_fault}
+use Rattle.ubi_config.proofs.Prelude.{◌≡◌, false, List, ℕ, [], ◌∷◌, ◌++◌, refl, ⊤, Some, None, Ok, Err, codes, replicate, digits, join_with_byte, breaks, fields_from, small, heading_cause, later_cause, setting_cause, cause_at, first_fault as config_fault, line_fault, saying, sayings, section_fault, sections_in, sections_of, config_error_text, flag_of, heading_line, is_one_line, kind_of, line_of, line_said, setting, setting_at, setting_line, title_of, record_in, draft_of, finished, key_of, plain_value, quoted_value, value_of, is_number, number_of, size_of, trimmed, unit_named, unit_of, Section}
+use Rattle.ubi_media.specs.Record.{first_fault}
 use Rattle.ubi_media.specs.declared.record.RecFault.TheVariants as fault
 use Rattle.ubi_media.specs.declared.vid.VolKind.TheVariants as kind
-use Rattle.ubi_media.proofs.Words.{small}
-use Rattle.ubi_config.specs.Above.{heading_cause, later_cause, setting_cause}
-use Rattle.ubi_config.specs.Config.{cause_at, first_fault as config_fault, line_fault, saying, sayings, section_fault, sections_in, sections_of}
-use Rattle.ubi_config.specs.ErrorTexts.{config_error_text}
-use Rattle.ubi_config.specs.Lines.{flag_of, heading_line, is_one_line, kind_of, line_of, line_said, setting, setting_at, setting_line, title_of}
-use Rattle.ubi_config.specs.Records.{record_in}
-use Rattle.ubi_config.specs.Sections.{draft_of, finished}
-use Rattle.ubi_config.specs.Values.{key_of, plain_value, quoted_value, value_of}
-use Rattle.ubi_config.specs.Words.{is_number, number_of, size_of, trimmed, unit_named, unit_of}
 use Rattle.ubi_config.specs.declared.errors.ConfigCause.TheVariants as cause
 use Rattle.ubi_config.specs.declared.errors.ConfigError.TheVariants as error
 use Rattle.ubi_config.specs.declared.key.Key.TheVariants as key
-use Rattle.ubi_config.specs.declared.section.Section.{Section}
 
 -- what is unfolded to compute a config on a literal
 unfoldable config_on_literals : ⊤

@@ -1,8 +1,5 @@
 -- How many elements pass a test.
-use Rattle.std.proofs.Common.{◌≡◌, ◌≤◌, ◌+◌, ℕ, Bool, true, false, List, [], ◌∷◌, ◌++◌, ◌||◌, arith, refl}
-use Rattle.std.specs.Prelude.{cond, count_by}
-use Rattle.std.specs.List.{list_any}
-use Rattle.std.proofs.lemmas.List.Sums.{sum_by-append}
+use Rattle.ubi_config.proofs.Prelude.{◌≡◌, ◌≤◌, ◌+◌, ℕ, Bool, true, false, List, [], ◌∷◌, ◌++◌, ◌||◌, arith, refl, cond, count_by, list_any, sum_by-append}
 use Rattle.ubi_config.proofs.Distinct.{or_false}
 
 pub count_both : {X : Type 0} (p : X → Bool) (xs ys : List X)

@@ -1,10 +1,5 @@
 -- Decimal digits: another one never makes the number less.
-use Rattle.std.proofs.Common.{◌≡◌, ℕ, ◌≤◌, ◌<◌, ◌+◌, ◌*◌, ◌-◌, List, [], ◌∷◌, Bool, true, false, ◌&&◌, arith, refl, drop, length, get_or}
-use Rattle.std.specs.Prelude.{fold, None, nat_le}
-use Rattle.std.specs.Bool.{then_some}
-use Rattle.std.proofs.lemmas.List.{at_drop_more}
-use Rattle.std.proofs.lemmas.Bool.Decides.{nat_tests}
-use Rattle.ubi_config.specs.Words.{with_digit}
+use Rattle.ubi_config.proofs.Prelude.{◌≡◌, ℕ, ◌≤◌, ◌<◌, ◌+◌, ◌*◌, ◌-◌, List, [], ◌∷◌, Bool, true, false, ◌&&◌, arith, refl, drop, length, get_or, fold, None, nat_le, then_some, at_drop_more, nat_tests, with_digit}
 
 pub fold_grows : (n : ℕ) (digits : List ℕ) → n ≤ fold with_digit n digits
 fold_grows n [] = omega arith

@@ -1,13 +1,6 @@
 -- The first fault of a text: of a line, or else of a section, or else that there is none.
-use Rattle.std.proofs.Common.{◌≡◌, ℕ, Bool, List, length, refl, ap, sym, ◌∙◌}
-use Rattle.std.specs.Prelude.{Option, Some, None, ◌==◌}
-use Rattle.std.specs.Bool.{then_some}
-use Rattle.std.specs.Option.{option_or}
-use Rattle.ubi_config.specs.Config.{Fault, IsFault, first_fault, groups, groups_of, line_fault, lines, no_section_fault, sayings, section_fault, sections_in, sections_of}
-use Rattle.ubi_config.specs.declared.line.Line.{Line}
-use Rattle.ubi_config.specs.declared.section.Section.{Section}
+use Rattle.ubi_config.proofs.Prelude.{◌≡◌, ℕ, Bool, List, length, refl, ap, sym, ◌∙◌, Option, Some, None, ◌==◌, then_some, option_or, Fault, IsFault, first_fault, groups, groups_of, line_fault, lines, no_section_fault, sayings, section_fault, sections_in, sections_of, Line, Section, ConfigError}
 use Rattle.ubi_config.specs.declared.errors.ConfigCause.TheVariants as cause
-use Rattle.ubi_config.specs.declared.errors.ConfigError.{ConfigError}
 use Rattle.ubi_config.specs.declared.errors.ConfigError.TheVariants as error
 
 by_parts : (text : List ℕ) (lines sections : Option Fault) → line_fault text ≡ lines

@@ -1,18 +1,6 @@
 -- What a section has of its lines: the number and the name of its volume.
-use Rattle.std.proofs.Common.{◌≡◌, ℕ, Bool, true, false, List, [], ◌∷◌, ap, sym, ◌∙◌, refl}
-use Rattle.std.specs.Prelude.{◌==◌, Option, Some, None, Result, Ok, Err, filter_map, fold}
-use Rattle.std.specs.Bool.{then_some}
-use Rattle.std.specs.List.{list_any}
-use Rattle.std.specs.Option.{ok_or}
-use Rattle.ubi_media.specs.declared.vid.VolKind.{VolKind}
-use Rattle.ubi_config.specs.Above.{is_autoresize}
-use Rattle.ubi_config.specs.Lines.{◌>>=◌}
-use Rattle.ubi_config.specs.Sections.{draft_of, finished, no_draft, with_line}
-use Rattle.ubi_config.specs.declared.drafts.Draft.{Draft}
-use Rattle.ubi_config.specs.declared.errors.ConfigCause.{ConfigCause}
-use Rattle.ubi_config.specs.declared.line.Line.{Line}
+use Rattle.ubi_config.proofs.Prelude.{◌≡◌, ℕ, Bool, true, false, List, [], ◌∷◌, ap, sym, ◌∙◌, refl, ◌==◌, Option, Some, None, Result, Ok, Err, filter_map, fold, then_some, list_any, ok_or, VolKind, is_autoresize, ◌>>=◌, draft_of, finished, no_draft, with_line, Draft, ConfigCause, Line, Section}
 use Rattle.ubi_config.specs.declared.line.Line.TheVariants as line
-use Rattle.ubi_config.specs.declared.section.Section.{Section}
 use Rattle.ubi_config.proofs.Distinct.{or_false}
 
 -- the number that a line gives

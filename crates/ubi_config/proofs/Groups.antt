@@ -1,23 +1,8 @@
 -- The sections of lines, one after the other.
-use Rattle.std.proofs.Common.{◌≡◌, ◌<◌, ◌≤◌, ◌+◌, ◌-◌, ℕ, List, [], ◌∷◌, ◌++◌, append-nil, append_assoc, drop, get_or, length, length-drop, take, refl, ap, ◌∙◌, sym}
-use Rattle.std.proofs.Math.Seq.{take-length}
-use Rattle.std.proofs.lemmas.List.{drop_all, drop_more}
-use Rattle.std.specs.Prelude.{Option, Some, None, Result, Ok, map, option_map, option_to_list}
-use Rattle.std.specs.List.{cons_option}
-use Rattle.std.specs.Option.{option_or}
-use Rattle.std.specs.Result.{result_err, result_ok}
-use Rattle.std.proofs.lemmas.List.Elements.{filter_map-append}
-use Rattle.ubi_config.specs.Above.{first_some}
-use Rattle.ubi_config.specs.Config.{Fault, Group, IsFault, group_of, groups, lack_of, section_fault, section_of, sections_in}
-use Rattle.ubi_config.specs.inner.Reading.{IsRefused, error_at}
-use Rattle.ubi_config.specs.declared.errors.ConfigCause.{ConfigCause}
-use Rattle.ubi_config.specs.declared.errors.ConfigError.{ConfigError}
+use Rattle.ubi_config.proofs.Prelude.{◌≡◌, ◌<◌, ◌≤◌, ◌+◌, ◌-◌, ℕ, List, [], ◌∷◌, ◌++◌, append-nil, append_assoc, drop, get_or, length, length-drop, take, refl, ap, ◌∙◌, sym, take-length, drop_all, drop_more, Option, Some, None, Result, Ok, map, option_map, option_to_list, cons_option, option_or, result_err, result_ok, filter_map-append, first_some, Fault, Group, IsFault, group_of, groups, lack_of, section_fault, section_of, sections_in, IsRefused, error_at, ConfigCause, ConfigError, LineError, Line, Section}
 use Rattle.ubi_config.specs.declared.errors.ConfigError.TheVariants as error
-use Rattle.ubi_config.specs.declared.errors.LineError.{LineError}
 use Rattle.ubi_config.specs.declared.errors.LineError.TheVariants as line_error
-use Rattle.ubi_config.specs.declared.line.Line.{Line}
 use Rattle.ubi_config.specs.declared.line.Line.TheVariants as line
-use Rattle.ubi_config.specs.declared.section.Section.{Section}
 
 or_assoc : {X : Type 0} (a b c : Option X) → option_or a (option_or b c) ≡ option_or (option_or a b) c
 or_assoc None b c = refl

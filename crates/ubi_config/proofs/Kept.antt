@@ -1,12 +1,5 @@
 -- What each line without a fault keeps, holds of the lines of a text without a line at fault.
-use Rattle.std.proofs.Common.{◌≡◌, ℕ, List, [], ◌∷◌, ◌++◌, append-nil, append_assoc, length, subst, refl, sym, ap, ◌∙◌}
-use Rattle.std.specs.Prelude.{Option, Some, None, Result, Ok, Err, option_map, option_to_list}
-use Rattle.std.specs.Option.{option_or}
-use Rattle.std.specs.Result.{result_unwrap_or}
-use Rattle.ubi_config.specs.Above.{later_cause}
-use Rattle.ubi_config.specs.Config.{Fault, cause_after, line_at, line_fault, lines, sayings}
-use Rattle.ubi_config.specs.declared.errors.ConfigCause.{ConfigCause}
-use Rattle.ubi_config.specs.declared.line.Line.{Line}
+use Rattle.ubi_config.proofs.Prelude.{◌≡◌, ℕ, List, [], ◌∷◌, ◌++◌, append-nil, append_assoc, length, subst, refl, sym, ap, ◌∙◌, Option, Some, None, Result, Ok, Err, option_map, option_to_list, option_or, result_unwrap_or, later_cause, Fault, cause_after, line_at, line_fault, lines, sayings, ConfigCause, Line}
 use Rattle.ubi_config.proofs.LinesLeft.{first_from_start, first_left, next_cause}
 use Rattle.ubi_config.proofs.ReadSoFar.{nothing_yet, saying_is, sayings-push}
 

@@ -13,3 +13,4 @@ pub mod Places
 pub mod ReadSoFar
 pub mod Reserved
 pub mod SectionsDiffer
+pub mod Prelude

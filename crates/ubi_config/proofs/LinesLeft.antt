@@ -1,11 +1,5 @@
 -- The first line with a cause, read from the lines that are left.
-use Rattle.std.proofs.Common.{◌≡◌, ℕ, ◌+◌, List, [], ◌∷◌, ◌++◌, length, take, refl, ap, sym, ◌∙◌, arith, append_assoc}
-use Rattle.std.specs.Prelude.{Option, None, map, option_map}
-use Rattle.std.specs.List.{enumerate_from}
-use Rattle.std.specs.Option.{option_or}
-use Rattle.std.proofs.lemmas.List.{length_push, take_at}
-use Rattle.ubi_config.specs.Above.{first_some}
-use Rattle.ubi_config.specs.Config.{Fault, cause_after, cause_at, line_at, line_fault, line_number, lines, sayings}
+use Rattle.ubi_config.proofs.Prelude.{◌≡◌, ℕ, ◌+◌, List, [], ◌∷◌, ◌++◌, length, take, refl, ap, sym, ◌∙◌, arith, append_assoc, Option, None, map, option_map, enumerate_from, option_or, length_push, take_at, first_some, Fault, cause_after, cause_at, line_at, line_fault, line_number, lines, sayings}
 
 -- the number and the cause of a line after those before it
 abbrev pub next_cause : List (List ℕ) → List ℕ → Option Fault

@@ -1,18 +1,7 @@
 -- What is known of a text as far as its lines were read.
-use Rattle.std.proofs.Common.{◌≡◌, ◌<◌, ℕ, ◌+◌, suc, List, [], ◌∷◌, ◌++◌, length, drop, get_or, refl, sym, ap, ◌∙◌, arith}
-use Rattle.std.specs.Prelude.{Option, Some, None, min, option_map, option_to_list}
-use Rattle.std.specs.List.{cons_option, enumerate_from, filter_map}
-use Rattle.std.specs.Option.{option_or}
-use Rattle.std.specs.Result.{result_unwrap_or}
-use Rattle.std.proofs.lemmas.List.{drop_all, drop_more, length_push}
-use Rattle.std.proofs.lemmas.List.Elements.{filter_map-append}
-use Rattle.ubi_config.specs.Config.{IsFault, cause_after, line_at, line_fault, line_number, lines, saying, sayings}
-use Rattle.ubi_config.specs.Lines.{line_of}
-use Rattle.ubi_config.specs.inner.Reading.{IsCause, error_at}
-use Rattle.ubi_config.specs.declared.errors.ConfigCause.{ConfigCause}
-use Rattle.ubi_config.specs.declared.errors.LineError.{LineError}
+use Rattle.ubi_config.proofs.Prelude.{◌≡◌, ◌<◌, ℕ, ◌+◌, suc, List, [], ◌∷◌, ◌++◌, length, drop, get_or, refl, sym, ap, ◌∙◌, arith, Option, Some, None, min, option_map, option_to_list, cons_option, enumerate_from, option_or, result_unwrap_or, drop_all, drop_more, length_push, filter_map-append, IsFault, cause_after, line_at, line_fault, line_number, lines, saying, sayings, line_of, IsCause, error_at, ConfigCause, LineError, Line}
+use Rattle.std.specs.List.{filter_map}
 use Rattle.ubi_config.specs.declared.errors.LineError.TheVariants as line_error
-use Rattle.ubi_config.specs.declared.line.Line.{Line}
 use Rattle.ubi_config.proofs.LinesLeft.{first_from_start, first_left, next_cause}
 
 pub record IsReadSoFar (text : List ℕ) (before : List (List ℕ)) (said : List Line) (number : ℕ) : Type 0 where

@@ -1,12 +1,6 @@
 -- How many eraseblocks a volume reserves changes no fault of its record, as long as there are some and not too many.
-use Rattle.std.proofs.Common.{◌≡◌, ◌<◌, ◌≤◌, ℕ, ◌^◌, false, refl, arith}
-use Rattle.std.specs.Prelude.{◌==◌}
-use Rattle.std.proofs.lemmas.Bool.Decides.{nat_tests}
-use Rattle.ubi_media.specs.Geometry.{Sizes}
-use Rattle.ubi_media.specs.Record.{breaks, fields_from, first_fault, rec_fault}
-use Rattle.ubi_media.specs.Vid.{is_negative}
-use Rattle.ubi_config.specs.Records.{reserving}
-use Rattle.ubi_config.specs.declared.section.Section.{Section}
+use Rattle.ubi_config.proofs.Prelude.{◌≡◌, ◌<◌, ◌≤◌, ℕ, ◌^◌, false, refl, arith, ◌==◌, nat_tests, Sizes, breaks, fields_from, rec_fault, is_negative, reserving, Section}
+use Rattle.ubi_media.specs.Record.{first_fault}
 
 same_fault : (s : Sizes) (section : Section) (n : ℕ) → (n == 0) ≡ false → is_negative n ≡ false
     → rec_fault s (reserving section n) ≡ rec_fault s (reserving section 1)

@@ -1,27 +1,14 @@
 -- The sections of a config that is read are not too many, and differ.
-use Rattle.std.proofs.Common.{◌≡◌, ◌≤◌, ◌<◌, ◌+◌, ◌∙◌, ℕ, Bool, true, false, List, [], ◌∷◌, ◌++◌, ap, arith, length, refl, sym}
-use Rattle.std.specs.Prelude.{Option, Some, None, ◌==◌, ◌||◌, count_by, filter_map, nat_le, not}
-use Rattle.std.specs.Bool.{then_some}
-use Rattle.std.specs.List.{IsDistinct, before_first, cons_option, list_any}
-use Rattle.std.specs.Option.{option_map_or, option_or}
-use Rattle.std.specs.Result.{result_ok}
-use Rattle.std.proofs.lemmas.Bool.Decides.{nat_tests}
-use Rattle.ubi_media.specs.Fields.{same_bytes}
-use Rattle.ubi_config.specs.Above.{gives_id, gives_name, heading_cause, is_autoresize, is_heading, is_titled, later_cause, own, sets, setting_cause, shared_cause}
-use Rattle.ubi_config.specs.Config.{Group, first_fault, groups, line_fault, lines, section_of, sayings, sections_in}
-use Rattle.ubi_config.specs.Laws.{SectionsDiffer}
-use Rattle.ubi_config.specs.declared.errors.ConfigCause.{ConfigCause}
+use Rattle.ubi_config.proofs.Prelude.{◌≡◌, ◌≤◌, ◌<◌, ◌+◌, ◌∙◌, ℕ, Bool, true, false, List, [], ◌∷◌, ◌++◌, ap, arith, length, refl, sym, Option, Some, None, ◌==◌, count_by, filter_map, nat_le, not, then_some, IsDistinct, before_first, cons_option, list_any, option_map_or, option_or, result_ok, nat_tests, same_bytes, gives_id, gives_name, heading_cause, is_autoresize, is_heading, is_titled, later_cause, own, sets, setting_cause, shared_cause, Group, first_fault, groups, line_fault, lines, section_of, sayings, sections_in, SectionsDiffer, ConfigCause, Line, Section, Key}
+use Rattle.std.specs.Prelude.{◌||◌}
 use Rattle.ubi_config.specs.declared.errors.ConfigCause.TheVariants as cause
-use Rattle.ubi_config.specs.declared.line.Line.{Line}
 use Rattle.ubi_config.specs.declared.line.Line.TheVariants as line
-use Rattle.ubi_config.specs.declared.section.Section.{Section}
 use Rattle.ubi_config.proofs.Apart.{distinct_keys, distinct_more, distinct_same, no_sections, sections_cons}
 use Rattle.ubi_config.proofs.Counts.{count_cons, count_more, none_counted}
 use Rattle.ubi_config.proofs.Distinct.{distinct_none}
 use Rattle.ubi_config.proofs.Fields.{id_given, id_in, name_given, name_in}
 use Rattle.ubi_config.proofs.Grows.{sections_grow}
 use Rattle.ubi_config.proofs.Kept.{kept, or_none}
-use Rattle.ubi_config.specs.declared.key.Key.{Key}
 
 id_any : (n : ℕ) (ls : List Line)
     → list_any (gives_id n) ls ≡ list_any (λ l. option_map_or (λ x. x == n) (id_in l) false) ls

@@ -1,8 +1,6 @@
 -- Lists of bytes: what is put together of bytes and taken out of them are bytes, and a field of four has 32 bits.
-use Rattle.std.proofs.Common.{ℕ, zero, suc, ◌+◌, ◌-◌, ◌^◌, ◌<◌, List, [], ◌∷◌, ◌++◌, get_or, take, drop, arith}
+use Rattle.ubi_media.proofs.Prelude.{ℕ, zero, suc, ◌+◌, ◌-◌, ◌^◌, ◌<◌, List, [], ◌∷◌, ◌++◌, get_or, take, drop, arith, big_from-lt, AreBytes, blank, field}
 use Rattle.std.specs.Prelude.{slice_index}
-use Rattle.byteorder.specs.Numbers.{big_from-lt}
-use Rattle.ubi_media.specs.Fields.{AreBytes, blank, field}
 
 pub bytes-append : (xs ys : List ℕ) → AreBytes xs → AreBytes ys → AreBytes (xs ++ ys)
 bytes-append [] ys a b = b

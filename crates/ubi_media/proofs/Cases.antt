@@ -1,5 +1,5 @@
 -- Cases of numbers that the standard library hasn't in this form.
-use Rattle.std.proofs.Common.{◌≡◌, ℕ, ◌+◌, ◌<◌, ◌≤◌, ◌⊎◌, arith}
+use Rattle.ubi_media.proofs.Prelude.{◌≡◌, ℕ, ◌+◌, ◌<◌, ◌≤◌, ◌⊎◌, arith}
 
 pub zero_or_more : (q : ℕ) → (q ≡ 0) ⊎ (1 ≤ q)
 zero_or_more q = grind arith

@@ -1,6 +1,5 @@
 -- The definition of the check on literals, against vectors from outside.
-use Rattle.std.proofs.Common.{◌≡◌, List, ℕ, [], ◌∷◌, replicate, refl}
-use Rattle.ubi_media.specs.Check.{check, check_from, remainder}
+use Rattle.ubi_media.proofs.Prelude.{◌≡◌, List, ℕ, [], ◌∷◌, replicate, refl, check, check_from, remainder}
 
 no_byte : check [] ≡ 0xFFFFFFFF
 unfolding check_from remainder

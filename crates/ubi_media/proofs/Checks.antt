@@ -1,11 +1,6 @@
 -- The check of a message: of no byte, of one, of two parts.
-use Rattle.std.proofs.Common.{◌≡◌, ℕ, zero, suc, ◌+◌, ◌*◌, ◌^◌, ◌<◌, List, [], ◌∷◌, ◌++◌, length, take, drop, get_or, bit_xor, sym, ap, ◌∙◌, arith, replicate, length-append}
-use Rattle.std.proofs.lemmas.List.{append_assoc, append-nil, drop-drop, length-replicate, take-append-drop, take_more}
-use Rattle.std.proofs.lemmas.List.Folds.{concat-append}
-use Rattle.std.proofs.lemmas.Grind.{flat_map-append}
-use Rattle.std.specs.List.{concat, flat_map}
-use Rattle.std.specs.Simd.{first_chunks}
-use Rattle.ubi_media.specs.Check.{bits, polynomial, add_to_front, remainder, dividend, check_from}
+use Rattle.ubi_media.proofs.Prelude.{◌≡◌, ℕ, zero, suc, ◌+◌, ◌*◌, ◌^◌, ◌<◌, List, [], ◌∷◌, ◌++◌, length, take, drop, get_or, bit_xor, sym, ap, ◌∙◌, arith, replicate, length-append, append-nil, drop-drop, length-replicate, take-append-drop, take_more, concat-append, flat_map-append, concat, flat_map, first_chunks, bits, polynomial, add_to_front, remainder, dividend, check_from}
+use Rattle.std.proofs.lemmas.List.{append_assoc}
 use Rattle.ubi_media.proofs.Polynomials.{AreBits, AreBits-bits, AreBits-append, AreBits-zeros, AreBits-bytes, length-bits, length-bytes, polynomial-append, polynomial-zeros, polynomial-add_to_front}
 use Rattle.ubi_media.proofs.Mirror.{mirror, polynomial-bits, mirror-mirror}
 use Rattle.ubi_media.proofs.Register.{rest, run, remainder-run, steps, run-bits, run-empty, run-append, run-lt}

@@ -1,7 +1,5 @@
 -- The definitions of the division of pieces on literals.
-use Rattle.std.proofs.Common.{◌≡◌, ℕ, List, [], ◌∷◌, ◌++◌, ◌+◌, replicate, refl, arith}
-use Rattle.ubi_media.specs.Check.{check_from}
-use Rattle.ubi_media.specs.inner.Division.{word_at, sum_behind, left_of, bytes_of, Carries}
+use Rattle.ubi_media.proofs.Prelude.{◌≡◌, ℕ, List, [], ◌∷◌, ◌++◌, ◌+◌, replicate, refl, arith, check_from, word_at, sum_behind, left_of, bytes_of, Carries}
 
 words : List (List ℕ)
 words = (1 ∷ 2 ∷ 3 ∷ 4 ∷ 5 ∷ 6 ∷ 7 ∷ 8 ∷ []) ∷ (0xFF ∷ 0 ∷ 0 ∷ 0 ∷ 0 ∷ 0 ∷ 0 ∷ 0x80 ∷ []) ∷ []

@@ -1,9 +1,6 @@
 -- The divisor of the pieces of a long message is a multiple of the generator.
-use Rattle.std.proofs.Common.{◌≡◌, ℕ, zero, suc, ◌+◌, ◌*◌, ◌/◌, ◌%◌, ◌^◌, ◌<◌, List, [], ◌∷◌, bit_xor, refl, sym, ap, ◌∙◌, arith}
-use Rattle.std.proofs.Math.Nat.{pow-suc, div-lt_iff_lt-mul}
-use Rattle.std.proofs.lemmas.Nat.{mod_below, pow_pos, shr_split}
+use Rattle.ubi_media.proofs.Prelude.{◌≡◌, ℕ, zero, suc, ◌+◌, ◌*◌, ◌/◌, ◌%◌, ◌^◌, ◌<◌, List, [], ◌∷◌, bit_xor, refl, sym, ap, ◌∙◌, arith, pow-suc, div-lt_iff_lt-mul, mod_below, pow_pos, shr_split, powers}
 use lib.Bits.{xor_shifted, xor_zero_r}
-use Rattle.ubi_media.specs.inner.Division.{powers}
 use Rattle.ubi_media.proofs.Fed.{steps-first, steps-none, steps-zero}
 use Rattle.ubi_media.proofs.Register.{step, steps, steps-more}
 use Rattle.ubi_media.proofs.Table.{step-sum, steps-sum}

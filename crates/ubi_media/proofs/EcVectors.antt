@@ -1,11 +1,7 @@
 -- Readings and bytes of erase-counter headers on literals.
-use Rattle.std.proofs.Common.{◌≡◌, List, ℕ, [], ◌∷◌, replicate, refl}
-use Rattle.ubi_media.specs.Check.{check_from, remainder}
-use Rattle.ubi_media.specs.Ec.{ec_bytes, ec_fields, ec_reading, ec_start, judged, first_fault, breaks}
-use Rattle.ubi_media.specs.Fields.{form_of}
-use Rattle.ubi_media.specs.declared.ec.EcFault.TheVariants.{Version, Offsets, Counter}
-use Rattle.ubi_media.specs.declared.ec.EcHeader.{EcHeader}
-use Rattle.ubi_media.specs.declared.ec.EcRead.TheVariants.{Blank, Corrupt, Fault, Valid}
+use Rattle.ubi_media.proofs.Prelude.{◌≡◌, List, ℕ, [], ◌∷◌, replicate, refl, check_from, remainder, ec_bytes, ec_fields, ec_reading, ec_start, form_of, Version, Offsets, Counter, EcHeader, Blank, Corrupt, Fault}
+use Rattle.ubi_media.specs.Ec.{judged, first_fault, breaks}
+use Rattle.ubi_media.specs.declared.ec.EcRead.TheVariants.{Valid}
 use Rattle.ubi_media.specs.declared.ec.EcStart.TheVariants as start
 use Rattle.ubi_media.proofs.Words.{small, words}
 

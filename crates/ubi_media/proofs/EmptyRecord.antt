@@ -1,7 +1,5 @@
 -- The empty record on literals.
-use Rattle.std.proofs.Common.{◌≡◌, [], ◌∷◌, ◌++◌, length, replicate, refl}
-use Rattle.ubi_media.specs.Check.{check_from, remainder}
-use Rattle.ubi_media.specs.Record.{empty_record, record_size}
+use Rattle.ubi_media.proofs.Prelude.{◌≡◌, [], ◌∷◌, ◌++◌, length, replicate, refl, check_from, remainder, empty_record, record_size}
 
 zeros_and_their_check : empty_record ≡ replicate 168 0 ++ 0xF1 ∷ 0x16 ∷ 0xC3 ∷ 0x6B ∷ []
 unfolding empty_record check_from remainder

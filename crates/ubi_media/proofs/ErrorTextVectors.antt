@@ -1,7 +1,5 @@
 -- The texts of refusals on literals.
-use Rattle.std.proofs.Common.{◌≡◌, codes, refl}
-use Rattle.std.specs.Fmt.{digits}
-use Rattle.ubi_media.specs.ErrorTexts.{geometry_error_text, refusal_text}
+use Rattle.ubi_media.proofs.Prelude.{◌≡◌, codes, refl, digits, geometry_error_text, refusal_text}
 use Rattle.ubi_media.specs.declared.ec.EcFault.TheVariants as ec
 use Rattle.ubi_media.specs.declared.geometry.GeometryError.TheVariants as limit
 use Rattle.ubi_media.specs.declared.record.RecFault.TheVariants as rec

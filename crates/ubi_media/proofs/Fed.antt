@@ -1,8 +1,5 @@
 -- The register that is fed words of eight bytes, each as one number: sums, zeros, and places that are shifted.
-use Rattle.std.proofs.Common.{◌≡◌, ℕ, zero, suc, ◌+◌, ◌*◌, ◌/◌, ◌%◌, ◌^◌, ◌<◌, ◌≤◌, [], ◌∷◌, get_or, bit_xor, refl, sym, ap, ◌∙◌, arith}
-use Rattle.std.proofs.Math.Nat.{pow-suc, add_comm}
-use Rattle.std.proofs.Math.Pow.{pow_mono}
-use Rattle.std.proofs.lemmas.Nat.{mod_below, xor_lt}
+use Rattle.ubi_media.proofs.Prelude.{◌≡◌, ℕ, zero, suc, ◌+◌, ◌*◌, ◌/◌, ◌%◌, ◌^◌, ◌<◌, ◌≤◌, [], ◌∷◌, get_or, bit_xor, refl, sym, ap, ◌∙◌, arith, pow-suc, add_comm, pow_mono, mod_below, xor_lt}
 use lib.Bits.{xor_zero_l, xor_zero_r}
 use Rattle.ubi_media.proofs.Register.{step, steps, steps-more}
 use Rattle.ubi_media.proofs.Table.{steps-sum, steps-high}

@@ -1,14 +1,6 @@
 -- A message that is cut into words of eight bytes: its check is the register that is fed them.
-use Rattle.std.proofs.Common.{◌≡◌, ℕ, zero, suc, ◌+◌, ◌*◌, ◌/◌, ◌^◌, ◌<◌, ◌≤◌, List, [], ◌∷◌, ◌++◌, length, take, drop, get_or, bit_xor, refl, sym, ap, ◌∙◌, arith}
-use Rattle.std.proofs.lemmas.List.{append-nil, drop_all, length-drop, length-take-le, take_all}
-use Rattle.std.proofs.lemmas.Nat.{from_le_bytes-to_le_bytes_8, mod_below, xor_comm}
-use Rattle.std.specs.Int.{w64, byte_at, bytes_low_first, from_le_bytes, to_le_bytes}
-use Rattle.std.specs.List.{concat}
-use Rattle.std.specs.Simd.{first_chunks}
+use Rattle.ubi_media.proofs.Prelude.{◌≡◌, ℕ, zero, suc, ◌+◌, ◌*◌, ◌/◌, ◌^◌, ◌<◌, ◌≤◌, List, [], ◌∷◌, ◌++◌, length, take, drop, get_or, bit_xor, refl, sym, ap, ◌∙◌, arith, append-nil, drop_all, length-drop, length-take-le, take_all, from_le_bytes-to_le_bytes_8, mod_below, xor_comm, w64, byte_at, bytes_low_first, from_le_bytes, to_le_bytes, concat, first_chunks, check_from, AreBytes, word_at, bytes_of}
 use lib.Bits.{xor_shifted}
-use Rattle.ubi_media.specs.Check.{check_from}
-use Rattle.ubi_media.specs.Fields.{AreBytes}
-use Rattle.ubi_media.specs.inner.Division.{word_at, bytes_of}
 use Rattle.ubi_media.proofs.ByteLists.{byte_in, bytes-drop, bytes-take}
 use Rattle.ubi_media.proofs.Checks.{check_from-append, check_from-empty, check_from-lt, check_from-piece, first_chunks-rest}
 use Rattle.ubi_media.proofs.Fed.{fed, fed-none, fed-more}

@@ -1,7 +1,5 @@
 -- The first element of a list that passes a test.
-use Rattle.std.proofs.Common.{◌≡◌, zero, suc, ◌<◌, Bool, true, false, cond, List, [], ◌∷◌, length, get_or, refl, ap, sym, ◌∙◌, arith}
-use Rattle.std.specs.Prelude.{All, None, Option, Some, find}
-use Rattle.ubi_media.specs.First.{IsFirst}
+use Rattle.ubi_media.proofs.Prelude.{◌≡◌, zero, suc, ◌<◌, Bool, true, false, cond, List, [], ◌∷◌, length, get_or, refl, ap, sym, ◌∙◌, arith, All, None, Option, Some, find, IsFirst}
 
 module _ {X : Type 0} (p : X → Bool) where
   -- where none is found, each fails, and the other way round

@@ -1,8 +1,5 @@
 -- The limits of a geometry, and what follows from its numbers, on literals.
-use Rattle.std.proofs.Common.{◌≡◌, refl}
-use Rattle.std.specs.Prelude.{Some, None}
-use Rattle.ubi_media.specs.Geometry.{Sizes, leb_size, slots}
-use Rattle.ubi_media.specs.Limits.{first_broken}
+use Rattle.ubi_media.proofs.Prelude.{◌≡◌, refl, Some, None, Sizes, leb_size, slots, first_broken}
 use Rattle.ubi_media.specs.declared.geometry.GeometryError.TheVariants as limit
 use Rattle.ubi_media.proofs.Words.{small}
 

@@ -1,23 +1,10 @@
 -- What is written is read back.
-use Rattle.std.proofs.Common.{◌≡◌, ℕ, ◌^◌, ◌<◌, [], None, Bool, true, false, not, ◌==◌, refl, sym, ap, ◌∙◌, arith}
+use Rattle.ubi_media.proofs.Prelude.{◌≡◌, ℕ, ◌^◌, ◌<◌, [], Bool, true, false, not, ◌==◌, refl, sym, ap, ◌∙◌, arith, nat_tests, big_number-reads_back, check, field, Sizes, FormIs, EcIs, ec_magic, ec_front, ec_bytes, ec_fields, VidIs, kind_number, kind_of, vid_magic, vid_fault, vid_front, vid_bytes, vid_fields, header_of, EcFits, VidFits, EcHeader, Sealed, VidFields, VidHeader, VolKind, Dynamic, Static}
+use Rattle.std.proofs.Common.{None}
 use Rattle.std.specs.Bool.{if◌then◌else◌}
-use Rattle.std.proofs.lemmas.Bool.Decides.{nat_tests}
-use Rattle.byteorder.specs.Numbers.{big_number-reads_back}
-use Rattle.ubi_media.specs.Check.{check}
-use Rattle.ubi_media.specs.Fields.{field}
-use Rattle.ubi_media.specs.Geometry.{Sizes}
-use Rattle.ubi_media.specs.Header.{FormIs}
-use Rattle.ubi_media.specs.Ec.{EcIs, ec_magic, ec_front, ec_bytes, ec_fields}
 use Rattle.ubi_media.specs.Ec as ec
-use Rattle.ubi_media.specs.Vid.{VidIs, kind_number, kind_of, vid_magic, vid_fault, vid_front, vid_bytes, vid_fields, fields_from, header_of}
-use Rattle.ubi_media.specs.Widths.{EcFits, VidFits}
-use Rattle.ubi_media.specs.declared.ec.EcHeader.{EcHeader}
+use Rattle.ubi_media.specs.Vid.{fields_from}
 use Rattle.ubi_media.specs.declared.ec.EcRead.TheVariants as ec_read
-use Rattle.ubi_media.specs.declared.header.Form.TheVariants.{Sealed}
-use Rattle.ubi_media.specs.declared.vid.VidFields.{VidFields}
-use Rattle.ubi_media.specs.declared.vid.VidHeader.{VidHeader}
-use Rattle.ubi_media.specs.declared.vid.VolKind.{VolKind}
-use Rattle.ubi_media.specs.declared.vid.VolKind.TheVariants.{Dynamic, Static}
 use Rattle.ubi_media.specs.declared.vid.VidRead.TheVariants as vid_read
 use Rattle.ubi_media.proofs.Checks.{check_from-lt}
 

@@ -1,11 +1,6 @@
 -- The numbers of a geometry are those that break no limit.
-use Rattle.std.proofs.Common.{rules, ◌≡◌, ℕ, ◌+◌, ◌-◌, ◌%◌, ◌≤◌, ◌==◌, ◌&&◌, Bool, true, false, cond, arith, refl}
-use Rattle.std.specs.Prelude.{None, Option, Some, find, nat_le, not}
-use Rattle.std.specs.List.{list_any}
-use Rattle.std.proofs.lemmas.Bool.Decides.{nat_tests}
-use Rattle.ubi_media.specs.Geometry.{IsGeometry, Sizes, leb_size, page_sizes}
-use Rattle.ubi_media.specs.Limits.{first_broken, keeps, limits}
-use Rattle.ubi_media.specs.declared.geometry.GeometryError.{GeometryError}
+use Rattle.ubi_media.proofs.Prelude.{rules, ◌≡◌, ℕ, ◌+◌, ◌-◌, ◌%◌, ◌≤◌, ◌==◌, ◌&&◌, Bool, true, false, cond, arith, refl, None, Option, Some, find, nat_le, list_any, nat_tests, IsGeometry, Sizes, leb_size, page_sizes, first_broken, keeps, limits, GeometryError}
+use Rattle.std.specs.Prelude.{not}
 use Rattle.ubi_media.specs.declared.geometry.GeometryError.TheVariants as fault
 use Rattle.ubi_media.proofs.Pages.{page_multiple}
 

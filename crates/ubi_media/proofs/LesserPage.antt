@@ -1,21 +1,8 @@
 -- A record that breaks no rule with some page breaks none with a page of which that one is a multiple, and reads the
 -- same: all that a greater page can do to a record is to put it at fault.
-use Rattle.std.proofs.Common.{◌≡◌, ℕ, ◌%◌, ◌==◌, ◌&&◌, ◌⊎◌, inl, inr, Bool, true, false, not, cond, List, refl, ap, sym, ◌∙◌, eq-eqb, eqb-true}
-use Rattle.std.specs.Int.{◌∣◌}
-use Rattle.std.specs.Prelude.{Option, Some, None}
-use Rattle.std.specs.Option.{option_map_or}
-use Rattle.std.proofs.lemmas.Option.{none-some}
-use Rattle.std.proofs.lemmas.Nat.Gcd.{dvd_of_mod-eq-zero, dvd_trans, mod-eq-zero_of_dvd}
-use Rattle.ubi_media.specs.Fields.{is_sealed, same_bytes}
-use Rattle.ubi_media.specs.Geometry.{Sizes}
-use Rattle.ubi_media.specs.OtherPage.{with_page}
-use Rattle.ubi_media.specs.Record.{breaks, empty_record, fields_from, first_fault, judged, rec_fault, rec_fields, rec_reading, record_of}
-use Rattle.ubi_media.specs.declared.record.RecFault.{RecFault}
+use Rattle.ubi_media.proofs.Prelude.{◌≡◌, ℕ, ◌%◌, ◌==◌, ◌&&◌, ◌⊎◌, inl, inr, Bool, true, false, not, cond, List, refl, ap, sym, ◌∙◌, eq-eqb, eqb-true, ◌∣◌, Option, Some, None, option_map_or, none-some, dvd_of_mod-eq-zero, dvd_trans, mod-eq-zero_of_dvd, is_sealed, same_bytes, Sizes, with_page, breaks, empty_record, fields_from, first_fault, judged, rec_fault, rec_fields, rec_reading, record_of, RecFault, RecFields, RecRead, VolumeRecord}
 use Rattle.ubi_media.specs.declared.record.RecFault.TheVariants as fault
-use Rattle.ubi_media.specs.declared.record.RecFields.{RecFields}
-use Rattle.ubi_media.specs.declared.record.RecRead.{RecRead}
 use Rattle.ubi_media.specs.declared.record.RecRead.TheVariants as read
-use Rattle.ubi_media.specs.declared.record.VolumeRecord.{VolumeRecord}
 
 -- an alignment that is 1 or a multiple of a number is 1 or a multiple of what divides that number
 aligned : (n page least : ℕ) → least ∣ page → (b c : Bool) → (n % page == 0) ≡ c → (not b && not c) ≡ false

@@ -35,3 +35,4 @@ pub mod VidVectors
 pub mod Words
 pub mod Writes
 pub mod Xor
+pub mod Prelude

@@ -1,13 +1,6 @@
 -- Bytes that come into the register together are a look-up each.
-use Rattle.std.proofs.Common.{◌≡◌, ℕ, zero, suc, ◌+◌, ◌*◌, ◌/◌, ◌%◌, ◌^◌, ◌<◌, ◌≤◌, List, [], ◌∷◌, length, get_or, drop, bit_xor, refl, sym, ap, ◌∙◌, arith, zero-add}
-use Rattle.std.proofs.Math.Seq.{drop-cons}
-use Rattle.std.proofs.lemmas.List.{drop_all}
-use Rattle.std.proofs.lemmas.Nat.{mod_below, shr_split, xor_comm, xor_lt}
-use Rattle.std.specs.Int.{w32, to_le_bytes}
-use Rattle.std.specs.List.{flat_map}
+use Rattle.ubi_media.proofs.Prelude.{◌≡◌, ℕ, zero, suc, ◌+◌, ◌*◌, ◌/◌, ◌%◌, ◌^◌, ◌<◌, ◌≤◌, List, [], ◌∷◌, length, get_or, drop, bit_xor, refl, sym, ap, ◌∙◌, arith, zero-add, drop-cons, drop_all, mod_below, shr_split, xor_comm, xor_lt, w32, to_le_bytes, flat_map, bits, add_to_front, check_from, AreBytes}
 use lib.Bits.{xor_assoc, xor_shifted, xor_zero_r}
-use Rattle.ubi_media.specs.Check.{bits, add_to_front, check_from}
-use Rattle.ubi_media.specs.Fields.{AreBytes}
 use Rattle.ubi_media.proofs.Checks.{check_from-run}
 use Rattle.ubi_media.proofs.Register.{steps, steps-more, run, run-bits, run-empty, run-append}
 use Rattle.ubi_media.proofs.Table.{found, found-steps, steps-sum, steps-high}

@@ -1,10 +1,5 @@
 -- The bits of a number in the opposite order.
-use Rattle.std.proofs.Common.{◌≡◌, ℕ, zero, suc, ◌+◌, ◌*◌, ◌/◌, ◌%◌, ◌^◌, ◌<◌, bit_xor, refl, sym, arith}
-use Rattle.std.proofs.Math.Nat.{mod-lt, mod-eq_of_lt, div-eq_of_lt, pow-suc}
-use Rattle.std.specs.Int.{bit_at}
-use Rattle.std.proofs.lemmas.Nat.{pow_pos, xor_block, shr_split, shr_below, mod-pow-add}
-use Rattle.std.proofs.lemmas.Nat.Bits.{bit_at-lt, bit_at_lowest, bit_at-suc}
-use Rattle.ubi_media.specs.Check.{bits, polynomial}
+use Rattle.ubi_media.proofs.Prelude.{◌≡◌, ℕ, zero, suc, ◌+◌, ◌*◌, ◌/◌, ◌%◌, ◌^◌, ◌<◌, bit_xor, refl, sym, arith, mod-lt, mod-eq_of_lt, div-eq_of_lt, pow-suc, bit_at, pow_pos, xor_block, shr_split, shr_below, mod-pow-add, bit_at-lt, bit_at_lowest, bit_at-suc, bits, polynomial}
 use Rattle.ubi_media.proofs.Xor.{bit_times, xor-mod2, xor-div2}
 use Rattle.ubi_media.proofs.Polynomials.{length-bits}
 

@@ -1,16 +1,5 @@
 -- Names, and the bytes that a record has for one.
-use Rattle.std.proofs.Common.{◌≡◌, ℕ, zero, suc, ◌-◌, ◌<◌, ◌≤◌, ◌==◌, true, false, List, ◌∷◌, ◌++◌, length, take, replicate, get_or, refl, ap, ◌∙◌, arith, zero-add, length-append, position, slice_index, nat_lt, eq-eqb, eqb-true}
-use Rattle.std.specs.Prelude.{Option, Some, None}
-use Rattle.std.specs.Option.{option_map_or}
-use Rattle.std.specs.List.{list_any, position_or_len}
-use Rattle.std.proofs.lemmas.Bool.Decides.{nat_tests}
-use Rattle.std.proofs.lemmas.List.{length-replicate, length-take-le, drop-replicate, get_or_append_left, get_or_at, get_or-take, get_or_default}
-use Rattle.std.proofs.lemmas.List.Folds.{list_any_at, list_any_none}
-use Rattle.std.proofs.lemmas.List.Quantifiers.{position-Some}
-use Rattle.std.proofs.lemmas.List.Sums.{position_or_len_is}
-use Rattle.ubi_media.specs.Fields.{overwrite, padded}
-use Rattle.ubi_media.specs.Name.{is_name}
-use Rattle.ubi_media.specs.Record.{ends_at}
+use Rattle.ubi_media.proofs.Prelude.{◌≡◌, ℕ, zero, suc, ◌-◌, ◌<◌, ◌≤◌, ◌==◌, true, false, List, ◌∷◌, ◌++◌, length, take, replicate, get_or, refl, ap, ◌∙◌, arith, zero-add, length-append, position, slice_index, nat_lt, eq-eqb, eqb-true, Option, Some, None, option_map_or, list_any, position_or_len, nat_tests, length-replicate, length-take-le, drop-replicate, get_or_append_left, get_or_at, get_or-take, get_or_default, list_any_at, list_any_none, position-Some, position_or_len_is, overwrite, padded, is_name, ends_at}
 
 -- a name written over zeros
 pub over_zeros : (n : ℕ) (name : List ℕ) → overwrite 0 name (replicate n 0) ≡ name ++ replicate (n - length name) 0

@@ -1,17 +1,7 @@
 -- The pieces of a message are divided one after the other, and what remains of the last one has the check of all.
-use Rattle.std.proofs.Common.{◌≡◌, ℕ, zero, suc, ◌+◌, ◌-◌, ◌*◌, ◌/◌, ◌^◌, ◌<◌, ◌≤◌, List, [], ◌∷◌, ◌++◌, length, take, drop, get_or, set, replicate, bit_xor, inl, inr, refl, sym, ap, ◌∙◌, arith}
-use Rattle.std.proofs.Math.Nat.{add-zero, add_comm}
-use Rattle.std.proofs.lemmas.List.{get_or_append_left, get_or-append_right, get_or-drop, get_or_past, get_or-take, length-replicate, length-take, take_all}
-use Rattle.std.proofs.lemmas.Bool.{cases_lt}
-use Rattle.std.proofs.lemmas.List.Concat.{concat_is}
-use Rattle.std.proofs.lemmas.Nat.{from_le_bytes-to_le_bytes_8, xor_comm, xor_lt}
-use Rattle.std.specs.Int.{w64, from_le_bytes}
-use Rattle.std.specs.List.{AllByRecursion, concat, flat_map, CopiedTo, SameBelow}
-use Rattle.std.specs.Simd.{first_chunks}
+use Rattle.ubi_media.proofs.Prelude.{◌≡◌, ℕ, zero, suc, ◌+◌, ◌-◌, ◌*◌, ◌/◌, ◌^◌, ◌<◌, ◌≤◌, List, [], ◌∷◌, ◌++◌, length, take, drop, get_or, set, replicate, bit_xor, inl, inr, refl, sym, ap, ◌∙◌, arith, add-zero, add_comm, get_or_append_left, get_or-append_right, get_or-drop, get_or_past, get_or-take, length-replicate, take_all, cases_lt, concat_is, from_le_bytes-to_le_bytes_8, xor_comm, xor_lt, w64, from_le_bytes, AllByRecursion, concat, flat_map, CopiedTo, SameBelow, first_chunks, check_from, AreBytes, word_at, powers, sum_behind, left_of, Carries, IsPieceRemainder, IsQuotient}
+use Rattle.std.proofs.lemmas.List.{length-take}
 use lib.Bits.{xor_assoc, xor_self, xor_zero_l, xor_zero_r}
-use Rattle.ubi_media.specs.Check.{check_from}
-use Rattle.ubi_media.specs.Fields.{AreBytes}
-use Rattle.ubi_media.specs.inner.Division.{word_at, powers, sum_behind, left_of, Carries, IsPieceRemainder, IsQuotient}
 use Rattle.ubi_media.proofs.ByteLists.{bytes_each}
 use Rattle.ubi_media.proofs.Checks.{check_from-empty, check_from-lt}
 use Rattle.ubi_media.proofs.Divisor.{shifts, divisor, divisor-of}

@@ -1,9 +1,5 @@
 -- Lists of bits as polynomials.
-use Rattle.std.proofs.Common.{◌≡◌, ℕ, zero, suc, ◌+◌, ◌*◌, ◌/◌, ◌^◌, ◌<◌, List, [], ◌∷◌, ◌++◌, length, bit_xor, refl, sym, ap, ◌∙◌, arith, replicate, length-append}
-use Rattle.std.proofs.Math.Nat.{pow-suc}
-use Rattle.std.specs.List.{flat_map}
-use Rattle.std.proofs.lemmas.Nat.{pow-add, xor_block, shl_below}
-use Rattle.ubi_media.specs.Check.{bits, polynomial, add_to_front}
+use Rattle.ubi_media.proofs.Prelude.{◌≡◌, ℕ, zero, suc, ◌+◌, ◌*◌, ◌/◌, ◌^◌, ◌<◌, List, [], ◌∷◌, ◌++◌, length, bit_xor, refl, sym, ap, ◌∙◌, arith, replicate, length-append, pow-suc, flat_map, pow-add, xor_block, shl_below, bits, polynomial, add_to_front}
 use Rattle.ubi_media.proofs.Xor.{bit_times}
 
 abbrev pub AreBits : List ℕ → Type 0

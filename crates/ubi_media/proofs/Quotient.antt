@@ -1,14 +1,8 @@
 -- A division has a remainder, and one alone.
-use Rattle.std.proofs.Common.{◌≡◌, ℕ, zero, suc, ◌+◌, ◌*◌, ◌/◌, ◌%◌, ◌^◌, ◌<◌, Bool, true, false, ◌==◌, ◌≤◌, List, [], ◌∷◌, ◌++◌, length, replicate, bit_xor, refl, sym, ap, ◌∙◌, arith, length-append}
-use Rattle.std.specs.Int.{bit_at}
+use Rattle.ubi_media.proofs.Prelude.{◌≡◌, ℕ, zero, suc, ◌+◌, ◌*◌, ◌/◌, ◌%◌, ◌^◌, ◌<◌, Bool, true, false, ◌==◌, ◌≤◌, List, [], ◌∷◌, ◌++◌, length, replicate, bit_xor, refl, sym, ap, ◌∙◌, arith, length-append, bit_at, length-replicate, pow_pos, pow-add, xor_comm, xor_lt, xor_block, shl_below, shr_split, shr_below, mod_below, mod-eq_of_lt, mod-lt, pow-suc, generator, remainder, product, IsRemainder}
 use Rattle.std.specs.Bool.{if◌then◌else◌}
-use Rattle.std.proofs.lemmas.List.{length-replicate}
-use Rattle.std.proofs.lemmas.Nat.{pow_pos, pow-add, xor_comm, xor_lt, xor_block, shl_below, shr_split, shr_below, mod_below}
-use Rattle.std.proofs.Math.Nat.{mod-eq_of_lt, mod-lt, pow-suc}
 use lib.Bits.{xor_assoc, xor_self}
-use Rattle.ubi_media.specs.Check.{generator, remainder}
 use Rattle.ubi_media.proofs.Xor.{xor-twice}
-use Rattle.ubi_media.specs.Remainder.{product, IsRemainder}
 
 -- the generator times x^k is x^(32 + k) and a part below
 generator-above : (c k : ℕ) → c * generator * 2 ^ k ≡ c * 2 ^ (32 + k) + c * 0x04C11DB7 * 2 ^ k

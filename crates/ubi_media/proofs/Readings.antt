@@ -1,23 +1,10 @@
 -- Bytes have one form, and one reading as each of the two headers of an eraseblock.
-use Rattle.std.proofs.Common.{◌≡◌, ◌≢◌, ℕ, inl, inr, Bool, true, false, not, List, refl, ap, sym, ◌∙◌, subst, ◌≤◌, arith}
-use Rattle.std.specs.Prelude.{◌↔◌, Option, Some, None, if◌then◌else◌, nat_eq}
-use Rattle.std.specs.Option.{option_map_or}
+use Rattle.ubi_media.proofs.Prelude.{◌≡◌, ◌≢◌, ℕ, inl, inr, Bool, true, false, not, List, refl, ap, sym, ◌∙◌, subst, ◌≤◌, arith, ◌↔◌, Option, Some, None, if◌then◌else◌, nat_eq, option_map_or, nat_tests, AllPass-from_list_all, list_all-from_AllPass, field, is_blank, is_sealed, form_of, Sizes, IsBlank, FormIs, Form, Sealed, EcFault, EcFields, EcRead, VidFault, VidRead}
 use Rattle.std.proofs.lemmas.Bool.{eqb-true, eq-eqb}
-use Rattle.std.proofs.lemmas.Bool.Decides.{nat_tests}
-use Rattle.std.proofs.lemmas.List.Sums.{AllPass-from_list_all, list_all-from_AllPass}
-use Rattle.ubi_media.specs.Fields.{field, is_blank, is_sealed, form_of}
-use Rattle.ubi_media.specs.Geometry.{Sizes}
 use Rattle.ubi_media.specs.Ec as ec
-use Rattle.ubi_media.specs.Header.{IsBlank, FormIs}
 use Rattle.ubi_media.specs.Vid as vid
-use Rattle.ubi_media.specs.declared.header.Form.{Form}
-use Rattle.ubi_media.specs.declared.header.Form.TheVariants.{Blank, Corrupt, Sealed}
-use Rattle.ubi_media.specs.declared.ec.EcFault.{EcFault}
-use Rattle.ubi_media.specs.declared.ec.EcFields.{EcFields}
-use Rattle.ubi_media.specs.declared.ec.EcRead.{EcRead}
+use Rattle.ubi_media.specs.declared.header.Form.TheVariants.{Blank, Corrupt}
 use Rattle.ubi_media.specs.declared.ec.EcRead.TheVariants as ec_read
-use Rattle.ubi_media.specs.declared.vid.VidFault.{VidFault}
-use Rattle.ubi_media.specs.declared.vid.VidRead.{VidRead}
 use Rattle.ubi_media.specs.declared.vid.VidRead.TheVariants as vid_read
 
 -- what the tests say of bytes

@@ -1,23 +1,6 @@
 -- What is written of a slot of the volume table is read back.
-use Rattle.std.proofs.Common.{◌≡◌, ◌≢◌, ℕ, ◌+◌, ◌-◌, ◌%◌, ◌^◌, ◌<◌, ◌==◌, true, false, get_or, List, [], ◌∷◌, ◌++◌, length, take, drop, set, replicate, refl, sym, ap, subst, ◌∙◌, arith, append_assoc, length-append, slice_index, slice_range}
-use Rattle.std.specs.Prelude.{Option, Some, None, if◌then◌else◌}
-use Rattle.std.specs.Option.{ForSome}
-use Rattle.std.proofs.lemmas.Bool.Decides.{nat_tests}
-use Rattle.std.proofs.Math.Nat.{mod-lt}
-use Rattle.std.proofs.lemmas.List.{take_at, get_or_at}
-use Rattle.byteorder.specs.Endian.{big_bytes}
-use Rattle.byteorder.specs.Numbers.{big_number-reads_back}
-use Rattle.ubi_media.specs.Check.{check}
-use Rattle.ubi_media.specs.Fields.{field, sealed, overwrite, padded}
-use Rattle.ubi_media.specs.Geometry.{Sizes, leb_size}
-use Rattle.ubi_media.specs.Name.{is_name}
-use Rattle.ubi_media.specs.Record.{RecIs, data_pad, empty_record, fields_from, first_fault, rec_bytes, rec_fault, rec_fields, rec_front, record_of, slot_reading}
-use Rattle.ubi_media.specs.Vid.{kind_number}
-use Rattle.ubi_media.specs.Widths.{RecFits}
+use Rattle.ubi_media.proofs.Prelude.{◌≡◌, ◌≢◌, ℕ, ◌+◌, ◌-◌, ◌%◌, ◌^◌, ◌<◌, ◌==◌, true, false, get_or, List, [], ◌∷◌, ◌++◌, length, take, drop, set, replicate, refl, sym, ap, subst, ◌∙◌, arith, append_assoc, length-append, slice_index, slice_range, Option, Some, None, if◌then◌else◌, ForSome, nat_tests, mod-lt, take_at, get_or_at, big_bytes, big_number-reads_back, check, field, sealed, overwrite, padded, Sizes, leb_size, is_name, RecIs, data_pad, empty_record, fields_from, first_fault, rec_bytes, rec_fault, rec_fields, rec_front, record_of, slot_reading, kind_number, RecFits, VolumeRecord, VolKind, Dynamic, Static}
 use Rattle.ubi_media.specs.declared.record.RecRead.TheVariants as read
-use Rattle.ubi_media.specs.declared.record.VolumeRecord.{VolumeRecord}
-use Rattle.ubi_media.specs.declared.vid.VolKind.{VolKind}
-use Rattle.ubi_media.specs.declared.vid.VolKind.TheVariants.{Dynamic, Static}
 use Rattle.ubi_media.proofs.Headers.{kind_back, flag_back}
 use Rattle.ubi_media.proofs.Names.{IsName, name_facts, length-padded}
 use Rattle.ubi_media.proofs.Records.{divisor_kept, signs_kept, name_kept, sealed_back}

@@ -1,13 +1,7 @@
 -- Readings and bytes of records of the volume table on literals.
-use Rattle.std.proofs.Common.{◌≡◌, ℕ, ◌*◌, ◌-◌, List, [], ◌∷◌, ◌++◌, length, replicate, true, false, refl}
-use Rattle.std.specs.Prelude.{Some, None}
-use Rattle.ubi_media.specs.Check.{check_from, remainder}
-use Rattle.ubi_media.specs.OtherPage.{with_page}
-use Rattle.ubi_media.specs.Record.{data_pad, rec_bytes, rec_fault, rec_fields, rec_reading, empty_record, fields_from, record_of, judged, first_fault, breaks, usable}
+use Rattle.ubi_media.proofs.Prelude.{◌≡◌, ℕ, ◌*◌, ◌-◌, List, [], ◌∷◌, ◌++◌, length, replicate, true, false, refl, Some, None, check_from, remainder, with_page, data_pad, rec_bytes, rec_fault, rec_fields, rec_reading, empty_record, fields_from, record_of, judged, first_fault, breaks, usable, Empty, BadCrc, VolumeRecord, Dynamic, Static}
 use Rattle.ubi_media.specs.declared.record.RecFault.TheVariants as fault
-use Rattle.ubi_media.specs.declared.record.RecRead.TheVariants.{Empty, BadCrc, Fault, Valid}
-use Rattle.ubi_media.specs.declared.record.VolumeRecord.{VolumeRecord}
-use Rattle.ubi_media.specs.declared.vid.VolKind.TheVariants.{Dynamic, Static}
+use Rattle.ubi_media.specs.declared.record.RecRead.TheVariants.{Fault, Valid}
 use Rattle.ubi_media.proofs.Words.{small, words}
 
 -- 168 bytes that begin with words and end with zeros, and a check

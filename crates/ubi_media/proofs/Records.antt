@@ -1,29 +1,7 @@
 -- Bytes have one reading as a record of the volume table, and of a record only the numbers can break a rule.
-use Rattle.std.proofs.Common.{◌≡◌, ◌≢◌, ℕ, ◌+◌, ◌-◌, ◌%◌, ◌^◌, ◌<◌, ◌≤◌, ◌==◌, ◌&&◌, Bool, true, false, not, cond, get_or, nat_lt, List, [], length, take, replicate, refl, sym, ap, subst, ◌∙◌, lit<, arith, slice_index, slice_range, IfSome, eq-eqb, eqb-true}
-use Rattle.std.specs.Prelude.{◌↔◌, Option, Some, None, if◌then◌else◌}
-use Rattle.std.specs.Option.{option_map_or}
-use Rattle.std.specs.Cmp.Lexicographic.{same_text, other_text}
-use Rattle.std.proofs.lemmas.Bool.Decides.{nat_tests}
-use Rattle.std.proofs.lemmas.List.{take_at, drop_at}
-use Rattle.std.proofs.lemmas.Nat.{mod_below}
-use Rattle.byteorder.specs.Endian.{big_bytes, big_number}
-use Rattle.byteorder.specs.Numbers.{big_number-reads_back}
-use Rattle.ubi_media.specs.Check.{check}
-use Rattle.ubi_media.specs.Fields.{sealed, is_sealed, same_bytes}
-use Rattle.ubi_media.specs.Geometry.{Sizes, leb_size}
-use Rattle.ubi_media.specs.Header.{IsSealed}
-use Rattle.ubi_media.specs.Name.{is_name}
-use Rattle.ubi_media.specs.Record.{RecIs, breaks, data_pad, empty_record, ends_at, faults, fields_from, first_fault, judged, rec_fault, rec_fields, rec_reading, record_of, usable}
-use Rattle.ubi_media.specs.Vid.{kind_number}
-use Rattle.ubi_media.specs.Widths.{IsNumberFault}
-use Rattle.ubi_media.specs.declared.record.RecFault.{RecFault}
+use Rattle.ubi_media.proofs.Prelude.{◌≡◌, ◌≢◌, ℕ, ◌+◌, ◌-◌, ◌%◌, ◌^◌, ◌<◌, ◌≤◌, ◌==◌, ◌&&◌, Bool, true, false, not, cond, get_or, nat_lt, List, [], length, take, replicate, refl, sym, ap, subst, ◌∙◌, lit<, arith, slice_index, slice_range, IfSome, eq-eqb, eqb-true, ◌↔◌, Option, Some, None, if◌then◌else◌, option_map_or, same_text, other_text, nat_tests, take_at, drop_at, mod_below, big_bytes, big_number, big_number-reads_back, check, sealed, is_sealed, same_bytes, Sizes, leb_size, IsSealed, is_name, RecIs, breaks, data_pad, empty_record, ends_at, faults, fields_from, first_fault, judged, rec_fault, rec_fields, rec_reading, record_of, usable, kind_number, IsNumberFault, RecFault, RecFields, RecRead, VolumeRecord, VolKind, Dynamic, Static}
 use Rattle.ubi_media.specs.declared.record.RecFault.TheVariants as fault
-use Rattle.ubi_media.specs.declared.record.RecFields.{RecFields}
-use Rattle.ubi_media.specs.declared.record.RecRead.{RecRead}
 use Rattle.ubi_media.specs.declared.record.RecRead.TheVariants as read
-use Rattle.ubi_media.specs.declared.record.VolumeRecord.{VolumeRecord}
-use Rattle.ubi_media.specs.declared.vid.VolKind.{VolKind}
-use Rattle.ubi_media.specs.declared.vid.VolKind.TheVariants.{Dynamic, Static}
 use Rattle.ubi_media.proofs.Checks.{check_from-lt}
 use Rattle.ubi_media.proofs.First.{none_passes}
 use Rattle.ubi_media.proofs.Names.{IsName, name_facts, padded_ends, padded_begins, begins_with_name}

@@ -1,11 +1,6 @@
 -- A register that shifts a bit at a time does the division.
-use Rattle.std.proofs.Common.{◌≡◌, ℕ, zero, suc, ◌+◌, ◌*◌, ◌/◌, ◌%◌, ◌^◌, ◌<◌, List, [], ◌∷◌, ◌++◌, length, bit_xor, zero-add, refl, sym, ap, ◌∙◌, arith}
-use Rattle.std.proofs.Math.Nat.{mod-eq_of_lt, pow-suc}
-use Rattle.std.specs.Int.{bit_at}
-use Rattle.std.proofs.lemmas.Nat.{pow-add, xor_lt, xor_comm, mod_below, shl_below, shr_high}
-use Rattle.std.proofs.lemmas.Nat.Bits.{bit_at_xor, bit_at_above}
+use Rattle.ubi_media.proofs.Prelude.{◌≡◌, ℕ, zero, suc, ◌+◌, ◌*◌, ◌/◌, ◌%◌, ◌^◌, ◌<◌, List, [], ◌∷◌, ◌++◌, length, bit_xor, zero-add, refl, sym, ap, ◌∙◌, arith, mod-eq_of_lt, pow-suc, bit_at, pow-add, xor_lt, xor_comm, mod_below, shl_below, shr_high, bit_at_xor, bit_at_above, bits, polynomial, generator, remainder}
 use lib.Bits.{xor_assoc, xor_zero_r}
-use Rattle.ubi_media.specs.Check.{bits, polynomial, generator, remainder}
 use Rattle.ubi_media.proofs.Xor.{xor-mod2, xor-div2, xor-scale, xor-above, xor-twice, xor-swap}
 use Rattle.ubi_media.proofs.Polynomials.{AreBits, polynomial-lt}
 use Rattle.ubi_media.proofs.Mirror.{mirror, mirror-lt, mirror-xor, mirror-twice, mirror-generator, mirror-bit}

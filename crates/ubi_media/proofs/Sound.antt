@@ -1,17 +1,7 @@
 -- What is read as a record breaks no rule, as a value.
-use Rattle.std.proofs.Common.{◌≡◌, ℕ, ◌%◌, ◌==◌, ◌&&◌, Bool, true, false, not, List, refl, subst, lit<, arith, IfSome}
-use Rattle.std.specs.Prelude.{Option, Some, None, if◌then◌else◌}
-use Rattle.std.specs.Option.{option_map_or}
-use Rattle.std.proofs.lemmas.Bool.Decides.{nat_tests}
-use Rattle.ubi_media.specs.Fields.{is_sealed, same_bytes}
-use Rattle.ubi_media.specs.Geometry.{Sizes, leb_size}
-use Rattle.ubi_media.specs.Name.{is_name}
-use Rattle.ubi_media.specs.Record.{breaks, empty_record, faults, fields_from, first_fault, judged, rec_fault, rec_fields, rec_reading, record_of}
-use Rattle.ubi_media.specs.Widths.{IsNumberFault}
-use Rattle.ubi_media.specs.declared.record.RecFault.{RecFault}
+use Rattle.ubi_media.proofs.Prelude.{◌≡◌, ℕ, ◌%◌, ◌==◌, ◌&&◌, Bool, true, false, not, List, refl, subst, lit<, arith, IfSome, Option, Some, None, if◌then◌else◌, option_map_or, nat_tests, is_sealed, same_bytes, Sizes, leb_size, is_name, breaks, empty_record, faults, fields_from, first_fault, judged, rec_fault, rec_fields, rec_reading, record_of, IsNumberFault, RecFault, VolumeRecord}
 use Rattle.ubi_media.specs.declared.record.RecFault.TheVariants as fault
 use Rattle.ubi_media.specs.declared.record.RecRead.TheVariants as read
-use Rattle.ubi_media.specs.declared.record.VolumeRecord.{VolumeRecord}
 use Rattle.ubi_media.proofs.First.{found_passes}
 use Rattle.ubi_media.proofs.Records.{divisor_kept, kept, name_kept, number_faults}
 

@@ -1,17 +1,8 @@
 -- What bytes start with where no geometry is known.
-use Rattle.std.proofs.Common.{◌≡◌, ◌≢◌, ◌<◌, ◌≤◌, ℕ, List, refl, arith}
-use Rattle.std.specs.Prelude.{Option, Some, None}
-use Rattle.std.proofs.lemmas.Bool.Decides.{nat_tests}
-use Rattle.std.specs.Option.{option_map_or}
+use Rattle.ubi_media.proofs.Prelude.{◌≡◌, ◌≢◌, ◌<◌, ◌≤◌, ℕ, List, refl, arith, Option, Some, None, nat_tests, option_map_or, form_of, Sizes, EcFault, EcHeader, Form, EcFields}
 use Rattle.ubi_media.specs.Ec as ec
-use Rattle.ubi_media.specs.Fields.{form_of}
-use Rattle.ubi_media.specs.Geometry.{Sizes}
-use Rattle.ubi_media.specs.declared.ec.EcFault.{EcFault}
-use Rattle.ubi_media.specs.declared.ec.EcHeader.{EcHeader}
 use Rattle.ubi_media.specs.declared.ec.EcRead.TheVariants as ec_read
-use Rattle.ubi_media.specs.declared.header.Form.{Form}
 use Rattle.ubi_media.specs.declared.header.Form.TheVariants as form
-use Rattle.ubi_media.specs.declared.ec.EcFields.{EcFields}
 use Rattle.ubi_media.specs.declared.ec.EcFault.TheVariants as fault
 use Rattle.ubi_media.specs.declared.ec.EcStart.TheVariants as start
 

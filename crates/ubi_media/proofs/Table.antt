@@ -1,12 +1,6 @@
 -- The steps of a byte in the register are a look-up in a table.
-use Rattle.std.proofs.Common.{◌≡◌, ℕ, zero, suc, ◌+◌, ◌*◌, ◌/◌, ◌%◌, ◌^◌, ◌<◌, Bool, true, ◌&&◌, ◌==◌, List, [], ◌∷◌, length, get_or, bit_xor, bit_and, refl, sym, ap, ◌∙◌, arith, eqb-true, false, zero-add}
-use Rattle.std.proofs.lemmas.Bool.{and_parts, false≢true}
-use Rattle.std.proofs.lemmas.List.FromFn.{get_or-range_with_len}
-use Rattle.std.proofs.lemmas.Nat.{shr_split, mod_below, and_mask, xor_shr}
-use Rattle.std.proofs.Math.Nat.{pow-suc}
-use Rattle.std.specs.List.{range_with_len}
+use Rattle.ubi_media.proofs.Prelude.{◌≡◌, ℕ, zero, suc, ◌+◌, ◌*◌, ◌/◌, ◌%◌, ◌^◌, ◌<◌, Bool, true, ◌&&◌, ◌==◌, List, [], ◌∷◌, length, get_or, bit_xor, bit_and, refl, sym, ap, ◌∙◌, arith, eqb-true, false, zero-add, and_parts, false≢true, get_or-range_with_len, shr_split, mod_below, and_mask, xor_shr, pow-suc, range_with_len, TABLES}
 use lib.Bits.{xor_shifted, xor_zero_r}
-use Rattle.ubi_media.specs.declared.tables.TheConstants.{TABLES}
 use Rattle.ubi_media.proofs.Register.{step, steps, steps-more}
 use Rattle.ubi_media.proofs.Xor.{xor-div2, xor-mod2, xor-four}
 

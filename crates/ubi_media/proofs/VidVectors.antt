@@ -1,12 +1,8 @@
 -- Readings and bytes of volume-identifier headers on literals.
-use Rattle.std.proofs.Common.{◌≡◌, [], ◌∷◌, replicate, true, false, refl}
-use Rattle.ubi_media.specs.Check.{check_from, remainder}
-use Rattle.ubi_media.specs.Fields.{form_of}
-use Rattle.ubi_media.specs.Vid.{vid_bytes, vid_fields, vid_reading, fields_from, header_of, judged, first_fault, breaks}
+use Rattle.ubi_media.proofs.Prelude.{◌≡◌, [], ◌∷◌, replicate, true, false, refl, check_from, remainder, form_of, vid_bytes, vid_fields, vid_reading, header_of, VidHeader, Valid, Dynamic, Static}
+use Rattle.ubi_media.specs.Vid.{fields_from, judged, first_fault, breaks}
 use Rattle.ubi_media.specs.declared.vid.VidFault.TheVariants as fault
-use Rattle.ubi_media.specs.declared.vid.VidHeader.{VidHeader}
-use Rattle.ubi_media.specs.declared.vid.VidRead.TheVariants.{Blank, Corrupt, Fault, Valid}
-use Rattle.ubi_media.specs.declared.vid.VolKind.TheVariants.{Dynamic, Static}
+use Rattle.ubi_media.specs.declared.vid.VidRead.TheVariants.{Blank, Corrupt, Fault}
 use Rattle.ubi_media.proofs.Words.{small, words}
 
 -- the first logical eraseblock of the first volume, a dynamic one

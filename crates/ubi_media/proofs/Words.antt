@@ -1,8 +1,5 @@
 -- What tests on literals are written with: a small geometry, and bytes as words of four.
-use Rattle.std.proofs.Common.{ℕ, List}
-use Rattle.std.specs.List.{flat_map}
-use Rattle.byteorder.specs.Endian.{big_bytes}
-use Rattle.ubi_media.specs.Geometry.{Sizes}
+use Rattle.ubi_media.proofs.Prelude.{ℕ, List, flat_map, big_bytes, Sizes}
 
 -- eraseblocks of 512 bytes with pages of 64
 abbrev pub small : Sizes

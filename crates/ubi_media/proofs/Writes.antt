@@ -1,17 +1,7 @@
 -- What stands in bytes after numbers were written into them.
-use Rattle.std.proofs.Common.{◌≡◌, ℕ, ◌+◌, ◌≤◌, List, [], ◌++◌, length, take, drop, set, replicate, refl, sym, ap, ◌∙◌, arith, append_assoc, length-take, length-append, min}
-use Rattle.std.proofs.lemmas.List.{append-nil, drop-drop, take_at}
-use Rattle.std.proofs.Math.ListN.{drop_of_length-le}
+use Rattle.ubi_media.proofs.Prelude.{◌≡◌, ℕ, ◌+◌, ◌≤◌, List, [], ◌++◌, length, take, drop, set, replicate, refl, sym, ap, ◌∙◌, arith, append_assoc, length-take, length-append, min, append-nil, drop-drop, take_at, drop_of_length-le, big_bytes, check, ec_magic, ec_front, ec_bytes, overwrite, sealed, Sizes, vid_magic, vid_front, vid_bytes, EcHeader, VidFields, VidHeader}
 use borrow.Rule.Slice.PartMut.{put_mid, mid_of}
-use Rattle.byteorder.specs.Endian.{big_bytes}
-use Rattle.ubi_media.specs.Check.{check}
-use Rattle.ubi_media.specs.Ec.{ec_magic, ec_front, ec_bytes}
-use Rattle.ubi_media.specs.Fields.{overwrite, sealed}
-use Rattle.ubi_media.specs.Geometry.{Sizes}
-use Rattle.ubi_media.specs.Vid.{vid_magic, vid_front, vid_bytes, fields_from}
-use Rattle.ubi_media.specs.declared.ec.EcHeader.{EcHeader}
-use Rattle.ubi_media.specs.declared.vid.VidFields.{VidFields}
-use Rattle.ubi_media.specs.declared.vid.VidHeader.{VidHeader}
+use Rattle.ubi_media.specs.Vid.{fields_from}
 
 -- a write of the whole part of k bytes
 pub put_all : (at k : ℕ) (xs bytes : List ℕ) → length xs ≡ k → put_mid at k bytes xs ≡ overwrite at xs bytes

@@ -1,7 +1,5 @@
 -- Sums of polynomials, bit by bit.
-use Rattle.std.proofs.Common.{◌≡◌, ℕ, ◌+◌, ◌*◌, ◌/◌, ◌%◌, ◌^◌, ◌<◌, ◌≤◌, bit_xor, sym, ap, ◌∙◌, arith}
-use Rattle.std.proofs.Math.Nat.{mul-le-mul_right}
-use Rattle.std.proofs.lemmas.Nat.{pow_pos, xor_shr, xor_mod, xor_block, xor_comm}
+use Rattle.ubi_media.proofs.Prelude.{◌≡◌, ℕ, ◌+◌, ◌*◌, ◌/◌, ◌%◌, ◌^◌, ◌<◌, ◌≤◌, bit_xor, sym, ap, ◌∙◌, arith, mul-le-mul_right, pow_pos, xor_shr, xor_mod, xor_block, xor_comm}
 use lib.Bits.{xor_assoc, xor_shifted, xor_self, xor_zero_r}
 
 -- a bit times a number is at most the number

@@ -1,7 +1,8 @@
 //! The check that seals every header and record: the CRC of 32 bits with the reflected polynomial 0xEDB88320, started
 //! at 0xFFFFFFFF, without the final complement (`UBI_CRC32_INIT` of `ubi-media.h`).
 
-ghost use Rattle.std.specs.Prelude.{◌≡◌, ◌+◌, ◌≤◌, [], ◌∷◌, length, take};
+ghost use Rattle.std.specs.Prelude.{◌≡◌, ◌+◌, ◌<◌, ◌≤◌, [], ◌∷◌, length, slice_index, slice_index_or, take};
+ghost use Rattle.ubi_media.specs.declared.tables.TheConstants.{TABLES};
 ghost use Rattle.std.specs.List.{concat};
 ghost use Rattle.byteorder.specs.Endian.{big_bytes};
 ghost use Rattle.ubi_media.specs.Check.{check, check_from};
@@ -89,22 +90,22 @@ fn with_sixteen(state: u32, sixteen: &[u8; 16]) -> u32
 {
     let [a, b, c, d] = state.to_le_bytes();
     // What doesn't wait for the state comes first.
-    TABLES[0][sixteen[15] as usize]
-        ^ TABLES[1][sixteen[14] as usize]
-        ^ TABLES[2][sixteen[13] as usize]
-        ^ TABLES[3][sixteen[12] as usize]
-        ^ TABLES[4][sixteen[11] as usize]
-        ^ TABLES[5][sixteen[10] as usize]
-        ^ TABLES[6][sixteen[9] as usize]
-        ^ TABLES[7][sixteen[8] as usize]
-        ^ TABLES[8][sixteen[7] as usize]
-        ^ TABLES[9][sixteen[6] as usize]
-        ^ TABLES[10][sixteen[5] as usize]
-        ^ TABLES[11][sixteen[4] as usize]
-        ^ TABLES[12][(d ^ sixteen[3]) as usize]
-        ^ TABLES[13][(c ^ sixteen[2]) as usize]
-        ^ TABLES[14][(b ^ sixteen[1]) as usize]
-        ^ TABLES[15][(a ^ sixteen[0]) as usize]
+    found(0, sixteen[15])
+        ^ found(1, sixteen[14])
+        ^ found(2, sixteen[13])
+        ^ found(3, sixteen[12])
+        ^ found(4, sixteen[11])
+        ^ found(5, sixteen[10])
+        ^ found(6, sixteen[9])
+        ^ found(7, sixteen[8])
+        ^ found(8, sixteen[7])
+        ^ found(9, sixteen[6])
+        ^ found(10, sixteen[5])
+        ^ found(11, sixteen[4])
+        ^ found(12, d ^ sixteen[3])
+        ^ found(13, c ^ sixteen[2])
+        ^ found(14, b ^ sixteen[1])
+        ^ found(15, a ^ sixteen[0])
 }
 
 /// The state after eight more bytes: the sum of what each adds, found in the table of how many bytes come behind it.
@@ -114,14 +115,22 @@ fn with_eight(state: u32, eight: &[u8; 8]) -> u32
 {
     let [a, b, c, d] = state.to_le_bytes();
     // What doesn't wait for the state comes first.
-    TABLES[0][eight[7] as usize]
-        ^ TABLES[1][eight[6] as usize]
-        ^ TABLES[2][eight[5] as usize]
-        ^ TABLES[3][eight[4] as usize]
-        ^ TABLES[4][(d ^ eight[3]) as usize]
-        ^ TABLES[5][(c ^ eight[2]) as usize]
-        ^ TABLES[6][(b ^ eight[1]) as usize]
-        ^ TABLES[7][(a ^ eight[0]) as usize]
+    found(0, eight[7])
+        ^ found(1, eight[6])
+        ^ found(2, eight[5])
+        ^ found(3, eight[4])
+        ^ found(4, d ^ eight[3])
+        ^ found(5, c ^ eight[2])
+        ^ found(6, b ^ eight[1])
+        ^ found(7, a ^ eight[0])
+}
+
+/// What a byte adds to the state that so many bytes come behind.
+fn found(behind: usize, byte: u8) -> u32
+    requires { behind < 16 }
+    ensures { result ≡ slice_index (slice_index_or TABLES behind []) byte }
+{
+    TABLES[behind][byte as usize]
 }
 
 /// The state after one more byte.

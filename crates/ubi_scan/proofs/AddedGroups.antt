@@ -1,16 +1,5 @@
 -- A header that is added to each of some groups.
-use Rattle.std.proofs.Common.{◌≡◌, ℕ, ◌+◌, ◌*◌, ◌<◌, ◌≤◌, Bool, true, false, cond, List, [], ◌∷◌, ◌++◌, length, take, drop, refl, ap, sym, ◌∙◌, subst, arith, inl, inr}
-use Rattle.std.specs.List.{All}
-use Rattle.std.specs.Prelude.{◌==◌, IsFalse, IsTrue, map, slice_index_or, slice_set}
-use Rattle.std.proofs.lemmas.List.{append-nil, drop_all, ext_get_or, get_or-map, get_or-set_other, get_or-set_same, length-map, map-append, take_all}
-use Rattle.std.proofs.lemmas.List.Elements.{All-push}
-use Rattle.ubi_media.proofs.Cases.{below_or_last}
-use Rattle.ubi_scan.specs.Groups.{IsGroup, no_key}
-use Rattle.ubi_scan.specs.Heads.{is_of, keys_of, step, with_key}
-use Rattle.ubi_scan.specs.declared.groups.Group.{Group}
-use Rattle.ubi_scan.specs.declared.heads.Head.{Head}
-use Rattle.ubi_scan.specs.declared.heads.Key.{Key}
-use Rattle.ubi_scan.specs.inner.Detecting.{AreAdded, AreGroups, AreReady, IsAdded, IsWithin, has_key}
+use Rattle.ubi_scan.proofs.Prelude.{◌≡◌, ℕ, ◌+◌, ◌*◌, ◌<◌, ◌≤◌, Bool, true, false, cond, List, [], ◌∷◌, ◌++◌, length, take, drop, refl, ap, sym, ◌∙◌, subst, arith, inl, inr, All, ◌==◌, IsFalse, IsTrue, map, slice_index_or, slice_set, append-nil, drop_all, ext_get_or, get_or-map, get_or-set_other, get_or-set_same, length-map, map-append, take_all, All-push, below_or_last, IsGroup, no_key, is_of, keys_of, step, with_key, Group, Head, Key, AreAdded, AreGroups, AreReady, IsAdded, IsWithin, has_key}
 use Rattle.ubi_scan.proofs.Grouped.{group_more, keys_more}
 use Rattle.ubi_scan.proofs.NewGroups.{any_group}
 

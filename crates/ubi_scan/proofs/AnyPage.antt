@@ -1,19 +1,8 @@
 -- No header names a page: with another page eraseblocks have the same members and winners, no fault more, and the same
 -- states and numbers.
-use Rattle.std.proofs.Common.{◌≡◌, ℕ, inl, inr, List, refl}
-use Rattle.std.specs.FinMap.{get}
-use Rattle.std.specs.Prelude.{IfSome, MatchOption, None, Option, Some, slice_get}
-use Rattle.ubi_media.specs.Ec.{breaks as ec_breaks, ec_reading, first_fault as first_ec_fault, judged as judged_ec}
-use Rattle.ubi_media.specs.Geometry.{Sizes}
-use Rattle.ubi_media.specs.OtherPage.{with_page}
-use Rattle.ubi_media.specs.Vid.{breaks as vid_breaks, first_fault as first_vid_fault, judged as judged_vid, vid_reading}
-use Rattle.ubi_media.specs.declared.refusal.Refusal.{Refusal}
+use Rattle.ubi_scan.proofs.Prelude.{◌≡◌, ℕ, inl, inr, List, refl, get, IfSome, MatchOption, None, Option, Some, slice_get, ec_reading, Sizes, with_page, breaks as vid_breaks, first_fault as first_vid_fault, judged as judged_vid, vid_reading, Refusal, HasFault, NoFault, IsMember, Leb, NoMember, Wins, image_seq, Found, IsScan, StateIs, ScanState}
+use Rattle.ubi_media.specs.Ec.{breaks as ec_breaks, first_fault as first_ec_fault, judged as judged_ec}
 use Rattle.ubi_media.specs.declared.refusal.Refusal.TheVariants as refusal
-use Rattle.ubi_scan.specs.Faults.{HasFault, NoFault}
-use Rattle.ubi_scan.specs.Members.{IsMember, Leb, NoMember, Wins}
-use Rattle.ubi_scan.specs.Numbers.{image_seq}
-use Rattle.ubi_scan.specs.Scan.{Found, IsScan, StateIs}
-use Rattle.ubi_scan.specs.declared.found.ScanState.{ScanState}
 use Rattle.ubi_scan.specs.declared.found.ScanState.TheVariants as state
 
 module _ (s : Sizes) (page : ℕ) (bs : List (List ℕ)) where

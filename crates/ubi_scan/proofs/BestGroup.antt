@@ -1,18 +1,6 @@
 -- The group that speaks for most bytes is that of the image.
-use Rattle.std.proofs.Common.{◌≡◌, ℕ, ◌+◌, ◌-◌, ◌*◌, ◌<◌, ◌≤◌, ◌⊎◌, Bool, true, false, List, length, inl, inr, refl, ap, sym, ◌∙◌, subst, arith}
-use Rattle.std.specs.List.{All, list_all}
-use Rattle.std.specs.Prelude.{◌&&◌, ◌||◌, ◌==◌, IfSome, IsFalse, IsTrue, MatchOption, None, Option, Some, nat_lt, not, slice_index_or}
-use Rattle.std.proofs.lemmas.Bool.{and_cases, and_from, and_parts, le-leb, leb-true, ltb-false, ltb-true, true≢false}
-use Rattle.std.proofs.lemmas.List.{get_or-map}
-use Rattle.std.proofs.lemmas.List.Folds.{list_all-map}
-use Rattle.std.proofs.lemmas.Nat.Gcd.{dvd_antisymm}
-use Rattle.ubi_media.proofs.Cases.{below_or_last, below_same_or_above}
-use Rattle.ubi_scan.specs.Groups.{IsGroup, IsImage, IsSpacing, Says, greatest_size, no_key, spoken}
-use Rattle.ubi_scan.specs.Heads.{keys_of, places, same_offsets, speaks}
-use Rattle.ubi_scan.specs.declared.groups.Group.{Group}
-use Rattle.ubi_scan.specs.declared.heads.Head.{Head}
-use Rattle.ubi_scan.specs.declared.heads.Key.{Key}
-use Rattle.ubi_scan.specs.inner.Detecting.{AreGroups, IsBestOf, IsWithin, NoneSays, beats, says_size, speaks_among}
+use Rattle.ubi_scan.proofs.Prelude.{◌≡◌, ℕ, ◌+◌, ◌-◌, ◌*◌, ◌<◌, ◌≤◌, ◌⊎◌, Bool, true, false, List, length, inl, inr, refl, ap, sym, ◌∙◌, subst, arith, All, list_all, ◌&&◌, ◌||◌, ◌==◌, IfSome, IsFalse, IsTrue, MatchOption, None, Option, Some, nat_lt, not, slice_index_or, and_cases, and_from, and_parts, le-leb, leb-true, ltb-false, ltb-true, true≢false, get_or-map, list_all-map, dvd_antisymm, below_or_last, below_same_or_above, IsGroup, IsImage, IsSpacing, Says, greatest_size, no_key, spoken, keys_of, places, same_offsets, speaks, Group, Head, Key, AreGroups, IsBestOf, IsWithin, NoneSays, says_size, speaks_among}
+use Rattle.ubi_scan.specs.inner.Detecting.{beats}
 use Rattle.ubi_scan.proofs.AddedGroups.{no_group}
 use Rattle.ubi_scan.proofs.MoreKeys.{as_many_keys}
 

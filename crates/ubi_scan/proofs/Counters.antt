@@ -1,15 +1,7 @@
 -- Erase counters that were read, and their mean: none is above the greatest one.
-use Rattle.std.proofs.Common.{◌≡◌, ℕ, ◌*◌, ◌/◌, ◌≤◌, Bool, true, false, cond, List, sym, subst, arith}
-use Rattle.std.specs.Prelude.{◌==◌}
-use Rattle.std.proofs.Math.Nat.{div-le_of_le-mul}
+use Rattle.ubi_scan.proofs.Prelude.{◌≡◌, ℕ, ◌*◌, ◌/◌, ◌≤◌, Bool, true, false, cond, List, sym, subst, arith, ◌==◌, div-le_of_le-mul, ec_reading, Sizes, EcHeader, EcRead, counter_within, ec_is_of, CounterFits}
 use Rattle.ubi_media.specs.Ec as ec_rules
-use Rattle.ubi_media.specs.Ec.{ec_reading}
-use Rattle.ubi_media.specs.Geometry.{Sizes}
-use Rattle.ubi_media.specs.declared.ec.EcHeader.{EcHeader}
-use Rattle.ubi_media.specs.declared.ec.EcRead.{EcRead}
 use Rattle.ubi_media.specs.declared.ec.EcRead.TheVariants as ec_read
-use Rattle.ubi_media.proofs.Readings.{counter_within, ec_is_of}
-use Rattle.ubi_scan.specs.Numbers.{CounterFits}
 
 -- a Valid header's counter has 31 bits
 pub valid_counter : (s : Sizes) (bytes : List ℕ) (e : EcHeader) → ec_reading s bytes ≡ ec_read.Valid e

@@ -1,17 +1,6 @@
 -- Of each file something is told, or it is refused for a cause.
-use Rattle.std.proofs.Common.{◌≡◌, ℕ, ◌-◌, ◌≤◌, ◌⊎◌, Bool, true, false, List, [], ◌∷◌, length, inl, inr, refl, ap, sym, ◌∙◌, arith}
-use Rattle.ubi_media.proofs.Cases.{within_or_past}
-use Rattle.ubi_scan.specs.Detected.{AreDetected, IsFound, IsUndetected, IsWhole, NonePlain}
-use Rattle.ubi_scan.specs.DetectLaws.{DetectedOrRefused}
-use Rattle.ubi_scan.specs.Groups.{IsImage}
-use Rattle.ubi_scan.specs.Heads.{heads_of, key_count, most_keys}
-use Rattle.ubi_scan.specs.Place.{end_of_last, has_no_page, told}
-use Rattle.ubi_scan.specs.Sure.{is_sure}
-use Rattle.ubi_scan.specs.declared.detect.Detected.{Detected}
-use Rattle.ubi_scan.specs.declared.detect.Undetected.{Undetected}
+use Rattle.ubi_scan.proofs.Prelude.{◌≡◌, ℕ, ◌-◌, ◌≤◌, ◌⊎◌, Bool, true, false, List, [], ◌∷◌, length, inl, inr, refl, ap, sym, ◌∙◌, arith, within_or_past, AreDetected, IsFound, IsUndetected, IsWhole, NonePlain, DetectedOrRefused, IsImage, heads_of, key_count, most_keys, end_of_last, has_no_page, told, is_sure, Detected, Undetected, Group, Head}
 use Rattle.ubi_scan.specs.declared.detect.Undetected.TheVariants as cause
-use Rattle.ubi_scan.specs.declared.groups.Group.{Group}
-use Rattle.ubi_scan.specs.declared.heads.Head.{Head}
 use Rattle.ubi_scan.proofs.PlainOrNot.{surely_or_not}
 use Rattle.ubi_scan.proofs.SaidGroups.{not_sure, too_many}
 use Rattle.ubi_scan.proofs.SomeGroups.{image_or_none}

@@ -1,15 +1,7 @@
 -- What is detected of a source, by the group of its image.
-use Rattle.std.proofs.Common.{◌≡◌, ◌≢◌, ℕ, List, []}
-use Rattle.std.specs.Prelude.{Result, Ok, Err, IfErr, IfOk}
-use Rattle.ubi_scan.specs.Detected.{AreDetectedOf, IsDetectError, IsFound}
-use Rattle.ubi_scan.specs.Place.{told}
-use Rattle.ubi_scan.specs.Source.{Agreed, Source, WhereHeld}
-use Rattle.ubi_scan.specs.declared.detect.DetectError.{DetectError}
+use Rattle.ubi_scan.proofs.Prelude.{◌≡◌, ◌≢◌, ℕ, List, [], Result, Ok, Err, IfErr, IfOk, AreDetectedOf, IsDetectError, IsFound, told, Agreed, Source, WhereHeld, DetectError, Detected, Group, IsUntold}
 use Rattle.ubi_scan.specs.declared.detect.DetectError.TheVariants as error
-use Rattle.ubi_scan.specs.declared.detect.Detected.{Detected}
 use Rattle.ubi_scan.specs.declared.detect.Undetected.TheVariants as cause
-use Rattle.ubi_scan.specs.declared.groups.Group.{Group}
-use Rattle.ubi_scan.specs.inner.Detecting.{IsUntold}
 
 module _ (agrees : Agreed) (g : Group) (found : WhereHeld agrees (λ bytes. IsFound bytes g)) where
   pub detected : {V : Type 0} (items : V → List Detected) (r : Result V DetectError) → IfOk r (λ v. WhereHeld agrees (λ bytes. items v ≡ told bytes g))

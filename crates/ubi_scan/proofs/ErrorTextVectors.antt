@@ -1,7 +1,5 @@
 -- The texts of why no geometry is told, on literals.
-use Rattle.std.proofs.Common.{◌≡◌, codes, refl}
-use Rattle.std.specs.Fmt.{digits}
-use Rattle.ubi_scan.specs.ErrorTexts.{undetected_text}
+use Rattle.ubi_scan.proofs.Prelude.{◌≡◌, codes, refl, digits, undetected_text}
 use Rattle.ubi_scan.specs.declared.detect.Undetected.TheVariants as cause
 
 no_header : undetected_text cause.NoHeader ≡ codes "F1 NoHeader"

@@ -1,8 +1,6 @@
 -- Reads at places that failed.
-use Rattle.std.proofs.Common.{ℕ}
-use Rattle.ubi_scan.specs.declared.detect.DetectError.{DetectError}
+use Rattle.ubi_scan.proofs.Prelude.{ℕ, DetectError, IsReadAt, IsReadError}
 use Rattle.ubi_scan.specs.declared.detect.DetectError.TheVariants as error
-use Rattle.ubi_scan.specs.inner.Detecting.{IsReadAt, IsReadError}
 
 pub read_error : (n : ℕ) (e : DetectError) → IsReadAt n e → IsReadError n e
 read_error n (error.Undetected c) is = is

@@ -1,10 +1,5 @@
 -- Which eraseblock is told where a read failed.
-use Rattle.std.proofs.Common.{◌≡◌, ℕ, ◌+◌, ◌*◌, ◌/◌, ◌<◌, ap, subst, sym, ◌∙◌}
-use Rattle.std.proofs.lemmas.Nat.{div-mul-add}
-use Rattle.std.specs.Prelude.{IfErr, OnErr, Result, Ok, Err}
-use Rattle.ubi_media.specs.Geometry.{Sizes}
-use Rattle.ubi_scan.specs.Stream.{NamesBlock}
-use Rattle.ubi_scan.specs.declared.errors.StreamError.{StreamError}
+use Rattle.ubi_scan.proofs.Prelude.{◌≡◌, ℕ, ◌+◌, ◌*◌, ◌/◌, ◌<◌, ap, subst, sym, ◌∙◌, div-mul-add, IfErr, OnErr, Result, Ok, Err, Sizes, NamesBlock, StreamError}
 use Rattle.ubi_scan.specs.declared.errors.StreamError.TheVariants as stream
 
 -- a read that begins within an eraseblock is told of that one, where it fails

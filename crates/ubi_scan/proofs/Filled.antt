@@ -1,9 +1,7 @@
 -- Bytes that are filled up with 0xFF: their parts, and what is written over them.
-use Rattle.std.proofs.Common.{◌≡◌, ℕ, zero, suc, ◌+◌, ◌-◌, ◌≤◌, List, [], ◌∷◌, ◌++◌, append_assoc, length, take, drop, refl, ap, sym, ◌∙◌, arith, length-append}
+use Rattle.ubi_scan.proofs.Prelude.{◌≡◌, ℕ, zero, suc, ◌+◌, ◌-◌, ◌≤◌, List, [], ◌∷◌, ◌++◌, append_assoc, length, take, drop, refl, ap, sym, ◌∙◌, arith, length-append, drop-drop, drop-replicate, drop_at, length-replicate, replicate-append-replicate, take-replicate, take_at, blank, filled, overwrite}
 use Rattle.std.specs.Prelude.{slice_range}
 use Rattle.std.proofs.Math.Path.{ap₂}
-use Rattle.std.proofs.lemmas.List.{drop-drop, drop-replicate, drop_at, length-replicate, replicate-append-replicate, take-replicate, take_at}
-use Rattle.ubi_media.specs.Fields.{blank, filled, overwrite}
 
 pub length-blank : (n : ℕ) → length (blank n) ≡ n
 length-blank n = length-replicate {A = ℕ} n 255

@@ -1,20 +1,6 @@
 -- The groups of headers with one header more.
-use Rattle.std.proofs.Common.{◌≡◌, ℕ, ◌+◌, ◌-◌, Bool, true, false, cond, List, [], ◌∷◌, ◌++◌, length, refl, ap, sym, ◌∙◌, subst, arith}
-use Rattle.std.specs.Int.{◌∣◌, IsGcd}
-use Rattle.std.specs.List.{filter, fold, last_or}
-use Rattle.std.specs.Prelude.{◌==◌, IsFalse, IsTrue, Option, Some, map, unwrap_or}
-use Rattle.std.proofs.lemmas.Bool.{ne_eqb}
-use Rattle.std.proofs.lemmas.List.{append-nil, get_or_append_left, length-append, map-append}
-use Rattle.std.proofs.lemmas.List.Elements.{All-cons, All-nil, All-push, filter-append}
-use Rattle.std.proofs.lemmas.List.Sums.{fold-append}
-use Rattle.std.proofs.Math.Seq.{get_or-append_seam}
-use Rattle.std.proofs.lemmas.Nat.Gcd.{dvd_trans}
-use Rattle.ubi_scan.specs.Groups.{Divides, IsGroup, IsSpacing}
-use Rattle.ubi_scan.specs.Heads.{first_place, is_of, keys_of, last_place, places, with_key}
-use Rattle.ubi_scan.specs.declared.groups.Group.{Group}
-use Rattle.ubi_scan.specs.declared.heads.Head.{Head}
-use Rattle.ubi_scan.specs.declared.heads.Key.{Key}
-use Rattle.ubi_scan.specs.inner.Detecting.{IsAdded}
+use Rattle.ubi_scan.proofs.Prelude.{◌≡◌, ℕ, ◌+◌, ◌-◌, Bool, true, false, cond, List, [], ◌∷◌, ◌++◌, length, refl, ap, sym, ◌∙◌, subst, arith, ◌∣◌, IsGcd, filter, fold, last_or, ◌==◌, IsFalse, IsTrue, Option, Some, map, unwrap_or, ne_eqb, append-nil, get_or_append_left, map-append, All-cons, All-nil, All-push, filter-append, fold-append, get_or-append_seam, dvd_trans, Divides, IsGroup, IsSpacing, first_place, is_of, keys_of, last_place, places, with_key, Group, Head, Key, IsAdded}
+use Rattle.std.proofs.lemmas.List.{length-append}
 
 -- the keys with one header more
 pub keys_more : (heads : List Head) (h : Head) → keys_of (heads ++ h ∷ []) ≡ with_key (keys_of heads) h.key

@@ -1,6 +1,5 @@
 -- Tests that are done one after the other.
-use Rattle.std.proofs.Common.{◌≡◌, Bool, true, false, ap, sym, ◌∙◌}
-use Rattle.std.specs.Prelude.{◌&&◌, ◌||◌}
+use Rattle.ubi_scan.proofs.Prelude.{◌≡◌, Bool, true, false, ap, sym, ◌∙◌, ◌&&◌, ◌||◌}
 
 module _ (a b c : Bool) where
   pub first_fails : a ≡ false → false ≡ (a && b && c)

@@ -1,12 +1,5 @@
 -- Headers that are of one group, one after the other.
-use Rattle.std.proofs.Common.{◌≡◌, ℕ, ◌+◌, ◌*◌, ◌<◌, ◌⊎◌, true, List, inl, inr, refl, ap, sym, ◌∙◌, subst, arith}
-use Rattle.std.specs.Prelude.{◌||◌, ◌==◌, IsTrue, None, Some}
-use Rattle.std.proofs.lemmas.Bool.{and_from, and_parts, eq-eqb, eqb-true, or_cases, or_left, or_right}
-use Rattle.std.proofs.lemmas.Option.{none-some, same_Some}
-use Rattle.ubi_media.proofs.Cases.{below_or_last}
-use Rattle.ubi_scan.specs.Heads.{is_of, key_at}
-use Rattle.ubi_scan.specs.declared.heads.Key.{Key}
-use Rattle.ubi_scan.specs.inner.Joined.{AreJoined, HasHeadOf, IsJoined, NoneJoined, NoneOwns}
+use Rattle.ubi_scan.proofs.Prelude.{◌≡◌, ℕ, ◌+◌, ◌*◌, ◌<◌, ◌⊎◌, true, List, inl, inr, refl, ap, sym, ◌∙◌, subst, arith, ◌||◌, ◌==◌, IsTrue, None, Some, and_from, and_parts, eq-eqb, eqb-true, or_cases, or_left, or_right, none-some, same_Some, below_or_last, is_of, key_at, Key, AreJoined, HasHeadOf, IsJoined, NoneJoined, NoneOwns}
 
 -- what it is that a header belongs to a group
 pub record Owns (k l : Key) : Type 0 where

@@ -1,25 +1,8 @@
 -- Of what is told of a file the first has the least page, and where pages have no out-of-band bytes nothing else
 -- differs.
-use Rattle.std.proofs.Common.{◌≡◌, ℕ, suc, ◌-◌, ◌/◌, ◌%◌, ◌*◌, ◌≤◌, Bool, true, false, cond, List, [], ◌∷◌, ◌++◌, map, refl, sym, subst, arith}
-use Rattle.std.specs.Bool.{then_some}
-use Rattle.std.specs.Int.{◌∣◌}
-use Rattle.std.specs.List.{All, AllByRecursion, AllPairs, cons_option, filter_map, flat_map}
-use Rattle.std.specs.Prelude.{Contains, filter, option_map, nat_le, nat_lt, ◌==◌, ◌&&◌}
-use Rattle.std.proofs.lemmas.Bool.Decides.{nat_tests}
-use Rattle.std.proofs.lemmas.List.Elements.{All-append, All-cons, All-contains, All-from_recursion, All-head, All-map, All-nil, All-tail, All-weaker}
-use Rattle.std.proofs.lemmas.List.Kept.{AllPairs-cons, AllPairs-filter}
-use Rattle.std.proofs.lemmas.Nat.Gcd.{dvd_of_mod-eq-zero, dvd_refl}
-use Rattle.std.proofs.Math.Nat.{mod_self}
-use Rattle.ubi_media.specs.Geometry.{page_sizes}
-use Rattle.ubi_media.specs.OtherPage.{with_page}
-use Rattle.ubi_media.specs.declared.ec.EcOffsets.{EcOffsets}
-use Rattle.ubi_scan.specs.Detected.{AreDetected}
-use Rattle.ubi_scan.specs.Layout.{is_laid_out, sizes_of}
-use Rattle.ubi_scan.specs.Place.{end_of_image, has_vote, is_voted, is_without, start_of_image, told, told_by, told_ways, ways_with, ways_without}
-use Rattle.ubi_scan.specs.Ways.{page_counts, plain_way, way_of}
-use Rattle.ubi_scan.specs.declared.detect.Detected.{Detected}
-use Rattle.ubi_scan.specs.declared.groups.Group.{Group}
-use Rattle.ubi_scan.specs.declared.way.Way.{Way}
+use Rattle.ubi_scan.proofs.Prelude.{◌≡◌, ℕ, suc, ◌-◌, ◌/◌, ◌%◌, ◌*◌, ◌≤◌, Bool, true, false, cond, List, [], ◌∷◌, ◌++◌, refl, sym, subst, arith, then_some, ◌∣◌, All, AllByRecursion, AllPairs, cons_option, filter_map, flat_map, Contains, option_map, nat_le, nat_lt, ◌==◌, ◌&&◌, nat_tests, All-append, All-cons, All-contains, All-from_recursion, All-head, All-map, All-nil, All-tail, All-weaker, AllPairs-cons, AllPairs-filter, dvd_of_mod-eq-zero, dvd_refl, mod_self, page_sizes, with_page, EcOffsets, AreDetected, is_laid_out, sizes_of, end_of_image, has_vote, is_voted, is_without, start_of_image, told, told_by, told_ways, ways_with, ways_without, page_counts, plain_way, way_of, Detected, Group, Way}
+use Rattle.std.proofs.Common.{map}
+use Rattle.std.specs.Prelude.{filter}
 
 -- what holds of each pair of elements
 module _ {X : Type 0} (R : X → X → Type 0) where

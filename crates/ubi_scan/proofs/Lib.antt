@@ -74,3 +74,4 @@ pub mod Twins
 pub mod WayVectors
 pub mod WaysThatFit
 pub mod Within
+pub mod Prelude

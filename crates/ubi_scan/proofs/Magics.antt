@@ -1,12 +1,8 @@
 -- Bytes with another magic than that of a header are none.
-use Rattle.std.proofs.Common.{◌≡◌, ℕ, ◌+◌, ◌-◌, Bool, true, false, cond, List, take, drop, refl, ap, sym, ◌∙◌, arith}
-use Rattle.std.specs.Prelude.{◌==◌, IsFalse, None, not, slice_range}
-use Rattle.std.proofs.lemmas.List.{take-take}
-use Rattle.byteorder.specs.Endian.{big_number}
-use Rattle.ubi_media.specs.Ec.{ec_fields, ec_magic, ec_reading, ec_start, offsets_of, reading_by, sizes_naming, start_by}
-use Rattle.ubi_media.specs.Fields.{field, form_of, is_blank, is_sealed}
+use Rattle.ubi_scan.proofs.Prelude.{◌≡◌, ℕ, ◌+◌, ◌-◌, Bool, true, false, cond, List, take, drop, refl, ap, sym, ◌∙◌, arith, ◌==◌, IsFalse, None, not, take-take, big_number, ec_fields, ec_magic, ec_reading, ec_start, offsets_of, reading_by, sizes_naming, start_by, field, form_of, is_sealed, key_by, key_in}
+use Rattle.std.specs.Prelude.{slice_range}
+use Rattle.ubi_media.specs.Fields.{is_blank}
 use Rattle.ubi_media.specs.declared.header.Form.TheVariants as form
-use Rattle.ubi_scan.specs.Heads.{key_by, key_in}
 
 module _ (front : List ℕ) where
   neither : (b : Bool) → key_by front (start_by (offsets_of (ec_fields front))

@@ -1,14 +1,6 @@
 -- More headers name no fewer keys.
-use Rattle.std.proofs.Common.{◌≡◌, ℕ, ◌+◌, ◌-◌, ◌*◌, ◌≤◌, Bool, true, false, cond, List, [], ◌∷◌, ◌++◌, length, zero, suc, ap, sym, ◌∙◌, subst, arith, length-append}
-use Rattle.std.specs.List.{fold, list_any}
-use Rattle.std.specs.Prelude.{map, slice_range}
-use Rattle.std.proofs.lemmas.List.{length-map, map-append}
-use Rattle.std.proofs.lemmas.List.Sums.{fold-append}
-use Rattle.ubi_scan.specs.Heads.{heads_to, keys_of, same_key, step, with_key}
-use Rattle.ubi_scan.specs.declared.groups.Group.{Group}
-use Rattle.ubi_scan.specs.declared.heads.Head.{Head}
-use Rattle.ubi_scan.specs.declared.heads.Key.{Key}
-use Rattle.ubi_scan.specs.inner.Detecting.{AreGroups, head_in}
+use Rattle.ubi_scan.proofs.Prelude.{◌≡◌, ℕ, ◌+◌, ◌-◌, ◌*◌, ◌≤◌, Bool, true, false, cond, List, [], ◌∷◌, ◌++◌, length, zero, suc, ap, sym, ◌∙◌, subst, arith, length-append, fold, list_any, map, length-map, map-append, fold-append, heads_to, keys_of, same_key, step, with_key, Group, Head, Key, AreGroups, head_in}
+use Rattle.std.specs.Prelude.{slice_range}
 use Rattle.ubi_scan.proofs.Surveyed.{heads_more}
 
 longer_if : (b : Bool) (ks : List Key) (k : Key) → length ks ≤ length (cond b ks (ks ++ k ∷ []))

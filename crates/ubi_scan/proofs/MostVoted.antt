@@ -1,16 +1,5 @@
 -- Ways that have the most votes, one after the other.
-use Rattle.std.proofs.Common.{◌≡◌, ◌∙◌, ◌++◌, ◌∷◌, [], ◌+◌, ◌<◌, ◌≤◌, Bool, true, false, cond, List, length, ap, sym, take, get_or, ℕ, arith}
-use Rattle.std.specs.List.{filter, fold}
-use Rattle.std.specs.Prelude.{◌&&◌, ◌==◌, IsFalse, map, max, nat_lt}
-use Rattle.std.proofs.lemmas.Bool.{le-ltb, lt-ltb, or_from, or_right}
-use Rattle.std.proofs.lemmas.List.{append-nil, get_or-map}
-use Rattle.std.proofs.lemmas.List.Elements.{filter_more}
-use Rattle.ubi_scan.specs.Place.{has_no_page, has_vote, is_voted, is_without, told_ways, top_vote, votes, ways_with, ways_without}
-use Rattle.ubi_scan.specs.Ways.{has_no_way}
-use Rattle.ubi_scan.specs.declared.groups.Group.{Group}
-use Rattle.ubi_scan.specs.declared.way.Way.{Way}
-use Rattle.ubi_scan.specs.declared.ways.Ways.{Ways}
-use Rattle.ubi_scan.specs.inner.Detecting.{AreWays, is_most_voted}
+use Rattle.ubi_scan.proofs.Prelude.{◌≡◌, ◌∙◌, ◌++◌, ◌∷◌, [], ◌+◌, ◌<◌, ◌≤◌, Bool, true, false, cond, List, length, ap, sym, take, get_or, ℕ, arith, filter, fold, ◌&&◌, ◌==◌, IsFalse, map, max, nat_lt, le-ltb, lt-ltb, or_from, or_right, append-nil, get_or-map, filter_more, has_no_page, has_vote, is_voted, is_without, told_ways, top_vote, votes, ways_with, ways_without, has_no_way, Group, Way, Ways, AreWays, is_most_voted}
 
 module _ (f : Way → ℕ) (ws : List Way) (vs : List ℕ) (are : vs ≡ map f ws) (i : ℕ) (d : Way) (inside : i < length ws) (found : List Way)
     (so_far : found ≡ filter (is_most_voted f ws) (take i ws)) (b : Bool)

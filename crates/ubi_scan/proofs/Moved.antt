@@ -1,18 +1,6 @@
 -- The eraseblocks in another order: each member and each winner moves with its eraseblock, and no fault comes.
-use Rattle.std.proofs.Common.{◌≡◌, ◌≢◌, ℕ, ◌<◌, ◌≤◌, inl, inr, Bool, true, false, cond, eqb, List, [], ◌∷◌, length, set, refl, ap, sym, ◌∙◌, subst, arith, length-set, get_or-set_same, get_or-set_other}
-use Rattle.std.specs.Prelude.{swap}
-use Rattle.std.specs.List.Sorted.{IsPermutation}
-use Rattle.std.proofs.lemmas.Bool.Decides.{nat_tests}
-use Rattle.std.proofs.lemmas.List.{get_or_default}
-use Rattle.std.proofs.lemmas.List.Edits.{length-swap}
-use Rattle.std.proofs.lemmas.List.Sorted.{IsPermutation-keeps}
-use Rattle.std.proofs.lemmas.Bool.{cases_eq}
-use Rattle.ubi_media.specs.Geometry.{Sizes}
-use Rattle.ubi_scan.specs.Clean.{IsClean, IsSound}
-use Rattle.ubi_scan.specs.Faults.{NoFault}
-use Rattle.ubi_scan.specs.Image.{block}
-use Rattle.ubi_scan.specs.Members.{IsMember, Leb, NoMember, Wins, good_at, good_in, named_in, sqnum_at, sqnum_in}
-use Rattle.ubi_scan.specs.Numbers.{image_seq, seq_of}
+use Rattle.ubi_scan.proofs.Prelude.{◌≡◌, ◌≢◌, ℕ, ◌<◌, ◌≤◌, inl, inr, Bool, true, false, cond, eqb, List, [], ◌∷◌, length, set, refl, ap, sym, ◌∙◌, subst, arith, length-set, swap, IsPermutation, nat_tests, get_or_default, length-swap, IsPermutation-keeps, cases_eq, Sizes, IsClean, IsSound, NoFault, block, IsMember, Leb, NoMember, Wins, good_at, good_in, named_in, sqnum_at, sqnum_in, image_seq, seq_of}
+use Rattle.std.proofs.Common.{get_or-set_same, get_or-set_other}
 use Rattle.ubi_scan.proofs.Clean.{clean_from_none, none_from_clean}
 use Rattle.ubi_scan.proofs.Seq.{seq_agrees, seq_is}
 

@@ -1,8 +1,5 @@
 -- What stands of all that a source may hold stands of what is left of it.
-use Rattle.ubi_media.specs.Geometry.{Sizes}
-use Rattle.ubi_scan.specs.Scan.{Found}
-use Rattle.ubi_scan.specs.Source.{Agreed, IsSource, Narrows, Source}
-use Rattle.ubi_scan.specs.Stream.{IsScanOf}
+use Rattle.ubi_scan.proofs.Prelude.{Sizes, Found, Agreed, IsSource, Narrows, Source, IsScanOf}
 
 pub narrows_more : (first then last : Agreed) → Narrows first then → Narrows then last → Narrows first last
 narrows_more first then last before after = λ bytes agrees. before bytes (after bytes agrees)

@@ -1,19 +1,5 @@
 -- The group of a key that no header has named yet.
-use Rattle.std.proofs.Common.{◌≡◌, ℕ, Bool, true, false, cond, List, [], ◌∷◌, ◌++◌, length, refl, ap, sym, ◌∙◌, subst}
-use Rattle.std.specs.List.{All, filter, fold, list_any}
-use Rattle.std.specs.Prelude.{◌&&◌, ◌||◌, ◌==◌, IsFalse, IsTrue, None, Some, find, map}
-use Rattle.std.proofs.lemmas.Bool.{and_parts, eqb-true, false≢true, or_parts, true≢false}
-use Rattle.std.proofs.lemmas.Cmp.{nat_eq_equiv}
-use Rattle.std.proofs.lemmas.List.Elements.{All-head, All-tail}
-use Rattle.std.proofs.lemmas.List.Folds.{list_any-append, list_any_none}
-use Rattle.std.proofs.lemmas.Option.{none-some, same_Some}
-use Rattle.ubi_media.proofs.First.{none_passes}
-use Rattle.ubi_scan.specs.Groups.{IsGroup, IsSpacing}
-use Rattle.ubi_scan.specs.Heads.{first_place, is_of, keys_of, last_place, places, same_key, same_offsets, with_key}
-use Rattle.ubi_scan.specs.declared.groups.Group.{Group}
-use Rattle.ubi_scan.specs.declared.heads.Head.{Head}
-use Rattle.ubi_scan.specs.declared.heads.Key.{Key}
-use Rattle.ubi_scan.specs.inner.Detecting.{AreGroups, IsWithin, group_with, has_key, unnumbered}
+use Rattle.ubi_scan.proofs.Prelude.{◌≡◌, ℕ, Bool, true, false, cond, List, [], ◌∷◌, ◌++◌, length, refl, ap, sym, ◌∙◌, subst, All, filter, fold, list_any, ◌&&◌, ◌||◌, ◌==◌, IsFalse, IsTrue, None, Some, find, map, and_parts, eqb-true, false≢true, or_parts, true≢false, nat_eq_equiv, All-head, All-tail, list_any-append, list_any_none, none-some, same_Some, none_passes, IsGroup, IsSpacing, first_place, is_of, keys_of, last_place, places, same_key, same_offsets, with_key, Group, Head, Key, AreGroups, IsWithin, group_with, has_key, unnumbered}
 
 or_nothing : (b : Bool) → (b || false) ≡ b
 or_nothing true = refl

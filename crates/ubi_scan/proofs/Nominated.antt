@@ -1,20 +1,8 @@
 -- A pass that puts a member in the place of the candidate of its LEB, and then keeps one of both, goes on over it.
-use Rattle.std.proofs.Common.{◌≡◌, ℕ, [], ◌∷◌, ◌++◌, refl, ap, sym, ◌∙◌, subst}
-use Rattle.std.specs.Prelude.{Bool, true, Option, Some, None, MatchOption, if◌then◌else◌}
+use Rattle.ubi_scan.proofs.Prelude.{◌≡◌, ℕ, [], ◌∷◌, ◌++◌, refl, ap, sym, ◌∙◌, subst, Option, Some, None, MatchOption, if◌then◌else◌, BTreeMap, EcRead, VidHeader, VidRead, beaten, candidate, takes_over, AreCounted, IsEntered, IsNominated, IsPassed, IsPutAside, IsTaken, Puts, Stamp, beaten_in, quiet_state, stamp_cmp, Leb, leb_of, member_if, header_of, leb_cmp, Candidate, Meeting, Counts, Pass}
+use Rattle.std.specs.Prelude.{Bool, true}
 use Rattle.std.specs.BTreeMap as tree
-use Rattle.std.specs.BTreeMap.{BTreeMap}
-use Rattle.ubi_media.specs.declared.ec.EcRead.{EcRead}
-use Rattle.ubi_media.specs.declared.vid.VidHeader.{VidHeader}
-use Rattle.ubi_media.specs.declared.vid.VidRead.{VidRead}
-use Rattle.ubi_scan.specs.inner.Choice.{beaten, candidate, takes_over}
-use Rattle.ubi_scan.specs.inner.Pass.{AreCounted, IsEntered, IsNominated, IsPassed, IsPutAside, IsTaken, Puts, Stamp, beaten_in, quiet_state, stamp_cmp}
-use Rattle.ubi_scan.specs.Members.{Leb, leb_of, member_if}
-use Rattle.ubi_scan.specs.Scan.{header_of, leb_cmp}
-use Rattle.ubi_scan.specs.declared.candidate.Candidate.{Candidate}
-use Rattle.ubi_scan.specs.declared.candidate.Meeting.{Meeting}
-use Rattle.ubi_scan.specs.declared.counts.Counts.{Counts}
 use Rattle.ubi_scan.specs.declared.found.ScanState.TheVariants as state
-use Rattle.ubi_scan.specs.declared.pass.Pass.{Pass}
 
 -- what an insertion into the map of candidates makes of a pass
 pub nominated_by : (old : Pass) (p : ℕ) (o : Option VidHeader) (h : VidHeader) (best : BTreeMap Leb Candidate) (of : Leb)

@@ -1,18 +1,5 @@
 -- Where the headers of an image stand, and where it begins and ends.
-use Rattle.std.proofs.Common.{◌≡◌, ℕ, ◌+◌, ◌-◌, ◌*◌, ◌/◌, ◌%◌, ◌≤◌, Bool, true, false, List, [], ◌∷◌, ◌++◌, length, slice_range, zero, suc, refl, ap, sym, subst, arith}
-use Rattle.std.specs.Int.{◌∣◌}
-use Rattle.std.specs.List.{All}
-use Rattle.std.specs.Option.{option_to_list}
-use Rattle.std.specs.Prelude.{None, Option, Some, option_map}
-use Rattle.std.proofs.Math.Nat.{dvd-mul_left, dvd-sub, mod-add-div', mul-le-mul_right}
-use Rattle.std.proofs.lemmas.List.{append-nil}
-use Rattle.std.proofs.lemmas.List.Elements.{All-cons, All-nil, All-push}
-use Rattle.std.proofs.lemmas.Nat.Gcd.{le_of_dvd}
-use Rattle.ubi_scan.specs.DetectLaws.{EachOnGrid, GreatestSize, PlaceOnGrid, SizeOfImage}
-use Rattle.ubi_scan.specs.Heads.{first_place, heads_of, heads_to, is_of, key_in, last_place, places, step}
-use Rattle.ubi_scan.specs.Place.{blanks_before, blanks_behind, end_of_last}
-use Rattle.ubi_scan.specs.declared.heads.Head.{Head}
-use Rattle.ubi_scan.specs.declared.heads.Key.{Key}
+use Rattle.ubi_scan.proofs.Prelude.{◌≡◌, ℕ, ◌+◌, ◌-◌, ◌*◌, ◌/◌, ◌%◌, ◌≤◌, Bool, true, false, List, [], ◌∷◌, ◌++◌, length, slice_range, zero, suc, refl, ap, sym, subst, arith, ◌∣◌, All, option_to_list, None, Option, Some, option_map, dvd-mul_left, dvd-sub, mod-add-div', mul-le-mul_right, append-nil, All-cons, All-nil, All-push, le_of_dvd, EachOnGrid, GreatestSize, PlaceOnGrid, SizeOfImage, first_place, heads_of, heads_to, is_of, key_in, last_place, places, step, blanks_before, blanks_behind, end_of_last, Head, Key}
 use Rattle.ubi_scan.proofs.Grouped.{last_is, places_with, places_without}
 use Rattle.ubi_scan.proofs.Runs.{run_most}
 use Rattle.ubi_scan.proofs.Surveyed.{heads_more}

@@ -1,13 +1,5 @@
 -- A file holds one image at most, and what is told of it is one list or one cause.
-use Rattle.std.proofs.Common.{◌≡◌, ℕ, List, inl, inr, ap, sym, ◌∙◌, arith}
-use Rattle.std.specs.Prelude.{slice_index_or}
-use Rattle.ubi_scan.specs.Detected.{IsWhole}
-use Rattle.ubi_scan.specs.DetectLaws.{OneDetection, OneFound, OneImage, TwoHeaders}
-use Rattle.ubi_scan.specs.Groups.{IsImage, no_key}
-use Rattle.ubi_scan.specs.Heads.{first_place, heads_of, keys_of, last_place, places}
-use Rattle.ubi_scan.specs.Place.{told}
-use Rattle.ubi_scan.specs.declared.groups.Group.{Group}
-use Rattle.ubi_scan.specs.declared.heads.Head.{Head}
+use Rattle.ubi_scan.proofs.Prelude.{◌≡◌, ℕ, List, inl, inr, ap, sym, ◌∙◌, arith, slice_index_or, IsWhole, OneDetection, OneFound, OneImage, TwoHeaders, IsImage, no_key, first_place, heads_of, keys_of, last_place, places, told, Group, Head}
 use Rattle.ubi_scan.proofs.BestGroup.{same_count, same_size}
 use Rattle.ubi_scan.proofs.OnePlain.{one_plain, same_groups}
 

@@ -1,17 +1,5 @@
 -- A file is plainly the image of one group at most.
-use Rattle.std.proofs.Common.{◌≡◌, ℕ, ◌+◌, ◌*◌, ◌/◌, ◌%◌, ◌<◌, ◌≤◌, ◌⊎◌, List, inl, inr, ap, sym, ◌∙◌, subst, arith}
-use Rattle.std.specs.Prelude.{IsFalse, IsTrue}
-use Rattle.std.proofs.Math.Nat.{mod-eq_of_lt, mul-le-mul_right}
-use Rattle.std.proofs.lemmas.Bool.{true≢false}
-use Rattle.std.proofs.lemmas.Option.{none-some, same_Some}
-use Rattle.ubi_media.proofs.Cases.{below_same_or_above}
-use Rattle.ubi_scan.specs.Heads.{key_at, step}
-use Rattle.ubi_scan.specs.Detected.{NonePlain}
-use Rattle.ubi_scan.specs.Plain.{IsPlain}
-use Rattle.ubi_scan.specs.Sure.{has_inner_start, is_sure}
-use Rattle.ubi_scan.specs.inner.Joined.{NoneAlone, NotPlain}
-use Rattle.ubi_scan.specs.declared.groups.Group.{Group}
-use Rattle.ubi_scan.specs.declared.heads.Key.{Key}
+use Rattle.ubi_scan.proofs.Prelude.{◌≡◌, ℕ, ◌+◌, ◌*◌, ◌/◌, ◌%◌, ◌<◌, ◌≤◌, ◌⊎◌, List, inl, inr, ap, sym, ◌∙◌, subst, arith, IsFalse, IsTrue, mod-eq_of_lt, mul-le-mul_right, true≢false, none-some, same_Some, below_same_or_above, key_at, step, NonePlain, IsPlain, has_inner_start, is_sure, NoneAlone, NotPlain, Group, Key}
 use Rattle.ubi_scan.proofs.JoinedKeys.{Owns, owns}
 use Rattle.ubi_scan.proofs.PlainSizes.{second}
 

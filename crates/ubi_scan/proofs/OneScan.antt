@@ -1,24 +1,8 @@
 -- What a scan finds is one value.
-use Rattle.std.proofs.Common.{◌≡◌, ℕ, ◌<◌, Bool, List, ap, ap₂, arith, false, get_or, inl, inr, length, refl, subst, sym, true, ◌∙◌, ◌⊎◌}
-use Rattle.std.proofs.lemmas.List.{same_lists}
-use Rattle.std.proofs.lemmas.Option.{same_Some, slice_get-get_or}
-use Rattle.std.specs.Bool.{then_some}
+use Rattle.ubi_scan.proofs.Prelude.{◌≡◌, ℕ, ◌<◌, Bool, List, ap, ap₂, arith, false, get_or, inl, inr, length, refl, subst, sym, true, ◌∙◌, ◌⊎◌, same_lists, same_Some, slice_get-get_or, then_some, FinMap, IfSome, IsSome, MatchOption, None, Option, Some, not, option_map, slice_get, Sizes, EcRead, VidHeader, VidRead, NoFault, block, ec, vid, IsMember, Leb, NoMember, Wins, foreign_if, has_members, leb_of, member_if, valid_ec, AreStates, AreWinners, Found, IsHeader, IsScan, StateIs, header_of, leb_cmp, MemberHeader, ScanState}
 use Rattle.std.specs.FinMap as finite
-use Rattle.std.specs.FinMap.{FinMap}
-use Rattle.std.specs.Prelude.{IfSome, IsSome, MatchOption, None, Option, Some, not, option_map, slice_get}
-use Rattle.ubi_media.specs.Geometry.{Sizes}
-use Rattle.ubi_media.specs.declared.ec.EcRead.{EcRead}
 use Rattle.ubi_media.specs.declared.ec.EcRead.TheVariants as ec_read
-use Rattle.ubi_media.specs.declared.vid.VidHeader.{VidHeader}
-use Rattle.ubi_media.specs.declared.vid.VidRead.{VidRead}
 use Rattle.ubi_media.specs.declared.vid.VidRead.TheVariants as vid_read
-use Rattle.ubi_scan.specs.Faults.{NoFault}
-use Rattle.ubi_scan.specs.Image.{block, ec, vid}
-use Rattle.ubi_scan.specs.Members.{IsMember, Leb, NoMember, Wins, foreign_if, has_members, leb_of, member_if}
-use Rattle.ubi_scan.specs.Numbers.{valid_ec}
-use Rattle.ubi_scan.specs.Scan.{AreStates, AreWinners, Found, IsHeader, IsScan, StateIs, header_of, leb_cmp}
-use Rattle.ubi_scan.specs.declared.found.MemberHeader.{MemberHeader}
-use Rattle.ubi_scan.specs.declared.found.ScanState.{ScanState}
 use Rattle.ubi_scan.specs.declared.found.ScanState.TheVariants as state
 use Rattle.ubi_scan.proofs.Decided.{Wins-unique}
 use Rattle.ubi_scan.proofs.Keys.{leb_exact, leb_total}

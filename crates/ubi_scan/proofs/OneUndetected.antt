@@ -1,18 +1,6 @@
 -- A file of which something is told isn't refused, and else it is refused for one cause at most.
-use Rattle.std.proofs.Common.{◌≡◌, ◌≢◌, ℕ, ◌-◌, ◌<◌, ◌≤◌, List, [], length, inl, inr, refl, ap, sym, ◌∙◌, arith}
-use Rattle.std.specs.Prelude.{IsFalse}
-use Rattle.std.proofs.lemmas.Bool.{true≢false}
-use Rattle.ubi_media.proofs.Cases.{below_same_or_above}
-use Rattle.ubi_scan.specs.Detected.{AreDetected, IsFound, IsUndetected, IsWhole, NonePlain}
-use Rattle.ubi_scan.specs.DetectLaws.{DetectedOrNot, OneUndetected}
-use Rattle.ubi_scan.specs.Groups.{IsImage}
-use Rattle.ubi_scan.specs.Heads.{heads_of, key_count, most_keys}
-use Rattle.ubi_scan.specs.Place.{end_of_last, has_no_page, told}
-use Rattle.ubi_scan.specs.Sure.{is_sure}
-use Rattle.ubi_scan.specs.declared.detect.Detected.{Detected}
-use Rattle.ubi_scan.specs.declared.detect.Undetected.{Undetected}
+use Rattle.ubi_scan.proofs.Prelude.{◌≡◌, ◌≢◌, ℕ, ◌-◌, ◌<◌, ◌≤◌, List, [], length, inl, inr, refl, ap, sym, ◌∙◌, arith, IsFalse, true≢false, below_same_or_above, AreDetected, IsFound, IsUndetected, IsWhole, NonePlain, DetectedOrNot, OneUndetected, IsImage, heads_of, key_count, most_keys, end_of_last, has_no_page, told, is_sure, Detected, Undetected, Group}
 use Rattle.ubi_scan.specs.declared.detect.Undetected.TheVariants as cause
-use Rattle.ubi_scan.specs.declared.groups.Group.{Group}
 use Rattle.ubi_scan.proofs.OneImage.{one_found, same_group, same_whole}
 use Rattle.ubi_scan.proofs.SaidGroups.{image_heads}
 use Rattle.ubi_scan.proofs.PlainHeads.{plain_heads}

@@ -1,20 +1,7 @@
 -- The geometry of an image is among those that are told of it.
-use Rattle.std.proofs.Common.{◌≡◌, ℕ, Bool, true, false, true≢false, List, [], ◌∷◌, cond, length, zero, suc, refl, ap, sym, ◌∙◌, subst, arith}
-use Rattle.std.specs.Prelude.{Contains, Option, Some, None, filter, is_none, map, option_map, ◌==◌, ◌&&◌, ◌||◌}
-use Rattle.std.specs.List.{cons_option, filter_map, list_any}
-use Rattle.std.specs.Bool.{then_some}
-use Rattle.std.proofs.lemmas.Bool.{eqb-true, eq-eqb}
-use Rattle.std.proofs.lemmas.Bool.Decides.{nat_tests}
-use Rattle.ubi_media.specs.Geometry.{Sizes, page_sizes}
-use Rattle.ubi_media.specs.Limits.{first_broken}
-use Rattle.ubi_scan.specs.DetectLaws.{GeometryOfImage, OutOfBandOfImage}
-use Rattle.ubi_scan.specs.Detected.{AreDetected, IsFound}
-use Rattle.ubi_scan.specs.Layout.{data_place, is_laid_out, sizes_of}
-use Rattle.ubi_scan.specs.Place.{end_of_image, has_vote, is_voted, start_of_image, told, told_by, told_ways, ways_with, ways_without}
-use Rattle.ubi_scan.specs.Ways.{plain_way}
-use Rattle.ubi_scan.specs.declared.detect.Detected.{Detected}
-use Rattle.ubi_scan.specs.declared.groups.Group.{Group}
-use Rattle.ubi_scan.specs.declared.way.Way.{Way}
+use Rattle.ubi_scan.proofs.Prelude.{◌≡◌, ℕ, Bool, true, false, List, [], ◌∷◌, cond, length, zero, suc, refl, ap, sym, ◌∙◌, subst, arith, Contains, Option, Some, None, is_none, map, option_map, ◌==◌, ◌&&◌, ◌||◌, cons_option, filter_map, list_any, then_some, eqb-true, eq-eqb, nat_tests, Sizes, page_sizes, first_broken, GeometryOfImage, OutOfBandOfImage, AreDetected, IsFound, data_place, is_laid_out, sizes_of, end_of_image, has_vote, is_voted, start_of_image, told, told_by, told_ways, ways_with, ways_without, plain_way, Detected, Group, Way}
+use Rattle.std.proofs.Common.{true≢false}
+use Rattle.std.specs.Prelude.{filter}
 
 contains_tail : {X : Type 0} (x y : X) (xs : List X) → Contains xs y → Contains (x ∷ xs) y
 contains_tail x y xs has = (suc has.0, omega (arith, has.1), has.2)

@@ -1,19 +1,5 @@
 -- The group of an image that lies in a file is that of its own headers, so many bytes further behind.
-use Rattle.std.proofs.Common.{◌≡◌, ◌≢◌, ℕ, ◌+◌, ◌-◌, ◌<◌, ◌≤◌, ◌⊎◌, Bool, true, false, cond, List, [], ◌∷◌, ◌++◌, length, zero, suc, inl, inr, refl, ap, sym, ◌∙◌, subst, arith}
-use Rattle.std.specs.Int.{◌∣◌}
-use Rattle.std.specs.List.{filter, fold, last_or, list_all, list_any}
-use Rattle.std.specs.Prelude.{◌==◌, ◌&&◌, ◌||◌, IsTrue, Some, map, not, slice_index_or, unwrap_or}
-use Rattle.std.proofs.lemmas.Bool.{and_from, and_parts, eqb-true, not-true, or_left, or_right, true≢false}
-use Rattle.std.proofs.lemmas.Cmp.{nat_eq_equiv}
-use Rattle.std.proofs.lemmas.List.{append-nil, get_or-map, length-map, map-append}
-use Rattle.std.proofs.lemmas.List.Elements.{filter-append}
-use Rattle.std.proofs.lemmas.List.Folds.{list_all-append, list_any-append, list_any_at}
-use Rattle.ubi_scan.specs.Groups.{Divides, IsGroup, IsImage, IsSpacing, Says, no_key, spoken}
-use Rattle.ubi_scan.specs.Heads.{first_place, heads_of, is_of, keys_of, last_place, places, same_key, same_offsets, speaks, with_key}
-use Rattle.ubi_scan.specs.PartLaws.{PartOfFile, moved}
-use Rattle.ubi_scan.specs.declared.groups.Group.{Group}
-use Rattle.ubi_scan.specs.declared.heads.Head.{Head}
-use Rattle.ubi_scan.specs.declared.heads.Key.{Key}
+use Rattle.ubi_scan.proofs.Prelude.{◌≡◌, ◌≢◌, ℕ, ◌+◌, ◌-◌, ◌<◌, ◌≤◌, ◌⊎◌, Bool, true, false, cond, List, [], ◌∷◌, ◌++◌, length, zero, suc, inl, inr, refl, ap, sym, ◌∙◌, subst, arith, ◌∣◌, filter, fold, last_or, list_all, list_any, ◌==◌, ◌&&◌, ◌||◌, IsTrue, Some, map, not, slice_index_or, unwrap_or, and_from, and_parts, eqb-true, not-true, or_left, or_right, true≢false, nat_eq_equiv, append-nil, get_or-map, length-map, map-append, filter-append, list_all-append, list_any-append, list_any_at, Divides, IsGroup, IsImage, IsSpacing, Says, no_key, spoken, first_place, heads_of, is_of, keys_of, last_place, places, same_key, same_offsets, speaks, with_key, PartOfFile, moved, Group, Head, Key}
 use Rattle.ubi_scan.proofs.BestGroup.{same_spoken}
 use Rattle.ubi_scan.proofs.NewGroups.{any_key, any_map}
 use Rattle.ubi_scan.proofs.OnePlain.{same_keys}

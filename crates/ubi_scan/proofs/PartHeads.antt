@@ -1,17 +1,6 @@
 -- The headers of a file in which some bytes lie: those before them, their own, and those behind them.
-use Rattle.std.proofs.Common.{◌≡◌, ℕ, ◌+◌, ◌-◌, ◌*◌, ◌/◌, ◌<◌, ◌≤◌, ◌⊎◌, Bool, true, List, [], ◌++◌, length, slice_range, zero, suc, inl, inr, refl, ap, sym, ◌∙◌, arith}
-use Rattle.std.specs.List.{list_all}
-use Rattle.std.specs.Option.{option_to_list}
-use Rattle.std.specs.Prelude.{◌&&◌, None, Option, Some, map, not, option_map}
-use Rattle.std.proofs.Math.Nat.{mod-add-div'}
-use Rattle.std.proofs.lemmas.Bool.{and_from, not_from_false}
-use Rattle.std.proofs.lemmas.List.{append-nil, append_assoc, map-append}
-use Rattle.std.proofs.lemmas.List.Folds.{list_all-append}
-use Rattle.ubi_scan.specs.Heads.{heads_of, heads_to, is_of, key_at, key_in, step}
-use Rattle.ubi_scan.specs.PartLaws.{LiesAt, NoneOutside}
-use Rattle.ubi_scan.specs.declared.heads.Head.{Head}
-use Rattle.ubi_scan.specs.declared.heads.Key.{Key}
-use Rattle.ubi_scan.specs.inner.Detecting.{head_in}
+use Rattle.ubi_scan.proofs.Prelude.{◌≡◌, ℕ, ◌+◌, ◌-◌, ◌*◌, ◌/◌, ◌<◌, ◌≤◌, ◌⊎◌, Bool, true, List, [], ◌++◌, length, slice_range, zero, suc, inl, inr, refl, ap, sym, ◌∙◌, arith, list_all, option_to_list, ◌&&◌, None, Option, Some, map, not, option_map, mod-add-div', and_from, not_from_false, append-nil, map-append, list_all-append, heads_of, heads_to, is_of, key_at, key_in, step, LiesAt, NoneOutside, Head, Key, head_in}
+use Rattle.std.proofs.lemmas.List.{append_assoc}
 use Rattle.ubi_scan.proofs.Surveyed.{heads_more, inner_range}
 
 -- whether a header is of another image than one that names k

@@ -1,16 +1,5 @@
 -- Where an image begins and ends that lies in a file.
-use Rattle.std.proofs.Common.{◌≡◌, ℕ, ◌+◌, ◌-◌, ◌*◌, ◌/◌, ◌<◌, ◌≤◌, List, length, inl, inr, ap, ◌∙◌, arith}
-use Rattle.std.specs.Prelude.{IsFalse}
-use Rattle.std.proofs.Math.Nat.{dvd-sub, lt-div-mul-add, mod-add-div', mul-le-mul_right}
-use Rattle.std.proofs.lemmas.Nat.{le-div}
-use Rattle.std.proofs.lemmas.Nat.Gcd.{dvd_of_mod-eq-zero, le_of_dvd}
-use Rattle.ubi_media.proofs.Cases.{within_or_past}
-use Rattle.ubi_scan.specs.Groups.{Says}
-use Rattle.ubi_scan.specs.Heads.{heads_of, places, step}
-use Rattle.ubi_scan.specs.PartLaws.{LiesAt, PlaceOfPart, moved}
-use Rattle.ubi_scan.specs.Place.{blanks_before, blanks_behind, end_of_image, end_of_last, start_of_image}
-use Rattle.ubi_scan.specs.Sure.{is_blank}
-use Rattle.ubi_scan.specs.declared.groups.Group.{Group}
+use Rattle.ubi_scan.proofs.Prelude.{◌≡◌, ℕ, ◌+◌, ◌-◌, ◌*◌, ◌/◌, ◌<◌, ◌≤◌, List, length, inl, inr, ap, ◌∙◌, arith, IsFalse, dvd-sub, lt-div-mul-add, mod-add-div', mul-le-mul_right, le-div, dvd_of_mod-eq-zero, le_of_dvd, within_or_past, Says, heads_of, places, step, LiesAt, PlaceOfPart, moved, blanks_before, blanks_behind, end_of_image, end_of_last, start_of_image, is_blank, Group}
 use Rattle.ubi_scan.proofs.OnGrid.{between}
 use Rattle.ubi_scan.proofs.OnePlain.{next_mul}
 use Rattle.ubi_scan.proofs.PartReads.{same_all}

@@ -1,17 +1,6 @@
 -- What is read of a file where some bytes lie is what is read of these.
-use Rattle.std.proofs.Common.{◌≡◌, ℕ, ◌+◌, ◌-◌, ◌*◌, ◌/◌, ◌<◌, ◌≤◌, Bool, cond, List, [], ◌∷◌, length, slice_range, zero, suc, refl, ap, sym, ◌∙◌, arith}
-use Rattle.std.specs.List.{All, count_by, filter, fold, list_all, list_any, range_with_len}
-use Rattle.std.specs.Prelude.{◌==◌, ◌&&◌, ◌||◌, map, nat_le, nat_lt}
-use Rattle.std.proofs.Math.Nat.{mod-add-div', mul-le-mul_right}
-use Rattle.std.proofs.lemmas.Bool.{le-leb}
-use Rattle.std.proofs.lemmas.Bool.Decides.{nat_tests}
-use Rattle.std.proofs.lemmas.List.Elements.{All-head, All-tail}
-use Rattle.byteorder.specs.Endian.{big_number}
-use Rattle.ubi_scan.specs.Heads.{key_at, key_in}
-use Rattle.ubi_scan.specs.PartLaws.{LiesAt, moved}
-use Rattle.ubi_scan.specs.Place.{count_starts, end_of_last}
-use Rattle.ubi_scan.specs.Sure.{all_are, block_at, blocks, is_member, is_start, number_at, some_start}
-use Rattle.ubi_scan.specs.declared.groups.Group.{Group}
+use Rattle.ubi_scan.proofs.Prelude.{◌≡◌, ℕ, ◌+◌, ◌-◌, ◌*◌, ◌/◌, ◌<◌, ◌≤◌, Bool, cond, List, [], ◌∷◌, length, slice_range, zero, suc, refl, ap, sym, ◌∙◌, arith, All, filter, fold, list_all, list_any, range_with_len, ◌==◌, ◌&&◌, ◌||◌, map, nat_le, nat_lt, mod-add-div', mul-le-mul_right, le-leb, nat_tests, All-head, All-tail, big_number, key_at, key_in, LiesAt, moved, count_starts, end_of_last, all_are, block_at, blocks, is_member, is_start, number_at, some_start, Group}
+use Rattle.std.specs.List.{count_by}
 use Rattle.ubi_scan.proofs.Surveyed.{inner_range}
 
 -- two tests that agree on some numbers find the same among them

@@ -1,20 +1,5 @@
 -- The size of an image in a file is sure where it is in the image's own bytes.
-use Rattle.std.proofs.Common.{◌≡◌, ℕ, ◌+◌, ◌-◌, ◌*◌, ◌/◌, ◌%◌, ◌≤◌, Bool, true, false, List, length, refl, ap, sym, ◌∙◌, arith}
-use Rattle.std.specs.List.{All}
-use Rattle.std.specs.Prelude.{◌==◌, ◌&&◌, ◌||◌, nat_le, nat_lt, not}
-use Rattle.std.proofs.Math.Nat.{mul-div-le, mul-le-mul_right}
-use Rattle.std.proofs.lemmas.Bool.{and_parts, leb-true}
-use Rattle.ubi_media.specs.Geometry.{slots}
-use Rattle.ubi_media.specs.Record.{record_size}
-use Rattle.ubi_media.specs.Vid.{vid_magic}
-use Rattle.ubi_scan.specs.Heads.{step}
-use Rattle.ubi_scan.specs.Members.{layout}
-use Rattle.ubi_scan.specs.PartLaws.{HoldsPart, SureOfPart, moved}
-use Rattle.ubi_scan.specs.Place.{count_starts}
-use Rattle.ubi_scan.specs.Sure.{all_are, are_no_parts, copy_at, end_in, ends_blank, goes_on, has_room, have_copies, holds_table, is_blank, is_filled, is_hole, is_prime, is_seen, is_start, is_sure, is_whole_size, looked_at, may_be_parts, may_be_size, meet_in, meets, number_at, says_so, some_ends_blank, some_inner, some_part, some_start, tables_meet}
-use Rattle.ubi_scan.specs.Ways.{plain_ways, put, ways}
-use Rattle.ubi_scan.specs.declared.groups.Group.{Group}
-use Rattle.ubi_scan.specs.declared.way.Way.{Way}
+use Rattle.ubi_scan.proofs.Prelude.{◌≡◌, ℕ, ◌+◌, ◌-◌, ◌*◌, ◌/◌, ◌%◌, ◌≤◌, Bool, true, false, List, length, refl, ap, sym, ◌∙◌, arith, All, ◌==◌, ◌&&◌, ◌||◌, nat_le, nat_lt, not, mul-div-le, mul-le-mul_right, and_parts, leb-true, slots, record_size, vid_magic, step, layout, HoldsPart, SureOfPart, moved, count_starts, all_are, are_no_parts, copy_at, end_in, ends_blank, goes_on, has_room, have_copies, holds_table, is_blank, is_filled, is_hole, is_prime, is_seen, is_start, is_sure, is_whole_size, looked_at, may_be_parts, may_be_size, meet_in, meets, number_at, says_so, some_ends_blank, some_inner, some_part, some_start, tables_meet, plain_ways, put, ways, Group, Way}
 use Rattle.ubi_scan.proofs.OnePlain.{next_mul}
 use Rattle.ubi_scan.proofs.PartPlaces.{first_or_behind, size_of_unit}
 use Rattle.ubi_scan.proofs.PartReads.{all_same, any_each, any_same, le_moved, lt_moved, same_all, same_blocks, same_count, same_number, same_some, same_start}

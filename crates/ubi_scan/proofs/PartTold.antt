@@ -1,14 +1,5 @@
 -- What is told of an image in a file is what the image's own bytes tell.
-use Rattle.std.proofs.Common.{◌≡◌, ◌≢◌, ℕ, ◌+◌, ◌-◌, ◌≤◌, cond, List, [], ◌∷◌, length, inr, refl, ap, sym, ◌∙◌, arith}
-use Rattle.std.specs.List.{All, filter, fold}
-use Rattle.std.specs.Prelude.{◌==◌, ◌&&◌, ◌||◌, map, max, nat_lt}
-use Rattle.ubi_media.specs.Vid.{vid_magic}
-use Rattle.ubi_scan.specs.PartLaws.{HoldsPart, StandsAlone, ToldOfPart, further, moved}
-use Rattle.ubi_scan.specs.Place.{end_of_image, has_vid, has_vote, is_voted, is_without, start_of_image, told, told_by, told_ways, top_vote, votes, ways_with, ways_without}
-use Rattle.ubi_scan.specs.Ways.{has_no_way}
-use Rattle.ubi_scan.specs.declared.detect.Detected.{Detected}
-use Rattle.ubi_scan.specs.declared.groups.Group.{Group}
-use Rattle.ubi_scan.specs.declared.way.Way.{Way}
+use Rattle.ubi_scan.proofs.Prelude.{◌≡◌, ◌≢◌, ℕ, ◌+◌, ◌-◌, ◌≤◌, cond, List, [], ◌∷◌, length, inr, refl, ap, sym, ◌∙◌, arith, All, filter, fold, ◌==◌, ◌&&◌, ◌||◌, map, max, nat_lt, vid_magic, HoldsPart, StandsAlone, ToldOfPart, further, moved, end_of_image, has_vid, has_vote, is_voted, is_without, start_of_image, told, told_by, told_ways, top_vote, votes, ways_with, ways_without, has_no_way, Detected, Group, Way}
 use Rattle.ubi_scan.proofs.PartGroups.{part_of_file}
 use Rattle.ubi_scan.proofs.PartPlaces.{place_of_part}
 use Rattle.ubi_scan.proofs.PartReads.{filter_each, map_each}

@@ -1,21 +1,5 @@
 -- Where the headers and the last record stand in an eraseblock, for each page that it may have: within it.
-use Rattle.std.proofs.Common.{◌≡◌, ℕ, ◌+◌, ◌-◌, ◌*◌, ◌/◌, ◌%◌, ◌<◌, ◌≤◌, Bool, true, false, List, [], ◌∷◌, inl, inr, refl, ap, sym, ◌∙◌, subst, arith}
-use Rattle.std.specs.Bool.{then_some}
-use Rattle.std.specs.List.{All, cons_option, filter_map, flat_map}
-use Rattle.std.specs.Prelude.{◌==◌, ◌&&◌, None, Option, Some, is_none, nat_le, nat_lt, option_map}
-use Rattle.std.proofs.Math.Nat.{div-zero, lt_of_mul-lt-mul_right, mod-add-div', mod-lt, mul-le-mul_right, mul_comm}
-use Rattle.std.proofs.lemmas.Bool.{and_parts, eqb-true, leb-true, ltb-true, true≢false}
-use Rattle.std.proofs.lemmas.List.Elements.{All-append, All-cons, All-nil}
-use Rattle.std.proofs.lemmas.Option.{none-some, same_Some}
-use Rattle.ubi_media.proofs.Cases.{within_or_past}
-use Rattle.ubi_media.proofs.KeptLimits.{kept_limits}
-use Rattle.ubi_media.specs.Geometry.{IsGeometry, Sizes, page_sizes, slots}
-use Rattle.ubi_media.specs.Limits.{first_broken}
-use Rattle.ubi_media.specs.Record.{record_size}
-use Rattle.ubi_media.specs.declared.ec.EcOffsets.{EcOffsets}
-use Rattle.ubi_scan.specs.Layout.{is_laid_out, sizes_of}
-use Rattle.ubi_scan.specs.Ways.{page_counts, plain_way, plain_ways, put, way_of, ways}
-use Rattle.ubi_scan.specs.declared.way.Way.{Way}
+use Rattle.ubi_scan.proofs.Prelude.{◌≡◌, ℕ, ◌+◌, ◌-◌, ◌*◌, ◌/◌, ◌%◌, ◌<◌, ◌≤◌, Bool, true, false, List, [], ◌∷◌, inl, inr, refl, ap, sym, ◌∙◌, subst, arith, then_some, All, cons_option, filter_map, flat_map, ◌==◌, ◌&&◌, None, Option, Some, is_none, nat_le, nat_lt, option_map, div-zero, lt_of_mul-lt-mul_right, mod-add-div', mod-lt, mul-le-mul_right, mul_comm, and_parts, eqb-true, leb-true, ltb-true, true≢false, All-append, All-cons, All-nil, none-some, same_Some, within_or_past, kept_limits, IsGeometry, Sizes, page_sizes, slots, first_broken, record_size, EcOffsets, is_laid_out, sizes_of, page_counts, plain_way, plain_ways, put, way_of, ways, Way}
 
 -- an eraseblock of q bytes is whole pages of a way, with its out-of-band bytes
 pub record Fits (q : ℕ) (w : Way) : Type 0 where

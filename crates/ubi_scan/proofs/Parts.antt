@@ -1,16 +1,9 @@
 -- The parts of an eraseblock that was laid out: two headers and the first bytes of a LEB. A header of bytes 0xFF is
 -- Blank.
-use Rattle.std.proofs.Common.{◌≡◌, ◌≢◌, ℕ, ◌+◌, ◌-◌, ◌≤◌, List, ◌++◌, length, take, drop, refl, ap, sym, ◌∙◌, append_assoc, length-append, arith}
+use Rattle.ubi_scan.proofs.Prelude.{◌≡◌, ◌≢◌, ℕ, ◌+◌, ◌-◌, ◌≤◌, List, ◌++◌, length, take, drop, refl, ap, sym, ◌∙◌, append_assoc, length-append, arith, drop_at, take_at, All-replicate, ec_magic, ec_reading, blank, field, filled, IsGeometry, Sizes, vid_magic, vid_reading, one_ec_reading, one_vid_reading}
 use Rattle.std.specs.Prelude.{slice_range}
-use Rattle.std.proofs.lemmas.List.{drop_at, take_at}
-use Rattle.std.proofs.lemmas.List.Elements.{All-replicate}
-use Rattle.ubi_media.specs.Ec.{ec_magic, ec_reading}
-use Rattle.ubi_media.specs.Fields.{blank, field, filled}
-use Rattle.ubi_media.specs.Geometry.{IsGeometry, Sizes}
-use Rattle.ubi_media.specs.Vid.{vid_magic, vid_reading}
 use Rattle.ubi_media.specs.declared.ec.EcRead.TheVariants as ec_read
 use Rattle.ubi_media.specs.declared.vid.VidRead.TheVariants as vid_read
-use Rattle.ubi_media.proofs.Readings.{one_ec_reading, one_vid_reading}
 use Rattle.ubi_scan.proofs.Filled.{filled-by, length-filled}
 
 no_vid_magic : field 4 0 (blank 64) ≢ vid_magic

@@ -1,13 +1,5 @@
 -- The group of a file that is plainly an image.
-use Rattle.std.proofs.Common.{◌≡◌, ℕ, ◌+◌, ◌-◌, ◌*◌, ◌/◌, ◌%◌, ◌<◌, ◌≤◌, List, length, refl, ap, sym, ◌∙◌, subst, arith}
-use Rattle.std.specs.Prelude.{None}
-use Rattle.std.proofs.Math.Nat.{le-div_iff_mul-le, lt_of_mul-lt-mul_right, mod-add-div', mul-le-mul_right}
-use Rattle.std.proofs.lemmas.Option.{none-some}
-use Rattle.ubi_scan.specs.Heads.{key_at, step}
-use Rattle.ubi_scan.specs.Plain.{IsPlain}
-use Rattle.ubi_scan.specs.declared.groups.Group.{Group}
-use Rattle.ubi_scan.specs.declared.heads.Key.{Key}
-use Rattle.ubi_scan.specs.inner.Joined.{AreJoined, HasHeadOf, IsPlainSize, NoneJoined, NotPlain}
+use Rattle.ubi_scan.proofs.Prelude.{◌≡◌, ℕ, ◌+◌, ◌-◌, ◌*◌, ◌/◌, ◌%◌, ◌<◌, ◌≤◌, List, length, refl, ap, sym, ◌∙◌, subst, arith, None, le-div_iff_mul-le, lt_of_mul-lt-mul_right, mod-add-div', mul-le-mul_right, none-some, key_at, step, IsPlain, Group, Key, AreJoined, HasHeadOf, IsPlainSize, NoneJoined, NotPlain}
 
 -- a plain file has a header at its beginning, and isn't shorter than two
 pub long_enough : (bytes : List ℕ) → length bytes < 2 * step → NotPlain bytes

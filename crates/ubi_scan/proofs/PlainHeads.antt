@@ -1,13 +1,5 @@
 -- A file that is plainly an image has headers.
-use Rattle.std.proofs.Common.{◌≡◌, ◌≢◌, ℕ, ◌+◌, ◌*◌, ◌/◌, ◌≤◌, List, [], length, zero, suc, ap, sym, ◌∙◌, arith}
-use Rattle.std.specs.List.{cons_option, filter_map, range_with_len}
-use Rattle.std.specs.Prelude.{Option, Some, None, option_map}
-use Rattle.std.proofs.Math.Nat.{mul-le-mul_right}
-use Rattle.std.proofs.lemmas.Option.{none-some}
-use Rattle.ubi_scan.specs.Heads.{head_at, heads_of, heads_to, key_at, step}
-use Rattle.ubi_scan.specs.Plain.{IsPlain}
-use Rattle.ubi_scan.specs.declared.groups.Group.{Group}
-use Rattle.ubi_scan.specs.declared.heads.Key.{Key}
+use Rattle.ubi_scan.proofs.Prelude.{◌≡◌, ◌≢◌, ℕ, ◌+◌, ◌*◌, ◌/◌, ◌≤◌, List, [], length, zero, suc, ap, sym, ◌∙◌, arith, cons_option, filter_map, range_with_len, Option, Some, None, option_map, mul-le-mul_right, none-some, head_at, heads_of, heads_to, key_at, step, IsPlain, Group, Key}
 
 cons_some : {X : Type 0} (o : Option X) (x : X) (xs : List X) → o ≡ Some x → cons_option o xs ≢ []
 cons_some (Some y) x xs e f = let n = ap length f in omega (arith, n)

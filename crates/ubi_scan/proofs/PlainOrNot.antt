@@ -1,17 +1,5 @@
 -- Each file is plainly an image, or it isn't.
-use Rattle.std.proofs.Common.{◌≡◌, ℕ, ◌+◌, ◌-◌, ◌*◌, ◌/◌, ◌%◌, ◌≤◌, ◌⊎◌, Bool, true, false, List, length, zero, suc, inl, inr, refl, ap, sym, ◌∙◌, subst, arith}
-use Rattle.std.specs.Prelude.{IsFalse, None, Option, Some, min}
-use Rattle.std.proofs.Math.Nat.{le-div_iff_mul-le, mod-add-div'}
-use Rattle.std.proofs.lemmas.Bool.{true≢false}
-use Rattle.ubi_media.proofs.Cases.{below_or_last, below_same_or_above}
-use Rattle.ubi_scan.specs.Groups.{greatest_size}
-use Rattle.ubi_scan.specs.Heads.{is_of, key_at, step}
-use Rattle.ubi_scan.specs.Detected.{NonePlain}
-use Rattle.ubi_scan.specs.Plain.{IsPlain, IsSurelyPlain}
-use Rattle.ubi_scan.specs.Sure.{has_inner_start, is_sure}
-use Rattle.ubi_scan.specs.declared.groups.Group.{Group}
-use Rattle.ubi_scan.specs.declared.heads.Key.{Key}
-use Rattle.ubi_scan.specs.inner.Joined.{AreJoined, IsFirstHead, IsJoined, IsPlainSize, NoHeads, NoneJoined, NoneOwns, NotPlain}
+use Rattle.ubi_scan.proofs.Prelude.{◌≡◌, ℕ, ◌+◌, ◌-◌, ◌*◌, ◌/◌, ◌%◌, ◌≤◌, ◌⊎◌, Bool, true, false, List, length, zero, suc, inl, inr, refl, ap, sym, ◌∙◌, subst, arith, IsFalse, None, Option, Some, min, le-div_iff_mul-le, mod-add-div', true≢false, below_or_last, below_same_or_above, greatest_size, is_of, key_at, step, NonePlain, IsPlain, IsSurelyPlain, has_inner_start, is_sure, Group, Key, AreJoined, IsFirstHead, IsJoined, IsPlainSize, NoHeads, NoneJoined, NoneOwns, NotPlain}
 use Rattle.ubi_scan.proofs.JoinedKeys.{is_owned, joined_first, joined_more, none_joined, none_there, owns, owns_itself}
 use Rattle.ubi_scan.proofs.OnePlain.{none_alone, none_plain, none_sure, none_surely}
 use Rattle.ubi_scan.proofs.PlainGroups.{has_first, no_group, plain_group}

@@ -1,15 +1,5 @@
 -- The size that a file plainly has, if it has one.
-use Rattle.std.proofs.Common.{◌≡◌, ◌≢◌, ℕ, ◌+◌, ◌-◌, ◌*◌, ◌/◌, ◌%◌, ◌<◌, ◌≤◌, List, length, inl, inr, ap, sym, ◌∙◌, arith}
-use Rattle.std.specs.Prelude.{None, Some, min}
-use Rattle.std.proofs.Math.Nat.{add-mod_left, mod-add-div', mod-eq_of_lt, mod_self, mul-le-mul_right, mul-mod_left}
-use Rattle.std.proofs.lemmas.Option.{none-some}
-use Rattle.ubi_media.proofs.Cases.{below_same_or_above}
-use Rattle.ubi_scan.specs.Groups.{greatest_size}
-use Rattle.ubi_scan.specs.Heads.{key_at, step}
-use Rattle.ubi_scan.specs.Plain.{IsPlain}
-use Rattle.ubi_scan.specs.declared.groups.Group.{Group}
-use Rattle.ubi_scan.specs.declared.heads.Key.{Key}
-use Rattle.ubi_scan.specs.inner.Joined.{IsFirstHead, IsPlainSize, NoHeads, NotPlain}
+use Rattle.ubi_scan.proofs.Prelude.{◌≡◌, ◌≢◌, ℕ, ◌+◌, ◌-◌, ◌*◌, ◌/◌, ◌%◌, ◌<◌, ◌≤◌, List, length, inl, inr, ap, sym, ◌∙◌, arith, None, Some, min, add-mod_left, mod-add-div', mod-eq_of_lt, mod_self, mul-le-mul_right, mul-mod_left, none-some, below_same_or_above, greatest_size, key_at, step, IsPlain, Group, Key, IsFirstHead, IsPlainSize, NoHeads, NotPlain}
 
 zero_mod : (q : ℕ) → 1 ≤ q → 0 % q ≡ 0
 zero_mod q some = mod-eq_of_lt (omega (arith, some))

@@ -1,13 +1,9 @@
 -- Entries by number with other values: their order stays, and so does what is found among them but for the value.
-use Rattle.std.proofs.Common.{◌≡◌, ℕ, ◌+◌, ◌&&◌, inl, inr, T, cond, List, [], ◌∷◌, map, refl, ap, sym, ◌∙◌, subst}
-use Rattle.std.specs.Prelude.{Some, fold, option_map}
-use Rattle.std.specs.Cmp.{nat_cmp_total}
+use Rattle.ubi_scan.proofs.Prelude.{◌≡◌, ℕ, ◌+◌, inl, inr, T, cond, List, [], ◌∷◌, refl, ap, sym, ◌∙◌, subst, Some, option_map, nat_cmp_total, FinMap, from_entries, is_sorted, nat_cmp-IsAntisymmetric, below_all, sum_by, is_lt, nat_cmp, exact_unsigned}
+use Rattle.std.proofs.Common.{◌&&◌, map}
+use Rattle.std.specs.Prelude.{fold}
 use Rattle.std.specs.FinMap as finite
-use Rattle.std.specs.FinMap.{FinMap, find, from_entries, is_sorted, nat_cmp-IsAntisymmetric}
-use Rattle.std.specs.FinMap.Entries.{below_all}
-use Rattle.std.specs.List.{sum_by}
-use Rattle.std.specs.Ordering.{is_lt, nat_cmp}
-use Rattle.std.proofs.lemmas.Map.Lookups.{exact_unsigned}
+use Rattle.std.specs.FinMap.{find}
 use Rattle.ubi_scan.proofs.Entries.{sorted_entries}
 use Rattle.ubi_scan.proofs.Keys.{told}
 use Rattle.ubi_scan.proofs.Truths.{true_is}

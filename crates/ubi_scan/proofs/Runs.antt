@@ -1,9 +1,5 @@
 -- How many numbers from 0 on pass a test.
-use Rattle.std.proofs.Common.{◌≡◌, ℕ, ◌+◌, ◌<◌, ◌≤◌, Bool, true, false, cond, zero, suc, add-zero, refl, ap, sym, ◌∙◌, arith}
-use Rattle.std.specs.List.{prefix_len, range_with_len}
-use Rattle.std.proofs.lemmas.List.FromFn.{get_or-range_with_len, length-range_with_len}
-use Rattle.std.proofs.lemmas.List.Sums.{prefix_len-le-length, prefix_len_passes, prefix_len_stops}
-use Rattle.ubi_scan.specs.Place.{run}
+use Rattle.ubi_scan.proofs.Prelude.{◌≡◌, ℕ, ◌+◌, ◌<◌, ◌≤◌, Bool, true, false, cond, zero, suc, add-zero, refl, ap, sym, ◌∙◌, arith, prefix_len, range_with_len, get_or-range_with_len, length-range_with_len, prefix_len-le-length, prefix_len_passes, prefix_len_stops, run}
 
 -- so many of n numbers pass, where those pass and the next one doesn't
 run_from : (t : ℕ → Bool) (a n m : ℕ) → m ≤ n → ((j : ℕ) → j < m → t (a + j) ≡ true) → (m < n → t (a + m) ≡ false)

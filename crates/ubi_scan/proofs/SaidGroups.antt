@@ -1,18 +1,6 @@
 -- The group that the headers of a file say.
-use Rattle.std.proofs.Common.{◌≡◌, ◌≢◌, ℕ, ◌/◌, ◌<◌, ◌≤◌, true, List, [], ◌∷◌, length, inl, inr, refl, ap, sym, ◌∙◌, arith}
-use Rattle.std.specs.List.{list_any}
-use Rattle.std.specs.Prelude.{IsFalse, map}
-use Rattle.std.proofs.lemmas.Bool.{and_from, eq-eqb, or_left, true≢false}
-use Rattle.std.proofs.lemmas.List.{length-map}
-use Rattle.ubi_scan.specs.Detected.{IsUndetected, IsWhole, NonePlain}
-use Rattle.ubi_scan.specs.Groups.{IsImage}
-use Rattle.ubi_scan.specs.Heads.{heads_of, key_count, keys_of, most_keys, same_key, step}
-use Rattle.ubi_scan.specs.Sure.{is_sure}
+use Rattle.ubi_scan.proofs.Prelude.{◌≡◌, ◌≢◌, ℕ, ◌/◌, ◌<◌, ◌≤◌, true, List, [], ◌∷◌, length, inl, inr, refl, ap, sym, ◌∙◌, arith, list_any, IsFalse, map, and_from, eq-eqb, or_left, true≢false, length-map, IsUndetected, IsWhole, NonePlain, IsImage, heads_of, key_count, keys_of, most_keys, same_key, step, is_sure, Group, Head, Key, AreGroups, IsWithin, LiesIn}
 use Rattle.ubi_scan.specs.declared.detect.Undetected.TheVariants as cause
-use Rattle.ubi_scan.specs.declared.groups.Group.{Group}
-use Rattle.ubi_scan.specs.declared.heads.Head.{Head}
-use Rattle.ubi_scan.specs.declared.heads.Key.{Key}
-use Rattle.ubi_scan.specs.inner.Detecting.{AreGroups, IsWithin, LiesIn}
 use Rattle.ubi_scan.proofs.NewGroups.{any_key}
 
 pub same_itself : (k : Key) → same_key k k ≡ true

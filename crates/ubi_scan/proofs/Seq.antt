@@ -1,10 +1,5 @@
 -- The image sequence number of eraseblocks: the one that all those name that name one.
-use Rattle.std.proofs.Common.{◌≡◌, ◌≢◌, ℕ, ◌<◌, ◌⊎◌, inl, inr, List, length, sym, ◌∙◌}
-use Rattle.std.proofs.lemmas.Bool.{cases_eq}
-use Rattle.ubi_media.specs.Geometry.{Sizes}
-use Rattle.ubi_scan.specs.Clean.{IsClean}
-use Rattle.ubi_scan.specs.Image.{block}
-use Rattle.ubi_scan.specs.Numbers.{image_seq, seq_of}
+use Rattle.ubi_scan.proofs.Prelude.{◌≡◌, ◌≢◌, ℕ, ◌<◌, ◌⊎◌, inl, inr, List, length, sym, ◌∙◌, cases_eq, Sizes, IsClean, block, image_seq, seq_of}
 use Rattle.ubi_scan.proofs.Clean.{seq_from, seq_some}
 
 module _ (z : Sizes) where

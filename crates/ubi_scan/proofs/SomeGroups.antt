@@ -1,20 +1,6 @@
 -- Headers form groups, and say an image or none.
-use Rattle.std.proofs.Common.{◌≡◌, ℕ, ◌+◌, ◌-◌, ◌*◌, ◌/◌, ◌%◌, ◌<◌, ◌≤◌, ◌⊎◌, Bool, true, false, List, [], ◌∷◌, ◌++◌, length, slice_range, zero, suc, inl, inr, refl, ap, sym, ◌∙◌, subst, arith}
-use Rattle.std.specs.Int.{IsGcd}
-use Rattle.std.specs.Option.{option_to_list}
-use Rattle.std.specs.Prelude.{◌&&◌, IsFalse, MatchOption, None, Option, Some, option_map, slice_index_or}
-use Rattle.std.proofs.Math.Nat.{mod-lt}
-use Rattle.std.proofs.lemmas.Bool.{and_parts, true≢false}
-use Rattle.std.proofs.lemmas.List.{append-nil, get_or_default}
-use Rattle.std.proofs.lemmas.List.Elements.{All-nil}
-use Rattle.std.proofs.lemmas.Nat.Gcd.{IsGcd-from_mod, IsGcd-from_zero, dvd-zero}
-use Rattle.ubi_media.proofs.Cases.{below_same_or_above}
-use Rattle.ubi_scan.specs.Groups.{IsGroup, IsImage}
-use Rattle.ubi_scan.specs.Heads.{heads_of, heads_to, is_of, key_in, step}
-use Rattle.ubi_scan.specs.declared.groups.Group.{Group}
-use Rattle.ubi_scan.specs.declared.heads.Head.{Head}
-use Rattle.ubi_scan.specs.declared.heads.Key.{Key}
-use Rattle.ubi_scan.specs.inner.Detecting.{AreAdded, AreGroups, AreReady, IsAdded, IsBestOf, NoneSays, beats, first_with, group_with, has_key, says_size, unnumbered}
+use Rattle.ubi_scan.proofs.Prelude.{◌≡◌, ℕ, ◌+◌, ◌-◌, ◌*◌, ◌/◌, ◌%◌, ◌<◌, ◌≤◌, ◌⊎◌, Bool, true, false, List, [], ◌∷◌, ◌++◌, length, slice_range, zero, suc, inl, inr, refl, ap, sym, ◌∙◌, subst, arith, IsGcd, option_to_list, ◌&&◌, IsFalse, MatchOption, None, Option, Some, option_map, slice_index_or, mod-lt, and_parts, true≢false, append-nil, get_or_default, All-nil, IsGcd-from_mod, IsGcd-from_zero, dvd-zero, below_same_or_above, IsGroup, IsImage, heads_of, heads_to, is_of, key_in, step, Group, Head, Key, AreAdded, AreGroups, AreReady, IsAdded, IsBestOf, NoneSays, first_with, group_with, has_key, says_size, unnumbered}
+use Rattle.ubi_scan.specs.inner.Detecting.{beats}
 use Rattle.ubi_scan.proofs.AddedGroups.{groups_more, no_group, ready, ready_with}
 use Rattle.ubi_scan.proofs.BestGroup.{best_taken, image_of, stays_best}
 use Rattle.ubi_scan.proofs.NewGroups.{group_of_none, group_of_unnumbered}

@@ -1,11 +1,7 @@
 -- Bytes that stand in a file from a place on.
-use Rattle.std.proofs.Common.{◌≡◌, ◌∙◌, ℕ, ◌+◌, ◌-◌, ◌≤◌, List, [], ◌∷◌, ◌++◌, ap, arith, length, length-append, refl, subst, sym}
-use Rattle.std.proofs.Math.Seq.{take-add, take-append-add}
-use Rattle.std.proofs.lemmas.List.{drop-drop, drop-take, length-drop, length-take, length-take-le, take-append-le, take-take}
-use Rattle.std.specs.Prelude.{drop, min, take}
-use Rattle.ubi_scan.specs.Placed.{StandsAt}
-use Rattle.ubi_scan.specs.declared.window.Window.{Window}
-use Rattle.ubi_scan.specs.inner.Ahead.{HoldsAt}
+use Rattle.ubi_scan.proofs.Prelude.{◌≡◌, ◌∙◌, ℕ, ◌+◌, ◌-◌, ◌≤◌, List, [], ◌∷◌, ◌++◌, ap, arith, length, length-append, refl, subst, sym, take-add, take-append-add, drop-drop, drop-take, take-append-le, take-take, min, StandsAt, Window, HoldsAt}
+use Rattle.std.proofs.lemmas.List.{length-drop, length-take, length-take-le}
+use Rattle.std.specs.Prelude.{drop, take}
 
 -- bytes that stand behind others stand with them
 pub stand_behind : (all : List ℕ) (at : ℕ) (xs ys : List ℕ) → StandsAt all at xs → StandsAt all (at + length xs) ys

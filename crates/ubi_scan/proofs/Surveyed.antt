@@ -1,15 +1,5 @@
 -- The headers of a file, unit by unit.
-use Rattle.std.proofs.Common.{◌≡◌, ℕ, ◌+◌, ◌-◌, ◌*◌, ◌/◌, ◌%◌, ◌<◌, ◌≤◌, List, [], ◌∷◌, ◌++◌, length, take, drop, slice_range, refl, ap, sym, ◌∙◌, arith}
-use Rattle.std.specs.Int.{div_ceil}
-use Rattle.std.specs.List.{cons_option, filter_map, range_with_len}
-use Rattle.std.specs.Option.{option_to_list}
-use Rattle.std.specs.Prelude.{min, None, Option, Some}
-use Rattle.std.proofs.Math.Nat.{mod-add-div'}
-use Rattle.std.proofs.lemmas.List.{drop-drop, drop-take, map-id, take-take}
-use Rattle.std.proofs.lemmas.List.Elements.{filter_map-append}
-use Rattle.std.proofs.lemmas.List.FromFn.{map-range_with_len_more}
-use Rattle.ubi_scan.specs.Heads.{head_at, heads_to, step}
-use Rattle.ubi_scan.specs.inner.Detecting.{head_in}
+use Rattle.ubi_scan.proofs.Prelude.{◌≡◌, ℕ, ◌+◌, ◌-◌, ◌*◌, ◌/◌, ◌%◌, ◌<◌, ◌≤◌, List, [], ◌∷◌, ◌++◌, length, take, drop, slice_range, refl, ap, sym, ◌∙◌, arith, div_ceil, cons_option, filter_map, range_with_len, option_to_list, min, None, Option, Some, mod-add-div', drop-drop, drop-take, map-id, take-take, filter_map-append, map-range_with_len_more, head_at, heads_to, step, head_in}
 
 -- n numbers and one more
 pub range_more : (n : ℕ) → range_with_len 0 (n + 1) ≡ range_with_len 0 n ++ n ∷ []

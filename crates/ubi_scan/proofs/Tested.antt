@@ -1,11 +1,5 @@
 -- Tests of numbers from 0 on, one after the other.
-use Rattle.std.proofs.Common.{◌≡◌, ℕ, ◌+◌, ◌<◌, Bool, true, false, cond, [], ◌∷◌, zero, suc, inl, inr, refl, ap, sym, ◌∙◌, arith}
-use Rattle.std.specs.List.{list_all, list_any, range_with_len}
-use Rattle.std.specs.Prelude.{◌&&◌, ◌||◌, count_by}
-use Rattle.std.proofs.lemmas.Bool.{and_from, and_left, and_right, or_from, or_left, or_right}
-use Rattle.std.proofs.lemmas.List.Folds.{list_all-append, list_any-append}
-use Rattle.std.proofs.lemmas.List.Sums.{fold-append}
-use Rattle.ubi_media.proofs.Cases.{below_or_last}
+use Rattle.ubi_scan.proofs.Prelude.{◌≡◌, ℕ, ◌+◌, ◌<◌, Bool, true, false, cond, [], ◌∷◌, zero, suc, inl, inr, refl, ap, sym, ◌∙◌, arith, list_all, list_any, range_with_len, ◌&&◌, ◌||◌, count_by, and_from, and_left, and_right, or_from, or_left, or_right, list_all-append, list_any-append, fold-append, below_or_last}
 use Rattle.ubi_scan.proofs.Surveyed.{range_more}
 
 module _ (p : ℕ → Bool) where

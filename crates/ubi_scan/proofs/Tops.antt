@@ -1,20 +1,7 @@
 -- No member has a sequence number above the greatest one so far.
-use Rattle.std.proofs.Common.{◌≡◌, ℕ, ◌<◌, ◌≤◌, inl, inr, Bool, true, false, cond, ◌==◌, ap, refl, subst, arith}
-use Rattle.std.specs.Prelude.{IfSome, IsSome, None, Option, Some, option_and_then, unwrap_or}
+use Rattle.ubi_scan.proofs.Prelude.{◌≡◌, ℕ, ◌<◌, ◌≤◌, inl, inr, Bool, true, false, cond, ap, refl, subst, arith, IfSome, IsSome, None, Option, Some, option_and_then, unwrap_or, BTreeMap, then_some, same_Some, EcRead, VidHeader, VidRead, beaten, held_of, kept, known, takes_over, sqnum_if, AreAtMost, IsPutAside, Stamp, stamp_cmp, Leb, has_members, header_if, member_if, sqnum_in_use, Candidate, Meeting}
+use Rattle.std.proofs.Common.{◌==◌}
 use Rattle.std.specs.BTreeMap as tree
-use Rattle.std.specs.BTreeMap.{BTreeMap}
-use Rattle.std.specs.Bool.{then_some}
-use Rattle.std.proofs.lemmas.Option.{same_Some}
-use Rattle.ubi_media.specs.declared.ec.EcRead.{EcRead}
-use Rattle.ubi_media.specs.declared.vid.VidHeader.{VidHeader}
-use Rattle.ubi_media.specs.declared.vid.VidRead.{VidRead}
-use Rattle.ubi_scan.specs.inner.Choice.{beaten, held_of, kept, known, takes_over}
-use Rattle.ubi_scan.specs.inner.Counts.{sqnum_if}
-use Rattle.ubi_scan.specs.inner.Pass.{AreAtMost, IsPutAside, Stamp, stamp_cmp}
-use Rattle.ubi_scan.specs.Members.{Leb, has_members, header_if, member_if}
-use Rattle.ubi_scan.specs.Numbers.{sqnum_in_use}
-use Rattle.ubi_scan.specs.declared.candidate.Candidate.{Candidate}
-use Rattle.ubi_scan.specs.declared.candidate.Meeting.{Meeting}
 use Rattle.ubi_scan.proofs.Keys.{stamp_exact, stamp_total, told}
 
 -- the number of a member is in use

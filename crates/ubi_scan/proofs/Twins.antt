@@ -1,20 +1,11 @@
 -- The fault of an eraseblock by all that is known, in two parts: as far as the candidate that it meets tells, and else by the
 -- other members.
-use Rattle.std.proofs.Common.{◌≡◌, ℕ, Bool, true, false, ◌==◌, cond, refl, ap, sym, ◌∙◌}
-use Rattle.std.specs.Prelude.{Option, Some, None, if◌then◌else◌, option_and_then, option_map}
+use Rattle.ubi_scan.proofs.Prelude.{◌≡◌, ℕ, Bool, true, false, cond, refl, ap, sym, ◌∙◌, Option, Some, None, if◌then◌else◌, option_and_then, option_map, BTreeMap, then_some, option_or, EcRead, VidHeader, VidRead, Stamp, ec_fault, fault_if, header_fault, held_in, is_incompatible, is_mislaid, stamp_cmp, stamp_of, twin_by, twin_held, twin_in, Leb, has_members, member_if, Candidate}
+use Rattle.std.proofs.Common.{◌==◌}
 use Rattle.std.specs.BTreeMap as tree
-use Rattle.std.specs.BTreeMap.{BTreeMap}
-use Rattle.std.specs.Bool.{then_some}
-use Rattle.std.specs.Option.{option_or}
-use Rattle.ubi_media.specs.declared.ec.EcRead.{EcRead}
 use Rattle.ubi_media.specs.declared.ec.EcRead.TheVariants as ec_read
 use Rattle.ubi_media.specs.declared.refusal.Refusal.TheVariants as refusal
-use Rattle.ubi_media.specs.declared.vid.VidHeader.{VidHeader}
-use Rattle.ubi_media.specs.declared.vid.VidRead.{VidRead}
 use Rattle.ubi_media.specs.declared.vid.VidRead.TheVariants as vid_read
-use Rattle.ubi_scan.specs.inner.Pass.{Stamp, ec_fault, fault_if, header_fault, held_in, is_incompatible, is_mislaid, stamp_cmp, stamp_of, twin_by, twin_held, twin_in}
-use Rattle.ubi_scan.specs.Members.{Leb, has_members, member_if}
-use Rattle.ubi_scan.specs.declared.candidate.Candidate.{Candidate}
 
 -- the member among the others that has the stamp of a header
 abbrev pub aside_in : BTreeMap Stamp ℕ → Option VidHeader → Option ℕ

@@ -1,10 +1,7 @@
 -- The pages that eraseblocks of a size and of offsets may have, on literals: the least first, and each a divisor of
 -- those behind it.
-use Rattle.std.proofs.Common.{◌≡◌, ℕ, List, [], ◌∷◌, map, refl}
-use Rattle.ubi_media.specs.Limits.{first_broken}
-use Rattle.ubi_media.specs.declared.ec.EcOffsets.{EcOffsets}
-use Rattle.ubi_scan.specs.Ways.{plain_ways, ways}
-use Rattle.ubi_scan.specs.declared.way.Way.{Way}
+use Rattle.ubi_scan.proofs.Prelude.{◌≡◌, ℕ, List, [], ◌∷◌, refl, first_broken, EcOffsets, plain_ways, ways, Way}
+use Rattle.std.proofs.Common.{map}
 
 abbrev offsets : ℕ → ℕ → EcOffsets
 offsets vid first = record { vid_offset = vid; data_offset = first }

@@ -1,10 +1,6 @@
 -- What is found of a row of numbers, one after the other.
-use Rattle.std.proofs.Common.{◌≡◌, ℕ, ◌+◌, ◌<◌, List, [], ◌∷◌, ◌++◌, length, take, get_or, ap, sym, ◌∙◌}
-use Rattle.std.specs.Prelude.{Option, Some, None}
-use Rattle.std.specs.List.{cons_option, filter_map, flat_map}
-use Rattle.std.proofs.lemmas.List.{append-nil, append_assoc, take_more}
-use Rattle.std.proofs.lemmas.Grind.{flat_map-append}
-use Rattle.std.proofs.lemmas.List.Elements.{filter_map-append}
+use Rattle.ubi_scan.proofs.Prelude.{◌≡◌, ℕ, ◌+◌, ◌<◌, List, [], ◌∷◌, ◌++◌, length, take, get_or, ap, sym, ◌∙◌, Option, Some, None, cons_option, filter_map, flat_map, append-nil, take_more, flat_map-append, filter_map-append}
+use Rattle.std.proofs.lemmas.List.{append_assoc}
 
 module _ {X : Type 0} (f : ℕ → Option X) (xs : List ℕ) (i d : ℕ) (inside : i < length xs) (before found : List X)
     (so_far : found ≡ before ++ filter_map f (take i xs)) where

@@ -1,17 +1,7 @@
 -- Which copy decides, where those before it can't.
-use Rattle.std.proofs.Common.{◌≡◌, ℕ, ◌+◌, ◌<◌, inl, inr, true, List, refl, ap, sym, ◌∙◌, subst, arith}
-use Rattle.std.specs.Prelude.{MatchOption, None, Some}
+use Rattle.ubi_table.proofs.Prelude.{◌≡◌, ℕ, ◌+◌, ◌<◌, inl, inr, true, List, refl, ap, sym, ◌∙◌, subst, arith, MatchOption, None, Some, cases_order, Sizes, Refusal, NoMember, Wins, layout, Found, IsScan, IsCopyFault, IsCopyTable, Records, CopyIs, Decides, IsTable, IsTableFault, can_decide, CopyRead}
 use Rattle.std.specs.FinMap as finite
-use Rattle.std.proofs.lemmas.Bool.{cases_order}
-use Rattle.ubi_media.specs.Geometry.{Sizes}
-use Rattle.ubi_media.specs.declared.refusal.Refusal.{Refusal}
 use Rattle.ubi_media.specs.declared.refusal.Refusal.TheVariants as refusal
-use Rattle.ubi_scan.specs.Members.{NoMember, Wins, layout}
-use Rattle.ubi_scan.specs.Scan.{Found, IsScan}
-use Rattle.ubi_table.specs.inner.OneCopy.{IsCopyFault, IsCopyTable}
-use Rattle.ubi_table.specs.Records.{Records}
-use Rattle.ubi_table.specs.Table.{CopyIs, Decides, IsTable, IsTableFault, can_decide}
-use Rattle.ubi_table.specs.declared.copy.CopyRead.{CopyRead}
 use Rattle.ubi_table.specs.declared.copy.CopyRead.TheVariants as copy
 use Rattle.ubi_table.proofs.One.{copy_unique}
 

@@ -1,28 +1,11 @@
 -- A copy of the table that is good with some page is good with a page of which that one is a multiple, with the same
 -- records, and a corrupt one is corrupt: all that a greater page can do to a copy is to put it at fault. A copy at
 -- fault decides, and then there is no table; so where there is one, the same copy decides with both pages.
-use Rattle.std.proofs.Common.{◌≡◌, ℕ, ◌+◌, ◌⊎◌, inl, inr, Bool, false, true≢false, cond, List, [], ◌∷◌, map, refl, ap, sym, ◌∙◌, subst}
-use Rattle.std.specs.Int.{◌∣◌}
-use Rattle.std.specs.FinMap.{from_entries}
-use Rattle.std.specs.List.{enumerate_from}
-use Rattle.std.specs.Prelude.{Option, Some, None, find}
-use Rattle.ubi_media.specs.Ec.{breaks as ec_breaks, ec_reading, first_fault as first_ec_fault, judged as judged_ec}
-use Rattle.ubi_media.specs.Geometry.{Sizes}
-use Rattle.ubi_media.specs.OtherPage.{with_page}
-use Rattle.ubi_media.specs.Record.{rec_reading}
-use Rattle.ubi_media.specs.declared.record.RecFault.{RecFault}
+use Rattle.ubi_table.proofs.Prelude.{◌≡◌, ℕ, ◌+◌, ◌⊎◌, inl, inr, Bool, false, true≢false, cond, List, [], ◌∷◌, map, refl, ap, sym, ◌∙◌, subst, ◌∣◌, from_entries, enumerate_from, Option, Some, None, find, ec_reading, Sizes, with_page, rec_reading, RecFault, RecRead, found_passes, reading_kept, block, leb, slots_in, Wins, layout, no_member_of_page, wins_of_page, HasSpace, Records, entries_of, is_faulty, readings, records_in, twice, CopyIs, Decides, IsTable, IsTableFault, can_decide, copy_by, copy_of, named_copy, CopyRead}
+use Rattle.ubi_media.specs.Ec.{breaks as ec_breaks, first_fault as first_ec_fault, judged as judged_ec}
 use Rattle.ubi_media.specs.declared.record.RecFault.TheVariants as fault
-use Rattle.ubi_media.specs.declared.record.RecRead.{RecRead}
 use Rattle.ubi_media.specs.declared.record.RecRead.TheVariants as read
 use Rattle.ubi_media.specs.declared.refusal.Refusal.TheVariants as refusal
-use Rattle.ubi_media.proofs.First.{found_passes}
-use Rattle.ubi_media.proofs.LesserPage.{reading_kept}
-use Rattle.ubi_scan.specs.Image.{block, leb, slots_in}
-use Rattle.ubi_scan.specs.Members.{Wins, layout}
-use Rattle.ubi_scan.proofs.AnyPage.{no_member_of_page, wins_of_page}
-use Rattle.ubi_table.specs.Records.{HasSpace, Records, entries_of, is_faulty, readings, records_in, twice}
-use Rattle.ubi_table.specs.Table.{CopyIs, Decides, IsTable, IsTableFault, can_decide, copy_by, copy_of, named_copy}
-use Rattle.ubi_table.specs.declared.copy.CopyRead.{CopyRead}
 use Rattle.ubi_table.specs.declared.copy.CopyRead.TheVariants as copy
 use Rattle.ubi_table.proofs.Names.{Entry}
 

@@ -16,3 +16,4 @@ pub mod ReadBack
 pub mod Reading
 pub mod Streamed
 pub mod TableVectors
+pub mod Prelude

@@ -1,15 +1,6 @@
 -- A record with another name breaks no rule, if the bytes are a name.
-use Rattle.std.proofs.Common.{◌≡◌, ℕ, true, false, not, List, refl, ap, lit<, arith}
-use Rattle.std.specs.Prelude.{None}
-use Rattle.std.proofs.lemmas.Bool.Decides.{nat_tests}
-use Rattle.ubi_media.specs.Geometry.{Sizes}
-use Rattle.ubi_media.specs.Name.{is_name}
-use Rattle.ubi_media.specs.Record.{breaks, fields_from, first_fault, rec_fault}
+use Rattle.ubi_table.proofs.Prelude.{◌≡◌, ℕ, true, false, not, List, refl, ap, lit<, arith, None, nat_tests, Sizes, is_name, breaks, fields_from, first_fault, rec_fault, VolumeRecord, IsName, name_facts, padded_begins, padded_ends, kept, with_name}
 use Rattle.ubi_media.specs.declared.record.RecFault.TheVariants as fault
-use Rattle.ubi_media.specs.declared.record.VolumeRecord.{VolumeRecord}
-use Rattle.ubi_media.proofs.Names.{IsName, name_facts, padded_begins, padded_ends}
-use Rattle.ubi_media.proofs.Records.{kept}
-use Rattle.ubi_table.specs.Named.{with_name}
 
 module _ (s : Sizes) (r : VolumeRecord) (name : List ℕ) (is : is_name name ≡ true) where
   pub sound_named : rec_fault s r ≡ None → rec_fault s (with_name r name) ≡ None

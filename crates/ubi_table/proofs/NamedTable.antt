@@ -1,25 +1,7 @@
 -- A table with another name in one record, by its entries, and that its records meet the rules.
-use Rattle.std.proofs.Common.{◌≡◌, ◌≢◌, ℕ, ◌<◌, ◌==◌, inl, inr, T, true, cond, List, length, map, get_or, refl, ap, sym, ◌∙◌, subst}
-use Rattle.std.specs.Prelude.{IsSome, None, Option, Some, option_map}
+use Rattle.ubi_table.proofs.Prelude.{◌≡◌, ◌≢◌, ℕ, ◌<◌, ◌==◌, inl, inr, T, true, cond, List, length, map, get_or, refl, ap, sym, ◌∙◌, subst, IsSome, None, Option, Some, option_map, FinMap, from_entries, is_sorted, option_map_or, nat_cmp, cases_eq, same_Some, Sizes, is_name, rec_fault, VolumeRecord, find_at, apart_test, at_itself, at_other, same_test, revalued_is, sorted_revalued, true_is, AreKept, IsFreeName, records_named, with_name, AreRecords, Records, entry_named}
 use Rattle.std.specs.Cmp.{nat_cmp_total}
 use Rattle.std.specs.FinMap as finite
-use Rattle.std.specs.FinMap.{FinMap, from_entries, is_sorted}
-use Rattle.std.specs.Option.{option_map_or}
-use Rattle.std.specs.Ordering.{nat_cmp}
-use Rattle.std.proofs.lemmas.Bool.{cases_eq}
-use Rattle.std.proofs.lemmas.Option.{same_Some}
-use Rattle.ubi_media.specs.Geometry.{Sizes}
-use Rattle.ubi_media.specs.Name.{is_name}
-use Rattle.ubi_media.specs.Record.{rec_fault}
-use Rattle.ubi_media.specs.declared.record.VolumeRecord.{VolumeRecord}
-use Rattle.ubi_scan.proofs.Finite.{find_at}
-use Rattle.ubi_scan.proofs.Keys.{apart_test, at_itself, at_other, same_test}
-use Rattle.ubi_scan.proofs.Revalued.{revalued_is, sorted_revalued}
-use Rattle.ubi_scan.proofs.Truths.{true_is}
-use Rattle.ubi_table.specs.Coded.{AreKept}
-use Rattle.ubi_table.specs.Named.{IsFreeName, records_named, with_name}
-use Rattle.ubi_table.specs.Records.{AreRecords, Records}
-use Rattle.ubi_table.specs.inner.Naming.{entry_named}
 use Rattle.ubi_table.proofs.NameRules.{sound_named}
 use Rattle.ubi_table.proofs.Names.{Entry, apart_once}
 use Rattle.ubi_table.proofs.ReadBack.{apart_of}

@@ -1,15 +1,9 @@
 -- The table of no volume: each device has the eraseblocks that it reserves.
-use Rattle.std.proofs.Common.{◌≡◌, ℕ, T, List, [], ◌∷◌, refl, ap, sym, ◌∙◌, arith}
-use Rattle.std.specs.Prelude.{None, map}
+use Rattle.ubi_table.proofs.Prelude.{◌≡◌, ℕ, T, List, [], ◌∷◌, refl, ap, sym, ◌∙◌, arith, None, is_sorted, sum_by, nat_cmp, IsGeometry, Sizes, VolumeRecord, find_at, HasSpace, no_records}
+use Rattle.std.specs.Prelude.{map}
 use Rattle.std.specs.Cmp.{nat_cmp_total}
 use Rattle.std.specs.FinMap as finite
-use Rattle.std.specs.FinMap.{find, is_sorted}
-use Rattle.std.specs.List.{sum_by}
-use Rattle.std.specs.Ordering.{nat_cmp}
-use Rattle.ubi_media.specs.Geometry.{IsGeometry, Sizes}
-use Rattle.ubi_media.specs.declared.record.VolumeRecord.{VolumeRecord}
-use Rattle.ubi_scan.proofs.Finite.{find_at}
-use Rattle.ubi_table.specs.Records.{HasSpace, no_records}
+use Rattle.std.specs.FinMap.{find}
 
 -- a map without entries
 module _ {X : Type 0} where

@@ -1,18 +1,8 @@
 -- The table of a source, by its copies.
-use Rattle.std.proofs.Common.{ℕ, ◌<◌, List, refl}
-use Rattle.std.specs.Prelude.{None, Option, Some, find}
-use Rattle.ubi_media.specs.Geometry.{Sizes}
-use Rattle.ubi_media.specs.declared.record.RecRead.{RecRead}
+use Rattle.ubi_table.proofs.Prelude.{ℕ, ◌<◌, List, refl, None, Option, Some, find, Sizes, RecRead, Agreed, Source, WhereHeld, blocks_of, StreamError, HasSizes, IsCopyOfError, is_faulty, readings, records_in, twice, IsTableOfError, copy_by, copy_of, named_copy}
 use Rattle.ubi_media.specs.declared.record.RecRead.TheVariants as read
-use Rattle.ubi_scan.specs.Source.{Agreed, Source, WhereHeld, blocks_of}
-use Rattle.ubi_scan.specs.declared.errors.StreamError.{StreamError}
 use Rattle.ubi_scan.specs.declared.errors.StreamError.TheVariants as stream
-use Rattle.ubi_table.specs.Stream.{HasSizes}
-use Rattle.ubi_table.specs.inner.OneCopy.{IsCopyOfError}
 use Rattle.ubi_table.proofs.Deciding.{NoneDecides, fault_chosen}
-use Rattle.ubi_table.specs.Records.{is_faulty, readings, records_in, twice}
-use Rattle.ubi_table.specs.Stream.{IsTableOfError}
-use Rattle.ubi_table.specs.Table.{copy_by, copy_of, named_copy}
 
 -- the table of a copy has the sizes by which it was read
 module _ (s : Sizes) (bytes : List ℕ) where

@@ -1,20 +1,6 @@
 -- How much a volume reads, by the places of its LEBs.
-use Rattle.std.proofs.Common.{◌≡◌, ◌≢◌, ℕ, ◌+◌, cond, List, [], length, refl, ap, sym, ◌∙◌, subst}
-use Rattle.std.specs.Prelude.{None, Option, Some, is_some}
-use Rattle.std.specs.Cmp.{nat_cmp_total}
+use Rattle.ubi_volume.proofs.Prelude.{◌≡◌, ◌≢◌, ℕ, ◌+◌, cond, List, [], length, refl, ap, sym, ◌∙◌, subst, None, Option, Some, is_some, nat_cmp_total, length-put, nat_cmp, blank, Sizes, usable, VolumeRecord, blocks_of, sorted_entries, AmountIs, amount_of, AreKept, ContentIs, LebReads, Placed}
 use Rattle.std.specs.FinMap as finite
-use Rattle.std.specs.FinMap.Entries.{length-put}
-use Rattle.std.specs.Ordering.{nat_cmp}
-use Rattle.ubi_media.specs.Fields.{blank}
-use Rattle.ubi_media.specs.Geometry.{Sizes}
-use Rattle.ubi_media.specs.Record.{usable}
-use Rattle.ubi_media.specs.declared.record.VolumeRecord.{VolumeRecord}
-use Rattle.ubi_scan.specs.Source.{blocks_of}
-use Rattle.ubi_scan.proofs.Entries.{sorted_entries}
-use Rattle.ubi_volume.specs.Amounts.{AmountIs, amount_of}
-use Rattle.ubi_volume.specs.inner.Gathered.{AreKept, ContentIs}
-use Rattle.ubi_volume.specs.Means.{LebReads}
-use Rattle.ubi_volume.specs.Places.{Placed}
 use Rattle.ubi_volume.specs.declared.block.Amount.TheVariants as amount
 use Rattle.ubi_volume.specs.declared.content.Content.TheVariants as content
 use Rattle.ubi_volume.specs.declared.places.PlaceContent.TheVariants as place

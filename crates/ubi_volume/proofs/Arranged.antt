@@ -1,40 +1,9 @@
 -- The meaning of volumes that have no cause against them.
-use Rattle.std.proofs.Common.{◌≡◌, ◌≢◌, ℕ, zero, suc, ◌+◌, ◌^◌, ◌<◌, ◌≤◌, ◌⊎◌, inl, inr, Bool, true, false, cond, not, T, List, [], ◌∷◌, length, map, get_or, refl, ap, sym, ◌∙◌, subst, arith}
-use Rattle.std.specs.Prelude.{◌*◌, unwrap_or, IfSome, IsPermutation, IsTrue, None, Option, Some, fold, option_map, slice_get, sum_by}
-use Rattle.std.specs.Cmp.{eq_by_cmp_equiv, nat_cmp_total, tied_itself}
+use Rattle.ubi_volume.proofs.Prelude.{◌≡◌, ◌≢◌, ℕ, zero, suc, ◌+◌, ◌^◌, ◌<◌, ◌≤◌, ◌⊎◌, inl, inr, Bool, true, false, cond, not, T, List, [], ◌∷◌, length, map, get_or, refl, ap, sym, ◌∙◌, subst, arith, unwrap_or, IfSome, IsTrue, None, Option, Some, fold, option_map, slice_get, eq_by_cmp_equiv, nat_cmp_total, tied_itself, find, from_entries, is_sorted, nat_cmp-IsAntisymmetric, below_all, AllByRecursion, IsDistinct, list_all, IsNonDecreasingBy, keys_of, values_of, eq_by_cmp, is_eq, is_lt, nat_cmp, nat_tests, Contains-permutation, IsPermutation-map, IsPermutation-sym, sum_by_values_permutation, IsDistinct-IsPermutation, IsDistinct-from_apart, IsDistinct-head, IsDistinct-tail, exact_unsigned, get_or_from_slice_get, slice_get-get_or, slice_get-map, slice_get_within, same_Some, cases_order, blank, is_blank, Sizes, slots, rec_fault, usable, RecFault, VolumeRecord, VolKind, within_or_past, sorted_entries, place_of, told, both_are, true_is, leb_fits, IsItem, Items, NoCause, item_without_blank, without_blank, Fits, HasDistinctNames, IsVolume, KeepsNoBlank, AreVolumes, Content, Volume}
+use Rattle.std.specs.Prelude.{◌*◌, IsPermutation, sum_by}
 use Rattle.std.specs.FinMap as finite
-use Rattle.std.specs.FinMap.{find, from_entries, is_sorted, nat_cmp-IsAntisymmetric}
-use Rattle.std.specs.FinMap.Entries.{below_all}
-use Rattle.std.specs.List.{AllByRecursion, IsDistinct, list_all}
-use Rattle.std.specs.List.Sorted.{IsNonDecreasingBy}
-use Rattle.std.specs.Map.{keys_of, values_of}
-use Rattle.std.specs.Ordering.{eq_by_cmp, is_eq, is_lt, nat_cmp}
-use Rattle.std.proofs.lemmas.Bool.Decides.{nat_tests}
-use Rattle.std.proofs.lemmas.List.Sorted.{Contains-permutation, IsPermutation-map, IsPermutation-sym}
-use Rattle.std.proofs.lemmas.Map.Entries.{sum_by_values_permutation}
-use Rattle.std.proofs.lemmas.Map.Keys.{IsDistinct-IsPermutation, IsDistinct-from_apart, IsDistinct-head, IsDistinct-tail}
-use Rattle.std.proofs.lemmas.Map.Lookups.{exact_unsigned}
-use Rattle.std.proofs.lemmas.Option.{get_or_from_slice_get, slice_get-get_or, slice_get-map, slice_get_within, same_Some}
-use Rattle.std.proofs.lemmas.Bool.{cases_order}
-use Rattle.ubi_media.specs.Fields.{blank, is_blank}
-use Rattle.ubi_media.specs.Geometry.{Sizes, slots}
-use Rattle.ubi_media.specs.Record.{rec_fault, usable}
-use Rattle.ubi_media.specs.declared.record.RecFault.{RecFault}
-use Rattle.ubi_media.specs.declared.record.VolumeRecord.{VolumeRecord}
-use Rattle.ubi_media.specs.declared.vid.VolKind.{VolKind}
 use Rattle.ubi_media.specs.declared.vid.VolKind.TheVariants as kind
-use Rattle.ubi_media.proofs.Cases.{within_or_past}
-use Rattle.ubi_scan.proofs.Entries.{sorted_entries}
-use Rattle.ubi_scan.proofs.Finite.{place_of}
-use Rattle.ubi_scan.proofs.Keys.{told}
-use Rattle.ubi_scan.proofs.Truths.{both_are, true_is}
-use Rattle.ubi_volume.specs.inner.Making.{leb_fits}
-use Rattle.ubi_volume.specs.Made.{IsItem, Items, NoCause, item_without_blank, without_blank}
-use Rattle.ubi_volume.specs.Meant.{Fits, HasDistinctNames, IsVolume, KeepsNoBlank}
-use Rattle.ubi_volume.specs.MeantCoded.{AreVolumes}
-use Rattle.ubi_volume.specs.declared.content.Content.{Content}
 use Rattle.ubi_volume.specs.declared.content.Content.TheVariants as content
-use Rattle.ubi_volume.specs.declared.content.Volume.{Volume}
 use Rattle.ubi_volume.specs.declared.errors.MeaningCause.TheVariants as cause
 use Rattle.ubi_volume.proofs.Blanks.{other_text}
 use Rattle.ubi_volume.proofs.Winners.{no_some}

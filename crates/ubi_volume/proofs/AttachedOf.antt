@@ -1,14 +1,5 @@
 -- What attaching an image gives, by what its parts answered.
-use Rattle.std.proofs.Common.{List, sym, subst, ◌∙◌}
-use Rattle.ubi_scan.specs.Image.{Image, eraseblocks, in_image}
-use Rattle.ubi_scan.specs.Scan.{Found, IsScan}
-use Rattle.ubi_table.specs.Records.{Records}
-use Rattle.ubi_table.specs.Table.{IsTable}
-use Rattle.ubi_table.proofs.One.{table_unique}
-use Rattle.ubi_volume.specs.Accepts.{Accepts}
-use Rattle.ubi_volume.specs.Attached.{IsAttached, AreStates}
-use Rattle.ubi_volume.specs.Meant.{Meant}
-use Rattle.ubi_volume.specs.declared.attached.BlockState.{BlockState}
+use Rattle.ubi_volume.proofs.Prelude.{List, sym, subst, ◌∙◌, Image, eraseblocks, in_image, Found, IsScan, Records, IsTable, table_unique, Accepts, IsAttached, AreStates, Meant, BlockState}
 use Rattle.ubi_volume.proofs.Recorded.{records_meant}
 
 pub attached : (image : Image) (found : Found) (t : Records) (m : Meant) (states : List BlockState) → Accepts image m

@@ -1,17 +1,7 @@
 -- Bytes that are 0xFF throughout.
-use Rattle.std.proofs.Common.{◌≡◌, ◌≢◌, ℕ, ◌+◌, ◌-◌, ◌/◌, ◌<◌, ◌≤◌, ◌==◌, ◌&&◌, ◌++◌, Bool, true, false, List, take, drop, length, ap, sym, ◌∙◌, subst, arith, refl}
-use Rattle.std.specs.Prelude.{IfSome, IsTrue, None, Option, Some, if◌then◌else◌, not, slice_range}
-use Rattle.std.proofs.lemmas.List.{drop-drop, drop-take, length-take-le, same_lists, length-replicate, get_or-replicate, take-append-drop, take-take}
-use Rattle.std.proofs.lemmas.List.Folds.{list_all-append}
-use Rattle.std.proofs.lemmas.List.Elements.{All-replicate}
-use Rattle.ubi_media.specs.Fields.{blank, is_blank}
-use Rattle.ubi_media.specs.Header.{IsBlank}
-use Rattle.ubi_media.proofs.Readings.{blank_of, not_blank_of}
-use Rattle.ubi_media.specs.Geometry.{Sizes, leb_size}
-use Rattle.ubi_scan.specs.Image.{block, leb}
-use Rattle.ubi_scan.specs.Source.{Agreed, IsSource, Source, blocks_in, blocks_of}
-use Rattle.ubi_scan.proofs.ReadParts.{length-leb}
-use Rattle.ubi_volume.specs.Extract.{leb_bytes}
+use Rattle.ubi_volume.proofs.Prelude.{◌≡◌, ◌≢◌, ℕ, ◌+◌, ◌-◌, ◌/◌, ◌<◌, ◌≤◌, ◌==◌, ◌&&◌, ◌++◌, Bool, true, false, List, take, drop, length, ap, sym, ◌∙◌, subst, arith, refl, IfSome, IsTrue, None, Option, Some, if◌then◌else◌, drop-drop, drop-take, same_lists, length-replicate, get_or-replicate, take-append-drop, take-take, list_all-append, All-replicate, blank, is_blank, IsBlank, blank_of, not_blank_of, Sizes, leb_size, block, leb, Agreed, IsSource, Source, blocks_in, blocks_of, length-leb, leb_bytes}
+use Rattle.std.specs.Prelude.{not, slice_range}
+use Rattle.std.proofs.lemmas.List.{length-take-le}
 
 pub not_true : (b : Bool) → true ≡ not b → b ≡ false
 not_true true e = absurd (cc)

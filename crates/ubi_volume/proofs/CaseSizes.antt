@@ -1,32 +1,7 @@
 -- The case and size of what the volumes of a source read.
-use Rattle.std.proofs.Common.{◌≡◌, ℕ, suc, ◌+◌, ◌-◌, ◌*◌, ◌%◌, ◌<◌, ◌≤◌, inl, inr, false, List, [], ◌∷◌, ◌++◌, length, take, slice_range, refl, ap, sym, ◌∙◌, arith, length-append}
-use Rattle.std.specs.Prelude.{Option, Some, None, flat_map, min, option_map, slice_index}
+use Rattle.ubi_volume.proofs.Prelude.{◌≡◌, ℕ, suc, ◌+◌, ◌-◌, ◌*◌, ◌%◌, ◌<◌, ◌≤◌, inl, inr, false, List, [], ◌∷◌, ◌++◌, length, take, slice_range, refl, ap, sym, ◌∙◌, arith, length-append, Option, Some, None, flat_map, min, option_map, slice_index, div-add-mod, mod-lt, mul-le, cases_order, same_Some, check, Sizes, leb_size, usable, VolumeRecord, VidHeader, NoFault, block, leb, NoMember, Wins, member, Found, IsScan, blocks_of, length-first_chunks, data_of_read, Records, NoMismatch, CaseIs, PieceSizeIs, SizeIsRead, ContentIs, PieceIs, UsedIs, StaticReads, piece, pieces, case_of, Content}
 use Rattle.std.specs.FinMap as finite
-use Rattle.std.proofs.Math.Nat.{div-add-mod, mod-lt}
-use Rattle.std.proofs.lemmas.Nat.{mul-le}
-use Rattle.std.proofs.lemmas.Bool.{cases_order}
-use Rattle.std.proofs.lemmas.Option.{same_Some}
-use Rattle.ubi_media.specs.Check.{check}
-use Rattle.ubi_media.specs.Geometry.{Sizes, leb_size}
-use Rattle.ubi_media.specs.Record.{usable}
-use Rattle.ubi_media.specs.declared.record.VolumeRecord.{VolumeRecord}
-use Rattle.ubi_media.specs.declared.vid.VidHeader.{VidHeader}
 use Rattle.ubi_media.specs.declared.vid.VolKind.TheVariants as kind
-use Rattle.ubi_scan.specs.Faults.{NoFault}
-use Rattle.ubi_scan.specs.Image.{block, leb}
-use Rattle.ubi_scan.specs.Members.{NoMember, Wins, member}
-use Rattle.ubi_scan.specs.Scan.{Found, IsScan}
-use Rattle.ubi_scan.specs.Source.{blocks_of}
-use Rattle.ubi_scan.proofs.Chunks.{length-first_chunks}
-use Rattle.ubi_scan.proofs.ReadParts.{data_of_read}
-use Rattle.ubi_table.specs.Records.{Records}
-use Rattle.ubi_volume.specs.Accepts.{NoMismatch}
-use Rattle.ubi_volume.specs.inner.Cases.{CaseIs, PieceSizeIs, SizeIsRead}
-use Rattle.ubi_volume.specs.inner.Gathered.{ContentIs, PieceIs, UsedIs}
-use Rattle.ubi_volume.specs.Means.{StaticReads, piece}
-use Rattle.ubi_volume.specs.Meant.{pieces}
-use Rattle.ubi_volume.specs.Places.{case_of}
-use Rattle.ubi_volume.specs.declared.content.Content.{Content}
 use Rattle.ubi_volume.specs.declared.content.Content.TheVariants as content
 use Rattle.ubi_volume.specs.declared.places.PlaceContent.TheVariants as place
 use Rattle.ubi_volume.proofs.Alike.{full_piece, short_piece}

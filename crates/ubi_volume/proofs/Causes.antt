@@ -1,23 +1,6 @@
 -- The causes for which volumes have no meaning together, tried item by item.
-use Rattle.std.proofs.Common.{◌≡◌, ℕ, zero, suc, ◌+◌, ◌<◌, ◌==◌, inl, inr, Bool, true, false, cond, Decides, nat_lt, List, [], ◌∷◌, length, get_or, refl, ap, sym, ◌∙◌, subst, take, arith}
-use Rattle.std.specs.Prelude.{◌↔◌, IsTrue, None, Option, Some, position, slice_get, sum_by}
-use Rattle.std.proofs.lemmas.Bool.Decides.{nat_tests}
-use Rattle.std.proofs.lemmas.List.Quantifiers.{position-Some}
-use Rattle.std.proofs.lemmas.Option.{get_or_from_slice_get, slice_get-get_or, slice_get_read, slice_get_within, same_Some}
-use Rattle.std.proofs.lemmas.List.Sums.{fails_before_first}
-use Rattle.std.specs.List.{position_or_len}
-use Rattle.std.proofs.lemmas.Slice.Eq.{slice_eq-Decides}
-use Rattle.std.specs.Cmp.{unsigned_Decides}
-use Rattle.ubi_media.specs.Fields.{same_bytes}
-use Rattle.ubi_media.specs.Geometry.{Sizes}
-use Rattle.ubi_media.specs.Record.{rec_fault}
-use Rattle.ubi_media.specs.declared.record.RecFault.{RecFault}
-use Rattle.ubi_media.proofs.Cases.{below_or_last}
-use Rattle.ubi_volume.specs.inner.Making.{IsFirstOf, NoneBelow}
-use Rattle.ubi_volume.specs.Made.{IsItem, Items, Stands, item, rank}
-use Rattle.ubi_volume.specs.Meant.{Fits}
-use Rattle.ubi_volume.specs.declared.content.Volume.{Volume}
-use Rattle.ubi_volume.specs.declared.errors.MeaningCause.{MeaningCause}
+use Rattle.ubi_volume.proofs.Prelude.{◌≡◌, ℕ, zero, suc, ◌+◌, ◌<◌, ◌==◌, inl, inr, Bool, true, false, cond, Decides, nat_lt, List, [], ◌∷◌, length, get_or, refl, ap, sym, ◌∙◌, subst, take, arith, ◌↔◌, IsTrue, None, Option, Some, position, slice_get, nat_tests, position-Some, get_or_from_slice_get, slice_get-get_or, slice_get_read, slice_get_within, same_Some, fails_before_first, position_or_len, slice_eq-Decides, unsigned_Decides, same_bytes, Sizes, rec_fault, RecFault, below_or_last, IsFirstOf, NoneBelow, IsItem, Items, Stands, item, rank, Fits, Volume, MeaningCause}
+use Rattle.std.specs.Prelude.{sum_by}
 use Rattle.ubi_volume.specs.declared.errors.MeaningCause.TheVariants as cause
 use Rattle.ubi_volume.proofs.Winners.{no_some}
 

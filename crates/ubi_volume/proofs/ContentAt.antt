@@ -1,23 +1,9 @@
 -- What a volume reads by the places of its LEBs.
-use Rattle.std.proofs.Common.{◌≡◌, ◌∙◌, ℕ, List, length, length-take-le, take, ap, sym, subst, arith}
-use Rattle.std.specs.Prelude.{Err, Option, Some}
-use Rattle.std.specs.Option.{option_map_or}
+use Rattle.ubi_volume.proofs.Prelude.{◌≡◌, ◌∙◌, ℕ, List, length, length-take-le, take, ap, sym, subst, arith, Err, Option, Some, option_map_or, Sizes, usable, VolumeRecord, image_of, blocks_of, read_text, volume_read, VolumeReads, AreWithin, ArePlaces, CaseFits, Placed, Volume, PlaceContent, same_Some}
 use Rattle.std.specs.FinMap as finite
-use Rattle.ubi_media.specs.Geometry.{Sizes}
-use Rattle.ubi_media.specs.Record.{usable}
-use Rattle.ubi_media.specs.declared.record.VolumeRecord.{VolumeRecord}
-use Rattle.ubi_scan.specs.Image.{image_of}
-use Rattle.ubi_scan.specs.Source.{blocks_of}
-use Rattle.ubi_volume.specs.Extract.{read_text}
-use Rattle.ubi_volume.specs.Reading.{volume_read}
-use Rattle.ubi_volume.specs.Means.{VolumeReads}
-use Rattle.ubi_volume.specs.Places.{AreWithin, ArePlaces, CaseFits, Placed}
 use Rattle.ubi_volume.specs.declared.content.Content.TheVariants as content
-use Rattle.ubi_volume.specs.declared.content.Volume.{Volume}
 use Rattle.ubi_volume.specs.declared.errors.ReadError.TheVariants as error
-use Rattle.ubi_volume.specs.declared.places.PlaceContent.{PlaceContent}
 use Rattle.ubi_volume.specs.declared.places.PlaceContent.TheVariants as place
-use Rattle.std.proofs.lemmas.Option.{same_Some}
 use Rattle.ubi_volume.proofs.VolumeAt.{content_is, has_volume, reads_of}
 
 -- the front of a buffer has the size that a volume uses

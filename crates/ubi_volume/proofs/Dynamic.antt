@@ -1,21 +1,7 @@
 -- What is gathered of a dynamic volume.
-use Rattle.std.proofs.Common.{◌≡◌, ◌≢◌, ℕ, ◌+◌, ◌<◌, inl, inr, false, cond, List, length, refl, ap, sym, ◌∙◌, subst, arith}
-use Rattle.std.specs.Prelude.{IfSome, Option, Some, None}
-use Rattle.std.specs.Cmp.{nat_cmp_total}
+use Rattle.ubi_volume.proofs.Prelude.{◌≡◌, ◌≢◌, ℕ, ◌+◌, ◌<◌, inl, inr, false, cond, List, length, refl, ap, sym, ◌∙◌, subst, arith, IfSome, Option, Some, None, nat_cmp_total, FinMap, nat_cmp, cases_eq, blank, Sizes, usable, VolumeRecord, below_or_last, apart_test, same_test, AreGathered, AreTexts, ContentIs, LebReads, leb_text}
 use Rattle.std.specs.FinMap as finite
-use Rattle.std.specs.FinMap.{FinMap}
-use Rattle.std.specs.Ordering.{nat_cmp}
-use Rattle.std.proofs.lemmas.Bool.{cases_eq}
-use Rattle.ubi_media.specs.Fields.{blank}
-use Rattle.ubi_media.specs.Geometry.{Sizes}
-use Rattle.ubi_media.specs.Record.{usable}
-use Rattle.ubi_media.specs.declared.record.VolumeRecord.{VolumeRecord}
 use Rattle.ubi_media.specs.declared.vid.VolKind.TheVariants as kind
-use Rattle.ubi_media.proofs.Cases.{below_or_last}
-use Rattle.ubi_scan.proofs.Keys.{apart_test, same_test}
-use Rattle.ubi_volume.specs.inner.Gathered.{AreGathered, AreTexts, ContentIs}
-use Rattle.ubi_volume.specs.Means.{LebReads}
-use Rattle.ubi_volume.specs.Reading.{leb_text}
 use Rattle.ubi_volume.specs.declared.content.Content.TheVariants as content
 
 -- what is kept of a LEB, once a text is kept of another, and of that one

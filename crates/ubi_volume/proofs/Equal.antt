@@ -1,34 +1,14 @@
 -- Equal LEBs, volumes and meanings.
-use Rattle.std.proofs.Common.{◌≡◌, ℕ, ◌==◌, ◌&&◌, Bool, true, Decides, List, ◌-◌, length, replicate, take, refl, ap, sym, ◌∙◌}
+use Rattle.ubi_volume.proofs.Prelude.{◌≡◌, ℕ, ◌==◌, ◌&&◌, Bool, true, Decides, List, ◌-◌, length, replicate, take, refl, ap, sym, ◌∙◌, BTreeMap, booleans_Decides, nat_cmp_total, unsigned_Decides, pointwise, ◌↔◌, IsTrue, FinMap, is_sorted, nat_cmp-IsAntisymmetric, same_entries_map, nat_cmp, Decides-and, Decides-like, take-append_seam, slice_eq-Decides, padded, Sizes, VolumeRecord, VolKind, sorted_entries, entries_tree, same_lebs, Meant, VolumeMap, same_meaning, Content, Volume}
 use Rattle.std.specs.BTreeMap as tree
-use Rattle.std.specs.BTreeMap.{BTreeMap}
-use Rattle.std.specs.Cmp.{booleans_Decides, nat_cmp_total, unsigned_Decides}
-use Rattle.std.specs.Cmp.Lexicographic.{pointwise}
 use Rattle.std.specs.FinMap as finite
-use Rattle.std.specs.Prelude.{◌↔◌, IsTrue}
-use Rattle.std.specs.FinMap.{FinMap, is_sorted, nat_cmp-IsAntisymmetric, same_entries_map}
-use Rattle.std.specs.Ordering.{nat_cmp}
-use Rattle.std.proofs.lemmas.Bool.Decides.{Decides-and, Decides-like}
-use Rattle.std.proofs.Math.Seq.{take-append_seam}
-use Rattle.std.proofs.lemmas.Slice.Eq.{slice_eq-Decides}
-use Rattle.ubi_media.specs.Fields.{padded}
-use Rattle.ubi_media.specs.Geometry.{Sizes}
 use Rattle.ubi_media.specs.contracts.geometry.GeometryPartialEq.TheImpl as geometry_eq
 use Rattle.ubi_media.specs.contracts.record.VolumeRecordPartialEq.TheImpl as record_eq
 use Rattle.ubi_media.specs.contracts.vid.VolKindPartialEq.TheImpl as kind_eq
-use Rattle.ubi_media.specs.declared.record.VolumeRecord.{VolumeRecord}
-use Rattle.ubi_media.specs.declared.vid.VolKind.{VolKind}
 use Rattle.ubi_media.specs.declared.vid.VolKind.TheVariants as kind
-use Rattle.ubi_scan.proofs.Entries.{sorted_entries}
-use Rattle.ubi_scan.proofs.Finite.{entries_tree}
-use Rattle.ubi_volume.specs.EqualLebs.{same_lebs}
-use Rattle.ubi_volume.specs.Meant.{Meant, VolumeMap}
-use Rattle.ubi_volume.specs.EqualMeanings.{same_meaning}
 use Rattle.ubi_volume.specs.contracts.content.ContentPartialEq.TheImpl as content_eq
 use Rattle.ubi_volume.specs.contracts.content.VolumePartialEq.TheImpl as volume_eq
-use Rattle.ubi_volume.specs.declared.content.Content.{Content}
 use Rattle.ubi_volume.specs.declared.content.Content.TheVariants as content
-use Rattle.ubi_volume.specs.declared.content.Volume.{Volume}
 
 abbrev same_leb : ℕ × List ℕ → ℕ × List ℕ → Bool
 same_leb p q = (p.0 == q.0) && pointwise ◌==◌ p.1 q.1

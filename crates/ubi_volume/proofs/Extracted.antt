@@ -1,43 +1,9 @@
 -- What is extracted of a volume by the places of its LEBs.
-use Rattle.std.proofs.Common.{◌≡◌, ℕ, zero, suc, ◌+◌, ◌-◌, ◌*◌, ◌<◌, ◌≤◌, inl, inr, false, List, ◌++◌, length, take, refl, ap, sym, ◌∙◌, subst, arith, zero-add}
-use Rattle.std.specs.Prelude.{Err, None, Ok, Option, Result, Some, MatchOption, flat_map, slice_index, unwrap_or}
+use Rattle.ubi_volume.proofs.Prelude.{◌≡◌, ℕ, zero, suc, ◌+◌, ◌-◌, ◌*◌, ◌<◌, ◌≤◌, inl, inr, false, List, ◌++◌, length, take, refl, ap, sym, ◌∙◌, subst, arith, zero-add, Err, None, Ok, Option, Result, Some, MatchOption, flat_map, slice_index, unwrap_or, FinMap, range_with_len, option_map_or, nat_cmp, result_map_both, flat_map-append, mul-le, IfSome_then, blank, Sizes, rec_fault, usable, VolumeRecord, usable_some, Image, block, image_of, leb, NoMember, Wins, Agreed, Source, blocks_of, StreamError, Wins-unique, Records, table_records, pieces_more, extent_in, extent_len, extent_of, leb_bytes, read_text, share_len, leb_at, lebs_at, lebs_bytes, SlotMeans, AreWhole, LebReads, StaticReads, VolumeReads, piece, Fits, pieces, share, ArePlaces, Placed, case_of, leb_text, lebs_text, volume_len, volume_read, All, IsWroteError, Wrote, Content, Volume, ReadError, Extent, PlaceContent}
 use Rattle.std.specs.FinMap as finite
-use Rattle.std.specs.FinMap.{FinMap}
-use Rattle.std.specs.List.{range_with_len}
-use Rattle.std.specs.Option.{option_map_or}
-use Rattle.std.specs.Ordering.{nat_cmp}
-use Rattle.std.specs.Result.{result_map_both}
-use Rattle.std.proofs.lemmas.Grind.{flat_map-append}
-use Rattle.std.proofs.lemmas.Nat.{mul-le}
-use Rattle.std.proofs.lemmas.Option.{IfSome_then}
-use Rattle.ubi_media.specs.Fields.{blank}
-use Rattle.ubi_media.specs.Geometry.{Sizes}
-use Rattle.ubi_media.specs.Record.{rec_fault, usable}
-use Rattle.ubi_media.specs.declared.record.VolumeRecord.{VolumeRecord}
 use Rattle.ubi_media.specs.declared.vid.VolKind.TheVariants as kind
-use Rattle.ubi_media.proofs.Records.{usable_some}
-use Rattle.ubi_scan.specs.Image.{Image, block, image_of, leb}
-use Rattle.ubi_scan.specs.Members.{NoMember, Wins}
-use Rattle.ubi_scan.specs.Source.{Agreed, Source, blocks_of}
-use Rattle.ubi_scan.specs.declared.errors.StreamError.{StreamError}
-use Rattle.ubi_scan.proofs.Decided.{Wins-unique}
-use Rattle.ubi_table.specs.Records.{Records}
-use Rattle.ubi_table.proofs.Held.{table_records}
-use Rattle.ubi_table.proofs.ReadBack.{pieces_more}
-use Rattle.ubi_volume.specs.Extract.{extent_in, extent_len, extent_of, leb_bytes, read_text, share_len}
-use Rattle.ubi_volume.specs.inner.Pieces.{leb_at, lebs_at, lebs_bytes}
-use Rattle.ubi_volume.specs.Means.{SlotMeans, AreWhole, LebReads, StaticReads, VolumeReads, piece}
-use Rattle.ubi_volume.specs.Meant.{Fits, pieces, share}
-use Rattle.ubi_volume.specs.Places.{ArePlaces, Placed, case_of}
-use Rattle.ubi_volume.specs.Reading.{leb_text, lebs_text, volume_len, volume_read}
-use Rattle.ubi_volume.specs.Wrote.{All, IsWroteError, Wrote}
-use Rattle.ubi_volume.specs.declared.content.Content.{Content}
 use Rattle.ubi_volume.specs.declared.content.Content.TheVariants as content
-use Rattle.ubi_volume.specs.declared.content.Volume.{Volume}
-use Rattle.ubi_volume.specs.declared.errors.ReadError.{ReadError}
 use Rattle.ubi_volume.specs.declared.errors.ReadError.TheVariants as error
-use Rattle.ubi_volume.specs.declared.places.Extent.{Extent}
-use Rattle.ubi_volume.specs.declared.places.PlaceContent.{PlaceContent}
 use Rattle.ubi_volume.specs.declared.places.PlaceContent.TheVariants as place
 use Rattle.ubi_volume.proofs.Alike.{short_piece}
 use Rattle.ubi_volume.proofs.Either.{are_lebs}

@@ -1,11 +1,5 @@
 -- Volumes that have no meaning together have one first cause.
-use Rattle.std.proofs.Common.{◌≡◌, ◌<◌, ℕ, inl, inr, refl, sym, ap, ◌∙◌, arith}
-use Rattle.std.proofs.lemmas.Bool.{cases_order}
-use Rattle.ubi_media.specs.Geometry.{Sizes}
-use Rattle.ubi_media.specs.Record.{rec_fault}
-use Rattle.ubi_volume.specs.Made.{IsFirst, Items, item, rank}
-use Rattle.ubi_volume.specs.declared.content.Volume.{Volume}
-use Rattle.ubi_volume.specs.declared.errors.MeaningCause.{MeaningCause}
+use Rattle.ubi_volume.proofs.Prelude.{◌≡◌, ◌<◌, ℕ, inl, inr, refl, sym, ap, ◌∙◌, arith, cases_order, Sizes, rec_fault, IsFirst, Items, item, rank, Volume, MeaningCause}
 use Rattle.ubi_volume.specs.declared.errors.MeaningCause.TheVariants as cause
 
 module _ (s : Sizes) (items : Items) where

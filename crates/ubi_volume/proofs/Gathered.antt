@@ -1,33 +1,7 @@
 -- The volumes that were gathered, as the meaning of eraseblocks with their table.
-use Rattle.std.proofs.Common.{◌≡◌, ℕ, zero, suc, ◌^◌, ◌<◌, inl, inr, Bool, true, false, cond, T, List, [], ◌∷◌, ◌++◌, length, map, get_or, refl, ap, sym, ◌∙◌, subst, arith}
-use Rattle.std.specs.Prelude.{All, IfSome, IsTrue, Option, Some, None, option_map}
-use Rattle.std.specs.Cmp.{nat_cmp_total}
+use Rattle.ubi_volume.proofs.Prelude.{◌≡◌, ℕ, zero, suc, ◌^◌, ◌<◌, inl, inr, Bool, true, false, cond, T, List, [], ◌∷◌, ◌++◌, length, map, get_or, refl, ap, sym, ◌∙◌, subst, arith, IfSome, IsTrue, Option, Some, None, option_map, nat_cmp_total, find, from_entries, is_sorted, sum_by, nat_cmp, map-append, All-append, All-head, All-tail, exact_unsigned, same_Some, IsGeometry, Sizes, slots, rec_fault, VolumeRecord, sorted_entries, find_at, told, find_revalued, order_same, sums_same, image_seq, AreRecords, HasSpace, Records, IsTable, AreContents, ContentIs, Means, SlotMeans, VolumeReads, Fits, IsVolume, KeepsNoBlank, AreVolumes, Content, Volume, table_records, no_space}
+use Rattle.std.specs.Prelude.{All}
 use Rattle.std.specs.FinMap as finite
-use Rattle.std.specs.FinMap.{find, from_entries, is_sorted}
-use Rattle.std.specs.List.{sum_by}
-use Rattle.std.specs.Ordering.{nat_cmp}
-use Rattle.std.proofs.lemmas.List.{map-append}
-use Rattle.std.proofs.lemmas.List.Elements.{All-append, All-head, All-tail}
-use Rattle.std.proofs.lemmas.Map.Lookups.{exact_unsigned}
-use Rattle.std.proofs.lemmas.Option.{same_Some}
-use Rattle.ubi_media.specs.Geometry.{IsGeometry, Sizes, slots}
-use Rattle.ubi_media.specs.Record.{rec_fault}
-use Rattle.ubi_media.specs.declared.record.VolumeRecord.{VolumeRecord}
-use Rattle.ubi_scan.proofs.Entries.{sorted_entries}
-use Rattle.ubi_scan.proofs.Finite.{find_at}
-use Rattle.ubi_scan.proofs.Keys.{told}
-use Rattle.ubi_scan.proofs.Revalued.{find_revalued, order_same, sums_same}
-use Rattle.ubi_scan.specs.Numbers.{image_seq}
-use Rattle.ubi_table.specs.Records.{AreRecords, HasSpace, Records}
-use Rattle.ubi_table.specs.Table.{IsTable}
-use Rattle.ubi_volume.specs.inner.Gathered.{AreContents, ContentIs}
-use Rattle.ubi_volume.specs.Means.{Means, SlotMeans, VolumeReads}
-use Rattle.ubi_volume.specs.Meant.{Fits, IsVolume, KeepsNoBlank}
-use Rattle.ubi_volume.specs.MeantCoded.{AreVolumes}
-use Rattle.ubi_volume.specs.declared.content.Content.{Content}
-use Rattle.ubi_volume.specs.declared.content.Volume.{Volume}
-use Rattle.ubi_table.proofs.Held.{table_records}
-use Rattle.ubi_table.proofs.NoRecords.{no_space}
 use Rattle.ubi_volume.proofs.Winners.{no_some}
 
 abbrev pub Item : Type 0

@@ -1,14 +1,7 @@
 -- What a file means, or why it is refused, is told by its first bytes up to one more than the device has.
-use Rattle.std.proofs.Common.{◌≡◌, ℕ, ◌+◌, ◌*◌, ◌<◌, inl, inr, List, length, sym, subst, arith}
-use Rattle.std.proofs.lemmas.List.{length-take-le, take_all}
-use Rattle.ubi_media.specs.Geometry.{Sizes}
-use Rattle.ubi_media.specs.declared.refusal.Refusal.{Refusal}
+use Rattle.ubi_volume.proofs.Prelude.{◌≡◌, ℕ, ◌+◌, ◌*◌, ◌<◌, inl, inr, List, length, sym, subst, arith, take_all, Sizes, Refusal, within_or_past, Image, judged, Accepts, Refuses, JudgedAlone, Meant}
+use Rattle.std.proofs.lemmas.List.{length-take-le}
 use Rattle.ubi_media.specs.declared.refusal.Refusal.TheVariants as refusal
-use Rattle.ubi_media.proofs.Cases.{within_or_past}
-use Rattle.ubi_scan.specs.Image.{Image, judged}
-use Rattle.ubi_volume.specs.Accepts.{Accepts, Refuses}
-use Rattle.ubi_volume.specs.MeaningLaws.{JudgedAlone}
-use Rattle.ubi_volume.specs.Meant.{Meant}
 
 abbrev image : Sizes → List ℕ → Image
 image s bytes = record { sizes = s; bytes = bytes }

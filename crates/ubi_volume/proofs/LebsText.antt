@@ -1,16 +1,5 @@
 -- What the LEBs of a dynamic volume read, in order.
-use Rattle.std.proofs.Common.{◌≡◌, ℕ, zero, suc, ◌+◌, ◌-◌, ◌*◌, ◌<◌, ◌≤◌, List, ◌∷◌, ◌++◌, length, take, ap, sym, ◌∙◌, subst, arith, length-append, append-nil}
-use Rattle.std.proofs.Math.Seq.{take-append-add}
-use Rattle.std.proofs.lemmas.Grind.{flat_map-append}
-use Rattle.std.proofs.lemmas.Nat.{mul-le}
-use Rattle.std.proofs.lemmas.List.{length-replicate, take-append-le}
-use Rattle.std.specs.FinMap.{FinMap, get}
-use Rattle.std.specs.Io.KnownBytes.{Appends}
-use Rattle.std.specs.List.{range_with_len}
-use Rattle.std.specs.Ordering.{nat_cmp}
-use Rattle.std.specs.Prelude.{IfSome, Option, Some, None, flat_map}
-use Rattle.std.proofs.KnownBytes.{Appends-trans}
-use Rattle.ubi_volume.specs.Reading.{leb_text, lebs_text}
+use Rattle.ubi_volume.proofs.Prelude.{◌≡◌, ℕ, zero, suc, ◌+◌, ◌-◌, ◌*◌, ◌<◌, ◌≤◌, List, ◌∷◌, ◌++◌, length, take, ap, sym, ◌∙◌, subst, arith, length-append, append-nil, take-append-add, flat_map-append, mul-le, length-replicate, take-append-le, FinMap, get, Appends, range_with_len, nat_cmp, IfSome, Option, Some, None, flat_map, Appends-trans, leb_text, lebs_text}
 
 pub range_append : (a n m : ℕ) → range_with_len a (n + m) ≡ range_with_len a n ++ range_with_len (a + n) m
 range_append a zero m =

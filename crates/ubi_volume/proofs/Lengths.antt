@@ -1,17 +1,6 @@
 -- How many bytes a dynamic volume reads.
-use Rattle.std.proofs.Common.{◌≡◌, ℕ, ◌*◌, List, length, ap, ◌∙◌, subst}
-use Rattle.std.specs.FinMap.{FinMap, get}
-use Rattle.std.specs.Option.{option_map_or}
-use Rattle.std.specs.Ordering.{nat_cmp}
-use Rattle.std.specs.Prelude.{Ok, Err, Some, Result}
-use Rattle.std.specs.Result.{result_map_both}
-use Rattle.std.proofs.lemmas.Option.{IfSome_then}
-use Rattle.ubi_media.specs.Record.{usable}
-use Rattle.ubi_volume.specs.Meant.{Fits, Meant, IsVolume}
-use Rattle.ubi_volume.specs.Reading.{volume_len, volume_read}
+use Rattle.ubi_volume.proofs.Prelude.{◌≡◌, ℕ, ◌*◌, List, length, ap, ◌∙◌, subst, FinMap, get, option_map_or, nat_cmp, Ok, Err, Some, Result, result_map_both, IfSome_then, usable, Fits, Meant, IsVolume, volume_len, volume_read, Volume, ReadError}
 use Rattle.ubi_volume.specs.declared.content.Content.TheVariants as content
-use Rattle.ubi_volume.specs.declared.content.Volume.{Volume}
-use Rattle.ubi_volume.specs.declared.errors.ReadError.{ReadError}
 use Rattle.ubi_volume.specs.declared.errors.ReadError.TheVariants as error
 use Rattle.ubi_volume.proofs.LebsText.{length-lebs}
 

@@ -1,37 +1,12 @@
 -- An image that is accepted with some page is accepted with each page of which that one is a multiple, with the same
 -- meaning.
-use Rattle.std.proofs.Common.{◌≡◌, ℕ, ◌⊎◌, refl, inl, inr, List, ap, sym, ◌∙◌, subst}
-use Rattle.std.specs.FinMap.{get}
-use Rattle.std.specs.Int.{◌∣◌}
-use Rattle.std.specs.Prelude.{IfSome, None, Option, Some, slice_get}
-use Rattle.std.proofs.lemmas.Option.{none-some}
-use Rattle.ubi_media.specs.Ec.{breaks as ec_breaks, ec_reading, first_fault as first_ec_fault, judged as judged_ec}
-use Rattle.ubi_media.specs.Geometry.{Sizes}
-use Rattle.ubi_media.specs.OtherPage.{with_page}
-use Rattle.ubi_media.specs.Vid.{breaks as vid_breaks, first_fault as first_vid_fault, judged as judged_vid, vid_reading}
-use Rattle.ubi_media.specs.Record.{rec_fault}
-use Rattle.ubi_media.specs.declared.record.RecFault.{RecFault}
+use Rattle.ubi_volume.proofs.Prelude.{◌≡◌, ℕ, ◌⊎◌, refl, inl, inr, List, ap, sym, ◌∙◌, subst, get, ◌∣◌, IfSome, None, Option, Some, slice_get, none-some, ec_reading, Sizes, with_page, vid_reading, rec_fault, RecFault, VolumeRecord, sound_kept, NoFault, Image, IsWhole, eraseblocks, layout, clean_of_page, member_of_page, no_member_of_page, scan_of_page, seq_of_page, some_more, wins_of_page, AreRecords, Records, table_records, resized, table_back, table_kept, Accepts, AcceptsBlocks, IsMismatched, Refuses, RefusesBlocks, IsAttached, StateIs, Whole, AreWhole, LebReads, Means, SlotMeans, StaticReads, VolumeReads, IsMeaning, IsVolume, Meant, records_of, LesserPage, image_with_page, meaning_with_page, BlockState, Content, Volume}
+use Rattle.ubi_media.specs.Ec.{breaks as ec_breaks, first_fault as first_ec_fault, judged as judged_ec}
+use Rattle.ubi_media.specs.Vid.{breaks as vid_breaks, first_fault as first_vid_fault, judged as judged_vid}
 use Rattle.ubi_media.specs.declared.record.RecFault.TheVariants as fault
-use Rattle.ubi_media.specs.declared.record.VolumeRecord.{VolumeRecord}
 use Rattle.ubi_media.specs.declared.refusal.Refusal.TheVariants as refusal
-use Rattle.ubi_media.proofs.LesserPage.{sound_kept}
-use Rattle.ubi_scan.specs.Faults.{NoFault}
-use Rattle.ubi_scan.specs.Image.{Image, IsWhole, eraseblocks}
-use Rattle.ubi_scan.specs.Members.{layout}
-use Rattle.ubi_scan.proofs.AnyPage.{clean_of_page, member_of_page, no_member_of_page, scan_of_page, seq_of_page, some_more, wins_of_page}
-use Rattle.ubi_table.specs.Records.{AreRecords, Records}
-use Rattle.ubi_table.proofs.Held.{table_records}
-use Rattle.ubi_table.proofs.LesserPage.{resized, table_back, table_kept}
-use Rattle.ubi_volume.specs.Accepts.{Accepts, AcceptsBlocks, IsMismatched, Refuses, RefusesBlocks}
-use Rattle.ubi_volume.specs.Attached.{IsAttached, StateIs, Whole}
-use Rattle.ubi_volume.specs.Means.{AreWhole, LebReads, Means, SlotMeans, StaticReads, VolumeReads}
-use Rattle.ubi_volume.specs.Meant.{IsMeaning, IsVolume, Meant, records_of}
-use Rattle.ubi_volume.specs.PageLaws.{LesserPage, image_with_page, meaning_with_page}
-use Rattle.ubi_volume.specs.declared.attached.BlockState.{BlockState}
 use Rattle.ubi_volume.specs.declared.attached.BlockState.TheVariants as state
-use Rattle.ubi_volume.specs.declared.content.Content.{Content}
 use Rattle.ubi_volume.specs.declared.content.Content.TheVariants as content
-use Rattle.ubi_volume.specs.declared.content.Volume.{Volume}
 use Rattle.ubi_volume.proofs.One.{Accepts-unique, never_accepted_and_refused}
 
 -- what volumes read with any page

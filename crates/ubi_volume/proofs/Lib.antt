@@ -41,3 +41,4 @@ pub mod Winners
 pub mod Within
 pub mod WithoutBlank
 pub mod Written
+pub mod Prelude

@@ -1,11 +1,7 @@
 -- A volume that is listed is one of its meaning.
-use Rattle.std.proofs.Common.{◌≡◌, ℕ, ◌<◌, Some, ◌∙◌, length, get_or}
-use Rattle.std.specs.Prelude.{IfSome, Option}
-use Rattle.std.specs.Cmp.{nat_cmp_total}
+use Rattle.ubi_volume.proofs.Prelude.{◌≡◌, ℕ, ◌<◌, ◌∙◌, length, get_or, IfSome, Option, nat_cmp_total, find_at, IsMeaning, IsVolume, Meant, Volume}
+use Rattle.std.proofs.Common.{Some}
 use Rattle.std.specs.FinMap as finite
-use Rattle.ubi_scan.proofs.Finite.{find_at}
-use Rattle.ubi_volume.specs.Meant.{IsMeaning, IsVolume, Meant}
-use Rattle.ubi_volume.specs.declared.content.Volume.{Volume}
 
 -- what holds of an option's value
 of_some : {A : Type 0} (P : A → Type 0) (o : Option A) (x : A) → IfSome o P → o ≡ Some x → P x

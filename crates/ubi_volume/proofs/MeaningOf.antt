@@ -1,20 +1,6 @@
 -- What the image of a source means, by what its volumes were read to be.
-use Rattle.std.proofs.Common.{◌≡◌, ℕ, ◌^◌, ◌<◌, ◌≤◌, ◌∙◌, List, length, take, sym, subst}
+use Rattle.ubi_volume.proofs.Prelude.{◌≡◌, ℕ, ◌^◌, ◌<◌, ◌≤◌, ◌∙◌, List, length, take, sym, subst, from_entries, take_all, Sizes, VolumeRecord, image_of, Agreed, Source, blocks_of, AreRecords, HasSpace, Records, Accepts, AreContents, IsContentOf, Means, Meant, AreVolumes, ArePlacesOf, Placed, Volume}
 use Rattle.std.specs.FinMap as finite
-use Rattle.std.specs.FinMap.{from_entries}
-use Rattle.std.proofs.lemmas.List.{take_all}
-use Rattle.ubi_media.specs.Geometry.{Sizes}
-use Rattle.ubi_media.specs.declared.record.VolumeRecord.{VolumeRecord}
-use Rattle.ubi_scan.specs.Image.{image_of}
-use Rattle.ubi_scan.specs.Source.{Agreed, Source, blocks_of}
-use Rattle.ubi_table.specs.Records.{AreRecords, HasSpace, Records}
-use Rattle.ubi_volume.specs.Accepts.{Accepts}
-use Rattle.ubi_volume.specs.inner.Gathered.{AreContents, IsContentOf}
-use Rattle.ubi_volume.specs.Means.{Means}
-use Rattle.ubi_volume.specs.Meant.{Meant}
-use Rattle.ubi_volume.specs.MeantCoded.{AreVolumes}
-use Rattle.ubi_volume.specs.Places.{ArePlacesOf, Placed}
-use Rattle.ubi_volume.specs.declared.content.Volume.{Volume}
 use Rattle.ubi_volume.proofs.Gathered.{are_volumes, volumes_mean}
 use Rattle.ubi_volume.proofs.VolumeAt.{same_records}
 

@@ -1,13 +1,6 @@
 -- The records of a meaning are records of a table, and fit the device.
-use Rattle.std.proofs.Common.{◌≡◌, ℕ, refl, sym, ap, ◌∙◌, subst, arith}
-use Rattle.std.specs.Prelude.{IfSome, None, Option, Some, option_map}
+use Rattle.ubi_volume.proofs.Prelude.{◌≡◌, ℕ, refl, sym, ap, ◌∙◌, subst, arith, IfSome, None, Option, Some, option_map, same_Some, rec_fault, VolumeRecord, AreRecords, HasSpace, IsMeaning, IsVolume, Meant, records_of, Volume}
 use Rattle.std.specs.FinMap as finite
-use Rattle.std.proofs.lemmas.Option.{same_Some}
-use Rattle.ubi_media.specs.Record.{rec_fault}
-use Rattle.ubi_media.specs.declared.record.VolumeRecord.{VolumeRecord}
-use Rattle.ubi_table.specs.Records.{AreRecords, HasSpace}
-use Rattle.ubi_volume.specs.Meant.{IsMeaning, IsVolume, Meant, records_of}
-use Rattle.ubi_volume.specs.declared.content.Volume.{Volume}
 use Rattle.ubi_volume.proofs.Recorded.{record_of, space_of}
 
 entry_some : (o : Option Volume) (r : VolumeRecord) → option_map (λ (v : Volume). v.entry) o ≡ Some r

@@ -1,16 +1,5 @@
 -- The states of members, by what a scan says of them.
-use Rattle.std.proofs.Common.{◌≡◌, ℕ, inl, inr, Bool, true, false, List, [], ◌∷◌, ◌++◌, length, get_or, ap, sym, ◌∙◌, subst, arith, length-append}
-use Rattle.std.specs.Prelude.{IfSome, Option, Some, slice_get}
-use Rattle.std.proofs.lemmas.List.{get_or_append_left}
-use Rattle.std.proofs.lemmas.Option.{slice_get-get_or, slice_get_past}
-use Rattle.std.proofs.Math.Seq.{get_or-append_seam}
-use Rattle.ubi_media.specs.Geometry.{Sizes}
-use Rattle.ubi_media.proofs.Cases.{below_same_or_above}
-use Rattle.ubi_scan.specs.Members.{IsMember, Leb, Wins}
-use Rattle.ubi_table.specs.Records.{Records}
-use Rattle.ubi_volume.specs.Attached.{StateIs}
-use Rattle.ubi_volume.specs.inner.Surveying.{MemberStateIs}
-use Rattle.ubi_volume.specs.declared.attached.BlockState.{BlockState}
+use Rattle.ubi_volume.proofs.Prelude.{◌≡◌, ℕ, inl, inr, Bool, true, false, List, [], ◌∷◌, ◌++◌, length, get_or, ap, sym, ◌∙◌, subst, arith, length-append, IfSome, Option, Some, slice_get, get_or_append_left, slice_get-get_or, slice_get_past, get_or-append_seam, Sizes, below_same_or_above, IsMember, Leb, Wins, Records, StateIs, MemberStateIs, BlockState}
 use Rattle.ubi_volume.specs.declared.attached.BlockState.TheVariants as state
 
 module _ (s : Sizes) (bs : List (List ℕ)) (t : Records) (p : ℕ) where

@@ -1,18 +1,6 @@
 -- Winners that are unlike their records, by their headers.
-use Rattle.std.proofs.Common.{◌≡◌, ℕ, ◌+◌, ◌<◌, inl, inr, Bool, false, List, ap, sym, ◌∙◌, subst}
-use Rattle.std.specs.Prelude.{◌↔◌, IsTrue, Some, None}
+use Rattle.ubi_volume.proofs.Prelude.{◌≡◌, ℕ, ◌+◌, ◌<◌, inl, inr, Bool, false, List, ap, sym, ◌∙◌, subst, ◌↔◌, IsTrue, Some, None, same_Some, Sizes, VolumeRecord, VidHeader, below_or_last, block, Leb, Wins, leb_of, member, header_of, Records, IsMismatched, IsUnlike, IsWithin, Disagrees}
 use Rattle.std.specs.FinMap as finite
-use Rattle.std.proofs.lemmas.Option.{same_Some}
-use Rattle.ubi_media.specs.Geometry.{Sizes}
-use Rattle.ubi_media.specs.declared.record.VolumeRecord.{VolumeRecord}
-use Rattle.ubi_media.specs.declared.vid.VidHeader.{VidHeader}
-use Rattle.ubi_media.proofs.Cases.{below_or_last}
-use Rattle.ubi_scan.specs.Image.{block}
-use Rattle.ubi_scan.specs.Members.{Leb, Wins, leb_of, member}
-use Rattle.ubi_scan.specs.Scan.{header_of}
-use Rattle.ubi_table.specs.Records.{Records}
-use Rattle.ubi_volume.specs.Accepts.{IsMismatched, IsUnlike, IsWithin}
-use Rattle.ubi_volume.specs.inner.Headers.{Disagrees}
 use Rattle.ubi_volume.proofs.Winners.{named_by, no_some}
 
 -- a test that answers what doesn't hold is false

@@ -1,26 +1,6 @@
 -- The eraseblocks in another order: they are accepted with the same meaning.
-use Rattle.std.proofs.Common.{◌≡◌, ℕ, suc, ◌<◌, inl, inr, List, [], ◌∷◌, ◌++◌, length, map, take, refl, ap, ap₂, sym, ◌∙◌, subst, arith}
-use Rattle.std.specs.Prelude.{Option, Some, None, flat_map, slice_index, swap}
-use Rattle.std.specs.List.Sorted.{IsPermutation}
-use Rattle.std.specs.Option.{option_map_or}
-use Rattle.std.proofs.lemmas.List.{get_or-map, length-map}
-use Rattle.std.proofs.lemmas.List.Sorted.{IsPermutation-keeps}
-use Rattle.ubi_media.specs.Geometry.{Sizes}
-use Rattle.ubi_media.specs.Record.{usable}
-use Rattle.ubi_media.specs.declared.record.VolumeRecord.{VolumeRecord}
-use Rattle.ubi_media.specs.declared.vid.VidHeader.{VidHeader}
-use Rattle.ubi_scan.specs.Faults.{NoFault}
-use Rattle.ubi_scan.specs.Image.{Image, IsWhole, eraseblocks, leb}
-use Rattle.ubi_scan.specs.Members.{Wins, is_right, member}
-use Rattle.ubi_scan.proofs.Moved.{IsMoved, clean_to, inside_of, moved_back, no_member_to, same_back, seq_to, swapped, trade, wins_to}
-use Rattle.ubi_table.specs.Records.{Records}
-use Rattle.ubi_table.proofs.Moved.{table_to}
-use Rattle.ubi_volume.specs.Accepts.{Accepts, AcceptsBlocks, IsMismatched}
-use Rattle.ubi_volume.specs.Means.{Means, SlotMeans, AreWhole, IsPiece, LebReads, StaticReads, VolumeReads, piece}
-use Rattle.ubi_volume.specs.Meant.{Meant}
-use Rattle.ubi_volume.specs.declared.content.Content.{Content}
+use Rattle.ubi_volume.proofs.Prelude.{◌≡◌, ℕ, suc, ◌<◌, inl, inr, List, [], ◌∷◌, ◌++◌, length, map, take, refl, ap, ap₂, sym, ◌∙◌, subst, arith, Option, Some, None, flat_map, slice_index, swap, IsPermutation, option_map_or, get_or-map, length-map, IsPermutation-keeps, Sizes, usable, VolumeRecord, VidHeader, NoFault, Image, IsWhole, eraseblocks, leb, Wins, is_right, member, IsMoved, clean_to, inside_of, moved_back, no_member_to, same_back, seq_to, swapped, trade, wins_to, Records, table_to, Accepts, AcceptsBlocks, IsMismatched, Means, SlotMeans, AreWhole, IsPiece, LebReads, StaticReads, VolumeReads, piece, Meant, Content, Volume}
 use Rattle.ubi_volume.specs.declared.content.Content.TheVariants as content
-use Rattle.ubi_volume.specs.declared.content.Volume.{Volume}
 
 module _ (z : Sizes) (bs cs : List (List ℕ)) (to : ℕ → ℕ) (h : IsMoved bs cs to) where
   -- what a LEB reads

@@ -1,18 +1,6 @@
 -- The image sequence number of bytes has the width that a header gives it.
-use Rattle.std.proofs.Common.{◌≡◌, ℕ, ◌*◌, ◌/◌, ◌^◌, ◌<◌, inl, inr, List, [], length, take, drop, refl, ap, sym, ◌∙◌, subst, arith}
-use Rattle.std.proofs.lemmas.Bool.{cases_eq}
-use Rattle.ubi_media.specs.Ec.{ec_fields}
-use Rattle.ubi_media.specs.Fields.{AreBytes, field}
-use Rattle.ubi_media.specs.Geometry.{Sizes}
-use Rattle.ubi_media.specs.declared.ec.EcHeader.{EcHeader}
-use Rattle.ubi_media.specs.declared.ec.EcRead.{EcRead}
+use Rattle.ubi_volume.proofs.Prelude.{◌≡◌, ℕ, ◌*◌, ◌/◌, ◌^◌, ◌<◌, inl, inr, List, [], length, take, drop, refl, ap, sym, ◌∙◌, subst, arith, cases_eq, ec_fields, AreBytes, field, Sizes, EcHeader, EcRead, bytes-drop, bytes-take, field_narrow, ec_is_of, Image, block, ec, ec_area, eraseblocks, image_seq, seq_if, seq_of, get_or-first_chunks, length-first_chunks, seq_from}
 use Rattle.ubi_media.specs.declared.ec.EcRead.TheVariants as ec_read
-use Rattle.ubi_media.proofs.ByteLists.{bytes-drop, bytes-take, field_narrow}
-use Rattle.ubi_media.proofs.Readings.{ec_is_of}
-use Rattle.ubi_scan.specs.Image.{Image, block, ec, ec_area, eraseblocks}
-use Rattle.ubi_scan.specs.Numbers.{image_seq, seq_if, seq_of}
-use Rattle.ubi_scan.proofs.Chunks.{get_or-first_chunks, length-first_chunks}
-use Rattle.ubi_scan.proofs.Clean.{seq_from}
 
 named_field : (bytes : List ℕ) → (ec_fields bytes).image_seq ≡ field 4 24 bytes
 unfolding ec_fields

@@ -1,21 +1,7 @@
 -- What is known of all that a source may hold is known of what is left of it: its places, what its volumes read, and what
 -- a writer received of it.
-use Rattle.std.proofs.Common.{ℕ, List}
-use Rattle.std.specs.Prelude.{Option}
-use Rattle.ubi_media.specs.Geometry.{Sizes}
-use Rattle.ubi_media.specs.declared.record.VolumeRecord.{VolumeRecord}
-use Rattle.ubi_scan.proofs.Narrowed.{scan_narrowed, source_narrowed}
-use Rattle.ubi_scan.specs.Scan.{Found}
-use Rattle.ubi_scan.specs.Source.{Agreed, Narrows, Source}
-use Rattle.ubi_scan.specs.declared.errors.StreamError.{StreamError}
+use Rattle.ubi_volume.proofs.Prelude.{ℕ, List, Option, Sizes, VolumeRecord, scan_narrowed, source_narrowed, Found, Agreed, Narrows, Source, StreamError, table_narrowed, Records, Volume, AreContents, IsContentOf, AreChecked, ArePlacesOf, Placed, IsWroteError, Wanted, Wrote}
 use Rattle.ubi_scan.specs.declared.errors.StreamError.TheVariants as stream
-use Rattle.ubi_table.proofs.Narrowed.{table_narrowed}
-use Rattle.ubi_table.specs.Records.{Records}
-use Rattle.ubi_volume.specs.declared.content.Volume.{Volume}
-use Rattle.ubi_volume.specs.inner.Gathered.{AreContents, IsContentOf}
-use Rattle.ubi_volume.specs.inner.Surveying.{AreChecked}
-use Rattle.ubi_volume.specs.Places.{ArePlacesOf, Placed}
-use Rattle.ubi_volume.specs.Wrote.{IsWroteError, Wanted, Wrote}
 
 pub places_narrowed : (s : Sizes) (k : Source) (old new : Agreed) (p : Placed) → Narrows old new → ArePlacesOf s k old p
     → ArePlacesOf s k new p

@@ -1,29 +1,8 @@
 -- An image has one meaning at most, and isn't refused where it has one.
-use Rattle.std.proofs.Common.{◌≡◌, ◌≢◌, ℕ, ◌<◌, ◌≤◌, inl, inr, List, length, take, refl, ap, sym, ◌∙◌, subst, arith}
-use Rattle.std.specs.Prelude.{Option, Some, None, IfSome, unwrap_or, slice_index, flat_map}
-use Rattle.std.specs.Cmp.{nat_cmp_total}
+use Rattle.ubi_volume.proofs.Prelude.{◌≡◌, ◌≢◌, ℕ, ◌<◌, ◌≤◌, inl, inr, List, length, take, refl, ap, sym, ◌∙◌, subst, arith, Option, Some, None, IfSome, unwrap_or, slice_index, flat_map, nat_cmp_total, nat_cmp-IsAntisymmetric, same_number_lists, cases_order, cases_lt, blank, Sizes, usable, VolumeRecord, Refusal, Image, IsWhole, IsSizeFault, eraseblocks, block, leb, NoMember, NoFault, Wins-unique, Records, table_unique, never_table_and_fault, AcceptsBlocks, RefusesBlocks, Accepts, Refuses, NoMismatch, IsVolumeFault, SlotMeans, Means, LebReads, AreWhole, StaticReads, VolumeReads, piece, Meant, Fits, KeepsNoBlank, IsVolume, Content, Volume}
 use Rattle.std.specs.FinMap as finite
-use Rattle.std.specs.FinMap.{nat_cmp-IsAntisymmetric}
-use Rattle.std.proofs.lemmas.Grind.{same_number_lists}
-use Rattle.std.proofs.lemmas.Bool.{cases_order, cases_lt}
-use Rattle.ubi_media.specs.Fields.{blank}
-use Rattle.ubi_media.specs.Geometry.{Sizes}
-use Rattle.ubi_media.specs.Record.{usable}
-use Rattle.ubi_media.specs.declared.record.VolumeRecord.{VolumeRecord}
-use Rattle.ubi_media.specs.declared.refusal.Refusal.{Refusal}
 use Rattle.ubi_media.specs.declared.refusal.Refusal.TheVariants as refusal
-use Rattle.ubi_scan.specs.Image.{Image, IsWhole, IsSizeFault, eraseblocks, block, leb}
-use Rattle.ubi_scan.specs.Members.{NoMember}
-use Rattle.ubi_scan.specs.Faults.{NoFault}
-use Rattle.ubi_scan.proofs.Decided.{Wins-unique}
-use Rattle.ubi_table.specs.Records.{Records}
-use Rattle.ubi_table.proofs.One.{table_unique, never_table_and_fault}
-use Rattle.ubi_volume.specs.Accepts.{AcceptsBlocks, RefusesBlocks, Accepts, Refuses, NoMismatch, IsVolumeFault}
-use Rattle.ubi_volume.specs.Means.{SlotMeans, Means, LebReads, AreWhole, StaticReads, VolumeReads, piece}
-use Rattle.ubi_volume.specs.Meant.{Meant, Fits, KeepsNoBlank, IsVolume}
-use Rattle.ubi_volume.specs.declared.content.Content.{Content}
 use Rattle.ubi_volume.specs.declared.content.Content.TheVariants as content
-use Rattle.ubi_volume.specs.declared.content.Volume.{Volume}
 
 -- texts that aren't blank are kept alike where they are read alike
 pub kept_alike : (size : ℕ) (o p : Option (List ℕ)) → IfSome o (λ text. text ≢ blank size)

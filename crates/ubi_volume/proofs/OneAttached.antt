@@ -1,14 +1,5 @@
 -- What attaching an image gives is one value.
-use Rattle.std.proofs.Common.{◌≡◌, ℕ, ◌<◌, List, ap, arith, refl, subst, sym, ◌∙◌}
-use Rattle.ubi_media.specs.Geometry.{Sizes}
-use Rattle.ubi_scan.specs.Image.{Image, block, ec, eraseblocks, vid}
-use Rattle.ubi_scan.specs.Members.{Leb, Wins, layout}
-use Rattle.ubi_scan.specs.Scan.{Found}
-use Rattle.ubi_scan.proofs.OneScan.{blank_sort, corrupt_sort, dropped_sort, each_alike, free_sort, garbage_sort, one_leb, one_scan, sort_at, sort_of_member}
-use Rattle.ubi_table.specs.Records.{Records}
-use Rattle.ubi_volume.specs.Attached.{AreStates, IsAttached, IsOutside, StateIs, Whole}
-use Rattle.ubi_volume.specs.Meant.{Meant, records_of}
-use Rattle.ubi_volume.specs.declared.attached.BlockState.{BlockState}
+use Rattle.ubi_volume.proofs.Prelude.{◌≡◌, ℕ, ◌<◌, List, ap, arith, refl, subst, sym, ◌∙◌, Sizes, Image, block, ec, eraseblocks, vid, Leb, Wins, layout, Found, blank_sort, corrupt_sort, dropped_sort, each_alike, free_sort, garbage_sort, one_leb, one_scan, sort_at, sort_of_member, Records, AreStates, IsAttached, IsOutside, StateIs, Whole, Meant, records_of, BlockState}
 use Rattle.ubi_volume.specs.declared.attached.BlockState.TheVariants as state
 use Rattle.ubi_volume.proofs.One.{Accepts-unique}
 

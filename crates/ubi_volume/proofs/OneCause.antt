@@ -1,15 +1,6 @@
 -- An image is refused for one cause at most.
-use Rattle.std.proofs.Common.{◌≡◌, ℕ, inl, inr, List, refl, ap, subst, arith}
-use Rattle.std.proofs.lemmas.Bool.{cases_order}
-use Rattle.ubi_media.specs.Geometry.{Sizes}
-use Rattle.ubi_media.specs.declared.refusal.Refusal.{Refusal}
+use Rattle.ubi_volume.proofs.Prelude.{◌≡◌, ℕ, inl, inr, List, refl, ap, subst, arith, cases_order, Sizes, Refusal, IsScanFault, NoFault, Image, IsSizeFault, eraseblocks, one_scan_fault, Records, fault_unique, never_table_and_fault, table_unique, Refuses, RefusesBlocks, IsVolumeFault}
 use Rattle.ubi_media.specs.declared.refusal.Refusal.TheVariants as refusal
-use Rattle.ubi_scan.specs.Faults.{IsScanFault, NoFault}
-use Rattle.ubi_scan.specs.Image.{Image, IsSizeFault, eraseblocks}
-use Rattle.ubi_scan.proofs.OneFault.{one_scan_fault}
-use Rattle.ubi_table.specs.Records.{Records}
-use Rattle.ubi_table.proofs.One.{fault_unique, never_table_and_fault, table_unique}
-use Rattle.ubi_volume.specs.Accepts.{Refuses, RefusesBlocks, IsVolumeFault}
 use Rattle.ubi_volume.proofs.One.{no_size_fault}
 
 -- of the size

@@ -1,11 +1,6 @@
 -- The pieces of a static text.
-use Rattle.std.proofs.Common.{◌≡◌, ℕ, suc, ◌+◌, ◌-◌, ◌*◌, ◌%◌, ◌<◌, ◌≤◌, List, [], ◌∷◌, ◌++◌, length, take, drop, min, sym, ap, ◌∙◌, arith, length-append, length-take, length-drop}
-use Rattle.std.specs.Prelude.{flat_map, slice_index}
-use Rattle.std.proofs.Math.Nat.{div-add-mod, mod-lt}
-use Rattle.std.proofs.Math.Seq.{take-add}
-use Rattle.std.proofs.lemmas.List.{take_all}
-use Rattle.std.proofs.lemmas.Nat.{div_below, mul-le}
-use Rattle.ubi_volume.specs.Meant.{pieces, share}
+use Rattle.ubi_volume.proofs.Prelude.{◌≡◌, ℕ, suc, ◌+◌, ◌-◌, ◌*◌, ◌%◌, ◌<◌, ◌≤◌, List, [], ◌∷◌, ◌++◌, length, take, drop, sym, ap, ◌∙◌, arith, length-append, length-take, length-drop, flat_map, slice_index, div-add-mod, mod-lt, take-add, take_all, div_below, mul-le, pieces, share}
+use Rattle.std.proofs.Common.{min}
 
 module _ (size : ℕ) (some : 1 ≤ size) where
   -- they are enough

@@ -1,36 +1,9 @@
 -- What attaching a source gives, by what its parts answered.
-use Rattle.std.proofs.Common.{◌≡◌, ℕ, inl, inr, cond, List, [], ◌∷◌, ◌++◌, map, refl, ap, sym, ◌∙◌, subst}
-use Rattle.std.specs.Prelude.{IsSome, Option, Some, None, ◌==◌, option_map}
+use Rattle.ubi_volume.proofs.Prelude.{◌≡◌, ℕ, inl, inr, cond, List, [], ◌∷◌, ◌++◌, map, refl, ap, sym, ◌∙◌, subst, IsSome, Option, Some, None, option_map, nat_cmp_total, FinMap, find, from_entries, eq_by_cmp, nat_cmp, map-append, exact_unsigned, same_Some, Sizes, VolumeRecord, Refusal, Found, IsScan, leb_cmp, IsWholeSize, image_of, Agreed, Narrows, Source, WhereHeld, blocks_of, holds, memory, still, IsScanOf, first_entry, told, Records, IsTableOf, IsVolumeFault, Refuses, AreCases, AreNumbered, CaseIs, case_in, ContentIs, AreChecked, Means, Meant, AreListed, ArePlaces, ArePlacesError, ArePlacesOf, CaseFits, Placed, case_of, Volume, PlaceContent}
+use Rattle.std.specs.Prelude.{◌==◌}
 use Rattle.std.specs.Prelude as prelude
-use Rattle.std.specs.Cmp.{nat_cmp_total}
 use Rattle.std.specs.FinMap as finite
-use Rattle.std.specs.FinMap.{FinMap, find, from_entries}
-use Rattle.std.specs.Ordering.{eq_by_cmp, nat_cmp}
-use Rattle.std.proofs.lemmas.List.{map-append}
-use Rattle.std.proofs.lemmas.Map.Lookups.{exact_unsigned}
-use Rattle.std.proofs.lemmas.Option.{same_Some}
-use Rattle.ubi_media.specs.Geometry.{Sizes}
-use Rattle.ubi_media.specs.declared.record.VolumeRecord.{VolumeRecord}
-use Rattle.ubi_media.specs.declared.refusal.Refusal.{Refusal}
-use Rattle.ubi_scan.specs.Scan.{Found, IsScan, leb_cmp}
-use Rattle.ubi_scan.specs.Image.{IsWholeSize, image_of}
-use Rattle.ubi_scan.specs.Source.{Agreed, Narrows, Source, WhereHeld, blocks_of, holds, memory}
-use Rattle.ubi_scan.proofs.InMemory.{still}
-use Rattle.ubi_scan.specs.Stream.{IsScanOf}
 use Rattle.ubi_scan.specs.declared.errors.StreamError.TheVariants as stream
-use Rattle.ubi_scan.proofs.Entries.{first_entry}
-use Rattle.ubi_scan.proofs.Keys.{told}
-use Rattle.ubi_table.specs.Records.{Records}
-use Rattle.ubi_table.specs.Stream.{IsTableOf}
-use Rattle.ubi_volume.specs.Accepts.{IsVolumeFault, Refuses}
-use Rattle.ubi_volume.specs.inner.Cases.{AreCases, AreNumbered, CaseIs, case_in}
-use Rattle.ubi_volume.specs.inner.Gathered.{ContentIs}
-use Rattle.ubi_volume.specs.inner.Surveying.{AreChecked}
-use Rattle.ubi_volume.specs.Means.{Means}
-use Rattle.ubi_volume.specs.Meant.{Meant}
-use Rattle.ubi_volume.specs.Places.{AreListed, ArePlaces, ArePlacesError, ArePlacesOf, CaseFits, Placed, case_of}
-use Rattle.ubi_volume.specs.declared.content.Volume.{Volume}
-use Rattle.ubi_volume.specs.declared.places.PlaceContent.{PlaceContent}
 use Rattle.ubi_volume.proofs.Gathered.{contents_mean, contents_more}
 use Rattle.ubi_volume.proofs.Recorded.{records_meant}
 use Rattle.ubi_volume.proofs.Winners.{no_some}

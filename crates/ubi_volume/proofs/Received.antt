@@ -1,15 +1,6 @@
 -- What a writer received piece by piece.
-use Rattle.std.proofs.Common.{◌≡◌, ℕ, ◌+◌, ◌<◌, ◌≤◌, List, [], ◌++◌, length, take, ap, refl, sym, ◌∙◌, subst, arith, length-append, length-take-le}
-use Rattle.std.specs.Prelude.{Option}
-use Rattle.std.specs.Io.KnownBytes.{Appends}
-use Rattle.std.proofs.KnownBytes.{Appends-nil, Appends-trans}
-use Rattle.std.proofs.Math.Seq.{take-append-add}
-use Rattle.std.proofs.lemmas.List.{take-append-le, take_all}
-use Rattle.ubi_media.specs.Geometry.{Sizes}
-use Rattle.ubi_scan.specs.Source.{Agreed, Source, blocks_in}
-use Rattle.ubi_scan.specs.declared.errors.StreamError.{StreamError}
+use Rattle.ubi_volume.proofs.Prelude.{◌≡◌, ℕ, ◌+◌, ◌<◌, ◌≤◌, List, [], ◌++◌, length, take, ap, refl, sym, ◌∙◌, subst, arith, length-append, length-take-le, Option, Appends, Appends-nil, Appends-trans, take-append-add, take-append-le, take_all, Sizes, Agreed, Source, blocks_in, StreamError, All, First, IsWroteError, NotAll, Wanted, Wrote}
 use Rattle.ubi_scan.specs.declared.errors.StreamError.TheVariants as stream
-use Rattle.ubi_volume.specs.Wrote.{All, First, IsWroteError, NotAll, Wanted, Wrote}
 
 -- the bytes that are wanted are those of two parts, in order
 abbrev pub Splits : Wanted → Wanted → Wanted → Type 0

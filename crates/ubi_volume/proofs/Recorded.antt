@@ -1,17 +1,6 @@
 -- The records of a meaning are those of the table that it was made of.
-use Rattle.std.proofs.Common.{◌≡◌, ℕ, ◌+◌, List, refl, ap, sym, ◌∙◌}
-use Rattle.std.specs.Prelude.{Option, Some, None, option_map}
+use Rattle.ubi_volume.proofs.Prelude.{◌≡◌, ℕ, ◌+◌, List, refl, ap, sym, ◌∙◌, Option, Some, None, option_map, sum_by, Sizes, VolumeRecord, get_revalued, revalued_is, sum_revalued, Records, space, IsTable, Means, SlotMeans, Meant, records_of, Volume, table_records}
 use Rattle.std.specs.FinMap as finite
-use Rattle.std.specs.List.{sum_by}
-use Rattle.ubi_media.specs.Geometry.{Sizes}
-use Rattle.ubi_media.specs.declared.record.VolumeRecord.{VolumeRecord}
-use Rattle.ubi_scan.proofs.Revalued.{get_revalued, revalued_is, sum_revalued}
-use Rattle.ubi_table.specs.Records.{Records, space}
-use Rattle.ubi_table.specs.Table.{IsTable}
-use Rattle.ubi_volume.specs.Means.{Means, SlotMeans}
-use Rattle.ubi_volume.specs.Meant.{Meant, records_of}
-use Rattle.ubi_volume.specs.declared.content.Volume.{Volume}
-use Rattle.ubi_table.proofs.Held.{table_records}
 use Rattle.ubi_volume.proofs.Gathered.{record_at}
 
 -- the record of a volume of a meaning

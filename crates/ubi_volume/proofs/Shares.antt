@@ -1,24 +1,8 @@
 -- The shares of a static text stand at the places of its LEBs.
-use Rattle.std.proofs.Common.{◌≡◌, ℕ, zero, suc, ◌+◌, ◌*◌, ◌<◌, ◌≤◌, false, List, [], ◌∷◌, ◌++◌, length, take, drop, refl, ap, sym, ◌∙◌, subst, arith, append-nil}
-use Rattle.std.specs.Prelude.{Some, flat_map, slice_index}
+use Rattle.ubi_volume.proofs.Prelude.{◌≡◌, ℕ, zero, suc, ◌+◌, ◌*◌, ◌<◌, ◌≤◌, false, List, [], ◌∷◌, ◌++◌, length, take, drop, refl, ap, sym, ◌∙◌, subst, arith, append-nil, Some, flat_map, slice_index, drop-append-add, take-append_seam, take_all, check, Sizes, usable, VolumeRecord, VidHeader, NoFault, block, leb, Wins, member, Wins-unique, Records, NoMismatch, AreWhole, IsPiece, piece, share}
 use Rattle.std.specs.FinMap as finite
-use Rattle.std.proofs.Math.Seq.{drop-append-add, take-append_seam}
 use Rattle.std.proofs.lemmas.Bool.{eqb-true}
-use Rattle.std.proofs.lemmas.List.{take_all}
-use Rattle.ubi_media.specs.Check.{check}
-use Rattle.ubi_media.specs.Geometry.{Sizes}
-use Rattle.ubi_media.specs.Record.{usable}
-use Rattle.ubi_media.specs.declared.record.VolumeRecord.{VolumeRecord}
-use Rattle.ubi_media.specs.declared.vid.VidHeader.{VidHeader}
 use Rattle.ubi_media.specs.declared.vid.VolKind.TheVariants as kind
-use Rattle.ubi_scan.specs.Faults.{NoFault}
-use Rattle.ubi_scan.specs.Image.{block, leb}
-use Rattle.ubi_scan.specs.Members.{Wins, member}
-use Rattle.ubi_scan.proofs.Decided.{Wins-unique}
-use Rattle.ubi_table.specs.Records.{Records}
-use Rattle.ubi_volume.specs.Accepts.{NoMismatch}
-use Rattle.ubi_volume.specs.Means.{AreWhole, IsPiece, piece}
-use Rattle.ubi_volume.specs.Meant.{share}
 use Rattle.ubi_volume.proofs.Alike.{full_piece, short_piece}
 use Rattle.ubi_volume.proofs.SomeContent.{AreLebs}
 use Rattle.ubi_volume.proofs.Static.{piece_by}

@@ -1,32 +1,7 @@
 -- Each volume of eraseblocks that aren't refused reads something.
-use Rattle.std.proofs.Common.{◌≡◌, ℕ, zero, suc, ◌+◌, ◌<◌, ◌≤◌, ◌⊎◌, inl, inr, false, List, [], ◌++◌, length, take, refl, ap, subst, arith, length-take}
-use Rattle.std.specs.Prelude.{IsSome, None, Option, Some}
+use Rattle.ubi_volume.proofs.Prelude.{◌≡◌, ℕ, zero, suc, ◌+◌, ◌<◌, ◌≤◌, ◌⊎◌, inl, inr, false, List, [], ◌++◌, length, take, refl, ap, subst, arith, length-take, IsSome, None, Option, Some, FinMap, nat_cmp, cases_eq, length-replicate, same_Some, check, blank, is_blank, Sizes, leb_size, usable, VolumeRecord, VidHeader, VolKind, within_or_past, NoFault, block, leb, Leb, NoMember, Wins, member, named_in, false_or_true, winner_or_none, least_or, Records, NoMismatch, AreGathered, AreRead, ContentIs, PieceIs, UsedIs, used_in, LebReads, piece, Content}
 use Rattle.std.specs.FinMap as finite
-use Rattle.std.specs.FinMap.{FinMap}
-use Rattle.std.specs.Ordering.{nat_cmp}
-use Rattle.std.proofs.lemmas.Bool.{cases_eq}
-use Rattle.std.proofs.lemmas.List.{length-replicate}
-use Rattle.std.proofs.lemmas.Option.{same_Some}
-use Rattle.ubi_media.specs.Check.{check}
-use Rattle.ubi_media.specs.Fields.{blank, is_blank}
-use Rattle.ubi_media.specs.Geometry.{Sizes, leb_size}
-use Rattle.ubi_media.specs.Record.{usable}
-use Rattle.ubi_media.specs.declared.record.VolumeRecord.{VolumeRecord}
-use Rattle.ubi_media.specs.declared.vid.VidHeader.{VidHeader}
-use Rattle.ubi_media.specs.declared.vid.VolKind.{VolKind}
 use Rattle.ubi_media.specs.declared.vid.VolKind.TheVariants as kind
-use Rattle.ubi_media.proofs.Cases.{within_or_past}
-use Rattle.ubi_scan.specs.Faults.{NoFault}
-use Rattle.ubi_scan.specs.Image.{block, leb}
-use Rattle.ubi_scan.specs.Members.{Leb, NoMember, Wins, member, named_in}
-use Rattle.ubi_scan.proofs.Choice.{false_or_true}
-use Rattle.ubi_scan.proofs.Decided.{winner_or_none}
-use Rattle.ubi_scan.proofs.Least.{least_or}
-use Rattle.ubi_table.specs.Records.{Records}
-use Rattle.ubi_volume.specs.Accepts.{NoMismatch}
-use Rattle.ubi_volume.specs.inner.Gathered.{AreGathered, AreRead, ContentIs, PieceIs, UsedIs, used_in}
-use Rattle.ubi_volume.specs.Means.{LebReads, piece}
-use Rattle.ubi_volume.specs.declared.content.Content.{Content}
 use Rattle.ubi_volume.specs.declared.content.Content.TheVariants as content
 use Rattle.ubi_volume.proofs.Alike.{short_piece}
 use Rattle.ubi_volume.proofs.Blanks.{blank_text, other_text}

@@ -1,26 +1,8 @@
 -- Some eraseblock is unlike the record of its volume, or none is.
-use Rattle.std.proofs.Common.{◌≡◌, ◌≢◌, ℕ, ◌⊎◌, inl, inr, List, length, refl, sym, ◌∙◌, subst, arith}
-use Rattle.std.specs.Prelude.{None, Option, Some}
+use Rattle.ubi_volume.proofs.Prelude.{◌≡◌, ◌≢◌, ℕ, ◌⊎◌, inl, inr, List, length, refl, sym, ◌∙◌, subst, arith, None, Option, Some, cases_lt, cases_eq, Sizes, data_pad, VolumeRecord, Refusal, VidHeader, VolKind, NoFault, block, Leb, Wins, leb_of, member, false_or_true, Wins-unique, winner_or_none, least_or, header_of, Records, IsMismatched, IsUnlike, IsVolumeFault, IsWithin, NoMismatch, Disagrees}
 use Rattle.std.specs.FinMap as finite
-use Rattle.std.proofs.lemmas.Bool.{cases_lt, cases_eq}
-use Rattle.ubi_media.specs.Geometry.{Sizes}
-use Rattle.ubi_media.specs.Record.{data_pad}
-use Rattle.ubi_media.specs.declared.record.VolumeRecord.{VolumeRecord}
-use Rattle.ubi_media.specs.declared.refusal.Refusal.{Refusal}
 use Rattle.ubi_media.specs.declared.refusal.Refusal.TheVariants as refusal
-use Rattle.ubi_media.specs.declared.vid.VidHeader.{VidHeader}
-use Rattle.ubi_media.specs.declared.vid.VolKind.{VolKind}
 use Rattle.ubi_media.specs.declared.vid.VolKind.TheVariants as kind
-use Rattle.ubi_scan.specs.Faults.{NoFault}
-use Rattle.ubi_scan.specs.Image.{block}
-use Rattle.ubi_scan.specs.Members.{Leb, Wins, leb_of, member}
-use Rattle.ubi_scan.proofs.Choice.{false_or_true}
-use Rattle.ubi_scan.proofs.Decided.{Wins-unique, winner_or_none}
-use Rattle.ubi_scan.proofs.Least.{least_or}
-use Rattle.ubi_scan.specs.Scan.{header_of}
-use Rattle.ubi_table.specs.Records.{Records}
-use Rattle.ubi_volume.specs.Accepts.{IsMismatched, IsUnlike, IsVolumeFault, IsWithin, NoMismatch}
-use Rattle.ubi_volume.specs.inner.Headers.{Disagrees}
 use Rattle.ubi_volume.proofs.Mismatches.{mismatch_by_header, no_record_no_mismatch}
 use Rattle.ubi_volume.proofs.Winners.{named_by, no_some}
 

@@ -1,14 +1,5 @@
 -- What surveying a source gives, by what its parts answered.
-use Rattle.std.proofs.Common.{ℕ, ◌^◌, ◌<◌, List, sym, subst}
-use Rattle.ubi_media.specs.Geometry.{Sizes}
-use Rattle.ubi_scan.specs.Scan.{Found}
-use Rattle.ubi_scan.specs.Image.{Image, IsWholeSize, image_of}
-use Rattle.ubi_scan.specs.Source.{Agreed, Source, blocks_of}
-use Rattle.ubi_table.specs.Records.{Records}
-use Rattle.ubi_volume.specs.Accepts.{Accepts}
-use Rattle.ubi_volume.specs.inner.Surveying.{AreChecked, AreStatesOf}
-use Rattle.ubi_volume.specs.Survey.{IsSurvey, IsSurveyOf}
-use Rattle.ubi_volume.specs.declared.attached.BlockState.{BlockState}
+use Rattle.ubi_volume.proofs.Prelude.{ℕ, ◌^◌, ◌<◌, List, sym, subst, Sizes, Found, Image, IsWholeSize, image_of, Agreed, Source, blocks_of, Records, Accepts, AreChecked, AreStatesOf, IsSurvey, IsSurveyOf, BlockState}
 use Rattle.ubi_volume.proofs.AttachedOf.{attached}
 use Rattle.ubi_volume.proofs.Either.{are_lebs, some_meaning}
 use Rattle.ubi_volume.proofs.Recorded.{records_meant}

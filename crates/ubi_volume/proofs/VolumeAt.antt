@@ -1,26 +1,7 @@
 -- A volume of an image whose places are known.
-use Rattle.std.proofs.Common.{◌≡◌, ℕ, ◌⊎◌, inl, inr, List, length, refl, ap, sym, ◌∙◌, subst}
-use Rattle.std.specs.Prelude.{IfSome, None, Option, Some, MatchOption}
+use Rattle.ubi_volume.proofs.Prelude.{◌≡◌, ℕ, ◌⊎◌, inl, inr, List, length, refl, ap, sym, ◌∙◌, subst, IfSome, None, Option, Some, MatchOption, FinMap, nat_cmp, same_Some, Sizes, usable, VolumeRecord, image_of, Leb, NoMember, Wins, blocks_of, Records, leb_bytes, ContentIs, LebReads, SlotMeans, VolumeReads, Fits, IsVolume, KeepsNoBlank, pieces, ArePlaces, Placed, case_of, Content, Volume, PlaceContent}
 use Rattle.std.specs.FinMap as finite
-use Rattle.std.specs.FinMap.{FinMap}
-use Rattle.std.specs.Ordering.{nat_cmp}
-use Rattle.std.proofs.lemmas.Option.{same_Some}
-use Rattle.ubi_media.specs.Geometry.{Sizes}
-use Rattle.ubi_media.specs.Record.{usable}
-use Rattle.ubi_media.specs.declared.record.VolumeRecord.{VolumeRecord}
-use Rattle.ubi_scan.specs.Image.{image_of}
-use Rattle.ubi_scan.specs.Members.{Leb, NoMember, Wins}
-use Rattle.ubi_scan.specs.Source.{blocks_of}
-use Rattle.ubi_table.specs.Records.{Records}
-use Rattle.ubi_volume.specs.Extract.{leb_bytes}
-use Rattle.ubi_volume.specs.inner.Gathered.{ContentIs}
-use Rattle.ubi_volume.specs.Means.{LebReads, SlotMeans, VolumeReads}
-use Rattle.ubi_volume.specs.Meant.{Fits, IsVolume, KeepsNoBlank, pieces}
-use Rattle.ubi_volume.specs.Places.{ArePlaces, Placed, case_of}
-use Rattle.ubi_volume.specs.declared.content.Content.{Content}
 use Rattle.ubi_volume.specs.declared.content.Content.TheVariants as content
-use Rattle.ubi_volume.specs.declared.content.Volume.{Volume}
-use Rattle.ubi_volume.specs.declared.places.PlaceContent.{PlaceContent}
 use Rattle.ubi_volume.specs.declared.places.PlaceContent.TheVariants as place
 use Rattle.ubi_volume.proofs.Recorded.{records_meant}
 

@@ -1,22 +1,10 @@
 -- What a scan's answers say of members and winners.
-use Rattle.std.proofs.Common.{◌≡◌, ℕ, ◌≤◌, Bool, true, false, not, inl, inr, List, refl, ap, sym, ◌∙◌, subst}
-use Rattle.std.specs.Prelude.{IfSome, IsSome, MatchOption, Option, Some, None, is_some, option_and_then, option_map, slice_get}
-use Rattle.std.specs.Bool.{then_some}
+use Rattle.ubi_volume.proofs.Prelude.{◌≡◌, ℕ, ◌≤◌, Bool, true, false, not, inl, inr, List, refl, ap, sym, ◌∙◌, subst, IfSome, IsSome, MatchOption, Option, Some, None, is_some, option_and_then, option_map, slice_get, then_some, same_Some, Sizes, EcRead, VidHeader, VidRead, block, ec, vid, IsMember, Leb, NoMember, Wins, has_members, header, leb_of, member, member_if, Found, IsNextWinner, IsScan, ScanState, WinnerHeaderIs, header_in}
 use Rattle.std.specs.FinMap as finite
-use Rattle.std.proofs.lemmas.Option.{same_Some}
-use Rattle.ubi_media.specs.Geometry.{Sizes}
-use Rattle.ubi_media.specs.declared.ec.EcRead.{EcRead}
 use Rattle.ubi_media.specs.declared.ec.EcRead.TheVariants as ec_read
-use Rattle.ubi_media.specs.declared.vid.VidHeader.{VidHeader}
-use Rattle.ubi_media.specs.declared.vid.VidRead.{VidRead}
 use Rattle.ubi_media.specs.declared.vid.VidRead.TheVariants as vid_read
-use Rattle.ubi_scan.specs.Image.{block, ec, vid}
-use Rattle.ubi_scan.specs.Members.{IsMember, Leb, NoMember, Wins, has_members, header, leb_of, member, member_if}
-use Rattle.ubi_scan.specs.Scan.{Found, IsNextWinner, IsScan}
 use Rattle.ubi_scan.specs.Scan as scan_states
-use Rattle.ubi_scan.specs.declared.found.ScanState.{ScanState}
 use Rattle.ubi_scan.specs.declared.found.ScanState.TheVariants as state
-use Rattle.ubi_volume.specs.inner.Headers.{WinnerHeaderIs, header_in}
 
 pub no_some : {A : Type 0} (a : A) → None ≡ Some a → ⊥
 no_some a e = cc

@@ -1,16 +1,8 @@
 -- LEBs whose numbers and lengths a test allows.
-use Rattle.std.proofs.Common.{◌≡◌, ℕ, ◌<◌, Bool, Decides, List, length, get_or, refl, ap, sym, ◌∙◌, subst}
-use Rattle.std.specs.Prelude.{◌↔◌, All, IfSome, IsTrue, None, Option, Some}
-use Rattle.std.proofs.lemmas.Bool.Decides.{Decides-and, Decides-by_and, Decides-ltb}
+use Rattle.ubi_volume.proofs.Prelude.{◌≡◌, ℕ, ◌<◌, Bool, Decides, List, length, get_or, refl, ap, sym, ◌∙◌, subst, ◌↔◌, IfSome, IsTrue, None, Option, Some, Decides-and, Decides-by_and, Decides-ltb, BTreeMap, nat_cmp_total, unsigned_Decides, FinMap, nat_cmp-IsAntisymmetric, list_all, nat_cmp, entries_tree, find_at, place_of, leb_fits}
+use Rattle.std.specs.Prelude.{All}
 use Rattle.std.specs.BTreeMap as tree
-use Rattle.std.specs.BTreeMap.{BTreeMap}
-use Rattle.std.specs.Cmp.{nat_cmp_total, unsigned_Decides}
 use Rattle.std.specs.FinMap as finite
-use Rattle.std.specs.FinMap.{FinMap, nat_cmp-IsAntisymmetric}
-use Rattle.std.specs.List.{list_all}
-use Rattle.std.specs.Ordering.{nat_cmp}
-use Rattle.ubi_scan.proofs.Finite.{entries_tree, find_at, place_of}
-use Rattle.ubi_volume.specs.inner.Making.{leb_fits}
 
 module _ (reserved size : ℕ) where
   abbrev Within : ℕ × List ℕ → Type 0

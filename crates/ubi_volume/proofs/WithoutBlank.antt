@@ -1,21 +1,7 @@
 -- What is left of LEBs where those that are 0xFF throughout are dropped.
-use Rattle.std.proofs.Common.{◌≡◌, ℕ, Bool, cond, not, List, [], ◌++◌, ◌+◌, ◌<◌, length, filter, get_or, set, take, drop, map, refl, ap, sym, ◌∙◌}
-use Rattle.std.specs.Prelude.{None, Option, Some, unwrap_or}
+use Rattle.ubi_volume.proofs.Prelude.{◌≡◌, ℕ, Bool, cond, not, List, [], ◌++◌, ◌+◌, ◌<◌, length, filter, get_or, set, take, drop, map, refl, ap, sym, ◌∙◌, None, Option, Some, unwrap_or, BTreeMap, eq_by_cmp_equiv, nat_cmp_total, FinMap, nat_cmp-IsAntisymmetric, keys_of, lookup, eq_by_cmp, nat_cmp, map_over_more, lookup-filter-values, option_filter, IsDistinct-from_sorted, is_blank, get_tree, Items, item_without_blank, lebs_without_blank, without_blank, Content, Volume}
 use Rattle.std.specs.BTreeMap as tree
-use Rattle.std.specs.BTreeMap.{BTreeMap}
-use Rattle.std.specs.Cmp.{eq_by_cmp_equiv, nat_cmp_total}
 use Rattle.std.specs.FinMap as finite
-use Rattle.std.specs.FinMap.{FinMap, nat_cmp-IsAntisymmetric}
-use Rattle.std.specs.Map.{keys_of, lookup}
-use Rattle.std.specs.Ordering.{eq_by_cmp, nat_cmp}
-use Rattle.std.proofs.lemmas.List.Edits.{map_over_more}
-use Rattle.std.proofs.lemmas.Map.Entries.{lookup-filter-values, option_filter}
-use Rattle.std.proofs.lemmas.Map.Keys.{IsDistinct-from_sorted}
-use Rattle.ubi_media.specs.Fields.{is_blank}
-use Rattle.ubi_scan.proofs.Finite.{get_tree}
-use Rattle.ubi_volume.specs.Made.{Items, item_without_blank, lebs_without_blank, without_blank}
-use Rattle.ubi_volume.specs.declared.content.Content.{Content}
-use Rattle.ubi_volume.specs.declared.content.Volume.{Volume}
 
 abbrev pub LebMap : Type 0
 LebMap = FinMap nat_cmp (List ℕ)

@@ -1,10 +1,6 @@
 -- What a writer received in several writes.
-use Rattle.std.proofs.Common.{◌≡◌, ℕ, ◌+◌, ◌-◌, ◌≤◌, List, ◌++◌, Option, ap, sym, ◌∙◌, subst, take, drop, length}
-use Rattle.std.specs.Io.KnownBytes.{Appends}
-use Rattle.std.proofs.KnownBytes.{Appends-trans}
-use Rattle.std.proofs.Math.Seq.{take-add}
-use Rattle.std.proofs.lemmas.List.{replicate-append-replicate, take-replicate, take_rest}
-use Rattle.ubi_media.specs.Fields.{blank}
+use Rattle.ubi_volume.proofs.Prelude.{◌≡◌, ℕ, ◌+◌, ◌-◌, ◌≤◌, List, ◌++◌, ap, sym, ◌∙◌, subst, take, drop, length, Appends, Appends-trans, take-add, replicate-append-replicate, take-replicate, take_rest, blank}
+use Rattle.std.proofs.Common.{Option}
 
 -- one more write, of the first m of the bytes behind n
 pub Appends-next : (a b c : Option (List ℕ)) (n m : ℕ) (bs : List ℕ) → Appends a b (take n bs)

@@ -1,8 +1,4 @@
-use Rattle.std.proofs.Common.{◌≡◌, ℕ, ◌<◌, false}
-use Rattle.std.specs.Prelude.{Some, slice_get}
-use Rattle.ubi_change.specs.Avoided.{is_listed}
-use Rattle.ubi_change.specs.Steps.{target}
-use Rattle.ubi_change.specs.declared.step.Step.{Step}
+use Rattle.ubi_change.proofs.Prelude.{◌≡◌, ℕ, ◌<◌, false, Some, slice_get, is_listed, target, Step}
 use Rattle.ubi_change.proofs.avoided.listed.Given as goal
 
 abbrev pub invariant-loop-i : goal.invariant-loop-i

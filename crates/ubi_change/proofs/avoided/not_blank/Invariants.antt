@@ -1,4 +1,4 @@
-use Rattle.ubi_change.specs.inner.Taking.{SayBlank}
+use Rattle.ubi_change.proofs.Prelude.{SayBlank}
 use Rattle.ubi_change.proofs.avoided.not_blank.Given as goal
 
 abbrev pub invariant-loop-p : goal.invariant-loop-p

@@ -1,7 +1,4 @@
-use Rattle.std.proofs.Common.{subst}
-use Rattle.ubi_scan.specs.Source.{Source}
-use Rattle.ubi_change.specs.Avoided.{states_avoiding}
-use Rattle.ubi_change.specs.inner.Taking.{AreTaken}
+use Rattle.ubi_change.proofs.Prelude.{subst, Source, states_avoiding, AreTaken}
 use Rattle.ubi_change.proofs.WholeReads.{survey_narrowed}
 use Rattle.ubi_change.proofs.ground.ground_of.Goals as goal
 

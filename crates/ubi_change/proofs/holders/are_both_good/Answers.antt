@@ -1,9 +1,5 @@
-use Rattle.std.proofs.Common.{◌≡◌, subst}
-use Rattle.ubi_scan.specs.Source.{blocks_of}
-use Rattle.ubi_table.specs.Records.{Records}
-use Rattle.ubi_table.specs.Table.{CopyIs}
+use Rattle.ubi_change.proofs.Prelude.{◌≡◌, subst, blocks_of, Records, CopyIs, copy_unique}
 use Rattle.ubi_table.specs.declared.copy.CopyRead.TheVariants as copy
-use Rattle.ubi_table.proofs.One.{copy_unique}
 use Rattle.ubi_change.proofs.SameTables.{good_sizes, same_records}
 use Rattle.ubi_change.proofs.holders.are_both_good.Goals as goal
 

@@ -1,7 +1,5 @@
-use Rattle.std.proofs.Common.{◌≡◌, true, ap, sym, ◌∙◌}
+use Rattle.ubi_change.proofs.Prelude.{◌≡◌, true, ap, sym, ◌∙◌, same_entries_map, Records}
 use Rattle.std.specs.FinMap as finite
-use Rattle.std.specs.FinMap.{same_entries_map}
-use Rattle.ubi_table.specs.Records.{Records}
 use Rattle.ubi_change.proofs.SameTables.{entries_Decides}
 use Rattle.ubi_change.proofs.holders.are_same.Goals as goal
 

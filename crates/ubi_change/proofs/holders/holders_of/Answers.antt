@@ -1,8 +1,4 @@
-use Rattle.std.proofs.Common.{sym, subst, ◌∙◌}
-use Rattle.ubi_scan.specs.Source.{Source, blocks_of}
-use Rattle.ubi_volume.specs.Survey.{IsSurveyOf}
-use Rattle.ubi_change.specs.inner.Sites.{site_at}
-use Rattle.ubi_change.specs.Avoided.{states_avoiding}
+use Rattle.ubi_change.proofs.Prelude.{sym, subst, ◌∙◌, Source, blocks_of, IsSurveyOf, site_at, states_avoiding}
 use Rattle.ubi_change.proofs.Sited.{fits_some, site_there}
 use Rattle.ubi_change.proofs.WholeReads.{survey_narrowed}
 use Rattle.ubi_change.proofs.holders.holders_of.Goals as goal

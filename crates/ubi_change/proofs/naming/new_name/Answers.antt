@@ -1,9 +1,5 @@
-use Rattle.std.proofs.Common.{◌≡◌, ℕ, not, List, ap, ap₂, sym, ◌∙◌, subst}
-use Rattle.std.specs.Prelude.{IsSome, None, Option, Some}
+use Rattle.ubi_change.proofs.Prelude.{◌≡◌, ℕ, not, List, ap, ap₂, sym, ◌∙◌, subst, IsSome, None, Option, Some, VolumeRecord, Entry, other_named}
 use Rattle.std.specs.FinMap as finite
-use Rattle.ubi_media.specs.declared.record.VolumeRecord.{VolumeRecord}
-use Rattle.ubi_table.proofs.Names.{Entry}
-use Rattle.ubi_change.specs.inner.Renaming.{other_named}
 use Rattle.ubi_change.proofs.OtherNames.{copied_there, none_other, other_found}
 use Rattle.ubi_change.proofs.naming.new_name.Goals as goal
 

@@ -1,5 +1,4 @@
-use Rattle.std.proofs.Common.{ap₂, ◌∙◌}
-use Rattle.ubi_media.specs.Fields.{filled}
+use Rattle.ubi_change.proofs.Prelude.{ap₂, ◌∙◌, filled}
 use Rattle.ubi_change.proofs.pages.ec_page.Goals as goal
 
 pub returns : goal.returns

@@ -1,9 +1,4 @@
-use Rattle.std.proofs.Common.{◌≡◌, ℕ, ◌%◌, ◌*◌, ◌^◌, ◌<◌, ◌≤◌, List, length, ap, ap₂, sym, ◌∙◌, subst, arith}
-use Rattle.ubi_media.specs.Fields.{filled}
-use Rattle.ubi_media.specs.Geometry.{Sizes, leb_size, slots}
-use Rattle.ubi_table.specs.Records.{table_bytes}
-use Rattle.ubi_volume.specs.Meant.{pieces}
-use Rattle.ubi_volume.proofs.Pieces.{pieces_suffice}
+use Rattle.ubi_change.proofs.Prelude.{◌≡◌, ℕ, ◌%◌, ◌*◌, ◌^◌, ◌<◌, ◌≤◌, List, length, ap, ap₂, sym, ◌∙◌, subst, arith, filled, Sizes, leb_size, slots, table_bytes, pieces, pieces_suffice}
 use Rattle.ubi_change.proofs.TablePages.{pages_few, pages_paged, pages_short}
 use Rattle.ubi_change.proofs.pages.table_pages.Goals as goal
 

@@ -1,5 +1,4 @@
-use Rattle.std.proofs.Common.{◌≡◌, ◌++◌, ◌%◌, ◌≤◌, length, ap, ap₂, subst, sym, ℕ, ◌∙◌}
-use Rattle.ubi_media.specs.Fields.{filled}
+use Rattle.ubi_change.proofs.Prelude.{◌≡◌, ◌++◌, ◌%◌, ◌≤◌, length, ap, ap₂, subst, sym, ℕ, ◌∙◌, filled}
 use Rattle.ubi_change.proofs.PageBytes.{page_holds}
 use Rattle.ubi_change.proofs.pages.vid_page.Goals as goal
 

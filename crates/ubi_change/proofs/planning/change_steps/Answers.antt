@@ -1,8 +1,4 @@
-use Rattle.std.proofs.Common.{length, subst, sym}
-use Rattle.ubi_change.specs.Fitting.{AllWithin}
-use Rattle.ubi_change.specs.declared.step.Step.{Step}
-use Rattle.std.proofs.Common.{List}
-use Rattle.ubi_change.specs.inner.Making.{IsTarget}
+use Rattle.ubi_change.proofs.Prelude.{length, subst, sym, AllWithin, Step, List, IsTarget}
 use Rattle.ubi_change.proofs.ChangeSteps.{bytes_fit, bytes_paged, bytes_short, compat_small, sites_fit}
 use Rattle.ubi_change.proofs.StepPages.{change_within}
 use Rattle.ubi_change.proofs.planning.change_steps.Goals as goal

@@ -1,8 +1,4 @@
-use Rattle.ubi_scan.specs.Source.{holds, memory}
-use Rattle.ubi_scan.proofs.InMemory.{still}
-use Rattle.ubi_scan.specs.Image.{image_of}
-use Rattle.ubi_change.specs.Planned.{IsPlanned, IsPlanOf}
-use Rattle.ubi_change.specs.Avoided.{nothing}
+use Rattle.ubi_change.proofs.Prelude.{holds, memory, still, image_of, IsPlanned, IsPlanOf, nothing}
 use Rattle.ubi_change.proofs.NothingAvoided.{frugal_nothing, plan_nothing}
 use Rattle.ubi_change.proofs.Unplanned.{error_in_memory}
 use Rattle.ubi_change.proofs.planning.plan_change.Goals as goal

@@ -1,8 +1,5 @@
-use Rattle.std.proofs.Common.{subst}
-use Rattle.ubi_media.proofs.ByteLists.{bytes_each}
-use Rattle.ubi_change.specs.Fitting.{AllWithin}
+use Rattle.ubi_change.proofs.Prelude.{subst, bytes_each, AllWithin, blocks_of}
 use Rattle.ubi_change.proofs.BlankListed.{survey_blank}
-use Rattle.ubi_scan.specs.Source.{blocks_of}
 use Rattle.ubi_change.proofs.Listed.{never_listed}
 use Rattle.ubi_change.proofs.PlanKept.{plan_kept}
 use Rattle.ubi_change.proofs.Unplanned.{error_is, error_read, plan_is}

@@ -1,5 +1,5 @@
+use Rattle.ubi_change.proofs.Prelude.{states_avoiding}
 use Rattle.ubi_change.proofs.Grounded.{ground_narrowed, site_known}
-use Rattle.ubi_change.specs.Avoided.{states_avoiding}
 use Rattle.ubi_change.proofs.planning.prepare.Goals as goal
 
 pub returns-clause-prepared : goal.returns-clause-prepared

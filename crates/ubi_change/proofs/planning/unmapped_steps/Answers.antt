@@ -1,4 +1,4 @@
-use Rattle.std.proofs.Common.{refl}
+use Rattle.ubi_change.proofs.Prelude.{refl}
 use Rattle.ubi_change.proofs.planning.unmapped_steps.Goals as goal
 
 pub returns : goal.returns

@@ -1,4 +1,4 @@
-use Rattle.std.proofs.lemmas.Result.{on_ok_weaker}
+use Rattle.ubi_change.proofs.Prelude.{on_ok_weaker}
 use Rattle.ubi_change.proofs.Pushed.{mount_pushed}
 use Rattle.ubi_change.proofs.pushing.push_mount.Goals as goal
 

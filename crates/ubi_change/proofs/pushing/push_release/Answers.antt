@@ -1,5 +1,4 @@
-use Rattle.std.proofs.Common.{sym, ◌∙◌}
-use Rattle.std.proofs.lemmas.Result.{on_ok_weaker}
+use Rattle.ubi_change.proofs.Prelude.{sym, ◌∙◌, on_ok_weaker}
 use Rattle.ubi_change.proofs.Pushed.{release_pushed}
 use Rattle.ubi_change.proofs.pushing.push_release.Goals as goal
 

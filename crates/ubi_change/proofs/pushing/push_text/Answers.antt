@@ -1,4 +1,4 @@
-use Rattle.std.proofs.Common.{◌≡◌, ◌+◌, ◌-◌, ◌*◌, ◌/◌, ◌∷◌, [], ◌++◌, length, take, drop, ap, ap₂, ◌∙◌, arith}
+use Rattle.ubi_change.proofs.Prelude.{◌≡◌, ◌+◌, ◌-◌, ◌*◌, ◌/◌, ◌∷◌, [], ◌++◌, length, take, drop, ap, ap₂, ◌∙◌, arith}
 use Rattle.ubi_change.specs.declared.step.Step.TheVariants as step
 use Rattle.ubi_change.proofs.Pushed.{page_pushed, pages_from}
 use Rattle.ubi_change.proofs.pushing.push_text.Goals as goal

@@ -1,4 +1,4 @@
-use Rattle.std.proofs.Common.{◌≡◌, ◌++◌, ◌/◌}
+use Rattle.ubi_change.proofs.Prelude.{◌≡◌, ◌++◌, ◌/◌}
 use Rattle.ubi_change.proofs.Pushed.{pages_from}
 use Rattle.ubi_change.proofs.pushing.push_text.Given as goal
 

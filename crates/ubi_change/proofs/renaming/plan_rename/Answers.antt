@@ -1,8 +1,4 @@
-use Rattle.ubi_scan.specs.Image.{image_of}
-use Rattle.ubi_scan.specs.Source.{holds, memory}
-use Rattle.ubi_scan.proofs.InMemory.{still}
-use Rattle.ubi_change.specs.RenamePlanned.{IsPlannedRename, IsRenameOf}
-use Rattle.ubi_change.specs.Avoided.{nothing}
+use Rattle.ubi_change.proofs.Prelude.{image_of, holds, memory, still, IsPlannedRename, IsRenameOf, nothing}
 use Rattle.ubi_change.proofs.NothingAvoided.{frugal_rename_nothing, rename_nothing}
 use Rattle.ubi_change.proofs.Unrenamed.{error_in_memory}
 use Rattle.ubi_change.proofs.renaming.plan_rename.Goals as goal

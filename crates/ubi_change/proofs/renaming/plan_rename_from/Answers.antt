@@ -1,7 +1,5 @@
-use Rattle.std.proofs.Common.{subst}
-use Rattle.ubi_change.specs.Fitting.{AllWithin}
+use Rattle.ubi_change.proofs.Prelude.{subst, AllWithin, blocks_of}
 use Rattle.ubi_change.proofs.BlankListed.{survey_blank}
-use Rattle.ubi_scan.specs.Source.{blocks_of}
 use Rattle.ubi_change.proofs.Listed.{never_listed}
 use Rattle.ubi_change.proofs.Unrenamed.{error_is, error_read, rename_is}
 use Rattle.ubi_change.proofs.renaming.plan_rename_from.Goals as goal

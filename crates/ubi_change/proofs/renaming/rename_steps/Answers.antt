@@ -1,17 +1,4 @@
-use Rattle.std.proofs.Common.{◌≡◌, ℕ, ◌%◌, ◌≤◌, inl, inr, List, ap, ap₂, length, subst, sym, ◌∙◌}
-use Rattle.std.specs.Prelude.{IfSome, None, Option}
-use Rattle.std.proofs.lemmas.Result.{err_from_is_err_and}
-use Rattle.ubi_media.specs.Fields.{AreBytes}
-use Rattle.ubi_media.specs.Geometry.{leb_size}
-use Rattle.ubi_scan.specs.Scan.{Found}
-use Rattle.ubi_table.specs.Named.{records_named}
-use Rattle.ubi_table.specs.Records.{Records}
-use Rattle.ubi_change.specs.Fitting.{AllWithin}
-use Rattle.ubi_change.specs.RenamePlan.{table_pages}
-use Rattle.ubi_change.specs.Weak.{weak_place}
-use Rattle.ubi_change.specs.inner.Renaming.{AreSpares, BothFit, IsNamable, IsSparesRefusal, IsUnrenamed, pages_for, two_copies}
-use Rattle.ubi_change.specs.declared.holders.Holders.{Holders}
-use Rattle.ubi_change.specs.declared.step.Step.{Step}
+use Rattle.ubi_change.proofs.Prelude.{◌≡◌, ℕ, ◌%◌, ◌≤◌, inl, inr, List, ap, ap₂, length, subst, sym, ◌∙◌, IfSome, None, Option, err_from_is_err_and, AreBytes, leb_size, Found, records_named, Records, AllWithin, table_pages, weak_place, AreSpares, BothFit, IsNamable, IsSparesRefusal, IsUnrenamed, pages_for, two_copies, Holders, Step}
 use Rattle.ubi_change.proofs.ChangeSteps.{some_fits}
 use Rattle.ubi_change.proofs.StepPages.{rename_within}
 use Rattle.ubi_change.proofs.renaming.rename_steps.Goals as goal

@@ -1,5 +1,4 @@
-use Rattle.std.proofs.Common.{refl}
-use Rattle.ubi_media.proofs.ByteLists.{bytes_each}
+use Rattle.ubi_change.proofs.Prelude.{refl, bytes_each}
 use Rattle.ubi_change.proofs.renaming.two_copies.Goals as goal
 
 pub returns-clause-bytes : goal.returns-clause-bytes

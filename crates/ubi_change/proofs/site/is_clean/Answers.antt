@@ -1,10 +1,4 @@
-use Rattle.std.proofs.Common.{◌≡◌, Bool, true, drop, ap, sym, ◌∙◌, arith, length-drop}
-use Rattle.std.specs.Prelude.{◌&&◌}
-use Rattle.std.proofs.lemmas.Result.{IfOk-weaker}
-use Rattle.ubi_change.specs.Takeable.{is_free}
-use Rattle.ubi_media.specs.Fields.{is_blank}
-use Rattle.ubi_scan.specs.Image.{block}
-use Rattle.ubi_scan.specs.Source.{blocks_of}
+use Rattle.ubi_change.proofs.Prelude.{◌≡◌, Bool, true, drop, ap, sym, ◌∙◌, arith, length-drop, ◌&&◌, IfOk-weaker, is_free, is_blank, block, blocks_of}
 use Rattle.ubi_change.proofs.WholeReads.{behind_header}
 use Rattle.ubi_change.proofs.site.is_clean.Goals as goal
 

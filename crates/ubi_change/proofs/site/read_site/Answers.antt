@@ -1,8 +1,4 @@
-use Rattle.std.proofs.Common.{rules, ◌≡◌, ap, arith, refl, ◌∙◌}
-use Rattle.ubi_scan.specs.Image.{block, ec_area}
-use Rattle.ubi_scan.specs.Numbers.{valid_ec}
-use Rattle.ubi_scan.specs.Source.{blocks_of}
-use Rattle.ubi_scan.proofs.FailedReads.{names_part}
+use Rattle.ubi_change.proofs.Prelude.{rules, ◌≡◌, ap, arith, refl, ◌∙◌, block, ec_area, valid_ec, blocks_of, names_part}
 use Rattle.ubi_change.proofs.Sited.{counter_fits}
 use Rattle.ubi_change.proofs.site.read_site.Goals as goal
 

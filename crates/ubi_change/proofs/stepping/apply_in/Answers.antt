@@ -1,8 +1,4 @@
-use Rattle.std.proofs.Common.{◌≡◌, ◌+◌, List, ℕ, ap, sym, ◌∙◌, take, arith}
-use Rattle.std.proofs.lemmas.List.{take_all}
-use Rattle.std.proofs.lemmas.List.Sums.{fold_more}
-use Rattle.ubi_change.specs.inner.Writing.{block_cut, block_step}
-use Rattle.ubi_change.specs.declared.step.Step.{Step}
+use Rattle.ubi_change.proofs.Prelude.{◌≡◌, ◌+◌, List, ℕ, ap, sym, ◌∙◌, take, arith, take_all, fold_more, block_cut, block_step, Step}
 use Rattle.ubi_change.proofs.BlockSteps.{step_elsewhere, step_here}
 use Rattle.ubi_change.proofs.stepping.apply_in.Goals as goal
 use Rattle.ubi_change.proofs.stepping.apply_in.Goals.{then-eraseblock-p, else-eraseblock-p}

@@ -1,5 +1,4 @@
-use Rattle.std.proofs.Common.{◌≡◌, take}
-use Rattle.ubi_change.specs.inner.Writing.{block_cut}
+use Rattle.ubi_change.proofs.Prelude.{◌≡◌, take, block_cut}
 use Rattle.ubi_change.proofs.stepping.apply_in.Given as goal
 
 abbrev pub invariant-loop-step : goal.invariant-loop-step

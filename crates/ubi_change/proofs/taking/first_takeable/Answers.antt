@@ -1,10 +1,4 @@
-use Rattle.std.proofs.Common.{◌≡◌, ◌+◌, ◌∙◌, length, sym, subst, ap, arith}
-use Rattle.std.specs.Prelude.{IfSome}
-use Rattle.ubi_scan.specs.Source.{Source, blocks_in, blocks_of}
-use Rattle.ubi_scan.proofs.ReadParts.{count_blocks}
-use Rattle.ubi_volume.specs.Survey.{IsSurveyOf}
-use Rattle.ubi_change.specs.inner.Sites.{FitsIn}
-use Rattle.ubi_change.specs.Avoided.{states_avoiding}
+use Rattle.ubi_change.proofs.Prelude.{◌≡◌, ◌+◌, ◌∙◌, length, sym, subst, ap, arith, IfSome, Source, blocks_in, blocks_of, count_blocks, IsSurveyOf, FitsIn, states_avoiding}
 use Rattle.ubi_change.proofs.Taken.{AreParted, PartedFit, all_fit, more_fit, parted_all, parted_enough, parted_more}
 use Rattle.ubi_change.proofs.WholeReads.{survey_narrowed}
 use Rattle.ubi_change.proofs.taking.first_takeable.Goals as goal

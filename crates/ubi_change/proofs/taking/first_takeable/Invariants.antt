@@ -1,6 +1,4 @@
-use Rattle.std.proofs.Common.{◌≡◌}
-use Rattle.ubi_scan.specs.Source.{Narrows, WhereHeld, blocks_in, blocks_of}
-use Rattle.ubi_change.specs.Avoided.{states_avoiding}
+use Rattle.ubi_change.proofs.Prelude.{◌≡◌, Narrows, WhereHeld, blocks_in, blocks_of, states_avoiding}
 use Rattle.ubi_change.proofs.Taken.{AreParted, PartedFit}
 use Rattle.ubi_change.proofs.taking.first_takeable.Given as goal
 

@@ -1,5 +1,4 @@
-use Rattle.std.proofs.Common.{sym, ◌∙◌}
-use Rattle.ubi_media.proofs.Checks.{check_from-empty}
+use Rattle.ubi_change.proofs.Prelude.{sym, ◌∙◌, check_from-empty}
 use Rattle.ubi_change.proofs.WeakPlaces.{blank_more}
 use Rattle.ubi_change.proofs.weakness.check_with_blank.Goals as goal
 

@@ -1,6 +1,4 @@
-use Rattle.std.proofs.Common.{◌≡◌, ◌*◌}
-use Rattle.ubi_media.specs.Check.{check_from}
-use Rattle.ubi_media.specs.Fields.{blank}
+use Rattle.ubi_change.proofs.Prelude.{◌≡◌, ◌*◌, check_from, blank}
 use Rattle.ubi_change.proofs.weakness.check_with_blank.Given as goal
 
 abbrev pub invariant-loop : goal.invariant-loop

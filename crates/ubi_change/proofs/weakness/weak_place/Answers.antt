@@ -1,7 +1,4 @@
-use Rattle.std.proofs.Common.{◌≡◌, ◌≤◌, ◌<◌, inl, inr, ◌*◌, ◌/◌, ℕ, false, length, refl, subst, sym, ◌∙◌, arith}
-use Rattle.ubi_media.proofs.Cases.{below_or_last}
-use Rattle.ubi_scan.proofs.Chunks.{piece_within}
-use Rattle.ubi_change.specs.Weak.{is_weak, pages_of}
+use Rattle.ubi_change.proofs.Prelude.{◌≡◌, ◌≤◌, ◌<◌, inl, inr, ◌*◌, ◌/◌, ℕ, false, length, refl, subst, sym, ◌∙◌, arith, below_or_last, piece_within, is_weak, pages_of}
 use Rattle.ubi_change.proofs.WeakPlaces.{first_place, front_more, front_none, no_place, weak_told}
 use Rattle.ubi_change.proofs.weakness.weak_place.Goals as goal
 

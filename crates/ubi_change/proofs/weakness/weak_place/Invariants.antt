@@ -1,6 +1,4 @@
-use Rattle.std.proofs.Common.{◌≡◌, ℕ, ◌*◌, ◌<◌, false, take}
-use Rattle.ubi_media.specs.Check.{check}
-use Rattle.ubi_change.specs.Weak.{is_weak}
+use Rattle.ubi_change.proofs.Prelude.{◌≡◌, ℕ, ◌*◌, ◌<◌, false, take, check, is_weak}
 use Rattle.ubi_change.proofs.weakness.weak_place.Given as goal
 
 abbrev pub invariant-loop-k : goal.invariant-loop-k

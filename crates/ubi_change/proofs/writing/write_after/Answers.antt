@@ -1,11 +1,4 @@
-use Rattle.std.proofs.Common.{◌≡◌, ◌/◌, ◌<◌, refl, sym, subst, ◌∙◌, arith}
-use Rattle.std.proofs.lemmas.Result.{err_from_is_err_and}
-use Rattle.ubi_scan.specs.Source.{IsSource, Narrows, Source, blocks_in}
-use Rattle.ubi_scan.proofs.Narrowed.{source_narrowed}
-use Rattle.ubi_volume.specs.Wrote.{All, IsWroteError, Wrote}
-use Rattle.ubi_volume.proofs.Narrowed.{wrote_narrowed}
-use Rattle.ubi_change.specs.Fitting.{AllWithin}
-use Rattle.ubi_change.specs.inner.Writing.{block_text, front_text}
+use Rattle.ubi_change.proofs.Prelude.{◌≡◌, ◌/◌, ◌<◌, refl, sym, subst, ◌∙◌, arith, err_from_is_err_and, IsSource, Narrows, Source, blocks_in, source_narrowed, All, IsWroteError, Wrote, wrote_narrowed, AllWithin, block_text, front_text}
 use Rattle.ubi_change.proofs.WrittenAfter.{failed_at, wrote_first, wrote_last, wrote_next}
 use Rattle.ubi_change.proofs.writing.write_after.Goals as goal
 

@@ -1,7 +1,4 @@
-use Rattle.std.proofs.Common.{◌≡◌, ◌*◌}
-use Rattle.ubi_scan.specs.Source.{Narrows, blocks_in}
-use Rattle.ubi_volume.specs.Wrote.{All, Wrote}
-use Rattle.ubi_change.specs.inner.Writing.{front_text}
+use Rattle.ubi_change.proofs.Prelude.{◌≡◌, ◌*◌, Narrows, blocks_in, All, Wrote, front_text}
 use Rattle.ubi_change.proofs.writing.write_after.Given as goal
 
 abbrev pub invariant-loop-p : goal.invariant-loop-p

@@ -1,8 +1,4 @@
-use Rattle.std.proofs.Common.{◌≡◌, ◌+◌, List, ℕ, ap, arith, sym, ◌∙◌}
-use Rattle.ubi_scan.specs.Image.{block}
-use Rattle.ubi_scan.specs.Source.{blocks_of}
-use Rattle.ubi_volume.proofs.Received.{wrote_cut, wrote_text}
-use Rattle.ubi_change.specs.inner.Writing.{block_cut, block_text}
+use Rattle.ubi_change.proofs.Prelude.{◌≡◌, ◌+◌, List, ℕ, ap, arith, sym, ◌∙◌, block, blocks_of, wrote_cut, wrote_text, block_cut, block_text}
 use Rattle.ubi_change.proofs.WrittenAfter.{whole_read}
 use Rattle.ubi_change.proofs.writing.write_block.Goals as goal
 

@@ -1,6 +1,5 @@
-use Rattle.std.proofs.Common.{◌≡◌, ◌==◌, is_some, length}
-use Rattle.std.specs.List.{list_all, slice_split}
-use Rattle.ubi_commands.specs.BadBlocks.{range_of}
+use Rattle.ubi_commands.proofs.Prelude.{◌≡◌, ◌==◌, length, list_all, slice_split, range_of}
+use Rattle.std.proofs.Common.{is_some}
 use Rattle.ubi_commands.proofs.bad_blocks.are_ranges.Given as goal
 
 abbrev pub invariant-items : goal.invariant-items

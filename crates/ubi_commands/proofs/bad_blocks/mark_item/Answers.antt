@@ -1,6 +1,4 @@
-use Rattle.std.proofs.Common.{[], ◌∙◌, ap, sym}
-use Rattle.std.specs.List.{cons_option}
-use Rattle.ubi_commands.specs.BadBlocks.{with_ranges}
+use Rattle.ubi_commands.proofs.Prelude.{[], ◌∙◌, ap, sym, cons_option, with_ranges}
 use Rattle.ubi_commands.proofs.Marked.{with_no_ranges}
 use Rattle.ubi_commands.proofs.bad_blocks.mark_item.Goals as goal
 

@@ -1,7 +1,4 @@
-use Rattle.std.proofs.Common.{◌≡◌, ◌==◌, ◌∷◌, [], ◌∙◌, ap, sym}
-use Rattle.std.specs.List.{slice_split}
-use Rattle.std.specs.Prelude.{filter_map}
-use Rattle.ubi_commands.specs.BadBlocks.{range_of, with_ranges}
+use Rattle.ubi_commands.proofs.Prelude.{◌≡◌, ◌==◌, ◌∷◌, [], ◌∙◌, ap, sym, slice_split, filter_map, range_of, with_ranges}
 use Rattle.ubi_commands.proofs.Marked.{mark_next, with_no_ranges}
 use Rattle.ubi_commands.proofs.bad_blocks.mark_items.Goals as goal
 

@@ -1,6 +1,5 @@
-use Rattle.std.proofs.Common.{◌≡◌, ◌==◌, filter_map, length}
-use Rattle.std.specs.List.{slice_split}
-use Rattle.ubi_commands.specs.BadBlocks.{range_of, with_ranges}
+use Rattle.ubi_commands.proofs.Prelude.{◌≡◌, ◌==◌, length, slice_split, range_of, with_ranges}
+use Rattle.std.proofs.Common.{filter_map}
 use Rattle.ubi_commands.proofs.bad_blocks.mark_items.Given as goal
 
 -- what the items left mark yet

@@ -1,4 +1,4 @@
-use Rattle.std.proofs.Common.{◌∙◌, sym}
+use Rattle.ubi_commands.proofs.Prelude.{◌∙◌, sym}
 use Rattle.ubi_commands.proofs.Marked.{with_no_items, with_some_items}
 use Rattle.ubi_commands.proofs.bad_blocks.mark_list.Goals as goal
 

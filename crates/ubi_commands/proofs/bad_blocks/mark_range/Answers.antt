@@ -1,5 +1,4 @@
-use Rattle.std.proofs.Common.{◌∙◌, ap, arith, replicate, true}
-use Rattle.std.proofs.lemmas.List.{length-drop, length-take-le}
+use Rattle.ubi_commands.proofs.Prelude.{◌∙◌, ap, arith, replicate, true, length-drop, length-take-le}
 use Rattle.ubi_commands.proofs.Marked.{mark_none, mark_one}
 use Rattle.ubi_commands.proofs.bad_blocks.mark_range.Goals as goal
 

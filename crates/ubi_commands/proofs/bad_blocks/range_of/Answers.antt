@@ -1,4 +1,4 @@
-use Rattle.std.proofs.Common.{◌∙◌, sym}
+use Rattle.ubi_commands.proofs.Prelude.{◌∙◌, sym}
 use Rattle.ubi_commands.proofs.Marked.{range_of_cut_twice}
 use Rattle.ubi_commands.proofs.bad_blocks.range_of.Goals as goal
 

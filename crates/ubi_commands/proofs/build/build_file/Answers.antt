@@ -1,7 +1,4 @@
-use Rattle.std.proofs.Common.{refl, ◌∙◌}
-use Rattle.std.proofs.lemmas.Result.{IfOk-weaker}
-use Rattle.ubi_commands.specs.Build.{Builds, faulty}
-use Rattle.ubi_commands.specs.Program.{no_text}
+use Rattle.ubi_commands.proofs.Prelude.{refl, ◌∙◌, IfOk-weaker, Builds, faulty, no_text}
 use Rattle.ubi_commands.proofs.Outcomes.{of_text, told}
 use Rattle.ubi_commands.proofs.build.build_file.Goals as goal
 

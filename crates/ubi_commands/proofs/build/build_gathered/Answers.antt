@@ -1,6 +1,5 @@
-use Rattle.std.proofs.Common.{◌∙◌, refl, sym}
+use Rattle.ubi_commands.proofs.Prelude.{◌∙◌, refl, sym, AreAnswers}
 use Rattle.ubi_commands.specs.Build.{unmade}
-use Rattle.ubi_commands.specs.inner.Built.{AreAnswers}
 use Rattle.ubi_commands.proofs.FileRows.{row_sized}
 use Rattle.ubi_commands.proofs.Planned.{stays_unopened}
 use Rattle.ubi_commands.proofs.build.build_gathered.Goals as goal

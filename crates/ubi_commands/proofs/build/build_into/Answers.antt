@@ -1,11 +1,4 @@
-use Rattle.std.proofs.Common.{◌∙◌, List, ap, map, refl, subst, sym, ℕ}
-use Rattle.std.specs.Prelude.{IfOk, IfSome, Option}
-use Rattle.ubi_scan.specs.Promised.{keeps_promise}
-use Rattle.ubi_scan.specs.Source.{Source, known_by}
-use Rattle.ubi_volume.specs.Wrote.{All, Wrote}
-use Rattle.ubi_compose.specs.Building.{image_built}
-use Rattle.ubi_commands.specs.Disk.{fresh}
-use Rattle.ubi_commands.specs.Row.{row_bytes}
+use Rattle.ubi_commands.proofs.Prelude.{◌∙◌, List, ap, map, refl, subst, sym, ℕ, IfOk, IfSome, Option, keeps_promise, Source, known_by, All, Wrote, image_built, fresh, row_bytes}
 use Rattle.ubi_commands.proofs.BuiltInto.{build_ends, held_after, memory_ends, still_unopened}
 use Rattle.ubi_commands.proofs.Outcomes.{kept_since, others_stay}
 use Rattle.ubi_commands.proofs.build.build_into.Goals as goal

@@ -1,7 +1,4 @@
-use Rattle.std.proofs.Common.{List, map, refl, subst}
-use Rattle.std.proofs.lemmas.Result.{IfOk-weaker}
-use Rattle.ubi_config.specs.declared.section.Section.{Section}
-use Rattle.ubi_commands.specs.Build.{IsUngathered, ungathered}
+use Rattle.ubi_commands.proofs.Prelude.{List, map, refl, subst, IfOk-weaker, Section, IsUngathered, ungathered}
 use Rattle.ubi_commands.proofs.BuiltInto.{of_gathered}
 use Rattle.ubi_commands.proofs.Outcomes.{told}
 use Rattle.ubi_commands.proofs.build.build_sections.Goals as goal

@@ -1,4 +1,4 @@
-use Rattle.std.proofs.Common.{arith, suc, sym}
+use Rattle.ubi_commands.proofs.Prelude.{arith, suc, sym}
 use Rattle.ubi_commands.proofs.build.line_at.Goals as goal
 
 pub returns-in-Some : goal.returns-in-Some

@@ -1,4 +1,5 @@
-use Rattle.std.proofs.Common.{Err, ap, arith, refl, ◌∙◌}
+use Rattle.ubi_commands.proofs.Prelude.{ap, arith, refl, ◌∙◌}
+use Rattle.std.proofs.Common.{Err}
 use Rattle.ubi_commands.proofs.BuiltInto.{unread_line}
 use Rattle.ubi_commands.proofs.build.told.Goals as goal
 

@@ -1,13 +1,4 @@
-use Rattle.std.proofs.Common.{List, sym, subst}
-use Rattle.std.specs.Prelude.{IfOk}
-use Rattle.std.proofs.KnownBytes.{Keeps-refl}
-use Rattle.ubi_scan.specs.Source.{Source, blocks_in}
-use Rattle.ubi_volume.specs.Wrote.{All, Wrote}
-use Rattle.ubi_change.specs.Fitting.{AllWithin}
-use Rattle.ubi_change.specs.Planned.{IsChangeError, IsPlanned}
-use Rattle.ubi_change.specs.declared.step.Step.{Step}
-use Rattle.ubi_commands.specs.Change.{not_blank_from, unplanned_from}
-use Rattle.ubi_commands.specs.Plan.{cut_text, steps_done}
+use Rattle.ubi_commands.proofs.Prelude.{List, sym, subst, IfOk, Keeps-refl, Source, blocks_in, All, Wrote, AllWithin, IsChangeError, IsPlanned, Step, not_blank_from, unplanned_from, cut_text, steps_done}
 use Rattle.ubi_commands.proofs.Edited.{change_cut, change_done, change_narrowed}
 use Rattle.ubi_commands.proofs.change.run_change_from.Goals as goal
 

@@ -1,6 +1,4 @@
-use Rattle.std.proofs.Common.{◌≡◌, take}
-use Rattle.std.specs.Prelude.{count_by}
-use Rattle.ubi_commands.specs.Check.{same_state}
+use Rattle.ubi_commands.proofs.Prelude.{◌≡◌, take, count_by, same_state}
 use Rattle.ubi_commands.proofs.check.count.Given as goal
 
 -- so many of the states so far are this one

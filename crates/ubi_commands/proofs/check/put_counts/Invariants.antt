@@ -1,6 +1,4 @@
-use Rattle.std.proofs.Common.{◌≡◌, ◌++◌, take, vec_items}
-use Rattle.std.specs.List.{flat_map}
-use Rattle.ubi_commands.specs.Check.{state_line}
+use Rattle.ubi_commands.proofs.Prelude.{◌≡◌, ◌++◌, take, vec_items, flat_map, state_line}
 use Rattle.ubi_commands.proofs.check.put_counts.Given as goal
 
 abbrev pub invariant-loop-state : goal.invariant-loop-state

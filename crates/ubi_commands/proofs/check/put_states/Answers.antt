@@ -1,4 +1,4 @@
-use Rattle.ubi_commands.specs.Check.{printed_states}
+use Rattle.ubi_commands.proofs.Prelude.{printed_states}
 use Rattle.ubi_commands.proofs.check.put_states.Goals as goal
 
 pub returns : goal.returns

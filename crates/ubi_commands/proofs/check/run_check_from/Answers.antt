@@ -1,6 +1,5 @@
-use Rattle.ubi_scan.proofs.Narrowed.{source_narrowed}
-use Rattle.ubi_compose.proofs.Refusals.{refuses}
-use Rattle.ubi_commands.specs.Check.{accepted, refused, surveyed, unsurveyed}
+use Rattle.ubi_commands.proofs.Prelude.{source_narrowed, refuses, surveyed, unsurveyed}
+use Rattle.ubi_commands.specs.Check.{accepted, refused}
 use Rattle.ubi_commands.proofs.check.run_check_from.Goals as goal
 
 pub returns-in_ok-check_lines-in-Ok-clause-checked : goal.returns-in_ok-check_lines-in-Ok-clause-checked

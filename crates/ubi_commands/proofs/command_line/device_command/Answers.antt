@@ -1,6 +1,4 @@
-use Rattle.std.proofs.Common.{ap, ◌∙◌}
-use Rattle.std.proofs.lemmas.Result.{IfOk-weaker}
-use Rattle.clap.specs.Simple.{app_of_fields}
+use Rattle.ubi_commands.proofs.Prelude.{ap, ◌∙◌, IfOk-weaker, app_of_fields}
 use Rattle.ubi_commands.proofs.command_line.device_command.Goals as goal
 
 pub returns : goal.returns

@@ -1,5 +1,4 @@
-use Rattle.std.proofs.lemmas.Result.{IfOk-weaker}
-use Rattle.clap.specs.Built.{AddsArg}
+use Rattle.ubi_commands.proofs.Prelude.{IfOk-weaker, AddsArg}
 use Rattle.ubi_commands.proofs.CommandNames.{argued}
 use Rattle.ubi_commands.proofs.command_line.out_command.Goals as goal
 

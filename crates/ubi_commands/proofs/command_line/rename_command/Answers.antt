@@ -1,4 +1,4 @@
-use Rattle.std.proofs.lemmas.Result.{IfOk-weaker}
+use Rattle.ubi_commands.proofs.Prelude.{IfOk-weaker}
 use Rattle.ubi_commands.proofs.CommandNames.{argued, argued_needed}
 use Rattle.ubi_commands.proofs.command_line.rename_command.Goals as goal
 

@@ -1,9 +1,5 @@
-use Rattle.std.proofs.Common.{◌≡◌, ap, refl, true, ◌∙◌}
-use Rattle.std.specs.Prelude.{codes}
-use Rattle.std.proofs.lemmas.Result.{IfOk-weaker}
-use Rattle.clap.specs.Simple.{App, app_of, app_of_fields, new_app, on_top}
-use Rattle.ubi_commands.specs.Tool.{build, change, check, compose, extract, geometry, list, normalise, rename, same, show, tool, unpack}
-use Rattle.ubi_commands.specs.inner.CommandLine.{HasOneMore}
+use Rattle.ubi_commands.proofs.Prelude.{◌≡◌, ap, refl, true, ◌∙◌, codes, IfOk-weaker, App, app_of, app_of_fields, new_app, on_top, build, change, check, compose, extract, geometry, list, normalise, rename, show, tool, unpack, HasOneMore}
+use Rattle.ubi_commands.specs.Tool.{same}
 use Rattle.ubi_commands.proofs.CommandNames.{joined, names_are}
 use Rattle.ubi_commands.proofs.command_line.tool_command.Goals as goal
 

@@ -1,5 +1,4 @@
-use Rattle.std.proofs.lemmas.Result.{IfOk-weaker}
-use Rattle.clap.specs.Built.{AddsSubcommand}
+use Rattle.ubi_commands.proofs.Prelude.{IfOk-weaker, AddsSubcommand}
 use Rattle.ubi_commands.proofs.CommandNames.{one_more}
 use Rattle.ubi_commands.proofs.command_line.with_command.Goals as goal
 

@@ -1,6 +1,4 @@
-use Rattle.std.proofs.lemmas.Result.{IfOk-weaker}
-use Rattle.ubi_commands.specs.Compose.{Composes, ComposesInto}
-use Rattle.ubi_commands.specs.Program.{no_text}
+use Rattle.ubi_commands.proofs.Prelude.{IfOk-weaker, Composes, ComposesInto, no_text}
 use Rattle.ubi_commands.proofs.Outcomes.{composes_into, of_text, told}
 use Rattle.ubi_commands.proofs.commands.compose_file.Goals as goal
 

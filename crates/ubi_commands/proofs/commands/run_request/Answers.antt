@@ -1,4 +1,4 @@
-use Rattle.std.proofs.lemmas.Result.{IfOk-weaker}
+use Rattle.ubi_commands.proofs.Prelude.{IfOk-weaker}
 use Rattle.ubi_commands.proofs.commands.run_request.Goals as goal
 
 pub returns-in-Extract-clause-answer : goal.returns-in-Extract-clause-answer

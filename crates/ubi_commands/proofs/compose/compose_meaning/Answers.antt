@@ -1,9 +1,4 @@
-use Rattle.std.proofs.Common.{◌≡◌, ℕ, ◌/◌, List, Some, length, ap, refl, subst, ◌∙◌}
-use Rattle.ubi_scan.specs.Image.{image_of}
-use Rattle.ubi_volume.specs.Accepts.{Accepts}
-use Rattle.ubi_commands.specs.Compose.{crowded, fits}
-use Rattle.ubi_commands.specs.Lines.{blocks_line}
-use Rattle.ubi_compose.proofs.Form.{count-composed}
+use Rattle.ubi_commands.proofs.Prelude.{◌≡◌, ℕ, ◌/◌, List, Some, length, ap, refl, subst, ◌∙◌, image_of, Accepts, crowded, fits, blocks_line, count-composed}
 use Rattle.ubi_commands.proofs.compose.compose_meaning.Goals as goal
 
 -- how many eraseblocks bytes have

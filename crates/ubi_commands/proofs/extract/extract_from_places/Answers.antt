@@ -1,11 +1,6 @@
-use Rattle.std.proofs.Common.{ap, inr, sym, ◌∙◌}
-use Rattle.ubi_volume.specs.Extract.{extent_len}
-use Rattle.std.proofs.KnownBytes.{Keeps-refl}
-use Rattle.std.proofs.lemmas.Result.{IfOk-weaker}
+use Rattle.ubi_commands.proofs.Prelude.{ap, inr, sym, ◌∙◌, extent_len, Keeps-refl, IfOk-weaker, Records, number_in, accepted, unread_from, wrote}
 use Rattle.ubi_volume.specs.declared.errors.ReadError.TheVariants as error
-use Rattle.ubi_table.specs.Records.{Records}
-use Rattle.ubi_commands.specs.Key.{number_in}
-use Rattle.ubi_commands.specs.Extract.{accepted, unread, unread_from, wrote}
+use Rattle.ubi_commands.specs.Extract.{unread}
 use Rattle.ubi_commands.proofs.Extracted.{error_is, nameless, places_cut, places_first, places_read, received}
 use Rattle.ubi_commands.proofs.extract.extract_from_places.Goals as goal
 

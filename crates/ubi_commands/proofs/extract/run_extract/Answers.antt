@@ -1,5 +1,4 @@
-use Rattle.ubi_scan.specs.Source.{Narrows, holds}
-use Rattle.ubi_scan.proofs.InMemory.{still}
+use Rattle.ubi_commands.proofs.Prelude.{Narrows, holds, still}
 use Rattle.ubi_commands.proofs.extract.run_extract.Goals as goal
 
 pub returns-in-Err-Write-clause-err : goal.returns-in-Err-Write-clause-err

@@ -1,8 +1,5 @@
-use Rattle.std.proofs.Common.{inl}
-use Rattle.std.proofs.KnownBytes.{Keeps-refl}
-use Rattle.ubi_scan.proofs.Narrowed.{source_narrowed}
-use Rattle.ubi_commands.specs.Extract.{refused, refused_from}
-use Rattle.ubi_compose.proofs.Refusals.{refuses}
+use Rattle.ubi_commands.proofs.Prelude.{inl, Keeps-refl, source_narrowed, refused_from, refuses}
+use Rattle.ubi_commands.specs.Extract.{refused}
 use Rattle.ubi_commands.proofs.extract.run_extract_from.Goals as goal
 
 pub returns-in_ok-refusal_line-in-Err-Refused-clause-ok : goal.returns-in_ok-refusal_line-in-Err-Refused-clause-ok

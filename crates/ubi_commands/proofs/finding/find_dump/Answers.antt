@@ -1,4 +1,4 @@
-use Rattle.ubi_commands.specs.Program.{given}
+use Rattle.ubi_commands.proofs.Prelude.{given}
 use Rattle.ubi_commands.proofs.finding.find_dump.Goals as goal
 
 pub returns-in-Given-clause-dump : goal.returns-in-Given-clause-dump

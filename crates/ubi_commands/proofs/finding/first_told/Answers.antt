@@ -1,4 +1,4 @@
-use Rattle.ubi_commands.specs.inner.Ended.{answered, no_source}
+use Rattle.ubi_commands.proofs.Prelude.{answered, no_source}
 use Rattle.ubi_commands.proofs.Found.{told_first}
 use Rattle.ubi_commands.proofs.Outcomes.{Tells-weaker}
 use Rattle.ubi_commands.proofs.finding.first_told.Goals as goal

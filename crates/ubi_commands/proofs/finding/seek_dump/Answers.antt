@@ -1,11 +1,5 @@
-use Rattle.std.proofs.Common.{◌∙◌, inl, inr, refl, subst, sym}
-use Rattle.std.proofs.lemmas.Result.{IfOk-weaker, err_from_is_err_and}
-use Rattle.ubi_scan.specs.Promised.{keeps_promise}
-use Rattle.ubi_commands.specs.Dump.{greatest_dump}
-use Rattle.ubi_commands.specs.Numbers.{sizes_of}
-use Rattle.ubi_commands.specs.Program.{IsDump, IsToldFirst, TellsNothing, file, no_file, told, unreadable, whole}
+use Rattle.ubi_commands.proofs.Prelude.{◌∙◌, inl, inr, refl, subst, sym, IfOk-weaker, err_from_is_err_and, keeps_promise, greatest_dump, sizes_of, IsDump, IsToldFirst, TellsNothing, file, no_file, told, unreadable, whole, Dump}
 use Rattle.ubi_commands.specs.declared.requests.Asked.TheVariants as asked
-use Rattle.ubi_commands.specs.declared.requests.Dump.{Dump}
 use Rattle.ubi_commands.proofs.Ended.{at_places, both, read_at_places}
 use Rattle.ubi_commands.proofs.Found.{is_there, no_read, tells_less}
 use Rattle.ubi_commands.proofs.KeptPart.{kept_of_told}

@@ -1,5 +1,4 @@
-use Rattle.std.proofs.Common.{◌∙◌}
-use Rattle.std.proofs.lemmas.Result.{err_from_is_err_and}
+use Rattle.ubi_commands.proofs.Prelude.{◌∙◌, err_from_is_err_and}
 use Rattle.ubi_commands.proofs.Found.{first_in_memory, nothing_in_memory}
 use Rattle.ubi_commands.proofs.Outcomes.{Tells-weaker}
 use Rattle.ubi_commands.proofs.finding.seek_whole.Goals as goal

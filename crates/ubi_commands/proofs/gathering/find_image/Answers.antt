@@ -1,6 +1,4 @@
-use Rattle.std.proofs.Common.{◌≡◌, List, Some, ap, subst, sym, ◌∙◌, ℕ}
-use Rattle.std.specs.Path.{path_with_file_name}
-use Rattle.ubi_commands.specs.Build.{IsUnreadLine, image_path, no_image, no_path}
+use Rattle.ubi_commands.proofs.Prelude.{◌≡◌, List, Some, ap, subst, sym, ◌∙◌, ℕ, path_with_file_name, IsUnreadLine, image_path, no_image, no_path}
 use Rattle.ubi_commands.proofs.GatheredParts.{one_apart}
 use Rattle.ubi_commands.proofs.gathering.find_image.Goals as goal
 

@@ -1,11 +1,4 @@
-use Rattle.std.proofs.Common.{◌≡◌, ◌≤◌, ◌∷◌, [], List, ap, arith, get_or, length, map, refl, subst, sym, vec_items}
-use Rattle.std.proofs.lemmas.Result.{err_from_is_err_and}
-use Rattle.std.proofs.lemmas.List.{take_all}
-use Rattle.ubi_config.specs.declared.section.Section.{Section}
-use Rattle.ubi_compose.proofs.Lists.{all_append}
-use Rattle.ubi_compose.specs.declared.recipe.Part.{Part}
-use Rattle.ubi_commands.specs.Build.{AreBesideOut, no_image, no_record}
-use Rattle.ubi_commands.specs.inner.Gathering.{AreSoFar}
+use Rattle.ubi_commands.proofs.Prelude.{◌≡◌, ◌≤◌, ◌∷◌, [], List, ap, arith, get_or, length, map, refl, subst, sym, vec_items, err_from_is_err_and, take_all, Section, all_append, Part, AreBesideOut, no_image, no_record, AreSoFar}
 use Rattle.ubi_commands.proofs.GatheredParts.{has_second, next_apart, next_gathered, next_total, none_gathered, sized_found, some_found, stops_at, unread_file, unread_named}
 use Rattle.ubi_commands.proofs.Outcomes.{Tells-weaker}
 use Rattle.ubi_commands.proofs.gathering.gather.Goals as goal

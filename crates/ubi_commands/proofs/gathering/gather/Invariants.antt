@@ -1,7 +1,4 @@
-use Rattle.std.proofs.Common.{◌≡◌, map, take, vec_items}
-use Rattle.std.specs.Prelude.{sum_by}
-use Rattle.ubi_commands.specs.Build.{AreBesideOut, AreUnread}
-use Rattle.ubi_commands.specs.inner.Gathering.{AreSoFar}
+use Rattle.ubi_commands.proofs.Prelude.{◌≡◌, map, take, vec_items, sum_by, AreBesideOut, AreUnread, AreSoFar}
 use Rattle.ubi_commands.proofs.gathering.gather.Given as goal
 
 abbrev pub invariant-loop-section : goal.invariant-loop-section

@@ -1,5 +1,4 @@
-use Rattle.std.proofs.Common.{◌≡◌, take, vec_items}
-use Rattle.ubi_commands.specs.Geometry.{options_lines}
+use Rattle.ubi_commands.proofs.Prelude.{◌≡◌, take, vec_items, options_lines}
 use Rattle.ubi_commands.proofs.geometry.options_lines.Given as goal
 
 abbrev pub invariant-loop-told : goal.invariant-loop-told

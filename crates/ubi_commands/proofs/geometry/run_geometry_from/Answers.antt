@@ -1,5 +1,4 @@
-use Rattle.ubi_scan.proofs.Narrowed.{source_narrowed}
-use Rattle.ubi_commands.specs.Geometry.{detected_from, undetected_from}
+use Rattle.ubi_commands.proofs.Prelude.{source_narrowed, detected_from, undetected_from}
 use Rattle.ubi_commands.proofs.DetectedLines.{of_cause, of_found}
 use Rattle.ubi_commands.proofs.geometry.run_geometry_from.Goals as goal
 

@@ -1,4 +1,4 @@
-use Rattle.ubi_commands.specs.Program.{bad_limit}
+use Rattle.ubi_commands.proofs.Prelude.{bad_limit}
 use Rattle.ubi_commands.proofs.image_file.allowed_geometry.Goals as goal
 
 pub returns-in_ok-limit_line-in-Err-clause-broken : goal.returns-in_ok-limit_line-in-Err-clause-broken

@@ -1,6 +1,5 @@
-use Rattle.std.proofs.Common.{Err, ap, ◌∙◌}
-use Rattle.std.proofs.lemmas.Result.{IfOk-weaker}
-use Rattle.ubi_commands.specs.AfterRun.{outcome, read_failed}
+use Rattle.ubi_commands.proofs.Prelude.{ap, ◌∙◌, IfOk-weaker, outcome, read_failed}
+use Rattle.std.proofs.Common.{Err}
 use Rattle.ubi_commands.proofs.image_file.told.Goals as goal
 
 pub returns-in-Ok : goal.returns-in-Ok

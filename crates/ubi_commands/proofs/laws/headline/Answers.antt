@@ -1,8 +1,4 @@
-use Rattle.ubi_volume.proofs.Either.{accepted_or_refused}
-use Rattle.ubi_volume.proofs.One.{Accepts-unique, never_accepted_and_refused}
-use Rattle.ubi_volume.proofs.OneCause.{one_cause}
-use Rattle.ubi_compose.proofs.Form.{normalising}
-use Rattle.ubi_change.proofs.PlanSurvives.{plan_survives_law}
+use Rattle.ubi_commands.proofs.Prelude.{accepted_or_refused, Accepts-unique, never_accepted_and_refused, one_cause, normalising, plan_survives_law}
 use Rattle.ubi_commands.proofs.laws.headline.Goals as goal
 
 pub returns : goal.returns

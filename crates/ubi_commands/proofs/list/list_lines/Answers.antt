@@ -1,6 +1,5 @@
-use Rattle.std.proofs.Common.{ap, length, ◌∙◌}
+use Rattle.ubi_commands.proofs.Prelude.{ap, length, ◌∙◌, Records}
 use Rattle.std.specs.FinMap as finite
-use Rattle.ubi_table.specs.Records.{Records}
 use Rattle.ubi_commands.proofs.ListedLines.{listing}
 use Rattle.ubi_commands.proofs.list.list_lines.Goals as goal
 

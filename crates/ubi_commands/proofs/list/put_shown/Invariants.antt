@@ -1,5 +1,4 @@
-use Rattle.std.proofs.Common.{◌≡◌, ◌++◌, take, vec_items}
-use Rattle.ubi_commands.specs.List.{shown}
+use Rattle.ubi_commands.proofs.Prelude.{◌≡◌, ◌++◌, take, vec_items, shown}
 use Rattle.ubi_commands.proofs.list.put_shown.Given as goal
 
 abbrev pub invariant-loop-byte : goal.invariant-loop-byte

@@ -1,17 +1,6 @@
-use Rattle.std.proofs.Common.{◌≡◌, ℕ, ◌<◌, ◌++◌, ◌∙◌, List, get_or, length, ap, sym, subst, arith}
-use Rattle.std.specs.Prelude.{None, Some}
+use Rattle.ubi_commands.proofs.Prelude.{◌≡◌, ℕ, ◌<◌, ◌++◌, ◌∙◌, List, get_or, length, ap, sym, subst, arith, None, flat_map, Sizes, rec_fault, VolumeRecord, Source, AreRecords, Records, Volume, listed_at, listed_item, places_narrowed, ArePlacesOf, volume_line}
+use Rattle.std.specs.Prelude.{Some}
 use Rattle.std.specs.FinMap as finite
-use Rattle.std.specs.List.{flat_map}
-use Rattle.ubi_media.specs.Geometry.{Sizes}
-use Rattle.ubi_media.specs.Record.{rec_fault}
-use Rattle.ubi_media.specs.declared.record.VolumeRecord.{VolumeRecord}
-use Rattle.ubi_scan.specs.Source.{Source}
-use Rattle.ubi_table.specs.Records.{AreRecords, Records}
-use Rattle.ubi_volume.specs.declared.content.Volume.{Volume}
-use Rattle.ubi_volume.proofs.Gathered.{listed_at, listed_item}
-use Rattle.ubi_volume.proofs.Narrowed.{places_narrowed}
-use Rattle.ubi_volume.specs.Places.{ArePlacesOf}
-use Rattle.ubi_commands.specs.List.{volume_line}
 use Rattle.ubi_commands.proofs.ListedLines.{lines_all, lines_more}
 use Rattle.ubi_commands.proofs.list.put_volumes.Goals as goal
 

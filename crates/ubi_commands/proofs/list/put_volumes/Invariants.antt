@@ -1,10 +1,5 @@
-use Rattle.std.proofs.Common.{◌≡◌, ◌++◌, take, vec_items}
+use Rattle.ubi_commands.proofs.Prelude.{◌≡◌, ◌++◌, take, vec_items, flat_map, image_of, Narrows, WhereHeld, ArePlaces, volume_line}
 use Rattle.std.specs.FinMap as finite
-use Rattle.std.specs.List.{flat_map}
-use Rattle.ubi_scan.specs.Image.{image_of}
-use Rattle.ubi_scan.specs.Source.{Narrows, WhereHeld}
-use Rattle.ubi_volume.specs.Places.{ArePlaces}
-use Rattle.ubi_commands.specs.List.{volume_line}
 use Rattle.ubi_commands.proofs.list.put_volumes.Given as goal
 
 abbrev pub invariant-loop-listed : goal.invariant-loop-listed

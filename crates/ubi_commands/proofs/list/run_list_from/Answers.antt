@@ -1,7 +1,5 @@
-use Rattle.ubi_scan.proofs.Narrowed.{source_narrowed}
-use Rattle.ubi_compose.proofs.Refusals.{refuses}
-use Rattle.ubi_volume.proofs.Narrowed.{places_narrowed}
-use Rattle.ubi_commands.specs.List.{accepted, listed, refused, unlisted}
+use Rattle.ubi_commands.proofs.Prelude.{source_narrowed, refuses, places_narrowed, listed, unlisted}
+use Rattle.ubi_commands.specs.List.{accepted, refused}
 use Rattle.ubi_commands.proofs.list.run_list_from.Goals as goal
 
 pub returns-in_ok-text-in-Ok-clause-listed : goal.returns-in_ok-text-in-Ok-clause-listed

@@ -1,6 +1,4 @@
-use Rattle.std.proofs.Common.{◌∙◌, ap, sym}
-use Rattle.std.proofs.lemmas.List.{take_all}
-use Rattle.ubi_commands.specs.BadBlocks.{masked}
+use Rattle.ubi_commands.proofs.Prelude.{◌∙◌, ap, sym, take_all, masked}
 use Rattle.ubi_commands.proofs.MaskedBytes.{masked_none}
 use Rattle.ubi_commands.proofs.masked.mask.Goals as goal
 

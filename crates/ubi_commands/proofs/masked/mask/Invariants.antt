@@ -1,5 +1,4 @@
-use Rattle.std.proofs.Common.{◌≡◌, take}
-use Rattle.ubi_commands.specs.BadBlocks.{masked}
+use Rattle.ubi_commands.proofs.Prelude.{◌≡◌, take, masked}
 use Rattle.ubi_commands.proofs.masked.mask.Given as goal
 
 -- the first eraseblocks are masked

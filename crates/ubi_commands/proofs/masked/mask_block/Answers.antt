@@ -1,5 +1,4 @@
-use Rattle.std.proofs.Common.{◌≡◌, ◌-◌, ◌∙◌, ap, arith, drop, length, replicate, take}
-use Rattle.std.proofs.lemmas.List.{length-drop, length-take-le}
+use Rattle.ubi_commands.proofs.Prelude.{◌≡◌, ◌-◌, ◌∙◌, ap, arith, drop, length, replicate, take, length-drop, length-take-le}
 use Rattle.ubi_commands.proofs.MaskedBytes.{length-masked, not_masked, now_masked}
 use Rattle.ubi_commands.proofs.masked.mask_block.Goals as goal
 

@@ -1,8 +1,5 @@
-use Rattle.std.proofs.Common.{◌≡◌, ◌/◌}
-use Rattle.ubi_commands.specs.Lines.{blocks_line}
-use Rattle.ubi_commands.specs.Normalise.{refused, wrote, wrote_nothing}
-use Rattle.ubi_scan.proofs.Narrowed.{source_narrowed}
-use Rattle.ubi_compose.proofs.Refusals.{refuses}
+use Rattle.ubi_commands.proofs.Prelude.{◌≡◌, ◌/◌, blocks_line, wrote_nothing, source_narrowed, refuses}
+use Rattle.ubi_commands.specs.Normalise.{refused, wrote}
 use Rattle.ubi_commands.proofs.Normalised.{of_streamed}
 use Rattle.ubi_commands.proofs.normalise.run_normalise.Goals as goal
 

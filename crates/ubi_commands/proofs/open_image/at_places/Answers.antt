@@ -1,7 +1,4 @@
-use Rattle.std.proofs.Common.{◌∙◌, ap}
-use Rattle.std.specs.Prelude.{option_map}
-use Rattle.ubi_commands.specs.Dump.{viewed}
-use Rattle.ubi_commands.specs.Program.{unfit}
+use Rattle.ubi_commands.proofs.Prelude.{◌∙◌, ap, option_map, viewed, unfit}
 use Rattle.ubi_commands.proofs.Outcomes.{Tells-weaker}
 use Rattle.ubi_commands.proofs.SeenBytes.{fits, has_len}
 use Rattle.ubi_commands.proofs.open_image.at_places.Goals as goal

@@ -1,4 +1,4 @@
-use Rattle.std.proofs.lemmas.Result.{err_from_is_err_and}
+use Rattle.ubi_commands.proofs.Prelude.{err_from_is_err_and}
 use Rattle.ubi_commands.proofs.open_image.frame_of.Goals as goal
 
 pub returns-in_err-geometry-clause-broken : goal.returns-in_err-geometry-clause-broken

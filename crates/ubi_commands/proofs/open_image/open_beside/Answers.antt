@@ -1,4 +1,4 @@
-use Rattle.std.proofs.Common.{ℕ, ◌≤◌, subst}
+use Rattle.ubi_commands.proofs.Prelude.{ℕ, ◌≤◌, subst}
 use Rattle.ubi_commands.proofs.OpensAtPlaces.{few_bytes, was_opened}
 use Rattle.ubi_commands.proofs.open_image.open_beside.Goals as goal
 use Rattle.ubi_commands.proofs.open_image.open_beside.Goals.{in_default-via-in-Some+else-len-gt0, in_default-via-in_default}

@@ -1,5 +1,4 @@
-use Rattle.std.proofs.Common.{ap, ◌∙◌}
-use Rattle.ubi_media.specs.Geometry.{Sizes}
+use Rattle.ubi_commands.proofs.Prelude.{ap, ◌∙◌, Sizes}
 use Rattle.ubi_commands.proofs.SeenBytes.{seen_is, viewed_sized}
 use Rattle.ubi_commands.proofs.open_image.placed.Goals as goal
 

@@ -1,4 +1,4 @@
-use Rattle.std.proofs.Common.{true}
+use Rattle.ubi_commands.proofs.Prelude.{true}
 use Rattle.ubi_commands.proofs.output_file.write_bytes.Given as goal
 
 abbrev pub ghosts-write_to : goal.ghosts-write_to

@@ -1,6 +1,4 @@
-use Rattle.std.proofs.Common.{refl, subst, sym}
-use Rattle.std.specs.Prelude.{IsSome}
-use Rattle.ubi_commands.specs.Program.{kept, lost}
+use Rattle.ubi_commands.proofs.Prelude.{refl, subst, sym, IsSome, kept, lost}
 use Rattle.ubi_commands.proofs.Outcomes.{no_bytes}
 use Rattle.ubi_commands.proofs.output_file.write_outcome.Goals as goal
 

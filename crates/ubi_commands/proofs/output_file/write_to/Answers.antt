@@ -1,4 +1,4 @@
-use Rattle.std.proofs.Common.{ap, refl, ◌∙◌}
+use Rattle.ubi_commands.proofs.Prelude.{ap, refl, ◌∙◌}
 use Rattle.ubi_commands.proofs.Outcomes.{kept_since, others_stay}
 use Rattle.ubi_commands.proofs.output_file.write_to.Goals as goal
 

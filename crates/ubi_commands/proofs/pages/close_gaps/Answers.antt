@@ -1,4 +1,4 @@
-use Rattle.std.proofs.Common.{◌≡◌, ◌+◌, ◌-◌, ℕ, arith, length, min, refl, subst, sym}
+use Rattle.ubi_commands.proofs.Prelude.{◌≡◌, ◌+◌, ◌-◌, ℕ, arith, length, min, refl, subst, sym}
 use Rattle.ubi_commands.proofs.PageBytes.{AreClosed, closed_first, closed_more}
 use Rattle.ubi_commands.proofs.pages.close_gaps.Goals as goal
 

@@ -1,4 +1,4 @@
-use Rattle.std.proofs.Common.{length, ◌-◌}
+use Rattle.ubi_commands.proofs.Prelude.{length, ◌-◌}
 use Rattle.ubi_commands.proofs.PageBytes.{AreClosed}
 use Rattle.ubi_commands.proofs.pages.close_gaps.Given as goal
 

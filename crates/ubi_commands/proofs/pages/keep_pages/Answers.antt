@@ -1,6 +1,4 @@
-use Rattle.std.proofs.Common.{◌∙◌, ap, sym, take}
-use Rattle.std.proofs.lemmas.List.{with_items_is}
-use Rattle.ubi_commands.specs.Views.{pages_of}
+use Rattle.ubi_commands.proofs.Prelude.{◌∙◌, ap, sym, take, with_items_is, pages_of}
 use Rattle.ubi_commands.proofs.PageBytes.{pages_none}
 use Rattle.ubi_commands.proofs.pages.keep_pages.Goals as goal
 

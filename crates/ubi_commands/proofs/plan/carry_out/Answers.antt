@@ -1,7 +1,4 @@
-use Rattle.std.proofs.Common.{ℕ, subst}
-use Rattle.ubi_scan.specs.Source.{blocks_in}
-use Rattle.ubi_volume.specs.Wrote.{First, Wrote}
-use Rattle.ubi_commands.specs.Plan.{cut_text, steps_done}
+use Rattle.ubi_commands.proofs.Prelude.{ℕ, subst, blocks_in, First, Wrote, cut_text, steps_done}
 use Rattle.ubi_commands.proofs.Cut.{failed_firsts, first_within, is_cut, part_read}
 use Rattle.ubi_commands.proofs.plan.carry_out.Goals as goal
 

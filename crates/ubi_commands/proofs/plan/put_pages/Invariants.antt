@@ -1,5 +1,4 @@
-use Rattle.std.proofs.Common.{◌≡◌, ◌++◌, take, vec_items}
-use Rattle.ubi_change.specs.Pages.{programmed}
+use Rattle.ubi_commands.proofs.Prelude.{◌≡◌, ◌++◌, take, vec_items, programmed}
 use Rattle.ubi_commands.proofs.plan.put_pages.Given as goal
 
 abbrev pub invariant-loop-step : goal.invariant-loop-step

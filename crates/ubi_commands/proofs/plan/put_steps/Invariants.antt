@@ -1,6 +1,4 @@
-use Rattle.std.proofs.Common.{◌≡◌, ◌++◌, take, vec_items}
-use Rattle.std.specs.List.{flat_map}
-use Rattle.ubi_commands.specs.Plan.{step_line}
+use Rattle.ubi_commands.proofs.Prelude.{◌≡◌, ◌++◌, take, vec_items, flat_map, step_line}
 use Rattle.ubi_commands.proofs.plan.put_steps.Given as goal
 
 abbrev pub invariant-loop-step : goal.invariant-loop-step

@@ -1,10 +1,5 @@
-use Rattle.std.proofs.Common.{◌≡◌, drop, refl, take}
-use Rattle.std.specs.Prelude.{option_map}
-use Rattle.std.proofs.lemmas.Result.{IfOk-weaker}
-use Rattle.ubi_scan.specs.Promised.{keeps_promise}
-use Rattle.ubi_commands.specs.BadBlocks.{masked}
-use Rattle.ubi_commands.specs.Views.{pages_of}
-use Rattle.ubi_commands.specs.Program.{avoided, image, no_file, no_image, no_list, unreadable, with_list}
+use Rattle.ubi_commands.proofs.Prelude.{◌≡◌, drop, refl, take, option_map, IfOk-weaker, keeps_promise, masked, pages_of, avoided, image, no_file, no_list, unreadable, with_list}
+use Rattle.ubi_commands.specs.Program.{no_image}
 use Rattle.ubi_commands.proofs.Ended.{OfFile-weaker, of_any}
 use Rattle.ubi_commands.proofs.Outcomes.{told}
 use Rattle.ubi_commands.proofs.planners.change_file.Goals as goal

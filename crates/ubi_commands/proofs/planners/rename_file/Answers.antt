@@ -1,6 +1,4 @@
-use Rattle.std.proofs.Common.{◌≡◌, refl}
-use Rattle.std.proofs.lemmas.Result.{IfOk-weaker}
-use Rattle.ubi_commands.specs.Program.{avoided, no_file, no_list, unreadable, with_list}
+use Rattle.ubi_commands.proofs.Prelude.{◌≡◌, refl, IfOk-weaker, avoided, no_file, no_list, unreadable, with_list}
 use Rattle.ubi_commands.proofs.Outcomes.{told}
 use Rattle.ubi_commands.proofs.planners.rename_file.Goals as goal
 

@@ -1,7 +1,5 @@
-use Rattle.std.proofs.Common.{◌≡◌, [], Bool, Some, None, ap}
-use Rattle.std.proofs.lemmas.Result.{IfOk-weaker}
-use Rattle.std.specs.Prelude.{if◌then◌else◌}
-use Rattle.ubi_commands.specs.Disk.{fresh}
+use Rattle.ubi_commands.proofs.Prelude.{◌≡◌, [], Bool, Some, ap, IfOk-weaker, if◌then◌else◌, fresh}
+use Rattle.std.proofs.Common.{None}
 use Rattle.ubi_commands.proofs.Ended.{OfFile-weaker}
 use Rattle.ubi_commands.proofs.Planned.{OfFile-after, OfFile-at, not_done, pages_end, without_pages}
 use Rattle.ubi_commands.proofs.planners.write_plan.Goals as goal

@@ -1,6 +1,5 @@
-use Rattle.std.proofs.Common.{◌≤◌, ◌++◌, length, length-append, rules, take, vec_items, arith}
-use Rattle.std.proofs.KnownBytes.{Consumes-trans}
-use Rattle.std.specs.Prelude.{Result, Ok, Err, OnErr}
+use Rattle.ubi_commands.proofs.Prelude.{◌≤◌, ◌++◌, length, rules, take, vec_items, arith, Consumes-trans, Result, Ok, Err, OnErr}
+use Rattle.std.proofs.Common.{length-append}
 use Rattle.ubi_commands.proofs.read.read_limited.Goals as goal
 
 -- what holds anyhow holds of an error

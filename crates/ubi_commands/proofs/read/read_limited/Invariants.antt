@@ -1,5 +1,4 @@
-use Rattle.std.proofs.Common.{◌≡◌, ◌+◌, vec_len, vec_items}
-use Rattle.std.specs.Io.KnownBytes.{Consumes}
+use Rattle.ubi_commands.proofs.Prelude.{◌≡◌, ◌+◌, vec_len, vec_items, Consumes}
 use Rattle.ubi_commands.proofs.read.read_limited.Given as goal
 
 abbrev pub invariant-loop-left : goal.invariant-loop-left

@@ -1,6 +1,5 @@
-use Rattle.std.proofs.Common.{◌+◌, ◌++◌, ◌≤◌, arith, length-append, rules, take}
-use Rattle.std.proofs.KnownBytes.{Consumes-trans}
-use Rattle.std.proofs.lemmas.List.{length-take-le}
+use Rattle.ubi_commands.proofs.Prelude.{◌+◌, ◌++◌, ◌≤◌, arith, rules, take, Consumes-trans, length-take-le}
+use Rattle.std.proofs.Common.{length-append}
 use Rattle.ubi_commands.proofs.read.skip_limited.Goals as goal
 
 pub loop-skipped-preserved : goal.loop-skipped-preserved

@@ -1,5 +1,4 @@
-use Rattle.std.proofs.Common.{◌≡◌, ◌≤◌, ◌-◌, List, length, ℕ}
-use Rattle.std.specs.Io.KnownBytes.{Consumes}
+use Rattle.ubi_commands.proofs.Prelude.{◌≡◌, ◌≤◌, ◌-◌, List, length, ℕ, Consumes}
 use Rattle.ubi_commands.proofs.read.skip_limited.Given as goal
 
 -- what was passed over

@@ -1,6 +1,4 @@
-use Rattle.std.proofs.Common.{refl}
-use Rattle.std.proofs.lemmas.Result.{IfOk-weaker}
-use Rattle.ubi_commands.specs.Program.{of_dump, untold}
+use Rattle.ubi_commands.proofs.Prelude.{refl, IfOk-weaker, of_dump, untold}
 use Rattle.ubi_commands.proofs.Outcomes.{told}
 use Rattle.ubi_commands.proofs.readers.read_file.Goals as goal
 

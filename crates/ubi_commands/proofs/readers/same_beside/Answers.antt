@@ -1,8 +1,4 @@
-use Rattle.std.proofs.Common.{◌∙◌, refl}
-use Rattle.std.proofs.lemmas.Result.{IfOk-weaker}
-use Rattle.ubi_scan.specs.Promised.{keeps_promise}
-use Rattle.ubi_commands.specs.inner.Ended.{answered}
-use Rattle.ubi_commands.specs.Program.{no_file, unreadable}
+use Rattle.ubi_commands.proofs.Prelude.{◌∙◌, refl, IfOk-weaker, keeps_promise, answered, no_file, unreadable}
 use Rattle.ubi_commands.proofs.Ended.{beside_bytes, beside_places, both}
 use Rattle.ubi_commands.proofs.Outcomes.{told}
 use Rattle.ubi_commands.proofs.readers.same_beside.Goals as goal

@@ -1,9 +1,4 @@
-use Rattle.std.proofs.Common.{◌≡◌, ◌∙◌, ap, refl, sym}
-use Rattle.std.proofs.lemmas.Result.{IfOk-weaker}
-use Rattle.ubi_scan.specs.Promised.{keeps_promise}
-use Rattle.ubi_commands.specs.Numbers.{sizes_of}
-use Rattle.ubi_commands.specs.Program.{OfFile, no_file, unreadable}
-use Rattle.ubi_commands.specs.Same.{ComparesOf}
+use Rattle.ubi_commands.proofs.Prelude.{◌≡◌, ◌∙◌, ap, refl, sym, IfOk-weaker, keeps_promise, sizes_of, OfFile, no_file, unreadable, ComparesOf}
 use Rattle.ubi_commands.proofs.Ended.{OfFile-sized, Works-weaker, at_places, by_bytes}
 use Rattle.ubi_commands.proofs.Outcomes.{told}
 use Rattle.ubi_commands.proofs.readers.same_dumps.Goals as goal

@@ -1,6 +1,4 @@
-use Rattle.std.proofs.Common.{◌∙◌, sym, true≢false}
-use Rattle.std.proofs.lemmas.Result.{IfOk-weaker}
-use Rattle.ubi_commands.specs.Program.{alike, no_left, no_right, unlike}
+use Rattle.ubi_commands.proofs.Prelude.{◌∙◌, sym, true≢false, IfOk-weaker, alike, no_left, no_right, unlike}
 use Rattle.ubi_commands.proofs.Outcomes.{told}
 use Rattle.ubi_commands.proofs.readers.same_files.Goals as goal
 

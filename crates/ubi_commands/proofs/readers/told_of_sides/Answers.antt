@@ -1,6 +1,5 @@
-use Rattle.std.proofs.Common.{Err, ap, ◌∙◌}
-use Rattle.std.proofs.lemmas.Result.{IfOk-weaker}
-use Rattle.ubi_commands.specs.inner.Ended.{comparison, left_failed, right_failed}
+use Rattle.ubi_commands.proofs.Prelude.{ap, ◌∙◌, IfOk-weaker, comparison, left_failed, right_failed}
+use Rattle.std.proofs.Common.{Err}
 use Rattle.ubi_commands.proofs.readers.told_of_sides.Goals as goal
 
 pub returns-in-Ok : goal.returns-in-Ok

@@ -1,17 +1,6 @@
-use Rattle.std.proofs.Common.{◌≡◌, List, ℕ, ap, sym, subst, ◌∙◌}
-use Rattle.std.specs.Prelude.{IfOk, Some, codes}
-use Rattle.std.proofs.KnownBytes.{Keeps-refl}
-use Rattle.std.proofs.lemmas.Option.{same_Some}
-use Rattle.ubi_compose.specs.Words.{shown_name}
-use Rattle.ubi_scan.specs.Source.{Source, blocks_in}
-use Rattle.ubi_volume.specs.Wrote.{All, Wrote}
-use Rattle.ubi_change.specs.Fitting.{AllWithin}
-use Rattle.ubi_change.specs.RenamePlanned.{IsPlannedRename, IsRenameError}
-use Rattle.ubi_change.specs.declared.step.Step.{Step}
-use Rattle.ubi_commands.specs.Answer.{Gives, says}
-use Rattle.ubi_commands.specs.Lines.{refused_line}
-use Rattle.ubi_commands.specs.Plan.{cut_text, steps_done}
-use Rattle.ubi_commands.specs.Rename.{not_blank_from, nameless_from, unplanned_from}
+use Rattle.ubi_commands.proofs.Prelude.{◌≡◌, List, ℕ, ap, sym, subst, ◌∙◌, IfOk, codes, Keeps-refl, same_Some, shown_name, Source, blocks_in, All, Wrote, AllWithin, IsPlannedRename, IsRenameError, Step, Gives, says, refused_line, cut_text, steps_done, nameless_from}
+use Rattle.std.specs.Prelude.{Some}
+use Rattle.ubi_commands.specs.Rename.{not_blank_from, unplanned_from}
 use Rattle.ubi_commands.proofs.Edited.{rename_cut, rename_done, rename_narrowed}
 use Rattle.ubi_commands.proofs.rename.run_rename_from.Goals as goal
 

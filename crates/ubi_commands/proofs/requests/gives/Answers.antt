@@ -1,5 +1,4 @@
-use Rattle.std.proofs.Common.{◌∙◌}
-use Rattle.clap.specs.Matches.{found_of}
+use Rattle.ubi_commands.proofs.Prelude.{◌∙◌, found_of}
 use Rattle.ubi_commands.proofs.CommandWords.{is_given}
 use Rattle.ubi_commands.proofs.requests.gives.Goals as goal
 

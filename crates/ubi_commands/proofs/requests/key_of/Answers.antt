@@ -1,5 +1,4 @@
-use Rattle.std.specs.Prelude.{codes}
-use Rattle.ubi_commands.specs.inner.CommandLine.{words_in}
+use Rattle.ubi_commands.proofs.Prelude.{codes, words_in}
 use Rattle.ubi_commands.proofs.GivenKey.{neither, not_given}
 use Rattle.ubi_commands.proofs.requests.key_of.Goals as goal
 

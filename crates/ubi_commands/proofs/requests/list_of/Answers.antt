@@ -1,5 +1,4 @@
-use Rattle.std.proofs.Common.{refl}
-use Rattle.ubi_commands.specs.inner.CommandLine.{words_in}
+use Rattle.ubi_commands.proofs.Prelude.{refl, words_in}
 use Rattle.ubi_commands.proofs.Lacking.{no_asked}
 use Rattle.ubi_commands.proofs.requests.list_of.Goals as goal
 

@@ -1,6 +1,4 @@
-use Rattle.std.proofs.Common.{◌∙◌}
-use Rattle.clap.specs.Matches.{found_of}
-use Rattle.clap.proofs.WalkLemmas.{first_value-rows}
+use Rattle.ubi_commands.proofs.Prelude.{◌∙◌, found_of, first_value-rows}
 use Rattle.ubi_commands.proofs.requests.may_text_of.Goals as goal
 
 pub returns : goal.returns

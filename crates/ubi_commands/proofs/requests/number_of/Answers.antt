@@ -1,5 +1,4 @@
-use Rattle.std.specs.Str.Parse.{ExplainsUnsignedError, HasUnsignedDigitsIfOk, ParsesUnsigned}
-use Rattle.clap.specs.Matches.{found_of}
+use Rattle.ubi_commands.proofs.Prelude.{ExplainsUnsignedError, HasUnsignedDigitsIfOk, ParsesUnsigned, found_of}
 use Rattle.ubi_commands.proofs.CommandWords.{number_given, one_given}
 use Rattle.ubi_commands.proofs.requests.number_of.Goals as goal
 

@@ -1,4 +1,4 @@
-use Rattle.clap.specs.Matches.{found_of}
+use Rattle.ubi_commands.proofs.Prelude.{found_of}
 use Rattle.ubi_commands.proofs.CommandWords.{text_given}
 use Rattle.ubi_commands.proofs.requests.text_of.Goals as goal
 

@@ -1,6 +1,4 @@
-use Rattle.ubi_scan.proofs.Narrowed.{source_narrowed}
-use Rattle.ubi_compose.proofs.Refusals.{refuses}
-use Rattle.ubi_commands.specs.Same.{compared, left_refused, left_refused_from, right_refused, right_refused_from}
+use Rattle.ubi_commands.proofs.Prelude.{source_narrowed, refuses, compared, left_refused, left_refused_from, right_refused, right_refused_from}
 use Rattle.ubi_commands.proofs.Comparing.{of_images}
 use Rattle.ubi_commands.proofs.same.run_same_from.Goals as goal
 

@@ -1,6 +1,4 @@
-use Rattle.std.proofs.Common.{arith}
-use Rattle.ubi_scan.proofs.Narrowed.{source_narrowed}
-use Rattle.ubi_commands.specs.Show.{no_block_from, no_size, shown_from}
+use Rattle.ubi_commands.proofs.Prelude.{arith, source_narrowed, no_block_from, no_size, shown_from}
 use Rattle.ubi_commands.proofs.ShownLines.{of_block, of_no_block, of_size}
 use Rattle.ubi_commands.proofs.show.run_show_from.Goals as goal
 

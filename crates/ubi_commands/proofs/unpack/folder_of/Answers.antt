@@ -1,8 +1,4 @@
-use Rattle.std.proofs.Common.{◌≡◌, ◌+◌, ◌++◌, ◌∷◌, [], ◌∙◌, List, ap, subst, sym, take, vec_items}
-use Rattle.std.proofs.lemmas.List.{take_more}
-use Rattle.ubi_commands.specs.Unpack.{Listed}
-use Rattle.ubi_commands.specs.inner.Folder.{AreFilesOf}
-use Rattle.ubi_commands.specs.declared.unpack.VolumeFile.{VolumeFile}
+use Rattle.ubi_commands.proofs.Prelude.{◌≡◌, ◌+◌, ◌++◌, ◌∷◌, [], ◌∙◌, List, ap, subst, sym, take, vec_items, take_more, Listed, AreFilesOf, VolumeFile}
 use Rattle.ubi_commands.proofs.Unpacked.{files_more}
 use Rattle.ubi_commands.proofs.unpack.folder_of.Goals as goal
 

@@ -1,5 +1,4 @@
-use Rattle.std.proofs.Common.{take, vec_items}
-use Rattle.ubi_commands.specs.inner.Folder.{AreFilesOf}
+use Rattle.ubi_commands.proofs.Prelude.{take, vec_items, AreFilesOf}
 use Rattle.ubi_commands.proofs.unpack.folder_of.Given as goal
 
 abbrev pub invariant-loop-listed : goal.invariant-loop-listed

@@ -1,6 +1,4 @@
-use Rattle.std.proofs.Common.{◌≡◌, ◌++◌, string_bytes, take}
-use Rattle.std.specs.List.{flat_map}
-use Rattle.ubi_commands.specs.Unpack.{file_byte}
+use Rattle.ubi_commands.proofs.Prelude.{◌≡◌, ◌++◌, string_bytes, take, flat_map, file_byte}
 use Rattle.ubi_commands.proofs.unpack.put_file_name.Given as goal
 
 abbrev pub invariant-loop-byte : goal.invariant-loop-byte

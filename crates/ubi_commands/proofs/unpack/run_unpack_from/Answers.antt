@@ -1,6 +1,4 @@
-use Rattle.std.proofs.Common.{refl}
-use Rattle.ubi_scan.proofs.Narrowed.{source_narrowed}
-use Rattle.ubi_compose.proofs.Refusals.{refuses}
+use Rattle.ubi_commands.proofs.Prelude.{refl, source_narrowed, refuses}
 use Rattle.ubi_commands.specs.Unpack.{refused, refused_from}
 use Rattle.ubi_commands.proofs.unpack.run_unpack_from.Goals as goal
 

@@ -1,5 +1,5 @@
-use Rattle.std.proofs.Common.{Err, ap, ◌∙◌}
-use Rattle.ubi_commands.specs.AfterRun.{outcome, read_failed}
+use Rattle.ubi_commands.proofs.Prelude.{ap, ◌∙◌, outcome, read_failed}
+use Rattle.std.proofs.Common.{Err}
 use Rattle.ubi_commands.proofs.unpack.told_or.Goals as goal
 
 pub returns-in-Ok-clause-told : goal.returns-in-Ok-clause-told

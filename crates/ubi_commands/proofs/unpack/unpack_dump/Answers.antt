@@ -1,8 +1,4 @@
-use Rattle.std.proofs.Common.{◌∙◌}
-use Rattle.std.proofs.lemmas.Result.{IfErr-weaker, IfOk-weaker}
-use Rattle.ubi_scan.specs.Promised.{keeps_promise}
-use Rattle.ubi_commands.specs.Program.{no_file, unreadable}
-use Rattle.ubi_commands.specs.Unpack.{UnpacksOf}
+use Rattle.ubi_commands.proofs.Prelude.{◌∙◌, IfErr-weaker, IfOk-weaker, keeps_promise, no_file, unreadable, UnpacksOf}
 use Rattle.ubi_commands.proofs.Ended.{both, told_at_places, told_by_bytes}
 use Rattle.ubi_commands.proofs.Outcomes.{told}
 use Rattle.ubi_commands.proofs.unpack.unpack_dump.Goals as goal

@@ -1,11 +1,6 @@
-use Rattle.std.proofs.Common.{ℕ, ◌<◌, ◌∙◌, List, ap, arith, length, refl, subst, sym}
-use Rattle.std.specs.Prelude.{IfSome, Option}
+use Rattle.ubi_commands.proofs.Prelude.{ℕ, ◌<◌, ◌∙◌, List, ap, arith, length, refl, subst, sym, IfSome, Option, Records, places_narrowed, OutsideStay, Listed, no_folder, AreFilesOf}
 use Rattle.std.specs.FinMap as finite
-use Rattle.ubi_table.specs.Records.{Records}
-use Rattle.ubi_volume.proofs.Narrowed.{places_narrowed}
-use Rattle.ubi_commands.specs.Disk.{OutsideStay}
-use Rattle.ubi_commands.specs.Unpack.{Listed, no_folder, told}
-use Rattle.ubi_commands.specs.inner.Folder.{AreFilesOf}
+use Rattle.ubi_commands.specs.Unpack.{told}
 use Rattle.ubi_commands.proofs.Unpacked.{all_done, files_count, some_line, stopped_at}
 use Rattle.ubi_commands.proofs.unpack.unpack_places.Goals as goal
 

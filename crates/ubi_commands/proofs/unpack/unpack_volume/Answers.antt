@@ -1,5 +1,4 @@
-use Rattle.std.proofs.Common.{ap, sym, ◌∙◌}
-use Rattle.ubi_volume.specs.Extract.{extent_len}
+use Rattle.ubi_commands.proofs.Prelude.{ap, sym, ◌∙◌, extent_len}
 use Rattle.ubi_commands.proofs.Outcomes.{kept_after}
 use Rattle.ubi_commands.proofs.Unpacked.{all_unpacked, can_read, none_unpacked}
 use Rattle.ubi_commands.proofs.unpack.unpack_volume.Goals as goal

@@ -1,13 +1,5 @@
-use Rattle.std.proofs.Common.{◌≡◌, ◌<◌, ◌≤◌, ◌∙◌, List, ap, arith, get_or, length, subst, sym}
-use Rattle.std.specs.Prelude.{Err}
+use Rattle.ubi_commands.proofs.Prelude.{◌≡◌, ◌<◌, ◌≤◌, ◌∙◌, List, ap, arith, get_or, length, subst, sym, Err, take_all, Source, Records, ArePlacesOf, read_volume, places_narrowed, AreUnpacked, Listed}
 use Rattle.std.specs.FinMap as finite
-use Rattle.std.proofs.lemmas.List.{take_all}
-use Rattle.ubi_scan.specs.Source.{Source}
-use Rattle.ubi_table.specs.Records.{Records}
-use Rattle.ubi_volume.specs.Places.{ArePlacesOf}
-use Rattle.ubi_volume.specs.Reading.{read_volume}
-use Rattle.ubi_volume.proofs.Narrowed.{places_narrowed}
-use Rattle.ubi_commands.specs.Unpack.{AreUnpacked, Listed}
 use Rattle.ubi_commands.proofs.Unpacked.{file_at, files_count, next_unpacked, next_unwritten, outside_more}
 use Rattle.ubi_commands.proofs.unpack.unpack_volumes.Goals as goal
 

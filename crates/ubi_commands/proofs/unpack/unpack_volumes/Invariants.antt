@@ -1,11 +1,5 @@
-use Rattle.std.proofs.Common.{◌≡◌, take}
+use Rattle.ubi_commands.proofs.Prelude.{◌≡◌, take, image_of, Narrows, WhereHeld, ArePlaces, read_volume, OutsideStay, AreUnpacked}
 use Rattle.std.specs.FinMap as finite
-use Rattle.ubi_scan.specs.Image.{image_of}
-use Rattle.ubi_scan.specs.Source.{Narrows, WhereHeld}
-use Rattle.ubi_volume.specs.Places.{ArePlaces}
-use Rattle.ubi_volume.specs.Reading.{read_volume}
-use Rattle.ubi_commands.specs.Disk.{OutsideStay}
-use Rattle.ubi_commands.specs.Unpack.{AreUnpacked}
 use Rattle.ubi_commands.proofs.unpack.unpack_volumes.Given as goal
 
 abbrev pub invariant-loop-i : goal.invariant-loop-i

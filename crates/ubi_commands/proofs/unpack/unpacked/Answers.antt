@@ -1,8 +1,5 @@
-use Rattle.std.proofs.Common.{◌≡◌, ℕ, ◌++◌, ◌∙◌, List, Result, ap, cond, get_or, sym, take}
-use Rattle.std.specs.Prelude.{is_ok}
-use Rattle.ubi_volume.specs.Extract.{extent_in, extent_len}
-use Rattle.ubi_volume.specs.declared.errors.ReadError.{ReadError}
-use Rattle.ubi_commands.specs.Unpack.{unpacked_line, unpacked_lines, unpacked_status}
+use Rattle.ubi_commands.proofs.Prelude.{◌≡◌, ℕ, ◌++◌, ◌∙◌, List, ap, cond, get_or, sym, take, is_ok, extent_in, extent_len, ReadError, unpacked_line, unpacked_lines, unpacked_status}
+use Rattle.std.proofs.Common.{Result}
 use Rattle.ubi_commands.proofs.Unpacked.{lines_more, status_more}
 use Rattle.ubi_commands.proofs.unpack.unpacked.Goals as goal
 

@@ -1,6 +1,4 @@
-use Rattle.std.proofs.Common.{◌≡◌, take, vec_items}
-use Rattle.ubi_volume.specs.Extract.{extent_in, extent_len}
-use Rattle.ubi_commands.specs.Unpack.{unpacked_lines, unpacked_status}
+use Rattle.ubi_commands.proofs.Prelude.{◌≡◌, take, vec_items, extent_in, extent_len, unpacked_lines, unpacked_status}
 use Rattle.ubi_commands.proofs.unpack.unpacked.Given as goal
 
 abbrev pub invariant-loop-listed : goal.invariant-loop-listed

@@ -1,10 +1,4 @@
-use Rattle.std.proofs.Common.{◌≡◌, ◌∙◌, ◌*◌, ◌<◌, ap, ap₂, rules, sym, ℕ}
-use Rattle.ubi_media.specs.Geometry.{Sizes}
-use Rattle.ubi_commands.specs.Dump.{as_read}
-use Rattle.ubi_commands.specs.Numbers.{sizes_of}
-use Rattle.ubi_commands.specs.Program.{unfit_whole}
-use Rattle.ubi_commands.specs.Views.{misfit, pages_of}
-use Rattle.ubi_commands.specs.declared.view.FilePart.{FilePart}
+use Rattle.ubi_commands.proofs.Prelude.{◌≡◌, ◌∙◌, ◌*◌, ◌<◌, ap, ap₂, rules, sym, ℕ, Sizes, as_read, sizes_of, unfit_whole, misfit, pages_of, FilePart}
 use Rattle.ubi_commands.proofs.Outcomes.{Tells-weaker}
 use Rattle.ubi_commands.proofs.SeenBytes.{judged_seen, length-whole}
 use Rattle.ubi_commands.proofs.whole_dump.image_of.Goals as goal

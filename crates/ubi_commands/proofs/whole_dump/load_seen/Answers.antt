@@ -1,4 +1,4 @@
-use Rattle.ubi_commands.specs.Program.{cannot_read, unreadable}
+use Rattle.ubi_commands.proofs.Prelude.{cannot_read, unreadable}
 use Rattle.ubi_commands.proofs.Outcomes.{Tells-weaker}
 use Rattle.ubi_commands.proofs.whole_dump.load_seen.Goals as goal
 

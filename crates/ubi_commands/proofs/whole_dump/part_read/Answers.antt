@@ -1,4 +1,4 @@
-use Rattle.std.proofs.Common.{◌∙◌, ap}
+use Rattle.ubi_commands.proofs.Prelude.{◌∙◌, ap}
 use Rattle.ubi_commands.proofs.KeptPart.{as_far, as_read_some, raw}
 use Rattle.ubi_commands.proofs.whole_dump.part_read.Goals as goal
 

@@ -1,5 +1,4 @@
-use Rattle.std.proofs.Common.{◌≡◌, ◌∙◌, length}
-use Rattle.std.proofs.lemmas.List.{with_items_is}
+use Rattle.ubi_commands.proofs.Prelude.{◌≡◌, ◌∙◌, length, with_items_is}
 use Rattle.ubi_commands.proofs.whole_dump.see.Goals as goal
 
 pub returns : goal.returns

@@ -1,5 +1,5 @@
-use Rattle.std.proofs.Common.{Err, ap}
-use Rattle.ubi_commands.specs.inner.Ended.{no_read, no_write}
+use Rattle.ubi_commands.proofs.Prelude.{ap, no_read, no_write}
+use Rattle.std.proofs.Common.{Err}
 use Rattle.ubi_commands.proofs.writers.failed.Goals as goal
 
 pub returns-in-Read : goal.returns-in-Read

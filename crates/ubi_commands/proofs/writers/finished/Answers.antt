@@ -1,6 +1,5 @@
-use Rattle.std.proofs.Common.{ap, refl}
-use Rattle.std.specs.Prelude.{is_some}
-use Rattle.ubi_commands.specs.inner.Ended.{done, unopened}
+use Rattle.ubi_commands.proofs.Prelude.{ap, refl, is_some, unopened}
+use Rattle.ubi_commands.specs.inner.Ended.{done}
 use Rattle.ubi_commands.proofs.Ended.{is_open}
 use Rattle.ubi_commands.proofs.writers.finished.Goals as goal
 

@@ -1,7 +1,4 @@
-use Rattle.std.proofs.Common.{List, ap, refl, subst, sym, ◌∙◌, ℕ}
-use Rattle.std.specs.Prelude.{IfOk, Option}
-use Rattle.ubi_commands.specs.Disk.{fresh}
-use Rattle.ubi_commands.specs.Late.{contents_of}
+use Rattle.ubi_commands.proofs.Prelude.{List, ap, refl, subst, sym, ◌∙◌, ℕ, IfOk, Option, fresh, contents_of}
 use Rattle.ubi_commands.proofs.Into.{into_file, memory_ended, still_unopened}
 use Rattle.ubi_commands.proofs.Outcomes.{kept_since, others_stay}
 use Rattle.ubi_commands.proofs.writers.work_late.Goals as goal

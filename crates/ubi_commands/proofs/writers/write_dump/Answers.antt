@@ -1,6 +1,4 @@
-use Rattle.std.proofs.Common.{[]}
-use Rattle.std.proofs.lemmas.Result.{IfOk-weaker}
-use Rattle.ubi_commands.specs.Program.{no_file, unreadable}
+use Rattle.ubi_commands.proofs.Prelude.{[], IfOk-weaker, no_file, unreadable}
 use Rattle.ubi_commands.proofs.Outcomes.{told}
 use Rattle.ubi_commands.proofs.writers.write_dump.Goals as goal
 

@@ -1,7 +1,4 @@
-use Rattle.std.proofs.Common.{◌∙◌}
-use Rattle.std.proofs.lemmas.Result.{IfOk-weaker}
-use Rattle.ubi_scan.specs.Promised.{keeps_promise}
-use Rattle.ubi_commands.specs.Program.{WritesInto}
+use Rattle.ubi_commands.proofs.Prelude.{◌∙◌, IfOk-weaker, keeps_promise, WritesInto}
 use Rattle.ubi_commands.proofs.Ended.{at_places, by_bytes}
 use Rattle.ubi_commands.proofs.writers.write_opened.Goals as goal
 

@@ -1,9 +1,4 @@
-use Rattle.std.proofs.Common.{◌≡◌, ◌-◌, List, ℕ, ◌++◌, length, length-drop, length-take-le, take, drop, ap, refl, ◌∙◌, arith}
-use Rattle.ubi_media.specs.Ec.{ec_bytes}
-use Rattle.ubi_media.specs.Fields.{blank}
-use Rattle.ubi_media.specs.Geometry.{leb_size}
-use Rattle.ubi_media.specs.Vid.{vid_bytes}
-use Rattle.ubi_compose.specs.Normal.{new_ec}
+use Rattle.ubi_compose.proofs.Prelude.{◌≡◌, ◌-◌, List, ℕ, ◌++◌, length, length-drop, length-take-le, take, drop, ap, refl, ◌∙◌, arith, ec_bytes, blank, leb_size, vid_bytes, new_ec}
 use Rattle.ubi_compose.proofs.LaidPieces.{laid_in_place}
 use Rattle.ubi_compose.proofs.buffer.lay.Goals as goal
 

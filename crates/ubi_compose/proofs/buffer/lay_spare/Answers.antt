@@ -1,8 +1,4 @@
-use Rattle.std.proofs.Common.{◌-◌, ◌++◌, ◌∙◌, ap, length, sym}
-use Rattle.ubi_media.specs.Ec.{ec_bytes}
-use Rattle.ubi_media.specs.Fields.{blank}
-use Rattle.ubi_scan.proofs.Filled.{filled-is}
-use Rattle.ubi_compose.specs.Normal.{new_ec}
+use Rattle.ubi_compose.proofs.Prelude.{◌-◌, ◌++◌, ◌∙◌, ap, length, sym, ec_bytes, blank, filled-is, new_ec}
 use Rattle.ubi_compose.proofs.buffer.lay_spare.Goals as goal
 
 pub returns : goal.returns

@@ -1,10 +1,4 @@
-use Rattle.std.proofs.Common.{◌≡◌, ◌∙◌, ap, length, sym, subst, arith}
-use Rattle.std.proofs.lemmas.Result.{IfErr-weaker, IfOk-weaker}
-use Rattle.ubi_volume.specs.Wrote.{All}
-use Rattle.ubi_volume.proofs.Narrowed.{wrote_where}
-use Rattle.ubi_compose.specs.Building.{CanBuild, image_built, those}
-use Rattle.ubi_compose.specs.Built.{Parts, Reaches}
-use Rattle.ubi_compose.specs.inner.Building.{whole_bytes}
+use Rattle.ubi_compose.proofs.Prelude.{◌≡◌, ◌∙◌, ap, length, sym, subst, arith, IfErr-weaker, IfOk-weaker, All, wrote_where, CanBuild, image_built, those, Parts, Reaches, whole_bytes}
 use Rattle.ubi_compose.proofs.BuiltMeaning.{table_room}
 use Rattle.ubi_compose.proofs.BuiltRoom.{built_accepted}
 use Rattle.ubi_compose.proofs.BuiltVolumes.{image_is}

@@ -1,11 +1,5 @@
-use Rattle.std.proofs.Common.{◌≡◌, ◌+◌, ◌*◌, ◌<◌, ◌≤◌, ◌∙◌, ap, get_or, length, sym, subst, arith, Some}
-use Rattle.std.specs.Prelude.{None, slice_get}
-use Rattle.std.proofs.lemmas.List.Sums.{sum_by-take-le, sum_by_more}
-use Rattle.std.proofs.lemmas.Option.{slice_get-get_or}
-use Rattle.ubi_media.specs.Geometry.{Sizes}
-use Rattle.ubi_media.specs.Record.{rec_fault, usable}
-use Rattle.ubi_compose.specs.Built.{Parts, pieces_of}
-use Rattle.ubi_compose.specs.declared.recipe.Part.{Part}
+use Rattle.ubi_compose.proofs.Prelude.{◌≡◌, ◌+◌, ◌*◌, ◌<◌, ◌≤◌, ◌∙◌, ap, get_or, length, sym, subst, arith, None, slice_get, sum_by-take-le, sum_by_more, slice_get-get_or, Sizes, rec_fault, usable, Parts, pieces_of, Part}
+use Rattle.std.proofs.Common.{Some}
 use Rattle.ubi_compose.proofs.ListedParts.{few_blocks, part_fits, part_sound}
 use Rattle.ubi_compose.proofs.building.most_blocks.Goals as goal
 

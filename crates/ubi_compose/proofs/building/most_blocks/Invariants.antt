@@ -1,6 +1,4 @@
-use Rattle.std.proofs.Common.{◌≡◌, ◌+◌, take}
-use Rattle.std.specs.Prelude.{sum_by}
-use Rattle.ubi_compose.specs.Built.{pieces_of}
+use Rattle.ubi_compose.proofs.Prelude.{◌≡◌, ◌+◌, take, sum_by, pieces_of}
 use Rattle.ubi_compose.proofs.building.most_blocks.Given as goal
 
 -- those of the table and of the parts so far

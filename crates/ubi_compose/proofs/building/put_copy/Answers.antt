@@ -1,17 +1,5 @@
-use Rattle.std.proofs.Common.{◌≡◌, ℕ, ◌∙◌, List, ap, sym, arith}
-use Rattle.ubi_media.specs.Geometry.{Sizes}
-use Rattle.ubi_media.specs.Vid.{plain}
-use Rattle.ubi_media.specs.declared.vid.VidHeader.{VidHeader}
+use Rattle.ubi_compose.proofs.Prelude.{◌≡◌, ℕ, ◌∙◌, List, ap, sym, arith, Sizes, plain, VidHeader, layout, anything, sound, All, wrote_where, those, Parts, of_write, table_block, table_of, laid_text, laid_bytes, new_ec}
 use Rattle.ubi_media.specs.declared.vid.VolKind.TheVariants as kind
-use Rattle.ubi_scan.specs.Members.{layout}
-use Rattle.ubi_scan.specs.inner.Held.{anything, sound}
-use Rattle.ubi_volume.specs.Wrote.{All}
-use Rattle.ubi_volume.proofs.Narrowed.{wrote_where}
-use Rattle.ubi_compose.specs.Building.{those}
-use Rattle.ubi_compose.specs.Built.{Parts}
-use Rattle.ubi_compose.specs.inner.Building.{of_write, table_block, table_of}
-use Rattle.ubi_compose.specs.inner.Streaming.{laid_text}
-use Rattle.ubi_compose.specs.Normal.{laid_bytes, new_ec}
 use Rattle.ubi_compose.proofs.ReadPieces.{only_writes, unbuilt_write}
 use Rattle.ubi_compose.proofs.WantedBytes.{unbuilt_where}
 use Rattle.ubi_compose.proofs.building.put_copy.Goals as goal

@@ -1,11 +1,4 @@
-use Rattle.std.proofs.Common.{refl, List, ℕ, ◌++◌}
-use Rattle.std.proofs.lemmas.Result.{err_from_is_err_and, IfErr-weaker, IfOk-weaker}
-use Rattle.ubi_media.specs.Geometry.{slots}
-use Rattle.ubi_scan.specs.inner.Held.{anything}
-use Rattle.ubi_volume.specs.Wrote.{All}
-use Rattle.ubi_volume.proofs.Narrowed.{wrote_narrowed}
-use Rattle.ubi_compose.specs.Built.{Parts}
-use Rattle.ubi_compose.specs.inner.Building.{first_volumes, spares_bytes, tables_bytes, whole_bytes}
+use Rattle.ubi_compose.proofs.Prelude.{refl, List, ℕ, ◌++◌, err_from_is_err_and, IfErr-weaker, IfOk-weaker, slots, anything, All, wrote_narrowed, Parts, first_volumes, spares_bytes, tables_bytes, whole_bytes}
 use Rattle.ubi_compose.proofs.WantedBytes.{back_unbuilt, both_wrote, front_unbuilt, unbuilt_narrowed}
 use Rattle.ubi_compose.proofs.building.put_image.Goals as goal
 

@@ -1,11 +1,4 @@
-use Rattle.std.proofs.Common.{◌≡◌, [], subst, sym, arith}
-use Rattle.std.specs.Prelude.{IfErr, Option}
-use Rattle.std.specs.Option.{option_map_or}
-use Rattle.std.proofs.lemmas.Result.{IfOk-weaker}
-use Rattle.ubi_media.proofs.Padding.{reserved_within}
-use Rattle.ubi_compose.specs.Built.{Parts}
-use Rattle.ubi_compose.specs.inner.Building.{IsUnbuilt, part_bytes}
-use Rattle.ubi_compose.specs.declared.recipe.Part.{Part}
+use Rattle.ubi_compose.proofs.Prelude.{◌≡◌, [], subst, sym, arith, IfErr, Option, option_map_or, IfOk-weaker, reserved_within, Parts, IsUnbuilt, part_bytes, Part}
 use Rattle.ubi_compose.proofs.FailedParts.{names_volume}
 use Rattle.ubi_compose.proofs.ListedParts.{found_part, part_readable}
 use Rattle.ubi_compose.proofs.StoredVolumes.{volume_few}

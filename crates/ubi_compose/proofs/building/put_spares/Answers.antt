@@ -1,10 +1,4 @@
-use Rattle.std.proofs.Common.{◌≡◌, ℕ, ◌+◌, ◌*◌, ◌∙◌, List, length, refl, ap, sym, arith}
-use Rattle.ubi_media.specs.Geometry.{Sizes}
-use Rattle.ubi_scan.specs.inner.Held.{anything, sound}
-use Rattle.ubi_volume.proofs.Received.{wrote_cut, wrote_text}
-use Rattle.ubi_compose.specs.Building.{those}
-use Rattle.ubi_compose.specs.Built.{Parts}
-use Rattle.ubi_compose.specs.Composed.{spare}
+use Rattle.ubi_compose.proofs.Prelude.{◌≡◌, ℕ, ◌+◌, ◌*◌, ◌∙◌, List, length, refl, ap, sym, arith, Sizes, anything, sound, wrote_cut, wrote_text, those, Parts, spare}
 use Rattle.ubi_compose.specs.declared.errors.BuildError.TheVariants as build
 use Rattle.ubi_compose.proofs.WantedBytes.{next_unbuilt, next_wrote}
 use Rattle.ubi_compose.proofs.building.put_spares.Goals as goal

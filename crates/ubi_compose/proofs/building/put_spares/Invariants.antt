@@ -1,8 +1,4 @@
-use Rattle.std.proofs.Common.{◌+◌, ◌*◌, ◌≤◌}
-use Rattle.ubi_scan.specs.inner.Held.{anything}
-use Rattle.ubi_volume.specs.Wrote.{All, Wrote}
-use Rattle.ubi_compose.specs.Building.{those}
-use Rattle.ubi_compose.specs.inner.Building.{spares_bytes}
+use Rattle.ubi_compose.proofs.Prelude.{◌+◌, ◌*◌, ◌≤◌, anything, All, Wrote, those, spares_bytes}
 use Rattle.ubi_compose.proofs.building.put_spares.Given as goal
 
 abbrev pub invariant-loop : goal.invariant-loop

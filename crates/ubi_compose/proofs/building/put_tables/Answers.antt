@@ -1,7 +1,4 @@
-use Rattle.std.proofs.Common.{refl}
-use Rattle.std.proofs.lemmas.Result.{err_from_is_err_and, IfErr-weaker, IfOk-weaker}
-use Rattle.ubi_scan.specs.inner.Held.{anything}
-use Rattle.ubi_compose.specs.inner.Building.{table_block, tables_bytes}
+use Rattle.ubi_compose.proofs.Prelude.{refl, err_from_is_err_and, IfErr-weaker, IfOk-weaker, anything, table_block, tables_bytes}
 use Rattle.ubi_compose.proofs.WantedBytes.{back_unbuilt, both_wrote, front_unbuilt}
 use Rattle.ubi_compose.proofs.building.put_tables.Goals as goal
 

@@ -1,10 +1,4 @@
-use Rattle.std.proofs.Common.{◌<◌, ◌∙◌, ap, subst, arith}
-use Rattle.std.proofs.lemmas.Result.{err_from_is_err_and}
-use Rattle.ubi_media.specs.Geometry.{slots}
-use Rattle.ubi_volume.specs.Wrote.{All}
-use Rattle.ubi_volume.proofs.Narrowed.{wrote_narrowed}
-use Rattle.ubi_compose.specs.Built.{Parts}
-use Rattle.ubi_compose.specs.inner.Building.{numbered_bytes}
+use Rattle.ubi_compose.proofs.Prelude.{◌<◌, ◌∙◌, ap, subst, arith, err_from_is_err_and, slots, All, wrote_narrowed, Parts, numbered_bytes}
 use Rattle.ubi_compose.proofs.WantedBytes.{next_unbuilt, next_wrote}
 use Rattle.ubi_compose.proofs.building.put_volumes.Goals as goal
 

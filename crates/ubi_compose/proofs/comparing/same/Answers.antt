@@ -1,9 +1,5 @@
-use Rattle.ubi_scan.specs.Source.{Narrows, holds, memory, memory_sized}
+use Rattle.ubi_compose.proofs.Prelude.{Narrows, holds, memory, memory_sized, still, source_narrowed, ArePlacesError, IsSameFault}
 use Rattle.ubi_scan.specs.declared.errors.StreamError.TheVariants as stream
-use Rattle.ubi_scan.proofs.InMemory.{still}
-use Rattle.ubi_scan.proofs.Narrowed.{source_narrowed}
-use Rattle.ubi_volume.specs.Places.{ArePlacesError}
-use Rattle.ubi_compose.specs.Compared.{IsSameFault}
 use Rattle.ubi_compose.specs.declared.errors.SameFault.TheVariants as fault
 use Rattle.ubi_compose.proofs.Refusals.{refuses}
 use Rattle.ubi_compose.proofs.comparing.same.Goals as goal

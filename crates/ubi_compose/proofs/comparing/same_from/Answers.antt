@@ -1,8 +1,4 @@
-use Rattle.std.proofs.Common.{◌∙◌, subst, sym}
-use Rattle.std.proofs.lemmas.Result.{IfErr-weaker, IfOk-weaker}
-use Rattle.ubi_media.specs.Geometry.{IsGeometry}
-use Rattle.ubi_scan.specs.Source.{Source, blocks_in}
-use Rattle.ubi_compose.specs.inner.Comparing.{IsSidesError}
+use Rattle.ubi_compose.proofs.Prelude.{◌∙◌, subst, sym, IfErr-weaker, IfOk-weaker, IsGeometry, Source, blocks_in, IsSidesError}
 use Rattle.ubi_compose.proofs.Form.{normal_form}
 use Rattle.ubi_compose.proofs.Refusals.{sides_refused}
 use Rattle.ubi_compose.proofs.comparing.same_from.Goals as goal

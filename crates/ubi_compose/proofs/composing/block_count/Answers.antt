@@ -1,7 +1,5 @@
-use Rattle.std.proofs.Common.{◌+◌, get_or, length, ap, ◌∙◌, arith}
+use Rattle.ubi_compose.proofs.Prelude.{◌+◌, get_or, length, ap, ◌∙◌, arith, listed_volume, volume_blocks}
 use Rattle.std.specs.FinMap as finite
-use Rattle.ubi_volume.proofs.Listed.{listed_volume}
-use Rattle.ubi_compose.specs.Normal.{volume_blocks}
 use Rattle.ubi_compose.proofs.Puts.{count_more}
 use Rattle.ubi_compose.proofs.Room.{first_fit}
 use Rattle.ubi_compose.proofs.composing.block_count.Goals as goal

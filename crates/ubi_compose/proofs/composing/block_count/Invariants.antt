@@ -1,6 +1,5 @@
-use Rattle.std.proofs.Common.{◌≡◌, ◌+◌, length, take}
+use Rattle.ubi_compose.proofs.Prelude.{◌≡◌, ◌+◌, length, take, blocks_of}
 use Rattle.std.specs.FinMap as finite
-use Rattle.ubi_compose.specs.Normal.{blocks_of}
 use Rattle.ubi_compose.proofs.composing.block_count.Given as goal
 
 -- those of the table and of the volumes so far

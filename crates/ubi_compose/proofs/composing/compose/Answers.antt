@@ -1,5 +1,4 @@
-use Rattle.std.proofs.Common.{rules, ◌≡◌, ap, ◌∙◌, arith}
-use Rattle.ubi_compose.specs.Composed.{HasRoom, composed}
+use Rattle.ubi_compose.proofs.Prelude.{rules, ◌≡◌, ap, ◌∙◌, arith, HasRoom, composed}
 use Rattle.ubi_compose.proofs.Accepted.{normal_accepted}
 use Rattle.ubi_compose.proofs.Puts.{composed_pieces}
 use Rattle.ubi_compose.proofs.Room.{normal_fits}

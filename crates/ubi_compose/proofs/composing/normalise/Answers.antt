@@ -1,6 +1,4 @@
-use Rattle.std.proofs.Common.{◌≡◌, subst, ◌∙◌}
-use Rattle.ubi_volume.specs.Accepts.{Accepts}
-use Rattle.ubi_compose.specs.Normal.{normal_bytes}
+use Rattle.ubi_compose.proofs.Prelude.{◌≡◌, subst, ◌∙◌, Accepts, normal_bytes}
 use Rattle.ubi_compose.proofs.Form.{composed-none}
 use Rattle.ubi_compose.proofs.composing.normalise.Goals as goal
 

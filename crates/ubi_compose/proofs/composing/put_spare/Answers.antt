@@ -1,8 +1,4 @@
-use Rattle.std.proofs.Common.{refl, sym, ap, ◌∙◌, ◌++◌, append_assoc}
-use Rattle.std.proofs.lemmas.Result.{on_ok_weaker}
-use Rattle.ubi_media.specs.Ec.{ec_bytes}
-use Rattle.ubi_scan.proofs.Filled.{filled-by}
-use Rattle.ubi_compose.specs.Normal.{new_ec}
+use Rattle.ubi_compose.proofs.Prelude.{refl, sym, ap, ◌∙◌, ◌++◌, append_assoc, on_ok_weaker, ec_bytes, filled-by, new_ec}
 use Rattle.ubi_compose.proofs.composing.put_spare.Goals as goal
 
 pub returns : goal.returns

@@ -1,6 +1,5 @@
-use Rattle.std.proofs.Common.{◌≡◌, ◌++◌, replicate, vec_items}
+use Rattle.ubi_compose.proofs.Prelude.{◌≡◌, ◌++◌, replicate, vec_items, spare}
 use Rattle.std.specs.List.{flat_map}
-use Rattle.ubi_compose.specs.Composed.{spare}
 use Rattle.ubi_compose.proofs.composing.put_spares.Given as goal
 
 -- those so far are there

@@ -1,5 +1,4 @@
-use Rattle.std.proofs.Common.{refl, ◌∙◌, arith}
-use Rattle.std.proofs.lemmas.Result.{on_ok_weaker}
+use Rattle.ubi_compose.proofs.Prelude.{refl, ◌∙◌, arith, on_ok_weaker}
 use Rattle.ubi_compose.proofs.Table.{table_fits}
 use Rattle.ubi_compose.proofs.composing.put_table.Goals as goal
 

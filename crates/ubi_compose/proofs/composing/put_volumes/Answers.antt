@@ -1,5 +1,4 @@
-use Rattle.std.proofs.Common.{get_or, ap, ◌∙◌}
-use Rattle.ubi_volume.proofs.Listed.{listed_volume}
+use Rattle.ubi_compose.proofs.Prelude.{get_or, ap, ◌∙◌, listed_volume}
 use Rattle.ubi_compose.proofs.composing.put_volumes.Goals as goal
 
 pub put_volume-requires : goal.put_volume-requires

@@ -1,6 +1,5 @@
-use Rattle.std.proofs.Common.{◌≡◌, ◌++◌, take, vec_items}
+use Rattle.ubi_compose.proofs.Prelude.{◌≡◌, ◌++◌, take, vec_items, blocks_of, laid_bytes, new_ec}
 use Rattle.std.specs.List.{flat_map}
-use Rattle.ubi_compose.specs.Normal.{blocks_of, laid_bytes, new_ec}
 use Rattle.ubi_compose.proofs.composing.put_volumes.Given as goal
 
 -- those of the volumes so far are there

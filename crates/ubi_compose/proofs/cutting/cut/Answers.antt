@@ -1,4 +1,4 @@
-use Rattle.std.proofs.Common.{◌==◌, sym}
+use Rattle.ubi_compose.proofs.Prelude.{◌==◌, sym}
 use Rattle.ubi_compose.proofs.Cuts.{cut_at, cut_nowhere}
 use Rattle.ubi_compose.proofs.cutting.cut.Goals as goal
 

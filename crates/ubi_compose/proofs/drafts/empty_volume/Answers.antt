@@ -1,4 +1,4 @@
-use Rattle.std.proofs.Common.{ap, ◌∙◌}
+use Rattle.ubi_compose.proofs.Prelude.{ap, ◌∙◌}
 use Rattle.ubi_volume.specs.declared.content.Content.TheVariants as content
 use Rattle.ubi_compose.proofs.Changes.{dynamic_new, static_new}
 use Rattle.ubi_compose.proofs.drafts.empty_volume.Goals as goal

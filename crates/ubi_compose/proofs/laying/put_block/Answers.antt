@@ -1,8 +1,4 @@
-use Rattle.std.proofs.Common.{refl, ◌∙◌}
-use Rattle.std.proofs.lemmas.Result.{on_ok_weaker}
-use Rattle.ubi_media.specs.Ec.{ec_bytes}
-use Rattle.ubi_media.specs.Vid.{vid_bytes}
-use Rattle.ubi_compose.specs.Normal.{new_ec}
+use Rattle.ubi_compose.proofs.Prelude.{refl, ◌∙◌, on_ok_weaker, ec_bytes, vid_bytes, new_ec}
 use Rattle.ubi_compose.proofs.LaidPieces.{laid-pieces}
 use Rattle.ubi_compose.proofs.laying.put_block.Goals as goal
 

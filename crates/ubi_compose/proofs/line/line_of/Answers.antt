@@ -1,5 +1,4 @@
-use Rattle.std.proofs.Common.{map, sym, ◌∙◌, ap}
-use Rattle.ubi_compose.specs.Lines.{form_of}
+use Rattle.ubi_compose.proofs.Prelude.{map, sym, ◌∙◌, ap, form_of}
 use Rattle.ubi_compose.proofs.LineForms.{form_fits, line_said, nothing_said}
 use Rattle.ubi_compose.proofs.line.line_of.Goals as goal
 

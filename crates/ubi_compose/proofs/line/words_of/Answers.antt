@@ -1,8 +1,4 @@
-use Rattle.std.proofs.Common.{ap, map, ◌==◌, ◌∙◌, rules, tests}
-use Rattle.std.specs.Iterator.Adapters.{take_source}
-use Rattle.std.proofs.lemmas.Iterator.{YieldsList-from_take}
-use Rattle.std.proofs.lemmas.Iterator.Consumers.{YieldsList-end}
-use Rattle.std.proofs.lemmas.Iterator.Splits.{YieldsList-from_slice_split}
+use Rattle.ubi_compose.proofs.Prelude.{ap, map, ◌==◌, ◌∙◌, rules, tests, take_source, YieldsList-from_take, YieldsList-end, YieldsList-from_slice_split}
 use Rattle.ubi_compose.proofs.line.words_of.Goals as goal
 
 pub returns : goal.returns

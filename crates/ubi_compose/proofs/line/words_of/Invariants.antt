@@ -1,4 +1,4 @@
-use Rattle.std.proofs.Common.{◌≡◌}
+use Rattle.ubi_compose.proofs.Prelude.{◌≡◌}
 use Rattle.ubi_compose.proofs.line.words_of.Given as goal
 
 abbrev pub invariant-loop-word : goal.invariant-loop-word

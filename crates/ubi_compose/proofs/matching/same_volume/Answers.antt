@@ -1,6 +1,4 @@
-use Rattle.std.proofs.Common.{◌≡◌, true, false, refl, sym, ◌∙◌, below_more, length, length-take-le, take, arith}
-use Rattle.std.proofs.lemmas.Bool.{false≢true}
-use Rattle.ubi_volume.specs.Extract.{share_len}
+use Rattle.ubi_compose.proofs.Prelude.{◌≡◌, true, false, refl, sym, ◌∙◌, below_more, length, length-take-le, take, arith, false≢true, share_len}
 use Rattle.ubi_compose.proofs.SamePlaces.{apart, leb_same, read_same, unread_same}
 use Rattle.ubi_compose.proofs.matching.same_volume.Goals as goal
 

@@ -1,7 +1,4 @@
-use Rattle.std.proofs.Common.{◌≡◌}
-use Rattle.ubi_scan.specs.Source.{Narrows}
-use Rattle.ubi_compose.specs.Compared.{WhereBothHeld}
-use Rattle.ubi_compose.specs.inner.Comparing.{AreSameLebs}
+use Rattle.ubi_compose.proofs.Prelude.{◌≡◌, Narrows, WhereBothHeld, AreSameLebs}
 use Rattle.ubi_compose.proofs.matching.same_volume.Given as goal
 
 abbrev pub invariant-loop-lnum : goal.invariant-loop-lnum

@@ -1,13 +1,6 @@
-use Rattle.std.proofs.Common.{◌≡◌, ◌<◌, ◌∙◌, get_or, length, ap, refl, sym, subst, arith}
+use Rattle.ubi_compose.proofs.Prelude.{◌≡◌, ◌<◌, ◌∙◌, get_or, length, ap, refl, sym, subst, arith, false≢true, Source, places_narrowed, ArePlacesOf, Records, listed_item, TellsVolume}
 use Rattle.std.specs.Prelude.{Bool}
 use Rattle.std.specs.FinMap as finite
-use Rattle.std.proofs.lemmas.Bool.{false≢true}
-use Rattle.ubi_scan.specs.Source.{Source}
-use Rattle.ubi_volume.proofs.Narrowed.{places_narrowed}
-use Rattle.ubi_volume.specs.Places.{ArePlacesOf}
-use Rattle.ubi_table.specs.Records.{Records}
-use Rattle.ubi_volume.proofs.Gathered.{listed_item}
-use Rattle.ubi_compose.specs.inner.Comparing.{TellsVolume}
 use Rattle.ubi_compose.proofs.SamePlaces.{all_same, one_other, one_same}
 use Rattle.ubi_compose.proofs.matching.same_volumes.Goals as goal
 

@@ -1,8 +1,5 @@
-use Rattle.std.proofs.Common.{◌≡◌, take}
+use Rattle.ubi_compose.proofs.Prelude.{◌≡◌, take, Narrows, WhereBothHeld, OfMeanings}
 use Rattle.std.specs.FinMap as finite
-use Rattle.ubi_scan.specs.Source.{Narrows}
-use Rattle.ubi_compose.specs.Compared.{WhereBothHeld}
-use Rattle.ubi_compose.specs.inner.Comparing.{OfMeanings}
 use Rattle.ubi_compose.proofs.matching.same_volumes.Given as goal
 
 abbrev pub invariant-loop-listed : goal.invariant-loop-listed

@@ -1,7 +1,4 @@
-use Rattle.std.proofs.Common.{Bor, List, ℕ, ◌==◌, [], ◌∷◌, map, ◌∙◌, arith, rules, tests}
-use Rattle.std.proofs.lemmas.Iterator.Consumers.{YieldsList-end, YieldsList-turn}
-use Rattle.std.proofs.lemmas.Iterator.Splits.{YieldsList-from_slice_split}
-use Rattle.std.proofs.lemmas.List.{length-map, map-append}
+use Rattle.ubi_compose.proofs.Prelude.{Bor, List, ℕ, ◌==◌, [], ◌∷◌, map, ◌∙◌, arith, rules, tests, YieldsList-end, YieldsList-turn, YieldsList-from_slice_split, length-map, map-append}
 use Rattle.ubi_compose.proofs.ReadSoFar.{faultless_so_far, read_all, read_none, read_one, refused_at}
 use Rattle.ubi_compose.proofs.parsing.parse_spec.Goals as goal
 

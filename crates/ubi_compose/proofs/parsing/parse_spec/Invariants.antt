@@ -1,4 +1,4 @@
-use Rattle.std.proofs.Common.{map}
+use Rattle.ubi_compose.proofs.Prelude.{map}
 use Rattle.ubi_compose.proofs.ReadSoFar.{IsReadSoFar}
 use Rattle.ubi_compose.proofs.parsing.parse_spec.Given as goal
 

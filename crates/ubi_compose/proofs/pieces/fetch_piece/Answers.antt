@@ -1,12 +1,4 @@
-use Rattle.std.proofs.Common.{◌≡◌, ℕ, ◌+◌, ◌-◌, ◌*◌, ◌≤◌, ◌∙◌, ap, List, ◌++◌, length, length-drop, length-take-le, take, drop, slice_range, sym, arith}
-use Rattle.std.specs.Prelude.{min}
-use Rattle.ubi_media.proofs.Records.{usable_some}
-use Rattle.ubi_media.specs.Geometry.{Sizes}
-use Rattle.ubi_media.specs.Record.{usable}
-use Rattle.ubi_volume.proofs.Pieces.{piece_begins}
-use Rattle.ubi_volume.specs.Meant.{share}
-use Rattle.ubi_compose.specs.Built.{Parts, text_of}
-use Rattle.ubi_compose.specs.declared.recipe.Part.{Part}
+use Rattle.ubi_compose.proofs.Prelude.{◌≡◌, ℕ, ◌+◌, ◌-◌, ◌*◌, ◌≤◌, ◌∙◌, ap, List, ◌++◌, length, length-drop, length-take-le, take, drop, slice_range, sym, arith, min, usable_some, Sizes, usable, piece_begins, share, Parts, text_of, Part}
 use Rattle.ubi_compose.proofs.Placed.{text_is}
 use Rattle.ubi_compose.proofs.ReadPieces.{share_read}
 use borrow.Rule.Slice.PartMut.{post_of}

@@ -1,5 +1,4 @@
-use Rattle.std.proofs.Common.{◌≡◌, ◌+◌, ◌-◌, List, ℕ, ◌++◌, ◌∙◌, length, length-drop, length-take-le, take, drop, ap, arith}
-use Rattle.ubi_media.specs.Fields.{blank}
+use Rattle.ubi_compose.proofs.Prelude.{◌≡◌, ◌+◌, ◌-◌, List, ℕ, ◌++◌, ◌∙◌, length, length-drop, length-take-le, take, drop, ap, arith, blank}
 use Rattle.ubi_compose.proofs.Placed.{text_is}
 use Rattle.ubi_compose.proofs.ReadPieces.{filled_behind}
 use borrow.Rule.Slice.PartMut.{post_of}

@@ -1,9 +1,4 @@
-use Rattle.std.proofs.Common.{◌∙◌, ap, arith}
-use Rattle.std.specs.Int.{div_ceil}
-use Rattle.ubi_media.proofs.Padding.{reserved_within}
-use Rattle.ubi_media.proofs.Records.{usable_some}
-use Rattle.ubi_media.specs.Record.{usable}
-use Rattle.ubi_volume.proofs.Pieces.{pieces_few}
+use Rattle.ubi_compose.proofs.Prelude.{◌∙◌, ap, arith, div_ceil, reserved_within, usable_some, usable, pieces_few}
 use Rattle.ubi_compose.proofs.ReadPieces.{div_ceil-pieces}
 use Rattle.ubi_compose.proofs.pieces.piece_count.Goals as goal
 

@@ -1,19 +1,6 @@
-use Rattle.std.proofs.Common.{◌≡◌, ℕ, List, ◌∙◌, ap, take, drop, sym, arith}
-use Rattle.std.proofs.lemmas.Result.{err_from_is_err_and}
-use Rattle.ubi_media.specs.Geometry.{Sizes}
-use Rattle.ubi_scan.specs.inner.Held.{anything, sound}
-use Rattle.ubi_volume.specs.Wrote.{All}
-use Rattle.ubi_volume.proofs.Narrowed.{wrote_where}
-use Rattle.ubi_compose.specs.Building.{those}
-use Rattle.ubi_compose.specs.declared.recipe.Part.{Part}
+use Rattle.ubi_compose.proofs.Prelude.{◌≡◌, ℕ, List, ◌∙◌, ap, take, drop, sym, arith, err_from_is_err_and, Sizes, anything, sound, All, wrote_where, those, Part, filled, data_pad, usable, plain, Parts, dynamic_piece, of_write, kept_text}
 use Rattle.ubi_compose.proofs.WantedBytes.{unbuilt_where}
-use Rattle.ubi_media.specs.Fields.{filled}
-use Rattle.ubi_media.specs.Record.{data_pad, usable}
-use Rattle.ubi_media.specs.Vid.{plain}
 use Rattle.ubi_media.specs.declared.vid.VolKind.TheVariants as kind
-use Rattle.ubi_compose.specs.Built.{Parts}
-use Rattle.ubi_compose.specs.inner.Building.{dynamic_piece, of_write}
-use Rattle.ubi_compose.specs.inner.Streaming.{kept_text}
 use Rattle.ubi_compose.proofs.ReadPieces.{dynamic_laid, only_writes, unbuilt_write, unread}
 use Rattle.ubi_compose.proofs.pieces.put_dynamic_piece.Goals as goal
 

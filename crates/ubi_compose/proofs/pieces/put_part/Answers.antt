@@ -1,11 +1,4 @@
-use Rattle.std.proofs.Common.{◌≡◌, ℕ, ◌+◌, ◌*◌, ◌<◌, ◌∙◌, ap, subst, arith}
-use Rattle.std.proofs.lemmas.Result.{err_from_is_err_and}
-use Rattle.ubi_media.specs.Geometry.{Sizes}
-use Rattle.ubi_volume.specs.Wrote.{All}
-use Rattle.ubi_volume.proofs.Narrowed.{wrote_narrowed}
-use Rattle.ubi_compose.specs.Built.{Parts, pieces_of}
-use Rattle.ubi_compose.specs.inner.Building.{piece_bytes}
-use Rattle.ubi_compose.specs.declared.recipe.Part.{Part}
+use Rattle.ubi_compose.proofs.Prelude.{◌≡◌, ℕ, ◌+◌, ◌*◌, ◌<◌, ◌∙◌, ap, subst, arith, err_from_is_err_and, Sizes, All, wrote_narrowed, Parts, pieces_of, piece_bytes, Part}
 use Rattle.ubi_compose.proofs.WantedBytes.{next_unbuilt, next_wrote}
 use Rattle.ubi_compose.proofs.pieces.put_part.Goals as goal
 

@@ -1,8 +1,4 @@
-use Rattle.std.proofs.Common.{◌≡◌, ◌+◌, ◌*◌, ◌≤◌}
-use Rattle.ubi_scan.specs.Source.{Narrows}
-use Rattle.ubi_volume.specs.Wrote.{All, Wrote}
-use Rattle.ubi_compose.specs.Building.{those}
-use Rattle.ubi_compose.specs.inner.Building.{first_pieces}
+use Rattle.ubi_compose.proofs.Prelude.{◌≡◌, ◌+◌, ◌*◌, ◌≤◌, Narrows, All, Wrote, those, first_pieces}
 use Rattle.ubi_compose.proofs.pieces.put_part.Given as goal
 
 abbrev pub invariant-loop-lnum : goal.invariant-loop-lnum

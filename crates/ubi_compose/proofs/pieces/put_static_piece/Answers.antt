@@ -1,18 +1,5 @@
-use Rattle.std.proofs.Common.{◌≡◌, ℕ, ◌+◌, ◌-◌, ◌≤◌, List, ◌∙◌, ap, length, take, drop, arith}
-use Rattle.std.proofs.lemmas.Result.{err_from_is_err_and}
-use Rattle.ubi_media.specs.Geometry.{Sizes}
-use Rattle.ubi_scan.specs.inner.Held.{anything, sound}
-use Rattle.ubi_scan.specs.Source.{Source}
-use Rattle.ubi_volume.specs.Wrote.{All}
-use Rattle.ubi_volume.proofs.Narrowed.{wrote_where}
-use Rattle.ubi_compose.specs.Building.{those}
-use Rattle.ubi_compose.specs.declared.recipe.Part.{Part}
+use Rattle.ubi_compose.proofs.Prelude.{◌≡◌, ℕ, ◌+◌, ◌-◌, ◌≤◌, List, ◌∙◌, ap, length, take, drop, arith, err_from_is_err_and, Sizes, anything, sound, Source, All, wrote_where, those, Part, data_pad, Parts, pieces_of, static_block, of_write, static_piece, laid_text}
 use Rattle.ubi_compose.proofs.WantedBytes.{unbuilt_where}
-use Rattle.ubi_media.specs.Record.{data_pad}
-use Rattle.ubi_compose.specs.Built.{Parts, pieces_of}
-use Rattle.ubi_compose.specs.Normal.{static_block}
-use Rattle.ubi_compose.specs.inner.Building.{of_write, static_piece}
-use Rattle.ubi_compose.specs.inner.Streaming.{laid_text}
 use Rattle.ubi_compose.proofs.ReadPieces.{only_writes, static_laid, unbuilt_write, unread}
 use Rattle.ubi_compose.proofs.pieces.put_static_piece.Goals as goal
 

@@ -1,4 +1,4 @@
-use Rattle.std.proofs.Common.{◌≡◌, ◌+◌, ◌*◌, ◌/◌, ◌<◌, length, slice_range, ap, ◌∙◌, refl}
+use Rattle.ubi_compose.proofs.Prelude.{◌≡◌, ◌+◌, ◌*◌, ◌/◌, ◌<◌, length, slice_range, ap, ◌∙◌, refl}
 use Rattle.ubi_compose.proofs.Placed.{block_of_read}
 use Rattle.ubi_compose.proofs.placing.fetch.Goals as goal
 

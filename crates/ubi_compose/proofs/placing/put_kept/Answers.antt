@@ -1,10 +1,5 @@
-use Rattle.std.proofs.Common.{◌≡◌, ◌+◌, ◌-◌, [], drop, take, ap, ◌∙◌, refl, sym, arith}
-use Rattle.std.proofs.KnownBytes.{Appends-nil}
-use Rattle.std.proofs.lemmas.Result.{IfErr-weaker, IfOk-weaker}
-use Rattle.ubi_scan.specs.inner.Held.{sound}
-use Rattle.ubi_scan.specs.inner.Held.{anything}
+use Rattle.ubi_compose.proofs.Prelude.{◌≡◌, ◌+◌, ◌-◌, [], drop, take, ap, ◌∙◌, refl, sym, arith, Appends-nil, IfErr-weaker, IfOk-weaker, sound, anything, error_as, wrote_as, wrote_text}
 use Rattle.ubi_compose.proofs.Placed.{all_kept, none_kept}
-use Rattle.ubi_volume.proofs.Received.{error_as, wrote_as, wrote_text}
 use Rattle.ubi_compose.proofs.placing.put_kept.Goals as goal
 
 pub returns-then-is_blank-clause-written : goal.returns-then-is_blank-clause-written

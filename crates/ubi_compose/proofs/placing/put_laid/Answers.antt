@@ -1,7 +1,4 @@
-use Rattle.std.proofs.Common.{◌+◌, ap, ◌∙◌, refl, sym, arith}
-use Rattle.ubi_scan.specs.inner.Held.{sound}
-use Rattle.ubi_scan.specs.inner.Held.{anything}
-use Rattle.ubi_volume.proofs.Received.{wrote_cut, wrote_text}
+use Rattle.ubi_compose.proofs.Prelude.{◌+◌, ap, ◌∙◌, refl, sym, arith, sound, anything, wrote_cut, wrote_text}
 use Rattle.ubi_compose.proofs.placing.put_laid.Goals as goal
 
 pub returns-in-Ok-clause-written : goal.returns-in-Ok-clause-written

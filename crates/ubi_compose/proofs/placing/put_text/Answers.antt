@@ -1,4 +1,4 @@
-use Rattle.std.proofs.Common.{◌∙◌, drop, length, take, ap, sym}
+use Rattle.ubi_compose.proofs.Prelude.{◌∙◌, drop, length, take, ap, sym}
 use Rattle.ubi_compose.proofs.placing.put_text.Goals as goal
 
 pub returns-clause-written : goal.returns-clause-written

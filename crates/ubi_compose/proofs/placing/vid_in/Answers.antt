@@ -1,5 +1,4 @@
-use Rattle.std.proofs.Common.{◌+◌, ◌≤◌, length, ap, ◌∙◌, arith}
-use Rattle.ubi_media.specs.Vid.{vid_reading}
+use Rattle.ubi_compose.proofs.Prelude.{◌+◌, ◌≤◌, length, ap, ◌∙◌, arith, vid_reading}
 use Rattle.ubi_compose.proofs.Placed.{vid_area_of}
 use Rattle.ubi_compose.proofs.placing.vid_in.Goals as goal
 

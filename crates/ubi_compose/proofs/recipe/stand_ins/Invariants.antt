@@ -1,5 +1,4 @@
-use Rattle.std.proofs.Common.{◌≡◌, map, take, vec_items}
-use Rattle.ubi_compose.specs.inner.Building.{stand_in_item}
+use Rattle.ubi_compose.proofs.Prelude.{◌≡◌, map, take, vec_items, stand_in_item}
 use Rattle.ubi_compose.proofs.recipe.stand_ins.Given as goal
 
 -- those of the parts so far

@@ -1,11 +1,5 @@
-use Rattle.std.proofs.Common.{◌≡◌, ℕ, ◌++◌, zero-add, ap, sym, ◌∙◌}
-use Rattle.std.specs.List.{flat_map, range_with_len}
-use Rattle.std.specs.Option.{option_copied}
-use Rattle.std.specs.Prelude.{option_map}
-use Rattle.ubi_media.specs.Record.{rec_bytes}
-use Rattle.ubi_table.proofs.ReadBack.{pieces_more}
-use Rattle.ubi_compose.specs.inner.Building.{part_at}
-use Rattle.ubi_compose.specs.declared.recipe.Part.{Part}
+use Rattle.ubi_compose.proofs.Prelude.{◌≡◌, ℕ, ◌++◌, zero-add, ap, sym, ◌∙◌, range_with_len, option_copied, option_map, rec_bytes, pieces_more, part_at, Part}
+use Rattle.std.specs.List.{flat_map}
 use Rattle.ubi_compose.proofs.records.recipe_text.Goals as goal
 
 pub loop-slot-preserved : goal.loop-slot-preserved

@@ -1,9 +1,5 @@
-use Rattle.std.proofs.Common.{◌≡◌, vec_items}
-use Rattle.std.specs.List.{flat_map, range_with_len}
-use Rattle.std.specs.Prelude.{option_map}
-use Rattle.ubi_media.specs.Record.{rec_bytes}
-use Rattle.ubi_compose.specs.inner.Building.{part_at}
-use Rattle.ubi_compose.specs.declared.recipe.Part.{Part}
+use Rattle.ubi_compose.proofs.Prelude.{◌≡◌, vec_items, range_with_len, option_map, rec_bytes, part_at, Part}
+use Rattle.std.specs.List.{flat_map}
 use Rattle.ubi_compose.proofs.records.recipe_text.Given as goal
 
 -- the slots so far are there

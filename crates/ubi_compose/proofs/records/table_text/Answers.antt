@@ -1,10 +1,6 @@
-use Rattle.std.proofs.Common.{◌≡◌, ℕ, ◌++◌, zero-add, ap, sym, ◌∙◌}
+use Rattle.ubi_compose.proofs.Prelude.{◌≡◌, ℕ, ◌++◌, zero-add, ap, sym, ◌∙◌, range_with_len, option_copied, rec_bytes, pieces_more, records_of}
 use Rattle.std.specs.FinMap as finite
-use Rattle.std.specs.List.{flat_map, range_with_len}
-use Rattle.std.specs.Option.{option_copied}
-use Rattle.ubi_media.specs.Record.{rec_bytes}
-use Rattle.ubi_table.proofs.ReadBack.{pieces_more}
-use Rattle.ubi_volume.specs.Meant.{records_of}
+use Rattle.std.specs.List.{flat_map}
 use Rattle.ubi_compose.proofs.records.table_text.Goals as goal
 
 pub loop-slot-preserved : goal.loop-slot-preserved

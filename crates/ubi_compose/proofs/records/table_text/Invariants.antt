@@ -1,8 +1,6 @@
-use Rattle.std.proofs.Common.{◌≡◌, vec_items}
+use Rattle.ubi_compose.proofs.Prelude.{◌≡◌, vec_items, range_with_len, rec_bytes, records_of}
 use Rattle.std.specs.FinMap as finite
-use Rattle.std.specs.List.{flat_map, range_with_len}
-use Rattle.ubi_media.specs.Record.{rec_bytes}
-use Rattle.ubi_volume.specs.Meant.{records_of}
+use Rattle.std.specs.List.{flat_map}
 use Rattle.ubi_compose.proofs.records.table_text.Given as goal
 
 -- the slots so far are there

@@ -1,6 +1,4 @@
-use Rattle.std.proofs.Common.{◌==◌, [], sym, ◌∙◌}
-use Rattle.std.specs.List.{slice_split}
-use Rattle.std.specs.Option.{option_map_or}
+use Rattle.ubi_compose.proofs.Prelude.{◌==◌, [], sym, ◌∙◌, slice_split, option_map_or}
 use Rattle.ubi_compose.proofs.Escapes.{not_read, part_read}
 use Rattle.ubi_compose.proofs.shown.shown_bytes.Goals as goal
 

@@ -1,17 +1,7 @@
-use Rattle.std.proofs.Common.{ℕ, ◌+◌, ◌<◌, ◌∙◌, ap, subst, arith}
-use Rattle.std.specs.Prelude.{IfSome, Option}
-use Rattle.std.proofs.lemmas.Result.{err_from_is_err_and}
-use Rattle.ubi_media.proofs.Padding.{reserved_within}
-use Rattle.ubi_media.specs.Vid.{plain}
+use Rattle.ubi_compose.proofs.Prelude.{ℕ, ◌+◌, ◌<◌, ◌∙◌, ap, subst, arith, IfSome, Option, err_from_is_err_and, reserved_within, plain, blocks_in, All, volume_text, case_fits, wrote_narrowed, wrote_as}
 use Rattle.ubi_media.specs.declared.vid.VolKind.TheVariants as kind
-use Rattle.ubi_scan.specs.Source.{blocks_in}
-use Rattle.ubi_volume.specs.Wrote.{All}
-use Rattle.ubi_compose.specs.inner.Streaming.{volume_text}
 use Rattle.ubi_compose.proofs.DynamicPlaces.{dynamic_all, dynamic_failed, dynamic_unread, dynamic_wrote, first_lebs}
 use Rattle.ubi_compose.proofs.StoredVolume.{counted_below, more_blocks, next_few}
-use Rattle.ubi_volume.proofs.ContentAt.{case_fits}
-use Rattle.ubi_volume.proofs.Narrowed.{wrote_narrowed}
-use Rattle.ubi_volume.proofs.Received.{wrote_as}
 use Rattle.ubi_compose.proofs.stored.put_dynamic.Goals as goal
 
 pub returns-in_err-fetch-clause-failed : goal.returns-in_err-fetch-clause-failed

@@ -1,6 +1,4 @@
-use Rattle.std.proofs.Common.{◌≡◌, ◌+◌, ◌-◌, ◌*◌, ◌≤◌}
-use Rattle.ubi_scan.specs.Source.{Narrows}
-use Rattle.ubi_volume.specs.Wrote.{All, Wrote}
+use Rattle.ubi_compose.proofs.Prelude.{◌≡◌, ◌+◌, ◌-◌, ◌*◌, ◌≤◌, Narrows, All, Wrote}
 use Rattle.ubi_compose.proofs.DynamicPlaces.{first_lebs}
 use Rattle.ubi_compose.proofs.stored.put_dynamic.Given as goal
 

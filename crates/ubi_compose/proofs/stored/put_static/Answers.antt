@@ -1,17 +1,6 @@
-use Rattle.std.proofs.Common.{◌≡◌, ℕ, ◌+◌, ◌*◌, ◌<◌, ◌≤◌, ◌∙◌, ap, length, length-drop, subst, sym, arith}
-use Rattle.std.specs.Prelude.{IfSome, Option}
-use Rattle.std.proofs.lemmas.Result.{err_from_is_err_and}
-use Rattle.ubi_scan.specs.Image.{leb}
-use Rattle.ubi_scan.specs.Source.{blocks_in}
-use Rattle.ubi_volume.specs.Extract.{share_len}
-use Rattle.ubi_volume.specs.Wrote.{All}
-use Rattle.ubi_compose.specs.Normal.{piece_header}
-use Rattle.ubi_compose.specs.inner.Streaming.{volume_text}
+use Rattle.ubi_compose.proofs.Prelude.{◌≡◌, ℕ, ◌+◌, ◌*◌, ◌<◌, ◌≤◌, ◌∙◌, ap, length, length-drop, subst, sym, arith, IfSome, Option, err_from_is_err_and, leb, blocks_in, share_len, All, piece_header, volume_text, case_fits, wrote_narrowed, wrote_as}
 use Rattle.ubi_compose.proofs.StaticPlaces.{first_pieces, static_all, static_failed, static_unread, static_wrote}
 use Rattle.ubi_compose.proofs.StoredVolume.{more_blocks}
-use Rattle.ubi_volume.proofs.ContentAt.{case_fits}
-use Rattle.ubi_volume.proofs.Narrowed.{wrote_narrowed}
-use Rattle.ubi_volume.proofs.Received.{wrote_as}
 use Rattle.ubi_compose.proofs.stored.put_static.Goals as goal
 
 pub returns-in_err-fetch-clause-failed : goal.returns-in_err-fetch-clause-failed

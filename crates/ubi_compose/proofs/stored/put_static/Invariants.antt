@@ -1,6 +1,4 @@
-use Rattle.std.proofs.Common.{◌≡◌, ◌+◌, ◌*◌, ◌≤◌}
-use Rattle.ubi_scan.specs.Source.{Narrows}
-use Rattle.ubi_volume.specs.Wrote.{All, Wrote}
+use Rattle.ubi_compose.proofs.Prelude.{◌≡◌, ◌+◌, ◌*◌, ◌≤◌, Narrows, All, Wrote}
 use Rattle.ubi_compose.proofs.StaticPlaces.{first_pieces}
 use Rattle.ubi_compose.proofs.stored.put_static.Given as goal
 

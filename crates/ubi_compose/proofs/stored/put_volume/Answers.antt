@@ -1,13 +1,5 @@
-use Rattle.std.proofs.Common.{◌≡◌, ◌∙◌, [], ap, arith}
-use Rattle.std.proofs.lemmas.Result.{IfErr-weaker, IfOk-weaker}
-use Rattle.ubi_media.proofs.Padding.{reserved_some}
-use Rattle.ubi_compose.specs.inner.Streaming.{laid_text, volume_text}
-use Rattle.ubi_compose.specs.Normal.{damaged_block}
-use Rattle.ubi_volume.specs.Wrote.{All}
+use Rattle.ubi_compose.proofs.Prelude.{◌≡◌, ◌∙◌, [], ap, arith, IfErr-weaker, IfOk-weaker, reserved_some, laid_text, volume_text, damaged_block, All, anything, error_where, wrote_where, wrote_as, wrote_none}
 use Rattle.ubi_compose.proofs.StoredVolume.{damaged_text, more_blocks, updating_text}
-use Rattle.ubi_scan.specs.inner.Held.{anything}
-use Rattle.ubi_volume.proofs.Narrowed.{error_where, wrote_where}
-use Rattle.ubi_volume.proofs.Received.{wrote_as, wrote_none}
 use Rattle.ubi_compose.proofs.stored.put_volume.Goals as goal
 
 pub put_text-requires-clause-few : goal.put_text-requires-clause-few

@@ -1,9 +1,4 @@
-use Rattle.std.proofs.Common.{subst}
-use Rattle.std.proofs.lemmas.Result.{IfErr-weaker, IfOk-weaker}
-use Rattle.ubi_scan.specs.Source.{Source}
-use Rattle.ubi_volume.specs.Wrote.{IsWroteError}
-use Rattle.ubi_compose.specs.inner.Streaming.{normal_text}
-use Rattle.ubi_volume.proofs.Narrowed.{places_narrowed}
+use Rattle.ubi_compose.proofs.Prelude.{subst, IfErr-weaker, IfOk-weaker, Source, IsWroteError, normal_text, places_narrowed}
 use Rattle.ubi_compose.proofs.NormalParts.{normalised, not_normalised}
 use Rattle.ubi_compose.proofs.streaming.normalise_to.Goals as goal
 

@@ -1,7 +1,4 @@
-use Rattle.std.proofs.lemmas.Result.{err_from_is_err_and, IfErr-weaker, IfOk-weaker}
-use Rattle.ubi_scan.specs.inner.Held.{anything}
-use Rattle.ubi_volume.specs.Wrote.{All}
-use Rattle.ubi_volume.proofs.Narrowed.{error_narrowed, wrote_narrowed}
+use Rattle.ubi_compose.proofs.Prelude.{err_from_is_err_and, IfErr-weaker, IfOk-weaker, anything, All, error_narrowed, wrote_narrowed}
 use Rattle.ubi_compose.proofs.NormalParts.{all_parts, first_failed, second_failed, volumes_behind}
 use Rattle.ubi_compose.proofs.streaming.put_image.Goals as goal
 

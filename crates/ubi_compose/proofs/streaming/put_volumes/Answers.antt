@@ -1,20 +1,7 @@
-use Rattle.std.proofs.Common.{◌≡◌, ℕ, ◌<◌, ◌≤◌, ◌∙◌, Some, get_or, length, ap, sym, subst, arith}
-use Rattle.std.specs.Prelude.{None}
+use Rattle.ubi_compose.proofs.Prelude.{◌≡◌, ℕ, ◌<◌, ◌≤◌, ◌∙◌, get_or, length, ap, sym, subst, arith, None, err_from_is_err_and, Sizes, rec_fault, VolumeRecord, reserved_within, AreRecords, Records, listed_at, listed_item, All, IsWroteError, Wrote, volume_text, volumes_text, Source, ArePlacesOf, places_narrowed, wrote_narrowed, wrote_as}
+use Rattle.std.proofs.Common.{Some}
 use Rattle.std.specs.FinMap as finite
-use Rattle.std.proofs.lemmas.Result.{err_from_is_err_and}
-use Rattle.ubi_media.specs.Geometry.{Sizes}
-use Rattle.ubi_media.specs.Record.{rec_fault}
-use Rattle.ubi_media.specs.declared.record.VolumeRecord.{VolumeRecord}
-use Rattle.ubi_media.proofs.Padding.{reserved_within}
-use Rattle.ubi_table.specs.Records.{AreRecords, Records}
-use Rattle.ubi_volume.proofs.Gathered.{listed_at, listed_item}
-use Rattle.ubi_volume.specs.Wrote.{All, IsWroteError, Wrote}
-use Rattle.ubi_compose.specs.inner.Streaming.{volume_text, volumes_text}
 use Rattle.ubi_compose.proofs.StoredVolumes.{few_records, first_volumes, volume_few, volumes_all, volumes_failed, volumes_wrote}
-use Rattle.ubi_scan.specs.Source.{Source}
-use Rattle.ubi_volume.specs.Places.{ArePlacesOf}
-use Rattle.ubi_volume.proofs.Narrowed.{places_narrowed, wrote_narrowed}
-use Rattle.ubi_volume.proofs.Received.{wrote_as}
 use Rattle.ubi_compose.proofs.streaming.put_volumes.Goals as goal
 
 pub put_volume-requires-clause-places : goal.put_volume-requires-clause-places

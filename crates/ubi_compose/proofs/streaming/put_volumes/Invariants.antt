@@ -1,6 +1,4 @@
-use Rattle.std.proofs.Common.{◌≡◌, ◌+◌, ◌*◌, ◌≤◌, ◌^◌}
-use Rattle.ubi_scan.specs.Source.{Narrows}
-use Rattle.ubi_volume.specs.Wrote.{All, Wrote}
+use Rattle.ubi_compose.proofs.Prelude.{◌≡◌, ◌+◌, ◌*◌, ◌≤◌, ◌^◌, Narrows, All, Wrote}
 use Rattle.ubi_compose.proofs.StoredVolumes.{first_volumes}
 use Rattle.ubi_compose.proofs.streaming.put_volumes.Given as goal
 

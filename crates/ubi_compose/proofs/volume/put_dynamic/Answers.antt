@@ -1,7 +1,4 @@
-use Rattle.std.proofs.Common.{◌≤◌, ◌++◌, ℕ, List, length, ap, ◌∙◌, subst}
-use Rattle.std.specs.List.{AllByRecursion}
-use Rattle.ubi_media.specs.Geometry.{leb_size}
-use Rattle.ubi_compose.specs.Normal.{laid_bytes, new_ec}
+use Rattle.ubi_compose.proofs.Prelude.{◌≤◌, ◌++◌, ℕ, List, length, ap, ◌∙◌, subst, AllByRecursion, leb_size, laid_bytes, new_ec}
 use Rattle.ubi_compose.proofs.Puts.{put_next}
 use Rattle.ubi_compose.proofs.volume.put_dynamic.Goals as goal
 

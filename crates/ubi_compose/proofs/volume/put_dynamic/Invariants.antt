@@ -1,7 +1,5 @@
-use Rattle.std.proofs.Common.{◌≡◌, ◌≤◌, ◌++◌, length, vec_items}
+use Rattle.ubi_compose.proofs.Prelude.{◌≡◌, ◌≤◌, ◌++◌, length, vec_items, AllByRecursion, leb_size}
 use Rattle.std.specs.FinMap as finite
-use Rattle.std.specs.List.{AllByRecursion}
-use Rattle.ubi_media.specs.Geometry.{leb_size}
 use Rattle.ubi_compose.proofs.Puts.{dynamic_bytes}
 use Rattle.ubi_compose.proofs.volume.put_dynamic.Given as goal
 

@@ -1,6 +1,4 @@
-use Rattle.std.proofs.Common.{◌≡◌, ◌++◌, ap, ◌∙◌, arith}
-use Rattle.ubi_volume.specs.Meant.{share}
-use Rattle.ubi_compose.specs.Normal.{laid_bytes, new_ec, static_block}
+use Rattle.ubi_compose.proofs.Prelude.{◌≡◌, ◌++◌, ap, ◌∙◌, arith, share, laid_bytes, new_ec, static_block}
 use Rattle.ubi_compose.proofs.Puts.{put_more, static_all, static_is}
 use Rattle.ubi_compose.proofs.volume.put_static.Goals as goal
 

@@ -1,7 +1,5 @@
-use Rattle.std.proofs.Common.{◌≡◌, ◌++◌, vec_items}
-use Rattle.std.specs.List.{flat_map, range_with_len}
-use Rattle.ubi_volume.specs.Meant.{share}
-use Rattle.ubi_compose.specs.Normal.{laid_bytes, new_ec, static_block}
+use Rattle.ubi_compose.proofs.Prelude.{◌≡◌, ◌++◌, vec_items, range_with_len, share, laid_bytes, new_ec, static_block}
+use Rattle.std.specs.List.{flat_map}
 use Rattle.ubi_compose.proofs.volume.put_static.Given as goal
 
 -- the eraseblocks so far are there

@@ -1,5 +1,4 @@
-use Rattle.std.proofs.Common.{ap, ◌∙◌, ◌++◌}
-use Rattle.std.proofs.lemmas.Result.{on_ok_weaker}
+use Rattle.ubi_compose.proofs.Prelude.{ap, ◌∙◌, ◌++◌, on_ok_weaker}
 use Rattle.ubi_compose.proofs.Fitting.{lebs_fit, text_few}
 use Rattle.ubi_compose.proofs.Puts.{damaged_is}
 use Rattle.ubi_compose.proofs.volume.put_volume.Goals as goal

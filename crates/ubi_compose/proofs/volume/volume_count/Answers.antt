@@ -1,6 +1,5 @@
-use Rattle.std.proofs.Common.{ap, ◌∙◌, length}
+use Rattle.ubi_compose.proofs.Prelude.{ap, ◌∙◌, length, pieces}
 use Rattle.ubi_compose.proofs.Fitting.{text_few}
-use Rattle.ubi_volume.specs.Meant.{pieces}
 use Rattle.ubi_compose.proofs.Puts.{static_count}
 use Rattle.ubi_compose.proofs.volume.volume_count.Goals as goal
 

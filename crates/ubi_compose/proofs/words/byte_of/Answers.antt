@@ -1,6 +1,4 @@
-use Rattle.std.proofs.Common.{◌∷◌, []}
-use Rattle.hex.specs.Hex.{decode_sized}
-use Rattle.ubi_compose.specs.Words.{shown_byte}
+use Rattle.ubi_compose.proofs.Prelude.{◌∷◌, [], decode_sized, shown_byte}
 use Rattle.ubi_compose.proofs.Escapes.{decoded_pair, pair_err, pair_ok}
 use Rattle.ubi_compose.proofs.words.byte_of.Goals as goal
 

@@ -1,6 +1,4 @@
-use Rattle.std.proofs.Common.{◌<◌, arith}
-use Rattle.std.specs.List.{list_all}
-use Rattle.ubi_compose.specs.Words.{decimal_value, is_digit}
+use Rattle.ubi_compose.proofs.Prelude.{◌<◌, arith, list_all, decimal_value, is_digit}
 use Rattle.ubi_compose.proofs.Decimals.{fold_beyond, none_beyond}
 use Rattle.ubi_compose.proofs.words.decimal_of.Goals as goal
 

@@ -1,4 +1,4 @@
-use Rattle.std.proofs.Common.{sym, ◌∙◌, arith}
+use Rattle.ubi_compose.proofs.Prelude.{sym, ◌∙◌, arith}
 use Rattle.ubi_compose.proofs.Hexadecimal.{flags_two, no_flags}
 use Rattle.ubi_compose.proofs.words.flags_of.Goals as goal
 

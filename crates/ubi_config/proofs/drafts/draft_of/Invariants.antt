@@ -1,6 +1,4 @@
-use Rattle.std.proofs.Common.{◌≡◌, take}
-use Rattle.std.specs.Prelude.{fold}
-use Rattle.ubi_config.specs.Sections.{no_draft, with_line}
+use Rattle.ubi_config.proofs.Prelude.{◌≡◌, take, fold, no_draft, with_line}
 use Rattle.ubi_config.proofs.drafts.draft_of.Given as goal
 
 abbrev pub invariant-loop-line : goal.invariant-loop-line

@@ -1,6 +1,4 @@
-use Rattle.std.proofs.Common.{◌∙◌, ap, sym, true, false}
-use Rattle.std.specs.Prelude.{◌==◌}
-use Rattle.std.proofs.lemmas.Result.{err_from_is_err_and}
+use Rattle.ubi_config.proofs.Prelude.{◌∙◌, ap, sym, true, false, ◌==◌, err_from_is_err_and}
 use Rattle.ubi_config.proofs.Faults.{fault_last, line_refused, made_is, section_refused}
 use Rattle.ubi_config.proofs.parsing.parse_config.Goals as goal
 

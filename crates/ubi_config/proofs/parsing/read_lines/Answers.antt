@@ -1,7 +1,5 @@
-use Rattle.std.proofs.Common.{Bor, List, ℕ, ◌==◌, [], ◌∷◌, map, arith, rules, tests}
-use Rattle.std.proofs.lemmas.Iterator.Consumers.{YieldsList-end, YieldsList-turn}
-use Rattle.std.proofs.lemmas.Iterator.Splits.{YieldsList-from_slice_split}
-use Rattle.std.proofs.lemmas.List.{length-map, map-append}
+use Rattle.ubi_config.proofs.Prelude.{Bor, List, ℕ, [], ◌∷◌, arith, rules, tests, YieldsList-end, YieldsList-turn, YieldsList-from_slice_split, length-map, map-append}
+use Rattle.std.proofs.Common.{◌==◌, map}
 use Rattle.ubi_config.proofs.ReadSoFar.{read_all, read_none, read_one, refused_at}
 use Rattle.ubi_config.proofs.parsing.read_lines.Goals as goal
 

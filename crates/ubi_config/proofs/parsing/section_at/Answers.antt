@@ -1,5 +1,4 @@
-use Rattle.std.specs.List.{before_first}
-use Rattle.ubi_config.specs.Above.{is_heading}
+use Rattle.ubi_config.proofs.Prelude.{before_first, is_heading}
 use Rattle.ubi_config.proofs.Groups.{no_group, none_made, one_made, one_refused}
 use Rattle.ubi_config.proofs.parsing.section_at.Goals as goal
 

@@ -1,5 +1,4 @@
-use Rattle.std.proofs.Common.{◌∙◌, append-nil, arith, sym}
-use Rattle.std.proofs.lemmas.Result.{err_from_is_err_and}
+use Rattle.ubi_config.proofs.Prelude.{◌∙◌, append-nil, arith, sym, err_from_is_err_and}
 use Rattle.ubi_config.proofs.Groups.{lacks_here, made_all, made_more}
 use Rattle.ubi_config.proofs.parsing.sections_of.Goals as goal
 use Rattle.ubi_config.proofs.parsing.sections_of.Goals.{in-Some, in_default}

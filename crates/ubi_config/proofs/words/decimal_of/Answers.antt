@@ -1,7 +1,4 @@
-use Rattle.std.proofs.Common.{◌<◌, arith}
-use Rattle.std.specs.Char.{is_ascii_digit}
-use Rattle.std.specs.List.{list_all}
-use Rattle.ubi_config.specs.Words.{decimal_value}
+use Rattle.ubi_config.proofs.Prelude.{◌<◌, arith, is_ascii_digit, list_all, decimal_value}
 use Rattle.ubi_config.proofs.Decimals.{fold_beyond, none_beyond}
 use Rattle.ubi_config.proofs.words.decimal_of.Goals as goal
 

@@ -1,8 +1,4 @@
-use Rattle.std.proofs.Common.{◌≡◌, ◌≤◌, drop}
-use Rattle.std.specs.Char.{is_ascii_digit}
-use Rattle.std.specs.Prelude.{fold}
-use Rattle.std.specs.List.{list_all}
-use Rattle.ubi_config.specs.Words.{decimal_value, with_digit}
+use Rattle.ubi_config.proofs.Prelude.{◌≡◌, ◌≤◌, drop, is_ascii_digit, fold, list_all, decimal_value, with_digit}
 use Rattle.ubi_config.proofs.words.decimal_of.Given as goal
 
 abbrev pub invariant-loop-byte : goal.invariant-loop-byte

@@ -1,6 +1,4 @@
-use Rattle.std.proofs.Common.{◌≡◌, ◌-◌, ◌≤◌, length, take}
-use Rattle.std.specs.List.{suffix_len}
-use Rattle.ubi_config.specs.Words.{is_blank}
+use Rattle.ubi_config.proofs.Prelude.{◌≡◌, ◌-◌, ◌≤◌, length, take, suffix_len, is_blank}
 use Rattle.ubi_config.proofs.words.trimmed_end.Given as goal
 
 abbrev pub invariant-loop-end : goal.invariant-loop-end

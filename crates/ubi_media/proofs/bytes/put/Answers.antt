@@ -1,4 +1,4 @@
-use Rattle.std.proofs.Common.{◌≡◌, ◌+◌, ◌-◌, length, arith}
+use Rattle.ubi_media.proofs.Prelude.{◌≡◌, ◌+◌, ◌-◌, length, arith}
 use Rattle.ubi_media.proofs.Writes.{put_all}
 use Rattle.ubi_media.proofs.bytes.put.Goals as goal
 

@@ -1,5 +1,4 @@
-use Rattle.std.proofs.Common.{◌≡◌, ◌+◌, ◌-◌, refl, arith}
-use Rattle.byteorder.specs.Endian.{big_bytes}
+use Rattle.ubi_media.proofs.Prelude.{◌≡◌, ◌+◌, ◌-◌, refl, arith, big_bytes}
 use Rattle.ubi_media.proofs.Writes.{put_is}
 use Rattle.ubi_media.proofs.bytes.put_u64.Goals as goal
 

@@ -1,4 +1,4 @@
-use Rattle.std.proofs.Common.{◌∙◌, sym}
+use Rattle.ubi_media.proofs.Prelude.{◌∙◌, sym}
 use Rattle.ubi_media.proofs.Checks.{check_from-byte}
 use Rattle.ubi_media.proofs.Table.{steps-found}
 use Rattle.ubi_media.proofs.check.with_byte.Goals as goal

@@ -1,6 +1,4 @@
-use Rattle.std.proofs.Common.{sym, ap, ◌∙◌}
-use Rattle.std.proofs.lemmas.List.{take_all}
-use Rattle.ubi_media.specs.Check.{check_from}
+use Rattle.ubi_media.proofs.Prelude.{sym, ap, ◌∙◌, take_all, check_from}
 use Rattle.ubi_media.proofs.Checks.{check_from-empty, check_from-more}
 use Rattle.ubi_media.proofs.check.with_bytes.Goals as goal
 

@@ -1,7 +1,4 @@
-use Rattle.std.proofs.Common.{sym, ap, ◌∙◌}
-use Rattle.std.proofs.lemmas.List.{take_all}
-use Rattle.std.specs.List.{concat}
-use Rattle.ubi_media.specs.Check.{check_from}
+use Rattle.ubi_media.proofs.Prelude.{sym, ap, ◌∙◌, take_all, concat, check_from}
 use Rattle.ubi_media.proofs.Checks.{check_from-empty, check_from-piece}
 use Rattle.ubi_media.proofs.check.with_eights.Goals as goal
 

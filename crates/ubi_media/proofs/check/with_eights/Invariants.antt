@@ -1,6 +1,4 @@
-use Rattle.std.proofs.Common.{◌≡◌, take}
-use Rattle.std.specs.List.{concat}
-use Rattle.ubi_media.specs.Check.{check_from}
+use Rattle.ubi_media.proofs.Prelude.{◌≡◌, take, concat, check_from}
 use Rattle.ubi_media.proofs.check.with_eights.Given as goal
 
 -- the register is the check of the bytes so far

@@ -1,6 +1,4 @@
-use Rattle.std.proofs.Common.{inl, inr, arith}
-use Rattle.std.proofs.lemmas.Bool.{cases_lt}
-use Rattle.std.proofs.lemmas.List.{get_or_past}
+use Rattle.ubi_media.proofs.Prelude.{inl, inr, arith, cases_lt, get_or_past}
 use Rattle.ubi_media.proofs.division.clear_end.Goals as goal
 
 pub returns-clause-clear : goal.returns-clause-clear

@@ -1,5 +1,4 @@
-use Rattle.std.proofs.Common.{◌≡◌, ℕ, ◌<◌, ◌≤◌, get_or, length}
-use Rattle.std.specs.List.{SameBelow}
+use Rattle.ubi_media.proofs.Prelude.{◌≡◌, ℕ, ◌<◌, ◌≤◌, get_or, length, SameBelow}
 use Rattle.ubi_media.proofs.division.clear_end.Given as goal
 
 -- zeros so far, and the words before them as they were

@@ -1,4 +1,4 @@
-use Rattle.ubi_media.specs.inner.Division.{IsQuotient}
+use Rattle.ubi_media.proofs.Prelude.{IsQuotient}
 use Rattle.ubi_media.proofs.division.divide.Given as goal
 
 -- the quotient goes on so far

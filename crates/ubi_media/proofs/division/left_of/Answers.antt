@@ -1,4 +1,4 @@
-use Rattle.std.proofs.Math.Nat.{add-zero}
+use Rattle.ubi_media.proofs.Prelude.{add-zero}
 use Rattle.ubi_media.proofs.Pieces.{word-and-five}
 use Rattle.ubi_media.proofs.division.left_of.Goals as goal
 

@@ -1,6 +1,4 @@
-use Rattle.std.proofs.Common.{◌≡◌, ℕ, ◌+◌, ◌<◌, [], length, get_or}
-use Rattle.std.specs.Int.{w64, to_le_bytes}
-use Rattle.ubi_media.specs.inner.Division.{left_of}
+use Rattle.ubi_media.proofs.Prelude.{◌≡◌, ℕ, ◌+◌, ◌<◌, [], length, get_or, w64, to_le_bytes, left_of}
 use Rattle.ubi_media.proofs.division.remainder_of.Given as goal
 
 -- the words that remain so far

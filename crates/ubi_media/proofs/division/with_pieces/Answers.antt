@@ -1,8 +1,4 @@
-use Rattle.std.proofs.Common.{[], ◌∷◌, ◌++◌, take, refl, sym, ap, ◌∙◌, arith}
-use Rattle.std.proofs.lemmas.List.{append-nil, take_all}
-use Rattle.std.proofs.lemmas.List.Folds.{concat-append}
-use Rattle.std.specs.List.{concat}
-use Rattle.ubi_media.specs.Check.{check_from}
+use Rattle.ubi_media.proofs.Prelude.{[], ◌∷◌, ◌++◌, take, refl, sym, ap, ◌∙◌, arith, append-nil, take_all, concat-append, concat, check_from}
 use Rattle.ubi_media.proofs.Checks.{check_from-append, check_from-empty, check_from-piece}
 use Rattle.ubi_media.proofs.Pieces.{carries-start}
 use Rattle.ubi_media.proofs.division.with_pieces.Goals as goal

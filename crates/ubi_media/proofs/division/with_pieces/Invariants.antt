@@ -1,7 +1,4 @@
-use Rattle.std.proofs.Common.{take}
-use Rattle.std.specs.List.{concat}
-use Rattle.ubi_media.specs.Check.{check_from}
-use Rattle.ubi_media.specs.inner.Division.{Carries}
+use Rattle.ubi_media.proofs.Prelude.{take, concat, check_from, Carries}
 use Rattle.ubi_media.proofs.division.with_pieces.Given as goal
 
 -- what is carried stands for the check of the bytes so far

@@ -1,5 +1,4 @@
-use Rattle.std.proofs.Common.{ap}
-use Rattle.ubi_media.specs.Ec.{ec_reading, reading_by, ec_fields}
+use Rattle.ubi_media.proofs.Prelude.{ap, ec_reading, reading_by, ec_fields}
 use Rattle.ubi_media.proofs.Readings.{ec_is_of}
 use Rattle.ubi_media.proofs.ec.read_ec.Goals as goal
 

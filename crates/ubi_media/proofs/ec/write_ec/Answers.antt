@@ -1,5 +1,4 @@
-use Rattle.std.proofs.Common.{sym, subst, ℕ, List, arith}
-use Rattle.ubi_media.specs.Ec.{EcIs}
+use Rattle.ubi_media.proofs.Prelude.{sym, subst, ℕ, List, arith, EcIs}
 use Rattle.ubi_media.specs.declared.ec.EcRead.TheVariants.{Valid}
 use Rattle.ubi_media.proofs.Headers.{ec_read_back}
 use Rattle.ubi_media.proofs.Writes.{ec_sealed}

@@ -1,4 +1,4 @@
-use Rattle.std.proofs.Common.{sym}
+use Rattle.ubi_media.proofs.Prelude.{sym}
 use Rattle.ubi_media.proofs.Checks.{check_from-append}
 use Rattle.ubi_media.proofs.laws.check_goes_on.Goals as goal
 

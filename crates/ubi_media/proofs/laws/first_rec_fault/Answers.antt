@@ -1,4 +1,4 @@
-use Rattle.ubi_media.specs.Record.{breaks, faults, first_fault}
+use Rattle.ubi_media.proofs.Prelude.{breaks, faults, first_fault}
 use Rattle.ubi_media.proofs.First.{find-IsFirst}
 use Rattle.ubi_media.proofs.laws.first_rec_fault.Goals as goal
 

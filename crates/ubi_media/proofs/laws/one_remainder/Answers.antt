@@ -1,7 +1,6 @@
-use Rattle.std.proofs.Common.{sym, subst}
+use Rattle.ubi_media.proofs.Prelude.{sym, subst, IsRemainder}
 use Rattle.ubi_media.proofs.Quotient as quotient
 use Rattle.ubi_media.proofs.laws.one_remainder.Goals as goal
-use Rattle.ubi_media.specs.Remainder.{IsRemainder}
 
 pub returns : goal.returns
 returns c = λ k p r below.

@@ -1,4 +1,4 @@
-use Rattle.std.proofs.Common.{◌∙◌, sym}
+use Rattle.ubi_media.proofs.Prelude.{◌∙◌, sym}
 use Rattle.ubi_media.proofs.Records.{length_kept, name_kept}
 use Rattle.ubi_media.proofs.record.judged.Goals as goal
 

@@ -1,6 +1,4 @@
-use Rattle.std.proofs.Common.{◌≡◌, ◌∙◌, ap, sym, true, false}
-use Rattle.ubi_media.specs.Fields.{same_bytes}
-use Rattle.ubi_media.specs.Record.{empty_record, judged}
+use Rattle.ubi_media.proofs.Prelude.{◌≡◌, ◌∙◌, ap, sym, true, false, same_bytes, empty_record, judged}
 use Rattle.ubi_media.proofs.Records.{reads_bad, reads_empty, reads_judged, rec_is_of}
 use Rattle.ubi_media.proofs.Sound.{valid_sound}
 use Rattle.ubi_media.proofs.record.read_rec.Goals as goal

@@ -1,6 +1,4 @@
-use Rattle.std.proofs.Common.{List, ℕ, ◌∙◌, ap, replicate, refl, subst, sym}
-use Rattle.std.specs.Option.{option_copied}
-use Rattle.ubi_media.specs.Record.{RecIs, rec_bytes, rec_front, slot_reading}
+use Rattle.ubi_media.proofs.Prelude.{List, ℕ, ◌∙◌, ap, replicate, refl, subst, sym, option_copied, RecIs, rec_bytes, rec_front, slot_reading}
 use Rattle.ubi_media.proofs.RecordBytes.{length-rec_front, slot_read_back}
 use Rattle.ubi_media.proofs.Writes.{sealed_is}
 use Rattle.ubi_media.proofs.record.write_rec.Goals as goal

@@ -1,5 +1,5 @@
-use Rattle.std.proofs.Common.{ap}
-use Rattle.ubi_media.specs.Vid.{vid_reading, reading_by, vid_fields}
+use Rattle.ubi_media.proofs.Prelude.{ap, vid_reading, vid_fields}
+use Rattle.ubi_media.specs.Vid.{reading_by}
 use Rattle.ubi_media.proofs.Readings.{vid_is_of}
 use Rattle.ubi_media.proofs.vid.read_vid.Goals as goal
 

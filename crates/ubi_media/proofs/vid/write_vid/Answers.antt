@@ -1,6 +1,4 @@
-use Rattle.std.proofs.Common.{sym, subst, arith, List, ℕ}
-use Rattle.ubi_media.specs.Vid.{VidIs}
-use Rattle.ubi_media.specs.declared.vid.VidRead.TheVariants.{Valid}
+use Rattle.ubi_media.proofs.Prelude.{sym, subst, arith, List, ℕ, VidIs, Valid}
 use Rattle.ubi_media.proofs.Headers.{Fits, vid_read_back}
 use Rattle.ubi_media.proofs.Writes.{vid_sealed}
 use Rattle.ubi_media.proofs.vid.write_vid.Goals as goal

@@ -1,5 +1,4 @@
-use Rattle.std.proofs.Common.{◌≡◌, ◌+◌, length, sym, arith}
-use Rattle.std.proofs.lemmas.Bool.{lt-leb}
+use Rattle.ubi_scan.proofs.Prelude.{◌≡◌, ◌+◌, length, sym, arith, lt-leb}
 use Rattle.ubi_scan.proofs.at_places.read_there.Goals as goal
 
 pub returns-then-saturating_add-len-clause-there : goal.returns-then-saturating_add-len-clause-there

@@ -1,6 +1,5 @@
-use Rattle.std.proofs.Common.{◌∙◌, ◌+◌, ap, sym, ℕ, arith}
-use Rattle.std.specs.Prelude.{◌&&◌, Bool}
-use Rattle.ubi_scan.specs.Sure.{block_at, is_start}
+use Rattle.ubi_scan.proofs.Prelude.{◌∙◌, ◌+◌, ap, sym, ℕ, arith, ◌&&◌, block_at, is_start}
+use Rattle.std.specs.Prelude.{Bool}
 use Rattle.ubi_scan.proofs.Tested.{count_more}
 use Rattle.ubi_scan.proofs.block_tests.count_starts.Goals as goal
 

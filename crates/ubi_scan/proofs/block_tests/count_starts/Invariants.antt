@@ -1,8 +1,4 @@
-use Rattle.std.proofs.Common.{◌≡◌, ◌≤◌}
-use Rattle.std.specs.List.{range_with_len}
-use Rattle.std.specs.Prelude.{◌&&◌, count_by}
-use Rattle.ubi_scan.specs.Source.{Narrows, WhereHeld}
-use Rattle.ubi_scan.specs.Sure.{block_at, is_start}
+use Rattle.ubi_scan.proofs.Prelude.{◌≡◌, ◌≤◌, range_with_len, ◌&&◌, count_by, Narrows, WhereHeld, block_at, is_start}
 use Rattle.ubi_scan.proofs.block_tests.count_starts.Given as goal
 
 -- so many of the first eraseblocks pass

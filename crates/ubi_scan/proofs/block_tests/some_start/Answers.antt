@@ -1,6 +1,5 @@
-use Rattle.std.proofs.Common.{◌∙◌, sym, ℕ}
-use Rattle.std.specs.Prelude.{◌&&◌, Bool}
-use Rattle.ubi_scan.specs.Sure.{block_at, blocks, is_start}
+use Rattle.ubi_scan.proofs.Prelude.{◌∙◌, sym, ℕ, ◌&&◌, block_at, blocks, is_start}
+use Rattle.std.specs.Prelude.{Bool}
 use Rattle.ubi_scan.proofs.Tested.{any_here, none_more}
 use Rattle.ubi_scan.proofs.block_tests.some_start.Goals as goal
 

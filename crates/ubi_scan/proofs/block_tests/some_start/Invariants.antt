@@ -1,8 +1,4 @@
-use Rattle.std.proofs.Common.{◌≡◌, false}
-use Rattle.std.specs.List.{list_any, range_with_len}
-use Rattle.std.specs.Prelude.{◌&&◌}
-use Rattle.ubi_scan.specs.Source.{Narrows, WhereHeld}
-use Rattle.ubi_scan.specs.Sure.{block_at, is_start}
+use Rattle.ubi_scan.proofs.Prelude.{◌≡◌, false, list_any, range_with_len, ◌&&◌, Narrows, WhereHeld, block_at, is_start}
 use Rattle.ubi_scan.proofs.block_tests.some_start.Given as goal
 
 -- none of the first eraseblocks passes

@@ -1,5 +1,4 @@
-use Rattle.std.proofs.Common.{◌∙◌, ap, inl}
-use Rattle.ubi_scan.specs.Source.{Source}
+use Rattle.ubi_scan.proofs.Prelude.{◌∙◌, ap, inl, Source}
 use Rattle.ubi_scan.proofs.DetectedParts.{detected, undetected}
 use Rattle.ubi_scan.proofs.detect.detect_from.Goals as goal
 

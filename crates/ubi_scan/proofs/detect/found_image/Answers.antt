@@ -1,4 +1,4 @@
-use Rattle.std.proofs.Common.{◌∙◌, inr, sym}
+use Rattle.ubi_scan.proofs.Prelude.{◌∙◌, inr, sym}
 use Rattle.ubi_scan.proofs.SaidGroups.{not_sure}
 use Rattle.ubi_scan.proofs.detect.found_image.Goals as goal
 

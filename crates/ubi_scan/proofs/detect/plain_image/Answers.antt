@@ -1,4 +1,4 @@
-use Rattle.std.proofs.Common.{◌∙◌, sym}
+use Rattle.ubi_scan.proofs.Prelude.{◌∙◌, sym}
 use Rattle.ubi_scan.proofs.OnePlain.{none_sure, none_surely}
 use Rattle.ubi_scan.proofs.detect.plain_image.Goals as goal
 

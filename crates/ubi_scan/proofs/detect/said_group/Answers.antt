@@ -1,9 +1,4 @@
-use Rattle.std.proofs.Common.{◌≡◌, ◌∙◌, ◌-◌, List, ap, inl, inr, length, refl, subst, sym, arith}
-use Rattle.std.proofs.lemmas.Bool.{eqb-false, eqb-true}
-use Rattle.std.proofs.lemmas.List.{nil_from_length}
-use Rattle.ubi_scan.specs.Heads.{heads_of}
-use Rattle.ubi_scan.specs.declared.groups.Group.{Group}
-use Rattle.ubi_scan.specs.inner.Detecting.{AreGroups}
+use Rattle.ubi_scan.proofs.Prelude.{◌≡◌, ◌∙◌, ◌-◌, List, ap, inl, inr, length, refl, subst, sym, arith, eqb-false, eqb-true, nil_from_length, heads_of, Group, AreGroups}
 use Rattle.ubi_scan.proofs.MoreKeys.{as_many_keys}
 use Rattle.ubi_scan.proofs.SaidGroups.{no_heads, some_heads, too_many}
 use Rattle.ubi_scan.proofs.detect.said_group.Goals as goal

@@ -1,6 +1,4 @@
-use Rattle.std.proofs.Common.{◌∙◌, sym, refl, arith}
-use Rattle.std.proofs.lemmas.Bool.{eqb-true}
-use Rattle.std.proofs.lemmas.List.{nil_from_length}
+use Rattle.ubi_scan.proofs.Prelude.{◌∙◌, sym, refl, arith, eqb-true, nil_from_length}
 use Rattle.ubi_scan.proofs.MostVoted.{no_page_is}
 use Rattle.ubi_scan.proofs.detect.tell.Goals as goal
 

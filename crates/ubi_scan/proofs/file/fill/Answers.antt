@@ -1,4 +1,4 @@
-use Rattle.std.proofs.Common.{rules}
+use Rattle.ubi_scan.proofs.Prelude.{rules}
 use Rattle.ubi_scan.proofs.Stands.{stand_on}
 use Rattle.ubi_scan.proofs.file.fill.Goals as goal
 

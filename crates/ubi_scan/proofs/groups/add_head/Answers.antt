@@ -1,9 +1,4 @@
-use Rattle.std.proofs.Common.{◌∙◌, ◌+◌, ◌/◌, ◌++◌, ◌∷◌, [], List, length, sym, ap, subst, arith}
-use Rattle.std.specs.List.{All}
-use Rattle.std.proofs.Math.Nat.{mod-add-div'}
-use Rattle.ubi_scan.specs.Heads.{step}
-use Rattle.ubi_scan.specs.declared.groups.Group.{Group}
-use Rattle.ubi_scan.specs.inner.Detecting.{AreAdded, AreGroups, IsWithin}
+use Rattle.ubi_scan.proofs.Prelude.{◌∙◌, ◌+◌, ◌/◌, ◌++◌, ◌∷◌, [], List, length, sym, ap, subst, arith, All, mod-add-div', step, Group, AreAdded, AreGroups, IsWithin}
 use Rattle.ubi_scan.proofs.AddedGroups.{few_each, groups_more, within_more, written}
 use Rattle.ubi_scan.proofs.groups.add_head.Goals as goal
 

@@ -1,7 +1,5 @@
-use Rattle.std.proofs.Common.{◌∙◌, arith, subst}
-use Rattle.ubi_scan.specs.declared.groups.Group.{Group}
-use Rattle.ubi_scan.specs.inner.Detecting.{IsAdded}
-use Rattle.std.proofs.lemmas.List.{get_or_default, length-set}
+use Rattle.ubi_scan.proofs.Prelude.{◌∙◌, arith, subst, Group, IsAdded, get_or_default}
+use Rattle.std.proofs.lemmas.List.{length-set}
 use Rattle.ubi_scan.proofs.AddedGroups.{added_here, left_there}
 use Rattle.ubi_scan.proofs.groups.add_to_each.Goals as goal
 

@@ -1,6 +1,5 @@
-use Rattle.std.proofs.Common.{◌≡◌, ℕ, ◌<◌, ◌≤◌, length, slice_index_or}
-use Rattle.ubi_scan.specs.declared.groups.Group.{Group}
-use Rattle.ubi_scan.specs.inner.Detecting.{IsAdded}
+use Rattle.ubi_scan.proofs.Prelude.{◌≡◌, ℕ, ◌<◌, ◌≤◌, length, Group, IsAdded}
+use Rattle.std.proofs.Common.{slice_index_or}
 use Rattle.ubi_scan.proofs.groups.add_to_each.Given as goal
 
 -- the header was added to the first groups, and the others are as they were

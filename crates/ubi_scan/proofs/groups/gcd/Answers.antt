@@ -1,5 +1,4 @@
-use Rattle.std.proofs.Common.{arith}
-use Rattle.std.proofs.lemmas.Nat.Gcd.{IsGcd-from_mod, IsGcd-from_zero}
+use Rattle.ubi_scan.proofs.Prelude.{arith, IsGcd-from_mod, IsGcd-from_zero}
 use Rattle.ubi_scan.proofs.groups.gcd.Goals as goal
 
 pub loop-y-preserved : goal.loop-y-preserved

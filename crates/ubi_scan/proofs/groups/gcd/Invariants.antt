@@ -1,5 +1,4 @@
-use Rattle.std.proofs.Common.{ℕ}
-use Rattle.std.specs.Int.{IsGcd}
+use Rattle.ubi_scan.proofs.Prelude.{ℕ, IsGcd}
 use Rattle.ubi_scan.proofs.groups.gcd.Given as goal
 
 abbrev pub invariant-loop-y : goal.invariant-loop-y

@@ -1,6 +1,4 @@
-use Rattle.std.proofs.Common.{◌∙◌, List, ap, subst, sym}
-use Rattle.ubi_scan.specs.declared.groups.Group.{Group}
-use Rattle.ubi_scan.specs.inner.Detecting.{AreReady, has_key}
+use Rattle.ubi_scan.proofs.Prelude.{◌∙◌, List, ap, subst, sym, Group, AreReady, has_key}
 use Rattle.ubi_scan.proofs.AddedGroups.{ready, ready_with}
 use Rattle.ubi_scan.proofs.groups.have_group.Goals as goal
 

@@ -1,9 +1,4 @@
-use Rattle.std.proofs.Common.{◌+◌, sym, ◌∙◌, subst, arith}
-use Rattle.std.specs.Prelude.{MatchOption, Option, slice_index_or}
-use Rattle.std.proofs.lemmas.Bool.{and_parts}
-use Rattle.std.proofs.lemmas.List.{get_or_default}
-use Rattle.ubi_scan.specs.declared.groups.Group.{Group}
-use Rattle.ubi_scan.specs.inner.Detecting.{IsBestOf, NoneSays}
+use Rattle.ubi_scan.proofs.Prelude.{◌+◌, sym, ◌∙◌, subst, arith, MatchOption, Option, slice_index_or, and_parts, get_or_default, Group, IsBestOf, NoneSays}
 use Rattle.ubi_scan.proofs.AddedGroups.{no_group}
 use Rattle.ubi_scan.proofs.BestGroup.{best_size, best_taken, best_within, image_of, stays_best}
 use Rattle.ubi_scan.proofs.groups.image_among.Goals as goal

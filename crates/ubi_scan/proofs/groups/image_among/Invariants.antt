@@ -1,5 +1,4 @@
-use Rattle.std.specs.Prelude.{MatchOption}
-use Rattle.ubi_scan.specs.inner.Detecting.{IsBestOf, NoneSays}
+use Rattle.ubi_scan.proofs.Prelude.{MatchOption, IsBestOf, NoneSays}
 use Rattle.ubi_scan.proofs.groups.image_among.Given as goal
 
 abbrev pub invariant-loop-i : goal.invariant-loop-i

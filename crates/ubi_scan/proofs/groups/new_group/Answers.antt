@@ -1,6 +1,5 @@
-use Rattle.std.proofs.Common.{sym, ◌∙◌}
+use Rattle.ubi_scan.proofs.Prelude.{sym, ◌∙◌, unnumbered}
 use Rattle.ubi_scan.proofs.NewGroups.{found_within, group_of_none, group_of_unnumbered}
-use Rattle.ubi_scan.specs.inner.Detecting.{unnumbered}
 use Rattle.ubi_scan.proofs.groups.new_group.Goals as goal
 
 pub returns-in-Some-clause-group : goal.returns-in-Some-clause-group

@@ -1,5 +1,4 @@
-use Rattle.std.proofs.Common.{◌∙◌}
-use Rattle.std.proofs.lemmas.Bool.{ne_eqb}
+use Rattle.ubi_scan.proofs.Prelude.{◌∙◌, ne_eqb}
 use Rattle.ubi_scan.proofs.Magics.{no_key_there}
 use Rattle.ubi_scan.proofs.heads.key_within.Goals as goal
 

@@ -1,7 +1,5 @@
-use Rattle.std.proofs.Common.{◌≡◌, ◌∙◌, ◌+◌, ◌-◌, ◌*◌, ◌/◌, sym, subst, ℕ, arith}
+use Rattle.ubi_scan.proofs.Prelude.{◌≡◌, ◌∙◌, ◌+◌, ◌-◌, ◌*◌, ◌/◌, sym, subst, ℕ, arith, run, is_blank}
 use Rattle.std.specs.Prelude.{Bool}
-use Rattle.ubi_scan.specs.Place.{run}
-use Rattle.ubi_scan.specs.Sure.{is_blank}
 use Rattle.ubi_scan.proofs.Runs.{run_all, run_is}
 use Rattle.ubi_scan.proofs.place.blanks_before.Goals as goal
 

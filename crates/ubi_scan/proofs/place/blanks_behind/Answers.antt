@@ -1,7 +1,5 @@
-use Rattle.std.proofs.Common.{◌≡◌, ◌∙◌, ◌+◌, ◌-◌, ◌*◌, ◌/◌, ap, sym, subst, length, ℕ, arith}
+use Rattle.ubi_scan.proofs.Prelude.{◌≡◌, ◌∙◌, ◌+◌, ◌-◌, ◌*◌, ◌/◌, ap, sym, subst, length, ℕ, arith, end_of_last, run, is_blank}
 use Rattle.std.specs.Prelude.{Bool}
-use Rattle.ubi_scan.specs.Place.{end_of_last, run}
-use Rattle.ubi_scan.specs.Sure.{is_blank}
 use Rattle.ubi_scan.proofs.Runs.{run_all, run_is}
 use Rattle.ubi_scan.proofs.place.blanks_behind.Goals as goal
 

@@ -1,6 +1,4 @@
-use Rattle.std.proofs.Common.{◌≡◌, ◌+◌, ◌*◌, ◌<◌, true, ℕ}
-use Rattle.ubi_scan.specs.Source.{Narrows, WhereHeld}
-use Rattle.ubi_scan.specs.Sure.{is_blank}
+use Rattle.ubi_scan.proofs.Prelude.{◌≡◌, ◌+◌, ◌*◌, ◌<◌, true, ℕ, Narrows, WhereHeld, is_blank}
 use Rattle.ubi_scan.proofs.place.blanks_behind.Given as goal
 
 abbrev pub invariant-loop-j : goal.invariant-loop-j

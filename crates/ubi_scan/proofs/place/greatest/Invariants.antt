@@ -1,6 +1,4 @@
-use Rattle.std.proofs.Common.{◌≡◌, take}
-use Rattle.std.specs.List.{fold}
-use Rattle.std.specs.Prelude.{max}
+use Rattle.ubi_scan.proofs.Prelude.{◌≡◌, take, fold, max}
 use Rattle.ubi_scan.proofs.place.greatest.Given as goal
 
 abbrev pub invariant-loop-number : goal.invariant-loop-number

@@ -1,6 +1,4 @@
-use Rattle.std.proofs.Common.{◌∙◌, ◌++◌, ◌∷◌, [], List, ap, get_or, ℕ}
-use Rattle.std.specs.Prelude.{◌&&◌, ◌==◌, nat_lt}
-use Rattle.ubi_scan.specs.declared.way.Way.{Way}
+use Rattle.ubi_scan.proofs.Prelude.{◌∙◌, ◌++◌, ◌∷◌, [], List, ap, get_or, ℕ, ◌&&◌, ◌==◌, nat_lt, Way}
 use Rattle.ubi_scan.proofs.MostVoted.{less_more, most_more}
 use Rattle.ubi_scan.proofs.place.most_voted.Goals as goal
 use Rattle.ubi_scan.proofs.place.most_voted.Goals.{else-are_most, then-are_most+in_ok-push}

@@ -1,8 +1,4 @@
-use Rattle.std.proofs.Common.{◌≡◌, take, ℕ}
-use Rattle.std.specs.List.{filter}
-use Rattle.std.specs.Prelude.{map}
-use Rattle.ubi_scan.specs.declared.way.Way.{Way}
-use Rattle.ubi_scan.specs.inner.Detecting.{is_most_voted}
+use Rattle.ubi_scan.proofs.Prelude.{◌≡◌, take, ℕ, filter, map, Way, is_most_voted}
 use Rattle.ubi_scan.proofs.place.most_voted.Given as goal
 
 abbrev pub invariant-loop-i : goal.invariant-loop-i

@@ -1,6 +1,4 @@
-use Rattle.std.proofs.Common.{◌≡◌, take}
-use Rattle.std.specs.Prelude.{map}
-use Rattle.ubi_scan.specs.Place.{told_by}
+use Rattle.ubi_scan.proofs.Prelude.{◌≡◌, take, map, told_by}
 use Rattle.ubi_scan.proofs.place.placed.Given as goal
 
 abbrev pub invariant-loop-way : goal.invariant-loop-way

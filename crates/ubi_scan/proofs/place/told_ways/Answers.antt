@@ -1,9 +1,4 @@
-use Rattle.std.proofs.Common.{◌∙◌, ap, sym, length, arith}
-use Rattle.std.specs.List.{filter, fold}
-use Rattle.std.specs.Prelude.{◌==◌, map, max}
-use Rattle.std.proofs.lemmas.Result.{IfOk-weaker}
-use Rattle.ubi_scan.specs.Place.{has_vote, votes}
-use Rattle.ubi_scan.specs.inner.Detecting.{is_most_voted}
+use Rattle.ubi_scan.proofs.Prelude.{◌∙◌, ap, sym, length, arith, filter, fold, ◌==◌, map, max, IfOk-weaker, has_vote, votes, is_most_voted}
 use Rattle.ubi_scan.proofs.MostVoted.{told_if_less, told_if_most}
 use Rattle.ubi_scan.proofs.place.told_ways.Goals as goal
 

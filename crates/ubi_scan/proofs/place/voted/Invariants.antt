@@ -1,7 +1,4 @@
-use Rattle.std.proofs.Common.{◌≡◌, take}
-use Rattle.std.specs.List.{filter}
-use Rattle.ubi_scan.specs.Place.{has_vote}
-use Rattle.ubi_scan.specs.Source.{Narrows, WhereHeld}
+use Rattle.ubi_scan.proofs.Prelude.{◌≡◌, take, filter, has_vote, Narrows, WhereHeld}
 use Rattle.ubi_scan.proofs.place.voted.Given as goal
 
 abbrev pub invariant-loop-way : goal.invariant-loop-way

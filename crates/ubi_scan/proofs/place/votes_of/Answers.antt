@@ -1,8 +1,4 @@
-use Rattle.std.proofs.Common.{◌∙◌, ◌++◌, ◌∷◌, [], ◌+◌, List, ap, sym, take, ℕ}
-use Rattle.std.specs.Prelude.{map}
-use Rattle.std.proofs.lemmas.List.{map_more}
-use Rattle.ubi_scan.specs.Place.{votes}
-use Rattle.ubi_scan.specs.declared.way.Way.{Way}
+use Rattle.ubi_scan.proofs.Prelude.{◌∙◌, ◌++◌, ◌∷◌, [], ◌+◌, List, ap, sym, take, ℕ, map, map_more, votes, Way}
 use Rattle.ubi_scan.proofs.place.votes_of.Goals as goal
 
 pub loop-way-preserved : goal.loop-way-preserved

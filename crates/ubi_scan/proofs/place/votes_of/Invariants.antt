@@ -1,7 +1,4 @@
-use Rattle.std.proofs.Common.{◌≡◌, take, vec_len}
-use Rattle.std.specs.Prelude.{map}
-use Rattle.ubi_scan.specs.Place.{votes}
-use Rattle.ubi_scan.specs.Source.{Narrows, WhereHeld}
+use Rattle.ubi_scan.proofs.Prelude.{◌≡◌, take, vec_len, map, votes, Narrows, WhereHeld}
 use Rattle.ubi_scan.proofs.place.votes_of.Given as goal
 
 abbrev pub invariant-loop-way : goal.invariant-loop-way

@@ -1,6 +1,4 @@
-use Rattle.std.proofs.Common.{◌≡◌}
-use Rattle.ubi_scan.specs.Source.{Narrows, WhereHeld}
-use Rattle.ubi_scan.specs.inner.Joined.{NoHeads}
+use Rattle.ubi_scan.proofs.Prelude.{◌≡◌, Narrows, WhereHeld, NoHeads}
 use Rattle.ubi_scan.proofs.plain.first_head.Given as goal
 
 abbrev pub invariant-loop-u : goal.invariant-loop-u

@@ -1,4 +1,4 @@
-use Rattle.std.proofs.Common.{◌∙◌, refl, sym}
+use Rattle.ubi_scan.proofs.Prelude.{◌∙◌, refl, sym}
 use Rattle.ubi_scan.proofs.JoinedKeys.{joined_first, joined_more, none_joined, none_there}
 use Rattle.ubi_scan.proofs.plain.joined_key.Goals as goal
 

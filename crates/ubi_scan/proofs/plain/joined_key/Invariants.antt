@@ -1,6 +1,4 @@
-use Rattle.std.proofs.Common.{◌≡◌}
-use Rattle.ubi_scan.specs.Source.{Narrows, WhereHeld}
-use Rattle.ubi_scan.specs.inner.Joined.{AreJoined}
+use Rattle.ubi_scan.proofs.Prelude.{◌≡◌, Narrows, WhereHeld, AreJoined}
 use Rattle.ubi_scan.proofs.plain.joined_key.Given as goal
 
 abbrev pub invariant-loop-i : goal.invariant-loop-i

@@ -1,6 +1,4 @@
-use Rattle.std.proofs.Common.{◌∙◌, ◌*◌, ◌/◌, ◌%◌, ap, sym, arith}
-use Rattle.std.specs.Prelude.{min}
-use Rattle.ubi_scan.specs.Groups.{greatest_size}
+use Rattle.ubi_scan.proofs.Prelude.{◌∙◌, ◌*◌, ◌/◌, ◌%◌, ap, sym, arith, min, greatest_size}
 use Rattle.ubi_scan.proofs.PlainSizes.{no_second, not_alone, not_whole, plain_size_is}
 use Rattle.ubi_scan.proofs.plain.plain_size.Goals as goal
 

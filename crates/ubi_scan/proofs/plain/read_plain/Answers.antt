@@ -1,4 +1,4 @@
-use Rattle.std.proofs.Common.{◌∙◌, sym, arith}
+use Rattle.ubi_scan.proofs.Prelude.{◌∙◌, sym, arith}
 use Rattle.ubi_scan.proofs.PlainGroups.{has_first, long_enough, no_group, plain_group}
 use Rattle.ubi_scan.proofs.plain.read_plain.Goals as goal
 

@@ -1,8 +1,4 @@
-use Rattle.std.proofs.Common.{rules, ◌≡◌, ◌+◌, ◌≤◌, length, slice_range, length-take-le, ap, sym, ◌∙◌, arith}
-use Rattle.ubi_media.specs.Ec.{ec_reading}
-use Rattle.ubi_media.specs.Vid.{vid_reading}
-use Rattle.ubi_scan.specs.Image.{block}
-use Rattle.ubi_scan.specs.Source.{blocks_of}
+use Rattle.ubi_scan.proofs.Prelude.{rules, ◌≡◌, ◌+◌, ◌≤◌, length, slice_range, length-take-le, ap, sym, ◌∙◌, arith, ec_reading, vid_reading, block, blocks_of}
 use Rattle.ubi_scan.proofs.Counters.{counter_fits}
 use Rattle.ubi_scan.proofs.ReadParts.{front_of_read, part_of_read}
 use Rattle.ubi_scan.proofs.FailedReads.{names_part}

@@ -1,4 +1,4 @@
-use Rattle.std.proofs.Common.{◌<◌, arith}
+use Rattle.ubi_scan.proofs.Prelude.{◌<◌, arith}
 use Rattle.ubi_scan.proofs.FailedReads.{names_part}
 use Rattle.ubi_scan.proofs.reading.read_leb.Goals as goal
 

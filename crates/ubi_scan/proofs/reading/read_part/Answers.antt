@@ -1,4 +1,4 @@
-use Rattle.std.proofs.Common.{◌≡◌, ◌+◌, ◌*◌, ◌/◌, ◌<◌, length, slice_range, ap, ◌∙◌, refl}
+use Rattle.ubi_scan.proofs.Prelude.{◌≡◌, ◌+◌, ◌*◌, ◌/◌, ◌<◌, length, slice_range, ap, ◌∙◌, refl}
 use Rattle.ubi_scan.proofs.ReadParts.{part_of_block}
 use Rattle.ubi_scan.proofs.reading.read_part.Goals as goal
 

@@ -1,9 +1,5 @@
-use Rattle.std.proofs.Common.{◌≡◌, ◌/◌, ◌<◌, ◌≤◌, ◌==◌, length, length-take-le, slice_range, take, ap, ◌∙◌, arith}
-use Rattle.std.specs.Prelude.{min}
-use Rattle.ubi_media.specs.Check.{check}
-use Rattle.ubi_media.specs.Geometry.{leb_size}
-use Rattle.ubi_scan.specs.Image.{block, leb}
-use Rattle.ubi_scan.specs.Source.{blocks_of}
+use Rattle.ubi_scan.proofs.Prelude.{◌≡◌, ◌/◌, ◌<◌, ◌≤◌, length, length-take-le, slice_range, take, ap, ◌∙◌, arith, min, check, leb_size, block, leb, blocks_of}
+use Rattle.std.proofs.Common.{◌==◌}
 use Rattle.ubi_scan.proofs.ReadParts.{data_of_read}
 use Rattle.ubi_scan.proofs.scanning.is_right.Goals as goal
 

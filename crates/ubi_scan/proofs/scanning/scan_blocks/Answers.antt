@@ -1,7 +1,4 @@
-use Rattle.std.proofs.Common.{◌≡◌, ◌<◌, inr, length, subst, sym, ◌∙◌, arith}
-use Rattle.ubi_scan.specs.Source.{Source, blocks_in, blocks_of}
-use Rattle.ubi_scan.specs.inner.Pass.{AreAtMost}
-use Rattle.ubi_scan.specs.declared.pass.Pass.{Pass}
+use Rattle.ubi_scan.proofs.Prelude.{◌≡◌, ◌<◌, inr, length, subst, sym, ◌∙◌, arith, Source, blocks_in, blocks_of, AreAtMost, Pass}
 use Rattle.ubi_scan.proofs.Counters.{mean_fits}
 use Rattle.ubi_scan.proofs.ReadParts.{count_blocks}
 use Rattle.ubi_scan.proofs.SoFar.{SoFar-all, SoFar-fault, SoFar-more, SoFar-twin}

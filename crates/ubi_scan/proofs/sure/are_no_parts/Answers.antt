@@ -1,5 +1,5 @@
-use Rattle.std.proofs.Common.{◌≡◌, ◌∙◌, ◌&&◌, Bool, ap, ap₂, not, subst, sym, true, false, ℕ}
-use Rattle.ubi_scan.specs.Sure.{goes_on, is_hole, some_inner, some_start}
+use Rattle.ubi_scan.proofs.Prelude.{◌≡◌, ◌∙◌, Bool, ap, ap₂, subst, sym, true, false, ℕ, goes_on, is_hole, some_inner, some_start}
+use Rattle.std.proofs.Common.{◌&&◌, not}
 use Rattle.ubi_scan.proofs.sure.are_no_parts.Goals as goal
 
 pub returns-then-not-branch-clause-are : goal.returns-then-not-branch-clause-are

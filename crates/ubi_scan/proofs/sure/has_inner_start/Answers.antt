@@ -1,7 +1,5 @@
-use Rattle.std.proofs.Common.{◌∙◌, ◌+◌, ◌/◌, sym, ℕ}
+use Rattle.ubi_scan.proofs.Prelude.{◌∙◌, ◌+◌, ◌/◌, sym, ℕ, step, has_part_start}
 use Rattle.std.specs.Prelude.{Bool}
-use Rattle.ubi_scan.specs.Heads.{step}
-use Rattle.ubi_scan.specs.Sure.{has_part_start}
 use Rattle.ubi_scan.proofs.Tested.{any_here, none_more}
 use Rattle.ubi_scan.proofs.sure.has_inner_start.Goals as goal
 

@@ -1,7 +1,4 @@
-use Rattle.std.proofs.Common.{◌≡◌, ◌+◌, false}
-use Rattle.std.specs.List.{list_any, range_with_len}
-use Rattle.ubi_scan.specs.Source.{Narrows, WhereHeld}
-use Rattle.ubi_scan.specs.Sure.{has_part_start}
+use Rattle.ubi_scan.proofs.Prelude.{◌≡◌, ◌+◌, false, list_any, range_with_len, Narrows, WhereHeld, has_part_start}
 use Rattle.ubi_scan.proofs.sure.has_inner_start.Given as goal
 
 abbrev pub invariant-loop-i : goal.invariant-loop-i

@@ -1,7 +1,4 @@
-use Rattle.std.proofs.Common.{◌∙◌, ◌+◌, ap, sym}
-use Rattle.std.specs.Prelude.{◌==◌, not}
-use Rattle.ubi_scan.specs.Sure.{copy_at, number_at}
-use Rattle.ubi_scan.specs.Ways.{put}
+use Rattle.ubi_scan.proofs.Prelude.{◌∙◌, ◌+◌, ap, sym, ◌==◌, not, copy_at, number_at, put}
 use Rattle.ubi_scan.proofs.InTurn.{first_fails, second_fails, third_decides}
 use Rattle.ubi_scan.proofs.sure.have_copies.Goals as goal
 

@@ -1,12 +1,4 @@
-use Rattle.std.proofs.Common.{◌≡◌, ◌∙◌, ◌+◌, ◌*◌, ◌-◌, ap, sym}
-use Rattle.std.specs.Prelude.{not}
-use Rattle.std.proofs.lemmas.Bool.{eq-eqb, ne_eqb}
-use Rattle.ubi_media.specs.Geometry.{slots}
-use Rattle.ubi_media.specs.Record.{record_size}
-use Rattle.ubi_media.specs.Vid.{vid_magic}
-use Rattle.ubi_scan.specs.Members.{layout}
-use Rattle.ubi_scan.specs.Sure.{is_blank, number_at}
-use Rattle.ubi_scan.specs.Ways.{put}
+use Rattle.ubi_scan.proofs.Prelude.{◌≡◌, ◌∙◌, ◌+◌, ◌*◌, ◌-◌, ap, sym, not, eq-eqb, ne_eqb, slots, record_size, vid_magic, layout, is_blank, number_at, put}
 use Rattle.ubi_scan.proofs.InTurn.{first_fails, second_fails, third_decides}
 use Rattle.ubi_scan.proofs.sure.holds_table.Goals as goal
 

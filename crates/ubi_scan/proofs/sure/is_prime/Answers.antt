@@ -1,6 +1,5 @@
-use Rattle.std.proofs.Common.{◌+◌, ◌-◌, ◌%◌, ap, sym, ℕ, arith}
-use Rattle.std.specs.Prelude.{◌==◌, Bool, not}
-use Rattle.std.proofs.lemmas.Bool.{eq-eqb, ne_eqb}
+use Rattle.ubi_scan.proofs.Prelude.{◌+◌, ◌-◌, ◌%◌, ap, sym, ℕ, arith, ◌==◌, not, eq-eqb, ne_eqb}
+use Rattle.std.specs.Prelude.{Bool}
 use Rattle.ubi_scan.proofs.Tested.{all_fails, all_pass}
 use Rattle.ubi_scan.proofs.sure.is_prime.Goals as goal
 

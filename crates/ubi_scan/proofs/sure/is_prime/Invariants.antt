@@ -1,6 +1,4 @@
-use Rattle.std.proofs.Common.{◌≡◌, ◌+◌, ◌%◌, true}
-use Rattle.std.specs.List.{list_all, range_with_len}
-use Rattle.std.specs.Prelude.{◌==◌, not}
+use Rattle.ubi_scan.proofs.Prelude.{◌≡◌, ◌+◌, ◌%◌, true, list_all, range_with_len, ◌==◌, not}
 use Rattle.ubi_scan.proofs.sure.is_prime.Given as goal
 
 abbrev pub invariant-loop-e : goal.invariant-loop-e

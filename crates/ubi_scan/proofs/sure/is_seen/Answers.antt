@@ -1,5 +1,4 @@
-use Rattle.std.proofs.Common.{◌∙◌, sym}
-use Rattle.std.proofs.lemmas.Bool.{ne_eqb}
+use Rattle.ubi_scan.proofs.Prelude.{◌∙◌, sym, ne_eqb}
 use Rattle.ubi_scan.proofs.InTurn.{both_fail, last_decides}
 use Rattle.ubi_scan.proofs.sure.is_seen.Goals as goal
 

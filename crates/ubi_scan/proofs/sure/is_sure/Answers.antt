@@ -1,5 +1,4 @@
-use Rattle.std.proofs.Common.{◌∙◌, sym}
-use Rattle.std.proofs.lemmas.Result.{IfErr-weaker, IfOk-weaker}
+use Rattle.ubi_scan.proofs.Prelude.{◌∙◌, sym, IfErr-weaker, IfOk-weaker}
 use Rattle.ubi_scan.proofs.FailedPlaces.{read_error}
 use Rattle.ubi_scan.proofs.InTurn.{first_of_two, second_of_two}
 use Rattle.ubi_scan.proofs.sure.is_sure.Goals as goal

@@ -1,7 +1,5 @@
-use Rattle.std.proofs.Common.{◌∙◌, ◌+◌, ◌/◌, sym, ℕ}
-use Rattle.std.specs.Prelude.{◌||◌, Bool, not}
-use Rattle.ubi_scan.specs.Heads.{step}
-use Rattle.ubi_scan.specs.Sure.{are_no_parts, may_be_parts}
+use Rattle.ubi_scan.proofs.Prelude.{◌∙◌, ◌+◌, ◌/◌, sym, ℕ, ◌||◌, not, step, are_no_parts, may_be_parts}
+use Rattle.std.specs.Prelude.{Bool}
 use Rattle.ubi_scan.proofs.Tested.{all_fails, all_pass}
 use Rattle.ubi_scan.proofs.sure.is_whole_size.Goals as goal
 

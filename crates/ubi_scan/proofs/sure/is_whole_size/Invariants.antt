@@ -1,8 +1,4 @@
-use Rattle.std.proofs.Common.{◌≡◌, ◌+◌, true}
-use Rattle.std.specs.List.{list_all, range_with_len}
-use Rattle.std.specs.Prelude.{◌||◌, not}
-use Rattle.ubi_scan.specs.Source.{Narrows, WhereHeld}
-use Rattle.ubi_scan.specs.Sure.{are_no_parts, may_be_parts}
+use Rattle.ubi_scan.proofs.Prelude.{◌≡◌, ◌+◌, true, list_all, range_with_len, ◌||◌, not, Narrows, WhereHeld, are_no_parts, may_be_parts}
 use Rattle.ubi_scan.proofs.sure.is_whole_size.Given as goal
 
 abbrev pub invariant-loop-i : goal.invariant-loop-i

@@ -1,5 +1,4 @@
-use Rattle.std.proofs.Common.{◌∙◌, sym}
-use Rattle.std.proofs.lemmas.Result.{IfOk-weaker}
+use Rattle.ubi_scan.proofs.Prelude.{◌∙◌, sym, IfOk-weaker}
 use Rattle.ubi_scan.proofs.InTurn.{third_decides}
 use Rattle.ubi_scan.proofs.sure.may_be_size.Goals as goal
 

@@ -1,7 +1,4 @@
-use Rattle.std.proofs.Common.{◌≡◌, false, take}
-use Rattle.std.specs.List.{list_any}
-use Rattle.ubi_scan.specs.Source.{Narrows, WhereHeld}
-use Rattle.ubi_scan.specs.Sure.{meets, some_start}
+use Rattle.ubi_scan.proofs.Prelude.{◌≡◌, false, take, list_any, Narrows, WhereHeld, meets, some_start}
 use Rattle.ubi_scan.proofs.sure.meet_in.Given as goal
 
 -- none of the first ways does

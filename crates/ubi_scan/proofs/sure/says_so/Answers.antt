@@ -1,6 +1,4 @@
-use Rattle.std.proofs.Common.{◌∙◌, sym}
-use Rattle.std.proofs.lemmas.Bool.{le-leb, lt-leb}
-use Rattle.std.proofs.lemmas.Result.{IfOk-weaker}
+use Rattle.ubi_scan.proofs.Prelude.{◌∙◌, sym, le-leb, lt-leb, IfOk-weaker}
 use Rattle.ubi_scan.proofs.InTurn.{fourth_decides, none_of}
 use Rattle.ubi_scan.proofs.sure.says_so.Goals as goal
 

@@ -1,8 +1,4 @@
-use Rattle.std.proofs.Common.{◌+◌, ◌/◌, List, ℕ, ap, subst, sym, arith, length}
-use Rattle.std.specs.List.{All}
-use Rattle.ubi_scan.specs.Heads.{heads_to, keys_of, step}
-use Rattle.ubi_scan.specs.declared.heads.Head.{Head}
-use Rattle.ubi_scan.specs.inner.Detecting.{AreGroups, IsWithin}
+use Rattle.ubi_scan.proofs.Prelude.{◌+◌, ◌/◌, List, ℕ, ap, subst, sym, arith, length, All, heads_to, keys_of, step, Head, AreGroups, IsWithin}
 use Rattle.ubi_scan.proofs.MoreKeys.{as_many_keys, keys_in_more}
 use Rattle.ubi_scan.proofs.Surveyed.{heads_of_unit, unit_behind, unit_inside}
 use Rattle.ubi_scan.proofs.survey.add_heads.Goals as goal

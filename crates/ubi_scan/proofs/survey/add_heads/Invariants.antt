@@ -1,7 +1,4 @@
-use Rattle.std.proofs.Common.{◌≡◌, ℕ, ◌+◌, ◌/◌, ◌≤◌, List, length, slice_range, vec_len}
-use Rattle.std.specs.List.{All}
-use Rattle.ubi_scan.specs.Heads.{heads_to, step}
-use Rattle.ubi_scan.specs.inner.Detecting.{AreGroups, IsWithin}
+use Rattle.ubi_scan.proofs.Prelude.{◌≡◌, ℕ, ◌+◌, ◌/◌, ◌≤◌, List, length, slice_range, vec_len, All, heads_to, step, AreGroups, IsWithin}
 use Rattle.ubi_scan.proofs.survey.add_heads.Given as goal
 
 -- the headers of the first units are among the groups

@@ -1,10 +1,4 @@
-use Rattle.std.proofs.Common.{◌≡◌, ◌∙◌, ◌+◌, ◌*◌, ◌/◌, ◌-◌, ◌≤◌, ℕ, ap, subst, sym, arith, length}
-use Rattle.std.specs.Int.{div_ceil}
-use Rattle.std.specs.List.{All}
-use Rattle.std.specs.Prelude.{min}
-use Rattle.ubi_scan.specs.Heads.{heads_to, step}
-use Rattle.ubi_scan.specs.Source.{Source}
-use Rattle.ubi_scan.specs.inner.Detecting.{AreGroups, IsWithin}
+use Rattle.ubi_scan.proofs.Prelude.{◌≡◌, ◌∙◌, ◌+◌, ◌*◌, ◌/◌, ◌-◌, ◌≤◌, ℕ, ap, subst, sym, arith, length, div_ceil, All, min, heads_to, step, Source, AreGroups, IsWithin}
 use Rattle.ubi_scan.proofs.MoreKeys.{keys_in_more}
 use Rattle.ubi_scan.proofs.Surveyed.{all_windows, below_ceil, next_window, past_ceil}
 use Rattle.ubi_scan.proofs.survey.read_groups.Goals as goal

@@ -1,9 +1,4 @@
-use Rattle.std.proofs.Common.{◌≡◌, ◌*◌, ◌/◌, ◌≤◌, vec_len}
-use Rattle.std.specs.List.{All}
-use Rattle.std.specs.Prelude.{min}
-use Rattle.ubi_scan.specs.Heads.{heads_to, step}
-use Rattle.ubi_scan.specs.Source.{Narrows, WhereHeld}
-use Rattle.ubi_scan.specs.inner.Detecting.{AreGroups, IsWithin}
+use Rattle.ubi_scan.proofs.Prelude.{◌≡◌, ◌*◌, ◌/◌, ◌≤◌, vec_len, All, min, heads_to, step, Narrows, WhereHeld, AreGroups, IsWithin}
 use Rattle.ubi_scan.proofs.survey.read_groups.Given as goal
 
 -- the headers of the first windows are among the groups

@@ -1,9 +1,4 @@
-use Rattle.std.proofs.Common.{◌∙◌, ◌++◌, List, ap, get_or, sym, ℕ}
-use Rattle.ubi_scan.specs.declared.way.Way.{Way}
-use Rattle.std.specs.List.{filter_map, flat_map}
-use Rattle.std.proofs.lemmas.List.{take_all}
-use Rattle.ubi_media.specs.Geometry.{page_sizes}
-use Rattle.ubi_scan.specs.Ways.{page_counts, way_of}
+use Rattle.ubi_scan.proofs.Prelude.{◌∙◌, ◌++◌, List, ap, get_or, sym, ℕ, Way, filter_map, flat_map, take_all, page_sizes, page_counts, way_of}
 use Rattle.ubi_scan.proofs.WaysThatFit.{found_more}
 use Rattle.ubi_scan.proofs.ways.oob_ways.Goals as goal
 

@@ -1,7 +1,4 @@
-use Rattle.std.proofs.Common.{◌≡◌, take}
-use Rattle.std.specs.List.{filter_map, flat_map}
-use Rattle.ubi_media.specs.Geometry.{page_sizes}
-use Rattle.ubi_scan.specs.Ways.{page_counts, way_of}
+use Rattle.ubi_scan.proofs.Prelude.{◌≡◌, take, filter_map, flat_map, page_sizes, page_counts, way_of}
 use Rattle.ubi_scan.proofs.ways.oob_ways.Given as goal
 
 abbrev pub invariant-loop-page : goal.invariant-loop-page

@@ -1,7 +1,4 @@
-use Rattle.std.proofs.Common.{◌∙◌, [], ap, sym}
-use Rattle.std.specs.Prelude.{option_map}
-use Rattle.ubi_media.specs.Geometry.{page_sizes}
-use Rattle.ubi_scan.specs.Ways.{plain_way}
+use Rattle.ubi_scan.proofs.Prelude.{◌∙◌, [], ap, sym, option_map, page_sizes, plain_way}
 use Rattle.ubi_scan.proofs.WaysThatFit.{fit_more, miss_more}
 use Rattle.ubi_scan.proofs.ways.plain_ways.Goals as goal
 use Rattle.ubi_scan.proofs.ways.plain_ways.Goals.{in-Some+in_ok-push, in_default}

@@ -1,5 +1,4 @@
-use Rattle.std.proofs.Common.{◌∙◌, ap, sym}
-use Rattle.ubi_scan.specs.Ways.{page_counts, way_of}
+use Rattle.ubi_scan.proofs.Prelude.{◌∙◌, ap, sym, page_counts, way_of}
 use Rattle.ubi_scan.proofs.WaysThatFit.{fit_more, miss_more}
 use Rattle.ubi_scan.proofs.ways.push_ways.Goals as goal
 use Rattle.ubi_scan.proofs.ways.push_ways.Goals.{in-Some+in_ok-push, in_default}

@@ -1,6 +1,4 @@
-use Rattle.std.proofs.Common.{◌≡◌, ◌++◌, take}
-use Rattle.std.specs.List.{filter_map}
-use Rattle.ubi_scan.specs.Ways.{page_counts, way_of}
+use Rattle.ubi_scan.proofs.Prelude.{◌≡◌, ◌++◌, take, filter_map, page_counts, way_of}
 use Rattle.ubi_scan.proofs.ways.push_ways.Given as goal
 
 abbrev pub invariant-loop-count : goal.invariant-loop-count

@@ -1,7 +1,5 @@
-use Rattle.ubi_scan.specs.Source.{Narrows, holds, memory}
+use Rattle.ubi_table.proofs.Prelude.{Narrows, holds, memory, scan_of_memory, still, IsTableOf, IsTableOfError}
 use Rattle.ubi_scan.specs.declared.errors.StreamError.TheVariants as stream
-use Rattle.ubi_scan.proofs.InMemory.{scan_of_memory, still}
-use Rattle.ubi_table.specs.Stream.{IsTableOf, IsTableOfError}
 use Rattle.ubi_table.proofs.choosing.choose.Goals as goal
 
 pub choose_from-requires : goal.choose_from-requires

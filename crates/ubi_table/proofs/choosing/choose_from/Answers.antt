@@ -1,5 +1,4 @@
-use Rattle.std.proofs.Common.{inl, refl, arith}
-use Rattle.ubi_scan.specs.Source.{blocks_of}
+use Rattle.ubi_table.proofs.Prelude.{inl, refl, arith, blocks_of}
 use Rattle.ubi_table.proofs.Deciding.{no_copies}
 use Rattle.ubi_table.proofs.NoRecords.{no_space}
 use Rattle.ubi_table.proofs.choosing.choose_from.Goals as goal

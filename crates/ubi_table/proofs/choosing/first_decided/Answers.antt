@@ -1,9 +1,4 @@
-use Rattle.std.proofs.Common.{◌≡◌, ◌∙◌, subst, arith}
-use Rattle.std.specs.Prelude.{IfSome}
-use Rattle.std.proofs.lemmas.Result.{err_from_is_err_and}
-use Rattle.ubi_scan.specs.Source.{Source, blocks_of}
-use Rattle.ubi_table.specs.inner.OneCopy.{IsCopyOfError, IsCopyTable}
-use Rattle.ubi_table.specs.Records.{HasSpace}
+use Rattle.ubi_table.proofs.Prelude.{◌≡◌, ◌∙◌, subst, arith, IfSome, err_from_is_err_and, Source, blocks_of, IsCopyOfError, IsCopyTable, HasSpace}
 use Rattle.ubi_table.proofs.Deciding.{NoneDecides, both_corrupt, none_more, table_chosen}
 use Rattle.ubi_table.proofs.Streamed.{error_of_copy}
 use Rattle.ubi_table.proofs.choosing.first_decided.Goals as goal

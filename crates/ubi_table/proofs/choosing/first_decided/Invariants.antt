@@ -1,5 +1,4 @@
-use Rattle.std.proofs.Common.{◌≡◌}
-use Rattle.ubi_scan.specs.Source.{Narrows, WhereHeld, blocks_of}
+use Rattle.ubi_table.proofs.Prelude.{◌≡◌, Narrows, WhereHeld, blocks_of}
 use Rattle.ubi_table.proofs.Deciding.{NoneDecides}
 use Rattle.ubi_table.proofs.choosing.first_decided.Given as goal
 

@@ -1,10 +1,4 @@
-use Rattle.std.proofs.Common.{ℕ, ap, ◌∙◌, sym, subst}
-use Rattle.std.specs.Prelude.{MatchOption, Option}
-use Rattle.std.proofs.lemmas.Result.{IfOk-weaker}
-use Rattle.ubi_media.specs.Geometry.{Sizes}
-use Rattle.ubi_scan.specs.Image.{eraseblocks}
-use Rattle.ubi_scan.specs.Members.{Leb, NoMember, Wins, layout}
-use Rattle.ubi_table.specs.Table.{CopyIs, copy_of}
+use Rattle.ubi_table.proofs.Prelude.{ℕ, ap, ◌∙◌, sym, subst, MatchOption, Option, IfOk-weaker, Sizes, eraseblocks, Leb, NoMember, Wins, layout, CopyIs, copy_of}
 use Rattle.ubi_table.proofs.One.{copy_held}
 use Rattle.ubi_table.proofs.copy.read_copy.Goals as goal
 

@@ -1,15 +1,7 @@
-use Rattle.std.proofs.Common.{◌∙◌, ap, slice_range, sym, subst}
-use Rattle.std.specs.Prelude.{MatchOption}
-use Rattle.ubi_scan.specs.Image.{block, leb}
-use Rattle.ubi_scan.specs.Members.{Leb, NoMember, Wins, layout}
-use Rattle.ubi_scan.specs.Scan.{IsScan}
-use Rattle.ubi_scan.specs.Source.{blocks_of}
-use Rattle.ubi_scan.proofs.ReadParts.{leb_of_read}
-use Rattle.ubi_table.specs.Stream.{HasSizes}
+use Rattle.ubi_table.proofs.Prelude.{◌∙◌, ap, slice_range, sym, subst, MatchOption, block, leb, Leb, NoMember, Wins, layout, IsScan, blocks_of, leb_of_read, HasSizes, copy_of}
 use Rattle.ubi_table.proofs.One.{copy_held}
 use Rattle.ubi_table.proofs.Streamed.{copy_sizes}
 use Rattle.ubi_table.proofs.copy.read_copy_from.Goals as goal
-use Rattle.ubi_table.specs.Table.{copy_of}
 
 pub returns-in_ok-copy_in-in-Some-clause-copy : goal.returns-in_ok-copy_in-in-Some-clause-copy
 returns-in_ok-copy_in-in-Some-clause-copy g c = λ bytes holds.

@@ -1,6 +1,4 @@
-use Rattle.ubi_scan.specs.Source.{holds}
-use Rattle.ubi_scan.proofs.InMemory.{still}
-use Rattle.ubi_volume.specs.Survey.{IsAttachedOf}
+use Rattle.ubi_volume.proofs.Prelude.{holds, still, IsAttachedOf}
 use Rattle.ubi_volume.proofs.PlacesOf.{refused_in_memory}
 use Rattle.ubi_volume.proofs.attached.attach.Goals as goal
 

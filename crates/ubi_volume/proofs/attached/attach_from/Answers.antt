@@ -1,7 +1,4 @@
-use Rattle.std.proofs.Common.{◌∙◌, sym, subst}
-use Rattle.ubi_scan.specs.Image.{image_of}
-use Rattle.ubi_scan.specs.Source.{Source, blocks_of}
-use Rattle.ubi_volume.specs.inner.Surveying.{AreChecked}
+use Rattle.ubi_volume.proofs.Prelude.{◌∙◌, sym, subst, image_of, Source, blocks_of, AreChecked}
 use Rattle.ubi_volume.proofs.AttachedOf.{attached}
 use Rattle.ubi_volume.proofs.Narrowed.{checked_narrowed}
 use Rattle.ubi_volume.proofs.PlacesOf.{are_listed, are_places}

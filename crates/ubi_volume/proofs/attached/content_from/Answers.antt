@@ -1,6 +1,4 @@
-use Rattle.std.proofs.Common.{◌*◌, ◌≤◌, arith, length}
-use Rattle.std.proofs.lemmas.Nat.{mul-le}
-use Rattle.ubi_media.specs.Record.{usable}
+use Rattle.ubi_volume.proofs.Prelude.{◌*◌, ◌≤◌, arith, length, mul-le, usable}
 use Rattle.ubi_volume.proofs.ContentAt.{case_fits, damaged_reads, static_reads}
 use Rattle.ubi_volume.proofs.attached.content_from.Goals as goal
 

@@ -1,8 +1,4 @@
-use Rattle.std.proofs.Common.{◌≡◌, ◌∙◌, ℕ, arith, length, refl, subst}
-use Rattle.ubi_media.specs.Fields.{blank}
-use Rattle.ubi_media.specs.Record.{usable}
-use Rattle.ubi_scan.specs.Source.{blocks_of}
-use Rattle.ubi_volume.specs.inner.Gathered.{AreGathered, AreTexts}
+use Rattle.ubi_volume.proofs.Prelude.{◌≡◌, ◌∙◌, ℕ, arith, length, refl, subst, blank, usable, blocks_of, AreGathered, AreTexts}
 use Rattle.ubi_volume.proofs.ContentAt.{front_usable}
 use Rattle.ubi_volume.proofs.Dynamic.{gathered_blank, gathered_none, gathered_text, texts_blank, texts_more, texts_none}
 use Rattle.ubi_volume.proofs.VolumeAt.{leb_reads}

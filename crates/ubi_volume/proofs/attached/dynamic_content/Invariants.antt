@@ -1,7 +1,4 @@
-use Rattle.std.proofs.Common.{◌≡◌}
-use Rattle.ubi_media.specs.Record.{usable}
-use Rattle.ubi_scan.specs.Source.{Narrows, WhereHeld, blocks_of}
-use Rattle.ubi_volume.specs.inner.Gathered.{AreGathered, AreTexts}
+use Rattle.ubi_volume.proofs.Prelude.{◌≡◌, usable, Narrows, WhereHeld, blocks_of, AreGathered, AreTexts}
 use Rattle.ubi_volume.proofs.attached.dynamic_content.Given as goal
 
 abbrev pub invariant-loop-lnum : goal.invariant-loop-lnum

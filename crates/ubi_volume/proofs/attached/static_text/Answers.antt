@@ -1,5 +1,4 @@
-use Rattle.std.proofs.Common.{◌++◌, ◌∙◌, ap, length, arith}
-use Rattle.std.proofs.lemmas.List.{take_all}
+use Rattle.ubi_volume.proofs.Prelude.{◌++◌, ◌∙◌, ap, length, arith, take_all}
 use Rattle.ubi_volume.proofs.attached.static_text.Goals as goal
 
 pub returns-in-Ok-clause-read : goal.returns-in-Ok-clause-read

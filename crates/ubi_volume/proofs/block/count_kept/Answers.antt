@@ -1,9 +1,4 @@
-use Rattle.std.proofs.Common.{◌≡◌, ◌∙◌, ℕ, arith, false, length, refl, subst, sym, true}
-use Rattle.ubi_media.specs.Fields.{blank, is_blank}
-use Rattle.ubi_media.specs.Record.{usable}
-use Rattle.ubi_scan.specs.Source.{blocks_of}
-use Rattle.ubi_volume.specs.Extract.{leb_bytes}
-use Rattle.ubi_volume.specs.inner.Gathered.{AreKept}
+use Rattle.ubi_volume.proofs.Prelude.{◌≡◌, ◌∙◌, ℕ, arith, false, length, refl, subst, sym, true, blank, is_blank, usable, blocks_of, leb_bytes, AreKept}
 use Rattle.ubi_volume.proofs.AmountAt.{none_kept, none_more, one_kept}
 use Rattle.ubi_volume.proofs.Blanks.{blank_text, not_false, not_true, other_text}
 use Rattle.ubi_volume.proofs.ContentAt.{front_usable}

@@ -1,6 +1,4 @@
-use Rattle.std.proofs.Common.{◌≡◌, ◌≤◌}
-use Rattle.ubi_scan.specs.Source.{Narrows, WhereHeld, blocks_of}
-use Rattle.ubi_volume.specs.inner.Gathered.{AreKept}
+use Rattle.ubi_volume.proofs.Prelude.{◌≡◌, ◌≤◌, Narrows, WhereHeld, blocks_of, AreKept}
 use Rattle.ubi_volume.proofs.block.count_kept.Given as goal
 
 abbrev pub invariant-loop-lnum : goal.invariant-loop-lnum

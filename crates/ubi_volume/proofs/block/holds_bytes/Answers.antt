@@ -1,8 +1,5 @@
-use Rattle.std.proofs.Common.{◌+◌, ap, length, sym, ◌∙◌}
+use Rattle.ubi_volume.proofs.Prelude.{◌+◌, ap, length, sym, ◌∙◌, is_blank, block, blocks_of}
 use Rattle.std.specs.Prelude.{not, slice_range}
-use Rattle.ubi_media.specs.Fields.{is_blank}
-use Rattle.ubi_scan.specs.Image.{block}
-use Rattle.ubi_scan.specs.Source.{blocks_of}
 use Rattle.ubi_volume.proofs.Blanks.{blank_holds, leb_long, part_is}
 use Rattle.ubi_volume.proofs.block.holds_bytes.Goals as goal
 

@@ -1,9 +1,4 @@
-use Rattle.std.proofs.Common.{rules, ◌≡◌, ◌≢◌, ◌+◌, ◌<◌, ◌≤◌, ap, arith, length, sym, ◌∙◌, drop}
-use Rattle.std.proofs.lemmas.Bool.Decides.{nat_tests}
-use Rattle.ubi_media.specs.Fields.{is_blank}
-use Rattle.ubi_scan.specs.Image.{block}
-use Rattle.ubi_scan.specs.Source.{blocks_of}
-use Rattle.ubi_scan.proofs.FailedReads.{names_part}
+use Rattle.ubi_volume.proofs.Prelude.{rules, ◌≡◌, ◌≢◌, ◌+◌, ◌<◌, ◌≤◌, ap, arith, length, sym, ◌∙◌, drop, nat_tests, is_blank, block, blocks_of, names_part}
 use Rattle.ubi_volume.proofs.Blanks.{front_holds, part_first, part_is, rest_holds, rest_of_leb, whole_front}
 use Rattle.ubi_volume.proofs.block.is_blank_part.Goals as goal
 

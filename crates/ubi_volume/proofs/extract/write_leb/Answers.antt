@@ -1,5 +1,4 @@
-use Rattle.ubi_scan.specs.Source.{blocks_in}
-use Rattle.ubi_scan.specs.Stream.{IsReadFault}
+use Rattle.ubi_volume.proofs.Prelude.{blocks_in, IsReadFault}
 use Rattle.ubi_scan.specs.declared.errors.StreamError.TheVariants as stream
 use Rattle.ubi_volume.proofs.Received.{wrote_first}
 use Rattle.ubi_volume.proofs.extract.write_leb.Goals as goal

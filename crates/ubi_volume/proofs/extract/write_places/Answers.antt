@@ -1,8 +1,4 @@
-use Rattle.std.proofs.Common.{◌≡◌, ◌+◌, ◌*◌, length, length-take-le, take, ◌∙◌, arith}
-use Rattle.std.proofs.lemmas.Result.{err_from_is_err_and}
-use Rattle.ubi_volume.specs.Extract.{read_text, share_len}
-use Rattle.ubi_volume.specs.inner.Pieces.{leb_at, lebs_at}
-use Rattle.ubi_volume.specs.Wrote.{All, IsWroteError, Wrote}
+use Rattle.ubi_volume.proofs.Prelude.{◌≡◌, ◌+◌, ◌*◌, length, length-take-le, take, ◌∙◌, arith, err_from_is_err_and, read_text, share_len, leb_at, lebs_at, All, IsWroteError, Wrote}
 use Rattle.ubi_volume.proofs.Extracted.{lebs_failed, lebs_wrote, wanted}
 use Rattle.ubi_volume.proofs.Narrowed.{wrote_narrowed}
 use Rattle.ubi_volume.proofs.Received.{error_as, wrote_as}

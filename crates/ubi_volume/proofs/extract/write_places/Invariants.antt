@@ -1,7 +1,4 @@
-use Rattle.std.proofs.Common.{◌≡◌, ◌*◌, ◌≤◌}
-use Rattle.ubi_scan.specs.Source.{Narrows}
-use Rattle.ubi_volume.specs.inner.Pieces.{lebs_at}
-use Rattle.ubi_volume.specs.Wrote.{All, Wrote}
+use Rattle.ubi_volume.proofs.Prelude.{◌≡◌, ◌*◌, ◌≤◌, Narrows, lebs_at, All, Wrote}
 use Rattle.ubi_volume.proofs.extract.write_places.Given as goal
 
 abbrev pub invariant-loop-lnum : goal.invariant-loop-lnum

@@ -1,5 +1,4 @@
-use Rattle.std.proofs.Common.{rules}
-use Rattle.std.proofs.lemmas.List.Sorted.{IsNonDecreasingBy-from_sort_by_key}
+use Rattle.ubi_volume.proofs.Prelude.{rules, IsNonDecreasingBy-from_sort_by_key}
 use Rattle.ubi_volume.proofs.meaning.arranged.Goals as goal
 
 pub returns-clause-sorted : goal.returns-clause-sorted

@@ -1,4 +1,4 @@
-use Rattle.std.proofs.Common.{refl, arith}
+use Rattle.ubi_volume.proofs.Prelude.{refl, arith}
 use Rattle.ubi_volume.proofs.Causes.{content_found, content_more, none_left, sound_here}
 use Rattle.ubi_volume.proofs.meaning.content_range.Goals as goal
 

@@ -1,4 +1,4 @@
-use Rattle.ubi_volume.specs.inner.Making.{NoneBelow}
+use Rattle.ubi_volume.proofs.Prelude.{NoneBelow}
 use Rattle.ubi_volume.proofs.meaning.content_range.Given as goal
 
 abbrev pub invariant-loop-i : goal.invariant-loop-i

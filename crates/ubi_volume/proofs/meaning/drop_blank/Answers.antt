@@ -1,4 +1,4 @@
-use Rattle.std.proofs.Common.{arith}
+use Rattle.ubi_volume.proofs.Prelude.{arith}
 use Rattle.ubi_volume.proofs.WithoutBlank.{item_dropped}
 use Rattle.ubi_volume.proofs.meaning.drop_blank.Goals as goal
 

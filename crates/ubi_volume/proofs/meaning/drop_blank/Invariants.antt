@@ -1,5 +1,4 @@
-use Rattle.std.proofs.Common.{◌≡◌, ◌++◌, drop, map, take}
-use Rattle.ubi_volume.specs.Made.{item_without_blank}
+use Rattle.ubi_volume.proofs.Prelude.{◌≡◌, ◌++◌, drop, map, take, item_without_blank}
 use Rattle.ubi_volume.proofs.meaning.drop_blank.Given as goal
 
 abbrev pub invariant-loop-item : goal.invariant-loop-item

@@ -1,4 +1,4 @@
-use Rattle.std.proofs.Common.{◌≡◌, ◌+◌, take}
+use Rattle.ubi_volume.proofs.Prelude.{◌≡◌, ◌+◌, take}
 use Rattle.ubi_volume.proofs.Causes.{reserved_by}
 use Rattle.ubi_volume.proofs.meaning.no_space.Given as goal
 

@@ -1,4 +1,4 @@
-use Rattle.std.proofs.Common.{arith, sym, ◌∙◌}
+use Rattle.ubi_volume.proofs.Prelude.{arith, sym, ◌∙◌}
 use Rattle.ubi_volume.proofs.Causes.{none_left, same_id_found, same_id_more}
 use Rattle.ubi_volume.proofs.meaning.same_id.Goals as goal
 

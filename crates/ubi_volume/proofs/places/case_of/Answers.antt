@@ -1,5 +1,4 @@
-use Rattle.ubi_scan.specs.Image.{image_of}
-use Rattle.ubi_scan.specs.Source.{blocks_of}
+use Rattle.ubi_volume.proofs.Prelude.{image_of, blocks_of}
 use Rattle.ubi_volume.proofs.CaseSizes.{dynamic_case}
 use Rattle.ubi_volume.proofs.Either.{are_lebs}
 use Rattle.ubi_volume.proofs.places.case_of.Goals as goal

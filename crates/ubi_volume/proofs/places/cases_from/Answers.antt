@@ -1,10 +1,4 @@
-use Rattle.std.proofs.Common.{◌≡◌, ◌+◌, ◌∙◌, [], ◌∷◌, ◌++◌, sym, subst, ap, take, arith}
-use Rattle.std.specs.Prelude.{None}
-use Rattle.std.proofs.lemmas.List.{take_more}
-use Rattle.ubi_media.specs.Geometry.{Sizes}
-use Rattle.ubi_media.specs.Record.{rec_fault}
-use Rattle.ubi_scan.specs.Source.{Source, blocks_of}
-use Rattle.ubi_volume.specs.inner.Surveying.{AreChecked}
+use Rattle.ubi_volume.proofs.Prelude.{◌≡◌, ◌+◌, ◌∙◌, [], ◌∷◌, ◌++◌, sym, subst, ap, take, arith, None, take_more, Sizes, rec_fault, Source, blocks_of, AreChecked}
 use Rattle.ubi_volume.proofs.Gathered.{listed_item}
 use Rattle.ubi_volume.proofs.Narrowed.{checked_narrowed}
 use Rattle.ubi_volume.proofs.PlacesOf.{cases_more, numbered_more}

@@ -1,6 +1,4 @@
-use Rattle.std.proofs.Common.{◌≡◌, take, vec_items}
-use Rattle.ubi_scan.specs.Source.{Narrows, WhereHeld, blocks_of}
-use Rattle.ubi_volume.specs.inner.Cases.{AreCases, AreNumbered}
+use Rattle.ubi_volume.proofs.Prelude.{◌≡◌, take, vec_items, Narrows, WhereHeld, blocks_of, AreCases, AreNumbered}
 use Rattle.ubi_volume.proofs.places.cases_from.Given as goal
 
 abbrev pub invariant-loop-listed : goal.invariant-loop-listed

@@ -1,8 +1,4 @@
-use Rattle.std.proofs.Common.{◌≡◌, ◌≤◌, ◌∙◌, length, length-take-le, slice_range, take, ap, sym, arith}
-use Rattle.std.specs.Prelude.{min}
-use Rattle.ubi_media.specs.Geometry.{leb_size}
-use Rattle.ubi_scan.specs.Image.{block, leb}
-use Rattle.ubi_scan.specs.Source.{blocks_of}
+use Rattle.ubi_volume.proofs.Prelude.{◌≡◌, ◌≤◌, ◌∙◌, length, length-take-le, slice_range, take, ap, sym, arith, min, leb_size, block, leb, blocks_of}
 use Rattle.ubi_volume.proofs.CaseSizes.{size_checked, size_unchecked}
 use Rattle.ubi_volume.proofs.Mismatches.{not_true}
 use Rattle.ubi_volume.proofs.places.piece_size.Goals as goal

@@ -1,9 +1,4 @@
-use Rattle.std.proofs.Common.{◌≡◌, ◌∙◌, ℕ, refl, sym, subst, arith, below_more}
-use Rattle.std.specs.Prelude.{IsSome, Option}
-use Rattle.ubi_media.proofs.Records.{usable_some}
-use Rattle.ubi_scan.specs.Image.{image_of}
-use Rattle.ubi_scan.specs.Source.{blocks_of}
-use Rattle.ubi_volume.specs.inner.Cases.{PieceSizeIs, SizeIsRead}
+use Rattle.ubi_volume.proofs.Prelude.{◌≡◌, ◌∙◌, ℕ, refl, sym, subst, arith, below_more, IsSome, Option, usable_some, image_of, blocks_of, PieceSizeIs, SizeIsRead}
 use Rattle.ubi_volume.proofs.CaseSizes.{damaged_case, no_piece, size_more, size_none, static_case}
 use Rattle.ubi_volume.proofs.Either.{are_lebs}
 use Rattle.ubi_volume.proofs.Static.{damaged_behind, damaged_large, damaged_piece}

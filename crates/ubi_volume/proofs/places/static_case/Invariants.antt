@@ -1,9 +1,5 @@
-use Rattle.std.proofs.Common.{◌≡◌, ℕ, ◌<◌, ◌≤◌, ◌*◌}
-use Rattle.std.specs.Prelude.{IsSome}
+use Rattle.ubi_volume.proofs.Prelude.{◌≡◌, ℕ, ◌<◌, ◌≤◌, ◌*◌, IsSome, Narrows, WhereHeld, blocks_of, SizeIsRead, UsedIs}
 use Rattle.std.specs.FinMap as finite
-use Rattle.ubi_scan.specs.Source.{Narrows, WhereHeld, blocks_of}
-use Rattle.ubi_volume.specs.inner.Cases.{SizeIsRead}
-use Rattle.ubi_volume.specs.inner.Gathered.{UsedIs}
 use Rattle.ubi_volume.proofs.places.static_case.Given as goal
 
 abbrev pub invariant-loop-lnum : goal.invariant-loop-lnum

@@ -1,5 +1,4 @@
-use Rattle.std.proofs.Common.{◌∙◌, inl, refl, sym, arith}
-use Rattle.ubi_scan.specs.Source.{blocks_of}
+use Rattle.ubi_volume.proofs.Prelude.{◌∙◌, inl, refl, sym, arith, blocks_of}
 use Rattle.ubi_volume.proofs.CaseSizes.{used_is}
 use Rattle.ubi_volume.proofs.Winners.{none_found}
 use Rattle.ubi_volume.proofs.places.used_ebs.Goals as goal

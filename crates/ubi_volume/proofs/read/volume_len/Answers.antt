@@ -1,4 +1,4 @@
-use Rattle.std.proofs.Common.{sym}
+use Rattle.ubi_volume.proofs.Prelude.{sym}
 use Rattle.ubi_volume.proofs.Lengths.{volume_len-Dynamic}
 use Rattle.ubi_volume.proofs.read.volume_len.Goals as goal
 

@@ -1,4 +1,4 @@
-use Rattle.std.proofs.Common.{arith}
+use Rattle.ubi_volume.proofs.Prelude.{arith}
 use Rattle.ubi_volume.proofs.Mismatches.{none_more}
 use Rattle.ubi_volume.proofs.surveyed.check_winners.Goals as goal
 

@@ -1,5 +1,4 @@
-use Rattle.std.proofs.Common.{List, ℕ}
-use Rattle.ubi_scan.specs.Scan.{IsScan}
+use Rattle.ubi_volume.proofs.Prelude.{List, ℕ, IsScan}
 use Rattle.ubi_volume.proofs.Mismatches.{NoneBelow}
 use Rattle.ubi_volume.proofs.surveyed.check_winners.Given as goal
 

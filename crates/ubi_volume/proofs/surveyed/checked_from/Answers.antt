@@ -1,7 +1,4 @@
-use Rattle.std.proofs.Common.{ℕ, ◌^◌, ◌<◌, subst}
-use Rattle.std.proofs.lemmas.Result.{err_from_is_err_and}
-use Rattle.ubi_scan.specs.Source.{blocks_of}
-use Rattle.ubi_scan.proofs.Narrowed.{narrows_more, scan_narrowed, source_narrowed}
+use Rattle.ubi_volume.proofs.Prelude.{ℕ, ◌^◌, ◌<◌, subst, err_from_is_err_and, blocks_of, narrows_more, scan_narrowed, source_narrowed}
 use Rattle.ubi_volume.proofs.PlacesOf.{winners_refused}
 use Rattle.ubi_volume.proofs.surveyed.checked_from.Goals as goal
 

@@ -1,5 +1,4 @@
-use Rattle.std.proofs.Common.{subst}
-use Rattle.ubi_volume.specs.inner.Headers.{WinnerHeaderIs}
+use Rattle.ubi_volume.proofs.Prelude.{subst, WinnerHeaderIs}
 use Rattle.ubi_volume.proofs.Mismatches.{never, no_winner_no_mismatch}
 use Rattle.ubi_volume.proofs.surveyed.is_mismatched.Goals as goal
 

@@ -1,5 +1,4 @@
-use Rattle.std.proofs.Common.{◌+◌, ◌∙◌, [], ◌∷◌, ◌++◌, length-append, ap, arith}
-use Rattle.ubi_volume.specs.Attached.{StateIs}
+use Rattle.ubi_volume.proofs.Prelude.{◌+◌, ◌∙◌, [], ◌∷◌, ◌++◌, length-append, ap, arith, StateIs}
 use Rattle.ubi_volume.proofs.MemberStates.{states_more}
 use Rattle.ubi_volume.proofs.Winners.{state_holds}
 use Rattle.ubi_volume.proofs.surveyed.states_of.Goals as goal

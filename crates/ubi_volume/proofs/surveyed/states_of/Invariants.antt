@@ -1,8 +1,5 @@
-use Rattle.std.proofs.Common.{◌≡◌, ℕ, List, vec_items}
-use Rattle.std.specs.Prelude.{IfSome, length, slice_get}
-use Rattle.ubi_media.specs.Geometry.{Sizes}
-use Rattle.ubi_scan.specs.Scan.{IsScan}
-use Rattle.ubi_volume.specs.Attached.{StateIs}
+use Rattle.ubi_volume.proofs.Prelude.{◌≡◌, ℕ, List, vec_items, IfSome, slice_get, Sizes, IsScan, StateIs}
+use Rattle.std.specs.Prelude.{length}
 use Rattle.ubi_volume.proofs.surveyed.states_of.Given as goal
 
 -- each of the eraseblocks so far has its state

@@ -1,6 +1,4 @@
-use Rattle.ubi_scan.specs.Source.{holds, memory}
-use Rattle.ubi_scan.proofs.InMemory.{still}
-use Rattle.ubi_volume.specs.Survey.{IsSurveyOf}
+use Rattle.ubi_volume.proofs.Prelude.{holds, memory, still, IsSurveyOf}
 use Rattle.ubi_volume.proofs.PlacesOf.{refused_in_memory}
 use Rattle.ubi_volume.proofs.surveyed.survey.Goals as goal
 

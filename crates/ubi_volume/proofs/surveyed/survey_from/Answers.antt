@@ -1,5 +1,4 @@
-use Rattle.std.proofs.Common.{◌∙◌}
-use Rattle.ubi_scan.specs.Source.{blocks_of}
+use Rattle.ubi_volume.proofs.Prelude.{◌∙◌, blocks_of}
 use Rattle.ubi_volume.proofs.SurveyOf.{is_survey}
 use Rattle.ubi_volume.proofs.surveyed.survey_from.Goals as goal
 

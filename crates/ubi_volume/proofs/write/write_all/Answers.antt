@@ -1,4 +1,4 @@
-use Rattle.std.proofs.Common.{rules}
+use Rattle.ubi_volume.proofs.Prelude.{rules}
 use Rattle.ubi_volume.proofs.Written.{Appends-next}
 use Rattle.ubi_volume.proofs.write.write_all.Goals as goal
 

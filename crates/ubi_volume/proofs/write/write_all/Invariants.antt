@@ -1,5 +1,4 @@
-use Rattle.std.proofs.Common.{◌≤◌, ◌-◌, length, take}
-use Rattle.std.specs.Io.KnownBytes.{Appends}
+use Rattle.ubi_volume.proofs.Prelude.{◌≤◌, ◌-◌, length, take, Appends}
 use Rattle.ubi_volume.proofs.write.write_all.Given as goal
 
 abbrev pub invariant-loop-written : goal.invariant-loop-written

@@ -1,4 +1,4 @@
-use Rattle.std.proofs.Common.{arith}
+use Rattle.ubi_volume.proofs.Prelude.{arith}
 use Rattle.ubi_volume.proofs.Written.{blank_next, blank_part}
 use Rattle.ubi_volume.proofs.write.write_blank.Goals as goal
 

@@ -1,6 +1,4 @@
-use Rattle.std.proofs.Common.{◌≤◌, ◌-◌}
-use Rattle.std.specs.Io.KnownBytes.{Appends}
-use Rattle.ubi_media.specs.Fields.{blank}
+use Rattle.ubi_volume.proofs.Prelude.{◌≤◌, ◌-◌, Appends, blank}
 use Rattle.ubi_volume.proofs.write.write_blank.Given as goal
 
 abbrev pub invariant-loop-written : goal.invariant-loop-written

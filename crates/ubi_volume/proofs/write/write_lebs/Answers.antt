@@ -1,5 +1,4 @@
-use Rattle.std.proofs.Common.{arith, sym}
-use Rattle.std.proofs.KnownBytes.{Appends-trans}
+use Rattle.ubi_volume.proofs.Prelude.{arith, sym, Appends-trans}
 use Rattle.ubi_volume.proofs.LebsText.{lebs_failed, lebs_more, lebs_short, length-lebs}
 use Rattle.ubi_volume.proofs.write.write_lebs.Goals as goal
 

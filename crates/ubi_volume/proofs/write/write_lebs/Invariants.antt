@@ -1,5 +1,4 @@
-use Rattle.std.specs.Io.KnownBytes.{Appends}
-use Rattle.ubi_volume.specs.Reading.{lebs_text}
+use Rattle.ubi_volume.proofs.Prelude.{Appends, lebs_text}
 use Rattle.ubi_volume.proofs.write.write_lebs.Given as goal
 
 -- the writer received the logical eraseblocks so far

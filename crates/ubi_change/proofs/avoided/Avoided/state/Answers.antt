@@ -1,7 +1,5 @@
-use Rattle.std.proofs.Common.{Bool, cond, sym, ap, ◌∙◌}
-use Rattle.std.specs.Prelude.{Some, option_map}
+use Rattle.ubi_change.proofs.Prelude.{Bool, cond, sym, ap, ◌∙◌, Some, option_map, state_avoiding}
 use Rattle.ubi_volume.specs.declared.attached.BlockState.TheVariants as state
-use Rattle.ubi_change.specs.Avoided.{state_avoiding}
 use Rattle.ubi_change.proofs.Shown.{seen_state}
 use Rattle.ubi_change.proofs.avoided.Avoided.state.Goals as goal
 

@@ -1,4 +1,4 @@
-use Rattle.std.proofs.Common.{sym}
+use Rattle.ubi_commands.proofs.Prelude.{sym}
 use Rattle.ubi_commands.proofs.FileRows.{row_read}
 use Rattle.ubi_commands.proofs.file_row.FileRowPlacedFile.read_from.Goals as goal
 

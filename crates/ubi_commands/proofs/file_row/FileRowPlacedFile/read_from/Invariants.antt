@@ -1,5 +1,4 @@
-use Rattle.std.proofs.Common.{◌≡◌, ◌+◌, take}
-use Rattle.std.specs.Prelude.{sum_by}
+use Rattle.ubi_commands.proofs.Prelude.{◌≡◌, ◌+◌, take, sum_by}
 use Rattle.ubi_commands.proofs.file_row.FileRowPlacedFile.read_from.Given as goal
 
 abbrev pub invariant-loop-part : goal.invariant-loop-part

@@ -1,6 +1,4 @@
-use Rattle.std.proofs.Common.{◌≡◌, ◌/◌, ◌∙◌, ap, arith, false, replicate, sym, true}
-use Rattle.std.proofs.lemmas.List.{length-take-le}
-use Rattle.ubi_change.specs.Avoided.{is_listed}
+use Rattle.ubi_commands.proofs.Prelude.{◌≡◌, ◌/◌, ◌∙◌, ap, arith, false, replicate, sym, true, length-take-le, is_listed}
 use Rattle.ubi_commands.proofs.MaskedBytes.{read_marked, read_unmarked, read_without_marks}
 use Rattle.ubi_commands.proofs.masked.MaskedPlacedFile.read_from.Goals as goal
 

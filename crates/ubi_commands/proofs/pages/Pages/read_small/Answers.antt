@@ -1,6 +1,4 @@
-use Rattle.std.proofs.Common.{◌%◌, ◌∙◌, ap, arith}
-use Rattle.std.proofs.lemmas.List.{take-append-le}
-use Rattle.ubi_commands.specs.Views.{pages_from}
+use Rattle.ubi_commands.proofs.Prelude.{◌%◌, ◌∙◌, ap, arith, take-append-le, pages_from}
 use Rattle.ubi_commands.proofs.PageBytes.{read_some_pages}
 use Rattle.ubi_commands.proofs.pages.Pages.read_small.Goals as goal
 

@@ -1,5 +1,4 @@
-use Rattle.std.proofs.Common.{arith}
-use Rattle.std.proofs.lemmas.List.{length-take-le}
+use Rattle.ubi_commands.proofs.Prelude.{arith, length-take-le}
 use Rattle.ubi_commands.proofs.PartBytes.{read_part_of}
 use Rattle.ubi_commands.proofs.part.PartPlacedFile.read_from.Goals as goal
 

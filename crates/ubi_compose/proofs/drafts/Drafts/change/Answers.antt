@@ -1,10 +1,4 @@
-use Rattle.std.proofs.Common.{◌≡◌, ◌<◌, length, get_or, refl, ap, sym, ◌∙◌, arith}
-use Rattle.std.specs.Prelude.{None, Some, slice_get, slice_set}
-use Rattle.std.proofs.lemmas.List.Elements.{All-get_or}
-use Rattle.std.proofs.lemmas.Option.{slice_get_read}
-use Rattle.ubi_media.specs.Record.{rec_fault}
-use Rattle.ubi_compose.specs.inner.Drafts.{changed, place_of, with_line}
-use Rattle.ubi_compose.specs.Lines.{volume_of}
+use Rattle.ubi_compose.proofs.Prelude.{◌≡◌, ◌<◌, length, get_or, refl, ap, sym, ◌∙◌, arith, None, Some, slice_get, slice_set, All-get_or, slice_get_read, rec_fault, changed, place_of, with_line, volume_of}
 use Rattle.ubi_compose.proofs.Changes.{change_answer, changed_is, drafts_kept, within_place}
 use Rattle.ubi_compose.proofs.drafts.Drafts.change.Goals as goal
 

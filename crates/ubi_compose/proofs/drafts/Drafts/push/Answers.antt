@@ -1,5 +1,4 @@
-use Rattle.std.proofs.Common.{◌≡◌, [], ◌∷◌, ◌++◌, length, ap, ◌∙◌, arith}
-use Rattle.ubi_compose.specs.inner.Drafts.{place_of}
+use Rattle.ubi_compose.proofs.Prelude.{◌≡◌, [], ◌∷◌, ◌++◌, length, ap, ◌∙◌, arith, place_of}
 use Rattle.ubi_compose.proofs.Changes.{drafts_more}
 use Rattle.ubi_compose.proofs.drafts.Drafts.push.Goals as goal
 

@@ -1,6 +1,4 @@
-use Rattle.std.proofs.Common.{◌∙◌, ap, map, subst}
-use Rattle.ubi_volume.specs.Made.{IsFirst, Items, NoCause}
-use Rattle.ubi_compose.specs.inner.Building.{stand_in_item}
+use Rattle.ubi_compose.proofs.Prelude.{◌∙◌, ap, map, subst, IsFirst, Items, NoCause, stand_in_item}
 use Rattle.ubi_compose.proofs.StandIns.{first_of_bytes, none_of_bytes}
 use Rattle.ubi_compose.proofs.recipe.Recipe.new.Goals as goal
 

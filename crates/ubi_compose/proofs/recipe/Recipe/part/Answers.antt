@@ -1,10 +1,5 @@
-use Rattle.std.proofs.Common.{◌≡◌, ◌==◌, ◌∙◌, Some, ap, sym, subst}
-use Rattle.std.specs.Prelude.{None, find}
-use Rattle.ubi_media.specs.Geometry.{Sizes}
-use Rattle.ubi_media.specs.Record.{rec_fault}
-use Rattle.ubi_compose.specs.Built.{Parts}
-use Rattle.ubi_compose.specs.inner.Building.{part_at}
-use Rattle.ubi_compose.specs.declared.recipe.Part.{Part}
+use Rattle.ubi_compose.proofs.Prelude.{◌≡◌, ◌==◌, ◌∙◌, ap, sym, subst, None, find, Sizes, rec_fault, Parts, part_at, Part}
+use Rattle.std.proofs.Common.{Some}
 use Rattle.ubi_compose.proofs.ListedParts.{found_part, listed_at, part_sound}
 use Rattle.ubi_compose.proofs.recipe.Recipe.part.Goals as goal
 

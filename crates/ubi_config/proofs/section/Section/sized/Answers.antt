@@ -1,7 +1,4 @@
-use Rattle.std.proofs.Common.{◌≡◌, ap, ◌∙◌, arith, rules}
-use Rattle.std.specs.Prelude.{None}
-use Rattle.ubi_media.specs.Record.{rec_fault}
-use Rattle.ubi_config.specs.Records.{reserving}
+use Rattle.ubi_config.proofs.Prelude.{◌≡◌, ap, ◌∙◌, arith, rules, None, rec_fault, reserving}
 use Rattle.ubi_config.proofs.Reserved.{fault_reserving}
 use Rattle.ubi_config.proofs.section.Section.sized.Goals as goal
 

@@ -1,4 +1,4 @@
-use Rattle.std.proofs.Common.{arith}
+use Rattle.ubi_media.proofs.Prelude.{arith}
 use Rattle.ubi_media.proofs.Records.{alignment_within}
 use Rattle.ubi_media.proofs.record.VolumeRecord.data_pad.Goals as goal
 

@@ -1,4 +1,4 @@
-use Rattle.std.proofs.Common.{arith}
+use Rattle.ubi_media.proofs.Prelude.{arith}
 use Rattle.ubi_media.proofs.Records.{usable_some}
 use Rattle.ubi_media.proofs.record.VolumeRecord.usable.Goals as goal
 

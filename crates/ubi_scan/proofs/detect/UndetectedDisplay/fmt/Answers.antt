@@ -1,4 +1,4 @@
-use Rattle.std.proofs.Common.{append_assoc, codes, decimal}
+use Rattle.ubi_scan.proofs.Prelude.{append_assoc, codes, decimal}
 use Rattle.ubi_scan.proofs.detect.UndetectedDisplay.fmt.Goals as goal
 
 pub returns-in-Length-clause-writes : goal.returns-in-Length-clause-writes

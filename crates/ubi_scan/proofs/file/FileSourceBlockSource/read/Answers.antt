@@ -1,4 +1,4 @@
-use Rattle.std.proofs.Common.{arith}
+use Rattle.ubi_scan.proofs.Prelude.{arith}
 use Rattle.ubi_scan.proofs.file.FileSourceBlockSource.read.Goals as goal
 
 pub read_by-requires-clause-place : goal.read_by-requires-clause-place

@@ -1,7 +1,4 @@
-use Rattle.std.proofs.Common.{◌≡◌, ◌∙◌, refl, sym, subst, true, ℕ}
-use Rattle.std.specs.Int.{IsGcd}
-use Rattle.std.proofs.lemmas.Bool.{true≢false}
-use Rattle.ubi_scan.specs.Heads.{is_of}
+use Rattle.ubi_scan.proofs.Prelude.{◌≡◌, ◌∙◌, refl, sym, subst, true, ℕ, IsGcd, true≢false, is_of}
 use Rattle.ubi_scan.proofs.groups.Group.add.Goals as goal
 
 pub returns : goal.returns

@@ -1,4 +1,4 @@
-use Rattle.std.proofs.Common.{sym, ◌∙◌}
+use Rattle.ubi_scan.proofs.Prelude.{sym, ◌∙◌}
 use Rattle.ubi_scan.proofs.Nominated.{held_aside}
 use Rattle.ubi_scan.proofs.pass.Pass.choose.Goals as goal
 

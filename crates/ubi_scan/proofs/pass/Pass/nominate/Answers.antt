@@ -1,4 +1,4 @@
-use Rattle.std.proofs.Common.{sym, ◌∙◌}
+use Rattle.ubi_scan.proofs.Prelude.{sym, ◌∙◌}
 use Rattle.ubi_scan.proofs.Nominated.{nominated_by}
 use Rattle.ubi_scan.proofs.pass.Pass.nominate.Goals as goal
 

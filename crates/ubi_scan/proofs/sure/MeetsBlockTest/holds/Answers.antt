@@ -1,6 +1,4 @@
-use Rattle.std.proofs.Common.{◌∙◌, ◌+◌, sym}
-use Rattle.std.proofs.lemmas.Bool.{le-leb}
-use Rattle.std.proofs.lemmas.Result.{IfOk-weaker}
+use Rattle.ubi_scan.proofs.Prelude.{◌∙◌, ◌+◌, sym, le-leb, IfOk-weaker}
 use Rattle.ubi_scan.proofs.InTurn.{second_fails, third_decides}
 use Rattle.ubi_scan.proofs.sure.MeetsBlockTest.holds.Goals as goal
 

@@ -1,4 +1,4 @@
-use Rattle.std.proofs.Common.{◌∙◌, ◌+◌, ◌*◌, ◌/◌, ◌-◌, sym, ℕ}
+use Rattle.ubi_scan.proofs.Prelude.{◌∙◌, ◌+◌, ◌*◌, ◌/◌, ◌-◌, sym, ℕ}
 use Rattle.std.specs.Prelude.{Bool}
 use Rattle.ubi_scan.proofs.Tested.{any_here, none_more}
 use Rattle.ubi_scan.proofs.sure.SomePartBlockTest.holds.Goals as goal

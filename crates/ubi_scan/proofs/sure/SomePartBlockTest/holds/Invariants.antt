@@ -1,6 +1,4 @@
-use Rattle.std.proofs.Common.{◌≡◌, ◌+◌, ◌*◌, false}
-use Rattle.std.specs.List.{list_any, range_with_len}
-use Rattle.ubi_scan.specs.Source.{Narrows, WhereHeld}
+use Rattle.ubi_scan.proofs.Prelude.{◌≡◌, ◌+◌, ◌*◌, false, list_any, range_with_len, Narrows, WhereHeld}
 use Rattle.ubi_scan.proofs.sure.SomePartBlockTest.holds.Given as goal
 
 -- none of the first parts passes

@@ -1,4 +1,5 @@
 -- `new` makes a value of no bytes, at the empty list.
+use Rattle.ubi_scan.proofs.Prelude.{Trace}
 use mathlib.Core.Path.{refl}
 use mathlib.Core.List.{[], ◌∷◌}
 use seplogic.Ra.Ura.{Ura}
@@ -21,7 +22,6 @@ use denote.Triple.Entry.{on_entry}
 use denote.Triple.Spec.{Meets, triple_of}
 use denote.Triple.Table.{entered}
 use denote.Triple.Walked.{says, ends_at, walked, walk_Meets}
-use Rattle.ubi_scan.specs.declared.trace.Trace.{Trace}
 use Rattle.ubi_scan.specs.contracts.trace.Trace as T
 use Rattle.ubi_scan.specs.contracts.trace.Trace.new.Key.{name as #it}
 use Rattle.ubi_scan.specs.contracts.trace.Trace.new as it

@@ -1,5 +1,5 @@
 -- An empty body. The borrow is opened and closed at another ghost value.
-use Rattle.std.proofs.Common.{ℕ, ◌<◌, ◌^◌, List, [], ◌∷◌, length, refl, w64, MutBor}
+use Rattle.ubi_scan.proofs.Prelude.{ℕ, ◌<◌, ◌^◌, List, [], ◌∷◌, length, refl, w64, MutBor, Trace}
 use seplogic.Ra.Ura.{Ura}
 use mir.Syntax.{named}
 use mir.Val.{Val, vint, vunit, vptr}
@@ -29,7 +29,6 @@ use denote.Triple.Entry.{on_entry}
 use denote.Triple.Spec.{Meets, triple_of}
 use denote.Triple.Table.{entered}
 use denote.Triple.Walked.{says, Stays, stay_none, stay_none_slice, stay_ref, walk_of, AllGo, Goes-none, Goes-none_slice, Goes-ref, Walks, ends_at, walked, walk_Meets}
-use Rattle.ubi_scan.specs.declared.trace.Trace.{Trace}
 use Rattle.ubi_scan.specs.contracts.trace.Trace as T
 use Rattle.ubi_scan.specs.contracts.trace.Trace.note.Key.{name as #it}
 use Rattle.ubi_scan.specs.contracts.trace.Trace.note as it

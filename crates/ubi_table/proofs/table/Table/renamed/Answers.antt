@@ -1,9 +1,5 @@
-use Rattle.std.proofs.Common.{◌≡◌, List, take, ap, sym, ◌∙◌, subst, arith}
+use Rattle.ubi_table.proofs.Prelude.{◌≡◌, List, take, ap, sym, ◌∙◌, subst, arith, from_entries, take_all, Sizes, AreKept}
 use Rattle.std.specs.FinMap as finite
-use Rattle.std.specs.FinMap.{from_entries}
-use Rattle.std.proofs.lemmas.List.{take_all}
-use Rattle.ubi_media.specs.Geometry.{Sizes}
-use Rattle.ubi_table.specs.Coded.{AreKept}
 use Rattle.ubi_table.proofs.NamedTable.{named, named_entries, named_kept, some_record}
 use Rattle.ubi_table.proofs.Names.{Entry}
 use Rattle.ubi_table.proofs.table.Table.renamed.Goals as goal

@@ -1,5 +1,4 @@
-use Rattle.std.proofs.Common.{◌≡◌, map, take, vec_items}
-use Rattle.ubi_table.specs.inner.Naming.{entry_named}
+use Rattle.ubi_table.proofs.Prelude.{◌≡◌, map, take, vec_items, entry_named}
 use Rattle.ubi_table.proofs.table.Table.renamed.Given as goal
 
 abbrev pub invariant-loop-entry : goal.invariant-loop-entry

@@ -1,6 +1,4 @@
-use Rattle.std.proofs.Common.{not, rules}
-use Rattle.std.proofs.lemmas.Map.Made.{filter_same_pairs}
-use Rattle.ubi_media.specs.Fields.{is_blank}
+use Rattle.ubi_volume.proofs.Prelude.{not, rules, filter_same_pairs, is_blank}
 use Rattle.ubi_volume.proofs.WithoutBlank.{tree_without_blank}
 use Rattle.ubi_volume.proofs.content.Lebs.drop_blank.Goals as goal
 

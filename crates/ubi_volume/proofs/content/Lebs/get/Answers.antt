@@ -1,6 +1,4 @@
-use Rattle.std.proofs.Common.{sym, ◌∙◌}
-use Rattle.std.specs.Cmp.{nat_cmp_total}
-use Rattle.ubi_scan.proofs.Finite.{get_tree}
+use Rattle.ubi_volume.proofs.Prelude.{sym, ◌∙◌, nat_cmp_total, get_tree}
 use Rattle.ubi_volume.proofs.content.Lebs.get.Goals as goal
 
 pub returns : goal.returns

@@ -1,6 +1,4 @@
-use Rattle.std.specs.Cmp.{nat_cmp_total}
-use Rattle.std.specs.FinMap.{nat_cmp-IsAntisymmetric}
-use Rattle.ubi_scan.proofs.Finite.{insert_tree}
+use Rattle.ubi_volume.proofs.Prelude.{nat_cmp_total, nat_cmp-IsAntisymmetric, insert_tree}
 use Rattle.ubi_volume.proofs.content.Lebs.insert.Goals as goal
 
 pub returns-clause-ok : goal.returns-clause-ok

@@ -1,7 +1,4 @@
-use Rattle.std.proofs.Common.{sym, ◌∙◌}
-use Rattle.std.specs.Cmp.{nat_cmp_total}
-use Rattle.std.specs.FinMap.{nat_cmp-IsAntisymmetric}
-use Rattle.ubi_scan.proofs.Finite.{entries_tree}
+use Rattle.ubi_volume.proofs.Prelude.{sym, ◌∙◌, nat_cmp_total, nat_cmp-IsAntisymmetric, entries_tree}
 use Rattle.ubi_volume.proofs.content.Lebs.iter.Goals as goal
 
 pub returns-clause-rest : goal.returns-clause-rest

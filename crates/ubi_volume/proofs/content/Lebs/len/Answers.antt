@@ -1,7 +1,4 @@
-use Rattle.std.proofs.Common.{ap, length, sym, ◌∙◌}
-use Rattle.std.specs.Cmp.{nat_cmp_total}
-use Rattle.std.specs.FinMap.{nat_cmp-IsAntisymmetric}
-use Rattle.ubi_scan.proofs.Finite.{entries_tree}
+use Rattle.ubi_volume.proofs.Prelude.{ap, length, sym, ◌∙◌, nat_cmp_total, nat_cmp-IsAntisymmetric, entries_tree}
 use Rattle.ubi_volume.proofs.content.Lebs.len.Goals as goal
 
 pub returns : goal.returns

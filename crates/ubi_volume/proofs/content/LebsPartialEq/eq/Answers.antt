@@ -1,4 +1,4 @@
-use Rattle.std.proofs.Common.{◌∙◌}
+use Rattle.ubi_volume.proofs.Prelude.{◌∙◌}
 use Rattle.ubi_volume.proofs.Equal.{same_trees}
 use Rattle.ubi_volume.proofs.content.LebsPartialEq.eq.Goals as goal
 

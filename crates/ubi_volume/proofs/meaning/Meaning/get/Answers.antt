@@ -1,6 +1,4 @@
-use Rattle.std.proofs.Common.{arith}
-use Rattle.std.proofs.lemmas.Grind.{common_steps}
-use Rattle.ubi_scan.proofs.Entries.{first_entry}
+use Rattle.ubi_volume.proofs.Prelude.{arith, common_steps, first_entry}
 use Rattle.ubi_volume.proofs.meaning.Meaning.get.Goals as goal
 
 pub returns-clause-value : goal.returns-clause-value

@@ -1,6 +1,4 @@
-use Rattle.std.proofs.Common.{ap, ◌∙◌, subst}
-use Rattle.ubi_volume.specs.Made.{Items, NoCause}
-use Rattle.ubi_volume.specs.Meant.{Meant, VolumeMap}
+use Rattle.ubi_volume.proofs.Prelude.{ap, ◌∙◌, subst, Items, NoCause, Meant, VolumeMap}
 use Rattle.ubi_volume.proofs.Arranged.{arranged_same, arranged_volumes}
 use Rattle.ubi_volume.proofs.meaning.Meaning.new.Goals as goal
 

@@ -1,5 +1,4 @@
-use Rattle.std.proofs.Common.{sym, ◌∙◌}
-use Rattle.ubi_scan.proofs.Entries.{sorted_entries}
+use Rattle.ubi_volume.proofs.Prelude.{sym, ◌∙◌, sorted_entries}
 use Rattle.ubi_volume.proofs.meaning.Meaning.volumes.Goals as goal
 
 pub returns-clause-value : goal.returns-clause-value

@@ -1,4 +1,4 @@
-use Rattle.std.proofs.Common.{◌≡◌, ◌==◌, ◌&&◌, Bool, true, refl, sym, ◌∙◌}
+use Rattle.ubi_volume.proofs.Prelude.{◌≡◌, ◌==◌, ◌&&◌, Bool, true, refl, sym, ◌∙◌}
 use Rattle.ubi_media.specs.contracts.geometry.GeometryPartialEq.TheImpl as geometry_eq
 use Rattle.ubi_volume.proofs.Equal.{same_volumes_same, tells_equal}
 use Rattle.ubi_volume.proofs.meaning.MeaningPartialEq.eq.Goals as goal

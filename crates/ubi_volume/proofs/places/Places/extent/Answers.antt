@@ -1,5 +1,4 @@
-use Rattle.std.proofs.Common.{sym, ap, ◌∙◌}
-use Rattle.ubi_volume.specs.Extract.{extent_len}
+use Rattle.ubi_volume.proofs.Prelude.{sym, ap, ◌∙◌, extent_len}
 use Rattle.ubi_volume.proofs.Extracted.{len_none, len_some}
 use Rattle.ubi_volume.proofs.places.Places.extent.Goals as goal
 

@@ -1,13 +1,5 @@
-use Rattle.std.proofs.Common.{◌≡◌, ◌+◌, ◌∙◌, [], ◌∷◌, ◌++◌, refl, sym, subst, ap, take, arith}
-use Rattle.std.specs.Prelude.{None}
-use Rattle.std.proofs.lemmas.List.{take_more}
+use Rattle.ubi_volume.proofs.Prelude.{◌≡◌, ◌+◌, ◌∙◌, [], ◌∷◌, ◌++◌, refl, sym, subst, ap, take, arith, None, take_more, Sizes, rec_fault, Source, Records, IsContentOf, ArePlacesOf}
 use Rattle.std.specs.FinMap as finite
-use Rattle.ubi_media.specs.Geometry.{Sizes}
-use Rattle.ubi_media.specs.Record.{rec_fault}
-use Rattle.ubi_scan.specs.Source.{Source}
-use Rattle.ubi_table.specs.Records.{Records}
-use Rattle.ubi_volume.specs.inner.Gathered.{IsContentOf}
-use Rattle.ubi_volume.specs.Places.{ArePlacesOf}
 use Rattle.ubi_volume.proofs.Gathered.{contents_more, listed_item}
 use Rattle.ubi_volume.proofs.MeaningOf.{meaning_is, volumes_are}
 use Rattle.ubi_volume.proofs.Narrowed.{contents_narrowed, places_narrowed}

@@ -1,6 +1,4 @@
-use Rattle.std.proofs.Common.{◌≡◌, take, vec_items}
-use Rattle.ubi_scan.specs.Source.{Narrows}
-use Rattle.ubi_volume.specs.inner.Gathered.{AreContents, IsContentOf}
+use Rattle.ubi_volume.proofs.Prelude.{◌≡◌, take, vec_items, Narrows, AreContents, IsContentOf}
 use Rattle.ubi_volume.proofs.places.Places.meaning_from.Given as goal
 
 abbrev pub invariant-loop-listed : goal.invariant-loop-listed

@@ -1,4 +1,4 @@
-use Rattle.std.proofs.Common.{sym}
+use Rattle.ubi_volume.proofs.Prelude.{sym}
 use Rattle.ubi_volume.proofs.places.Places.next_place.Goals as goal
 
 pub returns-then-is_within : goal.returns-then-is_within

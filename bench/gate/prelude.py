@@ -1,0 +1,145 @@
+#!/usr/bin/env python3
+"""Keeps what the proofs of a crate import in one module, proofs/Prelude.antt of the crate.
+
+usage: prelude.py [--write] [CRATE ..]
+
+The module names what the proofs of its crate take from the standard library, from the crates below and from the crate's own specs/,
+and each file of proofs/ takes it from there, by one line. What a name means in two modules alike stays with the module that most
+files take it from, and the others name theirs themselves. So do imports of whole modules, and of the crate's own lemmas.
+
+Without --write it lists the files that import a name past their prelude, and the names there that no file takes. The exit status
+is 1 where one is listed. With --write it mends them; `rt fmt` and `rt check` come after it.
+"""
+import argparse
+import collections
+import pathlib
+import re
+import subprocess
+import sys
+
+ROOT = pathlib.Path(__file__).resolve().parents[2]
+IMPORT = re.compile(r"use (Rattle\.[^{}]+)\.\{(.*)\}$")
+HEADER = "-- The names that the proofs of this crate speak of, and where they come from."
+# Crates with fewer files of proofs than this name what they import where they need it.
+FEW = 12
+
+
+def files_of(crate):
+    """The files of a crate's proofs but those that name modules."""
+    return [path for path in sorted((crate / "proofs").rglob("*.antt")) if path.name not in ("Lib.antt", "Prelude.antt")]
+
+
+def is_shared(module, crate):
+    """Whether names of a module go through the prelude: no lemmas of the crate's own, and no contract's keys."""
+    return not module.startswith((f"Rattle.{crate.name}.proofs.", f"Rattle.{crate.name}.specs.contracts."))
+
+
+def wanted(crate):
+    """How many files take each name from each module, their own prelude counted as the module that it has the name of."""
+    given = {name: module for module, names in prelude_of(crate) for name in names}
+    takes = collections.defaultdict(collections.Counter)
+    for path in files_of(crate):
+        for module, names in imports(path):
+            for name in names:
+                at = given.get(name.partition(" as ")[0]) if module == f"Rattle.{crate.name}.proofs.Prelude" else module
+                if at and " as " not in name and is_shared(at, crate):
+                    takes[name][at] += 1
+    return takes
+
+
+def imports(path):
+    """The modules that a file imports names of, with the names."""
+    for line in path.read_text().split("\n"):
+        found = IMPORT.match(line)
+        if found:
+            yield found[1], found[2].split(", ")
+
+
+def prelude_of(crate):
+    """What a crate's prelude takes from each module."""
+    path = crate / "proofs" / "Prelude.antt"
+    lines = path.read_text().split("\n") if path.exists() else []
+    found = [re.match(r"(?:unfoldable )?pub use (Rattle\.[^{}]+)\.\{(.*)\}$", line) for line in lines]
+    return [(it[1], it[2].split(", ")) for it in found if it]
+
+
+def sources_of(module, kit):
+    """The texts that a module may have: std passes modules of core on under its own name."""
+    _, library, *parts = module.split(".")
+    of_crate = ROOT / "crates" / library
+    folders = [of_crate] if of_crate.is_dir() else [kit / library, kit / "core"]
+    paths = [folder.joinpath(*parts).with_suffix(".antt") for folder in folders]
+    return [path.read_text() for path in paths if path.exists()]
+
+
+def can_be_opened(name, module, kit):
+    """Whether a module lets proofs open a definition."""
+    form = re.compile(r"^unfoldable pub (use .*\b)?" + re.escape(name) + r"(?= |,|\})", re.M)
+    return any(form.search(text) for text in sources_of(module, kit))
+
+
+def text_of(crate, chosen, kit):
+    """The text of a crate's prelude."""
+    groups = collections.defaultdict(list)
+    for name, module in chosen.items():
+        groups[module, can_be_opened(name, module, kit)].append(name)
+    order = lambda item: (not item[0][0].startswith("Rattle.std"), item[0][0].startswith(f"Rattle.{crate.name}."), item[0])
+    lines = [HEADER]
+    for (module, is_open), names in sorted(groups.items(), key=order):
+        lines.append(f"{'unfoldable ' if is_open else ''}pub use {module}.{{{', '.join(sorted(names))}}}")
+    return "\n".join(lines) + "\n"
+
+
+def rewritten(path, crate, chosen):
+    """A file's text with its imports taken from the prelude."""
+    prelude, taken, kept = f"Rattle.{crate.name}.proofs.Prelude", [], []
+    for line in path.read_text().split("\n"):
+        found = IMPORT.match(line)
+        if not found:
+            kept.append(line)
+            continue
+        names = found[2].split(", ")
+        goes = [it for it in names if chosen.get(it.partition(" as ")[0]) == found[1] or found[1] == prelude]
+        taken += [it for it in goes if it not in taken]
+        if len(goes) < len(names):
+            kept.append(f"use {found[1]}.{{{', '.join(it for it in names if it not in goes)}}}")
+    if taken:
+        at = next((number for number, line in enumerate(kept) if line.startswith("use ")), None)
+        if at is None:
+            at = next(number for number, line in enumerate(kept) if not line.startswith("--"))
+        kept.insert(at, f"use {prelude}.{{{', '.join(taken)}}}")
+    return "\n".join(kept)
+
+
+def mend(crate, kit):
+    """Writes a crate's prelude and its files anew. Gives the files that changed."""
+    takes = wanted(crate)
+    chosen = {name: max(sorted(at), key=at.__getitem__) for name, at in takes.items()}
+    texts = {path: rewritten(path, crate, chosen) for path in files_of(crate)}
+    texts[crate / "proofs" / "Prelude.antt"] = text_of(crate, chosen, kit)
+    node = crate / "proofs" / "Lib.antt"
+    if "pub mod Prelude\n" not in node.read_text():
+        texts[node] = node.read_text().rstrip("\n") + "\npub mod Prelude\n"
+    return {path: text for path, text in texts.items() if not path.exists() or path.read_text() != text}
+
+
+def main():
+    words = argparse.ArgumentParser()
+    words.add_argument("--write", action="store_true")
+    words.add_argument("crates", nargs="*")
+    asked = words.parse_args()
+    kit = pathlib.Path(subprocess.run(["rt", "doc"], capture_output=True, text=True, check=True).stdout.strip()).parent / "rattle"
+    changed = {}
+    for node in sorted((ROOT / "crates").glob("*/proofs/Lib.antt")):
+        crate = node.parent.parent
+        if (not asked.crates or crate.name in asked.crates) and len(files_of(crate)) >= FEW:
+            changed.update(mend(crate, kit))
+    for path, text in changed.items():
+        print(path.relative_to(ROOT))
+        if asked.write:
+            path.write_text(text)
+    return 0 if asked.write or not changed else 1
+
+
+if __name__ == "__main__":
+    sys.exit(main())

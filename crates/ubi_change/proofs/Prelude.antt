@@ -1,0 +1,146 @@
+-- The names that the proofs of this crate speak of, and where they come from.
+pub use Rattle.std.proofs.Common.{Bool, List, [], ap, append-nil, append_assoc, ap₂, arith, cond, drop, false, get_or, get_or-set_other, get_or-set_same, inl, inr, length, length-append, length-drop, length-set, map, min, not, refl, replicate, rules, set, slice_range, subst, suc, sym, take, take-add, true, true≢false, zero, ℕ, ◌%◌, ◌*◌, ◌++◌, ◌+◌, ◌-◌, ◌/◌, ◌<◌, ◌^◌, ◌∙◌, ◌∷◌, ◌≡◌, ◌≢◌, ◌≤◌, ◌⊎◌}
+pub use Rattle.std.proofs.Math.Nat.{div-add-mod, div-eq_of_lt, div-le_of_le-mul, div-mul-le_self, le-max_left, le-max_right, mod-lt}
+pub use Rattle.std.proofs.Math.Seq.{drop-append_seam, take-append-add, take-append_seam}
+pub use Rattle.std.proofs.lemmas.Bool.{cases_eq, cases_lt, eqb-true, ltb-true}
+pub use Rattle.std.proofs.lemmas.Bool.Decides.{Decides-and, Decides-like, nat_tests}
+pub use Rattle.std.proofs.lemmas.Grind.{common_steps}
+pub use Rattle.std.proofs.lemmas.List.{drop-drop, drop_at, length-replicate, length-take-le, set-get_or, set-set, take-append-drop, take-append-le, take-replicate, take-take, take_all, take_at, take_more}
+pub use Rattle.std.proofs.lemmas.List.Elements.{filter-append}
+pub use Rattle.std.proofs.lemmas.List.Folds.{concat-append}
+pub use Rattle.std.proofs.lemmas.List.Sums.{fold-append, fold_more, sum_by-append, sum_by-cons, sum_by-le}
+pub use Rattle.std.proofs.lemmas.Nat.{div-mul-add, mod-mul-add, mul-le}
+pub use Rattle.std.proofs.lemmas.Option.{same_Some}
+pub use Rattle.std.proofs.lemmas.Result.{IfOk-weaker, err_from_is_err_and, on_ok_weaker}
+pub use Rattle.std.proofs.lemmas.Slice.Eq.{slice_eq-Decides}
+pub use Rattle.std.specs.Bool.{if◌then◌else◌, then_some}
+pub use Rattle.std.specs.Borrow.{Bor}
+pub use Rattle.std.specs.Cmp.{nat_cmp_total, unsigned_Decides}
+pub use Rattle.std.specs.Cmp.Lexicographic.{pointwise, same_text}
+pub use Rattle.std.specs.FinMap.{FinMap, get, nat_cmp-IsAntisymmetric, same_entries_map}
+pub use Rattle.std.specs.Int.{byte_at, bytes_high_first}
+pub use Rattle.std.specs.Int.Bits.{and_self}
+pub use Rattle.std.specs.List.{concat, cons_option, enumerate_from, position_or_len, range_with_len, sum_by}
+pub use Rattle.std.specs.Option.{option_map_or}
+pub use Rattle.std.specs.Ordering.{eq_by_cmp, nat_cmp}
+pub use Rattle.std.specs.Prelude.{Contains, Err, IfSome, IsSome, None, Ok, OnOk, Option, Result, Some, bit_and, count_by, filter, filter_map, find, flat_map, fold, is_some, max, nat_eq, nat_lt, option_and_then, option_copied, option_map, slice_get, slice_index, sum, unwrap_or, ◌&&◌, ◌==◌, ◌||◌}
+pub use Rattle.std.specs.Result.{is_ok}
+pub use Rattle.std.specs.Simd.{first_chunks}
+pub use Rattle.ubi_media.proofs.ByteLists.{bytes-append, bytes-blank, bytes-drop, bytes-take, bytes_each}
+pub use Rattle.ubi_media.proofs.Cases.{below_or_last, below_same_or_above, within_or_past, zero_or_more}
+pub use Rattle.ubi_media.proofs.Checks.{check_from-append, check_from-empty, check_from-lt}
+pub use Rattle.ubi_media.proofs.First.{found_passes, none_passes}
+pub use Rattle.ubi_media.proofs.Headers.{ec_read_back, fields_fit, vid_read_back}
+pub use Rattle.ubi_media.proofs.Padding.{half_pad, reserved_within}
+pub use Rattle.ubi_media.proofs.Readings.{counter_within, ec_is_of, one_ec_reading, one_vid_reading}
+pub use Rattle.ubi_media.proofs.Writes.{put_all}
+pub use Rattle.ubi_media.specs.Check.{check}
+unfoldable pub use Rattle.ubi_media.specs.Check.{check_from, remainder}
+pub use Rattle.ubi_media.specs.Ec.{ec_bytes, ec_front}
+unfoldable pub use Rattle.ubi_media.specs.Ec.{ec_fields, ec_reading}
+pub use Rattle.ubi_media.specs.Fields.{AreBytes, blank, is_blank, same_bytes}
+unfoldable pub use Rattle.ubi_media.specs.Fields.{filled, form_of, overwrite}
+pub use Rattle.ubi_media.specs.Geometry.{IsGeometry, Sizes, leb_size, slots}
+pub use Rattle.ubi_media.specs.Kind.{is_static}
+pub use Rattle.ubi_media.specs.Name.{is_name}
+pub use Rattle.ubi_media.specs.Record.{data_pad, rec_fault, usable}
+pub use Rattle.ubi_media.specs.Vid.{kind_number, vid_bytes, vid_fault, vid_front}
+unfoldable pub use Rattle.ubi_media.specs.Vid.{breaks, fields_from, first_fault, vid_fields, vid_reading}
+pub use Rattle.ubi_media.specs.Widths.{VidFits}
+pub use Rattle.ubi_media.specs.declared.ec.EcHeader.{EcHeader}
+pub use Rattle.ubi_media.specs.declared.ec.EcRead.{EcRead}
+pub use Rattle.ubi_media.specs.declared.record.VolumeRecord.{VolumeRecord}
+pub use Rattle.ubi_media.specs.declared.refusal.Refusal.{Refusal}
+pub use Rattle.ubi_media.specs.declared.vid.VidHeader.{VidHeader}
+pub use Rattle.ubi_media.specs.declared.vid.VolKind.{VolKind}
+pub use Rattle.ubi_media.specs.declared.vid.VolKind.TheVariants.{Static}
+pub use Rattle.ubi_scan.proofs.Choice.{false_or_true}
+pub use Rattle.ubi_scan.proofs.Chunks.{first_chunks-concat, first_chunks-put, get_or-first_chunks, length-concat, length-first_chunks, length-of_chunk, piece_within}
+pub use Rattle.ubi_scan.proofs.Clean.{clean_from_none, none_from_clean}
+pub use Rattle.ubi_scan.proofs.Decided.{Wins-unique, winner_or_none}
+pub use Rattle.ubi_scan.proofs.Entries.{entry_place}
+pub use Rattle.ubi_scan.proofs.FailedReads.{names_part}
+pub use Rattle.ubi_scan.proofs.Filled.{behind, drop_blank, filled-by, filled-is, filled-none, filled_inner, filled_more, join_blank, length-blank, length-filled, overwrite_filled, overwrite_front}
+pub use Rattle.ubi_scan.proofs.InMemory.{still}
+pub use Rattle.ubi_scan.proofs.Keys.{apart_test, at_itself, at_other, same_test}
+pub use Rattle.ubi_scan.proofs.Narrowed.{scan_narrowed, source_narrowed}
+pub use Rattle.ubi_scan.proofs.Parts.{blank_ec, blank_vid, ec-laid, laid, leb-laid, vid-laid}
+pub use Rattle.ubi_scan.proofs.ReadParts.{count_blocks}
+pub use Rattle.ubi_scan.proofs.Revalued.{revalued_is, sum_revalued}
+pub use Rattle.ubi_scan.proofs.Seq.{Agrees, seq_agrees, seq_is}
+pub use Rattle.ubi_scan.proofs.Tops.{used_by}
+pub use Rattle.ubi_scan.specs.Clean.{IsClean, IsSound}
+pub use Rattle.ubi_scan.specs.Faults.{IsMislaid, NoFault}
+pub use Rattle.ubi_scan.specs.Image.{Image, IsWhole, IsWholeSize, block, ec, ec_area, eraseblocks, image_of, in_image, leb, vid, vid_area}
+pub use Rattle.ubi_scan.specs.Members.{IsMember, Leb, NoMember, Wins, foreign, foreign_if, good_at, good_in, has_members, header, header_if, is_good, is_right, layout, leb_of, member, member_if, named_in, sqnum_at, sqnum_in}
+pub use Rattle.ubi_scan.specs.Numbers.{carriers, counters, image_seq, is_carrier, mean, mean_ec, seq_if, seq_of, sqnum_in_use, top_sqnum, valid_ec}
+pub use Rattle.ubi_scan.specs.Scan.{Found, IsScan, leb_cmp}
+pub use Rattle.ubi_scan.specs.Source.{Agreed, IsSource, Narrows, Source, WhereHeld, blocks_in, blocks_of, holds, memory}
+pub use Rattle.ubi_scan.specs.declared.errors.StreamError.{StreamError}
+pub use Rattle.ubi_table.proofs.NameRules.{sound_named}
+pub use Rattle.ubi_table.proofs.NamedTable.{next-is, some_record}
+pub use Rattle.ubi_table.proofs.Names.{Entry}
+pub use Rattle.ubi_table.proofs.One.{blank_none, copy_unique, decides_unique}
+pub use Rattle.ubi_table.proofs.ReadBack.{length-table_bytes, reads_back}
+pub use Rattle.ubi_table.proofs.Streamed.{copy_sizes}
+pub use Rattle.ubi_table.specs.Named.{IsFreeName, records_named, with_name}
+pub use Rattle.ubi_table.specs.Records.{AreRecords, HasSpace, Records, space, table_bytes}
+pub use Rattle.ubi_table.specs.Stream.{HasSizes}
+pub use Rattle.ubi_table.specs.Table.{AllBlank, CopyIs, Decides, IsTable}
+unfoldable pub use Rattle.ubi_table.specs.Table.{copy_of}
+pub use Rattle.ubi_table.specs.declared.copy.CopyRead.{CopyRead}
+pub use Rattle.ubi_volume.proofs.Blanks.{blank_text, other_text, part_is}
+pub use Rattle.ubi_volume.proofs.Equal.{bytes_Decides, record_Decides}
+pub use Rattle.ubi_volume.proofs.Gathered.{listed_at}
+pub use Rattle.ubi_volume.proofs.MeantRecords.{meant_by, records_are, records_fit, volume_is}
+pub use Rattle.ubi_volume.proofs.Narrowed.{error_where, wrote_narrowed, wrote_where}
+pub use Rattle.ubi_volume.proofs.Pieces.{pieces_few, pieces_suffice}
+pub use Rattle.ubi_volume.proofs.PlacesOf.{refused_in_memory}
+pub use Rattle.ubi_volume.proofs.Received.{Splits, error_behind, error_front, wrote_as, wrote_cut, wrote_more, wrote_none, wrote_text}
+pub use Rattle.ubi_volume.proofs.Recorded.{record_of, records_meant, space_of}
+pub use Rattle.ubi_volume.proofs.Winners.{found_wins, no_some, none_found}
+pub use Rattle.ubi_volume.specs.Accepts.{Accepts, AcceptsBlocks, IsUnlike, IsWithin, NoMismatch}
+pub use Rattle.ubi_volume.specs.Attached.{AreStates, IsAttached, IsOutside, StateIs, Whole}
+pub use Rattle.ubi_volume.specs.Means.{AreWhole, IsPiece, LebReads, Means, SlotMeans, StaticReads, VolumeReads, piece}
+pub use Rattle.ubi_volume.specs.Meant.{Fits, IsMeaning, IsVolume, KeepsNoBlank, Meant, VolumeMap, pieces, records_of}
+pub use Rattle.ubi_volume.specs.Places.{ArePlacesError}
+pub use Rattle.ubi_volume.specs.Survey.{IsSurvey, IsSurveyOf, Seen}
+pub use Rattle.ubi_volume.specs.Wrote.{All, IsWroteError, Wrote}
+pub use Rattle.ubi_volume.specs.declared.attached.BlockState.{BlockState}
+pub use Rattle.ubi_volume.specs.declared.content.Content.{Content}
+pub use Rattle.ubi_volume.specs.declared.content.Volume.{Volume}
+pub use Rattle.ubi_change.specs.Avoided.{Avoided, Avoids, BlankBelow, IsNotBlank, MayTouch, ReadBlank, avoiding, is_avoided, is_blank_one, is_listed, nothing, state_avoiding, states_avoiding}
+pub use Rattle.ubi_change.specs.Cuts.{SurvivesCuts, changed, header_in, is_copy, programs_copy, turn, volume_with, with_leb}
+pub use Rattle.ubi_change.specs.Fitting.{AllFit, AllWithin, FitsBlock, fits, only_clears, page_of}
+pub use Rattle.ubi_change.specs.Frugal.{CountsErases, IsFrugal, TouchesOnly, counter_after, erases, given_up, stays_then, touched}
+pub use Rattle.ubi_change.specs.Laws.{PlanSurvives, RenameSurvives, left}
+pub use Rattle.ubi_change.specs.Order.{ComesFirst, Erases, NoErase, Programs, RisesBetweenErases}
+pub use Rattle.ubi_change.specs.Pages.{PagesCarry, line_of, programmed, with_pages}
+pub use Rattle.ubi_change.specs.Plan.{atomic_copy, blank_header, copy_header, mapped_plan, mount, needs, next_ec, plan_of, prepare, program_header, program_text, ready_bytes, ready_ec, release, renew, taken, unmapped_plan, vid_page}
+pub use Rattle.ubi_change.specs.Planned.{IsChangeError, IsChangeRefusal, IsChangeRefusalAvoiding, IsFrugalAvoiding, IsFrugalOf, IsPlan, IsPlanAvoiding, IsPlanOf, IsPlanned}
+pub use Rattle.ubi_change.specs.Refused.{causes, first_cause, first_of, is_bad_length}
+pub use Rattle.ubi_change.specs.RenamePlan.{copy_plan, holder, layout_header, rename_plan, renamed_pages, table_pages}
+pub use Rattle.ubi_change.specs.RenamePlanned.{IsFrugalRename, IsFrugalRenameAvoiding, IsFrugalRenameOf, IsPlannedRename, IsRename, IsRenameAvoiding, IsRenameError, IsRenameOf, IsRenameRefusal, IsRenameRefusalAvoiding, KeepsReading, LeavesBothGood, LeavesBothGoodOf, SurvivesRename, SurvivesRenameOf}
+pub use Rattle.ubi_change.specs.RenameRefused.{BothGood, HasName, IsFirstCause, MayBeNamed, Stands, rank}
+pub use Rattle.ubi_change.specs.Renamed.{ReadSame, nameless, renamed, volume_named}
+pub use Rattle.ubi_change.specs.Steps.{after, after_text, block_after, step_done, target}
+pub use Rattle.ubi_change.specs.Takeable.{able, ec_at, is_clean, is_free, is_sole_carrier, is_takeable, is_unused, is_worn, stays, takeable}
+pub use Rattle.ubi_change.specs.Weak.{is_weak, is_whole, pages_of, torn, weak_place, whole_place}
+pub use Rattle.ubi_change.specs.declared.ground.Ground.{Ground}
+pub use Rattle.ubi_change.specs.declared.holders.Holders.{Holders}
+pub use Rattle.ubi_change.specs.declared.plan_error.PlanError.{PlanError}
+pub use Rattle.ubi_change.specs.declared.planning.Prepared.{Prepared}
+pub use Rattle.ubi_change.specs.declared.refusal.ChangeRefusal.{ChangeRefusal}
+pub use Rattle.ubi_change.specs.declared.rename_refusal.RenameRefusal.{RenameRefusal}
+pub use Rattle.ubi_change.specs.declared.renaming.Renamable.{Renamable}
+pub use Rattle.ubi_change.specs.declared.site.Site.{Site}
+pub use Rattle.ubi_change.specs.declared.spares.Spares.{Spares}
+pub use Rattle.ubi_change.specs.declared.step.Step.{Step}
+pub use Rattle.ubi_change.specs.declared.taking.FirstTwo.{FirstTwo}
+pub use Rattle.ubi_change.specs.declared.taking.Parted.{Parted}
+pub use Rattle.ubi_change.specs.declared.target.Target.{Target}
+pub use Rattle.ubi_change.specs.inner.Making.{AreSites, AreStepsOf, FitsPrepared, IsPrepared, IsSitesRefusal, IsTarget, IsTooFew, IsUnplanned, from_stream, image_causes, needed, own_causes, shown, steps_on}
+pub use Rattle.ubi_change.specs.inner.Renaming.{AreCopiesOf, AreHolders, AreHoldersOf, AreSpares, BothFit, IsNamable, IsNamingRefusal, IsRenamable, IsSparesRefusal, IsUnrenamed, other_named, pages_for, two_copies}
+pub use Rattle.ubi_change.specs.inner.Sites.{FitsIn, IsSiteAt, copy_on, is_sole_on, mount_on, ready_on, release_on, site_at, stays_on}
+pub use Rattle.ubi_change.specs.inner.Taking.{AreTaken, IsGroundOf, ListedIs, NotBlankIs, SayBlank, TakeableIs, all_of, first_taken, first_two, joined, parted_with, two_joined, two_with, with_next}
+pub use Rattle.ubi_change.specs.inner.Writing.{block_cut, block_step, block_text, front_text}

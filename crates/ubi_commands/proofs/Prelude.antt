@@ -1,0 +1,204 @@
+-- The names that the proofs of this crate speak of, and where they come from.
+pub use Rattle.std.proofs.Common.{Bool, List, Some, [], ap, append-nil, append_assoc, ap₂, arith, cond, drop, false, get_or, inl, inr, le_refl, length, lit<, lit≤, map, min, nat_le, nat_lt, not, refl, replicate, rules, string_bytes, subst, suc, sym, take, true, true≢false, vec_items, vec_len, zero, zero-add, ℕ, ◌%◌, ◌&&◌, ◌*◌, ◌++◌, ◌+◌, ◌-◌, ◌/◌, ◌<◌, ◌==◌, ◌^◌, ◌||◌, ◌↔◌, ◌∙◌, ◌∷◌, ◌≡◌, ◌≢◌, ◌≤◌, ◌⊎◌}
+pub use Rattle.std.proofs.KnownBytes.{Consumes-trans, Keeps-refl}
+pub use Rattle.std.proofs.Math.Nat.{div-lt_iff_lt-mul, min-le_left, min-le_right, mod-add-div', mul-le-mul_right}
+pub use Rattle.std.proofs.Math.Seq.{drop-append-add, paste}
+pub use Rattle.std.proofs.lemmas.Bool.{cases_lt, eqb-true, ltb-false, ne_eqb}
+pub use Rattle.std.proofs.lemmas.Bool.Decides.{nat_tests}
+pub use Rattle.std.proofs.lemmas.Grind.{common_steps, flat_map-append}
+pub use Rattle.std.proofs.lemmas.Int.{ints}
+pub use Rattle.std.proofs.lemmas.List.{drop-append-le, drop-drop, drop-take, drop_all, drop_at, get_or-append_right, get_or-drop, get_or-replicate, get_or-take, get_or_append_left, length-append, length-drop, length-replicate, length-take, length-take-le, map-append, nil_from_length, same_lists, take-append-drop, take-append-le, take-take, take_all, take_at, take_min, take_more, take_rest, with_items_is}
+pub use Rattle.std.proofs.lemmas.List.Edits.{drop-paste, length-paste, take-paste}
+pub use Rattle.std.proofs.lemmas.List.Elements.{filter_map-append}
+pub use Rattle.std.proofs.lemmas.List.Folds.{list_all_more}
+pub use Rattle.std.proofs.lemmas.List.FromFn.{length-range_with_len}
+pub use Rattle.std.proofs.lemmas.List.Splits.{length-slice_split}
+pub use Rattle.std.proofs.lemmas.List.Sums.{prefix_len-le-length, sum_by-append}
+pub use Rattle.std.proofs.lemmas.Nat.{div-add-mod', div-mul-add, mod-mul-add, mod_below, mul-le}
+pub use Rattle.std.proofs.lemmas.Option.{get_or_from_slice_get, same_Some, slice_get_cases, slice_get_read, slice_get_within}
+pub use Rattle.std.proofs.lemmas.Result.{IfErr-at_err, IfErr-weaker, IfOk-at_ok, IfOk-weaker, err_from_is_err_and}
+pub use Rattle.std.proofs.lemmas.Slice.Eq.{bytes_eq-Decides}
+pub use Rattle.std.proofs.lemmas.Str.Parse.{digit_from_value}
+pub use Rattle.std.specs.Bool.{then_some}
+pub use Rattle.std.specs.Borrow.{Bor}
+pub use Rattle.std.specs.FinMap.{entries, get}
+unfoldable pub use Rattle.std.specs.Fmt.{digits}
+pub use Rattle.std.specs.Io.{ReadsAtMost}
+pub use Rattle.std.specs.Io.KnownBytes.{Appends, Consumes}
+pub use Rattle.std.specs.List.{AllByRecursion, concat, cons_option, enumerate_from, find, flat_map, list_all, list_any, range_with_len, slice_split}
+pub use Rattle.std.specs.Option.{ForSome, IsSomeAnd, option_map_or}
+unfoldable pub use Rattle.std.specs.Path.{path_with_file_name}
+pub use Rattle.std.specs.Prelude.{Contains, Err, IfErr, IfOk, IfSome, IsErr, IsOk, IsSome, MatchOption, MatchResult, None, Ok, OnErr, OnOk, Option, Result, codes, count_by, decimal, filter_map, fold, if◌then◌else◌, is_ok, is_some, option_and_then, option_map, pos, slice_get, slice_index_or, sum_by, unwrap_or}
+pub use Rattle.std.specs.Result.{result_map_both}
+pub use Rattle.std.specs.Str.{bytes_eq}
+unfoldable pub use Rattle.std.specs.Str.{chars}
+pub use Rattle.std.specs.Str.Parse.{ExplainsUnsignedError, HasUnsignedDigitsIfOk, IsNumeral, ParsesUnsigned, digits_value, starts_with_minus, without_leading_plus}
+pub use Rattle.std.specs.declared.alloc.AllocError.{AllocError}
+pub use Rattle.std.specs.declared.alloc.Global.{Global}
+pub use Rattle.std.specs.declared.vec.Vec.{Vec}
+unfoldable pub use Rattle.clap.proofs.OnLiterals.{clap_on_literals}
+pub use Rattle.clap.proofs.ValueTestLemmas.{Accepts-accepts, accepts-Accepts}
+pub use Rattle.clap.proofs.WalkLemmas.{both, first_value-rows, one_text-rows}
+pub use Rattle.clap.specs.Built.{AddsArg, AddsSubcommand, subcommand_names}
+pub use Rattle.clap.specs.Facts.{explicit_source, parser_of_value, unwrap_or_range}
+pub use Rattle.clap.specs.Faults.{action_fault, built_fault, bundle_fault, bundle_step_fault, check_fault, entered_fault, fault_of, flag_word_fault, is_simple_and_free, level_fault, long_fault, option_fault, other_fault, positional_fault, react_fault, set_fault, settle_fault, short_fault, step_fault, turn_fault, use_fault, values_fault, word_fault}
+unfoldable pub use Rattle.clap.specs.Faults.{defaults_fault, flags_fault, walk_fault}
+pub use Rattle.clap.specs.Kinds.{HasKind, IsAmong, Kinds, check_kinds, or_else, range_kinds}
+pub use Rattle.clap.specs.Lexer.{long_of, short_of, without_minus}
+pub use Rattle.clap.specs.Matches.{ReadsOne, first_value, found_of, one_text}
+pub use Rattle.clap.specs.Simple.{App, HasMatchesOf, Shape, app_of, app_of_fields, argument_words, entered, is_simple, label_of, names_of, new_app, on_top, rows_at, shape_of, subcommand_of, subcommand_rows_of, with_rule, with_subcommand}
+pub use Rattle.clap.specs.Takes.{is_given, value_passes}
+pub use Rattle.clap.specs.ValueTests.{accepts}
+pub use Rattle.clap.specs.Values.{IsSignedIn, is_request, kind_of, read_as, reading_of}
+pub use Rattle.clap.specs.Walk.{Held, Names, Row, Rule, Text, Waiting, Walk, action_of, after_flag, after_step, answers_to, arg_by_id, arg_by_index, arg_by_long, arg_by_short, at_row, attached_value, bundle, bundle_step, default_rows, done, finished, first_of, flag_met, has_row, idle, is_empty, is_pending, long_met, long_or_other, more_values, most_values, next, nothing_held, one_of, option, option_met, option_word, plain, plain_word, positional, pushed, reacted, reading_by, refused, row_text, rows_after, rows_of, rule_of, settled, settled_rows, short_met, short_or_plain, stop_after, subcommand, subcommand_met, subcommand_or_other, takes_several, takes_values, to_positional, trailing, used, used_by_id, value, values_or_missing, waits, walk, walk_from, walked_from, with_default, with_values, without, word_met}
+unfoldable pub use Rattle.clap.specs.Walk.{bundle_met, walked}
+pub use Rattle.clap.specs.declared.builder.action.ArgAction.{ArgAction}
+pub use Rattle.clap.specs.declared.builder.arg.Arg.{Arg}
+pub use Rattle.clap.specs.declared.builder.command.Command.{Command}
+pub use Rattle.clap.specs.declared.builder.command.Command.TheViews.{out-Command}
+pub use Rattle.clap.specs.declared.builder.value_parser.Reading.{Reading}
+pub use Rattle.clap.specs.declared.builder.value_parser.ValueParser.{ValueParser}
+pub use Rattle.clap.specs.declared.error.Error.{Error}
+pub use Rattle.clap.specs.declared.error.kind.ErrorKind.TheVariants.{DisplayHelp, InvalidSubcommand, TooManyValues}
+pub use Rattle.clap.specs.declared.parser.matches.ArgMatches.{ArgMatches}
+pub use Rattle.clap.specs.declared.parser.matches.Found.{Found}
+pub use Rattle.clap.specs.declared.parser.matches.ValueSource.TheVariants.{CommandLine}
+pub use Rattle.ubi_change.proofs.CutSizes.{blocks-cut, length-cut}
+pub use Rattle.ubi_change.proofs.PlanSurvives.{plan_survives_law}
+pub use Rattle.ubi_change.specs.Avoided.{Avoided, is_listed, nothing}
+pub use Rattle.ubi_change.specs.Cuts.{changed, turn}
+pub use Rattle.ubi_change.specs.Fitting.{AllWithin}
+pub use Rattle.ubi_change.specs.Pages.{programmed}
+pub use Rattle.ubi_change.specs.Planned.{IsChangeError, IsPlanned}
+pub use Rattle.ubi_change.specs.RenamePlan.{renamed_pages}
+pub use Rattle.ubi_change.specs.RenamePlanned.{IsPlannedRename, IsRenameError}
+pub use Rattle.ubi_change.specs.Renamed.{renamed}
+pub use Rattle.ubi_change.specs.Steps.{after, after_text, step_done}
+pub use Rattle.ubi_change.specs.declared.step.Step.{Step}
+pub use Rattle.ubi_compose.proofs.BuiltReads.{built_reads}
+pub use Rattle.ubi_compose.proofs.BuiltRoom.{built_accepted}
+pub use Rattle.ubi_compose.proofs.Form.{count-composed, count-normal_bytes, normalising}
+pub use Rattle.ubi_compose.proofs.Lists.{all_append, all_from}
+pub use Rattle.ubi_compose.proofs.Refusals.{refuses}
+pub use Rattle.ubi_compose.proofs.StoredVolumes.{count, volume_at}
+pub use Rattle.ubi_compose.specs.Building.{CanBuild, IsBuildError, WhereNotBegun, image_built, known_after}
+pub use Rattle.ubi_compose.specs.Built.{HaveMeaning, Parts, Reaches, text_of}
+pub use Rattle.ubi_compose.specs.BuiltLaws.{text_read}
+pub use Rattle.ubi_compose.specs.Composed.{HasRoom, IsComparison, composed}
+pub use Rattle.ubi_compose.specs.Normal.{normal_blocks}
+pub use Rattle.ubi_compose.specs.Spec.{volumes_of}
+pub use Rattle.ubi_compose.specs.Streamed.{HasGot, IsStreamed}
+pub use Rattle.ubi_compose.specs.TextLaws.{ComesTo}
+unfoldable pub use Rattle.ubi_compose.specs.Words.{shown_name}
+pub use Rattle.ubi_compose.specs.declared.errors.BuildError.{BuildError}
+pub use Rattle.ubi_compose.specs.declared.errors.SpecCause.{SpecCause}
+pub use Rattle.ubi_compose.specs.declared.recipe.Part.{Part}
+pub use Rattle.ubi_config.specs.Config.{sections_of}
+unfoldable pub use Rattle.ubi_config.specs.Config.{first_fault}
+unfoldable pub use Rattle.ubi_config.specs.Records.{record_in}
+pub use Rattle.ubi_config.specs.declared.section.Section.{Section}
+pub use Rattle.ubi_media.specs.Geometry.{IsGeometry, Sizes, page_sizes}
+unfoldable pub use Rattle.ubi_media.specs.Limits.{first_broken}
+pub use Rattle.ubi_media.specs.Record.{rec_fault, usable}
+pub use Rattle.ubi_media.specs.declared.record.VolumeRecord.{VolumeRecord}
+pub use Rattle.ubi_media.specs.declared.refusal.Refusal.{Refusal}
+pub use Rattle.ubi_scan.proofs.InMemory.{still}
+pub use Rattle.ubi_scan.proofs.Narrowed.{source_narrowed}
+pub use Rattle.ubi_scan.proofs.OnGrid.{each_on_grid}
+pub use Rattle.ubi_scan.proofs.ReadParts.{count_blocks}
+pub use Rattle.ubi_scan.proofs.Stands.{stand_within}
+pub use Rattle.ubi_scan.specs.Detected.{AreDetected, AreDetectedOf, IsDetectError}
+pub use Rattle.ubi_scan.specs.Heads.{first_place, heads_of}
+pub use Rattle.ubi_scan.specs.Image.{Image, IsLengthFault, IsWhole, IsWholeSize, block, eraseblocks, image_of, judged}
+pub use Rattle.ubi_scan.specs.Place.{blanks_behind, end_of_image, end_of_last, run, start_of_image, told_by, told_ways}
+pub use Rattle.ubi_scan.specs.Placed.{StandsAt}
+pub use Rattle.ubi_scan.specs.Promised.{keeps_promise}
+pub use Rattle.ubi_scan.specs.Source.{Agreed, IsSource, Narrows, Source, WhereHeld, blocks_in, blocks_of, holds, known_by, memory}
+pub use Rattle.ubi_scan.specs.declared.detect.Detected.{Detected}
+pub use Rattle.ubi_scan.specs.declared.detect.Undetected.{Undetected}
+pub use Rattle.ubi_scan.specs.declared.errors.StreamError.{StreamError}
+pub use Rattle.ubi_scan.specs.declared.groups.Group.{Group}
+pub use Rattle.ubi_scan.specs.declared.way.Way.{Way}
+pub use Rattle.ubi_table.specs.Records.{AreRecords, Records}
+pub use Rattle.ubi_volume.proofs.Either.{accepted_or_refused}
+pub use Rattle.ubi_volume.proofs.Extracted.{len_none, len_some}
+pub use Rattle.ubi_volume.proofs.FirstCause.{one_first}
+pub use Rattle.ubi_volume.proofs.Gathered.{listed_at, listed_item}
+pub use Rattle.ubi_volume.proofs.Narrowed.{places_narrowed}
+pub use Rattle.ubi_volume.proofs.One.{Accepts-unique, never_accepted_and_refused}
+pub use Rattle.ubi_volume.proofs.OneCause.{one_cause}
+pub use Rattle.ubi_volume.proofs.Received.{error_as}
+pub use Rattle.ubi_volume.specs.Accepts.{Accepts, AcceptsBlocks}
+pub use Rattle.ubi_volume.specs.Amounts.{AmountIs}
+pub use Rattle.ubi_volume.specs.Extract.{extent_in, extent_len, extent_of, read_text}
+pub use Rattle.ubi_volume.specs.Meant.{Meant, records_of}
+pub use Rattle.ubi_volume.specs.Places.{ArePlaces, ArePlacesOf, AreWithin, Placed}
+pub use Rattle.ubi_volume.specs.Reading.{read_volume, volume_len}
+pub use Rattle.ubi_volume.specs.Wrote.{All, First, IsWroteError, NotAll, Wanted, Wrote}
+pub use Rattle.ubi_volume.specs.declared.block.Amount.{Amount}
+pub use Rattle.ubi_volume.specs.declared.content.Volume.{Volume}
+pub use Rattle.ubi_volume.specs.declared.errors.MeaningCause.{MeaningCause}
+pub use Rattle.ubi_volume.specs.declared.errors.ReadError.{ReadError}
+pub use Rattle.ubi_volume.specs.declared.places.Extent.{Extent}
+pub use Rattle.ubi_volume.specs.declared.places.PlaceContent.{PlaceContent}
+pub use Rattle.ubi_commands.specs.AfterRun.{IsTold, WhereNotDone, after_left, after_right, after_run, outcome, read_failed}
+pub use Rattle.ubi_commands.specs.Answer.{Answer, Gives, says}
+pub use Rattle.ubi_commands.specs.BadBlocks.{has_number, is_block_list, masked, range_of, range_of_parts, ranges_of, with_ranges}
+pub use Rattle.ubi_commands.specs.Build.{AreBesideOut, AreGathered, ArePartsOf, AreUnread, Builds, BuildsParts, HaveImage, IsNoVolume, IsSized, IsUngathered, IsUnreadLine, Sized, built, faulty, gathered, image_path, image_paths, len_of, no_image, no_path, no_record, numbered, part_at, ungathered, unwritten}
+pub use Rattle.ubi_commands.specs.BuildLaws.{AreTold, BuildReads, ReadsItsFile, file_of}
+pub use Rattle.ubi_commands.specs.Change.{Changes, ChangesFrom, CutMeans, HasPlan, IsChangeFault, not_blank_from, unplanned_from}
+pub use Rattle.ubi_commands.specs.Check.{same_state, state_line, surveyed, unsurveyed}
+unfoldable pub use Rattle.ubi_commands.specs.Check.{printed_states}
+pub use Rattle.ubi_commands.specs.CommandLine.{Asks, AsksAsked, AsksBlank, AsksChange, AsksDump, AsksExtract, AsksKey, AsksNewImage, AsksNumbers, AsksPart, AsksPaths, AsksPlan, AsksRename, HasBelow, HasNumber, HasText, IsOneOf, IsRequest, MayHaveBelow, MayHaveLong, MayHaveNumber, MayHaveText, command_name, gives, gives_no_geometry}
+pub use Rattle.ubi_commands.specs.Compose.{Composes, ComposesInto, ComposesOf, crowded, described, fits, meaning_line, spec_line, unmade, unread}
+pub use Rattle.ubi_commands.specs.Disk.{AllStay, Files, Holds, IsJudgedOf, IsKept, IsLeft, IsTextOf, OthersStay, OutsideStay, Receives, Stays, fresh}
+pub use Rattle.ubi_commands.specs.Dump.{Fits, FitsWhole, IsPartOf, as_read, greatest_dump, marks_of, misfit_of, most_of, seen, told_dump, viewed, whole_len}
+pub use Rattle.ubi_commands.specs.Extract.{Extracts, HasFirst, HasTextIn, IsExtractError, IsExtractFault, ReadsVolume, accepted, read, read_key, refused_from, unread_from, wrote}
+pub use Rattle.ubi_commands.specs.Geometry.{Detects, detected, detected_from, options_lines, undetected, undetected_from}
+unfoldable pub use Rattle.ubi_commands.specs.Geometry.{options, sizes_options}
+pub use Rattle.ubi_commands.specs.Key.{number_in}
+pub use Rattle.ubi_commands.specs.Late.{contents_of}
+pub use Rattle.ubi_commands.specs.Lines.{blocks_line, bytes_line, comparison_line, file_line, no_block_line, refusal_line, refused_line, undetected_line}
+unfoldable pub use Rattle.ubi_commands.specs.Lines.{layout_words}
+pub use Rattle.ubi_commands.specs.List.{Lists, list_lines, listed, record_line, shown, unlisted, volume_line}
+unfoldable pub use Rattle.ubi_commands.specs.List.{room_words, sizes_line}
+pub use Rattle.ubi_commands.specs.Normalise.{HasMeaning, IsNormaliseError, Normalises, wrote_nothing}
+pub use Rattle.ubi_commands.specs.Numbers.{greatest, sizes_of}
+pub use Rattle.ubi_commands.specs.Opened.{IsOpened}
+pub use Rattle.ubi_commands.specs.Plan.{AreCut, CutAccepts, HasFile, IsCarryFault, IsCut, cut_bytes, cut_text, plan_answer, plan_lines, refused_file, step_line, steps_done}
+pub use Rattle.ubi_commands.specs.Program.{IsAllElse, IsAnswer, IsAnswerTo, IsDump, IsRead, IsToldFirst, IsUnseen, OfFile, OfImage, OfText, Tells, TellsNothing, WhereRead, WritesFile, WritesInto, WritesPlan, alike, avoided, bad_limit, cannot_read, file, given, image, kept, lost, no_file, no_left, no_list, no_pages, no_right, no_text, of_dump, places, planned, text_limit, told, unfit, unfit_whole, unlike, unreadable, untold, whole, with_list, written, wrong_words}
+pub use Rattle.ubi_commands.specs.Rename.{CutIsNamed, HasRename, IsRenameFault, Renames, RenamesFrom, nameless_from}
+pub use Rattle.ubi_commands.specs.Row.{row_bytes}
+pub use Rattle.ubi_commands.specs.Same.{Compares, ComparesOf, compared, comparison_status, different, left_refused, left_refused_from, right_refused, right_refused_from, same}
+pub use Rattle.ubi_commands.specs.Show.{Shows, block_lines, no_block, no_block_from, no_size, shown_from}
+pub use Rattle.ubi_commands.specs.Tool.{HasOneVolume, Mean, Takes, build, change, check, compose, extract, finds, geometry, list, needed, normalise, plans, reads_dump, rename, show, unpack}
+unfoldable pub use Rattle.ubi_commands.specs.Tool.{tool}
+pub use Rattle.ubi_commands.specs.Unpack.{AreUnpacked, AreUnpackedUntil, IsUnpacked, Listed, Unpacks, UnpacksOf, file_byte, file_name, file_path, no_folder, unpacked, unpacked_line, unpacked_lines, unpacked_status}
+pub use Rattle.ubi_commands.specs.Views.{misfit, pages_from, pages_of, part_len, part_of, whole_file}
+pub use Rattle.ubi_commands.specs.declared.bad_blocks.BlockRange.{BlockRange}
+pub use Rattle.ubi_commands.specs.declared.build.Answers.{Answers}
+pub use Rattle.ubi_commands.specs.declared.image_file.Unread.{Unread}
+pub use Rattle.ubi_commands.specs.declared.image_file.Unread.TheVariants.{Memory, Told}
+pub use Rattle.ubi_commands.specs.declared.numbers.Numbers.{Numbers}
+pub use Rattle.ubi_commands.specs.declared.open_image.OpenImage.{OpenImage}
+pub use Rattle.ubi_commands.specs.declared.outcome.Outcome.{Outcome}
+pub use Rattle.ubi_commands.specs.declared.outcome.SidesError.{SidesError}
+pub use Rattle.ubi_commands.specs.declared.outcome.ToolError.{ToolError}
+pub use Rattle.ubi_commands.specs.declared.requests.Asked.{Asked}
+pub use Rattle.ubi_commands.specs.declared.requests.Change.{Change}
+pub use Rattle.ubi_commands.specs.declared.requests.Dump.{Dump}
+pub use Rattle.ubi_commands.specs.declared.requests.Extract.{Extract}
+pub use Rattle.ubi_commands.specs.declared.requests.NewImage.{NewImage}
+pub use Rattle.ubi_commands.specs.declared.requests.Paths.{Paths}
+pub use Rattle.ubi_commands.specs.declared.requests.Plan.{Plan}
+pub use Rattle.ubi_commands.specs.declared.requests.Rename.{Rename}
+pub use Rattle.ubi_commands.specs.declared.requests.Request.{Request}
+pub use Rattle.ubi_commands.specs.declared.requests.Sought.{Sought}
+pub use Rattle.ubi_commands.specs.declared.unpack.VolumeFile.{VolumeFile}
+pub use Rattle.ubi_commands.specs.declared.view.FilePart.{FilePart}
+pub use Rattle.ubi_commands.specs.declared.volume_key.VolumeKey.{VolumeKey}
+pub use Rattle.ubi_commands.specs.inner.Built.{AreAnswers, IsNotBegun, IsToldOf}
+pub use Rattle.ubi_commands.specs.inner.CommandLine.{HasOneMore, IsAskedBy, alone, words_in}
+pub use Rattle.ubi_commands.specs.inner.Ended.{IsEnded, IsToldOfSides, Works, answered, comparison, left_failed, no_read, no_source, no_write, right_failed, unopened}
+pub use Rattle.ubi_commands.specs.inner.Folder.{AreFilesOf, Ends, IsFileOf}
+pub use Rattle.ubi_commands.specs.inner.Gathering.{AreSoFar, IsFound}
