@@ -1,12 +1,13 @@
 #!/usr/bin/env python3
 """Runs the gate's proofs, and tells what they took of the processor, crate by crate.
 
-usage: gate.py COMMAND ..
+usage: gate.py COMMAND .. [-- COMMAND ..]
 
-`.ci/run` calls it with `rt ci`. While the command runs, the processes below it are looked at each second, so what a process took
-is known but for its last second. It prints minutes of the processor: of each crate what its own proof took, its proof with tests,
-and its must-fail edits; what everything took, as the system counts it; and how many times that is what the proof of ubi_table
-took. 135 times is the budget of the gate. The exit status is that of the command.
+`.ci/run` calls it with `rt ci`, and with `attacks/run --gate`, which plants bugs in what `rt ci` has proved. While the commands run,
+the processes below are looked at each second, so what a process took is known but for its last second. It prints minutes of the
+processor: of each crate what its own proof took, its proof with tests, and the checks of its bugs; what everything took, as the
+system counts it; and how many times that is what the proof of ubi_table took. 90 times is the budget of the gate. The exit status
+is that of the first command that fails, and those behind it aren't run.
 
 What `rt ci` passed before on the machine it doesn't do again, so a ratio holds only where everything was proved anew, and best on
 a machine that does nothing else.
@@ -20,7 +21,7 @@ import time
 
 ROOT = os.path.dirname(os.path.dirname(os.path.dirname(os.path.abspath(__file__))))
 TICKS = os.sysconf("SC_CLK_TCK")
-KINDS = ("proof", "tests", "edits")
+KINDS = ("proof", "tests", "bugs")
 
 
 def read(*path):
@@ -46,8 +47,8 @@ def work_of(pid):
     if "--crate-name" not in words[:-1]:
         return None
     crate = words[words.index("--crate-name") + 1]
-    if "rt-edit" in place(pid):
-        return crate, "edits"
+    if "ubi-attacks" in place(pid):
+        return crate, "bugs"
     return crate, "tests" if "--test" in words else "proof"
 
 
@@ -68,17 +69,24 @@ def look(seen, top):
             seen[pid, start] = (work, seconds)
 
 
-def measure(words):
-    """Runs a command. Gives its status and what each work below it took, in seconds of the processor."""
-    seen = {}
+def measure(words, seen):
+    """Runs a command, and notes what each process below it took, in seconds of the processor. Gives its status."""
     child = subprocess.Popen(words, cwd=ROOT, stdin=subprocess.DEVNULL)
     while child.poll() is None:
         look(seen, str(child.pid))
         time.sleep(1)
-    took = {}
-    for work, seconds in seen.values():
-        took[work] = took.get(work, 0) + seconds
-    return child.returncode, took
+    return child.returncode
+
+
+def commands():
+    """The commands that the words name."""
+    found = [[]]
+    for word in sys.argv[1:]:
+        if word == "--":
+            found.append([])
+        else:
+            found[-1].append(word)
+    return found
 
 
 def crates():
@@ -88,10 +96,14 @@ def crates():
 
 
 def main():
-    if len(sys.argv) < 2:
+    if not all(commands()):
         sys.exit(__doc__)
-    began = time.monotonic()
-    status, took = measure(sys.argv[1:])
+    began, seen, status = time.monotonic(), {}, 0
+    for words in commands():
+        status = status or measure(words, seen)
+    took = {}
+    for work, seconds in seen.values():
+        took[work] = took.get(work, 0) + seconds
     usage = resource.getrusage(resource.RUSAGE_CHILDREN)
     whole, first = usage.ru_utime + usage.ru_stime, took.get(("ubi_table", "proof"), 0)
     print(f"{'minutes of the processor':<26}" + "".join(f"{kind:>8}" for kind in KINDS))

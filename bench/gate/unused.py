@@ -4,7 +4,7 @@
 usage: unused.py
 
 A name counts as used where it stands in a source of any crate outside its own declaration, which ends at the next empty
-line. Left out are the answers to goals, whose names the prover gives, and what is computed on literals to be read:
+line. An import is no use, but of what it gives another name. Left out are the answers to goals, whose names the prover gives, and what is computed on literals to be read:
 `*Vectors.antt` and the names of ON_LITERALS. The exit status is 1 where one is listed. It takes a second or two.
 """
 import collections
@@ -17,14 +17,21 @@ ANSWERS = {"Answers.antt", "Invariants.antt", "Measures.antt", "Proof.antt"}
 ON_LITERALS = {"zeros_and_their_check"}
 WORD = re.compile(r"[^\s(){}\[\],;.:`\"]+")
 COMMENT = re.compile(r"(^|\s)--(\s.*)?$")
+IMPORT = re.compile(r"(?:unfoldable |pub |ghost )*use Rattle\.")
+RENAMED = re.compile(r"([^\s{,]+) as [^\s,}]+")
 HEAD = re.compile(r"( *)(?:(?:abbrev|unfoldable|pub) )*(record |data )?([^\s:({]+)(?: \{[^}]*\})?(?= )")
 
 
+def without_imports(line):
+    """A line, or of an import what it gives another name."""
+    return " ".join(RENAMED.findall(line)) if IMPORT.match(line) else line
+
+
 def sources():
-    """The lines of each source, without the comments of definitions and proofs."""
+    """The lines of each source, without imports and without the comments of definitions and proofs."""
     for path in sorted(ROOT.glob("crates/*/*/**/*")):
         if path.suffix in (".rt", ".antt") and "out" not in path.relative_to(ROOT).parts:
-            lines = path.read_text().split("\n")
+            lines = [without_imports(line) for line in path.read_text().split("\n")]
             yield path, [COMMENT.sub("", line) if path.suffix == ".antt" else line for line in lines]
 
 
