@@ -7,7 +7,8 @@ The module names what the proofs of its crate take from the standard library, fr
 and each file of proofs/ takes it from there, by one line. What a name means in two modules alike stays with the module that most
 files take it from, and the others name theirs themselves. So do imports of whole modules, and of the crate's own lemmas.
 
-Without --write it lists the files that import a name past their prelude, and the names there that no file takes. The exit status
+Without --write it lists the files that import a name past their prelude or one that they don't use, and those preludes that have
+names which no file takes. The exit status
 is 1 where one is listed. With --write it mends them; `rt fmt` and `rt check` come after it.
 """
 import argparse
@@ -34,17 +35,28 @@ def is_shared(module, crate):
     return not module.startswith((f"Rattle.{crate.name}.proofs.", f"Rattle.{crate.name}.specs.contracts."))
 
 
+def is_used(name, body):
+    """Whether a text has a name, or each part of an operator's."""
+    return all(part in body for part in name.rpartition(" as ")[2].split("◌"))
+
+
 def wanted(crate):
     """How many files take each name from each module, their own prelude counted as the module that it has the name of."""
     given = {name: module for module, names in prelude_of(crate) for name in names}
     takes = collections.defaultdict(collections.Counter)
     for path in files_of(crate):
+        body = body_of(path.read_text())
         for module, names in imports(path):
-            for name in names:
+            for name in filter(lambda name: is_used(name, body), names):
                 at = given.get(name.partition(" as ")[0]) if module == f"Rattle.{crate.name}.proofs.Prelude" else module
                 if at and " as " not in name and is_shared(at, crate):
                     takes[name][at] += 1
     return takes
+
+
+def body_of(text):
+    """A file's text without its imports."""
+    return "\n".join(line for line in text.split("\n") if not line.startswith("use "))
 
 
 def imports(path):
@@ -93,12 +105,14 @@ def text_of(crate, chosen, kit):
 def rewritten(path, crate, chosen):
     """A file's text with its imports taken from the prelude."""
     prelude, taken, kept = f"Rattle.{crate.name}.proofs.Prelude", [], []
-    for line in path.read_text().split("\n"):
+    text = path.read_text()
+    body = body_of(text)
+    for line in text.split("\n"):
         found = IMPORT.match(line)
         if not found:
             kept.append(line)
             continue
-        names = found[2].split(", ")
+        names = [it for it in found[2].split(", ") if is_used(it, body)]
         goes = [it for it in names if chosen.get(it.partition(" as ")[0]) == found[1] or found[1] == prelude]
         taken += [it for it in goes if it not in taken]
         if len(goes) < len(names):

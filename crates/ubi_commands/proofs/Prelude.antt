@@ -13,7 +13,7 @@ pub use Rattle.std.proofs.lemmas.List.Elements.{filter_map-append}
 pub use Rattle.std.proofs.lemmas.List.Folds.{list_all_more}
 pub use Rattle.std.proofs.lemmas.List.FromFn.{length-range_with_len}
 pub use Rattle.std.proofs.lemmas.List.Splits.{length-slice_split}
-pub use Rattle.std.proofs.lemmas.List.Sums.{prefix_len-le-length, sum_by-append}
+pub use Rattle.std.proofs.lemmas.List.Sums.{fold_more, prefix_len-le-length, sum_by-append}
 pub use Rattle.std.proofs.lemmas.Nat.{div-add-mod', div-mul-add, mod-mul-add, mod_below, mul-le}
 pub use Rattle.std.proofs.lemmas.Option.{get_or_from_slice_get, same_Some, slice_get_cases, slice_get_read, slice_get_within}
 pub use Rattle.std.proofs.lemmas.Result.{IfErr-at_err, IfErr-weaker, IfOk-at_ok, IfOk-weaker, err_from_is_err_and}
@@ -171,12 +171,14 @@ pub use Rattle.ubi_commands.specs.Rename.{CutIsNamed, HasRename, IsRenameFault, 
 pub use Rattle.ubi_commands.specs.Row.{row_bytes}
 pub use Rattle.ubi_commands.specs.Same.{Compares, ComparesOf, compared, comparison_status, different, left_refused, left_refused_from, right_refused, right_refused_from, same}
 pub use Rattle.ubi_commands.specs.Show.{Shows, block_lines, no_block, no_block_from, no_size, shown_from}
-pub use Rattle.ubi_commands.specs.Tool.{HasOneVolume, Mean, Takes, build, change, check, compose, extract, finds, geometry, list, needed, normalise, plans, reads_dump, rename, show, unpack}
+pub use Rattle.ubi_commands.specs.Tool.{HasOneVolume, Mean, Takes, finds, plans, reads_dump}
 unfoldable pub use Rattle.ubi_commands.specs.Tool.{tool}
 pub use Rattle.ubi_commands.specs.Unpack.{AreUnpacked, AreUnpackedUntil, IsUnpacked, Listed, Unpacks, UnpacksOf, file_byte, file_name, file_path, no_folder, unpacked, unpacked_line, unpacked_lines, unpacked_status}
 pub use Rattle.ubi_commands.specs.Views.{misfit, pages_from, pages_of, part_len, part_of, whole_file}
 pub use Rattle.ubi_commands.specs.declared.bad_blocks.BlockRange.{BlockRange}
 pub use Rattle.ubi_commands.specs.declared.build.Answers.{Answers}
+pub use Rattle.ubi_commands.specs.declared.command_line.Argument.{Argument}
+pub use Rattle.ubi_commands.specs.declared.command_line.CommandRow.{CommandRow}
 pub use Rattle.ubi_commands.specs.declared.image_file.Unread.{Unread}
 pub use Rattle.ubi_commands.specs.declared.image_file.Unread.TheVariants.{Memory, Told}
 pub use Rattle.ubi_commands.specs.declared.numbers.Numbers.{Numbers}
@@ -198,7 +200,8 @@ pub use Rattle.ubi_commands.specs.declared.unpack.VolumeFile.{VolumeFile}
 pub use Rattle.ubi_commands.specs.declared.view.FilePart.{FilePart}
 pub use Rattle.ubi_commands.specs.declared.volume_key.VolumeKey.{VolumeKey}
 pub use Rattle.ubi_commands.specs.inner.Built.{AreAnswers, IsNotBegun, IsToldOf}
-pub use Rattle.ubi_commands.specs.inner.CommandLine.{HasOneMore, IsAskedBy, alone, words_in}
+pub use Rattle.ubi_commands.specs.inner.CommandLine.{IsAskedBy, bare_tool, rule, words_in}
+unfoldable pub use Rattle.ubi_commands.specs.inner.CommandLine.{command_row, with_commands, with_groups, with_rows}
 pub use Rattle.ubi_commands.specs.inner.Ended.{IsEnded, IsToldOfSides, Works, answered, comparison, left_failed, no_read, no_source, no_write, right_failed, unopened}
 pub use Rattle.ubi_commands.specs.inner.Folder.{AreFilesOf, Ends, IsFileOf}
 pub use Rattle.ubi_commands.specs.inner.Gathering.{AreSoFar, IsFound}

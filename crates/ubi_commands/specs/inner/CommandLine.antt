@@ -1,22 +1,59 @@
--- How a command line grows, and where the words of a command stand.
-use Rattle.std.specs.Prelude.{◌≡◌, [], IfOk, List, Result, true}
-use Rattle.std.specs.declared.alloc.AllocError.{AllocError}
-use Rattle.clap.specs.Simple.{App, Shape, app_of, with_subcommand}
+-- What the rows of a command line mean, and where the words of a command stand.
+use Rattle.std.specs.Borrow.{Bor}
+use Rattle.std.specs.Prelude.{◌≡◌, Bool, List, Some, codes, false, fold, pos, true}
+use Rattle.clap.specs.Simple.{App, new_app, new_rule, on_top, with_rule, with_subcommand}
 use Rattle.clap.specs.Matches.{found_of}
-use Rattle.clap.specs.Walk.{Row, Text, rows_of}
-use Rattle.clap.specs.declared.builder.command.Command.{Command}
+use Rattle.clap.specs.Walk.{Row, Rule, Text, rows_of}
+use Rattle.clap.specs.declared.builder.value_parser.ValueParser.TheVariants as parser
 use Rattle.clap.specs.declared.parser.matches.ArgMatches.{ArgMatches}
 use Rattle.ubi_commands.specs.CommandLine.{Asks, command_name}
+use Rattle.ubi_commands.specs.declared.command_line.Argument.{Argument}
+use Rattle.ubi_commands.specs.declared.command_line.CommandRow.{CommandRow}
+use Rattle.ubi_commands.specs.declared.command_line.Need.{Need}
+use Rattle.ubi_commands.specs.declared.command_line.Need.TheVariants as need
+use Rattle.ubi_commands.specs.declared.command_line.Takes.{Takes}
+use Rattle.ubi_commands.specs.declared.command_line.Takes.TheVariants as takes
 use Rattle.ubi_commands.specs.declared.requests.Request.{Request}
 
--- a command that has none below it
-abbrev pub alone : Shape → App
-alone s = record { top = s; subs = [] }
+-- whether an argument has to be given
+abbrev pub is_needed : Need → Bool
+is_needed need.Needed = true
+is_needed need.Optional = false
 
--- the new one has one command more than the old: the one that was made
-abbrev pub HasOneMore : Command → Result Command AllocError → Command → Type 0
-HasOneMore old made new = (s : Shape) → s.is_plain ≡ true → IfOk made (λ c. app_of c ≡ alone s)
-    → app_of new ≡ with_subcommand (app_of old) s
+-- a rule with what its argument takes, by the name of the rule
+abbrev pub with_taken : Text → Takes → Rule → Rule
+with_taken name takes.Word r = r
+with_taken name (takes.WordFor called) r = record r { value_names = 1 }
+with_taken name (takes.Text called) r = record r { long = Some name; value_names = 1 }
+with_taken name (takes.Number called) r =
+    record r { long = Some name; value_names = 1; parser = Some (parser.Signed (pos 0) (pos 4294967295)) }
+with_taken name takes.Long r =
+    record r { long = Some name; value_names = 1; parser = Some (parser.Signed (pos 0) (pos 9223372036854775807)) }
+with_taken name takes.Measure r =
+    record r { long = Some name; value_names = 1; parser = Some (parser.Signed (pos 0) (pos 4294967295)) }
+
+-- the rule of an argument's row
+abbrev pub rule : Argument → Rule
+rule a = with_taken a.1.now a.2 (record (new_rule a.1.now) { required = is_needed a.0 })
+
+-- an app with the arguments of these rows more, and of these groups of rows
+unfoldable pub with_rows : App → List Argument → App
+with_rows a rows = fold (λ x r. with_rule x (rule r)) a rows
+
+unfoldable pub with_groups : App → List (Bor (List Argument)) → App
+with_groups a groups = fold (λ x g. with_rows x g.now) a groups
+
+-- the command of a row
+unfoldable pub command_row : CommandRow → App
+command_row c = with_groups (new_app c.name.now) c.arguments.now
+
+-- an app with the commands of these rows more
+unfoldable pub with_commands : App → List CommandRow → App
+with_commands a rows = fold (λ x r. with_subcommand x (command_row r).top) a rows
+
+-- the program without its commands
+abbrev pub bare_tool : App
+bare_tool = on_top (λ s. record s { has_version = true; subcommand_required = true }) (new_app (codes "ubi_tool"))
 
 -- the words of a command, by the names of its arguments
 abbrev pub words_in : ArgMatches → List Row
