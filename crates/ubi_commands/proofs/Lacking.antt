@@ -19,32 +19,14 @@ pub no_numbers : (name : Text) → makes name ≡ true → (rows : List Row) →
     → (r : Request) → IsAskedBy name rows r → ⊥
 no_numbers name made rows none (request.Compose n new) asked = none n asked.1.0
 no_numbers name made rows none (request.Build n new) asked = none n asked.1.0
-no_numbers name made rows none (request.Geometry part image) asked = other_test makes _ _ refl made asked.0
-no_numbers name made rows none (request.List dump image) asked = other_test makes _ _ refl made asked.0
-no_numbers name made rows none (request.Check dump image) asked = other_test makes _ _ refl made asked.0
-no_numbers name made rows none (request.Show dump image block) asked = other_test makes _ _ refl made asked.0
-no_numbers name made rows none (request.Extract dump extract) asked = other_test makes _ _ refl made asked.0
-no_numbers name made rows none (request.Unpack dump paths) asked = other_test makes _ _ refl made asked.0
-no_numbers name made rows none (request.Normalise dump paths) asked = other_test makes _ _ refl made asked.0
-no_numbers name made rows none (request.Same dump left right) asked = other_test makes _ _ refl made asked.0
-no_numbers name made rows none (request.Change dump change) asked = other_test makes _ _ refl made asked.0
-no_numbers name made rows none (request.Rename dump rename) asked = other_test makes _ _ refl made asked.0
+no_numbers name made rows none _ asked = other_test makes _ _ refl made asked.0
 
 -- of a command that plans, over a dump
 pub no_dump : (name : Text) → plans name ≡ true → (rows : List Row) → ((d : Dump) → AsksDump rows d → ⊥) → (r : Request)
     → IsAskedBy name rows r → ⊥
 no_dump name planned rows none (request.Change d change) asked = none d asked.1.0
 no_dump name planned rows none (request.Rename d rename) asked = none d asked.1.0
-no_dump name planned rows none (request.Geometry part image) asked = other_test plans _ _ refl planned asked.0
-no_dump name planned rows none (request.Compose n new) asked = other_test plans _ _ refl planned asked.0
-no_dump name planned rows none (request.Build n new) asked = other_test plans _ _ refl planned asked.0
-no_dump name planned rows none (request.List d image) asked = other_test plans _ _ refl planned asked.0
-no_dump name planned rows none (request.Check d image) asked = other_test plans _ _ refl planned asked.0
-no_dump name planned rows none (request.Show d image block) asked = other_test plans _ _ refl planned asked.0
-no_dump name planned rows none (request.Extract d extract) asked = other_test plans _ _ refl planned asked.0
-no_dump name planned rows none (request.Unpack d paths) asked = other_test plans _ _ refl planned asked.0
-no_dump name planned rows none (request.Normalise d paths) asked = other_test plans _ _ refl planned asked.0
-no_dump name planned rows none (request.Same d left right) asked = other_test plans _ _ refl planned asked.0
+no_dump name planned rows none _ asked = other_test plans _ _ refl planned asked.0
 
 -- of a command that finds how a dump is read
 pub no_asked : (name : Text) → finds name ≡ true → (rows : List Row) → ((d : Asked) → AsksAsked rows d → ⊥) → (r : Request)
@@ -56,11 +38,7 @@ no_asked name found rows none (request.Extract d extract) asked = none d asked.1
 no_asked name found rows none (request.Unpack d paths) asked = none d asked.1.0
 no_asked name found rows none (request.Normalise d paths) asked = none d asked.1.0
 no_asked name found rows none (request.Same d left right) asked = none d asked.1.0
-no_asked name found rows none (request.Geometry part image) asked = other_test finds _ _ refl found asked.0
-no_asked name found rows none (request.Compose n new) asked = other_test finds _ _ refl found asked.0
-no_asked name found rows none (request.Build n new) asked = other_test finds _ _ refl found asked.0
-no_asked name found rows none (request.Change d change) asked = other_test finds _ _ refl found asked.0
-no_asked name found rows none (request.Rename d rename) asked = other_test finds _ _ refl found asked.0
+no_asked name found rows none _ asked = other_test finds _ _ refl found asked.0
 
 pub no_block : (rows : List Row) → ((n : ℕ) → HasNumber rows (codes "block") n → ⊥) → (r : Request)
     → IsAskedBy (codes "show") rows r → ⊥

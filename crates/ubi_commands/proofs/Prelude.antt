@@ -149,7 +149,9 @@ pub use Rattle.ubi_commands.specs.BuildLaws.{AreTold, BuildReads, ReadsItsFile, 
 pub use Rattle.ubi_commands.specs.Change.{Changes, ChangesFrom, CutMeans, HasPlan, IsChangeFault, not_blank_from, unplanned_from}
 pub use Rattle.ubi_commands.specs.Check.{same_state, state_line, surveyed, unsurveyed}
 unfoldable pub use Rattle.ubi_commands.specs.Check.{printed_states}
-pub use Rattle.ubi_commands.specs.CommandLine.{Asks, AsksAsked, AsksBlank, AsksChange, AsksDump, AsksExtract, AsksKey, AsksNewImage, AsksNumbers, AsksPart, AsksPaths, AsksPlan, AsksRename, HasBelow, HasNumber, HasText, IsOneOf, IsRequest, MayHaveBelow, MayHaveLong, MayHaveNumber, MayHaveText, command_name, gives, gives_no_geometry}
+pub use Rattle.ubi_commands.specs.CommandLine.{AsksAsked, AsksBlank, AsksChange, AsksDump, AsksExtract, AsksKey, AsksNewImage, AsksNumbers, AsksPart, AsksPaths, AsksPlan, AsksRename, HasBelow, HasNumber, HasText, IsOneOf, MayHaveBelow, MayHaveLong, MayHaveNumber, MayHaveText, gives, gives_no_geometry}
+pub use Rattle.ubi_commands.specs.Commands.{Asks, IsAllElse, IsAnswer, IsAnswerTo, IsRequest, Takes, command_name, wrong_words}
+unfoldable pub use Rattle.ubi_commands.specs.Commands.{tool}
 pub use Rattle.ubi_commands.specs.Compose.{Composes, ComposesInto, ComposesOf, crowded, described, fits, meaning_line, spec_line, unmade, unread}
 pub use Rattle.ubi_commands.specs.Disk.{AllStay, Files, Holds, IsJudgedOf, IsKept, IsLeft, IsTextOf, OthersStay, OutsideStay, Receives, Stays, fresh}
 pub use Rattle.ubi_commands.specs.Dump.{Fits, FitsWhole, IsPartOf, as_read, greatest_dump, marks_of, misfit_of, most_of, seen, told_dump, viewed, whole_len}
@@ -166,15 +168,23 @@ pub use Rattle.ubi_commands.specs.Normalise.{HasMeaning, IsNormaliseError, Norma
 pub use Rattle.ubi_commands.specs.Numbers.{greatest, sizes_of}
 pub use Rattle.ubi_commands.specs.Opened.{IsOpened}
 pub use Rattle.ubi_commands.specs.Plan.{AreCut, CutAccepts, HasFile, IsCarryFault, IsCut, cut_bytes, cut_text, plan_answer, plan_lines, refused_file, step_line, steps_done}
-pub use Rattle.ubi_commands.specs.Program.{IsAllElse, IsAnswer, IsAnswerTo, IsDump, IsRead, IsToldFirst, IsUnseen, OfFile, OfImage, OfText, Tells, TellsNothing, WhereRead, WritesFile, WritesInto, WritesPlan, alike, avoided, bad_limit, cannot_read, file, given, image, kept, lost, no_file, no_left, no_list, no_pages, no_right, no_text, of_dump, places, planned, text_limit, told, unfit, unfit_whole, unlike, unreadable, untold, whole, with_list, written, wrong_words}
+pub use Rattle.ubi_commands.specs.Program.{IsDump, IsRead, IsToldFirst, IsUnseen, OfFile, OfImage, OfText, Tells, TellsNothing, WhereRead, WritesFile, WritesInto, WritesPlan, alike, avoided, bad_limit, cannot_read, file, given, image, kept, lost, no_file, no_left, no_list, no_pages, no_right, no_text, of_dump, places, planned, text_limit, told, unfit, unfit_whole, unlike, unreadable, untold, whole, with_list, written}
 pub use Rattle.ubi_commands.specs.Rename.{CutIsNamed, HasRename, IsRenameFault, Renames, RenamesFrom, nameless_from}
 pub use Rattle.ubi_commands.specs.Row.{row_bytes}
 pub use Rattle.ubi_commands.specs.Same.{Compares, ComparesOf, compared, comparison_status, different, left_refused, left_refused_from, right_refused, right_refused_from, same}
 pub use Rattle.ubi_commands.specs.Show.{Shows, block_lines, no_block, no_block_from, no_size, shown_from}
-pub use Rattle.ubi_commands.specs.Tool.{HasOneVolume, Mean, Takes, finds, plans, reads_dump}
-unfoldable pub use Rattle.ubi_commands.specs.Tool.{tool}
+pub use Rattle.ubi_commands.specs.Tool.{HasOneVolume, Mean, finds, plans, reads_dump}
 pub use Rattle.ubi_commands.specs.Unpack.{AreUnpacked, AreUnpackedUntil, IsUnpacked, Listed, Unpacks, UnpacksOf, file_byte, file_name, file_path, no_folder, unpacked, unpacked_line, unpacked_lines, unpacked_status}
 pub use Rattle.ubi_commands.specs.Views.{misfit, pages_from, pages_of, part_len, part_of, whole_file}
+pub use Rattle.ubi_commands.specs.declared.asked.Asked.{Asked}
+pub use Rattle.ubi_commands.specs.declared.asked.Change.{Change}
+pub use Rattle.ubi_commands.specs.declared.asked.Dump.{Dump}
+pub use Rattle.ubi_commands.specs.declared.asked.Extract.{Extract}
+pub use Rattle.ubi_commands.specs.declared.asked.NewImage.{NewImage}
+pub use Rattle.ubi_commands.specs.declared.asked.Paths.{Paths}
+pub use Rattle.ubi_commands.specs.declared.asked.Plan.{Plan}
+pub use Rattle.ubi_commands.specs.declared.asked.Rename.{Rename}
+pub use Rattle.ubi_commands.specs.declared.asked.Sought.{Sought}
 pub use Rattle.ubi_commands.specs.declared.bad_blocks.BlockRange.{BlockRange}
 pub use Rattle.ubi_commands.specs.declared.build.Answers.{Answers}
 pub use Rattle.ubi_commands.specs.declared.command_line.Argument.{Argument}
@@ -186,16 +196,7 @@ pub use Rattle.ubi_commands.specs.declared.open_image.OpenImage.{OpenImage}
 pub use Rattle.ubi_commands.specs.declared.outcome.Outcome.{Outcome}
 pub use Rattle.ubi_commands.specs.declared.outcome.SidesError.{SidesError}
 pub use Rattle.ubi_commands.specs.declared.outcome.ToolError.{ToolError}
-pub use Rattle.ubi_commands.specs.declared.requests.Asked.{Asked}
-pub use Rattle.ubi_commands.specs.declared.requests.Change.{Change}
-pub use Rattle.ubi_commands.specs.declared.requests.Dump.{Dump}
-pub use Rattle.ubi_commands.specs.declared.requests.Extract.{Extract}
-pub use Rattle.ubi_commands.specs.declared.requests.NewImage.{NewImage}
-pub use Rattle.ubi_commands.specs.declared.requests.Paths.{Paths}
-pub use Rattle.ubi_commands.specs.declared.requests.Plan.{Plan}
-pub use Rattle.ubi_commands.specs.declared.requests.Rename.{Rename}
 pub use Rattle.ubi_commands.specs.declared.requests.Request.{Request}
-pub use Rattle.ubi_commands.specs.declared.requests.Sought.{Sought}
 pub use Rattle.ubi_commands.specs.declared.unpack.VolumeFile.{VolumeFile}
 pub use Rattle.ubi_commands.specs.declared.view.FilePart.{FilePart}
 pub use Rattle.ubi_commands.specs.declared.volume_key.VolumeKey.{VolumeKey}

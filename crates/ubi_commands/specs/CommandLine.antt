@@ -1,47 +1,25 @@
--- The names of the commands, and what the words behind one ask for.
+-- What the words of a command ask for.
 use Rattle.std.specs.Borrow.{Bor}
 use Rattle.std.specs.Bool.{then_some}
 use Rattle.std.specs.Option.{ForSome}
-use Rattle.std.specs.Prelude.{◌≡◌, ◌↔◌, ◌∷◌, ◌<◌, ◌^◌, ◌&&◌, [], List, None, Option, Some, Bool, codes, is_some, not, option_map, true, unwrap_or, ℕ}
+use Rattle.std.specs.Prelude.{◌≡◌, ◌↔◌, ◌<◌, ◌^◌, ◌&&◌, List, None, Option, Some, Bool, codes, is_some, not, option_map, true, unwrap_or, ℕ}
 use Rattle.std.specs.Str.Parse.{IsNumeral, digits_value, without_leading_plus}
-use Rattle.clap.specs.Walk.{Row, Text, first_of, one_of}
+use Rattle.clap.specs.Walk.{Row, first_of, one_of}
 use Rattle.ubi_commands.specs.BadBlocks.{is_block_list}
-use Rattle.ubi_commands.specs.declared.requests.Asked.{Asked}
-use Rattle.ubi_commands.specs.declared.requests.Asked.TheVariants as asked
-use Rattle.ubi_commands.specs.declared.requests.Change.{Change}
-use Rattle.ubi_commands.specs.declared.requests.Dump.{Dump}
-use Rattle.ubi_commands.specs.declared.requests.Extract.{Extract}
-use Rattle.ubi_commands.specs.declared.requests.NewImage.{NewImage}
-use Rattle.ubi_commands.specs.declared.requests.Paths.{Paths}
-use Rattle.ubi_commands.specs.declared.requests.Plan.{Plan}
-use Rattle.ubi_commands.specs.declared.requests.Rename.{Rename}
-use Rattle.ubi_commands.specs.declared.requests.Request.{Request}
-use Rattle.ubi_commands.specs.declared.requests.Request.TheVariants as request
-use Rattle.ubi_commands.specs.declared.requests.Sought.{Sought}
+use Rattle.ubi_commands.specs.declared.asked.Asked.{Asked}
+use Rattle.ubi_commands.specs.declared.asked.Asked.TheVariants as asked
+use Rattle.ubi_commands.specs.declared.asked.Change.{Change}
+use Rattle.ubi_commands.specs.declared.asked.Dump.{Dump}
+use Rattle.ubi_commands.specs.declared.asked.Extract.{Extract}
+use Rattle.ubi_commands.specs.declared.asked.NewImage.{NewImage}
+use Rattle.ubi_commands.specs.declared.asked.Paths.{Paths}
+use Rattle.ubi_commands.specs.declared.asked.Plan.{Plan}
+use Rattle.ubi_commands.specs.declared.asked.Rename.{Rename}
+use Rattle.ubi_commands.specs.declared.asked.Sought.{Sought}
 use Rattle.ubi_commands.specs.declared.numbers.Numbers.{Numbers}
 use Rattle.ubi_commands.specs.declared.view.FilePart.{FilePart}
 use Rattle.ubi_commands.specs.declared.volume_key.VolumeKey.{VolumeKey}
 use Rattle.ubi_commands.specs.declared.volume_key.VolumeKey.TheVariants as key
-
--- the command by which a request is made
-abbrev pub command_name : Request → List ℕ
-command_name (request.Geometry _ _) = codes "geometry"
-command_name (request.List _ _) = codes "list"
-command_name (request.Check _ _) = codes "check"
-command_name (request.Show _ _ _) = codes "show"
-command_name (request.Extract _ _) = codes "extract"
-command_name (request.Unpack _ _) = codes "unpack"
-command_name (request.Compose _ _) = codes "compose"
-command_name (request.Build _ _) = codes "build"
-command_name (request.Normalise _ _) = codes "normalise"
-command_name (request.Same _ _ _) = codes "same"
-command_name (request.Change _ _) = codes "change"
-command_name (request.Rename _ _) = codes "rename"
-
--- all of them, in the order of the help
-abbrev pub command_names : List (List ℕ)
-command_names = codes "geometry" ∷ codes "list" ∷ codes "check" ∷ codes "show" ∷ codes "extract" ∷ codes "unpack"
-    ∷ codes "compose" ∷ codes "build" ∷ codes "normalise" ∷ codes "same" ∷ codes "change" ∷ codes "rename" ∷ []
 
 -- the words give this text under the name
 abbrev pub HasText : List Row → List ℕ → Bor (List ℕ) → Type 0
@@ -164,27 +142,6 @@ abbrev pub AsksRename : List Row → Rename → Type 0
 AsksRename words rename = AsksPlan words rename.plan
     × HasNumber words (codes "id") rename.id
     × HasText words (codes "name") rename.name
-
--- the words give what the request says
-abbrev pub Asks : List Row → Request → Type 0
-Asks words (request.Geometry part image) = AsksPart words part × HasText words (codes "IMAGE") image
-Asks words (request.List dump image) = AsksAsked words dump × HasText words (codes "IMAGE") image
-Asks words (request.Check dump image) = AsksAsked words dump × HasText words (codes "IMAGE") image
-Asks words (request.Show dump image block) = AsksAsked words dump × HasText words (codes "IMAGE") image
-    × HasNumber words (codes "block") block
-Asks words (request.Extract dump extract) = AsksAsked words dump × AsksExtract words extract
-Asks words (request.Unpack dump paths) = AsksAsked words dump × AsksPaths words paths
-Asks words (request.Compose numbers new) = AsksNumbers words numbers × AsksNewImage words (codes "SPEC") new
-Asks words (request.Build numbers new) = AsksNumbers words numbers × AsksNewImage words (codes "CONFIG") new
-Asks words (request.Normalise dump paths) = AsksAsked words dump × AsksPaths words paths
-Asks words (request.Same dump left right) = AsksAsked words dump × HasText words (codes "IMAGE") left
-    × HasText words (codes "OTHER") right
-Asks words (request.Change dump change) = AsksDump words dump × AsksChange words change
-Asks words (request.Rename dump rename) = AsksDump words dump × AsksRename words rename
-
--- the command that was named, with its words, is the request
-abbrev pub IsRequest : Option (Text × List Row) → Request → Type 0
-IsRequest named r = (words : List Row) × (named ≡ Some (command_name r, words)) × Asks words r
 
 -- the answer is one of these, or none where there is none
 abbrev pub IsOneOf : {X : Type 0} → (X → Type 0) → Option X → Type 0

@@ -6,8 +6,8 @@ use Rattle.ubi_commands.specs.BadBlocks.{bad_marks, masked}
 use Rattle.ubi_commands.specs.Disk.{Files}
 use Rattle.ubi_commands.specs.Numbers.{greatest, numbers_of, sizes_of}
 use Rattle.ubi_commands.specs.Views.{misfit, most_of_part, pages_of, part_of}
-use Rattle.ubi_commands.specs.declared.requests.Dump.{Dump}
-use Rattle.ubi_commands.specs.declared.requests.Sought.{Sought}
+use Rattle.ubi_commands.specs.declared.asked.Dump.{Dump}
+use Rattle.ubi_commands.specs.declared.asked.Sought.{Sought}
 use Rattle.ubi_commands.specs.declared.view.FilePart.{FilePart}
 use Rattle.ubi_commands.specs.declared.view.Misfit.{Misfit}
 

@@ -6,6 +6,7 @@ pub mod BuildLaws
 pub mod Change
 pub mod Check
 pub mod CommandLine
+pub mod Commands
 pub mod Compose
 pub mod Disk
 pub mod Dump

@@ -5,7 +5,7 @@ use Rattle.ubi_commands.specs.Disk.{Files, IsJudgedOf}
 use Rattle.ubi_commands.specs.Dump.{Fits, FitsWhole, seen}
 use Rattle.ubi_commands.specs.Numbers.{sizes_of}
 use Rattle.ubi_commands.specs.Program.{IsRead}
-use Rattle.ubi_commands.specs.declared.requests.Dump.{Dump}
+use Rattle.ubi_commands.specs.declared.asked.Dump.{Dump}
 use Rattle.ubi_commands.specs.declared.open_image.OpenImage.{OpenImage}
 use Rattle.ubi_commands.specs.declared.open_image.OpenImage.TheVariants as image
 

@@ -13,30 +13,15 @@ use Rattle.ubi_scan.specs.declared.detect.Detected.{Detected}
 use Rattle.ubi_scan.specs.declared.detect.Undetected.{Undetected}
 use Rattle.ubi_change.specs.Avoided.{Avoided}
 use Rattle.ubi_commands.specs.Answer.{Gives, says}
-use Rattle.ubi_commands.specs.Build.{Builds}
-use Rattle.ubi_commands.specs.Change.{ChangesFrom, HasPlan}
-use Rattle.ubi_commands.specs.Check.{ChecksOf}
-use Rattle.ubi_commands.specs.Compose.{ComposesInto}
-use Rattle.ubi_commands.specs.Disk.{AllStay, Files, IsJudgedOf, IsLeft, IsTextOf, OthersStay, OthersStayBeside, OutsideStay, Receives, Stays, fresh}
+use Rattle.ubi_commands.specs.Disk.{AllStay, Files, IsJudgedOf, IsLeft, IsTextOf, OthersStayBeside, Receives, Stays, fresh}
 use Rattle.ubi_commands.specs.Dump.{Fits, FitsWhole, as_read, greatest_dump, marks_of, misfit_of, seen, told_dump, whole_len}
-use Rattle.ubi_commands.specs.Extract.{ExtractsOf, HasTextIn}
-use Rattle.ubi_commands.specs.Geometry.{DetectsOf}
 use Rattle.ubi_commands.specs.Lines.{file_line, geometry_line, misfit_line, undetected_side_line, unlike_line}
-use Rattle.ubi_commands.specs.List.{ListsOf}
-use Rattle.ubi_commands.specs.Normalise.{HasMeaning, NormalisesOf}
 use Rattle.ubi_commands.specs.Numbers.{sizes_of}
-use Rattle.ubi_commands.specs.Rename.{HasRename, RenamesFrom}
-use Rattle.ubi_commands.specs.Same.{ComparesOf}
-use Rattle.ubi_commands.specs.Show.{ShowsOf}
-use Rattle.ubi_commands.specs.Tool.{Requests, Takes}
-use Rattle.ubi_commands.specs.Unpack.{UnpacksOf}
-use Rattle.ubi_commands.specs.declared.requests.Asked.{Asked}
-use Rattle.ubi_commands.specs.declared.requests.Asked.TheVariants as asked
-use Rattle.ubi_commands.specs.declared.requests.Dump.{Dump}
-use Rattle.ubi_commands.specs.declared.requests.Plan.{Plan}
-use Rattle.ubi_commands.specs.declared.requests.Request.{Request}
-use Rattle.ubi_commands.specs.declared.requests.Request.TheVariants as request
-use Rattle.ubi_commands.specs.declared.requests.Sought.{Sought}
+use Rattle.ubi_commands.specs.declared.asked.Asked.{Asked}
+use Rattle.ubi_commands.specs.declared.asked.Asked.TheVariants as asked
+use Rattle.ubi_commands.specs.declared.asked.Dump.{Dump}
+use Rattle.ubi_commands.specs.declared.asked.Plan.{Plan}
+use Rattle.ubi_commands.specs.declared.asked.Sought.{Sought}
 use Rattle.ubi_commands.specs.declared.image_file.Unread.{Unread}
 use Rattle.ubi_commands.specs.declared.image_file.Unread.TheVariants as unread
 use Rattle.ubi_commands.specs.declared.numbers.Numbers.{Numbers}
@@ -185,64 +170,8 @@ pub data WritesFile (path : List ℕ) (old new : Files) (outcome : Outcome) : Ou
 abbrev pub avoided : Dump → Plan → Avoided
 avoided dump plan = record { marks = marks_of dump; blank = plan.keeps_blank }
 
--- what a request can be answered: what its command answers, for its own numbers, paths and volume, of the files that are
--- named, as they are seen, and with what becomes of the files that are written
-abbrev pub IsAnswerTo : Files → Files → Request → Outcome → Type 0
-IsAnswerTo d e (request.Geometry part path) = OfFile d (greatest_dump part) path.now (λ _. DetectsOf part)
-IsAnswerTo d e (request.List dump path) = OfAsked d e dump path.now ListsOf
-IsAnswerTo d e (request.Check dump path) = OfAsked d e dump path.now ChecksOf
-IsAnswerTo d e (request.Show dump path p) = OfAsked d e dump path.now (ShowsOf p)
-IsAnswerTo d e (request.Extract dump extract) =
-    OfAsked d e dump extract.paths.image.now
-    (λ s k agrees. WritesInto extract.paths.out.now d e (ExtractsOf extract.key s k agrees) (HasTextIn extract.key s agrees))
-IsAnswerTo d e (request.Unpack dump paths) = OfAsked d e dump paths.image.now (UnpacksOf paths.out.now d e)
-IsAnswerTo d e (request.Compose numbers new) =
-    OfText d numbers new.from.now (λ s t. ComposesInto new.out.now d e s t new.spares new.image_seq)
-IsAnswerTo d e (request.Build numbers new) =
-    OfText d numbers new.from.now (λ s t. Builds d e new.from.now new.out.now s t new.spares new.image_seq)
-IsAnswerTo d e (request.Normalise dump paths) =
-    OfAsked d e dump paths.image.now
-    (λ s k agrees. WritesInto paths.out.now d e (NormalisesOf s k agrees) (HasMeaning s agrees))
-IsAnswerTo d e (request.Same dump left right) = OfBoth d dump left.now right.now ComparesOf
-IsAnswerTo d e (request.Change dump change) =
-    let plan = change.plan in
-    WithList d e dump.bad plan.paths.image.now (OfFile d dump plan.paths.image.now
-    (λ s k agrees. OfImage d dump.numbers change.from.now
-    (λ f. WritesPlan plan.paths.out.now plan.pages d e
-    (ChangesFrom (avoided dump plan) change.id change.lnum f.bytes plan.stop s k agrees)
-    (HasPlan (avoided dump plan) change.id change.lnum f.bytes s k agrees))))
-IsAnswerTo d e (request.Rename dump rename) =
-    let plan = rename.plan in
-    WithList d e dump.bad plan.paths.image.now (OfFile d dump plan.paths.image.now
-    (λ s k agrees. WritesPlan plan.paths.out.now plan.pages d e
-    (RenamesFrom (avoided dump plan) rename.id rename.name.now plan.stop s k agrees)
-    (HasRename (avoided dump plan) rename.id rename.name.now s k agrees)))
-
 -- each file holds what it held, but for those that a plan writes; and the image does, unless it is itself the file that the
 -- changed image is written to
 pub record PlanStays (d e : Files) (plan : Plan) : Type 0 where
   pub others : OthersStayBeside d e plan.paths.out.now plan.pages
   pub image : plan.paths.image.now ≢ plan.paths.out.now → Stays d e plan.paths.image.now
-
--- each file holds what it held, but for the one that a request writes, or those in the folder that it writes; and so does a
--- text or a file with new bytes, also where that is named for the output
-abbrev pub IsAllElse : Request → Files → Files → Type 0
-IsAllElse (request.Geometry _ _) d e = AllStay d e
-IsAllElse (request.List _ _) d e = AllStay d e
-IsAllElse (request.Check _ _) d e = AllStay d e
-IsAllElse (request.Show _ _ _) d e = AllStay d e
-IsAllElse (request.Extract _ extract) d e = OthersStay d e extract.paths.out.now
-IsAllElse (request.Unpack _ paths) d e = OutsideStay d e paths.out.now
-IsAllElse (request.Compose _ new) d e = OthersStay d e new.out.now × Stays d e new.from.now
-IsAllElse (request.Build _ new) d e = OthersStay d e new.out.now × Stays d e new.from.now
-IsAllElse (request.Normalise _ paths) d e = OthersStay d e paths.out.now
-IsAllElse (request.Same _ _ _) d e = AllStay d e
-IsAllElse (request.Change _ change) d e = PlanStays d e change.plan × Stays d e change.from.now
-IsAllElse (request.Rename _ rename) d e = PlanStays d e rename.plan
-
--- what the program can answer: nothing where the command line doesn't take the words, and else what the request that
--- they are can be answered; and no other file is changed than the one that it names
-pub data IsAnswer (words : List (List ℕ)) (d e : Files) : Outcome → Type 0 where
-  wrong_words : {o : Outcome} → (Takes words → ⊥) → Gives o (says [] 2) → AllStay d e → IsAnswer words d e o
-  answered : {o : Outcome} (request : Request) → Requests words request → IsAnswerTo d e request o → IsAllElse request d e
-      → IsAnswer words d e o

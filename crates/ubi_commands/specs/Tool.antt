@@ -1,15 +1,13 @@
--- The command line: which commands there are, and which words each takes.
-use Rattle.std.specs.Prelude.{◌≡◌, ◌∷◌, ◌++◌, ◌&&◌, ◌||◌, [], Bool, List, Option, Some, codes, is_some, not, pos, true, false}
+-- What commands take, and what their words have to say beside that.
+use Rattle.std.specs.Prelude.{◌≡◌, ◌∷◌, ◌++◌, ◌&&◌, ◌||◌, [], Bool, List, Option, Some, codes, is_some, not, pos, true}
 use Rattle.std.specs.List.{list_any}
 use Rattle.std.specs.Option.{ForSome}
 use Rattle.std.specs.Str.{bytes_eq}
-use Rattle.clap.specs.Faults.{fault_of}
-use Rattle.clap.specs.Simple.{App, Shape, new_rule, new_shape, subcommand_of}
+use Rattle.clap.specs.Simple.{Shape, new_rule, new_shape}
 use Rattle.clap.specs.Walk.{Row, Rule, Text, first_of}
 use Rattle.clap.specs.declared.builder.value_parser.ValueParser.TheVariants as parser
 use Rattle.ubi_commands.specs.BadBlocks.{is_block_list}
-use Rattle.ubi_commands.specs.CommandLine.{IsRequest, gives, gives_no_geometry}
-use Rattle.ubi_commands.specs.declared.requests.Request.{Request}
+use Rattle.ubi_commands.specs.CommandLine.{gives, gives_no_geometry}
 
 -- an argument that has to be given
 abbrev pub needed : Rule → Rule
@@ -64,71 +62,10 @@ image_part = image_file ∷ long (codes "start") ∷ long (codes "length") ∷ [
 abbrev pub on_image : Bool → Text → List Rule → Shape
 on_image need name rules = command need name (image_part ++ number (codes "oob") ∷ bad_list ∷ rules)
 
--- `geometry`, over an image alone
-abbrev pub geometry : Shape
-geometry = record (new_shape (codes "geometry")) { rules = image_part }
-
--- `list`, over an image
-abbrev pub list : Shape
-list = on_image false (codes "list") []
-
--- `check`, over an image
-abbrev pub check : Shape
-check = on_image false (codes "check") []
-
--- `show`, over an image, with the eraseblock to show
-abbrev pub show : Shape
-show = on_image false (codes "show") (needed (number (codes "block")) ∷ [])
-
--- `extract`, over an image, with the file to write, and the number or the name of the volume
-abbrev pub extract : Shape
-extract = on_image false (codes "extract") (output ∷ number (codes "id") ∷ option (codes "name") ∷ [])
-
--- `unpack`, over an image, with the folder to write
-abbrev pub unpack : Shape
-unpack = on_image false (codes "unpack") (output ∷ [])
-
--- `compose`, over a text, with the file to write, and the spare eraseblocks and the image sequence number if given
-abbrev pub compose : Shape
-compose =
-    command true (codes "compose")
-    (needed (new_rule (codes "SPEC")) ∷ output ∷ number (codes "spares") ∷ number (codes "seq") ∷ [])
-
--- `build`, over a config, with the file to write, and the spare eraseblocks and the image sequence number if given
-abbrev pub build : Shape
-build =
-    command true (codes "build")
-    (needed (new_rule (codes "CONFIG")) ∷ output ∷ number (codes "spares") ∷ number (codes "seq") ∷ [])
-
--- `normalise`, over an image, with the file to write
-abbrev pub normalise : Shape
-normalise = on_image false (codes "normalise") (output ∷ [])
-
--- `same`, over an image and another
-abbrev pub same : Shape
-same = on_image false (codes "same") (needed (record (new_rule (codes "OTHER")) { value_names = 1 }) ∷ [])
-
 -- the options of a plan, all of which may be left out: the steps to do, what is said of Blank eraseblocks, and the file for the
 -- pages
 abbrev pub plan_options : List Rule
 plan_options = number (codes "stop") ∷ option (codes "blank") ∷ option (codes "pages") ∷ []
-
--- `change`, over an image, with the file to write, the volume, the LEB and the file of its bytes
-abbrev pub change : Shape
-change =
-    on_image true (codes "change")
-    (output ∷ volume ∷ needed (number (codes "lnum")) ∷ needed (option (codes "from")) ∷ plan_options)
-
--- `rename`, over an image, with the file to write, the volume and its name
-abbrev pub rename : Shape
-rename = on_image true (codes "rename") (output ∷ volume ∷ needed (option (codes "name")) ∷ plan_options)
-
--- the program: it has a version, and a command has to be named
-unfoldable pub tool : App
-tool = record {
-  top = record (new_shape (codes "ubi_tool")) { is_leaf = false; has_version = true; subcommand_required = true };
-  subs = geometry ∷ list ∷ check ∷ show ∷ extract ∷ unpack ∷ compose ∷ build ∷ normalise ∷ same ∷ change ∷ rename ∷ [];
-}
 
 -- of the words of `extract`, just one names the volume
 abbrev pub HasOneVolume : Option (Text × List Row) → Type 0
@@ -168,12 +105,3 @@ pub record Mean (named : Option (Text × List Row)) : Type 0 where
   pub list : HasBlockList named
   pub blank : HasBlankWord named
   pub geometry : HasGeometryOrNone named
-
--- the command line takes the words, the program's name first: nothing is wrong with them, they ask for no help, those of
--- `extract` name one volume, what lists bad eraseblocks is a list, `--blank` has the word `keep`, and a geometry is whole or left out
-abbrev pub Takes : List Text → Type 0
-Takes words = (fault_of tool words ≡ []) × Mean (subcommand_of tool words)
-
--- the words are taken, and are this request
-abbrev pub Requests : List Text → Request → Type 0
-Requests words r = Takes words × IsRequest (subcommand_of tool words) r

@@ -13,6 +13,7 @@ ghost use Rattle.ubi_commands.specs.Row.{row_bytes};
 ghost use Rattle.ubi_commands.specs.declared.outcome.Outcome.{Outcome};
 ghost use Rattle.ubi_commands.specs.inner.Built.{AreAnswers, IsNotBegun, IsToldOf};
 
+use crate::asked::NewImage;
 use crate::compose::{meaning_line, room_line};
 use crate::disk::Disk;
 use crate::file_row::FileRow;
@@ -23,7 +24,6 @@ use crate::lines::{LONGEST_COUNT_LINE, put_blocks_line};
 use crate::numbers::Numbers;
 use crate::outcome::{DONE, FAILED, Outcome};
 use crate::output_file::{keep_file, unwritten_line};
-use crate::requests::NewImage;
 use crate::spec_file::load_spec;
 use std::alloc::{AllocError, Global};
 use std::marker::Brand;

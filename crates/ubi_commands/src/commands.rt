@@ -3,24 +3,13 @@
 ghost use Rattle.clap.specs.Values.{kind_of};
 ghost use Rattle.std.specs.Prelude.{◌≡◌, ◌↔◌, [], IfOk, IfSome, IsErr, None, OnErr, map, string_bytes};
 ghost use Rattle.ubi_commands.specs.Answer.{Gives, says};
-ghost use Rattle.ubi_commands.specs.Compose.{ComposesInto};
-ghost use Rattle.ubi_commands.specs.Disk.{AllStay, OthersStay, Stays};
-ghost use Rattle.ubi_commands.specs.Program.{IsAllElse, IsAnswer, IsAnswerTo, OfText};
+ghost use Rattle.ubi_commands.specs.Disk.{AllStay};
+ghost use Rattle.ubi_commands.specs.Commands.{IsAllElse, IsAnswer, IsAnswerTo};
 
-use crate::build::build_file;
 use crate::command_line::tool_command;
-use crate::compose::run_compose;
 use crate::disk::Disk;
-use crate::finding::KnownDump;
-use crate::numbers::Numbers;
 use crate::outcome::{Outcome, nothing};
-use crate::output_file::write_outcome;
-use crate::planners::{change_file, rename_file};
-use crate::readers::{Checking, Detecting, Listing, Showing, read_dump, read_file, same_files};
-use crate::requests::{Dump, NewImage, Request, request_of, why_unasked};
-use crate::spec_file::load_spec;
-use crate::unpack::unpack_file;
-use crate::writers::{Extracting, Normalising, write_file};
+use crate::requests::{Request, request_of, run_request, why_unasked};
 use clap::Error;
 use clap::error::ErrorKind;
 use std::alloc::{AllocError, Global};
@@ -70,64 +59,6 @@ fn run_asked<D: Disk + Eprint>(
             Ok(nothing(alloc))
         }
     }
-}
-
-/// Runs a request.
-fn run_request<D: Disk + Eprint>(
-    disk: &mut D,
-    alloc: Global,
-    request: Request<'_>,
-    is_watched: bool,
-) -> Result<Outcome, AllocError>
-    ensures answer { IfOk result (IsAnswerTo (D.files disk.old) (D.files disk.new) request.entry) }
-    ensures others { IsAllElse request.entry (D.files disk.old) (D.files disk.new) }
-    ensures memory { OnErr result (AllStay (D.files disk.old) (D.files disk.new)) }
-{
-    match request {
-        Request::Geometry { part, image } => {
-            let known = KnownDump::given(Dump::greatest(part));
-            read_dump(disk, alloc, known, image, &Detecting { part })
-        }
-        Request::List { dump, image } => read_file(disk, alloc, &dump, image, &Listing),
-        Request::Check { dump, image } => read_file(disk, alloc, &dump, image, &Checking),
-        Request::Show { dump, image, block } => {
-            read_file(disk, alloc, &dump, image, &Showing { block })
-        }
-        Request::Extract { dump, extract } => {
-            let command = Extracting { key: extract.key };
-            write_file(disk, alloc, &dump, &extract.paths, &command, false)
-        }
-        Request::Unpack { dump, paths } => unpack_file(disk, alloc, &dump, &paths),
-        Request::Compose { numbers, new } => compose_file(disk, alloc, numbers, &new),
-        Request::Build { numbers, new } => build_file(disk, alloc, numbers, &new),
-        Request::Normalise { dump, paths } => {
-            write_file(disk, alloc, &dump, &paths, &Normalising, is_watched)
-        }
-        Request::Same { dump, left, right } => same_files(disk, alloc, &dump, left, right),
-        Request::Change { dump, change } => change_file(disk, alloc, &dump, &change),
-        Request::Rename { dump, rename } => rename_file(disk, alloc, &dump, &rename),
-    }
-}
-
-/// Composes the image that a text file describes, into another file.
-fn compose_file<D: Disk>(
-    disk: &mut D,
-    alloc: Global,
-    numbers: Numbers,
-    asked: &NewImage<'_>,
-) -> Result<Outcome, AllocError>
-    ensures answer { IfOk result (OfText (D.files disk.old) numbers asked.now.from.now (λ s t. ComposesInto asked.now.out.now (D.files disk.old) (D.files disk.new) s t asked.now.spares asked.now.image_seq)) }
-    ensures others { OthersStay (D.files disk.old) (D.files disk.new) asked.now.out.now }
-    ensures from { Stays (D.files disk.old) (D.files disk.new) asked.now.from.now }
-    ensures memory { OnErr result (AllStay (D.files disk.old) (D.files disk.new)) }
-{
-    let file = match load_spec(disk, alloc, numbers, asked.from) {
-        Ok(file) => file,
-        Err(unread) => return unread.answer(),
-    };
-    let text = file.text.as_slice();
-    let outcome = run_compose(alloc, &file.geometry, text, asked.spares, asked.image_seq)?;
-    write_outcome(disk, alloc, outcome, asked.out, asked.from)
 }
 
 /// Prints to standard error what is wrong with the words.

@@ -1,10 +1,17 @@
 //! The command `compose`: the image that a text describes.
 
-ghost use Rattle.std.specs.Prelude.{◌≡◌, IfOk};
-ghost use Rattle.ubi_commands.specs.Compose.{Composes, ComposesOf, meaning_line, room_line, spec_line};
+ghost use Rattle.std.specs.Prelude.{◌≡◌, IfOk, OnErr};
+ghost use Rattle.ubi_commands.specs.Compose.{Composes, ComposesInto, ComposesOf, meaning_line, room_line, spec_line};
+ghost use Rattle.ubi_commands.specs.Disk.{AllStay, OthersStay, Stays};
+ghost use Rattle.ubi_commands.specs.Program.{OfText};
 
+use crate::asked::NewImage;
+use crate::disk::Disk;
 use crate::lines::{blocks_line, refused};
+use crate::numbers::Numbers;
 use crate::outcome::{DONE, FAILED, Outcome};
+use crate::output_file::write_outcome;
+use crate::spec_file::load_spec;
 use std::alloc::{AllocError, Global};
 use ubi_compose::{ComposeError, SpecCause, SpecError, compose, parse_spec};
 use ubi_media::Geometry;
@@ -77,4 +84,25 @@ pub fn run_compose(
         Ok(meaning) => compose_meaning(alloc, &meaning, spares),
         Err(error) => Ok(Outcome::saying(meaning_line(alloc, error.cause)?, FAILED)),
     }
+}
+
+/// Composes the image that a text file describes, into another file.
+pub fn compose_file<D: Disk>(
+    disk: &mut D,
+    alloc: Global,
+    numbers: Numbers,
+    asked: &NewImage<'_>,
+) -> Result<Outcome, AllocError>
+    ensures answer { IfOk result (OfText (D.files disk.old) numbers asked.now.from.now (λ s t. ComposesInto asked.now.out.now (D.files disk.old) (D.files disk.new) s t asked.now.spares asked.now.image_seq)) }
+    ensures others { OthersStay (D.files disk.old) (D.files disk.new) asked.now.out.now }
+    ensures from { Stays (D.files disk.old) (D.files disk.new) asked.now.from.now }
+    ensures memory { OnErr result (AllStay (D.files disk.old) (D.files disk.new)) }
+{
+    let file = match load_spec(disk, alloc, numbers, asked.from) {
+        Ok(file) => file,
+        Err(unread) => return unread.answer(),
+    };
+    let text = file.text.as_slice();
+    let outcome = run_compose(alloc, &file.geometry, text, asked.spares, asked.image_seq)?;
+    write_outcome(disk, alloc, outcome, asked.out, asked.from)
 }

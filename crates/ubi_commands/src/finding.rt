@@ -9,16 +9,16 @@ ghost use Rattle.ubi_commands.specs.Dump.{IsPartOf, greatest_dump, misfit_of, se
 ghost use Rattle.ubi_commands.specs.Lines.{file_line, undetected_side_line};
 ghost use Rattle.ubi_commands.specs.Opened.{IsAtPlaces, IsOpened, IsUnreadOf, WhereAtPlaces};
 ghost use Rattle.ubi_commands.specs.Program.{IsDump, IsToldFirst, IsUnseen, IsUntold, Tells, TellsNothing};
-ghost use Rattle.ubi_commands.specs.declared.requests.Asked.TheVariants as asked;
+ghost use Rattle.ubi_commands.specs.declared.asked.Asked.TheVariants as asked;
 ghost use Rattle.ubi_commands.specs.inner.Ended.{Works};
 
+use crate::asked::{Asked, Dump, Paths, Sought};
 use crate::disk::Disk;
 use crate::image_file::{ImageFile, Unread, unread_file};
 use crate::lines::undetected_side_line;
 use crate::numbers::Numbers;
 use crate::open_image::{DumpSource, Frame, OpenImage, Seen, frame_of, open_beside, open_image};
 use crate::outcome::{FAILED, Outcome, ToolError};
-use crate::requests::{Asked, Dump, Paths, Sought};
 use crate::view::FilePart;
 use crate::whole_dump::see_kept;
 use std::alloc::{AllocError, Global};

@@ -6,6 +6,7 @@
 //! answered, by [`report`].
 #![tactic(auto)]
 
+mod asked;
 mod bad_blocks;
 mod build;
 mod change;
@@ -52,6 +53,15 @@ mod volume_key;
 mod whole_dump;
 mod writers;
 
+pub use asked::Asked;
+pub use asked::Change;
+pub use asked::Dump;
+pub use asked::Extract;
+pub use asked::NewImage;
+pub use asked::Paths;
+pub use asked::Plan;
+pub use asked::Rename;
+pub use asked::Sought;
 pub use bad_blocks::BlockRange;
 pub use bad_blocks::bad_marks;
 pub use bad_blocks::is_block_list;
@@ -134,16 +144,7 @@ pub use readers::read_file;
 pub use readers::same_files;
 pub use rename::run_rename;
 pub use rename::run_rename_from;
-pub use requests::Asked;
-pub use requests::Change;
-pub use requests::Dump;
-pub use requests::Extract;
-pub use requests::NewImage;
-pub use requests::Paths;
-pub use requests::Plan;
-pub use requests::Rename;
 pub use requests::Request;
-pub use requests::Sought;
 pub use requests::request_of;
 pub use same::run_same;
 pub use same::run_same_from;

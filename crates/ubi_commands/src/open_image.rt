@@ -8,6 +8,7 @@ ghost use Rattle.ubi_commands.specs.Numbers.{sizes_of};
 ghost use Rattle.ubi_commands.specs.Opened.{IsAtPlaces, IsOpened, IsUnreadOf, WhereAtPlaces};
 ghost use Rattle.ubi_commands.specs.Program.{IsUnread, IsUnseen, Tells};
 
+use crate::asked::Dump;
 use crate::bad_blocks::bad_marks;
 use crate::disk::Disk;
 use crate::file_row::SizedFile;
@@ -15,7 +16,6 @@ use crate::image_file::{ImageFile, Unread, allowed_geometry};
 use crate::masked::Masked;
 use crate::pages::Pages;
 use crate::part::Part;
-use crate::requests::Dump;
 use crate::view::{Misfit, misfit_of};
 use crate::whole_dump::{load_seen, unseen};
 use std::alloc::{AllocError, Global};

@@ -9,13 +9,13 @@ ghost use Rattle.ubi_commands.specs.Opened.{IsOpened, IsUnreadOf};
 ghost use Rattle.ubi_commands.specs.Program.{OfFile, OfImage, PlanStays, WithList, WritesPlan, avoided};
 ghost use Rattle.ubi_commands.specs.Rename.{HasRename, RenamesFrom};
 
+use crate::asked::{Change, Dump, Paths, Plan, Rename};
 use crate::change::NewBytes;
 use crate::disk::Disk;
 use crate::image_file::load;
 use crate::open_image::{DumpSource, OpenImage, Seen, frame_of, open_beside};
 use crate::outcome::{DONE, Outcome, nothing};
 use crate::output_file::{Output, unwritten_line, write_bytes};
-use crate::requests::{Change, Dump, Paths, Plan, Rename};
 use crate::writers::{Changing, Renaming, Way, Writing, write_opened};
 use std::alloc::{AllocError, Global};
 use ubi_change::Avoided;

@@ -15,6 +15,7 @@ ghost use Rattle.ubi_commands.specs.Program.{OfAsked, OfBoth, OfFile};
 ghost use Rattle.ubi_commands.specs.Same.{ComparesOf};
 ghost use Rattle.ubi_commands.specs.declared.outcome.Outcome.{Outcome};
 
+use crate::asked::{Asked, Dump};
 use crate::check::run_check_from;
 use crate::disk::Disk;
 use crate::finding::{KnownDump, find_dump, open_known};
@@ -24,7 +25,6 @@ use crate::lines::unlike_line;
 use crate::list::run_list_from;
 use crate::open_image::{OpenImage, frame_of};
 use crate::outcome::{FAILED, Outcome, SidesError, ToolError};
-use crate::requests::{Asked, Dump};
 use crate::same::run_same_from;
 use crate::show::run_show_from;
 use crate::view::FilePart;

@@ -1,22 +1,30 @@
-//! What the words of a command line ask for.
+//! What the words of a command line ask for, and how it is done.
 
-ghost use Rattle.std.specs.Option.{ForSome};
-ghost use Rattle.std.specs.Prelude.{◌≡◌, ◌↔◌, IsTrue, codes, true};
 ghost use Rattle.clap.specs.Simple.{subcommand_rows_of};
-ghost use Rattle.ubi_commands.specs.BadBlocks.{is_block_list};
-ghost use Rattle.ubi_commands.specs.CommandLine.{AsksAsked, AsksBlank, AsksChange, AsksDump, AsksExtract, AsksKey, AsksNewImage, AsksNumbers, AsksPart, AsksPaths, AsksPlan, AsksRename, AsksSought, HasNumber, HasText, IsOneOf, IsRequest, MayHaveLong, MayHaveNumber, MayHaveText, gives, gives_no_geometry};
-ghost use Rattle.ubi_commands.specs.Dump.{greatest_dump};
-ghost use Rattle.ubi_commands.specs.Tool.{tool as whole};
+ghost use Rattle.std.specs.Prelude.{◌≡◌, IfOk, OnErr, codes};
+ghost use Rattle.ubi_commands.specs.CommandLine.{IsOneOf};
+ghost use Rattle.ubi_commands.specs.Commands.{IsAllElse, IsAnswerTo, IsRequest};
+ghost use Rattle.ubi_commands.specs.Disk.{AllStay};
 ghost use Rattle.ubi_commands.specs.inner.CommandLine.{IsAskedBy, words_in};
 
-use crate::bad_blocks::is_block_list;
-use crate::numbers::{GREATEST, Numbers};
+use crate::asked::{
+    Asked, Change, Dump, Extract, NewImage, Paths, Rename, are_listed, asked_of, blank_of, dump_of,
+    gives_no_geometry, leb_change, new_image, number_of, numbers_of, part_of, paths_of, text_of,
+    volume_extract, volume_rename,
+};
+use crate::build::build_file;
+use crate::compose::compose_file;
+use crate::disk::Disk;
+use crate::finding::KnownDump;
+use crate::numbers::Numbers;
+use crate::outcome::Outcome;
+use crate::planners::{change_file, rename_file};
+use crate::readers::{Checking, Detecting, Listing, Showing, read_dump, read_file, same_files};
+use crate::unpack::unpack_file;
 use crate::view::FilePart;
-use crate::volume_key::VolumeKey;
+use crate::writers::{Extracting, Normalising, write_file};
 use clap::ArgMatches;
-
-/// The one word that `--blank` takes.
-const KEEP: &str = "keep";
+use std::alloc::{AllocError, Global};
 
 const ONE_VOLUME: &str = "error: either '--id <N>' or '--name <NAME>' names the volume, and not both
 
@@ -105,121 +113,6 @@ pub enum Request<'a> {
         dump: Dump<'a>,
         rename: Rename<'a>,
     },
-}
-
-/// The paths of a command that reads one image and writes a file, or the files of a folder.
-#[derive(Clone, Copy)]
-pub struct Paths<'a> {
-    /// That of the image.
-    pub image: &'a str,
-    /// That of the file or the folder that is written.
-    pub out: &'a str,
-}
-
-/// A dump, as the words tell how it is read.
-#[derive(Clone, Copy)]
-pub struct Dump<'a> {
-    /// The numbers of its geometry.
-    pub numbers: Numbers,
-    /// The part of its file that it is.
-    pub part: FilePart,
-    /// How many out-of-band bytes lie behind each page.
-    pub oob: u32,
-    /// The list of its bad eraseblocks, which read 0xFF; none is bad where it is left out.
-    pub bad: Option<&'a str>,
-}
-
-impl<'a> Dump<'a> {
-    /// A part of a file of which no geometry is known: no more is read of it than the greatest dump has that there is.
-    pub fn greatest(part: FilePart) -> Dump<'a>
-        ensures { result ≡ greatest_dump part }
-    {
-        Dump {
-            numbers: GREATEST,
-            part,
-            oob: 0,
-            bad: None,
-        }
-    }
-}
-
-/// A dump of which the words give no geometry: it is read as its own headers tell.
-#[derive(Clone, Copy)]
-pub struct Sought<'a> {
-    /// The part of its file in which its headers are looked for.
-    pub part: FilePart,
-    /// The eraseblocks of the device; the most that there can be where they are left out.
-    pub pebs: Option<u32>,
-    /// The list of its bad eraseblocks, which read 0xFF; none is bad where it is left out.
-    pub bad: Option<&'a str>,
-}
-
-/// How a dump is read.
-#[derive(Clone, Copy)]
-pub enum Asked<'a> {
-    /// As the words tell.
-    Given(Dump<'a>),
-    /// As its own headers tell.
-    Sought(Sought<'a>),
-}
-
-/// A volume to take out of an image.
-#[derive(Clone, Copy)]
-pub struct Extract<'a> {
-    /// The paths of the image and of the file that is written.
-    pub paths: Paths<'a>,
-    /// The volume.
-    pub key: VolumeKey<'a>,
-}
-
-/// An image to make of a text, or of a config and the files that it names.
-#[derive(Clone, Copy)]
-pub struct NewImage<'a> {
-    /// The path of the text or the config.
-    pub from: &'a str,
-    /// The path of the file that is written.
-    pub out: &'a str,
-    /// How many spare eraseblocks follow.
-    pub spares: u32,
-    /// The image sequence number.
-    pub image_seq: u32,
-}
-
-/// What a plan does with its steps.
-#[derive(Clone, Copy)]
-pub struct Plan<'a> {
-    /// The paths of the image and of the file that is written.
-    pub paths: Paths<'a>,
-    /// After how many steps the image is written; after all where it is left out.
-    pub stop: Option<u32>,
-    /// Whether no Blank eraseblock is taken.
-    pub keeps_blank: bool,
-    /// The path of the file that the programmed pages are written to, if they are.
-    pub pages: Option<&'a str>,
-}
-
-/// The change of a logical eraseblock.
-#[derive(Clone, Copy)]
-pub struct Change<'a> {
-    /// The files and the steps.
-    pub plan: Plan<'a>,
-    /// The number of the volume.
-    pub id: u32,
-    /// The number of the logical eraseblock.
-    pub lnum: u32,
-    /// The path of the file that holds the new bytes.
-    pub from: &'a str,
-}
-
-/// The rename of a volume.
-#[derive(Clone, Copy)]
-pub struct Rename<'a> {
-    /// The files and the steps.
-    pub plan: Plan<'a>,
-    /// The number of the volume.
-    pub id: u32,
-    /// The new name, in the form in which names are printed.
-    pub name: &'a str,
 }
 
 /// What is asked for, where the words name a command and have all that it needs. Of words that the command line takes
@@ -373,208 +266,39 @@ fn rename_of<'a>(matches: &'a ArgMatches<'_>) -> Option<Request<'a>>
     })
 }
 
-/// The volume that the words name, by its number or by its name. None where they do neither, or both.
-fn key_of<'a>(matches: &'a ArgMatches<'_>) -> Option<VolumeKey<'a>>
-    ensures { IsOneOf (AsksKey (words_in matches.now)) result }
+/// Runs a request.
+pub fn run_request<D: Disk + Eprint>(
+    disk: &mut D,
+    alloc: Global,
+    request: Request<'_>,
+    is_watched: bool,
+) -> Result<Outcome, AllocError>
+    ensures answer { IfOk result (IsAnswerTo (D.files disk.old) (D.files disk.new) request.entry) }
+    ensures others { IsAllElse request.entry (D.files disk.old) (D.files disk.new) }
+    ensures memory { OnErr result (AllStay (D.files disk.old) (D.files disk.new)) }
 {
-    match (text_of(matches, "name"), text_of(matches, "id")) {
-        (None, _) => Some(VolumeKey::Id(number_of(matches, "id")?)),
-        (Some(name), None) => Some(VolumeKey::Name(name)),
-        (Some(_), Some(_)) => None,
+    match request {
+        Request::Geometry { part, image } => {
+            let known = KnownDump::given(Dump::greatest(part));
+            read_dump(disk, alloc, known, image, &Detecting { part })
+        }
+        Request::List { dump, image } => read_file(disk, alloc, &dump, image, &Listing),
+        Request::Check { dump, image } => read_file(disk, alloc, &dump, image, &Checking),
+        Request::Show { dump, image, block } => {
+            read_file(disk, alloc, &dump, image, &Showing { block })
+        }
+        Request::Extract { dump, extract } => {
+            let command = Extracting { key: extract.key };
+            write_file(disk, alloc, &dump, &extract.paths, &command, false)
+        }
+        Request::Unpack { dump, paths } => unpack_file(disk, alloc, &dump, &paths),
+        Request::Compose { numbers, new } => compose_file(disk, alloc, numbers, &new),
+        Request::Build { numbers, new } => build_file(disk, alloc, numbers, &new),
+        Request::Normalise { dump, paths } => {
+            write_file(disk, alloc, &dump, &paths, &Normalising, is_watched)
+        }
+        Request::Same { dump, left, right } => same_files(disk, alloc, &dump, left, right),
+        Request::Change { dump, change } => change_file(disk, alloc, &dump, &change),
+        Request::Rename { dump, rename } => rename_file(disk, alloc, &dump, &rename),
     }
-}
-
-fn paths_of<'a>(matches: &'a ArgMatches<'_>) -> Option<Paths<'a>>
-    ensures { IsOneOf (AsksPaths (words_in matches.now)) result }
-{
-    let image = text_of(matches, "IMAGE")?;
-    let out = text_of(matches, "out")?;
-    Some(Paths { image, out })
-}
-
-fn volume_extract<'a>(matches: &'a ArgMatches<'_>) -> Option<Extract<'a>>
-    ensures { IsOneOf (AsksExtract (words_in matches.now)) result }
-{
-    Some(Extract {
-        paths: paths_of(matches)?,
-        key: key_of(matches)?,
-    })
-}
-
-/// The image that the words ask for, of the file under a name.
-fn new_image<'a>(matches: &'a ArgMatches<'_>, name: &str) -> Option<NewImage<'a>>
-    ensures { IsOneOf (AsksNewImage (words_in matches.now) name.now) result }
-{
-    Some(NewImage {
-        from: text_of(matches, name)?,
-        out: text_of(matches, "out")?,
-        spares: number_of(matches, "spares").unwrap_or(0),
-        image_seq: number_of(matches, "seq").unwrap_or(0),
-    })
-}
-
-fn leb_change<'a>(matches: &'a ArgMatches<'_>) -> Option<Change<'a>>
-    ensures { IsOneOf (AsksChange (words_in matches.now)) result }
-{
-    Some(Change {
-        plan: plan_of(matches)?,
-        id: number_of(matches, "id")?,
-        lnum: number_of(matches, "lnum")?,
-        from: text_of(matches, "from")?,
-    })
-}
-
-fn volume_rename<'a>(matches: &'a ArgMatches<'_>) -> Option<Rename<'a>>
-    ensures { IsOneOf (AsksRename (words_in matches.now)) result }
-{
-    Some(Rename {
-        plan: plan_of(matches)?,
-        id: number_of(matches, "id")?,
-        name: text_of(matches, "name")?,
-    })
-}
-
-fn plan_of<'a>(matches: &'a ArgMatches<'_>) -> Option<Plan<'a>>
-    ensures { IsOneOf (AsksPlan (words_in matches.now)) result }
-{
-    Some(Plan {
-        paths: paths_of(matches)?,
-        stop: number_of(matches, "stop"),
-        keeps_blank: blank_of(matches)?,
-        pages: may_text_of(matches, "pages"),
-    })
-}
-
-/// Whether the words keep Blank eraseblocks. None where they say something else of them.
-fn blank_of(matches: &ArgMatches<'_>) -> Option<bool>
-    ensures { IsOneOf (AsksBlank (words_in matches.now)) result }
-{
-    match may_text_of(matches, "blank") {
-        None => Some(false),
-        Some(word) if word == KEEP => Some(true),
-        Some(_) => None,
-    }
-}
-
-/// How a dump is read: as the words tell, or, where they give no geometry, as its own headers do. None where they give half a geometry,
-/// or the list of its bad eraseblocks is none.
-fn asked_of<'a>(matches: &'a ArgMatches<'_>) -> Option<Asked<'a>>
-    ensures { IsOneOf (AsksAsked (words_in matches.now)) result }
-{
-    if gives_no_geometry(matches) {
-        Some(Asked::Sought(sought_of(matches)?))
-    } else {
-        Some(Asked::Given(dump_of(matches)?))
-    }
-}
-
-/// Whether the words say nothing of a geometry but how many eraseblocks there are.
-fn gives_no_geometry(matches: &ArgMatches<'_>) -> bool
-    ensures { result ≡ gives_no_geometry (words_in matches.now) }
-{
-    !gives(matches, "peb")
-        && !gives(matches, "page")
-        && !gives(matches, "vid")
-        && !gives(matches, "data")
-        && !gives(matches, "oob")
-}
-
-/// Whether the words give anything under a name.
-fn gives(matches: &ArgMatches<'_>, name: &str) -> bool
-    ensures { result ≡ gives (words_in matches.now) name.now }
-{
-    matches.get_str(name).is_some()
-}
-
-/// A dump of which the words give no geometry. None where the list of its bad eraseblocks is none.
-fn sought_of<'a>(matches: &'a ArgMatches<'_>) -> Option<Sought<'a>>
-    ensures { IsOneOf (AsksSought (words_in matches.now)) result }
-{
-    let bad = may_text_of(matches, "bad");
-    if !are_listed(bad) {
-        return None;
-    }
-    Some(Sought {
-        part: part_of(matches),
-        pebs: number_of(matches, "pebs"),
-        bad,
-    })
-}
-
-/// A dump of which the words give the geometry. None where the list of its bad eraseblocks is none.
-fn dump_of<'a>(matches: &'a ArgMatches<'_>) -> Option<Dump<'a>>
-    ensures { IsOneOf (AsksDump (words_in matches.now)) result }
-{
-    let numbers = numbers_of(matches)?;
-    let bad = may_text_of(matches, "bad");
-    if !are_listed(bad) {
-        return None;
-    }
-    Some(Dump {
-        numbers,
-        part: part_of(matches),
-        oob: number_of(matches, "oob").unwrap_or(0),
-        bad,
-    })
-}
-
-/// The part of a file.
-fn part_of(matches: &ArgMatches<'_>) -> FilePart
-    ensures { AsksPart (words_in matches.now) result }
-{
-    FilePart {
-        start: long_of(matches, "start").unwrap_or(0),
-        length: long_of(matches, "length"),
-    }
-}
-
-/// Whether a word, if there is one, is a list of eraseblocks.
-pub fn are_listed(word: Option<&str>) -> bool
-    ensures { IsTrue result ↔ ForSome word.entry (λ list. is_block_list list.now ≡ true) }
-{
-    match word {
-        Some(word) => is_block_list(word.as_bytes()),
-        None => true,
-    }
-}
-
-fn numbers_of(matches: &ArgMatches<'_>) -> Option<Numbers>
-    ensures { IsOneOf (AsksNumbers (words_in matches.now)) result }
-{
-    Some(Numbers {
-        peb_size: number_of(matches, "peb")?,
-        page: number_of(matches, "page")?,
-        vid_offset: number_of(matches, "vid"),
-        data_offset: number_of(matches, "data"),
-        pebs: number_of(matches, "pebs"),
-    })
-}
-
-/// The text that a word gives.
-fn text_of<'a>(matches: &'a ArgMatches<'_>, name: &str) -> Option<&'a str>
-    ensures { IsOneOf (HasText (words_in matches.now) name.now) result }
-{
-    matches.get_str(name)
-}
-
-/// The text that a word gives, if it is there.
-fn may_text_of<'a>(matches: &'a ArgMatches<'_>, name: &str) -> Option<&'a str>
-    ensures { MayHaveText (words_in matches.now) name.now result }
-{
-    matches.get_str(name)
-}
-
-/// The number that an option gives.
-fn number_of(matches: &ArgMatches<'_>, name: &str) -> Option<u32>
-    ensures one { IsOneOf (HasNumber (words_in matches.now) name.now) result }
-    ensures whole { MayHaveNumber (words_in matches.now) name.now result }
-{
-    matches.get_one::<u32>(name)
-}
-
-/// The place in a file that an option gives, or how many bytes of it.
-fn long_of(matches: &ArgMatches<'_>, name: &str) -> Option<u64>
-    ensures { MayHaveLong (words_in matches.now) name.now result }
-{
-    matches.get_one::<u64>(name)
 }

@@ -18,6 +18,7 @@ ghost use Rattle.ubi_commands.specs.Program.{OfAsked, OfFile};
 ghost use Rattle.ubi_commands.specs.Unpack.{AreUnpacked, IsUnpacked, Unpacks, UnpacksFrom, UnpacksOf, file_byte, file_path, unpacked_amount, unpacked_line, unpacked_lines, unpacked_status};
 ghost use Rattle.ubi_commands.specs.inner.Folder.{AreFilesOf, Ends, IsFileOf};
 
+use crate::asked::{Asked, Paths};
 use crate::disk::Disk;
 use crate::finding::{KnownDump, find_dump, open_known};
 use crate::image_file::unread_line;
@@ -26,7 +27,6 @@ use crate::list::{put_amount, put_shown};
 use crate::open_image::{OpenImage, frame_of};
 use crate::outcome::{DONE, FAILED, Outcome, ToolError};
 use crate::output_file::unwritten_line;
-use crate::requests::{Asked, Paths};
 use itoa::Buffer;
 use std::alloc::{AllocError, Global};
 use ubi_media::{Geometry, VolumeRecord};

@@ -16,8 +16,9 @@ ghost use Rattle.ubi_commands.specs.Opened.{IsOpened, IsUnreadOf};
 ghost use Rattle.ubi_commands.specs.inner.Ended.{IsEnded, Works};
 ghost use Rattle.ubi_commands.specs.Program.{OfAsked, OfFile, WritesInto};
 ghost use Rattle.ubi_commands.specs.declared.outcome.Outcome.{Outcome};
-ghost use Rattle.ubi_commands.specs.declared.requests.Dump.{Dump};
+ghost use Rattle.ubi_commands.specs.declared.asked.Dump.{Dump};
 
+use crate::asked::{Asked, Paths};
 use crate::change::{NewBytes, run_change_from};
 use crate::disk::Disk;
 use crate::extract::run_extract_from;
@@ -30,7 +31,6 @@ use crate::outcome::{DONE, Outcome, ToolError};
 use crate::output_file::{keep_file, unwritten_line};
 use crate::progress::ProgressWriter;
 use crate::rename::run_rename_from;
-use crate::requests::{Asked, Paths};
 use crate::volume_key::VolumeKey;
 use std::alloc::{AllocError, Global};
 use std::io::Write;

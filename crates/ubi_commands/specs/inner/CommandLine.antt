@@ -6,7 +6,7 @@ use Rattle.clap.specs.Matches.{found_of}
 use Rattle.clap.specs.Walk.{Row, Rule, Text, rows_of}
 use Rattle.clap.specs.declared.builder.value_parser.ValueParser.TheVariants as parser
 use Rattle.clap.specs.declared.parser.matches.ArgMatches.{ArgMatches}
-use Rattle.ubi_commands.specs.CommandLine.{Asks, command_name}
+use Rattle.ubi_commands.specs.Commands.{Asks, command_name}
 use Rattle.ubi_commands.specs.declared.command_line.Argument.{Argument}
 use Rattle.ubi_commands.specs.declared.command_line.CommandRow.{CommandRow}
 use Rattle.ubi_commands.specs.declared.command_line.Need.{Need}

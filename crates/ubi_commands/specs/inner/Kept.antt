@@ -2,7 +2,7 @@
 use Rattle.std.specs.Prelude.{◌≡◌, ℕ, IfSome, List, drop, length, take}
 use Rattle.ubi_commands.specs.Disk.{Files}
 use Rattle.ubi_commands.specs.Dump.{most_of, whole_len}
-use Rattle.ubi_commands.specs.declared.requests.Dump.{Dump}
+use Rattle.ubi_commands.specs.declared.asked.Dump.{Dump}
 
 -- these are the bytes that are read of the part of a dump, and n those of its file with those before the part
 pub record IsReadOf (d : Files) (dump : Dump) (path : List ℕ) (read : List ℕ) (n : ℕ) : Type 0 where

@@ -1,5 +1,5 @@
 use Rattle.ubi_commands.proofs.Prelude.{◌∙◌, inl, inr, refl, subst, sym, IfOk-weaker, err_from_is_err_and, keeps_promise, greatest_dump, sizes_of, IsDump, IsToldFirst, TellsNothing, file, no_file, told, unreadable, whole, Dump}
-use Rattle.ubi_commands.specs.declared.requests.Asked.TheVariants as asked
+use Rattle.ubi_commands.specs.declared.asked.Asked.TheVariants as asked
 use Rattle.ubi_commands.proofs.Ended.{at_places, both, read_at_places}
 use Rattle.ubi_commands.proofs.Found.{is_there, no_read, tells_less}
 use Rattle.ubi_commands.proofs.KeptPart.{kept_of_told}

@@ -1,6 +1,6 @@
 use Rattle.ubi_commands.proofs.Prelude.{IfOk-weaker, Composes, ComposesInto, no_text}
 use Rattle.ubi_commands.proofs.Outcomes.{composes_into, of_text, told}
-use Rattle.ubi_commands.proofs.commands.compose_file.Goals as goal
+use Rattle.ubi_commands.proofs.compose.compose_file.Goals as goal
 
 pub returns-in-Err-clause-answer : goal.returns-in-Err-clause-answer
 returns-in-Err-clause-answer g c =

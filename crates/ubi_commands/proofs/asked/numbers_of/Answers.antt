@@ -1,4 +1,4 @@
-use Rattle.ubi_commands.proofs.requests.numbers_of.Goals as goal
+use Rattle.ubi_commands.proofs.asked.numbers_of.Goals as goal
 
 pub returns-in_err-number_of : goal.returns-in_err-number_of
 returns-in_err-number_of c = rw c.from_residual.ensures (λ n asked. c.in_err-number_of.ensures.one n.peb_size asked.0)

@@ -1,4 +1,4 @@
-use Rattle.ubi_commands.proofs.requests.dump_of.Goals as goal
+use Rattle.ubi_commands.proofs.asked.dump_of.Goals as goal
 
 pub returns-in_err-numbers : goal.returns-in_err-numbers
 returns-in_err-numbers c = rw c.from_residual.ensures (λ d asks. c.in_err-numbers.ensures d.numbers asks.0)

@@ -1,6 +1,6 @@
 use Rattle.ubi_commands.proofs.Prelude.{ExplainsUnsignedError, HasUnsignedDigitsIfOk, ParsesUnsigned, found_of}
 use Rattle.ubi_commands.proofs.CommandWords.{number_given}
-use Rattle.ubi_commands.proofs.requests.long_of.Goals as goal
+use Rattle.ubi_commands.proofs.asked.long_of.Goals as goal
 
 pub returns : goal.returns
 returns c =

@@ -1,4 +1,4 @@
-use Rattle.ubi_commands.proofs.requests.leb_change.Goals as goal
+use Rattle.ubi_commands.proofs.asked.leb_change.Goals as goal
 
 pub returns-in_err-plan_of : goal.returns-in_err-plan_of
 returns-in_err-plan_of c = rw c.from_residual.ensures (λ x asked. c.in_err-plan_of.ensures x.plan asked.0)

@@ -1,6 +1,6 @@
 use Rattle.ubi_commands.proofs.Prelude.{codes, words_in}
 use Rattle.ubi_commands.proofs.GivenKey.{neither, not_given}
-use Rattle.ubi_commands.proofs.requests.key_of.Goals as goal
+use Rattle.ubi_commands.proofs.asked.key_of.Goals as goal
 
 pub returns-in_err-number_of-in-None-default : goal.returns-in_err-number_of-in-None-default
 returns-in_err-number_of-in-None-default c =

@@ -1,6 +1,6 @@
 use Rattle.ubi_commands.proofs.Prelude.{◌∙◌, found_of}
 use Rattle.ubi_commands.proofs.CommandWords.{is_given}
-use Rattle.ubi_commands.proofs.requests.gives.Goals as goal
+use Rattle.ubi_commands.proofs.asked.gives.Goals as goal
 
 pub returns : goal.returns
 returns c =

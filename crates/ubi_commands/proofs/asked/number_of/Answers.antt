@@ -1,6 +1,6 @@
 use Rattle.ubi_commands.proofs.Prelude.{ExplainsUnsignedError, HasUnsignedDigitsIfOk, ParsesUnsigned, found_of}
 use Rattle.ubi_commands.proofs.CommandWords.{number_given, one_given}
-use Rattle.ubi_commands.proofs.requests.number_of.Goals as goal
+use Rattle.ubi_commands.proofs.asked.number_of.Goals as goal
 
 pub returns-clause-whole : goal.returns-clause-whole
 returns-clause-whole c =

@@ -1,5 +1,5 @@
 use Rattle.ubi_commands.proofs.Prelude.{IfOk-weaker}
-use Rattle.ubi_commands.proofs.commands.run_request.Goals as goal
+use Rattle.ubi_commands.proofs.requests.run_request.Goals as goal
 
 pub returns-in-Extract-clause-answer : goal.returns-in-Extract-clause-answer
 returns-in-Extract-clause-answer g c = rw c.in-Extract.is (IfOk-weaker c.write_file.result _ _ (λ o h. h.1) c.write_file.ensures.answer)

@@ -1,0 +1,235 @@
+-- The commands: a row for each, with what it takes, what its words ask, what it can be answered, and which files it leaves alone.
+use Rattle.std.specs.Prelude.{◌≡◌, ◌∷◌, [], List, Option, Some, codes, false, map, true, ℕ}
+use Rattle.clap.specs.Faults.{fault_of}
+use Rattle.clap.specs.Simple.{App, Shape, new_rule, new_shape, subcommand_of}
+use Rattle.clap.specs.Walk.{Row, Text}
+use Rattle.ubi_commands.specs.Answer.{Gives, says}
+use Rattle.ubi_commands.specs.Build.{Builds}
+use Rattle.ubi_commands.specs.Change.{ChangesFrom, HasPlan}
+use Rattle.ubi_commands.specs.Check.{ChecksOf}
+use Rattle.ubi_commands.specs.CommandLine.{AsksAsked, AsksChange, AsksDump, AsksExtract, AsksNewImage, AsksNumbers, AsksPart, AsksPaths, AsksRename, HasNumber, HasText}
+use Rattle.ubi_commands.specs.Compose.{ComposesInto}
+use Rattle.ubi_commands.specs.Disk.{AllStay, Files, OthersStay, OutsideStay, Stays}
+use Rattle.ubi_commands.specs.Dump.{greatest_dump}
+use Rattle.ubi_commands.specs.Extract.{ExtractsOf, HasTextIn}
+use Rattle.ubi_commands.specs.Geometry.{DetectsOf}
+use Rattle.ubi_commands.specs.List.{ListsOf}
+use Rattle.ubi_commands.specs.Normalise.{HasMeaning, NormalisesOf}
+use Rattle.ubi_commands.specs.Program.{OfAsked, OfBoth, OfFile, OfImage, OfText, PlanStays, WithList, WritesInto, WritesPlan, avoided}
+use Rattle.ubi_commands.specs.Rename.{HasRename, RenamesFrom}
+use Rattle.ubi_commands.specs.Same.{ComparesOf}
+use Rattle.ubi_commands.specs.Show.{ShowsOf}
+use Rattle.ubi_commands.specs.Tool.{Mean, command as takes, image_part, needed, number, on_image, option, output, plan_options, volume}
+use Rattle.ubi_commands.specs.Unpack.{UnpacksOf}
+use Rattle.ubi_commands.specs.declared.outcome.Outcome.{Outcome}
+use Rattle.ubi_commands.specs.declared.requests.Request.{Request}
+use Rattle.ubi_commands.specs.declared.requests.Request.TheVariants as request
+
+-- `geometry`, over an image alone
+abbrev pub geometry : Shape
+geometry = record (new_shape (codes "geometry")) { rules = image_part }
+
+-- `list`, over an image
+abbrev pub list : Shape
+list = on_image false (codes "list") []
+
+-- `check`, over an image
+abbrev pub check : Shape
+check = on_image false (codes "check") []
+
+-- `show`, over an image, with the eraseblock to show
+abbrev pub show : Shape
+show = on_image false (codes "show") (needed (number (codes "block")) ∷ [])
+
+-- `extract`, over an image, with the file to write, and the number or the name of the volume
+abbrev pub extract : Shape
+extract = on_image false (codes "extract") (output ∷ number (codes "id") ∷ option (codes "name") ∷ [])
+
+-- `unpack`, over an image, with the folder to write
+abbrev pub unpack : Shape
+unpack = on_image false (codes "unpack") (output ∷ [])
+
+-- `compose`, over a text, with the file to write, and the spare eraseblocks and the image sequence number if given
+abbrev pub compose : Shape
+compose =
+    takes true (codes "compose")
+    (needed (new_rule (codes "SPEC")) ∷ output ∷ number (codes "spares") ∷ number (codes "seq") ∷ [])
+
+-- `build`, over a config, with the file to write, and the spare eraseblocks and the image sequence number if given
+abbrev pub build : Shape
+build =
+    takes true (codes "build")
+    (needed (new_rule (codes "CONFIG")) ∷ output ∷ number (codes "spares") ∷ number (codes "seq") ∷ [])
+
+-- `normalise`, over an image, with the file to write
+abbrev pub normalise : Shape
+normalise = on_image false (codes "normalise") (output ∷ [])
+
+-- `same`, over an image and another
+abbrev pub same : Shape
+same = on_image false (codes "same") (needed (record (new_rule (codes "OTHER")) { value_names = 1 }) ∷ [])
+
+-- `change`, over an image, with the file to write, the volume, the LEB and the file of its bytes
+abbrev pub change : Shape
+change =
+    on_image true (codes "change")
+    (output ∷ volume ∷ needed (number (codes "lnum")) ∷ needed (option (codes "from")) ∷ plan_options)
+
+-- `rename`, over an image, with the file to write, the volume and its name
+abbrev pub rename : Shape
+rename = on_image true (codes "rename") (output ∷ volume ∷ needed (option (codes "name")) ∷ plan_options)
+
+-- all of them, in the order of the help
+abbrev pub commands : List Shape
+commands = geometry ∷ list ∷ check ∷ show ∷ extract ∷ unpack ∷ compose ∷ build ∷ normalise ∷ same ∷ change ∷ rename ∷ []
+
+-- their names
+abbrev pub command_names : List (List ℕ)
+command_names = map (λ s. s.name) commands
+
+-- the program: it has a version, and a command has to be named
+unfoldable pub tool : App
+tool = record {
+  top = record (new_shape (codes "ubi_tool")) { is_leaf = false; has_version = true; subcommand_required = true };
+  subs = commands;
+}
+
+-- what is said of a request: by which command it is made; that the words give what it says; what it can be answered, of the files
+-- before and after; and which of them hold what they held
+pub record Said : Type 1 where
+  pub command : Shape
+  pub asks : List Row → Type 0
+  pub answers : Files → Files → Outcome → Type 0
+  pub leaves : Files → Files → Type 0
+
+-- of each
+abbrev pub said : Request → Said
+said (request.Geometry part image) = record {
+  command = geometry;
+  asks = λ words. AsksPart words part × HasText words (codes "IMAGE") image;
+  answers = λ d e. OfFile d (greatest_dump part) image.now (λ _. DetectsOf part);
+  leaves = AllStay;
+}
+said (request.List dump image) = record {
+  command = list;
+  asks = λ words. AsksAsked words dump × HasText words (codes "IMAGE") image;
+  answers = λ d e. OfAsked d e dump image.now ListsOf;
+  leaves = AllStay;
+}
+said (request.Check dump image) = record {
+  command = check;
+  asks = λ words. AsksAsked words dump × HasText words (codes "IMAGE") image;
+  answers = λ d e. OfAsked d e dump image.now ChecksOf;
+  leaves = AllStay;
+}
+said (request.Show dump image block) = record {
+  command = show;
+  asks = λ words. AsksAsked words dump × HasText words (codes "IMAGE") image × HasNumber words (codes "block") block;
+  answers = λ d e. OfAsked d e dump image.now (ShowsOf block);
+  leaves = AllStay;
+}
+said (request.Extract dump extract_it) =
+    let out = extract_it.paths.out.now in
+    let key = extract_it.key in record {
+      command = extract;
+      asks = λ words. AsksAsked words dump × AsksExtract words extract_it;
+      answers = λ d e. OfAsked d e dump extract_it.paths.image.now
+          (λ s k agrees. WritesInto out d e (ExtractsOf key s k agrees) (HasTextIn key s agrees));
+      leaves = λ d e. OthersStay d e out;
+    }
+said (request.Unpack dump paths) = record {
+  command = unpack;
+  asks = λ words. AsksAsked words dump × AsksPaths words paths;
+  answers = λ d e. OfAsked d e dump paths.image.now (UnpacksOf paths.out.now d e);
+  leaves = λ d e. OutsideStay d e paths.out.now;
+}
+said (request.Compose numbers new) = record {
+  command = compose;
+  asks = λ words. AsksNumbers words numbers × AsksNewImage words (codes "SPEC") new;
+  answers = λ d e. OfText d numbers new.from.now (λ s t. ComposesInto new.out.now d e s t new.spares new.image_seq);
+  leaves = λ d e. OthersStay d e new.out.now × Stays d e new.from.now;
+}
+said (request.Build numbers new) = record {
+  command = build;
+  asks = λ words. AsksNumbers words numbers × AsksNewImage words (codes "CONFIG") new;
+  answers = λ d e. OfText d numbers new.from.now (λ s t. Builds d e new.from.now new.out.now s t new.spares new.image_seq);
+  leaves = λ d e. OthersStay d e new.out.now × Stays d e new.from.now;
+}
+said (request.Normalise dump paths) = record {
+  command = normalise;
+  asks = λ words. AsksAsked words dump × AsksPaths words paths;
+  answers = λ d e. OfAsked d e dump paths.image.now
+      (λ s k agrees. WritesInto paths.out.now d e (NormalisesOf s k agrees) (HasMeaning s agrees));
+  leaves = λ d e. OthersStay d e paths.out.now;
+}
+said (request.Same dump left right) = record {
+  command = same;
+  asks = λ words. AsksAsked words dump × HasText words (codes "IMAGE") left × HasText words (codes "OTHER") right;
+  answers = λ d e. OfBoth d dump left.now right.now ComparesOf;
+  leaves = AllStay;
+}
+said (request.Change dump change_it) =
+    let plan = change_it.plan in
+    let image = plan.paths.image.now in
+    let out = plan.paths.out.now in
+    let kept = avoided dump plan in record {
+      command = change;
+      asks = λ words. AsksDump words dump × AsksChange words change_it;
+      answers = λ d e. WithList d e dump.bad image (OfFile d dump image
+          (λ s k agrees. OfImage d dump.numbers change_it.from.now
+          (λ f. WritesPlan out plan.pages d e
+          (ChangesFrom kept change_it.id change_it.lnum f.bytes plan.stop s k agrees)
+          (HasPlan kept change_it.id change_it.lnum f.bytes s k agrees))));
+      leaves = λ d e. PlanStays d e plan × Stays d e change_it.from.now;
+    }
+said (request.Rename dump rename_it) =
+    let plan = rename_it.plan in
+    let image = plan.paths.image.now in
+    let out = plan.paths.out.now in
+    let kept = avoided dump plan in record {
+      command = rename;
+      asks = λ words. AsksDump words dump × AsksRename words rename_it;
+      answers = λ d e. WithList d e dump.bad image (OfFile d dump image
+          (λ s k agrees. WritesPlan out plan.pages d e
+          (RenamesFrom kept rename_it.id rename_it.name.now plan.stop s k agrees)
+          (HasRename kept rename_it.id rename_it.name.now s k agrees)));
+      leaves = λ d e. PlanStays d e plan;
+    }
+
+-- the name of the command by which a request is made
+abbrev pub command_name : Request → List ℕ
+command_name r = (said r).command.name
+
+-- the words give what the request says
+abbrev pub Asks : List Row → Request → Type 0
+Asks words r = (said r).asks words
+
+-- what a request can be answered: what its command answers, for its own numbers, paths and volume, of the files that are
+-- named, as they are seen, and with what becomes of the files that are written
+abbrev pub IsAnswerTo : Files → Files → Request → Outcome → Type 0
+IsAnswerTo d e r = (said r).answers d e
+
+-- each file holds what it held, but for the one that a request writes, or those in the folder that it writes; and so does a
+-- text or a file with new bytes, also where that is named for the output
+abbrev pub IsAllElse : Request → Files → Files → Type 0
+IsAllElse r d e = (said r).leaves d e
+
+-- the command that was named, with its words, is the request
+abbrev pub IsRequest : Option (Text × List Row) → Request → Type 0
+IsRequest named r = (words : List Row) × (named ≡ Some (command_name r, words)) × Asks words r
+
+-- the command line takes the words, the program's name first: nothing is wrong with them, they ask for no help, those of
+-- `extract` name one volume, what lists bad eraseblocks is a list, `--blank` has the word `keep`, and a geometry is whole or left out
+abbrev pub Takes : List Text → Type 0
+Takes words = (fault_of tool words ≡ []) × Mean (subcommand_of tool words)
+
+-- the words are taken, and are this request
+abbrev pub Requests : List Text → Request → Type 0
+Requests words r = Takes words × IsRequest (subcommand_of tool words) r
+
+-- what the program can answer: nothing where the command line doesn't take the words, and else what the request that
+-- they are can be answered; and no other file is changed than the one that it names
+pub data IsAnswer (words : List (List ℕ)) (d e : Files) : Outcome → Type 0 where
+  wrong_words : {o : Outcome} → (Takes words → ⊥) → Gives o (says [] 2) → AllStay d e → IsAnswer words d e o
+  answered : {o : Outcome} (request : Request) → Requests words request → IsAnswerTo d e request o → IsAllElse request d e
+      → IsAnswer words d e o
