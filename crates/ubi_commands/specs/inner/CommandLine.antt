@@ -36,10 +36,11 @@ with_taken name takes.Measure r =
 abbrev pub rule : Argument → Rule
 rule a = with_taken a.1.now a.2 (record (new_rule a.1.now) { required = is_needed a.0 })
 
--- an app with the arguments of these rows more, and of these groups of rows
+-- an app with the arguments of these rows more
 unfoldable pub with_rows : App → List Argument → App
 with_rows a rows = fold (λ x r. with_rule x (rule r)) a rows
 
+-- an app with the arguments of these groups of rows more
 unfoldable pub with_groups : App → List (Bor (List Argument)) → App
 with_groups a groups = fold (λ x g. with_rows x g.now) a groups
 
