@@ -40,9 +40,8 @@ def is_used(name, body):
     return all(part in body for part in name.rpartition(" as ")[2].split("◌"))
 
 
-def wanted(crate):
+def wanted(crate, given):
     """How many files take each name from each module, their own prelude counted as the module that it has the name of."""
-    given = {name: module for module, names in prelude_of(crate) for name in names}
     takes = collections.defaultdict(collections.Counter)
     for path in files_of(crate):
         body = body_of(path.read_text())
@@ -102,7 +101,7 @@ def text_of(crate, chosen, kit):
     return "\n".join(lines) + "\n"
 
 
-def rewritten(path, crate, chosen):
+def rewritten(path, crate, chosen, given):
     """A file's text with its imports taken from the prelude."""
     prelude, taken, kept = f"Rattle.{crate.name}.proofs.Prelude", [], []
     text = path.read_text()
@@ -112,11 +111,14 @@ def rewritten(path, crate, chosen):
         if not found:
             kept.append(line)
             continue
-        names = [it for it in found[2].split(", ") if is_used(it, body)]
-        goes = [it for it in names if chosen.get(it.partition(" as ")[0]) == found[1] or found[1] == prelude]
-        taken += [it for it in goes if it not in taken]
-        if len(goes) < len(names):
-            kept.append(f"use {found[1]}.{{{', '.join(it for it in names if it not in goes)}}}")
+        others = collections.defaultdict(list)
+        for name in filter(lambda name: is_used(name, body), found[2].split(", ")):
+            module = given.get(name, found[1]) if found[1] == prelude else found[1]
+            if chosen.get(name) != module:
+                others[module].append(name)
+            elif name not in taken:
+                taken.append(name)
+        kept += [f"use {module}.{{{', '.join(names)}}}" for module, names in others.items()]
     if taken:
         at = next((number for number, line in enumerate(kept) if line.startswith("use ")), None)
         if at is None:
@@ -127,9 +129,10 @@ def rewritten(path, crate, chosen):
 
 def mend(crate, kit):
     """Writes a crate's prelude and its files anew. Gives the files that changed."""
-    takes = wanted(crate)
+    given = {name: module for module, names in prelude_of(crate) for name in names}
+    takes = wanted(crate, given)
     chosen = {name: max(sorted(at), key=at.__getitem__) for name, at in takes.items()}
-    texts = {path: rewritten(path, crate, chosen) for path in files_of(crate)}
+    texts = {path: rewritten(path, crate, chosen, given) for path in files_of(crate)}
     texts[crate / "proofs" / "Prelude.antt"] = text_of(crate, chosen, kit)
     node = crate / "proofs" / "Lib.antt"
     if "pub mod Prelude\n" not in node.read_text():

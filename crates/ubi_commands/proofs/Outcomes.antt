@@ -3,6 +3,7 @@ use Rattle.ubi_commands.proofs.Prelude.{◌≡◌, ℕ, ◌≤◌, ◌∙◌, Li
 use Rattle.std.proofs.Common.{None}
 use Rattle.ubi_commands.specs.Compose as compose
 use Rattle.ubi_commands.specs.Program as program
+use Rattle.ubi_commands.specs.inner.FileAnswers as file_answers
 
 -- work that was done isn't refused
 pub not_both : (o : Outcome) → o.status ≡ 0 → o.status ≡ 1 → ⊥
@@ -28,8 +29,8 @@ described_with_file s text spares seq o (unmade c is gives) some = absurd (no_fi
 pub composes_into : (s : Sizes) (text : List ℕ) (spares seq : ℕ) (out : List ℕ) (d e : Files) (work o : Outcome)
     → Composes s text spares seq work → WritesFile out d e work o
     → ComposesInto out d e s text spares seq o
-composes_into s text spares seq out d e work o n (program.kept received) = compose.written n received
-composes_into s text spares seq out d e work o n (program.lost some gives) =
+composes_into s text spares seq out d e work o n (file_answers.kept received) = compose.written n received
+composes_into s text spares seq out d e work o n (file_answers.lost some gives) =
     let h = described_with_file s text spares seq work n some in
     compose.unwritten h.0 h.1 h.2 gives
 

@@ -141,34 +141,32 @@ pub use Rattle.ubi_volume.specs.declared.errors.MeaningCause.{MeaningCause}
 pub use Rattle.ubi_volume.specs.declared.errors.ReadError.{ReadError}
 pub use Rattle.ubi_volume.specs.declared.places.Extent.{Extent}
 pub use Rattle.ubi_volume.specs.declared.places.PlaceContent.{PlaceContent}
-pub use Rattle.ubi_commands.specs.AfterRun.{IsTold, WhereNotDone, after_left, after_right, after_run, outcome, read_failed}
+pub use Rattle.ubi_commands.specs.AfterRun.{WhereNotDone, after_left, after_right, after_run}
 pub use Rattle.ubi_commands.specs.Answer.{Answer, Gives, says}
 pub use Rattle.ubi_commands.specs.BadBlocks.{has_number, is_block_list, masked, range_of, range_of_parts, ranges_of, with_ranges}
-pub use Rattle.ubi_commands.specs.Build.{AreBesideOut, AreGathered, ArePartsOf, AreUnread, Builds, BuildsParts, HaveImage, IsNoVolume, IsSized, IsUngathered, IsUnreadLine, Sized, built, faulty, gathered, image_path, image_paths, len_of, no_image, no_path, no_record, numbered, part_at, ungathered, unwritten}
+pub use Rattle.ubi_commands.specs.Build.{AreBesideOut, AreGathered, ArePartsOf, Builds, BuildsParts, HaveImage, IsNoVolume, IsSized, IsUngathered, IsUnreadLine, Sized, built, faulty, gathered, image_path, image_paths, len_of, no_image, no_path, no_record, numbered, part_at, ungathered, unwritten}
 pub use Rattle.ubi_commands.specs.BuildLaws.{AreTold, BuildReads, ReadsItsFile, file_of}
 pub use Rattle.ubi_commands.specs.Change.{Changes, ChangesFrom, CutMeans, HasPlan, IsChangeFault, not_blank_from, unplanned_from}
 pub use Rattle.ubi_commands.specs.Check.{same_state, state_line, surveyed, unsurveyed}
 unfoldable pub use Rattle.ubi_commands.specs.Check.{printed_states}
-pub use Rattle.ubi_commands.specs.CommandLine.{AsksAsked, AsksBlank, AsksChange, AsksDump, AsksExtract, AsksKey, AsksNewImage, AsksNumbers, AsksPart, AsksPaths, AsksPlan, AsksRename, HasBelow, HasNumber, HasText, IsOneOf, MayHaveBelow, MayHaveLong, MayHaveNumber, MayHaveText, gives, gives_no_geometry}
+pub use Rattle.ubi_commands.specs.CommandLine.{AsksAsked, AsksBlank, AsksChange, AsksDump, AsksExtract, AsksKey, AsksNewImage, AsksNumbers, AsksPart, AsksPaths, AsksPlan, AsksRename, HasBelow, HasNumber, HasText, MayHaveBelow, MayHaveLong, MayHaveNumber, MayHaveText, gives, gives_no_geometry}
 pub use Rattle.ubi_commands.specs.Commands.{Asks, IsAllElse, IsAnswer, IsAnswerTo, IsRequest, Takes, command_name, wrong_words}
 unfoldable pub use Rattle.ubi_commands.specs.Commands.{tool}
 pub use Rattle.ubi_commands.specs.Compose.{Composes, ComposesInto, ComposesOf, crowded, described, fits, meaning_line, spec_line, unmade, unread}
 pub use Rattle.ubi_commands.specs.Disk.{AllStay, Files, Holds, IsJudgedOf, IsKept, IsLeft, IsTextOf, OthersStay, OutsideStay, Receives, Stays, fresh}
-pub use Rattle.ubi_commands.specs.Dump.{Fits, FitsWhole, IsPartOf, as_read, greatest_dump, marks_of, misfit_of, most_of, seen, told_dump, viewed, whole_len}
-pub use Rattle.ubi_commands.specs.Extract.{Extracts, HasFirst, HasTextIn, IsExtractError, IsExtractFault, ReadsVolume, accepted, read, read_key, refused_from, unread_from, wrote}
+pub use Rattle.ubi_commands.specs.Dump.{Fits, FitsWhole, as_read, greatest_dump, marks_of, misfit_of, most_of, seen, told_dump, viewed, whole_len}
+pub use Rattle.ubi_commands.specs.Extract.{Extracts, HasTextIn, IsExtractError, ReadsVolume, accepted, read, read_key, refused_from, unread_from, wrote}
 pub use Rattle.ubi_commands.specs.Geometry.{Detects, detected, detected_from, options_lines, undetected, undetected_from}
 unfoldable pub use Rattle.ubi_commands.specs.Geometry.{options, sizes_options}
 pub use Rattle.ubi_commands.specs.Key.{number_in}
-pub use Rattle.ubi_commands.specs.Late.{contents_of}
 pub use Rattle.ubi_commands.specs.Lines.{blocks_line, bytes_line, comparison_line, file_line, no_block_line, refusal_line, refused_line, undetected_line}
 unfoldable pub use Rattle.ubi_commands.specs.Lines.{layout_words}
 pub use Rattle.ubi_commands.specs.List.{Lists, list_lines, listed, record_line, shown, unlisted, volume_line}
 unfoldable pub use Rattle.ubi_commands.specs.List.{room_words, sizes_line}
 pub use Rattle.ubi_commands.specs.Normalise.{HasMeaning, IsNormaliseError, Normalises, wrote_nothing}
 pub use Rattle.ubi_commands.specs.Numbers.{greatest, sizes_of}
-pub use Rattle.ubi_commands.specs.Opened.{IsOpened}
-pub use Rattle.ubi_commands.specs.Plan.{AreCut, CutAccepts, HasFile, IsCarryFault, IsCut, cut_bytes, cut_text, plan_answer, plan_lines, refused_file, step_line, steps_done}
-pub use Rattle.ubi_commands.specs.Program.{IsDump, IsRead, IsToldFirst, IsUnseen, OfFile, OfImage, OfText, Tells, TellsNothing, WhereRead, WritesFile, WritesInto, WritesPlan, alike, avoided, bad_limit, cannot_read, file, given, image, kept, lost, no_file, no_left, no_list, no_pages, no_right, no_text, of_dump, places, planned, text_limit, told, unfit, unfit_whole, unlike, unreadable, untold, whole, with_list, written}
+pub use Rattle.ubi_commands.specs.Plan.{CutAccepts, IsCarryFault, cut_bytes, cut_text, plan_answer, plan_lines, step_line, steps_done}
+pub use Rattle.ubi_commands.specs.Program.{IsDump, IsRead, IsToldFirst, IsUnseen, OfFile, OfImage, OfText, TellsNothing, WhereRead, WritesInto, WritesPlan, alike, avoided, bad_limit, cannot_read, file, given, image, no_file, no_left, no_list, no_pages, no_right, no_text, of_dump, places, planned, text_limit, told, unfit, unfit_whole, unlike, unreadable, untold, whole, with_list, written}
 pub use Rattle.ubi_commands.specs.Rename.{CutIsNamed, HasRename, IsRenameFault, Renames, RenamesFrom, nameless_from}
 pub use Rattle.ubi_commands.specs.Row.{row_bytes}
 pub use Rattle.ubi_commands.specs.Same.{Compares, ComparesOf, compared, comparison_status, different, left_refused, left_refused_from, right_refused, right_refused_from, same}
@@ -201,8 +199,13 @@ pub use Rattle.ubi_commands.specs.declared.unpack.VolumeFile.{VolumeFile}
 pub use Rattle.ubi_commands.specs.declared.view.FilePart.{FilePart}
 pub use Rattle.ubi_commands.specs.declared.volume_key.VolumeKey.{VolumeKey}
 pub use Rattle.ubi_commands.specs.inner.Built.{AreAnswers, IsNotBegun, IsToldOf}
-pub use Rattle.ubi_commands.specs.inner.CommandLine.{IsAskedBy, bare_tool, rule, words_in}
+pub use Rattle.ubi_commands.specs.inner.CommandLine.{IsAskedBy, IsOneOf, bare_tool, rule, words_in}
 unfoldable pub use Rattle.ubi_commands.specs.inner.CommandLine.{command_row, with_commands, with_groups, with_rows}
 pub use Rattle.ubi_commands.specs.inner.Ended.{IsEnded, IsToldOfSides, Works, answered, comparison, left_failed, no_read, no_source, no_write, right_failed, unopened}
+pub use Rattle.ubi_commands.specs.inner.Extracting.{HasFirst, IsExtractFault}
+pub use Rattle.ubi_commands.specs.inner.FileAnswers.{IsTold, Tells, WritesFile, kept, lost, outcome, read_failed}
 pub use Rattle.ubi_commands.specs.inner.Folder.{AreFilesOf, Ends, IsFileOf}
-pub use Rattle.ubi_commands.specs.inner.Gathering.{AreSoFar, IsFound}
+pub use Rattle.ubi_commands.specs.inner.Gathering.{AreSoFar, AreUnread, IsFound, IsPartOf}
+pub use Rattle.ubi_commands.specs.inner.Late.{contents_of}
+pub use Rattle.ubi_commands.specs.inner.Opened.{IsOpened}
+pub use Rattle.ubi_commands.specs.inner.Planning.{AreCut, HasFile, IsCut, refused_file}

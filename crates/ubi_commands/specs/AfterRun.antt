@@ -1,8 +1,6 @@
 -- What is known of a source after a command over it.
-use Rattle.std.specs.Prelude.{◌≡◌, ◌≢◌, ℕ, List, Result, Ok, Err, codes}
+use Rattle.std.specs.Prelude.{◌≢◌, Result, Ok, Err}
 use Rattle.ubi_scan.specs.Source.{Source, failed}
-use Rattle.ubi_commands.specs.Answer.{Gives, says}
-use Rattle.ubi_commands.specs.Lines.{file_line}
 use Rattle.ubi_commands.specs.declared.outcome.Outcome.{Outcome}
 use Rattle.ubi_commands.specs.declared.outcome.SidesError.{SidesError}
 use Rattle.ubi_commands.specs.declared.outcome.SidesError.TheVariants as side
@@ -29,12 +27,6 @@ abbrev pub WhereNotDone : Type 0 → Result Outcome ToolError → Type 0
 WhereNotDone fact (Ok o) = o.status ≢ 0 → fact
 WhereNotDone fact (Err tool.Memory) = fact
 WhereNotDone fact (Err e) = Unit {0}
-
--- what is told of work over a file: its outcome, or the line of the file, where a read of it failed
-pub data IsTold (work : Result Outcome ToolError) (path : List ℕ) : Outcome → Type 0 where
-  outcome : {o : Outcome} → work ≡ Ok o → IsTold work path o
-  read_failed : {o : Outcome} → work ≡ Err tool.Read → Gives o (says (file_line (codes "cannot read ") path) 1)
-      → IsTold work path o
 
 -- what is known of the left source after a comparison: one read failed where that side is named
 abbrev pub after_left : {A : Type 0} → Source → Result A SidesError → Source

@@ -46,11 +46,6 @@ AreBesideOut config out sections = AllByRecursion (λ path. path ≢ out) (image
 abbrev pub IsUnreadLine : List ℕ → Outcome → Type 0
 IsUnreadLine path o = Gives o (says (file_line (codes "cannot read ") path) 1)
 
--- each is the line of a file that can't be read: of an image file that the sections name, or of the config
-abbrev pub AreUnread : List ℕ → List Section → List Outcome → Type 0
-AreUnread config sections lines =
-    AllByRecursion (λ o. (path : List ℕ) × Contains (config ∷ image_paths config sections) path × IsUnreadLine path o) lines
-
 -- a section, and how many bytes its image file has, where it names one
 abbrev pub Sized : Type 0
 Sized = Section × Option ℕ

@@ -142,8 +142,3 @@ abbrev pub AsksRename : List Row → Rename → Type 0
 AsksRename words rename = AsksPlan words rename.plan
     × HasNumber words (codes "id") rename.id
     × HasText words (codes "name") rename.name
-
--- the answer is one of these, or none where there is none
-abbrev pub IsOneOf : {X : Type 0} → (X → Type 0) → Option X → Type 0
-IsOneOf {X = X} P None = (x : X) → P x → ⊥
-IsOneOf {X = X} P (Some x) = P x

@@ -1,5 +1,5 @@
 -- The commands: a row for each, with what it takes, what its words ask, what it can be answered, and which files it leaves alone.
-use Rattle.std.specs.Prelude.{◌≡◌, ◌∷◌, [], List, Option, Some, codes, false, map, true, ℕ}
+use Rattle.std.specs.Prelude.{◌≡◌, ◌∷◌, [], List, Option, Some, codes, false, true, ℕ}
 use Rattle.clap.specs.Faults.{fault_of}
 use Rattle.clap.specs.Simple.{App, Shape, new_rule, new_shape, subcommand_of}
 use Rattle.clap.specs.Walk.{Row, Text}
@@ -82,10 +82,6 @@ rename = on_image true (codes "rename") (output ∷ volume ∷ needed (option (c
 -- all of them, in the order of the help
 abbrev pub commands : List Shape
 commands = geometry ∷ list ∷ check ∷ show ∷ extract ∷ unpack ∷ compose ∷ build ∷ normalise ∷ same ∷ change ∷ rename ∷ []
-
--- their names
-abbrev pub command_names : List (List ℕ)
-command_names = map (λ s. s.name) commands
 
 -- the program: it has a version, and a command has to be named
 unfoldable pub tool : App

@@ -1,5 +1,5 @@
 -- A dump as it is read: of what the files hold a part, of that the pages, and 0xFF in the place of bad eraseblocks.
-use Rattle.std.specs.Prelude.{◌≡◌, ℕ, ◌*◌, ◌+◌, ◌≤◌, Bool, IfSome, List, [], None, Option, Some, length, min, option_map}
+use Rattle.std.specs.Prelude.{◌≡◌, ℕ, ◌*◌, ◌+◌, Bool, IfSome, List, [], None, Option, Some, length, min, option_map}
 use Rattle.std.specs.Option.{option_map_or}
 use Rattle.ubi_scan.specs.declared.detect.Detected.{Detected}
 use Rattle.ubi_commands.specs.BadBlocks.{bad_marks, masked}
@@ -39,10 +39,6 @@ whole_len dump n = min (dump.part.start + most_of dump) n
 -- the named file can be read so, where it is known what it holds
 abbrev pub Fits : Files → Dump → List ℕ → Type 0
 Fits d dump path = IfSome (d.holds path) (λ all. misfit_of dump (length all) ≡ None)
-
--- these are all bytes of the part of a file, in which it lies
-abbrev pub IsPartOf : Files → Dump → List ℕ → List ℕ → Type 0
-IsPartOf d dump path bytes = IfSome (d.holds path) (λ all. (bytes ≡ part_of dump.part all) × (dump.part.start ≤ length all))
 
 -- the dump as far as it is read then: of a part that is longer than the device no more
 abbrev pub as_read : Dump → Dump

@@ -1,5 +1,5 @@
 -- What is extracted of an image: what one of its volumes reads.
-use Rattle.std.specs.Prelude.{◌≡◌, ℕ, ◌<◌, ◌≤◌, ◌⊎◌, List, Option, Result, Ok, Err, length, take}
+use Rattle.std.specs.Prelude.{◌≡◌, ℕ, ◌<◌, List, Option, Result, Ok, Err, length, take}
 use Rattle.std.specs.Option.{option_map_or}
 use Rattle.std.specs.Io.KnownBytes.{Appends, Keeps}
 use Rattle.ubi_media.specs.Geometry.{Sizes}
@@ -63,18 +63,6 @@ pub data Extracts (image : Image) (key : VolumeKey) (old new : Option (List ℕ)
 abbrev pub IsExtractError : Image → VolumeKey → Option (List ℕ) → Option (List ℕ) → ToolError → Type 0
 IsExtractError image key old new tool.Memory = Keeps old new
 IsExtractError image key old new e = (m : Meant) × Accepts image m × IsVolumeError m key old new e
-
--- a writer received the first of what the volume of an image's meaning reads, perhaps all
-abbrev pub HasFirst : Image → VolumeKey → Option (List ℕ) → Option (List ℕ) → Type 0
-HasFirst image key old new =
-    (m : Meant) × Accepts image m × (text : List ℕ) × (n : ℕ) × (read_key m key ≡ Ok text) × (n ≤ length text) × Appends old new (take n text)
-
--- why it answers nothing of a source: memory ran out, and the writer received nothing; or, whatever the source may hold, a
--- read failed, before anything was written or after the first of the text, or a write, as over the bytes
-abbrev pub IsExtractFault : Sizes → Source → Agreed → VolumeKey → Option (List ℕ) → Option (List ℕ) → ToolError → Type 0
-IsExtractFault s k agrees key old new tool.Memory = Keeps old new
-IsExtractFault s k agrees key old new tool.Read = Keeps old new ⊎ WhereHeld agrees (λ bytes. HasFirst (image_of s bytes) key old new)
-IsExtractFault s k agrees key old new tool.Write = WhereHeld agrees (λ bytes. IsExtractError (image_of s bytes) key old new tool.Write)
 
 -- what it answers of any source: of one that has the size of an image how many bytes the writer received, or the line of a
 -- refusal to read the volume; or the line of a refusal of the image; the writer received nothing where it is a refusal

@@ -14,13 +14,11 @@ pub mod Extract
 pub mod Geometry
 pub mod Headline
 pub mod Key
-pub mod Late
 pub mod Laws
 pub mod Lines
 pub mod List
 pub mod Normalise
 pub mod Numbers
-pub mod Opened
 pub mod Plan
 pub mod Printed
 pub mod Program

@@ -1,19 +1,18 @@
 -- What a plan of steps prints, and the image after the first of them.
-use Rattle.std.specs.Prelude.{◌≡◌, ◌≢◌, ℕ, List, ◌++◌, Option, Some, None, codes, decimal, if◌then◌else◌, length, min, nat_lt}
+use Rattle.std.specs.Prelude.{◌≡◌, ℕ, List, ◌++◌, Option, Some, None, codes, decimal, if◌then◌else◌, length, min, nat_lt}
 use Rattle.std.specs.Io.KnownBytes.{Keeps}
 use Rattle.std.specs.List.{concat, flat_map}
 use Rattle.ubi_media.specs.Geometry.{Sizes}
 use Rattle.ubi_change.specs.Steps.{after}
 use Rattle.ubi_change.specs.declared.step.Step.{Step}
 use Rattle.ubi_change.specs.declared.step.Step.TheVariants as step
-use Rattle.ubi_scan.specs.Image.{Image, eraseblocks, image_of, in_image}
-use Rattle.ubi_scan.specs.Source.{Agreed, WhereHeld}
+use Rattle.ubi_scan.specs.Image.{Image, image_of, in_image}
+use Rattle.ubi_scan.specs.Source.{Agreed}
 use Rattle.ubi_volume.specs.Accepts.{Accepts}
 use Rattle.ubi_volume.specs.Meant.{Meant}
 use Rattle.ubi_volume.specs.Wrote.{First, NotAll, Wrote}
-use Rattle.ubi_commands.specs.Answer.{Answer, Gives}
+use Rattle.ubi_commands.specs.Answer.{Answer}
 use Rattle.ubi_commands.specs.Lines.{refused_line}
-use Rattle.ubi_commands.specs.declared.outcome.Outcome.{Outcome}
 use Rattle.ubi_commands.specs.declared.outcome.ToolError.{ToolError}
 use Rattle.ubi_commands.specs.declared.outcome.ToolError.TheVariants as tool
 
@@ -61,20 +60,6 @@ abbrev pub IsCarryFault : Sizes → Agreed → List Step → ℕ → Option (Lis
 IsCarryFault s agrees steps k old new tool.Memory = Keeps old new
 IsCarryFault s agrees steps k old new tool.Read = (n : ℕ) × Wrote agrees old new (cut_text s steps k) First 0 n
 IsCarryFault s agrees steps k old new tool.Write = (n : ℕ) × Wrote agrees old new (cut_text s steps k) NotAll 0 n
-
--- an outcome, with these bytes as its file where the work was done
-pub data HasFile (work : Outcome) (bytes : List ℕ) (o : Outcome) : Type 0 where
-  done : work.status ≡ 0 → Gives o (record { text = work.text.items; status = 0; file = Some bytes }) → HasFile work bytes o
-  refused_file : work.status ≢ 0 → o ≡ work → HasFile work bytes o
-
--- the bytes after the first k steps are as many as before, and cut into the eraseblocks that these steps leave
-pub record IsCut (image : Image) (steps : List Step) (k : ℕ) : Type 0 where
-  pub same : length (cut_bytes image steps k) ≡ length image.bytes
-  pub done : eraseblocks (record image { bytes = cut_bytes image steps k }) ≡ in_image after image steps k
-
--- so are those of whatever a source may hold
-abbrev pub AreCut : Sizes → Agreed → List Step → ℕ → Type 0
-AreCut s agrees steps k = WhereHeld agrees (λ bytes. IsCut (image_of s bytes) steps k)
 
 -- the image after the first k steps is accepted: before the turn with the old meaning, and from it on with the new one
 abbrev pub CutAccepts : Image → List Step → ℕ → Meant → Meant → ℕ → Type 0

@@ -1,7 +1,7 @@
 -- What the program answers over files.
 use Rattle.std.specs.Borrow.{Bor}
 use Rattle.std.specs.Option.{ForSome}
-use Rattle.std.specs.Prelude.{◌≡◌, ◌≢◌, ℕ, ◌*◌, ◌+◌, ◌≤◌, ◌∷◌, List, [], length, Some, None, Option, IfSome, IsSome, codes, option_map}
+use Rattle.std.specs.Prelude.{◌≡◌, ◌≢◌, ℕ, ◌*◌, ◌+◌, ◌≤◌, ◌∷◌, List, [], length, Some, None, Option, IfSome, codes}
 use Rattle.ubi_media.specs.Geometry.{Sizes}
 use Rattle.ubi_media.specs.Limits.{first_broken}
 use Rattle.ubi_media.specs.declared.geometry.GeometryError.{GeometryError}
@@ -22,8 +22,6 @@ use Rattle.ubi_commands.specs.declared.asked.Asked.TheVariants as asked
 use Rattle.ubi_commands.specs.declared.asked.Dump.{Dump}
 use Rattle.ubi_commands.specs.declared.asked.Plan.{Plan}
 use Rattle.ubi_commands.specs.declared.asked.Sought.{Sought}
-use Rattle.ubi_commands.specs.declared.image_file.Unread.{Unread}
-use Rattle.ubi_commands.specs.declared.image_file.Unread.TheVariants as unread
 use Rattle.ubi_commands.specs.declared.numbers.Numbers.{Numbers}
 use Rattle.ubi_commands.specs.declared.outcome.Outcome.{Outcome}
 use Rattle.ubi_commands.specs.declared.view.FilePart.{FilePart}
@@ -52,11 +50,6 @@ pub data IsUnseen (d : Files) (dump : Dump) (path : List ℕ) : Outcome → Type
 pub record IsRead (s : Sizes) (bytes : List ℕ) : Type 0 where
   pub limits : first_broken s ≡ None
   pub few : length bytes ≤ s.pebs * s.peb_size + 1
-
--- what is told where an image can't be had; nothing is where memory ran out
-abbrev pub Tells : (Outcome → Type 0) → Unread → Type 0
-Tells is unread.Memory = Unit {0}
-Tells is (unread.Told o) = is o
 
 -- what a command over one image file can answer: that, or what it answers of the image that the file holds
 pub data OfImage (d : Files) (numbers : Numbers) (path : List ℕ) (answers : Image → Outcome → Type 0) : Outcome → Type 0 where
@@ -158,13 +151,6 @@ pub data WritesPlan (out : List ℕ) (pages : Option (Bor (List ℕ))) (old new 
 pub data WithList (d e : Files) (bad : Option (Bor (List ℕ))) (path : List ℕ) (answers : Outcome → Type 0) : Outcome → Type 0 where
   no_list : {o : Outcome} → bad ≡ None → d.holds path ≡ None → Gives o (says [] 2) → AllStay d e → WithList d e bad path answers o
   with_list : {o : Outcome} → answers o → WithList d e bad path answers o
-
--- once the file of an outcome is written, if it has one: the outcome, and the file received that; or the line of a file that
--- can't be written
-pub data WritesFile (path : List ℕ) (old new : Files) (outcome : Outcome) : Outcome → Type 0 where
-  kept : Receives old new path (option_map (λ v. v.items) outcome.file) → WritesFile path old new outcome outcome
-  lost : {o : Outcome} → IsSome outcome.file → Gives o (says (file_line (codes "cannot write ") path) 1)
-      → WritesFile path old new outcome o
 
 -- what a plan avoids of a dump: its bad eraseblocks, and Blank ones where they are kept
 abbrev pub avoided : Dump → Plan → Avoided

@@ -2,7 +2,12 @@
 pub mod Built
 pub mod CommandLine
 pub mod Ended
+pub mod Extracting
+pub mod FileAnswers
 pub mod Folder
 pub mod Gathering
 pub mod Kept
+pub mod Late
+pub mod Opened
+pub mod Planning
 pub mod Telling

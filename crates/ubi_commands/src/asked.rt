@@ -3,7 +3,8 @@
 ghost use Rattle.std.specs.Option.{ForSome};
 ghost use Rattle.std.specs.Prelude.{◌≡◌, ◌↔◌, IsTrue, true};
 ghost use Rattle.ubi_commands.specs.BadBlocks.{is_block_list};
-ghost use Rattle.ubi_commands.specs.CommandLine.{AsksAsked, AsksBlank, AsksChange, AsksDump, AsksExtract, AsksKey, AsksNewImage, AsksNumbers, AsksPart, AsksPaths, AsksPlan, AsksRename, AsksSought, HasNumber, HasText, IsOneOf, MayHaveLong, MayHaveNumber, MayHaveText, gives, gives_no_geometry};
+ghost use Rattle.ubi_commands.specs.CommandLine.{AsksAsked, AsksBlank, AsksChange, AsksDump, AsksExtract, AsksKey, AsksNewImage, AsksNumbers, AsksPart, AsksPaths, AsksPlan, AsksRename, AsksSought, HasNumber, HasText, MayHaveLong, MayHaveNumber, MayHaveText, gives, gives_no_geometry};
+ghost use Rattle.ubi_commands.specs.inner.CommandLine.{IsOneOf};
 ghost use Rattle.ubi_commands.specs.Dump.{greatest_dump};
 ghost use Rattle.ubi_commands.specs.inner.CommandLine.{words_in};
 

@@ -4,7 +4,7 @@ ghost use Rattle.std.specs.Prelude.{◌≡◌, IfOk, false};
 ghost use Rattle.clap.specs.Built.{subcommand_names};
 ghost use Rattle.clap.specs.Simple.{app_of};
 ghost use Rattle.clap.specs.Walk.{rule_of};
-ghost use Rattle.ubi_commands.specs.Commands.{command_names};
+ghost use Rattle.ubi_commands.specs.inner.CommandLine.{command_names};
 ghost use Rattle.ubi_commands.specs.Commands.{tool as whole};
 ghost use Rattle.ubi_commands.specs.inner.CommandLine.{bare_tool, command_row, rule, with_commands, with_rows};
 

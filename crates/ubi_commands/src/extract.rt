@@ -5,7 +5,8 @@ ghost use Rattle.std.specs.Result.{result_map_both};
 ghost use Rattle.ubi_scan.specs.Image.{image_of};
 ghost use Rattle.ubi_scan.specs.Source.{Narrows, WhereHeld};
 ghost use Rattle.ubi_commands.specs.AfterRun.{WhereNotDone, after_run};
-ghost use Rattle.ubi_commands.specs.Extract.{Extracts, ExtractsFrom, IsExtractError, IsExtractFault, RefusesToRead, read_refusal};
+ghost use Rattle.ubi_commands.specs.Extract.{Extracts, ExtractsFrom, IsExtractError, RefusesToRead, read_refusal};
+ghost use Rattle.ubi_commands.specs.inner.Extracting.{IsExtractFault};
 ghost use Rattle.ubi_commands.specs.inner.Ended.{IsUntold};
 ghost use Rattle.ubi_volume.specs.Places.{ArePlacesOf};
 

@@ -5,10 +5,12 @@ ghost use Rattle.std.specs.Prelude.{◌≡◌, ◌≢◌, ◌+◌, ◌^◌, ◌�
 ghost use Rattle.ubi_scan.specs.Source.{Narrows, holds, memory};
 ghost use Rattle.ubi_scan.specs.declared.detect.Detected.{Detected};
 ghost use Rattle.ubi_commands.specs.Answer.{Gives, says};
-ghost use Rattle.ubi_commands.specs.Dump.{IsPartOf, greatest_dump, misfit_of, seen, told_dump};
+ghost use Rattle.ubi_commands.specs.Dump.{greatest_dump, misfit_of, seen, told_dump};
+ghost use Rattle.ubi_commands.specs.inner.Kept.{IsPartOf};
 ghost use Rattle.ubi_commands.specs.Lines.{file_line, undetected_side_line};
-ghost use Rattle.ubi_commands.specs.Opened.{IsAtPlaces, IsOpened, IsUnreadOf, WhereAtPlaces};
-ghost use Rattle.ubi_commands.specs.Program.{IsDump, IsToldFirst, IsUnseen, IsUntold, Tells, TellsNothing};
+ghost use Rattle.ubi_commands.specs.inner.Opened.{IsAtPlaces, IsOpened, IsUnreadOf, WhereAtPlaces};
+ghost use Rattle.ubi_commands.specs.Program.{IsDump, IsToldFirst, IsUnseen, IsUntold, TellsNothing};
+ghost use Rattle.ubi_commands.specs.inner.FileAnswers.{Tells};
 ghost use Rattle.ubi_commands.specs.declared.asked.Asked.TheVariants as asked;
 ghost use Rattle.ubi_commands.specs.inner.Ended.{Works};
 

@@ -5,8 +5,9 @@ ghost use Rattle.ubi_media.specs.Geometry.{Sizes};
 ghost use Rattle.ubi_config.specs.Records.{record_in};
 ghost use Rattle.ubi_config.specs.declared.section.Section.{Section};
 ghost use Rattle.ubi_commands.specs.Answer.{Gives, says};
-ghost use Rattle.ubi_commands.specs.Build.{AreBesideOut, AreGathered, AreUnread, IsNoVolume, IsUngathered, config_line};
-ghost use Rattle.ubi_commands.specs.Program.{Tells};
+ghost use Rattle.ubi_commands.specs.Build.{AreBesideOut, AreGathered, IsNoVolume, IsUngathered, config_line};
+ghost use Rattle.ubi_commands.specs.inner.Gathering.{AreUnread};
+ghost use Rattle.ubi_commands.specs.inner.FileAnswers.{Tells};
 ghost use Rattle.ubi_commands.specs.inner.Gathering.{IsFound, IsPartOf, listed};
 
 use crate::disk::Disk;

@@ -4,12 +4,14 @@ ghost use Rattle.std.specs.Io.KnownBytes.{Consumes};
 ghost use Rattle.std.specs.Prelude.{◌≡◌, ◌+◌, ◌*◌, ◌≤◌, IfErr, IfOk, IfSome, List, MatchResult, None, OnErr, codes, vec_len, ℕ};
 ghost use Rattle.ubi_media.specs.Limits.{first_broken};
 ghost use Rattle.ubi_scan.specs.Image.{judged};
-ghost use Rattle.ubi_commands.specs.AfterRun.{IsNoWrite, IsTold};
+ghost use Rattle.ubi_commands.specs.AfterRun.{IsNoWrite};
+ghost use Rattle.ubi_commands.specs.inner.FileAnswers.{IsTold};
 ghost use Rattle.ubi_commands.specs.Answer.{Gives, says};
 ghost use Rattle.ubi_commands.specs.Disk.{IsJudgedOf};
 ghost use Rattle.ubi_commands.specs.Lines.{file_line, geometry_line};
 ghost use Rattle.ubi_commands.specs.Numbers.{sizes_of};
-ghost use Rattle.ubi_commands.specs.Program.{IsRead, IsUnread, Tells};
+ghost use Rattle.ubi_commands.specs.Program.{IsRead, IsUnread};
+ghost use Rattle.ubi_commands.specs.inner.FileAnswers.{Tells};
 ghost use Rattle.ubi_commands.specs.Read.{TakesAtMost};
 ghost use Rattle.ubi_commands.specs.declared.image_file.Unread.TheVariants.{Memory, Told};
 

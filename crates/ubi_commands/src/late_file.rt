@@ -5,7 +5,7 @@ ghost use Rattle.std.specs.Io.{WritesAtMost};
 ghost use Rattle.std.specs.Option.{ForSome};
 ghost use Rattle.std.specs.Prelude.{◌≡◌, ℕ, Bool, IsSome, List, None, OnErr, OnOk, Option, false};
 ghost use Rattle.ubi_commands.specs.Disk.{Files, OthersStay, fresh};
-ghost use Rattle.ubi_commands.specs.Late.{contents_of};
+ghost use Rattle.ubi_commands.specs.inner.Late.{contents_of};
 
 use crate::disk::{Disk, OutputFile};
 use std::fmt::Display;

@@ -5,8 +5,9 @@ ghost use Rattle.ubi_media.specs.Limits.{first_broken};
 ghost use Rattle.ubi_commands.specs.Disk.{Files};
 ghost use Rattle.ubi_commands.specs.Dump.{marks_of, misfit_of, seen, viewed};
 ghost use Rattle.ubi_commands.specs.Numbers.{sizes_of};
-ghost use Rattle.ubi_commands.specs.Opened.{IsAtPlaces, IsOpened, IsUnreadOf, WhereAtPlaces};
-ghost use Rattle.ubi_commands.specs.Program.{IsUnread, IsUnseen, Tells};
+ghost use Rattle.ubi_commands.specs.inner.Opened.{IsAtPlaces, IsOpened, IsUnreadOf, WhereAtPlaces};
+ghost use Rattle.ubi_commands.specs.Program.{IsUnread, IsUnseen};
+ghost use Rattle.ubi_commands.specs.inner.FileAnswers.{Tells};
 
 use crate::asked::Dump;
 use crate::bad_blocks::bad_marks;

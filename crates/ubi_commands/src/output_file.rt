@@ -5,9 +5,9 @@ ghost use Rattle.std.specs.Option.{ForSome};
 ghost use Rattle.std.specs.Prelude.{◌≡◌, IfOk, IsSome, None, OnErr, OnOk, Some, codes, true};
 ghost use Rattle.ubi_commands.specs.Answer.{Gives, says};
 ghost use Rattle.ubi_commands.specs.Disk.{AllStay, IsKept, OthersStay, Receives, Stays, fresh};
-ghost use Rattle.ubi_commands.specs.Late.{contents_of};
+ghost use Rattle.ubi_commands.specs.inner.Late.{contents_of};
 ghost use Rattle.ubi_commands.specs.Lines.{file_line};
-ghost use Rattle.ubi_commands.specs.Program.{WritesFile};
+ghost use Rattle.ubi_commands.specs.inner.FileAnswers.{WritesFile};
 
 use crate::disk::{Disk, OutputFile};
 use crate::late_file::{LateFile, Target};

@@ -8,7 +8,8 @@ ghost use Rattle.ubi_scan.specs.Image.{IsWholeSize};
 ghost use Rattle.ubi_scan.specs.Source.{Narrows, blocks_in};
 ghost use Rattle.ubi_commands.specs.AfterRun.{WhereNotDone, after_run};
 ghost use Rattle.ubi_commands.specs.Answer.{Gives, says};
-ghost use Rattle.ubi_commands.specs.Plan.{AreCut, HasFile, IsCarryFault, cut_text, not_blank_line, plan_lines, step_line, step_words, steps_done};
+ghost use Rattle.ubi_commands.specs.Plan.{IsCarryFault, cut_text, not_blank_line, plan_lines, step_line, step_words, steps_done};
+ghost use Rattle.ubi_commands.specs.inner.Planning.{AreCut, HasFile};
 ghost use Rattle.ubi_volume.specs.Wrote.{All, Wrote};
 
 use crate::lines::{put_number, put_word, refused};

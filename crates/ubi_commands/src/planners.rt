@@ -5,7 +5,7 @@ ghost use Rattle.std.specs.Prelude.{◌≡◌, ◌≢◌, ◌⊎◌, IfOk, None,
 ghost use Rattle.ubi_commands.specs.Change.{ChangesFrom, HasPlan};
 ghost use Rattle.ubi_commands.specs.Disk.{AllStay, Files, OthersStay, Receives, Stays};
 ghost use Rattle.ubi_commands.specs.Dump.{seen};
-ghost use Rattle.ubi_commands.specs.Opened.{IsOpened, IsUnreadOf};
+ghost use Rattle.ubi_commands.specs.inner.Opened.{IsOpened, IsUnreadOf};
 ghost use Rattle.ubi_commands.specs.Program.{OfFile, OfImage, PlanStays, WithList, WritesPlan, avoided};
 ghost use Rattle.ubi_commands.specs.Rename.{HasRename, RenamesFrom};
 

@@ -8,7 +8,7 @@ ghost use Rattle.ubi_scan.specs.Source.{Agreed, Narrows, Source};
 ghost use Rattle.ubi_commands.specs.AfterRun.{IsNoWrite, after_run};
 ghost use Rattle.ubi_commands.specs.inner.Ended.{IsToldOfSides, Works};
 ghost use Rattle.ubi_commands.specs.Answer.{Gives, says};
-ghost use Rattle.ubi_commands.specs.Dump.{IsPartOf};
+ghost use Rattle.ubi_commands.specs.inner.Kept.{IsPartOf};
 ghost use Rattle.ubi_commands.specs.Lines.{unlike_line};
 ghost use Rattle.ubi_commands.specs.Numbers.{sizes_of};
 ghost use Rattle.ubi_commands.specs.Program.{OfAsked, OfBoth, OfFile};

@@ -2,7 +2,7 @@
 
 ghost use Rattle.clap.specs.Simple.{subcommand_rows_of};
 ghost use Rattle.std.specs.Prelude.{◌≡◌, IfOk, OnErr, codes};
-ghost use Rattle.ubi_commands.specs.CommandLine.{IsOneOf};
+ghost use Rattle.ubi_commands.specs.inner.CommandLine.{IsOneOf};
 ghost use Rattle.ubi_commands.specs.Commands.{IsAllElse, IsAnswerTo, IsRequest};
 ghost use Rattle.ubi_commands.specs.Disk.{AllStay};
 ghost use Rattle.ubi_commands.specs.inner.CommandLine.{IsAskedBy, words_in};

@@ -5,7 +5,8 @@ ghost use Rattle.std.specs.Prelude.{◌≡◌, ◌≢◌, ◌+◌, ◌≤◌, If
 ghost use Rattle.ubi_media.specs.Limits.{first_broken};
 ghost use Rattle.ubi_commands.specs.Disk.{IsTextOf};
 ghost use Rattle.ubi_commands.specs.Numbers.{sizes_of};
-ghost use Rattle.ubi_commands.specs.Program.{IsUnread, Tells, text_limit};
+ghost use Rattle.ubi_commands.specs.Program.{IsUnread, text_limit};
+ghost use Rattle.ubi_commands.specs.inner.FileAnswers.{Tells};
 ghost use Rattle.ubi_commands.specs.Read.{TakesAtMost};
 
 use crate::disk::{Disk, WholeFile};

@@ -5,10 +5,12 @@ ghost use Rattle.ubi_media.specs.Limits.{first_broken};
 ghost use Rattle.ubi_commands.specs.Answer.{Gives, says};
 ghost use Rattle.ubi_commands.specs.BadBlocks.{masked};
 ghost use Rattle.ubi_commands.specs.Disk.{Files, IsJudgedOf};
-ghost use Rattle.ubi_commands.specs.Dump.{FitsWhole, IsPartOf, as_read, seen};
+ghost use Rattle.ubi_commands.specs.Dump.{FitsWhole, as_read, seen};
+ghost use Rattle.ubi_commands.specs.inner.Kept.{IsPartOf};
 ghost use Rattle.ubi_commands.specs.Lines.{misfit_line};
 ghost use Rattle.ubi_commands.specs.Numbers.{sizes_of};
-ghost use Rattle.ubi_commands.specs.Program.{IsRead, IsUnseen, Tells};
+ghost use Rattle.ubi_commands.specs.Program.{IsRead, IsUnseen};
+ghost use Rattle.ubi_commands.specs.inner.FileAnswers.{Tells};
 ghost use Rattle.ubi_commands.specs.Views.{pages_of};
 ghost use Rattle.ubi_commands.specs.inner.Kept.{IsReadOf};
 

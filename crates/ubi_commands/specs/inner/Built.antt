@@ -5,7 +5,8 @@ use Rattle.ubi_config.specs.declared.section.Section.{Section}
 use Rattle.ubi_compose.specs.declared.errors.BuildError.{BuildError}
 use Rattle.ubi_compose.specs.declared.errors.BuildError.TheVariants as build
 use Rattle.ubi_commands.specs.Answer.{Gives, says}
-use Rattle.ubi_commands.specs.Build.{AreUnread, IsUnreadLine, image_paths}
+use Rattle.ubi_commands.specs.Build.{IsUnreadLine, image_paths}
+use Rattle.ubi_commands.specs.inner.Gathering.{AreUnread}
 use Rattle.ubi_commands.specs.Compose.{room_line}
 use Rattle.ubi_commands.specs.Lines.{blocks_line, file_line}
 use Rattle.ubi_commands.specs.declared.build.Answers.{Answers}

@@ -14,6 +14,10 @@ use Rattle.ubi_commands.specs.declared.command_line.Need.TheVariants as need
 use Rattle.ubi_commands.specs.declared.command_line.Takes.{Takes}
 use Rattle.ubi_commands.specs.declared.command_line.Takes.TheVariants as takes
 use Rattle.ubi_commands.specs.declared.requests.Request.{Request}
+use Rattle.std.specs.Prelude.{None, Option, ℕ}
+use Rattle.std.specs.Prelude.{map}
+use Rattle.ubi_commands.specs.Tool.{command as takes}
+use Rattle.ubi_commands.specs.Commands.{commands}
 
 -- whether an argument has to be given
 abbrev pub is_needed : Need → Bool
@@ -63,3 +67,12 @@ words_in m = rows_of (found_of m)
 -- the words of the command of this name are the request
 abbrev pub IsAskedBy : Text → List Row → Request → Type 0
 IsAskedBy name words r = (command_name r ≡ name) × Asks words r
+
+-- the answer is one of these, or none where there is none
+abbrev pub IsOneOf : {X : Type 0} → (X → Type 0) → Option X → Type 0
+IsOneOf {X = X} P None = (x : X) → P x → ⊥
+IsOneOf {X = X} P (Some x) = P x
+
+-- their names
+abbrev pub command_names : List (List ℕ)
+command_names = map (λ s. s.name) commands

@@ -8,6 +8,9 @@ use Rattle.ubi_compose.specs.declared.recipe.Part.{Part}
 use Rattle.ubi_commands.specs.Build.{AreGathered, IsUnreadLine, Sized, image_path, len_of, part_at}
 use Rattle.ubi_commands.specs.Disk.{Files}
 use Rattle.ubi_commands.specs.declared.outcome.Outcome.{Outcome}
+use Rattle.std.specs.Prelude.{Contains}
+use Rattle.std.specs.List.{AllByRecursion}
+use Rattle.ubi_commands.specs.Build.{image_paths}
 
 -- the image file of a section was found, if it names one: what that holds, where it is known, and how many bytes it has; and the
 -- line that is answered where it can't be read, or else that of the config
@@ -30,3 +33,8 @@ pub record AreSoFar (d : Files) (s : Sizes) (config : List ℕ) (sections : List
     (held : List (Option (List ℕ))) (n : ℕ) : Type 0 where
   pub gathered : AreGathered d s config sections parts held
   pub total : n ≡ sum_by len_of gathered.sized
+
+-- each is the line of a file that can't be read: of an image file that the sections name, or of the config
+abbrev pub AreUnread : List ℕ → List Section → List Outcome → Type 0
+AreUnread config sections lines =
+    AllByRecursion (λ o. (path : List ℕ) × Contains (config ∷ image_paths config sections) path × IsUnreadLine path o) lines

@@ -3,8 +3,14 @@ use Rattle.std.specs.Prelude.{◌≡◌, ℕ, IfSome, List, drop, length, take}
 use Rattle.ubi_commands.specs.Disk.{Files}
 use Rattle.ubi_commands.specs.Dump.{most_of, whole_len}
 use Rattle.ubi_commands.specs.declared.asked.Dump.{Dump}
+use Rattle.std.specs.Prelude.{◌≤◌}
+use Rattle.ubi_commands.specs.Views.{part_of}
 
 -- these are the bytes that are read of the part of a dump, and n those of its file with those before the part
 pub record IsReadOf (d : Files) (dump : Dump) (path : List ℕ) (read : List ℕ) (n : ℕ) : Type 0 where
   pub bytes : IfSome (d.holds path) (λ all. read ≡ take (most_of dump) (drop dump.part.start all))
   pub len : IfSome (d.holds path) (λ all. n ≡ whole_len dump (length all))
+
+-- these are all bytes of the part of a file, in which it lies
+abbrev pub IsPartOf : Files → Dump → List ℕ → List ℕ → Type 0
+IsPartOf d dump path bytes = IfSome (d.holds path) (λ all. (bytes ≡ part_of dump.part all) × (dump.part.start ≤ length all))

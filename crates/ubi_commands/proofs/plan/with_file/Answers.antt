@@ -1,5 +1,5 @@
 use Rattle.ubi_commands.proofs.Prelude.{refl, refused_file}
-use Rattle.ubi_commands.specs.Plan.{done}
+use Rattle.ubi_commands.specs.inner.Planning.{done}
 use Rattle.ubi_commands.proofs.plan.with_file.Goals as goal
 
 pub returns-in-Ok : goal.returns-in-Ok

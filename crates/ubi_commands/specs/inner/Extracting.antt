@@ -1,0 +1,24 @@
+-- What extracting answers before it writes.
+use Rattle.std.specs.Prelude.{◌≡◌, ℕ, ◌≤◌, ◌⊎◌, List, Option, Ok, length, take}
+use Rattle.std.specs.Io.KnownBytes.{Appends, Keeps}
+use Rattle.ubi_media.specs.Geometry.{Sizes}
+use Rattle.ubi_scan.specs.Image.{Image, image_of}
+use Rattle.ubi_scan.specs.Source.{Agreed, Source, WhereHeld}
+use Rattle.ubi_volume.specs.Accepts.{Accepts}
+use Rattle.ubi_volume.specs.Meant.{Meant}
+use Rattle.ubi_commands.specs.declared.outcome.ToolError.{ToolError}
+use Rattle.ubi_commands.specs.declared.outcome.ToolError.TheVariants as tool
+use Rattle.ubi_commands.specs.declared.volume_key.VolumeKey.{VolumeKey}
+use Rattle.ubi_commands.specs.Extract.{IsExtractError, read_key}
+
+-- a writer received the first of what the volume of an image's meaning reads, perhaps all
+abbrev pub HasFirst : Image → VolumeKey → Option (List ℕ) → Option (List ℕ) → Type 0
+HasFirst image key old new =
+    (m : Meant) × Accepts image m × (text : List ℕ) × (n : ℕ) × (read_key m key ≡ Ok text) × (n ≤ length text) × Appends old new (take n text)
+
+-- why it answers nothing of a source: memory ran out, and the writer received nothing; or, whatever the source may hold, a
+-- read failed, before anything was written or after the first of the text, or a write, as over the bytes
+abbrev pub IsExtractFault : Sizes → Source → Agreed → VolumeKey → Option (List ℕ) → Option (List ℕ) → ToolError → Type 0
+IsExtractFault s k agrees key old new tool.Memory = Keeps old new
+IsExtractFault s k agrees key old new tool.Read = Keeps old new ⊎ WhereHeld agrees (λ bytes. HasFirst (image_of s bytes) key old new)
+IsExtractFault s k agrees key old new tool.Write = WhereHeld agrees (λ bytes. IsExtractError (image_of s bytes) key old new tool.Write)
