@@ -1,5 +1,6 @@
 -- The composer's text on literals: the first line with a cause, and the volumes.
-use Rattle.ubi_compose.proofs.Prelude.{◌≡◌, false, true, [], ◌∷◌, ◌++◌, replicate, refl, ⊤, Some, None, codes, from_entries, digits, decode_pairs, filled, breaks, fields_from, first_fault, VolumeRecord, small, spec_error_text, damaged_line, form_of, leb_line, line_of, text_line, updating_line, volume_line, cause_of, content_cause, first_cause, later_cause, record_of, saying, sayings, volume_from, volumes_in, volumes_of, flags_of, hex_of, is_number, kind_of, number_of, shown_bytes, shown_name}
+use Rattle.ubi_compose.proofs.Prelude.{◌≡◌, false, true, [], ◌∷◌, ◌++◌, replicate, refl, ⊤, Some, None, codes, from_entries, digits, decode_pairs, filled, breaks, fields_from, first_fault, VolumeRecord, small, spec_error_text, damaged_line, form_of, leb_line, line_of, text_line, updating_line, volume_line, cause_of, content_cause, first_cause, later_cause, saying, sayings, volume_from, volumes_in, volumes_of, flags_of, hex_of, is_number, kind_of, number_of, shown_bytes, shown_name}
+use Rattle.ubi_compose.specs.Spec.{record_of}
 use Rattle.ubi_media.specs.declared.record.RecFault.TheVariants as fault
 use Rattle.ubi_media.specs.declared.vid.VolKind.TheVariants as kind
 use Rattle.ubi_volume.specs.declared.content.Content.TheVariants as content
