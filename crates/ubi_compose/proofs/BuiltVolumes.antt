@@ -164,7 +164,7 @@ module _ (ps : Parts) (bytes : List ℕ) where
 
     -- all of it
     pub image_is : (table : List ℕ) → table ≡ table_of ps → (spares : ℕ)
-        → image_bytes of table (built_pieces ps) bytes ++ spares_bytes of spares bytes ≡ composed (built ps bytes) spares
+        → image_bytes of table (built_pieces ps) spares bytes ≡ composed (built ps bytes) spares
     image_is table given spares =
         let tables = λ (t : List ℕ). tables_bytes of t bytes in
         let text = table_bytes (records_of (built ps bytes)) in

@@ -42,14 +42,17 @@ blank_filled size text =
     ∙ ap (λ b. is_blank text && b) (blank_all k) ∙ and_true (is_blank text)
 
 -- and stands in its eraseblock anyway
+blank_behind : (k more rest : ℕ) (xs : List ℕ) → k + more ≡ rest → (xs ++ blank k) ++ blank more ≡ xs ++ blank rest
+blank_behind k more rest xs count =
+    append_assoc xs (blank k) (blank more) ∙ ap (λ x. xs ++ x) (replicate-append-replicate k more 255)
+    ∙ ap (λ m. xs ++ blank m) count
+
 filled_again : (n k : ℕ) (xs : List ℕ) → length xs + k ≤ n → filled n (xs ++ blank k) ≡ filled n xs
 filled_again n k xs room =
-    let more : ℕ = n - length (xs ++ blank k) in
     let long = length-append xs (blank k) in
     let size = length-blank k in
-    let count : k + more ≡ n - length xs = omega (arith, long, size, room) in
-    filled-is n (xs ++ blank k) ∙ append_assoc xs (blank k) (blank more)
-    ∙ ap (λ x. xs ++ x) (replicate-append-replicate k more 255) ∙ ap (λ m. xs ++ blank m) count
+    filled-is n (xs ++ blank k)
+    ∙ blank_behind k (n - length (xs ++ blank k)) (n - length xs) xs (omega (arith, long, size, room))
     ∙ sym (filled-is n xs)
 
 laid_filled : (s : Sizes) → IsGeometry s → (seq : ℕ) (h : VidHeader) (size : ℕ) (text : List ℕ) → length text ≤ size

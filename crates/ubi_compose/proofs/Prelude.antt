@@ -170,8 +170,8 @@ pub use Rattle.ubi_compose.specs.declared.piece.Device.{Device}
 pub use Rattle.ubi_compose.specs.declared.piece.Origin.{Origin}
 pub use Rattle.ubi_compose.specs.declared.piece.Piece.{Piece}
 pub use Rattle.ubi_compose.specs.declared.recipe.Part.{Part}
-pub use Rattle.ubi_compose.specs.inner.Building.{HasParts, built_piece, built_pieces, empty_of, is_long, part_at, part_header, piece_of_kind, spares_bytes, stand_in, stand_in_item, table_of}
+pub use Rattle.ubi_compose.specs.inner.Building.{HasParts, built_piece, built_pieces, empty_of, is_long, part_at, part_header, piece_of_kind, stand_in, stand_in_item, table_of}
 pub use Rattle.ubi_compose.specs.inner.Comparing.{AreSameLebs, IsSameLeb, IsSidesError, OfMeanings, TellsVolume}
 pub use Rattle.ubi_compose.specs.inner.Drafts.{AreDrafts, AreFaultless, IsRefused, changed, changed_at, error_at, opened, place_of, read, taken, with_line}
-pub use Rattle.ubi_compose.specs.inner.Pieces.{HasPut, IsFirstFrom, IsInBuffer, IsNext, IsReadIn, IsReadOf, IsReadable, LiesIn, NoRead, Pieces, checked_header, first_lebs, first_volumes, given_check, image_bytes, is_left_out, known_put, leb_written, piece_bytes, piece_text, table_block, tables_bytes, volume_bytes}
+pub use Rattle.ubi_compose.specs.inner.Pieces.{HasPut, IsFirstFrom, IsInBuffer, IsNext, IsReadIn, IsReadOf, IsReadable, LiesIn, NoRead, Pieces, checked_header, first_lebs, first_volumes, given_check, image_bytes, is_left_out, known_put, leb_written, piece_bytes, piece_text, spares_bytes, table_block, tables_bytes, volume_bytes}
 pub use Rattle.ubi_compose.specs.inner.Stored.{dynamic_piece, static_piece, stored_count, stored_piece, stored_pieces}

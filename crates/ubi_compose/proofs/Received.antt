@@ -1,5 +1,5 @@
 -- What a writer received of bytes that a function gives of the source's, in order.
-use Rattle.ubi_compose.proofs.Prelude.{◌≡◌, ℕ, ◌+◌, ◌-◌, ◌<◌, List, [], ◌++◌, refl, ap, sym, ◌∙◌, arith, zero-add, Option, Result, Ok, Err, flat_map, range_with_len, Appends-nil, Sizes, Agreed, Narrows, Source, blocks_in, sound, pieces_more, First, Wanted, Wrote, All, front_of, wrote_where, wrote_text, Splits, error_behind, error_front, wrote_more, those, PutError, HasPut, NoRead, known_put}
+use Rattle.ubi_compose.proofs.Prelude.{◌≡◌, ℕ, ◌+◌, ◌-◌, ◌<◌, List, [], ◌++◌, refl, ap, sym, ◌∙◌, arith, zero-add, Option, Result, Ok, Err, flat_map, range_with_len, Appends-nil, Sizes, Agreed, Narrows, Source, blocks_in, sound, anything, pieces_more, First, Wanted, Wrote, All, front_of, wrote_where, wrote_text, Splits, error_behind, error_front, wrote_more, those, PutError, HasPut, NoRead, known_put}
 use Rattle.ubi_scan.specs.declared.errors.StreamError.TheVariants as stream
 use Rattle.ubi_compose.specs.declared.errors.PutError.TheVariants as put
 
@@ -80,6 +80,11 @@ pub put_narrowed : (old new : Agreed) → Narrows old new → (IsRead Other : �
     → (f : List ℕ → List ℕ) (a b : Option (List ℕ)) (m : ℕ) (r : Result ℕ PutError) → HasPut IsRead old a b f m r
     → HasPut Other new a b f m r
 put_narrowed old new narrows IsRead Other names f = put_where old new narrows IsRead Other names f f (λ bytes holds. refl)
+
+-- what a call wrote that reads nothing it wrote whatever the source holds
+pub put_anyway : (IsRead : ℕ → Type 0) (agrees : Agreed) (f : List ℕ → List ℕ) (a b : Option (List ℕ)) (m : ℕ)
+    (r : Result ℕ PutError) → HasPut NoRead anything a b f m r → HasPut IsRead agrees a b f m r
+put_anyway IsRead agrees f = put_narrowed anything agrees (λ bytes holds. tt) NoRead IsRead (λ n h. absurd h) f
 
 -- a call that reads nothing changes nothing of what is known
 pub known_kept : (agrees : Agreed) (a b : Option (List ℕ)) (f : List ℕ → List ℕ) (m : ℕ) (r : Result ℕ PutError)

@@ -1,5 +1,5 @@
 -- The normal image of an image whose places are known, by their pieces; and what a writer received of it.
-use Rattle.ubi_compose.proofs.Prelude.{◌≡◌, ℕ, ◌+◌, ◌*◌, ◌/◌, ◌<◌, ◌≤◌, inr, List, [], ◌++◌, length, take, refl, ap, sym, ◌∙◌, subst, arith, IfSome, Option, Some, None, flat_map, option_map, option_map_or, range_with_len, Appends, append_assoc, take_all, Sizes, slots, VolumeRecord, image_of, same_range, Agreed, Source, blocks_in, Records, table_bytes, Meant, ArePlaces, AreWithin, ArePlacesOf, CaseFits, Placed, case_of, PlaceContent, Volume, same_Some, blocks_of, laid_bytes, layout_block, new_ec, normal_bytes, volume_blocks, IsNormaliseToError, IsNormalisedTo, All, First, NotAll, Wrote, those, mul-div_cancel, Device, IsReadIn, first_volumes, image_bytes, tables_bytes, volume_bytes, stored_count, stored_piece, stored_pieces, HasGot, record_of}
+use Rattle.ubi_compose.proofs.Prelude.{◌≡◌, ℕ, ◌+◌, ◌*◌, ◌/◌, ◌<◌, ◌≤◌, inr, List, [], ◌++◌, length, take, refl, ap, sym, ◌∙◌, subst, arith, IfSome, Option, Some, None, flat_map, option_map, option_map_or, range_with_len, Appends, append_assoc, append-nil, take_all, Sizes, slots, VolumeRecord, image_of, same_range, Agreed, Source, blocks_in, Records, table_bytes, Meant, ArePlaces, AreWithin, ArePlacesOf, CaseFits, Placed, case_of, PlaceContent, Volume, same_Some, blocks_of, laid_bytes, layout_block, new_ec, normal_bytes, volume_blocks, IsNormaliseToError, IsNormalisedTo, All, First, NotAll, Wrote, those, mul-div_cancel, Device, IsReadIn, first_volumes, image_bytes, tables_bytes, volume_bytes, stored_count, stored_piece, stored_pieces, HasGot, record_of}
 use Rattle.std.specs.FinMap as finite
 use Rattle.ubi_scan.specs.declared.errors.StreamError.TheVariants as stream
 use Rattle.ubi_compose.proofs.EntriesByNumber.{entries_by_number, flat_map-flat_map}
@@ -62,18 +62,20 @@ module _ (p : Placed) (n : ℕ) (within : AreWithin n p) (image : List ℕ) (pla
       ∙ ap (λ (t : Records). tables_bytes (record { geometry = z; image_seq = seq }) (table_bytes t) image ++ g z seq)
       (sym places.records)
 
-  pub image_is : normal_bytes m ≡ image_bytes (d p image) (table_bytes p.records) (stored_pieces p) image
+  pub image_is : normal_bytes m ≡ image_bytes (d p image) (table_bytes p.records) (stored_pieces p) 0 image
   image_is = whole (s p image) p.image_seq places.accepted.accepted.means.sizes (sym places.image_seq)
       ∙ ap (λ vs. tables_bytes (d p image) (table_bytes p.records) image ++ vs) volumes_are
+      ∙ sym (append-nil (tables_bytes (d p image) (table_bytes p.records) image
+      ++ first_volumes (d p image) (stored_pieces p) (slots (s p image)) image))
 
 module _ (z : Sizes) (k : Source) (agrees : Agreed) (p : Placed) (of : ArePlacesOf z k agrees p) where
   -- what is written
   abbrev pub normal : List ℕ → List ℕ
-  normal = image_bytes (record { geometry = z; image_seq = p.image_seq }) (table_bytes p.records) (stored_pieces p)
+  normal = image_bytes (record { geometry = z; image_seq = p.image_seq }) (table_bytes p.records) (stored_pieces p) 0
 
   normal_is : (image : List ℕ) (holds : agrees image) → normal_bytes (of.held image holds).meaning ≡ normal image
   normal_is image holds = subst (λ (z : Sizes). (h : ArePlaces (image_of z image) p) → normal_bytes h.meaning
-      ≡ image_bytes (record { geometry = z; image_seq = p.image_seq }) (table_bytes p.records) (stored_pieces p) image)
+      ≡ image_bytes (record { geometry = z; image_seq = p.image_seq }) (table_bytes p.records) (stored_pieces p) 0 image)
       of.sizes (image_is p (blocks_in z k) of.within image) (of.held image holds)
 
   -- a read that failed was one of an eraseblock of the source, and is told of it

@@ -1,21 +1,18 @@
 //! The normal image of volumes whose bytes lie in a source, into a writer.
 
-ghost use Rattle.std.specs.Prelude.{◌≡◌, ◌≢◌, ◌++◌, ◌+◌, ◌<◌, ◌≤◌, ◌^◌, Err, IfErr, IfOk, MatchOption, OnOk, length};
+ghost use Rattle.std.specs.Prelude.{◌≡◌, ◌≢◌, ◌+◌, ◌<◌, ◌≤◌, Err, IfErr, IfOk, MatchOption, OnOk};
 ghost use Rattle.ubi_media.specs.Geometry.{leb_size};
 ghost use Rattle.ubi_scan.specs.Image.{image_of};
 ghost use Rattle.ubi_scan.specs.Source.{Narrows, Source, WhereHeld};
-ghost use Rattle.ubi_scan.specs.inner.Held.{anything};
 ghost use Rattle.ubi_volume.specs.Accepts.{Accepts};
 ghost use Rattle.ubi_volume.specs.Wrote.{All, Wrote};
 ghost use Rattle.ubi_compose.specs.Building.{CanBuild, IsBuildError, IsPartOf, IsRefused, NamesVolume, WhereNotBegun, image_built, known_after};
 ghost use Rattle.ubi_compose.specs.Built.{Reaches, built, most_blocks};
 ghost use Rattle.ubi_compose.specs.Composed.{composed};
-ghost use Rattle.ubi_compose.specs.inner.Building.{HasParts, built_pieces, spares_bytes};
-ghost use Rattle.ubi_compose.specs.inner.Pieces.{HasPut, IsReadIn, NoRead, image_bytes, known_put};
+ghost use Rattle.ubi_compose.specs.inner.Building.{built_pieces};
+ghost use Rattle.ubi_compose.specs.inner.Pieces.{HasPut, IsReadIn, image_bytes, known_put};
 
-use crate::buffer::lay_spare;
 use crate::errors::{BuildError, PutError};
-use crate::piece::Device;
 use crate::pieces::piece_count;
 use crate::putting::put_image;
 use crate::recipe::{Part, Recipe};
@@ -23,7 +20,6 @@ use crate::records::recipe_text;
 use std::alloc::Global;
 use std::io::Write;
 use ubi_scan::BlockSource;
-use ubi_volume::write_all;
 
 /// How many eraseblocks the normal image has at most: as many as it has where no piece is 0xFF throughout.
 fn most_blocks(recipe: &Recipe) -> u64
@@ -46,60 +42,6 @@ fn part_beyond(recipe: &Recipe, size: u64) -> Option<&Part>
         .parts()
         .iter()
         .find(|part| part.start > size || part.len > size - part.start)
-}
-
-/// Writes so many spare eraseblocks.
-///
-/// # Errors
-///
-/// A write failed.
-fn put_spares<W: Write>(
-    device: &Device,
-    count: u32,
-    buffer: &mut [u8],
-    writer: &mut W,
-    done: u64,
-) -> Result<u64, PutError>
-    requires room { length buffer.old ≡ device.now.geometry.peb_size }
-    requires few { done ≤ 2 ^ 63 }
-    ensures { HasPut NoRead anything (W.contents writer.old) (W.contents writer.new) (spares_bytes device.now count) done result }
-{
-    prove!(device.geometry.peb_size() >= 64);
-    lay_spare(buffer, &device.geometry, device.image_seq);
-    let mut total = done;
-    for _ in 0..count {
-        match write_all(writer, buffer) {
-            Ok(()) => total += buffer.len() as u64,
-            Err(more) => return Err(PutError::Write(total + more as u64)),
-        }
-    }
-    Ok(total)
-}
-
-/// Writes the normal image and the spare eraseblocks. The bytes of the table are given.
-///
-/// # Errors
-///
-/// A read failed, or a write.
-fn put_all<S: BlockSource, W: Write>(
-    device: &Device,
-    recipe: &Recipe,
-    spares: u32,
-    table: &[u8],
-    source: &mut S,
-    buffer: &mut [u8],
-    writer: &mut W,
-) -> Result<u64, PutError>
-    requires sizes { recipe.now.sizes ≡ device.now.geometry }
-    requires source { HasParts (S.known source.old).size recipe.now.of }
-    requires fits { length table.now ≤ leb_size device.now.geometry }
-    requires room { length buffer.old ≡ device.now.geometry.peb_size }
-    ensures known { S.known source.new ≡ known_put (S.known source.old) result }
-    ensures narrows { Narrows (S.agrees source.old) (S.agrees source.new) }
-    ensures put { HasPut (IsReadIn device.now.geometry (built_pieces recipe.now) (S.failed_at source.new)) (S.agrees source.new) (W.contents writer.old) (W.contents writer.new) (λ bytes. image_bytes device.now table.now (built_pieces recipe.now) bytes ++ spares_bytes device.now spares bytes) 0 result }
-{
-    let total = put_image(device, table, recipe, source, buffer, writer)?;
-    put_spares(device, spares, buffer, writer, total)
 }
 
 /// Judges whether an image can be built of a source of a size, with so many spare eraseblocks.
@@ -154,7 +96,7 @@ pub fn build_to<S: BlockSource, W: Write>(
     let table = recipe_text(alloc, recipe)?;
     let mut buffer = Vec::from_elem(alloc, 0u8, device.geometry.peb_size() as usize)?;
     let (table, buffer) = (table.as_slice(), buffer.as_mut_slice());
-    match put_all(&device, recipe, spares, table, source, buffer, writer) {
+    match put_image(&device, table, recipe, spares, source, buffer, writer) {
         Ok(total) => Ok(total),
         Err(PutError::Read(id, written)) => Err(BuildError::Read(id, written)),
         Err(PutError::Write(written)) => Err(BuildError::Write(written)),

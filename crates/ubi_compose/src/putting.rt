@@ -1,16 +1,16 @@
 //! The one writer of normal images: each eraseblock is laid out in a buffer, and written.
 //!
 //! Each buffer has the size of an eraseblock. `done` is how many bytes were written before, and what is given how many are
-//! written then.
+//! written then. A call fails where a write fails, and one with a source where a read does.
 
-ghost use Rattle.std.specs.Prelude.{◌≡◌, ℕ, ◌+◌, ◌*◌, ◌<◌, ◌≤◌, ◌^◌, IfOk, IsTrue, Ok, OnErr, OnOk, drop, length, take};
+ghost use Rattle.std.specs.Prelude.{◌≡◌, ℕ, ◌+◌, ◌<◌, ◌≤◌, ◌^◌, IfOk, drop, length, take};
 ghost use Rattle.ubi_media.specs.Geometry.{leb_size, slots};
-ghost use Rattle.ubi_scan.specs.Source.{Narrows, WhereHeld, after_read};
+ghost use Rattle.ubi_scan.specs.Source.{Narrows};
 ghost use Rattle.ubi_scan.specs.inner.Held.{anything};
 ghost use Rattle.ubi_compose.specs.Normal.{laid_bytes, new_ec};
-ghost use Rattle.ubi_compose.specs.inner.Pieces.{HasPut, IsInBuffer, IsReadIn, IsReadOf, LiesIn, NoRead, first_volumes, image_bytes, known_put, piece_bytes, table_block, tables_bytes, volume_bytes};
+ghost use Rattle.ubi_compose.specs.inner.Pieces.{HasPut, IsInBuffer, IsReadIn, IsReadOf, LiesIn, NoRead, first_volumes, image_bytes, known_put, piece_bytes, spares_bytes, table_block, tables_bytes, volume_bytes};
 
-use crate::buffer::lay;
+use crate::buffer::{lay, lay_spare};
 use crate::errors::PutError;
 use crate::header::copy_header;
 use crate::piece::{Device, Piece};
@@ -22,10 +22,6 @@ use ubi_scan::BlockSource;
 use ubi_volume::write_all;
 
 /// Writes an eraseblock with a header. Its text is the first `len` bytes of the logical eraseblock in the buffer.
-///
-/// # Errors
-///
-/// A write failed.
 fn put_laid<W: Write>(
     device: &Device,
     header: &VidHeader,
@@ -48,10 +44,6 @@ fn put_laid<W: Write>(
 }
 
 /// Writes the eraseblock of a piece whose bytes stand in the buffer, unless it is left out.
-///
-/// # Errors
-///
-/// A write failed.
 fn put_read<W: Write>(
     device: &Device,
     piece: &Piece,
@@ -73,10 +65,6 @@ fn put_read<W: Write>(
 }
 
 /// Reads a piece, and writes its eraseblock unless it is left out.
-///
-/// # Errors
-///
-/// The read failed, or a write.
 fn put_piece<S: BlockSource, W: Write>(
     device: &Device,
     piece: &Piece,
@@ -100,10 +88,6 @@ fn put_piece<S: BlockSource, W: Write>(
 }
 
 /// Writes the eraseblocks of a volume.
-///
-/// # Errors
-///
-/// A read failed, or a write.
 fn put_volume<C: Contents, S: BlockSource, W: Write>(
     device: &Device,
     contents: &C,
@@ -133,10 +117,6 @@ fn put_volume<C: Contents, S: BlockSource, W: Write>(
 }
 
 /// Writes the eraseblocks of the volumes, by rising number.
-///
-/// # Errors
-///
-/// A read failed, or a write.
 fn put_volumes<C: Contents, S: BlockSource, W: Write>(
     device: &Device,
     contents: &C,
@@ -162,10 +142,6 @@ fn put_volumes<C: Contents, S: BlockSource, W: Write>(
 }
 
 /// Writes a copy of the volume table, 0 or 1, whose bytes are given.
-///
-/// # Errors
-///
-/// A write failed.
 fn put_table<W: Write>(
     device: &Device,
     copy: u32,
@@ -200,10 +176,6 @@ fn fill(buffer: &mut [u8], begin: usize, text: &[u8])
 }
 
 /// Writes both copies.
-///
-/// # Errors
-///
-/// A write failed.
 fn put_tables<W: Write>(
     device: &Device,
     table: &[u8],
@@ -220,15 +192,36 @@ fn put_tables<W: Write>(
     put_table(device, 1, table, buffer, writer, first)
 }
 
-/// Writes a normal image: two copies of the table, whose bytes are given, and the volumes.
-///
-/// # Errors
-///
-/// A read failed, or a write.
+/// Writes so many spare eraseblocks.
+fn put_spares<W: Write>(
+    device: &Device,
+    count: u32,
+    buffer: &mut [u8],
+    writer: &mut W,
+    done: u64,
+) -> Result<u64, PutError>
+    requires room { length buffer.old ≡ device.now.geometry.peb_size }
+    requires few { done ≤ 2 ^ 63 }
+    ensures { HasPut NoRead anything (W.contents writer.old) (W.contents writer.new) (spares_bytes device.now count) done result }
+{
+    prove!(device.geometry.peb_size() >= 64);
+    lay_spare(buffer, &device.geometry, device.image_seq);
+    let mut total = done;
+    for _ in 0..count {
+        match write_all(writer, buffer) {
+            Ok(()) => total += buffer.len() as u64,
+            Err(more) => return Err(PutError::Write(total + more as u64)),
+        }
+    }
+    Ok(total)
+}
+
+/// Writes a normal image: two copies of the table, whose bytes are given, the volumes, and behind them so many spare eraseblocks.
 pub(crate) fn put_image<C: Contents, S: BlockSource, W: Write>(
     device: &Device,
     table: &[u8],
     contents: &C,
+    spares: u32,
     source: &mut S,
     buffer: &mut [u8],
     writer: &mut W,
@@ -239,9 +232,9 @@ pub(crate) fn put_image<C: Contents, S: BlockSource, W: Write>(
     requires room { length buffer.old ≡ device.now.geometry.peb_size }
     ensures known { S.known source.new ≡ known_put (S.known source.old) result }
     ensures narrows { Narrows (S.agrees source.old) (S.agrees source.new) }
-    ensures put { HasPut (IsReadIn device.now.geometry (C.pieces contents.now) (S.failed_at source.new)) (S.agrees source.new) (W.contents writer.old) (W.contents writer.new) (image_bytes device.now table.now (C.pieces contents.now)) 0 result }
-    ensures most { IfOk result (λ n. n ≤ 2 ^ 63) }
+    ensures put { HasPut (IsReadIn device.now.geometry (C.pieces contents.now) (S.failed_at source.new)) (S.agrees source.new) (W.contents writer.old) (W.contents writer.new) (image_bytes device.now table.now (C.pieces contents.now) spares) 0 result }
 {
     let front = put_tables(device, table, buffer, writer)?;
-    put_volumes(device, contents, source, buffer, writer, front)
+    let normal = put_volumes(device, contents, source, buffer, writer, front)?;
+    put_spares(device, spares, buffer, writer, normal)
 }

@@ -1,4 +1,5 @@
-//! Reading a piece of a normal image into a buffer of the size of an eraseblock, and what stands there then.
+//! Reading a piece of a normal image into a buffer of the size of an eraseblock, and what stands there then. A call that reads fails
+//! where the read does.
 
 ghost use Rattle.std.specs.Prelude.{◌≡◌, ℕ, ◌+◌, ◌*◌, ◌/◌, ◌<◌, ◌≤◌, List, OnErr, OnOk, drop, length, slice_range, take};
 ghost use Rattle.ubi_media.specs.Geometry.{leb_size};
@@ -11,10 +12,6 @@ use ubi_media::{Geometry, VidHeader, VidRead, VolKind, crc, is_blank, read_vid};
 use ubi_scan::{BlockSource, SourceFault};
 
 /// Reads an eraseblock.
-///
-/// # Errors
-///
-/// The read failed.
 fn fetch_block<S: BlockSource>(
     geometry: &Geometry,
     p: u32,
@@ -32,10 +29,6 @@ fn fetch_block<S: BlockSource>(
 }
 
 /// Reads bytes to where the data of an eraseblock begin.
-///
-/// # Errors
-///
-/// The read failed.
 fn fetch_bytes<S: BlockSource>(
     geometry: &Geometry,
     start: u64,
@@ -56,10 +49,6 @@ fn fetch_bytes<S: BlockSource>(
 }
 
 /// Reads a piece to where the data of an eraseblock begin; one that stands in an eraseblock with all of this.
-///
-/// # Errors
-///
-/// The read failed.
 pub fn fetch<S: BlockSource>(
     geometry: &Geometry,
     piece: &Piece,

@@ -44,7 +44,7 @@ pub fn normalise_to<S: BlockSource, W: Write>(
         image_seq: places.image_seq(),
     };
     let buffer = buffer.as_mut_slice();
-    match put_image(&device, text.as_slice(), &places, source, buffer, writer) {
+    match put_image(&device, text.as_slice(), &places, 0, source, buffer, writer) {
         Ok(total) => Ok(total),
         Err(PutError::Read(p, written)) => Err(StreamError::Read(p, written)),
         Err(PutError::Write(written)) => Err(StreamError::Write(written)),

@@ -14,9 +14,7 @@ use Rattle.ubi_volume.specs.declared.content.Content.{Content}
 use Rattle.ubi_volume.specs.declared.content.Content.TheVariants as content
 use Rattle.ubi_volume.specs.declared.content.Volume.{Volume}
 use Rattle.ubi_compose.specs.Built.{Parts, Reaches, pieces_of}
-use Rattle.ubi_compose.specs.Composed.{spare}
 use Rattle.ubi_compose.specs.Normal.{piece_header}
-use Rattle.ubi_compose.specs.declared.piece.Device.{Device}
 use Rattle.ubi_compose.specs.declared.piece.Origin.TheVariants as origin
 use Rattle.ubi_compose.specs.declared.piece.Piece.{Piece}
 use Rattle.ubi_compose.specs.declared.recipe.Part.{Part}
@@ -77,7 +75,3 @@ built_pieces ps = record {
   at = λ id lnum. option_map (λ p. built_piece ps.sizes p lnum) (part_at ps id);
   count = λ id. option_map_or (pieces_of ps.sizes) (part_at ps id) 0;
 }
-
--- n spare eraseblocks
-abbrev pub spares_bytes : Device → ℕ → List ℕ → List ℕ
-spares_bytes d n bytes = flat_map (λ _. spare d.geometry d.image_seq) (range_with_len 0 n)

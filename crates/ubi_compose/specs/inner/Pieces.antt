@@ -16,6 +16,7 @@ use Rattle.ubi_scan.specs.Members.{layout}
 use Rattle.ubi_scan.specs.Source.{Agreed, Source, blocks_of, failed}
 use Rattle.ubi_volume.specs.Wrote.{All, First, NotAll, Wrote}
 use Rattle.ubi_compose.specs.Building.{those}
+use Rattle.ubi_compose.specs.Composed.{spare}
 use Rattle.ubi_compose.specs.Normal.{laid_bytes, new_ec}
 use Rattle.ubi_compose.specs.declared.errors.PutError.{PutError}
 use Rattle.ubi_compose.specs.declared.errors.PutError.TheVariants as put
@@ -139,9 +140,14 @@ table_block d table copy bytes =
 abbrev pub tables_bytes : Device → List ℕ → List ℕ → List ℕ
 tables_bytes d table bytes = table_block d table 0 bytes ++ table_block d table 1 bytes
 
--- the tables and the volumes
-abbrev pub image_bytes : Device → List ℕ → Pieces → List ℕ → List ℕ
-image_bytes d table ps bytes = tables_bytes d table bytes ++ first_volumes d ps (slots d.geometry) bytes
+-- n spare eraseblocks
+abbrev pub spares_bytes : Device → ℕ → List ℕ → List ℕ
+spares_bytes d n bytes = flat_map (λ _. spare d.geometry d.image_seq) (range_with_len 0 n)
+
+-- the tables, the volumes and n spare eraseblocks
+abbrev pub image_bytes : Device → List ℕ → Pieces → ℕ → List ℕ → List ℕ
+image_bytes d table ps n bytes =
+    (tables_bytes d table bytes ++ first_volumes d ps (slots d.geometry) bytes) ++ spares_bytes d n bytes
 
 -- no read failed
 abbrev pub NoRead : ℕ → Type 0

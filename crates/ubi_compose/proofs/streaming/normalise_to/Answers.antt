@@ -18,7 +18,7 @@ received : (g : given.Over) (c : After-put_image g) (r : Result ℕ PutError)
     (g.S.BlockSource.failed_at c.put_image.new.source)) (g.S.BlockSource.agrees c.put_image.new.source)
     (g.W.Write.contents c.args.writer.now) (g.W.Write.contents c.put_image.new.writer)
     (image_bytes (record { geometry = c.args.geometry.now; image_seq = c.image_seq.result }) c.as_slice.result.now
-    (stored_pieces c.in_ok-places.places)) 0 r
+    (stored_pieces c.in_ok-places.places) 0) 0 r
     → HasPut (IsReadIn c.args.geometry.now (stored_pieces c.in_ok-places.places)
     (g.S.BlockSource.failed_at c.put_image.new.source)) (g.S.BlockSource.agrees c.put_image.new.source)
     (g.W.Write.contents c.args.writer.now) (g.W.Write.contents c.put_image.new.writer)
@@ -29,7 +29,7 @@ received g c r h =
     let f = λ (n : ℕ) (t : List ℕ). HasPut (IsReadIn c.args.geometry.now (stored_pieces p)
     (g.S.BlockSource.failed_at c.put_image.new.source)) (g.S.BlockSource.agrees c.put_image.new.source)
     (g.W.Write.contents c.args.writer.now) (g.W.Write.contents c.put_image.new.writer)
-    (image_bytes (record { geometry = c.args.geometry.now; image_seq = n }) t (stored_pieces p)) 0 r in
+    (image_bytes (record { geometry = c.args.geometry.now; image_seq = n }) t (stored_pieces p) 0) 0 r in
     subst (λ n. f n (table_bytes p.records)) c.image_seq.ensures
     (subst (f c.image_seq.result)
     (c.as_slice.ensures.value ∙ c.in_ok-text.ensures.bytes ∙ ap table_bytes c.table.ensures) h)

@@ -1,5 +1,5 @@
 use Rattle.ubi_compose.proofs.Prelude.{◌+◌, ◌*◌, ◌≤◌, anything, All, Wrote, those, spares_bytes}
-use Rattle.ubi_compose.proofs.building.put_spares.Given as goal
+use Rattle.ubi_compose.proofs.putting.put_spares.Given as goal
 
 abbrev pub invariant-loop : goal.invariant-loop
 invariant-loop g l = record {

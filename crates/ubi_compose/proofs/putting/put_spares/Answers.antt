@@ -1,7 +1,7 @@
 use Rattle.ubi_compose.proofs.Prelude.{◌≡◌, ℕ, ◌+◌, ◌*◌, ◌∙◌, List, Ok, length, refl, sym, arith, anything, sound, wrote_cut, wrote_text, those, spare, NoRead}
 use Rattle.ubi_compose.specs.declared.errors.PutError.TheVariants as put
 use Rattle.ubi_compose.proofs.Received.{both_put, firsts, next, next_failed}
-use Rattle.ubi_compose.proofs.building.put_spares.Goals as goal
+use Rattle.ubi_compose.proofs.putting.put_spares.Goals as goal
 
 pub returns-in-Err : goal.returns-in-Err
 returns-in-Err g c =
