@@ -1,5 +1,5 @@
 -- The parts of volumes that have a meaning together.
-use Rattle.ubi_compose.proofs.Prelude.{◌≡◌, ◌==◌, ℕ, zero, suc, ◌+◌, ◌*◌, ◌^◌, ◌<◌, ◌≤◌, true, false, cond, List, [], ◌∷◌, length, map, refl, ap, sym, ◌∙◌, subst, arith, inl, inr, Contains, None, Option, Some, find, fold, slice_get, sum_by, nat_tests, sum_by-cons, get_or_from_slice_get, slice_get-get_or, slice_get-map, slice_get_within, same_Some, blank, slots, rec_fault, usable, RecFault, within_or_past, usable_some, Source, length-blank, IsItem, NoCause, Volume, pieces_few, HaveMeaning, Parts, Reaches, item_of, items_of, most_blocks, pieces_of, text_of, HasParts, part_at, Part}
+use Rattle.ubi_compose.proofs.Prelude.{◌≡◌, ◌==◌, ℕ, zero, suc, ◌+◌, ◌*◌, ◌^◌, ◌<◌, ◌≤◌, true, false, cond, List, [], ◌∷◌, get_or, length, map, refl, ap, sym, ◌∙◌, subst, arith, inl, inr, Contains, None, Option, Some, find, fold, slice_get, sum_by, nat_tests, sum_by-cons, get_or_from_slice_get, slice_get-get_or, slice_get-map, slice_get_within, same_Some, blank, slots, rec_fault, usable, RecFault, within_or_past, usable_some, Source, length-blank, IsItem, NoCause, Volume, pieces_few, HaveMeaning, Parts, Reaches, item_of, items_of, most_blocks, pieces_of, text_of, HasParts, part_at, Part}
 use Rattle.std.specs.Option.{option_map}
 use Rattle.ubi_volume.specs.declared.errors.MeaningCause.TheVariants as cause
 use Rattle.ubi_compose.proofs.BuiltContents.{long_misfits, text_size}
@@ -29,6 +29,13 @@ found_part (x ∷ xs) id p e =
 -- a listed part stands at a place
 pub listed_at : (parts : List Part) (p : Part) → Contains parts p → (i : ℕ) × (slice_get parts i ≡ Some p)
 listed_at parts p at = (at.0, slice_get-get_or parts at.0 p at.1 ∙ ap Some at.2)
+
+-- and the one at an index at it
+pub listed_here : (parts xs : List Part) (i : ℕ) (p : Part) → xs ≡ parts → i < length xs → p ≡ get_or xs i p
+    → (slice_get parts i ≡ Some p) × (i < length parts)
+listed_here parts xs i p same inside is =
+    let here : i < length parts = subst (λ xs. i < length xs) same inside in
+    (slice_get-get_or parts i p here ∙ ap Some (sym (is ∙ ap (λ xs. get_or xs i p) same)), here)
 
 pub item_at : (f : Part → ℕ × Volume) (parts : List Part) (i : ℕ) (p : Part) → slice_get parts i ≡ Some p
     → IsItem (map f parts) i (f p)

@@ -9,6 +9,14 @@ entry_in e = (e.0, e.1.entry)
 records_listed : (m : Meant) → finite.entries (records_of m).of ≡ map entry_in (finite.entries m.volumes)
 records_listed m = entries_revalued record_at m.volumes
 
+-- where an entry stands that a table lists
+pub listed_place : (t u : Records) (es : List (ℕ × VolumeRecord)) (i : ℕ) (e : ℕ × VolumeRecord) → u ≡ t
+    → es ≡ finite.entries u.of → i < length es → e ≡ get_or es i e
+    → (e ≡ get_or (finite.entries t.of) i e) × (i < length (finite.entries t.of))
+listed_place t u es i e same listed inside is =
+    let all = listed ∙ ap (λ (x : Records). finite.entries x.of) same in
+    (is ∙ ap (λ es. get_or es i e) all, subst (λ es. i < length es) all inside)
+
 module _ (s : Sizes) (p : Placed) where
   listed : (image : List ℕ) (h : ArePlaces (image_of s image) p)
       → finite.entries p.records.of ≡ map entry_in (finite.entries h.meaning.volumes)

@@ -108,26 +108,30 @@ module _ (p : Placed) (image : List ℕ) where
       abbrev laid_leb : ℕ × List ℕ → List ℕ
       laid_leb e = laid_bytes s (new_ec p.image_seq) (dynamic_block pad id e)
 
-      leb_reads : (n : ℕ) → n < r.reserved → LebReads s bs id r n (unwrap_or (finite.get l n) (blank size))
-      leb_reads = let all = subst (VolumeReads s bs id r) is reads in all.2
+      leb_reads : (n : ℕ) → n < r.reserved → (o : Option (List ℕ)) → finite.get l n ≡ o
+          → LebReads s bs id r n (unwrap_or o (blank size))
+      leb_reads n below o e = let all = subst (VolumeReads s bs id r) is reads in
+          subst (λ (o : Option (List ℕ)). LebReads s bs id r n (unwrap_or o (blank size))) e (all.2 n below)
 
-      fits : Fits s r (content.Dynamic l)
-      fits = subst (Fits s r) is volume.fits
+      no_blank : (n : ℕ) (x : List ℕ) → finite.get l n ≡ Some x → x ≢ blank size
+      no_blank n x e = subst (λ (o : Option (List ℕ)). IfSome o (λ text. text ≢ blank size)) e
+          (subst (KeepsNoBlank s r) is volume.kept n)
 
-      no_blank : (n : ℕ) → IfSome (finite.get l n) (λ text. text ≢ blank size)
-      no_blank = subst (KeepsNoBlank s r) is volume.kept
+      kept_fits : (n : ℕ) (x : List ℕ) → finite.get l n ≡ Some x → (n < r.reserved) × (length x ≡ size)
+      kept_fits n x e = let fits = subst (Fits s r) is volume.fits in
+          subst (λ (o : Option (List ℕ)). IfSome o (λ text. (n < r.reserved) × (length text ≡ size))) e (fits.2 n)
 
       leb_is : (n : ℕ) → n < r.reserved → (o : Option (List ℕ)) → finite.get l n ≡ o → (w : Option ℕ)
           → finite.get p.winners (id, n) ≡ w
           → option_map_or (λ x. laid_leb (n, x)) o [] ≡ written (option_map (dynamic_piece s id r n) w)
       leb_is n below None e None f = refl
       leb_is n below (Some x) e None f =
-          elim (subst (λ (o : Option (List ℕ)). LebReads s bs id r n (unwrap_or o (blank size))) e (leb_reads n below)) [
+          elim (leb_reads n below (Some x) e) [
             | inl won ↦ elim (found_or_none s p image places (id, n)) [
               | inl found ↦ absurd (let g = sym f ∙ found.1 in cc)
               | inr other ↦ absurd (other won.0 won.1.member)
             ]
-            | inr none ↦ absurd (subst (λ (o : Option (List ℕ)). IfSome o (λ text. text ≢ blank size)) e (no_blank n) none.1)
+            | inr none ↦ absurd (no_blank n x e none.1)
           ]
       leb_is n below o e (Some q) f = by o e
         where
@@ -159,21 +163,16 @@ module _ (p : Placed) (image : List ℕ) where
               → option_map_or (λ x. laid_leb (n, x)) o [] ≡ written (Some (dynamic_piece s id r n q))
           by None e =
               by_blank (is_blank (blank size)) refl
-              ∙ ap (λ x. cond (is_blank x) [] (laid x)) (read_is (blank size)
-              (subst (λ (o : Option (List ℕ)). LebReads s bs id r n (unwrap_or o (blank size))) e (leb_reads n below)))
+              ∙ ap (λ x. cond (is_blank x) [] (laid x)) (read_is (blank size) (leb_reads n below None e))
           by (Some x) e =
-              by_test x (is_blank x) refl
-              (subst (λ (o : Option (List ℕ)). IfSome o (λ text. text ≢ blank size)) e (no_blank n))
-              (subst (λ (o : Option (List ℕ)). IfSome o (λ text. (n < r.reserved) × (length text ≡ size))) e (fits.2 n)).1
-              ∙ ap (λ x. cond (is_blank x) [] (laid x)) (read_is x
-              (subst (λ (o : Option (List ℕ)). LebReads s bs id r n (unwrap_or o (blank size))) e (leb_reads n below)))
+              by_test x (is_blank x) refl (no_blank n x e) (kept_fits n x e).1
+              ∙ ap (λ x. cond (is_blank x) [] (laid x)) (read_is x (leb_reads n below (Some x) e))
 
       all_dynamic : flat_map (laid_bytes s (new_ec p.image_seq)) (volume_blocks s id r (content.Dynamic l))
           ≡ flat_map (λ n. written (stored_piece p id n r place.Dynamic)) (range_with_len 0 r.reserved)
       all_dynamic =
           flat_map-map (laid_bytes s (new_ec p.image_seq)) (dynamic_block pad id) (finite.entries l)
-          ∙ entries_by_number laid_leb l r.reserved (λ n x e.
-          (subst (λ (o : Option (List ℕ)). IfSome o (λ text. (n < r.reserved) × (length text ≡ size))) e (fits.2 n)).0)
+          ∙ entries_by_number laid_leb l r.reserved (λ n x e. (kept_fits n x e).0)
           ∙ same_range _ _ 0 r.reserved (λ n low high.
           leb_is n (omega arith) (finite.get l n) refl (finite.get p.winners (id, n)) refl)
 
