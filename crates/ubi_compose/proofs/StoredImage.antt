@@ -1,5 +1,6 @@
 -- The normal image of an image whose places are known, by their pieces; and what a writer received of it.
-use Rattle.ubi_compose.proofs.Prelude.{◌≡◌, ℕ, ◌+◌, ◌*◌, ◌/◌, ◌<◌, ◌≤◌, inr, List, [], ◌++◌, length, take, refl, ap, sym, ◌∙◌, subst, arith, IfSome, Option, Some, None, flat_map, option_map, option_map_or, range_with_len, Appends, append_assoc, append-nil, take_all, Sizes, slots, VolumeRecord, image_of, same_range, Agreed, Source, blocks_in, Records, table_bytes, Meant, ArePlaces, AreWithin, ArePlacesOf, CaseFits, Placed, case_of, PlaceContent, Volume, same_Some, blocks_of, laid_bytes, layout_block, new_ec, normal_bytes, volume_blocks, IsNormaliseToError, IsNormalisedTo, All, First, NotAll, Wrote, those, mul-div_cancel, Device, IsReadIn, first_volumes, image_bytes, tables_bytes, volume_bytes, stored_count, stored_piece, stored_pieces, HasGot, record_of}
+use Rattle.ubi_compose.proofs.Prelude.{◌≡◌, ℕ, ◌+◌, ◌*◌, ◌/◌, ◌<◌, ◌≤◌, inr, Result, Ok, Err, List, [], ◌++◌, length, take, refl, ap, sym, ◌∙◌, subst, arith, IfSome, Option, Some, None, flat_map, option_map, option_map_or, range_with_len, Appends, append_assoc, append-nil, take_all, Sizes, slots, VolumeRecord, image_of, same_range, Agreed, Source, blocks_in, Records, table_bytes, Meant, ArePlaces, AreWithin, ArePlacesOf, CaseFits, Placed, case_of, PlaceContent, Volume, same_Some, blocks_of, laid_bytes, layout_block, new_ec, normal_bytes, volume_blocks, IsNormaliseToError, IsNormalisedTo, All, First, NotAll, Wrote, those, mul-div_cancel, Device, PutError, HasPut, IsReadIn, first_volumes, image_bytes, tables_bytes, volume_bytes, stored_count, stored_piece, stored_pieces, HasGot, record_of}
+use Rattle.ubi_compose.specs.declared.errors.PutError.TheVariants as put
 use Rattle.std.specs.FinMap as finite
 use Rattle.ubi_scan.specs.declared.errors.StreamError.TheVariants as stream
 use Rattle.ubi_compose.proofs.EntriesByNumber.{entries_by_number, flat_map-flat_map}
@@ -68,15 +69,27 @@ module _ (p : Placed) (n : ℕ) (within : AreWithin n p) (image : List ℕ) (pla
       ∙ sym (append-nil (tables_bytes (d p image) (table_bytes p.records) image
       ++ first_volumes (d p image) (stored_pieces p) (slots (s p image)) image))
 
-module _ (z : Sizes) (k : Source) (agrees : Agreed) (p : Placed) (of : ArePlacesOf z k agrees p) where
-  -- what is written
+-- what is answered then of a source, where the last read that failed began at a place
+abbrev pub IsTold : Sizes → Source → Agreed → Option (List ℕ) → Option (List ℕ) → ℕ → Result ℕ PutError → Type 0
+IsTold z k agrees a b at (Ok n) = IsNormalisedTo z agrees a b n
+IsTold z k agrees a b at (Err (put.Read number n)) =
+    IsNormaliseToError z k agrees a b (stream.Read number n) × (number ≡ at / z.peb_size)
+IsTold z k agrees a b at (Err (put.Write n)) = IsNormaliseToError z k agrees a b (stream.Write n)
+
+-- what was written over a source
+module _ (z : Sizes) (k : Source) (agrees : Agreed) (p : Placed) (of : ArePlacesOf z k agrees p) (seq : ℕ)
+    (seq_is : seq ≡ p.image_seq) (table : List ℕ) (table_is : table ≡ table_bytes p.records) (a b : Option (List ℕ)) where
   abbrev pub normal : List ℕ → List ℕ
-  normal = image_bytes (record { geometry = z; image_seq = p.image_seq }) (table_bytes p.records) (stored_pieces p) 0
+  normal = image_bytes (record { geometry = z; image_seq = seq }) table (stored_pieces p) 0
 
   normal_is : (image : List ℕ) (holds : agrees image) → normal_bytes (of.held image holds).meaning ≡ normal image
-  normal_is image holds = subst (λ (z : Sizes). (h : ArePlaces (image_of z image) p) → normal_bytes h.meaning
-      ≡ image_bytes (record { geometry = z; image_seq = p.image_seq }) (table_bytes p.records) (stored_pieces p) 0 image)
+  normal_is image holds =
+      let f = λ (z : Sizes) (n : ℕ) (t : List ℕ).
+      image_bytes (record { geometry = z; image_seq = n }) t (stored_pieces p) 0 image in
+      subst (λ (z : Sizes). (h : ArePlaces (image_of z image) p)
+      → normal_bytes h.meaning ≡ f z p.image_seq (table_bytes p.records))
       of.sizes (image_is p (blocks_in z k) of.within image) (of.held image holds)
+      ∙ ap (λ n. f z n (table_bytes p.records)) (sym seq_is) ∙ ap (f z seq) (sym table_is)
 
   -- a read that failed was one of an eraseblock of the source, and is told of it
   place_of : (at number : ℕ) → IsReadIn z (stored_pieces p) at number
@@ -85,58 +98,49 @@ module _ (z : Sizes) (k : Source) (agrees : Agreed) (p : Placed) (of : ArePlaces
       let b = read_place p is.0 is.1 is.2 is.4 z at number is.5 in
       (subst (λ (o : Option ℕ). IfSome o (λ at. at < blocks_in z k)) b.0 (of.within.winners (is.0, is.1)), b.1)
 
-  module _ (a b : Option (List ℕ)) where
-    got : (many : ℕ → ℕ → Type 0) (n : ℕ) → Wrote agrees a b (those normal) many 0 n → HasGot a b n
-    got many n h = (h.bytes, (let c = h.count in omega (arith, c)), h.got)
+  got : (many : ℕ → ℕ → Type 0) (n : ℕ) → Wrote agrees a b (those normal) many 0 n → HasGot a b n
+  got many n h = (h.bytes, (let c = h.count in omega (arith, c)), h.got)
 
-    pub normalised : (n : ℕ) → Wrote agrees a b (those normal) All 0 n → IsNormalisedTo z agrees a b n
-    normalised n h = record {
-      got = got All n h;
-      held = λ image is.
-          let at = of.held image is in
-          let all = h.held image is (normal_bytes at.meaning) (normal_is image is) in
-          let size : length h.bytes ≡ length (normal_bytes at.meaning) = all.0 in
-          let same : h.bytes ≡ normal_bytes at.meaning = all.1
-          ∙ take_all (length h.bytes) (normal_bytes at.meaning) (omega (arith, size)) in
-          record {
-            meaning = at.meaning;
-            accepted = at.accepted;
-            count = (let c = h.count in omega (arith, c, size));
-            written = subst (Appends a b) same h.got;
-          };
-    }
+  -- they are the first n bytes of the normal image
+  first : (many : ℕ → ℕ → Type 0) (n : ℕ) (h : Wrote agrees a b (those normal) many 0 n) (image : List ℕ)
+      (is : agrees image) → many n (length (normal_bytes (of.held image is).meaning))
+      × Appends a b (take n (normal_bytes (of.held image is).meaning))
+  first many n h image is =
+      let x : List ℕ = normal_bytes (of.held image is).meaning in
+      let all = h.held image is x (normal_is image is) in
+      let long : length h.bytes ≡ n = (let c = h.count in omega (arith, c)) in
+      (subst (λ l. many l (length x)) long all.0, subst (Appends a b) (all.1 ∙ ap (λ l. take l x) long) h.got)
 
-    first : (many : ℕ → ℕ → Type 0) (n : ℕ) (h : Wrote agrees a b (those normal) many 0 n) (image : List ℕ)
-        (is : agrees image) → many n (length (normal_bytes (of.held image is).meaning))
-        × Appends a b (take n (normal_bytes (of.held image is).meaning))
-    first many n h image is =
-        let x : List ℕ = normal_bytes (of.held image is).meaning in
-        let all = h.held image is x (normal_is image is) in
-        let long : length h.bytes ≡ n = (let c = h.count in omega (arith, c)) in
-        (subst (λ l. many l (length x)) long all.0, subst (Appends a b) (all.1 ∙ ap (λ l. take l x) long) h.got)
-
-    pub unread : (at number n : ℕ) → IsReadIn z (stored_pieces p) at number → Wrote agrees a b (those normal) First 0 n
-        → IsNormaliseToError z k agrees a b (stream.Read number n)
-    unread at number n is h = (
+  pub told : 0 < z.peb_size → (at : ℕ) (r : Result ℕ PutError)
+      → HasPut (IsReadIn z (stored_pieces p) at) agrees a b normal 0 r → IsTold z k agrees a b at r
+  told some at (Ok n) h = record {
+    got = got All n h;
+    held = λ image is.
+        let m = of.held image is in
+        let w = first All n h image is in
+        record {
+          meaning = m.meaning;
+          accepted = m.accepted;
+          count = w.0;
+          written = subst (Appends a b) (take_all n (normal_bytes m.meaning) (let e = w.0 in omega (arith, e))) w.1;
+        };
+  }
+  told some at (Err (put.Read number n)) h = (
+    (
       of.whole,
-      (place_of at number is).0,
-      got First n h,
-      inr (λ image holds.
-          let w = first First n h image holds in
-          let m = of.held image holds in
+      (place_of at number h.0).0,
+      got First n h.1,
+      inr (λ image is.
+          let m = of.held image is in
+          let w = first First n h.1 image is in
           record { meaning = m.meaning; accepted = m.accepted; within = w.0; written = w.1 }),
-    )
-
-    pub unwritten : (n : ℕ) → Wrote agrees a b (those normal) NotAll 0 n
-        → IsNormaliseToError z k agrees a b (stream.Write n)
-    unwritten n h = (
-      got NotAll n h,
-      λ image holds.
-          let w = first NotAll n h image holds in
-          let m = of.held image holds in
-          record { meaning = m.meaning; accepted = m.accepted; short = w.0; written = w.1 },
-    )
-
-  pub named : 0 < z.peb_size → (at number : ℕ) → IsReadIn z (stored_pieces p) at number → number ≡ at / z.peb_size
-  named some at number is =
-      sym (ap (λ n. n / z.peb_size) (place_of at number is).1 ∙ mul-div_cancel number some)
+    ),
+    sym (ap (λ n. n / z.peb_size) (place_of at number h.0).1 ∙ mul-div_cancel number some),
+  )
+  told some at (Err (put.Write n)) h = (
+    got NotAll n h,
+    λ image is.
+        let m = of.held image is in
+        let w = first NotAll n h image is in
+        record { meaning = m.meaning; accepted = m.accepted; short = w.0; written = w.1 },
+  )

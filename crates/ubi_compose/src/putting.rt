@@ -156,7 +156,8 @@ fn put_table<W: Write>(
     ensures put { HasPut NoRead anything (W.contents writer.old) (W.contents writer.new) (table_block device.now table.now copy) done result }
     ensures least { IfOk result (λ n. n ≡ done + device.now.geometry.peb_size) }
 {
-    fill(buffer, device.geometry.data_offset() as usize, table);
+    let begin = device.geometry.data_offset() as usize;
+    buffer[begin..begin + table.len()].copy_from_slice(table);
     put_laid(
         device,
         &copy_header(copy),
@@ -165,14 +166,6 @@ fn put_table<W: Write>(
         writer,
         done,
     )
-}
-
-/// Copies a text into a buffer, from the byte `begin` on.
-fn fill(buffer: &mut [u8], begin: usize, text: &[u8])
-    requires { begin + length text.now ≤ length buffer.old }
-    ensures { take (length text.now) (drop begin buffer.new) ≡ text.now }
-{
-    buffer[begin..begin + text.len()].copy_from_slice(text);
 }
 
 /// Writes both copies.
