@@ -1,7 +1,7 @@
 """Reads which names the contracts of a crate's public items hold, as rt fmt lays the items out.
 
-Public is what src/lib.rt exports, with the methods and the ghost lines of exported types and traits. A program exports
-nothing: there it is what has the word `pub`.
+Public is what src/lib.rt exports, with the methods and the ghost lines of exported types and traits, but those of a trait that
+the crate keeps to itself. A program exports nothing: there it is what has the word `pub`.
 """
 import os
 import re
@@ -60,7 +60,18 @@ def members(block):
     return functions, rest
 
 
-def public_parts(lines, module, exported):
+def own_traits(folder, exported):
+    """The traits that a library declares and doesn't export."""
+    names = set()
+    for name in os.listdir(folder) if exported else []:
+        if name.endswith(".rt"):
+            with open(os.path.join(folder, name), encoding="utf-8") as file:
+                found = re.findall(r"^(?:pub )?trait (\w+)", file.read(), re.M)
+            names.update(word for word in found if name[:-3] not in exported[0] and (name[:-3], word) not in exported[1])
+    return names
+
+
+def public_parts(lines, module, exported, hidden):
     """The texts of the public contracts of a file, each with the `ghost use` lines that it stands under."""
     own = {item["name"] for item in map(TYPE.match, lines) if item and item["pub"]}
 
@@ -81,7 +92,7 @@ def public_parts(lines, module, exported):
         if function:
             if function["pub"] and is_public(function["name"]):
                 yield uses, lines[at:contract_end(lines, at, 0) + 1]
-        elif is_public_type((kind or impl)["name"]):
+        elif is_public_type((kind or impl)["name"]) and not (impl and impl["trait"] in hidden):
             functions, rest = members(lines[at:last + 1])
             inside = uses + [line.strip() for line in rest if line.strip().startswith("ghost use ")]
             yield inside, [line for line in rest if not line.strip().startswith("ghost use ")]
@@ -95,8 +106,9 @@ def public_contracts(root, crate, module=None):
     """The texts of the public contracts of a crate, or of one module, each with the `ghost use` lines that it stands under."""
     folder = os.path.join(root, "crates", crate, "src")
     exported = exports(folder)
+    hidden = own_traits(folder, exported)
     for name in sorted(os.listdir(folder)):
         if name.endswith(".rt") and name != "tests.rt" and module in (None, name[:-3]):
             with open(os.path.join(folder, name), encoding="utf-8") as file:
                 lines = file.read().splitlines()
-            yield from public_parts(lines, name[:-3], exported)
+            yield from public_parts(lines, name[:-3], exported, hidden)

@@ -27,14 +27,14 @@ count_same s k l r (content.Dynamic lebs) =
 
 -- the volume of a part has no more eraseblocks than pieces
 module _ (ps : Parts) (bytes : List ℕ) (p : Part) (reaches : p.start + p.len ≤ length bytes) where
-  few_kept : length (finite.entries (kept ps bytes p reaches)) ≤ pieces (usable ps.sizes p.entry)
+  few_kept : length (finite.entries (kept ps bytes p)) ≤ pieces (usable ps.sizes p.entry)
       (length (text_of bytes p))
   few_kept =
-      let lebs = kept ps bytes p reaches in
+      let lebs = kept ps bytes p in
       let es = finite.entries lebs in
       let n = pieces (usable ps.sizes p.entry) (length (text_of bytes p)) in
       let below : AllByRecursion (λ (e : ℕ × List ℕ). e.0 < n) es = all_from (λ (e : ℕ × List ℕ). e.0 < n) es (λ e at.
-      within ps bytes p reaches e.0 e.1 (held_entry lebs e at)) in
+      within ps bytes p e.0 e.1 (held_entry lebs e at)) in
       let from : AllByRecursion (λ (e : ℕ × List ℕ). 0 ≤ e.0) es =
       all_from (λ (e : ℕ × List ℕ). 0 ≤ e.0) es (λ e at. omega arith) in
       let few = few_rising (λ (e : ℕ × List ℕ). e.0) es 0 n (omega arith)
@@ -51,7 +51,7 @@ module _ (ps : Parts) (bytes : List ℕ) (p : Part) (reaches : p.start + p.len �
       omega (arith, all, same)
   few_of kind.Dynamic =
       let size : ℕ = usable ps.sizes p.entry in
-      let es = finite.entries (kept ps bytes p reaches) in
+      let es = finite.entries (kept ps bytes p) in
       let all = length-map es (dynamic_block (data_pad ps.sizes p.entry) p.id) in
       let same = ap (pieces size) (text_size bytes p reaches) in
       let few = few_kept in

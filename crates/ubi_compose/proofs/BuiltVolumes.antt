@@ -1,13 +1,13 @@
 -- The normal image of what is built of parts, by their pieces.
-use Rattle.ubi_compose.proofs.Prelude.{◌≡◌, ◌==◌, ℕ, zero, suc, ◌+◌, ◌<◌, ◌≤◌, Bool, true, false, cond, List, [], ◌++◌, length, refl, ap, sym, ◌∙◌, subst, arith, None, Option, Some, flat_map, option_map, unwrap_or, FinMap, range_with_len, option_map_or, nat_cmp, flat_map-map, is_blank, slots, data_pad, rec_bytes, usable, plain, VolKind, layout, table_bytes, item_without_blank, lebs_without_blank, without_blank, pieces, records_of, Volume, same_range, get_without_blank, is_kept, HaveMeaning, Parts, Reaches, built, content_of, item_of, items_of, lebs_of, text_of, composed, spare, blocks_of, dynamic_block, laid_bytes, new_ec, static_part, volume_blocks, dynamic_piece, first_volumes, part_at, part_bytes, piece_of_kind, spares_bytes, table_of, whole_bytes, Part}
+use Rattle.ubi_compose.proofs.Prelude.{◌≡◌, ◌==◌, ℕ, zero, suc, ◌+◌, ◌<◌, ◌≤◌, Bool, true, false, cond, List, [], ◌++◌, length, refl, ap, sym, ◌∙◌, subst, arith, None, Option, Some, flat_map, option_map, unwrap_or, FinMap, range_with_len, option_map_or, nat_cmp, flat_map-map, is_blank, IsGeometry, slots, data_pad, rec_bytes, rec_fault, usable, VolKind, table_bytes, item_without_blank, lebs_without_blank, without_blank, pieces, records_of, Volume, same_range, get_without_blank, is_kept, HaveMeaning, Parts, Reaches, built, content_of, item_of, items_of, lebs_of, pieces_of, text_of, composed, spare, blocks_of, dynamic_block, laid_bytes, new_ec, static_part, volume_blocks, part_at, table_of, Part, Device, built_piece, built_pieces, piece_of_kind, spares_bytes, first_volumes, image_bytes, piece_bytes, tables_bytes, record_of}
 use Rattle.std.proofs.Common.{not}
 use Rattle.std.specs.Prelude.{replicate}
 use Rattle.std.specs.FinMap as finite
 use Rattle.ubi_media.specs.declared.vid.VolKind.TheVariants as kind
-use Rattle.ubi_volume.proofs.Recorded.{record_of}
 use Rattle.ubi_compose.proofs.BuiltContents.{leb_of, leb_there, leb_within, text_size}
 use Rattle.ubi_compose.proofs.EntriesByNumber.{entries_by_number, find-map, flat_map-flat_map, get_made}
-use Rattle.ubi_compose.proofs.ListedParts.{found_part, listed_at, part_slot, reached}
+use Rattle.ubi_compose.proofs.ListedParts.{found_part, listed_at, part_slot, part_sound, reached}
+use Rattle.ubi_compose.proofs.PiecesOfParts.{dynamic_written, static_written}
 use Rattle.ubi_compose.proofs.Puts.{composed_pieces}
 
 -- what is kept was there before
@@ -16,7 +16,10 @@ kept_some true o x e = e
 kept_some false o x e = absurd (cc)
 
 -- the eraseblocks of the volume of a part
-module _ (ps : Parts) (bytes : List ℕ) (p : Part) (reaches : p.start + p.len ≤ length bytes) where
+module _ (ps : Parts) (bytes : List ℕ) (p : Part) where
+  abbrev d : Device
+  d = record { geometry = ps.sizes; image_seq = ps.image_seq }
+
   abbrev size : ℕ
   size = usable ps.sizes p.entry
 
@@ -43,31 +46,35 @@ module _ (ps : Parts) (bytes : List ℕ) (p : Part) (reaches : p.start + p.len �
   by_test lnum x true = refl
   by_test lnum x false = refl
 
-  leb_bytes : (lnum : ℕ) → lnum < n
-      → option_map_or (λ (y : List ℕ). laid_leb (lnum, y)) (finite.get kept lnum) [] ≡ dynamic_piece ps p lnum bytes
-  leb_bytes lnum below =
-      ap (λ o. option_map_or (λ (y : List ℕ). laid_leb (lnum, y)) o []) (get_without_blank (lebs_of size text) lnum)
-      ∙ ap (λ o. option_map_or (λ (y : List ℕ). laid_leb (lnum, y)) (cond (not (is_blank (unwrap_or o []))) o None) [])
-      (leb_there size text lnum below)
-      ∙ by_test lnum (leb_of size text lnum) (is_blank (leb_of size text lnum))
+  module _ (g : IsGeometry ps.sizes) (sound : rec_fault ps.sizes p.entry ≡ None) (reaches : p.start + p.len ≤ length bytes) where
+    leb_is : (lnum : ℕ) → lnum < n → option_map_or (λ (y : List ℕ). laid_leb (lnum, y)) (finite.get kept lnum) []
+        ≡ piece_bytes d (piece_of_kind kind.Dynamic ps.sizes p lnum) bytes
+    leb_is lnum below =
+        ap (λ o. option_map_or (λ (y : List ℕ). laid_leb (lnum, y)) o []) (get_without_blank (lebs_of size text) lnum)
+        ∙ ap (λ o. option_map_or (λ (y : List ℕ). laid_leb (lnum, y)) (cond (not (is_blank (unwrap_or o []))) o None) [])
+        (leb_there size text lnum below)
+        ∙ by_test lnum (leb_of size text lnum) (is_blank (leb_of size text lnum))
+        ∙ sym (dynamic_written ps g p sound bytes reaches lnum below)
 
-  of_kind : (k : VolKind)
-      → flat_map (laid_bytes ps.sizes (new_ec ps.image_seq))
-      (volume_blocks ps.sizes p.id p.entry (without_blank (content_of k size text)))
-      ≡ flat_map (λ lnum. piece_of_kind k ps p lnum bytes) (range_with_len 0 n)
-  of_kind kind.Static = flat_map-map (laid_bytes ps.sizes (new_ec ps.image_seq))
-      (static_part (data_pad ps.sizes p.entry) size p.id text) (range_with_len 0 n)
-  of_kind kind.Dynamic =
-      flat_map-map (laid_bytes ps.sizes (new_ec ps.image_seq)) (dynamic_block (data_pad ps.sizes p.entry) p.id)
-      (finite.entries kept)
-      ∙ entries_by_number laid_leb kept n within
-      ∙ same_range _ _ 0 n (λ lnum low high. leb_bytes lnum (omega arith))
+    of_kind : (k : VolKind)
+        → flat_map (laid_bytes ps.sizes (new_ec ps.image_seq))
+        (volume_blocks ps.sizes p.id p.entry (without_blank (content_of k size text)))
+        ≡ flat_map (λ lnum. piece_bytes d (piece_of_kind k ps.sizes p lnum) bytes) (range_with_len 0 n)
+    of_kind kind.Static = flat_map-map (laid_bytes ps.sizes (new_ec ps.image_seq))
+        (static_part (data_pad ps.sizes p.entry) size p.id text) (range_with_len 0 n)
+        ∙ same_range _ _ 0 n (λ lnum low high. sym (static_written ps g p sound bytes reaches lnum (omega arith)))
+    of_kind kind.Dynamic =
+        flat_map-map (laid_bytes ps.sizes (new_ec ps.image_seq)) (dynamic_block (data_pad ps.sizes p.entry) p.id)
+        (finite.entries kept)
+        ∙ entries_by_number laid_leb kept n within
+        ∙ same_range _ _ 0 n (λ lnum low high. leb_is lnum (omega arith))
 
-  pub part_is : flat_map (laid_bytes ps.sizes (new_ec ps.image_seq))
-      (volume_blocks ps.sizes p.id p.entry (without_blank (content_of p.entry.kind size text))) ≡ part_bytes ps p bytes
-  part_is = of_kind p.entry.kind
-      ∙ ap (λ len. flat_map (λ lnum. piece_of_kind p.entry.kind ps p lnum bytes) (range_with_len 0 (pieces size len)))
-      (text_size bytes p reaches)
+    pub part_is : flat_map (laid_bytes ps.sizes (new_ec ps.image_seq))
+        (volume_blocks ps.sizes p.id p.entry (without_blank (content_of p.entry.kind size text)))
+        ≡ flat_map (λ lnum. piece_bytes d (built_piece ps.sizes p lnum) bytes) (range_with_len 0 (pieces_of ps.sizes p))
+    part_is = of_kind p.entry.kind
+        ∙ ap (λ len. flat_map (λ lnum. piece_bytes d (built_piece ps.sizes p lnum) bytes)
+        (range_with_len 0 (pieces size len))) (text_size bytes p reaches)
 
 -- what is built, by number
 module _ (ps : Parts) (bytes : List ℕ) where
@@ -122,19 +129,27 @@ module _ (ps : Parts) (bytes : List ℕ) where
         let at = listed_at ps.of of.0 found.0 in
         subst (λ n. n < slots ps.sizes) found.1 (part_slot ps h at.0 of.0 at.1)
 
+    abbrev of : Device
+    of = record { geometry = ps.sizes; image_seq = ps.image_seq }
+
+    -- what is written of the volume of a part
+    abbrev part_bytes : Option Part → List ℕ
+    part_bytes o = flat_map
+        (λ lnum. option_map_or (λ q. piece_bytes of q bytes) (option_map (λ p. built_piece ps.sizes p lnum) o) [])
+        (range_with_len 0 (option_map_or (pieces_of ps.sizes) o 0))
+
     numbered_is : (id : ℕ) (o : Option Part) → part_at ps id ≡ o
-        → option_map_or (λ v. blocks_in (id, v)) (option_map volume_in o) []
-        ≡ option_map_or (λ p. part_bytes ps p bytes) o []
+        → option_map_or (λ v. blocks_in (id, v)) (option_map volume_in o) [] ≡ part_bytes o
     numbered_is id None e = refl
     numbered_is id (Some p) e =
         let found = found_part ps.of id p e in
         let at = listed_at ps.of p found.0 in
         ap (λ n. blocks_in (n, volume_in p)) (sym found.1)
-        ∙ part_is ps bytes p (reached (length bytes) ps.of at.0 p reaches at.1)
+        ∙ part_is ps bytes p h.sizes (part_sound ps h at.0 p at.1) (reached (length bytes) ps.of at.0 p reaches at.1)
 
     volumes_are : flat_map (laid_bytes ps.sizes (new_ec ps.image_seq))
         (blocks_of ps.sizes (finite.entries (built ps bytes).volumes))
-        ≡ first_volumes ps (slots ps.sizes) bytes
+        ≡ first_volumes of (built_pieces ps) (slots ps.sizes) bytes
     volumes_are =
         flat_map-flat_map (laid_bytes ps.sizes (new_ec ps.image_seq))
         (λ (v : ℕ × Volume). volume_blocks ps.sizes v.0 v.1.entry v.1.content)
@@ -148,15 +163,15 @@ module _ (ps : Parts) (bytes : List ℕ) where
     spares_are x a (suc n) = ap (λ r. x ++ r) (spares_are x (a + 1) n)
 
     -- all of it
-    pub image_is : (spares : ℕ) → whole_bytes ps spares bytes ≡ composed (built ps bytes) spares
-    image_is spares =
-        let table = λ (text : List ℕ) (copy : ℕ). laid_bytes ps.sizes (new_ec ps.image_seq)
-        (record { header = plain kind.Dynamic 5 0 layout copy; text = text }) in
+    pub image_is : (table : List ℕ) → table ≡ table_of ps → (spares : ℕ)
+        → image_bytes of table (built_pieces ps) spares bytes ≡ composed (built ps bytes) spares
+    image_is table given spares =
+        let tables = λ (t : List ℕ). tables_bytes of t bytes in
         let text = table_bytes (records_of (built ps bytes)) in
         let volumes = flat_map (laid_bytes ps.sizes (new_ec ps.image_seq))
         (blocks_of ps.sizes (finite.entries (built ps bytes).volumes)) in
-        ap (λ t. ((table t 0 ++ table t 1) ++ first_volumes ps (slots ps.sizes) bytes) ++ spares_bytes ps spares bytes)
-        table_is
-        ∙ ap (λ vs. ((table text 0 ++ table text 1) ++ vs) ++ spares_bytes ps spares bytes) (sym volumes_are)
-        ∙ ap (λ r. ((table text 0 ++ table text 1) ++ volumes) ++ r) (spares_are (spare ps.sizes ps.image_seq) 0 spares)
+        ap (λ t. (tables t ++ first_volumes of (built_pieces ps) (slots ps.sizes) bytes) ++ spares_bytes of spares bytes)
+        (given ∙ table_is)
+        ∙ ap (λ vs. (tables text ++ vs) ++ spares_bytes of spares bytes) (sym volumes_are)
+        ∙ ap (λ r. (tables text ++ volumes) ++ r) (spares_are (spare ps.sizes ps.image_seq) 0 spares)
         ∙ composed_pieces (built ps bytes) spares

@@ -2,9 +2,19 @@
 use Rattle.ubi_compose.proofs.Prelude.{◌≡◌, ℕ, zero, suc, ◌+◌, ◌<◌, ◌≤◌, ◌==◌, Bool, true, false, cond, List, [], ◌∷◌, ◌++◌, map, refl, ap, sym, ◌∙◌, arith, zero-add, subst, Some, find, flat_map, option_map, FinMap, AllByRecursion, range_with_len, option_map_or, nat_cmp, nat_tests, flat_map-append, first_entry, same_range}
 use Rattle.std.specs.FinMap as finite
 use Rattle.ubi_compose.proofs.ByNumber.{Rises, by_number}
-use Rattle.ubi_compose.proofs.DynamicPlaces.{rises_from}
 use Rattle.ubi_compose.proofs.Lists.{all_from, held_entry}
+use Rattle.ubi_compose.proofs.Rising as rising
 use Rattle.ubi_compose.proofs.Rising.{entries_rise}
+
+-- numbers that rise do so from any bound below them
+rises_from : {X : Type 0} (f : ℕ × X → List ℕ) (a b : ℕ) (es : List (ℕ × X)) → rising.Rises (λ e. e.0) es
+    → AllByRecursion (λ e. a ≤ e.0) es → AllByRecursion (λ e. e.0 < b) es → Rises f a b es
+rises_from f a b [] h low high = tt
+rises_from {X} f a b (e ∷ es) h low high = (low.0, high.0, rises_from f (e.0 + 1) b es h.1 (above es h.0) high.1)
+  where
+    above : (es : List (ℕ × X)) → AllByRecursion (λ y. e.0 < y.0) es → AllByRecursion (λ y. e.0 + 1 ≤ y.0) es
+    above [] h = tt
+    above (y ∷ es) h = (let first = h.0 in omega arith, above es h.1)
 
 -- what is made of each entry of a map, by rising number below n
 pub entries_by_number : {X : Type 0} (f : ℕ × X → List ℕ) (m : FinMap nat_cmp X) (n : ℕ)

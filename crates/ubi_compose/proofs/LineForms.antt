@@ -14,10 +14,7 @@ form_fits read ws f h =
 
 few_words : (f : Form) → word_count f ≤ 7
 few_words form.Volume = omega arith
-few_words form.Leb = omega arith
-few_words form.Text = omega arith
-few_words form.Damaged = omega arith
-few_words form.Updating = omega arith
+few_words _ = omega arith
 
 count_of : (ws : List (List ℕ)) (f : Form) → form_of ws ≡ Some f → length ws ≤ 7
 count_of ws f h =

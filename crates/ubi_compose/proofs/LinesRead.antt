@@ -28,26 +28,18 @@ volume_filled : (k : Option VolKind) (i r a : Result ℕ SpecCause) (f : Option 
       name = name;
       flags = flags;
     })))))))))
-volume_filled None i r a f n = tt
-volume_filled (Some kind) (Err c) r a f n = tt
-volume_filled (Some kind) (Ok id) (Err c) a f n = tt
-volume_filled (Some kind) (Ok id) (Ok reserved) (Err c) f n = tt
-volume_filled (Some kind) (Ok id) (Ok reserved) (Ok alignment) None n = tt
-volume_filled (Some kind) (Ok id) (Ok reserved) (Ok alignment) (Some flags) None = tt
 volume_filled (Some kind) (Ok id) (Ok reserved) (Ok alignment) (Some flags) (Some name) = refl
+volume_filled _ _ _ _ _ _ = tt
 
 leb_filled : (i n : Result ℕ SpecCause) (b : Option (List ℕ))
     → IsFilled (i >>= (λ id. n >>= (λ lnum. ok_or b cause.Hex >>= (λ bytes. Ok (line.Leb id lnum bytes)))))
-leb_filled (Err c) n b = tt
-leb_filled (Ok id) (Err c) b = tt
-leb_filled (Ok id) (Ok lnum) None = tt
 leb_filled (Ok id) (Ok lnum) (Some bytes) = refl
+leb_filled _ _ _ = tt
 
 text_filled : (i : Result ℕ SpecCause) (word : List ℕ) (b : Option (List ℕ)) → hex_of word ≡ b
     → IsFilled (i >>= (λ id. ok_or b cause.Hex >>= (λ bytes. Ok (line.Text id bytes))))
-text_filled (Err c) word b h = tt
-text_filled (Ok id) word None h = tt
 text_filled (Ok id) word (Some bytes) h = hex_filled word bytes h
+text_filled _ word _ h = tt
 
 damaged_filled : (i : Result ℕ SpecCause) → IsFilled (i >>= (λ id. Ok (line.Damaged id)))
 damaged_filled (Err c) = tt
@@ -70,8 +62,7 @@ said_filled ws form.Updating = updating_filled (number_word (word ws 1))
 filled_by : (ws : List (List ℕ)) (b : Bool) (o : Option Form)
     → IsFilled (cond b (option_map_or (said ws) o (Err cause.Word)) (Err cause.Word))
 filled_by ws true (Some f) = said_filled ws f
-filled_by ws true None = tt
-filled_by ws false o = tt
+filled_by ws _ _ = tt
 
 line_filled : (text : List ℕ) → IsFilled (line_of text)
 unfolding line_of

@@ -1,8 +1,16 @@
 -- The parts of volumes that have a meaning together.
-use Rattle.ubi_compose.proofs.Prelude.{◌≡◌, ◌==◌, ℕ, zero, suc, ◌+◌, ◌*◌, ◌<◌, ◌≤◌, true, false, cond, List, [], ◌∷◌, length, map, refl, ap, sym, ◌∙◌, subst, arith, inl, inr, Contains, None, Option, Some, find, fold, slice_get, sum_by, nat_tests, sum_by-cons, get_or_from_slice_get, slice_get-get_or, slice_get-map, slice_get_within, same_Some, blank, slots, rec_fault, usable, RecFault, within_or_past, usable_some, Source, length-blank, IsItem, NoCause, Volume, pieces_few, HaveMeaning, Parts, Reaches, item_of, items_of, most_blocks, pieces_of, text_of, HasParts, IsReadable, part_at, Part}
+use Rattle.ubi_compose.proofs.Prelude.{◌≡◌, ◌==◌, ℕ, zero, suc, ◌+◌, ◌*◌, ◌^◌, ◌<◌, ◌≤◌, true, false, cond, List, [], ◌∷◌, get_or, length, map, refl, ap, sym, ◌∙◌, subst, arith, inl, inr, Contains, None, Option, Some, find, fold, slice_get, sum_by, nat_tests, sum_by-cons, get_or_from_slice_get, slice_get-get_or, slice_get-map, slice_get_within, same_Some, blank, slots, rec_fault, usable, RecFault, within_or_past, usable_some, Source, length-blank, IsItem, NoCause, Volume, pieces_few, HaveMeaning, Parts, Reaches, item_of, items_of, most_blocks, pieces_of, text_of, HasParts, part_at, Part}
 use Rattle.std.specs.Option.{option_map}
 use Rattle.ubi_volume.specs.declared.errors.MeaningCause.TheVariants as cause
 use Rattle.ubi_compose.proofs.BuiltContents.{long_misfits, text_size}
+
+-- a part whose record breaks no rule, whose volume holds its bytes, and whose bytes a source of a size has
+pub record IsReadablePart (ps : Parts) (size : ℕ) (p : Part) : Type 0 where
+  pub listed : Contains ps.of p
+  pub sound : rec_fault ps.sizes p.entry ≡ None
+  pub fits : p.len ≤ p.entry.reserved * usable ps.sizes p.entry
+  pub narrow : size < 2 ^ 64
+  pub reaches : p.start + p.len ≤ size
 
 -- the part that is found by a number is listed, and has it
 pub found_part : (parts : List Part) (id : ℕ) (p : Part) → find (λ p. p.id == id) parts ≡ Some p
@@ -21,6 +29,13 @@ found_part (x ∷ xs) id p e =
 -- a listed part stands at a place
 pub listed_at : (parts : List Part) (p : Part) → Contains parts p → (i : ℕ) × (slice_get parts i ≡ Some p)
 listed_at parts p at = (at.0, slice_get-get_or parts at.0 p at.1 ∙ ap Some at.2)
+
+-- and the one at an index at it
+pub listed_here : (parts xs : List Part) (i : ℕ) (p : Part) → xs ≡ parts → i < length xs → p ≡ get_or xs i p
+    → (slice_get parts i ≡ Some p) × (i < length parts)
+listed_here parts xs i p same inside is =
+    let here : i < length parts = subst (λ xs. i < length xs) same inside in
+    (slice_get-get_or parts i p here ∙ ap Some (sym (is ∙ ap (λ xs. get_or xs i p) same)), here)
 
 pub item_at : (f : Part → ℕ × Volume) (parts : List Part) (i : ℕ) (p : Part) → slice_get parts i ≡ Some p
     → IsItem (map f parts) i (f p)
@@ -101,16 +116,17 @@ module _ (ps : Parts) (h : HaveMeaning ps) where
         (usable_some ps.sizes p.entry part_sound) p.len p.entry.reserved part_fits
 
   -- a part whose bytes a source has can be read
-  pub part_readable : (k : Source) → HasParts k ps.of → (id : ℕ) (p : Part) → part_at ps id ≡ Some p → IsReadable ps k p
-  part_readable k has id p e =
+  pub part_readable : (size : ℕ) → HasParts size ps.of → (id : ℕ) (p : Part) → part_at ps id ≡ Some p
+      → IsReadablePart ps size p
+  part_readable size has id p e =
       let found = found_part ps.of id p e in
       let at = listed_at ps.of p found.0 in
       record {
-        listed = (found.0, refl);
+        listed = found.0;
         sound = part_sound at.0 p at.1;
         fits = part_fits at.0 p at.1;
         narrow = has.narrow;
-        reaches = reached k.size ps.of at.0 p has.reaches at.1;
+        reaches = reached size ps.of at.0 p has.reaches at.1;
       }
 
   -- the reserved eraseblocks have room on the device

@@ -1,11 +1,10 @@
 -- Eraseblocks of normal images on literals.
-use Rattle.ubi_compose.proofs.Prelude.{◌≡◌, ℕ, false, List, [], ◌∷◌, ◌++◌, length, map, replicate, refl, ap, ◌∙◌, None, Option, flat_map, option_map, repeat, nat_cmp, ap₂, check_from, remainder, filled, empty_record, rec_bytes, vid_bytes, VolumeRecord, small, sorted_entries, Meant, records_of, Volume, no_entries, spare, Laid, blocks_of, damaged_block, dynamic_block, laid_bytes, layout_block, new_ec, normal_bytes, static_blocks, volume_blocks}
+use Rattle.ubi_compose.proofs.Prelude.{◌≡◌, ℕ, false, List, [], ◌∷◌, ◌++◌, length, map, replicate, refl, ap, ◌∙◌, None, Option, flat_map, option_map, repeat, nat_cmp, ap₂, check_from, remainder, filled, empty_record, rec_bytes, vid_bytes, VolumeRecord, small, sorted_entries, Meant, records_of, Volume, no_entries, spare, Laid, blocks_of, damaged_block, dynamic_block, laid_bytes, layout_block, new_ec, normal_bytes, static_blocks, volume_blocks, record_of}
 use Rattle.std.specs.FinMap as finite
 use Rattle.ubi_media.specs.Vid.{fields_from}
 use Rattle.ubi_media.specs.declared.vid.VolKind.TheVariants as kind
 use Rattle.ubi_media.proofs.Words.{words}
 use Rattle.ubi_volume.specs.declared.content.Content.TheVariants as content
-use Rattle.ubi_volume.proofs.Recorded.{record_of}
 
 -- the erase-counter header of each eraseblock
 abbrev ec_part : List ℕ

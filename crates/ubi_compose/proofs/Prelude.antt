@@ -1,7 +1,7 @@
 -- The names that the proofs of this crate speak of, and where they come from.
 pub use Rattle.std.proofs.Common.{Bool, Bor, Decides, List, T, [], add-zero, ap, append-nil, append_assoc, arith, below_more, cond, drop, false, get_or, inl, inr, length, length-append, length-drop, length-take-le, lit<, map, refl, replicate, rules, set, slice_range, subst, suc, sym, take, take-append-drop, tests, true, vec_items, zero, zero-add, ℕ, ◌%◌, ◌&&◌, ◌*◌, ◌++◌, ◌+◌, ◌-◌, ◌/◌, ◌<◌, ◌==◌, ◌^◌, ◌||◌, ◌∙◌, ◌∷◌, ◌≡◌, ◌≢◌, ◌≤◌, ◌⊎◌}
 pub use Rattle.std.proofs.KnownBytes.{Appends-nil}
-pub use Rattle.std.proofs.Math.Nat.{mul-add-mod_self_right}
+pub use Rattle.std.proofs.Math.Nat.{mul-add-mod_self_right, mul-div_cancel}
 pub use Rattle.std.proofs.Math.Path.{ap₂}
 pub use Rattle.std.proofs.Math.Seq.{drop-append-add, drop-append_seam, take-append-add, take-append_seam}
 pub use Rattle.std.proofs.lemmas.Bool.{and_parts, cases_eq, cases_lt, cases_order, eqb-true, false≢true}
@@ -12,7 +12,7 @@ pub use Rattle.std.proofs.lemmas.Iterator.{YieldsList-from_take}
 pub use Rattle.std.proofs.lemmas.Iterator.Consumers.{YieldsList-end, YieldsList-turn}
 pub use Rattle.std.proofs.lemmas.Iterator.Search.{any_from_yields_List}
 pub use Rattle.std.proofs.lemmas.Iterator.Splits.{YieldsList-from_slice_split}
-pub use Rattle.std.proofs.lemmas.List.{at_drop_more, drop-append-le, drop-drop, drop-take, drop_all, drop_more, get_or-append_right, get_or-map, get_or-replicate, get_or_at, length-map, length-replicate, length-take, length_push, map-append, map-id, map-set, set-get_or, set_at, take-append-le, take-replicate, take-take, take_all, take_at, take_more}
+pub use Rattle.std.proofs.lemmas.List.{at_drop_more, drop-append-le, drop-drop, drop-take, drop_all, drop_more, get_or-append_right, get_or-map, get_or-replicate, get_or_at, length-map, length-replicate, length-take, length_push, map-append, map-id, map-set, replicate-append-replicate, set-get_or, set_at, take-append-le, take-replicate, take-take, take_all, take_at, take_more}
 pub use Rattle.std.proofs.lemmas.List.Concat.{concat_is, length-flat_map}
 pub use Rattle.std.proofs.lemmas.List.Elements.{All-from_recursion, All-get_or, filter-append, filter_map-append}
 pub use Rattle.std.proofs.lemmas.List.Folds.{find-append, flat_map-map, list_all-append, list_any-append}
@@ -39,7 +39,7 @@ pub use Rattle.std.specs.Iterator.Adapters.{take_source}
 pub use Rattle.std.specs.List.{AllByRecursion, concat, enumerate_from, list_all, list_any, onto_first, position, position_from, position_or_len, range_with_len, repeat, slice_split}
 pub use Rattle.std.specs.Option.{ok_or, option_copied, option_map_or, option_or}
 pub use Rattle.std.specs.Ordering.{eq_by_cmp, is_lt, nat_cmp}
-pub use Rattle.std.specs.Prelude.{Contains, Err, IfErr, IfOk, IfSome, IsSome, IsTrue, MatchResult, None, Ok, Option, Result, Some, codes, filter_map, find, flat_map, fold, is_none, is_some, min, nat_le, nat_lt, not, option_and_then, option_map, slice_get, slice_index, slice_set, sum_by, unwrap_or, ⊤, ◌↔◌}
+pub use Rattle.std.specs.Prelude.{Contains, Err, IfOk, IfSome, IsSome, IsTrue, MatchResult, None, Ok, Option, Result, Some, codes, filter_map, find, flat_map, fold, is_none, is_some, min, nat_le, nat_lt, not, option_and_then, option_map, slice_get, slice_index, slice_set, sum_by, unwrap_or, ⊤, ◌↔◌}
 pub use Rattle.std.specs.Result.{result_map_both, result_ok}
 pub use Rattle.std.specs.Simd.{first_chunks}
 pub use Rattle.std.specs.declared.cmp.Ordering.{Ordering}
@@ -103,7 +103,7 @@ pub use Rattle.ubi_scan.specs.inner.Held.{anything, sound}
 pub use Rattle.ubi_table.proofs.Held.{table_written}
 pub use Rattle.ubi_table.proofs.NoRecords.{no_entries}
 pub use Rattle.ubi_table.proofs.ReadBack.{length-table_bytes, pieces_more}
-pub use Rattle.ubi_table.specs.Records.{AreRecords, Records, table_bytes}
+pub use Rattle.ubi_table.specs.Records.{Records, table_bytes}
 pub use Rattle.ubi_table.specs.Table.{IsTable}
 pub use Rattle.ubi_volume.proofs.Alike.{member_valid}
 pub use Rattle.ubi_volume.proofs.Arranged.{fits_without_blank, keeps_no_blank}
@@ -113,14 +113,15 @@ pub use Rattle.ubi_volume.proofs.Either.{are_lebs}
 pub use Rattle.ubi_volume.proofs.Equal.{record_Decides}
 pub use Rattle.ubi_volume.proofs.Extracted.{extent_at, front_of, leb_is, piece_is, same_Ok, same_range, static_is, static_whole}
 pub use Rattle.ubi_volume.proofs.FirstCause.{one_first}
-pub use Rattle.ubi_volume.proofs.Gathered.{listed_at, listed_item, record_at}
+pub use Rattle.ubi_volume.proofs.Gathered.{listed_item, record_at}
 pub use Rattle.ubi_volume.proofs.LesserPage.{greater_breaks, lesser_page}
 pub use Rattle.ubi_volume.proofs.Listed.{listed_volume}
 pub use Rattle.ubi_volume.proofs.MeantRecords.{meant_by, records_are, records_fit, volume_is}
-pub use Rattle.ubi_volume.proofs.Narrowed.{error_narrowed, error_where, places_narrowed, wrote_narrowed, wrote_where}
+pub use Rattle.ubi_volume.proofs.Narrowed.{places_narrowed, wrote_narrowed, wrote_where}
 pub use Rattle.ubi_volume.proofs.One.{Accepts-unique, kept_alike, outside}
 pub use Rattle.ubi_volume.proofs.Pieces.{length-share, piece_begins, pieces_few, pieces_suffice, share_full, share_more, share_most, share_none, share_some, shares_all}
-pub use Rattle.ubi_volume.proofs.Received.{Splits, error_as, error_behind, error_front, error_read, wrote_as, wrote_cut, wrote_more, wrote_none, wrote_text}
+pub use Rattle.ubi_volume.proofs.Received.{Splits, error_behind, error_front, wrote_as, wrote_cut, wrote_more, wrote_text}
+pub use Rattle.ubi_volume.proofs.Recorded.{record_of}
 pub use Rattle.ubi_volume.proofs.Shares.{header_at, share_at}
 pub use Rattle.ubi_volume.proofs.Static.{damaged_piece, piece_checked, piece_unchecked, read_more, read_none, static_reads}
 pub use Rattle.ubi_volume.proofs.VolumeAt.{HasCase, case_is, content_has, content_is, found_or_none, found_wins, in_table, reads_of, table}
@@ -131,9 +132,9 @@ pub use Rattle.ubi_volume.specs.Made.{IsBefore, IsFirst, IsItem, Items, NoCause,
 pub use Rattle.ubi_volume.specs.Means.{AreWhole, LebReads, SlotMeans, StaticReads, VolumeReads, piece}
 pub use Rattle.ubi_volume.specs.Meant.{Fits, HasDistinctNames, IsMeaning, IsVolume, KeepsNoBlank, Meant, VolumeMap, pieces, records_of, share}
 pub use Rattle.ubi_volume.specs.PageLaws.{image_with_page, meaning_with_page}
-pub use Rattle.ubi_volume.specs.Places.{ArePlaces, ArePlacesError, ArePlacesOf, IsCountedPlace, IsNextPlace, Placed, case_of}
+pub use Rattle.ubi_volume.specs.Places.{ArePlaces, ArePlacesError, ArePlacesOf, AreWithin, CaseFits, IsCountedPlace, IsNextPlace, Placed, case_of}
 pub use Rattle.ubi_volume.specs.Reading.{leb_text, lebs_text, read_volume, volume_read}
-pub use Rattle.ubi_volume.specs.Wrote.{All, First, IsWroteError, NotAll, Wanted, Wrote}
+pub use Rattle.ubi_volume.specs.Wrote.{All, First, NotAll, Wanted, Wrote}
 pub use Rattle.ubi_volume.specs.declared.content.Content.{Content}
 pub use Rattle.ubi_volume.specs.declared.content.Volume.{Volume}
 pub use Rattle.ubi_volume.specs.declared.errors.MeaningCause.{MeaningCause}
@@ -141,7 +142,7 @@ pub use Rattle.ubi_volume.specs.declared.errors.ReadError.{ReadError}
 pub use Rattle.ubi_volume.specs.declared.places.Extent.{Extent}
 pub use Rattle.ubi_volume.specs.declared.places.PlaceContent.{PlaceContent}
 pub use Rattle.ubi_volume.specs.inner.Gathered.{AreRead, ContentIs, PieceIs, UsedIs}
-pub use Rattle.ubi_compose.specs.Building.{CanBuild, IsBuildError, IsPartOf, NamesPart, NamesVolume, image_built, those}
+pub use Rattle.ubi_compose.specs.Building.{CanBuild, those}
 pub use Rattle.ubi_compose.specs.Built.{HaveMeaning, Parts, Reaches, built, content_of, item_of, items_of, lebs_of, most_blocks, pieces_of, text_of}
 pub use Rattle.ubi_compose.specs.BuiltLaws.{text_read}
 pub use Rattle.ubi_compose.specs.Compared.{IsSameFault, WhereBothHeld}
@@ -154,19 +155,23 @@ pub use Rattle.ubi_compose.specs.Normal.{IsNormalised, Laid, blocks_of, damaged_
 unfoldable pub use Rattle.ubi_compose.specs.Normal.{normal_bytes}
 pub use Rattle.ubi_compose.specs.PageLaws.{AreTold, LeastTold, LesserAcceptsMore, NormalWithLesserPage}
 pub use Rattle.ubi_compose.specs.Spec.{IsSpecError, cause_after, cause_at, first_some, gives, heading, is_content, is_damaged, is_dynamic, is_updating, is_whole, leb_in, line_number, lines, may_follow, numbered_volume, of_volume, record_in, suits, text_in, volumes_of}
-unfoldable pub use Rattle.ubi_compose.specs.Spec.{cause_of, content_cause, first_cause, later_cause, record_of, saying, sayings, volume_from, volumes_in}
-pub use Rattle.ubi_compose.specs.Streamed.{IsNormaliseToError, IsNormalisedTo}
+unfoldable pub use Rattle.ubi_compose.specs.Spec.{cause_of, content_cause, first_cause, later_cause, saying, sayings, volume_from, volumes_in}
+pub use Rattle.ubi_compose.specs.Streamed.{HasGot, IsNormaliseToError, IsNormalisedTo}
 pub use Rattle.ubi_compose.specs.TextLaws.{ComesTo}
 pub use Rattle.ubi_compose.specs.Words.{decimal_value, escaped, is_digit, is_escape, only_byte, shown_byte, some_name, with_digit}
 unfoldable pub use Rattle.ubi_compose.specs.Words.{flags_of, hex_of, is_number, kind_of, number_of, shown_bytes, shown_name}
-pub use Rattle.ubi_compose.specs.declared.errors.BuildError.{BuildError}
 pub use Rattle.ubi_compose.specs.declared.errors.LineError.{LineError}
+pub use Rattle.ubi_compose.specs.declared.errors.PutError.{PutError}
 pub use Rattle.ubi_compose.specs.declared.errors.SameFault.{SameFault}
 pub use Rattle.ubi_compose.specs.declared.errors.SpecCause.{SpecCause}
 pub use Rattle.ubi_compose.specs.declared.line.Form.{Form}
 pub use Rattle.ubi_compose.specs.declared.line.Line.{Line}
+pub use Rattle.ubi_compose.specs.declared.piece.Device.{Device}
+pub use Rattle.ubi_compose.specs.declared.piece.Origin.{Origin}
+pub use Rattle.ubi_compose.specs.declared.piece.Piece.{Piece}
 pub use Rattle.ubi_compose.specs.declared.recipe.Part.{Part}
-pub use Rattle.ubi_compose.specs.inner.Building.{HasParts, IsReadable, IsUnbuilt, IsWriteFault, dynamic_piece, empty_of, first_pieces, first_volumes, is_long, numbered_bytes, of_write, part_at, part_bytes, piece_bytes, piece_of_kind, spares_bytes, stand_in, stand_in_item, static_piece, table_block, table_of, tables_bytes, whole_bytes}
+pub use Rattle.ubi_compose.specs.inner.Building.{HasParts, built_piece, built_pieces, empty_of, is_long, part_at, part_header, piece_of_kind, stand_in, stand_in_item, table_of}
 pub use Rattle.ubi_compose.specs.inner.Comparing.{AreSameLebs, IsSameLeb, IsSidesError, OfMeanings, TellsVolume}
 pub use Rattle.ubi_compose.specs.inner.Drafts.{AreDrafts, AreFaultless, IsRefused, changed, changed_at, error_at, opened, place_of, read, taken, with_line}
-pub use Rattle.ubi_compose.specs.inner.Streaming.{IsVolumeOf, kept_bytes, kept_text, laid_text, normal_text, volume_text, volumes_text}
+pub use Rattle.ubi_compose.specs.inner.Pieces.{HasPut, IsFirstFrom, IsInBuffer, IsNext, IsReadIn, IsReadOf, IsReadable, LiesIn, NoRead, Pieces, checked_header, first_lebs, first_volumes, given_check, image_bytes, is_left_out, known_put, leb_written, piece_bytes, piece_text, spares_bytes, table_block, tables_bytes, volume_bytes}
+pub use Rattle.ubi_compose.specs.inner.Stored.{dynamic_piece, static_piece, stored_count, stored_piece, stored_pieces}

@@ -167,22 +167,14 @@ module _ (s : Sizes) (parts : List Part) (bytes : List ℕ) (reaches : Reaches (
       let sound = sound_at i p m.0 free in
       m.1 (stand_in_fits s p sound (text_of bytes p)
       (text_size bytes p (reached (length bytes) parts i p reaches m.0)) fits)
-  misfit_bytes (cause.IdRange i) free p m = absurd m
-  misfit_bytes (cause.SameId i) free p m = absurd m
-  misfit_bytes (cause.Record i f) free p m = absurd m
-  misfit_bytes (cause.SameName i j) free p m = absurd m
-  misfit_bytes cause.NoSpace free p m = absurd m
+  misfit_bytes _ free p m = absurd m
 
   misfit_stand : (c : MeaningCause) → NoFaultAt c → IsMisfit s parts text_in (stand_in s) c
   misfit_stand (cause.ContentRange i) free p m = λ fits.
       let sound = sound_at i p m.0 free in
       m.1 (bytes_fit s p sound (text_of bytes p)
       (text_size bytes p (reached (length bytes) parts i p reaches m.0)) fits)
-  misfit_stand (cause.IdRange i) free p m = absurd m
-  misfit_stand (cause.SameId i) free p m = absurd m
-  misfit_stand (cause.Record i f) free p m = absurd m
-  misfit_stand (cause.SameName i j) free p m = absurd m
-  misfit_stand cause.NoSpace free p m = absurd m
+  misfit_stand _ free p m = absurd m
 
   stands_here : (c : MeaningCause) → NoFaultAt c → Stands s standing c → Stands s having c
   stands_here c free = stands_so s parts (stand_in s) text_in c (misfit_bytes c free)
@@ -196,11 +188,7 @@ module _ (s : Sizes) (parts : List Part) (bytes : List ℕ) (reaches : Reaches (
     where
       no_fault : (c : MeaningCause) → NoFaultAt c
       no_fault (cause.ContentRange i) = λ f. none (cause.Record i f)
-      no_fault (cause.IdRange i) = tt
-      no_fault (cause.SameId i) = tt
-      no_fault (cause.Record i f) = tt
-      no_fault (cause.SameName i j) = tt
-      no_fault cause.NoSpace = tt
+      no_fault _ = tt
 
   -- the first cause is the same
   pub first_of_bytes : (c : MeaningCause) → IsFirst s standing c → IsFirst s having c
@@ -211,19 +199,11 @@ module _ (s : Sizes) (parts : List Part) (bytes : List ℕ) (reaches : Reaches (
     where
       here : (c : MeaningCause) → IsFirst s standing c → NoFaultAt c
       here (cause.ContentRange i) h = λ f. h.first (cause.Record i f) (inl (omega arith))
-      here (cause.IdRange i) h = tt
-      here (cause.SameId i) h = tt
-      here (cause.Record i f) h = tt
-      here (cause.SameName i j) h = tt
-      here cause.NoSpace h = tt
+      here _ h = tt
 
       most : (d : MeaningCause) → rank d ≤ 6
       most (cause.ContentRange i) = omega arith
-      most (cause.IdRange i) = omega arith
-      most (cause.SameId i) = omega arith
-      most (cause.Record i f) = omega arith
-      most (cause.SameName i j) = omega arith
-      most cause.NoSpace = omega arith
+      most _ = omega arith
 
       last : (i : ℕ) → IsBefore (cause.ContentRange i) c → 6 ≤ rank c
       last i (inl l) = absurd (let m = most c in omega (arith, l, m))
@@ -232,8 +212,4 @@ module _ (s : Sizes) (parts : List Part) (bytes : List ℕ) (reaches : Reaches (
       earlier : (d : MeaningCause) → IsBefore d c → NoFaultAt d
       earlier (cause.ContentRange i) before = λ f. h.first (cause.Record i f)
           (inl (let l = last i before in omega (arith, l)))
-      earlier (cause.IdRange i) before = tt
-      earlier (cause.SameId i) before = tt
-      earlier (cause.Record i f) before = tt
-      earlier (cause.SameName i j) before = tt
-      earlier cause.NoSpace before = tt
+      earlier _ before = tt

@@ -1,9 +1,10 @@
 -- Taking a line into the volumes that the lines above it give: the volumes of one line more, or its cause.
-use Rattle.ubi_compose.proofs.Prelude.{◌≡◌, ℕ, ◌==◌, Bool, true, false, List, [], ◌∷◌, ◌++◌, map, refl, sym, ap, ◌∙◌, Option, Some, None, Result, Ok, Err, is_some, option_map, slice_set, list_all, position_from, option_map_or, result_map_both, map-append, map-map, Sizes, rec_fault, RecFault, VolumeRecord, Items, Volume, changed, changed_at, opened, place_of, taken, with_line, volume_of, content_cause, heading, later_cause, numbered_volume, of_volume, record_of, volume_from, volumes_in, SpecCause, Line}
+use Rattle.ubi_compose.proofs.Prelude.{◌≡◌, ℕ, ◌==◌, Bool, true, false, List, [], ◌∷◌, ◌++◌, map, refl, sym, ap, ◌∙◌, Option, Some, None, Result, Ok, Err, is_some, option_map, slice_set, list_all, position_from, option_map_or, result_map_both, map-append, map-map, Sizes, rec_fault, RecFault, VolumeRecord, Items, Volume, changed, changed_at, opened, place_of, taken, with_line, volume_of, content_cause, heading, later_cause, numbered_volume, of_volume, volume_from, volumes_in, SpecCause, Line}
+use Rattle.ubi_compose.specs.Spec.{record_of}
 use Rattle.std.specs.Prelude.{cond}
 use Rattle.ubi_compose.specs.declared.errors.SpecCause.TheVariants as cause
 use Rattle.ubi_compose.specs.declared.line.Line.TheVariants as line
-use Rattle.ubi_compose.proofs.VolumeLines.{answer_of, damaged_taken, is_sound, leb_taken, text_taken, updating_taken}
+use Rattle.ubi_compose.proofs.VolumeLines.{IsTaken, answer_of, damaged_taken, is_sound, leb_taken, text_taken, updating_taken}
 use Rattle.ubi_compose.proofs.Headings.{headings, headings_kept, headings_more, own_kept, own_more, record_headed}
 use Rattle.ubi_compose.proofs.Places.{Cut, cut_of, found_cut, get_same, map_same, other_number, place_is_some, same_number, set_same}
 use Rattle.ubi_compose.proofs.Sound.{IsSoundText, cause_in, not_headed}
@@ -29,17 +30,15 @@ same_elsewhere s ls l e h =
     ap (λ own. (e.0, volume_from s e.1 own)) (sym (own_kept e.0 ls l (other_number e.0 (volume_of l) h)))
 
 -- what a content line makes of its own volume
-abbrev IsTaken : Sizes → Line → Type 0
-IsTaken s l =
-    (r : VolumeRecord) (own : List Line) → list_all (is_sound r) own ≡ true
-    → with_line s (volume_from s r own) l ≡ answer_of (content_cause s r own l) (volume_from s r (own ++ l ∷ []))
+abbrev IsTakenByAny : Sizes → Line → Type 0
+IsTakenByAny s l = (r : VolumeRecord) (own : List Line) → list_all (is_sound r) own ≡ true → IsTaken s r own l
 
 put_by : (items more : Items) (place id : ℕ) (v : Volume) (c : Option SpecCause) → slice_set items place (id, v) ≡ more
     → result_map_both (λ w. slice_set items place (id, w)) (λ c. c) (answer_of c v) ≡ answer c more
 put_by items more place id v None h = ap (λ (l : Items). Ok l) h
 put_by items more place id v (Some c) h = refl
 
-at_place : (s : Sizes) (ls : List Line) (l : Line) (place : ℕ) → heading l ≡ None → IsSoundText s ls → IsTaken s l
+at_place : (s : Sizes) (ls : List Line) (l : Line) (place : ℕ) → heading l ≡ None → IsSoundText s ls → IsTakenByAny s l
     → Cut (volume_of l) 0 (headings ls) place
     → changed_at s (volumes_in s ls) l place ≡ answer (cause_in s ls l) (volumes_in s (ls ++ l ∷ []))
 unfolding volumes_in
@@ -77,7 +76,7 @@ not_some : (o : Option VolumeRecord) → is_some o ≡ false → o ≡ None
 not_some None h = refl
 not_some (Some r) h = absurd (cc)
 
-changed_by : (s : Sizes) (ls : List Line) (l : Line) (o : Option ℕ) → heading l ≡ None → IsSoundText s ls → IsTaken s l
+changed_by : (s : Sizes) (ls : List Line) (l : Line) (o : Option ℕ) → heading l ≡ None → IsSoundText s ls → IsTakenByAny s l
     → position_from (λ n. n == volume_of l) 0 (ids (headings ls)) ≡ o
     → option_map_or (changed_at s (volumes_in s ls) l) o (Err cause.Order)
     ≡ answer (cause_in s ls l) (volumes_in s (ls ++ l ∷ []))
@@ -89,7 +88,7 @@ changed_by s ls l None n t takes h =
     (ap is_some (record_headed (volume_of l) ls) ∙ sym (place_is_some (volume_of l) 0 (headings ls)) ∙ ap is_some h) in
     rw none refl
 
-changed_more : (s : Sizes) (ls : List Line) (l : Line) → heading l ≡ None → IsSoundText s ls → IsTaken s l
+changed_more : (s : Sizes) (ls : List Line) (l : Line) → heading l ≡ None → IsSoundText s ls → IsTakenByAny s l
     → changed s (volumes_in s ls) l ≡ answer (cause_in s ls l) (volumes_in s (ls ++ l ∷ []))
 changed_more s ls l n t takes =
     ap (λ o. option_map_or (changed_at s (volumes_in s ls) l) o (Err cause.Order)) (place_headed s ls (volume_of l))

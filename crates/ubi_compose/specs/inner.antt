@@ -2,4 +2,5 @@
 pub mod Building
 pub mod Comparing
 pub mod Drafts
-pub mod Streaming
+pub mod Pieces
+pub mod Stored

@@ -8,6 +8,7 @@ ghost use Rattle.ubi_compose.specs.Built.{HaveMeaning, IsRecipeError, most_block
 ghost use Rattle.ubi_compose.specs.inner.Building.{empty_of, is_long, part_at, stand_in_item};
 
 use crate::errors::RecipeError;
+use crate::piece::Device;
 use std::alloc::{AllocError, Global};
 use std::marker::Model;
 use ubi_media::{Geometry, VolKind, VolumeRecord, rec_fault};
@@ -146,6 +147,18 @@ impl Recipe {
         ensures { result ≡ self.now.image_seq }
     {
         self.image_seq
+    }
+
+    /// The device that the image is built for.
+    pub(crate) fn device(&self) -> Device
+        ensures value { result ≡ record { geometry = self.now.sizes; image_seq = self.now.image_seq } }
+        ensures limits { IsGeometry self.now.sizes }
+        ensures meaning { HaveMeaning self.now }
+    {
+        Device {
+            geometry: self.geometry,
+            image_seq: self.image_seq,
+        }
     }
 
     /// The volumes, in the order in which they were given.

@@ -1,154 +1,107 @@
-//! The eraseblocks of a volume in the normal image, from their places in a source to a writer.
-//!
-//! Each buffer has the size of an eraseblock. `done` is how many bytes were written before, and what is given how many are
-//! written then.
+//! The volumes of an image whose places are known.
 
 ghost use Rattle.std.specs.FinMap as finite;
-ghost use Rattle.std.specs.Prelude.{◌≡◌, ℕ, ◌+◌, ◌*◌, ◌<◌, ◌≤◌, ◌^◌, IfErr, IfOk, None, Some, length};
+ghost use Rattle.std.specs.Prelude.{◌≡◌, ℕ, None, Some};
 ghost use Rattle.ubi_media.specs.Record.{rec_fault};
-ghost use Rattle.ubi_scan.specs.Source.{Narrows, Source};
-ghost use Rattle.ubi_scan.specs.Stream.{NamesBlock, after};
-ghost use Rattle.ubi_volume.specs.Places.{ArePlacesOf};
-ghost use Rattle.ubi_volume.specs.declared.places.PlaceContent.TheVariants as place;
-ghost use Rattle.ubi_compose.specs.inner.Streaming.{volume_text};
-ghost use Rattle.ubi_volume.specs.Wrote.{All, IsWroteError, Wrote};
+ghost use Rattle.ubi_volume.specs.Places.{AreWithin};
+ghost use Rattle.ubi_compose.specs.inner.Pieces.{IsNext};
+ghost use Rattle.ubi_compose.specs.inner.Stored.{damaged_piece, dynamic_piece, static_piece, stored_pieces};
 
 use crate::header::{damaged_header, piece_header};
-use crate::placing::{fetch, given_check, put_kept, put_laid, put_text};
-use std::io::Write;
+use crate::piece::{Origin, Piece};
+use crate::sourced::Contents;
 use ubi_media::{Geometry, VidHeader, VolKind, VolumeRecord};
-use ubi_scan::{BlockSource, StreamError};
 use ubi_volume::{Extent, PlaceContent, Places};
 
-/// Writes the eraseblocks of a static text. The check of each piece is the one that the header in its place gives: it was
+/// The piece of a damaged volume.
+fn damaged_piece(geometry: &Geometry, id: u32, entry: &VolumeRecord) -> Piece
+    requires { rec_fault geometry.now entry.now ≡ None }
+    ensures { result ≡ damaged_piece geometry.now id entry.now }
+{
+    Piece {
+        header: damaged_header(entry.data_pad(geometry), id),
+        origin: Origin::Nowhere,
+        len: 0,
+    }
+}
+
+/// The piece at `lnum` of a static text of so many logical eraseblocks and bytes. The header in its place gives the check: it was
 /// compared with the piece when the size of the text was found.
-///
-/// # Errors
-///
-/// A read failed, or a write.
-fn put_static<S: BlockSource, W: Write>(
+fn static_piece(
     geometry: &Geometry,
-    source: &mut S,
-    places: &Places,
-    numbered: &(u32, VolumeRecord),
-    buffer: &mut [u8],
-    writer: &mut W,
-    done: u64,
-) -> Result<u64, StreamError>
-    requires places { ArePlacesOf geometry.now (S.known source.old) (S.agrees source.old) places.now }
-    requires recorded { finite.get places.now.records.of numbered.now.0 ≡ Some numbered.now.1 }
-    requires sound { rec_fault geometry.now numbered.now.1 ≡ None }
-    requires whole { (lebs bytes : ℕ) × (finite.get places.now.contents numbered.now.0 ≡ Some (place.Static lebs bytes)) }
-    requires room { length buffer.old ≡ geometry.now.peb_size }
-    requires few { done + numbered.now.1.reserved * geometry.now.peb_size < 2 ^ 64 }
-    ensures known { S.known source.new ≡ after (S.known source.old) result }
-    ensures narrows { Narrows (S.agrees source.old) (S.agrees source.new) }
-    ensures written { IfOk result (Wrote (S.agrees source.new) (W.contents writer.old) (W.contents writer.new) (volume_text geometry.now places.now numbered.now.0) All done) }
-    ensures most { IfOk result (λ n. n ≤ done + numbered.now.1.reserved * geometry.now.peb_size) }
-    ensures failed { IfErr result (IsWroteError geometry.now (S.known source.old) (S.agrees source.new) (W.contents writer.old) (W.contents writer.new) (volume_text geometry.now places.now numbered.now.0) done) }
-    ensures named { IfErr result (NamesBlock geometry.now (S.failed_at source.new)) }
+    id: u32,
+    entry: &VolumeRecord,
+    lebs: u32,
+    bytes: u64,
+    lnum: u32,
+    p: u32,
+) -> Piece
+    requires { rec_fault geometry.now entry.now ≡ None }
+    ensures { result ≡ static_piece geometry.now id entry.now lebs bytes lnum p }
 {
-    let (id, entry) = numbered;
-    let PlaceContent::Static { lebs, bytes } = places.content(*id) else {
-        unreachable!()
-    };
     let size = entry.usable(geometry);
-    let extent = Extent { lebs, size, bytes };
-    let (data_pad, image_seq) = (entry.data_pad(geometry), places.image_seq());
-    let mut total = done;
-    for lnum in 0..lebs {
-        let Some(p) = places.place(*id, lnum) else {
-            unreachable!()
-        };
-        fetch(geometry, source, p, buffer, total)?;
-        let (len, check) = (extent.share_len(lnum), given_check(geometry, buffer));
-        let header = piece_header(data_pad, *id, lebs, lnum, len as u32, check);
-        total = put_laid(geometry, image_seq, &header, len, buffer, writer, total)?;
+    let len = Extent { lebs, size, bytes }.share_len(lnum) as u32;
+    Piece {
+        header: piece_header(entry.data_pad(geometry), id, lebs, lnum, len, 0),
+        origin: Origin::Block(p),
+        len,
     }
-    Ok(total)
 }
 
-/// Writes the eraseblocks of what is kept of a dynamic volume.
-///
-/// # Errors
-///
-/// A read failed, or a write.
-fn put_dynamic<S: BlockSource, W: Write>(
-    geometry: &Geometry,
-    source: &mut S,
-    places: &Places,
-    numbered: &(u32, VolumeRecord),
-    buffer: &mut [u8],
-    writer: &mut W,
-    done: u64,
-) -> Result<u64, StreamError>
-    requires places { ArePlacesOf geometry.now (S.known source.old) (S.agrees source.old) places.now }
-    requires recorded { finite.get places.now.records.of numbered.now.0 ≡ Some numbered.now.1 }
-    requires sound { rec_fault geometry.now numbered.now.1 ≡ None }
-    requires dynamic { finite.get places.now.contents numbered.now.0 ≡ Some place.Dynamic }
-    requires room { length buffer.old ≡ geometry.now.peb_size }
-    requires few { done + numbered.now.1.reserved * geometry.now.peb_size < 2 ^ 64 }
-    ensures known { S.known source.new ≡ after (S.known source.old) result }
-    ensures narrows { Narrows (S.agrees source.old) (S.agrees source.new) }
-    ensures written { IfOk result (Wrote (S.agrees source.new) (W.contents writer.old) (W.contents writer.new) (volume_text geometry.now places.now numbered.now.0) All done) }
-    ensures most { IfOk result (λ n. n ≤ done + numbered.now.1.reserved * geometry.now.peb_size) }
-    ensures failed { IfErr result (IsWroteError geometry.now (S.known source.old) (S.agrees source.new) (W.contents writer.old) (W.contents writer.new) (volume_text geometry.now places.now numbered.now.0) done) }
-    ensures named { IfErr result (NamesBlock geometry.now (S.failed_at source.new)) }
+/// The piece at `lnum` of a dynamic volume.
+fn dynamic_piece(geometry: &Geometry, id: u32, entry: &VolumeRecord, lnum: u32, p: u32) -> Piece
+    requires { rec_fault geometry.now entry.now ≡ None }
+    ensures { result ≡ dynamic_piece geometry.now id entry.now lnum p }
 {
-    let (id, entry) = numbered;
-    let size = entry.usable(geometry) as usize;
     let data_pad = entry.data_pad(geometry);
-    let image_seq = places.image_seq();
-    let mut total = done;
-    let mut from = 0;
-    while let Some((lnum, p)) = places.next_place(*id, from) {
-        fetch(geometry, source, p, buffer, total)?;
-        let header = VidHeader::plain(VolKind::Dynamic, 0, data_pad, *id, lnum);
-        total = put_kept(geometry, image_seq, &header, size, buffer, writer, total)?;
-        from = lnum + 1;
+    Piece {
+        header: VidHeader::plain(VolKind::Dynamic, 0, data_pad, id, lnum),
+        origin: Origin::Block(p),
+        len: entry.usable(geometry),
     }
-    Ok(total)
 }
 
-/// Writes the eraseblocks of a volume.
-///
-/// # Errors
-///
-/// A read failed, or a write.
-pub fn put_volume<S: BlockSource, W: Write>(
+/// The next piece of a volume with a record, from a logical eraseblock on.
+fn next_piece(
     geometry: &Geometry,
-    source: &mut S,
     places: &Places,
-    numbered: &(u32, VolumeRecord),
-    buffer: &mut [u8],
-    writer: &mut W,
-    done: u64,
-) -> Result<u64, StreamError>
-    requires places { ArePlacesOf geometry.now (S.known source.old) (S.agrees source.old) places.now }
-    requires recorded { finite.get places.now.records.of numbered.now.0 ≡ Some numbered.now.1 }
-    requires sound { rec_fault geometry.now numbered.now.1 ≡ None }
-    requires room { length buffer.old ≡ geometry.now.peb_size }
-    requires few { done + numbered.now.1.reserved * geometry.now.peb_size < 2 ^ 64 }
-    ensures known { S.known source.new ≡ after (S.known source.old) result }
-    ensures narrows { Narrows (S.agrees source.old) (S.agrees source.new) }
-    ensures written { IfOk result (Wrote (S.agrees source.new) (W.contents writer.old) (W.contents writer.new) (volume_text geometry.now places.now numbered.now.0) All done) }
-    ensures most { IfOk result (λ n. n ≤ done + numbered.now.1.reserved * geometry.now.peb_size) }
-    ensures failed { IfErr result (IsWroteError geometry.now (S.known source.old) (S.agrees source.new) (W.contents writer.old) (W.contents writer.new) (volume_text geometry.now places.now numbered.now.0) done) }
-    ensures named { IfErr result (NamesBlock geometry.now (S.failed_at source.new)) }
+    id: u32,
+    entry: &VolumeRecord,
+    from: u32,
+) -> Option<Piece>
+    requires sizes { places.now.records.sizes ≡ geometry.now }
+    requires recorded { finite.get places.now.records.of id ≡ Some entry.now }
+    requires sound { rec_fault geometry.now entry.now ≡ None }
+    requires within { (n : ℕ) × AreWithin n places.now }
+    ensures { IsNext (stored_pieces places.now) id from result }
 {
-    let (id, entry) = numbered;
-    match places.content(*id) {
-        PlaceContent::Updating => Ok(done),
-        PlaceContent::Damaged => {
-            let header = damaged_header(entry.data_pad(geometry), *id);
-            let image_seq = places.image_seq();
-            put_text(geometry, image_seq, &header, &[], buffer, writer, done)
+    match places.content(id) {
+        PlaceContent::Damaged if from == 0 => Some(damaged_piece(geometry, id, entry)),
+        PlaceContent::Static { lebs, bytes } if from < lebs => {
+            let p = places.place(id, from)?;
+            Some(static_piece(geometry, id, entry, lebs, bytes, from, p))
         }
-        PlaceContent::Static { .. } => {
-            put_static(geometry, source, places, numbered, buffer, writer, done)
-        }
-        PlaceContent::Dynamic => {
-            put_dynamic(geometry, source, places, numbered, buffer, writer, done)
-        }
+        PlaceContent::Dynamic => match places.next_place(id, from) {
+            Some((lnum, p)) => Some(dynamic_piece(geometry, id, entry, lnum, p)),
+            None => None,
+        },
+        _ => None,
+    }
+}
+
+impl Contents for Places {
+    ghost use Rattle.std.specs.Prelude.{◌/◌};
+    ghost use Rattle.ubi_compose.specs.inner.Stored.{stored_pieces};
+    ghost use Rattle.ubi_volume.specs.Places.{AreWithin};
+
+    ghost sizes = { λ p. p.records.sizes };
+
+    ghost pieces = { λ p. stored_pieces p };
+
+    ghost LieIn = { λ p size. AreWithin (size / p.records.sizes.peb_size) p };
+
+    fn next(&self, geometry: &Geometry, id: u32, from: u32) -> Option<Piece> {
+        let entry = self.table().get(id)?;
+        next_piece(geometry, self, id, entry, from)
     }
 }

@@ -1,32 +1,24 @@
--- The eraseblocks that are built of parts, by the bytes of the source; and what stands for the bytes where volumes are
--- judged.
-use Rattle.std.specs.Prelude.{◌≡◌, ℕ, ◌+◌, ◌*◌, ◌^◌, ◌<◌, ◌≤◌, ◌&&◌, Bool, List, [], ◌++◌, if◌then◌else◌, find, flat_map, is_none, nat_lt, not, option_map, None, Option, ◌==◌}
+-- The pieces that are built of parts; and what stands for the bytes where volumes are judged.
+use Rattle.std.specs.Prelude.{◌≡◌, ℕ, ◌+◌, ◌*◌, ◌^◌, ◌<◌, ◌≤◌, ◌&&◌, Bool, List, [], if◌then◌else◌, find, flat_map, is_none, nat_lt, not, option_map, None, Option, ◌==◌}
 use Rattle.std.specs.FinMap as finite
 use Rattle.std.specs.List.{range_with_len}
 use Rattle.std.specs.Option.{option_map_or}
-use Rattle.ubi_media.specs.Fields.{filled}
 use Rattle.ubi_media.specs.Geometry.{Sizes, slots}
 use Rattle.ubi_media.specs.Record.{data_pad, rec_bytes, rec_fault, usable}
 use Rattle.ubi_media.specs.Vid.{plain}
+use Rattle.ubi_media.specs.declared.vid.VidHeader.{VidHeader}
 use Rattle.ubi_media.specs.declared.vid.VolKind.{VolKind}
 use Rattle.ubi_media.specs.declared.vid.VolKind.TheVariants as kind
-use Rattle.ubi_scan.specs.Members.{layout}
-use Rattle.ubi_scan.specs.Source.{Agreed, Source}
-use Rattle.ubi_volume.specs.Meant.{share}
-use Rattle.ubi_volume.specs.Wrote.{First, NotAll, Wanted, Wrote}
+use Rattle.ubi_volume.specs.Extract.{share_len}
 use Rattle.ubi_volume.specs.declared.content.Content.{Content}
 use Rattle.ubi_volume.specs.declared.content.Content.TheVariants as content
 use Rattle.ubi_volume.specs.declared.content.Volume.{Volume}
-use Rattle.ubi_compose.specs.Building.{IsPartOf}
-use Rattle.ubi_compose.specs.Built.{Parts, Reaches, pieces_of, text_of}
-use Rattle.ubi_compose.specs.Composed.{spare}
-use Rattle.ubi_compose.specs.Normal.{laid_bytes, new_ec, static_part}
+use Rattle.ubi_compose.specs.Built.{Parts, Reaches, pieces_of}
+use Rattle.ubi_compose.specs.Normal.{piece_header}
+use Rattle.ubi_compose.specs.declared.piece.Origin.TheVariants as origin
+use Rattle.ubi_compose.specs.declared.piece.Piece.{Piece}
 use Rattle.ubi_compose.specs.declared.recipe.Part.{Part}
-use Rattle.ubi_compose.specs.declared.errors.BuildError.{BuildError}
-use Rattle.ubi_compose.specs.declared.errors.BuildError.TheVariants as build
-use Rattle.ubi_compose.specs.inner.Streaming.{kept_bytes}
-use Rattle.ubi_scan.specs.declared.errors.StreamError.{StreamError}
-use Rattle.ubi_scan.specs.declared.errors.StreamError.TheVariants as stream
+use Rattle.ubi_compose.specs.inner.Pieces.{Pieces}
 
 -- a part has more bytes than its volume holds; of a record that breaks a rule nothing is said
 abbrev pub is_long : Sizes → Part → Bool
@@ -45,18 +37,10 @@ stand_in s p = if is_long s p && not p.entry.marker then content.Updating else e
 abbrev pub stand_in_item : Sizes → Part → ℕ × Volume
 stand_in_item s p = (p.id, record { entry = p.entry; content = stand_in s p })
 
--- a source has the bytes of all parts, and no more than 64 bits tell
-pub record HasParts (k : Source) (parts : List Part) : Type 0 where
-  pub narrow : k.size < 2 ^ 64
-  pub reaches : Reaches k.size parts
-
--- a part whose record breaks no rule, whose volume holds its bytes, and whose bytes the source has
-pub record IsReadable (ps : Parts) (k : Source) (p : Part) : Type 0 where
-  pub listed : IsPartOf ps p.id p
-  pub sound : rec_fault ps.sizes p.entry ≡ None
-  pub fits : p.len ≤ p.entry.reserved * usable ps.sizes p.entry
-  pub narrow : k.size < 2 ^ 64
-  pub reaches : p.start + p.len ≤ k.size
+-- a source of a size has the bytes of all parts, and no more than 64 bits tell
+pub record HasParts (size : ℕ) (parts : List Part) : Type 0 where
+  pub narrow : size < 2 ^ 64
+  pub reaches : Reaches size parts
 
 -- the part whose volume has a number
 abbrev pub part_at : Parts → ℕ → Option Part
@@ -68,74 +52,26 @@ table_of ps =
     flat_map (λ slot. rec_bytes ps.sizes (option_map (λ p. p.entry) (part_at ps slot)))
     (range_with_len 0 (slots ps.sizes))
 
--- the eraseblock of a piece of a static volume
-abbrev pub static_piece : Parts → Part → ℕ → List ℕ → List ℕ
-static_piece ps p lnum bytes = laid_bytes ps.sizes (new_ec ps.image_seq)
-    (static_part (data_pad ps.sizes p.entry) (usable ps.sizes p.entry) p.id (text_of bytes p) lnum)
+-- the header of a piece of a part, without its check, by the kind of the volume
+abbrev pub part_header : VolKind → Sizes → Part → ℕ → ℕ → VidHeader
+part_header kind.Static s p lnum len = piece_header (data_pad s p.entry) p.id (pieces_of s p) lnum len 0
+part_header kind.Dynamic s p lnum len = plain kind.Dynamic 0 (data_pad s p.entry) p.id lnum
 
--- that of a dynamic one: none where the piece is 0xFF throughout
-abbrev pub dynamic_piece : Parts → Part → ℕ → List ℕ → List ℕ
-dynamic_piece ps p lnum bytes = kept_bytes ps.sizes ps.image_seq
-    (plain kind.Dynamic 0 (data_pad ps.sizes p.entry) p.id lnum)
-    (filled (usable ps.sizes p.entry) (share (usable ps.sizes p.entry) (text_of bytes p) lnum))
+-- the piece, by that kind
+abbrev pub piece_of_kind : VolKind → Sizes → Part → ℕ → Piece
+piece_of_kind k s p lnum = record {
+  header = part_header k s p lnum (share_len (usable s p.entry) p.len lnum);
+  origin = origin.Bytes (p.start + lnum * usable s p.entry);
+  len = share_len (usable s p.entry) p.len lnum;
+}
 
--- that of a volume of a kind
-abbrev pub piece_of_kind : VolKind → Parts → Part → ℕ → List ℕ → List ℕ
-piece_of_kind kind.Static = static_piece
-piece_of_kind kind.Dynamic = dynamic_piece
+-- and by the part alone
+abbrev pub built_piece : Sizes → Part → ℕ → Piece
+built_piece s p = piece_of_kind p.entry.kind s p
 
--- that of a piece of a part
-abbrev pub piece_bytes : Parts → Part → ℕ → List ℕ → List ℕ
-piece_bytes ps p = piece_of_kind p.entry.kind ps p
-
--- the eraseblocks of the first n pieces of a part
-abbrev pub first_pieces : Parts → Part → ℕ → List ℕ → List ℕ
-first_pieces ps p n bytes = flat_map (λ lnum. piece_bytes ps p lnum bytes) (range_with_len 0 n)
-
--- those of all
-abbrev pub part_bytes : Parts → Part → List ℕ → List ℕ
-part_bytes ps p = first_pieces ps p (pieces_of ps.sizes p)
-
--- those of the volume with a number
-abbrev pub numbered_bytes : Parts → ℕ → List ℕ → List ℕ
-numbered_bytes ps id bytes = option_map_or (λ p. part_bytes ps p bytes) (part_at ps id) []
-
--- those of the volumes whose numbers are below n
-abbrev pub first_volumes : Parts → ℕ → List ℕ → List ℕ
-first_volumes ps n bytes = flat_map (λ id. numbered_bytes ps id bytes) (range_with_len 0 n)
-
--- a copy of the volume table
-abbrev pub table_block : Parts → ℕ → List ℕ → List ℕ
-table_block ps copy bytes =
-    laid_bytes ps.sizes (new_ec ps.image_seq)
-    (record { header = plain kind.Dynamic 5 0 layout copy; text = table_of ps })
-
--- both
-abbrev pub tables_bytes : Parts → List ℕ → List ℕ
-tables_bytes ps bytes = table_block ps 0 bytes ++ table_block ps 1 bytes
-
--- n spare eraseblocks
-abbrev pub spares_bytes : Parts → ℕ → List ℕ → List ℕ
-spares_bytes ps n bytes = flat_map (λ _. spare ps.sizes ps.image_seq) (range_with_len 0 n)
-
--- the tables, the volumes and n spare eraseblocks
-abbrev pub whole_bytes : Parts → ℕ → List ℕ → List ℕ
-whole_bytes ps n bytes = (tables_bytes ps bytes ++ first_volumes ps (slots ps.sizes) bytes) ++ spares_bytes ps n bytes
-
--- a write failed
-abbrev pub IsWriteFault : StreamError → Type 0
-IsWriteFault (stream.Write n) = Unit {0}
-IsWriteFault _ = ⊥
-
--- that of building, where a write failed
-abbrev pub of_write : StreamError → BuildError
-of_write (stream.Write n) = build.Write n
-of_write _ = build.Memory
-
--- why the writer didn't receive all of the bytes wanted: a read for a volume failed, after the first of them, or a
--- write
-abbrev pub IsUnbuilt : Parts → Agreed → Option (List ℕ) → Option (List ℕ) → Wanted → ℕ → BuildError → Type 0
-IsUnbuilt ps agrees old new wanted before (build.Read id n) =
-    (p : Part) × IsPartOf ps id p × Wrote agrees old new wanted First before n
-IsUnbuilt ps agrees old new wanted before (build.Write n) = Wrote agrees old new wanted NotAll before n
-IsUnbuilt ps agrees old new wanted before _ = ⊥
+-- the pieces of all parts
+abbrev pub built_pieces : Parts → Pieces
+built_pieces ps = record {
+  at = λ id lnum. option_map (λ p. built_piece ps.sizes p lnum) (part_at ps id);
+  count = λ id. option_map_or (pieces_of ps.sizes) (part_at ps id) 0;
+}

@@ -1,6 +1,7 @@
 use Rattle.ubi_compose.proofs.Prelude.{◌≡◌, ◌<◌, ◌∙◌, get_or, length, ap, refl, sym, subst, arith, false≢true, Source, places_narrowed, ArePlacesOf, Records, listed_item, TellsVolume}
 use Rattle.std.specs.Prelude.{Bool}
 use Rattle.std.specs.FinMap as finite
+use Rattle.ubi_compose.proofs.ListedVolumes.{listed_place}
 use Rattle.ubi_compose.proofs.SamePlaces.{all_same, one_other, one_same}
 use Rattle.ubi_compose.proofs.matching.same_volumes.Goals as goal
 
@@ -28,14 +29,11 @@ pub returns-then-not-branch-clause-answer : goal.returns-then-not-branch-clause-
 returns-then-not-branch-clause-answer g c = λ x xs y ys h k.
     let e = c.listed-item.result in
     let i = c.loop-listed.listed-index in
-    let entries = c.entries-listed-items.ensures.value ∙ ap (λ (x : Records). finite.entries x.of) c.table.ensures in
-    let here : e ≡ get_or (finite.entries c.args.here.now.records.of) i e = c.listed-item.is
-    ∙ ap (λ es. get_or es i e) entries in
-    let inside : i < length (finite.entries c.args.here.now.records.of) = omega (arith, ap length entries) in
+    let at = listed_place c.args.here.now.records c.table.result.now c.entries-listed-items.result.now i e c.table.ensures
+    c.entries-listed-items.ensures.value c.loop-listed-test.true c.listed-item.is in
     let tells = c.in_ok-same_volume.ensures.answer x xs y ys h k in (
       λ t. absurd (false≢true t),
-      λ same. absurd (one_other c.args.geometry.now c.args.here.now c.args.there.now x y h k c.requires.same i e inside
-          here
+      λ same. absurd (one_other c.args.geometry.now c.args.here.now c.args.there.now x y h k c.requires.same i e at.1 at.0
           (subst (λ (b : Bool). TellsVolume e.0 b h.meaning k.meaning) c.if-not-branch.true tells) same),
     )
 
@@ -43,10 +41,8 @@ pub loop-listed-preserved : goal.loop-listed-preserved
 loop-listed-preserved g c =
     let e = c.listed-item.result in
     let i = c.loop-listed.listed-index in
-    let entries = c.entries-listed-items.ensures.value ∙ ap (λ (x : Records). finite.entries x.of) c.table.ensures in
-    let here : e ≡ get_or (finite.entries c.args.here.now.records.of) i e = c.listed-item.is
-    ∙ ap (λ es. get_or es i e) entries in
-    let inside : i < length (finite.entries c.args.here.now.records.of) = omega (arith, ap length entries) in
+    let at = listed_place c.args.here.now.records c.table.result.now c.entries-listed-items.result.now i e c.table.ensures
+    c.entries-listed-items.ensures.value c.loop-listed-test.true c.listed-item.is in
     record {
       left = c.in_ok-same_volume.ensures.left ∙ c.loop-listed.invariant.left;
       right = c.in_ok-same_volume.ensures.right ∙ c.loop-listed.invariant.right;
@@ -54,7 +50,7 @@ loop-listed-preserved g c =
       right_narrows = λ y ys. c.loop-listed.invariant.right_narrows y (c.in_ok-same_volume.ensures.right_narrows y ys);
       same = λ x xs y ys h k.
           let tells = c.in_ok-same_volume.ensures.answer x xs y ys h k in
-          one_same c.args.geometry.now c.args.here.now c.args.there.now x y h k c.requires.same i e inside here
+          one_same c.args.geometry.now c.args.here.now c.args.there.now x y h k c.requires.same i e at.1 at.0
           (subst (λ (b : Bool). TellsVolume e.0 b h.meaning k.meaning) c.if-not-branch.false tells)
           (c.loop-listed.invariant.same x (c.in_ok-same_volume.ensures.left_narrows x xs) y
           (c.in_ok-same_volume.ensures.right_narrows y ys) h k);

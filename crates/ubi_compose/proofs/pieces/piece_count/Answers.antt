@@ -1,5 +1,5 @@
 use Rattle.ubi_compose.proofs.Prelude.{◌∙◌, ap, arith, div_ceil, reserved_within, usable_some, usable, pieces_few}
-use Rattle.ubi_compose.proofs.ReadPieces.{div_ceil-pieces}
+use Rattle.ubi_compose.proofs.PiecesOfParts.{div_ceil-pieces}
 use Rattle.ubi_compose.proofs.pieces.piece_count.Goals as goal
 
 pub returns-clause-value : goal.returns-clause-value

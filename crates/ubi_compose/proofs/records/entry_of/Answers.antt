@@ -1,5 +1,4 @@
-use Rattle.ubi_compose.proofs.Prelude.{arith, common_steps}
-use Rattle.ubi_volume.proofs.Recorded.{record_of}
+use Rattle.ubi_compose.proofs.Prelude.{arith, common_steps, record_of}
 use Rattle.ubi_compose.proofs.records.entry_of.Goals as goal
 
 pub returns-clause-entry : goal.returns-clause-entry

@@ -1,0 +1,59 @@
+-- What stands in a buffer after an eraseblock or a piece was read, and what is laid out of it.
+use Rattle.ubi_compose.proofs.Prelude.{IsInBuffer, checked_header, piece_text, ◌≡◌, ℕ, ◌+◌, ◌-◌, ◌*◌, ◌/◌, ◌<◌, ◌≤◌, Bool, true, false, cond, List, [], ◌++◌, length, take, drop, slice_range, refl, ap, sym, ◌∙◌, arith, drop-append_seam, take-append_seam, take-take, Sizes, VidHeader, block, vid_area, get_or-first_chunks, laid_bytes, new_ec, Device, Origin, Piece, is_left_out, piece_bytes}
+use Rattle.ubi_scan.specs.Source.{blocks_of}
+use Rattle.ubi_compose.specs.declared.piece.Origin.TheVariants as origin
+
+-- what was put behind the headers' bytes
+pub text_is : (xs text rest : List ℕ) (n : ℕ) → length xs ≡ n
+    → take (length text) (drop n (xs ++ (text ++ rest))) ≡ text
+text_is xs text rest n size =
+    ap (λ k. take (length text) (drop k (xs ++ (text ++ rest)))) (sym size)
+    ∙ ap (take (length text)) (drop-append_seam xs (text ++ rest)) ∙ take-append_seam text rest
+
+-- a whole eraseblock that was read
+pub block_of_read : (s : Sizes) (bytes : List ℕ) (p : ℕ) → p < length bytes / s.peb_size
+    → slice_range bytes (p * s.peb_size) (p * s.peb_size + s.peb_size) ≡ block (blocks_of s bytes) p
+block_of_read s bytes p inside =
+    let size = s.peb_size in
+    let count : p * size + size - p * size ≡ size = omega arith in
+    ap (λ n. take n (drop (p * size) bytes)) count
+    ∙ sym (get_or-first_chunks size (length bytes / size) bytes p [] inside)
+
+-- the bytes of its volume-identifier header
+pub vid_area_of : (s : Sizes) (b : List ℕ) (start : ℕ) → start ≡ s.vid_offset → start + 64 ≤ length b
+    → take 64 (take (length b - start) (drop start b)) ≡ vid_area s b
+vid_area_of s b start begin room =
+    let count : 64 ≡ start + 64 - start = omega arith in
+    take-take 64 (length b - start) (drop start b) (omega arith) ∙ ap (λ n. take n (drop start b)) count
+    ∙ ap (λ n. slice_range b n (n + 64)) begin
+
+-- the bytes of a piece stand where the data of an eraseblock begin
+pub text_held : (s : Sizes) (o : Origin) (len : ℕ) (buffer bytes : List ℕ) → IsInBuffer s o len buffer bytes
+    → take len (drop s.data_offset buffer) ≡ piece_text s o len bytes
+text_held s origin.Nowhere len buffer bytes h = ap (λ n. take n (drop s.data_offset buffer)) h
+text_held s (origin.Block p) len buffer bytes h = ap (λ b. take len (drop s.data_offset b)) h
+text_held s (origin.Bytes start) len buffer bytes h = h
+
+-- a piece that is left out, and one that isn't
+module _ (d : Device) (q : Piece) (buffer bytes : List ℕ) (holds : IsInBuffer d.geometry q.origin q.len buffer bytes) where
+  abbrev text : List ℕ
+  text = take q.len (drop d.geometry.data_offset buffer)
+
+  by_test : (b : Bool) → is_left_out q.header.kind text ≡ b → (h : VidHeader)
+      → h ≡ checked_header q.header.kind d.geometry q.header q.origin q.len bytes
+      → piece_bytes d q bytes ≡ cond b [] (laid_bytes d.geometry (new_ec d.image_seq) (record { header = h; text = text }))
+  by_test b is h header =
+      let laid = λ (t : List ℕ) (x : VidHeader). laid_bytes d.geometry (new_ec d.image_seq) (record { header = x; text = t }) in
+      ap (λ t. cond (is_left_out q.header.kind t) []
+      (laid t (checked_header q.header.kind d.geometry q.header q.origin q.len bytes)))
+      (sym (text_held d.geometry q.origin q.len buffer bytes holds))
+      ∙ ap (λ x. cond (is_left_out q.header.kind text) [] (laid text x)) (sym header)
+      ∙ ap (λ c. cond c [] (laid text h)) is
+
+  pub none_laid : is_left_out q.header.kind text ≡ true → piece_bytes d q bytes ≡ []
+  none_laid is = by_test true is (checked_header q.header.kind d.geometry q.header q.origin q.len bytes) refl
+
+  pub piece_laid : is_left_out q.header.kind text ≡ false → (h : VidHeader)
+      → h ≡ checked_header q.header.kind d.geometry q.header q.origin q.len bytes
+      → piece_bytes d q bytes ≡ laid_bytes d.geometry (new_ec d.image_seq) (record { header = h; text = text })
+  piece_laid = by_test false

@@ -1,0 +1,27 @@
+//! What a normal image is written of.
+
+ghost use Rattle.std.specs.Prelude.{◌≡◌, ℕ, ◌≤◌, Option, IfSome};
+ghost use Rattle.ubi_media.specs.Geometry.{Sizes};
+ghost use Rattle.ubi_compose.specs.inner.Pieces.{IsNext, LiesIn, Pieces};
+
+use crate::piece::{Device, Piece};
+use ubi_media::Geometry;
+
+/// The contents of volumes, whose bytes lie in a source.
+pub trait Contents {
+    // The geometry of the device.
+    ghost sizes: { Self → Sizes };
+
+    // The pieces of each volume.
+    ghost pieces: { Self → Pieces };
+
+    // Their bytes lie in a source of a size.
+    ghost LieIn: { Self → ℕ → Type 0 };
+
+    /// The next piece of a volume, from a logical eraseblock on.
+    fn next(&self, geometry: &Geometry, id: u32, from: u32) -> Option<Piece>
+        requires sizes { sizes self.now ≡ geometry.now }
+        requires lie { (size : ℕ) × LieIn self.now size }
+        ensures next { IsNext (pieces self.now) id from result }
+        ensures lies { (size : ℕ) → LieIn self.now size → IfSome result (LiesIn geometry.now size) };
+}
