@@ -1,15 +1,13 @@
 //! Renames of what a cut left, and changes of it.
 
-use super::images::{
-    A, B, C, FIRST, FREE, Peb, SECOND, SMALL, assert_turns, attached, image_of,
-    planned as planned_change,
-};
+use super::images::{assert_turns, attached, planned as planned_change};
 use super::rename::{PEBS, planned};
 use std::alloc::Global;
 use std::process::Abort;
 use std::test::Fail;
 use ubi_change::{RenameRefusal, Step, apply, step_fits};
 use ubi_media::Geometry;
+use ubi_probe::pebs::{A, B, C, FIRST, FREE, Peb, SECOND, small, small_image};
 
 /// Asserts that volume 0 has one of two names, the second where the turn has come. Gives whether it has the second.
 fn is_named(
@@ -60,8 +58,8 @@ fn assert_cuts(
     to: &'static [u8],
     differing: (usize, usize),
 ) -> Result<(), Fail> {
-    let geometry = SMALL.geometry()?;
-    let mut image = image_of(alloc, &geometry, &PEBS)?;
+    let geometry = small()?;
+    let mut image = small_image(alloc, &PEBS)?;
     let steps = match planned(alloc, &geometry, image.as_slice(), 0, to) {
         Ok(steps) => steps,
         Err(_) => return Err("no plan".into()),
@@ -102,13 +100,13 @@ const THREE_FREE: [Peb; 8] = [FIRST, SECOND, A, B, C, FREE, FREE, FREE];
 #[test]
 fn renames_each_cut_of_a_change(rt: HostRuntime) -> Result<(), Fail> {
     let alloc = rt.alloc();
-    let geometry = SMALL.geometry()?;
-    let mut image = image_of(alloc, &geometry, &THREE_FREE)?;
+    let geometry = small()?;
+    let mut image = small_image(alloc, &THREE_FREE)?;
     let steps: Vec<Step> = match planned_change(
         alloc,
         &geometry,
         image.as_slice(),
-        7,
+        (0, 7),
         &[0x61; 128],
     ) {
         Ok(steps) => steps,

@@ -1,20 +1,17 @@
 //! Attaching and reading where memory is refused.
 
-use super::images::{
-    BASE_TEXT, attach_bytes, attached, bytes_of, geometry, image, put_runs, text_of,
-};
-use super::pebs::BASE;
+use super::images::{BASE, BASE_TEXT, attach_bytes, text_of};
 use std::alloc::{AllocError, Global};
 use std::test::Fail;
 use ubi_media::{AttachError, Geometry};
+use ubi_probe::pebs::{image_of, small};
+use ubi_probe::texts::bytes_of;
 use ubi_volume::ReadError;
 
 /// Whether volume 0 of an image reads what it should. Else memory ran out.
 fn reads_all(alloc: Global, geometry: &Geometry) -> Result<Result<bool, AllocError>, Fail> {
-    let (Ok(image), mut want) = (bytes_of(alloc, geometry, &BASE), Vec::new(alloc)) else {
-        return Ok(Err(AllocError));
-    };
-    let Ok(()) = put_runs(&mut want, BASE_TEXT) else {
+    let (Ok(image), Ok(want)) = (image_of(alloc, geometry, &BASE), bytes_of(alloc, BASE_TEXT))
+    else {
         return Ok(Err(AllocError));
     };
     let attached = match attach_bytes(alloc, image.as_slice())? {
@@ -33,7 +30,7 @@ fn reads_all(alloc: Global, geometry: &Geometry) -> Result<Result<bool, AllocErr
 /// here.
 #[test]
 fn reads_all_or_runs_out_of_memory(rt: HostRuntime) -> Result<(), Fail> {
-    match reads_all(rt.alloc(), &geometry()?)? {
+    match reads_all(rt.alloc(), &small()?)? {
         Ok(reads) => assert!(rt; reads),
         Err(AllocError) => println!(rt; "out of memory")?,
     }
