@@ -170,19 +170,51 @@ fn leb_of(
     Ok((out, attached.meaning().image_seq()))
 }
 
-/// Asserts that a logical eraseblock of a case reads a text and then 0xFF, and which number the image has.
+/// Whether a text is new bytes, or else a byte so many times, with 0xFF behind.
+fn reads(text: &[u8], new: Option<&[u8]>, old: (u8, usize)) -> bool {
+    let mut reads = true;
+    for (index, byte) in text.iter().enumerate() {
+        let want = match new {
+            Some(new) => new.get(index).copied(),
+            None if index < old.1 => Some(old.0),
+            None => None,
+        };
+        reads = reads && *byte == want.unwrap_or(0xFF);
+    }
+    reads
+}
+
+/// Asserts that a logical eraseblock of a case reads new bytes, or else what it read before, and which number the image has.
 fn assert_reads(
     rt: &impl Abort,
     alloc: Global,
     case: &Case<'_>,
     image: &[u8],
-    text: &[u8],
+    new: Option<&[u8]>,
 ) -> Result<(), Fail> {
-    let (is, seq) = leb_of(alloc, &case.sizes.geometry()?, image, case.lnum)?;
-    let mut want = Vec::from_slice(alloc, text)?;
-    want.resize(is.len(), 0xFF)?;
-    assert!(*rt; is == want && seq == case.seq);
+    let (text, seq) = leb_of(alloc, &case.sizes.geometry()?, image, case.lnum)?;
+    assert!(*rt; reads(text.as_slice(), new, case.old) && seq == case.seq);
     Ok(())
+}
+
+/// The steps of a change that is planned.
+fn steps_of(
+    alloc: Global,
+    geometry: &Geometry,
+    image: &[u8],
+    lnum: u32,
+    new: &[u8],
+) -> Result<Vec<Step>, Fail> {
+    match planned(alloc, geometry, image, (0, lnum), new) {
+        Ok(steps) => Ok(steps),
+        Err(_) => Err("no plan".into()),
+    }
+}
+
+/// Does a step, which has to fit.
+pub fn assert_done(rt: &impl Abort, geometry: &Geometry, image: &mut [u8], step: &Step) {
+    assert!(*rt; step_fits(geometry, image, step));
+    apply(geometry, image, step);
 }
 
 /// Asserts that steps are those that were written down.
@@ -238,55 +270,87 @@ pub struct Change {
     pub ends: (usize, BlockState),
 }
 
-/// Asserts of each change what [`assert_plan`] does, and the state in the end.
+/// Asserts what [`assert_plan`] does of a change, and the state in the end.
+fn assert_change(rt: &impl Abort, alloc: Global, change: &Change) -> Result<(), Fail> {
+    let geometry = change.case.sizes.geometry()?;
+    let new = bytes_of(alloc, change.new)?;
+    let mut image = image_of(alloc, &geometry, change.case.pebs)?;
+    let bytes = image.as_mut_slice();
+    assert_plan(rt, alloc, &change.case, bytes, new.as_slice(), usize::MAX)?;
+    let end = attached(alloc, &geometry, image.as_slice())?;
+    let (pnum, state) = change.ends;
+    assert!(*rt; end.states().get(pnum) == Some(&state));
+    Ok(())
+}
+
+/// Asserts it of each change.
 pub fn assert_changes(rt: &impl Abort, alloc: Global, changes: &[Change]) -> Result<(), Fail> {
     for change in changes {
-        let new = bytes_of(alloc, change.new)?;
-        let geometry = change.case.sizes.geometry()?;
-        let image = image_of(alloc, &geometry, change.case.pebs)?;
-        let image = assert_plan(rt, alloc, &change.case, image, new.as_slice(), usize::MAX)?;
-        let end = attached(alloc, &geometry, image.as_slice())?;
-        let (pnum, state) = change.ends;
-        assert!(*rt; end.states().get(pnum) == Some(&state));
+        assert_change(rt, alloc, change)?;
     }
     Ok(())
 }
 
 /// Asserts what a change of an image to new bytes is planned as, what each cut of the plan reads, and that it keeps the image
-/// sequence number, for so many steps. Gives what these leave.
+/// sequence number. Does so many steps.
 pub fn assert_plan(
     rt: &impl Abort,
     alloc: Global,
     case: &Case<'_>,
-    image: Vec<u8>,
+    image: &mut [u8],
     new: &[u8],
     stop: usize,
-) -> Result<Vec<u8>, Fail> {
+) -> Result<(), Fail> {
     let geometry = case.sizes.geometry()?;
-    let mut image = image;
-    let old = Vec::from_elem(alloc, case.old.0, case.old.1)?;
-    let steps = match planned(alloc, &geometry, image.as_slice(), (0, case.lnum), new) {
-        Ok(steps) => steps,
-        Err(_) => return Err("no plan".into()),
-    };
+    let steps = steps_of(alloc, &geometry, image, case.lnum, new)?;
     assert_steps(rt, alloc, &geometry, steps.as_slice(), case.steps)?;
-    let mut done = 0usize;
-    for step in steps.as_slice() {
-        let reads = if done < case.turn {
-            old.as_slice()
-        } else {
-            new
-        };
-        assert_reads(rt, alloc, case, image.as_slice(), reads)?;
+    for (done, step) in steps.as_slice().iter().enumerate() {
+        let is_new = if done < case.turn { None } else { Some(new) };
+        assert_reads(rt, alloc, case, image, is_new)?;
         if done >= stop {
-            return Ok(image);
+            return Ok(());
         }
-        assert!(*rt; step_fits(&geometry, image.as_slice(), step));
-        apply(&geometry, image.as_mut_slice(), step);
-        done = done.saturating_add(1);
+        assert_done(rt, &geometry, image, step);
     }
-    assert_reads(rt, alloc, case, image.as_slice(), new)?;
-    Ok(image)
+    assert_reads(rt, alloc, case, image, Some(new))
+}
+
+/// Whether a logical eraseblock reads new bytes. Else it reads what it did.
+fn is_turned(
+    alloc: Global,
+    geometry: &Geometry,
+    image: &[u8],
+    lnum: u32,
+    (old, new): (&[u8], &[u8]),
+) -> Result<bool, Fail> {
+    let (text, _) = leb_of(alloc, geometry, image, lnum)?;
+    if reads(text.as_slice(), Some(new), (0, 0)) {
+        Ok(true)
+    } else if text.as_slice() == old {
+        Ok(false)
+    } else {
+        Err("other bytes".into())
+    }
+}
+
+/// Does steps, whose cuts read what was read before and, from one on, the new bytes.
+fn assert_walk(
+    rt: &impl Abort,
+    alloc: Global,
+    geometry: &Geometry,
+    image: &mut [u8],
+    steps: &[Step],
+    (lnum, texts): (u32, (&[u8], &[u8])),
+) -> Result<(), Fail> {
+    let mut turned = false;
+    for step in steps {
+        assert_done(rt, geometry, image, step);
+        let is = is_turned(alloc, geometry, image, lnum, texts)?;
+        assert!(*rt; is || !turned);
+        turned = is;
+    }
+    assert!(*rt; turned);
+    Ok(())
 }
 
 /// Asserts that a change is planned, whose cuts read what was read before and, from one on, the new bytes.
@@ -298,25 +362,18 @@ pub fn assert_turns(
     lnum: u32,
     new: &[u8],
 ) -> Result<(), Fail> {
+    let steps = steps_of(alloc, geometry, image, lnum, new)?;
+    let (old, _) = leb_of(alloc, geometry, image, lnum)?;
     let mut image = Vec::from_slice(alloc, image)?;
-    let (old, _) = leb_of(alloc, geometry, image.as_slice(), lnum)?;
-    let mut want = Vec::from_slice(alloc, new)?;
-    want.resize(old.len(), 0xFF)?;
-    let steps = match planned(alloc, geometry, image.as_slice(), (0, lnum), new) {
-        Ok(steps) => steps,
-        Err(_) => return Err("no plan".into()),
-    };
-    let mut turned = false;
-    for step in steps.as_slice() {
-        assert!(*rt; step_fits(geometry, image.as_slice(), step));
-        apply(geometry, image.as_mut_slice(), step);
-        let (is, _) = leb_of(alloc, geometry, image.as_slice(), lnum)?;
-        turned = turned || is.as_slice() == want.as_slice();
-        let read = if turned { &want } else { &old };
-        assert_eq!(*rt; is.as_slice(), read.as_slice());
-    }
-    assert!(*rt; turned);
-    Ok(())
+    let texts = (lnum, (old.as_slice(), new));
+    assert_walk(
+        rt,
+        alloc,
+        geometry,
+        image.as_mut_slice(),
+        steps.as_slice(),
+        texts,
+    )
 }
 
 /// Asserts that a second change can be made of each cut of a first one.
@@ -324,20 +381,15 @@ pub fn assert_changes_again(
     rt: &impl Abort,
     alloc: Global,
     case: &Case<'_>,
-    image: Vec<u8>,
+    image: &mut [u8],
     new: &[u8],
     again: &[u8],
 ) -> Result<(), Fail> {
     let geometry = case.sizes.geometry()?;
-    let mut image = image;
-    let steps = match planned(alloc, &geometry, image.as_slice(), (0, case.lnum), new) {
-        Ok(steps) => steps,
-        Err(_) => return Err("no plan".into()),
-    };
+    let steps = steps_of(alloc, &geometry, image, case.lnum, new)?;
     for step in steps.as_slice() {
-        assert_turns(rt, alloc, &geometry, image.as_slice(), case.lnum, again)?;
-        assert!(*rt; step_fits(&geometry, image.as_slice(), step));
-        apply(&geometry, image.as_mut_slice(), step);
+        assert_turns(rt, alloc, &geometry, image, case.lnum, again)?;
+        assert_done(rt, &geometry, image, step);
     }
-    assert_turns(rt, alloc, &geometry, image.as_slice(), case.lnum, again)
+    assert_turns(rt, alloc, &geometry, image, case.lnum, again)
 }

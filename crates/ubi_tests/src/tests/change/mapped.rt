@@ -308,21 +308,21 @@ fn changes_what_has_a_winner_and_what_has_none(rt: HostRuntime) -> Result<(), Fa
     assert_changes(&rt, rt.alloc(), &UNMAPPED)
 }
 
+/// A change of what a cut of [`BY_TWO_PAGES`] left.
+const AGAIN: Case<'static> = Case {
+    steps: &[
+        Want::Renew(5, ONE),
+        Want::Copy(5, 1, SECOND_COPY, &[0x62]),
+        Want::Renew(3, ONE),
+    ],
+    turn: 4,
+    ..BY_TWO_PAGES
+};
+
 #[test]
 fn changes_what_a_cut_left(rt: HostRuntime) -> Result<(), Fail> {
-    let alloc = rt.alloc();
-    let torn = BY_TWO_PAGES;
-    let image = small_image(alloc, torn.pebs)?;
-    let left = assert_plan(&rt, alloc, &torn, image, &[0x61; 128], 2)?;
-    let again = Case {
-        steps: &[
-            Want::Renew(5, ONE),
-            Want::Copy(5, 1, SECOND_COPY, &[0x62]),
-            Want::Renew(3, ONE),
-        ],
-        turn: 4,
-        ..torn
-    };
-    assert_plan(&rt, alloc, &again, left, &[0x62; 64], usize::MAX)?;
-    Ok(())
+    let mut image = small_image(rt.alloc(), BY_TWO_PAGES.pebs)?;
+    let bytes = image.as_mut_slice();
+    assert_plan(&rt, rt.alloc(), &BY_TWO_PAGES, bytes, &[0x61; 128], 2)?;
+    assert_plan(&rt, rt.alloc(), &AGAIN, bytes, &[0x62; 64], usize::MAX)
 }

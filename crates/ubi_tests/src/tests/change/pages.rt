@@ -19,11 +19,11 @@ static PEBS: [Peb; 4] = [
 ];
 
 /// A volume, its new name, and the two records then. Their checks were worked out by another program.
-static RENAMED: [(u32, &[u8], [Slot; 2]); 5] = [
+static RENAMED: [(u32, &[u8], &[Slot]); 5] = [
     (
         0,
         b"data",
-        [
+        &[
             Slot {
                 name: b"data",
                 check: 0xA2E7_CA03,
@@ -35,7 +35,7 @@ static RENAMED: [(u32, &[u8], [Slot; 2]); 5] = [
     (
         1,
         b"data",
-        [
+        &[
             ALIGNMENT_256,
             Slot {
                 name: b"data",
@@ -47,7 +47,7 @@ static RENAMED: [(u32, &[u8], [Slot; 2]); 5] = [
     (
         1,
         b"x",
-        [
+        &[
             ALIGNMENT_256,
             Slot {
                 name: b"x",
@@ -60,7 +60,7 @@ static RENAMED: [(u32, &[u8], [Slot; 2]); 5] = [
     (
         1,
         &[0x6E; 127],
-        [
+        &[
             ALIGNMENT_256,
             Slot {
                 name: &[0x6E; 127],
@@ -70,7 +70,7 @@ static RENAMED: [(u32, &[u8], [Slot; 2]); 5] = [
             },
         ],
     ),
-    (1, b"boot", [ALIGNMENT_256, GROWING]),
+    (1, b"boot", &[ALIGNMENT_256, GROWING]),
 ];
 
 /// Adds what a step programs behind the headers of an eraseblock.
@@ -108,8 +108,9 @@ fn keeps_all_but_the_name_and_the_check(rt: HostRuntime) -> Result<(), Fail> {
     let image = small_image(alloc, &PEBS)?;
     for (index, (id, name, records)) in RENAMED.iter().enumerate() {
         let mut want = Vec::new(alloc);
-        want.extend_from_slice(&records[0].bytes())?;
-        want.extend_from_slice(&records[1].bytes())?;
+        for record in *records {
+            want.extend_from_slice(&record.bytes())?;
+        }
         want.resize(384, 0xFF)?;
         let first = pages_of(alloc, image.as_slice(), *id, name, 2)?;
         let second = pages_of(alloc, image.as_slice(), *id, name, 3)?;

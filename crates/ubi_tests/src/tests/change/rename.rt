@@ -1,12 +1,13 @@
 //! Renames of a volume.
 
 use super::images::{
-    EIGHT, INSIDE, LARGE, LARGE_SHARED, ODD, ONE_PAGE, SHARED, SMALL, Sizes, WORN, attached,
+    EIGHT, INSIDE, LARGE, LARGE_SHARED, ODD, ONE_PAGE, SHARED, SMALL, Sizes, WORN, assert_done,
+    attached,
 };
 use std::alloc::{AllocError, Global};
 use std::process::Abort;
 use std::test::Fail;
-use ubi_change::{RenameRefusal, Step, apply, plan_rename, step_fits};
+use ubi_change::{RenameRefusal, Step, plan_rename};
 use ubi_media::{Geometry, Refusal, VolumeRecord};
 use ubi_probe::pebs::{
     A, B, C, C_LAST, C_LAST_BUT_1, C_LAST_BUT_2, Data, ERASED, Ec, FIRST, FIRST_DATA, FREE, IMAGE,
@@ -319,30 +320,59 @@ fn place_of(step: &Step) -> (u32, u32) {
     }
 }
 
-/// Asserts where the steps of a rename are, and what each cut means.
-fn assert_renames(rt: &impl Abort, alloc: Global, case: &Case) -> Result<(), Fail> {
+/// Asserts that an image means what it did, but that a volume has a name.
+fn assert_cut(
+    rt: &impl Abort,
+    alloc: Global,
+    case: &Case,
+    image: &[u8],
+    old: &Attached,
+    name: &[u8],
+) -> Result<(), Fail> {
+    let here = attached(alloc, &case.sizes.geometry()?, image)?;
+    assert_means(rt, &here, old, case.id, name)
+}
+
+/// Does the steps of a rename, and asserts where they are, and what each cut means.
+fn assert_walk(
+    rt: &impl Abort,
+    alloc: Global,
+    case: &Case,
+    image: &mut [u8],
+    (steps, places): (&[Step], &[(u32, u32)]),
+    old: &Attached,
+) -> Result<(), Fail> {
     let geometry = case.sizes.geometry()?;
-    let mut image = image_of(alloc, &geometry, case.pebs)?;
-    let old = attached(alloc, &geometry, image.as_slice())?;
-    let steps = match planned(alloc, &geometry, image.as_slice(), case.id, case.to) {
-        Ok(steps) => steps,
-        Err(_) => return Err("no plan".into()),
-    };
+    for (done, (step, place)) in steps.iter().zip(places).enumerate() {
+        let name = if done < case.turn { case.from } else { case.to };
+        assert_cut(rt, alloc, case, image, old, name)?;
+        assert!(*rt; place_of(step) == *place);
+        assert_done(rt, &geometry, image, step);
+    }
+    assert_cut(rt, alloc, case, image, old, case.to)
+}
+
+/// The eraseblock and the page of each step of a rename.
+fn places_of(alloc: Global, case: &Case) -> Result<Vec<(u32, u32)>, AllocError> {
     let mut places = Vec::new(alloc);
     for copied in &case.copies {
         copied.put_places(&mut places)?;
     }
-    assert_eq!(*rt; steps.len(), places.len());
-    for (done, (step, place)) in steps.as_slice().iter().zip(places.as_slice()).enumerate() {
-        let name = if done < case.turn { case.from } else { case.to };
-        let here = attached(alloc, &geometry, image.as_slice())?;
-        assert_means(rt, &here, &old, case.id, name)?;
-        assert_eq!(*rt; place_of(step), *place);
-        assert!(*rt; step_fits(&geometry, image.as_slice(), step));
-        apply(&geometry, image.as_mut_slice(), step);
-    }
-    let end = attached(alloc, &geometry, image.as_slice())?;
-    assert_means(rt, &end, &old, case.id, case.to)
+    Ok(places)
+}
+
+/// Asserts where the steps of a rename are, and what each cut means.
+fn assert_renames(rt: &impl Abort, alloc: Global, case: &Case) -> Result<(), Fail> {
+    let geometry = case.sizes.geometry()?;
+    let mut image = image_of(alloc, &geometry, case.pebs)?;
+    let Ok(steps) = planned(alloc, &geometry, image.as_slice(), case.id, case.to) else {
+        return Err("no plan".into());
+    };
+    let places = places_of(alloc, case)?;
+    assert!(*rt; steps.len() == places.len());
+    let old = attached(alloc, &geometry, image.as_slice())?;
+    let walk = (steps.as_slice(), places.as_slice());
+    assert_walk(rt, alloc, case, image.as_mut_slice(), walk, &old)
 }
 
 #[test]

@@ -59,8 +59,23 @@ fn image(alloc: Global) -> Result<Vec<u8>, Fail> {
 
 /// Asserts that the image is changed as is written down, and that another change can be made of each cut.
 fn assert_planned(rt: &impl Abort, alloc: Global, case: &Case<'_>) -> Result<(), Fail> {
-    assert_plan(rt, alloc, case, image(alloc)?, &[0x61; 64], usize::MAX)?;
-    assert_changes_again(rt, alloc, case, image(alloc)?, &[0x61; 64], &[0x62; 128])
+    let (mut first, mut again) = (image(alloc)?, image(alloc)?);
+    assert_plan(
+        rt,
+        alloc,
+        case,
+        first.as_mut_slice(),
+        &[0x61; 64],
+        usize::MAX,
+    )?;
+    assert_changes_again(
+        rt,
+        alloc,
+        case,
+        again.as_mut_slice(),
+        &[0x61; 64],
+        &[0x62; 128],
+    )
 }
 
 /// A change of an image without a number.

@@ -7,29 +7,25 @@ use std::test::Fail;
 use ubi_compose::normalise_to;
 use ubi_probe::pebs::small;
 use ubi_probe::{Failure, ProbeSource, ProbeWriter};
-use ubi_scan::StreamError;
+use ubi_scan::{MemorySource, StreamError};
 
-/// What is answered of an image whose read `at` fails, and a writer that fails once it has so many bytes, once it is seen that this
-/// received as much of the normal image as is told.
-fn streamed(
+/// Whether a writer that fails once it has so many bytes of a normal image received these, and their number is told.
+fn is_cut(
     alloc: Global,
-    (image, want): (&[u8], &[u8]),
-    at: u64,
+    image: &[u8],
+    want: &[u8],
     room: usize,
     (failure, most): (Failure, usize),
-) -> Result<Result<u64, StreamError>, Fail> {
-    let mut source = ProbeSource::new(alloc, &small()?, image, at)?;
+) -> Result<bool, Fail> {
+    let mut source = MemorySource::new(image);
     let mut writer = ProbeWriter::new(alloc, room, most, failure)?;
     let answer = normalise_to(alloc, &small()?, &mut source, &mut writer);
-    let told = match answer {
-        Ok(count) | Err(StreamError::Read(_, count) | StreamError::Write(count)) => count as usize,
-        Err(_) => 0,
-    };
-    if want.get(..told) == Some(writer.taken()) {
-        Ok(answer)
+    let told = if room < want.len() {
+        Err(StreamError::Write(room as u64))
     } else {
-        Err("another count".into())
-    }
+        Ok(room as u64)
+    };
+    Ok(answer == told && want.get(..room) == Some(writer.taken()))
 }
 
 /// An image, what it is normalised to, and whether each way is tried of each number of bytes, or that a writer takes
@@ -46,21 +42,39 @@ fn tells_how_much_was_written(rt: HostRuntime) -> Result<(), Fail> {
     let alloc = rt.alloc();
     for (image, want, has_ways) in &STREAMED {
         let (image, want) = (image.bytes(alloc)?, want.bytes(alloc)?);
-        let bytes = (image.as_slice(), want.as_slice());
-        let ways: &[(Failure, usize)] = if *has_ways { &WAYS } else { &[] };
+        let (image, want) = (image.as_slice(), want.as_slice());
         for room in 0..want.len() + 1 {
-            let told = if room < want.len() {
-                Err(StreamError::Write(room as u64))
-            } else {
-                Ok(room as u64)
-            };
-            for way in ways.iter().chain(&[(Failure::Nothing, 100)]) {
-                let is = streamed(alloc, bytes, 0, room, *way)? == told;
+            for way in WAYS {
+                let is = !has_ways || is_cut(alloc, image, want, room, way)?;
                 assert!(rt; is, "{way:?} after {room} bytes");
             }
+            let is = is_cut(alloc, image, want, room, (Failure::Nothing, 100))?;
+            assert!(rt; is, "after {room} bytes");
         }
     }
     Ok(())
+}
+
+/// What is answered of an image whose read `at` fails, once it is seen that a writer received as much of the normal
+/// image as is told; none where no read failed.
+fn fault_at(
+    alloc: Global,
+    image: &[u8],
+    want: &[u8],
+    at: u64,
+) -> Result<Option<StreamError>, Fail> {
+    let mut source = ProbeSource::new(alloc, &small()?, image, at)?;
+    let mut writer = ProbeWriter::new(alloc, 4096, 4096, Failure::Nothing)?;
+    let answer = normalise_to(alloc, &small()?, &mut source, &mut writer);
+    let told = match answer {
+        Ok(count) | Err(StreamError::Read(_, count)) => count as usize,
+        Err(_) => 0,
+    };
+    if want.get(..told) == Some(writer.taken()) {
+        Ok(answer.err())
+    } else {
+        Err("another count".into())
+    }
 }
 
 /// A normal image, and what is answered of it where its last read fails.
@@ -69,19 +83,17 @@ static LAST_READS: [(Image, StreamError); 2] = [
     (Image::NormalPieces, StreamError::Read(3, 1536)),
 ];
 
-/// A way in which a writer takes all.
-const AMPLE: (Failure, usize) = (Failure::Nothing, 4096);
-
 #[test]
 fn tells_which_read_failed(rt: HostRuntime) -> Result<(), Fail> {
     let alloc = rt.alloc();
     for (image, last) in &LAST_READS {
         let image = image.bytes(alloc)?;
-        let bytes = (image.as_slice(), image.as_slice());
-        let mut fault = streamed(alloc, bytes, 1, 4096, AMPLE)?.err();
-        assert!(rt; fault == Some(StreamError::Read(0, 0)));
+        let image = image.as_slice();
+        let first = fault_at(alloc, image, image, 1)?;
+        assert!(rt; first == Some(StreamError::Read(0, 0)));
+        let mut fault = first;
         for at in 2..60 {
-            let next = streamed(alloc, bytes, at, 4096, AMPLE)?.err();
+            let next = fault_at(alloc, image, image, at)?;
             let is_read = matches!(next, None | Some(StreamError::Read(0..=4, _)));
             assert!(rt; is_read, "read {at}");
             fault = next.or(fault);

@@ -8,21 +8,31 @@ use ubi_probe::pebs::{image_of, small};
 use ubi_probe::texts::bytes_of;
 use ubi_volume::ReadError;
 
-/// Whether volume 0 of an image reads what it should. Else memory ran out.
-fn reads_all(alloc: Global, geometry: &Geometry) -> Result<Result<bool, AllocError>, Fail> {
-    let (Ok(image), Ok(want)) = (image_of(alloc, geometry, &BASE), bytes_of(alloc, BASE_TEXT))
-    else {
-        return Ok(Err(AllocError));
-    };
-    let attached = match attach_bytes(alloc, image.as_slice())? {
+/// What volume 0 of an image reads.
+fn text_read(alloc: Global, image: &[u8]) -> Result<Result<Vec<u8>, AllocError>, Fail> {
+    let attached = match attach_bytes(alloc, image)? {
         Ok(attached) => attached,
         Err(AttachError::Memory) => return Ok(Err(AllocError)),
         Err(AttachError::Refused(_)) => return Err("refused".into()),
     };
     match text_of(alloc, attached.meaning(), 0) {
-        Ok(text) => Ok(Ok(text == want)),
+        Ok(text) => Ok(Ok(text)),
         Err(ReadError::Memory) => Ok(Err(AllocError)),
         Err(_) => Err("not read".into()),
+    }
+}
+
+/// Whether volume 0 of an image reads what it should. Else memory ran out.
+fn reads_all(alloc: Global, geometry: &Geometry) -> Result<Result<bool, AllocError>, Fail> {
+    let Ok(image) = image_of(alloc, geometry, &BASE) else {
+        return Ok(Err(AllocError));
+    };
+    let Ok(text) = text_read(alloc, image.as_slice())? else {
+        return Ok(Err(AllocError));
+    };
+    match bytes_of(alloc, BASE_TEXT) {
+        Ok(want) => Ok(Ok(text == want)),
+        Err(AllocError) => Ok(Err(AllocError)),
     }
 }
 
