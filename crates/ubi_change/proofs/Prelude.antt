@@ -109,7 +109,7 @@ pub use Rattle.ubi_volume.specs.Wrote.{All, IsWroteError, Wrote}
 pub use Rattle.ubi_volume.specs.declared.attached.BlockState.{BlockState}
 pub use Rattle.ubi_volume.specs.declared.content.Content.{Content}
 pub use Rattle.ubi_volume.specs.declared.content.Volume.{Volume}
-pub use Rattle.ubi_change.specs.Avoided.{Avoided, Avoids, BlankBelow, IsNotBlank, MayTouch, ReadBlank, avoiding, is_avoided, is_blank_one, is_listed, nothing, state_avoiding, states_avoiding}
+pub use Rattle.ubi_change.specs.Avoided.{Avoided, Avoids, BlankBelow, MayTouch, ReadBlank, avoiding, is_avoided, is_blank_one, is_listed, nothing, state_avoiding, states_avoiding}
 pub use Rattle.ubi_change.specs.Cuts.{SurvivesCuts, changed, header_in, is_copy, programs_copy, turn, volume_with, with_leb}
 pub use Rattle.ubi_change.specs.Fitting.{AllFit, AllWithin, FitsBlock, fits, only_clears, page_of}
 pub use Rattle.ubi_change.specs.Frugal.{CountsErases, IsFrugal, TouchesOnly, counter_after, erases, given_up, stays_then, touched}

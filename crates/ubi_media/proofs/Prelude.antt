@@ -22,7 +22,7 @@ unfoldable pub use Rattle.std.specs.Fmt.{digits}
 pub use Rattle.std.specs.Int.{bit_at, byte_at, bytes_low_first, from_le_bytes, to_le_bytes, w32, w64, ◌∣◌}
 pub use Rattle.std.specs.List.{AllByRecursion, CopiedTo, SameBelow, concat, flat_map, list_any, position_or_len, range_with_len}
 pub use Rattle.std.specs.Option.{ForSome, option_copied, option_map_or}
-pub use Rattle.std.specs.Prelude.{All, None, Option, Some, find, if◌then◌else◌, nat_eq, nat_le, ◌↔◌}
+pub use Rattle.std.specs.Prelude.{All, None, Option, Some, find, if◌then◌else◌, nat_eq, ◌↔◌}
 pub use Rattle.std.specs.Simd.{first_chunks}
 pub use Rattle.byteorder.specs.Endian.{big_bytes, big_number}
 pub use Rattle.byteorder.specs.Numbers.{big_from-lt, big_number-reads_back}
@@ -52,7 +52,6 @@ pub use Rattle.ubi_media.specs.declared.ec.EcFields.{EcFields}
 pub use Rattle.ubi_media.specs.declared.ec.EcHeader.{EcHeader}
 pub use Rattle.ubi_media.specs.declared.ec.EcRead.{EcRead}
 pub use Rattle.ubi_media.specs.declared.ec.EcRead.TheVariants.{Blank, Corrupt, Fault}
-pub use Rattle.ubi_media.specs.declared.geometry.GeometryError.{GeometryError}
 pub use Rattle.ubi_media.specs.declared.header.Form.{Form}
 pub use Rattle.ubi_media.specs.declared.header.Form.TheVariants.{Sealed}
 pub use Rattle.ubi_media.specs.declared.record.RecFault.{RecFault}

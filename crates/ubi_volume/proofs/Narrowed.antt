@@ -56,7 +56,3 @@ module _ (old new : Agreed) (narrows : Narrows old new) where
   error_where s k a b wanted other m (stream.Write n) same h = wrote_where a b wanted other _ m n same h
   error_where s k a b wanted other m (stream.Refused c) same h = h
   error_where s k a b wanted other m stream.Memory same h = h
-
-  pub error_narrowed : (s : Sizes) (k : Source) (a b : Option (List ℕ)) (wanted : Wanted) (m : ℕ) (e : StreamError)
-      → IsWroteError s k old a b wanted m e → IsWroteError s k new a b wanted m e
-  error_narrowed s k a b wanted m e = error_where s k a b wanted wanted m e (λ image text agrees w. w)
