@@ -113,8 +113,9 @@ def rewritten(path, crate, chosen, given):
             continue
         others = collections.defaultdict(list)
         for name in filter(lambda name: is_used(name, body), found[2].split(", ")):
-            module = given.get(name, found[1]) if found[1] == prelude else found[1]
-            if chosen.get(name) != module:
+            plain = name.partition(" as ")[0]
+            module = given.get(plain, found[1]) if found[1] == prelude else found[1]
+            if chosen.get(plain) != module:
                 others[module].append(name)
             elif name not in taken:
                 taken.append(name)
