@@ -1,5 +1,5 @@
 -- What a writer received of the pieces of parts is the normal image of what is built of them, and the spares.
-use Rattle.ubi_compose.proofs.Prelude.{◌≡◌, ℕ, ◌+◌, ◌<◌, ◌≤◌, ◌^◌, List, length, ap, sym, ◌∙◌, subst, Contains, Option, Result, Agreed, HaveMeaning, Parts, Reaches, built, composed, CanBuild, HasParts, table_of, built_pieces, Device, HasPut, IsReadIn, image_bytes, Part, PutError}
+use Rattle.ubi_compose.proofs.Prelude.{◌≡◌, ℕ, ◌+◌, ◌<◌, ◌≤◌, ◌^◌, List, length, ap, sym, ◌∙◌, subst, Contains, Option, Result, Agreed, HaveMeaning, Parts, Reaches, built, composed, CanBuild, table_of, built_pieces, Device, HasPut, IsReadIn, image_bytes, Part, PutError}
 use Rattle.ubi_compose.proofs.BuiltPieces.{read_part}
 use Rattle.ubi_compose.proofs.BuiltVolumes.{image_is}
 use Rattle.ubi_compose.proofs.Received.{put_where}

@@ -134,7 +134,7 @@ pub use Rattle.ubi_volume.specs.Meant.{Fits, HasDistinctNames, IsMeaning, IsVolu
 pub use Rattle.ubi_volume.specs.PageLaws.{image_with_page, meaning_with_page}
 pub use Rattle.ubi_volume.specs.Places.{ArePlaces, ArePlacesError, ArePlacesOf, AreWithin, CaseFits, IsCountedPlace, IsNextPlace, Placed, case_of}
 pub use Rattle.ubi_volume.specs.Reading.{leb_text, lebs_text, read_volume, volume_read}
-pub use Rattle.ubi_volume.specs.Wrote.{All, First, NotAll, Wanted, Wrote}
+pub use Rattle.ubi_volume.specs.Wrote.{All, First, NotAll, Wrote}
 pub use Rattle.ubi_volume.specs.declared.content.Content.{Content}
 pub use Rattle.ubi_volume.specs.declared.content.Volume.{Volume}
 pub use Rattle.ubi_volume.specs.declared.errors.MeaningCause.{MeaningCause}

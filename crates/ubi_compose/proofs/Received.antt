@@ -1,5 +1,5 @@
 -- What a writer received of bytes that a function gives of the source's, in order.
-use Rattle.ubi_compose.proofs.Prelude.{◌≡◌, ℕ, ◌+◌, ◌-◌, ◌<◌, List, [], ◌++◌, refl, ap, sym, ◌∙◌, arith, zero-add, Option, Result, Ok, Err, flat_map, range_with_len, Appends-nil, Sizes, Agreed, Narrows, Source, blocks_in, sound, anything, pieces_more, First, Wanted, Wrote, All, front_of, wrote_where, wrote_text, Splits, error_behind, error_front, wrote_more, those, PutError, HasPut, NoRead, known_put}
+use Rattle.ubi_compose.proofs.Prelude.{◌≡◌, ℕ, ◌+◌, ◌-◌, ◌<◌, List, [], ◌++◌, refl, ap, sym, ◌∙◌, arith, zero-add, Option, Result, Ok, Err, flat_map, range_with_len, Appends-nil, Sizes, Agreed, Narrows, Source, blocks_in, sound, anything, pieces_more, Wrote, All, front_of, wrote_where, wrote_text, Splits, error_behind, error_front, wrote_more, those, PutError, HasPut, NoRead, known_put}
 use Rattle.ubi_scan.specs.declared.errors.StreamError.TheVariants as stream
 use Rattle.ubi_compose.specs.declared.errors.PutError.TheVariants as put
 
@@ -98,16 +98,3 @@ pub put_none : (agrees : Agreed) (a : Option (List ℕ)) (f : List ℕ → List 
     → ((bytes : List ℕ) → agrees bytes → f bytes ≡ []) → Wrote agrees a a (those f) All m m
 put_none agrees a f m none = wrote_text (sound 0) agrees a a (those f) [] 0 m m (Appends-nil a) refl (omega arith)
     (λ bytes t holds w. w ∙ none bytes holds)
-
--- a read failed before anything was written
-pub put_unread : (IsRead : ℕ → Type 0) (agrees : Agreed) (a : Option (List ℕ)) (f : List ℕ → List ℕ) (m number : ℕ)
-    → IsRead number → HasPut IsRead agrees a a f m (Err (put.Read number m))
-put_unread IsRead agrees a f m number is = (
-  is,
-  record {
-    bytes = [];
-    got = Appends-nil a;
-    count = omega arith;
-    held = λ bytes h t w. (omega arith, refl);
-  },
-)

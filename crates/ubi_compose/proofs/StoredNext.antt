@@ -1,5 +1,5 @@
 -- The pieces of a volume of an image whose places are known: which is the next, and where it lies.
-use Rattle.ubi_compose.proofs.Prelude.{◌≡◌, ◌⊎◌, inl, inr, ℕ, ◌+◌, ◌*◌, ◌/◌, ◌<◌, ◌≤◌, ◌^◌, refl, ap, sym, ◌∙◌, subst, arith, IfSome, None, Option, Some, option_map, option_map_or, same_Some, data_pad, leb_size, usable, Sizes, VolumeRecord, share_len, IsWithin, IsCountedPlace, IsNextPlace, Placed, PlaceContent, AreWithin, Piece, Origin, IsFirstFrom, IsNext, IsReadOf, IsReadable, LiesIn, dynamic_piece, static_piece, stored_count, stored_piece, stored_pieces}
+use Rattle.ubi_compose.proofs.Prelude.{◌≡◌, ◌⊎◌, inl, inr, ℕ, ◌*◌, ◌/◌, ◌<◌, ◌≤◌, ◌^◌, refl, ap, sym, ◌∙◌, subst, arith, IfSome, None, Option, Some, option_map, option_map_or, same_Some, leb_size, Sizes, VolumeRecord, IsWithin, IsCountedPlace, IsNextPlace, Placed, PlaceContent, AreWithin, Piece, Origin, IsFirstFrom, IsNext, IsReadOf, IsReadable, LiesIn, dynamic_piece, static_piece, stored_count, stored_piece, stored_pieces}
 use Rattle.std.specs.FinMap as finite
 use Rattle.ubi_media.specs.declared.vid.VolKind.TheVariants as kind
 use Rattle.ubi_volume.specs.declared.places.PlaceContent.TheVariants as place

@@ -1,4 +1,4 @@
-use Rattle.ubi_compose.proofs.Prelude.{◌≡◌, ◌<◌, ◌∙◌, get_or, length, ap, refl, sym, subst, arith, false≢true, Source, places_narrowed, ArePlacesOf, Records, listed_item, TellsVolume}
+use Rattle.ubi_compose.proofs.Prelude.{◌≡◌, ◌∙◌, length, ap, refl, sym, subst, arith, false≢true, Source, places_narrowed, ArePlacesOf, Records, listed_item, TellsVolume}
 use Rattle.std.specs.Prelude.{Bool}
 use Rattle.std.specs.FinMap as finite
 use Rattle.ubi_compose.proofs.StoredVolumes.{listed_place}

@@ -1,4 +1,4 @@
-use Rattle.ubi_compose.proofs.Prelude.{◌∙◌, ◌++◌, List, ℕ, Ok, Err, refl, err_from_is_err_and, slots, anything, All, wrote_narrowed, Device, HasPut, IsReadIn, NoRead, Pieces, first_volumes, image_bytes, tables_bytes, PutError, spares_bytes}
+use Rattle.ubi_compose.proofs.Prelude.{◌∙◌, ◌++◌, List, ℕ, Ok, Err, refl, err_from_is_err_and, slots, anything, All, wrote_narrowed, Device, IsReadIn, Pieces, first_volumes, image_bytes, tables_bytes, spares_bytes}
 use Rattle.ubi_compose.proofs.Received.{both_put, front_put, known_kept, put_anyway}
 use Rattle.ubi_compose.proofs.putting.put_image.Goals as goal
 

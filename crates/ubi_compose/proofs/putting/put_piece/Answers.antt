@@ -1,5 +1,5 @@
 use Rattle.ubi_compose.proofs.Prelude.{IsInBuffer, IsReadOf, NoRead, piece_bytes, ◌∙◌}
-use Rattle.ubi_compose.proofs.Received.{known_kept, put_narrowed, put_unread}
+use Rattle.ubi_compose.proofs.Received.{known_kept, put_narrowed}
 use Rattle.ubi_compose.proofs.putting.put_piece.Goals as goal
 
 pub returns-in-Ok-clause-known : goal.returns-in-Ok-clause-known

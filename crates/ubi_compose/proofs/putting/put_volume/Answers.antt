@@ -1,4 +1,4 @@
-use Rattle.ubi_compose.proofs.Prelude.{◌≡◌, ℕ, ◌+◌, ◌*◌, ◌≤◌, ◌^◌, ◌∙◌, Ok, arith, err_from_is_err_and, mul-le, All, wrote_as, wrote_narrowed, those, first_lebs, volume_bytes}
+use Rattle.ubi_compose.proofs.Prelude.{◌≡◌, ℕ, ◌+◌, ◌*◌, ◌≤◌, ◌∙◌, Ok, arith, err_from_is_err_and, mul-le, All, wrote_as, wrote_narrowed, those, first_lebs, volume_bytes}
 use Rattle.ubi_compose.proofs.NextPiece.{none_left, piece_failed, piece_put}
 use Rattle.ubi_compose.proofs.putting.put_volume.Goals as goal
 

@@ -1,4 +1,4 @@
-use Rattle.ubi_compose.proofs.Prelude.{◌≡◌, ◌<◌, ◌∙◌, ap, sym, arith, option_map, reserved_within, Sizes, static_piece, case_fits}
+use Rattle.ubi_compose.proofs.Prelude.{◌∙◌, ap, sym, arith, option_map, reserved_within, static_piece, case_fits}
 use Rattle.ubi_volume.specs.declared.places.PlaceContent.TheVariants as place
 use Rattle.ubi_compose.proofs.StoredNext.{first_dynamic, first_stored, none_dynamic}
 use Rattle.ubi_compose.proofs.stored.next_piece.Goals as goal

@@ -1,4 +1,4 @@
-use Rattle.ubi_compose.proofs.Prelude.{◌≡◌, ◌<◌, ◌∙◌, ap, List, ℕ, arith, table_bytes, Result, Ok, Err, HasPut, IsReadIn, image_bytes, stored_pieces, places_narrowed, PutError}
+use Rattle.ubi_compose.proofs.Prelude.{◌∙◌, ap, arith, table_bytes, places_narrowed}
 use Rattle.ubi_compose.specs.declared.errors.PutError.TheVariants as put
 use Rattle.ubi_compose.proofs.StoredImage as stored
 use Rattle.ubi_compose.proofs.StoredImage.{IsTold}

@@ -1,4 +1,4 @@
-use Rattle.ubi_compose.proofs.Prelude.{◌≡◌, ◌∙◌, ap, sym, subst, arith, Some, Sizes, built_piece, part_at, Part, Parts, LiesIn}
+use Rattle.ubi_compose.proofs.Prelude.{sym, arith, Part, Parts}
 use Rattle.ubi_compose.proofs.BuiltPieces.{built_lies, first_built}
 use Rattle.ubi_compose.proofs.ListedParts.{IsReadablePart, part_readable}
 use Rattle.ubi_compose.proofs.pieces.RecipeContents.next.Goals as goal
