@@ -29,7 +29,6 @@ pub mod LineForms
 pub mod LinesLeft
 pub mod LinesRead
 pub mod ListedParts
-pub mod ListedVolumes
 pub mod Lists
 pub mod NextPiece
 pub mod Normal
@@ -50,6 +49,7 @@ pub mod SpecVectors
 pub mod StoredImage
 pub mod StoredNext
 pub mod StoredPieces
+pub mod StoredVolumes
 pub mod StandIns
 pub mod Table
 pub mod Taken

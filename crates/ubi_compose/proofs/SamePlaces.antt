@@ -5,7 +5,7 @@ use Rattle.ubi_media.specs.contracts.record.VolumeRecordPartialEq.TheImpl as rec
 use Rattle.ubi_scan.specs.Source.{blocks_of}
 use Rattle.ubi_volume.specs.declared.content.Content.TheVariants as content
 use Rattle.ubi_volume.specs.declared.places.PlaceContent.TheVariants as place
-use Rattle.ubi_compose.proofs.ListedVolumes.{count, volume_at}
+use Rattle.ubi_compose.proofs.StoredVolumes.{count, volume_at}
 
 -- one fact told by another
 both : {A B C : Type 0} → A ↔ B → B ↔ C → A ↔ C

@@ -1,7 +1,7 @@
 use Rattle.ubi_compose.proofs.Prelude.{◌≡◌, ◌∙◌, length, ap, refl, sym, subst, arith, false≢true, Source, places_narrowed, ArePlacesOf, Records, listed_item, TellsVolume}
 use Rattle.std.specs.Prelude.{Bool}
 use Rattle.std.specs.FinMap as finite
-use Rattle.ubi_compose.proofs.ListedVolumes.{listed_place}
+use Rattle.ubi_compose.proofs.StoredVolumes.{listed_place}
 use Rattle.ubi_compose.proofs.SamePlaces.{all_same, one_other, one_same}
 use Rattle.ubi_compose.proofs.matching.same_volumes.Goals as goal
 
