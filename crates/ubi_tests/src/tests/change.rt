@@ -9,3 +9,4 @@ mod refusals;
 mod rename;
 mod states;
 mod steps;
+mod unmapped;

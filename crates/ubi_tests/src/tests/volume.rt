@@ -3,6 +3,7 @@ mod extracting;
 mod images;
 mod making;
 mod memory;
+mod pebs;
 mod reading;
 mod refusals;
 mod sources;

@@ -2,8 +2,7 @@
 
 use std::test::Fail;
 use ubi_config::{ConfigCause, parse_config};
-use ubi_media::RecFault;
-use ubi_probe::pebs::small;
+use ubi_media::{Geometry, RecFault};
 
 /// The lines of a section, the bytes of its image file, and how many eraseblocks of 384 bytes the volume reserves, or
 /// why it has no record.
@@ -50,18 +49,15 @@ static RECORDS: [(&[u8], Option<u64>, Result<u32, ConfigCause>); 15] = [
 
 #[test]
 fn gives_records(rt: HostRuntime) -> Result<(), Fail> {
-    let geometry = small()?;
+    let geometry = Geometry::new(512, 64, 64, 128, 32)?;
     for (index, (lines, image_len, want)) in RECORDS.iter().enumerate() {
         let mut text = Vec::from_slice(rt.alloc(), b"[v]\nmode=ubi\nvol_id=1\nvol_name=v\n")?;
         text.extend_from_slice(lines)?;
-        let Ok(sections) = parse_config(rt.alloc(), text.as_slice()) else {
-            return Err("not read".into());
-        };
+        let sections = parse_config(rt.alloc(), text.as_slice()).map_err(|_| "not read")?;
         assert_eq!(rt; sections.len(), 1);
-        let reserved = match sections[0].record(&geometry, *image_len) {
-            Ok(record) => Ok(record.reserved),
-            Err(cause) => Err(cause),
-        };
+        let reserved = sections[0]
+            .record(&geometry, *image_len)
+            .map(|record| record.reserved);
         assert!(rt; reserved == *want, "case {index}");
     }
     Ok(())

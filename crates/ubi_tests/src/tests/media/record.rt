@@ -2,9 +2,8 @@
 
 use std::test::Fail;
 use ubi_media::{
-    RecFault, RecRead, VolKind, VolName, VolumeRecord, read_rec, rec_fault, write_rec,
+    Geometry, RecFault, RecRead, VolKind, VolName, VolumeRecord, read_rec, rec_fault, write_rec,
 };
-use ubi_probe::pebs::small;
 use ubi_probe::records::{ALIGNMENT_0, ALIGNMENT_256, BEHIND, EMPTY, KIND_3, ROOT, Slot};
 
 /// What the fields of a record say of a volume.
@@ -82,6 +81,16 @@ static VALID: [(&str, Slot, Said); 5] = [
         },
     ),
 ];
+
+#[test]
+fn reads_records(rt: HostRuntime) -> Result<(), Fail> {
+    let geometry = Geometry::new(512, 64, 64, 128, 32)?;
+    for (what, record, said) in &VALID {
+        let read = read_rec(&geometry, &record.bytes());
+        assert!(rt; read == RecRead::Valid(said.volume()?), "{what}");
+    }
+    Ok(())
+}
 
 /// Records, and the first rule that each breaks.
 static AT_FAULT: [(&str, Slot, RecFault); 13] = [
@@ -191,17 +200,24 @@ static AT_FAULT: [(&str, Slot, RecFault); 13] = [
 ];
 
 #[test]
-fn reads_records_or_finds_their_faults(rt: HostRuntime) -> Result<(), Fail> {
-    let geometry = small()?;
-    for (what, record, said) in &VALID {
-        let read = read_rec(&geometry, &record.bytes());
-        assert!(rt; read == RecRead::Valid(said.volume()?), "{what}");
-    }
+fn finds_faults_of_bytes(rt: HostRuntime) -> Result<(), Fail> {
+    let geometry = Geometry::new(512, 64, 64, 128, 32)?;
     for (what, record, fault) in &AT_FAULT {
         let read = read_rec(&geometry, &record.bytes());
         assert!(rt; read == RecRead::Fault(*fault), "{what}");
     }
     assert!(rt; read_rec(&geometry, &[0; 172]) == RecRead::BadCrc);
+    Ok(())
+}
+
+#[test]
+fn writes_records(rt: HostRuntime) -> Result<(), Fail> {
+    let geometry = Geometry::new(512, 64, 64, 128, 32)?;
+    let root = SAID.volume()?;
+    assert!(rt; rec_fault(&geometry, &root).is_none());
+    assert!(rt; write_rec(&geometry, Some(&root)) == ROOT.bytes());
+    assert!(rt; write_rec(&geometry, None) == EMPTY.bytes());
+    assert!(rt; read_rec(&geometry, &EMPTY.bytes()) == RecRead::Empty);
     Ok(())
 }
 
@@ -215,13 +231,9 @@ static FAULTS: [(u32, u32, RecFault); 5] = [
 ];
 
 #[test]
-fn writes_records_and_finds_their_faults(rt: HostRuntime) -> Result<(), Fail> {
-    let geometry = small()?;
+fn finds_faults_of_records(rt: HostRuntime) -> Result<(), Fail> {
+    let geometry = Geometry::new(512, 64, 64, 128, 32)?;
     let root = SAID.volume()?;
-    assert!(rt; rec_fault(&geometry, &root).is_none());
-    assert!(rt; write_rec(&geometry, Some(&root)) == ROOT.bytes());
-    assert!(rt; write_rec(&geometry, None) == EMPTY.bytes());
-    assert!(rt; read_rec(&geometry, &EMPTY.bytes()) == RecRead::Empty);
     for (reserved, alignment, fault) in &FAULTS {
         let volume = VolumeRecord {
             reserved: *reserved,

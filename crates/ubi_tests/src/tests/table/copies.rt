@@ -1,11 +1,9 @@
 //! What each copy of a table is, whether or not it decides.
 
-use super::images::Row::{Erased, First, Forgotten, Free, Member, Newer, Second};
-use super::images::{Row, Volumes, has_volumes, image, larger};
+use super::images::{Peb, Volumes, has_volumes, image, larger, small};
 use std::alloc::Global;
 use std::test::Fail;
 use ubi_media::{Geometry, RecFault};
-use ubi_probe::pebs::small;
 use ubi_probe::records::{A, ALIGNMENT_0, B, C, EMPTY, FLIPPED, GROWING, KIND_3, OVERFULL, ROOT};
 use ubi_scan::{Blocks, scan};
 use ubi_table::{CopyRead, read_copy};
@@ -39,7 +37,7 @@ fn is(found: &CopyRead, want: &Want) -> Result<bool, Fail> {
 fn are(
     alloc: Global,
     geometry: &Geometry,
-    pebs: &[Row],
+    pebs: &[Peb],
     first: &Want,
     second: &Want,
 ) -> Result<bool, Fail> {
@@ -52,70 +50,93 @@ fn are(
 }
 
 /// Some eraseblocks, and what copy 0 and copy 1 are there.
-static SMALL: [(&[Row], Want, Want); 10] = [
-    (&[Erased, Free], Want::Absent, Want::Absent),
+static SMALL: [(&[Peb], Want, Want); 10] = [
+    (&[Peb::Erased, Peb::Free], Want::Absent, Want::Absent),
     (
-        &[Newer(0, &[GROWING]), First(&[ROOT]), Forgotten(1, &[ROOT])],
+        &[
+            Peb::Newer(0, &[GROWING, EMPTY]),
+            Peb::Copy(0, &[ROOT, EMPTY]),
+            Peb::Forgotten(1, &[ROOT, EMPTY]),
+        ],
         Want::Good(&[(0, GROWING)]),
         Want::Absent,
     ),
     (
-        &[Member(0), Second(&[EMPTY, GROWING])],
+        &[Peb::Member(0), Peb::Copy(1, &[EMPTY, GROWING])],
         Want::Absent,
         Want::Good(&[(1, GROWING)]),
     ),
     // Each is read for itself, wherever it lies.
     (
-        &[Second(&[GROWING, ROOT]), First(&[ROOT])],
+        &[Peb::Copy(1, &[GROWING, ROOT]), Peb::Copy(0, &[ROOT, EMPTY])],
         Want::Good(&[(0, ROOT)]),
         Want::Good(&[(0, GROWING), (1, ROOT)]),
     ),
     (
         &[
-            First(&[FLIPPED, ALIGNMENT_0]),
-            Second(&[ALIGNMENT_0, FLIPPED]),
+            Peb::Copy(0, &[FLIPPED, ALIGNMENT_0]),
+            Peb::Copy(1, &[ALIGNMENT_0, FLIPPED]),
         ],
         Want::Corrupt,
         Want::Faulty(0, RecFault::Alignment),
     ),
     (
-        &[First(&[ROOT, KIND_3]), Second(&[ROOT, FLIPPED])],
+        &[
+            Peb::Copy(0, &[ROOT, KIND_3]),
+            Peb::Copy(1, &[ROOT, FLIPPED]),
+        ],
         Want::Faulty(1, RecFault::Kind),
         Want::Corrupt,
     ),
     (
-        &[First(&[ROOT, ROOT]), Second(&[KIND_3, ROOT])],
+        &[Peb::Copy(0, &[ROOT, ROOT]), Peb::Copy(1, &[KIND_3, ROOT])],
         Want::Twice(0, 1),
         Want::Faulty(0, RecFault::Kind),
     ),
     (
-        &[First(&[]), Second(&[GROWING, GROWING])],
+        &[
+            Peb::Copy(0, &[EMPTY, EMPTY]),
+            Peb::Copy(1, &[GROWING, GROWING]),
+        ],
         Want::Good(&[]),
         Want::Twice(0, 1),
     ),
     // More than the device has is good too.
     (
-        &[First(&[OVERFULL]), Second(&[EMPTY, OVERFULL])],
+        &[
+            Peb::Copy(0, &[OVERFULL, EMPTY]),
+            Peb::Copy(1, &[EMPTY, OVERFULL]),
+        ],
         Want::Good(&[(0, OVERFULL)]),
         Want::Good(&[(1, OVERFULL)]),
     ),
     (
-        &[First(&[ROOT]), Second(&[ROOT]), Newer(1, &[FLIPPED])],
+        &[
+            Peb::Copy(0, &[ROOT, EMPTY]),
+            Peb::Copy(1, &[ROOT, EMPTY]),
+            Peb::Newer(1, &[FLIPPED, EMPTY]),
+        ],
         Want::Good(&[(0, ROOT)]),
         Want::Corrupt,
     ),
 ];
 
 /// The same with four slots.
-static LARGER: [(&[Row], Want, Want); 2] = [
+static LARGER: [(&[Peb], Want, Want); 2] = [
     (
-        &[First(&[EMPTY, A, EMPTY, C]), Second(&[C, A, B, A])],
+        &[
+            Peb::Copy(0, &[EMPTY, A, EMPTY, C]),
+            Peb::Copy(1, &[C, A, B, A]),
+        ],
         Want::Good(&[(1, A), (3, C)]),
         Want::Twice(1, 3),
     ),
     // A fault comes before a name that comes again.
     (
-        &[First(&[A, A, B, KIND_3]), Second(&[A, B, C, ROOT])],
+        &[
+            Peb::Copy(0, &[A, A, B, KIND_3]),
+            Peb::Copy(1, &[A, B, C, ROOT]),
+        ],
         Want::Faulty(3, RecFault::Kind),
         Want::Good(&[(0, A), (1, B), (2, C), (3, ROOT)]),
     ),
